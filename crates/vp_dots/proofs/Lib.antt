@@ -1,0 +1,12 @@
+pub mod Bits
+pub mod Rows
+pub mod Paints
+pub mod Shifts
+pub mod Moves
+pub mod Windows
+pub mod Blocks
+pub mod Parts
+pub mod Spans
+pub mod ImageRows
+pub mod ImageLaws
+pub mod Placing

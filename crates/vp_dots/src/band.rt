@@ -1,0 +1,82 @@
+//! Rows of dots on the heap.
+ghost use Rattle.std.specs.Prelude.{◌≡◌, ℕ, ◌+◌, ◌-◌, ◌*◌, ◌/◌, ◌%◌, ◌^◌, ◌<◌, ◌≤◌, ◌≢◌, List, [], replicate, length, slice_set, slice_index_or, Some, None, IfOk, nat_lt, ◌&&◌, if◌then◌else◌};
+ghost use Rattle.std.specs.Borrow.{Lends, sem, Array, u8 as byte};
+ghost use Rattle.vp_dots.specs.Dots.{dot};
+ghost use Rattle.vp_dots.specs.contracts.band.Band.{the_row};
+
+use std::alloc::{AllocError, Global};
+use std::marker::Model;
+
+/// H rows of B bytes, each byte eight dots.
+#[derive(Drop)]
+pub struct Band<const B: usize, const H: usize> {
+    rows: Vec<[u8; B]>,
+}
+
+impl<const B: usize, const H: usize> Model for Band<B, H> {
+    ghost use Rattle.std.specs.Prelude.{ℕ, List, ◌≡◌, ◌*◌, ◌≤◌, ◌^◌, length};
+
+    ghost Value = { List (List ℕ) };
+
+    ghost view = { λ s. s.rows.items };
+
+    ghost invariant = { λ s. record { count : length s.rows.items ≡ H; small : B * H ≤ 2 ^ 28 } };
+}
+
+impl<const B: usize, const H: usize> Band<B, H> {
+    /// A white band, of at most 2^28 bytes: the only call that takes memory.
+    pub fn new(alloc: Global) -> Result<Self, AllocError>
+        requires { B * H ≤ 2 ^ 28 }
+        ensures { IfOk result (λ band. band ≡ replicate H (replicate B 0)) }
+    {
+        let rows = if H == 0 {
+            Vec::new(alloc)
+        } else {
+            vec![in alloc; [0; B]; H]?
+        };
+        Ok(Band { rows })
+    }
+
+    /// Makes all dots white.
+    pub fn clear(&mut self)
+        ensures { self.new ≡ replicate H (replicate B 0) }
+    {
+        let white = [0; B];
+        for row in self.rows.iter_mut() {
+            *row = white;
+        }
+    }
+
+    /// The dot at column x of row y, if there is one.
+    pub fn get(&self, x: usize, y: usize) -> Option<bool>
+        ensures { result ≡ (if nat_lt x (8 * B) && nat_lt y H then Some (dot (slice_index_or self.now y []) x) else None) }
+    {
+        if x / 8 < B && y < H {
+            Some(self.rows[y][x / 8] >> (7 - x % 8) & 1 == 1)
+        } else {
+            None
+        }
+    }
+
+    /// The bytes of a row.
+    pub fn row(&self, y: usize) -> &[u8]
+        requires { y < H }
+        ensures value { result.now ≡ slice_index_or self.now y [] }
+        ensures len { length result.now ≡ B }
+        ensures rows { length self.now ≡ H }
+    {
+        &self.rows[y]
+    }
+
+    /// The bytes of a row, to be written.
+    pub fn row_mut(&mut self, y: usize) -> &mut [u8]
+        requires { y < H }
+        ensures* writes_back { sem 𝓛 (Lends (the_row B.row H.row) (Array byte 0) self.entry result (slice_set self.old y)) }
+        ensures value { result.now ≡ slice_index_or self.old y [] }
+        ensures len { length result.now ≡ B }
+        ensures rows { length self.old ≡ H }
+    {
+        let _row = self.row(y);
+        self.rows[y].as_mut_slice()
+    }
+}
