@@ -1,0 +1,136 @@
+-- The first dots of a row from one of its dots on.
+use Rattle.std.proofs.Common.{Bool, List, [], ap, arith, drop, eq-eqb, eqb, false, get_or, inl, inr, length, length-drop, ltb, min, not, pos, refl, suc, sym, take, true, zero, ℕ, ℤ, ◌%◌, ◌&&◌, ◌*◌, ◌+◌, ◌-ℤ◌, ◌-◌, ◌/◌, ◌<◌, ◌||◌, ◌∙◌, ◌∷◌, ◌≡◌, ◌≤◌}
+use Rattle.std.proofs.lemmas.Int.{ints}
+use Rattle.std.proofs.lemmas.List.{take_all}
+use Rattle.std.proofs.lemmas.Bool.{cases_Bool, cases_eq, ne_eqb, cases_lt, le-ltb, lt-ltb, le-leb, lt-leb}
+use Rattle.std.proofs.lemmas.Bool.Decides.{nat_tests}
+use Rattle.std.specs.Int.{bit_at}
+use Rattle.std.proofs.lemmas.Nat.Bits.{bit_at-zero}
+use Rattle.vp_dots.specs.Dots.{bit, dot, shifted, span}
+use Rattle.vp_dots.specs.Painting.{paint, Painted}
+use Rattle.vp_dots.specs.declared.Op.TheVariants.{Black, White, Flip}
+use Rattle.vp_glyph.specs.Sheets.{Glyphs, glyph_dot}
+use Rattle.vp_dots.proofs.Parts.{dot-drop}
+use Rattle.vp_dots.proofs.Rows.{dot_past}
+use Rattle.vp_dots.proofs.Shifts.{met}
+
+-- moved to the left
+pub left_by : (z : ℤ) (n : ℕ) (f : ℕ → Bool) (d : ℕ) → z ≡ pos 0 -ℤ pos n → shifted z f d ≡ f (d + n)
+left_by z n f d e = elim (met z d) [
+  | inl p ↦ (let w = p.1 in let i : p.0 ≡ d + n = omega (arith, ints) in p.2 f ∙ ap f i)
+  | inr q ↦ absurd (q.0 (d + n) (omega (arith, ints)))
+]
+
+zeros : (i : ℕ) → get_or {A = ℕ} (0 ∷ 0 ∷ []) i 0 ≡ 0
+zeros zero = refl
+zeros (suc zero) = refl
+zeros (suc (suc i)) = refl
+
+pub no_dots : (x : ℕ) → dot (0 ∷ 0 ∷ []) x ≡ false
+unfolding dot bit
+no_dots x = ap (λ n. eqb (bit_at n (7 - x % 8)) 1) (zeros (x / 8)) ∙ ap (λ n. eqb n 1) (bit_at-zero (7 - x % 8))
+
+pub black_is : (i old : Bool) → old ≡ false → paint Black i old ≡ i
+black_is true old e = refl
+black_is false old e = e
+
+-- copied by the kernel
+copied : (row a : List ℕ) (from : ℕ) (z : ℤ) → z ≡ pos 0 -ℤ pos (from % 8) → Painted Black (shifted z (dot (take (length row - from / 8) (drop (from / 8) row)))) (0 ∷ 0 ∷ []) a → (x : ℕ) → x < 16 → dot a x ≡ dot row (from + x)
+copied row a from z e p x k =
+    let rest : List ℕ = drop (from / 8) row in
+    let all : take (length row - from / 8) rest ≡ rest = take_all (length row - from / 8) rest (let d = length-drop (from / 8) row in omega (arith, d)) in
+    let place : 8 * (from / 8) + (x + from % 8) ≡ from + x = omega arith in
+    p.dots_are x k ∙ black_is (shifted z (dot (take (length row - from / 8) rest)) x) (dot (0 ∷ 0 ∷ []) x) (no_dots x)
+    ∙ left_by z (from % 8) (dot (take (length row - from / 8) rest)) x e ∙ ap (λ (r : List ℕ). dot r (x + from % 8)) all ∙ dot-drop row (from / 8) (x + from % 8) ∙ ap (dot row) place
+
+-- cut
+pub cut : (a b : List ℕ) (most : ℕ) → length a ≡ 2 → most ≤ 16 → Painted White (span most 16) a b → (x : ℕ) → dot b x ≡ (ltb x most && dot a x)
+cut a b most long m q x =
+    let same : length b ≡ length a = q.length_is in
+    elim (cases_lt x 16) [
+      | inl k ↦ q.dots_are x (omega arith) ∙ elim (cases_lt x most) [
+        | inl y ↦ rw (lt-leb most x y, lt-ltb x most y) refl
+        | inr n ↦ rw (le-leb most x n, lt-ltb x 16 k, le-ltb x most n) refl
+      ]
+      | inr g ↦ dot_past b x (omega arith) ∙ rw (le-ltb x most (omega arith)) refl
+    ]
+
+-- copied and cut
+pub front_is : (row a b : List ℕ) (from most : ℕ) (z : ℤ) → most ≤ 16 → z ≡ pos 0 -ℤ pos (from % 8)
+    → Painted Black (shifted z (dot (take (length row - from / 8) (drop (from / 8) row)))) (0 ∷ 0 ∷ []) a → Painted White (span most 16) a b → (x : ℕ) → dot b x ≡ (ltb x most && dot row (from + x))
+front_is row a b from most z m e p q x = cut a b most p.length_is m q x ∙ elim (cases_lt x most) [
+  | inl y ↦ rw (lt-ltb x most y) (copied row a from z e p x (omega arith))
+  | inr n ↦ rw (le-ltb x most n) refl
+]
+
+black_old : (i old : Bool) → paint Black i old ≡ (old || i)
+black_old true true = refl
+black_old true false = refl
+black_old false true = refl
+black_old false false = refl
+
+-- emphasized and cut
+pub emphasized_is : (dots a b : List ℕ) (most : ℕ) → length dots ≡ 2 → most ≤ 16 → Painted Black (shifted (pos 1) (dot dots)) dots a → Painted White (span most 16) a b
+    → (x : ℕ) → dot b x ≡ (ltb x most && (dot dots x || ltb 0 x && dot dots (x - 1)))
+emphasized_is dots a b most long m p q x = cut a b most (p.length_is ∙ long) m q x ∙ elim (cases_lt x most) [
+  | inl y ↦ rw (lt-ltb x most y) (p.dots_are x (omega arith) ∙ black_old (shifted (pos 1) (dot dots) x) (dot dots x))
+  | inr n ↦ rw (le-ltb x most n) refl
+]
+
+-- inverted and cut
+pub inverted_is : (dots a b : List ℕ) (most : ℕ) → length dots ≡ 2 → most ≤ 16 → Painted Flip (span 0 most) dots a → Painted White (span most 16) a b → (x : ℕ) → dot b x ≡ (ltb x most && not (dot dots x))
+inverted_is dots a b most long m p q x = cut a b most (p.length_is ∙ long) m q x ∙ elim (cases_lt x most) [
+  | inl y ↦ rw (lt-ltb x most y) (p.dots_are x (omega arith) ∙ rw (le-leb 0 x (omega arith), lt-ltb x most y) refl)
+  | inr n ↦ rw (le-ltb x most n) refl
+]
+
+-- dots of f below x, and one more
+pub record Below (f : ℕ → Bool) (x : ℕ) (row : List ℕ) : Type 0 where
+  pub long : length row ≡ 2
+  pub dots_are : (d : ℕ) → dot row d ≡ (ltb d x && f d)
+
+pub below_none : (f : ℕ → Bool) → Below f 0 (0 ∷ 0 ∷ [])
+below_none f = record { long = refl; dots_are = λ d. no_dots d ∙ rw (le-ltb d 0 (omega arith)) refl }
+
+pub below_black : (f : ℕ → Bool) (x : ℕ) (a b : List ℕ) → x < 16 → Below f x a → Painted Black (λ d. eqb d x) a b → f x ≡ true → Below f (x + 1) b
+below_black f x a b l r p t = record {
+  long = p.length_is ∙ r.long;
+  dots_are = λ d. let long = r.long in let same = p.length_is in elim (cases_lt d 16) [
+    | inl k ↦ p.dots_are d (omega arith) ∙ elim (cases_eq d x) [
+      | inl y ↦ rw (eq-eqb d x y, lt-ltb d (x + 1) (omega arith)) (sym (ap f y ∙ t))
+      | inr n ↦ rw (ne_eqb d x n) (r.dots_are d ∙ ap (λ w. w && f d) (one_less d x n))
+    ]
+    | inr g ↦ dot_past b d (omega arith) ∙ rw (le-ltb d (x + 1) (omega arith)) refl
+  ];
+}
+  where
+    one_less : (d x : ℕ) → (d ≡ x → ⊥) → ltb d x ≡ ltb d (x + 1)
+    one_less d x n = elim (cases_lt d x) [ inl y ↦ lt-ltb d x y ∙ sym (lt-ltb d (x + 1) (omega arith)) | inr g ↦ le-ltb d x g ∙ sym (le-ltb d (x + 1) (omega arith)) ]
+
+pub below_white : (f : ℕ → Bool) (x : ℕ) (a : List ℕ) → Below f x a → f x ≡ false → Below f (x + 1) a
+below_white f x a r t = record {
+  long = r.long;
+  dots_are = λ d. r.dots_are d ∙ elim (cases_eq d x) [
+    | inl y ↦ (let w : f d ≡ false = ap f y ∙ t in rw (w, le-ltb d x (omega arith), lt-ltb d (x + 1) (omega arith)) refl)
+    | inr n ↦ elim (cases_lt d x) [ inl y ↦ rw (lt-ltb d x y, lt-ltb d (x + 1) (omega arith)) refl | inr g ↦ rw (le-ltb d x g, le-ltb d (x + 1) (omega arith)) refl ]
+  ];
+}
+
+-- below a cell there is no dot
+pub row_below : (sheet : Glyphs) (c x y most : ℕ) → sheet.high ≤ y → dot (0 ∷ 0 ∷ []) x ≡ (ltb x most && glyph_dot sheet c x y)
+unfolding glyph_dot
+row_below sheet c x y most l = no_dots x ∙ sym (elim (cases_Bool (ltb x most)) [ inl t ↦ rw (t, le-ltb y sheet.high l) (grind (arith, nat_tests)) | inr f ↦ rw f refl ])
+
+-- in a row of a cell
+pub row_in_cell : (sheet : Glyphs) (c x y most : ℕ) → y < sheet.high
+    → (ltb x (min most sheet.wide) && dot sheet.raster (16 * sheet.wide * (sheet.high * (c / 16) + y) + sheet.wide * (c % 16) + x)) ≡ (ltb x most && glyph_dot sheet c x y)
+unfolding glyph_dot
+row_in_cell sheet c x y most l =
+    let place : 16 * sheet.wide * (sheet.high * (c / 16) + y) + sheet.wide * (c % 16) + x ≡ 16 * sheet.wide * (sheet.high * (c / 16) + y) + (sheet.wide * (c % 16) + x) = omega arith in
+    elim (cases_lt x most) [
+      | inl k ↦ elim (cases_lt x sheet.wide) [
+        | inl h ↦ rw (lt-ltb x most k, lt-ltb x (min most sheet.wide) (omega arith), lt-ltb x sheet.wide h, lt-ltb y sheet.high l) (ap (dot sheet.raster) place)
+        | inr g ↦ rw (lt-ltb x most k, le-ltb x (min most sheet.wide) (omega arith), le-ltb x sheet.wide g) refl
+      ]
+      | inr g ↦ rw (le-ltb x most g, le-ltb x (min most sheet.wide) (omega arith)) refl
+    ]

@@ -1,0 +1,11 @@
+pub mod Breaking
+pub mod Drawn
+pub mod Forms
+pub mod Fronts
+pub mod Numbers
+pub mod Overlaid
+pub mod Pieces
+pub mod Sides
+pub mod Spread
+pub mod Stacks
+pub mod Styled

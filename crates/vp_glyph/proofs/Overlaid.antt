@@ -1,0 +1,140 @@
+-- Lines painted over each other.
+use Rattle.std.proofs.Common.{pos, replicate, eqb, get_or, ◌%◌, ◌⊎◌, leb, ◌≡◌, ◌≢◌, ℕ, ◌+◌, ◌-◌, ◌*◌, ◌/◌, ◌<◌, ◌≤◌, min, List, [], ◌∷◌, Option, None, Some, MatchOption, Bor, Bool, true, false, ◌||◌, ◌&&◌, length, take, refl, sym, ap, ◌∙◌, arith, ℤ, inl, inr}
+use Rattle.std.proofs.Math.Nat.{mul-le-mul_left, mul-div-le}
+use Rattle.std.proofs.lemmas.List.{length-take-le, get_or-replicate, get_or_past, length-replicate}
+use Rattle.std.proofs.lemmas.Bool.{cases_lt, le-leb, and_parts, leb-true, false_from_ne_true}
+use Rattle.std.specs.Int.{bit_at}
+use Rattle.std.proofs.lemmas.Nat.Bits.{bit_at-zero}
+use Rattle.vp_dots.proofs.Rows.{dot_past}
+use Rattle.vp_dots.specs.Dots.{bit, dot, dots, shifted}
+use Rattle.vp_dots.specs.Painting.{paint, Painted}
+use Rattle.vp_dots.specs.declared.Op.{Op}
+use Rattle.vp_dots.specs.declared.Op.TheVariants.{Black, White, Flip}
+use Rattle.vp_dots.proofs.Moves.{moved_same}
+use Rattle.vp_dots.proofs.Shifts.{shifted_or}
+use Rattle.vp_glyph.specs.Sheets.{Glyphs}
+use Rattle.vp_glyph.specs.Texts.{text_dot, text_inside}
+use Rattle.vp_glyph.specs.Blocks.{pieces, first, indent, block_lines, line_dot, lines_dot, block_width, block_height, block_dot, block_inside}
+use Rattle.vp_glyph.specs.declared.block.Alignment.{Alignment}
+use Rattle.vp_glyph.specs.declared.block.Alignment.TheVariants.{Left, Centre, Right}
+use Rattle.vp_glyph.proofs.Fronts.{black_is}
+use Rattle.vp_glyph.proofs.Drawn.{moved_none}
+use Rattle.vp_glyph.proofs.Stacks.{lines_left, lines_are, block_past, block_within}
+
+-- black over black and white over white
+again : (op : Op) (i j k old : Bool) → op ≢ Flip → k ≡ (i || j) → paint op j (paint op i old) ≡ paint op k old
+again Black true true k old n e = rw e refl
+again Black true false k old n e = rw e refl
+again Black false true k old n e = rw e refl
+again Black false false k old n e = rw e refl
+again White true true k old n e = rw e refl
+again White true false k old n e = rw e refl
+again White false true k old n e = rw e refl
+again White false false k old n e = rw e refl
+again Flip i j k old n e = absurd (n refl)
+
+pub painted_over : (op : Op) (at : ℤ) (f g h : ℕ → Bool) (a b c : List ℕ) → op ≢ Flip → ((x : ℕ) → h x ≡ (f x || g x)) → Painted op (shifted at f) a b → Painted op (shifted at g) b c → Painted op (shifted at h) a c
+painted_over op at f g h a b c n u p q = record {
+  length_is = q.length_is ∙ p.length_is;
+  dots_are = λ d l.
+      q.dots_are d (let m : d < dots b = rw p.length_is l in m) ∙ ap (λ o. paint op (shifted at g d) o) (p.dots_are d l) ∙ again op (shifted at f d) (shifted at g d) (shifted at h d) _ n (shifted_or at f g h d u);
+}
+
+indent_within : (d : Alignment) (room : ℕ) → indent d room ≤ room
+indent_within Left room = omega arith
+indent_within Centre room = omega arith
+indent_within Right room = omega arith
+
+or_assoc : (a b c : Bool) → (a || (b || c)) ≡ (a || b || c)
+or_assoc true b c = refl
+or_assoc false b c = refl
+
+or_false : (b : Bool) → b ≡ (b || false)
+or_false true = refl
+or_false false = refl
+
+or_true : (a b : Bool) → (a || b) ≡ true → (a ≡ true) ⊎ (b ≡ true)
+or_true true b e = inl refl
+or_true false b e = inr e
+
+module _ (sheet : Option Glyphs) (w h a b s : ℕ) (d : Alignment) (y : ℕ) where
+  -- a line stands within the block
+  line_inside : (place k x : ℕ) (cells : List ℕ) → k ≤ length cells → k ≤ a / w → line_dot sheet w h a s d place (take k cells) x y ≡ true → x < a
+  line_inside place k x cells l m e =
+      let n : length (take k cells) ≡ k = length-take-le k cells l in
+      let move : ℕ = indent d (a - w * length (take k cells)) in
+      let p = and_parts (leb move x && leb (place * s) y) (text_dot sheet (take k cells) w h (x - move) (y - place * s)) e in
+      let o = and_parts (leb move x) (leb (place * s) y) p.0 in
+      let i = text_inside sheet (take k cells) w h (x - move) (y - place * s) p.1 in
+      let t = indent_within d (a - w * length (take k cells)) in
+      let f = leb-true move x o.0 in
+      let g : w * length (take k cells) ≤ w * (a / w) = rw n (mul-le-mul_left w m) in
+      let q = mul-div-le a w in
+      let j = i.0 in
+      omega arith
+
+  -- the lines so far, painted
+  pub record Overlaid (op : Op) (at : ℤ) (n : ℕ) (all : List (List ℕ)) (place : ℕ) (left : Option (Bor (List ℕ))) (old new : List ℕ) : Type 0 where
+    pub done : ℕ → Bool
+    pub painted : Painted op (shifted at done) old new
+    pub rest_is : (x : ℕ) → lines_dot sheet w h a b s d 0 all x y ≡ (done x || lines_dot sheet w h a b s d place (lines_left n left) x y)
+    pub inside : (x : ℕ) → done x ≡ true → x < a
+
+  pub overlaid_none : (op : Op) (at : ℤ) (n : ℕ) (text : Bor (List ℕ)) (row : List ℕ) → Overlaid op at n (block_lines n text.now) 0 (Some text) row row
+  overlaid_none op at n text row = record { done = λ x. false; painted = moved_none op at (λ x. false) row (λ x. refl); rest_is = λ x. refl; inside = λ x e. cc }
+
+  pub overlaid_more : (op : Op) (at : ℤ) (n : ℕ) (all : List (List ℕ)) (place k to : ℕ) (left next : Option (Bor (List ℕ))) (text : Bor (List ℕ)) (lent old row new : List ℕ) → op ≢ Flip → n ≡ a / w
+      → Overlaid op at n all place left old row → left ≡ Some text → lent ≡ text.now → k ≤ length (first (pieces text.now)) → k ≤ n
+      → MatchOption next (block_lines n text.now ≡ take k (first (pieces text.now)) ∷ []) (λ q. block_lines n text.now ≡ take k (first (pieces text.now)) ∷ block_lines n q.now)
+      → Painted op (shifted at (λ x. line_dot sheet w h a s d place (take k (first (pieces lent))) x y)) row new → to ≡ min (place + 1) (b - 1) → Overlaid op at n all to next old new
+  overlaid_more op at n all place k to left next text lent old row new f z o e m l u r p t =
+      let line : List ℕ = take k (first (pieces text.now)) in
+      let front : lines_left n left ≡ line ∷ lines_left n next = ap (lines_left n) e ∙ lines_are n text.now line next r in
+      record {
+        done = λ x. o.done x || line_dot sheet w h a s d place line x y;
+        painted = painted_over op at o.done (λ x. line_dot sheet w h a s d place line x y) (λ x. o.done x || line_dot sheet w h a s d place line x y) old row new f (λ x. refl) o.painted (rw m at p);
+        rest_is = λ x. o.rest_is x ∙ ap (λ (ls : List (List ℕ)). o.done x || lines_dot sheet w h a b s d place ls x y) front
+            ∙ or_assoc (o.done x) (line_dot sheet w h a s d place line x y) (lines_dot sheet w h a b s d (min (place + 1) (b - 1)) (lines_left n next) x y)
+            ∙ ap (λ j. o.done x || line_dot sheet w h a s d place line x y || lines_dot sheet w h a b s d j (lines_left n next) x y) (sym t);
+        inside = λ x i. elim (or_true (o.done x) (line_dot sheet w h a s d place line x y) i) [
+          | inl v ↦ o.inside x v
+          | inr v ↦ line_inside place k x (first (pieces text.now)) l (rw z at u) v
+        ];
+      }
+
+  pub overlaid_all : (op : Op) (at : ℤ) (n : ℕ) (text : List ℕ) (place : ℕ) (left : Option (Bor (List ℕ))) (old new : List ℕ) → n ≡ a / w → w ≤ a → y < block_height h b s → left ≡ None
+      → Overlaid op at n (block_lines n text) place left old new → Painted op (shifted at (λ x. block_dot sheet text w h a b s d x y)) old new
+  overlaid_all op at n text place left old new z m l e o = moved_same op at o.done (λ x. block_dot sheet text w h a b s d x y) old new
+      (λ x.
+      let total : o.done x ≡ lines_dot sheet w h a b s d 0 (block_lines n text) x y = or_false (o.done x) ∙ sym (o.rest_is x ∙ ap (λ (q : Option (Bor (List ℕ))). o.done x || lines_dot sheet w h a b s d place (lines_left n q) x y) e) in
+      elim (cases_lt x (block_width a w)) [
+        | inl k ↦ total ∙ ap (λ c. lines_dot sheet w h a b s d 0 (block_lines c text) x y) z ∙ block_within sheet text w h a b s d x y k l m
+        | inr g ↦ false_from_ne_true (o.done x) (λ t. absurd (let i = o.inside x t in omega arith)) ∙ block_past sheet text w h a b s d x y g
+      ]) o.painted
+
+-- a white row
+zero_at : (n i : ℕ) → get_or (replicate {A = ℕ} n 0) i 0 ≡ 0
+zero_at n i = elim (cases_lt i n) [
+  | inl l ↦ get_or-replicate n i 0 0 l
+  | inr g ↦ get_or_past (replicate {A = ℕ} n 0) i 0 (let m = length-replicate {A = ℕ} n 0 in omega (arith, m))
+]
+
+zero_dots : (n x : ℕ) → dot (replicate {A = ℕ} n 0) x ≡ false
+unfolding dot bit
+zero_dots n x = ap (λ k. eqb (bit_at k (7 - x % 8)) 1) (zero_at n (x / 8)) ∙ ap (λ k. eqb k 1) (bit_at-zero (7 - x % 8))
+
+-- ink that was painted black in a white row
+pub from_white : (n wide : ℕ) (f : ℕ → Bool) (row : List ℕ) → ((x : ℕ) → f x ≡ true → x < wide) → wide ≤ 8 * n → Painted Black (shifted (pos 0) f) (replicate {A = ℕ} n 0) row → (x : ℕ) → dot row x ≡ f x
+from_white n wide f row o l p x =
+    let m = length-replicate {A = ℕ} n 0 in
+    let long = p.length_is in
+    elim (cases_lt x (8 * n)) [
+      | inl k ↦ (let z : x - 0 ≡ x = omega arith in p.dots_are x (omega (arith, m)) ∙ black_is (shifted (pos 0) f x) (dot (replicate {A = ℕ} n 0) x) (zero_dots n x) ∙ rw (le-leb 0 x (omega arith), z) refl)
+      | inr g ↦ dot_past row x (omega (arith, m)) ∙ sym (false_from_ne_true (f x) (λ e. absurd (let i = o x e in omega arith)))
+    ]
+
+-- a block reversed by way of a white row
+pub flipped : (at : ℤ) (n : ℕ) (sheet : Option Glyphs) (text : List ℕ) (w h a b s : ℕ) (d : Alignment) (y : ℕ) (dots old new : List ℕ) → w ≤ a → a ≤ 8 * n
+    → Painted Black (shifted (pos 0) (λ x. block_dot sheet text w h a b s d x y)) (replicate {A = ℕ} n 0) dots → Painted Flip (shifted at (dot dots)) old new → Painted Flip (shifted at (λ x. block_dot sheet text w h a b s d x y)) old new
+flipped at n sheet text w h a b s d y dots old new m l p q = moved_same Flip at (dot dots) (λ x. block_dot sheet text w h a b s d x y) old new
+    (λ x. from_white n a (λ x. block_dot sheet text w h a b s d x y) dots (λ x e. let i = (block_inside sheet text w h a b s d x y e).0 in omega arith) l p x) q

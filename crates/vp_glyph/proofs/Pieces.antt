@@ -1,0 +1,64 @@
+-- Paragraphs, piece by piece.
+use Rattle.std.proofs.Common.{◌≡◌, ℕ, zero, suc, ◌+◌, ◌-◌, ◌<◌, ◌≤◌, List, [], ◌∷◌, length, drop, get_or, eqb, cond, refl, sym, ap, ◌∙◌, arith, sub-one, length-drop, inl, inr}
+use Rattle.std.proofs.lemmas.List.{drop_more}
+use Rattle.std.proofs.lemmas.Bool.{cases_Bool}
+use Rattle.vp_glyph.specs.Blocks.{first, others, last_blank}
+use Rattle.vp_glyph.specs.declared.lines.Piece.{Piece}
+use Rattle.vp_glyph.specs.declared.lines.Piece.TheVariants.{Cell}
+
+-- a text, so many cells behind the front of another
+pub record Behind (k : ℕ) (text at : List Piece) : Type 0 where
+  pub first_is : first at ≡ drop k (first text)
+  pub others_are : others at ≡ others text
+  pub within : k ≤ length (first text)
+
+-- one cell more
+module _ (k b : ℕ) (text at rest : List Piece) (p : Behind k text at) (e : at ≡ Cell b ∷ rest) where
+  split : drop k (first text) ≡ b ∷ first rest
+  split = sym p.first_is ∙ ap first e
+
+  pub cell_within : k < length (first text)
+  cell_within = let n = length-drop k (first text) in let m = ap length split in omega (arith, n, m)
+
+  pub cell_is : get_or (first text) k 0 ≡ b
+  cell_is = let h : drop k (first text) ≡ get_or (first text) k 0 ∷ drop (k + 1) (first text) = drop_more (first text) k 0 cell_within in let w = split in cc
+
+  pub behind_more : Behind (k + 1) text rest
+  behind_more = record {
+    first_is = let h : drop k (first text) ≡ get_or (first text) k 0 ∷ drop (k + 1) (first text) = drop_more (first text) k 0 cell_within in let w = split in cc;
+    others_are = sym (ap others e) ∙ p.others_are;
+    within = let l = cell_within in omega arith;
+  }
+
+-- where no cell comes, the paragraph ends
+pub behind_all : (k : ℕ) (text at : List Piece) → Behind k text at → first at ≡ [] → length (first text) ≡ k
+behind_all k text at p e = let n = length-drop k (first text) in let m = ap length (sym p.first_is ∙ e) in let w = p.within in omega (arith, n, m)
+
+-- the last blank, one cell further
+pub blank_more : (i b blank v : ℕ) (cells : List ℕ) → get_or cells i 0 ≡ b → blank ≡ last_blank (i - 1) cells → v ≡ cond (eqb b 32) i blank → v ≡ last_blank i cells
+blank_more zero b blank v cells g e w = elim (cases_Bool (eqb b 32)) [ inl t ↦ rw t at w | inr f ↦ (rw f at w) ∙ e ]
+blank_more (suc i) b blank v cells g e w = w ∙ rw (g, e, sub-one) refl
+
+-- what the scan of a paragraph keeps: the last blank of the cells that it has passed
+pub record Scanned (i : ℕ) (text at : List Piece) (blank : ℕ) : Type 0 where
+  pub behind : Behind i text at
+  pub blank_is : blank ≡ last_blank (i - 1) (first text)
+
+pub scan_more : (i b blank v : ℕ) (text at rest : List Piece) → Scanned i text at blank → at ≡ Cell b ∷ rest → v ≡ cond (eqb b 32) i blank → Scanned (i + 1) text rest v
+scan_more i b blank v text at rest s e w = record {
+  behind = behind_more i b text at rest s.behind e;
+  blank_is = blank_more i b blank v (first text) (cell_is i b text at rest s.behind e) s.blank_is w ∙ ap (λ k. last_blank k (first text)) (omega arith);
+}
+
+pub some_cell : (text rest : List Piece) (b : ℕ) → text ≡ Cell b ∷ rest → 0 < length (first text)
+some_cell text rest b e = rw e (omega arith)
+
+-- the cell at the front of what stands behind so many
+pub front_is : (k b : ℕ) (cells : List ℕ) (text rest : List Piece) → first text ≡ drop k cells → text ≡ Cell b ∷ rest → get_or cells k 0 ≡ b
+front_is k b cells text rest e w =
+    let split : drop k cells ≡ b ∷ first rest = sym e ∙ ap first w in
+    let n = length-drop k cells in
+    let m = ap length split in
+    let l : k < length cells = omega (arith, n, m) in
+    let h : drop k cells ≡ get_or cells k 0 ∷ drop (k + 1) cells = drop_more cells k 0 l in
+    cc

@@ -1,0 +1,105 @@
+-- Field blocks: a text broken into lines, as ^FB has it.
+use Rattle.std.specs.Prelude.{◌≡◌, ◌<◌, ℕ, zero, suc, ◌+◌, ◌-◌, ◌*◌, ◌/◌, ℤ, pos, negsuc, min, max, Bool, true, false, ◌==◌, nat_lt, nat_le, ◌&&◌, ◌||◌, List, [], ◌∷◌, length, take, drop, slice_index, flat_map, Option, if◌then◌else◌}
+use Rattle.std.proofs.lemmas.Bool.{and_parts, ltb-true}
+use Rattle.vp_glyph.specs.Sheets.{Glyphs}
+use Rattle.vp_glyph.specs.Texts.{text_dot}
+use Rattle.vp_glyph.specs.declared.lines.Piece.{Piece}
+use Rattle.vp_glyph.specs.declared.lines.Piece.TheVariants.{Cell, ParagraphEnd}
+use Rattle.vp_glyph.specs.declared.block.Alignment.{Alignment}
+use Rattle.vp_glyph.specs.declared.block.Alignment.TheVariants.{Left, Centre, Right}
+
+-- \& ends a paragraph, \\ is one backslash, and any other byte is a cell
+abbrev pub pieces : List ℕ → List Piece
+pieces [] = []
+pieces (b ∷ []) = Cell b ∷ []
+pieces (b ∷ next ∷ text) =
+    if b == 92 && next == 38 then ParagraphEnd ∷ pieces text
+    else (if b == 92 && next == 92 then Cell 92 ∷ pieces text
+    else Cell b ∷ pieces (next ∷ text))
+
+-- the cells of the first paragraph
+abbrev pub first : List Piece → List ℕ
+first [] = []
+first (ParagraphEnd ∷ rest) = []
+first (Cell b ∷ rest) = b ∷ first rest
+
+-- the cells of each paragraph behind the first
+abbrev pub others : List Piece → List (List ℕ)
+others [] = []
+others (ParagraphEnd ∷ rest) = first rest ∷ others rest
+others (Cell b ∷ rest) = others rest
+
+-- the cells of each paragraph, one more than there are ends of paragraphs
+abbrev pub paragraphs : List Piece → List (List ℕ)
+paragraphs text = first text ∷ others text
+
+-- the greatest q of 1 to n where cell q, counted from 0, is a blank, or 0
+abbrev pub last_blank : ℕ → List ℕ → ℕ
+last_blank zero cells = 0
+last_blank (suc q) cells = if slice_index cells (suc q) == 32 then suc q else last_blank q cells
+
+-- how many of more than n cells stand in a line: those before the last blank, or n
+abbrev pub line_length : ℕ → List ℕ → ℕ
+line_length n cells = if last_blank n cells == 0 then n else last_blank n cells
+
+-- the cells behind that line: the blank is dropped
+abbrev pub behind_line : ℕ → List ℕ → List ℕ
+behind_line n cells = if last_blank n cells == 0 then drop n cells else drop (last_blank n cells + 1) cells
+
+-- a paragraph in lines of at most n cells. A last line that is empty stands only where it is the first, and there are
+-- no more lines than `most`, the paragraph's cells, or one
+abbrev pub lines_upto : ℕ → ℕ → List ℕ → List (List ℕ)
+lines_upto zero n cells = cells ∷ []
+lines_upto (suc most) n cells =
+    if nat_le (length cells) n then cells ∷ []
+    else take (line_length n cells) cells ∷ (if length (behind_line n cells) == 0 then [] else lines_upto most n (behind_line n cells))
+
+abbrev pub lines : ℕ → List ℕ → List (List ℕ)
+lines n cells = lines_upto (length cells) n cells
+
+-- the lines of a text, of at most n cells
+unfoldable pub block_lines : ℕ → List ℕ → List (List ℕ)
+block_lines n text = flat_map (lines n) (paragraphs (pieces text))
+
+-- the rows from the top of a line to that of the next, with so many rows between the lines, or fewer than none
+abbrev pub pitch : ℕ → ℤ → ℕ
+pitch h (pos c) = h + c
+pitch h (negsuc c) = h - (c + 1)
+
+-- how far a line is moved to the right in a block that has so much room beside it
+abbrev pub indent : Alignment → ℕ → ℕ
+indent Left room = 0
+indent Centre room = room / 2
+indent Right room = room
+
+-- a block of a dots and b lines
+abbrev pub block_width : ℕ → ℕ → ℕ
+block_width a w = max a w
+
+abbrev pub block_height : ℕ → ℕ → ℕ → ℕ
+block_height h b s = h + (b - 1) * s
+
+-- dot (x, y) of a line that stands so many lines below the first, in a block of a dots
+abbrev pub line_dot : Option Glyphs → ℕ → ℕ → ℕ → ℕ → Alignment → ℕ → List ℕ → ℕ → ℕ → Bool
+line_dot sheet w h a s d place line x y =
+    let left = indent d (a - w * length line) in
+    nat_le left x && nat_le (place * s) y && text_dot sheet line w h (x - left) (y - place * s)
+
+-- dot (x, y) of some lines one below the other; those past the last of b stand over it
+abbrev pub lines_dot : Option Glyphs → ℕ → ℕ → ℕ → ℕ → ℕ → Alignment → ℕ → List (List ℕ) → ℕ → ℕ → Bool
+lines_dot sheet w h a b s d place [] x y = false
+lines_dot sheet w h a b s d place (line ∷ rest) x y =
+    line_dot sheet w h a s d place line x y || lines_dot sheet w h a b s d (min (place + 1) (b - 1)) rest x y
+
+-- dot (x, y) of a block whose lines stand s rows apart; a block less wide than a cell has none
+unfoldable pub block_dot : Option Glyphs → List ℕ → ℕ → ℕ → ℕ → ℕ → ℕ → Alignment → ℕ → ℕ → Bool
+block_dot sheet text w h a b s d x y = nat_lt x (block_width a w) && nat_lt y (block_height h b s) && nat_le w a && lines_dot sheet w h a b s d 0 (block_lines (a / w) text) x y
+
+-- there is no ink outside
+pub block_inside : (sheet : Option Glyphs) (text : List ℕ) (w h a b s : ℕ) (d : Alignment) (x y : ℕ) → block_dot sheet text w h a b s d x y ≡ true → (x < block_width a w) × (y < block_height h b s)
+unfolding block_dot
+block_inside sheet text w h a b s d x y e =
+    let p = and_parts _ _ e in
+    let o = and_parts _ _ p.0 in
+    let q = and_parts _ _ o.0 in
+    (ltb-true x (block_width a w) q.0, ltb-true y (block_height h b s) q.1)

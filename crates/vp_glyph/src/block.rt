@@ -1,0 +1,244 @@
+//! A text in a block of lines.
+ghost use Rattle.std.specs.Prelude.{◌≡◌, ◌+◌, ◌-◌, ◌*◌, ◌/◌, ◌<◌, ◌≤◌, ◌≢◌, ◌^◌, nat_le, ◌&&◌, length, take};
+ghost use Rattle.vp_dots.specs.Dots.{shifted};
+ghost use Rattle.vp_dots.specs.Painting.{Painted};
+ghost use Rattle.vp_glyph.specs.Texts.{text_dot};
+ghost use Rattle.vp_glyph.specs.Blocks.{pieces, first, indent, pitch, line_dot, block_width, block_height, block_dot, block_inside};
+
+use crate::lines::{Line, behind_cells, next_cell, next_line};
+use crate::sampled::Sampled;
+use crate::sheet::Sheet;
+use std::alloc::AllocError;
+use vp_dots::{Ink, Op, xor_into};
+
+/// Where the lines of a block stand.
+#[derive(Clone, Copy, Debug, PartialEq, Eq)]
+pub enum Alignment {
+    Left,
+    Centre,
+    Right,
+}
+
+impl Alignment {
+    /// How far a line moves to the right that has so much room beside it.
+    fn indent(self, room: u32) -> u32
+        ensures { result ≡ indent self room }
+    {
+        match self {
+            Alignment::Left => 0,
+            Alignment::Centre => room / 2,
+            Alignment::Right => room,
+        }
+    }
+}
+
+/// From the top of a line to that of the next, with c rows between the lines, or fewer than none.
+pub fn pitch(h: u32, c: i32) -> u32
+    requires { h < 2 ^ 31 }
+    ensures { result ≡ pitch h c }
+{
+    if c >= 0 {
+        h + c.unsigned_abs()
+    } else {
+        h.saturating_sub(c.unsigned_abs())
+    }
+}
+
+/// A text in lines of cells of w by h.
+pub struct Block<'a> {
+    pub sheet: &'a Option<Sheet>,
+    pub text: &'a [u8],
+    pub w: u32,
+    pub h: u32,
+    /// The dots of a line.
+    pub wide: u32,
+    /// How many lines stand below each other.
+    pub rows: u32,
+    /// From the top of a line to that of the next.
+    pub pitch: u32,
+    pub alignment: Alignment,
+    ghost some: { 0 < w },
+    ghost narrow: { wide ≤ 32000 },
+    ghost fits: { block_height h rows pitch < 2 ^ 32 },
+}
+
+impl Copy for Block<'_> {}
+
+impl Clone for Block<'_> {
+    fn clone(&self) -> Result<Self, AllocError> {
+        Ok(*self)
+    }
+}
+
+/// A dot of a line, from its left and top.
+fn dot_of_line(line: Line<'_>, sheet: &Option<Sheet>, w: u32, h: u32, x: u32, y: u32) -> bool
+    requires w { 0 < w }
+    requires cells { line.cells ≤ length (first (pieces line.text.now)) }
+    ensures { result ≡ text_dot sheet.now (take line.entry.cells (first (pieces line.entry.text.now))) w h x y }
+{
+    let place = (x / w) as usize;
+    if place >= line.cells {
+        return false;
+    }
+    let Some((character, _)) = next_cell(behind_cells(line.text, place)) else {
+        unreachable!()
+    };
+    let cell = Sampled {
+        sheet,
+        character,
+        w,
+        h,
+    };
+    cell.ink(x % w, y)
+}
+
+/// Paints row y of a line, from its left and top on.
+fn paint_line(
+    line: Line<'_>,
+    sheet: &Option<Sheet>,
+    w: u32,
+    h: u32,
+    y: u32,
+    op: Op,
+    at: i64,
+    left: u32,
+    row: &mut [u8],
+)
+    requires w { 0 < w }
+    requires cells { line.cells ≤ length (first (pieces line.text.now)) }
+    requires fits { left + w * line.cells < 2 ^ 32 }
+    ensures { Painted op (shifted at (λ x. nat_le left x && text_dot sheet.now (take line.entry.cells (first (pieces line.entry.text.now))) w h (x - left) y)) row.old row.new }
+{
+    let mut rest = line.text;
+    let mut place = left;
+    for _i in 0..line.cells {
+        let Some((character, behind)) = next_cell(rest) else {
+            unreachable!()
+        };
+        let cell = Sampled {
+            sheet,
+            character,
+            w,
+            h,
+        };
+        cell.paint_from(y, op, at, place, row);
+        place += w;
+        rest = behind;
+    }
+}
+
+impl Block<'_> {
+    /// A dot of a line that stands so many lines below the first.
+    fn dot_of_line(&self, line: Line<'_>, place: u32, x: u32, y: u32) -> bool
+        requires cells { line.cells ≤ length (first (pieces line.text.now)) }
+        requires most { line.cells ≤ self.now.wide / self.now.w }
+        requires place { place ≤ self.now.rows - 1 }
+        ensures { result ≡ line_dot self.now.sheet.now self.now.w self.now.h self.now.wide self.now.pitch self.now.alignment place (take line.entry.cells (first (pieces line.entry.text.now))) x y }
+    {
+        let left = self
+            .alignment
+            .indent(self.wide - self.w * line.cells as u32);
+        let top = place * self.pitch;
+        x >= left && y >= top && dot_of_line(line, self.sheet, self.w, self.h, x - left, y - top)
+    }
+}
+
+impl Block<'_> {
+    /// Paints row y of a line that stands so many lines below the first.
+    fn paint_line(&self, line: Line<'_>, place: u32, y: u32, op: Op, at: i64, row: &mut [u8])
+        requires cells { line.cells ≤ length (first (pieces line.text.now)) }
+        requires most { line.cells ≤ self.now.wide / self.now.w }
+        requires place { place ≤ self.now.rows - 1 }
+        ensures { Painted op (shifted at (λ x. line_dot self.now.sheet.now self.now.w self.now.h self.now.wide self.now.pitch self.now.alignment place (take line.entry.cells (first (pieces line.entry.text.now))) x y)) row.old row.new }
+    {
+        let top = place * self.pitch;
+        if y < top {
+            return;
+        }
+        let left = self
+            .alignment
+            .indent(self.wide - self.w * line.cells as u32);
+        paint_line(line, self.sheet, self.w, self.h, y - top, op, at, left, row);
+    }
+
+    /// Paints row y black or white, line over line.
+    fn paint_lines(&self, y: u32, op: Op, at: i64, row: &mut [u8])
+        requires op { op ≢ Op.Flip }
+        requires y { y < block_height self.now.h self.now.rows self.now.pitch }
+        requires wide { self.now.w ≤ self.now.wide }
+        ensures { Painted op (shifted at (λ x. block_dot self.now.sheet.now self.now.text.now self.now.w self.now.h self.now.wide self.now.rows self.now.pitch self.now.alignment x y)) row.old row.new }
+    {
+        let most = (self.wide / self.w) as usize;
+        let mut place = 0;
+        let mut left = Some(self.text);
+        while let Some(text) = left {
+            let (line, rest) = next_line(text, most);
+            self.paint_line(line, place, y, op, at, row);
+            place = (place + 1).min(self.rows.saturating_sub(1));
+            left = rest;
+        }
+    }
+
+    /// Reverses the dots of row y, each once however many lines have it.
+    fn flip_lines<const N: usize>(&self, y: u32, at: i64, row: &mut [u8])
+        requires y { y < block_height self.now.h self.now.rows self.now.pitch }
+        requires wide { self.now.w ≤ self.now.wide }
+        requires room { self.now.wide ≤ 8 * N }
+        requires few { N ≤ 4000 }
+        ensures { Painted Op.Flip (shifted at (λ x. block_dot self.now.sheet.now self.now.text.now self.now.w self.now.h self.now.wide self.now.rows self.now.pitch self.now.alignment x y)) row.old row.new }
+    {
+        let mut dots = [0u8; N];
+        self.paint_lines(y, Op::Black, 0, &mut dots);
+        xor_into(&dots, at, row);
+    }
+}
+
+impl Ink for Block<'_> {
+    ghost width = { λ s. block_width s.wide s.w };
+
+    ghost height = { λ s. block_height s.h s.rows s.pitch };
+
+    ghost ink_at = { λ s x y. block_dot s.sheet.now s.text.now s.w s.h s.wide s.rows s.pitch s.alignment x y };
+
+    ghost outside = { λ s x y h. block_inside s.sheet.now s.text.now s.w s.h s.wide s.rows s.pitch s.alignment x y h };
+
+    fn size(&self) -> (u32, u32) {
+        (
+            self.wide.max(self.w),
+            self.h + self.rows.saturating_sub(1) * self.pitch,
+        )
+    }
+
+    fn ink(&self, x: u32, y: u32) -> bool {
+        let (width, height) = self.size();
+        if x >= width || y >= height || self.wide < self.w {
+            return false;
+        }
+        let most = (self.wide / self.w) as usize;
+        let mut place = 0;
+        let mut left = Some(self.text);
+        while let Some(text) = left {
+            let (line, rest) = next_line(text, most);
+            if self.dot_of_line(line, place, x, y) {
+                return true;
+            }
+            place = (place + 1).min(self.rows.saturating_sub(1));
+            left = rest;
+        }
+        false
+    }
+
+    fn paint_row(&self, y: u32, op: Op, at: i64, row: &mut [u8]) {
+        let (_, height) = self.size();
+        if y >= height {
+            return;
+        }
+        if self.wide < self.w {
+            return;
+        }
+        match op {
+            Op::Flip => self.flip_lines::<4000>(y, at, row),
+            op => self.paint_lines(y, op, at, row),
+        }
+    }
+}

@@ -1,0 +1,75 @@
+//! Characters of sheet A at any size.
+ghost use Rattle.std.specs.Prelude.{◌≡◌, ◌+◌, ◌-◌, ◌*◌, ◌/◌, ◌<◌, ◌^◌, nat_le, ◌&&◌};
+ghost use Rattle.vp_dots.specs.Dots.{shifted};
+ghost use Rattle.vp_dots.specs.Painting.{Painted};
+ghost use Rattle.vp_glyph.specs.Sheets.{scaled_dot};
+ghost use Rattle.vp_glyph.specs.Texts.{sampled_dot, sampled_inside};
+
+use crate::few::paint_scaled;
+use crate::sheet::{Sheet, dot_in, row_in};
+use vp_dots::{Ink, Op};
+
+/// A character drawn w by h.
+#[derive(Clone, Copy)]
+pub struct Sampled<'a> {
+    pub sheet: &'a Option<Sheet>,
+    pub character: u8,
+    pub w: u32,
+    pub h: u32,
+}
+
+/// How far a place is in `cell` dots, where it is so far in `size`.
+fn sampled_place(place: u32, cell: u32, size: u32) -> u32
+    requires place { place < size }
+    requires cell { cell < 2 ^ 8 }
+    ensures { result ≡ place * cell / size }
+{
+    (u64::from(place) * u64::from(cell) / u64::from(size)) as u32
+}
+
+impl Sampled<'_> {
+    /// Paints line y from a place on.
+    pub(crate) fn paint_from(&self, y: u32, op: Op, at: i64, left: u32, row: &mut [u8])
+        requires { left + self.now.w < 2 ^ 32 }
+        ensures { Painted op (shifted at (λ x. nat_le left x && sampled_dot self.now.sheet.now self.now.character self.now.w self.now.h (x - left) y)) row.old row.new }
+    {
+        if y >= self.h {
+            return;
+        }
+        let dots = row_in(self.sheet, self.character, sampled_place(y, 24, self.h), 12);
+        paint_scaled::<12>(op, at, dots, left, self.w, row);
+    }
+}
+
+impl Ink for Sampled<'_> {
+    ghost width = { λ s. s.w };
+
+    ghost height = { λ s. s.h };
+
+    ghost ink_at = { λ s x y. sampled_dot s.sheet.now s.character s.w s.h x y };
+
+    ghost outside = { λ s x y h. sampled_inside s.sheet.now s.character s.w s.h x y h };
+
+    fn size(&self) -> (u32, u32) {
+        (self.w, self.h)
+    }
+
+    #[tactic(auto, unfolding(crate::specs::Texts::sampled_dot))]
+    fn ink(&self, x: u32, y: u32) -> bool {
+        x < self.w
+            && y < self.h
+            && dot_in(
+                self.sheet,
+                self.character,
+                sampled_place(x, 12, self.w),
+                sampled_place(y, 24, self.h),
+            )
+    }
+
+    fn paint_row(&self, y: u32, op: Op, at: i64, row: &mut [u8]) {
+        if self.w == 0 {
+            return;
+        }
+        self.paint_from(y, op, at, 0, row);
+    }
+}
