@@ -1,0 +1,106 @@
+-- How wide symbols can be.
+use Rattle.std.proofs.Common.{◌≡◌, ℕ, ◌+◌, ◌*◌, ◌^◌, ◌<◌, ◌≤◌, Bool, true, false, cond, eqb, leb, List, [], ◌∷◌, ◌++◌, length, take, drop, reverse, refl, arith}
+use Rattle.std.specs.List.{flat_map}
+use Rattle.std.proofs.Math.Nat.{mul-le-mul_left}
+use Rattle.std.proofs.lemmas.Bool.{leb-true}
+use Rattle.std.proofs.lemmas.List.{length-append, length-take, length-drop}
+use Rattle.vp_bars.specs.declared.bars.Symbology.{Symbology}
+use Rattle.vp_bars.specs.declared.bars.Symbology.TheVariants.{Code39, Ean13, Code128}
+use Rattle.vp_bars.specs.Patterns.{code39_table, code128_table, parity}
+use Rattle.vp_bars.specs.Elements.{set_a_widths, set_a_elements, set_b_elements, left_elements_of, left_elements, ean13_elements}
+use Rattle.vp_bars.specs.Widths.{size_of, sized, pattern_of, next_widths, widths_of, bar_widths, width_of, black_of, in_bar, total}
+use Rattle.vp_bars.proofs.Draws.{total-append}
+use Rattle.vp_bars.proofs.Tables.{each_row}
+use Rattle.vp_bars.proofs.Modules.{ean13_width, ean13_bars}
+
+-- elements by their modules and their number
+abbrev mass : List ℕ → ℕ
+mass es = total es + length es
+
+mass-append : (us vs : List ℕ) → mass (us ++ vs) ≡ mass us + mass vs
+mass-append us vs = omega (arith, total-append us vs, length-append us vs)
+
+small : (es : List ℕ) → leb (total es + length es) 20 ≡ true → mass es ≤ 20
+small es h = leb-true (total es + length es) 20 h
+
+mass_set_a : (d : ℕ) → mass (set_a_elements d) ≤ 20
+mass_set_a d = small _ (each_row (λ es. leb (total es + length es) 20) set_a_widths d refl refl)
+
+mass_set_b : (d : ℕ) → mass (set_b_elements d) ≤ 20
+mass_set_b d = small _ (each_row (λ es. leb (total (reverse es) + length (reverse es)) 20) set_a_widths d refl refl)
+
+mass_left : (sets ds : List ℕ) → mass (left_elements sets ds) ≤ 20 * length ds
+mass_left [] ds = omega arith
+mass_left (s ∷ sets) [] = omega arith
+mass_left (s ∷ sets) (d ∷ ds) = omega (arith, mass-append (left_elements_of s d) (left_elements sets ds), mass_left sets ds, by_set (eqb s 0))
+  where
+    by_set : (b : Bool) → mass (cond b (set_a_elements d) (set_b_elements d)) ≤ 20
+    by_set true = mass_set_a d
+    by_set false = mass_set_b d
+
+mass_right : (ds : List ℕ) → mass (flat_map set_a_elements ds) ≤ 20 * length ds
+mass_right [] = omega arith
+mass_right (d ∷ ds) = omega (arith, mass-append (set_a_elements d) (flat_map set_a_elements ds), mass_set_a d, mass_right ds)
+
+mass_digits : (vs : List ℕ) → length vs ≤ 258 → mass (ean13_elements vs) ≤ 10400
+mass_digits [] h = omega arith
+mass_digits (first ∷ ds) h =
+    let guard : List ℕ = 1 ∷ 1 ∷ 1 ∷ [] in
+    let left = left_elements (parity first) (take 6 ds) in
+    let right = flat_map set_a_elements (drop 6 ds) in
+    omega (arith, mass-append left ((1 ∷ 1 ∷ 1 ∷ 1 ∷ 1 ∷ []) ++ (right ++ guard)), mass-append right guard, mass_left (parity first) (take 6 ds), mass_right (drop 6 ds), length-take 6 ds, length-drop 6 ds)
+
+module _ (n w : ℕ) (n_fits : n ≤ 65535) (w_fits : w ≤ 65535) where
+  one : (s : Symbology) (e : ℕ) → size_of s n w e ≤ (e + 1) * 65535
+  one Code39 e = by_width (eqb e 1)
+    where
+      by_width : (b : Bool) → cond b w n ≤ (e + 1) * 65535
+      by_width true = omega arith
+      by_width false = omega arith
+  one Ean13 e = omega (arith, mul-le-mul_left e n_fits)
+  one Code128 e = omega (arith, mul-le-mul_left e n_fits)
+
+  -- elements are no wider than so many modules
+  weigh : (s : Symbology) (es : List ℕ) → total (sized s n w es) ≤ (total es + length es) * 65535
+  weigh s [] = omega arith
+  weigh s (e ∷ es) = omega (arith, one s e, weigh s es)
+
+  light : (es : List ℕ) (s : Symbology) → leb (total es + length es) 20 ≡ true → total (sized s n w es) ≤ 20 * 65535
+  light es s h = omega (arith, weigh s es, leb-true (total es + length es) 20 h)
+
+  pattern_light : (s : Symbology) (v : ℕ) → total (sized s n w (pattern_of s v)) ≤ 20 * 65535
+  pattern_light Code39 v = light _ Code39 (each_row (λ es. leb (total es + length es) 20) code39_table v refl refl)
+  pattern_light Ean13 v = light _ Ean13 (each_row (λ es. leb (total es + length es) 20) set_a_widths v refl refl)
+  pattern_light Code128 v = light _ Code128 (each_row (λ es. leb (total es + length es) 20) code128_table v refl refl)
+
+  next_light : (s : Symbology) (v : ℕ) → total (next_widths s n w v) ≤ 21 * 65535
+  next_light Code39 v = omega (arith, total-append (sized Code39 n w (0 ∷ [])) (sized Code39 n w (pattern_of Code39 v)), pattern_light Code39 v)
+  next_light Ean13 v = omega (arith, pattern_light Ean13 v)
+  next_light Code128 v = omega (arith, pattern_light Code128 v)
+
+  flat_light : (g : ℕ → List ℕ) → ((v : ℕ) → total (g v) ≤ 21 * 65535) → (vs : List ℕ) → total (flat_map g vs) ≤ length vs * (21 * 65535)
+  flat_light g h [] = omega arith
+  flat_light g h (v ∷ vs) = omega (arith, total-append (g v) (flat_map g vs), h v, flat_light g h vs)
+
+  characters_light : (s : Symbology) (vs : List ℕ) → total (widths_of s n w vs) ≤ length vs * (21 * 65535)
+  characters_light s [] = omega arith
+  characters_light s (v ∷ vs) =
+      omega (arith, total-append (sized s n w (pattern_of s v)) (flat_map (next_widths s n w) vs), pattern_light s v, flat_light (next_widths s n w) (next_light s) vs)
+
+  digits_light : (vs : List ℕ) → length vs ≤ 258 → total (sized Ean13 n w (ean13_elements vs)) < 2 ^ 30
+  digits_light vs h = omega (arith, weigh Ean13 (ean13_elements vs), mass_digits vs h)
+
+pub narrow_bars : (s : Symbology) (n w : ℕ) (vs : List ℕ) → n < 65536 → w < 65536 → length vs ≤ 258 → total (bar_widths s n w vs) < 2 ^ 30
+narrow_bars Code39 n w vs h k l = omega (arith, characters_light n w (omega arith) (omega arith) Code39 vs)
+narrow_bars Ean13 n w vs h k l = digits_light n w (omega arith) (omega arith) vs l
+narrow_bars Code128 n w vs h k l = omega (arith, characters_light n w (omega arith) (omega arith) Code128 vs)
+
+pub width_is : (s : Symbology) (n w : ℕ) (vs : List ℕ) → width_of s n w vs ≡ total (bar_widths s n w vs)
+width_is Code39 n w vs = refl
+width_is Ean13 n w vs = ean13_width n vs
+width_is Code128 n w vs = refl
+
+pub black_is : (s : Symbology) (n w : ℕ) (vs : List ℕ) (x : ℕ) → black_of s n w vs x ≡ in_bar true (bar_widths s n w vs) x
+black_is Code39 n w vs x = refl
+black_is Ean13 n w vs x = ean13_bars n vs x
+black_is Code128 n w vs x = refl

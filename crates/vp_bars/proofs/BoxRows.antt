@@ -1,0 +1,144 @@
+-- The rows of a box.
+use Rattle.std.proofs.Common.{inl, inr, ◌≡◌, ℕ, ◌+◌, ◌-◌, ◌*◌, ◌/◌, ◌<◌, ◌≤◌, Bool, true, false, not, cond, ltb, leb, ◌&&◌, List, [], ◌∷◌, ◌++◌, ℤ, refl, sym, ap, ◌∙◌, arith}
+use Rattle.std.proofs.lemmas.Bool.{cases_lt, and_parts, ltb-true, leb-true, lt-ltb, le-ltb}
+use Rattle.vp_bars.specs.declared.bar_box.Place.{Place}
+use Rattle.vp_bars.specs.declared.bar_box.Place.TheVariants.{None, Above, Below, Both}
+use Rattle.vp_glyph.specs.Cells.{font_height}
+use Rattle.vp_glyph.specs.declared.cell.Font.{Font}
+use Rattle.vp_bars.specs.Symbols.{Linear}
+use Rattle.vp_bars.specs.Texts.{text_of}
+use Rattle.vp_bars.specs.Widths.{in_bar, bar_widths, total, bars_width, is_black}
+use Rattle.vp_bars.specs.Boxes.{Boxed, texts_above, texts_below, line_width, line_dot, text_width, box_width, box_top, box_height, centred, text_row, bars_row, box_dot}
+use Rattle.vp_dots.specs.Dots.{shifted}
+use Rattle.vp_dots.specs.Painting.{Painted}
+use Rattle.vp_dots.specs.declared.Op.{Op}
+use Rattle.std.proofs.lemmas.List.{append-nil}
+use Rattle.vp_bars.specs.declared.bars.Symbology.{Symbology}
+use Rattle.vp_bars.specs.declared.pen.Pen.{Pen}
+use Rattle.vp_bars.specs.Drawing.{Draws}
+use Rattle.vp_bars.proofs.Paints.{drawn_none, drawn_all}
+use Rattle.vp_bars.proofs.Bounds.{width_is, black_is}
+
+in_bar_inside : (bar : Bool) (ws : List ℕ) (x : ℕ) → in_bar bar ws x ≡ true → x < total ws
+in_bar_inside bar [] x e = cc
+in_bar_inside bar (w ∷ ws) x e = elim (cases_lt x w) [
+  | inl l ↦ omega arith
+  | inr g ↦ (let d : in_bar (not bar) ws (x - w) ≡ true = sym (rw (le-ltb x w g) refl) ∙ e in omega (arith, in_bar_inside (not bar) ws (x - w) d))
+]
+
+pub black_widths : (bars : Linear) (n w x : ℕ) → is_black bars n w x ≡ in_bar true (bar_widths bars.symbology n w bars.values) x
+unfolding is_black
+black_widths bars n w x = black_is bars.symbology n w bars.values x
+
+black_inside : (bars : Linear) (n w x : ℕ) → is_black bars n w x ≡ true → x < bars_width bars n w
+black_inside bars n w x e = rw (width_is bars.symbology n w bars.values) (in_bar_inside true (bar_widths bars.symbology n w bars.values) x (sym (black_widths bars n w x) ∙ e))
+
+line_inside : (b : Boxed) (x y : ℕ) → line_dot b.sheets b.font (text_of b.bars) x y ≡ true → x < line_width b.font (text_of b.bars)
+unfolding line_dot
+line_inside b x y e = ltb-true x (line_width b.font (text_of b.bars)) (and_parts _ _ e).0
+
+centred_inside : (width own : ℕ) (f : ℕ → Bool) (x : ℕ) → own ≤ width → ((u : ℕ) → f u ≡ true → u < own) → centred width own f x ≡ true → x < width
+centred_inside width own f x l h e =
+    let p : (leb ((width - own) / 2) x ≡ true) × (f (x - (width - own) / 2) ≡ true) = and_parts _ _ e in
+    omega (arith, h (x - (width - own) / 2) p.1, leb-true ((width - own) / 2) x p.0)
+
+-- what lies inside is not cut
+uncut : (x w : ℕ) (v : Bool) → (v ≡ true → x < w) → v ≡ (ltb x w && v)
+uncut x w true h = rw (lt-ltb x w (h refl)) refl
+uncut x w false h = none (ltb x w)
+  where
+    none : (b : Bool) → false ≡ (b && false)
+    none true = refl
+    none false = refl
+
+-- a row of a box by where it lies
+module _ (w h t high x y : ℕ) (above bars below : Bool) where
+  abbrev row : Bool
+  row = ltb x w && ltb y h && cond (ltb y t) above (cond (ltb y (t + high)) bars below)
+
+  in_top : y < t → t ≤ h → (above ≡ true → x < w) → above ≡ row
+  in_top k l f = rw (lt-ltb y t k, lt-ltb y h (omega arith)) (uncut x w above f ∙ shape (ltb x w) above)
+    where
+      shape : (b v : Bool) → (b && v) ≡ (b && true && v)
+      shape true v = refl
+      shape false v = refl
+
+  in_bars : t ≤ y → y < t + high → t + high ≤ h → (bars ≡ true → x < w) → bars ≡ row
+  in_bars k l m f = rw (le-ltb y t k, lt-ltb y (t + high) l, lt-ltb y h (omega arith)) (uncut x w bars f ∙ shape (ltb x w) bars)
+    where
+      shape : (b v : Bool) → (b && v) ≡ (b && true && v)
+      shape true v = refl
+      shape false v = refl
+
+  in_below : t + high ≤ y → y < h → (below ≡ true → x < w) → below ≡ row
+  in_below k l f = rw (le-ltb y t (omega arith), le-ltb y (t + high) k, lt-ltb y h l) (uncut x w below f ∙ shape (ltb x w) below)
+    where
+      shape : (b v : Bool) → (b && v) ≡ (b && true && v)
+      shape true v = refl
+      shape false v = refl
+
+  past : h ≤ y → row ≡ false
+  past k = rw (le-ltb y h k) (shape (ltb x w))
+    where
+      shape : (b : Bool) → (b && false && cond (ltb y t) above (cond (ltb y (t + high)) bars below)) ≡ false
+      shape true = refl
+      shape false = refl
+
+has_above : (p : Place) (k y : ℕ) → y < texts_above p * k → 0 < texts_above p + texts_below p
+has_above None k y h = absurd (omega arith)
+has_above Above k y h = omega arith
+has_above Below k y h = absurd (omega arith)
+has_above Both k y h = omega arith
+
+has_below : (p : Place) (k t y : ℕ) → t ≤ y → y < t + texts_below p * k → 0 < texts_above p + texts_below p
+has_below None k t y h l = absurd (omega arith)
+has_below Above k t y h l = absurd (omega arith)
+has_below Below k t y h l = omega arith
+has_below Both k t y h l = omega arith
+
+text_fits : (f : Font) (p : Place) → 0 < texts_above p + texts_below p → (t : List ℕ) → text_width f p t ≡ line_width f t
+text_fits f None h t = absurd (omega arith)
+text_fits f Above h t = refl
+text_fits f Below h t = refl
+text_fits f Both h t = refl
+
+module _ (b : Boxed) (y x : ℕ) where
+  text_inside : (v : ℕ) → 0 < texts_above b.place + texts_below b.place → text_row b v x ≡ true → x < box_width b
+  text_inside v h e = centred_inside (box_width b) (line_width b.font (text_of b.bars)) (λ u. line_dot b.sheets b.font (text_of b.bars) u v) x
+      (omega (arith, text_fits b.font b.place h (text_of b.bars))) (λ u. line_inside b u v) e
+
+  bars_inside : bars_row b x ≡ true → x < box_width b
+  bars_inside e = centred_inside (box_width b) (bars_width b.bars b.narrow b.wide) (is_black b.bars b.narrow b.wide) x (omega arith) (λ u. black_inside b.bars b.narrow b.wide u) e
+
+  pub row_top : y < box_top b → text_row b y x ≡ box_dot b x y
+  unfolding box_dot
+  row_top h = in_top (box_width b) (box_height b) (box_top b) b.height x y (text_row b y x) (bars_row b x) (text_row b (y - box_top b - b.height) x)
+      h (omega arith) (text_inside y (has_above b.place (font_height b.font) y h))
+
+  pub row_bars : box_top b ≤ y → y < box_top b + b.height → bars_row b x ≡ box_dot b x y
+  unfolding box_dot
+  row_bars h k = in_bars (box_width b) (box_height b) (box_top b) b.height x y (text_row b y x) (bars_row b x) (text_row b (y - box_top b - b.height) x)
+      h k (omega arith) bars_inside
+
+  pub row_below : box_top b + b.height ≤ y → y < box_height b → text_row b (y - box_top b - b.height) x ≡ box_dot b x y
+  unfolding box_dot
+  row_below h k = in_below (box_width b) (box_height b) (box_top b) b.height x y (text_row b y x) (bars_row b x) (text_row b (y - box_top b - b.height) x)
+      h k (text_inside (y - box_top b - b.height) (has_below b.place (font_height b.font) (box_top b + b.height) y h k))
+
+  pub row_none : box_height b ≤ y → box_dot b x y ≡ false
+  unfolding box_dot
+  row_none h = past (box_width b) (box_height b) (box_top b) b.height x y (text_row b y x) (bars_row b x) (text_row b (y - box_top b - b.height) x) h
+
+-- the bars, drawn from their left
+pub bars_painted : (op : Op) (at : ℤ) (b : Boxed) (row new : List ℕ) (s : Symbology) (vs : List ℕ) (x : ℕ) (next : Pen)
+    → s ≡ b.bars.symbology → vs ≡ b.bars.values → x ≡ (box_width b - bars_width b.bars b.narrow b.wide) / 2
+    → Draws op at row new (record { x = x; bar = true }) next (bar_widths s b.narrow b.wide vs) → Painted op (shifted at (bars_row b)) row new
+bars_painted op at b row new s vs x next e v l d =
+    let ws = bar_widths s b.narrow b.wide vs in
+    let same : (u : ℕ) → is_black b.bars b.narrow b.wide u ≡ in_bar true (ws ++ []) u = λ u.
+    black_widths b.bars b.narrow b.wide u ∙ ap (λ z. in_bar true (bar_widths z b.narrow b.wide b.bars.values) u) (sym e)
+    ∙ ap (λ z. in_bar true (bar_widths s b.narrow b.wide z) u) (sym v) ∙ ap (λ z. in_bar true z u) (sym (append-nil ws)) in
+    drawn_all op at (bars_row b) row new next.x (in_bar next.bar [])
+    (d.drawn (bars_row b) row [] (drawn_none op at (bars_row b) row x (in_bar true (ws ++ []))
+    (λ i. ap (λ z. leb z i && is_black b.bars b.narrow b.wide (i - z)) (sym l) ∙ ap (λ z. leb x i && z) (same (i - x)))))
+    (λ j. refl)

@@ -1,0 +1,16 @@
+pub mod Lists
+pub mod Characters
+pub mod Digits
+pub mod Tokens
+pub mod Pairs
+pub mod Packed
+pub mod Tables
+pub mod Paints
+pub mod Spaces
+pub mod Draws
+pub mod Halves
+pub mod Modules
+pub mod Bounds
+pub mod Shown
+pub mod BoxRows
+pub mod TextLines

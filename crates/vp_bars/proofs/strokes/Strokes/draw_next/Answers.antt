@@ -1,0 +1,38 @@
+use Rattle.std.proofs.Common.{◌≡◌, ℕ, ◌++◌, List, ap, ◌∙◌, sym, get_or, arith, w64}
+use Rattle.std.proofs.lemmas.Int.{to_z-of_z}
+use Rattle.std.proofs.lemmas.List.{take_all}
+use Rattle.vp_bars.specs.Widths.{sized, gap_of, pattern_of, next_widths}
+use Rattle.vp_bars.proofs.Draws.{total-append, draws_same, draws_then, flat_more, flat_room}
+use Rattle.vp_bars.proofs.strokes.Strokes.draw_next.Goals as goal
+
+pub draw-gap-requires : goal.draw-gap-requires
+draw-gap-requires c =
+    let s = c.args.self.now in
+    let v = get_or c.args.values.now c.loop-v.v-index 0 in
+    let room = flat_room (next_widths s.symbology s.narrow s.wide) c.args.values.now c.loop-v.v-index c.loop-v-test.true in
+    let both = total-append (sized s.symbology s.narrow s.wide (gap_of s.symbology)) (sized s.symbology s.narrow s.wide (pattern_of s.symbology v)) in
+    rw c.gap_of.ensures (omega (arith, room, both, c.loop-v.invariant.ends))
+
+pub draw-pen-requires : goal.draw-pen-requires
+draw-pen-requires c =
+    let s = c.args.self.now in
+    let v = get_or c.args.values.now c.loop-v.v-index 0 in
+    let room = flat_room (next_widths s.symbology s.narrow s.wide) c.args.values.now c.loop-v.v-index c.loop-v-test.true in
+    let both = total-append (sized s.symbology s.narrow s.wide (gap_of s.symbology)) (sized s.symbology s.narrow s.wide (pattern_of s.symbology v)) in
+    let gap = rw c.gap_of.ensures at c.draw-gap.ensures.ends in
+    rw c.pattern_of.ensures (omega (arith, room, both, gap, c.loop-v.invariant.ends))
+
+pub loop-v-preserved : goal.loop-v-preserved
+loop-v-preserved c =
+    let s = c.args.self.now in
+    let sized_all : List ℕ → List ℕ = λ es. sized s.symbology s.narrow s.wide es in
+    let v = get_or c.args.values.now c.loop-v.v-index 0 in
+    let one : sized_all c.gap_of.result.now ++ sized_all c.pattern_of.result.now ≡ next_widths s.symbology s.narrow s.wide v =
+    ap (λ es. sized_all es ++ sized_all c.pattern_of.result.now) c.gap_of.ensures ∙ ap (λ es. sized_all (gap_of s.symbology) ++ sized_all es) c.pattern_of.ensures in
+    draws_same _ _ _ _ _ _ _ _ (flat_more (next_widths s.symbology s.narrow s.wide) c.args.values.now c.loop-v.v-index c.loop-v-test.true) (
+    draws_then _ _ _ _ _ _ _ _ _ _ c.loop-v.invariant (draws_same _ _ _ _ _ _ _ _ one (draws_then _ _ _ _ _ _ _ _ _ _ c.draw-gap.ensures c.draw-pen.ensures)))
+
+pub returns : goal.returns
+returns c =
+    let all = take_all c.loop-v.v-index c.args.values.now c.loop-v-test.false in
+    rw (sym (to_z-of_z w64 c.args.at c.ranges.at)) (rw all at c.loop-v.invariant)

@@ -1,0 +1,14 @@
+pub mod Symbols
+pub mod Code39
+pub mod Ean13
+pub mod CodeSets
+pub mod Escapes
+pub mod Invocations
+pub mod Packing
+pub mod Texts
+pub mod Patterns
+pub mod Elements
+pub mod Widths
+pub mod Drawing
+pub mod Boxes
+pub mod Laws

@@ -1,0 +1,88 @@
+-- The bars and spaces of a symbol, in dots.
+use Rattle.std.specs.Prelude.{ℕ, ◌+◌, ◌-◌, ◌*◌, ◌==◌, Bool, true, false, not, List, [], ◌∷◌, ◌++◌, map, length, take, drop, nat_lt, if◌then◌else◌}
+use Rattle.std.specs.List.{flat_map}
+use Rattle.vp_bars.specs.declared.bars.Symbology.{Symbology}
+use Rattle.vp_bars.specs.declared.bars.Symbology.TheVariants.{Code39, Ean13, Code128}
+use Rattle.vp_bars.specs.Symbols.{Linear}
+use Rattle.vp_bars.specs.Elements.{set_a_elements, ean13_elements}
+use Rattle.vp_bars.specs.Patterns.{code39_pattern, code128_pattern, set_a, set_b, set_c, parity}
+
+-- how wide an element is: Code 39 has narrow and wide ones, Code 128 and EAN-13 have them of one to four modules
+abbrev pub size_of : Symbology → ℕ → ℕ → ℕ → ℕ
+size_of Code39 narrow wide e = if e == 1 then wide else narrow
+size_of _ narrow wide e = e * narrow
+
+abbrev pub sized : Symbology → ℕ → ℕ → List ℕ → List ℕ
+sized symbology narrow wide es = map (size_of symbology narrow wide) es
+
+-- the elements of a character
+abbrev pub pattern_of : Symbology → ℕ → List ℕ
+pattern_of Code39 v = code39_pattern v
+pattern_of Ean13 v = set_a_elements v
+pattern_of Code128 v = code128_pattern v
+
+-- the elements between two characters: a narrow gap in Code 39
+abbrev pub gap_of : Symbology → List ℕ
+gap_of Code39 = 0 ∷ []
+gap_of _ = []
+
+-- the widths of a character behind another
+abbrev pub next_widths : Symbology → ℕ → ℕ → ℕ → List ℕ
+next_widths symbology narrow wide v = sized symbology narrow wide (gap_of symbology) ++ sized symbology narrow wide (pattern_of symbology v)
+
+-- the widths of the bars and spaces of Code 39 and Code 128, a bar first
+abbrev pub widths_of : Symbology → ℕ → ℕ → List ℕ → List ℕ
+widths_of symbology narrow wide [] = []
+widths_of symbology narrow wide (v ∷ vs) = sized symbology narrow wide (pattern_of symbology v) ++ flat_map (next_widths symbology narrow wide) vs
+
+-- the modules of the left digits, each in its set
+abbrev pub left_modules : List ℕ → List ℕ → List ℕ
+left_modules (set ∷ sets) (d ∷ ds) = (if set == 0 then set_a d else set_b d) ++ left_modules sets ds
+left_modules _ _ = []
+
+abbrev pub guard : List ℕ
+guard = 1 ∷ 0 ∷ 1 ∷ []
+
+abbrev pub centre : List ℕ
+centre = 0 ∷ 1 ∷ 0 ∷ 1 ∷ 0 ∷ []
+
+-- EAN-13: the first digit chooses the sets of the next six, and the last six are of set C
+abbrev pub ean13_modules : List ℕ → List ℕ
+ean13_modules [] = []
+ean13_modules (first ∷ ds) = guard ++ (left_modules (parity first) (take 6 ds) ++ (centre ++ (flat_map set_c (drop 6 ds) ++ guard)))
+
+-- whether place x lies in a bar, where bars and spaces have these widths in turn: from a bar on, in those with an odd number
+abbrev pub in_bar : Bool → List ℕ → ℕ → Bool
+in_bar bar [] x = false
+in_bar bar (w ∷ ws) x = if nat_lt x w then bar else in_bar (not bar) ws (x - w)
+
+-- whether place x lies in a black module
+abbrev pub in_module : ℕ → List ℕ → ℕ → Bool
+in_module module_width [] x = false
+in_module module_width (m ∷ ms) x = if nat_lt x module_width then m == 1 else in_module module_width ms (x - module_width)
+
+-- the widths of the bars and spaces of any symbol, a bar first
+abbrev pub bar_widths : Symbology → ℕ → ℕ → List ℕ → List ℕ
+bar_widths Ean13 narrow wide vs = sized Ean13 narrow wide (ean13_elements vs)
+bar_widths symbology narrow wide vs = widths_of symbology narrow wide vs
+
+-- widths together
+abbrev pub total : List ℕ → ℕ
+total [] = 0
+total (w ∷ ws) = w + total ws
+
+-- how wide the bars of a symbol are
+abbrev pub width_of : Symbology → ℕ → ℕ → List ℕ → ℕ
+width_of Ean13 narrow wide vs = length (ean13_modules vs) * narrow
+width_of symbology narrow wide vs = total (widths_of symbology narrow wide vs)
+
+-- whether place x of a symbol is black
+abbrev pub black_of : Symbology → ℕ → ℕ → List ℕ → ℕ → Bool
+black_of Ean13 narrow wide vs x = in_module narrow (ean13_modules vs) x
+black_of symbology narrow wide vs x = in_bar true (widths_of symbology narrow wide vs) x
+
+abbrev pub bars_width : Linear → ℕ → ℕ → ℕ
+bars_width bars narrow wide = width_of bars.symbology narrow wide bars.values
+
+unfoldable pub is_black : Linear → ℕ → ℕ → ℕ → Bool
+is_black bars narrow wide x = black_of bars.symbology narrow wide bars.values x

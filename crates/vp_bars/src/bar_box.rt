@@ -1,0 +1,260 @@
+//! A symbol with its text above or below, which can be painted.
+
+ghost use Rattle.std.specs.Prelude.{◌≡◌, ◌+◌, ◌-◌, ◌*◌, ◌<◌, ◌≤◌, ◌^◌, ◌&&◌, ◌+ℤ◌, pos, nat_le, length, FitsSigned};
+ghost use Rattle.std.specs.Int.{w64};
+ghost use Rattle.vp_dots.specs.Dots.{shifted};
+ghost use Rattle.vp_dots.specs.Painting.{Painted};
+ghost use Rattle.vp_glyph.specs.Cells.{font_width, font_height, cell_dot, cell_width};
+ghost use Rattle.vp_bars.specs.Boxes.{texts_above, texts_below, line_dot, line_width, box_width, box_height, text_row, bars_row, box_dot, box_inside};
+ghost use Rattle.vp_bars.specs.Texts.{text_of};
+ghost use Rattle.vp_bars.specs.Widths.{bars_width as width_of_bars};
+
+use crate::Bars;
+use crate::pen::Pen;
+use crate::strokes::{Strokes, bars_width};
+use vp_dots::{Ink, Op, dot_of, fill_moved};
+use vp_glyph::{Cell, Font, Sheets, Style};
+
+/// Where the text of a symbol stands.
+#[derive(Clone, Copy, Debug, PartialEq, Eq)]
+pub enum Place {
+    None,
+    Above,
+    Below,
+    Both,
+}
+
+impl Place {
+    /// The texts above the bars.
+    fn above(self) -> u32
+        ensures texts { result ≡ texts_above self }
+        ensures small { result ≤ 1 }
+    {
+        match self {
+            Place::None | Place::Below => 0,
+            Place::Above | Place::Both => 1,
+        }
+    }
+
+    /// The texts below the bars.
+    fn below(self) -> u32
+        ensures texts { result ≡ texts_below self }
+        ensures small { result ≤ 1 }
+    {
+        match self {
+            Place::None | Place::Above => 0,
+            Place::Below | Place::Both => 1,
+        }
+    }
+}
+
+/// How text is drawn.
+const PLAIN: Style = Style {
+    wm: 1,
+    hm: 1,
+    spacing: 0,
+    bold: false,
+    underline: 0,
+    inverse: false,
+};
+
+/// Paints a row of a cell that stands so many dots to the right.
+fn paint_cell(cell: &Cell<'_>, y: u32, left: u32, op: Op, at: i64, row: &mut [u8])
+    requires { left + cell_width cell.now.font cell.now.style < 2 ^ 32 }
+    ensures { Painted op (shifted at (λ i. nat_le left i && cell_dot cell.now.sheets.now cell.now.font cell.now.style cell.now.character (i - left) y)) row.old row.new }
+{
+    let (width, _) = cell.size();
+    for x in 0..width {
+        if cell.ink(x, y) {
+            fill_moved(op, at, left + x, left + x + 1, row);
+        }
+    }
+}
+
+/// Paints a row of a text that stands so many dots to the right.
+fn paint_line(
+    sheets: &Sheets,
+    font: Font,
+    text: &[u8],
+    y: u32,
+    left: u32,
+    op: Op,
+    at: i64,
+    row: &mut [u8],
+)
+    requires { left + line_width font text.now < 2 ^ 32 }
+    ensures { Painted op (shifted at (λ i. nat_le left i && line_dot sheets.now font text.now (i - left) y)) row.old row.new }
+{
+    let mut x = left;
+    for c in text {
+        paint_cell(&sheets.cell(*c, font, PLAIN), y, x, op, at, row);
+        x += font.width();
+    }
+}
+
+/// The offset by which dot x comes to the left edge.
+fn back(x: u32) -> i64
+    ensures back { result +ℤ pos x ≡ pos 0 }
+    ensures fits { FitsSigned w64 result }
+{
+    -i64::from(x)
+}
+
+/// A symbol with its text above or below.
+#[derive(Clone, Copy)]
+pub struct BarBox<'a> {
+    pub bars: &'a Bars,
+    /// The dots of a narrow element, or of a module.
+    pub narrow: u16,
+    /// The dots of a wide element of Code 39.
+    pub wide: u16,
+    /// The rows of the bars.
+    pub height: u16,
+    pub sheets: &'a Sheets,
+    pub font: Font,
+    pub place: Place,
+    /// The dots of a row of the bars.
+    pub bars_width: u32,
+    /// The dots of a row of the text.
+    pub text_width: u32,
+    ghost bars_are: { bars_width ≡ width_of_bars bars.now narrow wide },
+    ghost bars_fit: { bars_width < 2 ^ 30 },
+    ghost text_is: { text_width ≡ line_width font (text_of bars.now) },
+    ghost text_fits: { text_width < 2 ^ 30 },
+}
+
+impl Bars {
+    /// The symbol as it is painted, with its text where that is asked for.
+    pub fn boxed<'a>(
+        &'a self,
+        narrow: u16,
+        wide: u16,
+        height: u16,
+        sheets: &'a Sheets,
+        font: Font,
+        place: Place,
+    ) -> BarBox<'a>
+        ensures bars { result.bars.now ≡ self.now }
+        ensures narrow { result.narrow ≡ narrow }
+        ensures wide { result.wide ≡ wide }
+        ensures height { result.height ≡ height }
+        ensures sheets { result.sheets.now ≡ sheets.now }
+        ensures font { result.font ≡ font }
+        ensures place { result.place ≡ place }
+    {
+        let bars_width = bars_width(self.symbology(), self.symbols(), narrow, wide);
+        let text_width = font.width() * self.text().len() as u32;
+        BarBox {
+            bars: self,
+            narrow,
+            wide,
+            height,
+            sheets,
+            font,
+            place,
+            bars_width,
+            text_width,
+        }
+    }
+}
+
+impl BarBox<'_> {
+    /// The dots of a row of the box.
+    fn width(&self) -> u32
+        ensures width { result ≡ box_width (record { bars = self.now.bars.now; narrow = self.now.narrow; wide = self.now.wide; height = self.now.height; sheets = self.now.sheets.now; font = self.now.font; place = self.now.place }) }
+        ensures small { result < 2 ^ 30 }
+        ensures bars { self.now.bars_width ≤ result }
+    {
+        match self.place {
+            Place::None => self.bars_width.max(0),
+            Place::Above => self.bars_width.max(self.text_width),
+            Place::Below => self.bars_width.max(self.text_width),
+            Place::Both => self.bars_width.max(self.text_width),
+        }
+    }
+
+    /// The rows above the bars.
+    fn top(&self) -> u32
+        ensures rows { result ≡ texts_above self.now.place * font_height self.now.font }
+        ensures small { result ≤ 24 }
+    {
+        self.place.above() * self.font.height()
+    }
+
+    /// Paints a row of the bars.
+    #[tactic(auto, using(crate::proofs::Bounds::width_is))]
+    fn paint_bars(&self, op: Op, at: i64, row: &mut [u8])
+        ensures { Painted op (shifted at (bars_row (record { bars = self.now.bars.now; narrow = self.now.narrow; wide = self.now.wide; height = self.now.height; sheets = self.now.sheets.now; font = self.now.font; place = self.now.place }))) row.old row.new }
+    {
+        let strokes = Strokes {
+            symbology: self.bars.symbology(),
+            values: self.bars.symbols(),
+            narrow: self.narrow,
+            wide: self.wide,
+        };
+        let x = (self.width() - self.bars_width) / 2;
+        strokes.draw_bars(Pen { x, bar: true }, op, at, row);
+    }
+
+    /// Paints a row of the text.
+    fn paint_text(&self, y: u32, op: Op, at: i64, row: &mut [u8])
+        ensures { Painted op (shifted at (text_row (record { bars = self.now.bars.now; narrow = self.now.narrow; wide = self.now.wide; height = self.now.height; sheets = self.now.sheets.now; font = self.now.font; place = self.now.place }) y)) row.old row.new }
+    {
+        let text = self.bars.text();
+        let left = self.width().saturating_sub(self.text_width) / 2;
+        paint_line(
+            self.sheets,
+            self.font,
+            text.as_slice(),
+            y,
+            left,
+            op,
+            at,
+            row,
+        );
+    }
+
+    /// Paints a row of the box.
+    fn paint(&self, y: u32, op: Op, at: i64, row: &mut [u8])
+        ensures { Painted op (shifted at (λ x. box_dot (record { bars = self.now.bars.now; narrow = self.now.narrow; wide = self.now.wide; height = self.now.height; sheets = self.now.sheets.now; font = self.now.font; place = self.now.place }) x y)) row.old row.new }
+    {
+        let top = self.top();
+        let bottom = top + u32::from(self.height);
+        if y < top {
+            self.paint_text(y, op, at, row);
+            return;
+        }
+        if y < bottom {
+            self.paint_bars(op, at, row);
+            return;
+        }
+        if y - bottom < self.place.below() * self.font.height() {
+            self.paint_text(y - bottom, op, at, row);
+        }
+    }
+}
+
+impl Ink for BarBox<'_> {
+    ghost width = { λ s. box_width (record { bars = s.bars.now; narrow = s.narrow; wide = s.wide; height = s.height; sheets = s.sheets.now; font = s.font; place = s.place }) };
+
+    ghost height = { λ s. box_height (record { bars = s.bars.now; narrow = s.narrow; wide = s.wide; height = s.height; sheets = s.sheets.now; font = s.font; place = s.place }) };
+
+    ghost ink_at = { λ s x y. box_dot (record { bars = s.bars.now; narrow = s.narrow; wide = s.wide; height = s.height; sheets = s.sheets.now; font = s.font; place = s.place }) x y };
+
+    ghost outside = { λ s x y h. box_inside (record { bars = s.bars.now; narrow = s.narrow; wide = s.wide; height = s.height; sheets = s.sheets.now; font = s.font; place = s.place }) x y h };
+
+    fn size(&self) -> (u32, u32) {
+        let height = self.top() + u32::from(self.height) + self.place.below() * self.font.height();
+        (self.width(), height)
+    }
+
+    fn ink(&self, x: u32, y: u32) -> bool {
+        let mut row = [0u8];
+        self.paint(y, Op::Black, back(x), &mut row);
+        dot_of(&row, 0)
+    }
+
+    fn paint_row(&self, y: u32, op: Op, at: i64, row: &mut [u8]) {
+        self.paint(y, op, at, row);
+    }
+}

@@ -1,0 +1,96 @@
+//! A symbol: the values of its characters.
+
+ghost use Rattle.std.specs.Prelude.{◌≡◌, ◌+◌, ◌≤◌, ◌++◌, length, Result, OnOk, IfErr};
+ghost use Rattle.vp_dots.specs.declared.fault.Fault.{Fault};
+ghost use Rattle.vp_bars.specs.Symbols.{Linear, within_length};
+
+use crate::text::{characters, shown_data};
+use arrayvec::ArrayVec;
+use std::marker::Model;
+use vp_dots::{Fault, Why};
+
+/// The kinds of linear symbols.
+#[derive(Clone, Copy, Debug, PartialEq, Eq)]
+pub enum Symbology {
+    Code39,
+    Ean13,
+    Code128,
+}
+
+/// A linear symbol.
+#[derive(Drop, Debug)]
+pub struct Bars {
+    symbology: Symbology,
+    values: ArrayVec<u8, 258>,
+}
+
+impl Model for Bars {
+    ghost use Rattle.vp_bars.specs.Symbols.{Linear};
+
+    ghost Value = { Linear };
+
+    ghost view = { λ b. record { symbology = b.symbology; values = b.values.items } };
+}
+
+impl Bars {
+    ghost use Rattle.vp_bars.specs.Texts.{text_of};
+
+    /// The symbol of these values.
+    pub(crate) fn new(symbology: Symbology, values: ArrayVec<u8, 258>) -> Self
+        ensures { result ≡ record { symbology = symbology; values = values.items } }
+    {
+        Bars { symbology, values }
+    }
+
+    pub fn symbology(&self) -> Symbology
+        ensures { result ≡ self.now.symbology }
+    {
+        self.symbology
+    }
+
+    /// The values of its characters from the left, with starts, check and stops.
+    pub fn symbols(&self) -> &[u8]
+        ensures values { result.now ≡ self.now.values }
+        ensures most { length result.now ≤ 258 }
+    {
+        self.values.as_slice()
+    }
+
+    /// Its text: data and check of Code 39, the thirteen digits of EAN-13, or what the data of Code 128 show.
+    #[tactic(auto, unfolding(crate::specs::Texts::text_of))]
+    pub fn text(&self) -> ArrayVec<u8, 512>
+        ensures { result.items ≡ text_of self.now }
+    {
+        let values = self.values.as_slice();
+        match self.symbology {
+            Symbology::Code39 => characters(values),
+            Symbology::Ean13 => characters(values),
+            Symbology::Code128 => shown_data(values),
+        }
+    }
+}
+
+/// Refuses no data, and more data than any symbol has.
+pub(crate) fn check_length(src: &[u8]) -> Result<(), Fault>
+    ensures some { OnOk result (1 ≤ length src.now) }
+    ensures few { OnOk result (length src.now ≤ 255) }
+    ensures stands { OnOk result ((r : Result Linear Fault) → within_length src.now r ≡ r) }
+    ensures refused { IfErr result (λ f. (r : Result Linear Fault) → within_length src.now r ≡ Err f) }
+{
+    if src.is_empty() {
+        return Err(Fault::Symbol(Why::Empty));
+    }
+    if src.len() > 255 {
+        return Err(Fault::SymbolTooLong);
+    }
+    Ok(())
+}
+
+/// Appends values.
+pub(crate) fn extend(values: &mut ArrayVec<u8, 258>, more: &[u8])
+    requires { length values.old.items + length more.now ≤ 258 }
+    ensures items { values.new.items ≡ values.old.items ++ more.now }
+    ensures len { length values.new.items ≡ length values.old.items + length more.now }
+{
+    let _ = values.try_extend_from_slice(more);
+}

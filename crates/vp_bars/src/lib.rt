@@ -1,0 +1,40 @@
+//! Linear symbols, exact to the module: Code 39 (ISO/IEC 16388), EAN-13 (ISO/IEC 15420) and Code 128 (ISO/IEC 15417).
+//!
+//! `code39`, `ean13`, `code128_esc` and `code128_zpl` make the symbol of some bytes, or say why there is none. `Bars` is such
+//! a symbol: the values of its characters, and its text. `Bars::boxed` puts bars and text into a `BarBox`, which is an `Ink`.
+//!
+//! - `bars`: a symbol.
+//! - `code_39`, `ean_13`: the symbols of characters and of digits.
+//! - `code_128`: code sets, tokens of data, and the symbol of values. `escapes` reads the data of a receipt, `invocations` and
+//!   `packing` those of a label.
+//! - `text`: what the values of a symbol show.
+//! - `patterns`: the tables of bars and spaces. `laws` says what holds of them as a whole.
+//! - `pen`, `strokes`: the bars of a row, drawn from the left in one pass.
+//! - `bar_box`: bars and text together. `wide`: how wide a wide element is.
+#![tactic(auto)]
+
+mod bar_box;
+mod bars;
+mod code_128;
+mod code_39;
+mod ean_13;
+mod escapes;
+mod invocations;
+mod laws;
+mod packing;
+mod patterns;
+mod pen;
+mod strokes;
+#[cfg(test)]
+mod tests;
+mod text;
+mod wide;
+
+pub use bar_box::{BarBox, Place};
+pub use bars::{Bars, Symbology};
+pub use code_39::code39;
+pub use ean_13::ean13;
+pub use escapes::code128_esc;
+pub use laws::{code39_patterns_law, code128_patterns_law, ean13_patterns_law};
+pub use packing::code128_zpl;
+pub use wide::{wide_by_ratio, wide_on_receipt};

@@ -1,0 +1,144 @@
+//! The bars of a symbol, drawn on a row.
+
+ghost use Rattle.std.specs.Prelude.{◌≡◌, ℕ, ◌+◌, ◌<◌, ◌≤◌, ◌^◌, ◌++◌, Bool, List, length, take, flat_map};
+ghost use Rattle.vp_bars.specs.Widths.{size_of, sized, next_widths, widths_of, bar_widths, width_of, total};
+ghost use Rattle.vp_bars.specs.Elements.{left_elements, ean13_elements};
+ghost use Rattle.vp_bars.specs.declared.bars.Symbology.TheVariants.{Ean13};
+ghost use Rattle.vp_bars.specs.Drawing.{Draws};
+
+use crate::bars::Symbology;
+use crate::patterns::{gap_of, left_digit, parity, pattern_of};
+use crate::pen::Pen;
+use vp_dots::Op;
+
+/// The guards of EAN-13, in modules.
+static GUARD: [u8; 3] = [1, 1, 1];
+
+/// The bars between its halves.
+static CENTRE: [u8; 5] = [1, 1, 1, 1, 1];
+
+/// Values in a symbology, and how wide its narrow and wide elements are.
+#[derive(Drop)]
+pub(crate) struct Strokes<'a> {
+    pub symbology: Symbology,
+    pub values: &'a [u8],
+    pub narrow: u16,
+    pub wide: u16,
+}
+
+impl Strokes<'_> {
+    /// How wide an element is.
+    fn size(&self, element: u8) -> u32
+        ensures { result ≡ size_of self.now.symbology self.now.narrow self.now.wide element }
+    {
+        match self.symbology {
+            Symbology::Code39 if element == 1 => u32::from(self.wide),
+            Symbology::Code39 => u32::from(self.narrow),
+            Symbology::Ean13 => u32::from(element) * u32::from(self.narrow),
+            Symbology::Code128 => u32::from(element) * u32::from(self.narrow),
+        }
+    }
+
+    /// Draws elements, and gives the pen behind them.
+    fn draw(&self, elements: &[u8], pen: Pen, op: Op, at: i64, row: &mut [u8]) -> Pen
+        requires { pen.x + total (sized self.now.symbology self.now.narrow self.now.wide elements.now) < 2 ^ 32 }
+        ensures { Draws op at row.old row.new pen result (sized self.now.symbology self.now.narrow self.now.wide elements.now) }
+    {
+        let mut pen = pen;
+        for e in elements {
+            pen = pen.draw(self.size(*e), op, at, row);
+        }
+        pen
+    }
+
+    /// Draws characters, each behind another, and gives the pen behind them.
+    fn draw_next(&self, values: &[u8], pen: Pen, op: Op, at: i64, row: &mut [u8]) -> Pen
+        requires { pen.x + total (flat_map (next_widths self.now.symbology self.now.narrow self.now.wide) values.now) < 2 ^ 32 }
+        ensures { Draws op at row.old row.new pen result (flat_map (next_widths self.now.symbology self.now.narrow self.now.wide) values.now) }
+    {
+        let mut pen = pen;
+        for v in values {
+            let gap = self.draw(gap_of(self.symbology), pen, op, at, row);
+            pen = self.draw(pattern_of(self.symbology, *v), gap, op, at, row);
+        }
+        pen
+    }
+
+    /// Draws the values one after the other, and gives the pen behind them.
+    fn draw_characters(&self, pen: Pen, op: Op, at: i64, row: &mut [u8]) -> Pen
+        requires { pen.x + total (widths_of self.now.symbology self.now.narrow self.now.wide self.now.values.now) < 2 ^ 32 }
+        ensures { Draws op at row.old row.new pen result (widths_of self.now.symbology self.now.narrow self.now.wide self.now.values.now) }
+    {
+        let Some((first, others)) = self.values.split_first() else {
+            return pen;
+        };
+        let first = self.draw(pattern_of(self.symbology, *first), pen, op, at, row);
+        self.draw_next(others, first, op, at, row)
+    }
+
+    /// Draws the left digits of EAN-13 in their sets, and gives the pen behind them.
+    fn draw_left(
+        &self,
+        sets: &[u8],
+        digits: &[u8],
+        pen: Pen,
+        op: Op,
+        at: i64,
+        row: &mut [u8],
+    ) -> Pen
+        requires { pen.x + total (sized self.now.symbology self.now.narrow self.now.wide (left_elements sets.now digits.now)) < 2 ^ 32 }
+        ensures { Draws op at row.old row.new pen result (sized self.now.symbology self.now.narrow self.now.wide (left_elements sets.now digits.now)) }
+    {
+        let mut pen = pen;
+        for i in 0..sets.len().min(digits.len()) {
+            pen = self.draw(left_digit(sets[i], digits[i]), pen, op, at, row);
+        }
+        pen
+    }
+
+    /// Draws the digits of EAN-13 between its guards, and gives the pen behind them.
+    fn draw_digits(&self, pen: Pen, op: Op, at: i64, row: &mut [u8]) -> Pen
+        requires room { pen.x + total (sized self.now.symbology self.now.narrow self.now.wide (ean13_elements self.now.values.now)) < 2 ^ 32 }
+        requires digits { self.now.symbology ≡ Ean13 }
+        ensures { Draws op at row.old row.new pen result (sized self.now.symbology self.now.narrow self.now.wide (ean13_elements self.now.values.now)) }
+    {
+        let Some((first, digits)) = self.values.split_first() else {
+            return pen;
+        };
+        let (left, right) = digits.split_at(digits.len().min(6));
+        let guard = self.draw(&GUARD, pen, op, at, row);
+        let half = self.draw_left(parity(*first), left, guard, op, at, row);
+        let centre = self.draw(&CENTRE, half, op, at, row);
+        let last = self.draw_next(right, centre, op, at, row);
+        self.draw(&GUARD, last, op, at, row)
+    }
+
+    /// Draws all bars, and gives the pen behind them.
+    pub fn draw_bars(&self, pen: Pen, op: Op, at: i64, row: &mut [u8]) -> Pen
+        requires { pen.x + total (bar_widths self.now.symbology self.now.narrow self.now.wide self.now.values.now) < 2 ^ 32 }
+        ensures { Draws op at row.old row.new pen result (bar_widths self.now.symbology self.now.narrow self.now.wide self.now.values.now) }
+    {
+        match self.symbology {
+            Symbology::Ean13 => self.draw_digits(pen, op, at, row),
+            Symbology::Code39 => self.draw_characters(pen, op, at, row),
+            Symbology::Code128 => self.draw_characters(pen, op, at, row),
+        }
+    }
+}
+
+/// How wide the bars of a symbol are.
+#[tactic(auto, using(crate::proofs::Bounds::narrow_bars, crate::proofs::Bounds::width_is))]
+pub(crate) fn bars_width(symbology: Symbology, values: &[u8], narrow: u16, wide: u16) -> u32
+    requires { length values.now ≤ 258 }
+    ensures width { result ≡ width_of symbology narrow wide values.now }
+    ensures small { result < 2 ^ 30 }
+{
+    let strokes = Strokes {
+        symbology,
+        values,
+        narrow,
+        wide,
+    };
+    let pen = Pen { x: 0, bar: true };
+    strokes.draw_bars(pen, Op::Black, 0, &mut []).x
+}
