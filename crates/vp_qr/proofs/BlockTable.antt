@@ -1,0 +1,69 @@
+-- The table of blocks, checked row by row.
+use Rattle.std.proofs.Common.{◌≡◌, ℕ, ◌+◌, ◌<◌, ◌≤◌, ◌&&◌, ◌||◌, Bool, true, eqb, ltb, refl, inl, inr, arith}
+use Rattle.std.proofs.lemmas.Bool.{and_parts, eqb-true, ltb-true, cases_lt}
+use Rattle.vp_qr.specs.declared.level.Level.{Level}
+use Rattle.vp_qr.specs.declared.level.Level.TheVariants.{L, M, Q, H}
+use Rattle.vp_qr.specs.declared.level.Blocks.{Blocks}
+use Rattle.vp_qr.specs.Blocks.{blocks_of, words_of, codewords_of, total, IsSound}
+use Rattle.vp_qr.proofs.FieldLaws.{passes_below}
+use Rattle.vp_qr.proofs.WalkOrder.{for_version}
+
+-- a record of tests
+abbrev codewords_add_up : ℕ → Blocks → Bool
+codewords_add_up v b = eqb (codewords_of b) (total v)
+
+abbrev sizes_hold : Blocks → Bool
+sizes_hold b = ltb 0 b.check && ltb b.check 31 && ltb 0 b.words && ltb b.words 117 && ltb (b.words + b.long) 120 && ltb 0 b.short && ltb (b.short + b.long) 9 && ltb (words_of b) 275 && ltb (codewords_of b) 347
+
+abbrev long_holds : Blocks → Bool
+long_holds b = eqb b.long 0 || ltb b.words 116
+
+abbrev holds : Level → ℕ → Bool
+holds level v = codewords_add_up v (blocks_of level v) && sizes_hold (blocks_of level v) && long_holds (blocks_of level v)
+
+every_version : (level : Level) → passes_below 10 (λ k. holds level (k + 1)) ≡ true
+unfolding blocks_of
+every_version L = refl
+every_version M = refl
+every_version Q = refl
+every_version H = refl
+
+long_short : (n w : ℕ) → (eqb n 0 || ltb w 116) ≡ true → 0 < n → w < 116
+long_short n w h some =
+    elim (cases_lt w 116) [
+      | inl lt ↦ lt
+      | inr le ↦ absurd (grind (arith, h))
+    ]
+
+pub codewords_add : (level : Level) (v : ℕ) → 1 ≤ v → v ≤ 10 → codewords_of (blocks_of level v) ≡ total v
+codewords_add level v low high = eqb-true _ _ (and_parts _ _ (and_parts _ _ (for_version (holds level) (every_version level) v low high)).0).0
+
+pub sound : (level : Level) (v : ℕ) → 1 ≤ v → v ≤ 10 → IsSound (blocks_of level v)
+sound level v low high =
+    let b : Blocks = blocks_of level v in
+    let h = and_parts _ _ (for_version (holds level) (every_version level) v low high) in
+    let sums = and_parts _ _ h.0 in
+    let h9 = and_parts _ _ sums.1 in
+    let h8 = and_parts _ _ h9.0 in
+    let h7 = and_parts _ _ h8.0 in
+    let h6 = and_parts _ _ h7.0 in
+    let h5 = and_parts _ _ h6.0 in
+    let h4 = and_parts _ _ h5.0 in
+    let h3 = and_parts _ _ h4.0 in
+    let h2 = and_parts _ _ h3.0 in
+    let check : b.check < 31 = ltb-true _ _ h2.1 in
+    let words : b.words < 117 = ltb-true _ _ h4.1 in
+    let blocks : b.short + b.long < 9 = ltb-true _ _ h7.1 in
+    let data_words : words_of b < 275 = ltb-true _ _ h8.1 in
+    let all : codewords_of b < 347 = ltb-true _ _ h9.1 in
+    record {
+      check_some = ltb-true _ _ h2.0;
+      check_most = omega arith;
+      words_some = ltb-true _ _ h3.1;
+      words_most = omega arith;
+      long_most = long_short b.long b.words h.1;
+      blocks_some = ltb-true _ _ h6.1;
+      blocks_most = omega arith;
+      data_most = omega arith;
+      all_most = omega arith;
+    }

@@ -1,0 +1,111 @@
+-- The least cost, and symbols that differ only where no data stands.
+use Rattle.std.proofs.Common.{◌≡◌, ℕ, zero, suc, ◌-◌, ◌<◌, ◌≤◌, ◌&&◌, ◌||◌, not, Bool, true, false, eqb, leb, cond, List, [], ◌∷◌, length, get_or, map, replicate, refl, sym, ap, ◌∙◌, arith}
+use Rattle.std.specs.List.{list_all}
+use Rattle.std.proofs.lemmas.Bool.{eqb-true, lt-leb, le-leb}
+use Rattle.std.proofs.lemmas.List.{ext_get_or, length-map, get_or-map}
+use Rattle.std.proofs.lemmas.List.Sums.{position_or_len_is}
+use Rattle.vp_qr.specs.Places.{size, corner, alignment, version_area, reserved}
+use Rattle.vp_qr.specs.Walk.{number_of, data_bit, dark}
+use Rattle.vp_qr.specs.Symbol.{finder, module_at, differ, formula}
+use Rattle.vp_qr.specs.declared.level.Level.{Level}
+use Rattle.vp_qr.specs.Codes.{format_code, version_code}
+use Rattle.vp_qr.specs.Cost.{cost}
+use Rattle.vp_qr.specs.Encoding.{least_place, masks, masked, best_mask}
+use Rattle.vp_qr.proofs.Counting.{cost_same}
+use Rattle.vp_qr.proofs.FieldLaws.{passes_below, passes_at}
+use Rattle.vp_qr.proofs.FreeModules.{none_dark}
+
+all_least : (x : ℕ) (xs : List ℕ) → ((m : ℕ) → m < length xs → x ≤ get_or xs m 0) → list_all (leb x) xs ≡ true
+all_least x [] h = refl
+all_least x (y ∷ ys) h =
+    ap (λ b. b && list_all (leb x) ys) (le-leb x y (h 0 (omega arith))) ∙ all_least x ys (λ m lt. h (suc m) (omega arith))
+
+not_least : (x : ℕ) (xs : List ℕ) (b : ℕ) → b < length xs → get_or xs b 0 < x → list_all (leb x) xs ≡ false
+not_least x [] b lt h = absurd (omega arith)
+not_least x (y ∷ ys) zero lt h = ap (λ t. t && list_all (leb x) ys) (lt-leb x y h)
+not_least x (y ∷ ys) (suc b) lt h = ap (λ t. leb x y && t) (not_least x ys b (omega arith) h) ∙ nothing (leb x y)
+  where
+    nothing : (t : Bool) → (t && false) ≡ false
+    nothing true = refl
+    nothing false = refl
+
+pub least_place_is : (xs : List ℕ) (b : ℕ) → b < length xs → ((m : ℕ) → m < length xs → get_or xs b 0 ≤ get_or xs m 0) → ((m : ℕ) → m < b → get_or xs b 0 < get_or xs m 0) → b ≡ least_place xs
+unfolding least_place
+least_place_is xs b lt least lowest =
+    sym (position_or_len_is (λ x. list_all (leb x) xs) xs b 0 (omega arith)
+    (λ k h. not_least (get_or xs k 0) xs b lt (lowest k h))
+    (λ _. all_least (get_or xs b 0) xs least))
+
+masks_are : passes_below 8 (λ k. eqb (get_or masks k 0) k) ≡ true
+masks_are = refl
+
+-- the costs of the eight masks
+pub costs_are : (costs : List ℕ) (f : ℕ → ℕ) → length costs ≡ 8 → ((k : ℕ) → k < 8 → get_or costs k 0 ≡ f k) → costs ≡ map f masks
+costs_are costs f e h =
+    ext_get_or 0 costs (map f masks) (e ∙ sym (length-map masks f))
+    (λ k lt.
+    let below : k < 8 = omega (arith, e) in
+    h k below ∙ ap f (sym (eqb-true (get_or masks k 0) k (passes_at 8 (λ k. eqb (get_or masks k 0) k) masks_are k below)))
+    ∙ sym (get_or-map f masks k 0 0 below))
+
+-- what is tested last counts only where no test before it holds
+last_only : (a b c d e f g : Bool) (p q r s t u v x y : Bool)
+    → (b ≡ false → c ≡ false → d ≡ false → e ≡ false → g ≡ false → x ≡ y)
+    → cond a p (cond b q (cond c r (cond d s (cond e t (cond f u (cond g v x)))))) ≡ cond a p (cond b q (cond c r (cond d s (cond e t (cond f u (cond g v y))))))
+last_only true b c d e f g p q r s t u v x y h = refl
+last_only false true c d e f g p q r s t u v x y h = refl
+last_only false false true d e f g p q r s t u v x y h = refl
+last_only false false false true e f g p q r s t u v x y h = refl
+last_only false false false false true f g p q r s t u v x y h = refl
+last_only false false false false false true g p q r s t u v x y h = refl
+last_only false false false false false false true p q r s t u v x y h = refl
+last_only false false false false false false false p q r s t u v x y h = h refl refl refl refl refl
+
+no_reserve : (v i j : ℕ) → eqb i 6 ≡ false → eqb j 6 ≡ false → alignment v i j ≡ false → version_area v i j ≡ false → corner (size v) i j ≡ false → reserved v i j ≡ false
+unfolding reserved
+no_reserve v i j a b c d e =
+    ap (λ t. t || eqb i 6 || eqb j 6 || alignment v i j || version_area v i j) e
+    ∙ ap (λ t. t || eqb j 6 || alignment v i j || version_area v i j) a
+    ∙ ap (λ t. t || alignment v i j || version_area v i j) b
+    ∙ ap (λ t. t || version_area v i j) c
+    ∙ d
+
+-- a module depends on the data only where it isn't reserved
+pub module_same : (v format code m : ℕ) (f g : ℕ → ℕ → Bool) (i j : ℕ) → (reserved v i j ≡ false → f i j ≡ g i j) → module_at v format code m f i j ≡ module_at v format code m g i j
+unfolding module_at
+module_same v format code m f g i j h =
+    let s : ℕ = size v in
+    last_only (finder s i j) (eqb i 6) (eqb j 6) (alignment v i j) (version_area v i j) (eqb i (s - 8) && eqb j 8) (corner s i j) _ _ _ _ _ _ _
+    (differ (f i j) (eqb (formula m i j) 0)) (differ (g i j) (eqb (formula m i j) 0))
+    (λ a b c d e. ap (λ t. differ t (eqb (formula m i j) 0)) (h (no_reserve v i j a b c d e)))
+
+-- the data modules, placed in rows without any
+pub data_placed : (v : ℕ) (words rows : List ℕ) (i j : ℕ) → dark rows i j ≡ (dark (replicate 57 0) i j || (not (reserved v i j) && data_bit words (number_of v i j)))
+    → reserved v i j ≡ false → dark rows i j ≡ data_bit words (number_of v i j)
+data_placed v words rows i j e free =
+    e
+    ∙ ap (λ t. t || (not (reserved v i j) && data_bit words (number_of v i j))) (none_dark i j)
+    ∙ ap (λ t. not t && data_bit words (number_of v i j)) free
+
+-- the least costs, taken from the placed data or from the codewords
+pub same_choice : (level : Level) (v : ℕ) (words rows : List ℕ)
+    → ((i j : ℕ) → i < size v → j < size v → dark rows i j ≡ (dark (replicate 57 0) i j || (not (reserved v i j) && data_bit words (number_of v i j))))
+    → least_place (map (λ k. cost (module_at v (format_code level k) (version_code v) k (dark rows)) (size v)) masks) ≡ best_mask level v words
+unfolding best_mask masked
+same_choice level v words rows h =
+    ap least_place
+    (map_same (λ k. cost (module_at v (format_code level k) (version_code v) k (dark rows)) (size v))
+    (λ k. cost (masked level v words k) (size v))
+    (λ k. cost_same _ _ (size v) (λ i j hi hj. module_same v (format_code level k) (version_code v) k (dark rows) (λ i j. data_bit words (number_of v i j)) i j (data_placed v words rows i j (h i j hi hj))))
+    masks)
+  where
+    map_same : (f g : ℕ → ℕ) → ((k : ℕ) → f k ≡ g k) → (xs : List ℕ) → map f xs ≡ map g xs
+    map_same f g e [] = refl
+    map_same f g e (x ∷ xs) = ap (λ y. y ∷ map f xs) (e x) ∙ ap (λ ys. g x ∷ ys) (map_same f g e xs)
+
+pub same_modules : (level : Level) (v m : ℕ) (words rows : List ℕ)
+    → ((i j : ℕ) → i < size v → j < size v → dark rows i j ≡ (dark (replicate 57 0) i j || (not (reserved v i j) && data_bit words (number_of v i j))))
+    → (i j : ℕ) → i < size v → j < size v → module_at v (format_code level m) (version_code v) m (dark rows) i j ≡ masked level v words m i j
+unfolding masked
+same_modules level v m words rows h i j hi hj =
+    module_same v (format_code level m) (version_code v) m (dark rows) (λ i j. data_bit words (number_of v i j)) i j (data_placed v words rows i j (h i j hi hj))

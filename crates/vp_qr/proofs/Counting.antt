@@ -1,0 +1,118 @@
+-- Sums over the modules of a row, and the ones among a number's bits.
+use Rattle.std.proofs.Common.{◌≡◌, ℕ, zero, suc, ◌+◌, ◌-◌, ◌*◌, ◌/◌, ◌%◌, ◌^◌, ◌<◌, ◌≤◌, Bool, ◌&&◌, eqb, cond, List, get_or, refl, sym, ap, ◌∙◌, subst, inl, inr, arith, ◌∷◌, bit_and, pow-suc}
+use lib.Count.{ones}
+use Rattle.std.specs.Int.{bit_at}
+use Rattle.std.proofs.lemmas.Bool.{cases_lt}
+use Rattle.std.proofs.lemmas.Nat.{div_below, ones_cat, one_shl, and_mask, div-add-mod', mod_below, pow_pos}
+use Rattle.std.proofs.lemmas.Nat.Bits.{bit_at-lt, bit_at_cat_low}
+use Rattle.vp_qr.specs.Cost.{sum_below, line_from, line_cost, lines_cost, same, square_at, squares_cost, dark_modules, balance_cost, cost}
+use Rattle.vp_qr.specs.Walk.{dark}
+
+pub sum_more : (n : ℕ) (f : ℕ → ℕ) → sum_below (n + 1) f ≡ sum_below n f + f n
+sum_more n f =
+    let e : n + 1 ≡ suc n = omega arith in
+    ap (λ m. sum_below m f) e
+
+pub sum_same : (n : ℕ) (f g : ℕ → ℕ) → ((k : ℕ) → k < n → f k ≡ g k) → sum_below n f ≡ sum_below n g
+sum_same zero f g h = refl
+sum_same (suc n) f g h = ap (λ m. m + f n) (sum_same n f g (λ k lt. h k (omega arith))) ∙ ap (λ m. sum_below n g + m) (h n (omega arith))
+
+pub sum_most : (n : ℕ) (f : ℕ → ℕ) → ((k : ℕ) → f k < 2) → sum_below n f ≤ n
+sum_most zero f h = omega arith
+sum_most (suc n) f h = omega (arith, sum_most n f h, h n)
+
+ones_bit : (b : ℕ) → b < 2 → ones b ≡ b
+unfolding ones
+ones_bit b h =
+    elim (cases_lt b 1) [
+      | inl lt ↦ let e : 0 ≡ b = omega arith in subst (λ m. ones m ≡ m) e refl
+      | inr le ↦ let e : 1 ≡ b = omega arith in subst (λ m. ones m ≡ m) e refl
+    ]
+
+-- the ones among a number's bits
+ones_none : ones 0 ≡ 0
+unfolding ones
+ones_none = refl
+
+ones_sum : (k n : ℕ) → n < 2 ^ k → ones n ≡ sum_below k (bit_at n)
+ones_sum zero n h =
+    let e : 0 ≡ n = omega arith in
+    subst (λ m. ones m ≡ 0) e ones_none
+ones_sum (suc k) n h =
+    let q : ℕ = n / 2 ^ k in
+    let r : ℕ = n % 2 ^ k in
+    let whole : q * 2 ^ k + r ≡ n = div-add-mod' n (2 ^ k) in
+    let r_lt : r < 2 ^ k = mod_below n (2 ^ k) (pow_pos k) in
+    let q_lt : q < 2 = div_below n (2 ^ k) 2 (pow_pos k) (omega (arith, pow-suc 2 k)) in
+    let high : ones q ≡ bit_at n k = ones_bit q q_lt ∙ sym (mod_small q q_lt) in
+    sym (ap ones whole)
+    ∙ ones_cat k q r r_lt
+    ∙ ap (λ m. m + ones r) high
+    ∙ ap (λ m. bit_at n k + m) (ones_sum k r r_lt ∙ sum_same k (bit_at r) (bit_at n) (λ j lt. sym (bit_at_cat_low q k r j lt) ∙ ap (λ m. bit_at m j) whole))
+    ∙ swapped (bit_at n k) (sum_below k (bit_at n))
+  where
+    mod_small : (m : ℕ) → m < 2 → m % 2 ≡ m
+    mod_small m h = omega arith
+
+    swapped : (a b : ℕ) → a + b ≡ b + a
+    swapped a b = omega arith
+
+pub ones_masked : (row n : ℕ) → n ≤ 57 → ones (bit_and row (1 * 2 ^ n % 2 ^ 64 - 1)) ≡ sum_below n (λ j. bit_at row j)
+ones_masked row n h =
+    ap ones (ap (λ m. bit_and row (m - 1)) (one_shl n 64 (omega arith)) ∙ and_mask row n)
+    ∙ ones_sum n (row % 2 ^ n) (mod_below row (2 ^ n) (pow_pos n))
+    ∙ sum_same n (bit_at (row % 2 ^ n)) (bit_at row) (λ j lt. sym (bit_at_cat_low (row / 2 ^ n) n (row % 2 ^ n) j lt) ∙ ap (λ m. bit_at m j) (div-add-mod' row (2 ^ n)))
+
+pub ones_most : (row n : ℕ) → n ≤ 57 → ones (bit_and row (1 * 2 ^ n % 2 ^ 64 - 1)) ≤ 57
+ones_most row n h = omega (arith, ones_masked row n h, sum_most n (λ j. bit_at row j) (bit_at-lt row))
+
+-- equal lines
+pub line_same : (f g : ℕ → Bool) (n at : ℕ) → ((j : ℕ) → at ≤ j → j < at + n → f j ≡ g j) → line_from f at n ≡ line_from g at n
+line_same f g zero at h = refl
+line_same f g (suc n) at h =
+    ap (λ b. b ∷ line_from f (at + 1) n) (h at (omega arith) (omega arith)) ∙ ap (λ l. g at ∷ l) (line_same f g n (at + 1) (λ j a b. h j (omega arith) (omega arith)))
+
+bit_as_one : (b : ℕ) → b < 2 → b ≡ cond (eqb b 1) 1 0
+bit_as_one b h =
+    elim (cases_lt b 1) [
+      | inl lt ↦ let e : 0 ≡ b = omega arith in subst (λ m. m ≡ cond (eqb m 1) 1 0) e refl
+      | inr le ↦ let e : 1 ≡ b = omega arith in subst (λ m. m ≡ cond (eqb m 1) 1 0) e refl
+    ]
+
+-- the dark modules of a row
+pub dark_in_row : (rows : List ℕ) (i n : ℕ) → sum_below n (λ j. bit_at (get_or rows i 0) j) ≡ sum_below n (λ j. cond (dark rows i j) 1 0)
+unfolding dark
+dark_in_row rows i n = sum_same n (λ j. bit_at (get_or rows i 0) j) (λ j. cond (dark rows i j) 1 0) (λ j h. bit_as_one (bit_at (get_or rows i 0) j) (bit_at-lt (get_or rows i 0) j))
+
+-- symbols that are the same below a size cost the same
+module _ (f g : ℕ → ℕ → Bool) (s : ℕ) (h : (i j : ℕ) → i < s → j < s → f i j ≡ g i j) where
+  pub lines_same : lines_cost f s ≡ lines_cost g s
+  lines_same =
+      sum_same s (λ i. line_cost (line_from (f i) 0 s)) (λ i. line_cost (line_from (g i) 0 s))
+      (λ i lt. ap line_cost (line_same (f i) (g i) s 0 (λ j _ below. h i j lt (omega arith))))
+
+  square_same : (i j : ℕ) → i < s - 1 → j < s - 1 → square_at (f i) (f (i + 1)) j ≡ square_at (g i) (g (i + 1)) j
+  square_same i j hi hj =
+      ap (λ b. cond (same b (f i (j + 1)) && same b (f (i + 1) j) && same b (f (i + 1) (j + 1))) 1 0) (h i j (omega arith) (omega arith))
+      ∙ ap (λ b. cond (same (g i j) b && same (g i j) (f (i + 1) j) && same (g i j) (f (i + 1) (j + 1))) 1 0) (h i (j + 1) (omega arith) (omega arith))
+      ∙ ap (λ b. cond (same (g i j) (g i (j + 1)) && same (g i j) b && same (g i j) (f (i + 1) (j + 1))) 1 0) (h (i + 1) j (omega arith) (omega arith))
+      ∙ ap (λ b. cond (same (g i j) (g i (j + 1)) && same (g i j) (g (i + 1) j) && same (g i j) b) 1 0) (h (i + 1) (j + 1) (omega arith) (omega arith))
+
+  pub squares_same : squares_cost f s ≡ squares_cost g s
+  squares_same =
+      ap (λ m. 3 * m)
+      (sum_same (s - 1) (λ i. sum_below (s - 1) (square_at (f i) (f (i + 1)))) (λ i. sum_below (s - 1) (square_at (g i) (g (i + 1))))
+      (λ i hi. sum_same (s - 1) (square_at (f i) (f (i + 1))) (square_at (g i) (g (i + 1))) (λ j hj. square_same i j hi hj)))
+
+  pub dark_same : dark_modules f s ≡ dark_modules g s
+  dark_same =
+      sum_same s (λ i. sum_below s (λ j. cond (f i j) 1 0)) (λ i. sum_below s (λ j. cond (g i j) 1 0))
+      (λ i hi. sum_same s (λ j. cond (f i j) 1 0) (λ j. cond (g i j) 1 0) (λ j hj. ap (λ b. cond b 1 0) (h i j hi hj)))
+
+pub cost_same : (f g : ℕ → ℕ → Bool) (s : ℕ) → ((i j : ℕ) → i < s → j < s → f i j ≡ g i j) → cost f s ≡ cost g s
+unfolding cost
+cost_same f g s h =
+    ap (λ m. m + lines_cost (λ i j. f j i) s + squares_cost f s + balance_cost (dark_modules f s) (s * s)) (lines_same f g s h)
+    ∙ ap (λ m. lines_cost g s + m + squares_cost f s + balance_cost (dark_modules f s) (s * s)) (lines_same (λ i j. f j i) (λ i j. g j i) s (λ i j hi hj. h j i hj hi))
+    ∙ ap (λ m. lines_cost g s + lines_cost (λ i j. g j i) s + m + balance_cost (dark_modules f s) (s * s)) (squares_same f g s h)
+    ∙ ap (λ m. lines_cost g s + lines_cost (λ i j. g j i) s + squares_cost g s + balance_cost m (s * s)) (dark_same f g s h)

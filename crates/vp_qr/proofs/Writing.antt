@@ -1,0 +1,118 @@
+-- Bit strings as they are written.
+use Rattle.std.proofs.Common.{◌≡◌, ℕ, zero, suc, ◌+◌, ◌-◌, ◌*◌, ◌/◌, ◌^◌, ◌<◌, ◌≤◌, Bool, true, false, eqb, List, [], ◌∷◌, ◌++◌, length, take, drop, refl, sym, ap, ◌∙◌, arith, append_assoc, append-nil, cond, pow-suc, add-one, get_or, drop-cons, length-drop}
+use Rattle.std.proofs.Math.ListN.{drop_of_length-le}
+use Rattle.std.proofs.lemmas.List.{drop-drop}
+use Rattle.std.specs.Int.{bit_at}
+use Rattle.vp_qr.specs.Strings.{bits, number_behind, bytes_of, pads, pad}
+
+-- one bit less is left
+pub bits_more : (n k value : ℕ) → k < n → bits (n - k) value ≡ eqb (bit_at value (n - 1 - k)) 1 ∷ bits (n - (k + 1)) value
+unfolding bits
+bits_more n k value h =
+    let e : n - k ≡ suc (n - (k + 1)) = omega arith in
+    let f : n - (k + 1) ≡ n - 1 - k = omega arith in
+    ap (λ (m : ℕ). bits m value) e ∙ ap (λ (m : ℕ). eqb (bit_at value m) 1 ∷ bits (n - (k + 1)) value) f
+
+pub bits_none : (n k value : ℕ) → n ≤ k → bits (n - k) value ≡ []
+unfolding bits
+bits_none n k value h =
+    let e : n - k ≡ 0 = omega arith in
+    ap (λ (m : ℕ). bits m value) e
+
+pub length-bits : (n value : ℕ) → length (bits n value) ≡ n
+unfolding bits
+length-bits zero value = refl
+length-bits (suc n) value = omega (arith, length-bits n value)
+
+-- eight bits in front are a byte
+pub bytes_more : (string : List Bool) → 8 ≤ length string → bytes_of string ≡ number_behind 0 (take 8 string) ∷ bytes_of (drop 8 string)
+unfolding bytes_of
+bytes_more [] h = absurd (omega arith)
+bytes_more (a ∷ []) h = absurd (omega arith)
+bytes_more (a ∷ b ∷ []) h = absurd (omega arith)
+bytes_more (a ∷ b ∷ c ∷ []) h = absurd (omega arith)
+bytes_more (a ∷ b ∷ c ∷ d ∷ []) h = absurd (omega arith)
+bytes_more (a ∷ b ∷ c ∷ d ∷ e ∷ []) h = absurd (omega arith)
+bytes_more (a ∷ b ∷ c ∷ d ∷ e ∷ f ∷ []) h = absurd (omega arith)
+bytes_more (a ∷ b ∷ c ∷ d ∷ e ∷ f ∷ g ∷ []) h = absurd (omega arith)
+bytes_more (a ∷ b ∷ c ∷ d ∷ e ∷ f ∷ g ∷ h ∷ rest) le = refl
+
+pub bytes_none : (string : List Bool) → length string < 8 → bytes_of string ≡ []
+unfolding bytes_of
+bytes_none [] h = refl
+bytes_none (a ∷ []) h = refl
+bytes_none (a ∷ b ∷ []) h = refl
+bytes_none (a ∷ b ∷ c ∷ []) h = refl
+bytes_none (a ∷ b ∷ c ∷ d ∷ []) h = refl
+bytes_none (a ∷ b ∷ c ∷ d ∷ e ∷ []) h = refl
+bytes_none (a ∷ b ∷ c ∷ d ∷ e ∷ f ∷ []) h = refl
+bytes_none (a ∷ b ∷ c ∷ d ∷ e ∷ f ∷ g ∷ []) h = refl
+bytes_none (a ∷ b ∷ c ∷ d ∷ e ∷ f ∷ g ∷ h ∷ rest) le = absurd (omega arith)
+
+-- one bit more of a number
+pub number_more : (n : ℕ) (bit : Bool) (rest : List Bool) → number_behind n (bit ∷ rest) ≡ number_behind (2 * n + cond bit 1 0) rest
+unfolding number_behind
+number_more n bit rest = refl
+
+pub number_all : (n : ℕ) → number_behind n [] ≡ n
+unfolding number_behind
+number_all n = refl
+
+pub pads_none : pads 0 ≡ []
+unfolding pads
+pads_none = refl
+
+pub pads_more : (k : ℕ) → pads (k + 1) ≡ pads k ++ pad k ∷ []
+unfolding pads
+pads_more k =
+    let e : k + 1 ≡ suc k = omega arith in
+    ap pads e
+
+-- what is written, and what is still to be written, are the whole: one element more
+pub written_more : {X : Type 0} (out new whole rest behind : List X) (x : X) → new ≡ out ++ x ∷ [] → rest ≡ x ∷ behind → out ++ rest ≡ whole → new ++ behind ≡ whole
+written_more out new whole rest behind x e f h = ap (λ l. l ++ behind) e ∙ append_assoc out (x ∷ []) behind ∙ ap (λ l. out ++ l) (sym f) ∙ h
+
+-- and nothing more
+pub written_all : {X : Type 0} (out whole rest : List X) → rest ≡ [] → out ++ rest ≡ whole → out ≡ whole
+written_all out whole rest e h = sym (append-nil out) ∙ ap (λ l. out ++ l) (sym e) ∙ h
+
+-- the same for what is appended to what stood there
+pub appended_more : {X : Type 0} (start out new more behind : List X) (x : X) → new ≡ out ++ x ∷ [] → behind ≡ more ++ x ∷ [] → out ≡ start ++ more → new ≡ start ++ behind
+appended_more start out new more behind x e f h = e ∙ ap (λ l. l ++ x ∷ []) h ∙ append_assoc start more (x ∷ []) ∙ ap (λ l. start ++ l) (sym f)
+
+pub below_doubled : (n k b : ℕ) → n < 2 ^ k → b < 2 → 2 * n + b < 2 ^ (k + 1)
+below_doubled n k b h lt = omega (arith, pow-suc 2 k, ap (λ m. 2 ^ m) (add-one k))
+
+-- one bit read
+pub number_step : (eight : List Bool) (n k b : ℕ) → k < length eight → b ≡ cond (get_or eight k false) 1 0
+    → number_behind n (drop k eight) ≡ number_behind 0 eight → number_behind (2 * n + b) (drop (k + 1) eight) ≡ number_behind 0 eight
+number_step eight n k b lt e h =
+    let f : k + 1 ≡ suc k = omega arith in
+    ap (λ m. number_behind (2 * n + m) (drop (k + 1) eight)) e
+    ∙ ap (λ m. number_behind (2 * n + cond (get_or eight k false) 1 0) (drop m eight)) f
+    ∙ sym (number_more n (get_or eight k false) (drop (suc k) eight))
+    ∙ ap (number_behind n) (sym (drop-cons eight k false lt)) ∙ h
+
+pub bit_small : (bit : Bool) (b : ℕ) → b ≡ cond bit 1 0 → b < 2
+bit_small true b e = omega arith
+bit_small false b e = omega arith
+
+pub number_end : (eight : List Bool) (n k : ℕ) → length eight ≤ k → number_behind n (drop k eight) ≡ number_behind 0 eight → n ≡ number_behind 0 eight
+number_end eight n k le h = sym (number_all n) ∙ ap (number_behind n) (sym (drop_of_length-le eight le)) ∙ h
+
+-- eight bits of a string are a byte more
+pub bytes_step : (out new : List ℕ) (string eight : List Bool) (k byte : ℕ) → k < length string / 8 → eight ≡ take 8 (drop (8 * k) string) → byte ≡ number_behind 0 eight
+    → new ≡ out ++ byte ∷ [] → out ++ bytes_of (drop (8 * k) string) ≡ bytes_of string → new ++ bytes_of (drop (8 * (k + 1)) string) ≡ bytes_of string
+bytes_step out new string eight k byte lt e f g h =
+    let next : 8 * k + 8 ≡ 8 * (k + 1) = omega arith in
+    let some : 8 ≤ length (drop (8 * k) string) = omega (arith, length-drop (8 * k) string) in
+    written_more out new (bytes_of string) (bytes_of (drop (8 * k) string)) (bytes_of (drop (8 * (k + 1)) string)) byte g
+    (bytes_more (drop (8 * k) string) some
+    ∙ ap (λ b. b ∷ bytes_of (drop 8 (drop (8 * k) string))) (ap (number_behind 0) (sym e) ∙ sym f)
+    ∙ ap (λ l. byte ∷ bytes_of l) (drop-drop 8 (8 * k) string)
+    ∙ ap (λ m. byte ∷ bytes_of (drop m string)) next)
+    h
+
+pub bytes_end : (out : List ℕ) (string : List Bool) (k : ℕ) → length string / 8 ≤ k → out ++ bytes_of (drop (8 * k) string) ≡ bytes_of string → out ≡ bytes_of string
+bytes_end out string k le h =
+    written_all out (bytes_of string) (bytes_of (drop (8 * k) string)) (bytes_none (drop (8 * k) string) (omega (arith, length-drop (8 * k) string))) h

@@ -1,0 +1,12 @@
+use Rattle.std.proofs.Common.{◌≡◌, ℕ, ◌<◌, length, get_or}
+use Rattle.vp_qr.specs.Places.{size}
+use Rattle.vp_qr.specs.Walk.{dark}
+use Rattle.vp_qr.specs.Codes.{format_code, version_code}
+use Rattle.vp_qr.specs.Symbol.{module_at}
+use Rattle.vp_qr.specs.Cost.{cost}
+use Rattle.vp_qr.proofs.qr.best_mask.Given as goal
+
+abbrev pub invariant-loop-mask : goal.invariant-loop-mask
+invariant-loop-mask l =
+    (length l.costs ≡ 8)
+    × ((k : ℕ) → k < l.mask → get_or l.costs k 0 ≡ cost (module_at l.version (format_code l.level k) (version_code l.version) k (dark l.data)) (size l.version))

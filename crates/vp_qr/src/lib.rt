@@ -1,0 +1,36 @@
+//! QR symbols of versions 1 to 10, exact to the module (ISO/IEC 18004).
+//!
+//! `encode` gives the symbol of some bytes, in one segment and in the smallest version that holds
+//! them, with the lowest mask of least cost; `Qr::scaled` is that symbol as ink.
+//!
+//! - `segment`, `string`: the mode, the bits and the data codewords of the bytes
+//! - `level`, `interleave`: the blocks of each version and level, and the order of their codewords
+//! - `field`, `check`: the field of 256 elements, and the check codewords of a block
+//! - `walk`: the modules that hold data, in the order of their bits
+//! - `code`, `symbol`: format and version, and the finished modules by cases on the place
+//! - `mask`: the cost of a symbol, by which its mask is chosen
+//! - `qr`, `ink`: the symbol, and its dots
+#![tactic(auto)]
+
+mod check;
+mod code;
+mod field;
+mod ink;
+mod interleave;
+mod level;
+mod mask;
+mod qr;
+mod segment;
+mod string;
+mod symbol;
+mod walk;
+
+pub use check::{check_is_zero_at_roots, rs};
+pub use ink::QrInk;
+pub use level::Level;
+pub use qr::{Qr, encode};
+pub use segment::Mode;
+pub use walk::free_modules_hold_the_codewords;
+
+#[cfg(test)]
+mod tests;

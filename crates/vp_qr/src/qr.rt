@@ -1,0 +1,172 @@
+//! The symbol of bytes.
+
+ghost use Rattle.std.specs.Prelude.{◌≡◌, ℕ, ◌<◌, ◌≤◌, not, length, map, OnOk, IfOk, IfErr, Some, None};
+ghost use Rattle.arrayvec.specs.ArrayVec.{array_vec_len};
+ghost use Rattle.vp_qr.specs.Strings.{padded};
+ghost use Rattle.vp_qr.specs.Segments.{message};
+ghost use Rattle.vp_qr.specs.Versions.{Holds};
+ghost use Rattle.vp_qr.specs.Blocks.{total, capacity};
+ghost use Rattle.vp_qr.specs.Places.{size, reserved};
+ghost use Rattle.vp_qr.specs.Walk.{dark, data_bit, number_of};
+ghost use Rattle.vp_qr.specs.Codes.{format_code, version_code};
+ghost use Rattle.vp_qr.specs.Symbol.{module_at};
+ghost use Rattle.vp_qr.specs.Cost.{cost};
+ghost use Rattle.vp_qr.specs.Encoding.{refusal, masked, least_place, masks, best_mask, Encodes};
+
+use crate::code::{format_code, version_code};
+use crate::interleave::{Codewords, interleaved};
+use crate::level::Level;
+use crate::mask::{cost, least};
+use crate::segment::{Kind, Mode, message, smallest_version};
+use crate::string::{Words, padded};
+use crate::symbol::matrix;
+use crate::walk::{fill, free_rows};
+use std::marker::Model;
+use vp_dots::{Fault, Why};
+
+/// A QR symbol of version 1 to 10.
+#[derive(Drop)]
+pub struct Qr {
+    version: usize,
+    mask: usize,
+    codewords: Codewords,
+    rows: [u64; 57],
+}
+
+impl Model for Qr {
+    ghost use Rattle.std.specs.Prelude.{◌≡◌, ◌≤◌, length};
+    ghost use Rattle.vp_qr.specs.Blocks.{total};
+    ghost use Rattle.vp_qr.specs.Encoding.{QrSymbol};
+
+    ghost Value = { QrSymbol };
+
+    ghost view = { λ s. record { version = s.version; mask = s.mask; codewords = s.codewords.items; rows = s.rows } };
+
+    ghost invariant = { λ s. record { low : 1 ≤ s.version; high : s.version ≤ 10; count : length s.codewords.items ≡ total s.version } };
+}
+
+impl Qr {
+    /// The version, 1 to 10; a symbol has 17 + 4 versions modules in a row.
+    pub fn version(&self) -> usize
+        ensures version { result ≡ self.now.version }
+        ensures low { 1 ≤ result }
+        ensures high { result ≤ 10 }
+    {
+        self.version
+    }
+
+    /// The mask, 0 to 7.
+    pub fn mask(&self) -> usize
+        ensures { result ≡ self.now.mask }
+    {
+        self.mask
+    }
+
+    /// All codewords, in the order in which they are placed.
+    pub fn codewords(&self) -> &[u8]
+        ensures codewords { result.now ≡ self.now.codewords }
+        ensures count { length result.now ≡ total self.now.version }
+    {
+        self.codewords.as_slice()
+    }
+
+    /// The rows of modules; bit j of a row is its module in column j.
+    pub(crate) fn rows(&self) -> &[u64; 57]
+        ensures { result.now ≡ self.now.rows }
+    {
+        &self.rows
+    }
+}
+
+/// The finished modules with a mask, from the data modules.
+fn drawn(level: Level, version: usize, mask: usize, data: &[u64; 57], free: &[u64; 57]) -> [u64; 57]
+    requires low { 1 ≤ version }
+    requires high { version ≤ 10 }
+    requires free { (i j : ℕ) → i < size version → j < size version → dark free.now i j ≡ not (reserved version i j) }
+    requires mask { mask < 8 }
+    ensures { (i j : ℕ) → i < size version → j < size version
+        → dark result i j ≡ module_at version (format_code level mask) (version_code version) mask (dark data.now) i j }
+{
+    matrix(
+        version,
+        format_code(level, mask),
+        version_code(version),
+        mask,
+        data,
+        free,
+    )
+}
+
+/// The lowest mask of least cost.
+fn best_mask(level: Level, version: usize, data: &[u64; 57], free: &[u64; 57]) -> usize
+    requires low { 1 ≤ version }
+    requires high { version ≤ 10 }
+    requires free { (i j : ℕ) → i < size version → j < size version → dark free.now i j ≡ not (reserved version i j) }
+    ensures mask { result ≡ least_place (map (λ k. cost (module_at version (format_code level k) (version_code version) k (dark data.now)) (size version)) masks) }
+    ensures most { result < 8 }
+{
+    let mut costs = [0; 8];
+    for mask in 0..8usize {
+        let rows = drawn(level, version, mask, data, free);
+        costs[mask] = cost(&rows, 17 + 4 * version);
+    }
+    least(&costs)
+}
+
+/// The symbol of codewords.
+fn finished(level: Level, version: usize, codewords: Codewords) -> Qr
+    requires low { 1 ≤ version }
+    requires high { version ≤ 10 }
+    requires count { array_vec_len codewords ≡ total version }
+    ensures version { result.version ≡ version }
+    ensures codewords { result.codewords ≡ codewords.items }
+    ensures mask { result.mask ≡ best_mask level version codewords.items }
+    ensures modules { (i j : ℕ) → i < size version → j < size version → dark result.rows i j ≡ masked level version codewords.items (best_mask level version codewords.items) i j }
+{
+    let mut data = [0; 57];
+    fill(&mut data, version, codewords.as_slice());
+    let free = free_rows(version);
+    let mask = best_mask(level, version, &data, &free);
+    let rows = drawn(level, version, mask, &data, &free);
+    Qr {
+        version,
+        mask,
+        codewords,
+        rows,
+    }
+}
+
+/// The data codewords of a segment, in a version that holds it.
+fn data_words(level: Level, kind: Kind, version: usize, src: &[u8]) -> Words
+    requires { Holds level kind src.now version }
+    ensures words { result.items ≡ padded (capacity level version) (message kind version src.now) }
+    ensures count { array_vec_len result ≡ capacity level version }
+{
+    let capacity = level.blocks(version).capacity();
+    let mut string = message(kind, version, src);
+    padded(&mut string, capacity)
+}
+
+/// The symbol of bytes, in the smallest version up to 10 that holds them.
+///
+/// Bytes without a symbol are refused: none at all (`Symbol(Empty)`), one that the mode lacks
+/// (`Symbol(Char)`), or too many (`SymbolTooLong`).
+pub fn encode(src: &[u8], level: Level, mode: Mode) -> Result<Qr, Fault>
+    ensures accepted { OnOk result (refusal level mode src.now ≡ None) }
+    ensures refused { IfErr result (λ fault. refusal level mode src.now ≡ Some fault) }
+    ensures symbol { IfOk result (Encodes level mode src.now) }
+{
+    if src.is_empty() {
+        return Err(Fault::Symbol(Why::Empty));
+    }
+    let kind = mode.kind(src);
+    if !kind.has_all(src) {
+        return Err(Fault::Symbol(Why::Char));
+    }
+    let Some(version) = smallest_version(level, kind, src) else {
+        return Err(Fault::SymbolTooLong);
+    };
+    let words = data_words(level, kind, version, src);
+    let codewords = interleaved(level, version, words.as_slice());
+    Ok(finished(level, version, codewords))
+}

@@ -1,0 +1,168 @@
+//! The walk over the modules of a symbol, and the data bits that it places.
+
+ghost use Rattle.std.specs.Prelude.{◌≡◌, ◌<◌, ◌≤◌, ◌*◌, ◌+◌, ◌-◌, ◌==◌, ◌&&◌, ◌||◌, not, ℕ, length};
+ghost use Rattle.vp_qr.specs.Places.{size, near, corner, alignment, version_area, reserved};
+ghost use Rattle.vp_qr.specs.Blocks.{total, remainder_bits};
+ghost use Rattle.vp_qr.specs.Cost.{is_set};
+ghost use Rattle.vp_qr.specs.Walk.{place, steps, free_places, dark, data_bit, number_of};
+
+/// A module by its row and column.
+#[derive(Clone, Copy)]
+pub struct Place {
+    pub row: usize,
+    pub column: usize,
+}
+
+/// Sets a module where `bit` is set.
+#[tactic(auto, using(crate::proofs::Bits::dark_set, crate::proofs::Bits::dark_kept))]
+pub fn set_dark(rows: &mut [u64; 57], row: usize, column: usize, bit: bool)
+    requires row { row < 57 }
+    requires column { column < 64 }
+    ensures { (i j : ℕ) → j < 64 → dark rows.new i j ≡ (dark rows.old i j || (i == row && j == column && bit)) }
+{
+    if bit {
+        rows[row] |= 1 << column;
+    }
+}
+
+/// Bit `k` of the codewords, or 0 behind their end.
+#[tactic(auto, using(crate::proofs::Bits::data_bit_inside, crate::proofs::Bits::data_bit_past))]
+fn bit_of(codewords: &[u8], k: usize) -> bool
+    ensures { result ≡ data_bit codewords.now k }
+{
+    k / 8 < codewords.len() && codewords[k / 8] >> (7 - k % 8) & 1 == 1
+}
+
+/// A centre is at most two away.
+pub fn is_near(centre: usize, at: usize) -> bool
+    requires centre { centre < 100 }
+    requires at { at < 100 }
+    ensures { result ≡ near centre at }
+{
+    centre <= at + 2 && at <= centre + 2
+}
+
+/// A finder with its separator and the format beside it.
+pub fn is_corner(size: usize, row: usize, column: usize) -> bool
+    requires { 8 ≤ size }
+    ensures { result ≡ corner size row column }
+{
+    row < 9 && (column < 9 || size - 8 <= column) || size - 8 <= row && column < 9
+}
+
+/// The version, from version 7 on.
+pub fn is_version(version: usize, row: usize, column: usize) -> bool
+    requires { version ≤ 10 }
+    ensures { result ≡ version_area version row column }
+{
+    let size = 17 + 4 * version;
+    version >= 7
+        && (row < 6 && size - 11 <= column && column < size - 8
+            || column < 6 && size - 11 <= row && row < size - 8)
+}
+
+/// An alignment pattern, at all pairs of centres but those on a finder.
+pub fn is_alignment(version: usize, row: usize, column: usize) -> bool
+    requires version { version ≤ 10 }
+    requires row { row < 57 }
+    requires column { column < 57 }
+    ensures { result ≡ alignment version row column }
+{
+    let last = 10 + 4 * version;
+    let middle = 8 + 2 * version;
+    version >= 2 && is_near(last, row) && is_near(last, column)
+        || version >= 7
+            && (is_near(middle, row)
+                && (is_near(6, column) || is_near(middle, column) || is_near(last, column))
+                || is_near(middle, column) && (is_near(6, row) || is_near(last, row)))
+}
+
+/// The module holds no data.
+#[tactic(auto, unfolding(crate::specs::Places::reserved))]
+fn is_reserved(version: usize, row: usize, column: usize) -> bool
+    requires version { version ≤ 10 }
+    requires row { row < 57 }
+    requires column { column < 57 }
+    ensures { result ≡ reserved version row column }
+{
+    is_corner(17 + 4 * version, row, column)
+        || row == 6
+        || column == 6
+        || is_alignment(version, row, column)
+        || is_version(version, row, column)
+}
+
+/// The modules of a row that hold data.
+fn free_line(version: usize, row: usize) -> u64
+    requires low { 1 ≤ version }
+    requires high { version ≤ 10 }
+    requires row { row < size version }
+    ensures { (j : ℕ) → j < size version → is_set result j ≡ not (reserved version row j) }
+{
+    let mut line = 0;
+    for column in 0..17 + 4 * version {
+        if is_reserved(version, row, column) {
+            continue;
+        }
+        line |= 1 << column;
+    }
+    line
+}
+
+/// The modules that hold data.
+pub fn free_rows(version: usize) -> [u64; 57]
+    requires low { 1 ≤ version }
+    requires high { version ≤ 10 }
+    ensures { (i j : ℕ) → i < size version → j < size version → dark result i j ≡ not (reserved version i j) }
+{
+    let mut rows = [0; 57];
+    for i in 0..17 + 4 * version {
+        rows[i] = free_line(version, i);
+    }
+    rows
+}
+
+/// The module number `step` of the walk over a symbol of `version`.
+#[tactic(auto, using(crate::proofs::WalkOrder::place_pair), unfolding(crate::specs::Walk::place))]
+fn place_at(version: usize, step: usize) -> Place
+    requires low { 1 ≤ version }
+    requires high { version ≤ 10 }
+    requires step { step < steps (size version) }
+    ensures { result ≡ place (size version) step }
+{
+    let size = 17 + 4 * version;
+    let pair = (size - 1) / 2 - 1 - step / (2 * size);
+    let right = if pair < 3 { 2 * pair + 1 } else { 2 * pair + 2 };
+    let rows = step % (2 * size) / 2;
+    Place {
+        row: if pair % 2 == 1 { size - 1 - rows } else { rows },
+        column: right - step % 2,
+    }
+}
+
+/// Places the data bits of the codewords on the free modules.
+#[tactic(auto, using(crate::proofs::Filling::filled_none, crate::proofs::Filling::filled_past, crate::proofs::Filling::filled_bit, crate::proofs::Filling::filled_all, crate::proofs::WalkOrder::place_row, crate::proofs::WalkOrder::place_column))]
+pub fn fill(rows: &mut [u64; 57], version: usize, codewords: &[u8])
+    requires low { 1 ≤ version }
+    requires high { version ≤ 10 }
+    ensures { (i j : ℕ) → i < size version → j < size version
+        → dark rows.new i j ≡ (dark rows.old i j || (not (reserved version i j) && data_bit codewords.now (number_of version i j))) }
+{
+    let size = 17 + 4 * version;
+    let mut k = 0;
+    for step in 0..size * (size - 1) {
+        let place = place_at(version, step);
+        if is_reserved(version, place.row, place.column) {
+            continue;
+        }
+        set_dark(rows, place.row, place.column, bit_of(codewords, k));
+        k += 1;
+    }
+}
+
+/// The free modules of a version are as many as the bits of its codewords and the remainder.
+pub fn free_modules_hold_the_codewords(version: usize)
+    requires low { 1 ≤ version }
+    requires high { version ≤ 10 }
+    ensures { length (free_places version) ≡ 8 * total version + remainder_bits version }
+{}
