@@ -1,0 +1,179 @@
+-- Where there is no fault, the rest can be made a unit.
+use Rattle.std.proofs.Common.{◌≡◌, ℕ, ◌+◌, ◌≤◌, Bool, true, false, ◌&&◌, ◌||◌, cond, not, ltb, eqb, Option, None, Some, List, [], ◌∷◌, ◌++◌, length, replicate, refl, ap, ◌∙◌, append_assoc, arith, ⊎_elim}
+use Rattle.std.specs.List.{list_any}
+use Rattle.std.proofs.lemmas.Bool.{cases_Bool}
+use Rattle.std.proofs.lemmas.Bool.Decides.{nat_tests}
+use Rattle.std.proofs.lemmas.List.{append-nil, length-append, length-replicate}
+use Rattle.std.proofs.lemmas.List.Folds.{list_any-append}
+use Rattle.vp_dots.specs.declared.fault.Fault.{Fault}
+use Rattle.vp_dots.specs.declared.fault.Fault.TheVariants.{Unknown}
+use Rattle.vp_esc.specs.declared.item.Lead.{Lead}
+use Rattle.vp_esc.specs.declared.item.Lead.TheVariants.{Esc, Gs, Fs, Dle}
+use Rattle.vp_esc.specs.declared.command.Command.{Command}
+use Rattle.vp_esc.specs.declared.command.Command.TheVariants.{Plain, TabStops, Columns, Raster, Symbol, Function, Graphics}
+use Rattle.vp_esc.specs.declared.command.Plain.{Plain as PlainCommand}
+use Rattle.vp_esc.specs.declared.command.Plain.TheVariants.{Alone, OfByte, OfWord, Area, Cut, Sensor, RealTime, Unused}
+use Rattle.vp_esc.specs.Values.{is_kind_to_zero}
+use Rattle.vp_esc.specs.Command.{lead_of, command_of, head_len, is_listed}
+use Rattle.vp_esc.specs.Units.{is_open, fault_in, needs_more, is_counted, data_len, rises_from, is_open_after, is_open_named, fault_after}
+use Rattle.vp_esc.specs.Reader.{last_or}
+use Rattle.vp_esc.specs.Split.{split, fault_of}
+use Rattle.vp_esc.specs.Laws.{IsUnit, IsRest, Splits}
+use Rattle.vp_esc.proofs.Stops.{rises_push}
+use Rattle.vp_esc.proofs.Heads.{IsSame, same, needs_counted, head_small}
+use Rattle.vp_esc.proofs.Divisions.{splits, fronts_push}
+
+-- arguments that make the command whole
+record CanEnd (k : Command) (args : List ℕ) : Type 0 where
+  pub more : List ℕ
+  pub listed : is_listed k (args ++ more) ≡ true
+  pub whole : needs_more k (args ++ more) ≡ false
+
+-- a first argument that the table has
+first_of : Command → ℕ
+first_of (Plain Sensor) = 0x33
+first_of Raster = 0x30
+first_of Graphics = 0x4C
+first_of _ = 0
+
+plain_listed : (p : PlainCommand) → is_listed (Plain p) (first_of (Plain p) ∷ []) ≡ true
+unfolding first_of
+plain_listed (Alone a) = refl
+plain_listed (OfByte a) = refl
+plain_listed (OfWord a) = refl
+plain_listed Area = refl
+plain_listed Cut = refl
+plain_listed Sensor = refl
+plain_listed RealTime = refl
+plain_listed (Unused n) = refl
+
+first_listed : (k : Command) → is_listed k (first_of k ∷ []) ≡ true
+unfolding first_of
+first_listed (Plain p) = plain_listed p
+first_listed TabStops = refl
+first_listed Columns = refl
+first_listed Raster = refl
+first_listed Symbol = refl
+first_listed Function = refl
+first_listed Graphics = refl
+
+counted_first : (k : Command) (a : ℕ) (xs ys : List ℕ) → is_counted k (a ∷ xs) ≡ true → is_counted k (a ∷ ys) ≡ true
+counted_first (Plain p) a xs ys e = refl
+counted_first TabStops a xs ys e = e
+counted_first Columns a xs ys e = refl
+counted_first Raster a xs ys e = refl
+counted_first Symbol a xs ys e = e
+counted_first Function a xs ys e = refl
+counted_first Graphics a xs ys e = refl
+
+-- counted data, of zeros
+end_counted : (k : Command) (a : ℕ) (args : List ℕ) → is_listed k (a ∷ args) ≡ true → is_counted k (a ∷ args) ≡ true → CanEnd k (a ∷ args)
+end_counted k a args l e =
+    let zeros : List ℕ = replicate (data_len k (a ∷ args ++ replicate 8 0)) 0 in
+    let c : is_counted k (a ∷ args ++ replicate 8 0) ≡ true = counted_first k a args _ e in
+    let h : head_len k (a ∷ args ++ replicate 8 0) ≤ length (a ∷ args ++ replicate 8 0) =
+    omega (arith, head_small k (a ∷ args ++ replicate 8 0), length-append args (replicate 8 0), length-replicate {A = ℕ} 8 0) in
+    let s : IsSame k (a ∷ args ++ replicate 8 0) zeros = same k (a ∷ args ++ replicate 8 0) zeros c h in
+    let len : length ((a ∷ args ++ replicate 8 0) ++ zeros) ≡ length (a ∷ args ++ replicate 8 0) + data_len k (a ∷ args ++ replicate 8 0) =
+    length-append (a ∷ args ++ replicate 8 0) zeros ∙ ap (λ n. length (a ∷ args ++ replicate 8 0) + n) (length-replicate {A = ℕ} _ 0) in
+    let w : needs_more k ((a ∷ args ++ replicate 8 0) ++ zeros) ≡ false =
+    needs_counted k ((a ∷ args ++ replicate 8 0) ++ zeros) s.counted ∙ rw (s.head, s.count, len) (grind (arith, nat_tests)) in
+    record { more = replicate 8 0 ++ zeros; listed = l; whole = rw append_assoc at w }
+
+and_false : (b : Bool) → (b && false) ≡ false
+and_false true = refl
+and_false false = refl
+
+stops_end : (args : List ℕ) → needs_more TabStops (args ++ 0 ∷ []) ≡ false
+unfolding needs_more
+stops_end args =
+    let z : ltb (last_or 0 args) 0 ≡ false = grind (arith, nat_tests) in
+    let f : rises_from 0 (args ++ 0 ∷ []) ≡ false = rises_push 0 args 0 ∙ rw z (and_false _) in rw f refl
+
+or_true : (b : Bool) → (b || true) ≡ true
+or_true true = refl
+or_true false = refl
+
+zero_ends : (b s : Bool) (codes : List ℕ) → not b ≡ false → cond b (not (list_any (λ x. eqb x 0) (codes ++ 0 ∷ []))) s ≡ false
+zero_ends true s codes e = let f : list_any (λ x. eqb x 0) (codes ++ 0 ∷ []) ≡ true = list_any-append (λ x. eqb x 0) codes (0 ∷ []) ∙ or_true _ in rw f refl
+zero_ends false s codes e = cc
+
+zero_whole : (k : Command) (a : ℕ) (args : List ℕ) → is_counted k (a ∷ args) ≡ false → needs_more k (a ∷ args ++ 0 ∷ []) ≡ false
+unfolding needs_more
+zero_whole (Plain p) a args e = cc
+zero_whole TabStops a args e = stops_end (a ∷ args)
+zero_whole Columns a args e = cc
+zero_whole Raster a args e = cc
+zero_whole Symbol a args e = zero_ends (is_kind_to_zero a) _ args e
+zero_whole Function a args e = cc
+zero_whole Graphics a args e = cc
+
+end_begun : (k : Command) (a : ℕ) (args : List ℕ) → is_listed k (a ∷ args) ≡ true → CanEnd k (a ∷ args)
+end_begun k a args l = ⊎_elim
+    (λ (e : is_counted k (a ∷ args) ≡ true). end_counted k a args l e)
+    (λ (e : is_counted k (a ∷ args) ≡ false). record { more = 0 ∷ []; listed = l; whole = zero_whole k a args e })
+    (cases_Bool (is_counted k (a ∷ args)))
+
+can_end : (k : Command) (args : List ℕ) → is_listed k args ≡ true → CanEnd k args
+can_end k [] l =
+    let c : CanEnd k (first_of k ∷ []) = end_begun k (first_of k) [] (first_listed k) in
+    record { more = first_of k ∷ c.more; listed = c.listed; whole = c.whole }
+can_end k (a ∷ args) l = end_begun k a args l
+
+-- bytes that make a front whole
+record CanClose (front : List ℕ) : Type 0 where
+  pub more : List ℕ
+  pub whole : is_open (front ++ more) ≡ false
+
+close_lead : (lead : Lead) (b : ℕ) → lead_of b ≡ Some lead → CanClose (b ∷ [])
+unfolding is_open command_of needs_more
+close_lead Esc b e = record { more = 0x40 ∷ []; whole = rw e refl }
+close_lead Gs b e = record { more = 0x61 ∷ 0 ∷ []; whole = rw e refl }
+close_lead Fs b e = record { more = 0x2E ∷ []; whole = rw e refl }
+close_lead Dle b e = record { more = 0x05 ∷ 0 ∷ []; whole = rw e refl }
+
+listed_of : (l : Bool) (x : Fault) → cond l None (Some x) ≡ None → l ≡ true
+listed_of true x e = refl
+listed_of false x e = cc
+
+named_open : (k : Command) (args more : List ℕ) → is_listed k (args ++ more) ≡ true → needs_more k (args ++ more) ≡ false
+    → is_open_named (Some k) (args ++ more) ≡ false
+named_open k args more l n = rw l n
+
+close_named : (lead : Lead) (b name : ℕ) (args : List ℕ) (o : Option Command) → lead_of b ≡ Some lead → command_of lead name ≡ o
+    → fault_after (Some lead) b (name ∷ args) ≡ None → CanClose (b ∷ name ∷ args)
+unfolding is_open
+close_named lead b name args None e f g = let u : Some (Unknown b name) ≡ None = rw f at g in cc
+close_named lead b name args (Some k) e f g =
+    let l : is_listed k args ≡ true = listed_of (is_listed k args) (Unknown b name) (rw f at g) in
+    let c : CanEnd k args = can_end k args l in
+    record { more = c.more; whole = rw e (rw f (rw c.listed c.whole)) }
+
+close_after : (o : Option Lead) (b : ℕ) (bytes : List ℕ) → lead_of b ≡ o → is_open_after o bytes ≡ true → fault_after o b bytes ≡ None
+    → CanClose (b ∷ bytes)
+close_after None b bytes e f g = cc
+close_after (Some lead) b [] e f g = close_lead lead b e
+close_after (Some lead) b (name ∷ args) e f g = close_named lead b name args (command_of lead name) e refl g
+
+can_close : (front : List ℕ) → is_open front ≡ true → fault_in front ≡ None → CanClose front
+unfolding is_open fault_in
+can_close [] o f = record { more = 0x0A ∷ []; whole = refl }
+can_close (b ∷ bytes) o f = close_after (lead_of b) b bytes refl o f
+
+-- the first whole one of the fronts that go on from a rest is a unit
+unit_within : (more rest : List ℕ) → IsRest rest → is_open (rest ++ more) ≡ false → (end : List ℕ) × IsUnit (rest ++ end)
+unit_within [] rest r e = let o : is_open rest ≡ false = rw append-nil at e in let p : is_open rest ≡ true = r.opens in cc
+unit_within (x ∷ more) rest r e = ⊎_elim
+    (λ (o : is_open (rest ++ x ∷ []) ≡ true).
+    let next : IsRest (rest ++ x ∷ []) = record { opens = o; shortest = fronts_push rest x r } in
+    let w : (end : List ℕ) × IsUnit ((rest ++ x ∷ []) ++ end) = unit_within more (rest ++ x ∷ []) next (rw append_assoc e) in
+    (x ∷ w.0, rw append_assoc at w.1))
+    (λ (o : is_open (rest ++ x ∷ []) ≡ false). (x ∷ [], record { whole = o; shortest = fronts_push rest x r }))
+    (cases_Bool (is_open (rest ++ x ∷ [])))
+
+pub completes_lem : (bytes : List ℕ) → fault_of bytes ≡ None → (end : List ℕ) × IsUnit ((split bytes).rest ++ end)
+unfolding fault_of
+completes_lem bytes f =
+    let s : Splits bytes (split bytes).units (split bytes).rest = splits bytes in
+    let c : CanClose (split bytes).rest = can_close (split bytes).rest s.end.opens f in
+    unit_within c.more (split bytes).rest s.end c.whole

@@ -1,0 +1,204 @@
+-- What is open, given and refused, by the command that a rest begins.
+use Rattle.std.proofs.Common.{◌≡◌, ℕ, Bool, true, false, cond, Option, Some, None, Ok, Err, List, [], ◌∷◌, ◌++◌, refl, sym, ap, arith}
+use Rattle.std.specs.Prelude.{option_to_list}
+use Rattle.std.proofs.lemmas.Bool.Decides.{nat_tests}
+use Rattle.vp_esc.specs.declared.item.EscItem.{EscItem}
+use Rattle.vp_dots.specs.declared.fault.Fault.{Fault}
+use Rattle.vp_dots.specs.declared.fault.Fault.TheVariants.{Unknown}
+use Rattle.vp_esc.specs.declared.item.Lead.{Lead}
+use Rattle.vp_esc.specs.declared.item.Lead.TheVariants.{Esc, Gs, Fs, Dle}
+use Rattle.vp_esc.specs.declared.command.Command.{Command}
+use Rattle.vp_esc.specs.declared.reader.EscReader.{EscReader}
+use Rattle.vp_esc.specs.declared.reader.Phase.TheVariants.{Stopped, Ground, AfterLead}
+use Rattle.vp_esc.specs.Command.{lead_of, lead_byte, command_of, is_listed}
+use Rattle.vp_esc.specs.Units.{is_open, given, fault_in, needs_more, given_by, single_item, is_open_after, fault_after, is_open_named, is_listed_name}
+use Rattle.vp_esc.specs.Reader.{Begun, Advances, StandsIn, Lands}
+
+-- a lead's byte is the lead's
+pub lead_of-lead_byte : (lead : Lead) → lead_of (lead_byte lead) ≡ Some lead
+lead_of-lead_byte Esc = refl
+lead_of-lead_byte Gs = refl
+lead_of-lead_byte Fs = refl
+lead_of-lead_byte Dle = refl
+
+pub lead_byte-of : (b : ℕ) (lead : Lead) → lead_of b ≡ Some lead → lead_byte lead ≡ b
+lead_byte-of b Esc e = grind (arith, nat_tests)
+lead_byte-of b Gs e = grind (arith, nat_tests)
+lead_byte-of b Fs e = grind (arith, nat_tests)
+lead_byte-of b Dle e = grind (arith, nat_tests)
+
+-- a front that is a command with these arguments
+pub record Front (front : List ℕ) (lead : Lead) (name : ℕ) (command : Command) (args : List ℕ) : Type 0 where
+  pub opens : is_open front ≡ cond (is_listed command args) (needs_more command args) true
+  pub gives : given front ≡ cond (is_listed command args) (given_by lead name command args) []
+  pub fault : fault_in front ≡ cond (is_listed command args) None (Some (Unknown (lead_byte lead) name))
+
+pub front_is : (lead : Lead) (name : ℕ) (command : Command) (args rest : List ℕ) → command_of lead name ≡ Some command
+    → rest ≡ lead_byte lead ∷ name ∷ args → Front rest lead name command args
+unfolding is_open given fault_in
+front_is lead name command args rest named bytes =
+    record {
+      opens = rw bytes (rw lead_of-lead_byte (rw named refl));
+      gives = rw bytes (rw lead_of-lead_byte (rw named refl));
+      fault = rw bytes (rw lead_of-lead_byte (rw named refl));
+    }
+
+-- the rest with one more argument
+pub longer : {lead : Lead} {name : ℕ} {command : Command} {args rest : List ℕ} (c : ℕ) → Begun lead name command args rest
+    → rest ++ c ∷ [] ≡ lead_byte lead ∷ name ∷ (args ++ c ∷ [])
+longer c b = ap (λ r. r ++ c ∷ []) b.bytes
+
+pub begun_longer : {lead : Lead} {name : ℕ} {command : Command} {args rest : List ℕ} (c : ℕ) → Begun lead name command args rest
+    → is_listed command (args ++ c ∷ []) ≡ true → Begun lead name command (args ++ c ∷ []) (rest ++ c ∷ [])
+begun_longer c b l = record { named = b.named; bytes = longer c b; listed = l }
+
+-- one more argument, and the command needs more
+pub continues : {lead : Lead} {name : ℕ} {command : Command} {args rest : List ℕ} (c : ℕ) (item : Option EscItem) (new : EscReader)
+    → Begun lead name command args rest → is_listed command (args ++ c ∷ []) ≡ true → needs_more command (args ++ c ∷ []) ≡ true
+    → given_by lead name command (args ++ c ∷ []) ≡ given_by lead name command args ++ option_to_list item
+    → StandsIn new (rest ++ c ∷ []) → Advances (Ok item) rest c new
+continues {lead} {name} {command} {args} {rest} c item new b l n g s =
+    let before : Front rest lead name command args = front_is lead name command args rest b.named b.bytes in
+    let after : Front (rest ++ c ∷ []) lead name command (args ++ c ∷ []) = front_is lead name command _ _ b.named (longer c b) in
+    record {
+      gives = (rw after.fault (rw l refl), rw (after.gives, before.gives) (rw (l, b.listed) g));
+      stands = rw after.opens (rw l (rw n s));
+    }
+
+-- one more argument, and the command is whole
+pub completes : {lead : Lead} {name : ℕ} {command : Command} {args rest : List ℕ} (c : ℕ) (item : Option EscItem) (new : EscReader)
+    → Begun lead name command args rest → is_listed command (args ++ c ∷ []) ≡ true → needs_more command (args ++ c ∷ []) ≡ false
+    → given_by lead name command (args ++ c ∷ []) ≡ given_by lead name command args ++ option_to_list item
+    → StandsIn new [] → Advances (Ok item) rest c new
+completes {lead} {name} {command} {args} {rest} c item new b l n g s =
+    let before : Front rest lead name command args = front_is lead name command args rest b.named b.bytes in
+    let after : Front (rest ++ c ∷ []) lead name command (args ++ c ∷ []) = front_is lead name command _ _ b.named (longer c b) in
+    record {
+      gives = (rw after.fault (rw l refl), rw (after.gives, before.gives) (rw (l, b.listed) g));
+      stands = rw after.opens (rw l (rw n s));
+    }
+
+-- one more argument, and no command of the table is so
+pub refuses : {lead : Lead} {name : ℕ} {command : Command} {args rest : List ℕ} (c : ℕ) (new : EscReader)
+    → Begun lead name command args rest → is_listed command (args ++ c ∷ []) ≡ false
+    → new.phase ≡ Stopped (Unknown (lead_byte lead) name) → Advances (Err (Unknown (lead_byte lead) name)) rest c new
+refuses {lead} {name} {command} {args} {rest} c new b l p =
+    let after : Front (rest ++ c ∷ []) lead name command (args ++ c ∷ []) = front_is lead name command _ _ b.named (longer c b) in
+    let fault : fault_in (rest ++ c ∷ []) ≡ Some (Unknown (lead_byte lead) name) = rw after.fault (rw l refl) in
+    record {
+      gives = fault;
+      stands = rw after.opens (rw l (rw p fault));
+    }
+
+-- a byte that is a lead
+pub leads : (b : ℕ) (lead : Lead) (new : EscReader) → lead_of b ≡ Some lead → new.phase ≡ AfterLead → new.lead ≡ lead
+    → Advances (Ok None) [] b new
+unfolding is_open given fault_in
+leads b lead new e p q = record { gives = (rw e refl, rw e refl); stands = rw e (rw p (rw q (ap (λ x. x ∷ []) (sym (lead_byte-of b lead e))))) }
+
+-- a byte alone
+pub alone : (b : ℕ) (new : EscReader) → lead_of b ≡ None → new.phase ≡ Ground → Advances (Ok (Some (single_item b))) [] b new
+unfolding is_open given fault_in
+alone b new e p = record { gives = (rw e refl, rw e refl); stands = rw e (rw p refl) }
+
+-- the command with these arguments needs more
+pub lands_open : {lead : Lead} {name : ℕ} {command : Command} {args front : List ℕ} (item : Option EscItem) (new : EscReader)
+    → Begun lead name command args front → needs_more command args ≡ true
+    → given_by lead name command args ≡ option_to_list item → StandsIn new front → Lands item front new
+lands_open {lead} {name} {command} {args} {front} item new b n g s =
+    let here : Front front lead name command args = front_is lead name command _ _ b.named b.bytes in
+    record {
+      fault = rw here.fault (rw b.listed refl);
+      gives = rw here.gives (rw b.listed g);
+      stands = rw here.opens (rw b.listed (rw n s));
+    }
+
+-- the command with these arguments is whole
+pub lands_whole : {lead : Lead} {name : ℕ} {command : Command} {args front : List ℕ} (item : Option EscItem) (new : EscReader)
+    → Begun lead name command args front → needs_more command args ≡ false
+    → given_by lead name command args ≡ option_to_list item → StandsIn new [] → Lands item front new
+lands_whole {lead} {name} {command} {args} {front} item new b n g s =
+    let here : Front front lead name command args = front_is lead name command _ _ b.named b.bytes in
+    record {
+      fault = rw here.fault (rw b.listed refl);
+      gives = rw here.gives (rw b.listed g);
+      stands = rw here.opens (rw b.listed (rw n s));
+    }
+
+-- nothing was given before
+pub advances_from_lands : (item : Option EscItem) (rest : List ℕ) (c : ℕ) (new : EscReader) → given rest ≡ []
+    → Lands item (rest ++ c ∷ []) new → Advances (Ok item) rest c new
+advances_from_lands item rest c new none l = record { gives = (l.fault, rw none l.gives); stands = l.stands }
+
+pub given_begun : {lead : Lead} {name : ℕ} {command : Command} {args rest : List ℕ} → Begun lead name command args rest
+    → given_by lead name command args ≡ [] → given rest ≡ []
+given_begun {lead} {name} {command} {args} {rest} b none =
+    let here : Front rest lead name command args = front_is lead name command _ _ b.named b.bytes in rw here.gives (rw b.listed none)
+
+-- a lead alone has given nothing
+pub given_lead : (lead : Lead) → given (lead_byte lead ∷ []) ≡ []
+unfolding given
+given_lead Esc = refl
+given_lead Gs = refl
+given_lead Fs = refl
+given_lead Dle = refl
+
+-- the table has no command of these two bytes
+pub unnamed : (lead : Lead) (c : ℕ) (new : EscReader) → command_of lead c ≡ None → new.phase ≡ Stopped (Unknown (lead_byte lead) c)
+    → Advances (Err (Unknown (lead_byte lead) c)) (lead_byte lead ∷ []) c new
+unfolding is_open fault_in
+unnamed Esc c new e p = let f : fault_in (27 ∷ c ∷ []) ≡ Some (Unknown 27 c) = rw e refl in record { gives = f; stands = rw e (rw p f) }
+unnamed Gs c new e p = let f : fault_in (29 ∷ c ∷ []) ≡ Some (Unknown 29 c) = rw e refl in record { gives = f; stands = rw e (rw p f) }
+unnamed Fs c new e p = let f : fault_in (28 ∷ c ∷ []) ≡ Some (Unknown 28 c) = rw e refl in record { gives = f; stands = rw e (rw p f) }
+unnamed Dle c new e p = let f : fault_in (16 ∷ c ∷ []) ≡ Some (Unknown 16 c) = rw e refl in record { gives = f; stands = rw e (rw p f) }
+
+by_bool : (l n : Bool) (x : Fault) → cond l n true ≡ false → cond l None (Some x) ≡ None
+by_bool true n x e = refl
+by_bool false n x e = cc
+
+closed_named : (o : Option Command) (b c : ℕ) (args : List ℕ) → is_open_named o args ≡ false
+    → cond (is_listed_name o args) None (Some (Unknown b c)) ≡ None
+closed_named None b c args e = cc
+closed_named (Some k) b c args e = by_bool (is_listed k args) (needs_more k args) (Unknown b c) e
+
+closed_after : (o : Option Lead) (b : ℕ) (bytes : List ℕ) → is_open_after o bytes ≡ false → fault_after o b bytes ≡ None
+closed_after None b bytes e = refl
+closed_after (Some lead) b [] e = refl
+closed_after (Some lead) b (c ∷ args) e = closed_named (command_of lead c) b c args e
+
+-- a whole unit has no fault
+pub closed_sound : (front : List ℕ) → is_open front ≡ false → fault_in front ≡ None
+unfolding is_open fault_in
+closed_sound [] e = refl
+closed_sound (b ∷ bytes) e = closed_after (lead_of b) b bytes e
+
+-- A front with a fault keeps it, and stays open.
+stuck_named : (o : Option Command) (b c : ℕ) (args : List ℕ) (d : ℕ) (f : Fault)
+    → cond (is_listed_name o args) None (Some (Unknown b c)) ≡ Some f
+    → (is_open_named o (args ++ d ∷ []) ≡ true) × (cond (is_listed_name o (args ++ d ∷ [])) None (Some (Unknown b c)) ≡ Some f)
+stuck_named None b c args d f e = (refl, e)
+stuck_named (Some k) b c [] d f e = cc
+stuck_named (Some k) b c (a ∷ args) d f e = stuck_by _ _ _ _ e
+  where
+    stuck_by : (l n : Bool) (x f : Fault) → cond l None (Some x) ≡ Some f → (cond l n true ≡ true) × (cond l None (Some x) ≡ Some f)
+    stuck_by true n x f e = cc
+    stuck_by false n x f e = (refl, e)
+
+stuck_after : (o : Option Lead) (b : ℕ) (bytes : List ℕ) (d : ℕ) (f : Fault) → fault_after o b bytes ≡ Some f
+    → (is_open_after o (bytes ++ d ∷ []) ≡ true) × (fault_after o b (bytes ++ d ∷ []) ≡ Some f)
+stuck_after None b bytes d f e = cc
+stuck_after (Some lead) b [] d f e = cc
+stuck_after (Some lead) b (c ∷ args) d f e = stuck_named (command_of lead c) b c args d f e
+
+pub stuck : (front : List ℕ) (d : ℕ) (f : Fault) → fault_in front ≡ Some f
+    → (is_open (front ++ d ∷ []) ≡ true) × (fault_in (front ++ d ∷ []) ≡ Some f)
+unfolding is_open fault_in
+stuck [] d f e = cc
+stuck (b ∷ bytes) d f e = stuck_after (lead_of b) b bytes d f e
+
+-- a reader that has stopped
+pub stopped : (rest : List ℕ) (c : ℕ) (f : Fault) (new : EscReader) → fault_in rest ≡ Some f → new.phase ≡ Stopped f
+    → Advances (Err f) rest c new
+stopped rest c f new e p =
+    let on : (is_open (rest ++ c ∷ []) ≡ true) × (fault_in (rest ++ c ∷ []) ≡ Some f) = stuck rest c f e in
+    record { gives = on.1; stands = rw (on.0) (rw p (on.1)) }

@@ -1,0 +1,190 @@
+-- What is given stays given.
+use Rattle.std.proofs.Common.{◌≡◌, ℕ, ◌+◌, ◌*◌, ◌≤◌, ◌<◌, Bool, true, false, cond, ltb, eqb, Option, Some, None, List, [], ◌∷◌, ◌++◌, length, refl, sym, ap, ◌∙◌, append_assoc, arith, ⊎_elim}
+use Rattle.std.specs.List.{flat_map}
+use Rattle.std.proofs.lemmas.List.{append-nil, map_push, length_push}
+use Rattle.std.proofs.lemmas.Bool.{cases_lt, cases_Bool}
+use Rattle.std.proofs.lemmas.Bool.Decides.{nat_tests}
+use Rattle.vp_esc.specs.declared.item.EscItem.{EscItem}
+use Rattle.vp_esc.specs.declared.item.EscItem.TheVariants as items
+use Rattle.vp_esc.specs.declared.item.Lead.{Lead}
+use Rattle.vp_esc.specs.declared.item.RasterScale.{RasterScale}
+use Rattle.vp_esc.specs.declared.item.ColumnMode.{ColumnMode}
+use Rattle.vp_esc.specs.declared.item.ColumnMode.TheVariants.{Single8, Double8, Single24, Double24}
+use Rattle.vp_esc.specs.declared.item.QrModel.{QrModel}
+use Rattle.vp_esc.specs.declared.command.Command.{Command}
+use Rattle.vp_esc.specs.declared.command.Command.TheVariants.{Plain, TabStops, Columns, Raster, Symbol, Function, Graphics}
+use Rattle.vp_esc.specs.Values.{scale_of, column_mode_of, qr_model_of}
+use Rattle.vp_esc.specs.Command.{lead_of, command_of, head_len, plain_len, is_listed}
+use Rattle.vp_esc.specs.Qr.{qr_items, value_items, model_items, is_qr_function}
+use Rattle.vp_esc.specs.Units.{is_open, given, needs_more, given_by, given_behind, is_open_named, is_open_after, given_named, given_after, raster_bytes, columns, tall_columns, at_last}
+use Rattle.vp_esc.specs.Split.{split, items as items_of}
+use Rattle.vp_esc.specs.Laws.{IsPrefix, Splits}
+use Rattle.vp_esc.proofs.Splits.{items-push, items-is}
+use Rattle.vp_esc.proofs.Divisions.{splits}
+use Rattle.vp_esc.proofs.Heads.{given_is, heads, IsHead, head_first}
+
+from_nil : (xs ys : List EscItem) → xs ≡ [] → IsPrefix xs ys
+from_nil xs ys e = (ys, rw e refl)
+
+unchanged : (xs ys : List EscItem) → ys ≡ xs → IsPrefix xs ys
+unchanged xs ys e = ([], e ∙ sym (append-nil xs))
+
+behind_one : (x : EscItem) (xs ys : List EscItem) → IsPrefix xs ys → IsPrefix (x ∷ xs) (x ∷ ys)
+behind_one x xs ys p = (p.0, ap (λ z. x ∷ z) p.1)
+
+-- Rasters and columns.
+
+raster_grows : (scale : Option RasterScale) (bytes : List ℕ) (c : ℕ) → IsPrefix (raster_bytes scale bytes) (raster_bytes scale (bytes ++ c ∷ []))
+raster_grows None bytes c = unchanged _ _ refl
+raster_grows (Some scale) bytes c = (items.RasterByte c ∷ [], map_push (λ b. items.RasterByte b) bytes c)
+
+tall_grows : (bytes : List ℕ) (c : ℕ) → IsPrefix (tall_columns bytes) (tall_columns (bytes ++ c ∷ []))
+tall_grows [] c = from_nil _ _ refl
+tall_grows (x ∷ []) c = from_nil _ _ refl
+tall_grows (x ∷ y ∷ []) c = from_nil _ _ refl
+tall_grows (x ∷ y ∷ z ∷ bytes) c = behind_one _ _ _ (tall_grows bytes c)
+
+columns_grow : (mode : ColumnMode) (bytes : List ℕ) (c : ℕ) → IsPrefix (columns mode bytes) (columns mode (bytes ++ c ∷ []))
+columns_grow Single8 bytes c = (items.Column8 c ∷ [], map_push (λ b. items.Column8 b) bytes c)
+columns_grow Double8 bytes c = (items.Column8 c ∷ [], map_push (λ b. items.Column8 b) bytes c)
+columns_grow Single24 bytes c = tall_grows bytes c
+columns_grow Double24 bytes c = tall_grows bytes c
+
+-- GS ( k.
+
+either_grows : (b : Bool) (xs xs' ys : List EscItem) → IsPrefix xs xs' → IsPrefix (cond b xs ys) (cond b xs' ys)
+either_grows true xs xs' ys p = p
+either_grows false xs xs' ys p = unchanged _ _ refl
+
+other_grows : (b : Bool) (xs ys ys' : List EscItem) → IsPrefix ys ys' → IsPrefix (cond b xs ys) (cond b xs ys')
+other_grows true xs ys ys' p = unchanged _ _ refl
+other_grows false xs ys ys' p = p
+
+model_grows : (count cn n : ℕ) (model : Option QrModel) (more : List ℕ) (c : ℕ) → IsPrefix (model_items count cn n model more) (model_items count cn n model (more ++ c ∷ []))
+model_grows count cn n None more c = unchanged _ _ refl
+model_grows count cn n (Some model) [] c = from_nil _ _ refl
+model_grows count cn n (Some model) (z ∷ more) c = unchanged _ _ refl
+
+value_grows : (count cn function n : ℕ) (more : List ℕ) (c : ℕ) → IsPrefix (value_items count cn function n more) (value_items count cn function n (more ++ c ∷ []))
+unfolding value_items
+value_grows count cn function n more c = ⊎_elim
+    (λ (e : eqb function 65 ≡ true). rw e (model_grows count cn n (qr_model_of n) more c))
+    (λ (e : eqb function 65 ≡ false). rw e
+    (other_grows (eqb function 67) _ _ _ (other_grows (eqb function 69) _ _ _
+    (either_grows (eqb function 80) _ _ _ (either_grows (eqb n 48) _ _ _
+    (behind_one _ _ _ (items.QrByte c ∷ [], map_push (λ b. items.QrByte b) more c)))))))
+    (cases_Bool (eqb function 65))
+
+named_grows : (b : Bool) (xs : List EscItem) (x : EscItem) → IsPrefix (cond b [] (x ∷ [])) (cond b xs (x ∷ []))
+named_grows true xs x = from_nil _ _ refl
+named_grows false xs x = unchanged _ _ refl
+
+qr_grows : (count : ℕ) (values : List ℕ) (c : ℕ) → length values < count → IsPrefix (qr_items count values) (qr_items count (values ++ c ∷ []))
+unfolding qr_items
+qr_grows count [] c h = let z : eqb count 0 ≡ false = grind (arith, nat_tests) in from_nil _ _ (rw z refl)
+qr_grows count (cn ∷ []) c h = let z : eqb count 1 ≡ false = grind (arith, nat_tests) in from_nil _ _ (rw z refl)
+qr_grows count (cn ∷ function ∷ []) c h = named_grows (is_qr_function cn function count) _ _
+qr_grows count (cn ∷ function ∷ n ∷ more) c h = either_grows (is_qr_function cn function count) _ _ _ (value_grows count cn function n more c)
+
+-- Behind the head.
+
+last_grows : (n : Bool) (x : EscItem) (ys : List EscItem) → n ≡ true → IsPrefix (at_last n x) ys
+last_grows n x ys e = from_nil _ _ (rw e refl)
+
+behind_grows : (lead : Lead) (name : ℕ) (k : Command) (args : List ℕ) (c : ℕ) → head_len k args ≤ length args → needs_more k args ≡ true
+    → IsPrefix (given_behind lead name k args) (given_behind lead name k (args ++ c ∷ []))
+unfolding given_behind needs_more
+behind_grows lead name (Plain p) args c h n = absurd (let l : length args < head_len (Plain p) args + 0 = grind (arith, nat_tests) in omega arith)
+behind_grows lead name TabStops args c h n = last_grows _ _ _ n
+behind_grows lead name Columns [] c h n = absurd (omega arith)
+behind_grows lead name Columns (a ∷ []) c h n = absurd (omega arith)
+behind_grows lead name Columns (a ∷ b ∷ []) c h n = absurd (omega arith)
+behind_grows lead name Columns (a ∷ b ∷ d ∷ args) c h n = behind_one _ _ _ (columns_grow (column_mode_of a) args c)
+behind_grows lead name Raster [] c h n = absurd (omega arith)
+behind_grows lead name Raster (a ∷ []) c h n = absurd (omega arith)
+behind_grows lead name Raster (a ∷ b ∷ []) c h n = absurd (omega arith)
+behind_grows lead name Raster (a ∷ b ∷ d ∷ []) c h n = absurd (omega arith)
+behind_grows lead name Raster (a ∷ b ∷ d ∷ e ∷ []) c h n = absurd (omega arith)
+behind_grows lead name Raster (a ∷ b ∷ d ∷ e ∷ f ∷ []) c h n = absurd (omega arith)
+behind_grows lead name Raster (a ∷ b ∷ d ∷ e ∷ f ∷ g ∷ args) c h n = behind_one _ _ _ (raster_grows (scale_of b) args c)
+behind_grows lead name Symbol args c h n = last_grows _ _ _ n
+behind_grows lead name Function [] c h n = absurd (omega arith)
+behind_grows lead name Function (a ∷ []) c h n = absurd (omega arith)
+behind_grows lead name Function (a ∷ b ∷ []) c h n = absurd (omega arith)
+behind_grows lead name Function (a ∷ b ∷ d ∷ args) c h n =
+    let l : length args < b + 256 * d = grind (arith, nat_tests) in either_grows (eqb a 107) _ _ _ (qr_grows (b + 256 * d) args c l)
+behind_grows lead name Graphics [] c h n = absurd (omega arith)
+behind_grows lead name Graphics (a ∷ []) c h n = absurd (omega arith)
+behind_grows lead name Graphics (a ∷ b ∷ []) c h n = absurd (omega arith)
+behind_grows lead name Graphics (a ∷ b ∷ d ∷ []) c h n = absurd (omega arith)
+behind_grows lead name Graphics (a ∷ b ∷ d ∷ e ∷ []) c h n = absurd (omega arith)
+behind_grows lead name Graphics (a ∷ b ∷ d ∷ e ∷ f ∷ args) c h n = unchanged _ _ refl
+
+head_stays : (k : Command) (args : List ℕ) (c : ℕ) → head_len k args ≤ length args → 0 < length args → head_len k (args ++ c ∷ []) ≤ length (args ++ c ∷ [])
+head_stays k [] c h l = absurd (omega arith)
+head_stays k (a ∷ args) c h l =
+    let s : head_len k (a ∷ args ++ c ∷ []) ≤ length (a ∷ args) = rw (head_first k a (args ++ c ∷ []) args) h in
+    omega (arith, length_push args c)
+
+given_none : (lead : Lead) (name : ℕ) (k : Command) → needs_more k [] ≡ true → given_by lead name k [] ≡ []
+unfolding needs_more given_by given_behind
+given_none lead name (Plain p) n = let m : ltb 0 (plain_len p []) ≡ true = grind (arith, nat_tests) in rw m refl
+given_none lead name TabStops n = refl
+given_none lead name Columns n = refl
+given_none lead name Raster n = refl
+given_none lead name Symbol n = refl
+given_none lead name Function n = refl
+given_none lead name Graphics n = refl
+
+by_command : (lead : Lead) (name : ℕ) (k : Command) (args : List ℕ) (c : ℕ) → needs_more k args ≡ true
+    → IsPrefix (given_by lead name k args) (given_by lead name k (args ++ c ∷ []))
+by_command lead name k [] c n = from_nil _ _ (given_none lead name k n)
+by_command lead name k (a ∷ args) c n = ⊎_elim
+    (λ (h : length (a ∷ args) < head_len k (a ∷ args)). let i : IsHead lead name k (a ∷ args) = heads lead name k (a ∷ args) h in from_nil _ _ i.gives)
+    (λ (h : head_len k (a ∷ args) ≤ length (a ∷ args)).
+    let s : head_len k (a ∷ args ++ c ∷ []) ≤ length (a ∷ args ++ c ∷ []) = head_stays k (a ∷ args) c h (omega arith) in
+    rw (given_is lead name k (a ∷ args) h, given_is lead name k (a ∷ args ++ c ∷ []) s) (behind_grows lead name k (a ∷ args) c h n))
+    (cases_lt (length (a ∷ args)) (head_len k (a ∷ args)))
+
+by_listed : (l m n : Bool) (xs ys : List EscItem) → (l ≡ true → m ≡ true → n ≡ true → IsPrefix xs ys) → cond l n true ≡ true
+    → (l ≡ false → m ≡ false) → (l ≡ true → m ≡ false → xs ≡ []) → IsPrefix (cond l xs []) (cond m ys [])
+by_listed true true n xs ys p o q z = p refl refl o
+by_listed true false n xs ys p o q z = from_nil xs [] (z refl refl)
+by_listed false m n xs ys p o q z = from_nil [] (cond m ys []) refl
+
+by_named : (lead : Lead) (name : ℕ) (o : Option Command) (args : List ℕ) (c : ℕ) → is_open_named o args ≡ true
+    → IsPrefix (given_named lead name o args) (given_named lead name o (args ++ c ∷ []))
+by_named lead name None args c e = ([], refl)
+by_named lead name (Some k) [] c e =
+    by_listed true (is_listed k (c ∷ [])) (needs_more k []) _ _ (λ _ _ n. by_command lead name k [] c n) e (λ f. cc) (λ _ _. given_none lead name k e)
+by_named lead name (Some k) (a ∷ args) c e =
+    by_listed (is_listed k (a ∷ args)) (is_listed k (a ∷ args)) (needs_more k (a ∷ args)) _ _ (λ _ _ n. by_command lead name k (a ∷ args) c n) e (λ f. f) (λ f g. cc)
+
+by_after : (o : Option Lead) (b : ℕ) (bytes : List ℕ) (c : ℕ) → is_open_after o bytes ≡ true → IsPrefix (given_after o b bytes) (given_after o b (bytes ++ c ∷ []))
+by_after None b bytes c e = cc
+by_after (Some lead) b [] c e = from_nil _ _ refl
+by_after (Some lead) b (n ∷ args) c e = by_named lead n (command_of lead n) args c e
+
+given_grows : (front : List ℕ) (c : ℕ) → is_open front ≡ true → IsPrefix (given front) (given (front ++ c ∷ []))
+unfolding is_open given
+given_grows [] c e = from_nil _ _ refl
+given_grows (b ∷ bytes) c e = by_after (lead_of b) b bytes c e
+
+behind : (us xs ys : List EscItem) → IsPrefix xs ys → IsPrefix (us ++ xs) (us ++ ys)
+behind us xs ys p = (p.0, ap (λ z. us ++ z) p.1 ∙ sym (append_assoc us xs p.0))
+
+prefix_trans : (xs ys zs : List EscItem) → IsPrefix xs ys → IsPrefix ys zs → IsPrefix xs zs
+prefix_trans xs ys zs p q = (p.0 ++ q.0, q.1 ∙ ap (λ z. z ++ q.0) p.1 ∙ append_assoc xs p.0 q.0)
+
+items_grow : (bytes : List ℕ) (c : ℕ) → IsPrefix (items_of bytes) (items_of (bytes ++ c ∷ []))
+items_grow bytes c =
+    let s : Splits bytes (split bytes).units (split bytes).rest = splits bytes in
+    let p : IsPrefix (flat_map given (split bytes).units ++ given (split bytes).rest) (flat_map given (split bytes).units ++ given ((split bytes).rest ++ c ∷ [])) =
+    behind _ _ _ (given_grows (split bytes).rest c s.end.opens) in
+    (p.0, items-push bytes c ∙ p.1 ∙ ap (λ z. z ++ p.0) (sym (items-is bytes)))
+
+pub only_more_lem : (bytes more : List ℕ) → IsPrefix (items_of bytes) (items_of (bytes ++ more))
+only_more_lem bytes [] = ([], ap items_of (append-nil bytes) ∙ sym (append-nil (items_of bytes)))
+only_more_lem bytes (c ∷ more) =
+    let p : IsPrefix (items_of (bytes ++ c ∷ [])) (items_of ((bytes ++ c ∷ []) ++ more)) = only_more_lem (bytes ++ c ∷ []) more in
+    prefix_trans _ _ _ (items_grow bytes c) (rw append_assoc at p)

@@ -1,0 +1,228 @@
+-- The head of a command, and the data that it counts.
+use Rattle.std.proofs.Common.{◌≡◌, ℕ, ◌+◌, ◌-◌, ◌<◌, ◌≤◌, Bool, true, false, cond, not, ltb, List, [], ◌∷◌, ◌++◌, length, get_or, refl, ◌∙◌, arith}
+use Rattle.std.proofs.lemmas.Bool.Decides.{nat_tests}
+use Rattle.std.proofs.lemmas.List.{length_push}
+use Rattle.vp_esc.specs.declared.item.Lead.{Lead}
+use Rattle.vp_esc.specs.declared.command.Command.{Command}
+use Rattle.vp_esc.specs.declared.command.Command.TheVariants.{Plain, TabStops, Columns, Raster, Symbol, Function, Graphics}
+use Rattle.vp_esc.specs.declared.command.Plain.{Plain as PlainCommand}
+use Rattle.vp_esc.specs.declared.command.Plain.TheVariants.{Alone, OfByte, OfWord, Area, Cut, Sensor, RealTime, Unused}
+use Rattle.vp_esc.specs.declared.command.Arguments.TheVariants as arguments
+use Rattle.vp_esc.specs.Values.{is_kind_to_zero, is_feed_cut}
+use Rattle.vp_esc.specs.Command.{head_len, plain_len, is_listed, has_second}
+use Rattle.vp_esc.specs.Units.{needs_more, is_counted, is_short, data_len, given_by, given_behind}
+use Rattle.vp_esc.specs.Reader.{HasLeft}
+
+-- one or two arguments
+one_or_two : (b : Bool) → (1 ≤ cond b 2 1) × (cond b 2 1 ≤ 8)
+one_or_two true = (omega arith, omega arith)
+one_or_two false = (omega arith, omega arith)
+
+plain_small : (p : PlainCommand) (args : List ℕ) → plain_len p args ≤ 8
+plain_small (Alone a) args = omega arith
+plain_small (OfByte a) args = omega arith
+plain_small (OfWord a) args = omega arith
+plain_small Area args = omega arith
+plain_small Cut args = (one_or_two (is_feed_cut (get_or args 0 0))).1
+plain_small Sensor args = omega arith
+plain_small RealTime args = (one_or_two (has_second (get_or args 0 0))).1
+plain_small (Unused arguments.None) args = omega arith
+plain_small (Unused arguments.One) args = omega arith
+plain_small (Unused arguments.Two) args = omega arith
+plain_small (Unused arguments.Three) args = omega arith
+
+one_to_eight : (b : Bool) → cond b 1 2 ≤ 8
+one_to_eight true = omega arith
+one_to_eight false = omega arith
+
+pub head_small : (k : Command) (args : List ℕ) → head_len k args ≤ 8
+head_small (Plain p) args = plain_small p args
+head_small TabStops args = omega arith
+head_small Columns args = omega arith
+head_small Raster args = omega arith
+head_small Symbol args = one_to_eight (is_kind_to_zero (get_or args 0 0))
+head_small Function args = omega arith
+head_small Graphics args = omega arith
+
+-- the head is known by the first argument
+plain_first : (p : PlainCommand) (f : ℕ) (xs ys : List ℕ) → plain_len p (f ∷ xs) ≡ plain_len p (f ∷ ys)
+plain_first (Alone a) f xs ys = refl
+plain_first (OfByte a) f xs ys = refl
+plain_first (OfWord a) f xs ys = refl
+plain_first Area f xs ys = refl
+plain_first Cut f xs ys = refl
+plain_first Sensor f xs ys = refl
+plain_first RealTime f xs ys = refl
+plain_first (Unused n) f xs ys = refl
+
+pub head_first : (k : Command) (f : ℕ) (xs ys : List ℕ) → head_len k (f ∷ xs) ≡ head_len k (f ∷ ys)
+head_first (Plain p) f xs ys = plain_first p f xs ys
+head_first TabStops f xs ys = refl
+head_first Columns f xs ys = refl
+head_first Raster f xs ys = refl
+head_first Symbol f xs ys = refl
+head_first Function f xs ys = refl
+head_first Graphics f xs ys = refl
+
+plain_begins : (p : PlainCommand) (c : ℕ) → 0 < plain_len p [] → 1 ≤ plain_len p (c ∷ [])
+plain_begins (Alone a) c h = absurd (omega arith)
+plain_begins (OfByte a) c h = omega arith
+plain_begins (OfWord a) c h = omega arith
+plain_begins Area c h = omega arith
+plain_begins Cut c h = (one_or_two (is_feed_cut c)).0
+plain_begins Sensor c h = omega arith
+plain_begins RealTime c h = (one_or_two (has_second c)).0
+plain_begins (Unused n) c h = omega arith
+
+symbol_begins : (b : Bool) → 1 ≤ cond b 1 2
+symbol_begins true = omega arith
+symbol_begins false = omega arith
+
+head_begins : (k : Command) (c : ℕ) → 0 < head_len k [] → 1 ≤ head_len k (c ∷ [])
+head_begins (Plain p) c h = plain_begins p c h
+head_begins TabStops c h = absurd (omega arith)
+head_begins Columns c h = omega arith
+head_begins Raster c h = omega arith
+head_begins Symbol c h = symbol_begins (is_kind_to_zero c)
+head_begins Function c h = omega arith
+head_begins Graphics c h = omega arith
+
+-- one more argument is still in the head
+pub head_push : (k : Command) (args : List ℕ) (c : ℕ) → length args < head_len k args → length args + 1 ≤ head_len k (args ++ c ∷ [])
+head_push k [] c h = head_begins k c h
+head_push k (a ∷ args) c h = rw (head_first k a (args ++ c ∷ []) args) (omega arith)
+
+-- Behind the head, what it says stays.
+pub record IsSame (k : Command) (front more : List ℕ) : Type 0 where
+  pub head : head_len k (front ++ more) ≡ head_len k front
+  pub count : data_len k (front ++ more) ≡ data_len k front
+  pub counted : is_counted k (front ++ more) ≡ true
+
+plain_same : (p : PlainCommand) (front more : List ℕ) → plain_len p front ≤ length front → plain_len p (front ++ more) ≡ plain_len p front
+plain_same (Alone a) front more h = refl
+plain_same (OfByte a) front more h = refl
+plain_same (OfWord a) front more h = refl
+plain_same Area front more h = refl
+plain_same Cut [] more h = absurd (omega arith)
+plain_same Cut (f ∷ front) more h = refl
+plain_same Sensor front more h = refl
+plain_same RealTime [] more h = absurd (omega arith)
+plain_same RealTime (f ∷ front) more h = refl
+plain_same (Unused n) front more h = refl
+
+symbol_too_short : (b : Bool) → not b ≡ true → cond b 1 2 ≤ 1 → ⊥
+symbol_too_short true e h = cc
+symbol_too_short false e h = omega arith
+
+pub same : (k : Command) (front more : List ℕ) → is_counted k front ≡ true → head_len k front ≤ length front → IsSame k front more
+same (Plain p) front more e h = record { head = plain_same p front more h; count = refl; counted = refl }
+same TabStops front more e h = cc
+same Columns [] more e h = absurd (omega arith)
+same Columns (a ∷ []) more e h = absurd (omega arith)
+same Columns (a ∷ b ∷ []) more e h = absurd (omega arith)
+same Columns (a ∷ b ∷ c ∷ front) more e h = record { head = refl; count = refl; counted = refl }
+same Raster [] more e h = absurd (omega arith)
+same Raster (a ∷ []) more e h = absurd (omega arith)
+same Raster (a ∷ b ∷ []) more e h = absurd (omega arith)
+same Raster (a ∷ b ∷ c ∷ []) more e h = absurd (omega arith)
+same Raster (a ∷ b ∷ c ∷ d ∷ []) more e h = absurd (omega arith)
+same Raster (a ∷ b ∷ c ∷ d ∷ x ∷ []) more e h = absurd (omega arith)
+same Raster (a ∷ b ∷ c ∷ d ∷ x ∷ y ∷ front) more e h = record { head = refl; count = refl; counted = refl }
+same Symbol [] more e h = cc
+same Symbol (a ∷ []) more e h = absurd (symbol_too_short (is_kind_to_zero a) e h)
+same Symbol (a ∷ b ∷ front) more e h = record { head = refl; count = refl; counted = e }
+same Function [] more e h = absurd (omega arith)
+same Function (a ∷ []) more e h = absurd (omega arith)
+same Function (a ∷ b ∷ []) more e h = absurd (omega arith)
+same Function (a ∷ b ∷ c ∷ front) more e h = record { head = refl; count = refl; counted = refl }
+same Graphics [] more e h = absurd (omega arith)
+same Graphics (a ∷ []) more e h = absurd (omega arith)
+same Graphics (a ∷ b ∷ []) more e h = absurd (omega arith)
+same Graphics (a ∷ b ∷ c ∷ []) more e h = absurd (omega arith)
+same Graphics (a ∷ b ∷ c ∷ d ∷ []) more e h = absurd (omega arith)
+same Graphics (a ∷ b ∷ c ∷ d ∷ x ∷ front) more e h = record { head = refl; count = refl; counted = refl }
+
+symbol_counted : (b n s : Bool) → not b ≡ true → cond b n s ≡ s
+symbol_counted true n s e = cc
+symbol_counted false n s e = refl
+
+pub needs_counted : (k : Command) (args : List ℕ) → is_counted k args ≡ true → needs_more k args ≡ is_short k args
+unfolding needs_more
+needs_counted (Plain p) args e = refl
+needs_counted TabStops args e = cc
+needs_counted Columns args e = refl
+needs_counted Raster args e = refl
+needs_counted Symbol args e = symbol_counted (is_kind_to_zero (get_or args 0 0)) _ _ e
+needs_counted Function args e = refl
+needs_counted Graphics args e = refl
+
+-- Among the arguments before any data, more are needed, and nothing is given.
+pub record IsHead (lead : Lead) (name : ℕ) (k : Command) (args : List ℕ) : Type 0 where
+  pub needs : needs_more k args ≡ true
+  pub gives : given_by lead name k args ≡ []
+
+symbol_needs : (b n s : Bool) (len : ℕ) → 1 ≤ len → len < cond b 1 2 → (len < 2 → s ≡ true) → cond b n s ≡ true
+symbol_needs true n s len one h f = absurd (omega arith)
+symbol_needs false n s len one h f = f h
+
+needs_in_head : (k : Command) (args : List ℕ) → length args < head_len k args → needs_more k args ≡ true
+unfolding needs_more
+needs_in_head (Plain p) args h = grind (arith, nat_tests)
+needs_in_head TabStops args h = absurd (omega arith)
+needs_in_head Columns args h = grind (arith, nat_tests)
+needs_in_head Raster args h = grind (arith, nat_tests)
+needs_in_head Symbol [] h = refl
+needs_in_head Symbol (a ∷ args) h =
+    symbol_needs (is_kind_to_zero a) _ _ (length (a ∷ args)) (omega arith) h (λ l. grind (arith, nat_tests))
+needs_in_head Function args h = grind (arith, nat_tests)
+needs_in_head Graphics args h = grind (arith, nat_tests)
+
+pub heads : (lead : Lead) (name : ℕ) (k : Command) (args : List ℕ) → length args < head_len k args → IsHead lead name k args
+unfolding given_by
+heads lead name k args h =
+    let m : ltb (length args) (head_len k args) ≡ true = grind (arith, nat_tests) in
+    record { needs = needs_in_head k args h; gives = rw m refl }
+
+-- behind the head
+pub given_is : (lead : Lead) (name : ℕ) (k : Command) (args : List ℕ) → head_len k args ≤ length args
+    → given_by lead name k args ≡ given_behind lead name k args
+unfolding given_by
+given_is lead name k args h = let m : ltb (length args) (head_len k args) ≡ false = grind (arith, nat_tests) in rw m refl
+
+-- One more byte of counted data.
+pub record IsPushed (k : Command) (args : List ℕ) (left c : ℕ) : Type 0 where
+  pub listed : is_listed k (args ++ c ∷ []) ≡ true
+  pub counted : is_counted k (args ++ c ∷ []) ≡ true
+  pub needs : needs_more k (args ++ c ∷ []) ≡ ltb 1 left
+  pub left_is : 1 < left → HasLeft k (args ++ c ∷ []) (left - 1)
+
+pub listed_more : (k : Command) (args : List ℕ) (c : ℕ) → 0 < length args → is_listed k args ≡ true → is_listed k (args ++ c ∷ []) ≡ true
+listed_more k [] c h l = absurd (omega arith)
+listed_more k (a ∷ args) c h l = l
+
+-- there are data behind the head, which isn't empty
+left_some : (k : Command) (args : List ℕ) (left : ℕ) → is_counted k args ≡ true → HasLeft k args left → 0 < length args
+left_some (Plain p) args left e h = absurd (omega (arith, h.head, h.some_left, h.count))
+left_some TabStops args left e h = cc
+left_some Columns args left e h = omega (arith, h.head)
+left_some Raster args left e h = omega (arith, h.head)
+left_some Symbol [] left e h = cc
+left_some Symbol (a ∷ args) left e h = omega arith
+left_some Function args left e h = omega (arith, h.head)
+left_some Graphics args left e h = omega (arith, h.head)
+
+pub pushed : (k : Command) (args : List ℕ) (left c : ℕ) → is_listed k args ≡ true → is_counted k args ≡ true → HasLeft k args left
+    → IsPushed k args left c
+pushed k args left c l e h =
+    let s : IsSame k args (c ∷ []) = same k args (c ∷ []) e h.head in
+    let len : length (args ++ c ∷ []) ≡ length args + 1 = length_push args c in
+    record {
+      listed = listed_more k args c (left_some k args left e h) l;
+      counted = s.counted;
+      needs = needs_counted k (args ++ c ∷ []) s.counted ∙ rw (s.head, s.count, len) (grind (arith, nat_tests, h.count, h.some_left));
+      left_is = λ some. record {
+        head = rw (s.head, len) (omega (arith, h.head));
+        some_left = omega arith;
+        count = rw (s.head, s.count, len) (omega (arith, h.count));
+      };
+    }

@@ -1,0 +1,16 @@
+pub mod Fronts
+pub mod Splits
+pub mod Divisions
+pub mod Heads
+pub mod Phases
+pub mod Bytes
+pub mod Columns
+pub mod Stops
+pub mod Symbols
+pub mod QrData
+pub mod Rests
+pub mod Growth
+pub mod Rows
+pub mod Ends
+pub mod OnlyRows
+pub mod Runs

@@ -1,0 +1,321 @@
+-- A unit is a row of the table.
+use Rattle.std.proofs.Common.{◌≡◌, ℕ, ◌≤◌, ◌<◌, ◌+◌, Bool, true, false, ◌&&◌, ◌||◌, cond, not, ltb, eqb, Option, None, Some, List, [], ◌∷◌, ◌++◌, length, refl, sym, ap, ◌∙◌, arith, ⊎_elim, inl, inr}
+use Rattle.std.specs.List.{list_any}
+use Rattle.std.proofs.lemmas.List.{length_push}
+use Rattle.std.proofs.lemmas.Bool.{cases_lt, cases_Bool}
+use Rattle.std.proofs.lemmas.Bool.Decides.{nat_tests}
+use Rattle.vp_esc.specs.declared.item.Lead.{Lead}
+use Rattle.vp_esc.specs.declared.command.Command.{Command}
+use Rattle.vp_esc.specs.declared.command.Command.TheVariants.{Plain, TabStops, Columns, Raster, Symbol, Function, Graphics}
+use Rattle.vp_esc.specs.declared.command.Plain.{Plain as PlainCommand}
+use Rattle.vp_esc.specs.declared.command.Plain.TheVariants.{Alone, OfByte, OfWord, Area, Cut, Sensor, RealTime, Unused}
+use Rattle.vp_esc.specs.Values.{is_kind_to_zero, is_kind_counted, is_cut, is_feed_cut}
+use Rattle.vp_esc.specs.Command.{lead_of, command_of, head_len, is_listed, has_second}
+use Rattle.vp_esc.specs.Units.{is_open, needs_more, is_counted, is_short, data_len, rises_from}
+use Rattle.vp_esc.specs.Reader.{last_or}
+use Rattle.vp_esc.specs.Laws.{IsUnit}
+use Rattle.vp_esc.specs.Table.{IsPlain, IsArea, IsColumns, IsRaster, IsFunction, IsGraphics, IsStops, IsToZero, IsCountedSymbol, IsArguments, IsRow}
+use Rattle.vp_esc.proofs.Fronts.{lead_byte-of}
+use Rattle.vp_esc.proofs.Stops.{rises_push}
+use Rattle.vp_esc.proofs.Symbols.{no_zero_push}
+use Rattle.vp_esc.proofs.Heads.{IsSame, same, needs_counted, head_push}
+use Rattle.vp_esc.proofs.Rows.{IsSized, counted_front}
+
+-- the arguments are whole, and no proper front of them is
+record IsWhole (k : Command) (args : List ℕ) : Type 0 where
+  pub listed : is_listed k args ≡ true
+  pub whole : needs_more k args ≡ false
+  pub fronts : (front : List ℕ) (last : ℕ) → args ≡ front ++ last ∷ [] → needs_more k front ≡ true
+
+-- a list is empty, or has a last number
+record HasLast (xs : List ℕ) : Type 0 where
+  pub front : List ℕ
+  pub last : ℕ
+  pub is : xs ≡ front ++ last ∷ []
+
+last_of : (x : ℕ) (xs : List ℕ) → HasLast (x ∷ xs)
+last_of x [] = record { front = []; last = x; is = refl }
+last_of x (y ∷ xs) =
+    let l : HasLast (y ∷ xs) = last_of y xs in record { front = x ∷ l.front; last = l.last; is = ap (λ z. x ∷ z) l.is }
+
+-- Counted data.
+
+sized_last : (k : Command) (front : List ℕ) (x : ℕ) → is_counted k (front ++ x ∷ []) ≡ true → IsWhole k (front ++ x ∷ [])
+    → length (front ++ x ∷ []) ≡ head_len k (front ++ x ∷ []) + data_len k (front ++ x ∷ [])
+sized_last k front x c w =
+    let len : length (front ++ x ∷ []) ≡ length front + 1 = length_push front x in
+    let n : needs_more k front ≡ true = w.fronts front x refl in
+    let d : is_short k (front ++ x ∷ []) ≡ false = sym (needs_counted k (front ++ x ∷ []) c) ∙ w.whole in
+    ⊎_elim
+    (λ (h : length front < head_len k front).
+    let p : length front + 1 ≤ head_len k (front ++ x ∷ []) = head_push k front x h in
+    grind (arith, nat_tests))
+    (λ (h : head_len k front ≤ length front).
+    let f : is_counted k front ≡ true = counted_front k front (x ∷ []) h c in
+    let i : IsSame k front (x ∷ []) = same k front (x ∷ []) f h in
+    let s : is_short k front ≡ true = sym (needs_counted k front f) ∙ n in
+    grind (arith, nat_tests, i.head, i.count))
+    (cases_lt (length front) (head_len k front))
+
+sized_of : (k : Command) (args : List ℕ) → is_counted k args ≡ true → IsWhole k args → IsSized k args
+sized_of k [] c w =
+    let d : is_short k [] ≡ false = sym (needs_counted k [] c) ∙ w.whole in
+    record { listed = w.listed; counted = c; len = grind (arith, nat_tests) }
+sized_of k (a ∷ args) c w =
+    let l : HasLast (a ∷ args) = last_of a args in
+    let e : IsWhole k (l.front ++ l.last ∷ []) = rw l.is at w in
+    let s : length (l.front ++ l.last ∷ []) ≡ head_len k (l.front ++ l.last ∷ []) + data_len k (l.front ++ l.last ∷ []) =
+    sized_last k l.front l.last (rw l.is at c) e in
+    record { listed = w.listed; counted = c; len = rw (← l.is) at s }
+
+-- Each command's row.
+
+both_of : (a b : Bool) → (a || b) ≡ true → b ≡ false → a ≡ true
+both_of true b h e = refl
+both_of false b h e = let f : false ≡ true = rw e at h in cc
+
+nil_of : (xs : List ℕ) → length xs ≡ 0 → xs ≡ []
+nil_of [] h = refl
+nil_of (x ∷ xs) h = absurd (omega arith)
+
+area_row : (args : List ℕ) → length args ≡ 8 → IsArea args
+area_row [] h = absurd (omega arith)
+area_row (a ∷ []) h = absurd (omega arith)
+area_row (a ∷ b ∷ []) h = absurd (omega arith)
+area_row (a ∷ b ∷ c ∷ []) h = absurd (omega arith)
+area_row (a ∷ b ∷ c ∷ d ∷ []) h = absurd (omega arith)
+area_row (a ∷ b ∷ c ∷ d ∷ e ∷ []) h = absurd (omega arith)
+area_row (a ∷ b ∷ c ∷ d ∷ e ∷ f ∷ []) h = absurd (omega arith)
+area_row (a ∷ b ∷ c ∷ d ∷ e ∷ f ∷ g ∷ []) h = absurd (omega arith)
+area_row (a ∷ b ∷ c ∷ d ∷ e ∷ f ∷ g ∷ i ∷ []) h =
+    record { xl = a; xh = b; yl = c; yh = d; dxl = e; dxh = f; dyl = g; dyh = i; bytes = refl }
+area_row (a ∷ b ∷ c ∷ d ∷ e ∷ f ∷ g ∷ i ∷ j ∷ args) h = absurd (omega arith)
+
+cut_row : (args : List ℕ) → IsSized (Plain Cut) args → IsPlain Cut args
+cut_row [] s = absurd (omega (arith, s.len))
+cut_row (m ∷ []) s = ⊎_elim
+    (λ (f : is_feed_cut m ≡ true). absurd (omega (arith, rw f at s.len)))
+    (λ (f : is_feed_cut m ≡ false). inl (record { first = m; bytes = refl; is = both_of (is_cut m) (is_feed_cut m) s.listed f }))
+    (cases_Bool (is_feed_cut m))
+cut_row (m ∷ n ∷ []) s = ⊎_elim
+    (λ (f : is_feed_cut m ≡ true). inr (record { first = m; second = n; bytes = refl; is = f }))
+    (λ (f : is_feed_cut m ≡ false). absurd (omega (arith, rw f at s.len)))
+    (cases_Bool (is_feed_cut m))
+cut_row (m ∷ n ∷ x ∷ args) s = ⊎_elim
+    (λ (f : is_feed_cut m ≡ true). absurd (omega (arith, rw f at s.len)))
+    (λ (f : is_feed_cut m ≡ false). absurd (omega (arith, rw f at s.len)))
+    (cases_Bool (is_feed_cut m))
+
+sensor_row : (args : List ℕ) → IsSized (Plain Sensor) args → IsPlain Sensor args
+sensor_row [] s = absurd (omega (arith, s.len))
+sensor_row (m ∷ []) s = absurd (omega (arith, s.len))
+sensor_row (m ∷ n ∷ []) s =
+    record { first = m; second = n; bytes = refl; is = (grind (arith, nat_tests, s.listed), grind (arith, nat_tests, s.listed)) }
+sensor_row (m ∷ n ∷ x ∷ args) s = absurd (omega (arith, s.len))
+
+real_time_row : (args : List ℕ) → IsSized (Plain RealTime) args → IsPlain RealTime args
+real_time_row [] s = absurd (omega (arith, s.len))
+real_time_row (m ∷ []) s = ⊎_elim
+    (λ (f : has_second m ≡ true). absurd (omega (arith, rw f at s.len)))
+    (λ (f : has_second m ≡ false). inl (record { first = m; bytes = refl; is = f }))
+    (cases_Bool (has_second m))
+real_time_row (m ∷ n ∷ []) s = ⊎_elim
+    (λ (f : has_second m ≡ true). inr (record { first = m; second = n; bytes = refl; is = f }))
+    (λ (f : has_second m ≡ false). absurd (omega (arith, rw f at s.len)))
+    (cases_Bool (has_second m))
+real_time_row (m ∷ n ∷ x ∷ args) s = ⊎_elim
+    (λ (f : has_second m ≡ true). absurd (omega (arith, rw f at s.len)))
+    (λ (f : has_second m ≡ false). absurd (omega (arith, rw f at s.len)))
+    (cases_Bool (has_second m))
+
+plain_row : (p : PlainCommand) (args : List ℕ) → IsSized (Plain p) args → IsPlain p args
+plain_row (Alone a) args s = nil_of args s.len
+plain_row (OfByte a) args s = omega (arith, s.len)
+plain_row (OfWord a) args s = omega (arith, s.len)
+plain_row Area args s = area_row args (omega (arith, s.len))
+plain_row Cut args s = cut_row args s
+plain_row Sensor args s = sensor_row args s
+plain_row RealTime args s = real_time_row args s
+plain_row (Unused n) args s = omega (arith, s.len)
+
+columns_row : (args : List ℕ) → IsSized Columns args → IsColumns args
+columns_row [] s = absurd (omega (arith, s.len))
+columns_row (a ∷ []) s = absurd (omega (arith, s.len))
+columns_row (a ∷ b ∷ []) s = absurd (omega (arith, s.len))
+columns_row (a ∷ b ∷ c ∷ args) s = record { m = a; nl = b; nh = c; columns = args; bytes = refl; is_mode = s.listed; count = omega (arith, s.len) }
+
+raster_row : (args : List ℕ) → IsSized Raster args → IsRaster args
+raster_row [] s = absurd (omega (arith, s.len))
+raster_row (a ∷ []) s = absurd (omega (arith, s.len))
+raster_row (a ∷ b ∷ []) s = absurd (omega (arith, s.len))
+raster_row (a ∷ b ∷ c ∷ []) s = absurd (omega (arith, s.len))
+raster_row (a ∷ b ∷ c ∷ d ∷ []) s = absurd (omega (arith, s.len))
+raster_row (a ∷ b ∷ c ∷ d ∷ e ∷ []) s = absurd (omega (arith, s.len))
+raster_row (a ∷ b ∷ c ∷ d ∷ e ∷ f ∷ args) s =
+    let z : a ≡ 48 = grind (arith, nat_tests, s.listed) in
+    record { m = b; xl = c; xh = d; yl = e; yh = f; dots = args; bytes = ap (λ x. x ∷ b ∷ c ∷ d ∷ e ∷ f ∷ args) z; count = omega (arith, s.len) }
+
+function_row : (args : List ℕ) → IsSized Function args → IsFunction args
+function_row [] s = absurd (omega (arith, s.len))
+function_row (a ∷ []) s = absurd (omega (arith, s.len))
+function_row (a ∷ b ∷ []) s = absurd (omega (arith, s.len))
+function_row (a ∷ b ∷ c ∷ args) s = record { x = a; pl = b; ph = c; parameters = args; bytes = refl; count = omega (arith, s.len) }
+
+graphics_row : (args : List ℕ) → IsSized Graphics args → IsGraphics args
+graphics_row [] s = absurd (omega (arith, s.len))
+graphics_row (a ∷ []) s = absurd (omega (arith, s.len))
+graphics_row (a ∷ b ∷ []) s = absurd (omega (arith, s.len))
+graphics_row (a ∷ b ∷ c ∷ []) s = absurd (omega (arith, s.len))
+graphics_row (a ∷ b ∷ c ∷ d ∷ []) s = absurd (omega (arith, s.len))
+graphics_row (a ∷ b ∷ c ∷ d ∷ e ∷ args) s =
+    let z : a ≡ 76 = grind (arith, nat_tests, s.listed) in
+    record { p1 = b; p2 = c; p3 = d; p4 = e; parameters = args; bytes = ap (λ x. x ∷ b ∷ c ∷ d ∷ e ∷ args) z; count = omega (arith, s.len) }
+
+not_true : (b : Bool) → not b ≡ true → b ≡ false
+not_true true e = cc
+not_true false e = refl
+
+not_false : (b : Bool) → not b ≡ false → b ≡ true
+not_false true e = refl
+not_false false e = cc
+
+other_of : (a b : Bool) → (a || b) ≡ true → a ≡ false → b ≡ true
+other_of true b h e = cc
+other_of false b h e = h
+
+counted_row : (args : List ℕ) → IsSized Symbol args → IsCountedSymbol args
+counted_row [] s = let c : false ≡ true = s.counted in cc
+counted_row (m ∷ []) s =
+    let z : is_kind_to_zero m ≡ false = not_true (is_kind_to_zero m) s.counted in absurd (omega (arith, rw z at s.len))
+counted_row (m ∷ n ∷ args) s =
+    let z : is_kind_to_zero m ≡ false = not_true (is_kind_to_zero m) s.counted in
+    let l : length args ≡ n = omega (arith, rw z at s.len) in
+    record {
+      kind = m;
+      codes = args;
+      bytes = ap (λ x. m ∷ x ∷ args) (sym l);
+      not_to_zero = z;
+      is_kind = other_of (is_kind_to_zero m) (is_kind_counted m) s.listed z;
+    }
+
+-- Data whose end a byte tells.
+
+stops_row : (args : List ℕ) → IsWhole TabStops args → IsStops args
+unfolding needs_more
+stops_row [] w = let d : true ≡ false = w.whole in cc
+stops_row (a ∷ args) w =
+    let l : HasLast (a ∷ args) = last_of a args in
+    let n : (rises_from 0 l.front && ltb (length l.front) 32) ≡ true = w.fronts l.front l.last l.is in
+    let up : rises_from 0 l.front ≡ true = left_of _ _ n in
+    let few : ltb (length l.front) 32 ≡ true = right_of _ _ n in
+    let d : (rises_from 0 (l.front ++ l.last ∷ []) && ltb (length (l.front ++ l.last ∷ [])) 32) ≡ false = ap (needs_more TabStops) (sym l.is) ∙ w.whole in
+    let p : rises_from 0 (l.front ++ l.last ∷ []) ≡ ltb (last_or 0 l.front) l.last = rises_push 0 l.front l.last ∙ rw up refl in
+    let len : length (l.front ++ l.last ∷ []) ≡ length l.front + 1 = length_push l.front l.last in
+    record {
+      stops = l.front;
+      last = l.last;
+      bytes = l.is;
+      rise = up;
+      few = grind (arith, nat_tests);
+      ends = ⊎_elim
+          (λ (h : l.last < last_or 0 l.front + 1). inl (omega arith))
+          (λ (h : last_or 0 l.front + 1 ≤ l.last).
+          let r : ltb (last_or 0 l.front) l.last ≡ true = grind (arith, nat_tests) in
+          let f : ltb (length (l.front ++ l.last ∷ [])) 32 ≡ false = rw (p, r) at d in
+          inr (grind (arith, nat_tests)))
+          (cases_lt l.last (last_or 0 l.front + 1));
+    }
+  where
+    left_of : (a b : Bool) → (a && b) ≡ true → a ≡ true
+    left_of true b h = refl
+    left_of false b h = cc
+
+    right_of : (a b : Bool) → (a && b) ≡ true → b ≡ true
+    right_of true b h = h
+    right_of false b h = cc
+
+zero_row : (args : List ℕ) → is_counted Symbol args ≡ false → IsWhole Symbol args → IsToZero args
+unfolding needs_more
+zero_row [] e w = let d : true ≡ false = w.whole in cc
+zero_row (m ∷ []) e w =
+    let z : is_kind_to_zero m ≡ true = not_false (is_kind_to_zero m) e in
+    let d : true ≡ false = rw z at w.whole in cc
+zero_row (m ∷ x ∷ args) e w =
+    let z : is_kind_to_zero m ≡ true = not_false (is_kind_to_zero m) e in
+    let l : HasLast (x ∷ args) = last_of x args in
+    let n : cond (is_kind_to_zero m) (not (list_any (λ b. eqb b 0) l.front)) (is_short Symbol (m ∷ l.front)) ≡ true =
+    w.fronts (m ∷ l.front) l.last (ap (λ y. m ∷ y) l.is) in
+    let none : list_any (λ b. eqb b 0) l.front ≡ false = not_true _ (rw z at n) in
+    let d : not (list_any (λ b. eqb b 0) (x ∷ args)) ≡ false = rw z at w.whole in
+    let some : list_any (λ b. eqb b 0) (l.front ++ l.last ∷ []) ≡ true = rw (← l.is) (not_false _ d) in
+    let zero : l.last ≡ 0 = let q : eqb l.last 0 ≡ true = sym (no_zero_push l.front l.last none) ∙ some in grind (arith, nat_tests) in
+    record {
+      kind = m;
+      codes = l.front;
+      bytes = ap (λ y. m ∷ y) (l.is ∙ ap (λ y. l.front ++ y ∷ []) zero);
+      is_kind = z;
+      no_zero = none;
+    }
+
+arguments_of : (k : Command) (args : List ℕ) → IsWhole k args → IsArguments k args
+arguments_of (Plain p) args w = plain_row p args (sized_of (Plain p) args refl w)
+arguments_of TabStops args w = stops_row args w
+arguments_of Columns args w = columns_row args (sized_of Columns args refl w)
+arguments_of Raster args w = raster_row args (sized_of Raster args refl w)
+arguments_of Symbol args w = ⊎_elim
+    (λ (c : is_counted Symbol args ≡ true). inr (counted_row args (sized_of Symbol args c w)))
+    (λ (c : is_counted Symbol args ≡ false). inl (zero_row args c w))
+    (cases_Bool (is_counted Symbol args))
+arguments_of Function args w = function_row args (sized_of Function args refl w)
+arguments_of Graphics args w = graphics_row args (sized_of Graphics args refl w)
+
+-- Units.
+
+listed_of : (l n : Bool) → cond l n true ≡ false → (l ≡ true) × (n ≡ false)
+listed_of true n e = (refl, e)
+listed_of false n e = cc
+
+needs_of : (l n : Bool) → l ≡ true → cond l n true ≡ true → n ≡ true
+needs_of true n e h = h
+needs_of false n e h = cc
+
+listed_front : (k : Command) (front : List ℕ) (x : ℕ) → is_listed k (front ++ x ∷ []) ≡ true → is_listed k front ≡ true
+listed_front k [] x l = refl
+listed_front k (a ∷ front) x l = l
+
+unit_named : (lead : Lead) (b name : ℕ) (args : List ℕ) (o : Option Command) → lead_of b ≡ Some lead → command_of lead name ≡ o
+    → IsUnit (b ∷ name ∷ args) → IsRow (b ∷ name ∷ args)
+unfolding is_open
+unit_named lead b name args None e f u = let d : true ≡ false = rw (e, f) at u.whole in cc
+unit_named lead b name args (Some k) e f u =
+    let d : cond (is_listed k args) (needs_more k args) true ≡ false = rw (e, f) at u.whole in
+    let l : (is_listed k args ≡ true) × (needs_more k args ≡ false) = listed_of (is_listed k args) (needs_more k args) d in
+    inr (record {
+      lead = lead;
+      name = name;
+      command = k;
+      args = args;
+      named = f;
+      arguments = arguments_of k args (record {
+        listed = l.0;
+        whole = l.1;
+        fronts = λ front x p.
+            let o : is_open (b ∷ name ∷ front) ≡ true = u.shortest (b ∷ name ∷ front) (x ∷ []) (ap (λ y. b ∷ name ∷ y) p) (λ q. cc q) in
+            let n : cond (is_listed k front) (needs_more k front) true ≡ true = rw (e, f) at o in
+            needs_of (is_listed k front) (needs_more k front) (listed_front k front x (rw p at l.0)) n;
+      });
+      bytes_are = ap (λ y. y ∷ name ∷ args) (sym (lead_byte-of b lead e));
+    })
+
+unit_after : (o : Option Lead) (b : ℕ) (bytes : List ℕ) → lead_of b ≡ o → IsUnit (b ∷ bytes) → IsRow (b ∷ bytes)
+unfolding is_open
+unit_after None b [] e u = inl (record { byte = b; bytes_are = refl; no_lead = e })
+unit_after None b (x ∷ bytes) e u =
+    let o : is_open (b ∷ []) ≡ true = u.shortest (b ∷ []) (x ∷ bytes) refl (λ q. cc q) in let d : false ≡ true = rw e at o in cc
+unit_after (Some lead) b [] e u = let d : true ≡ false = rw e at u.whole in cc
+unit_after (Some lead) b (name ∷ args) e u = unit_named lead b name args (command_of lead name) e refl u
+
+pub only_rows_lem : (bytes : List ℕ) → IsUnit bytes → IsRow bytes
+unfolding is_open
+only_rows_lem [] u = let d : true ≡ false = u.whole in cc
+only_rows_lem (b ∷ bytes) u = unit_after (lead_of b) b bytes refl u

@@ -1,0 +1,193 @@
+-- The bytes of GS ( k.
+use Rattle.std.proofs.Common.{◌≡◌, ◌≢◌, ℕ, ◌+◌, ◌-◌, ◌*◌, ◌<◌, ◌≤◌, Bool, true, false, cond, ltb, eqb, Option, Some, None, Ok, List, [], ◌∷◌, ◌++◌, length, take, drop, map, get_or, refl, sym, ap, ◌∙◌, arith, ⊎_elim}
+use Rattle.std.specs.Prelude.{option_to_list}
+use Rattle.std.proofs.lemmas.Bool.Decides.{nat_tests}
+use Rattle.std.proofs.lemmas.Bool.{cases_lt}
+use Rattle.std.proofs.lemmas.List.{append_cancel_left, append-nil, map_push, length-take}
+use Rattle.arrayvec.specs.ArrayVec.{ArrayVec}
+use Rattle.vp_esc.specs.declared.item.EscItem.{EscItem}
+use Rattle.vp_esc.specs.declared.item.EscItem.TheVariants as items
+use Rattle.vp_esc.specs.declared.item.QrModel.{QrModel}
+use Rattle.vp_esc.specs.declared.item.Lead.{Lead}
+use Rattle.vp_esc.specs.declared.command.Command.TheVariants.{Function}
+use Rattle.vp_esc.specs.declared.reader.EscReader.{EscReader}
+use Rattle.vp_esc.specs.declared.reader.Phase.TheVariants as phases
+use Rattle.vp_esc.specs.Values.{qr_model_of}
+use Rattle.vp_esc.specs.Qr.{qr_items, value_items, model_items, is_qr_function, ignored}
+use Rattle.vp_esc.specs.Units.{needs_more, given_by, given_behind}
+use Rattle.vp_esc.specs.Reader.{Begun, Advances, Lands, InQr, qr_or_ground}
+use Rattle.vp_esc.proofs.Fronts.{lands_open, lands_whole, continues, completes, begun_longer}
+use Rattle.vp_esc.proofs.Heads.{given_is, needs_counted, IsPushed, pushed}
+use Rattle.vp_esc.proofs.Symbols.{take_255_push}
+
+-- what a byte adds from the second value on
+abbrev pub added : ℕ → ℕ → ℕ → List EscItem
+added function n c = cond (eqb function 80) (cond (eqb n 48) (items.QrByte c ∷ []) []) []
+
+model_push : (count cn n x : ℕ) (model : Option QrModel) (more : List ℕ) (c : ℕ)
+    → model_items count cn n model (x ∷ more ++ c ∷ []) ≡ model_items count cn n model (x ∷ more) ++ []
+model_push count cn n x None more c = refl
+model_push count cn n x (Some model) more c = refl
+
+store_push : (b : Bool) (count cn n : ℕ) (more : List ℕ) (c : ℕ)
+    → cond b (items.QrStore (count - 3) ∷ map (λ b. items.QrByte b) (more ++ c ∷ [])) (ignored count (cn ∷ 80 ∷ n ∷ []) ∷ [])
+    ≡ cond b (items.QrStore (count - 3) ∷ map (λ b. items.QrByte b) more) (ignored count (cn ∷ 80 ∷ n ∷ []) ∷ []) ++ cond b (items.QrByte c ∷ []) []
+store_push true count cn n more c = ap (λ xs. items.QrStore (count - 3) ∷ xs) (map_push (λ b. items.QrByte b) more c)
+store_push false count cn n more c = refl
+
+by_function : (a b d e : Bool) (m m' x y s s' p more : List EscItem) → m' ≡ m ++ [] → s' ≡ s ++ more
+    → (a ≡ true → e ≡ false) → (b ≡ true → e ≡ false) → (d ≡ true → e ≡ false)
+    → cond a m' (cond b x (cond d y (cond e s' p))) ≡ cond a m (cond b x (cond d y (cond e s p))) ++ cond e more []
+by_function true b d e m m' x y s s' p more i j f g h = rw (f refl) i
+by_function false true d e m m' x y s s' p more i j f g h = rw (g refl) (sym (append-nil x))
+by_function false false true e m m' x y s s' p more i j f g h = rw (h refl) (sym (append-nil y))
+by_function false false false true m m' x y s s' p more i j f g h = j
+by_function false false false false m m' x y s s' p more i j f g h = sym (append-nil p)
+
+value_push : (count cn function n x : ℕ) (more : List ℕ) (c : ℕ)
+    → value_items count cn function n (x ∷ more ++ c ∷ []) ≡ value_items count cn function n (x ∷ more) ++ added function n c
+unfolding value_items
+value_push count cn function n x more c =
+    by_function (eqb function 65) (eqb function 67) (eqb function 69) (eqb function 80) _ _ _ _ _ _ _ _
+    (model_push count cn n x (qr_model_of n) more c) (store_push (eqb n 48) count cn n (x ∷ more) c)
+    (λ e. grind (arith, nat_tests)) (λ e. grind (arith, nat_tests)) (λ e. grind (arith, nat_tests))
+
+qr_push : (count cn function n x : ℕ) (more : List ℕ) (c : ℕ)
+    → qr_items count (cn ∷ function ∷ n ∷ x ∷ more ++ c ∷ [])
+    ≡ qr_items count (cn ∷ function ∷ n ∷ x ∷ more) ++ cond (is_qr_function cn function count) (added function n c) []
+unfolding qr_items
+qr_push count cn function n x more c = by_bool (is_qr_function cn function count)
+  where
+    by_bool : (b : Bool) → cond b (value_items count cn function n (x ∷ more ++ c ∷ [])) (ignored count (cn ∷ function ∷ []) ∷ [])
+        ≡ cond b (value_items count cn function n (x ∷ more)) (ignored count (cn ∷ function ∷ []) ∷ []) ++ cond b (added function n c) []
+    by_bool true = value_push count cn function n x more c
+    by_bool false = refl
+
+-- The first bytes tell what a byte gives.
+qr_same : (count : ℕ) (values : List ℕ) (c : ℕ) (xs : List EscItem)
+    → qr_items count (take 255 values ++ c ∷ []) ≡ qr_items count (take 255 values) ++ xs
+    → qr_items count (values ++ c ∷ []) ≡ qr_items count values ++ xs
+qr_same count [] c xs h = h
+qr_same count (a ∷ []) c xs h = h
+qr_same count (a ∷ b ∷ []) c xs h = h
+qr_same count (a ∷ b ∷ n ∷ []) c xs h = h
+qr_same count (cn ∷ function ∷ n ∷ x ∷ more) c xs h =
+    let e : cond (is_qr_function cn function count) (added function n c) [] ≡ xs =
+    append_cancel_left (qr_items count (cn ∷ function ∷ n ∷ x ∷ take 251 more)) _ xs
+    (sym (qr_push count cn function n x (take 251 more) c) ∙ h) in
+    qr_push count cn function n x more c ∙ ap (λ ys. qr_items count (cn ∷ function ∷ n ∷ x ∷ more) ++ ys) e
+
+qr_given_is : (lead : Lead) (name pl ph : ℕ) (values : List ℕ)
+    → given_by lead name Function (107 ∷ pl ∷ ph ∷ values) ≡ qr_items (pl + 256 * ph) values
+unfolding given_behind
+qr_given_is lead name pl ph values = given_is lead name Function (107 ∷ pl ∷ ph ∷ values) (omega arith)
+
+pub land_qr : (r : EscReader) (pl ph count : ℕ) (rest : List ℕ) (final : ArrayVec ℕ) (item : Option EscItem)
+    → Begun r.lead r.name Function r.kept.items rest → r.kept.items ≡ 107 ∷ pl ∷ ph ∷ [] → count ≡ pl + 256 * ph → final.items ≡ []
+    → qr_items count [] ≡ option_to_list item
+    → Lands item rest (record r { phase = qr_or_ground count count; kept = final })
+land_qr r pl ph count rest final item b k e empty g =
+    let b' : Begun r.lead r.name Function (107 ∷ pl ∷ ph ∷ []) rest = rw k at b in
+    let g' : given_by r.lead r.name Function (107 ∷ pl ∷ ph ∷ []) ≡ option_to_list item = qr_given_is r.lead r.name pl ph [] ∙ rw (← e) g in
+    let n : needs_more Function (107 ∷ pl ∷ ph ∷ []) ≡ ltb 3 (3 + count) = needs_counted Function (107 ∷ pl ∷ ph ∷ []) refl ∙ rw e refl in
+    ⊎_elim
+    (λ (h : count < 1).
+    let z : eqb count 0 ≡ true = grind (arith, nat_tests) in
+    let s : ltb 3 (3 + count) ≡ false = grind (arith, nat_tests) in
+    rw z (lands_whole item (record r { phase = phases.Ground; kept = final }) b' (n ∙ s) g' refl))
+    (λ (h : 1 ≤ count).
+    let z : eqb count 0 ≡ false = grind (arith, nat_tests) in
+    let s : ltb 3 (3 + count) ≡ true = grind (arith, nat_tests) in
+    let new : EscReader = record r { phase = phases.Qr count count; kept = final } in
+    rw z (lands_open item new b' (n ∙ s) g' (record {
+      args = 107 ∷ pl ∷ ph ∷ [];
+      begun = b';
+      left_is = record { head = omega arith; some_left = omega arith; count = rw e refl };
+      is_qr = refl;
+      count_is = e;
+      kept = rw empty refl;
+    })))
+    (cases_lt count 1)
+
+pub qr_none : (count : ℕ) → count ≡ 0 → qr_items count [] ≡ ignored 0 [] ∷ []
+unfolding qr_items
+qr_none count e = rw e refl
+
+pub qr_some : (count : ℕ) → count ≢ 0 → qr_items count [] ≡ []
+unfolding qr_items
+qr_some count e = let z : eqb count 0 ≡ false = grind (arith, nat_tests) in rw z refl
+
+-- GS ( k with these values
+record IsQr (args : List ℕ) (count : ℕ) : Type 0 where
+  pub pl : ℕ
+  pub ph : ℕ
+  pub bytes : args ≡ 107 ∷ pl ∷ ph ∷ drop 3 args
+  pub count_is : count ≡ pl + 256 * ph
+
+is_qr_of : (args : List ℕ) (count : ℕ) → 3 ≤ length args → get_or args 0 0 ≡ 107 → count ≡ get_or args 1 0 + 256 * get_or args 2 0 → IsQr args count
+is_qr_of [] count h e f = absurd (omega arith)
+is_qr_of (x ∷ []) count h e f = absurd (omega arith)
+is_qr_of (x ∷ y ∷ []) count h e f = absurd (omega arith)
+is_qr_of (x ∷ y ∷ z ∷ args) count h e f = record { pl = y; ph = z; bytes = ap (λ w. w ∷ y ∷ z ∷ args) e; count_is = f }
+
+drop_push : (args : List ℕ) (c : ℕ) → 3 ≤ length args → drop 3 (args ++ c ∷ []) ≡ drop 3 args ++ c ∷ []
+drop_push [] c h = absurd (omega arith)
+drop_push (x ∷ []) c h = absurd (omega arith)
+drop_push (x ∷ y ∷ []) c h = absurd (omega arith)
+drop_push (x ∷ y ∷ z ∷ args) c h = refl
+
+front_push : (args : List ℕ) (c : ℕ) → 3 ≤ length args
+    → (get_or (args ++ c ∷ []) 0 0 ≡ get_or args 0 0) × (get_or (args ++ c ∷ []) 1 0 + 256 * get_or (args ++ c ∷ []) 2 0 ≡ get_or args 1 0 + 256 * get_or args 2 0)
+front_push [] c h = absurd (omega arith)
+front_push (x ∷ []) c h = absurd (omega arith)
+front_push (x ∷ y ∷ []) c h = absurd (omega arith)
+front_push (x ∷ y ∷ z ∷ args) c h = (refl, refl)
+
+length_drop : (args : List ℕ) → 3 ≤ length args → length args ≡ 3 + length (drop 3 args)
+length_drop [] h = absurd (omega arith)
+length_drop (x ∷ []) h = absurd (omega arith)
+length_drop (x ∷ y ∷ []) h = absurd (omega arith)
+length_drop (x ∷ y ∷ z ∷ args) h = omega arith
+
+qr_given_next : (lead : Lead) (name count : ℕ) (args : List ℕ) (c : ℕ) (xs : List EscItem) → IsQr args count
+    → qr_items count (drop 3 args ++ c ∷ []) ≡ qr_items count (drop 3 args) ++ xs
+    → given_by lead name Function (args ++ c ∷ []) ≡ given_by lead name Function args ++ xs
+qr_given_next lead name count args c xs q h =
+    let a : given_by lead name Function args ≡ qr_items count (drop 3 args) =
+    ap (given_by lead name Function) q.bytes ∙ qr_given_is lead name q.pl q.ph (drop 3 args) ∙ rw (← q.count_is) refl in
+    let b : given_by lead name Function (args ++ c ∷ []) ≡ qr_items count (drop 3 args ++ c ∷ []) =
+    ap (λ ys. given_by lead name Function (ys ++ c ∷ [])) q.bytes ∙ qr_given_is lead name q.pl q.ph (drop 3 args ++ c ∷ []) ∙ rw (← q.count_is) refl in
+    b ∙ h ∙ ap (λ ys. ys ++ xs) (sym a)
+
+pub qr_step : (r : EscReader) (count left c : ℕ) (rest : List ℕ) (item : Option EscItem) (final : ArrayVec ℕ) → InQr r count left rest
+    → (length r.kept.items < count → qr_items count (r.kept.items ++ c ∷ []) ≡ qr_items count r.kept.items ++ option_to_list item)
+    → final.items ≡ take 255 (r.kept.items ++ c ∷ [])
+    → Advances (Ok item) rest c (record r { phase = qr_or_ground count (left - 1); kept = final })
+qr_step r count left c rest item final hand given k =
+    let enough : 3 ≤ length hand.args = hand.left_is.head in
+    let q : IsQr hand.args count = is_qr_of hand.args count enough hand.is_qr hand.count_is in
+    let p : IsPushed Function hand.args left c = pushed Function hand.args left c hand.begun.listed refl hand.left_is in
+    let len : length r.kept.items < count =
+    rw hand.kept (omega (arith, length-take 255 (drop 3 hand.args), length_drop hand.args enough, hand.left_is.count, hand.left_is.some_left, hand.count_is)) in
+    let h : qr_items count (take 255 (drop 3 hand.args) ++ c ∷ []) ≡ qr_items count (take 255 (drop 3 hand.args)) ++ option_to_list item =
+    rw (← hand.kept) (given len) in
+    let g : given_by r.lead r.name Function (hand.args ++ c ∷ []) ≡ given_by r.lead r.name Function hand.args ++ option_to_list item =
+    qr_given_next r.lead r.name count hand.args c (option_to_list item) q (qr_same count (drop 3 hand.args) c (option_to_list item) h) in
+    ⊎_elim
+    (λ (l : left < 2).
+    let z : eqb (left - 1) 0 ≡ true = grind (arith, nat_tests) in
+    let s : ltb 1 left ≡ false = grind (arith, nat_tests) in
+    rw z (completes c item (record r { phase = phases.Ground; kept = final }) hand.begun p.listed (p.needs ∙ s) g refl))
+    (λ (l : 2 ≤ left).
+    let z : eqb (left - 1) 0 ≡ false = grind (arith, nat_tests) in
+    let s : ltb 1 left ≡ true = grind (arith, nat_tests) in
+    let new : EscReader = record r { phase = phases.Qr count (left - 1); kept = final } in
+    rw z (continues c item new hand.begun p.listed (p.needs ∙ s) g (record {
+      args = hand.args ++ c ∷ [];
+      begun = begun_longer c hand.begun p.listed;
+      left_is = p.left_is (omega arith);
+      is_qr = (front_push hand.args c enough).0 ∙ hand.is_qr;
+      count_is = hand.count_is ∙ sym ((front_push hand.args c enough).1);
+      kept = k ∙ rw hand.kept (take_255_push (drop 3 hand.args) c) ∙ ap (take 255) (sym (drop_push hand.args c enough));
+    })))
+    (cases_lt left 2)

@@ -1,0 +1,23 @@
+-- A reader between units alone has no rest.
+use Rattle.std.proofs.Common.{◌≡◌, ◌≢◌, ℕ, Some, List, [], refl}
+use Rattle.vp_esc.specs.declared.reader.EscReader.{EscReader}
+use Rattle.vp_esc.specs.declared.reader.Phase.{Phase}
+use Rattle.vp_esc.specs.declared.reader.Phase.TheVariants as phases
+use Rattle.vp_esc.specs.Units.{fault_in}
+use Rattle.vp_esc.specs.Reader.{StandsIn, in_phase}
+
+resting : (p : Phase) (r : EscReader) (rest : List ℕ) → p ≢ phases.Ground → in_phase p r rest → rest ≡ [] → ⊥
+unfolding fault_in
+resting phases.Ground r rest n h e = n refl
+resting phases.AfterLead r rest n h e = cc
+resting (phases.Arguments command) r rest n h e = cc (h.begun.bytes)
+resting (phases.Stops last) r rest n h e = cc (h.begun.bytes)
+resting (phases.Bytes kind left) r rest n h e = cc (h.begun.bytes)
+resting (phases.TallColumns left) r rest n h e = cc (h.begun.bytes)
+resting (phases.SymbolToZero kind more) r rest n h e = cc (h.begun.bytes)
+resting (phases.SymbolData kind left) r rest n h e = cc (h.begun.bytes)
+resting (phases.Qr count left) r rest n h e = cc (h.begun.bytes)
+resting (phases.Stopped fault) r rest n h e = let f : fault_in [] ≡ Some fault = rw e at h in cc f
+
+pub rests : (r : EscReader) (rest : List ℕ) → r.phase ≢ phases.Ground → StandsIn r rest → rest ≡ [] → ⊥
+rests r rest n h e = resting r.phase r rest n h e

@@ -1,0 +1,85 @@
+-- One more byte at the end of the stream.
+use Rattle.std.proofs.Common.{◌≡◌, ℕ, Bool, true, false, cond, Option, Some, None, Result, Ok, Err, List, [], ◌∷◌, ◌++◌, refl, sym, ap, ◌∙◌, append_assoc}
+use Rattle.std.specs.List.{flat_map}
+use Rattle.std.specs.Prelude.{option_to_list}
+use Rattle.std.proofs.lemmas.List.{append-nil}
+use Rattle.std.proofs.lemmas.List.Concat.{flat_map-append}
+use Rattle.vp_esc.specs.declared.item.EscItem.{EscItem}
+use Rattle.vp_dots.specs.declared.fault.Fault.{Fault}
+use Rattle.vp_esc.specs.declared.reader.EscReader.{EscReader}
+use Rattle.vp_esc.specs.Units.{is_open, given, fault_in}
+use Rattle.vp_esc.specs.Split.{Split, with_rest, with_byte, split_on, split, items, fault_of}
+use Rattle.vp_esc.specs.Reader.{Advances, Stands, Gives, rest_of}
+use Rattle.vp_esc.proofs.Fronts.{closed_sound, stuck}
+
+split_on-push : (s : Split) (bytes : List ℕ) (c : ℕ) → split_on s (bytes ++ c ∷ []) ≡ with_byte (split_on s bytes) c
+unfolding split_on
+split_on-push s [] c = refl
+split_on-push s (b ∷ bytes) c = split_on-push (with_byte s b) bytes c
+
+pub split-push : (bytes : List ℕ) (c : ℕ) → split (bytes ++ c ∷ []) ≡ with_byte (split bytes) c
+unfolding split
+split-push bytes c = split_on-push _ bytes c
+
+rest_by : (units : List (List ℕ)) (front : List ℕ) (b : Bool) → (with_rest units front b).rest ≡ cond b front []
+rest_by units front true = refl
+rest_by units front false = refl
+
+pub rest-push : (bytes : List ℕ) (c : ℕ) → (split (bytes ++ c ∷ [])).rest ≡ rest_of ((split bytes).rest ++ c ∷ [])
+rest-push bytes c = ap (λ (s : Split). s.rest) (split-push bytes c) ∙ rest_by (split bytes).units ((split bytes).rest ++ c ∷ []) (is_open ((split bytes).rest ++ c ∷ []))
+
+given_by_units : (units : List (List ℕ)) (front : List ℕ) (b : Bool)
+    → flat_map given (with_rest units front b).units ++ given (with_rest units front b).rest ≡ flat_map given units ++ given front
+unfolding given
+given_by_units units front true = refl
+given_by_units units front false =
+    rw flat_map-append (append-nil _ ∙ ap (λ x. flat_map given units ++ x) (append-nil (given front)))
+
+pub items-is : (bytes : List ℕ) → items bytes ≡ flat_map given (split bytes).units ++ given (split bytes).rest
+unfolding items
+items-is bytes = refl
+
+pub items-push : (bytes : List ℕ) (c : ℕ)
+    → items (bytes ++ c ∷ []) ≡ flat_map given (split bytes).units ++ given ((split bytes).rest ++ c ∷ [])
+unfolding items
+items-push bytes c =
+    ap (λ (s : Split). flat_map given s.units ++ given s.rest) (split-push bytes c)
+    ∙ given_by_units (split bytes).units ((split bytes).rest ++ c ∷ []) (is_open ((split bytes).rest ++ c ∷ []))
+
+fault_by : (front : List ℕ) (b : Bool) → is_open front ≡ b → fault_in (cond b front []) ≡ fault_in front
+unfolding fault_in
+fault_by front true e = refl
+fault_by front false e = sym (closed_sound front e)
+
+pub fault-push : (bytes : List ℕ) (c : ℕ) → fault_of (bytes ++ c ∷ []) ≡ fault_in ((split bytes).rest ++ c ∷ [])
+unfolding fault_of
+fault-push bytes c = ap fault_in (rest-push bytes c) ∙ fault_by ((split bytes).rest ++ c ∷ []) (is_open ((split bytes).rest ++ c ∷ [])) refl
+
+gives_by : (result : Result (Option EscItem) Fault) (units before after whole : List EscItem) (fault fault' : Option Fault)
+    → whole ≡ units ++ after → fault' ≡ fault → Gives result before after fault → Gives result (units ++ before) whole fault'
+gives_by (Ok item) units before after whole fault fault' w f g =
+    (f ∙ g.0, w ∙ ap (λ x. units ++ x) g.1 ∙ sym (append_assoc units before (option_to_list item)))
+gives_by (Err e) units before after whole fault fault' w f g = f ∙ g
+
+-- a step by the rest is a step by the bytes
+pub gives-from_advances : (result : Result (Option EscItem) Fault) (bytes : List ℕ) (c : ℕ) (new : EscReader)
+    → Advances result (split bytes).rest c new → Gives result (items bytes) (items (bytes ++ c ∷ [])) (fault_of (bytes ++ c ∷ []))
+gives-from_advances result bytes c new a =
+    rw items-is (gives_by result (flat_map given (split bytes).units) _ _ _ _ _ (items-push bytes c) (fault-push bytes c) a.gives)
+
+pub stands-from_advances : (result : Result (Option EscItem) Fault) (bytes : List ℕ) (c : ℕ) (new : EscReader)
+    → Advances result (split bytes).rest c new → Stands new (bytes ++ c ∷ [])
+unfolding Stands
+stands-from_advances result bytes c new a = rw rest-push a.stands
+
+gives_fault : (result : Result (Option EscItem) Fault) (before after : List EscItem) (f : Fault) → Gives result before after (Some f) → result ≡ Err f
+gives_fault (Ok item) before after f g = let none : Some f ≡ None = g.0 in cc
+gives_fault (Err e) before after f g = let same : Some f ≡ Some e = g in cc
+
+-- a fault is answered again
+pub sticks-from_advances : (result : Result (Option EscItem) Fault) (bytes : List ℕ) (c : ℕ) (new : EscReader) (f : Fault)
+    → Advances result (split bytes).rest c new → fault_of bytes ≡ Some f → result ≡ Err f
+unfolding fault_of
+sticks-from_advances result bytes c new f a e =
+    let again : fault_in ((split bytes).rest ++ c ∷ []) ≡ Some f = (stuck (split bytes).rest c f e).1 in
+    gives_fault result (given (split bytes).rest) (given ((split bytes).rest ++ c ∷ [])) f (rw again at a.gives)

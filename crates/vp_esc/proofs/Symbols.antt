@@ -1,0 +1,187 @@
+-- The data of symbols.
+use Rattle.std.proofs.Common.{◌≡◌, ◌≢◌, ℕ, ◌+◌, ◌-◌, ◌<◌, ◌≤◌, Bool, true, false, cond, ◌||◌, eqb, ltb, Option, Some, None, Ok, List, [], ◌∷◌, ◌++◌, length, take, get_or, refl, sym, ap, ◌∙◌, arith, ⊎_elim}
+use Rattle.std.proofs.lemmas.Bool.{cases_lt}
+use Rattle.std.specs.List.{list_any}
+use Rattle.std.specs.Prelude.{option_to_list}
+use Rattle.std.proofs.lemmas.Bool.Decides.{nat_tests}
+use Rattle.std.proofs.lemmas.List.{take_all, take_at, take-append-le, length_push, length-take, length-take-le}
+use Rattle.std.proofs.lemmas.List.Folds.{list_any-append}
+use Rattle.arrayvec.specs.ArrayVec.{ArrayVec}
+use Rattle.vp_esc.specs.declared.item.EscItem.{EscItem}
+use Rattle.vp_esc.specs.declared.command.Command.TheVariants.{Symbol}
+use Rattle.vp_esc.specs.declared.reader.EscReader.{EscReader}
+use Rattle.vp_esc.specs.declared.reader.Phase.TheVariants as phases
+use Rattle.vp_esc.specs.Values.{is_kind_to_zero}
+use Rattle.vp_esc.specs.Command.{head_len}
+use Rattle.vp_esc.specs.Units.{needs_more, given_by, given_behind, symbol_data, symbol_of, symbol_with, at_last}
+use Rattle.vp_esc.specs.declared.item.Lead.{Lead}
+use Rattle.vp_esc.specs.Reader.{Begun, Advances, Lands, InSymbolToZero, InSymbolData}
+use Rattle.vp_esc.proofs.Fronts.{lands_open, lands_whole, continues, completes, begun_longer}
+use Rattle.vp_esc.proofs.Heads.{given_is}
+use Rattle.vp_esc.proofs.Phases.{kept_whole}
+
+pub no_zero_push : (codes : List ℕ) (c : ℕ) → list_any (λ b. eqb b 0) codes ≡ false
+    → list_any (λ b. eqb b 0) (codes ++ c ∷ []) ≡ eqb c 0
+no_zero_push codes c h = list_any-append (λ b. eqb b 0) codes (c ∷ []) ∙ rw h (or_false (eqb c 0))
+  where
+    or_false : (b : Bool) → (b || false) ≡ b
+    or_false true = refl
+    or_false false = refl
+
+pub take_255_push : (codes : List ℕ) (c : ℕ) → take 255 (take 255 codes ++ c ∷ []) ≡ take 255 (codes ++ c ∷ [])
+take_255_push codes c = ⊎_elim
+    (λ (h : length codes < 256). rw (take_all 255 codes (omega arith)) refl)
+    (λ (h : 256 ≤ length codes).
+    let k : 255 ≤ length codes = omega arith in
+    take_at (take 255 codes) (c ∷ []) 255 (length-take-le 255 codes k) ∙ sym (take-append-le 255 codes (c ∷ []) k))
+    (cases_lt (length codes) 256)
+
+beyond_push : (codes : List ℕ) (c : ℕ) (more full : Bool) → more ≡ ltb 255 (length codes) → full ≡ eqb (length (take 255 codes)) 255
+    → (more || full) ≡ ltb 255 (length (codes ++ c ∷ []))
+beyond_push codes c more full m f = grind (arith, nat_tests, length-take 255 codes, length_push codes c)
+
+symbol_given : (lead : Lead) (name m : ℕ) (args : List ℕ) → head_len Symbol (m ∷ args) ≤ length (m ∷ args)
+    → given_by lead name Symbol (m ∷ args) ≡ at_last (needs_more Symbol (m ∷ args)) (symbol_of m (symbol_data (m ∷ args)))
+unfolding given_behind
+symbol_given lead name m args h = given_is lead name Symbol (m ∷ args) h
+
+-- nothing was given before
+symbol_pushed : (lead : Lead) (name m : ℕ) (args : List ℕ) (c : ℕ) (item : Option EscItem) → head_len Symbol (m ∷ args) ≤ length (m ∷ args)
+    → needs_more Symbol (m ∷ args) ≡ true
+    → at_last (needs_more Symbol (m ∷ args ++ c ∷ [])) (symbol_of m (symbol_data (m ∷ args ++ c ∷ []))) ≡ option_to_list item
+    → given_by lead name Symbol (m ∷ args ++ c ∷ []) ≡ given_by lead name Symbol (m ∷ args) ++ option_to_list item
+symbol_pushed lead name m args c item h n e =
+    let l : head_len Symbol (m ∷ args ++ c ∷ []) ≤ length (m ∷ args ++ c ∷ []) = omega (arith, length_push args c) in
+    let none : given_by lead name Symbol (m ∷ args) ≡ [] = symbol_given lead name m args h ∙ rw n refl in
+    symbol_given lead name m (args ++ c ∷ []) l ∙ e
+    ∙ ap (λ xs. xs ++ option_to_list item) (sym none)
+
+one_at_least : (b : Bool) (x : ℕ) (xs : List ℕ) → b ≡ true → cond b 1 2 ≤ length (x ∷ xs)
+one_at_least true x xs e = omega arith
+one_at_least false x xs e = cc
+
+two_at_least : (b : Bool) (x y : ℕ) (xs : List ℕ) → cond b 1 2 ≤ length (x ∷ y ∷ xs)
+two_at_least true x y xs = omega arith
+two_at_least false x y xs = omega arith
+
+pub symbol_more : (r : EscReader) (kind c : ℕ) (more more' : Bool) (rest : List ℕ) (kept : ArrayVec ℕ) → InSymbolToZero r kind more rest
+    → c ≢ 0 → kept.items ≡ take 255 (r.kept.items ++ c ∷ []) → more' ≡ (more || eqb (length r.kept.items) 255)
+    → Advances (Ok None) rest c (record r { phase = phases.SymbolToZero kind more'; kept = kept })
+unfolding needs_more
+symbol_more r kind c more more' rest kept hand some k m =
+    let l : head_len Symbol (kind ∷ hand.codes) ≤ length (kind ∷ hand.codes) = one_at_least (is_kind_to_zero kind) kind hand.codes hand.to_zero in
+    let z : eqb c 0 ≡ false = grind (arith, nat_tests) in
+    let a : list_any (λ b. eqb b 0) (hand.codes ++ c ∷ []) ≡ false = no_zero_push hand.codes c hand.no_zero ∙ z in
+    let n : needs_more Symbol (kind ∷ hand.codes ++ c ∷ []) ≡ true = rw hand.to_zero (rw a refl) in
+    let n' : needs_more Symbol (kind ∷ hand.codes) ≡ true = rw hand.to_zero (rw hand.no_zero refl) in
+    continues c None (record r { phase = phases.SymbolToZero kind more'; kept = kept }) hand.begun hand.begun.listed n
+    (symbol_pushed r.lead r.name kind hand.codes c None l n' (rw n refl))
+    (record {
+      codes = hand.codes ++ c ∷ [];
+      begun = begun_longer c hand.begun hand.begun.listed;
+      to_zero = hand.to_zero;
+      no_zero = a;
+      kept = k ∙ rw hand.kept (take_255_push hand.codes c);
+      beyond = m ∙ beyond_push hand.codes c more (eqb (length r.kept.items) 255) hand.beyond (rw hand.kept refl);
+    })
+
+pub symbol_ends : (r : EscReader) (kind c : ℕ) (more : Bool) (rest : List ℕ) (final : ArrayVec ℕ) → InSymbolToZero r kind more rest
+    → c ≡ 0
+    → Advances (Ok (Some (symbol_with kind r.kept.items more))) rest c (record r { phase = phases.Ground; kept = final })
+unfolding needs_more
+symbol_ends r kind c more rest final hand zero =
+    let l : head_len Symbol (kind ∷ hand.codes) ≤ length (kind ∷ hand.codes) = one_at_least (is_kind_to_zero kind) kind hand.codes hand.to_zero in
+    let a : list_any (λ b. eqb b 0) (hand.codes ++ c ∷ []) ≡ true = no_zero_push hand.codes c hand.no_zero ∙ rw zero refl in
+    let n : needs_more Symbol (kind ∷ hand.codes ++ c ∷ []) ≡ false = rw hand.to_zero (rw a refl) in
+    let n' : needs_more Symbol (kind ∷ hand.codes) ≡ true = rw hand.to_zero (rw hand.no_zero refl) in
+    let len : length (kind ∷ hand.codes ++ c ∷ []) - 2 ≡ length hand.codes = omega (arith, length_push hand.codes c) in
+    let d : symbol_data (kind ∷ hand.codes ++ c ∷ []) ≡ hand.codes =
+    rw hand.to_zero (rw len (take_at hand.codes (c ∷ []) (length hand.codes) refl)) in
+    let i : symbol_of kind (symbol_data (kind ∷ hand.codes ++ c ∷ [])) ≡ symbol_with kind r.kept.items more = rw (d, hand.kept, hand.beyond) refl in
+    completes c (Some (symbol_with kind r.kept.items more)) (record r { phase = phases.Ground; kept = final }) hand.begun hand.begun.listed n
+    (symbol_pushed r.lead r.name kind hand.codes c (Some (symbol_with kind r.kept.items more)) l n' (rw n (ap (λ x. x ∷ []) i))) refl
+
+pub symbol_goes_on : (r : EscReader) (kind left c : ℕ) (rest : List ℕ) (kept : ArrayVec ℕ) → InSymbolData r kind left rest
+    → 1 < left → kept.items ≡ take 255 (r.kept.items ++ c ∷ [])
+    → Advances (Ok None) rest c (record r { phase = phases.SymbolData kind (left - 1); kept = kept })
+unfolding needs_more
+symbol_goes_on r kind left c rest kept hand some k =
+    let w : kept.items ≡ r.kept.items ++ c ∷ [] = k ∙ kept_whole r.kept.items c (omega (arith, hand.sum, hand.fits)) in
+    let len : length (r.kept.items ++ c ∷ []) ≡ length r.kept.items + 1 = length_push r.kept.items c in
+    let n : needs_more Symbol (kind ∷ hand.count ∷ r.kept.items ++ c ∷ []) ≡ true = rw hand.counted (rw len (grind (arith, nat_tests, hand.sum))) in
+    let n' : needs_more Symbol (kind ∷ hand.count ∷ r.kept.items) ≡ true = rw hand.counted (grind (arith, nat_tests, hand.sum, hand.some_left)) in
+    continues c None (record r { phase = phases.SymbolData kind (left - 1); kept = kept }) hand.begun hand.begun.listed n
+    (symbol_pushed r.lead r.name kind (hand.count ∷ r.kept.items) c None (two_at_least (is_kind_to_zero kind) kind hand.count r.kept.items) n' (rw n refl))
+    (record {
+      count = hand.count;
+      begun = rw w (begun_longer c hand.begun hand.begun.listed);
+      counted = hand.counted;
+      some_left = omega arith;
+      sum = rw w (rw len (omega (arith, hand.sum)));
+      fits = hand.fits;
+    })
+
+pub symbol_last : (r : EscReader) (kind left c : ℕ) (rest : List ℕ) (kept final : ArrayVec ℕ) → InSymbolData r kind left rest
+    → left ≤ 1 → kept.items ≡ take 255 (r.kept.items ++ c ∷ [])
+    → Advances (Ok (Some (symbol_with kind kept.items false))) rest c (record r { phase = phases.Ground; kept = final })
+unfolding needs_more
+symbol_last r kind left c rest kept final hand some k =
+    let len : length (r.kept.items ++ c ∷ []) ≡ length r.kept.items + 1 = length_push r.kept.items c in
+    let n : needs_more Symbol (kind ∷ hand.count ∷ r.kept.items ++ c ∷ []) ≡ false = rw hand.counted (rw len (grind (arith, nat_tests, hand.sum, hand.some_left))) in
+    let n' : needs_more Symbol (kind ∷ hand.count ∷ r.kept.items) ≡ true = rw hand.counted (grind (arith, nat_tests, hand.sum, hand.some_left)) in
+    let d : symbol_data (kind ∷ hand.count ∷ r.kept.items ++ c ∷ []) ≡ r.kept.items ++ c ∷ [] = rw hand.counted refl in
+    let m : ltb 255 (length (r.kept.items ++ c ∷ [])) ≡ false = rw len (grind (arith, nat_tests, hand.sum, hand.some_left, hand.fits)) in
+    let i : symbol_of kind (symbol_data (kind ∷ hand.count ∷ r.kept.items ++ c ∷ [])) ≡ symbol_with kind kept.items false = rw (d, k, m) refl in
+    completes c (Some (symbol_with kind kept.items false)) (record r { phase = phases.Ground; kept = final }) hand.begun hand.begun.listed n
+    (symbol_pushed r.lead r.name kind (hand.count ∷ r.kept.items) c (Some (symbol_with kind kept.items false)) (two_at_least (is_kind_to_zero kind) kind hand.count r.kept.items) n' (rw n (ap (λ x. x ∷ []) i))) refl
+
+-- The head of a symbol.
+
+one : (b : Bool) (xs : List ℕ) → b ≡ true → length xs ≡ cond b 1 2 → xs ≡ get_or xs 0 0 ∷ []
+one b [] e h = absurd (omega (arith, rw e at h))
+one b (x ∷ []) e h = refl
+one b (x ∷ y ∷ xs) e h = absurd (omega (arith, rw e at h))
+
+two : (b : Bool) (xs : List ℕ) → b ≡ false → length xs ≡ cond b 1 2 → xs ≡ get_or xs 0 0 ∷ get_or xs 1 0 ∷ []
+two b [] e h = absurd (omega (arith, rw e at h))
+two b (x ∷ []) e h = absurd (omega (arith, rw e at h))
+two b (x ∷ y ∷ []) e h = refl
+two b (x ∷ y ∷ z ∷ xs) e h = absurd (omega (arith, rw e at h))
+
+pub symbol_begins : (r : EscReader) (kind : ℕ) (rest : List ℕ) (kept : ArrayVec ℕ) → Begun r.lead r.name Symbol r.kept.items rest
+    → length r.kept.items ≡ head_len Symbol r.kept.items → kind ≡ get_or r.kept.items 0 0 → kept.items ≡ []
+    → is_kind_to_zero kind ≡ true
+    → Lands None rest (record r { phase = phases.SymbolToZero kind false; kept = kept })
+unfolding needs_more
+symbol_begins r kind rest kept b enough k empty z =
+    let list : r.kept.items ≡ kind ∷ [] = rw k (one _ r.kept.items (rw (← k) z) enough) in
+    let b' : Begun r.lead r.name Symbol (kind ∷ []) rest = rw list at b in
+    let n : needs_more Symbol (kind ∷ []) ≡ true = rw z refl in
+    lands_open None (record r { phase = phases.SymbolToZero kind false; kept = kept }) b' n
+    (symbol_given r.lead r.name kind [] (one_at_least (is_kind_to_zero kind) kind [] z) ∙ rw n refl)
+    (record { codes = []; begun = b'; to_zero = z; no_zero = refl; kept = rw empty refl; beyond = refl })
+
+pub two_given : (xs : List ℕ) → length xs ≡ head_len Symbol xs → is_kind_to_zero (get_or xs 0 0) ≡ false → xs ≡ get_or xs 0 0 ∷ get_or xs 1 0 ∷ []
+two_given xs enough z = two _ xs z enough
+
+pub symbol_counts : (r : EscReader) (kind left : ℕ) (rest : List ℕ) → Begun r.lead r.name Symbol (kind ∷ left ∷ []) rest
+    → r.kept.items ≡ [] → is_kind_to_zero kind ≡ false → left ≢ 0 → left < 256
+    → Lands None rest (record r { phase = phases.SymbolData kind left })
+unfolding needs_more
+symbol_counts r kind left rest b empty z some fits =
+    let m : ltb 2 (2 + left) ≡ true = grind (arith, nat_tests) in
+    let n : needs_more Symbol (kind ∷ left ∷ []) ≡ true = rw z m in
+    lands_open None (record r { phase = phases.SymbolData kind left }) b n
+    (symbol_given r.lead r.name kind (left ∷ []) (two_at_least (is_kind_to_zero kind) kind left []) ∙ rw n refl)
+    (record { count = left; begun = rw empty b; counted = z; some_left = omega arith; sum = rw empty (omega arith); fits = fits })
+
+pub symbol_empty : (r : EscReader) (kind left : ℕ) (rest : List ℕ) (kept : ArrayVec ℕ) → Begun r.lead r.name Symbol (kind ∷ left ∷ []) rest
+    → is_kind_to_zero kind ≡ false → left ≡ 0
+    → Lands (Some (symbol_with kind [] false)) rest (record r { phase = phases.Ground; kept = kept })
+unfolding needs_more
+symbol_empty r kind left rest kept b z none =
+    let b' : Begun r.lead r.name Symbol (kind ∷ 0 ∷ []) rest = rw none at b in
+    let n : needs_more Symbol (kind ∷ 0 ∷ []) ≡ false = rw z refl in
+    let d : symbol_data (kind ∷ 0 ∷ []) ≡ [] = rw z refl in
+    lands_whole (Some (symbol_with kind [] false)) (record r { phase = phases.Ground; kept = kept }) b' n
+    (symbol_given r.lead r.name kind (0 ∷ []) (two_at_least (is_kind_to_zero kind) kind 0 []) ∙ rw n (ap (λ (d : List ℕ). symbol_of kind d ∷ []) d)) refl

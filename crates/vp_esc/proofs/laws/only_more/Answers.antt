@@ -1,0 +1,5 @@
+use Rattle.vp_esc.proofs.Growth.{only_more_lem}
+use Rattle.vp_esc.proofs.laws.only_more.Goals as goal
+
+pub returns : goal.returns
+returns c bytes more = only_more_lem bytes more

@@ -1,0 +1,22 @@
+use Rattle.std.proofs.Common.{refl, ◌≡◌, ◌≤◌, true, false, length, arith}
+use Rattle.std.proofs.lemmas.Bool.Decides.{nat_tests}
+use Rattle.vp_esc.specs.Command.{lists}
+use Rattle.vp_esc.proofs.Phases.{argument_lands, argument_refused, listed_push}
+use Rattle.vp_esc.proofs.reader.EscReader.argument.Goals as goal
+use Rattle.vp_esc.proofs.reader.EscReader.argument.Goals.{else-is_empty-via-then-is_empty+else-not-lists, else-is_empty-via-else-is_empty}
+
+pub returns-then-not-lists : goal.returns-then-not-lists
+returns-then-not-lists c rest hand =
+    let none : length c.args.self.now.kept.items ≤ 0 = grind (arith, nat_tests, c.is_empty.ensures, c.if-is_empty.true) in
+    let un : lists c.args.command c.args.byte ≡ false = grind (arith, nat_tests, c.lists.ensures, c.if-not-lists.true) in
+    argument_refused c.args.self.now c.args.command rest c.args.byte _ _ hand none un c.byte.ensures refl
+
+pub returns : goal.returns
+returns c rest hand =
+    let first : length c.args.self.now.kept.items ≡ 0 → lists c.args.command c.args.byte ≡ true =
+    λ z. elim c.else-is_empty.branch [
+      | else-is_empty-via-then-is_empty+else-not-lists w ↦ grind (arith, nat_tests, w.lists.ensures, w.if-not-lists)
+      | else-is_empty-via-else-is_empty w ↦ grind (arith, nat_tests, c.is_empty.ensures, w.if-is_empty)
+    ] in
+    argument_lands c.args.self.now c.args.command rest c.args.byte c.keep.new.kept.items _ _ hand
+    (listed_push c.args.command c.args.self.now.kept.items c.args.byte first hand.begun.listed) c.keep.ensures c.land.ensures

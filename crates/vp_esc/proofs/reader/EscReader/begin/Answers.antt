@@ -1,0 +1,9 @@
+use Rattle.std.proofs.Common.{refl, sym}
+use Rattle.vp_esc.proofs.Fronts.{leads, alone}
+use Rattle.vp_esc.proofs.reader.EscReader.begin.Goals as goal
+
+pub returns-in-Some : goal.returns-in-Some
+returns-in-Some c = leads _ _ _ (sym c.in-Some.ensures) refl refl
+
+pub returns-in-None : goal.returns-in-None
+returns-in-None c = rw c.single.ensures (alone _ _ (sym c.in-None.ensures) refl)

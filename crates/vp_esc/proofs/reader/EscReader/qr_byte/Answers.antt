@@ -1,0 +1,8 @@
+use Rattle.vp_esc.proofs.QrData.{qr_step}
+use Rattle.vp_esc.proofs.reader.EscReader.qr_byte.Goals as goal
+
+pub returns : goal.returns
+returns c rest hand =
+    rw (c.qr_phase-self.ensures, c.saturating_sub.ensures)
+    (qr_step c.args.self.now c.args.count c.args.left c.args.byte rest c.qr_given-item.result c.keep.new.kept hand
+    (rw c.as_slice.ensures.value at c.qr_given-item.ensures) c.keep.ensures)

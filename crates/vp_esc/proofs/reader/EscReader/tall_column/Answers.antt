@@ -1,0 +1,14 @@
+use Rattle.std.proofs.Common.{◌≡◌, length, sym, ◌∙◌}
+use Rattle.vp_esc.proofs.Columns.{tall_part, tall_whole}
+use Rattle.vp_esc.proofs.reader.EscReader.tall_column.Goals as goal
+
+pub returns-then-len-ne2 : goal.returns-then-len-ne2
+returns-then-len-ne2 c rest hand =
+    rw (c.tall_phase-self.ensures, c.saturating_sub.ensures)
+    (tall_part c.args.self.now c.args.left c.args.byte rest c.keep.new.kept hand (λ e. c.if-len-ne2.true (c.len.ensures.value ∙ e)) c.keep.ensures)
+
+pub returns : goal.returns
+returns c rest hand =
+    let both : length c.args.self.now.kept.items ≡ 2 = sym c.len.ensures.value ∙ c.if-len-ne2.false in
+    rw (c.tall_phase-self.ensures, c.saturating_sub.ensures, c.as_slice-above.ensures.value)
+    (tall_whole c.args.self.now c.args.left c.args.byte rest c.clear.new.self hand both c.clear.ensures)

@@ -1,0 +1,30 @@
+-- The division of a stream into units, by their fronts alone.
+use Rattle.std.specs.Prelude.{◌≡◌, ◌≢◌, ℕ, true, false, List, [], ◌++◌}
+use Rattle.std.specs.List.{flat_map, AllByRecursion}
+use Rattle.vp_esc.specs.Units.{is_open}
+
+-- Each proper front is open: no whole unit ends before.
+abbrev pub HasOpenFronts : List ℕ → Type 0
+HasOpenFronts bytes = (front more : List ℕ) → bytes ≡ front ++ more → more ≢ [] → is_open front ≡ true
+
+-- a unit: the shortest front that isn't open
+pub record IsUnit (bytes : List ℕ) : Type 0 where
+  pub whole : is_open bytes ≡ false
+  pub shortest : HasOpenFronts bytes
+
+-- a rest: no front of it is a whole unit, nor is it one
+pub record IsRest (bytes : List ℕ) : Type 0 where
+  pub opens : is_open bytes ≡ true
+  pub shortest : HasOpenFronts bytes
+
+abbrev pub all_bytes : List (List ℕ) → List ℕ
+all_bytes units = flat_map (λ unit. unit) units
+
+-- the stream is these units, one after another, and then a rest
+pub record Splits (bytes : List ℕ) (units : List (List ℕ)) (rest : List ℕ) : Type 0 where
+  pub spelling : bytes ≡ all_bytes units ++ rest
+  pub each : AllByRecursion IsUnit units
+  pub end : IsRest rest
+
+abbrev pub IsPrefix : {A : Type 0} → List A → List A → Type 0
+IsPrefix {A} front all = (more : List A) × (all ≡ front ++ more)

@@ -1,0 +1,9 @@
+pub mod Values
+pub mod Command
+pub mod Table
+pub mod Qr
+pub mod Units
+pub mod Split
+pub mod Laws
+pub mod Lines
+pub mod Reader

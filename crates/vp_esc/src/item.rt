@@ -1,0 +1,274 @@
+//! What a receipt stream says, command by command.
+use arrayvec::ArrayVec;
+
+/// A byte as it was sent, and what it stands for.
+#[derive(Clone, Copy, Debug, PartialEq, Eq)]
+pub struct Spelled<T> {
+    pub byte: u8,
+    pub value: T,
+}
+
+/// The two fonts.
+#[derive(Clone, Copy, Debug, PartialEq, Eq)]
+pub enum Font {
+    A,
+    B,
+}
+
+/// How many rows an underline has.
+#[derive(Clone, Copy, Debug, PartialEq, Eq)]
+pub enum Underline {
+    Off,
+    OneRow,
+    TwoRows,
+}
+
+/// Where a line stands in the line length.
+#[derive(Clone, Copy, Debug, PartialEq, Eq)]
+pub enum Justification {
+    Left,
+    Centre,
+    Right,
+}
+
+/// Which way a page is printed, and where it begins.
+#[derive(Clone, Copy, Debug, PartialEq, Eq)]
+pub enum Direction {
+    /// Left to right from the upper left.
+    LeftToRight,
+    /// Bottom to top from the lower left.
+    BottomToTop,
+    /// Right to left from the lower right.
+    RightToLeft,
+    /// Top to bottom from the upper right.
+    TopToBottom,
+}
+
+/// What ESC ! sets at once.
+#[derive(Clone, Copy, Debug, PartialEq, Eq)]
+pub struct PrintMode {
+    pub font: Font,
+    pub emphasized: bool,
+    pub double_height: bool,
+    pub double_width: bool,
+    pub underlined: bool,
+}
+
+/// How often a character's dots are drawn, each way 1 to 8 times.
+#[derive(Clone, Copy, Debug, PartialEq, Eq)]
+pub struct Magnification {
+    pub width: u8,
+    pub height: u8,
+}
+
+/// Where the text of a bar code stands.
+#[derive(Clone, Copy, Debug, PartialEq, Eq)]
+pub enum TextPlace {
+    None,
+    Above,
+    Below,
+    Both,
+}
+
+/// How a cut leaves the paper.
+#[derive(Clone, Copy, Debug, PartialEq, Eq)]
+pub enum Cut {
+    Full,
+    Partial,
+}
+
+/// The dots of a column of ESC *: how many there are, and how wide each is.
+#[derive(Clone, Copy, Debug, PartialEq, Eq)]
+pub enum ColumnMode {
+    /// m 0: eight dots, two wide.
+    Single8,
+    /// m 1: eight dots, one wide.
+    Double8,
+    /// m 32: 24 dots, two wide.
+    Single24,
+    /// m 33: 24 dots, one wide.
+    Double24,
+}
+
+/// How a raster is drawn.
+#[derive(Clone, Copy, Debug, PartialEq, Eq)]
+pub enum RasterScale {
+    Normal,
+    DoubleWidth,
+    DoubleHeight,
+    Quadruple,
+}
+
+/// The bar codes that are drawn.
+#[derive(Clone, Copy, Debug, PartialEq, Eq)]
+pub enum BarKind {
+    Ean13,
+    Code39,
+    Code128,
+}
+
+/// QR code models.
+#[derive(Clone, Copy, Debug, PartialEq, Eq)]
+pub enum QrModel {
+    One,
+    Two,
+    Micro,
+}
+
+/// How much of a QR symbol may be lost.
+#[derive(Clone, Copy, Debug, PartialEq, Eq)]
+pub enum QrLevel {
+    L,
+    M,
+    Q,
+    H,
+}
+
+/// The bytes that begin a command of several bytes.
+#[derive(Clone, Copy, Debug, PartialEq, Eq)]
+pub enum Lead {
+    Esc,
+    Gs,
+    Fs,
+    Dle,
+}
+
+/// What a command says, given at its last byte, or at its head and at each byte or column of its data.
+/// Where a byte isn't one that the command accepts, its value is `None`, and the command is ignored.
+#[derive(Clone, Drop)]
+pub enum EscItem {
+    LineFeed,
+    Tab,
+    CarriageReturn,
+    FormFeed,
+    Cancel,
+    /// A control byte that does nothing.
+    Control(u8),
+    Character(u8),
+
+    /// ESC SP: dots right of each character.
+    RightSpacing(u8),
+    /// ESC !
+    PrintMode(Spelled<PrintMode>),
+    /// ESC $: dots from the line's start.
+    Position(u16),
+    /// ESC \: dots from the position.
+    MovePosition(i16),
+    /// ESC *: the head of so many columns.
+    Columns {
+        mode: ColumnMode,
+        count: u16,
+    },
+    /// A column of eight dots, the highest bit first.
+    Column8(u8),
+    /// A column of 24 dots, the highest bit of the first byte first.
+    Column24([u8; 3]),
+    /// ESC -
+    Underline(Spelled<Option<Underline>>),
+    /// ESC 2
+    DefaultLineSpacing,
+    /// ESC 3: dots.
+    LineSpacing(u8),
+    /// ESC @
+    Initialize,
+    /// ESC D: the stops, each greater than the one before, and the byte that ended them, if they are fewer than 32.
+    TabStops {
+        stops: ArrayVec<u8, 32>,
+        end: Option<u8>,
+    },
+    /// ESC E
+    Emphasized(Spelled<bool>),
+    /// ESC G
+    DoubleStrike(Spelled<bool>),
+    /// ESC J: dots.
+    FeedDots(u8),
+    /// ESC d: lines.
+    FeedLines(u8),
+    /// ESC L
+    PageMode,
+    /// ESC S
+    StandardMode,
+    /// ESC FF
+    PrintPage,
+    /// ESC M
+    Font(Spelled<Option<Font>>),
+    /// ESC T
+    Direction(Spelled<Option<Direction>>),
+    /// ESC W: dots.
+    Area {
+        x: u16,
+        y: u16,
+        width: u16,
+        height: u16,
+    },
+    /// ESC a
+    Justify(Spelled<Option<Justification>>),
+    /// ESC i: a partial cut.
+    CutLeavingOnePoint,
+    /// ESC m: a partial cut.
+    CutLeavingThreePoints,
+
+    /// GS !
+    Magnify(Spelled<Option<Magnification>>),
+    /// GS $: dots from the area's start.
+    VerticalPosition(u16),
+    /// GS \: dots from the vertical position.
+    MoveVerticalPosition(i16),
+    /// GS B
+    Inverse(Spelled<bool>),
+    /// GS H
+    BarTextPlace(Spelled<Option<TextPlace>>),
+    /// GS f
+    BarTextFont(Spelled<Option<Font>>),
+    /// GS h: dots; 0 is ignored.
+    BarHeight(u8),
+    /// GS w: dots of a module, accepted from 2 to 6.
+    BarModule(u8),
+    /// GS L: dots.
+    LeftMargin(u16),
+    /// GS W: dots.
+    AreaWidth(u16),
+    /// GS V 0, 48, 1 or 49.
+    Cut(Spelled<Cut>),
+    /// GS V 65 or 66: feeds so many dots, and cuts.
+    FeedAndCut {
+        cut: Spelled<Cut>,
+        dots: u8,
+    },
+    /// GS v 0: the head of a raster of so many bytes a row and so many rows.
+    /// Its bytes follow where the scale is accepted and neither number is 0; else it is ignored.
+    Raster {
+        scale: Spelled<Option<RasterScale>>,
+        bytes: u16,
+        rows: u16,
+    },
+    /// A byte of a raster, row by row.
+    RasterByte(u8),
+    /// GS k: the data as far as they are kept, and whether there were more.
+    /// The byte of the kind says whether a 0 ended them (up to 6) or their number was sent.
+    Symbol {
+        kind: Spelled<Option<BarKind>>,
+        data: ArrayVec<u8, 255>,
+        more: bool,
+    },
+    /// GS ( k, function 65.
+    QrModel(QrModel),
+    /// GS ( k, function 67: dots of a module, 1 to 16.
+    QrModule(u8),
+    /// GS ( k, function 69.
+    QrLevel(QrLevel),
+    /// GS ( k, function 80: the head of so many bytes that are to be stored.
+    QrStore(u16),
+    /// A byte that is stored.
+    QrByte(u8),
+    /// GS ( k, function 81.
+    QrPrint,
+    /// GS ( k that is ignored: its bytes from the count on, as far as they were read when that was known.
+    QrIgnored(ArrayVec<u8, 6>),
+
+    /// A command that is read without effect: its lead, and its bytes as far as they were read when it was given.
+    WithoutEffect {
+        lead: Lead,
+        bytes: ArrayVec<u8, 6>,
+    },
+}

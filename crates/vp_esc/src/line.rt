@@ -1,0 +1,258 @@
+//! The listing: a line for each item.
+ghost use Rattle.std.specs.Prelude.{◌≡◌, ◌≤◌, ◌<◌, ◌+◌, ◌*◌, ◌/◌, ◌%◌, ◌++◌, ◌∷◌, [], length, codes, option_to_list};
+ghost use Rattle.vp_esc.specs.Lines.{line_of, listed as listed_as, hex_bytes, lead_word, two_bytes, column_byte as column_byte_as, model_byte as model_byte_as, level_byte as level_byte_as, symbol_bytes};
+
+use crate::item::{ColumnMode, EscItem, Lead, QrLevel, QrModel};
+use crate::value::is_kind_to_zero;
+use arrayvec::ArrayVec;
+
+impl EscItem {
+    /// The item's line of the listing, up to and with its LF: a word, and the bytes of the command in hex.
+    pub fn line(&self) -> ArrayVec<u8, 800>
+        ensures { result.items ≡ line_of self.now }
+    {
+        match self {
+            EscItem::LineFeed => listed(b"LF", &[]),
+            EscItem::Tab => listed(b"HT", &[]),
+            EscItem::CarriageReturn => listed(b"CR", &[]),
+            EscItem::FormFeed => listed(b"FF", &[]),
+            EscItem::Cancel => listed(b"CAN", &[]),
+            EscItem::Control(b) => listed(b"ctl", &[*b]),
+            EscItem::Character(b) => listed(b"char", &[*b]),
+            EscItem::RightSpacing(n) => listed(b"esc", &[0x20, *n]),
+            EscItem::PrintMode(n) => listed(b"esc", &[0x21, n.byte]),
+            EscItem::Position(n) => word_line(b"esc", 0x24, *n),
+            EscItem::MovePosition(n) => word_line(b"esc", 0x5C, n.cast_unsigned()),
+            EscItem::Columns { mode, count } => listed(
+                b"esc",
+                &[0x2A, column_byte(*mode), low(*count), high(*count)],
+            ),
+            EscItem::Column8(b) => listed(b"column", &[*b]),
+            EscItem::Column24(bytes) => listed(b"column", bytes),
+            EscItem::Underline(n) => listed(b"esc", &[0x2D, n.byte]),
+            EscItem::DefaultLineSpacing => listed(b"esc", &[0x32]),
+            EscItem::LineSpacing(n) => listed(b"esc", &[0x33, *n]),
+            EscItem::Initialize => listed(b"esc", &[0x40]),
+            EscItem::TabStops { stops, end } => tab_stops(stops.as_slice(), *end),
+            EscItem::Emphasized(n) => listed(b"esc", &[0x45, n.byte]),
+            EscItem::DoubleStrike(n) => listed(b"esc", &[0x47, n.byte]),
+            EscItem::FeedDots(n) => listed(b"esc", &[0x4A, *n]),
+            EscItem::FeedLines(n) => listed(b"esc", &[0x64, *n]),
+            EscItem::PageMode => listed(b"esc", &[0x4C]),
+            EscItem::StandardMode => listed(b"esc", &[0x53]),
+            EscItem::PrintPage => listed(b"esc", &[0x0C]),
+            EscItem::Font(n) => listed(b"esc", &[0x4D, n.byte]),
+            EscItem::Direction(n) => listed(b"esc", &[0x54, n.byte]),
+            EscItem::Area {
+                x,
+                y,
+                width,
+                height,
+            } => listed(
+                b"esc",
+                &[
+                    0x57,
+                    low(*x),
+                    high(*x),
+                    low(*y),
+                    high(*y),
+                    low(*width),
+                    high(*width),
+                    low(*height),
+                    high(*height),
+                ],
+            ),
+            EscItem::Justify(n) => listed(b"esc", &[0x61, n.byte]),
+            EscItem::CutLeavingOnePoint => listed(b"esc", &[0x69]),
+            EscItem::CutLeavingThreePoints => listed(b"esc", &[0x6D]),
+            EscItem::Magnify(n) => listed(b"gs", &[0x21, n.byte]),
+            EscItem::VerticalPosition(n) => word_line(b"gs", 0x24, *n),
+            EscItem::MoveVerticalPosition(n) => word_line(b"gs", 0x5C, n.cast_unsigned()),
+            EscItem::Inverse(n) => listed(b"gs", &[0x42, n.byte]),
+            EscItem::BarTextPlace(n) => listed(b"gs", &[0x48, n.byte]),
+            EscItem::BarTextFont(n) => listed(b"gs", &[0x66, n.byte]),
+            EscItem::BarHeight(n) => listed(b"gs", &[0x68, *n]),
+            EscItem::BarModule(n) => listed(b"gs", &[0x77, *n]),
+            EscItem::LeftMargin(n) => word_line(b"gs", 0x4C, *n),
+            EscItem::AreaWidth(n) => word_line(b"gs", 0x57, *n),
+            EscItem::Cut(m) => listed(b"gs", &[0x56, m.byte]),
+            EscItem::FeedAndCut { cut, dots } => listed(b"gs", &[0x56, cut.byte, *dots]),
+            EscItem::Raster { scale, bytes, rows } => listed(
+                b"gs",
+                &[
+                    0x76,
+                    0x30,
+                    scale.byte,
+                    low(*bytes),
+                    high(*bytes),
+                    low(*rows),
+                    high(*rows),
+                ],
+            ),
+            EscItem::RasterByte(b) => listed(b"byte", &[*b]),
+            EscItem::Symbol { kind, data, .. } => symbol(kind.byte, data.as_slice()),
+            EscItem::QrModel(model) => listed(
+                b"gs",
+                &[0x28, 0x6B, 4, 0, 49, 65, model_byte(*model), 0],
+            ),
+            EscItem::QrModule(n) => listed(b"gs", &[0x28, 0x6B, 3, 0, 49, 67, *n]),
+            EscItem::QrLevel(level) => listed(
+                b"gs",
+                &[0x28, 0x6B, 3, 0, 49, 69, level_byte(*level)],
+            ),
+            EscItem::QrStore(count) => qr_store(*count),
+            EscItem::QrByte(b) => listed(b"byte", &[*b]),
+            EscItem::QrPrint => listed(b"gs", &[0x28, 0x6B, 3, 0, 49, 81, 48]),
+            EscItem::QrIgnored(bytes) => joined(b"gs", &[0x28, 0x6B], bytes.as_slice(), &[]),
+            EscItem::WithoutEffect { lead, bytes } => listed(lead.word(), bytes.as_slice()),
+        }
+    }
+}
+
+impl Lead {
+    fn word(self) -> &'static [u8]
+        ensures value { result.now ≡ lead_word self }
+        ensures short { length result.now ≤ 3 }
+    {
+        match self {
+            Lead::Esc => b"esc",
+            Lead::Gs => b"gs",
+            Lead::Fs => b"fs",
+            Lead::Dle => b"dle",
+        }
+    }
+}
+
+fn word_line(word: &[u8], name: u8, n: u16) -> ArrayVec<u8, 800>
+    requires { length word.now ≤ 6 }
+    ensures { result.items ≡ listed_as word.now (name ∷ two_bytes n) }
+{
+    listed(word, &[name, low(n), high(n)])
+}
+
+/// ESC D
+fn tab_stops(stops: &[u8], end: Option<u8>) -> ArrayVec<u8, 800>
+    requires { length stops.now ≤ 32 }
+    ensures { result.items ≡ listed_as (codes "esc") (0x44 ∷ (stops.now ++ option_to_list end)) }
+{
+    match end {
+        Some(byte) => joined(b"esc", &[0x44], stops, &[byte]),
+        None => joined(b"esc", &[0x44], stops, &[]),
+    }
+}
+
+/// GS k
+fn symbol(m: u8, bytes: &[u8]) -> ArrayVec<u8, 800>
+    requires { length bytes.now ≤ 255 }
+    ensures { result.items ≡ listed_as (codes "gs") (symbol_bytes m bytes.now) }
+{
+    if is_kind_to_zero(m) {
+        joined(b"gs", &[0x6B, m], bytes, &[0])
+    } else {
+        joined(b"gs", &[0x6B, m, (bytes.len() % 256) as u8], bytes, &[])
+    }
+}
+
+/// GS ( k, function 80: the bytes that it counts are three more.
+fn qr_store(count: u16) -> ArrayVec<u8, 800>
+    ensures { result.items ≡ listed_as (codes "gs") (0x28 ∷ 0x6B ∷ (two_bytes (count + 3) ++ 49 ∷ 80 ∷ 48 ∷ [])) }
+{
+    let p = count as u32 + 3;
+    listed(
+        b"gs",
+        &[
+            0x28,
+            0x6B,
+            (p % 256) as u8,
+            (p / 256 % 256) as u8,
+            49,
+            80,
+            48,
+        ],
+    )
+}
+
+/// The low byte of a number.
+fn low(n: u16) -> u8
+    ensures { result ≡ n % 256 }
+{
+    (n % 256) as u8
+}
+
+/// The high byte of a number.
+fn high(n: u16) -> u8
+    ensures { result ≡ n / 256 % 256 }
+{
+    (n / 256 % 256) as u8
+}
+
+fn column_byte(mode: ColumnMode) -> u8
+    ensures { result ≡ column_byte_as mode }
+{
+    match mode {
+        ColumnMode::Single8 => 0,
+        ColumnMode::Double8 => 1,
+        ColumnMode::Single24 => 32,
+        ColumnMode::Double24 => 33,
+    }
+}
+
+fn model_byte(model: QrModel) -> u8
+    ensures { result ≡ model_byte_as model }
+{
+    match model {
+        QrModel::One => 49,
+        QrModel::Two => 50,
+        QrModel::Micro => 51,
+    }
+}
+
+fn level_byte(level: QrLevel) -> u8
+    ensures { result ≡ level_byte_as level }
+{
+    match level {
+        QrLevel::L => 48,
+        QrLevel::M => 49,
+        QrLevel::Q => 50,
+        QrLevel::H => 51,
+    }
+}
+
+/// A line of a word and bytes.
+fn listed(word: &[u8], bytes: &[u8]) -> ArrayVec<u8, 800>
+    requires word { length word.now ≤ 6 }
+    requires bytes { length bytes.now ≤ 200 }
+    ensures { result.items ≡ listed_as word.now bytes.now }
+{
+    joined(word, bytes, &[], &[])
+}
+
+/// A line of a word and bytes, which stand in three parts.
+#[tactic(auto, unfolding(crate::specs::Lines::listed))]
+fn joined(word: &[u8], front: &[u8], middle: &[u8], back: &[u8]) -> ArrayVec<u8, 800>
+    requires { length word.now + 3 * (length front.now + length middle.now + length back.now) < 800 }
+    ensures { result.items ≡ listed_as word.now (front.now ++ middle.now ++ back.now) }
+{
+    let mut line = ArrayVec::new();
+    let _fits = line.try_extend_from_slice(word);
+    spell(&mut line, front);
+    spell(&mut line, middle);
+    spell(&mut line, back);
+    line.push(b'\n');
+    line
+}
+
+/// Appends a blank and two hex digits for each byte.
+fn spell(line: &mut ArrayVec<u8, 800>, bytes: &[u8])
+    requires { length line.old.items + 3 * length bytes.now ≤ 800 }
+    ensures value { line.new.items ≡ line.old.items ++ hex_bytes bytes.now }
+    ensures len { length line.new.items ≡ length line.old.items + 3 * length bytes.now }
+{
+    for byte in bytes {
+        let mut digits = [0; 2];
+        let _written = hex::encode_to_slice(&[*byte], &mut digits);
+        line.push(b' ');
+        line.push(digits[0]);
+        line.push(digits[1]);
+    }
+}

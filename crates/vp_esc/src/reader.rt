@@ -1,0 +1,511 @@
+//! The reader: one byte at a time.
+ghost use Rattle.std.specs.Prelude.{◌≡◌, ◌↔◌, ◌∷◌, ◌++◌, [], ℕ, List, IsTrue, false, Some, None, Err, length, take, min, ◌≤◌, ◌<◌, ◌+◌, ◌*◌};
+ghost use Rattle.vp_esc.specs.Split.{split, items, fault_of};
+ghost use Rattle.vp_esc.specs.Reader.{Stands, Gives, Advances, InArguments, InStops, InBytes, InTallColumns, InSymbolToZero, InSymbolData, InQr, Begun, Lands, StandsIn, data_item, bytes_or_ground, tall_or_ground, columns_or_ground, qr_or_ground, raster_data, raster_items, bytes_within};
+ghost use Rattle.vp_dots.specs.declared.fault.Fault.{Fault};
+ghost use Rattle.vp_esc.specs.Command.{lead_byte, head_len};
+ghost use Rattle.vp_esc.specs.Values.{is_kind_to_zero as is_to_zero};
+ghost use Rattle.vp_esc.specs.Units.{single_item, symbol_with};
+
+use crate::command::{Command, unused};
+use crate::item::{ColumnMode, EscItem, Lead, RasterScale};
+use crate::qr::{ignored, qr_given};
+use crate::value::{bar_kind_of, column_mode_of, is_kind_to_zero, scale_of, spelled, word};
+use arrayvec::ArrayVec;
+use vp_dots::Fault;
+
+/// Data of a known length, by what each byte of them gives.
+#[derive(Clone, Copy)]
+enum Data {
+    /// Nothing.
+    Skipped,
+    Raster,
+    /// Columns of eight dots.
+    Columns,
+}
+
+/// Where in a unit the reader is.
+#[derive(Clone, Copy)]
+enum Phase {
+    /// Between units.
+    Ground,
+    AfterLead,
+    /// Among the arguments before any data.
+    Arguments(Command),
+    /// Among the tab stops, the last of which is this.
+    Stops(u8),
+    /// Among data, so many bytes of which are left.
+    Bytes { kind: Data, left: u32 },
+    /// Among columns of 24 dots.
+    TallColumns(u32),
+    SymbolToZero { kind: u8, more: bool },
+    SymbolData { kind: u8, left: u8 },
+    /// Among the bytes of GS ( k behind its count.
+    Qr { count: u16, left: u16 },
+    Stopped(Fault),
+}
+
+/// A reader of receipt bytes.
+#[derive(Drop)]
+pub struct EscReader {
+    phase: Phase,
+    /// The lead of the command in hand, and the byte after it.
+    lead: Lead,
+    name: u8,
+    /// Its arguments, or its data as far as they are kept.
+    kept: ArrayVec<u8, 255>,
+}
+
+impl EscReader {
+    /// A reader of no bytes.
+    pub fn new() -> Self
+        ensures stands { Stands result [] }
+        ensures nothing { items [] ≡ [] }
+        ensures no_fault { fault_of [] ≡ None }
+    {
+        EscReader {
+            phase: Phase::Ground,
+            lead: Lead::Esc,
+            name: 0,
+            kept: ArrayVec::new(),
+        }
+    }
+
+    fn begin(&mut self, byte: u8) -> Option<EscItem>
+        ensures { Advances (Ok result) [] byte self.new }
+    {
+        match Lead::of(byte) {
+            Some(lead) => {
+                self.phase = Phase::AfterLead;
+                self.lead = lead;
+                None
+            }
+            None => {
+                self.phase = Phase::Ground;
+                Some(single(byte))
+            }
+        }
+    }
+
+    /// The byte after a lead.
+    fn call(&mut self, byte: u8) -> Result<Option<EscItem>, Fault>
+        ensures { Advances result (lead_byte self.old.lead ∷ []) byte self.new }
+    {
+        match Command::of(self.lead, byte) {
+            None => {
+                let fault = Fault::Unknown(self.lead.byte(), byte);
+                self.phase = Phase::Stopped(fault);
+                Err(fault)
+            }
+            Some(command) => {
+                self.name = byte;
+                self.kept.clear();
+                Ok(self.land(command))
+            }
+        }
+    }
+
+    /// An argument that comes before any data.
+    fn argument(&mut self, command: Command, byte: u8) -> Result<Option<EscItem>, Fault>
+        ensures { (rest : List ℕ) → InArguments self.old command rest → Advances result rest byte self.new }
+    {
+        if self.kept.is_empty() && !command.lists(byte) {
+            let fault = Fault::Unknown(self.lead.byte(), self.name);
+            self.phase = Phase::Stopped(fault);
+            return Err(fault);
+        }
+        keep(&mut self.kept, byte);
+        Ok(self.land(command))
+    }
+
+    /// Goes on behind the arguments that are kept.
+    fn land(&mut self, command: Command) -> Option<EscItem>
+        ensures { (rest : List ℕ) → Begun self.old.lead self.old.name command self.old.kept.items rest →
+            length self.old.kept.items ≤ head_len command self.old.kept.items → Lands result rest self.new }
+    {
+        let args = self.kept.as_slice();
+        if args.len() != command.head_len(args) {
+            self.phase = Phase::Arguments(command);
+            return None;
+        }
+        match command {
+            Command::Plain(plain) => {
+                let item = plain.item(self.lead, self.name, args);
+                self.phase = Phase::Ground;
+                Some(item)
+            }
+            Command::TabStops => {
+                self.phase = Phase::Stops(0);
+                None
+            }
+            Command::Columns => self.columns_head(),
+            Command::Raster => self.raster_head(),
+            Command::Symbol => self.symbol_head(),
+            Command::Function => self.function_head(),
+            Command::Graphics => self.graphics_head(),
+        }
+    }
+
+    fn columns_head(&mut self) -> Option<EscItem>
+        requires { length self.old.kept.items ≡ 3 }
+        ensures { (rest : List ℕ) → Begun self.old.lead self.old.name Command.Columns self.old.kept.items rest →
+            Lands result rest self.new }
+    {
+        let args = self.kept.as_slice();
+        let mode = column_mode_of(args[0]);
+        let count = word(args[1], args[2]);
+        self.phase = columns_phase(mode, count);
+        self.kept.clear();
+        Some(EscItem::Columns { mode, count })
+    }
+
+    fn raster_head(&mut self) -> Option<EscItem>
+        requires { length self.old.kept.items ≡ 6 }
+        ensures { (rest : List ℕ) → Begun self.old.lead self.old.name Command.Raster self.old.kept.items rest →
+            Lands result rest self.new }
+    {
+        let args = self.kept.as_slice();
+        let scale = scale_of(args[1]);
+        let bytes = word(args[2], args[3]);
+        let rows = word(args[4], args[5]);
+        self.phase = bytes_phase(raster_kind(scale), byte_count(bytes, rows));
+        Some(EscItem::Raster {
+            scale: spelled(args[1], scale),
+            bytes,
+            rows,
+        })
+    }
+
+    fn symbol_head(&mut self) -> Option<EscItem>
+        requires { length self.old.kept.items ≡ head_len Command.Symbol self.old.kept.items }
+        ensures { (rest : List ℕ) → Begun self.old.lead self.old.name Command.Symbol self.old.kept.items rest →
+            Lands result rest self.new }
+    {
+        let args = self.kept.as_slice();
+        let kind = args[0];
+        if is_kind_to_zero(kind) {
+            self.kept.clear();
+            self.phase = Phase::SymbolToZero { kind, more: false };
+            return None;
+        }
+        let count = args[1];
+        self.kept.clear();
+        self.symbol_count(kind, count)
+    }
+
+    /// Goes on behind the number of a symbol's bytes.
+    fn symbol_count(&mut self, kind: u8, count: u8) -> Option<EscItem>
+        requires { self.old.kept.items ≡ [] }
+        ensures { (rest : List ℕ) → Begun self.old.lead self.old.name Command.Symbol (kind ∷ count ∷ []) rest →
+            is_to_zero kind ≡ false → Lands result rest self.new }
+    {
+        if count == 0 {
+            self.phase = Phase::Ground;
+            return Some(self.symbol(kind, false));
+        }
+        self.phase = Phase::SymbolData { kind, left: count };
+        None
+    }
+
+    fn function_head(&mut self) -> Option<EscItem>
+        requires { length self.old.kept.items ≡ 3 }
+        ensures { (rest : List ℕ) → Begun self.old.lead self.old.name Command.Function self.old.kept.items rest →
+            Lands result rest self.new }
+    {
+        let args = self.kept.as_slice();
+        let count = word(args[1], args[2]);
+        if args[0] != 0x6B {
+            let item = unused(self.lead, self.name, args);
+            self.phase = bytes_phase(Data::Skipped, count as u32);
+            return Some(item);
+        }
+        self.kept.clear();
+        self.phase = qr_phase(count, count);
+        if count == 0 {
+            return Some(ignored(0, &[]));
+        }
+        None
+    }
+
+    fn graphics_head(&mut self) -> Option<EscItem>
+        requires { length self.old.kept.items ≡ 5 }
+        ensures { (rest : List ℕ) → Begun self.old.lead self.old.name Command.Graphics self.old.kept.items rest →
+            Lands result rest self.new }
+    {
+        let args = self.kept.as_slice();
+        let left = word(args[1], args[2]) as u32 + 65536 * word(args[3], args[4]) as u32;
+        let item = unused(self.lead, self.name, args);
+        self.phase = bytes_phase(Data::Skipped, left);
+        Some(item)
+    }
+
+    fn stop(&mut self, last: u8, byte: u8) -> Option<EscItem>
+        ensures { (rest : List ℕ) → InStops self.old last rest → Advances (Ok result) rest byte self.new }
+    {
+        if byte <= last {
+            self.phase = Phase::Ground;
+            return Some(EscItem::TabStops {
+                stops: first_stops(self.kept.as_slice()),
+                end: Some(byte),
+            });
+        }
+        keep(&mut self.kept, byte);
+        if self.kept.len() < 32 {
+            self.phase = Phase::Stops(byte);
+            return None;
+        }
+        self.phase = Phase::Ground;
+        Some(EscItem::TabStops {
+            stops: first_stops(self.kept.as_slice()),
+            end: None,
+        })
+    }
+
+    /// A byte of data.
+    fn byte(&mut self, kind: Data, left: u32, byte: u8) -> Option<EscItem>
+        ensures { (rest : List ℕ) → InBytes self.old kind left rest → Advances (Ok result) rest byte self.new }
+    {
+        self.phase = bytes_phase(kind, left.saturating_sub(1));
+        data_item_of(kind, byte)
+    }
+
+    /// A byte of a column of 24 dots.
+    fn tall_column(&mut self, left: u32, byte: u8) -> Option<EscItem>
+        ensures { (rest : List ℕ) → InTallColumns self.old left rest → Advances (Ok result) rest byte self.new }
+    {
+        self.phase = tall_phase(left.saturating_sub(1));
+        if self.kept.len() != 2 {
+            keep(&mut self.kept, byte);
+            return None;
+        }
+        let above = self.kept.as_slice();
+        let column = EscItem::Column24([above[0], above[1], byte]);
+        self.kept.clear();
+        Some(column)
+    }
+
+    /// A symbol of the data that are kept.
+    fn symbol(&mut self, kind: u8, more: bool) -> EscItem
+        ensures item { result ≡ symbol_with kind self.old.kept.items more }
+        ensures rest { self.new ≡ record self.old { kept = self.new.kept } }
+    {
+        EscItem::Symbol {
+            kind: spelled(kind, bar_kind_of(kind)),
+            data: self.kept.take(),
+            more,
+        }
+    }
+
+    fn symbol_byte(&mut self, kind: u8, more: bool, byte: u8) -> Option<EscItem>
+        ensures { (rest : List ℕ) → InSymbolToZero self.old kind more rest → Advances (Ok result) rest byte self.new }
+    {
+        if byte == 0 {
+            self.phase = Phase::Ground;
+            return Some(self.symbol(kind, more));
+        }
+        let more = more || self.kept.is_full();
+        keep(&mut self.kept, byte);
+        self.phase = Phase::SymbolToZero { kind, more };
+        None
+    }
+
+    fn symbol_data(&mut self, kind: u8, left: u8, byte: u8) -> Option<EscItem>
+        ensures { (rest : List ℕ) → InSymbolData self.old kind left rest → Advances (Ok result) rest byte self.new }
+    {
+        keep(&mut self.kept, byte);
+        if left <= 1 {
+            self.phase = Phase::Ground;
+            return Some(self.symbol(kind, false));
+        }
+        self.phase = Phase::SymbolData {
+            kind,
+            left: left - 1,
+        };
+        None
+    }
+
+    fn qr_byte(&mut self, count: u16, left: u16, byte: u8) -> Option<EscItem>
+        ensures { (rest : List ℕ) → InQr self.old count left rest → Advances (Ok result) rest byte self.new }
+    {
+        let item = qr_given(count, self.kept.as_slice(), byte);
+        keep(&mut self.kept, byte);
+        self.phase = qr_phase(count, left.saturating_sub(1));
+        item
+    }
+
+    /// One byte, by the phase. It stands apart from `take`, which would pay at each byte for the room of its items.
+    #[inline(never)]
+    fn step(&mut self, byte: u8) -> Result<Option<EscItem>, Fault>
+        ensures { (rest : List ℕ) → StandsIn self.old rest → Advances result rest byte self.new }
+    {
+        match self.phase {
+            Phase::Ground => Ok(self.begin(byte)),
+            Phase::AfterLead => self.call(byte),
+            Phase::Arguments(command) => self.argument(command, byte),
+            Phase::Stops(last) => Ok(self.stop(last, byte)),
+            Phase::Bytes { kind, left } => Ok(self.byte(kind, left, byte)),
+            Phase::TallColumns(left) => Ok(self.tall_column(left, byte)),
+            Phase::SymbolToZero { kind, more } => Ok(self.symbol_byte(kind, more, byte)),
+            Phase::SymbolData { kind, left } => Ok(self.symbol_data(kind, left, byte)),
+            Phase::Qr { count, left } => Ok(self.qr_byte(count, left, byte)),
+            Phase::Stopped(fault) => Err(fault),
+        }
+    }
+
+    /// Takes the next byte, and gives the item that it completes. After a fault each call answers it.
+    pub fn take(&mut self, byte: u8) -> Result<Option<EscItem>, Fault>
+        ensures gives { (bytes : List ℕ) → Stands self.old bytes →
+            Gives result (items bytes) (items (bytes ++ byte ∷ [])) (fault_of (bytes ++ byte ∷ [])) }
+        ensures stands { (bytes : List ℕ) → Stands self.old bytes → Stands self.new (bytes ++ byte ∷ []) }
+        ensures sticks { (bytes : List ℕ) (fault : Fault) → Stands self.old bytes → fault_of bytes ≡ Some fault → result ≡ Err fault }
+    {
+        if let Phase::Bytes {
+            kind: Data::Raster,
+            left,
+        } = self.phase
+        {
+            self.phase = bytes_phase(Data::Raster, left.saturating_sub(1));
+            return Ok(Some(EscItem::RasterByte(byte)));
+        }
+        self.step(byte)
+    }
+
+    /// Takes bytes of a raster that is printed, all but its last, and tells how many; none anywhere else.
+    pub fn take_raster(&mut self, input: &[u8]) -> usize
+        ensures count { result ≡ min (length input.now) (bytes_within self.old.phase) }
+        ensures gives { (bytes : List ℕ) (n : ℕ) → Stands self.old bytes → n ≤ result →
+            items (bytes ++ take n input.now) ≡ items bytes ++ raster_items (take n input.now) }
+        ensures known { (bytes : List ℕ) (n : ℕ) → Stands self.old bytes → 0 < n → n ≤ result → fault_of (bytes ++ take n input.now) ≡ None }
+        ensures stands { (bytes : List ℕ) → Stands self.old bytes → Stands self.new (bytes ++ take result input.now) }
+    {
+        let Phase::Bytes {
+            kind: Data::Raster,
+            left,
+        } = self.phase
+        else {
+            return 0;
+        };
+        let n = input.len().min(left.saturating_sub(1) as usize);
+        self.phase = Phase::Bytes {
+            kind: Data::Raster,
+            left: left - n as u32,
+        };
+        n
+    }
+
+    /// Whether the bytes so far end with a whole unit.
+    pub fn at_rest(&self) -> bool
+        ensures { (bytes : List ℕ) → Stands self.now bytes →
+            IsTrue result ↔ (((split bytes).rest ≡ []) × (fault_of bytes ≡ None)) }
+    {
+        match self.phase {
+            Phase::Ground => true,
+            _ => false,
+        }
+    }
+}
+
+/// The phase before so many bytes of data.
+fn bytes_phase(kind: Data, left: u32) -> Phase
+    ensures { result ≡ bytes_or_ground kind left }
+{
+    if left == 0 {
+        Phase::Ground
+    } else {
+        Phase::Bytes { kind, left }
+    }
+}
+
+/// The phase before so many bytes of columns of 24 dots.
+fn tall_phase(left: u32) -> Phase
+    ensures { result ≡ tall_or_ground left }
+{
+    if left == 0 {
+        Phase::Ground
+    } else {
+        Phase::TallColumns(left)
+    }
+}
+
+/// The phase before so many columns.
+fn columns_phase(mode: ColumnMode, count: u16) -> Phase
+    ensures { result ≡ columns_or_ground mode count }
+{
+    match mode {
+        ColumnMode::Single8 | ColumnMode::Double8 => bytes_phase(Data::Columns, count as u32),
+        ColumnMode::Single24 | ColumnMode::Double24 => tall_phase(3 * count as u32),
+    }
+}
+
+/// The phase before so many bytes of GS ( k.
+fn qr_phase(count: u16, left: u16) -> Phase
+    ensures { result ≡ qr_or_ground count left }
+{
+    if left == 0 {
+        Phase::Ground
+    } else {
+        Phase::Qr { count, left }
+    }
+}
+
+/// What the bytes of a raster give.
+fn raster_kind(scale: Option<RasterScale>) -> Data
+    ensures { result ≡ raster_data scale }
+{
+    match scale {
+        Some(_) => Data::Raster,
+        None => Data::Skipped,
+    }
+}
+
+/// What a byte of data gives.
+fn data_item_of(kind: Data, byte: u8) -> Option<EscItem>
+    ensures { result ≡ data_item kind byte }
+{
+    match kind {
+        Data::Skipped => None,
+        Data::Raster => Some(EscItem::RasterByte(byte)),
+        Data::Columns => Some(EscItem::Column8(byte)),
+    }
+}
+
+/// How many bytes a raster has, at most 65,535 times 65,535.
+fn byte_count(bytes: u16, rows: u16) -> u32
+    ensures { result ≡ bytes * rows }
+{
+    bytes as u32 * rows as u32
+}
+
+/// Keeps a byte, up to 255 of them.
+fn keep(kept: &mut ArrayVec<u8, 255>, byte: u8)
+    ensures { kept.new.items ≡ take 255 (kept.old.items ++ byte ∷ []) }
+{
+    if kept.is_full() {
+        return;
+    }
+    kept.push(byte);
+}
+
+/// The stops that are kept, at most 32.
+fn first_stops(kept: &[u8]) -> ArrayVec<u8, 32>
+    ensures { length kept.now ≤ 32 → result.items ≡ kept.now }
+{
+    let mut stops = ArrayVec::new();
+    let _fits = stops.try_extend_from_slice(kept);
+    stops
+}
+
+/// The item of a byte that is a command alone.
+fn single(byte: u8) -> EscItem
+    ensures { result ≡ single_item byte }
+{
+    match byte {
+        0x0A => EscItem::LineFeed,
+        0x09 => EscItem::Tab,
+        0x0D => EscItem::CarriageReturn,
+        0x0C => EscItem::FormFeed,
+        0x18 => EscItem::Cancel,
+        0x00..=0x1F => EscItem::Control(byte),
+        _ => EscItem::Character(byte),
+    }
+}
