@@ -1,0 +1,7 @@
+pub mod Blank
+pub mod Bytes
+pub mod Falling
+pub mod Lines
+pub mod Pages
+pub mod Rows
+pub mod Wipes

@@ -1,0 +1,15 @@
+use Rattle.std.proofs.Common.{◌+◌, ◌*◌, ◌&&◌, w64, eqb, ap, ◌∙◌, arith, rules, length, pos}
+use mir.Val.{SFits}
+use Rattle.std.proofs.lemmas.Int.{to_z-of_z}
+use Rattle.vp_dots.specs.Dots.{dot}
+use Rattle.vp_dots.specs.declared.Op.TheVariants.{Black}
+use Rattle.vp_page.proofs.Lines.{backward}
+use Rattle.vp_page.proofs.Rows.{dot_past, rows_same}
+use Rattle.vp_page.proofs.line.lay_left.Goals as goal
+
+pub returns : goal.returns
+returns c =
+    let a = c.args.area in
+    let fits : SFits w64 c.start_of.result = search rules in
+    rows_same Black _ _ _ _ (λ x k _. ap (λ b. eqb k c.args.y && b) (backward (a.x + a.dx) (8 * length c.args.row.now) a.dx x _ (dot c.args.row.now) (dot c.clip_reversed.new.line)
+    (rw (to_z-of_z w64 c.start_of.result fits) (c.start_of.ensures ∙ ap pos (omega arith))) c.clip_reversed.ensures.cut (λ d h. dot_past c.args.row.now d (omega arith)))) c.lay_along.ensures

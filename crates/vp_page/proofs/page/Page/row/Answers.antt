@@ -1,0 +1,18 @@
+use Rattle.std.proofs.Common.{◌≡◌, ℕ, arith, ap, ◌∙◌, take, List, [], get_or}
+use Rattle.vp_dots.specs.Dots.{dot}
+use Rattle.vp_dots.specs.Images.{row_of}
+use Rattle.vp_page.specs.Layers.{Layer, page_dot}
+use Rattle.vp_page.specs.Pages.{HasPage}
+use Rattle.vp_page.proofs.Rows.{take-row_of}
+use Rattle.vp_page.proofs.page.Page.row.Goals as goal
+
+pub returns : goal.returns
+returns c =
+    let whole : (layers : List Layer) → HasPage layers c.args.self.now → c.row-row.result.now ≡ row_of 72 (λ x. page_dot layers x c.args.y) = λ layers page.
+    c.dots_decide.ensures.row 72 (λ x. page_dot layers x c.args.y) c.row-row.ensures.len
+    (λ d h. ap (λ row. dot row d) (c.row-row.ensures.value ∙ ap (λ (p : List (List ℕ)). get_or p c.args.y []) c.self.view_is) ∙ page.dots_are d c.args.y (omega arith) c.requires)
+    in record {
+      value = c.row-row.ensures.value ∙ ap (λ (p : List (List ℕ)). get_or p c.args.y []) c.self.view_is;
+      bytes = whole;
+      left = λ layers n page h. ap (take n) (whole layers page) ∙ take-row_of n 72 (λ x. page_dot layers x c.args.y) h;
+    }

@@ -1,0 +1,4 @@
+pub mod Areas
+pub mod Layers
+pub mod Pages
+pub mod Laws

@@ -1,0 +1,44 @@
+//! Areas of the page, and where lines run in them.
+ghost use Rattle.std.specs.Prelude.{◌≡◌};
+
+/// ESC T: where lines begin and which way they run; the next line lies to their right, as one reads them.
+#[derive(Clone, Copy, Debug, PartialEq, Eq)]
+pub enum Direction {
+    LeftToRight,
+    BottomToTop,
+    RightToLeft,
+    TopToBottom,
+}
+
+/// ESC W: a part of the page, in dots: its upper left place, its width and its height.
+#[derive(Clone, Copy, Debug, PartialEq, Eq)]
+pub struct Area {
+    pub x: u16,
+    pub y: u16,
+    pub dx: u16,
+    pub dy: u16,
+}
+
+impl Area {
+    ghost use Rattle.vp_page.specs.Areas.{line_length, depth};
+
+    /// How many dots a line holds.
+    pub fn line_length(self, direction: Direction) -> u16
+        ensures { result ≡ line_length self direction }
+    {
+        match direction {
+            Direction::LeftToRight | Direction::RightToLeft => self.dx,
+            Direction::BottomToTop | Direction::TopToBottom => self.dy,
+        }
+    }
+
+    /// How many rows of dots lie below one another.
+    pub fn depth(self, direction: Direction) -> u16
+        ensures { result ≡ depth self direction }
+    {
+        match direction {
+            Direction::LeftToRight | Direction::RightToLeft => self.dy,
+            Direction::BottomToTop | Direction::TopToBottom => self.dx,
+        }
+    }
+}

@@ -1,0 +1,13 @@
+//! The page of page mode: dots laid in four directions, and areas made white.
+#![tactic(auto)]
+
+mod area;
+mod laws;
+mod line;
+mod page;
+#[cfg(test)]
+mod tests;
+
+pub use area::{Area, Direction};
+pub use laws::{dots_fall, marks_and_wipes, rows_make_an_image};
+pub use page::Page;

@@ -1,0 +1,180 @@
+//! One row of dots, laid along a row of a page or across its rows, and a box made white.
+ghost use Rattle.std.specs.Prelude.{◌≡◌, ℕ, ◌+◌, ◌-◌, ◌*◌, ◌≤◌, ◌^◌, ◌&&◌, nat_eq, nat_lt, nat_le, length, pos, ◌+ℤ◌};
+ghost use Rattle.vp_dots.specs.Dots.{dot, dots, shifted};
+ghost use Rattle.vp_dots.specs.Places.{RowsPainted};
+ghost use Rattle.vp_dots.specs.declared.Op.TheVariants.{Black, White};
+ghost use Rattle.vp_page.specs.Areas.{holds};
+
+use crate::Area;
+use vp_dots::{Band, Ink, Op, dot_of, fill_dots, or_into, paint_dot};
+
+/// The rows of the page.
+const ROWS: usize = 1664;
+
+/// The most bytes of a row that is laid: a line of 1,664 dots.
+pub(crate) const LINE: usize = 208;
+
+/// Writes a line of an image.
+pub(crate) fn draw<I: Ink>(ink: &I, y: u32, row: &mut [u8])
+    requires { I.width ink.now ≤ 8 * length row.old }
+    ensures len { length row.new ≡ length row.old }
+    ensures line { (x : ℕ) → dot row.new x ≡ I.ink_at ink.now x y }
+{
+    row.fill(0);
+    ink.paint_row(y, Op::Black, 0, row);
+}
+
+/// Turns a row of dots end for end.
+fn reverse(line: &mut [u8])
+    ensures len { length line.new ≡ length line.old }
+    ensures turned { (d : ℕ) → dot line.new d ≡ (nat_lt d (dots line.old) && dot line.old (dots line.old - 1 - d)) }
+{
+    line.reverse();
+    for byte in line.iter_mut() {
+        *byte = byte.reverse_bits();
+    }
+}
+
+/// Copies the dots of a row that stand before a place; the others become white.
+fn clip(row: &[u8], end: u16, line: &mut [u8])
+    requires short { length row.now ≤ 208 }
+    requires alike { length line.old ≡ length row.now }
+    ensures len { length line.new ≡ length row.now }
+    ensures cut { (d : ℕ) → dot line.new d ≡ (nat_lt d end && dot row.now d) }
+{
+    line.copy_from_slice(row);
+    fill_dots(Op::White, u64::from(end), 8 * row.len() as u64, line);
+}
+
+/// The same, from the last dot to the first.
+fn clip_reversed(row: &[u8], end: u16, line: &mut [u8])
+    requires short { length row.now ≤ 208 }
+    requires alike { length line.old ≡ length row.now }
+    ensures len { length line.new ≡ length row.now }
+    ensures cut { (d : ℕ) → dot line.new d ≡ (nat_lt d (dots row.now) && (nat_lt (dots row.now - 1 - d) end && dot row.now (dots row.now - 1 - d))) }
+{
+    clip(row, end, line);
+    reverse(line);
+}
+
+/// Where a line of so many bytes begins that ends before a place.
+fn start_of(end: u32, bytes: usize) -> i64
+    requires { bytes ≤ 208 }
+    ensures { result +ℤ pos (8 * bytes) ≡ pos end }
+{
+    i64::from(end) - 8 * bytes as i64
+}
+
+/// Blackens row y of the page where the line, moved by an offset, is black.
+fn lay_along(line: &[u8], at: i64, y: usize, band: &mut Band<72, 1664>)
+    ensures { RowsPainted 1664 Black (λ x k. nat_eq k y && shifted at (dot line.now) x) band.old band.new }
+{
+    if y < ROWS {
+        or_into(line, at, band.row_mut(y));
+    }
+}
+
+/// Blackens column x of the page where the line, moved by an offset, is black.
+fn lay_across(line: &[u8], at: i64, x: usize, band: &mut Band<72, 1664>)
+    requires { length line.now ≤ 208 }
+    ensures { RowsPainted 1664 Black (λ d k. nat_eq d x && shifted at (dot line.now) k) band.old band.new }
+{
+    let far = at.unsigned_abs() as usize;
+    if at >= 0 {
+        lay_from(line, 0, far, x, band);
+    } else {
+        lay_from(line, far, 0, x, band);
+    }
+}
+
+/// Blackens column x of the page where the line, its dot `skip` on row `top`, is black.
+fn lay_dots(line: &[u8], skip: usize, top: usize, x: usize, band: &mut Band<72, 1664>)
+    requires { length line.now ≤ 208 }
+    ensures { RowsPainted 1664 Black (λ d k. nat_eq d x && (nat_le top k && dot line.now (k - top + skip))) band.old band.new }
+{
+    let rows = (8 * line.len())
+        .saturating_sub(skip)
+        .min(ROWS.saturating_sub(top));
+    for i in 0..rows {
+        if dot_of(line, (skip + i) as u128) {
+            paint_dot(Op::Black, x as u128, band.row_mut(top + i));
+        }
+    }
+}
+
+/// The same, by the bytes that are not white.
+fn lay_from(line: &[u8], skip: usize, top: usize, x: usize, band: &mut Band<72, 1664>)
+    requires short { length line.now ≤ 208 }
+    requires near { top ≤ 2 ^ 63 }
+    ensures { RowsPainted 1664 Black (λ d k. nat_eq d x && (nat_le top k && dot line.now (k - top + skip))) band.old band.new }
+{
+    for j in 0..line.len() {
+        let byte = line[j];
+        if byte != 0 {
+            let above = top + (8 * j).saturating_sub(skip);
+            lay_dots(&[byte], skip.saturating_sub(8 * j), above, x, band);
+        }
+    }
+}
+
+/// Blackens row y of the page where the row, from the area's left on, is black.
+pub(crate) fn lay_right(row: &[u8], area: Area, y: usize, band: &mut Band<72, 1664>)
+    requires { length row.now ≤ 208 }
+    ensures { RowsPainted 1664 Black (λ x k. nat_eq k y && (nat_le area.x x && (nat_lt (x - area.x) area.dx && dot row.now (x - area.x)))) band.old band.new }
+{
+    if 8 * row.len() <= area.dx as usize {
+        lay_along(row, i64::from(area.x), y, band);
+        return;
+    }
+    let mut room = [0; LINE];
+    let line = &mut room[..row.len()];
+    clip(row, area.dx, line);
+    lay_along(line, i64::from(area.x), y, band);
+}
+
+/// Blackens row y of the page where the row, from the area's right edge to the left, is black.
+pub(crate) fn lay_left(row: &[u8], area: Area, y: usize, band: &mut Band<72, 1664>)
+    requires { length row.now ≤ 208 }
+    ensures { RowsPainted 1664 Black (λ x k. nat_eq k y && (nat_lt x (area.x + area.dx) && (nat_lt (area.x + area.dx - 1 - x) area.dx && dot row.now (area.x + area.dx - 1 - x)))) band.old band.new }
+{
+    let mut room = [0; LINE];
+    let line = &mut room[..row.len()];
+    clip_reversed(row, area.dx, line);
+    let right = u32::from(area.x) + u32::from(area.dx);
+    lay_along(line, start_of(right, row.len()), y, band);
+}
+
+/// Blackens column x of the page where the row, from the area's top down, is black.
+pub(crate) fn lay_down(row: &[u8], area: Area, x: usize, band: &mut Band<72, 1664>)
+    requires { length row.now ≤ 208 }
+    ensures { RowsPainted 1664 Black (λ d k. nat_eq d x && (nat_le area.y k && (nat_lt (k - area.y) area.dy && dot row.now (k - area.y)))) band.old band.new }
+{
+    let mut room = [0; LINE];
+    let line = &mut room[..row.len()];
+    clip(row, area.dy, line);
+    lay_across(line, i64::from(area.y), x, band);
+}
+
+/// Blackens column x of the page where the row, from the area's lower edge up, is black.
+pub(crate) fn lay_up(row: &[u8], area: Area, x: usize, band: &mut Band<72, 1664>)
+    requires { length row.now ≤ 208 }
+    ensures { RowsPainted 1664 Black (λ d k. nat_eq d x && (nat_lt k (area.y + area.dy) && (nat_lt (area.y + area.dy - 1 - k) area.dy && dot row.now (area.y + area.dy - 1 - k)))) band.old band.new }
+{
+    let mut room = [0; LINE];
+    let line = &mut room[..row.len()];
+    clip_reversed(row, area.dy, line);
+    let below = u32::from(area.y) + u32::from(area.dy);
+    lay_across(line, start_of(below, row.len()), x, band);
+}
+
+/// Makes the places of an area white.
+pub(crate) fn whiten(area: Area, band: &mut Band<72, 1664>)
+    ensures { RowsPainted 1664 White (holds area) band.old band.new }
+{
+    let left = u64::from(area.x);
+    let right = left + u64::from(area.dx);
+    let top = area.y as usize;
+    for i in 0..ROWS.saturating_sub(top).min(area.dy as usize) {
+        fill_dots(Op::White, left, right, band.row_mut(top + i));
+    }
+}

@@ -1,0 +1,101 @@
+//! The page.
+ghost use Rattle.std.specs.Prelude.{◌≡◌, ℕ, ◌<◌, ◌≤◌, List, [], ◌∷◌, IfOk, length, slice_index_or, take};
+ghost use Rattle.vp_dots.specs.Dots.{dot};
+ghost use Rattle.vp_dots.specs.Images.{row_of};
+
+use crate::line::{LINE, draw, lay_down, lay_left, lay_right, lay_up, whiten};
+use crate::{Area, Direction};
+use std::alloc::{AllocError, Global};
+use std::marker::Model;
+use vp_dots::{Band, Ink, dots_decide};
+
+/// 1,664 rows of 576 dots.
+#[derive(Drop)]
+pub struct Page {
+    band: Band<72, 1664>,
+}
+
+impl Model for Page {
+    ghost use Rattle.std.specs.Prelude.{ℕ, List};
+
+    ghost Value = { List (List ℕ) };
+
+    ghost view = { λ s. s.band };
+}
+
+impl Page {
+    ghost use Rattle.vp_page.specs.Layers.{Layer, Laid, Wiped, row_mark, page_dot};
+    ghost use Rattle.vp_page.specs.Pages.{HasPage};
+
+    /// A white page.
+    pub fn new(alloc: Global) -> Result<Page, AllocError>
+        ensures { IfOk result (λ page. HasPage [] page) }
+    {
+        let band = Band::new(alloc)?;
+        Ok(Page { band })
+    }
+
+    /// ESC L: makes the page white.
+    pub fn clear(&mut self)
+        ensures { HasPage [] self.new }
+    {
+        self.band.clear();
+    }
+
+    /// Lays a row of dots at the depth v of an area. Dots past the line length, and a row past the
+    /// depth, are dropped, and what falls off the page.
+    pub fn lay_row(&mut self, area: Area, direction: Direction, v: u32, row: &[u8])
+        requires { length row.now ≤ 208 }
+        ensures { (layers : List Layer) → HasPage layers self.old →
+            HasPage (Laid (row_mark area direction v (dot row.now)) ∷ layers) self.new }
+    {
+        if v >= u32::from(area.depth(direction)) {
+            return;
+        }
+        let v = v as usize;
+        let right = area.x as usize + area.dx as usize;
+        let below = area.y as usize + area.dy as usize;
+        match direction {
+            Direction::LeftToRight => lay_right(row, area, area.y as usize + v, &mut self.band),
+            Direction::BottomToTop => lay_up(row, area, area.x as usize + v, &mut self.band),
+            Direction::RightToLeft => lay_left(row, area, below - 1 - v, &mut self.band),
+            Direction::TopToBottom => lay_down(row, area, right - 1 - v, &mut self.band),
+        }
+    }
+
+    /// Lays an image of at most 1,664 dots of width, with its top at a depth of an area. Dots past the
+    /// line length and the depth are dropped, and what falls off the page.
+    pub fn lay<I: Ink>(&mut self, ink: &I, area: Area, direction: Direction, top: u32)
+        requires { I.width ink.now ≤ 1664 }
+        ensures { (layers : List Layer) → HasPage layers self.old →
+            HasPage (Laid (record { area = area; direction = direction; top = top; dot = I.ink_at ink.now }) ∷ layers) self.new }
+    {
+        let (width, height) = ink.size();
+        let mut room = [0; LINE];
+        let row = &mut room[..width.div_ceil(8) as usize];
+        let below = u32::from(area.depth(direction)).saturating_sub(top);
+        for line in 0..height.min(below) {
+            draw(ink, line, row);
+            self.lay_row(area, direction, top + line, row);
+        }
+    }
+
+    /// CAN: makes an area white.
+    pub fn wipe(&mut self, area: Area)
+        ensures { (layers : List Layer) → HasPage layers self.old → HasPage (Wiped area ∷ layers) self.new }
+    {
+        whiten(area, &mut self.band);
+    }
+
+    /// The bytes of a row.
+    pub fn row(&self, y: usize) -> &[u8]
+        requires { y < 1664 }
+        ensures value { result.now ≡ slice_index_or self.now y [] }
+        ensures bytes { (layers : List Layer) → HasPage layers self.now → result.now ≡ row_of 72 (λ x. page_dot layers x y) }
+        ensures left { (layers : List Layer) (n : ℕ) → HasPage layers self.now → n ≤ 72 → take n result.now ≡ row_of n (λ x. page_dot layers x y) }
+    {
+        let row = self.band.row(y);
+        dots_decide(row);
+        row
+    }
+}
