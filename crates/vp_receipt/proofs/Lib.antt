@@ -1,0 +1,15 @@
+pub mod Bitmaps
+pub mod Rows
+pub mod Places
+pub mod Cut
+pub mod Jobs
+pub mod Lines
+pub mod PageLines
+pub mod Gathering
+pub mod RasterRows
+pub mod Storing
+pub mod Showing
+pub mod QrImages
+pub mod SymbolTexts
+pub mod RowLaws
+pub mod Runs

@@ -1,0 +1,68 @@
+-- What is laid on the page since ESC L, and how far down it is printed.
+use Rattle.std.specs.Prelude.{◌≡◌, ℕ, ◌<◌, ◌+◌, ◌-◌, nat_lt, Bool, true, false, ◌&&◌, if◌then◌else◌, List, [], ◌∷◌, slice_index_or}
+use Rattle.vp_dots.specs.Dots.{dot}
+use Rattle.vp_esc.specs.declared.item.EscItem.{EscItem}
+use Rattle.vp_esc.specs.declared.item.EscItem.TheVariants.{LineFeed, Character, FeedDots, FeedLines, PageMode, Cancel}
+use Rattle.vp_page.specs.declared.area.Area.{Area}
+use Rattle.vp_page.specs.Layers.{Layer, Laid, Wiped, Mark}
+use Rattle.vp_receipt.specs.Setup.{Setup}
+use Rattle.vp_receipt.specs.Pages.{area, is_obeyed, raised, extent_of}
+use Rattle.vp_receipt.specs.History.{Placed, line, position, line_length, character_width, breaks, begins_page, height, is_open, mode, vertical, used, page_of}
+use Rattle.vp_receipt.specs.declared.page_mode.PageSettings.{PageSettings}
+use Rattle.vp_receipt.specs.declared.settings.Settings.{Settings}
+use Rattle.vp_receipt.specs.LineDots.{any_dot}
+
+-- dots with their top at the vertical position
+abbrev pub mark_of : PageSettings → (ℕ → ℕ → Bool) → Mark
+mark_of p dots = record { area = p.area; direction = p.direction; top = p.vertical; dot = dots }
+
+-- dot (u, w) of the line
+abbrev pub line_dot : List Placed → ℕ → ℕ → Bool
+line_dot placed u w = nat_lt w (height placed) && any_dot placed (height placed) u w
+
+-- the line on a page: no margin, and no justification
+abbrev pub line_mark : Setup → List EscItem → Mark
+line_mark setup before = mark_of (page_of setup before) (line_dot (line setup before))
+
+-- a bitmap has these dots on the rows of the line
+pub record HasRows (s : Settings) (bitmap : List (List ℕ)) (dots : ℕ → ℕ → Bool) : Type 0 where
+  pub same : (u w : ℕ) → u < 1664 → w < s.height → dot (slice_index_or bitmap (192 - s.height + w) []) u ≡ dots u w
+  pub high : (u w : ℕ) → dots u w ≡ true → w < s.height
+
+-- the layers, and the line over them where it is laid
+abbrev pub laid_if : Bool → Mark → List Layer → List Layer
+laid_if lays mark layers = if lays then Laid mark ∷ layers else layers
+
+-- whether an item ends the line on a page
+abbrev pub ends_line : Setup → List EscItem → EscItem → Bool
+ends_line setup before (Character c) = breaks (position setup before) (character_width before) (line_length setup before)
+ends_line setup before LineFeed = true
+ends_line setup before (FeedDots n) = true
+ends_line setup before (FeedLines n) = true
+ends_line setup before item = is_obeyed setup.width (vertical setup before) item
+
+-- CAN makes the area white
+abbrev pub wipes : EscItem → Bool
+wipes Cancel = true
+wipes _ = false
+
+abbrev pub wiped_if : Bool → Area → List Layer → List Layer
+wiped_if wipes a layers = if wipes then Wiped a ∷ layers else layers
+
+-- the layers after an item on the page
+abbrev pub layers_with : Setup → List EscItem → EscItem → List Layer → List Layer
+layers_with setup before item layers = wiped_if (wipes item) (area setup before) (laid_if (ends_line setup before item && is_open (line setup before)) (line_mark setup before) layers)
+
+-- what is laid on the page, and wiped, since ESC L
+abbrev pub layers : Setup → List EscItem → List Layer
+layers setup [] = []
+layers setup (PageMode ∷ before) = if begins_page (mode setup before) (line setup before) then [] else layers setup before
+layers setup (item ∷ before) = layers_with setup before item (layers setup before)
+
+-- what is laid on the page that ESC FF and FF print: an open line too
+abbrev pub printed_layers : Setup → List EscItem → List Layer
+printed_layers setup before = laid_if (is_open (line setup before)) (line_mark setup before) (layers setup before)
+
+-- how many rows of it they print
+abbrev pub printed_rows : Setup → List EscItem → ℕ
+printed_rows setup before = extent_of (raised (is_open (line setup before)) (area setup before) (used setup before)) (area setup before)

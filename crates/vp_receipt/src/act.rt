@@ -1,0 +1,350 @@
+ghost use Rattle.std.specs.Prelude.{◌≡◌, ◌≤◌, ◌<◌, ◌+◌, ◌-◌, ◌*◌, ◌∷◌, ◌++◌, List, [], ℕ, Bool, ◌&&◌, length, true, false, None, Some, IfNone, IfSome, max, min, take};
+ghost use Rattle.vp_esc.specs.declared.item.EscItem.{EscItem};
+ghost use Rattle.vp_glyph.specs.declared.Sheets.{Sheets};
+ghost use Rattle.vp_receipt.specs.declared.canvas.Canvas.{Canvas};
+ghost use Rattle.vp_receipt.specs.declared.job.After.{After};
+ghost use Rattle.vp_receipt.specs.Setup.{Setup};
+ghost use Rattle.vp_receipt.specs.History.{settings_of, IsFit, height, is_open, line, mode, Placed, image_of};
+ghost use Rattle.vp_page.specs.Layers.{Layer, Laid};
+ghost use Rattle.vp_page.specs.Pages.{HasPage};
+ghost use Rattle.vp_receipt.specs.PageMarks.{HasRows, mark_of, line_mark, laid_if, wipes, layers_with, ends_line, layers};
+ghost use Rattle.vp_receipt.specs.LineDots.{HasDots};
+ghost use Rattle.vp_receipt.specs.Rows.{line_text, image_text};
+ghost use Rattle.vp_receipt.specs.Rasters.{raster_scale, raster_bytes};
+ghost use Rattle.vp_receipt.specs.Strips.{prints, strips, own_part, own_strips, prints_page, page_part, symbol_image, ended, raster_row_text};
+ghost use Rattle.vp_receipt.specs.Images.{Image};
+ghost use Rattle.vp_receipt.specs.SymbolInks.{symbol_dot, symbol_height, is_symbol, IsSymbolOf};
+ghost use Rattle.vp_receipt.specs.Standing.{Gathers, HasPageIf};
+ghost use Rattle.vp_receipt.specs.Held.{text_of, after_text, IsJob, IsTurned, AreOwn, IsShowing};
+
+use crate::canvas::Canvas;
+use crate::job::{After, Job};
+use crate::page_mode::Mode;
+use crate::paint::{Bitmap, begin_line, put_ink};
+use crate::raster::{Raster, scale_named, times_across, times_down};
+use crate::settings::{Settings, draws};
+use crate::strip::Strip;
+use crate::symbol::Symbol;
+use vp_dots::{Ink, dots_decide};
+use vp_esc::item::{Cut, EscItem};
+use vp_glyph::Sheets;
+use vp_page::Page;
+
+/// Puts the character that waits into the line.
+pub fn settle(s: Settings, waiting: Option<u8>, sheets: &Sheets, bitmap: &mut Bitmap)
+    requires { IsFit s }
+    ensures { (placed : List Placed) → Gathers sheets.now s bitmap.old waiting placed → Gathers sheets.now s bitmap.new None placed }
+{
+    if let Some(code) = waiting {
+        begin_line(bitmap);
+        put_ink(&s.text.cell(sheets, code), 0, bitmap);
+    }
+}
+
+/// Puts ink into the line at its position.
+fn put_next<I: Ink>(s: Settings, ink: &I, bitmap: &mut Bitmap)
+    requires { I.height ink.now ≤ 192 }
+    ensures { (placed : List Placed) → s.is_open ≡ is_open placed → (is_open placed ≡ true → HasDots placed bitmap.old) →
+        HasDots (record { at = s.position; image = record { width = I.width ink.now; height = I.height ink.now; dot = I.ink_at ink.now } } ∷ placed) bitmap.new }
+{
+    if !s.is_open {
+        begin_line(bitmap);
+    }
+    put_ink(ink, s.position, bitmap);
+}
+
+/// The line in a strip of so many rows.
+fn line_job(s: Settings, rows: u32) -> Job
+    requires { IsFit s }
+    ensures job { (canvas : Canvas) → IsJob result canvas }
+    ensures turned { IsTurned result.place result.after }
+    ensures text { (setup : Setup) (before : List EscItem) (canvas : Canvas) → s ≡ settings_of setup before → (is_open (line setup before) ≡ true → HasDots (line setup before) canvas.bitmap) →
+        text_of result canvas ≡ line_text setup before rows }
+    ensures shows { (canvas : Canvas) → IsShowing result canvas s.height 0 }
+{
+    Job::of(Strip::of_line(s, rows), After::End)
+}
+
+/// The line, if it is open, and then strips.
+fn ended_job(s: Settings, after: After) -> Job
+    requires fit { IsFit s }
+    requires after { AreOwn after }
+    ensures job { (canvas : Canvas) → IsJob result canvas }
+    ensures turned { IsTurned result.place result.after }
+    ensures text { (setup : Setup) (before : List EscItem) (canvas : Canvas) → s ≡ settings_of setup before → (is_open (line setup before) ≡ true → HasDots (line setup before) canvas.bitmap) →
+        text_of result canvas ≡ ended setup before ++ after_text after canvas }
+    ensures shows { (canvas : Canvas) → IsShowing result canvas s.height (length (after_text after canvas)) }
+{
+    if s.is_open {
+        return Job::of(Strip::of_line(s, s.feed_rows()), after);
+    }
+    Job::of(None, after)
+}
+
+/// What an item that prints no symbol does to the line: the character that then waits, and what is printed.
+fn act_on_line(
+    s: Settings,
+    item: &EscItem,
+    sheets: &Sheets,
+    bitmap: &mut Bitmap,
+) -> (Option<u8>, Job)
+    requires fit { IsFit s }
+    requires item { (byte : ℕ) → item.now ≡ EscItem.RasterByte byte → ⊥ }
+    requires symbol { is_symbol item.now ≡ false }
+    ensures job { (canvas : Canvas) → IsJob result.1 canvas }
+    ensures turned { IsTurned result.1.place result.1.after }
+    ensures line { (setup : Setup) (before : List EscItem) → s ≡ settings_of setup before → sheets.now ≡ setup.sheets → Gathers sheets.now s bitmap.old None (line setup before) →
+        Gathers sheets.now (settings_of setup (item.now ∷ before)) bitmap.new result.0 (line setup (item.now ∷ before)) }
+    ensures text { (setup : Setup) (before : List EscItem) (canvas : Canvas) → s ≡ settings_of setup before → canvas.bitmap ≡ bitmap.new → Gathers sheets.now s bitmap.old None (line setup before) →
+        text_of result.1 canvas ≡ strips setup before item.now }
+    ensures shows { (setup : Setup) (before : List EscItem) (canvas : Canvas) → s ≡ settings_of setup before →
+        IsShowing result.1 canvas (height (line setup before)) (length (own_strips setup before item.now)) }
+{
+    match item {
+        EscItem::Character(code) => {
+            if s.breaks() {
+                return (Some(*code), line_job(s, s.feed_rows()));
+            }
+            put_next(s, &s.text.cell(sheets, *code), bitmap);
+            (None, Job::none())
+        }
+        EscItem::Column8(byte) => {
+            if s.takes_column() {
+                put_next(s, &s.column([*byte], 3), bitmap);
+            }
+            (None, Job::none())
+        }
+        EscItem::Column24(bytes) => {
+            if s.takes_column() {
+                put_next(s, &s.column(*bytes, 1), bitmap);
+            }
+            (None, Job::none())
+        }
+        EscItem::LineFeed => (None, line_job(s, s.feed_rows())),
+        EscItem::FeedDots(n) => (None, line_job(s, u32::from(s.height).max(u32::from(*n)))),
+        EscItem::FeedLines(n) => (None, line_job(s, s.lines_rows(*n))),
+        EscItem::CutLeavingOnePoint | EscItem::CutLeavingThreePoints => (
+            None,
+            ended_job(s, After::One(Strip::cut(s.paper, Cut::Partial))),
+        ),
+        EscItem::Cut(cut) => (
+            None,
+            ended_job(s, After::One(Strip::cut(s.paper, cut.value))),
+        ),
+        EscItem::FeedAndCut { cut, dots } => {
+            let cut = Strip::cut(s.paper, cut.value);
+            if *dots == 0 {
+                return (None, ended_job(s, After::One(cut)));
+            }
+            let white = Strip::white(s.paper, u32::from(*dots));
+            (None, ended_job(s, After::Two(white, cut)))
+        }
+        EscItem::Raster { scale, bytes, rows } => {
+            if !draws(scale.value, *bytes, *rows) {
+                return (None, Job::none());
+            }
+            let times = times_down(scale_named(scale.value));
+            let head = Strip::raster_head(s.paper, times * u32::from(*rows));
+            (None, ended_job(s, After::One(head)))
+        }
+        _ => (None, Job::none()),
+    }
+}
+
+/// The line, if it is open, and then a symbol so wide and high.
+fn symbol_job(s: Settings, wide: u32, high: u32) -> Job
+    requires fit { IsFit s }
+    requires some { 0 < high }
+    ensures job { (canvas : Canvas) → IsJob result canvas }
+    ensures turned { IsTurned result.place result.after }
+    ensures text { (setup : Setup) (before : List EscItem) (canvas : Canvas) (image : Image) → s ≡ settings_of setup before → (is_open (line setup before) ≡ true → HasDots (line setup before) canvas.bitmap) →
+        wide ≡ image.width → high ≡ image.height → ((x y : ℕ) → symbol_dot canvas.sheets canvas.symbol x y ≡ image.dot x y) → text_of result canvas ≡ ended setup before ++ image_text setup before (Some image) }
+    ensures shows { (setup : Setup) (before : List EscItem) (canvas : Canvas) (image : Image) → s ≡ settings_of setup before → wide ≡ image.width → high ≡ image.height →
+        ((x y : ℕ) → symbol_dot canvas.sheets canvas.symbol x y ≡ image.dot x y) → IsShowing result canvas (height (line setup before)) (length (image_text setup before (Some image))) }
+{
+    ended_job(s, After::One(Strip::drawn(s, wide, high)))
+}
+
+/// What an item does in standard mode: the character that then waits, and what is printed.
+fn act_on_paper(
+    s: Settings,
+    item: &EscItem,
+    symbol: Option<Symbol>,
+    canvas: &mut Canvas,
+) -> (Option<u8>, Job)
+    requires fit { IsFit s }
+    requires item { (byte : ℕ) → item.now ≡ EscItem.RasterByte byte → ⊥ }
+    requires some { IfNone symbol (is_symbol item.now ≡ false) }
+    requires high { IfSome symbol (λ drawn. 0 < symbol_height canvas.old.sheets drawn) }
+    ensures sheets { canvas.new.sheets ≡ canvas.old.sheets }
+    ensures page { canvas.new.page ≡ canvas.old.page }
+    ensures job { IsJob result.1 canvas.new }
+    ensures turned { IsTurned result.1.place result.1.after }
+    ensures line { (setup : Setup) (before : List EscItem) → s ≡ settings_of setup before → canvas.old.sheets ≡ setup.sheets → IsSymbolOf setup.sheets symbol (symbol_image setup before item.now) →
+        Gathers canvas.old.sheets s canvas.old.bitmap None (line setup before) →
+        Gathers canvas.old.sheets (settings_of setup (item.now ∷ before)) canvas.new.bitmap result.0 (line setup (item.now ∷ before)) }
+    ensures text { (setup : Setup) (before : List EscItem) → s ≡ settings_of setup before → canvas.old.sheets ≡ setup.sheets → IsSymbolOf setup.sheets symbol (symbol_image setup before item.now) →
+        Gathers canvas.old.sheets s canvas.old.bitmap None (line setup before) → text_of result.1 canvas.new ≡ strips setup before item.now }
+    ensures shows { (setup : Setup) (before : List EscItem) → s ≡ settings_of setup before → canvas.old.sheets ≡ setup.sheets → IsSymbolOf setup.sheets symbol (symbol_image setup before item.now) →
+        IsShowing result.1 canvas.new (height (line setup before)) (length (own_strips setup before item.now)) }
+{
+    if let Some(symbol) = symbol {
+        let (wide, high) = symbol.size(&canvas.sheets);
+        let job = symbol_job(s, wide, high);
+        canvas.symbol = symbol;
+        return (None, job);
+    }
+    act_on_line(s, item, &canvas.sheets, &mut canvas.bitmap)
+}
+
+/// Begins a white page where ESC L does.
+fn begin_page(s: Settings, item: &EscItem, page: &mut Page)
+    ensures { (setup : Setup) (before : List EscItem) → s ≡ settings_of setup before → mode setup before ≡ Mode.Standard → HasPageIf (mode setup (item.now ∷ before)) (layers setup (item.now ∷ before)) page.new }
+{
+    if let EscItem::PageMode = item {
+        if s.begins_page() {
+            page.clear();
+        }
+    }
+}
+
+/// Lays the line with its top at the vertical position.
+fn lay_line(s: Settings, bitmap: &Bitmap, page: &mut Page)
+    requires { IsFit s }
+    ensures { (dots : ℕ → ℕ → Bool) (layers : List Layer) → HasRows s bitmap.now dots → HasPage layers page.old → HasPage (Laid (mark_of s.page dots) ∷ layers) page.new }
+{
+    let top = s.page.vertical as u32;
+    for y in 0..s.height as u32 {
+        let source = bitmap.row(192 - s.height as usize + y as usize);
+        page.lay_row(s.page.area, s.page.direction, top + y, source);
+    }
+}
+
+/// Whether an item makes the area white.
+fn wipes(item: &EscItem) -> bool
+    ensures { result ≡ wipes item.now }
+{
+    matches!(item, EscItem::Cancel)
+}
+
+/// Whether an item prints the page.
+fn prints_page(item: &EscItem) -> bool
+    ensures { result ≡ prints_page item.now }
+{
+    matches!(item, EscItem::PrintPage | EscItem::FormFeed)
+}
+
+/// Lays the line if it is open, and an item ends it.
+fn lay_ended(s: Settings, item: &EscItem, bitmap: &Bitmap, page: &mut Page)
+    requires { IsFit s }
+    ensures { (setup : Setup) (before : List EscItem) → s ≡ settings_of setup before → (is_open (line setup before) ≡ true → HasDots (line setup before) bitmap.now) → HasPage (layers setup before) page.old →
+        HasPage (laid_if (ends_line setup before item.now && is_open (line setup before)) (line_mark setup before) (layers setup before)) page.new }
+{
+    if s.ends_line(item) && s.is_open {
+        lay_line(s, bitmap, page);
+    }
+}
+
+/// Lays the line if an item ends it, and makes the area white if it is CAN.
+fn lay(s: Settings, item: &EscItem, bitmap: &Bitmap, page: &mut Page)
+    requires { IsFit s }
+    ensures { (setup : Setup) (before : List EscItem) → s ≡ settings_of setup before → (is_open (line setup before) ≡ true → HasDots (line setup before) bitmap.now) → HasPage (layers setup before) page.old →
+        HasPage (layers_with setup before item.now (layers setup before)) page.new }
+{
+    lay_ended(s, item, bitmap, page);
+    if wipes(item) {
+        page.wipe(s.page.area);
+    }
+}
+
+/// The page, where an item prints it.
+fn page_job(s: Settings, item: &EscItem) -> Job
+    requires fit { IsFit s }
+    ensures job { (canvas : Canvas) → IsJob result canvas }
+    ensures turned { IsTurned result.place result.after }
+    ensures text { (setup : Setup) (before : List EscItem) (canvas : Canvas) → s ≡ settings_of setup before →
+        HasPage (layers_with setup before item.now (layers setup before)) canvas.page →
+        text_of result canvas ≡ page_part setup before item.now }
+    ensures shows { (canvas : Canvas) (high : ℕ) → IsShowing result canvas high (length (text_of result canvas)) }
+{
+    if prints_page(item) {
+        return Job::alone(Strip::page(s.paper, s.printed_rows()));
+    }
+    Job::none()
+}
+
+/// What an item does in page mode: the character that then waits, and what is printed.
+fn act_on_page(s: Settings, item: &EscItem, canvas: &mut Canvas) -> (Option<u8>, Job)
+    requires fit { IsFit s }
+    requires item { (byte : ℕ) → item.now ≡ EscItem.RasterByte byte → ⊥ }
+    requires mode { s.page.mode ≡ Mode.Page }
+    ensures sheets { canvas.new.sheets ≡ canvas.old.sheets }
+    ensures job { (canvas : Canvas) → IsJob result.1 canvas }
+    ensures turned { IsTurned result.1.place result.1.after }
+    ensures line { (setup : Setup) (before : List EscItem) → s ≡ settings_of setup before → canvas.old.sheets ≡ setup.sheets → Gathers canvas.old.sheets s canvas.old.bitmap None (line setup before) →
+        Gathers canvas.old.sheets (settings_of setup (item.now ∷ before)) canvas.new.bitmap result.0 (line setup (item.now ∷ before)) }
+    ensures page { (setup : Setup) (before : List EscItem) → s ≡ settings_of setup before → Gathers canvas.old.sheets s canvas.old.bitmap None (line setup before) → HasPage (layers setup before) canvas.old.page →
+        HasPage (layers_with setup before item.now (layers setup before)) canvas.new.page }
+    ensures text { (setup : Setup) (before : List EscItem) → s ≡ settings_of setup before → Gathers canvas.old.sheets s canvas.old.bitmap None (line setup before) → HasPage (layers setup before) canvas.old.page →
+        text_of result.1 canvas.new ≡ page_part setup before item.now }
+    ensures shows { (canvas : Canvas) (high : ℕ) → IsShowing result.1 canvas high (length (text_of result.1 canvas)) }
+{
+    lay(s, item, &canvas.bitmap, &mut canvas.page);
+    let job = page_job(s, item);
+    match item {
+        EscItem::Symbol { .. } | EscItem::QrPrint => (None, job),
+        _ => {
+            let (waiting, _) = act_on_line(s, item, &canvas.sheets, &mut canvas.bitmap);
+            (waiting, job)
+        }
+    }
+}
+
+/// What an item does: the character that then waits, and what is printed.
+pub fn act(
+    s: Settings,
+    item: &EscItem,
+    symbol: Option<Symbol>,
+    canvas: &mut Canvas,
+) -> (Option<u8>, Job)
+    requires fit { IsFit s }
+    requires item { (byte : ℕ) → item.now ≡ EscItem.RasterByte byte → ⊥ }
+    requires some { IfNone symbol (is_symbol item.now ≡ false) }
+    requires high { IfSome symbol (λ drawn. 0 < symbol_height canvas.old.sheets drawn) }
+    ensures sheets { canvas.new.sheets ≡ canvas.old.sheets }
+    ensures job { IsJob result.1 canvas.new }
+    ensures turned { IsTurned result.1.place result.1.after }
+    ensures line { (setup : Setup) (before : List EscItem) → s ≡ settings_of setup before → canvas.old.sheets ≡ setup.sheets → IsSymbolOf setup.sheets symbol (symbol_image setup before item.now) →
+        Gathers canvas.old.sheets s canvas.old.bitmap None (line setup before) →
+        Gathers canvas.old.sheets (settings_of setup (item.now ∷ before)) canvas.new.bitmap result.0 (line setup (item.now ∷ before)) }
+    ensures page { (setup : Setup) (before : List EscItem) → s ≡ settings_of setup before → Gathers canvas.old.sheets s canvas.old.bitmap None (line setup before) →
+        HasPageIf (mode setup before) (layers setup before) canvas.old.page → HasPageIf (mode setup (item.now ∷ before)) (layers setup (item.now ∷ before)) canvas.new.page }
+    ensures text { (setup : Setup) (before : List EscItem) → s ≡ settings_of setup before → canvas.old.sheets ≡ setup.sheets → IsSymbolOf setup.sheets symbol (symbol_image setup before item.now) →
+        Gathers canvas.old.sheets s canvas.old.bitmap None (line setup before) → HasPageIf (mode setup before) (layers setup before) canvas.old.page → text_of result.1 canvas.new ≡ prints setup before item.now }
+    ensures shows { (setup : Setup) (before : List EscItem) → s ≡ settings_of setup before → canvas.old.sheets ≡ setup.sheets → IsSymbolOf setup.sheets symbol (symbol_image setup before item.now) →
+        Gathers canvas.old.sheets s canvas.old.bitmap None (line setup before) → HasPageIf (mode setup before) (layers setup before) canvas.old.page →
+        IsShowing result.1 canvas.new (height (line setup before)) (length (own_part setup before item.now)) }
+{
+    match s.page.mode {
+        Mode::Standard => {
+            begin_page(s, item, &mut canvas.page);
+            act_on_paper(s, item, symbol, canvas)
+        }
+        Mode::Page => act_on_page(s, item, canvas),
+    }
+}
+
+/// The row whose last byte came, as often as its raster's scale says.
+pub fn row_job(s: Settings, raster: &Raster, row: &mut [u8; 72]) -> Job
+    requires { IsFit s }
+    ensures job { (canvas : Canvas) → canvas.raster_row ≡ row.new → IsJob result canvas }
+    ensures turned { IsTurned result.place result.after }
+    ensures text { (setup : Setup) (before : List EscItem) (canvas : Canvas) (came : List ℕ) → s ≡ settings_of setup before → raster.now.scale ≡ raster_scale before → raster.now.bytes ≡ raster_bytes before →
+        take (min raster.now.bytes 72) raster.now.row ≡ take 72 came → canvas.raster_row ≡ row.new → text_of result canvas ≡ raster_row_text setup before came }
+    ensures shows { (canvas : Canvas) (high : ℕ) → IsShowing result canvas high (length (text_of result canvas)) }
+{
+    let wide = 8 * u32::from(raster.bytes) * times_across(raster.scale);
+    raster.write_row(s.printed_at(wide), s.paper_length(), row);
+    dots_decide(row);
+    Job::of_rows(Strip::raster_rows(s.paper, times_down(raster.scale)), *row)
+}

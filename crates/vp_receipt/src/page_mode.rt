@@ -1,0 +1,309 @@
+ghost use Rattle.std.specs.Prelude.{◌≡◌, ◌≤◌, ◌<◌, ◌+◌, ◌-◌, ◌∷◌, List, [], ℕ, ℤ, max, min, nat_lt, ◌&&◌, ◌||◌};
+ghost use Rattle.vp_esc.specs.declared.item.EscItem.{EscItem};
+ghost use Rattle.vp_page.specs.Areas.{line_length as length_on_page};
+ghost use Rattle.vp_receipt.specs.Setup.{Setup};
+ghost use Rattle.vp_receipt.specs.Pages.{is_paged, is_area, area_cut, direction_of, is_vertical_move, vertical_moved, vertical_after, is_obeyed, raised, area};
+ghost use Rattle.vp_receipt.specs.History.{settings_of, page_of, rows_laid, line, is_open, begins_page, mode, vertical, used, IsFit, IsFitPage};
+ghost use Rattle.vp_receipt.specs.PageMarks.{ends_line, printed_rows};
+
+use crate::settings::Settings;
+use crate::width::Width;
+use vp_esc::item::{self, EscItem};
+use vp_page::{Area, Direction};
+
+/// Whether lines are printed on paper or laid on a page.
+#[derive(Clone, Copy, Debug, PartialEq, Eq)]
+pub enum Mode {
+    Standard,
+    Page,
+}
+
+/// What is in force on the page.
+#[derive(Clone, Copy)]
+pub struct PageSettings {
+    pub mode: Mode,
+    pub area: Area,
+    pub direction: Direction,
+    /// Where the next line is laid, from the area's top as its lines run.
+    pub vertical: u16,
+    /// The greatest lower edge of the areas that ESC W set on the page, or in which a row was laid; 0 where there is none.
+    pub used: u16,
+}
+
+/// The direction that ESC T names.
+fn direction_of(direction: item::Direction) -> Direction
+    ensures { result ≡ direction_of direction }
+{
+    match direction {
+        item::Direction::LeftToRight => Direction::LeftToRight,
+        item::Direction::BottomToTop => Direction::BottomToTop,
+        item::Direction::RightToLeft => Direction::RightToLeft,
+        item::Direction::TopToBottom => Direction::TopToBottom,
+    }
+}
+
+/// Whether an area begins on the page, and has a dot.
+fn is_area(paper: Width, x: u16, y: u16, wide: u16, high: u16) -> bool
+    ensures { result ≡ is_area paper x y wide high }
+{
+    x < paper.across() && y < 1664 && wide > 0 && high > 0
+}
+
+/// An area that ends at the page's edges.
+fn area_cut(paper: Width, x: u16, y: u16, wide: u16, high: u16) -> Area
+    ensures { result ≡ area_cut paper x y wide high }
+{
+    Area {
+        x,
+        y,
+        dx: wide.min(paper.across().saturating_sub(x)),
+        dy: high.min(1664u16.saturating_sub(y)),
+    }
+}
+
+/// Whether a vertical position is moved to one.
+fn is_vertical_move(by: i16, vertical: u16) -> bool
+    ensures { result ≡ is_vertical_move by vertical }
+{
+    let far = by.unsigned_abs();
+    if by >= 0 {
+        u32::from(vertical) + u32::from(far) <= 65535
+    } else {
+        far <= vertical
+    }
+}
+
+/// The vertical position moved.
+fn vertical_moved(by: i16, vertical: u16) -> u16
+    ensures { result ≡ vertical_moved by vertical }
+{
+    let far = by.unsigned_abs();
+    if by >= 0 {
+        if u32::from(vertical) + u32::from(far) <= 65535 {
+            return vertical + far;
+        }
+    } else if far <= vertical {
+        return vertical - far;
+    }
+    vertical
+}
+
+/// The vertical position after rows.
+fn vertical_after(vertical: u16, rows: u32) -> u16
+    requires { rows ≤ 100000 }
+    ensures { result ≡ vertical_after vertical rows }
+{
+    (u32::from(vertical) + rows).min(65535) as u16
+}
+
+/// The greatest lower edge, with that of an area which is used or not.
+fn raised(uses: bool, area: Area, old: u16) -> u16
+    requires down { area.y + area.dy ≤ 1664 }
+    ensures value { result ≡ raised uses area old }
+    ensures most { old ≤ 1664 → result ≤ 1664 }
+{
+    if uses { old.max(area.y + area.dy) } else { old }
+}
+
+impl PageSettings {
+    /// What is in force at the start.
+    pub fn start(paper: Width) -> PageSettings
+        ensures settings { (setup : Setup) → setup.width ≡ paper → result ≡ page_of setup [] }
+        ensures fit { IsFitPage result }
+    {
+        PageSettings {
+            mode: Mode::Standard,
+            area: Area {
+                x: 0,
+                y: 0,
+                dx: paper.across(),
+                dy: 1664,
+            },
+            direction: Direction::LeftToRight,
+            vertical: 0,
+            used: 0,
+        }
+    }
+
+    /// Whether page mode is in force.
+    pub fn is_paged(self) -> bool
+        ensures { result ≡ is_paged self.mode }
+    {
+        match self.mode {
+            Mode::Standard => false,
+            Mode::Page => true,
+        }
+    }
+
+    /// How many dots a line of the area holds.
+    pub fn line_length(self) -> u16
+        requires { IsFitPage self }
+        ensures value { result ≡ length_on_page self.area self.direction }
+        ensures most { result ≤ 1664 }
+    {
+        match self.direction {
+            Direction::LeftToRight | Direction::RightToLeft => self.area.dx,
+            Direction::BottomToTop | Direction::TopToBottom => self.area.dy,
+        }
+    }
+}
+
+impl Settings {
+    /// The rows of the strip that an item lays.
+    fn rows_laid(self, item: &EscItem) -> u32
+        requires { IsFit self }
+        ensures rows { (setup : Setup) (before : List EscItem) → self ≡ settings_of setup before → result ≡ rows_laid setup before item.now }
+        ensures few { result ≤ 100000 }
+    {
+        match item {
+            EscItem::Character(_) if self.breaks() => self.feed_rows(),
+            EscItem::LineFeed => self.feed_rows(),
+            EscItem::FeedDots(n) => u32::from(self.height).max(u32::from(*n)),
+            EscItem::FeedLines(n) => self.lines_rows(*n),
+            _ => 0,
+        }
+    }
+
+    /// Whether an item that ends the line where it is is obeyed on a page.
+    pub fn obeys(self, item: &EscItem) -> bool
+        ensures { result ≡ is_obeyed self.paper self.page.vertical item.now }
+    {
+        match item {
+            EscItem::MoveVerticalPosition(by) => is_vertical_move(*by, self.page.vertical),
+            EscItem::Area {
+                x,
+                y,
+                width,
+                height,
+            } => is_area(self.paper, *x, *y, *width, *height),
+            EscItem::Direction(s) => s.value.is_some(),
+            EscItem::VerticalPosition(_)
+            | EscItem::PrintPage
+            | EscItem::FormFeed
+            | EscItem::Cancel => true,
+            _ => false,
+        }
+    }
+
+    /// Whether an item ends the line on a page.
+    pub fn ends_line(self, item: &EscItem) -> bool
+        requires { IsFit self }
+        ensures { (setup : Setup) (before : List EscItem) → self ≡ settings_of setup before → result ≡ ends_line setup before item.now }
+    {
+        match item {
+            EscItem::Character(_) => self.breaks(),
+            EscItem::LineFeed | EscItem::FeedDots(_) | EscItem::FeedLines(_) => true,
+            _ => self.obeys(item),
+        }
+    }
+
+    /// How many rows of the page are printed.
+    pub fn printed_rows(self) -> u32
+        requires { IsFit self }
+        ensures rows { (setup : Setup) (before : List EscItem) → self ≡ settings_of setup before → result ≡ printed_rows setup before }
+        ensures most { result ≤ 1664 }
+    {
+        let used = raised(self.is_open, self.page.area, self.page.used);
+        if used == 0 {
+            u32::from(self.page.area.y) + u32::from(self.page.area.dy)
+        } else {
+            u32::from(used)
+        }
+    }
+
+    /// Whether ESC L begins a page.
+    pub fn begins_page(self) -> bool
+        ensures { (setup : Setup) (before : List EscItem) → self ≡ settings_of setup before → result ≡ begins_page (mode setup before) (line setup before) }
+    {
+        match self.page.mode {
+            Mode::Standard => !self.is_open,
+            Mode::Page => false,
+        }
+    }
+
+    /// The page with the area in which an item lays rows counted.
+    fn used_after(self, item: &EscItem) -> u16
+        requires { IsFit self }
+        ensures value { (setup : Setup) (before : List EscItem) → self ≡ settings_of setup before → result ≡ raised (nat_lt 0 (rows_laid setup before item.now) || (is_obeyed setup.width (vertical setup before) item.now && is_open (line setup before))) (area setup before) (used setup before) }
+        ensures most { result ≤ 1664 }
+    {
+        let uses = self.rows_laid(item) > 0 || (self.obeys(item) && self.is_open);
+        raised(uses, self.page.area, self.page.used)
+    }
+
+    /// What is in force on the page after an item.
+    pub fn page_after(self, item: &EscItem) -> PageSettings
+        requires { IsFit self }
+        ensures settings { (setup : Setup) (before : List EscItem) → self ≡ settings_of setup before → result ≡ page_of setup (item.now ∷ before) }
+        ensures fit { IsFitPage result }
+    {
+        let page = PageSettings {
+            used: self.used_after(item),
+            ..self.page
+        };
+        match item {
+            EscItem::Character(_)
+            | EscItem::LineFeed
+            | EscItem::FeedDots(_)
+            | EscItem::FeedLines(_) => PageSettings {
+                vertical: vertical_after(page.vertical, self.rows_laid(item)),
+                ..page
+            },
+            EscItem::VerticalPosition(vertical) => PageSettings {
+                vertical: *vertical,
+                ..page
+            },
+            EscItem::MoveVerticalPosition(by) => PageSettings {
+                vertical: vertical_moved(*by, page.vertical),
+                ..page
+            },
+            EscItem::Area {
+                x,
+                y,
+                width,
+                height,
+            } => {
+                if !is_area(self.paper, *x, *y, *width, *height) {
+                    return page;
+                }
+                let area = area_cut(self.paper, *x, *y, *width, *height);
+                PageSettings {
+                    area,
+                    vertical: 0,
+                    used: raised(true, area, page.used),
+                    ..page
+                }
+            }
+            EscItem::Direction(s) => match s.value {
+                Some(direction) => PageSettings {
+                    direction: direction_of(direction),
+                    vertical: 0,
+                    ..page
+                },
+                None => page,
+            },
+            EscItem::Cancel => PageSettings {
+                vertical: 0,
+                ..page
+            },
+            EscItem::PageMode => {
+                if self.begins_page() {
+                    PageSettings {
+                        mode: Mode::Page,
+                        vertical: 0,
+                        used: 0,
+                        ..page
+                    }
+                } else {
+                    page
+                }
+            }
+            EscItem::StandardMode | EscItem::FormFeed => PageSettings {
+                mode: Mode::Standard,
+                ..page
+            },
+            EscItem::Initialize => PageSettings::start(self.paper),
+            _ => page,
+        }
+    }
+}

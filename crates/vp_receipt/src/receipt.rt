@@ -1,0 +1,165 @@
+ghost use Rattle.std.specs.Prelude.{◌≡◌, ◌≤◌, ◌<◌, ◌+◌, ◌∷◌, ◌++◌, ◌↔◌, List, [], ℕ, IsTrue, Some, None, IfOk, MatchResult, OnOk, OnErr, length, min, take, drop, true};
+ghost use Rattle.vp_esc.specs.declared.item.EscItem.{EscItem};
+ghost use Rattle.vp_glyph.specs.declared.Sheets.{Sheets};
+ghost use Rattle.vp_receipt.specs.declared.raster.Raster.{Raster};
+ghost use Rattle.vp_receipt.specs.Setup.{Setup};
+ghost use Rattle.vp_receipt.specs.History.{settings_of, IsFit, is_open, line, Placed, image_of, line_length};
+ghost use Rattle.vp_receipt.specs.Rasters.{bytes_after, bytes_within_row};
+ghost use Rattle.vp_receipt.specs.Tabs.{tab_stops};
+ghost use Rattle.vp_receipt.specs.LineDots.{HasDots};
+ghost use Rattle.vp_receipt.specs.Strips.{prints, printed, refusal, is_at_rest, line_rows_after};
+ghost use Rattle.vp_receipt.specs.Standing.{Stands, Gathers, IsGathering, room_of};
+ghost use Rattle.vp_receipt.specs.Held.{text_of, IsJob, IsTurned};
+
+use crate::act::{act, row_job, settle};
+use crate::canvas::Canvas;
+use crate::job::Job;
+use crate::raster::Raster;
+use crate::settings::Settings;
+use crate::stored::Stored;
+use crate::symbol::{Symbol, drawn};
+use crate::tabs::{Stops, first_stops, set_stops};
+use crate::width::Width;
+use std::alloc::{AllocError, Global};
+use std::marker::Model;
+use vp_dots::{Band, Fault};
+use vp_esc::item::EscItem;
+use vp_glyph::Sheets;
+use vp_page::Page;
+
+/// A receipt printer. What an item prints is pending until it is put out.
+#[derive(Drop)]
+pub struct Receipt {
+    settings: Settings,
+    stops: Stops,
+    raster: Raster,
+    stored: Stored,
+    canvas: Canvas,
+    /// A character that broke the line, and is put into the next one once that line is printed.
+    waiting: Option<u8>,
+    job: Job,
+}
+
+impl Model for Receipt {
+    ghost use Rattle.vp_receipt.specs.Standing.{Printing};
+
+    ghost Value = { Printing };
+
+    ghost use Rattle.vp_receipt.specs.Printer.{printing_of, IsPrinter};
+
+    ghost view = { printing_of };
+
+    ghost invariant = { IsPrinter };
+}
+
+impl Receipt {
+    /// One that stands after no items, with these sheets for its fonts, on paper of this width.
+    pub fn new(alloc: Global, sheets: Sheets, width: Width) -> Result<Self, AllocError>
+        ensures stands { IfOk result (λ r. Stands (record { width = width; sheets = sheets }) r []) }
+        ensures pending { IfOk result (λ r. r.pending ≡ []) }
+    {
+        let bitmap = Band::new(alloc)?;
+        let page = Page::new(alloc)?;
+        Ok(Receipt {
+            settings: Settings::start(width),
+            stops: first_stops(),
+            raster: Raster::none(),
+            stored: Stored::none(),
+            canvas: Canvas {
+                sheets,
+                bitmap,
+                raster_row: [0; 72],
+                symbol: Symbol::Blank,
+                page,
+            },
+            waiting: None,
+            job: Job::none(),
+        })
+    }
+
+    /// Prints an item: what it prints is then pending. A refused one changes nothing.
+    #[inline(always)]
+    pub fn apply(&mut self, item: EscItem) -> Result<(), Fault>
+        requires { self.old.pending ≡ [] }
+        ensures refusal { (setup : Setup) (before : List EscItem) → Stands setup self.old before →
+            MatchResult result (λ _. refusal setup before item ≡ None) (λ f. refusal setup before item ≡ Some f) }
+        ensures stands { OnOk result ((setup : Setup) (before : List EscItem) → Stands setup self.old before → Stands setup self.new (item ∷ before)) }
+        ensures pending { OnOk result ((setup : Setup) (before : List EscItem) → Stands setup self.old before → self.new.pending ≡ prints setup before item) }
+        ensures err { OnErr result (self.new ≡ self.old) }
+    {
+        if let EscItem::RasterByte(byte) = item {
+            let ends = self.raster.take(byte);
+            if ends && !self.settings.page.is_paged() {
+                self.job = row_job(self.settings, &self.raster, &mut self.canvas.raster_row);
+            }
+            return Ok(());
+        }
+        let s = self.settings;
+        let symbol = drawn(s, &item, &self.stored, &self.canvas.sheets)?;
+        settle(
+            s,
+            self.waiting,
+            &self.canvas.sheets,
+            &mut self.canvas.bitmap,
+        );
+        let (waiting, job) = act(s, &item, symbol, &mut self.canvas);
+        self.waiting = waiting;
+        self.job = job;
+        self.settings = s.after(&item, self.stops.as_slice());
+        set_stops(&mut self.stops, &item, s.text);
+        self.raster.begin(&item);
+        self.stored.take(&item);
+        Ok(())
+    }
+
+    /// How many bytes of a raster come before the one that ends its row; 0 where none comes.
+    pub fn raster_room(&self) -> usize
+        ensures value { result ≡ room_of self.now.raster }
+        ensures comes { (setup : Setup) (before : List EscItem) → Stands setup self.now before → result ≡ bytes_within_row before }
+    {
+        usize::from(self.raster.room())
+    }
+
+    /// Takes bytes of a raster before the one that ends its row: they print nothing.
+    pub fn apply_raster(&mut self, bytes: &[u8])
+        requires pending { self.old.pending ≡ [] }
+        requires few { length bytes.now ≤ room_of self.old.raster }
+        ensures prints { (setup : Setup) (before : List EscItem) → Stands setup self.old before → printed setup (bytes_after bytes.now before) ≡ printed setup before }
+        ensures stands { (setup : Setup) (before : List EscItem) → Stands setup self.old before → Stands setup self.new (bytes_after bytes.now before) }
+        ensures pending { self.new.pending ≡ [] }
+    {
+        self.raster.take_all(bytes);
+    }
+
+    /// Whether anything is still to be put out.
+    pub fn pending(&self) -> bool
+        ensures { IsTrue result ↔ (0 < length self.now.pending) }
+    {
+        self.job.is_pending()
+    }
+
+    /// Puts out what is pending, as far as there is room.
+    pub fn put(&mut self, output: &mut [u8]) -> usize
+        ensures count { result ≡ min (length self.old.pending) (length output.old) }
+        ensures bytes { output.new ≡ take result self.old.pending ++ drop result output.old }
+        ensures rest { self.new.pending ≡ drop result self.old.pending }
+        ensures stands { (setup : Setup) (before : List EscItem) → Stands setup self.old before → Stands setup self.new before }
+    {
+        self.job.put(&self.canvas, output)
+    }
+
+    /// Whether the mode is standard, and no line open.
+    pub fn at_rest(&self) -> bool
+        ensures { (setup : Setup) (before : List EscItem) → Stands setup self.now before → IsTrue result ↔ (is_at_rest setup before ≡ true) }
+    {
+        !self.settings.page.is_paged() && !self.settings.is_open
+    }
+
+    /// The height of the line of whose strip bytes are still to be put out, else of the line that is gathered.
+    pub fn line_rows(&self) -> u16
+        ensures value { (setup : Setup) (before : List EscItem) → Stands setup self.now before → result ≡ line_rows_after setup before self.now.pending }
+        ensures most { result ≤ 192 }
+    {
+        self.job.line_rows().unwrap_or(self.settings.height)
+    }
+}

@@ -1,0 +1,87 @@
+ghost use Rattle.std.specs.Prelude.{◌≡◌, ◌≤◌, ◌<◌, ◌∷◌, List, ℕ, Bool, false, true, IfNone, IfSome, OnOk, IfOk, IfErr, None, Some};
+ghost use Rattle.vp_dots.specs.Images.{row_of};
+ghost use Rattle.vp_esc.specs.declared.item.EscItem.{EscItem};
+ghost use Rattle.vp_receipt.specs.Setup.{Setup};
+ghost use Rattle.vp_receipt.specs.History.{settings_of, IsFit};
+ghost use Rattle.vp_receipt.specs.Rows.{clipped};
+ghost use Rattle.vp_receipt.specs.Strips.{refusal, symbol_image};
+ghost use Rattle.vp_receipt.specs.Symbols.{IsStored, qr_data};
+ghost use Rattle.vp_receipt.specs.SymbolInks.{symbol_width, symbol_height, symbol_dot, IsSymbolOf, is_symbol};
+
+use crate::barcode::{BarSymbol, bar_symbol};
+use crate::qr::qr_symbol;
+use crate::settings::Settings;
+use crate::stored::Stored;
+use crate::strip::write_ink;
+use vp_dots::{Fault, Ink, dots_decide};
+use vp_esc::item::EscItem;
+use vp_glyph::Sheets;
+use vp_qr::QrInk;
+
+/// A symbol that is put out.
+#[derive(Drop)]
+pub enum Symbol {
+    /// None yet.
+    Blank,
+    Qr(QrInk),
+    Bars(BarSymbol),
+}
+
+impl Symbol {
+    /// How wide and high it is.
+    pub fn size(&self, sheets: &Sheets) -> (u32, u32)
+        ensures width { result.0 ≡ symbol_width sheets.now self.now }
+        ensures height { result.1 ≡ symbol_height sheets.now self.now }
+    {
+        match self {
+            Symbol::Blank => (0, 0),
+            Symbol::Qr(ink) => ink.size(),
+            Symbol::Bars(bars) => bars.size(sheets),
+        }
+    }
+
+    /// Writes a row of it, so far from the left and clipped after so many dots.
+    pub fn write_row(&self, sheets: &Sheets, y: u32, left: u16, length: u16, row: &mut [u8; 72])
+        ensures { row.new ≡ row_of 72 (clipped left length (λ x. symbol_dot sheets.now self.now x y)) }
+    {
+        match self {
+            Symbol::Blank => {
+                *row = [0; 72];
+                dots_decide(row);
+            }
+            Symbol::Qr(ink) => write_ink(ink, y, left, length, row),
+            Symbol::Bars(bars) => write_ink(&bars.boxed(sheets), y, left, length, row),
+        }
+    }
+}
+
+/// The symbol that an item prints, if it prints one, or why it is refused.
+pub fn drawn(
+    s: Settings,
+    item: &EscItem,
+    stored: &Stored,
+    sheets: &Sheets,
+) -> Result<Option<Symbol>, Fault>
+    requires { IsFit s }
+    ensures accepted { OnOk result ((setup : Setup) (before : List EscItem) → s ≡ settings_of setup before → sheets.now ≡ setup.sheets → IsStored stored.now (qr_data before) → refusal setup before item.now ≡ None) }
+    ensures refused { IfErr result (λ fault. (setup : Setup) (before : List EscItem) → s ≡ settings_of setup before → sheets.now ≡ setup.sheets → IsStored stored.now (qr_data before) → refusal setup before item.now ≡ Some fault) }
+    ensures image { IfOk result (λ symbol. (setup : Setup) (before : List EscItem) → s ≡ settings_of setup before → sheets.now ≡ setup.sheets → IsStored stored.now (qr_data before) →
+        IsSymbolOf setup.sheets symbol (symbol_image setup before item.now)) }
+    ensures some { IfOk result (λ symbol. IfNone symbol (is_symbol item.now ≡ false)) }
+    ensures high { IfOk result (λ symbol. IfSome symbol (λ drawn. 0 < symbol_height sheets.now drawn)) }
+{
+    match item {
+        EscItem::Symbol { kind, data, more } => {
+            let length = s.line_length();
+            match bar_symbol(s.bars, kind.value, data.as_slice(), *more, length, sheets) {
+                Ok(bars) => Ok(Some(Symbol::Bars(bars))),
+                Err(fault) => Err(fault),
+            }
+        }
+        EscItem::QrPrint => match qr_symbol(s.qr, stored, s.line_length()) {
+            Ok(ink) => Ok(Some(Symbol::Qr(ink))),
+            Err(fault) => Err(fault),
+        },
+        _ => Ok(None),
+    }
+}
