@@ -1,0 +1,70 @@
+-- A list of which the part from a on was written anew.
+use Rattle.vp_dots.specs.declared.fault.Fault.{Fault}
+use Rattle.std.proofs.Common.{Option, None, is_some, ◌<◌, ◌∷◌, true, false, ◌≡◌, ◌≤◌, ℕ, ◌+◌, ◌-◌, List, [], ◌++◌, length, take, drop, refl, sym, ap, ◌∙◌, arith, length-append, length-drop}
+use Rattle.std.proofs.lemmas.List.{append-nil, length-take-le, length-take, take-append-le, take-take, drop-take, drop-drop}
+use Rattle.std.proofs.lemmas.Grind.{common_steps}
+use Rattle.std.proofs.Math.Seq.{take-length, take-add, take-append-add, drop-append-add}
+use borrow.Rule.Slice.PartMut.{put_mid}
+
+-- the part from a on
+pub part_is : (a : ℕ) (xs : List ℕ) → take (length xs - a) (drop a xs) ≡ drop a xs
+part_is a xs = ap (λ n. take n (drop a xs)) (sym (length-drop a xs)) ∙ take-length (drop a xs)
+
+pub cut_is : (a : ℕ) (xs ys : List ℕ) → put_mid a (length xs - a) xs ys ≡ take a xs ++ ys
+cut_is a xs ys = ap (λ z. take a xs ++ (ys ++ z)) (none a xs) ∙ ap (λ z. take a xs ++ z) (append-nil ys)
+  where
+    none : (a : ℕ) (xs : List ℕ) → drop (length xs - a) (drop a xs) ≡ []
+    none a xs = grind (arith, common_steps)
+
+pub cut_length : (a : ℕ) (xs ys : List ℕ) → a ≤ length xs → length ys ≡ length (take (length xs - a) (drop a xs)) → length (put_mid a (length xs - a) xs ys) ≡ length xs
+cut_length a xs ys h e = omega (arith, ap length (cut_is a xs ys), length-append (take a xs) ys, length-take-le a xs h, ap length (part_is a xs), length-drop a xs)
+
+pub cut_take : (a n : ℕ) (xs ys : List ℕ) → a ≤ length xs → take (a + n) (put_mid a (length xs - a) xs ys) ≡ take a xs ++ take n ys
+cut_take a n xs ys h =
+    let front = length-take-le a xs h in
+    ap (take (a + n)) (cut_is a xs ys) ∙ ap (λ k. take (k + n) (take a xs ++ ys)) (sym front) ∙ take-append-add (take a xs) ys n
+
+pub cut_drop : (a n : ℕ) (xs ys : List ℕ) → a ≤ length xs → drop n ys ≡ drop n (take (length xs - a) (drop a xs)) → drop (a + n) (put_mid a (length xs - a) xs ys) ≡ drop (a + n) xs
+cut_drop a n xs ys h e =
+    let front = length-take-le a xs h in
+    ap (drop (a + n)) (cut_is a xs ys) ∙ ap (λ k. drop (k + n) (take a xs ++ ys)) (sym front) ∙ drop-append-add (take a xs) ys n
+    ∙ e ∙ ap (drop n) (part_is a xs) ∙ drop-drop n a xs
+
+pub rest_same : (a n : ℕ) (xs ys : List ℕ) → drop a xs ≡ drop a ys → drop (a + n) xs ≡ drop (a + n) ys
+rest_same a n xs ys e = sym (drop-drop n a xs) ∙ ap (drop n) e ∙ drop-drop n a ys
+
+pub empty_unless : (xs : List ℕ) → (0 < length xs → false ≡ true) → xs ≡ []
+empty_unless [] h = refl
+empty_unless (x ∷ xs) h = let no : false ≡ true = h (omega arith) in cc
+
+pub none_is_not_some : (o : Option Fault) → None ≡ o → is_some o ≡ true → ⊥
+none_is_not_some o e h = let no : false ≡ true = ap is_some e ∙ h in cc
+
+-- a front, and then a front of the rest
+pub front_more : (at n : ℕ) (xs : List ℕ) → take at xs ++ take n (take (length xs - at) (drop at xs)) ≡ take (at + n) xs
+front_more at n xs = ap (λ ys. take at xs ++ take n ys) (part_is at xs) ∙ sym (take-add at n xs)
+
+pub length_part : (at : ℕ) (xs : List ℕ) → length (take (length xs - at) (drop at xs)) ≡ length xs - at
+length_part at xs = ap length (part_is at xs) ∙ length-drop at xs
+
+pub take_all : (n : ℕ) (xs : List ℕ) → n ≡ length xs → take n xs ≡ xs
+take_all n xs e = ap (λ k. take k xs) e ∙ take-length xs
+
+pub range_less : (xs : List ℕ) (from to n : ℕ) → n ≤ to - from → take (to - (from + n)) (drop (from + n) xs) ≡ drop n (take (to - from) (drop from xs))
+range_less xs from to n h =
+    let m = to - (from + n) in
+    let e : to - from ≡ n + m = omega arith in
+    sym (ap (λ k. drop n (take k (drop from xs))) e ∙ drop-take n m (drop from xs) ∙ ap (take m) (drop-drop n from xs))
+
+pub length_range : (xs : List ℕ) (from to : ℕ) → length (take (to - from) (drop from xs)) ≤ to - from
+length_range xs from to = omega (arith, length-take (to - from) (drop from xs))
+
+pub no_less : (x y : List ℕ) → [] ≡ x ++ y → y ≡ []
+no_less [] y e = sym e
+no_less (a ∷ x) y e = cc
+
+-- the front of room that was written anew
+pub front_of_room : (len put : ℕ) (out rest : List ℕ) → put ≤ length out → put ≤ len → take (put - 0) (take len (out ++ rest)) ≡ take put out
+front_of_room len put out rest h k =
+    ap (λ n. take n (take len (out ++ rest))) (let z : put - 0 ≡ put = omega arith in z)
+    ∙ take-take put len (out ++ rest) k ∙ take-append-le put out rest h

@@ -1,0 +1,216 @@
+-- Where a session stands after it did something.
+use Rattle.std.proofs.Common.{inl, inr, zero, suc, subst, ◌≡◌, ℕ, ◌<◌, ◌≤◌, ◌+◌, ◌-◌, ◌^◌, min, List, [], ◌++◌, length, take, drop, Option, Some, None, refl, sym, ap, ◌∙◌, arith, length-append, append_assoc}
+use Rattle.std.proofs.lemmas.List.{append-nil, take-append-drop, length-take-le}
+use Rattle.std.specs.Io.KnownBytes.{Appends, Consumes, Keeps}
+use Rattle.vp_receipt.specs.Setup.{Setup}
+use Rattle.vp_engine.specs.Count.{grown}
+use Rattle.vp_engine.specs.Stands.{Stands}
+use Rattle.vp_engine.specs.Session.{Desk, IsAt, Accepts, Takes, Reaches, IsDrained, IsWhole, StopsAt, counted}
+use Rattle.vp_dots.specs.declared.fault.Fault.{Fault}
+use Rattle.vp_engine.specs.Paper.{paper, fault_at_end}
+use Rattle.vp_engine.specs.declared.session.Report.{Report}
+
+-- a count goes on
+pub counted_more : (a b n m : ℕ) → a ≡ counted n → b ≡ min (a + m) (2 ^ 64 - 1) → b ≡ counted (n + m)
+counted_more a b n m e f = omega arith
+
+appends_more : (a b c : Option (List ℕ)) (x y : List ℕ) → Appends a b x → Appends b c y → Appends a c (x ++ y)
+appends_more None b c x y h k = tt
+appends_more (Some a) None c x y h k = absurd h
+appends_more (Some a) (Some b) None x y h k = absurd k
+appends_more (Some a) (Some b) (Some c) x y h k = k ∙ ap (λ z. z ++ y) h ∙ append_assoc a x y
+
+appends_none : (a : Option (List ℕ)) → Appends a a []
+appends_none None = tt
+appends_none (Some a) = sym (append-nil a)
+
+keeps_appends : (a b : Option (List ℕ)) → Keeps a b → Appends a b []
+keeps_appends None b h = tt
+keeps_appends (Some a) None h = h
+keeps_appends (Some a) (Some b) h = h ∙ sym (append-nil a)
+
+take_nil : (n : ℕ) → n ≤ 0 → take {A = ℕ} n [] ≡ []
+take_nil zero h = refl
+take_nil (suc n) h = refl
+
+keeps_consumes : (a b : Option (List ℕ)) → Keeps a b → Consumes a b []
+keeps_consumes None b h = tt
+keeps_consumes (Some a) None h = h
+keeps_consumes (Some a) (Some b) h = sym h
+
+consumes_more : (a b c : Option (List ℕ)) (x y : List ℕ) → Consumes a b x → Consumes b c y → Consumes a c (x ++ y)
+consumes_more None b c x y h k = tt
+consumes_more (Some a) None c x y h k = absurd h
+consumes_more (Some a) (Some b) None x y h k = absurd k
+consumes_more (Some a) (Some b) (Some c) x y h k = h ∙ ap (λ z. x ++ z) k ∙ sym (append_assoc x y c)
+
+pub consumes_none : (a : Option (List ℕ)) → Consumes a a []
+consumes_none None = tt
+consumes_none (Some a) = refl
+
+-- one read more in a call
+pub reads_more : (start now next n : ℕ) → (n ≡ 0 → now ≡ start) → (0 < n → now ≡ grown start n) → next ≡ grown now 1 → next ≡ grown start (n + 1)
+reads_more start now next zero first later e = omega (arith, first refl, e)
+reads_more start now next (suc n) first later e = omega (arith, later (omega arith), e)
+
+pub none_of : (f : Option Fault) → ((x : Fault) → f ≡ Some x → ⊥) → f ≡ None
+none_of None h = refl
+none_of (Some f) h = absurd (h f refl)
+
+module _ (setup : Setup) where
+  -- some bytes more are accepted
+  pub at_accepts : (s q : Desk) (r w x : List ℕ) → IsAt setup s r w → q.printer ≡ s.printer → q.unread ≡ s.unread → q.taken ≡ s.taken →
+      x ++ q.unwritten ≡ s.unwritten → q.written ≡ min (s.written + length x) (2 ^ 64 - 1) → IsAt setup q r (w ++ x)
+  at_accepts s q r w x a pr un ta wr co = record {
+    t = a.t;
+    o = a.o;
+    stands = rw pr a.stands;
+    read = ap (λ y. a.t ++ y) un ∙ a.read;
+    wrote = append_assoc w x q.unwritten ∙ ap (λ y. w ++ y) wr ∙ a.wrote;
+    taken = ta ∙ a.taken;
+    written = counted_more s.written q.written (length w) (length x) a.written co ∙ ap counted (sym (length-append w x));
+  }
+
+  -- nothing is accepted
+  pub at_still : (s q : Desk) (r w : List ℕ) → IsAt setup s r w → q ≡ s → IsAt setup q r (w ++ [])
+  at_still s q r w a e = rw (append-nil w, e) a
+
+  -- bytes that are accepted, and then more
+  pub accepts_more : (a b c : Option (List ℕ)) (s q : Desk) (r w : List ℕ) → Accepts a b setup s r w → ((v : List ℕ) → IsAt setup s r v → Accepts b c setup q r v) → Accepts a c setup q r w
+  accepts_more a b c s q r w h f =
+      let k = f (w ++ h.accepted) h.at in
+      record { accepted = h.accepted ++ k.accepted; appended = appends_more a b c h.accepted k.accepted h.appended k.appended; at = rw (← append_assoc w h.accepted k.accepted) k.at }
+
+  -- nothing is accepted
+  pub accepts_none : (a b : Option (List ℕ)) (s q : Desk) (r w : List ℕ) → Keeps a b → q ≡ s → IsAt setup s r w → Accepts a b setup q r w
+  accepts_none a b s q r w k e h = record { accepted = []; appended = keeps_appends a b k; at = at_still s q r w h e }
+
+  pub accepts_start : (a : Option (List ℕ)) (s : Desk) (r w : List ℕ) → IsAt setup s r w → Accepts a a setup s r w
+  accepts_start a s r w h = record { accepted = []; appended = appends_none a; at = at_still s s r w h refl }
+
+  -- n bytes of the output are accepted
+  pub at_wrote : (s q : Desk) (r w slice : List ℕ) (n : ℕ) → IsAt setup s r w → slice ≡ s.unwritten → n ≤ length slice → q.printer ≡ s.printer → q.unread ≡ s.unread → q.taken ≡ s.taken →
+      q.unwritten ≡ drop n s.unwritten → q.written ≡ min (s.written + n) (2 ^ 64 - 1) → IsAt setup q r (w ++ take n slice)
+  at_wrote s q r w slice n a e h pr un ta wr co =
+      at_accepts s q r w (take n slice) a pr un ta
+      (ap (λ x. take n x ++ q.unwritten) e ∙ ap (λ x. take n s.unwritten ++ x) wr ∙ take-append-drop n s.unwritten)
+      (co ∙ ap (λ k. min (s.written + k) (2 ^ 64 - 1)) (sym (length-take-le n slice h)))
+
+  -- the printer takes n bytes of the input, and what it puts out is held
+  pub at_steps : (s q : Desk) (r w slice : List ℕ) (n : ℕ) → IsAt setup s r w → slice ≡ s.unread → n ≤ length slice → s.unwritten ≡ [] →
+      ((t o : List ℕ) → Stands setup s.printer t o → Stands setup q.printer (t ++ take n slice) (o ++ q.unwritten)) →
+      q.unread ≡ drop n s.unread → q.taken ≡ min (s.taken + n) (2 ^ 64 - 1) → q.written ≡ s.written → IsAt setup q r w
+  at_steps s q r w slice n a e h none st un ta wr = record {
+    t = a.t ++ take n slice;
+    o = a.o ++ q.unwritten;
+    stands = st a.t a.o a.stands;
+    read = append_assoc a.t (take n slice) q.unread ∙ ap (λ x. a.t ++ x) (ap (λ x. take n x ++ q.unread) e ∙ ap (λ x. take n s.unread ++ x) un ∙ take-append-drop n s.unread) ∙ a.read;
+    wrote = ap (λ x. x ++ q.unwritten) (sym (append-nil w) ∙ ap (λ x. w ++ x) (sym none) ∙ a.wrote);
+    taken = counted_more s.taken q.taken (length a.t) n a.taken ta ∙ ap counted (sym (length-append a.t (take n slice) ∙ ap (λ k. length a.t + k) (length-take-le n slice h)));
+    written = wr ∙ a.written;
+  }
+
+  -- the printer puts out more, with no input
+  pub at_refills : (s q : Desk) (r w : List ℕ) (n : ℕ) → IsAt setup s r w → n ≤ 0 → s.unwritten ≡ [] →
+      ((t o : List ℕ) → Stands setup s.printer t o → Stands setup q.printer (t ++ take n []) (o ++ q.unwritten)) →
+      q.unread ≡ s.unread → q.taken ≡ s.taken → q.written ≡ s.written → IsAt setup q r w
+  at_refills s q r w n a h none st un ta wr = record {
+    t = a.t;
+    o = a.o ++ q.unwritten;
+    stands = subst (λ x. Stands setup q.printer x (a.o ++ q.unwritten)) (ap (λ x. a.t ++ x) (take_nil n h) ∙ append-nil a.t) (st a.t a.o a.stands);
+    read = ap (λ x. a.t ++ x) un ∙ a.read;
+    wrote = ap (λ x. x ++ q.unwritten) (sym (append-nil w) ∙ ap (λ x. w ++ x) (sym none) ∙ a.wrote);
+    taken = ta ∙ a.taken;
+    written = wr ∙ a.written;
+  }
+
+  -- bytes are accepted, and then the session goes on with none
+  pub accepts_then : (a b : Option (List ℕ)) (s q : Desk) (r w : List ℕ) → Accepts a b setup s r w → ((v : List ℕ) → IsAt setup s r v → IsAt setup q r v) → Accepts a b setup q r w
+  accepts_then a b s q r w h f = record { accepted = h.accepted; appended = h.appended; at = f (w ++ h.accepted) h.at }
+
+  -- bytes are read
+  pub at_fills : (s q : Desk) (r w : List ℕ) → IsAt setup s r w → s.unread ≡ [] → q.printer ≡ s.printer → q.unwritten ≡ s.unwritten → q.taken ≡ s.taken → q.written ≡ s.written → IsAt setup q (r ++ q.unread) w
+  at_fills s q r w a none pr un ta wr = record {
+    t = a.t;
+    o = a.o;
+    stands = rw pr a.stands;
+    read = ap (λ x. x ++ q.unread) (sym (append-nil a.t) ∙ ap (λ x. a.t ++ x) (sym none) ∙ a.read);
+    wrote = ap (λ x. w ++ x) un ∙ a.wrote;
+    taken = ta ∙ a.taken;
+    written = wr ∙ a.written;
+  }
+
+  -- nothing is read
+  pub takes_none : (a b : Option (List ℕ)) (s q : Desk) (r w : List ℕ) → Keeps a b → q ≡ s → IsAt setup s r w → Takes a b setup q r w
+  takes_none a b s q r w k e h = record { read = []; consumed = keeps_consumes a b k; at = rw (append-nil r, e) h }
+
+  -- what was read and written so far, and then what is accepted more
+  pub reaches_accepts : (a b c d e : Option (List ℕ)) (s q : Desk) (r w : List ℕ) → Reaches a b c d setup s r w → ((u v : List ℕ) → IsAt setup s u v → Accepts d e setup q u v) → Reaches a b c e setup q r w
+  reaches_accepts a b c d e s q r w h f =
+      let k = f (r ++ h.read) (w ++ h.accepted) h.at in
+      record {
+        read = h.read;
+        accepted = h.accepted ++ k.accepted;
+        consumed = h.consumed;
+        appended = appends_more c d e h.accepted k.accepted h.appended k.appended;
+        at = rw (← append_assoc w h.accepted k.accepted) k.at;
+      }
+
+  pub reaches_takes : (a b c d e : Option (List ℕ)) (s q : Desk) (r w : List ℕ) → Reaches a b d e setup s r w → ((u v : List ℕ) → IsAt setup s u v → Takes b c setup q u v) → Reaches a c d e setup q r w
+  reaches_takes a b c d e s q r w h f =
+      let k = f (r ++ h.read) (w ++ h.accepted) h.at in
+      record {
+        read = h.read ++ k.read;
+        accepted = h.accepted;
+        consumed = consumes_more a b c h.read k.read h.consumed k.consumed;
+        appended = h.appended;
+        at = rw (← append_assoc r h.read k.read) k.at;
+      }
+
+  pub reaches_start : (a b : Option (List ℕ)) (s : Desk) (r w : List ℕ) → IsAt setup s r w → Reaches a a b b setup s r w
+  reaches_start a b s r w h = record { read = []; accepted = []; consumed = consumes_none a; appended = appends_none b; at = rw (append-nil r, append-nil w) h }
+
+  -- where all is written and printed, what is written is the paper of what was taken
+  drained_paper : (s : Desk) (r w : List ℕ) → (a : IsAt setup s r w) → s.unwritten ≡ [] → s.printer.receipt.pending ≡ [] → w ≡ paper setup a.t
+  drained_paper s r w a un pe =
+      sym (append-nil w) ∙ ap (λ x. w ++ x) (sym un) ∙ a.wrote ∙ sym (append-nil a.o) ∙ ap (λ x. a.o ++ x) (sym pe) ∙ a.stands.pending
+
+  all_taken : (s : Desk) (r w : List ℕ) → (a : IsAt setup s r w) → s.unread ≡ [] → a.t ≡ r
+  all_taken s r w a un = sym (append-nil a.t) ∙ ap (λ x. a.t ++ x) (sym un) ∙ a.read
+
+  pub stop_answer : (s : Desk) (r w : List ℕ) (f : Fault) (after : ℕ) (end : Type 0) → IsAt setup s r w → IsDrained s → s.printer.stopped ≡ Some f → after ≡ s.taken → StopsAt setup s f after r w end
+  stop_answer s r w f after end a d st ta = record {
+    t = a.t;
+    rest = s.unread;
+    split = a.read;
+    after_is = ta ∙ a.taken;
+    paper_of = drained_paper s r w a d.unwritten d.pending;
+    fault_is = inl (record { ended = record { stopped = st; drained = d; after_is = sym ta }; fault_of = sym a.stands.stopped ∙ st });
+  }
+
+  pub whole_answer : (s : Desk) (r w : List ℕ) (report : Report) (end : Type 0) → IsAt setup s r w → IsDrained s → s.unread ≡ [] →
+      ((t o : List ℕ) → Stands setup s.printer t o → fault_at_end setup t ≡ None) → report.taken ≡ s.taken → report.written ≡ s.written → end → IsWhole setup report r w end
+  whole_answer s r w report end a d un fi ta wr e =
+      let t_is = all_taken s r w a un in
+      record {
+        paper_of = drained_paper s r w a d.unwritten d.pending ∙ ap (paper setup) t_is;
+        fault_of = ap (fault_at_end setup) (sym t_is) ∙ fi a.t a.o a.stands;
+        taken = ta ∙ a.taken ∙ ap (λ (x : List ℕ). counted (length x)) t_is;
+        written = wr ∙ a.written;
+        at_end = e;
+      }
+
+  pub end_answer : (s : Desk) (r w : List ℕ) (f : Fault) (after : ℕ) (end : Type 0) → IsAt setup s r w → IsDrained s → s.unread ≡ [] → s.printer.stopped ≡ None →
+      ((t o : List ℕ) → Stands setup s.printer t o → fault_at_end setup t ≡ Some f) → after ≡ s.taken → end → StopsAt setup s f after r w end
+  end_answer s r w f after end a d un run fi ta e = record {
+    t = a.t;
+    rest = s.unread;
+    split = a.read;
+    after_is = ta ∙ a.taken;
+    paper_of = drained_paper s r w a d.unwritten d.pending;
+    fault_is = inr (record { all = un; no_fault = sym a.stands.stopped ∙ run; fault_of = fi a.t a.o a.stands; at_end = e });
+  }
+
+  -- a new session
+  pub at_first : (s : Desk) → Stands setup s.printer [] [] → s.unread ≡ [] → s.unwritten ≡ [] → s.taken ≡ 0 → s.written ≡ 0 → IsAt setup s [] []
+  at_first s st un uw ta wr = record { t = []; o = []; stands = st; read = un; wrote = uw; taken = ta; written = wr }

@@ -1,0 +1,13 @@
+use Rattle.std.proofs.Common.{◌≤◌, ◌-◌, length, take}
+use Rattle.vp_engine.specs.Paper.{paper, setup_of}
+use Rattle.vp_engine.specs.Stands.{Stands}
+use Rattle.vp_engine.proofs.all.print_all.Given as goal
+
+abbrev pub invariant-steps : goal.invariant-steps
+invariant-steps l = record {
+  at : l.at ≤ length l.src;
+  stands : Stands (setup_of l.fn.language l.fn.sheets) l.printer (take l.at l.src) l.paper.items;
+}
+
+abbrev pub decreases-steps : goal.decreases-steps
+decreases-steps l = length (paper (setup_of l.fn.language l.fn.sheets) l.src) - length l.paper.items

@@ -1,0 +1,242 @@
+use crate::{Counted, Language, Printer, Report, RunFault, Session, State, print_all};
+use std::alloc::{AllocError, Global};
+use std::process::Abort;
+use std::test::Fail;
+use vp_dots::Fault;
+use vp_glyph::Sheets;
+
+/// No font is drawn.
+const NO_SHEETS: Sheets = Sheets { a: None, b: None };
+
+/// A raster of two rows of one byte.
+const TWO_ROWS: [u8; 10] = [0x1D, 0x76, 0x30, 0, 1, 0, 2, 0, 0x80, 0x01];
+
+/// Appends an image of rows that begin with one byte each and go on white.
+fn image(paper: &mut Vec<u8>, head: &[u8], width: usize, firsts: &[u8]) -> Result<(), AllocError> {
+    paper.extend_from_slice(head)?;
+    for first in firsts {
+        paper.push(*first)?;
+        for _ in 1..width {
+            paper.push(0)?;
+        }
+    }
+    Ok(())
+}
+
+/// What the bytes print, and their fault, is this.
+fn prints(
+    rt: &impl Abort,
+    alloc: Global,
+    language: Language,
+    bytes: &[u8],
+    want: &Vec<u8>,
+    fault: Option<Fault>,
+) -> Result<(), Fail> {
+    let (paper, found) = print_all(alloc, language, NO_SHEETS, bytes)?;
+    assert_eq!(rt; paper.as_slice(), want.as_slice());
+    assert_eq!(rt; found, fault);
+    Ok(())
+}
+
+#[test]
+fn nothing_prints_nothing(rt: HostRuntime) -> Result<(), Fail> {
+    let none = Vec::new(rt.alloc());
+    prints(&rt, rt.alloc(), Language::Receipt, &[], &none, None)?;
+    prints(
+        &rt,
+        rt.alloc(),
+        Language::Receipt,
+        &[0x1B, 0x4A, 0],
+        &none,
+        None,
+    )?;
+    prints(
+        &rt,
+        rt.alloc(),
+        Language::Receipt,
+        &[0x1B, 0x40],
+        &none,
+        None,
+    )
+}
+
+#[test]
+fn rasters(rt: HostRuntime) -> Result<(), Fail> {
+    let mut two = Vec::new(rt.alloc());
+    image(&mut two, b"P4\n576 2\n", 72, &[0x80, 0x01])?;
+    prints(&rt, rt.alloc(), Language::Receipt, &TWO_ROWS, &two, None)?;
+
+    let mut one = Vec::new(rt.alloc());
+    image(&mut one, b"P4\n576 2\n", 72, &[0x80])?;
+    prints(
+        &rt,
+        rt.alloc(),
+        Language::Receipt,
+        &TWO_ROWS[..9],
+        &one,
+        Some(Fault::Truncated),
+    )?;
+
+    let mut narrow = Vec::new(rt.alloc());
+    image(&mut narrow, b"P4\n384 2\n", 48, &[0x80, 0x01])?;
+    prints(
+        &rt,
+        rt.alloc(),
+        Language::Receipt58,
+        &TWO_ROWS,
+        &narrow,
+        None,
+    )
+}
+
+#[test]
+fn feeds(rt: HostRuntime) -> Result<(), Fail> {
+    let mut strip = Vec::new(rt.alloc());
+    image(&mut strip, b"P4\n576 34\n", 72, &[0; 34])?;
+    prints(&rt, rt.alloc(), Language::Receipt, &[0x0A], &strip, None)?;
+    // no byte a row: only the line feed prints
+    prints(
+        &rt,
+        rt.alloc(),
+        Language::Receipt,
+        &[0x1D, 0x76, 0x30, 0x30, 0, 0, 5, 0, 0x0A],
+        &strip,
+        None,
+    )?;
+
+    let mut narrow = Vec::new(rt.alloc());
+    image(&mut narrow, b"P4\n384 34\n", 48, &[0; 34])?;
+    prints(&rt, rt.alloc(), Language::Receipt58, &[0x0A], &narrow, None)
+}
+
+#[test]
+fn clips(rt: HostRuntime) -> Result<(), Fail> {
+    let mut bytes = Vec::new(rt.alloc());
+    bytes.extend_from_slice(&[0x1D, 0x76, 0x30, 0, 0x49, 0, 1, 0])?;
+    bytes.extend_from_slice(&[0; 72])?;
+    bytes.push(0xFF)?;
+    let mut white = Vec::new(rt.alloc());
+    image(&mut white, b"P4\n576 1\n", 72, &[0])?;
+    prints(&rt, rt.alloc(), Language::Receipt, &bytes, &white, None)
+}
+
+#[test]
+fn widest_raster(rt: HostRuntime) -> Result<(), Fail> {
+    let mut bytes = Vec::new(rt.alloc());
+    bytes.extend_from_slice(&[0x1D, 0x76, 0x30, 0, 0xFF, 0xFF, 1, 0])?;
+    for _ in 0..65535 {
+        bytes.push(0xFF)?;
+    }
+    let mut black = Vec::new(rt.alloc());
+    black.extend_from_slice(b"P4\n576 1\n")?;
+    black.extend_from_slice(&[0xFF; 72])?;
+    prints(&rt, rt.alloc(), Language::Receipt, &bytes, &black, None)
+}
+
+#[test]
+fn prints_before_the_fault(rt: HostRuntime) -> Result<(), Fail> {
+    let mut strip = Vec::new(rt.alloc());
+    image(&mut strip, b"P4\n576 2\n", 72, &[0, 0])?;
+    let bytes = [0x1B, 0x4A, 2, 0x1B, 0x7F, 0x0A];
+    prints(
+        &rt,
+        rt.alloc(),
+        Language::Receipt,
+        &bytes,
+        &strip,
+        Some(Fault::Unknown(0x1B, 0x7F)),
+    )
+}
+
+#[test]
+fn waits_for_room(rt: HostRuntime) -> Result<(), Fail> {
+    let mut printer = Printer::new(rt.alloc(), Language::Receipt, NO_SHEETS)?;
+    let step = printer.step(&TWO_ROWS, &mut []);
+    assert_eq!(rt; (step.taken, step.put, step.state), (8, 0, State::Room));
+
+    let mut printer = Printer::new(rt.alloc(), Language::Receipt, NO_SHEETS)?;
+    let mut out = [0; 81];
+    let step = printer.step(&TWO_ROWS, &mut out);
+    assert_eq!(rt; (step.taken, step.put, step.state), (10, 81, State::Room));
+    assert!(rt; out.starts_with(b"P4\n576 2\n\x80".as_slice()));
+    let mut row = [0; 72];
+    let step = printer.step(&[], &mut row);
+    assert_eq!(rt; (step.taken, step.put, step.state), (0, 72, State::More));
+    assert_eq!(rt; row[0], 0x01);
+    Ok(())
+}
+
+#[test]
+fn stays_stopped(rt: HostRuntime) -> Result<(), Fail> {
+    let mut printer = Printer::new(rt.alloc(), Language::Receipt, NO_SHEETS)?;
+    let mut out = [0; 16];
+    let fault = Fault::Unknown(0x1B, 0x7F);
+    let step = printer.step(&[0x1B, 0x7F], &mut out);
+    assert_eq!(rt;
+        (step.taken, step.put, step.state),
+        (2, 0, State::Stopped(fault))
+    );
+    let step = printer.step(&[0x0A], &mut out);
+    assert_eq!(rt;
+        (step.taken, step.put, step.state),
+        (0, 0, State::Stopped(fault))
+    );
+    if !printer.pending() {
+        assert_eq!(rt; printer.finish(), Err(fault));
+    }
+    Ok(())
+}
+
+#[test]
+fn pumps(rt: HostRuntime) -> Result<(), Fail> {
+    let bytes = [0x1B, 0x4A, 2, 0x1B, 0x7F, 0x0A];
+    let mut reader = Counted::new(bytes.as_slice());
+    let mut writer = Counted::new(Vec::<u8>::new(rt.alloc()));
+    let mut session = Session::new(rt.alloc(), Language::Receipt, NO_SHEETS)?;
+    let fault = RunFault::Print {
+        fault: Fault::Unknown(0x1B, 0x7F),
+        after: 5,
+    };
+    assert_eq!(rt; session.pump(&mut reader, &mut writer), Err(fault));
+    assert_eq!(rt; session.pump(&mut reader, &mut writer), Err(fault));
+    let mut strip = Vec::new(rt.alloc());
+    image(&mut strip, b"P4\n576 2\n", 72, &[0, 0])?;
+    assert_eq!(rt; writer.into_inner().as_slice(), strip.as_slice());
+    Ok(())
+}
+
+#[test]
+fn goes_on_where_the_input_ended(rt: HostRuntime) -> Result<(), Fail> {
+    let mut writer = Counted::new(Vec::<u8>::new(rt.alloc()));
+    let mut session = Session::new(rt.alloc(), Language::Receipt, NO_SHEETS)?;
+    let mut front = Counted::new(&TWO_ROWS[..9]);
+    let early = RunFault::Print {
+        fault: Fault::Truncated,
+        after: 9,
+    };
+    assert_eq!(rt; session.pump(&mut front, &mut writer), Err(early));
+    let mut back = Counted::new(&TWO_ROWS[9..]);
+    let whole = Report {
+        taken: 10,
+        written: 153,
+    };
+    assert_eq!(rt; session.pump(&mut back, &mut writer), Ok(whole));
+    let mut two = Vec::new(rt.alloc());
+    image(&mut two, b"P4\n576 2\n", 72, &[0x80, 0x01])?;
+    assert_eq!(rt; writer.into_inner().as_slice(), two.as_slice());
+    Ok(())
+}
+
+#[test]
+fn the_height_of_the_line_is_held(rt: HostRuntime) -> Result<(), Fail> {
+    let mut printer = Printer::new(rt.alloc(), Language::Receipt, NO_SHEETS)?;
+    let mut paper = [0; 2458];
+    assert_eq!(rt; printer.step(b"M", &mut []).state, State::More);
+    assert_eq!(rt; printer.held().line_rows, 24);
+    assert_eq!(rt; printer.step(b"\n", &mut []).state, State::Room);
+    assert_eq!(rt; printer.held().line_rows, 24);
+    let step = printer.step(&[], &mut paper);
+    assert_eq!(rt; (step.put, step.state), (2458, State::More));
+    assert_eq!(rt; printer.held().line_rows, 0);
+    Ok(())
+}
