@@ -1,0 +1,27 @@
+//! `vp`, the virtual printer: prints what shop software sends to a printer as PBM images.
+#![tactic(auto)]
+
+mod order;
+mod run;
+mod sheets;
+mod stop;
+#[cfg(test)]
+mod tests;
+
+use run::{run, words};
+use std::process::ExitCode;
+
+fn main(rt: HostRuntime) -> ExitCode {
+    let mut errors = rt.stderr();
+    match words(&rt, &mut errors) {
+        Ok(words) => ExitCode::from(run(
+            &rt,
+            rt.alloc(),
+            words.as_slice(),
+            &mut rt.stdin(),
+            &mut rt.stdout(),
+            &mut errors,
+        )),
+        Err(status) => ExitCode::from(status),
+    }
+}

@@ -1,0 +1,111 @@
+//! A run of the program, from its words to its exit status.
+use crate::order::Order;
+use crate::sheets;
+use crate::stop::Stop;
+use clap::error::ErrorKind;
+use std::alloc::Global;
+use std::convert::AsStr;
+use std::io::{Read, Write};
+use std::rt::{Env, Files};
+use std::{env, fs, io};
+use vp_engine::{Counted, Language, Session};
+use vp_glyph::Sheets;
+
+/// The exit status where the words are wrong.
+const USAGE: u8 = 2;
+
+/// The words of the command line, or the exit status where they can't be had.
+pub fn words<R: Env + Alloc, E: Write>(
+    rt: &R,
+    errors: &mut E,
+) -> Result<Vec<String<R::A>, R::A>, u8> {
+    let mut words = Vec::new(rt.alloc());
+    let all = match env::args(rt) {
+        Ok(all) => all,
+        Err(error) if error.kind() == io::ErrorKind::InvalidData => {
+            let _ = writeln!(errors, "error: a word of the command line is not UTF-8");
+            return Err(USAGE);
+        }
+        Err(_) => return Err(report(&Stop::Memory, errors)),
+    };
+    for word in all {
+        if words.push(word).is_err() {
+            return Err(report(&Stop::Memory, errors));
+        }
+    }
+    Ok(words)
+}
+
+/// Runs the program on its words, the first of which is its name, and gives the exit status: 0 success, 1 a fault of
+/// the stream, 2 usage, 3 a file, a sheet, a read or a write, 4 want of memory. What was printed is written first.
+pub fn run<R: Files, S: AsStr, I: Read, O: Write, E: Write>(
+    rt: &R,
+    alloc: Global,
+    words: &[S],
+    input: &mut I,
+    output: &mut O,
+    errors: &mut E,
+) -> u8 {
+    let order = match Order::read(alloc, words) {
+        Ok(order) => order,
+        Err(error) => return usage(&error, output, errors),
+    };
+    match carry_out(rt, alloc, order, input, output) {
+        Ok(()) => 0,
+        Err(stop) => report(&stop, errors),
+    }
+}
+
+/// Reads the sheets, opens the file if one is named, and prints.
+fn carry_out<'a, R: Files, I: Read, O: Write>(
+    rt: &R,
+    alloc: Global,
+    order: Order<'a>,
+    input: &mut I,
+    output: &mut O,
+) -> Result<(), Stop<'a>> {
+    let sheets = sheets::read(rt, alloc, order)?;
+    let Some(name) = order.file else {
+        return print(alloc, order.language, sheets, input, output);
+    };
+    match fs::open(rt, name) {
+        Ok(mut file) => print(alloc, order.language, sheets, &mut file, output),
+        Err(_) => Err(Stop::CannotOpen(name)),
+    }
+}
+
+/// Writes help to the output, and usage to the errors.
+fn usage<O: Write, E: Write>(error: &clap::Error, output: &mut O, errors: &mut E) -> u8 {
+    if error.kind() == ErrorKind::OutOfMemory {
+        return report(&Stop::Memory, errors);
+    }
+    let _ = if error.use_stderr() {
+        write!(errors, "{error}")
+    } else {
+        write!(output, "{error}")
+    };
+    if error.use_stderr() { USAGE } else { 0 }
+}
+
+/// Writes the line of a run that ends early.
+fn report<E: Write>(stop: &Stop<'_>, errors: &mut E) -> u8 {
+    let _ = writeln!(errors, "vp: {stop}");
+    stop.status()
+}
+
+/// Prints what is read, as it comes.
+fn print<'a, I: Read, O: Write>(
+    alloc: Global,
+    language: Language,
+    sheets: Sheets,
+    input: &mut I,
+    output: &mut O,
+) -> Result<(), Stop<'a>> {
+    let Ok(mut session) = Session::new(alloc, language, sheets) else {
+        return Err(Stop::Memory);
+    };
+    match session.pump(&mut Counted::new(input), &mut Counted::new(output)) {
+        Ok(_) => Ok(()),
+        Err(fault) => Err(Stop::of_run(fault)),
+    }
+}

@@ -1,0 +1,70 @@
+//! How a run ends early: its line, and its status.
+ghost use Rattle.std.specs.Prelude.{◌≡◌};
+ghost use Rattle.vp_cli.specs.Statuses.{status_of};
+
+use std::io;
+use thiserror::Error;
+use vp_dots::Fault;
+use vp_engine::RunFault;
+use vp_glyph::SheetError;
+
+/// Why a run ends before all is printed.
+#[derive(Debug, Drop, Error)]
+pub enum Stop<'a> {
+    /// The stream is wrong at the last of the bytes taken.
+    #[error("F{} after {after} bytes: {fault}", .fault.number())]
+    Print {
+        fault: Fault,
+        after: u64,
+    },
+    #[error("cannot open {0}")]
+    CannotOpen(&'a str),
+    /// A file is no glyph sheet.
+    #[error("{name}: S{number} {error}")]
+    Sheet {
+        name: &'a str,
+        number: u8,
+        error: SheetError,
+    },
+    #[error("read failed")]
+    Read,
+    #[error("write failed")]
+    Write,
+    #[error("too many turns")]
+    TooManyTurns,
+    #[error("out of memory")]
+    Memory,
+}
+
+impl Stop<'_> {
+    /// The exit status: 1 for a fault of the stream, 3 for a file, a sheet, a read or a write, 4 for want of memory.
+    pub fn status(&self) -> u8
+        ensures { result ≡ status_of self.now }
+    {
+        match self {
+            Stop::Print { .. } => 1,
+            Stop::CannotOpen(_) | Stop::Sheet { .. } => 3,
+            Stop::Read | Stop::Write | Stop::TooManyTurns => 3,
+            Stop::Memory => 4,
+        }
+    }
+
+    /// Why a whole file can't be read.
+    pub fn of_read(error: &io::Error) -> Self {
+        if error.kind() == io::ErrorKind::OutOfMemory {
+            Stop::Memory
+        } else {
+            Stop::Read
+        }
+    }
+
+    /// Why a session ended before its input did.
+    pub fn of_run(fault: RunFault) -> Self {
+        match fault {
+            RunFault::Print { fault, after } => Stop::Print { fault, after },
+            RunFault::Read => Stop::Read,
+            RunFault::Write => Stop::Write,
+            RunFault::TooManyTurns => Stop::TooManyTurns,
+        }
+    }
+}
