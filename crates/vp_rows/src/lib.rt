@@ -1,0 +1,12 @@
+//! Whole streams through the printer: what they print in one piece, cut at both ends, and between readers and writers
+//! that give and take a few bytes at a time and fail once.
+#![tactic(auto)]
+
+#[cfg(test)]
+mod pieces;
+#[cfg(test)]
+mod sheet;
+#[cfg(test)]
+mod streams;
+#[cfg(test)]
+mod tests;

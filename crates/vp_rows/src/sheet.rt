@@ -1,0 +1,32 @@
+//! The sheet of the tests: in cell c the leftmost c mod 13 dots of each row are black.
+use std::alloc::Global;
+use std::test::Fail;
+use vp_glyph::{Sheet, Sheets};
+
+/// Dots x to x + 7 of row y of the sheet.
+fn eight_dots(x: u32, y: u32) -> u8 {
+    let mut byte: u8 = 0;
+    for i in 0..8u32 {
+        let dot = x.wrapping_add(i);
+        let cell = (y / 24).wrapping_mul(16).wrapping_add(dot / 12);
+        byte = byte
+            .wrapping_mul(2)
+            .wrapping_add(u8::from(dot % 12 < cell % 13));
+    }
+    byte
+}
+
+/// The sheet as font A, and none for font B.
+pub fn sheets(alloc: Global) -> Result<Sheets, Fail> {
+    let mut image = Vec::new(alloc);
+    image.extend_from_slice(b"P4\n192 384\n")?;
+    for y in 0..384u32 {
+        for byte in 0..24u32 {
+            image.push(eight_dots(byte.wrapping_mul(8), y))?;
+        }
+    }
+    Ok(Sheets {
+        a: Sheet::read(alloc, &image, 12, 24).ok(),
+        b: None,
+    })
+}

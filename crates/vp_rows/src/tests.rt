@@ -1,0 +1,189 @@
+use crate::pieces::{Pieces, Sips};
+use crate::sheet::sheets;
+use crate::streams::{STREAMS, Stream};
+use std::alloc::{AllocError, Global};
+use std::process::Abort;
+use std::test::Fail;
+use vp_dots::Fault;
+use vp_engine::{Counted, Language, Printer, Report, RunFault, Session, State, print_all};
+
+/// Never reached: no call fails.
+const NEVER: usize = 0;
+
+/// The bytes of the images of a stream.
+fn paper_of(alloc: Global, stream: &Stream) -> Result<Vec<u8>, AllocError> {
+    let width: usize = match stream.language {
+        Language::Receipt => 72,
+        Language::Receipt58 => 48,
+    };
+    let mut paper = Vec::new(alloc);
+    for image in stream.images {
+        paper.extend_from_slice(image.head)?;
+        for (count, front) in image.rows {
+            for _ in 0..*count {
+                paper.extend_from_slice(front)?;
+                for _ in front.len()..width {
+                    paper.push(0)?;
+                }
+            }
+        }
+    }
+    Ok(paper)
+}
+
+#[test]
+fn each_stream_prints_its_images(rt: HostRuntime) -> Result<(), Fail> {
+    for stream in STREAMS {
+        let name = stream.name;
+        let (paper, fault) = print_all(
+            rt.alloc(),
+            stream.language,
+            sheets(rt.alloc())?,
+            stream.bytes,
+        )?;
+        assert_eq!(rt;
+            paper.as_slice(),
+            paper_of(rt.alloc(), stream)?.as_slice(),
+            "{name}"
+        );
+        assert_eq!(rt; fault, stream.fault, "{name}");
+    }
+    Ok(())
+}
+
+/// The bytes of a stream through a printer, one byte in and one byte out at a time.
+fn cut_into_bytes(alloc: Global, stream: &Stream) -> Result<(Vec<u8>, State), Fail> {
+    let mut printer = Printer::new(alloc, stream.language, sheets(alloc)?)?;
+    let mut paper = Vec::new(alloc);
+    let mut state = State::More;
+    let mut rest = stream.bytes;
+    for _ in 0..90000u32 {
+        let mut output = [0u8; 1];
+        let step = printer.step(&rest[..rest.len().min(1)], &mut output);
+        rest = &rest[step.taken.min(rest.len())..];
+        if step.put == 1 {
+            paper.push(output[0])?;
+        }
+        state = step.state;
+    }
+    Ok((paper, state))
+}
+
+#[test]
+fn each_stream_is_cut_into_bytes(rt: HostRuntime) -> Result<(), Fail> {
+    for stream in STREAMS {
+        let name = stream.name;
+        let (paper, state) = cut_into_bytes(rt.alloc(), stream)?;
+        assert_eq!(rt;
+            paper.as_slice(),
+            paper_of(rt.alloc(), stream)?.as_slice(),
+            "{name}"
+        );
+        let want = match stream.fault {
+            None | Some(Fault::Truncated | Fault::Unprinted) => State::More,
+            Some(fault) => State::Stopped(fault),
+        };
+        assert_eq!(rt; state, want, "{name}");
+    }
+    Ok(())
+}
+
+/// Reads and writes so many bytes a call until it is answered by anything but a failed read or write.
+fn pump(
+    rt: &impl Abort,
+    alloc: Global,
+    stream: &Stream,
+    bytes: &[u8],
+    most: usize,
+    (bad_read, bad_write): (usize, usize),
+) -> Result<(Vec<u8>, Result<Report, RunFault>), Fail> {
+    let mut reader = Counted::new(Pieces {
+        rest: bytes,
+        most,
+        calls: 0,
+        fails_at: bad_read,
+    });
+    let mut writer = Counted::new(Sips {
+        bytes: Vec::new(alloc),
+        most,
+        calls: 0,
+        fails_at: bad_write,
+    });
+    let mut session = Session::new(alloc, stream.language, sheets(alloc)?)?;
+    let mut answer = session.pump(&mut reader, &mut writer);
+    if answer == Err(RunFault::Read) || answer == Err(RunFault::Write) {
+        assert!(rt; bad_read != NEVER || bad_write != NEVER);
+        answer = session.pump(&mut reader, &mut writer);
+    }
+    Ok((writer.into_inner().bytes, answer))
+}
+
+#[test]
+fn each_front_is_pumped_as_it_prints(rt: HostRuntime) -> Result<(), Fail> {
+    for stream in STREAMS {
+        let name = stream.name;
+        for n in 0..stream.bytes.len() + 1 {
+            let front = &stream.bytes[..n.min(stream.bytes.len())];
+            let (paper, fault) = print_all(
+                rt.alloc(),
+                stream.language,
+                sheets(rt.alloc())?,
+                front,
+            )?;
+            let (pumped, answer) = pump(&rt, rt.alloc(), stream, front, 7, (NEVER, NEVER))?;
+            assert_eq!(rt; pumped.as_slice(), paper.as_slice(), "{name}, {n} bytes");
+            match answer {
+                Ok(report) => {
+                    assert_eq!(rt; fault, None, "{name}, {n} bytes");
+                    assert_eq!(rt; report.taken, n as u64, "{name}");
+                    assert_eq!(rt; report.written, paper.len() as u64, "{name}");
+                }
+                Err(RunFault::Print { fault: found, .. }) => {
+                    assert_eq!(rt; fault, Some(found), "{name}, {n} bytes");
+                }
+                Err(_) => assert!(rt; false, "{name}, {n} bytes"),
+            }
+        }
+    }
+    Ok(())
+}
+
+#[test]
+fn a_failed_read_or_write_loses_nothing(rt: HostRuntime) -> Result<(), Fail> {
+    for stream in STREAMS {
+        let name = stream.name;
+        let paper = paper_of(rt.alloc(), stream)?;
+        for call in 1..12usize {
+            let (pumped, _) = pump(&rt, rt.alloc(), stream, stream.bytes, 3, (call, NEVER))?;
+            assert_eq!(rt; pumped.as_slice(), paper.as_slice(), "{name}, read {call}");
+            let (pumped, _) = pump(&rt, rt.alloc(), stream, stream.bytes, 300, (NEVER, call))?;
+            assert_eq!(rt; pumped.as_slice(), paper.as_slice(), "{name}, write {call}");
+        }
+    }
+    Ok(())
+}
+
+#[test]
+fn goes_on_behind_the_byte_that_was_written_last(rt: HostRuntime) -> Result<(), Fail> {
+    let bytes: &[u8] = &[0x1D, 0x76, 0x30, 0, 1, 0, 2, 0, 0x80, 0x01];
+    let mut reader = Counted::new(bytes);
+    let mut writer = Counted::new(Sips {
+        bytes: Vec::new(rt.alloc()),
+        most: 1,
+        calls: 0,
+        fails_at: 9,
+    });
+    let mut session = Session::new(rt.alloc(), Language::Receipt, sheets(rt.alloc())?)?;
+    assert_eq!(rt;
+        session.pump(&mut reader, &mut writer),
+        Err(RunFault::Write)
+    );
+    let whole = Report {
+        taken: 10,
+        written: 153,
+    };
+    assert_eq!(rt; session.pump(&mut reader, &mut writer), Ok(whole));
+    let written = writer.into_inner();
+    assert_eq!(rt; written.bytes.len(), 153);
+    Ok(())
+}
