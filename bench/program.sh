@@ -1,0 +1,72 @@
+#!/bin/sh
+# How long the program takes, beside cat of what it prints: bench/program.sh [VP], with the program that `rt run` in
+# crates/vp_cli built. The times are those of the machine it runs on; the ratios are what to look at.
+set -eu
+top=$(cd "$(dirname "$0")/.." && pwd)
+vp=${1:-$top/crates/vp_cli/out/vp_cli}
+scratch=$(mktemp -d)
+trap 'rm -rf "$scratch"' EXIT
+
+# seconds NAME COMMAND..: the least of seven runs in nanoseconds, its output into NAME
+seconds() {
+    out=$1
+    shift
+    for _ in 1 2 3 4 5 6 7; do
+        start=$(date +%s%N)
+        "$@" > "$out"
+        end=$(date +%s%N)
+        echo $((end - start))
+    done | sort -n | head -1
+}
+
+# measure NAME FILE OPTION..: the program over a file, beside cat of its paper
+measure() {
+    name=$1
+    file=$2
+    shift 2
+    print=$(seconds "$scratch/paper" "$vp" receipt "$@" "$file")
+    copy=$(seconds "$scratch/copy" cat "$scratch/paper")
+    bytes=$(wc -c < "$scratch/paper")
+    echo "$print $copy $bytes" | awk -v name="$name" '{ printf "%s: %d bytes of paper, %.1f ms, cat %.1f ms, %.1f times cat, %.0f MB/s\n", name, $3, $1 / 1e6, $2 / 1e6, $1 / $2, $3 * 1000 / $1 }'
+}
+
+# repeated NUMBER FILE: the file so many times
+repeated() {
+    for _ in $(seq "$1"); do cat "$2"; done
+}
+
+# GS v 0, a raster of 576 dots by 20,000
+{ printf '\035v0\000\110\000\040\116'; head -c 1440000 /dev/urandom; } > "$scratch/raster"
+measure raster "$scratch/raster"
+
+# a day of 1,000 receipts of 30 lines
+line='2 x Espresso doppio, milk apart        7.40'
+for _ in $(seq 30); do echo "$line"; done > "$scratch/receipt"
+printf '\035V\001' >> "$scratch/receipt"
+repeated 1000 "$scratch/receipt" > "$scratch/day"
+measure text "$scratch/day" --font-a "$top/examples/font-a.pbm"
+
+# in each direction 200 pages of 576 dots by 1,664 that one raster fills, and 200 full of text
+for direction in 0 1 2 3; do
+    case $direction in
+    0 | 2) size='\110\000\200\006' columns=48 lines=69 ;;
+    *) size='\320\000\100\002' columns=138 lines=24 ;;
+    esac
+    begin="\033L\033T\\00$direction"
+    { printf "$begin\035v0\000$size"; head -c 119808 /dev/urandom; printf '\014'; } > "$scratch/page"
+    repeated 200 "$scratch/page" > "$scratch/pages"
+    measure "pages of rasters, direction $direction" "$scratch/pages"
+    {
+        printf "$begin\0333\030"
+        for _ in $(seq $lines); do
+            echo "$line $line $line $line" | cut -c "1-$columns"
+        done
+        printf '\014'
+    } > "$scratch/page"
+    repeated 200 "$scratch/page" > "$scratch/pages"
+    measure "pages of text, direction $direction" "$scratch/pages" --font-a "$top/examples/font-a.pbm"
+done
+
+# 1 GB of rasters of 576 dots by 65,535, and the most memory that the program held
+{ printf '\035v0\000\110\000\377\377'; head -c 4718520 /dev/urandom; } > "$scratch/tall"
+repeated 213 "$scratch/tall" | /usr/bin/time -f 'gigabyte: %e s, %M KB at most' "$vp" receipt > /dev/null

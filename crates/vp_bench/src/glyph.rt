@@ -1,0 +1,156 @@
+//! How long painting a row of characters takes, a character, and how many times as long dot by dot.
+ghost use Rattle.std.specs.Prelude.{◌≡◌};
+
+use crate::measure::least;
+use anyhow::Result;
+use std::alloc::Global;
+use std::io;
+use std::rt::Clock;
+use vp_dots::{Ink, Op, fill_dots};
+use vp_glyph::{Alignment, Font, Sheet, Sheets, Style};
+
+const ROUNDS: u32 = 200;
+
+const COLUMNS: u8 = 24;
+
+const PLAIN: Style = Style {
+    wm: 1,
+    hm: 1,
+    spacing: 0,
+    bold: false,
+    underline: 0,
+    inverse: false,
+};
+
+/// The same ink, painted dot by dot.
+#[derive(Drop)]
+struct Slow<'a, I> {
+    inner: &'a I,
+}
+
+impl<I: Ink> Ink for Slow<'_, I> {
+    ghost width = { λ s. I.width s.inner.now };
+
+    ghost height = { λ s. I.height s.inner.now };
+
+    ghost ink_at = { λ s x y. I.ink_at s.inner.now x y };
+
+    ghost outside = { λ s x y h. I.outside s.inner.now x y h };
+
+    fn size(&self) -> (u32, u32) {
+        self.inner.size()
+    }
+
+    fn ink(&self, x: u32, y: u32) -> bool {
+        self.inner.ink(x, y)
+    }
+}
+
+/// Sheet A with strokes one, two and three dots wide.
+fn strokes(alloc: Global) -> Result<Sheets> {
+    let mut text = b"P4\n192 384\n".to_vec(alloc)?;
+    for y in 0..384u64 {
+        let mut row = [0u8; 24];
+        for column in 0..16u64 {
+            let left = column * 12;
+            fill_dots(Op::Black, left + 1 + y % 2, left + 3, &mut row);
+            fill_dots(Op::Black, left + 5, left + 8, &mut row);
+            fill_dots(Op::Black, left + 9 + y % 3, left + 11, &mut row);
+        }
+        text.extend_from_slice(&row)?;
+    }
+    let a = Sheet::read(alloc, &text, 12, 24)?;
+    Ok(Sheets {
+        a: Some(a),
+        b: None,
+    })
+}
+
+fn paint<I: Ink>(ink: &I, row: &mut [u8]) {
+    let (_, height) = ink.size();
+    for column in 0..COLUMNS {
+        for y in 0..height {
+            ink.paint_row(y, Op::Flip, i64::from(column) * 13, row);
+        }
+    }
+}
+
+/// The least time of a row of a character.
+fn row<I: Ink>(rt: &impl Clock, ink: &I, rounds: u32) -> io::Result<f64> {
+    let mut row = [0u8; 156];
+    let painted = least(rt, rounds, || paint(ink, &mut row))?;
+    let (_, height) = ink.size();
+    Ok(painted / (f64::from(COLUMNS) * f64::from(height)))
+}
+
+fn show<I: Ink>(rt: &(impl Clock + Print), name: &str, ink: &I) -> io::Result<()> {
+    let fast = row(rt, ink, ROUNDS)?;
+    let slow = row(rt, &Slow { inner: ink }, ROUNDS / 20)?;
+    println!(rt;
+        "{name}: {fast:.1} ns a row, dot by dot {:.1} times as long",
+        slow / fast
+    )
+}
+
+/// Prints the times.
+pub fn run(rt: &(impl AllocGlobal + Clock + Print)) -> Result<()> {
+    let sheets = strokes(rt.alloc())?;
+    let cell = |style| sheets.cell(b'M', Font::A, style);
+    show(rt, "plain", &cell(PLAIN))?;
+    show(
+        rt,
+        "bold",
+        &cell(Style {
+            bold: true,
+            ..PLAIN
+        }),
+    )?;
+    show(
+        rt,
+        "double",
+        &cell(Style {
+            wm: 2,
+            hm: 2,
+            ..PLAIN
+        }),
+    )?;
+    show(
+        rt,
+        "eightfold",
+        &cell(Style {
+            wm: 8,
+            hm: 8,
+            ..PLAIN
+        }),
+    )?;
+    show(
+        rt,
+        "inverse",
+        &cell(Style {
+            inverse: true,
+            spacing: 4,
+            ..PLAIN
+        }),
+    )?;
+    show(
+        rt,
+        "font B from sheet A",
+        &sheets.cell(b'M', Font::B, PLAIN),
+    )?;
+    show(rt, "sampled 12 by 24", &sheets.sampled(b'M', 12, 24))?;
+    show(rt, "sampled 30 by 60", &sheets.sampled(b'M', 30, 60))?;
+    show(
+        rt,
+        "a block of 40 characters",
+        &sheets.block(
+            b"Ten words in this block, broken by lines",
+            12,
+            24,
+            240,
+            3,
+            0,
+            Alignment::Left,
+        ),
+    )?;
+    Ok(())
+}
