@@ -4,7 +4,7 @@ ghost use Rattle.vp_receipt.specs.Setup.{Setup};
 ghost use Rattle.vp_engine.specs.Stands.{Stands};
 ghost use Rattle.vp_engine.specs.Answers.{IsMore, IsRoom, IsStopped, IsStill};
 ghost use Rattle.vp_engine.specs.Paper.{setup_of, fault, fault_at_end};
-ghost use Rattle.vp_engine.specs.Held.{line_rows_held};
+ghost use Rattle.vp_engine.specs.Held.{line_rows_held, page_rows_held};
 ghost use Rattle.vp_dots.specs.declared.fault.Fault.{Fault};
 
 use crate::language::Language;
@@ -39,6 +39,8 @@ pub struct Step {
 pub struct Held {
     /// The rows of the line that is gathered, or whose strip is being put out: at most 192.
     pub line_rows: u16,
+    /// The rows of the page: 1,664 in page mode and while bytes of a page are still to be put out, else 0.
+    pub page_rows: u16,
 }
 
 /// A printer.
@@ -204,10 +206,13 @@ impl Printer {
     pub fn held(&self) -> Held
         ensures line_rows { (setup : Setup) (t o : List ℕ) → Stands setup self.now t o →
             result.line_rows ≡ line_rows_held setup t o }
-        ensures most { result.line_rows ≤ 192 }
+        ensures page_rows { (setup : Setup) (t o : List ℕ) → Stands setup self.now t o →
+            result.page_rows ≡ page_rows_held setup t o }
+        ensures most { (result.line_rows ≤ 192) × (result.page_rows ≤ 1664) }
     {
         Held {
             line_rows: self.receipt.line_rows(),
+            page_rows: self.receipt.page_rows(),
         }
     }
 }

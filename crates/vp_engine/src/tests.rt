@@ -240,3 +240,97 @@ fn the_height_of_the_line_is_held(rt: HostRuntime) -> Result<(), Fail> {
     assert_eq!(rt; printer.held().line_rows, 0);
     Ok(())
 }
+
+/// A step: its input, its room, what it comes to, and the rows that are then held of the line and of the page.
+type Stage<'a> = (&'a [u8], usize, State, u16, u16);
+
+/// The stages of a printer come to what they say.
+fn holds(rt: &impl Abort, printer: &mut Printer, stages: &[Stage]) {
+    let mut out = [0; 160];
+    for (input, room, state, line_rows, page_rows) in stages {
+        let step = printer.step(input, &mut out[..(*room).min(160)]);
+        assert_eq!(rt; step.state, *state);
+        let held = printer.held();
+        assert_eq!(rt; (held.line_rows, held.page_rows), (*line_rows, *page_rows));
+    }
+}
+
+/// ESC L, and an area of two rows: its page has 153 bytes.
+const TWO_ROWS_OF_A_PAGE: [u8; 12] = [0x1B, 0x4C, 0x1B, 0x57, 0, 0, 0, 0, 16, 0, 2, 0];
+
+#[test]
+fn the_height_of_the_page_is_held(rt: HostRuntime) -> Result<(), Fail> {
+    let page = TWO_ROWS_OF_A_PAGE.as_slice();
+    let tables: [&[Stage]; 6] = [
+        // ESC L, and FF
+        &[
+            (b"\x1BL", 0, State::More, 0, 1664),
+            (b"\x0C", 0, State::Room, 0, 1664),
+        ],
+        // FF prints the page and ends page mode
+        &[
+            (page, 0, State::More, 0, 1664),
+            (b"\x0C", 0, State::Room, 0, 1664),
+            (b"", 152, State::Room, 0, 1664),
+            (b"", 1, State::More, 0, 0),
+            (b"\x0C", 0, State::More, 0, 0),
+            (b"\n", 0, State::Room, 0, 0),
+        ],
+        // ESC FF keeps it
+        &[
+            (page, 0, State::More, 0, 1664),
+            (b"\x1B\x0C", 0, State::Room, 0, 1664),
+            (b"", 152, State::Room, 0, 1664),
+            (b"", 1, State::More, 0, 1664),
+        ],
+        // ESC S, ESC @
+        &[
+            (b"\x1BLM", 0, State::More, 24, 1664),
+            (b"\x1BS", 0, State::More, 0, 0),
+        ],
+        &[
+            (b"\x1BL", 0, State::More, 0, 1664),
+            (b"\x1B@", 0, State::More, 0, 0),
+        ],
+        // a line on paper
+        &[
+            (b"", 0, State::More, 0, 0),
+            (b"M", 0, State::More, 24, 0),
+            (b"\n", 0, State::Room, 24, 0),
+            (b"", 1, State::Room, 24, 0),
+        ],
+    ];
+    for stages in tables {
+        let mut printer = Printer::new(rt.alloc(), Language::Receipt, NO_SHEETS)?;
+        holds(&rt, &mut printer, stages);
+    }
+    Ok(())
+}
+
+#[test]
+fn a_page_is_held_to_its_last_byte(rt: HostRuntime) -> Result<(), Fail> {
+    let mut printer = Printer::new(rt.alloc(), Language::Receipt, NO_SHEETS)?;
+    holds(
+        &rt,
+        &mut printer,
+        &[
+            (TWO_ROWS_OF_A_PAGE.as_slice(), 0, State::More, 0, 1664),
+            (b"\x0C", 0, State::Room, 0, 1664),
+        ],
+    );
+    for _ in 0..152 {
+        holds(&rt, &mut printer, &[(b"", 1, State::Room, 0, 1664)]);
+    }
+    holds(&rt, &mut printer, &[(b"", 1, State::More, 0, 0)]);
+    Ok(())
+}
+
+#[test]
+fn a_page_is_unprinted(rt: HostRuntime) -> Result<(), Fail> {
+    let mut printer = Printer::new(rt.alloc(), Language::Receipt, NO_SHEETS)?;
+    holds(&rt, &mut printer, &[(b"\x1BL", 0, State::More, 0, 1664)]);
+    if !printer.pending() {
+        assert_eq!(rt; printer.finish(), Err(Fault::Unprinted));
+    }
+    Ok(())
+}

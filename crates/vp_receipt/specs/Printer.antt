@@ -16,6 +16,7 @@ printing_of r = record {
   waiting = r.waiting;
   pending = text_of r.job r.canvas;
   showing = showing_of r.job r.canvas;
+  of_page = r.of_page;
 }
 
 pub record IsPrinter (r : Inside) : Type 0 where

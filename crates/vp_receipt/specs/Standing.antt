@@ -1,5 +1,5 @@
 -- What a receipt printer stands after.
-use Rattle.std.specs.Prelude.{◌≡◌, ◌<◌, ℕ, ◌-◌, ◌==◌, if◌then◌else◌, true, List, [], ◌∷◌, Option, Some, None, length, take, min}
+use Rattle.std.specs.Prelude.{◌≡◌, ◌<◌, ℕ, ◌-◌, ◌==◌, if◌then◌else◌, Bool, true, List, [], ◌∷◌, Option, Some, None, length, take, min}
 use Rattle.vp_esc.specs.declared.item.EscItem.{EscItem}
 use Rattle.vp_glyph.specs.declared.Sheets.{Sheets}
 use Rattle.vp_receipt.specs.declared.settings.Settings.{Settings}
@@ -16,11 +16,11 @@ use Rattle.vp_receipt.specs.PageMarks.{layers}
 use Rattle.vp_receipt.specs.History.{Placed, height, mode, line, is_open, settings_of, image_of}
 use Rattle.vp_receipt.specs.Rasters.{raster_scale, raster_bytes, rows_to_come, row_so_far}
 use Rattle.vp_receipt.specs.Held.{Showing, Shows}
-use Rattle.vp_receipt.specs.Strips.{own_part}
+use Rattle.vp_receipt.specs.Strips.{own_part, printed_page}
 use Rattle.vp_receipt.specs.LineDots.{HasDots}
 
 -- a receipt printer: what is in force, its tab stops, the raster that comes, the bitmap of its line, its page,
--- a character that waits for the line before it to be printed, and what is still to be put out
+-- a character that waits for the line before it to be printed, what is still to be put out, and whether that is of a page
 pub record Printing : Type 0 where
   pub sheets : Sheets
   pub settings : Settings
@@ -32,6 +32,7 @@ pub record Printing : Type 0 where
   pub waiting : Option ℕ
   pub pending : List ℕ
   pub showing : Option Showing
+  pub of_page : Bool
 
 -- the line is in the bitmap, or is the character that waits
 abbrev pub Gathers : Sheets → Settings → List (List ℕ) → Option ℕ → List Placed → Type 0
@@ -75,3 +76,4 @@ pub record Stands (setup : Setup) (p : Printing) (before : List EscItem) : Type 
   pub line : Gathers p.sheets p.settings p.bitmap p.waiting (line setup before)
   pub page : HasPageIf (mode setup before) (layers setup before) p.page
   pub shows : ShowsLine setup p.showing p.pending before
+  pub of_page : 0 < length p.pending → p.of_page ≡ printed_page setup before

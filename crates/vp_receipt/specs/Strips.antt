@@ -1,5 +1,5 @@
 -- What is printed.
-use Rattle.std.specs.Prelude.{ℕ, ◌*◌, nat_lt, Bool, true, false, not, ◌&&◌, if◌then◌else◌, List, [], ◌∷◌, ◌++◌, length, max, Option, None, Some}
+use Rattle.std.specs.Prelude.{ℕ, ◌*◌, nat_lt, Bool, true, false, not, ◌&&◌, ◌||◌, if◌then◌else◌, List, [], ◌∷◌, ◌++◌, length, max, Option, None, Some}
 use Rattle.vp_dots.specs.Headers.{header_of}
 use Rattle.vp_dots.specs.declared.fault.Fault.{Fault}
 use Rattle.vp_esc.specs.declared.item.EscItem.{EscItem}
@@ -110,3 +110,13 @@ abbrev pub line_rows_after : Setup → List EscItem → List ℕ → ℕ
 line_rows_after setup [] pending = 0
 line_rows_after setup (item ∷ before) pending =
     if nat_lt (length (own_part setup before item)) (length pending) then height (line setup before) else height (line setup (item ∷ before))
+
+-- the last item printed a page
+abbrev pub printed_page : Setup → List EscItem → Bool
+printed_page setup [] = false
+printed_page setup (item ∷ before) = is_paged (mode setup before) && prints_page item
+
+-- the rows of the page that is held: of a whole one in page mode, and while bytes of the page that the last item printed are pending
+abbrev pub page_rows_after : Setup → List EscItem → List ℕ → ℕ
+page_rows_after setup before pending =
+    if is_paged (mode setup before) || (printed_page setup before && nat_lt 0 (length pending)) then 1664 else 0

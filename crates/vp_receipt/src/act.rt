@@ -11,7 +11,7 @@ ghost use Rattle.vp_receipt.specs.PageMarks.{HasRows, mark_of, line_mark, laid_i
 ghost use Rattle.vp_receipt.specs.LineDots.{HasDots};
 ghost use Rattle.vp_receipt.specs.Rows.{line_text, image_text};
 ghost use Rattle.vp_receipt.specs.Rasters.{raster_scale, raster_bytes};
-ghost use Rattle.vp_receipt.specs.Strips.{prints, strips, own_part, own_strips, prints_page, page_part, symbol_image, ended, raster_row_text};
+ghost use Rattle.vp_receipt.specs.Strips.{prints, strips, own_part, own_strips, prints_page, printed_page, page_part, symbol_image, ended, raster_row_text};
 ghost use Rattle.vp_receipt.specs.Images.{Image};
 ghost use Rattle.vp_receipt.specs.SymbolInks.{symbol_dot, symbol_height, is_symbol, IsSymbolOf};
 ghost use Rattle.vp_receipt.specs.Standing.{Gathers, HasPageIf};
@@ -232,6 +232,13 @@ fn prints_page(item: &EscItem) -> bool
     ensures { result ≡ prints_page item.now }
 {
     matches!(item, EscItem::PrintPage | EscItem::FormFeed)
+}
+
+/// Whether what an item prints is a page.
+pub fn printed_page(s: Settings, item: &EscItem) -> bool
+    ensures { (setup : Setup) (before : List EscItem) → s ≡ settings_of setup before → result ≡ printed_page setup (item.now ∷ before) }
+{
+    s.page.is_paged() && prints_page(item)
 }
 
 /// Lays the line if it is open, and an item ends it.

@@ -7,11 +7,11 @@ ghost use Rattle.vp_receipt.specs.History.{settings_of, IsFit, is_open, line, Pl
 ghost use Rattle.vp_receipt.specs.Rasters.{bytes_after, bytes_within_row};
 ghost use Rattle.vp_receipt.specs.Tabs.{tab_stops};
 ghost use Rattle.vp_receipt.specs.LineDots.{HasDots};
-ghost use Rattle.vp_receipt.specs.Strips.{prints, printed, refusal, is_at_rest, line_rows_after};
+ghost use Rattle.vp_receipt.specs.Strips.{prints, printed, refusal, is_at_rest, line_rows_after, page_rows_after};
 ghost use Rattle.vp_receipt.specs.Standing.{Stands, Gathers, IsGathering, room_of};
 ghost use Rattle.vp_receipt.specs.Held.{text_of, IsJob, IsTurned};
 
-use crate::act::{act, row_job, settle};
+use crate::act::{act, printed_page, row_job, settle};
 use crate::canvas::Canvas;
 use crate::job::Job;
 use crate::raster::Raster;
@@ -38,6 +38,8 @@ pub struct Receipt {
     /// A character that broke the line, and is put into the next one once that line is printed.
     waiting: Option<u8>,
     job: Job,
+    /// Whether what is pending is of a page.
+    of_page: bool,
 }
 
 impl Model for Receipt {
@@ -74,6 +76,7 @@ impl Receipt {
             },
             waiting: None,
             job: Job::none(),
+            of_page: false,
         })
     }
 
@@ -91,6 +94,7 @@ impl Receipt {
             let ends = self.raster.take(byte);
             if ends && !self.settings.page.is_paged() {
                 self.job = row_job(self.settings, &self.raster, &mut self.canvas.raster_row);
+                self.of_page = false;
             }
             return Ok(());
         }
@@ -105,6 +109,7 @@ impl Receipt {
         let (waiting, job) = act(s, &item, symbol, &mut self.canvas);
         self.waiting = waiting;
         self.job = job;
+        self.of_page = printed_page(s, &item);
         self.settings = s.after(&item, self.stops.as_slice());
         set_stops(&mut self.stops, &item, s.text);
         self.raster.begin(&item);
@@ -161,5 +166,17 @@ impl Receipt {
         ensures most { result ≤ 192 }
     {
         self.job.line_rows().unwrap_or(self.settings.height)
+    }
+
+    /// The rows of the page that is held: 1,664 in page mode and while bytes of a page are still to be put out, else 0.
+    pub fn page_rows(&self) -> u16
+        ensures value { (setup : Setup) (before : List EscItem) → Stands setup self.now before → result ≡ page_rows_after setup before self.now.pending }
+        ensures most { result ≤ 1664 }
+    {
+        if self.settings.page.is_paged() || (self.of_page && self.pending()) {
+            1664
+        } else {
+            0
+        }
     }
 }

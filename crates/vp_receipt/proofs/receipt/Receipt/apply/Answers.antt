@@ -41,6 +41,7 @@ returns-clause-stands c = λ setup before h.
           (c.act-waiting.ensures.line setup before was sheets symbol (c.settle.ensures (line setup before) old)));
       page = c.act-waiting.ensures.page setup before was (c.settle.ensures (line setup before) old) page;
       shows = c.act-waiting.ensures.shows setup before was sheets symbol (c.settle.ensures (line setup before) old) page;
+      of_page = λ some. c.printed_page-self-inside.ensures setup before was;
     }
 
 pub returns-clause-pending : goal.returns-clause-pending

@@ -1,4 +1,4 @@
-use Rattle.std.proofs.Common.{ap, sym, ◌∙◌, subst}
+use Rattle.std.proofs.Common.{length, ap, sym, ◌∙◌, subst, arith}
 use Rattle.vp_receipt.specs.Symbols.{IsStored, qr_data}
 use Rattle.vp_receipt.specs.History.{line, mode}
 use Rattle.vp_receipt.specs.PageMarks.{layers}
@@ -25,4 +25,5 @@ returns-clause-stands c = λ setup before h.
       page = page_stays setup bytes before _ (subst (λ (p : Printing). HasPageIf (mode setup before) (layers setup before) p.page) (sym c.self.view_is) h.page);
       shows = shows_nothing setup _ _ before (bytes_after bytes before) (ap (λ (p : Printing). p.pending) c.self.view_is ∙ c.requires.pending)
           (subst (λ (p : Printing). ShowsLine setup p.showing p.pending before) (sym c.self.view_is) h.shows);
+      of_page = λ some. absurd (omega (arith, some, ap length (ap (λ (p : Printing). p.pending) c.self.view_is ∙ c.requires.pending)));
     }

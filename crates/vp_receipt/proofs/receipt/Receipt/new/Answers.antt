@@ -14,4 +14,5 @@ returns-clause-stands c = record {
   line = λ h. cc;
   page = tt;
   shows = c.none-3.ensures.shows _ 0 0;
+  of_page = λ some. refl;
 }
