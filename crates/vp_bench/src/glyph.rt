@@ -6,7 +6,7 @@ use anyhow::Result;
 use std::alloc::Global;
 use std::io;
 use std::rt::Clock;
-use vp_dots::{Ink, Op, fill_dots};
+use vp_dots::{Ink, Op};
 use vp_glyph::{Alignment, Font, Sheet, Sheets, Style};
 
 const ROUNDS: u32 = 200;
@@ -46,18 +46,18 @@ impl<I: Ink> Ink for Slow<'_, I> {
     }
 }
 
-/// Sheet A with strokes one, two and three dots wide.
+/// Sheet A with three strokes in each cell, the first narrower in each other row.
 fn strokes(alloc: Global) -> Result<Sheets> {
     let mut text = b"P4\n192 384\n".to_vec(alloc)?;
-    for y in 0..384u64 {
-        let mut row = [0u8; 24];
-        for column in 0..16u64 {
-            let left = column * 12;
-            fill_dots(Op::Black, left + 1 + y % 2, left + 3, &mut row);
-            fill_dots(Op::Black, left + 5, left + 8, &mut row);
-            fill_dots(Op::Black, left + 9 + y % 3, left + 11, &mut row);
+    for y in 0..384u32 {
+        let two_cells = if y % 2 == 0 {
+            [0x67, 0x66, 0x76]
+        } else {
+            [0x27, 0x62, 0x76]
+        };
+        for _ in 0..8u8 {
+            text.extend_from_slice(&two_cells)?;
         }
-        text.extend_from_slice(&row)?;
     }
     let a = Sheet::read(alloc, &text, 12, 24)?;
     Ok(Sheets {
