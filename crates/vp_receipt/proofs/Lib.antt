@@ -5,6 +5,7 @@ pub mod Cut
 pub mod Jobs
 pub mod Lines
 pub mod PageLines
+pub mod PageSymbols
 pub mod Gathering
 pub mod RasterRows
 pub mod Storing
@@ -13,3 +14,5 @@ pub mod QrImages
 pub mod SymbolTexts
 pub mod RowLaws
 pub mod Runs
+pub mod RowEnds
+pub mod Doubling

@@ -69,7 +69,7 @@ with_line setup before PrintPage layers h = refl
 with_line setup before FormFeed layers h = refl
 with_line setup before _ layers h = cc
 
-has_page : (m : Mode) (layers : List Layer) (page : List (List ℕ)) → HasPage layers page → HasPageIf m layers page
+pub has_page : (m : Mode) (layers : List Layer) (page : List (List ℕ)) → HasPage layers page → HasPageIf m layers page
 has_page Standard layers page h = tt
 has_page Page layers page h = h
 

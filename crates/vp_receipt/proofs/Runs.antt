@@ -9,10 +9,11 @@ use Rattle.vp_receipt.specs.History.{settings_of, line, mode}
 use Rattle.vp_receipt.specs.Tabs.{tab_stops}
 use Rattle.vp_receipt.specs.Symbols.{qr_data}
 use Rattle.vp_receipt.specs.declared.raster.Raster.{Raster}
-use Rattle.vp_receipt.specs.Rasters.{raster_scale, raster_bytes, rows_to_come, row_so_far, bytes_after}
+use Rattle.vp_receipt.specs.Rasters.{raster_scale, raster_bytes, rows_to_come, row_so_far, is_row_end, bytes_after}
 use Rattle.vp_receipt.specs.Strips.{printed, own_strips}
 use Rattle.vp_receipt.specs.Pages.{is_paged}
 use Rattle.vp_receipt.specs.PageMarks.{layers}
+use Rattle.vp_page.specs.Layers.{Layer}
 use Rattle.vp_receipt.specs.declared.page_mode.Mode.{Mode}
 use Rattle.vp_receipt.specs.declared.page_mode.Mode.TheVariants.{Standard, Page}
 use Rattle.vp_receipt.specs.Standing.{IsGathering, HasPageIf, room_of}
@@ -23,10 +24,18 @@ after_first b bytes before =
     ap (λ (x : List EscItem). x ++ before) (reverse-append (RasterByte b ∷ []) (map (λ c. RasterByte c) bytes))
     ∙ append_assoc (reverse (map (λ c. RasterByte c) bytes)) (RasterByte b ∷ []) before
 
+-- no byte ends a row
+abbrev pub AreInside : List ℕ → List EscItem → Type 0
+AreInside [] before = Unit {0}
+AreInside (b ∷ bytes) before = (is_row_end before ≡ false) × AreInside bytes (RasterByte b ∷ before)
+
 -- what a raster's bytes leave alone
-pub settings_stay : (setup : Setup) (bytes : List ℕ) (before : List EscItem) → settings_of setup (bytes_after bytes before) ≡ settings_of setup before
-settings_stay setup [] before = refl
-settings_stay setup (b ∷ bytes) before = ap (settings_of setup) (after_first b bytes before) ∙ settings_stay setup bytes (RasterByte b ∷ before)
+pub settings_same : (setup : Setup) (b : ℕ) (before : List EscItem) → is_row_end before ≡ false → settings_of setup (RasterByte b ∷ before) ≡ settings_of setup before
+settings_same setup b before e = rw e refl
+
+pub settings_stay : (setup : Setup) (bytes : List ℕ) (before : List EscItem) → AreInside bytes before → settings_of setup (bytes_after bytes before) ≡ settings_of setup before
+settings_stay setup [] before in_row = refl
+settings_stay setup (b ∷ bytes) before in_row = ap (settings_of setup) (after_first b bytes before) ∙ settings_stay setup bytes (RasterByte b ∷ before) in_row.1 ∙ settings_same setup b before in_row.0
 
 pub line_stays : (setup : Setup) (bytes : List ℕ) (before : List EscItem) → line setup (bytes_after bytes before) ≡ line setup before
 line_stays setup [] before = refl
@@ -40,11 +49,15 @@ pub data_stay : (bytes : List ℕ) (before : List EscItem) → qr_data (bytes_af
 data_stay [] before = refl
 data_stay (b ∷ bytes) before = ap qr_data (after_first b bytes before) ∙ data_stay bytes (RasterByte b ∷ before)
 
-pub page_stays : (setup : Setup) (bytes : List ℕ) (before : List EscItem) (page : List (List ℕ)) → HasPageIf (mode setup before) (layers setup before) page
+pub layers_same : (setup : Setup) (b : ℕ) (before : List EscItem) → is_row_end before ≡ false → layers setup (RasterByte b ∷ before) ≡ layers setup before
+layers_same setup b before e = rw e refl
+
+pub page_stays : (setup : Setup) (bytes : List ℕ) (before : List EscItem) (page : List (List ℕ)) → AreInside bytes before → HasPageIf (mode setup before) (layers setup before) page
     → HasPageIf (mode setup (bytes_after bytes before)) (layers setup (bytes_after bytes before)) page
-page_stays setup [] before page h = h
-page_stays setup (b ∷ bytes) before page h =
-    subst (λ (items : List EscItem). HasPageIf (mode setup items) (layers setup items) page) (sym (after_first b bytes before)) (page_stays setup bytes (RasterByte b ∷ before) page h)
+page_stays setup [] before page in_row h = h
+page_stays setup (b ∷ bytes) before page in_row h =
+    subst (λ (items : List EscItem). HasPageIf (mode setup items) (layers setup items) page) (sym (after_first b bytes before))
+    (page_stays setup bytes (RasterByte b ∷ before) page in_row.1 (subst (λ (l : List Layer). HasPageIf (mode setup before) l page) (sym (layers_same setup b before in_row.0)) h))
 
 -- the row with bytes that don't end it
 record Lasts (bytes : List ℕ) (before : List EscItem) : Type 0 where
@@ -78,6 +91,13 @@ lasts (b ∷ bytes) before some room =
       rows = ap rows_to_come all ∙ more.rows ∙ one.rows;
       row = ap row_so_far all ∙ more.row ∙ ap (λ x. x ++ bytes) one.row ∙ append_assoc (row_so_far before) (b ∷ []) bytes;
     }
+
+are_inside : (bytes : List ℕ) (before : List EscItem) → 0 < rows_to_come before → length (row_so_far before) + length bytes < raster_bytes before → AreInside bytes before
+are_inside [] before some room = tt
+are_inside (b ∷ bytes) before some room =
+    let one = inside b before some (omega arith) in
+    let more : eqb (length (row_so_far before) + 1) (raster_bytes before) ≡ false = goes_on before (omega arith) in
+    (rw more refl, are_inside bytes (RasterByte b ∷ before) (omega (arith, one.rows)) (omega (arith, ap length one.row, length-append (row_so_far before) (b ∷ []))))
 
 nothing_by : (m : Mode) → ◌≡◌ {A = List ℕ} ((if is_paged m then [] else []) ++ (if is_paged m then [] else [])) []
 nothing_by Standard = refl
@@ -118,7 +138,7 @@ paper_stays setup r (b ∷ bytes) before h g =
 
 -- and are gathered
 pub gathers_run : (r : Raster) (row bytes : List ℕ) (before : List EscItem) → length bytes ≤ room_of r → IsGathering r before
-    → ((came : List ℕ) → r.got ≡ length came → take (min r.got 72) r.row ≡ take 72 came → take (min (r.got + length bytes) 72) row ≡ take 72 (came ++ bytes))
+    → ((came : List ℕ) → r.got ≡ length came → take (min r.got 208) r.row ≡ take 208 came → take (min (r.got + length bytes) 208) row ≡ take 208 (came ++ bytes))
     → IsGathering (record r { got = r.got + length bytes; row = row }) (bytes_after bytes before)
 gathers_run r row [] before h g k =
     record {
@@ -126,7 +146,7 @@ gathers_run r row [] before h g k =
       bytes = g.bytes;
       rows = g.rows;
       got = omega (arith, g.got);
-      row = k (row_so_far before) g.got g.row ∙ ap (take 72) (append-nil (row_so_far before));
+      row = k (row_so_far before) g.got g.row ∙ ap (take 208) (append-nil (row_so_far before));
     }
 gathers_run r row (b ∷ bytes) before h g k =
     let room = has_room r b bytes h in
@@ -136,5 +156,12 @@ gathers_run r row (b ∷ bytes) before h g k =
       bytes = g.bytes ∙ sym l.width;
       rows = g.rows ∙ sym l.rows;
       got = omega (arith, g.got, ap length l.row, length-append (row_so_far before) (b ∷ bytes));
-      row = k (row_so_far before) g.got g.row ∙ ap (take 72) (sym l.row);
+      row = k (row_so_far before) g.got g.row ∙ ap (take 208) (sym l.row);
     }
+
+-- and don't end the row
+pub run_inside : (r : Raster) (bytes : List ℕ) (before : List EscItem) → length bytes ≤ room_of r → IsGathering r before → AreInside bytes before
+run_inside r [] before h g = tt
+run_inside r (b ∷ bytes) before h g =
+    let room = has_room r b bytes h in
+    are_inside (b ∷ bytes) before (omega (arith, room.some, g.rows)) (omega (arith, room.less, g.got, g.bytes))

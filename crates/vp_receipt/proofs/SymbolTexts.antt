@@ -4,10 +4,10 @@ use Rattle.vp_esc.specs.declared.item.EscItem.{EscItem}
 use Rattle.vp_esc.specs.declared.item.EscItem.TheVariants.{QrPrint, Symbol as SetSymbol}
 use Rattle.vp_receipt.specs.declared.symbol.Symbol.{Symbol}
 use Rattle.vp_receipt.specs.Setup.{Setup}
-use Rattle.vp_receipt.specs.Symbols.{bars_of, bars_image, bar_style_of}
+use Rattle.vp_receipt.specs.Symbols.{bars_of, bars_image, bar_style_of, symbol_image}
 use Rattle.vp_receipt.specs.Images.{Image}
 use Rattle.vp_receipt.specs.Rows.{image_text}
-use Rattle.vp_receipt.specs.Strips.{strips, own_strips, ended, symbol_image}
+use Rattle.vp_receipt.specs.Strips.{strips, own_strips, ended}
 use Rattle.vp_receipt.specs.SymbolInks.{IsSymbol, IsSymbolOf}
 
 pub text_shown : (setup : Setup) (before : List EscItem) (item : EscItem) (symbol : Symbol) (text : List ℕ) → IsSymbolOf setup.sheets (Some symbol) (symbol_image setup before item)

@@ -1,12 +1,11 @@
 -- The line and what places it, by looking back over the items, of which the newest comes first.
 use Rattle.std.specs.Prelude.{◌≤◌, ◌<◌, ℕ, ◌+◌, ◌-◌, nat_lt, nat_le, Bool, true, false, not, ◌&&◌, ◌||◌, ◌*◌, ◌==◌, is_some, if◌then◌else◌, List, [], ◌∷◌, Option, Some, None, min, max, ℤ, pos, negsuc}
 use Rattle.vp_esc.specs.declared.item.EscItem.{EscItem}
-use Rattle.vp_esc.specs.declared.item.EscItem.TheVariants.{LineFeed, Tab, Character, Position, MovePosition, Columns, Column8, Column24, DefaultLineSpacing, LineSpacing, Initialize, FeedDots, FeedLines, Justify, CutLeavingOnePoint, CutLeavingThreePoints, LeftMargin, AreaWidth, Cut, FeedAndCut, Raster, Symbol, QrPrint, PageMode, StandardMode, FormFeed, Cancel, PrintPage, VerticalPosition, MoveVerticalPosition, Area as SetArea, Direction as SetDirection}
+use Rattle.vp_esc.specs.declared.item.EscItem.TheVariants.{LineFeed, Tab, Character, Position, MovePosition, Columns, Column8, Column24, DefaultLineSpacing, LineSpacing, Initialize, FeedDots, FeedLines, Justify, CutLeavingOnePoint, CutLeavingThreePoints, LeftMargin, AreaWidth, Cut, FeedAndCut, Raster, RasterByte, Symbol, QrPrint, PageMode, StandardMode, FormFeed, Cancel, PrintPage, VerticalPosition, MoveVerticalPosition, Area as SetArea, Direction as SetDirection}
 use Rattle.vp_esc.specs.declared.item.ColumnMode.{ColumnMode}
 use Rattle.vp_esc.specs.declared.item.ColumnMode.TheVariants.{Single8, Double8, Single24, Double24}
 use Rattle.vp_esc.specs.declared.item.Justification.{Justification}
 use Rattle.vp_esc.specs.declared.item.Justification.TheVariants.{Left}
-use Rattle.vp_esc.specs.declared.item.RasterScale.{RasterScale}
 use Rattle.vp_receipt.specs.declared.width.Width.{Width}
 use Rattle.vp_glyph.specs.declared.Sheets.{Sheets}
 use Rattle.vp_receipt.specs.declared.text.Text.{Text}
@@ -22,7 +21,8 @@ use Rattle.vp_receipt.specs.Pages.{is_paged, is_area, area, area_cut, direction,
 use Rattle.vp_receipt.specs.Images.{Image, cell_image, column_image}
 use Rattle.vp_glyph.specs.Cells.{cell_width}
 use Rattle.vp_receipt.specs.Texts.{font, text_of, style_of}
-use Rattle.vp_receipt.specs.Symbols.{bar_style_of, qr_style_of, IsFitBars, IsFitQr}
+use Rattle.vp_receipt.specs.Symbols.{bar_style_of, qr_style_of, symbol_image, image_rows, IsFitBars, IsFitQr}
+use Rattle.vp_receipt.specs.Rasters.{draws, is_row_end, raster_scale, times_down}
 use Rattle.vp_receipt.specs.Tabs.{tab_stops, tabbed}
 
 -- ESC 2, ESC 3: the line spacing
@@ -103,11 +103,6 @@ margin_or n paper old = if nat_lt n (across paper) then n else old
 abbrev pub width_or : ℕ → ℕ → ℕ
 width_or n old = if nat_lt 0 n then n else old
 
--- GS v 0: a raster that has bytes to print
-abbrev pub draws : Option RasterScale → ℕ → ℕ → Bool
-draws None bytes rows = false
-draws (Some scale) bytes rows = nat_lt 0 bytes && nat_lt 0 rows
-
 -- the image of a character
 abbrev pub character : Setup → List EscItem → ℕ → Image
 character setup before code = cell_image setup.sheets (font before) (style_of (text_of before)) code
@@ -133,6 +128,10 @@ height (placed ∷ rest) = max placed.image.height (height rest)
 abbrev pub lines_rows : ℕ → ℕ → ℕ → ℕ
 lines_rows n height spacing = if n == 0 then height else max height spacing + (n - 1) * spacing
 
+-- the rows of the strip of a line that is ended, if it is open
+abbrev pub ended_rows : List Placed → ℕ → ℕ
+ended_rows line spacing = if is_open line then max (height line) spacing else 0
+
 -- the line length by mode: on a page that of its area
 abbrev pub length_in : Mode → Area → Direction → Width → ℕ → ℕ → ℕ
 length_in Standard a d paper margin width = length_within paper margin width
@@ -157,9 +156,9 @@ abbrev mutual
   line setup (CutLeavingThreePoints ∷ before) = if is_paged (mode setup before) then line setup before else []
   line setup (Cut cut ∷ before) = if is_paged (mode setup before) then line setup before else []
   line setup (FeedAndCut cut dots ∷ before) = if is_paged (mode setup before) then line setup before else []
-  line setup (Raster scale bytes rows ∷ before) = if draws scale.value bytes rows && not (is_paged (mode setup before)) then [] else line setup before
-  line setup (Symbol kind bytes more ∷ before) = if is_paged (mode setup before) then line setup before else []
-  line setup (QrPrint ∷ before) = if is_paged (mode setup before) then line setup before else []
+  line setup (Raster scale bytes rows ∷ before) = if draws scale.value bytes rows then [] else line setup before
+  line setup (Symbol kind bytes more ∷ before) = []
+  line setup (QrPrint ∷ before) = []
   line setup (Initialize ∷ before) = []
   line setup (StandardMode ∷ before) = if is_paged (mode setup before) then [] else line setup before
   line setup (VerticalPosition n ∷ before) = if is_obeyed setup.width (vertical setup before) (VerticalPosition n) && is_paged (mode setup before) then [] else line setup before
@@ -187,9 +186,9 @@ abbrev mutual
   position setup (CutLeavingThreePoints ∷ before) = if is_paged (mode setup before) then position setup before else 0
   position setup (Cut cut ∷ before) = if is_paged (mode setup before) then position setup before else 0
   position setup (FeedAndCut cut dots ∷ before) = if is_paged (mode setup before) then position setup before else 0
-  position setup (Raster scale bytes rows ∷ before) = if draws scale.value bytes rows && not (is_paged (mode setup before)) then 0 else position setup before
-  position setup (Symbol kind bytes more ∷ before) = if is_paged (mode setup before) then position setup before else 0
-  position setup (QrPrint ∷ before) = if is_paged (mode setup before) then position setup before else 0
+  position setup (Raster scale bytes rows ∷ before) = if draws scale.value bytes rows then 0 else position setup before
+  position setup (Symbol kind bytes more ∷ before) = 0
+  position setup (QrPrint ∷ before) = 0
   position setup (Initialize ∷ before) = 0
   position setup (StandardMode ∷ before) = if is_paged (mode setup before) then 0 else position setup before
   position setup (PageMode ∷ before) = if begins_page (mode setup before) (line setup before) then 0 else position setup before
@@ -231,6 +230,10 @@ abbrev mutual
   vertical setup (LineFeed ∷ before) = vertical_after (vertical setup before) (max (height (line setup before)) (line_spacing before))
   vertical setup (FeedDots n ∷ before) = vertical_after (vertical setup before) (max (height (line setup before)) n)
   vertical setup (FeedLines n ∷ before) = vertical_after (vertical setup before) (lines_rows n (height (line setup before)) (line_spacing before))
+  vertical setup (Raster scale bytes rows ∷ before) = if draws scale.value bytes rows then vertical_after (vertical setup before) (ended_rows (line setup before) (line_spacing before)) else vertical setup before
+  vertical setup (RasterByte byte ∷ before) = if is_row_end before then vertical_after (vertical setup before) (times_down (raster_scale before)) else vertical setup before
+  vertical setup (Symbol kind bytes more ∷ before) = vertical_after (vertical_after (vertical setup before) (ended_rows (line setup before) (line_spacing before))) (image_rows (symbol_image setup before (Symbol kind bytes more)))
+  vertical setup (QrPrint ∷ before) = vertical_after (vertical_after (vertical setup before) (ended_rows (line setup before) (line_spacing before))) (image_rows (symbol_image setup before QrPrint))
   vertical setup (VerticalPosition n ∷ before) = n
   vertical setup (MoveVerticalPosition n ∷ before) = vertical_moved n (vertical setup before)
   vertical setup (SetArea x y wide high ∷ before) = if is_area setup.width x y wide high then 0 else vertical setup before
@@ -264,13 +267,25 @@ abbrev pub right_edge : List Placed → ℕ
 right_edge [] = 0
 right_edge (placed ∷ rest) = max (placed.at + placed.image.width) (right_edge rest)
 
--- the rows of the strip that an item lays on a page
-abbrev pub rows_laid : Setup → List EscItem → EscItem → ℕ
-rows_laid setup before (Character c) = if breaks (position setup before) (character_width before) (line_length setup before) then max (height (line setup before)) (line_spacing before) else 0
-rows_laid setup before LineFeed = max (height (line setup before)) (line_spacing before)
-rows_laid setup before (FeedDots n) = max (height (line setup before)) n
-rows_laid setup before (FeedLines n) = lines_rows n (height (line setup before)) (line_spacing before)
-rows_laid setup before _ = 0
+-- the rows of the line's strip that an item lays on a page
+abbrev pub line_rows_laid : Setup → List EscItem → EscItem → ℕ
+line_rows_laid setup before (Character c) = if breaks (position setup before) (character_width before) (line_length setup before) then max (height (line setup before)) (line_spacing before) else 0
+line_rows_laid setup before LineFeed = max (height (line setup before)) (line_spacing before)
+line_rows_laid setup before (FeedDots n) = max (height (line setup before)) n
+line_rows_laid setup before (FeedLines n) = lines_rows n (height (line setup before)) (line_spacing before)
+line_rows_laid setup before (Raster scale bytes rows) = if draws scale.value bytes rows then ended_rows (line setup before) (line_spacing before) else 0
+line_rows_laid setup before (Symbol kind bytes more) = ended_rows (line setup before) (line_spacing before)
+line_rows_laid setup before QrPrint = ended_rows (line setup before) (line_spacing before)
+line_rows_laid setup before _ = 0
+
+-- the rows of a raster or of a symbol that it lays
+abbrev pub own_rows_laid : Setup → List EscItem → EscItem → ℕ
+own_rows_laid setup before (RasterByte byte) = if is_row_end before then times_down (raster_scale before) else 0
+own_rows_laid setup before item = image_rows (symbol_image setup before item)
+
+-- whether it lays a row in the area
+abbrev pub lays : Setup → List EscItem → EscItem → Bool
+lays setup before item = nat_lt 0 (line_rows_laid setup before item) || (nat_lt 0 (own_rows_laid setup before item) || (is_obeyed setup.width (vertical setup before) item && is_open (line setup before)))
 
 -- the greatest lower edge of the areas that ESC W set on the page, or in which a row was laid; 0 where there is none
 abbrev pub used : Setup → List EscItem → ℕ
@@ -278,7 +293,7 @@ used setup [] = 0
 used setup (PageMode ∷ before) = if begins_page (mode setup before) (line setup before) then 0 else used setup before
 used setup (SetArea x y wide high ∷ before) = raised (is_area setup.width x y wide high) (area_cut setup.width x y wide high) (raised (is_area setup.width x y wide high && is_open (line setup before)) (area setup before) (used setup before))
 used setup (Initialize ∷ before) = 0
-used setup (item ∷ before) = raised (nat_lt 0 (rows_laid setup before item) || (is_obeyed setup.width (vertical setup before) item && is_open (line setup before))) (area setup before) (used setup before)
+used setup (item ∷ before) = raised (lays setup before item) (area setup before) (used setup before)
 
 -- what is in force on the page
 abbrev pub page_of : Setup → List EscItem → PageSettings

@@ -4,11 +4,10 @@ pub mod Texts
 pub mod Tabs
 pub mod Symbols
 pub mod Pages
+pub mod Rasters
 pub mod History
 pub mod LineDots
 pub mod PageMarks
-pub mod Rasters
-pub mod Doubled
 pub mod Rows
 pub mod Jobs
 pub mod Held

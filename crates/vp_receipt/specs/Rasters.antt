@@ -1,12 +1,16 @@
 -- The rows of a raster, as its bytes come.
-use Rattle.std.specs.Prelude.{ℕ, ◌+◌, ◌-◌, ◌==◌, Bool, ◌||◌, if◌then◌else◌, List, [], ◌∷◌, ◌++◌, length, map, reverse, Option, Some, None}
+use Rattle.std.specs.Prelude.{ℕ, ◌+◌, ◌-◌, ◌==◌, Bool, false, nat_lt, ◌&&◌, ◌||◌, if◌then◌else◌, List, [], ◌∷◌, ◌++◌, length, map, reverse, Option, Some, None}
 use Rattle.vp_esc.specs.declared.item.EscItem.{EscItem}
 use Rattle.vp_esc.specs.declared.item.EscItem.TheVariants.{Raster, RasterByte}
 use Rattle.vp_esc.specs.declared.item.RasterScale.{RasterScale}
 use Rattle.vp_esc.specs.declared.item.RasterScale.TheVariants.{Normal, DoubleWidth, DoubleHeight, Quadruple}
-use Rattle.vp_receipt.specs.History.{draws}
 
--- GS v 0: how often a dot is drawn across
+-- GS v 0: a raster that has bytes to print
+abbrev pub draws : Option RasterScale → ℕ → ℕ → Bool
+draws None bytes rows = false
+draws (Some scale) bytes rows = nat_lt 0 bytes && nat_lt 0 rows
+
+-- how often a dot is drawn across
 abbrev pub times_across : RasterScale → ℕ
 times_across Normal = 1
 times_across DoubleWidth = 2
@@ -60,6 +64,10 @@ abbrev mutual
   row_so_far [] = []
   row_so_far (RasterByte byte ∷ before) = if ends_row (raster_bytes before) (row_so_far before) || (rows_to_come before == 0) then [] else row_so_far before ++ byte ∷ []
   row_so_far (_ ∷ before) = []
+
+-- the next byte ends a row
+abbrev pub is_row_end : List EscItem → Bool
+is_row_end before = ends_row (raster_bytes before) (row_so_far before) && nat_lt 0 (rows_to_come before)
 
 -- bytes of a raster, the first one sent first
 abbrev pub sent : List ℕ → List EscItem → List EscItem

@@ -1,5 +1,5 @@
 -- What a receipt printer stands after.
-use Rattle.std.specs.Prelude.{◌≡◌, ◌<◌, ℕ, ◌-◌, ◌==◌, if◌then◌else◌, Bool, true, List, [], ◌∷◌, Option, Some, None, length, take, min}
+use Rattle.std.specs.Prelude.{◌≡◌, ◌<◌, ℕ, ◌-◌, ◌==◌, if◌then◌else◌, Bool, true, List, [], ◌∷◌, ◌++◌, Option, Some, None, length, take, min}
 use Rattle.vp_esc.specs.declared.item.EscItem.{EscItem}
 use Rattle.vp_glyph.specs.declared.Sheets.{Sheets}
 use Rattle.vp_receipt.specs.declared.settings.Settings.{Settings}
@@ -14,7 +14,7 @@ use Rattle.vp_receipt.specs.declared.page_mode.Mode.{Mode}
 use Rattle.vp_receipt.specs.declared.page_mode.Mode.TheVariants.{Standard, Page}
 use Rattle.vp_receipt.specs.PageMarks.{layers}
 use Rattle.vp_receipt.specs.History.{Placed, height, mode, line, is_open, settings_of, image_of}
-use Rattle.vp_receipt.specs.Rasters.{raster_scale, raster_bytes, rows_to_come, row_so_far}
+use Rattle.vp_receipt.specs.Rasters.{raster_scale, raster_bytes, rows_to_come, row_so_far, is_row_end}
 use Rattle.vp_receipt.specs.Held.{Showing, Shows}
 use Rattle.vp_receipt.specs.Strips.{own_part, printed_page}
 use Rattle.vp_receipt.specs.LineDots.{HasDots}
@@ -44,13 +44,20 @@ abbrev pub HasPageIf : Mode → List Layer → List (List ℕ) → Type 0
 HasPageIf Standard layers page = Unit {0}
 HasPageIf Page layers page = HasPage layers page
 
--- the first bytes of a row that comes are kept, as many as the widest paper has
+-- the first bytes of a row that comes are kept, as many as the longest line of a page has
 pub record IsGathering (r : Raster) (before : List EscItem) : Type 0 where
   pub scale : r.scale ≡ raster_scale before
   pub bytes : r.bytes ≡ raster_bytes before
   pub rows : r.rows ≡ rows_to_come before
   pub got : r.got ≡ length (row_so_far before)
-  pub row : take (min r.got 72) r.row ≡ take 72 (row_so_far before)
+  pub row : take (min r.got 208) r.row ≡ take 208 (row_so_far before)
+
+-- a byte that ends a row came last
+pub record EndsRow (r : Raster) (before : List EscItem) (byte : ℕ) : Type 0 where
+  pub ends : is_row_end before ≡ true
+  pub scale : r.scale ≡ raster_scale before
+  pub bytes : r.bytes ≡ raster_bytes before
+  pub row : take (min r.bytes 208) r.row ≡ take 208 (row_so_far before ++ byte ∷ [])
 
 -- a row that comes is not whole
 pub record IsPartRow (r : Raster) : Type 0 where

@@ -1,19 +1,18 @@
 -- What is printed.
-use Rattle.std.specs.Prelude.{ℕ, ◌*◌, nat_lt, Bool, true, false, not, ◌&&◌, ◌||◌, if◌then◌else◌, List, [], ◌∷◌, ◌++◌, length, max, Option, None, Some}
+use Rattle.std.specs.Prelude.{ℕ, ◌*◌, nat_lt, Bool, true, false, not, ◌&&◌, ◌||◌, if◌then◌else◌, List, [], ◌∷◌, ◌++◌, length, max, Option, None}
 use Rattle.vp_dots.specs.Headers.{header_of}
 use Rattle.vp_dots.specs.declared.fault.Fault.{Fault}
 use Rattle.vp_esc.specs.declared.item.EscItem.{EscItem}
 use Rattle.vp_esc.specs.declared.item.EscItem.TheVariants.{LineFeed, Character, FeedDots, FeedLines, CutLeavingOnePoint, CutLeavingThreePoints, Cut, FeedAndCut, Raster, RasterByte, Symbol, QrPrint, PrintPage, FormFeed}
 use Rattle.vp_esc.specs.declared.item.Cut.TheVariants.{Partial}
 use Rattle.vp_receipt.specs.Setup.{Setup, across}
-use Rattle.vp_receipt.specs.History.{line, position, line_length, line_spacing, character_width, breaks, height, is_open, draws, lines_rows, mode}
+use Rattle.vp_receipt.specs.History.{line, position, line_length, line_spacing, character_width, breaks, height, is_open, lines_rows, mode}
 use Rattle.vp_page.specs.Layers.{page_dot}
 use Rattle.vp_receipt.specs.Pages.{is_paged}
 use Rattle.vp_receipt.specs.PageMarks.{printed_layers, printed_rows}
-use Rattle.vp_receipt.specs.Rasters.{times_across, times_down, scale_or, raster_scale, raster_bytes, ends_row, rows_to_come, row_so_far}
+use Rattle.vp_receipt.specs.Rasters.{draws, times_across, times_down, scale_or, raster_scale, raster_bytes, is_row_end, row_so_far}
 use Rattle.vp_receipt.specs.Rows.{line_text, cut_text, white_text, raster_dot, rows_text, image_text, strip_text}
-use Rattle.vp_receipt.specs.Images.{Image}
-use Rattle.vp_receipt.specs.Symbols.{qr_style_of, qr_data, qr_image, qr_refusal, bar_style_of, bars_of, bars_image, bars_refusal}
+use Rattle.vp_receipt.specs.Symbols.{qr_style_of, qr_data, qr_refusal, bar_style_of, bars_of, bars_refusal, symbol_image}
 
 -- LF: the rows of the line's strip
 abbrev pub feed_rows : Setup → List EscItem → ℕ
@@ -42,12 +41,6 @@ line_strip setup before (Symbol kind bytes more) = ended setup before
 line_strip setup before QrPrint = ended setup before
 line_strip setup before _ = []
 
--- GS k, GS ( k: the image of the symbol that an item prints
-abbrev pub symbol_image : Setup → List EscItem → EscItem → Option Image
-symbol_image setup before (Symbol kind bytes more) = bars_image setup.sheets (bar_style_of before) (bars_of kind.value bytes.items more)
-symbol_image setup before QrPrint = Some (qr_image (qr_style_of before) (qr_data before))
-symbol_image setup before _ = None
-
 -- what it prints of its own on paper
 abbrev pub own_strips : Setup → List EscItem → EscItem → List ℕ
 own_strips setup before CutLeavingOnePoint = cut_text setup.width Partial
@@ -56,7 +49,7 @@ own_strips setup before (Cut cut) = cut_text setup.width cut.value
 own_strips setup before (FeedAndCut cut dots) = white_text setup.width dots ++ cut_text setup.width cut.value
 own_strips setup before (Raster scale bytes rows) = if draws scale.value bytes rows then header_of (across setup.width) (times_down (scale_or scale.value) * rows) else []
 own_strips setup before (RasterByte byte) =
-    if ends_row (raster_bytes before) (row_so_far before) && nat_lt 0 (rows_to_come before) then raster_row_text setup before (row_so_far before ++ byte ∷ []) else []
+    if is_row_end before then raster_row_text setup before (row_so_far before ++ byte ∷ []) else []
 own_strips setup before (Symbol kind bytes more) = image_text setup before (symbol_image setup before (Symbol kind bytes more))
 own_strips setup before QrPrint = image_text setup before (symbol_image setup before QrPrint)
 own_strips setup before _ = []

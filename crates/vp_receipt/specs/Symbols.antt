@@ -1,7 +1,7 @@
 -- How symbols are drawn, by looking back over the items, and which are printed.
 use Rattle.std.specs.Prelude.{◌≡◌, ◌≤◌, ◌<◌, ℕ, ◌+◌, ◌*◌, ◌/◌, Bool, false, Result, Ok, Err, take, length as list_length, nat_lt, nat_le, ◌&&◌, if◌then◌else◌, List, [], ◌∷◌, ◌++◌, Option, Some, None}
 use Rattle.vp_esc.specs.declared.item.EscItem.{EscItem}
-use Rattle.vp_esc.specs.declared.item.EscItem.TheVariants.{BarTextPlace, BarTextFont, BarHeight, BarModule, QrModel as SetQrModel, QrModule as SetQrModule, QrLevel as SetQrLevel, QrStore, QrByte, Initialize}
+use Rattle.vp_esc.specs.declared.item.EscItem.TheVariants.{BarTextPlace, BarTextFont, BarHeight, BarModule, QrModel as SetQrModel, QrModule as SetQrModule, QrLevel as SetQrLevel, QrStore, QrByte, Initialize, QrPrint, Symbol as PrintSymbol}
 use Rattle.vp_esc.specs.declared.item.TextPlace.{TextPlace}
 use Rattle.vp_esc.specs.declared.item.TextPlace.TheVariants.{None as NoText, Above, Below, Both}
 use Rattle.vp_esc.specs.declared.item.QrModel.{QrModel}
@@ -32,6 +32,7 @@ use Rattle.vp_bars.specs.Ean13.{ean13_of}
 use Rattle.vp_bars.specs.Code39.{code39_of}
 use Rattle.vp_bars.specs.Escapes.{code128_esc_of}
 use Rattle.vp_receipt.specs.Images.{Image}
+use Rattle.vp_receipt.specs.Setup.{Setup}
 use Rattle.vp_receipt.specs.declared.barcode.BarStyle.{BarStyle}
 use Rattle.vp_receipt.specs.declared.qr.QrStyle.{QrStyle}
 use Rattle.vp_receipt.specs.declared.stored.Stored.{Stored}
@@ -212,3 +213,14 @@ bars_refusal sheets style length (Err fault) = Some fault
 abbrev pub bars_image : Sheets → BarStyle → Result Linear Fault → Option Image
 bars_image sheets style (Ok bars) = Some (box_image (boxed sheets style bars))
 bars_image sheets style (Err fault) = None
+
+-- GS k, GS ( k: the image of the symbol that an item prints
+abbrev pub symbol_image : Setup → List EscItem → EscItem → Option Image
+symbol_image setup before (PrintSymbol kind bytes more) = bars_image setup.sheets (bar_style_of before) (bars_of kind.value bytes.items more)
+symbol_image setup before QrPrint = Some (qr_image (qr_style_of before) (qr_data before))
+symbol_image setup before _ = None
+
+-- how high it is
+abbrev pub image_rows : Option Image → ℕ
+image_rows None = 0
+image_rows (Some image) = image.height

@@ -3,26 +3,29 @@ ghost use Rattle.vp_esc.specs.declared.item.EscItem.{EscItem};
 ghost use Rattle.vp_glyph.specs.declared.Sheets.{Sheets};
 ghost use Rattle.vp_receipt.specs.declared.canvas.Canvas.{Canvas};
 ghost use Rattle.vp_receipt.specs.declared.job.After.{After};
+ghost use Rattle.vp_dots.specs.Dots.{dot};
 ghost use Rattle.vp_receipt.specs.Setup.{Setup};
 ghost use Rattle.vp_receipt.specs.History.{settings_of, IsFit, height, is_open, line, mode, Placed, image_of};
 ghost use Rattle.vp_page.specs.Layers.{Layer, Laid};
 ghost use Rattle.vp_page.specs.Pages.{HasPage};
-ghost use Rattle.vp_receipt.specs.PageMarks.{HasRows, mark_of, line_mark, laid_if, wipes, layers_with, ends_line, layers};
+ghost use Rattle.vp_receipt.specs.PageMarks.{HasRows, mark_of, line_mark, laid_if, wipes, wiped_if, raster_mark, layers_with, ends_line, layers};
 ghost use Rattle.vp_receipt.specs.LineDots.{HasDots};
 ghost use Rattle.vp_receipt.specs.Rows.{line_text, image_text};
 ghost use Rattle.vp_receipt.specs.Rasters.{raster_scale, raster_bytes};
-ghost use Rattle.vp_receipt.specs.Strips.{prints, strips, own_part, own_strips, prints_page, printed_page, page_part, symbol_image, ended, raster_row_text};
+ghost use Rattle.vp_receipt.specs.Strips.{prints, strips, own_part, own_strips, prints_page, printed_page, page_part, ended, raster_row_text};
+ghost use Rattle.vp_receipt.specs.Symbols.{symbol_image};
 ghost use Rattle.vp_receipt.specs.Images.{Image};
-ghost use Rattle.vp_receipt.specs.SymbolInks.{symbol_dot, symbol_height, is_symbol, IsSymbolOf};
-ghost use Rattle.vp_receipt.specs.Standing.{Gathers, HasPageIf};
+ghost use Rattle.vp_receipt.specs.SymbolInks.{symbol_dot, symbol_width, symbol_height, is_symbol, IsSymbolOf};
+ghost use Rattle.vp_receipt.specs.Pages.{area};
+ghost use Rattle.vp_receipt.specs.Standing.{Gathers, HasPageIf, EndsRow};
 ghost use Rattle.vp_receipt.specs.Held.{text_of, after_text, IsJob, IsTurned, AreOwn, IsShowing};
 
 use crate::canvas::Canvas;
 use crate::job::{After, Job};
 use crate::page_mode::Mode;
 use crate::paint::{Bitmap, begin_line, put_ink};
-use crate::raster::{Raster, scale_named, times_across, times_down};
-use crate::settings::{Settings, draws};
+use crate::raster::{Raster, doubled, draws, scale_named, times_across, times_down};
+use crate::settings::Settings;
 use crate::strip::Strip;
 use crate::symbol::Symbol;
 use vp_dots::{Ink, dots_decide};
@@ -256,7 +259,7 @@ fn lay_ended(s: Settings, item: &EscItem, bitmap: &Bitmap, page: &mut Page)
 fn lay(s: Settings, item: &EscItem, bitmap: &Bitmap, page: &mut Page)
     requires { IsFit s }
     ensures { (setup : Setup) (before : List EscItem) → s ≡ settings_of setup before → (is_open (line setup before) ≡ true → HasDots (line setup before) bitmap.now) → HasPage (layers setup before) page.old →
-        HasPage (layers_with setup before item.now (layers setup before)) page.new }
+        HasPage (wiped_if (wipes item.now) (area setup before) (laid_if (ends_line setup before item.now && is_open (line setup before)) (line_mark setup before) (layers setup before))) page.new }
 {
     lay_ended(s, item, bitmap, page);
     if wipes(item) {
@@ -281,30 +284,44 @@ fn page_job(s: Settings, item: &EscItem) -> Job
 }
 
 /// What an item does in page mode: the character that then waits, and what is printed.
-fn act_on_page(s: Settings, item: &EscItem, canvas: &mut Canvas) -> (Option<u8>, Job)
+fn act_on_page(
+    s: Settings,
+    item: &EscItem,
+    symbol: Option<Symbol>,
+    canvas: &mut Canvas,
+) -> (Option<u8>, Job)
     requires fit { IsFit s }
     requires item { (byte : ℕ) → item.now ≡ EscItem.RasterByte byte → ⊥ }
     requires mode { s.page.mode ≡ Mode.Page }
+    requires some { IfNone symbol (is_symbol item.now ≡ false) }
+    requires wide { IfSome symbol (λ drawn. symbol_width canvas.old.sheets drawn ≤ 1664) }
     ensures sheets { canvas.new.sheets ≡ canvas.old.sheets }
     ensures job { (canvas : Canvas) → IsJob result.1 canvas }
     ensures turned { IsTurned result.1.place result.1.after }
-    ensures line { (setup : Setup) (before : List EscItem) → s ≡ settings_of setup before → canvas.old.sheets ≡ setup.sheets → Gathers canvas.old.sheets s canvas.old.bitmap None (line setup before) →
+    ensures line { (setup : Setup) (before : List EscItem) → s ≡ settings_of setup before → canvas.old.sheets ≡ setup.sheets → IsSymbolOf setup.sheets symbol (symbol_image setup before item.now) →
+        Gathers canvas.old.sheets s canvas.old.bitmap None (line setup before) →
         Gathers canvas.old.sheets (settings_of setup (item.now ∷ before)) canvas.new.bitmap result.0 (line setup (item.now ∷ before)) }
-    ensures page { (setup : Setup) (before : List EscItem) → s ≡ settings_of setup before → Gathers canvas.old.sheets s canvas.old.bitmap None (line setup before) → HasPage (layers setup before) canvas.old.page →
-        HasPage (layers_with setup before item.now (layers setup before)) canvas.new.page }
-    ensures text { (setup : Setup) (before : List EscItem) → s ≡ settings_of setup before → Gathers canvas.old.sheets s canvas.old.bitmap None (line setup before) → HasPage (layers setup before) canvas.old.page →
-        text_of result.1 canvas.new ≡ page_part setup before item.now }
+    ensures page { (setup : Setup) (before : List EscItem) → s ≡ settings_of setup before → canvas.old.sheets ≡ setup.sheets → IsSymbolOf setup.sheets symbol (symbol_image setup before item.now) →
+        Gathers canvas.old.sheets s canvas.old.bitmap None (line setup before) → HasPage (layers setup before) canvas.old.page → HasPage (layers_with setup before item.now (layers setup before)) canvas.new.page }
+    ensures text { (setup : Setup) (before : List EscItem) → s ≡ settings_of setup before → canvas.old.sheets ≡ setup.sheets → IsSymbolOf setup.sheets symbol (symbol_image setup before item.now) →
+        Gathers canvas.old.sheets s canvas.old.bitmap None (line setup before) → HasPage (layers setup before) canvas.old.page → text_of result.1 canvas.new ≡ page_part setup before item.now }
     ensures shows { (canvas : Canvas) (high : ℕ) → IsShowing result.1 canvas high (length (text_of result.1 canvas)) }
 {
     lay(s, item, &canvas.bitmap, &mut canvas.page);
-    let job = page_job(s, item);
-    match item {
-        EscItem::Symbol { .. } | EscItem::QrPrint => (None, job),
-        _ => {
-            let (waiting, _) = act_on_line(s, item, &canvas.sheets, &mut canvas.bitmap);
-            (waiting, job)
-        }
+    if let Some(symbol) = symbol {
+        let (area, direction) = (s.page.area, s.page.direction);
+        symbol.lay(
+            &canvas.sheets,
+            area,
+            direction,
+            s.symbol_top(),
+            &mut canvas.page,
+        );
+        return (None, Job::none());
     }
+    let job = page_job(s, item);
+    let (waiting, _) = act_on_line(s, item, &canvas.sheets, &mut canvas.bitmap);
+    (waiting, job)
 }
 
 /// What an item does: the character that then waits, and what is printed.
@@ -318,13 +335,15 @@ pub fn act(
     requires item { (byte : ℕ) → item.now ≡ EscItem.RasterByte byte → ⊥ }
     requires some { IfNone symbol (is_symbol item.now ≡ false) }
     requires high { IfSome symbol (λ drawn. 0 < symbol_height canvas.old.sheets drawn) }
+    requires wide { IfSome symbol (λ drawn. symbol_width canvas.old.sheets drawn ≤ 1664) }
     ensures sheets { canvas.new.sheets ≡ canvas.old.sheets }
     ensures job { IsJob result.1 canvas.new }
     ensures turned { IsTurned result.1.place result.1.after }
     ensures line { (setup : Setup) (before : List EscItem) → s ≡ settings_of setup before → canvas.old.sheets ≡ setup.sheets → IsSymbolOf setup.sheets symbol (symbol_image setup before item.now) →
         Gathers canvas.old.sheets s canvas.old.bitmap None (line setup before) →
         Gathers canvas.old.sheets (settings_of setup (item.now ∷ before)) canvas.new.bitmap result.0 (line setup (item.now ∷ before)) }
-    ensures page { (setup : Setup) (before : List EscItem) → s ≡ settings_of setup before → Gathers canvas.old.sheets s canvas.old.bitmap None (line setup before) →
+    ensures page { (setup : Setup) (before : List EscItem) → s ≡ settings_of setup before → canvas.old.sheets ≡ setup.sheets → IsSymbolOf setup.sheets symbol (symbol_image setup before item.now) →
+        Gathers canvas.old.sheets s canvas.old.bitmap None (line setup before) →
         HasPageIf (mode setup before) (layers setup before) canvas.old.page → HasPageIf (mode setup (item.now ∷ before)) (layers setup (item.now ∷ before)) canvas.new.page }
     ensures text { (setup : Setup) (before : List EscItem) → s ≡ settings_of setup before → canvas.old.sheets ≡ setup.sheets → IsSymbolOf setup.sheets symbol (symbol_image setup before item.now) →
         Gathers canvas.old.sheets s canvas.old.bitmap None (line setup before) → HasPageIf (mode setup before) (layers setup before) canvas.old.page → text_of result.1 canvas.new ≡ prints setup before item.now }
@@ -337,21 +356,70 @@ pub fn act(
             begin_page(s, item, &mut canvas.page);
             act_on_paper(s, item, symbol, canvas)
         }
-        Mode::Page => act_on_page(s, item, canvas),
+        Mode::Page => act_on_page(s, item, symbol, canvas),
     }
 }
 
 /// The row whose last byte came, as often as its raster's scale says.
-pub fn row_job(s: Settings, raster: &Raster, row: &mut [u8; 72]) -> Job
+fn row_job(s: Settings, raster: &Raster, row: &mut [u8; 72]) -> Job
     requires { IsFit s }
     ensures job { (canvas : Canvas) → canvas.raster_row ≡ row.new → IsJob result canvas }
     ensures turned { IsTurned result.place result.after }
     ensures text { (setup : Setup) (before : List EscItem) (canvas : Canvas) (came : List ℕ) → s ≡ settings_of setup before → raster.now.scale ≡ raster_scale before → raster.now.bytes ≡ raster_bytes before →
-        take (min raster.now.bytes 72) raster.now.row ≡ take 72 came → canvas.raster_row ≡ row.new → text_of result canvas ≡ raster_row_text setup before came }
+        take (min raster.now.bytes 208) raster.now.row ≡ take 208 came → canvas.raster_row ≡ row.new → text_of result canvas ≡ raster_row_text setup before came }
     ensures shows { (canvas : Canvas) (high : ℕ) → IsShowing result canvas high (length (text_of result canvas)) }
 {
     let wide = 8 * u32::from(raster.bytes) * times_across(raster.scale);
     raster.write_row(s.printed_at(wide), s.paper_length(), row);
     dots_decide(row);
     Job::of_rows(Strip::raster_rows(s.paper, times_down(raster.scale)), *row)
+}
+
+/// Lays a row so often, one below the other, from the vertical position on.
+fn lay_times(s: Settings, row: &[u8], times: u32, page: &mut Page)
+    requires fit { IsFit s }
+    requires long { length row.now ≤ 208 }
+    requires few { times ≤ 2 }
+    ensures { (dots : ℕ → ℕ → Bool) (layers : List Layer) → ((u w : ℕ) → u < 1664 → w < times → dot row.now u ≡ dots u w) → ((u w : ℕ) → dots u w ≡ true → w < times) →
+        HasPage layers page.old → HasPage (Laid (mark_of s.page dots) ∷ layers) page.new }
+{
+    let top = s.page.vertical as u32;
+    for y in 0..times {
+        page.lay_row(s.page.area, s.page.direction, top + y, row);
+    }
+}
+
+/// Lays the row whose last byte came, as often as its raster's scale says.
+fn lay_raster_row(s: Settings, raster: &Raster, page: &mut Page)
+    requires { IsFit s }
+    ensures { (setup : Setup) (before : List EscItem) (came : List ℕ) (layers : List Layer) → s ≡ settings_of setup before → raster.now.scale ≡ raster_scale before →
+        take (min raster.now.bytes 208) raster.now.row ≡ take 208 came → HasPage layers page.old → HasPage (Laid (raster_mark setup before came) ∷ layers) page.new }
+{
+    let times = times_down(raster.scale);
+    if times_across(raster.scale) == 1 {
+        lay_times(s, raster.kept(), times, page);
+    } else {
+        lay_times(s, &doubled(raster.kept()), times, page);
+    }
+}
+
+/// What a byte that ends a row of a raster does: the row is printed, or laid on the page.
+pub fn act_on_row(s: Settings, raster: &Raster, canvas: &mut Canvas) -> Job
+    requires { IsFit s }
+    ensures others { canvas.new ≡ record canvas.old { raster_row = canvas.new.raster_row; page = canvas.new.page } }
+    ensures job { IsJob result canvas.new }
+    ensures turned { IsTurned result.place result.after }
+    ensures page { (setup : Setup) (before : List EscItem) (byte : ℕ) → s ≡ settings_of setup before → EndsRow raster.now before byte →
+        HasPageIf (mode setup before) (layers setup before) canvas.old.page → HasPageIf (mode setup (EscItem.RasterByte byte ∷ before)) (layers setup (EscItem.RasterByte byte ∷ before)) canvas.new.page }
+    ensures text { (setup : Setup) (before : List EscItem) (byte : ℕ) → s ≡ settings_of setup before → EndsRow raster.now before byte → text_of result canvas.new ≡ prints setup before (EscItem.RasterByte byte) }
+    ensures shows { (setup : Setup) (before : List EscItem) (byte : ℕ) → s ≡ settings_of setup before → EndsRow raster.now before byte →
+        IsShowing result canvas.new (height (line setup before)) (length (own_part setup before (EscItem.RasterByte byte))) }
+{
+    match s.page.mode {
+        Mode::Standard => row_job(s, raster, &mut canvas.raster_row),
+        Mode::Page => {
+            lay_raster_row(s, raster, &mut canvas.page);
+            Job::none()
+        }
+    }
 }

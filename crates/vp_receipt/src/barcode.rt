@@ -148,6 +148,7 @@ pub fn bar_symbol(
     ensures refused { IfErr result (λ fault. bars_refusal sheets.now style length (bars_of kind bytes.now more) ≡ Some fault) }
     ensures image { IfOk result (λ b. bars_image sheets.now style (bars_of kind bytes.now more) ≡ Some (box_image (box_of sheets.now b))) }
     ensures some { IfOk result (λ b. 0 < box_height (box_of sheets.now b)) }
+    ensures fits { IfOk result (λ b. box_width (box_of sheets.now b) ≤ length) }
 {
     let bars = match bars_of(kind, bytes, more) {
         Ok(bars) => bars,

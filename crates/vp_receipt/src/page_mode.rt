@@ -1,11 +1,14 @@
-ghost use Rattle.std.specs.Prelude.{◌≡◌, ◌≤◌, ◌<◌, ◌+◌, ◌-◌, ◌∷◌, List, [], ℕ, ℤ, max, min, nat_lt, ◌&&◌, ◌||◌};
+ghost use Rattle.std.specs.Prelude.{◌≡◌, ◌≤◌, ◌<◌, ◌+◌, ◌-◌, ◌∷◌, List, [], ℕ, ℤ, max, min, nat_lt, true, ◌&&◌, ◌||◌};
 ghost use Rattle.vp_esc.specs.declared.item.EscItem.{EscItem};
 ghost use Rattle.vp_page.specs.Areas.{line_length as length_on_page};
 ghost use Rattle.vp_receipt.specs.Setup.{Setup};
 ghost use Rattle.vp_receipt.specs.Pages.{is_paged, is_area, area_cut, direction_of, is_vertical_move, vertical_moved, vertical_after, is_obeyed, raised, area};
-ghost use Rattle.vp_receipt.specs.History.{settings_of, page_of, rows_laid, line, is_open, begins_page, mode, vertical, used, IsFit, IsFitPage};
+ghost use Rattle.vp_receipt.specs.History.{settings_of, page_of, line_rows_laid, ended_rows, lays, line, line_spacing, is_open, begins_page, mode, vertical, used, IsFit, IsFitPage};
+ghost use Rattle.vp_receipt.specs.Symbols.{symbol_image, image_rows};
+ghost use Rattle.vp_receipt.specs.Rasters.{is_row_end, raster_scale, times_down};
 ghost use Rattle.vp_receipt.specs.PageMarks.{ends_line, printed_rows};
 
+use crate::raster::draws;
 use crate::settings::Settings;
 use crate::width::Width;
 use vp_esc::item::{self, EscItem};
@@ -90,10 +93,9 @@ fn vertical_moved(by: i16, vertical: u16) -> u16
 
 /// The vertical position after rows.
 fn vertical_after(vertical: u16, rows: u32) -> u16
-    requires { rows ≤ 100000 }
     ensures { result ≡ vertical_after vertical rows }
 {
-    (u32::from(vertical) + rows).min(65535) as u16
+    u32::from(vertical).saturating_add(rows).min(65535) as u16
 }
 
 /// The greatest lower edge, with that of an area which is used or not.
@@ -146,21 +148,57 @@ impl PageSettings {
             Direction::BottomToTop | Direction::TopToBottom => self.area.dy,
         }
     }
+
+    /// What is in force after rows were laid.
+    fn below(self, rows: u32) -> PageSettings
+        requires { IsFitPage self }
+        ensures value { result ≡ record self { vertical = vertical_after self.vertical rows; used = raised (nat_lt 0 rows) self.area self.used } }
+        ensures fit { IsFitPage result }
+    {
+        PageSettings {
+            vertical: vertical_after(self.vertical, rows),
+            used: raised(rows > 0, self.area, self.used),
+            ..self
+        }
+    }
 }
 
 impl Settings {
-    /// The rows of the strip that an item lays.
-    fn rows_laid(self, item: &EscItem) -> u32
+    /// The rows of the line's strip that an item lays on a page.
+    fn line_rows_laid(self, item: &EscItem) -> u32
         requires { IsFit self }
-        ensures rows { (setup : Setup) (before : List EscItem) → self ≡ settings_of setup before → result ≡ rows_laid setup before item.now }
-        ensures few { result ≤ 100000 }
+        ensures { (setup : Setup) (before : List EscItem) → self ≡ settings_of setup before → result ≡ line_rows_laid setup before item.now }
     {
         match item {
             EscItem::Character(_) if self.breaks() => self.feed_rows(),
             EscItem::LineFeed => self.feed_rows(),
             EscItem::FeedDots(n) => u32::from(self.height).max(u32::from(*n)),
             EscItem::FeedLines(n) => self.lines_rows(*n),
+            EscItem::Raster { scale, bytes, rows } if draws(scale.value, *bytes, *rows) => {
+                self.ended_rows()
+            }
+            EscItem::Symbol { .. } | EscItem::QrPrint => self.ended_rows(),
             _ => 0,
+        }
+    }
+
+    /// Where a symbol is laid: below the line that it ends.
+    pub fn symbol_top(self) -> u16
+        ensures { (setup : Setup) (before : List EscItem) → self ≡ settings_of setup before → result ≡ vertical_after (vertical setup before) (ended_rows (line setup before) (line_spacing before)) }
+    {
+        vertical_after(self.page.vertical, self.ended_rows())
+    }
+
+    /// The settings after a byte that ends a row of a raster, which was laid or printed so often.
+    pub fn after_row(self, times: u32) -> Settings
+        requires { IsFit self }
+        ensures settings { (setup : Setup) (before : List EscItem) (byte : ℕ) → self ≡ settings_of setup before → is_row_end before ≡ true → times ≡ times_down (raster_scale before) →
+            result ≡ settings_of setup (EscItem.RasterByte byte ∷ before) }
+        ensures fit { IsFit result }
+    {
+        Settings {
+            page: self.page.below(times),
+            ..self
         }
     }
 
@@ -192,7 +230,12 @@ impl Settings {
     {
         match item {
             EscItem::Character(_) => self.breaks(),
-            EscItem::LineFeed | EscItem::FeedDots(_) | EscItem::FeedLines(_) => true,
+            EscItem::LineFeed
+            | EscItem::FeedDots(_)
+            | EscItem::FeedLines(_)
+            | EscItem::Symbol { .. }
+            | EscItem::QrPrint => true,
+            EscItem::Raster { scale, bytes, rows } => draws(scale.value, *bytes, *rows),
             _ => self.obeys(item),
         }
     }
@@ -221,32 +264,41 @@ impl Settings {
         }
     }
 
-    /// The page with the area in which an item lays rows counted.
-    fn used_after(self, item: &EscItem) -> u16
-        requires { IsFit self }
-        ensures value { (setup : Setup) (before : List EscItem) → self ≡ settings_of setup before → result ≡ raised (nat_lt 0 (rows_laid setup before item.now) || (is_obeyed setup.width (vertical setup before) item.now && is_open (line setup before))) (area setup before) (used setup before) }
+    /// The greatest lower edge after an item that is no byte of a raster, with so many rows of a symbol.
+    fn used_after(self, item: &EscItem, symbol_rows: u32) -> u16
+        requires fit { IsFit self }
+        requires item { (byte : ℕ) → item.now ≡ EscItem.RasterByte byte → ⊥ }
+        ensures value { (setup : Setup) (before : List EscItem) → self ≡ settings_of setup before → symbol_rows ≡ image_rows (symbol_image setup before item.now) → result ≡ raised (lays setup before item.now) (area setup before) (used setup before) }
         ensures most { result ≤ 1664 }
     {
-        let uses = self.rows_laid(item) > 0 || (self.obeys(item) && self.is_open);
-        raised(uses, self.page.area, self.page.used)
+        let lays = self.line_rows_laid(item) > 0
+            || symbol_rows > 0
+            || (self.obeys(item) && self.is_open);
+        raised(lays, self.page.area, self.page.used)
     }
 
-    /// What is in force on the page after an item.
-    pub fn page_after(self, item: &EscItem) -> PageSettings
-        requires { IsFit self }
-        ensures settings { (setup : Setup) (before : List EscItem) → self ≡ settings_of setup before → result ≡ page_of setup (item.now ∷ before) }
+    /// What is in force on the page after an item that is no byte of a raster, with so many rows of a symbol.
+    pub fn page_after(self, item: &EscItem, symbol_rows: u32) -> PageSettings
+        requires fit { IsFit self }
+        requires item { (byte : ℕ) → item.now ≡ EscItem.RasterByte byte → ⊥ }
+        ensures settings { (setup : Setup) (before : List EscItem) → self ≡ settings_of setup before → symbol_rows ≡ image_rows (symbol_image setup before item.now) → result ≡ page_of setup (item.now ∷ before) }
         ensures fit { IsFitPage result }
     {
         let page = PageSettings {
-            used: self.used_after(item),
+            used: self.used_after(item, symbol_rows),
             ..self.page
         };
         match item {
             EscItem::Character(_)
             | EscItem::LineFeed
             | EscItem::FeedDots(_)
-            | EscItem::FeedLines(_) => PageSettings {
-                vertical: vertical_after(page.vertical, self.rows_laid(item)),
+            | EscItem::FeedLines(_)
+            | EscItem::Raster { .. } => PageSettings {
+                vertical: vertical_after(page.vertical, self.line_rows_laid(item)),
+                ..page
+            },
+            EscItem::Symbol { .. } | EscItem::QrPrint => PageSettings {
+                vertical: vertical_after(self.symbol_top(), symbol_rows),
                 ..page
             },
             EscItem::VerticalPosition(vertical) => PageSettings {

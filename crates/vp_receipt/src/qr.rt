@@ -68,6 +68,7 @@ fn encoded(style: QrStyle, bytes: &[u8], length: u16) -> Result<QrInk, Fault>
     ensures refused { IfErr result (λ fault. bytes_refusal style bytes.now length ≡ Some fault) }
     ensures image { IfOk result (λ ink. IsQrImage ink (qr_image style bytes.now)) }
     ensures some { IfOk result (λ ink. 0 < side ink) }
+    ensures fits { IfOk result (λ ink. side ink ≤ length) }
 {
     let qr = match encode(bytes, level_named(style.level), Mode::Auto) {
         Ok(qr) => qr,
@@ -91,6 +92,7 @@ pub fn qr_symbol(style: QrStyle, stored: &Stored, length: u16) -> Result<QrInk, 
     ensures refused { IfErr result (λ fault. (bytes : List ℕ) → IsStored stored.now bytes → qr_refusal style bytes length ≡ Some fault) }
     ensures image { IfOk result (λ ink. (bytes : List ℕ) → IsStored stored.now bytes → IsQrImage ink (qr_image style bytes)) }
     ensures some { IfOk result (λ ink. 0 < side ink) }
+    ensures fits { IfOk result (λ ink. side ink ≤ length) }
 {
     match style.model {
         QrModel::Two => {}

@@ -1,15 +1,12 @@
 ghost use Rattle.std.specs.Prelude.{◌≡◌, ℕ, ◌+◌, ◌-◌, ◌*◌, ◌/◌, ◌<◌, ◌≤◌, ◌++◌, List, [], ◌∷◌, take, min, length, nat_lt, nat_le, ◌&&◌, true, Bool};
-ghost use Rattle.vp_dots.specs.Dots.{dot};
+ghost use Rattle.vp_dots.specs.Dots.{bit, dot};
 ghost use Rattle.vp_dots.specs.Images.{row_of};
 ghost use Rattle.vp_esc.specs.declared.item.EscItem.{EscItem};
-ghost use Rattle.vp_receipt.specs.Rasters.{times_across, times_down, scale_or, ends_row, raster_bytes, row_so_far, rows_to_come, bytes_after};
+ghost use Rattle.vp_receipt.specs.Rasters.{times_across, times_down, scale_or, draws, is_row_end, row_so_far, bytes_after};
 ghost use Rattle.vp_receipt.specs.Rows.{clipped};
-ghost use Rattle.vp_receipt.specs.Doubled.{doubled_dot, doubled_inside};
-ghost use Rattle.vp_receipt.specs.Standing.{IsGathering, IsPartRow, room_of};
+ghost use Rattle.vp_receipt.specs.Standing.{IsGathering, IsPartRow, EndsRow, room_of};
 
-use crate::settings::draws;
-use crate::strip::{write_clipped, write_ink};
-use vp_dots::{Ink, dot_of};
+use crate::strip::write_clipped;
 use vp_esc::item::{EscItem, RasterScale};
 
 /// A raster whose bytes come, and the bytes of its row as far as they have come.
@@ -22,8 +19,15 @@ pub struct Raster {
     pub rows: u16,
     /// How many bytes of the first of them have come.
     pub got: u16,
-    /// The first of these, as many as the widest paper has.
-    pub row: [u8; 72],
+    /// The first of these, as many as the longest line of a page has.
+    pub row: [u8; 208],
+}
+
+/// Whether a raster has bytes to print.
+pub fn draws(scale: Option<RasterScale>, bytes: u16, rows: u16) -> bool
+    ensures { result ≡ draws scale bytes rows }
+{
+    scale.is_some() && bytes > 0 && rows > 0
 }
 
 /// How often a dot is drawn across.
@@ -62,47 +66,48 @@ pub fn scale_named(scale: Option<RasterScale>) -> RasterScale
 
 /// Keeps a byte, if it is one of the first that are kept.
 #[inline(always)]
-fn keep(row: &mut [u8; 72], got: u16, byte: u8)
-    ensures { (came : List ℕ) → got ≡ length came → take (min got 72) row.old ≡ take 72 came → take (min (got + 1) 72) row.new ≡ take 72 (came ++ byte ∷ []) }
+fn keep(row: &mut [u8; 208], got: u16, byte: u8)
+    ensures { (came : List ℕ) → got ≡ length came → take (min got 208) row.old ≡ take 208 came → take (min (got + 1) 208) row.new ≡ take 208 (came ++ byte ∷ []) }
 {
     let i = usize::from(got);
-    if i < 72 {
+    if i < 208 {
         row[i] = byte;
     }
 }
 
 /// Keeps bytes, those of them that are among the first that are kept.
-fn keep_all(row: &mut [u8; 72], got: u16, bytes: &[u8])
-    ensures { (came : List ℕ) → got ≡ length came → take (min got 72) row.old ≡ take 72 came → take (min (got + length bytes.now) 72) row.new ≡ take 72 (came ++ bytes.now) }
+fn keep_all(row: &mut [u8; 208], got: u16, bytes: &[u8])
+    ensures { (came : List ℕ) → got ≡ length came → take (min got 208) row.old ≡ take 208 came → take (min (got + length bytes.now) 208) row.new ≡ take 208 (came ++ bytes.now) }
 {
-    let from = usize::from(got).min(72);
-    let n = bytes.len().min(72 - from);
+    let from = usize::from(got).min(208);
+    let n = bytes.len().min(208 - from);
     row[from..from + n].copy_from_slice(&bytes[..n]);
 }
 
-/// A row of dots, each of them twice.
-#[derive(Clone, Copy)]
-struct Doubled<'a> {
-    row: &'a [u8],
-    ghost small: { length row.now ≤ 72 },
+/// Four dots, each of them twice.
+static DOUBLED: [u8; 16] = [
+    0x00, 0x03, 0x0c, 0x0f, 0x30, 0x33, 0x3c, 0x3f, 0xc0, 0xc3, 0xcc, 0xcf, 0xf0, 0xf3, 0xfc, 0xff,
+];
+
+/// The dots of half a byte, each of them twice.
+#[inline(always)]
+fn doubled_half(half: u8) -> u8
+    requires { half < 16 }
+    ensures { (k : ℕ) → k < 8 → bit result k ≡ bit half (k / 2) }
+{
+    DOUBLED[usize::from(half)]
 }
 
-impl Ink for Doubled<'_> {
-    ghost width = { λ s. 16 * length s.row.now };
-
-    ghost height = { λ s. 1 };
-
-    ghost ink_at = { λ s x y. doubled_dot s.row.now x y };
-
-    ghost outside = { λ s x y h. doubled_inside s.row.now x y h };
-
-    fn size(&self) -> (u32, u32) {
-        (16 * self.row.len() as u32, 1)
+/// The dots of a row, each of them twice, as far as the longest line of a page goes.
+pub fn doubled(row: &[u8]) -> [u8; 208]
+    ensures { (x : ℕ) → x < 1664 → dot result x ≡ dot row.now (x / 2) }
+{
+    let mut wide = [0; 208];
+    for i in 0..row.len().min(104) {
+        wide[2 * i] = doubled_half(row[i] >> 4);
+        wide[2 * i + 1] = doubled_half(row[i] & 15);
     }
-
-    fn ink(&self, x: u32, y: u32) -> bool {
-        y < 1 && dot_of(self.row, u128::from(x / 2))
-    }
+    wide
 }
 
 impl Raster {
@@ -116,7 +121,7 @@ impl Raster {
             bytes: 0,
             rows: 0,
             got: 0,
-            row: [0; 72],
+            row: [0; 208],
         }
     }
 
@@ -144,11 +149,9 @@ impl Raster {
     pub fn take(&mut self, byte: u8) -> bool
         requires { IsPartRow self.old }
         ensures part { IsPartRow self.new }
-        ensures ends { (before : List EscItem) → IsGathering self.old before → result ≡ (ends_row (raster_bytes before) (row_so_far before) && nat_lt 0 (rows_to_come before)) }
+        ensures ends { (before : List EscItem) → IsGathering self.old before → result ≡ is_row_end before }
         ensures gathers { (before : List EscItem) → IsGathering self.old before → IsGathering self.new (EscItem.RasterByte byte ∷ before) }
-        ensures bytes { self.new.bytes ≡ self.old.bytes }
-        ensures scale { self.new.scale ≡ self.old.scale }
-        ensures row { (before : List EscItem) → IsGathering self.old before → result ≡ true → take (min self.old.bytes 72) self.new.row ≡ take 72 (row_so_far before ++ byte ∷ []) }
+        ensures row { (before : List EscItem) → IsGathering self.old before → result ≡ true → EndsRow self.new before byte }
     {
         if self.rows == 0 {
             return false;
@@ -186,22 +189,22 @@ impl Raster {
     }
 
     /// The bytes that are kept of a whole row.
-    fn kept(&self) -> &[u8]
-        ensures bytes { result.now ≡ take (min self.now.bytes 72) self.now.row }
-        ensures few { length result.now ≤ 72 }
+    pub fn kept(&self) -> &[u8]
+        ensures bytes { result.now ≡ take (min self.now.bytes 208) self.now.row }
+        ensures few { length result.now ≤ 208 }
     {
-        &self.row[..usize::from(self.bytes).min(72)]
+        &self.row[..usize::from(self.bytes).min(208)]
     }
 
     /// Writes the row whose bytes these are, as it is printed.
     pub fn write_row(&self, left: u16, length: u16, row: &mut [u8; 72])
-        ensures { row.new ≡ row_of 72 (clipped left length (λ x. dot (take (min self.now.bytes 72) self.now.row) (x / times_across self.now.scale))) }
+        ensures { row.new ≡ row_of 72 (clipped left length (λ x. dot (take (min self.now.bytes 208) self.now.row) (x / times_across self.now.scale))) }
     {
         let source = self.kept();
         if times_across(self.scale) == 1 {
             write_clipped(source, left, length, row);
         } else {
-            write_ink(&Doubled { row: source }, 0, left, length, row);
+            write_clipped(&doubled(source), left, length, row);
         }
     }
 }

@@ -11,13 +11,13 @@ ghost use Rattle.vp_receipt.specs.Strips.{prints, printed, refusal, is_at_rest, 
 ghost use Rattle.vp_receipt.specs.Standing.{Stands, Gathers, IsGathering, room_of};
 ghost use Rattle.vp_receipt.specs.Held.{text_of, IsJob, IsTurned};
 
-use crate::act::{act, printed_page, row_job, settle};
+use crate::act::{act, act_on_row, printed_page, settle};
 use crate::canvas::Canvas;
 use crate::job::Job;
-use crate::raster::Raster;
+use crate::raster::{Raster, times_down};
 use crate::settings::Settings;
 use crate::stored::Stored;
-use crate::symbol::{Symbol, drawn};
+use crate::symbol::{Symbol, drawn, rows_of};
 use crate::tabs::{Stops, first_stops, set_stops};
 use crate::width::Width;
 use std::alloc::{AllocError, Global};
@@ -91,10 +91,10 @@ impl Receipt {
         ensures err { OnErr result (self.new ≡ self.old) }
     {
         if let EscItem::RasterByte(byte) = item {
-            let ends = self.raster.take(byte);
-            if ends && !self.settings.page.is_paged() {
-                self.job = row_job(self.settings, &self.raster, &mut self.canvas.raster_row);
+            if self.raster.take(byte) {
+                self.job = act_on_row(self.settings, &self.raster, &mut self.canvas);
                 self.of_page = false;
+                self.settings = self.settings.after_row(times_down(self.raster.scale));
             }
             return Ok(());
         }
@@ -106,11 +106,12 @@ impl Receipt {
             &self.canvas.sheets,
             &mut self.canvas.bitmap,
         );
+        let symbol_rows = rows_of(&symbol, &self.canvas.sheets);
         let (waiting, job) = act(s, &item, symbol, &mut self.canvas);
         self.waiting = waiting;
         self.job = job;
         self.of_page = printed_page(s, &item);
-        self.settings = s.after(&item, self.stops.as_slice());
+        self.settings = s.after(&item, self.stops.as_slice(), symbol_rows);
         set_stops(&mut self.stops, &item, s.text);
         self.raster.begin(&item);
         self.stored.take(&item);

@@ -3,17 +3,19 @@ ghost use Rattle.vp_esc.specs.declared.item.EscItem.{EscItem};
 ghost use Rattle.vp_receipt.specs.Setup.{Setup, across};
 ghost use Rattle.vp_receipt.specs.Rows.{shift, printed_at};
 ghost use Rattle.vp_receipt.specs.Tabs.{tab_stops, tabbed};
+ghost use Rattle.vp_receipt.specs.Symbols.{symbol_image, image_rows};
 ghost use Rattle.vp_receipt.specs.Texts.{text_of, style_of};
 ghost use Rattle.vp_glyph.specs.Cells.{cell_width};
-ghost use Rattle.vp_receipt.specs.History.{settings_of, line_settings_of, lines_rows, IsFit, length_within, length_in, breaks, put_at, image_of, column_width_of, draws, position_moved, position_at, justification_or, margin_or, width_or, line, position, line_length};
+ghost use Rattle.vp_receipt.specs.History.{settings_of, line_settings_of, lines_rows, IsFit, length_within, length_in, breaks, put_at, image_of, column_width_of, ended_rows, position_moved, position_at, justification_or, margin_or, width_or, line, position, line_spacing, line_length};
 
 use crate::barcode::BarStyle;
 use crate::column::Column;
 use crate::page_mode::{Mode, PageSettings};
 use crate::qr::QrStyle;
+use crate::raster::draws;
 use crate::text::Text;
 use crate::width::Width;
-use vp_esc::item::{ColumnMode, EscItem, Justification, RasterScale};
+use vp_esc::item::{ColumnMode, EscItem, Justification};
 
 /// What is in force.
 #[derive(Clone, Copy)]
@@ -33,13 +35,6 @@ pub struct Settings {
     pub is_open: bool,
     pub height: u16,
     pub right_edge: u16,
-}
-
-/// Whether a raster has bytes to print.
-pub fn draws(scale: Option<RasterScale>, bytes: u16, rows: u16) -> bool
-    ensures { result ≡ draws scale bytes rows }
-{
-    scale.is_some() && bytes > 0 && rows > 0
 }
 
 /// How wide a dot of a column is.
@@ -158,6 +153,13 @@ impl Settings {
         u32::from(self.height).max(u32::from(self.line_spacing))
     }
 
+    /// The rows of the line's strip where something ends it: none if it is not open.
+    pub fn ended_rows(self) -> u32
+        ensures { (setup : Setup) (before : List EscItem) → self ≡ settings_of setup before → result ≡ ended_rows (line setup before) (line_spacing before) }
+    {
+        if self.is_open { self.feed_rows() } else { 0 }
+    }
+
     /// The rows that ESC d prints.
     pub fn lines_rows(self, n: u8) -> u32
         ensures { result ≡ lines_rows n self.height self.line_spacing }
@@ -256,14 +258,16 @@ impl Settings {
         }
     }
 
-    /// The settings after an item, with these tab stops.
-    pub fn after(self, item: &EscItem, stops: &[u32]) -> Settings
-        requires { IsFit self }
-        ensures settings { (setup : Setup) (before : List EscItem) → self ≡ settings_of setup before → stops.now ≡ tab_stops before → result ≡ settings_of setup (item.now ∷ before) }
+    /// The settings after an item that is no byte of a raster, with these tab stops, and so many rows of a symbol.
+    pub fn after(self, item: &EscItem, stops: &[u32], symbol_rows: u32) -> Settings
+        requires fit { IsFit self }
+        requires item { (byte : ℕ) → item.now ≡ EscItem.RasterByte byte → ⊥ }
+        ensures settings { (setup : Setup) (before : List EscItem) → self ≡ settings_of setup before → stops.now ≡ tab_stops before → symbol_rows ≡ image_rows (symbol_image setup before item.now) →
+            result ≡ settings_of setup (item.now ∷ before) }
         ensures fit { IsFit result }
     {
         Settings {
-            page: self.page_after(item),
+            page: self.page_after(item, symbol_rows),
             ..self.after_in_line(item, stops)
         }
     }
@@ -299,16 +303,18 @@ impl Settings {
             EscItem::CutLeavingOnePoint
             | EscItem::CutLeavingThreePoints
             | EscItem::Cut(_)
-            | EscItem::FeedAndCut { .. }
-            | EscItem::Symbol { .. }
-            | EscItem::QrPrint => match self.page.mode {
+            | EscItem::FeedAndCut { .. } => match self.page.mode {
                 Mode::Standard => self.closed(),
                 Mode::Page => self,
             },
-            EscItem::Raster { scale, bytes, rows } => match self.page.mode {
-                Mode::Standard if draws(scale.value, *bytes, *rows) => self.closed(),
-                _ => self,
-            },
+            EscItem::Symbol { .. } | EscItem::QrPrint => self.closed(),
+            EscItem::Raster { scale, bytes, rows } => {
+                if draws(scale.value, *bytes, *rows) {
+                    self.closed()
+                } else {
+                    self
+                }
+            }
             EscItem::StandardMode => match self.page.mode {
                 Mode::Standard => self,
                 Mode::Page => self.closed(),

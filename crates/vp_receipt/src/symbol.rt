@@ -4,8 +4,10 @@ ghost use Rattle.vp_esc.specs.declared.item.EscItem.{EscItem};
 ghost use Rattle.vp_receipt.specs.Setup.{Setup};
 ghost use Rattle.vp_receipt.specs.History.{settings_of, IsFit};
 ghost use Rattle.vp_receipt.specs.Rows.{clipped};
-ghost use Rattle.vp_receipt.specs.Strips.{refusal, symbol_image};
-ghost use Rattle.vp_receipt.specs.Symbols.{IsStored, qr_data};
+ghost use Rattle.vp_page.specs.Layers.{Layer, Laid};
+ghost use Rattle.vp_page.specs.Pages.{HasPage};
+ghost use Rattle.vp_receipt.specs.Strips.{refusal};
+ghost use Rattle.vp_receipt.specs.Symbols.{IsStored, qr_data, symbol_image, image_rows};
 ghost use Rattle.vp_receipt.specs.SymbolInks.{symbol_width, symbol_height, symbol_dot, IsSymbolOf, is_symbol};
 
 use crate::barcode::{BarSymbol, bar_symbol};
@@ -16,6 +18,7 @@ use crate::strip::write_ink;
 use vp_dots::{Fault, Ink, dots_decide};
 use vp_esc::item::EscItem;
 use vp_glyph::Sheets;
+use vp_page::{Area, Direction, Page};
 use vp_qr::QrInk;
 
 /// A symbol that is put out.
@@ -53,6 +56,29 @@ impl Symbol {
             Symbol::Bars(bars) => write_ink(&bars.boxed(sheets), y, left, length, row),
         }
     }
+
+    /// Lays it with its top at a depth of an area.
+    pub fn lay(&self, sheets: &Sheets, area: Area, direction: Direction, top: u16, page: &mut Page)
+        requires { symbol_width sheets.now self.now ≤ 1664 }
+        ensures { (layers : List Layer) → HasPage layers page.old → HasPage (Laid (record { area = area; direction = direction; top = top; dot = symbol_dot sheets.now self.now }) ∷ layers) page.new }
+    {
+        let top = u32::from(top);
+        match self {
+            Symbol::Blank => {}
+            Symbol::Qr(ink) => page.lay(ink, area, direction, top),
+            Symbol::Bars(bars) => page.lay(&bars.boxed(sheets), area, direction, top),
+        }
+    }
+}
+
+/// How many rows the symbol of an item has, if it prints one.
+pub fn rows_of(symbol: &Option<Symbol>, sheets: &Sheets) -> u32
+    ensures { (setup : Setup) (before : List EscItem) (item : EscItem) → sheets.now ≡ setup.sheets → IsSymbolOf setup.sheets symbol.now (symbol_image setup before item) → result ≡ image_rows (symbol_image setup before item) }
+{
+    match symbol {
+        Some(symbol) => symbol.size(sheets).1,
+        None => 0,
+    }
 }
 
 /// The symbol that an item prints, if it prints one, or why it is refused.
@@ -69,6 +95,7 @@ pub fn drawn(
         IsSymbolOf setup.sheets symbol (symbol_image setup before item.now)) }
     ensures some { IfOk result (λ symbol. IfNone symbol (is_symbol item.now ≡ false)) }
     ensures high { IfOk result (λ symbol. IfSome symbol (λ drawn. 0 < symbol_height sheets.now drawn)) }
+    ensures wide { IfOk result (λ symbol. IfSome symbol (λ drawn. symbol_width sheets.now drawn ≤ 1664)) }
 {
     match item {
         EscItem::Symbol { kind, data, more } => {

@@ -1,4 +1,5 @@
 mod page;
+mod page_images;
 
 use crate::{Receipt, Width};
 use std::alloc::{AllocError, Global};

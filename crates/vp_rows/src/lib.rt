@@ -3,6 +3,8 @@
 #![tactic(auto)]
 
 #[cfg(test)]
+mod pages;
+#[cfg(test)]
 mod pieces;
 #[cfg(test)]
 mod sheet;

@@ -420,31 +420,4 @@ pub const STREAMS: &[Stream] = &[
         }],
         fault: None,
     },
-    Stream {
-        name: "a white page on narrow paper",
-        language: Language::Receipt58,
-        bytes: b"\x1BL\x0C",
-        images: &[Image {
-            head: b"P4\n384 1664\n",
-            rows: &[(1664, b"")],
-        }],
-        fault: None,
-    },
-    Stream {
-        name: "a page that is dropped",
-        language: Language::Receipt,
-        bytes: b"\x1BLM\x1BS\x0A",
-        images: &[Image {
-            head: b"P4\n576 34\n",
-            rows: &[(34, b"")],
-        }],
-        fault: None,
-    },
-    Stream {
-        name: "a page at the end",
-        language: Language::Receipt,
-        bytes: b"\x1BL",
-        images: &[],
-        fault: Some(Fault::Unprinted),
-    },
 ];

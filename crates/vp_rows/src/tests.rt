@@ -1,3 +1,4 @@
+use crate::pages::PAGES;
 use crate::pieces::{Pieces, Sips};
 use crate::sheet::sheets;
 use crate::streams::{STREAMS, Stream};
@@ -33,7 +34,7 @@ fn paper_of(alloc: Global, stream: &Stream) -> Result<Vec<u8>, AllocError> {
 
 #[test]
 fn each_stream_prints_its_images(rt: HostRuntime) -> Result<(), Fail> {
-    for stream in STREAMS {
+    for stream in STREAMS.iter().chain(PAGES) {
         let name = stream.name;
         let (paper, fault) = print_all(
             rt.alloc(),
@@ -71,7 +72,7 @@ fn cut_into_bytes(alloc: Global, stream: &Stream) -> Result<(Vec<u8>, State), Fa
 
 #[test]
 fn each_stream_is_cut_into_bytes(rt: HostRuntime) -> Result<(), Fail> {
-    for stream in STREAMS {
+    for stream in STREAMS.iter().chain(PAGES) {
         let name = stream.name;
         let (paper, state) = cut_into_bytes(rt.alloc(), stream)?;
         assert_eq!(rt;
@@ -120,7 +121,7 @@ fn pump(
 
 #[test]
 fn each_front_is_pumped_as_it_prints(rt: HostRuntime) -> Result<(), Fail> {
-    for stream in STREAMS {
+    for stream in STREAMS.iter().chain(PAGES) {
         let name = stream.name;
         for n in 0..stream.bytes.len() + 1 {
             let front = &stream.bytes[..n.min(stream.bytes.len())];
@@ -150,7 +151,7 @@ fn each_front_is_pumped_as_it_prints(rt: HostRuntime) -> Result<(), Fail> {
 
 #[test]
 fn a_failed_read_or_write_loses_nothing(rt: HostRuntime) -> Result<(), Fail> {
-    for stream in STREAMS {
+    for stream in STREAMS.iter().chain(PAGES) {
         let name = stream.name;
         let paper = paper_of(rt.alloc(), stream)?;
         for call in 1..12usize {

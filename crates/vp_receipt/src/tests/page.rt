@@ -3,7 +3,7 @@ use crate::{Receipt, Width};
 use std::test::Fail;
 use vp_esc::item::{Cut, Direction, EscItem};
 
-fn area(x: u16, y: u16, width: u16, height: u16) -> EscItem {
+pub fn area(x: u16, y: u16, width: u16, height: u16) -> EscItem {
     EscItem::Area {
         x,
         y,
@@ -12,13 +12,13 @@ fn area(x: u16, y: u16, width: u16, height: u16) -> EscItem {
     }
 }
 
-fn direction(direction: Direction) -> EscItem {
+pub fn direction(direction: Direction) -> EscItem {
     EscItem::Direction(spelled(Some(direction)))
 }
 
-const PAGE: EscItem = EscItem::PageMode;
+pub const PAGE: EscItem = EscItem::PageMode;
 
-const FF: EscItem = EscItem::FormFeed;
+pub const FF: EscItem = EscItem::FormFeed;
 
 #[test]
 fn a_line_in_each_direction(rt: HostRuntime) -> Result<(), Fail> {

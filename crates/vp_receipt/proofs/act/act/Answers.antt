@@ -18,26 +18,26 @@ pub returns-in-Page-clause-job : goal.returns-in-Page-clause-job
 returns-in-Page-clause-job c = c.act_on_page.ensures.job _
 
 pub returns-in-Page-clause-line : goal.returns-in-Page-clause-line
-returns-in-Page-clause-line c = λ setup before e sheets symbol has. c.act_on_page.ensures.line setup before e sheets has
+returns-in-Page-clause-line c = λ setup before e sheets symbol has. c.act_on_page.ensures.line setup before e sheets symbol has
 
 pub returns-in-Page-clause-page : goal.returns-in-Page-clause-page
-returns-in-Page-clause-page c = λ setup before e has page.
+returns-in-Page-clause-page c = λ setup before e sheets symbol has page.
     let is = mode_is setup before c.args.s Page e c.in-Page.is in
-    page_kept setup before c.args.item.now _ is (c.act_on_page.ensures.page setup before e has (subst (λ (m : Mode). HasPageIf m (layers setup before) c.args.canvas.now.page) is page))
+    page_kept setup before c.args.item.now _ is (c.act_on_page.ensures.page setup before e sheets symbol has (subst (λ (m : Mode). HasPageIf m (layers setup before) c.args.canvas.now.page) is page))
 
 pub returns-in-Page-clause-text : goal.returns-in-Page-clause-text
 returns-in-Page-clause-text c = λ setup before e sheets symbol has page.
     let is = mode_is setup before c.args.s Page e c.in-Page.is in
-    c.act_on_page.ensures.text setup before e has (subst (λ (m : Mode). HasPageIf m (layers setup before) c.args.canvas.now.page) is page) ∙ prints_on_page setup before c.args.item.now is
+    c.act_on_page.ensures.text setup before e sheets symbol has (subst (λ (m : Mode). HasPageIf m (layers setup before) c.args.canvas.now.page) is page) ∙ prints_on_page setup before c.args.item.now is
 
 pub returns-in-Page-clause-shows : goal.returns-in-Page-clause-shows
 returns-in-Page-clause-shows c = λ setup before e sheets symbol has page.
     let is = mode_is setup before c.args.s Page e c.in-Page.is in
-    let text = c.act_on_page.ensures.text setup before e has (subst (λ (m : Mode). HasPageIf m (layers setup before) c.args.canvas.now.page) is page) ∙ owns_on_page setup before c.args.item.now is in
+    let text = c.act_on_page.ensures.text setup before e sheets symbol has (subst (λ (m : Mode). HasPageIf m (layers setup before) c.args.canvas.now.page) is page) ∙ owns_on_page setup before c.args.item.now is in
     subst (λ (bytes : List ℕ). IsShowing c.act_on_page.result.1 c.act_on_page.new.canvas (height (line setup before)) (length bytes)) text (c.act_on_page.ensures.shows c.act_on_page.new.canvas (height (line setup before)))
 
 pub returns-in-Standard-clause-page : goal.returns-in-Standard-clause-page
-returns-in-Standard-clause-page c = λ setup before e has page.
+returns-in-Standard-clause-page c = λ setup before e sheets symbol has page.
     subst (λ (p : List (List ℕ)). HasPageIf (mode setup (c.args.item.now ∷ before)) (layers setup (c.args.item.now ∷ before)) p) (sym c.act_on_paper.ensures.page)
     (c.begin_page.ensures setup before e (mode_is setup before c.args.s Standard e c.in-Standard.is))
 

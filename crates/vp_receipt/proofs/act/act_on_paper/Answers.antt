@@ -4,7 +4,7 @@ use Rattle.vp_receipt.specs.declared.symbol.Symbol.{Symbol}
 use Rattle.vp_receipt.specs.declared.canvas.Canvas.{Canvas}
 use Rattle.vp_receipt.specs.Held.{text_of, IsShowing}
 use Rattle.vp_receipt.specs.History.{height, line}
-use Rattle.vp_receipt.specs.Strips.{symbol_image}
+use Rattle.vp_receipt.specs.Symbols.{symbol_image}
 use Rattle.vp_receipt.specs.SymbolInks.{symbol_width, symbol_height, symbol_dot, IsSymbolOf}
 use Rattle.vp_receipt.proofs.SymbolTexts.{text_shown, own_shown}
 use Rattle.vp_receipt.proofs.act.act_on_paper.Goals as goal

@@ -9,7 +9,7 @@ pub returns-then-times_across-eq1 : goal.returns-then-times_across-eq1
 returns-then-times_across-eq1 c =
     let times = times_across c.args.self.now.scale in
     let one : times ≡ 1 = sym c.times_across.ensures.value ∙ c.if-times_across-eq1.true in
-    let row = take (min c.args.self.now.bytes 72) c.args.self.now.row in
+    let row = take (min c.args.self.now.bytes 208) c.args.self.now.row in
     c.write_clipped.ensures ∙ row_of_same 72 (clipped c.args.left c.args.length (dot c.kept-source.result.now)) (clipped c.args.left c.args.length (λ x. dot row (x / times)))
     (λ d _. ap (λ b. nat_le c.args.left d && nat_lt (d - c.args.left) c.args.length && b)
     (ap (λ (r : List ℕ). dot r (d - c.args.left)) c.kept-source.ensures.bytes ∙ ap (dot row) (let e : d - c.args.left ≡ (d - c.args.left) / 1 = omega arith in e ∙ ap (λ t. (d - c.args.left) / t) (sym one))))
@@ -18,7 +18,7 @@ pub returns-else-times_across-eq1 : goal.returns-else-times_across-eq1
 returns-else-times_across-eq1 c =
     let times = times_across c.args.self.now.scale in
     let two : times ≡ 2 = sym c.times_across.ensures.value ∙ (let e : c.times_across.result ≡ 2 = omega (arith, c.times_across.ensures.some, c.times_across.ensures.few, c.if-times_across-eq1.false) in e) in
-    let row = take (min c.args.self.now.bytes 72) c.args.self.now.row in
-    c.write_ink.ensures ∙ row_of_same 72 (clipped c.args.left c.args.length (λ x. dot c.kept-source.result.now (x / 2))) (clipped c.args.left c.args.length (λ x. dot row (x / times)))
-    (λ d _. ap (λ b. nat_le c.args.left d && nat_lt (d - c.args.left) c.args.length && b)
-    (ap (λ (r : List ℕ). dot r ((d - c.args.left) / 2)) c.kept-source.ensures.bytes ∙ ap (λ t. dot row ((d - c.args.left) / t)) (sym two)))
+    let row = take (min c.args.self.now.bytes 208) c.args.self.now.row in
+    c.write_clipped-else-times_across-eq1.ensures ∙ row_of_same 72 (clipped c.args.left c.args.length (dot c.doubled.result)) (clipped c.args.left c.args.length (λ x. dot row (x / times)))
+    (λ d h. ap (λ b. nat_le c.args.left d && nat_lt (d - c.args.left) c.args.length && b)
+    (c.doubled.ensures (d - c.args.left) (omega arith) ∙ ap (λ (r : List ℕ). dot r ((d - c.args.left) / 2)) c.kept-source.ensures.bytes ∙ ap (λ t. dot row ((d - c.args.left) / t)) (sym two)))

@@ -1,14 +1,26 @@
-use Rattle.std.proofs.Common.{◌≡◌, ◌∷◌, refl, ap, sym, ◌∙◌, subst}
+use Rattle.std.proofs.Common.{◌≡◌, ℕ, true, false, ◌&&◌, refl, length, arith, List, [], ◌∷◌, Option, Some, None, ap, sym, ◌∙◌, subst}
+use Rattle.vp_esc.specs.declared.item.EscItem.{EscItem}
+use Rattle.vp_esc.specs.declared.item.EscItem.TheVariants.{RasterByte}
+use Rattle.vp_page.specs.Layers.{Layer}
 use Rattle.vp_glyph.specs.declared.Sheets.{Sheets}
 use Rattle.vp_receipt.specs.declared.settings.Settings.{Settings}
 use Rattle.vp_receipt.specs.Symbols.{IsStored, qr_data}
-use Rattle.vp_receipt.specs.History.{settings_of, line, mode}
+use Rattle.vp_receipt.specs.Setup.{Setup}
+use Rattle.vp_receipt.specs.declared.page_mode.Mode.{Mode}
+use Rattle.vp_receipt.specs.declared.page_mode.Mode.TheVariants.{Standard, Page}
+use Rattle.vp_receipt.specs.Pages.{is_paged}
+use Rattle.vp_receipt.specs.declared.canvas.Canvas.{Canvas}
+use Rattle.vp_receipt.specs.declared.text.Text.{Text}
+use Rattle.vp_receipt.specs.History.{settings_of, line, mode, Placed, image_of}
+use Rattle.vp_receipt.specs.Rasters.{is_row_end, times_down}
 use Rattle.vp_receipt.specs.PageMarks.{layers}
-use Rattle.vp_receipt.specs.Standing.{Printing, Gathers, HasPageIf}
+use Rattle.vp_receipt.specs.Standing.{Printing, Gathers, HasPageIf, IsGathering, Stands, ShowsLine}
+use Rattle.vp_receipt.proofs.Runs.{settings_same, layers_same}
+use Rattle.vp_receipt.proofs.Showing.{shows_nothing}
 use Rattle.vp_receipt.proofs.receipt.Receipt.apply.Goals as goal
 
 pub invariant_of-self : goal.invariant_of-self
-invariant_of-self c = record { fit = c.self.invariant.fit; raster = c.take-ends.ensures.part; job = c.row_job-self-inside.ensures.job _ refl; turned = c.row_job-self-inside.ensures.turned }
+invariant_of-self c = record { fit = c.after_row-self-inside.ensures.fit; raster = c.take.ensures.part; job = c.act_on_row-self-inside.ensures.job; turned = c.act_on_row-self-inside.ensures.turned }
 
 pub invariant_of-self-2 : goal.invariant_of-self-2
 invariant_of-self-2 c = record { fit = c.after-self-inside.ensures.fit; raster = c.begin.ensures.part; job = c.act-waiting.ensures.job; turned = c.act-waiting.ensures.turned }
@@ -29,17 +41,17 @@ returns-clause-stands c = λ setup before h.
     let old : Gathers c.self.inside.canvas.sheets c.self.inside.settings c.self.inside.canvas.bitmap c.self.inside.waiting (line setup before) =
     subst (λ (p : Printing). Gathers p.sheets p.settings p.bitmap p.waiting (line setup before)) (sym c.self.view_is) h.line in
     let page : HasPageIf (mode setup before) (layers setup before) c.self.inside.canvas.page = subst (λ (p : Printing). HasPageIf (mode setup before) (layers setup before) p.page) (sym c.self.view_is) h.page in
-    let now : c.after-self-inside.result ≡ settings_of setup (c.args.item ∷ before) = c.after-self-inside.ensures.settings setup before was (c.as_slice.ensures.value ∙ stops) in
+    let now : c.after-self-inside.result ≡ settings_of setup (c.args.item ∷ before) = c.after-self-inside.ensures.settings setup before was (c.as_slice.ensures.value ∙ stops) (c.rows_of-symbol_rows.ensures setup before c.args.item sheets symbol) in
     record {
       sheets = c.act-waiting.ensures.sheets ∙ sheets;
       settings = now;
       stops = c.set_stops.ensures before (ap (λ (s : Settings). s.text) was) stops;
       raster = c.begin.ensures.gathers before;
-      stored = c.take.ensures before stored;
+      stored = c.take-2.ensures before stored;
       line = subst (λ (t : Settings). Gathers c.act-waiting.new.canvas.sheets t c.act-waiting.new.canvas.bitmap c.act-waiting.result.0 (line setup (c.args.item ∷ before))) (sym now)
           (subst (λ (k : Sheets). Gathers k (settings_of setup (c.args.item ∷ before)) c.act-waiting.new.canvas.bitmap c.act-waiting.result.0 (line setup (c.args.item ∷ before))) (sym c.act-waiting.ensures.sheets)
           (c.act-waiting.ensures.line setup before was sheets symbol (c.settle.ensures (line setup before) old)));
-      page = c.act-waiting.ensures.page setup before was (c.settle.ensures (line setup before) old) page;
+      page = c.act-waiting.ensures.page setup before was sheets symbol (c.settle.ensures (line setup before) old) page;
       shows = c.act-waiting.ensures.shows setup before was sheets symbol (c.settle.ensures (line setup before) old) page;
       of_page = λ some. c.printed_page-self-inside.ensures setup before was;
     }
@@ -54,3 +66,61 @@ returns-clause-pending c = λ setup before h.
     subst (λ (p : Printing). Gathers p.sheets p.settings p.bitmap p.waiting (line setup before)) (sym c.self.view_is) h.line in
     let page : HasPageIf (mode setup before) (layers setup before) c.self.inside.canvas.page = subst (λ (p : Printing). HasPageIf (mode setup before) (layers setup before) p.page) (sym c.self.view_is) h.page in
     c.act-waiting.ensures.text setup before was sheets symbol (c.settle.ensures (line setup before) old) page
+
+stands_as : (setup : Setup) (p : Printing) (before : List EscItem) (i j : EscItem) → i ≡ j → Stands setup p (j ∷ before) → Stands setup p (i ∷ before)
+stands_as setup p before i j e h = subst (λ (k : EscItem). Stands setup p (k ∷ before)) (sym e) h
+
+row_of_no_page : (m : Mode) → false ≡ is_paged m && false
+row_of_no_page Standard = refl
+row_of_no_page Page = refl
+
+gathers_same : (sheets : Sheets) (s t : Settings) (bitmap : List (List ℕ)) (waiting : Option ℕ) (placed : List Placed) → s.text ≡ t.text → Gathers sheets s bitmap waiting placed → Gathers sheets t bitmap waiting placed
+gathers_same sheets s t bitmap None placed e h = h
+gathers_same sheets s t bitmap (Some code) placed e h = subst (λ (x : Text). placed ≡ record { at = 0; image = image_of sheets x code } ∷ []) e h
+
+pub returns-then-take-clause-stands : goal.returns-then-take-clause-stands
+returns-then-take-clause-stands c = λ setup before h.
+    let byte = c.in-RasterByte.byte in
+    let was : c.self.inside.settings ≡ settings_of setup before = ap (λ (p : Printing). p.settings) c.self.view_is ∙ h.settings in
+    let come = subst (λ (p : Printing). IsGathering p.raster before) (sym c.self.view_is) h.raster in
+    let row = c.take.ensures.row before come c.if-take.true in
+    let ends : is_row_end before ≡ true = row.ends in
+    let others = c.act_on_row-self-inside.ensures.others in
+    let old : Gathers c.self.inside.canvas.sheets c.self.inside.settings c.self.inside.canvas.bitmap c.self.inside.waiting (line setup before) =
+    subst (λ (p : Printing). Gathers p.sheets p.settings p.bitmap p.waiting (line setup before)) (sym c.self.view_is) h.line in
+    let page : HasPageIf (mode setup before) (layers setup before) c.self.inside.canvas.page = subst (λ (p : Printing). HasPageIf (mode setup before) (layers setup before) p.page) (sym c.self.view_is) h.page in
+    let now : c.after_row-self-inside.result ≡ settings_of setup (RasterByte byte ∷ before) = c.after_row-self-inside.ensures.settings setup before byte was ends (c.times_down.ensures.value ∙ ap times_down row.scale) in
+    let text : c.self.inside.settings.text ≡ c.after_row-self-inside.result.text = ap (λ (s : Settings). s.text) was ∙ sym (ap (λ (s : Settings). s.text) now) in
+    stands_as setup _ before _ _ c.in-RasterByte.is
+    (record {
+      sheets = ap (λ (k : Canvas). k.sheets) others ∙ ap (λ (p : Printing). p.sheets) c.self.view_is ∙ h.sheets;
+      settings = now;
+      stops = ap (λ (p : Printing). p.stops) c.self.view_is ∙ h.stops;
+      raster = c.take.ensures.gathers before come;
+      stored = subst (λ (p : Printing). IsStored p.stored (qr_data before)) (sym c.self.view_is) h.stored;
+      line = subst (λ (k : Canvas). Gathers k.sheets c.after_row-self-inside.result k.bitmap c.self.inside.waiting (line setup before)) (sym others)
+          (gathers_same c.self.inside.canvas.sheets c.self.inside.settings c.after_row-self-inside.result c.self.inside.canvas.bitmap c.self.inside.waiting (line setup before) text old);
+      page = c.act_on_row-self-inside.ensures.page setup before byte was row page;
+      shows = c.act_on_row-self-inside.ensures.shows setup before byte was row;
+      of_page = λ some. row_of_no_page (mode setup before);
+    })
+
+pub returns-else-take-clause-stands : goal.returns-else-take-clause-stands
+returns-else-take-clause-stands c = λ setup before h.
+    let byte = c.in-RasterByte.byte in
+    let come = subst (λ (p : Printing). IsGathering p.raster before) (sym c.self.view_is) h.raster in
+    let ends : is_row_end before ≡ false = sym (c.take.ensures.ends before come) ∙ c.if-take.false in
+    let page : HasPageIf (mode setup before) (layers setup before) c.self.inside.canvas.page = subst (λ (p : Printing). HasPageIf (mode setup before) (layers setup before) p.page) (sym c.self.view_is) h.page in
+    stands_as setup _ before _ _ c.in-RasterByte.is
+    (record {
+      sheets = ap (λ (p : Printing). p.sheets) c.self.view_is ∙ h.sheets;
+      settings = ap (λ (p : Printing). p.settings) c.self.view_is ∙ h.settings ∙ sym (settings_same setup byte before ends);
+      stops = ap (λ (p : Printing). p.stops) c.self.view_is ∙ h.stops;
+      raster = c.take.ensures.gathers before come;
+      stored = subst (λ (p : Printing). IsStored p.stored (qr_data before)) (sym c.self.view_is) h.stored;
+      line = subst (λ (p : Printing). Gathers p.sheets p.settings p.bitmap p.waiting (line setup before)) (sym c.self.view_is) h.line;
+      page = subst (λ (l : List Layer). HasPageIf (mode setup before) l c.self.inside.canvas.page) (sym (layers_same setup byte before ends)) page;
+      shows = shows_nothing setup _ _ before (RasterByte byte ∷ before) (ap (λ (p : Printing). p.pending) c.self.view_is ∙ c.requires)
+          (subst (λ (p : Printing). ShowsLine setup p.showing p.pending before) (sym c.self.view_is) h.shows);
+      of_page = λ some. absurd (omega (arith, some, ap length (ap (λ (p : Printing). p.pending) c.self.view_is ∙ c.requires)));
+    })

@@ -1,0 +1,73 @@
+-- What an item with a symbol lays on the page, and what lays nothing but the line.
+use Rattle.std.proofs.Common.{◌≡◌, ℕ, ◌-◌, Bool, false, ◌&&◌, ◌||◌, nat_le, refl, ap, sym, subst, ◌∙◌, List, [], ◌∷◌, Option, Some, None}
+use Rattle.vp_esc.specs.declared.item.EscItem.{EscItem}
+use Rattle.vp_esc.specs.declared.item.EscItem.TheVariants.{QrPrint, RasterByte, Symbol as SetSymbol}
+use Rattle.vp_page.specs.declared.area.Area.{Area}
+use Rattle.vp_page.specs.declared.area.Direction.{Direction}
+use Rattle.vp_page.specs.Areas.{holds, along, down}
+use Rattle.vp_page.specs.Layers.{Layer, Laid, page_dot}
+use Rattle.vp_page.specs.Pages.{HasPage}
+use Rattle.vp_receipt.specs.declared.symbol.Symbol.{Symbol}
+use Rattle.vp_receipt.specs.Setup.{Setup}
+use Rattle.vp_receipt.specs.Images.{Image}
+use Rattle.vp_receipt.specs.Pages.{area, direction, vertical_after}
+use Rattle.vp_glyph.specs.declared.Sheets.{Sheets}
+use Rattle.vp_receipt.specs.declared.settings.Settings.{Settings}
+use Rattle.vp_receipt.specs.History.{Placed, settings_of, line, line_spacing, ended_rows, vertical}
+use Rattle.vp_receipt.specs.PageMarks.{own_mark, laid_own, symbol_mark_of}
+use Rattle.vp_receipt.specs.Standing.{Gathers}
+use Rattle.vp_receipt.specs.Strips.{page_part}
+use Rattle.vp_receipt.specs.Symbols.{symbol_image, bars_of, bars_image, bar_style_of}
+use Rattle.vp_receipt.specs.SymbolInks.{symbol_dot, is_symbol, IsSymbolOf}
+
+-- it ends the line
+pub line_ended : (setup : Setup) (before : List EscItem) (item : EscItem) (symbol : Symbol) → IsSymbolOf setup.sheets (Some symbol) (symbol_image setup before item) → line setup (item ∷ before) ≡ []
+line_ended setup before (SetSymbol kind bytes more) symbol h = refl
+line_ended setup before QrPrint symbol h = refl
+line_ended setup before _ symbol h = absurd h
+
+pub gathers_none : (sheets : Sheets) (s : Settings) (bitmap : List (List ℕ)) (placed : List Placed) → placed ≡ [] → Gathers sheets s bitmap None placed
+gathers_none sheets s bitmap placed e = subst (λ (l : List Placed). Gathers sheets s bitmap None l) (sym e) (λ o. cc)
+
+-- and prints nothing on a page
+pub page_goes_on : (setup : Setup) (before : List EscItem) (item : EscItem) (symbol : Symbol) → IsSymbolOf setup.sheets (Some symbol) (symbol_image setup before item) → page_part setup before item ≡ []
+page_goes_on setup before (SetSymbol kind bytes more) symbol h = refl
+page_goes_on setup before QrPrint symbol h = refl
+page_goes_on setup before _ symbol h = absurd h
+
+same_dots : (a : Area) (d : Direction) (top : ℕ) (f g : ℕ → ℕ → Bool) (layers : List Layer) (page : List (List ℕ)) → ((u w : ℕ) → f u w ≡ g u w)
+    → HasPage (Laid (record { area = a; direction = d; top = top; dot = f }) ∷ layers) page → HasPage (Laid (record { area = a; direction = d; top = top; dot = g }) ∷ layers) page
+same_dots a d top f g layers page e h = record {
+  rows_are = h.rows_are;
+  dots_are = λ x y i j. h.dots_are x y i j
+      ∙ ap (λ b. (holds a x y && (nat_le top (down a d x y) && b)) || page_dot layers x y) (e (along a d x y) (down a d x y - top));
+}
+
+-- what is in force where it is laid
+pub laid_by : (setup : Setup) (before : List EscItem) (s : Settings) (symbol : Symbol) (sheets : Sheets) (top : ℕ) (layers : List Layer) (page : List (List ℕ)) → s ≡ settings_of setup before → sheets ≡ setup.sheets
+    → top ≡ vertical_after (vertical setup before) (ended_rows (line setup before) (line_spacing before))
+    → HasPage (Laid (record { area = s.page.area; direction = s.page.direction; top = top; dot = symbol_dot sheets symbol }) ∷ layers) page
+    → HasPage (Laid (record { area = area setup before; direction = direction before; top = vertical_after (vertical setup before) (ended_rows (line setup before) (line_spacing before)); dot = symbol_dot setup.sheets symbol }) ∷ layers) page
+laid_by setup before s symbol sheets top layers page e sheets_is top_is laid =
+    subst (λ (k : Sheets). HasPage (Laid (record { area = area setup before; direction = direction before; top = vertical_after (vertical setup before) (ended_rows (line setup before) (line_spacing before)); dot = symbol_dot k symbol }) ∷ layers) page) sheets_is
+    (subst (λ n. HasPage (Laid (record { area = area setup before; direction = direction before; top = n; dot = symbol_dot sheets symbol }) ∷ layers) page) top_is
+    (subst (λ (q : Settings). HasPage (Laid (record { area = q.page.area; direction = q.page.direction; top = top; dot = symbol_dot sheets symbol }) ∷ layers) page) e laid))
+
+-- it lays its symbol below the line
+pub symbol_laid : (setup : Setup) (before : List EscItem) (item : EscItem) (symbol : Symbol) (layers : List Layer) (page : List (List ℕ)) → IsSymbolOf setup.sheets (Some symbol) (symbol_image setup before item)
+    → HasPage (Laid (record { area = area setup before; direction = direction before; top = vertical_after (vertical setup before) (ended_rows (line setup before) (line_spacing before)); dot = symbol_dot setup.sheets symbol }) ∷ layers) page
+    → HasPage (laid_own (own_mark setup before item) layers) page
+symbol_laid setup before (SetSymbol kind bytes more) symbol layers page h laid = laid_if (bars_image setup.sheets (bar_style_of before) (bars_of kind.value bytes.items more)) h
+  where
+    laid_if : (image : Option Image) → IsSymbolOf setup.sheets (Some symbol) image → HasPage (laid_own (symbol_mark_of setup before image) layers) page
+    laid_if (Some image) h = same_dots _ _ _ (symbol_dot setup.sheets symbol) image.dot layers page h.dots laid
+    laid_if None h = absurd h
+symbol_laid setup before QrPrint symbol layers page h laid = same_dots _ _ _ (symbol_dot setup.sheets symbol) _ layers page h.dots laid
+symbol_laid setup before _ symbol layers page h laid = absurd h
+
+-- what prints no symbol and is no byte of a raster
+pub no_own_mark : (setup : Setup) (before : List EscItem) (item : EscItem) → is_symbol item ≡ false → ((byte : ℕ) → item ≡ RasterByte byte → ⊥) → own_mark setup before item ≡ None
+no_own_mark setup before (SetSymbol kind bytes more) h k = cc
+no_own_mark setup before QrPrint h k = cc
+no_own_mark setup before (RasterByte byte) h k = absurd (k byte refl)
+no_own_mark setup before _ h k = refl
