@@ -1,6 +1,5 @@
 //! The sheet of the tests: in cell c the leftmost c mod 13 dots of each row are black.
-use std::alloc::Global;
-use std::test::Fail;
+use std::alloc::{AllocError, Global};
 use vp_glyph::{Sheet, Sheets};
 
 /// Dots x to x + 7 of row y of the sheet.
@@ -16,8 +15,8 @@ fn eight_dots(x: u32, y: u32) -> u8 {
     byte
 }
 
-/// The sheet as font A, and none for font B.
-pub fn sheets(alloc: Global) -> Result<Sheets, Fail> {
+/// The bytes of the sheet.
+pub fn sheet(alloc: Global) -> Result<Vec<u8>, AllocError> {
     let mut image = Vec::new(alloc);
     image.extend_from_slice(b"P4\n192 384\n")?;
     for y in 0..384u32 {
@@ -25,8 +24,13 @@ pub fn sheets(alloc: Global) -> Result<Sheets, Fail> {
             image.push(eight_dots(byte.wrapping_mul(8), y))?;
         }
     }
-    Ok(Sheets {
-        a: Sheet::read(alloc, &image, 12, 24).ok(),
+    Ok(image)
+}
+
+/// The sheet of these bytes as font A, and none for font B.
+pub fn sheets(alloc: Global, image: &[u8]) -> Sheets {
+    Sheets {
+        a: Sheet::read(alloc, image, 12, 24).ok(),
         b: None,
-    })
+    }
 }

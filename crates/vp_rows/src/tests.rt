@@ -1,6 +1,6 @@
 use crate::pages::PAGES;
 use crate::pieces::{Pieces, Sips};
-use crate::sheet::sheets;
+use crate::sheet::{sheet, sheets};
 use crate::streams::{STREAMS, Stream};
 use std::alloc::{AllocError, Global};
 use std::process::Abort;
@@ -34,12 +34,13 @@ fn paper_of(alloc: Global, stream: &Stream) -> Result<Vec<u8>, AllocError> {
 
 #[test]
 fn each_stream_prints_its_images(rt: HostRuntime) -> Result<(), Fail> {
+    let image = sheet(rt.alloc())?;
     for stream in STREAMS.iter().chain(PAGES) {
         let name = stream.name;
         let (paper, fault) = print_all(
             rt.alloc(),
             stream.language,
-            sheets(rt.alloc())?,
+            sheets(rt.alloc(), &image),
             stream.bytes,
         )?;
         assert_eq!(rt;
@@ -53,8 +54,8 @@ fn each_stream_prints_its_images(rt: HostRuntime) -> Result<(), Fail> {
 }
 
 /// The bytes of a stream through a printer, one byte in and one byte out at a time.
-fn cut_into_bytes(alloc: Global, stream: &Stream) -> Result<(Vec<u8>, State), Fail> {
-    let mut printer = Printer::new(alloc, stream.language, sheets(alloc)?)?;
+fn cut_into_bytes(alloc: Global, image: &[u8], stream: &Stream) -> Result<(Vec<u8>, State), Fail> {
+    let mut printer = Printer::new(alloc, stream.language, sheets(alloc, image))?;
     let mut paper = Vec::new(alloc);
     let mut state = State::More;
     let mut rest = stream.bytes;
@@ -72,9 +73,10 @@ fn cut_into_bytes(alloc: Global, stream: &Stream) -> Result<(Vec<u8>, State), Fa
 
 #[test]
 fn each_stream_is_cut_into_bytes(rt: HostRuntime) -> Result<(), Fail> {
+    let image = sheet(rt.alloc())?;
     for stream in STREAMS.iter().chain(PAGES) {
         let name = stream.name;
-        let (paper, state) = cut_into_bytes(rt.alloc(), stream)?;
+        let (paper, state) = cut_into_bytes(rt.alloc(), &image, stream)?;
         assert_eq!(rt;
             paper.as_slice(),
             paper_of(rt.alloc(), stream)?.as_slice(),
@@ -93,6 +95,7 @@ fn each_stream_is_cut_into_bytes(rt: HostRuntime) -> Result<(), Fail> {
 fn pump(
     rt: &impl Abort,
     alloc: Global,
+    image: &[u8],
     stream: &Stream,
     bytes: &[u8],
     most: usize,
@@ -110,7 +113,7 @@ fn pump(
         calls: 0,
         fails_at: bad_write,
     });
-    let mut session = Session::new(alloc, stream.language, sheets(alloc)?)?;
+    let mut session = Session::new(alloc, stream.language, sheets(alloc, image))?;
     let mut answer = session.pump(&mut reader, &mut writer);
     if answer == Err(RunFault::Read) || answer == Err(RunFault::Write) {
         assert!(rt; bad_read != NEVER || bad_write != NEVER);
@@ -121,6 +124,7 @@ fn pump(
 
 #[test]
 fn each_front_is_pumped_as_it_prints(rt: HostRuntime) -> Result<(), Fail> {
+    let image = sheet(rt.alloc())?;
     for stream in STREAMS.iter().chain(PAGES) {
         let name = stream.name;
         for n in 0..stream.bytes.len() + 1 {
@@ -128,10 +132,10 @@ fn each_front_is_pumped_as_it_prints(rt: HostRuntime) -> Result<(), Fail> {
             let (paper, fault) = print_all(
                 rt.alloc(),
                 stream.language,
-                sheets(rt.alloc())?,
+                sheets(rt.alloc(), &image),
                 front,
             )?;
-            let (pumped, answer) = pump(&rt, rt.alloc(), stream, front, 7, (NEVER, NEVER))?;
+            let (pumped, answer) = pump(&rt, rt.alloc(), &image, stream, front, 7, (NEVER, NEVER))?;
             assert_eq!(rt; pumped.as_slice(), paper.as_slice(), "{name}, {n} bytes");
             match answer {
                 Ok(report) => {
@@ -151,13 +155,30 @@ fn each_front_is_pumped_as_it_prints(rt: HostRuntime) -> Result<(), Fail> {
 
 #[test]
 fn a_failed_read_or_write_loses_nothing(rt: HostRuntime) -> Result<(), Fail> {
+    let image = sheet(rt.alloc())?;
     for stream in STREAMS.iter().chain(PAGES) {
         let name = stream.name;
         let paper = paper_of(rt.alloc(), stream)?;
         for call in 1..12usize {
-            let (pumped, _) = pump(&rt, rt.alloc(), stream, stream.bytes, 3, (call, NEVER))?;
+            let (pumped, _) = pump(
+                &rt,
+                rt.alloc(),
+                &image,
+                stream,
+                stream.bytes,
+                3,
+                (call, NEVER),
+            )?;
             assert_eq!(rt; pumped.as_slice(), paper.as_slice(), "{name}, read {call}");
-            let (pumped, _) = pump(&rt, rt.alloc(), stream, stream.bytes, 300, (NEVER, call))?;
+            let (pumped, _) = pump(
+                &rt,
+                rt.alloc(),
+                &image,
+                stream,
+                stream.bytes,
+                300,
+                (NEVER, call),
+            )?;
             assert_eq!(rt; pumped.as_slice(), paper.as_slice(), "{name}, write {call}");
         }
     }
@@ -166,6 +187,7 @@ fn a_failed_read_or_write_loses_nothing(rt: HostRuntime) -> Result<(), Fail> {
 
 #[test]
 fn goes_on_behind_the_byte_that_was_written_last(rt: HostRuntime) -> Result<(), Fail> {
+    let image = sheet(rt.alloc())?;
     let bytes: &[u8] = &[0x1D, 0x76, 0x30, 0, 1, 0, 2, 0, 0x80, 0x01];
     let mut reader = Counted::new(bytes);
     let mut writer = Counted::new(Sips {
@@ -174,7 +196,7 @@ fn goes_on_behind_the_byte_that_was_written_last(rt: HostRuntime) -> Result<(), 
         calls: 0,
         fails_at: 9,
     });
-    let mut session = Session::new(rt.alloc(), Language::Receipt, sheets(rt.alloc())?)?;
+    let mut session = Session::new(rt.alloc(), Language::Receipt, sheets(rt.alloc(), &image))?;
     assert_eq!(rt;
         session.pump(&mut reader, &mut writer),
         Err(RunFault::Write)
