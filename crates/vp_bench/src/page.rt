@@ -31,13 +31,28 @@ fn copy_rows(source: &[u8], band: &mut Band<72, 1664>) {
     }
 }
 
-fn lay_rows(area: Area, direction: Direction, line: &[u8; 208], page: &mut Page) {
-    let row = match direction {
-        Direction::LeftToRight | Direction::RightToLeft => &line[..72],
-        Direction::BottomToTop | Direction::TopToBottom => &line[..],
+/// Bytes whose dots follow no pattern.
+fn mixed() -> [u8; 4096] {
+    let mut bytes = [0; 4096];
+    let mut state = 1u64;
+    for byte in bytes.iter_mut() {
+        state = state
+            .wrapping_mul(6_364_136_223_846_793_005)
+            .wrapping_add(1_442_695_040_888_963_407);
+        *byte = state.to_be_bytes()[0];
+    }
+    bytes
+}
+
+/// Lays rows of these bytes, each from another one on, until the area is full.
+fn lay_rows(area: Area, direction: Direction, bytes: &[u8; 4096], page: &mut Page) {
+    let n = match direction {
+        Direction::LeftToRight | Direction::RightToLeft => 72,
+        Direction::BottomToTop | Direction::TopToBottom => 208,
     };
     for v in 0..u32::from(area.depth(direction)) {
-        page.lay_row(area, direction, v, row);
+        let from = v as usize * 7 % 3888;
+        page.lay_row(area, direction, v, &bytes[from..from + n]);
     }
 }
 
@@ -53,13 +68,18 @@ fn show(
     page: &mut Page,
     copied: f64,
 ) -> io::Result<()> {
-    for fill in [0xff, 0x5a, 0x01] {
-        let line = [fill; 208];
+    let rows = [
+        ("black rows", [0xff; 4096]),
+        ("rows of 5a", [0x5a; 4096]),
+        ("rows of 01", [0x01; 4096]),
+        ("mixed rows", mixed()),
+    ];
+    for (kind, bytes) in &rows {
         for area in [WHOLE, INNER] {
-            let laid = least(rt, ROUNDS, || lay_rows(area, direction, &line, page))?;
+            let laid = least(rt, ROUNDS, || lay_rows(area, direction, bytes, page))?;
             let x = area.x;
             println!(rt;
-                "{name}, rows of {fill:02x}, from column {x}: {:.0} MB/s, {:.1} times copying",
+                "{name}, {kind}, from column {x}: {:.0} MB/s, {:.1} times copying",
                 rate(laid),
                 laid / copied
             )?;
