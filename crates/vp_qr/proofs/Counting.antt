@@ -1,11 +1,11 @@
 -- Sums over the modules of a row, and the ones among a number's bits.
-use Rattle.std.proofs.Common.{◌≡◌, ℕ, zero, suc, ◌+◌, ◌-◌, ◌*◌, ◌/◌, ◌%◌, ◌^◌, ◌<◌, ◌≤◌, Bool, ◌&&◌, eqb, cond, List, get_or, refl, sym, ap, ◌∙◌, subst, inl, inr, arith, ◌∷◌, bit_and, pow-suc}
+use Rattle.std.proofs.Common.{◌≡◌, ℕ, zero, suc, ◌+◌, ◌-◌, ◌*◌, ◌/◌, ◌%◌, ◌^◌, ◌<◌, ◌≤◌, Bool, ◌&&◌, eqb, cond, List, get_or, refl, sym, ap, ◌∙◌, subst, inl, inr, arith, ◌∷◌, bit_and, pow-suc, add_assoc}
 use lib.Count.{ones}
 use Rattle.std.specs.Int.{bit_at}
 use Rattle.std.proofs.lemmas.Bool.{cases_lt}
 use Rattle.std.proofs.lemmas.Nat.{div_below, ones_cat, one_shl, and_mask, div-add-mod', mod_below, pow_pos}
 use Rattle.std.proofs.lemmas.Nat.Bits.{bit_at-lt, bit_at_cat_low}
-use Rattle.vp_qr.specs.Cost.{sum_below, line_from, line_cost, lines_cost, same, square_at, squares_cost, dark_modules, balance_cost, cost}
+use Rattle.vp_qr.specs.Cost.{is_set, sum_below, line_from, line_cost, lines_cost, same, square_at, squares_cost, dark_modules, balance_cost, cost}
 use Rattle.vp_qr.specs.Walk.{dark}
 
 pub sum_more : (n : ℕ) (f : ℕ → ℕ) → sum_below (n + 1) f ≡ sum_below n f + f n
@@ -20,6 +20,31 @@ sum_same (suc n) f g h = ap (λ m. m + f n) (sum_same n f g (λ k lt. h k (omega
 pub sum_most : (n : ℕ) (f : ℕ → ℕ) → ((k : ℕ) → f k < 2) → sum_below n f ≤ n
 sum_most zero f h = omega arith
 sum_most (suc n) f h = omega (arith, sum_most n f h, h n)
+
+pub sum_front : (n : ℕ) (f : ℕ → ℕ) → sum_below (suc n) f ≡ f 0 + sum_below n (λ i. f (suc i))
+sum_front zero f = omega arith
+sum_front (suc n) f = ap (λ m. m + f (suc n)) (sum_front n f) ∙ add_assoc (f 0) (sum_below n (λ i. f (suc i))) (f (suc n))
+
+pub sum_plus : (n : ℕ) (f g : ℕ → ℕ) → sum_below n (λ i. f i + g i) ≡ sum_below n f + sum_below n g
+sum_plus zero f g = refl
+sum_plus (suc n) f g = omega (arith, sum_plus n f g)
+
+pub sum_twice : (n : ℕ) (f : ℕ → ℕ) → sum_below n (λ i. 2 * f i) ≡ 2 * sum_below n f
+sum_twice zero f = refl
+sum_twice (suc n) f = omega (arith, sum_twice n f)
+
+pub sum_forty : (n : ℕ) (f : ℕ → ℕ) → sum_below n (λ i. 40 * f i) ≡ 40 * sum_below n f
+sum_forty zero f = refl
+sum_forty (suc n) f = omega (arith, sum_forty n f)
+
+sum_none : (n : ℕ) → sum_below n (λ _. 0) ≡ 0
+sum_none zero = refl
+sum_none (suc n) = omega (arith, sum_none n)
+
+pub sum_swap : (n m : ℕ) (f : ℕ → ℕ → ℕ) → sum_below n (λ i. sum_below m (λ j. f i j)) ≡ sum_below m (λ j. sum_below n (λ i. f i j))
+sum_swap zero m f = sym (sum_none m)
+sum_swap (suc n) m f =
+    ap (λ k. k + sum_below m (λ j. f n j)) (sum_swap n m f) ∙ sym (sum_plus m (λ j. sum_below n (λ i. f i j)) (λ j. f n j))
 
 ones_bit : (b : ℕ) → b < 2 → ones b ≡ b
 unfolding ones
@@ -67,10 +92,19 @@ pub ones_most : (row n : ℕ) → n ≤ 57 → ones (bit_and row (1 * 2 ^ n % 2 
 ones_most row n h = omega (arith, ones_masked row n h, sum_most n (λ j. bit_at row j) (bit_at-lt row))
 
 -- equal lines
+pub line_moved : (f g : ℕ → Bool) (n at place : ℕ) → ((k : ℕ) → k < n → f (at + k) ≡ g (place + k)) → line_from f at n ≡ line_from g place n
+line_moved f g zero at place h = refl
+line_moved f g (suc n) at place h =
+    let a : at ≡ at + 0 = omega arith in
+    let b : place + 0 ≡ place = omega arith in
+    ap (λ c. c ∷ line_from f (at + 1) n) (ap f a ∙ h 0 (omega arith) ∙ ap g b)
+    ∙ ap (λ l. g place ∷ l) (line_moved f g n (at + 1) (place + 1) (λ k lt. ap f (after at k) ∙ h (suc k) (omega arith) ∙ ap g (sym (after place k))))
+  where
+    after : (n k : ℕ) → n + 1 + k ≡ n + suc k
+    after n k = omega arith
+
 pub line_same : (f g : ℕ → Bool) (n at : ℕ) → ((j : ℕ) → at ≤ j → j < at + n → f j ≡ g j) → line_from f at n ≡ line_from g at n
-line_same f g zero at h = refl
-line_same f g (suc n) at h =
-    ap (λ b. b ∷ line_from f (at + 1) n) (h at (omega arith) (omega arith)) ∙ ap (λ l. g at ∷ l) (line_same f g n (at + 1) (λ j a b. h j (omega arith) (omega arith)))
+line_same f g n at h = line_moved f g n at at (λ k lt. h (at + k) (omega arith) (omega arith))
 
 bit_as_one : (b : ℕ) → b < 2 → b ≡ cond (eqb b 1) 1 0
 bit_as_one b h =
@@ -79,6 +113,10 @@ bit_as_one b h =
       | inr le ↦ let e : 1 ≡ b = omega arith in subst (λ m. m ≡ cond (eqb m 1) 1 0) e refl
     ]
 
+-- the set bits of a word whose modules are known
+pub sum_set : (word n : ℕ) (p : ℕ → Bool) → ((j : ℕ) → j < n → is_set word j ≡ p j) → sum_below n (λ j. bit_at word j) ≡ sum_below n (λ j. cond (p j) 1 0)
+sum_set word n p h = sum_same n (λ j. bit_at word j) (λ j. cond (p j) 1 0) (λ j lt. bit_as_one (bit_at word j) (bit_at-lt word j) ∙ ap (λ b. cond b 1 0) (h j lt))
+
 -- the dark modules of a row
 pub dark_in_row : (rows : List ℕ) (i n : ℕ) → sum_below n (λ j. bit_at (get_or rows i 0) j) ≡ sum_below n (λ j. cond (dark rows i j) 1 0)
 unfolding dark
@@ -86,7 +124,7 @@ dark_in_row rows i n = sum_same n (λ j. bit_at (get_or rows i 0) j) (λ j. cond
 
 -- symbols that are the same below a size cost the same
 module _ (f g : ℕ → ℕ → Bool) (s : ℕ) (h : (i j : ℕ) → i < s → j < s → f i j ≡ g i j) where
-  pub lines_same : lines_cost f s ≡ lines_cost g s
+  lines_same : lines_cost f s ≡ lines_cost g s
   lines_same =
       sum_same s (λ i. line_cost (line_from (f i) 0 s)) (λ i. line_cost (line_from (g i) 0 s))
       (λ i lt. ap line_cost (line_same (f i) (g i) s 0 (λ j _ below. h i j lt (omega arith))))

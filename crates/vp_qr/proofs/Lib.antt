@@ -3,6 +3,7 @@ pub mod Division
 pub mod WalkOrder
 pub mod Bits
 pub mod Filling
+pub mod Modules
 pub mod Runs
 pub mod Patterns
 pub mod FreePlaces

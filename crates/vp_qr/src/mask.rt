@@ -1,18 +1,10 @@
 //! The cost of a finished symbol, and the choice of its mask.
 
-ghost use Rattle.std.specs.Prelude.{◌≡◌, ◌==◌, ◌<◌, ◌≤◌, ◌||◌, ◌-◌, ℕ, slice_index, if◌then◌else◌};
+ghost use Rattle.std.specs.Prelude.{◌≡◌, ◌==◌, ◌<◌, ◌≤◌, ◌&&◌, ◌||◌, ◌+◌, ◌-◌, ℕ, not, length, slice_index};
 ghost use Rattle.std.specs.Int.{bit_at};
-ghost use Rattle.vp_qr.specs.Cost.{run_worth, runs_worth, runs, patterns_worth, bits_line, line_cost, lines_cost, is_set, square_at, squares_cost, dark_modules, balance_cost, sum_below, cost};
+ghost use Rattle.vp_qr.specs.Cost.{same, line_from, begins, light_behind, light_before, runs_worth, runs, patterns_worth, bits_line, line_cost, lines_cost, is_set, square_at, squares_cost, dark_modules, balance_cost, sum_below, cost};
 ghost use Rattle.vp_qr.specs.Walk.{dark};
 ghost use Rattle.vp_qr.specs.Encoding.{least_place};
-
-/// What a run costs.
-fn run_worth(length: u32) -> u32
-    ensures worth { result ≡ run_worth length }
-    ensures most { result ≤ length }
-{
-    if length >= 5 { length - 2 } else { 0 }
-}
 
 /// A module of a line.
 #[tactic(auto, using(std::proofs::lemmas::Nat::Bits::shr_and_one))]
@@ -23,54 +15,89 @@ pub fn is_dark(line: u64, at: usize) -> bool
     line >> at & 1 == 1
 }
 
-/// What the runs of a line of `size` modules cost.
-#[tactic(auto, using(crate::proofs::Runs::running_first, crate::proofs::Runs::running_same, crate::proofs::Runs::running_other, crate::proofs::Runs::running_all))]
-fn runs_worth(line: u64, size: usize) -> u32
-    requires some { 0 < size }
-    requires most { size ≤ 57 }
-    ensures worth { result ≡ runs_worth (runs (bits_line line size)) }
-    ensures most { result ≤ 57 }
+/// The columns in which the lines from `at` on have a finder's modules.
+fn finders(lines: &[u64], at: usize) -> u64
+    requires { at + 7 ≤ length lines.now }
+    ensures { (j : ℕ) → j < 64 → is_set result j ≡ (dark lines.now at j && not (dark lines.now (at + 1) j) && dark lines.now (at + 2) j
+        && dark lines.now (at + 3) j && dark lines.now (at + 4) j && not (dark lines.now (at + 5) j) && dark lines.now (at + 6) j) }
 {
-    let mut total = 0;
-    let mut dark = is_dark(line, 0);
-    let mut length = 1;
-    for at in 1..size {
-        if is_dark(line, at) == dark {
-            length += 1;
-            continue;
-        }
-        total += run_worth(length);
-        dark = !dark;
-        length = 1;
-    }
-    total + run_worth(length)
+    lines[at]
+        & !lines[at + 1]
+        & lines[at + 2]
+        & lines[at + 3]
+        & lines[at + 4]
+        & !lines[at + 5]
+        & lines[at + 6]
 }
 
-/// What the patterns cost that begin at a window of eleven modules, the first lowest.
-fn window_worth(window: u64) -> u32
-    ensures worth { result ≡ (if window == 93 || window == 1488 then 40 else 0) }
-    ensures most { result ≤ 40 }
+/// The columns in which four lines from `at` on are light.
+fn lights(lines: &[u64], at: usize) -> u64
+    requires { at + 4 ≤ length lines.now }
+    ensures { (j : ℕ) → j < 64 → is_set result j ≡ (not (dark lines.now at j) && not (dark lines.now (at + 1) j)
+        && not (dark lines.now (at + 2) j) && not (dark lines.now (at + 3) j)) }
 {
-    if window == 0x5d || window == 0x5d0 {
-        40
-    } else {
-        0
-    }
+    !lines[at] & !lines[at + 1] & !lines[at + 2] & !lines[at + 3]
+}
+
+/// The columns in which a pattern begins at line `at`.
+fn patterns(lines: &[u64], at: usize) -> u64
+    requires { at + 11 ≤ length lines.now }
+    ensures { (j : ℕ) → j < 64 → is_set result j
+        ≡ (begins light_behind (line_from (λ i. dark lines.now i j) at 11) || begins light_before (line_from (λ i. dark lines.now i j) at 11)) }
+{
+    finders(lines, at) & lights(lines, at + 7) | lights(lines, at) & finders(lines, at + 4)
+}
+
+/// The columns in which five lines from `at` on are equal.
+fn fives(lines: &[u64], at: usize) -> u64
+    requires { at + 5 ≤ length lines.now }
+    ensures { (j : ℕ) → j < 64 → is_set result j ≡ (same (dark lines.now at j) (dark lines.now (at + 1) j) && same (dark lines.now (at + 1) j) (dark lines.now (at + 2) j)
+        && same (dark lines.now (at + 2) j) (dark lines.now (at + 3) j) && same (dark lines.now (at + 3) j) (dark lines.now (at + 4) j)) }
+{
+    !(lines[at] ^ lines[at + 1])
+        & !(lines[at + 1] ^ lines[at + 2])
+        & !(lines[at + 2] ^ lines[at + 3])
+        & !(lines[at + 3] ^ lines[at + 4])
+}
+
+/// A line, and behind it the line without its first module, without its first two, and so on.
+fn shifted(line: u64) -> [u64; 11]
+    ensures { (k j : ℕ) → k < 11 → dark result k j ≡ is_set line (j + k) }
+{
+    [
+        line,
+        line >> 1,
+        line >> 2,
+        line >> 3,
+        line >> 4,
+        line >> 5,
+        line >> 6,
+        line >> 7,
+        line >> 8,
+        line >> 9,
+        line >> 10,
+    ]
+}
+
+/// What the runs of a line of `size` modules cost: 1 for each five equal modules, and 2 more for the first five of a run.
+fn runs_worth(line: u64, size: usize) -> u32
+    requires low { 21 ≤ size }
+    requires most { size ≤ 57 }
+    ensures worth { result ≡ runs_worth (runs (bits_line line size)) }
+    ensures most { result ≤ 171 }
+{
+    let fives = fives(&shifted(line), 0);
+    ones(fives, size - 4) + 2 * ones(fives & !(fives << 1), size - 4)
 }
 
 /// What the patterns in a line of `size` modules cost.
-#[tactic(auto, using(crate::proofs::Patterns::scanned_none, crate::proofs::Patterns::scanned_more, crate::proofs::Patterns::scanned_all))]
 fn patterns_worth(line: u64, size: usize) -> u32
     requires low { 21 ≤ size }
     requires most { size ≤ 57 }
     ensures worth { result ≡ patterns_worth (bits_line line size) }
-    ensures most { result ≤ 1900 }
+    ensures most { result ≤ 2280 }
 {
-    let mut total = 0;
-    for at in 0..size - 10 {
-        total += window_worth(line >> at & 0x7ff);
-    }
-    total
+    40 * ones(patterns(&shifted(line), 0), size - 10)
 }
 
 /// What a line of `size` modules costs.
@@ -78,7 +105,7 @@ fn line_cost(line: u64, size: usize) -> u32
     requires low { 21 ≤ size }
     requires high { size ≤ 57 }
     ensures cost { result ≡ line_cost (bits_line line size) }
-    ensures most { result ≤ 2000 }
+    ensures most { result ≤ 2500 }
 {
     runs_worth(line, size) + patterns_worth(line, size)
 }
@@ -88,7 +115,7 @@ fn lines_cost(rows: &[u64; 57], size: usize) -> u32
     requires low { 21 ≤ size }
     requires high { size ≤ 57 }
     ensures cost { result ≡ lines_cost (dark rows.now) size }
-    ensures most { result ≤ 114000 }
+    ensures most { result ≤ 142500 }
 {
     let mut total = 0;
     for i in 0..size {
@@ -163,33 +190,45 @@ fn balance_cost(dark: u32, all: u32) -> u32
     10 * ((20 * dark).abs_diff(10 * all) / all)
 }
 
-/// A column of a symbol as a row.
-fn column_line(rows: &[u64; 57], size: usize, column: usize) -> u64
-    requires size { size ≤ 57 }
-    requires column { column < size }
-    ensures { (j : ℕ) → j < size → is_set result j ≡ dark rows.now j column }
-{
-    let mut line = 0;
-    for row in 0..size {
-        if !is_dark(rows[row], column) {
-            continue;
-        }
-        line |= 1 << row;
-    }
-    line
-}
-
-/// The columns of a symbol as rows.
-fn transposed(rows: &[u64; 57], size: usize) -> [u64; 57]
+/// What the runs in the columns cost.
+fn columns_runs(rows: &[u64; 57], size: usize) -> u32
     requires low { 21 ≤ size }
     requires high { size ≤ 57 }
-    ensures { (i j : ℕ) → i < size → j < size → dark result i j ≡ dark rows.now j i }
+    ensures worth { result ≡ sum_below size (λ j. runs_worth (runs (line_from (λ i. dark rows.now i j) 0 size))) }
+    ensures most { result ≤ 10000 }
 {
-    let mut columns = [0; 57];
-    for i in 0..size {
-        columns[i] = column_line(rows, size, i);
+    let mut total = 0;
+    let mut above = 0;
+    for at in 0..size - 4 {
+        let fives = fives(rows, at);
+        total += ones(fives, size) + 2 * ones(fives & !above, size);
+        above = fives;
     }
-    columns
+    total
+}
+
+/// What the patterns in the columns cost.
+fn columns_patterns(rows: &[u64; 57], size: usize) -> u32
+    requires low { 21 ≤ size }
+    requires high { size ≤ 57 }
+    ensures worth { result ≡ sum_below size (λ j. patterns_worth (line_from (λ i. dark rows.now i j) 0 size)) }
+    ensures most { result ≤ 130000 }
+{
+    let mut found = 0;
+    for at in 0..size - 10 {
+        found += ones(patterns(rows, at), size);
+    }
+    40 * found
+}
+
+/// What the columns cost as lines.
+fn columns_cost(rows: &[u64; 57], size: usize) -> u32
+    requires low { 21 ≤ size }
+    requires high { size ≤ 57 }
+    ensures cost { result ≡ lines_cost (λ i j. dark rows.now j i) size }
+    ensures most { result ≤ 140000 }
+{
+    columns_runs(rows, size) + columns_patterns(rows, size)
 }
 
 /// What a finished symbol costs.
@@ -199,10 +238,9 @@ pub fn cost(rows: &[u64; 57], size: usize) -> u32
     requires high { size ≤ 57 }
     ensures { result ≡ cost (dark rows.now) size }
 {
-    let columns = transposed(rows, size);
     let all = (size * size) as u32;
     lines_cost(rows, size)
-        + lines_cost(&columns, size)
+        + columns_cost(rows, size)
         + squares_cost(rows, size)
         + balance_cost(dark_modules(rows, size), all)
 }

@@ -1,11 +1,20 @@
-use Rattle.std.proofs.Common.{arith}
-use Rattle.vp_qr.proofs.Patterns.{scanned_more, scanned_all}
+use Rattle.std.proofs.Common.{◌≡◌, ℕ, ◌+◌, ◌-◌, ◌*◌, ap, sym, ◌∙◌, arith}
+use Rattle.vp_qr.specs.Cost.{is_set, line_from}
+use Rattle.vp_qr.specs.Walk.{dark}
+use Rattle.vp_qr.proofs.Counting.{sum_set, line_moved}
+use Rattle.vp_qr.proofs.Patterns.{found, patterns_are}
 use Rattle.vp_qr.proofs.mask.patterns_worth.Goals as goal
 
-pub loop-at-preserved : goal.loop-at-preserved
-loop-at-preserved c =
-    scanned_more c.args.line c.args.size c.loop-at.at c.loop-at.total c.window_worth-total.result c.loop-at-test.true
-    c.window_worth-total.ensures.worth c.window_worth-total.ensures.most c.loop-at.invariant
-
 pub returns-clause-worth : goal.returns-clause-worth
-returns-clause-worth c = scanned_all c.args.line c.args.size c.loop-at.at c.loop-at.total c.loop-at-test.false (omega arith) c.loop-at.invariant
+returns-clause-worth c =
+    let line : ℕ = c.args.line in
+    let shifts = c.shifted.result in
+    ap (λ n. 40 * n)
+    (c.ones.ensures.value
+    ∙ sum_set c.patterns.result (c.args.size - 10) (λ j. found (line_from (is_set line) j 11))
+    (λ j h. c.patterns.ensures j (omega arith)
+    ∙ ap found (line_moved (λ i. dark shifts i j) (is_set line) 11 0 j (λ k lt. ap (λ i. dark shifts i j) (from_zero k) ∙ c.shifted.ensures k j lt))))
+    ∙ sym (patterns_are (is_set line) c.args.size (omega arith))
+  where
+    from_zero : (k : ℕ) → 0 + k ≡ k
+    from_zero k = omega arith
