@@ -53,6 +53,7 @@ def ticket():
     yield GS + b'!\x11' + b'NIGHT FERRY\n' + GS + b'!\x00'
     yield b'North Quay to Old Harbour\n' + b'Deck 4, berth 27\n'
     yield GS + b'$' + word(150) + b'22 Nov 21:40'
+    yield area(352, 72, 128, 128) + qr(b'NF-0042', 6)
     yield area(496, 0, 80, 200) + ESC + b'T\x01'
     yield ESC + b'E\x01' + b'ADMIT ONE\n' + ESC + b'E\x00' + b'No. 0042\n'
     yield b'\x0c' + GS + b'V\x42\x18'
