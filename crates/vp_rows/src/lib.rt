@@ -11,4 +11,6 @@ mod sheet;
 #[cfg(test)]
 mod streams;
 #[cfg(test)]
+mod symbols;
+#[cfg(test)]
 mod tests;

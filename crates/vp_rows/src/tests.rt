@@ -2,6 +2,7 @@ use crate::pages::PAGES;
 use crate::pieces::{Pieces, Sips};
 use crate::sheet::{sheet, sheets};
 use crate::streams::{STREAMS, Stream};
+use crate::symbols::SYMBOLS;
 use std::alloc::{AllocError, Global};
 use std::process::Abort;
 use std::test::Fail;
@@ -32,25 +33,39 @@ fn paper_of(alloc: Global, stream: &Stream) -> Result<Vec<u8>, AllocError> {
     Ok(paper)
 }
 
-#[test]
-fn each_stream_prints_its_images(rt: HostRuntime) -> Result<(), Fail> {
-    let image = sheet(rt.alloc())?;
-    for stream in STREAMS.iter().chain(PAGES) {
+fn print_their_images(rt: &impl Abort, alloc: Global, streams: &[Stream]) -> Result<(), Fail> {
+    let image = sheet(alloc)?;
+    for stream in streams {
         let name = stream.name;
         let (paper, fault) = print_all(
-            rt.alloc(),
+            alloc,
             stream.language,
-            sheets(rt.alloc(), &image),
+            sheets(alloc, &image),
             stream.bytes,
         )?;
         assert_eq!(rt;
             paper.as_slice(),
-            paper_of(rt.alloc(), stream)?.as_slice(),
+            paper_of(alloc, stream)?.as_slice(),
             "{name}"
         );
         assert_eq!(rt; fault, stream.fault, "{name}");
     }
     Ok(())
+}
+
+#[test]
+fn each_stream_prints_its_images(rt: HostRuntime) -> Result<(), Fail> {
+    print_their_images(&rt, rt.alloc(), STREAMS)
+}
+
+#[test]
+fn each_page_prints_its_images(rt: HostRuntime) -> Result<(), Fail> {
+    print_their_images(&rt, rt.alloc(), PAGES)
+}
+
+#[test]
+fn each_symbol_prints_its_image(rt: HostRuntime) -> Result<(), Fail> {
+    print_their_images(&rt, rt.alloc(), SYMBOLS)
 }
 
 /// The bytes of a stream through a printer, one byte in and one byte out at a time.
@@ -71,15 +86,14 @@ fn cut_into_bytes(alloc: Global, image: &[u8], stream: &Stream) -> Result<(Vec<u
     Ok((paper, state))
 }
 
-#[test]
-fn each_stream_is_cut_into_bytes(rt: HostRuntime) -> Result<(), Fail> {
-    let image = sheet(rt.alloc())?;
-    for stream in STREAMS.iter().chain(PAGES) {
+fn print_the_same_in_bytes(rt: &impl Abort, alloc: Global, streams: &[Stream]) -> Result<(), Fail> {
+    let image = sheet(alloc)?;
+    for stream in streams {
         let name = stream.name;
-        let (paper, state) = cut_into_bytes(rt.alloc(), &image, stream)?;
+        let (paper, state) = cut_into_bytes(alloc, &image, stream)?;
         assert_eq!(rt;
             paper.as_slice(),
-            paper_of(rt.alloc(), stream)?.as_slice(),
+            paper_of(alloc, stream)?.as_slice(),
             "{name}"
         );
         let want = match stream.fault {
@@ -89,6 +103,21 @@ fn each_stream_is_cut_into_bytes(rt: HostRuntime) -> Result<(), Fail> {
         assert_eq!(rt; state, want, "{name}");
     }
     Ok(())
+}
+
+#[test]
+fn each_stream_is_cut_into_bytes(rt: HostRuntime) -> Result<(), Fail> {
+    print_the_same_in_bytes(&rt, rt.alloc(), STREAMS)
+}
+
+#[test]
+fn each_page_is_cut_into_bytes(rt: HostRuntime) -> Result<(), Fail> {
+    print_the_same_in_bytes(&rt, rt.alloc(), PAGES)
+}
+
+#[test]
+fn each_symbol_is_cut_into_bytes(rt: HostRuntime) -> Result<(), Fail> {
+    print_the_same_in_bytes(&rt, rt.alloc(), SYMBOLS)
 }
 
 /// Reads and writes so many bytes a call until it is answered by anything but a failed read or write.
@@ -122,20 +151,14 @@ fn pump(
     Ok((writer.into_inner().bytes, answer))
 }
 
-#[test]
-fn each_front_is_pumped_as_it_prints(rt: HostRuntime) -> Result<(), Fail> {
-    let image = sheet(rt.alloc())?;
-    for stream in STREAMS.iter().chain(PAGES) {
+fn pump_their_fronts(rt: &impl Abort, alloc: Global, streams: &[Stream]) -> Result<(), Fail> {
+    let image = sheet(alloc)?;
+    for stream in streams {
         let name = stream.name;
         for n in 0..stream.bytes.len() + 1 {
             let front = &stream.bytes[..n.min(stream.bytes.len())];
-            let (paper, fault) = print_all(
-                rt.alloc(),
-                stream.language,
-                sheets(rt.alloc(), &image),
-                front,
-            )?;
-            let (pumped, answer) = pump(&rt, rt.alloc(), &image, stream, front, 7, (NEVER, NEVER))?;
+            let (paper, fault) = print_all(alloc, stream.language, sheets(alloc, &image), front)?;
+            let (pumped, answer) = pump(rt, alloc, &image, stream, front, 7, (NEVER, NEVER))?;
             assert_eq!(rt; pumped.as_slice(), paper.as_slice(), "{name}, {n} bytes");
             match answer {
                 Ok(report) => {
@@ -154,35 +177,48 @@ fn each_front_is_pumped_as_it_prints(rt: HostRuntime) -> Result<(), Fail> {
 }
 
 #[test]
-fn a_failed_read_or_write_loses_nothing(rt: HostRuntime) -> Result<(), Fail> {
-    let image = sheet(rt.alloc())?;
-    for stream in STREAMS.iter().chain(PAGES) {
+fn each_front_is_pumped_as_it_prints(rt: HostRuntime) -> Result<(), Fail> {
+    pump_their_fronts(&rt, rt.alloc(), STREAMS)
+}
+
+#[test]
+fn each_front_of_a_page_is_pumped_as_it_prints(rt: HostRuntime) -> Result<(), Fail> {
+    pump_their_fronts(&rt, rt.alloc(), PAGES)
+}
+
+#[test]
+fn each_front_of_a_symbol_is_pumped_as_it_prints(rt: HostRuntime) -> Result<(), Fail> {
+    pump_their_fronts(&rt, rt.alloc(), SYMBOLS)
+}
+
+fn fail_once(rt: &impl Abort, alloc: Global, streams: &[Stream]) -> Result<(), Fail> {
+    let image = sheet(alloc)?;
+    for stream in streams {
         let name = stream.name;
-        let paper = paper_of(rt.alloc(), stream)?;
+        let paper = paper_of(alloc, stream)?;
         for call in 1..12usize {
-            let (pumped, _) = pump(
-                &rt,
-                rt.alloc(),
-                &image,
-                stream,
-                stream.bytes,
-                3,
-                (call, NEVER),
-            )?;
+            let (pumped, _) = pump(&rt, alloc, &image, stream, stream.bytes, 3, (call, NEVER))?;
             assert_eq!(rt; pumped.as_slice(), paper.as_slice(), "{name}, read {call}");
-            let (pumped, _) = pump(
-                &rt,
-                rt.alloc(),
-                &image,
-                stream,
-                stream.bytes,
-                300,
-                (NEVER, call),
-            )?;
+            let (pumped, _) = pump(&rt, alloc, &image, stream, stream.bytes, 300, (NEVER, call))?;
             assert_eq!(rt; pumped.as_slice(), paper.as_slice(), "{name}, write {call}");
         }
     }
     Ok(())
+}
+
+#[test]
+fn a_failed_read_or_write_loses_nothing(rt: HostRuntime) -> Result<(), Fail> {
+    fail_once(&rt, rt.alloc(), STREAMS)
+}
+
+#[test]
+fn a_failed_read_or_write_loses_no_page(rt: HostRuntime) -> Result<(), Fail> {
+    fail_once(&rt, rt.alloc(), PAGES)
+}
+
+#[test]
+fn a_failed_read_or_write_loses_no_symbol(rt: HostRuntime) -> Result<(), Fail> {
+    fail_once(&rt, rt.alloc(), SYMBOLS)
 }
 
 #[test]
