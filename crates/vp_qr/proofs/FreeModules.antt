@@ -1,13 +1,12 @@
 -- Where no data stands, and rows that are made bit by bit.
 use Rattle.std.proofs.Common.{◌≡◌, ℕ, zero, suc, ◌+◌, ◌-◌, ◌*◌, ◌^◌, ◌%◌, ◌<◌, ◌&&◌, ◌||◌, not, Bool, true, false, eqb, ltb, leb, List, length, replicate, get_or, set, get_or-set_same, get_or-set_other, refl, sym, ap, ◌∙◌, inl, inr, arith, bit_or, w64}
-use mathlib.Core.Bool.{beq}
 use Rattle.std.specs.Int.{bit_at}
 use Rattle.std.proofs.lemmas.Bool.{cases_Bool, cases_lt, cases_eq, and_parts, eqb-true, lt-ltb, le-ltb, le-leb}
 use Rattle.std.proofs.lemmas.Nat.Bits.{bit_at_set_same, bit_at_set_other, bit_at-zero}
 use Rattle.vp_qr.specs.Places.{size, corner, reserved}
 use Rattle.vp_qr.specs.Symbol.{finder, module_at, differ, formula}
 use Rattle.vp_qr.specs.Walk.{dark}
-use Rattle.vp_qr.specs.Cost.{is_set}
+use Rattle.vp_qr.specs.Cost.{is_set, same}
 
 or_parts : (a b : Bool) → (a || b) ≡ false → (a ≡ false) × (b ≡ false)
 or_parts true b h = cc
@@ -71,21 +70,26 @@ free_value v format code m f i j h =
     let one = or_parts _ _ two.0 in
     rw (finder_corner s i j one.0, one.1, two.1, three.1, four.1, dark_corner s i j one.0, one.0) refl
 
-not_same : (a b : Bool) → not (beq a b) ≡ differ a b
-not_same true true = refl
-not_same true false = refl
-not_same false true = refl
-not_same false false = refl
-
-pub free_module : (v format code m row column : ℕ) (f : ℕ → ℕ → Bool) (is_free data_is light : Bool) → is_free ≡ true → is_free ≡ not (reserved v row column) → data_is ≡ f row column
-    → light ≡ eqb (formula m row column) 0 → not (beq data_is light) ≡ module_at v format code m f row column
-free_module v format code m row column f is_free data_is light t e d l =
-    let none : reserved v row column ≡ false = not_true (reserved v row column) (sym e ∙ t) in
-    not_same data_is light ∙ ap (λ b. differ b light) d ∙ ap (differ (f row column)) l ∙ sym (free_value v format code m f row column none)
+-- a module of a row: the free ones under the mask, and the others
+pub line_module : (v format code m row column : ℕ) (f : ℕ → ℕ → Bool) (free : Bool) → free ≡ not (reserved v row column)
+    → ((not (same (f row column) (eqb (formula m row column) 0)) && free) || (not free && module_at v format code m f row column)) ≡ module_at v format code m f row column
+line_module v format code m row column f false e = others (not (same (f row column) (eqb (formula m row column) 0))) (module_at v format code m f row column)
   where
-    not_true : (b : Bool) → not b ≡ true → b ≡ false
-    not_true true h = cc
-    not_true false h = refl
+    others : (a b : Bool) → ((a && false) || (true && b)) ≡ b
+    others true b = refl
+    others false b = refl
+line_module v format code m row column f true e =
+    flipped (f row column) (eqb (formula m row column) 0) (module_at v format code m f row column) ∙ sym (free_value v format code m f row column (none (reserved v row column) e))
+  where
+    flipped : (a b c : Bool) → ((not (same a b) && true) || (false && c)) ≡ differ a b
+    flipped true true c = refl
+    flipped true false c = refl
+    flipped false true c = refl
+    flipped false false c = refl
+
+    none : (b : Bool) → true ≡ not b → b ≡ false
+    none true h = cc
+    none false h = refl
 
 -- the bits of a row below a column
 pub record Made (f : ℕ → Bool) (line column : ℕ) : Type 0 where

@@ -11,6 +11,7 @@ pub mod Writing
 pub mod Lengths
 pub mod BlockTable
 pub mod FreeModules
+pub mod Flips
 pub mod InkRuns
 pub mod Encodings
 pub mod Choosing

@@ -1,6 +1,6 @@
 //! The modules of a finished symbol: patterns, format and version by their places, and data under a mask.
 
-ghost use Rattle.std.specs.Prelude.{◌≡◌, ◌==◌, ◌<◌, ◌≤◌, not, ℕ, true};
+ghost use Rattle.std.specs.Prelude.{◌≡◌, ◌==◌, ◌<◌, ◌≤◌, ◌&&◌, not, ℕ, true};
 ghost use Rattle.vp_qr.specs.Places.{size, corner, alignment, version_area, reserved};
 ghost use Rattle.vp_qr.specs.Cost.{is_set};
 ghost use Rattle.vp_qr.specs.Symbol.{apart, ring, finder, finder_centre, finder_dark, alignment_centre, alignment_dark, format_bit, version_bit, formula, module_at};
@@ -204,9 +204,23 @@ pub fn is_dark_at(grid: &[u64; 57], row: usize, column: usize) -> bool
     is_dark(grid[row], column)
 }
 
-/// A module of the finished symbol; the free ones, which are most, are known beforehand.
+/// The columns in which a mask flips a row's data modules. They repeat after six.
+fn flips(mask: usize, row: usize) -> u64
+    requires { row < 57 }
+    ensures { (j : ℕ) → j < 57 → is_set result j ≡ (formula mask row j == 0) }
+{
+    let mut six = 0;
+    for column in 0..6 {
+        if formula(mask, row, column) != 0 {
+            continue;
+        }
+        six |= 1 << column;
+    }
+    six * 0x0041_0410_4104_1041
+}
 
-fn module(
+/// A dark module that isn't free.
+fn is_dark_reserved(
     version: usize,
     format: u64,
     code: u64,
@@ -220,16 +234,38 @@ fn module(
     requires version { version ≤ 10 }
     requires row { row < size version }
     requires column { column < size version }
-    requires free { dark free.now row column ≡ not (reserved version row column) }
-    ensures { result ≡ module_at version format code mask (dark grid.now) row column }
+    ensures { result ≡ (not (dark free.now row column) && module_at version format code mask (dark grid.now) row column) }
 {
-    if is_dark_at(free, row, column) {
-        return is_dark_at(grid, row, column) != (formula(mask, row, column) == 0);
-    }
-    module_by_place(version, format, code, mask, grid, row, column)
+    !is_dark_at(free, row, column)
+        && module_by_place(version, format, code, mask, grid, row, column)
 }
 
-/// A row of the finished symbol.
+/// The modules of a row of the finished symbol that aren't free.
+fn reserved_line(
+    version: usize,
+    format: u64,
+    code: u64,
+    mask: usize,
+    grid: &[u64; 57],
+    free: &[u64; 57],
+    row: usize,
+) -> u64
+    requires low { 1 ≤ version }
+    requires version { version ≤ 10 }
+    requires row { row < size version }
+    ensures { (j : ℕ) → j < size version → is_set result j ≡ (not (dark free.now row j) && module_at version format code mask (dark grid.now) row j) }
+{
+    let mut line = 0;
+    for column in 0..17 + 4 * version {
+        if !is_dark_reserved(version, format, code, mask, grid, free, row, column) {
+            continue;
+        }
+        line |= 1 << column;
+    }
+    line
+}
+
+/// A row of the finished symbol: the free modules, which are most, under the mask, and the others.
 fn line(
     version: usize,
     format: u64,
@@ -245,14 +281,8 @@ fn line(
     requires free { (j : ℕ) → j < size version → dark free.now row j ≡ not (reserved version row j) }
     ensures { (j : ℕ) → j < size version → is_set result j ≡ module_at version format code mask (dark grid.now) row j }
 {
-    let mut line = 0;
-    for column in 0..17 + 4 * version {
-        if !module(version, format, code, mask, grid, free, row, column) {
-            continue;
-        }
-        line |= 1 << column;
-    }
-    line
+    let data = (grid[row] ^ flips(mask, row)) & free[row];
+    data | reserved_line(version, format, code, mask, grid, free, row)
 }
 
 /// The finished symbol, from its data modules and the free ones.
