@@ -1,7 +1,7 @@
 -- The first dots of a row from one of its dots on.
 use Rattle.std.proofs.Common.{Bool, List, [], ap, arith, drop, eq-eqb, eqb, false, get_or, inl, inr, length, length-drop, ltb, min, not, pos, refl, suc, sym, take, true, zero, ℕ, ℤ, ◌%◌, ◌&&◌, ◌*◌, ◌+◌, ◌-ℤ◌, ◌-◌, ◌/◌, ◌<◌, ◌||◌, ◌∙◌, ◌∷◌, ◌≡◌, ◌≤◌}
 use Rattle.std.proofs.lemmas.Int.{ints}
-use Rattle.std.proofs.lemmas.List.{take_all}
+use Rattle.std.proofs.lemmas.List.{get_or_past, take_all}
 use Rattle.std.proofs.lemmas.Bool.{cases_Bool, cases_eq, ne_eqb, cases_lt, le-ltb, lt-ltb, le-leb, lt-leb}
 use Rattle.std.proofs.lemmas.Bool.Decides.{nat_tests}
 use Rattle.std.specs.Int.{bit_at}
@@ -21,14 +21,23 @@ left_by z n f d e = elim (met z d) [
   | inr q ↦ absurd (q.0 (d + n) (omega (arith, ints)))
 ]
 
-zeros : (i : ℕ) → get_or {A = ℕ} (0 ∷ 0 ∷ []) i 0 ≡ 0
-zeros zero = refl
-zeros (suc zero) = refl
-zeros (suc (suc i)) = refl
+-- two white bytes
+white_bytes : (a : List ℕ) → length a ≡ 2 → get_or a 0 0 ≡ 0 → get_or a 1 0 ≡ 0 → (i : ℕ) → get_or a i 0 ≡ 0
+white_bytes a l e f zero = e
+white_bytes a l e f (suc zero) = f
+white_bytes a l e f (suc (suc i)) = get_or_past a (suc (suc i)) 0 (omega (arith, l))
+
+pub white_dots : (a : List ℕ) → length a ≡ 2 → get_or a 0 0 ≡ 0 → get_or a 1 0 ≡ 0 → (x : ℕ) → dot a x ≡ false
+unfolding dot bit
+white_dots a l e f x = ap (λ n. eqb (bit_at n (7 - x % 8)) 1) (white_bytes a l e f (x / 8)) ∙ ap (λ n. eqb n 1) (bit_at-zero (7 - x % 8))
 
 pub no_dots : (x : ℕ) → dot (0 ∷ 0 ∷ []) x ≡ false
-unfolding dot bit
-no_dots x = ap (λ n. eqb (bit_at n (7 - x % 8)) 1) (zeros (x / 8)) ∙ ap (λ n. eqb n 1) (bit_at-zero (7 - x % 8))
+no_dots x = white_dots (0 ∷ 0 ∷ []) refl refl refl x
+
+-- no dot of a part of no dots
+pub and_white : (t : Bool) {b : Bool} → b ≡ false → (t && b) ≡ false
+and_white true e = e
+and_white false e = refl
 
 pub black_is : (i old : Bool) → old ≡ false → paint Black i old ≡ i
 black_is true old e = refl

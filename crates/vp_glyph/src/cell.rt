@@ -146,6 +146,9 @@ impl Cell<'_> {
         requires { (x : ℕ) → dot dots x ≡ true → x < font_width self.now.font }
         ensures { Painted op (shifted at (λ x. nat_lt x (font_width self.now.font * self.now.style.wm) && dot dots (x / self.now.style.wm))) row.old row.new }
     {
+        if dots[0] == 0 && dots[1] == 0 {
+            return;
+        }
         let wm = u32::from(self.style.wm);
         if wm == 1 {
             paint_dots(op, &dots, at, row);
