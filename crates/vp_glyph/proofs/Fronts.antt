@@ -1,25 +1,15 @@
 -- The first dots of a row from one of its dots on.
-use Rattle.std.proofs.Common.{Bool, List, [], ap, arith, drop, eq-eqb, eqb, false, get_or, inl, inr, length, length-drop, ltb, min, not, pos, refl, suc, sym, take, true, zero, ℕ, ℤ, ◌%◌, ◌&&◌, ◌*◌, ◌+◌, ◌-ℤ◌, ◌-◌, ◌/◌, ◌<◌, ◌||◌, ◌∙◌, ◌∷◌, ◌≡◌, ◌≤◌}
-use Rattle.std.proofs.lemmas.Int.{ints}
-use Rattle.std.proofs.lemmas.List.{get_or_past, take_all}
+use Rattle.std.proofs.Common.{Bool, List, [], ap, arith, bit_and, cond, eq-eqb, eqb, false, get_or, inl, inr, length, ltb, min, not, pos, refl, suc, sym, true, zero, ℕ, ◌%◌, ◌&&◌, ◌*◌, ◌+◌, ◌-◌, ◌/◌, ◌<◌, ◌||◌, ◌∙◌, ◌∷◌, ◌≡◌, ◌≤◌}
+use Rattle.std.proofs.lemmas.List.{get_or_past}
 use Rattle.std.proofs.lemmas.Bool.{cases_Bool, cases_eq, ne_eqb, cases_lt, le-ltb, lt-ltb, le-leb, lt-leb}
 use Rattle.std.proofs.lemmas.Bool.Decides.{nat_tests}
 use Rattle.std.specs.Int.{bit_at}
-use Rattle.std.proofs.lemmas.Nat.Bits.{bit_at-zero}
+use Rattle.std.proofs.lemmas.Nat.Bits.{bit_at_and, bit_at_ones, bit_at-lt, bit_at-zero}
 use Rattle.vp_dots.specs.Dots.{bit, dot, shifted, span}
 use Rattle.vp_dots.specs.Painting.{paint, Painted}
 use Rattle.vp_dots.specs.declared.Op.TheVariants.{Black, White, Flip}
 use Rattle.vp_glyph.specs.Sheets.{Glyphs, glyph_dot}
-use Rattle.vp_dots.proofs.Parts.{dot-drop}
-use Rattle.vp_dots.proofs.Rows.{dot_past}
-use Rattle.vp_dots.proofs.Shifts.{met}
-
--- moved to the left
-pub left_by : (z : ℤ) (n : ℕ) (f : ℕ → Bool) (d : ℕ) → z ≡ pos 0 -ℤ pos n → shifted z f d ≡ f (d + n)
-left_by z n f d e = elim (met z d) [
-  | inl p ↦ (let w = p.1 in let i : p.0 ≡ d + n = omega (arith, ints) in p.2 f ∙ ap f i)
-  | inr q ↦ absurd (q.0 (d + n) (omega (arith, ints)))
-]
+use Rattle.vp_dots.proofs.Rows.{dot_at, dot_past}
 
 -- two white bytes
 white_bytes : (a : List ℕ) → length a ≡ 2 → get_or a 0 0 ≡ 0 → get_or a 1 0 ≡ 0 → (i : ℕ) → get_or a i 0 ≡ 0
@@ -43,15 +33,6 @@ pub black_is : (i old : Bool) → old ≡ false → paint Black i old ≡ i
 black_is true old e = refl
 black_is false old e = e
 
--- copied by the kernel
-copied : (row a : List ℕ) (from : ℕ) (z : ℤ) → z ≡ pos 0 -ℤ pos (from % 8) → Painted Black (shifted z (dot (take (length row - from / 8) (drop (from / 8) row)))) (0 ∷ 0 ∷ []) a → (x : ℕ) → x < 16 → dot a x ≡ dot row (from + x)
-copied row a from z e p x k =
-    let rest : List ℕ = drop (from / 8) row in
-    let all : take (length row - from / 8) rest ≡ rest = take_all (length row - from / 8) rest (let d = length-drop (from / 8) row in omega (arith, d)) in
-    let place : 8 * (from / 8) + (x + from % 8) ≡ from + x = omega arith in
-    p.dots_are x k ∙ black_is (shifted z (dot (take (length row - from / 8) rest)) x) (dot (0 ∷ 0 ∷ []) x) (no_dots x)
-    ∙ left_by z (from % 8) (dot (take (length row - from / 8) rest)) x e ∙ ap (λ (r : List ℕ). dot r (x + from % 8)) all ∙ dot-drop row (from / 8) (x + from % 8) ∙ ap (dot row) place
-
 -- cut
 pub cut : (a b : List ℕ) (most : ℕ) → length a ≡ 2 → most ≤ 16 → Painted White (span most 16) a b → (x : ℕ) → dot b x ≡ (ltb x most && dot a x)
 cut a b most long m q x =
@@ -64,12 +45,38 @@ cut a b most long m q x =
       | inr g ↦ dot_past b x (omega arith) ∙ rw (le-ltb x most (omega arith)) refl
     ]
 
--- copied and cut
-pub front_is : (row a b : List ℕ) (from most : ℕ) (z : ℤ) → most ≤ 16 → z ≡ pos 0 -ℤ pos (from % 8)
-    → Painted Black (shifted z (dot (take (length row - from / 8) (drop (from / 8) row)))) (0 ∷ 0 ∷ []) a → Painted White (span most 16) a b → (x : ℕ) → dot b x ≡ (ltb x most && dot row (from + x))
-front_is row a b from most z m e p q x = cut a b most p.length_is m q x ∙ elim (cases_lt x most) [
-  | inl y ↦ rw (lt-ltb x most y) (copied row a from z e p x (omega arith))
-  | inr n ↦ rw (le-ltb x most n) refl
+-- the first bits of a byte
+of_and : (x y : ℕ) → x < 2 → y < 2 → eqb (min x y) 1 ≡ (eqb y 1 && eqb x 1)
+of_and x y p q = grind (arith, nat_tests)
+
+pub cut_bits : (a mask k : ℕ) (t f : Bool) → bit mask k ≡ t → bit a k ≡ f → bit (bit_and a mask) k ≡ (t && f)
+unfolding bit
+cut_bits a mask k t f d e = rw (bit_at_and a mask k) (of_and _ _ (bit_at-lt a k) (bit_at-lt mask k) ∙ ap (λ u. u && eqb (bit_at a k) 1) d ∙ ap (λ u. t && u) e)
+
+pub mask_bits : (most k : ℕ) → most ≤ 8 → k < 8 → cond (ltb (k + most) 8) (bit 0 (k + most)) (bit 255 (k + most - 8)) ≡ ltb (7 - k) most
+unfolding bit
+mask_bits most k m h = elim (cases_lt (k + most) 8) [
+  | inl l ↦ rw (lt-ltb (k + most) 8 l, bit_at-zero (k + most), le-ltb (7 - k) most (omega arith)) refl
+  | inr g ↦ rw (le-ltb (k + most) 8 g, bit_at_ones 8 (k + most - 8) (omega arith), lt-ltb (7 - k) most (omega arith)) refl
+]
+
+-- the first dots behind one, in two bytes
+pub front_is : (a b from most : ℕ) (row : List ℕ) → most ≤ 16 → ((k : ℕ) → k < 8 → bit a k ≡ (ltb (7 - k) (min most 8) && dot row (8 * (from / 8) + (7 - k) + from % 8)))
+    → ((k : ℕ) → k < 8 → bit b k ≡ (ltb (7 - k) (most - 8) && dot row (8 * (from / 8 + 1) + (7 - k) + from % 8))) → (x : ℕ) → dot (a ∷ b ∷ []) x ≡ (ltb x most && dot row (from + x))
+front_is a b from most row m p q x = elim (cases_lt x 8) [
+  | inl k ↦
+      (let same : 7 - (7 - x) ≡ x = omega arith in
+      let place : 8 * (from / 8) + x + from % 8 ≡ from + x = omega arith in
+      let inside : ltb x (min most 8) ≡ ltb x most = grind (arith, nat_tests) in
+      ap (dot (a ∷ b ∷ [])) (let e : x ≡ 8 * 0 + (7 - (7 - x)) = omega arith in e) ∙ dot_at (a ∷ b ∷ []) 0 (7 - x) (omega arith) ∙ p (7 - x) (omega arith) ∙ rw (same, place, inside) refl)
+  | inr g ↦ elim (cases_lt x 16) [
+    | inl k ↦
+        (let same : 7 - (15 - x) ≡ x - 8 = omega arith in
+        let place : 8 * (from / 8 + 1) + (x - 8) + from % 8 ≡ from + x = omega arith in
+        let inside : ltb (x - 8) (most - 8) ≡ ltb x most = grind (arith, nat_tests) in
+        ap (dot (a ∷ b ∷ [])) (let e : x ≡ 8 * 1 + (7 - (15 - x)) = omega arith in e) ∙ dot_at (a ∷ b ∷ []) 1 (15 - x) (omega arith) ∙ q (15 - x) (omega arith) ∙ rw (same, place, inside) refl)
+    | inr past ↦ dot_past (a ∷ b ∷ []) x (omega arith) ∙ rw (le-ltb x most (omega arith)) refl
+  ]
 ]
 
 black_old : (i old : Bool) → paint Black i old ≡ (old || i)

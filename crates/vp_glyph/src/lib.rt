@@ -7,6 +7,7 @@ ghost use Rattle.vp_glyph.specs.Blocks.{pitch};
 mod block;
 mod cell;
 mod few;
+mod front;
 mod header;
 mod lines;
 mod sampled;

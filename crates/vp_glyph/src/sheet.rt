@@ -4,11 +4,12 @@ ghost use Rattle.vp_dots.specs.Dots.{dot};
 ghost use Rattle.vp_glyph.specs.Sheets.{glyph_dot, sheet_dot};
 ghost use Rattle.vp_glyph.specs.Reading.{sheet_of, number_of};
 
+use crate::front::front_of;
 use crate::header::header_behind;
 use std::alloc::{AllocError, Global};
 use std::marker::Model;
 use thiserror::Error;
-use vp_dots::{Op, dot_of, fill_dots, or_into};
+use vp_dots::dot_of;
 
 /// Why a text is no sheet, in the order in which it is looked at.
 #[derive(Debug, Drop, PartialEq, Eq, Error)]
@@ -145,18 +146,6 @@ pub fn dot_in(sheet: &Option<Sheet>, c: u8, x: u32, y: u32) -> bool
         Some(sheet) => sheet.dot(c, x, y),
         None => false,
     }
-}
-
-/// The first dots of a row from one of its dots on.
-fn front_of(row: &[u8], from: u32, most: u32) -> [u8; 2]
-    requires most { most ≤ 16 }
-    requires from { from ≤ 8 * length row.now }
-    ensures { (x : ℕ) → dot result x ≡ (nat_lt x most && dot row.now (from + x)) }
-{
-    let mut dots = [0; 2];
-    or_into(&row[(from / 8) as usize..], -i64::from(from % 8), &mut dots);
-    fill_dots(Op::White, u64::from(most), 16, &mut dots);
-    dots
 }
 
 /// The first dots of a row of a cell of a sheet, white without a sheet.
