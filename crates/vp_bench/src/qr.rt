@@ -20,16 +20,18 @@ fn mask(digits: &[u8]) -> usize {
 
 /// Prints the times.
 pub fn run(rt: &(impl Clock + Print)) -> Result<()> {
-    let digits = [b'7'; 513];
+    let mut digits = [b'7'; 513];
     for (i, n) in DIGITS.iter().enumerate() {
-        let digits = &digits[..(*n).min(513)];
-        let mut chosen = 0;
-        let took = least(rt, ROUNDS, || chosen = mask(digits))?;
+        let mut masks = 0usize;
+        let took = least(rt, ROUNDS, || {
+            digits[0] = b'0' + digits[0] % 10;
+            masks = masks.wrapping_add(mask(&digits[..(*n).min(513)]));
+        })?;
         let version = i + 1;
         let size = 17 + 4 * version;
         let tested = 8 * size * size;
         println!(rt;
-            "version {version}, mask {chosen}: {:.0} symbols/s, {:.3} ms each, {tested} modules tested",
+            "version {version}, masks that add up to {masks}: {:.0} symbols/s, {:.3} ms each, {tested} modules tested",
             1e9 / took,
             took / 1e6
         )?;
