@@ -4,7 +4,7 @@ use Rattle.std.proofs.lemmas.List.{get_or_past}
 use Rattle.std.proofs.lemmas.Bool.{cases_Bool, cases_eq, ne_eqb, cases_lt, le-ltb, lt-ltb, le-leb, lt-leb}
 use Rattle.std.proofs.lemmas.Bool.Decides.{nat_tests}
 use Rattle.std.specs.Int.{bit_at}
-use Rattle.std.proofs.lemmas.Nat.Bits.{bit_at_and, bit_at_ones, bit_at-lt, bit_at-zero}
+use Rattle.std.proofs.lemmas.Nat.Bits.{bit_at_and, bit_at_cat_high, bit_at_cat_low, bit_at_ones, bit_at-lt, bit_at-zero}
 use Rattle.vp_dots.specs.Dots.{bit, dot, shifted, span}
 use Rattle.vp_dots.specs.Painting.{paint, Painted}
 use Rattle.vp_dots.specs.declared.Op.TheVariants.{Black, White, Flip}
@@ -53,22 +53,36 @@ pub cut_bits : (a mask k : ℕ) (t f : Bool) → bit mask k ≡ t → bit a k �
 unfolding bit
 cut_bits a mask k t f d e = rw (bit_at_and a mask k) (of_and _ _ (bit_at-lt a k) (bit_at-lt mask k) ∙ ap (λ u. u && eqb (bit_at a k) 1) d ∙ ap (λ u. t && u) e)
 
-pub mask_bits : (most k : ℕ) → most ≤ 8 → k < 8 → cond (ltb (k + most) 8) (bit 0 (k + most)) (bit 255 (k + most - 8)) ≡ ltb (7 - k) most
+pub left_mask : (most k : ℕ) → most ≤ 16 → k < 8 → cond (ltb (k + most) 8) (bit 0 (k + most)) (bit 65535 (k + most - 8)) ≡ ltb (7 - k) most
 unfolding bit
-mask_bits most k m h = elim (cases_lt (k + most) 8) [
+left_mask most k m h = elim (cases_lt (k + most) 8) [
   | inl l ↦ rw (lt-ltb (k + most) 8 l, bit_at-zero (k + most), le-ltb (7 - k) most (omega arith)) refl
-  | inr g ↦ rw (le-ltb (k + most) 8 g, bit_at_ones 8 (k + most - 8) (omega arith), lt-ltb (7 - k) most (omega arith)) refl
+  | inr g ↦ rw (le-ltb (k + most) 8 g, bit_at_ones 16 (k + most - 8) (omega arith), lt-ltb (7 - k) most (omega arith)) refl
 ]
 
+pub right_mask : (most k : ℕ) → most ≤ 16 → k < 8 → cond (ltb (k + most) 8) (bit 0 (k + most)) (bit 16776960 (k + most - 8)) ≡ ltb (7 - k) (most - 8)
+unfolding bit
+right_mask most k m h = elim (cases_lt (k + most) 8) [
+  | inl l ↦ rw (lt-ltb (k + most) 8 l, bit_at-zero (k + most), le-ltb (7 - k) (most - 8) (omega arith)) refl
+  | inr g ↦ elim (cases_lt (k + most - 8) 8) [
+    | inl l ↦ rw (le-ltb (k + most) 8 g, bit_at_cat_low 65535 8 0 (k + most - 8) l, bit_at-zero (k + most - 8), le-ltb (7 - k) (most - 8) (omega arith)) refl
+    | inr f ↦ rw (le-ltb (k + most) 8 g, bit_at_cat_high 65535 8 0 (k + most - 8) (omega arith) f, bit_at_ones 16 (k + most - 8 - 8) (omega arith), lt-ltb (7 - k) (most - 8) (omega arith)) refl
+  ]
+]
+
+-- of two bytes and a third the last two matter
+pub low_byte : (a b c s k : ℕ) → b < 256 → s < 8 → k < 8 → cond (ltb (k + (8 - s)) 8) (bit c (k + (8 - s))) (bit (a * 256 + b) (k + (8 - s) - 8)) ≡ cond (ltb (k + (8 - s)) 8) (bit c (k + (8 - s))) (bit b (k + (8 - s) - 8))
+unfolding bit
+low_byte a b c s k l m h = ap (λ n. cond (ltb (k + (8 - s)) 8) (eqb (bit_at c (k + (8 - s))) 1) (eqb n 1)) (bit_at_cat_low a 8 b (k + (8 - s) - 8) (omega arith))
+
 -- the first dots behind one, in two bytes
-pub front_is : (a b from most : ℕ) (row : List ℕ) → most ≤ 16 → ((k : ℕ) → k < 8 → bit a k ≡ (ltb (7 - k) (min most 8) && dot row (8 * (from / 8) + (7 - k) + from % 8)))
+pub front_is : (a b from most : ℕ) (row : List ℕ) → most ≤ 16 → ((k : ℕ) → k < 8 → bit a k ≡ (ltb (7 - k) most && dot row (8 * (from / 8) + (7 - k) + from % 8)))
     → ((k : ℕ) → k < 8 → bit b k ≡ (ltb (7 - k) (most - 8) && dot row (8 * (from / 8 + 1) + (7 - k) + from % 8))) → (x : ℕ) → dot (a ∷ b ∷ []) x ≡ (ltb x most && dot row (from + x))
 front_is a b from most row m p q x = elim (cases_lt x 8) [
   | inl k ↦
       (let same : 7 - (7 - x) ≡ x = omega arith in
       let place : 8 * (from / 8) + x + from % 8 ≡ from + x = omega arith in
-      let inside : ltb x (min most 8) ≡ ltb x most = grind (arith, nat_tests) in
-      ap (dot (a ∷ b ∷ [])) (let e : x ≡ 8 * 0 + (7 - (7 - x)) = omega arith in e) ∙ dot_at (a ∷ b ∷ []) 0 (7 - x) (omega arith) ∙ p (7 - x) (omega arith) ∙ rw (same, place, inside) refl)
+      ap (dot (a ∷ b ∷ [])) (let e : x ≡ 8 * 0 + (7 - (7 - x)) = omega arith in e) ∙ dot_at (a ∷ b ∷ []) 0 (7 - x) (omega arith) ∙ p (7 - x) (omega arith) ∙ rw (same, place) refl)
   | inr g ↦ elim (cases_lt x 16) [
     | inl k ↦
         (let same : 7 - (15 - x) ≡ x - 8 = omega arith in

@@ -10,30 +10,29 @@ fn byte_at(row: &[u8], i: usize) -> u8
     if i < row.len() { row[i] } else { 0 }
 }
 
-/// Eight bits out of two bytes, s from the right.
-#[tactic(auto, using(vp_dots::proofs::Windows::window_bit))]
+/// Bytes i, i + 1 and i + 2, or 0 for those past the end.
 #[inline(always)]
-fn window(hi: u8, lo: u8, s: u32) -> u8
-    requires { s ≤ 8 }
-    ensures { (k : ℕ) → k < 8 → bit result k ≡ (if nat_lt (k + s) 8 then bit lo (k + s) else bit hi (k + s - 8)) }
+fn bytes_at(row: &[u8], i: usize) -> (u8, u8, u8)
+    requires { i < 2 ^ 31 }
+    ensures first { result.0 ≡ slice_index row.now i }
+    ensures second { result.1 ≡ slice_index row.now (i + 1) }
+    ensures third { result.2 ≡ slice_index row.now (i + 2) }
 {
-    (((u32::from(hi) * 256 + u32::from(lo)) >> s) & 255) as u8
+    if i + 2 < row.len() {
+        return (row[i], row[i + 1], row[i + 2]);
+    }
+    (byte_at(row, i), byte_at(row, i + 1), byte_at(row, i + 2))
 }
 
-/// The first dots of the eight that stand s dots behind the front of byte i.
+/// Eight bits out of a number and a byte below it, s from the right.
+#[tactic(auto, using(vp_dots::proofs::Windows::window_bit))]
 #[inline(always)]
-fn dots_behind(row: &[u8], i: u32, s: u32, most: u32) -> u8
-    requires i { i < 2 ^ 31 }
-    requires s { s < 8 }
-    requires most { most ≤ 8 }
-    ensures { (k : ℕ) → k < 8 → bit result k ≡ (nat_lt (7 - k) most && dot row.now (8 * i + (7 - k) + s)) }
+fn window(hi: u32, lo: u8, s: u32) -> u8
+    requires hi { hi < 2 ^ 24 }
+    requires s { s ≤ 16 }
+    ensures { (k : ℕ) → k < 8 → bit result k ≡ (if nat_lt (k + s) 8 then bit lo (k + s) else bit hi (k + s - 8)) }
 {
-    let dots = window(
-        byte_at(row, i as usize),
-        byte_at(row, i as usize + 1),
-        8 - s,
-    );
-    dots & window(0xff, 0, most)
+    (((hi * 256 + u32::from(lo)) >> s) & 255) as u8
 }
 
 /// The first dots of a row from one of its dots on.
@@ -42,9 +41,13 @@ pub fn front_of(row: &[u8], from: u32, most: u32) -> [u8; 2]
     requires from { from ≤ 8 * length row.now }
     ensures { (x : ℕ) → dot result x ≡ (nat_lt x most && dot row.now (from + x)) }
 {
-    let (i, s) = (from / 8, from % 8);
+    let (first, second, third) = bytes_at(row, (from / 8) as usize);
+    let s = 8 - from % 8;
+    let two = u32::from(first) * 256 + u32::from(second);
+    let left = window(u32::from(first), second, s);
+    let right = window(two, third, s);
     [
-        dots_behind(row, i, s, most.min(8)),
-        dots_behind(row, i + 1, s, most.saturating_sub(8)),
+        left & window(0xffff, 0, most),
+        right & window(0xff_ff00, 0, most),
     ]
 }
