@@ -1,8 +1,9 @@
 -- Bytes with their bits reversed.
-use Rattle.std.proofs.Common.{inl, inr, ◌≡◌, ℕ, zero, suc, ◌+◌, ◌-◌, ◌*◌, ◌/◌, ◌%◌, ◌<◌, eqb, sym, ap, ◌∙◌, arith}
+use Rattle.std.proofs.Common.{inl, inr, ◌≡◌, ℕ, zero, suc, ◌+◌, ◌-◌, ◌*◌, ◌/◌, ◌%◌, ◌^◌, ◌<◌, Bool, true, false, ◌&&◌, eqb, eq-eqb, refl, sym, ap, ◌∙◌, arith}
 use Rattle.std.specs.Int.{bit_at, reverse_bits_onto}
-use Rattle.std.proofs.lemmas.Nat.Bits.{bit_at_lowest, bit_at-suc}
-use Rattle.std.proofs.lemmas.Bool.{cases_lt}
+use Rattle.std.proofs.lemmas.Nat.Bits.{bit_at-zero, bit_at_lowest, bit_at-suc, bit_at-pow_same, bit_at-pow_other}
+use Rattle.std.proofs.lemmas.Nat.{pow_below}
+use Rattle.std.proofs.lemmas.Bool.{cases_eq, cases_lt, ne_eqb}
 use Rattle.vp_dots.specs.Dots.{bit}
 
 above : (a b i : ℕ) → b < 2 → bit_at (a * 2 + b) (suc i) ≡ bit_at a i
@@ -28,3 +29,19 @@ onto (suc k) n a i h = elim (cases_lt i k) [
 pub bit_reversed : (n i : ℕ) → i < 8 → bit (reverse_bits_onto 8 n 0) i ≡ bit n (7 - i)
 unfolding bit
 bit_reversed n i h = ap (λ b. eqb b 1) (onto 8 n 0 i h ∙ ap (bit_at n) (let e : 8 - 1 - i ≡ 7 - i = omega arith in e))
+
+and_false : (b : Bool) → (b && false) ≡ false
+and_false true = refl
+and_false false = refl
+
+-- a bit alone, at a place of a byte
+pub bit_moved : (b p k : ℕ) → b < 2 → p < 8 → bit (b * 2 ^ p % 256) k ≡ (eqb k p && eqb b 1)
+unfolding bit
+bit_moved zero p k h l = ap (λ n. eqb n 1) (ap (λ n. bit_at n k) (let e : 0 * 2 ^ p % 256 ≡ 0 = omega arith in e) ∙ bit_at-zero k) ∙ sym (and_false (eqb k p))
+bit_moved (suc zero) p k h l =
+    let e : 1 * 2 ^ p % 256 ≡ 2 ^ p = omega (arith, pow_below p 8 l) in
+    rw e (elim (cases_eq k p) as (λ _. eqb (bit_at (2 ^ p) k) 1 ≡ (eqb k p && true)) [
+      | inl y ↦ rw y (rw (bit_at-pow_same p) (ap (λ t. t && true) (sym (eq-eqb p p refl))))
+      | inr n ↦ rw (bit_at-pow_other p k n) (ap (λ t. t && true) (sym (ne_eqb k p n)))
+    ])
+bit_moved (suc (suc b)) p k h l = absurd (omega arith)

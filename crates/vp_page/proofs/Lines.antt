@@ -1,5 +1,5 @@
 -- Lines of dots that are cut and turned.
-use Rattle.std.proofs.Common.{inl, inr, ◌≡◌, ℕ, ◌+◌, ◌-◌, ◌*◌, ◌/◌, ◌%◌, ◌<◌, ◌≤◌, Bool, true, false, cond, ltb, leb, ◌&&◌, ◌||◌, refl, sym, ap, ◌∙◌, arith, List, [], ◌∷◌, length, get_or, replicate, reverse, ℤ, pos, ◌+ℤ◌}
+use Rattle.std.proofs.Common.{inl, inr, ◌≡◌, ℕ, ◌+◌, ◌-◌, ◌*◌, ◌/◌, ◌%◌, ◌<◌, ◌≤◌, Bool, true, false, cond, eqb, ltb, leb, ◌&&◌, ◌||◌, refl, sym, ap, ◌∙◌, arith, List, [], ◌∷◌, length, get_or, set, replicate, reverse, ℤ, pos, ◌+ℤ◌}
 use Rattle.std.specs.Int.{reverse_bits_onto}
 use Rattle.std.proofs.lemmas.Int.{ints}
 use Rattle.std.proofs.lemmas.List.{get_or-reverse, length-replicate}
@@ -7,10 +7,13 @@ use Rattle.std.proofs.lemmas.Bool.{cases_lt, false_from_ne_true, lt-ltb, le-ltb,
 use Rattle.std.proofs.lemmas.Bool.Decides.{nat_tests}
 use Rattle.vp_dots.specs.Dots.{bit, dot, shifted, span}
 use Rattle.vp_dots.specs.Painting.{Painted}
+use Rattle.vp_dots.specs.Places.{RowsPainted}
 use Rattle.vp_dots.specs.declared.Op.TheVariants.{Black, White}
+use Rattle.vp_dots.proofs.Paints.{painted_same}
+use Rattle.vp_dots.proofs.Placing.{rows_more}
 use Rattle.vp_page.proofs.Blank.{dot_white}
 use Rattle.vp_page.proofs.Bytes.{bit_reversed}
-use Rattle.vp_page.proofs.Rows.{dot_past, dot_zero, met}
+use Rattle.vp_page.proofs.Rows.{dot_past, dot_zero, met, rows_same}
 
 white_past : (end n d : ℕ) (b : Bool) → d < n → cond (leb end d && ltb d n) false b ≡ (ltb d end && b)
 white_past end n d true h = grind (arith, nat_tests)
@@ -60,6 +63,25 @@ backward end n long x at f r s t p = elim (met at x) [
     | inr g ↦ absurd (m.0 (x + n - end) (omega (arith, ints)))
   ])
 ]
+
+dot_first : (byte u : ℕ) → u < 8 → dot (byte ∷ []) u ≡ bit byte (7 - u)
+unfolding dot
+dot_first byte u h =
+    let q : u / 8 ≡ 0 = omega arith in
+    let r : u % 8 ≡ u = omega arith in
+    rw (q, r) refl
+
+-- one more row of a byte
+pub one_more_row : (byte skip top x i : ℕ) (a b : List (List ℕ)) (row : List ℕ) → top + i < 1664 → top + i < length b → skip + i < 8
+    → RowsPainted 1664 Black (λ d k. ltb k (top + i) && (eqb d x && (leb top k && dot (byte ∷ []) (k - top + skip)))) a b
+    → Painted Black (λ d. eqb d x && bit byte (7 - (skip + i))) (get_or b (top + i) []) row
+    → RowsPainted 1664 Black (λ d k. ltb k (top + (i + 1)) && (eqb d x && (leb top k && dot (byte ∷ []) (k - top + skip)))) a (set b (top + i) row)
+one_more_row byte skip top x i a b row h l s p q =
+    let u : top + i - top + skip ≡ skip + i = omega arith in
+    let n : top + i + 1 ≡ top + (i + 1) = omega arith in
+    rows_same Black _ _ _ _ (λ d k _. ap (λ m. ltb k m && (eqb d x && (leb top k && dot (byte ∷ []) (k - top + skip)))) n)
+    (rows_more 1664 Black (λ d k. eqb d x && (leb top k && dot (byte ∷ []) (k - top + skip))) (top + i) a b row l h p
+    (painted_same Black _ _ _ _ (λ d _. rw (le-leb top (top + i) (omega arith), u, dot_first byte (skip + i) s) refl) q))
 
 -- the rows of a line, after the last of them
 pub all_rows : (line : List ℕ) (t : Bool) (k top skip i : ℕ) → (top + i ≤ k → 8 * length line ≤ k - top + skip)

@@ -1,15 +1,18 @@
 -- Rows of dots.
-use Rattle.std.proofs.Common.{inl, inr, zero, suc, take, ◌⊎◌, ◌≡◌, ℕ, ◌+◌, ◌-◌, ◌/◌, ◌%◌, ◌<◌, ◌≤◌, Bool, true, false, cond, eqb, ◌||◌, ap, ◌∙◌, arith, List, [], ◌∷◌, length, get_or, ℤ, pos, negsuc, ◌+ℤ◌, refl}
+use Rattle.std.proofs.Common.{inl, inr, zero, suc, take, ◌⊎◌, ◌≡◌, ℕ, ◌+◌, ◌-◌, ◌*◌, ◌/◌, ◌%◌, ◌<◌, ◌≤◌, Bool, true, false, cond, eqb, ◌&&◌, ◌||◌, ap, ◌∙◌, arith, List, [], ◌∷◌, length, get_or, set, bit_or, ℤ, pos, negsuc, ◌+ℤ◌, refl}
 use Rattle.std.proofs.lemmas.Int.{ints}
 use Rattle.std.proofs.lemmas.List.{get_or_past}
 use Rattle.std.proofs.lemmas.Bool.{cases_lt, le-leb, lt-leb}
+use Rattle.std.proofs.lemmas.Bool.Decides.{nat_tests}
 use Rattle.std.proofs.lemmas.Nat.Bits.{bit_at-zero}
 use Rattle.vp_dots.specs.Dots.{bit, dot, shifted}
 use Rattle.vp_dots.specs.Images.{packed, row_from, row_of}
-use Rattle.vp_dots.specs.Painting.{paint}
+use Rattle.vp_dots.specs.Painting.{paint, Painted}
 use Rattle.vp_dots.specs.Places.{RowsPainted}
 use Rattle.vp_dots.specs.declared.Op.{Op}
 use Rattle.vp_dots.specs.declared.Op.TheVariants.{Black}
+use Rattle.vp_dots.proofs.Bits.{bit_of_or}
+use Rattle.vp_dots.proofs.Paints.{painted_same, painted_byte_at}
 
 -- past the row there is no dot
 pub dot_past : (row : List ℕ) (d : ℕ) → length row ≤ d / 8 → dot row d ≡ false
@@ -61,3 +64,18 @@ take-row_from (suc n) (suc m) f at h = ap (λ r. packed 8 f at ∷ r) (take-row_
 -- the first bytes of a row
 pub take-row_of : (n m : ℕ) (f : ℕ → Bool) → n ≤ m → take n (row_of m f) ≡ row_of n f
 take-row_of n m f h = take-row_from n m f 0 h
+
+-- a byte with one more dot, where that is black
+pub painted_in : (t : Bool) (x m : ℕ) (row : List ℕ) → x / 8 < length row → ((k : ℕ) → bit m k ≡ (eqb k (7 - x % 8) && t))
+    → Painted Black (λ d. eqb d x && t) row (set row (x / 8) (bit_or (get_or row (x / 8) 0) m))
+painted_in t x m row h e =
+    painted_same Black _ _ _ _ (λ d l. in_byte d t)
+    (painted_byte_at Black (λ d. eqb d x && t) (x / 8) _ row h (λ k l. bit_of_or (get_or row (x / 8) 0) m k ∙ ap (λ b. cond b true (bit (get_or row (x / 8) 0) k)) (e k ∙ same_place k t l)))
+  where
+    in_byte : (d : ℕ) (t : Bool) → (eqb (d / 8) (x / 8) && (eqb d x && t)) ≡ (eqb d x && t)
+    in_byte d true = grind (arith, nat_tests)
+    in_byte d false = grind (arith, nat_tests)
+
+    same_place : (k : ℕ) (t : Bool) → k < 8 → (eqb k (7 - x % 8) && t) ≡ (eqb (8 * (x / 8) + (7 - k)) x && t)
+    same_place k true l = grind (arith, nat_tests)
+    same_place k false l = grind (arith, nat_tests)

@@ -1,12 +1,13 @@
 //! One row of dots, laid along a row of a page or across its rows, and a box made white.
-ghost use Rattle.std.specs.Prelude.{◌≡◌, ℕ, ◌+◌, ◌-◌, ◌*◌, ◌≤◌, ◌^◌, ◌&&◌, nat_eq, nat_lt, nat_le, length, pos, ◌+ℤ◌};
-ghost use Rattle.vp_dots.specs.Dots.{dot, dots, shifted};
+ghost use Rattle.std.specs.Prelude.{◌≡◌, ℕ, ◌+◌, ◌-◌, ◌*◌, ◌≤◌, ◌^◌, ◌&&◌, nat_eq, nat_lt, nat_le, ◌<◌, [], ◌∷◌, length, pos, ◌+ℤ◌};
+ghost use Rattle.vp_dots.specs.Dots.{bit, dot, dots, shifted};
+ghost use Rattle.vp_dots.specs.Painting.{Painted};
 ghost use Rattle.vp_dots.specs.Places.{RowsPainted};
 ghost use Rattle.vp_dots.specs.declared.Op.TheVariants.{Black, White};
 ghost use Rattle.vp_page.specs.Areas.{holds};
 
 use crate::Area;
-use vp_dots::{Band, Ink, Op, dot_of, fill_dots, or_into, paint_dot};
+use vp_dots::{Band, Ink, Op, fill_dots, or_into};
 
 /// The rows of the page.
 const ROWS: usize = 1664;
@@ -87,22 +88,62 @@ fn lay_across(line: &[u8], at: i64, x: usize, band: &mut Band<72, 1664>)
     }
 }
 
-/// Blackens column x of the page where the line, its dot `skip` on row `top`, is black.
-fn lay_dots(line: &[u8], skip: usize, top: usize, x: usize, band: &mut Band<72, 1664>)
-    requires { length line.now ≤ 208 }
-    ensures { RowsPainted 1664 Black (λ d k. nat_eq d x && (nat_le top k && dot line.now (k - top + skip))) band.old band.new }
+/// The dot of a byte that is n from its left, as the dot of a byte that is m from its left.
+#[inline(always)]
+fn moved_dot(byte: u8, n: usize, m: usize) -> u8
+    requires from { n < 8 }
+    requires to { m < 8 }
+    ensures { (k : ℕ) → bit result k ≡ (nat_eq k (7 - m) && bit byte (7 - n)) }
 {
-    let rows = (8 * line.len())
-        .saturating_sub(skip)
-        .min(ROWS.saturating_sub(top));
-    for i in 0..rows {
-        if dot_of(line, (skip + i) as u128) {
-            paint_dot(Op::Black, x as u128, band.row_mut(top + i));
-        }
+    (byte >> (7 - n) & 1) << (7 - m)
+}
+
+/// Blackens dot x of a row, where the row has it, if the dot of the byte that is n from its left is black.
+#[inline(always)]
+fn lay_dot(byte: u8, n: usize, x: usize, row: &mut [u8])
+    requires { n < 8 }
+    ensures { Painted Black (λ d. nat_eq d x && bit byte (7 - n)) row.old row.new }
+{
+    if x / 8 < row.len() {
+        row[x / 8] |= moved_dot(byte, n, x % 8);
     }
 }
 
-/// The same, by the bytes that are not white.
+/// Blackens column x of so many rows of the page where the byte, its dot `skip` on row `top`, is black.
+#[inline(always)]
+fn lay_rows(byte: u8, skip: usize, top: usize, rows: usize, x: usize, band: &mut Band<72, 1664>)
+    requires dots { rows ≤ 8 - skip }
+    requires inside { rows ≤ 1664 - top }
+    ensures { RowsPainted 1664 Black (λ d k. nat_lt k (top + rows) && (nat_eq d x && (nat_le top k && dot (byte ∷ []) (k - top + skip)))) band.old band.new }
+{
+    for i in 0..rows {
+        lay_dot(byte, skip + i, x, band.row_mut(top + i));
+    }
+}
+
+/// Blackens column x of the page where the byte, its dot `skip` on row `top`, is black.
+// Called where a line begins or ends, and so kept out of the loop over its bytes.
+#[inline(never)]
+fn lay_part(byte: u8, skip: usize, top: usize, x: usize, band: &mut Band<72, 1664>)
+    ensures { RowsPainted 1664 Black (λ d k. nat_eq d x && (nat_le top k && dot (byte ∷ []) (k - top + skip))) band.old band.new }
+{
+    let rows = 8usize.saturating_sub(skip).min(ROWS.saturating_sub(top));
+    lay_rows(byte, skip, top, rows, x, band);
+}
+
+/// The same. Mostly all eight dots of the byte are on the page.
+#[inline(always)]
+fn lay_byte(byte: u8, skip: usize, top: usize, x: usize, band: &mut Band<72, 1664>)
+    ensures { RowsPainted 1664 Black (λ d k. nat_eq d x && (nat_le top k && dot (byte ∷ []) (k - top + skip))) band.old band.new }
+{
+    if skip == 0 && top <= ROWS - 8 {
+        lay_rows(byte, 0, top, 8, x, band);
+    } else {
+        lay_part(byte, skip, top, x, band);
+    }
+}
+
+/// Blackens column x of the page where the line, its dot `skip` on row `top`, is black.
 fn lay_from(line: &[u8], skip: usize, top: usize, x: usize, band: &mut Band<72, 1664>)
     requires short { length line.now ≤ 208 }
     requires near { top ≤ 2 ^ 63 }
@@ -112,7 +153,7 @@ fn lay_from(line: &[u8], skip: usize, top: usize, x: usize, band: &mut Band<72, 
         let byte = line[j];
         if byte != 0 {
             let above = top + (8 * j).saturating_sub(skip);
-            lay_dots(&[byte], skip.saturating_sub(8 * j), above, x, band);
+            lay_byte(byte, skip.saturating_sub(8 * j), above, x, band);
         }
     }
 }

@@ -10,7 +10,7 @@ loop-j-preserved c =
     let line = c.args.line.now in
     elim c.if-byte-ne0.branch [
       | then-byte-ne0 w ↦ rw w.band-is (rows_then _ _ _ _ _ _ (λ x k. byte_more line c.loop-j.j (get_or line c.loop-j.j 0) c.args.top c.args.skip _ _ (eqb x c.args.x) k refl w.saturating_sub.ensures w.saturating_sub-then-byte-ne0.ensures)
-          c.loop-j.invariant w.lay_dots.ensures)
+          c.loop-j.invariant w.lay_byte.ensures)
       | else-byte-ne0 w ↦ rw w.band-is (rows_same Black _ _ _ _ (λ x k _. white_byte line c.loop-j.j c.args.top c.args.skip (eqb x c.args.x) k w.if-byte-ne0.false) c.loop-j.invariant)
     ]
 
