@@ -10,3 +10,9 @@ pub mod Spans
 pub mod ImageRows
 pub mod ImageLaws
 pub mod Placing
+pub mod Words
+pub mod Eights
+pub mod Cuts
+pub mod Swaps
+pub mod Heights
+pub mod Columns

@@ -1,7 +1,7 @@
 //! Rows of dots on the heap.
-ghost use Rattle.std.specs.Prelude.{◌≡◌, ℕ, ◌+◌, ◌-◌, ◌*◌, ◌/◌, ◌%◌, ◌^◌, ◌<◌, ◌≤◌, ◌≢◌, List, [], replicate, length, slice_set, slice_index_or, Some, None, IfOk, nat_lt, ◌&&◌, if◌then◌else◌};
+ghost use Rattle.std.specs.Prelude.{◌≡◌, ℕ, ◌+◌, ◌-◌, ◌*◌, ◌/◌, ◌%◌, ◌^◌, ◌<◌, ◌≤◌, ◌≢◌, false, List, [], replicate, length, slice_set, slice_index_or, Some, None, IfOk, nat_lt, ◌&&◌, if◌then◌else◌};
 ghost use Rattle.std.specs.Borrow.{Lends, sem, Array, u8 as byte};
-ghost use Rattle.vp_dots.specs.Dots.{dot};
+ghost use Rattle.vp_dots.specs.Dots.{dot, span};
 ghost use Rattle.vp_dots.specs.contracts.band.Band.{the_row};
 
 use std::alloc::{AllocError, Global};
@@ -44,6 +44,20 @@ impl<const B: usize, const H: usize> Band<B, H> {
         let white = [0; B];
         for row in self.rows.iter_mut() {
             *row = white;
+        }
+    }
+
+    /// Makes the dots of the rows from <= y < to white: of all rows, where no other row has a black dot.
+    pub fn clear_rows(&mut self, from: usize, to: usize)
+        requires { to ≤ H }
+        ensures rows { length self.new ≡ length self.old }
+        ensures white { (y : ℕ) → slice_index_or self.new y []
+            ≡ (if span from to y then replicate B 0 else slice_index_or self.old y []) }
+        ensures all { ((y : ℕ) → y < H → span from to y ≡ false → slice_index_or self.old y [] ≡ replicate B 0)
+            → self.new ≡ replicate H (replicate B 0) }
+    {
+        for y in from..to {
+            self.rows[y] = [0; B];
         }
     }
 

@@ -177,7 +177,7 @@ fn paint_far_left(op: Op, source: &[u8], far: u64, row: &mut [u8])
 /// Applies the operation to the dots d of the row where dot d - at of the source is set.
 // Inlined, so that each caller's loops know their operation.
 #[inline(always)]
-fn paint_into(op: Op, source: &[u8], at: i64, row: &mut [u8])
+fn paint_moved(op: Op, source: &[u8], at: i64, row: &mut [u8])
     ensures { Painted op (shifted at (dot source.now)) row.old row.new }
 {
     if at >= 0 {
@@ -191,21 +191,32 @@ fn paint_into(op: Op, source: &[u8], at: i64, row: &mut [u8])
 pub fn or_into(source: &[u8], at: i64, row: &mut [u8])
     ensures { Painted Black (shifted at (dot source.now)) row.old row.new }
 {
-    paint_into(Op::Black, source, at, row);
+    paint_moved(Op::Black, source, at, row);
 }
 
 /// Reverses the dots d of the row where dot d - at of the source is black.
 pub fn xor_into(source: &[u8], at: i64, row: &mut [u8])
     ensures { Painted Flip (shifted at (dot source.now)) row.old row.new }
 {
-    paint_into(Op::Flip, source, at, row);
+    paint_moved(Op::Flip, source, at, row);
 }
 
 /// Whitens the dots d of the row where dot d - at of the source is black.
 pub fn clear_into(source: &[u8], at: i64, row: &mut [u8])
     ensures { Painted White (shifted at (dot source.now)) row.old row.new }
 {
-    paint_into(Op::White, source, at, row);
+    paint_moved(Op::White, source, at, row);
+}
+
+/// Applies the operation to the dots d of the row where dot d - at of the source is black.
+pub fn paint_into(op: Op, source: &[u8], at: i64, row: &mut [u8])
+    ensures { Painted op (shifted at (dot source.now)) row.old row.new }
+{
+    match op {
+        Op::Black => or_into(source, at, row),
+        Op::White => clear_into(source, at, row),
+        Op::Flip => xor_into(source, at, row),
+    }
 }
 
 /// A law: what is moved by an offset has at place d what it had at the place that meets d, and

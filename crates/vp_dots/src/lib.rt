@@ -8,36 +8,49 @@
 //! - `single`: one dot, and rows painted dot by dot, which is how the faster painters are tested.
 //! - `span`: all dots from one to another.
 //! - `kernel`: the dots of one row on another, moved by any offset.
+//! - `word`: 64 dots at once, cut out of a row and painted on one.
+//! - `block`: eight by eight dots in a word, and eight lines laid across the rows of a band.
 //! - `place`: an ink at a place of a band.
 //! - `band`, `store`: rows of dots and bytes on the heap.
 //! - `image`: the header of an image, and the laws from the bytes of its rows to its dots and back.
+//! - `listing`: the lines of a listing.
 //! - `fault`: why a stream is refused.
 #![tactic(auto)]
 
-ghost use Rattle.std.specs.Prelude.{◌≡◌, ℕ, ◌<◌, Bool, true};
+ghost use Rattle.std.specs.Prelude.{◌≡◌, ℕ, ◌-◌, ◌<◌, Bool, true, slice_index};
 ghost use Rattle.vp_dots.specs.Dots.{shifted};
 ghost use Rattle.vp_dots.specs.Painting.{Painted};
+ghost use Rattle.vp_dots.specs.Words.{word_dot};
 
 mod band;
+mod block;
 mod fault;
 mod image;
 mod kernel;
+mod listing;
 mod place;
 mod single;
 mod span;
 mod store;
 #[cfg(test)]
 mod tests;
+mod word;
 
 use crate::single::paint_moved_dot;
 pub use band::Band;
+pub use block::{lay_eight, turned};
 pub use fault::{Fault, Why};
 pub use image::{dots_decide, header, image_law, row_law};
-pub use kernel::{clear_into, or_into, painted_law, shift_law, xor_into};
+pub use kernel::{clear_into, or_into, paint_into, painted_law, shift_law, xor_into};
+pub use listing::{list, spell};
 pub use place::paint_at;
 pub use single::{dot_of, paint_bits, paint_dot};
 pub use span::{fill_dots, fill_moved};
 pub use store::{Full, Store};
+pub use word::{first_dots, paint_few, paint_word, word_at, word_of};
+
+/// The most lines of ink that is painted by words at once: as many as a character of a receipt has.
+pub const WORDS: usize = 24;
 
 /// What painting does to a dot where there is ink: it makes it black, makes it white, or reverses it.
 #[derive(Clone, Copy, Debug, PartialEq, Eq)]
@@ -75,6 +88,20 @@ pub trait Ink {
                 paint_moved_dot(op, at, x as u128, row);
             }
         }
+    }
+
+    /// Whether the ink is no wider than a word and has no more lines than `WORDS`: then the words are its lines.
+    fn words(&self, _words: &mut [u64; WORDS]) -> bool
+        ensures { result ≡ true → (x y : ℕ) → word_dot (slice_index _words.new y) x ≡ ink_at self.now x y }
+    {
+        false
+    }
+
+    /// Whether line y is known to have the ink of the line above it, so that what was drawn for that serves again.
+    fn repeats(&self, _y: u32) -> bool
+        ensures { result ≡ true → (x : ℕ) → ink_at self.now x _y ≡ ink_at self.now x (_y - 1) }
+    {
+        false
     }
 
     /// There is no ink outside.

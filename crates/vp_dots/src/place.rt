@@ -1,9 +1,11 @@
 //! Ink painted at a place of a band.
-ghost use Rattle.std.specs.Prelude.{◌≡◌, ℕ, ◌<◌, ◌≤◌, ◌^◌, Bool, true, false, option_map, unwrap_or};
+ghost use Rattle.std.specs.Prelude.{◌≡◌, ℕ, ◌<◌, ◌≤◌, ◌^◌, Bool, true, false, ◌+◌, pos, MatchOption, option_map, unwrap_or};
 ghost use Rattle.vp_dots.specs.Dots.{shifted};
-ghost use Rattle.vp_dots.specs.Places.{placed, RowsPainted};
+ghost use Rattle.vp_dots.specs.Places.{placed, words_dot, RowsPainted};
+ghost use Rattle.vp_dots.specs.declared.TheConstants.{WORDS};
 
-use crate::{Band, Ink, Op};
+use crate::word::paint_word;
+use crate::{Band, Ink, Op, WORDS};
 
 /// The first row that ink with its top at this row may meet.
 fn first_row(top: i64) -> u64
@@ -38,9 +40,9 @@ fn line_on(top: i64, y: u64) -> Option<u32>
     u32::try_from(line).ok()
 }
 
-/// Applies the operation to the dots of the band where the ink, with its top left place at
-/// column `left` of row `top`, has ink.
-pub fn paint_at<I: Ink, const B: usize, const H: usize>(
+/// Applies the operation to the dots of the band where the ink, with its top left place at column `left` of row `top`,
+/// has ink: line by line.
+fn paint_lines<I: Ink, const B: usize, const H: usize>(
     ink: &I,
     op: Op,
     left: i64,
@@ -55,4 +57,74 @@ pub fn paint_at<I: Ink, const B: usize, const H: usize>(
             ink.paint_row(line, op, left, band.row_mut(y as usize));
         }
     }
+}
+
+/// The row on which so many lines begin, where the band has a row for each.
+fn row_for(top: i64, h: u32, rows: usize) -> Option<usize>
+    ensures { MatchOption result (Unit {0}) (λ row. (top ≡ pos row) × (row + h ≤ rows)) }
+{
+    let row = usize::try_from(top).ok()?;
+    let below = row.checked_add(h as usize)?;
+    if below <= rows { Some(row) } else { None }
+}
+
+/// Paints so many words, one on each row from `top` on.
+#[inline(always)]
+fn paint_words_by<const B: usize, const H: usize>(
+    op: Op,
+    words: &[u64; WORDS],
+    h: usize,
+    left: i64,
+    top: usize,
+    band: &mut Band<B, H>,
+)
+    requires few { h ≤ WORDS }
+    requires room { top + h ≤ H }
+    ensures { RowsPainted H op (words_dot words.now left top h) band.old band.new }
+{
+    for i in 0..h {
+        paint_word(op, words[i], left, band.row_mut(top + i));
+    }
+}
+
+/// The same, with a loop for each operation.
+fn paint_words<const B: usize, const H: usize>(
+    op: Op,
+    words: &[u64; WORDS],
+    h: usize,
+    left: i64,
+    top: usize,
+    band: &mut Band<B, H>,
+)
+    requires few { h ≤ WORDS }
+    requires room { top + h ≤ H }
+    ensures { RowsPainted H op (words_dot words.now left top h) band.old band.new }
+{
+    match op {
+        Op::Black => paint_words_by(Op::Black, words, h, left, top, band),
+        Op::White => paint_words_by(Op::White, words, h, left, top, band),
+        Op::Flip => paint_words_by(Op::Flip, words, h, left, top, band),
+    }
+}
+
+/// Applies the operation to the dots of the band where the ink, with its top left place at column `left` of row `top`,
+/// has ink.
+pub fn paint_at<I: Ink, const B: usize, const H: usize>(
+    ink: &I,
+    op: Op,
+    left: i64,
+    top: i64,
+    band: &mut Band<B, H>,
+)
+    ensures { RowsPainted H op (placed left top (I.ink_at ink.now)) band.old band.new }
+{
+    let (_, h) = ink.size();
+    if let Some(row) = row_for(top, h, H) {
+        let mut words = [0; WORDS];
+        if h as usize <= WORDS && ink.words(&mut words) {
+            paint_words(op, &words, h as usize, left, row, band);
+            return;
+        }
+    }
+    paint_lines(ink, op, left, top, band);
 }

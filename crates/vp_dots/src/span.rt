@@ -23,7 +23,8 @@ fn bits_before(to: u8) -> u8
 }
 
 /// Applies the operation to byte i of the row, if it has one, at the bits of the mask.
-fn paint_masked(op: Op, mask: u8, i: u64, row: &mut [u8])
+#[inline(always)]
+pub(crate) fn paint_masked(op: Op, mask: u8, i: u64, row: &mut [u8])
     ensures { Painted op (λ d. d / 8 == i && bit mask (7 - d % 8)) row.old row.new }
 {
     if i < row.len() as u64 {

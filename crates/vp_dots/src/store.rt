@@ -53,6 +53,21 @@ impl<const N: usize> Store<N> {
         Ok(())
     }
 
+    /// Appends bytes; `Full`, and nothing changes, where not all of them find room.
+    pub fn append(&mut self, bytes: &[u8]) -> Result<(), Full>
+        ensures room { IsOk result ↔ (length self.old + length bytes.now ≤ N) }
+        ensures ok { OnOk result (self.new ≡ self.old ++ bytes.now) }
+        ensures err { OnErr result (self.new ≡ self.old) }
+    {
+        if bytes.len() > N - self.len {
+            return Err(Full);
+        }
+        let end = self.len + bytes.len();
+        self.room[self.len..end].copy_from_slice(bytes);
+        self.len = end;
+        Ok(())
+    }
+
     /// The bytes.
     pub fn bytes(&self) -> &[u8]
         ensures bytes { result.now ≡ self.now }

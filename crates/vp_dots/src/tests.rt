@@ -1,6 +1,6 @@
 use crate::{
-    Band, Fault, Full, Ink, Op, Store, Why, clear_into, fill_dots, fill_moved, header, or_into,
-    paint_at, paint_bits, paint_dot, xor_into,
+    Band, Fault, Full, Ink, Op, Store, Why, clear_into, fill_dots, fill_moved, first_dots, header,
+    lay_eight, or_into, paint_at, paint_bits, paint_dot, paint_word, turned, word_at, xor_into,
 };
 use std::test::Fail;
 
@@ -209,5 +209,60 @@ fn fault_texts(rt: HostRuntime) -> Result<(), Fail> {
         assert_eq!(rt; fault.number(), number);
         assert_eq!(rt; format!(in rt.alloc(); "{fault}")?.as_str(), text);
     }
+    Ok(())
+}
+
+/// Rows of twelve bytes painted by a word at each of these places, as dot by dot.
+#[test]
+fn words(rt: HostRuntime) {
+    let word: u64 = 0x9123_4567_89ab_cdef;
+    for op in [Op::Black, Op::White, Op::Flip] {
+        for at in [
+            -70i64, -64, -63, -9, -1, 0, 1, 7, 8, 24, 25, 31, 32, 33, 40, 95, 96,
+        ] {
+            let old = [
+                0x5a, 0xff, 0x01, 0, 0xf0, 0x3c, 0x80, 0x0f, 0x55, 0xaa, 0, 0x81,
+            ];
+            let mut by_word = old;
+            paint_word(op, word, at, &mut by_word);
+            let mut by_dot = old;
+            paint_bits(op, &word.to_be_bytes(), at, &mut by_dot);
+            assert_eq!(rt; by_word, by_dot);
+        }
+    }
+    assert_eq!(rt; word_at(&[0x12, 0x34, 0x56], 4), 0x2345_6000_0000_0000);
+    assert_eq!(rt; word_at(&[0xff; 20], 3), u64::MAX);
+    assert_eq!(rt; first_dots(0), 0);
+    assert_eq!(rt; first_dots(12), 0xfff0_0000_0000_0000);
+    assert_eq!(rt; first_dots(64), u64::MAX);
+}
+
+/// A diagonal of lines, laid across the rows of a band: line i has its dot i + 3.
+#[test]
+fn across(rt: HostRuntime) -> Result<(), Fail> {
+    let mut lines = [[0u8; 2]; 8];
+    for i in 0..8 {
+        paint_dot(Op::Black, i as u128 + 3, &mut lines[i]);
+    }
+    let mut band: Band<3, 12> = Band::new(rt.alloc())?;
+    lay_eight(Op::Black, &lines, 5, 0, &mut band);
+    for i in 0..8u8 {
+        assert_eq!(rt;
+            band.get(usize::from(i) + 5, usize::from(i) + 3),
+            Some(true)
+        );
+        assert_eq!(rt;
+            band.get(usize::from(i) + 5, usize::from(i) + 2),
+            Some(false)
+        );
+    }
+    lay_eight(Op::Flip, &lines, 5, -4, &mut band);
+    assert_eq!(rt; band.get(5, 0), Some(false));
+    assert_eq!(rt; band.get(6, 0), Some(true));
+    assert_eq!(rt; band.get(12, 6), Some(true));
+    band.clear_rows(0, 10);
+    assert_eq!(rt; band.get(11, 5), Some(false));
+    assert_eq!(rt; band.get(12, 10), Some(true));
+    assert_eq!(rt; turned(0xff00_0000_0000_0000), 0x8080_8080_8080_8080);
     Ok(())
 }

@@ -1,6 +1,6 @@
 use Rattle.std.proofs.Common.{◌&&◌, ltb}
 use Rattle.vp_dots.specs.Places.{placed, RowsPainted}
-use Rattle.vp_dots.proofs.place.paint_at.Given as goal
+use Rattle.vp_dots.proofs.place.paint_lines.Given as goal
 
 -- the rows above y are done
 abbrev pub invariant-loop-y : goal.invariant-loop-y

@@ -1,0 +1,8 @@
+use Rattle.std.proofs.Common.{◌*◌}
+use Rattle.vp_dots.specs.Places.{RowsPainted}
+use Rattle.vp_dots.specs.Blocks.{columns_dot}
+use Rattle.vp_dots.proofs.block.lay_from.Given as goal
+
+-- the dots of the bytes before j are painted
+abbrev pub invariant-loop-j : goal.invariant-loop-j
+invariant-loop-j g l = RowsPainted g.row.H l.op (λ x k. columns_dot l.lines (8 * l.j) l.skip l.left l.top x k) l.fn.band l.band
