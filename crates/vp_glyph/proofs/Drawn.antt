@@ -1,9 +1,10 @@
 -- Characters drawn from the dots of their rows.
-use Rattle.std.proofs.Common.{mul_comm, Bool, List, Option, ap, arith, false, inl, inr, leb, ltb, refl, ℕ, ℤ, ◌&&◌, ◌*◌, ◌+◌, ◌-◌, ◌/◌, ◌<◌, ◌∙◌, ◌≡◌, ◌≤◌}
-use Rattle.std.proofs.Math.Nat.{div-lt_iff_lt-mul, mul-le-mul_left, mul-div-mul_left}
+use Rattle.std.proofs.Common.{mul_comm, Bool, List, Option, ap, arith, false, inl, inr, leb, ltb, refl, ℕ, ℤ, ◌&&◌, ◌*◌, ◌-◌, ◌/◌, ◌<◌, ◌∙◌, ◌≡◌, ◌≤◌}
+use Rattle.std.proofs.Math.Nat.{mul-div-mul_left}
 use Rattle.std.proofs.lemmas.Bool.{cases_Bool, cases_lt, le-ltb, lt-ltb, le-leb}
 use Rattle.std.proofs.lemmas.Bool.Decides.{nat_tests}
-use Rattle.vp_dots.specs.Dots.{dot, shifted}
+use Rattle.vp_dots.specs.Dots.{shifted}
+use Rattle.vp_dots.specs.Words.{word_dot}
 use Rattle.vp_dots.specs.Painting.{Painted}
 use Rattle.vp_dots.specs.declared.Op.{Op}
 use Rattle.vp_dots.proofs.Moves.{moved_same}
@@ -17,23 +18,19 @@ use Rattle.vp_glyph.proofs.Spread.{ink}
 pub moved_none : (op : Op) (at : ℤ) (f : ℕ → Bool) (row : List ℕ) → ((x : ℕ) → f x ≡ false) → Painted op (shifted at f) row row
 moved_none op at f row h = painted_none op (shifted at f) row (λ d l. shifted_none at f d h)
 
--- a place drawn at another width is inside
-pub place_within : (u n w : ℕ) → u < w → 0 < n → u * n / w < n
-place_within u n w l p = let j : u + 1 ≤ w = omega arith in let m = mul-le-mul_left n j in (div-lt_iff_lt-mul {k = w} {x = u * n} {y = n} (omega arith)).1 (omega (arith, m))
-
 module _ (op : Op) (at : ℤ) (sheet : Option Glyphs) (c w h left y : ℕ) where
   pub sampled_below : (row : List ℕ) → h ≤ y → Painted op (shifted at (λ x. leb left x && sampled_dot sheet c w h (x - left) y)) row row
   unfolding sampled_dot
   sampled_below row l = moved_none op at (λ x. leb left x && sampled_dot sheet c w h (x - left) y) row
       (λ x. elim (cases_Bool (leb left x)) [ inl t ↦ rw (t, le-ltb y h l) (grind (arith, nat_tests)) | inr f ↦ rw f refl ])
 
-  pub sampled_drawn : (dots a b : List ℕ) → y < h → ((x : ℕ) → dot dots x ≡ (ltb x 12 && sheet_dot sheet c x (y * 24 / h))) → Painted op (shifted at (ink 12 dots left w)) a b
+  pub sampled_drawn : (word : ℕ) (a b : List ℕ) → y < h → ((x : ℕ) → word_dot word x ≡ sheet_dot sheet c x (y * 24 / h)) → Painted op (shifted at (ink 12 (word_dot word) left w)) a b
       → Painted op (shifted at (λ x. leb left x && sampled_dot sheet c w h (x - left) y)) a b
   unfolding sampled_dot
-  sampled_drawn dots a b l e p = moved_same op at (ink 12 dots left w) (λ x. leb left x && sampled_dot sheet c w h (x - left) y) a b
+  sampled_drawn word a b l e p = moved_same op at (ink 12 (word_dot word) left w) (λ x. leb left x && sampled_dot sheet c w h (x - left) y) a b
       (λ x. elim (cases_Bool (leb left x)) [
         | inl t ↦ elim (cases_lt (x - left) w) [
-          | inl k ↦ (let i = place_within (x - left) 12 w k (omega arith) in rw (t, lt-ltb (x - left) w k, lt-ltb y h l, e ((x - left) * 12 / w), lt-ltb ((x - left) * 12 / w) 12 i) refl)
+          | inl k ↦ rw (t, lt-ltb (x - left) w k, lt-ltb y h l, e ((x - left) * 12 / w)) refl
           | inr g ↦ rw (t, le-ltb (x - left) w g) refl
         ]
         | inr f ↦ rw f refl
@@ -49,8 +46,8 @@ pub sampled_first : (op : Op) (at : ℤ) (sheet : Option Glyphs) (c w h y : ℕ)
 sampled_first op at sheet c w h y a b p = moved_same op at (λ x. leb 0 x && sampled_dot sheet c w h (x - 0) y) (λ x. sampled_dot sheet c w h x y) a b (λ x. let z : x - 0 ≡ x = omega arith in rw (le-leb 0 x (omega arith), z) refl) p
 
 -- n dots drawn n times as wide as each is magnified
-pub magnified : (op : Op) (at : ℤ) (n : ℕ) (dots : List ℕ) (wm : ℕ) (a b : List ℕ) → 0 < n → Painted op (shifted at (ink n dots 0 (n * wm))) a b → Painted op (shifted at (λ x. ltb x (n * wm) && dot dots (x / wm))) a b
-magnified op at n dots wm a b p q = moved_same op at (ink n dots 0 (n * wm)) (λ x. ltb x (n * wm) && dot dots (x / wm)) a b
+pub magnified : (op : Op) (at : ℤ) (n : ℕ) (word wm : ℕ) (a b : List ℕ) → 0 < n → Painted op (shifted at (ink n (word_dot word) 0 (n * wm))) a b → Painted op (shifted at (λ x. ltb x (n * wm) && word_dot word (x / wm))) a b
+magnified op at n word wm a b p q = moved_same op at (ink n (word_dot word) 0 (n * wm)) (λ x. ltb x (n * wm) && word_dot word (x / wm)) a b
     (λ x.
     let z : x - 0 ≡ x = omega arith in
     let c : x * n / (n * wm) ≡ x / wm = ap (λ k. k / (n * wm)) (mul_comm x n) ∙ mul-div-mul_left {m = n} x wm p in

@@ -1,10 +1,12 @@
 pub mod Breaking
+pub mod Cuts
 pub mod Drawn
 pub mod Forms
-pub mod Fronts
+pub mod Looks
 pub mod Numbers
 pub mod Overlaid
 pub mod Pieces
+pub mod Printed
 pub mod Sides
 pub mod Spread
 pub mod Stacks

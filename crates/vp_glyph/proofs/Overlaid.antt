@@ -17,9 +17,12 @@ use Rattle.vp_glyph.specs.Texts.{text_dot, text_inside}
 use Rattle.vp_glyph.specs.Blocks.{pieces, first, indent, block_lines, line_dot, lines_dot, block_width, block_height, block_dot, block_inside}
 use Rattle.vp_glyph.specs.declared.block.Alignment.{Alignment}
 use Rattle.vp_glyph.specs.declared.block.Alignment.TheVariants.{Left, Centre, Right}
-use Rattle.vp_glyph.proofs.Fronts.{black_is}
 use Rattle.vp_glyph.proofs.Drawn.{moved_none}
 use Rattle.vp_glyph.proofs.Stacks.{lines_left, lines_are, block_past, block_within}
+
+black_is : (i old : Bool) → old ≡ false → paint Black i old ≡ i
+black_is true old e = refl
+black_is false old e = e
 
 -- black over black and white over white
 again : (op : Op) (i j k old : Bool) → op ≢ Flip → k ≡ (i || j) → paint op j (paint op i old) ≡ paint op k old

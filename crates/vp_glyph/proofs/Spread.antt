@@ -3,7 +3,7 @@ use Rattle.std.proofs.Common.{◌≡◌, ℕ, ◌+◌, ◌-◌, ◌*◌, ◌/◌
 use Rattle.std.proofs.Math.Nat.{div-lt_iff_lt-mul, le-div_iff_mul-le, div-mul-le_self, mul-le-mul_right}
 use Rattle.std.proofs.lemmas.Bool.{cases_lt, lt-ltb, le-leb}
 use Rattle.std.proofs.lemmas.Bool.Decides.{nat_tests}
-use Rattle.vp_dots.specs.Dots.{dot, shifted, span}
+use Rattle.vp_dots.specs.Dots.{shifted, span}
 use Rattle.vp_dots.specs.Painting.{Painted}
 use Rattle.vp_dots.specs.declared.Op.{Op}
 use Rattle.vp_dots.proofs.Moves.{moved_then, moved_same}
@@ -52,11 +52,11 @@ edge_within n w s p l =
     omega arith
 
 -- n dots from a place on, drawn so wide in all
-abbrev pub ink : ℕ → List ℕ → ℕ → ℕ → ℕ → Bool
-ink n dots left width x = leb left x && ltb (x - left) width && dot dots ((x - left) * n / width)
+abbrev pub ink : ℕ → (ℕ → Bool) → ℕ → ℕ → ℕ → Bool
+ink n glyph left width x = leb left x && ltb (x - left) width && glyph ((x - left) * n / width)
 
-pub ink_is : (n : ℕ) (dots : List ℕ) (left width s x : ℕ) → 0 < n → s < n → left + edge_at n width s ≤ x → x < left + edge_at n width (s + 1) → ink n dots left width x ≡ dot dots s
-ink_is n dots left width s x p k l h =
+pub ink_is : (n : ℕ) (glyph : ℕ → Bool) (left width s x : ℕ) → 0 < n → s < n → left + edge_at n width s ≤ x → x < left + edge_at n width (s + 1) → ink n glyph left width x ≡ glyph s
+ink_is n glyph left width s x p k l h =
     let inside = edge_within n width (s + 1) p (omega arith) in
     let low = from_edge n width s (x - left) p (omega arith) in
     let high = before_edge n width (s + 1) (x - left) p (omega arith) in
@@ -83,13 +83,13 @@ module _ (op : Op) (at : ℤ) (f : ℕ → Bool) where
         | inr g ↦ elim (cases_lt x to) [ inl z ↦ rw (h x g z) (grind (arith, nat_tests)) | inr o ↦ grind (arith, nat_tests) ]
       ]) p
 
-module _ (op : Op) (at : ℤ) (n : ℕ) (dots : List ℕ) (left width : ℕ) where
+module _ (op : Op) (at : ℤ) (n : ℕ) (glyph : ℕ → Bool) (left width : ℕ) where
   -- the dots before s: all before the run is painted, and the run is all ink
   pub record Running (s from to : ℕ) (a b : List ℕ) : Type 0 where
     pub edge_is : to ≡ left + edge_at n width s
     pub run : from ≤ to
-    pub solid : (x : ℕ) → from ≤ x → x < to → ink n dots left width x ≡ true
-    pub painted : Painted op (shifted at (λ x. ltb x from && ink n dots left width x)) a b
+    pub solid : (x : ℕ) → from ≤ x → x < to → ink n glyph left width x ≡ true
+    pub painted : Painted op (shifted at (λ x. ltb x from && ink n glyph left width x)) a b
 
   module _ (p : 0 < n) where
     pub running_none : (a : List ℕ) → Running 0 left left a a
@@ -97,11 +97,11 @@ module _ (op : Op) (at : ℤ) (n : ℕ) (dots : List ℕ) (left width : ℕ) whe
       edge_is = let e = edge_first n width p in omega (arith, e);
       run = omega arith;
       solid = λ x l h. absurd (omega arith);
-      painted = painted_none op (shifted at (λ x. ltb x left && ink n dots left width x)) a (λ d l. shifted_none at (λ x. ltb x left && ink n dots left width x) d (λ x. grind (arith, nat_tests)));
+      painted = painted_none op (shifted at (λ x. ltb x left && ink n glyph left width x)) a (λ d l. shifted_none at (λ x. ltb x left && ink n glyph left width x) d (λ x. grind (arith, nat_tests)));
     }
 
     -- a black dot more
-    pub running_on : (s from to next : ℕ) (a b : List ℕ) → s < n → Running s from to a b → next ≡ left + edge_at n width (s + 1) → dot dots s ≡ true → Running (s + 1) from next a b
+    pub running_on : (s from to next : ℕ) (a b : List ℕ) → s < n → Running s from to a b → next ≡ left + edge_at n width (s + 1) → glyph s ≡ true → Running (s + 1) from next a b
     running_on s from to next a b l r e t =
         let m = edge_more n width s p in
         let w = r.edge_is in
@@ -109,12 +109,12 @@ module _ (op : Op) (at : ℤ) (n : ℕ) (dots : List ℕ) (left width : ℕ) whe
         record {
           edge_is = e;
           run = omega arith;
-          solid = λ x j k. elim (cases_lt x to) [ inl y ↦ r.solid x j y | inr z ↦ ink_is n dots left width s x p l (omega arith) (omega arith) ∙ t ];
+          solid = λ x j k. elim (cases_lt x to) [ inl y ↦ r.solid x j y | inr z ↦ ink_is n glyph left width s x p l (omega arith) (omega arith) ∙ t ];
           painted = r.painted;
         }
 
     -- a white dot more
-    pub running_off : (s from to next : ℕ) (a b c : List ℕ) → s < n → Running s from to a b → Painted op (shifted at (span from to)) b c → next ≡ left + edge_at n width (s + 1) → dot dots s ≡ false
+    pub running_off : (s from to next : ℕ) (a b c : List ℕ) → s < n → Running s from to a b → Painted op (shifted at (span from to)) b c → next ≡ left + edge_at n width (s + 1) → glyph s ≡ false
         → Running (s + 1) next next a c
     running_off s from to next a b c l r q e t =
         let m = edge_more n width s p in
@@ -123,13 +123,13 @@ module _ (op : Op) (at : ℤ) (n : ℕ) (dots : List ℕ) (left width : ℕ) whe
           edge_is = e;
           run = omega arith;
           solid = λ x j k. absurd (omega arith);
-          painted = run_blank op at (ink n dots left width) to next a c (omega arith) (run_painted op at (ink n dots left width) from to a b c r.run r.painted q r.solid)
-              (λ x j k. ink_is n dots left width s x p l (omega arith) (omega arith) ∙ t);
+          painted = run_blank op at (ink n glyph left width) to next a c (omega arith) (run_painted op at (ink n glyph left width) from to a b c r.run r.painted q r.solid)
+              (λ x j k. ink_is n glyph left width s x p l (omega arith) (omega arith) ∙ t);
         }
 
     -- all dots
-    pub running_all : (s from to : ℕ) (a b c : List ℕ) → s ≡ n → Running s from to a b → Painted op (shifted at (span from to)) b c → Painted op (shifted at (ink n dots left width)) a c
+    pub running_all : (s from to : ℕ) (a b c : List ℕ) → s ≡ n → Running s from to a b → Painted op (shifted at (span from to)) b c → Painted op (shifted at (ink n glyph left width)) a c
     running_all s from to a b c l r q =
         let e = edge_last n width p in
         let w : to ≡ left + width = r.edge_is ∙ ap (λ k. left + edge_at n width k) l ∙ omega (arith, e) in
-        moved_same op at (λ x. ltb x to && ink n dots left width x) (ink n dots left width) a c (λ x. grind (arith, nat_tests)) (run_painted op at (ink n dots left width) from to a b c r.run r.painted q r.solid)
+        moved_same op at (λ x. ltb x to && ink n glyph left width x) (ink n glyph left width) a c (λ x. grind (arith, nat_tests)) (run_painted op at (ink n glyph left width) from to a b c r.run r.painted q r.solid)

@@ -2,7 +2,8 @@
 use Rattle.std.proofs.Common.{◌≡◌, ℕ, zero, suc, ◌+◌, ◌-◌, ◌*◌, ◌/◌, ◌<◌, ◌≤◌, Bool, true, false, not, cond, ltb, leb, ◌&&◌, ◌||◌, refl, sym, ap, ◌∙◌, arith, List, ℤ, inl, inr}
 use Rattle.std.proofs.Math.Nat.{div-lt_iff_lt-mul, le-div_iff_mul-le, mul-le-mul_right}
 use Rattle.std.proofs.lemmas.Bool.{cases_Bool, cases_lt, le-ltb, lt-ltb, le-leb, lt-leb, ltb-true, ltb-false}
-use Rattle.vp_dots.specs.Dots.{dot, shifted, span}
+use Rattle.vp_dots.specs.Dots.{shifted, span}
+use Rattle.vp_dots.specs.Words.{word_dot}
 use Rattle.vp_dots.specs.Painting.{Painted}
 use Rattle.vp_dots.specs.declared.Op.{Op}
 use Rattle.vp_dots.proofs.Moves.{moved_then, moved_same}
@@ -78,20 +79,20 @@ module _ (op : Op) (at : ℤ) (sheets : Sheets) (font : Font) (style : Style) (c
     cell_underline a b u p = moved_same op at (span 0 (cell_width font style)) (λ x. cell_dot sheets font style c x y) a b
         (λ x. rw (le-leb 0 x (omega arith), lt-ltb y (cell_height font style) l, i, le-leb (cell_height font style - style.underline) y u) (filled (ltb x (cell_width font style)) (body_dot sheets font style c x y))) p
 
-    pub cell_upright : (dots a b : List ℕ) → y < cell_height font style - style.underline
-        → ((x : ℕ) → dot dots x ≡ (ltb x (font_width font) && cond style.inverse (not (bold_dot style.bold (font_dot sheets c font) x (y / style.hm))) (bold_dot style.bold (font_dot sheets c font) x (y / style.hm))))
-        → Painted op (shifted at (λ x. ltb x (font_width font * style.wm) && dot dots (x / style.wm))) a b → Painted op (shifted at (λ x. cell_dot sheets font style c x y)) a b
+    pub cell_upright : (word : ℕ) (a b : List ℕ) → y < cell_height font style - style.underline
+        → ((x : ℕ) → word_dot word x ≡ (ltb x (font_width font) && cond style.inverse (not (bold_dot style.bold (font_dot sheets c font) x (y / style.hm))) (bold_dot style.bold (font_dot sheets c font) x (y / style.hm))))
+        → Painted op (shifted at (λ x. ltb x (font_width font * style.wm) && word_dot word (x / style.wm))) a b → Painted op (shifted at (λ x. cell_dot sheets font style c x y)) a b
     unfolding cell_dot
-    cell_upright dots a b u e p = moved_same op at (λ x. ltb x (font_width font * style.wm) && dot dots (x / style.wm)) (λ x. cell_dot sheets font style c x y) a b
+    cell_upright word a b u e p = moved_same op at (λ x. ltb x (font_width font * style.wm) && word_dot word (x / style.wm)) (λ x. cell_dot sheets font style c x y) a b
         (λ x. rw (e (x / style.wm), lt-ltb y (cell_height font style) l, i, lt-leb (cell_height font style - style.underline) y u)
         (upright (ltb x (cell_width font style)) (ltb x (font_width font * style.wm)) (ltb (x / style.wm) (font_width font)) (bold_dot style.bold (font_dot sheets c font) (x / style.wm) (y / style.hm)) (in_body x) (off_body x))) p
 
-  pub cell_inverse : (dots a b d : List ℕ) → style.inverse ≡ true → y < cell_height font style
-      → ((x : ℕ) → dot dots x ≡ (ltb x (font_width font) && cond style.inverse (not (bold_dot style.bold (font_dot sheets c font) x (y / style.hm))) (bold_dot style.bold (font_dot sheets c font) x (y / style.hm))))
-      → Painted op (shifted at (λ x. ltb x (font_width font * style.wm) && dot dots (x / style.wm))) a b → Painted op (shifted at (span (font_width font * style.wm) (cell_width font style))) b d
+  pub cell_inverse : (word : ℕ) (a b d : List ℕ) → style.inverse ≡ true → y < cell_height font style
+      → ((x : ℕ) → word_dot word x ≡ (ltb x (font_width font) && cond style.inverse (not (bold_dot style.bold (font_dot sheets c font) x (y / style.hm))) (bold_dot style.bold (font_dot sheets c font) x (y / style.hm))))
+      → Painted op (shifted at (λ x. ltb x (font_width font * style.wm) && word_dot word (x / style.wm))) a b → Painted op (shifted at (span (font_width font * style.wm) (cell_width font style))) b d
       → Painted op (shifted at (λ x. cell_dot sheets font style c x y)) a d
   unfolding cell_dot
-  cell_inverse dots a b d i l e p q = moved_then op at (λ x. ltb x (font_width font * style.wm) && dot dots (x / style.wm)) (span (font_width font * style.wm) (cell_width font style)) (λ x. cell_dot sheets font style c x y) a b d p q
+  cell_inverse word a b d i l e p q = moved_then op at (λ x. ltb x (font_width font * style.wm) && word_dot word (x / style.wm)) (span (font_width font * style.wm) (cell_width font style)) (λ x. cell_dot sheets font style c x y) a b d p q
       (λ x. rw (e (x / style.wm), lt-ltb y (cell_height font style) l, i, not_before x (font_width font * style.wm))
       (inverse (ltb x (cell_width font style)) (ltb x (font_width font * style.wm)) (ltb (x / style.wm) (font_width font)) (bold_dot style.bold (font_dot sheets c font) (x / style.wm) (y / style.hm)) (in_body x) (off_body x)))
-      (λ x. rw (not_before x (font_width font * style.wm)) (apart (ltb x (font_width font * style.wm)) (ltb x (cell_width font style)) (dot dots (x / style.wm))))
+      (λ x. rw (not_before x (font_width font * style.wm)) (apart (ltb x (font_width font * style.wm)) (ltb x (cell_width font style)) (word_dot word (x / style.wm))))

@@ -1,13 +1,15 @@
 //! A character in a font and a style.
-ghost use Rattle.std.specs.Prelude.{◌≡◌, ℕ, ◌*◌, ◌/◌, ◌<◌, nat_lt, ◌&&◌, not, true, false, if◌then◌else◌};
-ghost use Rattle.vp_dots.specs.Dots.{dot, shifted};
+ghost use Rattle.std.specs.Prelude.{◌≡◌, ℕ, ◌*◌, ◌/◌, ◌<◌, ◌≤◌, Bool, None, MatchOption, slice_index, nat_lt, ◌&&◌, not, true, false, if◌then◌else◌};
+ghost use Rattle.vp_glyph.specs.declared.Sheets.{Sheets};
+ghost use Rattle.vp_dots.specs.Dots.{shifted};
+ghost use Rattle.vp_dots.specs.Words.{word_dot};
 ghost use Rattle.vp_dots.specs.Painting.{Painted};
 ghost use Rattle.vp_glyph.specs.Cells.{font_width, font_height, font_dot, bold_dot, cell_width, cell_height, cell_dot, cell_inside};
 
 use crate::Sheets;
-use crate::few::{emphasized, inverted, nine_of, paint_dots, paint_scaled};
-use crate::sheet::{dot_in, row_in};
-use vp_dots::{Ink, Op, fill_moved};
+use crate::look::{emphasized, inverted, nine_of, paint_scaled, shared};
+use crate::sheet::{dot_in, row_at, rows_in};
+use vp_dots::{Ink, Op, WORDS, fill_moved, first_dots, paint_word};
 
 /// The two fonts of a receipt printer.
 #[derive(Clone, Copy, Debug, PartialEq, Eq)]
@@ -102,61 +104,97 @@ impl Cell<'_> {
     }
 }
 
+/// A row of a character of a font, emphasized or not, white past the character.
+#[inline(always)]
+fn body_row(word: u64, font: Font, bold: bool) -> u64
+    ensures { (glyph : ℕ → ℕ → Bool) (y : ℕ) → ((x : ℕ) → x < font_width font → word_dot word x ≡ glyph x y)
+        → (x : ℕ) → word_dot result x ≡ (nat_lt x (font_width font) && bold_dot bold glyph x y) }
+{
+    let thick = if bold { emphasized(word) } else { word };
+    shared(thick, first_dots(font.width()))
+}
+
+/// A row as it is printed, of a character that isn't magnified and is no wider than a word.
+#[inline(always)]
+fn printed_row(word: u64, font: Font, style: Style, y: u32) -> u64
+    requires wide { style.wm ≡ 1 }
+    requires high { style.hm ≡ 1 }
+    requires narrow { cell_width font style ≤ 64 }
+    requires y { y < font_height font }
+    ensures { (sheets : Sheets) (c : ℕ) → ((x : ℕ) → x < font_width font → word_dot word x ≡ font_dot sheets c font x y)
+        → (x : ℕ) → word_dot result x ≡ cell_dot sheets font style c x y }
+{
+    let body = body_row(word, font, style.bold);
+    let whole = first_dots(width_of(font, style));
+    if style.inverse {
+        return shared(inverted(body), whole);
+    }
+    if y >= font.height().saturating_sub(u32::from(style.underline)) {
+        return whole;
+    }
+    body
+}
+
 impl Cell<'_> {
-    /// A row of the character in its font.
-    fn font_row(&self, y: u32) -> [u8; 2]
-        requires { y < font_height self.now.font }
-        ensures { (x : ℕ) → dot result x ≡ (nat_lt x (font_width self.now.font) && font_dot self.now.sheets.now self.now.character self.now.font x y) }
+    /// The rows of the character, unless its font is drawn from sheet A at another size.
+    fn own_rows(&self) -> Option<&[u64]>
+        ensures { MatchOption result ((self.now.font ≡ Font.B) × (self.now.sheets.now.b ≡ None))
+            (λ rows. (x y : ℕ) → word_dot (slice_index rows.now y) x
+            ≡ font_dot self.now.sheets.now self.now.character self.now.font x y) }
     {
         match (self.font, &self.sheets.b) {
-            (Font::B, Some(b)) => b.cell_row(self.character, y, 9),
-            (Font::B, None) => nine_of(row_in(&self.sheets.a, self.character, y * 24 / 17, 12)),
-            (Font::A, _) => row_in(&self.sheets.a, self.character, y, 12),
+            (Font::B, Some(b)) => Some(b.rows_of(self.character)),
+            (Font::B, None) => None,
+            (Font::A, _) => Some(rows_in(&self.sheets.a, self.character)),
         }
     }
 
-    /// A row of the character, emphasized where its style says so.
-    fn bold_row(&self, y: u32) -> [u8; 2]
+    /// A row of the character in its font.
+    fn font_row(&self, y: u32) -> u64
         requires { y < font_height self.now.font }
-        ensures { (x : ℕ) → dot result x ≡ (nat_lt x (font_width self.now.font) && bold_dot self.now.style.bold (font_dot self.now.sheets.now self.now.character self.now.font) x y) }
+        ensures { (x : ℕ) → x < font_width self.now.font
+            → word_dot result x ≡ font_dot self.now.sheets.now self.now.character self.now.font x y }
     {
-        let dots = self.font_row(y);
-        if self.style.bold {
-            emphasized(dots, self.font.width())
-        } else {
-            dots
-        }
+        let Some(rows) = self.own_rows() else {
+            let rows = rows_in(&self.sheets.a, self.character);
+            return nine_of(row_at(rows, (y * 24 / 17) as usize));
+        };
+        row_at(rows, y as usize)
     }
 
-    /// A row of the character before it is magnified, inverted where its style says so.
-    fn source_row(&self, y: u32) -> [u8; 2]
+    /// A row of the character before it is magnified, emphasized and inverted where its style says so.
+    fn source_row(&self, y: u32) -> u64
         requires { y < font_height self.now.font }
-        ensures { (x : ℕ) → let black = bold_dot self.now.style.bold (font_dot self.now.sheets.now self.now.character self.now.font) x y in dot result x ≡ (nat_lt x (font_width self.now.font) && (if self.now.style.inverse then not black else black)) }
+        ensures { (x : ℕ) → let black = bold_dot self.now.style.bold
+            (font_dot self.now.sheets.now self.now.character self.now.font) x y in
+            word_dot result x ≡ (nat_lt x (font_width self.now.font)
+            && (if self.now.style.inverse then not black else black)) }
     {
-        let dots = self.bold_row(y);
+        let body = body_row(self.font_row(y), self.font, self.style.bold);
         if self.style.inverse {
-            inverted(dots, self.font.width())
+            shared(inverted(body), first_dots(self.font.width()))
         } else {
-            dots
+            body
         }
     }
 
     /// Paints a row of the character, magnified.
-    fn paint_body(&self, dots: [u8; 2], op: Op, at: i64, row: &mut [u8])
-        requires { (x : ℕ) → dot dots x ≡ true → x < font_width self.now.font }
-        ensures { Painted op (shifted at (λ x. nat_lt x (font_width self.now.font * self.now.style.wm) && dot dots (x / self.now.style.wm))) row.old row.new }
+    fn paint_body(&self, word: u64, op: Op, at: i64, row: &mut [u8])
+        requires { (x : ℕ) → word_dot word x ≡ true → x < font_width self.now.font }
+        ensures { Painted op (shifted at (λ x. nat_lt x (font_width self.now.font * self.now.style.wm)
+            && word_dot word (x / self.now.style.wm))) row.old row.new }
     {
-        if dots[0] == 0 && dots[1] == 0 {
+        if word == 0 {
             return;
         }
         let wm = u32::from(self.style.wm);
         if wm == 1 {
-            paint_dots(op, &dots, at, row);
+            paint_word(op, word, at, row);
             return;
         }
         match self.font {
-            Font::A => paint_scaled::<12>(op, at, dots, 0, 12 * wm, row),
-            Font::B => paint_scaled::<9>(op, at, dots, 0, 9 * wm, row),
+            Font::A => paint_scaled::<12>(op, at, word, 0, 12 * wm, row),
+            Font::B => paint_scaled::<9>(op, at, word, 0, 9 * wm, row),
         }
     }
 }
@@ -170,8 +208,8 @@ impl Cell<'_> {
     {
         let style = self.style;
         let (width, _) = self.size();
-        let dots = self.source_row(y / u32::from(style.hm));
-        self.paint_body(dots, op, at, row);
+        let word = self.source_row(y / u32::from(style.hm));
+        self.paint_body(word, op, at, row);
         fill_moved(op, at, self.font.width() * u32::from(style.wm), width, row);
     }
 
@@ -187,8 +225,8 @@ impl Cell<'_> {
             fill_moved(op, at, 0, width, row);
             return;
         }
-        let dots = self.source_row(y / u32::from(style.hm));
-        self.paint_body(dots, op, at, row);
+        let word = self.source_row(y / u32::from(style.hm));
+        self.paint_body(word, op, at, row);
     }
 }
 
@@ -222,6 +260,21 @@ impl Ink for Cell<'_> {
         } else {
             body || y >= height.saturating_sub(u32::from(style.underline))
         }
+    }
+
+    fn words(&self, words: &mut [u64; WORDS]) -> bool {
+        let (font, style) = (self.font, self.style);
+        if style.wm != 1 || style.hm != 1 || width_of(font, style) > 64 {
+            return false;
+        }
+        let Some(rows) = self.own_rows() else {
+            return false;
+        };
+        *words = [0; WORDS];
+        for y in 0..font.height() {
+            words[y as usize] = printed_row(row_at(rows, y as usize), font, style, y);
+        }
+        true
     }
 
     fn paint_row(&self, y: u32, op: Op, at: i64, row: &mut [u8]) {

@@ -6,10 +6,9 @@ ghost use Rattle.vp_glyph.specs.Blocks.{pitch};
 
 mod block;
 mod cell;
-mod few;
-mod front;
 mod header;
 mod lines;
+mod look;
 mod sampled;
 mod sheet;
 #[cfg(test)]
@@ -51,8 +50,9 @@ impl Sheets {
         ensures w { result.w ≡ w }
         ensures h { result.h ≡ h }
     {
+        let sheet = &self.a;
         Sampled {
-            sheet: &self.a,
+            sheet,
             character,
             w,
             h,

@@ -5,8 +5,8 @@ ghost use Rattle.vp_dots.specs.Painting.{Painted};
 ghost use Rattle.vp_glyph.specs.Sheets.{scaled_dot};
 ghost use Rattle.vp_glyph.specs.Texts.{sampled_dot, sampled_inside};
 
-use crate::few::paint_scaled;
-use crate::sheet::{Sheet, dot_in, row_in};
+use crate::look::paint_scaled;
+use crate::sheet::{Sheet, dot_in, row_at, rows_in};
 use vp_dots::{Ink, Op};
 
 /// A character drawn w by h.
@@ -36,8 +36,9 @@ impl Sampled<'_> {
         if y >= self.h {
             return;
         }
-        let dots = row_in(self.sheet, self.character, sampled_place(y, 24, self.h), 12);
-        paint_scaled::<12>(op, at, dots, left, self.w, row);
+        let place = sampled_place(y, 24, self.h);
+        let word = row_at(rows_in(self.sheet, self.character), place as usize);
+        paint_scaled::<12>(op, at, word, left, self.w, row);
     }
 }
 

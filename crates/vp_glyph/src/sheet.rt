@@ -1,15 +1,15 @@
 //! A glyph sheet: an image of 16 by 16 cells.
-ghost use Rattle.std.specs.Prelude.{◌≡◌, ℕ, nat_lt, ◌&&◌, ◌+◌, ◌≤◌, ◌*◌, ◌⊎◌, ◌^◌, length, Ok, Err, IsOk, MatchResult, alloc_error};
-ghost use Rattle.vp_dots.specs.Dots.{dot};
-ghost use Rattle.vp_glyph.specs.Sheets.{glyph_dot, sheet_dot};
+ghost use Rattle.std.specs.Prelude.{◌≡◌, ℕ, ◌<◌, ◌+◌, ◌≤◌, ◌*◌, ◌⊎◌, length, slice_index, IfOk, Ok, Err, IsOk, MatchResult, alloc_error};
+ghost use Rattle.vp_dots.specs.Words.{word_dot};
+ghost use Rattle.vp_glyph.specs.Sheets.{IsCut, glyph_dot, sheet_dot};
 ghost use Rattle.vp_glyph.specs.Reading.{sheet_of, number_of};
 
-use crate::front::front_of;
 use crate::header::header_behind;
+use crate::look::shared;
 use std::alloc::{AllocError, Global};
 use std::marker::Model;
 use thiserror::Error;
-use vp_dots::dot_of;
+use vp_dots::{dot_of, first_dots, word_at};
 
 /// Why a text is no sheet, in the order in which it is looked at.
 #[derive(Debug, Drop, PartialEq, Eq, Error)]
@@ -52,17 +52,24 @@ pub struct Sheet {
     wide: u32,
     high: u32,
     raster: Vec<u8>,
+    /// The rows of the cells as words, those of cell 0 first.
+    rows: Vec<u64>,
 }
 
 impl Model for Sheet {
     ghost use Rattle.std.specs.Prelude.{ℕ, ◌≡◌, ◌*◌, ◌≤◌, length};
-    ghost use Rattle.vp_glyph.specs.Sheets.{Glyphs};
+    ghost use Rattle.vp_glyph.specs.Sheets.{Glyphs, IsCut};
 
     ghost Value = { Glyphs };
 
     ghost view = { λ s. record { wide = s.wide; high = s.high; raster = s.raster.items } };
 
-    ghost invariant = { λ s. record { wide : s.wide ≤ 64; high : s.high ≤ 64; whole : length s.raster.items ≡ 32 * s.wide * s.high } };
+    ghost invariant = { λ s. record {
+      wide : s.wide ≤ 64;
+      high : s.high ≤ 64;
+      whole : length s.raster.items ≡ 32 * s.wide * s.high;
+      cut : IsCut (record { wide = s.wide; high = s.high; raster = s.raster.items }) s.rows.items;
+    } };
 }
 
 impl Sheet {
@@ -75,15 +82,28 @@ impl Sheet {
     {
         match raster_of(src, w, h) {
             Err(why) => Err(why),
-            Ok(raster) => match Vec::from_slice(alloc, raster) {
+            Ok(raster) => match Sheet::of_raster(alloc, raster, w, h) {
                 Err(why) => Err(SheetError::Memory(why)),
-                Ok(raster) => Ok(Sheet {
-                    wide: w,
-                    high: h,
-                    raster,
-                }),
+                Ok(sheet) => Ok(sheet),
             },
         }
+    }
+
+    /// The sheet whose rows have these bytes.
+    fn of_raster(alloc: Global, raster: &[u8], w: u32, h: u32) -> Result<Sheet, AllocError>
+        requires w { w ≤ 64 }
+        requires h { h ≤ 64 }
+        requires whole { length raster.now ≡ 32 * w * h }
+        ensures { IfOk result (λ sheet. sheet ≡ record { wide = w; high = h; raster = raster.now }) }
+    {
+        let rows = cut(alloc, raster, w, h)?;
+        let raster = Vec::from_slice(alloc, raster)?;
+        Ok(Sheet {
+            wide: w,
+            high: h,
+            raster,
+            rows,
+        })
     }
 
     /// The dot of cell c at column x of row y, white outside the cell.
@@ -101,18 +121,40 @@ impl Sheet {
         }
     }
 
-    /// The first dots of a row of cell c, white past the cell.
-    pub(crate) fn cell_row(&self, c: u8, y: u32, most: u32) -> [u8; 2]
-        requires { most ≤ 16 }
-        ensures { (x : ℕ) → dot result x ≡ (nat_lt x most && glyph_dot self.now c x y) }
+    /// The rows of cell c, white past the cell.
+    pub(crate) fn rows_of(&self, c: u8) -> &[u64]
+        ensures { (x y : ℕ) → word_dot (slice_index result.now y) x ≡ glyph_dot self.now c x y }
     {
-        if y >= self.high {
-            return [0; 2];
-        }
-        let (column, line) = (u32::from(c) % 16, u32::from(c) / 16);
-        let from = 16 * self.wide * (self.high * line + y) + self.wide * column;
-        front_of(&self.raster, from, most.min(self.wide))
+        let high = self.high as usize;
+        let first = high * usize::from(c);
+        &self.rows[first..first + high]
     }
+}
+
+/// A row of a cell of a raster, white past the cell.
+fn cut_row(raster: &[u8], w: u32, h: u32, c: u32, y: u32) -> u64
+    requires w { w ≤ 64 }
+    requires h { h ≤ 64 }
+    requires c { c < 256 }
+    requires y { y < h }
+    ensures { (x : ℕ) → word_dot result x ≡ glyph_dot (record { wide = w; high = h; raster = raster.now }) c x y }
+{
+    let (column, line) = (c % 16, c / 16);
+    let from = 16 * w * (h * line + y) + w * column;
+    shared(word_at(raster, from as usize), first_dots(w))
+}
+
+/// The rows of the cells of a raster, those of cell 0 first.
+fn cut(alloc: Global, raster: &[u8], w: u32, h: u32) -> Result<Vec<u64>, AllocError>
+    requires w { w ≤ 64 }
+    requires h { h ≤ 64 }
+    ensures { IfOk result (λ rows. IsCut (record { wide = w; high = h; raster = raster.now }) rows.items) }
+{
+    let mut rows = vec![in alloc; 0; 256 * h as usize]?;
+    for i in 0..256 * h {
+        rows[i as usize] = cut_row(raster, w, h, i / h, i % h);
+    }
+    Ok(rows)
 }
 
 /// The bytes of the rows that a text tells.
@@ -148,13 +190,20 @@ pub fn dot_in(sheet: &Option<Sheet>, c: u8, x: u32, y: u32) -> bool
     }
 }
 
-/// The first dots of a row of a cell of a sheet, white without a sheet.
-pub fn row_in(sheet: &Option<Sheet>, c: u8, y: u32, most: u32) -> [u8; 2]
-    requires { most ≤ 16 }
-    ensures { (x : ℕ) → dot result x ≡ (nat_lt x most && sheet_dot sheet.now c x y) }
+/// The rows of a cell of a sheet, none without a sheet.
+pub fn rows_in(sheet: &Option<Sheet>, c: u8) -> &[u64]
+    ensures { (x y : ℕ) → word_dot (slice_index result.now y) x ≡ sheet_dot sheet.now c x y }
 {
     match sheet {
-        Some(sheet) => sheet.cell_row(c, y, most),
-        None => [0; 2],
+        Some(sheet) => sheet.rows_of(c),
+        None => &[],
     }
+}
+
+/// Row y of a cell, white below it.
+#[inline(always)]
+pub fn row_at(rows: &[u64], y: usize) -> u64
+    ensures { result ≡ slice_index rows.now y }
+{
+    if y < rows.len() { rows[y] } else { 0 }
 }

@@ -1,0 +1,99 @@
+-- Rows of characters that aren't magnified.
+use Rattle.std.proofs.Common.{inl, inr, ◌≡◌, ℕ, ◌+◌, ◌-◌, ◌*◌, ◌/◌, ◌<◌, ◌≤◌, Bool, true, false, not, cond, ltb, ◌&&◌, ◌||◌, refl, sym, ap, ◌∙◌, arith, List, length, get_or, set, replicate, get_or-set_same, get_or-set_other}
+use Rattle.std.proofs.lemmas.List.{get_or-replicate, get_or_past, length-replicate}
+use Rattle.std.proofs.lemmas.Bool.{cases_eq, cases_lt, lt-ltb, le-ltb, lt-leb, le-leb}
+use Rattle.vp_dots.specs.Words.{word_dot}
+use Rattle.vp_glyph.specs.Cells.{font_width, font_height, font_dot, bold_dot, cell_width, underlined, cell_dot}
+use Rattle.vp_glyph.specs.declared.cell.Font.{Font}
+use Rattle.vp_glyph.specs.declared.cell.Style.{Style}
+use Rattle.vp_glyph.specs.declared.Sheets.{Sheets}
+use Rattle.vp_glyph.proofs.Looks.{white_dot}
+
+and_false : (b : Bool) → (b && false) ≡ false
+and_false true = refl
+and_false false = refl
+
+or_true : (b : Bool) → (b || true) ≡ true
+or_true true = refl
+or_true false = refl
+
+or_false : (b : Bool) → (b || false) ≡ b
+or_false true = refl
+or_false false = refl
+
+module _ (sheets : Sheets) (font : Font) (style : Style) (c y : ℕ) (w : style.wm ≡ 1) (h : style.hm ≡ 1) (low : y < font_height font) where
+  -- the dots of the character itself
+  abbrev body : ℕ → Bool
+  body x = ltb x (font_width font) && bold_dot style.bold (font_dot sheets c font) x y
+
+  plain_dot : (x : ℕ) → cell_dot sheets font style c x y ≡ (ltb x (cell_width font style) && cond style.inverse (not (body x)) (body x || underlined font style y))
+  unfolding cell_dot
+  plain_dot x =
+      let across : x / 1 ≡ x = omega arith in
+      let down : y / 1 ≡ y = omega arith in
+      let high : font_height font * 1 ≡ font_height font = omega arith in
+      rw (w, h, across, down, high, lt-ltb y (font_height font) low) (same (ltb x ((font_width font + style.spacing) * 1)) _)
+    where
+      same : (a b : Bool) → (a && true && b) ≡ (a && b)
+      same true b = refl
+      same false b = refl
+
+  pub printed_inverse : (dots other whole word x : ℕ) → cell_width font style ≤ 64 → style.inverse ≡ true → word_dot dots x ≡ body x → (x < 64 → word_dot other x ≡ not (word_dot dots x))
+      → word_dot whole x ≡ ltb x (cell_width font style) → word_dot word x ≡ (word_dot other x && word_dot whole x) → word_dot word x ≡ cell_dot sheets font style c x y
+  printed_inverse dots other whole word x narrow i d o k e = e ∙ ap (λ b. word_dot other x && b) k ∙ sym (plain_dot x ∙ elim (cases_lt x (cell_width font style)) [
+    | inl l ↦ rw (lt-ltb x (cell_width font style) l, i) (sym (and_true _ ∙ o (omega arith) ∙ ap not d))
+    | inr g ↦ rw (le-ltb x (cell_width font style) g) (sym (and_false (word_dot other x)))
+  ])
+    where
+      and_true : (b : Bool) → (b && true) ≡ b
+      and_true true = refl
+      and_true false = refl
+
+  pub printed_underline : (whole x : ℕ) → style.inverse ≡ false → font_height font - style.underline ≤ y → word_dot whole x ≡ ltb x (cell_width font style) → word_dot whole x ≡ cell_dot sheets font style c x y
+  printed_underline whole x i u k =
+      let under : underlined font style y ≡ true = le-leb _ y (let high : font_height font * style.hm ≡ font_height font = ap (λ n. font_height font * n) h ∙ omega arith in rw high u) in
+      k ∙ sym (plain_dot x ∙ rw (i, under, or_true (body x)) (and_true (ltb x (cell_width font style))))
+    where
+      and_true : (b : Bool) → (b && true) ≡ b
+      and_true true = refl
+      and_true false = refl
+
+  pub printed_upright : (dots x : ℕ) → style.inverse ≡ false → y < font_height font - style.underline → word_dot dots x ≡ body x → word_dot dots x ≡ cell_dot sheets font style c x y
+  printed_upright dots x i u d =
+      let above : underlined font style y ≡ false = lt-leb _ y (let high : font_height font * style.hm ≡ font_height font = ap (λ n. font_height font * n) h ∙ omega arith in rw high u) in
+      d ∙ sym (plain_dot x ∙ rw (i, above, or_false (body x)) (elim (cases_lt x (font_width font)) [
+        | inl l ↦ (let wide : cell_width font style ≡ font_width font + style.spacing = ap (λ n. (font_width font + style.spacing) * n) w ∙ omega arith in
+            let inside : x < cell_width font style = omega (arith, wide) in rw (lt-ltb x (font_width font) l, lt-ltb x (cell_width font style) inside) refl)
+        | inr g ↦ rw (le-ltb x (font_width font) g) (and_false (ltb x (cell_width font style)))
+      ]))
+
+-- below the character there is nothing
+pub printed_rows : (sheets : Sheets) (font : Font) (style : Style) (c x y n : ℕ) → style.hm ≡ 1 → font_height font ≤ n → (ltb y n && cell_dot sheets font style c x y) ≡ cell_dot sheets font style c x y
+unfolding cell_dot
+printed_rows sheets font style c x y n h l =
+    let high : font_height font * style.hm ≡ font_height font = ap (λ n. font_height font * n) h ∙ omega arith in
+    elim (cases_lt y n) [
+      | inl m ↦ rw (lt-ltb y n m) refl
+      | inr g ↦ rw (le-ltb y n g, high, le-ltb y (font_height font) (omega arith)) (sym (nowhere (ltb x (cell_width font style)) _))
+    ]
+  where
+    nowhere : (a b : Bool) → (a && false && b) ≡ false
+    nowhere true b = refl
+    nowhere false b = refl
+
+-- words that are written from the first one on
+pub words_none : (f : ℕ → ℕ → Bool) (k x : ℕ) → word_dot (get_or (replicate {A = ℕ} 24 0) k 0) x ≡ (ltb k 0 && f x k)
+words_none f k x = ap (λ w. word_dot w x) (elim (cases_lt k 24) as (λ _. get_or (replicate {A = ℕ} 24 0) k 0 ≡ 0) [
+  | inl l ↦ get_or-replicate 24 k 0 0 l
+  | inr g ↦ get_or_past (replicate {A = ℕ} 24 0) k 0 (omega (arith, length-replicate {A = ℕ} 24 0))
+]) ∙ white_dot x ∙ rw (le-ltb k 0 (omega arith)) refl
+
+pub words_more : (f : ℕ → ℕ → Bool) (words : List ℕ) (y v : ℕ) → y < length words → ((k x : ℕ) → word_dot (get_or words k 0) x ≡ (ltb k y && f x k)) → ((x : ℕ) → word_dot v x ≡ f x y)
+    → (k x : ℕ) → word_dot (get_or (set words y v) k 0) x ≡ (ltb k (y + 1) && f x k)
+words_more f words y v l before row k x = elim (cases_eq k y) [
+  | inl e ↦ ap (λ w. word_dot w x) (ap (λ i. get_or (set words y v) i 0) e ∙ get_or-set_same words y v 0 l) ∙ row x ∙ rw (e, lt-ltb y (y + 1) (omega arith)) refl
+  | inr n ↦ ap (λ w. word_dot w x) (get_or-set_other words y k v 0 n) ∙ before k x ∙ ap (λ b. b && f x k) (one_less k y n)
+]
+  where
+    one_less : (d x : ℕ) → (d ≡ x → ⊥) → ltb d x ≡ ltb d (x + 1)
+    one_less d x n = elim (cases_lt d x) [ inl y ↦ lt-ltb d x y ∙ sym (lt-ltb d (x + 1) (omega arith)) | inr g ↦ le-ltb d x g ∙ sym (le-ltb d (x + 1) (omega arith)) ]

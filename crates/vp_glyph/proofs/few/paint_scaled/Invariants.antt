@@ -1,5 +1,0 @@
-use Rattle.vp_glyph.proofs.Spread.{Running}
-use Rattle.vp_glyph.proofs.few.paint_scaled.Given as goal
-
-abbrev pub invariant-loop-s : goal.invariant-loop-s
-invariant-loop-s g l = Running l.op l.fn.at g.row.N l.dots l.left l.width l.s l.from l.to l.fn.row l.row
