@@ -58,8 +58,8 @@ const PLAIN: Style = Style {
     inverse: false,
 };
 
-/// Paints a row of a cell that stands so many dots to the right.
-fn paint_cell(cell: &Cell<'_>, y: u32, left: u32, op: Op, at: i64, row: &mut [u8])
+/// Paints a row of a cell that stands so many dots to the right, dot by dot.
+fn paint_cell_dots(cell: &Cell<'_>, y: u32, left: u32, op: Op, at: i64, row: &mut [u8])
     requires { left + cell_width cell.now.font cell.now.style < 2 ^ 32 }
     ensures { Painted op (shifted at (λ i. nat_le left i && cell_dot cell.now.sheets.now cell.now.font cell.now.style cell.now.character (i - left) y)) row.old row.new }
 {
@@ -68,6 +68,18 @@ fn paint_cell(cell: &Cell<'_>, y: u32, left: u32, op: Op, at: i64, row: &mut [u8
         if cell.ink(x, y) {
             fill_moved(op, at, left + x, left + x + 1, row);
         }
+    }
+}
+
+/// Paints a row of a cell that stands so many dots to the right.
+fn paint_cell(cell: &Cell<'_>, y: u32, left: u32, op: Op, at: i64, row: &mut [u8])
+    requires { left + cell_width cell.now.font cell.now.style < 2 ^ 32 }
+    ensures { Painted op (shifted at (λ i. nat_le left i && cell_dot cell.now.sheets.now cell.now.font cell.now.style
+        cell.now.character (i - left) y)) row.old row.new }
+{
+    match at.checked_add(i64::from(left)) {
+        Some(place) => cell.paint_row(y, op, place, row),
+        None => paint_cell_dots(cell, y, left, op, at, row),
     }
 }
 
@@ -166,7 +178,7 @@ impl BarBox<'_> {
         ensures bars { self.now.bars_width ≤ result }
     {
         match self.place {
-            Place::None => self.bars_width.max(0),
+            Place::None => self.bars_width,
             Place::Above => self.bars_width.max(self.text_width),
             Place::Below => self.bars_width.max(self.text_width),
             Place::Both => self.bars_width.max(self.text_width),
@@ -256,5 +268,10 @@ impl Ink for BarBox<'_> {
 
     fn paint_row(&self, y: u32, op: Op, at: i64, row: &mut [u8]) {
         self.paint(y, op, at, row);
+    }
+
+    fn repeats(&self, y: u32) -> bool {
+        let top = self.top();
+        y > top && y < top + u32::from(self.height)
     }
 }

@@ -1,7 +1,7 @@
 use Rattle.std.proofs.Common.{◌+◌, ◌-◌, leb, ◌&&◌}
 use Rattle.vp_glyph.specs.Cells.{cell_dot}
 use Rattle.vp_bars.specs.Drawing.{Drawn}
-use Rattle.vp_bars.proofs.bar_box.paint_cell.Given as goal
+use Rattle.vp_bars.proofs.bar_box.paint_cell_dots.Given as goal
 
 -- the dots so far
 abbrev pub invariant-loop-x : goal.invariant-loop-x

@@ -2,7 +2,7 @@ use Rattle.std.proofs.Common.{◌+◌, sym, arith, w64}
 use Rattle.std.proofs.lemmas.Int.{to_z-of_z}
 use Rattle.vp_bars.proofs.Paints.{drawn_all}
 use Rattle.vp_bars.proofs.TextLines.{cell_past}
-use Rattle.vp_bars.proofs.bar_box.paint_cell.Goals as goal
+use Rattle.vp_bars.proofs.bar_box.paint_cell_dots.Goals as goal
 
 pub returns : goal.returns
 returns c =
