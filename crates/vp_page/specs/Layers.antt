@@ -1,5 +1,7 @@
 -- What is laid on a page, and the dots that this makes.
-use Rattle.std.specs.Prelude.{ℕ, ◌-◌, nat_eq, nat_lt, nat_le, Bool, false, not, ◌&&◌, ◌||◌, List, [], ◌∷◌}
+use Rattle.std.specs.Prelude.{ℕ, ◌-◌, ◌*◌, slice_index_or, nat_eq, nat_lt, nat_le, Bool, false, not, ◌&&◌, ◌||◌, List, [], ◌∷◌}
+use Rattle.vp_dots.specs.Dots.{dot}
+use Rattle.vp_page.specs.declared.line.TheConstants.{LINE}
 use Rattle.vp_page.specs.declared.area.Area.{Area}
 use Rattle.vp_page.specs.declared.area.Direction.{Direction}
 use Rattle.vp_page.specs.Areas.{holds, along, down}
@@ -30,6 +32,15 @@ page_dot (Wiped a ∷ before) x y = not (holds a x y) && page_dot before x y
 -- one row of dots, laid at a depth of the area
 abbrev pub row_mark : Area → Direction → ℕ → (ℕ → Bool) → Mark
 row_mark a d v row = record { area = a; direction = d; top = v; dot = λ u w. nat_eq w 0 && row u }
+
+-- eight rows of at most 1,664 dots, laid one below the other from a depth of the area on
+abbrev pub eight_mark : Area → Direction → ℕ → List (List ℕ) → Mark
+eight_mark a d v rows = record {
+  area = a;
+  direction = d;
+  top = v;
+  dot = λ u w. nat_lt w 8 && (nat_lt u (8 * LINE) && dot (slice_index_or rows w []) u);
+}
 
 -- the first n rows of what a mark lays
 abbrev pub first_rows : ℕ → Mark → Mark

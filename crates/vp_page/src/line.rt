@@ -1,5 +1,6 @@
 //! One row of dots, laid along a row of a page or across its rows, and a box made white.
-ghost use Rattle.std.specs.Prelude.{◌≡◌, ℕ, ◌+◌, ◌-◌, ◌*◌, ◌≤◌, ◌^◌, ◌&&◌, nat_eq, nat_lt, nat_le, ◌<◌, [], ◌∷◌, length, pos, ◌+ℤ◌};
+ghost use Rattle.std.specs.Prelude.{◌≡◌, ℕ, ◌+◌, ◌-◌, ◌*◌, ◌≤◌, ◌^◌, ◌&&◌, nat_eq, nat_lt, nat_le, ◌<◌, [], ◌∷◌, length, slice_index_or, pos, ◌+ℤ◌};
+ghost use Rattle.vp_page.specs.declared.line.TheConstants.{LINE};
 ghost use Rattle.vp_dots.specs.Dots.{bit, dot, dots, shifted};
 ghost use Rattle.vp_dots.specs.Painting.{Painted};
 ghost use Rattle.vp_dots.specs.Places.{RowsPainted};
@@ -7,7 +8,7 @@ ghost use Rattle.vp_dots.specs.declared.Op.TheVariants.{Black, White};
 ghost use Rattle.vp_page.specs.Areas.{holds};
 
 use crate::Area;
-use vp_dots::{Band, Ink, Op, fill_dots, or_into};
+use vp_dots::{Band, Ink, Op, fill_dots, lay_eight, or_into};
 
 /// The rows of the page.
 const ROWS: usize = 1664;
@@ -206,6 +207,84 @@ pub(crate) fn lay_up(row: &[u8], area: Area, x: usize, band: &mut Band<72, 1664>
     clip_reversed(row, area.dy, line);
     let below = u32::from(area.y) + u32::from(area.dy);
     lay_across(line, start_of(below, row.len()), x, band);
+}
+
+/// The dots of a line that stand before a place.
+fn clipped(row: &[u8; LINE], end: u16) -> [u8; LINE]
+    ensures { (d : ℕ) → dot result d ≡ (nat_lt d end && dot row.now d) }
+{
+    let mut line = [0; LINE];
+    clip(row, end, &mut line);
+    line
+}
+
+/// The same, from the last dot to the first.
+fn clipped_reversed(row: &[u8; LINE], end: u16) -> [u8; LINE]
+    ensures { (d : ℕ) → dot result d ≡ (nat_lt d (8 * LINE)
+        && (nat_lt (8 * LINE - 1 - d) end && dot row.now (8 * LINE - 1 - d))) }
+{
+    let mut line = [0; LINE];
+    clip_reversed(row, end, &mut line);
+    line
+}
+
+/// Eight lines, the last one first, as far as a place.
+fn clip_upward(lines: &[[u8; LINE]; 8], end: u16) -> [[u8; LINE]; 8]
+    ensures { (i d : ℕ) → i < 8
+        → dot (slice_index_or result i []) d ≡ (nat_lt d end && dot (slice_index_or lines.now (7 - i) []) d) }
+{
+    let mut cut = [[0; LINE]; 8];
+    for i in 0..8usize {
+        cut[i] = clipped(&lines[7 - i], end);
+    }
+    cut
+}
+
+/// Eight lines as far as a place, each from the last dot to the first.
+fn clip_eight_reversed(lines: &[[u8; LINE]; 8], end: u16) -> [[u8; LINE]; 8]
+    ensures { (i d : ℕ) → i < 8 → dot (slice_index_or result i []) d ≡ (nat_lt d (8 * LINE)
+        && (nat_lt (8 * LINE - 1 - d) end && dot (slice_index_or lines.now i []) (8 * LINE - 1 - d))) }
+{
+    let mut cut = [[0; LINE]; 8];
+    for i in 0..8usize {
+        cut[i] = clipped_reversed(&lines[i], end);
+    }
+    cut
+}
+
+/// Blackens eight columns of the page where eight lines, from the area's top down, are black: the last line at `left`,
+/// and each on the right of the next.
+pub(crate) fn lay_eight_down(
+    lines: &[[u8; LINE]; 8],
+    area: Area,
+    left: usize,
+    band: &mut Band<72, 1664>,
+)
+    requires { left < 2 ^ 63 }
+    ensures { RowsPainted 1664 Black (λ x k. nat_le left x && (nat_lt (x - left) 8 && (nat_le area.y k
+        && (nat_lt (k - area.y) area.dy && dot (slice_index_or lines.now (7 - (x - left)) []) (k - area.y)))))
+        band.old band.new }
+{
+    let cut = clip_upward(lines, area.dy);
+    lay_eight(Op::Black, &cut, left, i64::from(area.y), band);
+}
+
+/// Blackens eight columns of the page where eight lines, from the area's lower edge up, are black: the first line at
+/// `left`.
+pub(crate) fn lay_eight_up(
+    lines: &[[u8; LINE]; 8],
+    area: Area,
+    left: usize,
+    band: &mut Band<72, 1664>,
+)
+    requires { left < 2 ^ 63 }
+    ensures { RowsPainted 1664 Black (λ x k. nat_le left x && (nat_lt (x - left) 8 && (nat_lt k (area.y + area.dy)
+        && (nat_lt (area.y + area.dy - 1 - k) area.dy && (nat_lt (area.y + area.dy - 1 - k) (8 * LINE)
+        && dot (slice_index_or lines.now (x - left) []) (area.y + area.dy - 1 - k)))))) band.old band.new }
+{
+    let cut = clip_eight_reversed(lines, area.dy);
+    let below = u32::from(area.y) + u32::from(area.dy);
+    lay_eight(Op::Black, &cut, left, start_of(below, LINE), band);
 }
 
 /// Makes the places of an area white.

@@ -3,7 +3,9 @@ ghost use Rattle.std.specs.Prelude.{◌≡◌, ℕ, ◌<◌, ◌≤◌, List, []
 ghost use Rattle.vp_dots.specs.Dots.{dot};
 ghost use Rattle.vp_dots.specs.Images.{row_of};
 
-use crate::line::{LINE, draw, lay_down, lay_left, lay_right, lay_up, whiten};
+use crate::line::{
+    LINE, draw, lay_down, lay_eight_down, lay_eight_up, lay_left, lay_right, lay_up, whiten,
+};
 use crate::{Area, Direction};
 use std::alloc::{AllocError, Global};
 use std::marker::Model;
@@ -24,7 +26,7 @@ impl Model for Page {
 }
 
 impl Page {
-    ghost use Rattle.vp_page.specs.Layers.{Layer, Laid, Wiped, row_mark, page_dot};
+    ghost use Rattle.vp_page.specs.Layers.{Layer, Laid, Wiped, row_mark, eight_mark, page_dot};
     ghost use Rattle.vp_page.specs.Pages.{HasPage};
 
     /// A white page.
@@ -60,6 +62,32 @@ impl Page {
             Direction::BottomToTop => lay_up(row, area, area.x as usize + v, &mut self.band),
             Direction::RightToLeft => lay_left(row, area, below - 1 - v, &mut self.band),
             Direction::TopToBottom => lay_down(row, area, right - 1 - v, &mut self.band),
+        }
+    }
+
+    /// Lays eight rows of dots, one below the other, the first at the depth v of an area, as `lay_row` lays each.
+    pub fn lay_eight(&mut self, area: Area, direction: Direction, v: u32, rows: &[[u8; LINE]; 8])
+        ensures { (layers : List Layer) → HasPage layers self.old →
+            HasPage (Laid (eight_mark area direction v rows.now) ∷ layers) self.new }
+    {
+        let depth = u32::from(area.depth(direction));
+        if v >= depth {
+            return;
+        }
+        let room = depth - v >= 8;
+        match direction {
+            Direction::BottomToTop if room => {
+                lay_eight_up(rows, area, area.x as usize + v as usize, &mut self.band)
+            }
+            Direction::TopToBottom if room => {
+                let left = area.x as usize + (depth - v) as usize - 8;
+                lay_eight_down(rows, area, left, &mut self.band)
+            }
+            _ => {
+                for i in 0..8u32 {
+                    self.lay_row(area, direction, v + i, &rows[i as usize]);
+                }
+            }
         }
     }
 

@@ -125,3 +125,65 @@ fn wiped(rt: HostRuntime) -> Result<(), Fail> {
     assert_eq!(rt; page.row(7)[0], 0);
     Ok(())
 }
+
+/// Eight rows with dots all over.
+fn eight_rows() -> [[u8; 208]; 8] {
+    let mut rows = [[0; 208]; 8];
+    for i in 0..8u8 {
+        for j in 0..208u8 {
+            rows[usize::from(i)][usize::from(j)] = (j ^ (i << 5)) & 0xb7;
+        }
+    }
+    rows
+}
+
+/// How many rows of the page differ where eight rows are laid at once from where they are laid one by one.
+fn differences(rt: HostRuntime, area: Area, direction: Direction, v: u32) -> Result<u32, Fail> {
+    let rows = eight_rows();
+    let mut at_once = Page::new(rt.alloc())?;
+    at_once.lay_eight(area, direction, v, &rows);
+    let mut one_by_one = Page::new(rt.alloc())?;
+    for i in 0..8u8 {
+        one_by_one.lay_row(
+            area,
+            direction,
+            v.saturating_add(u32::from(i)),
+            &rows[usize::from(i)],
+        );
+    }
+    let mut count = 0u32;
+    for y in 0..1664 {
+        if at_once.row(y) != one_by_one.row(y) {
+            count = count.saturating_add(1);
+        }
+    }
+    Ok(count)
+}
+
+#[test]
+fn eight_at_once(rt: HostRuntime) -> Result<(), Fail> {
+    let inner = Area {
+        x: 13,
+        y: 21,
+        dx: 40,
+        dy: 99,
+    };
+    let past_the_edges = Area {
+        x: 560,
+        y: 1600,
+        dx: 60,
+        dy: 3000,
+    };
+    for area in [inner, past_the_edges] {
+        for v in [0u32, 5, 32, 33, 52] {
+            assert_eq!(rt; differences(rt, area, Direction::LeftToRight, v)?, 0);
+            assert_eq!(rt; differences(rt, area, Direction::BottomToTop, v)?, 0);
+            assert_eq!(rt; differences(rt, area, Direction::RightToLeft, v)?, 0);
+            assert_eq!(rt; differences(rt, area, Direction::TopToBottom, v)?, 0);
+        }
+    }
+    let mut page = Page::new(rt.alloc())?;
+    page.lay_eight(BOX, Direction::TopToBottom, 1, &eight_rows());
+    assert_eq!(rt; page.row(0)[1] != 0, true);
+    Ok(())
+}
