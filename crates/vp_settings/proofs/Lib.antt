@@ -1,0 +1,3 @@
+pub mod Gathering
+pub mod Storing
+pub mod Runs

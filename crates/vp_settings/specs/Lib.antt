@@ -1,0 +1,11 @@
+-- The rules.
+pub mod Setup
+pub mod Images
+pub mod Texts
+pub mod Tabs
+pub mod Symbols
+pub mod Pages
+pub mod Rasters
+pub mod History
+-- What the code keeps.
+pub mod Gathering

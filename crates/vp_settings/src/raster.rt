@@ -1,0 +1,174 @@
+//! The raster whose bytes come: its scale, the rows that are not whole, and the first bytes of the row.
+ghost use Rattle.std.specs.Prelude.{◌≡◌, ℕ, ◌+◌, ◌-◌, ◌*◌, ◌/◌, ◌<◌, ◌≤◌, ◌++◌, List, [], ◌∷◌, take, min, length, nat_lt, nat_le, ◌&&◌, true, Bool};
+ghost use Rattle.vp_esc.specs.declared.item.EscItem.{EscItem};
+ghost use Rattle.vp_settings.specs.Rasters.{times_across, times_down, scale_or, draws, is_row_end, row_so_far, bytes_after};
+ghost use Rattle.vp_settings.specs.Gathering.{IsGathering, IsPartRow, EndsRow, room_of};
+
+use vp_esc::item::{EscItem, RasterScale};
+
+/// A raster whose bytes come, and the bytes of its row as far as they have come.
+#[derive(Clone, Copy)]
+pub struct Raster {
+    pub scale: RasterScale,
+    /// The bytes of a row.
+    pub bytes: u16,
+    /// The rows that are not whole.
+    pub rows: u16,
+    /// How many bytes of the first of them have come.
+    pub got: u16,
+    /// The first of these, as many as the longest line of a page has.
+    pub row: [u8; 208],
+}
+
+/// Whether a raster has bytes to print.
+pub fn draws(scale: Option<RasterScale>, bytes: u16, rows: u16) -> bool
+    ensures { result ≡ draws scale bytes rows }
+{
+    scale.is_some() && bytes > 0 && rows > 0
+}
+
+/// How often a dot is drawn across.
+pub fn times_across(scale: RasterScale) -> u32
+    ensures value { result ≡ times_across scale }
+    ensures some { 0 < result }
+    ensures few { result ≤ 2 }
+{
+    match scale {
+        RasterScale::Normal | RasterScale::DoubleHeight => 1,
+        RasterScale::DoubleWidth | RasterScale::Quadruple => 2,
+    }
+}
+
+/// How often a row is drawn.
+pub fn times_down(scale: RasterScale) -> u32
+    ensures value { result ≡ times_down scale }
+    ensures some { 0 < result }
+    ensures few { result ≤ 2 }
+{
+    match scale {
+        RasterScale::Normal | RasterScale::DoubleWidth => 1,
+        RasterScale::DoubleHeight | RasterScale::Quadruple => 2,
+    }
+}
+
+/// The scale of a raster's head.
+pub fn scale_named(scale: Option<RasterScale>) -> RasterScale
+    ensures { result ≡ scale_or scale }
+{
+    match scale {
+        Some(scale) => scale,
+        None => RasterScale::Normal,
+    }
+}
+
+/// Keeps a byte, if it is one of the first that are kept.
+#[inline(always)]
+fn keep(row: &mut [u8; 208], got: u16, byte: u8)
+    ensures { (came : List ℕ) → got ≡ length came → take (min got 208) row.old ≡ take 208 came →
+        take (min (got + 1) 208) row.new ≡ take 208 (came ++ byte ∷ []) }
+{
+    let i = usize::from(got);
+    if i < 208 {
+        row[i] = byte;
+    }
+}
+
+/// Keeps bytes, those of them that are among the first that are kept.
+fn keep_all(row: &mut [u8; 208], got: u16, bytes: &[u8])
+    ensures { (came : List ℕ) → got ≡ length came → take (min got 208) row.old ≡ take 208 came →
+        take (min (got + length bytes.now) 208) row.new ≡ take 208 (came ++ bytes.now) }
+{
+    let from = usize::from(got).min(208);
+    let n = bytes.len().min(208 - from);
+    row[from..from + n].copy_from_slice(&bytes[..n]);
+}
+
+impl Raster {
+    /// None.
+    pub fn none() -> Raster
+        ensures gathers { IsGathering result [] }
+        ensures part { IsPartRow result }
+    {
+        Raster {
+            scale: RasterScale::Normal,
+            bytes: 0,
+            rows: 0,
+            got: 0,
+            row: [0; 208],
+        }
+    }
+
+    /// Begins the raster of a head, or ends the one that came where the item is another.
+    pub fn begin(&mut self, item: &EscItem)
+        requires { (byte : ℕ) → item.now ≡ EscItem.RasterByte byte → ⊥ }
+        ensures gathers { (before : List EscItem) → IsGathering self.new (item.now ∷ before) }
+        ensures part { IsPartRow self.new }
+    {
+        self.scale = RasterScale::Normal;
+        self.bytes = 0;
+        self.rows = 0;
+        self.got = 0;
+        if let EscItem::Raster { scale, bytes, rows } = item {
+            self.scale = scale_named(scale.value);
+            self.bytes = *bytes;
+            if draws(scale.value, *bytes, *rows) {
+                self.rows = *rows;
+            }
+        }
+    }
+
+    /// Takes a byte, and tells whether it ends a row.
+    #[inline(always)]
+    pub fn take(&mut self, byte: u8) -> bool
+        requires { IsPartRow self.old }
+        ensures part { IsPartRow self.new }
+        ensures ends { (before : List EscItem) → IsGathering self.old before → result ≡ is_row_end before }
+        ensures gathers { (before : List EscItem) → IsGathering self.old before →
+            IsGathering self.new (EscItem.RasterByte byte ∷ before) }
+        ensures row { (before : List EscItem) → IsGathering self.old before → result ≡ true →
+            EndsRow self.new before byte }
+    {
+        if self.rows == 0 {
+            return false;
+        }
+        keep(&mut self.row, self.got, byte);
+        self.got += 1;
+        if self.got < self.bytes {
+            return false;
+        }
+        self.got = 0;
+        self.rows -= 1;
+        true
+    }
+
+    /// How many bytes come before the one that ends the row.
+    pub fn room(&self) -> u16
+        requires { IsPartRow self.now }
+        ensures { result ≡ room_of self.now }
+    {
+        if self.rows == 0 {
+            return 0;
+        }
+        self.bytes - self.got - 1
+    }
+
+    /// Takes bytes before the one that ends the row.
+    pub fn take_all(&mut self, bytes: &[u8])
+        requires part { IsPartRow self.old }
+        requires few { length bytes.now ≤ room_of self.old }
+        ensures part { IsPartRow self.new }
+        ensures gathers { (before : List EscItem) → IsGathering self.old before →
+            IsGathering self.new (bytes_after bytes.now before) }
+    {
+        keep_all(&mut self.row, self.got, bytes);
+        self.got += bytes.len() as u16;
+    }
+
+    /// The bytes that are kept of a whole row.
+    pub fn kept(&self) -> &[u8]
+        ensures bytes { result.now ≡ take (min self.now.bytes 208) self.now.row }
+        ensures few { length result.now ≤ 208 }
+    {
+        &self.row[..usize::from(self.bytes).min(208)]
+    }
+}

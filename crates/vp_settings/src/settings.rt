@@ -1,0 +1,419 @@
+//! All that is in force, and what an item changes of it.
+ghost use Rattle.std.specs.Prelude.{◌≡◌, ℕ, ◌+◌, ◌*◌, ◌≤◌, ◌<◌, List, ◌∷◌, [], false, nat_lt, ◌==◌, max, min, ◌-◌, ℤ, find};
+ghost use Rattle.vp_esc.specs.declared.item.EscItem.{EscItem};
+ghost use Rattle.vp_settings.specs.Setup.{Setup, across};
+ghost use Rattle.vp_settings.specs.History.{shift, printed_at};
+ghost use Rattle.vp_settings.specs.Tabs.{tab_stops, tabbed};
+ghost use Rattle.vp_settings.specs.Symbols.{symbol_image, image_rows};
+ghost use Rattle.vp_settings.specs.Texts.{text_of, style_of};
+ghost use Rattle.vp_glyph.specs.Cells.{cell_width};
+ghost use Rattle.vp_settings.specs.History.{settings_of, line_settings_of, lines_rows, IsFit, length_within, length_of, breaks, put_at, image_of, column_width_of, ended_rows, position_moved, position_at, justification_or, margin_or, width_or, line, position, line_spacing, line_length};
+
+use crate::bar_style::BarStyle;
+use crate::column::Column;
+use crate::page_mode::{Mode, PageSettings};
+use crate::qr_style::QrStyle;
+use crate::raster::draws;
+use crate::text::Text;
+use crate::width::Width;
+use vp_esc::item::{ColumnMode, EscItem, Justification};
+
+/// What is in force.
+#[derive(Clone, Copy)]
+pub struct Settings {
+    pub paper: Width,
+    pub page: PageSettings,
+    pub text: Text,
+    pub bars: BarStyle,
+    pub qr: QrStyle,
+    pub line_spacing: u8,
+    /// How wide a dot of a column is.
+    pub column_width: u8,
+    pub left_margin: u16,
+    pub area_width: u16,
+    pub justification: Justification,
+    pub position: u16,
+    pub is_open: bool,
+    pub height: u16,
+    pub right_edge: u16,
+}
+
+/// How wide a dot of a column is.
+fn dot_width(mode: ColumnMode) -> u8
+    ensures { result ≡ column_width_of mode }
+{
+    match mode {
+        ColumnMode::Single8 | ColumnMode::Single24 => 2,
+        ColumnMode::Double8 | ColumnMode::Double24 => 1,
+    }
+}
+
+/// The first tab stop past the position.
+fn next_stop(stops: &[u32], position: u32) -> Option<u32>
+    ensures { result ≡ find (λ stop. nat_lt position stop) stops.now }
+{
+    stops.iter().copied().find(|stop| position < *stop)
+}
+
+/// The position after HT.
+fn after_tab(stops: &[u32], position: u16, length: u16) -> u16
+    ensures value { result ≡ tabbed stops.now position length }
+    ensures small { result ≤ max position length }
+{
+    match next_stop(stops, u32::from(position)) {
+        Some(stop) if stop <= u32::from(length) => stop as u16,
+        _ => position,
+    }
+}
+
+/// The position moved within the line.
+fn moved(by: i16, position: u16, length: u16) -> u16
+    ensures value { result ≡ position_moved by position length }
+    ensures small { result ≤ max position length }
+{
+    let far = by.unsigned_abs();
+    if by >= 0 {
+        if u32::from(position) + u32::from(far) <= u32::from(length) {
+            return position + far;
+        }
+    } else if far <= position && position - far <= length {
+        return position - far;
+    }
+    position
+}
+
+/// How far something is shifted in what is left of the line.
+fn shift(justification: Justification, spare: u16) -> u16
+    ensures { result ≡ shift justification spare }
+{
+    match justification {
+        Justification::Left => 0,
+        Justification::Centre => spare / 2,
+        Justification::Right => spare,
+    }
+}
+
+impl Settings {
+    /// What is in force at the start.
+    pub fn start(paper: Width) -> Settings
+        ensures settings { (setup : Setup) → setup.width ≡ paper → result ≡ settings_of setup [] }
+        ensures fit { IsFit result }
+    {
+        Settings {
+            paper,
+            page: PageSettings::start(paper),
+            text: Text::START,
+            bars: BarStyle::START,
+            qr: QrStyle::START,
+            line_spacing: 34,
+            column_width: 1,
+            left_margin: 0,
+            area_width: paper.across(),
+            justification: Justification::Left,
+            position: 0,
+            is_open: false,
+            height: 0,
+            right_edge: 0,
+        }
+    }
+
+    /// The line length on paper.
+    pub fn paper_length(self) -> u16
+        ensures value { result ≡ length_within self.paper self.left_margin self.area_width }
+        ensures paper { result ≤ 576 }
+    {
+        self.area_width
+            .min(self.paper.across().saturating_sub(self.left_margin))
+    }
+
+    /// The line length by mode.
+    pub fn line_length(self) -> u16
+        requires { IsFit self }
+        ensures value { result ≡ length_of self }
+        ensures most { result ≤ 1664 }
+    {
+        match self.page.mode {
+            Mode::Standard => self.paper_length(),
+            Mode::Page => self.page.line_length(),
+        }
+    }
+
+    /// Where something so wide is printed.
+    pub fn printed_at(self, wide: u32) -> u16
+        ensures { (setup : Setup) (before : List EscItem) → self ≡ settings_of setup before →
+            result ≡ printed_at setup before wide }
+    {
+        let length = self.paper_length();
+        let shown = wide.min(u32::from(length)) as u16;
+        self.left_margin + shift(self.justification, length - shown)
+    }
+
+    /// The rows of the strip that LF prints.
+    pub fn feed_rows(self) -> u32
+        ensures { result ≡ max self.height self.line_spacing }
+    {
+        u32::from(self.height).max(u32::from(self.line_spacing))
+    }
+
+    /// The rows of the line's strip where something ends it: none if it is not open.
+    pub fn ended_rows(self) -> u32
+        ensures { (setup : Setup) (before : List EscItem) → self ≡ settings_of setup before →
+            result ≡ ended_rows setup before }
+    {
+        if self.is_open { self.feed_rows() } else { 0 }
+    }
+
+    /// The rows that ESC d prints.
+    pub fn lines_rows(self, n: u8) -> u32
+        ensures { result ≡ lines_rows n self.height self.line_spacing }
+    {
+        if n == 0 {
+            return u32::from(self.height);
+        }
+        self.feed_rows() + (u32::from(n) - 1) * u32::from(self.line_spacing)
+    }
+
+    /// Whether a character breaks the line.
+    pub fn breaks(self) -> bool
+        requires { IsFit self }
+        ensures { result ≡
+            breaks self.position (cell_width self.text.font (style_of self.text)) (length_of self) }
+    {
+        self.position > 0 && self.position + self.text.advance() > self.line_length()
+    }
+
+    /// The settings with no line.
+    fn closed(self) -> Settings
+        ensures { result ≡ record self { position = 0; is_open = false; height = 0; right_edge = 0 } }
+    {
+        Settings {
+            position: 0,
+            is_open: false,
+            height: 0,
+            right_edge: 0,
+            ..self
+        }
+    }
+
+    /// The settings with no line, at the same position.
+    fn without_line(self) -> Settings
+        ensures { result ≡ record self { is_open = false; height = 0; right_edge = 0 } }
+    {
+        Settings {
+            position: self.position,
+            ..self.closed()
+        }
+    }
+
+    fn after_character(self, code: u8) -> Settings
+        requires { IsFit self }
+        ensures settings { (setup : Setup) (before : List EscItem) → self ≡ settings_of setup before →
+            result ≡ line_settings_of setup self.page (EscItem.Character code ∷ before) }
+        ensures fit { IsFit result }
+    {
+        let line = if self.breaks() { self.closed() } else { self };
+        let edge = line.position + self.text.advance();
+        Settings {
+            position: edge.min(self.line_length()),
+            is_open: true,
+            height: line.height.max(self.text.height()),
+            right_edge: line.right_edge.max(edge),
+            ..self
+        }
+    }
+
+    /// Whether a column is put into the line.
+    pub fn takes_column(self) -> bool
+        requires { IsFit self }
+        ensures { result ≡ nat_lt self.position (length_of self) }
+    {
+        self.position < self.line_length()
+    }
+
+    /// A column of dots, each of them so high.
+    pub fn column<const N: usize>(self, bytes: [u8; N], high: u8) -> Column<N>
+        requires { 0 < high }
+        ensures bytes { result.bytes ≡ bytes.entry }
+        ensures wide { result.wide ≡ self.column_width }
+        ensures high { result.high ≡ high }
+    {
+        Column {
+            bytes,
+            wide: self.column_width,
+            high,
+        }
+    }
+
+    fn after_column(self) -> Settings
+        requires { IsFit self }
+        ensures eight { (setup : Setup) (before : List EscItem) (byte : ℕ) →
+            self ≡ settings_of setup before →
+            result ≡ line_settings_of setup self.page (EscItem.Column8 byte ∷ before) }
+        ensures more { (setup : Setup) (before : List EscItem) (bytes : List ℕ) →
+            self ≡ settings_of setup before →
+            result ≡ line_settings_of setup self.page (EscItem.Column24 bytes ∷ before) }
+        ensures fit { IsFit result }
+    {
+        if !self.takes_column() {
+            return self;
+        }
+        let edge = self.position + self.column_width as u16;
+        Settings {
+            position: edge.min(self.line_length()),
+            is_open: true,
+            height: self.height.max(24),
+            right_edge: self.right_edge.max(edge),
+            ..self
+        }
+    }
+
+    /// The settings after an item that is no byte of a raster, with these tab stops, and so many rows of a
+    /// symbol.
+    pub fn after(self, item: &EscItem, stops: &[u32], symbol_rows: u32) -> Settings
+        requires fit { IsFit self }
+        requires item { (byte : ℕ) → item.now ≡ EscItem.RasterByte byte → ⊥ }
+        ensures settings { (setup : Setup) (before : List EscItem) → self ≡ settings_of setup before →
+            stops.now ≡ tab_stops before → symbol_rows ≡ image_rows (symbol_image setup before item.now) →
+            result ≡ settings_of setup (item.now ∷ before) }
+        ensures fit { IsFit result }
+    {
+        Settings {
+            page: self.page_after(item, symbol_rows),
+            ..self.after_in_line(item, stops)
+        }
+    }
+
+    /// The same, with the page as it was.
+    fn after_in_line(self, item: &EscItem, stops: &[u32]) -> Settings
+        requires { IsFit self }
+        ensures settings { (setup : Setup) (before : List EscItem) → self ≡ settings_of setup before →
+            stops.now ≡ tab_stops before → result ≡ line_settings_of setup self.page (item.now ∷ before) }
+        ensures fit { IsFit result }
+    {
+        match item {
+            EscItem::Character(code) => self.after_character(*code),
+            EscItem::Column8(_) | EscItem::Column24(_) => self.after_column(),
+            EscItem::Tab => Settings {
+                position: after_tab(stops, self.position, self.line_length()),
+                ..self
+            },
+            EscItem::Position(n) => {
+                if *n <= self.line_length() {
+                    Settings {
+                        position: *n,
+                        ..self
+                    }
+                } else {
+                    self
+                }
+            }
+            EscItem::MovePosition(n) => Settings {
+                position: moved(*n, self.position, self.line_length()),
+                ..self
+            },
+            EscItem::LineFeed | EscItem::FeedDots(_) | EscItem::FeedLines(_) => self.closed(),
+            EscItem::CutLeavingOnePoint
+            | EscItem::CutLeavingThreePoints
+            | EscItem::Cut(_)
+            | EscItem::FeedAndCut { .. } => match self.page.mode {
+                Mode::Standard => self.closed(),
+                Mode::Page => self,
+            },
+            EscItem::Symbol { .. } | EscItem::QrPrint => self.closed(),
+            EscItem::Raster { scale, bytes, rows } => {
+                if draws(scale.value, *bytes, *rows) {
+                    self.closed()
+                } else {
+                    self
+                }
+            }
+            EscItem::StandardMode => match self.page.mode {
+                Mode::Standard => self,
+                Mode::Page => self.closed(),
+            },
+            EscItem::PageMode => match self.page.mode {
+                Mode::Standard if !self.is_open => Settings {
+                    position: 0,
+                    ..self
+                },
+                _ => self,
+            },
+            EscItem::VerticalPosition(_) | EscItem::MoveVerticalPosition(_) | EscItem::PrintPage =>
+                match self.page.mode {
+                    Mode::Page if self.obeys(item) => self.without_line(),
+                    _ => self,
+                },
+            EscItem::Area { .. } | EscItem::Direction(_) | EscItem::FormFeed | EscItem::Cancel =>
+                match self.page.mode {
+                    Mode::Page if self.obeys(item) => self.closed(),
+                    _ => self,
+                },
+            EscItem::Columns { mode, .. } => Settings {
+                column_width: dot_width(*mode),
+                ..self
+            },
+            EscItem::DefaultLineSpacing => Settings {
+                line_spacing: 34,
+                ..self
+            },
+            EscItem::LineSpacing(line_spacing) => Settings {
+                line_spacing: *line_spacing,
+                ..self
+            },
+            EscItem::Initialize => Settings {
+                page: self.page,
+                ..Settings::start(self.paper)
+            },
+            EscItem::LeftMargin(left_margin) => {
+                if !self.is_open && *left_margin < self.paper.across() {
+                    Settings {
+                        left_margin: *left_margin,
+                        ..self
+                    }
+                } else {
+                    self
+                }
+            }
+            EscItem::AreaWidth(area_width) => {
+                if !self.is_open && *area_width > 0 {
+                    Settings {
+                        area_width: *area_width,
+                        ..self
+                    }
+                } else {
+                    self
+                }
+            }
+            EscItem::Justify(s) => match s.value {
+                Some(justification) if !self.is_open => Settings {
+                    justification,
+                    ..self
+                },
+                _ => self,
+            },
+            EscItem::RightSpacing(_)
+            | EscItem::PrintMode(_)
+            | EscItem::Underline(_)
+            | EscItem::Emphasized(_)
+            | EscItem::DoubleStrike(_)
+            | EscItem::Font(_)
+            | EscItem::Magnify(_)
+            | EscItem::Inverse(_) => Settings {
+                text: self.text.after(item),
+                ..self
+            },
+            EscItem::BarTextPlace(_)
+            | EscItem::BarTextFont(_)
+            | EscItem::BarHeight(_)
+            | EscItem::BarModule(_) => Settings {
+                bars: self.bars.after(item),
+                ..self
+            },
+            EscItem::QrModel(_) | EscItem::QrModule(_) | EscItem::QrLevel(_) => Settings {
+                qr: self.qr.after(item),
+                ..self
+            },
+            _ => self,
+        }
+    }
+}
