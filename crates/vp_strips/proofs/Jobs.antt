@@ -1,0 +1,76 @@
+-- What a job keeps, where another field changes.
+use Rattle.std.proofs.Common.{◌≡◌, ◌<◌, ◌≤◌, ◌+◌, ◌-◌, ℕ, ◌++◌, length, drop, arith, length-append, length-drop, ap, sym, ◌∙◌, subst, refl}
+use Rattle.vp_strips.specs.declared.canvas.Canvas.{Canvas}
+use Rattle.vp_strips.specs.declared.job.Job.{Job}
+use Rattle.vp_strips.specs.declared.job.After.{After}
+use Rattle.vp_strips.specs.declared.job.After.TheVariants.{End, One, Two}
+use Rattle.vp_strips.specs.declared.strip.Strip.{Strip}
+use Rattle.vp_strips.specs.declared.strip.Dots.{Dots}
+use Rattle.vp_strips.specs.declared.strip.Dots.TheVariants.{Line, White, Across, Raster, Drawn, Page}
+use Rattle.vp_strips.specs.declared.place.Place.{Place}
+use Rattle.vp_strips.specs.declared.place.Place.TheVariants.{Nothing, Head, Row}
+use Rattle.vp_strips.specs.Jobs.{byte_at, line_at, text, rows_from, row_text, strip_dot, head_text}
+use Rattle.vp_strips.specs.Held.{SomeLeft, IsTurned, after_text, part_of, text_of, IsLowDots, IsOwnDots, Shows, shown_in, IsShowing}
+use Rattle.vp_strips.proofs.Rows.{length-paper_row}
+
+-- bytes of the strip are pending, if any are
+pub some_part : (j : Job) (canvas : Canvas) (p : Place) (after : After) → IsTurned p after → SomeLeft j.strip p → 0 < length (text j.strip canvas p ++ after_text after canvas) → 0 < length (text j.strip canvas p)
+some_part j canvas Nothing End t l h = h
+some_part j canvas Nothing (One s) t l h = cc
+some_part j canvas Nothing (Two s u) t l h = cc
+some_part j canvas (Head byte) after t l h = omega (arith, length-append (drop byte (head_text j.strip)) (rows_from j.strip canvas 0), length-drop byte (head_text j.strip))
+some_part j canvas (Row y byte) after t l h = omega (arith, length-append (drop byte (row_text j.strip canvas y)) (rows_from j.strip canvas (y + 1)), length-drop byte (row_text j.strip canvas y), length-paper_row j.strip.paper (λ x. strip_dot j.strip canvas x y))
+
+-- a strip that is no line is not too high
+pub own_low : (dots : Dots) → IsOwnDots dots → IsLowDots dots
+own_low (Line height left length) h = absurd h
+own_low White h = tt
+own_low (Across cut) h = tt
+own_low Raster h = tt
+own_low (Drawn left length) h = tt
+own_low Page h = tt
+
+-- bytes are left at a place, unless it is none
+pub part_left : (j : Job) (canvas : Canvas) (p : Place) → SomeLeft j.strip p → (p ≡ Nothing → ⊥) → 0 < length (text j.strip canvas p)
+part_left j canvas Nothing l n = absurd (n refl)
+part_left j canvas (Head byte) l n = omega (arith, length-append (drop byte (head_text j.strip)) (rows_from j.strip canvas 0), length-drop byte (head_text j.strip))
+part_left j canvas (Row y byte) l n = omega (arith, length-append (drop byte (row_text j.strip canvas y)) (rows_from j.strip canvas (y + 1)), length-drop byte (row_text j.strip canvas y), length-paper_row j.strip.paper (λ x. strip_dot j.strip canvas x y))
+
+-- a line goes on being shown while bytes of its strip are left
+shows_further : (dots : Dots) (p q : Place) (after now then high others : ℕ) → (p ≡ Nothing → ⊥) → then ≤ now → (q ≡ Nothing → then ≡ after) → ((q ≡ Nothing → ⊥) → after < then)
+    → Shows (shown_in dots p after) now high others → Shows (shown_in dots q after) then high others
+shows_further (Line height left length) Nothing q after now then high others n l e g h = absurd (n refl)
+shows_further (Line height left length) (Head byte) Nothing after now then high others n l e g h = let k : then ≡ after = e refl in let m : after ≡ others = h.1 in omega arith
+shows_further (Line height left length) (Row y byte) Nothing after now then high others n l e g h = let k : then ≡ after = e refl in let m : after ≡ others = h.1 in omega arith
+shows_further (Line height left length) (Head byte) (Head to) after now then high others n l e g h = let k : after < then = g (λ z. cc) in let m : after ≡ others = h.1 in (h.0, m, omega arith)
+shows_further (Line height left length) (Head byte) (Row y to) after now then high others n l e g h = let k : after < then = g (λ z. cc) in let m : after ≡ others = h.1 in (h.0, m, omega arith)
+shows_further (Line height left length) (Row y byte) (Head to) after now then high others n l e g h = let k : after < then = g (λ z. cc) in let m : after ≡ others = h.1 in (h.0, m, omega arith)
+shows_further (Line height left length) (Row y byte) (Row z to) after now then high others n l e g h = let k : after < then = g (λ z. cc) in let m : after ≡ others = h.1 in (h.0, m, omega arith)
+shows_further White p q after now then high others n l e g h = let k : now ≤ others = h in omega arith
+shows_further (Across cut) p q after now then high others n l e g h = let k : now ≤ others = h in omega arith
+shows_further Raster p q after now then high others n l e g h = let k : now ≤ others = h in omega arith
+shows_further (Drawn left length) p q after now then high others n l e g h = let k : now ≤ others = h in omega arith
+shows_further Page p q after now then high others n l e g h = let k : now ≤ others = h in omega arith
+
+-- the same of a job that put out bytes of its strip
+pub shows_on : (j k : Job) (canvas : Canvas) (n high others : ℕ) → k.strip ≡ j.strip → k.after ≡ j.after → part_of k canvas ≡ drop n (part_of j canvas) → 0 < length (part_of j canvas) → SomeLeft k.strip k.place
+    → IsShowing j canvas high others → IsShowing k canvas high others
+shows_on j k canvas n high others strip after rest some left h =
+    let h1 = subst (λ (s : Strip). Shows (shown_in s.dots j.place (length (after_text j.after canvas))) (length (text_of j canvas)) high others) (sym strip) h in
+    let h2 = subst (λ (a : After). Shows (shown_in k.strip.dots j.place (length (after_text a canvas))) (length (text_of j canvas)) high others) (sym after) h1 in
+    let was = length-append (part_of j canvas) (after_text j.after canvas) in
+    let is = length-append (part_of k canvas) (after_text k.after canvas) in
+    let same : length (after_text k.after canvas) ≡ length (after_text j.after canvas) = ap (λ (a : After). length (after_text a canvas)) after in
+    let fewer : length (part_of k canvas) ≡ length (part_of j canvas) - n = ap length rest ∙ length-drop n (part_of j canvas) in
+    shows_further k.strip.dots j.place k.place (length (after_text k.after canvas)) (length (text_of j canvas)) (length (text_of k canvas)) high others
+    (λ e. absurd (let z : length (part_of j canvas) ≡ 0 = ap (λ p. length (text j.strip canvas p)) e in omega arith))
+    (omega arith)
+    (λ e. let z : length (part_of k canvas) ≡ 0 = ap (λ p. length (text k.strip canvas p)) e in omega arith)
+    (λ e. let z = part_left k canvas k.place left e in omega arith)
+    h2
+
+-- bytes are left of a place's line, where any are pending
+pub line_left : (s : Strip) (canvas : Canvas) (p : Place) → SomeLeft s p → 0 < length (text s canvas p) → byte_at p < length (line_at s canvas p)
+line_left s canvas Nothing l h = h
+line_left s canvas (Head byte) l h = l
+line_left s canvas (Row y byte) l h = omega (arith, l, length-paper_row s.paper (λ x. strip_dot s canvas x y))

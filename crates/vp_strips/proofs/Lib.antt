@@ -1,0 +1,9 @@
+pub mod Bitmaps
+pub mod Rows
+pub mod Places
+pub mod Cut
+pub mod Jobs
+pub mod Strips
+pub mod LineTexts
+pub mod QrImages
+pub mod Doubling

@@ -1,0 +1,7 @@
+-- The rules.
+pub mod LineDots
+pub mod Rows
+-- What the code keeps.
+pub mod SymbolInks
+pub mod Jobs
+pub mod Held

@@ -1,0 +1,62 @@
+-- The symbol that is put out.
+use Rattle.std.specs.Prelude.{◌≡◌, ℕ, Bool, true, false, Option, Some, None}
+use Rattle.vp_glyph.specs.declared.Sheets.{Sheets}
+use Rattle.vp_qr.specs.Inks.{side, ink_of}
+use Rattle.vp_esc.specs.declared.item.EscItem.{EscItem}
+use Rattle.vp_esc.specs.declared.item.EscItem.TheVariants.{QrPrint, Symbol as SetSymbol}
+use Rattle.vp_strips.specs.declared.symbol.Symbol.{Symbol}
+use Rattle.vp_strips.specs.declared.symbol.Symbol.TheVariants.{Blank, Qr, Bars}
+use Rattle.vp_bars.specs.Boxes.{Boxed, box_width, box_height, box_dot}
+use Rattle.vp_strips.specs.declared.barcode.BarSymbol.{BarSymbol}
+use Rattle.vp_dots.specs.Images.{Image}
+
+-- the box of bars
+abbrev pub box_of : Sheets → BarSymbol → Boxed
+box_of sheets b = record {
+  bars = b.bars;
+  narrow = b.narrow;
+  wide = b.wide;
+  height = b.height;
+  sheets = sheets;
+  font = b.font;
+  place = b.place;
+}
+
+abbrev pub symbol_width : Sheets → Symbol → ℕ
+symbol_width sheets Blank = 0
+symbol_width sheets (Qr ink) = side ink
+symbol_width sheets (Bars b) = box_width (box_of sheets b)
+
+abbrev pub symbol_height : Sheets → Symbol → ℕ
+symbol_height sheets Blank = 0
+symbol_height sheets (Qr ink) = side ink
+symbol_height sheets (Bars b) = box_height (box_of sheets b)
+
+abbrev pub symbol_dot : Sheets → Symbol → ℕ → ℕ → Bool
+symbol_dot sheets Blank x y = false
+symbol_dot sheets (Qr ink) x y = ink_of ink x y
+symbol_dot sheets (Bars b) x y = box_dot (box_of sheets b) x y
+
+-- a symbol is the image
+pub record IsSymbol (sheets : Sheets) (symbol : Symbol) (image : Image) : Type 0 where
+  pub width : symbol_width sheets symbol ≡ image.width
+  pub height : symbol_height sheets symbol ≡ image.height
+  pub dots : (x y : ℕ) → symbol_dot sheets symbol x y ≡ image.is_black x y
+
+-- a symbol so wide and high has the dots of the image
+pub record IsDrawn (sheets : Sheets) (symbol : Symbol) (wide high : ℕ) (image : Image) : Type 0 where
+  pub width : wide ≡ image.width
+  pub height : high ≡ image.height
+  pub dots : (x y : ℕ) → symbol_dot sheets symbol x y ≡ image.is_black x y
+
+-- it is that of an item, if this has one
+abbrev pub IsSymbolOf : Sheets → Option Symbol → Option Image → Type 0
+IsSymbolOf sheets None image = image ≡ None
+IsSymbolOf sheets (Some symbol) None = ⊥
+IsSymbolOf sheets (Some symbol) (Some image) = IsSymbol sheets symbol image
+
+-- a command that prints a symbol
+abbrev pub is_symbol : EscItem → Bool
+is_symbol (SetSymbol kind bytes more) = true
+is_symbol QrPrint = true
+is_symbol _ = false

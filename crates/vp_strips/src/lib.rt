@@ -1,0 +1,27 @@
+//! What a receipt printer puts out: strips of rows across the paper, byte by byte.
+//!
+//! `paint` knows the bitmap of a line, `barcode`, `qr` and `symbol` a symbol, `raster_row` a row of a raster,
+//! and `canvas` all that strips are painted from. `strip` knows the rows of one, `place` how far it is put
+//! out, `lines` the bytes of the line at the place, and `job` what is still to come.
+#![tactic(auto)]
+
+mod barcode;
+mod canvas;
+mod job;
+mod lines;
+mod paint;
+mod place;
+mod qr;
+mod raster_row;
+mod strip;
+mod symbol;
+
+pub use barcode::{BarSymbol, bar_symbol};
+pub use canvas::Canvas;
+pub use job::{After, Job};
+pub use lines::Lines;
+pub use paint::{Bitmap, begin_line, put_ink};
+pub use qr::qr_symbol;
+pub use raster_row::{doubled, write_raster_row};
+pub use strip::Strip;
+pub use symbol::Symbol;
