@@ -1,6 +1,6 @@
 -- The line and the page: what a bitmap lays, and the rows that are printed.
-use Rattle.std.proofs.Common.{◌≡◌, ℕ, zero, suc, ◌+◌, ◌-◌, ◌<◌, ◌≤◌, Bool, true, ◌&&◌, refl, sym, ap, subst, ◌∙◌, arith, List, [], ◌∷◌, ◌++◌, ◌==◌, if◌then◌else◌}
-use Rattle.std.proofs.lemmas.Bool.{lt-ltb, le-leb, and_parts, ltb-true}
+use Rattle.std.proofs.Common.{◌≡◌, ℕ, zero, suc, ◌+◌, ◌-◌, ◌<◌, ◌≤◌, Bool, true, ◌&&◌, refl, sym, ap, subst, ◌∙◌, arith, List, [], ◌∷◌, ◌++◌, ◌==◌, if◌then◌else◌, eq-eqb, inl, inr}
+use Rattle.std.proofs.lemmas.Bool.{lt-ltb, le-leb, and_parts, ltb-true, cases_eq, ne_eqb}
 use Rattle.vp_dots.specs.Headers.{header_of}
 use Rattle.vp_esc.specs.declared.item.EscItem.{EscItem}
 use Rattle.vp_esc.specs.declared.item.EscItem.TheVariants.{PrintPage, FormFeed, PageMode}
@@ -10,24 +10,25 @@ use Rattle.vp_page.specs.declared.area.Direction.TheVariants.{LeftToRight, Botto
 use Rattle.vp_page.specs.Areas.{line_length as length_on_page}
 use Rattle.vp_page.specs.Layers.{Layer, Laid, page_dot}
 use Rattle.vp_page.specs.Pages.{HasPage}
-use Rattle.vp_receipt.specs.declared.width.Width.{Width}
-use Rattle.vp_receipt.specs.declared.settings.Settings.{Settings}
-use Rattle.vp_receipt.specs.Setup.{Setup, across}
-use Rattle.vp_receipt.specs.declared.canvas.Canvas.{Canvas}
-use Rattle.vp_receipt.specs.declared.strip.Dots.TheVariants.{Page as PageDots}
-use Rattle.vp_receipt.specs.declared.page_mode.Mode.{Mode}
-use Rattle.vp_receipt.specs.declared.page_mode.Mode.TheVariants.{Standard, Page}
-use Rattle.vp_receipt.specs.Held.{whole}
+use Rattle.vp_settings.specs.declared.width.Width.{Width}
+use Rattle.vp_settings.specs.declared.settings.Settings.{Settings}
+use Rattle.vp_settings.specs.Setup.{Setup, across}
+use Rattle.vp_strips.specs.declared.canvas.Canvas.{Canvas}
+use Rattle.vp_strips.specs.declared.strip.Dots.TheVariants.{Page as PageDots}
+use Rattle.vp_settings.specs.declared.page_mode.Mode.{Mode}
+use Rattle.vp_settings.specs.declared.page_mode.Mode.TheVariants.{Standard, Page}
+use Rattle.vp_strips.specs.Held.{whole}
 use Rattle.vp_receipt.specs.Strips.{prints, strips, own_part, own_strips, prints_page, page_part}
 use Rattle.vp_receipt.specs.Standing.{HasPageIf}
-use Rattle.vp_receipt.specs.History.{Placed, height, line, is_open, mode, settings_of}
-use Rattle.vp_receipt.specs.declared.page_mode.PageSettings.{PageSettings}
-use Rattle.vp_receipt.specs.LineDots.{HasDots, any_dot}
+use Rattle.vp_settings.specs.History.{Placed, height, line, is_open, mode, settings_of}
+use Rattle.vp_settings.specs.declared.page_mode.PageSettings.{PageSettings}
+use Rattle.vp_strips.specs.LineDots.{HasDots, any_dot}
 use Rattle.vp_receipt.specs.PageMarks.{HasRows, mark_of, line_dot, line_mark, laid_if, layers, layers_with}
-use Rattle.vp_receipt.specs.Rows.{paper_row, rows_text, strip_text}
-use Rattle.vp_receipt.specs.Jobs.{page_dot_of}
-use Rattle.vp_receipt.proofs.Rows.{paper_row_same}
-use Rattle.vp_receipt.proofs.Lines.{raised}
+use Rattle.vp_strips.specs.Rows.{paper_row, rows_text, strip_text}
+use Rattle.vp_strips.specs.Jobs.{page_dot_of}
+use Rattle.vp_strips.proofs.Rows.{paper_row_same}
+use Rattle.vp_strips.proofs.LineTexts.{raised}
+use Rattle.vp_strips.proofs.Strips.{text_of_rows}
 
 -- a line of an area on the page is at most as long as the page is high
 pub length_small : (a : Area) (d : Direction) → a.x + a.dx ≤ 576 → a.y + a.dy ≤ 1664 → length_on_page a d ≤ 1664
@@ -52,16 +53,20 @@ rows_up_to paper f g y (suc n) l h = ap (λ r. r ++ rows_text paper f (y + 1) n)
 page_shown : (layers : List Layer) (page : List (List ℕ)) → HasPage layers page → (x y : ℕ) → x < 576 → y < 1664 → page_dot_of page x y ≡ page_dot layers x y
 page_shown layers page has x y h k = let e : x - 0 ≡ x = omega arith in rw (lt-ltb y 1664 k, le-leb 0 x (omega arith), e, lt-ltb x 576 h) (has.dots_are x y h k)
 
--- the rows of the page that are printed
-page_rows : (paper : Width) (layers : List Layer) (page : List (List ℕ)) (rows : ℕ) → rows ≤ 1664 → HasPage layers page → rows_text paper (page_dot_of page) 0 rows ≡ rows_text paper (page_dot layers) 0 rows
-page_rows paper layers page rows h has = rows_up_to paper (page_dot_of page) (page_dot layers) 0 rows (omega arith) (page_shown layers page has)
+strip_shown : (paper : Width) (layers : List Layer) (canvas : Canvas) (rows : ℕ) → rows ≤ 1664 → HasPage layers canvas.page → (rows ≡ 0 → ⊥)
+    → whole (record { paper = paper; tall = rows; rows = rows; dots = PageDots }) canvas ≡ strip_text paper rows (page_dot layers)
+strip_shown paper layers canvas rows h has some =
+    ap (λ k. header_of (across paper) rows ++ rows_text paper (page_dot_of canvas.page) 0 k) (let z : rows - 0 ≡ rows = omega arith in z)
+    ∙ ap (λ r. header_of (across paper) rows ++ r) (rows_up_to paper (page_dot_of canvas.page) (page_dot layers) 0 rows (omega arith) (page_shown layers canvas.page has))
+    ∙ text_of_rows paper rows (page_dot layers) some
 
 -- the strip of the page
 pub page_strip : (paper : Width) (layers : List Layer) (canvas : Canvas) (rows : ℕ) → rows ≤ 1664 → HasPage layers canvas.page
     → (if rows == 0 then [] else whole (record { paper = paper; tall = rows; rows = rows; dots = PageDots }) canvas) ≡ strip_text paper rows (page_dot layers)
-page_strip paper layers canvas rows h has =
-    ap (λ n. if rows == 0 then [] else header_of (across paper) rows ++ rows_text paper (page_dot_of canvas.page) 0 n) (let z : rows - 0 ≡ rows = omega arith in z)
-    ∙ ap (λ r. if rows == 0 then [] else header_of (across paper) rows ++ r) (page_rows paper layers canvas.page rows h has)
+page_strip paper layers canvas rows h has = elim (cases_eq rows 0) [
+  | inl e ↦ rw (eq-eqb rows 0 e) refl
+  | inr n ↦ rw (ne_eqb rows 0 n) (strip_shown paper layers canvas rows h has n ∙ rw (ne_eqb rows 0 n) refl)
+]
 
 -- ESC FF and FF print the page with the open line
 pub with_line : (setup : Setup) (before : List EscItem) (item : EscItem) (layers : List Layer) → prints_page item ≡ true → layers_with setup before item layers ≡ laid_if (is_open (line setup before)) (line_mark setup before) layers
@@ -100,3 +105,6 @@ line_laid setup before s bitmap page layers ends e small t o has laid =
     let open_is : is_open (line setup before) ≡ true = sym (ap (λ (q : Settings). q.is_open) e) ∙ o in
     rw (t, open_is) (subst (λ (p : PageSettings). HasPage (Laid (mark_of p (line_dot (line setup before))) ∷ layers) page) (ap (λ (q : Settings). q.page) e)
     (laid (has_rows s (line setup before) bitmap (ap (λ (q : Settings). q.height) e) small (has open_is))))
+
+pub mode_is : (setup : Setup) (before : List EscItem) (s : Settings) (m : Mode) → s ≡ settings_of setup before → s.page.mode ≡ m → mode setup before ≡ m
+mode_is setup before s m e is = sym (ap (λ (q : Settings). q.page.mode) e) ∙ is

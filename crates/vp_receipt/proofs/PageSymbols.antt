@@ -7,18 +7,18 @@ use Rattle.vp_page.specs.declared.area.Direction.{Direction}
 use Rattle.vp_page.specs.Areas.{holds, along, down}
 use Rattle.vp_page.specs.Layers.{Layer, Laid, page_dot}
 use Rattle.vp_page.specs.Pages.{HasPage}
-use Rattle.vp_receipt.specs.declared.symbol.Symbol.{Symbol}
-use Rattle.vp_receipt.specs.Setup.{Setup}
-use Rattle.vp_receipt.specs.Images.{Image}
-use Rattle.vp_receipt.specs.Pages.{area, direction, vertical_after}
+use Rattle.vp_strips.specs.declared.symbol.Symbol.{Symbol}
+use Rattle.vp_settings.specs.Setup.{Setup}
+use Rattle.vp_dots.specs.Images.{Image}
+use Rattle.vp_settings.specs.Pages.{area, direction}
 use Rattle.vp_glyph.specs.declared.Sheets.{Sheets}
-use Rattle.vp_receipt.specs.declared.settings.Settings.{Settings}
-use Rattle.vp_receipt.specs.History.{Placed, settings_of, line, line_spacing, ended_rows, vertical}
+use Rattle.vp_settings.specs.declared.settings.Settings.{Settings}
+use Rattle.vp_settings.specs.History.{Placed, settings_of, line, symbol_top}
 use Rattle.vp_receipt.specs.PageMarks.{own_mark, laid_own, symbol_mark_of}
 use Rattle.vp_receipt.specs.Standing.{Gathers}
 use Rattle.vp_receipt.specs.Strips.{page_part}
-use Rattle.vp_receipt.specs.Symbols.{symbol_image, bars_of, bars_image, bar_style_of}
-use Rattle.vp_receipt.specs.SymbolInks.{symbol_dot, is_symbol, IsSymbolOf}
+use Rattle.vp_settings.specs.Symbols.{symbol_image, bars_of, bars_image, bar_style_of}
+use Rattle.vp_strips.specs.SymbolInks.{symbol_dot, is_symbol, IsSymbolOf}
 
 -- it ends the line
 pub line_ended : (setup : Setup) (before : List EscItem) (item : EscItem) (symbol : Symbol) → IsSymbolOf setup.sheets (Some symbol) (symbol_image setup before item) → line setup (item ∷ before) ≡ []
@@ -45,22 +45,22 @@ same_dots a d top f g layers page e h = record {
 
 -- what is in force where it is laid
 pub laid_by : (setup : Setup) (before : List EscItem) (s : Settings) (symbol : Symbol) (sheets : Sheets) (top : ℕ) (layers : List Layer) (page : List (List ℕ)) → s ≡ settings_of setup before → sheets ≡ setup.sheets
-    → top ≡ vertical_after (vertical setup before) (ended_rows (line setup before) (line_spacing before))
+    → top ≡ symbol_top setup before
     → HasPage (Laid (record { area = s.page.area; direction = s.page.direction; top = top; dot = symbol_dot sheets symbol }) ∷ layers) page
-    → HasPage (Laid (record { area = area setup before; direction = direction before; top = vertical_after (vertical setup before) (ended_rows (line setup before) (line_spacing before)); dot = symbol_dot setup.sheets symbol }) ∷ layers) page
+    → HasPage (Laid (record { area = area setup before; direction = direction before; top = symbol_top setup before; dot = symbol_dot setup.sheets symbol }) ∷ layers) page
 laid_by setup before s symbol sheets top layers page e sheets_is top_is laid =
-    subst (λ (k : Sheets). HasPage (Laid (record { area = area setup before; direction = direction before; top = vertical_after (vertical setup before) (ended_rows (line setup before) (line_spacing before)); dot = symbol_dot k symbol }) ∷ layers) page) sheets_is
+    subst (λ (k : Sheets). HasPage (Laid (record { area = area setup before; direction = direction before; top = symbol_top setup before; dot = symbol_dot k symbol }) ∷ layers) page) sheets_is
     (subst (λ n. HasPage (Laid (record { area = area setup before; direction = direction before; top = n; dot = symbol_dot sheets symbol }) ∷ layers) page) top_is
     (subst (λ (q : Settings). HasPage (Laid (record { area = q.page.area; direction = q.page.direction; top = top; dot = symbol_dot sheets symbol }) ∷ layers) page) e laid))
 
 -- it lays its symbol below the line
 pub symbol_laid : (setup : Setup) (before : List EscItem) (item : EscItem) (symbol : Symbol) (layers : List Layer) (page : List (List ℕ)) → IsSymbolOf setup.sheets (Some symbol) (symbol_image setup before item)
-    → HasPage (Laid (record { area = area setup before; direction = direction before; top = vertical_after (vertical setup before) (ended_rows (line setup before) (line_spacing before)); dot = symbol_dot setup.sheets symbol }) ∷ layers) page
+    → HasPage (Laid (record { area = area setup before; direction = direction before; top = symbol_top setup before; dot = symbol_dot setup.sheets symbol }) ∷ layers) page
     → HasPage (laid_own (own_mark setup before item) layers) page
 symbol_laid setup before (SetSymbol kind bytes more) symbol layers page h laid = laid_if (bars_image setup.sheets (bar_style_of before) (bars_of kind.value bytes.items more)) h
   where
     laid_if : (image : Option Image) → IsSymbolOf setup.sheets (Some symbol) image → HasPage (laid_own (symbol_mark_of setup before image) layers) page
-    laid_if (Some image) h = same_dots _ _ _ (symbol_dot setup.sheets symbol) image.dot layers page h.dots laid
+    laid_if (Some image) h = same_dots _ _ _ (symbol_dot setup.sheets symbol) image.is_black layers page h.dots laid
     laid_if None h = absurd h
 symbol_laid setup before QrPrint symbol layers page h laid = same_dots _ _ _ (symbol_dot setup.sheets symbol) _ layers page h.dots laid
 symbol_laid setup before _ symbol layers page h laid = absurd h

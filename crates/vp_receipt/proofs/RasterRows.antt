@@ -7,17 +7,18 @@ use Rattle.vp_dots.specs.Dots.{dot, bit}
 use Rattle.vp_dots.specs.Images.{row_of}
 use Rattle.vp_dots.proofs.ImageRows.{dot-row_of}
 use Rattle.vp_esc.specs.declared.item.EscItem.{EscItem}
-use Rattle.vp_receipt.specs.declared.settings.Settings.{Settings}
-use Rattle.vp_receipt.specs.Setup.{Setup}
-use Rattle.vp_receipt.specs.History.{settings_of, page_of, paper_length}
-use Rattle.vp_receipt.specs.Rows.{clipped, printed_at, raster_dot, rows_text}
-use Rattle.vp_receipt.proofs.Lines.{rows_same}
+use Rattle.vp_settings.specs.declared.settings.Settings.{Settings}
+use Rattle.vp_settings.specs.Setup.{Setup}
+use Rattle.vp_settings.specs.History.{settings_of, page_of, paper_length}
+use Rattle.vp_strips.specs.Rows.{clipped, raster_dot, rows_text}
+use Rattle.vp_settings.specs.History.{printed_at}
+use Rattle.vp_strips.proofs.Strips.{rows_same}
 use Rattle.vp_esc.specs.declared.item.RasterScale.{RasterScale}
 use Rattle.vp_page.specs.Layers.{Layer, Laid}
 use Rattle.vp_page.specs.Pages.{HasPage}
-use Rattle.vp_receipt.specs.declared.page_mode.PageSettings.{PageSettings}
+use Rattle.vp_settings.specs.declared.page_mode.PageSettings.{PageSettings}
 use Rattle.vp_receipt.specs.PageMarks.{mark_of, raster_mark}
-use Rattle.vp_receipt.specs.Rasters.{times_across, times_down, raster_scale}
+use Rattle.vp_settings.specs.Rasters.{times_across, times_down, raster_scale}
 
 -- the first 208 bytes have the dots that paper and pages show
 pub dot_kept : (came : List ℕ) (d : ℕ) → d < 1664 → dot (take 208 came) d ≡ dot came d

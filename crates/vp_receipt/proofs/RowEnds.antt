@@ -4,11 +4,11 @@ use Rattle.vp_esc.specs.declared.item.EscItem.{EscItem}
 use Rattle.vp_esc.specs.declared.item.EscItem.TheVariants.{RasterByte}
 use Rattle.vp_page.specs.Layers.{Laid}
 use Rattle.vp_page.specs.Pages.{HasPage}
-use Rattle.vp_receipt.specs.Setup.{Setup}
-use Rattle.vp_receipt.specs.declared.page_mode.Mode.TheVariants.{Standard, Page}
-use Rattle.vp_receipt.specs.History.{mode}
+use Rattle.vp_settings.specs.Setup.{Setup}
+use Rattle.vp_settings.specs.declared.page_mode.Mode.TheVariants.{Standard, Page}
+use Rattle.vp_settings.specs.History.{mode}
 use Rattle.vp_receipt.specs.PageMarks.{layers, raster_mark}
-use Rattle.vp_receipt.specs.Rasters.{is_row_end, row_so_far}
+use Rattle.vp_settings.specs.Rasters.{is_row_end, row_so_far}
 use Rattle.vp_receipt.specs.Standing.{HasPageIf}
 use Rattle.vp_receipt.specs.Strips.{prints, own_part, raster_row_text}
 use Rattle.vp_receipt.proofs.PageLines.{has_page}

@@ -4,8 +4,8 @@ use Rattle.std.proofs.lemmas.Bool.{ne_eqb, lt-ltb, eq-eqb}
 use Rattle.std.proofs.lemmas.List.{append-nil}
 use Rattle.vp_esc.specs.declared.item.EscItem.{EscItem}
 use Rattle.vp_esc.specs.declared.item.EscItem.TheVariants.{RasterByte}
-use Rattle.vp_receipt.specs.Setup.{Setup}
-use Rattle.vp_receipt.specs.Rasters.{raster_bytes, rows_to_come, row_so_far, sent}
+use Rattle.vp_settings.specs.Setup.{Setup}
+use Rattle.vp_settings.specs.Rasters.{raster_bytes, rows_to_come, row_so_far, sent}
 use Rattle.vp_receipt.specs.Strips.{own_strips, raster_row_text}
 
 -- a byte that does not end its row

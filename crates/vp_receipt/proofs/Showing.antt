@@ -3,10 +3,12 @@ use Rattle.std.proofs.Common.{◌≡◌, ℕ, List, [], ◌∷◌, length, ap, a
 use Rattle.std.specs.Option.{option_map}
 use Rattle.std.proofs.lemmas.Bool.{lt-ltb, le-ltb}
 use Rattle.vp_esc.specs.declared.item.EscItem.{EscItem}
-use Rattle.vp_receipt.specs.Setup.{Setup}
-use Rattle.vp_receipt.specs.History.{height, line}
+use Rattle.vp_settings.specs.Setup.{Setup}
+use Rattle.vp_settings.specs.History.{height, line}
 use Rattle.vp_receipt.specs.Strips.{own_part, line_rows_after}
-use Rattle.vp_receipt.specs.Held.{Showing}
+use Rattle.vp_strips.specs.declared.canvas.Canvas.{Canvas}
+use Rattle.vp_strips.specs.declared.job.Job.{Job}
+use Rattle.vp_strips.specs.Held.{Showing, IsShowing, showing_of, text_of}
 use Rattle.vp_receipt.specs.Standing.{ShowsLine}
 
 pub rows_told : (setup : Setup) (showing : Option Showing) (before : List EscItem) (pending : List ℕ) (high : ℕ) → high ≡ height (line setup before) → ShowsLine setup showing pending before
@@ -22,3 +24,9 @@ shows_nothing setup None pending before [] e h = omega (arith, ap length e)
 shows_nothing setup None pending before (item ∷ after) e h = omega (arith, ap length e)
 shows_nothing setup (Some s) pending [] after e h = absurd (omega (arith, ap length e, h.2))
 shows_nothing setup (Some s) pending (item ∷ before) after e h = absurd (omega (arith, ap length e, h.2))
+
+-- bytes that are put out leave shown what is
+pub shows_put : (setup : Setup) (j k : Job) (canvas : Canvas) (before : List EscItem) → ((high others : ℕ) → IsShowing j canvas high others → IsShowing k canvas high others)
+    → ShowsLine setup (showing_of j canvas) (text_of j canvas) before → ShowsLine setup (showing_of k canvas) (text_of k canvas) before
+shows_put setup j k canvas [] further h = further 0 0 h
+shows_put setup j k canvas (item ∷ before) further h = further _ _ h

@@ -2,13 +2,13 @@
 use Rattle.std.proofs.Common.{◌≡◌, ℕ, List, ◌++◌, Option, Some, None}
 use Rattle.vp_esc.specs.declared.item.EscItem.{EscItem}
 use Rattle.vp_esc.specs.declared.item.EscItem.TheVariants.{QrPrint, Symbol as SetSymbol}
-use Rattle.vp_receipt.specs.declared.symbol.Symbol.{Symbol}
-use Rattle.vp_receipt.specs.Setup.{Setup}
-use Rattle.vp_receipt.specs.Symbols.{bars_of, bars_image, bar_style_of, symbol_image}
-use Rattle.vp_receipt.specs.Images.{Image}
-use Rattle.vp_receipt.specs.Rows.{image_text}
+use Rattle.vp_strips.specs.declared.symbol.Symbol.{Symbol}
+use Rattle.vp_settings.specs.Setup.{Setup}
+use Rattle.vp_settings.specs.Symbols.{bars_of, bars_image, bar_style_of, symbol_image}
+use Rattle.vp_dots.specs.Images.{Image}
+use Rattle.vp_strips.specs.Rows.{image_text}
 use Rattle.vp_receipt.specs.Strips.{strips, own_strips, ended}
-use Rattle.vp_receipt.specs.SymbolInks.{IsSymbol, IsSymbolOf}
+use Rattle.vp_strips.specs.SymbolInks.{IsSymbol, IsSymbolOf}
 
 pub text_shown : (setup : Setup) (before : List EscItem) (item : EscItem) (symbol : Symbol) (text : List ℕ) → IsSymbolOf setup.sheets (Some symbol) (symbol_image setup before item)
     → ((image : Image) → IsSymbol setup.sheets symbol image → text ≡ ended setup before ++ image_text setup before (Some image)) → text ≡ strips setup before item

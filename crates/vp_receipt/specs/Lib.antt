@@ -1,17 +1,6 @@
-pub mod Setup
-pub mod Images
-pub mod Texts
-pub mod Tabs
-pub mod Symbols
-pub mod Pages
-pub mod Rasters
-pub mod History
-pub mod LineDots
+-- The rules.
 pub mod PageMarks
-pub mod Rows
-pub mod Jobs
-pub mod Held
 pub mod Strips
-pub mod SymbolInks
+-- What the code keeps.
 pub mod Standing
 pub mod Printer

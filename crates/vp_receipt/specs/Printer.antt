@@ -1,8 +1,9 @@
 -- What a receipt printer keeps.
 use Rattle.vp_receipt.specs.declared.receipt.Receipt.TheInside.{Inside}
-use Rattle.vp_receipt.specs.History.{IsFit}
-use Rattle.vp_receipt.specs.Held.{text_of, showing_of, IsJob, IsTurned}
-use Rattle.vp_receipt.specs.Standing.{Printing, IsPartRow}
+use Rattle.vp_settings.specs.History.{IsFit}
+use Rattle.vp_strips.specs.Held.{text_of, showing_of, IsJob, IsTurned}
+use Rattle.vp_receipt.specs.Standing.{Printing}
+use Rattle.vp_settings.specs.Gathering.{IsPartRow}
 
 abbrev pub printing_of : Inside → Printing
 printing_of r = record {
@@ -22,5 +23,5 @@ printing_of r = record {
 pub record IsPrinter (r : Inside) : Type 0 where
   pub fit : IsFit r.settings
   pub raster : IsPartRow r.raster
-  pub job : IsJob r.job r.canvas
+  pub job : IsJob r.job r.canvas r.lines
   pub turned : IsTurned r.job.place r.job.after

@@ -1,31 +1,29 @@
+//! The printer: what it stands after, and what is still to be put out.
+ghost use Rattle.vp_strips.specs.SymbolInks.{is_symbol};
 ghost use Rattle.std.specs.Prelude.{◌≡◌, ◌≤◌, ◌<◌, ◌+◌, ◌∷◌, ◌++◌, ◌↔◌, List, [], ℕ, IsTrue, Some, None, IfOk, MatchResult, OnOk, OnErr, length, min, take, drop, true};
 ghost use Rattle.vp_esc.specs.declared.item.EscItem.{EscItem};
 ghost use Rattle.vp_glyph.specs.declared.Sheets.{Sheets};
-ghost use Rattle.vp_receipt.specs.declared.raster.Raster.{Raster};
-ghost use Rattle.vp_receipt.specs.Setup.{Setup};
-ghost use Rattle.vp_receipt.specs.History.{settings_of, IsFit, is_open, line, Placed, image_of, line_length};
-ghost use Rattle.vp_receipt.specs.Rasters.{bytes_after, bytes_within_row};
-ghost use Rattle.vp_receipt.specs.Tabs.{tab_stops};
-ghost use Rattle.vp_receipt.specs.LineDots.{HasDots};
+ghost use Rattle.vp_settings.specs.declared.raster.Raster.{Raster};
+ghost use Rattle.vp_settings.specs.Setup.{Setup};
+ghost use Rattle.vp_settings.specs.History.{settings_of, IsFit, is_open, line, Placed, image_of, line_length};
+ghost use Rattle.vp_settings.specs.Rasters.{bytes_after, bytes_within_row};
+ghost use Rattle.vp_settings.specs.Tabs.{tab_stops};
+ghost use Rattle.vp_strips.specs.LineDots.{HasDots};
 ghost use Rattle.vp_receipt.specs.Strips.{prints, printed, refusal, is_at_rest, line_rows_after, page_rows_after};
-ghost use Rattle.vp_receipt.specs.Standing.{Stands, Gathers, IsGathering, room_of};
-ghost use Rattle.vp_receipt.specs.Held.{text_of, IsJob, IsTurned};
+ghost use Rattle.vp_receipt.specs.Standing.{Stands, Gathers};
+ghost use Rattle.vp_settings.specs.Gathering.{IsGathering, room_of};
+ghost use Rattle.vp_strips.specs.Held.{text_of, IsJob, IsTurned};
 
-use crate::act::{act, act_on_row, printed_page, settle};
-use crate::canvas::Canvas;
-use crate::job::Job;
-use crate::raster::{Raster, times_down};
-use crate::settings::Settings;
-use crate::stored::Stored;
-use crate::symbol::{Symbol, drawn, rows_of};
-use crate::tabs::{Stops, first_stops, set_stops};
-use crate::width::Width;
+use crate::act::{act, act_on_row, act_symbol, printed_page, settle};
+use crate::drawn::{drawn, is_ignored, is_symbol};
 use std::alloc::{AllocError, Global};
 use std::marker::Model;
 use vp_dots::{Band, Fault};
 use vp_esc::item::EscItem;
 use vp_glyph::Sheets;
 use vp_page::Page;
+use vp_settings::{Raster, Settings, Stops, Stored, Width, first_stops, set_stops, times_down};
+use vp_strips::{Canvas, Job, Lines, Symbol};
 
 /// A receipt printer. What an item prints is pending until it is put out.
 #[derive(Drop)]
@@ -35,6 +33,8 @@ pub struct Receipt {
     raster: Raster,
     stored: Stored,
     canvas: Canvas,
+    /// The line that is being put out.
+    lines: Lines,
     /// A character that broke the line, and is put into the next one once that line is printed.
     waiting: Option<u8>,
     job: Job,
@@ -74,6 +74,7 @@ impl Receipt {
                 symbol: Symbol::Blank,
                 page,
             },
+            lines: Lines::none(),
             waiting: None,
             job: Job::none(),
             of_page: false,
@@ -85,43 +86,83 @@ impl Receipt {
     pub fn apply(&mut self, item: EscItem) -> Result<(), Fault>
         requires { self.old.pending ≡ [] }
         ensures refusal { (setup : Setup) (before : List EscItem) → Stands setup self.old before →
-            MatchResult result (λ _. refusal setup before item ≡ None) (λ f. refusal setup before item ≡ Some f) }
-        ensures stands { OnOk result ((setup : Setup) (before : List EscItem) → Stands setup self.old before → Stands setup self.new (item ∷ before)) }
-        ensures pending { OnOk result ((setup : Setup) (before : List EscItem) → Stands setup self.old before → self.new.pending ≡ prints setup before item) }
+            MatchResult result (λ _. refusal setup before item ≡ None)
+            (λ f. refusal setup before item ≡ Some f) }
+        ensures stands { OnOk result ((setup : Setup) (before : List EscItem) →
+            Stands setup self.old before → Stands setup self.new (item ∷ before)) }
+        ensures pending { OnOk result ((setup : Setup) (before : List EscItem) →
+            Stands setup self.old before → self.new.pending ≡ prints setup before item) }
         ensures err { OnErr result (self.new ≡ self.old) }
     {
         if let EscItem::RasterByte(byte) = item {
             if self.raster.take(byte) {
-                self.job = act_on_row(self.settings, &self.raster, &mut self.canvas);
+                self.job = act_on_row(&self.settings, &self.raster, &mut self.canvas);
                 self.of_page = false;
                 self.settings = self.settings.after_row(times_down(self.raster.scale));
             }
             return Ok(());
         }
-        let s = self.settings;
-        let symbol = drawn(s, &item, &self.stored, &self.canvas.sheets)?;
+        if is_ignored(&item) {
+            self.raster.begin(&item);
+            return Ok(());
+        }
+        if is_symbol(&item) {
+            return self.apply_symbol(&item);
+        }
         settle(
-            s,
+            &self.settings,
             self.waiting,
             &self.canvas.sheets,
             &mut self.canvas.bitmap,
         );
-        let symbol_rows = rows_of(&symbol, &self.canvas.sheets);
-        let (waiting, job) = act(s, &item, symbol, &mut self.canvas);
+        let (waiting, job) = act(&self.settings, &item, &mut self.canvas);
         self.waiting = waiting;
         self.job = job;
-        self.of_page = printed_page(s, &item);
-        self.settings = s.after(&item, self.stops.as_slice(), symbol_rows);
-        set_stops(&mut self.stops, &item, s.text);
+        self.of_page = printed_page(&self.settings, &item);
+        let text = self.settings.text;
+        self.settings = self.settings.after(&item, self.stops.as_slice(), 0);
+        set_stops(&mut self.stops, &item, text);
         self.raster.begin(&item);
         self.stored.take(&item);
+        Ok(())
+    }
+
+    /// Prints an item that prints a symbol.
+    fn apply_symbol(&mut self, item: &EscItem) -> Result<(), Fault>
+        requires pending { self.old.pending ≡ [] }
+        requires symbol { is_symbol item.now ≡ true }
+        ensures refusal { (setup : Setup) (before : List EscItem) → Stands setup self.old before →
+            MatchResult result (λ _. refusal setup before item.now ≡ None)
+            (λ f. refusal setup before item.now ≡ Some f) }
+        ensures stands { OnOk result ((setup : Setup) (before : List EscItem) →
+            Stands setup self.old before → Stands setup self.new (item.now ∷ before)) }
+        ensures pending { OnOk result ((setup : Setup) (before : List EscItem) →
+            Stands setup self.old before → self.new.pending ≡ prints setup before item.now) }
+        ensures err { OnErr result (self.new ≡ self.old) }
+    {
+        let Some(symbol) = drawn(&self.settings, item, &self.stored, &self.canvas.sheets)? else {
+            return Ok(());
+        };
+        settle(
+            &self.settings,
+            self.waiting,
+            &self.canvas.sheets,
+            &mut self.canvas.bitmap,
+        );
+        let (_, rows) = symbol.size(&self.canvas.sheets);
+        self.job = act_symbol(&self.settings, item, symbol, &mut self.canvas);
+        self.waiting = None;
+        self.of_page = false;
+        self.settings = self.settings.after(item, self.stops.as_slice(), rows);
+        self.raster.begin(item);
         Ok(())
     }
 
     /// How many bytes of a raster come before the one that ends its row; 0 where none comes.
     pub fn raster_room(&self) -> usize
         ensures value { result ≡ room_of self.now.raster }
-        ensures comes { (setup : Setup) (before : List EscItem) → Stands setup self.now before → result ≡ bytes_within_row before }
+        ensures comes { (setup : Setup) (before : List EscItem) → Stands setup self.now before →
+            result ≡ bytes_within_row before }
     {
         usize::from(self.raster.room())
     }
@@ -130,8 +171,10 @@ impl Receipt {
     pub fn apply_raster(&mut self, bytes: &[u8])
         requires pending { self.old.pending ≡ [] }
         requires few { length bytes.now ≤ room_of self.old.raster }
-        ensures prints { (setup : Setup) (before : List EscItem) → Stands setup self.old before → printed setup (bytes_after bytes.now before) ≡ printed setup before }
-        ensures stands { (setup : Setup) (before : List EscItem) → Stands setup self.old before → Stands setup self.new (bytes_after bytes.now before) }
+        ensures prints { (setup : Setup) (before : List EscItem) → Stands setup self.old before →
+            printed setup (bytes_after bytes.now before) ≡ printed setup before }
+        ensures stands { (setup : Setup) (before : List EscItem) → Stands setup self.old before →
+            Stands setup self.new (bytes_after bytes.now before) }
         ensures pending { self.new.pending ≡ [] }
     {
         self.raster.take_all(bytes);
@@ -149,29 +192,35 @@ impl Receipt {
         ensures count { result ≡ min (length self.old.pending) (length output.old) }
         ensures bytes { output.new ≡ take result self.old.pending ++ drop result output.old }
         ensures rest { self.new.pending ≡ drop result self.old.pending }
-        ensures stands { (setup : Setup) (before : List EscItem) → Stands setup self.old before → Stands setup self.new before }
+        ensures stands { (setup : Setup) (before : List EscItem) → Stands setup self.old before →
+            Stands setup self.new before }
     {
-        self.job.put(&self.canvas, output)
+        self.job.put(&self.canvas, &mut self.lines, output)
     }
 
     /// Whether the mode is standard, and no line open.
     pub fn at_rest(&self) -> bool
-        ensures { (setup : Setup) (before : List EscItem) → Stands setup self.now before → IsTrue result ↔ (is_at_rest setup before ≡ true) }
+        ensures { (setup : Setup) (before : List EscItem) → Stands setup self.now before →
+            IsTrue result ↔ (is_at_rest setup before ≡ true) }
     {
         !self.settings.page.is_paged() && !self.settings.is_open
     }
 
-    /// The height of the line of whose strip bytes are still to be put out, else of the line that is gathered.
+    /// The height of the line of whose strip bytes are still to be put out, else of the line that is
+    /// gathered.
     pub fn line_rows(&self) -> u16
-        ensures value { (setup : Setup) (before : List EscItem) → Stands setup self.now before → result ≡ line_rows_after setup before self.now.pending }
+        ensures value { (setup : Setup) (before : List EscItem) → Stands setup self.now before →
+            result ≡ line_rows_after setup before self.now.pending }
         ensures most { result ≤ 192 }
     {
         self.job.line_rows().unwrap_or(self.settings.height)
     }
 
-    /// The rows of the page that is held: 1,664 in page mode and while bytes of a page are still to be put out, else 0.
+    /// The rows of the page that is held: 1,664 in page mode and while bytes of a page are still to be put
+    /// out, else 0.
     pub fn page_rows(&self) -> u16
-        ensures value { (setup : Setup) (before : List EscItem) → Stands setup self.now before → result ≡ page_rows_after setup before self.now.pending }
+        ensures value { (setup : Setup) (before : List EscItem) → Stands setup self.now before →
+            result ≡ page_rows_after setup before self.now.pending }
         ensures most { result ≤ 1664 }
     {
         if self.settings.page.is_paged() || (self.of_page && self.pending()) {

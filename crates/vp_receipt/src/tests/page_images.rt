@@ -161,7 +161,8 @@ fn rasters_past_the_depth_count_for_the_page(rt: HostRuntime) -> Result<(), Fail
     Ok(())
 }
 
-/// Rows as long as the longest line of a page: the last dot of 1,664 is kept, what comes after it is not seen.
+/// Rows as long as the longest line of a page: the last dot of 1,664 is kept, what comes after it is not
+/// seen.
 #[test]
 fn a_raster_as_long_as_the_page(rt: HostRuntime) -> Result<(), Fail> {
     for (scale, bytes, at) in [

@@ -1,5 +1,5 @@
 use Rattle.std.proofs.Common.{◌≡◌, ℕ, ◌+◌, ◌++◌, ◌∷◌, [], List, ap, sym, ◌∙◌, arith, length}
-use Rattle.vp_receipt.specs.Rasters.{row_so_far, sent}
+use Rattle.vp_settings.specs.Rasters.{row_so_far, sent}
 use Rattle.vp_receipt.specs.Strips.{raster_row_text}
 use Rattle.vp_receipt.proofs.RowLaws.{bytes_sent, row_sent, rows_sent, row_ended, rows_ended, row_printed}
 use Rattle.vp_receipt.proofs.laws.a_row_is_its_bytes.Goals as goal

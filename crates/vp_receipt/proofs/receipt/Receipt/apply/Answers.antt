@@ -3,69 +3,87 @@ use Rattle.vp_esc.specs.declared.item.EscItem.{EscItem}
 use Rattle.vp_esc.specs.declared.item.EscItem.TheVariants.{RasterByte}
 use Rattle.vp_page.specs.Layers.{Layer}
 use Rattle.vp_glyph.specs.declared.Sheets.{Sheets}
-use Rattle.vp_receipt.specs.declared.settings.Settings.{Settings}
-use Rattle.vp_receipt.specs.Symbols.{IsStored, qr_data}
-use Rattle.vp_receipt.specs.Setup.{Setup}
-use Rattle.vp_receipt.specs.declared.page_mode.Mode.{Mode}
-use Rattle.vp_receipt.specs.declared.page_mode.Mode.TheVariants.{Standard, Page}
-use Rattle.vp_receipt.specs.Pages.{is_paged}
-use Rattle.vp_receipt.specs.declared.canvas.Canvas.{Canvas}
-use Rattle.vp_receipt.specs.declared.text.Text.{Text}
-use Rattle.vp_receipt.specs.History.{settings_of, line, mode, Placed, image_of}
-use Rattle.vp_receipt.specs.Rasters.{is_row_end, times_down}
+use Rattle.vp_settings.specs.declared.settings.Settings.{Settings}
+use Rattle.vp_settings.specs.Symbols.{IsStored, qr_data}
+use Rattle.vp_settings.specs.Setup.{Setup}
+use Rattle.vp_settings.specs.declared.page_mode.Mode.{Mode}
+use Rattle.vp_settings.specs.declared.page_mode.Mode.TheVariants.{Standard, Page}
+use Rattle.vp_settings.specs.Pages.{is_paged}
+use Rattle.vp_strips.specs.declared.canvas.Canvas.{Canvas}
+use Rattle.vp_settings.specs.declared.text.Text.{Text}
+use Rattle.vp_settings.specs.History.{settings_of, line, mode, Placed, image_of}
+use Rattle.vp_settings.specs.Rasters.{is_row_end, times_down}
 use Rattle.vp_receipt.specs.PageMarks.{layers}
-use Rattle.vp_receipt.specs.Standing.{Printing, Gathers, HasPageIf, IsGathering, Stands, ShowsLine}
-use Rattle.vp_receipt.proofs.Runs.{settings_same, layers_same}
+use Rattle.vp_receipt.specs.Standing.{Printing, Gathers, HasPageIf, Stands, ShowsLine, IsSettled}
+use Rattle.vp_settings.specs.Gathering.{IsGathering}
+use Rattle.vp_settings.proofs.Runs.{settings_same}
+use Rattle.vp_settings.specs.Symbols.{image_rows}
+use Rattle.vp_receipt.specs.Printer.{printing_of}
+use Rattle.vp_receipt.proofs.ItemKinds.{does_nothing, no_image, no_refusal}
+use Rattle.vp_receipt.proofs.Runs.{layers_same}
 use Rattle.vp_receipt.proofs.Showing.{shows_nothing}
 use Rattle.vp_receipt.proofs.receipt.Receipt.apply.Goals as goal
 
 pub invariant_of-self : goal.invariant_of-self
-invariant_of-self c = record { fit = c.after_row-self-inside.ensures.fit; raster = c.take.ensures.part; job = c.act_on_row-self-inside.ensures.job; turned = c.act_on_row-self-inside.ensures.turned }
+invariant_of-self c = record { fit = c.after_row-self-inside.ensures.fit; raster = c.take.ensures.part; job = c.act_on_row-self-inside.ensures.job _; turned = c.act_on_row-self-inside.ensures.turned }
 
 pub invariant_of-self-2 : goal.invariant_of-self-2
-invariant_of-self-2 c = record { fit = c.after-self-inside.ensures.fit; raster = c.begin.ensures.part; job = c.act-waiting.ensures.job; turned = c.act-waiting.ensures.turned }
+invariant_of-self-2 c = record { fit = c.after-self-inside.ensures.fit; raster = c.begin-2.ensures.part; job = c.act-waiting.ensures.job _; turned = c.act-waiting.ensures.turned }
 
 pub returns-clause-refusal : goal.returns-clause-refusal
-returns-clause-refusal c = λ setup before h.
-    c.in_ok-symbol.ensures.accepted setup before (ap (λ (p : Printing). p.settings) c.self.view_is ∙ h.settings)
-    (ap (λ (p : Printing). p.sheets) c.self.view_is ∙ h.sheets)
-    (subst (λ (p : Printing). IsStored p.stored (qr_data before)) (sym c.self.view_is) h.stored)
+returns-clause-refusal c = λ setup before h. no_refusal setup before c.args.item (sym c.is_symbol.ensures ∙ c.if-is_symbol.false)
 
 pub returns-clause-stands : goal.returns-clause-stands
 returns-clause-stands c = λ setup before h.
-    let was : c.self.inside.settings ≡ settings_of setup before = ap (λ (p : Printing). p.settings) c.self.view_is ∙ h.settings in
-    let sheets : c.self.inside.canvas.sheets ≡ setup.sheets = ap (λ (p : Printing). p.sheets) c.self.view_is ∙ h.sheets in
-    let stops = ap (λ (p : Printing). p.stops) c.self.view_is ∙ h.stops in
-    let stored = subst (λ (p : Printing). IsStored p.stored (qr_data before)) (sym c.self.view_is) h.stored in
-    let symbol = c.in_ok-symbol.ensures.image setup before was sheets stored in
-    let old : Gathers c.self.inside.canvas.sheets c.self.inside.settings c.self.inside.canvas.bitmap c.self.inside.waiting (line setup before) =
-    subst (λ (p : Printing). Gathers p.sheets p.settings p.bitmap p.waiting (line setup before)) (sym c.self.view_is) h.line in
-    let page : HasPageIf (mode setup before) (layers setup before) c.self.inside.canvas.page = subst (λ (p : Printing). HasPageIf (mode setup before) (layers setup before) p.page) (sym c.self.view_is) h.page in
-    let now : c.after-self-inside.result ≡ settings_of setup (c.args.item ∷ before) = c.after-self-inside.ensures.settings setup before was (c.as_slice.ensures.value ∙ stops) (c.rows_of-symbol_rows.ensures setup before c.args.item sheets symbol) in
+    let was : Stands setup (printing_of c.self.inside) before = subst (λ (p : Printing). Stands setup p before) (sym c.self.view_is) h in
+    let none = sym c.is_symbol.ensures ∙ c.if-is_symbol.false in
+    let settled : IsSettled setup before c.self.inside.settings (record c.self.inside.canvas { bitmap = c.settle.new.bitmap }) = record { settings = was.settings; sheets = was.sheets; line = c.settle.ensures (line setup before) was.line; page = was.page } in
+    let now : c.after-self-inside.result ≡ settings_of setup (c.args.item ∷ before) = c.after-self-inside.ensures.settings setup before was.settings (c.as_slice.ensures.value ∙ was.stops)
+    (sym (ap image_rows (no_image setup before c.args.item none))) in
     record {
-      sheets = c.act-waiting.ensures.sheets ∙ sheets;
+      sheets = c.act-waiting.ensures.sheets ∙ was.sheets;
       settings = now;
-      stops = c.set_stops.ensures before (ap (λ (s : Settings). s.text) was) stops;
-      raster = c.begin.ensures.gathers before;
-      stored = c.take-2.ensures before stored;
+      stops = c.set_stops.ensures before (ap (λ (s : Settings). s.text) was.settings) was.stops;
+      raster = c.begin-2.ensures.gathers before;
+      stored = c.take-2.ensures before was.stored;
       line = subst (λ (t : Settings). Gathers c.act-waiting.new.canvas.sheets t c.act-waiting.new.canvas.bitmap c.act-waiting.result.0 (line setup (c.args.item ∷ before))) (sym now)
           (subst (λ (k : Sheets). Gathers k (settings_of setup (c.args.item ∷ before)) c.act-waiting.new.canvas.bitmap c.act-waiting.result.0 (line setup (c.args.item ∷ before))) (sym c.act-waiting.ensures.sheets)
-          (c.act-waiting.ensures.line setup before was sheets symbol (c.settle.ensures (line setup before) old)));
-      page = c.act-waiting.ensures.page setup before was sheets symbol (c.settle.ensures (line setup before) old) page;
-      shows = c.act-waiting.ensures.shows setup before was sheets symbol (c.settle.ensures (line setup before) old) page;
-      of_page = λ some. c.printed_page-self-inside.ensures setup before was;
+          (c.act-waiting.ensures.line setup before settled));
+      page = c.act-waiting.ensures.page setup before settled;
+      shows = c.act-waiting.ensures.shows setup before settled;
+      of_page = λ some. c.printed_page-self-inside.ensures setup before was.settings;
     }
 
 pub returns-clause-pending : goal.returns-clause-pending
 returns-clause-pending c = λ setup before h.
-    let was : c.self.inside.settings ≡ settings_of setup before = ap (λ (p : Printing). p.settings) c.self.view_is ∙ h.settings in
-    let sheets : c.self.inside.canvas.sheets ≡ setup.sheets = ap (λ (p : Printing). p.sheets) c.self.view_is ∙ h.sheets in
-    let stored = subst (λ (p : Printing). IsStored p.stored (qr_data before)) (sym c.self.view_is) h.stored in
-    let symbol = c.in_ok-symbol.ensures.image setup before was sheets stored in
-    let old : Gathers c.self.inside.canvas.sheets c.self.inside.settings c.self.inside.canvas.bitmap c.self.inside.waiting (line setup before) =
-    subst (λ (p : Printing). Gathers p.sheets p.settings p.bitmap p.waiting (line setup before)) (sym c.self.view_is) h.line in
-    let page : HasPageIf (mode setup before) (layers setup before) c.self.inside.canvas.page = subst (λ (p : Printing). HasPageIf (mode setup before) (layers setup before) p.page) (sym c.self.view_is) h.page in
-    c.act-waiting.ensures.text setup before was sheets symbol (c.settle.ensures (line setup before) old) page
+    let was : Stands setup (printing_of c.self.inside) before = subst (λ (p : Printing). Stands setup p before) (sym c.self.view_is) h in
+    c.act-waiting.ensures.text setup before (record { settings = was.settings; sheets = was.sheets; line = c.settle.ensures (line setup before) was.line; page = was.page })
+
+pub returns-then-is_ignored-clause-refusal : goal.returns-then-is_ignored-clause-refusal
+returns-then-is_ignored-clause-refusal c = λ setup before h. (does_nothing setup before c.args.item (sym c.is_ignored.ensures ∙ c.if-is_ignored.true)).refusal
+
+pub returns-then-is_ignored-clause-stands : goal.returns-then-is_ignored-clause-stands
+returns-then-is_ignored-clause-stands c = λ setup before h.
+    let was : Stands setup (printing_of c.self.inside) before = subst (λ (p : Printing). Stands setup p before) (sym c.self.view_is) h in
+    let same = does_nothing setup before c.args.item (sym c.is_ignored.ensures ∙ c.if-is_ignored.true) in
+    let none = ap (λ (p : Printing). p.pending) c.self.view_is ∙ c.requires in
+    let r = c.self.inside in
+    record {
+      sheets = was.sheets;
+      settings = was.settings ∙ sym same.settings;
+      stops = was.stops ∙ sym same.stops;
+      raster = c.begin.ensures.gathers before;
+      stored = subst (IsStored r.stored) (sym same.stored) was.stored;
+      line = subst (λ (placed : List Placed). Gathers r.canvas.sheets r.settings r.canvas.bitmap r.waiting placed) (sym same.line) was.line;
+      page = subst (λ (l : List Layer). HasPageIf (mode setup (c.args.item ∷ before)) l r.canvas.page) (sym same.layers)
+          (subst (λ (m : Mode). HasPageIf m (layers setup before) r.canvas.page) (sym same.mode) was.page);
+      shows = shows_nothing setup _ _ before (c.args.item ∷ before) none was.shows;
+      of_page = λ some. absurd (omega (arith, some, ap length none));
+    }
+
+pub returns-then-is_ignored-clause-pending : goal.returns-then-is_ignored-clause-pending
+returns-then-is_ignored-clause-pending c = λ setup before h.
+    ap (λ (p : Printing). p.pending) c.self.view_is ∙ c.requires ∙ sym (does_nothing setup before c.args.item (sym c.is_ignored.ensures ∙ c.if-is_ignored.true)).prints
 
 stands_as : (setup : Setup) (p : Printing) (before : List EscItem) (i j : EscItem) → i ≡ j → Stands setup p (j ∷ before) → Stands setup p (i ∷ before)
 stands_as setup p before i j e h = subst (λ (k : EscItem). Stands setup p (k ∷ before)) (sym e) h

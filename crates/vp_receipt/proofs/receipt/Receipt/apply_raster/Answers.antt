@@ -1,10 +1,12 @@
 use Rattle.std.proofs.Common.{length, ap, sym, ◌∙◌, subst, arith}
-use Rattle.vp_receipt.specs.Symbols.{IsStored, qr_data}
-use Rattle.vp_receipt.specs.History.{line, mode}
+use Rattle.vp_settings.specs.Symbols.{IsStored, qr_data}
+use Rattle.vp_settings.specs.History.{line, mode}
 use Rattle.vp_receipt.specs.PageMarks.{layers}
-use Rattle.vp_receipt.specs.Rasters.{bytes_after}
-use Rattle.vp_receipt.specs.Standing.{Printing, Gathers, IsGathering, ShowsLine, HasPageIf}
-use Rattle.vp_receipt.proofs.Runs.{run_inside, settings_stay, line_stays, stops_stay, data_stay, page_stays, paper_stays}
+use Rattle.vp_settings.specs.Rasters.{bytes_after}
+use Rattle.vp_receipt.specs.Standing.{Printing, Gathers, ShowsLine, HasPageIf}
+use Rattle.vp_settings.specs.Gathering.{IsGathering}
+use Rattle.vp_settings.proofs.Runs.{run_inside, settings_stay, line_stays, stops_stay, data_stay}
+use Rattle.vp_receipt.proofs.Runs.{page_stays, paper_stays}
 use Rattle.vp_receipt.proofs.Showing.{shows_nothing}
 use Rattle.vp_receipt.proofs.receipt.Receipt.apply_raster.Goals as goal
 

@@ -1,6 +1,6 @@
 use Rattle.std.proofs.Common.{ℕ, ap, sym, ◌∙◌, subst, unwrap_or, Option}
-use Rattle.vp_receipt.specs.declared.settings.Settings.{Settings}
-use Rattle.vp_receipt.specs.Held.{showing_of}
+use Rattle.vp_settings.specs.declared.settings.Settings.{Settings}
+use Rattle.vp_strips.specs.Held.{showing_of}
 use Rattle.vp_receipt.specs.Standing.{Printing, ShowsLine}
 use Rattle.vp_receipt.proofs.Showing.{rows_told}
 use Rattle.vp_receipt.proofs.receipt.Receipt.line_rows.Goals as goal

@@ -2,7 +2,7 @@ use Rattle.std.proofs.Common.{refl}
 use Rattle.vp_receipt.proofs.receipt.Receipt.new.Goals as goal
 
 pub invariant_of-result : goal.invariant_of-result
-invariant_of-result c = record { fit = c.start.ensures.fit; raster = c.none.ensures.part; job = c.none-3.ensures.job _; turned = c.none-3.ensures.turned }
+invariant_of-result c = record { fit = c.start.ensures.fit; raster = c.none.ensures.part; job = c.none-4.ensures.job _ _; turned = c.none-4.ensures.turned }
 
 pub returns-clause-stands : goal.returns-clause-stands
 returns-clause-stands c = record {
@@ -13,6 +13,6 @@ returns-clause-stands c = record {
   stored = c.none-2.ensures;
   line = λ h. cc;
   page = tt;
-  shows = c.none-3.ensures.shows _ 0 0;
+  shows = c.none-4.ensures.shows _ 0 0;
   of_page = λ some. refl;
 }

@@ -1,5 +1,0 @@
-use Rattle.vp_receipt.proofs.Jobs.{own_low}
-use Rattle.vp_receipt.proofs.job.Job.of.Goals as goal
-
-pub returns-in_default-clause-job : goal.returns-in_default-clause-job
-returns-in_default-clause-job c = λ canvas. c.turn.ensures.job canvas (record { low = own_low c.white.result.dots c.white.ensures.own; after = c.requires.after; place = tt; left = tt; line = tt })

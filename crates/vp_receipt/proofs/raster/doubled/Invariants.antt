@@ -1,5 +1,0 @@
-use Rattle.vp_receipt.proofs.Doubling.{IsDoubled}
-use Rattle.vp_receipt.proofs.raster.doubled.Given as goal
-
-abbrev pub invariant-loop-i : goal.invariant-loop-i
-invariant-loop-i l = IsDoubled l.row l.i l.wide

@@ -1,6 +1,0 @@
-use Rattle.vp_receipt.specs.Jobs.{strip_dot}
-use Rattle.vp_receipt.proofs.Rows.{take_row}
-use Rattle.vp_receipt.proofs.strip.Strip.write_row.Goals as goal
-
-pub returns : goal.returns
-returns c = take_row c.args.self.paper (λ x. strip_dot c.args.self c.args.canvas.now x c.args.y) c.write_row.new.row c.write_row.ensures
