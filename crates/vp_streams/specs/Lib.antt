@@ -1,0 +1,2 @@
+-- The rules: how calls are counted.
+pub mod Count
