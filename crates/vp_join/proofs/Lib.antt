@@ -1,0 +1,14 @@
+pub mod Starts
+pub mod Cuts
+pub mod Ends
+pub mod Paddings
+pub mod Grows
+pub mod Trims
+pub mod Streams
+pub mod Counts
+pub mod Digits
+pub mod Agree
+pub mod Pictures
+pub mod Sizes
+pub mod Joining
+pub mod JoinedLaws
