@@ -1,0 +1,113 @@
+-- More bytes bring the reader to rest.
+use Rattle.std.proofs.Common.{◌≡◌, ℕ, ◌+◌, ◌-◌, ◌<◌, ◌≤◌, Bool, true, false, ◌&&◌, zero, suc, List, [], ◌∷◌, ◌++◌, length, refl, sym, ap, ◌∙◌, append_assoc, arith, nat_lt}
+use Rattle.std.proofs.lemmas.Bool.Decides.{nat_tests}
+use Rattle.std.proofs.lemmas.List.{length_push}
+use Rattle.vp_zpl.specs.declared.name.Kind.{Kind}
+use Rattle.vp_zpl.specs.declared.name.Kind.TheVariants as kinds
+use Rattle.vp_zpl.specs.Spelling.{behind}
+use Rattle.vp_zpl.specs.Commands.{cut, with_byte, longer, wants_binary, wants_binary_named, kind, kind_of, kind_named, is_short, is_whole, is_b, head, count_of, in_format}
+use Rattle.vp_zpl.specs.Items.{at_rest, is_within_one, rests}
+use Rattle.vp_zpl.proofs.Cuts.{cut-push, with-byte}
+use Rattle.vp_zpl.proofs.Heads.{still}
+
+-- how many bytes of binary data are wanted
+abbrev pub short_by : List ℕ → ℕ
+short_by (sign ∷ a ∷ b ∷ args) = count_of (head args) - length (behind 4 args)
+short_by _ = 0
+
+all_true : (x y z : Bool) → (x && y && z) ≡ true → (x ≡ true) × (z ≡ true)
+all_true false y z e = absurd (cc)
+all_true true false z e = absurd (cc)
+all_true true true z e = (refl, e)
+
+short_is : (args : List ℕ) → is_short args ≡ true → (is_whole args ≡ true) × (length (behind 4 args) < count_of (head args))
+unfolding is_short
+short_is args e =
+    let a = all_true (is_whole args) (is_b (head args)) (nat_lt (length (behind 4 args)) (count_of (head args))) e in
+    (a.0, few (length (behind 4 args)) (count_of (head args)) a.1)
+  where
+    few : (m n : ℕ) → nat_lt m n ≡ true → m < n
+    few m n e = grind (arith, nat_tests)
+
+named_short : (k : Kind) (args : List ℕ) → wants_binary_named k args ≡ true → is_short args ≡ true
+named_short kinds.FormatStart args e = absurd (cc)
+named_short kinds.FormatEnd args e = absurd (cc)
+named_short kinds.FieldSeparator args e = absurd (cc)
+named_short kinds.ReversePrint args e = absurd (cc)
+named_short kinds.FieldHex args e = absurd (cc)
+named_short (kinds.Plain j) args e = absurd (cc)
+named_short kinds.FieldData args e = absurd (cc)
+named_short kinds.Graphic args e = e
+named_short kinds.Skipped args e = absurd (cc)
+
+less : (command : List ℕ) (c n : ℕ) → wants_binary command ≡ true → short_by command ≤ suc n → short_by (longer command c) ≤ n
+unfolding wants_binary
+less [] c n w h = absurd (cc)
+less (s ∷ []) c n w h = absurd (cc)
+less (s ∷ a ∷ []) c n w h = absurd (cc)
+less (s ∷ a ∷ b ∷ args) c n w h =
+    let t = short_is args (named_short (kind_named s a b) args w) in
+    let l = still args c t.0 in
+    let e : count_of (head (args ++ c ∷ [])) ≡ count_of (head args) = ap count_of l.head_is in
+    let d : length (behind 4 (args ++ c ∷ [])) ≡ length (behind 4 args) + 1 = ap length l.data_is ∙ length_push (behind 4 args) c in
+    omega (arith, h, t.1, e, d)
+
+none_left : (command : List ℕ) → wants_binary command ≡ true → short_by command ≤ 0 → true ≡ false
+unfolding wants_binary
+none_left [] w h = sym w
+none_left (s ∷ []) w h = sym w
+none_left (s ∷ a ∷ []) w h = sym w
+none_left (s ∷ a ∷ b ∷ args) w h =
+    let t = short_is args (named_short (kind_named s a b) args w) in absurd (omega (arith, h, t.1))
+
+pub record Filled (bytes : List ℕ) : Type 0 where
+  pub end : List ℕ
+  pub done : wants_binary (cut (bytes ++ end)).open_one ≡ false
+
+nothing_after : (xs : List ℕ) → xs ++ [] ≡ xs
+nothing_after [] = refl
+nothing_after (x ∷ xs) = ap (λ y. x ∷ y) (nothing_after xs)
+
+fill : (n : ℕ) (z : Bool) (bytes : List ℕ) → wants_binary (cut bytes).open_one ≡ z → short_by (cut bytes).open_one ≤ n → Filled bytes
+fill n false bytes w h = record { end = []; done = ap (λ b. wants_binary (cut b).open_one) (nothing_after bytes) ∙ w }
+fill zero true bytes w h = record { end = []; done = ap (λ b. wants_binary (cut b).open_one) (nothing_after bytes) ∙ w ∙ none_left (cut bytes).open_one w h }
+fill (suc n) true bytes w h =
+    let one : cut (bytes ++ 0 ∷ []) ≡ record (cut bytes) { open_one = longer (cut bytes).open_one 0 } = cut-push bytes 0 ∙ with-byte (cut bytes) 0 true false false w refl refl in
+    let few : short_by (cut (bytes ++ 0 ∷ [])).open_one ≤ n = rw one (less (cut bytes).open_one 0 n w h) in
+    let rest = fill n (wants_binary (cut (bytes ++ 0 ∷ [])).open_one) (bytes ++ 0 ∷ []) refl few in
+    record { end = 0 ∷ rest.end; done = ap (λ b. wants_binary (cut b).open_one) (sym (append_assoc bytes (0 ∷ []) rest.end)) ∙ rest.done }
+
+-- ^XZ
+ends_format : (before : List (List ℕ)) → rests (record { before = before; open_one = 0x5E ∷ 0x58 ∷ 0x5A ∷ [] }) ≡ true
+unfolding is_within_one in_format kind wants_binary kind_of Rattle.vp_zpl.specs.Spelling.capital
+ends_format before = refl
+
+second : (before : List (List ℕ)) → with_byte (record { before = before; open_one = 0x5E ∷ [] }) 0x58 ≡ record { before = before; open_one = 0x5E ∷ 0x58 ∷ [] }
+unfolding wants_binary
+second before = refl
+
+third : (before : List (List ℕ)) → with_byte (record { before = before; open_one = 0x5E ∷ 0x58 ∷ [] }) 0x5A ≡ record { before = before; open_one = 0x5E ∷ 0x58 ∷ 0x5A ∷ [] }
+unfolding wants_binary
+third before = refl
+
+at_rest_is : (bytes : List ℕ) → at_rest bytes ≡ rests (cut bytes)
+unfolding at_rest
+at_rest_is bytes = refl
+
+closed : (bytes : List ℕ) → wants_binary (cut bytes).open_one ≡ false → at_rest (((bytes ++ 0x5E ∷ []) ++ 0x58 ∷ []) ++ 0x5A ∷ []) ≡ true
+closed bytes w =
+    let before = (cut bytes).open_one ∷ (cut bytes).before in
+    let one : cut (bytes ++ 0x5E ∷ []) ≡ record { before = before; open_one = 0x5E ∷ [] } = cut-push bytes 0x5E ∙ with-byte (cut bytes) 0x5E false false true w refl refl in
+    let two : cut ((bytes ++ 0x5E ∷ []) ++ 0x58 ∷ []) ≡ record { before = before; open_one = 0x5E ∷ 0x58 ∷ [] } =
+    cut-push (bytes ++ 0x5E ∷ []) 0x58 ∙ ap (λ s. with_byte s 0x58) one ∙ second before in
+    at_rest_is (((bytes ++ 0x5E ∷ []) ++ 0x58 ∷ []) ++ 0x5A ∷ [])
+    ∙ ap rests (cut-push ((bytes ++ 0x5E ∷ []) ++ 0x58 ∷ []) 0x5A ∙ ap (λ s. with_byte s 0x5A) two ∙ third before) ∙ ends_format before
+
+pub completed : (bytes : List ℕ) → (end : List ℕ) × (at_rest (bytes ++ end) ≡ true)
+completed bytes =
+    let f = fill (short_by (cut bytes).open_one) (wants_binary (cut bytes).open_one) bytes refl (omega arith) in (
+      f.end ++ 0x5E ∷ 0x58 ∷ 0x5A ∷ [],
+      ap at_rest (sym (append_assoc bytes f.end (0x5E ∷ 0x58 ∷ 0x5A ∷ [])) ∙ sym (append_assoc (bytes ++ f.end) (0x5E ∷ []) (0x58 ∷ 0x5A ∷ []))
+          ∙ sym (append_assoc ((bytes ++ f.end) ++ 0x5E ∷ []) (0x58 ∷ []) (0x5A ∷ [])))
+          ∙ closed (bytes ++ f.end) f.done,
+    )

@@ -1,0 +1,145 @@
+-- What is given stays given.
+use Rattle.std.proofs.Common.{◌≡◌, ℕ, Bool, true, false, cond, zero, suc, Option, Some, None, List, [], ◌∷◌, ◌++◌, take, refl, sym, ap, ◌∙◌, append_assoc}
+use Rattle.vp_zpl.specs.declared.name.Kind.{Kind}
+use Rattle.vp_zpl.specs.declared.name.Kind.TheVariants as kinds
+use Rattle.vp_zpl.specs.declared.name.Name.{Name}
+use Rattle.vp_zpl.specs.Spelling.{is_sign, is_line_end, behind, undecided}
+use Rattle.vp_zpl.specs.Commands.{Cut, cut, longer, wants_binary, kind_named, is_whole, is_b, head, count_of, indicator}
+use Rattle.vp_zpl.specs.Items.{Item, items, items_in, item_of, data_items, graphic, picture, is_code, text_known, name_of, given, given_named, at_end, at_end_named, all_ended, waiting}
+use Rattle.vp_zpl.proofs.Cuts.{cut-push, items-is, with-byte}
+use Rattle.vp_zpl.proofs.Texts.{step, out}
+use Rattle.vp_zpl.proofs.Heads.{still, code_more}
+use Rattle.vp_zpl.proofs.Phases.{nothing_more, data_split}
+use Rattle.vp_zpl.proofs.Ends.{text_ends}
+
+pub record Grows (small big : List Item) : Type 0 where
+  pub added : List Item
+  pub is : big ≡ small ++ added
+
+same : (xs ys : List Item) → ys ≡ xs → Grows xs ys
+same xs ys e = record { added = []; is = e ∙ nothing_more xs }
+
+from_none : (xs ys : List Item) → xs ≡ [] → Grows xs ys
+from_none xs ys e = record { added = ys; is = ap (λ x. x ++ ys) (sym e) }
+
+take_grows : (n : ℕ) (xs : List ℕ) (y : ℕ) → (added : List ℕ) × (take n (xs ++ y ∷ []) ≡ take n xs ++ added)
+take_grows zero xs y = ([], refl)
+take_grows (suc n) [] y = (take (suc n) (y ∷ []), refl)
+take_grows (suc n) (x ∷ xs) y = let g = take_grows n xs y in (g.0, ap (λ l. x ∷ l) g.1)
+
+picture_by : (z : Bool) (args : List ℕ) (c : ℕ) → is_whole args ≡ true → is_b (head args) ≡ z → (added : List ℕ) × (picture (args ++ c ∷ []) ≡ picture args ++ added)
+unfolding picture
+picture_by true args c w b =
+    let s = still args c w in let g = take_grows (count_of (head args)) (behind 4 args) c in
+    (g.0, rw (s.head_is, s.data_is, b) g.1)
+picture_by false args c w b = (cond (is_code c) (c ∷ []) [], code_more args c (cond (is_code c) (c ∷ []) []) w b refl)
+
+graphic_by : (z : Bool) (before : List (List ℕ)) (name : Name) (args : List ℕ) (c : ℕ) → is_whole args ≡ z
+    → Grows (given_named kinds.Graphic before name args) (given_named kinds.Graphic before name (args ++ c ∷ []))
+graphic_by true before name args c w =
+    let s = still args c w in let g = picture_by (is_b (head args)) args c w refl in
+    record { added = data_items g.0; is = rw (s.whole, w, s.head_is, g.1) (ap (λ d. item_of kinds.Graphic name (head args) ∷ d) (data_split (picture args) g.0)) }
+graphic_by false before name args c w = from_none _ _ (ap (λ z. cond z (graphic name args) []) w)
+
+text_by : (o : Option ℕ) (args : List ℕ) (c : ℕ) → (added : List ℕ) × (text_known o (args ++ c ∷ []) ≡ text_known o args ++ added)
+text_by None args c = (c ∷ [], refl)
+text_by (Some x) args c = (out x (undecided x args) c, (step x args c).makes)
+
+named_grows : (k : Kind) (before : List (List ℕ)) (name : Name) (args : List ℕ) (c : ℕ) → Grows (given_named k before name args) (given_named k before name (args ++ c ∷ []))
+named_grows kinds.FormatStart before name args c = same _ _ refl
+named_grows kinds.FormatEnd before name args c = same _ _ refl
+named_grows kinds.FieldSeparator before name args c = same _ _ refl
+named_grows kinds.ReversePrint before name args c = same _ _ refl
+named_grows kinds.FieldHex before name args c = same _ _ refl
+named_grows (kinds.Plain j) before name args c = same _ _ refl
+named_grows kinds.FieldData before name args c =
+    let g = text_by (indicator before) args c in
+    record { added = data_items g.0; is = ap (λ d. item_of kinds.FieldData name [] ∷ data_items d) g.1 ∙ ap (λ d. item_of kinds.FieldData name [] ∷ d) (data_split (text_known (indicator before) args) g.0) }
+named_grows kinds.Graphic before name args c = graphic_by (is_whole args) before name args c refl
+named_grows kinds.Skipped before name args c = same _ _ refl
+
+given_grows : (before : List (List ℕ)) (command : List ℕ) (c : ℕ) → Grows (given before command) (given before (longer command c))
+unfolding given
+given_grows before [] c = same _ _ refl
+given_grows before (s ∷ []) c = same _ _ refl
+given_grows before (s ∷ a ∷ []) c = from_none _ _ refl
+given_grows before (s ∷ a ∷ b ∷ args) c = named_grows (kind_named s a b) before (name_of s a b) args c
+
+whole_by : (z : Bool) (before : List (List ℕ)) (name : Name) (args : List ℕ) → is_whole args ≡ z
+    → Grows (given_named kinds.Graphic before name args) (at_end_named kinds.Graphic before name args)
+whole_by true before name args w = same _ _ (rw w refl)
+whole_by false before name args w = from_none _ _ (ap (λ z. cond z (graphic name args) []) w)
+
+named_ends : (k : Kind) (before : List (List ℕ)) (name : Name) (args : List ℕ) → Grows (given_named k before name args) (at_end_named k before name args)
+named_ends kinds.FormatStart before name args = same _ _ refl
+named_ends kinds.FormatEnd before name args = same _ _ refl
+named_ends kinds.FieldSeparator before name args = same _ _ refl
+named_ends kinds.ReversePrint before name args = same _ _ refl
+named_ends kinds.FieldHex before name args = from_none _ _ refl
+named_ends (kinds.Plain j) before name args = from_none _ _ refl
+named_ends kinds.FieldData before name args =
+    record {
+      added = data_items (waiting (indicator before) args);
+      is = ap (λ d. item_of kinds.FieldData name [] ∷ data_items d) (text_ends (indicator before) args)
+          ∙ ap (λ d. item_of kinds.FieldData name [] ∷ d) (data_split (text_known (indicator before) args) (waiting (indicator before) args));
+    }
+named_ends kinds.Graphic before name args = whole_by (is_whole args) before name args refl
+named_ends kinds.Skipped before name args = same _ _ refl
+
+end_grows : (before : List (List ℕ)) (command : List ℕ) → Grows (given before command) (at_end before command)
+unfolding given at_end
+end_grows before [] = same _ _ refl
+end_grows before (s ∷ []) = same _ _ refl
+end_grows before (s ∷ a ∷ []) = same _ _ refl
+end_grows before (s ∷ a ∷ b ∷ args) = named_ends (kind_named s a b) before (name_of s a b) args
+
+no_name : (before : List (List ℕ)) (c : ℕ) → given before (c ∷ []) ≡ []
+unfolding given
+no_name before c = refl
+
+ended_is : (command : List ℕ) (before : List (List ℕ)) → all_ended (command ∷ before) ≡ all_ended before ++ at_end before command
+unfolding all_ended
+ended_is command before = refl
+
+within : (before : List (List ℕ)) (small big : List Item) → Grows small big → Grows (all_ended before ++ small) (all_ended before ++ big)
+within before small big g = record { added = g.added; is = ap (λ x. all_ended before ++ x) g.is ∙ sym (append_assoc (all_ended before) small g.added) }
+
+longer_grows : (s : Cut) (c : ℕ) → Grows (items_in s) (items_in (record s { open_one = longer s.open_one c }))
+longer_grows s c = within s.before (given s.before s.open_one) (given s.before (longer s.open_one c)) (given_grows s.before s.open_one c)
+
+sign_grows : (s : Cut) (c : ℕ) → Grows (items_in s) (items_in (record { before = s.open_one ∷ s.before; open_one = c ∷ [] }))
+sign_grows s c =
+    let g = within s.before (given s.before s.open_one) (at_end s.before s.open_one) (end_grows s.before s.open_one) in
+    record {
+      added = g.added;
+      is = ap (λ x. all_ended (s.open_one ∷ s.before) ++ x) (no_name (s.open_one ∷ s.before) c) ∙ sym (nothing_more (all_ended (s.open_one ∷ s.before)))
+          ∙ ended_is s.open_one s.before ∙ g.is;
+    }
+
+byte_by : (wants ends signs : Bool) (s : Cut) (c : ℕ) → Grows (items_in s) (items_in (Rattle.vp_zpl.proofs.Cuts.taken wants ends signs s c))
+byte_by true ends signs s c = longer_grows s c
+byte_by false true signs s c = same _ _ refl
+byte_by false false true s c = sign_grows s c
+byte_by false false false s c = longer_grows s c
+
+one_more : (bytes : List ℕ) (c : ℕ) → Grows (items bytes) (items (bytes ++ c ∷ []))
+one_more bytes c =
+    let s = cut bytes in
+    let g = byte_by (wants_binary s.open_one) (is_line_end c) (is_sign c) s c in
+    record {
+      added = g.added;
+      is = items-is (bytes ++ c ∷ []) ∙ ap items_in (cut-push bytes c ∙ with-byte s c (wants_binary s.open_one) (is_line_end c) (is_sign c) refl refl refl) ∙ g.is ∙ ap (λ x. x ++ g.added) (sym (items-is bytes));
+    }
+
+nothing_after : (xs : List ℕ) → xs ++ [] ≡ xs
+nothing_after [] = refl
+nothing_after (x ∷ xs) = ap (λ y. x ∷ y) (nothing_after xs)
+
+pub grows : (bytes more : List ℕ) → Grows (items bytes) (items (bytes ++ more))
+grows bytes [] = same _ _ (ap items (nothing_after bytes))
+grows bytes (c ∷ more) =
+    let a = one_more bytes c in let b = grows (bytes ++ c ∷ []) more in
+    record {
+      added = a.added ++ b.added;
+      is = ap items (sym (append_assoc bytes (c ∷ []) more)) ∙ b.is ∙ ap (λ x. x ++ b.added) a.is ∙ append_assoc (items bytes) a.added b.added;
+    }

@@ -1,0 +1,109 @@
+-- Parameters and the data of ^GF, by one byte more.
+use Rattle.std.proofs.Common.{◌≡◌, ℕ, ◌+◌, ◌-◌, ◌<◌, ◌≤◌, ◌==◌, Bool, true, false, cond, List, [], ◌∷◌, ◌++◌, length, map, refl, sym, ap, ◌∙◌, arith, length-append}
+use Rattle.std.proofs.lemmas.Bool.Decides.{nat_tests}
+use Rattle.std.proofs.lemmas.List.{map-append, take-append-le, take_all, length_push}
+use Rattle.std.specs.Prelude.{filter}
+use Rattle.vp_zpl.specs.declared.name.Name.{Name}
+use Rattle.vp_zpl.specs.Spelling.{is_comma, is_blank, ended, last, behind, kept}
+use Rattle.vp_zpl.specs.Commands.{is_b, count_of, head, is_whole}
+use Rattle.vp_zpl.specs.Items.{picture, is_code}
+
+abbrev pub tail : ℕ → List ℕ → List (List ℕ)
+tail c p = cond (is_comma c) (p ∷ []) []
+
+ended_step : (x y : Bool) (p : List ℕ) (args : List ℕ) (a c : ℕ) → ((q : List ℕ) → ended q (args ++ c ∷ []) ≡ ended q args ++ tail c (last q args))
+    → cond x (p ∷ ended [] (args ++ c ∷ [])) (cond y (ended p (args ++ c ∷ [])) (ended (p ++ a ∷ []) (args ++ c ∷ [])))
+    ≡ cond x (p ∷ ended [] args) (cond y (ended p args) (ended (p ++ a ∷ []) args)) ++ tail c (cond x (last [] args) (cond y (last p args) (last (p ++ a ∷ []) args)))
+ended_step true y p args a c ih = ap (λ e. p ∷ e) (ih [])
+ended_step false true p args a c ih = ih p
+ended_step false false p args a c ih = ih (p ++ a ∷ [])
+
+one_more : (x y : Bool) (p : List ℕ) (a : ℕ) → cond x (p ∷ []) (cond y [] []) ≡ cond x (p ∷ []) []
+one_more true y p a = refl
+one_more false true p a = refl
+one_more false false p a = refl
+
+pub ended-push : (p args : List ℕ) (c : ℕ) → ended p (args ++ c ∷ []) ≡ ended p args ++ tail c (last p args)
+ended-push p [] c = one_more (is_comma c) (is_blank c) p c
+ended-push p (a ∷ args) c = ended_step (is_comma a) (is_blank a) p args a c (λ q. ended-push q args c)
+
+-- behind a whole head, a byte more is a byte of data more
+behind_step : (x y : Bool) (n : ℕ) (p args : List ℕ) (a c : ℕ)
+    → ((m : ℕ) (q : List ℕ) → m ≤ length (ended q args) → behind m (args ++ c ∷ []) ≡ behind m args ++ c ∷ [])
+    → n ≤ length (cond x (p ∷ ended [] args) (cond y (ended p args) (ended (p ++ a ∷ []) args)))
+    → cond x (behind (n - 1) (args ++ c ∷ [])) (behind n (args ++ c ∷ [])) ≡ cond x (behind (n - 1) args) (behind n args) ++ c ∷ []
+behind_step true y n p args a c ih h = ih (n - 1) [] (omega arith)
+behind_step false true n p args a c ih h = ih n p h
+behind_step false false n p args a c ih h = ih n (p ++ a ∷ []) h
+
+behind_if : (z : Bool) (xs ys xs' ys' : List ℕ) → xs ≡ xs' → ys ≡ ys' → cond z xs ys ≡ cond z xs' ys'
+behind_if z xs ys xs' ys' e f = cc
+
+append_if : (z : Bool) (xs ys : List ℕ) (c : ℕ) → cond z (xs ++ c ∷ []) (ys ++ c ∷ []) ≡ cond z xs ys ++ c ∷ []
+append_if true xs ys c = refl
+append_if false xs ys c = refl
+
+behind_none : (z : Bool) (n c : ℕ) → n ≤ 0 → behind n (c ∷ []) ≡ c ∷ []
+behind_none z n c h = let e : n ≡ 0 = omega arith in rw e refl
+
+pub behind-push : (n : ℕ) (p args : List ℕ) (c : ℕ) → n ≤ length (ended p args) → behind n (args ++ c ∷ []) ≡ behind n args ++ c ∷ []
+behind-push n p [] c h = behind_none true n c h
+behind-push n p (a ∷ args) c h =
+    behind_if (n == 0) _ _ _ _ refl (behind_step (is_comma a) (is_blank a) n p args a c (λ m q g. behind-push m q args c g) h)
+    ∙ append_if (n == 0) (a ∷ args) _ c
+
+pub whole_is : (args : List ℕ) → is_whole args ≡ true → 4 ≤ length (ended [] args)
+unfolding is_whole
+whole_is args w = grind (arith, nat_tests)
+
+length_kept : (ps : List (List ℕ)) → length (map kept ps) ≡ length ps
+length_kept [] = refl
+length_kept (p ∷ ps) = let e = length_kept ps in cc
+
+-- what holds of a whole head still holds
+pub record Still (args : List ℕ) (c : ℕ) : Type 0 where
+  pub whole : is_whole (args ++ c ∷ []) ≡ true
+  pub head_is : head (args ++ c ∷ []) ≡ head args
+  pub data_is : behind 4 (args ++ c ∷ []) ≡ behind 4 args ++ c ∷ []
+
+pub still : (args : List ℕ) (c : ℕ) → is_whole args ≡ true → Still args c
+unfolding is_whole head
+still args c w =
+    let l : 4 ≤ length (ended [] args) = grind (arith, nat_tests) in
+    let t : length (ended [] args ++ tail c (last [] args)) ≡ length (ended [] args) + length (tail c (last [] args)) = length-append (ended [] args) (tail c (last [] args)) in
+    record {
+      whole = rw (ended-push [] args c) (grind (arith, nat_tests));
+      head_is = rw (ended-push [] args c) (rw map-append (take-append-le 4 (map kept (ended [] args)) (map kept (tail c (last [] args))) (omega (arith, length_kept (ended [] args)))));
+      data_is = behind-push 4 [] args c l;
+    }
+
+pub graphic_same : (name : Name) (args : List ℕ) (c : ℕ) → is_whole args ≡ true → is_b (head args) ≡ true → count_of (head args) ≤ length (behind 4 args)
+    → picture (args ++ c ∷ []) ≡ picture args
+unfolding picture
+graphic_same name args c w b full =
+    let s = still args c w in
+    rw (s.head_is, s.data_is, b) (take-append-le (count_of (head args)) (behind 4 args) (c ∷ []) full)
+
+pub binary_more : (args : List ℕ) (c : ℕ) → is_whole args ≡ true → is_b (head args) ≡ true → length (behind 4 args) < count_of (head args)
+    → picture (args ++ c ∷ []) ≡ picture args ++ c ∷ []
+unfolding picture
+binary_more args c w b few =
+    let s = still args c w in
+    rw (s.head_is, s.data_is, b)
+    (take_all (count_of (head args)) (behind 4 args ++ c ∷ []) (omega (arith, length_push (behind 4 args) c))
+    ∙ ap (λ x. x ++ c ∷ []) (sym (take_all (count_of (head args)) (behind 4 args) (omega arith))))
+
+filter_if : (z : Bool) (x : ℕ) (xs ys zs : List ℕ) → xs ≡ ys ++ zs → cond z (x ∷ xs) xs ≡ cond z (x ∷ ys) ys ++ zs
+filter_if true x xs ys zs e = ap (λ y. x ∷ y) e
+filter_if false x xs ys zs e = e
+
+filter_push : (xs : List ℕ) (c : ℕ) → filter is_code (xs ++ c ∷ []) ≡ filter is_code xs ++ cond (is_code c) (c ∷ []) []
+filter_push [] c = refl
+filter_push (x ∷ xs) c = filter_if (is_code x) x (filter is_code (xs ++ c ∷ [])) (filter is_code xs) (cond (is_code c) (c ∷ []) []) (filter_push xs c)
+
+pub code_more : (args : List ℕ) (c : ℕ) (more : List ℕ) → is_whole args ≡ true → is_b (head args) ≡ false → cond (is_code c) (c ∷ []) [] ≡ more
+    → picture (args ++ c ∷ []) ≡ picture args ++ more
+unfolding picture
+code_more args c more w b e =
+    let s = still args c w in
+    rw (s.head_is, s.data_is, b) (filter_push (behind 4 args) c ∙ ap (λ x. filter is_code (behind 4 args) ++ x) e)

@@ -1,0 +1,138 @@
+-- A command whose name is known.
+use Rattle.std.proofs.Common.{◌≡◌, ℕ, ◌-◌, Bool, true, false, Option, Some, List, [], ◌∷◌, ◌++◌, length, refl, sym, ap, ◌∙◌, arith, nat_lt}
+use Rattle.std.proofs.lemmas.Bool.Decides.{nat_tests}
+use Rattle.vp_zpl.specs.declared.name.Kind.{Kind}
+use Rattle.vp_zpl.specs.declared.name.Kind.TheVariants as kinds
+use Rattle.vp_zpl.specs.declared.reader.ZplReader.{ZplReader}
+use Rattle.vp_zpl.specs.declared.reader.Phase.{Phase}
+use Rattle.vp_zpl.specs.declared.reader.Phase.TheVariants.{Outside, AfterSign, AfterFirst, Skipping, Parameters, Text, AfterIndicator, AfterDigit, Codes, Binary}
+use Rattle.vp_zpl.specs.Spelling.{behind}
+use Rattle.vp_zpl.specs.Commands.{kind, count_of, head, is_whole, is_short, longer, in_format, in_format_by, indicator, indicator_by, wants_binary, wants_binary_named}
+use Rattle.vp_zpl.specs.Items.{Item, given, given_named, at_end, at_end_named, name_of}
+use Rattle.vp_zpl.specs.Reader.{Named, Goes, in_phase, is_alone, indicator_at, left_of}
+
+module _ {r : ZplReader} {k : Kind} {args command : List ℕ} (n : Named r k args command) where
+  pub given-is : (before : List (List ℕ)) → given before command ≡ given_named k before r.sent.name args
+  unfolding given
+  given-is before = ap (given before) n.bytes ∙ ap (λ x. given_named x before (name_of n.sign n.first n.second) args) n.kind ∙ ap (λ x. given_named k before x args) (sym n.name)
+
+  pub at_end-is : (before : List (List ℕ)) → at_end before command ≡ at_end_named k before r.sent.name args
+  unfolding at_end
+  at_end-is before = ap (at_end before) n.bytes ∙ ap (λ x. at_end_named x before (name_of n.sign n.first n.second) args) n.kind ∙ ap (λ x. at_end_named k before x args) (sym n.name)
+
+  pub kind-is : kind command ≡ Some k
+  unfolding kind
+  kind-is = ap kind n.bytes ∙ ap (λ x. Some x) n.kind
+
+  pub wants-is : wants_binary command ≡ wants_binary_named k args
+  unfolding wants_binary
+  wants-is = ap wants_binary n.bytes ∙ ap (λ x. wants_binary_named x args) n.kind
+
+  pub named_longer : (new : ZplReader) (c : ℕ) → new.sent.name ≡ r.sent.name → Named new k (args ++ c ∷ []) (longer command c)
+  named_longer new c e = record {
+    sign = n.sign;
+    first = n.first;
+    second = n.second;
+    bytes = ap (λ x. longer x c) n.bytes;
+    kind = n.kind;
+    name = e ∙ n.name;
+  }
+
+pub opened-is : {r : ZplReader} {k : Kind} {args command : List ℕ} → Named r k args command → (before : List (List ℕ)) → in_format (command ∷ before) ≡ in_format_by (Some k) (in_format before)
+unfolding in_format
+opened-is n before = ap (λ x. in_format_by x (in_format before)) (kind-is n)
+
+pub indicator-is : {r : ZplReader} {k : Kind} {args command : List ℕ} → Named r k args command → (before : List (List ℕ)) → indicator (command ∷ before) ≡ indicator_by (Some k) command (in_format before) (indicator before)
+unfolding indicator
+indicator-is {command = command} n before = ap (λ x. indicator_by x command (in_format before) (indicator before)) (kind-is n)
+
+abbrev pub is_indicator : Kind → Bool
+is_indicator kinds.FieldHex = true
+is_indicator _ = false
+
+pub same_by : (k : Kind) (a b : List ℕ) (opened : Bool) (was : Option ℕ) → is_indicator k ≡ false → indicator_by (Some k) a opened was ≡ indicator_by (Some k) b opened was
+same_by kinds.FormatStart a b opened was e = refl
+same_by kinds.FormatEnd a b opened was e = refl
+same_by kinds.FieldSeparator a b opened was e = refl
+same_by kinds.ReversePrint a b opened was e = refl
+same_by kinds.FieldHex a b opened was e = absurd (cc)
+same_by (kinds.Plain j) a b opened was e = refl
+same_by kinds.FieldData a b opened was e = refl
+same_by kinds.Graphic a b opened was e = refl
+same_by kinds.Skipped a b opened was e = refl
+
+alone_wants : (k : Kind) (args : List ℕ) → is_alone k ≡ true → wants_binary_named k args ≡ false
+alone_wants kinds.FormatStart args e = refl
+alone_wants kinds.FormatEnd args e = refl
+alone_wants kinds.FieldSeparator args e = refl
+alone_wants kinds.ReversePrint args e = refl
+alone_wants kinds.FieldHex args e = refl
+alone_wants (kinds.Plain j) args e = refl
+alone_wants kinds.FieldData args e = refl
+alone_wants kinds.Graphic args e = absurd (cc)
+alone_wants kinds.Skipped args e = refl
+
+pub alone_not : (k : Kind) → is_alone k ≡ true → is_indicator k ≡ false
+alone_not kinds.FormatStart e = refl
+alone_not kinds.FormatEnd e = refl
+alone_not kinds.FieldSeparator e = refl
+alone_not kinds.ReversePrint e = refl
+alone_not kinds.FieldHex e = absurd (cc)
+alone_not (kinds.Plain j) e = refl
+alone_not kinds.FieldData e = refl
+alone_not kinds.Graphic e = refl
+alone_not kinds.Skipped e = refl
+
+parameters_want : (k : Kind) (args : List ℕ) → (k ≡ kinds.Graphic → is_whole args ≡ false) → wants_binary_named k args ≡ false
+unfolding is_short
+parameters_want kinds.FormatStart args e = refl
+parameters_want kinds.FormatEnd args e = refl
+parameters_want kinds.FieldSeparator args e = refl
+parameters_want kinds.ReversePrint args e = refl
+parameters_want kinds.FieldHex args e = refl
+parameters_want (kinds.Plain j) args e = refl
+parameters_want kinds.FieldData args e = refl
+parameters_want kinds.Graphic args e = rw (e refl) refl
+parameters_want kinds.Skipped args e = refl
+
+more_left : (a b : ℕ) → nat_lt a b ≡ nat_lt 0 (b - a)
+more_left a b = grind (arith, nat_tests)
+
+pub wants_in : (p : Phase) (r : ZplReader) (o : List ℕ) → in_phase p r o → wants_binary o ≡ nat_lt 0 (left_of p)
+unfolding wants_binary is_short
+wants_in Outside r o e = rw e refl
+wants_in (AfterSign s) r o e = rw e refl
+wants_in (AfterFirst s a) r o e = rw e refl
+wants_in Skipping r o h = wants-is h.named ∙ alone_wants h.kind h.args h.alone
+wants_in (Parameters k) r o h = wants-is h.named ∙ parameters_want k h.args h.not_whole
+wants_in Text r o h = wants-is h.named
+wants_in (AfterIndicator x) r o h = wants-is h.1.named
+wants_in (AfterDigit x d) r o h = wants-is h.1.named
+wants_in Codes r o h = wants-is h.named ∙ rw (h.whole, h.is_a) refl
+wants_in (Binary left) r o h = wants-is h.named ∙ rw (h.whole, h.binary, h.left_is) (more_left (length (behind 4 h.args)) (count_of (head h.args)))
+
+carry : {A : Type 0} (P : A → Type 0) (a b : A) → a ≡ b → P a → P b
+carry P a b e x = rw e at x
+
+-- a byte that the named command takes
+pub goes_named : {r : ZplReader} {k : Kind} {args : List ℕ} (shows : List Item) (new : ZplReader) (before : List (List ℕ)) (command : List ℕ) (c : ℕ) (q : Phase)
+    → Named r k args command → new.in_format ≡ in_format (command ∷ before) → new.phase ≡ q
+    → new.indicator ≡ indicator_at q (longer command c) before
+    → given_named k before r.sent.name (args ++ c ∷ []) ≡ given_named k before r.sent.name args ++ shows
+    → new.sent.name ≡ r.sent.name
+    → in_phase q new (longer command c) → Goes shows new before command c
+goes_named {r} shows new before command c q n opened at indicates gives name phase =
+    let m = named_longer n new c name in
+    record {
+      gives = given-is (named_longer n r c refl) before ∙ gives ∙ ap (λ i. i ++ shows) (sym (given-is n before));
+      stands = record {
+        opened = opened ∙ opened-is n before ∙ sym (opened-is m before);
+        indicates = indicates ∙ ap (λ x. indicator_at x (longer command c) before) (sym at);
+        phase = carry (λ x. in_phase x new (longer command c)) _ _ (sym at) phase;
+      };
+    }
+
+pub indicator_longer : {r : ZplReader} {k : Kind} {args : List ℕ} (before : List (List ℕ)) (command : List ℕ) (c : ℕ) → Named r k args command → is_indicator k ≡ false
+    → indicator (command ∷ before) ≡ indicator (longer command c ∷ before)
+indicator_longer {r} {k} before command c n e =
+    indicator-is n before ∙ same_by k command (longer command c) (in_format before) (indicator before) e ∙ sym (indicator-is (named_longer n r c refl) before)

@@ -1,0 +1,106 @@
+-- Parameters, by one byte more and at their end.
+use Rattle.std.proofs.Common.{◌≡◌, ℕ, ◌+◌, ◌-◌, ◌<◌, ◌≤◌, ◌==◌, Bool, true, false, cond, zero, suc, List, [], ◌∷◌, ◌++◌, length, take, map, refl, sym, ap, ◌∙◌, arith, nat_le}
+use Rattle.std.proofs.lemmas.Bool.Decides.{nat_tests}
+use Rattle.std.proofs.lemmas.List.{map_push, take_all, length_push, length-take}
+use Rattle.vp_zpl.specs.Spelling.{is_comma, is_blank, ended, last, behind, parameters, kept, kept_of, Kept}
+use Rattle.vp_zpl.specs.Commands.{is_whole, head}
+use Rattle.vp_zpl.proofs.Heads.{ended-push}
+
+-- the last parameter behind a byte more
+abbrev pub after : ℕ → List ℕ → List ℕ
+after c p = cond (is_comma c) [] (cond (is_blank c) p (p ++ c ∷ []))
+
+last_step : (x y : Bool) (p args : List ℕ) (a c : ℕ) → ((q : List ℕ) → last q (args ++ c ∷ []) ≡ after c (last q args))
+    → cond x (last [] (args ++ c ∷ [])) (cond y (last p (args ++ c ∷ [])) (last (p ++ a ∷ []) (args ++ c ∷ [])))
+    ≡ after c (cond x (last [] args) (cond y (last p args) (last (p ++ a ∷ []) args)))
+last_step true y p args a c ih = ih []
+last_step false true p args a c ih = ih p
+last_step false false p args a c ih = ih (p ++ a ∷ [])
+
+pub last-push : (p args : List ℕ) (c : ℕ) → last p (args ++ c ∷ []) ≡ after c (last p args)
+last-push p [] c = refl
+last-push p (a ∷ args) c = last_step (is_comma a) (is_blank a) p args a c (λ q. last-push q args c)
+
+-- the first n, with one more behind the first n
+pub take_front : {X : Type 0} (n : ℕ) (xs : List X) (y : X) → take n (xs ++ y ∷ []) ≡ take n (take n xs ++ y ∷ [])
+take_front zero xs y = refl
+take_front (suc n) [] y = refl
+take_front (suc n) (x ∷ xs) y = ap (λ l. x ∷ l) (take_front n xs y)
+
+pub keeps : (ps : List (List ℕ)) (p : List ℕ) → kept_of (ps ++ p ∷ []) ≡ take 8 (kept_of ps ++ kept p ∷ [])
+unfolding kept_of
+keeps ps p = ap (take 8) (map_push kept ps p) ∙ take_front 8 (map kept ps) (kept p)
+
+pub keeps_at_end : (args : List ℕ) → kept_of (parameters args) ≡ take 8 (kept_of (ended [] args) ++ kept (last [] args) ∷ [])
+unfolding parameters
+keeps_at_end args = keeps (ended [] args) (last [] args)
+
+-- a byte that is no comma
+pub same_ended : (args : List ℕ) (c : ℕ) → is_comma c ≡ false → ended [] (args ++ c ∷ []) ≡ ended [] args
+same_ended args c e = ended-push [] args c ∙ ap (λ z. ended [] args ++ cond z (last [] args ∷ []) []) e ∙ sym (nothing_behind (ended [] args))
+  where
+    nothing_behind : (xs : List (List ℕ)) → xs ≡ xs ++ []
+    nothing_behind [] = refl
+    nothing_behind (x ∷ xs) = ap (λ y. x ∷ y) (nothing_behind xs)
+
+pub same_whole : (args : List ℕ) (c : ℕ) → is_comma c ≡ false → is_whole (args ++ c ∷ []) ≡ is_whole args
+unfolding is_whole
+same_whole args c e = ap (λ ps. nat_le 4 (length ps)) (same_ended args c e)
+
+pub comma_ended : (args : List ℕ) → ended [] (args ++ 0x2C ∷ []) ≡ ended [] args ++ last [] args ∷ []
+comma_ended args = ended-push [] args 0x2C
+
+pub comma_last : (args : List ℕ) → last [] (args ++ 0x2C ∷ []) ≡ []
+comma_last args = last-push [] args 0x2C
+
+behind_within : (x y : Bool) (n : ℕ) (p args : List ℕ) (a : ℕ)
+    → ((m : ℕ) (q : List ℕ) → length (ended q args) + 1 ≤ m → behind m (args ++ 0x2C ∷ []) ≡ [])
+    → length (cond x (p ∷ ended [] args) (cond y (ended p args) (ended (p ++ a ∷ []) args))) + 1 ≤ n
+    → cond x (behind (n - 1) (args ++ 0x2C ∷ [])) (behind n (args ++ 0x2C ∷ [])) ≡ []
+behind_within true y n p args a ih g = ih (n - 1) [] (omega arith)
+behind_within false true n p args a ih g = ih n p g
+behind_within false false n p args a ih g = ih n (p ++ a ∷ []) g
+
+-- behind a comma that ends the n-th parameter there is nothing
+pub behind_last : (n : ℕ) (p args : List ℕ) → length (ended p args) + 1 ≤ n → behind n (args ++ 0x2C ∷ []) ≡ []
+behind_last n p [] h = let e : (n == 0) ≡ false = grind (arith, nat_tests) in ap (λ z. cond z (0x2C ∷ []) []) e
+behind_last n p (a ∷ args) h =
+    let e : (n == 0) ≡ false = grind (arith, nat_tests) in
+    ap (λ z. cond z (a ∷ args ++ 0x2C ∷ []) (cond (is_comma a) (behind (n - 1) (args ++ 0x2C ∷ [])) (behind n (args ++ 0x2C ∷ [])))) e
+    ∙ behind_within (is_comma a) (is_blank a) n p args a (λ m q g. behind_last m q args g) h
+
+-- a head is whole at its fourth comma
+pub record Completes (args : List ℕ) (sent : List Kept) : Type 0 where
+  pub whole : is_whole (args ++ 0x2C ∷ []) ≡ true
+  pub head_is : head (args ++ 0x2C ∷ []) ≡ sent
+  pub data_is : behind 4 (args ++ 0x2C ∷ []) ≡ []
+
+length_kept : (ps : List (List ℕ)) → length (map kept ps) ≡ length ps
+length_kept [] = refl
+length_kept (p ∷ ps) = let e = length_kept ps in cc
+
+pub few_kept : (ps : List (List ℕ)) → length (kept_of ps) < 4 → length ps < 4
+unfolding kept_of
+few_kept ps h = omega (arith, length_kept ps, length-take 8 (map kept ps))
+
+pub not_whole_is : (args : List ℕ) → is_whole args ≡ false → length (ended [] args) < 4
+unfolding is_whole
+not_whole_is args w = grind (arith, nat_tests)
+
+pub few_whole : (args : List ℕ) → length (kept_of (ended [] args)) < 4 → is_whole args ≡ false
+unfolding is_whole
+few_whole args h = let l = few_kept (ended [] args) h in grind (arith, nat_tests)
+
+pub completes : (args : List ℕ) (sent : List Kept) → is_whole args ≡ false → sent ≡ kept_of (ended [] (args ++ 0x2C ∷ [])) → 4 ≤ length sent → Completes args sent
+unfolding is_whole head kept_of
+completes args sent w e l =
+    let few : length (ended [] args) < 4 = not_whole_is args w in
+    let one : length (ended [] (args ++ 0x2C ∷ [])) ≡ length (ended [] args) + 1 = ap length (comma_ended args) ∙ length_push (ended [] args) (last [] args) in
+    let ps = ended [] (args ++ 0x2C ∷ []) in
+    let kept_all : take 8 (map kept ps) ≡ map kept ps = take_all 8 (map kept ps) (omega (arith, length_kept ps)) in
+    let four : length ps ≡ 4 = omega (arith, ap length e, ap length kept_all, length_kept ps) in
+    record {
+      whole = rw four refl;
+      head_is = take_all 4 (map kept ps) (omega (arith, length_kept ps)) ∙ sym kept_all ∙ sym e;
+      data_is = behind_last 4 [] args (omega arith);
+    }

@@ -1,0 +1,84 @@
+-- Whether a command has to be ended, by the phase.
+use Rattle.std.proofs.Common.{◌≡◌, ℕ, ◌==◌, Bool, true, false, ◌&&◌, ◌||◌, not, cond, List, ◌∷◌, refl, sym, ap, ◌∙◌, arith, nat_lt}
+use Rattle.std.proofs.lemmas.Bool.Decides.{nat_tests}
+use Rattle.vp_zpl.specs.declared.name.Kind.{Kind}
+use Rattle.vp_zpl.specs.declared.name.Kind.TheVariants as kinds
+use Rattle.vp_zpl.specs.declared.reader.ZplReader.{ZplReader}
+use Rattle.vp_zpl.specs.declared.reader.Phase.{Phase}
+use Rattle.vp_zpl.specs.declared.reader.Phase.TheVariants.{Outside, AfterSign, AfterFirst, Skipping, Parameters, Text, AfterIndicator, AfterDigit, Codes, Binary}
+use Rattle.vp_zpl.specs.Commands.{wants_binary, is_short, is_whole, is_b, head, in_format, kind_named}
+use Rattle.vp_zpl.specs.Items.{is_within_one, goes_on_named}
+use Rattle.vp_zpl.specs.Reader.{Named, StandsIn, in_phase, rests_in, is_alone, has_parameters}
+use Rattle.vp_zpl.proofs.Named.{wants_in, wants-is}
+use Rattle.vp_zpl.proofs.Phases.{at_phase}
+
+-- a command whose name is known
+within_is : {r : ZplReader} {k : Kind} {args command : List ℕ} (n : Named r k args command) (opened wants : Bool) → wants_binary command ≡ wants
+    → is_within_one opened command ≡ (wants || (opened && goes_on_named k args))
+unfolding is_within_one
+within_is {k = k} {args = args} n opened wants w =
+    let here = kind_named n.sign n.first n.second in
+    ap (is_within_one opened) n.bytes ∙ ap (λ x. wants_binary x || (opened && goes_on_named here args)) (sym n.bytes)
+    ∙ ap (λ x. x || (opened && goes_on_named here args)) w ∙ ap (λ x. wants || (opened && goes_on_named x args)) n.kind
+
+alone_stays : (k : Kind) (args : List ℕ) → is_alone k ≡ true → goes_on_named k args ≡ false
+alone_stays kinds.FormatStart args e = refl
+alone_stays kinds.FormatEnd args e = refl
+alone_stays kinds.FieldSeparator args e = refl
+alone_stays kinds.ReversePrint args e = refl
+alone_stays kinds.FieldHex args e = absurd (cc)
+alone_stays (kinds.Plain j) args e = absurd (cc)
+alone_stays kinds.FieldData args e = absurd (cc)
+alone_stays kinds.Graphic args e = absurd (cc)
+alone_stays kinds.Skipped args e = refl
+
+parameters_go_on : (k : Kind) (args : List ℕ) → has_parameters k ≡ true → (k ≡ kinds.Graphic → is_whole args ≡ false) → goes_on_named k args ≡ true
+parameters_go_on kinds.FormatStart args t w = absurd (cc)
+parameters_go_on kinds.FormatEnd args t w = absurd (cc)
+parameters_go_on kinds.FieldSeparator args t w = absurd (cc)
+parameters_go_on kinds.ReversePrint args t w = absurd (cc)
+parameters_go_on kinds.FieldHex args t w = refl
+parameters_go_on (kinds.Plain j) args t w = refl
+parameters_go_on kinds.FieldData args t w = absurd (cc)
+parameters_go_on kinds.Graphic args t w = rw (w refl) refl
+parameters_go_on kinds.Skipped args t w = absurd (cc)
+
+not_alone : (z : Bool) → not (false || (z && false)) ≡ true
+not_alone true = refl
+not_alone false = refl
+
+not_going : (z : Bool) → not (false || (z && true)) ≡ not z
+not_going true = refl
+not_going false = refl
+
+binary_rests : (z : Bool) (left : ℕ) → (left == 0) ≡ not (nat_lt 0 left || (z && nat_lt 0 left))
+binary_rests true left = grind (arith, nat_tests)
+binary_rests false left = grind (arith, nat_tests)
+
+binary_on : (args : List ℕ) → is_whole args ≡ true → is_b (head args) ≡ true → goes_on_named kinds.Graphic args ≡ is_short args
+binary_on args w b = rw (w, b) refl
+
+-- by cases of the phase
+within_in : (q : Phase) (r : ZplReader) (command : List ℕ) (opened : Bool) → in_phase q r command → rests_in q opened ≡ not (is_within_one opened command)
+unfolding is_within_one
+within_in Outside r command opened e = rw e refl
+within_in (AfterSign s) r command opened e = rw e refl
+within_in (AfterFirst s a) r command opened e = rw e refl
+within_in Skipping r command opened h =
+    sym (ap not (within_is h.named opened false (wants_in Skipping r command h) ∙ ap (λ x. false || (opened && x)) (alone_stays h.kind h.args h.alone)) ∙ not_alone opened)
+within_in (Parameters k) r command opened h =
+    sym (ap not (within_is h.named opened false (wants_in (Parameters k) r command h) ∙ ap (λ x. false || (opened && x)) (parameters_go_on k h.args h.takes h.not_whole)) ∙ not_going opened)
+within_in Text r command opened h = sym (ap not (within_is h.named opened false (wants_in Text r command h)) ∙ not_going opened)
+within_in (AfterIndicator x) r command opened h = sym (ap not (within_is h.1.named opened false (wants_in (AfterIndicator x) r command h)) ∙ not_going opened)
+within_in (AfterDigit x d) r command opened h = sym (ap not (within_is h.1.named opened false (wants_in (AfterDigit x d) r command h)) ∙ not_going opened)
+within_in Codes r command opened h =
+    sym (ap not (within_is h.named opened false (wants_in Codes r command h) ∙ ap (λ x. false || (opened && cond (is_whole h.args && x) (is_short h.args) true)) h.is_a
+    ∙ ap (λ x. false || (opened && cond (x && false) (is_short h.args) true)) h.whole) ∙ not_going opened)
+within_in (Binary left) r command opened h =
+    binary_rests opened left ∙ sym (ap not (within_is h.named opened (nat_lt 0 left) (wants_in (Binary left) r command h)
+    ∙ ap (λ x. nat_lt 0 left || (opened && x)) (binary_on h.args h.whole h.binary ∙ sym (wants-is h.named) ∙ wants_in (Binary left) r command h)))
+
+pub rests_is : (q : Phase) (r : ZplReader) (before : List (List ℕ)) (command : List ℕ) → StandsIn r before command → r.phase ≡ q
+    → rests_in q r.in_format ≡ not (is_within_one (in_format (command ∷ before)) command)
+rests_is q r before command stands p =
+    within_in q r command r.in_format (at_phase r before command q stands p) ∙ ap (λ x. not (is_within_one x command)) stands.opened

@@ -1,0 +1,5 @@
+use Rattle.vp_zpl.proofs.Table.{named_is}
+use Rattle.vp_zpl.proofs.laws.names.Goals as goal
+
+pub returns : goal.returns
+returns c a b = named_is a b

@@ -1,0 +1,185 @@
+-- What the parameters of a command mean.
+use Rattle.std.specs.Prelude.{ℕ, ◌+◌, ◌*◌, ◌-◌, ◌==◌, Bool, true, false, ◌&&◌, Option, Some, None, List, [], ◌∷◌, length, take, drop, slice_get, if◌then◌else◌}
+use Rattle.vp_zpl.specs.declared.name.Kind.{Kind}
+use Rattle.vp_zpl.specs.declared.name.Kind.TheVariants as kinds
+use Rattle.vp_zpl.specs.declared.name.Plain.{Plain}
+use Rattle.vp_zpl.specs.declared.name.Plain.TheVariants as plain
+use Rattle.vp_zpl.specs.declared.item.Orientation.{Orientation}
+use Rattle.vp_zpl.specs.declared.item.Orientation.TheVariants as turns
+use Rattle.vp_zpl.specs.declared.item.Colour.{Colour}
+use Rattle.vp_zpl.specs.declared.item.Colour.TheVariants as colours
+use Rattle.vp_zpl.specs.declared.item.GraphicFormat.{GraphicFormat}
+use Rattle.vp_zpl.specs.declared.item.GraphicFormat.TheVariants as formats
+use Rattle.vp_zpl.specs.declared.item.Code128Mode.{Code128Mode}
+use Rattle.vp_zpl.specs.declared.item.Code128Mode.TheVariants as modes
+use Rattle.vp_zpl.specs.declared.item.Justification.{Justification}
+use Rattle.vp_zpl.specs.declared.item.Justification.TheVariants as sides
+use Rattle.vp_zpl.specs.declared.item.LineSpace.{LineSpace}
+use Rattle.vp_zpl.specs.declared.item.LineSpace.TheVariants as spaces
+use Rattle.vp_zpl.specs.declared.item.Command.{Command}
+use Rattle.vp_zpl.specs.declared.item.Command.TheVariants as commands
+use Rattle.vp_zpl.specs.Spelling.{Kept, capital, is_digit, number_in, number_of}
+
+-- the n-th parameter's number, counted from 0
+abbrev pub number_if : Option Kept → Option ℕ
+number_if None = None
+number_if (Some p) = number_of p
+
+abbrev pub number_at : ℕ → List Kept → Option ℕ
+number_at n ps = number_if (slice_get ps n)
+
+-- a parameter of one byte
+abbrev pub byte_in : List ℕ → Option ℕ
+byte_in (c ∷ []) = Some c
+byte_in _ = None
+
+abbrev pub byte_if : Option Kept → Option ℕ
+byte_if None = None
+byte_if (Some p) = byte_in p.bytes
+
+abbrev pub byte_at : ℕ → List Kept → Option ℕ
+byte_at n ps = byte_if (slice_get ps n)
+
+-- a letter, in either case
+abbrev pub capital_if : Option ℕ → Option ℕ
+capital_if None = None
+capital_if (Some c) = Some (capital c)
+
+unfoldable pub letter_at : ℕ → List Kept → Option ℕ
+letter_at n ps = capital_if (byte_at n ps)
+
+-- N, R, I, B
+abbrev pub orientation_of : Option ℕ → Option Orientation
+orientation_of None = None
+orientation_of (Some c) =
+    if c == 0x4E then Some turns.Normal
+    else if c == 0x52 then Some turns.Rotated
+    else if c == 0x49 then Some turns.Inverted
+    else if c == 0x42 then Some turns.BottomUp
+    else None
+
+-- one of two letters, the first of which says yes
+abbrev pub either_of : ℕ → ℕ → Option ℕ → Option Bool
+either_of a b None = None
+either_of a b (Some c) = if c == a then Some true else if c == b then Some false else None
+
+-- Y, N
+abbrev pub yes_at : ℕ → List Kept → Option Bool
+yes_at n ps = either_of 0x59 0x4E (letter_at n ps)
+
+-- I, N
+abbrev pub inverted_at : ℕ → List Kept → Option Bool
+inverted_at n ps = either_of 0x49 0x4E (letter_at n ps)
+
+abbrev pub orientation_at : ℕ → List Kept → Option Orientation
+orientation_at n ps = orientation_of (letter_at n ps)
+
+-- B, W
+abbrev pub colour_of : Option ℕ → Option Colour
+colour_of None = None
+colour_of (Some c) = if c == 0x42 then Some colours.Black else if c == 0x57 then Some colours.White else None
+
+-- A, B; another that was sent is told apart from none
+abbrev pub format_by : Option ℕ → GraphicFormat
+format_by None = formats.Other
+format_by (Some c) = if c == 0x41 then formats.Ascii else if c == 0x42 then formats.Binary else formats.Other
+
+abbrev pub is_sent : Option Kept → Bool
+is_sent None = false
+is_sent (Some p) = if length p.bytes == 0 then false else true
+
+abbrev pub format_of : List Kept → Option GraphicFormat
+format_of ps = if is_sent (slice_get ps 0) then Some (format_by (letter_at 0 ps)) else None
+
+-- U, A, D
+abbrev pub mode_of : Option ℕ → Option Code128Mode
+mode_of None = None
+mode_of (Some c) =
+    if c == 0x55 then Some modes.UccCase
+    else if c == 0x41 then Some modes.Automatic
+    else if c == 0x44 then Some modes.UccEan
+    else None
+
+-- L, C, R, J
+abbrev pub justification_of : Option ℕ → Option Justification
+justification_of None = None
+justification_of (Some c) =
+    if c == 0x4C then Some sides.Left
+    else if c == 0x43 then Some sides.Centre
+    else if c == 0x52 then Some sides.Right
+    else if c == 0x4A then Some sides.Justified
+    else None
+
+-- a number, perhaps with - before it
+abbrev pub added : Option ℕ → Option LineSpace
+added None = None
+added (Some n) = Some (spaces.Added n)
+
+abbrev pub deleted : Option ℕ → Option LineSpace
+deleted None = None
+deleted (Some n) = Some (spaces.Deleted n)
+
+abbrev pub space_in : Bool → List ℕ → Option LineSpace
+space_in is_long [] = None
+space_in is_long (c ∷ digits) =
+    if c == 0x2D then deleted (number_in is_long digits) else added (number_in is_long (c ∷ digits))
+
+abbrev pub space_if : Option Kept → Option LineSpace
+space_if None = None
+space_if (Some p) = space_in p.is_long p.bytes
+
+-- digits, perhaps a point and one digit: in tenths
+abbrev pub tenth_behind : List ℕ → Option ℕ
+tenth_behind (c ∷ d ∷ []) = if c == 0x2E && is_digit d then Some (d - 0x30) else None
+tenth_behind _ = None
+
+abbrev pub tenths : Option ℕ → ℕ → Option ℕ
+tenths None tenth = None
+tenths (Some n) tenth = Some (10 * n + tenth)
+
+abbrev pub tenths_by : Option ℕ → Kept → Option ℕ
+tenths_by None p = tenths (number_of p) 0
+tenths_by (Some tenth) p = tenths (number_in p.is_long (take (length p.bytes - 2) p.bytes)) tenth
+
+unfoldable pub tenths_of : Kept → Option ℕ
+tenths_of p = tenths_by (tenth_behind (drop (length p.bytes - 2) p.bytes)) p
+
+abbrev pub tenths_if : Option Kept → Option ℕ
+tenths_if None = None
+tenths_if (Some p) = tenths_of p
+
+abbrev pub plain_command : Plain → List Kept → Command
+plain_command plain.FieldOrigin ps = commands.FieldOrigin (number_at 0 ps) (number_at 1 ps)
+plain_command plain.FieldTypeset ps = commands.FieldTypeset (number_at 0 ps) (number_at 1 ps)
+plain_command plain.LabelHome ps = commands.LabelHome (number_at 0 ps) (number_at 1 ps)
+plain_command plain.PrintWidth ps = commands.PrintWidth (number_at 0 ps)
+plain_command plain.LabelLength ps = commands.LabelLength (number_at 0 ps)
+plain_command plain.PrintQuantity ps = commands.PrintQuantity (number_at 0 ps)
+plain_command plain.PrintOrientation ps = commands.PrintOrientation (inverted_at 0 ps)
+plain_command plain.MirrorImage ps = commands.MirrorImage (yes_at 0 ps)
+plain_command plain.LabelReverse ps = commands.LabelReverse (yes_at 0 ps)
+plain_command plain.FieldOrientation ps = commands.FieldOrientation (orientation_at 0 ps)
+plain_command plain.DefaultFont ps = commands.DefaultFont (number_at 1 ps) (number_at 2 ps)
+plain_command plain.Font ps = commands.Font (orientation_at 0 ps) (number_at 1 ps) (number_at 2 ps)
+plain_command plain.BarDefaults ps = commands.BarDefaults (number_at 0 ps) (tenths_if (slice_get ps 1)) (number_at 2 ps)
+plain_command plain.Code39 ps = commands.Code39 (orientation_at 0 ps) (yes_at 1 ps) (number_at 2 ps) (yes_at 3 ps) (yes_at 4 ps)
+plain_command plain.Ean13 ps = commands.Ean13 (orientation_at 0 ps) (number_at 1 ps) (yes_at 2 ps) (yes_at 3 ps)
+plain_command plain.Code128 ps =
+    commands.Code128 (orientation_at 0 ps) (number_at 1 ps) (yes_at 2 ps) (yes_at 3 ps) (mode_of (letter_at 5 ps))
+plain_command plain.QrCode ps = commands.QrCode (number_at 1 ps) (number_at 2 ps)
+plain_command plain.GraphicBox ps = commands.GraphicBox (number_at 0 ps) (number_at 1 ps) (number_at 2 ps) (colour_of (letter_at 3 ps))
+plain_command plain.Comment ps = commands.Comment
+plain_command plain.FieldBlock ps =
+    commands.FieldBlock (number_at 0 ps) (number_at 1 ps) (space_if (slice_get ps 2)) (justification_of (letter_at 3 ps))
+
+-- the command of these parameters
+unfoldable pub command_of : Kind → List Kept → Command
+command_of kinds.FormatStart ps = commands.FormatStart
+command_of kinds.FormatEnd ps = commands.FormatEnd
+command_of kinds.FieldSeparator ps = commands.FieldSeparator
+command_of kinds.ReversePrint ps = commands.ReversePrint
+command_of kinds.FieldHex ps = commands.FieldHex (byte_at 0 ps)
+command_of (kinds.Plain k) ps = plain_command k ps
+command_of kinds.FieldData ps = commands.FieldData
+command_of kinds.Graphic ps = commands.Graphic (format_of ps) (number_at 1 ps) (number_at 2 ps) (number_at 3 ps)
+command_of kinds.Skipped ps = commands.Skipped

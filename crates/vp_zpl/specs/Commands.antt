@@ -1,0 +1,178 @@
+-- The stream as one list of commands with their data: what is dropped is dropped, the rest is cut at ^ and ~
+-- (ZPL II, "ZPL commands": each by its name).
+use Rattle.std.specs.Prelude.{ℕ, ◌==◌, Bool, true, false, not, ◌&&◌, Option, Some, None, List, [], ◌∷◌, ◌++◌, length, take, drop, map, nat_lt, nat_le, reverse, if◌then◌else◌}
+use Rattle.vp_zpl.specs.declared.name.Kind.{Kind}
+use Rattle.vp_zpl.specs.declared.name.Kind.TheVariants as kinds
+use Rattle.vp_zpl.specs.declared.name.Plain.TheVariants as plain
+use Rattle.vp_zpl.specs.Spelling.{is_sign, is_line_end, capital, ended, parameters, kept, kept_of, Kept, number_of, behind}
+
+-- ^X.
+abbrev pub format_command : ℕ → Kind
+format_command b =
+    if b == 0x41 then kinds.FormatStart
+    else if b == 0x5A then kinds.FormatEnd
+    else kinds.Skipped
+
+-- ^F.
+abbrev pub field_command : ℕ → Kind
+field_command b =
+    if b == 0x53 then kinds.FieldSeparator
+    else if b == 0x52 then kinds.ReversePrint
+    else if b == 0x4F then kinds.Plain plain.FieldOrigin
+    else if b == 0x54 then kinds.Plain plain.FieldTypeset
+    else if b == 0x57 then kinds.Plain plain.FieldOrientation
+    else if b == 0x42 then kinds.Plain plain.FieldBlock
+    else if b == 0x48 then kinds.FieldHex
+    else if b == 0x58 then kinds.Plain plain.Comment
+    else if b == 0x44 then kinds.FieldData
+    else kinds.Skipped
+
+-- ^L.
+abbrev pub label_command : ℕ → Kind
+label_command b =
+    if b == 0x48 then kinds.Plain plain.LabelHome
+    else if b == 0x4C then kinds.Plain plain.LabelLength
+    else if b == 0x52 then kinds.Plain plain.LabelReverse
+    else kinds.Skipped
+
+-- ^P.
+abbrev pub print_command : ℕ → Kind
+print_command b =
+    if b == 0x57 then kinds.Plain plain.PrintWidth
+    else if b == 0x51 then kinds.Plain plain.PrintQuantity
+    else if b == 0x4F then kinds.Plain plain.PrintOrientation
+    else if b == 0x4D then kinds.Plain plain.MirrorImage
+    else kinds.Skipped
+
+-- ^B.
+abbrev pub bar_command : ℕ → Kind
+bar_command b =
+    if b == 0x59 then kinds.Plain plain.BarDefaults
+    else if b == 0x33 then kinds.Plain plain.Code39
+    else if b == 0x45 then kinds.Plain plain.Ean13
+    else if b == 0x43 then kinds.Plain plain.Code128
+    else if b == 0x51 then kinds.Plain plain.QrCode
+    else kinds.Skipped
+
+-- ^G.
+abbrev pub graphic_command : ℕ → Kind
+graphic_command b =
+    if b == 0x42 then kinds.Plain plain.GraphicBox
+    else if b == 0x46 then kinds.Graphic
+    else kinds.Skipped
+
+-- the commands that are read, each by ^ and two capitals; ^A's second byte is its font, whatever it is
+unfoldable pub kind_of : ℕ → ℕ → ℕ → Kind
+kind_of sign a b =
+    if not (sign == 0x5E) then kinds.Skipped
+    else if a == 0x58 then format_command b
+    else if a == 0x46 then field_command b
+    else if a == 0x4C then label_command b
+    else if a == 0x50 then print_command b
+    else if a == 0x42 then bar_command b
+    else if a == 0x47 then graphic_command b
+    else if a == 0x41 then kinds.Plain plain.Font
+    else if a == 0x43 && b == 0x46 then kinds.Plain plain.DefaultFont
+    else kinds.Skipped
+
+-- names are read in either case
+abbrev pub kind_named : ℕ → ℕ → ℕ → Kind
+kind_named sign a b = kind_of sign (capital a) (capital b)
+
+-- what a command is once its name is whole
+unfoldable pub kind : List ℕ → Option Kind
+kind (sign ∷ a ∷ b ∷ args) = Some (kind_named sign a b)
+kind _ = None
+
+-- ^GF's first parameter says B
+abbrev pub spells_b : List ℕ → Bool
+spells_b (c ∷ []) = capital c == 0x42
+spells_b _ = false
+
+abbrev pub is_b : List Kept → Bool
+is_b [] = false
+is_b (p ∷ more) = spells_b p.bytes
+
+abbrev pub count_in : Option ℕ → ℕ
+count_in None = 0
+count_in (Some n) = n
+
+-- its second says how many bytes of binary data follow; missing or unreadable: none
+abbrev pub count_of : List Kept → ℕ
+count_of (a ∷ b ∷ more) = count_in (number_of b)
+count_of _ = 0
+
+-- ^GF's head, the four parameters before its fourth comma, is whole
+unfoldable pub is_whole : List ℕ → Bool
+is_whole args = nat_le 4 (length (ended [] args))
+
+unfoldable pub head : List ℕ → List Kept
+head args = take 4 (map kept (ended [] args))
+
+-- binary data is wanted: fewer than b bytes stand behind the fourth comma
+unfoldable pub is_short : List ℕ → Bool
+is_short args = is_whole args && is_b (head args) && nat_lt (length (behind 4 args)) (count_of (head args))
+
+abbrev pub wants_binary_named : Kind → List ℕ → Bool
+wants_binary_named kinds.Graphic args = is_short args
+wants_binary_named _ args = false
+
+unfoldable pub wants_binary : List ℕ → Bool
+wants_binary (sign ∷ a ∷ b ∷ args) = wants_binary_named (kind_named sign a b) args
+wants_binary _ = false
+
+-- the commands that another has ended, the newest first, and the one that stands open; the oldest is empty
+pub record Cut : Type 0 where
+  pub before : List (List ℕ)
+  pub open_one : List ℕ
+
+-- bytes before the first sign are skipped
+abbrev pub longer : List ℕ → ℕ → List ℕ
+longer [] c = []
+longer (sign ∷ bytes) c = sign ∷ bytes ++ c ∷ []
+
+-- one more byte: binary data takes any; else the ends of lines are dropped, and a sign begins a command
+abbrev pub with_byte : Cut → ℕ → Cut
+with_byte s c =
+    if wants_binary s.open_one then record s { open_one = longer s.open_one c }
+    else if is_line_end c then s
+    else if is_sign c then record { before = s.open_one ∷ s.before; open_one = c ∷ [] }
+    else record s { open_one = longer s.open_one c }
+
+-- of the bytes, the newest first
+abbrev pub cut_back : List ℕ → Cut
+cut_back [] = record { before = []; open_one = [] }
+cut_back (c ∷ bytes) = with_byte (cut_back bytes) c
+
+unfoldable pub cut : List ℕ → Cut
+cut bytes = cut_back (reverse bytes)
+
+-- a format is open: the last of ^XA and ^XZ is ^XA
+abbrev pub in_format_by : Option Kind → Bool → Bool
+in_format_by (Some kinds.FormatStart) was = true
+in_format_by (Some kinds.FormatEnd) was = false
+in_format_by _ was = was
+
+unfoldable pub in_format : List (List ℕ) → Bool
+in_format [] = false
+in_format (command ∷ before) = in_format_by (kind command) (in_format before)
+
+-- ^FH's indicator: the one byte given, else _
+abbrev pub indicator_spelled : List ℕ → ℕ
+indicator_spelled (c ∷ []) = c
+indicator_spelled _ = 0x5F
+
+abbrev pub indicator_in : List Kept → ℕ
+indicator_in [] = 0x5F
+indicator_in (p ∷ more) = indicator_spelled p.bytes
+
+abbrev pub indicator_by : Option Kind → List ℕ → Bool → Option ℕ → Option ℕ
+indicator_by (Some kinds.FieldHex) command true was = Some (indicator_in (kept_of (parameters (drop 3 command))))
+indicator_by (Some kinds.FieldSeparator) command opened was = None
+indicator_by (Some kinds.FormatEnd) command opened was = None
+indicator_by _ command opened was = was
+
+-- the indicator that acts on data: of the last ^FH in the open format, up to ^FS or ^XZ
+unfoldable pub indicator : List (List ℕ) → Option ℕ
+indicator [] = None
+indicator (command ∷ before) = indicator_by (kind command) command (in_format before) (indicator before)

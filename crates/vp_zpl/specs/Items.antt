@@ -1,0 +1,110 @@
+-- What each command gives, while it stands open and once it has ended.
+use Rattle.std.specs.Prelude.{ℕ, ◌==◌, Bool, true, false, not, ◌&&◌, ◌||◌, Option, Some, None, List, [], ◌∷◌, ◌++◌, take, map, filter, if◌then◌else◌}
+use Rattle.vp_zpl.specs.declared.name.Kind.{Kind}
+use Rattle.vp_zpl.specs.declared.name.Kind.TheVariants as kinds
+use Rattle.vp_zpl.specs.declared.name.Name.{Name}
+use Rattle.vp_zpl.specs.declared.item.Command.{Command}
+use Rattle.vp_zpl.specs.Arguments.{command_of}
+use Rattle.vp_zpl.specs.Spelling.{is_blank, capital, parameters, kept_of, Kept, behind, decoded, known, undecided}
+use Rattle.vp_zpl.specs.Commands.{kind_named, kind, is_b, count_of, is_whole, head, is_short, Cut, cut, in_format, indicator, wants_binary}
+
+-- a command with its arguments, and its name and parameters as they were sent; a byte of data
+pub data Item : Type 0 where
+  Given : (command : Command) (name : Name) (sent : List Kept) → Item
+  Data : (byte : ℕ) → Item
+
+abbrev pub item_of : Kind → Name → List Kept → Item
+item_of kind name sent = Given (command_of kind sent) name sent
+
+abbrev pub data_items : List ℕ → List Item
+data_items bytes = map Data bytes
+
+-- the font byte of ^A stands as it came
+abbrev pub second_of : ℕ → ℕ → ℕ → ℕ
+second_of sign a b = if sign == 0x5E && capital a == 0x41 then b else capital b
+
+abbrev pub name_of : ℕ → ℕ → ℕ → Name
+name_of sign a b = record { sign = sign; first = capital a; second = second_of sign a b }
+
+-- the data of ^FD that are known, and all of them at its end
+abbrev pub text_known : Option ℕ → List ℕ → List ℕ
+text_known None bytes = bytes
+text_known (Some x) bytes = known x bytes
+
+abbrev pub text_of : Option ℕ → List ℕ → List ℕ
+text_of None bytes = bytes
+text_of (Some x) bytes = decoded x bytes
+
+-- what may yet be spelled as one byte
+abbrev pub waiting : Option ℕ → List ℕ → List ℕ
+waiting None bytes = []
+waiting (Some x) bytes = undecided x bytes
+
+-- of the data of ^GF A, blanks and tabs are dropped
+abbrev pub is_code : ℕ → Bool
+is_code c = not (is_blank c || c == 0x09)
+
+-- the data of ^GF: b bytes for B, else up to the next sign
+unfoldable pub picture : List ℕ → List ℕ
+picture args = if is_b (head args) then take (count_of (head args)) (behind 4 args) else filter is_code (behind 4 args)
+
+abbrev pub graphic : Name → List ℕ → List Item
+graphic name args = item_of kinds.Graphic name (head args) ∷ data_items (picture args)
+
+abbrev pub given_named : Kind → List (List ℕ) → Name → List ℕ → List Item
+given_named kinds.FieldHex before name args = []
+given_named (kinds.Plain k) before name args = []
+given_named kinds.Graphic before name args = if is_whole args then graphic name args else []
+given_named kinds.FieldData before name args = item_of kinds.FieldData name [] ∷ data_items (text_known (indicator before) args)
+given_named kind before name args = item_of kind name [] ∷ []
+
+-- what a command has given while it stands open, after these
+unfoldable pub given : List (List ℕ) → List ℕ → List Item
+given before (sign ∷ a ∷ b ∷ args) = given_named (kind_named sign a b) before (name_of sign a b) args
+given before _ = []
+
+abbrev pub at_end_named : Kind → List (List ℕ) → Name → List ℕ → List Item
+at_end_named kinds.FieldHex before name args = item_of kinds.FieldHex name (kept_of (parameters args)) ∷ []
+at_end_named (kinds.Plain k) before name args = item_of (kinds.Plain k) name (kept_of (parameters args)) ∷ []
+at_end_named kinds.Graphic before name args =
+    if is_whole args then graphic name args else item_of kinds.Graphic name (kept_of (parameters args)) ∷ []
+at_end_named kinds.FieldData before name args = item_of kinds.FieldData name [] ∷ data_items (text_of (indicator before) args)
+at_end_named kind before name args = item_of kind name [] ∷ []
+
+-- what it has given once a sign has ended it
+unfoldable pub at_end : List (List ℕ) → List ℕ → List Item
+at_end before (sign ∷ a ∷ b ∷ args) = at_end_named (kind_named sign a b) before (name_of sign a b) args
+at_end before _ = []
+
+unfoldable pub all_ended : List (List ℕ) → List Item
+all_ended [] = []
+all_ended (command ∷ before) = all_ended before ++ at_end before command
+
+-- the items of the commands that have ended, and what the open one has given
+abbrev pub items_in : Cut → List Item
+items_in s = all_ended s.before ++ given s.before s.open_one
+
+unfoldable pub items : List ℕ → List Item
+items bytes = items_in (cut bytes)
+
+-- whether a command takes more bytes, as parameters or data
+abbrev pub goes_on_named : Kind → List ℕ → Bool
+goes_on_named kinds.FieldHex args = true
+goes_on_named (kinds.Plain k) args = true
+goes_on_named kinds.FieldData args = true
+goes_on_named kinds.Graphic args = if is_whole args && is_b (head args) then is_short args else true
+goes_on_named _ args = false
+
+-- inside a name or binary data, and in a format also inside parameters or data
+unfoldable pub is_within_one : Bool → List ℕ → Bool
+is_within_one opened [] = false
+is_within_one opened (sign ∷ a ∷ b ∷ args) =
+    wants_binary (sign ∷ a ∷ b ∷ args) || (opened && goes_on_named (kind_named sign a b) args)
+is_within_one opened (sign ∷ name) = true
+
+abbrev pub rests : Cut → Bool
+rests s = not (is_within_one (in_format (s.open_one ∷ s.before)) s.open_one)
+
+-- nothing is begun that more bytes have to end
+unfoldable pub at_rest : List ℕ → Bool
+at_rest bytes = rests (cut bytes)

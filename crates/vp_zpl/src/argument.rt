@@ -1,0 +1,312 @@
+//! What the parameters of a command mean.
+ghost use Rattle.std.specs.Prelude.{◌≡◌, ◌<◌, ℕ, Some, slice_get};
+ghost use Rattle.vp_zpl.specs.Arguments.{number_at as number_is, byte_at as byte_is, letter_at as letter_is, yes_at as yes_is, inverted_at as inverted_is, orientation_at as orientation_is, either_of, orientation_of as orientation_as, colour_of as colour_as, format_of as format_as, mode_of as mode_as, justification_of as justification_as, space_in, space_if, tenths_of as tenths_as, tenth_behind as tenth_as, tenths_if, plain_command as plain_is, command_of as command_is};
+ghost use Rattle.vp_zpl.specs.Shown.{shown_part, shown_parts};
+
+use crate::item::{
+    Code128Mode, Colour, Command, GraphicFormat, Justification, LineSpace, Orientation,
+};
+use crate::name::{Kind, Plain};
+use crate::part::{Part, capital, is_digit, number_in};
+
+fn number_at(n: usize, parameters: &[Part]) -> Option<u32>
+    ensures { result ≡ number_is n (shown_parts parameters.now) }
+{
+    match parameters.get(n) {
+        Some(part) => part.number(),
+        None => None,
+    }
+}
+
+fn byte_at(n: usize, parameters: &[Part]) -> Option<u8>
+    ensures { result ≡ byte_is n (shown_parts parameters.now) }
+{
+    let part = parameters.get(n)?;
+    let bytes = part.bytes.as_slice();
+    if bytes.len() == 1 {
+        Some(bytes[0])
+    } else {
+        None
+    }
+}
+
+#[tactic(auto, unfolding(crate::specs::Arguments::letter_at))]
+fn letter_at(n: usize, parameters: &[Part]) -> Option<u8>
+    ensures { result ≡ letter_is n (shown_parts parameters.now) }
+{
+    match byte_at(n, parameters) {
+        Some(byte) => Some(capital(byte)),
+        None => None,
+    }
+}
+
+/// Whether a letter is the one that says yes, or the one that says no.
+fn either(yes: u8, no: u8, letter: Option<u8>) -> Option<bool>
+    ensures { result ≡ either_of yes no letter }
+{
+    match letter {
+        Some(c) if c == yes => Some(true),
+        Some(c) if c == no => Some(false),
+        _ => None,
+    }
+}
+
+fn yes_at(n: usize, parameters: &[Part]) -> Option<bool>
+    ensures { result ≡ yes_is n (shown_parts parameters.now) }
+{
+    either(b'Y', b'N', letter_at(n, parameters))
+}
+
+fn inverted_at(n: usize, parameters: &[Part]) -> Option<bool>
+    ensures { result ≡ inverted_is n (shown_parts parameters.now) }
+{
+    either(b'I', b'N', letter_at(n, parameters))
+}
+
+fn orientation_of(letter: Option<u8>) -> Option<Orientation>
+    ensures { result ≡ orientation_as letter }
+{
+    match letter {
+        Some(b'N') => Some(Orientation::Normal),
+        Some(b'R') => Some(Orientation::Rotated),
+        Some(b'I') => Some(Orientation::Inverted),
+        Some(b'B') => Some(Orientation::BottomUp),
+        _ => None,
+    }
+}
+
+fn orientation_at(n: usize, parameters: &[Part]) -> Option<Orientation>
+    ensures { result ≡ orientation_is n (shown_parts parameters.now) }
+{
+    orientation_of(letter_at(n, parameters))
+}
+
+fn colour_of(letter: Option<u8>) -> Option<Colour>
+    ensures { result ≡ colour_as letter }
+{
+    match letter {
+        Some(b'B') => Some(Colour::Black),
+        Some(b'W') => Some(Colour::White),
+        _ => None,
+    }
+}
+
+fn mode_of(letter: Option<u8>) -> Option<Code128Mode>
+    ensures { result ≡ mode_as letter }
+{
+    match letter {
+        Some(b'U') => Some(Code128Mode::UccCase),
+        Some(b'A') => Some(Code128Mode::Automatic),
+        Some(b'D') => Some(Code128Mode::UccEan),
+        _ => None,
+    }
+}
+
+fn justification_of(letter: Option<u8>) -> Option<Justification>
+    ensures { result ≡ justification_as letter }
+{
+    match letter {
+        Some(b'L') => Some(Justification::Left),
+        Some(b'C') => Some(Justification::Centre),
+        Some(b'R') => Some(Justification::Right),
+        Some(b'J') => Some(Justification::Justified),
+        _ => None,
+    }
+}
+
+/// ^GF's format; `None` where nothing was sent for it.
+fn format_of(parameters: &[Part]) -> Option<GraphicFormat>
+    ensures { result ≡ format_as (shown_parts parameters.now) }
+{
+    let part = parameters.first()?;
+    if part.bytes.is_empty() {
+        return None;
+    }
+    match letter_at(0, parameters) {
+        Some(b'A') => Some(GraphicFormat::Ascii),
+        Some(b'B') => Some(GraphicFormat::Binary),
+        _ => Some(GraphicFormat::Other),
+    }
+}
+
+impl Part {
+    /// A number, perhaps with `-` before it.
+    fn space(&self) -> Option<LineSpace>
+        ensures { result ≡ space_in self.now.is_long self.now.bytes.items }
+    {
+        let bytes = self.bytes.as_slice();
+        if bytes.is_empty() {
+            return None;
+        }
+        if bytes[0] == b'-' {
+            let dots = number_in(self.is_long, &bytes[1..])?;
+            return Some(LineSpace::Deleted(dots));
+        }
+        let dots = number_in(self.is_long, bytes)?;
+        Some(LineSpace::Added(dots))
+    }
+
+    /// Digits, perhaps a point and one digit: in tenths.
+    #[tactic(auto, unfolding(crate::specs::Arguments::tenths_of))]
+    fn tenths(&self) -> Option<u32>
+        ensures { result ≡ tenths_as (shown_part self.now) }
+    {
+        let bytes = self.bytes.as_slice();
+        let whole = bytes.len().saturating_sub(2);
+        match tenth_behind(&bytes[whole..]) {
+            Some(tenth) => {
+                let n = number_in(self.is_long, &bytes[..whole])?;
+                Some(10 * n + tenth)
+            }
+            None => {
+                let n = self.number()?;
+                Some(10 * n)
+            }
+        }
+    }
+}
+
+/// A point and a digit.
+fn tenth_behind(bytes: &[u8]) -> Option<u32>
+    ensures value { result ≡ tenth_as bytes.now }
+    ensures small { (n : ℕ) → result ≡ Some n → n < 10 }
+{
+    if bytes.len() == 2 && bytes[0] == b'.' && is_digit(bytes[1]) {
+        return Some((bytes[1] - b'0') as u32);
+    }
+    None
+}
+
+fn space_at(n: usize, parameters: &[Part]) -> Option<LineSpace>
+    ensures { result ≡ space_if (slice_get (shown_parts parameters.now) n) }
+{
+    match parameters.get(n) {
+        Some(part) => part.space(),
+        None => None,
+    }
+}
+
+fn tenths_at(n: usize, parameters: &[Part]) -> Option<u32>
+    ensures { result ≡ tenths_if (slice_get (shown_parts parameters.now) n) }
+{
+    match parameters.get(n) {
+        Some(part) => part.tenths(),
+        None => None,
+    }
+}
+
+/// The command of these parameters.
+#[tactic(auto, unfolding(crate::specs::Arguments::command_of))]
+pub(crate) fn command_of(kind: Kind, sent: &[Part]) -> Command
+    ensures { result ≡ command_is kind (shown_parts sent.now) }
+{
+    match kind {
+        Kind::FormatStart => Command::FormatStart,
+        Kind::FormatEnd => Command::FormatEnd,
+        Kind::FieldSeparator => Command::FieldSeparator,
+        Kind::ReversePrint => Command::ReversePrint,
+        Kind::FieldHex => Command::FieldHex {
+            indicator: byte_at(0, sent),
+        },
+        Kind::Plain(plain) => plain_command(plain, sent),
+        Kind::FieldData => Command::FieldData,
+        Kind::Graphic => Command::Graphic {
+            format: format_of(sent),
+            binary_bytes: number_at(1, sent),
+            picture_bytes: number_at(2, sent),
+            row_bytes: number_at(3, sent),
+        },
+        Kind::Skipped => Command::Skipped,
+    }
+}
+
+fn plain_command(plain: Plain, sent: &[Part]) -> Command
+    ensures { result ≡ plain_is plain (shown_parts sent.now) }
+{
+    match plain {
+        Plain::FieldOrigin => Command::FieldOrigin {
+            x: number_at(0, sent),
+            y: number_at(1, sent),
+        },
+        Plain::FieldTypeset => Command::FieldTypeset {
+            x: number_at(0, sent),
+            y: number_at(1, sent),
+        },
+        Plain::LabelHome => Command::LabelHome {
+            x: number_at(0, sent),
+            y: number_at(1, sent),
+        },
+        Plain::PrintWidth => Command::PrintWidth {
+            dots: number_at(0, sent),
+        },
+        Plain::LabelLength => Command::LabelLength {
+            dots: number_at(0, sent),
+        },
+        Plain::PrintQuantity => Command::PrintQuantity {
+            copies: number_at(0, sent),
+        },
+        Plain::PrintOrientation => Command::PrintOrientation {
+            inverted: inverted_at(0, sent),
+        },
+        Plain::MirrorImage => Command::MirrorImage {
+            mirrored: yes_at(0, sent),
+        },
+        Plain::LabelReverse => Command::LabelReverse {
+            reversed: yes_at(0, sent),
+        },
+        Plain::FieldOrientation => Command::FieldOrientation {
+            orientation: orientation_at(0, sent),
+        },
+        Plain::DefaultFont => Command::DefaultFont {
+            height: number_at(1, sent),
+            width: number_at(2, sent),
+        },
+        Plain::Font => Command::Font {
+            orientation: orientation_at(0, sent),
+            height: number_at(1, sent),
+            width: number_at(2, sent),
+        },
+        Plain::BarDefaults => Command::BarDefaults {
+            module: number_at(0, sent),
+            ratio_tenths: tenths_at(1, sent),
+            height: number_at(2, sent),
+        },
+        Plain::Code39 => Command::Code39 {
+            orientation: orientation_at(0, sent),
+            check: yes_at(1, sent),
+            height: number_at(2, sent),
+            text: yes_at(3, sent),
+            above: yes_at(4, sent),
+        },
+        Plain::Ean13 => Command::Ean13 {
+            orientation: orientation_at(0, sent),
+            height: number_at(1, sent),
+            text: yes_at(2, sent),
+            above: yes_at(3, sent),
+        },
+        Plain::Code128 => Command::Code128 {
+            orientation: orientation_at(0, sent),
+            height: number_at(1, sent),
+            text: yes_at(2, sent),
+            above: yes_at(3, sent),
+            mode: mode_of(letter_at(5, sent)),
+        },
+        Plain::QrCode => Command::QrCode {
+            model: number_at(1, sent),
+            module: number_at(2, sent),
+        },
+        Plain::GraphicBox => Command::GraphicBox {
+            width: number_at(0, sent),
+            height: number_at(1, sent),
+            thickness: number_at(2, sent),
+            colour: colour_of(letter_at(3, sent)),
+        },
+        Plain::Comment => Command::Comment,
+        Plain::FieldBlock => Command::FieldBlock {
+            width: number_at(0, sent),
+            lines: number_at(1, sent),
+            space: space_at(2, sent),
+            justification: justification_of(letter_at(3, sent)),
+        },
+    }
+}

@@ -1,0 +1,206 @@
+//! Which command a name is, and how it goes on.
+ghost use Rattle.std.specs.Prelude.{◌≡◌, Some};
+ghost use Rattle.vp_zpl.specs.Commands.{kind_of as kind_is, kind_named as kind_is_named, format_command as format_is, field_command as field_is, label_command as label_is, print_command as print_is, bar_command as bar_is, graphic_command as graphic_is, in_format_by};
+ghost use Rattle.vp_zpl.specs.Items.{name_of as name_is};
+ghost use Rattle.vp_zpl.specs.Reader.{indicator_behind as indicator_is};
+
+use crate::part::capital;
+
+/// A command's sign and its name in capitals; the font byte of ^A stands as it came.
+#[derive(Clone, Copy, Debug, PartialEq, Eq)]
+pub struct Name {
+    pub sign: u8,
+    pub first: u8,
+    pub second: u8,
+}
+
+/// The commands whose parameters end with the command.
+#[derive(Clone, Copy, Debug, PartialEq, Eq)]
+pub enum Plain {
+    FieldOrigin,
+    FieldTypeset,
+    LabelHome,
+    PrintWidth,
+    LabelLength,
+    PrintQuantity,
+    PrintOrientation,
+    MirrorImage,
+    LabelReverse,
+    FieldOrientation,
+    DefaultFont,
+    Font,
+    BarDefaults,
+    Code39,
+    Ean13,
+    Code128,
+    QrCode,
+    GraphicBox,
+    Comment,
+    FieldBlock,
+}
+
+/// The commands, by how they go on behind their name.
+#[derive(Clone, Copy, Debug, PartialEq, Eq)]
+pub enum Kind {
+    /// ^XA
+    FormatStart,
+    /// ^XZ
+    FormatEnd,
+    /// ^FS
+    FieldSeparator,
+    /// ^FR
+    ReversePrint,
+    /// ^FH: its parameter says how data are read.
+    FieldHex,
+    Plain(Plain),
+    /// ^FD: data to the next sign.
+    FieldData,
+    /// ^GF: four parameters, and data behind them.
+    Graphic,
+    /// Every other name.
+    Skipped,
+}
+
+/// ^X.
+fn format_command(b: u8) -> Kind
+    ensures { result ≡ format_is b }
+{
+    match b {
+        b'A' => Kind::FormatStart,
+        b'Z' => Kind::FormatEnd,
+        _ => Kind::Skipped,
+    }
+}
+
+/// ^F.
+fn field_command(b: u8) -> Kind
+    ensures { result ≡ field_is b }
+{
+    match b {
+        b'S' => Kind::FieldSeparator,
+        b'R' => Kind::ReversePrint,
+        b'O' => Kind::Plain(Plain::FieldOrigin),
+        b'T' => Kind::Plain(Plain::FieldTypeset),
+        b'W' => Kind::Plain(Plain::FieldOrientation),
+        b'B' => Kind::Plain(Plain::FieldBlock),
+        b'H' => Kind::FieldHex,
+        b'X' => Kind::Plain(Plain::Comment),
+        b'D' => Kind::FieldData,
+        _ => Kind::Skipped,
+    }
+}
+
+/// ^L.
+fn label_command(b: u8) -> Kind
+    ensures { result ≡ label_is b }
+{
+    match b {
+        b'H' => Kind::Plain(Plain::LabelHome),
+        b'L' => Kind::Plain(Plain::LabelLength),
+        b'R' => Kind::Plain(Plain::LabelReverse),
+        _ => Kind::Skipped,
+    }
+}
+
+/// ^P.
+fn print_command(b: u8) -> Kind
+    ensures { result ≡ print_is b }
+{
+    match b {
+        b'W' => Kind::Plain(Plain::PrintWidth),
+        b'Q' => Kind::Plain(Plain::PrintQuantity),
+        b'O' => Kind::Plain(Plain::PrintOrientation),
+        b'M' => Kind::Plain(Plain::MirrorImage),
+        _ => Kind::Skipped,
+    }
+}
+
+/// ^B.
+fn bar_command(b: u8) -> Kind
+    ensures { result ≡ bar_is b }
+{
+    match b {
+        b'Y' => Kind::Plain(Plain::BarDefaults),
+        b'3' => Kind::Plain(Plain::Code39),
+        b'E' => Kind::Plain(Plain::Ean13),
+        b'C' => Kind::Plain(Plain::Code128),
+        b'Q' => Kind::Plain(Plain::QrCode),
+        _ => Kind::Skipped,
+    }
+}
+
+/// ^G.
+fn graphic_command(b: u8) -> Kind
+    ensures { result ≡ graphic_is b }
+{
+    match b {
+        b'B' => Kind::Plain(Plain::GraphicBox),
+        b'F' => Kind::Graphic,
+        _ => Kind::Skipped,
+    }
+}
+
+impl Name {
+    /// The name of a sign and two bytes, in either case.
+    pub(crate) fn new(sign: u8, first: u8, second: u8) -> Name
+        ensures { result ≡ name_is sign first second }
+    {
+        let is_font = sign == b'^' && capital(first) == b'A';
+        Name {
+            sign,
+            first: capital(first),
+            second: if is_font { second } else { capital(second) },
+        }
+    }
+}
+
+/// The command of a name in capitals.
+#[tactic(auto, unfolding(crate::specs::Commands::kind_of))]
+fn kind_of(sign: u8, first: u8, second: u8) -> Kind
+    ensures { result ≡ kind_is sign first second }
+{
+    if sign != b'^' {
+        return Kind::Skipped;
+    }
+    match first {
+        b'X' => format_command(second),
+        b'F' => field_command(second),
+        b'L' => label_command(second),
+        b'P' => print_command(second),
+        b'B' => bar_command(second),
+        b'G' => graphic_command(second),
+        b'A' => Kind::Plain(Plain::Font),
+        b'C' if second == b'F' => Kind::Plain(Plain::DefaultFont),
+        _ => Kind::Skipped,
+    }
+}
+
+/// The command of a name in either case.
+pub(crate) fn kind_named(sign: u8, first: u8, second: u8) -> Kind
+    ensures { result ≡ kind_is_named sign first second }
+{
+    kind_of(sign, capital(first), capital(second))
+}
+
+impl Kind {
+    /// Whether a format is open behind the command.
+    pub(crate) fn in_format(self, was: bool) -> bool
+        ensures { result ≡ in_format_by (Some self) was }
+    {
+        match self {
+            Kind::FormatStart => true,
+            Kind::FormatEnd => false,
+            _ => was,
+        }
+    }
+
+    /// The indicator that acts on data behind the command's name.
+    pub(crate) fn indicator(self, was: Option<u8>) -> Option<u8>
+        ensures { result ≡ indicator_is self was }
+    {
+        match self {
+            Kind::FieldSeparator | Kind::FormatEnd => None,
+            _ => was,
+        }
+    }
+}
