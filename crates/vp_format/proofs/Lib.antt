@@ -1,0 +1,5 @@
+pub mod Bytes
+pub mod Marks
+pub mod Nibbles
+pub mod Places
+pub mod Reached

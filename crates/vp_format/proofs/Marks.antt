@@ -1,0 +1,294 @@
+-- Cursors before rows.
+use Rattle.std.proofs.Common.{inl, inr, ◌≡◌, ℕ, zero, suc, ◌+◌, ◌-◌, ◌*◌, ◌<◌, ◌≤◌, min, true, false, cond, add-one, Result, Ok, Err, IfOk, is_err, List, [], ◌++◌, take, drop, replicate, length, ap, sym, ◌∙◌, refl, subst, arith}
+use Rattle.std.proofs.Math.Seq.{drop-length}
+use Rattle.std.proofs.lemmas.List.{length-take}
+use Rattle.std.proofs.lemmas.Bool.{cases_Bool, lt-ltb, true≢false, false≢true}
+use Rattle.vp_dots.specs.declared.fault.Fault.{Fault}
+use Rattle.vp_dots.specs.declared.fault.Fault.TheVariants.{Graphic}
+use Rattle.vp_format.specs.declared.row.RowEnd.{RowEnd}
+use Rattle.vp_format.specs.declared.rows.Coding.{Coding}
+use Rattle.vp_format.specs.declared.rows.Coding.TheVariants.{RunLength, Binary}
+use Rattle.vp_format.specs.declared.rows.Spot.{Spot}
+use Rattle.vp_format.specs.declared.rows.RunMark.{RunMark}
+use Rattle.vp_format.specs.Codes.{symbols}
+use Rattle.vp_format.specs.Pictures.{Value, shown, bytes_before, value_of, Picture, width_of, place_of, value, is_refused, is_repeat, is_above, is_nothing, start_of, start_above, bound_of, nibble, answer, row_after}
+use Rattle.vp_format.specs.declared.rows.RunRows.TheInside.{Inside}
+use Rattle.vp_format.specs.Cursors.{symbols_at, above, picture_of, Advanced, IsSpot, IsWhole, IsMark, IsCursor, Decoded}
+use Rattle.vp_format.proofs.Nibbles.{nibble_append, nibble_front, nibble_zero}
+use Rattle.vp_format.proofs.Reached.{run_over, bytes_over, bytes_none}
+
+-- a row in the first bytes of a longer one
+length_take_le : (n : ℕ) (row : List ℕ) → n ≤ length row → length (take n row) ≡ n
+length_take_le n row h = omega (arith, length-take n row)
+
+pub front_decoded : (coding : Coding) (codes row new rest : List ℕ) (s after : Spot) (end : RowEnd) (n : ℕ) → n ≤ length row → length new ≡ length (take n row) → Decoded (2 * length (take n row)) coding codes s end after (take n row) new
+    → Decoded (2 * n) coding codes s end after row (new ++ rest)
+front_decoded coding codes row new rest s after end n room long d =
+    let e : length (take n row) ≡ n = length_take_le n row room in
+    let f = subst (λ (k : ℕ). Decoded (2 * k) coding codes s end after (take n row) new) e d in
+    let at_end : (j : ℕ) → j < 2 * n → nibble (new ++ rest) j ≡ nibble new j = λ j l. nibble_append new rest j (omega arith) in
+    record {
+      spot = f.spot;
+      whole = f.whole;
+      row = λ j l. at_end j l ∙ f.row j l ∙ ap (value_of (shown (2 * n) 0 (symbols_at coding codes s) j)) (nibble_front row n j l);
+      own = λ b j l. f.own b j l ∙ ap Value (sym (at_end j l));
+      again = f.again;
+      next = f.next;
+      bytes = f.bytes;
+    }
+
+-- bytes as they are, whose rows start without a run
+pub whole_decoded : (coding : Coding) (codes row new : List ℕ) (s : Spot) (end : RowEnd) (n at to : ℕ) → coding ≡ Binary → IsWhole coding s → at ≡ s.at → end ≡ record { left = 0; digit = 0; repeats = false }
+    → Decoded (2 * n) Binary codes (record { left = 0; digit = 0; at = at }) end (record { left = 0; digit = 0; at = to }) row new → Decoded (2 * n) coding codes s end (record { left = end.left; digit = end.digit; at = to }) row new
+whole_decoded coding codes row new s end n at to is whole here ends d =
+    let w : (s.left ≡ 0) × (s.digit ≡ 0) = subst (λ (k : Coding). IsWhole k s) is whole in
+    let a = subst (λ (i : ℕ). Decoded (2 * n) Binary codes (record { left = 0; digit = 0; at = i }) end (record { left = 0; digit = 0; at = to }) row new) here d in
+    let b = subst (λ (i : ℕ). Decoded (2 * n) Binary codes (record { left = 0; digit = i; at = s.at }) end (record { left = 0; digit = 0; at = to }) row new) (sym w.1) a in
+    let e = subst (λ (i : ℕ). Decoded (2 * n) Binary codes (record { left = i; digit = s.digit; at = s.at }) end (record { left = 0; digit = 0; at = to }) row new) (sym w.0) b in
+    let f = subst (λ (k : Coding). Decoded (2 * n) k codes s end (record { left = 0; digit = 0; at = to }) row new) (sym is) e in
+    subst (λ (r : RowEnd). Decoded (2 * n) coding codes s end (record { left = r.left; digit = r.digit; at = to }) row new) (sym ends) f
+
+pub front_answer : (coding : Coding) (codes row : List ℕ) (s : Spot) (r : Result RowEnd Fault) (n : ℕ) → n ≤ length row → is_err r ≡ is_nothing (shown (2 * length (take n row)) 0 (symbols_at coding codes s) (2 * length (take n row) - 1))
+    → is_err r ≡ is_nothing (shown (2 * n) 0 (symbols_at coding codes s) (2 * n - 1))
+front_answer coding codes row s r n room e = subst (λ (k : ℕ). is_err r ≡ is_nothing (shown (2 * k) 0 (symbols_at coding codes s) (2 * k - 1))) (length_take_le n row room) e
+
+-- a value, by the one above it
+pub value-at : (p : Picture) (y j : ℕ) → value p y j ≡ value_of (place_of p y j) (above p y j)
+unfolding value
+value-at p zero j = refl
+value-at p (suc y) j = refl
+
+-- what a marked row shows
+marked_place : (p : Picture) (m : RunMark) (j : ℕ) → IsMark p m → place_of p m.next j ≡ shown (width_of p) 0 (symbols_at p.coding p.codes m.here) j
+unfolding place_of
+marked_place p m j h = h.shown_is j
+
+pub marked_refusal : (p : Picture) (m : RunMark) → IsMark p m → is_refused p m.next ≡ is_nothing (shown (width_of p) 0 (symbols_at p.coding p.codes m.here) (width_of p - 1))
+unfolding is_refused
+marked_refusal p m h = ap is_nothing (marked_place p m (width_of p - 1) h)
+
+-- where a marked row starts
+pub marked_start : (p : Picture) (m : RunMark) → IsMark p m → start_of p m.next ≡ m.here.at
+unfolding start_of
+marked_start p m h =
+    let w = width_of p in
+    let e : w * m.next ≡ w * m.next + 0 = omega arith in
+    ap (bytes_before w 0 (symbols p.coding p.codes)) e ∙ h.bytes_is 0 ∙ ap (λ k. m.here.at + k) (bytes_none w 0 (symbols_at p.coding p.codes m.here) 0 (omega arith)) ∙ omega arith
+
+-- a row that repeats, and one that doesn't
+marked_repeat : (p : Picture) (m : RunMark) → IsMark p m → is_repeat p m.next ≡ is_above (shown (width_of p) 0 (symbols_at p.coding p.codes m.here) 0)
+unfolding is_repeat
+marked_repeat p m h = ap is_above (marked_place p m 0 h)
+
+-- the mark before the first row
+symbols_none : (coding : Coding) (codes : List ℕ) → symbols coding (drop (length codes) codes) ≡ symbols coding []
+symbols_none coding codes = ap (symbols coding) (drop-length codes)
+
+nothing_shown : (coding : Coding) (w j : ℕ) → shown w 0 (symbols coding []) j ≡ Value 0
+nothing_shown RunLength w j = refl
+nothing_shown Binary w j = refl
+
+nothing_spelled : (coding : Coding) (w j : ℕ) → bytes_before w 0 (symbols coding []) j ≡ 0
+nothing_spelled RunLength w j = refl
+nothing_spelled Binary w j = refl
+
+whole_start : (coding : Coding) (at : ℕ) → IsWhole coding (record { left = 0; digit = 0; at = at })
+whole_start RunLength at = tt
+whole_start Binary at = (refl, refl)
+
+pub first_mark : (p : Picture) → IsMark p (record { next = 0; here = record { left = 0; digit = 0; at = 0 }; before = record { left = 0; digit = 0; at = length p.codes } })
+unfolding start_above
+first_mark p = record {
+  here = record { at = omega arith; digit = omega arith };
+  whole = whole_start p.coding 0;
+  shown_is = λ j. ap (shown w 0 (symbols p.coding p.codes)) (omega arith) ∙ sym (run_over w 0 0 0 (symbols p.coding p.codes) j (omega arith));
+  bytes_is = λ j. ap (bytes_before w 0 (symbols p.coding p.codes)) (omega arith) ∙ sym (bytes_over w 0 0 (symbols p.coding p.codes) j (omega arith)) ∙ omega arith;
+  before = record { at = omega arith; digit = omega arith };
+  whole_before = whole_start p.coding (length p.codes);
+  before_is = refl;
+  above_is = λ j l. run_over w 0 0 0 _ j (omega arith) ∙ ap (λ ss. shown w 0 ss j) (symbols_none p.coding p.codes) ∙ nothing_shown p.coding w j;
+  above_bytes = let e = bytes_over w 0 0 (symbols p.coding (drop (length p.codes) p.codes)) w (omega arith) ∙ ap (λ ss. bytes_before w 0 ss w) (symbols_none p.coding p.codes) ∙ nothing_spelled p.coding w w in omega (arith, e);
+}
+  where
+    w : ℕ
+    w = width_of p
+
+-- the row that was read
+pub read_value : (p : Picture) (m : RunMark) (end : RowEnd) (after : Spot) (old new : List ℕ) (j : ℕ) → IsMark p m → Decoded (width_of p) p.coding p.codes m.here end after old new → j < width_of p → nibble old j ≡ above p m.next j → nibble new j ≡ value p m.next j
+read_value p m end after old new j h d l e = d.row j l ∙ ap (value_of (shown (width_of p) 0 (symbols_at p.coding p.codes m.here) j)) e ∙ ap (λ c. value_of c (above p m.next j)) (sym (marked_place p m j h)) ∙ sym (value-at p m.next j)
+
+-- it is above the next one
+pub above_next : (p : Picture) (m n : RunMark) (j : ℕ) → n.next ≡ m.next + 1 → above p n.next j ≡ value p m.next j
+above_next p m n j next = ap (λ y. above p y j) (next ∙ add-one m.next)
+
+-- where the last row starts that isn't a repeat
+start_next : (p : Picture) (y : ℕ) → start_above p (y + 1) ≡ cond (is_repeat p y) (start_above p y) (start_of p y)
+unfolding start_above
+start_next p y = ap (start_above p) (add-one y)
+
+-- the mark behind it
+pub next_mark : (p : Picture) (m n : RunMark) (end : RowEnd) (after : Spot) (old new : List ℕ) → 0 < p.row_bytes → IsMark p m → Decoded (width_of p) p.coding p.codes m.here end after old new → ((j : ℕ) → j < width_of p → nibble old j ≡ above p m.next j)
+    → n.next ≡ m.next + 1 → n.here ≡ after → n.before ≡ cond end.repeats m.before m.here → IsMark p n
+next_mark p m n end after old new some h d kept next here before = record {
+  here = subst (IsSpot p.codes) (sym here) d.spot;
+  whole = subst (IsWhole p.coding) (sym here) d.whole;
+  shown_is = λ j. ap (shown w 0 (symbols p.coding p.codes)) (ap (λ y. w * y + j) next ∙ omega arith) ∙ h.shown_is (w + j) ∙ d.next j ∙ ap (λ s. shown w 0 (symbols_at p.coding p.codes s) j) (sym here);
+  bytes_is = λ j. ap (bytes_before w 0 (symbols p.coding p.codes)) (ap (λ y. w * y + j) next ∙ omega arith) ∙ h.bytes_is (w + j) ∙ d.bytes j ∙ ap (λ s. s.at + bytes_before w 0 (symbols_at p.coding p.codes s) j) (sym here);
+  before = by_end (λ s. IsSpot p.codes s) (λ _. h.before) (λ _. h.here);
+  whole_before = by_end (λ s. IsWhole p.coding s) (λ _. h.whole_before) (λ _. h.whole);
+  before_is = by_end (λ s. s.at ≡ start_above p n.next)
+      (λ e. h.before_is ∙ sym (ap (start_above p) next ∙ start_next p m.next ∙ ap (λ b. cond b (start_above p m.next) (start_of p m.next)) (marked_repeat p m h ∙ ap is_above (d.again e 0 (omega arith)))))
+      (λ e. sym (marked_start p m h) ∙ sym (ap (start_above p) next ∙ start_next p m.next ∙ ap (λ b. cond b (start_above p m.next) (start_of p m.next)) (marked_repeat p m h ∙ ap is_above (d.own e 0 (omega arith)))));
+  above_is = λ j l. by_end (λ s. shown w 0 (symbols_at p.coding p.codes s) j ≡ Value (value p m.next j))
+      (λ e. h.above_is j l ∙ ap Value (sym (value-at p m.next j ∙ ap (λ c. value_of c (above p m.next j)) (marked_place p m j h ∙ d.again e j l))))
+      (λ e. d.own e j l ∙ ap Value (read_value p m end after old new j h d l (kept j l))) ∙ ap Value (sym (above_next p m n j next));
+  above_bytes = by_end (λ s. bytes_before w 0 (symbols_at p.coding p.codes s) w ≤ n.here.at - s.at)
+      (λ e. omega (arith, h.above_bytes, row_bytes, there))
+      (λ e. omega (arith, row_bytes, there));
+}
+  where
+    w : ℕ
+    w = width_of p
+
+    there : n.here.at ≡ after.at
+    there = ap (λ (s : Spot). s.at) here
+
+    row_bytes : m.here.at + bytes_before w 0 (symbols_at p.coding p.codes m.here) w ≡ after.at
+    row_bytes = let e : w ≡ w + 0 = omega arith in ap (λ q. m.here.at + bytes_before w 0 (symbols_at p.coding p.codes m.here) q) e ∙ d.bytes 0 ∙ ap (λ k. after.at + k) (bytes_none w 0 (symbols_at p.coding p.codes after) 0 (omega arith)) ∙ omega arith
+
+    by_end : (P : Spot → Type 0) → (end.repeats ≡ true → P m.before) → (end.repeats ≡ false → P m.here) → P n.before
+    by_end P repeated own = elim (cases_Bool end.repeats) [
+      | inl e ↦ subst P (sym (before ∙ ap (λ b. cond b m.before m.here) e)) (repeated e)
+      | inr e ↦ subst P (sym (before ∙ ap (λ b. cond b m.before m.here) e)) (own e)
+    ]
+
+-- what reading a row answers
+pub answer_refused : (p : Picture) (y : ℕ) → y < p.rows → is_refused p y ≡ true → (Err Graphic ≡ answer p y) × (y ≡ row_after p y)
+answer_refused p y h e = rw (lt-ltb y p.rows h, e) (refl, refl)
+
+pub answer_row : (p : Picture) (y : ℕ) → y < p.rows → is_refused p y ≡ false → (Ok true ≡ answer p y) × (y + 1 ≡ row_after p y)
+answer_row p y h e = rw (lt-ltb y p.rows h, e) (refl, refl)
+
+-- reading the row at the place before gives the row above
+pub above_read : (p : Picture) (m : RunMark) (r : Result RowEnd Fault) (at : RowEnd → Spot) (old new : List ℕ) (j : ℕ) → IsMark p m → is_err r ≡ is_nothing (shown (width_of p) 0 (symbols_at p.coding p.codes m.before) (width_of p - 1))
+    → IfOk r (λ end. Decoded (width_of p) p.coding p.codes m.before end (at end) old new) → j < width_of p → nibble new j ≡ above p m.next j
+above_read p m (Ok end) at old new j h e d l = d.row j l ∙ ap (λ c. value_of c (nibble old j)) (h.above_is j l)
+above_read p m (Err f) at old new j h e d l = absurd (true≢false (e ∙ ap is_nothing (h.above_is (width_of p - 1) (omega arith))))
+
+-- no byte stands before the bound of the first row
+pub first_bound : (p : Picture) → bound_of p 0 ≡ 0
+unfolding bound_of start_above start_of
+first_bound p =
+    let e : width_of p * 0 ≡ 0 = omega arith in
+    let none = ap (bytes_before (width_of p) 0 (symbols p.coding p.codes)) e ∙ bytes_none (width_of p) 0 (symbols p.coding p.codes) 0 (omega arith) in
+    omega (arith, none)
+
+-- and reads as many bytes as its symbols have
+pub above_reads : (p : Picture) (m : RunMark) (r : Result RowEnd Fault) (at : ℕ) (old new : List ℕ) → 0 < p.row_bytes → IsMark p m → is_err r ≡ is_nothing (shown (width_of p) 0 (symbols_at p.coding p.codes m.before) (width_of p - 1))
+    → IfOk r (λ end. Decoded (width_of p) p.coding p.codes m.before end (record { left = end.left; digit = end.digit; at = at }) old new) → m.before.at + bytes_before (width_of p) 0 (symbols_at p.coding p.codes m.before) (width_of p) ≡ at
+above_reads p m (Ok end) at old new some h e d =
+    let w = width_of p in
+    let far : w ≡ w + 0 = omega arith in
+    let after : Spot = record { left = end.left; digit = end.digit; at = at } in
+    ap (λ q. m.before.at + bytes_before w 0 (symbols_at p.coding p.codes m.before) q) far ∙ d.bytes 0 ∙ ap (λ k. at + k) (bytes_none w 0 (symbols_at p.coding p.codes after) 0 (omega arith)) ∙ omega arith
+above_reads p m (Err f) at old new some h e d = absurd (true≢false (e ∙ ap is_nothing (h.above_is (width_of p - 1) (omega arith))))
+
+-- the bound of a marked row
+pub marked_bound : (p : Picture) (m : RunMark) → IsMark p m → bound_of p m.next ≡ min m.before.at m.here.at
+unfolding bound_of
+marked_bound p m h = ap (λ k. min k (start_of p m.next)) (sym h.before_is) ∙ ap (λ k. min m.before.at k) (marked_start p m h)
+
+-- a cursor before the first row
+pub first_cursor : (c : Inside) → 0 < c.row_bytes → c.row_bytes ≤ 1024 → c.codes.at ≡ 0 → c.codes.read ≡ 0 → c.first ≡ 0 → c.refused ≡ false → c.row ≡ replicate 1024 0
+    → c.mark ≡ record { next = 0; here = record { left = 0; digit = 0; at = 0 }; before = record { left = 0; digit = 0; at = length c.codes.bytes.now } } → IsCursor c
+first_cursor c some short at read first going white mark =
+    let p = picture_of c in
+    let next : c.mark.next ≡ 0 = ap (λ (m : RunMark). m.next) mark in
+    let here : c.mark.here.at ≡ 0 = ap (λ (m : RunMark). m.here.at) mark in
+    let bound = ap (bound_of p) first ∙ first_bound p in
+    record {
+      some = some;
+      short = short;
+      mark = subst (IsMark p) (sym mark) (first_mark p);
+      kept = λ _ j l. ap (λ row. nibble row j) white ∙ nibble_zero 1024 j (omega arith) ∙ ap (λ y. above p y j) (sym next);
+      place = λ _. at ∙ sym here;
+      stopped = λ e. absurd (false≢true (sym going ∙ e));
+      reading = record { at = omega arith; read = omega arith };
+      least = omega (arith, here);
+      most = omega (arith, bound);
+    }
+
+-- a cursor that goes on at a mark, behind the row above
+pub resumed_cursor : (c : Inside) (bytes from : List ℕ) (r : Result RowEnd Fault) (at : ℕ) (old : List ℕ) → c.codes.bytes.now ≡ bytes → from ≡ bytes → 0 < c.row_bytes → c.row_bytes ≤ 1024
+    → IsMark (record { coding = c.coding; codes = bytes; row_bytes = c.row_bytes; rows = c.rows }) c.mark
+    → is_err r ≡ is_nothing (shown (2 * c.row_bytes) 0 (symbols_at c.coding from c.mark.before) (2 * c.row_bytes - 1))
+    → IfOk r (λ end. Decoded (2 * c.row_bytes) c.coding from c.mark.before end (record { left = end.left; digit = end.digit; at = at }) old c.row)
+    → c.codes.read + c.mark.before.at ≡ at → c.codes.at ≡ c.mark.here.at → c.first ≡ c.mark.next → c.refused ≡ false → IsCursor c
+resumed_cursor c bytes from r at old same also some short mark ans dec read here first going =
+    let p = picture_of c in
+    let m = subst (λ (b : List ℕ). IsMark (record { coding = c.coding; codes = b; row_bytes = c.row_bytes; rows = c.rows }) c.mark) (sym same) mark in
+    let answered = subst (λ (b : List ℕ). is_err r ≡ is_nothing (shown (2 * c.row_bytes) 0 (symbols_at c.coding b c.mark.before) (2 * c.row_bytes - 1))) (also ∙ sym same) ans in
+    let decoded = subst (λ (b : List ℕ). IfOk r (λ end. Decoded (2 * c.row_bytes) c.coding b c.mark.before end (record { left = end.left; digit = end.digit; at = at }) old c.row)) (also ∙ sym same) dec in
+    let taken = above_reads p c.mark r at old c.row some m answered decoded in
+    let few = m.above_bytes in
+    let start = ap (start_of p) first ∙ marked_start p c.mark m in
+    let bound = ap (bound_of p) first ∙ marked_bound p c.mark m in
+    let inside = m.here.at in
+    record {
+      some = some;
+      short = short;
+      mark = m;
+      kept = λ _ j l. above_read p c.mark r _ _ c.row j m answered decoded l;
+      place = λ _. here;
+      stopped = λ e. absurd (false≢true (sym going ∙ e));
+      reading = record { at = omega (arith, inside); read = omega (arith, taken, few) };
+      least = omega (arith, start);
+      most = omega (arith, taken, few, bound);
+    }
+
+-- the cursor behind a row
+pub next_cursor : (c n : Inside) (end : RowEnd) → IsCursor c → c.refused ≡ false → n.refused ≡ false → Advanced c.codes n.codes
+    → Decoded (2 * c.row_bytes) c.coding c.codes.bytes.now c.mark.here end (record { left = end.left; digit = end.digit; at = n.codes.at }) c.row n.row
+    → n.coding ≡ c.coding → n.row_bytes ≡ c.row_bytes → n.rows ≡ c.rows → n.first ≡ c.first
+    → n.mark.next ≡ c.mark.next + 1 → n.mark.here ≡ record { left = end.left; digit = end.digit; at = n.codes.at } → n.mark.before ≡ cond end.repeats c.mark.before c.mark.here → IsCursor n
+next_cursor c n end i going goes a d coding row_bytes rows first next here before =
+    let p = picture_of c in
+    let kept = i.kept going in
+    let same : picture_of n ≡ p = rw (coding, row_bytes, rows, a.bytes) refl in
+    let there : n.mark.here.at ≡ n.codes.at = ap (λ (s : Spot). s.at) here in
+    let place = i.place going in
+    let start = ap (λ q. start_of q n.first) same ∙ ap (start_of p) first in
+    let bound = ap (λ q. bound_of q n.first) same ∙ ap (bound_of p) first in
+    record {
+      some = subst (λ k. 0 < k) (sym row_bytes) i.some;
+      short = subst (λ k. k ≤ 1024) (sym row_bytes) i.short;
+      mark = subst (λ q. IsMark q n.mark) (sym same) (next_mark p c.mark n.mark end _ c.row n.row i.some i.mark d kept next here before);
+      kept = λ _ j l. (let m : j < 2 * c.row_bytes = subst (λ k. j < 2 * k) row_bytes l in
+          read_value p c.mark end _ c.row n.row j i.mark d m (kept j m) ∙ sym (above_next p c.mark n.mark j next) ∙ ap (λ q. above q n.mark.next j) (sym same));
+      place = λ _. sym there;
+      stopped = λ e. absurd (false≢true (sym goes ∙ e));
+      reading = a.reading;
+      least = omega (arith, start, there, place, i.least, a.read);
+      most = omega (arith, bound, i.most, a.read);
+    }
+
+-- the cursor behind a refused row
+pub stopped_cursor : (c n : Inside) → IsCursor c → c.refused ≡ false → n.refused ≡ true → Advanced c.codes n.codes → is_nothing (shown (2 * c.row_bytes) 0 (symbols_at c.coding c.codes.bytes.now c.mark.here) (2 * c.row_bytes - 1)) ≡ true
+    → n.coding ≡ c.coding → n.row_bytes ≡ c.row_bytes → n.rows ≡ c.rows → n.first ≡ c.first → n.mark ≡ c.mark → IsCursor n
+stopped_cursor c n i going stops a refused coding row_bytes rows first mark =
+    let p = picture_of c in
+    let same : picture_of n ≡ p = rw (coding, row_bytes, rows, a.bytes) refl in
+    let there : n.mark.here.at ≡ c.mark.here.at = ap (λ (m : RunMark). m.here.at) mark in
+    let start = ap (λ q. start_of q n.first) same ∙ ap (start_of p) first in
+    let bound = ap (λ q. bound_of q n.first) same ∙ ap (bound_of p) first in
+    record {
+      some = subst (λ k. 0 < k) (sym row_bytes) i.some;
+      short = subst (λ k. k ≤ 1024) (sym row_bytes) i.short;
+      mark = subst (λ q. IsMark q n.mark) (sym same) (subst (IsMark p) (sym mark) i.mark);
+      kept = λ e. absurd (true≢false (sym stops ∙ e));
+      place = λ e. absurd (true≢false (sym stops ∙ e));
+      stopped = λ _. ap (λ q. is_refused q n.mark.next) same ∙ ap (λ (m : RunMark). is_refused p m.next) mark ∙ marked_refusal p c.mark i.mark ∙ refused;
+      reading = a.reading;
+      least = omega (arith, start, there, i.least, a.read, a.at);
+      most = omega (arith, bound, i.most, a.read);
+    }

@@ -1,0 +1,136 @@
+-- What a cursor keeps of the codes.
+use Rattle.std.specs.Prelude.{◌≡◌, ℕ, zero, suc, true, false, ◌*◌, ◌+◌, ◌-◌, ◌≤◌, ◌<◌, List, ◌∷◌, drop, length, slice_index, Option, None, Some}
+use Rattle.vp_format.specs.declared.codes.Code.{Code}
+use Rattle.vp_format.specs.declared.codes.Code.TheVariants.{Digit, Count, Fill}
+use Rattle.vp_format.specs.declared.reading.Codes.{Codes}
+use Rattle.vp_format.specs.declared.row.RowEnd.{RowEnd}
+use Rattle.vp_format.specs.declared.rows.Coding.{Coding}
+use Rattle.vp_format.specs.declared.rows.Coding.TheVariants.{RunLength, Binary}
+use Rattle.vp_format.specs.declared.rows.Spot.{Spot}
+use Rattle.vp_format.specs.declared.rows.RunMark.{RunMark}
+use Rattle.vp_format.specs.declared.rows.RunRows.TheInside.{Inside}
+use Rattle.vp_format.specs.declared.codes.Symbol.{Symbol}
+use Rattle.vp_format.specs.declared.codes.Symbol.TheVariants.{Digits, ToEnd}
+use Rattle.vp_format.specs.Codes.{Spelled, spelled, symbols}
+use Rattle.vp_format.specs.Pictures.{Value, AsAbove, shown, bytes_before, value_of, Picture, width_of, value, is_refused, start_above, bound_of, start_of, nibble, Cursor}
+
+-- the value of a digit, and 16 of another code
+abbrev pub digit_value : Code → ℕ
+digit_value (Digit v) = v
+digit_value _ = 16
+
+-- values are digits, and a count is 400 at most
+abbrev pub SmallCode : Code → Type 0
+SmallCode (Digit v) = v < 16
+SmallCode (Count n) = (0 < n) × (n ≤ 400)
+SmallCode (Fill v) = v < 16
+SmallCode _ = Unit {0}
+
+-- a digit stands once at least
+abbrev pub SmallSymbol : Symbol → Type 0
+SmallSymbol (Digits n v) = (0 < n) × (v < 16)
+SmallSymbol (ToEnd v) = v < 16
+SmallSymbol _ = Unit {0}
+
+-- no more bytes were handed out than there are before the place
+pub record IsReading (c : Codes) : Type 0 where
+  pub at : c.at ≤ length c.bytes.now
+  pub read : c.read ≤ c.at
+
+-- of the same codes more bytes may have been handed out, each of them counted
+pub record Advanced (old new : Codes) : Type 0 where
+  pub bytes : new.bytes.now ≡ old.bytes.now
+  pub at : old.at ≤ new.at
+  pub read : new.read + old.at ≡ old.read + new.at
+  pub reading : IsReading new
+
+-- the bytes in hand, none or one
+abbrev pub held : Option ℕ → ℕ
+held None = 0
+held (Some b) = 1
+
+-- the byte in hand is the last one handed out
+abbrev pub InHand : Codes → Option ℕ → Type 0
+InHand c None = Unit {0}
+InHand c (Some b) = (0 < c.at) × (b ≡ slice_index c.bytes.now (c.at - 1)) × (b < 256)
+
+-- the run-length symbols from a place of the codes on
+abbrev pub symbols_from : List ℕ → ℕ → List Spelled
+symbols_from codes at = symbols RunLength (drop at codes)
+
+-- a place of the codes, and what is left there of a run
+pub record IsSpot (codes : List ℕ) (s : Spot) : Type 0 where
+  pub at : s.at ≤ length codes
+  pub digit : s.digit < 16
+
+-- of bytes as they are no run reaches into a row
+abbrev pub IsWhole : Coding → Spot → Type 0
+IsWhole RunLength s = Unit {0}
+IsWhole Binary s = (s.left ≡ 0) × (s.digit ≡ 0)
+
+-- the symbols from a spot on
+abbrev pub symbols_at : Coding → List ℕ → Spot → List Spelled
+symbols_at coding codes s = spelled (Digits s.left s.digit) 0 ∷ symbols coding (drop s.at codes)
+
+-- places from <= j < to of a row have the value, and those before are as they were
+pub record Filled (from to v : ℕ) (old new : List ℕ) : Type 0 where
+  pub kept : (j : ℕ) → j < from → nibble new j ≡ nibble old j
+  pub filled : (j : ℕ) → from ≤ j → j < to → nibble new j ≡ v
+
+-- the symbols, of which the first is spelled from a place of the codes on, show what the row has before place x, and from there on what
+-- those show that are left, which are spelled from a later place on
+pub record Reached (width : ℕ) (all : List Spelled) (from : ℕ) (row : List ℕ) (x : ℕ) (left : List Spelled) (at : ℕ) : Type 0 where
+  pub so_far : (j : ℕ) → j < x → shown width 0 all j ≡ Value (nibble row j)
+  pub ahead : (j : ℕ) → x ≤ j → shown width 0 all j ≡ shown width x left j
+  pub bytes : (j : ℕ) → x ≤ j → from + bytes_before width 0 all j ≡ at + bytes_before width x left j
+
+-- the row that starts at a spot stands in the bytes, which were those of the row before; it is that one once more or not, and the next
+-- row starts at another spot
+pub record Decoded (width : ℕ) (coding : Coding) (codes : List ℕ) (s : Spot) (end : RowEnd) (after : Spot) (old new : List ℕ) : Type 0 where
+  pub spot : IsSpot codes after
+  pub whole : IsWhole coding after
+  pub row : (j : ℕ) → j < width → nibble new j ≡ value_of (shown width 0 (symbols_at coding codes s) j) (nibble old j)
+  pub own : end.repeats ≡ false → (j : ℕ) → j < width → shown width 0 (symbols_at coding codes s) j ≡ Value (nibble new j)
+  pub again : end.repeats ≡ true → (j : ℕ) → j < width → shown width 0 (symbols_at coding codes s) j ≡ AsAbove
+  pub next : (j : ℕ) → shown width 0 (symbols_at coding codes s) (width + j) ≡ shown width 0 (symbols_at coding codes after) j
+  pub bytes : (j : ℕ) → s.at + bytes_before width 0 (symbols_at coding codes s) (width + j) ≡ after.at + bytes_before width 0 (symbols_at coding codes after) j
+
+-- the values of the row before, and 0 above the first
+abbrev pub above : Picture → ℕ → ℕ → ℕ
+above p zero j = 0
+above p (suc y) j = value p y j
+
+-- the row before which the cursor stood
+abbrev pub marked_row : RunMark → ℕ
+marked_row m = m.next
+
+-- a mark of a cursor in a picture: the symbols at its place are those of its row, and the row that starts at the place before, which is
+-- read up to its own place at most, is the row above
+pub record IsMark (p : Picture) (m : RunMark) : Type 0 where
+  pub here : IsSpot p.codes m.here
+  pub whole : IsWhole p.coding m.here
+  pub shown_is : (j : ℕ) → shown (width_of p) 0 (symbols p.coding p.codes) (width_of p * m.next + j) ≡ shown (width_of p) 0 (symbols_at p.coding p.codes m.here) j
+  pub bytes_is : (j : ℕ) → bytes_before (width_of p) 0 (symbols p.coding p.codes) (width_of p * m.next + j) ≡ m.here.at + bytes_before (width_of p) 0 (symbols_at p.coding p.codes m.here) j
+  pub before : IsSpot p.codes m.before
+  pub whole_before : IsWhole p.coding m.before
+  pub before_is : m.before.at ≡ start_above p m.next
+  pub above_is : (j : ℕ) → j < width_of p → shown (width_of p) 0 (symbols_at p.coding p.codes m.before) j ≡ Value (above p m.next j)
+  pub above_bytes : bytes_before (width_of p) 0 (symbols_at p.coding p.codes m.before) (width_of p) ≤ m.here.at - m.before.at
+
+abbrev pub picture_of : Inside → Picture
+picture_of c = record { coding = c.coding; codes = c.codes.bytes.now; row_bytes = c.row_bytes; rows = c.rows }
+
+abbrev pub cursor_of : Inside → Cursor
+cursor_of c = record { picture = picture_of c; first = c.first; next = c.mark.next }
+
+-- the cursor keeps the row before, until one is refused
+pub record IsCursor (c : Inside) : Type 0 where
+  pub some : 0 < c.row_bytes
+  pub short : c.row_bytes ≤ 1024
+  pub mark : IsMark (picture_of c) c.mark
+  pub kept : c.refused ≡ false → (j : ℕ) → j < 2 * c.row_bytes → nibble c.row j ≡ above (picture_of c) c.mark.next j
+  pub place : c.refused ≡ false → c.codes.at ≡ c.mark.here.at
+  pub stopped : c.refused ≡ true → is_refused (picture_of c) c.mark.next ≡ true
+  pub reading : IsReading c.codes
+  pub least : c.mark.here.at ≤ start_of (picture_of c) c.first + c.codes.read
+  pub most : bound_of (picture_of c) c.first + c.codes.read ≤ c.codes.at

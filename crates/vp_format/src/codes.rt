@@ -1,0 +1,71 @@
+//! What a byte of run-length codes is.
+ghost use Rattle.std.specs.Prelude.{◌≡◌};
+ghost use Rattle.vp_format.specs.Codes.{code_of};
+ghost use Rattle.vp_format.specs.Cursors.{SmallCode, digit_value};
+
+/// What a byte of the codes is.
+#[derive(Clone, Copy, Debug, PartialEq, Eq)]
+pub enum Code {
+    /// A hex digit, by its value.
+    Digit(u8),
+    /// How often the next digit stands.
+    Count(u16),
+    /// A digit up to the row's end.
+    Fill(u8),
+    /// The row before once more.
+    Above,
+    Other,
+}
+
+/// Codes with the counts joined to their digit.
+#[derive(Clone, Copy, Debug, PartialEq, Eq)]
+pub enum Symbol {
+    /// A digit, so often.
+    Digits(u128, u8),
+    /// A digit up to the row's end.
+    ToEnd(u8),
+    /// The row before once more.
+    Again,
+    Refused,
+}
+
+/// What a byte is.
+#[tactic(auto, unfolding(crate::specs::Codes::code_of))]
+pub fn code_of(b: u8) -> Code
+    ensures code { result ≡ code_of b }
+    ensures small { SmallCode result }
+{
+    match b {
+        b'0'..=b'9' => Code::Digit(b - b'0'),
+        b'A'..=b'F' => Code::Digit(b - b'A' + 10),
+        b'a'..=b'f' => Code::Digit(b - b'a' + 10),
+        b'G'..=b'Y' => Code::Count(u16::from(b - b'F')),
+        b'g'..=b'z' => Code::Count(20 * u16::from(b - b'f')),
+        b',' => Code::Fill(0),
+        b'!' => Code::Fill(15),
+        b':' => Code::Above,
+        _ => Code::Other,
+    }
+}
+
+/// The values of hex digits, and 16 of all other bytes.
+const VALUES: [u8; 256] = [
+    16, 16, 16, 16, 16, 16, 16, 16, 16, 16, 16, 16, 16, 16, 16, 16, 16, 16, 16, 16, 16, 16, 16, 16,
+    16, 16, 16, 16, 16, 16, 16, 16, 16, 16, 16, 16, 16, 16, 16, 16, 16, 16, 16, 16, 16, 16, 16, 16,
+    0, 1, 2, 3, 4, 5, 6, 7, 8, 9, 16, 16, 16, 16, 16, 16, 16, 10, 11, 12, 13, 14, 15, 16, 16, 16,
+    16, 16, 16, 16, 16, 16, 16, 16, 16, 16, 16, 16, 16, 16, 16, 16, 16, 16, 16, 16, 16, 16, 16, 10,
+    11, 12, 13, 14, 15, 16, 16, 16, 16, 16, 16, 16, 16, 16, 16, 16, 16, 16, 16, 16, 16, 16, 16, 16,
+    16, 16, 16, 16, 16, 16, 16, 16, 16, 16, 16, 16, 16, 16, 16, 16, 16, 16, 16, 16, 16, 16, 16, 16,
+    16, 16, 16, 16, 16, 16, 16, 16, 16, 16, 16, 16, 16, 16, 16, 16, 16, 16, 16, 16, 16, 16, 16, 16,
+    16, 16, 16, 16, 16, 16, 16, 16, 16, 16, 16, 16, 16, 16, 16, 16, 16, 16, 16, 16, 16, 16, 16, 16,
+    16, 16, 16, 16, 16, 16, 16, 16, 16, 16, 16, 16, 16, 16, 16, 16, 16, 16, 16, 16, 16, 16, 16, 16,
+    16, 16, 16, 16, 16, 16, 16, 16, 16, 16, 16, 16, 16, 16, 16, 16, 16, 16, 16, 16, 16, 16, 16, 16,
+    16, 16, 16, 16, 16, 16, 16, 16, 16, 16, 16, 16, 16, 16,
+];
+
+/// The value of a hex digit, and 16 of another byte.
+pub fn digit_value(b: u8) -> u8
+    ensures { result ≡ digit_value (code_of b) }
+{
+    VALUES[b as usize]
+}

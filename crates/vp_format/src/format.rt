@@ -1,0 +1,121 @@
+//! The format of a label: its closed fields and the bytes that they name, in room that is taken once.
+ghost use Rattle.std.specs.Prelude.{◌≡◌, ℕ, ◌+◌, ◌<◌, ◌≤◌, ◌↔◌, List, [], ◌∷◌, ◌++◌, length, IfOk, IsOk, OnOk, OnErr, Some, slice_get, slice_set};
+
+use crate::field::{Content, Field, GraphicBox, Orientation};
+use std::alloc::{AllocError, Global};
+use std::marker::Model;
+use vp_dots::{Full, Op, Store};
+
+/// The most fields of a format.
+pub const FIELDS: usize = 1024;
+
+/// The most stored bytes of a format.
+pub const STORED: usize = 262144;
+
+/// What stands in the table where no field is held.
+const NO_FIELD: Field = Field {
+    left: 0,
+    top: 0,
+    orientation: Orientation::Normal,
+    op: Op::Black,
+    content: Content::Box(GraphicBox {
+        width: 1,
+        height: 1,
+        thickness: 1,
+    }),
+};
+
+/// At most 1,024 fields and 262,144 stored bytes.
+#[derive(Drop)]
+pub struct Format {
+    fields: Vec<Field>,
+    len: usize,
+    stored: Store<STORED>,
+}
+
+impl Model for Format {
+    ghost use Rattle.vp_format.specs.Formats.{Held, IsFormat, held_by};
+
+    ghost Value = { Held };
+
+    ghost view = { held_by };
+
+    ghost invariant = { IsFormat };
+}
+
+impl Format {
+    /// A format without fields and stored bytes: the only call that takes memory.
+    pub fn new(alloc: Global) -> Result<Self, AllocError>
+        ensures { IfOk result (λ format. format ≡ record { fields = []; stored = [] }) }
+    {
+        Ok(Format {
+            fields: vec![in alloc; NO_FIELD; FIELDS]?,
+            len: 0,
+            stored: Store::new(alloc)?,
+        })
+    }
+
+    /// Stores bytes behind those that are held; `Full`, and nothing changes, where these are more than 262,144 in
+    /// all.
+    pub fn keep(&mut self, bytes: &[u8]) -> Result<(), Full>
+        ensures room { IsOk result ↔ (length self.old.stored + length bytes.now ≤ STORED) }
+        ensures ok { OnOk result (self.new ≡ record self.old { stored = self.old.stored ++ bytes.now }) }
+        ensures err { OnErr result (self.new ≡ self.old) }
+    {
+        self.stored.append(bytes)
+    }
+
+    /// Adds a field behind those that are held; `Full`, and nothing changes, where these are 1,024.
+    pub fn close(&mut self, field: Field) -> Result<(), Full>
+        ensures room { IsOk result ↔ (length self.old.fields < FIELDS) }
+        ensures ok { OnOk result (self.new ≡ record self.old { fields = self.old.fields ++ field ∷ [] }) }
+        ensures err { OnErr result (self.new ≡ self.old) }
+    {
+        if self.len == FIELDS {
+            return Err(Full);
+        }
+        self.fields[self.len] = field;
+        self.len += 1;
+        Ok(())
+    }
+
+    /// How many fields are held.
+    pub fn len(&self) -> usize
+        ensures len { result ≡ length self.now.fields }
+        ensures few { result ≤ FIELDS }
+    {
+        self.len
+    }
+
+    /// A field, by its number from 0 in the order of closing.
+    pub fn field(&self, n: usize) -> Field
+        requires { n < length self.now.fields }
+        ensures { slice_get self.now.fields n ≡ Some result }
+    {
+        self.fields[n]
+    }
+
+    /// Puts a field in another's place, as when a band has moved a picture's mark.
+    pub fn replace(&mut self, n: usize, field: Field)
+        requires { n < length self.old.fields }
+        ensures { self.new ≡ record self.old { fields = slice_set self.old.fields n field } }
+    {
+        self.fields[n] = field;
+    }
+
+    /// The stored bytes.
+    pub fn stored(&self) -> &[u8]
+        ensures bytes { result.now ≡ self.now.stored }
+        ensures few { length self.now.stored ≤ STORED }
+    {
+        self.stored.bytes()
+    }
+
+    /// Drops all fields and stored bytes.
+    pub fn clear(&mut self)
+        ensures { self.new ≡ record { fields = []; stored = [] } }
+    {
+        self.len = 0;
+        self.stored.clear();
+    }
+}

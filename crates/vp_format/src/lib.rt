@@ -1,0 +1,27 @@
+//! The stored format of a label: its fields and their bytes, and its pictures, read row by row.
+//!
+//! - `codes`: what a byte of run-length codes is.
+//! - `reading`: the bytes of codes, handed out one after the other, and counted.
+//! - `row`: the row that starts at a place of the codes.
+//! - `rows`: the rows, one after the other.
+//! - `law`: the laws of codes.
+//! - `field`, `format`: closed fields, and the format that holds them.
+#![tactic(auto)]
+
+mod codes;
+mod field;
+mod format;
+mod law;
+mod reading;
+mod row;
+mod rows;
+#[cfg(test)]
+mod tests;
+
+pub use field::{
+    BarCode, Bars, Block, Content, Field, GraphicBox, Interpretation, Justification, Level, Mode,
+    Orientation, Picture, QrSymbol, Span, Text,
+};
+pub use format::{FIELDS, Format, STORED};
+pub use law::{binary_law, codes_law, digits_law};
+pub use rows::{Coding, RunMark, RunRows};

@@ -1,0 +1,204 @@
+//! The rows of a picture, one after the other.
+ghost use Rattle.std.specs.Prelude.{◌≡◌, ℕ, ◌+◌, ◌-◌, ◌*◌, ◌^◌, if◌then◌else◌, ◌<◌, ◌≤◌, Result, Ok, true, length};
+ghost use Rattle.vp_format.specs.Pictures.{value, nibble, answer, row_after, start_of, bound_of};
+ghost use Rattle.vp_format.specs.Cursors.{marked_row, IsMark};
+
+use crate::reading::Codes;
+use crate::row::{RowEnd, next_row};
+use std::marker::Model;
+use vp_dots::Fault;
+
+/// The most bytes of a row.
+pub const ROW: usize = 1024;
+
+/// How the codes of a picture spell its rows.
+#[derive(Clone, Copy, Debug, PartialEq, Eq)]
+pub enum Coding {
+    /// By hex digits, counts and `,` `!` `:` (^GF's A).
+    RunLength,
+    /// By the bytes of the rows (^GF's B).
+    Binary,
+}
+
+/// A place of the codes where a row starts: what is left there of a digit's run, and the next byte.
+#[derive(Clone, Copy, Debug, PartialEq, Eq)]
+pub struct Spot {
+    pub left: u128,
+    pub digit: u8,
+    pub at: usize,
+}
+
+/// Where a cursor stands before a row.
+#[derive(Clone, Copy, Debug, PartialEq, Eq)]
+pub struct RunMark {
+    /// The row.
+    next: u32,
+    /// Where it starts.
+    here: Spot,
+    /// Where the last row before it starts that isn't the one before once more: the end of the codes, a white
+    /// row, where there is none.
+    before: Spot,
+}
+
+impl RunMark {
+    /// The mark before the first row of codes of so many bytes.
+    pub fn first(len: usize) -> RunMark
+        ensures { result ≡ record { next = 0; here = record { left = 0; digit = 0; at = 0 }; before = record { left = 0; digit = 0; at = len } } }
+    {
+        let here = Spot {
+            left: 0,
+            digit: 0,
+            at: 0,
+        };
+        RunMark {
+            next: 0,
+            here,
+            before: Spot { at: len, ..here },
+        }
+    }
+
+    /// The mark behind a row that ended so at a place.
+    fn behind(self, end: RowEnd, at: usize) -> RunMark
+        requires { self.next < 2 ^ 32 - 1 }
+        ensures next { result.next ≡ self.next + 1 }
+        ensures here { result.here ≡ record { left = end.left; digit = end.digit; at = at } }
+        ensures before { result.before ≡ (if end.repeats then self.before else self.here) }
+    {
+        RunMark {
+            next: self.next + 1,
+            here: Spot {
+                left: end.left,
+                digit: end.digit,
+                at,
+            },
+            before: if end.repeats { self.before } else { self.here },
+        }
+    }
+}
+
+/// A cursor in the codes of a picture.
+#[derive(Drop)]
+pub struct RunRows<'a> {
+    codes: Codes<'a>,
+    coding: Coding,
+    row_bytes: usize,
+    rows: u32,
+    /// The row before which the cursor began.
+    first: u32,
+    mark: RunMark,
+    /// The row before, in its first bytes.
+    row: [u8; ROW],
+    refused: bool,
+}
+
+impl<'a> Model for RunRows<'a> {
+    ghost use Rattle.vp_format.specs.Pictures.{Cursor};
+    ghost use Rattle.vp_format.specs.Cursors.{IsCursor, cursor_of};
+
+    ghost Value = { Cursor };
+
+    ghost view = { cursor_of };
+
+    ghost invariant = { IsCursor };
+}
+
+impl<'a> RunRows<'a> {
+    /// A cursor before the first of so many rows of 1 to 1,024 bytes.
+    pub fn new(codes: &'a [u8], coding: Coding, row_bytes: usize, rows: u32) -> Self
+        requires some { 0 < row_bytes }
+        requires short { row_bytes ≤ 1024 }
+        ensures { result ≡ record { picture = record { coding = coding; codes = codes.now; row_bytes = row_bytes; rows = rows }; first = 0; next = 0 } }
+    {
+        RunRows {
+            codes: Codes::new(codes, 0),
+            coding,
+            row_bytes,
+            rows,
+            first: 0,
+            mark: RunMark::first(codes.len()),
+            row: [0; ROW],
+            refused: false,
+        }
+    }
+
+    /// Writes the next row, if there is one; `Graphic` where a symbol that starts in it is refused. From the
+    /// fault on each call answers it, and the bytes are any.
+    pub fn next_row(&mut self, out: &mut [u8]) -> Result<bool, Fault>
+        requires { length out.old ≡ self.old.picture.row_bytes }
+        ensures answer { result ≡ answer self.old.picture self.old.next }
+        ensures row { result ≡ Ok true → (x : ℕ) → x < 2 * length out.old → nibble out.new x ≡ value self.old.picture self.old.next x }
+        ensures next { self.new ≡ record self.old { next = row_after self.old.picture self.old.next } }
+        ensures len { length out.new ≡ length out.old }
+    {
+        if self.mark.next >= self.rows {
+            return Ok(false);
+        }
+        if self.refused {
+            return Err(Fault::Graphic);
+        }
+        let end = next_row(
+            &mut self.codes,
+            self.coding,
+            self.mark.here,
+            self.row_bytes,
+            &mut self.row,
+        );
+        match end {
+            Err(_) => {
+                self.refused = true;
+                Err(Fault::Graphic)
+            }
+            Ok(end) => {
+                out.copy_from_slice(&self.row[..self.row_bytes]);
+                self.mark = self.mark.behind(end, self.codes.at());
+                Ok(true)
+            }
+        }
+    }
+
+    /// Where the cursor stands.
+    pub fn mark(&self) -> RunMark
+        ensures is { IsMark self.now.picture result }
+        ensures row { marked_row result ≡ self.now.next }
+    {
+        self.mark
+    }
+
+    /// A cursor that goes on where one over the same codes and rows was marked.
+    pub fn resume(
+        codes: &'a [u8],
+        coding: Coding,
+        row_bytes: usize,
+        rows: u32,
+        mark: RunMark,
+    ) -> Self
+        requires some { 0 < row_bytes }
+        requires short { row_bytes ≤ 1024 }
+        requires mark { IsMark (record { coding = coding; codes = codes.now; row_bytes = row_bytes; rows = rows }) mark }
+        ensures { result ≡ record { picture = record { coding = coding; codes = codes.now; row_bytes = row_bytes; rows = rows }; first = marked_row mark; next = marked_row mark } }
+    {
+        let mut row = [0; ROW];
+        let mut bytes = Codes::new(codes, mark.before.at);
+        let _ = next_row(&mut bytes, coding, mark.before, row_bytes, &mut row);
+        bytes.go_to(mark.here.at);
+        RunRows {
+            codes: bytes,
+            coding,
+            row_bytes,
+            rows,
+            first: mark.next,
+            mark,
+            row,
+            refused: false,
+        }
+    }
+
+    /// How many bytes of the codes were read, each reading counted: at least those of the symbols that start in
+    /// the rows given, and none before the place of the last row before the first of these that isn't `:`.
+    pub fn read(&self) -> u64
+        ensures at_least { start_of self.now.picture self.now.next ≤ start_of self.now.picture self.now.first + result }
+        ensures at_most { bound_of self.now.picture self.now.first + result ≤ length self.now.picture.codes }
+    {
+        self.codes.read()
+    }
+}
