@@ -1,0 +1,2 @@
+-- Which fields meet a band, and how they are threaded.
+pub mod Threads
