@@ -1,0 +1,72 @@
+-- Ink that lies in its box.
+use Rattle.std.proofs.Common.{◌≡◌, ℕ, ◌+◌, ◌<◌, true, false, sym, ap, ◌∙◌, arith, List, [], ◌∷◌, ◌++◌, ℤ, pos, ◌+ℤ◌, ◌-ℤ◌, ◌≤ℤ◌, ◌<ℤ◌, Result, Ok, Err}
+use Rattle.std.proofs.lemmas.Int.{ints}
+use Rattle.std.proofs.lemmas.Bool.{and_parts, ltb-true, true≢false}
+use Rattle.vp_dots.specs.Painting.{paint}
+use Rattle.vp_dots.specs.declared.fault.Fault.{Fault}
+use Rattle.vp_glyph.specs.declared.Sheets.{Sheets}
+use Rattle.vp_glyph.specs.Texts.{text_inside}
+use Rattle.vp_glyph.specs.Blocks.{pitch, block_inside}
+use Rattle.vp_bars.specs.declared.bar_box.Place.{Place}
+use Rattle.vp_bars.specs.Symbols.{Linear}
+use Rattle.vp_bars.specs.Boxes.{box_inside}
+use Rattle.vp_field.specs.declared.turning.Orientation.{Orientation}
+use Rattle.vp_field.specs.declared.turning.Orientation.TheVariants.{Normal, Rotated, Inverted, BottomUp}
+use Rattle.vp_field.specs.declared.content.Content.{Content}
+use Rattle.vp_field.specs.declared.content.Content.TheVariants.{Text, Block, Box, Bars, Qr}
+use Rattle.vp_field.specs.declared.field.Field.{Field}
+use Rattle.vp_field.specs.declared.view.View.{View}
+use Rattle.vp_field.specs.Turning.{falls_y, turned_height}
+use Rattle.vp_field.specs.Frames.{frame_inside}
+use Rattle.vp_field.specs.Contents.{symbol_of, boxed_as, bars_width, bars_height, bars_dot, content_width, content_height, content_dot, orientation_of}
+use Rattle.vp_field.specs.Fields.{field_ink}
+use Rattle.vp_field.specs.Views.{seen_x, seen_y}
+use Rattle.vp_field.specs.Strokes.{Stroke, label_dot}
+use Rattle.vp_field.specs.Bands.{Shows}
+use Rattle.vp_field.specs.Laws.{InTheBox}
+use Rattle.vp_field.proofs.Turns.{dots_fall}
+use Rattle.vp_field.proofs.Folds.{label_dot-push, moved_dot}
+
+bars_inside : (sheets : Sheets) (narrow wide height : ℕ) (place : Place) (r : Result Linear Fault) (x y : ℕ) → bars_dot sheets narrow wide height place r x y ≡ true
+    → (x < bars_width sheets narrow wide height place r) × (y < bars_height sheets narrow wide height place r)
+bars_inside sheets narrow wide height place (Ok bars) x y e = box_inside (boxed_as sheets narrow wide height place bars) x y e
+bars_inside sheets narrow wide height place (Err why) x y e = absurd (true≢false (sym e))
+
+contents : (sheets : Sheets) (c : Content) (u v : ℕ) → content_dot sheets c u v ≡ true → (u < content_width sheets c) × (v < content_height sheets c)
+contents sheets (Text text w h) u v e = text_inside sheets.a text.now w h u v e
+contents sheets (Block text w h wide rows gap alignment) u v e = block_inside sheets.a text.now w h wide rows (pitch h gap) alignment u v e
+contents sheets (Box frame) u v e = frame_inside frame.w frame.h frame.t u v e
+contents sheets (Bars bytes code narrow wide height place) u v e = bars_inside sheets narrow wide height place (symbol_of code bytes.now) u v e
+contents sheets (Qr bytes level mode scale) u v e =
+    let p = and_parts _ _ (and_parts _ _ e).0 in
+    (ltb-true _ _ p.0, ltb-true _ _ p.1)
+
+in_rows : (o : Orientation) (w h u v : ℕ) (top y : ℤ) → u < w → v < h → y -ℤ top ≡ falls_y o (pos w) (pos h) (pos u) (pos v) → (top ≤ℤ y) × (y <ℤ (top +ℤ pos (turned_height o w h)))
+in_rows Normal w h u v top y a b e = (omega (arith, ints), omega (arith, ints))
+in_rows Rotated w h u v top y a b e = (omega (arith, ints), omega (arith, ints))
+in_rows Inverted w h u v top y a b e = (omega (arith, ints), omega (arith, ints))
+in_rows BottomUp w h u v top y a b e = (omega (arith, ints), omega (arith, ints))
+
+rows : (sheets : Sheets) (f : Field) (x y : ℤ) → field_ink sheets f x y ≡ true
+    → (f.top ≤ℤ y) × (y <ℤ (f.top +ℤ pos (turned_height (orientation_of f.orientation f.content) (content_width sheets f.content) (content_height sheets f.content))))
+rows sheets f x y e =
+    let o = orientation_of f.orientation f.content in
+    let w = content_width sheets f.content in
+    let h = content_height sheets f.content in
+    let d = (dots_fall o w h (content_dot sheets f.content) (x -ℤ f.left) (y -ℤ f.top)).0 e in
+    let p = contents sheets f.content d.0 d.1 d.2 in
+    in_rows o w h d.0 d.1 f.top y p.0 p.1 d.4
+
+skipped : (view : View) (first : ℕ) (s : Stroke) (band : List (List ℕ)) → ((x k : ℕ) → k < 32 → s.ink (seen_x view (pos x)) (seen_y view (pos (first + k))) ≡ false)
+    → (strokes : List Stroke) → Shows view first strokes band → Shows view first (strokes ++ s ∷ []) band
+skipped view first s band n strokes q = record {
+  rows_are = q.rows_are;
+  dots_are = λ x k l h.
+      let x' = seen_x view (pos x) in
+      let y' = seen_y view (pos (first + k)) in
+      q.dots_are x k l h ∙ moved_dot view (pos x) (pos (first + k)) strokes
+      ∙ sym (moved_dot view (pos x) (pos (first + k)) (strokes ++ s ∷ []) ∙ label_dot-push strokes s x' y' ∙ ap (λ i. paint s.op i (label_dot strokes x' y')) (n x k h));
+}
+
+pub in_the_box : InTheBox
+in_the_box = record { contents = contents; rows = rows; skipped = skipped }

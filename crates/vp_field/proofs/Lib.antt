@@ -1,0 +1,11 @@
+pub mod Places
+pub mod Turns
+pub mod Bytes
+pub mod OnWhite
+pub mod Columns
+pub mod Framed
+pub mod Celled
+pub mod Folds
+pub mod White
+pub mod Shown
+pub mod Boxed

@@ -1,0 +1,9 @@
+use Rattle.std.proofs.Common.{rules, arith, w64}
+use mir.Val.{SFits}
+use Rattle.std.proofs.lemmas.Int.{ints, to_z-of_z}
+use Rattle.vp_field.proofs.axis.Axis.flipped.Goals as goal
+
+pub returns-in-Back-clause-dots : goal.returns-in-Back-clause-dots
+returns-in-Back-clause-dots c = λ p.
+    let fits : SFits w64 c.from_end-in-Back.result = search rules in
+    rw (to_z-of_z w64 c.from_end-in-Back.result fits, c.in-Back.is) (omega (arith, ints, c.from_end-in-Back.ensures))

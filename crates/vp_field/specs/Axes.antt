@@ -1,0 +1,22 @@
+-- Lines of dots on lines of places.
+use Rattle.std.specs.Prelude.{ℕ, ℤ, pos, neg_ℤ, ◌-ℤ◌, ◌≤ℤ◌, Bool}
+use Rattle.vp_field.specs.declared.axis.Axis.{Axis}
+use Rattle.vp_field.specs.declared.axis.Axis.TheVariants.{Forward, Back}
+use Rattle.vp_field.specs.declared.axis.Lines.{Lines}
+use Rattle.vp_field.specs.declared.axis.Lines.TheVariants.{Along, Across}
+use Rattle.vp_field.specs.Places.{at_place}
+
+-- the dot of the line that lies on a place
+abbrev pub dot_on : Axis → ℤ → ℤ
+dot_on (Forward at) p = p -ℤ at
+dot_on (Back at) p = at -ℤ p
+
+-- a line begins no farther than so many places from the first
+abbrev pub IsWithin : ℕ → Axis → Type 0
+IsWithin n (Forward at) = (neg_ℤ (pos n) ≤ℤ at) × (at ≤ℤ pos n)
+IsWithin n (Back at) = (neg_ℤ (pos n) ≤ℤ at) × (at ≤ℤ pos n)
+
+-- the ink at a place, where the lines of the ink lie along its rows or across them
+abbrev pub laid : Lines → Axis → Axis → (ℕ → ℕ → Bool) → ℤ → ℤ → Bool
+laid Along columns rows ink x y = at_place (λ v. at_place (λ u. ink u v) (dot_on columns x)) (dot_on rows y)
+laid Across columns rows ink x y = at_place (λ v. at_place (λ u. ink u v) (dot_on rows y)) (dot_on columns x)

@@ -1,0 +1,15 @@
+-- The rules of fields.
+pub mod Places
+pub mod Turning
+pub mod Positions
+pub mod Standing
+pub mod Frames
+pub mod Rows
+pub mod Contents
+pub mod Views
+pub mod Strokes
+pub mod Fields
+pub mod Bands
+pub mod Laws
+-- What the code keeps.
+pub mod Axes

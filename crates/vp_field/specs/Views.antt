@@ -1,0 +1,15 @@
+-- How a label is put out (ZPL II, ^PO and ^PM).
+use Rattle.std.specs.Prelude.{ℕ, ℤ, pos, ◌-ℤ◌, Bool, if◌then◌else◌}
+use Rattle.vp_field.specs.declared.view.View.{View}
+
+-- a place of n, counted from the last one where it is counted back
+abbrev pub counted : Bool → ℕ → ℤ → ℤ
+counted back n p = if back then pos n -ℤ pos 1 -ℤ p else p
+
+-- the place of the label that comes to column x and row y: ^PM mirrors left and right, ^PO I turns by 180
+-- degrees
+abbrev pub seen_x : View → ℤ → ℤ
+seen_x view x = counted view.inverted view.width (counted view.mirrored view.width x)
+
+abbrev pub seen_y : View → ℤ → ℤ
+seen_y view y = counted view.inverted view.height y

@@ -1,0 +1,89 @@
+//! Where a line of dots lies on a line of places.
+ghost use Rattle.std.specs.Prelude.{◌≡◌, ℕ, ◌+◌, ◌^◌, ◌<◌, ◌≤◌, Bool, true, false, ℤ, pos, neg_ℤ, ◌-ℤ◌, ◌≤ℤ◌, option_map, unwrap_or};
+ghost use Rattle.vp_field.specs.Places.{at_place};
+ghost use Rattle.vp_field.specs.Views.{counted};
+ghost use Rattle.vp_field.specs.Axes.{dot_on, IsWithin};
+
+/// Where a line of dots lies on a line of places: its first dot on a place, and the others behind it or
+/// before it.
+#[derive(Clone, Copy, Debug, PartialEq, Eq)]
+pub enum Axis {
+    Forward(i64),
+    Back(i64),
+}
+
+/// How the lines of ink lie on a label.
+#[derive(Clone, Copy, Debug, PartialEq, Eq)]
+pub enum Lines {
+    /// Along its rows.
+    Along,
+    /// Along its columns.
+    Across,
+}
+
+/// The place that is as far from the last of so many as this one is from the first.
+fn from_end(at: i64, size: u32) -> i64
+    requires low { neg_ℤ (pos (2 ^ 41)) ≤ℤ at }
+    requires high { at ≤ℤ pos (2 ^ 41) }
+    ensures { result ≡ pos size -ℤ pos 1 -ℤ at }
+{
+    i64::from(size) - 1 - at
+}
+
+impl Axis {
+    /// The same line on places that are counted from the other end of so many.
+    pub fn flipped(self, size: u32) -> Axis
+        requires { IsWithin (2 ^ 41) self }
+        ensures dots { (p : ℤ) → dot_on result p ≡ dot_on self (pos size -ℤ pos 1 -ℤ p) }
+        ensures near { IsWithin (2 ^ 40) self → IsWithin (2 ^ 40 + 2 ^ 32) result }
+        ensures far { IsWithin (2 ^ 40 + 2 ^ 32) self → IsWithin (2 ^ 41) result }
+    {
+        match self {
+            Axis::Forward(at) => Axis::Back(from_end(at, size)),
+            Axis::Back(at) => Axis::Forward(from_end(at, size)),
+        }
+    }
+
+    /// The same line, counted back where that is asked for.
+    pub fn counted(self, back: bool, size: u32) -> Axis
+        requires { IsWithin (2 ^ 41) self }
+        ensures dots { (p : ℤ) → dot_on result p ≡ dot_on self (counted back size p) }
+        ensures near { IsWithin (2 ^ 40) self → IsWithin (2 ^ 40 + 2 ^ 32) result }
+        ensures far { IsWithin (2 ^ 40 + 2 ^ 32) self → IsWithin (2 ^ 41) result }
+    {
+        if back { self.flipped(size) } else { self }
+    }
+
+    /// The dot that lies on a place, if there is one.
+    pub fn dot_on(self, place: u64) -> Option<u32>
+        ensures { (line : ℕ → Bool) → ((u : ℕ) → line u ≡ true → u < 2 ^ 32) →
+            at_place line (dot_on self (pos place)) ≡ unwrap_or (option_map line result) false }
+    {
+        let dot = match self {
+            Axis::Forward(at) if at >= 0 => place.checked_sub(at.unsigned_abs())?,
+            Axis::Forward(at) => place.checked_add(at.unsigned_abs())?,
+            Axis::Back(at) if at >= 0 => at.unsigned_abs().checked_sub(place)?,
+            Axis::Back(_) => return None,
+        };
+        u32::try_from(dot).ok()
+    }
+
+    /// The first place on which one of the first `size` dots lies, and the one behind the last.
+    pub fn span(self, size: u32) -> (u64, u64)
+        ensures before { (line : ℕ → Bool) → ((u : ℕ) → line u ≡ true → u < size) → (p : ℕ)
+            → p < result.0 → at_place line (dot_on self (pos p)) ≡ false }
+        ensures behind { (line : ℕ → Bool) → ((u : ℕ) → line u ≡ true → u < size) → (p : ℕ)
+            → result.1 ≤ p → at_place line (dot_on self (pos p)) ≡ false }
+    {
+        let size = u64::from(size);
+        match self {
+            Axis::Forward(at) if at >= 0 => (at.unsigned_abs(), at.unsigned_abs() + size),
+            Axis::Forward(at) => (0, size.saturating_sub(at.unsigned_abs())),
+            Axis::Back(at) if at >= 0 => {
+                let behind = at.unsigned_abs() + 1;
+                (behind.saturating_sub(size), behind)
+            }
+            Axis::Back(_) => (0, 0),
+        }
+    }
+}

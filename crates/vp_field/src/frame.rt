@@ -1,0 +1,66 @@
+//! Boxes.
+ghost use Rattle.std.specs.Prelude.{◌≡◌, ℕ, ◌-◌, ◌<◌, ◌||◌, true, false};
+ghost use Rattle.vp_dots.specs.Dots.{span};
+ghost use Rattle.vp_field.specs.Frames.{frame_dot, frame_inside};
+
+use vp_dots::{Ink, Op, fill_moved};
+
+/// ^GB: a box of w by h dots whose edges are t dots thick.
+#[derive(Clone, Copy, Debug, PartialEq, Eq)]
+pub struct Frame {
+    pub w: u32,
+    pub h: u32,
+    pub t: u32,
+}
+
+impl Frame {
+    /// Whether line y, which is one of the box's, has ink from its first dot to its last, and not at its
+    /// sides alone.
+    #[tactic(auto, unfolding(crate::specs::Frames::frame_dot))]
+    fn is_solid(&self, y: u32) -> bool
+        requires { y < self.now.h }
+        ensures solid { result ≡ true → (x : ℕ) → frame_dot self.now.w self.now.h self.now.t x y
+            ≡ span 0 self.now.w x }
+        ensures sides { result ≡ false → (x : ℕ) → frame_dot self.now.w self.now.h self.now.t x y
+            ≡ (span 0 self.now.t x || span (self.now.w - self.now.t) self.now.w x) }
+        ensures apart { result ≡ false → self.now.t < self.now.w - self.now.t }
+    {
+        y < self.t || y >= self.h.saturating_sub(self.t) || self.w.saturating_sub(self.t) <= self.t
+    }
+}
+
+impl Ink for Frame {
+    ghost width = { λ s. s.w };
+
+    ghost height = { λ s. s.h };
+
+    ghost ink_at = { λ s x y. frame_dot s.w s.h s.t x y };
+
+    ghost outside = { λ s x y h. frame_inside s.w s.h s.t x y h };
+
+    fn size(&self) -> (u32, u32) {
+        (self.w, self.h)
+    }
+
+    #[tactic(auto, unfolding(crate::specs::Frames::frame_dot))]
+    fn ink(&self, x: u32, y: u32) -> bool {
+        x < self.w
+            && y < self.h
+            && (x < self.t
+                || x >= self.w.saturating_sub(self.t)
+                || y < self.t
+                || y >= self.h.saturating_sub(self.t))
+    }
+
+    fn paint_row(&self, y: u32, op: Op, at: i64, row: &mut [u8]) {
+        if y >= self.h {
+            return;
+        }
+        if self.is_solid(y) {
+            fill_moved(op, at, 0, self.w, row);
+            return;
+        }
+        fill_moved(op, at, 0, self.t, row);
+        fill_moved(op, at, self.w.saturating_sub(self.t), self.w, row);
+    }
+}

@@ -1,0 +1,77 @@
+//! How a box of dots lies on a label.
+ghost use Rattle.std.specs.Prelude.{◌≡◌, ℕ, ◌+◌, ◌-◌, ◌^◌, Bool, ℤ, pos, neg_ℤ, ◌-ℤ◌, ◌+ℤ◌, ◌≤ℤ◌};
+ghost use Rattle.vp_field.specs.Turning.{turned};
+ghost use Rattle.vp_field.specs.Views.{seen_x, seen_y};
+ghost use Rattle.vp_field.specs.Axes.{laid, IsWithin, dot_on};
+
+use crate::axis::{Axis, Lines};
+use crate::turning::Orientation;
+use crate::view::View;
+
+/// How a box of dots lies on a label: which way its lines run, and where their dots fall.
+#[derive(Clone, Copy, Debug, PartialEq, Eq)]
+pub struct Laid {
+    pub lines: Lines,
+    pub columns: Axis,
+    pub rows: Axis,
+}
+
+/// The last of so many places from one on.
+fn last(from: i64, size: u32) -> i64
+    requires low { neg_ℤ (pos (2 ^ 32)) ≤ℤ from }
+    requires high { from ≤ℤ pos (2 ^ 32) }
+    ensures { result ≡ from +ℤ pos size -ℤ pos 1 }
+{
+    from + i64::from(size) - 1
+}
+
+impl Laid {
+    /// A box of w by h that is turned and stands at a place of the label.
+    pub fn turned(orientation: Orientation, w: u32, h: u32, left: i64, top: i64) -> Laid
+        requires left_low { neg_ℤ (pos (2 ^ 32)) ≤ℤ left }
+        requires left_high { left ≤ℤ pos (2 ^ 32) }
+        requires top_low { neg_ℤ (pos (2 ^ 32)) ≤ℤ top }
+        requires top_high { top ≤ℤ pos (2 ^ 32) }
+        ensures ink { (ink : ℕ → ℕ → Bool) (x y : ℤ)
+            → laid result.lines result.columns result.rows ink x y
+            ≡ turned orientation w h ink (x -ℤ left) (y -ℤ top) }
+        ensures columns { IsWithin (2 ^ 40) result.columns }
+        ensures rows { IsWithin (2 ^ 40) result.rows }
+    {
+        let (lines, columns, rows) = match orientation {
+            Orientation::Normal => (Lines::Along, Axis::Forward(left), Axis::Forward(top)),
+            Orientation::Rotated => (Lines::Across, Axis::Back(last(left, h)), Axis::Forward(top)),
+            Orientation::Inverted => (
+                Lines::Along,
+                Axis::Back(last(left, w)),
+                Axis::Back(last(top, h)),
+            ),
+            Orientation::BottomUp => (Lines::Across, Axis::Forward(left), Axis::Back(last(top, w))),
+        };
+        Laid {
+            lines,
+            columns,
+            rows,
+        }
+    }
+
+    /// The same on the label as it is put out.
+    pub fn viewed(self, view: View) -> Laid
+        requires columns { IsWithin (2 ^ 40) self.columns }
+        requires rows { IsWithin (2 ^ 40) self.rows }
+        ensures ink { (ink : ℕ → ℕ → Bool) (x y : ℤ)
+            → laid result.lines result.columns result.rows ink x y
+            ≡ laid self.lines self.columns self.rows ink (seen_x view x) (seen_y view y) }
+        ensures columns { IsWithin (2 ^ 41) result.columns }
+        ensures rows { IsWithin (2 ^ 41) result.rows }
+    {
+        let turned = self.columns.counted(view.inverted, view.width);
+        let columns = turned.counted(view.mirrored, view.width);
+        let rows = self.rows.counted(view.inverted, view.height);
+        Laid {
+            lines: self.lines,
+            columns,
+            rows,
+        }
+    }
+}

@@ -1,0 +1,98 @@
+//! One line of ink, painted on a row of a band or on a column of it.
+ghost use Rattle.std.specs.Prelude.{◌≡◌, ℕ, ◌+◌, ◌-◌, ◌*◌, ◌^◌, ◌<◌, ◌≤◌, ◌&&◌, ℤ, pos, ◌-ℤ◌, neg_ℤ, ◌≤ℤ◌, nat_eq, nat_lt, length};
+ghost use Rattle.vp_dots.specs.Dots.{dot, dots};
+ghost use Rattle.vp_dots.specs.Painting.{Painted};
+ghost use Rattle.vp_dots.specs.Places.{RowsPainted};
+ghost use Rattle.vp_field.specs.Places.{at_place};
+ghost use Rattle.vp_field.specs.Axes.{dot_on, IsWithin};
+
+use crate::axis::Axis;
+use vp_dots::{Band, Ink, Op, clear_into, dot_of, or_into, paint_dot, xor_into};
+
+/// Turns a row of dots end for end.
+fn reverse(line: &mut [u8])
+    ensures len { length line.new ≡ length line.old }
+    ensures turned { (d : ℕ) → dot line.new d ≡ (nat_lt d (dots line.old)
+        && dot line.old (dots line.old - 1 - d)) }
+{
+    line.reverse();
+    for byte in line.iter_mut() {
+        *byte = byte.reverse_bits();
+    }
+}
+
+/// The offset of a line that begins at a place, on a row that begins at another.
+fn offset(at: i64, from: u32) -> i64
+    requires low { neg_ℤ (pos (2 ^ 41)) ≤ℤ at }
+    requires high { at ≤ℤ pos (2 ^ 41) }
+    ensures { result ≡ at -ℤ pos from }
+{
+    at - i64::from(from)
+}
+
+/// The same on a row of so many bytes that is read from its end.
+fn offset_from_end(at: i64, from: u32, bytes: usize) -> i64
+    requires low { neg_ℤ (pos (2 ^ 41)) ≤ℤ at }
+    requires high { at ≤ℤ pos (2 ^ 41) }
+    requires few { bytes ≤ 156 }
+    ensures { result ≡ pos from -ℤ pos 1 -ℤ at -ℤ (neg_ℤ (pos (8 * bytes))) }
+{
+    i64::from(from) - 1 - at + 8 * bytes as i64
+}
+
+/// What line v of the ink has on the places of N bytes, the first of which is `from`.
+pub fn drawn<I: Ink, const N: usize>(ink: &I, v: u32, axis: Axis, from: u32) -> [u8; N]
+    requires near { IsWithin (2 ^ 41) axis }
+    requires few { N ≤ 156 }
+    ensures { (p : ℕ) → p < 8 * N → dot result p ≡ at_place (λ u. I.ink_at ink.now u v)
+        (dot_on axis (pos (from + p))) }
+{
+    let mut line = [0u8; N];
+    match axis {
+        Axis::Forward(at) => ink.paint_row(v, Op::Black, offset(at, from), &mut line),
+        Axis::Back(at) => {
+            let at = offset_from_end(at, from, N);
+            ink.paint_row(v, Op::Black, at, &mut line);
+            reverse(&mut line);
+        }
+    }
+    line
+}
+
+/// Applies the operation to the dots of the row where the line is black.
+fn paint_over(op: Op, line: &[u8], row: &mut [u8])
+    ensures { Painted op (dot line.now) row.old row.new }
+{
+    match op {
+        Op::Black => or_into(line, 0, row),
+        Op::White => clear_into(line, 0, row),
+        Op::Flip => xor_into(line, 0, row),
+    }
+}
+
+/// Applies the operation to the dots of a row of a label on which line v of the ink has ink.
+pub fn paint_line<I: Ink>(ink: &I, v: u32, op: Op, axis: Axis, row: &mut [u8])
+    requires near { IsWithin (2 ^ 41) axis }
+    requires row { length row.old ≡ 156 }
+    ensures { Painted op (λ p. at_place (λ u. I.ink_at ink.now u v) (dot_on axis (pos p))) row.old row.new }
+{
+    match axis {
+        Axis::Forward(at) => ink.paint_row(v, op, at, row),
+        Axis::Back(_) => {
+            let line = drawn::<I, 156>(ink, v, axis, 0);
+            paint_over(op, &line, row);
+        }
+    }
+}
+
+/// Applies the operation to the dots of a column where the line, which begins on the band's first row, is
+/// black.
+pub fn lay_column(op: Op, line: &[u8; 4], x: u64, band: &mut Band<156, 32>)
+    ensures { RowsPainted 32 op (λ d k. nat_eq d x && dot line.now k) band.old band.new }
+{
+    for k in 0..32usize {
+        if dot_of(line, k as u128) {
+            paint_dot(op, x as u128, band.row_mut(k));
+        }
+    }
+}

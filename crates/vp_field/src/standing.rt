@@ -1,0 +1,36 @@
+//! Ink that stands turned on a label, painted on a band of the label as it is put out.
+ghost use Rattle.std.specs.Prelude.{◌≡◌, ℕ, ◌+◌, pos};
+ghost use Rattle.vp_dots.specs.Places.{RowsPainted};
+ghost use Rattle.vp_field.specs.Standing.{standing, IsNear};
+ghost use Rattle.vp_field.specs.Views.{seen_x, seen_y};
+
+use crate::laid::Laid;
+use crate::paint::paint_laid;
+use crate::turning::Orientation;
+use crate::view::View;
+use vp_dots::{Band, Ink, Op};
+
+/// How ink stands on a label, and what it does to the dots there: the upper left corner of its turned box
+/// in dots
+/// from the label's, which may lie off the label.
+#[derive(Clone, Copy)]
+pub struct Standing {
+    pub op: Op,
+    pub left: i64,
+    pub top: i64,
+    pub orientation: Orientation,
+    pub view: View,
+}
+
+/// Applies the operation to the dots of a band, whose first row is row `first` of the label as it is put out,
+/// where ink that stands on the label has ink.
+pub fn paint_standing<I: Ink>(ink: &I, on: Standing, first: u32, band: &mut Band<156, 32>)
+    requires { IsNear on.left on.top }
+    ensures { RowsPainted 32 on.op (λ x k. standing on.left on.top on.orientation (I.width ink.now)
+        (I.height ink.now) (I.ink_at ink.now) (seen_x on.view (pos x))
+        (seen_y on.view (pos (first + k)))) band.old band.new }
+{
+    let (w, h) = ink.size();
+    let laid = Laid::turned(on.orientation, w, h, on.left, on.top).viewed(on.view);
+    paint_laid(ink, on.op, laid.lines, laid.columns, laid.rows, first, band);
+}
