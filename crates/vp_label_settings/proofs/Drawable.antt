@@ -1,0 +1,145 @@
+-- What is closed can be drawn.
+use Rattle.std.proofs.Common.{◌≡◌, ◌≤◌, ◌+◌, ◌-◌, ◌*◌, ◌/◌, refl, length, ℕ, Bool, true, false, Option, Some, None, List, [], ◌∷◌, arith, max, option_map, if◌then◌else◌}
+use Rattle.std.proofs.lemmas.Nat.{mul-le}
+use Rattle.std.specs.Prelude.{IfSome}
+use Rattle.vp_zpl.specs.declared.item.LineSpace.{LineSpace}
+use Rattle.vp_zpl.specs.declared.item.LineSpace.TheVariants.{Added, Deleted}
+use Rattle.vp_zpl.specs.declared.item.Colour.{Colour}
+use Rattle.vp_zpl.specs.declared.item.GraphicFormat.{GraphicFormat}
+use Rattle.vp_zpl.specs.declared.item.Command.{Command}
+use Rattle.vp_zpl.specs.declared.item.Command.TheVariants.{FormatEnd, FieldSeparator, Code39, Ean13, Code128, QrCode, FieldBlock as SetBlock, FieldData, GraphicBox as DrawBox, Graphic}
+use Rattle.vp_zpl.specs.Items.{Item}
+use Rattle.vp_label_settings.specs.declared.settings.Settings.{Settings}
+use Rattle.vp_label_settings.specs.declared.choice.FontChoice.{FontChoice}
+use Rattle.vp_label_settings.specs.declared.choice.SymbolChoice.{SymbolChoice}
+use Rattle.vp_label_settings.specs.declared.choice.SymbolChoice.TheVariants as asked
+use Rattle.vp_label_settings.specs.declared.choice.FieldBlock.{FieldBlock}
+use Rattle.vp_label_settings.specs.declared.graphic.Coding.{Coding}
+use Rattle.vp_label_settings.specs.declared.parts.OpenContent.{OpenContent}
+use Rattle.vp_label_settings.specs.declared.parts.OpenContent.TheVariants as opened
+use Rattle.vp_label_settings.specs.declared.parts.FieldParts.{FieldParts}
+use Rattle.vp_label_settings.specs.declared.field.Stored.{Stored}
+use Rattle.vp_label_settings.specs.Ranges.{ranged}
+use Rattle.vp_label_settings.specs.Formats.{is_open, stored}
+use Rattle.vp_label_settings.specs.Settings.{settings_of}
+use Rattle.vp_label_settings.specs.Choices.{line_space}
+use Rattle.vp_label_settings.specs.Graphics.{side_of, box_with, has_rows, picture_coding, headed, picture_head}
+use Rattle.vp_label_settings.specs.Parts.{symbol_by, symbol, block_by, block, picture_behind, content_by, content, parts_of}
+use Rattle.vp_label_settings.specs.Closing.{text_size, data_content, field_of, closing}
+use Rattle.vp_label_settings.specs.Laws.{Within, IsSize, AreInRange, IsSpace, IsBlockIf, IsFrame, IsPicture, IsDrawable}
+use Rattle.vp_label_settings.proofs.InRange.{acting-keeps, ranged-within, size_given-fits, settings-fit}
+
+abbrev pub IsSymbolIf : Option SymbolChoice → Type 0
+IsSymbolIf None = Unit {0}
+IsSymbolIf (Some (asked.Bars b)) = Unit {0}
+IsSymbolIf (Some (asked.Qr model dots)) = Within 1 2 model × Within 1 10 dots
+
+symbol-step : (command : Command) (old : Option SymbolChoice) → IsSymbolIf old → IsSymbolIf (symbol_by command old)
+symbol-step (Code39 o c h t a) old fits = tt
+symbol-step (Ean13 o h t a) old fits = tt
+symbol-step (Code128 o h t a m) old fits = tt
+symbol-step (QrCode model dots) old fits = (
+  ranged-within 1 2 2 model (omega arith) (record { least = omega arith; most = omega arith }),
+  ranged-within 1 10 2 dots (omega arith) (record { least = omega arith; most = omega arith }),
+)
+symbol-step FieldSeparator old fits = tt
+symbol-step FormatEnd old fits = tt
+symbol-step _ old fits = fits
+
+symbol-fits : (before : List Item) → IsSymbolIf (symbol before)
+symbol-fits [] = tt
+symbol-fits (item ∷ before) = acting-keeps IsSymbolIf symbol_by symbol-step (is_open before) item (symbol before) (symbol-fits before)
+
+space-fits : (s : Option LineSpace) → IsSpace (line_space s)
+space-fits None = omega arith
+space-fits (Some (Added dots)) = omega arith
+space-fits (Some (Deleted dots)) = omega arith
+
+block-step : (command : Command) (old : Option FieldBlock) → IsBlockIf old → IsBlockIf (block_by command old)
+block-step (SetBlock w l s j) old fits = record {
+  width = let r = ranged-within 0 32000 0 w (omega arith) (record { least = omega arith; most = omega arith }) in r.most;
+  lines = ranged-within 1 9999 1 l (omega arith) (record { least = omega arith; most = omega arith });
+  space = space-fits s;
+}
+block-step FieldSeparator old fits = tt
+block-step FormatEnd old fits = tt
+block-step _ old fits = fits
+
+block-fits : (before : List Item) → IsBlockIf (block before)
+block-fits [] = tt
+block-fits (item ∷ before) = acting-keeps IsBlockIf block_by block-step (is_open before) item (block before) (block-fits before)
+
+abbrev pub IsContentIf : Option OpenContent → Type 0
+IsContentIf None = Unit {0}
+IsContentIf (Some (opened.Data start)) = Unit {0}
+IsContentIf (Some (opened.Frame b)) = IsFrame b
+IsContentIf (Some (opened.Picture head start)) = IsPicture head
+
+raised-within : (t n : ℕ) → Within 1 32000 t → Within 1 32000 n → Within t 32000 (max t n)
+raised-within t n t_fits n_fits = record { least = omega arith; most = omega (arith, t_fits.most, n_fits.most) }
+
+side-fits : (side : Option ℕ) (t : ℕ) → Within 1 32000 t → Within t 32000 (side_of side t)
+side-fits side t fits = raised-within t (ranged 1 32000 t side) fits (ranged-within 1 32000 t side (omega arith) fits)
+
+box-fits : (t : ℕ) (w h : Option ℕ) (c : Option Colour) → Within 1 32000 t → IsFrame (box_with t w h c)
+box-fits t w h c fits = record { thickness = fits; width = side-fits w t fits; height = side-fits h t fits }
+
+row-fits : (bytes row : ℕ) → has_rows bytes row ≡ true → Within 1 1024 row
+row-fits bytes row so = record { least = grind (arith, so); most = grind (arith, so) }
+
+headed-fits : (ok : Bool) (coding : Option Coding) (bytes row start : ℕ) → has_rows bytes row ≡ ok →
+    IsContentIf (option_map (picture_behind start) (if ok then headed coding bytes row else None))
+headed-fits false coding bytes row start so = tt
+headed-fits true None bytes row start so = tt
+headed-fits true (Some coding) bytes row start so = record { row_bytes = row-fits bytes row so }
+
+picture-fits : (format : Option GraphicFormat) (sent bytes row : Option ℕ) (start : ℕ) →
+    IsContentIf (option_map (picture_behind start) (picture_head format sent bytes row))
+picture-fits format sent None row start = tt
+picture-fits format sent (Some bytes) None start = tt
+picture-fits format sent (Some bytes) (Some row) start =
+    headed-fits (has_rows bytes row) (picture_coding format sent bytes) bytes row start refl
+
+content-step : (start : ℕ) (command : Command) (old : Option OpenContent) → IsContentIf old → IsContentIf (content_by start command old)
+content-step start FieldData old fits = tt
+content-step start (DrawBox w h t c) old fits =
+    box-fits (ranged 1 32000 1 t) w h c (ranged-within 1 32000 1 t (omega arith) (record { least = omega arith; most = omega arith }))
+content-step start (Graphic format sent bytes row) old fits = picture-fits format sent bytes row start
+content-step start FieldSeparator old fits = tt
+content-step start FormatEnd old fits = tt
+content-step start _ old fits = fits
+
+content-fits : (before : List Item) → IsContentIf (content before)
+content-fits [] = tt
+content-fits (item ∷ before) =
+    acting-keeps IsContentIf (content_by (length (stored before))) (content-step (length (stored before))) (is_open before) item (content before) (content-fits before)
+
+text-fits : (s : Settings) (font : Option FontChoice) → IsSize s.default_font → IsSize (text_size s font)
+text-fits s None fits = fits
+text-fits s (Some font) fits = size_given-fits font.height font.width s.default_font fits
+
+wide-within : (n r : ℕ) → n ≤ 10 → r ≤ 30 → Within (n + 1) 30 (max (n + 1) (n * r / 10))
+wide-within n r n_most r_most = record { least = omega arith; most = omega (arith, mul-le n r 10 30 n_most r_most) }
+
+data-fits : (s : Settings) (p : FieldParts) (bytes : Stored) (symbol : Option SymbolChoice) → AreInRange s → IsSymbolIf symbol → IsBlockIf p.block →
+    IsDrawable (data_content s p symbol bytes)
+data-fits s p bytes None fits symbol_fits block_fits = (text-fits s p.font fits.default_font, block_fits)
+data-fits s p bytes (Some (asked.Bars b)) fits symbol_fits block_fits = (
+  fits.bar_defaults.module_dots,
+  wide-within s.bar_defaults.module_dots s.bar_defaults.ratio_tenths fits.bar_defaults.module_dots.most fits.bar_defaults.ratio_tenths.most,
+  ranged-within 1 8000 s.bar_defaults.height b.height (omega arith) fits.bar_defaults.height,
+)
+data-fits s p bytes (Some (asked.Qr model dots)) fits symbol_fits block_fits = symbol_fits
+
+closed-fits : (s : Settings) (p : FieldParts) (end : ℕ) (content : Option OpenContent) → AreInRange s → IsSymbolIf p.symbol → IsBlockIf p.block →
+    IsContentIf content → IfSome (option_map (field_of s p end) content) (λ field. IsDrawable field.content)
+closed-fits s p end None fits symbol_fits block_fits content_fits = tt
+closed-fits s p end (Some (opened.Data start)) fits symbol_fits block_fits content_fits =
+    data-fits s p (record { start = start; length = end - start }) p.symbol fits symbol_fits block_fits
+closed-fits s p end (Some (opened.Frame b)) fits symbol_fits block_fits content_fits = content_fits
+closed-fits s p end (Some (opened.Picture head start)) fits symbol_fits block_fits content_fits = content_fits
+
+pub closing-fits : (before : List Item) → IfSome (closing before) (λ field. IsDrawable field.content)
+closing-fits before =
+    closed-fits (settings_of before) (parts_of before) (length (stored before)) (content before) (settings-fit before)
+    (symbol-fits before) (block-fits before) (content-fits before)

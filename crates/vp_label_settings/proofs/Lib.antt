@@ -1,0 +1,4 @@
+pub mod Storing
+pub mod InRange
+pub mod Drawable
+pub mod Idle

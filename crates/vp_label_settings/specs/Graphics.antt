@@ -1,0 +1,47 @@
+-- Boxes, and the heads of pictures.
+use Rattle.std.specs.Prelude.{ℕ, ◌/◌, ◌==◌, ◌&&◌, nat_le, Bool, Option, Some, None, unwrap_or, max, if◌then◌else◌}
+use Rattle.vp_zpl.specs.declared.item.Colour.{Colour}
+use Rattle.vp_zpl.specs.declared.item.Colour.TheVariants.{Black}
+use Rattle.vp_zpl.specs.declared.item.GraphicFormat.{GraphicFormat}
+use Rattle.vp_zpl.specs.declared.item.GraphicFormat.TheVariants as formats
+use Rattle.vp_label_settings.specs.declared.graphic.GraphicBox.{GraphicBox}
+use Rattle.vp_label_settings.specs.declared.graphic.Coding.{Coding}
+use Rattle.vp_label_settings.specs.declared.graphic.Coding.TheVariants as codings
+use Rattle.vp_label_settings.specs.declared.graphic.PictureHead.{PictureHead}
+use Rattle.vp_label_settings.specs.Ranges.{ranged}
+
+-- ^GB: a box of lines t thick; a width or height that is missing is t, and one below it is raised to t
+abbrev pub side_of : Option ℕ → ℕ → ℕ
+side_of side t = max t (ranged 1 32000 t side)
+
+abbrev pub box_with : ℕ → Option ℕ → Option ℕ → Option Colour → GraphicBox
+box_with t width height colour =
+    record { width = side_of width t; height = side_of height t; thickness = t; colour = unwrap_or colour Black }
+
+abbrev pub box_of : Option ℕ → Option ℕ → Option ℕ → Option Colour → GraphicBox
+box_of width height thickness colour = box_with (ranged 1 32000 1 thickness) width height colour
+
+-- ^GF: a row has 1 to 1,024 bytes, and there is at least one
+abbrev pub has_rows : ℕ → ℕ → Bool
+has_rows bytes row = nat_le 1 row && nat_le row 1024 && nat_le row bytes
+
+-- bytes that are sent as they are have to be as many as the picture's
+abbrev pub binary_coding : Option ℕ → ℕ → Option Coding
+binary_coding None bytes = None
+binary_coding (Some sent) bytes = if sent == bytes then Some codings.Binary else None
+
+abbrev pub picture_coding : Option GraphicFormat → Option ℕ → ℕ → Option Coding
+picture_coding None sent bytes = Some codings.Ascii
+picture_coding (Some formats.Ascii) sent bytes = Some codings.Ascii
+picture_coding (Some formats.Binary) sent bytes = binary_coding sent bytes
+picture_coding (Some formats.Other) sent bytes = None
+
+abbrev pub headed : Option Coding → ℕ → ℕ → Option PictureHead
+headed None bytes row = None
+headed (Some coding) bytes row = Some (record { coding = coding; row_bytes = row; rows = bytes / row })
+
+-- the head of a picture of so many bytes in rows of so many, or none
+abbrev pub picture_head : Option GraphicFormat → Option ℕ → Option ℕ → Option ℕ → Option PictureHead
+picture_head format sent (Some bytes) (Some row) =
+    if has_rows bytes row then headed (picture_coding format sent bytes) bytes row else None
+picture_head format sent _ _ = None

@@ -1,0 +1,117 @@
+-- The parts of the open field, by looking back: each is what the last command that names it says, and ^FS and ^XZ forget them all.
+use Rattle.std.specs.Prelude.{ℕ, Bool, true, false, Option, Some, None, option_map, unwrap_or, List, [], ◌∷◌, length}
+use Rattle.vp_zpl.specs.declared.item.Command.{Command}
+use Rattle.vp_zpl.specs.declared.item.Command.TheVariants.{FormatEnd, FieldSeparator, FieldOrigin, FieldTypeset, Font, Code39, Ean13, Code128, QrCode, ReversePrint, FieldBlock as SetBlock, FieldData, GraphicBox as DrawBox, Graphic}
+use Rattle.vp_zpl.specs.Items.{Item}
+use Rattle.vp_label_settings.specs.declared.choice.BarKind.TheVariants as kinds
+use Rattle.vp_label_settings.specs.declared.choice.FontChoice.{FontChoice}
+use Rattle.vp_label_settings.specs.declared.choice.SymbolChoice.{SymbolChoice}
+use Rattle.vp_label_settings.specs.declared.choice.FieldBlock.{FieldBlock}
+use Rattle.vp_label_settings.specs.declared.graphic.PictureHead.{PictureHead}
+use Rattle.vp_label_settings.specs.declared.parts.Origin.{Origin}
+use Rattle.vp_label_settings.specs.declared.parts.Origin.TheVariants.{Corner, Baseline}
+use Rattle.vp_label_settings.specs.declared.parts.OpenContent.{OpenContent}
+use Rattle.vp_label_settings.specs.declared.parts.OpenContent.TheVariants as contents
+use Rattle.vp_label_settings.specs.declared.parts.FieldParts.{FieldParts}
+use Rattle.vp_label_settings.specs.Formats.{is_open, acting, stored}
+use Rattle.vp_label_settings.specs.Settings.{coordinate}
+use Rattle.vp_label_settings.specs.Choices.{bar_choice, qr_choice, block_of}
+use Rattle.vp_label_settings.specs.Graphics.{box_of, picture_head}
+
+-- ^FO, ^FT: where the field stands, counted from the home
+abbrev pub origin_by : Command → Origin → Origin
+origin_by (FieldOrigin x y) old = Corner (coordinate x) (coordinate y)
+origin_by (FieldTypeset x y) old = Baseline (coordinate x) (coordinate y)
+origin_by FieldSeparator old = Corner 0 0
+origin_by FormatEnd old = Corner 0 0
+origin_by _ old = old
+
+abbrev pub origin : List Item → Origin
+origin [] = Corner 0 0
+origin (item ∷ before) = acting origin_by (is_open before) item (origin before)
+
+-- ^A: the font
+abbrev pub font_by : Command → Option FontChoice → Option FontChoice
+font_by (Font orientation height width) old = Some (record { orientation = orientation; height = height; width = width })
+font_by FieldSeparator old = None
+font_by FormatEnd old = None
+font_by _ old = old
+
+abbrev pub font : List Item → Option FontChoice
+font [] = None
+font (item ∷ before) = acting font_by (is_open before) item (font before)
+
+-- ^B3, ^BE, ^BC, ^BQ: the symbol that data are drawn as
+abbrev pub symbol_by : Command → Option SymbolChoice → Option SymbolChoice
+symbol_by (Code39 orientation check height text above) old =
+    Some (bar_choice (kinds.Code39 (unwrap_or check false)) orientation height text above)
+symbol_by (Ean13 orientation height text above) old = Some (bar_choice kinds.Ean13 orientation height text above)
+symbol_by (Code128 orientation height text above mode) old = Some (bar_choice (kinds.Code128 mode) orientation height text above)
+symbol_by (QrCode model dots) old = Some (qr_choice model dots)
+symbol_by FieldSeparator old = None
+symbol_by FormatEnd old = None
+symbol_by _ old = old
+
+abbrev pub symbol : List Item → Option SymbolChoice
+symbol [] = None
+symbol (item ∷ before) = acting symbol_by (is_open before) item (symbol before)
+
+-- ^FR: whether the field reverses
+abbrev pub is_reversed_by : Command → Bool → Bool
+is_reversed_by ReversePrint old = true
+is_reversed_by FieldSeparator old = false
+is_reversed_by FormatEnd old = false
+is_reversed_by _ old = old
+
+abbrev pub is_reversed : List Item → Bool
+is_reversed [] = false
+is_reversed (item ∷ before) = acting is_reversed_by (is_open before) item (is_reversed before)
+
+-- ^FB: the block that a text stands in
+abbrev pub block_by : Command → Option FieldBlock → Option FieldBlock
+block_by (SetBlock width lines space justification) old = Some (block_of width lines space justification)
+block_by FieldSeparator old = None
+block_by FormatEnd old = None
+block_by _ old = old
+
+abbrev pub block : List Item → Option FieldBlock
+block [] = None
+block (item ∷ before) = acting block_by (is_open before) item (block before)
+
+-- ^FD, ^GB, ^GF: the content; data begin behind what is stored before them
+abbrev pub picture_behind : ℕ → PictureHead → OpenContent
+picture_behind start head = contents.Picture head start
+
+abbrev pub content_by : ℕ → Command → Option OpenContent → Option OpenContent
+content_by start FieldData old = Some (contents.Data start)
+content_by start (DrawBox width height thickness colour) old = Some (contents.Frame (box_of width height thickness colour))
+content_by start (Graphic format sent bytes row) old = option_map (picture_behind start) (picture_head format sent bytes row)
+content_by start FieldSeparator old = None
+content_by start FormatEnd old = None
+content_by start _ old = old
+
+abbrev pub content : List Item → Option OpenContent
+content [] = None
+content (item ∷ before) = acting (content_by (length (stored before))) (is_open before) item (content before)
+
+-- all of these
+abbrev pub parts_of : List Item → FieldParts
+parts_of before = record {
+  origin = origin before;
+  font = font before;
+  symbol = symbol before;
+  is_reversed = is_reversed before;
+  block = block before;
+  content = content before;
+}
+
+-- what a command of a format leaves of them, behind so many stored bytes
+abbrev pub parts_by : ℕ → Command → FieldParts → FieldParts
+parts_by start command old = record {
+  origin = origin_by command old.origin;
+  font = font_by command old.font;
+  symbol = symbol_by command old.symbol;
+  is_reversed = is_reversed_by command old.is_reversed;
+  block = block_by command old.block;
+  content = content_by start command old.content;
+}

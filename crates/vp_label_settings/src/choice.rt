@@ -1,0 +1,157 @@
+//! Fonts, symbols and blocks, as a field asks for them.
+ghost use Rattle.std.specs.Prelude.{◌≡◌};
+ghost use Rattle.vp_label_settings.specs.Choices.{bar_text, bar_choice, qr_choice, line_space, alignment_of, block_of};
+
+use crate::range::ranged;
+use vp_zpl::item::{Code128Mode, Justification, LineSpace, Orientation};
+
+/// What ^A says; what it leaves out is the settings' matter when the field is closed.
+#[derive(Clone, Copy, Debug, PartialEq, Eq)]
+pub struct FontChoice {
+    pub orientation: Option<Orientation>,
+    pub height: Option<u32>,
+    pub width: Option<u32>,
+}
+
+/// Where the text of bars stands.
+#[derive(Clone, Copy, Debug, PartialEq, Eq)]
+pub enum BarText {
+    Omitted,
+    Below,
+    Above,
+}
+
+/// The linear symbols.
+#[derive(Clone, Copy, Debug, PartialEq, Eq)]
+pub enum BarKind {
+    /// ^B3: whether there is a check digit.
+    Code39 { check: bool },
+    /// ^BE
+    Ean13,
+    /// ^BC: none is the mode that takes the data as they are sent.
+    Code128 { mode: Option<Code128Mode> },
+}
+
+/// A linear symbol; how it is turned and how high it is are the settings' matter where it doesn't say it.
+#[derive(Clone, Copy, Debug, PartialEq, Eq)]
+pub struct BarChoice {
+    pub kind: BarKind,
+    pub orientation: Option<Orientation>,
+    pub height: Option<u32>,
+    pub text: BarText,
+}
+
+/// The symbol that a field asks for.
+#[derive(Clone, Copy, Debug, PartialEq, Eq)]
+pub enum SymbolChoice {
+    /// ^B3, ^BE, ^BC
+    Bars(BarChoice),
+    /// ^BQ: the model, 1 or 2, and the dots of a module, 1 to 10.
+    Qr { model: u16, module_dots: u16 },
+}
+
+/// How the lines of a field block stand in its width.
+#[derive(Clone, Copy, Debug, PartialEq, Eq)]
+pub enum Alignment {
+    Left,
+    Centre,
+    Right,
+}
+
+/// A field block (^FB).
+#[derive(Clone, Copy, Debug, PartialEq, Eq)]
+pub struct FieldBlock {
+    /// In dots, 0 to 32,000.
+    pub width: u16,
+    /// How many lines stand below each other, 1 to 9,999.
+    pub lines: u16,
+    /// Dots between them, at most 9,999 more or fewer.
+    pub space: LineSpace,
+    pub alignment: Alignment,
+}
+
+/// Below, and above where that is asked for too.
+fn bar_text(text: Option<bool>, above: Option<bool>) -> BarText
+    ensures { result ≡ bar_text text above }
+{
+    if !text.unwrap_or(true) {
+        BarText::Omitted
+    } else if above.unwrap_or(false) {
+        BarText::Above
+    } else {
+        BarText::Below
+    }
+}
+
+impl SymbolChoice {
+    /// Bars, with their text where it stands by default.
+    pub fn bars(
+        kind: BarKind,
+        orientation: Option<Orientation>,
+        height: Option<u32>,
+        text: Option<bool>,
+        above: Option<bool>,
+    ) -> SymbolChoice
+        ensures { result ≡ bar_choice kind orientation height text above }
+    {
+        SymbolChoice::Bars(BarChoice {
+            kind,
+            orientation,
+            height,
+            text: bar_text(text, above),
+        })
+    }
+
+    /// A QR symbol.
+    pub fn qr(model: Option<u32>, module_dots: Option<u32>) -> SymbolChoice
+        ensures { result ≡ qr_choice model module_dots }
+    {
+        SymbolChoice::Qr {
+            model: ranged(model, 1, 2, 2),
+            module_dots: ranged(module_dots, 1, 10, 2),
+        }
+    }
+}
+
+/// The dots between lines, in their range.
+fn line_space(space: Option<LineSpace>) -> LineSpace
+    ensures { result ≡ line_space space }
+{
+    match space {
+        None => LineSpace::Added(0),
+        Some(LineSpace::Added(dots)) => LineSpace::Added(dots.min(9999)),
+        Some(LineSpace::Deleted(dots)) => LineSpace::Deleted(dots.min(9999)),
+    }
+}
+
+impl Alignment {
+    /// Justified lines stand at the left.
+    fn of(justification: Option<Justification>) -> Alignment
+        ensures { result ≡ alignment_of justification }
+    {
+        match justification {
+            Some(Justification::Centre) => Alignment::Centre,
+            Some(Justification::Right) => Alignment::Right,
+            None | Some(Justification::Left | Justification::Justified) => Alignment::Left,
+        }
+    }
+}
+
+impl FieldBlock {
+    /// The block of ^FB.
+    pub fn new(
+        width: Option<u32>,
+        lines: Option<u32>,
+        space: Option<LineSpace>,
+        justification: Option<Justification>,
+    ) -> FieldBlock
+        ensures { result ≡ block_of width lines space justification }
+    {
+        FieldBlock {
+            width: ranged(width, 0, 32_000, 0),
+            lines: ranged(lines, 1, 9999, 1),
+            space: line_space(space),
+            alignment: Alignment::of(justification),
+        }
+    }
+}

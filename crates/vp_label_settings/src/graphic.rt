@@ -1,0 +1,103 @@
+//! Boxes, and the heads of pictures.
+ghost use Rattle.std.specs.Prelude.{◌≡◌, ◌&&◌, nat_le};
+ghost use Rattle.vp_label_settings.specs.Graphics.{box_of, picture_coding, picture_head, has_rows};
+
+use crate::range::ranged;
+use vp_zpl::item::{Colour, GraphicFormat};
+
+/// A box (^GB): a frame of lines as thick as said, each way 1 to 32,000 dots and at least as many as its lines.
+#[derive(Clone, Copy, Debug, PartialEq, Eq)]
+pub struct GraphicBox {
+    pub width: u16,
+    pub height: u16,
+    pub thickness: u16,
+    pub colour: Colour,
+}
+
+impl GraphicBox {
+    /// The box of ^GB: where no width or height is given it is that of the line.
+    pub fn new(
+        width: Option<u32>,
+        height: Option<u32>,
+        thickness: Option<u32>,
+        colour: Option<Colour>,
+    ) -> GraphicBox
+        ensures { result ≡ box_of width height thickness colour }
+    {
+        let thickness = ranged(thickness, 1, 32_000, 1);
+        GraphicBox {
+            width: ranged(width, 1, 32_000, thickness).max(thickness),
+            height: ranged(height, 1, 32_000, thickness).max(thickness),
+            thickness,
+            colour: colour.unwrap_or(Colour::Black),
+        }
+    }
+}
+
+/// How a picture's bytes are written.
+#[derive(Clone, Copy, Debug, PartialEq, Eq)]
+pub enum Coding {
+    /// Hex digits and what shortens them.
+    Ascii,
+    /// The bytes themselves.
+    Binary,
+}
+
+/// What ^GF says of the picture that follows.
+#[derive(Clone, Copy, Debug, PartialEq, Eq)]
+pub struct PictureHead {
+    pub coding: Coding,
+    /// 1 to 1,024.
+    pub row_bytes: u16,
+    /// At least one.
+    pub rows: u32,
+}
+
+/// Whether so many bytes are rows of so many.
+fn has_rows(picture_bytes: u32, row_bytes: u32) -> bool
+    ensures { result ≡ has_rows picture_bytes row_bytes }
+{
+    1 <= row_bytes && row_bytes <= 1024 && row_bytes <= picture_bytes
+}
+
+/// The coding of a picture, unless there is none such, or it sends the bytes of another one.
+fn picture_coding(
+    format: Option<GraphicFormat>,
+    binary_bytes: Option<u32>,
+    picture_bytes: u32,
+) -> Option<Coding>
+    ensures { result ≡ picture_coding format binary_bytes picture_bytes }
+{
+    match format {
+        None | Some(GraphicFormat::Ascii) => Some(Coding::Ascii),
+        Some(GraphicFormat::Binary) => match binary_bytes {
+            Some(bytes) if bytes == picture_bytes => Some(Coding::Binary),
+            _ => None,
+        },
+        Some(GraphicFormat::Other) => None,
+    }
+}
+
+impl PictureHead {
+    /// The head of ^GF, unless it can't be one.
+    pub fn new(
+        format: Option<GraphicFormat>,
+        binary_bytes: Option<u32>,
+        picture_bytes: Option<u32>,
+        row_bytes: Option<u32>,
+    ) -> Option<PictureHead>
+        ensures { result ≡ picture_head format binary_bytes picture_bytes row_bytes }
+    {
+        let picture_bytes = picture_bytes?;
+        let row_bytes = row_bytes?;
+        if !has_rows(picture_bytes, row_bytes) {
+            return None;
+        }
+        let coding = picture_coding(format, binary_bytes, picture_bytes)?;
+        Some(PictureHead {
+            coding,
+            row_bytes: row_bytes as u16,
+            rows: picture_bytes / row_bytes,
+        })
+    }
+}

@@ -1,0 +1,546 @@
+//! Streams, what is in force behind them, and the fields that they close.
+use crate::{
+    Alignment, BarKind, BarText, CharacterSize, Coding, Content, Field, FieldBlock, GraphicBox,
+    Home, InForce, PictureHead, Position, STORE, Settings, Stored,
+};
+use std::alloc::{AllocError, Global};
+use std::test::Fail;
+use vp_dots::Op;
+use vp_zpl::item::{Code128Mode, Colour, LineSpace, Orientation};
+use vp_zpl::{Command, ZplItem, ZplReader};
+
+/// The first stored byte.
+const ONE: Stored = Stored {
+    start: 0,
+    length: 1,
+};
+
+/// What is in force behind a stream, and the fields that it closed, in their order.
+fn run(alloc: Global, stream: &[u8]) -> Result<(InForce, Vec<Field>), AllocError> {
+    let mut reader = ZplReader::new();
+    let mut now = InForce::new();
+    let mut fields = Vec::new(alloc);
+    for byte in stream {
+        match reader.take(*byte) {
+            None => {}
+            Some(ZplItem::Data(bytes)) => {
+                if now.has_room(bytes.as_slice()) {
+                    now.store(bytes.as_slice());
+                }
+            }
+            Some(ZplItem::Command { command, .. }) => {
+                if let Command::FieldSeparator | Command::FormatEnd = command {
+                    if let Some(field) = now.closing() {
+                        fields.push(field)?;
+                    }
+                }
+                now.obey(command);
+            }
+        }
+    }
+    Ok((now, fields))
+}
+
+/// What is in force behind a stream.
+fn in_force(alloc: Global, stream: &[u8]) -> Result<InForce, AllocError> {
+    let (now, _) = run(alloc, stream)?;
+    Ok(now)
+}
+
+/// The last field that a stream closes.
+fn last(alloc: Global, stream: &[u8]) -> Result<Option<Field>, AllocError> {
+    let (_, fields) = run(alloc, stream)?;
+    Ok(fields.as_slice().last().copied())
+}
+
+/// The first row whose stream doesn't close a field of this content last, or one where none is to be.
+fn wrong_content(
+    alloc: Global,
+    rows: &[(&[u8], Option<Content>)],
+) -> Result<Option<usize>, AllocError> {
+    for i in 0..rows.len() {
+        let (stream, want) = rows[i];
+        let found = match last(alloc, stream)? {
+            Some(field) => Some(field.content),
+            None => None,
+        };
+        if found != want {
+            return Ok(Some(i));
+        }
+    }
+    Ok(None)
+}
+
+/// The first row whose stream doesn't end in a field of such a place.
+fn wrong_place(
+    alloc: Global,
+    rows: &[(&[u8], Position, Orientation, Op)],
+) -> Result<Option<usize>, AllocError> {
+    for i in 0..rows.len() {
+        let (stream, position, orientation, operation) = rows[i];
+        let is_there = match last(alloc, stream)? {
+            Some(field) => {
+                field.position == position
+                    && field.orientation == orientation
+                    && field.operation == operation
+            }
+            None => false,
+        };
+        if !is_there {
+            return Ok(Some(i));
+        }
+    }
+    Ok(None)
+}
+
+fn size(height: u16, width: u16) -> CharacterSize {
+    CharacterSize { height, width }
+}
+
+/// A text of one byte without a block.
+fn text(height: u16, width: u16) -> Option<Content> {
+    Some(Content::Text {
+        size: size(height, width),
+        block: None,
+        bytes: ONE,
+    })
+}
+
+/// The first row behind whose stream these settings aren't in force, or other bytes are stored.
+fn wrong_settings(
+    alloc: Global,
+    rows: &[(&[u8], Settings, u32)],
+) -> Result<Option<usize>, AllocError> {
+    for i in 0..rows.len() {
+        let (stream, settings, stored) = rows[i];
+        let found = in_force(alloc, stream)?;
+        if found.settings != settings || found.stored != stored {
+            return Ok(Some(i));
+        }
+    }
+    Ok(None)
+}
+
+/// The settings at the start, with these sizes of a label.
+fn label(print_width: u16, label_length: u16) -> Settings {
+    Settings {
+        print_width,
+        label_length,
+        ..Settings::new()
+    }
+}
+
+/// The same with a quantity.
+fn copies(quantity: u32) -> Settings {
+    Settings {
+        quantity,
+        ..Settings::new()
+    }
+}
+
+/// A command that leaves a parameter out sets its default, not what was in force.
+#[test]
+fn defaults(rt: HostRuntime) -> Result<(), Fail> {
+    let first = Settings::new();
+    let rows = [
+        (
+            b"^XA^POI^XZ".as_slice(),
+            Settings {
+                is_inverted: true,
+                ..first
+            },
+            0,
+        ),
+        (b"^XA^POI^PO^XZ".as_slice(), first, 0),
+        (
+            b"^XA^PMY^XZ^XA^LRX^XZ".as_slice(),
+            Settings {
+                is_mirrored: true,
+                ..first
+            },
+            0,
+        ),
+        (b"^XA^LRY^LR^FWB^FWX^XZ".as_slice(), first, 0),
+        (
+            b"^XA^LH5,7^LH,9^XZ".as_slice(),
+            Settings {
+                home: Home { x: 0, y: 9 },
+                ..first
+            },
+            0,
+        ),
+        (b"^XA^PW100^PW^LL7^LLx^XZ".as_slice(), first, 0),
+        (b"^XA^PW1300^LL0^XZ".as_slice(), label(1248, 1), 0),
+        (b"^XA^PW0^LL9000^XZ".as_slice(), label(1, 8000), 0),
+    ];
+    assert_eq!(rt; wrong_settings(rt.alloc(), &rows)?, None);
+    Ok(())
+}
+
+/// Commands act in a format alone; ^XA inside one is ignored, and ^XZ outside.
+#[test]
+fn formats(rt: HostRuntime) -> Result<(), Fail> {
+    let rows = [
+        (
+            b"^PW100^FO1,1^FDabc^FS^XZ^POI^FX".as_slice(),
+            Settings::new(),
+            0,
+        ),
+        (b"^XA^PW100^XZ^PW200^XZ".as_slice(), label(100, 1218), 0),
+        (b"^XA^PW100^XA^XZ".as_slice(), label(100, 1218), 0),
+        (b"^XA^PQ7^XA".as_slice(), copies(7), 0),
+        (b"^XA^PQ7^XZ^XA".as_slice(), copies(1), 0),
+        (b"^PQ7^XA".as_slice(), copies(1), 0),
+        (b"^XA^PQ7^PQ0^FX".as_slice(), copies(1), 0),
+        (b"^XA^PQ999999999^FX".as_slice(), copies(99_999_999), 0),
+        (b"^XA^FDabc^XAde^FS".as_slice(), copies(1), 3),
+        (b"^XA^FDabc^FS^FDde^FS".as_slice(), copies(1), 5),
+        (b"^XA^FDabc^FDde^GB1^FS".as_slice(), copies(1), 5),
+        (b"^XA^FDabc^FS^XZ^XA".as_slice(), copies(1), 0),
+    ];
+    assert_eq!(rt; wrong_settings(rt.alloc(), &rows)?, None);
+    Ok(())
+}
+
+/// ^CF and ^A: 0 counts as missing, and a width alone goes with the default's height.
+#[test]
+fn fonts(rt: HostRuntime) -> Result<(), Fail> {
+    let rows = [
+        (b"^XA^FDA^FS".as_slice(), text(9, 5)),
+        (b"^XA^CF^FDA^FS".as_slice(), text(9, 5)),
+        (b"^XA^CF0,30^FDA^FS".as_slice(), text(30, 15)),
+        (b"^XA^CF0,1^FDA^FS".as_slice(), text(1, 1)),
+        (b"^XA^CF0,,20^FDA^FS".as_slice(), text(9, 20)),
+        (b"^XA^CF0,0,20^FDA^FS".as_slice(), text(9, 20)),
+        (b"^XA^CF0,30,40^CF0^FDA^FS".as_slice(), text(9, 5)),
+        (b"^XA^CF0,2000^FDA^FS".as_slice(), text(1500, 750)),
+        (b"^XA^CF0,30,2000^FDA^FS".as_slice(), text(30, 1500)),
+        (b"^XA^CF0,30,40^A0^FDA^FS".as_slice(), text(30, 40)),
+        (b"^XA^CF0,30,40^A0N,50^FDA^FS".as_slice(), text(50, 25)),
+        (b"^XA^CF0,30,40^A0N,,60^FDA^FS".as_slice(), text(30, 60)),
+        (b"^XA^CF0,30,40^A0N,50,60^FDA^FS".as_slice(), text(50, 60)),
+        (b"^XA^CF0,30,40^A0N,0,0^FDA^FS".as_slice(), text(30, 40)),
+        (b"^XA^A0N,50^CF0,30,40^FDA^FS".as_slice(), text(50, 25)),
+        (b"^XA^A0^CF0,30,40^FDA^FS".as_slice(), text(30, 40)),
+        (b"^XA^FDA^CF0,30,40^FS".as_slice(), text(30, 40)),
+    ];
+    assert_eq!(rt; wrong_content(rt.alloc(), &rows)?, None);
+    Ok(())
+}
+
+/// What a field leaves out is taken as it stands when the field is closed, and ^FS forgets what was said of it.
+#[test]
+fn at_closing(rt: HostRuntime) -> Result<(), Fail> {
+    let corner = Position::Corner { x: 0, y: 0 };
+    let rows = [
+        (
+            b"^XA^A0^FDA^FWR^FS".as_slice(),
+            corner,
+            Orientation::Rotated,
+            Op::Black,
+        ),
+        (
+            b"^XA^FDA^FWR^XZ".as_slice(),
+            corner,
+            Orientation::Rotated,
+            Op::Black,
+        ),
+        (
+            b"^XA^A0I^FWR^FDA^FS".as_slice(),
+            corner,
+            Orientation::Inverted,
+            Op::Black,
+        ),
+        (
+            b"^XA^A0I^FR^FO1,2^FDA^FS^FDBC^FS".as_slice(),
+            corner,
+            Orientation::Normal,
+            Op::Black,
+        ),
+        (
+            b"^XA^FO1,2^FT3,4^FDA^LH10,20^FS".as_slice(),
+            Position::Baseline { x: 13, y: 24 },
+            Orientation::Normal,
+            Op::Black,
+        ),
+        (
+            b"^XA^FDA^LH10,20^FS^LH^FDB^FS".as_slice(),
+            corner,
+            Orientation::Normal,
+            Op::Black,
+        ),
+        (
+            b"^XA^FO32001,5^LH32000^GB^FS".as_slice(),
+            Position::Corner { x: 64_000, y: 5 },
+            Orientation::Normal,
+            Op::Black,
+        ),
+        (
+            b"^XA^GB1,1,1,W^FS".as_slice(),
+            corner,
+            Orientation::Normal,
+            Op::White,
+        ),
+        (
+            b"^XA^FR^GB1,1,1,W^FS".as_slice(),
+            corner,
+            Orientation::Normal,
+            Op::Flip,
+        ),
+        (
+            b"^XA^GB^LRY^FS".as_slice(),
+            corner,
+            Orientation::Normal,
+            Op::Flip,
+        ),
+        (
+            b"^XA^LRY^GB^LRN^FS".as_slice(),
+            corner,
+            Orientation::Normal,
+            Op::Black,
+        ),
+        (
+            b"^XA^FWB^B3^FD1^FS".as_slice(),
+            corner,
+            Orientation::BottomUp,
+            Op::Black,
+        ),
+        (
+            b"^XA^FWB^BER^FD1^FS".as_slice(),
+            corner,
+            Orientation::Rotated,
+            Op::Black,
+        ),
+        (
+            b"^XA^FWB^BQR^FD1^FS".as_slice(),
+            corner,
+            Orientation::Normal,
+            Op::Black,
+        ),
+        (
+            b"^XA^FWB^GB^FS".as_slice(),
+            corner,
+            Orientation::Normal,
+            Op::Black,
+        ),
+    ];
+    assert_eq!(rt; wrong_place(rt.alloc(), &rows)?, None);
+    let (_, fields) = run(rt.alloc(), b"^XA^FDA^FS^FS^FO1,1^FS^FDB^XZ^FS")?;
+    assert_eq!(rt; fields.len(), 2);
+    Ok(())
+}
+
+fn frame(width: u16, height: u16, thickness: u16, colour: Colour) -> Option<Content> {
+    Some(Content::Frame(GraphicBox {
+        width,
+        height,
+        thickness,
+        colour,
+    }))
+}
+
+fn picture(coding: Coding, row_bytes: u16, rows: u32, length: u32) -> Option<Content> {
+    Some(Content::Picture {
+        head: PictureHead {
+            coding,
+            row_bytes,
+            rows,
+        },
+        bytes: Stored { start: 0, length },
+    })
+}
+
+/// The last of ^FD, ^GB and ^GF is the content, and the last symbol command anywhere in the field draws its data.
+#[test]
+fn contents(rt: HostRuntime) -> Result<(), Fail> {
+    let rows = [
+        (b"^XA^GB^FS".as_slice(), frame(1, 1, 1, Colour::Black)),
+        (b"^XA^GB5,3,1^FS".as_slice(), frame(5, 3, 1, Colour::Black)),
+        (b"^XA^GB,,4^FS".as_slice(), frame(4, 4, 4, Colour::Black)),
+        (
+            b"^XA^GB3,40000,4,W^FS".as_slice(),
+            frame(4, 32_000, 4, Colour::White),
+        ),
+        (
+            b"^XA^GB0,0,0,X^FS".as_slice(),
+            frame(1, 1, 1, Colour::Black),
+        ),
+        (
+            b"^XA^BQ^FDabc^GB^FS".as_slice(),
+            frame(1, 1, 1, Colour::Black),
+        ),
+        (b"^XA^FO1,1^FR^FS".as_slice(), None),
+    ];
+    assert_eq!(rt; wrong_content(rt.alloc(), &rows)?, None);
+    let bytes = Stored {
+        start: 0,
+        length: 3,
+    };
+    let rows = [
+        (
+            b"^XA^GFA,3,10,4,FFF^FS".as_slice(),
+            picture(Coding::Ascii, 4, 2, 3),
+        ),
+        (
+            b"^XA^GF,,4,4,FFF^FS".as_slice(),
+            picture(Coding::Ascii, 4, 1, 3),
+        ),
+        (
+            b"^XA^GFA,4,4,4^FS".as_slice(),
+            picture(Coding::Ascii, 4, 1, 0),
+        ),
+        (
+            b"^XA^GFB,3,3,1,abc^FS".as_slice(),
+            picture(Coding::Binary, 1, 3, 3),
+        ),
+        (b"^XA^GFB,2,3,1,ab^FS".as_slice(), None),
+        (b"^XA^GFB,,3,1,^FS".as_slice(), None),
+        (b"^XA^GFC,3,3,1,FFF^FS".as_slice(), None),
+        (b"^XA^GFA,3,3,4,FFF^FS".as_slice(), None),
+        (b"^XA^GFA,3,3,0,FFF^FS".as_slice(), None),
+        (b"^XA^GFA,3,2000,1025,FFF^FS".as_slice(), None),
+        (b"^XA^GFA,3,3,FFF^FS".as_slice(), None),
+        (
+            b"^XA^BQN,5,0^FDabc^FS".as_slice(),
+            Some(Content::Qr {
+                model: 2,
+                module_dots: 1,
+                bytes,
+            }),
+        ),
+        (
+            b"^XA^FDabc^B3^BQ^FS".as_slice(),
+            Some(Content::Qr {
+                model: 2,
+                module_dots: 2,
+                bytes,
+            }),
+        ),
+    ];
+    assert_eq!(rt; wrong_content(rt.alloc(), &rows)?, None);
+    Ok(())
+}
+
+fn bars(kind: BarKind, narrow: u8, wide: u16, height: u16, text: BarText) -> Option<Content> {
+    Some(Content::Bars {
+        kind,
+        narrow,
+        wide,
+        height,
+        text,
+        bytes: ONE,
+    })
+}
+
+/// Bars take what they leave out from ^BY, and a wide bar is at least a dot wider than a narrow one.
+#[test]
+fn bar_codes(rt: HostRuntime) -> Result<(), Fail> {
+    let unchecked = BarKind::Code39 { check: false };
+    let plain = BarKind::Code128 { mode: None };
+    let packed = BarKind::Code128 {
+        mode: Some(Code128Mode::Automatic),
+    };
+    let rows = [
+        (
+            b"^XA^B3^FD1^FS".as_slice(),
+            bars(unchecked, 2, 6, 10, BarText::Below),
+        ),
+        (
+            b"^XA^B3,Y,,N,Y^FD1^FS".as_slice(),
+            bars(BarKind::Code39 { check: true }, 2, 6, 10, BarText::Omitted),
+        ),
+        (
+            b"^XA^BE,50,Y,Y^FD1^FS".as_slice(),
+            bars(BarKind::Ean13, 2, 6, 50, BarText::Above),
+        ),
+        (
+            b"^XA^BC,9000,,,,A^FD1^FS".as_slice(),
+            bars(packed, 2, 6, 8000, BarText::Below),
+        ),
+        (
+            b"^XA^BC,0,,,,N^FD1^FS".as_slice(),
+            bars(plain, 2, 6, 1, BarText::Below),
+        ),
+        (
+            b"^XA^BY1,2.0,7^B3^FD1^FS".as_slice(),
+            bars(unchecked, 1, 2, 7, BarText::Below),
+        ),
+        (
+            b"^XA^BY3,2.5^B3^FD1^FS".as_slice(),
+            bars(unchecked, 3, 7, 10, BarText::Below),
+        ),
+        (
+            b"^XA^BY20,9.9^B3^FD1^FS".as_slice(),
+            bars(unchecked, 10, 30, 10, BarText::Below),
+        ),
+        (
+            b"^XA^B3^FD1^BY4,1.0,30^FS".as_slice(),
+            bars(unchecked, 4, 8, 30, BarText::Below),
+        ),
+        (
+            b"^XA^BY4,2.0,30^BY5^B3^FD1^FS".as_slice(),
+            bars(unchecked, 5, 15, 10, BarText::Below),
+        ),
+    ];
+    assert_eq!(rt; wrong_content(rt.alloc(), &rows)?, None);
+    Ok(())
+}
+
+fn block(width: u16, lines: u16, space: LineSpace, alignment: Alignment) -> Option<Content> {
+    Some(Content::Text {
+        size: size(9, 5),
+        block: Some(FieldBlock {
+            width,
+            lines,
+            space,
+            alignment,
+        }),
+        bytes: ONE,
+    })
+}
+
+/// ^FB's ranges and defaults; it acts on texts, and the last one counts.
+#[test]
+fn blocks(rt: HostRuntime) -> Result<(), Fail> {
+    let rows = [
+        (
+            b"^XA^FB^FDA^FS".as_slice(),
+            block(0, 1, LineSpace::Added(0), Alignment::Left),
+        ),
+        (
+            b"^XA^FB24,2,0,R^FDA^FS".as_slice(),
+            block(24, 2, LineSpace::Added(0), Alignment::Right),
+        ),
+        (
+            b"^XA^FB40000,0,-20000,J^FDA^FS".as_slice(),
+            block(32_000, 1, LineSpace::Deleted(9999), Alignment::Left),
+        ),
+        (
+            b"^XA^FB1,10000,10000,C^FDA^FS".as_slice(),
+            block(1, 9999, LineSpace::Added(9999), Alignment::Centre),
+        ),
+        (
+            b"^XA^FB1,2,x,x^FDA^FS".as_slice(),
+            block(1, 2, LineSpace::Added(0), Alignment::Left),
+        ),
+        (
+            b"^XA^FB1^FB2^FDA^FS".as_slice(),
+            block(2, 1, LineSpace::Added(0), Alignment::Left),
+        ),
+        (b"^XA^FB1^FS^FDA^FS".as_slice(), text(9, 5)),
+    ];
+    assert_eq!(rt; wrong_content(rt.alloc(), &rows)?, None);
+    Ok(())
+}
+
+/// The store is full at its last byte, and not before.
+#[test]
+fn room(rt: HostRuntime) -> Result<(), Fail> {
+    let mut now = in_force(rt.alloc(), b"^XA^FD")?;
+    now.stored = STORE - 2;
+    assert!(rt; now.has_room(b"ab"));
+    assert!(rt; !now.has_room(b"abc"));
+    now.obey(Command::FormatEnd);
+    assert!(rt; now.has_room(b"abc"));
+    Ok(())
+}
