@@ -1,0 +1,71 @@
+-- What the data of ^BQ say before the bytes of the symbol (ZPL II, ^BQ, "^FD Field Data").
+use Rattle.std.specs.Prelude.{ℕ, ◌+◌, ◌-◌, ◌*◌, ◌==◌, nat_le, Bool, ◌&&◌, Option, Some, None, Result, Ok, Err, List, [], ◌∷◌, length, if◌then◌else◌}
+use Rattle.vp_dots.specs.declared.fault.Fault.{Fault}
+use Rattle.vp_dots.specs.declared.fault.Fault.TheVariants.{Symbol}
+use Rattle.vp_dots.specs.declared.fault.Why.TheVariants.{Empty, Length, CodeSet, Unsupported}
+use Rattle.vp_qr_field.specs.declared.front.QrLevel.{QrLevel}
+use Rattle.vp_qr_field.specs.declared.front.QrLevel.TheVariants.{L, M, Q, H}
+use Rattle.vp_qr_field.specs.declared.front.QrInput.{QrInput}
+use Rattle.vp_qr_field.specs.declared.front.QrInput.TheVariants.{Automatic, Numeric, Alphanumeric, Bytes}
+use Rattle.vp_qr_field.specs.declared.front.QrFront.{QrFront}
+
+-- the letter of a level of error correction
+abbrev pub level_of : ℕ → Option QrLevel
+level_of c =
+    if c == 0x48 then Some H
+    else if c == 0x51 then Some Q
+    else if c == 0x4D then Some M
+    else if c == 0x4C then Some L
+    else None
+
+abbrev pub front : QrLevel → QrInput → ℕ → Result QrFront Fault
+front level input bytes = Ok (record { level = level; input = input; length = bytes })
+
+-- any other front
+abbrev pub no_front : Result QrFront Fault
+no_front = Err (Symbol CodeSet)
+
+abbrev pub is_digit : ℕ → Bool
+is_digit c = nat_le 0x30 c && nat_le c 0x39
+
+abbrev pub are_digits : ℕ → ℕ → ℕ → ℕ → Bool
+are_digits a b c d = is_digit a && is_digit b && is_digit c && is_digit d
+
+-- the number of four digits
+abbrev pub number_of : ℕ → ℕ → ℕ → ℕ → ℕ
+number_of a b c d = 1000 * (a - 0x30) + 100 * (b - 0x30) + 10 * (c - 0x30) + (d - 0x30)
+
+-- B: four digits say how many bytes come, and as many come
+abbrev pub counted : QrLevel → List ℕ → Result QrFront Fault
+counted level (a ∷ b ∷ c ∷ d ∷ bytes) =
+    if are_digits a b c d then if number_of a b c d == length bytes then front level Bytes 8 else Err (Symbol Length)
+    else no_front
+counted level _ = no_front
+
+-- M and a comma: a letter says how the bytes are read; K, Kanji, isn't drawn
+abbrev pub manual : QrLevel → List ℕ → Result QrFront Fault
+manual level [] = no_front
+manual level (c ∷ rest) =
+    if c == 0x4E then front level Numeric 4
+    else if c == 0x41 then front level Alphanumeric 4
+    else if c == 0x42 then counted level rest
+    else if c == 0x4B then Err (Symbol Unsupported)
+    else no_front
+
+-- A and a comma: how they are read is chosen by the bytes
+abbrev pub input_of : QrLevel → ℕ → List ℕ → Result QrFront Fault
+input_of level c rest =
+    if c == 0x41 then front level Automatic 3 else if c == 0x4D then manual level rest else no_front
+
+abbrev pub level_and_input : Option QrLevel → ℕ → ℕ → List ℕ → Result QrFront Fault
+level_and_input None c comma rest = no_front
+level_and_input (Some level) c comma rest = if comma == 0x2C then input_of level c rest else no_front
+
+abbrev pub front_in : List ℕ → Result QrFront Fault
+front_in [] = Err (Symbol Empty)
+front_in (letter ∷ c ∷ comma ∷ rest) = level_and_input (level_of letter) c comma rest
+front_in _ = no_front
+
+-- the front of the data, or why there is none; model 1 isn't drawn, whatever the data
+abbrev pub front_of : ℕ → List ℕ → Result QrFront Fault
+front_of model bytes = if model == 1 then Err (Symbol Unsupported) else front_in bytes

@@ -1,0 +1,137 @@
+//! The level of error correction, how the bytes are read, and where they begin.
+ghost use Rattle.std.specs.Prelude.{◌≡◌};
+ghost use Rattle.vp_qr_field.specs.Fronts.{level_of, counted, manual, front_in, front_of, is_digit};
+
+use vp_dots::{Fault, Why};
+
+/// The levels of error correction, from the lowest.
+#[derive(Clone, Copy, Debug, PartialEq, Eq)]
+pub enum QrLevel {
+    L,
+    M,
+    Q,
+    H,
+}
+
+/// How the bytes of a symbol are read.
+#[derive(Clone, Copy, Debug, PartialEq, Eq)]
+pub enum QrInput {
+    /// As the bytes allow it.
+    Automatic,
+    Numeric,
+    Alphanumeric,
+    Bytes,
+}
+
+/// What stands before the bytes of a symbol.
+#[derive(Clone, Copy, Debug, PartialEq, Eq)]
+pub struct QrFront {
+    pub level: QrLevel,
+    pub input: QrInput,
+    /// How many bytes it takes itself.
+    pub length: usize,
+}
+
+/// Any other front.
+const NO_FRONT: Fault = Fault::Symbol(Why::CodeSet);
+
+/// The level of a letter.
+fn level_of(letter: u8) -> Option<QrLevel>
+    ensures { result ≡ level_of letter }
+{
+    match letter {
+        b'H' => Some(QrLevel::H),
+        b'Q' => Some(QrLevel::Q),
+        b'M' => Some(QrLevel::M),
+        b'L' => Some(QrLevel::L),
+        _ => None,
+    }
+}
+
+fn is_digit(c: u8) -> bool
+    ensures { result ≡ is_digit c }
+{
+    b'0' <= c && c <= b'9'
+}
+
+/// Behind B: as many bytes as its four digits say.
+fn counted(level: QrLevel, rest: &[u8]) -> Result<QrFront, Fault>
+    ensures { result ≡ counted level rest.now }
+{
+    let [a, b, c, d, bytes @ ..] = rest else {
+        return Err(NO_FRONT);
+    };
+    if !(is_digit(*a) && is_digit(*b) && is_digit(*c) && is_digit(*d)) {
+        return Err(NO_FRONT);
+    }
+    let hundreds = 10 * usize::from(*a - b'0') + usize::from(*b - b'0');
+    if 100 * hundreds + 10 * usize::from(*c - b'0') + usize::from(*d - b'0') != bytes.len() {
+        return Err(Fault::Symbol(Why::Length));
+    }
+    Ok(QrFront {
+        level,
+        input: QrInput::Bytes,
+        length: 8,
+    })
+}
+
+/// Behind M and a comma: a letter says how the bytes are read.
+fn manual(level: QrLevel, rest: &[u8]) -> Result<QrFront, Fault>
+    ensures { result ≡ manual level rest.now }
+{
+    let [letter, rest @ ..] = rest else {
+        return Err(NO_FRONT);
+    };
+    let input = match *letter {
+        b'N' => QrInput::Numeric,
+        b'A' => QrInput::Alphanumeric,
+        b'B' => return counted(level, rest),
+        b'K' => return Err(Fault::Symbol(Why::Unsupported)),
+        _ => return Err(NO_FRONT),
+    };
+    Ok(QrFront {
+        level,
+        input,
+        length: 4,
+    })
+}
+
+/// The front of data that aren't of model 1.
+fn front_in(data: &[u8]) -> Result<QrFront, Fault>
+    ensures { result ≡ front_in data.now }
+{
+    if data.is_empty() {
+        return Err(Fault::Symbol(Why::Empty));
+    }
+    let [letter, how, comma, rest @ ..] = data else {
+        return Err(NO_FRONT);
+    };
+    let Some(level) = level_of(*letter) else {
+        return Err(NO_FRONT);
+    };
+    if *comma != b',' {
+        return Err(NO_FRONT);
+    }
+    match *how {
+        b'A' => Ok(QrFront {
+            level,
+            input: QrInput::Automatic,
+            length: 3,
+        }),
+        b'M' => manual(level, rest),
+        _ => Err(NO_FRONT),
+    }
+}
+
+/// What the data of a QR field of a model (^BQ, 1 or 2) say before the bytes of the symbol: a letter for the level, and
+/// `A,` or `M,` with `N`, `A`, or `B` and four digits that say how many bytes come. Model 1 is refused as not supported
+/// whatever the data, then no data as empty, other bytes in number than said by their length, Kanji (`M,K`) as not
+/// supported, and any other front by its code set.
+pub fn qr_front(model: u16, data: &[u8]) -> Result<QrFront, Fault>
+    ensures { result ≡ front_of model data.now }
+{
+    if model == 1 {
+        return Err(Fault::Symbol(Why::Unsupported));
+    }
+    front_in(data)
+}
