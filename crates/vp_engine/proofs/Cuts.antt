@@ -1,7 +1,7 @@
 -- A list of which the part from a on was written anew.
 use Rattle.vp_dots.specs.declared.fault.Fault.{Fault}
 use Rattle.std.proofs.Common.{Option, None, is_some, ◌<◌, ◌∷◌, true, false, ◌≡◌, ◌≤◌, ℕ, ◌+◌, ◌-◌, List, [], ◌++◌, length, take, drop, refl, sym, ap, ◌∙◌, arith, length-append, length-drop}
-use Rattle.std.proofs.lemmas.List.{append-nil, length-take-le, length-take, take-append-le, take-take, drop-take, drop-drop}
+use Rattle.std.proofs.lemmas.List.{append-nil, length-take-le, length-take, drop-take, drop-drop}
 use Rattle.std.proofs.lemmas.Grind.{common_steps}
 use Rattle.std.proofs.Math.Seq.{take-length, take-add, take-append-add, drop-append-add}
 use borrow.Rule.Slice.PartMut.{put_mid}
@@ -58,13 +58,3 @@ range_less xs from to n h =
 
 pub length_range : (xs : List ℕ) (from to : ℕ) → length (take (to - from) (drop from xs)) ≤ to - from
 length_range xs from to = omega (arith, length-take (to - from) (drop from xs))
-
-pub no_less : (x y : List ℕ) → [] ≡ x ++ y → y ≡ []
-no_less [] y e = sym e
-no_less (a ∷ x) y e = cc
-
--- the front of room that was written anew
-pub front_of_room : (len put : ℕ) (out rest : List ℕ) → put ≤ length out → put ≤ len → take (put - 0) (take len (out ++ rest)) ≡ take put out
-front_of_room len put out rest h k =
-    ap (λ n. take n (take len (out ++ rest))) (let z : put - 0 ≡ put = omega arith in z)
-    ∙ take-take put len (out ++ rest) k ∙ take-append-le put out rest h

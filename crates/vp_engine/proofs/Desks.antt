@@ -1,11 +1,12 @@
 -- Where a session stands after it did something.
-use Rattle.std.proofs.Common.{inl, inr, zero, suc, subst, ◌≡◌, ℕ, ◌<◌, ◌≤◌, ◌+◌, ◌-◌, ◌^◌, min, List, [], ◌++◌, length, take, drop, Option, Some, None, refl, sym, ap, ◌∙◌, arith, length-append, append_assoc}
+use Rattle.std.proofs.Common.{inl, inr, zero, suc, subst, ◌≡◌, ℕ, ◌<◌, ◌≤◌, ◌+◌, ◌-◌, ◌^◌, min, List, [], ◌++◌, length, take, drop, length-drop, Option, Some, None, refl, sym, ap, ◌∙◌, arith, length-append, append_assoc}
 use Rattle.std.proofs.lemmas.List.{append-nil, take-append-drop, length-take-le}
 use Rattle.std.specs.Io.KnownBytes.{Appends, Consumes, Keeps}
-use Rattle.vp_receipt.specs.Setup.{Setup}
-use Rattle.vp_engine.specs.Count.{grown}
+use Rattle.vp_engine.specs.Setups.{Setup, rules_of}
+use Rattle.vp_streams.specs.Count.{counted, grown}
 use Rattle.vp_engine.specs.Stands.{Stands}
-use Rattle.vp_engine.specs.Session.{Desk, IsAt, Accepts, Takes, Reaches, IsDrained, IsWhole, StopsAt, counted}
+use Rattle.vp_engine.specs.Bytes.{IsPrefix}
+use Rattle.vp_engine.specs.Session.{Desk, IsAt, Accepts, Reads, Reaches, IsDrained, HasEnded, IsReported, StopsAt, buffer_size}
 use Rattle.vp_dots.specs.declared.fault.Fault.{Fault}
 use Rattle.vp_engine.specs.Paper.{paper, fault_at_end}
 use Rattle.vp_engine.specs.declared.session.Report.{Report}
@@ -32,11 +33,6 @@ keeps_appends (Some a) (Some b) h = h ∙ sym (append-nil a)
 take_nil : (n : ℕ) → n ≤ 0 → take {A = ℕ} n [] ≡ []
 take_nil zero h = refl
 take_nil (suc n) h = refl
-
-keeps_consumes : (a b : Option (List ℕ)) → Keeps a b → Consumes a b []
-keeps_consumes None b h = tt
-keeps_consumes (Some a) None h = h
-keeps_consumes (Some a) (Some b) h = sym h
 
 consumes_more : (a b c : Option (List ℕ)) (x y : List ℕ) → Consumes a b x → Consumes b c y → Consumes a c (x ++ y)
 consumes_more None b c x y h k = tt
@@ -69,6 +65,8 @@ module _ (setup : Setup) where
     wrote = append_assoc w x q.unwritten ∙ ap (λ y. w ++ y) wr ∙ a.wrote;
     taken = ta ∙ a.taken;
     written = counted_more s.written q.written (length w) (length x) a.written co ∙ ap counted (sym (length-append w x));
+    unread_fit = omega (arith, a.unread_fit, ap length un);
+    unwritten_fit = omega (arith, a.unwritten_fit, ap length wr, length-append x q.unwritten);
   }
 
   -- nothing is accepted
@@ -99,8 +97,8 @@ module _ (setup : Setup) where
   -- the printer takes n bytes of the input, and what it puts out is held
   pub at_steps : (s q : Desk) (r w slice : List ℕ) (n : ℕ) → IsAt setup s r w → slice ≡ s.unread → n ≤ length slice → s.unwritten ≡ [] →
       ((t o : List ℕ) → Stands setup s.printer t o → Stands setup q.printer (t ++ take n slice) (o ++ q.unwritten)) →
-      q.unread ≡ drop n s.unread → q.taken ≡ min (s.taken + n) (2 ^ 64 - 1) → q.written ≡ s.written → IsAt setup q r w
-  at_steps s q r w slice n a e h none st un ta wr = record {
+      q.unread ≡ drop n s.unread → q.taken ≡ min (s.taken + n) (2 ^ 64 - 1) → q.written ≡ s.written → length q.unwritten ≤ buffer_size → IsAt setup q r w
+  at_steps s q r w slice n a e h none st un ta wr fit = record {
     t = a.t ++ take n slice;
     o = a.o ++ q.unwritten;
     stands = st a.t a.o a.stands;
@@ -108,13 +106,15 @@ module _ (setup : Setup) where
     wrote = ap (λ x. x ++ q.unwritten) (sym (append-nil w) ∙ ap (λ x. w ++ x) (sym none) ∙ a.wrote);
     taken = counted_more s.taken q.taken (length a.t) n a.taken ta ∙ ap counted (sym (length-append a.t (take n slice) ∙ ap (λ k. length a.t + k) (length-take-le n slice h)));
     written = wr ∙ a.written;
+    unread_fit = omega (arith, a.unread_fit, ap length un, length-drop n s.unread);
+    unwritten_fit = fit;
   }
 
   -- the printer puts out more, with no input
   pub at_refills : (s q : Desk) (r w : List ℕ) (n : ℕ) → IsAt setup s r w → n ≤ 0 → s.unwritten ≡ [] →
       ((t o : List ℕ) → Stands setup s.printer t o → Stands setup q.printer (t ++ take n []) (o ++ q.unwritten)) →
-      q.unread ≡ s.unread → q.taken ≡ s.taken → q.written ≡ s.written → IsAt setup q r w
-  at_refills s q r w n a h none st un ta wr = record {
+      q.unread ≡ s.unread → q.taken ≡ s.taken → q.written ≡ s.written → length q.unwritten ≤ buffer_size → IsAt setup q r w
+  at_refills s q r w n a h none st un ta wr fit = record {
     t = a.t;
     o = a.o ++ q.unwritten;
     stands = subst (λ x. Stands setup q.printer x (a.o ++ q.unwritten)) (ap (λ x. a.t ++ x) (take_nil n h) ∙ append-nil a.t) (st a.t a.o a.stands);
@@ -122,6 +122,8 @@ module _ (setup : Setup) where
     wrote = ap (λ x. x ++ q.unwritten) (sym (append-nil w) ∙ ap (λ x. w ++ x) (sym none) ∙ a.wrote);
     taken = ta ∙ a.taken;
     written = wr ∙ a.written;
+    unread_fit = omega (arith, a.unread_fit, ap length un);
+    unwritten_fit = fit;
   }
 
   -- bytes are accepted, and then the session goes on with none
@@ -129,8 +131,8 @@ module _ (setup : Setup) where
   accepts_then a b s q r w h f = record { accepted = h.accepted; appended = h.appended; at = f (w ++ h.accepted) h.at }
 
   -- bytes are read
-  pub at_fills : (s q : Desk) (r w : List ℕ) → IsAt setup s r w → s.unread ≡ [] → q.printer ≡ s.printer → q.unwritten ≡ s.unwritten → q.taken ≡ s.taken → q.written ≡ s.written → IsAt setup q (r ++ q.unread) w
-  at_fills s q r w a none pr un ta wr = record {
+  pub at_fills : (s q : Desk) (r w : List ℕ) → IsAt setup s r w → s.unread ≡ [] → q.printer ≡ s.printer → q.unwritten ≡ s.unwritten → q.taken ≡ s.taken → q.written ≡ s.written → length q.unread ≤ buffer_size → IsAt setup q (r ++ q.unread) w
+  at_fills s q r w a none pr un ta wr fit = record {
     t = a.t;
     o = a.o;
     stands = rw pr a.stands;
@@ -138,11 +140,9 @@ module _ (setup : Setup) where
     wrote = ap (λ x. w ++ x) un ∙ a.wrote;
     taken = ta ∙ a.taken;
     written = wr ∙ a.written;
+    unread_fit = fit;
+    unwritten_fit = omega (arith, a.unwritten_fit, ap length un);
   }
-
-  -- nothing is read
-  pub takes_none : (a b : Option (List ℕ)) (s q : Desk) (r w : List ℕ) → Keeps a b → q ≡ s → IsAt setup s r w → Takes a b setup q r w
-  takes_none a b s q r w k e h = record { read = []; consumed = keeps_consumes a b k; at = rw (append-nil r, e) h }
 
   -- what was read and written so far, and then what is accepted more
   pub reaches_accepts : (a b c d e : Option (List ℕ)) (s q : Desk) (r w : List ℕ) → Reaches a b c d setup s r w → ((u v : List ℕ) → IsAt setup s u v → Accepts d e setup q u v) → Reaches a b c e setup q r w
@@ -156,7 +156,7 @@ module _ (setup : Setup) where
         at = rw (← append_assoc w h.accepted k.accepted) k.at;
       }
 
-  pub reaches_takes : (a b c d e : Option (List ℕ)) (s q : Desk) (r w : List ℕ) → Reaches a b d e setup s r w → ((u v : List ℕ) → IsAt setup s u v → Takes b c setup q u v) → Reaches a c d e setup q r w
+  pub reaches_takes : (a b c d e : Option (List ℕ)) (s q : Desk) (r w : List ℕ) → Reaches a b d e setup s r w → ((u v : List ℕ) → IsAt setup s u v → Reads b c setup q u v) → Reaches a c d e setup q r w
   reaches_takes a b c d e s q r w h f =
       let k = f (r ++ h.read) (w ++ h.accepted) h.at in
       record {
@@ -171,37 +171,41 @@ module _ (setup : Setup) where
   reaches_start a b s r w h = record { read = []; accepted = []; consumed = consumes_none a; appended = appends_none b; at = rw (append-nil r, append-nil w) h }
 
   -- where all is written and printed, what is written is the paper of what was taken
-  drained_paper : (s : Desk) (r w : List ℕ) → (a : IsAt setup s r w) → s.unwritten ≡ [] → s.printer.receipt.pending ≡ [] → w ≡ paper setup a.t
+  drained_paper : (s : Desk) (r w : List ℕ) → (a : IsAt setup s r w) → s.unwritten ≡ [] → s.printer.pending ≡ [] → w ≡ paper (rules_of setup) a.t
   drained_paper s r w a un pe =
       sym (append-nil w) ∙ ap (λ x. w ++ x) (sym un) ∙ a.wrote ∙ sym (append-nil a.o) ∙ ap (λ x. a.o ++ x) (sym pe) ∙ a.stands.pending
 
-  all_taken : (s : Desk) (r w : List ℕ) → (a : IsAt setup s r w) → s.unread ≡ [] → a.t ≡ r
+  pub all_taken : (s : Desk) (r w : List ℕ) → (a : IsAt setup s r w) → s.unread ≡ [] → a.t ≡ r
   all_taken s r w a un = sym (append-nil a.t) ∙ ap (λ x. a.t ++ x) (sym un) ∙ a.read
 
-  pub stop_answer : (s : Desk) (r w : List ℕ) (f : Fault) (after : ℕ) (end : Type 0) → IsAt setup s r w → IsDrained s → s.printer.stopped ≡ Some f → after ≡ s.taken → StopsAt setup s f after r w end
+  pub stop_answer : (s : Desk) (r w : List ℕ) (f : Fault) (after : ℕ) (end : Type 0) → IsAt setup s r w → IsDrained s → s.printer.stopped ≡ Some f → after ≡ s.taken →
+      StopsAt (rules_of setup) f after r w (HasEnded s f after) end
   stop_answer s r w f after end a d st ta = record {
     t = a.t;
     rest = s.unread;
     split = a.read;
     after_is = ta ∙ a.taken;
     paper_of = drained_paper s r w a d.unwritten d.pending;
-    fault_is = inl (record { ended = record { stopped = st; drained = d; after_is = sym ta }; fault_of = sym a.stands.stopped ∙ st });
+    fault_is = inl (record { fault_of = sym a.stands.stopped ∙ st; last = a.stands.last; ended = record { stopped = st; drained = d; after_is = sym ta } });
   }
 
   pub whole_answer : (s : Desk) (r w : List ℕ) (report : Report) (end : Type 0) → IsAt setup s r w → IsDrained s → s.unread ≡ [] →
-      ((t o : List ℕ) → Stands setup s.printer t o → fault_at_end setup t ≡ None) → report.taken ≡ s.taken → report.written ≡ s.written → end → IsWhole setup report r w end
+      ((t o : List ℕ) → Stands setup s.printer t o → fault_at_end (rules_of setup) t ≡ None) → report.taken ≡ s.taken → report.written ≡ s.written → end → IsReported setup s report r w end
   whole_answer s r w report end a d un fi ta wr e =
       let t_is = all_taken s r w a un in
       record {
-        paper_of = drained_paper s r w a d.unwritten d.pending ∙ ap (paper setup) t_is;
-        fault_of = ap (fault_at_end setup) (sym t_is) ∙ fi a.t a.o a.stands;
+        whole = record {
+          paper_of = drained_paper s r w a d.unwritten d.pending ∙ ap (paper (rules_of setup)) t_is;
+          fault_of = ap (fault_at_end (rules_of setup)) (sym t_is) ∙ fi a.t a.o a.stands;
+          at_end = e;
+        };
+        none_left = un;
         taken = ta ∙ a.taken ∙ ap (λ (x : List ℕ). counted (length x)) t_is;
         written = wr ∙ a.written;
-        at_end = e;
       }
 
   pub end_answer : (s : Desk) (r w : List ℕ) (f : Fault) (after : ℕ) (end : Type 0) → IsAt setup s r w → IsDrained s → s.unread ≡ [] → s.printer.stopped ≡ None →
-      ((t o : List ℕ) → Stands setup s.printer t o → fault_at_end setup t ≡ Some f) → after ≡ s.taken → end → StopsAt setup s f after r w end
+      ((t o : List ℕ) → Stands setup s.printer t o → fault_at_end (rules_of setup) t ≡ Some f) → after ≡ s.taken → end → StopsAt (rules_of setup) f after r w (HasEnded s f after) end
   end_answer s r w f after end a d un run fi ta e = record {
     t = a.t;
     rest = s.unread;
@@ -213,4 +217,23 @@ module _ (setup : Setup) where
 
   -- a new session
   pub at_first : (s : Desk) → Stands setup s.printer [] [] → s.unread ≡ [] → s.unwritten ≡ [] → s.taken ≡ 0 → s.written ≡ 0 → IsAt setup s [] []
-  at_first s st un uw ta wr = record { t = []; o = []; stands = st; read = un; wrote = uw; taken = ta; written = wr }
+  at_first s st un uw ta wr = record {
+    t = [];
+    o = [];
+    stands = st;
+    read = un;
+    wrote = uw;
+    taken = ta;
+    written = wr;
+    unread_fit = omega (arith, ap length un);
+    unwritten_fit = omega (arith, ap length uw);
+  }
+
+  -- what is written is a front of the paper of what is read
+  pub written_front : (s : Desk) (r w : List ℕ) → IsAt setup s r w → ((bytes more : List ℕ) → IsPrefix (paper (rules_of setup) bytes) (paper (rules_of setup) (bytes ++ more))) → IsPrefix w (paper (rules_of setup) r)
+  written_front s r w a grows =
+      let more = grows a.t s.unread in (
+        s.unwritten ++ (s.printer.pending ++ more.0),
+        sym (append_assoc w s.unwritten (s.printer.pending ++ more.0)) ∙ ap (λ x. x ++ (s.printer.pending ++ more.0)) a.wrote
+            ∙ sym (append_assoc a.o s.printer.pending more.0) ∙ ap (λ x. x ++ more.0) a.stands.pending ∙ more.1 ∙ ap (paper (rules_of setup)) a.read,
+      )

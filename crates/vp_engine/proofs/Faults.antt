@@ -1,20 +1,13 @@
--- One byte more: the first fault, and the bytes before it.
-use Rattle.std.proofs.Common.{◌≡◌, ℕ, ◌≤◌, List, [], ◌∷◌, ◌++◌, length, take, drop, reverse, cond, is_some, true, false, Bool, append_assoc, Option, Some, None, refl, sym, ap, ◌∙◌, arith, length-append}
+-- The first fault and the bytes before it, by one byte more, and by the bytes that follow.
+use Rattle.std.proofs.Common.{◌≡◌, ℕ, ◌≤◌, List, [], ◌∷◌, ◌++◌, length, take, drop, reverse, cond, is_some, append_assoc, Option, Some, None, refl, sym, ap, ◌∙◌, arith, length-append}
+use Rattle.std.specs.Option.{option_or}
 use Rattle.std.proofs.lemmas.List.{reverse-append, reverse-reverse, append-nil, take-append-drop}
 use Rattle.std.proofs.lemmas.Grind.{common_steps}
 use Rattle.vp_dots.specs.declared.fault.Fault.{Fault}
-use Rattle.vp_dots.specs.declared.fault.Fault.TheVariants.{Truncated, Unprinted}
-use Rattle.std.proofs.lemmas.Bool.{false_from_ne_true}
-use Rattle.vp_esc.specs.declared.item.EscItem.{EscItem}
-use Rattle.vp_esc.specs.Split.{items, fault_of, split, split_on}
-use Rattle.vp_esc.specs.Units.{given, fault_in}
-use Rattle.vp_esc.specs.Laws.{IsPrefix}
-use Rattle.vp_receipt.specs.Setup.{Setup}
-use Rattle.vp_receipt.specs.Strips.{printed, prints, is_at_rest}
-use Rattle.vp_engine.specs.Bytes.{IsPrefixOf, without_last}
-use Rattle.vp_engine.specs.Paper.{history, first_of, newest_refusal, fault_at, first_fault, sound, fault, before_fault, paper, ending, fault_at_end, is_empty}
+use Rattle.vp_engine.specs.Bytes.{IsPrefix, without_last}
+use Rattle.vp_engine.specs.Paper.{Rules, Reading, Reads, history, printed, newest_refusal, fault_at, first_fault, sound, fault, before_fault, paper, ending, fault_at_end, is_empty, missing}
 
-pub reverse_last : (t : List ℕ) (b : ℕ) → reverse (t ++ b ∷ []) ≡ b ∷ reverse t
+reverse_last : (t : List ℕ) (b : ℕ) → reverse (t ++ b ∷ []) ≡ b ∷ reverse t
 reverse_last t b = reverse-append t (b ∷ [])
 
 back_again : (t : List ℕ) (b : ℕ) → reverse (b ∷ reverse t) ≡ t ++ b ∷ []
@@ -23,175 +16,153 @@ back_again t b = ap reverse (sym (reverse_last t b)) ∙ reverse-reverse (t ++ b
 pub without_last_more : (t : List ℕ) (b : ℕ) → without_last (t ++ b ∷ []) ≡ t
 without_last_more t b = grind (arith, common_steps)
 
-none_first : (a b : Option Fault) → first_of a b ≡ None → a ≡ None
+pub none_first : (a b : Option Fault) → option_or a b ≡ None → a ≡ None
 none_first None b e = refl
 none_first (Some f) b e = e
 
-none_second : (a b : Option Fault) → first_of a b ≡ None → b ≡ None
+none_second : (a b : Option Fault) → option_or a b ≡ None → b ≡ None
 none_second None b e = e
 none_second (Some f) b e = cc
 
-pub fault_more : (setup : Setup) (t : List ℕ) (b : ℕ) → fault setup (t ++ b ∷ []) ≡ first_of (fault setup t) (fault_at setup (t ++ b ∷ []))
-unfolding fault first_fault
-fault_more setup t b = ap (first_fault setup) (reverse_last t b) ∙ ap (λ x. first_of (first_fault setup (reverse t)) (fault_at setup x)) (back_again t b)
+-- where there is no fault, there was none before
+pub sticks : {Item : Type 0} (reading : Reading Item) → Reads reading → (bytes more : List ℕ) → reading.fault_of (bytes ++ more) ≡ None → reading.fault_of bytes ≡ None
+sticks reading reads bytes more e = none_by (reading.fault_of bytes) (λ f h. let no : None ≡ Some f = sym e ∙ reads.stays bytes more f h in cc)
+  where
+    none_by : (o : Option Fault) → ((f : Fault) → o ≡ Some f → ⊥) → o ≡ None
+    none_by None h = refl
+    none_by (Some f) h = absurd (h f refl)
 
-sound_back : (setup : Setup) (h : List ℕ) (b : ℕ) → sound setup (b ∷ h) ≡ cond (is_some (first_fault setup (b ∷ h))) (sound setup h) (reverse (b ∷ h))
-unfolding sound
-sound_back setup h b = refl
+module _ {Item : Type 0} (rules : Rules Item) where
+  pub paper_is : (t : List ℕ) → paper rules t ≡ printed rules (history rules (before_fault rules t))
+  unfolding paper
+  paper_is t = refl
 
-sound_stop : (setup : Setup) (h : List ℕ) (b : ℕ) (f : Fault) → first_fault setup (b ∷ h) ≡ Some f → sound setup (b ∷ h) ≡ sound setup h
-sound_stop setup h b f e = sound_back setup h b ∙ ap (λ g. cond (is_some g) (sound setup h) (reverse (b ∷ h))) e
+  pub fault_more : (t : List ℕ) (b : ℕ) → fault rules (t ++ b ∷ []) ≡ option_or (fault rules t) (fault_at rules (t ++ b ∷ []))
+  unfolding fault first_fault
+  fault_more t b = ap (first_fault rules) (reverse_last t b) ∙ ap (λ x. option_or (first_fault rules (reverse t)) (fault_at rules x)) (back_again t b)
 
-sound_whole : (setup : Setup) (h : List ℕ) → first_fault setup h ≡ None → sound setup h ≡ reverse h
-unfolding sound
-sound_whole setup [] e = refl
-sound_whole setup (b ∷ h) e = ap (λ g. cond (is_some g) (sound setup h) (reverse (b ∷ h))) e
+  sound_back : (h : List ℕ) (b : ℕ) → sound rules (b ∷ h) ≡ cond (is_some (first_fault rules (b ∷ h))) (sound rules h) (reverse (b ∷ h))
+  unfolding sound
+  sound_back h b = refl
 
--- bytes without a fault are all before it
-pub before_whole : (setup : Setup) (t : List ℕ) → fault setup t ≡ None → before_fault setup t ≡ t
-unfolding before_fault fault
-before_whole setup t e = sound_whole setup (reverse t) e ∙ reverse-reverse t
+  sound_stop : (h : List ℕ) (b : ℕ) (f : Fault) → first_fault rules (b ∷ h) ≡ Some f → sound rules (b ∷ h) ≡ sound rules h
+  sound_stop h b f e = sound_back h b ∙ ap (λ g. cond (is_some g) (sound rules h) (reverse (b ∷ h))) e
 
--- the byte that makes the fault is left out
-pub before_stop : (setup : Setup) (t : List ℕ) (b : ℕ) (f : Fault) → fault setup (t ++ b ∷ []) ≡ Some f → before_fault setup (t ++ b ∷ []) ≡ before_fault setup t
-unfolding before_fault fault
-before_stop setup t b f e = ap (sound setup) (reverse_last t b) ∙ sound_stop setup (reverse t) b f (ap (first_fault setup) (sym (reverse_last t b)) ∙ e)
+  sound_whole : (h : List ℕ) → first_fault rules h ≡ None → sound rules h ≡ reverse h
+  unfolding sound
+  sound_whole [] e = refl
+  sound_whole (b ∷ h) e = ap (λ g. cond (is_some g) (sound rules h) (reverse (b ∷ h))) e
 
-items_none : items [] ≡ []
-unfolding items split split_on given
-items_none = refl
+  -- bytes without a fault are all before it
+  pub before_whole : (t : List ℕ) → fault rules t ≡ None → before_fault rules t ≡ t
+  unfolding before_fault fault
+  before_whole t e = sound_whole (reverse t) e ∙ reverse-reverse t
 
-accepted_back : (setup : Setup) (h : List ℕ) → first_fault setup h ≡ None → newest_refusal setup (history (reverse h)) ≡ None
-unfolding first_fault
-accepted_back setup [] e = ap (λ x. newest_refusal setup (reverse x)) items_none
-accepted_back setup (b ∷ h) e =
-    none_second (fault_of (reverse (b ∷ h))) (newest_refusal setup (history (reverse (b ∷ h)))) (none_second (first_fault setup h) (fault_at setup (reverse (b ∷ h))) e)
+  -- the byte that makes the fault is left out
+  pub before_stop : (t : List ℕ) (b : ℕ) (f : Fault) → fault rules (t ++ b ∷ []) ≡ Some f → before_fault rules (t ++ b ∷ []) ≡ before_fault rules t
+  unfolding before_fault fault
+  before_stop t b f e = ap (sound rules) (reverse_last t b) ∙ sound_stop (reverse t) b f (ap (first_fault rules) (sym (reverse_last t b)) ∙ e)
 
--- without a fault the newest item is not refused
-pub newest_accepted : (setup : Setup) (t : List ℕ) → fault setup t ≡ None → newest_refusal setup (history t) ≡ None
-unfolding fault
-newest_accepted setup t e = ap (λ x. newest_refusal setup (history x)) (sym (reverse-reverse t)) ∙ accepted_back setup (reverse t) e
+  stays_back : (l h : List ℕ) (f : Fault) → first_fault rules h ≡ Some f → first_fault rules (l ++ h) ≡ Some f
+  unfolding first_fault
+  stays_back [] h f e = e
+  stays_back (b ∷ l) h f e = ap (λ g. option_or g (fault_at rules (reverse (b ∷ (l ++ h))))) (stays_back l h f e)
 
-fault_of_none : fault_of [] ≡ None
-unfolding fault_of split split_on fault_in
-fault_of_none = refl
+  sound_stays : (l h : List ℕ) (f : Fault) → first_fault rules h ≡ Some f → sound rules (l ++ h) ≡ sound rules h
+  sound_stays [] h f e = refl
+  sound_stays (b ∷ l) h f e = sound_stop (l ++ h) b f (stays_back (b ∷ l) h f e) ∙ sound_stays l h f e
 
-known_back : (setup : Setup) (h : List ℕ) → first_fault setup h ≡ None → fault_of (reverse h) ≡ None
-unfolding first_fault
-known_back setup [] e = fault_of_none
-known_back setup (b ∷ h) e =
-    none_first (fault_of (reverse (b ∷ h))) (newest_refusal setup (history (reverse (b ∷ h)))) (none_second (first_fault setup h) (fault_at setup (reverse (b ∷ h))) e)
+  pub fault_stays : (t c : List ℕ) (f : Fault) → fault rules t ≡ Some f → fault rules (t ++ c) ≡ Some f
+  unfolding fault
+  fault_stays t c f e = ap (first_fault rules) (reverse-append t c) ∙ stays_back (reverse c) (reverse t) f e
 
--- without a fault all commands are known
-pub all_known : (setup : Setup) (t : List ℕ) → fault setup t ≡ None → fault_of t ≡ None
-unfolding fault
-all_known setup t e = ap fault_of (sym (reverse-reverse t)) ∙ known_back setup (reverse t) e
+  before_stays : (t c : List ℕ) (f : Fault) → fault rules t ≡ Some f → before_fault rules (t ++ c) ≡ before_fault rules t
+  unfolding fault before_fault
+  before_stays t c f e = ap (sound rules) (reverse-append t c) ∙ sound_stays (reverse c) (reverse t) f e
 
-stays_back : (setup : Setup) (l h : List ℕ) (f : Fault) → first_fault setup h ≡ Some f → first_fault setup (l ++ h) ≡ Some f
-unfolding first_fault
-stays_back setup [] h f e = e
-stays_back setup (b ∷ l) h f e = ap (λ g. first_of g (fault_at setup (reverse (b ∷ (l ++ h))))) (stays_back setup l h f e)
+  pub paper_stays : (t c : List ℕ) (f : Fault) → fault rules t ≡ Some f → paper rules (t ++ c) ≡ paper rules t
+  unfolding paper
+  paper_stays t c f e = ap (λ x. printed rules (history rules x)) (before_stays t c f e)
 
-sound_stays : (setup : Setup) (l h : List ℕ) (f : Fault) → first_fault setup h ≡ Some f → sound setup (l ++ h) ≡ sound setup h
-sound_stays setup [] h f e = refl
-sound_stays setup (b ∷ l) h f e = sound_stop setup (l ++ h) b f (stays_back setup (b ∷ l) h f e) ∙ sound_stays setup l h f e
+  -- a byte that makes a fault prints nothing
+  last_prints : (h t : List ℕ) (f : Fault) → reverse t ≡ h → fault rules t ≡ Some f → paper rules t ≡ paper rules (without_last t)
+  unfolding paper
+  last_prints [] t f e k =
+      let t_is : t ≡ [] = sym (reverse-reverse t) ∙ ap reverse e in
+      ap (paper rules) t_is ∙ ap (λ x. paper rules (without_last x)) (sym t_is)
+  last_prints (b ∷ h) t f e k =
+      let t_is : t ≡ reverse h ++ b ∷ [] = sym (reverse-reverse t) ∙ ap reverse e ∙ reverse-append (b ∷ []) h in
+      let short : without_last t ≡ reverse h = ap without_last t_is ∙ without_last_more (reverse h) b in
+      ap (paper rules) t_is ∙ ap (λ x. printed rules (history rules x)) (before_stop (reverse h) b f (ap (fault rules) (sym t_is) ∙ k)) ∙ ap (paper rules) (sym short)
 
-pub fault_stays : (setup : Setup) (t c : List ℕ) (f : Fault) → fault setup t ≡ Some f → fault setup (t ++ c) ≡ Some f
-unfolding fault
-fault_stays setup t c f e = ap (first_fault setup) (reverse-append t c) ∙ stays_back setup (reverse c) (reverse t) f e
+  pub last_prints_nothing : (t : List ℕ) (f : Fault) → fault rules t ≡ Some f → paper rules t ≡ paper rules (without_last t)
+  last_prints_nothing t f k = last_prints (reverse t) t f refl k
 
-pub paper_is : (setup : Setup) (t : List ℕ) → paper setup t ≡ printed setup (history (before_fault setup t))
-unfolding paper
-paper_is setup t = refl
+  module _ (reads : Reads rules.reading) where
+    sound_at : (h : List ℕ) → first_fault rules h ≡ None → fault_at rules (reverse h) ≡ None
+    unfolding first_fault
+    sound_at [] e = ap (λ f. option_or f (newest_refusal rules (history rules []))) reads.no_fault ∙ ap (λ x. newest_refusal rules (reverse x)) reads.nothing
+    sound_at (b ∷ h) e = none_second (first_fault rules h) (fault_at rules (reverse (b ∷ h))) e
 
-before_stays : (setup : Setup) (t c : List ℕ) (f : Fault) → fault setup t ≡ Some f → before_fault setup (t ++ c) ≡ before_fault setup t
-unfolding fault before_fault
-before_stays setup t c f e = ap (sound setup) (reverse-append t c) ∙ sound_stays setup (reverse c) (reverse t) f e
+    none_at : (t : List ℕ) → fault rules t ≡ None → fault_at rules t ≡ None
+    unfolding fault
+    none_at t e = ap (fault_at rules) (sym (reverse-reverse t)) ∙ sound_at (reverse t) e
 
-pub paper_stays : (setup : Setup) (t c : List ℕ) (f : Fault) → fault setup t ≡ Some f → paper setup (t ++ c) ≡ paper setup t
-unfolding paper
-paper_stays setup t c f e = ap (λ x. printed setup (history x)) (before_stays setup t c f e)
+    -- without a fault all commands are known
+    pub all_known : (t : List ℕ) → fault rules t ≡ None → rules.reading.fault_of t ≡ None
+    all_known t e = none_first (rules.reading.fault_of t) (newest_refusal rules (history rules t)) (none_at t e)
 
--- what is printed stays printed
-printed_grows : (setup : Setup) (m h : List EscItem) → IsPrefixOf (printed setup h) (printed setup (m ++ h))
-printed_grows setup [] h = ([], append-nil (printed setup h))
-printed_grows setup (i ∷ m) h =
-    let p = printed_grows setup m h in
-    (p.0 ++ prints setup (m ++ h) i, sym (append_assoc (printed setup h) p.0 (prints setup (m ++ h) i)) ∙ ap (λ x. x ++ prints setup (m ++ h) i) p.1)
+    -- and the newest item is not refused
+    pub newest_accepted : (t : List ℕ) → fault rules t ≡ None → newest_refusal rules (history rules t) ≡ None
+    newest_accepted t e = none_second (rules.reading.fault_of t) (newest_refusal rules (history rules t)) (none_at t e)
 
-abbrev pub Grows : Type 0
-Grows = (bytes more : List ℕ) → IsPrefix (items bytes) (items (bytes ++ more))
+    -- what is printed stays printed
+    printed_grows : (m h : List Item) → IsPrefix (printed rules h) (printed rules (m ++ h))
+    printed_grows [] h = ([], append-nil (printed rules h))
+    printed_grows (i ∷ m) h =
+        let p = printed_grows m h in
+        (p.0 ++ rules.prints (m ++ h) i, sym (append_assoc (printed rules h) p.0 (rules.prints (m ++ h) i)) ∙ ap (λ x. x ++ rules.prints (m ++ h) i) p.1)
 
-history_grows : (setup : Setup) (t c : List ℕ) → Grows → IsPrefixOf (printed setup (history t)) (printed setup (history (t ++ c)))
-history_grows setup t c g =
-    let p = g t c in
-    let q = printed_grows setup (reverse p.0) (history t) in
-    (q.0, q.1 ∙ ap (printed setup) (sym (ap reverse p.1 ∙ reverse-append (items t) p.0)))
+    history_grows : (t c : List ℕ) → IsPrefix (printed rules (history rules t)) (printed rules (history rules (t ++ c)))
+    history_grows t c =
+        let p = reads.grows t c in
+        let q = printed_grows (reverse p.0) (history rules t) in
+        (q.0, q.1 ∙ ap (printed rules) (sym (ap reverse (sym p.1) ∙ reverse-append (rules.reading.items t) p.0)))
 
--- and so is the paper
-byte_grows : (setup : Setup) (t : List ℕ) (b : ℕ) (f : Option Fault) → Grows → fault setup (t ++ b ∷ []) ≡ f → IsPrefixOf (paper setup t) (paper setup (t ++ b ∷ []))
-unfolding paper
-byte_grows setup t b (Some f) g e = ([], append-nil _ ∙ ap (λ x. printed setup (history x)) (sym (before_stop setup t b f e)))
-byte_grows setup t b None g e =
-    let whole = before_whole setup (t ++ b ∷ []) e in
-    let front = before_whole setup t (none_first (fault setup t) (fault_at setup (t ++ b ∷ [])) (sym (fault_more setup t b) ∙ e)) in
-    let p = history_grows setup t (b ∷ []) g in
-    (p.0, ap (λ x. printed setup (history x) ++ p.0) front ∙ p.1 ∙ ap (λ x. printed setup (history x)) (sym whole))
+    byte_grows : (t : List ℕ) (b : ℕ) (f : Option Fault) → fault rules (t ++ b ∷ []) ≡ f → IsPrefix (paper rules t) (paper rules (t ++ b ∷ []))
+    unfolding paper
+    byte_grows t b (Some f) e = ([], append-nil _ ∙ ap (λ x. printed rules (history rules x)) (sym (before_stop t b f e)))
+    byte_grows t b None e =
+        let whole = before_whole (t ++ b ∷ []) e in
+        let front = before_whole t (none_first (fault rules t) (fault_at rules (t ++ b ∷ [])) (sym (fault_more t b) ∙ e)) in
+        let p = history_grows t (b ∷ []) in
+        (p.0, ap (λ x. printed rules (history rules x) ++ p.0) front ∙ p.1 ∙ ap (λ x. printed rules (history rules x)) (sym whole))
 
-pub bytes_grow : (setup : Setup) (t c : List ℕ) → Grows → IsPrefixOf (paper setup t) (paper setup (t ++ c))
-bytes_grow setup t [] g = ([], append-nil _ ∙ ap (paper setup) (sym (append-nil t)))
-bytes_grow setup t (b ∷ c) g =
-    let p = byte_grows setup t b (fault setup (t ++ b ∷ [])) g refl in
-    let q = bytes_grow setup (t ++ b ∷ []) c g in
-    (p.0 ++ q.0, sym (append_assoc (paper setup t) p.0 q.0) ∙ ap (λ x. x ++ q.0) p.1 ∙ q.1 ∙ ap (paper setup) (append_assoc t (b ∷ []) c))
+    -- and so is the paper
+    pub bytes_grow : (t c : List ℕ) → IsPrefix (paper rules t) (paper rules (t ++ c))
+    bytes_grow t [] = ([], append-nil _ ∙ ap (paper rules) (sym (append-nil t)))
+    bytes_grow t (b ∷ c) =
+        let p = byte_grows t b (fault rules (t ++ b ∷ [])) refl in
+        let q = bytes_grow (t ++ b ∷ []) c in
+        (p.0 ++ q.0, sym (append_assoc (paper rules t) p.0 q.0) ∙ ap (λ x. x ++ q.0) p.1 ∙ q.1 ∙ ap (paper rules) (append_assoc t (b ∷ []) c))
 
--- a byte that makes a fault prints nothing
-last_prints : (setup : Setup) (h t : List ℕ) (f : Fault) → reverse t ≡ h → fault setup t ≡ Some f → paper setup t ≡ paper setup (without_last t)
-unfolding paper
-last_prints setup [] t f e k =
-    let t_is : t ≡ [] = sym (reverse-reverse t) ∙ ap reverse e in
-    ap (paper setup) t_is ∙ ap (λ x. paper setup (without_last x)) (sym t_is)
-last_prints setup (b ∷ h) t f e k =
-    let t_is : t ≡ reverse h ++ b ∷ [] = sym (reverse-reverse t) ∙ ap reverse e ∙ reverse-append (b ∷ []) h in
-    let short : without_last t ≡ reverse h = ap without_last t_is ∙ without_last_more (reverse h) b in
-    ap (paper setup) t_is ∙ ap (λ x. printed setup (history x)) (before_stop setup (reverse h) b f (ap (fault setup) (sym t_is) ∙ k)) ∙ ap (paper setup) (sym short)
+  pub fault_in_front : (src : List ℕ) (n : ℕ) (f : Fault) → ((bytes more : List ℕ) → fault rules bytes ≡ Some f → fault rules (bytes ++ more) ≡ Some f) →
+      fault rules (take n src) ≡ Some f → fault_at_end rules src ≡ Some f
+  fault_in_front src n f stays e =
+      ap (λ g. option_or g (ending rules src)) (ap (fault rules) (sym (take-append-drop n src)) ∙ stays (take n src) (drop n src) e)
 
-pub last_prints_nothing : (setup : Setup) (t : List ℕ) (f : Fault) → fault setup t ≡ Some f → paper setup t ≡ paper setup (without_last t)
-last_prints_nothing setup t f k = last_prints setup (reverse t) t f refl k
+  -- what is put out of the paper of a front is no longer than the paper
+  pub no_longer : (o rest src : List ℕ) (n : ℕ) → ((bytes more : List ℕ) → IsPrefix (paper rules bytes) (paper rules (bytes ++ more))) →
+      o ++ rest ≡ paper rules (take n src) → length o ≤ length (paper rules src)
+  no_longer o rest src n grows e =
+      let g = grows (take n src) (drop n src) in
+      let whole = ap (paper rules) (take-append-drop n src) in
+      omega (arith, ap length e, ap length g.1, ap length whole, length-append o rest, length-append (paper rules (take n src)) g.0)
 
-pub fault_in_front : (setup : Setup) (src : List ℕ) (n : ℕ) (f : Fault) → ((bytes more : List ℕ) → fault setup bytes ≡ Some f → fault setup (bytes ++ more) ≡ Some f) →
-    fault setup (take n src) ≡ Some f → fault_at_end setup src ≡ Some f
-fault_in_front setup src n f stays e =
-    ap (λ g. first_of g (ending setup src)) (ap (fault setup) (sym (take-append-drop n src)) ∙ stays (take n src) (drop n src) e)
-
--- what is put out of the paper of a front is no longer than the paper
-pub no_longer : (setup : Setup) (o rest src : List ℕ) (n : ℕ) → ((bytes more : List ℕ) → IsPrefixOf (paper setup bytes) (paper setup (bytes ++ more))) →
-    o ++ rest ≡ paper setup (take n src) → length o ≤ length (paper setup src)
-no_longer setup o rest src n grows e =
-    let g = grows (take n src) (drop n src) in
-    let whole = ap (paper setup) (take-append-drop n src) in
-    omega (arith, ap length e, ap length g.1, ap length whole, length-append o rest, length-append (paper setup (take n src)) g.0)
-
-empty_rest : (rest : List ℕ) → (rest ≡ [] → ⊥) → is_empty rest ≡ false
-empty_rest [] h = absurd (h refl)
-empty_rest (b ∷ rest) h = refl
-
--- where bytes without a fault end
-pub ends_inside : (setup : Setup) (t : List ℕ) → fault setup t ≡ None → (((split t).rest ≡ []) × (fault_of t ≡ None) → ⊥) → fault_at_end setup t ≡ Some Truncated
-unfolding ending
-ends_inside setup t none h =
-    ap (λ f. first_of f (ending setup t)) none
-    ∙ ap (λ b. cond b (cond (is_at_rest setup (history t)) None (Some Unprinted)) (Some Truncated)) (empty_rest (split t).rest (λ e. h (e, all_known setup t none)))
-
-ends_between : (setup : Setup) (t : List ℕ) (b : Bool) → fault setup t ≡ None → (split t).rest ≡ [] → is_at_rest setup (history (before_fault setup t)) ≡ b → fault_at_end setup t ≡ cond b None (Some Unprinted)
-unfolding ending
-ends_between setup t b none e r =
-    ap (λ f. first_of f (ending setup t)) none
-    ∙ ap (λ x. cond (is_empty x) (cond (is_at_rest setup (history t)) None (Some Unprinted)) (Some Truncated)) e
-    ∙ ap (λ v. cond v None (Some Unprinted)) (ap (λ x. is_at_rest setup (history x)) (sym (before_whole setup t none)) ∙ r)
-
-pub ends_unprinted : (setup : Setup) (t : List ℕ) → fault setup t ≡ None → (split t).rest ≡ [] → (is_at_rest setup (history (before_fault setup t)) ≡ true → ⊥) → fault_at_end setup t ≡ Some Unprinted
-ends_unprinted setup t none e h = ends_between setup t false none e (false_from_ne_true _ h)
-
-pub ends_whole : (setup : Setup) (t : List ℕ) → fault setup t ≡ None → (split t).rest ≡ [] → is_at_rest setup (history (before_fault setup t)) ≡ true → fault_at_end setup t ≡ None
-ends_whole setup t none e h = ends_between setup t true none e h
+  -- where bytes without a fault end
+  pub ends : (t : List ℕ) (missing_now : Option Fault) → fault rules t ≡ None →
+      missing_now ≡ missing (is_empty (rules.reading.rest t)) (rules.is_at_rest (history rules (before_fault rules t))) → fault_at_end rules t ≡ missing_now
+  unfolding ending
+  ends t missing_now none e =
+      ap (λ f. option_or f (ending rules t)) none
+      ∙ ap (λ x. missing (is_empty (rules.reading.rest t)) (rules.is_at_rest (history rules x))) (sym (before_whole t none)) ∙ sym e

@@ -1,5 +1,12 @@
 pub mod Cuts
-pub mod Desks
 pub mod Faults
+pub mod Escs
 pub mod Steps
 pub mod Runs
+pub mod Comes
+pub mod Arms
+pub mod Rasters
+pub mod ByteLines
+pub mod Listings
+pub mod Whole
+pub mod Desks

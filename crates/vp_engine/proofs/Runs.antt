@@ -1,109 +1,91 @@
--- Where a printer stands after bytes of a raster's row.
-use Rattle.std.proofs.Common.{◌≡◌, ℕ, ◌≤◌, ◌<◌, List, [], ◌∷◌, ◌++◌, length, suc, take, reverse, append_assoc, None, sym, ap, subst, ◌∙◌, arith}
-use Rattle.std.proofs.lemmas.List.{reverse-append, append-nil, take-take, length-take-le}
+-- Where a printer stands after a run of bytes and all that they print.
+use Rattle.std.proofs.Common.{◌≡◌, ℕ, ◌<◌, ◌≤◌, ◌+◌, ◌-◌, List, [], ◌∷◌, ◌++◌, length, take, drop, get_or, zero, suc, reverse, append_assoc, Option, Some, None, refl, sym, ap, subst, ◌∙◌, arith}
+use Rattle.std.specs.Option.{option_or}
+use Rattle.std.proofs.lemmas.List.{reverse-append, append-nil, append_cancel_left, take_more, take-append-drop}
 use Rattle.std.proofs.Math.Seq.{take-length}
-use Rattle.vp_esc.specs.declared.item.EscItem.{EscItem}
-use Rattle.vp_esc.specs.declared.item.EscItem.TheVariants.{RasterByte}
-use Rattle.vp_esc.specs.Split.{items, fault_of}
-use Rattle.vp_esc.specs.Reader.{Stands as ReaderStands, raster_items}
-use Rattle.vp_receipt.specs.Setup.{Setup}
-use Rattle.vp_receipt.specs.Rasters.{bytes_after}
-use Rattle.vp_receipt.specs.Standing.{Stands as ReceiptStands}
-use Rattle.vp_receipt.specs.Strips.{printed, prints}
-use Rattle.vp_engine.specs.Bytes.{IsPrefixOf, without_last}
-use Rattle.vp_engine.specs.Paper.{history, first_of, newest_refusal, fault_at, fault, before_fault, paper}
+use Rattle.vp_dots.specs.declared.fault.Fault.{Fault}
+use Rattle.vp_engine.specs.Setups.{Setup}
+use Rattle.vp_engine.specs.Bytes.{IsPrefix, without_last}
+use Rattle.vp_engine.specs.Machines.{MachineStands}
+use Rattle.vp_engine.specs.Takes.{AreAccepted, TakesRun}
+use Rattle.vp_engine.specs.Paper.{Rules, Reads, history, printed, newest_refusal, fault_at, fault, paper}
+use Rattle.vp_engine.specs.Setups.{Item, rules_of}
 use Rattle.vp_engine.specs.Stands.{Engine, Stands}
-use Rattle.vp_engine.proofs.Faults.{fault_more, before_whole, paper_is, without_last_more}
+use Rattle.vp_engine.proofs.Faults.{sticks, fault_more, fault_stays, before_whole, newest_accepted, all_known, paper_is, bytes_grow}
 
--- Each of these bytes gives itself.
-pub record GivesBytes (t xs : List ℕ) : Type 0 where
-  pub gives : (n : ℕ) → n ≤ length xs → items (t ++ take n xs) ≡ items t ++ raster_items (take n xs)
-  pub known : (n : ℕ) → 0 < n → n ≤ length xs → fault_of (t ++ take n xs) ≡ None
+module _ {Item : Type 0} (rules : Rules Item) where
+  -- the newest of accepted items is not refused, wherever they are cut
+  newest_of : (a more before : List Item) → AreAccepted rules before (a ++ more) → newest_refusal rules before ≡ None → newest_refusal rules (reverse a ++ before) ≡ None
+  newest_of [] more before q e = e
+  newest_of (i ∷ a) more before q e =
+      ap (newest_refusal rules) (ap (λ x. x ++ before) (reverse-append (i ∷ []) a) ∙ append_assoc (reverse a) (i ∷ []) before) ∙ newest_of a more (i ∷ before) q.1 q.0
 
-first_byte : (t : List ℕ) (x : ℕ) (xs : List ℕ) → GivesBytes t (x ∷ xs) → items (t ++ x ∷ []) ≡ items t ++ RasterByte x ∷ []
-first_byte t x xs g = g.gives 1 (omega arith)
+  module _ (reads : Reads rules.reading) (t run text : List ℕ) (none : fault rules t ≡ None) (added : List Item)
+      (gives : rules.reading.items (t ++ run) ≡ rules.reading.items t ++ added) (known : rules.reading.fault_of (t ++ run) ≡ None) (accepted : AreAccepted rules (history rules t) added)
+      (prints : printed rules (reverse added ++ history rules t) ≡ printed rules (history rules t) ++ text) where
+    -- nowhere in the run is a fault
+    front_sound : (front rest : List ℕ) → front ++ rest ≡ run → fault_at rules (t ++ front) ≡ None
+    front_sound front rest e =
+        let all : (t ++ front) ++ rest ≡ t ++ run = append_assoc t front rest ∙ ap (λ x. t ++ x) e in
+        let a = reads.grows t front in
+        let m = reads.grows (t ++ front) rest in
+        let cut : a.0 ++ m.0 ≡ added =
+        append_cancel_left (rules.reading.items t) (a.0 ++ m.0) added
+        (sym (append_assoc (rules.reading.items t) a.0 m.0) ∙ ap (λ (x : List Item). x ++ m.0) a.1 ∙ m.1 ∙ ap rules.reading.items all ∙ gives) in
+        let hi : history rules (t ++ front) ≡ reverse a.0 ++ history rules t = ap reverse (sym a.1) ∙ reverse-append (rules.reading.items t) a.0 in
+        ap (λ f. option_or f (newest_refusal rules (history rules (t ++ front)))) (sticks rules.reading reads (t ++ front) rest (ap rules.reading.fault_of all ∙ known))
+        ∙ ap (newest_refusal rules) hi ∙ newest_of a.0 m.0 (history rules t) (subst (AreAccepted rules (history rules t)) (sym cut) accepted) (newest_accepted rules reads t none)
 
-first_known : (t : List ℕ) (x : ℕ) (xs : List ℕ) → GivesBytes t (x ∷ xs) → fault_of (t ++ x ∷ []) ≡ None
-first_known t x xs g = g.known 1 (omega arith) (omega arith)
+    sound_to : (n : ℕ) → n ≤ length run → fault rules (t ++ take n run) ≡ None
+    sound_to zero h = ap (fault rules) (append-nil t) ∙ none
+    sound_to (suc n) h =
+        let less : n < length run = omega arith in
+        let next : t ++ take (suc n) run ≡ (t ++ take n run) ++ get_or run n 0 ∷ [] =
+        ap (λ k. t ++ take k run) (let e : suc n ≡ n + 1 = omega arith in e) ∙ ap (λ x. t ++ x) (take_more run n 0 less) ∙ sym (append_assoc t (take n run) (get_or run n 0 ∷ [])) in
+        ap (fault rules) next ∙ fault_more rules (t ++ take n run) (get_or run n 0)
+        ∙ ap (λ f. option_or f (fault_at rules ((t ++ take n run) ++ get_or run n 0 ∷ []))) (sound_to n (omega arith))
+        ∙ ap (fault_at rules) (sym next) ∙ front_sound (take (suc n) run) (drop (suc n) run) (take-append-drop (suc n) run)
 
-other_bytes : (t : List ℕ) (x : ℕ) (xs : List ℕ) → GivesBytes t (x ∷ xs) → GivesBytes (t ++ x ∷ []) xs
-other_bytes t x xs g = record {
-  gives = λ n h.
-      ap items (append_assoc t (x ∷ []) (take n xs)) ∙ g.gives (suc n) (omega arith)
-      ∙ sym (append_assoc (items t) (RasterByte x ∷ []) (raster_items (take n xs)))
-      ∙ ap (λ (y : List EscItem). y ++ raster_items (take n xs)) (sym (first_byte t x xs g));
-  known = λ n some h. ap fault_of (append_assoc t (x ∷ []) (take n xs)) ∙ g.known (suc n) (omega arith) (omega arith);
-}
+    pub run_sound : fault rules (t ++ run) ≡ None
+    run_sound = ap (λ x. fault rules (t ++ x)) (sym (take-length run)) ∙ sound_to (length run) (omega arith)
 
-newest : (t : List ℕ) (x : ℕ) (xs : List ℕ) → GivesBytes t (x ∷ xs) → history (t ++ x ∷ []) ≡ RasterByte x ∷ history t
-newest t x xs g = ap reverse (first_byte t x xs g) ∙ reverse-append (items t) (RasterByte x ∷ [])
+    pub run_history : history rules (t ++ run) ≡ reverse added ++ history rules t
+    run_history = ap reverse gives ∙ reverse-append (rules.reading.items t) added
 
--- the items with those of the bytes
-items_after : (t xs : List ℕ) → GivesBytes t xs → history (t ++ xs) ≡ bytes_after xs (history t)
-items_after t xs g =
-    let e : take (length xs) xs ≡ xs = take-length xs in
-    ap (λ x. history (t ++ x)) (sym e) ∙ ap reverse (g.gives (length xs) (omega arith)) ∙ ap (λ x. reverse (items t ++ raster_items x)) e ∙ reverse-append (items t) (raster_items xs)
+    pub run_prints : paper rules t ++ text ≡ paper rules (t ++ run)
+    run_prints =
+        ap (λ x. x ++ text) (paper_is rules t ∙ ap (λ x. printed rules (history rules x)) (before_whole rules t none)) ∙ sym prints ∙ ap (printed rules) (sym run_history)
+        ∙ ap (λ x. printed rules (history rules x)) (sym (before_whole rules (t ++ run) run_sound)) ∙ sym (paper_is rules (t ++ run))
 
--- a byte of a raster is no fault
-byte_sound : (setup : Setup) (t : List ℕ) (x : ℕ) (xs : List ℕ) → GivesBytes t (x ∷ xs) → fault setup t ≡ None → fault setup (t ++ x ∷ []) ≡ None
-byte_sound setup t x xs g none =
-    fault_more setup t x ∙ ap (λ f. first_of f (fault_at setup (t ++ x ∷ []))) none
-    ∙ ap (λ f. first_of f (newest_refusal setup (history (t ++ x ∷ [])))) (first_known t x xs g) ∙ ap (newest_refusal setup) (newest t x xs g)
+  none_before : (front rest : List ℕ) (f : Option Fault) → fault rules front ≡ f → fault rules (front ++ rest) ≡ None → fault rules front ≡ None
+  none_before front rest None e h = e
+  none_before front rest (Some f) e h = let no : None ≡ Some f = sym h ∙ fault_stays rules front rest f e in cc
 
-paper_whole : (setup : Setup) (t : List ℕ) → fault setup t ≡ None → paper setup t ≡ printed setup (history t)
-paper_whole setup t none = paper_is setup t ∙ ap (λ x. printed setup (history x)) (before_whole setup t none)
+  -- without the last byte there is no fault either
+  pub last_sound : (t : List ℕ) → fault rules t ≡ None → fault rules (without_last t) ≡ None
+  last_sound t e = none_before (without_last t) (drop (length t - 1) t) _ refl (ap (fault rules) (take-append-drop (length t - 1) t) ∙ e)
 
--- and adds to the paper
-byte_adds : (setup : Setup) (t : List ℕ) (x : ℕ) (xs : List ℕ) → GivesBytes t (x ∷ xs) → fault setup t ≡ None → IsPrefixOf (paper setup t) (paper setup (t ++ x ∷ []))
-byte_adds setup t x xs g none = (
-  prints setup (history t) (RasterByte x),
-  ap (λ y. y ++ prints setup (history t) (RasterByte x)) (paper_whole setup t none)
-      ∙ ap (printed setup) (sym (newest t x xs g)) ∙ sym (paper_whole setup (t ++ x ∷ []) (byte_sound setup t x xs g none)),
-)
+  pub last_grows : (t : List ℕ) → Reads rules.reading → IsPrefix (paper rules (without_last t)) (paper rules t)
+  last_grows t reads = subst (λ x. IsPrefix (paper rules (without_last t)) (paper rules x)) (take-append-drop (length t - 1) t) (bytes_grow rules reads (without_last t) (drop (length t - 1) t))
 
--- bytes without a fault, and the one before the last of them
-record Sound (setup : Setup) (bytes : List ℕ) : Type 0 where
-  all : fault setup bytes ≡ None
-  last : fault setup (without_last bytes) ≡ None
-  before : IsPrefixOf (paper setup (without_last bytes)) (paper setup bytes)
-
-sound : (setup : Setup) (t xs : List ℕ) → GivesBytes t xs → Sound setup t → Sound setup (t ++ xs)
-sound setup t [] g s = subst (Sound setup) (sym (append-nil t)) s
-sound setup t (x ∷ xs) g s =
-    let short : without_last (t ++ x ∷ []) ≡ t = without_last_more t x in
-    let one : Sound setup (t ++ x ∷ []) = record {
-      all = byte_sound setup t x xs g s.all;
-      last = ap (fault setup) short ∙ s.all;
-      before = subst (λ y. IsPrefixOf (paper setup y) (paper setup (t ++ x ∷ []))) (sym short) (byte_adds setup t x xs g s.all);
-    } in
-    subst (Sound setup) (append_assoc t (x ∷ []) xs) (sound setup (t ++ x ∷ []) xs (other_bytes t x xs g) one)
-
--- bytes that print nothing
-pub stands_run : (setup : Setup) (p q : Engine) (t o xs : List ℕ) → Stands setup p t o → p.receipt.pending ≡ [] → p.stopped ≡ None → GivesBytes t xs → ReaderStands q.reader (t ++ xs)
-    → printed setup (bytes_after xs (history (before_fault setup t))) ≡ printed setup (history (before_fault setup t))
-    → ReceiptStands setup q.receipt (bytes_after xs (history (before_fault setup t))) → q.receipt.pending ≡ [] → q.stopped ≡ None → Stands setup q (t ++ xs) o
-stands_run setup p q t o xs s idle run g rd pr rc pe st =
-    let none : fault setup t ≡ None = sym s.stopped ∙ run in
-    let put : o ≡ paper setup t = sym (append-nil o) ∙ ap (λ x. o ++ x) (sym idle) ∙ s.pending in
-    let now : Sound setup (t ++ xs) = sound setup t xs g (record { all = none; last = s.last; before = (s.before.0, s.before.1 ∙ put) }) in
-    let history_is : history (before_fault setup (t ++ xs)) ≡ bytes_after xs (history (before_fault setup t)) =
-    ap history (before_whole setup (t ++ xs) now.all) ∙ items_after t xs g ∙ ap (λ x. bytes_after xs (history x)) (sym (before_whole setup t none)) in
-    let same : paper setup t ≡ paper setup (t ++ xs) = paper_is setup t ∙ sym pr ∙ ap (printed setup) (sym history_is) ∙ sym (paper_is setup (t ++ xs)) in
+-- a run of bytes, and all that they print
+pub stands_run : (setup : Setup) (p q : Engine) (t o run text : List ℕ) → Reads (rules_of setup).reading → Stands setup p t o → p.pending ≡ [] → p.stopped ≡ None →
+    ((before : List (Item setup)) → MachineStands p.machine setup t before → (rules_of setup).reading.fault_of t ≡ None → TakesRun (rules_of setup) (MachineStands q.machine setup) t before run text) →
+    q.pending ≡ [] → q.stopped ≡ None → Stands setup q (t ++ run) (o ++ text)
+stands_run setup p q t o run text reads s idle running takes pe st =
+    let none : fault (rules_of setup) t ≡ None = sym s.stopped ∙ running in
+    let at : MachineStands p.machine setup t (history (rules_of setup) t) = subst (λ x. MachineStands p.machine setup t (history (rules_of setup) x)) (before_whole (rules_of setup) t none) s.machine in
+    let r = takes (history (rules_of setup) t) at (all_known (rules_of setup) reads t none) in
+    let sound = run_sound (rules_of setup) reads t run text none r.added r.gives r.known r.accepted r.prints in
+    let more = run_prints (rules_of setup) reads t run text none r.added r.gives r.known r.accepted r.prints in
+    let hi = ap (history (rules_of setup)) (before_whole (rules_of setup) (t ++ run) sound) ∙ run_history (rules_of setup) reads t run text none r.added r.gives r.known r.accepted r.prints in
+    let put : o ++ text ≡ paper (rules_of setup) (t ++ run) =
+    ap (λ x. x ++ text) (sym (append-nil o) ∙ ap (λ x. o ++ x) (sym idle) ∙ s.pending) ∙ more in
+    let grows = last_grows (rules_of setup) (t ++ run) reads in
     record {
-      reader = rd;
-      receipt = subst (ReceiptStands setup q.receipt) (sym history_is) rc;
-      stopped = st ∙ sym now.all;
-      pending = ap (λ x. o ++ x) pe ∙ append-nil o ∙ put ∙ same;
-      before = (now.before.0, now.before.1 ∙ sym same ∙ sym put);
-      last = now.last;
-    }
-
--- the front of a slice that a reader took
-pub gives_front : (t ys : List ℕ) (r : ℕ) → r ≤ length ys → ((n : ℕ) → n ≤ r → items (t ++ take n ys) ≡ items t ++ raster_items (take n ys))
-    → ((n : ℕ) → 0 < n → n ≤ r → fault_of (t ++ take n ys) ≡ None) → GivesBytes t (take r ys)
-gives_front t ys r h gives known =
-    let l = length-take-le r ys h in
-    record {
-      gives = λ n k. let e : take n (take r ys) ≡ take n ys = take-take n r ys (omega (arith, l)) in ap (λ x. items (t ++ x)) e ∙ gives n (omega (arith, l)) ∙ ap (λ x. items t ++ raster_items x) (sym e);
-      known = λ n some k. let e : take n (take r ys) ≡ take n ys = take-take n r ys (omega (arith, l)) in ap (λ x. fault_of (t ++ x)) e ∙ known n some (omega (arith, l));
+      machine = subst (MachineStands q.machine setup (t ++ run)) (sym hi) r.stands;
+      stopped = st ∙ sym sound;
+      pending = ap (λ x. (o ++ text) ++ x) pe ∙ append-nil (o ++ text) ∙ put;
+      before = (grows.0, grows.1 ∙ sym put);
+      last = last_sound (rules_of setup) (t ++ run) sound;
     }

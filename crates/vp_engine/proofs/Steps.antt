@@ -1,141 +1,151 @@
--- Where a printer stands after one byte more.
-use Rattle.std.proofs.Common.{◌≡◌, ℕ, ◌<◌, List, [], ◌∷◌, ◌++◌, length, take, reverse, append_assoc, Option, Some, None, IsSome, MatchResult, Result, Ok, Err, refl, sym, ap, subst, ◌∙◌, arith, length-append, length-drop, min, drop}
+-- Where a printer stands after one byte more, and after it put out some.
+use Rattle.std.proofs.Common.{◌≡◌, ℕ, ◌<◌, List, [], ◌∷◌, ◌++◌, length, take, reverse, append_assoc, Option, Some, None, IsSome, MatchResult, Result, Ok, Err, refl, sym, ap, subst, ◌∙◌, arith, length-append, length-drop, min, drop, option_to_list}
+use Rattle.std.specs.Option.{option_or}
 use Rattle.std.specs.Result.{result_err}
 use Rattle.std.proofs.lemmas.List.{reverse-append, append-nil, take_at, drop_at, length-take-le, take-append-drop}
 use Rattle.vp_dots.specs.declared.fault.Fault.{Fault}
-use Rattle.vp_esc.specs.declared.item.EscItem.{EscItem}
-use Rattle.vp_esc.specs.Split.{items, fault_of}
-use Rattle.vp_esc.specs.Reader.{Gives, Stands as ReaderStands}
-use Rattle.vp_receipt.specs.Setup.{Setup}
-use Rattle.vp_receipt.specs.Standing.{Printing, Stands as ReceiptStands}
-use Rattle.vp_receipt.specs.Strips.{printed, prints, refusal}
+use Rattle.vp_engine.specs.Setups.{Setup}
 use Rattle.vp_engine.specs.Bytes.{without_last}
-use Rattle.vp_engine.specs.Paper.{history, first_of, newest_refusal, fault_at, fault, first_fault, before_fault, sound, paper}
+use Rattle.vp_engine.specs.Paper.{Rules, Reads, history, printed, newest_refusal, fault_at, fault, first_fault, before_fault, sound, paper, fault_at_end, missing, is_empty}
+use Rattle.vp_engine.specs.Machines.{MachineStands}
+use Rattle.vp_engine.specs.Takes.{Takes, Gives, Comes}
+use Rattle.vp_engine.specs.Setups.{Item, rules_of}
 use Rattle.vp_engine.specs.Stands.{Engine, Stands}
-use Rattle.vp_engine.proofs.Faults.{fault_more, before_whole, before_stop, newest_accepted, paper_is, without_last_more, last_prints_nothing}
+use Rattle.vp_engine.proofs.Faults.{fault_more, before_whole, before_stop, newest_accepted, paper_is, without_last_more, last_prints_nothing, ends, all_known}
 
--- one byte more, after which the items are h
-stands_more : (setup : Setup) (p q : Engine) (t o : List ℕ) (b : ℕ) (h : List EscItem) → Stands setup p t o → p.receipt.pending ≡ [] → p.stopped ≡ None →
-    ReaderStands q.reader (t ++ b ∷ []) → fault setup (t ++ b ∷ []) ≡ q.stopped → history (before_fault setup (t ++ b ∷ [])) ≡ h → ReceiptStands setup q.receipt h →
-    printed setup (history (before_fault setup t)) ++ q.receipt.pending ≡ printed setup h → Stands setup q (t ++ b ∷ []) o
-stands_more setup p q t o b h s idle run rd st hi rc pr =
-    let short : without_last (t ++ b ∷ []) ≡ t = without_last_more t b in
-    let all : o ≡ paper setup t = sym (append-nil o) ∙ ap (λ x. o ++ x) (sym idle) ∙ s.pending in
-    record {
-      reader = rd;
-      receipt = subst (ReceiptStands setup q.receipt) (sym hi) rc;
-      stopped = sym st;
-      pending = ap (λ x. x ++ q.receipt.pending) (all ∙ paper_is setup t) ∙ pr ∙ ap (printed setup) (sym hi) ∙ sym (paper_is setup (t ++ b ∷ []));
-      before = rw short ([], append-nil (paper setup t) ∙ sym all);
-      last = rw short (sym s.stopped ∙ run);
-    }
+module _ {Item : Type 0} (rules : Rules Item) (At : List ℕ → List Item → Type 0) (pending : List ℕ) where
+  -- what a byte comes to on paper
+  pub record Adds (t : List ℕ) (b : ℕ) (f : Option Fault) : Type 0 where
+    pub fault_is : fault rules (t ++ b ∷ []) ≡ f
+    pub stands : At (t ++ b ∷ []) (history rules (before_fault rules (t ++ b ∷ [])))
+    pub adds : paper rules t ++ pending ≡ paper rules (t ++ b ∷ [])
 
--- the fault after one byte more, where there was none
-fault_next : (setup : Setup) (p : Engine) (t o : List ℕ) (b : ℕ) → Stands setup p t o → p.stopped ≡ None → fault setup (t ++ b ∷ []) ≡ fault_at setup (t ++ b ∷ [])
-fault_next setup p t o b s run = fault_more setup t b ∙ ap (λ f. first_of f (fault_at setup (t ++ b ∷ []))) (sym s.stopped ∙ run)
+  -- the fault at a byte, where there was none before
+  fault_next : (t : List ℕ) (b : ℕ) → fault rules t ≡ None → fault rules (t ++ b ∷ []) ≡ fault_at rules (t ++ b ∷ [])
+  fault_next t b none = fault_more rules t b ∙ ap (λ f. option_or f (fault_at rules (t ++ b ∷ []))) none
 
--- a byte that ends no item
-pub take_none : (setup : Setup) (p q : Engine) (t o : List ℕ) (b : ℕ) → Stands setup p t o → p.receipt.pending ≡ [] → p.stopped ≡ None →
-    Gives (Ok None) (items t) (items (t ++ b ∷ [])) (fault_of (t ++ b ∷ [])) → ReaderStands q.reader (t ++ b ∷ []) → q.receipt ≡ p.receipt → q.stopped ≡ None → Stands setup q (t ++ b ∷ []) o
-take_none setup p q t o b s idle run g rd rc st =
-    let none : fault setup t ≡ None = sym s.stopped ∙ run in
-    let same : history (t ++ b ∷ []) ≡ history t = ap reverse (g.1 ∙ append-nil (items t)) in
-    let still : fault setup (t ++ b ∷ []) ≡ None =
-    fault_next setup p t o b s run ∙ ap (λ f. first_of f (newest_refusal setup (history (t ++ b ∷ [])))) g.0 ∙ ap (newest_refusal setup) same ∙ newest_accepted setup t none in
-    let empty : q.receipt.pending ≡ [] = ap (λ (r : Printing). r.pending) rc ∙ idle in
-    stands_more setup p q t o b (history (before_fault setup t)) s idle run rd (still ∙ sym st)
-    (ap history (before_whole setup (t ++ b ∷ []) still) ∙ same ∙ ap history (sym (before_whole setup t none)))
-    (subst (λ r. ReceiptStands setup r (history (before_fault setup t))) (sym rc) s.receipt) (rw empty (append-nil _))
+  -- where the items before the fault are h then
+  adds_to : (t : List ℕ) (b : ℕ) (f : Option Fault) (h : List Item) → fault rules (t ++ b ∷ []) ≡ f → history rules (before_fault rules (t ++ b ∷ [])) ≡ h → At (t ++ b ∷ []) h →
+      printed rules (history rules (before_fault rules t)) ++ pending ≡ printed rules h → Adds t b f
+  adds_to t b f h fa hi at pr = record {
+    fault_is = fa;
+    stands = subst (At (t ++ b ∷ [])) (sym hi) at;
+    adds = ap (λ x. x ++ pending) (paper_is rules t) ∙ pr ∙ ap (printed rules) (sym hi) ∙ sym (paper_is rules (t ++ b ∷ []));
+  }
 
--- the items with one more
-one_more_item : (setup : Setup) (t : List ℕ) (b : ℕ) (item : EscItem) → fault setup t ≡ None → items (t ++ b ∷ []) ≡ items t ++ item ∷ [] → history (t ++ b ∷ []) ≡ item ∷ history (before_fault setup t)
-one_more_item setup t b item none e = ap reverse e ∙ reverse-append (items t) (item ∷ []) ∙ ap (λ x. item ∷ history x) (sym (before_whole setup t none))
+  nothing : (xs : List ℕ) → pending ≡ [] → xs ++ pending ≡ xs
+  nothing xs e = ap (λ x. xs ++ x) e ∙ append-nil xs
 
--- a byte that ends an item which is printed
-pub take_item : (setup : Setup) (p q : Engine) (t o : List ℕ) (b : ℕ) (item : EscItem) → Stands setup p t o → p.receipt.pending ≡ [] → p.stopped ≡ None →
-    Gives (Ok (Some item)) (items t) (items (t ++ b ∷ [])) (fault_of (t ++ b ∷ [])) → ReaderStands q.reader (t ++ b ∷ []) →
-    refusal setup (history (before_fault setup t)) item ≡ None → ReceiptStands setup q.receipt (item ∷ history (before_fault setup t)) →
-    q.receipt.pending ≡ prints setup (history (before_fault setup t)) item → q.stopped ≡ None → Stands setup q (t ++ b ∷ []) o
-take_item setup p q t o b item s idle run g rd re rc pe st =
-    let none : fault setup t ≡ None = sym s.stopped ∙ run in
-    let more = one_more_item setup t b item none g.1 in
-    let still : fault setup (t ++ b ∷ []) ≡ None =
-    fault_next setup p t o b s run ∙ ap (λ f. first_of f (newest_refusal setup (history (t ++ b ∷ [])))) g.0 ∙ ap (newest_refusal setup) more ∙ re in
-    stands_more setup p q t o b (item ∷ history (before_fault setup t)) s idle run rd (still ∙ sym st)
-    (ap history (before_whole setup (t ++ b ∷ []) still) ∙ more) rc (ap (λ x. printed setup (history (before_fault setup t)) ++ x) pe)
+  -- a byte that makes a fault
+  stops : (t : List ℕ) (b : ℕ) (f : Fault) → fault rules (t ++ b ∷ []) ≡ Some f → At (t ++ b ∷ []) (history rules (before_fault rules t)) → pending ≡ [] → Adds t b (Some f)
+  stops t b f fa at e = adds_to t b (Some f) (history rules (before_fault rules t)) fa (ap (history rules) (before_stop rules t b f fa)) at (nothing _ e)
 
--- a byte that makes a fault
-stops : (setup : Setup) (p q : Engine) (t o : List ℕ) (b : ℕ) (f : Fault) → Stands setup p t o → p.receipt.pending ≡ [] → p.stopped ≡ None →
-    ReaderStands q.reader (t ++ b ∷ []) → fault setup (t ++ b ∷ []) ≡ Some f → q.receipt ≡ p.receipt → q.stopped ≡ Some f → Stands setup q (t ++ b ∷ []) o
-stops setup p q t o b f s idle run rd fa rc st =
-    let empty : q.receipt.pending ≡ [] = ap (λ (r : Printing). r.pending) rc ∙ idle in
-    stands_more setup p q t o b (history (before_fault setup t)) s idle run rd (fa ∙ sym st) (ap history (before_stop setup t b f fa))
-    (subst (λ r. ReceiptStands setup r (history (before_fault setup t))) (sym rc) s.receipt) (rw empty (append-nil _))
+  module _ (reads : Reads rules.reading) (t : List ℕ) (b : ℕ) (none : fault rules t ≡ None) where
+    -- the items, where the byte gives one or none
+    items_next : (item : Option Item) → rules.reading.items (t ++ b ∷ []) ≡ rules.reading.items t ++ option_to_list item →
+        history rules (t ++ b ∷ []) ≡ reverse (option_to_list item) ++ history rules (before_fault rules t)
+    items_next item e = ap reverse e ∙ reverse-append (rules.reading.items t) (option_to_list item)
+        ∙ ap (λ x. reverse (option_to_list item) ++ history rules x) (sym (before_whole rules t none))
 
--- a byte that ends an item which is refused
-pub take_refused : (setup : Setup) (p q : Engine) (t o : List ℕ) (b : ℕ) (item : EscItem) (f : Fault) → Stands setup p t o → p.receipt.pending ≡ [] → p.stopped ≡ None →
-    Gives (Ok (Some item)) (items t) (items (t ++ b ∷ [])) (fault_of (t ++ b ∷ [])) → ReaderStands q.reader (t ++ b ∷ []) →
-    refusal setup (history (before_fault setup t)) item ≡ Some f → q.receipt ≡ p.receipt → q.stopped ≡ Some f → Stands setup q (t ++ b ∷ []) o
-take_refused setup p q t o b item f s idle run g rd re rc st =
-    let more = one_more_item setup t b item (sym s.stopped ∙ run) g.1 in
-    stops setup p q t o b f s idle run rd
-    (fault_next setup p t o b s run ∙ ap (λ f. first_of f (newest_refusal setup (history (t ++ b ∷ [])))) g.0 ∙ ap (newest_refusal setup) more ∙ re) rc st
+    -- a known byte
+    known : (refused : Option Fault) → rules.reading.fault_of (t ++ b ∷ []) ≡ None → newest_refusal rules (history rules (t ++ b ∷ [])) ≡ refused → fault rules (t ++ b ∷ []) ≡ refused
+    known refused k e = fault_next t b none ∙ ap (λ f. option_or f (newest_refusal rules (history rules (t ++ b ∷ [])))) k ∙ e
 
--- a byte that ends no known command
-pub take_fault : (setup : Setup) (p q : Engine) (t o : List ℕ) (b : ℕ) (f : Fault) → Stands setup p t o → p.receipt.pending ≡ [] → p.stopped ≡ None →
-    Gives (Err f) (items t) (items (t ++ b ∷ [])) (fault_of (t ++ b ∷ [])) → ReaderStands q.reader (t ++ b ∷ []) → q.receipt ≡ p.receipt → q.stopped ≡ Some f → Stands setup q (t ++ b ∷ []) o
-take_fault setup p q t o b f s idle run g rd rc st =
-    stops setup p q t o b f s idle run rd (fault_next setup p t o b s run ∙ ap (λ f. first_of f (newest_refusal setup (history (t ++ b ∷ [])))) g) rc st
+    pub adds_by : (given : Result (Option Item) Fault) (result : Result (Unit {0}) Fault) →
+        Gives given (rules.reading.items t) (rules.reading.items (t ++ b ∷ [])) (rules.reading.fault_of (t ++ b ∷ [])) →
+        Comes rules At pending (t ++ b ∷ []) (history rules (before_fault rules t)) given result → Adds t b (result_err result)
+    adds_by (Ok (Some item)) (Ok done) g c =
+        let hi = items_next (Some item) g.1 in
+        let fa = known None g.0 (ap (newest_refusal rules) hi ∙ c.0) in
+        adds_to t b None (item ∷ history rules (before_fault rules t)) fa (ap (history rules) (before_whole rules (t ++ b ∷ []) fa) ∙ hi) c.1
+        (ap (λ x. printed rules (history rules (before_fault rules t)) ++ x) c.2)
+    adds_by (Ok (Some item)) (Err f) g c = stops t b f (known (Some f) g.0 (ap (newest_refusal rules) (items_next (Some item) g.1) ∙ c.0)) c.1 c.2
+    adds_by (Ok None) result g c =
+        let hi = items_next None g.1 in
+        let fa = known None g.0 (ap (newest_refusal rules) (hi ∙ ap (history rules) (before_whole rules t none)) ∙ newest_accepted rules reads t none) in
+        subst (Adds t b) (sym (ap result_err c.0))
+        (adds_to t b None (history rules (before_fault rules t)) fa (ap (history rules) (before_whole rules (t ++ b ∷ []) fa) ∙ hi) c.1 (nothing _ c.2))
+    adds_by (Err f) result g c = subst (Adds t b) (sym (ap result_err c.0))
+        (stops t b f (fault_next t b none ∙ ap (λ x. option_or x (newest_refusal rules (history rules (t ++ b ∷ [])))) g) c.1 c.2)
 
--- bytes that are put out
-pub stands_put : (setup : Setup) (p q : Engine) (t o x : List ℕ) → Stands setup p t o → q.reader ≡ p.reader → ReceiptStands setup q.receipt (history (before_fault setup t)) → q.stopped ≡ p.stopped →
-    p.receipt.pending ≡ x ++ q.receipt.pending → Stands setup q t (o ++ x)
-stands_put setup p q t o x s rd rc st pe = record {
-  reader = subst (λ r. ReaderStands r t) (sym rd) s.reader;
-  receipt = rc;
-  stopped = st ∙ s.stopped;
-  pending = append_assoc o x q.receipt.pending ∙ ap (λ y. o ++ y) (sym pe) ∙ s.pending;
-  before = (s.before.0 ++ x, sym (append_assoc (paper setup (without_last t)) s.before.0 x) ∙ ap (λ y. y ++ x) s.before.1);
-  last = s.last;
-}
+module _ (setup : Setup) where
+  abbrev rules : Rules (Item setup)
+  rules = rules_of setup
 
-empty_of : (xs : List ℕ) → length xs ≡ 0 → xs ≡ []
-empty_of [] e = refl
-empty_of (x ∷ xs) e = absurd (omega arith)
+  -- one byte more
+  pub stands_more : (p q : Engine) (t o : List ℕ) (b : ℕ) (result : Result (Unit {0}) Fault) → Reads rules.reading → Stands setup p t o → p.pending ≡ [] → p.stopped ≡ None →
+      Takes rules (MachineStands q.machine setup) q.pending t (history rules (before_fault rules t)) b result → q.stopped ≡ result_err result → Stands setup q (t ++ b ∷ []) o
+  stands_more p q t o b result reads s idle run takes st =
+      let none : fault rules t ≡ None = sym s.stopped ∙ run in
+      let now = adds_by rules (MachineStands q.machine setup) q.pending reads t b none takes.given result takes.gives takes.comes in
+      let short : without_last (t ++ b ∷ []) ≡ t = without_last_more t b in
+      let all : o ≡ paper rules t = sym (append-nil o) ∙ ap (λ x. o ++ x) (sym idle) ∙ s.pending in
+      record {
+        machine = now.stands;
+        stopped = st ∙ sym now.fault_is;
+        pending = ap (λ x. x ++ q.pending) all ∙ now.adds;
+        before = rw short ([], append-nil (paper rules t) ∙ sym all);
+        last = rw short none;
+      }
 
-nothing_left : (p x o rest : List ℕ) → o ++ x ≡ p → p ++ rest ≡ o → x ≡ []
-nothing_left p x o rest e f = empty_of x (omega (arith, ap length e, ap length f, length-append o x, length-append p rest))
+  -- bytes that are put out
+  pub stands_put : (p q : Engine) (t o x : List ℕ) → Stands setup p t o → MachineStands q.machine setup t (history rules (before_fault rules t)) → q.stopped ≡ p.stopped → p.pending ≡ x ++ q.pending → Stands setup q t (o ++ x)
+  stands_put p q t o x s at st pe = record {
+    machine = at;
+    stopped = st ∙ s.stopped;
+    pending = append_assoc o x q.pending ∙ ap (λ y. o ++ y) (sym pe) ∙ s.pending;
+    before = (s.before.0 ++ x, sym (append_assoc (paper rules (without_last t)) s.before.0 x) ∙ ap (λ y. y ++ x) s.before.1);
+    last = s.last;
+  }
 
--- a printer that has stopped has nothing pending
-pub stopped_idle : (setup : Setup) (p : Engine) (t o : List ℕ) → Stands setup p t o → IsSome p.stopped → p.receipt.pending ≡ []
-stopped_idle setup p t o s h = by_stop p.stopped refl h
-  where
-    by_stop : (f : Option Fault) → p.stopped ≡ f → IsSome f → p.receipt.pending ≡ []
-    by_stop None e i = cc
-    by_stop (Some f) e i =
-        nothing_left (paper setup (without_last t)) p.receipt.pending o s.before.0 (s.pending ∙ last_prints_nothing setup t f (sym s.stopped ∙ e)) s.before.1
+  -- a new printer
+  pub stands_first : (p : Engine) → Reads rules.reading → MachineStands p.machine setup [] [] → p.stopped ≡ None → p.pending ≡ [] → Stands setup p [] []
+  unfolding fault first_fault before_fault sound paper
+  stands_first p reads at st pe =
+      let none : history rules [] ≡ [] = ap reverse reads.nothing in
+      record {
+        machine = subst (MachineStands p.machine setup []) (sym none) at;
+        stopped = st;
+        pending = pe ∙ ap (printed rules) (sym none);
+        before = ([], append-nil (printed rules (history rules [])) ∙ ap (printed rules) none);
+        last = refl;
+      }
 
-pub pending_none : (setup : Setup) (p : Engine) (t o : List ℕ) → Stands setup p t o → o ≡ paper setup t → p.receipt.pending ≡ []
-pending_none setup p t o s e = nothing_left (paper setup t) p.receipt.pending o [] s.pending (append-nil (paper setup t) ∙ sym e)
+  empty_of : (xs : List ℕ) → length xs ≡ 0 → xs ≡ []
+  empty_of [] e = refl
+  empty_of (x ∷ xs) e = absurd (omega arith)
+
+  nothing_left : (p x o rest : List ℕ) → o ++ x ≡ p → p ++ rest ≡ o → x ≡ []
+  nothing_left p x o rest e f = empty_of x (omega (arith, ap length e, ap length f, length-append o x, length-append p rest))
+
+  -- a printer that has stopped has nothing pending
+  pub stopped_idle : (p : Engine) (t o : List ℕ) → Stands setup p t o → IsSome p.stopped → p.pending ≡ []
+  stopped_idle p t o s h = by_stop p.stopped refl h
+    where
+      by_stop : (f : Option Fault) → p.stopped ≡ f → IsSome f → p.pending ≡ []
+      by_stop None e i = cc
+      by_stop (Some f) e i =
+          nothing_left (paper rules (without_last t)) p.pending o s.before.0 (s.pending ∙ last_prints_nothing rules t f (sym s.stopped ∙ e)) s.before.1
+
+  pub pending_none : (p : Engine) (t o : List ℕ) → Stands setup p t o → o ≡ paper rules t → p.pending ≡ []
+  pending_none p t o s e = nothing_left (paper rules t) p.pending o [] s.pending (append-nil (paper rules t) ∙ sym e)
+
+  -- where a printer that has not stopped ends
+  pub ends_at : (p : Engine) (t o : List ℕ) (answer : Option Fault) → Reads rules.reading → Stands setup p t o → ((f : Fault) → p.stopped ≡ Some f → ⊥) →
+      ((before : List (Item setup)) → MachineStands p.machine setup t before → rules.reading.fault_of t ≡ None → answer ≡ missing (is_empty (rules.reading.rest t)) (rules.is_at_rest before)) →
+      fault_at_end rules t ≡ answer
+  ends_at p t o answer reads s run is =
+      let none : fault rules t ≡ None = sym s.stopped ∙ none_of p.stopped run in
+      ends rules t answer none (is (history rules (before_fault rules t)) s.machine (all_known rules reads t none))
+    where
+      none_of : (f : Option Fault) → ((x : Fault) → f ≡ Some x → ⊥) → f ≡ None
+      none_of None h = refl
+      none_of (Some f) h = absurd (h f refl)
 
 -- what ending at these bytes answers, as an option
 pub answer_of : (r : Result (Unit {0}) Fault) (f : Option Fault) → MatchResult r (λ _. f ≡ None) (λ g. f ≡ Some g) → result_err r ≡ f
 answer_of (Ok x) f h = sym h
 answer_of (Err g) f h = sym h
-
--- a new printer
-pub stands_first : (setup : Setup) (p : Engine) → ReaderStands p.reader [] → items [] ≡ [] → ReceiptStands setup p.receipt [] → p.stopped ≡ None → p.receipt.pending ≡ [] → Stands setup p [] []
-unfolding fault first_fault before_fault sound paper
-stands_first setup p rd it rc st pe =
-    let none : history [] ≡ [] = ap reverse it in
-    record {
-      reader = rd;
-      receipt = subst (ReceiptStands setup p.receipt) (sym none) rc;
-      stopped = st;
-      pending = pe ∙ ap (printed setup) (sym none);
-      before = ([], append-nil (printed setup (history [])) ∙ ap (printed setup) none);
-      last = refl;
-    }
 
 -- what is put out, and what stays
 pub put_text : (pending left old out : List ℕ) (n : ℕ) → n ≡ min (length pending) (length old) → out ≡ take n pending ++ drop n old → left ≡ drop n pending → pending ≡ take n out ++ left

@@ -1,7 +1,13 @@
+-- the rules of every language, and of each
 pub mod Bytes
 pub mod Paper
+pub mod Setups
+-- what a printer, a session and a listing do
 pub mod Stands
 pub mod Answers
-pub mod Count
 pub mod Session
-pub mod Held
+pub mod Listing
+-- what the code keeps
+pub mod Lines
+pub mod Machines
+pub mod Takes

@@ -1,75 +1,104 @@
--- What a stream prints, and why it is refused.
-use Rattle.std.specs.Prelude.{ℕ, Bool, true, false, if◌then◌else◌, List, [], ◌∷◌, reverse, Option, Some, None, is_some}
+-- A language as data, and what is said of every language.
+use Rattle.std.specs.Prelude.{◌≡◌, ℕ, Bool, true, false, if◌then◌else◌, List, [], ◌∷◌, ◌++◌, length, drop, reverse, Option, Some, None, is_some}
+use Rattle.std.specs.Option.{option_or}
 use Rattle.vp_dots.specs.declared.fault.Fault.{Fault}
 use Rattle.vp_dots.specs.declared.fault.Fault.TheVariants.{Truncated, Unprinted}
-use Rattle.vp_esc.specs.declared.item.EscItem.{EscItem}
-use Rattle.vp_esc.specs.Split.{split, items, fault_of}
-use Rattle.vp_receipt.specs.Setup.{Setup}
-use Rattle.vp_receipt.specs.Strips.{printed, refusal, is_at_rest}
-use Rattle.vp_glyph.specs.declared.Sheets.{Sheets}
-use Rattle.vp_receipt.specs.declared.width.Width.{Width}
-use Rattle.vp_receipt.specs.declared.width.Width.TheVariants.{W576, W384}
-use Rattle.vp_engine.specs.declared.language.Language.{Language}
-use Rattle.vp_engine.specs.declared.language.Language.TheVariants.{Receipt, Receipt58}
+use Rattle.vp_engine.specs.declared.held.Held.{Held}
+use Rattle.vp_engine.specs.Bytes.{IsPrefix}
 
--- the paper that a language is for
-abbrev pub width_of : Language → Width
-width_of Receipt = W576
-width_of Receipt58 = W384
+-- what bytes say: their items, the fault that the last byte makes, and what is left behind the last whole command
+pub record Reading (Item : Type 0) : Type 0 where
+  pub items : List ℕ → List Item
+  pub fault_of : List ℕ → Option Fault
+  pub rest : List ℕ → List ℕ
 
--- the printer of a language with these sheets
-abbrev pub setup_of : Language → Sheets → Setup
-setup_of language sheets = record { width = width_of language; sheets = sheets }
+-- a language: what bytes say, and of an item, by the items before it, the newest first, what it prints and why it is
+-- refused; by all items whether all is printed, and what is held while these bytes are pending
+pub record Rules (Item : Type 0) : Type 0 where
+  pub reading : Reading Item
+  pub prints : List Item → Item → List ℕ
+  pub refusal : List Item → Item → Option Fault
+  pub is_at_rest : List Item → Bool
+  pub held : List Item → List ℕ → Held
 
--- the items of the bytes, the newest first
-abbrev pub history : List ℕ → List EscItem
-history bytes = reverse (items bytes)
+-- nothing is held beside settings and the row in hand
+abbrev pub nothing_held : Held
+nothing_held = record { line_rows = 0; page_rows = 0; band_rows = 0; stored = 0; fields = 0 }
 
--- the first of two faults, where there is one
-abbrev pub first_of : Option Fault → Option Fault → Option Fault
-first_of None second = second
-first_of (Some fault) second = Some fault
+-- a listing: each item prints its line
+abbrev pub listing : {Item : Type 0} → Reading Item → (Item → List ℕ) → Rules Item
+listing reading line = record {
+  reading = reading;
+  prints = λ before item. line item;
+  refusal = λ before item. None;
+  is_at_rest = λ before. true;
+  held = λ before pending. nothing_held;
+}
 
--- why the newest item is refused
-abbrev pub newest_refusal : Setup → List EscItem → Option Fault
-newest_refusal setup [] = None
-newest_refusal setup (item ∷ before) = refusal setup before item
-
--- the fault at the last byte, where there is none before: it ends no known command, or an item that is refused
-abbrev pub fault_at : Setup → List ℕ → Option Fault
-fault_at setup bytes = first_of (fault_of bytes) (newest_refusal setup (history bytes))
-
--- the first fault in the order of the bytes, of which the newest comes first
-unfoldable pub first_fault : Setup → List ℕ → Option Fault
-first_fault setup [] = None
-first_fault setup (b ∷ before) = first_of (first_fault setup before) (fault_at setup (reverse (b ∷ before)))
-
--- the bytes before the one that makes it, likewise
-unfoldable pub sound : Setup → List ℕ → List ℕ
-sound setup [] = []
-sound setup (b ∷ before) = if is_some (first_fault setup (b ∷ before)) then sound setup before else reverse (b ∷ before)
-
--- the first fault of the bytes
-unfoldable pub fault : Setup → List ℕ → Option Fault
-fault setup bytes = first_fault setup (reverse bytes)
-
--- the bytes before it
-unfoldable pub before_fault : Setup → List ℕ → List ℕ
-before_fault setup bytes = sound setup (reverse bytes)
-
--- what all items before the first fault print
-unfoldable pub paper : Setup → List ℕ → List ℕ
-paper setup bytes = printed setup (history (before_fault setup bytes))
+-- what the items of all bytes have in common: none of no bytes, and no fault; what is given stays given, and a fault stays
+pub record Reads {Item : Type 0} (reading : Reading Item) : Type 0 where
+  pub nothing : reading.items [] ≡ []
+  pub no_fault : reading.fault_of [] ≡ None
+  pub grows : (bytes more : List ℕ) → IsPrefix (reading.items bytes) (reading.items (bytes ++ more))
+  pub stays : (bytes more : List ℕ) (f : Fault) → reading.fault_of bytes ≡ Some f → reading.fault_of (bytes ++ more) ≡ Some f
 
 abbrev pub is_empty : List ℕ → Bool
 is_empty [] = true
 is_empty (b ∷ bytes) = false
 
--- what is missing where the bytes end: the rest of a command, or what would print what is gathered
-unfoldable pub ending : Setup → List ℕ → Option Fault
-ending setup bytes =
-    if is_empty (split bytes).rest then (if is_at_rest setup (history bytes) then None else Some Unprinted) else Some Truncated
+-- where bytes end: the rest of a command, or what would print what is gathered
+abbrev pub missing : Bool → Bool → Option Fault
+missing is_between at_rest = if is_between then (if at_rest then None else Some Unprinted) else Some Truncated
 
--- the first fault, else that of ending here
-abbrev pub fault_at_end : Setup → List ℕ → Option Fault
-fault_at_end setup bytes = first_of (fault setup bytes) (ending setup bytes)
+module _ {Item : Type 0} (rules : Rules Item) where
+  -- the items of the bytes, the newest first
+  abbrev pub history : List ℕ → List Item
+  history bytes = reverse (rules.reading.items bytes)
+
+  -- why the newest item is refused
+  abbrev pub newest_refusal : List Item → Option Fault
+  newest_refusal [] = None
+  newest_refusal (item ∷ before) = rules.refusal before item
+
+  -- the fault at the last byte, where there is none before: it ends no known command, or an item that is refused
+  abbrev pub fault_at : List ℕ → Option Fault
+  fault_at bytes = option_or (rules.reading.fault_of bytes) (newest_refusal (history bytes))
+
+  -- the first fault in the order of the bytes, of which the newest comes first
+  unfoldable pub first_fault : List ℕ → Option Fault
+  first_fault [] = None
+  first_fault (b ∷ before) = option_or (first_fault before) (fault_at (reverse (b ∷ before)))
+
+  -- the bytes before the one that makes it, likewise
+  unfoldable pub sound : List ℕ → List ℕ
+  sound [] = []
+  sound (b ∷ before) = if is_some (first_fault (b ∷ before)) then sound before else reverse (b ∷ before)
+
+  -- the first fault of the bytes
+  unfoldable pub fault : List ℕ → Option Fault
+  fault bytes = first_fault (reverse bytes)
+
+  -- the bytes before it
+  unfoldable pub before_fault : List ℕ → List ℕ
+  before_fault bytes = sound (reverse bytes)
+
+  -- what all items print
+  abbrev pub printed : List Item → List ℕ
+  printed [] = []
+  printed (item ∷ before) = printed before ++ rules.prints before item
+
+  -- what all items before the first fault print
+  unfoldable pub paper : List ℕ → List ℕ
+  paper bytes = printed (history (before_fault bytes))
+
+  -- what is missing where the bytes end
+  unfoldable pub ending : List ℕ → Option Fault
+  ending bytes = missing (is_empty (rules.reading.rest bytes)) (rules.is_at_rest (history bytes))
+
+  -- the first fault, else that of ending here
+  abbrev pub fault_at_end : List ℕ → Option Fault
+  fault_at_end bytes = option_or (fault bytes) (ending bytes)
+
+  -- what is held where these bytes are taken and those put out
+  abbrev pub held_after : List ℕ → List ℕ → Held
+  held_after taken put = rules.held (history (before_fault taken)) (drop (length put) (paper taken))

@@ -1,31 +1,37 @@
 -- Where a printer stands.
-use Rattle.std.specs.Prelude.{◌≡◌, ℕ, List, ◌++◌, Option, None}
+use Rattle.std.specs.Prelude.{◌≡◌, ℕ, List, [], ◌++◌, Option, None}
 use Rattle.vp_dots.specs.declared.fault.Fault.{Fault}
-use Rattle.vp_esc.specs.declared.reader.EscReader.{EscReader}
-use Rattle.vp_esc.specs.Reader.{Stands as ReaderStands}
-use Rattle.vp_receipt.specs.Setup.{Setup}
-use Rattle.vp_receipt.specs.Standing.{Printing, Stands as ReceiptStands}
-use Rattle.vp_engine.specs.Bytes.{IsPrefixOf, without_last}
+use Rattle.vp_engine.specs.declared.machine.Machine.{Machine}
+use Rattle.vp_engine.specs.Bytes.{IsPrefix, without_last}
+use Rattle.vp_engine.specs.Machines.{pending_of, MachineStands}
 use Rattle.vp_engine.specs.Paper.{history, before_fault, paper, fault}
+use Rattle.vp_engine.specs.Setups.{Setup, rules_of}
 
--- a printer: its reader, its receipt, and the fault that stopped it
+-- a printer: its machine, what is still to be put out, and the fault that stopped it
 pub record Engine : Type 0 where
-  pub reader : EscReader
-  pub receipt : Printing
+  pub machine : Machine
+  pub pending : List ℕ
   pub stopped : Option Fault
+
+-- the printer of a machine
+abbrev pub printer_of : Machine → Option Fault → Engine
+printer_of machine stopped = record { machine = machine; pending = pending_of machine; stopped = stopped }
 
 -- The printer took the bytes t and put out the bytes o.
 pub record Stands (setup : Setup) (p : Engine) (t o : List ℕ) : Type 0 where
-  pub reader : ReaderStands p.reader t
   -- a refused last item is left out
-  pub receipt : ReceiptStands setup p.receipt (history (before_fault setup t))
-  pub stopped : p.stopped ≡ fault setup t
+  pub machine : MachineStands p.machine setup t (history (rules_of setup) (before_fault (rules_of setup) t))
+  pub stopped : p.stopped ≡ fault (rules_of setup) t
   -- what is pending is the rest of the paper
-  pub pending : o ++ p.receipt.pending ≡ paper setup t
+  pub pending : o ++ p.pending ≡ paper (rules_of setup) t
   -- all that the bytes before the last one print is put out
-  pub before : IsPrefixOf (paper setup (without_last t)) o
+  pub before : IsPrefix (paper (rules_of setup) (without_last t)) o
   -- there was no fault before the last byte
-  pub last : fault setup (without_last t) ≡ None
+  pub last : fault (rules_of setup) (without_last t) ≡ None
+
+-- It took and put out nothing.
+abbrev pub IsFresh : Engine → Type 0
+IsFresh p = (setup : Setup) × Stands setup p [] []
 
 abbrev pub StandsSomewhere : Engine → Type 0
 StandsSomewhere p = (setup : Setup) × (t : List ℕ) × (o : List ℕ) × Stands setup p t o

@@ -1,6 +1,7 @@
 //! Whole inputs.
 ghost use Rattle.std.specs.Prelude.{◌≡◌, IfOk};
-ghost use Rattle.vp_engine.specs.Paper.{setup_of, paper, fault_at_end};
+ghost use Rattle.vp_engine.specs.Paper.{paper, fault_at_end};
+ghost use Rattle.vp_engine.specs.Setups.{setup_of, rules_of};
 
 use crate::language::Language;
 use crate::laws::{nothing_follows_a_fault, paper_grows};
@@ -16,8 +17,8 @@ pub fn print_all(
     sheets: Sheets,
     src: &[u8],
 ) -> Result<(Vec<u8>, Option<Fault>), AllocError>
-    ensures paper { IfOk result (λ r. r.0.items ≡ paper (setup_of language sheets) src.now) }
-    ensures fault { IfOk result (λ r. r.1 ≡ fault_at_end (setup_of language sheets) src.now) }
+    ensures paper { IfOk result (λ r. r.0.items ≡ paper (rules_of (setup_of language sheets)) src.now) }
+    ensures fault { IfOk result (λ r. r.1 ≡ fault_at_end (rules_of (setup_of language sheets)) src.now) }
 {
     paper_grows();
     nothing_follows_a_fault();

@@ -1,19 +1,21 @@
-//! The printer: its reader and its receipt, over bytes that come and go in any pieces.
+//! The printer: a machine, over bytes that come and go in any pieces.
 ghost use Rattle.std.specs.Prelude.{◌≡◌, ◌≤◌, ◌<◌, ◌+◌, ◌∷◌, ◌++◌, ◌↔◌, List, [], ℕ, IsTrue, IsSome, IfOk, Some, None, Option, MatchResult, length, min, take, drop};
-ghost use Rattle.vp_receipt.specs.Setup.{Setup};
-ghost use Rattle.vp_engine.specs.Stands.{Stands};
-ghost use Rattle.vp_engine.specs.Answers.{IsMore, IsRoom, IsStopped, IsStill};
-ghost use Rattle.vp_engine.specs.Paper.{setup_of, fault, fault_at_end};
-ghost use Rattle.vp_engine.specs.Held.{line_rows_held, page_rows_held};
 ghost use Rattle.vp_dots.specs.declared.fault.Fault.{Fault};
+ghost use Rattle.vp_engine.specs.Answers.{IsMore, IsRoom, IsStopped, IsStill, IsBounded};
+ghost use Rattle.vp_engine.specs.Machines.{MachineStands, TookNothing};
+ghost use Rattle.vp_engine.specs.Paper.{history, before_fault, fault, fault_at_end, held_after};
+ghost use Rattle.vp_engine.specs.Setups.{Setup, setup_of, rules_of, lines_of};
+ghost use Rattle.vp_engine.specs.Setups.{Listing};
+ghost use Rattle.vp_engine.specs.Stands.{Stands};
 
+use crate::held::Held;
 use crate::language::Language;
+use crate::laws::items_grow;
+use crate::machine::{Machine, Moved};
 use std::alloc::{AllocError, Global};
 use std::marker::Model;
 use vp_dots::Fault;
-use vp_esc::EscReader;
 use vp_glyph::Sheets;
-use vp_receipt::Receipt;
 
 /// What a step has come to.
 #[derive(Clone, Copy, Debug, PartialEq, Eq)]
@@ -34,31 +36,21 @@ pub struct Step {
     pub state: State,
 }
 
-/// What a printer holds beside its settings and the row in hand.
-#[derive(Clone, Copy, Debug, PartialEq, Eq)]
-pub struct Held {
-    /// The rows of the line that is gathered, or whose strip is being put out: at most 192.
-    pub line_rows: u16,
-    /// The rows of the page: 1,664 in page mode and while bytes of a page are still to be put out, else 0.
-    pub page_rows: u16,
-}
-
 /// A printer.
 #[derive(Drop)]
 pub struct Printer {
-    reader: EscReader,
-    receipt: Receipt,
+    machine: Machine,
     stopped: Option<Fault>,
 }
 
 impl Model for Printer {
-    ghost use Rattle.vp_engine.specs.Stands.{Engine, StandsSomewhere};
+    ghost use Rattle.vp_engine.specs.Stands.{Engine, printer_of, StandsSomewhere};
 
     ghost Value = { Engine };
 
-    ghost view = { λ p. record { reader = p.reader; receipt = p.receipt; stopped = p.stopped } };
+    ghost view = { λ p. printer_of p.machine p.stopped };
 
-    ghost invariant = { λ p. StandsSomewhere (record { reader = p.reader; receipt = p.receipt; stopped = p.stopped }) };
+    ghost invariant = { λ p. StandsSomewhere (printer_of p.machine p.stopped) };
 }
 
 impl Printer {
@@ -66,86 +58,104 @@ impl Printer {
     pub fn new(alloc: Global, language: Language, sheets: Sheets) -> Result<Self, AllocError>
         ensures { IfOk result (λ p. Stands (setup_of language sheets) p [] []) }
     {
-        let receipt = Receipt::new(alloc, sheets, language.width())?;
-        Ok(Printer {
-            reader: EscReader::new(),
-            receipt,
+        let machine = Machine::printing(alloc, language, sheets)?;
+        Ok(Printer::over(machine))
+    }
+
+    /// One that prints a line for each item of a language, and took and put out nothing.
+    pub(crate) fn listing(language: Language) -> Self
+        ensures { Stands (Listing language) result [] [] }
+    {
+        Printer::over(Machine::listing(language))
+    }
+
+    /// One over a machine that took nothing.
+    fn over(machine: Machine) -> Self
+        requires { TookNothing machine }
+        ensures { (setup : Setup) → MachineStands machine setup [] [] → Stands setup result [] [] }
+    {
+        items_grow();
+        Printer {
+            machine,
             stopped: None,
-        })
+        }
     }
 
     /// Takes a byte where nothing is pending.
     fn take(&mut self, byte: u8)
-        requires idle { self.old.receipt.pending ≡ [] }
+        requires idle { self.old.pending ≡ [] }
         requires running { self.old.stopped ≡ None }
         ensures stands { (setup : Setup) (t o : List ℕ) → Stands setup self.old t o → Stands setup self.new (t ++ byte ∷ []) o }
     {
-        match self.reader.take(byte) {
-            Ok(None) => {}
-            Ok(Some(item)) => match self.receipt.apply(item) {
-                Ok(()) => {}
-                Err(fault) => self.stopped = Some(fault),
-            },
-            Err(fault) => self.stopped = Some(fault),
-        }
+        items_grow();
+        self.stopped = self.machine.take(byte).err();
     }
 
-    /// Takes the bytes of a raster's row that are at the front, all but the one that ends it, and tells how many.
-    fn take_row(&mut self, input: &[u8]) -> usize
-        requires idle { self.old.receipt.pending ≡ [] }
+    /// Takes bytes at the front and puts out all that they print, as far as there is a quick way.
+    fn take_run(&mut self, input: &[u8], output: &mut [u8]) -> Moved
+        requires idle { self.old.pending ≡ [] }
         requires running { self.old.stopped ≡ None }
-        ensures some { result ≤ length input.now }
-        ensures stands { (setup : Setup) (t o : List ℕ) → Stands setup self.old t o → Stands setup self.new (t ++ take result input.now) o }
-        ensures idle { self.new.receipt.pending ≡ [] }
+        ensures taken { result.taken ≤ length input.now }
+        ensures put { result.put ≤ length output.old }
+        ensures rest { drop result.put output.new ≡ drop result.put output.old }
+        ensures stands { (setup : Setup) (t o : List ℕ) → Stands setup self.old t o →
+            Stands setup self.new (t ++ take result.taken input.now) (o ++ take result.put output.new) }
+        ensures idle { self.new.pending ≡ [] }
         ensures running { self.new.stopped ≡ None }
     {
-        let room = self.receipt.raster_room().min(input.len());
-        let n = self.reader.take_raster(&input[..room]);
-        self.receipt.apply_raster(&input[..n]);
-        n
+        items_grow();
+        self.machine.take_run(input, output)
     }
 
-    /// Takes the bytes of a raster's row that are at the front, or else a byte, where nothing is pending.
-    fn take_some(&mut self, input: &[u8]) -> usize
-        requires idle { self.old.receipt.pending ≡ [] }
+    /// Takes some bytes where nothing is pending, and puts out what they print, as far as there is room.
+    fn take_some(&mut self, input: &[u8], output: &mut [u8]) -> Moved
+        requires idle { self.old.pending ≡ [] }
         requires running { self.old.stopped ≡ None }
         requires some { 0 < length input.now }
-        ensures some { 0 < result }
-        ensures within { result ≤ length input.now }
-        ensures stands { (setup : Setup) (t o : List ℕ) → Stands setup self.old t o → Stands setup self.new (t ++ take result input.now) o }
+        ensures some { 0 < result.taken }
+        ensures taken { result.taken ≤ length input.now }
+        ensures put { result.put ≤ length output.old }
+        ensures rest { drop result.put output.new ≡ drop result.put output.old }
+        ensures full { 0 < length self.new.pending → result.put ≡ length output.old }
+        ensures stands { (setup : Setup) (t o : List ℕ) → Stands setup self.old t o →
+            Stands setup self.new (t ++ take result.taken input.now) (o ++ take result.put output.new) }
     {
-        let n = self.take_row(input);
-        if n == input.len() {
-            return n;
+        let run = self.take_run(input, output);
+        if run.taken == input.len() {
+            return run;
         }
-        self.take(input[n]);
-        n + 1
+        self.take(input[run.taken]);
+        let put = self.put(&mut output[run.put..]);
+        Moved {
+            taken: run.taken + 1,
+            put: run.put + put,
+        }
     }
 
     /// Puts out what is pending, as far as there is room.
     fn put(&mut self, output: &mut [u8]) -> usize
-        ensures count { result ≡ min (length self.old.receipt.pending) (length output.old) }
-        ensures full { 0 < length self.new.receipt.pending → result ≡ length output.old }
+        ensures count { result ≡ min (length self.old.pending) (length output.old) }
+        ensures full { 0 < length self.new.pending → result ≡ length output.old }
         ensures rest { drop result output.new ≡ drop result output.old }
         ensures stands { (setup : Setup) (t o : List ℕ) → Stands setup self.old t o → Stands setup self.new t (o ++ take result output.new) }
         ensures stopped { self.new.stopped ≡ self.old.stopped }
         ensures none { IsSome self.old.stopped → result ≡ 0 }
-        ensures text { self.old.receipt.pending ≡ take result output.new ++ self.new.receipt.pending }
+        ensures text { self.old.pending ≡ take result output.new ++ self.new.pending }
     {
-        self.receipt.put(output)
+        self.machine.put(output)
     }
 
     /// Whether anything is still to be put out.
     pub fn pending(&self) -> bool
-        ensures { IsTrue result ↔ (0 < length self.now.receipt.pending) }
+        ensures { IsTrue result ↔ (0 < length self.now.pending) }
     {
-        self.receipt.pending()
+        self.machine.pending()
     }
 
     /// The fault that stopped the printer.
     pub fn stopped(&self) -> Option<Fault>
         ensures value { result ≡ self.now.stopped }
-        ensures idle { IsSome result → self.now.receipt.pending ≡ [] }
+        ensures idle { IsSome result → self.now.pending ≡ [] }
     {
         self.stopped
     }
@@ -155,9 +165,9 @@ impl Printer {
         ensures taken { result.taken ≤ length input.now }
         ensures put { result.put ≤ length output.old }
         ensures rest { drop result.put output.new ≡ drop result.put output.old }
-        ensures full { 0 < length self.new.receipt.pending → result.put ≡ length output.old }
-        ensures drains { result.taken ≡ 0 → self.old.receipt.pending ≡ take result.put output.new ++ self.new.receipt.pending }
-        ensures moves { 0 < length input.now → self.old.receipt.pending ≡ [] → self.old.stopped ≡ None → 0 < result.taken }
+        ensures full { 0 < length self.new.pending → result.put ≡ length output.old }
+        ensures drains { result.taken ≡ 0 → self.old.pending ≡ take result.put output.new ++ self.new.pending }
+        ensures moves { 0 < length input.now → self.old.pending ≡ [] → self.old.stopped ≡ None → 0 < result.taken }
         ensures stands { (setup : Setup) (t o : List ℕ) → Stands setup self.old t o →
             Stands setup self.new (t ++ take result.taken input.now) (o ++ take result.put output.new) }
         ensures more { result.state ≡ State.More → (setup : Setup) (t o : List ℕ) → Stands setup self.old t o →
@@ -165,7 +175,7 @@ impl Printer {
         ensures room { result.state ≡ State.Room → (setup : Setup) (t o : List ℕ) → Stands setup self.old t o →
             IsRoom setup output.new result.put (t ++ take result.taken input.now) (o ++ take result.put output.new) }
         ensures stopped { (f : Fault) (setup : Setup) (t o : List ℕ) → Stands setup self.old t o →
-            (result.state ≡ State.Stopped f ↔ (fault setup (t ++ take result.taken input.now) ≡ Some f)) }
+            (result.state ≡ State.Stopped f ↔ (fault (rules_of setup) (t ++ take result.taken input.now) ≡ Some f)) }
         ensures stopped_at { (f : Fault) (setup : Setup) (t o : List ℕ) → Stands setup self.old t o → result.state ≡ State.Stopped f →
             IsStopped setup f (t ++ take result.taken input.now) (o ++ take result.put output.new) }
         ensures nothing_after { (f : Fault) → self.old.stopped ≡ Some f → IsStill f result }
@@ -173,8 +183,9 @@ impl Printer {
         let mut put = self.put(output);
         let mut taken = 0;
         while taken < input.len() && self.stopped().is_none() && !self.pending() {
-            taken += self.take_some(&input[taken..]);
-            put += self.put(&mut output[put..]);
+            let moved = self.take_some(&input[taken..], &mut output[put..]);
+            taken += moved.taken;
+            put += moved.put;
         }
         let state = match self.stopped() {
             Some(fault) => State::Stopped(fault),
@@ -186,33 +197,33 @@ impl Printer {
 
     /// The fault of a printer that has stopped, or that of ending here.
     pub fn finish(&self) -> Result<(), Fault>
-        requires { self.now.receipt.pending ≡ [] }
+        requires { self.now.pending ≡ [] }
         ensures { (setup : Setup) (t o : List ℕ) → Stands setup self.now t o →
-            MatchResult result (λ _. fault_at_end setup t ≡ None) (λ f. fault_at_end setup t ≡ Some f) }
+            MatchResult result (λ _. fault_at_end (rules_of setup) t ≡ None) (λ f. fault_at_end (rules_of setup) t ≡ Some f) }
     {
+        items_grow();
         if let Some(fault) = self.stopped {
             return Err(fault);
         }
-        if !self.reader.at_rest() {
-            return Err(Fault::Truncated);
+        match self.machine.ending() {
+            Some(fault) => Err(fault),
+            None => Ok(()),
         }
-        if !self.receipt.at_rest() {
-            return Err(Fault::Unprinted);
-        }
-        Ok(())
     }
 
     /// What the printer holds now.
     pub fn held(&self) -> Held
-        ensures line_rows { (setup : Setup) (t o : List ℕ) → Stands setup self.now t o →
-            result.line_rows ≡ line_rows_held setup t o }
-        ensures page_rows { (setup : Setup) (t o : List ℕ) → Stands setup self.now t o →
-            result.page_rows ≡ page_rows_held setup t o }
-        ensures most { (result.line_rows ≤ 192) × (result.page_rows ≤ 1664) }
+        ensures value { (setup : Setup) (t o : List ℕ) → Stands setup self.now t o → result ≡ held_after (rules_of setup) t o }
+        ensures most { IsBounded result }
     {
-        Held {
-            line_rows: self.receipt.line_rows(),
-            page_rows: self.receipt.page_rows(),
-        }
+        self.machine.held()
+    }
+
+    /// How many lines of a listing there were; 0 where it prints no listing.
+    pub(crate) fn lines(&self) -> u64
+        ensures { (setup : Setup) (t o : List ℕ) → Stands setup self.now t o →
+            result ≡ lines_of setup (history (rules_of setup) (before_fault (rules_of setup) t)) }
+    {
+        self.machine.lines()
     }
 }

@@ -2,20 +2,21 @@
 ghost use Rattle.std.specs.Prelude.{◌≡◌, ◌≤◌, ◌<◌, ◌+◌, ◌++◌, List, [], ℕ, Option, None, Some, length, OnOk, Ok, Err, IfErr, IsTrue, ◌↔◌, IfOk, MatchResult, MatchOption};
 ghost use Rattle.std.specs.Io.KnownBytes.{Consumes, Appends, IsAtEnd};
 ghost use Rattle.vp_dots.specs.declared.fault.Fault.{Fault};
-ghost use Rattle.vp_receipt.specs.Setup.{Setup};
-ghost use Rattle.vp_engine.specs.Paper.{setup_of, fault_at_end};
-ghost use Rattle.vp_engine.specs.Stands.{Stands};
-ghost use Rattle.vp_engine.specs.Count.{grown, one_more_if};
-ghost use Rattle.vp_engine.specs.Session.{IsAt, Accepts, SameDesk, IsDrained, IsSettled, HasEnded, Takes, SamePrinter, Pumps, IsAgain, is_read_fault, is_write_fault};
+ghost use Rattle.vp_streams.specs.Count.{grown, one_more_if};
+ghost use Rattle.vp_engine.specs.Paper.{history, before_fault, fault_at_end};
+ghost use Rattle.vp_engine.specs.Session.{IsAt, Accepts, SameDesk, IsDrained, IsSettled, HasEnded, Reads, SamePrinter, Pumps, IsAgain, is_read_fault, is_write_fault};
+ghost use Rattle.vp_engine.specs.Setups.{Setup, setup_of, rules_of, lines_of};
+ghost use Rattle.vp_engine.specs.Setups.{Listing};
+ghost use Rattle.vp_engine.specs.Stands.{Stands, IsFresh};
 
 use crate::buffer::Buffer;
 use crate::language::Language;
 use crate::printer::Printer;
-use crate::stream::{Sink, Source};
 use std::alloc::{AllocError, Global};
 use std::marker::Model;
 use vp_dots::Fault;
 use vp_glyph::Sheets;
+use vp_streams::{Sink, Source};
 
 /// The bytes taken and written since `new`; both counts stop at the greatest u64.
 #[derive(Clone, Copy, Debug, PartialEq, Eq)]
@@ -63,15 +64,28 @@ impl Session {
         ensures { IfOk result (λ s. IsAt (setup_of language sheets) s [] []) }
     {
         let printer = Printer::new(alloc, language, sheets)?;
-        let input = Buffer::new(alloc)?;
-        let output = Buffer::new(alloc)?;
-        Ok(Session {
+        Ok(Session::over(printer))
+    }
+
+    /// One that lists, and read and wrote nothing.
+    pub(crate) fn listing(language: Language) -> Self
+        ensures { IsAt (Listing language) result [] [] }
+    {
+        Session::over(Printer::listing(language))
+    }
+
+    /// One over a printer that took and put out nothing.
+    fn over(printer: Printer) -> Self
+        requires { IsFresh printer }
+        ensures { (setup : Setup) → Stands setup printer [] [] → IsAt setup result [] [] }
+    {
+        Session {
             printer,
-            input,
-            output,
+            input: Buffer::new(),
+            output: Buffer::new(),
             taken: 0,
             written: 0,
-        })
+        }
     }
 
     /// Writes once.
@@ -116,7 +130,7 @@ impl Session {
     }
 
     fn pending(&self) -> bool
-        ensures { IsTrue result ↔ (0 < length self.now.printer.receipt.pending) }
+        ensures { IsTrue result ↔ (0 < length self.now.printer.pending) }
     {
         self.printer.pending()
     }
@@ -137,7 +151,7 @@ impl Session {
     fn advance(&mut self)
         requires { self.old.unwritten ≡ [] }
         ensures at { (setup : Setup) (r w : List ℕ) → IsAt setup self.old r w → IsAt setup self.new r w }
-        ensures less { 0 < length self.old.unread → self.old.printer.receipt.pending ≡ [] → self.old.printer.stopped ≡ None →
+        ensures less { 0 < length self.old.unread → self.old.printer.pending ≡ [] → self.old.printer.stopped ≡ None →
             length self.new.unread < length self.old.unread }
     {
         let step = self.output.step(&mut self.printer, self.input.as_slice());
@@ -149,8 +163,8 @@ impl Session {
     fn refill(&mut self)
         requires { self.old.unwritten ≡ [] }
         ensures at { (setup : Setup) (r w : List ℕ) → IsAt setup self.old r w → IsAt setup self.new r w }
-        ensures less { 0 < length self.old.printer.receipt.pending →
-            length self.new.printer.receipt.pending < length self.old.printer.receipt.pending }
+        ensures less { 0 < length self.old.printer.pending →
+            length self.new.printer.pending < length self.old.printer.pending }
         ensures unread { self.new.unread ≡ self.old.unread }
     {
         self.output.step(&mut self.printer, &[]);
@@ -189,7 +203,7 @@ impl Session {
     /// Reads once.
     fn fill<S: Source>(&mut self, reader: &mut S) -> Result<usize, RunFault>
         requires { self.old.unread ≡ [] }
-        ensures at { (setup : Setup) (r w : List ℕ) → IsAt setup self.old r w → Takes (S.remaining reader.old) (S.remaining reader.new) setup self.new r w }
+        ensures at { (setup : Setup) (r w : List ℕ) → IsAt setup self.old r w → Reads (S.remaining reader.old) (S.remaining reader.new) setup self.new r w }
         ensures ok { OnOk result (S.failed_reads reader.new ≡ S.failed_reads reader.old) }
         ensures end { IfOk result (λ n. n ≡ 0 → (self.new.unread ≡ []) × IsAtEnd (S.remaining reader.new)) }
         ensures err { IfErr result (λ e. (e ≡ RunFault.Read) × (S.failed_reads reader.new ≡ grown (S.failed_reads reader.old) 1)) }
@@ -213,9 +227,9 @@ impl Session {
     }
 
     fn finish(&self) -> Result<(), Fault>
-        requires { self.now.printer.receipt.pending ≡ [] }
+        requires { self.now.printer.pending ≡ [] }
         ensures { (setup : Setup) (t o : List ℕ) → Stands setup self.now.printer t o →
-            MatchResult result (λ _. fault_at_end setup t ≡ None) (λ f. fault_at_end setup t ≡ Some f) }
+            MatchResult result (λ _. fault_at_end (rules_of setup) t ≡ None) (λ f. fault_at_end (rules_of setup) t ≡ Some f) }
     {
         self.printer.finish()
     }
@@ -291,5 +305,14 @@ impl Session {
             });
         }
         self.run(reader, writer)
+    }
+
+    /// How many lines of a listing there were, where all that was read is taken; 0 where it is no listing.
+    pub(crate) fn lines(&self) -> u64
+        requires { self.now.unread ≡ [] }
+        ensures { (setup : Setup) (r w : List ℕ) → IsAt setup self.now r w →
+            result ≡ lines_of setup (history (rules_of setup) (before_fault (rules_of setup) r)) }
+    {
+        self.printer.lines()
     }
 }

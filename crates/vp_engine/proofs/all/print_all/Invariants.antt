@@ -1,5 +1,6 @@
 use Rattle.std.proofs.Common.{◌≤◌, ◌-◌, length, take}
-use Rattle.vp_engine.specs.Paper.{paper, setup_of}
+use Rattle.vp_engine.specs.Paper.{paper}
+use Rattle.vp_engine.specs.Setups.{setup_of, rules_of}
 use Rattle.vp_engine.specs.Stands.{Stands}
 use Rattle.vp_engine.proofs.all.print_all.Given as goal
 
@@ -10,4 +11,4 @@ invariant-steps l = record {
 }
 
 abbrev pub decreases-steps : goal.decreases-steps
-decreases-steps l = length (paper (setup_of l.fn.language l.fn.sheets) l.src) - length l.paper.items
+decreases-steps l = length (paper (rules_of (setup_of l.fn.language l.fn.sheets)) l.src) - length l.paper.items

@@ -19,27 +19,26 @@ loop-taken-init c = record {
 
 pub loop-taken-preserved : goal.loop-taken-preserved
 loop-taken-preserved c =
-    let e = c.put-put-in-loop-taken.ensures in
+    let e = c.take_some-moved.ensures in
     let a = c.loop-taken.put in
-    let n = c.put-put-in-loop-taken.result in
+    let n = c.take_some-moved.result.put in
     let xs = c.loop-taken.output in
-    let ys = c.put-put-in-loop-taken.new.output in
+    let ys = c.take_some-moved.new.output in
     let within : a ≤ length xs = c.loop-taken.invariant.put in
-    let long : length (put_mid a (length xs - a) xs ys) ≡ length xs = cut_length a xs ys within c.put-put-in-loop-taken.auto.output in
+    let long : length (put_mid a (length xs - a) xs ys) ≡ length xs = cut_length a xs ys within c.take_some-moved.auto.output in
     let part : length (take (length xs - a) (drop a xs)) ≡ length xs - a = ap length (part_is a xs) ∙ length-drop a xs in
     record {
       taken = omega arith;
-      put = omega (arith, long, part, e.count);
+      put = omega (arith, long, part, e.put);
       rest = cut_drop a n xs ys within e.rest ∙ rest_same a n xs c.args.output.now c.loop-taken.invariant.rest;
       stands = λ setup t o s.
           let k = c.loop-taken.taken in
           let i = c.args.input.now in
-          let m = c.take_some-taken.result in
-          let one = c.take_some-taken.ensures.stands setup (t ++ take k i) (o ++ take a xs) (c.loop-taken.invariant.stands setup t o s) in
-          let two = e.stands setup _ _ one in
+          let m = c.take_some-moved.result.taken in
+          let one = e.stands setup (t ++ take k i) (o ++ take a xs) (c.loop-taken.invariant.stands setup t o s) in
           let t_is : (t ++ take k i) ++ take m (take (length i - k) (drop k i)) ≡ t ++ take (k + m) i = append_assoc t (take k i) _ ∙ ap (λ x. t ++ x) (front_more k m i) in
           let o_is : (o ++ take a xs) ++ take n ys ≡ o ++ take (a + n) (put_mid a (length xs - a) xs ys) = append_assoc o (take a xs) _ ∙ ap (λ x. o ++ x) (sym (cut_take a n xs ys within)) in
-          subst₂ (Stands setup c.put-put-in-loop-taken.new.self) t_is o_is two;
+          subst₂ (Stands setup c.take_some-moved.new.self) t_is o_is one;
       full = λ h. omega (arith, long, part, e.full h);
       still = λ h.
           let no : false ≡ true = sym c.if-is_none.ensures ∙ ap is_some (c.stopped.ensures.value ∙ (c.loop-taken.invariant.still h).0) ∙ h in
@@ -72,7 +71,7 @@ returns-in-None-clause-stopped c f setup t o s =
 pub returns-in-None-2-clause-more : goal.returns-in-None-2-clause-more
 returns-in-None-2-clause-more c e setup t o s =
     let now = c.loop-taken.invariant.stands setup t o s in
-    let none : c.loop-taken.self.receipt.pending ≡ [] = empty_unless _ c.if-pending.ensures.1 in
+    let none : c.loop-taken.self.pending ≡ [] = empty_unless _ c.if-pending.ensures.1 in
     record {
       all = elim c.loop-taken-test.branch [
         | then-loop-taken-test+then-is_none+else-not-pending w ↦ omega (arith, w.if-not-pending.ensures.0 refl, ap length none)
@@ -94,5 +93,5 @@ returns-in-None-clause-room c e setup t o s =
     let some = c.if-pending.ensures.0 refl in
     record {
       full = c.loop-taken.invariant.full some;
-      more = omega (arith, some, ap length now.pending, length-append (o ++ take c.loop-taken.put c.loop-taken.output) c.loop-taken.self.receipt.pending);
+      more = omega (arith, some, ap length now.pending, length-append (o ++ take c.loop-taken.put c.loop-taken.output) c.loop-taken.self.pending);
     }

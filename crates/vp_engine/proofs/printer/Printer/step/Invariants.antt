@@ -1,5 +1,5 @@
 use Rattle.std.proofs.Common.{◌≡◌, ◌≤◌, ◌<◌, ℕ, ◌-◌, ◌++◌, List, length, take, drop, IsSome}
-use Rattle.vp_receipt.specs.Setup.{Setup}
+use Rattle.vp_engine.specs.Setups.{Setup}
 use Rattle.vp_engine.specs.Stands.{Stands}
 use Rattle.vp_engine.proofs.printer.Printer.step.Given as goal
 
@@ -9,9 +9,9 @@ invariant-loop-taken l = record {
   put : l.put ≤ length l.output;
   rest : drop l.put l.output ≡ drop l.put l.fn.output;
   stands : (setup : Setup) (t o : List ℕ) → Stands setup l.fn.self t o → Stands setup l.self (t ++ take l.taken l.input) (o ++ take l.put l.output);
-  full : 0 < length l.self.receipt.pending → l.put ≡ length l.output;
+  full : 0 < length l.self.pending → l.put ≡ length l.output;
   still : IsSome l.fn.self.stopped → (l.self.stopped ≡ l.fn.self.stopped) × (l.taken ≡ 0) × (l.put ≡ 0);
-  zero : l.taken ≡ 0 → (l.fn.self.receipt.pending ≡ take l.put l.output ++ l.self.receipt.pending) × (l.self.stopped ≡ l.fn.self.stopped);
+  zero : l.taken ≡ 0 → (l.fn.self.pending ≡ take l.put l.output ++ l.self.pending) × (l.self.stopped ≡ l.fn.self.stopped);
 }
 
 abbrev pub decreases-loop-taken : goal.decreases-loop-taken

@@ -1,5 +1,5 @@
 use Rattle.std.proofs.Common.{◌≡◌, ℕ, List, length}
-use Rattle.vp_receipt.specs.Setup.{Setup}
+use Rattle.vp_engine.specs.Setups.{Setup}
 use Rattle.vp_engine.specs.Session.{IsAt, Accepts}
 use Rattle.vp_engine.proofs.session.Session.drain.Given as goal
 
@@ -11,4 +11,4 @@ invariant-drains g l = record {
 }
 
 abbrev pub decreases-drains : goal.decreases-drains
-decreases-drains g l = length l.self.printer.receipt.pending
+decreases-drains g l = length l.self.printer.pending

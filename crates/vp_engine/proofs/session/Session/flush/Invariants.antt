@@ -1,5 +1,5 @@
 use Rattle.std.proofs.Common.{◌≡◌, ℕ, List, length}
-use Rattle.vp_receipt.specs.Setup.{Setup}
+use Rattle.vp_engine.specs.Setups.{Setup}
 use Rattle.vp_engine.specs.Session.{IsAt, Accepts, SameDesk}
 use Rattle.vp_engine.proofs.session.Session.flush.Given as goal
 

@@ -47,7 +47,7 @@ returns-in-Ok-clause-pumps g c setup r w a =
     let d = c.in_ok-settle.ensures.ok.0 in
     let s = c.fill.ensures.same in
     let z = c.in_ok-n.ensures.end c.if-n-eq0.true in
-    let dr : IsDrained c.fill.new.self = record { unwritten = s.unwritten ∙ d.unwritten; pending = ap (λ (p : Engine). p.receipt.pending) s.printer ∙ d.pending } in
+    let dr : IsDrained c.fill.new.self = record { unwritten = s.unwritten ∙ d.unwritten; pending = ap (λ (p : Engine). p.pending) s.printer ∙ d.pending } in
     record {
       reaches = k;
       answer = whole_answer setup c.fill.new.self _ _ c.report-report.result _ k.at dr z.0 (c.in-Ok.ensures setup) (c.report-report.ensures.taken ∙ sym s.taken) (c.report-report.ensures.written ∙ sym s.written) z.1;
@@ -60,7 +60,7 @@ returns-in-Err-clause-pumps g c setup r w a =
     let d = c.in_ok-settle.ensures.ok.0 in
     let s = c.fill.ensures.same in
     let z = c.in_ok-n.ensures.end c.if-n-eq0.true in
-    let dr : IsDrained c.fill.new.self = record { unwritten = s.unwritten ∙ d.unwritten; pending = ap (λ (p : Engine). p.receipt.pending) s.printer ∙ d.pending } in
+    let dr : IsDrained c.fill.new.self = record { unwritten = s.unwritten ∙ d.unwritten; pending = ap (λ (p : Engine). p.pending) s.printer ∙ d.pending } in
     let run : c.fill.new.self.printer.stopped ≡ None = ap (λ (p : Engine). p.stopped) s.printer ∙ sym c.stopped.ensures ∙ none_of c.stopped.result c.in_default.not-Some in
     record {
       reaches = k;

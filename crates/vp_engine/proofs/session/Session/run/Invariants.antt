@@ -1,6 +1,6 @@
 use Rattle.std.proofs.Common.{◌≡◌, ◌<◌, ℕ, List}
-use Rattle.vp_receipt.specs.Setup.{Setup}
-use Rattle.vp_engine.specs.Count.{grown}
+use Rattle.vp_engine.specs.Setups.{Setup}
+use Rattle.vp_streams.specs.Count.{grown}
 use Rattle.vp_engine.specs.Session.{IsAt, Reaches}
 use Rattle.vp_engine.proofs.session.Session.run.Given as goal
 

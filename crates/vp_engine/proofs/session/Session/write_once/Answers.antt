@@ -10,14 +10,14 @@ invariant_of-self g c =
       i.0,
       i.1,
       i.2 ++ take c.in-Ok.n c.as_slice.result.now,
-      at_wrote i.0 _ _ i.1 i.2 c.as_slice.result.now c.in-Ok.n i.3 c.as_slice.ensures c.in-Ok.ensures.bound refl refl refl c.consume.ensures c.saturating_add-self-inside.ensures,
+      at_wrote i.0 _ _ i.1 i.2 c.as_slice.result.now c.in-Ok.n i.3 c.as_slice.ensures.value c.in-Ok.ensures.bound refl refl refl c.consume.ensures c.saturating_add-self-inside.ensures,
     )
 
 pub returns-else-n-eq0-clause-at : goal.returns-else-n-eq0-clause-at
 returns-else-n-eq0-clause-at g c setup r w a = record {
   accepted = take c.in-Ok.n c.as_slice.result.now;
   appended = c.in-Ok.ensures.bytes;
-  at = at_wrote setup (the_view c.self.inside) _ r w c.as_slice.result.now c.in-Ok.n (subst (λ (s : Desk). IsAt setup s r w) (sym c.self.view_is) a) c.as_slice.ensures c.in-Ok.ensures.bound refl refl refl c.consume.ensures c.saturating_add-self-inside.ensures;
+  at = at_wrote setup (the_view c.self.inside) _ r w c.as_slice.result.now c.in-Ok.n (subst (λ (s : Desk). IsAt setup s r w) (sym c.self.view_is) a) c.as_slice.ensures.value c.in-Ok.ensures.bound refl refl refl c.consume.ensures c.saturating_add-self-inside.ensures;
 }
 
 pub returns-in-Err-clause-at : goal.returns-in-Err-clause-at

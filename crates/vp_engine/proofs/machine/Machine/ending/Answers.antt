@@ -1,0 +1,12 @@
+use Rattle.std.proofs.Common.{true, ◌∙◌}
+use Rattle.vp_engine.proofs.Arms.{at_receipt, at_lines}
+use Rattle.vp_engine.proofs.Comes.{missing_is}
+use Rattle.vp_engine.proofs.machine.Machine.ending.Goals as goal
+
+pub returns-in-Receipt : goal.returns-in-Receipt
+returns-in-Receipt c = at_receipt _ _ _ _ c.in-Receipt.is (λ s t before at none. c.missing.ensures ∙ missing_is _ _ _ _ _ none (c.at_rest.ensures t at.0) (c.at_rest-in-Receipt.ensures s before at.1))
+
+pub returns-in-ReceiptLines : goal.returns-in-ReceiptLines
+returns-in-ReceiptLines c = at_lines _ _ _ _ c.in-ReceiptLines.is
+    (λ t before at none. c.missing-in-ReceiptLines.ensures ∙ missing_is _ true true _ _ none (c.at_rest-in-ReceiptLines.ensures t at.0) (λ e. e, λ e. e))
+    (λ t before at none. c.missing-in-ReceiptLines.ensures ∙ missing_is _ true true _ _ none (c.at_rest-in-ReceiptLines.ensures t at.0) (λ e. e, λ e. e))

@@ -1,0 +1,14 @@
+use Rattle.std.proofs.Common.{refl, sym, ap, ◌∙◌}
+use Rattle.vp_receipt.specs.Strips.{line_rows_after, page_rows_after}
+use Rattle.vp_engine.specs.Machines.{pending_of}
+use Rattle.vp_engine.specs.Paper.{nothing_held}
+use Rattle.vp_engine.proofs.Arms.{at_receipt, at_lines}
+use Rattle.vp_engine.proofs.machine.Machine.held.Goals as goal
+
+pub returns-in-Receipt-clause-value : goal.returns-in-Receipt-clause-value
+returns-in-Receipt-clause-value c = at_receipt _ _ _ _ c.in-Receipt.is (λ s t before at.
+    ap (λ n. record nothing_held { line_rows = n; page_rows = c.page_rows.result }) (c.line_rows.ensures.value s before at.1 ∙ ap (λ m. line_rows_after s before (pending_of m)) (sym c.in-Receipt.is))
+    ∙ ap (λ n. record nothing_held { line_rows = line_rows_after s before (pending_of c.args.self.now); page_rows = n }) (c.page_rows.ensures.value s before at.1 ∙ ap (λ m. page_rows_after s before (pending_of m)) (sym c.in-Receipt.is)))
+
+pub returns-in-ReceiptLines-clause-value : goal.returns-in-ReceiptLines-clause-value
+returns-in-ReceiptLines-clause-value c = at_lines _ _ _ _ c.in-ReceiptLines.is (λ t before at. refl) (λ t before at. refl)

@@ -1,0 +1,10 @@
+use Rattle.std.proofs.Common.{◌∙◌}
+use Rattle.vp_engine.proofs.Arms.{at_receipt, at_lines}
+use Rattle.vp_engine.proofs.machine.Machine.put.Goals as goal
+
+pub returns-in-Receipt-clause-stands : goal.returns-in-Receipt-clause-stands
+returns-in-Receipt-clause-stands c = at_receipt _ _ _ _ c.in-Receipt.is (λ s t before at. (at.0, c.put.ensures.stands s before at.1))
+
+pub returns-in-ReceiptLines-clause-stands : goal.returns-in-ReceiptLines-clause-stands
+returns-in-ReceiptLines-clause-stands c =
+    at_lines _ _ _ _ c.in-ReceiptLines.is (λ t before at. (at.0, c.put-in-ReceiptLines.ensures.count ∙ at.1)) (λ t before at. (at.0, c.put-in-ReceiptLines.ensures.count ∙ at.1))

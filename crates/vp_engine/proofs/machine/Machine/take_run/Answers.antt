@@ -1,0 +1,69 @@
+use Rattle.std.proofs.Common.{◌≡◌, ◌≤◌, ◌*◌, ◌++◌, ℕ, List, take, drop, length, reverse, None, sym, ap, subst, ◌∙◌, arith}
+use Rattle.std.proofs.lemmas.List.{take-take, length-take-le, take_at, drop_at, append-nil}
+use Rattle.vp_esc.specs.declared.item.EscItem.{EscItem}
+use Rattle.vp_esc.specs.Reader.{Stands as EscStands, raster_items}
+use Rattle.vp_esc.specs.Split.{items, fault_of}
+use Rattle.vp_esc.specs.Lines.{line_of}
+use Rattle.vp_streams.specs.Count.{counted}
+use Rattle.vp_engine.specs.Lines.{byte_lines}
+use Rattle.vp_engine.specs.Paper.{listing, printed}
+use Rattle.vp_engine.specs.Setups.{Receipts, rules_of, esc_reading}
+use Rattle.vp_engine.specs.Takes.{TakesRun}
+use Rattle.vp_engine.proofs.Arms.{at_receipt, at_lines}
+use Rattle.vp_engine.proofs.ByteLines.{lines_length}
+use Rattle.vp_engine.proofs.Listings.{lines_more}
+use Rattle.vp_engine.proofs.Rasters.{known_run, accepted_bytes, printed_same, all_listed, printed_lines, lines_of_bytes}
+use Rattle.vp_engine.proofs.machine.Machine.take_run.Goals as goal
+
+pub returns-in-Receipt-clause-takes : goal.returns-in-Receipt-clause-takes
+returns-in-Receipt-clause-takes c = at_receipt _ _ _ _ c.in-Receipt.is (λ s t before at known.
+    let e = c.take_raster-n.ensures in
+    let n = c.take_raster-n.result in
+    let room = c.min-room.result in
+    let input = c.args.input.now in
+    let within : room ≤ length input = omega (arith, c.min-room.ensures) in
+    let long : length (take room input) ≡ room = length-take-le room input within in
+    let less : n ≤ room = omega (arith, e.count, long) in
+    let front : take n (take room input) ≡ take n input = take-take n room input less in
+    let a = c.apply_raster.ensures in
+    record {
+      added = raster_items (take n input);
+      gives = ap (λ x. items (t ++ x)) (sym front) ∙ e.gives t n at.0 (omega arith) ∙ ap (λ x. items t ++ raster_items x) front;
+      known = known_run t (take room input) (take n input) n front known (λ some. e.known t n at.0 some (omega arith));
+      accepted = accepted_bytes s (take n input) before;
+      prints = printed_same s (reverse (raster_items (take n input)) ++ before) ∙ a.prints s before at.1 ∙ sym (printed_same s before) ∙ sym (append-nil (printed (rules_of (Receipts s)) before));
+      stands = (subst (λ x. EscStands c.take_raster-n.new.self (t ++ x)) front (e.stands t at.0), a.stands s before at.1);
+    })
+
+pub returns-in-ReceiptLines-clause-rest : goal.returns-in-ReceiptLines-clause-rest
+returns-in-ReceiptLines-clause-rest c =
+    let n = c.take_raster-n-in-ReceiptLines.result in
+    let bytes = take n c.args.input.now in
+    let short : length bytes ≡ n = length-take-le n c.args.input.now (omega (arith, c.take_raster-n-in-ReceiptLines.ensures.count, length-take-le c.min-room-in-ReceiptLines.result c.args.input.now (omega (arith, c.min-room-in-ReceiptLines.ensures)), c.min-room-in-ReceiptLines.ensures)) in
+    ap (drop (8 * n)) c.put_bytes.ensures.bytes ∙ drop_at (byte_lines bytes) (drop (8 * length bytes) c.args.output.now) (8 * n) (omega (arith, lines_length bytes, short))
+    ∙ ap (λ k. drop (8 * k) c.args.output.now) short
+
+pub returns-in-ReceiptLines-clause-takes : goal.returns-in-ReceiptLines-clause-takes
+returns-in-ReceiptLines-clause-takes c =
+    let e = c.take_raster-n-in-ReceiptLines.ensures in
+    let n = c.take_raster-n-in-ReceiptLines.result in
+    let room = c.min-room-in-ReceiptLines.result in
+    let input = c.args.input.now in
+    let within : room ≤ length input = omega (arith, c.min-room-in-ReceiptLines.ensures) in
+    let long : length (take room input) ≡ room = length-take-le room input within in
+    let less : n ≤ room = omega (arith, e.count, long) in
+    let front : take n (take room input) ≡ take n input = take-take n room input less in
+    let short : length (take n input) ≡ n = length-take-le n input (omega arith) in
+    let text : byte_lines (take n input) ≡ take (8 * n) c.put_bytes.new.output =
+    sym (ap (take (8 * n)) c.put_bytes.ensures.bytes ∙ take_at (byte_lines (take n input)) (drop (8 * length (take n input)) c.args.output.now) (8 * n) (omega (arith, lines_length (take n input), short))) in
+    let runs : (t : List ℕ) (before : List EscItem) → EscStands c.in-ReceiptLines.reader t × (c.in-ReceiptLines.lines.count ≡ counted (length before)) → fault_of t ≡ None →
+    TakesRun (listing esc_reading line_of) (λ t before. EscStands c.take_raster-n-in-ReceiptLines.new.self t × (c.put_bytes.new.self.count ≡ counted (length before))) t before (take n input) (take (8 * n) c.put_bytes.new.output) =
+    λ t before at known. record {
+      added = raster_items (take n input);
+      gives = ap (λ x. items (t ++ x)) (sym front) ∙ e.gives t n at.0 (omega arith) ∙ ap (λ x. items t ++ raster_items x) front;
+      known = known_run t (take room input) (take n input) n front known (λ some. e.known t n at.0 some (omega arith));
+      accepted = all_listed esc_reading line_of (raster_items (take n input)) before;
+      prints = printed_lines esc_reading line_of (raster_items (take n input)) before ∙ ap (λ x. printed (listing esc_reading line_of) before ++ x) (lines_of_bytes (take n input) ∙ text);
+      stands = (subst (λ x. EscStands c.take_raster-n-in-ReceiptLines.new.self (t ++ x)) front (e.stands t at.0), lines_more _ _ before (take n input) at.1 c.put_bytes.ensures.count);
+    } in
+    at_lines _ _ _ _ c.in-ReceiptLines.is runs runs
