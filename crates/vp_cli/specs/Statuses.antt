@@ -1,11 +1,12 @@
 -- The exit statuses of a run that ends early.
 use Rattle.std.specs.Prelude.{ℕ}
 use Rattle.vp_cli.specs.declared.stop.Stop.{Stop}
-use Rattle.vp_cli.specs.declared.stop.Stop.TheVariants.{Print, CannotOpen, Sheet, Read, Write, TooManyTurns, Memory}
+use Rattle.vp_cli.specs.declared.stop.Stop.TheVariants.{Print, Join, CannotOpen, Sheet, Read, Write, TooManyTurns, Memory}
 
--- 1: the stream; 3: a file, a sheet, a read or a write; 4: memory
+-- 1: the stream, or the images; 3: a file, a sheet, a read or a write; 4: memory
 abbrev pub status_of : Stop → ℕ
 status_of (Print fault after) = 1
+status_of (Join fault) = 1
 status_of (CannotOpen name) = 3
 status_of (Sheet name number error) = 3
 status_of Read = 3

@@ -1,5 +1,5 @@
 //! A run of the program, from its words to its exit status.
-use crate::order::Order;
+use crate::order::{Order, Stream, Task};
 use crate::sheets;
 use crate::stop::Stop;
 use clap::error::ErrorKind;
@@ -8,8 +8,9 @@ use std::convert::AsStr;
 use std::io::{Read, Write};
 use std::rt::{Env, Files};
 use std::{env, fs, io};
-use vp_engine::{Counted, Language, Session};
+use vp_engine::{Counted, Language, Session, list};
 use vp_glyph::Sheets;
+use vp_join::join;
 
 /// The exit status where the words are wrong.
 const USAGE: u8 = 2;
@@ -37,7 +38,7 @@ pub fn words<R: Env + Alloc, E: Write>(
 }
 
 /// Runs the program on its words, the first of which is its name, and gives the exit status: 0 success, 1 a fault of
-/// the stream, 2 usage, 3 a file, a sheet, a read or a write, 4 want of memory. What was printed is written first.
+/// the stream or of the images, 2 usage, 3 a file, a sheet, a read or a write, 4 want of memory. What was printed is written first.
 pub fn run<R: Files, S: AsStr, I: Read, O: Write, E: Write>(
     rt: &R,
     alloc: Global,
@@ -50,27 +51,89 @@ pub fn run<R: Files, S: AsStr, I: Read, O: Write, E: Write>(
         Ok(order) => order,
         Err(error) => return usage(&error, output, errors),
     };
-    match carry_out(rt, alloc, order, input, output) {
+    let done = match order {
+        Order::Read(stream) => carry_out(rt, alloc, stream, input, output),
+        Order::Join(name) => join_images(rt, name, output),
+    };
+    match done {
         Ok(()) => 0,
         Err(stop) => report(&stop, errors),
     }
 }
 
-/// Reads the sheets, opens the file if one is named, and prints.
+/// Joins the images of a file, which is opened twice.
+fn join_images<'a, R: Files, O: Write>(
+    rt: &R,
+    name: &'a str,
+    output: &mut O,
+) -> Result<(), Stop<'a>> {
+    let Ok(first) = fs::open(rt, name) else {
+        return Err(Stop::CannotOpen(name));
+    };
+    let Ok(second) = fs::open(rt, name) else {
+        return Err(Stop::CannotOpen(name));
+    };
+    let mut writer = Counted::new(output);
+    match join(
+        &mut Counted::new(first),
+        &mut Counted::new(second),
+        &mut writer,
+    ) {
+        Ok(_) => Ok(()),
+        Err(fault) => Err(Stop::of_join(fault)),
+    }
+}
+
+/// What is done with what is read, once the sheets are.
+#[derive(Drop)]
+enum Work {
+    Print(Sheets),
+    List,
+}
+
+/// Reads the sheets, opens the file if one is named, and prints or lists.
 fn carry_out<'a, R: Files, I: Read, O: Write>(
     rt: &R,
     alloc: Global,
-    order: Order<'a>,
+    stream: Stream<'a>,
     input: &mut I,
     output: &mut O,
 ) -> Result<(), Stop<'a>> {
-    let sheets = sheets::read(rt, alloc, order)?;
-    let Some(name) = order.file else {
-        return print(alloc, order.language, sheets, input, output);
+    let work = match stream.task {
+        Task::Print(fonts) => Work::Print(sheets::read(rt, alloc, fonts)?),
+        Task::List => Work::List,
+    };
+    let Some(name) = stream.file else {
+        return work_on(alloc, work, stream.language, input, output);
     };
     match fs::open(rt, name) {
-        Ok(mut file) => print(alloc, order.language, sheets, &mut file, output),
+        Ok(mut file) => work_on(alloc, work, stream.language, &mut file, output),
         Err(_) => Err(Stop::CannotOpen(name)),
+    }
+}
+
+/// Prints or lists what is read, as it comes.
+fn work_on<'a, I: Read, O: Write>(
+    alloc: Global,
+    work: Work,
+    language: Language,
+    input: &mut I,
+    output: &mut O,
+) -> Result<(), Stop<'a>> {
+    let mut reader = Counted::new(input);
+    let mut writer = Counted::new(output);
+    let fault = match work {
+        Work::Print(sheets) => {
+            let Ok(mut session) = Session::new(alloc, language, sheets) else {
+                return Err(Stop::Memory);
+            };
+            session.pump(&mut reader, &mut writer).err()
+        }
+        Work::List => list(language, &mut reader, &mut writer).err(),
+    };
+    match fault {
+        Some(fault) => Err(Stop::of_run(fault)),
+        None => Ok(()),
     }
 }
 
@@ -91,21 +154,4 @@ fn usage<O: Write, E: Write>(error: &clap::Error, output: &mut O, errors: &mut E
 fn report<E: Write>(stop: &Stop<'_>, errors: &mut E) -> u8 {
     let _ = writeln!(errors, "vp: {stop}");
     stop.status()
-}
-
-/// Prints what is read, as it comes.
-fn print<'a, I: Read, O: Write>(
-    alloc: Global,
-    language: Language,
-    sheets: Sheets,
-    input: &mut I,
-    output: &mut O,
-) -> Result<(), Stop<'a>> {
-    let Ok(mut session) = Session::new(alloc, language, sheets) else {
-        return Err(Stop::Memory);
-    };
-    match session.pump(&mut Counted::new(input), &mut Counted::new(output)) {
-        Ok(_) => Ok(()),
-        Err(fault) => Err(Stop::of_run(fault)),
-    }
 }

@@ -1,7 +1,7 @@
 //! The glyph sheets that a command line names.
 ghost use Rattle.std.specs.Prelude.{◌≤◌};
 
-use crate::order::Order;
+use crate::order::Fonts;
 use crate::stop::Stop;
 use std::alloc::Global;
 use std::fs;
@@ -13,9 +13,9 @@ use vp_glyph::{Sheet, Sheets};
 const MOST: u64 = 1_048_576;
 
 /// Opens, reads and checks the sheets, font A's first.
-pub fn read<'a, R: Files>(rt: &R, alloc: Global, order: Order<'a>) -> Result<Sheets, Stop<'a>> {
-    let a = sheet(rt, alloc, order.font_a, 12, 24)?;
-    let b = sheet(rt, alloc, order.font_b, 9, 17)?;
+pub fn read<'a, R: Files>(rt: &R, alloc: Global, fonts: Fonts<'a>) -> Result<Sheets, Stop<'a>> {
+    let a = sheet(rt, alloc, fonts.a, 12, 24)?;
+    let b = sheet(rt, alloc, fonts.b, 9, 17)?;
     Ok(Sheets { a, b })
 }
 

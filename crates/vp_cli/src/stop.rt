@@ -7,6 +7,7 @@ use thiserror::Error;
 use vp_dots::Fault;
 use vp_engine::RunFault;
 use vp_glyph::SheetError;
+use vp_join::JoinFault;
 
 /// Why a run ends before all is printed.
 #[derive(Debug, Drop, Error)]
@@ -26,6 +27,9 @@ pub enum Stop<'a> {
         number: u8,
         error: SheetError,
     },
+    /// What is to be joined isn't images of one width.
+    #[error("join: {0:?}")]
+    Join(JoinFault),
     #[error("read failed")]
     Read,
     #[error("write failed")]
@@ -37,12 +41,12 @@ pub enum Stop<'a> {
 }
 
 impl Stop<'_> {
-    /// The exit status: 1 for a fault of the stream, 3 for a file, a sheet, a read or a write, 4 for want of memory.
+    /// The exit status: 1 for a fault of the stream or of images, 3 for a file, a sheet, a read or a write, 4 for want of memory.
     pub fn status(&self) -> u8
         ensures { result ≡ status_of self.now }
     {
         match self {
-            Stop::Print { .. } => 1,
+            Stop::Print { .. } | Stop::Join(_) => 1,
             Stop::CannotOpen(_) | Stop::Sheet { .. } => 3,
             Stop::Read | Stop::Write | Stop::TooManyTurns => 3,
             Stop::Memory => 4,
@@ -65,6 +69,16 @@ impl Stop<'_> {
             RunFault::Read => Stop::Read,
             RunFault::Write => Stop::Write,
             RunFault::TooManyTurns => Stop::TooManyTurns,
+        }
+    }
+
+    /// Why images weren't joined.
+    pub fn of_join(fault: JoinFault) -> Self {
+        match fault {
+            JoinFault::Read => Stop::Read,
+            JoinFault::Write => Stop::Write,
+            JoinFault::TooManyTurns => Stop::TooManyTurns,
+            _ => Stop::Join(fault),
         }
     }
 }
