@@ -4,7 +4,7 @@ set -eu
 cd "$(dirname "$0")/crates/vp_memory"
 log=$(mktemp)
 trap 'rm -f "$log"' EXIT
-for nth in 1 2 3 4 5 6 7 8; do
+for nth in 1 2 3 4 5 6 7 8 9 10; do
     rt try --test --fail-alloc "$nth" >"$log" 2>&1 || true
     if ! grep -q '^test result: ok\.' "$log"; then
         echo "allocation $nth refused:" >&2

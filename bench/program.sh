@@ -1,6 +1,6 @@
 #!/bin/sh
-# How long the program takes, beside cat of what it prints: bench/program.sh [VP], with the program that `rt run` in
-# crates/vp_cli built. The times are those of the machine it runs on; the ratios are what to look at.
+# How long the program takes, beside cat of what it prints and od of what it lists: bench/program.sh [VP], with the
+# program that `rt run` in crates/vp_cli built. The times are those of the machine it runs on; the ratios are what to look at.
 set -eu
 top=$(cd "$(dirname "$0")/.." && pwd)
 vp=${1:-$top/crates/vp_cli/out/vp_cli}
@@ -30,6 +30,14 @@ measure() {
     echo "$print $copy $bytes" | awk -v name="$name" '{ printf "%s: %d bytes of paper, %.1f ms, cat %.1f ms, %.1f times cat, %.0f MB/s\n", name, $3, $1 / 1e6, $2 / 1e6, $1 / $2, $3 * 1000 / $1 }'
 }
 
+# listed NAME FILE: the lines of a file, beside od of its bytes
+listed() {
+    list=$(seconds "$scratch/lines" "$vp" list --lang receipt "$2")
+    dump=$(seconds "$scratch/dump" od -An -v -tx1 "$2")
+    bytes=$(wc -c < "$2")
+    echo "$list $dump $bytes" | awk -v name="$1" '{ printf "listing of %s: %d bytes, %.1f ms, od %.1f ms, %.2f times od\n", name, $3, $1 / 1e6, $2 / 1e6, $1 / $2 }'
+}
+
 # repeated NUMBER FILE: the file so many times
 repeated() {
     for _ in $(seq "$1"); do cat "$2"; done
@@ -39,12 +47,18 @@ repeated() {
 { printf '\035v0\000\110\000\040\116'; head -c 1440000 /dev/urandom; } > "$scratch/raster"
 measure raster "$scratch/raster"
 
+# 20 MB of a raster, and of its lines the most memory that the program held
+{ printf '\035v0\000\000\004\000\120'; head -c 20971520 /dev/urandom; } > "$scratch/long"
+listed raster "$scratch/long"
+/usr/bin/time -f 'listing: %e s, %M KB at most' "$vp" list --lang receipt "$scratch/long" > /dev/null
+
 # a day of 1,000 receipts of 30 lines
 line='2 x Espresso doppio, milk apart        7.40'
 for _ in $(seq 30); do echo "$line"; done > "$scratch/receipt"
 printf '\035V\001' >> "$scratch/receipt"
 repeated 1000 "$scratch/receipt" > "$scratch/day"
 measure text "$scratch/day" --font-a "$top/examples/font-a.pbm"
+listed text "$scratch/day"
 
 # in each direction 200 pages of 576 dots by 1,664 that one raster fills, and 200 full of text
 for direction in 0 1 2 3; do

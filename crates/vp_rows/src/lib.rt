@@ -1,7 +1,9 @@
-//! Whole streams through the printer: what they print in one piece, cut at both ends, and between readers and writers
-//! that give and take a few bytes at a time and fail once.
+//! Whole streams through the printer and its listings: what they print in one piece, cut at both ends, and between readers
+//! and writers that give and take a few bytes at a time and fail once.
 #![tactic(auto)]
 
+#[cfg(test)]
+mod listings;
 #[cfg(test)]
 mod pages;
 #[cfg(test)]

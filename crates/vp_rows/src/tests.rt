@@ -120,16 +120,25 @@ fn each_symbol_is_cut_into_bytes(rt: HostRuntime) -> Result<(), Fail> {
     print_the_same_in_bytes(&rt, rt.alloc(), SYMBOLS)
 }
 
-/// Reads and writes so many bytes a call until it is answered by anything but a failed read or write.
+/// What a session came to: what it wrote, its answers, and how often it read and wrote.
+#[derive(Drop)]
+struct Pumped {
+    paper: Vec<u8>,
+    first: Result<Report, RunFault>,
+    last: Result<Report, RunFault>,
+    reads: usize,
+    writes: usize,
+}
+
+/// Reads and writes so many bytes a call, and once more after a failed read or write.
 fn pump(
-    rt: &impl Abort,
     alloc: Global,
     image: &[u8],
     stream: &Stream,
     bytes: &[u8],
     most: usize,
     (bad_read, bad_write): (usize, usize),
-) -> Result<(Vec<u8>, Result<Report, RunFault>), Fail> {
+) -> Result<Pumped, Fail> {
     let mut reader = Counted::new(Pieces {
         rest: bytes,
         most,
@@ -143,12 +152,19 @@ fn pump(
         fails_at: bad_write,
     });
     let mut session = Session::new(alloc, stream.language, sheets(alloc, image))?;
-    let mut answer = session.pump(&mut reader, &mut writer);
-    if answer == Err(RunFault::Read) || answer == Err(RunFault::Write) {
-        assert!(rt; bad_read != NEVER || bad_write != NEVER);
-        answer = session.pump(&mut reader, &mut writer);
-    }
-    Ok((writer.into_inner().bytes, answer))
+    let first = session.pump(&mut reader, &mut writer);
+    let last = match first {
+        Err(RunFault::Read | RunFault::Write) => session.pump(&mut reader, &mut writer),
+        _ => first,
+    };
+    let writer = writer.into_inner();
+    Ok(Pumped {
+        paper: writer.bytes,
+        first,
+        last,
+        reads: reader.into_inner().calls,
+        writes: writer.calls,
+    })
 }
 
 fn pump_their_fronts(rt: &impl Abort, alloc: Global, streams: &[Stream]) -> Result<(), Fail> {
@@ -158,9 +174,13 @@ fn pump_their_fronts(rt: &impl Abort, alloc: Global, streams: &[Stream]) -> Resu
         for n in 0..stream.bytes.len() + 1 {
             let front = &stream.bytes[..n.min(stream.bytes.len())];
             let (paper, fault) = print_all(alloc, stream.language, sheets(alloc, &image), front)?;
-            let (pumped, answer) = pump(rt, alloc, &image, stream, front, 7, (NEVER, NEVER))?;
-            assert_eq!(rt; pumped.as_slice(), paper.as_slice(), "{name}, {n} bytes");
-            match answer {
+            let pumped = pump(alloc, &image, stream, front, 7, (NEVER, NEVER))?;
+            assert_eq!(rt;
+                pumped.paper.as_slice(),
+                paper.as_slice(),
+                "{name}, {n} bytes"
+            );
+            match pumped.first {
                 Ok(report) => {
                     assert_eq!(rt; fault, None, "{name}, {n} bytes");
                     assert_eq!(rt; report.taken, n as u64, "{name}");
@@ -191,16 +211,34 @@ fn each_front_of_a_symbol_is_pumped_as_it_prints(rt: HostRuntime) -> Result<(), 
     pump_their_fronts(&rt, rt.alloc(), SYMBOLS)
 }
 
+/// Each read and each write fails once, up to the last.
 fn fail_once(rt: &impl Abort, alloc: Global, streams: &[Stream]) -> Result<(), Fail> {
     let image = sheet(alloc)?;
     for stream in streams {
         let name = stream.name;
         let paper = paper_of(alloc, stream)?;
-        for call in 1..12usize {
-            let (pumped, _) = pump(&rt, alloc, &image, stream, stream.bytes, 3, (call, NEVER))?;
-            assert_eq!(rt; pumped.as_slice(), paper.as_slice(), "{name}, read {call}");
-            let (pumped, _) = pump(&rt, alloc, &image, stream, stream.bytes, 300, (NEVER, call))?;
-            assert_eq!(rt; pumped.as_slice(), paper.as_slice(), "{name}, write {call}");
+        let calm = pump(alloc, &image, stream, stream.bytes, 3, (NEVER, NEVER))?;
+        for call in 1..calm.reads.saturating_add(1) {
+            let pumped = pump(alloc, &image, stream, stream.bytes, 3, (call, NEVER))?;
+            assert_eq!(rt; pumped.first, Err(RunFault::Read), "{name}, read {call}");
+            assert_eq!(rt; pumped.last, calm.first, "{name}, read {call}");
+            assert_eq!(rt;
+                pumped.paper.as_slice(),
+                paper.as_slice(),
+                "{name}, read {call}"
+            );
+        }
+        let most = (paper.len() / 30).max(300);
+        let calm = pump(alloc, &image, stream, stream.bytes, most, (NEVER, NEVER))?;
+        for call in 1..calm.writes.saturating_add(1) {
+            let pumped = pump(alloc, &image, stream, stream.bytes, most, (NEVER, call))?;
+            assert_eq!(rt; pumped.first, Err(RunFault::Write), "{name}, write {call}");
+            assert_eq!(rt; pumped.last, calm.first, "{name}, write {call}");
+            assert_eq!(rt;
+                pumped.paper.as_slice(),
+                paper.as_slice(),
+                "{name}, write {call}"
+            );
         }
     }
     Ok(())

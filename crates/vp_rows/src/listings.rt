@@ -1,0 +1,207 @@
+//! Streams, and their listings.
+use crate::pieces::{Pieces, Sips};
+use std::alloc::Global;
+use std::process::Abort;
+use std::test::Fail;
+use vp_dots::Fault;
+use vp_engine::{Counted, Language, RunFault, list};
+
+/// Never reached: no call fails.
+const NEVER: usize = 0;
+
+/// A stream, its lines, and the answer of `list`.
+struct Listing {
+    bytes: &'static [u8],
+    lines: &'static [u8],
+    answer: Result<u64, RunFault>,
+}
+
+const LISTINGS: &[Listing] = &[
+    Listing {
+        bytes: b"",
+        lines: b"",
+        answer: Ok(0),
+    },
+    // a raster of two rows
+    Listing {
+        bytes: b"\x1Dv0\x00\x01\x00\x02\x00\x80\x01",
+        lines: b"gs 76 30 00 01 00 02 00\nbyte 80\nbyte 01\n",
+        answer: Ok(3),
+    },
+    // an unknown command
+    Listing {
+        bytes: b"\n\x1B\x7F",
+        lines: b"LF\n",
+        answer: Err(RunFault::Print {
+            fault: Fault::Unknown(0x1B, 0x7F),
+            after: 3,
+        }),
+    },
+    // a raster that is cut off
+    Listing {
+        bytes: b"\x1Dv0\x00\x01\x00\x02\x00\x80",
+        lines: b"gs 76 30 00 01 00 02 00\nbyte 80\n",
+        answer: Err(RunFault::Print {
+            fault: Fault::Truncated,
+            after: 9,
+        }),
+    },
+    // a raster of rows of nine bytes, behind it a character, a feed and an unknown command, and more
+    Listing {
+        bytes: b"\x1Dv0\x00\x09\x00\x01\x00abcdefghiM\x1BJ\x02\x1B\x7FM\n",
+        lines: b"gs 76 30 00 09 00 01 00\nbyte 61\nbyte 62\nbyte 63\nbyte 64\nbyte 65\nbyte 66\nbyte 67\nbyte 68\nbyte 69\nchar 4d\nesc 4a 02\n",
+        answer: Err(RunFault::Print {
+            fault: Fault::Unknown(0x1B, 0x7F),
+            after: 23,
+        }),
+    },
+    // an item that a printer refuses is listed
+    Listing {
+        bytes: b"\x1Dk\x00\x00",
+        lines: b"gs 6b 00 00\n",
+        answer: Ok(1),
+    },
+];
+
+/// What was written, the answer, and how often it read and wrote.
+#[derive(Drop)]
+struct Outcome {
+    lines: Vec<u8>,
+    answer: Result<u64, RunFault>,
+    reads: usize,
+    writes: usize,
+}
+
+/// Lists, with so many bytes a call.
+fn listed(
+    alloc: Global,
+    language: Language,
+    bytes: &[u8],
+    most: usize,
+    (bad_read, bad_write): (usize, usize),
+) -> Outcome {
+    let mut reader = Counted::new(Pieces {
+        rest: bytes,
+        most,
+        calls: 0,
+        fails_at: bad_read,
+    });
+    let mut writer = Counted::new(Sips {
+        bytes: Vec::new(alloc),
+        most,
+        calls: 0,
+        fails_at: bad_write,
+    });
+    let answer = list(language, &mut reader, &mut writer);
+    let writer = writer.into_inner();
+    Outcome {
+        lines: writer.bytes,
+        answer,
+        reads: reader.into_inner().calls,
+        writes: writer.calls,
+    }
+}
+
+#[test]
+fn each_item_has_its_line(rt: HostRuntime) {
+    for listing in LISTINGS {
+        for language in [Language::Receipt, Language::Receipt58] {
+            let whole = listed(rt.alloc(), language, listing.bytes, 1000, (NEVER, NEVER));
+            assert_eq!(rt; whole.lines.as_slice(), listing.lines);
+            assert_eq!(rt; whole.answer, listing.answer);
+        }
+    }
+}
+
+#[test]
+fn a_listing_is_cut_into_bytes(rt: HostRuntime) {
+    for listing in LISTINGS {
+        for most in [1, 2, 3, 7, 8, 9] {
+            let cut = listed(
+                rt.alloc(),
+                Language::Receipt,
+                listing.bytes,
+                most,
+                (NEVER, NEVER),
+            );
+            assert_eq!(rt; cut.lines.as_slice(), listing.lines);
+            assert_eq!(rt; cut.answer, listing.answer);
+        }
+    }
+}
+
+/// Each read and each write fails, up to the last: what is written begins the listing.
+#[test]
+fn a_failed_read_or_write_ends_a_listing(rt: HostRuntime) {
+    for listing in LISTINGS {
+        for most in [1, 5, 1000] {
+            let calm = listed(
+                rt.alloc(),
+                Language::Receipt,
+                listing.bytes,
+                most,
+                (NEVER, NEVER),
+            );
+            for call in 1..calm.reads.saturating_add(1) {
+                fails(
+                    &rt,
+                    rt.alloc(),
+                    listing,
+                    most,
+                    (call, NEVER),
+                    RunFault::Read,
+                );
+            }
+            for call in 1..calm.writes.saturating_add(1) {
+                fails(
+                    &rt,
+                    rt.alloc(),
+                    listing,
+                    most,
+                    (NEVER, call),
+                    RunFault::Write,
+                );
+            }
+        }
+    }
+}
+
+fn fails(
+    rt: &impl Abort,
+    alloc: Global,
+    listing: &Listing,
+    most: usize,
+    bad: (usize, usize),
+    fault: RunFault,
+) {
+    let cut = listed(alloc, Language::Receipt, listing.bytes, most, bad);
+    assert_eq!(rt; cut.answer, Err(fault));
+    assert!(rt; listing.lines.starts_with(cut.lines.as_slice()));
+    assert!(rt; cut.reads >= bad.0);
+    assert!(rt; cut.writes >= bad.1);
+}
+
+/// More lines than a buffer holds.
+#[test]
+fn a_long_raster_is_listed(rt: HostRuntime) -> Result<(), Fail> {
+    let mut bytes = Vec::new(rt.alloc());
+    bytes.extend_from_slice(b"\x1Dv0\x00\x10\x27\x01\x00")?;
+    let mut lines = Vec::new(rt.alloc());
+    lines.extend_from_slice(b"gs 76 30 00 10 27 01 00\n")?;
+    for _ in 0..10000u32 {
+        bytes.push(0xA5)?;
+        lines.extend_from_slice(b"byte a5\n")?;
+    }
+    for most in [100, 4096, 100000] {
+        let long = listed(
+            rt.alloc(),
+            Language::Receipt,
+            bytes.as_slice(),
+            most,
+            (NEVER, NEVER),
+        );
+        assert_eq!(rt; long.answer, Ok(10001));
+        assert_eq!(rt; long.lines.as_slice(), lines.as_slice());
+    }
+    Ok(())
+}
