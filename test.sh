@@ -1,6 +1,7 @@
 #!/bin/sh
-# Proves every crate from nothing, tries the must-fail edits, runs the tests and the program, and refuses memory.
+# Proves every crate from nothing, tries the must-fail edits, runs tests, program and recipes, and refuses memory.
 set -eu
 cd "$(dirname "$0")"
 rt ci
+./test-recipes.sh
 ./test-memory.sh

@@ -1,0 +1,218 @@
+#!/usr/bin/env python3
+"""Makes a glyph sheet for vp of a bitmap font: sheet.py FONT [--font a|b] [--table CODEC] > sheet.pbm
+
+FONT is BDF, PCF, PSF or Unifont's .hex, as it is or packed by gzip. CODEC is the table that says which character a
+byte is, by Python's name for it: cp437 (the default), cp850, cp858, cp1252, latin1, iso8859-15, koi8-r and so on.
+What the font lacks, and what loses dots, is listed on standard error. docs/sheets.md says what a sheet is.
+"""
+import argparse
+import codecs
+import gzip
+import struct
+import sys
+import unicodedata
+from collections import namedtuple
+
+CELLS = {'a': (12, 24), 'b': (9, 17)}
+# A bitmap of `width` dots a row, the leftmost highest, that begins `left` of the pen and `top` below the line's top.
+Glyph = namedtuple('Glyph', 'advance left top width rows')
+# Glyphs by character, or by number where the font doesn't say its characters; lines are so many rows high.
+Font = namedtuple('Font', 'height glyphs')
+
+
+def key_of(registry, encoding):
+    """What a number of the font stands for: a function to characters, or to the number itself."""
+    if registry.upper() == 'ISO10646':
+        return chr
+    for name in f'{registry}-{encoding}', encoding:
+        try:
+            decode = codecs.lookup(name).decode
+            return lambda n: decode(bytes([n]), 'replace')[0] if n < 256 else n
+        except LookupError:
+            pass
+    return lambda n: n
+
+
+def bdf(data):
+    said, found, rows = {}, [], None
+    for line in data.decode('latin-1').splitlines():
+        word, _, rest = line.strip().partition(' ')
+        if word == 'BITMAP':
+            rows = []
+        elif word == 'ENDCHAR':
+            found.append((said.copy(), rows))
+            rows = None
+        elif rows is not None:
+            rows.append(int(word, 16) >> 4 * len(word) - int(said['BBX'].split()[0]))
+        elif word:
+            said[word] = rest.strip().strip('"')
+    _, box_height, _, box_low = map(int, said['FONTBOUNDINGBOX'].split())
+    ascent = int(said.get('FONT_ASCENT', box_height + box_low))
+    descent = int(said.get('FONT_DESCENT', -box_low))
+    key, glyphs = key_of(said.get('CHARSET_REGISTRY', ''), said.get('CHARSET_ENCODING', '')), {}
+    for of, rows in found:
+        code, (width, height, left, low) = int(of['ENCODING'].split()[0]), map(int, of['BBX'].split())
+        if code >= 0:
+            advance = int(of['DWIDTH'].split()[0])
+            glyphs[key(code)] = Glyph(advance, left, ascent - low - height, width, rows)
+    return Font(ascent + descent, glyphs)
+
+
+def pcf(data):
+    tables = {kind: (form, at) for kind, form, _, at in struct.iter_unpack('<4I', data[8:8 + 16 * data[4]])}
+
+    def numbers(kind, letters, skip=0):
+        form, at = tables[kind]
+        return struct.unpack_from('<>'[form >> 2 & 1] + letters, data, at + 4 + skip)
+
+    ascent, descent = numbers(256 if 256 in tables else 2, 'ii', 8)
+    if tables[4][0] & 0x100:
+        count, = numbers(4, 'H')
+        flat = [n - 128 for n in numbers(4, f'{5 * count}B', 2)]
+        metrics = [flat[n:n + 5] for n in range(0, 5 * count, 5)]
+    else:
+        count, = numbers(4, 'I')
+        flat = numbers(4, f'{6 * count}h', 4)
+        metrics = [flat[n:n + 5] for n in range(0, 6 * count, 6)]
+    form, at = tables[8]
+    pad, unit = 1 << (form & 3), 1 << (form >> 4 & 3)
+    starts, bits = numbers(8, f'{count}I', 4), data[at + 24 + 4 * count:]
+    if not form & 8:
+        bits = bits.translate(bytes(int(f'{n:08b}'[::-1], 2) for n in range(256)))
+    if bool(form & 8) != bool(form & 4):
+        bits = b''.join(bits[n:n + unit][::-1] for n in range(0, len(bits), unit))
+    made = []
+    for start, (left, right, advance, up, down) in zip(starts, metrics):
+        width, stride = right - left, -(-(right - left) // (8 * pad)) * pad
+        rows = [bits[at:at + stride] for at in range(start, start + stride * (up + down), stride or 1)]
+        rows = [int.from_bytes(row, 'big') >> 8 * stride - width for row in rows]
+        made.append(Glyph(advance, left, ascent - up, width, rows))
+    count, = numbers(1, 'I')
+    names = tables[1][1] + 12 + 9 * count + -count % 4
+    name = lambda n: data[names + n:data.index(0, names + n)].decode('latin-1')
+    said = {name(n): value for n, is_name, value in (numbers(1, 'IBi', 4 + 9 * k) for k in range(count)) if is_name}
+    key = key_of(*(name(said[it]) if it in said else '' for it in ('CHARSET_REGISTRY', 'CHARSET_ENCODING')))
+    low, high, first, last, _ = numbers(32, '5h')
+    codes = [256 * page + n for page in range(first, last + 1) for n in range(low, high + 1)]
+    places = zip(codes, numbers(32, f'{len(codes)}H', 10))
+    return Font(ascent + descent, {key(code): made[place] for code, place in places if place != 0xFFFF})
+
+
+def psf(data):
+    if data[:2] == b'\x36\x04':
+        start, count, size, width = 4, 512 if data[2] & 1 else 256, data[3], 8
+        height, has_table = size, data[2] & 6
+    else:
+        start, has_table, count, size, height, width = struct.unpack_from('<6I', data, 8)
+    stride, glyphs = (width + 7) // 8, {}
+    for n in range(count):
+        first = start + n * size
+        rows = [data[at:at + stride] for at in range(first, first + height * stride, stride or 1)]
+        rows = [int.from_bytes(row, 'big') >> 8 * stride - width for row in rows]
+        glyphs[n] = Glyph(width, 0, 0, width, rows)
+    table = data[start + count * size:]
+    if not has_table:
+        return Font(height, glyphs)
+    if start == 4:
+        entries = table.decode('utf-16-le', 'surrogatepass').split('\uffff')
+        kept = [entry.split('\ufffe')[0] for entry in entries]
+    else:
+        kept = [entry.split(b'\xfe')[0].decode('utf-8') for entry in table.split(b'\xff')]
+    return Font(height, {it: glyphs[n] for n, entry in enumerate(kept[:count]) for it in entry})
+
+
+def unifont(data):
+    glyphs = {}
+    for line in data.decode('ascii').splitlines():
+        code, _, digits = line.partition(':')
+        width, each = len(digits) // 4, len(digits) // 16
+        rows = [int(digits[n:n + each], 16) for n in range(0, 16 * each, each)]
+        glyphs[chr(int(code, 16))] = Glyph(width, 0, 0, width, rows)
+    return Font(16, glyphs)
+
+
+def read(name):
+    with open(name, 'rb') as file:
+        data = file.read()
+    if data[:2] == b'\x1f\x8b':
+        data = gzip.decompress(data)
+    if data.startswith(b'STARTFONT'):
+        return bdf(data)
+    if data.startswith(b'\x01fcp'):
+        return pcf(data)
+    if data.startswith((b'\x36\x04', b'\x72\xb5\x4a\x86')):
+        return psf(data)
+    if data[4:5] == b':' or data[6:7] == b':':
+        return unifont(data)
+    raise ValueError('not BDF, PCF, PSF or .hex')
+
+
+def wanted(table):
+    """The bytes that are drawn, and the character of each."""
+    for n in range(32, 256):
+        try:
+            char = codecs.decode(bytes([n]), table)
+        except UnicodeDecodeError:
+            continue
+        if unicodedata.category(char) not in ('Cc', 'Zs'):
+            yield n, char
+
+
+def black(rows):
+    return sum(bin(row).count('1') for row in rows)
+
+
+def cell(glyph, height, size, moved):
+    """The rows of a cell with the glyph in its middle, moved by so many dots; what lies outside is cut."""
+    width, rows = size[0], [0] * size[1]
+    shift = width - (width - glyph.advance) // 2 - moved[0] - glyph.left - glyph.width
+    top = (size[1] - height) // 2 + moved[1] + glyph.top
+    for y, row in enumerate(glyph.rows, top):
+        if 0 <= y < size[1]:
+            rows[y] = (row << shift if shift >= 0 else row >> -shift) & (1 << width) - 1
+    return rows
+
+
+def best_move(glyphs, height, size):
+    """By how much all glyphs are moved together so that the fewest black dots are cut."""
+    moves = sorted(((x, y) for x in range(-3, 4) for y in range(-3, 4)), key=lambda it: abs(it[0]) + abs(it[1]))
+    lost = lambda moved: sum(black(it.rows) - black(cell(it, height, size, moved)) for it in glyphs)
+    return (0, 0) if not lost((0, 0)) else min(moves, key=lost)
+
+
+def main():
+    words = argparse.ArgumentParser(description='Makes a glyph sheet for vp of a bitmap font.')
+    words.add_argument('font_file', metavar='FONT', help='BDF, PCF, PSF or .hex, perhaps packed by gzip')
+    words.add_argument('--font', choices=CELLS, default='a', help='cells of 12 by 24 dots (a) or 9 by 17 (b)')
+    words.add_argument('--table', default='cp437', metavar='CODEC', help="which character a byte is: a Python codec")
+    given = words.parse_args()
+    try:
+        font, chars = read(given.font_file), list(wanted(given.table))
+    except (OSError, ValueError, KeyError, IndexError, LookupError, struct.error) as error:
+        sys.exit(f'sheet.py: {given.font_file}: {getattr(error, "strerror", None) or error}')
+    say = lambda text: print(text, file=sys.stderr)
+    size = CELLS[given.font]
+    by_number = not any(isinstance(it, str) for it in font.glyphs)
+    glyphs = {n: font.glyphs.get(n if by_number else char) for n, char in chars}
+    found = {n: glyph for n, glyph in glyphs.items() if glyph}
+    moved = best_move(found.values(), font.height, size)
+    cells = {n: cell(glyph, font.height, size, moved) for n, glyph in found.items()}
+    if by_number:
+        say('the font does not say its characters: its glyph n is taken for byte n')
+    for n, char in chars:
+        kind = 'missing' if n not in found else 'cut' if black(cells[n]) < black(found[n].rows) else None
+        if kind:
+            say(f'{kind} {n:02X} U+{ord(char):04X} {unicodedata.name(char, "")}')
+    say(f'font {given.font.upper()}, {given.table}: {len(found)} of {len(chars)} characters')
+    out = b'P4\n%d %d\n' % (16 * size[0], 16 * size[1])
+    for line in range(16):
+        for y in range(size[1]):
+            row = 0
+            for column in range(16):
+                row = row << size[0] | cells.get(16 * line + column, [0] * size[1])[y]
+            out += row.to_bytes(2 * size[0], 'big')
+    sys.stdout.buffer.write(out)
+
+
+if __name__ == '__main__':
+    main()
