@@ -28,13 +28,13 @@ fn run(alloc: Global, stream: &[u8]) -> Result<(InForce, Vec<Field>), AllocError
                     now.store(bytes.as_slice());
                 }
             }
-            Some(ZplItem::Command { command, .. }) => {
-                if let Command::FieldSeparator | Command::FormatEnd = command {
+            Some(ZplItem::Command(sent)) => {
+                if let Command::FieldSeparator | Command::FormatEnd = sent.command {
                     if let Some(field) = now.closing() {
                         fields.push(field)?;
                     }
                 }
-                now.obey(command);
+                now.obey(sent.command);
             }
         }
     }
