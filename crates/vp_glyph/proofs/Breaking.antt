@@ -1,9 +1,11 @@
 -- Lines, one after the other.
-use Rattle.std.proofs.Common.{◌≡◌, ℕ, zero, suc, ◌+◌, ◌<◌, ◌≤◌, List, [], ◌∷◌, ◌++◌, length, take, drop, get_or, eqb, cond, refl, sym, ap, ◌∙◌, arith, length-drop, inl, inr, eq-eqb, Bor, Option, Some, None, MatchOption}
-use Rattle.std.proofs.lemmas.List.{take_all}
+use Rattle.std.proofs.Common.{◌≡◌, ℕ, zero, suc, ◌+◌, ◌<◌, ◌≤◌, List, [], ◌∷◌, ◌++◌, false, length, take, drop, ◌⊎◌, get_or, eqb, cond, refl, sym, ap, ◌∙◌, arith, length-drop, inl, inr, eq-eqb, Bor, Option, Some, None, MatchOption}
+use Rattle.std.proofs.lemmas.List.{take_all, length-take-le, drop_more, take-append-drop, append-nil}
+use Rattle.std.proofs.lemmas.List.Elements.{All-nil}
 use Rattle.std.proofs.lemmas.Bool.{cases_eq, cases_lt, le-leb, lt-leb, ne_eqb}
 use Rattle.std.specs.Prelude.{flat_map}
-use Rattle.vp_glyph.specs.Blocks.{pieces, first, others, last_blank, line_length, behind_line, lines_upto, lines, block_lines}
+use Rattle.std.specs.List.{All}
+use Rattle.vp_glyph.specs.Blocks.{pieces, first, others, last_blank, line_length, behind_line, lines_upto, lines, StandIn, block_lines}
 
 pub last_blank_within : (n : ℕ) (cells : List ℕ) → last_blank n cells ≤ n
 last_blank_within zero cells = omega arith
@@ -90,3 +92,66 @@ pub paragraph_next : (n : ℕ) (text line : List ℕ) (o w : List (List ℕ)) (n
 unfolding block_lines
 paragraph_next n text line o w None e s m = rw (sym s ∙ m) at e
 paragraph_next n text line o w (Some r) e s m = rw (sym s ∙ m) at e
+
+-- the blank before which a line ends
+last_blank_is : (n : ℕ) (cells : List ℕ) → 0 < last_blank n cells → get_or cells (last_blank n cells) 0 ≡ 32
+last_blank_is zero cells h = absurd (omega arith)
+last_blank_is (suc n) cells h = elim (cases_eq (get_or cells (suc n) 0) 32) [
+  | inl y ↦ rw (eq-eqb (get_or cells (suc n) 0) 32 y) y
+  | inr x ↦ (let same = ne_eqb (get_or cells (suc n) 0) 32 x in rw same (last_blank_is n cells (rw same at h)))
+]
+
+-- at most n cells stand in a line
+line_within : (n : ℕ) (cells : List ℕ) → line_length n cells ≤ n
+line_within n cells = elim (cases_eq (last_blank n cells) 0) [
+  | inl y ↦ rw (eq-eqb (last_blank n cells) 0 y) (omega arith)
+  | inr x ↦ rw (ne_eqb (last_blank n cells) 0 x) (last_blank_within n cells)
+]
+
+-- a line and what is behind it are the cells, but for the blank
+line_stands : (n : ℕ) (cells : List ℕ) → n < length cells
+    → (cells ≡ take (line_length n cells) cells ++ behind_line n cells) ⊎ (cells ≡ take (line_length n cells) cells ++ 32 ∷ behind_line n cells)
+line_stands n cells l = elim (cases_eq (last_blank n cells) 0) [
+  | inl y ↦ inl (rw (eq-eqb (last_blank n cells) 0 y) (sym (take-append-drop n cells)))
+  | inr x ↦ inr (rw (ne_eqb (last_blank n cells) 0 x) (at_blank (last_blank n cells) (omega (arith, last_blank_within n cells)) (last_blank_is n cells (omega arith))))
+]
+  where
+    at_blank : (q : ℕ) → q < length cells → get_or cells q 0 ≡ 32 → cells ≡ take q cells ++ 32 ∷ drop (q + 1) cells
+    at_blank q m e = sym (take-append-drop q cells) ∙ ap (λ (ls : List ℕ). take q cells ++ ls) (drop_more cells q 0 m ∙ ap (λ b. b ∷ drop (q + 1) cells) e)
+
+all_cons : (P : List ℕ → Type 0) (x : List ℕ) (xs : List (List ℕ)) → P x → All P xs → All P (x ∷ xs)
+all_cons P x xs p h zero d l = p
+all_cons P x xs p h (suc k) d l = h k d (omega arith)
+
+-- the lines of a paragraph
+record IsBroken (n : ℕ) (cells : List ℕ) (ls : List (List ℕ)) : Type 0 where
+  few : All (λ line. length line ≤ n) ls
+  whole : StandIn cells ls
+
+one_line : (n : ℕ) (cells : List ℕ) → length cells ≤ n → IsBroken n cells (cells ∷ [])
+one_line n cells l = record { few = all_cons (λ line. length line ≤ n) cells [] l (All-nil (λ line. length line ≤ n)); whole = ([], inl (sym (append-nil cells)), refl) }
+
+upto_broken : (m n : ℕ) (cells : List ℕ) → 0 < n → length cells ≤ m → IsBroken n cells (lines_upto m n cells)
+upto_broken zero n cells p l = one_line n cells (omega arith)
+upto_broken (suc m) n cells p l = elim (cases_lt n (length cells)) [
+  | inr g ↦ rw (upto_short (suc m) n cells g) (one_line n cells g)
+  | inl g ↦ rw (lt-leb (length cells) n g) (longer m n cells p l g (λ o. upto_broken m n (behind_line n cells) p o))
+]
+  where
+    rest_broken : (m n : ℕ) (b : List ℕ) → IsBroken n b (lines_upto m n b) → IsBroken n b (cond (eqb (length b) 0) [] (lines_upto m n b))
+    rest_broken m n [] h = record { few = All-nil (λ line. length line ≤ n); whole = refl }
+    rest_broken m n (x ∷ b) h = let some : eqb (length (x ∷ b)) 0 ≡ false = ne_eqb (length (x ∷ b)) 0 (omega arith) in rw some h
+
+    longer : (m n : ℕ) (cells : List ℕ) → 0 < n → length cells ≤ suc m → n < length cells → (length (behind_line n cells) ≤ m → IsBroken n (behind_line n cells) (lines_upto m n (behind_line n cells)))
+        → IsBroken n cells (take (line_length n cells) cells ∷ cond (eqb (length (behind_line n cells)) 0) [] (lines_upto m n (behind_line n cells)))
+    longer m n cells p l g h =
+        let shorter = behind_shorter n cells p g in
+        let rest = rest_broken m n (behind_line n cells) (h (omega arith)) in
+        let long : length (take (line_length n cells) cells) ≤ n = omega (arith, line_within n cells, length-take-le (line_length n cells) cells (omega (arith, line_within n cells))) in
+        record { few = all_cons (λ line. length line ≤ n) (take (line_length n cells) cells) _ long rest.few; whole = (behind_line n cells, line_stands n cells g, rest.whole) }
+
+pub lines_few : (n : ℕ) (cells : List ℕ) → 0 < n → All (λ line. length line ≤ n) (lines n cells)
+lines_few n cells p = (upto_broken (length cells) n cells p (omega arith)).few
+
+pub lines_whole : (n : ℕ) (cells : List ℕ) → 0 < n → StandIn cells (lines n cells)
+lines_whole n cells p = (upto_broken (length cells) n cells p (omega arith)).whole

@@ -1,5 +1,5 @@
 -- Lines painted over each other.
-use Rattle.std.proofs.Common.{pos, replicate, eqb, get_or, ◌%◌, ◌⊎◌, leb, ◌≡◌, ◌≢◌, ℕ, ◌+◌, ◌-◌, ◌*◌, ◌/◌, ◌<◌, ◌≤◌, min, List, [], ◌∷◌, Option, None, Some, MatchOption, Bor, Bool, true, false, ◌||◌, ◌&&◌, length, take, refl, sym, ap, ◌∙◌, arith, ℤ, inl, inr}
+use Rattle.std.proofs.Common.{pos, replicate, eqb, get_or, ◌%◌, ◌⊎◌, leb, ◌≡◌, ◌≢◌, ℕ, ◌+◌, ◌-◌, ◌*◌, ◌/◌, ◌<◌, ◌≤◌, min, List, [], ◌∷◌, Option, Some, MatchOption, Bor, Bool, true, false, ◌||◌, ◌&&◌, length, take, refl, sym, ap, ◌∙◌, arith, ℤ, inl, inr}
 use Rattle.std.proofs.Math.Nat.{mul-le-mul_left, mul-div-le}
 use Rattle.std.proofs.lemmas.List.{length-take-le, get_or-replicate, get_or_past, length-replicate}
 use Rattle.std.proofs.lemmas.Bool.{cases_lt, le-leb, and_parts, leb-true, false_from_ne_true}
@@ -18,7 +18,7 @@ use Rattle.vp_glyph.specs.Blocks.{pieces, first, indent, block_lines, line_dot, 
 use Rattle.vp_glyph.specs.declared.block.Alignment.{Alignment}
 use Rattle.vp_glyph.specs.declared.block.Alignment.TheVariants.{Left, Centre, Right}
 use Rattle.vp_glyph.proofs.Drawn.{moved_none}
-use Rattle.vp_glyph.proofs.Stacks.{lines_left, lines_are, block_past, block_within}
+use Rattle.vp_glyph.proofs.Stacks.{lines_left, lines_are, line_above, block_past, block_within}
 
 black_is : (i old : Bool) → old ≡ false → paint Black i old ≡ i
 black_is true old e = refl
@@ -83,8 +83,11 @@ module _ (sheet : Option Glyphs) (w h a b s : ℕ) (d : Alignment) (y : ℕ) whe
     pub rest_is : (x : ℕ) → lines_dot sheet w h a b s d 0 all x y ≡ (done x || lines_dot sheet w h a b s d place (lines_left n left) x y)
     pub inside : (x : ℕ) → done x ≡ true → x < a
 
-  pub overlaid_none : (op : Op) (at : ℤ) (n : ℕ) (text : Bor (List ℕ)) (row : List ℕ) → Overlaid op at n (block_lines n text.now) 0 (Some text) row row
-  overlaid_none op at n text row = record { done = λ x. false; painted = moved_none op at (λ x. false) row (λ x. refl); rest_is = λ x. refl; inside = λ x e. cc }
+  pub overlaid_none : (op : Op) (at : ℤ) (n : ℕ) (all : List (List ℕ)) (place : ℕ) (text : Bor (List ℕ)) (row : List ℕ)
+      → ((x : ℕ) → lines_dot sheet w h a b s d 0 all x y ≡ lines_dot sheet w h a b s d place (block_lines n text.now) x y)
+      → Overlaid op at n all place (Some text) row row
+  overlaid_none op at n all place text row e =
+      record { done = λ x. false; painted = moved_none op at (λ x. false) row (λ x. refl); rest_is = λ x. e x; inside = λ x e. cc }
 
   pub overlaid_more : (op : Op) (at : ℤ) (n : ℕ) (all : List (List ℕ)) (place k to : ℕ) (left next : Option (Bor (List ℕ))) (text : Bor (List ℕ)) (lent old row new : List ℕ) → op ≢ Flip → n ≡ a / w
       → Overlaid op at n all place left old row → left ≡ Some text → lent ≡ text.now → k ≤ length (first (pieces text.now)) → k ≤ n
@@ -105,15 +108,21 @@ module _ (sheet : Option Glyphs) (w h a b s : ℕ) (d : Alignment) (y : ℕ) whe
         ];
       }
 
-  pub overlaid_all : (op : Op) (at : ℤ) (n : ℕ) (text : List ℕ) (place : ℕ) (left : Option (Bor (List ℕ))) (old new : List ℕ) → n ≡ a / w → w ≤ a → y < block_height h b s → left ≡ None
+  -- what is left has no dot in the row
+  pub overlaid_all : (op : Op) (at : ℤ) (n : ℕ) (text : List ℕ) (place : ℕ) (left : Option (Bor (List ℕ))) (old new : List ℕ) → n ≡ a / w → w ≤ a → y < block_height h b s
+      → ((x : ℕ) → lines_dot sheet w h a b s d place (lines_left n left) x y ≡ false)
       → Overlaid op at n (block_lines n text) place left old new → Painted op (shifted at (λ x. block_dot sheet text w h a b s d x y)) old new
   overlaid_all op at n text place left old new z m l e o = moved_same op at o.done (λ x. block_dot sheet text w h a b s d x y) old new
       (λ x.
-      let total : o.done x ≡ lines_dot sheet w h a b s d 0 (block_lines n text) x y = or_false (o.done x) ∙ sym (o.rest_is x ∙ ap (λ (q : Option (Bor (List ℕ))). o.done x || lines_dot sheet w h a b s d place (lines_left n q) x y) e) in
+      let total : o.done x ≡ lines_dot sheet w h a b s d 0 (block_lines n text) x y = or_false (o.done x) ∙ sym (o.rest_is x ∙ ap (λ q. o.done x || q) (e x)) in
       elim (cases_lt x (block_width a w)) [
         | inl k ↦ total ∙ ap (λ c. lines_dot sheet w h a b s d 0 (block_lines c text) x y) z ∙ block_within sheet text w h a b s d x y k l m
         | inr g ↦ false_from_ne_true (o.done x) (λ t. absurd (let i = o.inside x t in omega arith)) ∙ block_past sheet text w h a b s d x y g
       ]) o.painted
+
+  -- nor has a line that ends above it
+  pub above_none : (op : Op) (at : ℤ) (place : ℕ) (line row : List ℕ) → place * s + h ≤ y → Painted op (shifted at (λ x. line_dot sheet w h a s d place line x y)) row row
+  above_none op at place line row l = moved_none op at (λ x. line_dot sheet w h a s d place line x y) row (λ x. line_above sheet w h a b s d x y place line l)
 
 -- a white row
 zero_at : (n i : ℕ) → get_or (replicate {A = ℕ} n 0) i 0 ≡ 0

@@ -1,5 +1,5 @@
 -- Field blocks: a text broken into lines, as ^FB has it.
-use Rattle.std.specs.Prelude.{◌≡◌, ◌<◌, ℕ, zero, suc, ◌+◌, ◌-◌, ◌*◌, ◌/◌, ℤ, pos, negsuc, min, max, Bool, true, false, ◌==◌, nat_lt, nat_le, ◌&&◌, ◌||◌, List, [], ◌∷◌, length, take, drop, slice_index, flat_map, Option, if◌then◌else◌}
+use Rattle.std.specs.Prelude.{◌≡◌, ◌<◌, ℕ, zero, suc, ◌+◌, ◌-◌, ◌*◌, ◌/◌, ℤ, pos, negsuc, min, max, Bool, true, false, ◌==◌, nat_lt, nat_le, ◌&&◌, ◌||◌, List, [], ◌∷◌, ◌++◌, ◌⊎◌, length, take, drop, slice_index, flat_map, Option, if◌then◌else◌}
 use Rattle.std.proofs.lemmas.Bool.{and_parts, ltb-true}
 use Rattle.vp_glyph.specs.Sheets.{Glyphs}
 use Rattle.vp_glyph.specs.Texts.{text_dot}
@@ -56,6 +56,11 @@ lines_upto (suc most) n cells =
 
 abbrev pub lines : ℕ → List ℕ → List (List ℕ)
 lines n cells = lines_upto (length cells) n cells
+
+-- lines that stand in a paragraph one after the other, with at most one blank left out behind each
+abbrev pub StandIn : List ℕ → List (List ℕ) → Type 0
+StandIn cells [] = cells ≡ []
+StandIn cells (line ∷ rest) = (behind : List ℕ) × ((cells ≡ line ++ behind) ⊎ (cells ≡ line ++ 32 ∷ behind)) × StandIn behind rest
 
 -- the lines of a text, of at most n cells
 unfoldable pub block_lines : ℕ → List ℕ → List (List ℕ)

@@ -1,9 +1,9 @@
 //! A text in a block of lines.
-ghost use Rattle.std.specs.Prelude.{◌≡◌, ◌+◌, ◌-◌, ◌*◌, ◌/◌, ◌<◌, ◌≤◌, ◌≢◌, ◌^◌, nat_le, ◌&&◌, length, take};
+ghost use Rattle.std.specs.Prelude.{◌≡◌, ◌+◌, ◌-◌, ◌*◌, ◌/◌, ◌<◌, ◌≤◌, ◌≢◌, ◌^◌, nat_le, ◌&&◌, ℕ, length, take, drop};
 ghost use Rattle.vp_dots.specs.Dots.{shifted};
 ghost use Rattle.vp_dots.specs.Painting.{Painted};
 ghost use Rattle.vp_glyph.specs.Texts.{text_dot};
-ghost use Rattle.vp_glyph.specs.Blocks.{pieces, first, indent, pitch, line_dot, block_width, block_height, block_dot, block_inside};
+ghost use Rattle.vp_glyph.specs.Blocks.{pieces, first, indent, pitch, block_lines, line_dot, lines_dot, block_width, block_height, block_dot, block_inside};
 
 use crate::lines::{Line, behind_cells, next_cell, next_line};
 use crate::sampled::Sampled;
@@ -57,9 +57,15 @@ pub struct Block<'a> {
     /// From the top of a line to that of the next.
     pub pitch: u32,
     pub alignment: Alignment,
+    /// How many lines are passed: rows from their end on are found without them.
+    pub(crate) passed: u32,
+    /// The text from the next line on.
+    pub(crate) rest: &'a [u8],
     ghost some: { 0 < w },
     ghost narrow: { wide ≤ 32000 },
     ghost fits: { block_height h rows pitch < 2 ^ 32 },
+    ghost apart: { passed ≤ rows - 1 },
+    ghost behind: { drop passed (block_lines (wide / w) text.now) ≡ block_lines (wide / w) rest.now },
 }
 
 impl Copy for Block<'_> {}
@@ -143,16 +149,85 @@ impl Block<'_> {
     }
 }
 
+impl<'a> Block<'a> {
+    /// The lines that end above row y, as far as they stand apart, are passed: how many, and the text behind.
+    fn passed_at(&self, y: u32) -> (u32, &'a [u8])
+        requires { self.now.w ≤ self.now.wide }
+        ensures apart { result.0 ≤ self.now.rows - 1 }
+        ensures behind { drop result.0 (block_lines (self.now.wide / self.now.w) self.now.text.now)
+            ≡ block_lines (self.now.wide / self.now.w) result.1.now }
+    {
+        let most = (self.wide / self.w) as usize;
+        let mut passed = self.passed;
+        let mut rest = self.rest;
+        while passed + 1 < self.rows && y >= passed * self.pitch + self.h {
+            let (_, Some(behind)) = next_line(rest, most) else {
+                return (passed, rest);
+            };
+            passed += 1;
+            rest = behind;
+        }
+        (passed, rest)
+    }
+
+    /// The same block, whose rows from y on are found without the lines that end above row y. So a painter
+    /// of rows from the top to the bottom looks at each line once.
+    pub fn from_row(self, y: u32) -> Self
+        ensures sheet { result.sheet.now ≡ self.entry.sheet.now }
+        ensures text { result.text.now ≡ self.entry.text.now }
+        ensures w { result.w ≡ self.entry.w }
+        ensures h { result.h ≡ self.entry.h }
+        ensures wide { result.wide ≡ self.entry.wide }
+        ensures rows { result.rows ≡ self.entry.rows }
+        ensures pitch { result.pitch ≡ self.entry.pitch }
+        ensures alignment { result.alignment ≡ self.entry.alignment }
+    {
+        if self.wide < self.w {
+            return self;
+        }
+        let (passed, rest) = self.passed_at(y);
+        Block {
+            sheet: self.sheet,
+            text: self.text,
+            w: self.w,
+            h: self.h,
+            wide: self.wide,
+            rows: self.rows,
+            pitch: self.pitch,
+            alignment: self.alignment,
+            passed,
+            rest,
+        }
+    }
+}
+
 impl Block<'_> {
+    /// The first line that may have a dot in row y: how many lines stand above it, and the text from it on.
+    fn first_line(&self, y: u32) -> (u32, &[u8])
+        ensures above { result.0 ≤ self.now.rows - 1 }
+        ensures lines { (x : ℕ) → lines_dot self.now.sheet.now self.now.w self.now.h self.now.wide
+            self.now.rows self.now.pitch self.now.alignment 0
+            (block_lines (self.now.wide / self.now.w) self.now.text.now) x y
+            ≡ lines_dot self.now.sheet.now self.now.w self.now.h self.now.wide self.now.rows self.now.pitch
+            self.now.alignment result.0 (block_lines (self.now.wide / self.now.w) result.1.now) x y }
+    {
+        if y >= self.passed.saturating_sub(1) * self.pitch + self.h {
+            (self.passed, self.rest)
+        } else {
+            (0, self.text)
+        }
+    }
+
     /// Paints row y of a line that stands so many lines below the first.
     fn paint_line(&self, line: Line<'_>, place: u32, y: u32, op: Op, at: i64, row: &mut [u8])
         requires cells { line.cells ≤ length (first (pieces line.text.now)) }
         requires most { line.cells ≤ self.now.wide / self.now.w }
         requires place { place ≤ self.now.rows - 1 }
+        requires top { place * self.now.pitch ≤ y }
         ensures { Painted op (shifted at (λ x. line_dot self.now.sheet.now self.now.w self.now.h self.now.wide self.now.pitch self.now.alignment place (take line.entry.cells (first (pieces line.entry.text.now))) x y)) row.old row.new }
     {
         let top = place * self.pitch;
-        if y < top {
+        if y - top >= self.h {
             return;
         }
         let left = self
@@ -169,9 +244,13 @@ impl Block<'_> {
         ensures { Painted op (shifted at (λ x. block_dot self.now.sheet.now self.now.text.now self.now.w self.now.h self.now.wide self.now.rows self.now.pitch self.now.alignment x y)) row.old row.new }
     {
         let most = (self.wide / self.w) as usize;
-        let mut place = 0;
-        let mut left = Some(self.text);
+        let (above, text) = self.first_line(y);
+        let mut place = above;
+        let mut left = Some(text);
         while let Some(text) = left {
+            if y < place * self.pitch {
+                return;
+            }
             let (line, rest) = next_line(text, most);
             self.paint_line(line, place, y, op, at, row);
             place = (place + 1).min(self.rows.saturating_sub(1));

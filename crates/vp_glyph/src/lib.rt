@@ -17,6 +17,7 @@ mod tests;
 pub use block::{Alignment, Block};
 pub use cell::{Cell, Font, Style};
 pub use header::header_law;
+pub use lines::lines_law;
 pub use sampled::Sampled;
 pub use sheet::{Sheet, SheetError};
 
@@ -94,6 +95,8 @@ impl Sheets {
             rows,
             pitch: block::pitch(h, gap),
             alignment,
+            passed: 0,
+            rest: text,
         }
     }
 }

@@ -1,6 +1,7 @@
 //! The lines of a field block.
 ghost use Rattle.std.specs.Prelude.{◌≡◌, ℕ, ◌+◌, ◌-◌, ◌≤◌, ◌<◌, ◌^◌, List, ◌∷◌, [], min, length, take, drop, MatchOption, slice_index, Some, None};
-ghost use Rattle.vp_glyph.specs.Blocks.{pieces, first, others, last_blank, block_lines};
+ghost use Rattle.std.specs.List.{All};
+ghost use Rattle.vp_glyph.specs.Blocks.{pieces, first, others, last_blank, lines, StandIn, block_lines};
 
 /// What stands in a text.
 #[derive(Clone, Copy, Debug, PartialEq, Eq)]
@@ -112,3 +113,10 @@ pub fn next_line(text: &[u8], most: usize) -> (Line<'_>, Option<&[u8]>)
     };
     (line, Some(behind))
 }
+
+/// A law: the lines of a paragraph have at most n cells each, and stand in it one after the other, with at most
+/// one blank left out behind each.
+pub fn lines_law()
+    ensures few { (n : ℕ) (cells : List ℕ) → 0 < n → All (λ line. length line ≤ n) (lines n cells) }
+    ensures whole { (n : ℕ) (cells : List ℕ) → 0 < n → StandIn cells (lines n cells) }
+{}

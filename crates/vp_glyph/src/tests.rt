@@ -124,6 +124,9 @@ fn blocks(rt: HostRuntime) -> Result<(), Fail> {
     assert_eq!(rt; block.size(), (24, 48));
     assert_eq!(rt; row_of(&block, 23), full);
     assert_eq!(rt; row_of(&block, 24), [0, 0x0f, 0xff, 0]);
+    let below = block.from_row(24);
+    assert_eq!(rt; row_of(&below, 23), full);
+    assert_eq!(rt; row_of(&below, 24), [0, 0x0f, 0xff, 0]);
     let block = sheets.block(b"MM M", 12, 24, 24, 1, 0, Alignment::Left);
     assert_eq!(rt; block.size(), (24, 24));
     assert_eq!(rt; row_of(&block, 0), full);

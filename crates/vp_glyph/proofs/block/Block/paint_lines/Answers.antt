@@ -1,10 +1,11 @@
-use Rattle.std.proofs.Common.{arith, sym, w64, refl}
+use Rattle.std.proofs.Common.{ℕ, arith, sym, w64, refl}
 use Rattle.std.proofs.lemmas.Int.{to_z-of_z}
+use Rattle.vp_glyph.proofs.Stacks.{lines_below}
 use Rattle.vp_glyph.proofs.Overlaid.{overlaid_none, overlaid_more, overlaid_all}
 use Rattle.vp_glyph.proofs.block.Block.paint_lines.Goals as goal
 
 pub loop-left-init : goal.loop-left-init
-loop-left-init c = record { place_within = omega arith; overlaid = overlaid_none _ _ _ _ _ _ _ _ _ _ _ _ _ }
+loop-left-init c = record { place_within = omega arith; overlaid = overlaid_none _ _ _ _ _ _ _ _ _ _ _ _ _ _ _ c.first_line-above.ensures.lines }
 
 pub loop-left-preserved : goal.loop-left-preserved
 loop-left-preserved c = record {
@@ -15,4 +16,11 @@ loop-left-preserved c = record {
 
 pub returns : goal.returns
 returns c = rw (sym (to_z-of_z w64 c.args.at c.ranges.at))
-    (overlaid_all _ _ _ _ _ _ _ _ _ _ _ _ c.loop-left.place c.loop-left.left _ _ refl c.requires.wide c.requires.y c.in_default.is c.loop-left.invariant.overlaid)
+    (overlaid_all _ _ _ _ _ _ _ _ _ _ _ _ c.loop-left.place c.loop-left.left _ _ refl c.requires.wide c.requires.y (λ (x : ℕ). rw c.in_default.is refl) c.loop-left.invariant.overlaid)
+
+pub returns-then-y-place : goal.returns-then-y-place
+returns-then-y-place c = rw (sym (to_z-of_z w64 c.args.at c.ranges.at))
+    (overlaid_all _ _ _ _ _ _ _ _ _ _ _ _ c.loop-left.place c.loop-left.left _ _ refl c.requires.wide c.requires.y
+    (λ (x : ℕ). lines_below c.args.self.now.sheet.now c.args.self.now.w c.args.self.now.h c.args.self.now.wide c.args.self.now.rows c.args.self.now.pitch c.args.self.now.alignment x c.args.y
+    c.loop-left.place _ c.loop-left.invariant.place_within (omega arith))
+    c.loop-left.invariant.overlaid)
