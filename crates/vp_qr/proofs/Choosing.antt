@@ -1,9 +1,9 @@
 -- The least cost, and symbols that differ only where no data stands.
-use Rattle.std.proofs.Common.{◌≡◌, ℕ, zero, suc, ◌-◌, ◌<◌, ◌≤◌, ◌&&◌, ◌||◌, not, Bool, true, false, eqb, leb, cond, List, [], ◌∷◌, length, get_or, map, replicate, refl, sym, ap, ◌∙◌, arith}
-use Rattle.std.specs.List.{list_all}
-use Rattle.std.proofs.lemmas.Bool.{eqb-true, lt-leb, le-leb}
+use Rattle.std.proofs.Common.{◌≡◌, ℕ, zero, suc, ◌-◌, ◌<◌, ◌≤◌, ◌&&◌, ◌||◌, not, Bool, true, false, eqb, leb, cond, List, [], ◌∷◌, length, get_or, map, refl, sym, ap, ◌∙◌, inl, inr, arith}
+use Rattle.std.specs.List.{list_all, position_or_len}
+use Rattle.std.proofs.lemmas.Bool.{eqb-true, lt-leb, le-leb, cases_lt}
 use Rattle.std.proofs.lemmas.List.{ext_get_or, length-map, get_or-map}
-use Rattle.std.proofs.lemmas.List.Sums.{position_or_len_is}
+use Rattle.std.proofs.lemmas.List.Sums.{position_or_len_is, fails_before_first}
 use Rattle.vp_qr.specs.Places.{size, corner, alignment, version_area, reserved}
 use Rattle.vp_qr.specs.Walk.{number_of, data_bit, dark}
 use Rattle.vp_qr.specs.Symbol.{finder, module_at, differ, formula}
@@ -13,7 +13,6 @@ use Rattle.vp_qr.specs.Cost.{cost}
 use Rattle.vp_qr.specs.Encoding.{least_place, masks, masked, best_mask}
 use Rattle.vp_qr.proofs.Counting.{cost_same}
 use Rattle.vp_qr.proofs.FieldLaws.{passes_below, passes_at}
-use Rattle.vp_qr.proofs.FreeModules.{none_dark}
 
 all_least : (x : ℕ) (xs : List ℕ) → ((m : ℕ) → m < length xs → x ≤ get_or xs m 0) → list_all (leb x) xs ≡ true
 all_least x [] h = refl
@@ -79,17 +78,14 @@ module_same v format code m f g i j h =
     (differ (f i j) (eqb (formula m i j) 0)) (differ (g i j) (eqb (formula m i j) 0))
     (λ a b c d e. ap (λ t. differ t (eqb (formula m i j) 0)) (h (no_reserve v i j a b c d e)))
 
--- the data modules, placed in rows without any
-pub data_placed : (v : ℕ) (words rows : List ℕ) (i j : ℕ) → dark rows i j ≡ (dark (replicate 57 0) i j || (not (reserved v i j) && data_bit words (number_of v i j)))
+-- the placed data, on a module that isn't reserved
+pub data_placed : (v : ℕ) (words rows : List ℕ) (i j : ℕ) → dark rows i j ≡ (not (reserved v i j) && data_bit words (number_of v i j))
     → reserved v i j ≡ false → dark rows i j ≡ data_bit words (number_of v i j)
-data_placed v words rows i j e free =
-    e
-    ∙ ap (λ t. t || (not (reserved v i j) && data_bit words (number_of v i j))) (none_dark i j)
-    ∙ ap (λ t. not t && data_bit words (number_of v i j)) free
+data_placed v words rows i j e free = e ∙ ap (λ t. not t && data_bit words (number_of v i j)) free
 
 -- the least costs, taken from the placed data or from the codewords
 pub same_choice : (level : Level) (v : ℕ) (words rows : List ℕ)
-    → ((i j : ℕ) → i < size v → j < size v → dark rows i j ≡ (dark (replicate 57 0) i j || (not (reserved v i j) && data_bit words (number_of v i j))))
+    → ((i j : ℕ) → i < size v → j < size v → dark rows i j ≡ (not (reserved v i j) && data_bit words (number_of v i j)))
     → least_place (map (λ k. cost (module_at v (format_code level k) (version_code v) k (dark rows)) (size v)) masks) ≡ best_mask level v words
 unfolding best_mask masked
 same_choice level v words rows h =
@@ -104,8 +100,56 @@ same_choice level v words rows h =
     map_same f g e (x ∷ xs) = ap (λ y. y ∷ map f xs) (e x) ∙ ap (λ ys. g x ∷ ys) (map_same f g e xs)
 
 pub same_modules : (level : Level) (v m : ℕ) (words rows : List ℕ)
-    → ((i j : ℕ) → i < size v → j < size v → dark rows i j ≡ (dark (replicate 57 0) i j || (not (reserved v i j) && data_bit words (number_of v i j))))
+    → ((i j : ℕ) → i < size v → j < size v → dark rows i j ≡ (not (reserved v i j) && data_bit words (number_of v i j)))
     → (i j : ℕ) → i < size v → j < size v → module_at v (format_code level m) (version_code v) m (dark rows) i j ≡ masked level v words m i j
 unfolding masked
 same_modules level v m words rows h i j hi hj =
     module_same v (format_code level m) (version_code v) m (dark rows) (λ i j. data_bit words (number_of v i j)) i j (data_placed v words rows i j (h i j hi hj))
+
+-- number b of a list is the least
+record IsLeast (xs : List ℕ) (b : ℕ) : Type 0 where
+  below : b < length xs
+  least : (m : ℕ) → m < length xs → get_or xs b 0 ≤ get_or xs m 0
+
+least_first : (x : ℕ) (xs : List ℕ) (b : ℕ) → IsLeast xs b → x < get_or xs b 0 → IsLeast (x ∷ xs) 0
+least_first x xs b h lt = record { below = omega arith; least = at_least }
+  where
+    at_least : (m : ℕ) → m < length (x ∷ xs) → x ≤ get_or (x ∷ xs) m 0
+    at_least zero k = omega arith
+    at_least (suc m) k = omega (arith, h.least m (omega arith))
+
+least_later : (x : ℕ) (xs : List ℕ) (b : ℕ) → IsLeast xs b → get_or xs b 0 ≤ x → IsLeast (x ∷ xs) (suc b)
+least_later x xs b h le = record { below = omega (arith, h.below); least = at_least }
+  where
+    at_least : (m : ℕ) → m < length (x ∷ xs) → get_or xs b 0 ≤ get_or (x ∷ xs) m 0
+    at_least zero k = le
+    at_least (suc m) k = h.least m (omega arith)
+
+-- some number of a list that isn't empty is
+least_stands : (x : ℕ) (xs : List ℕ) → (b : ℕ) × IsLeast (x ∷ xs) b
+least_stands x [] = (0, record { below = omega arith; least = λ (m : ℕ) (h : m < 1). let e : m ≡ 0 = omega arith in rw e (omega arith) })
+least_stands x (y ∷ ys) =
+    let rest = least_stands y ys in
+    elim (cases_lt x (get_or (y ∷ ys) rest.0 0)) [
+      | inl lt ↦ (0, least_first x (y ∷ ys) rest.0 rest.1 lt)
+      | inr le ↦ (suc rest.0, least_later x (y ∷ ys) rest.0 rest.1 le)
+    ]
+
+least_place_below : (x : ℕ) (xs : List ℕ) → least_place (x ∷ xs) < length (x ∷ xs)
+unfolding least_place
+least_place_below x xs =
+    let p : ℕ → Bool = λ n. list_all (leb n) (x ∷ xs) in
+    let least = least_stands x xs in
+    elim (cases_lt least.0 (position_or_len p (x ∷ xs))) [
+      | inl lt ↦
+          absurd (true_is_not_false (sym (all_least (get_or (x ∷ xs) least.0 0) (x ∷ xs) least.1.least) ∙ fails_before_first p (x ∷ xs) least.0 0 lt))
+      | inr le ↦ omega (arith, least.1.below, le)
+    ]
+  where
+    true_is_not_false : true ≡ false → ⊥
+    true_is_not_false e = cc
+
+-- the mask that is chosen is one of the eight
+pub best_below : (level : Level) (v : ℕ) (words : List ℕ) → best_mask level v words < 8
+unfolding best_mask
+best_below level v words = least_place_below _ _

@@ -1,16 +1,20 @@
 -- The parts of a symbol make the whole.
-use Rattle.std.proofs.Common.{◌≡◌, ℕ, ◌<◌, List, Some, ap, ◌∙◌, subst}
-use Rattle.std.specs.Prelude.{unwrap_or, Option}
+use Rattle.std.proofs.Common.{◌≡◌, ℕ, ◌<◌, not, eqb, length, List, Some, cond, refl, ap, ◌∙◌, subst}
+use Rattle.std.specs.Prelude.{unwrap_or, is_none, Option, Bool, true, false, None}
 use Rattle.vp_qr.specs.declared.level.Level.{Level}
 use Rattle.vp_qr.specs.declared.segment.Mode.{Mode}
 use Rattle.vp_qr.specs.declared.segment.Kind.{Kind}
-use Rattle.vp_qr.specs.Segments.{kind_of, message}
+use Rattle.std.specs.List.{list_all}
+use Rattle.vp_dots.specs.declared.fault.Fault.TheVariants.{Symbol, SymbolTooLong}
+use Rattle.vp_dots.specs.declared.fault.Why.TheVariants.{Empty, Char}
+use Rattle.vp_qr.specs.Segments.{has, kind_of, message}
 use Rattle.vp_qr.specs.Strings.{padded}
-use Rattle.vp_qr.specs.Versions.{smallest}
+use Rattle.vp_qr.specs.Versions.{smallest, Holds}
+use Rattle.vp_qr.proofs.VersionsInOrder.{smallest_holds}
 use Rattle.vp_qr.specs.Blocks.{blocks_of, capacity, interleaved}
 use Rattle.vp_qr.specs.Places.{size}
 use Rattle.vp_qr.specs.Walk.{dark}
-use Rattle.vp_qr.specs.Encoding.{version_of, data_words, codewords_of, mask_of, best_mask, masked, symbol_module, QrSymbol, Encodes}
+use Rattle.vp_qr.specs.Encoding.{refusal, version_of, data_words, codewords_of, mask_of, best_mask, masked, symbol_module, QrSymbol, Encodes}
 
 module _ (level : Level) (mode : Mode) (src : List ℕ) (kind : Kind) (v : ℕ) (words codewords : List ℕ)
     (kind_is : kind ≡ kind_of mode src) (version_is : Some v ≡ smallest level kind src)
@@ -28,23 +32,44 @@ module _ (level : Level) (mode : Mode) (src : List ℕ) (kind : Kind) (v : ℕ) 
   unfolding codewords_of
   same_codewords = codewords_are ∙ ap (λ n. interleaved (blocks_of level n) words) same_version ∙ ap (interleaved (blocks_of level (version_of level mode src))) same_words
 
-  same_mask : best_mask level v codewords ≡ mask_of level mode src
-  same_mask = ap (λ n. best_mask level n codewords) same_version ∙ ap (best_mask level (version_of level mode src)) same_codewords
-
-  same_module : (i j : ℕ) → masked level v codewords (best_mask level v codewords) i j ≡ symbol_module level mode src i j
+  same_module : (m : ℕ) → m ≡ mask_of level mode src → (i j : ℕ) → masked level v codewords m i j ≡ symbol_module level mode src i j
   unfolding symbol_module
-  same_module i j =
-      ap (λ m. masked level v codewords m i j) same_mask
+  same_module m em i j =
+      ap (λ m. masked level v codewords m i j) em
       ∙ ap (λ n. masked level n codewords (mask_of level mode src) i j) same_version
       ∙ ap (λ l. masked level (version_of level mode src) l (mask_of level mode src) i j) same_codewords
 
-  pub encodes : (qr : QrSymbol) → qr.version ≡ v → qr.codewords ≡ codewords → qr.mask ≡ best_mask level v codewords
-      → ((i j : ℕ) → i < size v → j < size v → dark qr.rows i j ≡ masked level v codewords (best_mask level v codewords) i j)
+  -- with the mask that is chosen for these bytes
+  pub encodes : (m : ℕ) → m ≡ mask_of level mode src → (qr : QrSymbol) → qr.version ≡ v → qr.codewords ≡ codewords → qr.mask ≡ m
+      → ((i j : ℕ) → i < size v → j < size v → dark qr.rows i j ≡ masked level v codewords m i j)
       → Encodes level mode src qr
-  encodes qr ev ec em modules = record {
+  encodes m em qr ev ec same modules = record {
     version_is = ev ∙ same_version;
     codewords_are = ec ∙ same_codewords;
-    mask_is = em ∙ same_mask;
+    mask_is = same ∙ em;
     modules_are = λ (i j : ℕ) (hi : i < size qr.version) (hj : j < size qr.version).
-        modules i j (subst (λ n. i < size n) ev hi) (subst (λ n. j < size n) ev hj) ∙ same_module i j;
+        modules i j (subst (λ n. i < size n) ev hi) (subst (λ n. j < size n) ev hj) ∙ same_module m em i j;
   }
+
+  -- which is the one that is chosen for their codewords
+  pub same_mask : best_mask level v codewords ≡ mask_of level mode src
+  same_mask = ap (λ n. best_mask level n codewords) same_version ∙ ap (best_mask level (version_of level mode src)) same_codewords
+
+last_fails : {F : Type 0} (a b c : Bool) (x y z : F) → ◌≡◌ {A = Option F} (cond a (Some x) (cond b (Some y) (cond c (Some z) None))) None → c ≡ false
+last_fails true b c x y z e = cc
+last_fails false true c x y z e = cc
+last_fails false false true x y z e = cc
+last_fails false false false x y z e = refl
+
+found : (o : Option ℕ) → is_none o ≡ false → Some (unwrap_or o 0) ≡ o
+found (Some v) e = refl
+found None e = cc
+
+-- bytes that aren't refused have a version
+pub accepted_version : (level : Level) (mode : Mode) (src : List ℕ) → refusal level mode src ≡ None → Some (version_of level mode src) ≡ smallest level (kind_of mode src) src
+accepted_version level mode src e = found (smallest level (kind_of mode src) src)
+    (last_fails (eqb (length src) 0) (not (list_all (has (kind_of mode src)) src)) (is_none (smallest level (kind_of mode src) src)) (Symbol Empty) (Symbol Char) SymbolTooLong e)
+
+-- and it holds them
+pub version_holds : (level : Level) (mode : Mode) (src : List ℕ) → refusal level mode src ≡ None → Holds level (kind_of mode src) src (version_of level mode src)
+version_holds level mode src e = smallest_holds level (kind_of mode src) src (version_of level mode src) (accepted_version level mode src e)

@@ -1,10 +1,10 @@
 -- Where no data stands, and rows that are made bit by bit.
-use Rattle.std.proofs.Common.{◌≡◌, ℕ, zero, suc, ◌+◌, ◌-◌, ◌*◌, ◌^◌, ◌%◌, ◌<◌, ◌&&◌, ◌||◌, not, Bool, true, false, eqb, ltb, leb, List, length, replicate, get_or, set, get_or-set_same, get_or-set_other, refl, sym, ap, ◌∙◌, inl, inr, arith, bit_or, w64}
+use Rattle.std.proofs.Common.{◌≡◌, ℕ, zero, suc, ◌+◌, ◌-◌, ◌*◌, ◌^◌, ◌%◌, ◌<◌, ◌&&◌, ◌||◌, not, Bool, true, false, eqb, ltb, leb, List, length, replicate, get_or, set, get_or-set_same, get_or-set_other, cond, refl, sym, ap, ◌∙◌, inl, inr, arith, bit_or, w64}
 use Rattle.std.specs.Int.{bit_at}
 use Rattle.std.proofs.lemmas.Bool.{cases_Bool, cases_lt, cases_eq, and_parts, eqb-true, lt-ltb, le-ltb, le-leb}
 use Rattle.std.proofs.lemmas.Nat.Bits.{bit_at_set_same, bit_at_set_other, bit_at-zero}
-use Rattle.vp_qr.specs.Places.{size, corner, reserved}
-use Rattle.vp_qr.specs.Symbol.{finder, module_at, differ, formula}
+use Rattle.vp_qr.specs.Places.{size, corner, alignment, version_area, reserved}
+use Rattle.vp_qr.specs.Symbol.{finder, finder_dark, alignment_dark, format_bit, version_bit, module_at, differ, formula, format_here, pattern_dark}
 use Rattle.vp_qr.specs.Walk.{dark}
 use Rattle.vp_qr.specs.Cost.{is_set, same}
 
@@ -59,37 +59,98 @@ dark_corner s i j h =
     clash false true false hb hc h = cc
     clash false false c hb hc h = cc
 
--- a module that isn't reserved is its datum, flipped by the mask
-free_value : (v format code m : ℕ) (f : ℕ → ℕ → Bool) (i j : ℕ) → reserved v i j ≡ false → module_at v format code m f i j ≡ differ (f i j) (eqb (formula m i j) 0)
-unfolding module_at reserved
-free_value v format code m f i j h =
+differ_is : (a b : Bool) → differ a b ≡ not (same a b)
+differ_is true b = refl
+differ_is false true = refl
+differ_is false false = refl
+
+or_false : (a : Bool) → a ≡ (a || false)
+or_false true = refl
+or_false false = refl
+
+clash : {A : Type 0} → true ≡ false → A
+clash e = cc
+
+-- what is tested first holds: data on a module that isn't reserved, a pattern, or a bit of the format
+combined : (fi r c al ve dk co : Bool) (p q t a v b x y z : Bool) → (co ≡ false → fi ≡ false) → (co ≡ false → dk ≡ false) → z ≡ false
+    → cond fi p (cond r q (cond c t (cond al a (cond ve v (cond dk true (cond co b x))))))
+    ≡ ((not (co || r || c || al || ve) && x) || ((co || r || c || al || ve) && cond fi p (cond r q (cond c t (cond al a (cond ve v (cond dk true (cond co z y))))))) || ((co && not (fi || r || c || al || ve || dk)) && b))
+combined true r c al ve dk true p q t a v b x y z h k e = or_false p
+combined true r c al ve dk false p q t a v b x y z h k e = clash (h refl)
+combined false true c al ve dk true p q t a v b x y z h k e = or_false q
+combined false true c al ve dk false p q t a v b x y z h k e = or_false q
+combined false false true al ve dk true p q t a v b x y z h k e = or_false t
+combined false false true al ve dk false p q t a v b x y z h k e = or_false t
+combined false false false true ve dk true p q t a v b x y z h k e = or_false a
+combined false false false true ve dk false p q t a v b x y z h k e = or_false a
+combined false false false false true dk true p q t a v b x y z h k e = or_false v
+combined false false false false true dk false p q t a v b x y z h k e = or_false v
+combined false false false false false true true p q t a v b x y z h k e = refl
+combined false false false false false true false p q t a v b x y z h k e = clash (k refl)
+combined false false false false false false true p q t a v b x y z h k e = rw e refl
+combined false false false false false false false p q t a v b x y z h k e = or_false x ∙ or_false (x || false)
+
+-- a module of a row: the data under the mask, the patterns, and the bits of the format
+pub line_module : (v format code m i j : ℕ) (f : ℕ → ℕ → Bool)
+    → ((not (same (f i j) (eqb (formula m i j) 0)) && not (reserved v i j)) || pattern_dark v code i j || (format_here v i j && eqb (bit_at format (format_bit (size v) i j)) 1))
+    ≡ module_at v format code m f i j
+unfolding module_at reserved pattern_dark format_here
+line_module v format code m i j f =
     let s : ℕ = size v in
-    let four = or_parts _ _ h in
-    let three = or_parts _ _ four.0 in
-    let two = or_parts _ _ three.0 in
-    let one = or_parts _ _ two.0 in
-    rw (finder_corner s i j one.0, one.1, two.1, three.1, four.1, dark_corner s i j one.0, one.0) refl
-
--- a module of a row: the free ones under the mask, and the others
-pub line_module : (v format code m row column : ℕ) (f : ℕ → ℕ → Bool) (free : Bool) → free ≡ not (reserved v row column)
-    → ((not (same (f row column) (eqb (formula m row column) 0)) && free) || (not free && module_at v format code m f row column)) ≡ module_at v format code m f row column
-line_module v format code m row column f false e = others (not (same (f row column) (eqb (formula m row column) 0))) (module_at v format code m f row column)
+    let co : Bool = corner s i j in
+    let res : Bool = co || eqb i 6 || eqb j 6 || alignment v i j || version_area v i j in
+    ap (λ t. t || pattern_dark v code i j || (format_here v i j && eqb (bit_at format (format_bit s i j)) 1))
+    (turned (not (same (f i j) (eqb (formula m i j) 0))) (not res) ∙ ap (λ t. not res && t) (sym (differ_is (f i j) (eqb (formula m i j) 0))))
+    ∙ sym (combined (finder s i j) (eqb i 6) (eqb j 6) (alignment v i j) (version_area v i j) (eqb i (s - 8) && eqb j 8) co
+    (finder_dark s i j) (eqb (j % 2) 0) (eqb (i % 2) 0) (alignment_dark v i j) (eqb (bit_at code (version_bit s i j)) 1)
+    (eqb (bit_at format (format_bit s i j)) 1) (differ (f i j) (eqb (formula m i j) 0)) (differ false (eqb (formula 0 i j) 0)) (eqb (bit_at 0 (format_bit s i j)) 1)
+    (finder_corner s i j) (dark_corner s i j) (ap (λ n. eqb n 1) (bit_at-zero (format_bit s i j))))
   where
-    others : (a b : Bool) → ((a && false) || (true && b)) ≡ b
-    others true b = refl
-    others false b = refl
-line_module v format code m row column f true e =
-    flipped (f row column) (eqb (formula m row column) 0) (module_at v format code m f row column) ∙ sym (free_value v format code m f row column (none (reserved v row column) e))
-  where
-    flipped : (a b c : Bool) → ((not (same a b) && true) || (false && c)) ≡ differ a b
-    flipped true true c = refl
-    flipped true false c = refl
-    flipped false true c = refl
-    flipped false false c = refl
+    turned : (a b : Bool) → (a && b) ≡ (b && a)
+    turned true true = refl
+    turned true false = refl
+    turned false true = refl
+    turned false false = refl
 
+-- what is reserved and none of the others is the dark module, or of the format
+last_tests : (dk co x z : Bool) → (co || false || false || false || false) ≡ true → z ≡ false → ((co || false || false || false || false) && cond dk true (cond co z x)) ≡ dk
+last_tests dk false x z h e = clash (sym h)
+last_tests true true x z h e = refl
+last_tests false true x z h e = e
+
+last_of : (fi r c al ve dk co : Bool) (p q t a v x z : Bool) → (co || r || c || al || ve) ≡ true → fi ≡ false → r ≡ false → c ≡ false → al ≡ false → ve ≡ false → z ≡ false
+    → ((co || r || c || al || ve) && cond fi p (cond r q (cond c t (cond al a (cond ve v (cond dk true (cond co z x))))))) ≡ dk
+last_of fi r c al ve dk co p q t a v x z h f1 f2 f3 f4 f5 e = rw (f1, f2, f3, f4, f5) (last_tests dk co x z (rw (f2, f3, f4, f5) at h) e)
+
+pub last_pattern : (v code i j : ℕ) → reserved v i j ≡ true → finder (size v) i j ≡ false → eqb i 6 ≡ false → eqb j 6 ≡ false → alignment v i j ≡ false → version_area v i j ≡ false
+    → pattern_dark v code i j ≡ (eqb i (size v - 8) && eqb j 8)
+unfolding pattern_dark reserved module_at
+last_pattern v code i j h f1 f2 f3 f4 f5 =
+    let s : ℕ = size v in
+    last_of (finder s i j) (eqb i 6) (eqb j 6) (alignment v i j) (version_area v i j) (eqb i (s - 8) && eqb j 8) (corner s i j)
+    (finder_dark s i j) (eqb (j % 2) 0) (eqb (i % 2) 0) (alignment_dark v i j) (eqb (bit_at code (version_bit s i j)) 1) (differ false (eqb (formula 0 i j) 0)) (eqb (bit_at 0 (format_bit s i j)) 1)
+    h f1 f2 f3 f4 f5 (ap (λ n. eqb n 1) (bit_at-zero (format_bit s i j)))
+
+-- data modules have no pattern
+pub free_without_pattern : (v code i j : ℕ) → true ≡ not (reserved v i j) → pattern_dark v code i j ≡ false
+unfolding pattern_dark
+free_without_pattern v code i j h = ap (λ t. t && module_at v 0 code 0 (λ i j. false) i j) (none (reserved v i j) h)
+  where
     none : (b : Bool) → true ≡ not b → b ≡ false
-    none true h = cc
-    none false h = refl
+    none true e = cc
+    none false e = refl
+
+pub reserved_place : (v i j : ℕ) → false ≡ not (reserved v i j) → reserved v i j ≡ true
+reserved_place v i j h = some (reserved v i j) h
+  where
+    some : (b : Bool) → false ≡ not b → b ≡ true
+    some true e = refl
+    some false e = cc
+
+-- the format stands beside the finders
+pub format_corner : (v i j : ℕ) → format_here v i j ≡ true → corner (size v) i j ≡ true
+unfolding format_here
+format_corner v i j h = (and_parts _ _ h).0
 
 -- the bits of a row below a column
 pub record Made (f : ℕ → Bool) (line column : ℕ) : Type 0 where

@@ -9,6 +9,7 @@ pub mod Places
 pub mod Walk
 pub mod Codes
 pub mod Symbol
+pub mod Grids
 pub mod Cost
 pub mod Encoding
 pub mod Inks

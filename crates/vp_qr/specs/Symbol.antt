@@ -1,7 +1,7 @@
 -- The modules of a finished symbol of version v, by cases on the place (ISO/IEC 18004, 6.3 and 7.7 to 7.10).
 use Rattle.std.specs.Prelude.{ℕ, ◌+◌, ◌-◌, ◌*◌, ◌/◌, ◌%◌, ◌==◌, ◌&&◌, ◌||◌, not, nat_lt, nat_le, Bool, true, false, max, if◌then◌else◌}
 use Rattle.std.specs.Int.{bit_at}
-use Rattle.vp_qr.specs.Places.{size, last_centre, middle_centre, near, corner, version_area, alignment}
+use Rattle.vp_qr.specs.Places.{size, last_centre, middle_centre, near, corner, version_area, alignment, reserved}
 
 -- how far two numbers are apart
 abbrev pub apart : ℕ → ℕ → ℕ
@@ -68,3 +68,13 @@ module_at v format version_code m data_at i j =
     else if i == s - 8 && j == 8 then true
     else if corner s i j then bit_at format (format_bit s i j) == 1
     else differ (data_at i j) (formula m i j == 0)
+
+-- a bit of the format stands on this module
+unfoldable pub format_here : ℕ → ℕ → ℕ → Bool
+format_here v i j =
+    let s = size v in
+    corner s i j && not (finder s i j || i == 6 || j == 6 || alignment v i j || version_area v i j || i == s - 8 && j == 8)
+
+-- the dark modules where neither data nor format stand
+unfoldable pub pattern_dark : ℕ → ℕ → ℕ → ℕ → Bool
+pattern_dark v version_code i j = reserved v i j && module_at v 0 version_code 0 (λ i j. false) i j

@@ -1,7 +1,8 @@
 //! QR symbols of versions 1 to 10, exact to the module (ISO/IEC 18004).
 //!
 //! `encode` gives the symbol of some bytes, in one segment and in the smallest version that holds
-//! them, with the lowest mask of least cost; `Qr::scaled` is that symbol as ink.
+//! them, with the lowest mask of least cost; `drawn` gives it again with the version and mask kept;
+//! `Qr::scaled` is that symbol as ink.
 //!
 //! - `segment`, `string`: the mode, the bits and the data codewords of the bytes
 //! - `level`, `interleave`: the blocks of each version and level, and the order of their codewords
@@ -28,7 +29,7 @@ mod walk;
 pub use check::{check_is_zero_at_roots, rs};
 pub use ink::QrInk;
 pub use level::Level;
-pub use qr::{Qr, encode};
+pub use qr::{Qr, drawn, encode};
 pub use segment::Mode;
 pub use walk::free_modules_hold_the_codewords;
 

@@ -1,26 +1,25 @@
 //! The symbol of bytes.
 
-ghost use Rattle.std.specs.Prelude.{◌≡◌, ℕ, ◌<◌, ◌≤◌, not, length, map, OnOk, IfOk, IfErr, Some, None};
+ghost use Rattle.std.specs.Prelude.{◌≡◌, ℕ, ◌<◌, ◌≤◌, ◌&&◌, not, length, map, OnOk, IfOk, IfErr, Some, None};
 ghost use Rattle.arrayvec.specs.ArrayVec.{array_vec_len};
 ghost use Rattle.vp_qr.specs.Strings.{padded};
 ghost use Rattle.vp_qr.specs.Segments.{message};
 ghost use Rattle.vp_qr.specs.Versions.{Holds};
-ghost use Rattle.vp_qr.specs.Blocks.{total, capacity};
+ghost use Rattle.vp_qr.specs.Blocks.{total, blocks_of, capacity, interleaved};
 ghost use Rattle.vp_qr.specs.Places.{size, reserved};
 ghost use Rattle.vp_qr.specs.Walk.{dark, data_bit, number_of};
 ghost use Rattle.vp_qr.specs.Codes.{format_code, version_code};
 ghost use Rattle.vp_qr.specs.Symbol.{module_at};
+ghost use Rattle.vp_qr.specs.Grids.{IsGrid};
 ghost use Rattle.vp_qr.specs.Cost.{cost};
-ghost use Rattle.vp_qr.specs.Encoding.{refusal, masked, least_place, masks, best_mask, Encodes};
+ghost use Rattle.vp_qr.specs.Encoding.{refusal, version_of, mask_of, masked, least_place, masks, best_mask, Encodes};
 
-use crate::code::{format_code, version_code};
 use crate::interleave::{Codewords, interleaved};
 use crate::level::Level;
 use crate::mask::{cost, least};
 use crate::segment::{Kind, Mode, message, smallest_version};
 use crate::string::{Words, padded};
-use crate::symbol::matrix;
-use crate::walk::{fill, free_rows};
+use crate::symbol::Grid;
 use std::marker::Model;
 use vp_dots::{Fault, Why};
 
@@ -78,42 +77,22 @@ impl Qr {
     }
 }
 
-/// The finished modules with a mask, from the data modules.
-fn drawn(level: Level, version: usize, mask: usize, data: &[u64; 57], free: &[u64; 57]) -> [u64; 57]
-    requires low { 1 ≤ version }
-    requires high { version ≤ 10 }
-    requires free { (i j : ℕ) → i < size version → j < size version → dark free.now i j ≡ not (reserved version i j) }
-    requires mask { mask < 8 }
-    ensures { (i j : ℕ) → i < size version → j < size version
-        → dark result i j ≡ module_at version (format_code level mask) (version_code version) mask (dark data.now) i j }
-{
-    matrix(
-        version,
-        format_code(level, mask),
-        version_code(version),
-        mask,
-        data,
-        free,
-    )
-}
-
 /// The lowest mask of least cost.
-fn best_mask(level: Level, version: usize, data: &[u64; 57], free: &[u64; 57]) -> usize
-    requires low { 1 ≤ version }
-    requires high { version ≤ 10 }
-    requires free { (i j : ℕ) → i < size version → j < size version → dark free.now i j ≡ not (reserved version i j) }
-    ensures mask { result ≡ least_place (map (λ k. cost (module_at version (format_code level k) (version_code version) k (dark data.now)) (size version)) masks) }
+fn best_mask(level: Level, grid: &Grid) -> usize
+    requires { IsGrid grid.now }
+    ensures mask { result ≡ least_place (map (λ k. cost (module_at grid.now.version (format_code level k)
+        (version_code grid.now.version) k (dark grid.now.unmasked)) (size grid.now.version)) masks) }
     ensures most { result < 8 }
 {
     let mut costs = [0; 8];
     for mask in 0..8usize {
-        let rows = drawn(level, version, mask, data, free);
-        costs[mask] = cost(&rows, 17 + 4 * version);
+        let rows = grid.masked(level, mask);
+        costs[mask] = cost(&rows, 17 + 4 * grid.version);
     }
     least(&costs)
 }
 
-/// The symbol of codewords.
+/// The symbol of codewords with the lowest mask of least cost.
 fn finished(level: Level, version: usize, codewords: Codewords) -> Qr
     requires low { 1 ≤ version }
     requires high { version ≤ 10 }
@@ -121,13 +100,34 @@ fn finished(level: Level, version: usize, codewords: Codewords) -> Qr
     ensures version { result.version ≡ version }
     ensures codewords { result.codewords ≡ codewords.items }
     ensures mask { result.mask ≡ best_mask level version codewords.items }
-    ensures modules { (i j : ℕ) → i < size version → j < size version → dark result.rows i j ≡ masked level version codewords.items (best_mask level version codewords.items) i j }
+    ensures modules { (i j : ℕ) → i < size version → j < size version → dark result.rows i j
+        ≡ masked level version codewords.items (best_mask level version codewords.items) i j }
 {
-    let mut data = [0; 57];
-    fill(&mut data, version, codewords.as_slice());
-    let free = free_rows(version);
-    let mask = best_mask(level, version, &data, &free);
-    let rows = drawn(level, version, mask, &data, &free);
+    let grid = Grid::of(version, codewords.as_slice());
+    let mask = best_mask(level, &grid);
+    let rows = grid.masked(level, mask);
+    Qr {
+        version,
+        mask,
+        codewords,
+        rows,
+    }
+}
+
+/// The symbol of codewords with a mask that was chosen before.
+fn finished_with(level: Level, version: usize, mask: usize, codewords: Codewords) -> Qr
+    requires low { 1 ≤ version }
+    requires high { version ≤ 10 }
+    requires mask { mask < 8 }
+    requires count { array_vec_len codewords ≡ total version }
+    ensures version { result.version ≡ version }
+    ensures codewords { result.codewords ≡ codewords.items }
+    ensures mask { result.mask ≡ mask }
+    ensures modules { (i j : ℕ) → i < size version → j < size version
+        → dark result.rows i j ≡ masked level version codewords.items mask i j }
+{
+    let grid = Grid::of(version, codewords.as_slice());
+    let rows = grid.masked(level, mask);
     Qr {
         version,
         mask,
@@ -145,6 +145,17 @@ fn data_words(level: Level, kind: Kind, version: usize, src: &[u8]) -> Words
     let capacity = level.blocks(version).capacity();
     let mut string = message(kind, version, src);
     padded(&mut string, capacity)
+}
+
+/// The codewords of a segment, in a version that holds it.
+fn codewords_in(level: Level, kind: Kind, version: usize, src: &[u8]) -> Codewords
+    requires { Holds level kind src.now version }
+    ensures codewords { result.items ≡ interleaved (blocks_of level version)
+        (padded (capacity level version) (message kind version src.now)) }
+    ensures count { array_vec_len result ≡ total version }
+{
+    let words = data_words(level, kind, version, src);
+    interleaved(level, version, words.as_slice())
 }
 
 /// The symbol of bytes, in the smallest version up to 10 that holds them.
@@ -166,7 +177,20 @@ pub fn encode(src: &[u8], level: Level, mode: Mode) -> Result<Qr, Fault>
     let Some(version) = smallest_version(level, kind, src) else {
         return Err(Fault::SymbolTooLong);
     };
-    let words = data_words(level, kind, version, src);
-    let codewords = interleaved(level, version, words.as_slice());
+    let codewords = codewords_in(level, kind, version, src);
     Ok(finished(level, version, codewords))
+}
+
+/// The symbol of bytes that `encode` takes, drawn with the version and the mask that were chosen for it:
+/// neither is chosen again.
+#[tactic(auto, using(crate::proofs::Choosing::best_below))]
+pub fn drawn(src: &[u8], level: Level, mode: Mode, version: usize, mask: usize) -> Qr
+    requires accepted { refusal level mode src.now ≡ None }
+    requires version { version ≡ version_of level mode src.now }
+    requires mask { mask ≡ mask_of level mode src.now }
+    ensures { Encodes level mode src.now result }
+{
+    let kind = mode.kind(src);
+    let codewords = codewords_in(level, kind, version, src);
+    finished_with(level, version, mask, codewords)
 }

@@ -3,12 +3,30 @@
 ghost use Rattle.std.specs.Prelude.{◌≡◌, ◌==◌, ◌<◌, ◌≤◌, ◌&&◌, not, ℕ, true};
 ghost use Rattle.vp_qr.specs.Places.{size, corner, alignment, version_area, reserved};
 ghost use Rattle.vp_qr.specs.Cost.{is_set};
-ghost use Rattle.vp_qr.specs.Symbol.{apart, ring, finder, finder_centre, finder_dark, alignment_centre, alignment_dark, format_bit, version_bit, formula, module_at};
+ghost use Rattle.vp_qr.specs.Symbol.{
+  apart,
+  ring,
+  finder,
+  finder_centre,
+  finder_dark,
+  alignment_centre,
+  alignment_dark,
+  format_bit,
+  version_bit,
+  formula,
+  module_at,
+  format_here,
+  pattern_dark,
+};
 ghost use Rattle.std.specs.Int.{bit_at};
-ghost use Rattle.vp_qr.specs.Walk.{dark};
+ghost use Rattle.vp_qr.specs.Walk.{dark, data_bit, number_of};
+ghost use Rattle.vp_qr.specs.Codes.{format_code, version_code};
+ghost use Rattle.vp_qr.specs.Grids.{IsGrid};
 
+use crate::code::{format_code, version_code};
+use crate::level::Level;
 use crate::mask::is_dark;
-use crate::walk::{is_alignment, is_corner, is_near, is_version};
+use crate::walk::{fill, free_rows, is_alignment, is_corner, is_near, is_version};
 
 /// The square ring round a centre on which a module lies.
 fn ring(row_centre: usize, column_centre: usize, row: usize, column: usize) -> usize
@@ -144,22 +162,15 @@ fn version_bit(size: usize, row: usize, column: usize) -> usize
     }
 }
 
-/// A module of the finished symbol, by the cases on its place.
-#[tactic(auto, unfolding(crate::specs::Symbol::module_at))]
-fn module_by_place(
-    version: usize,
-    format: u64,
-    code: u64,
-    mask: usize,
-    grid: &[u64; 57],
-    row: usize,
-    column: usize,
-) -> bool
+/// A module where neither data nor format stand, by the cases on its place.
+#[tactic(auto, unfolding(crate::specs::Symbol::pattern_dark, crate::specs::Symbol::module_at))]
+fn is_pattern_dark(version: usize, code: u64, row: usize, column: usize) -> bool
     requires low { 1 ≤ version }
     requires version { version ≤ 10 }
     requires row { row < size version }
     requires column { column < size version }
-    ensures { result ≡ module_at version format code mask (dark grid.now) row column }
+    requires reserved { reserved version row column ≡ true }
+    ensures { result ≡ pattern_dark version code row column }
 {
     let size = 17 + 4 * version;
     if is_finder(size, row, column) {
@@ -177,13 +188,26 @@ fn module_by_place(
     if is_version(version, row, column) {
         return bit(code, version_bit(size, row, column));
     }
-    if row == size - 8 && column == 8 {
-        return true;
-    }
-    if is_corner(size, row, column) {
-        return bit(format, format_bit(size, row, column));
-    }
-    is_dark_at(grid, row, column) != (formula(mask, row, column) == 0)
+    row == size - 8 && column == 8
+}
+
+/// A bit of the format stands on this module.
+#[tactic(auto, unfolding(crate::specs::Symbol::format_here))]
+fn is_format(version: usize, row: usize, column: usize) -> bool
+    requires low { 1 ≤ version }
+    requires version { version ≤ 10 }
+    requires row { row < size version }
+    requires column { column < size version }
+    ensures { result ≡ format_here version row column }
+{
+    let size = 17 + 4 * version;
+    is_corner(size, row, column)
+        && !(is_finder(size, row, column)
+            || row == 6
+            || column == 6
+            || is_alignment(version, row, column)
+            || is_version(version, row, column)
+            || row == size - 8 && column == 8)
 }
 
 /// Bit `at` of a code, 0 behind its highest.
@@ -219,45 +243,20 @@ fn flips(mask: usize, row: usize) -> u64
     six * 0x0041_0410_4104_1041
 }
 
-/// A dark module that isn't free.
-fn is_dark_reserved(
-    version: usize,
-    format: u64,
-    code: u64,
-    mask: usize,
-    grid: &[u64; 57],
-    free: &[u64; 57],
-    row: usize,
-    column: usize,
-) -> bool
+/// The dark modules of a row where neither data nor format stand, from those that hold data.
+fn pattern_line(version: usize, code: u64, free: u64, row: usize) -> u64
     requires low { 1 ≤ version }
     requires version { version ≤ 10 }
     requires row { row < size version }
-    requires column { column < size version }
-    ensures { result ≡ (not (dark free.now row column) && module_at version format code mask (dark grid.now) row column) }
-{
-    !is_dark_at(free, row, column)
-        && module_by_place(version, format, code, mask, grid, row, column)
-}
-
-/// The modules of a row of the finished symbol that aren't free.
-fn reserved_line(
-    version: usize,
-    format: u64,
-    code: u64,
-    mask: usize,
-    grid: &[u64; 57],
-    free: &[u64; 57],
-    row: usize,
-) -> u64
-    requires low { 1 ≤ version }
-    requires version { version ≤ 10 }
-    requires row { row < size version }
-    ensures { (j : ℕ) → j < size version → is_set result j ≡ (not (dark free.now row j) && module_at version format code mask (dark grid.now) row j) }
+    requires free { (j : ℕ) → j < size version → is_set free j ≡ not (reserved version row j) }
+    ensures { (j : ℕ) → j < size version → is_set result j ≡ pattern_dark version code row j }
 {
     let mut line = 0;
     for column in 0..17 + 4 * version {
-        if !is_dark_reserved(version, format, code, mask, grid, free, row, column) {
+        if is_dark(free, column) {
+            continue;
+        }
+        if !is_pattern_dark(version, code, row, column) {
             continue;
         }
         line |= 1 << column;
@@ -265,43 +264,144 @@ fn reserved_line(
     line
 }
 
-/// A row of the finished symbol: the free modules, which are most, under the mask, and the others.
-fn line(
-    version: usize,
-    format: u64,
-    code: u64,
-    mask: usize,
-    grid: &[u64; 57],
-    free: &[u64; 57],
-    row: usize,
-) -> u64
+/// The same of all rows.
+fn pattern_rows(version: usize, free: &[u64; 57]) -> [u64; 57]
+    requires low { 1 ≤ version }
+    requires version { version ≤ 10 }
+    requires free { (i j : ℕ) → i < size version → j < size version
+        → dark free.now i j ≡ not (reserved version i j) }
+    ensures { (i j : ℕ) → i < size version → j < size version
+        → dark result i j ≡ pattern_dark version (version_code version) i j }
+{
+    let code = version_code(version);
+    let mut rows = [0; 57];
+    for row in 0..17 + 4 * version {
+        rows[row] = pattern_line(version, code, free[row], row);
+    }
+    rows
+}
+
+/// The modules of a row on which a bit of the format stands.
+fn format_line(version: usize, row: usize) -> u64
     requires low { 1 ≤ version }
     requires version { version ≤ 10 }
     requires row { row < size version }
-    requires free { (j : ℕ) → j < size version → dark free.now row j ≡ not (reserved version row j) }
-    ensures { (j : ℕ) → j < size version → is_set result j ≡ module_at version format code mask (dark grid.now) row j }
+    ensures { (j : ℕ) → j < size version → is_set result j ≡ format_here version row j }
 {
-    let data = (grid[row] ^ flips(mask, row)) & free[row];
-    data | reserved_line(version, format, code, mask, grid, free, row)
+    let mut line = 0;
+    for column in 0..17 + 4 * version {
+        if !is_format(version, row, column) {
+            continue;
+        }
+        line |= 1 << column;
+    }
+    line
 }
 
-/// The finished symbol, from its data modules and the free ones.
-pub fn matrix(
-    version: usize,
-    format: u64,
-    code: u64,
-    mask: usize,
-    grid: &[u64; 57],
-    free: &[u64; 57],
-) -> [u64; 57]
+/// The same of all rows.
+fn format_rows(version: usize) -> [u64; 57]
     requires low { 1 ≤ version }
     requires version { version ≤ 10 }
-    requires free { (i j : ℕ) → i < size version → j < size version → dark free.now i j ≡ not (reserved version i j) }
-    ensures { (i j : ℕ) → i < size version → j < size version → dark result i j ≡ module_at version format code mask (dark grid.now) i j }
+    ensures { (i j : ℕ) → i < size version → j < size version
+        → dark result i j ≡ format_here version i j }
 {
     let mut rows = [0; 57];
     for row in 0..17 + 4 * version {
-        rows[row] = line(version, format, code, mask, grid, free, row);
+        rows[row] = format_line(version, row);
     }
     rows
+}
+
+/// A symbol before its mask is chosen: its data modules and its patterns, which are made once.
+#[derive(Drop)]
+pub struct Grid {
+    pub version: usize,
+    /// The data modules without a mask.
+    pub unmasked: [u64; 57],
+    /// Which modules hold data.
+    pub free: [u64; 57],
+    /// The dark modules where neither data nor format stand.
+    pub patterns: [u64; 57],
+    /// Where the format stands.
+    pub format: [u64; 57],
+}
+
+impl Grid {
+    /// The modules of codewords.
+    pub fn of(version: usize, codewords: &[u8]) -> Grid
+        requires low { 1 ≤ version }
+        requires high { version ≤ 10 }
+        ensures version { result.version ≡ version }
+        ensures grid { IsGrid result }
+        ensures unmasked { (i j : ℕ) → i < size result.version → j < size result.version
+            → dark result.unmasked i j ≡ (not (reserved result.version i j)
+            && data_bit codewords.now (number_of result.version i j)) }
+    {
+        let free = free_rows(version);
+        let mut unmasked = [0; 57];
+        fill(&mut unmasked, version, codewords);
+        let patterns = pattern_rows(version, &free);
+        let format = format_rows(version);
+        Grid {
+            version,
+            unmasked,
+            free,
+            patterns,
+            format,
+        }
+    }
+
+    /// The dark modules of a row among those of the format.
+    fn format_bits(&self, format: u64, row: usize) -> u64
+        requires grid { IsGrid self.now }
+        requires row { row < size self.now.version }
+        ensures { (j : ℕ) → j < size self.now.version → is_set result j
+            ≡ (format_here self.now.version row j
+            && bit_at format (format_bit (size self.now.version) row j) == 1) }
+    {
+        let places = self.format[row];
+        if places == 0 {
+            return 0;
+        }
+        let size = 17 + 4 * self.version;
+        let mut line = 0;
+        for column in 0..size {
+            if !is_dark(places, column) {
+                continue;
+            }
+            if !bit(format, format_bit(size, row, column)) {
+                continue;
+            }
+            line |= 1 << column;
+        }
+        line
+    }
+
+    /// A row of the finished symbol: the data under the mask, the patterns and the format.
+    fn line(&self, format: u64, mask: usize, row: usize) -> u64
+        requires grid { IsGrid self.now }
+        requires row { row < size self.now.version }
+        ensures { (j : ℕ) → j < size self.now.version → is_set result j
+            ≡ module_at self.now.version format (version_code self.now.version) mask
+            (dark self.now.unmasked) row j }
+    {
+        let flipped = (self.unmasked[row] ^ flips(mask, row)) & self.free[row];
+        flipped | self.patterns[row] | self.format_bits(format, row)
+    }
+
+    /// The finished symbol with a mask.
+    pub fn masked(&self, level: Level, mask: usize) -> [u64; 57]
+        requires grid { IsGrid self.now }
+        requires mask { mask < 8 }
+        ensures { (i j : ℕ) → i < size self.now.version → j < size self.now.version
+            → dark result i j ≡ module_at self.now.version (format_code level mask)
+            (version_code self.now.version) mask (dark self.now.unmasked) i j }
+    {
+        let format = format_code(level, mask);
+        let mut rows = [0; 57];
+        for row in 0..17 + 4 * self.version {
+            rows[row] = self.line(format, mask, row);
+        }
+        rows
+    }
 }

@@ -5,7 +5,7 @@ ghost use Rattle.std.specs.Prelude.{◌<◌};
 
 use crate::code::{format_code, version_code};
 use crate::mask::cost;
-use crate::{Level, Mode, Qr, QrInk, encode, rs};
+use crate::{Level, Mode, Qr, QrInk, drawn, encode, rs};
 use arrayvec::ArrayVec;
 use std::process::Abort;
 use vp_dots::{Fault, Ink, Op, Why, paint_dot};
@@ -233,6 +233,19 @@ fn whole_symbols(rt: HostRuntime) {
             (qr.version(), qr.mask(), checksum(&qr)),
             (*version, *mask, *rows)
         );
+    }
+}
+
+#[test]
+fn drawn_again(rt: HostRuntime) {
+    for (mode, n, level, _, _, rows) in SYMBOLS.iter() {
+        let src = sample(*mode, *n);
+        let Ok(qr) = encode(src.as_slice(), *level, *mode) else {
+            assert!(rt; false, "no symbol");
+            return;
+        };
+        let again = drawn(src.as_slice(), *level, *mode, qr.version(), qr.mask());
+        assert_eq!(rt; checksum(&again), *rows);
     }
 }
 

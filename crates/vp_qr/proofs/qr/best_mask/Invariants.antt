@@ -9,4 +9,4 @@ use Rattle.vp_qr.proofs.qr.best_mask.Given as goal
 abbrev pub invariant-loop-mask : goal.invariant-loop-mask
 invariant-loop-mask l =
     (length l.costs ≡ 8)
-    × ((k : ℕ) → k < l.mask → get_or l.costs k 0 ≡ cost (module_at l.version (format_code l.level k) (version_code l.version) k (dark l.data)) (size l.version))
+    × ((k : ℕ) → k < l.mask → get_or l.costs k 0 ≡ cost (module_at l.grid.version (format_code l.level k) (version_code l.grid.version) k (dark l.grid.unmasked)) (size l.grid.version))

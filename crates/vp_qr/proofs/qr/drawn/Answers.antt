@@ -1,0 +1,34 @@
+use Rattle.std.proofs.Common.{◌≡◌, ◌≤◌, Some, refl, sym, ap, ◌∙◌, subst}
+use Rattle.vp_qr.specs.Segments.{kind_of, message}
+use Rattle.vp_qr.specs.Strings.{padded}
+use Rattle.vp_qr.specs.Versions.{smallest, Holds}
+use Rattle.vp_qr.specs.Blocks.{capacity}
+use Rattle.vp_qr.proofs.Encodings.{accepted_version, version_holds, encodes}
+use Rattle.vp_qr.proofs.qr.drawn.Goals as goal
+
+pub codewords_in-codewords-requires : goal.codewords_in-codewords-requires
+codewords_in-codewords-requires c =
+    subst (λ k. Holds c.args.level k c.args.src.now c.args.version) (sym c.kind-kind.ensures)
+    (subst (λ n. Holds c.args.level (kind_of c.args.mode c.args.src.now) c.args.src.now n) (sym c.requires.version)
+    (version_holds c.args.level c.args.mode c.args.src.now c.requires.accepted))
+
+pub finished_with-requires-clause-low : goal.finished_with-requires-clause-low
+finished_with-requires-clause-low c =
+    subst (λ n. 1 ≤ n) (sym c.requires.version) (version_holds c.args.level c.args.mode c.args.src.now c.requires.accepted).low
+
+pub finished_with-requires-clause-high : goal.finished_with-requires-clause-high
+finished_with-requires-clause-high c =
+    subst (λ n. n ≤ 10) (sym c.requires.version) (version_holds c.args.level c.args.mode c.args.src.now c.requires.accepted).high
+
+pub returns : goal.returns
+returns c =
+    let found : Some c.args.version ≡ smallest c.args.level c.kind-kind.result c.args.src.now =
+    ap (λ n. Some n) c.requires.version
+    ∙ accepted_version c.args.level c.args.mode c.args.src.now c.requires.accepted
+    ∙ ap (λ k. smallest c.args.level k c.args.src.now) (sym c.kind-kind.ensures) in
+    encodes c.args.level c.args.mode c.args.src.now c.kind-kind.result c.args.version
+    (padded (capacity c.args.level c.args.version) (message c.kind-kind.result c.args.version c.args.src.now))
+    c.codewords_in-codewords.result.items
+    c.kind-kind.ensures found refl c.codewords_in-codewords.ensures.codewords
+    c.args.mask c.requires.mask
+    c.finished_with.result c.finished_with.ensures.version c.finished_with.ensures.codewords c.finished_with.ensures.mask c.finished_with.ensures.modules
