@@ -16,7 +16,7 @@ pub weighted_more : (ds : List ℕ) (i sum weight : ℕ) → i < length ds → w
     → weighted 1 ds ≡ (sum + weight * get_or ds i 0) + weighted (4 - weight) (drop (i + 1) ds)
 weighted_more ds i sum weight h e = e ∙ ap (λ xs. sum + weighted weight xs) (drop_more ds i 0 h) ∙ omega arith
 
-digit_range : (c : ℕ) → is_ascii_digit c ≡ true → (48 ≤ c) × (c ≤ 57)
+pub digit_range : (c : ℕ) → is_ascii_digit c ≡ true → (48 ≤ c) × (c ≤ 57)
 digit_range c e = (grind (arith, nat_tests), grind (arith, nat_tests))
 
 pub digit_at : (src : List ℕ) (i : ℕ) → i < length src → list_all is_ascii_digit src ≡ true → (48 ≤ get_or src i 0) × (get_or src i 0 ≤ 57)

@@ -4,6 +4,7 @@ pub mod Digits
 pub mod Tokens
 pub mod Pairs
 pub mod Packed
+pub mod PackedTexts
 pub mod Tables
 pub mod Paints
 pub mod Spaces

@@ -8,7 +8,7 @@
 //! - `code_128`: code sets, tokens of data, and the symbol of values. `escapes` reads the data of a receipt, `invocations` and
 //!   `packing` those of a label.
 //! - `text`: what the values of a symbol show.
-//! - `patterns`: the tables of bars and spaces. `laws` says what holds of them as a whole.
+//! - `patterns`: the tables of bars and spaces. `laws` says what holds of them as a whole, and of texts.
 //! - `pen`, `strokes`: the bars of a row, drawn from the left in one pass.
 //! - `bar_box`: bars and text together. `wide`: how wide a wide element is.
 #![tactic(auto)]
@@ -35,6 +35,6 @@ pub use bars::{Bars, Symbology};
 pub use code_39::code39;
 pub use ean_13::ean13;
 pub use escapes::code128_esc;
-pub use laws::{code39_patterns_law, code128_patterns_law, ean13_patterns_law};
+pub use laws::{code39_patterns_law, code128_patterns_law, ean13_patterns_law, packed_text_law};
 pub use packing::code128_zpl;
 pub use wide::{wide_by_ratio, wide_on_receipt};
