@@ -47,12 +47,13 @@ land_bytes r command kind left rest item final b enough counted l g behind = ⊎
     })))
     (cases_lt left 1)
 
-one_item : (kind : Data) (c : ℕ) → data_items kind (c ∷ []) ≡ option_to_list (data_item kind c)
+-- the items of one byte, and of one more
+pub one_item : (kind : Data) (c : ℕ) → data_items kind (c ∷ []) ≡ option_to_list (data_item kind c)
 one_item kinds.Skipped c = refl
 one_item kinds.Raster c = refl
 one_item kinds.Columns c = refl
 
-next_item : (kind : Data) (c : ℕ) (more : List ℕ) → data_items kind (c ∷ more) ≡ data_items kind (c ∷ []) ++ data_items kind more
+pub next_item : (kind : Data) (c : ℕ) (more : List ℕ) → data_items kind (c ∷ more) ≡ data_items kind (c ∷ []) ++ data_items kind more
 next_item kinds.Skipped c more = refl
 next_item kinds.Raster c more = refl
 next_item kinds.Columns c more = refl

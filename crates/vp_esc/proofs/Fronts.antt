@@ -101,6 +101,11 @@ pub alone : (b : ℕ) (new : EscReader) → lead_of b ≡ None → new.phase ≡
 unfolding is_open given fault_in
 alone b new e p = record { gives = (rw e refl, rw e refl); stands = rw e (rw p refl) }
 
+-- the same for a reader between units
+pub alone_between : (b : ℕ) (item : EscItem) (r : EscReader) (rest : List ℕ) → lead_of b ≡ None → item ≡ single_item b
+    → r.phase ≡ Ground → StandsIn r rest → Advances (Ok (Some item)) rest b r
+alone_between b item r rest e i p stands = let empty : rest ≡ [] = rw p at stands in rw (empty, i) (alone b r e p)
+
 -- the command with these arguments needs more
 pub lands_open : {lead : Lead} {name : ℕ} {command : Command} {args front : List ℕ} (item : Option EscItem) (new : EscReader)
     → Begun lead name command args front → needs_more command args ≡ true

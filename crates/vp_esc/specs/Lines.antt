@@ -1,7 +1,7 @@
 -- The listing: a line for each item.
-use Rattle.std.specs.Prelude.{ℕ, ◌+◌, ◌/◌, ◌%◌, List, [], ◌∷◌, ◌++◌, length, flat_map, codes, option_to_list, if◌then◌else◌}
+use Rattle.std.specs.Prelude.{ℕ, ◌+◌, ◌/◌, ◌%◌, List, [], ◌∷◌, ◌++◌, length, codes, option_to_list, if◌then◌else◌}
 use Rattle.std.specs.Int.{w16, cast_unsigned}
-use Rattle.hex.specs.Hex.{encode_lower}
+use Rattle.vp_dots.specs.Listing.{listed}
 use Rattle.vp_esc.specs.declared.item.EscItem.{EscItem}
 use Rattle.vp_esc.specs.declared.item.EscItem.TheVariants as items
 use Rattle.vp_esc.specs.declared.item.Lead.{Lead}
@@ -13,14 +13,6 @@ use Rattle.vp_esc.specs.declared.item.QrModel.TheVariants as models
 use Rattle.vp_esc.specs.declared.item.QrLevel.{QrLevel}
 use Rattle.vp_esc.specs.declared.item.QrLevel.TheVariants as levels
 use Rattle.vp_esc.specs.Values.{is_kind_to_zero}
-
--- a blank and two hex digits for each byte
-abbrev pub hex_bytes : List ℕ → List ℕ
-hex_bytes bytes = flat_map (λ b. 0x20 ∷ encode_lower (b ∷ [])) bytes
-
--- a word, the bytes, and LF
-unfoldable pub listed : List ℕ → List ℕ → List ℕ
-listed word bytes = word ++ hex_bytes bytes ++ 0x0A ∷ []
 
 abbrev pub lead_word : Lead → List ℕ
 lead_word Esc = codes "esc"

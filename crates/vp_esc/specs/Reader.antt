@@ -51,6 +51,11 @@ abbrev pub bytes_within : Phase → ℕ
 bytes_within (Bytes kinds.Raster left) = left - 1
 bytes_within _ = 0
 
+-- how many bytes of data that give nothing come before the last one
+abbrev pub skipped_within : Phase → ℕ
+skipped_within (Bytes kinds.Skipped left) = left - 1
+skipped_within _ = 0
+
 -- what the bytes of data give, one by one
 abbrev pub data_items : Data → List ℕ → List EscItem
 data_items kinds.Skipped bytes = []

@@ -1,10 +1,12 @@
 //! The listing: a line for each item.
 ghost use Rattle.std.specs.Prelude.{◌≡◌, ◌≤◌, ◌<◌, ◌+◌, ◌*◌, ◌/◌, ◌%◌, ◌++◌, ◌∷◌, [], length, codes, option_to_list};
-ghost use Rattle.vp_esc.specs.Lines.{line_of, listed as listed_as, hex_bytes, lead_word, two_bytes, column_byte as column_byte_as, model_byte as model_byte_as, level_byte as level_byte_as, symbol_bytes};
+ghost use Rattle.vp_dots.specs.Listing.{listed as listed_as};
+ghost use Rattle.vp_esc.specs.Lines.{line_of, lead_word, two_bytes, column_byte as column_byte_as, model_byte as model_byte_as, level_byte as level_byte_as, symbol_bytes};
 
 use crate::item::{ColumnMode, EscItem, Lead, QrLevel, QrModel};
 use crate::value::is_kind_to_zero;
 use arrayvec::ArrayVec;
+use vp_dots::spell;
 
 impl EscItem {
     /// The item's line of the listing, up to and with its LF: a word, and the bytes of the command in hex.
@@ -228,7 +230,7 @@ fn listed(word: &[u8], bytes: &[u8]) -> ArrayVec<u8, 800>
 }
 
 /// A line of a word and bytes, which stand in three parts.
-#[tactic(auto, unfolding(crate::specs::Lines::listed))]
+#[tactic(auto, unfolding(vp_dots::specs::Listing::listed))]
 fn joined(word: &[u8], front: &[u8], middle: &[u8], back: &[u8]) -> ArrayVec<u8, 800>
     requires { length word.now + 3 * (length front.now + length middle.now + length back.now) < 800 }
     ensures { result.items ≡ listed_as word.now (front.now ++ middle.now ++ back.now) }
@@ -240,19 +242,4 @@ fn joined(word: &[u8], front: &[u8], middle: &[u8], back: &[u8]) -> ArrayVec<u8,
     spell(&mut line, back);
     line.push(b'\n');
     line
-}
-
-/// Appends a blank and two hex digits for each byte.
-fn spell(line: &mut ArrayVec<u8, 800>, bytes: &[u8])
-    requires { length line.old.items + 3 * length bytes.now ≤ 800 }
-    ensures value { line.new.items ≡ line.old.items ++ hex_bytes bytes.now }
-    ensures len { length line.new.items ≡ length line.old.items + 3 * length bytes.now }
-{
-    for byte in bytes {
-        let mut digits = [0; 2];
-        let _written = hex::encode_to_slice(&[*byte], &mut digits);
-        line.push(b' ');
-        line.push(digits[0]);
-        line.push(digits[1]);
-    }
 }

@@ -1,7 +1,7 @@
 //! The reader: one byte at a time.
 ghost use Rattle.std.specs.Prelude.{◌≡◌, ◌↔◌, ◌∷◌, ◌++◌, [], ℕ, List, IsTrue, false, Some, None, Err, length, take, min, ◌≤◌, ◌<◌, ◌+◌, ◌*◌};
 ghost use Rattle.vp_esc.specs.Split.{split, items, fault_of};
-ghost use Rattle.vp_esc.specs.Reader.{Stands, Gives, Advances, InArguments, InStops, InBytes, InTallColumns, InSymbolToZero, InSymbolData, InQr, Begun, Lands, StandsIn, data_item, bytes_or_ground, tall_or_ground, columns_or_ground, qr_or_ground, raster_data, raster_items, bytes_within};
+ghost use Rattle.vp_esc.specs.Reader.{Stands, Gives, Advances, InArguments, InStops, InBytes, InTallColumns, InSymbolToZero, InSymbolData, InQr, Begun, Lands, StandsIn, data_item, bytes_or_ground, tall_or_ground, columns_or_ground, qr_or_ground, raster_data, raster_items, bytes_within, skipped_within};
 ghost use Rattle.vp_dots.specs.declared.fault.Fault.{Fault};
 ghost use Rattle.vp_esc.specs.Command.{lead_byte, head_len};
 ghost use Rattle.vp_esc.specs.Values.{is_kind_to_zero as is_to_zero};
@@ -367,6 +367,11 @@ impl EscReader {
             self.phase = bytes_phase(Data::Raster, left.saturating_sub(1));
             return Ok(Some(EscItem::RasterByte(byte)));
         }
+        if let Phase::Ground = self.phase {
+            if Lead::of(byte).is_none() {
+                return Ok(Some(single(byte)));
+            }
+        }
         self.step(byte)
     }
 
@@ -391,6 +396,32 @@ impl EscReader {
             left: left - n as u32,
         };
         n
+    }
+
+    /// Takes bytes of data that give nothing, all but the last, and tells how many; none anywhere else.
+    pub fn take_skipped(&mut self, input: &[u8]) -> usize
+        ensures count { result ≡ min (length input.now) (skipped_within self.old.phase) }
+        ensures gives { (bytes : List ℕ) (n : ℕ) → Stands self.old bytes → n ≤ result →
+            items (bytes ++ take n input.now) ≡ items bytes }
+        ensures known { (bytes : List ℕ) (n : ℕ) → Stands self.old bytes → 0 < n → n ≤ result →
+            fault_of (bytes ++ take n input.now) ≡ None }
+        ensures stands { (bytes : List ℕ) → Stands self.old bytes →
+            Stands self.new (bytes ++ take result input.now) }
+    {
+        match self.phase {
+            Phase::Bytes {
+                kind: Data::Skipped,
+                left,
+            } => {
+                let skipped = input.len().min(left.saturating_sub(1) as usize);
+                self.phase = Phase::Bytes {
+                    kind: Data::Skipped,
+                    left: left - skipped as u32,
+                };
+                skipped
+            }
+            _ => 0,
+        }
     }
 
     /// Whether the bytes so far end with a whole unit.
@@ -496,6 +527,7 @@ fn first_stops(kept: &[u8]) -> ArrayVec<u8, 32>
 }
 
 /// The item of a byte that is a command alone.
+#[inline(always)]
 fn single(byte: u8) -> EscItem
     ensures { result ≡ single_item byte }
 {

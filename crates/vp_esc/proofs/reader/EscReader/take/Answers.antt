@@ -1,9 +1,11 @@
-use Rattle.std.proofs.Common.{◌≡◌, ◌∙◌, ap}
+use Rattle.std.proofs.Common.{◌≡◌, ◌∙◌, ap, None, rules}
 use Rattle.vp_esc.specs.declared.reader.Data.TheVariants as kinds
 use Rattle.vp_esc.specs.declared.reader.Phase.TheVariants as phases
+use Rattle.vp_esc.specs.Command.{lead_of}
 use Rattle.vp_esc.specs.Split.{split}
 use Rattle.vp_esc.specs.Reader.{Stands}
 use Rattle.vp_esc.proofs.Bytes.{raster_step}
+use Rattle.vp_esc.proofs.Fronts.{alone_between}
 use Rattle.vp_esc.proofs.Splits.{gives-from_advances, stands-from_advances, sticks-from_advances}
 use Rattle.vp_esc.proofs.reader.EscReader.take.Goals as goal
 
@@ -40,3 +42,21 @@ returns-clause-stands c bytes stands = stands-from_advances _ bytes _ _ (c.step.
 pub returns-clause-sticks : goal.returns-clause-sticks
 unfolding Stands
 returns-clause-sticks c bytes fault stands e = sticks-from_advances _ bytes _ _ fault (c.step.ensures _ stands) e
+
+pub returns-then-is_none-clause-gives : goal.returns-then-is_none-clause-gives
+unfolding Stands
+returns-then-is_none-clause-gives c bytes stands =
+    let none : lead_of c.args.byte ≡ None = search rules in
+    gives-from_advances _ bytes _ _ (alone_between c.args.byte c.single.result c.args.self.now (split bytes).rest none c.single.ensures c.in-Ground.is stands)
+
+pub returns-then-is_none-clause-stands : goal.returns-then-is_none-clause-stands
+unfolding Stands
+returns-then-is_none-clause-stands c bytes stands =
+    let none : lead_of c.args.byte ≡ None = search rules in
+    stands-from_advances _ bytes _ _ (alone_between c.args.byte c.single.result c.args.self.now (split bytes).rest none c.single.ensures c.in-Ground.is stands)
+
+pub returns-then-is_none-clause-sticks : goal.returns-then-is_none-clause-sticks
+unfolding Stands
+returns-then-is_none-clause-sticks c bytes fault stands e =
+    let none : lead_of c.args.byte ≡ None = search rules in
+    sticks-from_advances _ bytes _ _ fault (alone_between c.args.byte c.single.result c.args.self.now (split bytes).rest none c.single.ensures c.in-Ground.is stands) e
