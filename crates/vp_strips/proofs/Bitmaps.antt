@@ -1,14 +1,21 @@
 -- A line as the lowest rows of a bitmap.
-use Rattle.std.proofs.Common.{◌≡◌, ℕ, ◌-◌, ◌/◌, ◌%◌, ◌<◌, false, eqb, ap, ◌∙◌, arith, List, [], length, get_or, replicate}
+use Rattle.std.proofs.Common.{◌≡◌, ℕ, ◌-◌, ◌/◌, ◌%◌, ◌<◌, Bool, true, false, refl, eqb, ap, ◌∙◌, arith, List, [], length, get_or, replicate, if◌then◌else◌, lit≤}
+use Rattle.std.proofs.lemmas.Bool.Decides.{nat_tests}
 use Rattle.std.proofs.lemmas.List.{get_or-replicate, length-replicate}
 use Rattle.std.proofs.lemmas.Nat.Bits.{bit_at-zero}
-use Rattle.vp_dots.specs.Dots.{dot, bit}
-use Rattle.vp_strips.specs.LineDots.{HasDots}
+use Rattle.vp_dots.specs.Dots.{dot, bit, span}
+use Rattle.vp_strips.specs.LineDots.{HasDots, IsWhiteAbove}
 
 -- a white row
 pub dot_white : (n x : ℕ) → x / 8 < n → dot (replicate n 0) x ≡ false
 unfolding dot bit
 dot_white n x h = rw (get_or-replicate {A = ℕ} n (x / 8) 0 0 h) (ap (λ k. eqb k 1) (bit_at-zero (7 - x % 8)))
+
+-- white rows, and past them none
+pub white_rows_dot : (high wide y x : ℕ) → y < high → x / 8 < wide
+    → dot (get_or (replicate high (replicate wide 0)) y []) x ≡ false
+white_rows_dot high wide y x h k =
+    ap (λ row. dot row x) (get_or-replicate high y (replicate wide 0) [] h) ∙ dot_white wide x k
 
 white_rows : (high wide : ℕ) (bitmap : List (List ℕ)) → bitmap ≡ replicate high (replicate wide 0) → (y : ℕ) → y < high → get_or bitmap y [] ≡ replicate wide 0
 white_rows high wide bitmap e y h = ap (λ (rows : List (List ℕ)). get_or rows y []) e ∙ get_or-replicate high y (replicate wide 0) [] h
@@ -18,3 +25,33 @@ blank high wide bitmap a b e = record {
   rows_are = λ y h. ap length (white_rows high wide bitmap e y (omega arith)) ∙ length-replicate {A = ℕ} wide 0 ∙ b;
   dots_are = λ x y k h. ap (λ row. dot row x) (white_rows high wide bitmap e y (omega arith)) ∙ dot_white wide x (omega arith);
 }
+
+-- a white bitmap has no row in use
+pub none_used : (bitmap : List (List ℕ)) → HasDots [] bitmap → IsWhiteAbove 0 bitmap
+none_used bitmap h = record {
+  few = lit≤ tt;
+  rows_are = h.rows_are;
+  white = λ x y k l. h.dots_are x y k (omega arith);
+}
+
+-- a row of a bitmap whose lowest rows are made white
+cleared_row : (old new : List ℕ) (low : Bool) → new ≡ (if low then replicate 208 0 else old) → length old ≡ 208
+    → (low ≡ false → (x : ℕ) → x < 1664 → dot old x ≡ false)
+    → (length new ≡ 208) × ((x : ℕ) → x < 1664 → dot new x ≡ false)
+cleared_row old new true e long white =
+    (ap length e ∙ length-replicate {A = ℕ} 208 0, λ x h. ap (λ r. dot r x) e ∙ dot_white 208 x (omega arith))
+cleared_row old new false e long white = (ap length e ∙ long, λ x h. ap (λ r. dot r x) e ∙ white refl x h)
+
+above : (from y : ℕ) → y < 192 → span from 192 y ≡ false → y < from
+above from y h e = grind (arith, nat_tests)
+
+pub cleared : (used from : ℕ) (old new : List (List ℕ)) → from ≡ 192 - used → IsWhiteAbove used old
+    → ((y : ℕ) → get_or new y [] ≡ (if span from 192 y then replicate 208 0 else get_or old y []))
+    → HasDots [] new
+cleared used from old new e is rows =
+    let row = λ (y : ℕ) (h : y < 192). cleared_row (get_or old y []) (get_or new y []) (span from 192 y) (rows y) (is.rows_are y h)
+    (λ out x k. is.white x y k (let l : y < from = above from y h out in omega arith)) in
+    record {
+      rows_are = λ y h. (row y h).0;
+      dots_are = λ x y k h. (row y h).1 x k;
+    }

@@ -1,5 +1,6 @@
 -- What a job keeps.
-use Rattle.std.specs.Prelude.{◌≡◌, ◌≤◌, ◌<◌, ℕ, List, [], ◌++◌, length, take, Option, Some, None}
+use Rattle.std.specs.Prelude.{◌≡◌, ◌≤◌, ◌<◌, ◌-◌, ℕ, List, [], ◌++◌, length, take, Option, Some, None}
+use Rattle.vp_strips.specs.declared.paint.TheConstants.{LINE_ROWS}
 use Rattle.vp_strips.specs.declared.canvas.Canvas.{Canvas}
 use Rattle.vp_strips.specs.declared.job.Job.{Job}
 use Rattle.vp_strips.specs.declared.lines.Lines.{Lines}
@@ -50,7 +51,7 @@ text_of j canvas = part_of j canvas ++ after_text j.after canvas
 
 -- a strip's rows are in the bitmap
 abbrev pub IsLowDots : Dots → Type 0
-IsLowDots (Line height left length) = height ≤ 192
+IsLowDots (Line height left length) = height ≤ LINE_ROWS
 IsLowDots White = Unit {0}
 IsLowDots (Across cut) = Unit {0}
 IsLowDots Raster = Unit {0}
@@ -87,17 +88,22 @@ IsTurned Nothing after = after ≡ End
 IsTurned (Head byte) after = Unit {0}
 IsTurned (Row y byte) after = Unit {0}
 
+-- the bytes of row y are there
+abbrev pub HasRow : Strip → Canvas → Lines → ℕ → Type 0
+HasRow s canvas lines y = take (row_bytes s.paper) lines.row ≡ row_text s canvas y
+
 -- the bytes of the place's line are there
 abbrev pub HasLine : Strip → Canvas → Lines → Place → Type 0
 HasLine s canvas lines Nothing = Unit {0}
 HasLine s canvas lines (Head byte) = lines.head.items ≡ head_text s
-HasLine s canvas lines (Row y byte) = take (row_bytes s.paper) lines.row ≡ row_text s canvas y
+HasLine s canvas lines (Row y byte) = HasRow s canvas lines y
 
--- they are there once the first of them is put out
+-- they are there once the first of them is put out, and before that those of the row above
 abbrev pub IsBegun : Strip → Canvas → Lines → Place → Type 0
 IsBegun s canvas lines Nothing = Unit {0}
 IsBegun s canvas lines (Head byte) = 0 < byte → lines.head.items ≡ head_text s
-IsBegun s canvas lines (Row y byte) = 0 < byte → take (row_bytes s.paper) lines.row ≡ row_text s canvas y
+IsBegun s canvas lines (Row y byte) =
+    (0 < byte → HasRow s canvas lines y) × (byte ≡ 0 → 0 < y → HasRow s canvas lines (y - 1))
 
 -- a byte is left in the place's line
 abbrev pub SomeLeft : Strip → Place → Type 0

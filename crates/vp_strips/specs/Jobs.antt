@@ -1,5 +1,6 @@
 -- What is left to put out from a place in a strip.
 use Rattle.std.specs.Prelude.{◌<◌, ℕ, ◌+◌, ◌-◌, nat_lt, Bool, ◌&&◌, false, List, [], ◌++◌, drop, slice_index_or}
+use Rattle.vp_strips.specs.declared.paint.TheConstants.{LINE_ROWS}
 use Rattle.vp_dots.specs.Dots.{dot}
 use Rattle.vp_dots.specs.Headers.{header_of}
 use Rattle.vp_strips.specs.declared.canvas.Canvas.{Canvas}
@@ -15,7 +16,7 @@ use Rattle.vp_strips.specs.Rows.{paper_row, rows_text, clipped, cut_dot}
 -- dot (x, y) of the lowest rows of a bitmap, moved to the right and clipped
 abbrev pub line_dot_of : ℕ → ℕ → ℕ → List (List ℕ) → ℕ → ℕ → Bool
 line_dot_of height left length bitmap x y =
-    nat_lt y height && clipped left length (dot (slice_index_or bitmap (192 - height + y) [])) x
+    nat_lt y height && clipped left length (dot (slice_index_or bitmap (LINE_ROWS - height + y) [])) x
 
 -- dot (x, y) of a page
 abbrev pub page_dot_of : List (List ℕ) → ℕ → ℕ → Bool

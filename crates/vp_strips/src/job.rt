@@ -51,7 +51,11 @@ impl Job {
         ensures text { (canvas : Canvas) → text_of result canvas ≡ [] }
         ensures shows { (canvas : Canvas) (high others : ℕ) → IsShowing result canvas high others }
     {
-        Job::of(None, After::End)
+        Job {
+            strip: Strip::white(Width::W576, 0),
+            place: Place::Nothing,
+            after: After::End,
+        }
     }
 
     /// The strips, one after the other.
@@ -158,6 +162,8 @@ impl Job {
     }
 
     /// Puts out bytes of one line, and begins the next strip where one ends.
+    // Where nothing is pending, its room isn't paid for.
+    #[inline(never)]
     fn put_some(&mut self, canvas: &Canvas, lines: &mut Lines, out: &mut [u8]) -> usize
         requires job { IsJob self.old canvas.now lines.old }
         requires turned { IsTurned self.old.place self.old.after }

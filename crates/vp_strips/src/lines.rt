@@ -29,7 +29,8 @@ impl Lines {
         }
     }
 
-    /// Makes the bytes of the place's line where the first of them comes next.
+    /// Makes the bytes of the place's line where the first of them comes next, unless they are those of the row
+    /// above it.
     pub fn make(&mut self, strip: Strip, place: Place, canvas: &Canvas)
         requires low { IsLow strip }
         requires begun { IsBegun strip canvas.now self.old place }
@@ -37,7 +38,9 @@ impl Lines {
     {
         match place {
             Place::Head(0) => self.head = header(u32::from(strip.paper.across()), strip.tall),
-            Place::Row(y, 0) => strip.write_row(y, canvas, &mut self.row),
+            Place::Row(y, 0) if y == 0 || !strip.repeats(y, canvas) => {
+                strip.write_row(y, canvas, &mut self.row)
+            }
             _ => {}
         }
     }

@@ -33,7 +33,8 @@ impl Place {
             text s canvas result ≡ rows_after s canvas self }
         ensures place { IsPlace rows result }
         ensures left { (s : Strip) → SomeLeft s result }
-        ensures begun { (s : Strip) (canvas : Canvas) (lines : Lines) → IsBegun s canvas lines result }
+        ensures begun { (s : Strip) (canvas : Canvas) (lines : Lines) → HasLine s canvas lines self →
+            IsBegun s canvas lines result }
     {
         let y = match self {
             Place::Nothing => return Place::Nothing,
@@ -47,9 +48,10 @@ impl Place {
         }
     }
 
-    /// The place `n` bytes further on in a line of `len` bytes.
+    /// The place some `n` bytes further on in a line of `len` bytes.
     pub fn advanced(self, n: usize, len: usize, rows: u32) -> Place
         requires place { IsPlace rows self }
+        requires some { 0 < n }
         requires within { byte_at self + n ≤ len }
         ensures text { (s : Strip) (canvas : Canvas) → s.rows ≡ rows → len ≡ length (line_at s canvas self) →
             text s canvas result ≡ drop n (text s canvas self) }

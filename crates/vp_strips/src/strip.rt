@@ -15,7 +15,7 @@ ghost use Rattle.vp_strips.specs.Jobs.{row_text, line_dot_of, page_dot_of, dot_i
 ghost use Rattle.vp_strips.specs.Held.{IsLow, IsLowIf, IsLowDots, IsHigh, IsOwn, whole, whole_if};
 
 use crate::canvas::Canvas;
-use crate::paint::Bitmap;
+use crate::paint::{Bitmap, LINE_ROWS};
 use vp_dots::{Ink, Op, dots_decide, fill_dots, or_into};
 use vp_esc::item::Cut;
 use vp_page::Page;
@@ -61,11 +61,11 @@ pub fn write_clipped(source: &[u8], left: u16, length: u16, row: &mut [u8; 72])
 
 /// Writes a row of the lowest rows of a bitmap, or a white one past them.
 fn write_line_row(height: u16, left: u16, length: u16, y: u32, bitmap: &Bitmap, row: &mut [u8; 72])
-    requires { height ≤ 192 }
+    requires { height ≤ LINE_ROWS }
     ensures { row.new ≡ row_of 72 (λ x. line_dot_of height left length bitmap.now x y) }
 {
     if y < u32::from(height) {
-        let source = bitmap.row(192 - height as usize + y as usize);
+        let source = bitmap.row(LINE_ROWS - height as usize + y as usize);
         write_clipped(source, left, length, row);
         return;
     }
@@ -144,6 +144,18 @@ impl Dots {
             }
         }
         dots_decide(row);
+    }
+
+    /// Whether row y is known to have the dots of the row above it.
+    fn repeats(self, y: u32, canvas: &Canvas) -> bool
+        ensures { result ≡ true → (x : ℕ) → dot_in self canvas.now x y ≡ dot_in self canvas.now x (y - 1) }
+    {
+        match self {
+            Dots::Line { height, .. } => y > u32::from(height),
+            Dots::White | Dots::Across(_) | Dots::Raster => true,
+            Dots::Drawn { .. } => canvas.symbol.repeats(&canvas.sheets, y),
+            Dots::Page => false,
+        }
     }
 }
 
@@ -260,5 +272,12 @@ impl Strip {
         ensures { take (row_bytes self.paper) row.new ≡ row_text self canvas.now y }
     {
         self.dots.write_row(y, canvas, row);
+    }
+
+    /// Whether the bytes of row y are known to be those of the row above it.
+    pub fn repeats(self, y: u32, canvas: &Canvas) -> bool
+        ensures { result ≡ true → row_text self canvas.now y ≡ row_text self canvas.now (y - 1) }
+    {
+        self.dots.repeats(y, canvas)
     }
 }

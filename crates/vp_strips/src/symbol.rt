@@ -1,5 +1,5 @@
 //! A symbol that is put out, and its rows.
-ghost use Rattle.std.specs.Prelude.{◌≡◌, ◌≤◌, ◌<◌, ◌∷◌, List, ℕ, Bool, false, true, IfNone, IfSome, OnOk, IfOk, IfErr, None, Some};
+ghost use Rattle.std.specs.Prelude.{◌≡◌, ◌≤◌, ◌<◌, ◌-◌, ◌∷◌, List, ℕ, Bool, false, true, IfNone, IfSome, OnOk, IfOk, IfErr, None, Some};
 ghost use Rattle.vp_dots.specs.Images.{row_of};
 ghost use Rattle.vp_esc.specs.declared.item.EscItem.{EscItem};
 ghost use Rattle.vp_settings.specs.Setup.{Setup};
@@ -49,6 +49,18 @@ impl Symbol {
             }
             Symbol::Qr(ink) => write_ink(ink, y, left, length, row),
             Symbol::Bars(bars) => write_ink(&bars.boxed(sheets), y, left, length, row),
+        }
+    }
+
+    /// Whether row y is known to have the dots of the row above it.
+    pub fn repeats(&self, sheets: &Sheets, y: u32) -> bool
+        ensures { result ≡ true → (x : ℕ) →
+            symbol_dot sheets.now self.now x y ≡ symbol_dot sheets.now self.now x (y - 1) }
+    {
+        match self {
+            Symbol::Blank => true,
+            Symbol::Qr(ink) => ink.repeats(y),
+            Symbol::Bars(bars) => bars.boxed(sheets).repeats(y),
         }
     }
 

@@ -14,6 +14,19 @@ returns-clause-job c =
       line = c.advanced-self.ensures.begun s canvas c.make.new.self c.make.ensures;
     }
 
+pub advanced-self-requires-clause-some : goal.advanced-self-requires-clause-some
+advanced-self-requires-clause-some c =
+    let s = c.args.self.now.strip in
+    let canvas = c.args.canvas.now in
+    omega (
+      arith,
+      c.copy_from-n.ensures.count,
+      c.requires.room,
+      c.byte.ensures,
+      ap length (c.at-line.ensures s canvas refl c.make.ensures),
+      line_left s canvas c.args.self.now.place c.requires.job.left c.requires.pending,
+    )
+
 pub returns-clause-some : goal.returns-clause-some
 returns-clause-some c =
     let s = c.args.self.now.strip in

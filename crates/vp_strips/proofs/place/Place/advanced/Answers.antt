@@ -22,5 +22,8 @@ returns-in-Row-clause-left c = λ s canvas len.
 pub returns-else-byte-n-clause-left : goal.returns-else-byte-n-clause-left
 returns-else-byte-n-clause-left c = λ s canvas len. c.after_line.ensures.left s
 
+pub returns-in-Row-clause-begun : goal.returns-in-Row-clause-begun
+returns-in-Row-clause-begun c = λ s canvas lines h. (λ _. rw c.in-Row.is at h, λ e. absurd (omega (arith, c.requires.some)))
+
 pub returns-else-byte-n-clause-begun : goal.returns-else-byte-n-clause-begun
-returns-else-byte-n-clause-begun c = λ s canvas lines h. c.after_line.ensures.begun s canvas lines
+returns-else-byte-n-clause-begun c = λ s canvas lines h. c.after_line.ensures.begun s canvas lines h
