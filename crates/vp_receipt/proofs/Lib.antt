@@ -1,4 +1,5 @@
 pub mod PageLines
+pub mod EightRows
 pub mod PageSymbols
 pub mod RasterRows
 pub mod Showing
@@ -7,3 +8,9 @@ pub mod RowLaws
 pub mod Runs
 pub mod ItemKinds
 pub mod RowEnds
+pub mod Images
+pub mod Rasters
+pub mod UnitKinds
+pub mod Across
+pub mod Begun
+pub mod Orderly

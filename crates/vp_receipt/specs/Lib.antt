@@ -1,6 +1,7 @@
 -- The rules.
 pub mod PageMarks
 pub mod Strips
+pub mod Images
 -- What the code keeps.
 pub mod Standing
 pub mod Printer

@@ -3,6 +3,7 @@ ghost use Rattle.std.specs.Prelude.{◌≡◌, ◌≤◌, ◌<◌, ◌+◌, ◌-
 ghost use Rattle.vp_esc.specs.declared.item.EscItem.{EscItem};
 ghost use Rattle.vp_glyph.specs.declared.Sheets.{Sheets};
 ghost use Rattle.vp_strips.specs.declared.canvas.Canvas.{Canvas};
+ghost use Rattle.vp_strips.specs.declared.paint.TheConstants.{LINE_BYTES};
 ghost use Rattle.vp_strips.specs.declared.job.After.{After};
 ghost use Rattle.vp_strips.specs.declared.lines.Lines.{Lines};
 ghost use Rattle.vp_dots.specs.Dots.{dot};
@@ -27,11 +28,9 @@ ghost use Rattle.vp_strips.specs.Held.{text_of, after_text, IsJob, IsTurned, Are
 use vp_dots::Ink;
 use vp_esc::item::{Cut, EscItem};
 use vp_glyph::Sheets;
-use vp_page::Page;
+use vp_page::{Direction, Page};
 use vp_settings::{Mode, Raster, Settings, draws, scale_named, times_across, times_down};
-use vp_strips::{
-    After, Bitmap, Canvas, Job, Strip, Symbol, begin_line, doubled, put_ink, write_raster_row,
-};
+use vp_strips::{After, Bitmap, Canvas, Job, LINE_ROWS, Strip, Symbol, doubled, write_raster_row};
 
 /// Puts the character that waits into the line.
 pub fn settle(s: &Settings, waiting: Option<u8>, sheets: &Sheets, bitmap: &mut Bitmap)
@@ -40,22 +39,22 @@ pub fn settle(s: &Settings, waiting: Option<u8>, sheets: &Sheets, bitmap: &mut B
         Gathers sheets.now s.now bitmap.new None placed }
 {
     if let Some(code) = waiting {
-        begin_line(bitmap);
-        put_ink(&s.text.cell(sheets, code), 0, bitmap);
+        bitmap.begin_line();
+        bitmap.put_ink(&s.text.cell(sheets, code), 0);
     }
 }
 
 /// Puts ink into the line at its position.
 fn put_next<I: Ink>(s: &Settings, ink: &I, bitmap: &mut Bitmap)
-    requires { I.height ink.now ≤ 192 }
+    requires { I.height ink.now ≤ LINE_ROWS }
     ensures { (placed : List Placed) → s.now.is_open ≡ is_open placed → HasOpen placed bitmap.old →
         HasDots (ink_placed s.now.position (I.width ink.now) (I.height ink.now) (I.ink_at ink.now) ∷ placed)
         bitmap.new }
 {
     if !s.is_open {
-        begin_line(bitmap);
+        bitmap.begin_line();
     }
-    put_ink(ink, s.position, bitmap);
+    bitmap.put_ink(ink, s.position);
 }
 
 /// The line in a strip of so many rows.
@@ -187,16 +186,44 @@ fn begin_page(s: &Settings, item: &EscItem, page: &mut Page)
     }
 }
 
+/// Lays the line row by row, with its top at the vertical position.
+fn lay_rows(s: &Settings, bitmap: &Bitmap, page: &mut Page)
+    requires { IsFit s.now }
+    ensures { (dots : ℕ → ℕ → Bool) (layers : List Layer) → HasRows s.now bitmap.now dots →
+        HasPage layers page.old → HasPage (Laid (mark_of s.now.page dots) ∷ layers) page.new }
+{
+    let (area, direction) = (s.page.area, s.page.direction);
+    let top = s.page.vertical as u32;
+    let bytes = usize::from(s.page.line_length()).div_ceil(8);
+    for y in 0..s.height as u32 {
+        let source = bitmap.row(LINE_ROWS - s.height as usize + y as usize);
+        page.lay_row(area, direction, top + y, &source[..bytes]);
+    }
+}
+
+/// Lays the line eight rows at a time, with its top at the vertical position.
+fn lay_eights(s: &Settings, bitmap: &Bitmap, page: &mut Page)
+    requires { IsFit s.now }
+    ensures { (dots : ℕ → ℕ → Bool) (layers : List Layer) → HasRows s.now bitmap.now dots →
+        HasPage layers page.old → HasPage (Laid (mark_of s.now.page dots) ∷ layers) page.new }
+{
+    let top = s.page.vertical as u32;
+    let height = usize::from(s.height);
+    for k in 0..height.div_ceil(8) {
+        let rows = bitmap.eight_rows(LINE_ROWS - height + 8 * k);
+        page.lay_eight(s.page.area, s.page.direction, top + 8 * k as u32, &rows);
+    }
+}
+
 /// Lays the line with its top at the vertical position.
 fn lay_line(s: &Settings, bitmap: &Bitmap, page: &mut Page)
     requires { IsFit s.now }
     ensures { (dots : ℕ → ℕ → Bool) (layers : List Layer) → HasRows s.now bitmap.now dots →
         HasPage layers page.old → HasPage (Laid (mark_of s.now.page dots) ∷ layers) page.new }
 {
-    let top = s.page.vertical as u32;
-    for y in 0..s.height as u32 {
-        let source = bitmap.row(192 - s.height as usize + y as usize);
-        page.lay_row(s.page.area, s.page.direction, top + y, source);
+    match s.page.direction {
+        Direction::LeftToRight | Direction::RightToLeft => lay_rows(s, bitmap, page),
+        Direction::BottomToTop | Direction::TopToBottom => lay_eights(s, bitmap, page),
     }
 }
 
@@ -430,9 +457,9 @@ fn row_job(s: &Settings, raster: &Raster, row: &mut [u8; 72]) -> Job
 /// Lays a row so often, one below the other, from the vertical position on.
 fn lay_times(s: &Settings, row: &[u8], times: u32, page: &mut Page)
     requires fit { IsFit s.now }
-    requires long { length row.now ≤ 208 }
+    requires long { length row.now ≤ LINE_BYTES }
     requires few { times ≤ 2 }
-    ensures { (dots : ℕ → ℕ → Bool) (layers : List Layer) → ((u w : ℕ) → u < 1664 → w < times →
+    ensures { (dots : ℕ → ℕ → Bool) (layers : List Layer) → ((u w : ℕ) → u < 8 * LINE_BYTES → w < times →
         dot row.now u ≡ dots u w) → ((u w : ℕ) → dots u w ≡ true → w < times) →
         HasPage layers page.old → HasPage (Laid (mark_of s.now.page dots) ∷ layers) page.new }
 {

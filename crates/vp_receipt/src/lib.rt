@@ -1,7 +1,7 @@
 //! A receipt printer: the line that it gathers, and the strips that it prints.
 //!
 //! `drawn` knows the symbol that an item prints, and `act` what an item prints or lays on the page. `receipt`
-//! is the printer, and `laws` says what a raster's row is.
+//! is the printer, and `laws` says what a raster's row is, and that all that is printed is images.
 #![tactic(auto)]
 
 mod act;
@@ -11,6 +11,6 @@ mod receipt;
 #[cfg(test)]
 mod tests;
 
-pub use laws::a_row_is_its_bytes;
+pub use laws::{a_row_is_its_bytes, what_is_printed_is_images};
 pub use receipt::Receipt;
 pub use vp_settings::Width;

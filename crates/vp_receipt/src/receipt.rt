@@ -9,6 +9,7 @@ ghost use Rattle.vp_settings.specs.History.{settings_of, IsFit, is_open, line, P
 ghost use Rattle.vp_settings.specs.Rasters.{bytes_after, bytes_within_row};
 ghost use Rattle.vp_settings.specs.Tabs.{tab_stops};
 ghost use Rattle.vp_strips.specs.LineDots.{HasDots};
+ghost use Rattle.vp_strips.specs.declared.paint.TheConstants.{LINE_ROWS};
 ghost use Rattle.vp_receipt.specs.Strips.{prints, printed, refusal, is_at_rest, line_rows_after, page_rows_after};
 ghost use Rattle.vp_receipt.specs.Standing.{Stands, Gathers};
 ghost use Rattle.vp_settings.specs.Gathering.{IsGathering, room_of};
@@ -18,12 +19,12 @@ use crate::act::{act, act_on_row, act_symbol, printed_page, settle};
 use crate::drawn::{drawn, is_ignored, is_symbol};
 use std::alloc::{AllocError, Global};
 use std::marker::Model;
-use vp_dots::{Band, Fault};
+use vp_dots::Fault;
 use vp_esc::item::EscItem;
 use vp_glyph::Sheets;
 use vp_page::Page;
 use vp_settings::{Raster, Settings, Stops, Stored, Width, first_stops, set_stops, times_down};
-use vp_strips::{Canvas, Job, Lines, Symbol};
+use vp_strips::{Bitmap, Canvas, Job, Lines, Symbol};
 
 /// A receipt printer. What an item prints is pending until it is put out.
 #[derive(Drop)]
@@ -60,7 +61,7 @@ impl Receipt {
         ensures stands { IfOk result (λ r. Stands (record { width = width; sheets = sheets }) r []) }
         ensures pending { IfOk result (λ r. r.pending ≡ []) }
     {
-        let bitmap = Band::new(alloc)?;
+        let bitmap = Bitmap::new(alloc)?;
         let page = Page::new(alloc)?;
         Ok(Receipt {
             settings: Settings::start(width),
@@ -83,31 +84,31 @@ impl Receipt {
 
     /// Prints an item: what it prints is then pending. A refused one changes nothing.
     #[inline(always)]
-    pub fn apply(&mut self, item: EscItem) -> Result<(), Fault>
+    pub fn apply(&mut self, item: &EscItem) -> Result<(), Fault>
         requires { self.old.pending ≡ [] }
         ensures refusal { (setup : Setup) (before : List EscItem) → Stands setup self.old before →
-            MatchResult result (λ _. refusal setup before item ≡ None)
-            (λ f. refusal setup before item ≡ Some f) }
+            MatchResult result (λ _. refusal setup before item.now ≡ None)
+            (λ f. refusal setup before item.now ≡ Some f) }
         ensures stands { OnOk result ((setup : Setup) (before : List EscItem) →
-            Stands setup self.old before → Stands setup self.new (item ∷ before)) }
+            Stands setup self.old before → Stands setup self.new (item.now ∷ before)) }
         ensures pending { OnOk result ((setup : Setup) (before : List EscItem) →
-            Stands setup self.old before → self.new.pending ≡ prints setup before item) }
+            Stands setup self.old before → self.new.pending ≡ prints setup before item.now) }
         ensures err { OnErr result (self.new ≡ self.old) }
     {
         if let EscItem::RasterByte(byte) = item {
-            if self.raster.take(byte) {
+            if self.raster.take(*byte) {
                 self.job = act_on_row(&self.settings, &self.raster, &mut self.canvas);
                 self.of_page = false;
                 self.settings = self.settings.after_row(times_down(self.raster.scale));
             }
             return Ok(());
         }
-        if is_ignored(&item) {
-            self.raster.begin(&item);
+        if is_ignored(item) {
+            self.raster.begin(item);
             return Ok(());
         }
-        if is_symbol(&item) {
-            return self.apply_symbol(&item);
+        if is_symbol(item) {
+            return self.apply_symbol(item);
         }
         settle(
             &self.settings,
@@ -115,15 +116,15 @@ impl Receipt {
             &self.canvas.sheets,
             &mut self.canvas.bitmap,
         );
-        let (waiting, job) = act(&self.settings, &item, &mut self.canvas);
+        let (waiting, job) = act(&self.settings, item, &mut self.canvas);
         self.waiting = waiting;
         self.job = job;
-        self.of_page = printed_page(&self.settings, &item);
+        self.of_page = printed_page(&self.settings, item);
         let text = self.settings.text;
-        self.settings = self.settings.after(&item, self.stops.as_slice(), 0);
-        set_stops(&mut self.stops, &item, text);
-        self.raster.begin(&item);
-        self.stored.take(&item);
+        self.settings = self.settings.after(item, self.stops.as_slice(), 0);
+        set_stops(&mut self.stops, item, text);
+        self.raster.begin(item);
+        self.stored.take(item);
         Ok(())
     }
 
@@ -211,7 +212,7 @@ impl Receipt {
     pub fn line_rows(&self) -> u16
         ensures value { (setup : Setup) (before : List EscItem) → Stands setup self.now before →
             result ≡ line_rows_after setup before self.now.pending }
-        ensures most { result ≤ 192 }
+        ensures most { result ≤ LINE_ROWS }
     {
         self.job.line_rows().unwrap_or(self.settings.height)
     }

@@ -43,7 +43,7 @@ fn printed(alloc: Global, width: Width, items: &[EscItem], room: usize) -> Resul
     let mut paper = Vec::new(alloc);
     for item in items {
         if !receipt.pending() {
-            let _ = receipt.apply(item.clone()?);
+            let _ = receipt.apply(item);
         }
         put_all(&mut receipt, room, &mut paper)?;
     }
@@ -589,7 +589,7 @@ fn refused(alloc: Global, items: &[EscItem]) -> Result<(Option<Fault>, usize), F
     let mut fault = None;
     for item in items {
         if !receipt.pending() {
-            fault = receipt.apply(item.clone()?).err();
+            fault = receipt.apply(item).err();
         }
         put_all(&mut receipt, 4096, &mut paper)?;
     }

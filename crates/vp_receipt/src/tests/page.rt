@@ -191,7 +191,7 @@ fn a_page_is_no_rest(rt: HostRuntime) -> Result<(), Fail> {
     let mut receipt = Receipt::new(rt.alloc(), stairs(rt.alloc())?, Width::W576)?;
     assert!(rt; receipt.at_rest());
     assert_eq!(rt; receipt.page_rows(), 0);
-    let _ = receipt.apply(PAGE);
+    let _ = receipt.apply(&PAGE);
     assert!(rt; !receipt.at_rest());
     assert!(rt; !receipt.pending());
     assert_eq!(rt; receipt.page_rows(), 1664);

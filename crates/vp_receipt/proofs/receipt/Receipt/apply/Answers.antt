@@ -31,23 +31,23 @@ pub invariant_of-self-2 : goal.invariant_of-self-2
 invariant_of-self-2 c = record { fit = c.after-self-inside.ensures.fit; raster = c.begin-2.ensures.part; job = c.act-waiting.ensures.job _; turned = c.act-waiting.ensures.turned }
 
 pub returns-clause-refusal : goal.returns-clause-refusal
-returns-clause-refusal c = λ setup before h. no_refusal setup before c.args.item (sym c.is_symbol.ensures ∙ c.if-is_symbol.false)
+returns-clause-refusal c = λ setup before h. no_refusal setup before c.args.item.now (sym c.is_symbol.ensures ∙ c.if-is_symbol.false)
 
 pub returns-clause-stands : goal.returns-clause-stands
 returns-clause-stands c = λ setup before h.
     let was : Stands setup (printing_of c.self.inside) before = subst (λ (p : Printing). Stands setup p before) (sym c.self.view_is) h in
     let none = sym c.is_symbol.ensures ∙ c.if-is_symbol.false in
     let settled : IsSettled setup before c.self.inside.settings (record c.self.inside.canvas { bitmap = c.settle.new.bitmap }) = record { settings = was.settings; sheets = was.sheets; line = c.settle.ensures (line setup before) was.line; page = was.page } in
-    let now : c.after-self-inside.result ≡ settings_of setup (c.args.item ∷ before) = c.after-self-inside.ensures.settings setup before was.settings (c.as_slice.ensures.value ∙ was.stops)
-    (sym (ap image_rows (no_image setup before c.args.item none))) in
+    let now : c.after-self-inside.result ≡ settings_of setup (c.args.item.now ∷ before) = c.after-self-inside.ensures.settings setup before was.settings (c.as_slice.ensures.value ∙ was.stops)
+    (sym (ap image_rows (no_image setup before c.args.item.now none))) in
     record {
       sheets = c.act-waiting.ensures.sheets ∙ was.sheets;
       settings = now;
       stops = c.set_stops.ensures before (ap (λ (s : Settings). s.text) was.settings) was.stops;
       raster = c.begin-2.ensures.gathers before;
       stored = c.take-2.ensures before was.stored;
-      line = subst (λ (t : Settings). Gathers c.act-waiting.new.canvas.sheets t c.act-waiting.new.canvas.bitmap c.act-waiting.result.0 (line setup (c.args.item ∷ before))) (sym now)
-          (subst (λ (k : Sheets). Gathers k (settings_of setup (c.args.item ∷ before)) c.act-waiting.new.canvas.bitmap c.act-waiting.result.0 (line setup (c.args.item ∷ before))) (sym c.act-waiting.ensures.sheets)
+      line = subst (λ (t : Settings). Gathers c.act-waiting.new.canvas.sheets t c.act-waiting.new.canvas.bitmap c.act-waiting.result.0 (line setup (c.args.item.now ∷ before))) (sym now)
+          (subst (λ (k : Sheets). Gathers k (settings_of setup (c.args.item.now ∷ before)) c.act-waiting.new.canvas.bitmap c.act-waiting.result.0 (line setup (c.args.item.now ∷ before))) (sym c.act-waiting.ensures.sheets)
           (c.act-waiting.ensures.line setup before settled));
       page = c.act-waiting.ensures.page setup before settled;
       shows = c.act-waiting.ensures.shows setup before settled;
@@ -60,12 +60,12 @@ returns-clause-pending c = λ setup before h.
     c.act-waiting.ensures.text setup before (record { settings = was.settings; sheets = was.sheets; line = c.settle.ensures (line setup before) was.line; page = was.page })
 
 pub returns-then-is_ignored-clause-refusal : goal.returns-then-is_ignored-clause-refusal
-returns-then-is_ignored-clause-refusal c = λ setup before h. (does_nothing setup before c.args.item (sym c.is_ignored.ensures ∙ c.if-is_ignored.true)).refusal
+returns-then-is_ignored-clause-refusal c = λ setup before h. (does_nothing setup before c.args.item.now (sym c.is_ignored.ensures ∙ c.if-is_ignored.true)).refusal
 
 pub returns-then-is_ignored-clause-stands : goal.returns-then-is_ignored-clause-stands
 returns-then-is_ignored-clause-stands c = λ setup before h.
     let was : Stands setup (printing_of c.self.inside) before = subst (λ (p : Printing). Stands setup p before) (sym c.self.view_is) h in
-    let same = does_nothing setup before c.args.item (sym c.is_ignored.ensures ∙ c.if-is_ignored.true) in
+    let same = does_nothing setup before c.args.item.now (sym c.is_ignored.ensures ∙ c.if-is_ignored.true) in
     let none = ap (λ (p : Printing). p.pending) c.self.view_is ∙ c.requires in
     let r = c.self.inside in
     record {
@@ -75,15 +75,15 @@ returns-then-is_ignored-clause-stands c = λ setup before h.
       raster = c.begin.ensures.gathers before;
       stored = subst (IsStored r.stored) (sym same.stored) was.stored;
       line = subst (λ (placed : List Placed). Gathers r.canvas.sheets r.settings r.canvas.bitmap r.waiting placed) (sym same.line) was.line;
-      page = subst (λ (l : List Layer). HasPageIf (mode setup (c.args.item ∷ before)) l r.canvas.page) (sym same.layers)
+      page = subst (λ (l : List Layer). HasPageIf (mode setup (c.args.item.now ∷ before)) l r.canvas.page) (sym same.layers)
           (subst (λ (m : Mode). HasPageIf m (layers setup before) r.canvas.page) (sym same.mode) was.page);
-      shows = shows_nothing setup _ _ before (c.args.item ∷ before) none was.shows;
+      shows = shows_nothing setup _ _ before (c.args.item.now ∷ before) none was.shows;
       of_page = λ some. absurd (omega (arith, some, ap length none));
     }
 
 pub returns-then-is_ignored-clause-pending : goal.returns-then-is_ignored-clause-pending
 returns-then-is_ignored-clause-pending c = λ setup before h.
-    ap (λ (p : Printing). p.pending) c.self.view_is ∙ c.requires ∙ sym (does_nothing setup before c.args.item (sym c.is_ignored.ensures ∙ c.if-is_ignored.true)).prints
+    ap (λ (p : Printing). p.pending) c.self.view_is ∙ c.requires ∙ sym (does_nothing setup before c.args.item.now (sym c.is_ignored.ensures ∙ c.if-is_ignored.true)).prints
 
 stands_as : (setup : Setup) (p : Printing) (before : List EscItem) (i j : EscItem) → i ≡ j → Stands setup p (j ∷ before) → Stands setup p (i ∷ before)
 stands_as setup p before i j e h = subst (λ (k : EscItem). Stands setup p (k ∷ before)) (sym e) h
