@@ -12,3 +12,4 @@ pub mod Pictures
 pub mod Sizes
 pub mod Joining
 pub mod JoinedLaws
+pub mod Together

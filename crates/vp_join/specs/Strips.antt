@@ -1,6 +1,7 @@
 -- Images one after the other, as a printer prints them, and the one image with all their rows (netpbm, raw
 -- pbm).
 use Rattle.std.specs.Prelude.{◌≡◌, ◌≢◌, ℕ, ◌+◌, ◌*◌, ◌%◌, ◌<◌, ◌≤◌, ◌⊎◌, nat_le, Bool, not, ◌&&◌, List, [], ◌∷◌, ◌++◌, length, flat_map}
+use Rattle.std.specs.List.{AllByRecursion}
 use Rattle.vp_dots.specs.Dots.{dot}
 use Rattle.vp_dots.specs.Headers.{header_of}
 use Rattle.vp_dots.specs.Images.{Image, row_bytes, row_of}
@@ -61,6 +62,15 @@ pub record IsJoined (text : List ℕ) (image : Image) : Type 0 where
   pub height_is : image.height ≡ height_of strips
   pub dots_are : (x y : ℕ) → x < image.width → y < image.height
       → image.is_black x y ≡ dot (rows_of strips) (8 * (y * row_bytes image.width) + x)
+
+-- images of one width, of a row or more each
+abbrev pub AreImages : ℕ → List Image → Type 0
+AreImages width images = AllByRecursion (λ image. (image.width ≡ width) × (0 < image.height)) images
+
+-- the height of all of them together
+abbrev pub height_together : List Image → ℕ
+height_together [] = 0
+height_together (image ∷ images) = image.height + height_together images
 
 -- a text begins with the header of an image of this size
 pub record HasHeader (width height : ℕ) (rest text : List ℕ) : Type 0 where

@@ -1,7 +1,7 @@
 //! Laws of images one after the other.
-ghost use Rattle.std.specs.Prelude.{◌≡◌, ℕ, List, Option, Some, None, Err};
+ghost use Rattle.std.specs.Prelude.{◌≡◌, ◌≤◌, ℕ, List, flat_map, Option, Some, None, Err};
 ghost use Rattle.vp_dots.specs.Images.{Image, pbm};
-ghost use Rattle.vp_join.specs.Strips.{IsJoined, IsOffence, IsDecided};
+ghost use Rattle.vp_join.specs.Strips.{IsNumber, IsJoined, IsOffence, IsDecided, AreImages, height_together, greatest};
 ghost use Rattle.vp_join.specs.Told.{told};
 ghost use Rattle.vp_join.specs.Passes.{IsExact, IsOfCalls};
 ghost use Rattle.vp_join.specs.declared.fault.JoinFault.{JoinFault};
@@ -23,6 +23,14 @@ pub fn each_text_is_decided()
 pub fn images_are_not_refused()
     ensures { (text : List ℕ) (image : Image) (held holds : Option (List ℕ)) (fault : JoinFault) →
         IsJoined text image → IsExact text held holds (Err fault) → IsOfCalls fault }
+{}
+
+/// Images of one width, one after the other, make one image, as wide as each and as high as all of them
+/// together, where that is within the greatest height.
+pub fn images_make_one()
+    ensures { (width : ℕ) (images : List Image) → IsNumber width → AreImages width images →
+        height_together images ≤ greatest → (image : Image) × IsJoined (flat_map pbm images) image
+        × (image.width ≡ width) × (image.height ≡ height_together images) }
 {}
 
 /// Joining what was joined changes nothing.
