@@ -1,4 +1,5 @@
 pub mod Bytes
+pub mod Ends
 pub mod Marks
 pub mod Nibbles
 pub mod Places

@@ -1,7 +1,11 @@
 //! A closed field: where it stands, how it is turned, how it paints and what it shows.
 
-use crate::rows::{Coding, RunMark};
+use crate::rows::Coding;
+use vp_bars::Place;
 use vp_dots::Op;
+use vp_glyph::Alignment;
+use vp_qr::{Level, Mode};
+use vp_zpl::item::Orientation;
 
 /// Bytes among the stored ones.
 #[derive(Clone, Copy, Debug, PartialEq, Eq)]
@@ -10,58 +14,15 @@ pub struct Span {
     pub len: u32,
 }
 
-/// How a field is turned, clockwise (^FW's N, R, I and B).
-#[derive(Clone, Copy, Debug, PartialEq, Eq)]
-pub enum Orientation {
-    Normal,
-    /// By 90 degrees.
-    Rotated,
-    /// By 180 degrees.
-    Inverted,
-    /// By 270 degrees, read from the bottom up.
-    BottomUp,
-}
-
-/// How the lines of a block stand in its width (^FB's L, C and R).
-#[derive(Clone, Copy, Debug, PartialEq, Eq)]
-pub enum Justification {
-    Left,
-    Center,
-    Right,
-}
-
-/// Where the interpretation line of bars stands.
-#[derive(Clone, Copy, Debug, PartialEq, Eq)]
-pub enum Interpretation {
-    None,
-    Above,
-    Below,
-}
-
-/// The kind of a bar code (^B3, ^BE and ^BC).
+/// A linear symbol of a label.
 #[derive(Clone, Copy, Debug, PartialEq, Eq)]
 pub enum BarCode {
+    /// ^B3, with its check character or without.
     Code39 { check: bool },
+    /// ^BE.
     Ean13,
+    /// ^BC, in code sets that are chosen for the data (m A) or by the data.
     Code128 { auto: bool },
-}
-
-/// How much of a QR symbol's codewords is for correction.
-#[derive(Clone, Copy, Debug, PartialEq, Eq)]
-pub enum Level {
-    L,
-    M,
-    Q,
-    H,
-}
-
-/// How the data of a QR symbol are encoded.
-#[derive(Clone, Copy, Debug, PartialEq, Eq)]
-pub enum Mode {
-    Auto,
-    Digits,
-    Alnum,
-    Bytes,
 }
 
 /// A text in one line, of cells of 1 to 1,500 by 1 to 1,500 dots.
@@ -72,14 +33,15 @@ pub struct Text {
     pub height: u16,
 }
 
-/// A text in lines (^FB): the block's width, its lines, what is added between them, in dots.
+/// A text in lines (^FB): the block's width, 0 to 32,000 dots, its lines, 1 to 9,999, the dots between them, -9,999 to
+/// 9,999, and where they stand in its width.
 #[derive(Clone, Copy, Debug, PartialEq, Eq)]
 pub struct Block {
     pub text: Text,
     pub width: u16,
     pub lines: u16,
-    pub spacing: i16,
-    pub justification: Justification,
+    pub gap: i16,
+    pub alignment: Alignment,
 }
 
 /// A box (^GB), its sides and their thickness in dots.
@@ -90,28 +52,27 @@ pub struct GraphicBox {
     pub thickness: u16,
 }
 
-/// A picture (^GF): its codes, its rows of 1 to 1,024 bytes, and where the next band's rows start in the codes.
+/// A picture (^GF): its codes, and its rows, each of 1 to 1,024 bytes.
 #[derive(Clone, Copy, Debug, PartialEq, Eq)]
 pub struct Picture {
     pub codes: Span,
     pub coding: Coding,
     pub row_bytes: u16,
     pub rows: u32,
-    pub mark: RunMark,
 }
 
-/// Bars: their elements' widths, their height in dots, and their text.
+/// Bars: their elements' widths and their height in dots, and where their text stands.
 #[derive(Clone, Copy, Debug, PartialEq, Eq)]
 pub struct Bars {
     pub bytes: Span,
-    pub kind: BarCode,
-    pub narrow: u8,
-    pub wide: u8,
+    pub code: BarCode,
+    pub narrow: u16,
+    pub wide: u16,
     pub height: u16,
-    pub text: Interpretation,
+    pub place: Place,
 }
 
-/// A QR symbol (^BQ): its data, the module in dots, and the version and mask that were chosen for it.
+/// A QR symbol (^BQ): its data, a module's side in dots, 1 to 16, and the version and mask that were chosen for it.
 #[derive(Clone, Copy, Debug, PartialEq, Eq)]
 pub struct QrSymbol {
     pub bytes: Span,

@@ -1,10 +1,11 @@
 //! The format of a label: its closed fields and the bytes that they name, in room that is taken once.
-ghost use Rattle.std.specs.Prelude.{◌≡◌, ℕ, ◌+◌, ◌<◌, ◌≤◌, ◌↔◌, List, [], ◌∷◌, ◌++◌, length, IfOk, IsOk, OnOk, OnErr, Some, slice_get, slice_set};
+ghost use Rattle.std.specs.Prelude.{◌≡◌, ℕ, ◌+◌, ◌<◌, ◌≤◌, ◌↔◌, List, [], ◌∷◌, ◌++◌, length, IfOk, IsOk, OnOk, OnErr, Some, slice_get};
 
-use crate::field::{Content, Field, GraphicBox, Orientation};
+use crate::field::{Content, Field, GraphicBox};
 use std::alloc::{AllocError, Global};
 use std::marker::Model;
 use vp_dots::{Full, Op, Store};
+use vp_zpl::item::Orientation;
 
 /// The most fields of a format.
 pub const FIELDS: usize = 1024;
@@ -93,14 +94,6 @@ impl Format {
         ensures { slice_get self.now.fields n ≡ Some result }
     {
         self.fields[n]
-    }
-
-    /// Puts a field in another's place, as when a band has moved a picture's mark.
-    pub fn replace(&mut self, n: usize, field: Field)
-        requires { n < length self.old.fields }
-        ensures { self.new ≡ record self.old { fields = slice_set self.old.fields n field } }
-    {
-        self.fields[n] = field;
     }
 
     /// The stored bytes.

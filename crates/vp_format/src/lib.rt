@@ -18,10 +18,7 @@ mod rows;
 #[cfg(test)]
 mod tests;
 
-pub use field::{
-    BarCode, Bars, Block, Content, Field, GraphicBox, Interpretation, Justification, Level, Mode,
-    Orientation, Picture, QrSymbol, Span, Text,
-};
+pub use field::{BarCode, Bars, Block, Content, Field, GraphicBox, Picture, QrSymbol, Span, Text};
 pub use format::{FIELDS, Format, STORED};
 pub use law::{binary_law, codes_law, digits_law};
 pub use rows::{Coding, RunMark, RunRows};

@@ -51,6 +51,13 @@ impl<'a> Codes<'a> {
         part
     }
 
+    /// How many bytes there are.
+    pub fn len(&self) -> usize
+        ensures { result ≡ length self.now.bytes.now }
+    {
+        self.bytes.len()
+    }
+
     /// Where the next byte stands.
     pub fn at(&self) -> usize
         ensures { result ≡ self.now.at }

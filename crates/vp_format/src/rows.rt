@@ -1,6 +1,6 @@
 //! The rows of a picture, one after the other.
-ghost use Rattle.std.specs.Prelude.{◌≡◌, ℕ, ◌+◌, ◌-◌, ◌*◌, ◌^◌, if◌then◌else◌, ◌<◌, ◌≤◌, Result, Ok, true, length};
-ghost use Rattle.vp_format.specs.Pictures.{value, nibble, answer, row_after, start_of, bound_of};
+ghost use Rattle.std.specs.Prelude.{◌≡◌, ℕ, ◌+◌, ◌-◌, ◌*◌, ◌^◌, if◌then◌else◌, ◌<◌, ◌≤◌, Result, Ok, true, false, length};
+ghost use Rattle.vp_format.specs.Pictures.{value, is_refused, nibble, answer, row_after, start_of, bound_of};
 ghost use Rattle.vp_format.specs.Cursors.{marked_row, IsMark};
 
 use crate::reading::Codes;
@@ -55,6 +55,13 @@ impl RunMark {
             here,
             before: Spot { at: len, ..here },
         }
+    }
+
+    /// The row before which the cursor stood.
+    pub fn row(self) -> u32
+        ensures { result ≡ marked_row self }
+    {
+        self.next
     }
 
     /// The mark behind a row that ended so at a place.
@@ -162,6 +169,13 @@ impl<'a> RunRows<'a> {
         ensures row { marked_row result ≡ self.now.next }
     {
         self.mark
+    }
+
+    /// Whether no code is left for the rows to come: then none of them is refused.
+    pub fn is_at_end(&self) -> bool
+        ensures { result ≡ true → (y : ℕ) → self.now.next ≤ y → is_refused self.now.picture y ≡ false }
+    {
+        self.mark.here.at == self.codes.len()
     }
 
     /// A cursor that goes on where one over the same codes and rows was marked.

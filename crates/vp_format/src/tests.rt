@@ -4,9 +4,10 @@ ghost use Rattle.vp_format.specs.Codes.{symbols_behind};
 ghost use Rattle.vp_format.specs.Pictures.{shown, is_nothing, value_of};
 
 use crate::codes::{Code, code_of};
-use crate::{Coding, Content, Field, Format, Orientation, RunRows, Span, Text};
+use crate::{Coding, Content, Field, Format, RunRows, Span, Text};
 use std::alloc::AllocError;
 use vp_dots::{Fault, Op};
+use vp_zpl::item::Orientation;
 
 /// The value of a place in rows of so many places, where the place above has another, by the codes from the
 /// first on; none where its symbol is refused.

@@ -175,8 +175,8 @@ next_to P from seen to None h gap le = λ k ge lt. elim (cases_lt k seen) [ inl 
 next_to P from seen to (Some m) h gap le = (h.0, omega (arith, h.1), h.2, h.3)
 
 -- the last field seen, a number in the table
-pub tail_in : (entries : List Entry) (links : List (Option ℕ)) (b : ℕ) (w : Walk) → IsWalk entries links b w → length links ≡ length entries → ForSome w.tail (λ t. t < length links)
-tail_in entries links b w walk same = λ t e.
+pub tail_in : (entries : List Entry) (links : List (Option ℕ)) (b : ℕ) (w : Walk) → IsWalk entries links b w → length entries ≤ length links → ForSome w.tail (λ t. t < length links)
+tail_in entries links b w walk room = λ t e.
     let h : IsLast (carried_at entries (b + 1)) w.seen (Some t) = subst (IsLast (carried_at entries (b + 1)) w.seen) e walk.tail in omega (arith, h.0, walk.within)
 
 behind_ended : (P : ℕ → Bool) (links : List (Option ℕ)) (seen to k : ℕ) (o : Option ℕ) → IsLast P seen o → ForSome o (λ t. t < length links) → (Some k ≢ o → IsNext P (k + 1) seen (link_at links k)) → ((j : ℕ) → seen ≤ j → j < to → P j ≡ false) → seen ≤ to → k < seen → P k ≡ true →
@@ -189,14 +189,14 @@ behind_ended P links seen to k (Some t) last room h gap le lt here =
     ]
 
 -- at the walk's end the next band's fields are threaded
-pub walk_ended : (entries : List Entry) (links : List (Option ℕ)) (b : ℕ) (w : Walk) → IsWalk entries links b w → length links ≡ length entries → IsNext (meets_at entries b) w.seen (length entries) None → IsThreaded entries (ended links w.tail) (b + 1) w.kept
-walk_ended entries links b w walk same none =
+pub walk_ended : (entries : List Entry) (links : List (Option ℕ)) (b : ℕ) (w : Walk) → IsWalk entries links b w → length entries ≤ length links → IsNext (meets_at entries b) w.seen (length entries) None → IsThreaded entries (ended links w.tail) (b + 1) w.kept
+walk_ended entries links b w walk room none =
     let gap = gap_kept entries b w.seen (length entries) none in
     record {
       head = next_to (carried_at entries (b + 1)) 0 w.seen (length entries) w.kept walk.kept gap walk.within;
       rest = λ k lt now.
           let before : k < w.seen = elim (cases_lt k w.seen) [ inl below ↦ below | inr past ↦ absurd (both_ways (carried_at entries (b + 1) k) (gap k past lt) now) ] in
-          behind_ended (carried_at entries (b + 1)) links w.seen (length entries) k w.tail walk.tail (tail_in entries links b w walk same) (walk.behind k before now) gap walk.within before now;
+          behind_ended (carried_at entries (b + 1)) links w.seen (length entries) k w.tail walk.tail (tail_in entries links b w walk room) (walk.behind k before now) gap walk.within before now;
     }
 
 -- at the walk's start

@@ -1,9 +1,8 @@
 -- Fields threaded by numbers in a table.
-use Rattle.std.specs.Prelude.{◌≡◌, ◌≢◌, ℕ, ◌+◌, ◌/◌, ◌<◌, ◌≤◌, Bool, true, false, ◌&&◌, List, length, Option, None, Some, pos, nat_eq, nat_lt, nat_le, count_by, sum_by, slice_index_or, slice_set}
-use Rattle.std.specs.List.{range_with_len}
+use Rattle.std.specs.Prelude.{◌≡◌, ◌≢◌, ℕ, ◌+◌, ◌<◌, ◌≤◌, Bool, true, false, ◌&&◌, List, length, Option, None, Some, pos, nat_eq, nat_lt, nat_le, slice_index_or, slice_set}
 use Rattle.vp_dots.specs.declared.Op.TheVariants.{Black}
 use Rattle.vp_format.specs.declared.field.Field.{Field}
-use Rattle.vp_format.specs.declared.field.Orientation.TheVariants.{Normal}
+use Rattle.vp_zpl.specs.declared.item.Orientation.TheVariants.{Normal}
 use Rattle.vp_format.specs.declared.field.Content.TheVariants.{Text}
 use Rattle.vp_threads.specs.declared.table.Entry.{Entry}
 use Rattle.vp_threads.specs.declared.walk.Walk.{Walk}
@@ -86,10 +85,6 @@ first_kept (Some m) n = Some m
 abbrev pub ended : List (Option ℕ) → Option ℕ → List (Option ℕ)
 ended links None = links
 ended links (Some t) = slice_set links t None
-
--- how many pairs of a field and one of the first bands meet
-abbrev pub pairs : List Entry → ℕ → ℕ
-pairs entries bands = sum_by (λ b. count_by (meets b) entries) (range_with_len 0 bands)
 
 -- the field begins in one of the bands, or meets none
 abbrev pub IsPlaced : Entry → ℕ → Type 0

@@ -60,6 +60,7 @@ pub fn thread(entries: &mut [Entry], heads: &mut [Option<usize>])
     requires empty { (b : ℕ) → link_at heads.old b ≡ None }
     ensures spans { KeepsSpans entries.old entries.new }
     ensures table { ThreadedFrom entries.new heads.new 0 }
+    ensures lengths { (length entries.new ≡ length entries.old) × (length heads.new ≡ length heads.old) }
 {
     let mut k = entries.len();
     while k > 0 {
