@@ -1,5 +1,5 @@
 -- Ink that lies in its box.
-use Rattle.std.proofs.Common.{◌≡◌, ℕ, ◌+◌, ◌<◌, true, false, sym, ap, ◌∙◌, arith, List, [], ◌∷◌, ◌++◌, ℤ, pos, ◌+ℤ◌, ◌-ℤ◌, ◌≤ℤ◌, ◌<ℤ◌, Result, Ok, Err}
+use Rattle.std.proofs.Common.{◌≡◌, ℕ, ◌+◌, ◌*◌, ◌<◌, true, false, sym, ap, ◌∙◌, arith, List, [], ◌∷◌, ◌++◌, ℤ, pos, ◌+ℤ◌, ◌-ℤ◌, ◌≤ℤ◌, ◌<ℤ◌, Result, Ok, Err}
 use Rattle.std.proofs.lemmas.Int.{ints}
 use Rattle.std.proofs.lemmas.Bool.{and_parts, ltb-true, true≢false}
 use Rattle.vp_dots.specs.Painting.{paint}
@@ -10,15 +10,16 @@ use Rattle.vp_glyph.specs.Blocks.{pitch, block_inside}
 use Rattle.vp_bars.specs.declared.bar_box.Place.{Place}
 use Rattle.vp_bars.specs.Symbols.{Linear}
 use Rattle.vp_bars.specs.Boxes.{box_inside}
-use Rattle.vp_field.specs.declared.turning.Orientation.{Orientation}
-use Rattle.vp_field.specs.declared.turning.Orientation.TheVariants.{Normal, Rotated, Inverted, BottomUp}
-use Rattle.vp_field.specs.declared.content.Content.{Content}
-use Rattle.vp_field.specs.declared.content.Content.TheVariants.{Text, Block, Box, Bars, Qr}
-use Rattle.vp_field.specs.declared.field.Field.{Field}
+use Rattle.vp_zpl.specs.declared.item.Orientation.{Orientation}
+use Rattle.vp_zpl.specs.declared.item.Orientation.TheVariants.{Normal, Rotated, Inverted, BottomUp}
+use Rattle.vp_format.specs.Pictures as pictures
+use Rattle.vp_format.specs.declared.field.Content.{Content}
+use Rattle.vp_format.specs.declared.field.Content.TheVariants.{Text, Block, Box, Picture, Bars, Qr}
+use Rattle.vp_format.specs.declared.field.Field.{Field}
 use Rattle.vp_field.specs.declared.view.View.{View}
 use Rattle.vp_field.specs.Turning.{falls_y, turned_height}
 use Rattle.vp_field.specs.Frames.{frame_inside}
-use Rattle.vp_field.specs.Contents.{symbol_of, boxed_as, bars_width, bars_height, bars_dot, content_width, content_height, content_dot, orientation_of}
+use Rattle.vp_field.specs.Contents.{bytes_of, symbol_of, boxed_as, bars_width, bars_height, bars_dot, picture_of, picture_dot, content_width, content_height, content_dot, orientation_of}
 use Rattle.vp_field.specs.Fields.{field_ink}
 use Rattle.vp_field.specs.Views.{seen_x, seen_y}
 use Rattle.vp_field.specs.Strokes.{Stroke, label_dot}
@@ -32,12 +33,19 @@ bars_inside : (sheets : Sheets) (narrow wide height : ℕ) (place : Place) (r : 
 bars_inside sheets narrow wide height place (Ok bars) x y e = box_inside (boxed_as sheets narrow wide height place bars) x y e
 bars_inside sheets narrow wide height place (Err why) x y e = absurd (true≢false (sym e))
 
-contents : (sheets : Sheets) (c : Content) (u v : ℕ) → content_dot sheets c u v ≡ true → (u < content_width sheets c) × (v < content_height sheets c)
-contents sheets (Text text w h) u v e = text_inside sheets.a text.now w h u v e
-contents sheets (Block text w h wide rows gap alignment) u v e = block_inside sheets.a text.now w h wide rows (pitch h gap) alignment u v e
-contents sheets (Box frame) u v e = frame_inside frame.w frame.h frame.t u v e
-contents sheets (Bars bytes code narrow wide height place) u v e = bars_inside sheets narrow wide height place (symbol_of code bytes.now) u v e
-contents sheets (Qr bytes level mode scale) u v e =
+pub picture_inside : (p : pictures.Picture) (x y : ℕ) → picture_dot p x y ≡ true → (x < 8 * p.row_bytes) × (y < p.rows)
+unfolding picture_dot
+picture_inside p x y e =
+    let q = and_parts _ _ (and_parts _ _ e).0 in
+    (ltb-true _ _ q.0, ltb-true _ _ q.1)
+
+contents : (sheets : Sheets) (stored : List ℕ) (c : Content) (u v : ℕ) → content_dot sheets stored c u v ≡ true → (u < content_width sheets stored c) × (v < content_height sheets stored c)
+contents sheets stored (Text t) u v e = text_inside sheets.a (bytes_of stored t.bytes) t.width t.height u v e
+contents sheets stored (Block b) u v e = block_inside sheets.a (bytes_of stored b.text.bytes) b.text.width b.text.height b.width b.lines (pitch b.text.height b.gap) b.alignment u v e
+contents sheets stored (Box b) u v e = frame_inside b.width b.height b.thickness u v e
+contents sheets stored (Picture p) u v e = picture_inside (picture_of stored p) u v e
+contents sheets stored (Bars b) u v e = bars_inside sheets b.narrow b.wide b.height b.place (symbol_of b.code (bytes_of stored b.bytes)) u v e
+contents sheets stored (Qr q) u v e =
     let p = and_parts _ _ (and_parts _ _ e).0 in
     (ltb-true _ _ p.0, ltb-true _ _ p.1)
 
@@ -47,14 +55,14 @@ in_rows Rotated w h u v top y a b e = (omega (arith, ints), omega (arith, ints))
 in_rows Inverted w h u v top y a b e = (omega (arith, ints), omega (arith, ints))
 in_rows BottomUp w h u v top y a b e = (omega (arith, ints), omega (arith, ints))
 
-rows : (sheets : Sheets) (f : Field) (x y : ℤ) → field_ink sheets f x y ≡ true
-    → (f.top ≤ℤ y) × (y <ℤ (f.top +ℤ pos (turned_height (orientation_of f.orientation f.content) (content_width sheets f.content) (content_height sheets f.content))))
-rows sheets f x y e =
+rows : (sheets : Sheets) (stored : List ℕ) (f : Field) (x y : ℤ) → field_ink sheets stored f x y ≡ true
+    → (f.top ≤ℤ y) × (y <ℤ (f.top +ℤ pos (turned_height (orientation_of f.orientation f.content) (content_width sheets stored f.content) (content_height sheets stored f.content))))
+rows sheets stored f x y e =
     let o = orientation_of f.orientation f.content in
-    let w = content_width sheets f.content in
-    let h = content_height sheets f.content in
-    let d = (dots_fall o w h (content_dot sheets f.content) (x -ℤ f.left) (y -ℤ f.top)).0 e in
-    let p = contents sheets f.content d.0 d.1 d.2 in
+    let w = content_width sheets stored f.content in
+    let h = content_height sheets stored f.content in
+    let d = (dots_fall o w h (content_dot sheets stored f.content) (x -ℤ f.left) (y -ℤ f.top)).0 e in
+    let p = contents sheets stored f.content d.0 d.1 d.2 in
     in_rows o w h d.0 d.1 f.top y p.0 p.1 d.4
 
 skipped : (view : View) (first : ℕ) (s : Stroke) (band : List (List ℕ)) → ((x k : ℕ) → k < 32 → s.ink (seen_x view (pos x)) (seen_y view (pos (first + k))) ≡ false)

@@ -9,3 +9,5 @@ pub mod Folds
 pub mod White
 pub mod Shown
 pub mod Boxed
+pub mod Behind
+pub mod Pictured

@@ -1,12 +1,11 @@
 -- The ink of contents on a label.
-use Rattle.std.proofs.Common.{inl, inr, ◌≡◌, ℕ, ◌*◌, ◌/◌, ◌<◌, Bool, false, ltb, ◌&&◌, refl, ap, ◌∙◌, arith, List, [], get_or, None, Some, ℤ, pos, ◌-ℤ◌}
+use Rattle.std.proofs.Common.{inl, inr, ◌≡◌, ℕ, ◌*◌, ◌/◌, ◌<◌, Bool, false, ltb, ◌&&◌, refl, ap, ◌∙◌, arith, List, [], get_or, None, ℤ, pos, ◌-ℤ◌}
 use Rattle.std.proofs.Math.Nat.{div-lt_iff_lt-mul}
 use Rattle.std.proofs.lemmas.Bool.{cases_lt, le-ltb, lt-ltb}
 use Rattle.vp_dots.specs.Dots.{dot}
 use Rattle.vp_dots.specs.Painting.{paint}
 use Rattle.vp_dots.specs.Places.{RowsPainted}
 use Rattle.vp_dots.specs.declared.Op.{Op}
-use Rattle.vp_dots.specs.declared.fault.Fault.{Fault}
 use Rattle.vp_dots.proofs.Paints.{painted_none}
 use Rattle.vp_qr.specs.declared.level.Level.{Level}
 use Rattle.vp_qr.specs.declared.segment.Mode.{Mode}
@@ -14,7 +13,7 @@ use Rattle.vp_qr.specs.Inks.{ScaledSymbol, side, ink_of}
 use Rattle.vp_qr.specs.Walk.{dark}
 use Rattle.vp_qr.specs.Places.{size}
 use Rattle.vp_qr.specs.Encoding.{refusal, version_of, symbol_module, QrSymbol, Encodes}
-use Rattle.vp_field.specs.declared.turning.Orientation.{Orientation}
+use Rattle.vp_zpl.specs.declared.item.Orientation.{Orientation}
 use Rattle.vp_field.specs.Places.{at_place}
 use Rattle.vp_field.specs.Turning.{from_x, from_y}
 use Rattle.vp_field.specs.Standing.{standing}
@@ -69,6 +68,3 @@ qr_same level mode bytes scale qr s some none e a b c =
 
 pub qr_standing : (left top : ℤ) (o : Orientation) (n m : ℕ) (f g : ℕ → ℕ → Bool) → n ≡ m → ((u v : ℕ) → f u v ≡ g u v) → (x y : ℤ) → standing left top o n n f x y ≡ standing left top o m m g x y
 qr_standing left top o n m f g e h x y = standing_same left top o n n f g h x y ∙ ap (λ k. standing left top o k k g x y) e
-
-pub qr_none : (level : Level) (mode : Mode) (bytes : List ℕ) (scale : ℕ) (why : Fault) → refusal level mode bytes ≡ Some why → (x y : ℕ) → qr_dot level mode bytes scale x y ≡ false
-qr_none level mode bytes scale why e x y = rw (e, le-ltb x 0 (omega arith)) refl

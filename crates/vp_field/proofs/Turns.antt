@@ -1,8 +1,8 @@
 -- Boxes turned and turned back.
 use Rattle.std.proofs.Common.{◌≡◌, ℕ, Bool, refl, arith, ℤ, pos, ◌+ℤ◌, ◌-ℤ◌}
 use Rattle.std.proofs.lemmas.Int.{ints}
-use Rattle.vp_field.specs.declared.turning.Orientation.{Orientation}
-use Rattle.vp_field.specs.declared.turning.Orientation.TheVariants.{Normal, Rotated, Inverted, BottomUp}
+use Rattle.vp_zpl.specs.declared.item.Orientation.{Orientation}
+use Rattle.vp_zpl.specs.declared.item.Orientation.TheVariants.{Normal, Rotated, Inverted, BottomUp}
 use Rattle.vp_field.specs.declared.axis.Axis.{Axis}
 use Rattle.vp_field.specs.declared.axis.Axis.TheVariants.{Forward, Back}
 use Rattle.vp_field.specs.declared.axis.Lines.{Lines}

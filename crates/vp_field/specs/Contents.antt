@@ -1,5 +1,6 @@
 -- What fields show: the box of a content, as it is read, and its ink.
-use Rattle.std.specs.Prelude.{ℕ, ◌*◌, ◌/◌, ◌<◌, ◌≤◌, ◌≤ℤ◌, pos, neg_ℤ, Bool, true, false, ◌&&◌, List, length, nat_lt, is_none, Result, Ok, Err, if◌then◌else◌}
+use Rattle.std.specs.Prelude.{◌≡◌, ℕ, ◌+◌, ◌-◌, ◌*◌, ◌/◌, ◌%◌, ◌<◌, ◌≤◌, ◌≤ℤ◌, pos, neg_ℤ, Bool, true, false, ◌&&◌, List, length, take, drop, nat_lt, is_none, None, Result, Ok, Err, if◌then◌else◌}
+use Rattle.vp_dots.specs.Dots.{bit}
 use Rattle.vp_dots.specs.declared.fault.Fault.{Fault}
 use Rattle.vp_glyph.specs.declared.Sheets.{Sheets}
 use Rattle.vp_glyph.specs.declared.cell.Font.TheVariants.{A}
@@ -13,15 +14,26 @@ use Rattle.vp_bars.specs.Ean13.{ean13_of}
 use Rattle.vp_bars.specs.Packing.{code128_zpl_of}
 use Rattle.vp_qr.specs.declared.level.Level.{Level}
 use Rattle.vp_qr.specs.declared.segment.Mode.{Mode}
-use Rattle.vp_qr.specs.Encoding.{refusal, version_of, symbol_module}
+use Rattle.vp_qr.specs.Encoding.{refusal, version_of, mask_of, symbol_module}
 use Rattle.vp_qr.specs.Places.{size}
-use Rattle.vp_field.specs.declared.turning.Orientation.{Orientation}
-use Rattle.vp_field.specs.declared.turning.Orientation.TheVariants.{Normal}
-use Rattle.vp_field.specs.declared.content.BarCode.{BarCode}
-use Rattle.vp_field.specs.declared.content.BarCode.TheVariants.{Code39, Ean13, Code128}
-use Rattle.vp_field.specs.declared.content.Content.{Content}
-use Rattle.vp_field.specs.declared.content.Content.TheVariants.{Text, Block, Box, Bars, Qr}
+use Rattle.vp_zpl.specs.declared.item.Orientation.{Orientation}
+use Rattle.vp_zpl.specs.declared.item.Orientation.TheVariants.{Normal}
+use Rattle.vp_format.specs.Pictures as pictures
+use Rattle.vp_format.specs.Pictures.{value, is_refused}
+use Rattle.vp_format.specs.declared.field.BarCode.{BarCode}
+use Rattle.vp_format.specs.declared.field.BarCode.TheVariants.{Code39, Ean13, Code128}
+use Rattle.vp_format.specs.declared.field.Content.{Content}
+use Rattle.vp_format.specs.declared.field.Content.TheVariants as contents
+use Rattle.vp_format.specs.declared.field.Span.{Span}
+use Rattle.vp_format.specs.declared.field.Text.{Text}
+use Rattle.vp_format.specs.declared.field.Block.{Block}
+use Rattle.vp_format.specs.declared.field.Picture.{Picture}
+use Rattle.vp_format.specs.declared.field.QrSymbol.{QrSymbol}
 use Rattle.vp_field.specs.Frames.{frame_dot}
+
+-- the bytes that a span names among the stored ones
+abbrev pub bytes_of : List ℕ → Span → List ℕ
+bytes_of stored s = take s.len (drop s.start stored)
 
 -- the linear symbol of data (^B3, ^BE, ^BC)
 abbrev pub symbol_of : BarCode → List ℕ → Result Linear Fault
@@ -68,46 +80,98 @@ qr_dot level mode bytes scale x y =
     nat_lt x (qr_side level mode bytes scale) && nat_lt y (qr_side level mode bytes scale)
     && symbol_module level mode bytes (y / scale) (x / scale)
 
--- the box as it is read
-abbrev pub content_width : Sheets → Content → ℕ
-content_width sheets (Text text w h) = w * length text.now
-content_width sheets (Block text w h wide rows gap alignment) = block_width wide w
-content_width sheets (Box frame) = frame.w
-content_width sheets (Bars bytes code narrow wide height place) =
-    bars_width sheets narrow wide height place (symbol_of code bytes.now)
-content_width sheets (Qr bytes level mode scale) = qr_side level mode bytes.now scale
+-- the picture whose codes are stored
+abbrev pub picture_of : List ℕ → Picture → pictures.Picture
+picture_of stored p =
+    record { coding = p.coding; codes = bytes_of stored p.codes; row_bytes = p.row_bytes; rows = p.rows }
 
-abbrev pub content_height : Sheets → Content → ℕ
-content_height sheets (Text text w h) = h
-content_height sheets (Block text w h wide rows gap alignment) = block_height h rows (pitch h gap)
-content_height sheets (Box frame) = frame.h
-content_height sheets (Bars bytes code narrow wide height place) =
-    bars_height sheets narrow wide height place (symbol_of code bytes.now)
-content_height sheets (Qr bytes level mode scale) = qr_side level mode bytes.now scale
+-- a picture: four dots to a place of a row, the value's highest bit first
+unfoldable pub picture_dot : pictures.Picture → ℕ → ℕ → Bool
+picture_dot p x y = nat_lt x (8 * p.row_bytes) && nat_lt y p.rows && bit (value p y (x / 4)) (3 - x % 4)
+
+-- the box as it is read
+abbrev pub content_width : Sheets → List ℕ → Content → ℕ
+content_width sheets stored (contents.Text t) = t.width * length (bytes_of stored t.bytes)
+content_width sheets stored (contents.Block b) = block_width b.width b.text.width
+content_width sheets stored (contents.Box b) = b.width
+content_width sheets stored (contents.Picture p) = 8 * p.row_bytes
+content_width sheets stored (contents.Bars b) =
+    bars_width sheets b.narrow b.wide b.height b.place (symbol_of b.code (bytes_of stored b.bytes))
+content_width sheets stored (contents.Qr q) = qr_side q.level q.mode (bytes_of stored q.bytes) q.module
+
+abbrev pub content_height : Sheets → List ℕ → Content → ℕ
+content_height sheets stored (contents.Text t) = t.height
+content_height sheets stored (contents.Block b) =
+    block_height b.text.height b.lines (pitch b.text.height b.gap)
+content_height sheets stored (contents.Box b) = b.height
+content_height sheets stored (contents.Picture p) = p.rows
+content_height sheets stored (contents.Bars b) =
+    bars_height sheets b.narrow b.wide b.height b.place (symbol_of b.code (bytes_of stored b.bytes))
+content_height sheets stored (contents.Qr q) = qr_side q.level q.mode (bytes_of stored q.bytes) q.module
 
 -- its ink
-abbrev pub content_dot : Sheets → Content → ℕ → ℕ → Bool
-content_dot sheets (Text text w h) x y = text_dot sheets.a text.now w h x y
-content_dot sheets (Block text w h wide rows gap alignment) x y =
-    block_dot sheets.a text.now w h wide rows (pitch h gap) alignment x y
-content_dot sheets (Box frame) x y = frame_dot frame.w frame.h frame.t x y
-content_dot sheets (Bars bytes code narrow wide height place) x y =
-    bars_dot sheets narrow wide height place (symbol_of code bytes.now) x y
-content_dot sheets (Qr bytes level mode scale) x y = qr_dot level mode bytes.now scale x y
+abbrev pub content_dot : Sheets → List ℕ → Content → ℕ → ℕ → Bool
+content_dot sheets stored (contents.Text t) x y =
+    text_dot sheets.a (bytes_of stored t.bytes) t.width t.height x y
+content_dot sheets stored (contents.Block b) x y =
+    block_dot sheets.a (bytes_of stored b.text.bytes) b.text.width b.text.height b.width b.lines
+    (pitch b.text.height b.gap) b.alignment x y
+content_dot sheets stored (contents.Box b) x y = frame_dot b.width b.height b.thickness x y
+content_dot sheets stored (contents.Picture p) x y = picture_dot (picture_of stored p) x y
+content_dot sheets stored (contents.Bars b) x y =
+    bars_dot sheets b.narrow b.wide b.height b.place (symbol_of b.code (bytes_of stored b.bytes)) x y
+content_dot sheets stored (contents.Qr q) x y = qr_dot q.level q.mode (bytes_of stored q.bytes) q.module x y
 
--- boxes and QR symbols are not turned
+-- boxes, pictures and QR symbols are not turned
 abbrev pub orientation_of : Orientation → Content → Orientation
-orientation_of o (Text text w h) = o
-orientation_of o (Block text w h wide rows gap alignment) = o
-orientation_of o (Box frame) = Normal
-orientation_of o (Bars bytes code narrow wide height place) = o
-orientation_of o (Qr bytes level mode scale) = Normal
+orientation_of o (contents.Text t) = o
+orientation_of o (contents.Block b) = o
+orientation_of o (contents.Box b) = Normal
+orientation_of o (contents.Picture p) = Normal
+orientation_of o (contents.Bars b) = o
+orientation_of o (contents.Qr q) = Normal
 
--- the ranges of the parameters (^CF and ^A, ^FB, ^BQ), and how much data a format holds
-abbrev pub InRange : Content → Type 0
-InRange (Text text w h) = (0 < w) × (w ≤ 1500) × (length text.now ≤ 262144)
-InRange (Block text w h wide rows gap alignment) =
-    (0 < w) × (h ≤ 1500) × (wide ≤ 32000) × (rows ≤ 9999) × (neg_ℤ (pos 9999) ≤ℤ gap) × (gap ≤ℤ pos 9999)
-InRange (Box frame) = Unit {0}
-InRange (Bars bytes code narrow wide height place) = Unit {0}
-InRange (Qr bytes level mode scale) = (0 < scale) × (scale ≤ 16)
+-- the bytes lie among the stored ones, of which a format holds at most 262,144
+pub record LiesIn (stored : List ℕ) (s : Span) : Type 0 where
+  pub inside : s.start + s.len ≤ length stored
+  pub few : s.len ≤ 262144
+
+-- the ranges of a text (^CF and ^A)
+pub record IsText (stored : List ℕ) (t : Text) : Type 0 where
+  pub bytes : LiesIn stored t.bytes
+  pub some : 0 < t.width
+  pub width : t.width ≤ 1500
+  pub height : t.height ≤ 1500
+
+-- and of a block of lines (^FB)
+pub record IsBlock (stored : List ℕ) (b : Block) : Type 0 where
+  pub text : IsText stored b.text
+  pub width : b.width ≤ 32000
+  pub lines : b.lines ≤ 9999
+  pub gap_low : neg_ℤ (pos 9999) ≤ℤ b.gap
+  pub gap_high : b.gap ≤ℤ pos 9999
+
+-- a picture has rows of 1 to 1,024 bytes, and no code of its rows is refused (^GF)
+pub record IsPicture (stored : List ℕ) (p : Picture) : Type 0 where
+  pub codes : LiesIn stored p.codes
+  pub some : 0 < p.row_bytes
+  pub short : p.row_bytes ≤ 1024
+  pub read : (y : ℕ) → y < p.rows → is_refused (picture_of stored p) y ≡ false
+
+-- a QR symbol has modules of 1 to 16 dots, and keeps the version and the mask of its data (^BQ)
+pub record IsSymbol (stored : List ℕ) (q : QrSymbol) : Type 0 where
+  pub bytes : LiesIn stored q.bytes
+  pub some : 0 < q.module
+  pub most : q.module ≤ 16
+  pub accepted : refusal q.level q.mode (bytes_of stored q.bytes) ≡ None
+  pub version : q.version ≡ version_of q.level q.mode (bytes_of stored q.bytes)
+  pub mask : q.mask ≡ mask_of q.level q.mode (bytes_of stored q.bytes)
+
+-- a content whose parameters are in their ranges, and whose bytes are stored
+abbrev pub IsStored : List ℕ → Content → Type 0
+IsStored stored (contents.Text t) = IsText stored t
+IsStored stored (contents.Block b) = IsBlock stored b
+IsStored stored (contents.Box b) = Unit {0}
+IsStored stored (contents.Picture p) = IsPicture stored p
+IsStored stored (contents.Bars b) = LiesIn stored b.bytes
+IsStored stored (contents.Qr q) = IsSymbol stored q

@@ -1,21 +1,31 @@
 -- Fields, and what they do to a label.
-use Rattle.std.specs.Prelude.{ℤ, Bool}
+use Rattle.std.specs.Prelude.{ℕ, ℤ, Bool, List, Option, None, Some}
 use Rattle.vp_glyph.specs.declared.Sheets.{Sheets}
-use Rattle.vp_field.specs.declared.field.Field.{Field}
-use Rattle.vp_field.specs.Contents.{content_width, content_height, content_dot, orientation_of, InRange}
+use Rattle.vp_format.specs.Cursors.{IsMark}
+use Rattle.vp_format.specs.declared.field.Content.{Content}
+use Rattle.vp_format.specs.declared.field.Content.TheVariants.{Picture}
+use Rattle.vp_format.specs.declared.field.Field.{Field}
+use Rattle.vp_format.specs.declared.rows.RunMark.{RunMark}
+use Rattle.vp_field.specs.Contents.{content_width, content_height, content_dot, orientation_of, picture_of, IsStored}
 use Rattle.vp_field.specs.Standing.{standing, IsNear}
 use Rattle.vp_field.specs.Strokes.{Stroke}
 
--- the ink of a field on its label
-abbrev pub field_ink : Sheets → Field → ℤ → ℤ → Bool
-field_ink sheets f =
-    standing f.left f.top (orientation_of f.orientation f.content) (content_width sheets f.content)
-    (content_height sheets f.content) (content_dot sheets f.content)
+-- the ink of a field on its label, where it shows stored bytes
+abbrev pub field_ink : Sheets → List ℕ → Field → ℤ → ℤ → Bool
+field_ink sheets stored f =
+    standing f.left f.top (orientation_of f.orientation f.content) (content_width sheets stored f.content)
+    (content_height sheets stored f.content) (content_dot sheets stored f.content)
 
--- it stands near the label, and its parameters are in their ranges
-pub record IsField (f : Field) : Type 0 where
+-- a field as a format keeps it: it stands near its label, and what it shows is stored
+pub record IsKept (stored : List ℕ) (f : Field) : Type 0 where
   pub near : IsNear f.left f.top
-  pub content : InRange f.content
+  pub content : IsStored stored f.content
 
-abbrev pub stroke_of : Sheets → Field → Stroke
-stroke_of sheets f = record { op = f.op; ink = field_ink sheets f }
+abbrev pub stroke_of : Sheets → List ℕ → Field → Stroke
+stroke_of sheets stored f = record { op = f.op; ink = field_ink sheets stored f }
+
+-- a mark that is kept of a picture was made in it
+abbrev pub IsMarkOf : List ℕ → Content → Option RunMark → Type 0
+IsMarkOf stored c None = Unit {0}
+IsMarkOf stored (Picture p) (Some mark) = IsMark (picture_of stored p) mark
+IsMarkOf stored _ (Some mark) = Unit {0}

@@ -6,10 +6,10 @@ use Rattle.vp_field.specs.Strokes.{Stroke, viewed, label_dot, image_dot}
 use Rattle.vp_field.specs.Views.{seen_x, seen_y}
 use Rattle.vp_field.specs.Turning.{turned_height}
 use Rattle.vp_field.specs.Contents.{content_width, content_height, content_dot, orientation_of}
-use Rattle.vp_field.specs.Fields.{field_ink}
+use Rattle.vp_field.specs.Fields.{field_ink, stroke_of, IsKept}
 use Rattle.vp_field.specs.Bands.{Shows}
-use Rattle.vp_field.specs.declared.content.Content.{Content}
-use Rattle.vp_field.specs.declared.field.Field.{Field}
+use Rattle.vp_format.specs.declared.field.Content.{Content}
+use Rattle.vp_format.specs.declared.field.Field.{Field}
 use Rattle.vp_field.specs.declared.view.View.{View}
 
 -- the dots can be painted one stroke after the other: without a stroke all are white, and one more does
@@ -49,13 +49,20 @@ pub record TurnedAndMirrored : Type 0 where
 
 -- what a field shows lies in its box
 pub record InTheBox : Type 0 where
-  pub contents : (sheets : Sheets) (c : Content) (u v : ℕ) → content_dot sheets c u v ≡ true
-      → (u < content_width sheets c) × (v < content_height sheets c)
+  pub contents : (sheets : Sheets) (stored : List ℕ) (c : Content) (u v : ℕ)
+      → content_dot sheets stored c u v ≡ true
+      → (u < content_width sheets stored c) × (v < content_height sheets stored c)
   -- its ink lies in the rows of the turned box
-  pub rows : (sheets : Sheets) (f : Field) (x y : ℤ) → field_ink sheets f x y ≡ true
+  pub rows : (sheets : Sheets) (stored : List ℕ) (f : Field) (x y : ℤ) → field_ink sheets stored f x y ≡ true
       → (f.top ≤ℤ y) × (y <ℤ (f.top +ℤ pos (turned_height (orientation_of f.orientation f.content)
-      (content_width sheets f.content) (content_height sheets f.content))))
+      (content_width sheets stored f.content) (content_height sheets stored f.content))))
   -- a band shows a stroke that has no ink in its rows without painting it
   pub skipped : (view : View) (first : ℕ) (s : Stroke) (band : List (List ℕ)) → ((x k : ℕ) → k < 32
       → s.ink (seen_x view (pos x)) (seen_y view (pos (first + k))) ≡ false)
       → (strokes : List Stroke) → Shows view first strokes band → Shows view first (strokes ++ s ∷ []) band
+
+-- a field that is kept stays so, and does what it did, when bytes are stored behind
+pub record StoredBehind : Type 0 where
+  pub kept : (stored more : List ℕ) (f : Field) → IsKept stored f → IsKept (stored ++ more) f
+  pub stroke : (sheets : Sheets) (stored more : List ℕ) (f : Field) → IsKept stored f
+      → stroke_of sheets (stored ++ more) f ≡ stroke_of sheets stored f

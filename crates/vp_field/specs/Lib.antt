@@ -1,10 +1,8 @@
 -- The rules of fields.
 pub mod Places
 pub mod Turning
-pub mod Positions
 pub mod Standing
 pub mod Frames
-pub mod Rows
 pub mod Contents
 pub mod Views
 pub mod Strokes
@@ -13,3 +11,5 @@ pub mod Bands
 pub mod Laws
 -- What the code keeps.
 pub mod Axes
+pub mod Rows
+pub mod Drawn

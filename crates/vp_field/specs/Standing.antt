@@ -1,6 +1,6 @@
 -- Ink that stands turned on a label.
 use Rattle.std.specs.Prelude.{ℕ, ◌^◌, ℤ, pos, neg_ℤ, ◌-ℤ◌, ◌≤ℤ◌, Bool}
-use Rattle.vp_field.specs.declared.turning.Orientation.{Orientation}
+use Rattle.vp_zpl.specs.declared.item.Orientation.{Orientation}
 use Rattle.vp_field.specs.Turning.{turned}
 
 -- the ink of a box of w by h at a place of the label, where the upper left corner of the turned box stands

@@ -1,7 +1,7 @@
 -- Boxes that are turned clockwise by quarters (ZPL II, ^FW: N, R, I, B).
 use Rattle.std.specs.Prelude.{◌≡◌, ℕ, ℤ, pos, ◌-ℤ◌, Bool, true, ◌↔◌}
-use Rattle.vp_field.specs.declared.turning.Orientation.{Orientation}
-use Rattle.vp_field.specs.declared.turning.Orientation.TheVariants.{Normal, Rotated, Inverted, BottomUp}
+use Rattle.vp_zpl.specs.declared.item.Orientation.{Orientation}
+use Rattle.vp_zpl.specs.declared.item.Orientation.TheVariants.{Normal, Rotated, Inverted, BottomUp}
 use Rattle.vp_field.specs.Places.{ink_at}
 
 -- the column on which dot (u, v) of a box of w by h dots falls

@@ -1,5 +1,5 @@
 //! Where a line of dots lies on a line of places.
-ghost use Rattle.std.specs.Prelude.{◌≡◌, ℕ, ◌+◌, ◌^◌, ◌<◌, ◌≤◌, Bool, true, false, ℤ, pos, neg_ℤ, ◌-ℤ◌, ◌≤ℤ◌, option_map, unwrap_or};
+ghost use Rattle.std.specs.Prelude.{◌≡◌, ℕ, ◌+◌, ◌^◌, ◌<◌, ◌≤◌, Bool, true, false, ℤ, pos, neg_ℤ, ◌-ℤ◌, ◌≤ℤ◌, option_map, unwrap_or, Some, IfSome};
 ghost use Rattle.vp_field.specs.Places.{at_place};
 ghost use Rattle.vp_field.specs.Views.{counted};
 ghost use Rattle.vp_field.specs.Axes.{dot_on, IsWithin};
@@ -66,6 +66,34 @@ impl Axis {
             Axis::Back(_) => return None,
         };
         u32::try_from(dot).ok()
+    }
+
+    /// The place on which a dot lies.
+    fn place_of(self, dot: u32) -> i64
+        requires { IsWithin (2 ^ 41) self }
+        ensures low { neg_ℤ (pos (2 ^ 42)) ≤ℤ result }
+        ensures high { result ≤ℤ pos (2 ^ 42) }
+        ensures place { dot_on self result ≡ pos dot }
+        ensures only { (p : ℤ) → dot_on self p ≡ pos dot → p ≡ result }
+    {
+        match self {
+            Axis::Forward(at) => at + i64::from(dot),
+            Axis::Back(at) => at - i64::from(dot),
+        }
+    }
+
+    /// The row of a band on which a dot lies, if it lies on one, where the band's first row is a place.
+    pub fn row_of(self, dot: u32, first: u32) -> Option<usize>
+        requires { IsWithin (2 ^ 41) self }
+        ensures high { IfSome result (λ k. k < 32) }
+        ensures on { IfSome result (λ k. dot_on self (pos (first + k)) ≡ pos dot) }
+        ensures only { (k : ℕ) → k < 32 → dot_on self (pos (first + k)) ≡ pos dot → result ≡ Some k }
+    {
+        let k = self.place_of(dot) - i64::from(first);
+        if k < 0 || k >= 32 {
+            return None;
+        }
+        Some(k as usize)
     }
 
     /// The first place on which one of the first `size` dots lies, and the one behind the last.

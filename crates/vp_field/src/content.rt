@@ -1,63 +1,122 @@
-//! What fields show.
+//! What fields show: its bytes, its symbol and its size.
+ghost use Rattle.std.specs.Prelude.{◌≡◌, ◌*◌, ◌≤◌};
+ghost use Rattle.vp_qr.specs.Places.{size};
+ghost use Rattle.vp_format.specs.declared.field.Content.TheVariants as contents;
+ghost use Rattle.vp_glyph.specs.Blocks.{pitch};
+ghost use Rattle.vp_field.specs.Contents.{bytes_of, symbol_of, content_width, content_height, LiesIn, IsText, IsBlock, IsStored};
+
 use crate::frame::Frame;
-use std::alloc::AllocError;
-use vp_bars::Place;
-use vp_glyph::Alignment;
-use vp_qr::{Level, Mode};
+use crate::text::Cells;
+use vp_bars::{code39, code128_zpl, ean13};
+use vp_dots::{Fault, Ink};
+use vp_format::{BarCode, Bars, Block, Content, QrSymbol, Span, Text};
+use vp_glyph::{Font, Sheets};
 
-/// The linear symbols of a label.
-#[derive(Clone, Copy, Debug, PartialEq, Eq)]
-pub enum BarCode {
-    /// ^B3, with its check character or without.
-    Code39 { check: bool },
-    /// ^BE.
-    Ean13,
-    /// ^BC, in code sets that are chosen for the data (m A) or by the data.
-    Code128 { auto: bool },
+/// The bytes that a span names among the stored ones.
+pub fn bytes_of(stored: &[u8], span: Span) -> &[u8]
+    requires { LiesIn stored.now span }
+    ensures { result.now ≡ bytes_of stored.now span }
+{
+    let start = span.start as usize;
+    &stored[start..start + span.len as usize]
 }
 
-/// What a field shows.
-pub enum Content<'a> {
-    /// ^FD: a text in cells of w by h dots.
-    Text {
-        text: &'a [u8],
-        w: u32,
-        h: u32,
-    },
-    /// ^FB: a text in lines of `wide` dots, of which `rows` stand below each other.
-    Block {
-        text: &'a [u8],
-        w: u32,
-        h: u32,
-        wide: u32,
-        rows: u32,
-        gap: i32,
-        alignment: Alignment,
-    },
-    /// ^GB.
-    Box(Frame),
-    /// ^B3, ^BE, ^BC: a linear symbol, its narrow and wide elements and the height of its bars in dots.
-    Bars {
-        bytes: &'a [u8],
-        code: BarCode,
-        narrow: u16,
-        wide: u16,
-        height: u16,
-        place: Place,
-    },
-    /// ^BQ: a QR symbol with modules of so many dots.
-    Qr {
-        bytes: &'a [u8],
-        level: Level,
-        mode: Mode,
-        scale: u32,
-    },
+/// The linear symbol of data, or why there is none.
+pub fn linear(code: BarCode, bytes: &[u8]) -> Result<vp_bars::Bars, Fault>
+    ensures { result ≡ symbol_of code bytes.now }
+{
+    match code {
+        BarCode::Code39 { check } => code39(bytes, check),
+        BarCode::Ean13 => ean13(bytes, true),
+        BarCode::Code128 { auto } => code128_zpl(bytes, auto),
+    }
 }
 
-impl Copy for Content<'_> {}
+/// A text as ink.
+pub fn cells<'a>(sheets: &'a Sheets, stored: &'a [u8], text: Text) -> Cells<'a>
+    requires { IsText stored.now text }
+    ensures sheet { result.sheet.now ≡ sheets.now.a }
+    ensures text { result.text.now ≡ bytes_of stored.now text.bytes }
+    ensures w { result.w ≡ text.width }
+    ensures h { result.h ≡ text.height }
+{
+    Cells {
+        sheet: &sheets.a,
+        text: bytes_of(stored, text.bytes),
+        w: u32::from(text.width),
+        h: u32::from(text.height),
+    }
+}
 
-impl Clone for Content<'_> {
-    fn clone(&self) -> Result<Self, AllocError> {
-        Ok(*self)
+/// A block of lines as ink.
+pub fn block_of<'a>(sheets: &'a Sheets, stored: &'a [u8], block: Block) -> vp_glyph::Block<'a>
+    requires { IsBlock stored.now block }
+    ensures sheet { result.sheet.now ≡ sheets.now.a }
+    ensures text { result.text.now ≡ bytes_of stored.now block.text.bytes }
+    ensures w { result.w ≡ block.text.width }
+    ensures h { result.h ≡ block.text.height }
+    ensures wide { result.wide ≡ block.width }
+    ensures rows { result.rows ≡ block.lines }
+    ensures pitch { result.pitch ≡ pitch block.text.height block.gap }
+    ensures alignment { result.alignment ≡ block.alignment }
+{
+    sheets.block(
+        bytes_of(stored, block.text.bytes),
+        u32::from(block.text.width),
+        u32::from(block.text.height),
+        u32::from(block.width),
+        u32::from(block.lines),
+        i32::from(block.gap),
+        block.alignment,
+    )
+}
+
+/// The width and the height of a linear symbol with its text; none where the data have no symbol.
+fn bars_size(sheets: &Sheets, stored: &[u8], bars: Bars) -> (u32, u32)
+    requires { LiesIn stored.now bars.bytes }
+    ensures width { result.0 ≡ content_width sheets.now stored.now (contents.Bars bars) }
+    ensures height { result.1 ≡ content_height sheets.now stored.now (contents.Bars bars) }
+{
+    match linear(bars.code, bytes_of(stored, bars.bytes)) {
+        Ok(symbol) => {
+            let ink = symbol.boxed(
+                bars.narrow,
+                bars.wide,
+                bars.height,
+                sheets,
+                Font::A,
+                bars.place,
+            );
+            ink.size()
+        }
+        Err(_) => (0, 0),
+    }
+}
+
+/// The dots in a row of a QR symbol.
+fn qr_size(symbol: QrSymbol) -> u32
+    requires { symbol.module ≤ 16 }
+    ensures { result ≡ symbol.module * size symbol.version }
+{
+    let modules = 17 + 4 * u32::from(symbol.version);
+    u32::from(symbol.module) * modules
+}
+
+/// The width and the height of what a field shows, as it is read.
+pub fn content_size(sheets: &Sheets, stored: &[u8], content: &Content) -> (u32, u32)
+    requires { IsStored stored.now content.now }
+    ensures width { result.0 ≡ content_width sheets.now stored.now content.now }
+    ensures height { result.1 ≡ content_height sheets.now stored.now content.now }
+{
+    match *content {
+        Content::Text(text) => cells(sheets, stored, text).size(),
+        Content::Block(block) => block_of(sheets, stored, block).size(),
+        Content::Box(shape) => Frame::of(shape).size(),
+        Content::Picture(picture) => (8 * u32::from(picture.row_bytes), picture.rows),
+        Content::Bars(bars) => bars_size(sheets, stored, bars),
+        Content::Qr(symbol) => {
+            let side = qr_size(symbol);
+            (side, side)
+        }
     }
 }

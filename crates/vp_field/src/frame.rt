@@ -4,6 +4,7 @@ ghost use Rattle.vp_dots.specs.Dots.{span};
 ghost use Rattle.vp_field.specs.Frames.{frame_dot, frame_inside};
 
 use vp_dots::{Ink, Op, fill_moved};
+use vp_format::GraphicBox;
 
 /// ^GB: a box of w by h dots whose edges are t dots thick.
 #[derive(Clone, Copy, Debug, PartialEq, Eq)]
@@ -14,6 +15,17 @@ pub struct Frame {
 }
 
 impl Frame {
+    /// The box of a field.
+    pub fn of(shape: GraphicBox) -> Frame
+        ensures { result ≡ record { w = shape.width; h = shape.height; t = shape.thickness } }
+    {
+        Frame {
+            w: u32::from(shape.width),
+            h: u32::from(shape.height),
+            t: u32::from(shape.thickness),
+        }
+    }
+
     /// Whether line y, which is one of the box's, has ink from its first dot to its last, and not at its
     /// sides alone.
     #[tactic(auto, unfolding(crate::specs::Frames::frame_dot))]

@@ -1,12 +1,14 @@
 //! How a box of dots lies on a label.
 ghost use Rattle.std.specs.Prelude.{◌≡◌, ℕ, ◌+◌, ◌-◌, ◌^◌, Bool, ℤ, pos, neg_ℤ, ◌-ℤ◌, ◌+ℤ◌, ◌≤ℤ◌};
+ghost use Rattle.vp_zpl.specs.declared.item.Orientation.TheVariants.{Normal};
 ghost use Rattle.vp_field.specs.Turning.{turned};
 ghost use Rattle.vp_field.specs.Views.{seen_x, seen_y};
 ghost use Rattle.vp_field.specs.Axes.{laid, IsWithin, dot_on};
+ghost use Rattle.vp_field.specs.declared.axis.Lines.TheVariants.{Along};
 
 use crate::axis::{Axis, Lines};
-use crate::turning::Orientation;
 use crate::view::View;
+use vp_zpl::item::Orientation;
 
 /// How a box of dots lies on a label: which way its lines run, and where their dots fall.
 #[derive(Clone, Copy, Debug, PartialEq, Eq)]
@@ -35,6 +37,7 @@ impl Laid {
         ensures ink { (ink : ℕ → ℕ → Bool) (x y : ℤ)
             → laid result.lines result.columns result.rows ink x y
             ≡ turned orientation w h ink (x -ℤ left) (y -ℤ top) }
+        ensures upright { orientation ≡ Normal → result.lines ≡ Along }
         ensures columns { IsWithin (2 ^ 40) result.columns }
         ensures rows { IsWithin (2 ^ 40) result.rows }
     {
@@ -62,6 +65,7 @@ impl Laid {
         ensures ink { (ink : ℕ → ℕ → Bool) (x y : ℤ)
             → laid result.lines result.columns result.rows ink x y
             ≡ laid self.lines self.columns self.rows ink (seen_x view x) (seen_y view y) }
+        ensures lines { result.lines ≡ self.lines }
         ensures columns { IsWithin (2 ^ 41) result.columns }
         ensures rows { IsWithin (2 ^ 41) result.rows }
     {

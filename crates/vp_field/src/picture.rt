@@ -1,12 +1,34 @@
-//! One row of a picture.
-ghost use Rattle.std.specs.Prelude.{◌≡◌, ℕ, ◌*◌, ◌^◌, ◌<◌, length};
+//! Pictures: one row as ink, and the rows that fall on a band, read from a mark.
+ghost use Rattle.std.specs.Prelude.{◌≡◌, ℕ, ◌+◌, ◌*◌, ◌^◌, ◌<◌, ◌≤◌, ℤ, pos, neg_ℤ, Bool, ◌+ℤ◌, ◌≤ℤ◌, ◌<ℤ◌, false, length};
 ghost use Rattle.vp_dots.specs.Dots.{dot, shifted};
+ghost use Rattle.vp_dots.specs.Places.{RowsPainted};
+ghost use Rattle.vp_glyph.specs.declared.Sheets.{Sheets};
+ghost use Rattle.vp_format.specs.Pictures.{is_refused};
+ghost use Rattle.vp_format.specs.declared.field.Content.TheVariants as contents;
+ghost use Rattle.vp_field.specs.Axes.{dot_on, laid, IsWithin};
+ghost use Rattle.vp_field.specs.Contents.{picture_of, picture_dot, IsPicture};
+ghost use Rattle.vp_field.specs.Drawn.{drawn, part};
+ghost use Rattle.vp_field.specs.Fields.{IsMarkOf};
 ghost use Rattle.vp_field.specs.Rows.{row_dot, row_inside};
+ghost use Rattle.vp_field.specs.Standing.{standing, IsNear};
+ghost use Rattle.vp_field.specs.Views.{seen_x, seen_y};
+ghost use Rattle.vp_zpl.specs.declared.item.Orientation.TheVariants.{Normal};
+ghost use Rattle.vp_field.specs.declared.axis.Lines.TheVariants.{Along};
 
+use crate::axis::Axis;
+use crate::content::bytes_of;
+use crate::laid::Laid;
+use crate::line::paint_line;
+use crate::standing::Standing;
 use std::alloc::AllocError;
-use vp_dots::{Ink, Op, clear_into, dot_of, or_into, xor_into};
+use vp_dots::{Band, Ink, Op, clear_into, dot_of, or_into, xor_into};
+use vp_format::{Picture, RunMark, RunRows};
+use vp_zpl::item::Orientation;
 
-/// ^GF: the bytes of row y of a picture of so many rows.
+/// The most bytes of a row.
+const ROW: usize = 1024;
+
+/// The bytes of row y of a picture of so many rows.
 pub struct PictureRow<'a> {
     pub bytes: &'a [u8],
     pub y: u32,
@@ -50,4 +72,175 @@ impl Ink for PictureRow<'_> {
             Op::Flip => xor_into(self.bytes, at, row),
         }
     }
+}
+
+/// A number of rows that isn't below 0 or above the most.
+fn clamped(rows: i64, most: u32) -> u32
+    ensures most { result ≤ most }
+    ensures below { (v : ℕ) → v < most → pos v <ℤ rows → v < result }
+    ensures above { (v : ℕ) → rows ≤ℤ pos v → result ≤ v }
+{
+    rows.clamp(0, i64::from(most)) as u32
+}
+
+/// The line of ink that falls on the first row of a band or on its last, whichever comes first, on lines that
+/// go on to either side.
+fn first_line(rows: Axis, first: u32) -> i64
+    requires { IsWithin (2 ^ 41) rows }
+    ensures low { neg_ℤ (pos (2 ^ 42)) ≤ℤ result }
+    ensures high { result ≤ℤ pos (2 ^ 42) }
+    ensures from { (k v : ℕ) → k < 32 → dot_on rows (pos (first + k)) ≡ pos v → result ≤ℤ pos v }
+    ensures to { (k v : ℕ) → k < 32 → dot_on rows (pos (first + k)) ≡ pos v
+        → pos v <ℤ (result +ℤ pos 32) }
+{
+    match rows {
+        Axis::Forward(at) => i64::from(first) - at,
+        Axis::Back(at) => at - i64::from(first) - 31,
+    }
+}
+
+/// The first of so many lines of ink that falls on a band, and the one behind the last.
+fn lines_on(rows: Axis, height: u32, first: u32) -> (u32, u32)
+    requires { IsWithin (2 ^ 41) rows }
+    ensures within { result.1 ≤ height }
+    ensures from { (k v : ℕ) → k < 32 → v < height → dot_on rows (pos (first + k)) ≡ pos v → result.0 ≤ v }
+    ensures to { (k v : ℕ) → k < 32 → v < height → dot_on rows (pos (first + k)) ≡ pos v → v < result.1 }
+{
+    let line = first_line(rows, first);
+    (clamped(line, height), clamped(line + 32, height))
+}
+
+/// A cursor before a row of a picture, or an earlier one: where a mark was made, or before the first row.
+fn cursor<'a>(stored: &'a [u8], picture: Picture, mark: Option<RunMark>, row: u32) -> RunRows<'a>
+    requires picture { IsPicture stored.now picture }
+    requires mark { IsMarkOf stored.now (contents.Picture picture) mark }
+    ensures picture { result.picture ≡ picture_of stored.now picture }
+    ensures next { result.next ≤ row }
+{
+    let codes = bytes_of(stored, picture.codes);
+    let row_bytes = usize::from(picture.row_bytes);
+    match mark {
+        Some(mark) if mark.row() <= row => {
+            RunRows::resume(codes, picture.coding, row_bytes, picture.rows, mark)
+        }
+        _ => RunRows::new(codes, picture.coding, row_bytes, picture.rows),
+    }
+}
+
+/// Reads the next row of a picture, which isn't refused.
+fn read_row(rows: &mut RunRows<'_>, row: &mut [u8])
+    requires len { length row.old ≡ rows.old.picture.row_bytes }
+    requires next { rows.old.next < rows.old.picture.rows }
+    requires read { is_refused rows.old.picture rows.old.next ≡ false }
+    ensures len { length row.new ≡ length row.old }
+    ensures dots { (x : ℕ) → dot row.new x ≡ picture_dot rows.old.picture x rows.old.next }
+    ensures next { rows.new ≡ record rows.old { next = rows.old.next + 1 } }
+{
+    let _ = rows.next_row(row);
+}
+
+/// Reads on to a row of a picture of which none is refused.
+fn read_to(rows: &mut RunRows<'_>, to: u32, row: &mut [u8])
+    requires len { length row.old ≡ rows.old.picture.row_bytes }
+    requires next { rows.old.next ≤ to }
+    requires to { to ≤ rows.old.picture.rows }
+    requires read { (y : ℕ) → y < rows.old.picture.rows → is_refused rows.old.picture y ≡ false }
+    ensures len { length row.new ≡ length row.old }
+    ensures next { rows.new ≡ record rows.old { next = to } }
+{
+    for _ in rows.mark().row()..to {
+        read_row(rows, row);
+    }
+}
+
+/// Paints a row of a picture where it falls on the band.
+fn paint_row_of(row: &PictureRow<'_>, op: Op, at: Laid, first: u32, band: &mut Band<156, 32>)
+    requires columns { IsWithin (2 ^ 41) at.columns }
+    requires rows { IsWithin (2 ^ 41) at.rows }
+    ensures { RowsPainted 32 op (λ x k. laid Along at.columns at.rows
+        (row_dot row.now.bytes.now row.now.y) (pos x) (pos (first + k))) band.old band.new }
+{
+    if let Some(k) = at.rows.row_of(row.y, first) {
+        paint_line(row, row.y, op, at.columns, band.row_mut(k));
+    }
+}
+
+/// Reads and paints the rows of a picture up to one.
+fn paint_rows(
+    rows: &mut RunRows<'_>,
+    from: u32,
+    to: u32,
+    row: &mut [u8],
+    op: Op,
+    at: Laid,
+    first: u32,
+    band: &mut Band<156, 32>,
+)
+    requires len { length row.old ≡ rows.old.picture.row_bytes }
+    requires short { length row.old ≤ 1024 }
+    requires from { rows.old.next ≡ from }
+    requires ordered { from ≤ to }
+    requires to { to ≤ rows.old.picture.rows }
+    requires count { rows.old.picture.rows < 2 ^ 32 }
+    requires read { (y : ℕ) → y < rows.old.picture.rows → is_refused rows.old.picture y ≡ false }
+    requires columns { IsWithin (2 ^ 41) at.columns }
+    requires axis { IsWithin (2 ^ 41) at.rows }
+    ensures picture { rows.new.picture ≡ rows.old.picture }
+    ensures painted { RowsPainted 32 op (λ x k. laid Along at.columns at.rows
+        (part from to (picture_dot rows.old.picture)) (pos x) (pos (first + k))) band.old band.new }
+{
+    for y in from..to {
+        read_row(rows, row);
+        let ink = PictureRow {
+            bytes: row,
+            y,
+            rows: to,
+        };
+        paint_row_of(&ink, op, at, first, band);
+    }
+}
+
+/// How a picture, which isn't turned, lies on the label as it is put out.
+fn lying(picture: Picture, on: Standing) -> Laid
+    requires { IsNear on.left on.top }
+    ensures columns { IsWithin (2 ^ 41) result.columns }
+    ensures rows { IsWithin (2 ^ 41) result.rows }
+    ensures ink { (ink : ℕ → ℕ → Bool) (x y : ℤ) → laid Along result.columns result.rows ink x y
+        ≡ standing on.left on.top Normal (8 * picture.row_bytes) picture.rows ink (seen_x on.view x)
+        (seen_y on.view y) }
+{
+    let width = 8 * u32::from(picture.row_bytes);
+    Laid::turned(Orientation::Normal, width, picture.rows, on.left, on.top).viewed(on.view)
+}
+
+/// Paints a picture, which isn't turned: the rows that fall on the band are read from a mark where that lies
+/// before them, else from the first row. The mark behind them comes back; where none falls on the band, the
+/// same mark.
+pub fn paint_picture(
+    stored: &[u8],
+    picture: Picture,
+    on: Standing,
+    mark: Option<RunMark>,
+    first: u32,
+    band: &mut Band<156, 32>,
+) -> Option<RunMark>
+    requires picture { IsPicture stored.now picture }
+    requires mark { IsMarkOf stored.now (contents.Picture picture) mark }
+    requires near { IsNear on.left on.top }
+    requires normal { on.orientation ≡ Normal }
+    ensures dots { (sheets : Sheets) → RowsPainted 32 on.op
+        (drawn sheets stored.now (contents.Picture picture) on first) band.old band.new }
+    ensures mark { IsMarkOf stored.now (contents.Picture picture) result }
+{
+    let at = lying(picture, on);
+    let (from, to) = lines_on(at.rows, picture.rows, first);
+    if from >= to {
+        return mark;
+    }
+    let mut row = [0u8; ROW];
+    let row = &mut row[..usize::from(picture.row_bytes)];
+    let mut rows = cursor(stored, picture, mark, from);
+    read_to(&mut rows, from, row);
+    paint_rows(&mut rows, from, to, row, on.op, at, first, band);
+    Some(rows.mark())
 }

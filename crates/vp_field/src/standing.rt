@@ -6,13 +6,12 @@ ghost use Rattle.vp_field.specs.Views.{seen_x, seen_y};
 
 use crate::laid::Laid;
 use crate::paint::paint_laid;
-use crate::turning::Orientation;
 use crate::view::View;
 use vp_dots::{Band, Ink, Op};
+use vp_zpl::item::Orientation;
 
-/// How ink stands on a label, and what it does to the dots there: the upper left corner of its turned box
-/// in dots
-/// from the label's, which may lie off the label.
+/// How ink stands on a label, and what it does to the dots there: the upper left corner of its turned box in
+/// dots from the label's, which may lie off the label.
 #[derive(Clone, Copy)]
 pub struct Standing {
     pub op: Op,

@@ -1,16 +1,19 @@
-ghost use Rattle.std.specs.Prelude.{◌≤◌, length};
-ghost use Rattle.vp_field.specs.Fields.{IsField};
+//! Fields painted on bands, row by row.
+ghost use Rattle.std.specs.Prelude.{◌≡◌, ◌≤◌, [], length, IfOk};
+ghost use Rattle.vp_field.specs.Fields.{IsKept};
 
-use crate::{
-    BarCode, Content, Field, Frame, Orientation, PictureRow, Position, Standing, View, clear, cut,
-    paint_field, paint_standing,
-};
+use crate::{View, clear, content_size, cut, paint_field};
 use std::alloc::Global;
 use std::test::Fail;
 use vp_bars::Place;
-use vp_dots::{Band, Op, fill_dots};
+use vp_dots::{Band, Fault, Op, fill_dots};
+use vp_format::{
+    BarCode, Bars, Block, Coding, Content, Field, GraphicBox, Picture, QrSymbol, Span, Text,
+    binary_law,
+};
 use vp_glyph::{Alignment, Sheet, Sheets};
-use vp_qr::{Level, Mode};
+use vp_qr::{Level, Mode, encode};
+use vp_zpl::item::Orientation;
 
 /// Sheet A where in cell c the leftmost c mod 13 dots of each row are black.
 fn stairs(alloc: Global) -> Result<Sheets, Fail> {
@@ -42,54 +45,138 @@ fn plain(width: u16, height: u16) -> View {
     }
 }
 
-fn boxed(left: i16, top: i16, w: u16, h: u16, t: u16, op: Op) -> Field<'static>
-    ensures { IsField result }
+fn boxed(left: i16, top: i16, w: u16, h: u16, t: u16, op: Op) -> Field
+    ensures { IsKept [] result }
 {
     Field {
         op,
         left: i64::from(left),
         top: i64::from(top),
         orientation: Orientation::Normal,
-        content: Content::Box(Frame {
-            w: u32::from(w),
-            h: u32::from(h),
-            t: u32::from(t),
+        content: Content::Box(GraphicBox {
+            width: w,
+            height: h,
+            thickness: t,
         }),
     }
 }
 
-/// A text of cells of 12 by 24 at the label's corner.
-fn text(orientation: Orientation, text: &[u8]) -> Field<'_>
-    requires { length text.now ≤ 100 }
-    ensures { IsField result }
+/// The first stored bytes.
+fn whole(stored: &[u8]) -> Span
+    requires { length stored.now ≤ 100 }
+    ensures { result ≡ record { start = 0; len = length stored.now } }
+{
+    Span {
+        start: 0,
+        len: stored.len() as u32,
+    }
+}
+
+/// A text of cells of 12 by 24 in the label's first row.
+fn text(orientation: Orientation, left: i8, stored: &[u8]) -> Field
+    requires { length stored.now ≤ 100 }
+    ensures { IsKept stored.now result }
 {
     Field {
         op: Op::Black,
-        left: 0,
+        left: i64::from(left),
         top: 0,
         orientation,
-        content: Content::Text { text, w: 12, h: 24 },
+        content: Content::Text(Text {
+            bytes: whole(stored),
+            width: 12,
+            height: 24,
+        }),
     }
 }
 
 /// A block of 24 dots at the label's corner.
-fn block(orientation: Orientation, text: &[u8], rows: u8, alignment: Alignment) -> Field<'_>
-    ensures { IsField result }
+fn block(orientation: Orientation, stored: &[u8], lines: u8, alignment: Alignment) -> Field
+    requires { length stored.now ≤ 100 }
+    ensures { IsKept stored.now result }
 {
     Field {
         op: Op::Black,
         left: 0,
         top: 0,
         orientation,
-        content: Content::Block {
-            text,
-            w: 12,
-            h: 24,
-            wide: 24,
-            rows: u32::from(rows),
+        content: Content::Block(Block {
+            text: Text {
+                bytes: whole(stored),
+                width: 12,
+                height: 24,
+            },
+            width: 24,
+            lines: u16::from(lines),
             gap: 0,
             alignment,
-        },
+        }),
+    }
+}
+
+/// The bars of data at the label's corner.
+fn bars_of(orientation: Orientation, stored: &[u8]) -> Field
+    requires { length stored.now ≤ 100 }
+    ensures { IsKept stored.now result }
+{
+    Field {
+        op: Op::Black,
+        left: 0,
+        top: 0,
+        orientation,
+        content: Content::Bars(Bars {
+            bytes: whole(stored),
+            code: BarCode::Code39 { check: false },
+            narrow: 2,
+            wide: 4,
+            height: 1,
+            place: Place::None,
+        }),
+    }
+}
+
+/// The QR symbol of data at the label's corner, where they have one.
+fn symbol(stored: &[u8]) -> Result<Field, Fault>
+    requires { length stored.now ≤ 100 }
+    ensures { IfOk result (IsKept stored.now) }
+{
+    let qr = encode(stored, Level::M, Mode::Auto)?;
+    let Ok(mask) = u8::try_from(qr.mask()) else {
+        return Err(Fault::Unprinted);
+    };
+    Ok(Field {
+        op: Op::Black,
+        left: 0,
+        top: 0,
+        orientation: Orientation::Rotated,
+        content: Content::Qr(QrSymbol {
+            bytes: whole(stored),
+            level: Level::M,
+            mode: Mode::Auto,
+            module: 1,
+            version: qr.version() as u8,
+            mask,
+        }),
+    })
+}
+
+/// A picture of rows of one byte in the label's first column.
+fn picture(top: i8, rows: u8, op: Op, stored: &[u8]) -> Field
+    requires { length stored.now ≤ 100 }
+    ensures { IsKept stored.now result }
+{
+    binary_law();
+    Field {
+        op,
+        left: 0,
+        top: i64::from(top),
+        orientation: Orientation::Rotated,
+        content: Content::Picture(Picture {
+            codes: whole(stored),
+            coding: Coding::Binary,
+            row_bytes: 1,
+            rows: u32::from(rows),
+        }),
     }
 }
 
@@ -108,10 +195,18 @@ impl Painter {
         Ok(Painter { view, first, band })
     }
 
-    fn paint(&mut self, sheets: &Sheets, field: &Field<'_>)
-        requires { IsField field.now }
+    fn paint(&mut self, sheets: &Sheets, stored: &[u8], field: &Field)
+        requires { IsKept stored.now field.now }
     {
-        paint_field(sheets, field, self.view, self.first, &mut self.band);
+        let _ = paint_field(
+            sheets,
+            stored,
+            field,
+            None,
+            self.view,
+            self.first,
+            &mut self.band,
+        );
     }
 
     fn rows(mut self) -> [[u8; 6]; 32] {
@@ -128,7 +223,7 @@ impl Painter {
 #[test]
 fn a_box(rt: HostRuntime) -> Result<(), Fail> {
     let mut page = Painter::new(rt.alloc(), plain(16, 4), 0)?;
-    page.paint(&NONE, &boxed(2, 1, 5, 3, 1, Op::Black));
+    page.paint(&NONE, &[], &boxed(2, 1, 5, 3, 1, Op::Black));
     let rows = page.rows();
     for (y, want) in [(0, 0), (1, 0x3e), (2, 0x22), (3, 0x3e), (4, 0)] {
         assert_eq!(rt; rows[y], [want, 0, 0, 0, 0, 0]);
@@ -137,33 +232,10 @@ fn a_box(rt: HostRuntime) -> Result<(), Fail> {
 }
 
 #[test]
-fn corners_of_baselines(rt: HostRuntime) -> Result<(), Fail> {
-    let at = Position::Baseline { x: 40, y: 50 };
-    let rows = [
-        (Orientation::Normal, 40, 47),
-        (Orientation::Rotated, 40, 50),
-        (Orientation::Inverted, 35, 50),
-        (Orientation::BottomUp, 37, 45),
-    ];
-    for (orientation, left, top) in rows {
-        assert_eq!(rt; at.left(orientation, 5, 3), left);
-        assert_eq!(rt; at.top(orientation, 5, 3), top);
-    }
-    let corner = Position::Corner { x: 40, y: 50 };
-    assert_eq!(rt; corner.left(Orientation::BottomUp, 5, 3), 40);
-    assert_eq!(rt; corner.top(Orientation::Normal, 5, 3), 50);
-    assert_eq!(rt;
-        Position::Baseline { x: 2, y: 4 }.top(Orientation::Normal, 5, 3),
-        1
-    );
-    Ok(())
-}
-
-#[test]
 fn a_reversing_box(rt: HostRuntime) -> Result<(), Fail> {
     let mut page = Painter::new(rt.alloc(), plain(16, 2), 0)?;
-    page.paint(&NONE, &boxed(0, 0, 8, 2, 2, Op::Black));
-    page.paint(&NONE, &boxed(4, 0, 8, 2, 2, Op::Flip));
+    page.paint(&NONE, &[], &boxed(0, 0, 8, 2, 2, Op::Black));
+    page.paint(&NONE, &[], &boxed(4, 0, 8, 2, 2, Op::Flip));
     let rows = page.rows();
     assert_eq!(rt; rows[0], [0xf0, 0xf0, 0, 0, 0, 0]);
     assert_eq!(rt; rows[1], [0xf0, 0xf0, 0, 0, 0, 0]);
@@ -174,9 +246,9 @@ fn a_reversing_box(rt: HostRuntime) -> Result<(), Fail> {
 /// A black box, a white one and a reversing one over the end of a band.
 fn over_the_end(alloc: Global, view: View, first: u32) -> Result<[[u8; 6]; 32], Fail> {
     let mut page = Painter::new(alloc, view, first)?;
-    page.paint(&NONE, &boxed(0, 30, 8, 4, 4, Op::Black));
-    page.paint(&NONE, &boxed(0, 32, 8, 1, 1, Op::White));
-    page.paint(&NONE, &boxed(0, 31, 4, 3, 3, Op::Flip));
+    page.paint(&NONE, &[], &boxed(0, 30, 8, 4, 4, Op::Black));
+    page.paint(&NONE, &[], &boxed(0, 32, 8, 1, 1, Op::White));
+    page.paint(&NONE, &[], &boxed(0, 31, 4, 3, 3, Op::Flip));
     Ok(page.rows())
 }
 
@@ -221,7 +293,7 @@ fn mirrored_labels(rt: HostRuntime) -> Result<(), Fail> {
             ..plain(width, 1)
         };
         let mut page = Painter::new(rt.alloc(), view, 0)?;
-        page.paint(&NONE, &boxed(0, 0, 4, 1, 1, Op::Black));
+        page.paint(&NONE, &[], &boxed(0, 0, 4, 1, 1, Op::Black));
         let rows = page.rows();
         assert_eq!(rt; rows[0], [want, 0, 0, 0, 0, 0]);
         assert_eq!(rt; rows[1], [0; 6]);
@@ -232,13 +304,13 @@ fn mirrored_labels(rt: HostRuntime) -> Result<(), Fail> {
 #[test]
 fn the_order_of_fields(rt: HostRuntime) -> Result<(), Fail> {
     let mut page = Painter::new(rt.alloc(), plain(8, 1), 0)?;
-    page.paint(&NONE, &boxed(0, 0, 8, 1, 1, Op::Flip));
-    page.paint(&NONE, &boxed(0, 0, 8, 1, 1, Op::Black));
+    page.paint(&NONE, &[], &boxed(0, 0, 8, 1, 1, Op::Flip));
+    page.paint(&NONE, &[], &boxed(0, 0, 8, 1, 1, Op::Black));
     assert_eq!(rt; page.rows()[0], [0xff, 0, 0, 0, 0, 0]);
     let mut page = Painter::new(rt.alloc(), plain(8, 1), 0)?;
-    page.paint(&NONE, &boxed(0, 0, 8, 1, 1, Op::Black));
-    page.paint(&NONE, &boxed(0, 0, 4, 1, 1, Op::Flip));
-    page.paint(&NONE, &boxed(0, 0, 2, 1, 1, Op::Flip));
+    page.paint(&NONE, &[], &boxed(0, 0, 8, 1, 1, Op::Black));
+    page.paint(&NONE, &[], &boxed(0, 0, 4, 1, 1, Op::Flip));
+    page.paint(&NONE, &[], &boxed(0, 0, 2, 1, 1, Op::Flip));
     assert_eq!(rt; page.rows()[0], [0xcf, 0, 0, 0, 0, 0]);
     Ok(())
 }
@@ -247,7 +319,7 @@ fn the_order_of_fields(rt: HostRuntime) -> Result<(), Fail> {
 fn texts(rt: HostRuntime) -> Result<(), Fail> {
     let sheets = stairs(rt.alloc())?;
     let mut page = Painter::new(rt.alloc(), plain(16, 24), 0)?;
-    page.paint(&sheets, &text(Orientation::Normal, b"M"));
+    page.paint(&sheets, b"M", &text(Orientation::Normal, 0, b"M"));
     let rows = page.rows();
     assert_eq!(rt; rows[0], [0xff, 0xf0, 0, 0, 0, 0]);
     assert_eq!(rt; rows[23], [0xff, 0xf0, 0, 0, 0, 0]);
@@ -268,7 +340,7 @@ fn texts(rt: HostRuntime) -> Result<(), Fail> {
     ];
     for (orientation, upper, lower) in turned {
         let mut page = Painter::new(rt.alloc(), plain(24, 12), 0)?;
-        page.paint(&sheets, &text(orientation, b"B"));
+        page.paint(&sheets, b"B", &text(orientation, 0, b"B"));
         let rows = page.rows();
         assert_eq!(rt; rows[0], upper);
         assert_eq!(rt; rows[11], lower);
@@ -281,13 +353,8 @@ fn texts(rt: HostRuntime) -> Result<(), Fail> {
 fn a_text_past_the_left_edge(rt: HostRuntime) -> Result<(), Fail> {
     let sheets = stairs(rt.alloc())?;
     let mut page = Painter::new(rt.alloc(), plain(40, 24), 0)?;
-    page.paint(
-        &sheets,
-        &Field {
-            left: -30,
-            ..text(Orientation::Normal, b"NMNMB")
-        },
-    );
+    let letters = b"NMNMB";
+    page.paint(&sheets, letters, &text(Orientation::Normal, -30, letters));
     assert_eq!(rt; page.rows()[0], [0x03, 0xff, 0xe0, 0, 0, 0]);
     Ok(())
 }
@@ -317,24 +384,23 @@ fn blocks(rt: HostRuntime) -> Result<(), Fail> {
     for (letters, lines, alignment, upper, lower) in rows {
         let field = block(Orientation::Normal, letters, lines, alignment);
         let mut page = Painter::new(rt.alloc(), plain(24, 48), 0)?;
-        page.paint(&sheets, &field);
+        page.paint(&sheets, letters, &field);
         let rows = page.rows();
         assert_eq!(rt; rows[0], upper);
         assert_eq!(rt; rows[23], upper);
         assert_eq!(rt; rows[24], lower);
         assert_eq!(rt; rows[31], lower);
         let mut page = Painter::new(rt.alloc(), plain(24, 48), 32)?;
-        page.paint(&sheets, &field);
+        page.paint(&sheets, letters, &field);
         let rows = page.rows();
         assert_eq!(rt; rows[0], lower);
         assert_eq!(rt; rows[15], lower);
         assert_eq!(rt; rows[16], [0; 6]);
     }
     let mut page = Painter::new(rt.alloc(), plain(48, 24), 0)?;
-    page.paint(
-        &sheets,
-        &block(Orientation::Rotated, b"MM M", 2, Alignment::Right),
-    );
+    let letters = b"MM M";
+    let field = block(Orientation::Rotated, letters, 2, Alignment::Right);
+    page.paint(&sheets, letters, &field);
     let rows = page.rows();
     assert_eq!(rt; rows[0], [0, 0, 0, 0xff, 0xff, 0xff]);
     assert_eq!(rt; rows[11], [0, 0, 0, 0xff, 0xff, 0xff]);
@@ -346,31 +412,13 @@ fn blocks(rt: HostRuntime) -> Result<(), Fail> {
 
 #[test]
 fn bars(rt: HostRuntime) -> Result<(), Fail> {
-    let field = Field {
-        op: Op::Black,
-        left: 0,
-        top: 0,
-        orientation: Orientation::Normal,
-        content: Content::Bars {
-            bytes: b"A",
-            code: BarCode::Code39 { check: false },
-            narrow: 2,
-            wide: 4,
-            height: 1,
-            place: Place::None,
-        },
-    };
     let mut page = Painter::new(rt.alloc(), plain(80, 1), 0)?;
-    page.paint(&NONE, &field);
+    page.paint(&NONE, b"A", &bars_of(Orientation::Normal, b"A"));
     let rows = page.rows();
     assert_eq!(rt; rows[0], [0xc3, 0x3c, 0xf3, 0x3c, 0xcc, 0x33]);
     assert_eq!(rt; rows[1], [0; 6]);
-    let turned = Field {
-        orientation: Orientation::Rotated,
-        ..field
-    };
     let mut page = Painter::new(rt.alloc(), plain(80, 80), 0)?;
-    page.paint(&NONE, &turned);
+    page.paint(&NONE, b"A", &bars_of(Orientation::Rotated, b"A"));
     let rows = page.rows();
     for (y, want) in [
         (0, 0x80),
@@ -389,20 +437,17 @@ fn bars(rt: HostRuntime) -> Result<(), Fail> {
 
 #[test]
 fn qr(rt: HostRuntime) -> Result<(), Fail> {
-    let field = Field {
-        op: Op::Black,
-        left: 0,
-        top: 0,
-        orientation: Orientation::Rotated,
-        content: Content::Qr {
-            bytes: b"HELLO WORLD",
-            level: Level::M,
-            mode: Mode::Auto,
-            scale: 1,
-        },
-    };
     let mut page = Painter::new(rt.alloc(), plain(40, 40), 0)?;
-    page.paint(&NONE, &field);
+    match symbol(b"HELLO WORLD") {
+        Ok(field) => {
+            page.paint(&NONE, b"HELLO WORLD", &field);
+            assert_eq!(rt;
+                content_size(&NONE, b"HELLO WORLD", &field.content),
+                (21, 21)
+            );
+        }
+        Err(_) => assert!(rt; false),
+    }
     let rows = page.rows();
     assert_eq!(rt; rows[0][0], 0xfe);
     assert_eq!(rt; rows[0][2], 0xf8);
@@ -414,53 +459,73 @@ fn qr(rt: HostRuntime) -> Result<(), Fail> {
 
 #[test]
 fn data_without_a_symbol(rt: HostRuntime) -> Result<(), Fail> {
-    let field = Field {
-        op: Op::Black,
-        left: 0,
-        top: 0,
-        orientation: Orientation::Normal,
-        content: Content::Qr {
-            bytes: b"",
-            level: Level::L,
-            mode: Mode::Auto,
-            scale: 2,
-        },
-    };
     let mut page = Painter::new(rt.alloc(), plain(40, 40), 0)?;
-    page.paint(&NONE, &field);
+    let field = bars_of(Orientation::Normal, b"a");
+    page.paint(&NONE, b"a", &field);
+    assert_eq!(rt; content_size(&NONE, b"a", &field.content), (0, 0));
     assert_eq!(rt; page.rows(), [[0; 6]; 32]);
     Ok(())
 }
 
-#[test]
-fn rows_of_a_picture(rt: HostRuntime) -> Result<(), Fail> {
-    let view = View {
-        width: 8,
-        height: 34,
-        inverted: true,
-        mirrored: false,
-    };
-    let mut band = Band::new(rt.alloc())?;
-    clear(&mut band);
-    let on = Standing {
-        op: Op::Black,
-        left: 0,
-        top: 0,
-        orientation: Orientation::Normal,
-        view,
-    };
-    for (y, byte) in [(0, 0x80), (32, 0x80), (33, 0x01)] {
-        let row = PictureRow {
-            bytes: &[byte],
-            y,
-            rows: 34,
-        };
-        paint_standing(&row, on, 0, &mut band);
+/// The first byte of each row of four bands of a label of 8 dots that shows a picture. Its mark is kept from
+/// band to band, or there is none.
+fn over_bands(
+    alloc: Global,
+    view: View,
+    keeps: bool,
+    field: &Field,
+    stored: &[u8],
+) -> Result<[u8; 128], Fail>
+    requires { IsKept stored.now field.now }
+{
+    let view = View { width: 8, ..view };
+    let mut bytes = [0; 128];
+    let mut mark = None;
+    for b in 0..4u8 {
+        let first = 32 * u32::from(b);
+        let mut band = Band::new(alloc)?;
+        clear(&mut band);
+        mark = paint_field(&NONE, stored, field, mark, view, first, &mut band);
+        if !keeps {
+            mark = None;
+        }
+        cut(view, first, &mut band);
+        for k in 0..32u8 {
+            bytes[usize::from(32 * b + k)] = band.row(usize::from(k))[0];
+        }
     }
-    cut(view, 0, &mut band);
-    assert_eq!(rt; band.row(0)[0], 0x80);
-    assert_eq!(rt; band.row(1)[0], 0x01);
-    assert_eq!(rt; band.row(2)[0], 0);
-    assert_eq!(rt; band.row(31)[0], 0);
+    Ok(bytes)
+}
+
+#[test]
+fn pictures(rt: HostRuntime) -> Result<(), Fail> {
+    let mut stored = [0x81u8; 100];
+    for y in 0..70u8 {
+        stored[usize::from(y)] = y;
+    }
+    for (inverted, mirrored) in [(false, false), (true, false), (false, true), (true, true)] {
+        let view = View {
+            inverted,
+            mirrored,
+            ..plain(8, 128)
+        };
+        for keeps in [false, true] {
+            let field = picture(30, 80, Op::Black, &stored);
+            let bytes = over_bands(rt.alloc(), view, keeps, &field, &stored)?;
+            for y in 0..128u8 {
+                let v = if inverted { 127 - y } else { y };
+                let byte = match v.wrapping_sub(30) {
+                    r if r < 80 => stored[usize::from(r)],
+                    _ => 0,
+                };
+                let want = if inverted == mirrored {
+                    byte
+                } else {
+                    byte.reverse_bits()
+                };
+                assert_eq!(rt; bytes[usize::from(y)], want);
+            }
+        }
+    }
     Ok(())
 }

@@ -9,7 +9,7 @@ use vp_dots::{Ink, Op, fill_moved};
 use vp_glyph::{Sampled, Sheet};
 
 /// The cells of a text side by side, each w by h dots.
-pub struct Text<'a> {
+pub struct Cells<'a> {
     pub sheet: &'a Option<Sheet>,
     pub text: &'a [u8],
     pub w: u32,
@@ -18,9 +18,9 @@ pub struct Text<'a> {
     ghost fits: { w * length text.now < 2 ^ 32 },
 }
 
-impl Copy for Text<'_> {}
+impl Copy for Cells<'_> {}
 
-impl Clone for Text<'_> {
+impl Clone for Cells<'_> {
     fn clone(&self) -> Result<Self, AllocError> {
         Ok(*self)
     }
@@ -30,8 +30,7 @@ impl Clone for Text<'_> {
 const FAR: i64 = 1 << 40;
 
 /// The first of `count` cells of w dots that can be seen on a row of so many bytes, and the one behind the
-/// last, where
-/// the first begins at an offset.
+/// last, where the first begins at an offset.
 fn visible(at: i64, w: u32, count: usize, bytes: usize) -> (usize, usize)
     requires some { 0 < w }
     ensures before { (x d : ℕ) → x < w * result.0 → pos d ≡ at +ℤ pos x → d < 0 }
@@ -61,7 +60,7 @@ fn moved(at: i64, dots: u64) -> i64
     at + dots as i64
 }
 
-impl Text<'_> {
+impl Cells<'_> {
     fn cell(&self, k: usize) -> Sampled<'_>
         requires { k < length self.now.text.now }
         ensures sheet { result.sheet.now ≡ self.now.sheet.now }
@@ -104,7 +103,7 @@ impl Text<'_> {
     }
 }
 
-impl Ink for Text<'_> {
+impl Ink for Cells<'_> {
     ghost width = { λ s. s.w * length s.text.now };
 
     ghost height = { λ s. s.h };

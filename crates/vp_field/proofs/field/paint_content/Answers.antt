@@ -1,47 +1,52 @@
-use Rattle.std.proofs.Common.{rules, w32, w64}
+use Rattle.std.proofs.Common.{rules, w64}
 use mir.Val.{SFits}
 use Rattle.std.proofs.lemmas.Int.{to_z-of_z}
 use Rattle.vp_field.proofs.field.paint_content.Goals as goal
 
-pub returns-in-Text : goal.returns-in-Text
-returns-in-Text c =
+pub returns-in-Text-clause-dots : goal.returns-in-Text-clause-dots
+returns-in-Text-clause-dots c =
     let f = c.args.field.now in
-    let n = c.requires.near in
+    let n = c.requires.kept.near in
     let left : SFits w64 f.left = search (rules, n.left_low, n.left_high) in
     let top : SFits w64 f.top = search (rules, n.top_low, n.top_high) in
-    rw c.in-Text.is (rw (to_z-of_z w64 f.left left, to_z-of_z w64 f.top top) at c.paint_standing.ensures)
+    rw c.in-Text.is (rw (to_z-of_z w64 f.left left, to_z-of_z w64 f.top top) at c.paint_text.ensures)
 
-pub returns-in-Block : goal.returns-in-Block
-returns-in-Block c =
+pub returns-in-Block-clause-dots : goal.returns-in-Block-clause-dots
+returns-in-Block-clause-dots c =
     let f = c.args.field.now in
-    let n = c.requires.near in
+    let n = c.requires.kept.near in
     let left : SFits w64 f.left = search (rules, n.left_low, n.left_high) in
     let top : SFits w64 f.top = search (rules, n.top_low, n.top_high) in
-    let b = c.block-ink.ensures in
-    let ranges = rw c.in-Block.is at c.requires.content in
-    let fits : SFits w32 c.in-Block.gap = search (rules, ranges) in
-    rw c.in-Block.is (rw (to_z-of_z w64 f.left left, to_z-of_z w64 f.top top, b.sheet, b.text, b.w, b.h, b.wide, b.rows, b.pitch, b.alignment, to_z-of_z w32 c.in-Block.gap fits) at c.paint_standing-in-Block.ensures)
+    rw c.in-Block.is (rw (to_z-of_z w64 f.left left, to_z-of_z w64 f.top top) at c.paint_block.ensures)
 
-pub returns-in-Box : goal.returns-in-Box
-returns-in-Box c =
+pub returns-in-Box-clause-dots : goal.returns-in-Box-clause-dots
+returns-in-Box-clause-dots c =
     let f = c.args.field.now in
-    let n = c.requires.near in
+    let n = c.requires.kept.near in
     let left : SFits w64 f.left = search (rules, n.left_low, n.left_high) in
     let top : SFits w64 f.top = search (rules, n.top_low, n.top_high) in
-    rw c.in-Box.is (rw (to_z-of_z w64 f.left left, to_z-of_z w64 f.top top, to_z-of_z w64 f.left left, to_z-of_z w64 f.top top) at c.paint_standing-in-Box.ensures)
+    rw c.in-Box.is (rw (to_z-of_z w64 f.left left, to_z-of_z w64 f.top top, to_z-of_z w64 f.left left, to_z-of_z w64 f.top top) at (rw c.of.ensures at c.paint_standing.ensures))
 
-pub returns-in-Bars : goal.returns-in-Bars
-returns-in-Bars c =
+pub returns-in-Bars-clause-dots : goal.returns-in-Bars-clause-dots
+returns-in-Bars-clause-dots c =
     let f = c.args.field.now in
-    let n = c.requires.near in
+    let n = c.requires.kept.near in
     let left : SFits w64 f.left = search (rules, n.left_low, n.left_high) in
     let top : SFits w64 f.top = search (rules, n.top_low, n.top_high) in
-    rw c.in-Bars.is (rw (to_z-of_z w64 f.left left, to_z-of_z w64 f.top top, c.linear.ensures) at c.paint_bars.ensures)
+    rw c.in-Bars.is (rw (to_z-of_z w64 f.left left, to_z-of_z w64 f.top top) at c.paint_bars.ensures)
 
-pub returns-in-Qr : goal.returns-in-Qr
-returns-in-Qr c =
+pub returns-in-Qr-clause-dots : goal.returns-in-Qr-clause-dots
+returns-in-Qr-clause-dots c =
     let f = c.args.field.now in
-    let n = c.requires.near in
+    let n = c.requires.kept.near in
     let left : SFits w64 f.left = search (rules, n.left_low, n.left_high) in
     let top : SFits w64 f.top = search (rules, n.top_low, n.top_high) in
-    rw c.in-Qr.is (rw (to_z-of_z w64 f.left left, to_z-of_z w64 f.top top, to_z-of_z w64 f.left left, to_z-of_z w64 f.top top) at c.paint_qr.ensures)
+    rw c.in-Qr.is (rw (to_z-of_z w64 f.left left, to_z-of_z w64 f.top top, to_z-of_z w64 f.left left, to_z-of_z w64 f.top top) at (c.paint_qr.ensures c.args.sheets.now))
+
+pub returns-in-Picture-clause-dots : goal.returns-in-Picture-clause-dots
+returns-in-Picture-clause-dots c =
+    let f = c.args.field.now in
+    let n = c.requires.kept.near in
+    let left : SFits w64 f.left = search (rules, n.left_low, n.left_high) in
+    let top : SFits w64 f.top = search (rules, n.top_low, n.top_high) in
+    rw c.in-Picture.is (rw (to_z-of_z w64 f.left left, to_z-of_z w64 f.top top, to_z-of_z w64 f.left left, to_z-of_z w64 f.top top) at (c.paint_picture.ensures.dots c.args.sheets.now))
