@@ -1,6 +1,6 @@
 -- What is closed can be drawn.
 use Rattle.std.proofs.Common.{◌≡◌, ◌≤◌, ◌+◌, ◌-◌, ◌*◌, ◌/◌, refl, length, ℕ, Bool, true, false, Option, Some, None, List, [], ◌∷◌, arith, max, option_map, if◌then◌else◌}
-use Rattle.std.proofs.lemmas.Nat.{mul-le}
+use Rattle.std.proofs.lemmas.Nat.{mul-le, le-div}
 use Rattle.std.specs.Prelude.{IfSome}
 use Rattle.vp_zpl.specs.declared.item.LineSpace.{LineSpace}
 use Rattle.vp_zpl.specs.declared.item.LineSpace.TheVariants.{Added, Deleted}
@@ -87,11 +87,14 @@ box-fits t w h c fits = record { thickness = fits; width = side-fits w t fits; h
 row-fits : (bytes row : ℕ) → has_rows bytes row ≡ true → Within 1 1024 row
 row-fits bytes row so = record { least = grind (arith, so); most = grind (arith, so) }
 
+rows-fit : (bytes row : ℕ) → has_rows bytes row ≡ true → 1 ≤ bytes / row
+rows-fit bytes row so = le-div 1 bytes row (grind (arith, so)) (grind (arith, so))
+
 headed-fits : (ok : Bool) (coding : Option Coding) (bytes row start : ℕ) → has_rows bytes row ≡ ok →
     IsContentIf (option_map (picture_behind start) (if ok then headed coding bytes row else None))
 headed-fits false coding bytes row start so = tt
 headed-fits true None bytes row start so = tt
-headed-fits true (Some coding) bytes row start so = record { row_bytes = row-fits bytes row so }
+headed-fits true (Some coding) bytes row start so = record { row_bytes = row-fits bytes row so; rows = rows-fit bytes row so }
 
 picture-fits : (format : Option GraphicFormat) (sent bytes row : Option ℕ) (start : ℕ) →
     IsContentIf (option_map (picture_behind start) (picture_head format sent bytes row))

@@ -1,16 +1,17 @@
 -- What is in force is in its ranges, and what is closed can be drawn.
 use Rattle.std.proofs.Common.{◌≤◌, ◌==◌, ℕ, Bool, true, false, Option, Some, None, List, [], ◌∷◌, arith, if◌then◌else◌}
 use Rattle.vp_zpl.specs.declared.item.Command.{Command}
-use Rattle.vp_zpl.specs.declared.item.Command.TheVariants.{FormatEnd, PrintWidth, LabelLength, DefaultFont, BarDefaults as SetBarDefaults, PrintQuantity}
+use Rattle.vp_zpl.specs.declared.item.Command.TheVariants.{FormatEnd, LabelHome, PrintWidth, LabelLength, DefaultFont, BarDefaults as SetBarDefaults, PrintQuantity}
 use Rattle.vp_zpl.specs.Items.{Item}
 use Rattle.vp_zpl.specs.Items.Item.{Given, Data}
 use Rattle.vp_label_settings.specs.declared.size.CharacterSize.{CharacterSize}
+use Rattle.vp_label_settings.specs.declared.settings.Home.{Home}
 use Rattle.vp_label_settings.specs.declared.settings.BarDefaults.{BarDefaults}
 use Rattle.vp_label_settings.specs.declared.settings.TheConstants.{WIDEST, LONGEST}
 use Rattle.vp_label_settings.specs.Ranges.{ranged, nearest, counted, size_of, size_given}
 use Rattle.vp_label_settings.specs.Formats.{is_open, acting}
-use Rattle.vp_label_settings.specs.Settings.{print_width_by, print_width, label_length_by, label_length, default_font_by, default_font, first_font, bar_defaults_by, bar_defaults, quantity_by, quantity, settings_of}
-use Rattle.vp_label_settings.specs.Laws.{Within, IsSize, AreBars, AreInRange}
+use Rattle.vp_label_settings.specs.Settings.{coordinate, home_by, home, print_width_by, print_width, label_length_by, label_length, default_font_by, default_font, first_font, bar_defaults_by, bar_defaults, quantity_by, quantity, settings_of}
+use Rattle.vp_label_settings.specs.Laws.{Within, IsSize, IsHome, AreBars, AreInRange}
 
 -- what each command keeps, items keep
 pub acting-keeps : {S : Type 0} → (P : S → Type 0) → (f : Command → S → S) → ((command : Command) (old : S) → P old → P (f command old)) →
@@ -22,6 +23,19 @@ acting-keeps P f step opened (Data byte) old holds = holds
 pub ranged-within : (low high default : ℕ) (n : Option ℕ) → low ≤ high → Within low high default → Within low high (ranged low high default n)
 ranged-within low high default None order fits = fits
 ranged-within low high default (Some n) order fits = record { least = omega arith; most = omega arith }
+
+-- a coordinate is at most 32,000
+pub coordinate-fits : (n : Option ℕ) → coordinate n ≤ 32000
+coordinate-fits None = omega arith
+coordinate-fits (Some n) = omega arith
+
+home-step : (command : Command) (old : Home) → IsHome old → IsHome (home_by command old)
+home-step (LabelHome x y) old fits = record { x = coordinate-fits x; y = coordinate-fits y }
+home-step _ old fits = fits
+
+pub home-fits : (before : List Item) → IsHome (home before)
+home-fits [] = record { x = omega arith; y = omega arith }
+home-fits (item ∷ before) = acting-keeps IsHome home_by home-step (is_open before) item (home before) (home-fits before)
 
 print_width-step : (command : Command) (old : ℕ) → Within 1 WIDEST old → Within 1 WIDEST (print_width_by command old)
 print_width-step (PrintWidth dots) old fits = ranged-within 1 WIDEST 832 dots (omega arith) (record { least = omega arith; most = omega arith })
@@ -108,6 +122,7 @@ quantity-fits (item ∷ before) =
 
 pub settings-fit : (before : List Item) → AreInRange (settings_of before)
 settings-fit before = record {
+  home = home-fits before;
   print_width = print_width-fits before;
   label_length = label_length-fits before;
   default_font = default_font-fits before;

@@ -1,4 +1,5 @@
 pub mod Storing
 pub mod InRange
 pub mod Drawable
+pub mod Among
 pub mod Idle

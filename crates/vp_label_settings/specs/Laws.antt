@@ -1,14 +1,18 @@
--- Words of the laws: what can be drawn, in dots.
+-- Words of the laws: what can be drawn, in dots, and which bytes it takes.
 use Rattle.std.specs.Prelude.{◌≤◌, ℕ, ◌+◌, Option, Some, None}
 use Rattle.vp_zpl.specs.declared.item.LineSpace.{LineSpace}
 use Rattle.vp_zpl.specs.declared.item.LineSpace.TheVariants.{Added, Deleted}
 use Rattle.vp_label_settings.specs.declared.size.CharacterSize.{CharacterSize}
 use Rattle.vp_label_settings.specs.declared.settings.TheConstants.{WIDEST, LONGEST}
+use Rattle.vp_label_settings.specs.declared.settings.Home.{Home}
 use Rattle.vp_label_settings.specs.declared.settings.BarDefaults.{BarDefaults}
 use Rattle.vp_label_settings.specs.declared.settings.Settings.{Settings}
 use Rattle.vp_label_settings.specs.declared.choice.FieldBlock.{FieldBlock}
 use Rattle.vp_label_settings.specs.declared.graphic.GraphicBox.{GraphicBox}
 use Rattle.vp_label_settings.specs.declared.graphic.PictureHead.{PictureHead}
+use Rattle.vp_label_settings.specs.declared.field.Position.{Position}
+use Rattle.vp_label_settings.specs.declared.field.Position.TheVariants.{Corner, Baseline}
+use Rattle.vp_label_settings.specs.declared.field.Stored.{Stored}
 use Rattle.vp_label_settings.specs.declared.field.Content.{Content}
 use Rattle.vp_label_settings.specs.declared.field.Content.TheVariants.{Text, Bars, Qr, Frame, Picture}
 
@@ -25,8 +29,13 @@ pub record AreBars (d : BarDefaults) : Type 0 where
   pub ratio_tenths : Within 20 30 d.ratio_tenths
   pub height : Within 1 8000 d.height
 
+pub record IsHome (h : Home) : Type 0 where
+  pub x : h.x ≤ 32000
+  pub y : h.y ≤ 32000
+
 -- settings are in their ranges
 pub record AreInRange (s : Settings) : Type 0 where
+  pub home : IsHome s.home
   pub print_width : Within 1 WIDEST s.print_width
   pub label_length : Within 1 LONGEST s.label_length
   pub default_font : IsSize s.default_font
@@ -53,6 +62,7 @@ pub record IsFrame (b : GraphicBox) : Type 0 where
 
 pub record IsPicture (p : PictureHead) : Type 0 where
   pub row_bytes : Within 1 1024 p.row_bytes
+  pub rows : 1 ≤ p.rows
 
 -- a content can be drawn
 abbrev pub IsDrawable : Content → Type 0
@@ -61,3 +71,20 @@ IsDrawable (Bars kind narrow wide height text bytes) = Within 1 10 narrow × Wit
 IsDrawable (Qr model dots bytes) = Within 1 2 model × Within 1 10 dots
 IsDrawable (Frame b) = IsFrame b
 IsDrawable (Picture head bytes) = IsPicture head
+
+-- a place as far off as the home and a coordinate can bring it
+abbrev pub IsPlace : Position → Type 0
+IsPlace (Corner x y) = (x ≤ 64000) × (y ≤ 64000)
+IsPlace (Baseline x y) = (x ≤ 64000) × (y ≤ 64000)
+
+-- bytes lie among so many stored ones
+abbrev pub IsAmong : ℕ → Stored → Type 0
+IsAmong stored bytes = bytes.start + bytes.length ≤ stored
+
+-- the bytes of a content do
+abbrev pub HasBytesAmong : ℕ → Content → Type 0
+HasBytesAmong stored (Text size block bytes) = IsAmong stored bytes
+HasBytesAmong stored (Bars kind narrow wide height text bytes) = IsAmong stored bytes
+HasBytesAmong stored (Qr model dots bytes) = IsAmong stored bytes
+HasBytesAmong stored (Frame b) = Unit {0}
+HasBytesAmong stored (Picture head bytes) = IsAmong stored bytes

@@ -70,7 +70,7 @@ pub struct FieldBlock {
     pub alignment: Alignment,
 }
 
-/// Below, and above where that is asked for too.
+/// Below, or above where that is asked for too.
 fn bar_text(text: Option<bool>, above: Option<bool>) -> BarText
     ensures { result ≡ bar_text text above }
 {

@@ -3,14 +3,14 @@ use Rattle.std.specs.Prelude.{ℕ, ◌+◌, ◌-◌, ◌*◌, ◌==◌, nat_le, 
 use Rattle.vp_dots.specs.declared.fault.Fault.{Fault}
 use Rattle.vp_dots.specs.declared.fault.Fault.TheVariants.{Symbol}
 use Rattle.vp_dots.specs.declared.fault.Why.TheVariants.{Empty, Length, CodeSet, Unsupported}
-use Rattle.vp_qr_field.specs.declared.front.QrLevel.{QrLevel}
-use Rattle.vp_qr_field.specs.declared.front.QrLevel.TheVariants.{L, M, Q, H}
-use Rattle.vp_qr_field.specs.declared.front.QrInput.{QrInput}
-use Rattle.vp_qr_field.specs.declared.front.QrInput.TheVariants.{Automatic, Numeric, Alphanumeric, Bytes}
+use Rattle.vp_qr.specs.declared.level.Level.{Level}
+use Rattle.vp_qr.specs.declared.level.Level.TheVariants.{L, M, Q, H}
+use Rattle.vp_qr.specs.declared.segment.Mode.{Mode}
+use Rattle.vp_qr.specs.declared.segment.Mode.TheVariants.{Auto, Digits, Alnum, Bytes}
 use Rattle.vp_qr_field.specs.declared.front.QrFront.{QrFront}
 
 -- the letter of a level of error correction
-abbrev pub level_of : ℕ → Option QrLevel
+abbrev pub level_of : ℕ → Option Level
 level_of c =
     if c == 0x48 then Some H
     else if c == 0x51 then Some Q
@@ -18,8 +18,8 @@ level_of c =
     else if c == 0x4C then Some L
     else None
 
-abbrev pub front : QrLevel → QrInput → ℕ → Result QrFront Fault
-front level input bytes = Ok (record { level = level; input = input; length = bytes })
+abbrev pub front : Level → Mode → ℕ → Result QrFront Fault
+front level mode bytes = Ok (record { level = level; mode = mode; length = bytes })
 
 -- any other front
 abbrev pub no_front : Result QrFront Fault
@@ -36,34 +36,34 @@ abbrev pub number_of : ℕ → ℕ → ℕ → ℕ → ℕ
 number_of a b c d = 1000 * (a - 0x30) + 100 * (b - 0x30) + 10 * (c - 0x30) + (d - 0x30)
 
 -- B: four digits say how many bytes come, and as many come
-abbrev pub counted : QrLevel → List ℕ → Result QrFront Fault
+abbrev pub counted : Level → List ℕ → Result QrFront Fault
 counted level (a ∷ b ∷ c ∷ d ∷ bytes) =
     if are_digits a b c d then if number_of a b c d == length bytes then front level Bytes 8 else Err (Symbol Length)
     else no_front
 counted level _ = no_front
 
 -- M and a comma: a letter says how the bytes are read; K, Kanji, isn't drawn
-abbrev pub manual : QrLevel → List ℕ → Result QrFront Fault
+abbrev pub manual : Level → List ℕ → Result QrFront Fault
 manual level [] = no_front
 manual level (c ∷ rest) =
-    if c == 0x4E then front level Numeric 4
-    else if c == 0x41 then front level Alphanumeric 4
+    if c == 0x4E then front level Digits 4
+    else if c == 0x41 then front level Alnum 4
     else if c == 0x42 then counted level rest
     else if c == 0x4B then Err (Symbol Unsupported)
     else no_front
 
 -- A and a comma: how they are read is chosen by the bytes
-abbrev pub input_of : QrLevel → ℕ → List ℕ → Result QrFront Fault
-input_of level c rest =
-    if c == 0x41 then front level Automatic 3 else if c == 0x4D then manual level rest else no_front
+abbrev pub mode_of : Level → ℕ → List ℕ → Result QrFront Fault
+mode_of level c rest =
+    if c == 0x41 then front level Auto 3 else if c == 0x4D then manual level rest else no_front
 
-abbrev pub level_and_input : Option QrLevel → ℕ → ℕ → List ℕ → Result QrFront Fault
-level_and_input None c comma rest = no_front
-level_and_input (Some level) c comma rest = if comma == 0x2C then input_of level c rest else no_front
+abbrev pub level_and_mode : Option Level → ℕ → ℕ → List ℕ → Result QrFront Fault
+level_and_mode None c comma rest = no_front
+level_and_mode (Some level) c comma rest = if comma == 0x2C then mode_of level c rest else no_front
 
 abbrev pub front_in : List ℕ → Result QrFront Fault
 front_in [] = Err (Symbol Empty)
-front_in (letter ∷ c ∷ comma ∷ rest) = level_and_input (level_of letter) c comma rest
+front_in (letter ∷ c ∷ comma ∷ rest) = level_and_mode (level_of letter) c comma rest
 front_in _ = no_front
 
 -- the front of the data, or why there is none; model 1 isn't drawn, whatever the data

@@ -1,33 +1,16 @@
 //! The level of error correction, how the bytes are read, and where they begin.
-ghost use Rattle.std.specs.Prelude.{◌≡◌};
+ghost use Rattle.std.specs.Prelude.{◌≡◌, ◌+◌, ◌≤◌, length, IfOk};
 ghost use Rattle.vp_qr_field.specs.Fronts.{level_of, counted, manual, front_in, front_of, is_digit};
 
 use vp_dots::{Fault, Why};
-
-/// The levels of error correction, from the lowest.
-#[derive(Clone, Copy, Debug, PartialEq, Eq)]
-pub enum QrLevel {
-    L,
-    M,
-    Q,
-    H,
-}
-
-/// How the bytes of a symbol are read.
-#[derive(Clone, Copy, Debug, PartialEq, Eq)]
-pub enum QrInput {
-    /// As the bytes allow it.
-    Automatic,
-    Numeric,
-    Alphanumeric,
-    Bytes,
-}
+use vp_qr::{Level, Mode};
 
 /// What stands before the bytes of a symbol.
 #[derive(Clone, Copy, Debug, PartialEq, Eq)]
 pub struct QrFront {
-    pub level: QrLevel,
-    pub input: QrInput,
+    pub level: Level,
+    /// How the bytes are read.
+    pub mode: Mode,
     /// How many bytes it takes itself.
     pub length: usize,
 }
@@ -36,14 +19,14 @@ pub struct QrFront {
 const NO_FRONT: Fault = Fault::Symbol(Why::CodeSet);
 
 /// The level of a letter.
-fn level_of(letter: u8) -> Option<QrLevel>
+fn level_of(letter: u8) -> Option<Level>
     ensures { result ≡ level_of letter }
 {
     match letter {
-        b'H' => Some(QrLevel::H),
-        b'Q' => Some(QrLevel::Q),
-        b'M' => Some(QrLevel::M),
-        b'L' => Some(QrLevel::L),
+        b'H' => Some(Level::H),
+        b'Q' => Some(Level::Q),
+        b'M' => Some(Level::M),
+        b'L' => Some(Level::L),
         _ => None,
     }
 }
@@ -55,8 +38,9 @@ fn is_digit(c: u8) -> bool
 }
 
 /// Behind B: as many bytes as its four digits say.
-fn counted(level: QrLevel, rest: &[u8]) -> Result<QrFront, Fault>
-    ensures { result ≡ counted level rest.now }
+fn counted(level: Level, rest: &[u8]) -> Result<QrFront, Fault>
+    ensures value { result ≡ counted level rest.now }
+    ensures within { IfOk result (λ front. front.length ≤ length rest.now + 4) }
 {
     let [a, b, c, d, bytes @ ..] = rest else {
         return Err(NO_FRONT);
@@ -70,35 +54,37 @@ fn counted(level: QrLevel, rest: &[u8]) -> Result<QrFront, Fault>
     }
     Ok(QrFront {
         level,
-        input: QrInput::Bytes,
+        mode: Mode::Bytes,
         length: 8,
     })
 }
 
 /// Behind M and a comma: a letter says how the bytes are read.
-fn manual(level: QrLevel, rest: &[u8]) -> Result<QrFront, Fault>
-    ensures { result ≡ manual level rest.now }
+fn manual(level: Level, rest: &[u8]) -> Result<QrFront, Fault>
+    ensures value { result ≡ manual level rest.now }
+    ensures within { IfOk result (λ front. front.length ≤ length rest.now + 3) }
 {
     let [letter, rest @ ..] = rest else {
         return Err(NO_FRONT);
     };
-    let input = match *letter {
-        b'N' => QrInput::Numeric,
-        b'A' => QrInput::Alphanumeric,
+    let mode = match *letter {
+        b'N' => Mode::Digits,
+        b'A' => Mode::Alnum,
         b'B' => return counted(level, rest),
         b'K' => return Err(Fault::Symbol(Why::Unsupported)),
         _ => return Err(NO_FRONT),
     };
     Ok(QrFront {
         level,
-        input,
+        mode,
         length: 4,
     })
 }
 
 /// The front of data that aren't of model 1.
 fn front_in(data: &[u8]) -> Result<QrFront, Fault>
-    ensures { result ≡ front_in data.now }
+    ensures value { result ≡ front_in data.now }
+    ensures within { IfOk result (λ front. front.length ≤ length data.now) }
 {
     if data.is_empty() {
         return Err(Fault::Symbol(Why::Empty));
@@ -115,7 +101,7 @@ fn front_in(data: &[u8]) -> Result<QrFront, Fault>
     match *how {
         b'A' => Ok(QrFront {
             level,
-            input: QrInput::Automatic,
+            mode: Mode::Auto,
             length: 3,
         }),
         b'M' => manual(level, rest),
@@ -128,7 +114,8 @@ fn front_in(data: &[u8]) -> Result<QrFront, Fault>
 /// whatever the data, then no data as empty, other bytes in number than said by their length, Kanji (`M,K`) as not
 /// supported, and any other front by its code set.
 pub fn qr_front(model: u16, data: &[u8]) -> Result<QrFront, Fault>
-    ensures { result ≡ front_of model data.now }
+    ensures value { result ≡ front_of model data.now }
+    ensures within { IfOk result (λ front. front.length ≤ length data.now) }
 {
     if model == 1 {
         return Err(Fault::Symbol(Why::Unsupported));

@@ -7,4 +7,4 @@ mod front;
 #[cfg(test)]
 mod tests;
 
-pub use front::{QrFront, QrInput, QrLevel, qr_front};
+pub use front::{QrFront, qr_front};

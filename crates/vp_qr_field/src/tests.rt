@@ -1,12 +1,13 @@
 //! Data of QR fields.
-use crate::{QrFront, QrInput, QrLevel, qr_front};
+use crate::{QrFront, qr_front};
 use std::test::Fail;
 use vp_dots::{Fault, Why};
+use vp_qr::{Level, Mode};
 
-fn front(level: QrLevel, input: QrInput, length: usize) -> Result<QrFront, Fault> {
+fn front(level: Level, mode: Mode, length: usize) -> Result<QrFront, Fault> {
     Ok(QrFront {
         level,
-        input,
+        mode,
         length,
     })
 }
@@ -30,21 +31,12 @@ fn wrong_row(rows: &[(&[u8], Result<QrFront, Fault>)]) -> Option<usize> {
 #[test]
 fn fronts(rt: HostRuntime) -> Result<(), Fail> {
     let rows = [
-        (
-            b"HA,abc".as_slice(),
-            front(QrLevel::H, QrInput::Automatic, 3),
-        ),
-        (b"LA,".as_slice(), front(QrLevel::L, QrInput::Automatic, 3)),
-        (b"QM,N12".as_slice(), front(QrLevel::Q, QrInput::Numeric, 4)),
-        (
-            b"MM,A12".as_slice(),
-            front(QrLevel::M, QrInput::Alphanumeric, 4),
-        ),
-        (
-            b"HM,B0003abc".as_slice(),
-            front(QrLevel::H, QrInput::Bytes, 8),
-        ),
-        (b"HM,B0000".as_slice(), front(QrLevel::H, QrInput::Bytes, 8)),
+        (b"HA,abc".as_slice(), front(Level::H, Mode::Auto, 3)),
+        (b"LA,".as_slice(), front(Level::L, Mode::Auto, 3)),
+        (b"QM,N12".as_slice(), front(Level::Q, Mode::Digits, 4)),
+        (b"MM,A12".as_slice(), front(Level::M, Mode::Alnum, 4)),
+        (b"HM,B0003abc".as_slice(), front(Level::H, Mode::Bytes, 8)),
+        (b"HM,B0000".as_slice(), front(Level::H, Mode::Bytes, 8)),
         (b"HM,B0003ab".as_slice(), refused(Why::Length)),
         (b"HM,B0003abcd".as_slice(), refused(Why::Length)),
         (b"HM,B12".as_slice(), refused(Why::CodeSet)),
