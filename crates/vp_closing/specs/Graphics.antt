@@ -1,0 +1,45 @@
+-- Boxes and pictures as the format keeps them (ZPL II, ^GB and ^GF).
+use Rattle.std.specs.Prelude.{Bool, true, false, Result, Ok, Err}
+use Rattle.std.specs.List.{list_any, range_with_len}
+use Rattle.vp_dots.specs.declared.fault.Fault.{Fault}
+use Rattle.vp_dots.specs.declared.fault.Fault.TheVariants as faults
+use Rattle.vp_format.specs.declared.rows.Coding.{Coding}
+use Rattle.vp_format.specs.declared.rows.Coding.TheVariants.{RunLength, Binary}
+use Rattle.vp_format.specs.declared.field.GraphicBox.{GraphicBox}
+use Rattle.vp_format.specs.declared.field.Picture.{Picture}
+use Rattle.vp_format.specs.declared.field.Content.{Content}
+use Rattle.vp_format.specs.declared.field.Content.TheVariants as contents
+use Rattle.vp_format.specs.Pictures.{is_refused, Picture as Codes}
+use Rattle.vp_label_settings.specs.declared.graphic.GraphicBox.{GraphicBox as Frame}
+use Rattle.vp_label_settings.specs.declared.graphic.Coding.{Coding as Written}
+use Rattle.vp_label_settings.specs.declared.graphic.Coding.TheVariants as written
+use Rattle.vp_label_settings.specs.declared.graphic.PictureHead.{PictureHead}
+use Rattle.vp_label_settings.specs.declared.field.Stored.{Stored}
+use Rattle.vp_closing.specs.Texts.{span_of}
+
+-- a box; its colour is the field's operation
+abbrev pub box_of : Frame → GraphicBox
+box_of b = record { width = b.width; height = b.height; thickness = b.thickness }
+
+-- ^GF's A and B
+abbrev pub coding_of : Written → Coding
+coding_of written.Ascii = RunLength
+coding_of written.Binary = Binary
+
+-- the picture that a head and codes behind it give
+abbrev pub headed : PictureHead → Stored → Picture
+headed head codes =
+    record {
+      codes = span_of codes;
+      coding = coding_of head.coding;
+      row_bytes = head.row_bytes;
+      rows = head.rows;
+    }
+
+-- a refused symbol starts in one of the rows; what stands behind the last row isn't looked at
+unfoldable pub has_refused : Codes → Bool
+has_refused p = list_any (is_refused p) (range_with_len 0 p.rows)
+
+abbrev pub picture_unless : Bool → Picture → Result Content Fault
+picture_unless true p = Err faults.Graphic
+picture_unless false p = Ok (contents.Picture p)

@@ -1,0 +1,7 @@
+-- The rules.
+pub mod Positions
+pub mod Texts
+pub mod Graphics
+pub mod Symbols
+pub mod Contents
+pub mod Kept

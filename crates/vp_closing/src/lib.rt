@@ -1,0 +1,20 @@
+//! Closed fields as the format keeps them, or why they are refused (ZPL II, ^FS and ^XZ).
+//!
+//! - `span`: bytes among the stored ones.
+//! - `text`, `graphic`, `symbol`: texts and their blocks, boxes and pictures, bars and QR symbols.
+//! - `position`: where a field stands.
+//! - `content`, `field`: what a field shows, and the whole field, as they are kept. `laws`: what is refused.
+#![tactic(auto)]
+
+mod content;
+mod field;
+mod graphic;
+pub mod laws;
+mod position;
+mod span;
+mod symbol;
+#[cfg(test)]
+mod tests;
+mod text;
+
+pub use field::kept;

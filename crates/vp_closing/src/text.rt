@@ -1,0 +1,66 @@
+//! Texts, and blocks of them.
+ghost use Rattle.std.specs.Prelude.{◌≡◌};
+ghost use Rattle.vp_label_settings.specs.Laws.{IsSpace, IsBlock, IsBlockIf};
+ghost use Rattle.vp_closing.specs.Texts.{text_of, gap_of, alignment_of, block_of, text_content};
+
+use crate::span::span_of;
+use vp_format::{Block, Content, Text};
+use vp_glyph::Alignment;
+use vp_label_settings::{Alignment as Asked, CharacterSize, FieldBlock, Stored};
+use vp_zpl::item::LineSpace;
+
+/// A text in one line.
+pub fn text_of(size: CharacterSize, bytes: Stored) -> Text
+    ensures { result ≡ text_of size bytes }
+{
+    Text {
+        bytes: span_of(bytes),
+        width: size.width,
+        height: size.height,
+    }
+}
+
+/// The dots between the lines of a block, fewer than none where some are deleted.
+fn gap_of(space: LineSpace) -> i16
+    requires { IsSpace space }
+    ensures { result ≡ gap_of space }
+{
+    match space {
+        LineSpace::Added(dots) => dots as i16,
+        LineSpace::Deleted(dots) => -(dots as i16),
+    }
+}
+
+fn alignment_of(asked: Asked) -> Alignment
+    ensures { result ≡ alignment_of asked }
+{
+    match asked {
+        Asked::Left => Alignment::Left,
+        Asked::Centre => Alignment::Centre,
+        Asked::Right => Alignment::Right,
+    }
+}
+
+fn block_of(text: Text, block: FieldBlock) -> Block
+    requires { IsBlock block }
+    ensures { result ≡ block_of text block }
+{
+    Block {
+        text,
+        width: block.width,
+        lines: block.lines,
+        gap: gap_of(block.space),
+        alignment: alignment_of(block.alignment),
+    }
+}
+
+/// A text, in a block where ^FB asks for one.
+pub fn text_content(text: Text, block: Option<FieldBlock>) -> Content
+    requires { IsBlockIf block }
+    ensures { result ≡ text_content text block }
+{
+    match block {
+        None => Content::Text(text),
+        Some(block) => Content::Block(block_of(text, block)),
+    }
+}
