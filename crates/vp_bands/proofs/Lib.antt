@@ -1,0 +1,5 @@
+pub mod Spans
+pub mod Painted
+pub mod Entries
+pub mod Marked
+pub mod Bounds

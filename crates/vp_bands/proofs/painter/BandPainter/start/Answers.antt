@@ -1,0 +1,6 @@
+use Rattle.vp_bands.proofs.Painted.{started}
+use Rattle.vp_bands.proofs.painter.BandPainter.start.Goals as goal
+
+pub returns-clause-before : goal.returns-clause-before
+returns-clause-before c = λ sheets stored view b before.
+    started sheets stored view b _ (rw (← c.self.view_is) at before)

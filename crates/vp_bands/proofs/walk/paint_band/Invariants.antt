@@ -1,0 +1,21 @@
+use Rattle.std.proofs.Common.{◌≡◌, ◌+◌, ◌*◌, ◌-◌, ◌≤◌, length, take}
+use Rattle.vp_field.specs.Bands.{Shows}
+use Rattle.vp_threads.specs.Threads.{IsWalk}
+use Rattle.vp_bands.specs.Standing.{met, AreMarked}
+use Rattle.vp_bands.proofs.Painted.{strokes}
+use Rattle.vp_bands.proofs.walk.paint_band.Given as goal
+
+-- of the fields seen those that meet the band are painted, and each of these took one look or two
+abbrev pub invariant-loop-n : goal.invariant-loop-n
+invariant-loop-n l = record {
+  walk : IsWalk l.entries l.links l.b l.walk;
+  lengths : (length l.links ≡ length l.initial.links) × (length l.marks ≡ length l.initial.marks);
+  shows : Shows l.view (32 * l.b) (strokes l.sheets l.stored (met l.b (take l.walk.seen l.entries))) l.band;
+  ahead : AreMarked l.stored l.entries l.marks l.b l.walk.seen (length l.entries);
+  behind : AreMarked l.stored l.entries l.marks (l.b + 1) 0 l.walk.seen;
+  at_least : l.initial.looks + length (met l.b (take l.walk.seen l.entries)) ≤ l.looks;
+  at_most : l.looks ≤ l.initial.looks + 2 * length (met l.b (take l.walk.seen l.entries));
+}
+
+abbrev pub decreases-loop-n : goal.decreases-loop-n
+decreases-loop-n l = length l.entries - l.walk.seen

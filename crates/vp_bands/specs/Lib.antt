@@ -1,0 +1,5 @@
+-- The rules.
+pub mod Meeting
+pub mod Laws
+-- What the code keeps.
+pub mod Standing

@@ -1,0 +1,47 @@
+-- Which bands of a label a field meets, and how many do.
+use Rattle.std.specs.Prelude.{ℕ, ◌+◌, ◌*◌, ◌/◌, ℤ, pos, ◌+ℤ◌, int_le, int_lt, nat_lt, Bool, ◌&&◌, List, count_by, sum_by}
+use Rattle.std.specs.List.{list_any, range_with_len}
+use Rattle.vp_glyph.specs.declared.Sheets.{Sheets}
+use Rattle.vp_format.specs.declared.field.Field.{Field}
+use Rattle.vp_field.specs.Contents.{content_width, content_height, orientation_of}
+use Rattle.vp_field.specs.Turning.{turned_height}
+use Rattle.vp_field.specs.declared.view.View.{View}
+use Rattle.vp_field.specs.Views.{seen_y}
+
+-- place p is one of the n places from a place on
+abbrev pub is_among : ℤ → ℕ → ℤ → Bool
+is_among from n p = int_le from p && int_lt p (from +ℤ pos n)
+
+-- row y of the label as it is put out shows one of so many rows of the label from row `top` on
+abbrev pub shows_row : View → ℤ → ℕ → ℕ → Bool
+shows_row view top rows y = nat_lt y view.height && is_among top rows (seen_y view (pos y))
+
+-- the rows of band b
+abbrev pub rows_of : ℕ → List ℕ
+rows_of b = range_with_len (32 * b) 32
+
+-- a row of band b shows one of them
+unfoldable pub box_meets : View → ℤ → ℕ → ℕ → Bool
+box_meets view top rows b = list_any (shows_row view top rows) (rows_of b)
+
+-- how many rows the box of a field has, turned, whatever its width
+abbrev pub box_rows : Sheets → List ℕ → Field → ℕ
+box_rows sheets stored f =
+    turned_height (orientation_of f.orientation f.content) (content_width sheets stored f.content)
+    (content_height sheets stored f.content)
+
+-- the box of the field has a row in band b
+unfoldable pub field_meets : Sheets → List ℕ → View → ℕ → Field → Bool
+field_meets sheets stored view b f = box_meets view f.top (box_rows sheets stored f) b
+
+-- how many of the fields meet band b
+abbrev pub meeting : Sheets → List ℕ → View → List Field → ℕ → ℕ
+meeting sheets stored view fields b = count_by (field_meets sheets stored view b) fields
+
+-- how many pairs of a field and one of the first n bands there are where the field meets the band
+unfoldable pub pairs : Sheets → List ℕ → View → List Field → ℕ → ℕ
+pairs sheets stored view fields n = sum_by (meeting sheets stored view fields) (range_with_len 0 n)
+
+-- how many bands a label has
+abbrev pub bands_of : View → ℕ
+bands_of view = (view.height + 31) / 32

@@ -1,0 +1,25 @@
+//! The fields of a label, painted band by band.
+//!
+//! A label is put out in bands of 32 rows. When its format ends, each field gets an entry with the bands that
+//! its box has a row in, and the entries are threaded: from each band the fields that begin there, and from
+//! band to band those that reach on. So a band is painted from the fields that meet it alone, in the order of
+//! closing. Each reading of an entry or of a link is a look, and looks are counted from a copy's start on.
+//!
+//! - `meeting`: which bands a box meets.
+//! - `table`: the entries of the fields of a format.
+//! - `walk`: one band, painted from the fields that meet it.
+//! - `painter`: all bands of a label, copy after copy.
+//! - `laws`: which bands a box meets, and how many looks a copy takes.
+#![tactic(auto)]
+
+mod laws;
+mod meeting;
+mod painter;
+mod table;
+#[cfg(test)]
+mod tests;
+mod walk;
+
+pub use laws::{bands_met, looks_bounded};
+pub use meeting::BANDS;
+pub use painter::BandPainter;
