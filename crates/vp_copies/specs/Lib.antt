@@ -1,0 +1,5 @@
+-- The rules.
+pub mod Copies
+-- What the code keeps.
+pub mod Progress
+pub mod Standing

@@ -1,0 +1,151 @@
+//! Copies that are being put out, as far as there is room.
+ghost use Rattle.std.specs.Prelude.{◌≡◌, ℕ, ◌-◌, ◌<◌, ◌≤◌, ◌++◌, ◌↔◌, Bool, List, min, take, drop, length, IsTrue};
+ghost use Rattle.vp_dots.specs.Images.{Image};
+ghost use Rattle.vp_copies.specs.Copies.{advanced, ahead, band_rows, copies_text, line_bytes, line_text, pending};
+ghost use Rattle.vp_copies.specs.Progress.{image_of, IsPainted, IsPlaceOf, IsReady};
+ghost use Rattle.vp_copies.specs.declared.place.Line.TheVariants.{Head};
+
+use crate::place::{Ahead, BAND_ROWS, Line, Place};
+use arrayvec::ArrayVec;
+use std::marker::Model;
+use vp_dots::{Band, dots_decide, header};
+
+/// The dots across the widest label.
+pub const WIDEST: u16 = 1248;
+
+/// The rows of the longest label.
+pub const LONGEST: u16 = 8000;
+
+/// Copies of an image that are being put out. Clauses see how wide and high it is, and the place of the next byte.
+#[derive(Drop)]
+pub struct Copies {
+    width: u16,
+    height: u16,
+    head: ArrayVec<u8, 32>,
+    place: Place,
+}
+
+impl Model for Copies {
+    ghost use Rattle.vp_copies.specs.Progress.{Progress};
+
+    ghost Value = { Progress };
+
+    ghost use Rattle.vp_copies.specs.Standing.{progress_of, IsCopies};
+
+    ghost view = { progress_of };
+
+    ghost invariant = { IsCopies };
+}
+
+/// Copies what there is room for of the line from a byte on, and answers how much.
+fn copy_from(line: &[u8], byte: usize, out: &mut [u8]) -> usize
+    requires { byte ≤ length line.now }
+    ensures count { result ≡ min (length line.now - byte) (length out.old) }
+    ensures bytes { out.new ≡ take result (drop byte line.now) ++ drop result out.old }
+{
+    let rest = &line[byte..];
+    let n = rest.len().min(out.len());
+    out[..n].copy_from_slice(&rest[..n]);
+    n
+}
+
+/// The bytes of a row of the band, for an image so wide.
+fn row_of_band(band: &Band<156, 32>, y: usize, width: u16) -> &[u8]
+    requires narrow { width ≤ WIDEST }
+    ensures count { length result.now ≡ line_bytes width 0 (Line.Row y) }
+    ensures text { (i : Image) → i.width ≡ width → y < i.height → IsPainted i (Line.Row y) band.now →
+        result.now ≡ line_text i (Line.Row y) }
+{
+    let row = &band.row(y % BAND_ROWS)[..(usize::from(width) + 7) / 8];
+    dots_decide(row);
+    row
+}
+
+impl Copies {
+    /// So many copies of an image, of 1 to 1,248 by 1 to 8,000 dots; none, and nothing is pending.
+    pub fn new(width: u16, height: u16, copies: u32) -> Copies
+        requires wide { 0 < width }
+        requires narrow { width ≤ WIDEST }
+        requires high { 0 < height }
+        requires low { height ≤ LONGEST }
+        ensures value { result ≡
+            record { width = width; height = height; place = record { copies = copies; line = Head; byte = 0 } } }
+        ensures text { (dots : ℕ → ℕ → Bool) →
+            pending (image_of result dots) result.place ≡ copies_text (image_of result dots) copies }
+        ensures ready { (dots : ℕ → ℕ → Bool) (band : List (List ℕ)) → IsReady (image_of result dots) result.place band }
+        ensures place { IsPlaceOf result.width result.height result.place }
+    {
+        Copies {
+            width,
+            height,
+            head: header(u32::from(width), u32::from(height)),
+            place: Place::start(copies),
+        }
+    }
+
+    /// Whether bytes are left.
+    pub fn is_pending(&self) -> bool
+        ensures bytes { (dots : ℕ → ℕ → Bool) →
+            IsTrue result ↔ (0 < length (pending (image_of self.now dots) self.now.place)) }
+        ensures copies { IsTrue result ↔ (0 < self.now.place.copies) }
+    {
+        self.place.copies > 0
+    }
+
+    /// What has to be ready before the next byte is put out.
+    pub fn ahead(&self) -> Ahead
+        ensures { result ≡ ahead self.now.place }
+    {
+        self.place.ahead()
+    }
+
+    /// How many rows of the image are in the band of the next byte: none for the header's.
+    pub fn band_rows(&self) -> usize
+        ensures { result ≡ band_rows self.now.height self.now.place.line }
+    {
+        match self.place.line {
+            Line::Head => 0,
+            Line::Row(y) => {
+                let above = y / BAND_ROWS * BAND_ROWS;
+                (usize::from(self.height) - above).min(BAND_ROWS)
+            }
+        }
+    }
+
+    /// The bytes of the place's line.
+    fn line<'a>(&'a self, band: &'a Band<156, 32>) -> &'a [u8]
+        ensures count { length result.now ≡ line_bytes self.now.width self.now.height self.now.place.line }
+        ensures text { (dots : ℕ → ℕ → Bool) → IsPainted (image_of self.now dots) self.now.place.line band.now →
+            result.now ≡ line_text (image_of self.now dots) self.now.place.line }
+    {
+        match self.place.line {
+            Line::Head => self.head.as_slice(),
+            Line::Row(y) => row_of_band(band, y, self.width),
+        }
+    }
+
+    /// Puts out the next bytes of the place's line, as many as there are and room is for, and answers how many. For
+    /// whatever dots the band is painted with, they are the image's.
+    pub fn put_line(&mut self, band: &Band<156, 32>, out: &mut [u8]) -> usize
+        requires { 0 < self.old.place.copies }
+        ensures count { result ≡ min (line_bytes self.old.width self.old.height self.old.place.line - self.old.place.byte)
+            (length out.old) }
+        ensures some { 0 < length out.old → 0 < result }
+        ensures value { self.new ≡
+            record self.old { place = advanced self.old.width self.old.height result self.old.place } }
+        ensures within { (dots : ℕ → ℕ → Bool) → result ≤ length (pending (image_of self.old dots) self.old.place) }
+        ensures bytes { (dots : ℕ → ℕ → Bool) → IsPainted (image_of self.old dots) self.old.place.line band.now →
+            out.new ≡ take result (pending (image_of self.old dots) self.old.place) ++ drop result out.old }
+        ensures rest { (dots : ℕ → ℕ → Bool) → pending (image_of self.new dots) self.new.place
+            ≡ drop result (pending (image_of self.old dots) self.old.place) }
+        ensures ready { (dots : ℕ → ℕ → Bool) → IsPainted (image_of self.old dots) self.old.place.line band.now →
+            IsReady (image_of self.new dots) self.new.place band.now }
+        ensures place { IsPlaceOf self.new.width self.new.height self.new.place }
+    {
+        let line = self.line(band);
+        let len = line.len();
+        let n = copy_from(line, self.place.byte, out);
+        self.place = self.place.advanced(n, len, usize::from(self.height));
+        n
+    }
+}
