@@ -1,0 +1,5 @@
+pub mod Stores
+pub mod Cut
+pub mod Effects
+pub mod Presses
+pub mod Idle

@@ -1,0 +1,78 @@
+-- Data that are stored, or find no room.
+use Rattle.std.proofs.Common.{◌≡◌, ◌+◌, ◌∙◌, ◌<◌, ◌≤◌, ℕ, true, false, List, [], ◌∷◌, ◌++◌, length, arith, refl, length-append, Option, Some, None, Bool, ◌&&◌, ap, inl, inr, sym, append_assoc}
+use Rattle.std.specs.Prelude.{nat_le, not, ◌||◌, if◌then◌else◌}
+use Rattle.std.proofs.lemmas.Bool.Decides.{nat_tests}
+use Rattle.std.specs.Option.{option_or}
+use Rattle.std.specs.Result.{IsOk, OnOk}
+use Rattle.std.specs.Prelude.{Result, Ok, Err}
+use Rattle.std.proofs.lemmas.List.{append-nil}
+use Rattle.std.proofs.lemmas.Bool.{cases_lt, le-leb, lt-leb}
+use Rattle.vp_dots.specs.declared.fault.Fault.{Fault}
+use Rattle.vp_dots.specs.declared.fault.Fault.TheVariants.{StoreFull}
+use Rattle.vp_glyph.specs.declared.Sheets.{Sheets}
+use Rattle.vp_zpl.specs.Items.Item.{Data}
+use Rattle.vp_zpl.specs.Items.{Item, data_items}
+use Rattle.vp_label_settings.specs.Formats.{is_open, followed_by, stored}
+use Rattle.vp_label.specs.Entries.{entries}
+use Rattle.vp_label.specs.Refusals.{first_refusal, refusal}
+
+pub entries-kept : (sheets : Sheets) (before : List Item) (bytes : List ℕ) → entries sheets (followed_by before (data_items bytes)) ≡ entries sheets before
+entries-kept sheets before [] = refl
+entries-kept sheets before (b ∷ bytes) = entries-kept sheets (Data b ∷ before) bytes
+
+pub open-kept : (before : List Item) (bytes : List ℕ) → is_open (followed_by before (data_items bytes)) ≡ is_open before
+open-kept before [] = refl
+open-kept before (b ∷ bytes) = open-kept (Data b ∷ before) bytes
+
+one-stored : (before : List Item) (b : ℕ) → is_open before ≡ true → stored (Data b ∷ before) ≡ stored before ++ b ∷ []
+one-stored before b is_so = rw is_so refl
+
+pub all-stored : (before : List Item) (bytes : List ℕ) → is_open before ≡ true → stored (followed_by before (data_items bytes)) ≡ stored before ++ bytes
+all-stored before [] is_so = sym (append-nil (stored before))
+all-stored before (b ∷ bytes) is_so = all-stored (Data b ∷ before) bytes is_so ∙ ap (λ xs. xs ++ bytes) (one-stored before b is_so) ∙ append_assoc (stored before) (b ∷ []) bytes
+
+-- a byte that fits
+fits : (opened : Bool) (n : ℕ) → n < 262144 → (opened && nat_le 262144 n) ≡ false
+fits true n h = lt-leb 262144 n h
+fits false n h = refl
+
+pub no_room : (opened : Bool) (n : ℕ) → (not opened || nat_le n 262144) ≡ false → (opened ≡ true) × (262144 < n)
+no_room true n h = (refl, grind (arith, nat_tests))
+no_room false n h = cc
+
+pub has_room : (opened : Bool) (n : ℕ) → opened ≡ true → (not opened || nat_le n 262144) ≡ true → n ≤ 262144
+has_room true n o h = grind (arith, nat_tests)
+has_room false n o h = cc
+
+taken : (sheets : Sheets) (before : List Item) (b : ℕ) → length (stored before) < 262144 → refusal sheets before (Data b) ≡ None
+taken sheets before b h = rw (fits (is_open before) (length (stored before)) h) refl
+
+refused : (sheets : Sheets) (before : List Item) (b : ℕ) → is_open before ≡ true → 262144 ≤ length (stored before) → refusal sheets before (Data b) ≡ Some StoreFull
+refused sheets before b is_so h = rw (is_so, le-leb 262144 (length (stored before)) h) refl
+
+unheard : (sheets : Sheets) (before : List Item) (b : ℕ) → is_open before ≡ false → refusal sheets before (Data b) ≡ None
+unheard sheets before b shut = rw shut refl
+
+pub all_taken : (sheets : Sheets) (before : List Item) (bytes : List ℕ) → is_open before ≡ true → length (stored before) + length bytes ≤ 262144 → first_refusal sheets before (data_items bytes) ≡ None
+all_taken sheets before [] is_so h = refl
+all_taken sheets before (b ∷ bytes) is_so h =
+    let more = length-append (stored before) (b ∷ []) in
+    rw (taken sheets before b (omega arith)) (all_taken sheets (Data b ∷ before) bytes is_so (omega (arith, ap length (one-stored before b is_so))))
+
+pub all_unheard : (sheets : Sheets) (before : List Item) (bytes : List ℕ) → is_open before ≡ false → first_refusal sheets before (data_items bytes) ≡ None
+all_unheard sheets before [] shut = refl
+all_unheard sheets before (b ∷ bytes) shut = rw (unheard sheets before b shut) (all_unheard sheets (Data b ∷ before) bytes shut)
+
+pub one_refused : (sheets : Sheets) (before : List Item) (bytes : List ℕ) → is_open before ≡ true → 262144 < length (stored before) + length bytes → length (stored before) ≤ 262144 →
+    first_refusal sheets before (data_items bytes) ≡ Some StoreFull
+one_refused sheets before [] is_so h few = absurd (omega arith)
+one_refused sheets before (b ∷ bytes) is_so h few = elim (cases_lt (length (stored before)) 262144) [
+  | inl room ↦
+      let more = length-append (stored before) (b ∷ []) in
+      rw (taken sheets before b room) (one_refused sheets (Data b ∷ before) bytes is_so (omega (arith, ap length (one-stored before b is_so))) (omega (arith, ap length (one-stored before b is_so))))
+  | inr full ↦ rw (refused sheets before b is_so full) refl
+]
+
+pub on_ok : {T E P : Type 0} (r : Result T E) → IsOk r → OnOk r P → P
+on_ok (Ok x) i p = p
+on_ok (Err e) i p = absurd (cc)

@@ -1,0 +1,17 @@
+use Rattle.std.proofs.Common.{◌≡◌, true, sym, subst, ◌∙◌, ℕ, List}
+use Rattle.std.proofs.lemmas.List.Elements.{All-push}
+use Rattle.vp_format.specs.Formats.{Held}
+use Rattle.vp_field.specs.Fields.{IsKept}
+use Rattle.vp_label_settings.specs.Formats.{is_open}
+use Rattle.vp_label.specs.Gathered.{AreKept}
+use Rattle.vp_label.proofs.gathered.Gathered.close.Goals as goal
+
+pub returns-in-Ok-clause-kept : goal.returns-in-Ok-clause-kept
+returns-in-Ok-clause-kept c =
+    let old = c.args.self.now.format in
+    let field = c.in_ok-field.field in
+    let g = c.requires.some.1 in
+    let so : is_open c.requires.some.0 ≡ true = sym g.in_force.is_open ∙ c.requires.opened in
+    let h = g.held so in
+    subst (λ (x : Held). AreKept x.stored x.fields) (sym c.in-Ok.ensures.ok)
+    (All-push (IsKept old.stored) old.fields field h.kept (subst (λ (s : List ℕ). IsKept s field) c.stored.ensures.bytes c.in_ok-field.ensures.kept))

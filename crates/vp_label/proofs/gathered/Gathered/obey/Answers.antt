@@ -1,0 +1,100 @@
+use Rattle.std.proofs.Common.{◌≡◌, ◌∙◌, ℕ, arith, sym, ap, subst, refl, length, true, false, [], ◌∷◌}
+use Rattle.std.specs.Prelude.{◌==◌, if◌then◌else◌}
+use Rattle.vp_zpl.specs.declared.name.Name.{Name}
+use Rattle.vp_zpl.specs.Items.Item.{Given}
+use Rattle.vp_format.specs.declared.field.Field.{Field}
+use Rattle.vp_format.specs.Formats.{Held}
+use Rattle.vp_label_settings.specs.declared.settings.Settings.{Settings}
+use Rattle.vp_label_settings.specs.declared.in_force.InForce.{InForce}
+use Rattle.vp_label_settings.specs.Formats.{is_open, stored}
+use Rattle.vp_label_settings.specs.Standing.{StandsAfter}
+use Rattle.vp_label_settings.specs.Settings.{settings_of, quantity}
+use Rattle.vp_label.specs.Entries.{printed_entries}
+use Rattle.vp_copies.specs.Copies.{copies_text}
+use Rattle.vp_label.specs.Gathered.{AreKept}
+use Rattle.vp_label.specs.Effects.{effect_of}
+use Rattle.vp_label.specs.Prints.{label_image, view_of, image}
+use Rattle.vp_label.specs.declared.gathered.Effect.TheVariants.{Sets, Begins, Closes, Prints}
+use Rattle.vp_label.proofs.Effects.{holds_still, begins_shut, closes, ends, idle, printed_copies, same_text}
+use Rattle.vp_label.proofs.gathered.Gathered.obey.Goals as goal
+
+no_name : Name
+no_name = record { sign = 0; first = 0; second = 0 }
+
+pub returns-in-Sets-clause-stands : goal.returns-in-Sets-clause-stands
+returns-in-Sets-clause-stands c = λ before name sent g.
+    let e : effect_of (is_open before) c.args.command ≡ Sets = ap (λ o. effect_of o c.args.command) (sym g.in_force.is_open) ∙ sym c.of.ensures ∙ c.in-Sets.is in
+    record {
+      in_force = c.obey.ensures before name sent g.in_force;
+      held = λ so. holds_still c.args.sheets.now before c.args.self.now.format c.args.command name sent e g.held so;
+    }
+
+pub returns-in-Begins-clause-stands : goal.returns-in-Begins-clause-stands
+returns-in-Begins-clause-stands c = λ before name sent g.
+    let e : effect_of (is_open before) c.args.command ≡ Begins = ap (λ o. effect_of o c.args.command) (sym g.in_force.is_open) ∙ sym c.of.ensures ∙ c.in-Begins.is in
+    let shut = (begins_shut (is_open before) c.args.command e).0 in
+    let fields = ap (λ (x : Held). x.fields) c.clear.ensures in
+    let stored_is = ap (λ (x : Held). x.stored) c.clear.ensures in
+    record {
+      in_force = c.obey-in-Begins.ensures before name sent g.in_force;
+      held = λ so. record {
+        fields = fields ∙ sym (rw shut (idle c.args.sheets.now before shut));
+        stored = stored_is ∙ sym (rw shut (c.between_formats.ensures.stored before shut));
+        kept = subst (λ (x : Held). AreKept x.stored x.fields) (sym c.clear.ensures) (λ k d l. absurd (omega arith));
+        few = omega (arith, ap length stored_is);
+      };
+    }
+
+pub returns-in_ok-close-in-Closes-clause-stands : goal.returns-in_ok-close-in-Closes-clause-stands
+returns-in_ok-close-in-Closes-clause-stands c = λ before name sent g.
+    let e : effect_of (is_open before) c.args.command ≡ Closes = ap (λ o. effect_of o c.args.command) (sym g.in_force.is_open) ∙ sym c.of.ensures ∙ c.in-Closes.is in
+    let so = (closes (is_open before) c.args.command e).0 in
+    let separator = (closes (is_open before) c.args.command e).1 in
+    let h = g.held so in
+    record {
+      in_force = c.obey-in-Closes.ensures before name sent (subst (λ (s : InForce). StandsAfter s before) (sym c.close.ensures.in_force) g.in_force);
+      held = λ still. record {
+        fields = c.in_ok-close-in-Closes.ensures.fields before g so ∙ sym (rw (so, separator) refl);
+        stored = c.close.ensures.stored ∙ h.stored ∙ sym (rw (so, separator) refl);
+        kept = c.in_ok-close-in-Closes.ensures.kept;
+        few = let few = h.few in omega (arith, ap length c.close.ensures.stored);
+      };
+    }
+
+pub returns-in_ok-close-in-Prints-clause-stands : goal.returns-in_ok-close-in-Prints-clause-stands
+returns-in_ok-close-in-Prints-clause-stands c = λ before name sent g.
+    let e : effect_of (is_open before) c.args.command ≡ Prints = ap (λ o. effect_of o c.args.command) (sym g.in_force.is_open) ∙ sym c.of.ensures ∙ c.in-Prints.is in
+    let end = (ends (is_open before) c.args.command e).1 in
+    record {
+      in_force = c.obey-in-Prints.ensures before name sent (subst (λ (s : InForce). StandsAfter s before) (sym c.close-in-Prints.ensures.in_force) g.in_force);
+      held = λ so. absurd (let no = rw end at so in cc);
+    }
+
+pub returns-in_ok-close-in-Prints-clause-prints : goal.returns-in_ok-close-in-Prints-clause-prints
+returns-in_ok-close-in-Prints-clause-prints c = λ before name sent g.
+    let sheets = c.args.sheets.now in
+    let format = c.close-in-Prints.new.self.format in
+    let e : effect_of (is_open before) c.args.command ≡ Prints = ap (λ o. effect_of o c.args.command) (sym g.in_force.is_open) ∙ sym c.of.ensures ∙ c.in-Prints.is in
+    let so = (ends (is_open before) c.args.command e).0 in
+    let end = (ends (is_open before) c.args.command e).1 in
+    let held = g.held so in
+    let image_now = label_image sheets (view_of c.obey-in-Prints.new.self.settings) format.stored format.fields in
+    let after = c.obey-in-Prints.ensures before name sent (subst (λ (s : InForce). StandsAfter s before) (sym c.close-in-Prints.ensures.in_force) g.in_force) in
+    let view : view_of c.obey-in-Prints.new.self.settings ≡ view_of (settings_of before) = ap view_of after.settings ∙ rw (so, end) refl in
+    let quantity_is : c.close-in-Prints.new.self.in_force.settings.quantity ≡ quantity before =
+    ap (λ (s : InForce). s.settings.quantity) c.close-in-Prints.ensures.in_force ∙ ap (λ (s : Settings). s.quantity) g.in_force.settings in
+    rw (so, end) (ap (copies_text image_now) c.copies-copies.ensures ∙ printed_copies image_now format.fields c.close-in-Prints.new.self.in_force.settings.quantity
+    ∙ same_text sheets (view_of c.obey-in-Prints.new.self.settings) (view_of (settings_of before)) format.stored (stored before) format.fields (printed_entries sheets before) c.close-in-Prints.new.self.in_force.settings.quantity (quantity before)
+    view (c.close-in-Prints.ensures.stored ∙ held.stored) (c.in_ok-close-in-Prints.ensures.fields before g so) quantity_is)
+
+pub returns-in-Sets-clause-some : goal.returns-in-Sets-clause-some
+returns-in-Sets-clause-some c = (Given c.args.command no_name [] ∷ c.requires.0, returns-in-Sets-clause-stands c c.requires.0 no_name [] c.requires.1)
+
+pub returns-in-Begins-clause-some : goal.returns-in-Begins-clause-some
+returns-in-Begins-clause-some c = (Given c.args.command no_name [] ∷ c.requires.0, returns-in-Begins-clause-stands c c.requires.0 no_name [] c.requires.1)
+
+pub returns-in_ok-close-in-Closes-clause-some : goal.returns-in_ok-close-in-Closes-clause-some
+returns-in_ok-close-in-Closes-clause-some c = (Given c.args.command no_name [] ∷ c.requires.0, returns-in_ok-close-in-Closes-clause-stands c c.requires.0 no_name [] c.requires.1)
+
+pub returns-in_ok-close-in-Prints-clause-some : goal.returns-in_ok-close-in-Prints-clause-some
+returns-in_ok-close-in-Prints-clause-some c = (Given c.args.command no_name [] ∷ c.requires.0, returns-in_ok-close-in-Prints-clause-stands c c.requires.0 no_name [] c.requires.1)

@@ -1,0 +1,65 @@
+use Rattle.std.proofs.Common.{◌≡◌, ◌<◌, ◌∷◌, ℕ, ap, sym, subst, ◌∙◌, List, [], Some, None, arith}
+use Rattle.vp_zpl.specs.Spelling.{Kept}
+use Rattle.vp_zpl.specs.declared.name.Name.{Name}
+use Rattle.vp_zpl.specs.Items.{Item}
+use Rattle.vp_zpl.specs.Items.Item.{Given}
+use Rattle.vp_field.specs.declared.view.View.{View}
+use Rattle.vp_copies.specs.Copies.{copies_text}
+use Rattle.vp_label.specs.Gathered.{Gathers}
+use Rattle.vp_label.specs.Prints.{label_image, prints, view_of}
+use Rattle.vp_label.specs.Press.{left, shown}
+use Rattle.vp_label.specs.Refusals.{refusal}
+use Rattle.vp_label.specs.Standing.{Printing}
+use Rattle.vp_label.proofs.Idle.{no_copies, nothing_left}
+use Rattle.vp_label.proofs.label.Label.obey.Goals as goal
+
+pub returns-in-Err-clause-refusal : goal.returns-in-Err-clause-refusal
+returns-in-Err-clause-refusal c =
+    let P : Printing → Type 0 = λ p. (before : List Item) (name : Name) (sent : List Kept) → Gathers p.sheets p.gathered before → refusal p.sheets before (Given c.args.command name sent) ≡ Some c.in-Err.fault in
+    subst P c.self.view_is c.in-Err.ensures.refusal
+
+pub returns-then-copies-eq0-clause-refusal : goal.returns-then-copies-eq0-clause-refusal
+returns-then-copies-eq0-clause-refusal c =
+    let P : Printing → Type 0 = λ p. (before : List Item) (name : Name) (sent : List Kept) → Gathers p.sheets p.gathered before → refusal p.sheets before (Given c.args.command name sent) ≡ None in
+    subst P c.self.view_is c.in-Ok.ensures.refusal
+
+pub returns-then-copies-eq0-clause-stands : goal.returns-then-copies-eq0-clause-stands
+returns-then-copies-eq0-clause-stands c =
+    let P : Printing → Type 0 = λ p. (before : List Item) (name : Name) (sent : List Kept) → Gathers p.sheets p.gathered before → Gathers c.self.inside.sheets c.obey.new.self (Given c.args.command name sent ∷ before) in
+    subst P c.self.view_is c.in-Ok.ensures.stands
+
+pub returns-then-copies-eq0-clause-pending : goal.returns-then-copies-eq0-clause-pending
+returns-then-copies-eq0-clause-pending c =
+    let j = c.self.inside in
+    let now = c.obey.new.self in
+    let view = view_of now.in_force.settings in
+    let is = shown j.sheets now.format.stored view j.press in
+    let was = shown j.sheets j.gathered.format.stored (view_of j.gathered.in_force.settings) j.press in
+    let none = no_copies c.pending_law.ensures was j.press.copies.place (λ some. let p = c.self.invariant.press some in (let h = p.high in let e = p.height in omega arith, p.place)) (ap (λ (p : Printing). p.pending) c.self.view_is ∙ c.requires) in
+    let P : Printing → Type 0 = λ p. (before : List Item) (name : Name) (sent : List Kept) → Gathers p.sheets p.gathered before →
+    left j.sheets now.format.stored view j.press ≡ prints p.sheets before (Given c.args.command name sent) in
+    subst P c.self.view_is (λ before name sent g. nothing_left is j.press.copies.place none
+    ∙ ap (copies_text (label_image j.sheets view now.format.stored now.format.fields)) (sym c.if-copies-eq0.true) ∙ c.in-Ok.ensures.prints before name sent g)
+
+pub returns-clause-refusal : goal.returns-clause-refusal
+returns-clause-refusal c =
+    let P : Printing → Type 0 = λ p. (before : List Item) (name : Name) (sent : List Kept) → Gathers p.sheets p.gathered before → refusal p.sheets before (Given c.args.command name sent) ≡ None in
+    subst P c.self.view_is c.in-Ok.ensures.refusal
+
+pub returns-clause-stands : goal.returns-clause-stands
+returns-clause-stands c =
+    let P : Printing → Type 0 = λ p. (before : List Item) (name : Name) (sent : List Kept) → Gathers p.sheets p.gathered before → Gathers c.self.inside.sheets c.obey.new.self (Given c.args.command name sent ∷ before) in
+    subst P c.self.view_is c.in-Ok.ensures.stands
+
+pub returns-clause-pending : goal.returns-clause-pending
+returns-clause-pending c =
+    let j = c.self.inside in
+    let now = c.obey.new.self in
+    let fields = now.format.fields in
+    let bytes = now.format.stored in
+    let view = c.view_of-view.ensures in
+    let P : Printing → Type 0 = λ p. (before : List Item) (name : Name) (sent : List Kept) → Gathers p.sheets p.gathered before →
+    left j.sheets bytes (view_of now.in_force.settings) c.begin.new.self ≡ prints p.sheets before (Given c.args.command name sent) in
+    subst P c.self.view_is (λ before name sent g.
+    sym (ap (λ (v : View). left j.sheets bytes v c.begin.new.self) view) ∙ c.begin.ensures.left
+    ∙ ap (λ (v : View). copies_text (label_image j.sheets v bytes fields) c.in-Ok.copies) view ∙ c.in-Ok.ensures.prints before name sent g)

@@ -1,0 +1,75 @@
+use Rattle.std.proofs.Common.{◌≡◌, ◌<◌, ◌++◌, rules, ℕ, List, subst, ap, sym, ◌∙◌, length, take, drop, min}
+use Rattle.std.proofs.Common.{◌≤◌, ◌*◌, arith, refl, inl, inr}
+use Rattle.std.proofs.lemmas.Bool.{cases_lt}
+use Rattle.vp_bands.specs.Meeting.{bands_of, pairs}
+use Rattle.vp_bands.specs.Standing.{fields_of, IsBefore}
+use Rattle.vp_copies.specs.Progress.{IsLineOf}
+use Rattle.vp_label.proofs.Presses.{is_within, most}
+use Rattle.vp_label.specs.Standing.{bands, met, Printing}
+use Rattle.vp_label.specs.Press.{left, IsPress}
+use Rattle.vp_field.specs.declared.view.View.{View}
+use Rattle.vp_label.proofs.label.Label.put.Goals as goal
+
+pub returns-clause-count : goal.returns-clause-count
+returns-clause-count c =
+    let j = c.self.inside in
+    let pend : left j.sheets c.stored.result.now c.view_of-view.result j.press ≡ c.args.self.now.pending =
+    ap (λ s. left j.sheets s c.view_of-view.result j.press) c.stored.ensures.bytes ∙ ap (λ v. left j.sheets j.gathered.format.stored v j.press) c.view_of-view.ensures ∙ ap (λ (p : Printing). p.pending) c.self.view_is in
+    c.put.ensures.count ∙ ap (λ t. min (length t) (length c.args.out.now)) pend
+
+pub returns-clause-bytes : goal.returns-clause-bytes
+returns-clause-bytes c =
+    let j = c.self.inside in
+    let pend : left j.sheets c.stored.result.now c.view_of-view.result j.press ≡ c.args.self.now.pending =
+    ap (λ s. left j.sheets s c.view_of-view.result j.press) c.stored.ensures.bytes ∙ ap (λ v. left j.sheets j.gathered.format.stored v j.press) c.view_of-view.ensures ∙ ap (λ (p : Printing). p.pending) c.self.view_is in
+    c.put.ensures.bytes ∙ ap (λ t. take c.put.result t ++ drop c.put.result c.args.out.now) pend
+
+pub returns-clause-rest : goal.returns-clause-rest
+returns-clause-rest c =
+    let j = c.self.inside in
+    let pend : left j.sheets c.stored.result.now c.view_of-view.result j.press ≡ c.args.self.now.pending =
+    ap (λ s. left j.sheets s c.view_of-view.result j.press) c.stored.ensures.bytes ∙ ap (λ v. left j.sheets j.gathered.format.stored v j.press) c.view_of-view.ensures ∙ ap (λ (p : Printing). p.pending) c.self.view_is in
+    sym (ap (λ s. left j.sheets s c.view_of-view.result c.put.new.self) c.stored.ensures.bytes ∙ ap (λ v. left j.sheets j.gathered.format.stored v c.put.new.self) c.view_of-view.ensures)
+    ∙ c.put.ensures.rest ∙ ap (drop c.put.result) pend
+
+pub put-requires : goal.put-requires
+put-requires c =
+    let j = c.self.inside in
+    let some : 0 < j.press.copies.place.copies = search rules in
+    subst (λ (s : List ℕ). IsPress j.sheets s c.view_of-view.result j.press) (sym c.stored.ensures.bytes)
+    (subst (λ (v : View). IsPress j.sheets j.gathered.format.stored v j.press) (sym c.view_of-view.ensures) (c.self.invariant.press some))
+
+pub returns-clause-at_most : goal.returns-clause-at_most
+returns-clause-at_most c = λ pending.
+    let j = c.self.inside in
+    let q = c.put.new.self in
+    let view = c.view_of-view.result in
+    let bytes = c.stored.result.now in
+    let p = c.put.ensures.press in
+    let line : IsLineOf view.height q.copies.place.line = subst (λ (h : ℕ). IsLineOf h q.copies.place.line) p.height p.place.line in
+    let w : (b : ℕ) × (b ≤ bands_of view) × IsBefore j.sheets bytes view b q.painter = elim (cases_lt 0 q.copies.place.copies) [
+      | inl some ↦ is_within view.height (bands_of view) (λ b. IsBefore j.sheets bytes view b q.painter) q.copies.place.copies q.copies.place.line q.copies.place.byte refl line some (p.next some)
+      | inr none_left ↦ (bands_of view, omega arith, p.over (omega arith))
+    ] in
+    let bound = most j.sheets bytes view q.painter c.looks_bounded.ensures w in
+    let some : 0 < j.press.copies.place.copies = search rules in
+    let e : pairs j.sheets bytes view (fields_of q.painter.entries) (bands_of view) ≡ met c.args.self.now =
+    ap (λ xs. pairs j.sheets bytes view (fields_of xs) (bands_of view)) c.put.ensures.fields ∙ ap (λ xs. pairs j.sheets bytes view xs (bands_of view)) (c.self.invariant.fields some)
+    ∙ ap (λ s. pairs j.sheets s view j.gathered.format.fields (bands_of view)) c.stored.ensures.bytes ∙ ap (λ (v : View). pairs j.sheets j.gathered.format.stored v j.gathered.format.fields (bands_of v)) c.view_of-view.ensures
+    ∙ ap met c.self.view_is in
+    let n : bands_of view ≡ bands c.args.self.now = ap bands_of c.view_of-view.ensures ∙ ap bands c.self.view_is in
+    omega (arith, bound, e, n)
+
+pub returns-clause-at_least : goal.returns-clause-at_least
+returns-clause-at_least c = λ out between.
+    let j = c.self.inside in
+    let q = c.put.new.self in
+    let view = c.view_of-view.result in
+    let bytes = c.stored.result.now in
+    let bound = c.looks_bounded.ensures.at_least j.sheets bytes view q.painter (c.put.ensures.ended out between) in
+    let some : 0 < j.press.copies.place.copies = search rules in
+    let e : pairs j.sheets bytes view (fields_of q.painter.entries) (bands_of view) ≡ met c.args.self.now =
+    ap (λ xs. pairs j.sheets bytes view (fields_of xs) (bands_of view)) c.put.ensures.fields ∙ ap (λ xs. pairs j.sheets bytes view xs (bands_of view)) (c.self.invariant.fields some)
+    ∙ ap (λ s. pairs j.sheets s view j.gathered.format.fields (bands_of view)) c.stored.ensures.bytes ∙ ap (λ (v : View). pairs j.sheets j.gathered.format.stored v j.gathered.format.fields (bands_of v)) c.view_of-view.ensures
+    ∙ ap met c.self.view_is in
+    omega (arith, bound, e)

@@ -1,0 +1,20 @@
+use Rattle.std.proofs.Common.{ℕ, length, ◌-◌, ◌<◌, ◌≡◌, ◌≤◌, ◌++◌, take, drop}
+use Rattle.vp_bands.specs.Meeting.{bands_of}
+use Rattle.vp_bands.specs.Standing.{IsBefore}
+use Rattle.vp_label.specs.Press.{left, IsBetween, IsPress}
+use Rattle.vp_label.proofs.press.Press.put.Given as goal
+
+-- n bytes are out, and the others stand as they were
+abbrev pub invariant-loop-n : goal.invariant-loop-n
+invariant-loop-n l = record {
+  press : IsPress l.sheets l.stored l.view l.self;
+  fields : l.self.painter.entries ≡ l.initial.self.painter.entries;
+  room : l.n ≤ length l.initial.out;
+  within : l.n ≤ length (left l.sheets l.stored l.view l.initial.self);
+  bytes : l.out ≡ take l.n (left l.sheets l.stored l.view l.initial.self) ++ drop l.n l.initial.out;
+  rest : left l.sheets l.stored l.view l.self ≡ drop l.n (left l.sheets l.stored l.view l.initial.self);
+  ended : 0 < l.n → IsBetween l.self.copies.place → IsBefore l.sheets l.stored l.view (bands_of l.view) l.self.painter;
+}
+
+abbrev pub decreases-loop-n : goal.decreases-loop-n
+decreases-loop-n l = length l.initial.out - l.n

@@ -1,0 +1,35 @@
+-- The fields of a format as they are kept, by looking back over the items, of which the newest comes first.
+use Rattle.std.specs.Prelude.{ℕ, List, [], ◌∷◌, ◌++◌, Option, Some, None, option_map, Result, Ok, Err}
+use Rattle.vp_dots.specs.declared.fault.Fault.{Fault}
+use Rattle.vp_glyph.specs.declared.Sheets.{Sheets}
+use Rattle.vp_zpl.specs.declared.item.Command.{Command}
+use Rattle.vp_zpl.specs.declared.item.Command.TheVariants.{FormatEnd, FieldSeparator}
+use Rattle.vp_zpl.specs.Items.{Item}
+use Rattle.vp_format.specs.declared.field.Field.{Field}
+use Rattle.vp_label_settings.specs.Formats.{is_open, acting, stored}
+use Rattle.vp_label_settings.specs.Closing.{closing}
+use Rattle.vp_closing.specs.Kept.{kept}
+
+-- the field that ^FS or ^XZ closes, if there is one: as it is kept, or why it is refused
+abbrev pub closed : Sheets → List Item → Option (Result Field Fault)
+closed sheets before = option_map (kept sheets (stored before)) (closing before)
+
+abbrev pub with_kept : List Field → Option (Result Field Fault) → List Field
+with_kept fields None = fields
+with_kept fields (Some (Err fault)) = fields
+with_kept fields (Some (Ok field)) = fields ++ field ∷ []
+
+-- the fields of the open format, in the order of closing
+abbrev pub entries_by : Option (Result Field Fault) → Command → List Field → List Field
+entries_by closed FieldSeparator fields = with_kept fields closed
+entries_by closed FormatEnd fields = []
+entries_by closed _ fields = fields
+
+abbrev pub entries : Sheets → List Item → List Field
+entries sheets [] = []
+entries sheets (item ∷ before) =
+    acting (entries_by (closed sheets before)) (is_open before) item (entries sheets before)
+
+-- those of the image that ^XZ prints, which closes the last one
+abbrev pub printed_entries : Sheets → List Item → List Field
+printed_entries sheets before = with_kept (entries sheets before) (closed sheets before)

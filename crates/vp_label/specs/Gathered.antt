@@ -1,0 +1,40 @@
+-- What is gathered of the format that is open.
+use Rattle.std.specs.Prelude.{◌≡◌, ◌≤◌, ℕ, Bool, true, List, length}
+use Rattle.std.specs.List.{All}
+use Rattle.vp_glyph.specs.declared.Sheets.{Sheets}
+use Rattle.vp_zpl.specs.Items.{Item}
+use Rattle.vp_format.specs.declared.field.Field.{Field}
+use Rattle.vp_format.specs.Formats.{Held}
+use Rattle.vp_format.specs.declared.format.TheConstants.{STORED}
+use Rattle.vp_field.specs.Fields.{IsKept}
+use Rattle.vp_label_settings.specs.Formats.{is_open, stored}
+use Rattle.vp_label_settings.specs.Standing.{StandsAfter}
+use Rattle.vp_label.specs.declared.gathered.Gathered.{Gathered}
+use Rattle.vp_copies.specs.Copies.{copies_text}
+use Rattle.vp_label.specs.Entries.{entries}
+use Rattle.vp_label.specs.Prints.{label_image, view_of}
+
+-- fields that can be painted from stored bytes
+abbrev pub AreKept : List ℕ → List Field → Type 0
+AreKept bytes fields = All (IsKept bytes) fields
+
+-- the fields and stored bytes of the open format
+pub record Holds (sheets : Sheets) (before : List Item) (held : Held) : Type 0 where
+  pub fields : held.fields ≡ entries sheets before
+  pub stored : held.stored ≡ stored before
+  pub kept : AreKept held.stored held.fields
+  pub few : length held.stored ≤ STORED
+
+-- what is gathered after these items
+pub record Gathers (sheets : Sheets) (g : Gathered) (before : List Item) : Type 0 where
+  pub in_force : StandsAfter g.in_force before
+  pub held : is_open before ≡ true → Holds sheets before g.format
+
+-- it is gathered after some items
+abbrev pub IsGathered : Sheets → Gathered → Type 0
+IsGathered sheets g = (before : List Item) × Gathers sheets g before
+
+-- so many copies of an image with the fields of the format that has ended
+abbrev pub to_print : Sheets → Gathered → ℕ → List ℕ
+to_print sheets g copies =
+    copies_text (label_image sheets (view_of g.in_force.settings) g.format.stored g.format.fields) copies

@@ -1,0 +1,10 @@
+-- The rules.
+pub mod Entries
+pub mod Refusals
+pub mod Prints
+-- What the code keeps.
+pub mod Effects
+pub mod Gathered
+pub mod Press
+pub mod Standing
+pub mod Printing

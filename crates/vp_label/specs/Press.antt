@@ -1,0 +1,56 @@
+-- What is put out of a format that has ended.
+use Rattle.std.specs.Prelude.{◌≡◌, ◌+◌, ◌/◌, ◌<◌, ◌≤◌, ◌⊎◌, ℕ, List, map}
+use Rattle.vp_dots.specs.Images.{Image}
+use Rattle.vp_glyph.specs.declared.Sheets.{Sheets}
+use Rattle.vp_field.specs.declared.view.View.{View}
+use Rattle.vp_field.specs.Fields.{stroke_of}
+use Rattle.vp_field.specs.Strokes.{image_dot}
+use Rattle.vp_copies.specs.declared.place.Ahead.{Ahead}
+use Rattle.vp_copies.specs.declared.place.Ahead.TheVariants.{Nothing, Copy, Band}
+use Rattle.vp_copies.specs.declared.place.Line.{Line}
+use Rattle.vp_copies.specs.declared.place.Line.TheVariants.{Head, Row}
+use Rattle.vp_copies.specs.declared.place.Place.{Place}
+use Rattle.vp_copies.specs.Copies.{ahead, pending}
+use Rattle.vp_copies.specs.Progress.{image_of, IsPlaceOf, IsReady}
+use Rattle.vp_label.specs.declared.press.Press.{Press}
+use Rattle.vp_bands.specs.Meeting.{bands_of}
+use Rattle.vp_bands.specs.Standing.{fields_of, IsBefore}
+
+-- how many bands of the copy are painted where the next byte is in a line, whose band isn't wanted
+abbrev pub bands_above : Line → ℕ
+bands_above Head = 0
+bands_above (Row y) = y / 32 + 1
+
+-- which band is the next one to be painted: where a copy begins it is the first one, or all bands of the copy before are
+-- painted
+abbrev pub IsNextBand : Ahead → Line → ℕ → (ℕ → Type 0) → Type 0
+IsNextBand Copy line bands next = next 0 ⊎ next bands
+IsNextBand (Band b) line bands next = next b
+IsNextBand Nothing line bands next = next (bands_above line)
+
+-- a place between two copies, or at the end
+pub record IsBetween (p : Place) : Type 0 where
+  pub line : p.line ≡ Head
+  pub byte : p.byte ≡ 0
+
+-- the image of which copies are put out: that of the fields that are threaded
+abbrev pub shown : Sheets → List ℕ → View → Press → Image
+shown sheets stored view p =
+    image_of p.copies (image_dot view (map (stroke_of sheets stored) (fields_of p.painter.entries)))
+
+-- what is left of the copies
+abbrev pub left : Sheets → List ℕ → View → Press → List ℕ
+left sheets stored view p = pending (shown sheets stored view p) p.copies.place
+
+-- copies are put out of a label that is seen like that
+pub record IsPress (sheets : Sheets) (stored : List ℕ) (view : View) (p : Press) : Type 0 where
+  pub width : p.copies.width ≡ view.width
+  pub height : p.copies.height ≡ view.height
+  pub narrow : view.width ≤ 1248
+  pub low : view.height ≤ 8000
+  pub high : 0 < view.height
+  pub place : IsPlaceOf p.copies.width p.copies.height p.copies.place
+  pub next : 0 < p.copies.place.copies →
+      IsNextBand (ahead p.copies.place) p.copies.place.line (bands_of view) (λ b. IsBefore sheets stored view b p.painter)
+  pub over : p.copies.place.copies ≡ 0 → IsBefore sheets stored view (bands_of view) p.painter
+  pub ready : IsReady (shown sheets stored view p) p.copies.place p.band

@@ -1,0 +1,31 @@
+-- What a label printer stands after.
+use Rattle.std.specs.Prelude.{◌≡◌, ℕ, List}
+use Rattle.vp_glyph.specs.declared.Sheets.{Sheets}
+use Rattle.vp_zpl.specs.Items.{Item}
+use Rattle.vp_label.specs.declared.gathered.Gathered.{Gathered}
+use Rattle.vp_label.specs.declared.press.Press.{Press}
+use Rattle.vp_bands.specs.Meeting.{bands_of, pairs}
+use Rattle.vp_label.specs.Gathered.{Gathers}
+use Rattle.vp_label.specs.Prints.{view_of}
+
+-- a label printer: its sheets, what is gathered of a format, what is put out of one that has ended, and what is left of it
+pub record Printing : Type 0 where
+  pub sheets : Sheets
+  pub gathered : Gathered
+  pub press : Press
+  pub pending : List ℕ
+
+-- the bands of the label
+abbrev pub bands : Printing → ℕ
+bands p = bands_of (view_of p.gathered.in_force.settings)
+
+-- how many pairs there are of a band of the label and a field of the format that it meets
+abbrev pub met : Printing → ℕ
+met p =
+    let view = view_of p.gathered.in_force.settings in
+    pairs p.sheets p.gathered.format.stored view p.gathered.format.fields (bands_of view)
+
+-- it stands after these items
+pub record Stands (sheets : Sheets) (p : Printing) (before : List Item) : Type 0 where
+  pub sheets_are : p.sheets ≡ sheets
+  pub gathered : Gathers sheets p.gathered before

@@ -1,0 +1,182 @@
+//! What is gathered of the format that is open: all that is in force, its closed fields, and the bytes stored for them.
+ghost use Rattle.std.specs.Prelude.{◌≡◌, ◌∷◌, [], List, ℕ, IfOk, OnOk, OnErr, MatchResult, None, Some, length, true, ◌==◌, ◌<◌, ◌≤◌, if◌then◌else◌};
+ghost use Rattle.vp_glyph.specs.declared.Sheets.{Sheets};
+ghost use Rattle.vp_zpl.specs.Spelling.{Kept};
+ghost use Rattle.vp_zpl.specs.declared.name.Name.{Name};
+ghost use Rattle.vp_zpl.specs.Items.Item.{Given};
+ghost use Rattle.vp_zpl.specs.Items.{Item, data_items};
+ghost use Rattle.vp_label_settings.specs.Formats.{followed_by, is_open, stored};
+ghost use Rattle.vp_label.specs.Entries.{closed, entries, with_kept, printed_entries};
+ghost use Rattle.vp_label.specs.Refusals.{closing_refusal, first_refusal, refusal};
+ghost use Rattle.vp_label.specs.Gathered.{AreKept, Gathers, IsGathered, to_print};
+ghost use Rattle.vp_label.specs.Effects.{effect_of};
+ghost use Rattle.vp_label.specs.Prints.{prints};
+
+use std::alloc::{AllocError, Global};
+use vp_closing::kept;
+use vp_dots::Fault;
+use vp_field::stored_behind;
+use vp_format::Format;
+use vp_glyph::Sheets;
+use vp_label_settings::InForce;
+use vp_label_settings::laws::{among_the_stored, between_formats, in_range};
+use vp_zpl::Command;
+
+/// What is gathered of the format that is open.
+#[derive(Drop)]
+pub struct Gathered {
+    pub in_force: InForce,
+    pub format: Format,
+}
+
+/// What a command does.
+#[derive(Clone, Copy, Debug, PartialEq, Eq)]
+pub enum Effect {
+    /// It sets what is in force, or nothing.
+    Sets,
+    /// It begins a format (^XA).
+    Begins,
+    /// It closes a field (^FS).
+    Closes,
+    /// It closes a field and prints the format (^XZ).
+    Prints,
+    /// It is refused.
+    Fails(Fault),
+}
+
+impl Effect {
+    /// What a command does to the format.
+    fn of(in_force: &InForce, command: Command) -> Effect
+        ensures { result ≡ effect_of in_force.now.is_open command }
+    {
+        if !in_force.is_open {
+            return match command {
+                Command::FormatStart => Effect::Begins,
+                _ => Effect::Sets,
+            };
+        }
+        match command {
+            Command::FieldSeparator => Effect::Closes,
+            Command::FormatEnd => Effect::Prints,
+            _ => match in_force.head_refusal(command) {
+                None => Effect::Sets,
+                Some(fault) => Effect::Fails(fault),
+            },
+        }
+    }
+}
+
+impl Gathered {
+    /// Nothing yet.
+    pub fn new(alloc: Global) -> Result<Gathered, AllocError>
+        ensures { IfOk result (λ g. (sheets : Sheets) → Gathers sheets g []) }
+    {
+        Ok(Gathered {
+            in_force: InForce::new(),
+            format: Format::new(alloc)?,
+        })
+    }
+
+    /// Takes data: in a format they are stored, all of them or, where there is no room, none (`StoreFull`).
+    pub fn store(&mut self, bytes: &[u8], sheets: &Sheets) -> Result<(), Fault>
+        requires { IsGathered sheets.now self.old }
+        ensures refusal { (before : List Item) → Gathers sheets.now self.old before →
+            MatchResult result (λ _. first_refusal sheets.now before (data_items bytes.now) ≡ None)
+            (λ f. first_refusal sheets.now before (data_items bytes.now) ≡ Some f) }
+        ensures stands { OnOk result ((before : List Item) → Gathers sheets.now self.old before →
+            Gathers sheets.now self.new (followed_by before (data_items bytes.now))) }
+        ensures some { OnOk result (IsGathered sheets.now self.new) }
+        ensures err { OnErr result (self.new ≡ self.old) }
+    {
+        if !self.in_force.has_room(bytes) {
+            return Err(Fault::StoreFull);
+        }
+        if !self.in_force.is_open {
+            self.in_force.store(bytes);
+            return Ok(());
+        }
+        stored_behind();
+        let _fits = self.format.keep(bytes);
+        self.in_force.store(bytes);
+        Ok(())
+    }
+
+    /// Closes the open field, if there is one. Refused is what it shows, and then one more field than there is room
+    /// for (`FieldsFull`).
+    fn close(&mut self, sheets: &Sheets) -> Result<(), Fault>
+        requires some { IsGathered sheets.now self.old }
+        requires opened { self.old.in_force.is_open ≡ true }
+        ensures refusal { (before : List Item) → Gathers sheets.now self.old before → is_open before ≡ true →
+            MatchResult result (λ _. closing_refusal (closed sheets.now before) (length (entries sheets.now before)) ≡ None)
+            (λ f. closing_refusal (closed sheets.now before) (length (entries sheets.now before)) ≡ Some f) }
+        ensures in_force { self.new.in_force ≡ self.old.in_force }
+        ensures fields { OnOk result ((before : List Item) → Gathers sheets.now self.old before → is_open before ≡ true →
+            self.new.format.fields ≡ printed_entries sheets.now before) }
+        ensures stored { self.new.format.stored ≡ self.old.format.stored }
+        ensures kept { OnOk result (AreKept self.new.format.stored self.new.format.fields) }
+        ensures err { OnErr result (self.new ≡ self.old) }
+    {
+        let Some(field) = self.in_force.closing() else {
+            return Ok(());
+        };
+        in_range();
+        among_the_stored();
+        let field = kept(sheets, self.format.stored(), &field)?;
+        match self.format.close(field) {
+            Ok(()) => Ok(()),
+            Err(_) => Err(Fault::FieldsFull),
+        }
+    }
+
+    /// The copies that are printed of the format: none where it has no field.
+    fn copies(&self) -> u32
+        ensures { result ≡ (if length self.now.format.fields == 0 then 0 else self.now.in_force.settings.quantity) }
+    {
+        if self.format.len() == 0 {
+            return 0;
+        }
+        self.in_force.settings.quantity
+    }
+
+    /// Takes a command, and answers how many copies of the format it prints. A refused one changes nothing.
+    pub fn obey(&mut self, command: Command, sheets: &Sheets) -> Result<u32, Fault>
+        requires { IsGathered sheets.now self.old }
+        ensures refusal { (before : List Item) (name : Name) (sent : List Kept) → Gathers sheets.now self.old before →
+            MatchResult result (λ _. refusal sheets.now before (Given command name sent) ≡ None)
+            (λ f. refusal sheets.now before (Given command name sent) ≡ Some f) }
+        ensures stands { OnOk result ((before : List Item) (name : Name) (sent : List Kept) →
+            Gathers sheets.now self.old before → Gathers sheets.now self.new (Given command name sent ∷ before)) }
+        ensures prints { IfOk result (λ copies. (before : List Item) (name : Name) (sent : List Kept) →
+            Gathers sheets.now self.old before →
+            to_print sheets.now self.new copies ≡ prints sheets.now before (Given command name sent)) }
+        ensures kept { IfOk result (λ copies. 0 < copies →
+            AreKept self.new.format.stored self.new.format.fields) }
+        ensures some { OnOk result (IsGathered sheets.now self.new) }
+        ensures err { OnErr result (self.new ≡ self.old) }
+    {
+        match Effect::of(&self.in_force, command) {
+            Effect::Sets => {
+                self.in_force.obey(command);
+                Ok(0)
+            }
+            Effect::Begins => {
+                between_formats();
+                self.format.clear();
+                self.in_force.obey(command);
+                Ok(0)
+            }
+            Effect::Closes => {
+                self.close(sheets)?;
+                self.in_force.obey(command);
+                Ok(0)
+            }
+            Effect::Prints => {
+                self.close(sheets)?;
+                let copies = self.copies();
+                self.in_force.obey(command);
+                Ok(copies)
+            }
+            Effect::Fails(fault) => Err(fault),
+        }
+    }
+}

@@ -1,0 +1,181 @@
+//! The printer: what it stands after, and what is still to be put out.
+ghost use Rattle.std.specs.Prelude.{◌≡◌, ◌<◌, ◌≤◌, ◌+◌, ◌*◌, ◌++◌, ◌↔◌, ◌∷◌, [], List, ℕ, true, IsTrue, IfOk, OnOk, OnErr, MatchResult, None, Some, length, min, take, drop};
+ghost use Rattle.vp_glyph.specs.declared.Sheets.{Sheets as Given_sheets};
+ghost use Rattle.vp_zpl.specs.Items.{Item, data_items};
+ghost use Rattle.vp_zpl.specs.Items.Item.{Given};
+ghost use Rattle.vp_zpl.specs.Shown.{shown_item};
+ghost use Rattle.vp_zpl.specs.Spelling.{Kept};
+ghost use Rattle.vp_zpl.specs.declared.name.Name.{Name};
+ghost use Rattle.vp_label_settings.specs.Formats.{followed_by};
+ghost use Rattle.vp_label.specs.Gathered.{Gathers};
+ghost use Rattle.vp_label.specs.Prints.{all_print, is_at_rest, prints, view_of as seen};
+ghost use Rattle.vp_label.specs.Refusals.{first_refusal, refusal};
+ghost use Rattle.vp_label.specs.Standing.{bands, met, Stands};
+ghost use Rattle.vp_label.specs.Press.{IsBetween};
+
+use crate::gathered::Gathered;
+use crate::press::Press;
+use std::alloc::{AllocError, Global};
+use std::marker::Model;
+use vp_bands::looks_bounded;
+use vp_copies::pending_law;
+use vp_dots::Fault;
+use vp_field::View;
+use vp_glyph::Sheets;
+use vp_label_settings::Settings;
+use vp_label_settings::laws::in_range;
+use vp_zpl::{Command, ZplItem};
+
+/// A label printer. What an item prints is pending until it is put out.
+#[derive(Drop)]
+pub struct Label {
+    sheets: Sheets,
+    gathered: Gathered,
+    press: Press,
+}
+
+impl Model for Label {
+    ghost use Rattle.vp_label.specs.Standing.{Printing};
+
+    ghost Value = { Printing };
+
+    ghost use Rattle.vp_label.specs.Printing.{printing_of, IsLabel};
+
+    ghost view = { printing_of };
+
+    ghost invariant = { IsLabel };
+}
+
+/// How a label is put out.
+fn view_of(settings: &Settings) -> View
+    ensures { result ≡ seen settings.now }
+{
+    View {
+        width: u32::from(settings.print_width),
+        height: u32::from(settings.label_length),
+        inverted: settings.is_inverted,
+        mirrored: settings.is_mirrored,
+    }
+}
+
+impl Label {
+    /// One that stands after no items, with these sheets for its font.
+    pub fn new(alloc: Global, sheets: Sheets) -> Result<Self, AllocError>
+        ensures stands { IfOk result (λ label. Stands sheets label []) }
+        ensures pending { IfOk result (λ label. label.pending ≡ []) }
+    {
+        Ok(Label {
+            sheets,
+            gathered: Gathered::new(alloc)?,
+            press: Press::new(alloc)?,
+        })
+    }
+
+    /// Prints an item: what it prints is then pending. A refused one changes nothing.
+    pub fn apply(&mut self, item: ZplItem) -> Result<(), Fault>
+        requires { self.old.pending ≡ [] }
+        ensures refusal { (sheets : Given_sheets) (before : List Item) → Stands sheets self.old before →
+            MatchResult result (λ _. first_refusal sheets before (shown_item item.entry) ≡ None)
+            (λ f. first_refusal sheets before (shown_item item.entry) ≡ Some f) }
+        ensures stands { OnOk result ((sheets : Given_sheets) (before : List Item) → Stands sheets self.old before →
+            Stands sheets self.new (followed_by before (shown_item item.entry))) }
+        ensures pending { OnOk result ((sheets : Given_sheets) (before : List Item) → Stands sheets self.old before →
+            self.new.pending ≡ all_print sheets before (shown_item item.entry)) }
+        ensures err { OnErr result (self.new ≡ self.old) }
+    {
+        match item {
+            ZplItem::Command(sent) => self.obey(sent.command),
+            ZplItem::Data(bytes) => self.store(bytes.as_slice()),
+        }
+    }
+
+    /// Takes data.
+    fn store(&mut self, bytes: &[u8]) -> Result<(), Fault>
+        requires { self.old.pending ≡ [] }
+        ensures refusal { (before : List Item) → Gathers self.old.sheets self.old.gathered before →
+            MatchResult result (λ _. first_refusal self.old.sheets before (data_items bytes.now) ≡ None)
+            (λ f. first_refusal self.old.sheets before (data_items bytes.now) ≡ Some f) }
+        ensures stands { OnOk result ((before : List Item) → Gathers self.old.sheets self.old.gathered before →
+            Gathers self.new.sheets self.new.gathered (followed_by before (data_items bytes.now))) }
+        ensures sheets { self.new.sheets ≡ self.old.sheets }
+        ensures pending { OnOk result (self.new.pending ≡ []) }
+        ensures err { OnErr result (self.new ≡ self.old) }
+    {
+        pending_law();
+        self.gathered.store(bytes, &self.sheets)
+    }
+
+    /// Takes a command.
+    fn obey(&mut self, command: Command) -> Result<(), Fault>
+        requires { self.old.pending ≡ [] }
+        ensures refusal { (before : List Item) (name : Name) (sent : List Kept) →
+            Gathers self.old.sheets self.old.gathered before →
+            MatchResult result (λ _. refusal self.old.sheets before (Given command name sent) ≡ None)
+            (λ f. refusal self.old.sheets before (Given command name sent) ≡ Some f) }
+        ensures stands { OnOk result ((before : List Item) (name : Name) (sent : List Kept) →
+            Gathers self.old.sheets self.old.gathered before →
+            Gathers self.new.sheets self.new.gathered (Given command name sent ∷ before)) }
+        ensures sheets { self.new.sheets ≡ self.old.sheets }
+        ensures pending { OnOk result ((before : List Item) (name : Name) (sent : List Kept) →
+            Gathers self.old.sheets self.old.gathered before →
+            self.new.pending ≡ prints self.old.sheets before (Given command name sent)) }
+        ensures err { OnErr result (self.new ≡ self.old) }
+    {
+        pending_law();
+        let copies = match self.gathered.obey(command, &self.sheets) {
+            Ok(copies) => copies,
+            Err(fault) => return Err(fault),
+        };
+        if copies == 0 {
+            return Ok(());
+        }
+        in_range();
+        let view = view_of(&self.gathered.in_force.settings);
+        self.press
+            .begin(copies, &self.sheets, &self.gathered.format, view);
+        Ok(())
+    }
+
+    /// Whether anything is still to be put out.
+    pub fn pending(&self) -> bool
+        ensures { IsTrue result ↔ (0 < length self.now.pending) }
+    {
+        self.press.copies.is_pending()
+    }
+
+    /// Puts out what is pending, as far as there is room.
+    pub fn put(&mut self, out: &mut [u8]) -> usize
+        ensures count { result ≡ min (length self.old.pending) (length out.old) }
+        ensures bytes { out.new ≡ take result self.old.pending ++ drop result out.old }
+        ensures rest { self.new.pending ≡ drop result self.old.pending }
+        ensures stands { (sheets : Given_sheets) (before : List Item) → Stands sheets self.old before →
+            Stands sheets self.new before }
+        ensures at_most { 0 < length self.old.pending →
+            self.new.press.painter.looks ≤ bands self.old + 2 * met self.old }
+        ensures at_least { 0 < result → IsBetween self.new.press.copies.place →
+            met self.old ≤ self.new.press.painter.looks }
+    {
+        if !self.press.copies.is_pending() {
+            return 0;
+        }
+        looks_bounded();
+        let view = view_of(&self.gathered.in_force.settings);
+        self.press
+            .put(&self.sheets, self.gathered.format.stored(), view, out)
+    }
+
+    /// Whether no format is open.
+    pub fn at_rest(&self) -> bool
+        ensures { (sheets : Given_sheets) (before : List Item) → Stands sheets self.now before →
+            IsTrue result ↔ (is_at_rest before ≡ true) }
+    {
+        !self.gathered.in_force.is_open
+    }
+
+    /// How often an entry of the table of fields or a link was read for the copy that is put out.
+    pub fn visits(&self) -> u64
+        ensures { result ≡ self.now.press.painter.looks }
+    {
+        self.press.painter.looks()
+    }
+}

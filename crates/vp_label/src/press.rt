@@ -1,0 +1,108 @@
+//! What is put out of a format that has ended: its copies, each painted band by band.
+ghost use Rattle.std.specs.Prelude.{◌≡◌, ◌≤◌, ◌<◌, ◌++◌, IfOk, length, min, take, drop};
+ghost use Rattle.vp_copies.specs.Copies.{copies_text};
+ghost use Rattle.vp_copies.specs.Progress.{IsPainted};
+ghost use Rattle.vp_label.specs.Gathered.{AreKept};
+ghost use Rattle.vp_label.specs.Prints.{label_image};
+ghost use Rattle.vp_bands.specs.Meeting.{bands_of};
+ghost use Rattle.vp_bands.specs.Standing.{fields_of, IsBefore};
+ghost use Rattle.vp_label.specs.Press.{bands_above, left, shown, IsBetween, IsPress};
+
+use std::alloc::{AllocError, Global};
+use vp_bands::BandPainter;
+use vp_copies::{Ahead, Copies};
+use vp_dots::Band;
+use vp_field::View;
+use vp_format::Format;
+use vp_glyph::Sheets;
+
+/// Copies of a label that are being put out.
+#[derive(Drop)]
+pub struct Press {
+    pub copies: Copies,
+    pub painter: BandPainter,
+    pub band: Band<156, 32>,
+}
+
+impl Press {
+    /// Nothing to put out.
+    pub fn new(alloc: Global) -> Result<Press, AllocError>
+        ensures { IfOk result (λ press. press.copies.place.copies ≡ 0) }
+    {
+        Ok(Press {
+            copies: Copies::new(1, 1, 0),
+            painter: BandPainter::new(alloc)?,
+            band: Band::new(alloc)?,
+        })
+    }
+
+    /// Begins to put out copies of a label with the fields of a format.
+    pub fn begin(&mut self, copies: u32, sheets: &Sheets, format: &Format, view: View)
+        requires some { 0 < copies }
+        requires kept { AreKept format.now.stored format.now.fields }
+        requires wide { 0 < view.width }
+        requires narrow { view.width ≤ 1248 }
+        requires high { 0 < view.height }
+        requires low { view.height ≤ 8000 }
+        ensures press { IsPress sheets.now format.now.stored view self.new }
+        ensures fields { fields_of self.new.painter.entries ≡ format.now.fields }
+        ensures looks { self.new.painter.looks ≡ 0 }
+        ensures left { left sheets.now format.now.stored view self.new
+            ≡ copies_text (label_image sheets.now view format.now.stored format.now.fields) copies }
+    {
+        self.painter.thread(sheets, format, view);
+        self.copies = Copies::new(view.width as u16, view.height as u16, copies);
+    }
+
+    /// Readies what the next byte wants: a copy begins with no band painted, and a band is painted before its first byte.
+    fn prepare(&mut self, sheets: &Sheets, stored: &[u8], view: View)
+        requires press { IsPress sheets.now stored.now view self.old }
+        requires some { 0 < self.old.copies.place.copies }
+        ensures copies { self.new.copies ≡ self.old.copies }
+        ensures fields { self.new.painter.entries ≡ self.old.painter.entries }
+        ensures painted { IsPainted (shown sheets.now stored.now view self.new) self.new.copies.place.line self.new.band }
+        ensures before { IsBefore sheets.now stored.now view (bands_above self.new.copies.place.line) self.new.painter }
+    {
+        match self.copies.ahead() {
+            Ahead::Nothing => {}
+            Ahead::Copy => self.painter.start(),
+            Ahead::Band(b) => self.painter.paint(b, sheets, stored, view, &mut self.band),
+        }
+    }
+
+    /// Puts out bytes of one line.
+    fn put_line(&mut self, sheets: &Sheets, stored: &[u8], view: View, out: &mut [u8]) -> usize
+        requires press { IsPress sheets.now stored.now view self.old }
+        requires some { 0 < self.old.copies.place.copies }
+        requires room { 0 < length out.old }
+        ensures press { IsPress sheets.now stored.now view self.new }
+        ensures fields { self.new.painter.entries ≡ self.old.painter.entries }
+        ensures some { 0 < result }
+        ensures fits { result ≤ length out.old }
+        ensures within { result ≤ length (left sheets.now stored.now view self.old) }
+        ensures bytes { out.new ≡ take result (left sheets.now stored.now view self.old) ++ drop result out.old }
+        ensures rest { left sheets.now stored.now view self.new ≡ drop result (left sheets.now stored.now view self.old) }
+        ensures ended { IsBetween self.new.copies.place → IsBefore sheets.now stored.now view (bands_of view) self.new.painter }
+    {
+        self.prepare(sheets, stored, view);
+        self.copies.put_line(&self.band, out)
+    }
+
+    /// Puts out the next bytes, as many as there are and room is for, and answers how many.
+    pub fn put(&mut self, sheets: &Sheets, stored: &[u8], view: View, out: &mut [u8]) -> usize
+        requires { IsPress sheets.now stored.now view self.old }
+        ensures press { IsPress sheets.now stored.now view self.new }
+        ensures fields { self.new.painter.entries ≡ self.old.painter.entries }
+        ensures count { result ≡ min (length (left sheets.now stored.now view self.old)) (length out.old) }
+        ensures bytes { out.new ≡ take result (left sheets.now stored.now view self.old) ++ drop result out.old }
+        ensures rest { left sheets.now stored.now view self.new ≡ drop result (left sheets.now stored.now view self.old) }
+        ensures ended { 0 < result → IsBetween self.new.copies.place →
+            IsBefore sheets.now stored.now view (bands_of view) self.new.painter }
+    {
+        let mut n = 0;
+        while n < out.len() && self.copies.is_pending() {
+            n += self.put_line(sheets, stored, view, &mut out[n..]);
+        }
+        n
+    }
+}
