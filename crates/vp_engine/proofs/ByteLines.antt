@@ -1,7 +1,8 @@
 -- How long the lines of bytes of data are.
 use Rattle.std.proofs.Common.{◌≡◌, ℕ, ◌*◌, List, [], ◌∷◌, length, refl, arith, length-append}
 use Rattle.vp_esc.specs.declared.item.EscItem.TheVariants.{RasterByte}
-use Rattle.vp_esc.specs.Lines.{listed, line_of}
+use Rattle.vp_dots.specs.Listing.{listed}
+use Rattle.vp_esc.specs.Lines.{line_of}
 use Rattle.hex.specs.Hex.{encode_with}
 use Rattle.vp_engine.specs.Lines.{byte_lines}
 

@@ -5,7 +5,7 @@ use Rattle.std.proofs.lemmas.List.{reverse-append, reverse-reverse, append-nil, 
 use Rattle.std.proofs.lemmas.Grind.{common_steps}
 use Rattle.vp_dots.specs.declared.fault.Fault.{Fault}
 use Rattle.vp_engine.specs.Bytes.{IsPrefix, without_last}
-use Rattle.vp_engine.specs.Paper.{Rules, Reading, Reads, history, printed, newest_refusal, fault_at, first_fault, sound, fault, before_fault, paper, ending, fault_at_end, is_empty, missing}
+use Rattle.vp_engine.specs.Paper.{Rules, Reading, Reads, history, printed, newest_refusal, fault_at, first_fault, sound, fault, before_fault, paper, ending, fault_at_end, missing}
 
 reverse_last : (t : List ℕ) (b : ℕ) → reverse (t ++ b ∷ []) ≡ b ∷ reverse t
 reverse_last t b = reverse-append t (b ∷ [])
@@ -20,7 +20,7 @@ pub none_first : (a b : Option Fault) → option_or a b ≡ None → a ≡ None
 none_first None b e = refl
 none_first (Some f) b e = e
 
-none_second : (a b : Option Fault) → option_or a b ≡ None → b ≡ None
+pub none_second : (a b : Option Fault) → option_or a b ≡ None → b ≡ None
 none_second None b e = e
 none_second (Some f) b e = cc
 
@@ -161,8 +161,8 @@ module _ {Item : Type 0} (rules : Rules Item) where
 
   -- where bytes without a fault end
   pub ends : (t : List ℕ) (missing_now : Option Fault) → fault rules t ≡ None →
-      missing_now ≡ missing (is_empty (rules.reading.rest t)) (rules.is_at_rest (history rules (before_fault rules t))) → fault_at_end rules t ≡ missing_now
+      missing_now ≡ missing (rules.reading.is_between t) (rules.is_at_rest (history rules (before_fault rules t))) → fault_at_end rules t ≡ missing_now
   unfolding ending
   ends t missing_now none e =
       ap (λ f. option_or f (ending rules t)) none
-      ∙ ap (λ x. missing (is_empty (rules.reading.rest t)) (rules.is_at_rest (history rules x))) (sym (before_whole t none)) ∙ sym e
+      ∙ ap (λ x. missing (rules.reading.is_between t) (rules.is_at_rest (history rules x))) (sym (before_whole t none)) ∙ sym e

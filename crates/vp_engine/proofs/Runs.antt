@@ -15,7 +15,7 @@ use Rattle.vp_engine.proofs.Faults.{sticks, fault_more, fault_stays, before_whol
 
 module _ {Item : Type 0} (rules : Rules Item) where
   -- the newest of accepted items is not refused, wherever they are cut
-  newest_of : (a more before : List Item) → AreAccepted rules before (a ++ more) → newest_refusal rules before ≡ None → newest_refusal rules (reverse a ++ before) ≡ None
+  pub newest_of : (a more before : List Item) → AreAccepted rules before (a ++ more) → newest_refusal rules before ≡ None → newest_refusal rules (reverse a ++ before) ≡ None
   newest_of [] more before q e = e
   newest_of (i ∷ a) more before q e =
       ap (newest_refusal rules) (ap (λ x. x ++ before) (reverse-append (i ∷ []) a) ∙ append_assoc (reverse a) (i ∷ []) before) ∙ newest_of a more (i ∷ before) q.1 q.0

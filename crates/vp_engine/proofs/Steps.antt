@@ -1,16 +1,17 @@
 -- Where a printer stands after one byte more, and after it put out some.
-use Rattle.std.proofs.Common.{◌≡◌, ℕ, ◌<◌, List, [], ◌∷◌, ◌++◌, length, take, reverse, append_assoc, Option, Some, None, IsSome, MatchResult, Result, Ok, Err, refl, sym, ap, subst, ◌∙◌, arith, length-append, length-drop, min, drop, option_to_list}
+use Rattle.std.proofs.Common.{◌≡◌, ℕ, ◌<◌, List, [], ◌∷◌, ◌++◌, length, take, reverse, append_assoc, Option, Some, None, IsSome, MatchResult, Result, Ok, Err, refl, sym, ap, subst, ◌∙◌, arith, length-append, length-drop, min, drop}
 use Rattle.std.specs.Option.{option_or}
 use Rattle.std.specs.Result.{result_err}
 use Rattle.std.proofs.lemmas.List.{reverse-append, append-nil, take_at, drop_at, length-take-le, take-append-drop}
 use Rattle.vp_dots.specs.declared.fault.Fault.{Fault}
 use Rattle.vp_engine.specs.Setups.{Setup}
 use Rattle.vp_engine.specs.Bytes.{without_last}
-use Rattle.vp_engine.specs.Paper.{Rules, Reads, history, printed, newest_refusal, fault_at, fault, first_fault, before_fault, sound, paper, fault_at_end, missing, is_empty}
+use Rattle.vp_engine.specs.Paper.{Rules, Reads, history, printed, newest_refusal, fault_at, fault, first_fault, before_fault, sound, paper, fault_at_end, missing}
 use Rattle.vp_engine.specs.Machines.{MachineStands}
-use Rattle.vp_engine.specs.Takes.{Takes, Gives, Comes}
+use Rattle.vp_engine.specs.Takes.{AreAccepted, Takes, Gives, Comes}
 use Rattle.vp_engine.specs.Setups.{Item, rules_of}
 use Rattle.vp_engine.specs.Stands.{Engine, Stands}
+use Rattle.vp_engine.proofs.Runs.{newest_of}
 use Rattle.vp_engine.proofs.Faults.{fault_more, before_whole, before_stop, newest_accepted, paper_is, without_last_more, last_prints_nothing, ends, all_known}
 
 module _ {Item : Type 0} (rules : Rules Item) (At : List ℕ → List Item → Type 0) (pending : List ℕ) where
@@ -41,30 +42,31 @@ module _ {Item : Type 0} (rules : Rules Item) (At : List ℕ → List Item → T
   stops t b f fa at e = adds_to t b (Some f) (history rules (before_fault rules t)) fa (ap (history rules) (before_stop rules t b f fa)) at (nothing _ e)
 
   module _ (reads : Reads rules.reading) (t : List ℕ) (b : ℕ) (none : fault rules t ≡ None) where
-    -- the items, where the byte gives one or none
-    items_next : (item : Option Item) → rules.reading.items (t ++ b ∷ []) ≡ rules.reading.items t ++ option_to_list item →
-        history rules (t ++ b ∷ []) ≡ reverse (option_to_list item) ++ history rules (before_fault rules t)
-    items_next item e = ap reverse e ∙ reverse-append (rules.reading.items t) (option_to_list item)
-        ∙ ap (λ x. reverse (option_to_list item) ++ history rules x) (sym (before_whole rules t none))
+    -- the items, where the byte gives these
+    items_next : (items : List Item) → rules.reading.items (t ++ b ∷ []) ≡ rules.reading.items t ++ items →
+        history rules (t ++ b ∷ []) ≡ reverse items ++ history rules (before_fault rules t)
+    items_next items e = ap reverse e ∙ reverse-append (rules.reading.items t) items
+        ∙ ap (λ x. reverse items ++ history rules x) (sym (before_whole rules t none))
+
+    newest_before : newest_refusal rules (history rules (before_fault rules t)) ≡ None
+    newest_before =
+        ap (λ x. newest_refusal rules (history rules x)) (before_whole rules t none) ∙ newest_accepted rules reads t none
 
     -- a known byte
     known : (refused : Option Fault) → rules.reading.fault_of (t ++ b ∷ []) ≡ None → newest_refusal rules (history rules (t ++ b ∷ [])) ≡ refused → fault rules (t ++ b ∷ []) ≡ refused
     known refused k e = fault_next t b none ∙ ap (λ f. option_or f (newest_refusal rules (history rules (t ++ b ∷ [])))) k ∙ e
 
-    pub adds_by : (given : Result (Option Item) Fault) (result : Result (Unit {0}) Fault) →
+    pub adds_by : (given : Result (List Item) Fault) (result : Result (Unit {0}) Fault) →
         Gives given (rules.reading.items t) (rules.reading.items (t ++ b ∷ [])) (rules.reading.fault_of (t ++ b ∷ [])) →
         Comes rules At pending (t ++ b ∷ []) (history rules (before_fault rules t)) given result → Adds t b (result_err result)
-    adds_by (Ok (Some item)) (Ok done) g c =
-        let hi = items_next (Some item) g.1 in
-        let fa = known None g.0 (ap (newest_refusal rules) hi ∙ c.0) in
-        adds_to t b None (item ∷ history rules (before_fault rules t)) fa (ap (history rules) (before_whole rules (t ++ b ∷ []) fa) ∙ hi) c.1
-        (ap (λ x. printed rules (history rules (before_fault rules t)) ++ x) c.2)
-    adds_by (Ok (Some item)) (Err f) g c = stops t b f (known (Some f) g.0 (ap (newest_refusal rules) (items_next (Some item) g.1) ∙ c.0)) c.1 c.2
-    adds_by (Ok None) result g c =
-        let hi = items_next None g.1 in
-        let fa = known None g.0 (ap (newest_refusal rules) (hi ∙ ap (history rules) (before_whole rules t none)) ∙ newest_accepted rules reads t none) in
-        subst (Adds t b) (sym (ap result_err c.0))
-        (adds_to t b None (history rules (before_fault rules t)) fa (ap (history rules) (before_whole rules (t ++ b ∷ []) fa) ∙ hi) c.1 (nothing _ c.2))
+    adds_by (Ok items) (Ok done) g c =
+        let hi = items_next items g.1 in
+        let h = history rules (before_fault rules t) in
+        let all = newest_of rules items [] h (subst (AreAccepted rules h) (sym (append-nil items)) c.0) newest_before in
+        let fa = known None g.0 (ap (newest_refusal rules) hi ∙ all) in
+        adds_to t b None (reverse items ++ h) fa (ap (history rules) (before_whole rules (t ++ b ∷ []) fa) ∙ hi) c.1 (sym c.2)
+    adds_by (Ok items) (Err f) g c =
+        stops t b f (known (Some f) g.0 (ap (newest_refusal rules) (items_next items g.1) ∙ c.0)) c.1 c.2
     adds_by (Err f) result g c = subst (Adds t b) (sym (ap result_err c.0))
         (stops t b f (fault_next t b none ∙ ap (λ x. option_or x (newest_refusal rules (history rules (t ++ b ∷ [])))) g) c.1 c.2)
 
@@ -132,7 +134,7 @@ module _ (setup : Setup) where
 
   -- where a printer that has not stopped ends
   pub ends_at : (p : Engine) (t o : List ℕ) (answer : Option Fault) → Reads rules.reading → Stands setup p t o → ((f : Fault) → p.stopped ≡ Some f → ⊥) →
-      ((before : List (Item setup)) → MachineStands p.machine setup t before → rules.reading.fault_of t ≡ None → answer ≡ missing (is_empty (rules.reading.rest t)) (rules.is_at_rest before)) →
+      ((before : List (Item setup)) → MachineStands p.machine setup t before → rules.reading.fault_of t ≡ None → answer ≡ missing (rules.reading.is_between t) (rules.is_at_rest before)) →
       fault_at_end rules t ≡ answer
   ends_at p t o answer reads s run is =
       let none : fault rules t ≡ None = sym s.stopped ∙ none_of p.stopped run in

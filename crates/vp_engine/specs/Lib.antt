@@ -1,7 +1,8 @@
--- the rules of every language, and of each
+-- the rules of every language, and of each; the images of a receipt
 pub mod Bytes
 pub mod Paper
 pub mod Setups
+pub mod Images
 -- what a printer, a session and a listing do
 pub mod Stands
 pub mod Answers

@@ -23,13 +23,15 @@ pub record IsListed (language : Language) (n : ℕ) (r w : List ℕ) (end : Type
 
 abbrev pub IsListing : Language → Result ℕ RunFault → List ℕ → List ℕ → Type 0 → Type 0
 IsListing language (Ok n) r w end = IsListed language n r w end
-IsListing language (Err (Print f after)) r w end = StopsAt (rules_of (Listing language)) f after r w (Unit {0}) end
+IsListing language (Err (Print f after)) r w end =
+    StopsAt (rules_of (Listing language)) f after r w (Unit {0}) end
 IsListing language (Err Read) r w end = Unit {0}
 IsListing language (Err Write) r w end = Unit {0}
 IsListing language (Err TooManyTurns) r w end = Unit {0}
 
 -- a call read and wrote some bytes, which begin their listing, and its answer is about all of them
-pub record Lists (language : Language) (before after held holds : Option (List ℕ)) (result : Result ℕ RunFault) : Type 0 where
+pub record Lists (language : Language) (before after held holds : Option (List ℕ))
+    (result : Result ℕ RunFault) : Type 0 where
   pub read : List ℕ
   pub accepted : List ℕ
   pub consumed : Consumes before after read

@@ -15,9 +15,12 @@ pending_of (ReceiptLines reader lines) = lines.pending
 
 -- the reader stands after these bytes, and what it drives after these items
 abbrev pub MachineStands : Machine → (setup : Setup) → List ℕ → List (Item setup) → Type 0
-MachineStands (Receipt reader receipt) (Receipts setup) bytes before = EscStands reader bytes × ReceiptStands setup receipt before
-MachineStands (ReceiptLines reader lines) (Listing languages.Receipt) bytes before = EscStands reader bytes × (lines.count ≡ counted (length before))
-MachineStands (ReceiptLines reader lines) (Listing languages.Receipt58) bytes before = EscStands reader bytes × (lines.count ≡ counted (length before))
+MachineStands (Receipt reader receipt) (Receipts setup) bytes before =
+    EscStands reader bytes × ReceiptStands setup receipt before
+MachineStands (ReceiptLines reader lines) (Listing languages.Receipt) bytes before =
+    EscStands reader bytes × (lines.count ≡ counted (length before))
+MachineStands (ReceiptLines reader lines) (Listing languages.Receipt58) bytes before =
+    EscStands reader bytes × (lines.count ≡ counted (length before))
 MachineStands machine setup bytes before = ⊥
 
 -- A machine took nothing.

@@ -6,14 +6,14 @@ use Rattle.vp_dots.specs.declared.fault.Fault.TheVariants.{Truncated, Unprinted}
 use Rattle.vp_engine.specs.declared.held.Held.{Held}
 use Rattle.vp_engine.specs.Bytes.{IsPrefix}
 
--- what bytes say: their items, the fault that the last byte makes, and what is left behind the last whole command
+-- what bytes say: their items, the fault that the last byte makes, and whether they end between commands
 pub record Reading (Item : Type 0) : Type 0 where
   pub items : List ℕ → List Item
   pub fault_of : List ℕ → Option Fault
-  pub rest : List ℕ → List ℕ
+  pub is_between : List ℕ → Bool
 
--- a language: what bytes say, and of an item, by the items before it, the newest first, what it prints and why it is
--- refused; by all items whether all is printed, and what is held while these bytes are pending
+-- a language: what bytes say, and of an item, by the items before it, the newest first, what it prints and
+-- why it is refused; by all items whether all is printed, and what is held while these bytes are pending
 pub record Rules (Item : Type 0) : Type 0 where
   pub reading : Reading Item
   pub prints : List Item → Item → List ℕ
@@ -35,18 +35,16 @@ listing reading line = record {
   held = λ before pending. nothing_held;
 }
 
--- what the items of all bytes have in common: none of no bytes, and no fault; what is given stays given, and a fault stays
+-- what the items of all bytes have in common: none of no bytes, and no fault; what is given stays given, and
+-- a fault stays
 pub record Reads {Item : Type 0} (reading : Reading Item) : Type 0 where
   pub nothing : reading.items [] ≡ []
   pub no_fault : reading.fault_of [] ≡ None
   pub grows : (bytes more : List ℕ) → IsPrefix (reading.items bytes) (reading.items (bytes ++ more))
-  pub stays : (bytes more : List ℕ) (f : Fault) → reading.fault_of bytes ≡ Some f → reading.fault_of (bytes ++ more) ≡ Some f
+  pub stays : (bytes more : List ℕ) (f : Fault)
+      → reading.fault_of bytes ≡ Some f → reading.fault_of (bytes ++ more) ≡ Some f
 
-abbrev pub is_empty : List ℕ → Bool
-is_empty [] = true
-is_empty (b ∷ bytes) = false
-
--- where bytes end: the rest of a command, or what would print what is gathered
+-- where bytes end: a command's end, or what would print what is gathered
 abbrev pub missing : Bool → Bool → Option Fault
 missing is_between at_rest = if is_between then (if at_rest then None else Some Unprinted) else Some Truncated
 
@@ -60,7 +58,8 @@ module _ {Item : Type 0} (rules : Rules Item) where
   newest_refusal [] = None
   newest_refusal (item ∷ before) = rules.refusal before item
 
-  -- the fault at the last byte, where there is none before: it ends no known command, or an item that is refused
+  -- the fault at the last byte, where there is none before: it ends no known command, or an item that is
+  -- refused
   abbrev pub fault_at : List ℕ → Option Fault
   fault_at bytes = option_or (rules.reading.fault_of bytes) (newest_refusal (history bytes))
 
@@ -93,7 +92,7 @@ module _ {Item : Type 0} (rules : Rules Item) where
 
   -- what is missing where the bytes end
   unfoldable pub ending : List ℕ → Option Fault
-  ending bytes = missing (is_empty (rules.reading.rest bytes)) (rules.is_at_rest (history bytes))
+  ending bytes = missing (rules.reading.is_between bytes) (rules.is_at_rest (history bytes))
 
   -- the first fault, else that of ending here
   abbrev pub fault_at_end : List ℕ → Option Fault

@@ -101,7 +101,8 @@ module _ {Item : Type 0} (rules : Rules Item) where
     pub fault_of : fault_at_end rules t ≡ Some f
     pub at_end : end
 
-  -- a front t of r was taken, w is its paper, and the fault is its first, or that of ending where it is all of r
+  -- a front t of r was taken, w is its paper, and the fault is its first, or that of ending where it is all
+  -- of r
   pub record StopsAt (f : Fault) (after : ℕ) (r w : List ℕ) (stays end : Type 0) : Type 0 where
     pub t : List ℕ
     pub rest : List ℕ
@@ -111,7 +112,8 @@ module _ {Item : Type 0} (rules : Rules Item) where
     pub fault_is : IsFirstFault f t stays ⊎ IsEnding f t rest end
 
 -- all is printed, and its bytes are counted
-pub record IsReported (setup : Setup) (s : Desk) (report : Report) (r w : List ℕ) (end : Type 0) : Type 0 where
+pub record IsReported (setup : Setup) (s : Desk) (report : Report) (r w : List ℕ) (end : Type 0)
+    : Type 0 where
   pub whole : IsWhole (rules_of setup) r w end
   pub none_left : s.unread ≡ []
   pub taken : report.taken ≡ counted (length r)
@@ -125,7 +127,8 @@ IsAnswer setup s (Err Write) r w end = Unit {0}
 IsAnswer setup s (Err TooManyTurns) r w end = Unit {0}
 
 -- a call read and wrote some bytes, and the session stands after them
-pub record Reaches (before after held holds : Option (List ℕ)) (setup : Setup) (s : Desk) (r w : List ℕ) : Type 0 where
+pub record Reaches (before after held holds : Option (List ℕ)) (setup : Setup) (s : Desk) (r w : List ℕ)
+    : Type 0 where
   pub read : List ℕ
   pub accepted : List ℕ
   pub consumed : Consumes before after read
@@ -133,7 +136,8 @@ pub record Reaches (before after held holds : Option (List ℕ)) (setup : Setup)
   pub at : IsAt setup s (r ++ read) (w ++ accepted)
 
 -- and its answer is about all of them
-pub record Pumps (before after held holds : Option (List ℕ)) (setup : Setup) (s : Desk) (r w : List ℕ) (result : Result Report RunFault) : Type 0 where
+pub record Pumps (before after held holds : Option (List ℕ)) (setup : Setup) (s : Desk) (r w : List ℕ)
+    (result : Result Report RunFault) : Type 0 where
   pub reaches : Reaches before after held holds setup s r w
   pub answer : IsAnswer setup s result (r ++ reaches.read) (w ++ reaches.accepted) (IsAtEnd after)
 

@@ -1,5 +1,5 @@
 -- The languages, and what each printer is set up with.
-use Rattle.std.specs.Prelude.{ℕ, List, length}
+use Rattle.std.specs.Prelude.{ℕ, Bool, true, false, List, [], ◌∷◌, length}
 use Rattle.vp_esc.specs.declared.item.EscItem.{EscItem}
 use Rattle.vp_esc.specs.Split.{split, items, fault_of}
 use Rattle.vp_esc.specs.Lines.{line_of}
@@ -16,8 +16,12 @@ abbrev pub ItemOf : Language → Type 0
 ItemOf languages.Receipt = EscItem
 ItemOf languages.Receipt58 = EscItem
 
+abbrev pub is_empty : List ℕ → Bool
+is_empty [] = true
+is_empty (b ∷ bytes) = false
+
 abbrev pub esc_reading : Reading EscItem
-esc_reading = record { items = items; fault_of = fault_of; rest = λ bytes. (split bytes).rest }
+esc_reading = record { items = items; fault_of = fault_of; is_between = λ bytes. is_empty (split bytes).rest }
 
 -- what the bytes of a language say
 abbrev pub reading : (language : Language) → Reading (ItemOf language)
@@ -49,7 +53,10 @@ rules_of (Receipts receipt) = record {
   prints = prints receipt;
   refusal = refusal receipt;
   is_at_rest = is_at_rest receipt;
-  held = λ before pending. record nothing_held { line_rows = line_rows_after receipt before pending; page_rows = page_rows_after receipt before pending };
+  held = λ before pending. record nothing_held {
+    line_rows = line_rows_after receipt before pending;
+    page_rows = page_rows_after receipt before pending;
+  };
 }
 rules_of (Listing language) = listing (reading language) (line language)
 

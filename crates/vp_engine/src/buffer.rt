@@ -91,7 +91,8 @@ impl Buffer {
         ensures stands { (setup : Setup) (t o : List ℕ) → Stands setup printer.old t o →
             Stands setup printer.new (t ++ take result.taken input.now) (o ++ self.new) }
         ensures drains { result.taken ≡ 0 → printer.old.pending ≡ self.new ++ printer.new.pending }
-        ensures moves { 0 < length input.now → printer.old.pending ≡ [] → printer.old.stopped ≡ None → 0 < result.taken }
+        ensures moves { 0 < length input.now → printer.old.pending ≡ [] → printer.old.stopped ≡ None →
+            0 < result.taken }
         ensures full { 0 < length printer.new.pending → length self.new ≡ buffer_size }
         ensures fit { length self.new ≤ buffer_size }
     {

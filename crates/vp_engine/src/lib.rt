@@ -1,8 +1,9 @@
-//! A printer that takes bytes and puts bytes out, with both cut at any place, in every language and its listing.
+//! A printer that takes bytes and puts bytes out, with both cut at any place, in every language and its
+//! listing.
 //!
-//! `machine` knows the languages, and `lines` a listing's lines; `printer` is the printer over any of them, `all` prints
-//! a whole input, `session` stands between a reader and a writer (of `vp_streams`) with two buffers (`buffer`), and `listing` lists
-//! what a reader gives. `laws` says what holds of every stream.
+//! `machine` knows the languages, and `lines` a listing's lines; `printer` is the printer over any of them,
+//! `all` prints a whole input, `session` stands between a reader and a writer (of `vp_streams`) with two
+//! buffers (`buffer`), and `listing` lists what a reader gives. `laws` says what holds of every stream.
 #![tactic(auto)]
 
 mod all;

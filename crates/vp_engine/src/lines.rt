@@ -8,7 +8,8 @@ ghost use Rattle.vp_esc.specs.declared.item.EscItem.TheVariants.{RasterByte};
 use arrayvec::ArrayVec;
 use std::marker::Model;
 
-/// The last line, where in it the next byte is, and how many lines there were; that count stops at the greatest u64.
+/// The last line, where in it the next byte is, and how many lines there were; that count stops at the
+/// greatest u64.
 #[derive(Drop)]
 pub struct Lines {
     line: ArrayVec<u8, 800>,

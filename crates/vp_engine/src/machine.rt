@@ -3,7 +3,7 @@ ghost use Rattle.std.specs.Prelude.{◌≡◌, ◌<◌, ◌≤◌, ◌++◌, ◌
 ghost use Rattle.vp_engine.specs.Answers.{IsBounded};
 ghost use Rattle.vp_streams.specs.Count.{grown};
 ghost use Rattle.vp_engine.specs.Machines.{pending_of, MachineStands};
-ghost use Rattle.vp_engine.specs.Paper.{missing, is_empty};
+ghost use Rattle.vp_engine.specs.Paper.{missing};
 ghost use Rattle.vp_engine.specs.Setups.{Setup, Item, setup_of, rules_of, lines_of};
 ghost use Rattle.vp_engine.specs.Setups.{Receipts, Listing};
 ghost use Rattle.vp_engine.specs.Takes.{Takes, TakesRun};
@@ -38,7 +38,8 @@ fn missing(is_between: bool, at_rest: bool) -> Option<Fault>
     None
 }
 
-/// Begins the line of an item. What prints doesn't pay for the room of a line, so this stands in no other function.
+/// Begins the line of an item. What prints doesn't pay for the room of a line, so this stands in no other
+/// function.
 #[inline(never)]
 fn begin_line(lines: &mut Lines, item: &EscItem)
     requires { lines.old.pending ≡ [] }
@@ -67,7 +68,8 @@ impl Machine {
     }
 
     fn receipt(alloc: Global, sheets: Sheets, width: Width) -> Result<Self, AllocError>
-        ensures stands { IfOk result (λ m. MachineStands m (Receipts (record { width = width; sheets = sheets })) [] []) }
+        ensures stands { IfOk result
+            (λ m. MachineStands m (Receipts (record { width = width; sheets = sheets })) [] []) }
         ensures pending { IfOk result (λ m. pending_of m ≡ []) }
     {
         let receipt = Receipt::new(alloc, sheets, width)?;
@@ -101,12 +103,13 @@ impl Machine {
     /// Takes a byte where nothing is pending, and answers the fault that it makes.
     pub fn take(&mut self, byte: u8) -> Result<(), Fault>
         requires { pending_of self.old ≡ [] }
-        ensures { (setup : Setup) (t : List ℕ) (before : List (Item setup)) → MachineStands self.old setup t before →
+        ensures { (setup : Setup) (t : List ℕ) (before : List (Item setup)) →
+            MachineStands self.old setup t before →
             Takes (rules_of setup) (MachineStands self.new setup) (pending_of self.new) t before byte result }
     {
         match self {
             Machine::Receipt { reader, receipt } => match reader.take(byte) {
-                Ok(Some(item)) => receipt.apply(item),
+                Ok(Some(item)) => receipt.apply(&item),
                 Ok(None) => Ok(()),
                 Err(fault) => Err(fault),
             },
@@ -128,12 +131,21 @@ impl Machine {
         ensures put { result.put ≤ length output.old }
         ensures rest { drop result.put output.new ≡ drop result.put output.old }
         ensures pending { pending_of self.new ≡ [] }
-        ensures takes { (setup : Setup) (t : List ℕ) (before : List (Item setup)) → MachineStands self.old setup t before →
+        ensures takes { (setup : Setup) (t : List ℕ) (before : List (Item setup)) →
+            MachineStands self.old setup t before →
             (rules_of setup).reading.fault_of t ≡ None →
-            TakesRun (rules_of setup) (MachineStands self.new setup) t before (take result.taken input.now) (take result.put output.new) }
+            TakesRun (rules_of setup) (MachineStands self.new setup) t before
+            (take result.taken input.now) (take result.put output.new) }
     {
         match self {
             Machine::Receipt { reader, receipt } => {
+                let skipped = reader.take_skipped(input);
+                if skipped > 0 {
+                    return Moved {
+                        taken: skipped,
+                        put: 0,
+                    };
+                }
                 let room = receipt.raster_room().min(input.len());
                 let n = reader.take_raster(&input[..room]);
                 receipt.apply_raster(&input[..n]);
@@ -166,7 +178,8 @@ impl Machine {
         ensures count { result ≡ min (length (pending_of self.old)) (length output.old) }
         ensures bytes { output.new ≡ take result (pending_of self.old) ++ drop result output.old }
         ensures rest { pending_of self.new ≡ drop result (pending_of self.old) }
-        ensures stands { (setup : Setup) (t : List ℕ) (before : List (Item setup)) → MachineStands self.old setup t before →
+        ensures stands { (setup : Setup) (t : List ℕ) (before : List (Item setup)) →
+            MachineStands self.old setup t before →
             MachineStands self.new setup t before }
     {
         match self {
@@ -177,9 +190,10 @@ impl Machine {
 
     /// What is missing where the bytes end.
     pub fn ending(&self) -> Option<Fault>
-        ensures { (setup : Setup) (t : List ℕ) (before : List (Item setup)) → MachineStands self.now setup t before →
+        ensures { (setup : Setup) (t : List ℕ) (before : List (Item setup)) →
+            MachineStands self.now setup t before →
             (rules_of setup).reading.fault_of t ≡ None →
-            result ≡ missing (is_empty ((rules_of setup).reading.rest t)) ((rules_of setup).is_at_rest before) }
+            result ≡ missing ((rules_of setup).reading.is_between t) ((rules_of setup).is_at_rest before) }
     {
         match self {
             Machine::Receipt { reader, receipt } => missing(reader.at_rest(), receipt.at_rest()),
@@ -189,7 +203,8 @@ impl Machine {
 
     /// What the machine holds now.
     pub fn held(&self) -> Held
-        ensures value { (setup : Setup) (t : List ℕ) (before : List (Item setup)) → MachineStands self.now setup t before →
+        ensures value { (setup : Setup) (t : List ℕ) (before : List (Item setup)) →
+            MachineStands self.now setup t before →
             result ≡ (rules_of setup).held before (pending_of self.now) }
         ensures most { IsBounded result }
     {
@@ -213,7 +228,8 @@ impl Machine {
 
     /// How many lines of a listing there were.
     pub fn lines(&self) -> u64
-        ensures { (setup : Setup) (t : List ℕ) (before : List (Item setup)) → MachineStands self.now setup t before →
+        ensures { (setup : Setup) (t : List ℕ) (before : List (Item setup)) →
+            MachineStands self.now setup t before →
             result ≡ lines_of setup before }
     {
         match self {

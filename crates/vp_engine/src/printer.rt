@@ -85,7 +85,8 @@ impl Printer {
     fn take(&mut self, byte: u8)
         requires idle { self.old.pending ≡ [] }
         requires running { self.old.stopped ≡ None }
-        ensures stands { (setup : Setup) (t o : List ℕ) → Stands setup self.old t o → Stands setup self.new (t ++ byte ∷ []) o }
+        ensures stands { (setup : Setup) (t o : List ℕ) → Stands setup self.old t o →
+            Stands setup self.new (t ++ byte ∷ []) o }
     {
         items_grow();
         self.stopped = self.machine.take(byte).err();
@@ -137,7 +138,8 @@ impl Printer {
         ensures count { result ≡ min (length self.old.pending) (length output.old) }
         ensures full { 0 < length self.new.pending → result ≡ length output.old }
         ensures rest { drop result output.new ≡ drop result output.old }
-        ensures stands { (setup : Setup) (t o : List ℕ) → Stands setup self.old t o → Stands setup self.new t (o ++ take result output.new) }
+        ensures stands { (setup : Setup) (t o : List ℕ) → Stands setup self.old t o →
+            Stands setup self.new t (o ++ take result output.new) }
         ensures stopped { self.new.stopped ≡ self.old.stopped }
         ensures none { IsSome self.old.stopped → result ≡ 0 }
         ensures text { self.old.pending ≡ take result output.new ++ self.new.pending }
@@ -166,17 +168,25 @@ impl Printer {
         ensures put { result.put ≤ length output.old }
         ensures rest { drop result.put output.new ≡ drop result.put output.old }
         ensures full { 0 < length self.new.pending → result.put ≡ length output.old }
-        ensures drains { result.taken ≡ 0 → self.old.pending ≡ take result.put output.new ++ self.new.pending }
-        ensures moves { 0 < length input.now → self.old.pending ≡ [] → self.old.stopped ≡ None → 0 < result.taken }
+        ensures drains { result.taken ≡ 0 →
+            self.old.pending ≡ take result.put output.new ++ self.new.pending }
+        ensures moves { 0 < length input.now → self.old.pending ≡ [] → self.old.stopped ≡ None →
+            0 < result.taken }
         ensures stands { (setup : Setup) (t o : List ℕ) → Stands setup self.old t o →
             Stands setup self.new (t ++ take result.taken input.now) (o ++ take result.put output.new) }
-        ensures more { result.state ≡ State.More → (setup : Setup) (t o : List ℕ) → Stands setup self.old t o →
-            IsMore setup input.now result.taken (t ++ take result.taken input.now) (o ++ take result.put output.new) }
-        ensures room { result.state ≡ State.Room → (setup : Setup) (t o : List ℕ) → Stands setup self.old t o →
-            IsRoom setup output.new result.put (t ++ take result.taken input.now) (o ++ take result.put output.new) }
+        ensures more { result.state ≡ State.More → (setup : Setup) (t o : List ℕ) →
+            Stands setup self.old t o →
+            IsMore setup input.now result.taken (t ++ take result.taken input.now)
+            (o ++ take result.put output.new) }
+        ensures room { result.state ≡ State.Room → (setup : Setup) (t o : List ℕ) →
+            Stands setup self.old t o →
+            IsRoom setup output.new result.put (t ++ take result.taken input.now)
+            (o ++ take result.put output.new) }
         ensures stopped { (f : Fault) (setup : Setup) (t o : List ℕ) → Stands setup self.old t o →
-            (result.state ≡ State.Stopped f ↔ (fault (rules_of setup) (t ++ take result.taken input.now) ≡ Some f)) }
-        ensures stopped_at { (f : Fault) (setup : Setup) (t o : List ℕ) → Stands setup self.old t o → result.state ≡ State.Stopped f →
+            (result.state ≡ State.Stopped f ↔
+            (fault (rules_of setup) (t ++ take result.taken input.now) ≡ Some f)) }
+        ensures stopped_at { (f : Fault) (setup : Setup) (t o : List ℕ) → Stands setup self.old t o →
+            result.state ≡ State.Stopped f →
             IsStopped setup f (t ++ take result.taken input.now) (o ++ take result.put output.new) }
         ensures nothing_after { (f : Fault) → self.old.stopped ≡ Some f → IsStill f result }
     {
@@ -199,7 +209,8 @@ impl Printer {
     pub fn finish(&self) -> Result<(), Fault>
         requires { self.now.pending ≡ [] }
         ensures { (setup : Setup) (t o : List ℕ) → Stands setup self.now t o →
-            MatchResult result (λ _. fault_at_end (rules_of setup) t ≡ None) (λ f. fault_at_end (rules_of setup) t ≡ Some f) }
+            MatchResult result (λ _. fault_at_end (rules_of setup) t ≡ None)
+            (λ f. fault_at_end (rules_of setup) t ≡ Some f) }
     {
         items_grow();
         if let Some(fault) = self.stopped {
@@ -213,7 +224,8 @@ impl Printer {
 
     /// What the printer holds now.
     pub fn held(&self) -> Held
-        ensures value { (setup : Setup) (t o : List ℕ) → Stands setup self.now t o → result ≡ held_after (rules_of setup) t o }
+        ensures value { (setup : Setup) (t o : List ℕ) → Stands setup self.now t o →
+            result ≡ held_after (rules_of setup) t o }
         ensures most { IsBounded result }
     {
         self.machine.held()

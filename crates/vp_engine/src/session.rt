@@ -53,9 +53,21 @@ impl Model for Session {
 
     ghost Value = { Desk };
 
-    ghost view = { λ s. record { printer = s.printer; unread = s.input; unwritten = s.output; taken = s.taken; written = s.written } };
+    ghost view = { λ s. record {
+      printer = s.printer;
+      unread = s.input;
+      unwritten = s.output;
+      taken = s.taken;
+      written = s.written;
+    } };
 
-    ghost invariant = { λ s. IsSomewhere (record { printer = s.printer; unread = s.input; unwritten = s.output; taken = s.taken; written = s.written }) };
+    ghost invariant = { λ s. IsSomewhere (record {
+      printer = s.printer;
+      unread = s.input;
+      unwritten = s.output;
+      taken = s.taken;
+      written = s.written;
+    }) };
 }
 
 impl Session {
@@ -91,10 +103,12 @@ impl Session {
     /// Writes once.
     fn write_once<K: Sink>(&mut self, writer: &mut K) -> Result<(), RunFault>
         requires { 0 < length self.old.unwritten }
-        ensures at { (setup : Setup) (r w : List ℕ) → IsAt setup self.old r w → Accepts (K.contents writer.old) (K.contents writer.new) setup self.new r w }
+        ensures at { (setup : Setup) (r w : List ℕ) → IsAt setup self.old r w →
+            Accepts (K.contents writer.old) (K.contents writer.new) setup self.new r w }
         ensures ok { OnOk result (K.failed_writes writer.new ≡ K.failed_writes writer.old) }
         ensures less { OnOk result (length self.new.unwritten < length self.old.unwritten) }
-        ensures err { IfErr result (λ e. (e ≡ RunFault.Write) × (K.failed_writes writer.new ≡ grown (K.failed_writes writer.old) 1)) }
+        ensures err { IfErr result (λ e. (e ≡ RunFault.Write)
+            × (K.failed_writes writer.new ≡ grown (K.failed_writes writer.old) 1)) }
         ensures rest { SameDesk self.old self.new }
     {
         match writer.write(self.output.as_slice()) {
@@ -118,9 +132,12 @@ impl Session {
 
     /// Writes what the output holds.
     fn flush<K: Sink>(&mut self, writer: &mut K) -> Result<(), RunFault>
-        ensures at { (setup : Setup) (r w : List ℕ) → IsAt setup self.old r w → Accepts (K.contents writer.old) (K.contents writer.new) setup self.new r w }
-        ensures ok { OnOk result ((self.new.unwritten ≡ []) × (K.failed_writes writer.new ≡ K.failed_writes writer.old)) }
-        ensures err { IfErr result (λ e. (e ≡ RunFault.Write) × (K.failed_writes writer.new ≡ grown (K.failed_writes writer.old) 1)) }
+        ensures at { (setup : Setup) (r w : List ℕ) → IsAt setup self.old r w →
+            Accepts (K.contents writer.old) (K.contents writer.new) setup self.new r w }
+        ensures ok { OnOk result ((self.new.unwritten ≡ [])
+            × (K.failed_writes writer.new ≡ K.failed_writes writer.old)) }
+        ensures err { IfErr result (λ e. (e ≡ RunFault.Write)
+            × (K.failed_writes writer.new ≡ grown (K.failed_writes writer.old) 1)) }
         ensures rest { SameDesk self.old self.new }
     {
         'writes: while self.has_output() {
@@ -151,7 +168,8 @@ impl Session {
     fn advance(&mut self)
         requires { self.old.unwritten ≡ [] }
         ensures at { (setup : Setup) (r w : List ℕ) → IsAt setup self.old r w → IsAt setup self.new r w }
-        ensures less { 0 < length self.old.unread → self.old.printer.pending ≡ [] → self.old.printer.stopped ≡ None →
+        ensures less { 0 < length self.old.unread → self.old.printer.pending ≡ [] →
+            self.old.printer.stopped ≡ None →
             length self.new.unread < length self.old.unread }
     {
         let step = self.output.step(&mut self.printer, self.input.as_slice());
@@ -172,9 +190,12 @@ impl Session {
 
     /// Writes all that is pending.
     fn drain<K: Sink>(&mut self, writer: &mut K) -> Result<(), RunFault>
-        ensures at { (setup : Setup) (r w : List ℕ) → IsAt setup self.old r w → Accepts (K.contents writer.old) (K.contents writer.new) setup self.new r w }
-        ensures ok { OnOk result (IsDrained self.new × (K.failed_writes writer.new ≡ K.failed_writes writer.old)) }
-        ensures err { IfErr result (λ e. (e ≡ RunFault.Write) × (K.failed_writes writer.new ≡ grown (K.failed_writes writer.old) 1)) }
+        ensures at { (setup : Setup) (r w : List ℕ) → IsAt setup self.old r w →
+            Accepts (K.contents writer.old) (K.contents writer.new) setup self.new r w }
+        ensures ok { OnOk result (IsDrained self.new
+            × (K.failed_writes writer.new ≡ K.failed_writes writer.old)) }
+        ensures err { IfErr result (λ e. (e ≡ RunFault.Write)
+            × (K.failed_writes writer.new ≡ grown (K.failed_writes writer.old) 1)) }
         ensures unread { self.new.unread ≡ self.old.unread }
     {
         'drains: loop {
@@ -188,9 +209,12 @@ impl Session {
 
     /// Prints the input that is held, and writes what it prints.
     fn settle<K: Sink>(&mut self, writer: &mut K) -> Result<(), RunFault>
-        ensures at { (setup : Setup) (r w : List ℕ) → IsAt setup self.old r w → Accepts (K.contents writer.old) (K.contents writer.new) setup self.new r w }
-        ensures ok { OnOk result (IsSettled self.new × (K.failed_writes writer.new ≡ K.failed_writes writer.old)) }
-        ensures err { IfErr result (λ e. (e ≡ RunFault.Write) × (K.failed_writes writer.new ≡ grown (K.failed_writes writer.old) 1)) }
+        ensures at { (setup : Setup) (r w : List ℕ) → IsAt setup self.old r w →
+            Accepts (K.contents writer.old) (K.contents writer.new) setup self.new r w }
+        ensures ok { OnOk result (IsSettled self.new
+            × (K.failed_writes writer.new ≡ K.failed_writes writer.old)) }
+        ensures err { IfErr result (λ e. (e ≡ RunFault.Write)
+            × (K.failed_writes writer.new ≡ grown (K.failed_writes writer.old) 1)) }
     {
         self.drain(writer)?;
         'inputs: while self.has_input() && self.stopped().is_none() {
@@ -203,10 +227,12 @@ impl Session {
     /// Reads once.
     fn fill<S: Source>(&mut self, reader: &mut S) -> Result<usize, RunFault>
         requires { self.old.unread ≡ [] }
-        ensures at { (setup : Setup) (r w : List ℕ) → IsAt setup self.old r w → Reads (S.remaining reader.old) (S.remaining reader.new) setup self.new r w }
+        ensures at { (setup : Setup) (r w : List ℕ) → IsAt setup self.old r w →
+            Reads (S.remaining reader.old) (S.remaining reader.new) setup self.new r w }
         ensures ok { OnOk result (S.failed_reads reader.new ≡ S.failed_reads reader.old) }
         ensures end { IfOk result (λ n. n ≡ 0 → (self.new.unread ≡ []) × IsAtEnd (S.remaining reader.new)) }
-        ensures err { IfErr result (λ e. (e ≡ RunFault.Read) × (S.failed_reads reader.new ≡ grown (S.failed_reads reader.old) 1)) }
+        ensures err { IfErr result (λ e. (e ≡ RunFault.Read)
+            × (S.failed_reads reader.new ≡ grown (S.failed_reads reader.old) 1)) }
         ensures same { SamePrinter self.old self.new }
         ensures reads { S.reads reader.new ≡ grown (S.reads reader.old) 1 }
     {
@@ -229,7 +255,8 @@ impl Session {
     fn finish(&self) -> Result<(), Fault>
         requires { self.now.printer.pending ≡ [] }
         ensures { (setup : Setup) (t o : List ℕ) → Stands setup self.now.printer t o →
-            MatchResult result (λ _. fault_at_end (rules_of setup) t ≡ None) (λ f. fault_at_end (rules_of setup) t ≡ Some f) }
+            MatchResult result (λ _. fault_at_end (rules_of setup) t ≡ None)
+            (λ f. fault_at_end (rules_of setup) t ≡ Some f) }
     {
         self.printer.finish()
     }
@@ -252,11 +279,15 @@ impl Session {
         writer: &mut K,
     ) -> Result<Report, RunFault>
         ensures pumps { (setup : Setup) (r w : List ℕ) → IsAt setup self.old r w →
-            Pumps (S.remaining reader.old) (S.remaining reader.new) (K.contents writer.old) (K.contents writer.new) setup self.new r w result }
-        ensures failed_reads { S.failed_reads reader.new ≡ one_more_if (is_read_fault result) (S.failed_reads reader.old) }
-        ensures failed_writes { K.failed_writes writer.new ≡ one_more_if (is_write_fault result) (K.failed_writes writer.old) }
+            Pumps (S.remaining reader.old) (S.remaining reader.new) (K.contents writer.old)
+            (K.contents writer.new) setup self.new r w result }
+        ensures failed_reads { S.failed_reads reader.new ≡
+            one_more_if (is_read_fault result) (S.failed_reads reader.old) }
+        ensures failed_writes { K.failed_writes writer.new ≡
+            one_more_if (is_write_fault result) (K.failed_writes writer.old) }
         ensures reads { S.reads reader.new ≤ S.reads reader.old + 1000000000 }
-        ensures turns { result ≡ Err RunFault.TooManyTurns → S.reads reader.new ≡ grown (S.reads reader.old) 1000000000 }
+        ensures turns { result ≡ Err RunFault.TooManyTurns →
+            S.reads reader.new ≡ grown (S.reads reader.old) 1000000000 }
     {
         'turns: for _turn in 0..1_000_000_000u32 {
             self.settle(writer)?;
@@ -282,21 +313,25 @@ impl Session {
     }
 
     /// Prints what a reader gives, up to its end or a fault, and writes what is printed. It reads at most
-    /// 1,000,000,000 times. After a fault of a read or a write, or of an input that ended too early, a further call
-    /// goes on where this one stood; after a fault of the stream it answers the same again.
+    /// 1,000,000,000 times. After a fault of a read or a write, or of an input that ended too early, a
+    /// further call goes on where this one stood; after a fault of the stream it answers the same again.
     pub fn pump<S: Source, K: Sink>(
         &mut self,
         reader: &mut S,
         writer: &mut K,
     ) -> Result<Report, RunFault>
         ensures pumps { (setup : Setup) (r w : List ℕ) → IsAt setup self.old r w →
-            Pumps (S.remaining reader.old) (S.remaining reader.new) (K.contents writer.old) (K.contents writer.new) setup self.new r w result }
+            Pumps (S.remaining reader.old) (S.remaining reader.new) (K.contents writer.old)
+            (K.contents writer.new) setup self.new r w result }
         ensures again { (f : Fault) (after : ℕ) → HasEnded self.old f after →
             IsAgain f after result self.old self.new × (reader.new ≡ reader.old) × (writer.new ≡ writer.old) }
-        ensures failed_reads { S.failed_reads reader.new ≡ one_more_if (is_read_fault result) (S.failed_reads reader.old) }
-        ensures failed_writes { K.failed_writes writer.new ≡ one_more_if (is_write_fault result) (K.failed_writes writer.old) }
+        ensures failed_reads { S.failed_reads reader.new ≡
+            one_more_if (is_read_fault result) (S.failed_reads reader.old) }
+        ensures failed_writes { K.failed_writes writer.new ≡
+            one_more_if (is_write_fault result) (K.failed_writes writer.old) }
         ensures reads { S.reads reader.new ≤ S.reads reader.old + 1000000000 }
-        ensures turns { result ≡ Err RunFault.TooManyTurns → S.reads reader.new ≡ grown (S.reads reader.old) 1000000000 }
+        ensures turns { result ≡ Err RunFault.TooManyTurns →
+            S.reads reader.new ≡ grown (S.reads reader.old) 1000000000 }
     {
         if let Some(fault) = self.ended() {
             return Err(RunFault::Print {

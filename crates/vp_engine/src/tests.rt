@@ -241,7 +241,8 @@ fn the_height_of_the_line_is_held(rt: HostRuntime) -> Result<(), Fail> {
     Ok(())
 }
 
-/// A step: its input, its room, what it comes to, and the rows that are then held of the line and of the page.
+/// A step: its input, its room, what it comes to, and the rows that are then held of the line and of the
+/// page.
 type Stage<'a> = (&'a [u8], usize, State, u16, u16);
 
 /// The stages of a printer come to what they say.

@@ -1,5 +1,5 @@
 use Rattle.std.proofs.Common.{refl}
-use Rattle.vp_esc.specs.Lines.{listed}
+use Rattle.vp_dots.specs.Listing.{listed}
 use Rattle.hex.specs.Hex.{encode_with}
 use Rattle.vp_engine.proofs.lines.byte_line.Goals as goal
 

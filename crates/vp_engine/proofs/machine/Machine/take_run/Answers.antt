@@ -1,4 +1,4 @@
-use Rattle.std.proofs.Common.{◌≡◌, ◌≤◌, ◌*◌, ◌++◌, ℕ, List, take, drop, length, reverse, None, sym, ap, subst, ◌∙◌, arith}
+use Rattle.std.proofs.Common.{[], ◌≡◌, ◌≤◌, ◌*◌, ◌++◌, ℕ, List, take, drop, length, reverse, None, sym, ap, subst, ◌∙◌, arith}
 use Rattle.std.proofs.lemmas.List.{take-take, length-take-le, take_at, drop_at, append-nil}
 use Rattle.vp_esc.specs.declared.item.EscItem.{EscItem}
 use Rattle.vp_esc.specs.Reader.{Stands as EscStands, raster_items}
@@ -15,8 +15,21 @@ use Rattle.vp_engine.proofs.Listings.{lines_more}
 use Rattle.vp_engine.proofs.Rasters.{known_run, accepted_bytes, printed_same, all_listed, printed_lines, lines_of_bytes}
 use Rattle.vp_engine.proofs.machine.Machine.take_run.Goals as goal
 
-pub returns-in-Receipt-clause-takes : goal.returns-in-Receipt-clause-takes
-returns-in-Receipt-clause-takes c = at_receipt _ _ _ _ c.in-Receipt.is (λ s t before at known.
+pub returns-then-skipped-gt0-clause-takes : goal.returns-then-skipped-gt0-clause-takes
+returns-then-skipped-gt0-clause-takes c = at_receipt _ _ _ _ c.in-Receipt.is (λ s t before at known.
+    let e = c.take_skipped-skipped.ensures in
+    let n = c.take_skipped-skipped.result in
+    record {
+      added = [];
+      gives = e.gives t n at.0 (omega arith) ∙ sym (append-nil (items t));
+      known = e.known t n at.0 c.if-skipped-gt0.true (omega arith);
+      accepted = tt;
+      prints = sym (append-nil (printed (rules_of (Receipts s)) before));
+      stands = (e.stands t at.0, at.1);
+    })
+
+pub returns-else-skipped-gt0-clause-takes : goal.returns-else-skipped-gt0-clause-takes
+returns-else-skipped-gt0-clause-takes c = at_receipt _ _ _ _ c.in-Receipt.is (λ s t before at known.
     let e = c.take_raster-n.ensures in
     let n = c.take_raster-n.result in
     let room = c.min-room.result in
@@ -24,15 +37,19 @@ returns-in-Receipt-clause-takes c = at_receipt _ _ _ _ c.in-Receipt.is (λ s t b
     let within : room ≤ length input = omega (arith, c.min-room.ensures) in
     let long : length (take room input) ≡ room = length-take-le room input within in
     let less : n ≤ room = omega (arith, e.count, long) in
+    let none : c.take_skipped-skipped.result ≡ 0 = omega (arith, c.if-skipped-gt0.false) in
+    let reader = c.take_skipped-skipped.new.self in
+    let still : EscStands reader t = subst (EscStands reader) (append-nil t)
+    (subst (λ k. EscStands reader (t ++ take k input)) none (c.take_skipped-skipped.ensures.stands t at.0)) in
     let front : take n (take room input) ≡ take n input = take-take n room input less in
     let a = c.apply_raster.ensures in
     record {
       added = raster_items (take n input);
-      gives = ap (λ x. items (t ++ x)) (sym front) ∙ e.gives t n at.0 (omega arith) ∙ ap (λ x. items t ++ raster_items x) front;
-      known = known_run t (take room input) (take n input) n front known (λ some. e.known t n at.0 some (omega arith));
+      gives = ap (λ x. items (t ++ x)) (sym front) ∙ e.gives t n still (omega arith) ∙ ap (λ x. items t ++ raster_items x) front;
+      known = known_run t (take room input) (take n input) n front known (λ some. e.known t n still some (omega arith));
       accepted = accepted_bytes s (take n input) before;
       prints = printed_same s (reverse (raster_items (take n input)) ++ before) ∙ a.prints s before at.1 ∙ sym (printed_same s before) ∙ sym (append-nil (printed (rules_of (Receipts s)) before));
-      stands = (subst (λ x. EscStands c.take_raster-n.new.self (t ++ x)) front (e.stands t at.0), a.stands s before at.1);
+      stands = (subst (λ x. EscStands c.take_raster-n.new.self (t ++ x)) front (e.stands t still), a.stands s before at.1);
     })
 
 pub returns-in-ReceiptLines-clause-rest : goal.returns-in-ReceiptLines-clause-rest

@@ -1,0 +1,24 @@
+-- The images of a receipt.
+use Rattle.std.specs.Prelude.{◌≡◌, ℕ, List, None}
+use Rattle.vp_dots.specs.Images.{Image}
+use Rattle.vp_esc.specs.declared.item.EscItem.{EscItem}
+use Rattle.vp_settings.specs.Setup.{Setup as ReceiptSetup}
+use Rattle.vp_receipt.specs.Images.{images, begun}
+use Rattle.vp_engine.specs.Paper.{Rules, history, before_fault, fault_at_end}
+use Rattle.vp_engine.specs.Setups.{Receipts, rules_of}
+
+-- the rules of receipts on a paper with sheets
+abbrev pub receipts : ReceiptSetup → Rules EscItem
+receipts setup = rules_of (Receipts setup)
+
+-- the bytes have no fault, and all is printed where they end
+abbrev pub IsPrinted : ReceiptSetup → List ℕ → Type 0
+IsPrinted setup bytes = fault_at_end (receipts setup) bytes ≡ None
+
+-- the images of the bytes before the first fault, from the top
+abbrev pub images_of : ReceiptSetup → List ℕ → List Image
+images_of setup bytes = images setup (history (receipts setup) (before_fault (receipts setup) bytes))
+
+-- what has come of a raster that rows are to come of: its header, and rows
+abbrev pub begun_of : ReceiptSetup → List ℕ → List ℕ
+begun_of setup bytes = begun setup (history (receipts setup) (before_fault (receipts setup) bytes))
