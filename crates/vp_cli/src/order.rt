@@ -1,6 +1,6 @@
 //! What the words of a command line ask for.
 use clap::error::ErrorKind;
-use clap::{Arg, Command, Error};
+use clap::{Arg, ArgMatches, Command, Error};
 use std::alloc::{AllocError, Global};
 use std::convert::AsStr;
 use vp_engine::Language;
@@ -50,26 +50,38 @@ fn file<'a>(alloc: Global) -> Arg<'a> {
     Arg::new(alloc, "FILE").help("What was sent to the printer [default: standard input]")
 }
 
-fn receipt<'a>(alloc: Global) -> Result<Command<'a>, AllocError> {
-    let width = Arg::new(alloc, "width")
+/// The width of the paper.
+fn width<'a>(alloc: Global) -> Arg<'a> {
+    Arg::new(alloc, "width")
         .long("width")
         .value_name("DOTS")
         .value_parser(WIDTHS.as_slice())
         .default_value("576")
-        .help("Width of the paper");
-    let font_a = Arg::new(alloc, "font-a")
-        .long("font-a")
+        .help("Width of the paper")
+}
+
+/// The file of a sheet.
+fn sheet<'a>(alloc: Global, name: &'a str, help: &'a str) -> Arg<'a> {
+    Arg::new(alloc, name)
+        .long(name)
         .value_name("FILE")
-        .help("Glyph sheet of font A, PBM of 192 by 384 dots");
-    let font_b = Arg::new(alloc, "font-b")
-        .long("font-b")
-        .value_name("FILE")
-        .help("Glyph sheet of font B, PBM of 144 by 272 dots");
+        .help(help)
+}
+
+fn receipt<'a>(alloc: Global) -> Result<Command<'a>, AllocError> {
     Command::new(alloc, "receipt")
         .about("Prints a receipt (ESC/POS)")
-        .arg(width)?
-        .arg(font_a)?
-        .arg(font_b)?
+        .arg(width(alloc))?
+        .arg(sheet(
+            alloc,
+            "font-a",
+            "Glyph sheet of font A, PBM of 192 by 384 dots",
+        ))?
+        .arg(sheet(
+            alloc,
+            "font-b",
+            "Glyph sheet of font B, PBM of 144 by 272 dots",
+        ))?
         .arg(file(alloc))
 }
 
@@ -95,36 +107,56 @@ fn join<'a>(alloc: Global) -> Result<Command<'a>, AllocError> {
         .arg(file)
 }
 
+/// The words that are read.
+fn program<'a>(alloc: Global) -> Result<Command<'a>, AllocError> {
+    let command = Command::new(alloc, "vp")
+        .bin_name("vp")?
+        .about("A virtual printer: what is printed goes to standard output as PBM images")
+        .subcommand_required(true);
+    command
+        .subcommand(receipt(alloc)?)?
+        .subcommand(list(alloc)?)?
+        .subcommand(join(alloc)?)
+}
+
+/// A stream that is printed.
+fn printed<'a>(words: &ArgMatches<'a>) -> Order<'a> {
+    Order::Read(Stream {
+        task: Task::Print(Fonts {
+            a: words.get_str("font-a"),
+            b: words.get_str("font-b"),
+        }),
+        language: language(words.get_str("width")),
+        file: words.get_str("FILE"),
+    })
+}
+
+/// A stream that is listed.
+fn listed<'a>(words: &ArgMatches<'a>) -> Order<'a> {
+    Order::Read(Stream {
+        task: Task::List,
+        language: Language::Receipt,
+        file: words.get_str("FILE"),
+    })
+}
+
+/// What the words ask for; none without a subcommand, or where it lacks what it requires.
+fn asked<'a>(words: &ArgMatches<'a>) -> Option<Order<'a>> {
+    match words.subcommand()? {
+        ("join", join) => Some(Order::Join(join.get_str("FILE")?)),
+        ("list", list) => Some(listed(list)),
+        (_, receipt) => Some(printed(receipt)),
+    }
+}
+
 impl<'a> Order<'a> {
     /// Reads the words, the first of which is the program's name.
     pub fn read<S: AsStr>(alloc: Global, words: &'a [S]) -> Result<Order<'a>, Error> {
-        let mut command = Command::new(alloc, "vp")
-            .bin_name("vp")?
-            .about("A virtual printer: what is printed goes to standard output as PBM images")
-            .subcommand_required(true)
-            .subcommand(receipt(alloc)?)?
-            .subcommand(list(alloc)?)?
-            .subcommand(join(alloc)?)?;
+        let mut command = program(alloc)?;
         let matches = command.try_get_matches_from_mut(words)?;
-        match matches.subcommand() {
-            Some(("join", join)) => match join.get_str("FILE") {
-                Some(file) => Ok(Order::Join(file)),
-                None => Err(command.error(ErrorKind::MissingRequiredArgument, "a file is wanted")?),
-            },
-            Some(("list", list)) => Ok(Order::Read(Stream {
-                task: Task::List,
-                language: Language::Receipt,
-                file: list.get_str("FILE"),
-            })),
-            Some((_, receipt)) => Ok(Order::Read(Stream {
-                task: Task::Print(Fonts {
-                    a: receipt.get_str("font-a"),
-                    b: receipt.get_str("font-b"),
-                }),
-                language: language(receipt.get_str("width")),
-                file: receipt.get_str("FILE"),
-            })),
-            None => Err(command.error(ErrorKind::MissingSubcommand, "a language is wanted")?),
+        match asked(&matches) {
+            Some(order) => Ok(order),
+            None => Err(command.error(ErrorKind::MissingSubcommand, "a subcommand is wanted")?),
         }
     }
 }
