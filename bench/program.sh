@@ -4,7 +4,8 @@
 set -eu
 top=$(cd "$(dirname "$0")/.." && pwd)
 vp=${1:-$top/crates/vp_cli/out/vp_cli}
-scratch=$(mktemp -d)
+# what is printed stays in memory
+scratch=$(mktemp -d -p /dev/shm)
 trap 'rm -rf "$scratch"' EXIT
 
 # seconds NAME COMMAND..: the least of seven runs in nanoseconds, its output into NAME
@@ -28,6 +29,13 @@ measure() {
     copy=$(seconds "$scratch/copy" cat "$scratch/paper")
     bytes=$(wc -c < "$scratch/paper")
     echo "$print $copy $bytes" | awk -v name="$name" '{ printf "%s: %d bytes of paper, %.1f ms, cat %.1f ms, %.1f times cat, %.0f MB/s\n", name, $3, $1 / 1e6, $2 / 1e6, $1 / $2, $3 * 1000 / $1 }'
+}
+
+# idle NAME FILE: bytes that print nothing
+idle() {
+    took=$(seconds "$scratch/paper" "$vp" receipt "$2")
+    bytes=$(wc -c < "$2")
+    echo "$took $bytes" | awk -v name="$1" '{ printf "%s: %d bytes, %.1f ms, %.2f ns each\n", name, $2, $1 / 1e6, $1 / $2 }'
 }
 
 # listed NAME FILE: the lines of a file, beside od of its bytes
@@ -59,6 +67,27 @@ printf '\035V\001' >> "$scratch/receipt"
 repeated 1000 "$scratch/receipt" > "$scratch/day"
 measure text "$scratch/day" --font-a "$top/examples/font-a.pbm"
 listed text "$scratch/day"
+
+# 3,000,000 carriage returns, and 20 MB of graphics, which do nothing
+head -c 3000000 /dev/zero | tr '\000' '\015' > "$scratch/returns"
+idle 'carriage returns' "$scratch/returns"
+{ printf '\0358L\000\055\061\001'; head -c 20000000 /dev/zero; } > "$scratch/graphics"
+idle 'skipped data' "$scratch/graphics"
+
+# 500 bar codes and 500 QR symbols, and 1,000 receipts with a logo, 10 lines, both symbols and a cut
+bars='\035H\002\035k\002400638133393\000'
+square='\035(k\033\000\061\120\060receipt 0123456789 24.50\035(k\003\000\061\121\060'
+printf "$bars$square" > "$scratch/symbols"
+repeated 500 "$scratch/symbols" > "$scratch/journal"
+measure symbols "$scratch/journal" --font-a "$top/examples/font-a.pbm"
+{
+    printf '\035v0\000\110\000\140\000'
+    head -c 6912 /dev/urandom
+    for _ in $(seq 10); do echo "$line"; done
+    printf "$bars$square\035V\001"
+} > "$scratch/receipt"
+repeated 1000 "$scratch/receipt" > "$scratch/journal"
+measure journal "$scratch/journal" --font-a "$top/examples/font-a.pbm"
 
 # in each direction 200 pages of 576 dots by 1,664 that one raster fills, and 200 full of text
 for direction in 0 1 2 3; do
