@@ -32,7 +32,7 @@ fn put(receipt: &mut Receipt, output: &mut [u8; 8192]) -> usize {
 
 fn print(receipt: &mut Receipt, item: EscItem, output: &mut [u8; 8192]) -> usize {
     if !receipt.pending() {
-        let _ = receipt.apply(item);
+        let _ = receipt.apply(&item);
     }
     if receipt.pending() {
         put(receipt, output)
