@@ -1,6 +1,7 @@
 pub mod Breaking
 pub mod Cuts
 pub mod Drawn
+pub mod Formed
 pub mod Forms
 pub mod Looks
 pub mod Numbers

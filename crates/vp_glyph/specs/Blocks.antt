@@ -46,13 +46,14 @@ line_length n cells = if last_blank n cells == 0 then n else last_blank n cells
 abbrev pub behind_line : ℕ → List ℕ → List ℕ
 behind_line n cells = if last_blank n cells == 0 then drop n cells else drop (last_blank n cells + 1) cells
 
--- a paragraph in lines of at most n cells. A last line that is empty stands only where it is the first, and there are
--- no more lines than `most`, the paragraph's cells, or one
+-- a paragraph in lines of at most n cells. A last line that is empty stands only where it is the first, and
+-- there are no more lines than `most`, the paragraph's cells, or one
 abbrev pub lines_upto : ℕ → ℕ → List ℕ → List (List ℕ)
 lines_upto zero n cells = cells ∷ []
 lines_upto (suc most) n cells =
     if nat_le (length cells) n then cells ∷ []
-    else take (line_length n cells) cells ∷ (if length (behind_line n cells) == 0 then [] else lines_upto most n (behind_line n cells))
+    else take (line_length n cells) cells ∷ (if length (behind_line n cells) == 0 then []
+    else lines_upto most n (behind_line n cells))
 
 abbrev pub lines : ℕ → List ℕ → List (List ℕ)
 lines n cells = lines_upto (length cells) n cells
@@ -60,13 +61,15 @@ lines n cells = lines_upto (length cells) n cells
 -- lines that stand in a paragraph one after the other, with at most one blank left out behind each
 abbrev pub StandIn : List ℕ → List (List ℕ) → Type 0
 StandIn cells [] = cells ≡ []
-StandIn cells (line ∷ rest) = (behind : List ℕ) × ((cells ≡ line ++ behind) ⊎ (cells ≡ line ++ 32 ∷ behind)) × StandIn behind rest
+StandIn cells (line ∷ rest) = (behind : List ℕ) × ((cells ≡ line ++ behind) ⊎ (cells ≡ line ++ 32 ∷ behind))
+    × StandIn behind rest
 
 -- the lines of a text, of at most n cells
 unfoldable pub block_lines : ℕ → List ℕ → List (List ℕ)
 block_lines n text = flat_map (lines n) (paragraphs (pieces text))
 
--- the rows from the top of a line to that of the next, with so many rows between the lines, or fewer than none
+-- the rows from the top of a line to that of the next, with so many rows between the lines, or fewer than
+-- none
 abbrev pub pitch : ℕ → ℤ → ℕ
 pitch h (pos c) = h + c
 pitch h (negsuc c) = h - (c + 1)
@@ -98,10 +101,12 @@ lines_dot sheet w h a b s d place (line ∷ rest) x y =
 
 -- dot (x, y) of a block whose lines stand s rows apart; a block less wide than a cell has none
 unfoldable pub block_dot : Option Glyphs → List ℕ → ℕ → ℕ → ℕ → ℕ → ℕ → Alignment → ℕ → ℕ → Bool
-block_dot sheet text w h a b s d x y = nat_lt x (block_width a w) && nat_lt y (block_height h b s) && nat_le w a && lines_dot sheet w h a b s d 0 (block_lines (a / w) text) x y
+block_dot sheet text w h a b s d x y = nat_lt x (block_width a w) && nat_lt y (block_height h b s)
+    && nat_le w a && lines_dot sheet w h a b s d 0 (block_lines (a / w) text) x y
 
 -- there is no ink outside
-pub block_inside : (sheet : Option Glyphs) (text : List ℕ) (w h a b s : ℕ) (d : Alignment) (x y : ℕ) → block_dot sheet text w h a b s d x y ≡ true → (x < block_width a w) × (y < block_height h b s)
+pub block_inside : (sheet : Option Glyphs) (text : List ℕ) (w h a b s : ℕ) (d : Alignment) (x y : ℕ)
+    → block_dot sheet text w h a b s d x y ≡ true → (x < block_width a w) × (y < block_height h b s)
 unfolding block_dot
 block_inside sheet text w h a b s d x y e =
     let p = and_parts _ _ e in

@@ -38,7 +38,8 @@ cell_height font style = font_height font * style.hm
 
 -- the dots of the character itself: spacing is white, and emphasis comes before magnification
 abbrev pub body_dot : Sheets → Font → Style → ℕ → ℕ → ℕ → Bool
-body_dot sheets font style c x y = nat_lt (x / style.wm) (font_width font) && bold_dot style.bold (font_dot sheets c font) (x / style.wm) (y / style.hm)
+body_dot sheets font style c x y = nat_lt (x / style.wm) (font_width font)
+    && bold_dot style.bold (font_dot sheets c font) (x / style.wm) (y / style.hm)
 
 -- the lowest rows, which an underline fills, however large the character is
 abbrev pub underlined : Font → Style → ℕ → Bool
@@ -46,10 +47,13 @@ underlined font style y = nat_le (cell_height font style - style.underline) y
 
 -- dot (x, y) of a character in a style: an inverse one has no underline, and is inverted with its spacing
 unfoldable pub cell_dot : Sheets → Font → Style → ℕ → ℕ → ℕ → Bool
-cell_dot sheets font style c x y = nat_lt x (cell_width font style) && nat_lt y (cell_height font style) && (if style.inverse then not (body_dot sheets font style c x y) else body_dot sheets font style c x y || underlined font style y)
+cell_dot sheets font style c x y = nat_lt x (cell_width font style) && nat_lt y (cell_height font style)
+    && (if style.inverse then not (body_dot sheets font style c x y)
+    else body_dot sheets font style c x y || underlined font style y)
 
 -- there is no ink outside
-pub cell_inside : (sheets : Sheets) (font : Font) (style : Style) (c x y : ℕ) → cell_dot sheets font style c x y ≡ true → (x < cell_width font style) × (y < cell_height font style)
+pub cell_inside : (sheets : Sheets) (font : Font) (style : Style) (c x y : ℕ)
+    → cell_dot sheets font style c x y ≡ true → (x < cell_width font style) × (y < cell_height font style)
 unfolding cell_dot
 cell_inside sheets font style c x y e =
     let p = and_parts _ _ e in

@@ -11,7 +11,8 @@ Comment text = (k : ℕ) → k < length text → ends_line (slice_index text k) 
 pub data Gap : List ℕ → Type 0 where
   none : Gap []
   byte : (b : ℕ) (rest : List ℕ) → white b ≡ true → Gap rest → Gap (b ∷ rest)
-  comment : (text : List ℕ) (b : ℕ) (rest : List ℕ) → Comment text → ends_line b ≡ true → Gap rest → Gap (35 ∷ (text ++ b ∷ rest))
+  comment : (text : List ℕ) (b : ℕ) (rest : List ℕ) → Comment text → ends_line b ≡ true → Gap rest
+      → Gap (35 ∷ (text ++ b ∷ rest))
 
 -- one or more digits
 abbrev pub Digits : List ℕ → Type 0

@@ -39,7 +39,10 @@ pub record Number : Type 0 where
 -- the number of one or more digits that stands behind a gap, if there is one
 abbrev pub number_behind : List ℕ → Option Number
 number_behind text = let rest = past_gap text in let n = prefix_len digit rest in
-    if begins_gap text && nat_lt 0 n then Some (record { value = digits_value 10 (take n rest); rest = drop n rest }) else None
+    if begins_gap text && nat_lt 0 n then Some (record {
+      value = digits_value 10 (take n rest);
+      rest = drop n rest;
+    }) else None
 
 -- width, height and raster
 pub record Header : Type 0 where

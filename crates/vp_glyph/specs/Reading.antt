@@ -15,7 +15,8 @@ sized w h (Some header) =
 
 -- the sheet that a text tells, with cells of w by h, or the first offence
 unfoldable pub sheet_of : List ℕ → ℕ → ℕ → Result Glyphs SheetError
-sheet_of text w h = if slice_index text 0 == 80 && slice_index text 1 == 52 then sized w h (header_behind (drop 2 text)) else Err error.Magic
+sheet_of text w h = if slice_index text 0 == 80 && slice_index text 1 == 52
+    then sized w h (header_behind (drop 2 text)) else Err error.Magic
 
 -- the number by which an offence is reported
 abbrev pub number_of : SheetError → Option ℕ

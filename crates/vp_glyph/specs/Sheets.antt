@@ -15,14 +15,16 @@ raster_dot sheet x y = dot sheet.raster (16 * sheet.wide * y + x)
 
 -- dot (x, y) of cell c, which stands in column c mod 16 of row c div 16, false outside
 unfoldable pub glyph_dot : Glyphs → ℕ → ℕ → ℕ → Bool
-glyph_dot sheet c x y = nat_lt x sheet.wide && nat_lt y sheet.high && raster_dot sheet (sheet.wide * (c % 16) + x) (sheet.high * (c / 16) + y)
+glyph_dot sheet c x y = nat_lt x sheet.wide && nat_lt y sheet.high
+    && raster_dot sheet (sheet.wide * (c % 16) + x) (sheet.high * (c / 16) + y)
 
 -- the same of a sheet that may be missing, which is white
 abbrev pub sheet_dot : Option Glyphs → ℕ → ℕ → ℕ → Bool
 sheet_dot None c x y = false
 sheet_dot (Some sheet) c x y = glyph_dot sheet c x y
 
--- dot (x, y) of sheet A's cell c drawn w by h: that at the same part of the width and height of a cell of 12 by 24
+-- dot (x, y) of sheet A's cell c drawn w by h: that at the same part of the width and height of a cell of
+-- 12 by 24
 abbrev pub scaled_dot : Option Glyphs → ℕ → ℕ → ℕ → ℕ → ℕ → Bool
 scaled_dot sheet c w h x y = sheet_dot sheet c (x * 12 / w) (y * 24 / h)
 

@@ -8,7 +8,8 @@ unfoldable pub sampled_dot : Option Glyphs → ℕ → ℕ → ℕ → ℕ → �
 sampled_dot sheet c w h x y = nat_lt x w && nat_lt y h && scaled_dot sheet c w h x y
 
 -- there is no ink outside
-pub sampled_inside : (sheet : Option Glyphs) (c w h x y : ℕ) → sampled_dot sheet c w h x y ≡ true → (x < w) × (y < h)
+pub sampled_inside : (sheet : Option Glyphs) (c w h x y : ℕ) → sampled_dot sheet c w h x y ≡ true
+    → (x < w) × (y < h)
 unfolding sampled_dot
 sampled_inside sheet c w h x y e =
     let p = and_parts _ _ e in
@@ -17,9 +18,11 @@ sampled_inside sheet c w h x y e =
 
 -- dot (x, y) of the cells of some bytes side by side
 unfoldable pub text_dot : Option Glyphs → List ℕ → ℕ → ℕ → ℕ → ℕ → Bool
-text_dot sheet text w h x y = nat_lt x (w * length text) && sampled_dot sheet (slice_index text (x / w)) w h (x % w) y
+text_dot sheet text w h x y = nat_lt x (w * length text)
+    && sampled_dot sheet (slice_index text (x / w)) w h (x % w) y
 
-pub text_inside : (sheet : Option Glyphs) (text : List ℕ) (w h x y : ℕ) → text_dot sheet text w h x y ≡ true → (x < w * length text) × (y < h)
+pub text_inside : (sheet : Option Glyphs) (text : List ℕ) (w h x y : ℕ) → text_dot sheet text w h x y ≡ true
+    → (x < w * length text) × (y < h)
 unfolding text_dot
 text_inside sheet text w h x y e =
     let p = and_parts _ _ e in

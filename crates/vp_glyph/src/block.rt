@@ -15,6 +15,7 @@ use vp_dots::{Ink, Op, xor_into};
 #[derive(Clone, Copy, Debug, PartialEq, Eq)]
 pub enum Alignment {
     Left,
+    /// Half of the room beside a line, rounded down, stands on its left.
     Centre,
     Right,
 }
@@ -44,7 +45,8 @@ pub fn pitch(h: u32, c: i32) -> u32
     }
 }
 
-/// A text in lines of cells of w by h.
+/// A text in lines of cells of w by h dots, as ink: as wide as a line or a cell, and as high as the lines
+/// that stand apart.
 pub struct Block<'a> {
     pub sheet: &'a Option<Sheet>,
     pub text: &'a [u8],
@@ -80,7 +82,8 @@ impl Clone for Block<'_> {
 fn dot_of_line(line: Line<'_>, sheet: &Option<Sheet>, w: u32, h: u32, x: u32, y: u32) -> bool
     requires w { 0 < w }
     requires cells { line.cells ≤ length (first (pieces line.text.now)) }
-    ensures { result ≡ text_dot sheet.now (take line.entry.cells (first (pieces line.entry.text.now))) w h x y }
+    ensures { result ≡ text_dot sheet.now (take line.entry.cells (first (pieces line.entry.text.now)))
+        w h x y }
 {
     let place = (x / w) as usize;
     if place >= line.cells {
@@ -113,7 +116,9 @@ fn paint_line(
     requires w { 0 < w }
     requires cells { line.cells ≤ length (first (pieces line.text.now)) }
     requires fits { left + w * line.cells < 2 ^ 32 }
-    ensures { Painted op (shifted at (λ x. nat_le left x && text_dot sheet.now (take line.entry.cells (first (pieces line.entry.text.now))) w h (x - left) y)) row.old row.new }
+    ensures { Painted op (shifted at (λ x. nat_le left x
+        && text_dot sheet.now (take line.entry.cells (first (pieces line.entry.text.now))) w h
+        (x - left) y)) row.old row.new }
 {
     let mut rest = line.text;
     let mut place = left;
@@ -139,7 +144,8 @@ impl Block<'_> {
         requires cells { line.cells ≤ length (first (pieces line.text.now)) }
         requires most { line.cells ≤ self.now.wide / self.now.w }
         requires place { place ≤ self.now.rows - 1 }
-        ensures { result ≡ line_dot self.now.sheet.now self.now.w self.now.h self.now.wide self.now.pitch self.now.alignment place (take line.entry.cells (first (pieces line.entry.text.now))) x y }
+        ensures { result ≡ line_dot self.now.sheet.now self.now.w self.now.h self.now.wide self.now.pitch
+            self.now.alignment place (take line.entry.cells (first (pieces line.entry.text.now))) x y }
     {
         let left = self
             .alignment
@@ -224,7 +230,9 @@ impl Block<'_> {
         requires most { line.cells ≤ self.now.wide / self.now.w }
         requires place { place ≤ self.now.rows - 1 }
         requires top { place * self.now.pitch ≤ y }
-        ensures { Painted op (shifted at (λ x. line_dot self.now.sheet.now self.now.w self.now.h self.now.wide self.now.pitch self.now.alignment place (take line.entry.cells (first (pieces line.entry.text.now))) x y)) row.old row.new }
+        ensures { Painted op (shifted at (λ x. line_dot self.now.sheet.now self.now.w self.now.h
+            self.now.wide self.now.pitch self.now.alignment place
+            (take line.entry.cells (first (pieces line.entry.text.now))) x y)) row.old row.new }
     {
         let top = place * self.pitch;
         if y - top >= self.h {
@@ -241,7 +249,8 @@ impl Block<'_> {
         requires op { op ≢ Op.Flip }
         requires y { y < block_height self.now.h self.now.rows self.now.pitch }
         requires wide { self.now.w ≤ self.now.wide }
-        ensures { Painted op (shifted at (λ x. block_dot self.now.sheet.now self.now.text.now self.now.w self.now.h self.now.wide self.now.rows self.now.pitch self.now.alignment x y)) row.old row.new }
+        ensures { Painted op (shifted at (λ x. block_dot self.now.sheet.now self.now.text.now self.now.w
+            self.now.h self.now.wide self.now.rows self.now.pitch self.now.alignment x y)) row.old row.new }
     {
         let most = (self.wide / self.w) as usize;
         let (above, text) = self.first_line(y);
@@ -264,7 +273,9 @@ impl Block<'_> {
         requires wide { self.now.w ≤ self.now.wide }
         requires room { self.now.wide ≤ 8 * N }
         requires few { N ≤ 4000 }
-        ensures { Painted Op.Flip (shifted at (λ x. block_dot self.now.sheet.now self.now.text.now self.now.w self.now.h self.now.wide self.now.rows self.now.pitch self.now.alignment x y)) row.old row.new }
+        ensures { Painted Op.Flip (shifted at (λ x. block_dot self.now.sheet.now self.now.text.now
+            self.now.w self.now.h self.now.wide self.now.rows self.now.pitch self.now.alignment x y))
+            row.old row.new }
     {
         let mut dots = [0u8; N];
         self.paint_lines(y, Op::Black, 0, &mut dots);
@@ -277,9 +288,11 @@ impl Ink for Block<'_> {
 
     ghost height = { λ s. block_height s.h s.rows s.pitch };
 
-    ghost ink_at = { λ s x y. block_dot s.sheet.now s.text.now s.w s.h s.wide s.rows s.pitch s.alignment x y };
+    ghost ink_at = { λ s x y. block_dot s.sheet.now s.text.now s.w s.h s.wide s.rows s.pitch
+        s.alignment x y };
 
-    ghost outside = { λ s x y h. block_inside s.sheet.now s.text.now s.w s.h s.wide s.rows s.pitch s.alignment x y h };
+    ghost outside = { λ s x y h. block_inside s.sheet.now s.text.now s.w s.h s.wide s.rows s.pitch
+        s.alignment x y h };
 
     fn size(&self) -> (u32, u32) {
         (

@@ -51,9 +51,11 @@ pub struct Style {
     pub hm: u8,
     /// White dots on the right of a character, before it is magnified.
     pub spacing: u8,
+    /// Each dot is black also where its left neighbour is, before it is magnified.
     pub bold: bool,
-    /// Rows of underline, 0 to 2.
+    /// How many of the lowest rows an underline fills, 0 to 2, however large the character is.
     pub underline: u8,
+    /// Black and white are exchanged, also those of the spacing; there is no underline then.
     pub inverse: bool,
 }
 
@@ -61,6 +63,7 @@ pub struct Style {
 #[derive(Clone, Copy)]
 pub struct Cell<'a> {
     pub sheets: &'a Sheets,
+    /// The byte, which is the number of its cell.
     pub character: u8,
     pub font: Font,
     pub style: Style,
@@ -98,7 +101,8 @@ impl Cell<'_> {
     fn bold_dot(&self, x: u32, y: u32) -> bool
         requires x { x < font_width self.now.font }
         requires y { y < font_height self.now.font }
-        ensures { result ≡ bold_dot self.now.style.bold (font_dot self.now.sheets.now self.now.character self.now.font) x y }
+        ensures { result ≡ bold_dot self.now.style.bold
+            (font_dot self.now.sheets.now self.now.character self.now.font) x y }
     {
         self.font_dot(x, y) || self.style.bold && x > 0 && self.font_dot(x - 1, y)
     }
@@ -121,7 +125,8 @@ fn printed_row(word: u64, font: Font, style: Style, y: u32) -> u64
     requires high { style.hm ≡ 1 }
     requires narrow { cell_width font style ≤ 64 }
     requires y { y < font_height font }
-    ensures { (sheets : Sheets) (c : ℕ) → ((x : ℕ) → x < font_width font → word_dot word x ≡ font_dot sheets c font x y)
+    ensures { (sheets : Sheets) (c : ℕ) → ((x : ℕ) → x < font_width font
+        → word_dot word x ≡ font_dot sheets c font x y)
         → (x : ℕ) → word_dot result x ≡ cell_dot sheets font style c x y }
 {
     let body = body_row(word, font, style.bold);
@@ -204,7 +209,8 @@ impl Cell<'_> {
     fn paint_inverse(&self, y: u32, op: Op, at: i64, row: &mut [u8])
         requires y { y < cell_height self.now.font self.now.style }
         requires inverse { self.now.style.inverse ≡ true }
-        ensures { Painted op (shifted at (λ x. cell_dot self.now.sheets.now self.now.font self.now.style self.now.character x y)) row.old row.new }
+        ensures { Painted op (shifted at (λ x. cell_dot self.now.sheets.now self.now.font self.now.style
+            self.now.character x y)) row.old row.new }
     {
         let style = self.style;
         let (width, _) = self.size();
@@ -217,7 +223,8 @@ impl Cell<'_> {
     fn paint_upright(&self, y: u32, op: Op, at: i64, row: &mut [u8])
         requires y { y < cell_height self.now.font self.now.style }
         requires inverse { self.now.style.inverse ≡ false }
-        ensures { Painted op (shifted at (λ x. cell_dot self.now.sheets.now self.now.font self.now.style self.now.character x y)) row.old row.new }
+        ensures { Painted op (shifted at (λ x. cell_dot self.now.sheets.now self.now.font self.now.style
+            self.now.character x y)) row.old row.new }
     {
         let style = self.style;
         let (width, height) = self.size();

@@ -73,7 +73,9 @@ fn value(digits: &[u8]) -> u32
 
 /// The number behind a gap, and what stands behind it.
 fn number_behind(text: &[u8]) -> Option<(u32, &[u8])>
-    ensures { MatchOption result (number_behind text.now ≡ None) (λ r. (n : ℕ) × (number_behind text.now ≡ Some (record { value = n; rest = r.1.now })) × (r.0 ≡ min n (2 ^ 32 - 1))) }
+    ensures { MatchOption result (number_behind text.now ≡ None) (λ r. (n : ℕ)
+        × (number_behind text.now ≡ Some (record { value = n; rest = r.1.now }))
+        × (r.0 ≡ min n (2 ^ 32 - 1))) }
 {
     if !begins_gap(text) {
         return None;
@@ -88,7 +90,9 @@ fn number_behind(text: &[u8]) -> Option<(u32, &[u8])>
 
 /// What a header behind its magic tells. A number above the greatest u32 is told as that.
 pub fn header_behind(text: &[u8]) -> Option<Header<'_>>
-    ensures { MatchOption result (header_behind text.now ≡ None) (λ r. (w h : ℕ) × (header_behind text.now ≡ Some (record { width = w; height = h; raster = r.raster.now })) × (r.width ≡ min w (2 ^ 32 - 1)) × (r.height ≡ min h (2 ^ 32 - 1))) }
+    ensures { MatchOption result (header_behind text.now ≡ None) (λ r. (w h : ℕ)
+        × (header_behind text.now ≡ Some (record { width = w; height = h; raster = r.raster.now }))
+        × (r.width ≡ min w (2 ^ 32 - 1)) × (r.height ≡ min h (2 ^ 32 - 1))) }
 {
     let (width, text) = number_behind(text)?;
     let (height, text) = number_behind(text)?;
@@ -102,7 +106,11 @@ pub fn header_behind(text: &[u8]) -> Option<Header<'_>>
     }
 }
 
-/// A law: a text of the form of a header is read as that header, and so as no other.
+/// A law: a text of the form of a header is read as that header, and what is read as a header has its form.
 pub fn header_law()
-    ensures { (text : List ℕ) (width height : ℕ) (raster : List ℕ) → IsHeader text width height raster → header_behind text ≡ Some (record { width = width; height = height; raster = raster }) }
+    ensures read { (text : List ℕ) (width height : ℕ) (raster : List ℕ) → IsHeader text width height raster
+        → header_behind text ≡ Some (record { width = width; height = height; raster = raster }) }
+    ensures only { (text : List ℕ) (width height : ℕ) (raster : List ℕ)
+        → header_behind text ≡ Some (record { width = width; height = height; raster = raster })
+        → IsHeader text width height raster }
 {}

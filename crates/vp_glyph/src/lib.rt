@@ -1,4 +1,14 @@
 //! Glyph sheets, and every character drawn from them.
+//!
+//! A sheet is an image in raw PBM (netpbm, pbm(5)) of 16 by 16 cells, that of character c in column c mod
+//! 16 of row c div 16. `Sheets` has those of the two fonts, as far as there are any, and gives what is
+//! drawn from them, each an `Ink`: `cell` a receipt's character, `sampled` a label's, `block` a label's
+//! text in lines.
+//!
+//! - `header`, `sheet`: the file and its refusals, and the dots of its cells.
+//! - `cell`, `look`: a character in a font and a style, dot by dot and as the words of its rows.
+//! - `sampled`: a character at any size.
+//! - `lines`, `block`: a text broken into lines, and the lines below each other.
 #![tactic(auto)]
 
 ghost use Rattle.std.specs.Prelude.{◌≡◌, ◌<◌, ◌≤◌, ◌≤ℤ◌, pos};
@@ -24,12 +34,15 @@ pub use sheet::{Sheet, SheetError};
 /// The sheets of the two fonts, as far as there are any.
 #[derive(Drop)]
 pub struct Sheets {
+    /// Font A's, with cells of 12 by 24 dots. What has another size is drawn from it too.
     pub a: Option<Sheet>,
+    /// Font B's, with cells of 9 by 17 dots. Without it font B is drawn from font A's.
     pub b: Option<Sheet>,
 }
 
 impl Sheets {
-    /// A character of a font in a style.
+    /// A character of a font in a style, from the font's sheet: (width + spacing) * wm dots wide and height
+    /// * hm high. Without a sheet its dots are white, but an underline and what is inverse are drawn.
     pub fn cell(&self, character: u8, font: Font, style: Style) -> Cell<'_>
         ensures sheets { result.sheets.now ≡ self.now }
         ensures character { result.character ≡ character }
@@ -44,7 +57,8 @@ impl Sheets {
         }
     }
 
-    /// A character drawn w by h, from sheet A.
+    /// A character drawn w by h dots, from sheet A: dot (x, y) is that at (12x / w, 24y / h) of its cell,
+    /// rounded down. Without the sheet, and where w or h is 0, it has no ink.
     pub fn sampled(&self, character: u8, w: u32, h: u32) -> Sampled<'_>
         ensures sheet { result.sheet.now ≡ self.now.a }
         ensures character { result.character ≡ character }
@@ -60,8 +74,13 @@ impl Sheets {
         }
     }
 
-    /// A text in lines of `wide` dots, in cells of w by h. Of the lines `rows` stand below each other with `gap` rows
-    /// between them, or fewer than none, and any further ones over the last.
+    /// A text in lines of `wide` dots, in cells of w by h dots from sheet A, each as `sampled` draws it.
+    ///
+    /// In the text `\&` ends a paragraph, `\\` is one backslash, and any other byte is a cell. A
+    /// paragraph that is longer than a line breaks at the line's last blank, which is dropped, or where no
+    /// cell fits any more. Of the lines `rows` stand below each other with `gap` rows between them, or
+    /// fewer than none where that is negative, and any further ones over the last. A block less wide than a
+    /// cell has no ink.
     pub fn block<'a>(
         &'a self,
         text: &'a [u8],

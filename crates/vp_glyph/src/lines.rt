@@ -24,7 +24,8 @@ fn next_piece(text: &[u8]) -> Option<(Piece, &[u8])>
 
 /// The cell at the front of a text, unless its paragraph ends there, and what stands behind it.
 pub fn next_cell(text: &[u8]) -> Option<(u8, &[u8])>
-    ensures { MatchOption result (first (pieces text.now) ≡ []) (λ r. pieces text.now ≡ Piece.Cell r.0 ∷ pieces r.1.now) }
+    ensures { MatchOption result (first (pieces text.now) ≡ []) (λ r. pieces text.now
+        ≡ Piece.Cell r.0 ∷ pieces r.1.now) }
 {
     match next_piece(text) {
         Some((Piece::Cell(b), rest)) => Some((b, rest)),
@@ -33,7 +34,8 @@ pub fn next_cell(text: &[u8]) -> Option<(u8, &[u8])>
 }
 
 #[tactic(auto, using(crate::proofs::Breaking::last_blank_within))]
-/// How many cells are left in the paragraph, or one more than `most`, and the last blank among them behind the first.
+/// How many cells are left in the paragraph, or one more than `most`, and the last blank among them behind
+/// the first.
 fn measure(text: &[u8], most: usize) -> (usize, usize)
     requires { most < 2 ^ 32 }
     ensures cells { result.0 ≡ min (length (first (pieces text.now))) (most + 1) }
@@ -73,7 +75,8 @@ pub fn behind_cells(text: &[u8], cells: usize) -> &[u8]
 /// The next paragraph, behind the end of one.
 fn next_paragraph(text: &[u8]) -> Option<&[u8]>
     requires { first (pieces text.now) ≡ [] }
-    ensures { MatchOption result (others (pieces text.now) ≡ []) (λ r. others (pieces text.now) ≡ first (pieces r.now) ∷ others (pieces r.now)) }
+    ensures { MatchOption result (others (pieces text.now) ≡ []) (λ r. others (pieces text.now)
+        ≡ first (pieces r.now) ∷ others (pieces r.now)) }
 {
     match next_piece(text) {
         Some((_, rest)) => Some(rest),
@@ -95,7 +98,9 @@ pub fn next_line(text: &[u8], most: usize) -> (Line<'_>, Option<&[u8]>)
     ensures text { result.0.text.now ≡ text.now }
     ensures most { result.0.cells ≤ most }
     ensures cells { result.0.cells ≤ length (first (pieces text.now)) }
-    ensures lines { let line = take result.0.cells (first (pieces text.now)) in MatchOption result.1 (block_lines most text.now ≡ line ∷ []) (λ r. block_lines most text.now ≡ line ∷ block_lines most r.now) }
+    ensures lines { let line = take result.0.cells (first (pieces text.now))
+        in MatchOption result.1 (block_lines most text.now ≡ line ∷ []) (λ r. block_lines most text.now
+        ≡ line ∷ block_lines most r.now) }
 {
     let (cells, blank) = measure(text, most);
     if cells <= most {
@@ -114,8 +119,8 @@ pub fn next_line(text: &[u8], most: usize) -> (Line<'_>, Option<&[u8]>)
     (line, Some(behind))
 }
 
-/// A law: the lines of a paragraph have at most n cells each, and stand in it one after the other, with at most
-/// one blank left out behind each.
+/// A law: the lines of a paragraph have at most n cells each, and stand in it one after the other, with at
+/// most one blank left out behind each.
 pub fn lines_law()
     ensures few { (n : ℕ) (cells : List ℕ) → 0 < n → All (λ line. length line ≤ n) (lines n cells) }
     ensures whole { (n : ℕ) (cells : List ℕ) → 0 < n → StandIn cells (lines n cells) }

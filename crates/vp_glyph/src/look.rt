@@ -58,7 +58,8 @@ pub fn shared(one: u64, other: u64) -> u64
 /// Emphasized: black where a dot or its left neighbour is.
 #[inline(always)]
 pub fn emphasized(word: u64) -> u64
-    ensures { (x : ℕ) → x < 64 → word_dot result x ≡ (word_dot word x || nat_lt 0 x && word_dot word (x - 1)) }
+    ensures { (x : ℕ) → x < 64 → word_dot result x
+        ≡ (word_dot word x || nat_lt 0 x && word_dot word (x - 1)) }
 {
     word | (word >> 1)
 }

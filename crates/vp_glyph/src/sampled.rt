@@ -9,10 +9,11 @@ use crate::look::paint_scaled;
 use crate::sheet::{Sheet, dot_in, row_at, rows_in};
 use vp_dots::{Ink, Op};
 
-/// A character drawn w by h.
+/// A character of a sheet with cells of 12 by 24, drawn w by h dots.
 #[derive(Clone, Copy)]
 pub struct Sampled<'a> {
     pub sheet: &'a Option<Sheet>,
+    /// The byte, which is the number of its cell.
     pub character: u8,
     pub w: u32,
     pub h: u32,
@@ -31,7 +32,9 @@ impl Sampled<'_> {
     /// Paints line y from a place on.
     pub(crate) fn paint_from(&self, y: u32, op: Op, at: i64, left: u32, row: &mut [u8])
         requires { left + self.now.w < 2 ^ 32 }
-        ensures { Painted op (shifted at (λ x. nat_le left x && sampled_dot self.now.sheet.now self.now.character self.now.w self.now.h (x - left) y)) row.old row.new }
+        ensures { Painted op (shifted at (λ x. nat_le left x
+            && sampled_dot self.now.sheet.now self.now.character self.now.w self.now.h (x - left) y))
+            row.old row.new }
     {
         if y >= self.h {
             return;

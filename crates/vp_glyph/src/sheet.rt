@@ -46,7 +46,7 @@ impl SheetError {
     }
 }
 
-/// A glyph sheet.
+/// A glyph sheet: 16 by 16 cells, each 1 to 64 dots wide and high.
 #[derive(Drop)]
 pub struct Sheet {
     wide: u32,
@@ -73,12 +73,14 @@ impl Model for Sheet {
 }
 
 impl Sheet {
-    /// Reads a sheet with cells of w by h, each 1 to 64, from an image in raw PBM. What stands behind the image is not
-    /// looked at.
+    /// Reads a sheet with cells of w by h dots, each 1 to 64, from an image in raw PBM (netpbm, pbm(5)) of
+    /// 16w by 16h. What stands behind the image isn't looked at. The first offence is answered, in the
+    /// order of `SheetError`.
     pub fn read(alloc: Global, src: &[u8], w: u32, h: u32) -> Result<Sheet, SheetError>
         requires w { w ≤ 64 }
         requires h { h ≤ 64 }
-        ensures { (result ≡ sheet_of src.now w h) ⊎ ((result ≡ Err (SheetError.Memory alloc_error)) × IsOk (sheet_of src.now w h)) }
+        ensures { (result ≡ sheet_of src.now w h)
+            ⊎ ((result ≡ Err (SheetError.Memory alloc_error)) × IsOk (sheet_of src.now w h)) }
     {
         match raster_of(src, w, h) {
             Err(why) => Err(why),
@@ -137,7 +139,8 @@ fn cut_row(raster: &[u8], w: u32, h: u32, c: u32, y: u32) -> u64
     requires h { h ≤ 64 }
     requires c { c < 256 }
     requires y { y < h }
-    ensures { (x : ℕ) → word_dot result x ≡ glyph_dot (record { wide = w; high = h; raster = raster.now }) c x y }
+    ensures { (x : ℕ) → word_dot result x ≡ glyph_dot
+        (record { wide = w; high = h; raster = raster.now }) c x y }
 {
     let (column, line) = (c % 16, c / 16);
     let from = 16 * w * (h * line + y) + w * column;
@@ -162,7 +165,9 @@ fn cut(alloc: Global, raster: &[u8], w: u32, h: u32) -> Result<Vec<u64>, AllocEr
 fn raster_of(src: &[u8], w: u32, h: u32) -> Result<&[u8], SheetError>
     requires w { w ≤ 64 }
     requires h { h ≤ 64 }
-    ensures { MatchResult result (λ raster. (length raster.now ≡ 32 * w * h) × (sheet_of src.now w h ≡ Ok (record { wide = w; high = h; raster = raster.now }))) (λ why. sheet_of src.now w h ≡ Err why) }
+    ensures { MatchResult result (λ raster. (length raster.now ≡ 32 * w * h)
+        × (sheet_of src.now w h ≡ Ok (record { wide = w; high = h; raster = raster.now })))
+        (λ why. sheet_of src.now w h ≡ Err why) }
 {
     if src.len() < 2 || src[0] != b'P' || src[1] != b'4' {
         return Err(SheetError::Magic);
