@@ -3,6 +3,8 @@ pub mod Characters
 pub mod Digits
 pub mod Tokens
 pub mod Pairs
+pub mod PlainTexts
+pub mod DigitTexts
 pub mod Packed
 pub mod PackedTexts
 pub mod Tables

@@ -66,11 +66,11 @@ pair_front : (v : ℕ) (vs : List ℕ) → v < 100 → shown_from C C (v ∷ vs)
 pair_front v vs l = rw (lt-ltb v 100 l, ne_eqb v 100 (omega arith), ne_eqb v 101 (omega arith)) refl
 
 -- what follows shows the rest
-abbrev Shows : CodeSet → Result (List ℕ) Why → List ℕ → Type 0
+abbrev pub Shows : CodeSet → Result (List ℕ) Why → List ℕ → Type 0
 Shows set r rest = (ws : List ℕ) → r ≡ Ok ws → shown_from set set ws ≡ rest
 
 -- a byte in set B
-byte_shown : (a : ℕ) (rest vs : List ℕ) (r : Result (List ℕ) Why) → Shows B r rest → plain (value_in B a) r ≡ Ok vs → shown_from B B vs ≡ a ∷ rest
+pub byte_shown : (a : ℕ) (rest vs : List ℕ) (r : Result (List ℕ) Why) → Shows B r rest → plain (value_in B a) r ≡ Ok vs → shown_from B B vs ≡ a ∷ rest
 byte_shown a rest vs r h e =
     let parts = plain_ok (value_in B a) vs r e in
     let value = byte_value a parts.0 parts.2 in
@@ -100,7 +100,7 @@ run_shown a b c d rest vs r p q h e =
     ap (shown_from B B) parts.2
     ∙ pair_shown a b (c ∷ d ∷ rest) parts.0 (onto (pair_of c d ∷ []) r) p (λ ws f. pair_shown c d rest ws r q h f) parts.1
 
-no_values : (set : CodeSet) (vs : List ℕ) → ◌≡◌ {A = Result (List ℕ) Why} (Ok []) (Ok vs) → shown_from set set vs ≡ []
+pub no_values : (set : CodeSet) (vs : List ℕ) → ◌≡◌ {A = Result (List ℕ) Why} (Ok []) (Ok vs) → shown_from set set vs ≡ []
 no_values set [] e = refl
 no_values set (v ∷ vs) e = cc
 
@@ -156,7 +156,7 @@ shown_symbol A vs = ap (shown_from A A) (data_is 103 vs)
 shown_symbol B vs = ap (shown_from B B) (data_is 104 vs)
 shown_symbol C vs = ap (shown_from C C) (data_is 105 vs)
 
-symbol_text : (set : CodeSet) (src : List ℕ) (r : Result (List ℕ) Why) (bars : Linear) → Shows set r src → symbol_from set r ≡ Ok bars → text_of bars ≡ src
+pub symbol_text : (set : CodeSet) (src : List ℕ) (r : Result (List ℕ) Why) (bars : Linear) → Shows set r src → symbol_from set r ≡ Ok bars → text_of bars ≡ src
 unfolding text_of
 symbol_text set src (Err why) bars h e = cc
 symbol_text set src (Ok []) bars h e = cc

@@ -11,7 +11,8 @@ use Rattle.vp_bars.specs.Symbols.{Linear}
 use Rattle.vp_bars.specs.Texts.{text_of}
 use Rattle.vp_bars.specs.Widths.{bars_width, is_black}
 
--- what stands in a box: a symbol, how wide its narrow and wide elements and how high its bars are, and where its text stands
+-- what stands in a box: a symbol, how wide its narrow and wide elements and how high its bars are, and
+-- where its text stands
 pub record Boxed : Type 0 where
   pub bars : Linear
   pub narrow : ℕ
@@ -43,7 +44,8 @@ line_width font text = font_width font * length text
 
 -- dot (x, y) of cells side by side
 unfoldable pub line_dot : Sheets → Font → List ℕ → ℕ → ℕ → Bool
-line_dot sheets font text x y = nat_lt x (line_width font text) && cell_dot sheets font plain (slice_index text (x / font_width font)) (x % font_width font) y
+line_dot sheets font text x y = nat_lt x (line_width font text)
+    && cell_dot sheets font plain (slice_index text (x / font_width font)) (x % font_width font) y
 
 -- no text asked for is no text
 abbrev pub text_width : Font → Place → List ℕ → ℕ
@@ -65,7 +67,8 @@ abbrev pub centred : ℕ → ℕ → (ℕ → Bool) → ℕ → Bool
 centred width own f x = let left = (width - own) / 2 in nat_le left x && f (x - left)
 
 abbrev pub text_row : Boxed → ℕ → ℕ → Bool
-text_row b y x = centred (box_width b) (line_width b.font (text_of b.bars)) (λ u. line_dot b.sheets b.font (text_of b.bars) u y) x
+text_row b y x = centred (box_width b) (line_width b.font (text_of b.bars))
+    (λ u. line_dot b.sheets b.font (text_of b.bars) u y) x
 
 abbrev pub bars_row : Boxed → ℕ → Bool
 bars_row b x = centred (box_width b) (bars_width b.bars b.narrow b.wide) (is_black b.bars b.narrow b.wide) x

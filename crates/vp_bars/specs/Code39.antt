@@ -39,12 +39,16 @@ star = 43
 
 -- data without a * at each end, which are the start and the stop already
 unfoldable pub unstarred : List ℕ → List ℕ
-unstarred src = if nat_le 2 (length src) && slice_index src 0 == 42 && slice_index src (length src - 1) == 42 then take (length src - 2) (drop 1 src) else src
+unstarred src = if nat_le 2 (length src) && slice_index src 0 == 42
+    && slice_index src (length src - 1) == 42 then take (length src - 2) (drop 1 src) else src
 
 -- the values of a symbol: start, data, check if there is one, stop
 abbrev pub symbol_of : Bool → Option (List ℕ) → Result Linear Fault
 symbol_of check None = Err (Symbol Char)
-symbol_of check (Some vs) = Ok (record { symbology = symbologies.Code39; values = star ∷ checked check vs ++ star ∷ [] })
+symbol_of check (Some vs) = Ok (record {
+  symbology = symbologies.Code39;
+  values = star ∷ checked check vs ++ star ∷ [];
+})
 
 abbrev pub symbol_for : Bool → List ℕ → Result Linear Fault
 symbol_for check [] = Err (Symbol Empty)

@@ -29,7 +29,8 @@ other_of A = B
 other_of B = A
 other_of C = C
 
--- the value of a byte: A has 32 to 95 and then 0 to 31, B has 32 to 127, and a byte 0 to 99 of C is the value itself
+-- the value of a byte: A has 32 to 95 and then 0 to 31, B has 32 to 127, and a byte 0 to 99 of C is the
+-- value itself
 abbrev pub value_in : CodeSet → ℕ → Option ℕ
 value_in A b = if nat_lt b 32 then Some (b + 64) else if nat_lt b 96 then Some (b - 32) else None
 value_in B b = if nat_le 32 b && nat_lt b 128 then Some (b - 32) else None
@@ -49,7 +50,8 @@ plain (Some v) following = onto (v ∷ []) following
 abbrev pub tokens : ℕ → List ℕ → List Token
 tokens lead [] = []
 tokens lead (b ∷ []) = (if b == lead then Lead else Byte b) ∷ []
-tokens lead (b ∷ c ∷ bytes) = if b == lead then Code c ∷ tokens lead bytes else Byte b ∷ tokens lead (c ∷ bytes)
+tokens lead (b ∷ c ∷ bytes) = if b == lead then Code c ∷ tokens lead bytes
+    else Byte b ∷ tokens lead (c ∷ bytes)
 
 -- the bytes that a token is spelled with
 abbrev pub size_of : Token → ℕ
@@ -62,7 +64,8 @@ abbrev pub placed : ℕ → List ℕ → ℕ
 placed place [] = 0
 placed place (v ∷ vs) = place * v + placed (place + 1) vs
 
--- the check character: the start and the sum of each value times its place, counted from 1, modulo 103 (annex A)
+-- the check character: the start and the sum of each value times its place, counted from 1, modulo 103
+-- (annex A)
 abbrev pub check_of : ℕ → List ℕ → ℕ
 check_of start vs = (start + placed 1 vs) % 103
 
@@ -76,4 +79,7 @@ values_with start vs = start ∷ vs ++ check_of start vs ∷ stop ∷ []
 abbrev pub symbol_from : CodeSet → Result (List ℕ) Why → Result Linear Fault
 symbol_from set (Err why) = Err (Symbol why)
 symbol_from set (Ok []) = Err (Symbol Empty)
-symbol_from set (Ok (v ∷ vs)) = Ok (record { symbology = symbologies.Code128; values = values_with (start_of set) (v ∷ vs) })
+symbol_from set (Ok (v ∷ vs)) = Ok (record {
+  symbology = symbologies.Code128;
+  values = values_with (start_of set) (v ∷ vs);
+})

@@ -14,4 +14,5 @@ pub record Drawn (op : Op) (at : ℤ) (f : ℕ → Bool) (old new : List ℕ) (x
 -- bars and spaces of these widths are drawn, from one place of the pen to another
 pub record Draws (op : Op) (at : ℤ) (before after : List ℕ) (pen next : Pen) (ws : List ℕ) : Type 0 where
   pub ends : next.x ≡ pen.x + total ws
-  pub drawn : (f : ℕ → Bool) (old rest : List ℕ) → Drawn op at f old before pen.x (in_bar pen.bar (ws ++ rest)) → Drawn op at f old after next.x (in_bar next.bar rest)
+  pub drawn : (f : ℕ → Bool) (old rest : List ℕ) → Drawn op at f old before pen.x
+      (in_bar pen.bar (ws ++ rest)) → Drawn op at f old after next.x (in_bar next.bar rest)

@@ -13,7 +13,8 @@ abbrev pub weighted : ℕ → List ℕ → ℕ
 weighted weight [] = 0
 weighted weight (d ∷ ds) = weight * d + weighted (4 - weight) ds
 
--- the check digit of 12 digits: what their sum, weighted 1 and 3 in turn from the left, lacks to a multiple of 10
+-- the check digit of 12 digits: what their sum, weighted 1 and 3 in turn from the left, lacks to a multiple
+-- of 10
 abbrev pub check_of : List ℕ → ℕ
 check_of ds = (10 - weighted 1 ds % 10) % 10
 
@@ -31,13 +32,15 @@ is_count count pad = pad || (count == 12 || count == 13)
 
 -- 12 digits and their check digit; a thirteenth that came is not looked at
 abbrev pub symbol_of : List ℕ → Result Linear Fault
-symbol_of ds = if is_count (length ds) false then Ok (record { symbology = symbologies.Ean13; values = with_check (take 12 ds) }) else Err (Symbol Length)
+symbol_of ds = if is_count (length ds) false then Ok
+    (record { symbology = symbologies.Ean13; values = with_check (take 12 ds) }) else Err (Symbol Length)
 
 abbrev pub digits_of : List ℕ → List ℕ
 digits_of src = map (λ c. c - 48) src
 
 abbrev pub ean13_for : List ℕ → Bool → Result Linear Fault
-ean13_for src pad = if list_all is_ascii_digit src then symbol_of (padded pad (digits_of src)) else Err (Symbol Char)
+ean13_for src pad = if list_all is_ascii_digit src then symbol_of (padded pad (digits_of src))
+    else Err (Symbol Char)
 
 -- the symbol for these bytes, or why there is none
 abbrev pub ean13_of : List ℕ → Bool → Result Linear Fault

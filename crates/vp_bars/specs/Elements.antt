@@ -6,8 +6,10 @@ use Rattle.vp_bars.specs.Patterns.{numbers, parity}
 -- the widths of the elements of the digits in number set A, a space first, and in number set C, a bar first
 abbrev pub set_a_widths : List (List ℕ)
 set_a_widths =
-    numbers (codes "3211") ∷ numbers (codes "2221") ∷ numbers (codes "2122") ∷ numbers (codes "1411") ∷ numbers (codes "1132") ∷
-    numbers (codes "1231") ∷ numbers (codes "1114") ∷ numbers (codes "1312") ∷ numbers (codes "1213") ∷ numbers (codes "3112") ∷ []
+    numbers (codes "3211") ∷ numbers (codes "2221") ∷ numbers (codes "2122") ∷
+    numbers (codes "1411") ∷ numbers (codes "1132") ∷ numbers (codes "1231") ∷
+    numbers (codes "1114") ∷ numbers (codes "1312") ∷ numbers (codes "1213") ∷
+    numbers (codes "3112") ∷ []
 
 abbrev pub set_a_elements : ℕ → List ℕ
 set_a_elements d = slice_index_or set_a_widths d []
@@ -27,4 +29,6 @@ left_elements _ _ = []
 -- the elements of a symbol from the left guard bars to the right ones, a bar first
 abbrev pub ean13_elements : List ℕ → List ℕ
 ean13_elements [] = []
-ean13_elements (first ∷ ds) = (1 ∷ 1 ∷ 1 ∷ []) ++ (left_elements (parity first) (take 6 ds) ++ ((1 ∷ 1 ∷ 1 ∷ 1 ∷ 1 ∷ []) ++ (flat_map set_a_elements (drop 6 ds) ++ (1 ∷ 1 ∷ 1 ∷ []))))
+ean13_elements (first ∷ ds) = (1 ∷ 1 ∷ 1 ∷ []) ++
+    (left_elements (parity first) (take 6 ds) ++ ((1 ∷ 1 ∷ 1 ∷ 1 ∷ 1 ∷ [])
+    ++ (flat_map set_a_elements (drop 6 ds) ++ (1 ∷ 1 ∷ 1 ∷ []))))

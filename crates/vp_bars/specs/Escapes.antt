@@ -21,7 +21,8 @@ selected c = if c == 0x41 then Some A else if c == 0x42 then Some B else if c ==
 
 -- in A and B {1 {2 {3 {4 are FNC1 to FNC4, and FNC4 is the set's own selector
 abbrev pub function_in : CodeSet → ℕ → Option ℕ
-function_in set c = if c == 0x31 then Some 102 else if c == 0x32 then Some 97 else if c == 0x33 then Some 96 else if c == 0x34 then Some (selector_of set) else None
+function_in set c = if c == 0x31 then Some 102 else if c == 0x32 then Some 97 else if c == 0x33 then Some 96
+    else if c == 0x34 then Some (selector_of set) else None
 
 -- the set itself needs no selector
 abbrev pub selection : CodeSet → CodeSet → List ℕ
@@ -42,7 +43,8 @@ function (Some v) following = onto (v ∷ []) following
 -- a code that selects no set: in C there is FNC1 alone; {{ is the byte itself
 abbrev pub other_code : CodeSet → ℕ → Result (List ℕ) Why → Result (List ℕ) Why
 other_code C c following = if c == 0x31 then onto (102 ∷ []) following else refused
-other_code set c following = if c == brace then plain (value_in set brace) following else function (function_in set c) following
+other_code set c following = if c == brace then plain (value_in set brace) following
+    else function (function_in set c) following
 
 -- a code before what follows it in each set
 abbrev pub coded : CodeSet → ℕ → Option CodeSet → (CodeSet → Result (List ℕ) Why) → Result (List ℕ) Why
@@ -63,7 +65,8 @@ abbrev mutual
   escaped set [] = Ok []
   escaped set (Byte b ∷ ts) = plain (value_in set b) (escaped set ts)
   escaped set (Lead ∷ ts) = refused
-  escaped set (Code c ∷ ts) = if is_shift set c then after_shift set ts else coded set c (selected c) (λ next. escaped next ts)
+  escaped set (Code c ∷ ts) = if is_shift set c then after_shift set ts
+      else coded set c (selected c) (λ next. escaped next ts)
 
   -- those behind {S, where only a byte or {{ may stand
   pub after_shift : CodeSet → List Token → Result (List ℕ) Why

@@ -25,7 +25,8 @@ invoked_set c = if c == 0x35 then Some C else if c == 0x36 then Some B else if c
 
 -- >1 >2 >3 are 95, 96, 97, and >0 >< >= the values of >, ^ and ~
 abbrev pub invoked_value : ℕ → Option ℕ
-invoked_value c = if c == 0x31 then Some 95 else if c == 0x32 then Some 96 else if c == 0x33 then Some 97 else if c == 0x30 then Some 30 else if c == 0x3C then Some 62 else if c == 0x3D then Some 94 else None
+invoked_value c = if c == 0x31 then Some 95 else if c == 0x32 then Some 96 else if c == 0x33 then Some 97
+    else if c == 0x30 then Some 30 else if c == 0x3C then Some 62 else if c == 0x3D then Some 94 else None
 
 -- C in C gives nothing; B in B and A in A are FNC4
 abbrev pub invocation : CodeSet → CodeSet → List ℕ
@@ -43,7 +44,8 @@ valued set (Some v) following = onto (given set v) following
 
 -- a code that invokes no set; >8 is FNC1 in each
 abbrev pub other_code : CodeSet → ℕ → Result (List ℕ) Why → Result (List ℕ) Why
-other_code set c following = if c == 0x38 then onto (102 ∷ []) following else valued set (invoked_value c) following
+other_code set c following = if c == 0x38 then onto (102 ∷ []) following
+    else valued set (invoked_value c) following
 
 -- a code before what follows it in each set
 abbrev pub coded : CodeSet → ℕ → Option CodeSet → (CodeSet → Result (List ℕ) Why) → Result (List ℕ) Why
@@ -66,7 +68,9 @@ invoked set [] = Ok []
 invoked set (Lead ∷ ts) = Err why.CodeSet
 invoked set (Code c ∷ ts) = coded set c (invoked_set c) (λ next. invoked next ts)
 invoked B (Byte b ∷ ts) = plain (value_in B b) (invoked B ts)
-invoked set (Byte d ∷ Byte e ∷ ts) = if is_ascii_digit d then onto (if is_ascii_digit e then pair_in set (pair_of d e) else []) (invoked set ts) else invoked set (Byte e ∷ ts)
+invoked set (Byte d ∷ Byte e ∷ ts) = if is_ascii_digit d
+    then onto (if is_ascii_digit e then pair_in set (pair_of d e) else []) (invoked set ts)
+    else invoked set (Byte e ∷ ts)
 invoked set (Byte b ∷ ts) = invoked set ts
 
 abbrev pub invoked_from : CodeSet → List ℕ → Result Linear Fault
@@ -80,7 +84,8 @@ started_symbol (Some set) src bytes = invoked_from set bytes
 abbrev pub invoked_symbol : List ℕ → Result Linear Fault
 invoked_symbol [] = invoked_from B []
 invoked_symbol (b ∷ []) = invoked_from B (b ∷ [])
-invoked_symbol (b ∷ c ∷ bytes) = started_symbol (if b == greater then started c else None) (b ∷ c ∷ bytes) bytes
+invoked_symbol (b ∷ c ∷ bytes) = started_symbol (if b == greater then started c
+    else None) (b ∷ c ∷ bytes) bytes
 
 abbrev pub code128_invoked_of : List ℕ → Result Linear Fault
 code128_invoked_of src = within_length src (invoked_symbol src)

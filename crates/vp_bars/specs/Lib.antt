@@ -11,4 +11,5 @@ pub mod Elements
 pub mod Widths
 pub mod Drawing
 pub mod Boxes
+pub mod InBox
 pub mod Laws

@@ -21,13 +21,17 @@ abbrev pub begins_run : List ℕ → Bool
 begins_run (a ∷ b ∷ bytes) = two_digits a b && begins_pair bytes
 begins_run _ = false
 
--- the values of data, read with a code set in force: four digits ahead change to C, which lasts as long as there are pairs
+-- the values of data, read with a code set in force: four digits ahead change to C, which lasts as long as
+-- there are pairs
 abbrev pub packed : CodeSet → List ℕ → Result (List ℕ) Why
 packed C [] = Ok []
 packed C (a ∷ []) = onto (selector_of B ∷ []) (plain (value_in B a) (Ok []))
-packed C (a ∷ b ∷ bytes) = if two_digits a b then onto (pair_of a b ∷ []) (packed C bytes) else onto (selector_of B ∷ []) (plain (value_in B a) (packed B (b ∷ bytes)))
+packed C (a ∷ b ∷ bytes) = if two_digits a b then onto (pair_of a b ∷ []) (packed C bytes)
+    else onto (selector_of B ∷ []) (plain (value_in B a) (packed B (b ∷ bytes)))
 packed _ [] = Ok []
-packed _ (a ∷ b ∷ c ∷ d ∷ bytes) = if two_digits a b && two_digits c d then onto (selector_of C ∷ pair_of a b ∷ pair_of c d ∷ []) (packed C bytes) else plain (value_in B a) (packed B (b ∷ c ∷ d ∷ bytes))
+packed _ (a ∷ b ∷ c ∷ d ∷ bytes) = if two_digits a b && two_digits c d
+    then onto (selector_of C ∷ pair_of a b ∷ pair_of c d ∷ []) (packed C bytes)
+    else plain (value_in B a) (packed B (b ∷ c ∷ d ∷ bytes))
 packed _ (a ∷ bytes) = plain (value_in B a) (packed B bytes)
 
 -- the most values that bytes can give: one each, and a selector where C ends at once

@@ -7,7 +7,8 @@ use Rattle.vp_bars.specs.Symbols.{Linear}
 use Rattle.vp_bars.specs.Elements.{set_a_elements, ean13_elements}
 use Rattle.vp_bars.specs.Patterns.{code39_pattern, code128_pattern, set_a, set_b, set_c, parity}
 
--- how wide an element is: Code 39 has narrow and wide ones, Code 128 and EAN-13 have them of one to four modules
+-- how wide an element is: Code 39 has narrow and wide ones, Code 128 and EAN-13 have them of one to four
+-- modules
 abbrev pub size_of : Symbology → ℕ → ℕ → ℕ → ℕ
 size_of Code39 narrow wide e = if e == 1 then wide else narrow
 size_of _ narrow wide e = e * narrow
@@ -28,12 +29,14 @@ gap_of _ = []
 
 -- the widths of a character behind another
 abbrev pub next_widths : Symbology → ℕ → ℕ → ℕ → List ℕ
-next_widths symbology narrow wide v = sized symbology narrow wide (gap_of symbology) ++ sized symbology narrow wide (pattern_of symbology v)
+next_widths symbology narrow wide v = sized symbology narrow wide (gap_of symbology)
+    ++ sized symbology narrow wide (pattern_of symbology v)
 
 -- the widths of the bars and spaces of Code 39 and Code 128, a bar first
 abbrev pub widths_of : Symbology → ℕ → ℕ → List ℕ → List ℕ
 widths_of symbology narrow wide [] = []
-widths_of symbology narrow wide (v ∷ vs) = sized symbology narrow wide (pattern_of symbology v) ++ flat_map (next_widths symbology narrow wide) vs
+widths_of symbology narrow wide (v ∷ vs) = sized symbology narrow wide (pattern_of symbology v)
+    ++ flat_map (next_widths symbology narrow wide) vs
 
 -- the modules of the left digits, each in its set
 abbrev pub left_modules : List ℕ → List ℕ → List ℕ
@@ -49,9 +52,11 @@ centre = 0 ∷ 1 ∷ 0 ∷ 1 ∷ 0 ∷ []
 -- EAN-13: the first digit chooses the sets of the next six, and the last six are of set C
 abbrev pub ean13_modules : List ℕ → List ℕ
 ean13_modules [] = []
-ean13_modules (first ∷ ds) = guard ++ (left_modules (parity first) (take 6 ds) ++ (centre ++ (flat_map set_c (drop 6 ds) ++ guard)))
+ean13_modules (first ∷ ds) = guard ++ (left_modules (parity first) (take 6 ds)
+    ++ (centre ++ (flat_map set_c (drop 6 ds) ++ guard)))
 
--- whether place x lies in a bar, where bars and spaces have these widths in turn: from a bar on, in those with an odd number
+-- whether place x lies in a bar, where bars and spaces have these widths in turn: from a bar on, in those
+-- with an odd number
 abbrev pub in_bar : Bool → List ℕ → ℕ → Bool
 in_bar bar [] x = false
 in_bar bar (w ∷ ws) x = if nat_lt x w then bar else in_bar (not bar) ws (x - w)
@@ -59,7 +64,8 @@ in_bar bar (w ∷ ws) x = if nat_lt x w then bar else in_bar (not bar) ws (x - w
 -- whether place x lies in a black module
 abbrev pub in_module : ℕ → List ℕ → ℕ → Bool
 in_module module_width [] x = false
-in_module module_width (m ∷ ms) x = if nat_lt x module_width then m == 1 else in_module module_width ms (x - module_width)
+in_module module_width (m ∷ ms) x = if nat_lt x module_width then m == 1
+    else in_module module_width ms (x - module_width)
 
 -- the widths of the bars and spaces of any symbol, a bar first
 abbrev pub bar_widths : Symbology → ℕ → ℕ → List ℕ → List ℕ

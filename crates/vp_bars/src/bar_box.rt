@@ -18,9 +18,11 @@ use vp_glyph::{Cell, Font, Sheets, Style};
 /// Where the text of a symbol stands.
 #[derive(Clone, Copy, Debug, PartialEq, Eq)]
 pub enum Place {
+    /// There is no text.
     None,
     Above,
     Below,
+    /// Above and below.
     Both,
 }
 
@@ -61,7 +63,9 @@ const PLAIN: Style = Style {
 /// Paints a row of a cell that stands so many dots to the right, dot by dot.
 fn paint_cell_dots(cell: &Cell<'_>, y: u32, left: u32, op: Op, at: i64, row: &mut [u8])
     requires { left + cell_width cell.now.font cell.now.style < 2 ^ 32 }
-    ensures { Painted op (shifted at (λ i. nat_le left i && cell_dot cell.now.sheets.now cell.now.font cell.now.style cell.now.character (i - left) y)) row.old row.new }
+    ensures { Painted op (shifted at (λ i. nat_le left i
+        && cell_dot cell.now.sheets.now cell.now.font cell.now.style cell.now.character (i - left) y))
+        row.old row.new }
 {
     let (width, _) = cell.size();
     for x in 0..width {
@@ -74,7 +78,8 @@ fn paint_cell_dots(cell: &Cell<'_>, y: u32, left: u32, op: Op, at: i64, row: &mu
 /// Paints a row of a cell that stands so many dots to the right.
 fn paint_cell(cell: &Cell<'_>, y: u32, left: u32, op: Op, at: i64, row: &mut [u8])
     requires { left + cell_width cell.now.font cell.now.style < 2 ^ 32 }
-    ensures { Painted op (shifted at (λ i. nat_le left i && cell_dot cell.now.sheets.now cell.now.font cell.now.style
+    ensures { Painted op (shifted at (λ i. nat_le left i
+        && cell_dot cell.now.sheets.now cell.now.font cell.now.style
         cell.now.character (i - left) y)) row.old row.new }
 {
     match at.checked_add(i64::from(left)) {
@@ -95,7 +100,8 @@ fn paint_line(
     row: &mut [u8],
 )
     requires { left + line_width font text.now < 2 ^ 32 }
-    ensures { Painted op (shifted at (λ i. nat_le left i && line_dot sheets.now font text.now (i - left) y)) row.old row.new }
+    ensures { Painted op (shifted at (λ i. nat_le left i && line_dot sheets.now font text.now (i - left) y))
+        row.old row.new }
 {
     let mut x = left;
     for c in text {
@@ -115,6 +121,7 @@ fn back(x: u32) -> i64
 /// A symbol with its text above or below.
 #[derive(Clone, Copy)]
 pub struct BarBox<'a> {
+    /// The symbol, which has the text too.
     pub bars: &'a Bars,
     /// The dots of a narrow element, or of a module.
     pub narrow: u16,
@@ -122,6 +129,7 @@ pub struct BarBox<'a> {
     pub wide: u16,
     /// The rows of the bars.
     pub height: u16,
+    /// What the text is drawn from.
     pub sheets: &'a Sheets,
     pub font: Font,
     pub place: Place,
@@ -136,7 +144,13 @@ pub struct BarBox<'a> {
 }
 
 impl Bars {
-    /// The symbol as it is painted, with its text where that is asked for.
+    /// The symbol as it is painted: its bars, and its text in unmagnified characters of a font, where that
+    /// is asked for.
+    ///
+    /// A narrow element of Code 39, and a module of the others, is `narrow` dots wide, a wide element
+    /// `wide`, which the others don't look at, and the bars are `height` dots high. The box is as wide as
+    /// the wider of bars and text, each in the middle of it (the odd dot on the right), and as high as the
+    /// bars and the rows of the text above and below.
     pub fn boxed<'a>(
         &'a self,
         narrow: u16,
@@ -171,9 +185,11 @@ impl Bars {
 }
 
 impl BarBox<'_> {
+    ghost use Rattle.vp_bars.specs.InBox.{boxed};
+
     /// The dots of a row of the box.
     fn width(&self) -> u32
-        ensures width { result ≡ box_width (record { bars = self.now.bars.now; narrow = self.now.narrow; wide = self.now.wide; height = self.now.height; sheets = self.now.sheets.now; font = self.now.font; place = self.now.place }) }
+        ensures width { result ≡ box_width (boxed self.now) }
         ensures small { result < 2 ^ 30 }
         ensures bars { self.now.bars_width ≤ result }
     {
@@ -196,7 +212,7 @@ impl BarBox<'_> {
     /// Paints a row of the bars.
     #[tactic(auto, using(crate::proofs::Bounds::width_is))]
     fn paint_bars(&self, op: Op, at: i64, row: &mut [u8])
-        ensures { Painted op (shifted at (bars_row (record { bars = self.now.bars.now; narrow = self.now.narrow; wide = self.now.wide; height = self.now.height; sheets = self.now.sheets.now; font = self.now.font; place = self.now.place }))) row.old row.new }
+        ensures { Painted op (shifted at (bars_row (boxed self.now))) row.old row.new }
     {
         let strokes = Strokes {
             symbology: self.bars.symbology(),
@@ -210,7 +226,7 @@ impl BarBox<'_> {
 
     /// Paints a row of the text.
     fn paint_text(&self, y: u32, op: Op, at: i64, row: &mut [u8])
-        ensures { Painted op (shifted at (text_row (record { bars = self.now.bars.now; narrow = self.now.narrow; wide = self.now.wide; height = self.now.height; sheets = self.now.sheets.now; font = self.now.font; place = self.now.place }) y)) row.old row.new }
+        ensures { Painted op (shifted at (text_row (boxed self.now) y)) row.old row.new }
     {
         let text = self.bars.text();
         let left = self.width().saturating_sub(self.text_width) / 2;
@@ -228,7 +244,7 @@ impl BarBox<'_> {
 
     /// Paints a row of the box.
     fn paint(&self, y: u32, op: Op, at: i64, row: &mut [u8])
-        ensures { Painted op (shifted at (λ x. box_dot (record { bars = self.now.bars.now; narrow = self.now.narrow; wide = self.now.wide; height = self.now.height; sheets = self.now.sheets.now; font = self.now.font; place = self.now.place }) x y)) row.old row.new }
+        ensures { Painted op (shifted at (λ x. box_dot (boxed self.now) x y)) row.old row.new }
     {
         let top = self.top();
         let bottom = top + u32::from(self.height);
@@ -247,13 +263,15 @@ impl BarBox<'_> {
 }
 
 impl Ink for BarBox<'_> {
-    ghost width = { λ s. box_width (record { bars = s.bars.now; narrow = s.narrow; wide = s.wide; height = s.height; sheets = s.sheets.now; font = s.font; place = s.place }) };
+    ghost use Rattle.vp_bars.specs.InBox.{boxed};
 
-    ghost height = { λ s. box_height (record { bars = s.bars.now; narrow = s.narrow; wide = s.wide; height = s.height; sheets = s.sheets.now; font = s.font; place = s.place }) };
+    ghost width = { λ s. box_width (boxed s) };
 
-    ghost ink_at = { λ s x y. box_dot (record { bars = s.bars.now; narrow = s.narrow; wide = s.wide; height = s.height; sheets = s.sheets.now; font = s.font; place = s.place }) x y };
+    ghost height = { λ s. box_height (boxed s) };
 
-    ghost outside = { λ s x y h. box_inside (record { bars = s.bars.now; narrow = s.narrow; wide = s.wide; height = s.height; sheets = s.sheets.now; font = s.font; place = s.place }) x y h };
+    ghost ink_at = { λ s x y. box_dot (boxed s) x y };
+
+    ghost outside = { λ s x y h. box_inside (boxed s) x y h };
 
     fn size(&self) -> (u32, u32) {
         let height = self.top() + u32::from(self.height) + self.place.below() * self.font.height();

@@ -12,12 +12,15 @@ use vp_dots::{Fault, Why};
 /// The kinds of linear symbols.
 #[derive(Clone, Copy, Debug, PartialEq, Eq)]
 pub enum Symbology {
+    /// ISO/IEC 16388.
     Code39,
+    /// ISO/IEC 15420.
     Ean13,
+    /// ISO/IEC 15417.
     Code128,
 }
 
-/// A linear symbol.
+/// A linear symbol: the values of its characters, at most 258, of 0 to 106.
 #[derive(Drop, Debug)]
 pub struct Bars {
     symbology: Symbology,
@@ -42,13 +45,15 @@ impl Bars {
         Bars { symbology, values }
     }
 
+    /// The kind of symbol.
     pub fn symbology(&self) -> Symbology
         ensures { result ≡ self.now.symbology }
     {
         self.symbology
     }
 
-    /// The values of its characters from the left, with starts, check and stops.
+    /// The values of its characters from the left, as the standard's tables have them: those of Code 39 and
+    /// Code 128 with start, check and stop, or the thirteen digits of EAN-13.
     pub fn symbols(&self) -> &[u8]
         ensures values { result.now ≡ self.now.values }
         ensures most { length result.now ≤ 258 }
@@ -56,7 +61,9 @@ impl Bars {
         self.values.as_slice()
     }
 
-    /// Its text: data and check of Code 39, the thirteen digits of EAN-13, or what the data of Code 128 show.
+    /// Its text, a byte a character: data and check of Code 39 without the stars, the thirteen digits of
+    /// EAN-13, or what the data of Code 128 show, a byte for a value of set A or B, two digits for one of
+    /// set C, and nothing for a function character.
     #[tactic(auto, unfolding(crate::specs::Texts::text_of))]
     pub fn text(&self) -> ArrayVec<u8, 512>
         ensures { result.items ≡ text_of self.now }

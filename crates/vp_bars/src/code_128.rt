@@ -82,8 +82,10 @@ impl CodeSet {
 /// The first token, and the bytes behind it.
 #[tactic(auto, using(crate::proofs::Tokens::token_byte, crate::proofs::Tokens::token_lead, crate::proofs::Tokens::token_code))]
 pub(crate) fn first_token(lead: u8, bytes: &[u8]) -> Option<(Token, &[u8])>
-    ensures token { MatchOption result (bytes.now ≡ []) (λ t. tokens lead bytes.now ≡ t.0 ∷ tokens lead t.1.now) }
-    ensures size { MatchOption result (bytes.now ≡ []) (λ t. length bytes.now ≡ size_of t.0 + length t.1.now) }
+    ensures token { MatchOption result (bytes.now ≡ []) (λ t. tokens lead bytes.now
+        ≡ t.0 ∷ tokens lead t.1.now) }
+    ensures size { MatchOption result (bytes.now ≡ []) (λ t. length bytes.now
+        ≡ size_of t.0 + length t.1.now) }
 {
     let b = *bytes.first()?;
     if b != lead {
@@ -98,7 +100,8 @@ pub(crate) fn first_token(lead: u8, bytes: &[u8]) -> Option<(Token, &[u8])>
 /// Appends the value of a byte, which is refused where the set lacks it.
 pub(crate) fn push_byte(set: CodeSet, b: u8, values: &mut ArrayVec<u8, 258>) -> Result<(), Why>
     requires { length values.old.items ≤ 257 }
-    ensures value { OnOk result ((r : Result (List ℕ) Why) → onto values.old.items (plain (value_in set b) r) ≡ onto values.new.items r) }
+    ensures value { OnOk result ((r : Result (List ℕ) Why)
+        → onto values.old.items (plain (value_in set b) r) ≡ onto values.new.items r) }
     ensures refused { IfErr result (λ why. (r : Result (List ℕ) Why) → plain (value_in set b) r ≡ Err why) }
     ensures len { OnOk result (length values.new.items ≡ length values.old.items + 1) }
 {
@@ -114,7 +117,8 @@ pub(crate) fn push_byte(set: CodeSet, b: u8, values: &mut ArrayVec<u8, 258>) -> 
 /// Appends a value.
 pub(crate) fn push_value(value: u8, values: &mut ArrayVec<u8, 258>)
     requires { length values.old.items ≤ 257 }
-    ensures value { (r : Result (List ℕ) Why) → onto values.old.items (onto (value ∷ []) r) ≡ onto values.new.items r }
+    ensures value { (r : Result (List ℕ) Why) → onto values.old.items (onto (value ∷ []) r)
+        ≡ onto values.new.items r }
     ensures len { length values.new.items ≡ length values.old.items + 1 }
 {
     values.push(value);

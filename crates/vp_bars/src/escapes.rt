@@ -45,7 +45,8 @@ fn function(set: CodeSet, code: u8) -> Option<u8>
 /// Appends what a code that selects no set stands for.
 fn read_other(set: CodeSet, code: u8, values: &mut ArrayVec<u8, 258>) -> Result<(), Why>
     requires { length values.old.items ≤ 257 }
-    ensures value { OnOk result ((r : Result (List ℕ) Why) → onto values.old.items (other_code set code r) ≡ onto values.new.items r) }
+    ensures value { OnOk result ((r : Result (List ℕ) Why)
+        → onto values.old.items (other_code set code r) ≡ onto values.new.items r) }
     ensures refused { IfErr result (λ why. (r : Result (List ℕ) Why) → other_code set code r ≡ Err why) }
     ensures len { OnOk result (length values.new.items ≤ length values.old.items + 1) }
 {
@@ -64,8 +65,10 @@ fn read_other(set: CodeSet, code: u8, values: &mut ArrayVec<u8, 258>) -> Result<
 /// Appends what a code stands for, and gives the set that is in force after it.
 fn read_code(set: CodeSet, code: u8, values: &mut ArrayVec<u8, 258>) -> Result<CodeSet, Why>
     requires { length values.old.items ≤ 257 }
-    ensures value { IfOk result (λ next. (k : CodeSet → Result (List ℕ) Why) → onto values.old.items (coded set code (selected_by code) k) ≡ onto values.new.items (k next)) }
-    ensures refused { IfErr result (λ why. (k : CodeSet → Result (List ℕ) Why) → coded set code (selected_by code) k ≡ Err why) }
+    ensures value { IfOk result (λ next. (k : CodeSet → Result (List ℕ) Why)
+        → onto values.old.items (coded set code (selected_by code) k) ≡ onto values.new.items (k next)) }
+    ensures refused { IfErr result (λ why. (k : CodeSet → Result (List ℕ) Why)
+        → coded set code (selected_by code) k ≡ Err why) }
     ensures len { OnOk result (length values.new.items ≤ length values.old.items + 1) }
 {
     match selected(code) {
@@ -89,9 +92,11 @@ fn read_shifted<'a>(
     values: &mut ArrayVec<u8, 258>,
 ) -> Result<&'a [u8], Why>
     requires { length values.old.items + length bytes.now ≤ 257 }
-    ensures value { IfOk result (λ rest. onto values.old.items (after_shift set (tokens brace bytes.now)) ≡ onto values.new.items (escaped set (tokens brace rest.now))) }
+    ensures value { IfOk result (λ rest. onto values.old.items (after_shift set (tokens brace bytes.now))
+        ≡ onto values.new.items (escaped set (tokens brace rest.now))) }
     ensures refused { IfErr result (λ why. after_shift set (tokens brace bytes.now) ≡ Err why) }
-    ensures size { IfOk result (λ rest. length values.new.items + length rest.now ≤ length values.old.items + 1 + length bytes.now) }
+    ensures size { IfOk result (λ rest. length values.new.items + length rest.now ≤ length values.old.items
+        + 1 + length bytes.now) }
     ensures shorter { IfOk result (λ rest. length rest.now < length bytes.now) }
 {
     let (b, rest) = match first_token(BRACE, bytes) {
@@ -112,9 +117,12 @@ fn read_token<'a>(
     values: &mut ArrayVec<u8, 258>,
 ) -> Result<(CodeSet, &'a [u8]), Why>
     requires { length values.old.items + size_of token + length bytes.now ≤ 258 }
-    ensures value { IfOk result (λ next. onto values.old.items (escaped set (token ∷ tokens brace bytes.now)) ≡ onto values.new.items (escaped next.0 (tokens brace next.1.now))) }
+    ensures value { IfOk result (λ next. onto values.old.items
+        (escaped set (token ∷ tokens brace bytes.now))
+        ≡ onto values.new.items (escaped next.0 (tokens brace next.1.now))) }
     ensures refused { IfErr result (λ why. escaped set (token ∷ tokens brace bytes.now) ≡ Err why) }
-    ensures size { IfOk result (λ next. length values.new.items + length next.1.now ≤ length values.old.items + size_of token + length bytes.now) }
+    ensures size { IfOk result (λ next. length values.new.items + length next.1.now ≤ length
+        values.old.items + size_of token + length bytes.now) }
     ensures shorter { IfOk result (λ next. length next.1.now ≤ length bytes.now) }
 {
     match token {
@@ -155,7 +163,8 @@ fn read_escapes(start: CodeSet, src: &[u8]) -> Result<ArrayVec<u8, 258>, Why>
 
 /// The start set that the data begin with, and the bytes behind it.
 fn start_set(src: &[u8]) -> Option<(CodeSet, &[u8])>
-    ensures start { MatchOption result (escaped_symbol src.now ≡ from_set None src.now) (λ s. escaped_symbol src.now ≡ from_set (Some s.0) s.1.now) }
+    ensures start { MatchOption result (escaped_symbol src.now ≡ from_set None src.now)
+        (λ s. escaped_symbol src.now ≡ from_set (Some s.0) s.1.now) }
     ensures few { IfSome result (λ s. length s.1.now ≤ length src.now) }
 {
     match src {
@@ -166,10 +175,11 @@ fn start_set(src: &[u8]) -> Option<(CodeSet, &[u8])>
 
 /// The Code 128 symbol of these bytes.
 ///
-/// The data begin with `{A`, `{B` or `{C`, and later ones change the set. `{1` to `{4` are FNC1 to FNC4, `{S` shifts the next
-/// byte into the other one of A and B, and `{{` is the byte `{`. In set C only `{1` and changes of the set stand, and a byte 0 to
-/// 99 is its own value. Refused are, in this order: no bytes; more than 255 bytes (`SymbolTooLong`); the first
-/// offence against the sets (`CodeSet`) or byte that the set lacks (`Char`); no value behind the start.
+/// The data begin with `{A`, `{B` or `{C`, and later ones change the set. `{1` to `{4` are FNC1 to FNC4,
+/// `{S` shifts the next byte into the other one of A and B, and `{{` is the byte `{`. In set C only `{1`
+/// and changes of the set stand, and a byte 0 to 99 is its own value. Refused are, in this order: no bytes;
+/// more than 255 bytes (`SymbolTooLong`); the first offence against the sets (`CodeSet`) or byte that the
+/// set lacks (`Char`); no value behind the start.
 pub fn code128_esc(src: &[u8]) -> Result<Bars, Fault>
     ensures { result ≡ code128_esc_of src.now }
 {

@@ -59,7 +59,8 @@ fn invoked_value(code: u8) -> Option<u8>
 /// Appends what a code that invokes no set stands for.
 fn read_other(set: CodeSet, code: u8, values: &mut ArrayVec<u8, 258>) -> Result<(), Why>
     requires { length values.old.items ≤ 257 }
-    ensures value { OnOk result ((r : Result (List ℕ) Why) → onto values.old.items (other_code set code r) ≡ onto values.new.items r) }
+    ensures value { OnOk result ((r : Result (List ℕ) Why)
+        → onto values.old.items (other_code set code r) ≡ onto values.new.items r) }
     ensures refused { IfErr result (λ why. (r : Result (List ℕ) Why) → other_code set code r ≡ Err why) }
     ensures len { OnOk result (length values.new.items ≤ length values.old.items + 1) }
 {
@@ -84,8 +85,10 @@ fn read_other(set: CodeSet, code: u8, values: &mut ArrayVec<u8, 258>) -> Result<
 /// Appends what a code stands for, and gives the set that is in force after it.
 fn read_code(set: CodeSet, code: u8, values: &mut ArrayVec<u8, 258>) -> Result<CodeSet, Why>
     requires { length values.old.items ≤ 257 }
-    ensures value { IfOk result (λ next. (k : CodeSet → Result (List ℕ) Why) → onto values.old.items (coded set code (set_invoked_by code) k) ≡ onto values.new.items (k next)) }
-    ensures refused { IfErr result (λ why. (k : CodeSet → Result (List ℕ) Why) → coded set code (set_invoked_by code) k ≡ Err why) }
+    ensures value { IfOk result (λ next. (k : CodeSet → Result (List ℕ) Why)
+        → onto values.old.items (coded set code (set_invoked_by code) k) ≡ onto values.new.items (k next)) }
+    ensures refused { IfErr result (λ why. (k : CodeSet → Result (List ℕ) Why)
+        → coded set code (set_invoked_by code) k ≡ Err why) }
     ensures len { OnOk result (length values.new.items ≤ length values.old.items + 1) }
 {
     match invoked_set(code) {
@@ -117,7 +120,8 @@ fn push_pair(set: CodeSet, d: u8, e: u8, values: &mut ArrayVec<u8, 258>)
     requires room { length values.old.items ≤ 257 }
     requires tens { IsTrue (is_ascii_digit d) }
     requires ones { IsTrue (is_ascii_digit e) }
-    ensures value { (r : Result (List ℕ) Why) → onto values.old.items (onto (pair_in set (number_of d e)) r) ≡ onto values.new.items r }
+    ensures value { (r : Result (List ℕ) Why) → onto values.old.items (onto (pair_in set (number_of d e)) r)
+        ≡ onto values.new.items r }
     ensures len { length values.new.items ≤ length values.old.items + 1 }
 {
     let pair = pair_of(d, e);
@@ -132,8 +136,10 @@ fn push_pair(set: CodeSet, d: u8, e: u8, values: &mut ArrayVec<u8, 258>)
 fn read_pair<'a>(set: CodeSet, d: u8, bytes: &'a [u8], values: &mut ArrayVec<u8, 258>) -> &'a [u8]
     requires room { length values.old.items ≤ 257 }
     requires pairs { set ≢ B }
-    ensures value { onto values.old.items (invoked set (Byte d ∷ tokens greater bytes.now)) ≡ onto values.new.items (invoked set (tokens greater result.now)) }
-    ensures size { length values.new.items + length result.now ≤ length values.old.items + 1 + length bytes.now }
+    ensures value { onto values.old.items (invoked set (Byte d ∷ tokens greater bytes.now))
+        ≡ onto values.new.items (invoked set (tokens greater result.now)) }
+    ensures size { length values.new.items + length result.now ≤ length values.old.items + 1 + length
+        bytes.now }
     ensures shorter { length result.now ≤ length bytes.now }
 {
     if !d.is_ascii_digit() {
@@ -160,9 +166,12 @@ fn read_token<'a>(
     values: &mut ArrayVec<u8, 258>,
 ) -> Result<(CodeSet, &'a [u8]), Why>
     requires { length values.old.items + size_of token + length bytes.now ≤ 258 }
-    ensures value { IfOk result (λ next. onto values.old.items (invoked set (token ∷ tokens greater bytes.now)) ≡ onto values.new.items (invoked next.0 (tokens greater next.1.now))) }
+    ensures value { IfOk result (λ next. onto values.old.items
+        (invoked set (token ∷ tokens greater bytes.now))
+        ≡ onto values.new.items (invoked next.0 (tokens greater next.1.now))) }
     ensures refused { IfErr result (λ why. invoked set (token ∷ tokens greater bytes.now) ≡ Err why) }
-    ensures size { IfOk result (λ next. length values.new.items + length next.1.now ≤ length values.old.items + size_of token + length bytes.now) }
+    ensures size { IfOk result (λ next. length values.new.items + length next.1.now ≤ length
+        values.old.items + size_of token + length bytes.now) }
     ensures shorter { IfOk result (λ next. length next.1.now ≤ length bytes.now) }
 {
     match token {

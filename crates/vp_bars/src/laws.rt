@@ -1,11 +1,15 @@
-//! What holds of the tables of patterns as a whole: no symbol is mistaken for another for want of a difference.
-//! And what the texts of symbols are.
+//! What holds of the tables of patterns as a whole: no symbol is mistaken for another for want of a
+//! difference. And what the texts of symbols are.
 
-ghost use Rattle.std.specs.Prelude.{◌≡◌, ℕ, true, List, Ok, IsTrue, take, drop};
+ghost use Rattle.std.specs.Prelude.{◌≡◌, ℕ, ◌+◌, ◌-◌, Bool, true, false, ◌==◌, length, replicate, List, [], ◌∷◌, ◌++◌, Ok, Some, IsTrue, take, drop, slice_index};
 ghost use Rattle.vp_bars.specs.Symbols.{Linear};
+ghost use Rattle.vp_bars.specs.Code39.{alphabet, values_of, check_of, unstarred, code39_of};
+ghost use Rattle.vp_bars.specs.Ean13.{check_of as check_digit_of, digits_of, ean13_of};
+ghost use Rattle.vp_bars.specs.Escapes.{brace, code128_esc_of};
+ghost use Rattle.vp_bars.specs.Invocations.{greater};
 ghost use Rattle.vp_bars.specs.Packing.{code128_zpl_of};
 ghost use Rattle.vp_bars.specs.Texts.{text_of};
-ghost use Rattle.std.specs.List.{list_all};
+ghost use Rattle.std.specs.List.{list_all, list_any};
 ghost use Rattle.vp_bars.specs.Patterns.{code39_table, code128_table};
 ghost use Rattle.vp_bars.specs.Laws.{distinct, three_of_nine, eleven_modules, thirteen_modules, digit_patterns, seven_modules};
 
@@ -15,7 +19,8 @@ pub fn code39_patterns_law()
     ensures apart { IsTrue (distinct code39_table) }
 {}
 
-/// A law: each digit of EAN-13 has seven modules in each number set, and no two of the thirty patterns are alike.
+/// A law: each digit of EAN-13 has seven modules in each number set, and no two of the thirty patterns are
+/// alike.
 pub fn ean13_patterns_law()
     ensures modules { IsTrue (list_all seven_modules digit_patterns) }
     ensures apart { IsTrue (distinct digit_patterns) }
@@ -31,4 +36,32 @@ pub fn code128_patterns_law()
 /// A law: the text of a Code 128 symbol whose data are packed by themselves is the data.
 pub fn packed_text_law()
     ensures { (src : List ℕ) (bars : Linear) → code128_zpl_of src true ≡ Ok bars → text_of bars ≡ src }
+{}
+
+/// A law: the text of a Code 39 symbol is its data without stars, and behind them the check character if
+/// there is one.
+pub fn code39_text_law()
+    ensures data_alone { (src : List ℕ) (bars : Linear) → code39_of src false ≡ Ok bars
+        → text_of bars ≡ unstarred src }
+    ensures with_check { (src vs : List ℕ) (bars : Linear) → code39_of src true ≡ Ok bars
+        → values_of (unstarred src) ≡ Some vs
+        → text_of bars ≡ unstarred src ++ slice_index alphabet (check_of vs) ∷ [] }
+{}
+
+/// A law: the text of an EAN-13 symbol is twelve digits, with zeros on the left where fewer came, and their
+/// check digit.
+pub fn ean13_text_law()
+    ensures { (src : List ℕ) (pad : Bool) (bars : Linear) → ean13_of src pad ≡ Ok bars
+        → (let twelve = take 12 (replicate (12 - length src) 48 ++ src)
+        in text_of bars ≡ twelve ++ (check_digit_of (digits_of twelve) + 48) ∷ []) }
+{}
+
+/// A law: in code set B, without codes, each byte stands for itself: of a label's data, which begin in B,
+/// and of a receipt's behind `{B`.
+pub fn set_b_text_law()
+    ensures label { (src : List ℕ) (bars : Linear) → list_any (λ b. b == greater) src ≡ false
+        → code128_zpl_of src false ≡ Ok bars
+        → text_of bars ≡ src }
+    ensures receipt { (src : List ℕ) (bars : Linear) → list_any (λ b. b == brace) src ≡ false
+        → code128_esc_of (brace ∷ 66 ∷ src) ≡ Ok bars → text_of bars ≡ src }
 {}

@@ -1,12 +1,14 @@
-//! Linear symbols, exact to the module: Code 39 (ISO/IEC 16388), EAN-13 (ISO/IEC 15420) and Code 128 (ISO/IEC 15417).
+//! Linear symbols, exact to the module: Code 39 (ISO/IEC 16388), EAN-13 (ISO/IEC 15420) and Code 128
+//! (ISO/IEC 15417).
 //!
-//! `code39`, `ean13`, `code128_esc` and `code128_zpl` make the symbol of some bytes, or say why there is none. `Bars` is such
-//! a symbol: the values of its characters, and its text. `Bars::boxed` puts bars and text into a `BarBox`, which is an `Ink`.
+//! `code39`, `ean13`, `code128_esc` and `code128_zpl` make the symbol of some bytes, or say why there is
+//! none. `Bars` is such a symbol: the values of its characters, and its text. `Bars::boxed` puts bars and
+//! text into a `BarBox`, which is an `Ink`.
 //!
 //! - `bars`: a symbol.
 //! - `code_39`, `ean_13`: the symbols of characters and of digits.
-//! - `code_128`: code sets, tokens of data, and the symbol of values. `escapes` reads the data of a receipt, `invocations` and
-//!   `packing` those of a label.
+//! - `code_128`: code sets, tokens of data, and the symbol of values. `escapes` reads the data of a
+//!   receipt, `invocations` and `packing` those of a label.
 //! - `text`: what the values of a symbol show.
 //! - `patterns`: the tables of bars and spaces. `laws` says what holds of them as a whole, and of texts.
 //! - `pen`, `strokes`: the bars of a row, drawn from the left in one pass.
@@ -35,6 +37,9 @@ pub use bars::{Bars, Symbology};
 pub use code_39::code39;
 pub use ean_13::ean13;
 pub use escapes::code128_esc;
-pub use laws::{code39_patterns_law, code128_patterns_law, ean13_patterns_law, packed_text_law};
+pub use laws::{
+    code39_patterns_law, code39_text_law, code128_patterns_law, ean13_patterns_law, ean13_text_law,
+    packed_text_law, set_b_text_law,
+};
 pub use packing::code128_zpl;
 pub use wide::{wide_by_ratio, wide_on_receipt};

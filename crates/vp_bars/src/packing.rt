@@ -33,7 +33,9 @@ fn begins_run(bytes: &[u8]) -> bool
 fn read_pair<'a>(bytes: &'a [u8], values: &mut ArrayVec<u8, 258>) -> &'a [u8]
     requires room { length values.old.items ≤ 257 }
     requires pair { IsTrue (has_pair bytes.now) }
-    ensures value { (r : Result (List ℕ) Why) → onto values.old.items (onto (number_of (slice_index bytes.now 0) (slice_index bytes.now 1) ∷ []) r) ≡ onto values.new.items r }
+    ensures value { (r : Result (List ℕ) Why) → onto values.old.items
+        (onto (number_of (slice_index bytes.now 0) (slice_index bytes.now 1) ∷ []) r)
+        ≡ onto values.new.items r }
     ensures len { length values.new.items ≡ length values.old.items + 1 }
     ensures rest { result.now ≡ drop 2 bytes.now }
     ensures size { length result.now + 2 ≡ length bytes.now }
@@ -46,8 +48,10 @@ fn read_pair<'a>(bytes: &'a [u8], values: &mut ArrayVec<u8, 258>) -> &'a [u8]
 fn read_byte<'a>(bytes: &'a [u8], values: &mut ArrayVec<u8, 258>) -> Result<&'a [u8], Why>
     requires room { length values.old.items ≤ 257 }
     requires some { 1 ≤ length bytes.now }
-    ensures value { OnOk result ((r : Result (List ℕ) Why) → onto values.old.items (plain (value_in B (slice_index bytes.now 0)) r) ≡ onto values.new.items r) }
-    ensures refused { IfErr result (λ why. (r : Result (List ℕ) Why) → plain (value_in B (slice_index bytes.now 0)) r ≡ Err why) }
+    ensures value { OnOk result ((r : Result (List ℕ) Why)
+        → onto values.old.items (plain (value_in B (slice_index bytes.now 0)) r) ≡ onto values.new.items r) }
+    ensures refused { IfErr result (λ why. (r : Result (List ℕ) Why)
+        → plain (value_in B (slice_index bytes.now 0)) r ≡ Err why) }
     ensures len { OnOk result (length values.new.items ≡ length values.old.items + 1) }
     ensures rest { IfOk result (λ rest. rest.now ≡ drop 1 bytes.now) }
 {
@@ -63,9 +67,11 @@ fn read_in_c<'a>(
 ) -> Result<(CodeSet, &'a [u8]), Why>
     requires some { 1 ≤ length bytes.now }
     requires room { length values.old.items + room_for C bytes.now ≤ 258 }
-    ensures value { IfOk result (λ next. onto values.old.items (packed C bytes.now) ≡ onto values.new.items (packed next.0 next.1.now)) }
+    ensures value { IfOk result (λ next. onto values.old.items (packed C bytes.now)
+        ≡ onto values.new.items (packed next.0 next.1.now)) }
     ensures refused { IfErr result (λ why. packed C bytes.now ≡ Err why) }
-    ensures size { IfOk result (λ next. length values.new.items + room_for next.0 next.1.now ≤ length values.old.items + room_for C bytes.now) }
+    ensures size { IfOk result (λ next. length values.new.items + room_for next.0 next.1.now ≤ length
+        values.old.items + room_for C bytes.now) }
     ensures shorter { IfOk result (λ next. length next.1.now < length bytes.now) }
 {
     if begins_pair(bytes) {
@@ -85,9 +91,11 @@ fn read_in_b<'a>(
 ) -> Result<(CodeSet, &'a [u8]), Why>
     requires some { 1 ≤ length bytes.now }
     requires room { length values.old.items + room_for B bytes.now ≤ 258 }
-    ensures value { IfOk result (λ next. (set : CodeSet) → set ≢ C → onto values.old.items (packed set bytes.now) ≡ onto values.new.items (packed next.0 next.1.now)) }
+    ensures value { IfOk result (λ next. (set : CodeSet) → set ≢ C
+        → onto values.old.items (packed set bytes.now) ≡ onto values.new.items (packed next.0 next.1.now)) }
     ensures refused { IfErr result (λ why. (set : CodeSet) → set ≢ C → packed set bytes.now ≡ Err why) }
-    ensures size { IfOk result (λ next. length values.new.items + room_for next.0 next.1.now ≤ length values.old.items + room_for B bytes.now) }
+    ensures size { IfOk result (λ next. length values.new.items + room_for next.0 next.1.now ≤ length
+        values.old.items + room_for B bytes.now) }
     ensures shorter { IfOk result (λ next. length next.1.now < length bytes.now) }
 {
     if begins_run(bytes) {
@@ -149,10 +157,11 @@ fn with_packing(src: &[u8]) -> Result<Bars, Fault>
 
 /// The Code 128 symbol of these bytes, as ZPL's ^BC reads them.
 ///
-/// With `auto` each run of four or more digits stands in set C, by pairs from its left, and all else in set B. Without it
-/// `>` and the byte after it are an invocation, and the start is that of `>9`, `>:` or `>;` at the front, or of set B. Refused
-/// are, in this order: no bytes; more than 255 bytes (`SymbolTooLong`); the first byte that set B lacks (`Char`) or `>` that
-/// begins no invocation (`CodeSet`); no value behind the start.
+/// With `auto` each run of four or more digits stands in set C, by pairs from its left, and all else in set
+/// B. Without it `>` and the byte after it are an invocation, and the start is that of `>9`, `>:` or `>;`
+/// at the front, or of set B. Refused are, in this order: no bytes; more than 255 bytes (`SymbolTooLong`);
+/// the first byte that set B lacks (`Char`) or `>` that begins no invocation (`CodeSet`); no value behind
+/// the start.
 pub fn code128_zpl(src: &[u8], auto: bool) -> Result<Bars, Fault>
     ensures { result ≡ code128_zpl_of src.now auto }
 {

@@ -41,8 +41,10 @@ impl Strokes<'_> {
 
     /// Draws elements, and gives the pen behind them.
     fn draw(&self, elements: &[u8], pen: Pen, op: Op, at: i64, row: &mut [u8]) -> Pen
-        requires { pen.x + total (sized self.now.symbology self.now.narrow self.now.wide elements.now) < 2 ^ 32 }
-        ensures { Draws op at row.old row.new pen result (sized self.now.symbology self.now.narrow self.now.wide elements.now) }
+        requires { pen.x + total (sized self.now.symbology self.now.narrow self.now.wide elements.now) < 2 ^
+            32 }
+        ensures { Draws op at row.old row.new pen result
+            (sized self.now.symbology self.now.narrow self.now.wide elements.now) }
     {
         let mut pen = pen;
         for e in elements {
@@ -53,8 +55,10 @@ impl Strokes<'_> {
 
     /// Draws characters, each behind another, and gives the pen behind them.
     fn draw_next(&self, values: &[u8], pen: Pen, op: Op, at: i64, row: &mut [u8]) -> Pen
-        requires { pen.x + total (flat_map (next_widths self.now.symbology self.now.narrow self.now.wide) values.now) < 2 ^ 32 }
-        ensures { Draws op at row.old row.new pen result (flat_map (next_widths self.now.symbology self.now.narrow self.now.wide) values.now) }
+        requires { pen.x + total (flat_map (next_widths self.now.symbology self.now.narrow self.now.wide)
+            values.now) < 2 ^ 32 }
+        ensures { Draws op at row.old row.new pen result
+            (flat_map (next_widths self.now.symbology self.now.narrow self.now.wide) values.now) }
     {
         let mut pen = pen;
         for v in values {
@@ -66,8 +70,10 @@ impl Strokes<'_> {
 
     /// Draws the values one after the other, and gives the pen behind them.
     fn draw_characters(&self, pen: Pen, op: Op, at: i64, row: &mut [u8]) -> Pen
-        requires { pen.x + total (widths_of self.now.symbology self.now.narrow self.now.wide self.now.values.now) < 2 ^ 32 }
-        ensures { Draws op at row.old row.new pen result (widths_of self.now.symbology self.now.narrow self.now.wide self.now.values.now) }
+        requires { pen.x + total (widths_of self.now.symbology self.now.narrow self.now.wide
+            self.now.values.now) < 2 ^ 32 }
+        ensures { Draws op at row.old row.new pen result
+            (widths_of self.now.symbology self.now.narrow self.now.wide self.now.values.now) }
     {
         let Some((first, others)) = self.values.split_first() else {
             return pen;
@@ -86,8 +92,10 @@ impl Strokes<'_> {
         at: i64,
         row: &mut [u8],
     ) -> Pen
-        requires { pen.x + total (sized self.now.symbology self.now.narrow self.now.wide (left_elements sets.now digits.now)) < 2 ^ 32 }
-        ensures { Draws op at row.old row.new pen result (sized self.now.symbology self.now.narrow self.now.wide (left_elements sets.now digits.now)) }
+        requires { pen.x + total (sized self.now.symbology self.now.narrow self.now.wide
+            (left_elements sets.now digits.now)) < 2 ^ 32 }
+        ensures { Draws op at row.old row.new pen result
+            (sized self.now.symbology self.now.narrow self.now.wide (left_elements sets.now digits.now)) }
     {
         let mut pen = pen;
         for i in 0..sets.len().min(digits.len()) {
@@ -98,9 +106,11 @@ impl Strokes<'_> {
 
     /// Draws the digits of EAN-13 between its guards, and gives the pen behind them.
     fn draw_digits(&self, pen: Pen, op: Op, at: i64, row: &mut [u8]) -> Pen
-        requires room { pen.x + total (sized self.now.symbology self.now.narrow self.now.wide (ean13_elements self.now.values.now)) < 2 ^ 32 }
+        requires room { pen.x + total (sized self.now.symbology self.now.narrow self.now.wide
+            (ean13_elements self.now.values.now)) < 2 ^ 32 }
         requires digits { self.now.symbology ≡ Ean13 }
-        ensures { Draws op at row.old row.new pen result (sized self.now.symbology self.now.narrow self.now.wide (ean13_elements self.now.values.now)) }
+        ensures { Draws op at row.old row.new pen result
+            (sized self.now.symbology self.now.narrow self.now.wide (ean13_elements self.now.values.now)) }
     {
         let Some((first, digits)) = self.values.split_first() else {
             return pen;
@@ -115,8 +125,10 @@ impl Strokes<'_> {
 
     /// Draws all bars, and gives the pen behind them.
     pub fn draw_bars(&self, pen: Pen, op: Op, at: i64, row: &mut [u8]) -> Pen
-        requires { pen.x + total (bar_widths self.now.symbology self.now.narrow self.now.wide self.now.values.now) < 2 ^ 32 }
-        ensures { Draws op at row.old row.new pen result (bar_widths self.now.symbology self.now.narrow self.now.wide self.now.values.now) }
+        requires { pen.x + total (bar_widths self.now.symbology self.now.narrow self.now.wide
+            self.now.values.now) < 2 ^ 32 }
+        ensures { Draws op at row.old row.new pen result
+            (bar_widths self.now.symbology self.now.narrow self.now.wide self.now.values.now) }
     {
         match self.symbology {
             Symbology::Ean13 => self.draw_digits(pen, op, at, row),

@@ -2,7 +2,8 @@
 
 ghost use Rattle.std.specs.Prelude.{◌≡◌, ◌+◌, ◌*◌, ◌/◌, ◌<◌, ◌^◌, max};
 
-/// On a receipt: two and a half modules, rounded up.
+/// On a receipt: the dots of a wide element beside a narrow one of so many, two and a half times as many,
+/// rounded up.
 pub fn wide_on_receipt(narrow: u16) -> u16
     requires { 5 * narrow + 1 < 2 ^ 16 }
     ensures { result ≡ (5 * narrow + 1) / 2 }
@@ -10,7 +11,8 @@ pub fn wide_on_receipt(narrow: u16) -> u16
     (5 * narrow + 1) / 2
 }
 
-/// On a label: so many tenths of a module, and at least a dot more than one.
+/// On a label: the dots of a wide element, so many tenths of a narrow one, rounded down, and at least a dot
+/// more.
 pub fn wide_by_ratio(narrow: u16, tenths: u16) -> u16
     requires product { narrow * tenths < 2 ^ 16 }
     requires sum { narrow + 1 < 2 ^ 16 }

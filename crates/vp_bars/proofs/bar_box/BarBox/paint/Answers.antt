@@ -1,6 +1,7 @@
 use Rattle.std.proofs.Common.{◌≡◌, ◌≤◌, ◌<◌, ◌+◌, ◌-◌, ◌*◌, ap, ◌∙◌, sym, arith, w64}
 use Rattle.std.proofs.lemmas.Int.{to_z-of_z}
 use Rattle.vp_glyph.specs.Cells.{font_height}
+use Rattle.vp_bars.specs.InBox.{boxed}
 use Rattle.vp_bars.specs.Boxes.{Boxed, box_top, box_height, texts_below, box_dot, text_row, bars_row}
 use Rattle.vp_bars.proofs.Paints.{moved_same, moved_none}
 use Rattle.vp_bars.proofs.BoxRows.{row_top, row_bars, row_below, row_none}
@@ -9,14 +10,14 @@ use Rattle.vp_bars.proofs.bar_box.BarBox.paint.Goals as goal
 pub returns-then-y-top : goal.returns-then-y-top
 returns-then-y-top c =
     let s = c.args.self.now in
-    let b : Boxed = record { bars = s.bars.now; narrow = s.narrow; wide = s.wide; height = s.height; sheets = s.sheets.now; font = s.font; place = s.place } in
+    let b : Boxed = boxed s in
     let inside : c.args.y < box_top b = omega (arith, c.top-top.ensures.rows) in
     rw (sym (to_z-of_z w64 c.args.at c.ranges.at)) (moved_same _ _ (text_row b c.args.y) (λ x. box_dot b x c.args.y) _ _ (λ u. row_top b c.args.y u inside) c.paint_text.ensures)
 
 pub returns-then-y-bottom : goal.returns-then-y-bottom
 returns-then-y-bottom c =
     let s = c.args.self.now in
-    let b : Boxed = record { bars = s.bars.now; narrow = s.narrow; wide = s.wide; height = s.height; sheets = s.sheets.now; font = s.font; place = s.place } in
+    let b : Boxed = boxed s in
     let under : box_top b ≤ c.args.y = omega (arith, c.top-top.ensures.rows) in
     let over : c.args.y < box_top b + s.height = omega (arith, c.top-top.ensures.rows, c.from.ensures) in
     rw (sym (to_z-of_z w64 c.args.at c.ranges.at)) (moved_same _ _ (bars_row b) (λ x. box_dot b x c.args.y) _ _ (λ u. row_bars b c.args.y u under over) c.paint_bars.ensures)
@@ -24,7 +25,7 @@ returns-then-y-bottom c =
 pub returns-then-y-bottom-2 : goal.returns-then-y-bottom-2
 returns-then-y-bottom-2 c =
     let s = c.args.self.now in
-    let b : Boxed = record { bars = s.bars.now; narrow = s.narrow; wide = s.wide; height = s.height; sheets = s.sheets.now; font = s.font; place = s.place } in
+    let b : Boxed = boxed s in
     let under : box_top b + s.height ≤ c.args.y = omega (arith, c.top-top.ensures.rows, c.from.ensures) in
     let below : c.below.result * c.height.result ≡ texts_below s.place * font_height s.font = ap (λ t. t * c.height.result) c.below.ensures.texts ∙ ap (λ t. texts_below s.place * t) c.height.ensures in
     let over : c.args.y < box_height b = omega (arith, c.top-top.ensures.rows, c.from.ensures, below) in
@@ -35,7 +36,7 @@ returns-then-y-bottom-2 c =
 pub returns-else-y-bottom-2 : goal.returns-else-y-bottom-2
 returns-else-y-bottom-2 c =
     let s = c.args.self.now in
-    let b : Boxed = record { bars = s.bars.now; narrow = s.narrow; wide = s.wide; height = s.height; sheets = s.sheets.now; font = s.font; place = s.place } in
+    let b : Boxed = boxed s in
     let below : c.below.result * c.height.result ≡ texts_below s.place * font_height s.font = ap (λ t. t * c.height.result) c.below.ensures.texts ∙ ap (λ t. texts_below s.place * t) c.height.ensures in
     let past : box_height b ≤ c.args.y = omega (arith, c.top-top.ensures.rows, c.from.ensures, below) in
     moved_none _ _ (λ x. box_dot b x c.args.y) _ (λ u. row_none b c.args.y u past)

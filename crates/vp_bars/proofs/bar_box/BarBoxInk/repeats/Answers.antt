@@ -1,5 +1,6 @@
 use Rattle.std.proofs.Common.{◌≤◌, ◌<◌, ◌+◌, ◌-◌, ◌∙◌, sym, arith}
 use Rattle.std.proofs.lemmas.Bool.{ltb-true}
+use Rattle.vp_bars.specs.InBox.{boxed}
 use Rattle.vp_bars.specs.Boxes.{Boxed, box_top}
 use Rattle.vp_bars.proofs.BoxRows.{row_bars}
 use Rattle.vp_bars.proofs.bar_box.BarBoxInk.repeats.Goals as goal
@@ -7,7 +8,7 @@ use Rattle.vp_bars.proofs.bar_box.BarBoxInk.repeats.Goals as goal
 pub returns-then-y-top : goal.returns-then-y-top
 returns-then-y-top c = λ t x.
     let s = c.args.self.now in
-    let b : Boxed = record { bars = s.bars.now; narrow = s.narrow; wide = s.wide; height = s.height; sheets = s.sheets.now; font = s.font; place = s.place } in
+    let b : Boxed = boxed s in
     let low : c.args.y < c.top-top.result + c.from.result = ltb-true _ _ t in
     let under : box_top b ≤ c.args.y = omega (arith, c.top-top.ensures.rows, c.if-y-top.true) in
     let over : c.args.y < box_top b + s.height = omega (arith, c.top-top.ensures.rows, c.from.ensures, low) in

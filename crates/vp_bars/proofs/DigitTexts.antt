@@ -1,0 +1,99 @@
+-- The text of an EAN-13 symbol is its digits.
+use Rattle.std.proofs.Common.{◌≡◌, ℕ, zero, suc, ◌+◌, ◌-◌, ◌<◌, ◌≤◌, Bool, true, false, cond, List, [], ◌∷◌, ◌++◌, length, take, replicate, get_or, refl, sym, ap, ◌∙◌, arith, Result, Ok, Err}
+use Rattle.std.specs.List.{list_all}
+use Rattle.std.specs.Char.{is_ascii_digit}
+use Rattle.std.proofs.lemmas.Bool.{and_parts, lt-ltb}
+use Rattle.std.proofs.lemmas.List.{append-nil, length-map, take-map}
+use Rattle.std.proofs.lemmas.List.Concat.{flat_map-append}
+use Rattle.vp_dots.specs.declared.fault.Fault.{Fault}
+use Rattle.vp_dots.specs.declared.fault.Fault.TheVariants.{Symbol}
+use Rattle.vp_dots.specs.declared.fault.Why.TheVariants.{Char}
+use Rattle.vp_bars.specs.declared.bars.Symbology.TheVariants.{Ean13}
+use Rattle.vp_bars.specs.Symbols.{Linear}
+use Rattle.vp_bars.specs.Code39.{alphabet}
+use Rattle.vp_bars.specs.Ean13.{check_of, padded, with_check, is_count, symbol_of, digits_of, ean13_for, ean13_of}
+use Rattle.vp_bars.specs.Texts.{character_of, characters, text_of}
+use Rattle.vp_bars.proofs.Digits.{digit_range, ean13_twelve, ean13_none}
+use Rattle.vp_bars.proofs.PlainTexts.{within_ok}
+
+-- the first ten characters are the digits
+digit_shown : (d : ℕ) → d < 10 → get_or alphabet d 0 ≡ d + 48
+digit_shown zero l = refl
+digit_shown (suc zero) l = refl
+digit_shown (suc (suc zero)) l = refl
+digit_shown (suc (suc (suc zero))) l = refl
+digit_shown (suc (suc (suc (suc zero)))) l = refl
+digit_shown (suc (suc (suc (suc (suc zero))))) l = refl
+digit_shown (suc (suc (suc (suc (suc (suc zero)))))) l = refl
+digit_shown (suc (suc (suc (suc (suc (suc (suc zero))))))) l = refl
+digit_shown (suc (suc (suc (suc (suc (suc (suc (suc zero)))))))) l = refl
+digit_shown (suc (suc (suc (suc (suc (suc (suc (suc (suc zero))))))))) l = refl
+digit_shown (suc (suc (suc (suc (suc (suc (suc (suc (suc (suc d)))))))))) l = absurd (omega arith)
+
+digit_character : (d : ℕ) → d < 10 → character_of d ≡ (d + 48) ∷ []
+digit_character d l = let small : d < 43 = omega arith in rw (lt-ltb d 43 small) (ap (λ n. n ∷ []) (digit_shown d l))
+
+digits_shown : (src : List ℕ) → list_all is_ascii_digit src ≡ true → characters (digits_of src) ≡ src
+digits_shown [] e = refl
+digits_shown (c ∷ src) e =
+    let both = and_parts (is_ascii_digit c) (list_all is_ascii_digit src) e in
+    let range = digit_range c both.0 in
+    let low : 48 ≤ c = range.0 in
+    let high : c ≤ 57 = range.1 in
+    let same : c - 48 + 48 ≡ c = omega arith in
+    let small : c - 48 < 10 = omega arith in
+    ap (λ (t : List ℕ). t ++ characters (digits_of src)) (digit_character (c - 48) small)
+    ∙ ap (λ n. n ∷ characters (digits_of src)) same
+    ∙ ap (λ (t : List ℕ). c ∷ t) (digits_shown src both.1)
+
+all_taken : (n : ℕ) (src : List ℕ) → list_all is_ascii_digit src ≡ true → list_all is_ascii_digit (take n src) ≡ true
+all_taken zero src e = refl
+all_taken (suc n) [] e = refl
+all_taken (suc n) (c ∷ src) e =
+    let both = and_parts (is_ascii_digit c) (list_all is_ascii_digit src) e in rw both.0 (all_taken n src both.1)
+
+all_behind_zeros : (k : ℕ) (src : List ℕ) → list_all is_ascii_digit src ≡ true → list_all is_ascii_digit (replicate k 48 ++ src) ≡ true
+all_behind_zeros zero src e = e
+all_behind_zeros (suc k) src e = all_behind_zeros k src e
+
+digits_behind_zeros : (k : ℕ) (src : List ℕ) → digits_of (replicate k 48 ++ src) ≡ replicate k 0 ++ digits_of src
+digits_behind_zeros zero src = refl
+digits_behind_zeros (suc k) src = ap (λ (t : List ℕ). 0 ∷ t) (digits_behind_zeros k src)
+
+-- twelve digits, with zeros on the left where there are fewer
+abbrev twelve : List ℕ → List ℕ
+twelve src = take 12 (replicate (12 - length src) 48 ++ src)
+
+twelve_padded : (src : List ℕ) → padded true (digits_of src) ≡ digits_of (twelve src)
+twelve_padded src =
+    ap (λ n. take 12 (replicate (12 - n) 0 ++ digits_of src)) (length-map src (λ c. c - 48))
+    ∙ ap (λ (ds : List ℕ). take 12 ds) (sym (digits_behind_zeros (12 - length src) src))
+    ∙ take-map (λ c. c - 48) 12 (replicate (12 - length src) 48 ++ src)
+
+checked_shown : (ds : List ℕ) → characters (with_check ds) ≡ characters ds ++ (check_of ds + 48) ∷ []
+checked_shown ds =
+    let small : check_of ds < 10 = omega arith in
+    flat_map-append character_of ds (check_of ds ∷ [])
+    ∙ ap (λ (t : List ℕ). characters ds ++ t) (append-nil (character_of (check_of ds)) ∙ digit_character (check_of ds) small)
+
+module _ (src : List ℕ) (pad : Bool) (bars : Linear) where
+  twelve_shown : list_all is_ascii_digit src ≡ true → ◌≡◌ {A = Result Linear Fault} (Ok (record { symbology = Ean13; values = with_check (padded true (digits_of src)) })) (Ok bars)
+      → text_of bars ≡ twelve src ++ (check_of (digits_of (twelve src)) + 48) ∷ []
+  unfolding text_of
+  twelve_shown digits e =
+      rw (sym (ok_same e)) (
+      checked_shown (padded true (digits_of src))
+      ∙ ap (λ ds. characters ds ++ (check_of ds + 48) ∷ []) (twelve_padded src)
+      ∙ ap (λ (t : List ℕ). t ++ (check_of (digits_of (twelve src)) + 48) ∷ []) (digits_shown (twelve src) (all_taken 12 (replicate (12 - length src) 48 ++ src) (all_behind_zeros (12 - length src) src digits))))
+    where
+      ok_same : {x y : Linear} → ◌≡◌ {A = Result Linear Fault} (Ok x) (Ok y) → x ≡ y
+      ok_same h = cc
+
+  made : (d c : Bool) → list_all is_ascii_digit src ≡ d → is_count (length src) pad ≡ c → ean13_for src pad ≡ Ok bars
+      → text_of bars ≡ twelve src ++ (check_of (digits_of (twelve src)) + 48) ∷ []
+  made true true d c e = twelve_shown d (sym (ean13_twelve src pad d c) ∙ e)
+  made true false d c e = let none = sym (ean13_none src pad d c) ∙ e in cc
+  made false c d f e = let none : ◌≡◌ {A = Result Linear Fault} (Err (Symbol Char)) (Ok bars) = ap (λ b. cond b (symbol_of (padded pad (digits_of src))) (Err (Symbol Char))) (sym d) ∙ e in cc
+
+  pub ean13_text : ean13_of src pad ≡ Ok bars → text_of bars ≡ twelve src ++ (check_of (digits_of (twelve src)) + 48) ∷ []
+  ean13_text e = made (list_all is_ascii_digit src) (is_count (length src) pad) refl refl (within_ok src (ean13_for src pad) bars e)
