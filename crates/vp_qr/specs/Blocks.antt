@@ -6,13 +6,17 @@ use Rattle.vp_qr.specs.declared.level.Level.TheVariants.{L, M, Q, H}
 use Rattle.vp_qr.specs.declared.level.Blocks.{Blocks}
 use Rattle.vp_qr.specs.Polynomial.{check_of}
 
--- for versions 1 to 10 of each level: check codewords of each block; short blocks, and the data codewords of each;
--- long blocks, which have one more
+-- for versions 1 to 10 of each level: check codewords of each block; short blocks, and the data codewords
+-- of each; long blocks, which have one more
 abbrev pub table : Level → List (ℕ × ℕ × ℕ × ℕ)
-table L = (7, 1, 19, 0) ∷ (10, 1, 34, 0) ∷ (15, 1, 55, 0) ∷ (20, 1, 80, 0) ∷ (26, 1, 108, 0) ∷ (18, 2, 68, 0) ∷ (20, 2, 78, 0) ∷ (24, 2, 97, 0) ∷ (30, 2, 116, 0) ∷ (18, 2, 68, 2) ∷ []
-table M = (10, 1, 16, 0) ∷ (16, 1, 28, 0) ∷ (26, 1, 44, 0) ∷ (18, 2, 32, 0) ∷ (24, 2, 43, 0) ∷ (16, 4, 27, 0) ∷ (18, 4, 31, 0) ∷ (22, 2, 38, 2) ∷ (22, 3, 36, 2) ∷ (26, 4, 43, 1) ∷ []
-table Q = (13, 1, 13, 0) ∷ (22, 1, 22, 0) ∷ (18, 2, 17, 0) ∷ (26, 2, 24, 0) ∷ (18, 2, 15, 2) ∷ (24, 4, 19, 0) ∷ (18, 2, 14, 4) ∷ (22, 4, 18, 2) ∷ (20, 4, 16, 4) ∷ (24, 6, 19, 2) ∷ []
-table H = (17, 1, 9, 0) ∷ (28, 1, 16, 0) ∷ (22, 2, 13, 0) ∷ (16, 4, 9, 0) ∷ (22, 2, 11, 2) ∷ (28, 4, 15, 0) ∷ (26, 4, 13, 1) ∷ (26, 4, 14, 2) ∷ (24, 4, 12, 4) ∷ (28, 6, 15, 2) ∷ []
+table L = (7, 1, 19, 0) ∷ (10, 1, 34, 0) ∷ (15, 1, 55, 0) ∷ (20, 1, 80, 0) ∷ (26, 1, 108, 0)
+    ∷ (18, 2, 68, 0) ∷ (20, 2, 78, 0) ∷ (24, 2, 97, 0) ∷ (30, 2, 116, 0) ∷ (18, 2, 68, 2) ∷ []
+table M = (10, 1, 16, 0) ∷ (16, 1, 28, 0) ∷ (26, 1, 44, 0) ∷ (18, 2, 32, 0) ∷ (24, 2, 43, 0)
+    ∷ (16, 4, 27, 0) ∷ (18, 4, 31, 0) ∷ (22, 2, 38, 2) ∷ (22, 3, 36, 2) ∷ (26, 4, 43, 1) ∷ []
+table Q = (13, 1, 13, 0) ∷ (22, 1, 22, 0) ∷ (18, 2, 17, 0) ∷ (26, 2, 24, 0) ∷ (18, 2, 15, 2)
+    ∷ (24, 4, 19, 0) ∷ (18, 2, 14, 4) ∷ (22, 4, 18, 2) ∷ (20, 4, 16, 4) ∷ (24, 6, 19, 2) ∷ []
+table H = (17, 1, 9, 0) ∷ (28, 1, 16, 0) ∷ (22, 2, 13, 0) ∷ (16, 4, 9, 0) ∷ (22, 2, 11, 2) ∷ (28, 4, 15, 0)
+    ∷ (26, 4, 13, 1) ∷ (26, 4, 14, 2) ∷ (24, 4, 12, 4) ∷ (28, 6, 15, 2) ∷ []
 
 abbrev pub in_table : List (ℕ × ℕ × ℕ × ℕ) → ℕ → Blocks
 in_table rows version =
@@ -59,7 +63,8 @@ pieces (suc n) k words = take k words ∷ pieces n k (drop k words)
 
 -- data codewords in blocks, the short ones first
 unfoldable pub data_blocks : Blocks → List ℕ → List (List ℕ)
-data_blocks b words = pieces b.short b.words words ++ pieces b.long (b.words + 1) (drop (b.short * b.words) words)
+data_blocks b words = pieces b.short b.words words
+    ++ pieces b.long (b.words + 1) (drop (b.short * b.words) words)
 
 -- codeword number k of each block that has one
 unfoldable pub column : ℕ → List (List ℕ) → List ℕ

@@ -1,4 +1,5 @@
--- The codes of format and version (ISO/IEC 18004, 7.9 and 7.10): numbers as polynomials, a bit to each coefficient.
+-- The codes of format and version (ISO/IEC 18004, 7.9 and 7.10): numbers as polynomials, a bit to each
+-- coefficient.
 use Rattle.std.specs.Prelude.{ℕ, zero, suc, ◌+◌, ◌*◌, ◌^◌, ◌==◌, bit_xor, if◌then◌else◌}
 use Rattle.std.specs.Int.{bit_at}
 use Rattle.vp_qr.specs.declared.level.Level.{Level}
@@ -8,7 +9,8 @@ use Rattle.vp_qr.specs.declared.level.Level.TheVariants.{L, M, Q, H}
 abbrev pub reduced : ℕ → ℕ → ℕ → ℕ → ℕ
 reduced g d k number = if bit_at number (d + k) == 1 then bit_xor number (g * 2 ^ k) else number
 
--- the remainder of a number of d + n bits by such a polynomial: all bits from d on are cleared, the highest first
+-- the remainder of a number of d + n bits by such a polynomial: all bits from d on are cleared, the highest
+-- first
 unfoldable pub remainder : ℕ → ℕ → ℕ → ℕ → ℕ
 remainder g d zero number = number
 remainder g d (suc n) number = remainder g d n (reduced g d n number)
@@ -20,7 +22,8 @@ level_bits M = 0
 level_bits Q = 3
 level_bits H = 2
 
--- level and mask, the remainder by x^10 + x^8 + x^5 + x^4 + x^2 + x + 1 behind them, and all that changed by a mask of its own
+-- level and mask, the remainder by x^10 + x^8 + x^5 + x^4 + x^2 + x + 1 behind them, and all that changed
+-- by a mask of its own
 unfoldable pub format_code : Level → ℕ → ℕ
 format_code level mask =
     let five = 8 * level_bits level + mask in

@@ -46,7 +46,8 @@ light_before = false ∷ false ∷ false ∷ false ∷ true ∷ false ∷ true �
 -- 40 for each place where either stands
 abbrev pub patterns_worth : List Bool → ℕ
 patterns_worth [] = 0
-patterns_worth (b ∷ bs) = (if begins light_behind (b ∷ bs) || begins light_before (b ∷ bs) then 40 else 0) + patterns_worth bs
+patterns_worth (b ∷ bs) = (if begins light_behind (b ∷ bs) || begins light_before (b ∷ bs) then 40
+    else 0) + patterns_worth bs
 
 abbrev pub line_cost : List Bool → ℕ
 line_cost line = runs_worth (runs line) + patterns_worth line
@@ -62,7 +63,8 @@ lines_cost f s = sum_below s (λ i. line_cost (line_from (f i) 0 s))
 
 -- 1 where module j of a line, the next one, and both below them are equal
 abbrev pub square_at : (ℕ → Bool) → (ℕ → Bool) → ℕ → ℕ
-square_at above below j = if same (above j) (above (j + 1)) && same (above j) (below j) && same (above j) (below (j + 1)) then 1 else 0
+square_at above below j = if same (above j) (above (j + 1)) && same (above j) (below j)
+    && same (above j) (below (j + 1)) then 1 else 0
 
 -- 3 for each square of four equal modules
 abbrev pub squares_cost : (ℕ → ℕ → Bool) → ℕ → ℕ
@@ -77,7 +79,8 @@ balance_cost dark all = 10 * (((20 * dark - 10 * all) + (10 * all - 20 * dark)) 
 
 -- the whole
 unfoldable pub cost : (ℕ → ℕ → Bool) → ℕ → ℕ
-cost f s = lines_cost f s + lines_cost (λ i j. f j i) s + squares_cost f s + balance_cost (dark_modules f s) (s * s)
+cost f s = lines_cost f s + lines_cost (λ i j. f j i) s + squares_cost f s + balance_cost (dark_modules f s)
+    (s * s)
 
 -- a bit of a number as a module
 abbrev pub is_set : ℕ → ℕ → Bool

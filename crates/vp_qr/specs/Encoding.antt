@@ -34,12 +34,14 @@ data_words level mode src =
     padded (capacity level v) (message (kind_of mode src) v src)
 
 unfoldable pub codewords_of : Level → Mode → List ℕ → List ℕ
-codewords_of level mode src = interleaved (blocks_of level (version_of level mode src)) (data_words level mode src)
+codewords_of level mode src = interleaved (blocks_of level (version_of level mode src))
+    (data_words level mode src)
 
 -- the finished symbol of codewords with a mask, by row and column
 unfoldable pub masked : Level → ℕ → List ℕ → ℕ → ℕ → ℕ → Bool
 masked level version codewords mask i j =
-    module_at version (format_code level mask) (version_code version) mask (λ i j. data_bit codewords (number_of version i j)) i j
+    module_at version (format_code level mask) (version_code version) mask
+    (λ i j. data_bit codewords (number_of version i j)) i j
 
 -- the first place of a least number
 unfoldable pub least_place : List ℕ → ℕ
@@ -50,14 +52,16 @@ masks = 0 ∷ 1 ∷ 2 ∷ 3 ∷ 4 ∷ 5 ∷ 6 ∷ 7 ∷ []
 
 -- the lowest mask of least cost (7.8.3)
 unfoldable pub best_mask : Level → ℕ → List ℕ → ℕ
-best_mask level version codewords = least_place (map (λ mask. cost (masked level version codewords mask) (size version)) masks)
+best_mask level version codewords = least_place (map
+    (λ mask. cost (masked level version codewords mask) (size version)) masks)
 
 abbrev pub mask_of : Level → Mode → List ℕ → ℕ
 mask_of level mode src = best_mask level (version_of level mode src) (codewords_of level mode src)
 
 -- the symbol's module in row i and column j is dark
 unfoldable pub symbol_module : Level → Mode → List ℕ → ℕ → ℕ → Bool
-symbol_module level mode src = masked level (version_of level mode src) (codewords_of level mode src) (mask_of level mode src)
+symbol_module level mode src = masked level (version_of level mode src) (codewords_of level mode src)
+    (mask_of level mode src)
 
 -- a symbol in hand; bit j of a row is its module in column j
 pub record QrSymbol : Type 0 where
@@ -71,4 +75,5 @@ pub record Encodes (level : Level) (mode : Mode) (src : List ℕ) (qr : QrSymbol
   pub version_is : qr.version ≡ version_of level mode src
   pub codewords_are : qr.codewords ≡ codewords_of level mode src
   pub mask_is : qr.mask ≡ mask_of level mode src
-  pub modules_are : (i j : ℕ) → i < size qr.version → j < size qr.version → dark qr.rows i j ≡ symbol_module level mode src i j
+  pub modules_are : (i j : ℕ) → i < size qr.version → j < size qr.version
+      → dark qr.rows i j ≡ symbol_module level mode src i j

@@ -1,4 +1,5 @@
--- The field of 256 elements: bytes as polynomials over bits, modulo x^8 + x^4 + x^3 + x^2 + 1 (ISO/IEC 18004, 7.5.2).
+-- The field of 256 elements: bytes as polynomials over bits, modulo x^8 + x^4 + x^3 + x^2 + 1 (ISO/IEC
+-- 18004, 7.5.2).
 use Rattle.std.specs.Prelude.{ℕ, zero, suc, ◌*◌, ◌/◌, ◌%◌, bit_xor}
 
 -- a times x: each bit moves up, and where bit 7 was set the modulus, 285, is taken off

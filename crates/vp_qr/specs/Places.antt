@@ -24,7 +24,8 @@ corner s i j = nat_lt i 9 && (nat_lt j 9 || nat_le (s - 8) j) || nat_le (s - 8) 
 abbrev pub version_area : ℕ → ℕ → ℕ → Bool
 version_area v i j =
     let s = size v in
-    nat_le 7 v && (nat_lt i 6 && nat_le (s - 11) j && nat_lt j (s - 8) || nat_lt j 6 && nat_le (s - 11) i && nat_lt i (s - 8))
+    nat_le 7 v && (nat_lt i 6 && nat_le (s - 11) j && nat_lt j (s - 8) || nat_lt j 6 && nat_le (s - 11) i
+    && nat_lt i (s - 8))
 
 -- an alignment pattern: at all pairs of centres but those on a finder
 abbrev pub alignment : ℕ → ℕ → ℕ → Bool
@@ -32,7 +33,8 @@ alignment v i j =
     let last = last_centre v in
     let middle = middle_centre v in
     nat_le 2 v && near last i && near last j
-    || nat_le 7 v && (near middle i && (near 6 j || near middle j || near last j) || near middle j && (near 6 i || near last i))
+    || nat_le 7 v && (near middle i && (near 6 j || near middle j || near last j) || near middle j
+    && (near 6 i || near last i))
 
 unfoldable pub reserved : ℕ → ℕ → ℕ → Bool
 reserved v i j = corner (size v) i j || i == 6 || j == 6 || alignment v i j || version_area v i j

@@ -33,6 +33,7 @@ divided g zero xs = xs
 divided g (suc n) [] = []
 divided g (suc n) (x ∷ xs) = divided g n (drop 1 (plus (x ∷ xs) (scaled x g)))
 
--- the n check codewords of a block (ISO/IEC 18004, 7.5.2): the remainder of the data, followed by n zeros, by the generator
+-- the n check codewords of a block (ISO/IEC 18004, 7.5.2): the remainder of the data, followed by n zeros,
+-- by the generator
 unfoldable pub check_of : List ℕ → ℕ → List ℕ
 check_of data_bytes n = divided (generator n) (length data_bytes) (data_bytes ++ replicate n 0)

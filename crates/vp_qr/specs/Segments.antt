@@ -27,7 +27,8 @@ has Byte byte = true
 
 -- the mode that is asked for; Auto is digits where all are, else alphanumeric, else bytes
 abbrev pub kind_of : Mode → List ℕ → Kind
-kind_of Auto src = if list_all (has Numeric) src then Numeric else if list_all (has Alphanumeric) src then Alphanumeric else Byte
+kind_of Auto src = if list_all (has Numeric) src then Numeric else if list_all (has Alphanumeric) src
+    then Alphanumeric else Byte
 kind_of Digits src = Numeric
 kind_of Alnum src = Alphanumeric
 kind_of Bytes src = Byte
@@ -80,4 +81,5 @@ data_bits Byte src = byte_bits src
 
 -- mode, count and data
 unfoldable pub message : Kind → ℕ → List ℕ → List Bool
-message kind version src = bits 4 (indicator kind) ++ bits (count_bits kind version) (length src) ++ data_bits kind src
+message kind version src = bits 4 (indicator kind) ++ bits (count_bits kind version) (length src)
+    ++ data_bits kind src

@@ -14,7 +14,8 @@ number_behind n (b ∷ bs) = number_behind (2 * n + (if b then 1 else 0)) bs
 
 -- the bytes of a string, eight bits to each; bits behind the last whole byte are in none
 unfoldable pub bytes_of : List Bool → List ℕ
-bytes_of (a ∷ b ∷ c ∷ d ∷ e ∷ f ∷ g ∷ h ∷ rest) = number_behind 0 (a ∷ b ∷ c ∷ d ∷ e ∷ f ∷ g ∷ h ∷ []) ∷ bytes_of rest
+bytes_of (a ∷ b ∷ c ∷ d ∷ e ∷ f ∷ g ∷ h ∷ rest) = number_behind 0 (a ∷ b ∷ c ∷ d ∷ e ∷ f ∷ g ∷ h ∷ [])
+    ∷ bytes_of rest
 bytes_of short = []
 
 -- a message in a symbol that has room for some more bits: up to four zeros end it (7.4.9)

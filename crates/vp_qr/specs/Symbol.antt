@@ -26,7 +26,8 @@ finder_dark s i j =
 
 -- the centre of an alignment pattern near this row or column
 abbrev pub alignment_centre : ℕ → ℕ → ℕ
-alignment_centre v i = if near 6 i then 6 else if near (middle_centre v) i && nat_le 7 v then middle_centre v else last_centre v
+alignment_centre v i = if near 6 i then 6 else if near (middle_centre v) i && nat_le 7 v
+    then middle_centre v else last_centre v
 
 unfoldable pub alignment_dark : ℕ → ℕ → ℕ → Bool
 alignment_dark v i j = not (ring (alignment_centre v i) (alignment_centre v j) i j == 1)
@@ -73,7 +74,8 @@ module_at v format version_code m data_at i j =
 unfoldable pub format_here : ℕ → ℕ → ℕ → Bool
 format_here v i j =
     let s = size v in
-    corner s i j && not (finder s i j || i == 6 || j == 6 || alignment v i j || version_area v i j || i == s - 8 && j == 8)
+    corner s i j && not (finder s i j || i == 6 || j == 6 || alignment v i j || version_area v i j
+    || i == s - 8 && j == 8)
 
 -- the dark modules where neither data nor format stand
 unfoldable pub pattern_dark : ℕ → ℕ → ℕ → ℕ → Bool

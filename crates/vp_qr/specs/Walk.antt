@@ -26,7 +26,8 @@ right_column pair = if nat_lt pair 3 then 2 * pair + 1 else 2 * pair + 2
 -- the n leftmost pairs, from the right: an odd one upwards, an even one downwards
 unfoldable pub pairs : ℕ → ℕ → List Place
 pairs s zero = []
-pairs s (suc n) = (if n % 2 == 1 then upwards (right_column n) s else downwards (right_column n) s) ++ pairs s n
+pairs s (suc n) = (if n % 2 == 1 then upwards (right_column n) s else downwards (right_column n) s)
+    ++ pairs s n
 
 -- all modules but those of column 6, in the order of the standard; the rightmost pair is odd
 unfoldable pub walk : ℕ → List Place

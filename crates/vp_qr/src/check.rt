@@ -8,7 +8,9 @@ ghost use Rattle.vp_qr.specs.Polynomial.{plus, scaled, value_at, generator, chec
 use crate::field::{doubled_byte, product};
 use arrayvec::ArrayVec;
 
-/// The check codewords of a block: the remainder of its data by the generator of `n` codewords.
+/// The check codewords of a block (ISO/IEC 18004, error correction): the remainder of its data, 1 to 116
+/// codewords, by the generator of `n`, 1 to 30 codewords. Both have the coefficient of the highest power
+/// first.
 #[tactic(auto, using(crate::proofs::Division::registers_none, crate::proofs::Division::registers_more, crate::proofs::Division::registers_done, crate::proofs::Division::generator_size))]
 pub fn rs(src: &[u8], n: usize) -> ArrayVec<u8, 30>
     requires some { 0 < length src.now }
@@ -26,7 +28,7 @@ pub fn rs(src: &[u8], n: usize) -> ArrayVec<u8, 30>
     register
 }
 
-/// A block's data followed by its check, as a polynomial, is zero at each root of the generator.
+/// A law: a block's data followed by its check, as a polynomial, is zero at each root of the generator.
 pub fn check_is_zero_at_roots(src: &[u8], n: usize)
     ensures { (i : ℕ) → i < n → value_at (power i) (src.now ++ check_of src.now n) ≡ 0 }
 {}
@@ -80,7 +82,8 @@ fn shifted(register: &[u8], low: &[u8], byte: u8) -> ArrayVec<u8, 30>
     requires some { 0 < length register.now }
     requires same { length low.now ≡ length register.now }
     requires most { length low.now ≤ 30 }
-    ensures { result.items ≡ plus (drop 1 register.now) (scaled (bit_xor byte (slice_index register.now 0)) low.now) }
+    ensures { result.items ≡ plus (drop 1 register.now)
+        (scaled (bit_xor byte (slice_index register.now 0)) low.now) }
 {
     let factor = byte ^ register[0];
     let mut next = ArrayVec::new();

@@ -14,7 +14,7 @@ use crate::symbol::is_dark_at;
 use std::marker::Model;
 use vp_dots::{Ink, Op, fill_moved};
 
-/// A symbol drawn with modules of some dots.
+/// A symbol as ink, without a quiet zone: (17 + 4 * version) * scale dots in a row and in a column.
 #[derive(Clone, Copy)]
 pub struct QrInk {
     /// Modules in a row.

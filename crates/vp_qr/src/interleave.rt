@@ -54,7 +54,8 @@ fn check_block(words: &[u8], blocks: Blocks, block: usize) -> ArrayVec<u8, 30>
     requires words { length words.now ≡ words_of blocks }
     requires sound { IsSound blocks }
     requires block { block < blocks.short + blocks.long }
-    ensures check { result.items ≡ check_of (slice_index_or (data_blocks blocks words.now) block []) blocks.check }
+    ensures check { result.items ≡ check_of (slice_index_or (data_blocks blocks words.now) block [])
+        blocks.check }
     ensures count { array_vec_len result ≡ blocks.check }
 {
     let start = blocks.start(block);
@@ -99,7 +100,8 @@ fn push_columns(out: &mut Codewords, words: &[u8], blocks: Blocks, n: usize)
 fn check_words(words: &[u8], blocks: Blocks) -> ArrayVec<u8, 240>
     requires words { length words.now ≡ words_of blocks }
     requires sound { IsSound blocks }
-    ensures checks { result.items ≡ flat_map (λ block. check_of block blocks.check) (data_blocks blocks words.now) }
+    ensures checks { result.items ≡ flat_map (λ block. check_of block blocks.check)
+        (data_blocks blocks words.now) }
     ensures count { array_vec_len result ≡ (blocks.short + blocks.long) * blocks.check }
 {
     let mut checks = ArrayVec::new();

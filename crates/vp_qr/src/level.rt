@@ -3,12 +3,16 @@
 ghost use Rattle.std.specs.Prelude.{◌≡◌, ◌≤◌};
 ghost use Rattle.vp_qr.specs.Blocks.{in_table, table, blocks_of, IsSound, codewords_of, total};
 
-/// How much of a symbol may be lost: about 7, 15, 25 or 30 percent.
+/// How much of a symbol may be lost (ISO/IEC 18004, error correction levels).
 #[derive(Clone, Copy, Debug, PartialEq, Eq)]
 pub enum Level {
+    /// About 7 percent.
     L,
+    /// About 15 percent.
     M,
+    /// About 25 percent.
     Q,
+    /// About 30 percent.
     H,
 }
 

@@ -18,8 +18,10 @@ pub fn is_dark(line: u64, at: usize) -> bool
 /// The columns in which the lines from `at` on have a finder's modules.
 fn finders(lines: &[u64], at: usize) -> u64
     requires { at + 7 ≤ length lines.now }
-    ensures { (j : ℕ) → j < 64 → is_set result j ≡ (dark lines.now at j && not (dark lines.now (at + 1) j) && dark lines.now (at + 2) j
-        && dark lines.now (at + 3) j && dark lines.now (at + 4) j && not (dark lines.now (at + 5) j) && dark lines.now (at + 6) j) }
+    ensures { (j : ℕ) → j < 64 → is_set result j ≡ (dark lines.now at j && not (dark lines.now (at + 1) j)
+        && dark lines.now (at + 2) j
+        && dark lines.now (at + 3) j && dark lines.now (at + 4) j && not (dark lines.now (at + 5) j)
+        && dark lines.now (at + 6) j) }
 {
     lines[at]
         & !lines[at + 1]
@@ -33,7 +35,8 @@ fn finders(lines: &[u64], at: usize) -> u64
 /// The columns in which four lines from `at` on are light.
 fn lights(lines: &[u64], at: usize) -> u64
     requires { at + 4 ≤ length lines.now }
-    ensures { (j : ℕ) → j < 64 → is_set result j ≡ (not (dark lines.now at j) && not (dark lines.now (at + 1) j)
+    ensures { (j : ℕ) → j < 64 → is_set result j ≡ (not (dark lines.now at j)
+        && not (dark lines.now (at + 1) j)
         && not (dark lines.now (at + 2) j) && not (dark lines.now (at + 3) j)) }
 {
     !lines[at] & !lines[at + 1] & !lines[at + 2] & !lines[at + 3]
@@ -43,7 +46,8 @@ fn lights(lines: &[u64], at: usize) -> u64
 fn patterns(lines: &[u64], at: usize) -> u64
     requires { at + 11 ≤ length lines.now }
     ensures { (j : ℕ) → j < 64 → is_set result j
-        ≡ (begins light_behind (line_from (λ i. dark lines.now i j) at 11) || begins light_before (line_from (λ i. dark lines.now i j) at 11)) }
+        ≡ (begins light_behind (line_from (λ i. dark lines.now i j) at 11)
+        || begins light_before (line_from (λ i. dark lines.now i j) at 11)) }
 {
     finders(lines, at) & lights(lines, at + 7) | lights(lines, at) & finders(lines, at + 4)
 }
@@ -51,8 +55,10 @@ fn patterns(lines: &[u64], at: usize) -> u64
 /// The columns in which five lines from `at` on are equal.
 fn fives(lines: &[u64], at: usize) -> u64
     requires { at + 5 ≤ length lines.now }
-    ensures { (j : ℕ) → j < 64 → is_set result j ≡ (same (dark lines.now at j) (dark lines.now (at + 1) j) && same (dark lines.now (at + 1) j) (dark lines.now (at + 2) j)
-        && same (dark lines.now (at + 2) j) (dark lines.now (at + 3) j) && same (dark lines.now (at + 3) j) (dark lines.now (at + 4) j)) }
+    ensures { (j : ℕ) → j < 64 → is_set result j ≡ (same (dark lines.now at j) (dark lines.now (at + 1) j)
+        && same (dark lines.now (at + 1) j) (dark lines.now (at + 2) j)
+        && same (dark lines.now (at + 2) j) (dark lines.now (at + 3) j)
+        && same (dark lines.now (at + 3) j) (dark lines.now (at + 4) j)) }
 {
     !(lines[at] ^ lines[at + 1])
         & !(lines[at + 1] ^ lines[at + 2])
@@ -79,7 +85,8 @@ fn shifted(line: u64) -> [u64; 11]
     ]
 }
 
-/// What the runs of a line of `size` modules cost: 1 for each five equal modules, and 2 more for the first five of a run.
+/// What the runs of a line of `size` modules cost: 1 for each five equal modules, and 2 more for the first
+/// five of a run.
 fn runs_worth(line: u64, size: usize) -> u32
     requires low { 21 ≤ size }
     requires most { size ≤ 57 }
@@ -194,7 +201,8 @@ fn balance_cost(dark: u32, all: u32) -> u32
 fn columns_runs(rows: &[u64; 57], size: usize) -> u32
     requires low { 21 ≤ size }
     requires high { size ≤ 57 }
-    ensures worth { result ≡ sum_below size (λ j. runs_worth (runs (line_from (λ i. dark rows.now i j) 0 size))) }
+    ensures worth { result ≡ sum_below size (λ j. runs_worth
+        (runs (line_from (λ i. dark rows.now i j) 0 size))) }
     ensures most { result ≤ 10000 }
 {
     let mut total = 0;
@@ -211,7 +219,8 @@ fn columns_runs(rows: &[u64; 57], size: usize) -> u32
 fn columns_patterns(rows: &[u64; 57], size: usize) -> u32
     requires low { 21 ≤ size }
     requires high { size ≤ 57 }
-    ensures worth { result ≡ sum_below size (λ j. patterns_worth (line_from (λ i. dark rows.now i j) 0 size)) }
+    ensures worth { result ≡ sum_below size (λ j. patterns_worth
+        (line_from (λ i. dark rows.now i j) 0 size)) }
     ensures most { result ≤ 130000 }
 {
     let mut found = 0;

@@ -39,9 +39,18 @@ impl Model for Qr {
 
     ghost Value = { QrSymbol };
 
-    ghost view = { λ s. record { version = s.version; mask = s.mask; codewords = s.codewords.items; rows = s.rows } };
+    ghost view = { λ s. record {
+      version = s.version;
+      mask = s.mask;
+      codewords = s.codewords.items;
+      rows = s.rows;
+    } };
 
-    ghost invariant = { λ s. record { low : 1 ≤ s.version; high : s.version ≤ 10; count : length s.codewords.items ≡ total s.version } };
+    ghost invariant = { λ s. record {
+      low : 1 ≤ s.version;
+      high : s.version ≤ 10;
+      count : length s.codewords.items ≡ total s.version;
+    } };
 }
 
 impl Qr {
@@ -158,7 +167,9 @@ fn codewords_in(level: Level, kind: Kind, version: usize, src: &[u8]) -> Codewor
     interleaved(level, version, words.as_slice())
 }
 
-/// The symbol of bytes, in the smallest version up to 10 that holds them.
+/// The symbol of bytes (ISO/IEC 18004), in one segment of a mode and in the smallest version up to 10 that
+/// holds them: at most 652 digits, 395 alphanumeric characters or 271 bytes at level L, and 288, 174 or 119
+/// at level H.
 ///
 /// Bytes without a symbol are refused: none at all (`Symbol(Empty)`), one that the mode lacks
 /// (`Symbol(Char)`), or too many (`SymbolTooLong`).
@@ -181,8 +192,8 @@ pub fn encode(src: &[u8], level: Level, mode: Mode) -> Result<Qr, Fault>
     Ok(finished(level, version, codewords))
 }
 
-/// The symbol of bytes that `encode` takes, drawn with the version and the mask that were chosen for it:
-/// neither is chosen again.
+/// The symbol of bytes that `encode` takes, drawn with the version, 1 to 10, and the mask, 0 to 7, that
+/// were chosen for it: neither is chosen again.
 #[tactic(auto, using(crate::proofs::Choosing::best_below))]
 pub fn drawn(src: &[u8], level: Level, mode: Mode, version: usize, mask: usize) -> Qr
     requires accepted { refusal level mode src.now ≡ None }

@@ -18,7 +18,8 @@ pub struct Place {
 pub fn set_dark(rows: &mut [u64; 57], row: usize, column: usize, bit: bool)
     requires row { row < 57 }
     requires column { column < 64 }
-    ensures { (i j : ℕ) → j < 64 → dark rows.new i j ≡ (dark rows.old i j || (i == row && j == column && bit)) }
+    ensures { (i j : ℕ) → j < 64 → dark rows.new i j
+        ≡ (dark rows.old i j || (i == row && j == column && bit)) }
 {
     if bit {
         rows[row] |= 1 << column;
@@ -146,7 +147,8 @@ pub fn fill(rows: &mut [u64; 57], version: usize, codewords: &[u8])
     requires low { 1 ≤ version }
     requires high { version ≤ 10 }
     ensures { (i j : ℕ) → i < size version → j < size version
-        → dark rows.new i j ≡ (dark rows.old i j || (not (reserved version i j) && data_bit codewords.now (number_of version i j))) }
+        → dark rows.new i j ≡ (dark rows.old i j || (not (reserved version i j)
+        && data_bit codewords.now (number_of version i j))) }
 {
     let size = 17 + 4 * version;
     let mut k = 0;
@@ -160,7 +162,7 @@ pub fn fill(rows: &mut [u64; 57], version: usize, codewords: &[u8])
     }
 }
 
-/// The free modules of a version are as many as the bits of its codewords and the remainder.
+/// A law: the free modules of a version, 1 to 10, are as many as the bits of its codewords and the remainder.
 pub fn free_modules_hold_the_codewords(version: usize)
     requires low { 1 ≤ version }
     requires high { version ≤ 10 }

@@ -8,10 +8,11 @@ use vp_qr::{Level, Mode};
 /// What stands before the bytes of a symbol.
 #[derive(Clone, Copy, Debug, PartialEq, Eq)]
 pub struct QrFront {
+    /// How much of the symbol may be lost.
     pub level: Level,
     /// How the bytes are read.
     pub mode: Mode,
-    /// How many bytes it takes itself.
+    /// How many bytes of the data it takes itself: those of the symbol stand behind them.
     pub length: usize,
 }
 
@@ -31,6 +32,7 @@ fn level_of(letter: u8) -> Option<Level>
     }
 }
 
+/// 0 to 9.
 fn is_digit(c: u8) -> bool
     ensures { result ≡ is_digit c }
 {
@@ -109,10 +111,10 @@ fn front_in(data: &[u8]) -> Result<QrFront, Fault>
     }
 }
 
-/// What the data of a QR field of a model (^BQ, 1 or 2) say before the bytes of the symbol: a letter for the level, and
-/// `A,` or `M,` with `N`, `A`, or `B` and four digits that say how many bytes come. Model 1 is refused as not supported
-/// whatever the data, then no data as empty, other bytes in number than said by their length, Kanji (`M,K`) as not
-/// supported, and any other front by its code set.
+/// What the data of a QR field of a model (^BQ, 1 or 2) say before the bytes of the symbol: a letter for
+/// the level, and `A,` or `M,` with `N`, `A`, or `B` and four digits that say how many bytes come. Model 1
+/// is refused as not supported whatever the data, then no data as empty, other bytes in number than said by
+/// their length, Kanji (`M,K`) as not supported, and any other front by its code set.
 pub fn qr_front(model: u16, data: &[u8]) -> Result<QrFront, Fault>
     ensures value { result ≡ front_of model data.now }
     ensures within { IfOk result (λ front. front.length ≤ length data.now) }
