@@ -72,7 +72,8 @@ IsWritten (Ok done) rest = rest ≡ []
 IsWritten (Err fault) rest = fault ≡ Write
 
 -- a writer took a front of bytes, and all of them unless it failed
-pub record Writes (before after : Option (List ℕ)) (bytes : List ℕ) (result : Result ⊤ JoinFault) : Type 0 where
+pub record Writes (before after : Option (List ℕ)) (bytes : List ℕ)
+    (result : Result ⊤ JoinFault) : Type 0 where
   pub taken : List ℕ
   pub rest : List ℕ
   pub split : taken ++ rest ≡ bytes
@@ -92,7 +93,8 @@ IsCopy (Err fault) size bytes rest end = ⊥
 
 -- the second pass read bytes and wrote a front of the rows among them, no more than the image has, and
 -- answers for them
-pub record Copies (before after held holds : Option (List ℕ)) (size : Size) (result : Result ⊤ JoinFault) : Type 0 where
+pub record Copies (before after held holds : Option (List ℕ)) (size : Size)
+    (result : Result ⊤ JoinFault) : Type 0 where
   pub bytes : List ℕ
   pub taken : List ℕ
   pub rest : List ℕ
@@ -104,7 +106,8 @@ pub record Copies (before after held holds : Option (List ℕ)) (size : Size) (r
 
 -- in the second pass a reader gave bytes, the reading stands after them, and a writer took all rows among
 -- them
-pub record IsCopied (before after held holds : Option (List ℕ)) (size : Size) (s : Reading) (given : ℕ) : Type 0 where
+pub record IsCopied (before after held holds : Option (List ℕ)) (size : Size) (s : Reading)
+    (given : ℕ) : Type 0 where
   pub bytes : List ℕ
   pub rows : List ℕ
   pub consumed : Consumes before after bytes

@@ -1,5 +1,5 @@
 -- Where a reading of images stands.
-use Rattle.std.specs.Prelude.{◌≡◌, ℕ, ◌+◌, ◌*◌, ◌<◌, Bool, not, ◌==◌, nat_lt, ◌&&◌, ◌||◌, List, [], ◌∷◌, ◌++◌, take, Result, Ok, Err, Some}
+use Rattle.std.specs.Prelude.{◌≡◌, ℕ, ◌+◌, ◌*◌, ◌<◌, Bool, not, ◌==◌, nat_lt, ◌&&◌, ◌||◌, List, [], ◌∷◌, ◌++◌, take, Result, Ok, Err, Option, Some, None}
 use Rattle.vp_dots.specs.Images.{row_bytes}
 use Rattle.vp_join.specs.Told.{Seen, images, width, height, rows, Told, stops, told, whole}
 use Rattle.vp_join.specs.declared.fault.Offence.{Offence}
@@ -41,6 +41,11 @@ is_beyond s size = nat_lt size.height s.height || (nat_lt 0 s.height && not (s.w
 abbrev pub IsAnswer : Result Size Offence → List ℕ → List ℕ → Type 0
 IsAnswer (Ok size) b r = told b ≡ whole (record { width = size.width; height = size.height; rows = r })
 IsAnswer (Err offence) b r = (told b).offence ≡ Some offence
+
+-- the offence at which a reading has stopped
+abbrev pub offence_in : Phase → Option Offence
+offence_in (Stopped offence) = Some offence
+offence_in _ = None
 
 -- how many bytes of the image's rows are still to come
 abbrev pub left : Phase → ℕ

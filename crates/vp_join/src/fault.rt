@@ -20,11 +20,11 @@ pub enum Offence {
 pub enum JoinFault {
     /// The first reader's first offence, as `Offence::Header`. Nothing is written.
     Header,
-    /// The same, as `Offence::Width`.
+    /// The first reader's first offence, as `Offence::Width`. Nothing is written.
     Width,
-    /// The same, as `Offence::TooTall`.
+    /// The first reader's first offence, as `Offence::TooTall`. Nothing is written.
     TooTall,
-    /// The same, as `Offence::Short`.
+    /// The first reader's first offence, as `Offence::Short`. Nothing is written.
     Short,
     /// The second reader doesn't tell images of the first one's width and of its height in all.
     Differ,

@@ -2,7 +2,7 @@
 ghost use Rattle.std.specs.Prelude.{◌≡◌, ◌<◌, ◌≤◌, ◌+◌, ℕ, length, take, true, false, List, [], ◌∷◌, ◌++◌, Some, None, Option, MatchOption, IfSome};
 ghost use Rattle.vp_dots.specs.Images.{row_bytes};
 ghost use Rattle.vp_join.specs.Told.{Seen, continues, with_digit, images, width, height, told, stops};
-ghost use Rattle.vp_join.specs.Standing.{from_phase, so_far, Stands, HasRead, IsAnswer, IsCounted, IsWide, is_beyond, left, length_of, rows_in};
+ghost use Rattle.vp_join.specs.Standing.{from_phase, so_far, Stands, HasRead, IsAnswer, IsCounted, IsWide, is_beyond, left, length_of, rows_in, offence_in};
 
 use crate::fault::Offence;
 
@@ -309,7 +309,8 @@ impl Reading {
 
     /// The offence that was found, if any.
     pub fn offence(&self) -> Option<Offence>
-        ensures { (b r : List ℕ) → Stands self.now b r →
+        ensures found { result ≡ offence_in self.now.phase }
+        ensures told { (b r : List ℕ) → Stands self.now b r →
             IfSome result (λ o. (text : List ℕ) → told (b ++ text) ≡ stops (so_far self.now r) o) }
     {
         match self.phase {

@@ -64,7 +64,7 @@ returns-in-Some g c =
       measures = record {
         bytes = i.bytes ++ chunk;
         consumed = Consumes-trans _ _ _ i.bytes chunk i.consumed c.in-Ok.ensures.bytes.0;
-        answer = rw c.fault-in-Some.ensures (found_is c.in-Some.offence (i.bytes ++ chunk) _ (λ more f. ap (λ (t : Told). t.offence) (c.in-Some.ensures (i.bytes ++ chunk) (([] ++ i.stands.more) ++ s.more) s.stands more)));
+        answer = rw c.fault-in-Some.ensures (found_is c.in-Some.offence (i.bytes ++ chunk) _ (λ more f. ap (λ (t : Told). t.offence) (c.in-Some.ensures.told (i.bytes ++ chunk) (([] ++ i.stands.more) ++ s.more) s.stands more)));
       };
       reads = record { calls = _; within = omega arith; counted = calls_more _ _ _ c.turns.turn c.turns.invariant.reads c.in-Ok.ensures.reads; all = λ e. absurd (no_turns c.in-Some.offence (cc (e, c.fault-in-Some.ensures))) };
       reads_told = tt;

@@ -26,7 +26,7 @@ pub returns-in-Some-clause-rows : goal.returns-in-Some-clause-rows
 returns-in-Some-clause-rows c = λ b r h e.
     let x = take c.fill-m.result c.fill-m.new.rows in
     let k = c.fill-m.ensures.stands b r h in
-    (x, k, λ more. stays_offence ((b ++ c.args.bytes.now) ++ more) c.args.size _ c.in-Some.field-0 (c.in-Some.ensures (b ++ c.args.bytes.now) (r ++ x) k more))
+    (x, k, λ more. stays_offence ((b ++ c.args.bytes.now) ++ more) c.args.size _ c.in-Some.field-0 (c.in-Some.ensures.told (b ++ c.args.bytes.now) (r ++ x) k more))
 
 pub returns-then-exceeds-clause-rows : goal.returns-then-exceeds-clause-rows
 returns-then-exceeds-clause-rows c = λ b r h e.
