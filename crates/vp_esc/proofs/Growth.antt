@@ -18,33 +18,37 @@ use Rattle.vp_esc.specs.Command.{lead_of, command_of, head_len, plain_len, is_li
 use Rattle.vp_esc.specs.Qr.{qr_items, value_items, model_items, is_qr_function}
 use Rattle.vp_esc.specs.Units.{is_open, given, needs_more, given_by, given_behind, is_open_named, is_open_after, given_named, given_after, raster_bytes, columns, tall_columns, at_last}
 use Rattle.vp_esc.specs.Split.{split, items as items_of}
-use Rattle.vp_esc.specs.Laws.{IsPrefix, Splits}
+use Rattle.vp_esc.specs.Laws.{Splits}
 use Rattle.vp_esc.proofs.Splits.{items-push, items-is}
 use Rattle.vp_esc.proofs.Divisions.{splits}
 use Rattle.vp_esc.proofs.Heads.{given_is, heads, IsHead, head_first}
 
-from_nil : (xs ys : List EscItem) → xs ≡ [] → IsPrefix xs ys
+-- items go on from others
+abbrev IsFrontOf : List EscItem → List EscItem → Type 0
+IsFrontOf front all = (more : List EscItem) × (all ≡ front ++ more)
+
+from_nil : (xs ys : List EscItem) → xs ≡ [] → IsFrontOf xs ys
 from_nil xs ys e = (ys, rw e refl)
 
-unchanged : (xs ys : List EscItem) → ys ≡ xs → IsPrefix xs ys
+unchanged : (xs ys : List EscItem) → ys ≡ xs → IsFrontOf xs ys
 unchanged xs ys e = ([], e ∙ sym (append-nil xs))
 
-behind_one : (x : EscItem) (xs ys : List EscItem) → IsPrefix xs ys → IsPrefix (x ∷ xs) (x ∷ ys)
+behind_one : (x : EscItem) (xs ys : List EscItem) → IsFrontOf xs ys → IsFrontOf (x ∷ xs) (x ∷ ys)
 behind_one x xs ys p = (p.0, ap (λ z. x ∷ z) p.1)
 
 -- Rasters and columns.
 
-raster_grows : (scale : Option RasterScale) (bytes : List ℕ) (c : ℕ) → IsPrefix (raster_bytes scale bytes) (raster_bytes scale (bytes ++ c ∷ []))
+raster_grows : (scale : Option RasterScale) (bytes : List ℕ) (c : ℕ) → IsFrontOf (raster_bytes scale bytes) (raster_bytes scale (bytes ++ c ∷ []))
 raster_grows None bytes c = unchanged _ _ refl
 raster_grows (Some scale) bytes c = (items.RasterByte c ∷ [], map_push (λ b. items.RasterByte b) bytes c)
 
-tall_grows : (bytes : List ℕ) (c : ℕ) → IsPrefix (tall_columns bytes) (tall_columns (bytes ++ c ∷ []))
+tall_grows : (bytes : List ℕ) (c : ℕ) → IsFrontOf (tall_columns bytes) (tall_columns (bytes ++ c ∷ []))
 tall_grows [] c = from_nil _ _ refl
 tall_grows (x ∷ []) c = from_nil _ _ refl
 tall_grows (x ∷ y ∷ []) c = from_nil _ _ refl
 tall_grows (x ∷ y ∷ z ∷ bytes) c = behind_one _ _ _ (tall_grows bytes c)
 
-columns_grow : (mode : ColumnMode) (bytes : List ℕ) (c : ℕ) → IsPrefix (columns mode bytes) (columns mode (bytes ++ c ∷ []))
+columns_grow : (mode : ColumnMode) (bytes : List ℕ) (c : ℕ) → IsFrontOf (columns mode bytes) (columns mode (bytes ++ c ∷ []))
 columns_grow Single8 bytes c = (items.Column8 c ∷ [], map_push (λ b. items.Column8 b) bytes c)
 columns_grow Double8 bytes c = (items.Column8 c ∷ [], map_push (λ b. items.Column8 b) bytes c)
 columns_grow Single24 bytes c = tall_grows bytes c
@@ -52,20 +56,20 @@ columns_grow Double24 bytes c = tall_grows bytes c
 
 -- GS ( k.
 
-either_grows : (b : Bool) (xs xs' ys : List EscItem) → IsPrefix xs xs' → IsPrefix (cond b xs ys) (cond b xs' ys)
+either_grows : (b : Bool) (xs xs' ys : List EscItem) → IsFrontOf xs xs' → IsFrontOf (cond b xs ys) (cond b xs' ys)
 either_grows true xs xs' ys p = p
 either_grows false xs xs' ys p = unchanged _ _ refl
 
-other_grows : (b : Bool) (xs ys ys' : List EscItem) → IsPrefix ys ys' → IsPrefix (cond b xs ys) (cond b xs ys')
+other_grows : (b : Bool) (xs ys ys' : List EscItem) → IsFrontOf ys ys' → IsFrontOf (cond b xs ys) (cond b xs ys')
 other_grows true xs ys ys' p = unchanged _ _ refl
 other_grows false xs ys ys' p = p
 
-model_grows : (count cn n : ℕ) (model : Option QrModel) (more : List ℕ) (c : ℕ) → IsPrefix (model_items count cn n model more) (model_items count cn n model (more ++ c ∷ []))
+model_grows : (count cn n : ℕ) (model : Option QrModel) (more : List ℕ) (c : ℕ) → IsFrontOf (model_items count cn n model more) (model_items count cn n model (more ++ c ∷ []))
 model_grows count cn n None more c = unchanged _ _ refl
 model_grows count cn n (Some model) [] c = from_nil _ _ refl
 model_grows count cn n (Some model) (z ∷ more) c = unchanged _ _ refl
 
-value_grows : (count cn function n : ℕ) (more : List ℕ) (c : ℕ) → IsPrefix (value_items count cn function n more) (value_items count cn function n (more ++ c ∷ []))
+value_grows : (count cn function n : ℕ) (more : List ℕ) (c : ℕ) → IsFrontOf (value_items count cn function n more) (value_items count cn function n (more ++ c ∷ []))
 unfolding value_items
 value_grows count cn function n more c = ⊎_elim
     (λ (e : eqb function 65 ≡ true). rw e (model_grows count cn n (qr_model_of n) more c))
@@ -75,11 +79,11 @@ value_grows count cn function n more c = ⊎_elim
     (behind_one _ _ _ (items.QrByte c ∷ [], map_push (λ b. items.QrByte b) more c)))))))
     (cases_Bool (eqb function 65))
 
-named_grows : (b : Bool) (xs : List EscItem) (x : EscItem) → IsPrefix (cond b [] (x ∷ [])) (cond b xs (x ∷ []))
+named_grows : (b : Bool) (xs : List EscItem) (x : EscItem) → IsFrontOf (cond b [] (x ∷ [])) (cond b xs (x ∷ []))
 named_grows true xs x = from_nil _ _ refl
 named_grows false xs x = unchanged _ _ refl
 
-qr_grows : (count : ℕ) (values : List ℕ) (c : ℕ) → length values < count → IsPrefix (qr_items count values) (qr_items count (values ++ c ∷ []))
+qr_grows : (count : ℕ) (values : List ℕ) (c : ℕ) → length values < count → IsFrontOf (qr_items count values) (qr_items count (values ++ c ∷ []))
 unfolding qr_items
 qr_grows count [] c h = let z : eqb count 0 ≡ false = grind (arith, nat_tests) in from_nil _ _ (rw z refl)
 qr_grows count (cn ∷ []) c h = let z : eqb count 1 ≡ false = grind (arith, nat_tests) in from_nil _ _ (rw z refl)
@@ -88,11 +92,11 @@ qr_grows count (cn ∷ function ∷ n ∷ more) c h = either_grows (is_qr_functi
 
 -- Behind the head.
 
-last_grows : (n : Bool) (x : EscItem) (ys : List EscItem) → n ≡ true → IsPrefix (at_last n x) ys
+last_grows : (n : Bool) (x : EscItem) (ys : List EscItem) → n ≡ true → IsFrontOf (at_last n x) ys
 last_grows n x ys e = from_nil _ _ (rw e refl)
 
 behind_grows : (lead : Lead) (name : ℕ) (k : Command) (args : List ℕ) (c : ℕ) → head_len k args ≤ length args → needs_more k args ≡ true
-    → IsPrefix (given_behind lead name k args) (given_behind lead name k (args ++ c ∷ []))
+    → IsFrontOf (given_behind lead name k args) (given_behind lead name k (args ++ c ∷ []))
 unfolding given_behind needs_more
 behind_grows lead name (Plain p) args c h n = absurd (let l : length args < head_len (Plain p) args + 0 = grind (arith, nat_tests) in omega arith)
 behind_grows lead name TabStops args c h n = last_grows _ _ _ n
@@ -137,7 +141,7 @@ given_none lead name Function n = refl
 given_none lead name Graphics n = refl
 
 by_command : (lead : Lead) (name : ℕ) (k : Command) (args : List ℕ) (c : ℕ) → needs_more k args ≡ true
-    → IsPrefix (given_by lead name k args) (given_by lead name k (args ++ c ∷ []))
+    → IsFrontOf (given_by lead name k args) (given_by lead name k (args ++ c ∷ []))
 by_command lead name k [] c n = from_nil _ _ (given_none lead name k n)
 by_command lead name k (a ∷ args) c n = ⊎_elim
     (λ (h : length (a ∷ args) < head_len k (a ∷ args)). let i : IsHead lead name k (a ∷ args) = heads lead name k (a ∷ args) h in from_nil _ _ i.gives)
@@ -146,45 +150,45 @@ by_command lead name k (a ∷ args) c n = ⊎_elim
     rw (given_is lead name k (a ∷ args) h, given_is lead name k (a ∷ args ++ c ∷ []) s) (behind_grows lead name k (a ∷ args) c h n))
     (cases_lt (length (a ∷ args)) (head_len k (a ∷ args)))
 
-by_listed : (l m n : Bool) (xs ys : List EscItem) → (l ≡ true → m ≡ true → n ≡ true → IsPrefix xs ys) → cond l n true ≡ true
-    → (l ≡ false → m ≡ false) → (l ≡ true → m ≡ false → xs ≡ []) → IsPrefix (cond l xs []) (cond m ys [])
+by_listed : (l m n : Bool) (xs ys : List EscItem) → (l ≡ true → m ≡ true → n ≡ true → IsFrontOf xs ys) → cond l n true ≡ true
+    → (l ≡ false → m ≡ false) → (l ≡ true → m ≡ false → xs ≡ []) → IsFrontOf (cond l xs []) (cond m ys [])
 by_listed true true n xs ys p o q z = p refl refl o
 by_listed true false n xs ys p o q z = from_nil xs [] (z refl refl)
 by_listed false m n xs ys p o q z = from_nil [] (cond m ys []) refl
 
 by_named : (lead : Lead) (name : ℕ) (o : Option Command) (args : List ℕ) (c : ℕ) → is_open_named o args ≡ true
-    → IsPrefix (given_named lead name o args) (given_named lead name o (args ++ c ∷ []))
+    → IsFrontOf (given_named lead name o args) (given_named lead name o (args ++ c ∷ []))
 by_named lead name None args c e = ([], refl)
 by_named lead name (Some k) [] c e =
     by_listed true (is_listed k (c ∷ [])) (needs_more k []) _ _ (λ _ _ n. by_command lead name k [] c n) e (λ f. cc) (λ _ _. given_none lead name k e)
 by_named lead name (Some k) (a ∷ args) c e =
     by_listed (is_listed k (a ∷ args)) (is_listed k (a ∷ args)) (needs_more k (a ∷ args)) _ _ (λ _ _ n. by_command lead name k (a ∷ args) c n) e (λ f. f) (λ f g. cc)
 
-by_after : (o : Option Lead) (b : ℕ) (bytes : List ℕ) (c : ℕ) → is_open_after o bytes ≡ true → IsPrefix (given_after o b bytes) (given_after o b (bytes ++ c ∷ []))
+by_after : (o : Option Lead) (b : ℕ) (bytes : List ℕ) (c : ℕ) → is_open_after o bytes ≡ true → IsFrontOf (given_after o b bytes) (given_after o b (bytes ++ c ∷ []))
 by_after None b bytes c e = cc
 by_after (Some lead) b [] c e = from_nil _ _ refl
 by_after (Some lead) b (n ∷ args) c e = by_named lead n (command_of lead n) args c e
 
-given_grows : (front : List ℕ) (c : ℕ) → is_open front ≡ true → IsPrefix (given front) (given (front ++ c ∷ []))
+given_grows : (front : List ℕ) (c : ℕ) → is_open front ≡ true → IsFrontOf (given front) (given (front ++ c ∷ []))
 unfolding is_open given
 given_grows [] c e = from_nil _ _ refl
 given_grows (b ∷ bytes) c e = by_after (lead_of b) b bytes c e
 
-behind : (us xs ys : List EscItem) → IsPrefix xs ys → IsPrefix (us ++ xs) (us ++ ys)
+behind : (us xs ys : List EscItem) → IsFrontOf xs ys → IsFrontOf (us ++ xs) (us ++ ys)
 behind us xs ys p = (p.0, ap (λ z. us ++ z) p.1 ∙ sym (append_assoc us xs p.0))
 
-prefix_trans : (xs ys zs : List EscItem) → IsPrefix xs ys → IsPrefix ys zs → IsPrefix xs zs
+prefix_trans : (xs ys zs : List EscItem) → IsFrontOf xs ys → IsFrontOf ys zs → IsFrontOf xs zs
 prefix_trans xs ys zs p q = (p.0 ++ q.0, q.1 ∙ ap (λ z. z ++ q.0) p.1 ∙ append_assoc xs p.0 q.0)
 
-items_grow : (bytes : List ℕ) (c : ℕ) → IsPrefix (items_of bytes) (items_of (bytes ++ c ∷ []))
+items_grow : (bytes : List ℕ) (c : ℕ) → IsFrontOf (items_of bytes) (items_of (bytes ++ c ∷ []))
 items_grow bytes c =
     let s : Splits bytes (split bytes).units (split bytes).rest = splits bytes in
-    let p : IsPrefix (flat_map given (split bytes).units ++ given (split bytes).rest) (flat_map given (split bytes).units ++ given ((split bytes).rest ++ c ∷ [])) =
+    let p : IsFrontOf (flat_map given (split bytes).units ++ given (split bytes).rest) (flat_map given (split bytes).units ++ given ((split bytes).rest ++ c ∷ [])) =
     behind _ _ _ (given_grows (split bytes).rest c s.end.opens) in
     (p.0, items-push bytes c ∙ p.1 ∙ ap (λ z. z ++ p.0) (sym (items-is bytes)))
 
-pub only_more_lem : (bytes more : List ℕ) → IsPrefix (items_of bytes) (items_of (bytes ++ more))
+pub only_more_lem : (bytes more : List ℕ) → IsFrontOf (items_of bytes) (items_of (bytes ++ more))
 only_more_lem bytes [] = ([], ap items_of (append-nil bytes) ∙ sym (append-nil (items_of bytes)))
 only_more_lem bytes (c ∷ more) =
-    let p : IsPrefix (items_of (bytes ++ c ∷ [])) (items_of ((bytes ++ c ∷ []) ++ more)) = only_more_lem (bytes ++ c ∷ []) more in
+    let p : IsFrontOf (items_of (bytes ++ c ∷ [])) (items_of ((bytes ++ c ∷ []) ++ more)) = only_more_lem (bytes ++ c ∷ []) more in
     prefix_trans _ _ _ (items_grow bytes c) (rw append_assoc at p)

@@ -1,3 +1,4 @@
+pub mod Faults
 pub mod Fronts
 pub mod Splits
 pub mod Divisions
@@ -10,7 +11,12 @@ pub mod Symbols
 pub mod QrData
 pub mod Rests
 pub mod Growth
+pub mod Named
+pub mod Listed
+pub mod QrListed
+pub mod UnitLines
 pub mod Rows
 pub mod Ends
 pub mod OnlyRows
 pub mod Runs
+pub mod Texts

@@ -25,6 +25,3 @@ pub record Splits (bytes : List ℕ) (units : List (List ℕ)) (rest : List ℕ)
   pub spelling : bytes ≡ all_bytes units ++ rest
   pub each : AllByRecursion IsUnit units
   pub end : IsRest rest
-
-abbrev pub IsPrefix : {A : Type 0} → List A → List A → Type 0
-IsPrefix {A} front all = (more : List A) × (all ≡ front ++ more)

@@ -6,4 +6,5 @@ pub mod Units
 pub mod Split
 pub mod Laws
 pub mod Lines
+pub mod Listings
 pub mod Reader

@@ -1,6 +1,6 @@
 -- What a reader holds, beside the bytes that it has taken.
-use Rattle.std.specs.Prelude.{◌≡◌, ℕ, ◌+◌, ◌-◌, ◌*◌, ◌<◌, ◌≤◌, ◌==◌, Bool, true, false, Option, Some, None, Result, Ok, Err, List, [], ◌∷◌, ◌++◌, length, take, drop, map, nat_lt, slice_index, option_to_list, if◌then◌else◌}
-use Rattle.std.specs.List.{list_any}
+use Rattle.std.specs.Prelude.{◌≡◌, ℕ, ◌+◌, ◌-◌, ◌*◌, ◌<◌, ◌≤◌, ◌==◌, Bool, true, false, not, ◌&&◌, ◌||◌, is_none, Option, Some, None, Result, Ok, Err, List, [], ◌∷◌, ◌++◌, length, take, drop, map, nat_lt, slice_index, option_to_list, if◌then◌else◌}
+use Rattle.std.specs.List.{list_any, prefix_len}
 use Rattle.vp_esc.specs.declared.item.EscItem.{EscItem}
 use Rattle.vp_esc.specs.declared.item.EscItem.TheVariants as items
 use Rattle.vp_dots.specs.declared.fault.Fault.{Fault}
@@ -16,8 +16,8 @@ use Rattle.vp_esc.specs.declared.reader.Data.TheVariants as kinds
 use Rattle.vp_esc.specs.declared.reader.Phase.{Phase}
 use Rattle.vp_esc.specs.declared.reader.Phase.TheVariants.{Ground, AfterLead, Arguments, Stops, Bytes, TallColumns, SymbolToZero, SymbolData, Qr, Stopped}
 use Rattle.vp_esc.specs.Values.{is_kind_to_zero, column_mode_of, column_bytes}
-use Rattle.vp_esc.specs.Command.{lead_byte, command_of, head_len, is_listed}
-use Rattle.vp_esc.specs.Units.{is_open, given, fault_in, rises_from, data_len, given_by, word_at, is_counted}
+use Rattle.vp_esc.specs.Command.{lead_of, lead_byte, command_of, head_len, is_listed}
+use Rattle.vp_esc.specs.Units.{is_open, given, fault_in, rises_from, data_len, given_by, word_at, is_counted, single_item}
 use Rattle.vp_esc.specs.Split.{split}
 
 -- the last number, or d
@@ -55,6 +55,19 @@ bytes_within _ = 0
 abbrev pub skipped_within : Phase → ℕ
 skipped_within (Bytes kinds.Skipped left) = left - 1
 skipped_within _ = 0
+
+-- a character, or a control that does nothing: no lead of a command, and no HT, LF, FF or CAN
+abbrev pub is_text : ℕ → Bool
+is_text b = is_none (lead_of b) && not (b == 0x09 || b == 0x0A || b == 0x0C || b == 0x18)
+
+-- what they give
+abbrev pub text_items : List ℕ → List EscItem
+text_items bytes = map (λ b. single_item b) bytes
+
+-- how many of them stand at the front of an input, between commands
+abbrev pub text_front : Phase → List ℕ → ℕ
+text_front Ground input = prefix_len is_text input
+text_front _ input = 0
 
 -- what the bytes of data give, one by one
 abbrev pub data_items : Data → List ℕ → List EscItem

@@ -171,7 +171,8 @@ pub enum EscItem {
     LineSpacing(u8),
     /// ESC @
     Initialize,
-    /// ESC D: the stops, each greater than the one before, and the byte that ended them, if they are fewer than 32.
+    /// ESC D: the stops, each greater than the one before, and the byte that ended them, if they are fewer
+    /// than 32.
     TabStops {
         stops: ArrayVec<u8, 32>,
         end: Option<u8>,
@@ -266,7 +267,8 @@ pub enum EscItem {
     /// GS ( k that is ignored: its bytes from the count on, as far as they were read when that was known.
     QrIgnored(ArrayVec<u8, 6>),
 
-    /// A command that is read without effect: its lead, and its bytes as far as they were read when it was given.
+    /// A command that is read without effect: its lead, and its bytes as far as they were read when it was
+    /// given.
     WithoutEffect {
         lead: Lead,
         bytes: ArrayVec<u8, 6>,

@@ -157,7 +157,8 @@ fn symbol(m: u8, bytes: &[u8]) -> ArrayVec<u8, 800>
 
 /// GS ( k, function 80: the bytes that it counts are three more.
 fn qr_store(count: u16) -> ArrayVec<u8, 800>
-    ensures { result.items ≡ listed_as (codes "gs") (0x28 ∷ 0x6B ∷ (two_bytes (count + 3) ++ 49 ∷ 80 ∷ 48 ∷ [])) }
+    ensures { result.items ≡ listed_as (codes "gs")
+        (0x28 ∷ 0x6B ∷ (two_bytes (count + 3) ++ 49 ∷ 80 ∷ 48 ∷ [])) }
 {
     let p = count as u32 + 3;
     listed(

@@ -33,7 +33,8 @@ pub fn ignored(count: u16, bytes: &[u8]) -> EscItem
 #[tactic(auto, unfolding(crate::specs::Qr::qr_items, crate::specs::Qr::value_items))]
 /// What the byte after these values, which begin with cn, gives.
 pub fn qr_given(count: u16, values: &[u8], byte: u8) -> Option<EscItem>
-    ensures { length values.now < count → qr_items count (values.now ++ byte ∷ []) ≡ qr_items count values.now ++ option_to_list result }
+    ensures { length values.now < count → qr_items count (values.now ++ byte ∷ [])
+        ≡ qr_items count values.now ++ option_to_list result }
 {
     match values {
         [] => if count == 1 {

@@ -1,7 +1,8 @@
 //! The reader: one byte at a time.
-ghost use Rattle.std.specs.Prelude.{◌≡◌, ◌↔◌, ◌∷◌, ◌++◌, [], ℕ, List, IsTrue, false, Some, None, Err, length, take, min, ◌≤◌, ◌<◌, ◌+◌, ◌*◌};
+ghost use Rattle.std.specs.Prelude.{◌≡◌, ◌↔◌, ◌∷◌, ◌++◌, [], ℕ, List, IsTrue, true, false, Some, None, Err, length, take, min, ◌≤◌, ◌<◌, ◌+◌, ◌*◌};
+ghost use Rattle.std.specs.List.{AllByRecursion, prefix_len};
 ghost use Rattle.vp_esc.specs.Split.{split, items, fault_of};
-ghost use Rattle.vp_esc.specs.Reader.{Stands, Gives, Advances, InArguments, InStops, InBytes, InTallColumns, InSymbolToZero, InSymbolData, InQr, Begun, Lands, StandsIn, data_item, bytes_or_ground, tall_or_ground, columns_or_ground, qr_or_ground, raster_data, raster_items, bytes_within, skipped_within};
+ghost use Rattle.vp_esc.specs.Reader.{Stands, Gives, Advances, InArguments, InStops, InBytes, InTallColumns, InSymbolToZero, InSymbolData, InQr, Begun, Lands, StandsIn, data_item, bytes_or_ground, tall_or_ground, columns_or_ground, qr_or_ground, raster_data, raster_items, bytes_within, skipped_within, is_text, text_items, text_front};
 ghost use Rattle.vp_dots.specs.declared.fault.Fault.{Fault};
 ghost use Rattle.vp_esc.specs.Command.{lead_byte, head_len};
 ghost use Rattle.vp_esc.specs.Values.{is_kind_to_zero as is_to_zero};
@@ -424,6 +425,26 @@ impl EscReader {
         }
     }
 
+    /// Takes the text at the front, characters and controls that do nothing, and tells how many bytes it has;
+    /// none inside a command.
+    pub fn take_text(&mut self, input: &[u8]) -> usize
+        ensures count { result ≡ text_front self.old.phase input.now }
+        ensures fits { result ≤ length input.now }
+        ensures text { AllByRecursion (λ b. is_text b ≡ true) (take result input.now) }
+        ensures gives { (bytes : List ℕ) (n : ℕ) → Stands self.old bytes → n ≤ result →
+            items (bytes ++ take n input.now) ≡ items bytes ++ text_items (take n input.now) }
+        ensures known { (bytes : List ℕ) (n : ℕ) → Stands self.old bytes → 0 < n → n ≤ result →
+            fault_of (bytes ++ take n input.now) ≡ None }
+        ensures stands { (bytes : List ℕ) → Stands self.old bytes →
+            Stands self.new (bytes ++ take result input.now) }
+    {
+        if let Phase::Ground = self.phase {
+            text_len(input)
+        } else {
+            0
+        }
+    }
+
     /// Whether the bytes so far end with a whole unit.
     pub fn at_rest(&self) -> bool
         ensures { (bytes : List ℕ) → Stands self.now bytes →
@@ -524,6 +545,20 @@ fn first_stops(kept: &[u8]) -> ArrayVec<u8, 32>
     let mut stops = ArrayVec::new();
     let _fits = stops.try_extend_from_slice(kept);
     stops
+}
+
+/// Whether a byte is a character, or a control that does nothing.
+fn is_text(byte: u8) -> bool
+    ensures { result ≡ is_text byte }
+{
+    Lead::of(byte).is_none() && !matches!(byte, 0x09 | 0x0A | 0x0C | 0x18)
+}
+
+/// How many bytes of text stand at the front.
+fn text_len(input: &[u8]) -> usize
+    ensures { result ≡ prefix_len is_text input.now }
+{
+    input.iter().take_while(|byte| is_text(**byte)).count()
 }
 
 /// The item of a byte that is a command alone.

@@ -1,0 +1,312 @@
+-- The lines of a unit list its bytes.
+use Rattle.std.proofs.Common.{◌≡◌, ℕ, ◌+◌, ◌-◌, ◌*◌, ◌/◌, ◌%◌, ◌<◌, ◌≤◌, Bool, true, false, eqb, cond, Option, Some, None, List, [], ◌∷◌, ◌++◌, length, take, get_or, refl, sym, ap, ◌∙◌, arith, ⊎_elim}
+use Rattle.std.specs.Prelude.{map, codes}
+use Rattle.std.specs.List.{AllByRecursion}
+use Rattle.std.specs.Int.{w16}
+use Rattle.std.proofs.lemmas.Int.{of_z-to_z}
+use Rattle.std.proofs.lemmas.Bool.{eqb-true}
+use Rattle.std.proofs.lemmas.Bool.Decides.{nat_tests}
+use Rattle.std.proofs.lemmas.List.{append-nil, length-append, take_all}
+use Rattle.std.proofs.Math.Seq.{take-append_seam, get_or-append_seam}
+use Rattle.vp_dots.specs.Listing.{listed}
+use Rattle.vp_esc.specs.declared.item.EscItem.{EscItem}
+use Rattle.vp_esc.specs.declared.item.EscItem.TheVariants as items
+use Rattle.vp_esc.specs.declared.item.Lead.{Lead}
+use Rattle.vp_esc.specs.declared.item.Lead.TheVariants.{Esc, Gs}
+use Rattle.vp_esc.specs.declared.item.RasterScale.{RasterScale}
+use Rattle.vp_esc.specs.declared.item.ColumnMode.{ColumnMode}
+use Rattle.vp_esc.specs.declared.item.ColumnMode.TheVariants.{Single8, Double8, Single24, Double24}
+use Rattle.vp_esc.specs.declared.command.Command.TheVariants.{Plain, Columns, Raster, Symbol, Graphics}
+use Rattle.vp_esc.specs.declared.command.Plain.{Plain as PlainCommand}
+use Rattle.vp_esc.specs.declared.command.Plain.TheVariants.{Alone, OfByte, OfWord, Area, Cut, Sensor, RealTime, Unused}
+use Rattle.vp_esc.specs.declared.command.Alone.{Alone as AloneCommand}
+use Rattle.vp_esc.specs.declared.command.Alone.TheVariants as alone
+use Rattle.vp_esc.specs.declared.command.OfByte.{OfByte as OfByteCommand}
+use Rattle.vp_esc.specs.declared.command.OfByte.TheVariants as of_byte
+use Rattle.vp_esc.specs.declared.command.OfWord.{OfWord as OfWordCommand}
+use Rattle.vp_esc.specs.declared.command.OfWord.TheVariants as of_word
+use Rattle.vp_esc.specs.Values.{spelled, is_cut, is_feed_cut, is_column_mode, column_mode_of, column_bytes, scale_of, is_kind_to_zero}
+use Rattle.vp_esc.specs.Units.{needs_more, rises_from, alone_item, of_byte_item, of_word_item, plain_item, stops_item, tall_columns, columns, raster_bytes, symbol_data, symbol_of, given_behind}
+use Rattle.vp_esc.specs.Laws.{all_bytes}
+use Rattle.vp_esc.specs.Lines.{lead_word, two_bytes, column_byte, symbol_bytes, line_of}
+use Rattle.vp_esc.specs.Listings.{may_skip, Lists}
+use Rattle.vp_esc.specs.Table.{IsOne, IsTwo, IsPlain, IsStops, IsColumns, IsRaster, IsToZero, IsCountedSymbol, IsGraphics}
+use Rattle.vp_esc.proofs.Named.{IsNamed}
+
+abbrev pub IsBytes : List ℕ → Type 0
+IsBytes bytes = AllByRecursion (λ b. b < 256) bytes
+
+-- one line
+pub one_line : (lead : Lead) (bytes : List ℕ) (item : EscItem) → line_of item ≡ listed (lead_word lead) bytes → Lists lead bytes (map line_of (item ∷ []))
+one_line lead bytes item e =
+    record {
+      head = bytes;
+      word = [];
+      parts = [];
+      skipped = [];
+      bytes_are = sym (append-nil (bytes ++ []) ∙ append-nil bytes);
+      lines_are = ap (λ l. l ∷ []) e;
+      whole = λ s. refl;
+    }
+
+-- one line of a front
+pub front_line : (lead : Lead) (front rest bytes : List ℕ) (item : EscItem) → bytes ≡ front ++ rest → may_skip lead bytes ≡ true
+    → line_of item ≡ listed (lead_word lead) front → Lists lead bytes (map line_of (item ∷ []))
+front_line lead front rest bytes item b s e =
+    record {
+      head = front;
+      word = [];
+      parts = [];
+      skipped = rest;
+      bytes_are = b ∙ ap (λ (t : List ℕ). t ++ rest) (sym (append-nil front));
+      lines_are = ap (λ l. l ∷ []) e;
+      whole = λ n. let different : true ≡ false = sym s ∙ n in cc;
+    }
+
+-- a line for the head, and one for each part
+pub part_lines : (lead : Lead) (head word bytes : List ℕ) (parts : List (List ℕ)) (item : EscItem) (more : List EscItem) → bytes ≡ head ++ all_bytes parts
+    → line_of item ≡ listed (lead_word lead) head → map line_of more ≡ map (λ part. listed word part) parts
+    → Lists lead bytes (map line_of (item ∷ more))
+part_lines lead head word bytes parts item more b e f =
+    record {
+      head = head;
+      word = word;
+      parts = parts;
+      skipped = [];
+      bytes_are = b ∙ sym (append-nil (head ++ all_bytes parts));
+      lines_are = ap (λ l. l ∷ map line_of more) e ∙ ap (λ ls. listed (lead_word lead) head ∷ ls) f;
+      whole = λ s. refl;
+    }
+
+pub two_is : (l h : ℕ) → l < 256 → h < 256 → two_bytes (l + 256 * h) ≡ l ∷ h ∷ []
+two_is l h p q =
+    let low : (l + 256 * h) % 256 ≡ l = omega arith in
+    let high : (l + 256 * h) / 256 % 256 ≡ h = omega arith in
+    rw (low, high) refl
+
+alone_listed : (lead : Lead) (name : ℕ) (c : AloneCommand) → IsNamed (Plain (Alone c)) lead name → line_of (alone_item c) ≡ listed (lead_word lead) (name ∷ [])
+alone_listed lead name alone.DefaultLineSpacing e = rw (e.0, e.1) refl
+alone_listed lead name alone.Initialize e = rw (e.0, e.1) refl
+alone_listed lead name alone.PageMode e = rw (e.0, e.1) refl
+alone_listed lead name alone.StandardMode e = rw (e.0, e.1) refl
+alone_listed lead name alone.PrintPage e = rw (e.0, e.1) refl
+alone_listed lead name alone.CutLeavingOnePoint e = rw (e.0, e.1) refl
+alone_listed lead name alone.CutLeavingThreePoints e = rw (e.0, e.1) refl
+
+byte_listed : (lead : Lead) (name : ℕ) (c : OfByteCommand) (n : ℕ) → IsNamed (Plain (OfByte c)) lead name → line_of (of_byte_item c n) ≡ listed (lead_word lead) (name ∷ n ∷ [])
+byte_listed lead name of_byte.RightSpacing n e = rw (e.0, e.1) refl
+byte_listed lead name of_byte.PrintMode n e = rw (e.0, e.1) refl
+byte_listed lead name of_byte.Underline n e = rw (e.0, e.1) refl
+byte_listed lead name of_byte.LineSpacing n e = rw (e.0, e.1) refl
+byte_listed lead name of_byte.Emphasized n e = rw (e.0, e.1) refl
+byte_listed lead name of_byte.DoubleStrike n e = rw (e.0, e.1) refl
+byte_listed lead name of_byte.FeedDots n e = rw (e.0, e.1) refl
+byte_listed lead name of_byte.FeedLines n e = rw (e.0, e.1) refl
+byte_listed lead name of_byte.Font n e = rw (e.0, e.1) refl
+byte_listed lead name of_byte.Direction n e = rw (e.0, e.1) refl
+byte_listed lead name of_byte.Justify n e = rw (e.0, e.1) refl
+byte_listed lead name of_byte.Magnify n e = rw (e.0, e.1) refl
+byte_listed lead name of_byte.Inverse n e = rw (e.0, e.1) refl
+byte_listed lead name of_byte.BarTextPlace n e = rw (e.0, e.1) refl
+byte_listed lead name of_byte.BarTextFont n e = rw (e.0, e.1) refl
+byte_listed lead name of_byte.BarHeight n e = rw (e.0, e.1) refl
+byte_listed lead name of_byte.BarModule n e = rw (e.0, e.1) refl
+
+word_listed : (lead : Lead) (name : ℕ) (c : OfWordCommand) (n : ℕ) → n < 65536 → IsNamed (Plain (OfWord c)) lead name
+    → line_of (of_word_item c n) ≡ listed (lead_word lead) (name ∷ two_bytes n)
+word_listed lead name of_word.Position n l e = rw (e.0, e.1) refl
+word_listed lead name of_word.MovePosition n l e = ap (λ m. listed (codes "esc") (0x5C ∷ two_bytes m)) (of_z-to_z w16 n l) ∙ rw (e.0, e.1) refl
+word_listed lead name of_word.VerticalPosition n l e = rw (e.0, e.1) refl
+word_listed lead name of_word.MoveVerticalPosition n l e = ap (λ m. listed (codes "gs") (0x5C ∷ two_bytes m)) (of_z-to_z w16 n l) ∙ rw (e.0, e.1) refl
+word_listed lead name of_word.LeftMargin n l e = rw (e.0, e.1) refl
+word_listed lead name of_word.AreaWidth n l e = rw (e.0, e.1) refl
+
+cut_only : (m : ℕ) → is_cut m ≡ true → is_feed_cut m ≡ false
+cut_only m e = grind (arith, nat_tests)
+
+area_listed : (lead : Lead) (name : ℕ) (a b c d e f g h : ℕ) → IsNamed (Plain Area) lead name → IsBytes (a ∷ b ∷ c ∷ d ∷ e ∷ f ∷ g ∷ h ∷ [])
+    → line_of (plain_item lead name Area (a ∷ b ∷ c ∷ d ∷ e ∷ f ∷ g ∷ h ∷ [])) ≡ listed (lead_word lead) (name ∷ a ∷ b ∷ c ∷ d ∷ e ∷ f ∷ g ∷ h ∷ [])
+area_listed lead name a b c d e f g h i p =
+    rw (i.0, i.1) (
+    let x = two_is a b p.0 p.1.0 in
+    let y = two_is c d p.1.1.0 p.1.1.1.0 in
+    let w = two_is e f p.1.1.1.1.0 p.1.1.1.1.1.0 in
+    let z = two_is g h p.1.1.1.1.1.1.0 p.1.1.1.1.1.1.1.0 in
+    ap (λ (t : List ℕ). listed (codes "esc") (0x57 ∷ (t ++ two_bytes (c + 256 * d) ++ two_bytes (e + 256 * f) ++ two_bytes (g + 256 * h)))) x
+    ∙ ap (λ (t : List ℕ). listed (codes "esc") (0x57 ∷ (a ∷ b ∷ [] ++ t ++ two_bytes (e + 256 * f) ++ two_bytes (g + 256 * h)))) y
+    ∙ ap (λ (t : List ℕ). listed (codes "esc") (0x57 ∷ (a ∷ b ∷ c ∷ d ∷ [] ++ t ++ two_bytes (g + 256 * h)))) w
+    ∙ ap (λ (t : List ℕ). listed (codes "esc") (0x57 ∷ (a ∷ b ∷ c ∷ d ∷ e ∷ f ∷ [] ++ t))) z)
+
+pub plain_listed : (lead : Lead) (name : ℕ) (p : PlainCommand) (args : List ℕ) → IsNamed (Plain p) lead name → IsPlain p args → IsBytes args
+    → line_of (plain_item lead name p args) ≡ listed (lead_word lead) (name ∷ args)
+plain_listed lead name (Alone c) args i h b = alone_listed lead name c i ∙ ap (λ (t : List ℕ). listed (lead_word lead) (name ∷ t)) (sym h)
+plain_listed lead name (OfByte c) [] i h b = absurd (omega arith)
+plain_listed lead name (OfByte c) (n ∷ []) i h b = byte_listed lead name c n i
+plain_listed lead name (OfByte c) (n ∷ m ∷ args) i h b = absurd (omega arith)
+plain_listed lead name (OfWord c) [] i h b = absurd (omega arith)
+plain_listed lead name (OfWord c) (l ∷ []) i h b = absurd (omega arith)
+plain_listed lead name (OfWord c) (l ∷ k ∷ []) i h b =
+    let p : l < 256 = b.0 in
+    let q : k < 256 = b.1.0 in
+    word_listed lead name c (l + 256 * k) (omega arith) i ∙ ap (λ (t : List ℕ). listed (lead_word lead) (name ∷ t)) (two_is l k p q)
+plain_listed lead name (OfWord c) (l ∷ k ∷ n ∷ args) i h b = absurd (omega arith)
+plain_listed lead name Area args i h b =
+    rw h.bytes (area_listed lead name h.xl h.xh h.yl h.yh h.dxl h.dxh h.dyl h.dyh i (rw h.bytes at b))
+plain_listed lead name Cut args i h b = ⊎_elim
+    (λ (o : IsOne args (λ m. is_cut m ≡ true)). rw (o.bytes, i.0, i.1) (rw (cut_only o.first o.is) refl))
+    (λ (o : IsTwo args (λ m. is_feed_cut m ≡ true)). rw (o.bytes, i.0, i.1) (rw o.is refl))
+    h
+plain_listed lead name Sensor args i h b = refl
+plain_listed lead name RealTime args i h b = refl
+plain_listed lead name (Unused count) args i h b = refl
+
+-- the stops, and the byte that ended them
+pub stops_listed : (args : List ℕ) → IsStops args → line_of (stops_item args) ≡ listed (lead_word Esc) (0x44 ∷ args)
+stops_listed args h = by_rise (rises_from 0 args) refl
+  where
+    whole : take (length args - 1) args ++ get_or args (length args - 1) 0 ∷ [] ≡ args
+    whole =
+        let count : length (h.stops ++ h.last ∷ []) - 1 ≡ length h.stops = omega (arith, length-append h.stops (h.last ∷ [])) in
+        rw (h.bytes, count, take-append_seam h.stops (h.last ∷ []), get_or-append_seam h.stops h.last [] 0) refl
+
+    by_rise : (r : Bool) → rises_from 0 args ≡ r → line_of (stops_item args) ≡ listed (lead_word Esc) (0x44 ∷ args)
+    by_rise true e = rw e (ap (λ (t : List ℕ). listed (codes "esc") (0x44 ∷ t)) (append-nil args))
+    by_rise false e = rw e (ap (λ (t : List ℕ). listed (codes "esc") (0x44 ∷ t)) whole)
+
+-- each byte in a line
+pub singles : List ℕ → List (List ℕ)
+singles bytes = map (λ b. b ∷ []) bytes
+
+pub all_singles : (bytes : List ℕ) → all_bytes (singles bytes) ≡ bytes
+unfolding singles
+all_singles [] = refl
+all_singles (b ∷ bytes) = ap (λ (t : List ℕ). b ∷ t) (all_singles bytes)
+
+column_lines : (bytes : List ℕ) → map line_of (map (λ b. items.Column8 b) bytes) ≡ map (λ part. listed (codes "column") part) (singles bytes)
+unfolding singles
+column_lines [] = refl
+column_lines (b ∷ bytes) = ap (λ ls. listed (codes "column") (b ∷ []) ∷ ls) (column_lines bytes)
+
+pub raster_lines : (bytes : List ℕ) → map line_of (map (λ b. items.RasterByte b) bytes) ≡ map (λ part. listed (codes "byte") part) (singles bytes)
+unfolding singles
+raster_lines [] = refl
+raster_lines (b ∷ bytes) = ap (λ ls. listed (codes "byte") (b ∷ []) ∷ ls) (raster_lines bytes)
+
+pub stored_lines : (bytes : List ℕ) → map line_of (map (λ b. items.QrByte b) bytes) ≡ map (λ part. listed (codes "byte") part) (singles bytes)
+unfolding singles
+stored_lines [] = refl
+stored_lines (b ∷ bytes) = ap (λ ls. listed (codes "byte") (b ∷ []) ∷ ls) (stored_lines bytes)
+
+-- each three bytes in a line
+triples : List ℕ → List (List ℕ)
+triples (a ∷ b ∷ c ∷ bytes) = (a ∷ b ∷ c ∷ []) ∷ triples bytes
+triples _ = []
+
+all_triples : (bytes : List ℕ) (n : ℕ) → length bytes ≡ 3 * n → all_bytes (triples bytes) ≡ bytes
+unfolding triples
+all_triples [] n e = refl
+all_triples (a ∷ []) n e = absurd (omega arith)
+all_triples (a ∷ b ∷ []) n e = absurd (omega arith)
+all_triples (a ∷ b ∷ c ∷ bytes) n e = ap (λ (t : List ℕ). a ∷ b ∷ c ∷ t) (all_triples bytes (n - 1) (omega arith))
+
+triple_lines : (bytes : List ℕ) → map line_of (tall_columns bytes) ≡ map (λ part. listed (codes "column") part) (triples bytes)
+unfolding triples
+triple_lines [] = refl
+triple_lines (a ∷ []) = refl
+triple_lines (a ∷ b ∷ []) = refl
+triple_lines (a ∷ b ∷ c ∷ bytes) = ap (λ ls. listed (codes "column") (a ∷ b ∷ c ∷ []) ∷ ls) (triple_lines bytes)
+
+record InParts (bytes : List ℕ) (lines : List (List ℕ)) (word : List ℕ) : Type 0 where
+  parts : List (List ℕ)
+  bytes_are : bytes ≡ all_bytes parts
+  lines_are : lines ≡ map (λ part. listed word part) parts
+
+columns_listed : (mode : ColumnMode) (bytes : List ℕ) (n : ℕ) → length bytes ≡ column_bytes mode * n → InParts bytes (map line_of (columns mode bytes)) (codes "column")
+columns_listed Single8 bytes n e = record { parts = singles bytes; bytes_are = sym (all_singles bytes); lines_are = column_lines bytes }
+columns_listed Double8 bytes n e = record { parts = singles bytes; bytes_are = sym (all_singles bytes); lines_are = column_lines bytes }
+columns_listed Single24 bytes n e = record { parts = triples bytes; bytes_are = sym (all_triples bytes n e); lines_are = triple_lines bytes }
+columns_listed Double24 bytes n e = record { parts = triples bytes; bytes_are = sym (all_triples bytes n e); lines_are = triple_lines bytes }
+
+mode_byte : (m : ℕ) → is_column_mode m ≡ true → column_byte (column_mode_of m) ≡ m
+mode_byte m e = by_tests (eqb m 0) (eqb m 1) (eqb m 32) (eqb m 33) refl refl refl refl
+  where
+    by_tests : (a b c d : Bool) → eqb m 0 ≡ a → eqb m 1 ≡ b → eqb m 32 ≡ c → eqb m 33 ≡ d → column_byte (column_mode_of m) ≡ m
+    by_tests true b c d p q r s = rw p (sym (eqb-true m 0 p))
+    by_tests false true c d p q r s = rw (p, q) (sym (eqb-true m 1 q))
+    by_tests false false true d p q r s = rw (p, q, r) (sym (eqb-true m 32 r))
+    by_tests false false false true p q r s = rw (p, q, r) (sym (eqb-true m 33 s))
+    by_tests false false false false p q r s = let no : false ≡ true = rw (p, q, r, s) at e in cc
+
+column_head : (m l h : ℕ) → is_column_mode m ≡ true → l < 256 → h < 256 → line_of (items.Columns (column_mode_of m) (l + 256 * h)) ≡ listed (codes "esc") (0x2A ∷ m ∷ l ∷ h ∷ [])
+column_head m l h e p q =
+    ap (λ b. listed (codes "esc") (0x2A ∷ b ∷ two_bytes (l + 256 * h))) (mode_byte m e) ∙ ap (λ (t : List ℕ). listed (codes "esc") (0x2A ∷ m ∷ t)) (two_is l h p q)
+
+pub columns_list : (args : List ℕ) → IsColumns args → IsBytes args → Lists Esc (0x2A ∷ args) (map line_of (given_behind Esc 0x2A Columns args))
+unfolding given_behind
+columns_list args h b =
+    let bytes : IsBytes (h.m ∷ h.nl ∷ h.nh ∷ h.columns) = rw h.bytes at b in
+    let parts = columns_listed (column_mode_of h.m) h.columns (h.nl + 256 * h.nh) h.count in
+    rw h.bytes (part_lines Esc (0x2A ∷ h.m ∷ h.nl ∷ h.nh ∷ []) (codes "column") (0x2A ∷ h.m ∷ h.nl ∷ h.nh ∷ h.columns) parts.parts
+    (items.Columns (column_mode_of h.m) (h.nl + 256 * h.nh)) (columns (column_mode_of h.m) h.columns)
+    (ap (λ (t : List ℕ). 0x2A ∷ h.m ∷ h.nl ∷ h.nh ∷ t) parts.bytes_are) (column_head h.m h.nl h.nh h.is_mode bytes.1.0 bytes.1.1.0) parts.lines_are)
+
+raster_head : (m xl xh yl yh : ℕ) → xl < 256 → xh < 256 → yl < 256 → yh < 256
+    → line_of (items.Raster (spelled m (scale_of m)) (xl + 256 * xh) (yl + 256 * yh)) ≡ listed (codes "gs") (0x76 ∷ 0x30 ∷ m ∷ xl ∷ xh ∷ yl ∷ yh ∷ [])
+raster_head m xl xh yl yh a b c d =
+    ap (λ (t : List ℕ). listed (codes "gs") (0x76 ∷ 0x30 ∷ m ∷ (t ++ two_bytes (yl + 256 * yh)))) (two_is xl xh a b)
+    ∙ ap (λ (t : List ℕ). listed (codes "gs") (0x76 ∷ 0x30 ∷ m ∷ xl ∷ xh ∷ t)) (two_is yl yh c d)
+
+by_scale : (head dots : List ℕ) (m w n : ℕ) (scale : Option RasterScale) → may_skip Gs (head ++ dots) ≡ true
+    → line_of (items.Raster (spelled m scale) w n) ≡ listed (codes "gs") head
+    → Lists Gs (head ++ dots) (map line_of (items.Raster (spelled m scale) w n ∷ raster_bytes scale dots))
+by_scale head dots m w n None s e = front_line Gs head dots (head ++ dots) (items.Raster (spelled m None) w n) refl s e
+by_scale head dots m w n (Some scale) s e =
+    part_lines Gs head (codes "byte") (head ++ dots) (singles dots) (items.Raster (spelled m (Some scale)) w n) (map (λ b. items.RasterByte b) dots)
+    (ap (λ (t : List ℕ). head ++ t) (sym (all_singles dots))) e (raster_lines dots)
+
+pub raster_list : (args : List ℕ) → IsRaster args → IsBytes args → Lists Gs (0x76 ∷ args) (map line_of (given_behind Gs 0x76 Raster args))
+unfolding given_behind
+raster_list args h b =
+    let bytes : IsBytes (0x30 ∷ h.m ∷ h.xl ∷ h.xh ∷ h.yl ∷ h.yh ∷ h.dots) = rw h.bytes at b in
+    rw h.bytes (by_scale (0x76 ∷ 0x30 ∷ h.m ∷ h.xl ∷ h.xh ∷ h.yl ∷ h.yh ∷ []) h.dots h.m (h.xl + 256 * h.xh) (h.yl + 256 * h.yh) (scale_of h.m) refl
+    (raster_head h.m h.xl h.xh h.yl h.yh bytes.1.1.0 bytes.1.1.1.0 bytes.1.1.1.1.0 bytes.1.1.1.1.1.0))
+
+pub graphics_list : (args : List ℕ) → IsGraphics args → Lists Gs (0x38 ∷ args) (map line_of (given_behind Gs 0x38 Graphics args))
+unfolding given_behind
+graphics_list args h =
+    rw h.bytes (front_line Gs (0x38 ∷ 0x4C ∷ h.p1 ∷ h.p2 ∷ h.p3 ∷ h.p4 ∷ []) h.parameters (0x38 ∷ 0x4C ∷ h.p1 ∷ h.p2 ∷ h.p3 ∷ h.p4 ∷ h.parameters)
+    (items.WithoutEffect Gs (record { items = 0x38 ∷ 0x4C ∷ h.p1 ∷ h.p2 ∷ h.p3 ∷ h.p4 ∷ [] })) refl refl refl)
+
+-- up to 255 bytes of data are kept
+symbol_line : (kind : ℕ) (bytes : List ℕ) → length bytes ≤ 255 → line_of (symbol_of kind bytes) ≡ listed (codes "gs") (symbol_bytes kind bytes)
+symbol_line kind bytes l = ap (λ (t : List ℕ). listed (codes "gs") (symbol_bytes kind t)) (take_all 255 bytes l)
+
+-- the item of these arguments
+symbol_item : (args cs : List ℕ) (kind : ℕ) → get_or args 0 0 ≡ kind → symbol_data args ≡ cs → length cs ≤ 255 → needs_more Symbol args ≡ false
+    → symbol_bytes kind cs ≡ 0x6B ∷ args → Lists Gs (0x6B ∷ args) (map line_of (given_behind Gs 0x6B Symbol args))
+unfolding given_behind
+symbol_item args cs kind k d l n b =
+    let line : line_of (symbol_of (get_or args 0 0) (symbol_data args)) ≡ listed (codes "gs") (0x6B ∷ args) =
+    ap (λ m. line_of (symbol_of m (symbol_data args))) k ∙ ap (λ (t : List ℕ). line_of (symbol_of kind t)) d
+    ∙ symbol_line kind cs l ∙ ap (λ (t : List ℕ). listed (codes "gs") t) b in
+    rw n (one_line Gs (0x6B ∷ args) (symbol_of (get_or args 0 0) (symbol_data args)) line)
+
+pub to_zero_list : (args : List ℕ) → IsToZero args → length args ≤ 257 → needs_more Symbol args ≡ false → Lists Gs (0x6B ∷ args) (map line_of (given_behind Gs 0x6B Symbol args))
+to_zero_list args h l n =
+    let count : length args ≡ length h.codes + 2 = ap length h.bytes ∙ omega (arith, length-append h.codes (0 ∷ [])) in
+    symbol_item args h.codes h.kind (ap (λ (t : List ℕ). get_or t 0 0) h.bytes) (between h.kind h.codes args h.bytes h.is_kind) (omega arith) n
+    (ap (λ b. cond b (0x6B ∷ h.kind ∷ (h.codes ++ 0 ∷ [])) (0x6B ∷ h.kind ∷ length h.codes % 256 ∷ h.codes)) h.is_kind ∙ ap (λ (t : List ℕ). 0x6B ∷ t) (sym h.bytes))
+  where
+    between : (kind : ℕ) (cs args : List ℕ) → args ≡ kind ∷ (cs ++ 0 ∷ []) → is_kind_to_zero kind ≡ true → symbol_data args ≡ cs
+    between kind cs args e k =
+        let count : length (kind ∷ (cs ++ 0 ∷ [])) - 2 ≡ length cs = omega (arith, length-append cs (0 ∷ [])) in
+        rw e (rw k (rw count (take-append_seam cs (0 ∷ []))))
+
+pub counted_list : (args : List ℕ) → IsCountedSymbol args → IsBytes args → needs_more Symbol args ≡ false → Lists Gs (0x6B ∷ args) (map line_of (given_behind Gs 0x6B Symbol args))
+counted_list args h b n =
+    let bytes : IsBytes (h.kind ∷ length h.codes ∷ h.codes) = rw h.bytes at b in
+    let small : length h.codes < 256 = bytes.1.0 in
+    let low : length h.codes % 256 ≡ length h.codes = omega arith in
+    symbol_item args h.codes h.kind (ap (λ (t : List ℕ). get_or t 0 0) h.bytes) (rw h.bytes (rw h.not_to_zero refl)) (omega arith) n
+    (ap (λ t. cond t (0x6B ∷ h.kind ∷ (h.codes ++ 0 ∷ [])) (0x6B ∷ h.kind ∷ length h.codes % 256 ∷ h.codes)) h.not_to_zero
+    ∙ ap (λ m. 0x6B ∷ h.kind ∷ m ∷ h.codes) low ∙ ap (λ (t : List ℕ). 0x6B ∷ t) (sym h.bytes))

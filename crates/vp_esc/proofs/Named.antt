@@ -1,0 +1,157 @@
+-- The first two bytes of a command, by the command.
+use Rattle.std.proofs.Common.{◌≡◌, ℕ, Bool, true, false, eqb, ◌||◌, cond, Option, Some, None, refl, sym, subst}
+use Rattle.std.proofs.lemmas.Bool.{eqb-true}
+use Rattle.vp_esc.specs.declared.item.Lead.{Lead}
+use Rattle.vp_esc.specs.declared.item.Lead.TheVariants.{Esc, Gs, Fs, Dle}
+use Rattle.vp_esc.specs.declared.command.Command.{Command}
+use Rattle.vp_esc.specs.declared.command.Command.TheVariants.{Plain, TabStops, Columns, Raster, Symbol, Function, Graphics}
+use Rattle.vp_esc.specs.declared.command.Plain.TheVariants.{Alone, OfByte, OfWord, Area, Cut, Sensor, RealTime, Unused}
+use Rattle.vp_esc.specs.declared.command.Alone.TheVariants as alone
+use Rattle.vp_esc.specs.declared.command.OfByte.TheVariants as of_byte
+use Rattle.vp_esc.specs.declared.command.OfWord.TheVariants as of_word
+use Rattle.vp_esc.specs.declared.command.Arguments.TheVariants as arguments
+use Rattle.vp_esc.specs.Command.{esc_command, gs_command, fs_command, dle_command, command_of}
+
+-- this lead and this byte
+abbrev pub Is : Lead → ℕ → Lead → ℕ → Type 0
+Is l n lead name = (lead ≡ l) × (name ≡ n)
+
+-- the lead and the byte behind it of the commands with an effect
+abbrev pub IsNamed : Command → Lead → ℕ → Type 0
+IsNamed (Plain (Alone alone.PrintPage)) = Is Esc 0x0C
+IsNamed (Plain (Alone alone.DefaultLineSpacing)) = Is Esc 0x32
+IsNamed (Plain (Alone alone.Initialize)) = Is Esc 0x40
+IsNamed (Plain (Alone alone.PageMode)) = Is Esc 0x4C
+IsNamed (Plain (Alone alone.StandardMode)) = Is Esc 0x53
+IsNamed (Plain (Alone alone.CutLeavingOnePoint)) = Is Esc 0x69
+IsNamed (Plain (Alone alone.CutLeavingThreePoints)) = Is Esc 0x6D
+IsNamed (Plain (OfByte of_byte.RightSpacing)) = Is Esc 0x20
+IsNamed (Plain (OfByte of_byte.PrintMode)) = Is Esc 0x21
+IsNamed (Plain (OfByte of_byte.Underline)) = Is Esc 0x2D
+IsNamed (Plain (OfByte of_byte.LineSpacing)) = Is Esc 0x33
+IsNamed (Plain (OfByte of_byte.Emphasized)) = Is Esc 0x45
+IsNamed (Plain (OfByte of_byte.DoubleStrike)) = Is Esc 0x47
+IsNamed (Plain (OfByte of_byte.FeedDots)) = Is Esc 0x4A
+IsNamed (Plain (OfByte of_byte.Font)) = Is Esc 0x4D
+IsNamed (Plain (OfByte of_byte.Direction)) = Is Esc 0x54
+IsNamed (Plain (OfByte of_byte.Justify)) = Is Esc 0x61
+IsNamed (Plain (OfByte of_byte.FeedLines)) = Is Esc 0x64
+IsNamed (Plain (OfByte of_byte.Magnify)) = Is Gs 0x21
+IsNamed (Plain (OfByte of_byte.Inverse)) = Is Gs 0x42
+IsNamed (Plain (OfByte of_byte.BarTextPlace)) = Is Gs 0x48
+IsNamed (Plain (OfByte of_byte.BarTextFont)) = Is Gs 0x66
+IsNamed (Plain (OfByte of_byte.BarHeight)) = Is Gs 0x68
+IsNamed (Plain (OfByte of_byte.BarModule)) = Is Gs 0x77
+IsNamed (Plain (OfWord of_word.Position)) = Is Esc 0x24
+IsNamed (Plain (OfWord of_word.MovePosition)) = Is Esc 0x5C
+IsNamed (Plain (OfWord of_word.VerticalPosition)) = Is Gs 0x24
+IsNamed (Plain (OfWord of_word.MoveVerticalPosition)) = Is Gs 0x5C
+IsNamed (Plain (OfWord of_word.LeftMargin)) = Is Gs 0x4C
+IsNamed (Plain (OfWord of_word.AreaWidth)) = Is Gs 0x57
+IsNamed (Plain Area) = Is Esc 0x57
+IsNamed (Plain Cut) = Is Gs 0x56
+IsNamed (Plain _) = λ lead name. Unit {0}
+IsNamed TabStops = Is Esc 0x44
+IsNamed Columns = Is Esc 0x2A
+IsNamed Raster = Is Gs 0x76
+IsNamed Symbol = Is Gs 0x6B
+IsNamed Function = Is Gs 0x28
+IsNamed Graphics = Is Gs 0x38
+
+-- a test of the name, and what holds where it fails
+pick : (lead : Lead) (b n : ℕ) (k x : Command) (rest : Option Command) → IsNamed x lead n → (rest ≡ Some k → IsNamed k lead b)
+    → cond (eqb b n) (Some x) rest ≡ Some k → IsNamed k lead b
+pick lead b n k x rest here other e = by_test (eqb b n) refl e
+  where
+    by_test : (t : Bool) → eqb b n ≡ t → cond t (Some x) rest ≡ Some k → IsNamed k lead b
+    by_test true a f =
+        let at : n ≡ b = sym (eqb-true b n a) in
+        let is : x ≡ k = cc in
+        let P : ℕ → Type 0 = λ m. IsNamed k lead m in
+        let Q : Command → Type 0 = λ c. IsNamed c lead n in
+        subst P at (subst Q is here)
+    by_test false a f = other f
+
+none : {P : Type 0} {k : Command} → ◌≡◌ {A = Option Command} None (Some k) → P
+none e = cc
+
+-- the same for a test of several names of commands without effect
+pass : (lead : Lead) (b : ℕ) (k x : Command) (t : Bool) (rest : Option Command) → IsNamed x lead b → (rest ≡ Some k → IsNamed k lead b)
+    → cond t (Some x) rest ≡ Some k → IsNamed k lead b
+pass lead b k x true rest here other e =
+    let is : x ≡ k = cc in
+    let Q : Command → Type 0 = λ c. IsNamed c lead b in
+    subst Q is here
+pass lead b k x false rest here other e = other e
+
+esc_command_named : (b : ℕ) (k : Command) → esc_command b ≡ Some k → IsNamed k Esc b
+esc_command_named b k e =
+    pick Esc b 0x0C k (Plain (Alone alone.PrintPage)) _ (refl, refl) (
+    pick Esc b 0x20 k (Plain (OfByte of_byte.RightSpacing)) _ (refl, refl) (
+    pick Esc b 0x21 k (Plain (OfByte of_byte.PrintMode)) _ (refl, refl) (
+    pick Esc b 0x24 k (Plain (OfWord of_word.Position)) _ (refl, refl) (
+    pick Esc b 0x2A k Columns _ (refl, refl) (
+    pick Esc b 0x2D k (Plain (OfByte of_byte.Underline)) _ (refl, refl) (
+    pick Esc b 0x32 k (Plain (Alone alone.DefaultLineSpacing)) _ (refl, refl) (
+    pick Esc b 0x33 k (Plain (OfByte of_byte.LineSpacing)) _ (refl, refl) (
+    pick Esc b 0x40 k (Plain (Alone alone.Initialize)) _ (refl, refl) (
+    pick Esc b 0x44 k TabStops _ (refl, refl) (
+    pick Esc b 0x45 k (Plain (OfByte of_byte.Emphasized)) _ (refl, refl) (
+    pick Esc b 0x47 k (Plain (OfByte of_byte.DoubleStrike)) _ (refl, refl) (
+    pick Esc b 0x4A k (Plain (OfByte of_byte.FeedDots)) _ (refl, refl) (
+    pick Esc b 0x4C k (Plain (Alone alone.PageMode)) _ (refl, refl) (
+    pick Esc b 0x4D k (Plain (OfByte of_byte.Font)) _ (refl, refl) (
+    pick Esc b 0x53 k (Plain (Alone alone.StandardMode)) _ (refl, refl) (
+    pick Esc b 0x54 k (Plain (OfByte of_byte.Direction)) _ (refl, refl) (
+    pick Esc b 0x57 k (Plain Area) _ (refl, refl) (
+    pick Esc b 0x5C k (Plain (OfWord of_word.MovePosition)) _ (refl, refl) (
+    pick Esc b 0x61 k (Plain (OfByte of_byte.Justify)) _ (refl, refl) (
+    pass Esc b k (Plain Sensor) (eqb b 0x63) _ tt (
+    pick Esc b 0x64 k (Plain (OfByte of_byte.FeedLines)) _ (refl, refl) (
+    pick Esc b 0x69 k (Plain (Alone alone.CutLeavingOnePoint)) _ (refl, refl) (
+    pick Esc b 0x6D k (Plain (Alone alone.CutLeavingThreePoints)) _ (refl, refl) (
+    pass Esc b k (Plain (Unused arguments.Three)) (eqb b 0x70) _ tt (
+    pass Esc b k (Plain (Unused arguments.One)) (eqb b 0x25 || eqb b 0x3D || eqb b 0x3F || eqb b 0x52 || eqb b 0x55 || eqb b 0x56 || eqb b 0x72 || eqb b 0x74 || eqb b 0x7B) _ tt (
+    λ f. none f)))))))))))))))))))))))))) e
+
+gs_command_named : (b : ℕ) (k : Command) → gs_command b ≡ Some k → IsNamed k Gs b
+gs_command_named b k e =
+    pick Gs b 0x21 k (Plain (OfByte of_byte.Magnify)) _ (refl, refl) (
+    pick Gs b 0x24 k (Plain (OfWord of_word.VerticalPosition)) _ (refl, refl) (
+    pick Gs b 0x28 k Function _ (refl, refl) (
+    pick Gs b 0x38 k Graphics _ (refl, refl) (
+    pick Gs b 0x42 k (Plain (OfByte of_byte.Inverse)) _ (refl, refl) (
+    pick Gs b 0x48 k (Plain (OfByte of_byte.BarTextPlace)) _ (refl, refl) (
+    pick Gs b 0x4C k (Plain (OfWord of_word.LeftMargin)) _ (refl, refl) (
+    pass Gs b k (Plain (Unused arguments.Two)) (eqb b 0x50) _ tt (
+    pick Gs b 0x56 k (Plain Cut) _ (refl, refl) (
+    pick Gs b 0x57 k (Plain (OfWord of_word.AreaWidth)) _ (refl, refl) (
+    pick Gs b 0x5C k (Plain (OfWord of_word.MoveVerticalPosition)) _ (refl, refl) (
+    pick Gs b 0x66 k (Plain (OfByte of_byte.BarTextFont)) _ (refl, refl) (
+    pick Gs b 0x68 k (Plain (OfByte of_byte.BarHeight)) _ (refl, refl) (
+    pick Gs b 0x6B k Symbol _ (refl, refl) (
+    pick Gs b 0x76 k Raster _ (refl, refl) (
+    pick Gs b 0x77 k (Plain (OfByte of_byte.BarModule)) _ (refl, refl) (
+    pass Gs b k (Plain (Unused arguments.One)) (eqb b 0x49 || eqb b 0x61 || eqb b 0x62 || eqb b 0x72) _ tt (
+    λ f. none f))))))))))))))))) e
+
+fs_command_named : (b : ℕ) (k : Command) → fs_command b ≡ Some k → IsNamed k Fs b
+fs_command_named b k e =
+    pass Fs b k (Plain (Unused arguments.None)) (eqb b 0x26 || eqb b 0x2E) _ tt (
+    pass Fs b k (Plain (Unused arguments.One)) (eqb b 0x21 || eqb b 0x2D || eqb b 0x43 || eqb b 0x57) _ tt (
+    pass Fs b k (Plain (Unused arguments.Two)) (eqb b 0x53 || eqb b 0x70) _ tt (
+    λ f. none f))) e
+
+dle_command_named : (b : ℕ) (k : Command) → dle_command b ≡ Some k → IsNamed k Dle b
+dle_command_named b k e =
+    pass Dle b k (Plain RealTime) (eqb b 0x04) _ tt (
+    pass Dle b k (Plain (Unused arguments.One)) (eqb b 0x05) _ tt (
+    λ f. none f)) e
+
+-- each command is named so
+pub named_so : (lead : Lead) (name : ℕ) (k : Command) → command_of lead name ≡ Some k → IsNamed k lead name
+unfolding command_of
+named_so Esc b k e = esc_command_named b k e
+named_so Gs b k e = gs_command_named b k e
+named_so Fs b k e = fs_command_named b k e
+named_so Dle b k e = dle_command_named b k e

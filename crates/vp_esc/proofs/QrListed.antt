@@ -1,0 +1,207 @@
+-- The lines of GS ( list its bytes.
+use Rattle.std.proofs.Common.{◌≡◌, ℕ, ◌+◌, ◌-◌, ◌*◌, ◌/◌, ◌%◌, ◌<◌, ◌≤◌, Bool, true, false, ◌&&◌, eqb, leb, cond, Option, Some, None, List, [], ◌∷◌, ◌++◌, length, refl, sym, ap, ◌∙◌, subst, arith}
+use Rattle.std.specs.Prelude.{map, codes}
+use Rattle.std.proofs.lemmas.Bool.{and_parts, eqb-true}
+use Rattle.std.proofs.lemmas.Bool.Decides.{nat_tests}
+use Rattle.vp_dots.specs.Listing.{listed}
+use Rattle.vp_esc.specs.declared.item.EscItem.{EscItem}
+use Rattle.vp_esc.specs.declared.item.EscItem.TheVariants as items
+use Rattle.vp_esc.specs.declared.item.Lead.TheVariants.{Gs}
+use Rattle.vp_esc.specs.declared.item.QrModel.{QrModel}
+use Rattle.vp_esc.specs.declared.item.QrModel.TheVariants as models
+use Rattle.vp_esc.specs.declared.item.QrLevel.{QrLevel}
+use Rattle.vp_esc.specs.declared.item.QrLevel.TheVariants as levels
+use Rattle.vp_esc.specs.declared.command.Command.TheVariants.{Function}
+use Rattle.vp_esc.specs.Values.{qr_model_of, qr_level_of}
+use Rattle.vp_esc.specs.Qr.{is_qr_function, ignored, model_items, module_item, level_item, store_items, print_item, value_items, qr_items}
+use Rattle.vp_esc.specs.Units.{given_behind}
+use Rattle.vp_esc.specs.Lines.{two_bytes, model_byte, level_byte, line_of}
+use Rattle.vp_esc.specs.Listings.{Lists}
+use Rattle.vp_esc.specs.Table.{IsFunction}
+use Rattle.vp_esc.proofs.Listed.{IsBytes, one_line, front_line, part_lines, two_is, singles, all_singles, stored_lines}
+
+-- a count and its two bytes
+record IsCount (p pl ph : ℕ) : Type 0 where
+  low : p % 256 ≡ pl
+  high : p / 256 ≡ ph
+  bytes : two_bytes p ≡ pl ∷ ph ∷ []
+
+ignored_list : (p pl ph : ℕ) (front rest : List ℕ) → IsCount p pl ph
+    → Lists Gs (0x28 ∷ 0x6B ∷ pl ∷ ph ∷ (front ++ rest)) (map line_of (ignored p front ∷ []))
+ignored_list p pl ph front rest c =
+    front_line Gs (0x28 ∷ 0x6B ∷ pl ∷ ph ∷ front) rest (0x28 ∷ 0x6B ∷ pl ∷ ph ∷ (front ++ rest)) (ignored p front) refl refl
+    (ap (λ l. listed (codes "gs") (0x28 ∷ 0x6B ∷ l ∷ p / 256 ∷ front)) c.low ∙ ap (λ h. listed (codes "gs") (0x28 ∷ 0x6B ∷ pl ∷ h ∷ front)) c.high)
+
+-- an item whose line has all
+whole_list : (p pl ph : ℕ) (rest : List ℕ) (item : EscItem) → IsCount p pl ph → line_of item ≡ listed (codes "gs") (0x28 ∷ 0x6B ∷ p % 256 ∷ p / 256 ∷ rest)
+    → Lists Gs (0x28 ∷ 0x6B ∷ pl ∷ ph ∷ rest) (map line_of (item ∷ []))
+whole_list p pl ph rest item c e =
+    one_line Gs (0x28 ∷ 0x6B ∷ pl ∷ ph ∷ rest) item
+    (e ∙ ap (λ l. listed (codes "gs") (0x28 ∷ 0x6B ∷ l ∷ p / 256 ∷ rest)) c.low ∙ ap (λ h. listed (codes "gs") (0x28 ∷ 0x6B ∷ pl ∷ h ∷ rest)) c.high)
+
+model_is : (n : ℕ) (m : QrModel) → qr_model_of n ≡ Some m → model_byte m ≡ n
+model_is n m e = by_tests (eqb n 49) (eqb n 50) (eqb n 51) refl refl refl
+  where
+    by_tests : (a b c : Bool) → eqb n 49 ≡ a → eqb n 50 ≡ b → eqb n 51 ≡ c → model_byte m ≡ n
+    by_tests true b c p q r = let s : ◌≡◌ {A = Option QrModel} (Some models.One) (Some m) = rw p at e in let t : models.One ≡ m = cc in ap model_byte (sym t) ∙ sym (eqb-true n 49 p)
+    by_tests false true c p q r = let s : ◌≡◌ {A = Option QrModel} (Some models.Two) (Some m) = rw (p, q) at e in let t : models.Two ≡ m = cc in ap model_byte (sym t) ∙ sym (eqb-true n 50 q)
+    by_tests false false true p q r = let s : ◌≡◌ {A = Option QrModel} (Some models.Micro) (Some m) = rw (p, q, r) at e in let t : models.Micro ≡ m = cc in ap model_byte (sym t) ∙ sym (eqb-true n 51 r)
+    by_tests false false false p q r = let s : ◌≡◌ {A = Option QrModel} None (Some m) = rw (p, q, r) at e in cc
+
+level_is : (n : ℕ) (l : QrLevel) → qr_level_of n ≡ Some l → level_byte l ≡ n
+level_is n l e = by_tests (eqb n 48) (eqb n 49) (eqb n 50) (eqb n 51) refl refl refl refl
+  where
+    by_tests : (a b c d : Bool) → eqb n 48 ≡ a → eqb n 49 ≡ b → eqb n 50 ≡ c → eqb n 51 ≡ d → level_byte l ≡ n
+    by_tests true b c d p q r u = let s : ◌≡◌ {A = Option QrLevel} (Some levels.L) (Some l) = rw p at e in let t : levels.L ≡ l = cc in ap level_byte (sym t) ∙ sym (eqb-true n 48 p)
+    by_tests false true c d p q r u = let s : ◌≡◌ {A = Option QrLevel} (Some levels.M) (Some l) = rw (p, q) at e in let t : levels.M ≡ l = cc in ap level_byte (sym t) ∙ sym (eqb-true n 49 q)
+    by_tests false false true d p q r u = let s : ◌≡◌ {A = Option QrLevel} (Some levels.Q) (Some l) = rw (p, q, r) at e in let t : levels.Q ≡ l = cc in ap level_byte (sym t) ∙ sym (eqb-true n 50 r)
+    by_tests false false false true p q r u = let s : ◌≡◌ {A = Option QrLevel} (Some levels.H) (Some l) = rw (p, q, r, u) at e in let t : levels.H ≡ l = cc in ap level_byte (sym t) ∙ sym (eqb-true n 51 u)
+    by_tests false false false false p q r u = let s : ◌≡◌ {A = Option QrLevel} None (Some l) = rw (p, q, r, u) at e in cc
+
+first_is : (cn function p : ℕ) → is_qr_function cn function p ≡ true → cn ≡ 49
+first_is cn function p e = eqb-true cn 49 (and_parts (eqb cn 49) _ e).0
+
+four : (cn p : ℕ) → is_qr_function cn 65 p ≡ true → p ≡ 4
+four cn p e = grind (arith, nat_tests)
+
+three_67 : (cn p : ℕ) → is_qr_function cn 67 p ≡ true → p ≡ 3
+three_67 cn p e = grind (arith, nat_tests)
+
+three_69 : (cn p : ℕ) → is_qr_function cn 69 p ≡ true → p ≡ 3
+three_69 cn p e = grind (arith, nat_tests)
+
+three_81 : (cn p : ℕ) → is_qr_function cn 81 p ≡ true → p ≡ 3
+three_81 cn p e = grind (arith, nat_tests)
+
+some_80 : (cn p : ℕ) → is_qr_function cn 80 p ≡ true → 4 ≤ p
+some_80 cn p e = grind (arith, nat_tests)
+
+no_more : (more : List ℕ) → length more ≡ 0 → more ≡ []
+no_more [] e = refl
+no_more (b ∷ more) e = absurd (omega arith)
+
+module _ (p pl ph cn n : ℕ) (c : IsCount p pl ph) where
+  model_list : (o : Option QrModel) (more : List ℕ) → qr_model_of n ≡ o → is_qr_function cn 65 p ≡ true → length more + 3 ≡ p
+      → Lists Gs (0x28 ∷ 0x6B ∷ pl ∷ ph ∷ cn ∷ 65 ∷ n ∷ more) (map line_of (model_items p cn n o more))
+  model_list None more e f l = ignored_list p pl ph (cn ∷ 65 ∷ n ∷ []) more c
+  model_list (Some model) [] e f l = absurd (let k = four cn p f in omega arith)
+  model_list (Some model) (z ∷ y ∷ more) e f l = absurd (let k = four cn p f in omega arith)
+  model_list (Some model) (z ∷ []) e f l = by_zero (eqb z 0) refl
+    where
+      by_zero : (b : Bool) → eqb z 0 ≡ b
+          → Lists Gs (0x28 ∷ 0x6B ∷ pl ∷ ph ∷ cn ∷ 65 ∷ n ∷ z ∷ []) (map line_of (model_items p cn n (Some model) (z ∷ [])))
+      by_zero true t =
+          rw t (whole_list p pl ph (cn ∷ 65 ∷ n ∷ z ∷ []) (items.QrModel model) c
+          (let k = four cn p f in let z0 = eqb-true z 0 t in let c0 = first_is cn 65 p f in let m0 = model_is n model e in rw (k, z0, c0, sym m0) refl))
+      by_zero false t = rw t (ignored_list p pl ph (cn ∷ 65 ∷ n ∷ z ∷ []) [] c)
+
+  module_list : (more : List ℕ) → is_qr_function cn 67 p ≡ true → length more + 3 ≡ p
+      → Lists Gs (0x28 ∷ 0x6B ∷ pl ∷ ph ∷ cn ∷ 67 ∷ n ∷ more) (map line_of (module_item p cn n ∷ []))
+  module_list more f l = by_range (leb 1 n && leb n 16) refl
+    where
+      by_range : (b : Bool) → (leb 1 n && leb n 16) ≡ b → Lists Gs (0x28 ∷ 0x6B ∷ pl ∷ ph ∷ cn ∷ 67 ∷ n ∷ more) (map line_of (module_item p cn n ∷ []))
+      by_range true t =
+          let k = three_67 cn p f in
+          let none = no_more more (omega arith) in
+          let c0 = first_is cn 67 p f in
+          rw t (rw none (whole_list p pl ph (cn ∷ 67 ∷ n ∷ []) (items.QrModule n) c (rw (k, c0) refl)))
+      by_range false t = rw t (ignored_list p pl ph (cn ∷ 67 ∷ n ∷ []) more c)
+
+  level_list : (o : Option QrLevel) (more : List ℕ) → qr_level_of n ≡ o → is_qr_function cn 69 p ≡ true → length more + 3 ≡ p
+      → Lists Gs (0x28 ∷ 0x6B ∷ pl ∷ ph ∷ cn ∷ 69 ∷ n ∷ more) (map line_of (level_item p cn n o ∷ []))
+  level_list None more e f l = ignored_list p pl ph (cn ∷ 69 ∷ n ∷ []) more c
+  level_list (Some level) more e f l =
+      let k = three_69 cn p f in
+      let none = no_more more (omega arith) in
+      let c0 = first_is cn 69 p f in
+      let n0 = level_is n level e in
+      rw none (whole_list p pl ph (cn ∷ 69 ∷ n ∷ []) (items.QrLevel level) c (rw (k, c0, sym n0) refl))
+
+  store_list : (more : List ℕ) → is_qr_function cn 80 p ≡ true
+      → Lists Gs (0x28 ∷ 0x6B ∷ pl ∷ ph ∷ cn ∷ 80 ∷ n ∷ more) (map line_of (store_items p cn n more))
+  store_list more f = by_value (eqb n 48) refl
+    where
+      by_value : (b : Bool) → eqb n 48 ≡ b → Lists Gs (0x28 ∷ 0x6B ∷ pl ∷ ph ∷ cn ∷ 80 ∷ n ∷ more) (map line_of (store_items p cn n more))
+      by_value true t =
+          let k = some_80 cn p f in
+          let all : p - 3 + 3 ≡ p = omega arith in
+          let n0 = eqb-true n 48 t in
+          let c0 = first_is cn 80 p f in
+          let head : line_of (items.QrStore (p - 3)) ≡ listed (codes "gs") (0x28 ∷ 0x6B ∷ pl ∷ ph ∷ cn ∷ 80 ∷ n ∷ []) =
+          ap (λ q. listed (codes "gs") (0x28 ∷ 0x6B ∷ (two_bytes q ++ 49 ∷ 80 ∷ 48 ∷ []))) all
+          ∙ ap (λ (xs : List ℕ). listed (codes "gs") (0x28 ∷ 0x6B ∷ (xs ++ 49 ∷ 80 ∷ 48 ∷ []))) c.bytes ∙ rw (n0, c0) refl in
+          rw t (part_lines Gs (0x28 ∷ 0x6B ∷ pl ∷ ph ∷ cn ∷ 80 ∷ n ∷ []) (codes "byte") (0x28 ∷ 0x6B ∷ pl ∷ ph ∷ cn ∷ 80 ∷ n ∷ more) (singles more)
+          (items.QrStore (p - 3)) (map (λ b. items.QrByte b) more)
+          (ap (λ (xs : List ℕ). 0x28 ∷ 0x6B ∷ pl ∷ ph ∷ cn ∷ 80 ∷ n ∷ xs) (sym (all_singles more))) head (stored_lines more))
+      by_value false t = rw t (ignored_list p pl ph (cn ∷ 80 ∷ n ∷ []) more c)
+
+  print_list : (more : List ℕ) → is_qr_function cn 81 p ≡ true → length more + 3 ≡ p
+      → Lists Gs (0x28 ∷ 0x6B ∷ pl ∷ ph ∷ cn ∷ 81 ∷ n ∷ more) (map line_of (print_item p cn n ∷ []))
+  print_list more f l = by_value (eqb n 48) refl
+    where
+      by_value : (b : Bool) → eqb n 48 ≡ b → Lists Gs (0x28 ∷ 0x6B ∷ pl ∷ ph ∷ cn ∷ 81 ∷ n ∷ more) (map line_of (print_item p cn n ∷ []))
+      by_value true t =
+          let k = three_81 cn p f in
+          let none = no_more more (omega arith) in
+          let n0 = eqb-true n 48 t in
+          let c0 = first_is cn 81 p f in
+          rw t (rw none (whole_list p pl ph (cn ∷ 81 ∷ n ∷ []) items.QrPrint c (rw (k, c0, n0) refl)))
+      by_value false t = rw t (ignored_list p pl ph (cn ∷ 81 ∷ n ∷ []) more c)
+
+  ValueListed : ℕ → List ℕ → Type 0
+  ValueListed function more = Lists Gs (0x28 ∷ 0x6B ∷ pl ∷ ph ∷ cn ∷ function ∷ n ∷ more) (map line_of (value_items p cn function n more))
+
+  value_list : (function : ℕ) (more : List ℕ) → is_qr_function cn function p ≡ true → length more + 3 ≡ p → ValueListed function more
+  unfolding ValueListed value_items
+  value_list function more f l = by_tests (eqb function 65) (eqb function 67) (eqb function 69) (eqb function 80) (eqb function 81) refl refl refl refl refl
+    where
+      at : (k : ℕ) → function ≡ k → ValueListed k more → ValueListed function more
+      at k e h = subst (λ x. ValueListed x more) (sym e) h
+
+      is_at : (k : ℕ) → function ≡ k → is_qr_function cn k p ≡ true
+      is_at k e = ap (λ x. is_qr_function cn x p) (sym e) ∙ f
+
+      by_tests : (a b d e g : Bool) → eqb function 65 ≡ a → eqb function 67 ≡ b → eqb function 69 ≡ d → eqb function 80 ≡ e → eqb function 81 ≡ g → ValueListed function more
+      by_tests true b d e g p1 p2 p3 p4 p5 = let k = eqb-true function 65 p1 in at 65 k (model_list (qr_model_of n) more refl (is_at 65 k) l)
+      by_tests false true d e g p1 p2 p3 p4 p5 = let k = eqb-true function 67 p2 in at 67 k (module_list more (is_at 67 k) l)
+      by_tests false false true e g p1 p2 p3 p4 p5 = let k = eqb-true function 69 p3 in at 69 k (level_list (qr_level_of n) more refl (is_at 69 k) l)
+      by_tests false false false true g p1 p2 p3 p4 p5 = let k = eqb-true function 80 p4 in at 80 k (store_list more (is_at 80 k))
+      by_tests false false false false true p1 p2 p3 p4 p5 = let k = eqb-true function 81 p5 in at 81 k (print_list more (is_at 81 k) l)
+      by_tests false false false false false p1 p2 p3 p4 p5 =
+          let h = (and_parts (eqb cn 49) _ f).1 in
+          let no : false ≡ true = rw (p1, p2, p3, p4, p5) at h in cc
+
+no_function : (cn function : ℕ) → is_qr_function cn function 2 ≡ false
+no_function cn function = grind (arith, nat_tests)
+
+qr_list : (p pl ph : ℕ) (ps : List ℕ) → IsCount p pl ph → length ps ≡ p → Lists Gs (0x28 ∷ 0x6B ∷ pl ∷ ph ∷ ps) (map line_of (qr_items p ps))
+unfolding qr_items ValueListed
+qr_list p pl ph [] c l = let e : eqb p 0 ≡ true = grind (arith, nat_tests) in rw e (ignored_list p pl ph [] [] c)
+qr_list p pl ph (cn ∷ []) c l = let e : eqb p 1 ≡ true = grind (arith, nat_tests) in rw e (ignored_list p pl ph (cn ∷ []) [] c)
+qr_list p pl ph (cn ∷ function ∷ []) c l =
+    let k : 2 ≡ p = l in
+    let e : is_qr_function cn function p ≡ false = ap (λ q. is_qr_function cn function q) (sym k) ∙ no_function cn function in
+    rw e (ignored_list p pl ph (cn ∷ function ∷ []) [] c)
+qr_list p pl ph (cn ∷ function ∷ n ∷ more) c l = by_function (is_qr_function cn function p) refl
+  where
+    by_function : (b : Bool) → is_qr_function cn function p ≡ b
+        → Lists Gs (0x28 ∷ 0x6B ∷ pl ∷ ph ∷ cn ∷ function ∷ n ∷ more) (map line_of (cond b (value_items p cn function n more) (ignored p (cn ∷ function ∷ []) ∷ [])))
+    by_function true e = value_list p pl ph cn n c function more e (omega arith)
+    by_function false e = ignored_list p pl ph (cn ∷ function ∷ []) (n ∷ more) c
+
+count_is : (pl ph : ℕ) → pl < 256 → ph < 256 → IsCount (pl + 256 * ph) pl ph
+count_is pl ph l h = record { low = omega arith; high = omega arith; bytes = two_is pl ph l h }
+
+pub function_list : (args : List ℕ) → IsFunction args → IsBytes args → Lists Gs (0x28 ∷ args) (map line_of (given_behind Gs 0x28 Function args))
+unfolding given_behind
+function_list args h b =
+    let bytes : IsBytes (h.x ∷ h.pl ∷ h.ph ∷ h.parameters) = rw h.bytes at b in
+    rw h.bytes (by_name (eqb h.x 0x6B) refl (count_is h.pl h.ph bytes.1.0 bytes.1.1.0))
+  where
+    by_name : (t : Bool) → eqb h.x 0x6B ≡ t → IsCount (h.pl + 256 * h.ph) h.pl h.ph
+        → Lists Gs (0x28 ∷ h.x ∷ h.pl ∷ h.ph ∷ h.parameters)
+        (map line_of (cond t (qr_items (h.pl + 256 * h.ph) h.parameters) (items.WithoutEffect Gs (record { items = 0x28 ∷ h.x ∷ h.pl ∷ h.ph ∷ [] }) ∷ [])))
+    by_name true e c = let x = eqb-true h.x 0x6B e in rw x (qr_list (h.pl + 256 * h.ph) h.pl h.ph h.parameters c h.count)
+    by_name false e c =
+        front_line Gs (0x28 ∷ h.x ∷ h.pl ∷ h.ph ∷ []) h.parameters (0x28 ∷ h.x ∷ h.pl ∷ h.ph ∷ h.parameters)
+        (items.WithoutEffect Gs (record { items = 0x28 ∷ h.x ∷ h.pl ∷ h.ph ∷ [] })) refl refl refl

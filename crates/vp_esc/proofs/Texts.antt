@@ -1,0 +1,62 @@
+-- Text, one byte after another.
+use Rattle.std.proofs.Common.{◌≡◌, ℕ, ◌+◌, ◌<◌, ◌≤◌, Bool, true, false, cond, ◌&&◌, zero, suc, is_none, Option, Some, None, Ok, List, [], ◌∷◌, ◌++◌, length, take, refl, sym, ap, subst, ◌∙◌, append_assoc, arith}
+use Rattle.std.specs.List.{prefix_len, AllByRecursion}
+use Rattle.std.proofs.lemmas.List.{append-nil}
+use Rattle.vp_esc.specs.declared.item.Lead.{Lead}
+use Rattle.vp_esc.specs.declared.reader.EscReader.{EscReader}
+use Rattle.vp_esc.specs.declared.reader.Phase.TheVariants.{Ground}
+use Rattle.vp_esc.specs.Command.{lead_of}
+use Rattle.vp_esc.specs.Units.{single_item}
+use Rattle.vp_esc.specs.Split.{split, items, fault_of}
+use Rattle.vp_esc.specs.Reader.{Stands, Gives, is_text, text_items}
+use Rattle.vp_esc.proofs.Fronts.{alone_between}
+use Rattle.vp_esc.proofs.Splits.{gives-from_advances, stands-from_advances}
+
+first_passes : (z : Bool) (n m : ℕ) → suc n ≤ cond z (1 + m) 0 → (z ≡ true) × (n ≤ m)
+first_passes true n m h = (refl, omega arith)
+first_passes false n m h = absurd (omega arith)
+
+-- what stands at the front of the front is text
+pub front_passes : (n : ℕ) (cs : List ℕ) → n ≤ prefix_len is_text cs → AllByRecursion (λ b. is_text b ≡ true) (take n cs)
+front_passes zero cs h = tt
+front_passes (suc n) [] h = tt
+front_passes (suc n) (c ∷ cs) h =
+    let f = first_passes (is_text c) n (prefix_len is_text cs) h in
+    (f.0, front_passes n cs f.1)
+
+no_lead : (lead : Option Lead) (z : Bool) → is_none lead && z ≡ true → lead ≡ None
+no_lead None z h = refl
+no_lead (Some lead) z h = cc
+
+-- text is taken, and the reader is as it was
+pub record Ran (r : EscReader) (bytes xs : List ℕ) : Type 0 where
+  pub gives : items (bytes ++ xs) ≡ items bytes ++ text_items xs
+  pub known : 0 < length xs → fault_of (bytes ++ xs) ≡ None
+  pub stands : Stands r (bytes ++ xs)
+
+one : (r : EscReader) (bytes : List ℕ) (b : ℕ) → r.phase ≡ Ground → Stands r bytes → is_text b ≡ true → Ran r bytes (b ∷ [])
+unfolding Stands
+one r bytes b phase stands text =
+    let a = alone_between b (single_item b) r (split bytes).rest (no_lead (lead_of b) _ text) refl phase stands in
+    let g : Gives (Ok (Some (single_item b))) (items bytes) (items (bytes ++ b ∷ [])) (fault_of (bytes ++ b ∷ [])) = gives-from_advances _ bytes b _ a in
+    record { gives = g.1; known = λ some. g.0; stands = stands-from_advances _ bytes b _ a }
+
+known_on : (bytes xs : List ℕ) → fault_of bytes ≡ None → (0 < length xs → fault_of (bytes ++ xs) ≡ None) → fault_of (bytes ++ xs) ≡ None
+known_on bytes [] e h = ap fault_of (append-nil bytes) ∙ e
+known_on bytes (x ∷ xs) e h = h (omega arith)
+
+pub ran : (r : EscReader) (bytes xs : List ℕ) → r.phase ≡ Ground → Stands r bytes → AllByRecursion (λ b. is_text b ≡ true) xs → Ran r bytes xs
+ran r bytes [] phase stands text = record {
+  gives = ap items (append-nil bytes) ∙ sym (append-nil (items bytes));
+  known = λ some. absurd (omega arith);
+  stands = subst (Stands r) (sym (append-nil bytes)) stands;
+}
+ran r bytes (b ∷ xs) phase stands text =
+    let first = one r bytes b phase stands text.0 in
+    let more = ran r (bytes ++ b ∷ []) xs phase first.stands text.1 in
+    let all : (bytes ++ b ∷ []) ++ xs ≡ bytes ++ b ∷ xs = append_assoc bytes (b ∷ []) xs in
+    record {
+      gives = ap items (sym all) ∙ more.gives ∙ ap (λ x. x ++ text_items xs) first.gives ∙ append_assoc (items bytes) (text_items (b ∷ [])) (text_items xs);
+      known = λ some. ap fault_of (sym all) ∙ known_on (bytes ++ b ∷ []) xs (first.known (omega arith)) more.known;
+      stands = subst (Stands r) all more.stands;
+    }

@@ -1,0 +1,111 @@
+-- The lines of a unit: of a byte alone, and of a command.
+use Rattle.std.proofs.Common.{◌≡◌, ℕ, ◌<◌, ◌≤◌, Bool, true, false, cond, eqb, ltb, Option, Some, None, List, [], ◌∷◌, length, refl, sym, ap, ◌∙◌, arith, ⊎_elim}
+use Rattle.std.specs.Prelude.{map, codes}
+use Rattle.std.proofs.lemmas.Bool.{cases_lt}
+use Rattle.std.proofs.lemmas.Bool.Decides.{nat_tests}
+use Rattle.vp_dots.specs.Listing.{listed}
+use Rattle.vp_esc.specs.declared.item.EscItem.{EscItem}
+use Rattle.vp_esc.specs.declared.item.EscItem.TheVariants as items
+use Rattle.vp_esc.specs.declared.item.Lead.{Lead}
+use Rattle.vp_esc.specs.declared.item.Lead.TheVariants.{Esc, Gs}
+use Rattle.vp_esc.specs.declared.command.Command.{Command}
+use Rattle.vp_esc.specs.declared.command.Command.TheVariants.{Plain, TabStops, Columns, Raster, Symbol, Function, Graphics}
+use Rattle.vp_esc.specs.Command.{lead_of, lead_byte, command_of, head_len, is_listed}
+use Rattle.vp_esc.specs.Units.{is_open, needs_more, plain_item, stops_item, given_by, given_behind, single_item, given}
+use Rattle.vp_esc.specs.Laws.{IsUnit}
+use Rattle.vp_esc.specs.Lines.{line_of}
+use Rattle.vp_esc.specs.Listings.{line_of_byte, is_long_symbol, Lists}
+use Rattle.vp_esc.specs.Table.{IsToZero, IsCountedSymbol, IsArguments, IsCommand, IsAlone}
+use Rattle.vp_esc.proofs.Fronts.{lead_of-lead_byte, Front, front_is}
+use Rattle.vp_esc.proofs.Heads.{IsHead, heads, given_is}
+use Rattle.vp_esc.proofs.OnlyRows.{only_rows_lem}
+use Rattle.vp_esc.proofs.Named.{IsNamed, named_so}
+use Rattle.vp_esc.proofs.Listed.{IsBytes, one_line, plain_listed, stops_listed, columns_list, raster_list, to_zero_list, counted_list, graphics_list}
+use Rattle.vp_esc.proofs.QrListed.{function_list}
+
+-- the line of what a test chooses
+chosen : (t : Bool) (x y : EscItem) → line_of (cond t x y) ≡ cond t (line_of x) (line_of y)
+chosen true x y = refl
+chosen false x y = refl
+
+single_line : (b : ℕ) → line_of (single_item b) ≡ line_of_byte b
+single_line b =
+    chosen (eqb b 0x0A) items.LineFeed _ ∙ ap (λ l. cond (eqb b 0x0A) (listed (codes "LF") []) l) (
+    chosen (eqb b 0x09) items.Tab _ ∙ ap (λ l. cond (eqb b 0x09) (listed (codes "HT") []) l) (
+    chosen (eqb b 0x0D) items.CarriageReturn _ ∙ ap (λ l. cond (eqb b 0x0D) (listed (codes "CR") []) l) (
+    chosen (eqb b 0x0C) items.FormFeed _ ∙ ap (λ l. cond (eqb b 0x0C) (listed (codes "FF") []) l) (
+    chosen (eqb b 0x18) items.Cancel _ ∙ ap (λ l. cond (eqb b 0x18) (listed (codes "CAN") []) l) (
+    chosen (ltb b 0x20) (items.Control b) (items.Character b))))))
+
+pub byte_line : (b : ℕ) → lead_of b ≡ None → map line_of (given (b ∷ [])) ≡ line_of_byte b ∷ []
+unfolding given
+byte_line b e = rw e (ap (λ l. l ∷ []) (single_line b))
+
+short_symbol : (args : List ℕ) → is_long_symbol Gs (0x6B ∷ args) ≡ false → length args ≤ 257
+short_symbol args e = let t : ltb 257 (length args) ≡ false = e in grind (arith, nat_tests)
+
+by_command : (lead : Lead) (name : ℕ) (k : Command) (args : List ℕ) → IsNamed k lead name → IsArguments k args → IsBytes args
+    → needs_more k args ≡ false → is_long_symbol lead (name ∷ args) ≡ false → Lists lead (name ∷ args) (map line_of (given_behind lead name k args))
+unfolding given_behind
+by_command lead name (Plain p) args i a b n s = one_line lead (name ∷ args) (plain_item lead name p args) (plain_listed lead name p args i a b)
+by_command lead name TabStops args i a b n s = rw n (rw (i.0, i.1) (one_line Esc (0x44 ∷ args) (stops_item args) (stops_listed args a)))
+by_command lead name Columns args i a b n s = rw (i.0, i.1) (columns_list args a b)
+by_command lead name Raster args i a b n s = rw (i.0, i.1) (raster_list args a b)
+by_command lead name Symbol args i a b n s =
+    let short : length args ≤ 257 = short_symbol args (rw (i.0, i.1) at s) in
+    rw (i.0, i.1) (⊎_elim (λ (z : IsToZero args). to_zero_list args z short n) (λ (c : IsCountedSymbol args). counted_list args c b n) a)
+by_command lead name Function args i a b n s = rw (i.0, i.1) (function_list args a b)
+by_command lead name Graphics args i a b n s = rw (i.0, i.1) (graphics_list args a)
+
+-- a whole command is of the table, and its head is there
+record IsWhole (lead : Lead) (name : ℕ) (k : Command) (args front : List ℕ) : Type 0 where
+  gives : given front ≡ given_behind lead name k args
+  needs : needs_more k args ≡ false
+
+whole_is : (lead : Lead) (name : ℕ) (k : Command) (args front : List ℕ) → command_of lead name ≡ Some k → front ≡ lead_byte lead ∷ name ∷ args
+    → is_open front ≡ false → IsWhole lead name k args front
+whole_is lead name k args front e b w =
+    let f : Front front lead name k args = front_is lead name k args front e b in
+    let parts = closed (is_listed k args) (needs_more k args) (sym f.opens ∙ w) in
+    let needs : needs_more k args ≡ false = parts.1 in
+    record {
+      gives = f.gives ∙ ap (λ t. cond t (given_by lead name k args) []) parts.0 ∙ given_is lead name k args (has_head needs);
+      needs = needs;
+    }
+  where
+    closed : (l n : Bool) → cond l n true ≡ false → (l ≡ true) × (n ≡ false)
+    closed true n h = (refl, h)
+    closed false n h = cc
+
+    has_head : needs_more k args ≡ false → head_len k args ≤ length args
+    has_head n = ⊎_elim
+        (λ (h : length args < head_len k args). let i : IsHead lead name k args = heads lead name k args h in let m : needs_more k args ≡ true = i.needs in let no : true ≡ false = sym m ∙ n in cc)
+        (λ (h : head_len k args ≤ length args). h)
+        (cases_lt (length args) (head_len k args))
+
+pub command_lines : (lead : Lead) (bytes : List ℕ) → IsBytes bytes → IsUnit (lead_byte lead ∷ bytes) → is_long_symbol lead bytes ≡ false
+    → Lists lead bytes (map line_of (given (lead_byte lead ∷ bytes)))
+command_lines lead bytes b u s = ⊎_elim
+    (λ (a : IsAlone (lead_byte lead ∷ bytes)). no_lead a)
+    (λ (c : IsCommand (lead_byte lead ∷ bytes)). of_command c)
+    (only_rows_lem (lead_byte lead ∷ bytes) u)
+  where
+    no_lead : IsAlone (lead_byte lead ∷ bytes) → Lists lead bytes (map line_of (given (lead_byte lead ∷ bytes)))
+    no_lead a =
+        let same : lead_byte lead ≡ a.byte = let e = a.bytes_are in cc in
+        let no : ◌≡◌ {A = Option Lead} (Some lead) None = sym (lead_of-lead_byte lead) ∙ ap lead_of same ∙ a.no_lead in
+        cc
+
+    of_command : IsCommand (lead_byte lead ∷ bytes) → Lists lead bytes (map line_of (given (lead_byte lead ∷ bytes)))
+    of_command c =
+        let e = c.bytes_are in
+        let first : lead_byte lead ≡ lead_byte c.lead = cc in
+        let rest : bytes ≡ c.name ∷ c.args = cc in
+        let leads : ◌≡◌ {A = Option Lead} (Some lead) (Some c.lead) = sym (lead_of-lead_byte lead) ∙ ap lead_of first ∙ lead_of-lead_byte c.lead in
+        let same : lead ≡ c.lead = cc in
+        let whole : IsWhole c.lead c.name c.command c.args (lead_byte lead ∷ bytes) =
+        whole_is c.lead c.name c.command c.args (lead_byte lead ∷ bytes) c.named c.bytes_are u.whole in
+        let short : is_long_symbol c.lead (c.name ∷ c.args) ≡ false = ap (λ l. is_long_symbol l (c.name ∷ c.args)) (sym same) ∙ ap (is_long_symbol lead) (sym rest) ∙ s in
+        let all : IsBytes (c.name ∷ c.args) = rw rest at b in
+        let lists = by_command c.lead c.name c.command c.args (named_so c.lead c.name c.command c.named) c.arguments all.1 whole.needs short in
+        rw whole.gives (rw (same, rest) lists)
