@@ -13,7 +13,9 @@ pub record FallsOn (m : Mark) (u w x y : ℕ) : Type 0 where
 
 -- a mark blackens the places on which its black dots fall, and no others
 abbrev pub DotsFall : Type 0
-DotsFall = (m : Mark) (x y : ℕ) → (mark_dot m x y ≡ true) ↔ ((u : ℕ) × (w : ℕ) × FallsOn m u w x y × (m.dot u w ≡ true))
+DotsFall =
+    (m : Mark) (x y : ℕ) →
+    (mark_dot m x y ≡ true) ↔ ((u : ℕ) × (w : ℕ) × FallsOn m u w x y × (m.dot u w ≡ true))
 
 -- no wipe among the layers holds the place
 abbrev pub IsUnwiped : List Layer → ℕ → ℕ → Type 0
@@ -40,10 +42,14 @@ MarksAndWipes = (layers : List Layer) (x y : ℕ) → (page_dot layers x y ≡ t
 -- rows laid one below the other are one mark
 pub record RowsMakeAnImage : Type 0 where
   -- before the first row
-  pub none : (m : Mark) (layers : List Layer) (page : List (List ℕ)) → HasPage layers page → HasPage (Laid (first_rows 0 m) ∷ layers) page
+  pub none : (m : Mark) (layers : List Layer) (page : List (List ℕ)) → HasPage layers page →
+      HasPage (Laid (first_rows 0 m) ∷ layers) page
   -- row k, laid k below the top
-  pub more : (m : Mark) (k : ℕ) (row : ℕ → Bool) (layers : List Layer) (page : List (List ℕ)) → ((u : ℕ) → u < line_length m.area m.direction → row u ≡ m.dot u k)
-      → HasPage (Laid (row_mark m.area m.direction (m.top + k) row) ∷ Laid (first_rows k m) ∷ layers) page → HasPage (Laid (first_rows (k + 1) m) ∷ layers) page
+  pub more : (m : Mark) (k : ℕ) (row : ℕ → Bool) (layers : List Layer) (page : List (List ℕ)) →
+      ((u : ℕ) → u < line_length m.area m.direction → row u ≡ m.dot u k) →
+      HasPage (Laid (row_mark m.area m.direction (m.top + k) row) ∷ Laid (first_rows k m) ∷ layers) page →
+      HasPage (Laid (first_rows (k + 1) m) ∷ layers) page
   -- after the last one that has ink or is not past the depth
-  pub all : (m : Mark) (n : ℕ) (layers : List Layer) (page : List (List ℕ)) → ((u w : ℕ) → m.dot u w ≡ true → m.top + w < depth m.area m.direction → w < n)
-      → HasPage (Laid (first_rows n m) ∷ layers) page → HasPage (Laid m ∷ layers) page
+  pub all : (m : Mark) (n : ℕ) (layers : List Layer) (page : List (List ℕ)) →
+      ((u w : ℕ) → m.dot u w ≡ true → m.top + w < depth m.area m.direction → w < n) →
+      HasPage (Laid (first_rows n m) ∷ layers) page → HasPage (Laid m ∷ layers) page

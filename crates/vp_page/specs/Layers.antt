@@ -1,12 +1,13 @@
 -- What is laid on a page, and the dots that this makes.
-use Rattle.std.specs.Prelude.{ℕ, ◌-◌, ◌*◌, slice_index_or, nat_eq, nat_lt, nat_le, Bool, false, not, ◌&&◌, ◌||◌, List, [], ◌∷◌}
+use Rattle.std.specs.Prelude.{ℕ, ◌-◌, slice_index_or, nat_eq, nat_lt, nat_le, Bool, false, not, ◌&&◌, ◌||◌, List, [], ◌∷◌}
 use Rattle.vp_dots.specs.Dots.{dot}
-use Rattle.vp_page.specs.declared.line.TheConstants.{LINE}
+use Rattle.vp_page.specs.declared.line.TheConstants.{LINE_DOTS}
 use Rattle.vp_page.specs.declared.area.Area.{Area}
 use Rattle.vp_page.specs.declared.area.Direction.{Direction}
 use Rattle.vp_page.specs.Areas.{holds, along, down}
 
--- an image that is laid with its left at the start of the lines, and its top at a vertical position of the area
+-- an image that is laid with its left at the start of the lines, and its top at a vertical position of the
+-- area
 pub record Mark : Type 0 where
   pub area : Area
   pub direction : Direction
@@ -21,7 +22,8 @@ pub data Layer : Type 0 where
 -- whether a black dot of the mark falls on the place (x, y) of the page
 abbrev pub mark_dot : Mark → ℕ → ℕ → Bool
 mark_dot m x y =
-    holds m.area x y && (nat_le m.top (down m.area m.direction x y) && m.dot (along m.area m.direction x y) (down m.area m.direction x y - m.top))
+    holds m.area x y && (nat_le m.top (down m.area m.direction x y)
+    && m.dot (along m.area m.direction x y) (down m.area m.direction x y - m.top))
 
 -- the dot at (x, y) of the page, by its layers, the newest first
 abbrev pub page_dot : List Layer → ℕ → ℕ → Bool
@@ -33,15 +35,16 @@ page_dot (Wiped a ∷ before) x y = not (holds a x y) && page_dot before x y
 abbrev pub row_mark : Area → Direction → ℕ → (ℕ → Bool) → Mark
 row_mark a d v row = record { area = a; direction = d; top = v; dot = λ u w. nat_eq w 0 && row u }
 
--- eight rows of at most 1,664 dots, laid one below the other from a depth of the area on
+-- eight rows no longer than the longest line, laid one below the other from a depth of the area on
 abbrev pub eight_mark : Area → Direction → ℕ → List (List ℕ) → Mark
 eight_mark a d v rows = record {
   area = a;
   direction = d;
   top = v;
-  dot = λ u w. nat_lt w 8 && (nat_lt u (8 * LINE) && dot (slice_index_or rows w []) u);
+  dot = λ u w. nat_lt w 8 && (nat_lt u LINE_DOTS && dot (slice_index_or rows w []) u);
 }
 
 -- the first n rows of what a mark lays
 abbrev pub first_rows : ℕ → Mark → Mark
-first_rows n m = record { area = m.area; direction = m.direction; top = m.top; dot = λ u w. nat_lt w n && m.dot u w }
+first_rows n m =
+    record { area = m.area; direction = m.direction; top = m.top; dot = λ u w. nat_lt w n && m.dot u w }

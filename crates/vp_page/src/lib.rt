@@ -10,4 +10,5 @@ mod tests;
 
 pub use area::{Area, Direction};
 pub use laws::{dots_fall, marks_and_wipes, rows_make_an_image};
-pub use page::Page;
+pub use line::{LINE_BYTES, LINE_DOTS};
+pub use page::{PAGE_ROWS, PAPER_BYTES, PAPER_DOTS, Page};

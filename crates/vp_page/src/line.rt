@@ -1,6 +1,7 @@
 //! One row of dots, laid along a row of a page or across its rows, and a box made white.
 ghost use Rattle.std.specs.Prelude.{◌≡◌, ℕ, ◌+◌, ◌-◌, ◌*◌, ◌≤◌, ◌^◌, ◌&&◌, nat_eq, nat_lt, nat_le, ◌<◌, [], ◌∷◌, length, slice_index_or, pos, ◌+ℤ◌};
-ghost use Rattle.vp_page.specs.declared.line.TheConstants.{LINE};
+ghost use Rattle.vp_page.specs.declared.line.TheConstants.{LINE_BYTES, LINE_DOTS};
+ghost use Rattle.vp_page.specs.declared.page.TheConstants.{PAGE_ROWS};
 ghost use Rattle.vp_dots.specs.Dots.{bit, dot, dots, shifted};
 ghost use Rattle.vp_dots.specs.Painting.{Painted};
 ghost use Rattle.vp_dots.specs.Places.{RowsPainted};
@@ -8,13 +9,14 @@ ghost use Rattle.vp_dots.specs.declared.Op.TheVariants.{Black, White};
 ghost use Rattle.vp_page.specs.Areas.{holds};
 
 use crate::Area;
-use vp_dots::{Band, Ink, Op, fill_dots, lay_eight, or_into};
+use crate::page::{PAGE_ROWS, PageBand};
+use vp_dots::{Ink, Op, fill_dots, lay_eight, or_into};
 
-/// The rows of the page.
-const ROWS: usize = 1664;
+/// The bytes of the longest line of a page: one across its rows.
+pub const LINE_BYTES: usize = 208;
 
-/// The most bytes of a row that is laid: a line of 1,664 dots.
-pub(crate) const LINE: usize = 208;
+/// Its dots.
+pub const LINE_DOTS: usize = 8 * LINE_BYTES;
 
 /// Writes a line of an image.
 pub(crate) fn draw<I: Ink>(ink: &I, y: u32, row: &mut [u8])
@@ -29,7 +31,8 @@ pub(crate) fn draw<I: Ink>(ink: &I, y: u32, row: &mut [u8])
 /// Turns a row of dots end for end.
 fn reverse(line: &mut [u8])
     ensures len { length line.new ≡ length line.old }
-    ensures turned { (d : ℕ) → dot line.new d ≡ (nat_lt d (dots line.old) && dot line.old (dots line.old - 1 - d)) }
+    ensures turned { (d : ℕ) → dot line.new d ≡
+        (nat_lt d (dots line.old) && dot line.old (dots line.old - 1 - d)) }
 {
     line.reverse();
     for byte in line.iter_mut() {
@@ -39,7 +42,7 @@ fn reverse(line: &mut [u8])
 
 /// Copies the dots of a row that stand before a place; the others become white.
 fn clip(row: &[u8], end: u16, line: &mut [u8])
-    requires short { length row.now ≤ 208 }
+    requires short { length row.now ≤ LINE_BYTES }
     requires alike { length line.old ≡ length row.now }
     ensures len { length line.new ≡ length row.now }
     ensures cut { (d : ℕ) → dot line.new d ≡ (nat_lt d end && dot row.now d) }
@@ -50,10 +53,11 @@ fn clip(row: &[u8], end: u16, line: &mut [u8])
 
 /// The same, from the last dot to the first.
 fn clip_reversed(row: &[u8], end: u16, line: &mut [u8])
-    requires short { length row.now ≤ 208 }
+    requires short { length row.now ≤ LINE_BYTES }
     requires alike { length line.old ≡ length row.now }
     ensures len { length line.new ≡ length row.now }
-    ensures cut { (d : ℕ) → dot line.new d ≡ (nat_lt d (dots row.now) && (nat_lt (dots row.now - 1 - d) end && dot row.now (dots row.now - 1 - d))) }
+    ensures cut { (d : ℕ) → dot line.new d ≡ (nat_lt d (dots row.now)
+        && (nat_lt (dots row.now - 1 - d) end && dot row.now (dots row.now - 1 - d))) }
 {
     clip(row, end, line);
     reverse(line);
@@ -61,25 +65,29 @@ fn clip_reversed(row: &[u8], end: u16, line: &mut [u8])
 
 /// Where a line of so many bytes begins that ends before a place.
 fn start_of(end: u32, bytes: usize) -> i64
-    requires { bytes ≤ 208 }
+    requires { bytes ≤ LINE_BYTES }
     ensures { result +ℤ pos (8 * bytes) ≡ pos end }
 {
     i64::from(end) - 8 * bytes as i64
 }
 
 /// Blackens row y of the page where the line, moved by an offset, is black.
-fn lay_along(line: &[u8], at: i64, y: usize, band: &mut Band<72, 1664>)
-    ensures { RowsPainted 1664 Black (λ x k. nat_eq k y && shifted at (dot line.now) x) band.old band.new }
+fn lay_along(line: &[u8], at: i64, y: usize, band: &mut PageBand)
+    ensures { RowsPainted PAGE_ROWS Black
+        (λ x k. nat_eq k y && shifted at (dot line.now) x)
+        band.old band.new }
 {
-    if y < ROWS {
+    if y < PAGE_ROWS {
         or_into(line, at, band.row_mut(y));
     }
 }
 
 /// Blackens column x of the page where the line, moved by an offset, is black.
-fn lay_across(line: &[u8], at: i64, x: usize, band: &mut Band<72, 1664>)
-    requires { length line.now ≤ 208 }
-    ensures { RowsPainted 1664 Black (λ d k. nat_eq d x && shifted at (dot line.now) k) band.old band.new }
+fn lay_across(line: &[u8], at: i64, x: usize, band: &mut PageBand)
+    requires { length line.now ≤ LINE_BYTES }
+    ensures { RowsPainted PAGE_ROWS Black
+        (λ d k. nat_eq d x && shifted at (dot line.now) k)
+        band.old band.new }
 {
     let far = at.unsigned_abs() as usize;
     if at >= 0 {
@@ -112,10 +120,12 @@ fn lay_dot(byte: u8, n: usize, x: usize, row: &mut [u8])
 
 /// Blackens column x of so many rows of the page where the byte, its dot `skip` on row `top`, is black.
 #[inline(always)]
-fn lay_rows(byte: u8, skip: usize, top: usize, rows: usize, x: usize, band: &mut Band<72, 1664>)
+fn lay_rows(byte: u8, skip: usize, top: usize, rows: usize, x: usize, band: &mut PageBand)
     requires dots { rows ≤ 8 - skip }
-    requires inside { rows ≤ 1664 - top }
-    ensures { RowsPainted 1664 Black (λ d k. nat_lt k (top + rows) && (nat_eq d x && (nat_le top k && dot (byte ∷ []) (k - top + skip)))) band.old band.new }
+    requires inside { rows ≤ PAGE_ROWS - top }
+    ensures { RowsPainted PAGE_ROWS Black
+        (λ d k. nat_lt k (top + rows) && (nat_eq d x && (nat_le top k && dot (byte ∷ []) (k - top + skip))))
+        band.old band.new }
 {
     for i in 0..rows {
         lay_dot(byte, skip + i, x, band.row_mut(top + i));
@@ -125,19 +135,25 @@ fn lay_rows(byte: u8, skip: usize, top: usize, rows: usize, x: usize, band: &mut
 /// Blackens column x of the page where the byte, its dot `skip` on row `top`, is black.
 // Called where a line begins or ends, and so kept out of the loop over its bytes.
 #[inline(never)]
-fn lay_part(byte: u8, skip: usize, top: usize, x: usize, band: &mut Band<72, 1664>)
-    ensures { RowsPainted 1664 Black (λ d k. nat_eq d x && (nat_le top k && dot (byte ∷ []) (k - top + skip))) band.old band.new }
+fn lay_part(byte: u8, skip: usize, top: usize, x: usize, band: &mut PageBand)
+    ensures { RowsPainted PAGE_ROWS Black
+        (λ d k. nat_eq d x && (nat_le top k && dot (byte ∷ []) (k - top + skip)))
+        band.old band.new }
 {
-    let rows = 8usize.saturating_sub(skip).min(ROWS.saturating_sub(top));
+    let rows = 8usize
+        .saturating_sub(skip)
+        .min(PAGE_ROWS.saturating_sub(top));
     lay_rows(byte, skip, top, rows, x, band);
 }
 
 /// The same. Mostly all eight dots of the byte are on the page.
 #[inline(always)]
-fn lay_byte(byte: u8, skip: usize, top: usize, x: usize, band: &mut Band<72, 1664>)
-    ensures { RowsPainted 1664 Black (λ d k. nat_eq d x && (nat_le top k && dot (byte ∷ []) (k - top + skip))) band.old band.new }
+fn lay_byte(byte: u8, skip: usize, top: usize, x: usize, band: &mut PageBand)
+    ensures { RowsPainted PAGE_ROWS Black
+        (λ d k. nat_eq d x && (nat_le top k && dot (byte ∷ []) (k - top + skip)))
+        band.old band.new }
 {
-    if skip == 0 && top <= ROWS - 8 {
+    if skip == 0 && top <= PAGE_ROWS - 8 {
         lay_rows(byte, 0, top, 8, x, band);
     } else {
         lay_part(byte, skip, top, x, band);
@@ -145,10 +161,12 @@ fn lay_byte(byte: u8, skip: usize, top: usize, x: usize, band: &mut Band<72, 166
 }
 
 /// Blackens column x of the page where the line, its dot `skip` on row `top`, is black.
-fn lay_from(line: &[u8], skip: usize, top: usize, x: usize, band: &mut Band<72, 1664>)
-    requires short { length line.now ≤ 208 }
+fn lay_from(line: &[u8], skip: usize, top: usize, x: usize, band: &mut PageBand)
+    requires short { length line.now ≤ LINE_BYTES }
     requires near { top ≤ 2 ^ 63 }
-    ensures { RowsPainted 1664 Black (λ d k. nat_eq d x && (nat_le top k && dot line.now (k - top + skip))) band.old band.new }
+    ensures { RowsPainted PAGE_ROWS Black
+        (λ d k. nat_eq d x && (nat_le top k && dot line.now (k - top + skip)))
+        band.old band.new }
 {
     for j in 0..line.len() {
         let byte = line[j];
@@ -160,26 +178,31 @@ fn lay_from(line: &[u8], skip: usize, top: usize, x: usize, band: &mut Band<72, 
 }
 
 /// Blackens row y of the page where the row, from the area's left on, is black.
-pub(crate) fn lay_right(row: &[u8], area: Area, y: usize, band: &mut Band<72, 1664>)
-    requires { length row.now ≤ 208 }
-    ensures { RowsPainted 1664 Black (λ x k. nat_eq k y && (nat_le area.x x && (nat_lt (x - area.x) area.dx && dot row.now (x - area.x)))) band.old band.new }
+pub(crate) fn lay_right(row: &[u8], area: Area, y: usize, band: &mut PageBand)
+    requires { length row.now ≤ LINE_BYTES }
+    ensures { RowsPainted PAGE_ROWS Black
+        (λ x k. nat_eq k y && (nat_le area.x x && (nat_lt (x - area.x) area.dx && dot row.now (x - area.x))))
+        band.old band.new }
 {
     if 8 * row.len() <= area.dx as usize {
         lay_along(row, i64::from(area.x), y, band);
         return;
     }
-    let mut room = [0; LINE];
+    let mut room = [0; LINE_BYTES];
     let line = &mut room[..row.len()];
     clip(row, area.dx, line);
     lay_along(line, i64::from(area.x), y, band);
 }
 
 /// Blackens row y of the page where the row, from the area's right edge to the left, is black.
-pub(crate) fn lay_left(row: &[u8], area: Area, y: usize, band: &mut Band<72, 1664>)
-    requires { length row.now ≤ 208 }
-    ensures { RowsPainted 1664 Black (λ x k. nat_eq k y && (nat_lt x (area.x + area.dx) && (nat_lt (area.x + area.dx - 1 - x) area.dx && dot row.now (area.x + area.dx - 1 - x)))) band.old band.new }
+pub(crate) fn lay_left(row: &[u8], area: Area, y: usize, band: &mut PageBand)
+    requires { length row.now ≤ LINE_BYTES }
+    ensures { RowsPainted PAGE_ROWS Black
+        (λ x k. nat_eq k y && (nat_lt x (area.x + area.dx)
+        && (nat_lt (area.x + area.dx - 1 - x) area.dx && dot row.now (area.x + area.dx - 1 - x))))
+        band.old band.new }
 {
-    let mut room = [0; LINE];
+    let mut room = [0; LINE_BYTES];
     let line = &mut room[..row.len()];
     clip_reversed(row, area.dx, line);
     let right = u32::from(area.x) + u32::from(area.dx);
@@ -187,22 +210,27 @@ pub(crate) fn lay_left(row: &[u8], area: Area, y: usize, band: &mut Band<72, 166
 }
 
 /// Blackens column x of the page where the row, from the area's top down, is black.
-pub(crate) fn lay_down(row: &[u8], area: Area, x: usize, band: &mut Band<72, 1664>)
-    requires { length row.now ≤ 208 }
-    ensures { RowsPainted 1664 Black (λ d k. nat_eq d x && (nat_le area.y k && (nat_lt (k - area.y) area.dy && dot row.now (k - area.y)))) band.old band.new }
+pub(crate) fn lay_down(row: &[u8], area: Area, x: usize, band: &mut PageBand)
+    requires { length row.now ≤ LINE_BYTES }
+    ensures { RowsPainted PAGE_ROWS Black
+        (λ d k. nat_eq d x && (nat_le area.y k && (nat_lt (k - area.y) area.dy && dot row.now (k - area.y))))
+        band.old band.new }
 {
-    let mut room = [0; LINE];
+    let mut room = [0; LINE_BYTES];
     let line = &mut room[..row.len()];
     clip(row, area.dy, line);
     lay_across(line, i64::from(area.y), x, band);
 }
 
 /// Blackens column x of the page where the row, from the area's lower edge up, is black.
-pub(crate) fn lay_up(row: &[u8], area: Area, x: usize, band: &mut Band<72, 1664>)
-    requires { length row.now ≤ 208 }
-    ensures { RowsPainted 1664 Black (λ d k. nat_eq d x && (nat_lt k (area.y + area.dy) && (nat_lt (area.y + area.dy - 1 - k) area.dy && dot row.now (area.y + area.dy - 1 - k)))) band.old band.new }
+pub(crate) fn lay_up(row: &[u8], area: Area, x: usize, band: &mut PageBand)
+    requires { length row.now ≤ LINE_BYTES }
+    ensures { RowsPainted PAGE_ROWS Black
+        (λ d k. nat_eq d x && (nat_lt k (area.y + area.dy)
+        && (nat_lt (area.y + area.dy - 1 - k) area.dy && dot row.now (area.y + area.dy - 1 - k))))
+        band.old band.new }
 {
-    let mut room = [0; LINE];
+    let mut room = [0; LINE_BYTES];
     let line = &mut room[..row.len()];
     clip_reversed(row, area.dy, line);
     let below = u32::from(area.y) + u32::from(area.dy);
@@ -210,30 +238,30 @@ pub(crate) fn lay_up(row: &[u8], area: Area, x: usize, band: &mut Band<72, 1664>
 }
 
 /// The dots of a line that stand before a place.
-fn clipped(row: &[u8; LINE], end: u16) -> [u8; LINE]
+fn clipped(row: &[u8; LINE_BYTES], end: u16) -> [u8; LINE_BYTES]
     ensures { (d : ℕ) → dot result d ≡ (nat_lt d end && dot row.now d) }
 {
-    let mut line = [0; LINE];
+    let mut line = [0; LINE_BYTES];
     clip(row, end, &mut line);
     line
 }
 
 /// The same, from the last dot to the first.
-fn clipped_reversed(row: &[u8; LINE], end: u16) -> [u8; LINE]
-    ensures { (d : ℕ) → dot result d ≡ (nat_lt d (8 * LINE)
-        && (nat_lt (8 * LINE - 1 - d) end && dot row.now (8 * LINE - 1 - d))) }
+fn clipped_reversed(row: &[u8; LINE_BYTES], end: u16) -> [u8; LINE_BYTES]
+    ensures { (d : ℕ) → dot result d ≡ (nat_lt d LINE_DOTS
+        && (nat_lt (LINE_DOTS - 1 - d) end && dot row.now (LINE_DOTS - 1 - d))) }
 {
-    let mut line = [0; LINE];
+    let mut line = [0; LINE_BYTES];
     clip_reversed(row, end, &mut line);
     line
 }
 
 /// Eight lines, the last one first, as far as a place.
-fn clip_upward(lines: &[[u8; LINE]; 8], end: u16) -> [[u8; LINE]; 8]
+fn clip_upward(lines: &[[u8; LINE_BYTES]; 8], end: u16) -> [[u8; LINE_BYTES]; 8]
     ensures { (i d : ℕ) → i < 8
         → dot (slice_index_or result i []) d ≡ (nat_lt d end && dot (slice_index_or lines.now (7 - i) []) d) }
 {
-    let mut cut = [[0; LINE]; 8];
+    let mut cut = [[0; LINE_BYTES]; 8];
     for i in 0..8usize {
         cut[i] = clipped(&lines[7 - i], end);
     }
@@ -241,27 +269,27 @@ fn clip_upward(lines: &[[u8; LINE]; 8], end: u16) -> [[u8; LINE]; 8]
 }
 
 /// Eight lines as far as a place, each from the last dot to the first.
-fn clip_eight_reversed(lines: &[[u8; LINE]; 8], end: u16) -> [[u8; LINE]; 8]
-    ensures { (i d : ℕ) → i < 8 → dot (slice_index_or result i []) d ≡ (nat_lt d (8 * LINE)
-        && (nat_lt (8 * LINE - 1 - d) end && dot (slice_index_or lines.now i []) (8 * LINE - 1 - d))) }
+fn clip_eight_reversed(lines: &[[u8; LINE_BYTES]; 8], end: u16) -> [[u8; LINE_BYTES]; 8]
+    ensures { (i d : ℕ) → i < 8 → dot (slice_index_or result i []) d ≡ (nat_lt d LINE_DOTS
+        && (nat_lt (LINE_DOTS - 1 - d) end && dot (slice_index_or lines.now i []) (LINE_DOTS - 1 - d))) }
 {
-    let mut cut = [[0; LINE]; 8];
+    let mut cut = [[0; LINE_BYTES]; 8];
     for i in 0..8usize {
         cut[i] = clipped_reversed(&lines[i], end);
     }
     cut
 }
 
-/// Blackens eight columns of the page where eight lines, from the area's top down, are black: the last line at `left`,
-/// and each on the right of the next.
+/// Blackens eight columns of the page where eight lines, from the area's top down, are black: the last line
+/// at `left`, and each on the right of the next.
 pub(crate) fn lay_eight_down(
-    lines: &[[u8; LINE]; 8],
+    lines: &[[u8; LINE_BYTES]; 8],
     area: Area,
     left: usize,
-    band: &mut Band<72, 1664>,
+    band: &mut PageBand,
 )
     requires { left < 2 ^ 63 }
-    ensures { RowsPainted 1664 Black (λ x k. nat_le left x && (nat_lt (x - left) 8 && (nat_le area.y k
+    ensures { RowsPainted PAGE_ROWS Black (λ x k. nat_le left x && (nat_lt (x - left) 8 && (nat_le area.y k
         && (nat_lt (k - area.y) area.dy && dot (slice_index_or lines.now (7 - (x - left)) []) (k - area.y)))))
         band.old band.new }
 {
@@ -269,32 +297,33 @@ pub(crate) fn lay_eight_down(
     lay_eight(Op::Black, &cut, left, i64::from(area.y), band);
 }
 
-/// Blackens eight columns of the page where eight lines, from the area's lower edge up, are black: the first line at
-/// `left`.
+/// Blackens eight columns of the page where eight lines, from the area's lower edge up, are black: the first
+/// line at `left`.
 pub(crate) fn lay_eight_up(
-    lines: &[[u8; LINE]; 8],
+    lines: &[[u8; LINE_BYTES]; 8],
     area: Area,
     left: usize,
-    band: &mut Band<72, 1664>,
+    band: &mut PageBand,
 )
     requires { left < 2 ^ 63 }
-    ensures { RowsPainted 1664 Black (λ x k. nat_le left x && (nat_lt (x - left) 8 && (nat_lt k (area.y + area.dy)
-        && (nat_lt (area.y + area.dy - 1 - k) area.dy && (nat_lt (area.y + area.dy - 1 - k) (8 * LINE)
+    ensures { RowsPainted PAGE_ROWS Black (λ x k. nat_le left x && (nat_lt (x - left) 8
+        && (nat_lt k (area.y + area.dy) && (nat_lt (area.y + area.dy - 1 - k) area.dy
+        && (nat_lt (area.y + area.dy - 1 - k) LINE_DOTS
         && dot (slice_index_or lines.now (x - left) []) (area.y + area.dy - 1 - k)))))) band.old band.new }
 {
     let cut = clip_eight_reversed(lines, area.dy);
     let below = u32::from(area.y) + u32::from(area.dy);
-    lay_eight(Op::Black, &cut, left, start_of(below, LINE), band);
+    lay_eight(Op::Black, &cut, left, start_of(below, LINE_BYTES), band);
 }
 
 /// Makes the places of an area white.
-pub(crate) fn whiten(area: Area, band: &mut Band<72, 1664>)
-    ensures { RowsPainted 1664 White (holds area) band.old band.new }
+pub(crate) fn whiten(area: Area, band: &mut PageBand)
+    ensures { RowsPainted PAGE_ROWS White (holds area) band.old band.new }
 {
     let left = u64::from(area.x);
     let right = left + u64::from(area.dx);
     let top = area.y as usize;
-    for i in 0..ROWS.saturating_sub(top).min(area.dy as usize) {
+    for i in 0..PAGE_ROWS.saturating_sub(top).min(area.dy as usize) {
         fill_dots(Op::White, left, right, band.row_mut(top + i));
     }
 }

@@ -2,19 +2,33 @@
 ghost use Rattle.std.specs.Prelude.{◌≡◌, ℕ, ◌<◌, ◌≤◌, List, [], ◌∷◌, IfOk, length, slice_index_or, take};
 ghost use Rattle.vp_dots.specs.Dots.{dot};
 ghost use Rattle.vp_dots.specs.Images.{row_of};
+ghost use Rattle.vp_page.specs.declared.line.TheConstants.{LINE_BYTES, LINE_DOTS};
+ghost use Rattle.vp_page.specs.declared.page.TheConstants.{PAPER_BYTES, PAGE_ROWS};
 
 use crate::line::{
-    LINE, draw, lay_down, lay_eight_down, lay_eight_up, lay_left, lay_right, lay_up, whiten,
+    LINE_BYTES, draw, lay_down, lay_eight_down, lay_eight_up, lay_left, lay_right, lay_up, whiten,
 };
 use crate::{Area, Direction};
 use std::alloc::{AllocError, Global};
 use std::marker::Model;
 use vp_dots::{Band, Ink, dots_decide};
 
-/// 1,664 rows of 576 dots.
+/// The dots of a row of the page, and of the wide paper.
+pub const PAPER_DOTS: u16 = 576;
+
+/// The bytes of such a row.
+pub const PAPER_BYTES: usize = 72;
+
+/// The rows of the page.
+pub const PAGE_ROWS: usize = 1664;
+
+/// Rows of dots, as many as the page has.
+pub(crate) type PageBand = Band<PAPER_BYTES, PAGE_ROWS>;
+
+/// The dots of a page.
 #[derive(Drop)]
 pub struct Page {
-    band: Band<72, 1664>,
+    band: PageBand,
 }
 
 impl Model for Page {
@@ -47,7 +61,7 @@ impl Page {
     /// Lays a row of dots at the depth v of an area. Dots past the line length, and a row past the
     /// depth, are dropped, and what falls off the page.
     pub fn lay_row(&mut self, area: Area, direction: Direction, v: u32, row: &[u8])
-        requires { length row.now ≤ 208 }
+        requires { length row.now ≤ LINE_BYTES }
         ensures { (layers : List Layer) → HasPage layers self.old →
             HasPage (Laid (row_mark area direction v (dot row.now)) ∷ layers) self.new }
     {
@@ -65,8 +79,15 @@ impl Page {
         }
     }
 
-    /// Lays eight rows of dots, one below the other, the first at the depth v of an area, as `lay_row` lays each.
-    pub fn lay_eight(&mut self, area: Area, direction: Direction, v: u32, rows: &[[u8; LINE]; 8])
+    /// Lays eight rows of dots, one below the other, the first at the depth v of an area, as `lay_row` lays
+    /// each.
+    pub fn lay_eight(
+        &mut self,
+        area: Area,
+        direction: Direction,
+        v: u32,
+        rows: &[[u8; LINE_BYTES]; 8],
+    )
         ensures { (layers : List Layer) → HasPage layers self.old →
             HasPage (Laid (eight_mark area direction v rows.now) ∷ layers) self.new }
     {
@@ -91,15 +112,16 @@ impl Page {
         }
     }
 
-    /// Lays an image of at most 1,664 dots of width, with its top at a depth of an area. Dots past the
-    /// line length and the depth are dropped, and what falls off the page.
+    /// Lays an image no wider than the longest line, with its top at a depth of an area. Dots past the line
+    /// length and the depth are dropped, and what falls off the page.
     pub fn lay<I: Ink>(&mut self, ink: &I, area: Area, direction: Direction, top: u32)
-        requires { I.width ink.now ≤ 1664 }
+        requires { I.width ink.now ≤ LINE_DOTS }
         ensures { (layers : List Layer) → HasPage layers self.old →
-            HasPage (Laid (record { area = area; direction = direction; top = top; dot = I.ink_at ink.now }) ∷ layers) self.new }
+            HasPage (Laid (record { area = area; direction = direction; top = top; dot = I.ink_at ink.now })
+            ∷ layers) self.new }
     {
         let (width, height) = ink.size();
-        let mut room = [0; LINE];
+        let mut room = [0; LINE_BYTES];
         let row = &mut room[..width.div_ceil(8) as usize];
         let below = u32::from(area.depth(direction)).saturating_sub(top);
         for line in 0..height.min(below) {
@@ -110,17 +132,20 @@ impl Page {
 
     /// CAN: makes an area white.
     pub fn wipe(&mut self, area: Area)
-        ensures { (layers : List Layer) → HasPage layers self.old → HasPage (Wiped area ∷ layers) self.new }
+        ensures { (layers : List Layer) → HasPage layers self.old →
+            HasPage (Wiped area ∷ layers) self.new }
     {
         whiten(area, &mut self.band);
     }
 
     /// The bytes of a row.
     pub fn row(&self, y: usize) -> &[u8]
-        requires { y < 1664 }
+        requires { y < PAGE_ROWS }
         ensures value { result.now ≡ slice_index_or self.now y [] }
-        ensures bytes { (layers : List Layer) → HasPage layers self.now → result.now ≡ row_of 72 (λ x. page_dot layers x y) }
-        ensures left { (layers : List Layer) (n : ℕ) → HasPage layers self.now → n ≤ 72 → take n result.now ≡ row_of n (λ x. page_dot layers x y) }
+        ensures bytes { (layers : List Layer) → HasPage layers self.now →
+            result.now ≡ row_of PAPER_BYTES (λ x. page_dot layers x y) }
+        ensures left { (layers : List Layer) (n : ℕ) → HasPage layers self.now → n ≤ PAPER_BYTES →
+            take n result.now ≡ row_of n (λ x. page_dot layers x y) }
     {
         let row = self.band.row(y);
         dots_decide(row);

@@ -18,7 +18,8 @@ impl Ink for Wedge {
 
     ghost ink_at = { λ s x y. nat_lt y s.side && nat_lt x (s.side - y) && nat_lt x s.side };
 
-    ghost outside = { λ s x y h. (ltb-true x s.side (and_parts _ _ h).1, ltb-true y s.side (and_parts _ _ (and_parts _ _ h).0).0) };
+    ghost outside = { λ s x y h.
+        (ltb-true x s.side (and_parts _ _ h).1, ltb-true y s.side (and_parts _ _ (and_parts _ _ h).0).0) };
 
     fn size(&self) -> (u32, u32) {
         (self.side, self.side)
