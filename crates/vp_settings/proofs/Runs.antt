@@ -44,11 +44,11 @@ data_stay [] before = refl
 data_stay (b ∷ bytes) before = ap qr_data (after_first b bytes before) ∙ data_stay bytes (RasterByte b ∷ before)
 
 -- the row with bytes that don't end it
-record Lasts (bytes : List ℕ) (before : List EscItem) : Type 0 where
-  scale : raster_scale (bytes_after bytes before) ≡ raster_scale before
-  width : raster_bytes (bytes_after bytes before) ≡ raster_bytes before
-  rows : rows_to_come (bytes_after bytes before) ≡ rows_to_come before
-  row : row_so_far (bytes_after bytes before) ≡ row_so_far before ++ bytes
+pub record Lasts (bytes : List ℕ) (before : List EscItem) : Type 0 where
+  pub scale : raster_scale (bytes_after bytes before) ≡ raster_scale before
+  pub width : raster_bytes (bytes_after bytes before) ≡ raster_bytes before
+  pub rows : rows_to_come (bytes_after bytes before) ≡ rows_to_come before
+  pub row : row_so_far (bytes_after bytes before) ≡ row_so_far before ++ bytes
 
 pub record IsInside (b : ℕ) (before : List EscItem) : Type 0 where
   pub rows : rows_to_come (RasterByte b ∷ before) ≡ rows_to_come before
@@ -63,7 +63,7 @@ inside b before some room =
     let come : eqb (rows_to_come before) 0 ≡ false = grind (arith, nat_tests) in
     record { rows = rw more refl; row = rw (more, come) refl }
 
-lasts : (bytes : List ℕ) (before : List EscItem) → 0 < rows_to_come before → length (row_so_far before) + length bytes < raster_bytes before → Lasts bytes before
+pub lasts : (bytes : List ℕ) (before : List EscItem) → 0 < rows_to_come before → length (row_so_far before) + length bytes < raster_bytes before → Lasts bytes before
 lasts [] before some room = record { scale = refl; width = refl; rows = refl; row = sym (append-nil (row_so_far before)) }
 lasts (b ∷ bytes) before some room =
     let one = inside b before some (omega arith) in

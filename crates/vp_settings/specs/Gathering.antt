@@ -1,6 +1,7 @@
 -- What is kept of the raster whose bytes come.
 use Rattle.std.specs.Prelude.{◌≡◌, ◌<◌, ℕ, ◌-◌, ◌==◌, if◌then◌else◌, true, List, [], ◌∷◌, ◌++◌, length, take, min}
 use Rattle.vp_esc.specs.declared.item.EscItem.{EscItem}
+use Rattle.vp_page.specs.declared.line.TheConstants.{LINE_BYTES}
 use Rattle.vp_settings.specs.declared.raster.Raster.{Raster}
 use Rattle.vp_settings.specs.Rasters.{raster_scale, raster_bytes, rows_to_come, row_so_far, is_row_end}
 
@@ -10,14 +11,18 @@ pub record IsGathering (r : Raster) (before : List EscItem) : Type 0 where
   pub bytes : r.bytes ≡ raster_bytes before
   pub rows : r.rows ≡ rows_to_come before
   pub got : r.got ≡ length (row_so_far before)
-  pub row : take (min r.got 208) r.row ≡ take 208 (row_so_far before)
+  pub row : take (min r.got LINE_BYTES) r.row ≡ take LINE_BYTES (row_so_far before)
+
+-- what is kept of a whole row
+abbrev pub kept_of : Raster → List ℕ
+kept_of r = take (min r.bytes LINE_BYTES) r.row
 
 -- a byte that ends a row came last
 pub record EndsRow (r : Raster) (before : List EscItem) (byte : ℕ) : Type 0 where
   pub ends : is_row_end before ≡ true
   pub scale : r.scale ≡ raster_scale before
   pub bytes : r.bytes ≡ raster_bytes before
-  pub row : take (min r.bytes 208) r.row ≡ take 208 (row_so_far before ++ byte ∷ [])
+  pub row : kept_of r ≡ take LINE_BYTES (row_so_far before ++ byte ∷ [])
 
 -- a row that comes is not whole
 pub record IsPartRow (r : Raster) : Type 0 where

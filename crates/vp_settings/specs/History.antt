@@ -10,6 +10,10 @@ use Rattle.vp_settings.specs.declared.width.Width.{Width}
 use Rattle.vp_glyph.specs.declared.Sheets.{Sheets}
 use Rattle.vp_settings.specs.declared.text.Text.{Text}
 use Rattle.vp_settings.specs.declared.settings.Settings.{Settings}
+use Rattle.vp_page.specs.declared.page.TheConstants.{PAPER_DOTS, PAGE_ROWS}
+use Rattle.vp_page.specs.declared.line.TheConstants.{LINE_DOTS}
+use Rattle.vp_settings.specs.declared.text.TheConstants.{LINE_ROWS, WIDEST}
+use Rattle.vp_settings.specs.declared.settings.TheConstants.{DEFAULT_LINE_SPACING}
 use Rattle.vp_page.specs.declared.area.Area.{Area}
 use Rattle.vp_page.specs.declared.area.Direction.{Direction}
 use Rattle.vp_page.specs.Areas.{line_length as length_on_page}
@@ -28,10 +32,10 @@ use Rattle.vp_settings.specs.Tabs.{tab_stops, tabbed}
 
 -- ESC 2, ESC 3: the line spacing
 abbrev pub line_spacing : List EscItem → ℕ
-line_spacing [] = 34
-line_spacing (DefaultLineSpacing ∷ before) = 34
+line_spacing [] = DEFAULT_LINE_SPACING
+line_spacing (DefaultLineSpacing ∷ before) = DEFAULT_LINE_SPACING
 line_spacing (LineSpacing n ∷ before) = n
-line_spacing (Initialize ∷ before) = 34
+line_spacing (Initialize ∷ before) = DEFAULT_LINE_SPACING
 line_spacing (_ ∷ before) = line_spacing before
 
 -- ESC *: how wide a dot of a column is
@@ -493,9 +497,9 @@ pub record IsFitText (t : Text) : Type 0 where
 
 -- the area lies on the page
 pub record IsFitPage (p : PageSettings) : Type 0 where
-  pub across : p.area.x + p.area.dx ≤ 576
-  pub down : p.area.y + p.area.dy ≤ 1664
-  pub used : p.used ≤ 1664
+  pub across : p.area.x + p.area.dx ≤ PAPER_DOTS
+  pub down : p.area.y + p.area.dy ≤ PAGE_ROWS
+  pub used : p.used ≤ PAGE_ROWS
 
 -- and the others
 pub record IsFit (s : Settings) : Type 0 where
@@ -505,6 +509,6 @@ pub record IsFit (s : Settings) : Type 0 where
   pub column : s.column_width ≤ 2
   pub column_some : 0 < s.column_width
   pub page : IsFitPage s.page
-  pub position : s.position ≤ 1664
-  pub height : s.height ≤ 192
-  pub right_edge : s.right_edge ≤ 3800
+  pub position : s.position ≤ LINE_DOTS
+  pub height : s.height ≤ LINE_ROWS
+  pub right_edge : s.right_edge ≤ LINE_DOTS + WIDEST

@@ -4,6 +4,7 @@ use Rattle.vp_esc.specs.declared.item.EscItem.{EscItem}
 use Rattle.vp_esc.specs.declared.item.EscItem.TheVariants.{Area as SetArea, Direction as SetDirection, Initialize, VerticalPosition, MoveVerticalPosition, PrintPage, FormFeed, Cancel}
 use Rattle.vp_esc.specs.declared.item.Direction.{Direction as EscDirection}
 use Rattle.vp_esc.specs.declared.item.Direction.TheVariants.{LeftToRight as EscLeftToRight, BottomToTop as EscBottomToTop, RightToLeft as EscRightToLeft, TopToBottom as EscTopToBottom}
+use Rattle.vp_page.specs.declared.page.TheConstants.{PAGE_ROWS}
 use Rattle.vp_page.specs.declared.area.Area.{Area}
 use Rattle.vp_page.specs.declared.area.Direction.{Direction}
 use Rattle.vp_page.specs.declared.area.Direction.TheVariants.{LeftToRight, BottomToTop, RightToLeft, TopToBottom}
@@ -18,16 +19,16 @@ is_paged Page = true
 
 -- the whole page
 abbrev pub whole_page : Width → Area
-whole_page paper = record { x = 0; y = 0; dx = across paper; dy = 1664 }
+whole_page paper = record { x = 0; y = 0; dx = across paper; dy = PAGE_ROWS }
 
 -- ESC W: an area begins on the page, and has a dot
 abbrev pub is_area : Width → ℕ → ℕ → ℕ → ℕ → Bool
-is_area paper x y wide high = nat_lt x (across paper) && nat_lt y 1664 && nat_lt 0 wide && nat_lt 0 high
+is_area paper x y wide high = nat_lt x (across paper) && nat_lt y PAGE_ROWS && nat_lt 0 wide && nat_lt 0 high
 
 -- it ends at the page's edges
 abbrev pub area_cut : Width → ℕ → ℕ → ℕ → ℕ → Area
 area_cut paper x y wide high =
-    record { x = x; y = y; dx = min wide (across paper - x); dy = min high (1664 - y) }
+    record { x = x; y = y; dx = min wide (across paper - x); dy = min high (PAGE_ROWS - y) }
 
 -- ESC W: the area, in either mode
 abbrev pub area : Setup → List EscItem → Area

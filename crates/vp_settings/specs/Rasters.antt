@@ -73,11 +73,6 @@ abbrev mutual
 abbrev pub is_row_end : List EscItem → Bool
 is_row_end before = ends_row (raster_bytes before) (row_so_far before) && nat_lt 0 (rows_to_come before)
 
--- bytes of a raster, the first one sent first
-abbrev pub sent : List ℕ → List EscItem → List EscItem
-sent [] before = before
-sent (byte ∷ bytes) before = sent bytes (RasterByte byte ∷ before)
-
 -- how many bytes come before the one that ends the row
 abbrev pub bytes_within_row : List EscItem → ℕ
 bytes_within_row before =

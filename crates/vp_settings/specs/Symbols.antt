@@ -1,5 +1,6 @@
 -- How symbols are drawn, by looking back over the items, and which are printed.
 use Rattle.std.specs.Prelude.{◌≡◌, ◌≤◌, ◌<◌, ℕ, ◌+◌, ◌*◌, ◌/◌, Bool, false, Result, Ok, Err, take, length as list_length, nat_lt, nat_le, ◌&&◌, if◌then◌else◌, List, [], ◌∷◌, ◌++◌, Option, Some, None}
+use Rattle.std.specs.Option.{option_or}
 use Rattle.vp_esc.specs.declared.item.EscItem.{EscItem}
 use Rattle.vp_esc.specs.declared.item.EscItem.TheVariants.{BarTextPlace, BarTextFont, BarHeight, BarModule, QrModel as SetQrModel, QrModule as SetQrModule, QrLevel as SetQrLevel, QrStore, QrByte, Initialize, QrPrint, Symbol as PrintSymbol}
 use Rattle.vp_esc.specs.declared.item.TextPlace.{TextPlace}
@@ -35,6 +36,7 @@ use Rattle.vp_dots.specs.Images.{Image}
 use Rattle.vp_settings.specs.Setup.{Setup}
 use Rattle.vp_settings.specs.declared.bar_style.BarStyle.{BarStyle}
 use Rattle.vp_settings.specs.declared.qr_style.QrStyle.{QrStyle}
+use Rattle.vp_settings.specs.declared.stored.TheConstants.{STORED_BYTES}
 use Rattle.vp_settings.specs.declared.stored.Stored.{Stored}
 use Rattle.vp_settings.specs.Texts.{font_or}
 
@@ -113,10 +115,10 @@ qr_data (QrByte byte ∷ before) = qr_data before ++ byte ∷ []
 qr_data (Initialize ∷ before) = []
 qr_data (_ ∷ before) = qr_data before
 
--- the first 652 bytes are kept, and whether there are more
+-- the first bytes are kept, as many as the largest symbol holds, and whether there are more
 pub record IsStored (s : Stored) (bytes : List ℕ) : Type 0 where
-  pub kept : s.bytes.items ≡ take 652 bytes
-  pub more : s.more ≡ nat_lt 652 (list_length bytes)
+  pub kept : s.bytes.items ≡ take STORED_BYTES bytes
+  pub more : s.more ≡ nat_lt STORED_BYTES (list_length bytes)
 
 -- what can be drawn
 pub record IsFitBars (s : BarStyle) : Type 0 where
@@ -152,11 +154,6 @@ qr_image style bytes =
 abbrev pub too_wide : ℕ → ℕ → Option Fault
 too_wide wide length = if nat_lt length wide then Some SymbolTooWide else None
 
--- the first of two refusals
-abbrev pub or_else : Option Fault → Option Fault → Option Fault
-or_else (Some fault) next = Some fault
-or_else None next = next
-
 -- model 2 alone is printed
 abbrev pub model_refusal : QrModel → Option Fault
 model_refusal One = Some (Symbol Unsupported)
@@ -165,17 +162,17 @@ model_refusal Micro = Some (Symbol Unsupported)
 
 -- more bytes than are kept
 abbrev pub many_refusal : List ℕ → Option Fault
-many_refusal bytes = if nat_lt 652 (list_length bytes) then Some SymbolTooLong else None
+many_refusal bytes = if nat_lt STORED_BYTES (list_length bytes) then Some SymbolTooLong else None
 
 -- bytes without a symbol, or with one that the line has no room for
 abbrev pub bytes_refusal : QrStyle → List ℕ → ℕ → Option Fault
 bytes_refusal style bytes length =
-    or_else (no_symbol (level_of style.level) Auto bytes) (too_wide (qr_side style bytes) length)
+    option_or (no_symbol (level_of style.level) Auto bytes) (too_wide (qr_side style bytes) length)
 
 -- GS ( k, function 81: why no symbol is printed, by its model, its bytes and its width
 abbrev pub qr_refusal : QrStyle → List ℕ → ℕ → Option Fault
 qr_refusal style bytes length =
-    or_else (model_refusal style.model) (or_else (many_refusal bytes) (bytes_refusal style bytes length))
+    option_or (model_refusal style.model) (option_or (many_refusal bytes) (bytes_refusal style bytes length))
 
 -- a scaled symbol is the image
 pub record IsQrImage (ink : ScaledSymbol) (image : Image) : Type 0 where

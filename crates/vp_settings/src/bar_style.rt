@@ -1,5 +1,5 @@
 //! How bar codes are drawn: their height, their module, and where their text stands.
-ghost use Rattle.std.specs.Prelude.{◌≡◌, ◌≤◌, ◌<◌, ◌∷◌, List};
+ghost use Rattle.std.specs.Prelude.{◌≡◌, ◌<◌, ◌∷◌, List};
 ghost use Rattle.vp_esc.specs.declared.item.EscItem.{EscItem};
 ghost use Rattle.vp_settings.specs.Symbols.{bar_style_of, IsFitBars};
 

@@ -1,5 +1,5 @@
 //! A column of dots.
-ghost use Rattle.std.specs.Prelude.{◌≡◌, ℕ, ◌+◌, ◌*◌, ◌≤◌, ◌<◌};
+ghost use Rattle.std.specs.Prelude.{◌<◌};
 ghost use Rattle.vp_settings.specs.Images.{column_dot, column_inside};
 
 use vp_dots::{Ink, dot_of};

@@ -2,11 +2,13 @@
 //!
 //! `width` knows the paper, `text` how characters are drawn, `tabs` the tab stops, `column` an image of dots;
 //! `bar_style` and `qr_style` know how symbols are drawn, `stored` the bytes of a QR symbol, and `raster` a
-//! raster whose bytes come. `page_mode` knows what is in force on a page, and `settings` all of it.
+//! raster whose bytes come. `page_mode` knows what is in force on a page, `line_end` how an item ends the
+//! line, and `settings` all that is in force.
 #![tactic(auto)]
 
 mod bar_style;
 mod column;
+mod line_end;
 mod page_mode;
 mod qr_style;
 mod raster;
@@ -18,11 +20,12 @@ mod width;
 
 pub use bar_style::BarStyle;
 pub use column::Column;
+pub use line_end::LineEnd;
 pub use page_mode::{Mode, PageSettings};
 pub use qr_style::QrStyle;
 pub use raster::{Raster, draws, scale_named, times_across, times_down};
-pub use settings::Settings;
-pub use stored::Stored;
+pub use settings::{DEFAULT_LINE_SPACING, Settings};
+pub use stored::{STORED_BYTES, Stored};
 pub use tabs::{Stops, first_stops, set_stops};
-pub use text::Text;
-pub use width::Width;
+pub use text::{LINE_ROWS, Text, WIDEST};
+pub use width::{NARROW_PAPER_BYTES, NARROW_PAPER_DOTS, Width};

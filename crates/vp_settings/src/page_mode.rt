@@ -1,19 +1,22 @@
 //! What is in force on a page: its mode, its area, the direction of its lines, and how far down it is used.
-ghost use Rattle.std.specs.Prelude.{◌≡◌, ◌≤◌, ◌<◌, ◌+◌, ◌-◌, ◌∷◌, List, [], ℕ, ℤ, max, min, nat_lt, true, ◌&&◌, ◌||◌};
+ghost use Rattle.std.specs.Prelude.{◌≡◌, ◌≤◌, ◌<◌, ◌+◌, ◌-◌, ◌∷◌, List, [], ℕ, nat_lt, true, ◌&&◌, ◌||◌, is_some, if◌then◌else◌};
 ghost use Rattle.vp_esc.specs.declared.item.EscItem.{EscItem};
 ghost use Rattle.vp_page.specs.Areas.{line_length as length_on_page};
+ghost use Rattle.vp_page.specs.declared.page.TheConstants.{PAGE_ROWS};
+ghost use Rattle.vp_page.specs.declared.line.TheConstants.{LINE_DOTS};
 ghost use Rattle.vp_settings.specs.Setup.{Setup};
-ghost use Rattle.vp_settings.specs.Pages.{is_paged, is_area, area_cut, direction_of, is_vertical_move, vertical_moved, vertical_after, is_obeyed, raised, area};
-ghost use Rattle.vp_settings.specs.History.{settings_of, page_of, symbol_top, strip_rows, ended_rows, lays, line, is_open, symbol_top, begins_page, mode, vertical, used, IsFit, IsFitPage};
+ghost use Rattle.vp_settings.specs.Pages.{is_paged, is_area, area_cut, direction_of, direction_or, is_vertical_move, vertical_moved, vertical_after, raised, area};
+ghost use Rattle.vp_settings.specs.History.{settings_of, page_of, symbol_top, lays, line, symbol_top, begins_page, mode, vertical, used, IsFit, IsFitPage};
+ghost use Rattle.vp_settings.specs.LineEnds.{rows_of_end, is_here};
 ghost use Rattle.vp_settings.specs.Symbols.{symbol_image, image_rows};
 ghost use Rattle.vp_settings.specs.Rasters.{is_row_end, raster_scale, times_down};
-ghost use Rattle.vp_settings.specs.History.{ends_line, printed_rows};
+ghost use Rattle.vp_settings.specs.History.{printed_rows};
 
-use crate::raster::draws;
+use crate::line_end::LineEnd;
 use crate::settings::Settings;
 use crate::width::Width;
 use vp_esc::item::{self, EscItem};
-use vp_page::{Area, Direction};
+use vp_page::{Area, Direction, PAGE_ROWS};
 
 /// Whether lines are printed on paper or laid on a page.
 #[derive(Clone, Copy, Debug, PartialEq, Eq)]
@@ -48,10 +51,10 @@ fn direction_of(direction: item::Direction) -> Direction
 }
 
 /// Whether an area begins on the page, and has a dot.
-fn is_area(paper: Width, x: u16, y: u16, wide: u16, high: u16) -> bool
+pub(crate) fn is_area(paper: Width, x: u16, y: u16, wide: u16, high: u16) -> bool
     ensures { result ≡ is_area paper x y wide high }
 {
-    x < paper.across() && y < 1664 && wide > 0 && high > 0
+    x < paper.across() && usize::from(y) < PAGE_ROWS && wide > 0 && high > 0
 }
 
 /// An area that ends at the page's edges.
@@ -62,12 +65,12 @@ fn area_cut(paper: Width, x: u16, y: u16, wide: u16, high: u16) -> Area
         x,
         y,
         dx: wide.min(paper.across().saturating_sub(x)),
-        dy: high.min(1664u16.saturating_sub(y)),
+        dy: high.min((PAGE_ROWS as u16).saturating_sub(y)),
     }
 }
 
 /// Whether a vertical position is moved to one.
-fn is_vertical_move(by: i16, vertical: u16) -> bool
+pub(crate) fn is_vertical_move(by: i16, vertical: u16) -> bool
     ensures { result ≡ is_vertical_move by vertical }
 {
     let far = by.unsigned_abs();
@@ -102,9 +105,9 @@ fn vertical_after(vertical: u16, rows: u32) -> u16
 
 /// The greatest lower edge, with that of an area which is used or not.
 fn raised(uses: bool, area: Area, old: u16) -> u16
-    requires down { area.y + area.dy ≤ 1664 }
+    requires down { area.y + area.dy ≤ PAGE_ROWS }
     ensures value { result ≡ raised uses area old }
-    ensures most { old ≤ 1664 → result ≤ 1664 }
+    ensures most { old ≤ PAGE_ROWS → result ≤ PAGE_ROWS }
 {
     if uses { old.max(area.y + area.dy) } else { old }
 }
@@ -121,7 +124,7 @@ impl PageSettings {
                 x: 0,
                 y: 0,
                 dx: paper.across(),
-                dy: 1664,
+                dy: PAGE_ROWS as u16,
             },
             direction: Direction::LeftToRight,
             vertical: 0,
@@ -143,11 +146,49 @@ impl PageSettings {
     pub fn line_length(self) -> u16
         requires { IsFitPage self }
         ensures value { result ≡ length_on_page self.area self.direction }
-        ensures most { result ≤ 1664 }
+        ensures most { result ≤ LINE_DOTS }
     {
-        match self.direction {
-            Direction::LeftToRight | Direction::RightToLeft => self.area.dx,
-            Direction::BottomToTop | Direction::TopToBottom => self.area.dy,
+        self.area.line_length(self.direction)
+    }
+
+    /// The settings with another vertical position.
+    fn at(self, vertical: u16) -> PageSettings
+        ensures { result ≡ record self { vertical = vertical } }
+    {
+        PageSettings { vertical, ..self }
+    }
+
+    /// The settings where an area is set.
+    fn within(self, area: Area) -> PageSettings
+        requires down { area.y + area.dy ≤ PAGE_ROWS }
+        ensures value { result ≡ record self {
+          area = area;
+          vertical = 0;
+          used = raised true area self.used;
+        } }
+    {
+        PageSettings {
+            area,
+            vertical: 0,
+            used: raised(true, area, self.used),
+            ..self
+        }
+    }
+
+    /// The settings where a direction is set, if one is.
+    fn turned(self, direction: Option<item::Direction>) -> PageSettings
+        ensures { result ≡ record self {
+          direction = direction_or direction self.direction;
+          vertical = (if is_some direction then 0 else self.vertical);
+        } }
+    {
+        match direction {
+            Some(direction) => PageSettings {
+                direction: direction_of(direction),
+                vertical: 0,
+                ..self
+            },
+            None => self,
         }
     }
 
@@ -169,25 +210,6 @@ impl PageSettings {
 }
 
 impl Settings {
-    /// The rows of the line's strip that an item prints or lays.
-    pub fn strip_rows(self, item: &EscItem) -> u32
-        requires { IsFit self }
-        ensures { (setup : Setup) (before : List EscItem) → self ≡ settings_of setup before →
-            result ≡ strip_rows setup before item.now }
-    {
-        match item {
-            EscItem::Character(_) if self.breaks() => self.feed_rows(),
-            EscItem::LineFeed => self.feed_rows(),
-            EscItem::FeedDots(n) => u32::from(self.height).max(u32::from(*n)),
-            EscItem::FeedLines(n) => self.lines_rows(*n),
-            EscItem::Raster { scale, bytes, rows } if draws(scale.value, *bytes, *rows) => {
-                self.ended_rows()
-            }
-            EscItem::Symbol { .. } | EscItem::QrPrint => self.ended_rows(),
-            _ => 0,
-        }
-    }
-
     /// Where a symbol is laid: below the line that it ends.
     pub fn symbol_top(self) -> u16
         ensures { (setup : Setup) (before : List EscItem) → self ≡ settings_of setup before →
@@ -211,51 +233,12 @@ impl Settings {
         }
     }
 
-    /// Whether an item that ends the line where it is is obeyed on a page.
-    pub fn obeys(self, item: &EscItem) -> bool
-        ensures { result ≡ is_obeyed self.paper self.page.vertical item.now }
-    {
-        match item {
-            EscItem::MoveVerticalPosition(by) => is_vertical_move(*by, self.page.vertical),
-            EscItem::Area {
-                x,
-                y,
-                width,
-                height,
-            } => is_area(self.paper, *x, *y, *width, *height),
-            EscItem::Direction(s) => s.value.is_some(),
-            EscItem::VerticalPosition(_)
-            | EscItem::PrintPage
-            | EscItem::FormFeed
-            | EscItem::Cancel => true,
-            _ => false,
-        }
-    }
-
-    /// Whether an item ends the line on a page.
-    pub fn ends_line(self, item: &EscItem) -> bool
-        requires { IsFit self }
-        ensures { (setup : Setup) (before : List EscItem) → self ≡ settings_of setup before →
-            result ≡ ends_line setup before item.now }
-    {
-        match item {
-            EscItem::Character(_) => self.breaks(),
-            EscItem::LineFeed
-            | EscItem::FeedDots(_)
-            | EscItem::FeedLines(_)
-            | EscItem::Symbol { .. }
-            | EscItem::QrPrint => true,
-            EscItem::Raster { scale, bytes, rows } => draws(scale.value, *bytes, *rows),
-            _ => self.obeys(item),
-        }
-    }
-
     /// How many rows of the page are printed.
     pub fn printed_rows(self) -> u32
         requires { IsFit self }
         ensures rows { (setup : Setup) (before : List EscItem) → self ≡ settings_of setup before →
             result ≡ printed_rows setup before }
-        ensures most { result ≤ 1664 }
+        ensures most { result ≤ PAGE_ROWS }
     {
         let used = raised(self.is_open, self.page.area, self.page.used);
         if used == 0 {
@@ -276,19 +259,19 @@ impl Settings {
         }
     }
 
-    /// The greatest lower edge after an item that is no byte of a raster, with so many rows of a symbol.
-    fn used_after(self, item: &EscItem, symbol_rows: u32) -> u16
-        requires fit { IsFit self }
-        requires item { (byte : ℕ) → item.now ≡ EscItem.RasterByte byte → ⊥ }
-        ensures value { (setup : Setup) (before : List EscItem) → self ≡ settings_of setup before →
-            symbol_rows ≡ image_rows (symbol_image setup before item.now) →
-            result ≡ raised (lays setup before item.now) (area setup before) (used setup before) }
-        ensures most { result ≤ 1664 }
+    /// The greatest lower edge where the line is ended so, with so many rows of a symbol.
+    fn used_after(self, end: LineEnd, symbol_rows: u32) -> u16
+        requires { IsFit self }
+        ensures value { result ≡ raised (nat_lt 0 (rows_of_end end)
+            || (nat_lt 0 symbol_rows || (is_here end && self.is_open))) self.page.area self.page.used }
+        ensures most { result ≤ PAGE_ROWS }
     {
-        let lays = self.strip_rows(item) > 0
-            || symbol_rows > 0
-            || (self.obeys(item) && self.is_open);
-        raised(lays, self.page.area, self.page.used)
+        let lays = match end {
+            LineEnd::Stays => false,
+            LineEnd::Rows(rows) => rows > 0,
+            LineEnd::Here => self.is_open,
+        };
+        raised(lays || symbol_rows > 0, self.page.area, self.page.used)
     }
 
     /// What is in force on the page after an item that is no byte of a raster, with so many rows of a symbol.
@@ -300,8 +283,9 @@ impl Settings {
             result ≡ page_of setup (item.now ∷ before) }
         ensures fit { IsFitPage result }
     {
+        let end = self.line_end(item);
         let page = PageSettings {
-            used: self.used_after(item, symbol_rows),
+            used: self.used_after(end, symbol_rows),
             ..self.page
         };
         match item {
@@ -309,63 +293,28 @@ impl Settings {
             | EscItem::LineFeed
             | EscItem::FeedDots(_)
             | EscItem::FeedLines(_)
-            | EscItem::Raster { .. } => PageSettings {
-                vertical: vertical_after(page.vertical, self.strip_rows(item)),
-                ..page
-            },
-            EscItem::Symbol { .. } | EscItem::QrPrint => PageSettings {
-                vertical: vertical_after(self.symbol_top(), symbol_rows),
-                ..page
-            },
-            EscItem::VerticalPosition(vertical) => PageSettings {
-                vertical: *vertical,
-                ..page
-            },
-            EscItem::MoveVerticalPosition(by) => PageSettings {
-                vertical: vertical_moved(*by, page.vertical),
-                ..page
-            },
+            | EscItem::Raster { .. } => page.at(vertical_after(page.vertical, end.rows())),
+            EscItem::Symbol { .. } | EscItem::QrPrint => {
+                page.at(vertical_after(self.symbol_top(), symbol_rows))
+            }
+            EscItem::VerticalPosition(vertical) => page.at(*vertical),
+            EscItem::MoveVerticalPosition(by) => page.at(vertical_moved(*by, page.vertical)),
             EscItem::Area {
                 x,
                 y,
                 width,
                 height,
-            } => {
-                if !is_area(self.paper, *x, *y, *width, *height) {
-                    return page;
-                }
-                let area = area_cut(self.paper, *x, *y, *width, *height);
-                PageSettings {
-                    area,
-                    vertical: 0,
-                    used: raised(true, area, page.used),
-                    ..page
-                }
-            }
-            EscItem::Direction(s) => match s.value {
-                Some(direction) => PageSettings {
-                    direction: direction_of(direction),
-                    vertical: 0,
-                    ..page
-                },
-                None => page,
-            },
-            EscItem::Cancel => PageSettings {
+            } if is_area(self.paper, *x, *y, *width, *height) => page.within(area_cut(
+                self.paper, *x, *y, *width, *height,
+            )),
+            EscItem::Direction(s) => page.turned(s.value),
+            EscItem::Cancel => page.at(0),
+            EscItem::PageMode if self.begins_page() => PageSettings {
+                mode: Mode::Page,
                 vertical: 0,
+                used: 0,
                 ..page
             },
-            EscItem::PageMode => {
-                if self.begins_page() {
-                    PageSettings {
-                        mode: Mode::Page,
-                        vertical: 0,
-                        used: 0,
-                        ..page
-                    }
-                } else {
-                    page
-                }
-            }
             EscItem::StandardMode | EscItem::FormFeed => PageSettings {
                 mode: Mode::Standard,
                 ..page

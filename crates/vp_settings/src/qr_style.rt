@@ -1,5 +1,5 @@
 //! How QR symbols are drawn: their model, their module, and the level of error correction.
-ghost use Rattle.std.specs.Prelude.{◌≡◌, ◌≤◌, ◌<◌, ◌∷◌, List};
+ghost use Rattle.std.specs.Prelude.{◌≡◌, ◌<◌, ◌∷◌, List};
 ghost use Rattle.vp_esc.specs.declared.item.EscItem.{EscItem};
 ghost use Rattle.vp_settings.specs.Symbols.{qr_style_of, IsFitQr};
 

@@ -1,10 +1,12 @@
 //! The raster whose bytes come: its scale, the rows that are not whole, and the first bytes of the row.
-ghost use Rattle.std.specs.Prelude.{◌≡◌, ℕ, ◌+◌, ◌-◌, ◌*◌, ◌/◌, ◌<◌, ◌≤◌, ◌++◌, List, [], ◌∷◌, take, min, length, nat_lt, nat_le, ◌&&◌, true, Bool};
+ghost use Rattle.std.specs.Prelude.{◌≡◌, ℕ, ◌+◌, ◌-◌, ◌*◌, ◌<◌, ◌≤◌, ◌++◌, List, [], ◌∷◌, take, min, length, ◌&&◌, true};
 ghost use Rattle.vp_esc.specs.declared.item.EscItem.{EscItem};
-ghost use Rattle.vp_settings.specs.Rasters.{times_across, times_down, scale_or, draws, is_row_end, row_so_far, bytes_after};
-ghost use Rattle.vp_settings.specs.Gathering.{IsGathering, IsPartRow, EndsRow, room_of};
+ghost use Rattle.vp_page.specs.declared.line.TheConstants.{LINE_BYTES};
+ghost use Rattle.vp_settings.specs.Rasters.{times_across, times_down, scale_or, draws, is_row_end, bytes_after};
+ghost use Rattle.vp_settings.specs.Gathering.{IsGathering, IsPartRow, EndsRow, kept_of, room_of};
 
 use vp_esc::item::{EscItem, RasterScale};
+use vp_page::LINE_BYTES;
 
 /// A raster whose bytes come, and the bytes of its row as far as they have come.
 #[derive(Clone, Copy)]
@@ -17,7 +19,7 @@ pub struct Raster {
     /// How many bytes of the first of them have come.
     pub got: u16,
     /// The first of these, as many as the longest line of a page has.
-    pub row: [u8; 208],
+    pub row: [u8; LINE_BYTES],
 }
 
 /// Whether a raster has bytes to print.
@@ -63,23 +65,23 @@ pub fn scale_named(scale: Option<RasterScale>) -> RasterScale
 
 /// Keeps a byte, if it is one of the first that are kept.
 #[inline(always)]
-fn keep(row: &mut [u8; 208], got: u16, byte: u8)
-    ensures { (came : List ℕ) → got ≡ length came → take (min got 208) row.old ≡ take 208 came →
-        take (min (got + 1) 208) row.new ≡ take 208 (came ++ byte ∷ []) }
+fn keep(row: &mut [u8; LINE_BYTES], got: u16, byte: u8)
+    ensures { (came : List ℕ) → got ≡ length came → take (min got LINE_BYTES) row.old ≡ take LINE_BYTES came →
+        take (min (got + 1) LINE_BYTES) row.new ≡ take LINE_BYTES (came ++ byte ∷ []) }
 {
     let i = usize::from(got);
-    if i < 208 {
+    if i < LINE_BYTES {
         row[i] = byte;
     }
 }
 
 /// Keeps bytes, those of them that are among the first that are kept.
-fn keep_all(row: &mut [u8; 208], got: u16, bytes: &[u8])
-    ensures { (came : List ℕ) → got ≡ length came → take (min got 208) row.old ≡ take 208 came →
-        take (min (got + length bytes.now) 208) row.new ≡ take 208 (came ++ bytes.now) }
+fn keep_all(row: &mut [u8; LINE_BYTES], got: u16, bytes: &[u8])
+    ensures { (came : List ℕ) → got ≡ length came → take (min got LINE_BYTES) row.old ≡ take LINE_BYTES came →
+        take (min (got + length bytes.now) LINE_BYTES) row.new ≡ take LINE_BYTES (came ++ bytes.now) }
 {
-    let from = usize::from(got).min(208);
-    let n = bytes.len().min(208 - from);
+    let from = usize::from(got).min(LINE_BYTES);
+    let n = bytes.len().min(LINE_BYTES - from);
     row[from..from + n].copy_from_slice(&bytes[..n]);
 }
 
@@ -94,8 +96,19 @@ impl Raster {
             bytes: 0,
             rows: 0,
             got: 0,
-            row: [0; 208],
+            row: [0; LINE_BYTES],
         }
+    }
+
+    /// Ends the raster that came.
+    pub fn end(&mut self)
+        ensures gathers { IsGathering self.new [] }
+        ensures part { IsPartRow self.new }
+    {
+        self.scale = RasterScale::Normal;
+        self.bytes = 0;
+        self.rows = 0;
+        self.got = 0;
     }
 
     /// Begins the raster of a head, or ends the one that came where the item is another.
@@ -104,10 +117,7 @@ impl Raster {
         ensures gathers { (before : List EscItem) → IsGathering self.new (item.now ∷ before) }
         ensures part { IsPartRow self.new }
     {
-        self.scale = RasterScale::Normal;
-        self.bytes = 0;
-        self.rows = 0;
-        self.got = 0;
+        self.end();
         if let EscItem::Raster { scale, bytes, rows } = item {
             self.scale = scale_named(scale.value);
             self.bytes = *bytes;
@@ -166,9 +176,9 @@ impl Raster {
 
     /// The bytes that are kept of a whole row.
     pub fn kept(&self) -> &[u8]
-        ensures bytes { result.now ≡ take (min self.now.bytes 208) self.now.row }
-        ensures few { length result.now ≤ 208 }
+        ensures bytes { result.now ≡ kept_of self.now }
+        ensures few { length result.now ≤ LINE_BYTES }
     {
-        &self.row[..usize::from(self.bytes).min(208)]
+        &self.row[..usize::from(self.bytes).min(LINE_BYTES)]
     }
 }

@@ -1,13 +1,16 @@
 //! All that is in force, and what an item changes of it.
-ghost use Rattle.std.specs.Prelude.{◌≡◌, ℕ, ◌+◌, ◌*◌, ◌≤◌, ◌<◌, List, ◌∷◌, [], false, nat_lt, ◌==◌, max, min, ◌-◌, ℤ, find};
+ghost use Rattle.std.specs.Prelude.{◌≡◌, ℕ, ◌+◌, ◌*◌, ◌≤◌, ◌<◌, List, ◌∷◌, [], false, nat_lt, ◌==◌, max, ◌-◌, find, if◌then◌else◌};
 ghost use Rattle.vp_esc.specs.declared.item.EscItem.{EscItem};
-ghost use Rattle.vp_settings.specs.Setup.{Setup, across};
+ghost use Rattle.vp_page.specs.declared.page.TheConstants.{PAPER_DOTS};
+ghost use Rattle.vp_page.specs.declared.line.TheConstants.{LINE_DOTS};
+ghost use Rattle.vp_settings.specs.Setup.{Setup};
 ghost use Rattle.vp_settings.specs.History.{shift, printed_at};
 ghost use Rattle.vp_settings.specs.Tabs.{tab_stops, tabbed};
 ghost use Rattle.vp_settings.specs.Symbols.{symbol_image, image_rows};
 ghost use Rattle.vp_settings.specs.Texts.{text_of, style_of};
+ghost use Rattle.vp_settings.specs.Runs.{text_room};
 ghost use Rattle.vp_glyph.specs.Cells.{cell_width};
-ghost use Rattle.vp_settings.specs.History.{settings_of, line_settings_of, lines_rows, IsFit, length_within, length_of, breaks, put_at, image_of, column_width_of, ended_rows, position_moved, position_at, justification_or, margin_or, width_or, line, position, line_spacing, line_length};
+ghost use Rattle.vp_settings.specs.History.{settings_of, line_settings_of, lines_rows, IsFit, length_within, length_of, breaks, column_width_of, ended_rows, position_moved, position_at, justification_or, margin_or, width_or, line, position, line_spacing, line_length};
 
 use crate::bar_style::BarStyle;
 use crate::column::Column;
@@ -17,6 +20,9 @@ use crate::raster::draws;
 use crate::text::Text;
 use crate::width::Width;
 use vp_esc::item::{ColumnMode, EscItem, Justification};
+
+/// The line spacing at the start, in dots.
+pub const DEFAULT_LINE_SPACING: u8 = 34;
 
 /// What is in force.
 #[derive(Clone, Copy)]
@@ -82,6 +88,14 @@ fn moved(by: i16, position: u16, length: u16) -> u16
     position
 }
 
+/// The position, where the line reaches so far.
+fn placed(n: u16, position: u16, length: u16) -> u16
+    ensures value { result ≡ position_at n position length }
+    ensures small { result ≤ max position length }
+{
+    if n <= length { n } else { position }
+}
+
 /// How far something is shifted in what is left of the line.
 fn shift(justification: Justification, spare: u16) -> u16
     ensures { result ≡ shift justification spare }
@@ -105,7 +119,7 @@ impl Settings {
             text: Text::START,
             bars: BarStyle::START,
             qr: QrStyle::START,
-            line_spacing: 34,
+            line_spacing: DEFAULT_LINE_SPACING,
             column_width: 1,
             left_margin: 0,
             area_width: paper.across(),
@@ -120,7 +134,7 @@ impl Settings {
     /// The line length on paper.
     pub fn paper_length(self) -> u16
         ensures value { result ≡ length_within self.paper self.left_margin self.area_width }
-        ensures paper { result ≤ 576 }
+        ensures paper { result ≤ PAPER_DOTS }
     {
         self.area_width
             .min(self.paper.across().saturating_sub(self.left_margin))
@@ -130,7 +144,7 @@ impl Settings {
     pub fn line_length(self) -> u16
         requires { IsFit self }
         ensures value { result ≡ length_of self }
-        ensures most { result ≤ 1664 }
+        ensures most { result ≤ LINE_DOTS }
     {
         match self.page.mode {
             Mode::Standard => self.paper_length(),
@@ -222,6 +236,40 @@ impl Settings {
         }
     }
 
+    /// How many characters go into the line before one could break it.
+    pub fn text_room(self) -> u16
+        requires { IsFit self }
+        ensures { result ≡ text_room self }
+    {
+        self.line_length().saturating_sub(self.position) / self.text.advance()
+    }
+
+    /// The settings after a character that there is room for.
+    #[inline(always)]
+    pub fn with_character(self) -> Settings
+        requires fit { IsFit self }
+        requires room { self.position + cell_width self.text.font (style_of self.text) ≤ length_of self }
+        ensures settings { (setup : Setup) (before : List EscItem) (code : ℕ) →
+            self ≡ settings_of setup before →
+            result ≡ settings_of setup (EscItem.Character code ∷ before) }
+        ensures position { result ≡ record self {
+          position = self.position + cell_width self.text.font (style_of self.text);
+          is_open = result.is_open;
+          height = result.height;
+          right_edge = result.right_edge;
+        } }
+        ensures fit { IsFit result }
+    {
+        let position = self.position + self.text.advance();
+        Settings {
+            position,
+            is_open: true,
+            height: self.height.max(self.text.height()),
+            right_edge: self.right_edge.max(position),
+            ..self
+        }
+    }
+
     /// Whether a column is put into the line.
     pub fn takes_column(self) -> bool
         requires { IsFit self }
@@ -267,6 +315,91 @@ impl Settings {
         }
     }
 
+    /// The settings at another position.
+    fn at(self, position: u16) -> Settings
+        ensures { result ≡ record self { position = position } }
+    {
+        Settings { position, ..self }
+    }
+
+    /// Those at the start, with the page as it is.
+    fn initialized(self) -> Settings
+        requires { IsFit self }
+        ensures settings { (setup : Setup) → setup.width ≡ self.paper →
+            result ≡ line_settings_of setup self.page [] }
+        ensures fit { IsFit result }
+    {
+        Settings {
+            page: self.page,
+            ..Settings::start(self.paper)
+        }
+    }
+
+    /// The settings with dots of columns so wide.
+    fn dotted(self, column_width: u8) -> Settings
+        ensures { result ≡ record self { column_width = column_width } }
+    {
+        Settings {
+            column_width,
+            ..self
+        }
+    }
+
+    /// The settings with another line spacing.
+    fn spaced(self, line_spacing: u8) -> Settings
+        ensures { result ≡ record self { line_spacing = line_spacing } }
+    {
+        Settings {
+            line_spacing,
+            ..self
+        }
+    }
+
+    /// The settings with a left margin, if it leaves some of the paper, and the line isn't open.
+    fn indented(self, left_margin: u16) -> Settings
+        ensures { result ≡ record self {
+          left_margin =
+              (if self.is_open then self.left_margin else margin_or left_margin self.paper self.left_margin);
+        } }
+    {
+        if !self.is_open && left_margin < self.paper.across() {
+            return Settings {
+                left_margin,
+                ..self
+            };
+        }
+        self
+    }
+
+    /// The settings with an area so wide, if it has a dot, and the line isn't open.
+    fn as_wide(self, area_width: u16) -> Settings
+        ensures { result ≡ record self {
+          area_width = (if self.is_open then self.area_width else width_or area_width self.area_width);
+        } }
+    {
+        if !self.is_open && area_width > 0 {
+            return Settings { area_width, ..self };
+        }
+        self
+    }
+
+    /// The settings with a justification, if the line isn't open.
+    fn justified(self, justification: Option<Justification>) -> Settings
+        ensures { result ≡ record self {
+          justification =
+              (if self.is_open then self.justification
+              else justification_or justification self.justification);
+        } }
+    {
+        match justification {
+            Some(justification) if !self.is_open => Settings {
+                justification,
+                ..self
+            },
+            _ => self,
+        }
+    }
+
     /// The settings after an item that is no byte of a raster, with these tab stops, and so many rows of a
     /// symbol.
     pub fn after(self, item: &EscItem, stops: &[u32], symbol_rows: u32) -> Settings
@@ -293,104 +426,34 @@ impl Settings {
         match item {
             EscItem::Character(code) => self.after_character(*code),
             EscItem::Column8(_) | EscItem::Column24(_) => self.after_column(),
-            EscItem::Tab => Settings {
-                position: after_tab(stops, self.position, self.line_length()),
-                ..self
-            },
-            EscItem::Position(n) => {
-                if *n <= self.line_length() {
-                    Settings {
-                        position: *n,
-                        ..self
-                    }
-                } else {
-                    self
-                }
-            }
-            EscItem::MovePosition(n) => Settings {
-                position: moved(*n, self.position, self.line_length()),
-                ..self
-            },
-            EscItem::LineFeed | EscItem::FeedDots(_) | EscItem::FeedLines(_) => self.closed(),
+            EscItem::Tab => self.at(after_tab(stops, self.position, self.line_length())),
+            EscItem::Position(n) => self.at(placed(*n, self.position, self.line_length())),
+            EscItem::MovePosition(n) => self.at(moved(*n, self.position, self.line_length())),
+            EscItem::LineFeed
+            | EscItem::FeedDots(_)
+            | EscItem::FeedLines(_)
+            | EscItem::Symbol { .. }
+            | EscItem::QrPrint => self.closed(),
+            EscItem::Raster { scale, bytes, rows } if draws(scale.value, *bytes, *rows) =>
+                self.closed(),
             EscItem::CutLeavingOnePoint
             | EscItem::CutLeavingThreePoints
             | EscItem::Cut(_)
-            | EscItem::FeedAndCut { .. } => match self.page.mode {
-                Mode::Standard => self.closed(),
-                Mode::Page => self,
-            },
-            EscItem::Symbol { .. } | EscItem::QrPrint => self.closed(),
-            EscItem::Raster { scale, bytes, rows } => {
-                if draws(scale.value, *bytes, *rows) {
-                    self.closed()
-                } else {
-                    self
-                }
-            }
-            EscItem::StandardMode => match self.page.mode {
-                Mode::Standard => self,
-                Mode::Page => self.closed(),
-            },
-            EscItem::PageMode => match self.page.mode {
-                Mode::Standard if !self.is_open => Settings {
-                    position: 0,
-                    ..self
-                },
-                _ => self,
-            },
-            EscItem::VerticalPosition(_) | EscItem::MoveVerticalPosition(_) | EscItem::PrintPage =>
-                match self.page.mode {
-                    Mode::Page if self.obeys(item) => self.without_line(),
-                    _ => self,
-                },
-            EscItem::Area { .. } | EscItem::Direction(_) | EscItem::FormFeed | EscItem::Cancel =>
-                match self.page.mode {
-                    Mode::Page if self.obeys(item) => self.closed(),
-                    _ => self,
-                },
-            EscItem::Columns { mode, .. } => Settings {
-                column_width: dot_width(*mode),
-                ..self
-            },
-            EscItem::DefaultLineSpacing => Settings {
-                line_spacing: 34,
-                ..self
-            },
-            EscItem::LineSpacing(line_spacing) => Settings {
-                line_spacing: *line_spacing,
-                ..self
-            },
-            EscItem::Initialize => Settings {
-                page: self.page,
-                ..Settings::start(self.paper)
-            },
-            EscItem::LeftMargin(left_margin) => {
-                if !self.is_open && *left_margin < self.paper.across() {
-                    Settings {
-                        left_margin: *left_margin,
-                        ..self
-                    }
-                } else {
-                    self
-                }
-            }
-            EscItem::AreaWidth(area_width) => {
-                if !self.is_open && *area_width > 0 {
-                    Settings {
-                        area_width: *area_width,
-                        ..self
-                    }
-                } else {
-                    self
-                }
-            }
-            EscItem::Justify(s) => match s.value {
-                Some(justification) if !self.is_open => Settings {
-                    justification,
-                    ..self
-                },
-                _ => self,
-            },
+            | EscItem::FeedAndCut { .. }
+                if !self.page.is_paged() => { self.closed() }
+            EscItem::StandardMode if self.page.is_paged() => self.closed(),
+            EscItem::PageMode if self.begins_page() => self.at(0),
+            EscItem::VerticalPosition(_) | EscItem::MoveVerticalPosition(_) | EscItem::PrintPage
+                if self.lays_here(item) => { self.without_line() }
+            EscItem::Area { .. } | EscItem::Direction(_) | EscItem::FormFeed | EscItem::Cancel
+                if self.lays_here(item) => { self.closed() }
+            EscItem::Initialize => self.initialized(),
+            EscItem::Columns { mode, .. } => self.dotted(dot_width(*mode)),
+            EscItem::DefaultLineSpacing => self.spaced(DEFAULT_LINE_SPACING),
+            EscItem::LineSpacing(n) => self.spaced(*n),
+            EscItem::LeftMargin(n) => self.indented(*n),
+            EscItem::AreaWidth(n) => self.as_wide(*n),
+            EscItem::Justify(s) => self.justified(s.value),
             EscItem::RightSpacing(_)
             | EscItem::PrintMode(_)
             | EscItem::Underline(_)

@@ -1,15 +1,18 @@
 //! The bytes that are stored for a QR symbol.
-ghost use Rattle.std.specs.Prelude.{◌≡◌, ◌∷◌, ◌++◌, [], List, ℕ};
+ghost use Rattle.std.specs.Prelude.{◌∷◌, ◌++◌, [], List, ℕ};
 ghost use Rattle.vp_esc.specs.declared.item.EscItem.{EscItem};
 ghost use Rattle.vp_settings.specs.Symbols.{qr_data, IsStored};
 
 use arrayvec::ArrayVec;
 use vp_esc::item::EscItem;
 
-/// The bytes that are stored for a QR symbol, as many as the largest one holds.
+/// The most bytes that are stored: those that the largest symbol holds.
+pub const STORED_BYTES: usize = 652;
+
+/// The bytes that are stored for a QR symbol.
 #[derive(Drop)]
 pub struct Stored {
-    pub bytes: ArrayVec<u8, 652>,
+    pub bytes: ArrayVec<u8, STORED_BYTES>,
     /// Whether there were more.
     pub more: bool,
 }
@@ -27,9 +30,10 @@ impl Stored {
 
     /// Stores a byte, or marks that there is one more.
     fn push(&mut self, byte: u8)
-        ensures { (bytes : List ℕ) → IsStored self.old bytes → IsStored self.new (bytes ++ byte ∷ []) }
+        ensures { (bytes : List ℕ) → IsStored self.old bytes →
+            IsStored self.new (bytes ++ byte ∷ []) }
     {
-        if self.bytes.len() < 652 {
+        if self.bytes.len() < STORED_BYTES {
             self.bytes.push(byte);
             return;
         }

@@ -1,8 +1,7 @@
 //! The tab stops.
-ghost use Rattle.std.specs.Prelude.{◌≡◌, ◌≤◌, ℕ, ◌*◌, ◌∷◌, List, map};
+ghost use Rattle.std.specs.Prelude.{◌≡◌, ◌*◌, ◌∷◌, List, map};
 ghost use Rattle.vp_esc.specs.declared.item.EscItem.{EscItem};
-ghost use Rattle.vp_glyph.specs.Cells.{cell_width};
-ghost use Rattle.vp_settings.specs.Texts.{text_of, style_of};
+ghost use Rattle.vp_settings.specs.Texts.{text_of};
 ghost use Rattle.vp_settings.specs.History.{IsFitText};
 ghost use Rattle.vp_settings.specs.Tabs.{tab_stops, first_tab_stops};
 

@@ -1,12 +1,19 @@
 //! How characters are drawn.
-ghost use Rattle.std.specs.Prelude.{◌≡◌, ℕ, ◌+◌, ◌*◌, ◌≤◌, ◌<◌, if◌then◌else◌, List, ◌∷◌};
+ghost use Rattle.std.specs.Prelude.{◌≡◌, ◌+◌, ◌*◌, ◌≤◌, ◌<◌, if◌then◌else◌, List, ◌∷◌};
 ghost use Rattle.vp_esc.specs.declared.item.EscItem.{EscItem};
 ghost use Rattle.vp_settings.specs.Texts.{font_of, rows_of, is_magnification, text_of, style_of};
 ghost use Rattle.vp_settings.specs.History.{IsFitText};
 ghost use Rattle.vp_glyph.specs.Cells.{cell_width, cell_height};
+ghost use Rattle.vp_settings.specs.declared.text.TheConstants.{LINE_ROWS, WIDEST};
 
 use vp_esc::item::{EscItem, Font as EscFont, Magnification, PrintMode, Underline};
 use vp_glyph::{Cell, Font, Sheets, Style};
+
+/// The most rows of a line: eight times those of a character.
+pub const LINE_ROWS: usize = 192;
+
+/// The most dots that a character takes in a line.
+pub const WIDEST: u16 = 2136;
 
 /// How characters are drawn.
 #[derive(Clone, Copy)]
@@ -89,7 +96,7 @@ impl Text {
     pub fn advance(self) -> u16
         requires { IsFitText self }
         ensures value { result ≡ cell_width self.font (style_of self) }
-        ensures small { result ≤ 2136 }
+        ensures small { result ≤ WIDEST }
     {
         let cell = match self.font {
             Font::A => 12,
@@ -102,7 +109,7 @@ impl Text {
     pub fn height(self) -> u16
         requires { IsFitText self }
         ensures value { result ≡ cell_height self.font (style_of self) }
-        ensures small { result ≤ 192 }
+        ensures small { result ≤ LINE_ROWS }
     {
         let cell = match self.font {
             Font::A => 24,

@@ -2,6 +2,14 @@
 ghost use Rattle.std.specs.Prelude.{◌≡◌};
 ghost use Rattle.vp_settings.specs.Setup.{across, row_bytes};
 
+use vp_page::{PAPER_BYTES, PAPER_DOTS};
+
+/// The dots of a row of the narrow paper.
+pub const NARROW_PAPER_DOTS: u16 = 384;
+
+/// The bytes of such a row.
+pub const NARROW_PAPER_BYTES: usize = 48;
+
 /// The widths of paper: 576 dots on 80 mm, 384 dots on 58 mm.
 #[derive(Clone, Copy, Debug, PartialEq, Eq)]
 pub enum Width {
@@ -15,8 +23,8 @@ impl Width {
         ensures { result ≡ across self }
     {
         match self {
-            Width::W576 => 576,
-            Width::W384 => 384,
+            Width::W576 => PAPER_DOTS,
+            Width::W384 => NARROW_PAPER_DOTS,
         }
     }
 
@@ -25,8 +33,8 @@ impl Width {
         ensures { result ≡ row_bytes self }
     {
         match self {
-            Width::W576 => 72,
-            Width::W384 => 48,
+            Width::W576 => PAPER_BYTES,
+            Width::W384 => NARROW_PAPER_BYTES,
         }
     }
 }
