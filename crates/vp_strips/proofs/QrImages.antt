@@ -3,6 +3,7 @@ use Rattle.std.proofs.Common.{◌≡◌, ℕ, ◌*◌, ◌/◌, ◌<◌, ◌≤�
 use Rattle.std.proofs.lemmas.Bool.{ltb-true, lt-ltb, le-ltb, cases_lt, true≢false}
 use Rattle.std.proofs.lemmas.List.{take_all}
 use Rattle.std.proofs.Math.Nat.{div-lt_iff_lt-mul}
+use Rattle.std.specs.Option.{option_or}
 use Rattle.vp_dots.specs.declared.fault.Fault.{Fault}
 use Rattle.vp_dots.specs.declared.fault.Fault.TheVariants.{SymbolTooWide, SymbolTooLong}
 use Rattle.vp_qr.specs.declared.segment.Mode.TheVariants.{Auto}
@@ -14,7 +15,7 @@ use Rattle.vp_esc.specs.declared.item.QrModel.{QrModel}
 use Rattle.vp_esc.specs.declared.item.QrModel.TheVariants.{Two}
 use Rattle.vp_settings.specs.declared.stored.Stored.{Stored}
 use Rattle.vp_settings.specs.declared.qr_style.QrStyle.{QrStyle}
-use Rattle.vp_settings.specs.Symbols.{level_of, qr_side, qr_dot, qr_image, IsQrImage, IsStored, too_wide, or_else, model_refusal, many_refusal, bytes_refusal, qr_refusal}
+use Rattle.vp_settings.specs.Symbols.{level_of, qr_side, qr_dot, qr_image, IsQrImage, IsStored, too_wide, model_refusal, many_refusal, bytes_refusal, qr_refusal}
 
 and_under : (a b c d : Bool) → (a ≡ true → b ≡ true → c ≡ d) → (a && b && c) ≡ (a && b && d)
 and_under true true c d h = h refl refl
@@ -41,11 +42,11 @@ module _ (style : QrStyle) (bytes : List ℕ) (qr : QrSymbol) (ink : ScaledSymbo
   is_image = record { width = side_is; height = side_is; dots = dots_are }
 
 -- wider than the line
-pub wide_refused : (wide length : ℕ) (f : Option Fault) → f ≡ None → length < wide → or_else f (too_wide wide length) ≡ Some SymbolTooWide
-wide_refused wide length f e h = ap (λ g. or_else g (too_wide wide length)) e ∙ rw (lt-ltb length wide h) refl
+pub wide_refused : (wide length : ℕ) (f : Option Fault) → f ≡ None → length < wide → option_or f (too_wide wide length) ≡ Some SymbolTooWide
+wide_refused wide length f e h = ap (λ g. option_or g (too_wide wide length)) e ∙ rw (lt-ltb length wide h) refl
 
-pub room_left : (wide length : ℕ) (f : Option Fault) → f ≡ None → wide ≤ length → or_else f (too_wide wide length) ≡ None
-room_left wide length f e h = ap (λ g. or_else g (too_wide wide length)) e ∙ rw (le-ltb length wide h) refl
+pub room_left : (wide length : ℕ) (f : Option Fault) → f ≡ None → wide ≤ length → option_or f (too_wide wide length) ≡ None
+room_left wide length f e h = ap (λ g. option_or g (too_wide wide length)) e ∙ rw (le-ltb length wide h) refl
 
 -- bytes that are all kept
 all_kept : (bytes : List ℕ) → nat_lt 652 (length bytes) ≡ false → take 652 bytes ≡ bytes
@@ -56,8 +57,8 @@ kept_are stored bytes kept e m h = e ∙ h.kept ∙ all_kept bytes (sym h.more �
 
 pub refusal_is : (style : QrStyle) (stored : Stored) (bytes kept : List ℕ) (wide : ℕ) → kept ≡ stored.bytes.items → style.model ≡ Two → stored.more ≡ false → IsStored stored bytes → qr_refusal style bytes wide ≡ bytes_refusal style kept wide
 refusal_is style stored bytes kept wide e two m h =
-    ap (λ (k : QrModel). or_else (model_refusal k) (or_else (many_refusal bytes) (bytes_refusal style bytes wide))) two
-    ∙ ap (λ b. or_else (cond b (Some SymbolTooLong) None) (bytes_refusal style bytes wide)) (sym h.more ∙ m)
+    ap (λ (k : QrModel). option_or (model_refusal k) (option_or (many_refusal bytes) (bytes_refusal style bytes wide))) two
+    ∙ ap (λ b. option_or (cond b (Some SymbolTooLong) None) (bytes_refusal style bytes wide)) (sym h.more ∙ m)
     ∙ ap (λ (b : List ℕ). bytes_refusal style b wide) (sym (kept_are stored bytes kept e m h))
 
 -- from a clause of a result to another

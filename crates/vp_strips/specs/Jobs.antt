@@ -1,6 +1,7 @@
 -- What is left to put out from a place in a strip.
 use Rattle.std.specs.Prelude.{◌<◌, ℕ, ◌+◌, ◌-◌, nat_lt, Bool, ◌&&◌, false, List, [], ◌++◌, drop, slice_index_or}
-use Rattle.vp_strips.specs.declared.paint.TheConstants.{LINE_ROWS}
+use Rattle.vp_page.specs.declared.page.TheConstants.{PAPER_DOTS, PAGE_ROWS}
+use Rattle.vp_settings.specs.declared.text.TheConstants.{LINE_ROWS}
 use Rattle.vp_dots.specs.Dots.{dot}
 use Rattle.vp_dots.specs.Headers.{header_of}
 use Rattle.vp_strips.specs.declared.canvas.Canvas.{Canvas}
@@ -20,7 +21,7 @@ line_dot_of height left length bitmap x y =
 
 -- dot (x, y) of a page
 abbrev pub page_dot_of : List (List ℕ) → ℕ → ℕ → Bool
-page_dot_of page x y = nat_lt y 1664 && clipped 0 576 (dot (slice_index_or page y [])) x
+page_dot_of page x y = nat_lt y PAGE_ROWS && clipped 0 PAPER_DOTS (dot (slice_index_or page y [])) x
 
 -- dot (x, y) of a strip
 abbrev pub dot_in : Dots → Canvas → ℕ → ℕ → Bool

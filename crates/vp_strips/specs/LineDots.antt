@@ -1,6 +1,7 @@
 -- The dots of a line.
-use Rattle.std.specs.Prelude.{◌≡◌, ◌<◌, ℕ, ◌-◌, ◌*◌, ◌≤◌, nat_le, Bool, true, false, ◌&&◌, ◌||◌, List, [], ◌∷◌, slice_index_or, length}
-use Rattle.vp_strips.specs.declared.paint.TheConstants.{LINE_ROWS, LINE_BYTES}
+use Rattle.std.specs.Prelude.{◌≡◌, ◌<◌, ℕ, ◌-◌, ◌≤◌, nat_le, Bool, true, false, ◌&&◌, ◌||◌, List, [], ◌∷◌, slice_index_or, length}
+use Rattle.vp_page.specs.declared.line.TheConstants.{LINE_BYTES, LINE_DOTS}
+use Rattle.vp_settings.specs.declared.text.TheConstants.{LINE_ROWS}
 use Rattle.vp_dots.specs.Dots.{dot}
 use Rattle.vp_settings.specs.History.{Placed, is_open}
 
@@ -23,13 +24,14 @@ any_dot (placed ∷ rest) high x y = item_dot placed high x y || any_dot rest hi
 -- a bitmap has the dots of a line, on its lowest rows: those of that line if it were as high as the bitmap
 pub record HasDots (line : List Placed) (bitmap : List (List ℕ)) : Type 0 where
   pub rows_are : (y : ℕ) → y < LINE_ROWS → length (slice_index_or bitmap y []) ≡ LINE_BYTES
-  pub dots_are : (x y : ℕ) → x < 8 * LINE_BYTES → y < LINE_ROWS → dot (slice_index_or bitmap y []) x ≡ any_dot line LINE_ROWS x y
+  pub dots_are : (x y : ℕ) → x < LINE_DOTS → y < LINE_ROWS →
+      dot (slice_index_or bitmap y []) x ≡ any_dot line LINE_ROWS x y
 
 -- a bitmap is white but for so many of its lowest rows
 pub record IsWhiteAbove (used : ℕ) (bitmap : List (List ℕ)) : Type 0 where
   pub few : used ≤ LINE_ROWS
   pub rows_are : (y : ℕ) → y < LINE_ROWS → length (slice_index_or bitmap y []) ≡ LINE_BYTES
-  pub white : (x y : ℕ) → x < 8 * LINE_BYTES → y < LINE_ROWS - used → dot (slice_index_or bitmap y []) x ≡ false
+  pub white : (x y : ℕ) → x < LINE_DOTS → y < LINE_ROWS - used → dot (slice_index_or bitmap y []) x ≡ false
 
 -- it has them while the line is open
 abbrev pub HasOpen : List Placed → List (List ℕ) → Type 0

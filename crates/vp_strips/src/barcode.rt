@@ -1,8 +1,7 @@
 //! The bar code of a command, in its box.
-ghost use Rattle.std.specs.Prelude.{◌≡◌, ◌≤◌, ◌<◌, ◌∷◌, List, OnOk, IfOk, IfErr, None, Some};
+ghost use Rattle.std.specs.Prelude.{◌≡◌, ◌≤◌, ◌<◌, OnOk, IfOk, IfErr, None, Some};
 ghost use Rattle.vp_bars.specs.Boxes.{box_width, box_height};
 ghost use Rattle.vp_strips.specs.SymbolInks.{box_of};
-ghost use Rattle.vp_esc.specs.declared.item.EscItem.{EscItem};
 ghost use Rattle.vp_settings.specs.Symbols.{IsFitBars, place_of, bars_of_kind, bars_of, bars_refusal, bars_image, box_image};
 
 use vp_bars::{BarBox, Bars, Place, code39, code128_esc, ean13};

@@ -2,7 +2,7 @@
 use crate::paint::Bitmap;
 use crate::symbol::Symbol;
 use vp_glyph::Sheets;
-use vp_page::Page;
+use vp_page::{PAPER_BYTES, Page};
 
 /// What strips are painted from.
 #[derive(Drop)]
@@ -11,7 +11,7 @@ pub struct Canvas {
     /// The line.
     pub bitmap: Bitmap,
     /// A row of a raster, as it is printed.
-    pub raster_row: [u8; 72],
+    pub raster_row: [u8; PAPER_BYTES],
     pub symbol: Symbol,
     pub page: Page,
 }

@@ -1,12 +1,11 @@
 //! What is put out: a strip from a place on, and the strips that come after it.
-ghost use Rattle.std.specs.Prelude.{◌≡◌, ℕ, ◌+◌, ◌-◌, ◌*◌, ◌/◌, ◌<◌, ◌≤◌, ◌++◌, List, [], true, max, min, take, drop, length, IsTrue, ◌↔◌, Bool, None, ◌==◌, if◌then◌else◌};
+ghost use Rattle.std.specs.Prelude.{◌≡◌, ℕ, ◌+◌, ◌-◌, ◌<◌, ◌≤◌, ◌++◌, [], true, min, take, drop, length, IsTrue, ◌↔◌, None, ◌==◌, if◌then◌else◌};
 ghost use Rattle.vp_strips.specs.declared.canvas.Canvas.{Canvas};
 ghost use Rattle.vp_strips.specs.declared.lines.Lines.{Lines};
 ghost use Rattle.vp_strips.specs.declared.strip.Strip.{Strip};
-ghost use Rattle.vp_settings.specs.Setup.{row_bytes};
 ghost use Rattle.vp_strips.specs.Rows.{rows_text};
-ghost use Rattle.vp_strips.specs.Jobs.{line_at, strip_dot};
-ghost use Rattle.vp_strips.specs.Held.{text_of, part_of, SomeLeft, whole, whole_if, after_text, IsJob, IsTurned, IsLowIf, IsLow, IsOwn, AreOwn, IsShowing, showing_of, IsHigh, Showing};
+ghost use Rattle.vp_strips.specs.Jobs.{strip_dot};
+ghost use Rattle.vp_strips.specs.Held.{text_of, part_of, SomeLeft, whole, whole_if, after_text, IsJob, IsTurned, IsLowIf, IsOwn, AreOwn, IsShowing, showing_of, IsHigh};
 ghost use Rattle.std.specs.Option.{option_map};
 
 use crate::canvas::Canvas;

@@ -20,7 +20,7 @@ pub use barcode::{BarSymbol, bar_symbol};
 pub use canvas::Canvas;
 pub use job::{After, Job};
 pub use lines::Lines;
-pub use paint::{Bitmap, LINE_BYTES, LINE_ROWS};
+pub use paint::Bitmap;
 pub use qr::qr_symbol;
 pub use raster_row::{doubled, write_raster_row};
 pub use strip::Strip;

@@ -1,6 +1,5 @@
 //! The bytes of the line that is being put out, a header or a row, made when the first of them is wanted.
-ghost use Rattle.std.specs.Prelude.{◌≡◌, take};
-ghost use Rattle.vp_settings.specs.Setup.{row_bytes};
+ghost use Rattle.std.specs.Prelude.{◌≡◌};
 ghost use Rattle.vp_strips.specs.declared.canvas.Canvas.{Canvas};
 ghost use Rattle.vp_strips.specs.declared.strip.Strip.{Strip};
 ghost use Rattle.vp_strips.specs.Jobs.{line_at};
@@ -11,13 +10,14 @@ use crate::place::Place;
 use crate::strip::Strip;
 use arrayvec::ArrayVec;
 use vp_dots::header;
+use vp_page::PAPER_BYTES;
 use vp_settings::Width;
 
 /// The bytes of a header, and those of a row.
 #[derive(Drop)]
 pub struct Lines {
     pub head: ArrayVec<u8, 32>,
-    pub row: [u8; 72],
+    pub row: [u8; PAPER_BYTES],
 }
 
 impl Lines {
@@ -25,12 +25,12 @@ impl Lines {
     pub fn none() -> Lines {
         Lines {
             head: ArrayVec::new(),
-            row: [0; 72],
+            row: [0; PAPER_BYTES],
         }
     }
 
-    /// Makes the bytes of the place's line where the first of them comes next, unless they are those of the row
-    /// above it.
+    /// Makes the bytes of the place's line where the first of them comes next, unless they are those of the
+    /// row above it.
     pub fn make(&mut self, strip: Strip, place: Place, canvas: &Canvas)
         requires low { IsLow strip }
         requires begun { IsBegun strip canvas.now self.old place }

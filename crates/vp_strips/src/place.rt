@@ -1,5 +1,5 @@
 //! How far a strip is put out.
-ghost use Rattle.std.specs.Prelude.{◌≡◌, ℕ, ◌+◌, ◌-◌, ◌<◌, ◌≤◌, List, drop, length, ◌++◌, IsTrue, ◌↔◌};
+ghost use Rattle.std.specs.Prelude.{◌≡◌, ◌+◌, ◌-◌, ◌<◌, ◌≤◌, drop, length};
 ghost use Rattle.vp_strips.specs.declared.canvas.Canvas.{Canvas};
 ghost use Rattle.vp_strips.specs.declared.strip.Strip.{Strip};
 ghost use Rattle.vp_strips.specs.declared.lines.Lines.{Lines};

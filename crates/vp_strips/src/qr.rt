@@ -1,6 +1,5 @@
 //! The QR symbol of the bytes that are stored.
-ghost use Rattle.std.specs.Prelude.{◌≡◌, ◌≤◌, ◌<◌, ◌∷◌, List, ℕ, OnOk, IfOk, IfErr, None, Some};
-ghost use Rattle.vp_esc.specs.declared.item.EscItem.{EscItem};
+ghost use Rattle.std.specs.Prelude.{◌≡◌, ◌≤◌, ◌<◌, List, ℕ, OnOk, IfOk, IfErr, None, Some};
 ghost use Rattle.vp_qr.specs.Inks.{side};
 ghost use Rattle.vp_settings.specs.Symbols.{IsFitQr, IsStored, IsQrImage, level_of, bytes_refusal, qr_refusal, qr_image};
 

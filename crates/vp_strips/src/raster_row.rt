@@ -1,11 +1,15 @@
 //! A row of a raster as it is printed: each dot as often across as the scale says.
-ghost use Rattle.std.specs.Prelude.{◌≡◌, ℕ, ◌/◌, ◌<◌, take, min};
+ghost use Rattle.std.specs.Prelude.{◌≡◌, ℕ, ◌/◌, ◌<◌};
 ghost use Rattle.vp_dots.specs.Dots.{bit, dot};
 ghost use Rattle.vp_dots.specs.Images.{row_of};
+ghost use Rattle.vp_page.specs.declared.page.TheConstants.{PAPER_BYTES};
+ghost use Rattle.vp_page.specs.declared.line.TheConstants.{LINE_DOTS};
 ghost use Rattle.vp_settings.specs.Rasters.{times_across};
+ghost use Rattle.vp_settings.specs.Gathering.{kept_of};
 ghost use Rattle.vp_strips.specs.Rows.{clipped};
 
 use crate::strip::write_clipped;
+use vp_page::{LINE_BYTES, PAPER_BYTES};
 use vp_settings::{Raster, times_across};
 
 /// Four dots, each of them twice.
@@ -23,11 +27,11 @@ fn doubled_half(half: u8) -> u8
 }
 
 /// The dots of a row, each of them twice, as far as the longest line of a page goes.
-pub fn doubled(row: &[u8]) -> [u8; 208]
-    ensures { (x : ℕ) → x < 1664 → dot result x ≡ dot row.now (x / 2) }
+pub fn doubled(row: &[u8]) -> [u8; LINE_BYTES]
+    ensures { (x : ℕ) → x < LINE_DOTS → dot result x ≡ dot row.now (x / 2) }
 {
-    let mut wide = [0; 208];
-    for i in 0..row.len().min(104) {
+    let mut wide = [0; LINE_BYTES];
+    for i in 0..row.len().min(LINE_BYTES / 2) {
         wide[2 * i] = doubled_half(row[i] >> 4);
         wide[2 * i + 1] = doubled_half(row[i] & 15);
     }
@@ -35,10 +39,10 @@ pub fn doubled(row: &[u8]) -> [u8; 208]
 }
 
 /// Writes the row whose bytes these are, as it is printed.
-pub fn write_raster_row(raster: &Raster, left: u16, length: u16, row: &mut [u8; 72])
+pub fn write_raster_row(raster: &Raster, left: u16, length: u16, row: &mut [u8; PAPER_BYTES])
     ensures { row.new ≡
-        row_of 72 (clipped left length
-        (λ x. dot (take (min raster.now.bytes 208) raster.now.row) (x / times_across raster.now.scale))) }
+        row_of PAPER_BYTES (clipped left length
+        (λ x. dot (kept_of raster.now) (x / times_across raster.now.scale))) }
 {
     let source = raster.kept();
     if times_across(raster.scale) == 1 {

@@ -1,5 +1,5 @@
 //! The rows of a strip: a line, white rows, a cut, a row of a raster, a symbol, or a page.
-ghost use Rattle.std.specs.Prelude.{◌≡◌, ℕ, ◌+◌, ◌-◌, ◌*◌, ◌/◌, ◌<◌, ◌≤◌, ◌++◌, List, [], true, false, max, min, take, drop, length, IsTrue, ◌↔◌, Bool};
+ghost use Rattle.std.specs.Prelude.{◌≡◌, ℕ, ◌+◌, ◌-◌, ◌*◌, ◌<◌, ◌≤◌, List, true, false, take, length};
 ghost use Rattle.vp_dots.specs.Dots.{dot};
 ghost use Rattle.vp_dots.specs.Images.{row_of};
 ghost use Rattle.vp_esc.specs.declared.item.EscItem.{EscItem};
@@ -7,19 +7,21 @@ ghost use Rattle.vp_dots.specs.Headers.{header_of};
 ghost use Rattle.vp_strips.specs.declared.canvas.Canvas.{Canvas};
 ghost use Rattle.vp_dots.specs.Images.{Image};
 ghost use Rattle.vp_strips.specs.SymbolInks.{IsDrawn};
+ghost use Rattle.vp_page.specs.declared.page.TheConstants.{PAPER_BYTES};
+ghost use Rattle.vp_settings.specs.declared.text.TheConstants.{LINE_ROWS};
 ghost use Rattle.vp_settings.specs.Setup.{across, row_bytes, Setup};
-ghost use Rattle.vp_settings.specs.History.{settings_of, IsFit, is_open, line};
+ghost use Rattle.vp_settings.specs.History.{settings_of, IsFit, line};
 ghost use Rattle.vp_strips.specs.LineDots.{HasOpen};
 ghost use Rattle.vp_strips.specs.Rows.{clipped, image_text, line_text, cut_text, white_text, cut_dot};
 ghost use Rattle.vp_strips.specs.Jobs.{row_text, line_dot_of, page_dot_of, dot_in};
 ghost use Rattle.vp_strips.specs.Held.{IsLow, IsLowIf, IsLowDots, IsHigh, IsOwn, whole, whole_if};
 
 use crate::canvas::Canvas;
-use crate::paint::{Bitmap, LINE_ROWS};
+use crate::paint::Bitmap;
 use vp_dots::{Ink, Op, dots_decide, fill_dots, or_into};
 use vp_esc::item::Cut;
-use vp_page::Page;
-use vp_settings::{Settings, Width};
+use vp_page::{PAGE_ROWS, PAPER_BYTES, PAPER_DOTS, Page};
+use vp_settings::{LINE_ROWS, Settings, Width};
 
 /// What the rows of a strip show.
 #[derive(Clone, Copy)]
@@ -49,59 +51,66 @@ pub struct Strip {
 }
 
 /// Writes a row with these dots, so far from the left, and clipped after so many.
-pub fn write_clipped(source: &[u8], left: u16, length: u16, row: &mut [u8; 72])
-    ensures { row.new ≡ row_of 72 (clipped left length (dot source.now)) }
+pub fn write_clipped(source: &[u8], left: u16, length: u16, row: &mut [u8; PAPER_BYTES])
+    ensures { row.new ≡ row_of PAPER_BYTES (clipped left length (dot source.now)) }
 {
-    *row = [0; 72];
+    *row = [0; PAPER_BYTES];
     or_into(source, i64::from(left), row);
     let end = u64::from(left) + u64::from(length);
-    fill_dots(Op::White, end, 576, row);
+    fill_dots(Op::White, end, PAPER_DOTS as u64, row);
     dots_decide(row);
 }
 
 /// Writes a row of the lowest rows of a bitmap, or a white one past them.
-fn write_line_row(height: u16, left: u16, length: u16, y: u32, bitmap: &Bitmap, row: &mut [u8; 72])
+fn write_line_row(
+    height: u16,
+    left: u16,
+    length: u16,
+    y: u32,
+    bitmap: &Bitmap,
+    row: &mut [u8; PAPER_BYTES],
+)
     requires { height ≤ LINE_ROWS }
-    ensures { row.new ≡ row_of 72 (λ x. line_dot_of height left length bitmap.now x y) }
+    ensures { row.new ≡ row_of PAPER_BYTES (λ x. line_dot_of height left length bitmap.now x y) }
 {
     if y < u32::from(height) {
         let source = bitmap.row(LINE_ROWS - height as usize + y as usize);
         write_clipped(source, left, length, row);
         return;
     }
-    *row = [0; 72];
+    *row = [0; PAPER_BYTES];
     dots_decide(row);
 }
 
 /// Writes a row of the page, or a white one past them.
-fn write_page_row(y: u32, page: &Page, row: &mut [u8; 72])
-    ensures { row.new ≡ row_of 72 (λ x. page_dot_of page.now x y) }
+fn write_page_row(y: u32, page: &Page, row: &mut [u8; PAPER_BYTES])
+    ensures { row.new ≡ row_of PAPER_BYTES (λ x. page_dot_of page.now x y) }
 {
-    if y < 1664 {
-        write_clipped(page.row(y as usize), 0, 576, row);
+    if (y as usize) < PAGE_ROWS {
+        write_clipped(page.row(y as usize), 0, PAPER_DOTS, row);
         return;
     }
-    *row = [0; 72];
+    *row = [0; PAPER_BYTES];
     dots_decide(row);
 }
 
 /// Writes a row with this line of ink, so far from the left, and clipped after so many dots.
-pub fn write_ink<I: Ink>(ink: &I, y: u32, left: u16, length: u16, row: &mut [u8; 72])
-    ensures { row.new ≡ row_of 72 (clipped left length (λ x. I.ink_at ink.now x y)) }
+pub fn write_ink<I: Ink>(ink: &I, y: u32, left: u16, length: u16, row: &mut [u8; PAPER_BYTES])
+    ensures { row.new ≡ row_of PAPER_BYTES (clipped left length (λ x. I.ink_at ink.now x y)) }
 {
-    *row = [0; 72];
+    *row = [0; PAPER_BYTES];
     ink.paint_row(y, Op::Black, i64::from(left), row);
     let end = u64::from(left) + u64::from(length);
-    fill_dots(Op::White, end, 576, row);
+    fill_dots(Op::White, end, PAPER_DOTS as u64, row);
     dots_decide(row);
 }
 
 /// The bytes of a cut.
-fn cut_row(cut: Cut) -> [u8; 72]
-    ensures { result ≡ row_of 72 (cut_dot cut) }
+fn cut_row(cut: Cut) -> [u8; PAPER_BYTES]
+    ensures { result ≡ row_of PAPER_BYTES (cut_dot cut) }
 {
     match cut {
-        Cut::Full => [0xff; 72],
+        Cut::Full => [0xff; PAPER_BYTES],
         Cut::Partial => [
             0xff, 0, 0xff, 0, 0xff, 0, 0xff, 0, 0xff, 0, 0xff, 0, 0xff, 0, 0xff, 0, 0xff, 0, 0xff,
             0, 0xff, 0, 0xff, 0, 0xff, 0, 0xff, 0, 0xff, 0, 0xff, 0, 0xff, 0, 0xff, 0, 0xff, 0,
@@ -113,9 +122,9 @@ fn cut_row(cut: Cut) -> [u8; 72]
 
 impl Dots {
     /// Writes the bytes of a row.
-    fn write_row(self, y: u32, canvas: &Canvas, row: &mut [u8; 72])
+    fn write_row(self, y: u32, canvas: &Canvas, row: &mut [u8; PAPER_BYTES])
         requires { IsLowDots self }
-        ensures { row.new ≡ row_of 72 (λ x. dot_in self canvas.now x y) }
+        ensures { row.new ≡ row_of PAPER_BYTES (λ x. dot_in self canvas.now x y) }
     {
         match self {
             Dots::Line {
@@ -126,7 +135,7 @@ impl Dots {
                 write_line_row(height, left, length, y, &canvas.bitmap, row);
                 return;
             }
-            Dots::White => *row = [0; 72],
+            Dots::White => *row = [0; PAPER_BYTES],
             Dots::Across(cut) => {
                 *row = cut_row(cut);
                 return;
@@ -267,7 +276,7 @@ impl Strip {
     }
 
     /// Writes the bytes of a row.
-    pub fn write_row(self, y: u32, canvas: &Canvas, row: &mut [u8; 72])
+    pub fn write_row(self, y: u32, canvas: &Canvas, row: &mut [u8; PAPER_BYTES])
         requires { IsLow self }
         ensures { take (row_bytes self.paper) row.new ≡ row_text self canvas.now y }
     {

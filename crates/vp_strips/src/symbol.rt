@@ -1,19 +1,18 @@
 //! A symbol that is put out, and its rows.
-ghost use Rattle.std.specs.Prelude.{◌≡◌, ◌≤◌, ◌<◌, ◌-◌, ◌∷◌, List, ℕ, Bool, false, true, IfNone, IfSome, OnOk, IfOk, IfErr, None, Some};
+ghost use Rattle.std.specs.Prelude.{◌≡◌, ◌≤◌, ◌-◌, ◌∷◌, List, ℕ, true};
 ghost use Rattle.vp_dots.specs.Images.{row_of};
-ghost use Rattle.vp_esc.specs.declared.item.EscItem.{EscItem};
-ghost use Rattle.vp_settings.specs.Setup.{Setup};
 ghost use Rattle.vp_strips.specs.Rows.{clipped};
+ghost use Rattle.vp_page.specs.declared.page.TheConstants.{PAPER_BYTES};
+ghost use Rattle.vp_page.specs.declared.line.TheConstants.{LINE_DOTS};
 ghost use Rattle.vp_page.specs.Layers.{Layer, Laid};
 ghost use Rattle.vp_page.specs.Pages.{HasPage};
-ghost use Rattle.vp_settings.specs.Symbols.{IsStored, qr_data, symbol_image, image_rows};
-ghost use Rattle.vp_strips.specs.SymbolInks.{symbol_width, symbol_height, symbol_dot, IsSymbolOf, is_symbol};
+ghost use Rattle.vp_strips.specs.SymbolInks.{symbol_width, symbol_height, symbol_dot};
 
 use crate::barcode::BarSymbol;
 use crate::strip::write_ink;
 use vp_dots::{Ink, dots_decide};
 use vp_glyph::Sheets;
-use vp_page::{Area, Direction, Page};
+use vp_page::{Area, Direction, PAPER_BYTES, Page};
 use vp_qr::QrInk;
 
 /// A symbol that is put out.
@@ -39,12 +38,20 @@ impl Symbol {
     }
 
     /// Writes a row of it, so far from the left and clipped after so many dots.
-    pub fn write_row(&self, sheets: &Sheets, y: u32, left: u16, length: u16, row: &mut [u8; 72])
-        ensures { row.new ≡ row_of 72 (clipped left length (λ x. symbol_dot sheets.now self.now x y)) }
+    pub fn write_row(
+        &self,
+        sheets: &Sheets,
+        y: u32,
+        left: u16,
+        length: u16,
+        row: &mut [u8; PAPER_BYTES],
+    )
+        ensures { row.new ≡
+            row_of PAPER_BYTES (clipped left length (λ x. symbol_dot sheets.now self.now x y)) }
     {
         match self {
             Symbol::Blank => {
-                *row = [0; 72];
+                *row = [0; PAPER_BYTES];
                 dots_decide(row);
             }
             Symbol::Qr(ink) => write_ink(ink, y, left, length, row),
@@ -66,7 +73,7 @@ impl Symbol {
 
     /// Lays it with its top at a depth of an area.
     pub fn lay(&self, sheets: &Sheets, area: Area, direction: Direction, top: u16, page: &mut Page)
-        requires { symbol_width sheets.now self.now ≤ 1664 }
+        requires { symbol_width sheets.now self.now ≤ LINE_DOTS }
         ensures { (layers : List Layer) → HasPage layers page.old →
             HasPage (Laid
             (record { area = area; direction = direction; top = top; dot = symbol_dot sheets.now self.now })
