@@ -6,7 +6,7 @@ use Rattle.vp_esc.specs.declared.item.EscItem.{EscItem}
 use Rattle.vp_esc.specs.declared.item.EscItem.TheVariants.{CutLeavingOnePoint, CutLeavingThreePoints, Cut, FeedAndCut, RasterByte, Symbol, QrPrint}
 use Rattle.vp_esc.specs.declared.item.Cut.TheVariants.{Partial}
 use Rattle.vp_page.specs.Layers.{page_dot}
-use Rattle.vp_settings.specs.History.{mode, ended_rows, strip_rows, printed_rows}
+use Rattle.vp_settings.specs.History.{mode, printed_rows}
 use Rattle.vp_settings.specs.Pages.{is_paged}
 use Rattle.vp_settings.specs.Rasters.{times_down, raster_scale}
 use Rattle.vp_settings.specs.Setup.{Setup, across}
@@ -14,7 +14,7 @@ use Rattle.vp_settings.specs.Symbols.{symbol_image}
 use Rattle.vp_strips.specs.Rows.{printed_dot, cut_dot, image_dot}
 use Rattle.vp_receipt.specs.Images.{AreAcross, strip, line_images, raster_image, rows_come, drawn_dot, is_raster_end, symbol_strip, own_images, page_image, completed, images}
 use Rattle.vp_receipt.specs.PageMarks.{printed_layers}
-use Rattle.vp_receipt.specs.Strips.{prints_page}
+use Rattle.vp_receipt.specs.Strips.{line_strip_rows, prints_page}
 
 module _ (setup : Setup) where
   abbrev Across : List Image → Type 0
@@ -40,11 +40,7 @@ module _ (setup : Setup) where
   symbol_across before (Some image) = strip_across image.height (image_dot setup before image)
 
   line_across : (before : List EscItem) (item : EscItem) → Across (line_images setup before item)
-  line_across before CutLeavingOnePoint = strip_across (ended_rows setup before) (printed_dot setup before)
-  line_across before CutLeavingThreePoints = strip_across (ended_rows setup before) (printed_dot setup before)
-  line_across before (Cut cut) = strip_across (ended_rows setup before) (printed_dot setup before)
-  line_across before (FeedAndCut cut dots) = strip_across (ended_rows setup before) (printed_dot setup before)
-  line_across before item = strip_across (strip_rows setup before item) (printed_dot setup before)
+  line_across before item = strip_across (line_strip_rows setup before item) (printed_dot setup before)
 
   own_across : (before : List EscItem) (item : EscItem) → Across (own_images setup before item)
   own_across before CutLeavingOnePoint = strip_across 1 (λ x y. cut_dot Partial x)

@@ -9,14 +9,14 @@ use Rattle.vp_esc.specs.declared.item.EscItem.TheVariants.{CutLeavingOnePoint, C
 use Rattle.vp_esc.specs.declared.item.Cut.TheVariants.{Partial}
 use Rattle.vp_page.specs.Layers.{page_dot}
 use Rattle.vp_settings.specs.declared.width.Width.{Width}
-use Rattle.vp_settings.specs.History.{mode, ended_rows, strip_rows, printed_rows}
+use Rattle.vp_settings.specs.History.{mode, printed_rows}
 use Rattle.vp_settings.specs.Pages.{is_paged}
 use Rattle.vp_settings.specs.Setup.{Setup, across}
 use Rattle.vp_settings.specs.Symbols.{symbol_image}
 use Rattle.vp_strips.specs.Rows.{strip_text, printed_dot, cut_dot, image_dot, image_text}
 use Rattle.vp_receipt.specs.Images.{strip, line_images, own_images, symbol_strip, completed, page_image}
 use Rattle.vp_receipt.specs.PageMarks.{printed_layers}
-use Rattle.vp_receipt.specs.Strips.{line_strip, own_strips, page_part, prints, prints_page}
+use Rattle.vp_receipt.specs.Strips.{line_strip_rows, line_strip, own_strips, page_part, prints, prints_page}
 
 strip_by : (image : Image) (none : Bool) → (image.height == 0) ≡ none → pbm image ≡ flat_map pbm (if none then [] else image ∷ [])
 strip_by image true e = ap (λ b. if b then [] else header_of image.width image.height ++ image_rows image) e
@@ -26,11 +26,7 @@ pub strip_is : (paper : Width) (rows : ℕ) (f : ℕ → ℕ → Bool) → strip
 strip_is paper rows f = strip_by (record { width = across paper; height = rows; is_black = f }) (rows == 0) refl
 
 pub line_is : (setup : Setup) (before : List EscItem) (item : EscItem) → line_strip setup before item ≡ flat_map pbm (line_images setup before item)
-line_is setup before CutLeavingOnePoint = strip_is setup.width (ended_rows setup before) (printed_dot setup before)
-line_is setup before CutLeavingThreePoints = strip_is setup.width (ended_rows setup before) (printed_dot setup before)
-line_is setup before (Cut cut) = strip_is setup.width (ended_rows setup before) (printed_dot setup before)
-line_is setup before (FeedAndCut cut dots) = strip_is setup.width (ended_rows setup before) (printed_dot setup before)
-line_is setup before item = strip_is setup.width (strip_rows setup before item) (printed_dot setup before)
+line_is setup before item = strip_is setup.width (line_strip_rows setup before item) (printed_dot setup before)
 
 symbol_is : (setup : Setup) (before : List EscItem) (image : Option Image) → image_text setup before image ≡ flat_map pbm (symbol_strip setup before image)
 symbol_is setup before None = refl

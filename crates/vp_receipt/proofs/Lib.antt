@@ -14,3 +14,4 @@ pub mod UnitKinds
 pub mod Across
 pub mod Begun
 pub mod Orderly
+pub mod Texts

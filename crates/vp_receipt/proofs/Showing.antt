@@ -8,7 +8,7 @@ use Rattle.vp_settings.specs.History.{height, line}
 use Rattle.vp_receipt.specs.Strips.{own_part, line_rows_after}
 use Rattle.vp_strips.specs.declared.canvas.Canvas.{Canvas}
 use Rattle.vp_strips.specs.declared.job.Job.{Job}
-use Rattle.vp_strips.specs.Held.{Showing, IsShowing, showing_of, text_of}
+use Rattle.vp_strips.specs.Held.{Showing, Shows, IsShowing, showing_of, text_of}
 use Rattle.vp_receipt.specs.Standing.{ShowsLine}
 
 pub rows_told : (setup : Setup) (showing : Option Showing) (before : List EscItem) (pending : List ℕ) (high : ℕ) → high ≡ height (line setup before) → ShowsLine setup showing pending before
@@ -30,3 +30,7 @@ pub shows_put : (setup : Setup) (j k : Job) (canvas : Canvas) (before : List Esc
     → ShowsLine setup (showing_of j canvas) (text_of j canvas) before → ShowsLine setup (showing_of k canvas) (text_of k canvas) before
 shows_put setup j k canvas [] further h = further 0 0 h
 shows_put setup j k canvas (item ∷ before) further h = further _ _ h
+
+pub nothing_shown : (setup : Setup) (showing : Option Showing) (pending : List ℕ) (before : List EscItem) → ((high others : ℕ) → Shows showing (length pending) high others) → ShowsLine setup showing pending before
+nothing_shown setup showing pending [] h = h 0 0
+nothing_shown setup showing pending (item ∷ before) h = h _ _

@@ -9,14 +9,14 @@ use Rattle.vp_esc.specs.declared.item.Cut.{Cut as PaperCut}
 use Rattle.vp_esc.specs.declared.item.Cut.TheVariants.{Partial}
 use Rattle.vp_settings.specs.declared.width.Width.{Width}
 use Rattle.vp_settings.specs.Setup.{Setup, across}
-use Rattle.vp_settings.specs.History.{mode, ended_rows, strip_rows, printed_rows}
+use Rattle.vp_settings.specs.History.{mode, printed_rows}
 use Rattle.vp_settings.specs.Pages.{is_paged}
 use Rattle.vp_settings.specs.Rasters.{times_across, times_down, raster_scale, raster_bytes, rows_to_come, row_so_far, is_row_end}
 use Rattle.vp_settings.specs.Symbols.{symbol_image}
 use Rattle.vp_page.specs.Layers.{page_dot}
 use Rattle.vp_strips.specs.Rows.{printed_dot, raster_dot, cut_dot, image_dot}
 use Rattle.vp_receipt.specs.PageMarks.{printed_layers}
-use Rattle.vp_receipt.specs.Strips.{raster_row_text, prints_page}
+use Rattle.vp_receipt.specs.Strips.{line_strip_rows, raster_row_text, prints_page}
 
 -- a strip across the paper, where it has a row
 abbrev pub strip : Width → ℕ → (ℕ → ℕ → Bool) → List Image
@@ -27,17 +27,10 @@ strip paper rows f =
 abbrev pub cut_image : Width → PaperCut → List Image
 cut_image paper cut = strip paper 1 (λ x y. cut_dot cut x)
 
--- the line, in a strip of so many rows
-abbrev pub line_image : Setup → List EscItem → ℕ → List Image
-line_image setup before rows = strip setup.width rows (printed_dot setup before)
-
 -- the strip of the line that an item prints on paper
 abbrev pub line_images : Setup → List EscItem → EscItem → List Image
-line_images setup before CutLeavingOnePoint = line_image setup before (ended_rows setup before)
-line_images setup before CutLeavingThreePoints = line_image setup before (ended_rows setup before)
-line_images setup before (Cut cut) = line_image setup before (ended_rows setup before)
-line_images setup before (FeedAndCut cut dots) = line_image setup before (ended_rows setup before)
-line_images setup before item = line_image setup before (strip_rows setup before item)
+line_images setup before item =
+    strip setup.width (line_strip_rows setup before item) (printed_dot setup before)
 
 -- GS v 0: the rows of the raster that have come whole, from the top
 abbrev pub rows_come : List EscItem → List (List ℕ)

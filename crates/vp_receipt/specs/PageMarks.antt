@@ -1,5 +1,5 @@
 -- What is laid on the page since ESC L.
-use Rattle.std.specs.Prelude.{◌≡◌, ℕ, ◌<◌, ◌+◌, ◌-◌, ◌*◌, ◌/◌, nat_lt, Bool, true, false, ◌&&◌, if◌then◌else◌, List, [], ◌∷◌, ◌++◌, Option, Some, None, slice_index_or}
+use Rattle.std.specs.Prelude.{◌≡◌, ℕ, ◌<◌, ◌+◌, ◌-◌, ◌/◌, nat_lt, Bool, true, false, ◌&&◌, if◌then◌else◌, List, [], ◌∷◌, ◌++◌, Option, Some, None, slice_index_or}
 use Rattle.vp_dots.specs.Dots.{dot}
 use Rattle.vp_esc.specs.declared.item.EscItem.{EscItem}
 use Rattle.vp_esc.specs.declared.item.EscItem.TheVariants.{RasterByte, Symbol, QrPrint, PageMode, Cancel}
@@ -10,7 +10,8 @@ use Rattle.vp_settings.specs.Pages.{area, direction}
 use Rattle.vp_settings.specs.History.{Placed, line, begins_page, height, is_open, mode, page_of, ends_line, symbol_top}
 use Rattle.vp_settings.specs.declared.page_mode.PageSettings.{PageSettings}
 use Rattle.vp_settings.specs.declared.settings.Settings.{Settings}
-use Rattle.vp_strips.specs.declared.paint.TheConstants.{LINE_ROWS, LINE_BYTES}
+use Rattle.vp_page.specs.declared.line.TheConstants.{LINE_DOTS}
+use Rattle.vp_settings.specs.declared.text.TheConstants.{LINE_ROWS}
 use Rattle.vp_strips.specs.LineDots.{any_dot}
 use Rattle.vp_dots.specs.Images.{Image}
 use Rattle.vp_settings.specs.Symbols.{symbol_image}
@@ -30,7 +31,7 @@ line_mark setup before = mark_of (page_of setup before) (line_dot (line setup be
 
 -- a bitmap has these dots on the rows of the line
 pub record HasRows (s : Settings) (bitmap : List (List ℕ)) (dots : ℕ → ℕ → Bool) : Type 0 where
-  pub same : (u w : ℕ) → u < 8 * LINE_BYTES → w < s.height
+  pub same : (u w : ℕ) → u < LINE_DOTS → w < s.height
       → dot (slice_index_or bitmap (LINE_ROWS - s.height + w) []) u ≡ dots u w
   pub high : (u w : ℕ) → dots u w ≡ true → w < s.height
 

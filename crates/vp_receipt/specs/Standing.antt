@@ -17,7 +17,7 @@ use Rattle.vp_receipt.specs.PageMarks.{layers}
 use Rattle.vp_settings.specs.History.{Placed, height, mode, line, settings_of, image_of}
 use Rattle.vp_settings.specs.Gathering.{IsGathering}
 use Rattle.vp_strips.specs.Held.{Showing, Shows}
-use Rattle.vp_receipt.specs.Strips.{own_part, printed_page}
+use Rattle.vp_receipt.specs.Strips.{own_part, printed, printed_page}
 use Rattle.vp_strips.specs.declared.canvas.Canvas.{Canvas}
 use Rattle.vp_strips.specs.LineDots.{HasOpen}
 
@@ -48,6 +48,13 @@ abbrev pub HasPageIf : Mode → List Layer → List (List ℕ) → Type 0
 HasPageIf Standard layers page = Unit {0}
 HasPageIf Page layers page = HasPage layers page
 
+-- the settings, the sheets and the bytes that are stored are those after these items
+pub record IsInForce (setup : Setup) (before : List EscItem) (s : Settings) (fonts : Sheets) (kept : Stored)
+    : Type 0 where
+  pub settings : s ≡ settings_of setup before
+  pub sheets : fonts ≡ setup.sheets
+  pub stored : IsStored kept (qr_data before)
+
 -- the settings and the canvas are those after these items, and no character waits
 pub record IsSettled (setup : Setup) (before : List EscItem) (s : Settings) (canvas : Canvas) : Type 0 where
   pub settings : s ≡ settings_of setup before
@@ -62,6 +69,14 @@ is_ignored (Control byte) = true
 is_ignored (QrIgnored bytes) = true
 is_ignored (WithoutEffect lead bytes) = true
 is_ignored _ = false
+
+-- after these items all but the line is as it was after those before, and nothing more is printed
+pub record LeavesAlone (setup : Setup) (after before : List EscItem) : Type 0 where
+  pub stops : tab_stops after ≡ tab_stops before
+  pub stored : qr_data after ≡ qr_data before
+  pub mode : mode setup after ≡ mode setup before
+  pub layers : layers setup after ≡ layers setup before
+  pub printed : printed setup after ≡ printed setup before
 
 -- the line that is shown is the one that the last item printed
 abbrev pub ShowsLine : Setup → Option Showing → List ℕ → List EscItem → Type 0

@@ -7,6 +7,7 @@ use Rattle.vp_esc.specs.declared.item.EscItem.TheVariants.{CutLeavingOnePoint, C
 use Rattle.vp_esc.specs.declared.item.Cut.TheVariants.{Partial}
 use Rattle.vp_settings.specs.Setup.{Setup, across}
 use Rattle.vp_settings.specs.History.{line, line_length, height, is_open, mode, ended_rows, strip_rows}
+use Rattle.vp_page.specs.declared.page.TheConstants.{PAGE_ROWS}
 use Rattle.vp_page.specs.Layers.{page_dot}
 use Rattle.vp_settings.specs.Pages.{is_paged}
 use Rattle.vp_receipt.specs.PageMarks.{printed_layers}
@@ -26,13 +27,17 @@ raster_row_text setup before row =
     rows_text setup.width (λ x y. raster_dot setup before (times_across scale) (raster_bytes before) row x)
     0 (times_down scale)
 
--- the strip of the line that an item prints on paper
+-- the rows of the line's strip that an item prints on paper, where a cut ends an open line too
+abbrev pub line_strip_rows : Setup → List EscItem → EscItem → ℕ
+line_strip_rows setup before CutLeavingOnePoint = ended_rows setup before
+line_strip_rows setup before CutLeavingThreePoints = ended_rows setup before
+line_strip_rows setup before (Cut cut) = ended_rows setup before
+line_strip_rows setup before (FeedAndCut cut dots) = ended_rows setup before
+line_strip_rows setup before item = strip_rows setup before item
+
+-- that strip
 abbrev pub line_strip : Setup → List EscItem → EscItem → List ℕ
-line_strip setup before CutLeavingOnePoint = ended setup before
-line_strip setup before CutLeavingThreePoints = ended setup before
-line_strip setup before (Cut cut) = ended setup before
-line_strip setup before (FeedAndCut cut dots) = ended setup before
-line_strip setup before item = line_text setup before (strip_rows setup before item)
+line_strip setup before item = line_text setup before (line_strip_rows setup before item)
 
 -- what it prints of its own on paper
 abbrev pub own_strips : Setup → List EscItem → EscItem → List ℕ
@@ -116,5 +121,5 @@ printed_page setup (item ∷ before) = is_paged (mode setup before) && prints_pa
 -- item printed are pending
 abbrev pub page_rows_after : Setup → List EscItem → List ℕ → ℕ
 page_rows_after setup before pending =
-    if is_paged (mode setup before) || (printed_page setup before && nat_lt 0 (length pending)) then 1664
+    if is_paged (mode setup before) || (printed_page setup before && nat_lt 0 (length pending)) then PAGE_ROWS
     else 0

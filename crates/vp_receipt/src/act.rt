@@ -1,9 +1,12 @@
 //! What an item prints, and lays on the page.
+ghost use Rattle.std.specs.List.{AllByRecursion};
+ghost use Rattle.vp_esc.specs.Reader.{is_text};
+ghost use Rattle.vp_settings.specs.Runs.{text_room, text_after};
 ghost use Rattle.std.specs.Prelude.{◌≡◌, ◌≤◌, ◌<◌, ◌+◌, ◌-◌, ◌*◌, ◌∷◌, ◌++◌, List, [], ℕ, Bool, ◌&&◌, length, true, false, None, Some, IfNone, IfSome, max, min, take};
 ghost use Rattle.vp_esc.specs.declared.item.EscItem.{EscItem};
 ghost use Rattle.vp_glyph.specs.declared.Sheets.{Sheets};
 ghost use Rattle.vp_strips.specs.declared.canvas.Canvas.{Canvas};
-ghost use Rattle.vp_strips.specs.declared.paint.TheConstants.{LINE_BYTES};
+ghost use Rattle.vp_page.specs.declared.line.TheConstants.{LINE_BYTES, LINE_DOTS};
 ghost use Rattle.vp_strips.specs.declared.job.After.{After};
 ghost use Rattle.vp_strips.specs.declared.lines.Lines.{Lines};
 ghost use Rattle.vp_dots.specs.Dots.{dot};
@@ -21,16 +24,18 @@ ghost use Rattle.vp_settings.specs.Symbols.{symbol_image};
 ghost use Rattle.vp_dots.specs.Images.{Image};
 ghost use Rattle.vp_strips.specs.SymbolInks.{symbol_width, symbol_height, is_symbol, IsSymbolOf, IsDrawn};
 ghost use Rattle.vp_settings.specs.Pages.{area};
-ghost use Rattle.vp_receipt.specs.Standing.{Gathers, HasPageIf, IsSettled};
-ghost use Rattle.vp_settings.specs.Gathering.{EndsRow};
+ghost use Rattle.vp_receipt.specs.Standing.{Gathers, HasPageIf, IsSettled, LeavesAlone};
+ghost use Rattle.vp_settings.specs.Gathering.{EndsRow, kept_of};
 ghost use Rattle.vp_strips.specs.Held.{text_of, after_text, IsJob, IsTurned, AreOwn, IsShowing};
 
 use vp_dots::Ink;
 use vp_esc::item::{Cut, EscItem};
 use vp_glyph::Sheets;
-use vp_page::{Direction, Page};
-use vp_settings::{Mode, Raster, Settings, draws, scale_named, times_across, times_down};
-use vp_strips::{After, Bitmap, Canvas, Job, LINE_ROWS, Strip, Symbol, doubled, write_raster_row};
+use vp_page::{Direction, PAPER_BYTES, Page};
+use vp_settings::{
+    LINE_ROWS, Mode, Raster, Settings, draws, scale_named, times_across, times_down,
+};
+use vp_strips::{After, Bitmap, Canvas, Job, Strip, Symbol, doubled, write_raster_row};
 
 /// Puts the character that waits into the line.
 pub fn settle(s: &Settings, waiting: Option<u8>, sheets: &Sheets, bitmap: &mut Bitmap)
@@ -55,6 +60,29 @@ fn put_next<I: Ink>(s: &Settings, ink: &I, bitmap: &mut Bitmap)
         bitmap.begin_line();
     }
     bitmap.put_ink(ink, s.position);
+}
+
+/// Puts text into the line, which none of it breaks.
+pub fn put_text(s: &mut Settings, text: &[u8], sheets: &Sheets, bitmap: &mut Bitmap)
+    requires fit { IsFit s.old }
+    requires text { AllByRecursion (λ b. is_text b ≡ true) text.now }
+    requires room { length text.now ≤ text_room s.old }
+    ensures fit { IsFit s.new }
+    ensures settings { (setup : Setup) (before : List EscItem) → s.old ≡ settings_of setup before →
+        s.new ≡ settings_of setup (text_after text.now before) }
+    ensures line { (setup : Setup) (before : List EscItem) → s.old ≡ settings_of setup before →
+        sheets.now ≡ setup.sheets → HasOpen (line setup before) bitmap.old →
+        HasOpen (line setup (text_after text.now before)) bitmap.new }
+    ensures others { (setup : Setup) (before : List EscItem) → s.old ≡ settings_of setup before →
+        LeavesAlone setup (text_after text.now before) before }
+{
+    for code in text {
+        if *code >= 0x20 {
+            let cell = s.text.cell(sheets, *code);
+            put_next(s, &cell, bitmap);
+            *s = s.with_character();
+        }
+    }
 }
 
 /// The line in a strip of so many rows.
@@ -390,7 +418,7 @@ fn symbol_on_paper(s: &Settings, symbol: Symbol, canvas: &mut Canvas) -> Job
 /// Lays the line, and a symbol below it.
 fn symbol_on_page(s: &Settings, item: &EscItem, symbol: &Symbol, canvas: &mut Canvas)
     requires fit { IsFit s.now }
-    requires wide { symbol_width canvas.old.sheets symbol.now ≤ 1664 }
+    requires wide { symbol_width canvas.old.sheets symbol.now ≤ LINE_DOTS }
     ensures others { canvas.new ≡ record canvas.old { page = canvas.new.page } }
     ensures page { (setup : Setup) (before : List EscItem) → s.now ≡ settings_of setup before →
         canvas.old.sheets ≡ setup.sheets → HasOpen (line setup before) canvas.old.bitmap →
@@ -413,7 +441,7 @@ fn symbol_on_page(s: &Settings, item: &EscItem, symbol: &Symbol, canvas: &mut Ca
 pub fn act_symbol(s: &Settings, item: &EscItem, symbol: Symbol, canvas: &mut Canvas) -> Job
     requires fit { IsFit s.now }
     requires high { 0 < symbol_height canvas.old.sheets symbol }
-    requires wide { symbol_width canvas.old.sheets symbol ≤ 1664 }
+    requires wide { symbol_width canvas.old.sheets symbol ≤ LINE_DOTS }
     ensures sheets { canvas.new.sheets ≡ canvas.old.sheets }
     ensures job { (lines : Lines) → IsJob result canvas.new lines }
     ensures turned { IsTurned result.place result.after }
@@ -437,14 +465,14 @@ pub fn act_symbol(s: &Settings, item: &EscItem, symbol: Symbol, canvas: &mut Can
 }
 
 /// The row whose last byte came, as often as its raster's scale says.
-fn row_job(s: &Settings, raster: &Raster, row: &mut [u8; 72]) -> Job
+fn row_job(s: &Settings, raster: &Raster, row: &mut [u8; PAPER_BYTES]) -> Job
     requires { IsFit s.now }
     ensures job { (canvas : Canvas) (lines : Lines) → IsJob result canvas lines }
     ensures turned { IsTurned result.place result.after }
     ensures text { (setup : Setup) (before : List EscItem) (canvas : Canvas) (came : List ℕ) →
         s.now ≡ settings_of setup before → raster.now.scale ≡ raster_scale before →
         raster.now.bytes ≡ raster_bytes before →
-        take (min raster.now.bytes 208) raster.now.row ≡ take 208 came → canvas.raster_row ≡ row.new →
+        kept_of raster.now ≡ take LINE_BYTES came → canvas.raster_row ≡ row.new →
         text_of result canvas ≡ raster_row_text setup before came }
     ensures shows { (canvas : Canvas) (high : ℕ) →
         IsShowing result canvas high (length (text_of result canvas)) }
@@ -459,7 +487,7 @@ fn lay_times(s: &Settings, row: &[u8], times: u32, page: &mut Page)
     requires fit { IsFit s.now }
     requires long { length row.now ≤ LINE_BYTES }
     requires few { times ≤ 2 }
-    ensures { (dots : ℕ → ℕ → Bool) (layers : List Layer) → ((u w : ℕ) → u < 8 * LINE_BYTES → w < times →
+    ensures { (dots : ℕ → ℕ → Bool) (layers : List Layer) → ((u w : ℕ) → u < LINE_DOTS → w < times →
         dot row.now u ≡ dots u w) → ((u w : ℕ) → dots u w ≡ true → w < times) →
         HasPage layers page.old → HasPage (Laid (mark_of s.now.page dots) ∷ layers) page.new }
 {
@@ -474,7 +502,7 @@ fn lay_raster_row(s: &Settings, raster: &Raster, page: &mut Page)
     requires { IsFit s.now }
     ensures { (setup : Setup) (before : List EscItem) (came : List ℕ) (layers : List Layer) →
         s.now ≡ settings_of setup before → raster.now.scale ≡ raster_scale before →
-        take (min raster.now.bytes 208) raster.now.row ≡ take 208 came → HasPage layers page.old →
+        kept_of raster.now ≡ take LINE_BYTES came → HasPage layers page.old →
         HasPage (Laid (raster_mark setup before came) ∷ layers) page.new }
 {
     let times = times_down(raster.scale);

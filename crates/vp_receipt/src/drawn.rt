@@ -2,11 +2,12 @@
 //! refused.
 ghost use Rattle.std.specs.Prelude.{◌≡◌, ◌≤◌, ◌<◌, List, false, IfNone, IfSome, OnOk, IfOk, IfErr, None, Some};
 ghost use Rattle.vp_esc.specs.declared.item.EscItem.{EscItem};
+ghost use Rattle.vp_page.specs.declared.line.TheConstants.{LINE_DOTS};
 ghost use Rattle.vp_settings.specs.Setup.{Setup};
-ghost use Rattle.vp_settings.specs.History.{settings_of, IsFit};
+ghost use Rattle.vp_settings.specs.History.{IsFit};
 ghost use Rattle.vp_receipt.specs.Strips.{refusal};
-ghost use Rattle.vp_receipt.specs.Standing.{is_ignored};
-ghost use Rattle.vp_settings.specs.Symbols.{IsStored, qr_data, symbol_image};
+ghost use Rattle.vp_receipt.specs.Standing.{is_ignored, IsInForce};
+ghost use Rattle.vp_settings.specs.Symbols.{symbol_image};
 ghost use Rattle.vp_strips.specs.SymbolInks.{symbol_width, symbol_height, IsSymbolOf, is_symbol};
 
 use vp_dots::Fault;
@@ -44,20 +45,16 @@ pub fn drawn(
 ) -> Result<Option<Symbol>, Fault>
     requires { IsFit s.now }
     ensures accepted { OnOk result ((setup : Setup) (before : List EscItem) →
-        s.now ≡ settings_of setup before →
-        sheets.now ≡ setup.sheets → IsStored stored.now (qr_data before) →
-        refusal setup before item.now ≡ None) }
+        IsInForce setup before s.now sheets.now stored.now → refusal setup before item.now ≡ None) }
     ensures refused { IfErr result (λ fault. (setup : Setup) (before : List EscItem) →
-        s.now ≡ settings_of setup before →
-        sheets.now ≡ setup.sheets → IsStored stored.now (qr_data before) →
-        refusal setup before item.now ≡ Some fault) }
+        IsInForce setup before s.now sheets.now stored.now → refusal setup before item.now ≡ Some fault) }
     ensures image { IfOk result (λ symbol. (setup : Setup) (before : List EscItem) →
-        s.now ≡ settings_of setup before →
-        sheets.now ≡ setup.sheets → IsStored stored.now (qr_data before) →
+        IsInForce setup before s.now sheets.now stored.now →
         IsSymbolOf setup.sheets symbol (symbol_image setup before item.now)) }
     ensures some { IfOk result (λ symbol. IfNone symbol (is_symbol item.now ≡ false)) }
     ensures high { IfOk result (λ symbol. IfSome symbol (λ drawn. 0 < symbol_height sheets.now drawn)) }
-    ensures wide { IfOk result (λ symbol. IfSome symbol (λ drawn. symbol_width sheets.now drawn ≤ 1664)) }
+    ensures wide { IfOk result (λ symbol.
+        IfSome symbol (λ drawn. symbol_width sheets.now drawn ≤ LINE_DOTS)) }
 {
     match item {
         EscItem::Symbol { kind, data, more } => {

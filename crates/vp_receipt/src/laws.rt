@@ -1,10 +1,10 @@
 //! Laws of what is printed: a raster's rows, and images one after the other.
-ghost use Rattle.std.specs.Prelude.{◌≡◌, ◌<◌, ◌+◌, ◌-◌, ◌∷◌, ◌++◌, ℕ, List, [], flat_map, length, reverse};
+ghost use Rattle.std.specs.Prelude.{◌≡◌, ◌<◌, ◌+◌, ◌∷◌, ◌++◌, ℕ, List, [], flat_map, length, reverse};
 ghost use Rattle.vp_dots.specs.Images.{pbm};
 ghost use Rattle.vp_esc.specs.Split.{items, split};
 ghost use Rattle.vp_esc.specs.declared.item.EscItem.{EscItem};
 ghost use Rattle.vp_settings.specs.Setup.{Setup, across};
-ghost use Rattle.vp_settings.specs.Rasters.{raster_bytes, rows_to_come, row_so_far, sent};
+ghost use Rattle.vp_settings.specs.Rasters.{raster_bytes, rows_to_come, row_so_far, bytes_after};
 ghost use Rattle.vp_receipt.specs.Images.{images, begun, AreAcross};
 ghost use Rattle.vp_receipt.specs.Strips.{own_strips, printed, raster_row_text};
 
@@ -14,17 +14,18 @@ use vp_esc::laws::one_reading;
 /// row, and the next row begins.
 pub fn a_row_is_its_bytes()
     ensures gathered { (before : List EscItem) (row : List ℕ) → row_so_far before ≡ [] →
-        0 < rows_to_come before → length row < raster_bytes before → row_so_far (sent row before) ≡ row }
+        0 < rows_to_come before → length row < raster_bytes before →
+        row_so_far (bytes_after row before) ≡ row }
     ensures printed { (setup : Setup) (before : List EscItem) (row : List ℕ) (byte : ℕ) →
         row_so_far before ≡ [] → 0 < rows_to_come before → length row + 1 ≡ raster_bytes before →
-        own_strips setup (sent row before) (EscItem.RasterByte byte) ≡
-        raster_row_text setup (sent row before) (row ++ byte ∷ []) }
+        own_strips setup (bytes_after row before) (EscItem.RasterByte byte) ≡
+        raster_row_text setup (bytes_after row before) (row ++ byte ∷ []) }
     ensures begins { (before : List EscItem) (row : List ℕ) (byte : ℕ) → row_so_far before ≡ [] →
         0 < rows_to_come before → length row + 1 ≡ raster_bytes before →
-        row_so_far (EscItem.RasterByte byte ∷ sent row before) ≡ [] }
+        row_so_far (EscItem.RasterByte byte ∷ bytes_after row before) ≡ [] }
     ensures fewer { (before : List EscItem) (row : List ℕ) (byte : ℕ) → row_so_far before ≡ [] →
         0 < rows_to_come before → length row + 1 ≡ raster_bytes before →
-        rows_to_come (EscItem.RasterByte byte ∷ sent row before) + 1 ≡ rows_to_come before }
+        rows_to_come (EscItem.RasterByte byte ∷ bytes_after row before) + 1 ≡ rows_to_come before }
 {}
 
 /// A law: what the items of bytes print is images, one after the other, each as wide as the paper and of a

@@ -1,4 +1,7 @@
 //! The printer: what it stands after, and what is still to be put out.
+ghost use Rattle.std.specs.List.{AllByRecursion};
+ghost use Rattle.vp_esc.specs.Reader.{is_text};
+ghost use Rattle.vp_settings.specs.Runs.{text_room, text_after};
 ghost use Rattle.vp_strips.specs.SymbolInks.{is_symbol};
 ghost use Rattle.std.specs.Prelude.{◌≡◌, ◌≤◌, ◌<◌, ◌+◌, ◌∷◌, ◌++◌, ◌↔◌, List, [], ℕ, IsTrue, Some, None, IfOk, MatchResult, OnOk, OnErr, length, min, take, drop, true};
 ghost use Rattle.vp_esc.specs.declared.item.EscItem.{EscItem};
@@ -9,20 +12,21 @@ ghost use Rattle.vp_settings.specs.History.{settings_of, IsFit, is_open, line, P
 ghost use Rattle.vp_settings.specs.Rasters.{bytes_after, bytes_within_row};
 ghost use Rattle.vp_settings.specs.Tabs.{tab_stops};
 ghost use Rattle.vp_strips.specs.LineDots.{HasDots};
-ghost use Rattle.vp_strips.specs.declared.paint.TheConstants.{LINE_ROWS};
+ghost use Rattle.vp_page.specs.declared.page.TheConstants.{PAGE_ROWS};
+ghost use Rattle.vp_settings.specs.declared.text.TheConstants.{LINE_ROWS};
 ghost use Rattle.vp_receipt.specs.Strips.{prints, printed, refusal, is_at_rest, line_rows_after, page_rows_after};
 ghost use Rattle.vp_receipt.specs.Standing.{Stands, Gathers};
 ghost use Rattle.vp_settings.specs.Gathering.{IsGathering, room_of};
 ghost use Rattle.vp_strips.specs.Held.{text_of, IsJob, IsTurned};
 
-use crate::act::{act, act_on_row, act_symbol, printed_page, settle};
+use crate::act::{act, act_on_row, act_symbol, printed_page, put_text, settle};
 use crate::drawn::{drawn, is_ignored, is_symbol};
 use std::alloc::{AllocError, Global};
 use std::marker::Model;
 use vp_dots::Fault;
 use vp_esc::item::EscItem;
 use vp_glyph::Sheets;
-use vp_page::Page;
+use vp_page::{PAGE_ROWS, PAPER_BYTES, Page};
 use vp_settings::{Raster, Settings, Stops, Stored, Width, first_stops, set_stops, times_down};
 use vp_strips::{Bitmap, Canvas, Job, Lines, Symbol};
 
@@ -71,7 +75,7 @@ impl Receipt {
             canvas: Canvas {
                 sheets,
                 bitmap,
-                raster_row: [0; 72],
+                raster_row: [0; PAPER_BYTES],
                 symbol: Symbol::Blank,
                 page,
             },
@@ -159,6 +163,35 @@ impl Receipt {
         Ok(())
     }
 
+    /// How many characters go into the line before one could break it.
+    pub fn text_room(&self) -> usize
+        ensures { result ≡ text_room self.now.settings }
+    {
+        usize::from(self.settings.text_room())
+    }
+
+    /// Takes text that there is room for in the line: it prints nothing.
+    pub fn apply_text(&mut self, text: &[u8])
+        requires pending { self.old.pending ≡ [] }
+        requires text { AllByRecursion (λ b. is_text b ≡ true) text.now }
+        requires room { length text.now ≤ text_room self.old.settings }
+        ensures prints { (setup : Setup) (before : List EscItem) → Stands setup self.old before →
+            printed setup (text_after text.now before) ≡ printed setup before }
+        ensures stands { (setup : Setup) (before : List EscItem) → Stands setup self.old before →
+            Stands setup self.new (text_after text.now before) }
+        ensures pending { self.new.pending ≡ [] }
+    {
+        if text.is_empty() {
+            return;
+        }
+        let bitmap = &mut self.canvas.bitmap;
+        settle(&self.settings, self.waiting, &self.canvas.sheets, bitmap);
+        put_text(&mut self.settings, text, &self.canvas.sheets, bitmap);
+        self.waiting = None;
+        self.job = Job::none();
+        self.raster.end();
+    }
+
     /// How many bytes of a raster come before the one that ends its row; 0 where none comes.
     pub fn raster_room(&self) -> usize
         ensures value { result ≡ room_of self.now.raster }
@@ -217,15 +250,15 @@ impl Receipt {
         self.job.line_rows().unwrap_or(self.settings.height)
     }
 
-    /// The rows of the page that is held: 1,664 in page mode and while bytes of a page are still to be put
-    /// out, else 0.
+    /// The rows of the page that is held: all of them in page mode and while bytes of a page are still to be
+    /// put out, else none.
     pub fn page_rows(&self) -> u16
         ensures value { (setup : Setup) (before : List EscItem) → Stands setup self.now before →
             result ≡ page_rows_after setup before self.now.pending }
-        ensures most { result ≤ 1664 }
+        ensures most { result ≤ PAGE_ROWS }
     {
         if self.settings.page.is_paged() || (self.of_page && self.pending()) {
-            1664
+            PAGE_ROWS as u16
         } else {
             0
         }

@@ -1,5 +1,6 @@
 mod page;
 mod page_images;
+mod texts;
 
 use crate::{Receipt, Width};
 use std::alloc::{AllocError, Global};

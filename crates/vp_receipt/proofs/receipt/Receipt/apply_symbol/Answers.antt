@@ -18,7 +18,7 @@ returns-clause-stands c = λ setup before h.
     let was : Stands setup (printing_of c.self.inside) before = subst (λ (p : Printing). Stands setup p before) (sym c.self.view_is) h in
     let item = c.args.item.now in
     let symbol = c.in-Some.symbol in
-    let drawn = subst (λ (o : Option Symbol). IsSymbolOf setup.sheets o (symbol_image setup before item)) c.in-Some.is (c.in_ok-symbol.ensures.image setup before was.settings was.sheets was.stored) in
+    let drawn = subst (λ (o : Option Symbol). IsSymbolOf setup.sheets o (symbol_image setup before item)) c.in-Some.is (c.in_ok-symbol.ensures.image setup before (record { settings = was.settings; sheets = was.sheets; stored = was.stored })) in
     let settled : IsSettled setup before c.self.inside.settings (record c.self.inside.canvas { bitmap = c.settle.new.bitmap }) = record { settings = was.settings; sheets = was.sheets; line = c.settle.ensures (line setup before) was.line; page = was.page } in
     record {
       sheets = c.act_symbol-self-inside.ensures.sheets ∙ was.sheets;

@@ -1,0 +1,30 @@
+use Rattle.std.proofs.Common.{◌≡◌, ◌+◌, ◌-◌, ◌++◌, ◌∷◌, [], suc, take, length, get_or, true, sym, subst, arith}
+use Rattle.std.proofs.lemmas.List.{take_more}
+use Rattle.std.proofs.lemmas.List.Elements.{All-from_recursion}
+use Rattle.vp_esc.specs.Reader.{is_text}
+use Rattle.vp_receipt.proofs.Texts.{Put, none_put, control_put, character_put}
+use Rattle.vp_receipt.proofs.act.put_text.Goals.{then-code-ge32, else-code-ge32}
+use Rattle.vp_receipt.proofs.act.put_text.Goals as goal
+
+pub loop-code-init : goal.loop-code-init
+loop-code-init c = none_put c.args.s.now c.args.sheets.now c.args.bitmap.now (length c.args.text.now - 0) c.requires.fit (omega (arith, c.requires.room))
+
+pub loop-code-preserved : goal.loop-code-preserved
+loop-code-preserved c =
+    let text = c.args.text.now in
+    let k = c.loop-code.code-index in
+    let b = get_or text k 0 in
+    let left = length text - (k + 1) in
+    let old = c.args.s.now in
+    let sheets = c.args.sheets.now in
+    let more : take (k + 1) text ≡ take k text ++ b ∷ [] = take_more text k 0 c.loop-code-test.true in
+    let some : length text - k ≡ suc left = omega (arith, c.loop-code-test.true) in
+    let was : Put old sheets c.args.bitmap.now (take k text) (suc left) c.loop-code.s c.loop-code.bitmap =
+    subst (λ n. Put old sheets c.args.bitmap.now (take k text) n c.loop-code.s c.loop-code.bitmap) some c.loop-code.invariant in
+    subst (λ xs. Put old sheets c.args.bitmap.now xs left c.if-code-ge32.s c.if-code-ge32.bitmap) (sym more) (elim c.if-code-ge32.branch [
+      | then-code-ge32 w ↦ rw (w.s-is, w.bitmap-is) (character_put old sheets c.args.bitmap.now (take k text) left c.loop-code.s w.with_character.result c.loop-code.bitmap w.put_next.new.bitmap b w.if-code-ge32.true was
+          w.with_character.ensures.settings w.with_character.ensures.position w.with_character.ensures.fit
+          (rw (w.cell-cell.ensures.sheets, w.cell-cell.ensures.character, w.cell-cell.ensures.font, w.cell-cell.ensures.style) at w.put_next.ensures))
+      | else-code-ge32 w ↦ rw (w.s-is, w.bitmap-is) (control_put old sheets c.args.bitmap.now (take k text) left c.loop-code.s c.loop-code.bitmap b w.if-code-ge32.false
+          (All-from_recursion (λ b. is_text b ≡ true) text c.requires.text k 0 c.loop-code-test.true) was)
+    ])
