@@ -29,9 +29,9 @@ pub enum Symbol {
     Refused,
 }
 
-/// What a byte is.
+/// What a byte is, by the ranges that it may lie in.
 #[tactic(auto, unfolding(crate::specs::Codes::code_of))]
-pub fn code_of(b: u8) -> Code
+fn code_by_range(b: u8) -> Code
     ensures code { result ≡ code_of b }
     ensures small { SmallCode result }
 {
@@ -68,4 +68,17 @@ pub fn digit_value(b: u8) -> u8
     ensures { result ≡ digit_value (code_of b) }
 {
     VALUES[b as usize]
+}
+
+/// What a byte is. Most are digits, and found in the table.
+pub fn code_of(b: u8) -> Code
+    ensures code { result ≡ code_of b }
+    ensures small { SmallCode result }
+{
+    let value = digit_value(b);
+    if value < 16 {
+        Code::Digit(value)
+    } else {
+        code_by_range(b)
+    }
 }

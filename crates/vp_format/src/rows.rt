@@ -173,7 +173,8 @@ impl<'a> RunRows<'a> {
 
     /// Whether no code is left for the rows to come: then none of them is refused.
     pub fn is_at_end(&self) -> bool
-        ensures { result ≡ true → (y : ℕ) → self.now.next ≤ y → is_refused self.now.picture y ≡ false }
+        ensures later { result ≡ true → (y : ℕ) → self.now.next ≤ y → is_refused self.now.picture y ≡ false }
+        ensures ended { start_of self.now.picture self.now.next ≡ length self.now.picture.codes → result ≡ true }
     {
         self.mark.here.at == self.codes.len()
     }
