@@ -98,3 +98,8 @@ module _ (op : Op) (at : ℤ) (sheet : Option Glyphs) (cells : List ℕ) (w h y 
 -- one dot
 pub one_dot : (x i : ℕ) → span x (x + 1) i ≡ eqb i x
 one_dot x i = grind (arith, nat_tests)
+
+-- lines that show the same row of the sheet
+pub text_alike : (sheet : Option Glyphs) (cells : List ℕ) (w h y z : ℕ) → y < h → z < h → y * 24 / h ≡ z * 24 / h → (x : ℕ) → text_dot sheet cells w h x y ≡ text_dot sheet cells w h x z
+unfolding text_dot sampled_dot
+text_alike sheet cells w h y z a b e x = rw (lt-ltb y h a, lt-ltb z h b, e) refl

@@ -3,8 +3,10 @@ pub mod Turns
 pub mod Bytes
 pub mod OnWhite
 pub mod Columns
+pub mod Alike
 pub mod Framed
 pub mod Celled
+pub mod Alone
 pub mod Folds
 pub mod White
 pub mod Shown

@@ -1,6 +1,6 @@
 -- Dots at places of either sign.
-use Rattle.std.proofs.Common.{inl, inr, ◌≡◌, ℕ, ◌<◌, Bool, true, false, refl, sym, ap, ◌∙◌, arith, ℤ, pos, negsuc, ◌-ℤ◌}
-use Rattle.std.proofs.lemmas.Bool.{true≢false}
+use Rattle.std.proofs.Common.{inl, inr, ◌≡◌, ℕ, ◌<◌, ◌^◌, Bool, true, false, eqb, eq-eqb, refl, sym, ap, ◌∙◌, arith, ℤ, pos, negsuc, ◌-ℤ◌}
+use Rattle.std.proofs.lemmas.Bool.{true≢false, eqb-true}
 use Rattle.std.proofs.lemmas.Int.{ints}
 use Rattle.vp_dots.specs.Dots.{shifted}
 use Rattle.vp_dots.proofs.Shifts.{met}
@@ -34,3 +34,9 @@ shifted_at at f d = elim (met at d) [
 -- lines of ink that has none outside
 pub line_inside : (ink : ℕ → ℕ → Bool) (h : ℕ) → ((u v : ℕ) → ink u v ≡ true → v < h) → (z : ℤ) (v : ℕ) → at_place (λ u. ink u v) z ≡ true → v < h
 line_inside ink h o z v e = let t = at_true (λ u. ink u v) z e in o t.0 v t.1
+
+-- a place that a dot lies on, by what it shows of any line
+pub on_dot : (z : ℤ) (v : ℕ) → ((line : ℕ → Bool) → ((u : ℕ) → line u ≡ true → u < 2 ^ 32) → at_place line z ≡ line v) → v < 2 ^ 32 → z ≡ pos v
+on_dot z v e h =
+    let t = at_true (λ u. eqb u v) z (e (λ u. eqb u v) (λ u k. rw (eqb-true u v k) h) ∙ eq-eqb v v refl) in
+    t.2 ∙ ap (λ n. pos n) (eqb-true t.0 v t.1)

@@ -13,3 +13,4 @@ pub mod Laws
 pub mod Axes
 pub mod Rows
 pub mod Drawn
+pub mod Alone

@@ -1,5 +1,5 @@
 //! Where a line of dots lies on a line of places.
-ghost use Rattle.std.specs.Prelude.{◌≡◌, ℕ, ◌+◌, ◌^◌, ◌<◌, ◌≤◌, Bool, true, false, ℤ, pos, neg_ℤ, ◌-ℤ◌, ◌≤ℤ◌, option_map, unwrap_or, Some, IfSome};
+ghost use Rattle.std.specs.Prelude.{◌≡◌, ℕ, ◌+◌, ◌^◌, ◌<◌, ◌≤◌, Bool, true, false, ℤ, pos, neg_ℤ, ◌-ℤ◌, ◌+ℤ◌, ◌≤ℤ◌, ◌<ℤ◌, option_map, unwrap_or, Some, IfSome};
 ghost use Rattle.vp_field.specs.Places.{at_place};
 ghost use Rattle.vp_field.specs.Views.{counted};
 ghost use Rattle.vp_field.specs.Axes.{dot_on, IsWithin};
@@ -28,6 +28,24 @@ fn from_end(at: i64, size: u32) -> i64
     ensures { result ≡ pos size -ℤ pos 1 -ℤ at }
 {
     i64::from(size) - 1 - at
+}
+
+/// A number of rows that isn't below 0 or above the most.
+pub fn clamped(rows: i64, most: u32) -> u32
+    ensures most { result ≤ most }
+    ensures below { (v : ℕ) → v < most → pos v <ℤ rows → v < result }
+    ensures above { (v : ℕ) → rows ≤ℤ pos v → result ≤ v }
+{
+    rows.clamp(0, i64::from(most)) as u32
+}
+
+/// The place before which so many stand behind another.
+fn last_before(at: i64, from: u32, places: u32) -> i64
+    requires low { neg_ℤ (pos (2 ^ 41)) ≤ℤ at }
+    requires high { at ≤ℤ pos (2 ^ 41) }
+    ensures { result ≡ at -ℤ pos from -ℤ pos places +ℤ pos 1 }
+{
+    at - i64::from(from) - i64::from(places) + 1
 }
 
 impl Axis {
@@ -112,6 +130,22 @@ impl Axis {
                 (behind.saturating_sub(size), behind)
             }
             Axis::Back(_) => (0, 0),
+        }
+    }
+
+    /// The dot on the first of so many places from one on, or on the last, whichever comes first, on a line
+    /// that goes on to either side.
+    pub fn first_line(self, from: u32, places: u32) -> i64
+        requires { IsWithin (2 ^ 41) self }
+        ensures low { neg_ℤ (pos (2 ^ 42)) ≤ℤ result }
+        ensures high { result ≤ℤ pos (2 ^ 42) }
+        ensures from { (k v : ℕ) → k < places → dot_on self (pos (from + k)) ≡ pos v → result ≤ℤ pos v }
+        ensures to { (k v : ℕ) → k < places → dot_on self (pos (from + k)) ≡ pos v
+            → pos v <ℤ (result +ℤ pos places) }
+    {
+        match self {
+            Axis::Forward(at) => i64::from(from) - at,
+            Axis::Back(at) => last_before(at, from, places),
         }
     }
 }

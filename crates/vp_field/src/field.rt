@@ -13,10 +13,11 @@ ghost use Rattle.vp_field.specs.Drawn.{drawn};
 
 use crate::content::{block_of, bytes_of, cells, linear};
 use crate::frame::Frame;
+use crate::lines::BlockRows;
 use crate::picture::paint_picture;
 use crate::standing::{Standing, paint_standing};
 use crate::view::View;
-use vp_dots::Band;
+use vp_dots::{Band, Ink};
 use vp_format::{Bars, Block, Content, Field, QrSymbol, RunMark, Text};
 use vp_glyph::{Font, Sheets};
 use vp_zpl::item::Orientation;
@@ -52,7 +53,13 @@ fn paint_block(
     ensures { RowsPainted 32 on.op (drawn sheets.now stored.now (contents.Block block) on first)
         band.old band.new }
 {
-    paint_standing(&block_of(sheets, stored, block), on, first, band);
+    let ink = block_of(sheets, stored, block);
+    let (_, height) = ink.size();
+    let line = on.laid(&ink).first_line(height, first);
+    let rows = BlockRows {
+        block: ink.from_row(line),
+    };
+    paint_standing(&rows, on, first, band);
 }
 
 /// Paints a linear symbol and its text; nothing where the data have none.

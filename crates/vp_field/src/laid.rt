@@ -1,12 +1,12 @@
 //! How a box of dots lies on a label.
-ghost use Rattle.std.specs.Prelude.{◌≡◌, ℕ, ◌+◌, ◌-◌, ◌^◌, Bool, ℤ, pos, neg_ℤ, ◌-ℤ◌, ◌+ℤ◌, ◌≤ℤ◌};
+ghost use Rattle.std.specs.Prelude.{◌≡◌, ℕ, ◌+◌, ◌-◌, ◌^◌, ◌<◌, ◌≤◌, Bool, ℤ, pos, neg_ℤ, ◌-ℤ◌, ◌+ℤ◌, ◌≤ℤ◌};
 ghost use Rattle.vp_zpl.specs.declared.item.Orientation.TheVariants.{Normal};
 ghost use Rattle.vp_field.specs.Turning.{turned};
 ghost use Rattle.vp_field.specs.Views.{seen_x, seen_y};
 ghost use Rattle.vp_field.specs.Axes.{laid, IsWithin, dot_on};
-ghost use Rattle.vp_field.specs.declared.axis.Lines.TheVariants.{Along};
+ghost use Rattle.vp_field.specs.declared.axis.Lines.TheVariants.{Along, Across};
 
-use crate::axis::{Axis, Lines};
+use crate::axis::{Axis, Lines, clamped};
 use crate::view::View;
 use vp_zpl::item::Orientation;
 
@@ -76,6 +76,21 @@ impl Laid {
             lines: self.lines,
             columns,
             rows,
+        }
+    }
+
+    /// The first of so many lines that may fall on a band whose first row is this one: none before it does.
+    pub fn first_line(self, lines: u32, first: u32) -> u32
+        requires columns { IsWithin (2 ^ 41) self.columns }
+        requires rows { IsWithin (2 ^ 41) self.rows }
+        ensures along { self.lines ≡ Along → (k v : ℕ) → k < 32 → v < lines
+            → dot_on self.rows (pos (first + k)) ≡ pos v → result ≤ v }
+        ensures across { self.lines ≡ Across → (x v : ℕ) → x < 1248 → v < lines
+            → dot_on self.columns (pos x) ≡ pos v → result ≤ v }
+    {
+        match self.lines {
+            Lines::Along => clamped(self.rows.first_line(first, 32), lines),
+            Lines::Across => clamped(self.columns.first_line(0, 1248), lines),
         }
     }
 }

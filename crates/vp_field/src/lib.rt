@@ -8,7 +8,7 @@
 //! that dot at every place.
 //!
 //! - `turning`: how boxes are turned.
-//! - `frame`, `text`, `picture`: boxes, texts and pictures.
+//! - `frame`, `text`, `lines`, `picture`: boxes, texts, blocks of lines and pictures.
 //! - `content`, `field`: what fields show, and how they are painted.
 //! - `view`: how a label is put out.
 //! - `axis`, `laid`: which way the lines of an ink run on the label as it is put out, and where they begin.
@@ -25,6 +25,7 @@ mod frame;
 mod laid;
 mod laws;
 mod line;
+mod lines;
 mod paint;
 mod picture;
 mod standing;

@@ -1,13 +1,12 @@
-//! One line of ink, painted on a row of a band or on a column of it.
-ghost use Rattle.std.specs.Prelude.{◌≡◌, ℕ, ◌+◌, ◌-◌, ◌*◌, ◌^◌, ◌<◌, ◌≤◌, ◌&&◌, ℤ, pos, ◌-ℤ◌, neg_ℤ, ◌≤ℤ◌, nat_eq, nat_lt, length};
+//! One line of ink, drawn along the places of a row or a column, and painted on a row.
+ghost use Rattle.std.specs.Prelude.{◌≡◌, ℕ, ◌+◌, ◌-◌, ◌*◌, ◌^◌, ◌<◌, ◌≤◌, ◌&&◌, ℤ, pos, ◌-ℤ◌, neg_ℤ, ◌≤ℤ◌, nat_lt, length};
 ghost use Rattle.vp_dots.specs.Dots.{dot, dots};
 ghost use Rattle.vp_dots.specs.Painting.{Painted};
-ghost use Rattle.vp_dots.specs.Places.{RowsPainted};
 ghost use Rattle.vp_field.specs.Places.{at_place};
 ghost use Rattle.vp_field.specs.Axes.{dot_on, IsWithin};
 
 use crate::axis::Axis;
-use vp_dots::{Band, Ink, Op, clear_into, dot_of, or_into, paint_dot, xor_into};
+use vp_dots::{Ink, Op, paint_into};
 
 /// Turns a row of dots end for end.
 fn reverse(line: &mut [u8])
@@ -60,14 +59,10 @@ pub fn drawn<I: Ink, const N: usize>(ink: &I, v: u32, axis: Axis, from: u32) -> 
 }
 
 /// Applies the operation to the dots of the row where the line is black.
-fn paint_over(op: Op, line: &[u8], row: &mut [u8])
+pub fn paint_over(op: Op, line: &[u8], row: &mut [u8])
     ensures { Painted op (dot line.now) row.old row.new }
 {
-    match op {
-        Op::Black => or_into(line, 0, row),
-        Op::White => clear_into(line, 0, row),
-        Op::Flip => xor_into(line, 0, row),
-    }
+    paint_into(op, line, 0, row);
 }
 
 /// Applies the operation to the dots of a row of a label on which line v of the ink has ink.
@@ -81,18 +76,6 @@ pub fn paint_line<I: Ink>(ink: &I, v: u32, op: Op, axis: Axis, row: &mut [u8])
         Axis::Back(_) => {
             let line = drawn::<I, 156>(ink, v, axis, 0);
             paint_over(op, &line, row);
-        }
-    }
-}
-
-/// Applies the operation to the dots of a column where the line, which begins on the band's first row, is
-/// black.
-pub fn lay_column(op: Op, line: &[u8; 4], x: u64, band: &mut Band<156, 32>)
-    ensures { RowsPainted 32 op (λ d k. nat_eq d x && dot line.now k) band.old band.new }
-{
-    for k in 0..32usize {
-        if dot_of(line, k as u128) {
-            paint_dot(op, x as u128, band.row_mut(k));
         }
     }
 }

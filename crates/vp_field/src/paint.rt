@@ -1,12 +1,14 @@
 //! Ink painted on a band of a label.
-ghost use Rattle.std.specs.Prelude.{◌≡◌, ℕ, ◌+◌, ◌^◌, ◌<◌, [], pos, length, slice_index_or};
+ghost use Rattle.std.specs.Prelude.{◌≡◌, ℕ, ◌+◌, ◌^◌, ◌-◌, ◌<◌, ◌≤◌, ◌&&◌, [], true, pos, length, slice_index_or};
+ghost use Rattle.vp_dots.specs.Dots.{dot, span};
 ghost use Rattle.vp_dots.specs.Places.{RowsPainted};
-ghost use Rattle.vp_field.specs.Axes.{IsWithin, laid};
+ghost use Rattle.vp_field.specs.Places.{at_place};
+ghost use Rattle.vp_field.specs.Axes.{IsWithin, dot_on, laid};
 ghost use Rattle.vp_field.specs.declared.axis.Lines.TheVariants.{Along, Across};
 
 use crate::axis::{Axis, Lines};
-use crate::line::{drawn, lay_column, paint_line};
-use vp_dots::{Band, Ink, Op};
+use crate::line::{drawn, paint_line, paint_over};
+use vp_dots::{Band, Ink, Op, lay_eight};
 
 /// The dots of a row of a band.
 const WIDTH: u64 = 1248;
@@ -17,6 +19,60 @@ fn row_lengths(band: &Band<156, 32>)
 {
     for k in 0..32usize {
         let _row = band.row(k);
+    }
+}
+
+/// Whether a row is known to show the line that the row above it shows.
+fn repeats_above<I: Ink>(ink: &I, rows: Axis, row: u64) -> bool
+    requires { 0 < row }
+    ensures { result ≡ true → (u : ℕ) → at_place (λ v. I.ink_at ink.now u v) (dot_on rows (pos row))
+        ≡ at_place (λ v. I.ink_at ink.now u v) (dot_on rows (pos (row - 1))) }
+{
+    match (rows.dot_on(row - 1), rows.dot_on(row)) {
+        (Some(above), Some(v)) => ink.repeats(above.max(v)),
+        _ => false,
+    }
+}
+
+/// How many rows from one on, and before another, are known to show the same line.
+fn alike_rows<I: Ink>(ink: &I, rows: Axis, from: u64, to: u64) -> u64
+    requires { from < to }
+    ensures some { 0 < result }
+    ensures within { from + result ≤ to }
+    ensures alike { (j : ℕ) → j < result → (u : ℕ)
+        → at_place (λ v. I.ink_at ink.now u v) (dot_on rows (pos (from + j)))
+        ≡ at_place (λ v. I.ink_at ink.now u v) (dot_on rows (pos from)) }
+{
+    for n in 1..to - from {
+        if !repeats_above(ink, rows, from + n) {
+            return n;
+        }
+    }
+    to - from
+}
+
+/// Paints rows of the band, from row k on, each of which shows line v.
+fn paint_alike<I: Ink>(
+    ink: &I,
+    v: u32,
+    op: Op,
+    columns: Axis,
+    k: usize,
+    rows: usize,
+    band: &mut Band<156, 32>,
+)
+    requires columns { IsWithin (2 ^ 41) columns }
+    requires inside { k + rows ≤ 32 }
+    ensures { RowsPainted 32 op (λ x r. span k (k + rows) r
+        && at_place (λ u. I.ink_at ink.now u v) (dot_on columns (pos x))) band.old band.new }
+{
+    if rows == 1 {
+        paint_line(ink, v, op, columns, band.row_mut(k));
+        return;
+    }
+    let line = drawn::<I, 156>(ink, v, columns, 0);
+    for i in 0..rows {
+        paint_over(op, &line, band.row_mut(k + i));
     }
 }
 
@@ -36,11 +92,43 @@ fn paint_along<I: Ink>(
     let (_, h) = ink.size();
     let (from, to) = rows.span(h);
     let first = u64::from(first);
-    for k in from.saturating_sub(first)..to.saturating_sub(first).min(32) {
+    let mut k = from.saturating_sub(first);
+    let end = to.saturating_sub(first).min(32);
+    while k < end {
+        let alike = alike_rows(ink, rows, first + k, first + end);
         if let Some(v) = rows.dot_on(first + k) {
-            paint_line(ink, v, op, columns, band.row_mut(k as usize));
+            paint_alike(ink, v, op, columns, k as usize, alike as usize, band);
         }
+        k += alike;
     }
+}
+
+/// The ink on a column of the label, on 32 rows from one on.
+fn column_of<I: Ink>(ink: &I, columns: Axis, rows: Axis, x: u64, first: u32) -> [u8; 4]
+    requires low { I.height ink.now < 2 ^ 32 }
+    requires near { IsWithin (2 ^ 41) rows }
+    ensures { (k : ℕ) → k < 32 → dot result k ≡ laid Across columns rows (I.ink_at ink.now) (pos x)
+        (pos (first + k)) }
+{
+    match columns.dot_on(x) {
+        Some(v) => drawn::<I, 4>(ink, v, rows, first),
+        None => [0; 4],
+    }
+}
+
+/// The ink on eight columns of the label, the first of which is x.
+fn eight_columns<I: Ink>(ink: &I, columns: Axis, rows: Axis, x: u64, first: u32) -> [[u8; 4]; 8]
+    requires low { I.height ink.now < 2 ^ 32 }
+    requires near { IsWithin (2 ^ 41) rows }
+    requires x { x < 2 ^ 32 }
+    ensures { (i k : ℕ) → i < 8 → k < 32 → dot (slice_index_or result i []) k
+        ≡ laid Across columns rows (I.ink_at ink.now) (pos (x + i)) (pos (first + k)) }
+{
+    let mut lines = [[0; 4]; 8];
+    for i in 0..8usize {
+        lines[i] = column_of(ink, columns, rows, x + i as u64, first);
+    }
+    lines
 }
 
 /// Paints ink whose lines lie across the rows.
@@ -59,11 +147,10 @@ fn paint_across<I: Ink>(
     let (_, h) = ink.size();
     let (from, to) = columns.span(h);
     row_lengths(band);
-    for x in from..to.min(WIDTH) {
-        if let Some(v) = columns.dot_on(x) {
-            let line = drawn::<I, 4>(ink, v, rows, first);
-            lay_column(op, &line, x, band);
-        }
+    for j in 0..to.min(WIDTH).saturating_sub(from).div_ceil(8) {
+        let x = from + 8 * j;
+        let lines = eight_columns(ink, columns, rows, x, first);
+        lay_eight(op, &lines, x as usize, 0, band);
     }
 }
 

@@ -1,5 +1,5 @@
 //! Pictures: one row as ink, and the rows that fall on a band, read from a mark.
-ghost use Rattle.std.specs.Prelude.{◌≡◌, ℕ, ◌+◌, ◌*◌, ◌^◌, ◌<◌, ◌≤◌, ℤ, pos, neg_ℤ, Bool, ◌+ℤ◌, ◌≤ℤ◌, ◌<ℤ◌, false, length};
+ghost use Rattle.std.specs.Prelude.{◌≡◌, ℕ, ◌+◌, ◌*◌, ◌^◌, ◌<◌, ◌≤◌, ℤ, pos, Bool, false, length};
 ghost use Rattle.vp_dots.specs.Dots.{dot, shifted};
 ghost use Rattle.vp_dots.specs.Places.{RowsPainted};
 ghost use Rattle.vp_glyph.specs.declared.Sheets.{Sheets};
@@ -15,7 +15,7 @@ ghost use Rattle.vp_field.specs.Views.{seen_x, seen_y};
 ghost use Rattle.vp_zpl.specs.declared.item.Orientation.TheVariants.{Normal};
 ghost use Rattle.vp_field.specs.declared.axis.Lines.TheVariants.{Along};
 
-use crate::axis::Axis;
+use crate::axis::{Axis, clamped};
 use crate::content::bytes_of;
 use crate::laid::Laid;
 use crate::line::paint_line;
@@ -74,31 +74,6 @@ impl Ink for PictureRow<'_> {
     }
 }
 
-/// A number of rows that isn't below 0 or above the most.
-fn clamped(rows: i64, most: u32) -> u32
-    ensures most { result ≤ most }
-    ensures below { (v : ℕ) → v < most → pos v <ℤ rows → v < result }
-    ensures above { (v : ℕ) → rows ≤ℤ pos v → result ≤ v }
-{
-    rows.clamp(0, i64::from(most)) as u32
-}
-
-/// The line of ink that falls on the first row of a band or on its last, whichever comes first, on lines that
-/// go on to either side.
-fn first_line(rows: Axis, first: u32) -> i64
-    requires { IsWithin (2 ^ 41) rows }
-    ensures low { neg_ℤ (pos (2 ^ 42)) ≤ℤ result }
-    ensures high { result ≤ℤ pos (2 ^ 42) }
-    ensures from { (k v : ℕ) → k < 32 → dot_on rows (pos (first + k)) ≡ pos v → result ≤ℤ pos v }
-    ensures to { (k v : ℕ) → k < 32 → dot_on rows (pos (first + k)) ≡ pos v
-        → pos v <ℤ (result +ℤ pos 32) }
-{
-    match rows {
-        Axis::Forward(at) => i64::from(first) - at,
-        Axis::Back(at) => at - i64::from(first) - 31,
-    }
-}
-
 /// The first of so many lines of ink that falls on a band, and the one behind the last.
 fn lines_on(rows: Axis, height: u32, first: u32) -> (u32, u32)
     requires { IsWithin (2 ^ 41) rows }
@@ -106,7 +81,7 @@ fn lines_on(rows: Axis, height: u32, first: u32) -> (u32, u32)
     ensures from { (k v : ℕ) → k < 32 → v < height → dot_on rows (pos (first + k)) ≡ pos v → result.0 ≤ v }
     ensures to { (k v : ℕ) → k < 32 → v < height → dot_on rows (pos (first + k)) ≡ pos v → v < result.1 }
 {
-    let line = first_line(rows, first);
+    let line = rows.first_line(first, 32);
     (clamped(line, height), clamped(line + 32, height))
 }
 

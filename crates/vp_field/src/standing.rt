@@ -1,6 +1,7 @@
 //! Ink that stands turned on a label, painted on a band of the label as it is put out.
-ghost use Rattle.std.specs.Prelude.{◌≡◌, ℕ, ◌+◌, pos};
+ghost use Rattle.std.specs.Prelude.{◌≡◌, ℕ, ◌+◌, ◌^◌, Bool, ℤ, pos};
 ghost use Rattle.vp_dots.specs.Places.{RowsPainted};
+ghost use Rattle.vp_field.specs.Axes.{laid, IsWithin};
 ghost use Rattle.vp_field.specs.Standing.{standing, IsNear};
 ghost use Rattle.vp_field.specs.Views.{seen_x, seen_y};
 
@@ -21,6 +22,21 @@ pub struct Standing {
     pub view: View,
 }
 
+impl Standing {
+    /// How ink that stands so lies on the label as it is put out.
+    pub fn laid<I: Ink>(self, ink: &I) -> Laid
+        requires { IsNear self.left self.top }
+        ensures columns { IsWithin (2 ^ 41) result.columns }
+        ensures rows { IsWithin (2 ^ 41) result.rows }
+        ensures ink { (dots : ℕ → ℕ → Bool) (x y : ℤ) → laid result.lines result.columns result.rows dots x y
+            ≡ standing self.left self.top self.orientation (I.width ink.now) (I.height ink.now) dots
+            (seen_x self.view x) (seen_y self.view y) }
+    {
+        let (w, h) = ink.size();
+        Laid::turned(self.orientation, w, h, self.left, self.top).viewed(self.view)
+    }
+}
+
 /// Applies the operation to the dots of a band, whose first row is row `first` of the label as it is put out,
 /// where ink that stands on the label has ink.
 pub fn paint_standing<I: Ink>(ink: &I, on: Standing, first: u32, band: &mut Band<156, 32>)
@@ -29,7 +45,6 @@ pub fn paint_standing<I: Ink>(ink: &I, on: Standing, first: u32, band: &mut Band
         (I.height ink.now) (I.ink_at ink.now) (seen_x on.view (pos x))
         (seen_y on.view (pos (first + k)))) band.old band.new }
 {
-    let (w, h) = ink.size();
-    let laid = Laid::turned(on.orientation, w, h, on.left, on.top).viewed(on.view);
+    let laid = on.laid(ink);
     paint_laid(ink, on.op, laid.lines, laid.columns, laid.rows, first, band);
 }

@@ -60,6 +60,14 @@ fn moved(at: i64, dots: u64) -> i64
     at + dots as i64
 }
 
+/// The row of a character of 24 rows that is shown in row y of one that is drawn so high.
+pub fn source_row(y: u32, high: u32) -> u32
+    requires { y < high }
+    ensures { result ≡ y * 24 / high }
+{
+    (u64::from(y) * 24 / u64::from(high)) as u32
+}
+
 impl Cells<'_> {
     fn cell(&self, k: usize) -> Sampled<'_>
         requires { k < length self.now.text.now }
@@ -128,5 +136,15 @@ impl Ink for Cells<'_> {
         } else {
             self.paint_dots(y, op, at, row);
         }
+    }
+
+    fn repeats(&self, y: u32) -> bool {
+        if y == 0 {
+            return false;
+        }
+        if y >= self.h {
+            return false;
+        }
+        source_row(y, self.h) == source_row(y - 1, self.h)
     }
 }

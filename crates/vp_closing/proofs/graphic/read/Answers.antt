@@ -18,7 +18,7 @@ returns-then-is_at_end c =
     let i = c.loop.invariant in
     rest_taken (picture_of c.args.stored.now c.args.picture) c.loop.counter i.taken
     (λ y order. ap (λ (p : Picture). is_refused p y) (sym i.picture)
-    ∙ c.is_at_end.ensures c.if-is_at_end.true y (omega (arith, i.next)))
+    ∙ c.is_at_end.ensures.later c.if-is_at_end.true y (omega (arith, i.next)))
 
 pub next_row-requires : goal.next_row-requires
 next_row-requires c =

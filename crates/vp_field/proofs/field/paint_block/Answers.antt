@@ -1,6 +1,8 @@
+use Rattle.std.proofs.Common.{◌∙◌}
 use Rattle.vp_field.proofs.field.paint_block.Goals as goal
 
 pub returns : goal.returns
 returns c =
-    let b = c.block_of.ensures in
-    rw (b.sheet, b.text, b.w, b.h, b.wide, b.rows, b.pitch, b.alignment) at c.paint_standing.ensures
+    let b = c.block_of-ink.ensures in
+    let r = c.from_row.ensures in
+    rw (r.sheet ∙ b.sheet, r.text ∙ b.text, r.w ∙ b.w, r.h ∙ b.h, r.wide ∙ b.wide, r.rows ∙ b.rows, r.pitch ∙ b.pitch, r.alignment ∙ b.alignment) at c.paint_standing.ensures

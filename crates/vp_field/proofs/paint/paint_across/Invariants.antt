@@ -1,9 +1,9 @@
-use Rattle.std.proofs.Common.{◌+◌, ◌&&◌, ltb, pos}
+use Rattle.std.proofs.Common.{◌+◌, ◌*◌, ◌&&◌, ltb, pos}
 use Rattle.vp_dots.specs.Places.{RowsPainted}
 use Rattle.vp_field.specs.Axes.{laid}
 use Rattle.vp_field.specs.declared.axis.Lines.TheVariants.{Across}
 use Rattle.vp_field.proofs.paint.paint_across.Given as goal
 
--- the columns left of x are done
-abbrev pub invariant-loop-x : goal.invariant-loop-x
-invariant-loop-x g l = RowsPainted 32 l.op (λ d k. ltb d l.x && laid Across l.columns l.rows (g.I.Ink.ink_at l.ink) (pos d) (pos (l.first + k))) l.fn.band l.band
+-- eight columns j times are done
+abbrev pub invariant-loop-j : goal.invariant-loop-j
+invariant-loop-j g l = RowsPainted 32 l.op (λ d k. ltb d (l.from + 8 * l.j) && laid Across l.columns l.rows (g.I.Ink.ink_at l.ink) (pos d) (pos (l.first + k))) l.fn.band l.band

@@ -1,11 +1,11 @@
-use Rattle.std.proofs.Common.{◌≡◌, ℕ, ◌+◌, ◌<◌, true, false, arith, sym, ap, ◌∙◌, pos}
+use Rattle.std.proofs.Common.{◌≡◌, ℕ, ◌+◌, ◌-◌, ◌<◌, ◌≤◌, true, false, arith, sym, ap, ◌∙◌, pos}
 use Rattle.std.specs.Prelude.{unwrap_or, option_map}
-use Rattle.vp_dots.proofs.Paints.{painted_same}
-use Rattle.vp_dots.proofs.Placing.{rows_init, rows_more, rows_skip, rows_all}
+use Rattle.vp_dots.proofs.Placing.{rows_init, rows_all}
 use Rattle.vp_field.specs.Places.{at_place}
 use Rattle.vp_field.specs.Axes.{dot_on, laid}
 use Rattle.vp_field.specs.declared.axis.Lines.TheVariants.{Along}
 use Rattle.vp_field.proofs.Places.{line_inside}
+use Rattle.vp_field.proofs.Alike.{laid_alike, rows_painted, rows_passed}
 use Rattle.vp_field.proofs.paint.paint_along.Goals as goal
 use Rattle.vp_field.proofs.paint.paint_along.Goals.{in-Some, in_default}
 
@@ -21,11 +21,19 @@ loop-k-preserved g c =
     let ink = λ (u v : ℕ). g.I.Ink.ink_at c.args.ink.now u v in
     let lines : (u v : ℕ) → ink u v ≡ true → v < c.size-h.result.1 = λ u v e. rw c.size-h.ensures.height (g.met.I.Ink.outside c.args.ink.now u v e).1 in
     let line = λ (d v : ℕ). at_place (λ u. ink u v) (dot_on c.args.columns (pos d)) in
+    let shown = λ (x k : ℕ). laid Along c.args.columns c.args.rows ink (pos x) (pos (c.args.first + k)) in
+    let on = λ (u y : ℕ). at_place (λ v. ink u v) (dot_on c.args.rows (pos y)) in
     let falls = λ (d : ℕ). ap (λ n. at_place (line d) (dot_on c.args.rows (pos (n + c.loop-k.k)))) (sym c.from-first.ensures) ∙ c.dot_on.ensures (line d) (λ v e. let l = line_inside ink c.size-h.result.1 lines (dot_on c.args.columns (pos d)) v e in omega arith) in
+    let alike : (x k : ℕ) → c.loop-k.k ≤ k → k < c.loop-k.k + c.alike_rows-alike.result → shown x k ≡ shown x c.loop-k.k = λ x k a b.
+    laid_alike c.args.columns c.args.rows ink (pos x) (pos (c.args.first + k)) (pos (c.args.first + c.loop-k.k)) (λ u.
+    let there : c.args.first + k ≡ c.from-first.result + c.loop-k.k + (k - c.loop-k.k) = omega (arith, c.from-first.ensures) in
+    let here : c.from-first.result + c.loop-k.k ≡ c.args.first + c.loop-k.k = omega (arith, c.from-first.ensures) in
+    ap (on u) there ∙ c.alike_rows-alike.ensures.alike (k - c.loop-k.k) (omega arith) u ∙ ap (on u) here) in
     elim c.match-dot_on.branch [
-      | in-Some w ↦ rw w.band-is (rows_more _ _ _ _ _ _ _ (omega (arith, w.row_mut.ensures.rows)) (omega arith) c.loop-k.invariant
-          (rw (sym w.row_mut.ensures.value) (painted_same _ _ _ _ _ (λ d m. sym (falls d ∙ ap (λ o. unwrap_or (option_map (line d) o) false) w.in-Some.is)) w.paint_line.ensures)))
-      | in_default w ↦ rw w.band-is (rows_skip _ _ _ _ _ _ c.loop-k.invariant (λ d. falls d ∙ ap (λ o. unwrap_or (option_map (line d) o) false) w.in_default.is))
+      | in-Some w ↦ rw w.band-is (rows_painted c.args.op shown (λ x. line x w.in-Some.v) c.loop-k.k c.alike_rows-alike.result
+          (λ x k a b. alike x k a b ∙ falls x ∙ ap (λ o. unwrap_or (option_map (line x) o) false) w.in-Some.is) _ _ _ c.loop-k.invariant w.paint_alike.ensures)
+      | in_default w ↦ rw w.band-is (rows_passed c.args.op shown (λ x. shown x c.loop-k.k) c.loop-k.k c.alike_rows-alike.result alike _ _
+          (λ x. falls x ∙ ap (λ o. unwrap_or (option_map (line x) o) false) w.in_default.is) c.loop-k.invariant)
     ]
 
 pub returns : goal.returns
@@ -33,4 +41,4 @@ returns g c =
     let ink = λ (u v : ℕ). g.I.Ink.ink_at c.args.ink.now u v in
     let lines : (u v : ℕ) → ink u v ≡ true → v < c.size-h.result.1 = λ u v e. rw c.size-h.ensures.height (g.met.I.Ink.outside c.args.ink.now u v e).1 in
     rows_all _ _ (λ x k. laid Along c.args.columns c.args.rows ink (pos x) (pos (c.args.first + k))) c.loop-k.k _ _
-    (λ x k a b. c.span-from.ensures.behind _ (line_inside ink c.size-h.result.1 lines (dot_on c.args.columns (pos x))) (c.args.first + k) (omega arith)) c.loop-k.invariant
+    (λ x k a b. c.span-from.ensures.behind _ (line_inside ink c.size-h.result.1 lines (dot_on c.args.columns (pos x))) (c.args.first + k) (omega (arith, c.from-first.ensures))) c.loop-k.invariant

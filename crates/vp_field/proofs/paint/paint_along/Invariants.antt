@@ -1,4 +1,4 @@
-use Rattle.std.proofs.Common.{◌+◌, ◌&&◌, ltb, pos}
+use Rattle.std.proofs.Common.{◌+◌, ◌-◌, ◌&&◌, ltb, pos}
 use Rattle.vp_dots.specs.Places.{RowsPainted}
 use Rattle.vp_field.specs.Axes.{laid}
 use Rattle.vp_field.specs.declared.axis.Lines.TheVariants.{Along}
@@ -7,3 +7,6 @@ use Rattle.vp_field.proofs.paint.paint_along.Given as goal
 -- the rows above k are done
 abbrev pub invariant-loop-k : goal.invariant-loop-k
 invariant-loop-k g l = RowsPainted 32 l.op (λ x k. ltb k l.k && laid Along l.columns l.rows (g.I.Ink.ink_at l.ink) (pos x) (pos (l.fn.first + k))) l.fn.band l.band
+
+abbrev pub decreases-loop-k : goal.decreases-loop-k
+decreases-loop-k g l = l.end - l.k

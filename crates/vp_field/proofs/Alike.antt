@@ -1,0 +1,72 @@
+-- Lines next to each other that show the same.
+use Rattle.std.proofs.Common.{inl, inr, ◌≡◌, ℕ, ◌+◌, ◌-◌, ◌<◌, ◌≤◌, Bool, false, ltb, ◌&&◌, max, List, refl, sym, ap, ◌∙◌, arith, ℤ, pos, negsuc}
+use Rattle.std.proofs.lemmas.Bool.{cases_lt}
+use Rattle.std.proofs.lemmas.Bool.Decides.{nat_tests}
+use Rattle.std.proofs.lemmas.Int.{ints}
+use Rattle.vp_dots.specs.Dots.{span}
+use Rattle.vp_dots.specs.Places.{RowsPainted}
+use Rattle.vp_dots.specs.declared.Op.{Op}
+use Rattle.vp_dots.proofs.Heights.{rows_same, rows_then}
+use Rattle.vp_field.specs.declared.axis.Axis.{Axis}
+use Rattle.vp_field.specs.declared.axis.Axis.TheVariants.{Forward, Back}
+use Rattle.vp_field.specs.declared.axis.Lines.TheVariants.{Along}
+use Rattle.vp_field.specs.Places.{at_place}
+use Rattle.vp_field.specs.Axes.{dot_on, laid}
+use Rattle.vp_field.proofs.Places.{at_none}
+
+-- of two rows next to each other one shows the line behind the other's
+pub lines_next : (rows : Axis) (row above v m : ℕ) (line : ℕ → Bool) → 0 < row → dot_on rows (pos (row - 1)) ≡ pos above → dot_on rows (pos row) ≡ pos v
+    → m ≡ max above v → line m ≡ line (m - 1) → at_place line (dot_on rows (pos row)) ≡ at_place line (dot_on rows (pos (row - 1)))
+lines_next (Forward at) row above v m line h a b e r =
+    let n : m ≡ v = omega (arith, ints) in
+    let p : m - 1 ≡ above = omega (arith, ints) in
+    ap (at_place line) b ∙ ap line (sym n) ∙ r ∙ ap line p ∙ sym (ap (at_place line) a)
+lines_next (Back at) row above v m line h a b e r =
+    let n : m ≡ above = omega (arith, ints) in
+    let p : m - 1 ≡ v = omega (arith, ints) in
+    ap (at_place line) b ∙ ap line (sym p) ∙ sym r ∙ ap line n ∙ sym (ap (at_place line) a)
+
+-- what is shown at each dot of a line is shown on each column
+pub laid_alike : (columns rows : Axis) (ink : ℕ → ℕ → Bool) (x y z : ℤ) → ((u : ℕ) → at_place (λ v. ink u v) (dot_on rows y) ≡ at_place (λ v. ink u v) (dot_on rows z))
+    → laid Along columns rows ink x y ≡ laid Along columns rows ink x z
+laid_alike columns rows ink x y z e = at (dot_on columns x)
+  where
+    at : (d : ℤ) → at_place (λ v. at_place (λ u. ink u v) d) (dot_on rows y) ≡ at_place (λ v. at_place (λ u. ink u v) d) (dot_on rows z)
+    at (pos u) = e u
+    at (negsuc u) = at_none _ (dot_on rows y) (λ v. refl) ∙ sym (at_none _ (dot_on rows z) (λ v. refl))
+
+-- one more row like the one above
+pub rows_alike : (shown : ℕ → ℕ → Bool) (from n : ℕ) → 0 < n → ((j : ℕ) → j < n → (u : ℕ) → shown u (from + j) ≡ shown u from) → ((u : ℕ) → shown u (from + n) ≡ shown u (from + n - 1))
+    → (j : ℕ) → j < n + 1 → (u : ℕ) → shown u (from + j) ≡ shown u from
+rows_alike shown from n s e r j h u = elim (cases_lt j n) [
+  | inl l ↦ e j l u
+  | inr g ↦
+      let a : j ≡ n = omega arith in
+      let b : from + n - 1 ≡ from + (n - 1) = omega arith in
+      ap (λ i. shown u (from + i)) a ∙ r u ∙ ap (shown u) b ∙ e (n - 1) (omega arith) u
+]
+
+module _ (op : Op) (f : ℕ → ℕ → Bool) (g : ℕ → Bool) (y n : ℕ) (e : (x k : ℕ) → y ≤ k → k < y + n → f x k ≡ g x) where
+  -- rows that show the same line are painted
+  pub rows_painted : (a b c : List (List ℕ)) → RowsPainted 32 op (λ x k. ltb k y && f x k) a b → RowsPainted 32 op (λ x k. span y (y + n) k && g x) b c
+      → RowsPainted 32 op (λ x k. ltb k (y + n) && f x k) a c
+  rows_painted a b c p q = rows_then 32 op _ _ _ _ _ _
+      (λ x k. elim (cases_lt k y) [
+        | inl b ↦ grind (arith, nat_tests)
+        | inr a ↦ elim (cases_lt k (y + n)) [
+          | inl i ↦ (let z : f x k ≡ g x = e x k a i in grind (arith, nat_tests))
+          | inr o ↦ grind (arith, nat_tests)
+        ]
+      ])
+      (λ x k. grind (arith, nat_tests)) p q
+
+  -- rows that show none
+  pub rows_passed : (a b : List (List ℕ)) → ((x : ℕ) → g x ≡ false) → RowsPainted 32 op (λ x k. ltb k y && f x k) a b → RowsPainted 32 op (λ x k. ltb k (y + n) && f x k) a b
+  rows_passed a b w p = rows_same 32 op _ _ _ _
+      (λ x k _. elim (cases_lt k y) [
+        | inl b ↦ grind (arith, nat_tests)
+        | inr a ↦ elim (cases_lt k (y + n)) [
+          | inl i ↦ (let z : f x k ≡ false = e x k a i ∙ w x in grind (arith, nat_tests))
+          | inr o ↦ grind (arith, nat_tests)
+        ]
+      ]) p

@@ -1,0 +1,18 @@
+use Rattle.std.proofs.Common.{◌≡◌, ◌+◌, rules, arith, ap, ◌∙◌, w64, pos}
+use Rattle.vp_field.specs.Axes.{dot_on}
+use mir.Val.{SFits}
+use Rattle.std.proofs.lemmas.Int.{to_z-of_z}
+use Rattle.vp_field.proofs.laid.Laid.first_line.Goals as goal
+
+pub returns-in-Along-clause-along : goal.returns-in-Along-clause-along
+returns-in-Along-clause-along c o k v l m e =
+    let line = c.first_line in
+    let fits : SFits w64 line.result = search (rules, line.ensures.low, line.ensures.high) in
+    c.clamped.ensures.above v (rw (to_z-of_z w64 line.result fits) (line.ensures.from k v l e))
+
+pub returns-in-Across-clause-across : goal.returns-in-Across-clause-across
+returns-in-Across-clause-across c o x v l m e =
+    let line = c.first_line-in-Across in
+    let fits : SFits w64 line.result = search (rules, line.ensures.low, line.ensures.high) in
+    let place : 0 + x ≡ x = omega arith in
+    c.clamped-in-Across.ensures.above v (rw (to_z-of_z w64 line.result fits) (line.ensures.from x v l (ap (λ n. dot_on c.args.self.columns (pos n)) place ∙ e)))

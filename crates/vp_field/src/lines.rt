@@ -1,0 +1,84 @@
+//! Blocks of lines, and which of their rows are alike.
+ghost use Rattle.std.specs.Prelude.{MatchOption};
+ghost use Rattle.vp_glyph.specs.Blocks.{block_width, block_height, block_dot, block_inside};
+ghost use Rattle.vp_field.specs.Alone.{IsAlone};
+
+use crate::text::source_row;
+use std::alloc::AllocError;
+use vp_dots::{Ink, Op};
+use vp_glyph::Block;
+
+/// A block of lines, some of whose rows are known to be like the one above.
+pub struct BlockRows<'a> {
+    pub block: Block<'a>,
+}
+
+impl Copy for BlockRows<'_> {}
+
+impl Clone for BlockRows<'_> {
+    fn clone(&self) -> Result<Self, AllocError> {
+        Ok(*self)
+    }
+}
+
+impl BlockRows<'_> {
+    /// Which row of a line row y is, where lines that don't begin together don't meet there.
+    fn row_of_line(&self, y: u32) -> Option<u32>
+        ensures { MatchOption result (Unit {0}) (λ row.
+            IsAlone self.now.block.h self.now.block.rows self.now.block.pitch y row) }
+    {
+        let last = self.block.rows.saturating_sub(1);
+        if last == 0 {
+            return Some(y);
+        }
+        if self.block.pitch == 0 {
+            return None;
+        }
+        if self.block.pitch < self.block.h {
+            return None;
+        }
+        let place = (y / self.block.pitch).min(last);
+        Some(y - place * self.block.pitch)
+    }
+}
+
+impl Ink for BlockRows<'_> {
+    ghost width = { λ s. block_width s.block.wide s.block.w };
+
+    ghost height = { λ s. block_height s.block.h s.block.rows s.block.pitch };
+
+    ghost ink_at = { λ s x y. block_dot s.block.sheet.now s.block.text.now s.block.w s.block.h s.block.wide
+        s.block.rows s.block.pitch s.block.alignment x y };
+
+    ghost outside = { λ s x y h. block_inside s.block.sheet.now s.block.text.now s.block.w s.block.h
+        s.block.wide s.block.rows s.block.pitch s.block.alignment x y h };
+
+    fn size(&self) -> (u32, u32) {
+        self.block.size()
+    }
+
+    fn ink(&self, x: u32, y: u32) -> bool {
+        self.block.ink(x, y)
+    }
+
+    fn paint_row(&self, y: u32, op: Op, at: i64, row: &mut [u8]) {
+        self.block.paint_row(y, op, at, row);
+    }
+
+    fn repeats(&self, y: u32) -> bool {
+        let (_, height) = self.size();
+        if y >= height {
+            return false;
+        }
+        let Some(row) = self.row_of_line(y) else {
+            return false;
+        };
+        if row == 0 {
+            return false;
+        }
+        if row >= self.block.h {
+            return false;
+        }
+        source_row(row, self.block.h) == source_row(row - 1, self.block.h)
+    }
+}
