@@ -10,7 +10,7 @@ use Rattle.vp_dots.proofs.ImageRows.{length-row_from}
 use Rattle.vp_dots.proofs.ImageLaws.{length-image_rows}
 use Rattle.vp_copies.specs.declared.place.Line.{Line}
 use Rattle.vp_copies.specs.declared.place.Line.TheVariants.{Head, Row}
-use Rattle.vp_copies.specs.Copies.{bytes_above, line_text, line_bytes}
+use Rattle.vp_copies.specs.Copies.{bytes_above, copies_text, line_text, line_bytes}
 use Rattle.vp_copies.specs.Progress.{IsLineOf}
 
 -- pieces of one length from one of them on
@@ -61,6 +61,11 @@ module _ (i : Image) where
       ∙ drop-pieces (image_row i) w (λ k. length-line (Row k)) 0 i.height y (omega arith)
       ∙ ap (λ k. flat_map (image_row i) (range_with_len k (i.height - y))) at
       ∙ ap (λ n. flat_map (image_row i) (range_with_len y n)) left
+
+-- the text of copies is as long as that of one, so often
+pub length-copies : (i : Image) (copies : ℕ) → length (copies_text i copies) ≡ copies * length (pbm i)
+length-copies i zero = omega arith
+length-copies i (suc q) = omega (arith, length-append (pbm i) (copies_text i q), length-copies i q, suc-mul q (length (pbm i)))
 
 -- a dot of a row's first bytes
 pub dot-take : (n : ℕ) (row : List ℕ) (d : ℕ) → d < 8 * n → dot (take n row) d ≡ dot row d

@@ -41,7 +41,8 @@ row_after (Row y) = y + 1
 -- the place behind a line: the next row's start, or the next copy's behind the last row
 abbrev pub behind_line : ℕ → Place → Place
 behind_line height p =
-    if nat_lt (row_after p.line) height then record { copies = p.copies; line = Row (row_after p.line); byte = 0 }
+    if nat_lt (row_after p.line) height
+    then record { copies = p.copies; line = Row (row_after p.line); byte = 0 }
     else record { copies = p.copies - 1; line = Head; byte = 0 }
 
 -- the place so many bytes further on in its line, or behind it

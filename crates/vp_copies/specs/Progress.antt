@@ -30,12 +30,13 @@ pub record IsPlaceOf (width height : ℕ) (p : Place) : Type 0 where
   pub line : IsLineOf height p.line
   pub byte : p.byte < line_bytes width height p.line
 
--- the rows of a band are those of the image from one on, as far as it has any: its dots, and white ones that fill the
--- last byte
+-- the rows of a band are those of the image from one on, as far as it has any: its dots, and white ones that
+-- fill the last byte
 pub record HasRows (i : Image) (first : ℕ) (band : List (List ℕ)) : Type 0 where
   pub dots_are : (x k : ℕ) → x < i.width → k < BAND_ROWS → first + k < i.height →
       dot (slice_index_or band k []) x ≡ i.is_black x (first + k)
-  pub rest_is_white : (x k : ℕ) → i.width ≤ x → x < 8 * row_bytes i.width → k < BAND_ROWS → first + k < i.height →
+  pub rest_is_white : (x k : ℕ) → i.width ≤ x → x < 8 * row_bytes i.width → k < BAND_ROWS →
+      first + k < i.height →
       dot (slice_index_or band k []) x ≡ false
 
 -- the band of the line is painted

@@ -10,13 +10,11 @@ use arrayvec::ArrayVec;
 use std::marker::Model;
 use vp_dots::{Band, dots_decide, header};
 
-/// The dots across the widest label.
-pub const WIDEST: u16 = 1248;
+/// The dots across a band, which no image is wider than.
+pub const BAND_DOTS: u16 = 1248;
 
-/// The rows of the longest label.
-pub const LONGEST: u16 = 8000;
-
-/// Copies of an image that are being put out. Clauses see how wide and high it is, and the place of the next byte.
+/// Copies of an image that are being put out. Clauses see how wide and high it is, and the place of the next
+/// byte.
 #[derive(Drop)]
 pub struct Copies {
     width: u16,
@@ -51,7 +49,7 @@ fn copy_from(line: &[u8], byte: usize, out: &mut [u8]) -> usize
 
 /// The bytes of a row of the band, for an image so wide.
 fn row_of_band(band: &Band<156, 32>, y: usize, width: u16) -> &[u8]
-    requires narrow { width ≤ WIDEST }
+    requires narrow { width ≤ BAND_DOTS }
     ensures count { length result.now ≡ line_bytes width 0 (Line.Row y) }
     ensures text { (i : Image) → i.width ≡ width → y < i.height → IsPainted i (Line.Row y) band.now →
         result.now ≡ line_text i (Line.Row y) }
@@ -62,17 +60,21 @@ fn row_of_band(band: &Band<156, 32>, y: usize, width: u16) -> &[u8]
 }
 
 impl Copies {
-    /// So many copies of an image, of 1 to 1,248 by 1 to 8,000 dots; none, and nothing is pending.
+    /// So many copies of an image, of 1 to 1,248 dots across and a row or more; none, and nothing is pending.
     pub fn new(width: u16, height: u16, copies: u32) -> Copies
         requires wide { 0 < width }
-        requires narrow { width ≤ WIDEST }
+        requires narrow { width ≤ BAND_DOTS }
         requires high { 0 < height }
-        requires low { height ≤ LONGEST }
         ensures value { result ≡
-            record { width = width; height = height; place = record { copies = copies; line = Head; byte = 0 } } }
+            record {
+              width = width;
+              height = height;
+              place = record { copies = copies; line = Head; byte = 0 };
+            } }
         ensures text { (dots : ℕ → ℕ → Bool) →
             pending (image_of result dots) result.place ≡ copies_text (image_of result dots) copies }
-        ensures ready { (dots : ℕ → ℕ → Bool) (band : List (List ℕ)) → IsReady (image_of result dots) result.place band }
+        ensures ready { (dots : ℕ → ℕ → Bool) (band : List (List ℕ)) →
+            IsReady (image_of result dots) result.place band }
         ensures place { IsPlaceOf result.width result.height result.place }
     {
         Copies {
@@ -101,7 +103,8 @@ impl Copies {
 
     /// How many rows of the image are in the band of the next byte: none for the header's.
     pub fn band_rows(&self) -> usize
-        ensures { result ≡ band_rows self.now.height self.now.place.line }
+        ensures value { result ≡ band_rows self.now.height self.now.place.line }
+        ensures most { result ≤ BAND_ROWS }
     {
         match self.place.line {
             Line::Head => 0,
@@ -115,7 +118,8 @@ impl Copies {
     /// The bytes of the place's line.
     fn line<'a>(&'a self, band: &'a Band<156, 32>) -> &'a [u8]
         ensures count { length result.now ≡ line_bytes self.now.width self.now.height self.now.place.line }
-        ensures text { (dots : ℕ → ℕ → Bool) → IsPainted (image_of self.now dots) self.now.place.line band.now →
+        ensures text { (dots : ℕ → ℕ → Bool) →
+            IsPainted (image_of self.now dots) self.now.place.line band.now →
             result.now ≡ line_text (image_of self.now dots) self.now.place.line }
     {
         match self.place.line {
@@ -124,21 +128,25 @@ impl Copies {
         }
     }
 
-    /// Puts out the next bytes of the place's line, as many as there are and room is for, and answers how many. For
-    /// whatever dots the band is painted with, they are the image's.
+    /// Puts out the next bytes of the place's line, as many as there are and room is for, and answers how
+    /// many. For whatever dots the band is painted with, they are the image's.
     pub fn put_line(&mut self, band: &Band<156, 32>, out: &mut [u8]) -> usize
         requires { 0 < self.old.place.copies }
-        ensures count { result ≡ min (line_bytes self.old.width self.old.height self.old.place.line - self.old.place.byte)
+        ensures count { result ≡
+            min (line_bytes self.old.width self.old.height self.old.place.line - self.old.place.byte)
             (length out.old) }
         ensures some { 0 < length out.old → 0 < result }
         ensures value { self.new ≡
             record self.old { place = advanced self.old.width self.old.height result self.old.place } }
-        ensures within { (dots : ℕ → ℕ → Bool) → result ≤ length (pending (image_of self.old dots) self.old.place) }
-        ensures bytes { (dots : ℕ → ℕ → Bool) → IsPainted (image_of self.old dots) self.old.place.line band.now →
+        ensures within { (dots : ℕ → ℕ → Bool) →
+            result ≤ length (pending (image_of self.old dots) self.old.place) }
+        ensures bytes { (dots : ℕ → ℕ → Bool) →
+            IsPainted (image_of self.old dots) self.old.place.line band.now →
             out.new ≡ take result (pending (image_of self.old dots) self.old.place) ++ drop result out.old }
         ensures rest { (dots : ℕ → ℕ → Bool) → pending (image_of self.new dots) self.new.place
             ≡ drop result (pending (image_of self.old dots) self.old.place) }
-        ensures ready { (dots : ℕ → ℕ → Bool) → IsPainted (image_of self.old dots) self.old.place.line band.now →
+        ensures ready { (dots : ℕ → ℕ → Bool) →
+            IsPainted (image_of self.old dots) self.old.place.line band.now →
             IsReady (image_of self.new dots) self.new.place band.now }
         ensures place { IsPlaceOf self.new.width self.new.height self.new.place }
     {

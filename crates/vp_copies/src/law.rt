@@ -1,11 +1,12 @@
 //! The laws of the text of copies.
-ghost use Rattle.std.specs.Prelude.{◌≡◌, ℕ, ◌+◌, ◌*◌, ◌++◌, ◌<◌, ◌↔◌, length};
+ghost use Rattle.std.specs.Prelude.{◌≡◌, ℕ, ◌+◌, ◌-◌, ◌*◌, ◌%◌, ◌++◌, ◌<◌, ◌≤◌, ◌↔◌, length};
 ghost use Rattle.vp_dots.specs.Images.{Image, pbm};
-ghost use Rattle.vp_copies.specs.Copies.{copies_text, pending};
+ghost use Rattle.vp_copies.specs.Copies.{bytes_above, copies_text, pending};
 ghost use Rattle.vp_copies.specs.declared.place.Place.{Place};
 ghost use Rattle.vp_copies.specs.Progress.{IsPlaceOf};
 
-/// A law: the text of copies is that of one image so often, and copies put out one after the other are all of them.
+/// A law: the text of copies is that of one image so often, and copies put out one after the other are all of
+/// them.
 pub fn copies_law()
     ensures one { (i : Image) → copies_text i 1 ≡ pbm i }
     ensures count { (i : Image) (copies : ℕ) → length (copies_text i copies) ≡ copies * length (pbm i) }
@@ -17,4 +18,13 @@ pub fn copies_law()
 pub fn pending_law()
     ensures { (i : Image) (p : Place) → 0 < i.height → IsPlaceOf i.width i.height p →
         (0 < p.copies) ↔ (0 < length (pending i p)) }
+{}
+
+/// A law: how far a copy is put out follows from how many bytes are left of so many copies.
+pub fn place_law()
+    ensures { (i : Image) (p : Place) (copies : ℕ) → 0 < i.height → IsPlaceOf i.width i.height p →
+        0 < p.copies →
+        length (pending i p) ≤ length (copies_text i copies) →
+        (length (copies_text i copies) - length (pending i p)) % length (pbm i)
+        ≡ bytes_above i.width i.height p.line + p.byte }
 {}

@@ -1,7 +1,7 @@
 //! The copies of a label as bytes: which byte comes next, and what has to be ready before it does.
 //!
-//! A copy is one image, its header and its rows. Its rows are painted by bands of 32, and whoever paints is told when
-//! a copy begins and which band is wanted next; so nothing here hangs on what an image shows.
+//! A copy is one image, its header and its rows. Its rows are painted by bands of 32, and whoever paints is
+//! told when a copy begins and which band is wanted next; so nothing here hangs on what an image shows.
 //!
 //! - `place`: where the next byte is.
 //! - `copies`: copies that are being put out, as far as there is room.
@@ -14,6 +14,6 @@ mod place;
 #[cfg(test)]
 mod tests;
 
-pub use copies::{Copies, LONGEST, WIDEST};
-pub use law::{copies_law, pending_law};
+pub use copies::{BAND_DOTS, Copies};
+pub use law::{copies_law, pending_law, place_law};
 pub use place::{Ahead, BAND_ROWS, Line, Place};

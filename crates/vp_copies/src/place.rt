@@ -90,7 +90,8 @@ impl Place {
         requires pending { 0 < self.copies }
         requires within { self.byte + n ≤ len }
         requires line { IsLineOf height self.line }
-        ensures { (width : ℕ) → len ≡ line_bytes width height self.line → result ≡ advanced width height n self }
+        ensures { (width : ℕ) → len ≡ line_bytes width height self.line →
+            result ≡ advanced width height n self }
     {
         if self.byte + n < len {
             return Place {

@@ -1,13 +1,9 @@
-use Rattle.std.proofs.Common.{◌≡◌, ℕ, zero, suc, ◌+◌, ◌*◌, ◌++◌, ap, sym, ◌∙◌, arith, length, length-append, append_assoc}
-use Rattle.std.proofs.Math.Nat.{suc-mul}
+use Rattle.std.proofs.Common.{◌≡◌, ℕ, zero, suc, ◌+◌, ◌++◌, ap, sym, ◌∙◌, arith, append_assoc}
 use Rattle.std.proofs.lemmas.List.{append-nil}
 use Rattle.vp_dots.specs.Images.{Image, pbm}
 use Rattle.vp_copies.specs.Copies.{copies_text}
+use Rattle.vp_copies.proofs.Texts.{length-copies}
 use Rattle.vp_copies.proofs.law.copies_law.Goals as goal
-
-count : (i : Image) (copies : ℕ) → length (copies_text i copies) ≡ copies * length (pbm i)
-count i zero = omega arith
-count i (suc q) = omega (arith, length-append (pbm i) (copies_text i q), count i q, suc-mul q (length (pbm i)))
 
 more : (i : Image) (first others : ℕ) → copies_text i (first + others) ≡ copies_text i first ++ copies_text i others
 more i zero others = let e : zero + others ≡ others = omega arith in ap (copies_text i) e
@@ -18,6 +14,6 @@ more i (suc q) others =
 pub returns : goal.returns
 returns c = record {
   one = λ i. append-nil (pbm i);
-  count = count;
+  count = length-copies;
   more = more;
 }
