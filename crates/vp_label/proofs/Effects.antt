@@ -1,5 +1,5 @@
 -- What follows from a command's effect.
-use Rattle.std.proofs.Common.{◌≡◌, ℕ, true, false, List, [], ◌∷◌, refl, Option, Some, None, Bool, Result, ap, sym, ◌∙◌}
+use Rattle.std.proofs.Common.{◌≡◌, ℕ, true, false, List, [], ◌∷◌, refl, Option, Some, None, Bool, ap, sym, ◌∙◌}
 use Rattle.vp_dots.specs.declared.fault.Fault.{Fault}
 use Rattle.vp_glyph.specs.declared.Sheets.{Sheets}
 use Rattle.vp_zpl.specs.Spelling.{Kept}
@@ -11,11 +11,11 @@ use Rattle.vp_zpl.specs.Items.Item.{Given, Data}
 use Rattle.vp_format.specs.declared.field.Field.{Field}
 use Rattle.vp_label_settings.specs.Formats.{is_open, is_open_by, stored, stored_by}
 use Rattle.vp_label_settings.specs.Refusals.{head_refusal}
-use Rattle.vp_label.specs.declared.gathered.Effect.TheVariants.{Sets, Begins, Closes, Prints, Fails}
+use Rattle.vp_label.specs.declared.gathered.Effect.TheVariants.{Sets, Begins, Closes, Prints}
 use Rattle.vp_label.specs.Effects.{effect_of, unless_refused}
 use Rattle.vp_label.specs.Entries.{entries, entries_by, closed}
-use Rattle.vp_label.specs.Refusals.{command_refusal, refusal}
-use Rattle.vp_label.specs.Prints.{prints, prints_by, unless_empty, label_image}
+use Rattle.vp_label.specs.Refusals.{command_refusal}
+use Rattle.vp_label.specs.Prints.{prints_by, unless_empty, label_image}
 use Rattle.vp_field.specs.declared.view.View.{View}
 use Rattle.vp_label.specs.Gathered.{Holds}
 use Rattle.vp_format.specs.Formats.{Held}

@@ -1,10 +1,10 @@
 -- Nothing is pending.
-use Rattle.std.proofs.Common.{◌≡◌, ◌+◌, ◌<◌, ℕ, zero, suc, List, [], length, drop, arith, refl, ap, sym, ◌↔◌}
+use Rattle.std.proofs.Common.{◌≡◌, ◌+◌, ◌<◌, ℕ, List, [], length, drop, arith, refl, ap, ◌↔◌}
 use Rattle.vp_dots.specs.Images.{Image}
 use Rattle.vp_copies.specs.declared.place.Place.{Place}
 use Rattle.vp_copies.specs.Copies.{bytes_above, copies_text, pending}
 use Rattle.vp_copies.specs.Progress.{IsPlaceOf}
-use Rattle.std.proofs.Common.{◌≤◌, ◌∙◌, ◌∷◌, inl, inr, Option, Some, None}
+use Rattle.std.proofs.Common.{◌∙◌, ◌∷◌, inl, inr, Option, Some, None}
 use Rattle.std.specs.Option.{option_or}
 use Rattle.std.proofs.lemmas.Bool.{cases_lt}
 use Rattle.std.proofs.lemmas.List.{append-nil, drop_all}

@@ -3,3 +3,6 @@ pub mod Cut
 pub mod Effects
 pub mod Presses
 pub mod Idle
+pub mod Pending
+pub mod Counts
+pub mod Images

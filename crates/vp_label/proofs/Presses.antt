@@ -1,14 +1,14 @@
 -- Which band is next, some bytes further on.
-use Rattle.std.proofs.Common.{◌≡◌, ◌+◌, ◌-◌, ◌*◌, ◌/◌, ◌%◌, ◌<◌, ◌≤◌, ◌⊎◌, inl, inr, ℕ, zero, suc, true, false, Bool, refl, ap, sym, ◌∙◌, subst, arith, cond, eqb, ltb}
+use Rattle.std.proofs.Common.{◌≡◌, ◌+◌, ◌*◌, ◌/◌, ◌%◌, ◌<◌, ◌≤◌, inl, inr, ℕ, zero, suc, true, false, Bool, refl, subst, arith}
 use Rattle.std.specs.Prelude.{◌==◌, ◌||◌, nat_lt, if◌then◌else◌}
-use Rattle.std.proofs.lemmas.Bool.{cases_lt, cases_Bool, lt-ltb, le-ltb}
+use Rattle.std.proofs.lemmas.Bool.{cases_Bool}
 use Rattle.std.proofs.lemmas.Bool.Decides.{nat_tests}
 use Rattle.vp_copies.specs.declared.place.Ahead.{Ahead}
-use Rattle.vp_copies.specs.declared.place.Ahead.TheVariants.{Nothing, Copy, Band}
+use Rattle.vp_copies.specs.declared.place.Ahead.TheVariants.{Nothing, Band}
 use Rattle.vp_copies.specs.declared.place.Line.{Line}
 use Rattle.vp_copies.specs.declared.place.Line.TheVariants.{Head, Row}
 use Rattle.vp_copies.specs.declared.place.Place.{Place}
-use Rattle.vp_copies.specs.Copies.{advanced, ahead, ahead_of, behind_line, line_bytes, row_after}
+use Rattle.vp_copies.specs.Copies.{ahead, ahead_of}
 use Rattle.vp_copies.specs.Progress.{IsLineOf}
 use Rattle.std.proofs.Common.{List}
 use Rattle.vp_glyph.specs.declared.Sheets.{Sheets}

@@ -1,17 +1,17 @@
 -- Data that are stored, or find no room.
-use Rattle.std.proofs.Common.{◌≡◌, ◌+◌, ◌∙◌, ◌<◌, ◌≤◌, ℕ, true, false, List, [], ◌∷◌, ◌++◌, length, arith, refl, length-append, Option, Some, None, Bool, ◌&&◌, ap, inl, inr, sym, append_assoc}
-use Rattle.std.specs.Prelude.{nat_le, not, ◌||◌, if◌then◌else◌}
+use Rattle.std.proofs.Common.{◌≡◌, ◌+◌, ◌∙◌, ◌<◌, ◌≤◌, ℕ, true, false, List, [], ◌∷◌, ◌++◌, length, arith, refl, length-append, Some, None, Bool, ◌&&◌, ap, inl, inr, sym, append_assoc}
+use Rattle.std.specs.Prelude.{nat_le, not, ◌||◌}
 use Rattle.std.proofs.lemmas.Bool.Decides.{nat_tests}
-use Rattle.std.specs.Option.{option_or}
 use Rattle.std.specs.Result.{IsOk, OnOk}
 use Rattle.std.specs.Prelude.{Result, Ok, Err}
 use Rattle.std.proofs.lemmas.List.{append-nil}
-use Rattle.std.proofs.lemmas.Bool.{cases_lt, le-leb, lt-leb}
+use Rattle.std.proofs.lemmas.Bool.{cases_Bool, cases_lt, le-leb, lt-leb}
 use Rattle.vp_dots.specs.declared.fault.Fault.{Fault}
 use Rattle.vp_dots.specs.declared.fault.Fault.TheVariants.{StoreFull}
 use Rattle.vp_glyph.specs.declared.Sheets.{Sheets}
 use Rattle.vp_zpl.specs.Items.Item.{Data}
 use Rattle.vp_zpl.specs.Items.{Item, data_items}
+use Rattle.vp_label_settings.specs.declared.in_force.TheConstants.{STORE}
 use Rattle.vp_label_settings.specs.Formats.{is_open, followed_by, stored}
 use Rattle.vp_label.specs.Entries.{entries}
 use Rattle.vp_label.specs.Refusals.{first_refusal, refusal}
@@ -32,28 +32,28 @@ all-stored before [] is_so = sym (append-nil (stored before))
 all-stored before (b ∷ bytes) is_so = all-stored (Data b ∷ before) bytes is_so ∙ ap (λ xs. xs ++ bytes) (one-stored before b is_so) ∙ append_assoc (stored before) (b ∷ []) bytes
 
 -- a byte that fits
-fits : (opened : Bool) (n : ℕ) → n < 262144 → (opened && nat_le 262144 n) ≡ false
-fits true n h = lt-leb 262144 n h
+fits : (opened : Bool) (n : ℕ) → n < STORE → (opened && nat_le STORE n) ≡ false
+fits true n h = lt-leb STORE n h
 fits false n h = refl
 
-pub no_room : (opened : Bool) (n : ℕ) → (not opened || nat_le n 262144) ≡ false → (opened ≡ true) × (262144 < n)
+pub no_room : (opened : Bool) (n : ℕ) → (not opened || nat_le n STORE) ≡ false → (opened ≡ true) × (STORE < n)
 no_room true n h = (refl, grind (arith, nat_tests))
 no_room false n h = cc
 
-pub has_room : (opened : Bool) (n : ℕ) → opened ≡ true → (not opened || nat_le n 262144) ≡ true → n ≤ 262144
+pub has_room : (opened : Bool) (n : ℕ) → opened ≡ true → (not opened || nat_le n STORE) ≡ true → n ≤ STORE
 has_room true n o h = grind (arith, nat_tests)
 has_room false n o h = cc
 
-taken : (sheets : Sheets) (before : List Item) (b : ℕ) → length (stored before) < 262144 → refusal sheets before (Data b) ≡ None
+taken : (sheets : Sheets) (before : List Item) (b : ℕ) → length (stored before) < STORE → refusal sheets before (Data b) ≡ None
 taken sheets before b h = rw (fits (is_open before) (length (stored before)) h) refl
 
-refused : (sheets : Sheets) (before : List Item) (b : ℕ) → is_open before ≡ true → 262144 ≤ length (stored before) → refusal sheets before (Data b) ≡ Some StoreFull
-refused sheets before b is_so h = rw (is_so, le-leb 262144 (length (stored before)) h) refl
+refused : (sheets : Sheets) (before : List Item) (b : ℕ) → is_open before ≡ true → STORE ≤ length (stored before) → refusal sheets before (Data b) ≡ Some StoreFull
+refused sheets before b is_so h = rw (is_so, le-leb STORE (length (stored before)) h) refl
 
 unheard : (sheets : Sheets) (before : List Item) (b : ℕ) → is_open before ≡ false → refusal sheets before (Data b) ≡ None
 unheard sheets before b shut = rw shut refl
 
-pub all_taken : (sheets : Sheets) (before : List Item) (bytes : List ℕ) → is_open before ≡ true → length (stored before) + length bytes ≤ 262144 → first_refusal sheets before (data_items bytes) ≡ None
+pub all_taken : (sheets : Sheets) (before : List Item) (bytes : List ℕ) → is_open before ≡ true → length (stored before) + length bytes ≤ STORE → first_refusal sheets before (data_items bytes) ≡ None
 all_taken sheets before [] is_so h = refl
 all_taken sheets before (b ∷ bytes) is_so h =
     let more = length-append (stored before) (b ∷ []) in
@@ -63,15 +63,38 @@ pub all_unheard : (sheets : Sheets) (before : List Item) (bytes : List ℕ) → 
 all_unheard sheets before [] shut = refl
 all_unheard sheets before (b ∷ bytes) shut = rw (unheard sheets before b shut) (all_unheard sheets (Data b ∷ before) bytes shut)
 
-pub one_refused : (sheets : Sheets) (before : List Item) (bytes : List ℕ) → is_open before ≡ true → 262144 < length (stored before) + length bytes → length (stored before) ≤ 262144 →
+pub one_refused : (sheets : Sheets) (before : List Item) (bytes : List ℕ) → is_open before ≡ true → STORE < length (stored before) + length bytes → length (stored before) ≤ STORE →
     first_refusal sheets before (data_items bytes) ≡ Some StoreFull
 one_refused sheets before [] is_so h few = absurd (omega arith)
-one_refused sheets before (b ∷ bytes) is_so h few = elim (cases_lt (length (stored before)) 262144) [
+one_refused sheets before (b ∷ bytes) is_so h few = elim (cases_lt (length (stored before)) STORE) [
   | inl room ↦
       let more = length-append (stored before) (b ∷ []) in
       rw (taken sheets before b room) (one_refused sheets (Data b ∷ before) bytes is_so (omega (arith, ap length (one-stored before b is_so))) (omega (arith, ap length (one-stored before b is_so))))
   | inr full ↦ rw (refused sheets before b is_so full) refl
 ]
+
+-- behind a byte that is refused each one is, for the same reason
+pub last_refused : (sheets : Sheets) (before : List Item) (bytes : List ℕ) (byte : ℕ) (f : Fault) → first_refusal sheets before (data_items (bytes ++ byte ∷ [])) ≡ Some f →
+    refusal sheets (followed_by before (data_items bytes)) (Data byte) ≡ Some f
+last_refused sheets before bytes byte f some = elim (cases_Bool (is_open before)) [
+  | inl so ↦ open_refused sheets before bytes byte f so some
+  | inr shut ↦ absurd (let none = all_unheard sheets before (bytes ++ byte ∷ []) shut in cc)
+]
+  where
+    open_refused : (sheets : Sheets) (before : List Item) (bytes : List ℕ) (byte : ℕ) (f : Fault) → is_open before ≡ true → first_refusal sheets before (data_items (bytes ++ byte ∷ [])) ≡ Some f →
+        refusal sheets (followed_by before (data_items bytes)) (Data byte) ≡ Some f
+    open_refused sheets before [] byte f so some = elim (cases_lt (length (stored before)) STORE) [
+      | inl room ↦ absurd (let none = taken sheets before byte room in let no = rw none at some in cc)
+      | inr full ↦ let is = refused sheets before byte so full in is ∙ rw is at some
+    ]
+    open_refused sheets before (b ∷ bytes) byte f so some = elim (cases_lt (length (stored before)) STORE) [
+      | inl room ↦ let one = taken sheets before b room in open_refused sheets (Data b ∷ before) bytes byte f so (rw one at some)
+      | inr full ↦
+          let is = refused sheets before b so full in
+          let still : STORE ≤ length (stored (followed_by (Data b ∷ before) (data_items bytes))) =
+          omega (arith, ap length (all-stored (Data b ∷ before) bytes so), length-append (stored (Data b ∷ before)) bytes, ap length (one-stored before b so), length-append (stored before) (b ∷ [])) in
+          refused sheets (followed_by (Data b ∷ before) (data_items bytes)) byte (open-kept (Data b ∷ before) bytes ∙ so) still ∙ rw is at some
+    ]
 
 pub on_ok : {T E P : Type 0} (r : Result T E) → IsOk r → OnOk r P → P
 on_ok (Ok x) i p = p

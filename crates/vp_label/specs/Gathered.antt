@@ -1,5 +1,5 @@
 -- What is gathered of the format that is open.
-use Rattle.std.specs.Prelude.{◌≡◌, ◌≤◌, ℕ, Bool, true, List, length}
+use Rattle.std.specs.Prelude.{◌≡◌, ◌≤◌, ◌-◌, ℕ, true, List, length}
 use Rattle.std.specs.List.{All}
 use Rattle.vp_glyph.specs.declared.Sheets.{Sheets}
 use Rattle.vp_zpl.specs.Items.{Item}
@@ -7,11 +7,13 @@ use Rattle.vp_format.specs.declared.field.Field.{Field}
 use Rattle.vp_format.specs.Formats.{Held}
 use Rattle.vp_format.specs.declared.format.TheConstants.{STORED}
 use Rattle.vp_field.specs.Fields.{IsKept}
+use Rattle.vp_label_settings.specs.declared.in_force.TheConstants.{STORE}
 use Rattle.vp_label_settings.specs.Formats.{is_open, stored}
+use Rattle.vp_label_settings.specs.Settings.{settings_of}
 use Rattle.vp_label_settings.specs.Standing.{StandsAfter}
 use Rattle.vp_label.specs.declared.gathered.Gathered.{Gathered}
 use Rattle.vp_copies.specs.Copies.{copies_text}
-use Rattle.vp_label.specs.Entries.{entries}
+use Rattle.vp_label.specs.Entries.{entries, printed_entries}
 use Rattle.vp_label.specs.Prints.{label_image, view_of}
 
 -- fields that can be painted from stored bytes
@@ -30,9 +32,20 @@ pub record Gathers (sheets : Sheets) (g : Gathered) (before : List Item) : Type 
   pub in_force : StandsAfter g.in_force before
   pub held : is_open before ≡ true → Holds sheets before g.format
 
+-- it is what ^XZ printed, after these items
+pub record IsPrinted (sheets : Sheets) (g : Gathered) (before : List Item) : Type 0 where
+  pub view : view_of g.in_force.settings ≡ view_of (settings_of before)
+  pub stored : g.format.stored ≡ stored before
+  pub fields : g.format.fields ≡ printed_entries sheets before
+
 -- it is gathered after some items
 abbrev pub IsGathered : Sheets → Gathered → Type 0
 IsGathered sheets g = (before : List Item) × Gathers sheets g before
+
+-- so many bytes of data there is room for: what is left of the store, in which there are none outside a
+-- format
+abbrev pub data_room : Gathered → ℕ
+data_room g = STORE - g.in_force.stored
 
 -- so many copies of an image with the fields of the format that has ended
 abbrev pub to_print : Sheets → Gathered → ℕ → List ℕ

@@ -2,6 +2,8 @@
 pub mod Entries
 pub mod Refusals
 pub mod Prints
+pub mod Images
+pub mod Held
 -- What the code keeps.
 pub mod Effects
 pub mod Gathered

@@ -2,6 +2,7 @@
 use Rattle.std.specs.Prelude.{◌≡◌, ◌+◌, ◌/◌, ◌<◌, ◌≤◌, ◌⊎◌, ℕ, List, map}
 use Rattle.vp_dots.specs.Images.{Image}
 use Rattle.vp_glyph.specs.declared.Sheets.{Sheets}
+use Rattle.vp_label_settings.specs.declared.settings.TheConstants.{WIDEST, LONGEST}
 use Rattle.vp_field.specs.declared.view.View.{View}
 use Rattle.vp_field.specs.Fields.{stroke_of}
 use Rattle.vp_field.specs.Strokes.{image_dot}
@@ -21,8 +22,8 @@ abbrev pub bands_above : Line → ℕ
 bands_above Head = 0
 bands_above (Row y) = y / 32 + 1
 
--- which band is the next one to be painted: where a copy begins it is the first one, or all bands of the copy before are
--- painted
+-- which band is the next one to be painted: where a copy begins it is the first one, or all bands of the copy
+-- before are painted
 abbrev pub IsNextBand : Ahead → Line → ℕ → (ℕ → Type 0) → Type 0
 IsNextBand Copy line bands next = next 0 ⊎ next bands
 IsNextBand (Band b) line bands next = next b
@@ -46,11 +47,12 @@ left sheets stored view p = pending (shown sheets stored view p) p.copies.place
 pub record IsPress (sheets : Sheets) (stored : List ℕ) (view : View) (p : Press) : Type 0 where
   pub width : p.copies.width ≡ view.width
   pub height : p.copies.height ≡ view.height
-  pub narrow : view.width ≤ 1248
-  pub low : view.height ≤ 8000
+  pub narrow : view.width ≤ WIDEST
+  pub low : view.height ≤ LONGEST
   pub high : 0 < view.height
   pub place : IsPlaceOf p.copies.width p.copies.height p.copies.place
   pub next : 0 < p.copies.place.copies →
-      IsNextBand (ahead p.copies.place) p.copies.place.line (bands_of view) (λ b. IsBefore sheets stored view b p.painter)
+      IsNextBand (ahead p.copies.place) p.copies.place.line (bands_of view)
+      (λ b. IsBefore sheets stored view b p.painter)
   pub over : p.copies.place.copies ≡ 0 → IsBefore sheets stored view (bands_of view) p.painter
   pub ready : IsReady (shown sheets stored view p) p.copies.place p.band

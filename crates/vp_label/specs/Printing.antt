@@ -1,5 +1,5 @@
 -- What a label printer keeps.
-use Rattle.std.specs.Prelude.{◌≡◌, ◌<◌, ℕ, List}
+use Rattle.std.specs.Prelude.{◌≡◌, ◌<◌}
 use Rattle.vp_label.specs.declared.label.Label.TheInside.{Inside}
 use Rattle.vp_bands.specs.Standing.{fields_of}
 use Rattle.vp_label.specs.Gathered.{IsGathered}

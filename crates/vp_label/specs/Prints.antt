@@ -54,13 +54,19 @@ prints_by sheets before _ = []
 
 -- what an item prints
 abbrev pub prints : Sheets → List Item → Item → List ℕ
-prints sheets before (Given command name sent) = if is_open before then prints_by sheets before command else []
+prints sheets before (Given command name sent) =
+    if is_open before then prints_by sheets before command else []
 prints sheets before (Data byte) = []
 
 -- what these print, one after the other
 abbrev pub all_print : Sheets → List Item → List Item → List ℕ
 all_print sheets before [] = []
 all_print sheets before (item ∷ more) = prints sheets before item ++ all_print sheets (item ∷ before) more
+
+-- what all items have printed, of which the newest comes first
+abbrev pub printed : Sheets → List Item → List ℕ
+printed sheets [] = []
+printed sheets (item ∷ before) = printed sheets before ++ prints sheets before item
 
 -- at rest: no format is open
 abbrev pub is_at_rest : List Item → Bool

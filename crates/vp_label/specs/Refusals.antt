@@ -23,8 +23,10 @@ closing_refusal (Some (Ok field)) held = if nat_lt held FIELDS then None else So
 
 -- ^FS and ^XZ close a field, and ^GF has a head
 abbrev pub command_refusal : Sheets → List Item → Command → Option Fault
-command_refusal sheets before FieldSeparator = closing_refusal (closed sheets before) (length (entries sheets before))
-command_refusal sheets before FormatEnd = closing_refusal (closed sheets before) (length (entries sheets before))
+command_refusal sheets before FieldSeparator =
+    closing_refusal (closed sheets before) (length (entries sheets before))
+command_refusal sheets before FormatEnd =
+    closing_refusal (closed sheets before) (length (entries sheets before))
 command_refusal sheets before command = head_refusal (is_open before) command
 
 -- why an item is refused: commands act in an open format alone, and its data are stored

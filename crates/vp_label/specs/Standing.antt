@@ -1,14 +1,15 @@
 -- What a label printer stands after.
-use Rattle.std.specs.Prelude.{◌≡◌, ℕ, List}
+use Rattle.std.specs.Prelude.{◌≡◌, ◌<◌, ℕ, List, [], ◌∷◌, drop, length}
 use Rattle.vp_glyph.specs.declared.Sheets.{Sheets}
 use Rattle.vp_zpl.specs.Items.{Item}
 use Rattle.vp_label.specs.declared.gathered.Gathered.{Gathered}
 use Rattle.vp_label.specs.declared.press.Press.{Press}
 use Rattle.vp_bands.specs.Meeting.{bands_of, pairs}
-use Rattle.vp_label.specs.Gathered.{Gathers}
-use Rattle.vp_label.specs.Prints.{view_of}
+use Rattle.vp_label.specs.Gathered.{Gathers, IsPrinted}
+use Rattle.vp_label.specs.Prints.{prints, view_of}
 
--- a label printer: its sheets, what is gathered of a format, what is put out of one that has ended, and what is left of it
+-- a label printer: its sheets, what is gathered of a format, what is put out of one that has ended, and what
+-- is left of it
 pub record Printing : Type 0 where
   pub sheets : Sheets
   pub gathered : Gathered
@@ -25,7 +26,23 @@ met p =
     let view = view_of p.gathered.in_force.settings in
     pairs p.sheets p.gathered.format.stored view p.gathered.format.fields (bands_of view)
 
+-- bytes are the end of a text
+abbrev pub IsEndOf : List ℕ → List ℕ → Type 0
+IsEndOf bytes text = (n : ℕ) × (bytes ≡ drop n text)
+
+-- these bytes of what an item printed are pending, and what it is printed of is still held
+pub record IsPrintingOf (sheets : Sheets) (g : Gathered) (pending : List ℕ)
+    (item : Item) (before : List Item) : Type 0 where
+  pub printed : IsPrinted sheets g before
+  pub rest : IsEndOf pending (prints sheets before item)
+
+-- it is the newest item
+abbrev pub IsPrinting : Sheets → Gathered → List ℕ → List Item → Type 0
+IsPrinting sheets g pending [] = ⊥
+IsPrinting sheets g pending (item ∷ before) = IsPrintingOf sheets g pending item before
+
 -- it stands after these items
 pub record Stands (sheets : Sheets) (p : Printing) (before : List Item) : Type 0 where
   pub sheets_are : p.sheets ≡ sheets
   pub gathered : Gathers sheets p.gathered before
+  pub printing : 0 < length p.pending → IsPrinting sheets p.gathered p.pending before

@@ -1,4 +1,5 @@
-//! What is gathered of the format that is open: all that is in force, its closed fields, and the bytes stored for them.
+//! What is gathered of the format that is open: all that is in force, its closed fields, and the bytes stored
+//! for them.
 ghost use Rattle.std.specs.Prelude.{◌≡◌, ◌∷◌, [], List, ℕ, IfOk, OnOk, OnErr, MatchResult, None, Some, length, true, ◌==◌, ◌<◌, ◌≤◌, if◌then◌else◌};
 ghost use Rattle.vp_glyph.specs.declared.Sheets.{Sheets};
 ghost use Rattle.vp_zpl.specs.Spelling.{Kept};
@@ -8,7 +9,8 @@ ghost use Rattle.vp_zpl.specs.Items.{Item, data_items};
 ghost use Rattle.vp_label_settings.specs.Formats.{followed_by, is_open, stored};
 ghost use Rattle.vp_label.specs.Entries.{closed, entries, with_kept, printed_entries};
 ghost use Rattle.vp_label.specs.Refusals.{closing_refusal, first_refusal, refusal};
-ghost use Rattle.vp_label.specs.Gathered.{AreKept, Gathers, IsGathered, to_print};
+ghost use Rattle.vp_label_settings.specs.Standing.{has_room};
+ghost use Rattle.vp_label.specs.Gathered.{AreKept, Gathers, IsGathered, IsPrinted, data_room, to_print};
 ghost use Rattle.vp_label.specs.Effects.{effect_of};
 ghost use Rattle.vp_label.specs.Prints.{prints};
 
@@ -18,8 +20,8 @@ use vp_dots::Fault;
 use vp_field::stored_behind;
 use vp_format::Format;
 use vp_glyph::Sheets;
-use vp_label_settings::InForce;
 use vp_label_settings::laws::{among_the_stored, between_formats, in_range};
+use vp_label_settings::{InForce, STORE};
 use vp_zpl::Command;
 
 /// What is gathered of the format that is open.
@@ -77,40 +79,60 @@ impl Gathered {
         })
     }
 
-    /// Takes data: in a format they are stored, all of them or, where there is no room, none (`StoreFull`).
-    pub fn store(&mut self, bytes: &[u8], sheets: &Sheets) -> Result<(), Fault>
-        requires { IsGathered sheets.now self.old }
-        ensures refusal { (before : List Item) → Gathers sheets.now self.old before →
-            MatchResult result (λ _. first_refusal sheets.now before (data_items bytes.now) ≡ None)
-            (λ f. first_refusal sheets.now before (data_items bytes.now) ≡ Some f) }
-        ensures stands { OnOk result ((before : List Item) → Gathers sheets.now self.old before →
-            Gathers sheets.now self.new (followed_by before (data_items bytes.now))) }
-        ensures some { OnOk result (IsGathered sheets.now self.new) }
+    /// How many bytes of data there is room for: outside a format, where they aren't stored, as many too.
+    pub fn data_room(&self) -> usize
+        ensures { result ≡ data_room self.now }
+    {
+        STORE.saturating_sub(self.in_force.stored) as usize
+    }
+
+    /// Takes data that there is room for: in a format they are stored.
+    pub fn take(&mut self, bytes: &[u8])
+        requires { has_room self.old.in_force bytes.now ≡ true }
+        ensures refusal { (sheets : Sheets) (before : List Item) → Gathers sheets self.old before →
+            first_refusal sheets before (data_items bytes.now) ≡ None }
+        ensures stands { (sheets : Sheets) (before : List Item) → Gathers sheets self.old before →
+            Gathers sheets self.new (followed_by before (data_items bytes.now)) }
+        ensures some { (sheets : Sheets) → IsGathered sheets self.old → IsGathered sheets self.new }
+    {
+        if self.in_force.is_open {
+            stored_behind();
+            let _fits = self.format.keep(bytes);
+        }
+        self.in_force.store(bytes);
+    }
+
+    /// Takes data, all of them or, where there is no room, none (`StoreFull`).
+    pub fn store(&mut self, bytes: &[u8]) -> Result<(), Fault>
+        ensures refusal { (sheets : Sheets) (before : List Item) → Gathers sheets self.old before →
+            MatchResult result (λ _. first_refusal sheets before (data_items bytes.now) ≡ None)
+            (λ f. first_refusal sheets before (data_items bytes.now) ≡ Some f) }
+        ensures stands { OnOk result ((sheets : Sheets) (before : List Item) →
+            Gathers sheets self.old before →
+            Gathers sheets self.new (followed_by before (data_items bytes.now))) }
+        ensures some { OnOk result ((sheets : Sheets) →
+            IsGathered sheets self.old → IsGathered sheets self.new) }
         ensures err { OnErr result (self.new ≡ self.old) }
     {
         if !self.in_force.has_room(bytes) {
             return Err(Fault::StoreFull);
         }
-        if !self.in_force.is_open {
-            self.in_force.store(bytes);
-            return Ok(());
-        }
-        stored_behind();
-        let _fits = self.format.keep(bytes);
-        self.in_force.store(bytes);
+        self.take(bytes);
         Ok(())
     }
 
-    /// Closes the open field, if there is one. Refused is what it shows, and then one more field than there is room
-    /// for (`FieldsFull`).
+    /// Closes the open field, if there is one. Refused is what it shows, and then one more field than there
+    /// is room for (`FieldsFull`).
     fn close(&mut self, sheets: &Sheets) -> Result<(), Fault>
         requires some { IsGathered sheets.now self.old }
         requires opened { self.old.in_force.is_open ≡ true }
         ensures refusal { (before : List Item) → Gathers sheets.now self.old before → is_open before ≡ true →
-            MatchResult result (λ _. closing_refusal (closed sheets.now before) (length (entries sheets.now before)) ≡ None)
+            MatchResult result
+            (λ _. closing_refusal (closed sheets.now before) (length (entries sheets.now before)) ≡ None)
             (λ f. closing_refusal (closed sheets.now before) (length (entries sheets.now before)) ≡ Some f) }
         ensures in_force { self.new.in_force ≡ self.old.in_force }
-        ensures fields { OnOk result ((before : List Item) → Gathers sheets.now self.old before → is_open before ≡ true →
+        ensures fields { OnOk result ((before : List Item) → Gathers sheets.now self.old before →
+            is_open before ≡ true →
             self.new.format.fields ≡ printed_entries sheets.now before) }
         ensures stored { self.new.format.stored ≡ self.old.format.stored }
         ensures kept { OnOk result (AreKept self.new.format.stored self.new.format.fields) }
@@ -130,7 +152,8 @@ impl Gathered {
 
     /// The copies that are printed of the format: none where it has no field.
     fn copies(&self) -> u32
-        ensures { result ≡ (if length self.now.format.fields == 0 then 0 else self.now.in_force.settings.quantity) }
+        ensures { result ≡
+            (if length self.now.format.fields == 0 then 0 else self.now.in_force.settings.quantity) }
     {
         if self.format.len() == 0 {
             return 0;
@@ -141,14 +164,18 @@ impl Gathered {
     /// Takes a command, and answers how many copies of the format it prints. A refused one changes nothing.
     pub fn obey(&mut self, command: Command, sheets: &Sheets) -> Result<u32, Fault>
         requires { IsGathered sheets.now self.old }
-        ensures refusal { (before : List Item) (name : Name) (sent : List Kept) → Gathers sheets.now self.old before →
+        ensures refusal { (before : List Item) (name : Name) (sent : List Kept) →
+            Gathers sheets.now self.old before →
             MatchResult result (λ _. refusal sheets.now before (Given command name sent) ≡ None)
             (λ f. refusal sheets.now before (Given command name sent) ≡ Some f) }
         ensures stands { OnOk result ((before : List Item) (name : Name) (sent : List Kept) →
-            Gathers sheets.now self.old before → Gathers sheets.now self.new (Given command name sent ∷ before)) }
+            Gathers sheets.now self.old before →
+            Gathers sheets.now self.new (Given command name sent ∷ before)) }
         ensures prints { IfOk result (λ copies. (before : List Item) (name : Name) (sent : List Kept) →
             Gathers sheets.now self.old before →
             to_print sheets.now self.new copies ≡ prints sheets.now before (Given command name sent)) }
+        ensures printed { IfOk result (λ copies. (before : List Item) → Gathers sheets.now self.old before →
+            0 < copies → IsPrinted sheets.now self.new before) }
         ensures kept { IfOk result (λ copies. 0 < copies →
             AreKept self.new.format.stored self.new.format.fields) }
         ensures some { OnOk result (IsGathered sheets.now self.new) }

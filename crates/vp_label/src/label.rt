@@ -1,5 +1,5 @@
 //! The printer: what it stands after, and what is still to be put out.
-ghost use Rattle.std.specs.Prelude.{◌≡◌, ◌<◌, ◌≤◌, ◌+◌, ◌*◌, ◌++◌, ◌↔◌, ◌∷◌, [], List, ℕ, true, IsTrue, IfOk, OnOk, OnErr, MatchResult, None, Some, length, min, take, drop};
+ghost use Rattle.std.specs.Prelude.{◌≡◌, ◌<◌, ◌≤◌, ◌+◌, ◌*◌, ◌++◌, ◌↔◌, ◌⊎◌, ◌∷◌, [], List, ℕ, true, IsTrue, IfOk, OnOk, OnErr, MatchResult, None, Some, length, min, take, drop};
 ghost use Rattle.vp_glyph.specs.declared.Sheets.{Sheets as Given_sheets};
 ghost use Rattle.vp_zpl.specs.Items.{Item, data_items};
 ghost use Rattle.vp_zpl.specs.Items.Item.{Given};
@@ -7,7 +7,10 @@ ghost use Rattle.vp_zpl.specs.Shown.{shown_item};
 ghost use Rattle.vp_zpl.specs.Spelling.{Kept};
 ghost use Rattle.vp_zpl.specs.declared.name.Name.{Name};
 ghost use Rattle.vp_label_settings.specs.Formats.{followed_by};
-ghost use Rattle.vp_label.specs.Gathered.{Gathers};
+ghost use Rattle.vp_label.specs.Held.{band_rows_after, fields_after, stored_after};
+ghost use Rattle.vp_copies.specs.declared.place.TheConstants.{BAND_ROWS};
+ghost use Rattle.vp_format.specs.declared.format.TheConstants.{FIELDS, STORED};
+ghost use Rattle.vp_label.specs.Gathered.{Gathers, IsPrinted, data_room};
 ghost use Rattle.vp_label.specs.Prints.{all_print, is_at_rest, prints, view_of as seen};
 ghost use Rattle.vp_label.specs.Refusals.{first_refusal, refusal};
 ghost use Rattle.vp_label.specs.Standing.{bands, met, Stands};
@@ -18,12 +21,12 @@ use crate::press::Press;
 use std::alloc::{AllocError, Global};
 use std::marker::Model;
 use vp_bands::looks_bounded;
-use vp_copies::pending_law;
+use vp_copies::{pending_law, place_law};
 use vp_dots::Fault;
 use vp_field::View;
 use vp_glyph::Sheets;
 use vp_label_settings::Settings;
-use vp_label_settings::laws::in_range;
+use vp_label_settings::laws::{between_formats, in_range};
 use vp_zpl::{Command, ZplItem};
 
 /// A label printer. What an item prints is pending until it is put out.
@@ -77,10 +80,13 @@ impl Label {
         ensures refusal { (sheets : Given_sheets) (before : List Item) → Stands sheets self.old before →
             MatchResult result (λ _. first_refusal sheets before (shown_item item.entry) ≡ None)
             (λ f. first_refusal sheets before (shown_item item.entry) ≡ Some f) }
-        ensures stands { OnOk result ((sheets : Given_sheets) (before : List Item) → Stands sheets self.old before →
+        ensures stands { OnOk result ((sheets : Given_sheets) (before : List Item) →
+            Stands sheets self.old before →
             Stands sheets self.new (followed_by before (shown_item item.entry))) }
-        ensures pending { OnOk result ((sheets : Given_sheets) (before : List Item) → Stands sheets self.old before →
+        ensures pending { OnOk result ((sheets : Given_sheets) (before : List Item) →
+            Stands sheets self.old before →
             self.new.pending ≡ all_print sheets before (shown_item item.entry)) }
+        ensures looks { OnOk result (0 < length self.new.pending → self.new.press.painter.looks ≡ 0) }
         ensures err { OnErr result (self.new ≡ self.old) }
     {
         match item {
@@ -89,20 +95,43 @@ impl Label {
         }
     }
 
+    /// How many bytes of data, at least, are taken as things stand.
+    pub fn data_room(&self) -> usize
+        ensures value { result ≡ data_room self.now.gathered }
+        ensures room { (sheets : Given_sheets) (before : List Item) → Stands sheets self.now before →
+            (bytes : List ℕ) → length bytes ≤ result → first_refusal sheets before (data_items bytes) ≡ None }
+    {
+        self.gathered.data_room()
+    }
+
+    /// Takes data that there is room for.
+    pub fn apply_data(&mut self, bytes: &[u8])
+        requires pending { self.old.pending ≡ [] }
+        requires room { length bytes.now ≤ data_room self.old.gathered }
+        ensures stands { (sheets : Given_sheets) (before : List Item) → Stands sheets self.old before →
+            Stands sheets self.new (followed_by before (data_items bytes.now)) }
+        ensures pending { self.new.pending ≡ [] }
+    {
+        pending_law();
+        self.gathered.take(bytes);
+    }
+
     /// Takes data.
     fn store(&mut self, bytes: &[u8]) -> Result<(), Fault>
         requires { self.old.pending ≡ [] }
-        ensures refusal { (before : List Item) → Gathers self.old.sheets self.old.gathered before →
-            MatchResult result (λ _. first_refusal self.old.sheets before (data_items bytes.now) ≡ None)
-            (λ f. first_refusal self.old.sheets before (data_items bytes.now) ≡ Some f) }
-        ensures stands { OnOk result ((before : List Item) → Gathers self.old.sheets self.old.gathered before →
-            Gathers self.new.sheets self.new.gathered (followed_by before (data_items bytes.now))) }
+        ensures refusal { (sheets : Given_sheets) (before : List Item) →
+            Gathers sheets self.old.gathered before →
+            MatchResult result (λ _. first_refusal sheets before (data_items bytes.now) ≡ None)
+            (λ f. first_refusal sheets before (data_items bytes.now) ≡ Some f) }
+        ensures stands { OnOk result ((sheets : Given_sheets) (before : List Item) →
+            Gathers sheets self.old.gathered before →
+            Gathers sheets self.new.gathered (followed_by before (data_items bytes.now))) }
         ensures sheets { self.new.sheets ≡ self.old.sheets }
         ensures pending { OnOk result (self.new.pending ≡ []) }
         ensures err { OnErr result (self.new ≡ self.old) }
     {
         pending_law();
-        self.gathered.store(bytes, &self.sheets)
+        self.gathered.store(bytes)
     }
 
     /// Takes a command.
@@ -119,6 +148,10 @@ impl Label {
         ensures pending { OnOk result ((before : List Item) (name : Name) (sent : List Kept) →
             Gathers self.old.sheets self.old.gathered before →
             self.new.pending ≡ prints self.old.sheets before (Given command name sent)) }
+        ensures printed { OnOk result ((before : List Item) →
+            Gathers self.old.sheets self.old.gathered before →
+            0 < length self.new.pending → IsPrinted self.old.sheets self.new.gathered before) }
+        ensures looks { OnOk result (0 < length self.new.pending → self.new.press.painter.looks ≡ 0) }
         ensures err { OnErr result (self.new ≡ self.old) }
     {
         pending_law();
@@ -170,6 +203,53 @@ impl Label {
             IsTrue result ↔ (is_at_rest before ≡ true) }
     {
         !self.gathered.in_force.is_open
+    }
+
+    /// Whether a format is held: one is open, or bytes of one are still to be put out.
+    fn holds_format(&self) -> bool
+        ensures { IsTrue result ↔
+            ((self.now.gathered.in_force.is_open ≡ true) ⊎ (0 < length self.now.pending)) }
+    {
+        self.gathered.in_force.is_open || self.press.copies.is_pending()
+    }
+
+    /// The rows of the band of which the next byte is put out: none where that is in a header, or nothing is
+    /// pending.
+    pub fn band_rows(&self) -> u16
+        ensures value { (sheets : Given_sheets) (before : List Item) → Stands sheets self.now before →
+            result ≡ band_rows_after sheets before self.now.pending }
+        ensures most { result ≤ BAND_ROWS }
+    {
+        if !self.press.copies.is_pending() {
+            return 0;
+        }
+        place_law();
+        self.press.copies.band_rows() as u16
+    }
+
+    /// The stored bytes of the format that is open, or of which bytes are still to be put out.
+    pub fn stored(&self) -> u32
+        ensures value { (sheets : Given_sheets) (before : List Item) → Stands sheets self.now before →
+            result ≡ stored_after before self.now.pending }
+        ensures most { result ≤ STORED }
+    {
+        if !self.holds_format() {
+            between_formats();
+            return 0;
+        }
+        self.gathered.format.stored().len() as u32
+    }
+
+    /// Its fields.
+    pub fn fields(&self) -> u16
+        ensures value { (sheets : Given_sheets) (before : List Item) → Stands sheets self.now before →
+            result ≡ fields_after sheets before self.now.pending }
+        ensures most { result ≤ FIELDS }
+    {
+        if !self.holds_format() {
+            return 0;
+        }
+        self.gathered.format.len() as u16
     }
 
     /// How often an entry of the table of fields or a link was read for the copy that is put out.

@@ -2,6 +2,7 @@
 ghost use Rattle.std.specs.Prelude.{◌≡◌, ◌≤◌, ◌<◌, ◌++◌, IfOk, length, min, take, drop};
 ghost use Rattle.vp_copies.specs.Copies.{copies_text};
 ghost use Rattle.vp_copies.specs.Progress.{IsPainted};
+ghost use Rattle.vp_label_settings.specs.declared.settings.TheConstants.{WIDEST, LONGEST};
 ghost use Rattle.vp_label.specs.Gathered.{AreKept};
 ghost use Rattle.vp_label.specs.Prints.{label_image};
 ghost use Rattle.vp_bands.specs.Meeting.{bands_of};
@@ -41,9 +42,9 @@ impl Press {
         requires some { 0 < copies }
         requires kept { AreKept format.now.stored format.now.fields }
         requires wide { 0 < view.width }
-        requires narrow { view.width ≤ 1248 }
+        requires narrow { view.width ≤ WIDEST }
         requires high { 0 < view.height }
-        requires low { view.height ≤ 8000 }
+        requires low { view.height ≤ LONGEST }
         ensures press { IsPress sheets.now format.now.stored view self.new }
         ensures fields { fields_of self.new.painter.entries ≡ format.now.fields }
         ensures looks { self.new.painter.looks ≡ 0 }
@@ -54,7 +55,8 @@ impl Press {
         self.copies = Copies::new(view.width as u16, view.height as u16, copies);
     }
 
-    /// Readies what the next byte wants: a copy begins with no band painted, and a band is painted before its first byte.
+    /// Readies what the next byte wants: a copy begins with no band painted, and a band is painted before its
+    /// first byte.
     fn prepare(&mut self, sheets: &Sheets, stored: &[u8], view: View)
         requires press { IsPress sheets.now stored.now view self.old }
         requires some { 0 < self.old.copies.place.copies }
@@ -80,9 +82,12 @@ impl Press {
         ensures some { 0 < result }
         ensures fits { result ≤ length out.old }
         ensures within { result ≤ length (left sheets.now stored.now view self.old) }
-        ensures bytes { out.new ≡ take result (left sheets.now stored.now view self.old) ++ drop result out.old }
-        ensures rest { left sheets.now stored.now view self.new ≡ drop result (left sheets.now stored.now view self.old) }
-        ensures ended { IsBetween self.new.copies.place → IsBefore sheets.now stored.now view (bands_of view) self.new.painter }
+        ensures bytes { out.new ≡ take result (left sheets.now stored.now view self.old)
+            ++ drop result out.old }
+        ensures rest { left sheets.now stored.now view self.new
+            ≡ drop result (left sheets.now stored.now view self.old) }
+        ensures ended { IsBetween self.new.copies.place →
+            IsBefore sheets.now stored.now view (bands_of view) self.new.painter }
     {
         self.prepare(sheets, stored, view);
         self.copies.put_line(&self.band, out)
@@ -94,8 +99,10 @@ impl Press {
         ensures press { IsPress sheets.now stored.now view self.new }
         ensures fields { self.new.painter.entries ≡ self.old.painter.entries }
         ensures count { result ≡ min (length (left sheets.now stored.now view self.old)) (length out.old) }
-        ensures bytes { out.new ≡ take result (left sheets.now stored.now view self.old) ++ drop result out.old }
-        ensures rest { left sheets.now stored.now view self.new ≡ drop result (left sheets.now stored.now view self.old) }
+        ensures bytes { out.new ≡ take result (left sheets.now stored.now view self.old)
+            ++ drop result out.old }
+        ensures rest { left sheets.now stored.now view self.new
+            ≡ drop result (left sheets.now stored.now view self.old) }
         ensures ended { 0 < result → IsBetween self.new.copies.place →
             IsBefore sheets.now stored.now view (bands_of view) self.new.painter }
     {

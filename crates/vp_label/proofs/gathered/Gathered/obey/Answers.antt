@@ -1,8 +1,6 @@
-use Rattle.std.proofs.Common.{◌≡◌, ◌∙◌, ℕ, arith, sym, ap, subst, refl, length, true, false, [], ◌∷◌}
-use Rattle.std.specs.Prelude.{◌==◌, if◌then◌else◌}
+use Rattle.std.proofs.Common.{◌≡◌, ◌∙◌, arith, sym, ap, subst, refl, length, [], ◌∷◌}
 use Rattle.vp_zpl.specs.declared.name.Name.{Name}
 use Rattle.vp_zpl.specs.Items.Item.{Given}
-use Rattle.vp_format.specs.declared.field.Field.{Field}
 use Rattle.vp_format.specs.Formats.{Held}
 use Rattle.vp_label_settings.specs.declared.settings.Settings.{Settings}
 use Rattle.vp_label_settings.specs.declared.in_force.InForce.{InForce}
@@ -13,7 +11,7 @@ use Rattle.vp_label.specs.Entries.{printed_entries}
 use Rattle.vp_copies.specs.Copies.{copies_text}
 use Rattle.vp_label.specs.Gathered.{AreKept}
 use Rattle.vp_label.specs.Effects.{effect_of}
-use Rattle.vp_label.specs.Prints.{label_image, view_of, image}
+use Rattle.vp_label.specs.Prints.{label_image, view_of}
 use Rattle.vp_label.specs.declared.gathered.Effect.TheVariants.{Sets, Begins, Closes, Prints}
 use Rattle.vp_label.proofs.Effects.{holds_still, begins_shut, closes, ends, idle, printed_copies, same_text}
 use Rattle.vp_label.proofs.gathered.Gathered.obey.Goals as goal
@@ -98,3 +96,16 @@ returns-in_ok-close-in-Closes-clause-some c = (Given c.args.command no_name [] �
 
 pub returns-in_ok-close-in-Prints-clause-some : goal.returns-in_ok-close-in-Prints-clause-some
 returns-in_ok-close-in-Prints-clause-some c = (Given c.args.command no_name [] ∷ c.requires.0, returns-in_ok-close-in-Prints-clause-stands c c.requires.0 no_name [] c.requires.1)
+
+pub returns-in_ok-close-in-Prints-clause-printed : goal.returns-in_ok-close-in-Prints-clause-printed
+returns-in_ok-close-in-Prints-clause-printed c = λ before g some.
+    let e : effect_of (is_open before) c.args.command ≡ Prints = ap (λ o. effect_of o c.args.command) (sym g.in_force.is_open) ∙ sym c.of.ensures ∙ c.in-Prints.is in
+    let so = (ends (is_open before) c.args.command e).0 in
+    let end = (ends (is_open before) c.args.command e).1 in
+    let held = g.held so in
+    let after = c.obey-in-Prints.ensures before no_name [] (subst (λ (s : InForce). StandsAfter s before) (sym c.close-in-Prints.ensures.in_force) g.in_force) in
+    record {
+      view = ap view_of after.settings ∙ rw (so, end) refl;
+      stored = c.close-in-Prints.ensures.stored ∙ held.stored;
+      fields = c.in_ok-close-in-Prints.ensures.fields before g so;
+    }

@@ -1,4 +1,8 @@
-use Rattle.std.proofs.Common.{arith, []}
+use Rattle.std.proofs.Common.{arith, refl, []}
+use Rattle.vp_label.specs.Press.{shown}
+use Rattle.vp_label.specs.Prints.{view_of}
+use Rattle.vp_label.proofs.Idle.{nothing_left}
+use Rattle.vp_label.proofs.Pending.{none_printing}
 use Rattle.vp_label.proofs.label.Label.new.Goals as goal
 
 pub invariant_of-result : goal.invariant_of-result
@@ -7,3 +11,13 @@ invariant_of-result c = record {
   press = λ some. absurd (omega (arith, c.in_ok-new-2.ensures));
   fields = λ some. absurd (omega (arith, c.in_ok-new-2.ensures));
 }
+
+pub returns-clause-stands : goal.returns-clause-stands
+returns-clause-stands c =
+    let g = c.in_ok-new.field-0 in
+    let p = c.in_ok-new-2.field-0 in
+    record {
+      sheets_are = refl;
+      gathered = c.in_ok-new.ensures c.args.sheets;
+      printing = λ some. none_printing c.args.sheets c.in_ok-new.field-0 [] _ (nothing_left (shown c.args.sheets g.format.stored (view_of g.in_force.settings) p) p.copies.place c.in_ok-new-2.ensures) some;
+    }

@@ -1,11 +1,14 @@
 use Rattle.std.proofs.Common.{◌≡◌, ◌<◌, ◌++◌, rules, ℕ, List, subst, ap, sym, ◌∙◌, length, take, drop, min}
-use Rattle.std.proofs.Common.{◌≤◌, ◌*◌, arith, refl, inl, inr}
+use Rattle.std.proofs.Common.{◌≤◌, arith, refl, inl, inr}
 use Rattle.std.proofs.lemmas.Bool.{cases_lt}
 use Rattle.vp_bands.specs.Meeting.{bands_of, pairs}
 use Rattle.vp_bands.specs.Standing.{fields_of, IsBefore}
 use Rattle.vp_copies.specs.Progress.{IsLineOf}
 use Rattle.vp_label.proofs.Presses.{is_within, most}
-use Rattle.vp_label.specs.Standing.{bands, met, Printing}
+use Rattle.vp_label.specs.Standing.{bands, met, IsPrinting, Printing}
+use Rattle.vp_label.specs.declared.gathered.Gathered.{Gathered}
+use Rattle.vp_label.specs.Gathered.{Gathers}
+use Rattle.vp_label.proofs.Pending.{still_printing}
 use Rattle.vp_label.specs.Press.{left, IsPress}
 use Rattle.vp_field.specs.declared.view.View.{View}
 use Rattle.vp_label.proofs.label.Label.put.Goals as goal
@@ -73,3 +76,11 @@ returns-clause-at_least c = λ out between.
     ∙ ap (λ s. pairs j.sheets s view j.gathered.format.fields (bands_of view)) c.stored.ensures.bytes ∙ ap (λ (v : View). pairs j.sheets j.gathered.format.stored v j.gathered.format.fields (bands_of v)) c.view_of-view.ensures
     ∙ ap met c.self.view_is in
     omega (arith, bound, e)
+
+pub returns-clause-stands : goal.returns-clause-stands
+returns-clause-stands c = λ sheets before st. record {
+  sheets_are = ap (λ (p : Printing). p.sheets) c.self.view_is ∙ st.sheets_are;
+  gathered = subst (λ (g : Gathered). Gathers sheets g before) (sym (ap (λ (p : Printing). p.gathered) c.self.view_is)) st.gathered;
+  printing = still_printing sheets c.self.inside.gathered before c.args.self.now.pending _ c.put.result (returns-clause-rest c)
+      (subst (λ (g : Gathered). 0 < length c.args.self.now.pending → IsPrinting sheets g c.args.self.now.pending before) (sym (ap (λ (p : Printing). p.gathered) c.self.view_is)) st.printing);
+}

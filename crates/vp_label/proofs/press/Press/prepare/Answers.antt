@@ -1,4 +1,4 @@
-use Rattle.std.proofs.Common.{ap, sym, subst, ◌∙◌, ℕ}
+use Rattle.std.proofs.Common.{sym, subst, ◌∙◌, ℕ}
 use Rattle.vp_bands.specs.Standing.{IsBefore}
 use Rattle.vp_label.proofs.Presses.{band_is}
 use Rattle.vp_label.proofs.press.Press.prepare.Goals as goal

@@ -1,4 +1,4 @@
-use Rattle.std.proofs.Common.{ℕ, length, ◌-◌, ◌<◌, ◌≡◌, ◌≤◌, ◌++◌, take, drop}
+use Rattle.std.proofs.Common.{length, ◌-◌, ◌<◌, ◌≡◌, ◌≤◌, ◌++◌, take, drop}
 use Rattle.vp_bands.specs.Meeting.{bands_of}
 use Rattle.vp_bands.specs.Standing.{IsBefore}
 use Rattle.vp_label.specs.Press.{left, IsBetween, IsPress}

@@ -1,0 +1,96 @@
+-- What is held, by the bytes that are pending.
+use Rattle.std.proofs.Common.{◌≡◌, ◌<◌, ◌≤◌, ◌+◌, ◌-◌, ◌*◌, ◌/◌, ◌%◌, ◌∙◌, ℕ, true, false, List, [], ◌∷◌, length, ap, subst, sym, refl, arith, length-drop, Bool}
+use Rattle.std.specs.Prelude.{map}
+use Rattle.std.proofs.lemmas.Bool.{lt-ltb, le-ltb}
+use Rattle.std.proofs.lemmas.Nat.{div-mul-add}
+use Rattle.vp_dots.specs.Headers.{header_of}
+use Rattle.vp_dots.specs.Images.{Image, row_bytes, pbm}
+use Rattle.vp_glyph.specs.declared.Sheets.{Sheets}
+use Rattle.vp_field.specs.declared.view.View.{View}
+use Rattle.vp_field.specs.Strokes.{image_dot}
+use Rattle.vp_field.specs.Fields.{stroke_of}
+use Rattle.vp_label.proofs.Effects.{idle}
+use Rattle.vp_format.specs.declared.field.Field.{Field}
+use Rattle.vp_zpl.specs.Spelling.{Kept}
+use Rattle.vp_zpl.specs.declared.name.Name.{Name}
+use Rattle.vp_zpl.specs.declared.item.Command.{Command}
+use Rattle.vp_zpl.specs.declared.item.Command.TheVariants.{FormatEnd}
+use Rattle.vp_zpl.specs.Items.{Item}
+use Rattle.vp_zpl.specs.Items.Item.{Given, Data}
+use Rattle.vp_label_settings.specs.Formats.{is_open}
+use Rattle.vp_label_settings.specs.Settings.{quantity}
+use Rattle.vp_copies.specs.declared.place.Line.{Line}
+use Rattle.vp_copies.specs.declared.place.Line.TheVariants.{Head, Row}
+use Rattle.vp_copies.specs.declared.place.Place.{Place}
+use Rattle.vp_copies.specs.Copies.{band_rows, bytes_above, copies_text, line_bytes, pending}
+use Rattle.vp_copies.specs.Progress.{IsPlaceOf}
+use Rattle.vp_label.specs.Entries.{printed_entries}
+use Rattle.vp_label.specs.Held.{band_rows_after, fields_after, rows_at}
+use Rattle.vp_label.specs.Prints.{image, label_image, prints, unless_empty}
+use Rattle.vp_label.specs.Standing.{IsEndOf, IsPrinting}
+use Rattle.vp_label.specs.declared.gathered.Gathered.{Gathered}
+use Rattle.vp_label.specs.Gathered.{IsPrinted}
+
+abbrev pub PlaceLaw : Type 0
+PlaceLaw = (i : Image) (p : Place) (copies : ℕ) → 0 < i.height → IsPlaceOf i.width i.height p → 0 < p.copies → length (pending i p) ≤ length (copies_text i copies) →
+    (length (copies_text i copies) - length (pending i p)) % length (pbm i) ≡ bytes_above i.width i.height p.line + p.byte
+
+-- the rows of the band of a place's line
+rows_of_line : (i : Image) (l : Line) (byte : ℕ) → byte < line_bytes i.width i.height l → rows_at i (bytes_above i.width i.height l + byte) ≡ band_rows i.height l
+rows_of_line i Head byte b = rw (lt-ltb (0 + byte) (length (header_of i.width i.height)) (omega arith)) refl
+rows_of_line i (Row y) byte b =
+    let head = length (header_of i.width i.height) in
+    let w = row_bytes i.width in
+    let here : (head + y * w + byte - head) / w ≡ y = (let n : head + y * w + byte - head ≡ y * w + byte = omega arith in ap (λ k. k / w) n) ∙ div-mul-add y w byte b in
+    rw (le-ltb (head + y * w + byte) head (omega arith)) (ap (λ k. band_rows i.height (Row k)) here)
+
+copies_or_none : (fields : List Field) (i : Image) (q : ℕ) → 0 < length (unless_empty fields (copies_text i q)) → unless_empty fields (copies_text i q) ≡ copies_text i q
+copies_or_none [] i q some = absurd (omega arith)
+copies_or_none (f ∷ fs) i q some = refl
+
+-- an item that prints something prints copies of the image
+printed_by : (opened : Bool) (sheets : Sheets) (before : List Item) (command : Command) (name : Name) (sent : List Kept) → is_open before ≡ opened → 0 < length (prints sheets before (Given command name sent)) →
+    prints sheets before (Given command name sent) ≡ copies_text (image sheets before) (quantity before)
+printed_by true sheets before FormatEnd name sent so some = rw so (copies_or_none (printed_entries sheets before) (image sheets before) (quantity before) (rw so at some))
+printed_by true sheets before _ name sent so some = absurd (let none = rw so at some in omega (arith, none))
+printed_by false sheets before _ name sent so some = absurd (let none = rw so at some in omega (arith, none))
+
+all_printed : (sheets : Sheets) (before : List Item) (item : Item) → 0 < length (prints sheets before item) → prints sheets before item ≡ copies_text (image sheets before) (quantity before)
+all_printed sheets before (Given command name sent) some = printed_by (is_open before) sheets before command name sent refl some
+all_printed sheets before (Data byte) some = absurd (omega arith)
+
+-- the rows that are held at a place of the image that the newest item prints
+rows_of_newest : PlaceLaw → (sheets : Sheets) (before : List Item) (item : Item) (left : List ℕ) (p : Place) → 0 < length left → IsEndOf left (prints sheets before item) →
+    left ≡ pending (image sheets before) p → 0 < (image sheets before).height → IsPlaceOf (image sheets before).width (image sheets before).height p → 0 < p.copies →
+    band_rows (image sheets before).height p.line ≡ band_rows_after sheets (item ∷ before) left
+rows_of_newest law sheets before item left p some end is high place copies =
+    let i = image sheets before in
+    let text = prints sheets before item in
+    let few : length left ≤ length text = omega (arith, ap length end.1, length-drop end.0 text) in
+    let all : text ≡ copies_text i (quantity before) = all_printed sheets before item (omega arith) in
+    let at : (length text - length left) % length (pbm i) ≡ bytes_above i.width i.height p.line + p.byte =
+    ap (λ (t : List ℕ). (length t - length left) % length (pbm i)) all ∙ ap (λ (t : List ℕ). (length (copies_text i (quantity before)) - length t) % length (pbm i)) is
+    ∙ law i p (quantity before) high place copies (omega (arith, ap length all, ap length is)) in
+    sym (rw (lt-ltb 0 (length left) some) (ap (rows_at i) at ∙ rows_of_line i p.line p.byte place.byte))
+
+pub held_rows : PlaceLaw → (sheets : Sheets) (g : Gathered) (before : List Item) (left : List ℕ) (i : Image) (p : Place) → 0 < length left → IsPrinting sheets g left before →
+    ((earlier : List Item) → IsPrinted sheets g earlier → i ≡ image sheets earlier) → left ≡ pending i p → 0 < i.height → IsPlaceOf i.width i.height p → 0 < p.copies →
+    band_rows i.height p.line ≡ band_rows_after sheets before left
+held_rows law sheets g [] left i p some printing same is high place copies = absurd printing
+held_rows law sheets g (item ∷ before) left i p some printing same is high place copies =
+    let P : Image → Type 0 = λ x. left ≡ pending x p → 0 < x.height → IsPlaceOf x.width x.height p → band_rows x.height p.line ≡ band_rows_after sheets (item ∷ before) left in
+    let newest : P (image sheets before) = λ rest tall at. rows_of_newest law sheets before item left p some printing.rest rest tall at copies in
+    subst P (sym (same before printing.printed)) newest is high place
+
+-- no fields outside a format
+pub no_fields : (sheets : Sheets) (before : List Item) (left : List ℕ) → length left ≤ 0 → is_open before ≡ false → fields_after sheets before left ≡ 0
+no_fields sheets [] left none shut = refl
+no_fields sheets (item ∷ before) left none shut = rw (le-ltb 0 (length left) none) (ap length (idle sheets (item ∷ before) shut))
+
+-- the image of the fields that are threaded
+pub same_image : (sheets given : Sheets) (bytes stored_bytes : List ℕ) (v w : View) (fields kept : List Field) (width height : ℕ) → sheets ≡ given → bytes ≡ stored_bytes → v ≡ w → fields ≡ kept → width ≡ v.width → height ≡ v.height →
+    record { width = width; height = height; is_black = image_dot v (map (stroke_of sheets bytes) fields) } ≡ label_image given w stored_bytes kept
+same_image sheets given bytes stored_bytes v w fields kept width height a b c d e f =
+    ap (λ n. record { width = n; height = height; is_black = image_dot v (map (stroke_of sheets bytes) fields) }) e
+    ∙ ap (λ n. record { width = v.width; height = n; is_black = image_dot v (map (stroke_of sheets bytes) fields) }) f
+    ∙ ap (λ s. label_image s v bytes fields) a ∙ ap (λ s. label_image given v s fields) b ∙ ap (λ x. label_image given x stored_bytes fields) c ∙ ap (label_image given w stored_bytes) d
