@@ -41,7 +41,10 @@ empty_is : (a : Bool) (rest : List ℕ) → (IsTrue a → rest ≡ []) → (rest
 empty_is a [] f g = g refl
 empty_is a (b ∷ rest) f g = false_from_ne_true a (λ e. let no = f e in cc)
 
+pub missing_where : (between at_rest is_between at : Bool) → between ≡ is_between → IsTrue at_rest ↔ (at ≡ true) → missing between at_rest ≡ missing is_between at
+missing_where between at_rest is_between at r d = ap (λ b. missing b at_rest) r ∙ ap (missing is_between) (true_is at_rest at d.0 d.1)
+
 pub missing_is : (between at_rest at : Bool) (rest : List ℕ) (fault : Option Fault) → fault ≡ None →
     IsTrue between ↔ ((rest ≡ []) × (fault ≡ None)) → IsTrue at_rest ↔ (at ≡ true) → missing between at_rest ≡ missing (is_empty rest) at
 missing_is between at_rest at rest fault none r d =
-    ap (λ b. missing b at_rest) (empty_is between rest (λ t. (r.0 t).0) (λ e. r.1 (e, none))) ∙ ap (missing (is_empty rest)) (true_is at_rest at d.0 d.1)
+    missing_where between at_rest (is_empty rest) at (empty_is between rest (λ t. (r.0 t).0) (λ e. r.1 (e, none))) d

@@ -7,6 +7,8 @@ pub mod Comes
 pub mod Arms
 pub mod Rasters
 pub mod ByteLines
+pub mod Labels
 pub mod Listings
 pub mod Whole
 pub mod Desks
+pub mod Texts

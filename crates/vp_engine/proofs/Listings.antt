@@ -1,9 +1,7 @@
 -- Listings: how many lines there are, and what a session's answer says of them.
-use Rattle.std.proofs.Common.{◌≡◌, ℕ, List, [], ◌∷◌, ◌++◌, length, reverse, Option, Ok, Err, inl, inr, ◌⊎◌, refl, ap, ◌∙◌, arith, length-append}
+use Rattle.std.proofs.Common.{◌≡◌, ℕ, List, [], ◌∷◌, ◌++◌, length, reverse, Option, Ok, Err, inl, inr, ◌⊎◌, ap, ◌∙◌, arith, length-append}
 use Rattle.std.proofs.lemmas.List.{length-reverse}
 use Rattle.vp_dots.specs.declared.fault.Fault.{Fault}
-use Rattle.vp_esc.specs.declared.item.EscItem.{EscItem}
-use Rattle.vp_esc.specs.Reader.{raster_items}
 use Rattle.vp_engine.specs.declared.language.Language.{Language}
 use Rattle.vp_engine.specs.declared.session.Report.{Report}
 use Rattle.vp_engine.specs.declared.session.RunFault.{RunFault}
@@ -20,12 +18,8 @@ use Rattle.vp_engine.proofs.Faults.{before_whole, none_first}
 pub one_line_more : {Item : Type 0} (old new : ℕ) (before : List Item) (item : Item) → old ≡ counted (length before) → new ≡ grown old 1 → new ≡ counted (length (item ∷ before))
 one_line_more old new before item e f = omega (arith, e, f)
 
-raster_length : (xs : List ℕ) → length (raster_items xs) ≡ length xs
-raster_length [] = refl
-raster_length (b ∷ xs) = omega (arith, raster_length xs)
-
-pub lines_more : (old new : ℕ) (before : List EscItem) (xs : List ℕ) → old ≡ counted (length before) → new ≡ grown old (length xs) → new ≡ counted (length (reverse (raster_items xs) ++ before))
-lines_more old new before xs e f = omega (arith, e, f, length-append (reverse (raster_items xs)) before, length-reverse (raster_items xs), raster_length xs)
+pub lines_more : {Item : Type 0} (old new n : ℕ) (before added : List Item) → old ≡ counted (length before) → new ≡ grown old n → length added ≡ n → new ≡ counted (length (reverse added ++ before))
+lines_more old new n before added e f l = omega (arith, e, f, l, length-append (reverse added) before, length-reverse added)
 
 module _ (language : Language) (before after held holds : Option (List ℕ)) (s : Desk)
     (grows : (bytes more : List ℕ) → IsPrefix (paper (rules_of (Listing language)) bytes) (paper (rules_of (Listing language)) (bytes ++ more))) where

@@ -1,5 +1,5 @@
 -- The items of a raster's bytes: what a receipt and a listing do with them.
-use Rattle.std.proofs.Common.{◌≡◌, ℕ, List, [], ◌∷◌, ◌++◌, reverse, append_assoc, flat_map, zero, suc, take, ◌<◌, None, arith, refl, sym, ap, ◌∙◌}
+use Rattle.std.proofs.Common.{◌≡◌, ℕ, List, [], ◌∷◌, ◌++◌, reverse, append_assoc, flat_map, length, zero, suc, take, ◌<◌, None, arith, refl, sym, ap, ◌∙◌}
 use Rattle.std.proofs.lemmas.List.{reverse-append, append-nil}
 use Rattle.vp_esc.specs.declared.item.EscItem.{EscItem}
 use Rattle.vp_esc.specs.declared.item.EscItem.TheVariants.{RasterByte}
@@ -40,6 +40,10 @@ printed_lines reading line [] before = sym (append-nil (printed (listing reading
 printed_lines reading line (i ∷ added) before =
     ap (printed (listing reading line)) (ap (λ x. x ++ before) (reverse-append (i ∷ []) added) ∙ append_assoc (reverse added) (i ∷ []) before)
     ∙ printed_lines reading line added (i ∷ before) ∙ append_assoc (printed (listing reading line) before) (line i) (flat_map line added)
+
+pub raster_length : (xs : List ℕ) → length (raster_items xs) ≡ length xs
+raster_length [] = refl
+raster_length (b ∷ xs) = omega (arith, raster_length xs)
 
 pub lines_of_bytes : (xs : List ℕ) → flat_map line_of (raster_items xs) ≡ byte_lines xs
 lines_of_bytes [] = refl

@@ -1,4 +1,4 @@
--- the rules of every language, and of each; the images of a receipt
+-- the rules of every language, and of each; the images of receipts and labels
 pub mod Bytes
 pub mod Paper
 pub mod Setups

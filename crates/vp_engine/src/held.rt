@@ -13,3 +13,12 @@ pub struct Held {
     /// The closed fields of a label's format: at most 1,024; 0 for receipts and listings.
     pub fields: u16,
 }
+
+/// Nothing.
+pub const NOTHING: Held = Held {
+    line_rows: 0,
+    page_rows: 0,
+    band_rows: 0,
+    stored: 0,
+    fields: 0,
+};

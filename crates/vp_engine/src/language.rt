@@ -7,4 +7,6 @@ pub enum Language {
     Receipt,
     /// ESC/POS, on paper of 384 dots.
     Receipt58,
+    /// ZPL II, on labels as wide and as long as they say.
+    Label,
 }

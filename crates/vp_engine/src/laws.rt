@@ -5,17 +5,18 @@ ghost use Rattle.vp_dots.specs.Images.{Image, pbm};
 ghost use Rattle.vp_join.specs.Passes.{IsExact, IsOfCalls};
 ghost use Rattle.vp_join.specs.Strips.{IsJoined, greatest, height_together};
 ghost use Rattle.vp_join.specs.declared.fault.JoinFault.{JoinFault};
+ghost use Rattle.vp_glyph.specs.declared.Sheets.{Sheets};
+ghost use Rattle.vp_label.specs.Images.{AreOfLabels};
 ghost use Rattle.vp_receipt.specs.Images.{AreAcross};
 ghost use Rattle.vp_settings.specs.Setup.{Setup as ReceiptSetup, across};
 ghost use Rattle.vp_engine.specs.declared.language.Language.{Language};
 ghost use Rattle.vp_engine.specs.Bytes.{IsPrefix};
-ghost use Rattle.vp_engine.specs.Images.{receipts, IsPrinted, images_of, begun_of};
+ghost use Rattle.vp_engine.specs.Images.{receipts, IsPrinted, images_of, begun_of, labels, images_of_labels};
 ghost use Rattle.vp_engine.specs.Listing.{lines};
 ghost use Rattle.vp_engine.specs.Paper.{Reads, before_fault, fault, paper};
 ghost use Rattle.vp_engine.specs.Setups.{Setup, rules_of};
 ghost use Rattle.vp_engine.specs.Setups.{Listing};
 
-use vp_esc::laws::only_more;
 use vp_join::laws::{images_are_not_refused, images_make_one};
 use vp_receipt::what_is_printed_is_images;
 
@@ -23,7 +24,9 @@ use vp_receipt::what_is_printed_is_images;
 pub fn items_grow()
     ensures { (setup : Setup) → Reads (rules_of setup).reading }
 {
-    only_more();
+    vp_esc::laws::only_more();
+    vp_esc::laws::fault_stays();
+    vp_zpl::laws::only_more();
 }
 
 /// What is printed stays printed.
@@ -80,4 +83,14 @@ pub fn a_receipt_is_joined()
     a_receipt_is_images();
     images_make_one();
     images_are_not_refused();
+}
+
+/// The paper of any bytes of labels is images, one after the other: the copies of each format that has ended,
+/// each as wide and as high as a label may be, and of a dot or more.
+pub fn a_label_is_images()
+    ensures images { (sheets : Sheets) (bytes : List ℕ) →
+        paper (labels sheets) bytes ≡ flat_map pbm (images_of_labels sheets bytes) }
+    ensures sizes { (sheets : Sheets) (bytes : List ℕ) → AreOfLabels (images_of_labels sheets bytes) }
+{
+    vp_label::laws::what_is_printed_is_images();
 }

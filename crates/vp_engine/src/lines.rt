@@ -8,8 +8,8 @@ ghost use Rattle.vp_esc.specs.declared.item.EscItem.TheVariants.{RasterByte};
 use arrayvec::ArrayVec;
 use std::marker::Model;
 
-/// The last line, where in it the next byte is, and how many lines there were; that count stops at the
-/// greatest u64.
+/// The last lines that were begun, where in them the next byte is, and how many lines there were; that count
+/// stops at the greatest u64.
 #[derive(Drop)]
 pub struct Lines {
     line: ArrayVec<u8, 800>,
@@ -40,15 +40,17 @@ impl Lines {
         }
     }
 
-    /// Begins a line, where the one before it is put out.
-    pub fn begin(&mut self, line: ArrayVec<u8, 800>)
-        requires { self.old.pending ≡ [] }
-        ensures pending { self.new.pending ≡ line.items }
-        ensures count { self.new.count ≡ grown self.old.count 1 }
+    /// Begins so many lines, where those before them are put out.
+    pub fn begin(&mut self, lines: &[u8], count: usize)
+        requires idle { self.old.pending ≡ [] }
+        requires room { length lines.now ≤ 800 }
+        ensures pending { self.new.pending ≡ lines.now }
+        ensures count { self.new.count ≡ grown self.old.count count }
     {
-        self.line = line;
+        self.line.clear();
+        let _fits = self.line.try_extend_from_slice(lines);
         self.at = 0;
-        self.count = self.count.saturating_add(1);
+        self.count = self.count.saturating_add(count as u64);
     }
 
     /// Whether anything is still to be put out.

@@ -5,18 +5,23 @@ ghost use Rattle.vp_streams.specs.Count.{grown};
 ghost use Rattle.vp_engine.specs.Machines.{pending_of, MachineStands};
 ghost use Rattle.vp_engine.specs.Paper.{missing};
 ghost use Rattle.vp_engine.specs.Setups.{Setup, Item, setup_of, rules_of, lines_of};
-ghost use Rattle.vp_engine.specs.Setups.{Receipts, Listing};
+ghost use Rattle.vp_engine.specs.Setups.{Receipts, Labels, Listing};
 ghost use Rattle.vp_engine.specs.Takes.{Takes, TakesRun};
 ghost use Rattle.vp_esc.specs.Lines.{line_of};
+ghost use Rattle.vp_zpl.specs.Lines.{lines_of as label_lines_of};
+ghost use Rattle.vp_zpl.specs.Shown.{shown_item};
 
-use crate::held::Held;
+use crate::held::{Held, NOTHING};
 use crate::language::Language;
 use crate::lines::Lines;
 use std::alloc::{AllocError, Global};
 use vp_dots::Fault;
 use vp_esc::{EscItem, EscReader};
 use vp_glyph::Sheets;
+use vp_label::Label;
+use vp_label::laws::{data_in_turn, in_turn};
 use vp_receipt::{Receipt, Width};
+use vp_zpl::{ZplItem, ZplReader};
 
 /// How many bytes were taken, and put out.
 #[derive(Clone, Copy)]
@@ -38,21 +43,43 @@ fn missing(is_between: bool, at_rest: bool) -> Option<Fault>
     None
 }
 
-/// Begins the line of an item. What prints doesn't pay for the room of a line, so this stands in no other
-/// function.
+/// Begins the line of a receipt's item. What prints doesn't pay for the room of a line, so this stands in no
+/// other function.
 #[inline(never)]
 fn begin_line(lines: &mut Lines, item: &EscItem)
     requires { lines.old.pending ≡ [] }
     ensures pending { lines.new.pending ≡ line_of item.now }
     ensures count { lines.new.count ≡ grown lines.old.count 1 }
 {
-    lines.begin(item.line());
+    lines.begin(item.line().as_slice(), 1);
+}
+
+/// How many items a byte of a label gave.
+fn items_in(item: &ZplItem<'_>) -> usize
+    ensures { result ≡ length (shown_item item.now) }
+{
+    match item {
+        ZplItem::Command(_) => 1,
+        ZplItem::Data(bytes) => bytes.as_slice().len(),
+    }
+}
+
+/// Begins the lines of a label's items, likewise.
+#[inline(never)]
+fn begin_label_lines(lines: &mut Lines, item: &ZplItem<'_>)
+    requires { lines.old.pending ≡ [] }
+    ensures pending { lines.new.pending ≡ label_lines_of (shown_item item.now) }
+    ensures count { lines.new.count ≡ grown lines.old.count (length (shown_item item.now)) }
+{
+    lines.begin(item.line().as_slice(), items_in(item));
 }
 
 #[derive(Drop)]
 pub enum Machine {
     Receipt { reader: EscReader, receipt: Receipt },
     ReceiptLines { reader: EscReader, lines: Lines },
+    Label { reader: ZplReader, label: Label },
+    LabelLines { reader: ZplReader, lines: Lines },
 }
 
 impl Machine {
@@ -64,6 +91,7 @@ impl Machine {
         match language {
             Language::Receipt => Machine::receipt(alloc, sheets, Width::W576),
             Language::Receipt58 => Machine::receipt(alloc, sheets, Width::W384),
+            Language::Label => Machine::label(alloc, sheets),
         }
     }
 
@@ -79,6 +107,17 @@ impl Machine {
         })
     }
 
+    fn label(alloc: Global, sheets: Sheets) -> Result<Self, AllocError>
+        ensures stands { IfOk result (λ m. MachineStands m (Labels sheets) [] []) }
+        ensures pending { IfOk result (λ m. pending_of m ≡ []) }
+    {
+        let label = Label::new(alloc, sheets)?;
+        Ok(Machine::Label {
+            reader: ZplReader::new(),
+            label,
+        })
+    }
+
     /// One that lists a language, and took nothing.
     pub fn listing(language: Language) -> Self
         ensures stands { MachineStands result (Listing language) [] [] }
@@ -87,15 +126,27 @@ impl Machine {
         match language {
             Language::Receipt => Machine::receipt_lines(),
             Language::Receipt58 => Machine::receipt_lines(),
+            Language::Label => Machine::label_lines(),
         }
     }
 
     fn receipt_lines() -> Self
-        ensures stands { (language : Language) → MachineStands result (Listing language) [] [] }
+        ensures wide { MachineStands result (Listing Language.Receipt) [] [] }
+        ensures narrow { MachineStands result (Listing Language.Receipt58) [] [] }
         ensures pending { pending_of result ≡ [] }
     {
         Machine::ReceiptLines {
             reader: EscReader::new(),
+            lines: Lines::new(),
+        }
+    }
+
+    fn label_lines() -> Self
+        ensures stands { MachineStands result (Listing Language.Label) [] [] }
+        ensures pending { pending_of result ≡ [] }
+    {
+        Machine::LabelLines {
+            reader: ZplReader::new(),
             lines: Lines::new(),
         }
     }
@@ -121,6 +172,20 @@ impl Machine {
                 Ok(None) => Ok(()),
                 Err(fault) => Err(fault),
             },
+            Machine::Label { reader, label } => {
+                in_turn();
+                data_in_turn();
+                match reader.take(byte) {
+                    Some(item) => label.apply(item),
+                    None => Ok(()),
+                }
+            }
+            Machine::LabelLines { reader, lines } => {
+                if let Some(item) = reader.take(byte) {
+                    begin_label_lines(lines, &item);
+                }
+                Ok(())
+            }
         }
     }
 
@@ -146,6 +211,15 @@ impl Machine {
                         put: 0,
                     };
                 }
+                let room = receipt.text_room().min(input.len());
+                let text = reader.take_text(&input[..room]);
+                if text > 0 {
+                    receipt.apply_text(&input[..text]);
+                    return Moved {
+                        taken: text,
+                        put: 0,
+                    };
+                }
                 let room = receipt.raster_room().min(input.len());
                 let n = reader.take_raster(&input[..room]);
                 receipt.apply_raster(&input[..n]);
@@ -155,10 +229,23 @@ impl Machine {
                 let room = input.len().min(output.len() / 8);
                 let n = reader.take_raster(&input[..room]);
                 lines.put_bytes(&input[..n], output);
-                Moved {
-                    taken: n,
-                    put: 8 * n,
-                }
+                let put = 8 * n;
+                Moved { taken: n, put }
+            }
+            Machine::Label { reader, label } => {
+                in_turn();
+                data_in_turn();
+                let room = label.data_room().min(input.len());
+                let n = reader.take_data(&input[..room]);
+                label.apply_data(&input[..n]);
+                Moved { taken: n, put: 0 }
+            }
+            Machine::LabelLines { reader, lines } => {
+                let room = input.len().min(output.len() / 8);
+                let n = reader.take_data(&input[..room]);
+                lines.put_bytes(&input[..n], output);
+                let put = 8 * n;
+                Moved { taken: n, put }
             }
         }
     }
@@ -170,6 +257,8 @@ impl Machine {
         match self {
             Machine::Receipt { receipt, .. } => receipt.pending(),
             Machine::ReceiptLines { lines, .. } => lines.pending(),
+            Machine::Label { label, .. } => label.pending(),
+            Machine::LabelLines { lines, .. } => lines.pending(),
         }
     }
 
@@ -185,6 +274,8 @@ impl Machine {
         match self {
             Machine::Receipt { receipt, .. } => receipt.put(output),
             Machine::ReceiptLines { lines, .. } => lines.put(output),
+            Machine::Label { label, .. } => label.put(output),
+            Machine::LabelLines { lines, .. } => lines.put(output),
         }
     }
 
@@ -198,6 +289,8 @@ impl Machine {
         match self {
             Machine::Receipt { reader, receipt } => missing(reader.at_rest(), receipt.at_rest()),
             Machine::ReceiptLines { reader, .. } => missing(reader.at_rest(), true),
+            Machine::Label { reader, label } => missing(reader.at_rest(), label.at_rest()),
+            Machine::LabelLines { reader, .. } => missing(reader.at_rest(), true),
         }
     }
 
@@ -212,17 +305,16 @@ impl Machine {
             Machine::Receipt { receipt, .. } => Held {
                 line_rows: receipt.line_rows(),
                 page_rows: receipt.page_rows(),
-                band_rows: 0,
-                stored: 0,
-                fields: 0,
+                ..NOTHING
             },
-            Machine::ReceiptLines { .. } => Held {
-                line_rows: 0,
-                page_rows: 0,
-                band_rows: 0,
-                stored: 0,
-                fields: 0,
+            Machine::ReceiptLines { .. } => NOTHING,
+            Machine::Label { label, .. } => Held {
+                band_rows: label.band_rows(),
+                stored: label.stored(),
+                fields: label.fields(),
+                ..NOTHING
             },
+            Machine::LabelLines { .. } => NOTHING,
         }
     }
 
@@ -235,6 +327,8 @@ impl Machine {
         match self {
             Machine::Receipt { .. } => 0,
             Machine::ReceiptLines { lines, .. } => lines.count(),
+            Machine::Label { .. } => 0,
+            Machine::LabelLines { lines, .. } => lines.count(),
         }
     }
 }

@@ -1,4 +1,4 @@
-use crate::{Counted, Language, Printer, Report, RunFault, Session, State, print_all};
+use crate::{Counted, Language, Printer, Report, RunFault, Session, State, list, print_all};
 use std::alloc::{AllocError, Global};
 use std::process::Abort;
 use std::test::Fail;
@@ -332,6 +332,143 @@ fn a_page_is_unprinted(rt: HostRuntime) -> Result<(), Fail> {
     holds(&rt, &mut printer, &[(b"\x1BL", 0, State::More, 0, 1664)]);
     if !printer.pending() {
         assert_eq!(rt; printer.finish(), Err(Fault::Unprinted));
+    }
+    Ok(())
+}
+
+/// A box of 5 by 3 dots, one thick.
+const BOX: &[u8] = b"^XA^PW16^LL4^FO2,1^GB5,3,1^FS^XZ";
+
+/// A box over both bands, one white row of it, and a reversed corner.
+const TWO_BANDS: &[u8] =
+    b"^XA^PW8^LL34^FO0,30^GB8,4,4^FS^FO0,32^GB8,1,1,W^FS^FO0,31^FR^GB4,3,3^FS^XZ";
+
+#[test]
+fn labels(rt: HostRuntime) -> Result<(), Fail> {
+    let rows: [(&[u8], &[u8], Option<Fault>); 5] = [
+        (BOX, b"P4\n16 4\n\x00\x00\x3E\x00\x22\x00\x3E\x00", None),
+        (
+            TWO_BANDS,
+            b"P4\n8 34\n\0\0\0\0\0\0\0\0\0\0\0\0\0\0\0\0\0\0\0\0\0\0\0\0\0\0\0\0\0\0\xFF\x0F\xF0\x0F",
+            None,
+        ),
+        // inside parameters, and with the format open
+        (b"^XA^FO0,0^GB8,2,2", b"", Some(Fault::Truncated)),
+        (b"^XA^FO0,0^GB8,2,2^FS", b"", Some(Fault::Unprinted)),
+        // a receipt's line feed is nothing
+        (b"\x1BJ\x02\n", b"", None),
+    ];
+    for (bytes, image, fault) in rows {
+        let mut want = Vec::new(rt.alloc());
+        want.extend_from_slice(image)?;
+        prints(&rt, rt.alloc(), Language::Label, bytes, &want, fault)?;
+    }
+    Ok(())
+}
+
+#[test]
+fn stops_where_the_store_is_full(rt: HostRuntime) -> Result<(), Fail> {
+    let mut bytes = Vec::new(rt.alloc());
+    bytes.extend_from_slice(b"^XA^FD")?;
+    for _ in 0..262_147 {
+        bytes.push(b'A')?;
+    }
+    let mut printer = Printer::new(rt.alloc(), Language::Label, NO_SHEETS)?;
+    let step = printer.step(bytes.as_slice(), &mut []);
+    assert_eq!(rt;
+        (step.taken, step.state),
+        (262_151, State::Stopped(Fault::StoreFull))
+    );
+    assert_eq!(rt; printer.held().stored, 262_144);
+    Ok(())
+}
+
+/// A step of a label: its input, its room, what it comes to, and the rows of the band, the stored bytes and
+/// the fields that are then held.
+type LabelStage<'a> = (&'a [u8], usize, State, (u16, u32, u16));
+
+/// The stages of a label come to what they say.
+fn label_holds(rt: &impl Abort, alloc: Global, stages: &[LabelStage]) -> Result<(), Fail> {
+    let mut printer = Printer::new(alloc, Language::Label, NO_SHEETS)?;
+    let mut out = [0; 32];
+    for (input, room, state, counts) in stages {
+        let step = printer.step(input, &mut out[..(*room).min(32)]);
+        assert_eq!(rt; step.state, *state);
+        let held = printer.held();
+        assert_eq!(rt; (held.band_rows, held.stored, held.fields), *counts);
+    }
+    Ok(())
+}
+
+#[test]
+fn the_band_is_held(rt: HostRuntime) -> Result<(), Fail> {
+    label_holds(
+        &rt,
+        rt.alloc(),
+        &[
+            (TWO_BANDS, 7, State::Room, (0, 0, 3)),
+            (b"", 1, State::Room, (32, 0, 3)),
+            (b"", 32, State::Room, (2, 0, 3)),
+            (b"", 2, State::More, (0, 0, 0)),
+        ],
+    )
+}
+
+#[test]
+fn the_format_is_held(rt: HostRuntime) -> Result<(), Fail> {
+    label_holds(
+        &rt,
+        rt.alloc(),
+        &[
+            // data outside a format are none
+            (b"^FDAB^FS", 0, State::More, (0, 0, 0)),
+            (b"^XA^PW8^LL1^PQ2^FDAB", 0, State::More, (0, 2, 0)),
+            (b"^FS", 0, State::More, (0, 2, 1)),
+            // what is replaced stays stored
+            (b"^FDC^GB8,1,1^FS", 0, State::More, (0, 3, 2)),
+            // the first copy, and the second
+            (b"^XZ", 0, State::Room, (0, 3, 2)),
+            (b"", 7, State::Room, (1, 3, 2)),
+            (b"", 1, State::Room, (0, 3, 2)),
+            (b"", 7, State::Room, (1, 3, 2)),
+            (b"", 1, State::More, (0, 0, 0)),
+        ],
+    )
+}
+
+/// The lines of a label's bytes, and how many they are.
+fn lists(
+    rt: &impl Abort,
+    alloc: Global,
+    bytes: &[u8],
+    lines: &[u8],
+    count: u64,
+) -> Result<(), Fail> {
+    let mut reader = Counted::new(bytes);
+    let mut writer = Counted::new(Vec::<u8>::new(alloc));
+    assert_eq!(rt; list(Language::Label, &mut reader, &mut writer), Ok(count));
+    assert_eq!(rt; writer.into_inner().as_slice(), lines);
+    Ok(())
+}
+
+#[test]
+fn lists_labels(rt: HostRuntime) -> Result<(), Fail> {
+    let rows: [(&[u8], &[u8], u64); 3] = [
+        (BOX, b"^XA\n^PW16\n^LL4\n^FO2,1\n^GB5,3,1\n^FS\n^XZ\n", 7),
+        (
+            b"^XA^FDA^ZZ1^XZ",
+            b"^XA\n^FD\nbyte 41\n^ZZ skipped\n^XZ\n",
+            5,
+        ),
+        // three bytes are known at once
+        (
+            b"^XA^FH^FDa_4g^FS^XZ",
+            b"^XA\n^FH\n^FD\nbyte 61\nbyte 5f\nbyte 34\nbyte 67\n^FS\n^XZ\n",
+            9,
+        ),
+    ];
+    for (bytes, lines, count) in rows {
+        lists(&rt, rt.alloc(), bytes, lines, count)?;
     }
     Ok(())
 }

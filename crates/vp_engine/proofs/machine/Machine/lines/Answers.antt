@@ -1,6 +1,9 @@
 use Rattle.std.proofs.Common.{◌∙◌}
-use Rattle.vp_engine.proofs.Arms.{at_lines}
+use Rattle.vp_engine.proofs.Arms.{at_lines, at_label_lines}
 use Rattle.vp_engine.proofs.machine.Machine.lines.Goals as goal
 
 pub returns-in-ReceiptLines : goal.returns-in-ReceiptLines
 returns-in-ReceiptLines c = at_lines _ _ _ _ c.in-ReceiptLines.is (λ t before at. c.count.ensures ∙ at.1) (λ t before at. c.count.ensures ∙ at.1)
+
+pub returns-in-LabelLines : goal.returns-in-LabelLines
+returns-in-LabelLines c = at_label_lines _ _ _ _ c.in-LabelLines.is (λ t before at. c.count-in-LabelLines.ensures ∙ at.1)
