@@ -39,11 +39,14 @@ pub struct Fonts<'a> {
     pub b: Option<&'a str>,
 }
 
+/// The program's version. Its first number is raised where a stream prints other bytes than before.
+const VERSION: &str = "1.0.0";
+
 /// The widths of paper, in dots.
 const WIDTHS: [&str; 2] = ["576", "384"];
 
 /// The languages that can be listed.
-const LANGUAGES: [&str; 1] = ["receipt"];
+const LANGUAGES: [&str; 2] = ["receipt", "label"];
 
 /// The file that is read.
 fn file<'a>(alloc: Global) -> Arg<'a> {
@@ -68,33 +71,52 @@ fn sheet<'a>(alloc: Global, name: &'a str, help: &'a str) -> Arg<'a> {
         .help(help)
 }
 
-fn receipt<'a>(alloc: Global) -> Result<Command<'a>, AllocError> {
-    Command::new(alloc, "receipt")
-        .about("Prints a receipt (ESC/POS)")
-        .arg(width(alloc))?
-        .arg(sheet(
-            alloc,
-            "font-a",
-            "Glyph sheet of font A, PBM of 192 by 384 dots",
-        ))?
-        .arg(sheet(
-            alloc,
-            "font-b",
-            "Glyph sheet of font B, PBM of 144 by 272 dots",
-        ))?
-        .arg(file(alloc))
+fn font_a<'a>(alloc: Global) -> Arg<'a> {
+    sheet(
+        alloc,
+        "font-a",
+        "Glyph sheet of font A, PBM of 192 by 384 dots",
+    )
 }
 
-fn list<'a>(alloc: Global) -> Result<Command<'a>, AllocError> {
-    let language = Arg::new(alloc, "lang")
+fn font_b<'a>(alloc: Global) -> Arg<'a> {
+    sheet(
+        alloc,
+        "font-b",
+        "Glyph sheet of font B, PBM of 144 by 272 dots",
+    )
+}
+
+/// The language of a stream that is listed.
+fn lang<'a>(alloc: Global) -> Arg<'a> {
+    Arg::new(alloc, "lang")
         .long("lang")
         .value_name("LANGUAGE")
         .value_parser(LANGUAGES.as_slice())
         .required(true)
-        .help("What the stream is written in");
+        .help("What the stream is written in")
+}
+
+fn receipt<'a>(alloc: Global) -> Result<Command<'a>, AllocError> {
+    Command::new(alloc, "receipt")
+        .about("Prints a receipt (ESC/POS)")
+        .arg(width(alloc))?
+        .arg(font_a(alloc))?
+        .arg(font_b(alloc))?
+        .arg(file(alloc))
+}
+
+fn label<'a>(alloc: Global) -> Result<Command<'a>, AllocError> {
+    Command::new(alloc, "label")
+        .about("Prints labels (ZPL II)")
+        .arg(font_a(alloc))?
+        .arg(file(alloc))
+}
+
+fn list<'a>(alloc: Global) -> Result<Command<'a>, AllocError> {
     Command::new(alloc, "list")
         .about("Lists the commands of a stream, a line for each")
-        .arg(language)?
+        .arg(lang(alloc))?
         .arg(file(alloc))
 }
 
@@ -111,42 +133,58 @@ fn join<'a>(alloc: Global) -> Result<Command<'a>, AllocError> {
 fn program<'a>(alloc: Global) -> Result<Command<'a>, AllocError> {
     let command = Command::new(alloc, "vp")
         .bin_name("vp")?
+        .version(VERSION)
         .about("A virtual printer: what is printed goes to standard output as PBM images")
         .subcommand_required(true);
     command
         .subcommand(receipt(alloc)?)?
+        .subcommand(label(alloc)?)?
         .subcommand(list(alloc)?)?
         .subcommand(join(alloc)?)
 }
 
-/// A stream that is printed.
-fn printed<'a>(words: &ArgMatches<'a>) -> Order<'a> {
-    Order::Read(Stream {
+/// A receipt that is printed.
+fn printed_receipt<'a>(words: &ArgMatches<'a>) -> Stream<'a> {
+    Stream {
         task: Task::Print(Fonts {
             a: words.get_str("font-a"),
             b: words.get_str("font-b"),
         }),
-        language: language(words.get_str("width")),
+        language: language_of_width(words.get_str("width")),
         file: words.get_str("FILE"),
-    })
+    }
+}
+
+/// Labels that are printed. They have no font but A.
+fn printed_labels<'a>(words: &ArgMatches<'a>) -> Stream<'a> {
+    Stream {
+        task: Task::Print(Fonts {
+            a: words.get_str("font-a"),
+            b: None,
+        }),
+        language: Language::Label,
+        file: words.get_str("FILE"),
+    }
 }
 
 /// A stream that is listed.
-fn listed<'a>(words: &ArgMatches<'a>) -> Order<'a> {
-    Order::Read(Stream {
+fn listed<'a>(words: &ArgMatches<'a>) -> Stream<'a> {
+    Stream {
         task: Task::List,
-        language: Language::Receipt,
+        language: language_named(words.get_str("lang")),
         file: words.get_str("FILE"),
-    })
+    }
 }
 
 /// What the words ask for; none without a subcommand, or where it lacks what it requires.
 fn asked<'a>(words: &ArgMatches<'a>) -> Option<Order<'a>> {
-    match words.subcommand()? {
-        ("join", join) => Some(Order::Join(join.get_str("FILE")?)),
-        ("list", list) => Some(listed(list)),
-        (_, receipt) => Some(printed(receipt)),
-    }
+    let order = match words.subcommand()? {
+        ("join", join) => Order::Join(join.get_str("FILE")?),
+        ("list", list) => Order::Read(listed(list)),
+        ("label", label) => Order::Read(printed_labels(label)),
+        (_, receipt) => Order::Read(printed_receipt(receipt)),
+    };
+    Some(order)
 }
 
 impl<'a> Order<'a> {
@@ -162,9 +200,17 @@ impl<'a> Order<'a> {
 }
 
 /// Receipts on paper of this width.
-fn language(width: Option<&str>) -> Language {
+fn language_of_width(width: Option<&str>) -> Language {
     match width {
         Some("384") => Language::Receipt58,
+        _ => Language::Receipt,
+    }
+}
+
+/// The language of this name, one of those that can be listed.
+fn language_named(name: Option<&str>) -> Language {
+    match name {
+        Some("label") => Language::Label,
         _ => Language::Receipt,
     }
 }

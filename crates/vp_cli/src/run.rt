@@ -37,8 +37,9 @@ pub fn words<R: Env + Alloc, E: Write>(
     Ok(words)
 }
 
-/// Runs the program on its words, the first of which is its name, and gives the exit status: 0 success, 1 a fault of
-/// the stream or of the images, 2 usage, 3 a file, a sheet, a read or a write, 4 want of memory. What was printed is written first.
+/// Runs the program on its words, the first of which is its name, and gives the exit status: 0 success,
+/// 1 a fault of the stream or of the images, 2 usage, 3 a file, a sheet, a read or a write, 4 want of memory.
+/// What was printed is written first.
 pub fn run<R: Files, S: AsStr, I: Read, O: Write, E: Write>(
     rt: &R,
     alloc: Global,

@@ -41,7 +41,8 @@ pub enum Stop<'a> {
 }
 
 impl Stop<'_> {
-    /// The exit status: 1 for a fault of the stream or of images, 3 for a file, a sheet, a read or a write, 4 for want of memory.
+    /// The exit status: 1 for a fault of the stream or of images, 3 for a file, a sheet, a read or a write,
+    /// 4 for want of memory.
     pub fn status(&self) -> u8
         ensures { result ≡ status_of self.now }
     {
