@@ -1,13 +1,23 @@
-//! Whole streams through the printer and its listings: what they print in one piece, cut at both ends, and between readers
-//! and writers that give and take a few bytes at a time and fail once.
+//! Whole streams through the printer and its listings: what they print in one piece, cut at both ends,
+//! and between readers and writers that give and take a few bytes at a time and fail once.
 #![tactic(auto)]
 
 #[cfg(test)]
+mod cases;
+#[cfg(test)]
+mod fields;
+#[cfg(test)]
+mod labels;
+#[cfg(test)]
 mod listings;
+#[cfg(test)]
+mod looks;
 #[cfg(test)]
 mod pages;
 #[cfg(test)]
 mod pieces;
+#[cfg(test)]
+mod sessions;
 #[cfg(test)]
 mod sheet;
 #[cfg(test)]
@@ -16,3 +26,5 @@ mod streams;
 mod symbols;
 #[cfg(test)]
 mod tests;
+#[cfg(test)]
+mod ways;

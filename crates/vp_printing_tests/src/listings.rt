@@ -9,8 +9,14 @@ use vp_engine::{Counted, Language, RunFault, list};
 /// Never reached: no call fails.
 const NEVER: usize = 0;
 
-/// A stream, its lines, and the answer of `list`.
+/// The languages of receipts, and those of labels.
+const RECEIPTS: &[Language] = &[Language::Receipt, Language::Receipt58];
+
+const LABELS: &[Language] = &[Language::Label];
+
+/// A stream, its lines in each of its languages, and the answer of `list`.
 struct Listing {
+    languages: &'static [Language],
     bytes: &'static [u8],
     lines: &'static [u8],
     answer: Result<u64, RunFault>,
@@ -18,18 +24,21 @@ struct Listing {
 
 const LISTINGS: &[Listing] = &[
     Listing {
+        languages: RECEIPTS,
         bytes: b"",
         lines: b"",
         answer: Ok(0),
     },
     // a raster of two rows
     Listing {
+        languages: RECEIPTS,
         bytes: b"\x1Dv0\x00\x01\x00\x02\x00\x80\x01",
         lines: b"gs 76 30 00 01 00 02 00\nbyte 80\nbyte 01\n",
         answer: Ok(3),
     },
     // an unknown command
     Listing {
+        languages: RECEIPTS,
         bytes: b"\n\x1B\x7F",
         lines: b"LF\n",
         answer: Err(RunFault::Print {
@@ -39,6 +48,7 @@ const LISTINGS: &[Listing] = &[
     },
     // a raster that is cut off
     Listing {
+        languages: RECEIPTS,
         bytes: b"\x1Dv0\x00\x01\x00\x02\x00\x80",
         lines: b"gs 76 30 00 01 00 02 00\nbyte 80\n",
         answer: Err(RunFault::Print {
@@ -48,8 +58,10 @@ const LISTINGS: &[Listing] = &[
     },
     // a raster of rows of nine bytes, behind it a character, a feed and an unknown command, and more
     Listing {
+        languages: RECEIPTS,
         bytes: b"\x1Dv0\x00\x09\x00\x01\x00abcdefghiM\x1BJ\x02\x1B\x7FM\n",
-        lines: b"gs 76 30 00 09 00 01 00\nbyte 61\nbyte 62\nbyte 63\nbyte 64\nbyte 65\nbyte 66\nbyte 67\nbyte 68\nbyte 69\nchar 4d\nesc 4a 02\n",
+        lines: b"gs 76 30 00 09 00 01 00\nbyte 61\nbyte 62\nbyte 63\nbyte 64\n\
+            byte 65\nbyte 66\nbyte 67\nbyte 68\nbyte 69\nchar 4d\nesc 4a 02\n",
         answer: Err(RunFault::Print {
             fault: Fault::Unknown(0x1B, 0x7F),
             after: 23,
@@ -57,9 +69,49 @@ const LISTINGS: &[Listing] = &[
     },
     // an item that a printer refuses is listed
     Listing {
+        languages: RECEIPTS,
         bytes: b"\x1Dk\x00\x00",
         lines: b"gs 6b 00 00\n",
         answer: Ok(1),
+    },
+    // a box
+    Listing {
+        languages: LABELS,
+        bytes: b"^XA^PW16^LL4^FO2,1^GB5,3,1^FS^XZ",
+        lines: b"^XA\n^PW16\n^LL4\n^FO2,1\n^GB5,3,1\n^FS\n^XZ\n",
+        answer: Ok(7),
+    },
+    // data, and a command that is skipped
+    Listing {
+        languages: LABELS,
+        bytes: b"^XA^FDA^ZZ1^XZ",
+        lines: b"^XA\n^FD\nbyte 41\n^ZZ skipped\n^XZ\n",
+        answer: Ok(5),
+    },
+    // a font, a block, and data by hex digits, of which three and then two bytes are known at once
+    Listing {
+        languages: LABELS,
+        bytes: b"^XA^a0n, 24,12^FB24,2,0,R^FH^FDM_4DM_4X M_4^FS~ja1",
+        lines: b"^XA\n^A0n,24,12\n^FB24,2,0,R\n^FH\n^FD\nbyte 4d\nbyte 4d\nbyte 4d\n\
+            byte 5f\nbyte 34\nbyte 58\nbyte 20\nbyte 4d\nbyte 5f\nbyte 34\n^FS\n~JA skipped\n",
+        answer: Ok(17),
+    },
+    // a picture as bytes that are signs and a line end, and one that is cut off
+    Listing {
+        languages: LABELS,
+        bytes: b"^XA^GFB,3,3,1,^~\nx^GFA,9,9,3,0 F",
+        lines: b"^XA\n^GFB,3,3,1\nbyte 5e\nbyte 7e\nbyte 0a\n^GFA,9,9,3\nbyte 30\nbyte 46\n",
+        answer: Err(RunFault::Print {
+            fault: Fault::Truncated,
+            after: 32,
+        }),
+    },
+    // what a printer refuses is listed, and what is no command isn't
+    Listing {
+        languages: LABELS,
+        bytes: b"A\x1B@^XZ^GFC,1,2,^FX a, b\x7F,,^F O\r\n",
+        lines: b"^XZ\n^GFC,1,2,\n^FXa,b.,,\n^F. skipped\n",
+        answer: Ok(4),
     },
 ];
 
@@ -105,8 +157,8 @@ fn listed(
 #[test]
 fn each_item_has_its_line(rt: HostRuntime) {
     for listing in LISTINGS {
-        for language in [Language::Receipt, Language::Receipt58] {
-            let whole = listed(rt.alloc(), language, listing.bytes, 1000, (NEVER, NEVER));
+        for language in listing.languages {
+            let whole = listed(rt.alloc(), *language, listing.bytes, 1000, (NEVER, NEVER));
             assert_eq!(rt; whole.lines.as_slice(), listing.lines);
             assert_eq!(rt; whole.answer, listing.answer);
         }
@@ -116,16 +168,13 @@ fn each_item_has_its_line(rt: HostRuntime) {
 #[test]
 fn a_listing_is_cut_into_bytes(rt: HostRuntime) {
     for listing in LISTINGS {
-        for most in [1, 2, 3, 7, 8, 9] {
-            let cut = listed(
-                rt.alloc(),
-                Language::Receipt,
-                listing.bytes,
-                most,
-                (NEVER, NEVER),
-            );
-            assert_eq!(rt; cut.lines.as_slice(), listing.lines);
-            assert_eq!(rt; cut.answer, listing.answer);
+        for language in listing.languages {
+            for most in [1, 2, 3, 7, 8, 9] {
+                let calls = (NEVER, NEVER);
+                let cut = listed(rt.alloc(), *language, listing.bytes, most, calls);
+                assert_eq!(rt; cut.lines.as_slice(), listing.lines);
+                assert_eq!(rt; cut.answer, listing.answer);
+            }
         }
     }
 }
@@ -134,51 +183,29 @@ fn a_listing_is_cut_into_bytes(rt: HostRuntime) {
 #[test]
 fn a_failed_read_or_write_ends_a_listing(rt: HostRuntime) {
     for listing in LISTINGS {
-        for most in [1, 5, 1000] {
-            let calm = listed(
-                rt.alloc(),
-                Language::Receipt,
-                listing.bytes,
-                most,
-                (NEVER, NEVER),
-            );
-            for call in 1..calm.reads.saturating_add(1) {
-                fails(
-                    &rt,
-                    rt.alloc(),
-                    listing,
-                    most,
-                    (call, NEVER),
-                    RunFault::Read,
-                );
-            }
-            for call in 1..calm.writes.saturating_add(1) {
-                fails(
-                    &rt,
-                    rt.alloc(),
-                    listing,
-                    most,
-                    (NEVER, call),
-                    RunFault::Write,
-                );
+        for language in listing.languages {
+            for most in [1, 5, 1000] {
+                fail_once(&rt, rt.alloc(), listing, *language, most);
             }
         }
     }
 }
 
-fn fails(
-    rt: &impl Abort,
-    alloc: Global,
-    listing: &Listing,
-    most: usize,
-    bad: (usize, usize),
-    fault: RunFault,
-) {
-    let cut = listed(alloc, Language::Receipt, listing.bytes, most, bad);
-    assert_eq!(rt; cut.answer, Err(fault));
-    assert!(rt; listing.lines.starts_with(cut.lines.as_slice()));
-    assert!(rt; cut.reads >= bad.0);
-    assert!(rt; cut.writes >= bad.1);
+/// Each read and each write of at most so many bytes fails.
+fn fail_once(rt: &impl Abort, alloc: Global, listing: &Listing, language: Language, most: usize) {
+    let calm = listed(alloc, language, listing.bytes, most, (NEVER, NEVER));
+    for call in 1..calm.reads.saturating_add(1) {
+        let cut = listed(alloc, language, listing.bytes, most, (call, NEVER));
+        assert_eq!(rt; cut.answer, Err(RunFault::Read));
+        assert!(rt; listing.lines.starts_with(cut.lines.as_slice()));
+        assert_eq!(rt; cut.reads, call);
+    }
+    for call in 1..calm.writes.saturating_add(1) {
+        let cut = listed(alloc, language, listing.bytes, most, (NEVER, call));
+        assert_eq!(rt; cut.answer, Err(RunFault::Write));
+        assert!(rt; listing.lines.starts_with(cut.lines.as_slice()));
+        assert_eq!(rt; cut.writes, call);
+    }
 }
 
 /// More lines than a buffer holds.
