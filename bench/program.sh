@@ -20,12 +20,13 @@ seconds() {
     done | sort -n | head -1
 }
 
-# measure NAME FILE OPTION..: the program over a file, beside cat of its paper
+# measure LANGUAGE NAME FILE OPTION..: the program over a file, beside cat of its paper
 measure() {
-    name=$1
-    file=$2
-    shift 2
-    print=$(seconds "$scratch/paper" "$vp" receipt "$@" "$file")
+    language=$1
+    name=$2
+    file=$3
+    shift 3
+    print=$(seconds "$scratch/paper" "$vp" "$language" "$@" "$file")
     copy=$(seconds "$scratch/copy" cat "$scratch/paper")
     bytes=$(wc -c < "$scratch/paper")
     echo "$print $copy $bytes" | awk -v name="$name" '{ printf "%s: %d bytes of paper, %.1f ms, cat %.1f ms, %.1f times cat, %.0f MB/s\n", name, $3, $1 / 1e6, $2 / 1e6, $1 / $2, $3 * 1000 / $1 }'
@@ -53,7 +54,7 @@ repeated() {
 
 # GS v 0, a raster of 576 dots by 20,000
 { printf '\035v0\000\110\000\040\116'; head -c 1440000 /dev/urandom; } > "$scratch/raster"
-measure raster "$scratch/raster"
+measure receipt raster "$scratch/raster"
 
 # 20 MB of a raster, and of its lines the most memory that the program held
 { printf '\035v0\000\000\004\000\120'; head -c 20971520 /dev/urandom; } > "$scratch/long"
@@ -65,7 +66,7 @@ line='2 x Espresso doppio, milk apart        7.40'
 for _ in $(seq 30); do echo "$line"; done > "$scratch/receipt"
 printf '\035V\001' >> "$scratch/receipt"
 repeated 1000 "$scratch/receipt" > "$scratch/day"
-measure text "$scratch/day" --font-a "$top/examples/font-a.pbm"
+measure receipt text "$scratch/day" --font-a "$top/examples/font-a.pbm"
 listed text "$scratch/day"
 
 # 3,000,000 carriage returns, and 20 MB of graphics, which do nothing
@@ -79,7 +80,7 @@ bars='\035H\002\035k\002400638133393\000'
 square='\035(k\033\000\061\120\060receipt 0123456789 24.50\035(k\003\000\061\121\060'
 printf "$bars$square" > "$scratch/symbols"
 repeated 500 "$scratch/symbols" > "$scratch/journal"
-measure symbols "$scratch/journal" --font-a "$top/examples/font-a.pbm"
+measure receipt symbols "$scratch/journal" --font-a "$top/examples/font-a.pbm"
 {
     printf '\035v0\000\110\000\140\000'
     head -c 6912 /dev/urandom
@@ -87,7 +88,7 @@ measure symbols "$scratch/journal" --font-a "$top/examples/font-a.pbm"
     printf "$bars$square\035V\001"
 } > "$scratch/receipt"
 repeated 1000 "$scratch/receipt" > "$scratch/journal"
-measure journal "$scratch/journal" --font-a "$top/examples/font-a.pbm"
+measure receipt journal "$scratch/journal" --font-a "$top/examples/font-a.pbm"
 
 # in each direction 200 pages of 576 dots by 1,664 that one raster fills, and 200 full of text
 for direction in 0 1 2 3; do
@@ -98,7 +99,7 @@ for direction in 0 1 2 3; do
     begin="\033L\033T\\00$direction"
     { printf "$begin\035v0\000$size"; head -c 119808 /dev/urandom; printf '\014'; } > "$scratch/page"
     repeated 200 "$scratch/page" > "$scratch/pages"
-    measure "pages of rasters, direction $direction" "$scratch/pages"
+    measure receipt "pages of rasters, direction $direction" "$scratch/pages"
     {
         printf "$begin\0333\030"
         for _ in $(seq $lines); do
@@ -107,9 +108,76 @@ for direction in 0 1 2 3; do
         printf '\014'
     } > "$scratch/page"
     repeated 200 "$scratch/page" > "$scratch/pages"
-    measure "pages of text, direction $direction" "$scratch/pages" --font-a "$top/examples/font-a.pbm"
+    measure receipt "pages of text, direction $direction" "$scratch/pages" --font-a "$top/examples/font-a.pbm"
 done
 
 # 1 GB of rasters of 576 dots by 65,535, and the most memory that the program held
 { printf '\035v0\000\110\000\377\377'; head -c 4718520 /dev/urandom; } > "$scratch/tall"
 repeated 213 "$scratch/tall" | /usr/bin/time -f 'gigabyte: %e s, %M KB at most' "$vp" receipt > /dev/null
+
+# labels of 832 dots by 1,218: their bytes of paper, and the most memory that the program held
+font="$top/examples/font-a.pbm"
+label() {
+    measure label "$1" "$2" --font-a "$font"
+    /usr/bin/time -f "$1: %M KB at most" "$vp" label --font-a "$font" "$2" > /dev/null
+}
+
+# formats COPIES NUMBER FILE: so many formats, each of the fields in the file and of so many copies
+formats() {
+    { printf '^XA'; cat "$3"; printf '^PQ%s^XZ' "$1"; } > "$scratch/format"
+    repeated "$2" "$scratch/format"
+}
+
+# digits BYTES: so many random bytes in hex digits
+digits() {
+    head -c "$1" /dev/urandom | od -An -v -tx1 | tr -d ' \n'
+}
+
+# a shipping label: 20 texts, 4 boxes, 3 bar codes, a QR symbol and a logo of 200 by 200
+{
+    printf '^FO30,30^GFA,10000,5000,25,'
+    digits 5000
+    printf '^FS'
+    for i in $(seq 16); do printf '^FO260,%s^A0N,30,24^FDLine %s of the label^FS' $((2 + 38 * i)) "$i"; done
+    for i in $(seq 4); do printf '^FO%s,700^A0R,30,24^FDTurned text %s^FS' $((40 * i)) "$i"; done
+    printf '^FO10,10^GB812,1198,4^FS^FO10,660^GB812,4,4^FS^FO240,10^GB4,650,4^FS^FO20,20^FR^GB200,40,40^FS'
+    printf '^BY3,3,100^FO260,700^BCN,100,Y,N^FD>:SHIP123456^FS^BY2,3,80^FO260,860^B3N,N,80,Y,N^FDTRACK99^FS'
+    printf '^FO260,1000^BEN,80,Y,N^FD400638133393^FS'
+    printf '^FO600,980^BQN,2,6^FDMA,https://example.org/parcel/0123456789^FS'
+} > "$scratch/fields"
+formats 1 1000 "$scratch/fields" > "$scratch/labels"
+label '1,000 shipping labels' "$scratch/labels"
+formats 1000 1 "$scratch/fields" > "$scratch/labels"
+label '1,000 copies of a shipping label' "$scratch/labels"
+
+# boxes and three pictures of 400 by 300, and a picture of the whole label
+{
+    for i in $(seq 20); do printf '^FO%s,%s^GB%s,60,%s^FS' $((30 * i)) $((50 * i)) $((20 + 5 * i)) $((1 + i % 2 * 60)); done
+    for i in 0 1 2; do
+        printf '^FO%s,%s^GFA,30000,15000,50,' $((200 * i)) $((400 * i))
+        digits 15000
+        printf '^FS'
+    done
+} > "$scratch/fields"
+formats 1000 1 "$scratch/fields" > "$scratch/labels"
+label '1,000 copies of boxes and pictures' "$scratch/labels"
+{ printf '^GFA,253344,126672,104,'; digits 126672; printf '^FS'; } > "$scratch/fields"
+formats 1 1 "$scratch/fields" > "$scratch/labels"
+label 'a picture of 832 by 1,218' "$scratch/labels"
+
+# 10 boxes and 1,000 on 8,000 rows, and a text of as many bytes as a format holds
+for boxes in 10 1000; do
+    {
+        printf '^LL8000'
+        for i in $(seq "$boxes"); do printf '^FO%s,%s^GB60,40,2^FS' $((i * 97 % 700)) $((i * 7919 % 7950)); done
+    } > "$scratch/fields"
+    formats 100 1 "$scratch/fields" > "$scratch/labels"
+    label "100 labels of 8,000 rows with $boxes boxes" "$scratch/labels"
+done
+{
+    printf '^LL8000^A0N,16,12^FB480,9999,4,L^FD'
+    for _ in $(seq 26214); do printf 'Nine byte '; done
+    printf '^FS'
+} > "$scratch/fields"
+formats 1 1 "$scratch/fields" > "$scratch/labels"
+label 'a text of 262,140 bytes' "$scratch/labels"

@@ -13,6 +13,7 @@ pub enum Bench {
     Qr,
     Receipt,
     Engine,
+    Label,
 }
 
 impl Bench {
@@ -28,6 +29,7 @@ impl Bench {
             "qr" => Some(Bench::Qr),
             "receipt" => Some(Bench::Receipt),
             "engine" => Some(Bench::Engine),
+            "label" => Some(Bench::Label),
             _ => None,
         }
     }

@@ -7,6 +7,7 @@ mod dots;
 mod engine;
 mod esc;
 mod glyph;
+mod label;
 mod measure;
 mod page;
 mod qr;
@@ -34,8 +35,9 @@ fn main(rt: HostRuntime) -> Result<()> {
         Some(Bench::Qr) => qr::run(&rt),
         Some(Bench::Receipt) => receipt::run(&rt),
         Some(Bench::Engine) => engine::run(&rt),
+        Some(Bench::Label) => label::run(&rt),
         None => {
-            println!(rt; "a bench is one of: dots glyph esc page qr receipt engine")?;
+            println!(rt; "a bench is one of: dots glyph esc page qr receipt engine label")?;
             Ok(())
         }
     }
