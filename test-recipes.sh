@@ -62,6 +62,22 @@ is 0 'accept' "$golden" accept "$streams" "$golds" -- "$@"
 is 2 'check without the program' "$golden" check "$streams" "$golds" -- "$scratch/no-vp"
 echo 'golden images: ok'
 
+# golden images of labels, whose words stand behind --
+labels=$scratch/labels
+mkdir "$labels"
+cp examples/*.zpl "$labels"
+label="$vp label --font-a $root/examples/font-a.pbm"
+# shellcheck disable=SC2086
+is 0 'accept of labels' "$golden" accept "$labels" "$scratch/label-golds" -- $label
+# shellcheck disable=SC2086
+is 0 'check of labels' "$golden" check "$labels" "$scratch/label-golds" --report "$report" -- $label
+sed 's/4\.79/4.99/' examples/shelf.zpl >"$labels/shelf.zpl"
+# shellcheck disable=SC2086
+is 1 'check of a changed price' "$golden" check "$labels" "$scratch/label-golds" --report "$report" -- $label
+says '^shelf.zpl: [0-9,]* dots differ'
+says '^1 of 2 streams'
+echo 'golden images of labels: ok'
+
 # one PNG of a receipt
 "$@" examples/receipt.bin >"$scratch/receipt.pbm"
 recipes/paper.py "$scratch/receipt.png" <"$scratch/receipt.pbm"
@@ -128,6 +144,10 @@ is 0 'two copies of a file' recipes/cups/vp 8 user title 2 '' examples/receipt.b
 cmp "$scratch/queue/000003.png" "$scratch/receipt.png"
 is 5 'a job with a fault' recipes/cups/vp 9 user title 1 '' "$streams/fault.bin"
 says '^ERROR: 000004 vp: F1 after 9 bytes: unknown command 1B 7E$'
+VP_PRINT=$label
+is 0 'a label from standard input' recipes/cups/vp 10 user title 1 '' <examples/shipping.zpl
+says '^INFO: 000005 printed$'
+cmp "$scratch/queue/000005.png" docs/shipping.png
 echo 'a CUPS backend: ok'
 
 # many at once
