@@ -1,7 +1,21 @@
 #!/bin/sh
-# Proves every crate from nothing, tries the must-fail edits, runs tests, program and recipes, and refuses memory.
+# Proves every crate from nothing, tries the must-fail edits, runs tests, program, examples and recipes, and refuses
+# memory. It says how long each part took; out/gate.log keeps what the prover said, and when.
 set -eu
 cd "$(dirname "$0")"
-rt ci
-./test-recipes.sh
-./test-memory.sh
+mkdir -p out
+
+# timed COMMAND..: runs it, and says its seconds
+timed() {
+    started=$(date +%s)
+    "$@"
+    echo "$*: $(($(date +%s) - started)) s"
+}
+tools/minutes.py out/gate.log rt ci || {
+    # behind the table of minutes, once more what failed
+    sed -n 's/^ *[0-9.]* | \(rt: FAILED.*\)/\1/p' out/gate.log
+    exit 1
+}
+timed ./test-examples.sh
+timed ./test-recipes.sh
+timed ./test-memory.sh
