@@ -1,4 +1,5 @@
 //! Streams, with what is listed of them and whether the reader is then at rest.
+mod pictures;
 mod table;
 
 use crate::ZplReader;
