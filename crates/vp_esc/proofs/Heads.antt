@@ -10,7 +10,7 @@ use Rattle.vp_esc.specs.declared.command.Plain.TheVariants.{Alone, OfByte, OfWor
 use Rattle.vp_esc.specs.declared.command.Arguments.TheVariants as arguments
 use Rattle.vp_esc.specs.Values.{is_kind_to_zero, is_feed_cut}
 use Rattle.vp_esc.specs.Command.{head_len, plain_len, is_listed, has_second}
-use Rattle.vp_esc.specs.Units.{needs_more, is_counted, is_short, data_len, given_by, given_behind}
+use Rattle.vp_esc.specs.Units.{needs_more, is_counted, is_short, data_len, given_by, given_behind, prints_rows, is_skipped}
 use Rattle.vp_esc.specs.Reader.{HasLeft}
 
 -- one or two arguments
@@ -97,6 +97,8 @@ pub record IsSame (k : Command) (front more : List ℕ) : Type 0 where
   pub head : head_len k (front ++ more) ≡ head_len k front
   pub count : data_len k (front ++ more) ≡ data_len k front
   pub counted : is_counted k (front ++ more) ≡ true
+  pub rows : prints_rows k (front ++ more) ≡ prints_rows k front
+  pub skipped : is_skipped k (front ++ more) ≡ is_skipped k front
 
 plain_same : (p : PlainCommand) (front more : List ℕ) → plain_len p front ≤ length front → plain_len p (front ++ more) ≡ plain_len p front
 plain_same (Alone a) front more h = refl
@@ -115,32 +117,32 @@ symbol_too_short true e h = cc
 symbol_too_short false e h = omega arith
 
 pub same : (k : Command) (front more : List ℕ) → is_counted k front ≡ true → head_len k front ≤ length front → IsSame k front more
-same (Plain p) front more e h = record { head = plain_same p front more h; count = refl; counted = refl }
+same (Plain p) front more e h = record { head = plain_same p front more h; count = refl; counted = refl; rows = refl; skipped = refl }
 same TabStops front more e h = cc
 same Columns [] more e h = absurd (omega arith)
 same Columns (a ∷ []) more e h = absurd (omega arith)
 same Columns (a ∷ b ∷ []) more e h = absurd (omega arith)
-same Columns (a ∷ b ∷ c ∷ front) more e h = record { head = refl; count = refl; counted = refl }
+same Columns (a ∷ b ∷ c ∷ front) more e h = record { head = refl; count = refl; counted = refl; rows = refl; skipped = refl }
 same Raster [] more e h = absurd (omega arith)
 same Raster (a ∷ []) more e h = absurd (omega arith)
 same Raster (a ∷ b ∷ []) more e h = absurd (omega arith)
 same Raster (a ∷ b ∷ c ∷ []) more e h = absurd (omega arith)
 same Raster (a ∷ b ∷ c ∷ d ∷ []) more e h = absurd (omega arith)
 same Raster (a ∷ b ∷ c ∷ d ∷ x ∷ []) more e h = absurd (omega arith)
-same Raster (a ∷ b ∷ c ∷ d ∷ x ∷ y ∷ front) more e h = record { head = refl; count = refl; counted = refl }
+same Raster (a ∷ b ∷ c ∷ d ∷ x ∷ y ∷ front) more e h = record { head = refl; count = refl; counted = refl; rows = refl; skipped = refl }
 same Symbol [] more e h = cc
 same Symbol (a ∷ []) more e h = absurd (symbol_too_short (is_kind_to_zero a) e h)
-same Symbol (a ∷ b ∷ front) more e h = record { head = refl; count = refl; counted = e }
+same Symbol (a ∷ b ∷ front) more e h = record { head = refl; count = refl; counted = e; rows = refl; skipped = refl }
 same Function [] more e h = absurd (omega arith)
 same Function (a ∷ []) more e h = absurd (omega arith)
 same Function (a ∷ b ∷ []) more e h = absurd (omega arith)
-same Function (a ∷ b ∷ c ∷ front) more e h = record { head = refl; count = refl; counted = refl }
+same Function (a ∷ b ∷ c ∷ front) more e h = record { head = refl; count = refl; counted = refl; rows = refl; skipped = refl }
 same Graphics [] more e h = absurd (omega arith)
 same Graphics (a ∷ []) more e h = absurd (omega arith)
 same Graphics (a ∷ b ∷ []) more e h = absurd (omega arith)
 same Graphics (a ∷ b ∷ c ∷ []) more e h = absurd (omega arith)
 same Graphics (a ∷ b ∷ c ∷ d ∷ []) more e h = absurd (omega arith)
-same Graphics (a ∷ b ∷ c ∷ d ∷ x ∷ front) more e h = record { head = refl; count = refl; counted = refl }
+same Graphics (a ∷ b ∷ c ∷ d ∷ x ∷ front) more e h = record { head = refl; count = refl; counted = refl; rows = refl; skipped = refl }
 
 symbol_counted : (b n s : Bool) → not b ≡ true → cond b n s ≡ s
 symbol_counted true n s e = cc
@@ -194,6 +196,8 @@ pub record IsPushed (k : Command) (args : List ℕ) (left c : ℕ) : Type 0 wher
   pub listed : is_listed k (args ++ c ∷ []) ≡ true
   pub counted : is_counted k (args ++ c ∷ []) ≡ true
   pub needs : needs_more k (args ++ c ∷ []) ≡ ltb 1 left
+  pub rows : prints_rows k (args ++ c ∷ []) ≡ prints_rows k args
+  pub skipped : is_skipped k (args ++ c ∷ []) ≡ is_skipped k args
   pub left_is : 1 < left → HasLeft k (args ++ c ∷ []) (left - 1)
 
 pub listed_more : (k : Command) (args : List ℕ) (c : ℕ) → 0 < length args → is_listed k args ≡ true → is_listed k (args ++ c ∷ []) ≡ true
@@ -220,6 +224,8 @@ pushed k args left c l e h =
       listed = listed_more k args c (left_some k args left e h) l;
       counted = s.counted;
       needs = needs_counted k (args ++ c ∷ []) s.counted ∙ rw (s.head, s.count, len) (grind (arith, nat_tests, h.count, h.some_left));
+      rows = s.rows;
+      skipped = s.skipped;
       left_is = λ some. record {
         head = rw (s.head, len) (omega (arith, h.head));
         some_left = omega arith;

@@ -20,3 +20,4 @@ pub mod Ends
 pub mod OnlyRows
 pub mod Runs
 pub mod Texts
+pub mod Lefts

@@ -8,3 +8,4 @@ pub mod Laws
 pub mod Lines
 pub mod Listings
 pub mod Reader
+pub mod Runs

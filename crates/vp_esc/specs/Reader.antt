@@ -1,6 +1,6 @@
 -- What a reader holds, beside the bytes that it has taken.
-use Rattle.std.specs.Prelude.{◌≡◌, ℕ, ◌+◌, ◌-◌, ◌*◌, ◌<◌, ◌≤◌, ◌==◌, Bool, true, false, not, ◌&&◌, ◌||◌, is_none, Option, Some, None, Result, Ok, Err, List, [], ◌∷◌, ◌++◌, length, take, drop, map, nat_lt, slice_index, option_to_list, if◌then◌else◌}
-use Rattle.std.specs.List.{list_any, prefix_len}
+use Rattle.std.specs.Prelude.{◌≡◌, ℕ, ◌+◌, ◌*◌, ◌<◌, ◌≤◌, ◌==◌, Bool, true, false, not, ◌&&◌, ◌||◌, is_none, Option, Some, None, Result, Ok, Err, List, [], ◌∷◌, ◌++◌, length, take, drop, map, nat_lt, slice_index, option_to_list, if◌then◌else◌}
+use Rattle.std.specs.List.{list_any}
 use Rattle.vp_esc.specs.declared.item.EscItem.{EscItem}
 use Rattle.vp_esc.specs.declared.item.EscItem.TheVariants as items
 use Rattle.vp_dots.specs.declared.fault.Fault.{Fault}
@@ -17,7 +17,7 @@ use Rattle.vp_esc.specs.declared.reader.Phase.{Phase}
 use Rattle.vp_esc.specs.declared.reader.Phase.TheVariants.{Ground, AfterLead, Arguments, Stops, Bytes, TallColumns, SymbolToZero, SymbolData, Qr, Stopped}
 use Rattle.vp_esc.specs.Values.{is_kind_to_zero, column_mode_of, column_bytes}
 use Rattle.vp_esc.specs.Command.{lead_of, lead_byte, command_of, head_len, is_listed}
-use Rattle.vp_esc.specs.Units.{is_open, given, fault_in, rises_from, data_len, given_by, word_at, is_counted, single_item}
+use Rattle.vp_esc.specs.Units.{is_open, given, fault_in, rises_from, data_len, given_by, word_at, is_counted, single_item, prints_rows, is_skipped}
 use Rattle.vp_esc.specs.Split.{split}
 
 -- the last number, or d
@@ -46,16 +46,6 @@ pub record HasLeft (command : Command) (args : List ℕ) (left : ℕ) : Type 0 w
 abbrev pub raster_items : List ℕ → List EscItem
 raster_items bytes = map (λ b. items.RasterByte b) bytes
 
--- how many of its bytes come before the last one
-abbrev pub bytes_within : Phase → ℕ
-bytes_within (Bytes kinds.Raster left) = left - 1
-bytes_within _ = 0
-
--- how many bytes of data that give nothing come before the last one
-abbrev pub skipped_within : Phase → ℕ
-skipped_within (Bytes kinds.Skipped left) = left - 1
-skipped_within _ = 0
-
 -- a character, or a control that does nothing: no lead of a command, and no HT, LF, FF or CAN
 abbrev pub is_text : ℕ → Bool
 is_text b = is_none (lead_of b) && not (b == 0x09 || b == 0x0A || b == 0x0C || b == 0x18)
@@ -63,11 +53,6 @@ is_text b = is_none (lead_of b) && not (b == 0x09 || b == 0x0A || b == 0x0C || b
 -- what they give
 abbrev pub text_items : List ℕ → List EscItem
 text_items bytes = map (λ b. single_item b) bytes
-
--- how many of them stand at the front of an input, between commands
-abbrev pub text_front : Phase → List ℕ → ℕ
-text_front Ground input = prefix_len is_text input
-text_front _ input = 0
 
 -- what the bytes of data give, one by one
 abbrev pub data_items : Data → List ℕ → List EscItem
@@ -80,6 +65,15 @@ abbrev pub data_item : Data → ℕ → Option EscItem
 data_item kinds.Skipped b = None
 data_item kinds.Raster b = Some (items.RasterByte b)
 data_item kinds.Columns b = Some (items.Column8 b)
+
+-- bytes of a raster that is printed
+abbrev pub are_rows : Data → Bool
+are_rows kinds.Raster = true
+are_rows _ = false
+
+abbrev pub give_nothing : Data → Bool
+give_nothing kinds.Skipped = true
+give_nothing _ = false
 
 -- the phase before so many bytes of data
 abbrev pub bytes_or_ground : Data → ℕ → Phase
@@ -118,6 +112,8 @@ pub record InBytes (r : EscReader) (kind : Data) (left : ℕ) (rest : List ℕ) 
   pub begun : Begun r.lead r.name command args rest
   pub counted : is_counted command args ≡ true
   pub left_is : HasLeft command args left
+  pub rows : prints_rows command args ≡ are_rows kind
+  pub skipped : is_skipped command args ≡ give_nothing kind
   pub gives : (more : List ℕ) → given_by r.lead r.name command (args ++ more) ≡ given_by r.lead r.name command args ++ data_items kind more
 
 pub record InTallColumns (r : EscReader) (left : ℕ) (rest : List ℕ) : Type 0 where

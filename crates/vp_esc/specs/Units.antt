@@ -1,5 +1,5 @@
 -- Units of the stream: when a front of one needs more bytes, and what it has given.
-use Rattle.std.specs.Prelude.{ℕ, ◌+◌, ◌*◌, ◌-◌, ◌==◌, Bool, true, false, not, ◌&&◌, Option, Some, None, List, [], ◌∷◌, length, take, drop, map, nat_lt, slice_index, if◌then◌else◌}
+use Rattle.std.specs.Prelude.{ℕ, ◌+◌, ◌*◌, ◌-◌, ◌==◌, Bool, true, false, not, ◌&&◌, Option, Some, None, is_some, is_none, List, [], ◌∷◌, length, take, drop, map, nat_lt, slice_index, if◌then◌else◌}
 use Rattle.std.specs.List.{list_any}
 use Rattle.std.specs.Int.{w16, cast_signed}
 use Rattle.vp_esc.specs.declared.item.EscItem.{EscItem}
@@ -153,6 +153,18 @@ columns Double24 bytes = tall_columns bytes
 abbrev pub raster_bytes : Option RasterScale → List ℕ → List EscItem
 raster_bytes None bytes = []
 raster_bytes (Some scale) bytes = map (λ b. items.RasterByte b) bytes
+
+-- a command whose data are the rows of a raster that is printed
+abbrev pub prints_rows : Command → List ℕ → Bool
+prints_rows Raster args = is_some (scale_of (slice_index args 1))
+prints_rows _ args = false
+
+-- a command whose data give nothing
+abbrev pub is_skipped : Command → List ℕ → Bool
+is_skipped Raster args = is_none (scale_of (slice_index args 1))
+is_skipped Function args = not (slice_index args 0 == 0x6B)
+is_skipped Graphics args = true
+is_skipped _ args = false
 
 -- an item that is given once the command is whole
 abbrev pub at_last : Bool → EscItem → List EscItem

@@ -2,7 +2,8 @@
 ghost use Rattle.std.specs.Prelude.{◌≡◌, ◌↔◌, ◌∷◌, ◌++◌, [], ℕ, List, IsTrue, true, false, Some, None, Err, length, take, min, ◌≤◌, ◌<◌, ◌+◌, ◌*◌};
 ghost use Rattle.std.specs.List.{AllByRecursion, prefix_len};
 ghost use Rattle.vp_esc.specs.Split.{split, items, fault_of};
-ghost use Rattle.vp_esc.specs.Reader.{Stands, Gives, Advances, InArguments, InStops, InBytes, InTallColumns, InSymbolToZero, InSymbolData, InQr, Begun, Lands, StandsIn, data_item, bytes_or_ground, tall_or_ground, columns_or_ground, qr_or_ground, raster_data, raster_items, bytes_within, skipped_within, is_text, text_items, text_front};
+ghost use Rattle.vp_esc.specs.Reader.{Stands, Gives, Advances, InArguments, InStops, InBytes, InTallColumns, InSymbolToZero, InSymbolData, InQr, Begun, Lands, StandsIn, data_item, bytes_or_ground, tall_or_ground, columns_or_ground, qr_or_ground, raster_data, raster_items, is_text, text_items};
+ghost use Rattle.vp_esc.specs.Runs.{raster_left, skipped_left, text_front};
 ghost use Rattle.vp_dots.specs.declared.fault.Fault.{Fault};
 ghost use Rattle.vp_esc.specs.Command.{lead_byte, head_len};
 ghost use Rattle.vp_esc.specs.Values.{is_kind_to_zero as is_to_zero};
@@ -378,7 +379,9 @@ impl EscReader {
 
     /// Takes bytes of a raster that is printed, all but its last, and tells how many; none anywhere else.
     pub fn take_raster(&mut self, input: &[u8]) -> usize
-        ensures count { result ≡ min (length input.now) (bytes_within self.old.phase) }
+        ensures count { (bytes : List ℕ) → Stands self.old bytes →
+            result ≡ min (length input.now) (raster_left bytes) }
+        ensures fits { result ≤ length input.now }
         ensures gives { (bytes : List ℕ) (n : ℕ) → Stands self.old bytes → n ≤ result →
             items (bytes ++ take n input.now) ≡ items bytes ++ raster_items (take n input.now) }
         ensures known { (bytes : List ℕ) (n : ℕ) → Stands self.old bytes → 0 < n → n ≤ result → fault_of (bytes ++ take n input.now) ≡ None }
@@ -401,7 +404,9 @@ impl EscReader {
 
     /// Takes bytes of data that give nothing, all but the last, and tells how many; none anywhere else.
     pub fn take_skipped(&mut self, input: &[u8]) -> usize
-        ensures count { result ≡ min (length input.now) (skipped_within self.old.phase) }
+        ensures count { (bytes : List ℕ) → Stands self.old bytes →
+            result ≡ min (length input.now) (skipped_left bytes) }
+        ensures fits { result ≤ length input.now }
         ensures gives { (bytes : List ℕ) (n : ℕ) → Stands self.old bytes → n ≤ result →
             items (bytes ++ take n input.now) ≡ items bytes }
         ensures known { (bytes : List ℕ) (n : ℕ) → Stands self.old bytes → 0 < n → n ≤ result →
@@ -428,7 +433,7 @@ impl EscReader {
     /// Takes the text at the front, characters and controls that do nothing, and tells how many bytes it has;
     /// none inside a command.
     pub fn take_text(&mut self, input: &[u8]) -> usize
-        ensures count { result ≡ text_front self.old.phase input.now }
+        ensures count { (bytes : List ℕ) → Stands self.old bytes → result ≡ text_front bytes input.now }
         ensures fits { result ≤ length input.now }
         ensures text { AllByRecursion (λ b. is_text b ≡ true) (take result input.now) }
         ensures gives { (bytes : List ℕ) (n : ℕ) → Stands self.old bytes → n ≤ result →

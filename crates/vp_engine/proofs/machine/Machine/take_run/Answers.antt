@@ -72,7 +72,7 @@ returns-else-text-gt0-clause-takes c = at_receipt _ _ _ _ c.in-Receipt.is (λ s 
     let input = c.args.input.now in
     let within : room ≤ length input = omega (arith, c.min-room-in-Receipt.ensures) in
     let long : length (take room input) ≡ room = length-take-le room input within in
-    let less : n ≤ room = omega (arith, e.count, long) in
+    let less : n ≤ room = omega (arith, e.fits, long) in
     let idle : EscStands c.take_skipped-skipped.new.self t = still_stands c.take_skipped-skipped.new.self t input c.take_skipped-skipped.result (omega (arith, c.if-skipped-gt0.false)) (c.take_skipped-skipped.ensures.stands t at.0) in
     let still : EscStands c.take_text-text.new.self t = still_stands c.take_text-text.new.self t (take c.min-room.result input) c.take_text-text.result (omega (arith, c.if-text-gt0.false)) (c.take_text-text.ensures.stands t idle) in
     let front : take n (take room input) ≡ take n input = take-take n room input less in
@@ -90,7 +90,7 @@ pub returns-in-ReceiptLines-clause-rest : goal.returns-in-ReceiptLines-clause-re
 returns-in-ReceiptLines-clause-rest c =
     let n = c.take_raster-n-in-ReceiptLines.result in
     let bytes = take n c.args.input.now in
-    let short : length bytes ≡ n = length-take-le n c.args.input.now (omega (arith, c.take_raster-n-in-ReceiptLines.ensures.count, length-take-le c.min-room-in-ReceiptLines.result c.args.input.now (omega (arith, c.min-room-in-ReceiptLines.ensures)), c.min-room-in-ReceiptLines.ensures)) in
+    let short : length bytes ≡ n = length-take-le n c.args.input.now (omega (arith, c.take_raster-n-in-ReceiptLines.ensures.fits, length-take-le c.min-room-in-ReceiptLines.result c.args.input.now (omega (arith, c.min-room-in-ReceiptLines.ensures)), c.min-room-in-ReceiptLines.ensures)) in
     ap (drop (8 * n)) c.put_bytes.ensures.bytes ∙ drop_at (byte_lines bytes) (drop (8 * length bytes) c.args.output.now) (8 * n) (omega (arith, lines_length bytes, short))
     ∙ ap (λ k. drop (8 * k) c.args.output.now) short
 
@@ -102,7 +102,7 @@ returns-in-ReceiptLines-clause-takes c =
     let input = c.args.input.now in
     let within : room ≤ length input = omega (arith, c.min-room-in-ReceiptLines.ensures) in
     let long : length (take room input) ≡ room = length-take-le room input within in
-    let less : n ≤ room = omega (arith, e.count, long) in
+    let less : n ≤ room = omega (arith, e.fits, long) in
     let front : take n (take room input) ≡ take n input = take-take n room input less in
     let short : length (take n input) ≡ n = length-take-le n input (omega arith) in
     let text : byte_lines (take n input) ≡ take (8 * n) c.put_bytes.new.output =

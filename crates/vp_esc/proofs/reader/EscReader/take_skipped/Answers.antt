@@ -1,11 +1,36 @@
-use Rattle.std.proofs.Common.{◌≡◌, ◌-◌, ◌++◌, length, take, ap, subst, ◌∙◌, arith}
+use Rattle.std.proofs.Common.{◌≡◌, ◌-◌, ◌++◌, length, take, min, ap, subst, rules, ◌∙◌, arith}
 use Rattle.std.proofs.lemmas.List.{length-take-le, append-nil}
 use Rattle.vp_esc.specs.declared.reader.Data.TheVariants as kinds
 use Rattle.vp_esc.specs.declared.reader.Phase.TheVariants as phases
-use Rattle.vp_esc.specs.Reader.{Stands}
-use Rattle.vp_esc.specs.Split.{items}
+use Rattle.vp_esc.specs.Reader.{Stands, give_nothing}
+use Rattle.vp_esc.specs.Split.{split, items}
+use Rattle.vp_esc.proofs.Lefts.{left_by, skipped_left_is}
 use Rattle.vp_esc.proofs.Runs.{front, before_bytes}
 use Rattle.vp_esc.proofs.reader.EscReader.take_skipped.Goals as goal
+
+pub returns-in-Bytes-Skipped-default-clause-count : goal.returns-in-Bytes-Skipped-default-clause-count
+unfolding Stands
+returns-in-Bytes-Skipped-default-clause-count c bytes s =
+    let r = c.args.self.now in
+    let left = c.in-Bytes-Skipped-default.left in
+    let kind : c.in-Bytes-Skipped-default.kind ≡ kinds.Skipped = rw c.in-Bytes-Skipped-default.is at c.in-Bytes-Skipped-default.kind-is in
+    let phase : r.phase ≡ phases.Bytes kinds.Skipped left = c.in-Bytes-Skipped-default.is ∙ ap (λ k. phases.Bytes k left) kind in
+    let e = skipped_left_is r.phase r (split bytes).rest s ∙ ap (left_by give_nothing) phase in
+    rw e (omega (arith, c.min-skipped.ensures, c.saturating_sub.ensures))
+
+pub returns-in_default-clause-count : goal.returns-in_default-clause-count
+unfolding Stands
+returns-in_default-clause-count c bytes s =
+    let r = c.args.self.now in
+    let none : 0 ≡ min (length c.args.input.now) (left_by give_nothing r.phase) = search rules in
+    rw (skipped_left_is r.phase r (split bytes).rest s) none
+
+pub returns-in_default-2-clause-count : goal.returns-in_default-2-clause-count
+unfolding Stands
+returns-in_default-2-clause-count c bytes s =
+    let r = c.args.self.now in
+    let none : 0 ≡ min (length c.args.input.now) (left_by give_nothing r.phase) = search rules in
+    rw (skipped_left_is r.phase r (split bytes).rest s) none
 
 pub returns-in-Bytes-Skipped-default-clause-gives : goal.returns-in-Bytes-Skipped-default-clause-gives
 returns-in-Bytes-Skipped-default-clause-gives c bytes n s h =

@@ -1,9 +1,22 @@
-use Rattle.std.proofs.Common.{◌≡◌, take, length, arith}
+use Rattle.std.proofs.Common.{◌≡◌, [], take, length, refl, sym, ◌∙◌, arith}
 use Rattle.std.proofs.lemmas.List.{length-take-le}
 use Rattle.std.proofs.lemmas.List.Sums.{prefix_len-le-length}
-use Rattle.vp_esc.specs.Reader.{is_text}
+use Rattle.vp_esc.specs.Split.{split}
+use Rattle.vp_esc.proofs.Lefts.{no_text}
+use Rattle.vp_esc.proofs.Rests.{rests}
+use Rattle.vp_esc.specs.Reader.{Stands, is_text}
 use Rattle.vp_esc.proofs.Texts.{front_passes, ran}
 use Rattle.vp_esc.proofs.reader.EscReader.take_text.Goals as goal
+
+pub returns-in-Ground-clause-count : goal.returns-in-Ground-clause-count
+unfolding Stands
+returns-in-Ground-clause-count c bytes s =
+    let empty : (split bytes).rest ≡ [] = rw c.in-Ground.is at s in c.text_len.ensures ∙ rw empty refl
+
+pub returns-in_default-clause-count : goal.returns-in_default-clause-count
+unfolding Stands
+returns-in_default-clause-count c bytes s =
+    sym (no_text (split bytes).rest c.args.input.now (rests c.args.self.now _ c.in_default.not-Ground s))
 
 pub returns-in-Ground-clause-fits : goal.returns-in-Ground-clause-fits
 returns-in-Ground-clause-fits c = omega (arith, c.text_len.ensures, prefix_len-le-length is_text c.args.input.now)

@@ -1,0 +1,115 @@
+-- What is left of the data that stand open, by the reader's phase.
+use Rattle.std.proofs.Common.{◌≡◌, ℕ, ◌-◌, Bool, true, false, cond, ltb, ◌&&◌, Option, Some, None, List, [], ◌∷◌, length, get_or, refl, ap, ◌∙◌, arith}
+use Rattle.std.proofs.lemmas.Bool.Decides.{nat_tests}
+use Rattle.vp_dots.specs.declared.fault.Fault.{Fault}
+use Rattle.vp_dots.specs.declared.fault.Fault.TheVariants.{Unknown}
+use Rattle.vp_esc.specs.declared.item.Lead.{Lead}
+use Rattle.vp_esc.specs.declared.command.Command.{Command}
+use Rattle.vp_esc.specs.declared.command.Command.TheVariants.{TabStops, Columns, Symbol, Function}
+use Rattle.vp_esc.specs.declared.reader.EscReader.{EscReader}
+use Rattle.vp_esc.specs.declared.reader.Data.{Data}
+use Rattle.vp_esc.specs.declared.reader.Phase.{Phase}
+use Rattle.vp_esc.specs.declared.reader.Phase.TheVariants as phases
+use Rattle.vp_esc.specs.Command.{lead_of, command_of, head_len, is_listed}
+use Rattle.vp_esc.specs.Units.{prints_rows, is_skipped, fault_in, fault_after, is_listed_name}
+use Rattle.vp_esc.specs.Reader.{in_phase, Begun, HasLeft, InArguments, InBytes, are_rows, give_nothing}
+use Rattle.vp_esc.specs.Runs.{left_in, left_after, left_named, left_before_last, text_in}
+use Rattle.vp_esc.proofs.Fronts.{lead_of-lead_byte}
+
+-- of the data of these kinds, by the phase
+abbrev pub left_by : (Data → Bool) → Phase → ℕ
+left_by are (phases.Bytes kind left) = cond (are kind) (left - 1) 0
+left_by are _ = 0
+
+-- The commands that are meant are those with data of these kinds.
+record IsTied (is_meant : Command → List ℕ → Bool) (are : Data → Bool) : Type 0 where
+  stops : (args : List ℕ) → is_meant TabStops args ≡ false
+  columns : (args : List ℕ) → is_meant Columns args ≡ false
+  symbol : (args : List ℕ) → is_meant Symbol args ≡ false
+  qr : (args : List ℕ) → get_or args 0 0 ≡ 107 → is_meant Function args ≡ false
+  bytes : (r : EscReader) (kind : Data) (left : ℕ) (rest : List ℕ) (hand : InBytes r kind left rest) → is_meant hand.command hand.args ≡ are kind
+
+left_begun : (is_meant : Command → List ℕ → Bool) {lead : Lead} {name : ℕ} {command : Command} {args rest : List ℕ}
+    → Begun lead name command args rest → left_in is_meant rest ≡ cond (is_meant command args) (left_before_last command args) 0
+unfolding left_in
+left_begun is_meant b = rw b.bytes (rw lead_of-lead_byte (rw b.named (rw b.listed refl)))
+
+-- of another command
+none_other : (is_meant : Command → List ℕ → Bool) {lead : Lead} {name : ℕ} {command : Command} {args rest : List ℕ}
+    → Begun lead name command args rest → is_meant command args ≡ false → left_in is_meant rest ≡ 0
+none_other is_meant b e = left_begun is_meant b ∙ rw e refl
+
+none_either : (b : Bool) (n : ℕ) → n ≡ 0 → cond b n 0 ≡ 0
+none_either true n e = e
+none_either false n e = refl
+
+-- in the head
+none_in_head : (is_meant : Command → List ℕ → Bool) (r : EscReader) (command : Command) (rest : List ℕ)
+    → InArguments r command rest → left_in is_meant rest ≡ 0
+none_in_head is_meant r command rest hand =
+    let args = r.kept.items in
+    let short : ltb (length args) (head_len command args) ≡ true = grind (arith, nat_tests, hand.few) in
+    left_begun is_meant hand.begun ∙ none_either (is_meant command args) _ (rw short refl)
+
+left_of : (command : Command) (args : List ℕ) (left : ℕ) → HasLeft command args left → left_before_last command args ≡ left - 1
+left_of command args left h =
+    let behind : ltb (length args) (head_len command args) ≡ false = grind (arith, nat_tests, h.head) in
+    rw behind (omega (arith, h.count, h.some_left, h.head))
+
+by_listed : (listed meant : Bool) (n : ℕ) (x f : Fault) → cond listed None (Some x) ≡ Some f → cond (listed && meant) n 0 ≡ 0
+by_listed true meant n x f e = cc
+by_listed false meant n x f e = refl
+
+stopped_named : (is_meant : Command → List ℕ → Bool) (o : Option Command) (b c : ℕ) (args : List ℕ) (f : Fault)
+    → cond (is_listed_name o args) None (Some (Unknown b c)) ≡ Some f → left_named is_meant o args ≡ 0
+stopped_named is_meant None b c args f e = refl
+stopped_named is_meant (Some k) b c args f e = by_listed (is_listed k args) (is_meant k args) _ _ f e
+
+stopped_after : (is_meant : Command → List ℕ → Bool) (o : Option Lead) (b : ℕ) (bytes : List ℕ) (f : Fault)
+    → fault_after o b bytes ≡ Some f → left_after is_meant o bytes ≡ 0
+stopped_after is_meant None b bytes f e = refl
+stopped_after is_meant (Some lead) b [] f e = refl
+stopped_after is_meant (Some lead) b (c ∷ args) f e = stopped_named is_meant (command_of lead c) b c args f e
+
+none_stopped : (is_meant : Command → List ℕ → Bool) (rest : List ℕ) (f : Fault) → fault_in rest ≡ Some f → left_in is_meant rest ≡ 0
+unfolding left_in fault_in
+none_stopped is_meant [] f e = refl
+none_stopped is_meant (b ∷ bytes) f e = stopped_after is_meant (lead_of b) b bytes f e
+
+left_is : (is_meant : Command → List ℕ → Bool) (are : Data → Bool) → IsTied is_meant are → (p : Phase) (r : EscReader) (rest : List ℕ)
+    → in_phase p r rest → left_in is_meant rest ≡ left_by are p
+unfolding left_in
+left_is is_meant are tied phases.Ground r rest h = rw h refl
+left_is is_meant are tied phases.AfterLead r rest h = rw h (rw lead_of-lead_byte refl)
+left_is is_meant are tied (phases.Arguments command) r rest h = none_in_head is_meant r command rest h
+left_is is_meant are tied (phases.Stops last) r rest h = none_other is_meant h.begun (tied.stops _)
+left_is is_meant are tied (phases.Bytes kind left) r rest h =
+    left_begun is_meant h.begun ∙ rw (tied.bytes r kind left rest h) (ap (λ n. cond (are kind) n 0) (left_of h.command h.args left h.left_is))
+left_is is_meant are tied (phases.TallColumns left) r rest h = none_other is_meant h.begun (tied.columns _)
+left_is is_meant are tied (phases.SymbolToZero kind more) r rest h = none_other is_meant h.begun (tied.symbol _)
+left_is is_meant are tied (phases.SymbolData kind left) r rest h = none_other is_meant h.begun (tied.symbol _)
+left_is is_meant are tied (phases.Qr count left) r rest h = none_other is_meant h.begun (tied.qr _ h.is_qr)
+left_is is_meant are tied (phases.Stopped fault) r rest h = none_stopped is_meant rest fault h
+
+pub rows_left_is : (p : Phase) (r : EscReader) (rest : List ℕ) → in_phase p r rest → left_in prints_rows rest ≡ left_by are_rows p
+rows_left_is p r rest h = left_is prints_rows are_rows (record {
+  stops = λ args. refl;
+  columns = λ args. refl;
+  symbol = λ args. refl;
+  qr = λ args e. refl;
+  bytes = λ r kind left rest hand. hand.rows;
+}) p r rest h
+
+pub skipped_left_is : (p : Phase) (r : EscReader) (rest : List ℕ) → in_phase p r rest → left_in is_skipped rest ≡ left_by give_nothing p
+skipped_left_is p r rest h = left_is is_skipped give_nothing (record {
+  stops = λ args. refl;
+  columns = λ args. refl;
+  symbol = λ args. refl;
+  qr = λ args e. rw e refl;
+  bytes = λ r kind left rest hand. hand.skipped;
+}) p r rest h
+
+-- text in a command
+pub no_text : (rest input : List ℕ) → (rest ≡ [] → ⊥) → text_in rest input ≡ 0
+no_text [] input some = absurd (some refl)
+no_text (b ∷ rest) input some = refl
