@@ -1,5 +1,6 @@
 pub mod Faults
 pub mod Fronts
+pub mod Kept
 pub mod Splits
 pub mod Divisions
 pub mod Heads

@@ -1,11 +1,14 @@
 -- The table of the commands: how each begins, and how many arguments come before any data.
-use Rattle.std.specs.Prelude.{ℕ, ◌==◌, ◌&&◌, ◌||◌, nat_le, Bool, true, Option, Some, None, List, [], ◌∷◌, slice_index, if◌then◌else◌}
+use Rattle.std.specs.Prelude.{ℕ, ◌==◌, ◌&&◌, ◌||◌, nat_le, Bool, true, Option, Some, None, List, [], ◌∷◌}
+use Rattle.std.specs.Prelude.{slice_index, if◌then◌else◌}
 use Rattle.vp_esc.specs.declared.item.Lead.{Lead}
 use Rattle.vp_esc.specs.declared.item.Lead.TheVariants.{Esc, Gs, Fs, Dle}
 use Rattle.vp_esc.specs.declared.command.Command.{Command}
-use Rattle.vp_esc.specs.declared.command.Command.TheVariants.{Plain, TabStops, Columns, Raster, Symbol, Function, Graphics}
+use Rattle.vp_esc.specs.declared.command.Command.TheVariants.{Plain, TabStops, Columns, Raster, Symbol}
+use Rattle.vp_esc.specs.declared.command.Command.TheVariants.{Function, Graphics}
 use Rattle.vp_esc.specs.declared.command.Plain.{Plain as PlainCommand}
-use Rattle.vp_esc.specs.declared.command.Plain.TheVariants.{Alone, OfByte, OfWord, Area, Cut, Sensor, RealTime, Unused}
+use Rattle.vp_esc.specs.declared.command.Plain.TheVariants.{Alone, OfByte, OfWord, Area, Cut, Sensor}
+use Rattle.vp_esc.specs.declared.command.Plain.TheVariants.{RealTime, Unused}
 use Rattle.vp_esc.specs.declared.command.Alone.TheVariants as alone
 use Rattle.vp_esc.specs.declared.command.OfByte.TheVariants as of_byte
 use Rattle.vp_esc.specs.declared.command.OfWord.TheVariants as of_word
@@ -15,7 +18,11 @@ use Rattle.vp_esc.specs.Values.{is_cut, is_feed_cut, is_column_mode, is_kind_to_
 
 abbrev pub lead_of : ℕ → Option Lead
 lead_of b =
-    if b == 0x1B then Some Esc else if b == 0x1D then Some Gs else if b == 0x1C then Some Fs else if b == 0x10 then Some Dle else None
+    if b == 0x1B then Some Esc
+    else if b == 0x1D then Some Gs
+    else if b == 0x1C then Some Fs
+    else if b == 0x10 then Some Dle
+    else None
 
 abbrev pub lead_byte : Lead → ℕ
 lead_byte Esc = 0x1B
@@ -51,7 +58,8 @@ esc_command b =
     else if b == 0x69 then Some (Plain (Alone alone.CutLeavingOnePoint))
     else if b == 0x6D then Some (Plain (Alone alone.CutLeavingThreePoints))
     else if b == 0x70 then Some (Plain (Unused arguments.Three))
-    else if b == 0x25 || b == 0x3D || b == 0x3F || b == 0x52 || b == 0x55 || b == 0x56 || b == 0x72 || b == 0x74 || b == 0x7B
+    else if b == 0x25 || b == 0x3D || b == 0x3F || b == 0x52 || b == 0x55
+    || b == 0x56 || b == 0x72 || b == 0x74 || b == 0x7B
     then Some (Plain (Unused arguments.One))
     else None
 
@@ -88,7 +96,9 @@ fs_command b =
 -- the byte after DLE
 abbrev pub dle_command : ℕ → Option Command
 dle_command b =
-    if b == 0x04 then Some (Plain RealTime) else if b == 0x05 then Some (Plain (Unused arguments.One)) else None
+    if b == 0x04 then Some (Plain RealTime)
+    else if b == 0x05 then Some (Plain (Unused arguments.One))
+    else None
 
 -- the commands by their first two bytes
 unfoldable pub command_of : Lead → ℕ → Option Command

@@ -7,5 +7,7 @@ pub mod Split
 pub mod Laws
 pub mod Lines
 pub mod Listings
+pub mod Shown
 pub mod Reader
 pub mod Runs
+pub mod Lent

@@ -1,5 +1,6 @@
 -- The listing: a line for each item.
-use Rattle.std.specs.Prelude.{ℕ, ◌+◌, ◌/◌, ◌%◌, List, [], ◌∷◌, ◌++◌, length, codes, option_to_list, if◌then◌else◌}
+use Rattle.std.specs.Prelude.{ℕ, ◌+◌, ◌/◌, ◌%◌, List, [], ◌∷◌, ◌++◌, length, codes, option_to_list}
+use Rattle.std.specs.Prelude.{if◌then◌else◌}
 use Rattle.std.specs.Int.{w16, cast_unsigned}
 use Rattle.vp_dots.specs.Listing.{listed}
 use Rattle.vp_esc.specs.declared.item.EscItem.{EscItem}
@@ -99,10 +100,12 @@ line_of (items.FeedAndCut m n) = listed (codes "gs") (0x56 ∷ m.byte ∷ n ∷ 
 line_of (items.Raster m x y) = listed (codes "gs") (0x76 ∷ 0x30 ∷ m.byte ∷ (two_bytes x ++ two_bytes y))
 line_of (items.RasterByte b) = listed (codes "byte") (b ∷ [])
 line_of (items.Symbol kind bytes more) = listed (codes "gs") (symbol_bytes kind.byte bytes.items)
-line_of (items.QrModel model) = listed (codes "gs") (0x28 ∷ 0x6B ∷ 4 ∷ 0 ∷ 49 ∷ 65 ∷ model_byte model ∷ 0 ∷ [])
+line_of (items.QrModel model) =
+    listed (codes "gs") (0x28 ∷ 0x6B ∷ 4 ∷ 0 ∷ 49 ∷ 65 ∷ model_byte model ∷ 0 ∷ [])
 line_of (items.QrModule n) = listed (codes "gs") (0x28 ∷ 0x6B ∷ 3 ∷ 0 ∷ 49 ∷ 67 ∷ n ∷ [])
 line_of (items.QrLevel level) = listed (codes "gs") (0x28 ∷ 0x6B ∷ 3 ∷ 0 ∷ 49 ∷ 69 ∷ level_byte level ∷ [])
-line_of (items.QrStore count) = listed (codes "gs") (0x28 ∷ 0x6B ∷ (two_bytes (count + 3) ++ 49 ∷ 80 ∷ 48 ∷ []))
+line_of (items.QrStore count) =
+    listed (codes "gs") (0x28 ∷ 0x6B ∷ (two_bytes (count + 3) ++ 49 ∷ 80 ∷ 48 ∷ []))
 line_of (items.QrByte b) = listed (codes "byte") (b ∷ [])
 line_of items.QrPrint = listed (codes "gs") (0x28 ∷ 0x6B ∷ 3 ∷ 0 ∷ 49 ∷ 81 ∷ 48 ∷ [])
 line_of (items.QrIgnored bytes) = listed (codes "gs") (0x28 ∷ 0x6B ∷ bytes.items)

@@ -1,5 +1,6 @@
 -- GS ( k: what the bytes behind the count have given.
-use Rattle.std.specs.Prelude.{ℕ, ◌-◌, ◌/◌, ◌%◌, ◌==◌, Bool, ◌&&◌, ◌||◌, Option, Some, None, List, [], ◌∷◌, map, nat_le, if◌then◌else◌}
+use Rattle.std.specs.Prelude.{ℕ, ◌-◌, ◌/◌, ◌%◌, ◌==◌, Bool, ◌&&◌, ◌||◌, Option, Some, None, List, [], ◌∷◌}
+use Rattle.std.specs.Prelude.{map, nat_le, if◌then◌else◌}
 use Rattle.vp_esc.specs.declared.item.EscItem.{EscItem}
 use Rattle.vp_esc.specs.declared.item.EscItem.TheVariants as items
 use Rattle.vp_esc.specs.declared.item.QrModel.{QrModel}
@@ -20,11 +21,13 @@ ignored count bytes = items.QrIgnored (record { items = count % 256 ∷ count / 
 abbrev pub model_items : ℕ → ℕ → ℕ → Option QrModel → List ℕ → List EscItem
 model_items count cn n None more = ignored count (cn ∷ 65 ∷ n ∷ []) ∷ []
 model_items count cn n (Some model) [] = []
-model_items count cn n (Some model) (z ∷ more) = (if z == 0 then items.QrModel model else ignored count (cn ∷ 65 ∷ n ∷ z ∷ [])) ∷ []
+model_items count cn n (Some model) (z ∷ more) =
+    (if z == 0 then items.QrModel model else ignored count (cn ∷ 65 ∷ n ∷ z ∷ [])) ∷ []
 
 -- function 67
 abbrev pub module_item : ℕ → ℕ → ℕ → EscItem
-module_item count cn n = if nat_le 1 n && nat_le n 16 then items.QrModule n else ignored count (cn ∷ 67 ∷ n ∷ [])
+module_item count cn n =
+    if nat_le 1 n && nat_le n 16 then items.QrModule n else ignored count (cn ∷ 67 ∷ n ∷ [])
 
 -- function 69
 abbrev pub level_item : ℕ → ℕ → ℕ → Option QrLevel → EscItem
@@ -34,7 +37,8 @@ level_item count cn n (Some level) = items.QrLevel level
 -- function 80: 48, and then the bytes to be stored
 abbrev pub store_items : ℕ → ℕ → ℕ → List ℕ → List EscItem
 store_items count cn n more =
-    if n == 48 then items.QrStore (count - 3) ∷ map (λ b. items.QrByte b) more else ignored count (cn ∷ 80 ∷ n ∷ []) ∷ []
+    if n == 48 then items.QrStore (count - 3) ∷ map (λ b. items.QrByte b) more
+    else ignored count (cn ∷ 80 ∷ n ∷ []) ∷ []
 
 -- function 81
 abbrev pub print_item : ℕ → ℕ → ℕ → EscItem
@@ -53,6 +57,8 @@ value_items count cn function n more =
 unfoldable pub qr_items : ℕ → List ℕ → List EscItem
 qr_items count [] = if count == 0 then ignored count [] ∷ [] else []
 qr_items count (cn ∷ []) = if count == 1 then ignored count (cn ∷ []) ∷ [] else []
-qr_items count (cn ∷ function ∷ []) = if is_qr_function cn function count then [] else ignored count (cn ∷ function ∷ []) ∷ []
+qr_items count (cn ∷ function ∷ []) =
+    if is_qr_function cn function count then [] else ignored count (cn ∷ function ∷ []) ∷ []
 qr_items count (cn ∷ function ∷ n ∷ more) =
-    if is_qr_function cn function count then value_items count cn function n more else ignored count (cn ∷ function ∷ []) ∷ []
+    if is_qr_function cn function count then value_items count cn function n more
+    else ignored count (cn ∷ function ∷ []) ∷ []

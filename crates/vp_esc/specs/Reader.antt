@@ -1,5 +1,7 @@
 -- What a reader holds, beside the bytes that it has taken.
-use Rattle.std.specs.Prelude.{◌≡◌, ℕ, ◌+◌, ◌*◌, ◌<◌, ◌≤◌, ◌==◌, Bool, true, false, not, ◌&&◌, ◌||◌, is_none, Option, Some, None, Result, Ok, Err, List, [], ◌∷◌, ◌++◌, length, take, drop, map, nat_lt, slice_index, option_to_list, if◌then◌else◌}
+use Rattle.std.specs.Prelude.{◌≡◌, ℕ, ◌+◌, ◌*◌, ◌<◌, ◌≤◌, ◌==◌, Bool, true, false, not, ◌&&◌, ◌||◌, is_none}
+use Rattle.std.specs.Prelude.{Option, Some, None, Result, Ok, Err, List, [], ◌∷◌, ◌++◌, length, take, drop}
+use Rattle.std.specs.Prelude.{map, nat_lt, slice_index, option_to_list, if◌then◌else◌}
 use Rattle.std.specs.List.{list_any}
 use Rattle.vp_esc.specs.declared.item.EscItem.{EscItem}
 use Rattle.vp_esc.specs.declared.item.EscItem.TheVariants as items
@@ -14,10 +16,12 @@ use Rattle.vp_esc.specs.declared.reader.EscReader.{EscReader}
 use Rattle.vp_esc.specs.declared.reader.Data.{Data}
 use Rattle.vp_esc.specs.declared.reader.Data.TheVariants as kinds
 use Rattle.vp_esc.specs.declared.reader.Phase.{Phase}
-use Rattle.vp_esc.specs.declared.reader.Phase.TheVariants.{Ground, AfterLead, Arguments, Stops, Bytes, TallColumns, SymbolToZero, SymbolData, Qr, Stopped}
+use Rattle.vp_esc.specs.declared.reader.Phase.TheVariants.{Ground, AfterLead, Arguments, Stops, Bytes}
+use Rattle.vp_esc.specs.declared.reader.Phase.TheVariants.{TallColumns, SymbolToZero, SymbolData, Qr, Stopped}
 use Rattle.vp_esc.specs.Values.{is_kind_to_zero, column_mode_of, column_bytes}
 use Rattle.vp_esc.specs.Command.{lead_of, lead_byte, command_of, head_len, is_listed}
-use Rattle.vp_esc.specs.Units.{is_open, given, fault_in, rises_from, data_len, given_by, word_at, is_counted, single_item, prints_rows, is_skipped}
+use Rattle.vp_esc.specs.Units.{is_open, given, fault_in, rises_from, data_len, given_by, word_at, is_counted}
+use Rattle.vp_esc.specs.Units.{single_item, prints_rows, is_skipped}
 use Rattle.vp_esc.specs.Split.{split}
 
 -- the last number, or d
@@ -114,7 +118,8 @@ pub record InBytes (r : EscReader) (kind : Data) (left : ℕ) (rest : List ℕ) 
   pub left_is : HasLeft command args left
   pub rows : prints_rows command args ≡ are_rows kind
   pub skipped : is_skipped command args ≡ give_nothing kind
-  pub gives : (more : List ℕ) → given_by r.lead r.name command (args ++ more) ≡ given_by r.lead r.name command args ++ data_items kind more
+  pub gives : (more : List ℕ) → given_by r.lead r.name command (args ++ more)
+      ≡ given_by r.lead r.name command args ++ data_items kind more
 
 pub record InTallColumns (r : EscReader) (left : ℕ) (rest : List ℕ) : Type 0 where
   pub args : List ℕ
@@ -176,7 +181,8 @@ abbrev pub rest_of : List ℕ → List ℕ
 rest_of front = if is_open front then front else []
 
 -- from this rest, by this byte, to new
-pub record Advances (result : Result (Option EscItem) Fault) (rest : List ℕ) (c : ℕ) (new : EscReader) : Type 0 where
+pub record Advances (result : Result (Option EscItem) Fault) (rest : List ℕ) (c : ℕ) (new : EscReader)
+    : Type 0 where
   pub gives : Gives result (given rest) (given (rest ++ c ∷ [])) (fault_in (rest ++ c ∷ []))
   pub stands : StandsIn new (rest_of (rest ++ c ∷ []))
 

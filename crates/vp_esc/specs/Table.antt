@@ -1,12 +1,16 @@
 -- The table's rows, each with all its bytes, said apart from how a stream is divided.
-use Rattle.std.specs.Prelude.{◌≡◌, ◌⊎◌, ℕ, ◌+◌, ◌*◌, ◌<◌, ◌≤◌, ◌==◌, true, false, Some, None, List, [], ◌∷◌, ◌++◌, length}
+use Rattle.std.specs.Prelude.{◌≡◌, ◌⊎◌, ℕ, ◌+◌, ◌*◌, ◌<◌, ◌≤◌, ◌==◌, true, false, Some, None, List, [], ◌∷◌}
+use Rattle.std.specs.Prelude.{◌++◌, length}
 use Rattle.std.specs.List.{list_any}
 use Rattle.vp_esc.specs.declared.item.Lead.{Lead}
 use Rattle.vp_esc.specs.declared.command.Command.{Command}
-use Rattle.vp_esc.specs.declared.command.Command.TheVariants.{Plain, TabStops, Columns, Raster, Symbol, Function, Graphics}
+use Rattle.vp_esc.specs.declared.command.Command.TheVariants.{Plain, TabStops, Columns, Raster, Symbol}
+use Rattle.vp_esc.specs.declared.command.Command.TheVariants.{Function, Graphics}
 use Rattle.vp_esc.specs.declared.command.Plain.{Plain as PlainCommand}
-use Rattle.vp_esc.specs.declared.command.Plain.TheVariants.{Alone, OfByte, OfWord, Area, Cut, Sensor, RealTime, Unused}
-use Rattle.vp_esc.specs.Values.{is_cut, is_feed_cut, is_column_mode, column_mode_of, column_bytes, is_kind_to_zero, is_kind_counted}
+use Rattle.vp_esc.specs.declared.command.Plain.TheVariants.{Alone, OfByte, OfWord, Area, Cut, Sensor}
+use Rattle.vp_esc.specs.declared.command.Plain.TheVariants.{RealTime, Unused}
+use Rattle.vp_esc.specs.Values.{is_cut, is_feed_cut, is_column_mode, column_mode_of, column_bytes}
+use Rattle.vp_esc.specs.Values.{is_kind_to_zero, is_kind_counted}
 use Rattle.vp_esc.specs.Command.{lead_of, lead_byte, command_of, count_of, has_second}
 use Rattle.vp_esc.specs.Units.{rises_from}
 use Rattle.vp_esc.specs.Reader.{last_or}

@@ -1,5 +1,7 @@
 -- Units of the stream: when a front of one needs more bytes, and what it has given.
-use Rattle.std.specs.Prelude.{ℕ, ◌+◌, ◌*◌, ◌-◌, ◌==◌, Bool, true, false, not, ◌&&◌, Option, Some, None, is_some, is_none, List, [], ◌∷◌, length, take, drop, map, nat_lt, slice_index, if◌then◌else◌}
+use Rattle.std.specs.Prelude.{ℕ, ◌+◌, ◌*◌, ◌-◌, ◌==◌, Bool, true, false, not, ◌&&◌, Option, Some, None}
+use Rattle.std.specs.Prelude.{is_some, is_none, List, [], ◌∷◌, length, take, drop, map, nat_lt, slice_index}
+use Rattle.std.specs.Prelude.{if◌then◌else◌}
 use Rattle.std.specs.List.{list_any}
 use Rattle.std.specs.Int.{w16, cast_signed}
 use Rattle.vp_esc.specs.declared.item.EscItem.{EscItem}
@@ -11,9 +13,11 @@ use Rattle.vp_esc.specs.declared.item.RasterScale.{RasterScale}
 use Rattle.vp_esc.specs.declared.item.ColumnMode.{ColumnMode}
 use Rattle.vp_esc.specs.declared.item.ColumnMode.TheVariants.{Single8, Double8, Single24, Double24}
 use Rattle.vp_esc.specs.declared.command.Command.{Command}
-use Rattle.vp_esc.specs.declared.command.Command.TheVariants.{Plain, TabStops, Columns, Raster, Symbol, Function, Graphics}
+use Rattle.vp_esc.specs.declared.command.Command.TheVariants.{Plain, TabStops, Columns, Raster, Symbol}
+use Rattle.vp_esc.specs.declared.command.Command.TheVariants.{Function, Graphics}
 use Rattle.vp_esc.specs.declared.command.Plain.{Plain as PlainCommand}
-use Rattle.vp_esc.specs.declared.command.Plain.TheVariants.{Alone, OfByte, OfWord, Area, Cut, Sensor, RealTime, Unused}
+use Rattle.vp_esc.specs.declared.command.Plain.TheVariants.{Alone, OfByte, OfWord, Area, Cut, Sensor}
+use Rattle.vp_esc.specs.declared.command.Plain.TheVariants.{RealTime, Unused}
 use Rattle.vp_esc.specs.declared.command.Alone.{Alone as AloneCommand}
 use Rattle.vp_esc.specs.declared.command.Alone.TheVariants as alone
 use Rattle.vp_esc.specs.declared.command.OfByte.{OfByte as OfByteCommand}
@@ -21,7 +25,8 @@ use Rattle.vp_esc.specs.declared.command.OfByte.TheVariants as of_byte
 use Rattle.vp_esc.specs.declared.command.OfWord.{OfWord as OfWordCommand}
 use Rattle.vp_esc.specs.declared.command.OfWord.TheVariants as of_word
 use Rattle.vp_esc.specs.Values
-use Rattle.vp_esc.specs.Values.{spelled, bit, is_feed_cut, is_kind_to_zero, column_mode_of, column_bytes, scale_of}
+use Rattle.vp_esc.specs.Values.{spelled, bit, is_feed_cut, is_kind_to_zero, column_mode_of, column_bytes}
+use Rattle.vp_esc.specs.Values.{scale_of}
 use Rattle.vp_esc.specs.Command.{lead_of, command_of, head_len, is_listed}
 use Rattle.vp_esc.specs.Qr.{qr_items}
 
@@ -58,11 +63,13 @@ is_counted TabStops args = false
 is_counted Symbol args = not (is_kind_to_zero (slice_index args 0))
 is_counted _ args = true
 
--- The command isn't whole. Tab stops end with one that doesn't rise, or the 32nd; the data of some symbols with a 0.
+-- The command isn't whole. Tab stops end with one that doesn't rise, or the 32nd; the data of some symbols
+-- with a 0.
 unfoldable pub needs_more : Command → List ℕ → Bool
 needs_more TabStops args = rises_from 0 args && nat_lt (length args) 32
 needs_more Symbol args =
-    if is_kind_to_zero (slice_index args 0) then not (list_any (λ b. b == 0) (drop 1 args)) else is_short Symbol args
+    if is_kind_to_zero (slice_index args 0) then not (list_any (λ b. b == 0) (drop 1 args))
+    else is_short Symbol args
 needs_more command args = is_short command args
 
 -- a command without effect, with the bytes after its lead
@@ -107,14 +114,16 @@ of_word_item of_word.AreaWidth n = items.AreaWidth n
 
 abbrev pub cut_item : ℕ → ℕ → EscItem
 cut_item m n =
-    if is_feed_cut m then items.FeedAndCut (spelled m (Values.cut_of m)) n else items.Cut (spelled m (Values.cut_of m))
+    if is_feed_cut m then items.FeedAndCut (spelled m (Values.cut_of m)) n
+    else items.Cut (spelled m (Values.cut_of m))
 
 -- a command without data, with its arguments
 abbrev pub plain_item : Lead → ℕ → PlainCommand → List ℕ → EscItem
 plain_item lead name (Alone command) args = alone_item command
 plain_item lead name (OfByte command) args = of_byte_item command (slice_index args 0)
 plain_item lead name (OfWord command) args = of_word_item command (word_at args 0)
-plain_item lead name Area args = items.Area (word_at args 0) (word_at args 2) (word_at args 4) (word_at args 6)
+plain_item lead name Area args =
+    items.Area (word_at args 0) (word_at args 2) (word_at args 4) (word_at args 6)
 plain_item lead name Cut args = cut_item (slice_index args 0) (slice_index args 1)
 plain_item lead name Sensor args = unused lead name args
 plain_item lead name RealTime args = unused lead name args
@@ -124,7 +133,8 @@ plain_item lead name (Unused count) args = unused lead name args
 abbrev pub stops_item : List ℕ → EscItem
 stops_item args =
     if rises_from 0 args then items.TabStops (record { items = args }) None
-    else items.TabStops (record { items = take (length args - 1) args }) (Some (slice_index args (length args - 1)))
+    else items.TabStops (record { items = take (length args - 1) args })
+    (Some (slice_index args (length args - 1)))
 
 -- the data of a symbol: up to a 0, or behind a count
 abbrev pub symbol_data : List ℕ → List ℕ
@@ -179,11 +189,14 @@ given_behind lead name Columns args =
     items.Columns (column_mode_of (slice_index args 0)) (word_at args 1)
     ∷ columns (column_mode_of (slice_index args 0)) (drop 3 args)
 given_behind lead name Raster args =
-    items.Raster (spelled (slice_index args 1) (scale_of (slice_index args 1))) (word_at args 2) (word_at args 4)
+    items.Raster (spelled (slice_index args 1) (scale_of (slice_index args 1)))
+    (word_at args 2) (word_at args 4)
     ∷ raster_bytes (scale_of (slice_index args 1)) (drop 6 args)
-given_behind lead name Symbol args = at_last (needs_more Symbol args) (symbol_of (slice_index args 0) (symbol_data args))
+given_behind lead name Symbol args =
+    at_last (needs_more Symbol args) (symbol_of (slice_index args 0) (symbol_data args))
 given_behind lead name Function args =
-    if slice_index args 0 == 0x6B then qr_items (word_at args 1) (drop 3 args) else unused lead name (take 3 args) ∷ []
+    if slice_index args 0 == 0x6B then qr_items (word_at args 1) (drop 3 args)
+    else unused lead name (take 3 args) ∷ []
 given_behind lead name Graphics args = unused lead name (take 5 args) ∷ []
 
 -- what the arguments so far have given
@@ -218,7 +231,8 @@ is_open (b ∷ bytes) = is_open_after (lead_of b) bytes
 
 abbrev pub given_named : Lead → ℕ → Option Command → List ℕ → List EscItem
 given_named lead name None args = []
-given_named lead name (Some command) args = if is_listed command args then given_by lead name command args else []
+given_named lead name (Some command) args =
+    if is_listed command args then given_by lead name command args else []
 
 abbrev pub given_after : Option Lead → ℕ → List ℕ → List EscItem
 given_after None b bytes = single_item b ∷ []
@@ -237,7 +251,8 @@ is_listed_name (Some command) args = is_listed command args
 abbrev pub fault_after : Option Lead → ℕ → List ℕ → Option Fault
 fault_after None b bytes = None
 fault_after (Some lead) b [] = None
-fault_after (Some lead) b (c ∷ args) = if is_listed_name (command_of lead c) args then None else Some (Unknown b c)
+fault_after (Some lead) b (c ∷ args) =
+    if is_listed_name (command_of lead c) args then None else Some (Unknown b c)
 
 -- these bytes begin no unit
 unfoldable pub fault_in : List ℕ → Option Fault

@@ -1,5 +1,6 @@
 -- What the bytes of arguments stand for, by the name of the command in Epson's reference.
-use Rattle.std.specs.Prelude.{ℕ, ◌+◌, ◌/◌, ◌%◌, ◌^◌, ◌==◌, Bool, ◌&&◌, nat_le, ◌||◌, Option, Some, None, if◌then◌else◌}
+use Rattle.std.specs.Prelude.{ℕ, ◌+◌, ◌/◌, ◌%◌, ◌^◌, ◌==◌, Bool, ◌&&◌, nat_le, ◌||◌, Option, Some, None}
+use Rattle.std.specs.Prelude.{if◌then◌else◌}
 use Rattle.vp_esc.specs.declared.item.Spelled.{Spelled}
 use Rattle.vp_esc.specs.declared.item.Font.{Font}
 use Rattle.vp_esc.specs.declared.item.Font.TheVariants.{A, B}
@@ -8,7 +9,8 @@ use Rattle.vp_esc.specs.declared.item.Underline.TheVariants.{Off, OneRow, TwoRow
 use Rattle.vp_esc.specs.declared.item.Justification.{Justification}
 use Rattle.vp_esc.specs.declared.item.Justification.TheVariants.{Left, Centre, Right}
 use Rattle.vp_esc.specs.declared.item.Direction.{Direction}
-use Rattle.vp_esc.specs.declared.item.Direction.TheVariants.{LeftToRight, BottomToTop, RightToLeft, TopToBottom}
+use Rattle.vp_esc.specs.declared.item.Direction.TheVariants.{LeftToRight, BottomToTop, RightToLeft}
+use Rattle.vp_esc.specs.declared.item.Direction.TheVariants.{TopToBottom}
 use Rattle.vp_esc.specs.declared.item.PrintMode.{PrintMode}
 use Rattle.vp_esc.specs.declared.item.Magnification.{Magnification}
 use Rattle.vp_esc.specs.declared.item.TextPlace.{TextPlace}
@@ -105,7 +107,8 @@ abbrev pub is_column_mode : ℕ → Bool
 is_column_mode m = m == 0 || m == 1 || m == 32 || m == 33
 
 abbrev pub column_mode_of : ℕ → ColumnMode
-column_mode_of m = if m == 0 then Single8 else if m == 1 then Double8 else if m == 32 then Single24 else Double24
+column_mode_of m =
+    if m == 0 then Single8 else if m == 1 then Double8 else if m == 32 then Single24 else Double24
 
 -- the bytes of a column
 abbrev pub column_bytes : ColumnMode → ℕ
@@ -140,7 +143,11 @@ bar_kind_of m =
 
 -- GS ( k, function 65
 abbrev pub qr_model_of : ℕ → Option QrModel
-qr_model_of n = if n == 49 then Some models.One else if n == 50 then Some models.Two else if n == 51 then Some models.Micro else None
+qr_model_of n =
+    if n == 49 then Some models.One
+    else if n == 50 then Some models.Two
+    else if n == 51 then Some models.Micro
+    else None
 
 -- GS ( k, function 69
 abbrev pub qr_level_of : ℕ → Option QrLevel

@@ -1,7 +1,10 @@
 //! The commands by their first two bytes, and how many arguments they have.
 ghost use Rattle.std.specs.Prelude.{◌≡◌, ◌≤◌, ◌<◌, ◌∷◌, length, slice_index};
-ghost use Rattle.vp_esc.specs.Command.{lead_of, lead_byte, command_of, esc_command, gs_command, fs_command, dle_command, count_of, has_second as has_second_as, plain_len, head_len, lists};
-ghost use Rattle.vp_esc.specs.Units.{alone_item, of_byte_item, of_word_item, cut_item as cut_item_as, plain_item, unused as unused_as};
+ghost use Rattle.vp_esc.specs.Command.{lead_of, lead_byte, command_of, esc_command, gs_command, fs_command};
+ghost use Rattle.vp_esc.specs.Command.{dle_command, count_of, has_second as has_second_as, plain_len};
+ghost use Rattle.vp_esc.specs.Command.{head_len, lists};
+ghost use Rattle.vp_esc.specs.Units.{alone_item, of_byte_item, of_word_item, cut_item as cut_item_as};
+ghost use Rattle.vp_esc.specs.Units.{plain_item};
 
 use crate::item::{EscItem, Lead};
 use crate::value::{
@@ -283,28 +286,32 @@ impl Plain {
         }
     }
 
-    /// What it does with these arguments, after this lead and the byte after it.
-    pub fn item(self, lead: Lead, name: u8, args: &[u8]) -> EscItem
+    /// Writes what it does with these arguments, after this lead and the byte after it.
+    pub fn write(self, lead: Lead, name: u8, args: &[u8], item: &mut EscItem)
         requires { length args.now ≡ plain_len self args.now }
-        ensures { result ≡ plain_item lead name self args.now }
+        ensures { item.new ≡ plain_item lead name self args.now }
     {
         match self {
-            Plain::Alone(command) => command.item(),
-            Plain::OfByte(command) => command.item(args[0]),
-            Plain::OfWord(command) => command.item(word(args[0], args[1])),
-            Plain::Area => EscItem::Area {
+            Plain::Alone(command) => *item = command.item(),
+            Plain::OfByte(command) => *item = command.item(args[0]),
+            Plain::OfWord(command) => *item = command.item(word(args[0], args[1])),
+            Plain::Area => *item = EscItem::Area {
                 x: word(args[0], args[1]),
                 y: word(args[2], args[3]),
                 width: word(args[4], args[5]),
                 height: word(args[6], args[7]),
             },
-            Plain::Cut => cut_item(args),
-            Plain::Sensor | Plain::RealTime | Plain::Unused(_) => unused(lead, name, args),
+            Plain::Cut => *item = cut_item(args),
+            Plain::Sensor | Plain::RealTime | Plain::Unused(_) => *item = EscItem::WithoutEffect {
+                lead,
+                bytes: unused(name, args),
+            },
         }
     }
 }
 
 impl Alone {
+    #[inline(always)]
     fn item(self) -> EscItem
         ensures { result ≡ alone_item self }
     {
@@ -321,6 +328,7 @@ impl Alone {
 }
 
 impl OfByte {
+    #[inline(always)]
     fn item(self, n: u8) -> EscItem
         ensures { result ≡ of_byte_item self n }
     {
@@ -347,6 +355,7 @@ impl OfByte {
 }
 
 impl OfWord {
+    #[inline(always)]
     fn item(self, n: u16) -> EscItem
         ensures { result ≡ of_word_item self n }
     {
@@ -362,6 +371,7 @@ impl OfWord {
 }
 
 /// GS V m, and n where m is 65 or 66.
+#[inline(always)]
 fn cut_item(args: &[u8]) -> EscItem
     requires { length args.now ≡ plain_len Plain.Cut args.now }
     ensures { result ≡ cut_item_as (slice_index args.now 0) (slice_index args.now 1) }
@@ -375,15 +385,15 @@ fn cut_item(args: &[u8]) -> EscItem
     }
 }
 
-/// A command without effect, with the bytes after its lead.
-pub fn unused(lead: Lead, name: u8, args: &[u8]) -> EscItem
+/// The bytes after the lead of a command without effect.
+pub fn unused(name: u8, args: &[u8]) -> ArrayVec<u8, 6>
     requires { length args.now ≤ 5 }
-    ensures { result ≡ unused_as lead name args.now }
+    ensures { result.items ≡ name ∷ args.now }
 {
     let mut bytes = ArrayVec::new();
     bytes.push(name);
     let _fits = bytes.try_extend_from_slice(args);
-    EscItem::WithoutEffect { lead, bytes }
+    bytes
 }
 
 /// The first argument, 0 where there is none.

@@ -135,7 +135,7 @@ pub enum Lead {
 
 /// What a command says, given at its last byte, or at its head and at each byte or column of its data.
 /// Where a byte isn't one that the command accepts, its value is `None`, and the command is ignored.
-#[derive(Clone, Drop)]
+#[derive(Drop)]
 pub enum EscItem {
     LineFeed,
     Tab,

@@ -33,7 +33,8 @@ pub fn unit_first()
 
 /// What is given stays given.
 pub fn only_more()
-    ensures { (bytes more : List ℕ) → (added : List EscItem) × (items (bytes ++ more) ≡ items bytes ++ added) }
+    ensures { (bytes more : List ℕ) →
+        (added : List EscItem) × (items (bytes ++ more) ≡ items bytes ++ added) }
 {}
 
 /// Each row of the table, with all its bytes, is a unit.

@@ -1,9 +1,11 @@
 //! The listing: a line for each item.
-ghost use Rattle.std.specs.Prelude.{◌≡◌, ◌≤◌, ◌<◌, ◌+◌, ◌*◌, ◌/◌, ◌%◌, ◌++◌, ◌∷◌, [], length, codes, option_to_list};
+ghost use Rattle.std.specs.Prelude.{◌≡◌, ◌≤◌, ◌<◌, ◌+◌, ◌*◌, ◌/◌, ◌%◌, ◌++◌, ◌∷◌, [], length, codes};
+ghost use Rattle.std.specs.Prelude.{option_to_list};
 ghost use Rattle.vp_dots.specs.Listing.{listed as listed_as};
-ghost use Rattle.vp_esc.specs.Lines.{line_of, lead_word, two_bytes, column_byte as column_byte_as, model_byte as model_byte_as, level_byte as level_byte_as, symbol_bytes};
+ghost use Rattle.vp_esc.specs.Lines.{line_of, lead_word, two_bytes, column_byte as column_byte_as};
+ghost use Rattle.vp_esc.specs.Lines.{model_byte as model_byte_as, level_byte as level_byte_as, symbol_bytes};
 
-use crate::item::{ColumnMode, EscItem, Lead, QrLevel, QrModel};
+use crate::item::{ColumnMode, EscItem, Lead, QrLevel, QrModel, Spelled};
 use crate::value::is_kind_to_zero;
 use arrayvec::ArrayVec;
 use vp_dots::spell;
@@ -13,100 +15,67 @@ impl EscItem {
     pub fn line(&self) -> ArrayVec<u8, 800>
         ensures { result.items ≡ line_of self.now }
     {
-        match self {
+        match *self {
             EscItem::LineFeed => listed(b"LF", &[]),
             EscItem::Tab => listed(b"HT", &[]),
             EscItem::CarriageReturn => listed(b"CR", &[]),
             EscItem::FormFeed => listed(b"FF", &[]),
             EscItem::Cancel => listed(b"CAN", &[]),
-            EscItem::Control(b) => listed(b"ctl", &[*b]),
-            EscItem::Character(b) => listed(b"char", &[*b]),
-            EscItem::RightSpacing(n) => listed(b"esc", &[0x20, *n]),
-            EscItem::PrintMode(n) => listed(b"esc", &[0x21, n.byte]),
-            EscItem::Position(n) => word_line(b"esc", 0x24, *n),
-            EscItem::MovePosition(n) => word_line(b"esc", 0x5C, n.cast_unsigned()),
-            EscItem::Columns { mode, count } => listed(
-                b"esc",
-                &[0x2A, column_byte(*mode), low(*count), high(*count)],
-            ),
-            EscItem::Column8(b) => listed(b"column", &[*b]),
-            EscItem::Column24(bytes) => listed(b"column", bytes),
-            EscItem::Underline(n) => listed(b"esc", &[0x2D, n.byte]),
-            EscItem::DefaultLineSpacing => listed(b"esc", &[0x32]),
-            EscItem::LineSpacing(n) => listed(b"esc", &[0x33, *n]),
-            EscItem::Initialize => listed(b"esc", &[0x40]),
-            EscItem::TabStops { stops, end } => tab_stops(stops.as_slice(), *end),
-            EscItem::Emphasized(n) => listed(b"esc", &[0x45, n.byte]),
-            EscItem::DoubleStrike(n) => listed(b"esc", &[0x47, n.byte]),
-            EscItem::FeedDots(n) => listed(b"esc", &[0x4A, *n]),
-            EscItem::FeedLines(n) => listed(b"esc", &[0x64, *n]),
-            EscItem::PageMode => listed(b"esc", &[0x4C]),
-            EscItem::StandardMode => listed(b"esc", &[0x53]),
-            EscItem::PrintPage => listed(b"esc", &[0x0C]),
-            EscItem::Font(n) => listed(b"esc", &[0x4D, n.byte]),
-            EscItem::Direction(n) => listed(b"esc", &[0x54, n.byte]),
+            EscItem::Control(b) => byte_line(b"ctl", b),
+            EscItem::Character(b) => byte_line(b"char", b),
+            EscItem::RightSpacing(n) => esc(0x20, n),
+            EscItem::PrintMode(Spelled { byte, .. }) => esc(0x21, byte),
+            EscItem::Position(n) => esc_word(0x24, n),
+            EscItem::MovePosition(n) => esc_word(0x5C, n.cast_unsigned()),
+            EscItem::Columns { mode, count } => columns(mode, count),
+            EscItem::Column8(b) => byte_line(b"column", b),
+            EscItem::Column24(ref bytes) => listed(b"column", bytes),
+            EscItem::Underline(Spelled { byte, .. }) => esc(0x2D, byte),
+            EscItem::DefaultLineSpacing => esc_alone(0x32),
+            EscItem::LineSpacing(n) => esc(0x33, n),
+            EscItem::Initialize => esc_alone(0x40),
+            EscItem::TabStops { ref stops, end } => tab_stops(stops.as_slice(), end),
+            EscItem::Emphasized(Spelled { byte, .. }) => esc(0x45, byte),
+            EscItem::DoubleStrike(Spelled { byte, .. }) => esc(0x47, byte),
+            EscItem::FeedDots(n) => esc(0x4A, n),
+            EscItem::FeedLines(n) => esc(0x64, n),
+            EscItem::PageMode => esc_alone(0x4C),
+            EscItem::StandardMode => esc_alone(0x53),
+            EscItem::PrintPage => esc_alone(0x0C),
+            EscItem::Font(Spelled { byte, .. }) => esc(0x4D, byte),
+            EscItem::Direction(Spelled { byte, .. }) => esc(0x54, byte),
             EscItem::Area {
                 x,
                 y,
                 width,
                 height,
-            } => listed(
-                b"esc",
-                &[
-                    0x57,
-                    low(*x),
-                    high(*x),
-                    low(*y),
-                    high(*y),
-                    low(*width),
-                    high(*width),
-                    low(*height),
-                    high(*height),
-                ],
-            ),
-            EscItem::Justify(n) => listed(b"esc", &[0x61, n.byte]),
-            EscItem::CutLeavingOnePoint => listed(b"esc", &[0x69]),
-            EscItem::CutLeavingThreePoints => listed(b"esc", &[0x6D]),
-            EscItem::Magnify(n) => listed(b"gs", &[0x21, n.byte]),
-            EscItem::VerticalPosition(n) => word_line(b"gs", 0x24, *n),
-            EscItem::MoveVerticalPosition(n) => word_line(b"gs", 0x5C, n.cast_unsigned()),
-            EscItem::Inverse(n) => listed(b"gs", &[0x42, n.byte]),
-            EscItem::BarTextPlace(n) => listed(b"gs", &[0x48, n.byte]),
-            EscItem::BarTextFont(n) => listed(b"gs", &[0x66, n.byte]),
-            EscItem::BarHeight(n) => listed(b"gs", &[0x68, *n]),
-            EscItem::BarModule(n) => listed(b"gs", &[0x77, *n]),
-            EscItem::LeftMargin(n) => word_line(b"gs", 0x4C, *n),
-            EscItem::AreaWidth(n) => word_line(b"gs", 0x57, *n),
-            EscItem::Cut(m) => listed(b"gs", &[0x56, m.byte]),
-            EscItem::FeedAndCut { cut, dots } => listed(b"gs", &[0x56, cut.byte, *dots]),
-            EscItem::Raster { scale, bytes, rows } => listed(
-                b"gs",
-                &[
-                    0x76,
-                    0x30,
-                    scale.byte,
-                    low(*bytes),
-                    high(*bytes),
-                    low(*rows),
-                    high(*rows),
-                ],
-            ),
-            EscItem::RasterByte(b) => listed(b"byte", &[*b]),
-            EscItem::Symbol { kind, data, .. } => symbol(kind.byte, data.as_slice()),
-            EscItem::QrModel(model) => listed(
-                b"gs",
-                &[0x28, 0x6B, 4, 0, 49, 65, model_byte(*model), 0],
-            ),
-            EscItem::QrModule(n) => listed(b"gs", &[0x28, 0x6B, 3, 0, 49, 67, *n]),
-            EscItem::QrLevel(level) => listed(
-                b"gs",
-                &[0x28, 0x6B, 3, 0, 49, 69, level_byte(*level)],
-            ),
-            EscItem::QrStore(count) => qr_store(*count),
-            EscItem::QrByte(b) => listed(b"byte", &[*b]),
-            EscItem::QrPrint => listed(b"gs", &[0x28, 0x6B, 3, 0, 49, 81, 48]),
-            EscItem::QrIgnored(bytes) => joined(b"gs", &[0x28, 0x6B], bytes.as_slice(), &[]),
-            EscItem::WithoutEffect { lead, bytes } => listed(lead.word(), bytes.as_slice()),
+            } => area(x, y, width, height),
+            EscItem::Justify(Spelled { byte, .. }) => esc(0x61, byte),
+            EscItem::CutLeavingOnePoint => esc_alone(0x69),
+            EscItem::CutLeavingThreePoints => esc_alone(0x6D),
+            EscItem::Magnify(Spelled { byte, .. }) => gs(0x21, byte),
+            EscItem::VerticalPosition(n) => gs_word(0x24, n),
+            EscItem::MoveVerticalPosition(n) => gs_word(0x5C, n.cast_unsigned()),
+            EscItem::Inverse(Spelled { byte, .. }) => gs(0x42, byte),
+            EscItem::BarTextPlace(Spelled { byte, .. }) => gs(0x48, byte),
+            EscItem::BarTextFont(Spelled { byte, .. }) => gs(0x66, byte),
+            EscItem::BarHeight(n) => gs(0x68, n),
+            EscItem::BarModule(n) => gs(0x77, n),
+            EscItem::LeftMargin(n) => gs_word(0x4C, n),
+            EscItem::AreaWidth(n) => gs_word(0x57, n),
+            EscItem::Cut(Spelled { byte, .. }) => gs(0x56, byte),
+            EscItem::FeedAndCut { cut, dots } => feed_and_cut(cut.byte, dots),
+            EscItem::Raster { scale, bytes, rows } => raster(scale.byte, bytes, rows),
+            EscItem::RasterByte(b) => byte_line(b"byte", b),
+            EscItem::Symbol { kind, ref data, .. } => symbol(kind.byte, data.as_slice()),
+            EscItem::QrModel(model) => qr_model(model),
+            EscItem::QrModule(n) => qr_function(67, n),
+            EscItem::QrLevel(level) => qr_function(69, level_byte(level)),
+            EscItem::QrStore(count) => qr_store(count),
+            EscItem::QrByte(b) => byte_line(b"byte", b),
+            EscItem::QrPrint => qr_function(81, 48),
+            EscItem::QrIgnored(ref bytes) => joined(b"gs", &[0x28, 0x6B], bytes.as_slice(), &[]),
+            EscItem::WithoutEffect { lead, ref bytes } => listed(lead.word(), bytes.as_slice()),
         }
     }
 }
@@ -125,11 +94,100 @@ impl Lead {
     }
 }
 
-fn word_line(word: &[u8], name: u8, n: u16) -> ArrayVec<u8, 800>
+/// A byte of data, or a control.
+fn byte_line(word: &[u8], byte: u8) -> ArrayVec<u8, 800>
     requires { length word.now ≤ 6 }
-    ensures { result.items ≡ listed_as word.now (name ∷ two_bytes n) }
+    ensures { result.items ≡ listed_as word.now (byte ∷ []) }
 {
-    listed(word, &[name, low(n), high(n)])
+    listed(word, &[byte])
+}
+
+/// ESC and a name alone.
+fn esc_alone(name: u8) -> ArrayVec<u8, 800>
+    ensures { result.items ≡ listed_as (codes "esc") (name ∷ []) }
+{
+    listed(b"esc", &[name])
+}
+
+/// ESC, a name and a byte.
+fn esc(name: u8, n: u8) -> ArrayVec<u8, 800>
+    ensures { result.items ≡ listed_as (codes "esc") (name ∷ n ∷ []) }
+{
+    listed(b"esc", &[name, n])
+}
+
+/// ESC, a name and a number of two bytes.
+fn esc_word(name: u8, n: u16) -> ArrayVec<u8, 800>
+    ensures { result.items ≡ listed_as (codes "esc") (name ∷ two_bytes n) }
+{
+    listed(b"esc", &[name, low(n), high(n)])
+}
+
+/// GS, a name and a byte.
+fn gs(name: u8, n: u8) -> ArrayVec<u8, 800>
+    ensures { result.items ≡ listed_as (codes "gs") (name ∷ n ∷ []) }
+{
+    listed(b"gs", &[name, n])
+}
+
+/// GS, a name and a number of two bytes.
+fn gs_word(name: u8, n: u16) -> ArrayVec<u8, 800>
+    ensures { result.items ≡ listed_as (codes "gs") (name ∷ two_bytes n) }
+{
+    listed(b"gs", &[name, low(n), high(n)])
+}
+
+/// ESC *
+fn columns(mode: ColumnMode, count: u16) -> ArrayVec<u8, 800>
+    ensures { result.items ≡ listed_as (codes "esc") (0x2A ∷ column_byte_as mode ∷ two_bytes count) }
+{
+    listed(b"esc", &[0x2A, column_byte(mode), low(count), high(count)])
+}
+
+/// ESC W
+fn area(x: u16, y: u16, width: u16, height: u16) -> ArrayVec<u8, 800>
+    ensures { result.items ≡ listed_as (codes "esc")
+        (0x57 ∷ (two_bytes x ++ two_bytes y ++ two_bytes width ++ two_bytes height)) }
+{
+    listed(
+        b"esc",
+        &[
+            0x57,
+            low(x),
+            high(x),
+            low(y),
+            high(y),
+            low(width),
+            high(width),
+            low(height),
+            high(height),
+        ],
+    )
+}
+
+/// GS V 65 or 66
+fn feed_and_cut(m: u8, dots: u8) -> ArrayVec<u8, 800>
+    ensures { result.items ≡ listed_as (codes "gs") (0x56 ∷ m ∷ dots ∷ []) }
+{
+    listed(b"gs", &[0x56, m, dots])
+}
+
+/// GS v 0
+fn raster(m: u8, bytes: u16, rows: u16) -> ArrayVec<u8, 800>
+    ensures { result.items ≡ listed_as (codes "gs") (0x76 ∷ 0x30 ∷ m ∷ (two_bytes bytes ++ two_bytes rows)) }
+{
+    listed(
+        b"gs",
+        &[
+            0x76,
+            0x30,
+            m,
+            low(bytes),
+            high(bytes),
+            low(rows),
+            high(rows),
+        ],
+    )
 }
 
 /// ESC D
@@ -153,6 +211,21 @@ fn symbol(m: u8, bytes: &[u8]) -> ArrayVec<u8, 800>
     } else {
         joined(b"gs", &[0x6B, m, (bytes.len() % 256) as u8], bytes, &[])
     }
+}
+
+/// GS ( k, function 65
+fn qr_model(model: QrModel) -> ArrayVec<u8, 800>
+    ensures { result.items ≡ listed_as (codes "gs")
+        (0x28 ∷ 0x6B ∷ 4 ∷ 0 ∷ 49 ∷ 65 ∷ model_byte_as model ∷ 0 ∷ []) }
+{
+    listed(b"gs", &[0x28, 0x6B, 4, 0, 49, 65, model_byte(model), 0])
+}
+
+/// GS ( k, a function with one byte.
+fn qr_function(function: u8, n: u8) -> ArrayVec<u8, 800>
+    ensures { result.items ≡ listed_as (codes "gs") (0x28 ∷ 0x6B ∷ 3 ∷ 0 ∷ 49 ∷ function ∷ n ∷ []) }
+{
+    listed(b"gs", &[0x28, 0x6B, 3, 0, 49, function, n])
 }
 
 /// GS ( k, function 80: the bytes that it counts are three more.

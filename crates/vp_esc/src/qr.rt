@@ -1,7 +1,10 @@
 //! GS ( k: what each byte gives, once the number of its bytes is known.
 ghost use Rattle.std.specs.Prelude.{◌≡◌, ◌≤◌, ◌<◌, ◌++◌, ◌∷◌, ◌/◌, ◌%◌, [], length, option_to_list, true};
-ghost use Rattle.vp_esc.specs.Qr.{qr_items, value_items, is_qr_function as is_qr_function_as, ignored as ignored_as};
+ghost use Rattle.vp_esc.specs.Shown.{shown};
+ghost use Rattle.vp_esc.specs.Qr.{qr_items, value_items, is_qr_function as is_qr_function_as};
+ghost use Rattle.vp_esc.specs.Qr.{ignored as ignored_as};
 
+use crate::event::Event;
 use crate::item::EscItem;
 use crate::value::{qr_level_of, qr_model_of};
 use arrayvec::ArrayVec;
@@ -18,90 +21,97 @@ fn is_qr_function(cn: u8, function: u8, count: u16) -> bool
             || (function == 81 && count == 3))
 }
 
-/// Ignored, with the bytes behind the count.
-pub fn ignored(count: u16, bytes: &[u8]) -> EscItem
+/// One that is ignored is given, with the bytes behind the count.
+pub fn ignored(count: u16, bytes: &[u8], item: &mut EscItem) -> Event
     requires { length bytes.now ≤ 4 }
-    ensures { result ≡ ignored_as count bytes.now }
+    ensures event { result ≡ Event.Given }
+    ensures item { item.new ≡ ignored_as count bytes.now }
 {
     let mut all = ArrayVec::new();
     all.push((count % 256) as u8);
     all.push((count / 256) as u8);
     let _fits = all.try_extend_from_slice(bytes);
-    EscItem::QrIgnored(all)
+    *item = EscItem::QrIgnored(all);
+    Event::Given
 }
 
 #[tactic(auto, unfolding(crate::specs::Qr::qr_items, crate::specs::Qr::value_items))]
 /// What the byte after these values, which begin with cn, gives.
-pub fn qr_given(count: u16, values: &[u8], byte: u8) -> Option<EscItem>
+pub fn qr_given(count: u16, values: &[u8], byte: u8, item: &mut EscItem) -> Event
     ensures { length values.now < count → qr_items count (values.now ++ byte ∷ [])
-        ≡ qr_items count values.now ++ option_to_list result }
+        ≡ qr_items count values.now ++ option_to_list (shown result item.new) }
 {
     match values {
         [] => if count == 1 {
-            Some(ignored(count, &[byte]))
+            ignored(count, &[byte], item)
         } else {
-            None
+            Event::Nothing
         },
         [cn] => if is_qr_function(*cn, byte, count) {
-            None
+            Event::Nothing
         } else {
-            Some(ignored(count, &[*cn, byte]))
+            ignored(count, &[*cn, byte], item)
         },
         [cn, function] => {
             if is_qr_function(*cn, *function, count) {
-                first_value(count, *cn, *function, byte)
+                first_value(count, *cn, *function, byte, item)
             } else {
-                None
+                Event::Nothing
             }
         }
         [cn, function, first, rest @ ..] => {
             if !is_qr_function(*cn, *function, count) {
-                None
+                Event::Nothing
             } else if *function == 80 && *first == 48 {
-                Some(EscItem::QrByte(byte))
+                *item = EscItem::QrByte(byte);
+                Event::Given
             } else if *function == 65 && rest.is_empty() {
-                second_value(count, *cn, *first, byte)
+                second_value(count, *cn, *first, byte, item)
             } else {
-                None
+                Event::Nothing
             }
         }
     }
 }
 
 #[tactic(auto, unfolding(crate::specs::Qr::value_items))]
-fn first_value(count: u16, cn: u8, function: u8, n: u8) -> Option<EscItem>
+fn first_value(count: u16, cn: u8, function: u8, n: u8, item: &mut EscItem) -> Event
     requires { is_qr_function_as cn function count ≡ true }
-    ensures { value_items count cn function n [] ≡ option_to_list result }
+    ensures { value_items count cn function n [] ≡ option_to_list (shown result item.new) }
 {
-    let taken = match function {
-        65 => return if qr_model_of(n).is_some() {
-            None
-        } else {
-            Some(ignored(count, &[cn, 65, n]))
-        },
-        67 if 1 <= n && n <= 16 => EscItem::QrModule(n),
+    match function {
+        65 => {
+            if qr_model_of(n).is_some() {
+                return Event::Nothing;
+            }
+            return ignored(count, &[cn, 65, n], item);
+        }
+        67 if 1 <= n && n <= 16 => *item = EscItem::QrModule(n),
         69 => match qr_level_of(n) {
-            Some(level) => EscItem::QrLevel(level),
-            None => ignored(count, &[cn, 69, n]),
+            Some(level) => *item = EscItem::QrLevel(level),
+            None => return ignored(count, &[cn, 69, n], item),
         },
-        80 if n == 48 => EscItem::QrStore(count - 3),
-        81 if n == 48 => EscItem::QrPrint,
-        _ => ignored(count, &[cn, function, n]),
-    };
-    Some(taken)
+        80 if n == 48 => *item = EscItem::QrStore(count - 3),
+        81 if n == 48 => *item = EscItem::QrPrint,
+        _ => return ignored(count, &[cn, function, n], item),
+    }
+    Event::Given
 }
 
 /// The second value of function 65.
 #[tactic(auto, unfolding(crate::specs::Qr::value_items))]
-fn second_value(count: u16, cn: u8, n: u8, z: u8) -> Option<EscItem>
-    ensures { value_items count cn 65 n (z ∷ []) ≡ value_items count cn 65 n [] ++ option_to_list result }
+fn second_value(count: u16, cn: u8, n: u8, z: u8, item: &mut EscItem) -> Event
+    ensures { value_items count cn 65 n (z ∷ [])
+        ≡ value_items count cn 65 n [] ++ option_to_list (shown result item.new) }
 {
     match qr_model_of(n) {
-        None => None,
-        Some(model) => if z == 0 {
-            Some(EscItem::QrModel(model))
-        } else {
-            Some(ignored(count, &[cn, 65, n, z]))
-        },
+        None => Event::Nothing,
+        Some(model) => {
+            if z != 0 {
+                return ignored(count, &[cn, 65, n, z], item);
+            }
+            *item = EscItem::QrModel(model);
+            Event::Given
+        }
     }
 }

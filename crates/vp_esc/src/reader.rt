@@ -1,8 +1,14 @@
 //! The reader: one byte at a time.
-ghost use Rattle.std.specs.Prelude.{◌≡◌, ◌↔◌, ◌∷◌, ◌++◌, [], ℕ, List, IsTrue, true, false, Some, None, Err, length, take, min, ◌≤◌, ◌<◌, ◌+◌, ◌*◌};
+ghost use Rattle.std.specs.Prelude.{◌≡◌, ◌↔◌, ◌≤◌, ◌<◌, ◌+◌, ◌*◌, ℕ, IsTrue, true, false, Some, None, Err};
+ghost use Rattle.std.specs.Prelude.{List, [], ◌∷◌, ◌++◌, length, take, min};
 ghost use Rattle.std.specs.List.{AllByRecursion, prefix_len};
+ghost use Rattle.std.specs.Borrow.{sem};
 ghost use Rattle.vp_esc.specs.Split.{split, items, fault_of};
-ghost use Rattle.vp_esc.specs.Reader.{Stands, Gives, Advances, InArguments, InStops, InBytes, InTallColumns, InSymbolToZero, InSymbolData, InQr, Begun, Lands, StandsIn, data_item, bytes_or_ground, tall_or_ground, columns_or_ground, qr_or_ground, raster_data, raster_items, is_text, text_items};
+ghost use Rattle.vp_esc.specs.Shown.{shown, shown_answer, shown_loan};
+ghost use Rattle.vp_esc.specs.Reader.{Stands, StandsIn, Gives, Advances, Begun, Lands, InArguments, InStops};
+ghost use Rattle.vp_esc.specs.Reader.{InBytes, InTallColumns, InSymbolToZero, InSymbolData, InQr};
+ghost use Rattle.vp_esc.specs.Reader.{bytes_or_ground, tall_or_ground, columns_or_ground, qr_or_ground};
+ghost use Rattle.vp_esc.specs.Reader.{raster_data, raster_items, is_text, text_items};
 ghost use Rattle.vp_esc.specs.Runs.{raster_left, skipped_left, text_front};
 ghost use Rattle.vp_dots.specs.declared.fault.Fault.{Fault};
 ghost use Rattle.vp_esc.specs.Command.{lead_byte, head_len};
@@ -10,6 +16,7 @@ ghost use Rattle.vp_esc.specs.Values.{is_kind_to_zero as is_to_zero};
 ghost use Rattle.vp_esc.specs.Units.{single_item, symbol_with};
 
 use crate::command::{Command, unused};
+use crate::event::Event;
 use crate::item::{ColumnMode, EscItem, Lead, RasterScale};
 use crate::qr::{ignored, qr_given};
 use crate::value::{bar_kind_of, column_mode_of, is_kind_to_zero, scale_of, spelled, word};
@@ -56,9 +63,13 @@ pub struct EscReader {
     name: u8,
     /// Its arguments, or its data as far as they are kept.
     kept: ArrayVec<u8, 255>,
+    /// The item that was given last.
+    item: EscItem,
 }
 
 impl EscReader {
+    ghost use Rattle.vp_esc.specs.Lent.{Leaves};
+
     /// A reader of no bytes.
     pub fn new() -> Self
         ensures stands { Stands result [] }
@@ -70,28 +81,30 @@ impl EscReader {
             lead: Lead::Esc,
             name: 0,
             kept: ArrayVec::new(),
+            item: EscItem::LineFeed,
         }
     }
 
-    fn begin(&mut self, byte: u8) -> Option<EscItem>
-        ensures { Advances (Ok result) [] byte self.new }
+    fn begin(&mut self, byte: u8) -> Event
+        ensures { Advances (Ok (shown result self.new.item)) [] byte self.new }
     {
         match Lead::of(byte) {
             Some(lead) => {
                 self.phase = Phase::AfterLead;
                 self.lead = lead;
-                None
+                Event::Nothing
             }
             None => {
                 self.phase = Phase::Ground;
-                Some(single(byte))
+                self.item = single(byte);
+                Event::Given
             }
         }
     }
 
     /// The byte after a lead.
-    fn call(&mut self, byte: u8) -> Result<Option<EscItem>, Fault>
-        ensures { Advances result (lead_byte self.old.lead ∷ []) byte self.new }
+    fn call(&mut self, byte: u8) -> Result<Event, Fault>
+        ensures { Advances (shown_answer result self.new.item) (lead_byte self.old.lead ∷ []) byte self.new }
     {
         match Command::of(self.lead, byte) {
             None => {
@@ -108,8 +121,9 @@ impl EscReader {
     }
 
     /// An argument that comes before any data.
-    fn argument(&mut self, command: Command, byte: u8) -> Result<Option<EscItem>, Fault>
-        ensures { (rest : List ℕ) → InArguments self.old command rest → Advances result rest byte self.new }
+    fn argument(&mut self, command: Command, byte: u8) -> Result<Event, Fault>
+        ensures { (rest : List ℕ) → InArguments self.old command rest →
+            Advances (shown_answer result self.new.item) rest byte self.new }
     {
         if self.kept.is_empty() && !command.lists(byte) {
             let fault = Fault::Unknown(self.lead.byte(), self.name);
@@ -121,24 +135,25 @@ impl EscReader {
     }
 
     /// Goes on behind the arguments that are kept.
-    fn land(&mut self, command: Command) -> Option<EscItem>
+    fn land(&mut self, command: Command) -> Event
         ensures { (rest : List ℕ) → Begun self.old.lead self.old.name command self.old.kept.items rest →
-            length self.old.kept.items ≤ head_len command self.old.kept.items → Lands result rest self.new }
+            length self.old.kept.items ≤ head_len command self.old.kept.items →
+            Lands (shown result self.new.item) rest self.new }
     {
         let args = self.kept.as_slice();
         if args.len() != command.head_len(args) {
             self.phase = Phase::Arguments(command);
-            return None;
+            return Event::Nothing;
         }
         match command {
             Command::Plain(plain) => {
-                let item = plain.item(self.lead, self.name, args);
+                plain.write(self.lead, self.name, args, &mut self.item);
                 self.phase = Phase::Ground;
-                Some(item)
+                Event::Given
             }
             Command::TabStops => {
                 self.phase = Phase::Stops(0);
-                None
+                Event::Nothing
             }
             Command::Columns => self.columns_head(),
             Command::Raster => self.raster_head(),
@@ -148,47 +163,52 @@ impl EscReader {
         }
     }
 
-    fn columns_head(&mut self) -> Option<EscItem>
+    fn columns_head(&mut self) -> Event
         requires { length self.old.kept.items ≡ 3 }
-        ensures { (rest : List ℕ) → Begun self.old.lead self.old.name Command.Columns self.old.kept.items rest →
-            Lands result rest self.new }
+        ensures { (rest : List ℕ) →
+            Begun self.old.lead self.old.name Command.Columns self.old.kept.items rest →
+            Lands (shown result self.new.item) rest self.new }
     {
         let args = self.kept.as_slice();
         let mode = column_mode_of(args[0]);
         let count = word(args[1], args[2]);
         self.phase = columns_phase(mode, count);
         self.kept.clear();
-        Some(EscItem::Columns { mode, count })
+        self.item = EscItem::Columns { mode, count };
+        Event::Given
     }
 
-    fn raster_head(&mut self) -> Option<EscItem>
+    fn raster_head(&mut self) -> Event
         requires { length self.old.kept.items ≡ 6 }
-        ensures { (rest : List ℕ) → Begun self.old.lead self.old.name Command.Raster self.old.kept.items rest →
-            Lands result rest self.new }
+        ensures { (rest : List ℕ) →
+            Begun self.old.lead self.old.name Command.Raster self.old.kept.items rest →
+            Lands (shown result self.new.item) rest self.new }
     {
         let args = self.kept.as_slice();
         let scale = scale_of(args[1]);
         let bytes = word(args[2], args[3]);
         let rows = word(args[4], args[5]);
         self.phase = bytes_phase(raster_kind(scale), byte_count(bytes, rows));
-        Some(EscItem::Raster {
+        self.item = EscItem::Raster {
             scale: spelled(args[1], scale),
             bytes,
             rows,
-        })
+        };
+        Event::Given
     }
 
-    fn symbol_head(&mut self) -> Option<EscItem>
+    fn symbol_head(&mut self) -> Event
         requires { length self.old.kept.items ≡ head_len Command.Symbol self.old.kept.items }
-        ensures { (rest : List ℕ) → Begun self.old.lead self.old.name Command.Symbol self.old.kept.items rest →
-            Lands result rest self.new }
+        ensures { (rest : List ℕ) →
+            Begun self.old.lead self.old.name Command.Symbol self.old.kept.items rest →
+            Lands (shown result self.new.item) rest self.new }
     {
         let args = self.kept.as_slice();
         let kind = args[0];
         if is_kind_to_zero(kind) {
             self.kept.clear();
             self.phase = Phase::SymbolToZero { kind, more: false };
-            return None;
+            return Event::Nothing;
         }
         let count = args[1];
         self.kept.clear();
@@ -196,149 +216,176 @@ impl EscReader {
     }
 
     /// Goes on behind the number of a symbol's bytes.
-    fn symbol_count(&mut self, kind: u8, count: u8) -> Option<EscItem>
+    fn symbol_count(&mut self, kind: u8, count: u8) -> Event
         requires { self.old.kept.items ≡ [] }
-        ensures { (rest : List ℕ) → Begun self.old.lead self.old.name Command.Symbol (kind ∷ count ∷ []) rest →
-            is_to_zero kind ≡ false → Lands result rest self.new }
+        ensures { (rest : List ℕ) →
+            Begun self.old.lead self.old.name Command.Symbol (kind ∷ count ∷ []) rest →
+            is_to_zero kind ≡ false → Lands (shown result self.new.item) rest self.new }
     {
         if count == 0 {
             self.phase = Phase::Ground;
-            return Some(self.symbol(kind, false));
+            return self.symbol(kind, false);
         }
         self.phase = Phase::SymbolData { kind, left: count };
-        None
+        Event::Nothing
     }
 
-    fn function_head(&mut self) -> Option<EscItem>
+    fn function_head(&mut self) -> Event
         requires { length self.old.kept.items ≡ 3 }
-        ensures { (rest : List ℕ) → Begun self.old.lead self.old.name Command.Function self.old.kept.items rest →
-            Lands result rest self.new }
+        ensures { (rest : List ℕ) →
+            Begun self.old.lead self.old.name Command.Function self.old.kept.items rest →
+            Lands (shown result self.new.item) rest self.new }
     {
         let args = self.kept.as_slice();
         let count = word(args[1], args[2]);
         if args[0] != 0x6B {
-            let item = unused(self.lead, self.name, args);
+            self.item = EscItem::WithoutEffect {
+                lead: self.lead,
+                bytes: unused(self.name, args),
+            };
             self.phase = bytes_phase(Data::Skipped, count as u32);
-            return Some(item);
+            return Event::Given;
         }
         self.kept.clear();
         self.phase = qr_phase(count, count);
         if count == 0 {
-            return Some(ignored(0, &[]));
+            return ignored(0, &[], &mut self.item);
         }
-        None
+        Event::Nothing
     }
 
-    fn graphics_head(&mut self) -> Option<EscItem>
+    fn graphics_head(&mut self) -> Event
         requires { length self.old.kept.items ≡ 5 }
-        ensures { (rest : List ℕ) → Begun self.old.lead self.old.name Command.Graphics self.old.kept.items rest →
-            Lands result rest self.new }
+        ensures { (rest : List ℕ) →
+            Begun self.old.lead self.old.name Command.Graphics self.old.kept.items rest →
+            Lands (shown result self.new.item) rest self.new }
     {
         let args = self.kept.as_slice();
         let left = word(args[1], args[2]) as u32 + 65536 * word(args[3], args[4]) as u32;
-        let item = unused(self.lead, self.name, args);
+        self.item = EscItem::WithoutEffect {
+            lead: self.lead,
+            bytes: unused(self.name, args),
+        };
         self.phase = bytes_phase(Data::Skipped, left);
-        Some(item)
+        Event::Given
     }
 
-    fn stop(&mut self, last: u8, byte: u8) -> Option<EscItem>
-        ensures { (rest : List ℕ) → InStops self.old last rest → Advances (Ok result) rest byte self.new }
+    fn stop(&mut self, last: u8, byte: u8) -> Event
+        ensures { (rest : List ℕ) → InStops self.old last rest →
+            Advances (Ok (shown result self.new.item)) rest byte self.new }
     {
         if byte <= last {
             self.phase = Phase::Ground;
-            return Some(EscItem::TabStops {
+            self.item = EscItem::TabStops {
                 stops: first_stops(self.kept.as_slice()),
                 end: Some(byte),
-            });
+            };
+            return Event::Given;
         }
         keep(&mut self.kept, byte);
         if self.kept.len() < 32 {
             self.phase = Phase::Stops(byte);
-            return None;
+            return Event::Nothing;
         }
         self.phase = Phase::Ground;
-        Some(EscItem::TabStops {
+        self.item = EscItem::TabStops {
             stops: first_stops(self.kept.as_slice()),
             end: None,
-        })
+        };
+        Event::Given
     }
 
     /// A byte of data.
-    fn byte(&mut self, kind: Data, left: u32, byte: u8) -> Option<EscItem>
-        ensures { (rest : List ℕ) → InBytes self.old kind left rest → Advances (Ok result) rest byte self.new }
+    fn byte(&mut self, kind: Data, left: u32, byte: u8) -> Event
+        ensures { (rest : List ℕ) → InBytes self.old kind left rest →
+            Advances (Ok (shown result self.new.item)) rest byte self.new }
     {
         self.phase = bytes_phase(kind, left.saturating_sub(1));
-        data_item_of(kind, byte)
+        match kind {
+            Data::Skipped => return Event::Nothing,
+            Data::Raster => self.item = EscItem::RasterByte(byte),
+            Data::Columns => self.item = EscItem::Column8(byte),
+        }
+        Event::Given
     }
 
     /// A byte of a column of 24 dots.
-    fn tall_column(&mut self, left: u32, byte: u8) -> Option<EscItem>
-        ensures { (rest : List ℕ) → InTallColumns self.old left rest → Advances (Ok result) rest byte self.new }
+    fn tall_column(&mut self, left: u32, byte: u8) -> Event
+        ensures { (rest : List ℕ) → InTallColumns self.old left rest →
+            Advances (Ok (shown result self.new.item)) rest byte self.new }
     {
         self.phase = tall_phase(left.saturating_sub(1));
         if self.kept.len() != 2 {
             keep(&mut self.kept, byte);
-            return None;
+            return Event::Nothing;
         }
         let above = self.kept.as_slice();
-        let column = EscItem::Column24([above[0], above[1], byte]);
+        self.item = EscItem::Column24([above[0], above[1], byte]);
         self.kept.clear();
-        Some(column)
+        Event::Given
     }
 
-    /// A symbol of the data that are kept.
-    fn symbol(&mut self, kind: u8, more: bool) -> EscItem
-        ensures item { result ≡ symbol_with kind self.old.kept.items more }
-        ensures rest { self.new ≡ record self.old { kept = self.new.kept } }
+    /// A symbol of the data that are kept is given.
+    fn symbol(&mut self, kind: u8, more: bool) -> Event
+        ensures event { result ≡ Event.Given }
+        ensures state { self.new ≡ record self.old {
+          kept = self.new.kept;
+          item = symbol_with kind self.old.kept.items more;
+        } }
     {
-        EscItem::Symbol {
+        self.item = EscItem::Symbol {
             kind: spelled(kind, bar_kind_of(kind)),
             data: self.kept.take(),
             more,
-        }
+        };
+        Event::Given
     }
 
-    fn symbol_byte(&mut self, kind: u8, more: bool, byte: u8) -> Option<EscItem>
-        ensures { (rest : List ℕ) → InSymbolToZero self.old kind more rest → Advances (Ok result) rest byte self.new }
+    fn symbol_byte(&mut self, kind: u8, more: bool, byte: u8) -> Event
+        ensures { (rest : List ℕ) → InSymbolToZero self.old kind more rest →
+            Advances (Ok (shown result self.new.item)) rest byte self.new }
     {
         if byte == 0 {
             self.phase = Phase::Ground;
-            return Some(self.symbol(kind, more));
+            return self.symbol(kind, more);
         }
         let more = more || self.kept.is_full();
         keep(&mut self.kept, byte);
         self.phase = Phase::SymbolToZero { kind, more };
-        None
+        Event::Nothing
     }
 
-    fn symbol_data(&mut self, kind: u8, left: u8, byte: u8) -> Option<EscItem>
-        ensures { (rest : List ℕ) → InSymbolData self.old kind left rest → Advances (Ok result) rest byte self.new }
+    fn symbol_data(&mut self, kind: u8, left: u8, byte: u8) -> Event
+        ensures { (rest : List ℕ) → InSymbolData self.old kind left rest →
+            Advances (Ok (shown result self.new.item)) rest byte self.new }
     {
         keep(&mut self.kept, byte);
         if left <= 1 {
             self.phase = Phase::Ground;
-            return Some(self.symbol(kind, false));
+            return self.symbol(kind, false);
         }
         self.phase = Phase::SymbolData {
             kind,
             left: left - 1,
         };
-        None
+        Event::Nothing
     }
 
-    fn qr_byte(&mut self, count: u16, left: u16, byte: u8) -> Option<EscItem>
-        ensures { (rest : List ℕ) → InQr self.old count left rest → Advances (Ok result) rest byte self.new }
+    fn qr_byte(&mut self, count: u16, left: u16, byte: u8) -> Event
+        ensures { (rest : List ℕ) → InQr self.old count left rest →
+            Advances (Ok (shown result self.new.item)) rest byte self.new }
     {
-        let item = qr_given(count, self.kept.as_slice(), byte);
+        let event = qr_given(count, self.kept.as_slice(), byte, &mut self.item);
         keep(&mut self.kept, byte);
         self.phase = qr_phase(count, left.saturating_sub(1));
-        item
+        event
     }
 
-    /// One byte, by the phase. It stands apart from `take`, which would pay at each byte for the room of its items.
+    /// One byte, by the phase.
     #[inline(never)]
-    fn step(&mut self, byte: u8) -> Result<Option<EscItem>, Fault>
-        ensures { (rest : List ℕ) → StandsIn self.old rest → Advances result rest byte self.new }
+    fn step(&mut self, byte: u8) -> Result<Event, Fault>
+        ensures { (rest : List ℕ) → StandsIn self.old rest →
+            Advances (shown_answer result self.new.item) rest byte self.new }
     {
         match self.phase {
             Phase::Ground => Ok(self.begin(byte)),
@@ -354,12 +401,11 @@ impl EscReader {
         }
     }
 
-    /// Takes the next byte, and gives the item that it completes. After a fault each call answers it.
-    pub fn take(&mut self, byte: u8) -> Result<Option<EscItem>, Fault>
-        ensures gives { (bytes : List ℕ) → Stands self.old bytes →
-            Gives result (items bytes) (items (bytes ++ byte ∷ [])) (fault_of (bytes ++ byte ∷ [])) }
-        ensures stands { (bytes : List ℕ) → Stands self.old bytes → Stands self.new (bytes ++ byte ∷ []) }
-        ensures sticks { (bytes : List ℕ) (fault : Fault) → Stands self.old bytes → fault_of bytes ≡ Some fault → result ≡ Err fault }
+    /// The same, with the bytes of a raster and the units of one byte first.
+    #[inline(always)]
+    fn event(&mut self, byte: u8) -> Result<Event, Fault>
+        ensures { (rest : List ℕ) → StandsIn self.old rest →
+            Advances (shown_answer result self.new.item) rest byte self.new }
     {
         if let Phase::Bytes {
             kind: Data::Raster,
@@ -367,14 +413,35 @@ impl EscReader {
         } = self.phase
         {
             self.phase = bytes_phase(Data::Raster, left.saturating_sub(1));
-            return Ok(Some(EscItem::RasterByte(byte)));
+            self.item = EscItem::RasterByte(byte);
+            return Ok(Event::Given);
         }
         if let Phase::Ground = self.phase {
             if Lead::of(byte).is_none() {
-                return Ok(Some(single(byte)));
+                self.item = single(byte);
+                return Ok(Event::Given);
             }
         }
         self.step(byte)
+    }
+
+    /// Takes the next byte, and gives the item that it completes. The item is the reader's and stands until
+    /// the next byte. After a fault each call answers it.
+    pub fn take(&mut self, byte: u8) -> Result<Option<&EscItem>, Fault>
+        ensures* stands { sem 𝓛 (Leaves self.entry (λ new. (bytes : List ℕ) → Stands self.old bytes →
+            Stands new (bytes ++ byte ∷ []))) }
+        ensures gives { (bytes : List ℕ) → Stands self.old bytes →
+            Gives (shown_loan result) (items bytes) (items (bytes ++ byte ∷ []))
+            (fault_of (bytes ++ byte ∷ [])) }
+        ensures sticks { (bytes : List ℕ) (fault : Fault) → Stands self.old bytes →
+            fault_of bytes ≡ Some fault →
+            result ≡ Err fault }
+    {
+        match self.event(byte) {
+            Ok(Event::Nothing) => Ok(None),
+            Ok(Event::Given) => Ok(Some(&self.item)),
+            Err(fault) => Err(fault),
+        }
     }
 
     /// Takes bytes of a raster that is printed, all but its last, and tells how many; none anywhere else.
@@ -384,8 +451,10 @@ impl EscReader {
         ensures fits { result ≤ length input.now }
         ensures gives { (bytes : List ℕ) (n : ℕ) → Stands self.old bytes → n ≤ result →
             items (bytes ++ take n input.now) ≡ items bytes ++ raster_items (take n input.now) }
-        ensures known { (bytes : List ℕ) (n : ℕ) → Stands self.old bytes → 0 < n → n ≤ result → fault_of (bytes ++ take n input.now) ≡ None }
-        ensures stands { (bytes : List ℕ) → Stands self.old bytes → Stands self.new (bytes ++ take result input.now) }
+        ensures known { (bytes : List ℕ) (n : ℕ) → Stands self.old bytes → 0 < n → n ≤ result →
+            fault_of (bytes ++ take n input.now) ≡ None }
+        ensures stands { (bytes : List ℕ) → Stands self.old bytes →
+            Stands self.new (bytes ++ take result input.now) }
     {
         let Phase::Bytes {
             kind: Data::Raster,
@@ -512,17 +581,6 @@ fn raster_kind(scale: Option<RasterScale>) -> Data
     match scale {
         Some(_) => Data::Raster,
         None => Data::Skipped,
-    }
-}
-
-/// What a byte of data gives.
-fn data_item_of(kind: Data, byte: u8) -> Option<EscItem>
-    ensures { result ≡ data_item kind byte }
-{
-    match kind {
-        Data::Skipped => None,
-        Data::Raster => Some(EscItem::RasterByte(byte)),
-        Data::Columns => Some(EscItem::Column8(byte)),
     }
 }
 

@@ -302,96 +302,92 @@ fn faults(rt: HostRuntime) -> Result<(), Fail> {
     Ok(())
 }
 
-/// The last item of the bytes.
-fn last_item(bytes: &[u8]) -> Option<EscItem> {
-    let mut reader = EscReader::new();
-    let mut last = None;
-    for byte in bytes {
-        if let Ok(Some(item)) = reader.take(*byte) {
-            last = Some(item);
-        }
+/// The item that the last of the bytes gives.
+fn last_item<'a>(reader: &'a mut EscReader, bytes: &[u8]) -> Option<&'a EscItem> {
+    let (last, front) = bytes.split_last()?;
+    for byte in front {
+        let _earlier = reader.take(*byte).is_ok();
     }
-    last
+    reader.take(*last).ok().flatten()
 }
+
+/// What ESC ! sets.
+fn print_mode(bytes: &[u8]) -> Option<PrintMode> {
+    match last_item(&mut EscReader::new(), bytes) {
+        Some(EscItem::PrintMode(n)) => Some(n.value),
+        _ => None,
+    }
+}
+
+static PRINT_MODES: [(&[u8], PrintMode); 3] = [
+    (
+        b"\x1B\x21\x00",
+        PrintMode {
+            font: Font::A,
+            emphasized: false,
+            double_height: false,
+            double_width: false,
+            underlined: false,
+        },
+    ),
+    (
+        b"\x1B\x21\x99",
+        PrintMode {
+            font: Font::B,
+            emphasized: true,
+            double_height: true,
+            double_width: false,
+            underlined: true,
+        },
+    ),
+    (
+        b"\x1B\x21\x66",
+        PrintMode {
+            font: Font::A,
+            emphasized: false,
+            double_height: false,
+            double_width: true,
+            underlined: false,
+        },
+    ),
+];
 
 #[test]
 fn print_modes(rt: HostRuntime) {
-    assert!(rt;
-        matches!(
-            last_item(b"\x1B\x21\x00"),
-            Some(EscItem::PrintMode(Spelled {
-                value: PrintMode {
-                    font: Font::A,
-                    emphasized: false,
-                    double_height: false,
-                    double_width: false,
-                    underlined: false
-                },
-                ..
-            }))
-        )
-    );
-    assert!(rt;
-        matches!(
-            last_item(b"\x1B\x21\x99"),
-            Some(EscItem::PrintMode(Spelled {
-                value: PrintMode {
-                    font: Font::B,
-                    emphasized: true,
-                    double_height: true,
-                    double_width: false,
-                    underlined: true
-                },
-                ..
-            }))
-        )
-    );
-    assert!(rt;
-        matches!(
-            last_item(b"\x1B\x21\x66"),
-            Some(EscItem::PrintMode(Spelled {
-                value: PrintMode {
-                    font: Font::A,
-                    emphasized: false,
-                    double_height: false,
-                    double_width: true,
-                    underlined: false
-                },
-                ..
-            }))
-        )
-    );
+    for (bytes, mode) in PRINT_MODES {
+        assert!(rt; print_mode(bytes) == Some(mode));
+    }
+}
+
+/// By how much ESC \ moves the position.
+fn moved(bytes: &[u8]) -> Option<i16> {
+    match last_item(&mut EscReader::new(), bytes) {
+        Some(EscItem::MovePosition(dots)) => Some(*dots),
+        _ => None,
+    }
+}
+
+#[test]
+fn moves(rt: HostRuntime) {
+    assert!(rt; moved(b"\x1B\x5C\xFF\xFF") == Some(-1));
+    assert!(rt; moved(b"\x1B\x5C\x00\x80") == Some(-32768));
+    assert!(rt; moved(b"\x1B\x5C\x02\x01") == Some(258));
 }
 
 #[test]
 fn positions(rt: HostRuntime) {
     assert!(rt;
         matches!(
-            last_item(b"\x1B\x24\xE8\x03"),
+            last_item(&mut EscReader::new(), b"\x1B\x24\xE8\x03"),
             Some(EscItem::Position(1000))
         )
     );
     assert!(rt;
         matches!(
-            last_item(b"\x1B\x5C\xFF\xFF"),
-            Some(EscItem::MovePosition(-1))
-        )
-    );
-    assert!(rt;
-        matches!(
-            last_item(b"\x1B\x5C\x00\x80"),
-            Some(EscItem::MovePosition(-32768))
-        )
-    );
-    assert!(rt;
-        matches!(
-            last_item(b"\x1B\x5C\x02\x01"),
-            Some(EscItem::MovePosition(258))
-        )
-    );
-    assert!(rt;
-        matches!(
-            last_item(b"\x1B\x57\x01\x02\x03\x04\x05\x06\x07\x08"),
+            last_item(
+                &mut EscReader::new(),
+                b"\x1B\x57\x01\x02\x03\x04\x05\x06\x07\x08"
+            ),
             Some(EscItem::Area {
                 x: 513,
                 y: 1027,
@@ -402,7 +398,7 @@ fn positions(rt: HostRuntime) {
     );
     assert!(rt;
         matches!(
-            last_item(b"\x1D\x5C\xFE\xFF"),
+            last_item(&mut EscReader::new(), b"\x1D\x5C\xFE\xFF"),
             Some(EscItem::MoveVerticalPosition(-2))
         )
     );
@@ -412,7 +408,7 @@ fn positions(rt: HostRuntime) {
 fn styles(rt: HostRuntime) {
     assert!(rt;
         matches!(
-            last_item(b"\x1B\x2D\x32"),
+            last_item(&mut EscReader::new(), b"\x1B\x2D\x32"),
             Some(EscItem::Underline(Spelled {
                 value: Some(Underline::TwoRows),
                 ..
@@ -421,7 +417,7 @@ fn styles(rt: HostRuntime) {
     );
     assert!(rt;
         matches!(
-            last_item(b"\x1B\x2D\x03"),
+            last_item(&mut EscReader::new(), b"\x1B\x2D\x03"),
             Some(EscItem::Underline(Spelled {
                 byte: 3,
                 value: None
@@ -430,19 +426,23 @@ fn styles(rt: HostRuntime) {
     );
     assert!(rt;
         matches!(
-            last_item(b"\x1B\x45\xFE"),
+            last_item(&mut EscReader::new(), b"\x1B\x45\xFE"),
             Some(EscItem::Emphasized(Spelled { value: false, .. }))
         )
     );
+}
+
+#[test]
+fn fonts_and_inverse(rt: HostRuntime) {
     assert!(rt;
         matches!(
-            last_item(b"\x1B\x47\x03"),
+            last_item(&mut EscReader::new(), b"\x1B\x47\x03"),
             Some(EscItem::DoubleStrike(Spelled { value: true, .. }))
         )
     );
     assert!(rt;
         matches!(
-            last_item(b"\x1B\x4D\x31"),
+            last_item(&mut EscReader::new(), b"\x1B\x4D\x31"),
             Some(EscItem::Font(Spelled {
                 value: Some(Font::B),
                 ..
@@ -451,7 +451,7 @@ fn styles(rt: HostRuntime) {
     );
     assert!(rt;
         matches!(
-            last_item(b"\x1D\x42\x02"),
+            last_item(&mut EscReader::new(), b"\x1D\x42\x02"),
             Some(EscItem::Inverse(Spelled { value: false, .. }))
         )
     );
@@ -461,7 +461,7 @@ fn styles(rt: HostRuntime) {
 fn directions(rt: HostRuntime) {
     assert!(rt;
         matches!(
-            last_item(b"\x1B\x54\x03"),
+            last_item(&mut EscReader::new(), b"\x1B\x54\x03"),
             Some(EscItem::Direction(Spelled {
                 value: Some(Direction::TopToBottom),
                 ..
@@ -470,7 +470,7 @@ fn directions(rt: HostRuntime) {
     );
     assert!(rt;
         matches!(
-            last_item(b"\x1B\x61\x31"),
+            last_item(&mut EscReader::new(), b"\x1B\x61\x31"),
             Some(EscItem::Justify(Spelled {
                 value: Some(Justification::Centre),
                 ..
@@ -479,51 +479,45 @@ fn directions(rt: HostRuntime) {
     );
 }
 
+/// What GS ! sets, if anything.
+fn magnified(bytes: &[u8]) -> Option<Option<Magnification>> {
+    match last_item(&mut EscReader::new(), bytes) {
+        Some(EscItem::Magnify(n)) => Some(n.value),
+        _ => None,
+    }
+}
+
+static MAGNIFICATIONS: [(&[u8], Option<Magnification>); 4] = [
+    (
+        b"\x1D\x21\x70",
+        Some(Magnification {
+            width: 8,
+            height: 1,
+        }),
+    ),
+    (
+        b"\x1D\x21\x15",
+        Some(Magnification {
+            width: 2,
+            height: 6,
+        }),
+    ),
+    (b"\x1D\x21\x08", None),
+    (b"\x1D\x21\x80", None),
+];
+
 #[test]
 fn magnifications(rt: HostRuntime) {
-    assert!(rt;
-        matches!(
-            last_item(b"\x1D\x21\x70"),
-            Some(EscItem::Magnify(Spelled {
-                value: Some(Magnification {
-                    width: 8,
-                    height: 1
-                }),
-                ..
-            }))
-        )
-    );
-    assert!(rt;
-        matches!(
-            last_item(b"\x1D\x21\x15"),
-            Some(EscItem::Magnify(Spelled {
-                value: Some(Magnification {
-                    width: 2,
-                    height: 6
-                }),
-                ..
-            }))
-        )
-    );
-    assert!(rt;
-        matches!(
-            last_item(b"\x1D\x21\x08"),
-            Some(EscItem::Magnify(Spelled { value: None, .. }))
-        )
-    );
-    assert!(rt;
-        matches!(
-            last_item(b"\x1D\x21\x80"),
-            Some(EscItem::Magnify(Spelled { value: None, .. }))
-        )
-    );
+    for (bytes, magnification) in MAGNIFICATIONS {
+        assert!(rt; magnified(bytes) == Some(magnification));
+    }
 }
 
 #[test]
 fn bar_texts(rt: HostRuntime) {
     assert!(rt;
         matches!(
-            last_item(b"\x1D\x48\x32"),
+            last_item(&mut EscReader::new(), b"\x1D\x48\x32"),
             Some(EscItem::BarTextPlace(Spelled {
                 value: Some(TextPlace::Below),
                 ..
@@ -532,7 +526,7 @@ fn bar_texts(rt: HostRuntime) {
     );
     assert!(rt;
         matches!(
-            last_item(b"\x1D\x66\x02"),
+            last_item(&mut EscReader::new(), b"\x1D\x66\x02"),
             Some(EscItem::BarTextFont(Spelled { value: None, .. }))
         )
     );
@@ -542,7 +536,7 @@ fn bar_texts(rt: HostRuntime) {
 fn cuts(rt: HostRuntime) {
     assert!(rt;
         matches!(
-            last_item(b"\x1D\x56\x30"),
+            last_item(&mut EscReader::new(), b"\x1D\x56\x30"),
             Some(EscItem::Cut(Spelled {
                 value: Cut::Full,
                 ..
@@ -551,7 +545,7 @@ fn cuts(rt: HostRuntime) {
     );
     assert!(rt;
         matches!(
-            last_item(b"\x1D\x56\x01"),
+            last_item(&mut EscReader::new(), b"\x1D\x56\x01"),
             Some(EscItem::Cut(Spelled {
                 value: Cut::Partial,
                 ..
@@ -560,7 +554,7 @@ fn cuts(rt: HostRuntime) {
     );
     assert!(rt;
         matches!(
-            last_item(b"\x1D\x56\x42\x05"),
+            last_item(&mut EscReader::new(), b"\x1D\x56\x42\x05"),
             Some(EscItem::FeedAndCut {
                 cut: Spelled {
                     value: Cut::Partial,
@@ -576,7 +570,7 @@ fn cuts(rt: HostRuntime) {
 fn images(rt: HostRuntime) {
     assert!(rt;
         matches!(
-            last_item(b"\x1B\x2A\x21\x02\x01"),
+            last_item(&mut EscReader::new(), b"\x1B\x2A\x21\x02\x01"),
             Some(EscItem::Columns {
                 mode: ColumnMode::Double24,
                 count: 258
@@ -585,7 +579,7 @@ fn images(rt: HostRuntime) {
     );
     assert!(rt;
         matches!(
-            last_item(b"\x1D\x76\x30\x31\x02\x01\x03\x01"),
+            last_item(&mut EscReader::new(), b"\x1D\x76\x30\x31\x02\x01\x03\x01"),
             Some(EscItem::Raster {
                 scale: Spelled {
                     value: Some(RasterScale::DoubleWidth),
@@ -598,7 +592,7 @@ fn images(rt: HostRuntime) {
     );
     assert!(rt;
         matches!(
-            last_item(b"\x1D\x76\x30\x05\x02\x01\x03\x01"),
+            last_item(&mut EscReader::new(), b"\x1D\x76\x30\x05\x02\x01\x03\x01"),
             Some(EscItem::Raster {
                 scale: Spelled {
                     byte: 5,
@@ -611,79 +605,78 @@ fn images(rt: HostRuntime) {
     );
 }
 
+/// The kind of a symbol that has no more data than are kept.
+fn bar_code(bytes: &[u8]) -> Option<Spelled<Option<BarKind>>> {
+    match last_item(&mut EscReader::new(), bytes) {
+        Some(
+            EscItem::Symbol {
+                kind,
+                more: false,
+                ..
+            },
+        ) => Some(*kind),
+        _ => None,
+    }
+}
+
+static BAR_CODES: [(&[u8], Spelled<Option<BarKind>>); 4] = [
+    (
+        b"\x1D\x6B\x02\x31\x00",
+        Spelled {
+            byte: 2,
+            value: Some(BarKind::Ean13),
+        },
+    ),
+    (
+        b"\x1D\x6B\x45\x01\x31",
+        Spelled {
+            byte: 69,
+            value: Some(BarKind::Code39),
+        },
+    ),
+    (
+        b"\x1D\x6B\x49\x01\x31",
+        Spelled {
+            byte: 73,
+            value: Some(BarKind::Code128),
+        },
+    ),
+    (
+        b"\x1D\x6B\x41\x01\x31",
+        Spelled {
+            byte: 65,
+            value: None,
+        },
+    ),
+];
+
 #[test]
 fn bar_codes(rt: HostRuntime) {
-    assert!(rt;
-        matches!(
-            last_item(b"\x1D\x6B\x02\x31\x00"),
-            Some(EscItem::Symbol {
-                kind: Spelled {
-                    value: Some(BarKind::Ean13),
-                    ..
-                },
-                more: false,
-                ..
-            })
-        )
-    );
-    assert!(rt;
-        matches!(
-            last_item(b"\x1D\x6B\x45\x01\x31"),
-            Some(EscItem::Symbol {
-                kind: Spelled {
-                    value: Some(BarKind::Code39),
-                    ..
-                },
-                more: false,
-                ..
-            })
-        )
-    );
-    assert!(rt;
-        matches!(
-            last_item(b"\x1D\x6B\x49\x01\x31"),
-            Some(EscItem::Symbol {
-                kind: Spelled {
-                    value: Some(BarKind::Code128),
-                    ..
-                },
-                more: false,
-                ..
-            })
-        )
-    );
-    assert!(rt;
-        matches!(
-            last_item(b"\x1D\x6B\x41\x01\x31"),
-            Some(EscItem::Symbol {
-                kind: Spelled {
-                    byte: 65,
-                    value: None
-                },
-                more: false,
-                ..
-            })
-        )
-    );
+    for (bytes, kind) in BAR_CODES {
+        assert!(rt; bar_code(bytes) == Some(kind));
+    }
 }
 
 #[test]
 fn qr_values(rt: HostRuntime) {
     assert!(rt;
         matches!(
-            last_item(b"\x1D\x28\x6B\x04\x00\x31\x41\x32\x00"),
+            last_item(
+                &mut EscReader::new(),
+                b"\x1D\x28\x6B\x04\x00\x31\x41\x32\x00"
+            ),
             Some(EscItem::QrModel(QrModel::Two))
         )
     );
     assert!(rt;
         matches!(
-            last_item(b"\x1D\x28\x6B\x03\x00\x31\x45\x32"),
+            last_item(&mut EscReader::new(), b"\x1D\x28\x6B\x03\x00\x31\x45\x32"),
             Some(EscItem::QrLevel(QrLevel::Q))
         )
     );
     assert!(rt;
         matches!(
-            last_item(b"\x1D\x28\x6B\x03\x01\x31\x50\x30"),
+            last_item(&mut EscReader::new(), b"\x1D\x28\x6B\x03\x01\x31\x50\x30"),
             Some(EscItem::QrStore(256))
         )
     );
@@ -697,8 +690,8 @@ fn long_symbol(alloc: Global, count: usize) -> Result<(usize, bool), AllocError>
         bytes.push(b'A')?;
     }
     bytes.push(0)?;
-    Ok(match last_item(bytes.as_slice()) {
-        Some(EscItem::Symbol { data, more, .. }) => (data.len(), more),
+    Ok(match last_item(&mut EscReader::new(), bytes.as_slice()) {
+        Some(EscItem::Symbol { data, more, .. }) => (data.len(), *more),
         _ => (0, false),
     })
 }
@@ -716,14 +709,22 @@ fn long_symbols(rt: HostRuntime) -> Result<(), Fail> {
     Ok(())
 }
 
+/// Whether the bytes give nothing.
+fn gives_nothing(reader: &mut EscReader, bytes: &[u8]) -> bool {
+    for byte in bytes {
+        if !matches!(reader.take(*byte), Ok(None)) {
+            return false;
+        }
+    }
+    true
+}
+
 #[test]
 fn stop_32_ends_the_stops(rt: HostRuntime) -> Result<(), Fail> {
     let mut reader = EscReader::new();
-    for byte in [0x1B, 0x44] {
-        assert!(rt; matches!(reader.take(byte), Ok(None)));
-    }
+    assert!(rt; gives_nothing(&mut reader, b"\x1B\x44"));
     for stop in 1..0x20u8 {
-        assert!(rt; matches!(reader.take(stop), Ok(None)));
+        assert!(rt; gives_nothing(&mut reader, &[stop]));
     }
     assert!(rt;
         matches!(

@@ -1,6 +1,8 @@
 use Rattle.std.proofs.Common.{◌≡◌, ◌≢◌, length, sym, ◌∙◌}
+use Rattle.vp_esc.specs.declared.reader.Phase.TheVariants as phases
 use Rattle.vp_esc.specs.Command.{head_len, plain_len}
 use Rattle.vp_esc.proofs.Phases.{land_arguments, land_plain, land_stops}
+use Rattle.vp_esc.proofs.Kept.{lands_giving}
 use Rattle.vp_esc.proofs.reader.EscReader.land.Goals as goal
 
 pub returns-then-args-head_len : goal.returns-then-args-head_len
@@ -15,7 +17,8 @@ pub returns-in-Plain : goal.returns-in-Plain
 returns-in-Plain c rest begun few =
     let enough : length c.args.self.now.kept.items ≡ plain_len c.in-Plain.plain c.args.self.now.kept.items =
     rw (c.as_slice-args.ensures.value, c.in-Plain.is) at (c.if-args-head_len.false ∙ c.head_len.ensures) in
-    land_plain c.args.self.now c.in-Plain.plain rest _ (rw c.in-Plain.is at begun) enough (rw c.as_slice-args.ensures.value at c.item-item.ensures)
+    lands_giving (record c.args.self.now { phase = phases.Ground }) c.write.new.item
+    (land_plain c.args.self.now c.in-Plain.plain rest _ (rw c.in-Plain.is at begun) enough (rw c.as_slice-args.ensures.value at c.write.ensures))
 
 pub returns-in-TabStops : goal.returns-in-TabStops
 returns-in-TabStops c rest begun few =

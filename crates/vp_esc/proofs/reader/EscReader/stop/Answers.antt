@@ -1,11 +1,13 @@
 use Rattle.std.proofs.Common.{◌<◌, ◌≤◌, length, arith, ◌∙◌}
 use Rattle.vp_esc.proofs.Stops.{stops_more, stops_full, stops_end}
+use Rattle.vp_esc.proofs.Kept.{advances_giving}
 use Rattle.vp_esc.proofs.reader.EscReader.stop.Goals as goal
 
 pub returns-then-byte-last : goal.returns-then-byte-last
 returns-then-byte-last c rest hand =
-    stops_end c.args.self.now c.args.last c.args.byte rest _ hand c.if-byte-last.true
-    (λ few. c.first_stops.ensures (rw c.as_slice.ensures.value few) ∙ c.as_slice.ensures.value)
+    advances_giving _ _
+    (stops_end c.args.self.now c.args.last c.args.byte rest c.first_stops.result hand c.if-byte-last.true
+    (λ few. c.first_stops.ensures (rw c.as_slice.ensures.value few) ∙ c.as_slice.ensures.value))
 
 pub returns-then-len-lt32 : goal.returns-then-len-lt32
 returns-then-len-lt32 c rest hand =
@@ -15,5 +17,6 @@ returns-then-len-lt32 c rest hand =
 pub returns : goal.returns
 returns c rest hand =
     let many : 32 ≤ length c.keep.new.kept.items = omega (arith, c.len.ensures) in
-    stops_full c.args.self.now c.args.last c.args.byte rest c.keep.new.kept _ hand c.if-byte-last.false c.keep.ensures many
-    (λ few. c.first_stops-2.ensures (rw c.as_slice-2.ensures.value few) ∙ c.as_slice-2.ensures.value)
+    advances_giving _ _
+    (stops_full c.args.self.now c.args.last c.args.byte rest c.keep.new.kept c.first_stops-2.result hand c.if-byte-last.false c.keep.ensures many
+    (λ few. c.first_stops-2.ensures (rw c.as_slice-2.ensures.value few) ∙ c.as_slice-2.ensures.value))
