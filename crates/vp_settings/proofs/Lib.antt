@@ -1,3 +1,4 @@
 pub mod Gathering
 pub mod Storing
 pub mod Runs
+pub mod WholeRows

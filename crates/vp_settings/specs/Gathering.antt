@@ -1,7 +1,9 @@
 -- What is kept of the raster whose bytes come.
-use Rattle.std.specs.Prelude.{◌≡◌, ◌<◌, ℕ, ◌-◌, ◌==◌, if◌then◌else◌, true, List, [], ◌∷◌, ◌++◌, length, take, min}
+use Rattle.std.specs.Prelude.{◌≡◌, ◌<◌, ℕ, ◌-◌, ◌*◌, ◌==◌, if◌then◌else◌, true, List, [], ◌∷◌, ◌++◌, length, take, min}
 use Rattle.vp_esc.specs.declared.item.EscItem.{EscItem}
 use Rattle.vp_page.specs.declared.line.TheConstants.{LINE_BYTES}
+use Rattle.vp_settings.specs.declared.page_mode.Mode.{Mode}
+use Rattle.vp_settings.specs.declared.page_mode.Mode.TheVariants.{Standard, Page}
 use Rattle.vp_settings.specs.declared.raster.Raster.{Raster}
 use Rattle.vp_settings.specs.Rasters.{raster_scale, raster_bytes, rows_to_come, row_so_far, is_row_end}
 
@@ -32,3 +34,12 @@ pub record IsPartRow (r : Raster) : Type 0 where
 -- how many bytes come before the one that ends the row
 abbrev pub room_of : Raster → ℕ
 room_of r = if r.rows == 0 then 0 else r.bytes - r.got - 1
+
+-- how many bytes of the raster have not come
+abbrev pub left_of : Raster → ℕ
+left_of r = r.rows * r.bytes - r.got
+
+-- how many come before one that prints: a row that is laid on a page prints nothing
+abbrev pub run_of : Mode → Raster → ℕ
+run_of Standard r = room_of r
+run_of Page r = left_of r

@@ -495,10 +495,11 @@ pub record IsFitText (t : Text) : Type 0 where
   pub high_most : t.high ≤ 8
   pub underline_most : t.underline ≤ 2
 
--- the area lies on the page
+-- the area lies on the page, and the vertical position goes so far
 pub record IsFitPage (p : PageSettings) : Type 0 where
   pub across : p.area.x + p.area.dx ≤ PAPER_DOTS
   pub down : p.area.y + p.area.dy ≤ PAGE_ROWS
+  pub vertical : p.vertical ≤ 65535
   pub used : p.used ≤ PAGE_ROWS
 
 -- and the others

@@ -8,6 +8,6 @@ pub mod Pages
 pub mod Rasters
 pub mod History
 -- What the code keeps.
-pub mod LineEnds
+pub mod Effects
 pub mod Gathering
 pub mod Runs

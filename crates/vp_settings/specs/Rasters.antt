@@ -1,5 +1,5 @@
 -- The rows of a raster, as its bytes come.
-use Rattle.std.specs.Prelude.{ℕ, ◌+◌, ◌-◌, ◌==◌, Bool, false, nat_lt, ◌&&◌, ◌||◌, if◌then◌else◌, List, [], ◌∷◌, ◌++◌, length, map, reverse, Option, Some, None}
+use Rattle.std.specs.Prelude.{ℕ, ◌+◌, ◌-◌, ◌*◌, ◌==◌, Bool, false, nat_lt, ◌&&◌, ◌||◌, if◌then◌else◌, List, [], ◌∷◌, ◌++◌, length, map, reverse, take, drop, Option, Some, None}
 use Rattle.vp_esc.specs.declared.item.EscItem.{EscItem}
 use Rattle.vp_esc.specs.declared.item.EscItem.TheVariants.{Raster, RasterByte}
 use Rattle.vp_esc.specs.declared.item.RasterScale.{RasterScale}
@@ -77,3 +77,11 @@ is_row_end before = ends_row (raster_bytes before) (row_so_far before) && nat_lt
 abbrev pub bytes_within_row : List EscItem → ℕ
 bytes_within_row before =
     if rows_to_come before == 0 then 0 else raster_bytes before - length (row_so_far before) - 1
+
+-- how many bytes of the raster have not come
+abbrev pub bytes_to_come : List EscItem → ℕ
+bytes_to_come before = rows_to_come before * raster_bytes before - length (row_so_far before)
+
+-- row i of bytes of which so many make a row
+abbrev pub row_at : List ℕ → ℕ → ℕ → List ℕ
+row_at bytes wide i = take wide (drop (i * wide) bytes)

@@ -2,13 +2,13 @@
 //!
 //! `width` knows the paper, `text` how characters are drawn, `tabs` the tab stops, `column` an image of dots;
 //! `bar_style` and `qr_style` know how symbols are drawn, `stored` the bytes of a QR symbol, and `raster` a
-//! raster whose bytes come. `page_mode` knows what is in force on a page, `line_end` how an item ends the
-//! line, and `settings` all that is in force.
+//! raster whose bytes come. `page_mode` knows what is in force on a page, `effect` what an item does, and
+//! `settings` all that is in force.
 #![tactic(auto)]
 
 mod bar_style;
 mod column;
-mod line_end;
+mod effect;
 mod page_mode;
 mod qr_style;
 mod raster;
@@ -20,10 +20,10 @@ mod width;
 
 pub use bar_style::BarStyle;
 pub use column::Column;
-pub use line_end::LineEnd;
+pub use effect::{Effect, Piece};
 pub use page_mode::{Mode, PageSettings};
 pub use qr_style::QrStyle;
-pub use raster::{Raster, draws, scale_named, times_across, times_down};
+pub use raster::{Raster, times_across, times_down};
 pub use settings::{DEFAULT_LINE_SPACING, Settings};
 pub use stored::{STORED_BYTES, Stored};
 pub use tabs::{Stops, first_stops, set_stops};

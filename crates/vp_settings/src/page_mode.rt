@@ -1,5 +1,5 @@
 //! What is in force on a page: its mode, its area, the direction of its lines, and how far down it is used.
-ghost use Rattle.std.specs.Prelude.{◌≡◌, ◌≤◌, ◌<◌, ◌+◌, ◌-◌, ◌∷◌, List, [], ℕ, nat_lt, true, ◌&&◌, ◌||◌, is_some, if◌then◌else◌};
+ghost use Rattle.std.specs.Prelude.{◌≡◌, ◌≤◌, ◌<◌, ◌+◌, ◌-◌, ◌∷◌, List, [], ℕ, nat_lt, not, true, ◌&&◌, ◌||◌, is_some, if◌then◌else◌};
 ghost use Rattle.vp_esc.specs.declared.item.EscItem.{EscItem};
 ghost use Rattle.vp_page.specs.Areas.{line_length as length_on_page};
 ghost use Rattle.vp_page.specs.declared.page.TheConstants.{PAGE_ROWS};
@@ -7,12 +7,13 @@ ghost use Rattle.vp_page.specs.declared.line.TheConstants.{LINE_DOTS};
 ghost use Rattle.vp_settings.specs.Setup.{Setup};
 ghost use Rattle.vp_settings.specs.Pages.{is_paged, is_area, area_cut, direction_of, direction_or, is_vertical_move, vertical_moved, vertical_after, raised, area};
 ghost use Rattle.vp_settings.specs.History.{settings_of, page_of, symbol_top, lays, line, symbol_top, begins_page, mode, vertical, used, IsFit, IsFitPage};
-ghost use Rattle.vp_settings.specs.LineEnds.{rows_of_end, is_here};
+ghost use Rattle.vp_settings.specs.Effects.{effect_of, rows_of, lays_it};
+ghost use Rattle.vp_settings.specs.Runs.{below};
 ghost use Rattle.vp_settings.specs.Symbols.{symbol_image, image_rows};
 ghost use Rattle.vp_settings.specs.Rasters.{is_row_end, raster_scale, times_down};
 ghost use Rattle.vp_settings.specs.History.{printed_rows};
 
-use crate::line_end::LineEnd;
+use crate::effect::Effect;
 use crate::settings::Settings;
 use crate::width::Width;
 use vp_esc::item::{self, EscItem};
@@ -218,9 +219,11 @@ impl Settings {
         vertical_after(self.page.vertical, self.ended_rows())
     }
 
-    /// The settings after a byte that ends a row of a raster, which was laid or printed so often.
+    /// The settings after a byte that ends a row of a raster, which was laid or printed so often; or after so
+    /// many rows.
     pub fn after_row(self, times: u32) -> Settings
         requires { IsFit self }
+        ensures value { result ≡ below self times }
         ensures settings { (setup : Setup) (before : List EscItem) (byte : ℕ) →
             self ≡ settings_of setup before → is_row_end before ≡ true →
             times ≡ times_down (raster_scale before) →
@@ -249,9 +252,8 @@ impl Settings {
     }
 
     /// Whether ESC L begins a page.
-    pub fn begins_page(self) -> bool
-        ensures { (setup : Setup) (before : List EscItem) → self ≡ settings_of setup before →
-            result ≡ begins_page (mode setup before) (line setup before) }
+    pub(crate) fn begins_page(self) -> bool
+        ensures { result ≡ (not (is_paged self.page.mode) && not self.is_open) }
     {
         match self.page.mode {
             Mode::Standard => !self.is_open,
@@ -259,33 +261,29 @@ impl Settings {
         }
     }
 
-    /// The greatest lower edge where the line is ended so, with so many rows of a symbol.
-    fn used_after(self, end: LineEnd, symbol_rows: u32) -> u16
+    /// The greatest lower edge after an effect, with so many rows of a symbol.
+    fn used_after(self, effect: Effect, symbol_rows: u32) -> u16
         requires { IsFit self }
-        ensures value { result ≡ raised (nat_lt 0 (rows_of_end end)
-            || (nat_lt 0 symbol_rows || (is_here end && self.is_open))) self.page.area self.page.used }
+        ensures value { result ≡ raised (nat_lt 0 (rows_of self effect)
+            || (nat_lt 0 symbol_rows || (lays_it effect && self.is_open))) self.page.area self.page.used }
         ensures most { result ≤ PAGE_ROWS }
     {
-        let lays = match end {
-            LineEnd::Stays => false,
-            LineEnd::Rows(rows) => rows > 0,
-            LineEnd::Here => self.is_open,
-        };
+        let lays = self.rows_of(effect) > 0 || (effect.lays() && self.is_open);
         raised(lays || symbol_rows > 0, self.page.area, self.page.used)
     }
 
     /// What is in force on the page after an item that is no byte of a raster, with so many rows of a symbol.
-    pub fn page_after(self, item: &EscItem, symbol_rows: u32) -> PageSettings
+    pub fn page_after(self, item: &EscItem, effect: Effect, symbol_rows: u32) -> PageSettings
         requires fit { IsFit self }
         requires item { (byte : ℕ) → item.now ≡ EscItem.RasterByte byte → ⊥ }
+        requires effect { effect ≡ effect_of self item.now }
         ensures settings { (setup : Setup) (before : List EscItem) → self ≡ settings_of setup before →
             symbol_rows ≡ image_rows (symbol_image setup before item.now) →
             result ≡ page_of setup (item.now ∷ before) }
         ensures fit { IsFitPage result }
     {
-        let end = self.line_end(item);
         let page = PageSettings {
-            used: self.used_after(end, symbol_rows),
+            used: self.used_after(effect, symbol_rows),
             ..self.page
         };
         match item {
@@ -293,7 +291,10 @@ impl Settings {
             | EscItem::LineFeed
             | EscItem::FeedDots(_)
             | EscItem::FeedLines(_)
-            | EscItem::Raster { .. } => page.at(vertical_after(page.vertical, end.rows())),
+            | EscItem::Raster { .. } => page.at(vertical_after(
+                page.vertical,
+                self.rows_of(effect),
+            )),
             EscItem::Symbol { .. } | EscItem::QrPrint => {
                 page.at(vertical_after(self.symbol_top(), symbol_rows))
             }

@@ -2,8 +2,8 @@
 ghost use Rattle.std.specs.Prelude.{◌≡◌, ℕ, ◌+◌, ◌-◌, ◌*◌, ◌<◌, ◌≤◌, ◌++◌, List, [], ◌∷◌, take, min, length, ◌&&◌, true};
 ghost use Rattle.vp_esc.specs.declared.item.EscItem.{EscItem};
 ghost use Rattle.vp_page.specs.declared.line.TheConstants.{LINE_BYTES};
-ghost use Rattle.vp_settings.specs.Rasters.{times_across, times_down, scale_or, draws, is_row_end, bytes_after};
-ghost use Rattle.vp_settings.specs.Gathering.{IsGathering, IsPartRow, EndsRow, kept_of, room_of};
+ghost use Rattle.vp_settings.specs.Rasters.{times_across, times_down, scale_or, draws, is_row_end, row_so_far, bytes_after};
+ghost use Rattle.vp_settings.specs.Gathering.{IsGathering, IsPartRow, EndsRow, kept_of, room_of, left_of};
 
 use vp_esc::item::{EscItem, RasterScale};
 use vp_page::LINE_BYTES;
@@ -127,6 +127,16 @@ impl Raster {
         }
     }
 
+    /// Goes on to the next row.
+    #[inline(always)]
+    fn next_row(&mut self)
+        requires { 0 < self.old.rows }
+        ensures { self.new ≡ record self.old { rows = self.old.rows - 1; got = 0 } }
+    {
+        self.got = 0;
+        self.rows -= 1;
+    }
+
     /// Takes a byte, and tells whether it ends a row.
     #[inline(always)]
     pub fn take(&mut self, byte: u8) -> bool
@@ -146,8 +156,7 @@ impl Raster {
         if self.got < self.bytes {
             return false;
         }
-        self.got = 0;
-        self.rows -= 1;
+        self.next_row();
         true
     }
 
@@ -172,6 +181,45 @@ impl Raster {
     {
         keep_all(&mut self.row, self.got, bytes);
         self.got += bytes.len() as u16;
+    }
+
+    /// How many bytes have not come.
+    pub fn left(&self) -> usize
+        requires { IsPartRow self.now }
+        ensures { result ≡ left_of self.now }
+    {
+        usize::from(self.rows) * usize::from(self.bytes) - usize::from(self.got)
+    }
+
+    /// Takes the bytes that end the row, as many as it lacks.
+    pub fn end_row(&mut self, bytes: &[u8])
+        requires some { 0 < self.old.rows }
+        requires few { self.old.got < self.old.bytes }
+        requires lacks { self.old.got + length bytes.now ≡ self.old.bytes }
+        ensures part { IsPartRow self.new }
+        ensures value { self.new ≡
+            record self.old { rows = self.old.rows - 1; got = 0; row = self.new.row } }
+        ensures gathers { (before : List EscItem) → IsGathering self.old before →
+            IsGathering self.new (bytes_after bytes.now before) }
+        ensures row { (before : List EscItem) → IsGathering self.old before →
+            kept_of self.new ≡ take LINE_BYTES (row_so_far before ++ bytes.now) }
+    {
+        keep_all(&mut self.row, self.got, bytes);
+        self.next_row();
+    }
+
+    /// Passes whole rows, whose bytes are not kept.
+    pub fn pass(&mut self, rows: u16)
+        requires part { IsPartRow self.old }
+        requires begins { self.old.got ≡ 0 }
+        requires few { rows ≤ self.old.rows }
+        ensures part { IsPartRow self.new }
+        ensures value { self.new ≡ record self.old { rows = self.old.rows - rows } }
+        ensures gathers { (bytes : List ℕ) (before : List EscItem) → IsGathering self.old before →
+            rows * self.old.bytes ≤ length bytes →
+            IsGathering self.new (bytes_after (take (rows * self.old.bytes) bytes) before) }
+    {
+        self.rows -= rows;
     }
 
     /// The bytes that are kept of a whole row.

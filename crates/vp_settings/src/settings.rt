@@ -1,19 +1,22 @@
 //! All that is in force, and what an item changes of it.
-ghost use Rattle.std.specs.Prelude.{◌≡◌, ℕ, ◌+◌, ◌*◌, ◌≤◌, ◌<◌, List, ◌∷◌, [], false, nat_lt, ◌==◌, max, ◌-◌, find, if◌then◌else◌};
+ghost use Rattle.std.specs.Prelude.{◌≡◌, ℕ, ◌+◌, ◌*◌, ◌≤◌, ◌<◌, List, ◌∷◌, [], false, nat_lt, ◌==◌, max, ◌-◌, ◌&&◌, find, if◌then◌else◌};
 ghost use Rattle.vp_esc.specs.declared.item.EscItem.{EscItem};
 ghost use Rattle.vp_page.specs.declared.page.TheConstants.{PAPER_DOTS};
 ghost use Rattle.vp_page.specs.declared.line.TheConstants.{LINE_DOTS};
 ghost use Rattle.vp_settings.specs.Setup.{Setup};
+ghost use Rattle.vp_settings.specs.Pages.{is_paged};
 ghost use Rattle.vp_settings.specs.History.{shift, printed_at};
 ghost use Rattle.vp_settings.specs.Tabs.{tab_stops, tabbed};
-ghost use Rattle.vp_settings.specs.Symbols.{symbol_image, image_rows};
+ghost use Rattle.vp_settings.specs.Symbols.{symbol_image, image_rows, bar_style_of, qr_style_of};
 ghost use Rattle.vp_settings.specs.Texts.{text_of, style_of};
 ghost use Rattle.vp_settings.specs.Runs.{text_room};
+ghost use Rattle.vp_settings.specs.Effects.{effect_of, feed_of, lays_it};
 ghost use Rattle.vp_glyph.specs.Cells.{cell_width};
-ghost use Rattle.vp_settings.specs.History.{settings_of, line_settings_of, lines_rows, IsFit, length_within, length_of, breaks, column_width_of, ended_rows, position_moved, position_at, justification_or, margin_or, width_or, line, position, line_spacing, line_length};
+ghost use Rattle.vp_settings.specs.History.{settings_of, line_settings_of, lines_rows, IsFit, length_within, length_of, breaks, column_width_of, ended_rows, position_moved, position_at, justification_or, margin_or, width_or, line, position, line_spacing, line_length, column_width, left_margin, area_width, justification};
 
 use crate::bar_style::BarStyle;
 use crate::column::Column;
+use crate::effect::Effect;
 use crate::page_mode::{Mode, PageSettings};
 use crate::qr_style::QrStyle;
 use crate::raster::draws;
@@ -164,14 +167,15 @@ impl Settings {
 
     /// The rows of the strip that LF prints.
     pub fn feed_rows(self) -> u32
-        ensures { result ≡ max self.height self.line_spacing }
+        ensures { result ≡ feed_of self }
     {
         u32::from(self.height).max(u32::from(self.line_spacing))
     }
 
     /// The rows of the line's strip where something ends it: none if it is not open.
     pub fn ended_rows(self) -> u32
-        ensures { (setup : Setup) (before : List EscItem) → self ≡ settings_of setup before →
+        ensures value { result ≡ (if self.is_open then feed_of self else 0) }
+        ensures history { (setup : Setup) (before : List EscItem) → self ≡ settings_of setup before →
             result ≡ ended_rows setup before }
     {
         if self.is_open { self.feed_rows() } else { 0 }
@@ -400,25 +404,67 @@ impl Settings {
         }
     }
 
+    /// The settings after an item that has to do neither with the line nor with its position.
+    fn after_setting(self, item: &EscItem) -> Settings
+        requires fit { IsFit self }
+        requires item { item.now ≡ EscItem.Initialize → ⊥ }
+        ensures settings { (setup : Setup) (before : List EscItem) → self ≡ settings_of setup before →
+            result ≡ record self {
+              text = text_of (item.now ∷ before);
+              bars = bar_style_of (item.now ∷ before);
+              qr = qr_style_of (item.now ∷ before);
+              line_spacing = line_spacing (item.now ∷ before);
+              column_width = column_width (item.now ∷ before);
+              left_margin = left_margin setup (item.now ∷ before);
+              area_width = area_width setup (item.now ∷ before);
+              justification = justification setup (item.now ∷ before);
+            } }
+        ensures fit { IsFit result }
+    {
+        match item {
+            EscItem::Columns { mode, .. } => self.dotted(dot_width(*mode)),
+            EscItem::DefaultLineSpacing => self.spaced(DEFAULT_LINE_SPACING),
+            EscItem::LineSpacing(n) => self.spaced(*n),
+            EscItem::LeftMargin(n) => self.indented(*n),
+            EscItem::AreaWidth(n) => self.as_wide(*n),
+            EscItem::Justify(s) => self.justified(s.value),
+            _ => Settings {
+                text: self.text.after(item),
+                bars: self.bars.after(item),
+                qr: self.qr.after(item),
+                ..self
+            },
+        }
+    }
+
+    /// Whether an effect lays the line of a page where it is.
+    fn lays_here(self, effect: Effect) -> bool
+        ensures { result ≡ (lays_it effect && is_paged self.page.mode) }
+    {
+        self.page.is_paged() && effect.lays()
+    }
+
     /// The settings after an item that is no byte of a raster, with these tab stops, and so many rows of a
     /// symbol.
-    pub fn after(self, item: &EscItem, stops: &[u32], symbol_rows: u32) -> Settings
+    pub fn after(self, item: &EscItem, effect: Effect, stops: &[u32], symbol_rows: u32) -> Settings
         requires fit { IsFit self }
         requires item { (byte : ℕ) → item.now ≡ EscItem.RasterByte byte → ⊥ }
+        requires effect { effect ≡ effect_of self item.now }
         ensures settings { (setup : Setup) (before : List EscItem) → self ≡ settings_of setup before →
             stops.now ≡ tab_stops before → symbol_rows ≡ image_rows (symbol_image setup before item.now) →
             result ≡ settings_of setup (item.now ∷ before) }
         ensures fit { IsFit result }
     {
         Settings {
-            page: self.page_after(item, symbol_rows),
-            ..self.after_in_line(item, stops)
+            page: self.page_after(item, effect, symbol_rows),
+            ..self.after_in_line(item, effect, stops)
         }
     }
 
     /// The same, with the page as it was.
-    fn after_in_line(self, item: &EscItem, stops: &[u32]) -> Settings
-        requires { IsFit self }
+    fn after_in_line(self, item: &EscItem, effect: Effect, stops: &[u32]) -> Settings
+        requires fit { IsFit self }
+        requires effect { effect ≡ effect_of self item.now }
         ensures settings { (setup : Setup) (before : List EscItem) → self ≡ settings_of setup before →
             stops.now ≡ tab_stops before → result ≡ line_settings_of setup self.page (item.now ∷ before) }
         ensures fit { IsFit result }
@@ -444,39 +490,11 @@ impl Settings {
             EscItem::StandardMode if self.page.is_paged() => self.closed(),
             EscItem::PageMode if self.begins_page() => self.at(0),
             EscItem::VerticalPosition(_) | EscItem::MoveVerticalPosition(_) | EscItem::PrintPage
-                if self.lays_here(item) => { self.without_line() }
+                if self.lays_here(effect) => { self.without_line() }
             EscItem::Area { .. } | EscItem::Direction(_) | EscItem::FormFeed | EscItem::Cancel
-                if self.lays_here(item) => { self.closed() }
+                if self.lays_here(effect) => { self.closed() }
             EscItem::Initialize => self.initialized(),
-            EscItem::Columns { mode, .. } => self.dotted(dot_width(*mode)),
-            EscItem::DefaultLineSpacing => self.spaced(DEFAULT_LINE_SPACING),
-            EscItem::LineSpacing(n) => self.spaced(*n),
-            EscItem::LeftMargin(n) => self.indented(*n),
-            EscItem::AreaWidth(n) => self.as_wide(*n),
-            EscItem::Justify(s) => self.justified(s.value),
-            EscItem::RightSpacing(_)
-            | EscItem::PrintMode(_)
-            | EscItem::Underline(_)
-            | EscItem::Emphasized(_)
-            | EscItem::DoubleStrike(_)
-            | EscItem::Font(_)
-            | EscItem::Magnify(_)
-            | EscItem::Inverse(_) => Settings {
-                text: self.text.after(item),
-                ..self
-            },
-            EscItem::BarTextPlace(_)
-            | EscItem::BarTextFont(_)
-            | EscItem::BarHeight(_)
-            | EscItem::BarModule(_) => Settings {
-                bars: self.bars.after(item),
-                ..self
-            },
-            EscItem::QrModel(_) | EscItem::QrModule(_) | EscItem::QrLevel(_) => Settings {
-                qr: self.qr.after(item),
-                ..self
-            },
-            _ => self,
+            _ => self.after_setting(item),
         }
     }
 }
