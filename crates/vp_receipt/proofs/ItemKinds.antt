@@ -1,7 +1,10 @@
 -- What items of some kinds leave alone.
-use Rattle.std.proofs.Common.{◌≡◌, true, false, ◌&&◌, refl, List, [], ◌∷◌, Option, Some, None}
+use Rattle.std.proofs.Common.{◌≡◌, ℕ, Bool, true, false, ◌&&◌, refl, List, [], ◌∷◌, Option, Some, None}
 use Rattle.vp_esc.specs.declared.item.EscItem.{EscItem}
 use Rattle.vp_esc.specs.declared.item.EscItem.TheVariants.{CarriageReturn, Control, QrIgnored, WithoutEffect, QrPrint, Symbol as SetSymbol}
+use Rattle.arrayvec.specs.ArrayVec.{ArrayVec}
+use Rattle.vp_esc.specs.declared.item.Spelled.{Spelled}
+use Rattle.vp_esc.specs.declared.item.BarKind.{BarKind}
 use Rattle.vp_dots.specs.Images.{Image}
 use Rattle.vp_glyph.specs.declared.Sheets.{Sheets}
 use Rattle.vp_settings.specs.declared.page_mode.Mode.{Mode}
@@ -15,10 +18,17 @@ use Rattle.vp_strips.specs.declared.symbol.Symbol.{Symbol}
 use Rattle.vp_strips.specs.SymbolInks.{is_symbol, symbol_height, IsSymbolOf}
 use Rattle.vp_receipt.specs.PageMarks.{layers}
 use Rattle.vp_receipt.specs.Strips.{prints, refusal, printed_page}
-use Rattle.vp_receipt.specs.Standing.{is_ignored}
 use Rattle.vp_receipt.proofs.Runs.{nothing_by}
 
--- an item that does nothing
+-- commands that do nothing
+abbrev pub is_ignored : EscItem → Bool
+is_ignored CarriageReturn = true
+is_ignored (Control byte) = true
+is_ignored (QrIgnored bytes) = true
+is_ignored (WithoutEffect lead bytes) = true
+is_ignored _ = false
+
+-- what they leave alone
 pub record DoesNothing (setup : Setup) (before : List EscItem) (item : EscItem) : Type 0 where
   pub settings : settings_of setup (item ∷ before) ≡ settings_of setup before
   pub line : line setup (item ∷ before) ≡ line setup before
@@ -67,11 +77,6 @@ no_page setup before (SetSymbol kind bytes more) h = no_page_of (mode setup befo
 no_page setup before QrPrint h = no_page_of (mode setup before)
 no_page setup before _ h = cc
 
-pub mode_kept : (setup : Setup) (before : List EscItem) (item : EscItem) (symbol : Symbol) → IsSymbolOf setup.sheets (Some symbol) (symbol_image setup before item) → mode setup (item ∷ before) ≡ mode setup before
-mode_kept setup before (SetSymbol kind bytes more) symbol h = refl
-mode_kept setup before QrPrint symbol h = refl
-mode_kept setup before _ symbol h = absurd h
-
 -- how many rows it has
 rows_of : (sheets : Sheets) (symbol : Symbol) (image : Option Image) → IsSymbolOf sheets (Some symbol) image → symbol_height sheets symbol ≡ image_rows image
 rows_of sheets symbol (Some image) h = h.height
@@ -80,3 +85,9 @@ rows_of sheets symbol None h = absurd h
 pub rows_drawn : (setup : Setup) (before : List EscItem) (item : EscItem) (symbol : Symbol) → IsSymbolOf setup.sheets (Some symbol) (symbol_image setup before item)
     → symbol_height setup.sheets symbol ≡ image_rows (symbol_image setup before item)
 rows_drawn setup before item symbol h = rows_of setup.sheets symbol (symbol_image setup before item) h
+
+-- the symbols are bars and QR
+pub is_qr : (item : EscItem) → ((kind : Spelled (Option BarKind)) (bytes : ArrayVec ℕ) (more : Bool) → item ≡ SetSymbol kind bytes more → ⊥) → is_symbol item ≡ true → item ≡ QrPrint
+is_qr (SetSymbol kind bytes more) n h = absurd (n kind bytes more refl)
+is_qr QrPrint n h = refl
+is_qr _ n h = cc

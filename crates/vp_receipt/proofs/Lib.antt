@@ -7,6 +7,7 @@ pub mod SymbolTexts
 pub mod RowLaws
 pub mod Runs
 pub mod ItemKinds
+pub mod Effects
 pub mod RowEnds
 pub mod Images
 pub mod Rasters
@@ -15,3 +16,5 @@ pub mod Across
 pub mod Begun
 pub mod Orderly
 pub mod Texts
+pub mod PageRows
+pub mod PageEights

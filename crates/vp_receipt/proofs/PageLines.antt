@@ -1,9 +1,9 @@
 -- The line and the page: what a bitmap lays, and the rows that are printed.
-use Rattle.std.proofs.Common.{◌≡◌, ℕ, zero, suc, ◌+◌, ◌-◌, ◌<◌, ◌≤◌, Bool, true, ◌&&◌, refl, sym, ap, subst, ◌∙◌, arith, List, [], ◌∷◌, ◌++◌, ◌==◌, if◌then◌else◌, eq-eqb, inl, inr}
+use Rattle.std.proofs.Common.{◌≡◌, ℕ, zero, suc, ◌+◌, ◌-◌, ◌<◌, ◌≤◌, Bool, true, refl, sym, ap, subst, ◌∙◌, arith, List, [], ◌∷◌, ◌++◌, ◌==◌, if◌then◌else◌, eq-eqb, inl, inr}
 use Rattle.std.proofs.lemmas.Bool.{lt-ltb, le-leb, and_parts, ltb-true, cases_eq, ne_eqb}
 use Rattle.vp_dots.specs.Headers.{header_of}
 use Rattle.vp_esc.specs.declared.item.EscItem.{EscItem}
-use Rattle.vp_esc.specs.declared.item.EscItem.TheVariants.{PrintPage, FormFeed, PageMode}
+use Rattle.vp_esc.specs.declared.item.EscItem.TheVariants.{PageMode}
 use Rattle.vp_page.specs.declared.area.Area.{Area}
 use Rattle.vp_page.specs.declared.area.Direction.{Direction}
 use Rattle.vp_page.specs.declared.area.Direction.TheVariants.{LeftToRight, BottomToTop, RightToLeft, TopToBottom}
@@ -18,8 +18,7 @@ use Rattle.vp_strips.specs.declared.strip.Dots.TheVariants.{Page as PageDots}
 use Rattle.vp_settings.specs.declared.page_mode.Mode.{Mode}
 use Rattle.vp_settings.specs.declared.page_mode.Mode.TheVariants.{Standard, Page}
 use Rattle.vp_strips.specs.Held.{whole}
-use Rattle.vp_receipt.specs.Strips.{prints, strips, own_part, own_strips, prints_page, page_part}
-use Rattle.vp_receipt.specs.Standing.{HasPageIf}
+use Rattle.vp_receipt.specs.Standing.{HasPageIf, IsSettled}
 use Rattle.vp_settings.specs.History.{Placed, height, line, is_open, mode, settings_of}
 use Rattle.vp_settings.specs.declared.page_mode.PageSettings.{PageSettings}
 use Rattle.vp_strips.specs.LineDots.{HasDots, any_dot}
@@ -68,12 +67,6 @@ page_strip paper layers canvas rows h has = elim (cases_eq rows 0) [
   | inr n ↦ rw (ne_eqb rows 0 n) (strip_shown paper layers canvas rows h has n ∙ rw (ne_eqb rows 0 n) refl)
 ]
 
--- ESC FF and FF print the page with the open line
-pub with_line : (setup : Setup) (before : List EscItem) (item : EscItem) (layers : List Layer) → prints_page item ≡ true → layers_with setup before item layers ≡ laid_if (is_open (line setup before)) (line_mark setup before) layers
-with_line setup before PrintPage layers h = refl
-with_line setup before FormFeed layers h = refl
-with_line setup before _ layers h = cc
-
 pub has_page : (m : Mode) (layers : List Layer) (page : List (List ℕ)) → HasPage layers page → HasPageIf m layers page
 has_page Standard layers page h = tt
 has_page Page layers page h = h
@@ -83,28 +76,19 @@ pub page_kept : (setup : Setup) (before : List EscItem) (item : EscItem) (page :
 page_kept setup before PageMode page e h = has_page (mode setup (PageMode ∷ before)) (layers setup (PageMode ∷ before)) page (rw e h)
 page_kept setup before item page e h = has_page (mode setup (item ∷ before)) (layers setup (item ∷ before)) page h
 
--- what is printed by mode
-pub prints_on_page : (setup : Setup) (before : List EscItem) (item : EscItem) → mode setup before ≡ Page → page_part setup before item ≡ prints setup before item
-prints_on_page setup before item e = rw e refl
-
-pub owns_on_page : (setup : Setup) (before : List EscItem) (item : EscItem) → mode setup before ≡ Page → page_part setup before item ≡ own_part setup before item
-owns_on_page setup before item e = rw e refl
-
-pub prints_on_paper : (setup : Setup) (before : List EscItem) (item : EscItem) → mode setup before ≡ Standard → strips setup before item ≡ prints setup before item
-prints_on_paper setup before item e = rw e refl
-
-pub owns_on_paper : (setup : Setup) (before : List EscItem) (item : EscItem) → mode setup before ≡ Standard → own_strips setup before item ≡ own_part setup before item
-owns_on_paper setup before item e = rw e refl
-
 -- the line that is laid
-pub line_laid : (setup : Setup) (before : List EscItem) (s : Settings) (bitmap page : List (List ℕ)) (layers : List Layer) (ends : Bool) → s ≡ settings_of setup before → s.height ≤ 192 → ends ≡ true → s.is_open ≡ true
+pub line_laid : (setup : Setup) (before : List EscItem) (s : Settings) (bitmap page : List (List ℕ)) (layers : List Layer) → s ≡ settings_of setup before → s.height ≤ 192 → s.is_open ≡ true
     → (is_open (line setup before) ≡ true → HasDots (line setup before) bitmap)
     → (HasRows s bitmap (line_dot (line setup before)) → HasPage (Laid (mark_of s.page (line_dot (line setup before))) ∷ layers) page)
-    → HasPage (laid_if (ends && is_open (line setup before)) (line_mark setup before) layers) page
-line_laid setup before s bitmap page layers ends e small t o has laid =
+    → HasPage (laid_if (is_open (line setup before)) (line_mark setup before) layers) page
+line_laid setup before s bitmap page layers e small o has laid =
     let open_is : is_open (line setup before) ≡ true = sym (ap (λ (q : Settings). q.is_open) e) ∙ o in
-    rw (t, open_is) (subst (λ (p : PageSettings). HasPage (Laid (mark_of p (line_dot (line setup before))) ∷ layers) page) (ap (λ (q : Settings). q.page) e)
+    rw open_is (subst (λ (p : PageSettings). HasPage (Laid (mark_of p (line_dot (line setup before))) ∷ layers) page) (ap (λ (q : Settings). q.page) e)
     (laid (has_rows s (line setup before) bitmap (ap (λ (q : Settings). q.height) e) small (has open_is))))
 
 pub mode_is : (setup : Setup) (before : List EscItem) (s : Settings) (m : Mode) → s ≡ settings_of setup before → s.page.mode ≡ m → mode setup before ≡ m
 mode_is setup before s m e is = sym (ap (λ (q : Settings). q.page.mode) e) ∙ is
+
+-- what is settled has its page in page mode
+pub page_held : (setup : Setup) (before : List EscItem) (s : Settings) (canvas : Canvas) → IsSettled setup before s canvas → s.page.mode ≡ Page → HasPage (layers setup before) canvas.page
+page_held setup before s canvas h is = subst (λ (m : Mode). HasPageIf m (layers setup before) canvas.page) (mode_is setup before s Page h.settings is) h.page

@@ -36,19 +36,16 @@ rows_shown setup before s kept came row left length times bytes n e left_is long
     ∙ ap (λ (q : Settings). rows_text q.paper (λ x y. raster_dot setup before times bytes came x) 0 n) e
 
 -- a row that is laid, as often as its scale says
-laid_dots : (came kept row : List ℕ) (across down : ℕ) → kept ≡ take 208 came → ((u : ℕ) → u < 1664 → dot row u ≡ dot kept (u / across))
-    → (u w : ℕ) → u < 1664 → w < down → dot row u ≡ nat_lt w down && dot came (u / across)
-laid_dots came kept row across down k is u w h l =
-    is u h ∙ ap (λ (xs : List ℕ). dot xs (u / across)) k ∙ dot_kept came (u / across) (let le = div-le_self u across in omega arith)
+laid_dots : (came kept : List ℕ) (across down : ℕ) → kept ≡ take 208 came → (u w : ℕ) → u < 1664 → w < down → dot kept (u / across) ≡ nat_lt w down && dot came (u / across)
+laid_dots came kept across down k u w h l =
+    ap (λ (xs : List ℕ). dot xs (u / across)) k ∙ dot_kept came (u / across) (let le = div-le_self u across in omega arith)
     ∙ sym (rw (lt-ltb w down l) refl)
 
-pub laid_row : (setup : Setup) (before : List EscItem) (s : Settings) (scale : RasterScale) (came kept row : List ℕ) (times : ℕ) (layers : List Layer) (page : List (List ℕ)) → s ≡ settings_of setup before → scale ≡ raster_scale before
-    → times ≡ times_down scale → kept ≡ take 208 came → ((u : ℕ) → u < 1664 → dot row u ≡ dot kept (u / times_across scale))
-    → ((dots : ℕ → ℕ → Bool) → ((u w : ℕ) → u < 1664 → w < times → dot row u ≡ dots u w) → ((u w : ℕ) → dots u w ≡ true → w < times) → HasPage (Laid (mark_of s.page dots) ∷ layers) page)
+pub laid_row : (setup : Setup) (before : List EscItem) (s : Settings) (scale : RasterScale) (came kept : List ℕ) (layers : List Layer) (page : List (List ℕ)) → s ≡ settings_of setup before → scale ≡ raster_scale before
+    → kept ≡ take 208 came
+    → ((dots : ℕ → ℕ → Bool) → ((u w : ℕ) → u < 1664 → w < times_down scale → dot kept (u / times_across scale) ≡ dots u w) → ((u w : ℕ) → dots u w ≡ true → w < times_down scale) → HasPage (Laid (mark_of s.page dots) ∷ layers) page)
     → HasPage (Laid (raster_mark setup before came) ∷ layers) page
-laid_row setup before s scale came kept row times layers page e scale_is times_is kept_is row_is laid =
-    let across = times_across scale in
+laid_row setup before s scale came kept layers page e scale_is kept_is laid =
     subst (λ (k : RasterScale). HasPage (Laid (mark_of (page_of setup before) (λ u w. nat_lt w (times_down k) && dot came (u / times_across k))) ∷ layers) page) scale_is
-    (subst (λ n. HasPage (Laid (mark_of (page_of setup before) (λ u w. nat_lt w n && dot came (u / across))) ∷ layers) page) times_is
-    (subst (λ (p : PageSettings). HasPage (Laid (mark_of p (λ u w. nat_lt w times && dot came (u / across))) ∷ layers) page) (ap (λ (q : Settings). q.page) e)
-    (laid (λ u w. nat_lt w times && dot came (u / across)) (laid_dots came kept row across times kept_is row_is) (λ u w h. ltb-true w times (and_parts _ _ h).0))))
+    (subst (λ (p : PageSettings). HasPage (Laid (mark_of p (λ u w. nat_lt w (times_down scale) && dot came (u / times_across scale))) ∷ layers) page) (ap (λ (q : Settings). q.page) e)
+    (laid (λ u w. nat_lt w (times_down scale) && dot came (u / times_across scale)) (laid_dots came kept (times_across scale) (times_down scale) kept_is) (λ u w h. ltb-true w (times_down scale) (and_parts _ _ h).0)))

@@ -22,9 +22,9 @@ use Rattle.vp_settings.specs.declared.raster.Raster.{Raster}
 use Rattle.vp_settings.specs.Runs.{text_after}
 use Rattle.vp_strips.specs.LineDots.{HasDots, HasOpen}
 use Rattle.vp_receipt.specs.Strips.{printed, prints}
-use Rattle.vp_receipt.specs.Standing.{LeavesAlone, is_ignored}
+use Rattle.vp_receipt.specs.Standing.{LeavesAlone}
 use Rattle.vp_receipt.proofs.Runs.{nothing_by}
-use Rattle.vp_receipt.proofs.ItemKinds.{does_nothing}
+use Rattle.vp_receipt.proofs.ItemKinds.{is_ignored, does_nothing}
 
 -- the newest item comes first
 pub text_more : (text : List ℕ) (b : ℕ) (before : List EscItem) → text_after (text ++ b ∷ []) before ≡ single_item b ∷ text_after text before

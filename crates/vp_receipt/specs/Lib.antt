@@ -4,4 +4,5 @@ pub mod Strips
 pub mod Images
 -- What the code keeps.
 pub mod Standing
+pub mod Effects
 pub mod Printer

@@ -1,5 +1,5 @@
 -- What is laid on the page since ESC L.
-use Rattle.std.specs.Prelude.{◌≡◌, ℕ, ◌<◌, ◌+◌, ◌-◌, ◌/◌, nat_lt, Bool, true, false, ◌&&◌, if◌then◌else◌, List, [], ◌∷◌, ◌++◌, Option, Some, None, slice_index_or}
+use Rattle.std.specs.Prelude.{◌≡◌, ℕ, ◌<◌, ◌+◌, ◌-◌, ◌*◌, ◌/◌, nat_lt, Bool, true, false, ◌&&◌, if◌then◌else◌, List, [], ◌∷◌, ◌++◌, Option, Some, None, slice_index_or}
 use Rattle.vp_dots.specs.Dots.{dot}
 use Rattle.vp_esc.specs.declared.item.EscItem.{EscItem}
 use Rattle.vp_esc.specs.declared.item.EscItem.TheVariants.{RasterByte, Symbol, QrPrint, PageMode, Cancel}
@@ -15,7 +15,8 @@ use Rattle.vp_settings.specs.declared.text.TheConstants.{LINE_ROWS}
 use Rattle.vp_strips.specs.LineDots.{any_dot}
 use Rattle.vp_dots.specs.Images.{Image}
 use Rattle.vp_settings.specs.Symbols.{symbol_image}
-use Rattle.vp_settings.specs.Rasters.{times_across, times_down, raster_scale, is_row_end, row_so_far}
+use Rattle.vp_esc.specs.declared.item.RasterScale.{RasterScale}
+use Rattle.vp_settings.specs.Rasters.{times_across, times_down, raster_scale, is_row_end, row_so_far, row_at}
 
 -- dots with their top at the vertical position
 abbrev pub mark_of : PageSettings → (ℕ → ℕ → Bool) → Mark
@@ -52,6 +53,12 @@ abbrev pub raster_mark : Setup → List EscItem → List ℕ → Mark
 raster_mark setup before row =
     mark_of (page_of setup before)
     (λ u w. nat_lt w (times_down (raster_scale before)) && dot row (u / times_across (raster_scale before)))
+
+-- dot (u, w) of so many of its rows, one below the other
+abbrev pub rows_dot : RasterScale → ℕ → ℕ → List ℕ → ℕ → ℕ → Bool
+rows_dot scale wide rows bytes u w =
+    nat_lt w (rows * times_down scale)
+    && dot (row_at bytes wide (w / times_down scale)) (u / times_across scale)
 
 -- GS k, GS ( k: a symbol, below the line that it ends
 abbrev pub symbol_mark : Setup → List EscItem → (ℕ → ℕ → Bool) → Mark

@@ -1,7 +1,7 @@
 -- What a receipt printer stands after.
-use Rattle.std.specs.Prelude.{◌≡◌, ◌<◌, ℕ, Bool, true, false, List, [], ◌∷◌, Option, Some, None, length}
+use Rattle.std.specs.Prelude.{◌≡◌, ◌<◌, ℕ, Bool, false, List, [], ◌∷◌, Option, Some, None, length}
 use Rattle.vp_esc.specs.declared.item.EscItem.{EscItem}
-use Rattle.vp_esc.specs.declared.item.EscItem.TheVariants.{CarriageReturn, Control, QrIgnored, WithoutEffect}
+use Rattle.vp_esc.specs.declared.item.EscItem.TheVariants.{RasterByte}
 use Rattle.vp_glyph.specs.declared.Sheets.{Sheets}
 use Rattle.vp_settings.specs.declared.settings.Settings.{Settings}
 use Rattle.vp_settings.specs.declared.raster.Raster.{Raster}
@@ -20,6 +20,7 @@ use Rattle.vp_strips.specs.Held.{Showing, Shows}
 use Rattle.vp_receipt.specs.Strips.{own_part, printed, printed_page}
 use Rattle.vp_strips.specs.declared.canvas.Canvas.{Canvas}
 use Rattle.vp_strips.specs.LineDots.{HasOpen}
+use Rattle.vp_strips.specs.SymbolInks.{is_symbol}
 
 -- a receipt printer: what is in force, its tab stops, the raster that comes, the bitmap of its line, its
 -- page,
@@ -62,13 +63,17 @@ pub record IsSettled (setup : Setup) (before : List EscItem) (s : Settings) (can
   pub line : HasOpen (line setup before) canvas.bitmap
   pub page : HasPageIf (mode setup before) (layers setup before) canvas.page
 
--- commands that do nothing
-abbrev pub is_ignored : EscItem → Bool
-is_ignored CarriageReturn = true
-is_ignored (Control byte) = true
-is_ignored (QrIgnored bytes) = true
-is_ignored (WithoutEffect lead bytes) = true
-is_ignored _ = false
+-- the settings, the raster that comes and the page are those after these items
+pub record IsOnPage (setup : Setup) (before : List EscItem) (s : Settings) (r : Raster) (rows : List (List ℕ))
+    : Type 0 where
+  pub settings : s ≡ settings_of setup before
+  pub raster : IsGathering r before
+  pub page : HasPage (layers setup before) rows
+
+-- an item that is no byte of a raster, and draws no symbol
+pub record IsActing (item : EscItem) : Type 0 where
+  pub byte : (byte : ℕ) → item ≡ RasterByte byte → ⊥
+  pub symbol : is_symbol item ≡ false
 
 -- after these items all but the line is as it was after those before, and nothing more is printed
 pub record LeavesAlone (setup : Setup) (after before : List EscItem) : Type 0 where

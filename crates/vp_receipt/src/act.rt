@@ -2,40 +2,42 @@
 ghost use Rattle.std.specs.List.{AllByRecursion};
 ghost use Rattle.vp_esc.specs.Reader.{is_text};
 ghost use Rattle.vp_settings.specs.Runs.{text_room, text_after};
-ghost use Rattle.std.specs.Prelude.{◌≡◌, ◌≤◌, ◌<◌, ◌+◌, ◌-◌, ◌*◌, ◌∷◌, ◌++◌, List, [], ℕ, Bool, ◌&&◌, length, true, false, None, Some, IfNone, IfSome, max, min, take};
+ghost use Rattle.std.specs.Prelude.{◌≡◌, ◌≤◌, ◌<◌, ◌+◌, ◌-◌, ◌*◌, ◌∷◌, ◌++◌, List, ℕ, Bool, ◌&&◌, length, true, None, Some, IfSome, take};
 ghost use Rattle.vp_esc.specs.declared.item.EscItem.{EscItem};
 ghost use Rattle.vp_glyph.specs.declared.Sheets.{Sheets};
 ghost use Rattle.vp_strips.specs.declared.canvas.Canvas.{Canvas};
 ghost use Rattle.vp_page.specs.declared.line.TheConstants.{LINE_BYTES, LINE_DOTS};
 ghost use Rattle.vp_strips.specs.declared.job.After.{After};
 ghost use Rattle.vp_strips.specs.declared.lines.Lines.{Lines};
-ghost use Rattle.vp_dots.specs.Dots.{dot};
 ghost use Rattle.vp_settings.specs.Setup.{Setup};
-ghost use Rattle.vp_settings.specs.History.{settings_of, IsFit, height, is_open, line, mode, Placed, image_of};
+ghost use Rattle.vp_settings.specs.History.{settings_of, IsFit, height, is_open, line, mode, Placed};
 ghost use Rattle.vp_page.specs.Layers.{Layer, Laid};
 ghost use Rattle.vp_page.specs.Pages.{HasPage};
-ghost use Rattle.vp_receipt.specs.PageMarks.{HasRows, mark_of, line_mark, laid_if, wipes, wiped_if, raster_mark, layers_with, layers};
-ghost use Rattle.vp_settings.specs.History.{ends_line};
+ghost use Rattle.vp_receipt.specs.PageMarks.{HasRows, mark_of, layers_with, layers, printed_layers};
 ghost use Rattle.vp_strips.specs.LineDots.{HasDots, HasOpen, ink_placed};
 ghost use Rattle.vp_strips.specs.Rows.{line_text, image_text, white_text, cut_text};
 ghost use Rattle.vp_settings.specs.Rasters.{raster_scale, raster_bytes};
-ghost use Rattle.vp_receipt.specs.Strips.{prints, strips, own_part, own_strips, prints_page, printed_page, page_part, ended, raster_row_text};
+ghost use Rattle.vp_receipt.specs.Strips.{prints, strips, own_part, own_strips, page_text, ended, raster_row_text};
+ghost use Rattle.vp_receipt.specs.Effects.{line_by, own_by, strips_by, page_by, part_by, prints_by, layers_by, mode_by, text_if};
+ghost use Rattle.vp_settings.specs.Effects.{waits_of, is_page};
+ghost use Rattle.vp_settings.specs.Pages.{is_paged};
+ghost use Rattle.vp_settings.specs.declared.effect.Effect.{Effect};
+ghost use Rattle.vp_settings.specs.declared.page_mode.Mode.{Mode};
 ghost use Rattle.vp_settings.specs.Symbols.{symbol_image};
 ghost use Rattle.vp_dots.specs.Images.{Image};
-ghost use Rattle.vp_strips.specs.SymbolInks.{symbol_width, symbol_height, is_symbol, IsSymbolOf, IsDrawn};
+ghost use Rattle.vp_strips.specs.SymbolInks.{symbol_width, symbol_height, IsSymbolOf, IsDrawn};
 ghost use Rattle.vp_settings.specs.Pages.{area};
 ghost use Rattle.vp_receipt.specs.Standing.{Gathers, HasPageIf, IsSettled, LeavesAlone};
 ghost use Rattle.vp_settings.specs.Gathering.{EndsRow, kept_of};
 ghost use Rattle.vp_strips.specs.Held.{text_of, after_text, IsJob, IsTurned, AreOwn, IsShowing};
 
+use crate::raster_page::lay_raster_row;
 use vp_dots::Ink;
-use vp_esc::item::{Cut, EscItem};
+use vp_esc::item::Cut;
 use vp_glyph::Sheets;
 use vp_page::{Direction, PAPER_BYTES, Page};
-use vp_settings::{
-    LINE_ROWS, Mode, Raster, Settings, draws, scale_named, times_across, times_down,
-};
-use vp_strips::{After, Bitmap, Canvas, Job, Strip, Symbol, doubled, write_raster_row};
+use vp_settings::{Effect, LINE_ROWS, Mode, Piece, Raster, Settings, times_across, times_down};
+use vp_strips::{After, Bitmap, Canvas, Job, Strip, Symbol, write_raster_row};
 
 /// Puts the character that waits into the line.
 pub fn settle(s: &Settings, waiting: Option<u8>, sheets: &Sheets, bitmap: &mut Bitmap)
@@ -60,6 +62,23 @@ fn put_next<I: Ink>(s: &Settings, ink: &I, bitmap: &mut Bitmap)
         bitmap.begin_line();
     }
     bitmap.put_ink(ink, s.position);
+}
+
+/// Puts a piece into the line at its position.
+fn put(s: &Settings, piece: Piece, canvas: &mut Canvas)
+    requires { IsFit s.now }
+    ensures others { canvas.new ≡ record canvas.old { bitmap = canvas.new.bitmap } }
+    ensures line { (setup : Setup) (before : List EscItem) → IsSettled setup before s.now canvas.old →
+        HasDots (line_by setup before (Effect.Puts piece)) canvas.new.bitmap }
+{
+    match piece {
+        Piece::Character(code) => {
+            let cell = s.text.cell(&canvas.sheets, code);
+            put_next(s, &cell, &mut canvas.bitmap);
+        }
+        Piece::Column8(byte) => put_next(s, &s.column([byte], 3), &mut canvas.bitmap),
+        Piece::Column24(bytes) => put_next(s, &s.column(bytes, 1), &mut canvas.bitmap),
+    }
 }
 
 /// Puts text into the line, which none of it breaks.
@@ -91,8 +110,7 @@ fn line_job(s: &Settings, rows: u32) -> Job
     ensures job { (canvas : Canvas) (lines : Lines) → IsJob result canvas lines }
     ensures turned { IsTurned result.place result.after }
     ensures text { (setup : Setup) (before : List EscItem) (canvas : Canvas) →
-        s.now ≡ settings_of setup before →
-        HasOpen (line setup before) canvas.bitmap → text_of result canvas ≡ line_text setup before rows }
+        IsSettled setup before s.now canvas → text_of result canvas ≡ line_text setup before rows }
     ensures shows { (canvas : Canvas) → IsShowing result canvas s.now.height 0 }
 {
     Job::of(Strip::of_line(s, rows), After::End)
@@ -105,8 +123,7 @@ fn ended_job(s: &Settings, after: After) -> Job
     ensures job { (canvas : Canvas) (lines : Lines) → IsJob result canvas lines }
     ensures turned { IsTurned result.place result.after }
     ensures text { (setup : Setup) (before : List EscItem) (canvas : Canvas) →
-        s.now ≡ settings_of setup before →
-        HasOpen (line setup before) canvas.bitmap →
+        IsSettled setup before s.now canvas →
         text_of result canvas ≡ ended setup before ++ after_text after canvas }
     ensures shows { (canvas : Canvas) →
         IsShowing result canvas s.now.height (length (after_text after canvas)) }
@@ -120,12 +137,11 @@ fn cut_job(s: &Settings, dots: u8, cut: Cut) -> Job
     ensures job { (canvas : Canvas) (lines : Lines) → IsJob result canvas lines }
     ensures turned { IsTurned result.place result.after }
     ensures text { (setup : Setup) (before : List EscItem) (canvas : Canvas) →
-        s.now ≡ settings_of setup before →
-        HasOpen (line setup before) canvas.bitmap →
+        IsSettled setup before s.now canvas →
         text_of result canvas ≡
         ended setup before ++ (white_text setup.width dots ++ cut_text setup.width cut) }
     ensures shows { (setup : Setup) (before : List EscItem) (canvas : Canvas) →
-        s.now ≡ settings_of setup before →
+        IsSettled setup before s.now canvas →
         IsShowing result canvas (height (line setup before))
         (length (white_text setup.width dots ++ cut_text setup.width cut)) }
 {
@@ -137,80 +153,34 @@ fn cut_job(s: &Settings, dots: u8, cut: Cut) -> Job
     ended_job(s, After::Two(white, cut))
 }
 
-/// What an item that prints no symbol does to the line: the character that then waits, and what is printed.
-fn act_on_line(
-    s: &Settings,
-    item: &EscItem,
-    sheets: &Sheets,
-    bitmap: &mut Bitmap,
-) -> (Option<u8>, Job)
-    requires fit { IsFit s.now }
-    requires item { (byte : ℕ) → item.now ≡ EscItem.RasterByte byte → ⊥ }
-    requires symbol { is_symbol item.now ≡ false }
-    ensures job { (canvas : Canvas) (lines : Lines) → IsJob result.1 canvas lines }
-    ensures turned { IsTurned result.1.place result.1.after }
-    ensures line { (setup : Setup) (before : List EscItem) → s.now ≡ settings_of setup before →
-        sheets.now ≡ setup.sheets → HasOpen (line setup before) bitmap.old →
-        Gathers sheets.now (settings_of setup (item.now ∷ before)) bitmap.new result.0
-        (line setup (item.now ∷ before)) }
+/// What an effect prints on paper.
+fn printed(s: &Settings, effect: Effect) -> Option<Job>
+    requires { IsFit s.now }
+    ensures job { IfSome result (λ job. (canvas : Canvas) (lines : Lines) → IsJob job canvas lines) }
+    ensures turned { IfSome result (λ job. IsTurned job.place job.after) }
     ensures text { (setup : Setup) (before : List EscItem) (canvas : Canvas) →
-        s.now ≡ settings_of setup before →
-        canvas.bitmap ≡ bitmap.new → HasOpen (line setup before) bitmap.old →
-        text_of result.1 canvas ≡ strips setup before item.now }
-    ensures shows { (setup : Setup) (before : List EscItem) (canvas : Canvas) →
-        s.now ≡ settings_of setup before →
-        IsShowing result.1 canvas (height (line setup before)) (length (own_strips setup before item.now)) }
+        IsSettled setup before s.now canvas → text_if result canvas ≡ strips_by setup before effect }
+    ensures shows { IfSome result (λ job. (setup : Setup) (before : List EscItem) (canvas : Canvas) →
+        IsSettled setup before s.now canvas →
+        IsShowing job canvas (height (line setup before)) (length (own_by setup effect))) }
 {
-    match item {
-        EscItem::Character(code) => {
-            if s.breaks() {
-                return (Some(*code), line_job(s, s.feed_rows()));
-            }
-            put_next(s, &s.text.cell(sheets, *code), bitmap);
-            (None, Job::none())
+    match effect {
+        Effect::Breaks { rows, .. } => Some(line_job(s, rows)),
+        Effect::Feeds(rows) => Some(line_job(s, rows)),
+        Effect::Cuts { dots, cut } => Some(cut_job(s, dots, cut)),
+        Effect::BeginsRaster(rows) => {
+            Some(ended_job(s, After::One(Strip::raster_head(s.paper, rows))))
         }
-        EscItem::Column8(byte) => {
-            if s.takes_column() {
-                put_next(s, &s.column([*byte], 3), bitmap);
-            }
-            (None, Job::none())
-        }
-        EscItem::Column24(bytes) => {
-            if s.takes_column() {
-                put_next(s, &s.column(*bytes, 1), bitmap);
-            }
-            (None, Job::none())
-        }
-        EscItem::LineFeed | EscItem::FeedDots(_) | EscItem::FeedLines(_) => {
-            (None, line_job(s, s.strip_rows(item)))
-        }
-        EscItem::CutLeavingOnePoint | EscItem::CutLeavingThreePoints => {
-            (None, cut_job(s, 0, Cut::Partial))
-        }
-        EscItem::Cut(cut) => (None, cut_job(s, 0, cut.value)),
-        EscItem::FeedAndCut { cut, dots } => (None, cut_job(s, *dots, cut.value)),
-        EscItem::Raster { scale, bytes, rows } => {
-            if !draws(scale.value, *bytes, *rows) {
-                return (None, Job::none());
-            }
-            let times = times_down(scale_named(scale.value));
-            let head = Strip::raster_head(s.paper, times * u32::from(*rows));
-            (None, ended_job(s, After::One(head)))
-        }
-        _ => (None, Job::none()),
-    }
-}
-
-/// Begins a white page where ESC L does.
-fn begin_page(s: &Settings, item: &EscItem, page: &mut Page)
-    ensures { (setup : Setup) (before : List EscItem) → s.now ≡ settings_of setup before →
-        mode setup before ≡ Mode.Standard →
-        HasPageIf (mode setup (item.now ∷ before)) (layers setup (item.now ∷ before)) page.new }
-{
-    if let EscItem::PageMode = item {
-        if s.begins_page() {
-            page.clear();
-        }
+        Effect::Nothing
+        | Effect::Sets
+        | Effect::Drops
+        | Effect::Puts(_)
+        | Effect::Fills(_)
+        | Effect::Draws
+        | Effect::BeginsPage
+        | Effect::Lays
+        | Effect::Wipes
+        | Effect::PrintsPage => None,
     }
 }
 
@@ -255,126 +225,110 @@ fn lay_line(s: &Settings, bitmap: &Bitmap, page: &mut Page)
     }
 }
 
-/// Whether an item makes the area white.
-fn wipes(item: &EscItem) -> bool
-    ensures { result ≡ wipes item.now }
-{
-    matches!(item, EscItem::Cancel)
-}
-
-/// Whether an item prints the page.
-fn prints_page(item: &EscItem) -> bool
-    ensures { result ≡ prints_page item.now }
-{
-    matches!(item, EscItem::PrintPage | EscItem::FormFeed)
-}
-
-/// Whether what an item prints is a page.
-pub fn printed_page(s: &Settings, item: &EscItem) -> bool
-    ensures { (setup : Setup) (before : List EscItem) → s.now ≡ settings_of setup before →
-        result ≡ printed_page setup (item.now ∷ before) }
-{
-    s.page.is_paged() && prints_page(item)
-}
-
-/// Lays the line if it is open, and an item ends it.
-fn lay_ended(s: &Settings, item: &EscItem, bitmap: &Bitmap, page: &mut Page)
-    requires { IsFit s.now }
-    ensures { (setup : Setup) (before : List EscItem) → s.now ≡ settings_of setup before →
-        HasOpen (line setup before) bitmap.now → HasPage (layers setup before) page.old →
-        HasPage (laid_if (ends_line setup before item.now && is_open (line setup before))
-        (line_mark setup before) (layers setup before)) page.new }
-{
-    if s.ends_line(item) && s.is_open {
-        lay_line(s, bitmap, page);
-    }
-}
-
-/// Lays the line if an item ends it, and makes the area white if it is CAN.
-fn lay(s: &Settings, item: &EscItem, bitmap: &Bitmap, page: &mut Page)
-    requires { IsFit s.now }
-    ensures { (setup : Setup) (before : List EscItem) → s.now ≡ settings_of setup before →
-        HasOpen (line setup before) bitmap.now → HasPage (layers setup before) page.old →
-        HasPage (wiped_if (wipes item.now) (area setup before)
-        (laid_if (ends_line setup before item.now && is_open (line setup before)) (line_mark setup before)
-        (layers setup before))) page.new }
-{
-    lay_ended(s, item, bitmap, page);
-    if wipes(item) {
-        page.wipe(s.page.area);
-    }
-}
-
-/// The page, where an item prints it.
-fn page_job(s: &Settings, item: &EscItem) -> Job
+/// Lays the line if it is open.
+fn lay_open(s: &Settings, canvas: &mut Canvas)
     requires fit { IsFit s.now }
+    requires mode { s.now.page.mode ≡ Mode.Page }
+    ensures others { canvas.new ≡ record canvas.old { page = canvas.new.page } }
+    ensures page { (setup : Setup) (before : List EscItem) → IsSettled setup before s.now canvas.old →
+        HasPage (printed_layers setup before) canvas.new.page }
+{
+    if s.is_open {
+        lay_line(s, &canvas.bitmap, &mut canvas.page);
+    }
+}
+
+/// The page, with the line laid.
+fn page_job(s: &Settings) -> Job
+    requires { IsFit s.now }
     ensures job { (canvas : Canvas) (lines : Lines) → IsJob result canvas lines }
     ensures turned { IsTurned result.place result.after }
     ensures text { (setup : Setup) (before : List EscItem) (canvas : Canvas) →
-        s.now ≡ settings_of setup before →
-        HasPage (layers_with setup before item.now (layers setup before)) canvas.page →
-        text_of result canvas ≡ page_part setup before item.now }
+        s.now ≡ settings_of setup before → HasPage (printed_layers setup before) canvas.page →
+        text_of result canvas ≡ page_text setup before }
     ensures shows { (canvas : Canvas) (high : ℕ) →
         IsShowing result canvas high (length (text_of result canvas)) }
 {
-    if prints_page(item) {
-        return Job::alone(Strip::page(s.paper, s.printed_rows()));
-    }
-    Job::none()
+    Job::alone(Strip::page(s.paper, s.printed_rows()))
 }
 
-/// What an item that prints no symbol does in page mode: the character that then waits, and what is printed.
-fn act_on_page(s: &Settings, item: &EscItem, canvas: &mut Canvas) -> (Option<u8>, Job)
+/// What an effect lays on the page, and what is printed of it.
+fn laid(s: &Settings, effect: Effect, canvas: &mut Canvas) -> Option<Job>
     requires fit { IsFit s.now }
-    requires item { (byte : ℕ) → item.now ≡ EscItem.RasterByte byte → ⊥ }
-    requires symbol { is_symbol item.now ≡ false }
-    ensures sheets { canvas.new.sheets ≡ canvas.old.sheets }
-    ensures job { (canvas : Canvas) (lines : Lines) → IsJob result.1 canvas lines }
-    ensures turned { IsTurned result.1.place result.1.after }
-    ensures line { (setup : Setup) (before : List EscItem) → s.now ≡ settings_of setup before →
-        canvas.old.sheets ≡ setup.sheets → HasOpen (line setup before) canvas.old.bitmap →
-        Gathers canvas.old.sheets (settings_of setup (item.now ∷ before)) canvas.new.bitmap result.0
-        (line setup (item.now ∷ before)) }
-    ensures page { (setup : Setup) (before : List EscItem) → s.now ≡ settings_of setup before →
-        HasOpen (line setup before) canvas.old.bitmap → HasPage (layers setup before) canvas.old.page →
-        HasPage (layers_with setup before item.now (layers setup before)) canvas.new.page }
-    ensures text { (setup : Setup) (before : List EscItem) → s.now ≡ settings_of setup before →
-        HasOpen (line setup before) canvas.old.bitmap → HasPage (layers setup before) canvas.old.page →
-        text_of result.1 canvas.new ≡ page_part setup before item.now }
-    ensures shows { (canvas : Canvas) (high : ℕ) →
-        IsShowing result.1 canvas high (length (text_of result.1 canvas)) }
-{
-    lay(s, item, &canvas.bitmap, &mut canvas.page);
-    let job = page_job(s, item);
-    let (waiting, _) = act_on_line(s, item, &canvas.sheets, &mut canvas.bitmap);
-    (waiting, job)
-}
-
-/// What an item that prints no symbol does: the character that then waits, and what is printed.
-pub fn act(s: &Settings, item: &EscItem, canvas: &mut Canvas) -> (Option<u8>, Job)
-    requires fit { IsFit s.now }
-    requires item { (byte : ℕ) → item.now ≡ EscItem.RasterByte byte → ⊥ }
-    requires symbol { is_symbol item.now ≡ false }
-    ensures sheets { canvas.new.sheets ≡ canvas.old.sheets }
-    ensures job { (lines : Lines) → IsJob result.1 canvas.new lines }
-    ensures turned { IsTurned result.1.place result.1.after }
-    ensures line { (setup : Setup) (before : List EscItem) → IsSettled setup before s.now canvas.old →
-        Gathers canvas.old.sheets (settings_of setup (item.now ∷ before)) canvas.new.bitmap result.0
-        (line setup (item.now ∷ before)) }
+    requires mode { s.now.page.mode ≡ Mode.Page }
+    requires old { effect ≡ Effect.BeginsPage → ⊥ }
+    ensures others { canvas.new ≡ record canvas.old { page = canvas.new.page } }
+    ensures job { IfSome result (λ job. (lines : Lines) → IsJob job canvas.new lines) }
+    ensures turned { IfSome result (λ job. IsTurned job.place job.after) }
     ensures page { (setup : Setup) (before : List EscItem) → IsSettled setup before s.now canvas.old →
-        HasPageIf (mode setup (item.now ∷ before)) (layers setup (item.now ∷ before)) canvas.new.page }
+        HasPage (layers_by setup before effect) canvas.new.page }
     ensures text { (setup : Setup) (before : List EscItem) → IsSettled setup before s.now canvas.old →
-        text_of result.1 canvas.new ≡ prints setup before item.now }
-    ensures shows { (setup : Setup) (before : List EscItem) → IsSettled setup before s.now canvas.old →
-        IsShowing result.1 canvas.new (height (line setup before)) (length (own_part setup before item.now)) }
+        text_if result canvas.new ≡ page_by setup before effect }
+    ensures shows { IfSome result (λ job. (high : ℕ) →
+        IsShowing job canvas.new high (length (text_of job canvas.new))) }
 {
-    match s.page.mode {
-        Mode::Standard => {
-            begin_page(s, item, &mut canvas.page);
-            act_on_line(s, item, &canvas.sheets, &mut canvas.bitmap)
+    match effect {
+        Effect::Breaks { .. } | Effect::Feeds(_) | Effect::BeginsRaster(_) | Effect::Lays => {
+            lay_open(s, canvas);
+            None
         }
-        Mode::Page => act_on_page(s, item, canvas),
+        Effect::Wipes => {
+            lay_open(s, canvas);
+            canvas.page.wipe(s.page.area);
+            None
+        }
+        Effect::PrintsPage => {
+            lay_open(s, canvas);
+            Some(page_job(s))
+        }
+        Effect::Nothing
+        | Effect::Sets
+        | Effect::Drops
+        | Effect::Puts(_)
+        | Effect::Cuts { .. }
+        | Effect::Fills(_)
+        | Effect::Draws
+        | Effect::BeginsPage => None,
     }
+}
+
+/// What an effect that draws no symbol does to the line and the page, and what is printed of it.
+pub fn act(s: &Settings, effect: Effect, canvas: &mut Canvas) -> Option<Job>
+    requires { IsFit s.now }
+    ensures sheets { canvas.new.sheets ≡ canvas.old.sheets }
+    ensures job { IfSome result (λ job. (lines : Lines) → IsJob job canvas.new lines) }
+    ensures turned { IfSome result (λ job. IsTurned job.place job.after) }
+    ensures line { (setup : Setup) (before : List EscItem) → IsSettled setup before s.now canvas.old →
+        Gathers canvas.old.sheets s.now canvas.new.bitmap (waits_of effect) (line_by setup before effect) }
+    ensures page { (setup : Setup) (before : List EscItem) → IsSettled setup before s.now canvas.old →
+        HasPageIf (mode_by setup before effect) (layers_by setup before effect) canvas.new.page }
+    ensures text { (setup : Setup) (before : List EscItem) → IsSettled setup before s.now canvas.old →
+        text_if result canvas.new ≡ prints_by setup before effect }
+    ensures shows { IfSome result (λ job. (setup : Setup) (before : List EscItem) →
+        IsSettled setup before s.now canvas.old →
+        IsShowing job canvas.new (height (line setup before)) (length (part_by setup before effect))) }
+{
+    match effect {
+        Effect::Puts(piece) => {
+            put(s, piece, canvas);
+            None
+        }
+        Effect::BeginsPage => {
+            canvas.page.clear();
+            None
+        }
+        _ => match s.page.mode {
+            Mode::Standard => printed(s, effect),
+            Mode::Page => laid(s, effect, canvas),
+        },
+    }
+}
+
+/// Whether what an effect prints is a page.
+pub fn prints_page(s: &Settings, effect: Effect) -> bool
+    ensures { result ≡ (is_paged s.now.page.mode && is_page effect) }
+{
+    s.page.is_paged() && effect.is_page()
 }
 
 /// The line, if it is open, and then a symbol so wide and high.
@@ -384,11 +338,11 @@ fn symbol_job(s: &Settings, wide: u32, high: u32) -> Job
     ensures job { (canvas : Canvas) (lines : Lines) → IsJob result canvas lines }
     ensures turned { IsTurned result.place result.after }
     ensures text { (setup : Setup) (before : List EscItem) (canvas : Canvas) (image : Image) →
-        s.now ≡ settings_of setup before → HasOpen (line setup before) canvas.bitmap →
+        IsSettled setup before s.now canvas →
         IsDrawn canvas.sheets canvas.symbol wide high image →
         text_of result canvas ≡ ended setup before ++ image_text setup before (Some image) }
     ensures shows { (setup : Setup) (before : List EscItem) (canvas : Canvas) (image : Image) →
-        s.now ≡ settings_of setup before → IsDrawn canvas.sheets canvas.symbol wide high image →
+        IsSettled setup before s.now canvas → IsDrawn canvas.sheets canvas.symbol wide high image →
         IsShowing result canvas (height (line setup before)) (length (image_text setup before (Some image))) }
 {
     ended_job(s, After::One(Strip::drawn(s, wide, high)))
@@ -416,17 +370,17 @@ fn symbol_on_paper(s: &Settings, symbol: Symbol, canvas: &mut Canvas) -> Job
 }
 
 /// Lays the line, and a symbol below it.
-fn symbol_on_page(s: &Settings, item: &EscItem, symbol: &Symbol, canvas: &mut Canvas)
+fn symbol_on_page(s: &Settings, symbol: &Symbol, canvas: &mut Canvas)
     requires fit { IsFit s.now }
+    requires mode { s.now.page.mode ≡ Mode.Page }
     requires wide { symbol_width canvas.old.sheets symbol.now ≤ LINE_DOTS }
     ensures others { canvas.new ≡ record canvas.old { page = canvas.new.page } }
-    ensures page { (setup : Setup) (before : List EscItem) → s.now ≡ settings_of setup before →
-        canvas.old.sheets ≡ setup.sheets → HasOpen (line setup before) canvas.old.bitmap →
-        IsSymbolOf setup.sheets (Some symbol.now) (symbol_image setup before item.now) →
-        HasPage (layers setup before) canvas.old.page →
-        HasPage (layers_with setup before item.now (layers setup before)) canvas.new.page }
+    ensures page { (setup : Setup) (before : List EscItem) (item : EscItem) →
+        IsSettled setup before s.now canvas.old →
+        IsSymbolOf setup.sheets (Some symbol.now) (symbol_image setup before item) →
+        HasPage (layers_with setup before item (layers setup before)) canvas.new.page }
 {
-    lay(s, item, &canvas.bitmap, &mut canvas.page);
+    lay_open(s, canvas);
     let (area, direction) = (s.page.area, s.page.direction);
     symbol.lay(
         &canvas.sheets,
@@ -437,28 +391,31 @@ fn symbol_on_page(s: &Settings, item: &EscItem, symbol: &Symbol, canvas: &mut Ca
     );
 }
 
-/// What an item that prints a symbol does: what is printed.
-pub fn act_symbol(s: &Settings, item: &EscItem, symbol: Symbol, canvas: &mut Canvas) -> Job
+/// What drawing a symbol does: what is printed.
+pub fn draw(s: &Settings, symbol: Symbol, canvas: &mut Canvas) -> Job
     requires fit { IsFit s.now }
     requires high { 0 < symbol_height canvas.old.sheets symbol }
     requires wide { symbol_width canvas.old.sheets symbol ≤ LINE_DOTS }
     ensures sheets { canvas.new.sheets ≡ canvas.old.sheets }
     ensures job { (lines : Lines) → IsJob result canvas.new lines }
     ensures turned { IsTurned result.place result.after }
-    ensures page { (setup : Setup) (before : List EscItem) → IsSettled setup before s.now canvas.old →
-        IsSymbolOf setup.sheets (Some symbol) (symbol_image setup before item.now) →
-        HasPageIf (mode setup (item.now ∷ before)) (layers setup (item.now ∷ before)) canvas.new.page }
-    ensures text { (setup : Setup) (before : List EscItem) → IsSettled setup before s.now canvas.old →
-        IsSymbolOf setup.sheets (Some symbol) (symbol_image setup before item.now) →
-        text_of result canvas.new ≡ prints setup before item.now }
-    ensures shows { (setup : Setup) (before : List EscItem) → IsSettled setup before s.now canvas.old →
-        IsSymbolOf setup.sheets (Some symbol) (symbol_image setup before item.now) →
-        IsShowing result canvas.new (height (line setup before)) (length (own_part setup before item.now)) }
+    ensures page { (setup : Setup) (before : List EscItem) (item : EscItem) →
+        IsSettled setup before s.now canvas.old →
+        IsSymbolOf setup.sheets (Some symbol) (symbol_image setup before item) →
+        HasPageIf (mode setup (item ∷ before)) (layers setup (item ∷ before)) canvas.new.page }
+    ensures text { (setup : Setup) (before : List EscItem) (item : EscItem) →
+        IsSettled setup before s.now canvas.old →
+        IsSymbolOf setup.sheets (Some symbol) (symbol_image setup before item) →
+        text_of result canvas.new ≡ prints setup before item }
+    ensures shows { (setup : Setup) (before : List EscItem) (item : EscItem) →
+        IsSettled setup before s.now canvas.old →
+        IsSymbolOf setup.sheets (Some symbol) (symbol_image setup before item) →
+        IsShowing result canvas.new (height (line setup before)) (length (own_part setup before item)) }
 {
     match s.page.mode {
         Mode::Standard => symbol_on_paper(s, symbol, canvas),
         Mode::Page => {
-            symbol_on_page(s, item, &symbol, canvas);
+            symbol_on_page(s, &symbol, canvas);
             Job::none()
         }
     }
@@ -480,37 +437,6 @@ fn row_job(s: &Settings, raster: &Raster, row: &mut [u8; PAPER_BYTES]) -> Job
     let wide = 8 * u32::from(raster.bytes) * times_across(raster.scale);
     write_raster_row(raster, s.printed_at(wide), s.paper_length(), row);
     Job::of_rows(Strip::raster_rows(s.paper, times_down(raster.scale)))
-}
-
-/// Lays a row so often, one below the other, from the vertical position on.
-fn lay_times(s: &Settings, row: &[u8], times: u32, page: &mut Page)
-    requires fit { IsFit s.now }
-    requires long { length row.now ≤ LINE_BYTES }
-    requires few { times ≤ 2 }
-    ensures { (dots : ℕ → ℕ → Bool) (layers : List Layer) → ((u w : ℕ) → u < LINE_DOTS → w < times →
-        dot row.now u ≡ dots u w) → ((u w : ℕ) → dots u w ≡ true → w < times) →
-        HasPage layers page.old → HasPage (Laid (mark_of s.now.page dots) ∷ layers) page.new }
-{
-    let top = s.page.vertical as u32;
-    for y in 0..times {
-        page.lay_row(s.page.area, s.page.direction, top + y, row);
-    }
-}
-
-/// Lays the row whose last byte came, as often as its raster's scale says.
-fn lay_raster_row(s: &Settings, raster: &Raster, page: &mut Page)
-    requires { IsFit s.now }
-    ensures { (setup : Setup) (before : List EscItem) (came : List ℕ) (layers : List Layer) →
-        s.now ≡ settings_of setup before → raster.now.scale ≡ raster_scale before →
-        kept_of raster.now ≡ take LINE_BYTES came → HasPage layers page.old →
-        HasPage (Laid (raster_mark setup before came) ∷ layers) page.new }
-{
-    let times = times_down(raster.scale);
-    if times_across(raster.scale) == 1 {
-        lay_times(s, raster.kept(), times, page);
-    } else {
-        lay_times(s, &doubled(raster.kept()), times, page);
-    }
 }
 
 /// What a byte that ends a row of a raster does: the row is printed, or laid on the page.

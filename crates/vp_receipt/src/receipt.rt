@@ -1,37 +1,37 @@
 //! The printer: what it stands after, and what is still to be put out.
 ghost use Rattle.std.specs.List.{AllByRecursion};
 ghost use Rattle.vp_esc.specs.Reader.{is_text};
-ghost use Rattle.vp_settings.specs.Runs.{text_room, text_after};
+ghost use Rattle.vp_settings.specs.Runs.{text_room, text_after, raster_run};
 ghost use Rattle.vp_strips.specs.SymbolInks.{is_symbol};
-ghost use Rattle.std.specs.Prelude.{◌≡◌, ◌≤◌, ◌<◌, ◌+◌, ◌∷◌, ◌++◌, ◌↔◌, List, [], ℕ, IsTrue, Some, None, IfOk, MatchResult, OnOk, OnErr, length, min, take, drop, true};
+ghost use Rattle.std.specs.Prelude.{◌≡◌, ◌≤◌, ◌<◌, ◌+◌, ◌∷◌, ◌++◌, ◌↔◌, List, [], IsTrue, Some, None, IfOk, MatchResult, OnOk, OnErr, length, min, take, drop, true, unwrap_or};
 ghost use Rattle.vp_esc.specs.declared.item.EscItem.{EscItem};
 ghost use Rattle.vp_glyph.specs.declared.Sheets.{Sheets};
 ghost use Rattle.vp_settings.specs.declared.raster.Raster.{Raster};
 ghost use Rattle.vp_settings.specs.Setup.{Setup};
-ghost use Rattle.vp_settings.specs.History.{settings_of, IsFit, is_open, line, Placed, image_of, line_length};
-ghost use Rattle.vp_settings.specs.Rasters.{bytes_after, bytes_within_row};
-ghost use Rattle.vp_settings.specs.Tabs.{tab_stops};
-ghost use Rattle.vp_strips.specs.LineDots.{HasDots};
+ghost use Rattle.vp_settings.specs.History.{is_open, line, mode};
+ghost use Rattle.vp_settings.specs.Rasters.{bytes_after};
 ghost use Rattle.vp_page.specs.declared.page.TheConstants.{PAGE_ROWS};
 ghost use Rattle.vp_settings.specs.declared.text.TheConstants.{LINE_ROWS};
 ghost use Rattle.vp_receipt.specs.Strips.{prints, printed, refusal, is_at_rest, line_rows_after, page_rows_after};
-ghost use Rattle.vp_receipt.specs.Standing.{Stands, Gathers};
-ghost use Rattle.vp_settings.specs.Gathering.{IsGathering, room_of};
-ghost use Rattle.vp_strips.specs.Held.{text_of, IsJob, IsTurned};
+ghost use Rattle.vp_receipt.specs.Standing.{Stands, IsActing};
+ghost use Rattle.vp_settings.specs.Effects.{effect_of};
+ghost use Rattle.vp_settings.specs.Gathering.{run_of};
 
-use crate::act::{act, act_on_row, act_symbol, printed_page, put_text, settle};
-use crate::drawn::{drawn, is_ignored, is_symbol};
+use crate::act::{act, act_on_row, draw, prints_page, put_text, settle};
+use crate::drawn::drawn;
+use crate::raster_page::take_run;
 use std::alloc::{AllocError, Global};
 use std::marker::Model;
 use vp_dots::Fault;
 use vp_esc::item::EscItem;
 use vp_glyph::Sheets;
 use vp_page::{PAGE_ROWS, PAPER_BYTES, Page};
-use vp_settings::{Raster, Settings, Stops, Stored, Width, first_stops, set_stops, times_down};
+use vp_settings::{
+    Effect, Mode, Raster, Settings, Stops, Stored, Width, first_stops, set_stops, times_down,
+};
 use vp_strips::{Bitmap, Canvas, Job, Lines, Symbol};
 
 /// A receipt printer. What an item prints is pending until it is put out.
-#[derive(Drop)]
 pub struct Receipt {
     settings: Settings,
     stops: Stops,
@@ -47,6 +47,23 @@ pub struct Receipt {
     of_page: bool,
 }
 
+/// Its memory is given back here, whoever held it.
+impl Drop for Receipt {
+    fn drop(self) {
+        let Receipt {
+            settings: _,
+            stops: _,
+            raster: _,
+            stored: _,
+            canvas: _,
+            lines: _,
+            waiting: _,
+            job: _,
+            of_page: _,
+        } = self;
+    }
+}
+
 impl Model for Receipt {
     ghost use Rattle.vp_receipt.specs.Standing.{Printing};
 
@@ -57,6 +74,16 @@ impl Model for Receipt {
     ghost view = { printing_of };
 
     ghost invariant = { IsPrinter };
+}
+
+/// Puts what is printed in the place of a job that is done.
+#[inline(always)]
+fn replace(job: &mut Job, printed: Option<Job>)
+    ensures { job.new ≡ unwrap_or printed job.old }
+{
+    if let Some(printed) = printed {
+        *job = printed;
+    }
 }
 
 impl Receipt {
@@ -99,41 +126,70 @@ impl Receipt {
             Stands setup self.old before → self.new.pending ≡ prints setup before item.now) }
         ensures err { OnErr result (self.new ≡ self.old) }
     {
-        if let EscItem::RasterByte(byte) = item {
-            if self.raster.take(*byte) {
-                self.job = act_on_row(&self.settings, &self.raster, &mut self.canvas);
-                self.of_page = false;
-                self.settings = self.settings.after_row(times_down(self.raster.scale));
+        let effect = self.settings.effect(item);
+        match effect {
+            Effect::Nothing => {
+                self.raster.begin(item);
+                Ok(())
             }
-            return Ok(());
+            Effect::Fills(byte) => {
+                self.fill(byte);
+                Ok(())
+            }
+            Effect::Draws => self.draw(item),
+            _ => {
+                self.act(item, effect);
+                Ok(())
+            }
         }
-        if is_ignored(item) {
-            self.raster.begin(item);
-            return Ok(());
+    }
+
+    /// Takes a byte of a raster. One that ends a row prints it, or lays it on the page.
+    #[inline(always)]
+    fn fill(&mut self, byte: u8)
+        requires { self.old.pending ≡ [] }
+        ensures stands { (setup : Setup) (before : List EscItem) → Stands setup self.old before →
+            Stands setup self.new (EscItem.RasterByte byte ∷ before) }
+        ensures pending { (setup : Setup) (before : List EscItem) → Stands setup self.old before →
+            self.new.pending ≡ prints setup before (EscItem.RasterByte byte) }
+    {
+        if self.raster.take(byte) {
+            self.job = act_on_row(&self.settings, &self.raster, &mut self.canvas);
+            self.of_page = false;
+            self.settings = self.settings.after_row(times_down(self.raster.scale));
         }
-        if is_symbol(item) {
-            return self.apply_symbol(item);
-        }
+    }
+
+    /// Does what an item does to the line and the page, and sets what it sets.
+    #[inline(always)]
+    fn act(&mut self, item: &EscItem, effect: Effect)
+        requires pending { self.old.pending ≡ [] }
+        requires effect { effect ≡ effect_of self.old.settings item.now }
+        requires acts { IsActing item.now }
+        ensures stands { (setup : Setup) (before : List EscItem) → Stands setup self.old before →
+            Stands setup self.new (item.now ∷ before) }
+        ensures pending { (setup : Setup) (before : List EscItem) → Stands setup self.old before →
+            self.new.pending ≡ prints setup before item.now }
+    {
         settle(
             &self.settings,
             self.waiting,
             &self.canvas.sheets,
             &mut self.canvas.bitmap,
         );
-        let (waiting, job) = act(&self.settings, item, &mut self.canvas);
-        self.waiting = waiting;
-        self.job = job;
-        self.of_page = printed_page(&self.settings, item);
+        let job = act(&self.settings, effect, &mut self.canvas);
+        replace(&mut self.job, job);
+        self.waiting = effect.waiting();
+        self.of_page = prints_page(&self.settings, effect);
         let text = self.settings.text;
-        self.settings = self.settings.after(item, self.stops.as_slice(), 0);
+        self.settings = self.settings.after(item, effect, self.stops.as_slice(), 0);
         set_stops(&mut self.stops, item, text);
         self.raster.begin(item);
         self.stored.take(item);
-        Ok(())
     }
 
-    /// Prints an item that prints a symbol.
-    fn apply_symbol(&mut self, item: &EscItem) -> Result<(), Fault>
+    /// Draws a symbol.
+    fn draw(&mut self, item: &EscItem) -> Result<(), Fault>
         requires pending { self.old.pending ≡ [] }
         requires symbol { is_symbol item.now ≡ true }
         ensures refusal { (setup : Setup) (before : List EscItem) → Stands setup self.old before →
@@ -145,9 +201,7 @@ impl Receipt {
             Stands setup self.old before → self.new.pending ≡ prints setup before item.now) }
         ensures err { OnErr result (self.new ≡ self.old) }
     {
-        let Some(symbol) = drawn(&self.settings, item, &self.stored, &self.canvas.sheets)? else {
-            return Ok(());
-        };
+        let symbol = drawn(&self.settings, item, &self.stored, &self.canvas.sheets)?;
         settle(
             &self.settings,
             self.waiting,
@@ -155,10 +209,11 @@ impl Receipt {
             &mut self.canvas.bitmap,
         );
         let (_, rows) = symbol.size(&self.canvas.sheets);
-        self.job = act_symbol(&self.settings, item, symbol, &mut self.canvas);
+        self.job = draw(&self.settings, symbol, &mut self.canvas);
         self.waiting = None;
         self.of_page = false;
-        self.settings = self.settings.after(item, self.stops.as_slice(), rows);
+        let stops = self.stops.as_slice();
+        self.settings = self.settings.after(item, Effect::Draws, stops, rows);
         self.raster.begin(item);
         Ok(())
     }
@@ -188,30 +243,40 @@ impl Receipt {
         settle(&self.settings, self.waiting, &self.canvas.sheets, bitmap);
         put_text(&mut self.settings, text, &self.canvas.sheets, bitmap);
         self.waiting = None;
-        self.job = Job::none();
         self.raster.end();
     }
 
-    /// How many bytes of a raster come before the one that ends its row; 0 where none comes.
+    /// How many bytes of a raster come before one that prints: in standard mode that is the one that ends the
+    /// row; in page mode there is none, and it is how many have not come.
     pub fn raster_room(&self) -> usize
-        ensures value { result ≡ room_of self.now.raster }
+        ensures value { result ≡ run_of self.now.settings.page.mode self.now.raster }
         ensures comes { (setup : Setup) (before : List EscItem) → Stands setup self.now before →
-            result ≡ bytes_within_row before }
+            result ≡ raster_run (mode setup before) before }
     {
-        usize::from(self.raster.room())
+        match self.settings.page.mode {
+            Mode::Standard => usize::from(self.raster.room()),
+            Mode::Page => self.raster.left(),
+        }
     }
 
-    /// Takes bytes of a raster before the one that ends its row: they print nothing.
+    /// Takes bytes of a raster that there is room for: they print nothing.
     pub fn apply_raster(&mut self, bytes: &[u8])
         requires pending { self.old.pending ≡ [] }
-        requires few { length bytes.now ≤ room_of self.old.raster }
+        requires few { length bytes.now ≤ run_of self.old.settings.page.mode self.old.raster }
         ensures prints { (setup : Setup) (before : List EscItem) → Stands setup self.old before →
             printed setup (bytes_after bytes.now before) ≡ printed setup before }
         ensures stands { (setup : Setup) (before : List EscItem) → Stands setup self.old before →
             Stands setup self.new (bytes_after bytes.now before) }
         ensures pending { self.new.pending ≡ [] }
     {
-        self.raster.take_all(bytes);
+        match self.settings.page.mode {
+            Mode::Standard => self.raster.take_all(bytes),
+            Mode::Page => {
+                let page = &mut self.canvas.page;
+                take_run(&mut self.settings, &mut self.raster, bytes, page);
+                self.job = Job::none();
+            }
+        }
     }
 
     /// Whether anything is still to be put out.

@@ -1,5 +1,6 @@
 mod page;
 mod page_images;
+mod page_runs;
 mod texts;
 
 use crate::{Receipt, Width};
@@ -42,13 +43,24 @@ fn stairs(alloc: Global) -> Result<Sheets, Fail> {
 fn printed(alloc: Global, width: Width, items: &[EscItem], room: usize) -> Result<Vec<u8>, Fail> {
     let mut receipt = Receipt::new(alloc, stairs(alloc)?, width)?;
     let mut paper = Vec::new(alloc);
+    print_on(&mut receipt, items, room, &mut paper)?;
+    Ok(paper)
+}
+
+/// Goes on with the items, putting out so many bytes at a time.
+fn print_on(
+    receipt: &mut Receipt,
+    items: &[EscItem],
+    room: usize,
+    paper: &mut Vec<u8>,
+) -> Result<(), AllocError> {
     for item in items {
         if !receipt.pending() {
             let _ = receipt.apply(item);
         }
-        put_all(&mut receipt, room, &mut paper)?;
+        put_all(receipt, room, paper)?;
     }
-    Ok(paper)
+    Ok(())
 }
 
 fn put_all(receipt: &mut Receipt, room: usize, paper: &mut Vec<u8>) -> Result<(), AllocError> {

@@ -1,6 +1,6 @@
 use super::page::{FF, PAGE, area, direction};
-use super::{M, Want, printed, prints, raster, spelled, store, symbol};
-use crate::Width;
+use super::{M, Want, print_on, printed, prints, raster, spelled, stairs, store, symbol};
+use crate::{Receipt, Width};
 use std::test::Fail;
 use vp_esc::item::{BarKind, Direction, EscItem, RasterScale, TextPlace};
 
@@ -194,15 +194,17 @@ fn a_raster_as_long_as_the_page(rt: HostRuntime) -> Result<(), Fail> {
 
 /// What the items print, and the same in page mode: on an area across the page of so many rows.
 fn same_on_a_page(rt: &HostRuntime, rows: u16, items: &[EscItem]) -> Result<bool, Fail> {
-    let mut paged = Vec::new(rt.alloc());
-    paged.push(PAGE)?;
-    paged.push(area(0, 0, 576, rows))?;
-    for item in items {
-        paged.push(item.clone()?)?;
-    }
-    paged.push(FF)?;
     let paper = printed(rt.alloc(), Width::W576, items, 4096)?;
-    let page = printed(rt.alloc(), Width::W576, paged.as_slice(), 4096)?;
+    let mut receipt = Receipt::new(rt.alloc(), stairs(rt.alloc())?, Width::W576)?;
+    let mut page = Vec::new(rt.alloc());
+    print_on(
+        &mut receipt,
+        &[PAGE, area(0, 0, 576, rows)],
+        4096,
+        &mut page,
+    )?;
+    print_on(&mut receipt, items, 4096, &mut page)?;
+    print_on(&mut receipt, &[FF], 4096, &mut page)?;
     Ok(page.as_slice() == paper.as_slice())
 }
 

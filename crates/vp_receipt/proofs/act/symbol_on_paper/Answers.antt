@@ -11,7 +11,7 @@ pub returns-clause-text : goal.returns-clause-text
 returns-clause-text c = λ setup before item h is.
     let canvas : Canvas = record c.args.canvas.now { symbol = c.args.symbol } in
     text_shown setup before item c.args.symbol (text_of c.symbol_job.result canvas) is
-    (λ image i. c.symbol_job.ensures.text setup before canvas image h.settings h.line
+    (λ image i. c.symbol_job.ensures.text setup before canvas image (record { settings = h.settings; sheets = h.sheets; line = h.line; page = h.page })
     (record {
       width = c.size-wide.ensures.width ∙ ap (λ (k : Sheets). symbol_width k c.args.symbol) h.sheets ∙ i.width;
       height = c.size-wide.ensures.height ∙ ap (λ (k : Sheets). symbol_height k c.args.symbol) h.sheets ∙ i.height;
@@ -22,7 +22,7 @@ pub returns-clause-shows : goal.returns-clause-shows
 returns-clause-shows c = λ setup before item h is.
     let canvas : Canvas = record c.args.canvas.now { symbol = c.args.symbol } in
     own_shown setup before item c.args.symbol (λ own. IsShowing c.symbol_job.result canvas (height (line setup before)) (length own)) is
-    (λ image i. c.symbol_job.ensures.shows setup before canvas image h.settings
+    (λ image i. c.symbol_job.ensures.shows setup before canvas image (record { settings = h.settings; sheets = h.sheets; line = h.line; page = h.page })
     (record {
       width = c.size-wide.ensures.width ∙ ap (λ (k : Sheets). symbol_width k c.args.symbol) h.sheets ∙ i.width;
       height = c.size-wide.ensures.height ∙ ap (λ (k : Sheets). symbol_height k c.args.symbol) h.sheets ∙ i.height;

@@ -1,71 +1,24 @@
-use Rattle.std.proofs.Common.{◌≡◌, ℕ, true, false, ◌&&◌, refl, length, arith, List, [], ◌∷◌, Option, Some, None, ap, sym, ◌∙◌, subst}
+use Rattle.std.proofs.Common.{List, ◌∷◌, length, ap, sym, ◌∙◌, subst, arith, ◌≡◌}
 use Rattle.vp_esc.specs.declared.item.EscItem.{EscItem}
 use Rattle.vp_esc.specs.declared.item.EscItem.TheVariants.{RasterByte}
 use Rattle.vp_page.specs.Layers.{Layer}
-use Rattle.vp_glyph.specs.declared.Sheets.{Sheets}
-use Rattle.vp_settings.specs.declared.settings.Settings.{Settings}
-use Rattle.vp_settings.specs.Symbols.{IsStored, qr_data}
-use Rattle.vp_settings.specs.Setup.{Setup}
+use Rattle.vp_settings.specs.declared.effect.Effect.{Effect}
 use Rattle.vp_settings.specs.declared.page_mode.Mode.{Mode}
-use Rattle.vp_settings.specs.declared.page_mode.Mode.TheVariants.{Standard, Page}
-use Rattle.vp_settings.specs.Pages.{is_paged}
-use Rattle.vp_strips.specs.declared.canvas.Canvas.{Canvas}
-use Rattle.vp_settings.specs.declared.text.Text.{Text}
-use Rattle.vp_settings.specs.History.{settings_of, line, mode, Placed, image_of}
-use Rattle.vp_settings.specs.Rasters.{is_row_end, times_down}
+use Rattle.vp_settings.specs.Symbols.{IsStored}
+use Rattle.vp_settings.specs.History.{mode, Placed}
 use Rattle.vp_receipt.specs.PageMarks.{layers}
-use Rattle.vp_receipt.specs.Standing.{Printing, Gathers, HasPageIf, Stands, ShowsLine, IsSettled}
-use Rattle.vp_settings.specs.Gathering.{IsGathering}
-use Rattle.vp_settings.proofs.Runs.{settings_same}
-use Rattle.vp_settings.specs.Symbols.{image_rows}
 use Rattle.vp_receipt.specs.Printer.{printing_of}
-use Rattle.vp_receipt.proofs.ItemKinds.{does_nothing, no_image, no_refusal}
-use Rattle.vp_receipt.proofs.Runs.{layers_same}
+use Rattle.vp_receipt.specs.Standing.{Printing, Gathers, HasPageIf, Stands}
+use Rattle.vp_receipt.specs.Strips.{prints}
+use Rattle.vp_receipt.proofs.Effects.{IsKind, kind_is, is_acting}
+use Rattle.vp_receipt.proofs.ItemKinds.{does_nothing, no_refusal}
 use Rattle.vp_receipt.proofs.Showing.{shows_nothing}
 use Rattle.vp_receipt.proofs.receipt.Receipt.apply.Goals as goal
 
-pub invariant_of-self : goal.invariant_of-self
-invariant_of-self c = record { fit = c.after_row-self-inside.ensures.fit; raster = c.take.ensures.part; job = c.act_on_row-self-inside.ensures.job _; turned = c.act_on_row-self-inside.ensures.turned }
-
-pub invariant_of-self-2 : goal.invariant_of-self-2
-invariant_of-self-2 c = record { fit = c.after-self-inside.ensures.fit; raster = c.begin-2.ensures.part; job = c.act-waiting.ensures.job _; turned = c.act-waiting.ensures.turned }
-
-pub returns-clause-refusal : goal.returns-clause-refusal
-returns-clause-refusal c = λ setup before h. no_refusal setup before c.args.item.now (sym c.is_symbol.ensures ∙ c.if-is_symbol.false)
-
-pub returns-clause-stands : goal.returns-clause-stands
-returns-clause-stands c = λ setup before h.
+pub returns-in-Nothing-clause-stands : goal.returns-in-Nothing-clause-stands
+returns-in-Nothing-clause-stands c = λ setup before h.
     let was : Stands setup (printing_of c.self.inside) before = subst (λ (p : Printing). Stands setup p before) (sym c.self.view_is) h in
-    let none = sym c.is_symbol.ensures ∙ c.if-is_symbol.false in
-    let settled : IsSettled setup before c.self.inside.settings (record c.self.inside.canvas { bitmap = c.settle.new.bitmap }) = record { settings = was.settings; sheets = was.sheets; line = c.settle.ensures (line setup before) was.line; page = was.page } in
-    let now : c.after-self-inside.result ≡ settings_of setup (c.args.item.now ∷ before) = c.after-self-inside.ensures.settings setup before was.settings (c.as_slice.ensures.value ∙ was.stops)
-    (sym (ap image_rows (no_image setup before c.args.item.now none))) in
-    record {
-      sheets = c.act-waiting.ensures.sheets ∙ was.sheets;
-      settings = now;
-      stops = c.set_stops.ensures before (ap (λ (s : Settings). s.text) was.settings) was.stops;
-      raster = c.begin-2.ensures.gathers before;
-      stored = c.take-2.ensures before was.stored;
-      line = subst (λ (t : Settings). Gathers c.act-waiting.new.canvas.sheets t c.act-waiting.new.canvas.bitmap c.act-waiting.result.0 (line setup (c.args.item.now ∷ before))) (sym now)
-          (subst (λ (k : Sheets). Gathers k (settings_of setup (c.args.item.now ∷ before)) c.act-waiting.new.canvas.bitmap c.act-waiting.result.0 (line setup (c.args.item.now ∷ before))) (sym c.act-waiting.ensures.sheets)
-          (c.act-waiting.ensures.line setup before settled));
-      page = c.act-waiting.ensures.page setup before settled;
-      shows = c.act-waiting.ensures.shows setup before settled;
-      of_page = λ some. c.printed_page-self-inside.ensures setup before was.settings;
-    }
-
-pub returns-clause-pending : goal.returns-clause-pending
-returns-clause-pending c = λ setup before h.
-    let was : Stands setup (printing_of c.self.inside) before = subst (λ (p : Printing). Stands setup p before) (sym c.self.view_is) h in
-    c.act-waiting.ensures.text setup before (record { settings = was.settings; sheets = was.sheets; line = c.settle.ensures (line setup before) was.line; page = was.page })
-
-pub returns-then-is_ignored-clause-refusal : goal.returns-then-is_ignored-clause-refusal
-returns-then-is_ignored-clause-refusal c = λ setup before h. (does_nothing setup before c.args.item.now (sym c.is_ignored.ensures ∙ c.if-is_ignored.true)).refusal
-
-pub returns-then-is_ignored-clause-stands : goal.returns-then-is_ignored-clause-stands
-returns-then-is_ignored-clause-stands c = λ setup before h.
-    let was : Stands setup (printing_of c.self.inside) before = subst (λ (p : Printing). Stands setup p before) (sym c.self.view_is) h in
-    let same = does_nothing setup before c.args.item.now (sym c.is_ignored.ensures ∙ c.if-is_ignored.true) in
+    let same = does_nothing setup before c.args.item.now (subst (λ (e : Effect). IsKind c.args.item.now e) (sym c.effect-effect.ensures ∙ c.in-Nothing.is) (kind_is c.self.inside.settings c.args.item.now)) in
     let none = ap (λ (p : Printing). p.pending) c.self.view_is ∙ c.requires in
     let r = c.self.inside in
     record {
@@ -81,64 +34,19 @@ returns-then-is_ignored-clause-stands c = λ setup before h.
       of_page = λ some. absurd (omega (arith, some, ap length none));
     }
 
-pub returns-then-is_ignored-clause-pending : goal.returns-then-is_ignored-clause-pending
-returns-then-is_ignored-clause-pending c = λ setup before h.
-    ap (λ (p : Printing). p.pending) c.self.view_is ∙ c.requires ∙ sym (does_nothing setup before c.args.item.now (sym c.is_ignored.ensures ∙ c.if-is_ignored.true)).prints
+pub returns-in-Fills-clause-stands : goal.returns-in-Fills-clause-stands
+returns-in-Fills-clause-stands c = λ setup before h.
+    let byte : c.args.item.now ≡ RasterByte c.in-Fills.byte = subst (λ (e : Effect). IsKind c.args.item.now e) (sym c.effect-effect.ensures ∙ c.in-Fills.is) (kind_is c.self.inside.settings c.args.item.now) in
+    subst (λ (i : EscItem). Stands setup c.fill.new.self (i ∷ before)) (sym byte) (c.fill.ensures.stands setup before h)
 
-stands_as : (setup : Setup) (p : Printing) (before : List EscItem) (i j : EscItem) → i ≡ j → Stands setup p (j ∷ before) → Stands setup p (i ∷ before)
-stands_as setup p before i j e h = subst (λ (k : EscItem). Stands setup p (k ∷ before)) (sym e) h
+pub returns-in-Fills-clause-pending : goal.returns-in-Fills-clause-pending
+returns-in-Fills-clause-pending c = λ setup before h.
+    let byte : c.args.item.now ≡ RasterByte c.in-Fills.byte = subst (λ (e : Effect). IsKind c.args.item.now e) (sym c.effect-effect.ensures ∙ c.in-Fills.is) (kind_is c.self.inside.settings c.args.item.now) in
+    c.fill.ensures.pending setup before h ∙ ap (prints setup before) (sym byte)
 
-row_of_no_page : (m : Mode) → false ≡ is_paged m && false
-row_of_no_page Standard = refl
-row_of_no_page Page = refl
-
-gathers_same : (sheets : Sheets) (s t : Settings) (bitmap : List (List ℕ)) (waiting : Option ℕ) (placed : List Placed) → s.text ≡ t.text → Gathers sheets s bitmap waiting placed → Gathers sheets t bitmap waiting placed
-gathers_same sheets s t bitmap None placed e h = h
-gathers_same sheets s t bitmap (Some code) placed e h = subst (λ (x : Text). placed ≡ record { at = 0; image = image_of sheets x code } ∷ []) e h
-
-pub returns-then-take-clause-stands : goal.returns-then-take-clause-stands
-returns-then-take-clause-stands c = λ setup before h.
-    let byte = c.in-RasterByte.byte in
-    let was : c.self.inside.settings ≡ settings_of setup before = ap (λ (p : Printing). p.settings) c.self.view_is ∙ h.settings in
-    let come = subst (λ (p : Printing). IsGathering p.raster before) (sym c.self.view_is) h.raster in
-    let row = c.take.ensures.row before come c.if-take.true in
-    let ends : is_row_end before ≡ true = row.ends in
-    let others = c.act_on_row-self-inside.ensures.others in
-    let old : Gathers c.self.inside.canvas.sheets c.self.inside.settings c.self.inside.canvas.bitmap c.self.inside.waiting (line setup before) =
-    subst (λ (p : Printing). Gathers p.sheets p.settings p.bitmap p.waiting (line setup before)) (sym c.self.view_is) h.line in
-    let page : HasPageIf (mode setup before) (layers setup before) c.self.inside.canvas.page = subst (λ (p : Printing). HasPageIf (mode setup before) (layers setup before) p.page) (sym c.self.view_is) h.page in
-    let now : c.after_row-self-inside.result ≡ settings_of setup (RasterByte byte ∷ before) = c.after_row-self-inside.ensures.settings setup before byte was ends (c.times_down.ensures.value ∙ ap times_down row.scale) in
-    let text : c.self.inside.settings.text ≡ c.after_row-self-inside.result.text = ap (λ (s : Settings). s.text) was ∙ sym (ap (λ (s : Settings). s.text) now) in
-    stands_as setup _ before _ _ c.in-RasterByte.is
-    (record {
-      sheets = ap (λ (k : Canvas). k.sheets) others ∙ ap (λ (p : Printing). p.sheets) c.self.view_is ∙ h.sheets;
-      settings = now;
-      stops = ap (λ (p : Printing). p.stops) c.self.view_is ∙ h.stops;
-      raster = c.take.ensures.gathers before come;
-      stored = subst (λ (p : Printing). IsStored p.stored (qr_data before)) (sym c.self.view_is) h.stored;
-      line = subst (λ (k : Canvas). Gathers k.sheets c.after_row-self-inside.result k.bitmap c.self.inside.waiting (line setup before)) (sym others)
-          (gathers_same c.self.inside.canvas.sheets c.self.inside.settings c.after_row-self-inside.result c.self.inside.canvas.bitmap c.self.inside.waiting (line setup before) text old);
-      page = c.act_on_row-self-inside.ensures.page setup before byte was row page;
-      shows = c.act_on_row-self-inside.ensures.shows setup before byte was row;
-      of_page = λ some. row_of_no_page (mode setup before);
-    })
-
-pub returns-else-take-clause-stands : goal.returns-else-take-clause-stands
-returns-else-take-clause-stands c = λ setup before h.
-    let byte = c.in-RasterByte.byte in
-    let come = subst (λ (p : Printing). IsGathering p.raster before) (sym c.self.view_is) h.raster in
-    let ends : is_row_end before ≡ false = sym (c.take.ensures.ends before come) ∙ c.if-take.false in
-    let page : HasPageIf (mode setup before) (layers setup before) c.self.inside.canvas.page = subst (λ (p : Printing). HasPageIf (mode setup before) (layers setup before) p.page) (sym c.self.view_is) h.page in
-    stands_as setup _ before _ _ c.in-RasterByte.is
-    (record {
-      sheets = ap (λ (p : Printing). p.sheets) c.self.view_is ∙ h.sheets;
-      settings = ap (λ (p : Printing). p.settings) c.self.view_is ∙ h.settings ∙ sym (settings_same setup byte before ends);
-      stops = ap (λ (p : Printing). p.stops) c.self.view_is ∙ h.stops;
-      raster = c.take.ensures.gathers before come;
-      stored = subst (λ (p : Printing). IsStored p.stored (qr_data before)) (sym c.self.view_is) h.stored;
-      line = subst (λ (p : Printing). Gathers p.sheets p.settings p.bitmap p.waiting (line setup before)) (sym c.self.view_is) h.line;
-      page = subst (λ (l : List Layer). HasPageIf (mode setup before) l c.self.inside.canvas.page) (sym (layers_same setup byte before ends)) page;
-      shows = shows_nothing setup _ _ before (RasterByte byte ∷ before) (ap (λ (p : Printing). p.pending) c.self.view_is ∙ c.requires)
-          (subst (λ (p : Printing). ShowsLine setup p.showing p.pending before) (sym c.self.view_is) h.shows);
-      of_page = λ some. absurd (omega (arith, some, ap length (ap (λ (p : Printing). p.pending) c.self.view_is ∙ c.requires)));
-    })
+pub returns-in_default : goal.returns-in_default
+returns-in_default c =
+    let item = c.args.item.now in
+    let acting = is_acting item c.effect-effect.result c.in_default.not-Nothing c.in_default.not-Fills c.in_default.not-Draws
+    (subst (λ (e : Effect). IsKind item e) (sym c.effect-effect.ensures) (kind_is c.self.inside.settings item)) in
+    record { refusal = λ setup before h. no_refusal setup before item acting.symbol; stands = c.act.ensures.stands; pending = c.act.ensures.pending; err = tt }
