@@ -1,5 +1,5 @@
 -- What is kept of the fields of a label while it is put out.
-use Rattle.std.specs.Prelude.{◌≡◌, ℕ, ◌+◌, ◌*◌, ◌<◌, ◌≤◌, true, List, map, filter, length, take, Option, None, slice_index_or}
+use Rattle.std.specs.Prelude.{◌≡◌, ℕ, ◌+◌, ◌*◌, ◌<◌, ◌≤◌, true, List, map, filter, length, Option, None, slice_index_or}
 use Rattle.std.specs.List.{All}
 use Rattle.vp_glyph.specs.declared.Sheets.{Sheets}
 use Rattle.vp_format.specs.declared.field.Field.{Field}
@@ -25,21 +25,20 @@ pub record Threaded : Type 0 where
 abbrev pub threaded_by : Inside → Threaded
 threaded_by p =
     record {
-      entries = take p.len p.entries.items;
-      heads = p.heads.items;
-      links = p.links.items;
+      entries = p.threads.entries;
+      heads = p.threads.heads;
+      links = p.threads.links;
       marks = p.marks.items;
-      carried = p.carried;
-      looks = p.looks;
+      carried = p.threads.carried;
+      looks = p.threads.looks;
     }
 
 -- there is room for 1,024 fields and 250 bands
 pub record HasRoom (p : Inside) : Type 0 where
-  pub entries : length p.entries.items ≡ 1024
-  pub heads : length p.heads.items ≡ 250
-  pub links : length p.links.items ≡ 1024
+  pub entries : length p.threads.entries ≤ 1024
+  pub heads : length p.threads.heads ≡ 250
+  pub links : length p.threads.links ≡ 1024
   pub marks : length p.marks.items ≡ 1024
-  pub filled : p.len ≤ 1024
 
 abbrev pub fields_of : List Entry → List Field
 fields_of entries = map (λ e. e.field) entries

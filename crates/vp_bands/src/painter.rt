@@ -1,5 +1,5 @@
 //! All bands of a label, copy after copy.
-ghost use Rattle.std.specs.Prelude.{◌≡◌, ℕ, ◌+◌, ◌*◌, ◌<◌, ◌≤◌, List, [], length, map, slice_index_or, IfOk};
+ghost use Rattle.std.specs.Prelude.{◌≡◌, ℕ, ◌+◌, ◌*◌, ◌<◌, ◌≤◌, List, [], map, slice_index_or, IfOk};
 ghost use Rattle.std.specs.List.{All};
 ghost use Rattle.vp_dots.specs.Dots.{dot};
 ghost use Rattle.vp_glyph.specs.declared.Sheets.{Sheets as Given};
@@ -14,42 +14,18 @@ use crate::table::thread_fields;
 use crate::walk::paint_band;
 use std::alloc::{AllocError, Global};
 use std::marker::Model;
-use vp_dots::{Band, Op};
+use vp_dots::Band;
 use vp_field::View;
-use vp_format::{Content, FIELDS, Field, Format, GraphicBox, RunMark};
+use vp_format::{FIELDS, Format, RunMark};
 use vp_glyph::Sheets;
-use vp_threads::{Entry, link_of};
-use vp_zpl::item::Orientation;
-
-/// What stands in the table where no entry is held: it meets no band.
-const NO_ENTRY: Entry = Entry {
-    field: Field {
-        left: 0,
-        top: 0,
-        orientation: Orientation::Normal,
-        op: Op::Black,
-        content: Content::Box(GraphicBox {
-            width: 1,
-            height: 1,
-            thickness: 1,
-        }),
-    },
-    first: 1,
-    last: 0,
-    next: None,
-};
+use vp_threads::Threads;
 
 /// Paints the bands of a label of at most 1,248 by 8,000 dots and 1,024 fields, one after the other, in each
 /// of its copies.
 #[derive(Drop)]
 pub struct BandPainter {
-    entries: Vec<Entry>,
-    len: usize,
-    heads: Vec<Option<usize>>,
-    links: Vec<Option<usize>>,
+    threads: Threads,
     marks: Vec<Option<RunMark>>,
-    carried: Option<usize>,
-    looks: u64,
 }
 
 impl Model for BandPainter {
@@ -69,13 +45,8 @@ impl BandPainter {
         ensures looks { IfOk result (λ painter. painter.looks ≡ 0) }
     {
         Ok(BandPainter {
-            entries: vec![in alloc; NO_ENTRY; FIELDS]?,
-            len: 0,
-            heads: vec![in alloc; None; BANDS]?,
-            links: vec![in alloc; None; FIELDS]?,
+            threads: Threads::new(alloc, BANDS)?,
             marks: vec![in alloc; None; FIELDS]?,
-            carried: None,
-            looks: 0,
         })
     }
 
@@ -87,10 +58,8 @@ impl BandPainter {
         ensures before { IsBefore sheets.now format.now.stored view 0 self.new }
         ensures looks { self.new.looks ≡ 0 }
     {
-        self.len = format.len();
-        thread_fields(&mut self.entries, &mut self.heads, sheets, format, view);
-        self.carried = None;
-        self.looks = 0;
+        thread_fields(&mut self.threads, sheets, format, view);
+        self.threads.start();
     }
 
     /// Goes back before the first band, for another copy of the same label.
@@ -100,8 +69,7 @@ impl BandPainter {
             → IsBefore sheets stored view b self.old → IsBefore sheets stored view 0 self.new }
         ensures looks { self.new.looks ≡ 0 }
     {
-        self.carried = None;
-        self.looks = 0;
+        self.threads.start();
     }
 
     /// Paints band b, whose first row is row 32 b of the label as it is put out: each band of a copy once, in
@@ -127,19 +95,14 @@ impl BandPainter {
         ensures at_most { self.new.looks ≤ self.old.looks + 1
             + 2 * meeting sheets.now stored.now view (fields_of self.old.entries) b }
     {
-        let begins = link_of(&self.heads, b, &mut self.looks);
-        self.carried = paint_band(
-            &self.entries[..self.len],
-            &mut self.links,
+        paint_band(
+            &mut self.threads,
             &mut self.marks,
-            self.carried,
-            begins,
             b,
             sheets,
             stored,
             view,
             band,
-            &mut self.looks,
         );
     }
 
@@ -147,6 +110,6 @@ impl BandPainter {
     pub fn looks(&self) -> u64
         ensures { result ≡ self.now.looks }
     {
-        self.looks
+        self.threads.looks()
     }
 }

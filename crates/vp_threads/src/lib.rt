@@ -7,5 +7,5 @@
 mod table;
 mod walk;
 
-pub use table::{Entry, entry_of, link_of, thread};
+pub use table::{Entry, Threads};
 pub use walk::{Walk, next_of};

@@ -1,10 +1,12 @@
 //! A walk over the fields that meet a band, in the order of closing.
-ghost use Rattle.std.specs.Prelude.{◌≡◌, ℕ, ◌+◌, ◌^◌, ◌<◌, ◌≤◌, ◌↔◌, List, Option, Some, length, IsTrue};
+ghost use Rattle.std.specs.Prelude.{◌≡◌, ℕ, ◌+◌, ◌^◌, ◌<◌, ◌≤◌, ◌↔◌, List, Option, None, Some, length, IsTrue};
 ghost use Rattle.std.specs.Option.{ForSome};
 ghost use Rattle.vp_threads.specs.declared.table.Entry.{Entry};
-ghost use Rattle.vp_threads.specs.Threads.{entry_at, begins_at, carried_at, meets_at, IsNext, IsTable, IsWalk, linked, ended, first_kept};
+ghost use Rattle.vp_threads.specs.Held.{looked, Stays};
+ghost use Rattle.vp_threads.specs.Threads.{entry_at, begins_at, carried_at, meets_at, IsNext, IsTable, IsWalk, link_at, linked, ended, first_kept};
 
-use crate::table::{Entry, link_of};
+use crate::table::{Entry, Threads};
+use vp_format::FIELDS;
 
 /// Where a walk over the fields of a band stands.
 #[derive(Clone, Copy, Debug, PartialEq, Eq)]
@@ -44,19 +46,36 @@ fn leads_to(link: Option<usize>, n: usize) -> bool
 }
 
 impl Walk {
+    /// A walk before the first field of band b.
+    pub fn start(b: usize, threads: &mut Threads) -> Walk
+        requires within { b < length threads.old.heads }
+        requires countable { threads.old.looks < 2 ^ 62 }
+        ensures walk { result ≡ record { carried = threads.old.carried; begins = link_at threads.old.heads b; seen = 0; kept = None; tail = None } }
+        ensures look { threads.new ≡ looked threads.old }
+    {
+        Walk {
+            carried: threads.carried(),
+            begins: threads.first_in(b),
+            seen: 0,
+            kept: None,
+            tail: None,
+        }
+    }
+
     /// The walk past field `n`, whose entry is given. What it keeps is the same.
-    fn passed(self, n: usize, entry: Entry, links: &[Option<usize>], looks: &mut u64) -> Walk
-        requires within { n < length links.now }
-        requires countable { looks.old < 2 ^ 62 }
+    fn passed(self, n: usize, entry: Entry, threads: &mut Threads) -> Walk
+        requires within { n < FIELDS }
+        requires countable { threads.old.looks < 2 ^ 62 }
         ensures seen { result.seen ≡ n + 1 }
         ensures kept { (result.kept ≡ self.kept) × (result.tail ≡ self.tail) }
-        ensures heads { (entries : List Entry) (b : ℕ) → IsTable entries → IsWalk entries links.now b self → IsNext (meets_at entries b) self.seen (length entries) (Some n) → entry ≡ entry_at entries n →
+        ensures heads { (entries : List Entry) (b : ℕ) → IsTable entries → IsWalk entries threads.old.links b self → IsNext (meets_at entries b) self.seen (length entries) (Some n) → entry ≡ entry_at entries n →
             IsNext (carried_at entries b) (n + 1) (length entries) result.carried × IsNext (begins_at entries b) (n + 1) (length entries) result.begins }
-        ensures looks { (looks.old ≤ looks.new) × (looks.new ≤ looks.old + 1) }
+        ensures stays { threads.new ≡ record threads.old { looks = threads.new.looks } }
+        ensures looks { (threads.old.looks ≤ threads.new.looks) × (threads.new.looks ≤ threads.old.looks + 1) }
     {
         if leads_to(self.carried, n) {
             Walk {
-                carried: link_of(links, n, looks),
+                carried: threads.link(n),
                 seen: n + 1,
                 ..self
             }
@@ -70,13 +89,13 @@ impl Walk {
     }
 
     /// Adds field `n` to what is kept for the next band.
-    fn keep(self, n: usize, links: &mut [Option<usize>]) -> Walk
-        requires { ForSome self.tail (λ t. t < length links.old) }
-        ensures links { links.new ≡ linked links.old self.tail n }
+    fn keep(self, n: usize, threads: &mut Threads) -> Walk
+        requires { ForSome self.tail (λ t. t < length threads.old.links) }
+        ensures links { threads.new ≡ record threads.old { links = linked threads.old.links self.tail n } }
         ensures walk { result ≡ record self { kept = first_kept self.kept n; tail = Some n } }
     {
         if let Some(t) = self.tail {
-            links[t] = Some(n);
+            threads.set_link(t, Some(n));
         }
         let kept = match self.kept {
             Some(first) => first,
@@ -89,38 +108,31 @@ impl Walk {
         }
     }
 
-    /// Ends what is kept, and answers where it starts.
-    pub fn close(self, links: &mut [Option<usize>]) -> Option<usize>
-        requires { ForSome self.tail (λ t. t < length links.old) }
-        ensures links { links.new ≡ ended links.old self.tail }
-        ensures kept { result ≡ self.kept }
+    /// Ends what is kept, which is carried over to the next band.
+    pub fn close(self, threads: &mut Threads)
+        requires { ForSome self.tail (λ t. t < length threads.old.links) }
+        ensures { threads.new ≡ record threads.old { links = ended threads.old.links self.tail; carried = self.kept } }
     {
         if let Some(t) = self.tail {
-            links[t] = None;
+            threads.set_link(t, None);
         }
-        self.kept
+        threads.carry(self.kept);
     }
 
     /// The walk after field `n`, whose entry is given.
-    pub fn after(
-        self,
-        n: usize,
-        b: usize,
-        entry: Entry,
-        links: &mut [Option<usize>],
-        looks: &mut u64,
-    ) -> Walk
-        requires within { n < length links.old }
-        requires tail { ForSome self.tail (λ t. t < length links.old) }
-        requires countable { looks.old < 2 ^ 62 }
+    pub fn after(self, n: usize, b: usize, entry: Entry, threads: &mut Threads) -> Walk
+        requires within { n < FIELDS }
+        requires tail { ForSome self.tail (λ t. t < length threads.old.links) }
+        requires countable { threads.old.looks < 2 ^ 62 }
         ensures seen { result.seen ≡ n + 1 }
-        ensures walk { (entries : List Entry) → IsTable entries → IsWalk entries links.old b self → IsNext (meets_at entries b) self.seen (length entries) (Some n) → entry ≡ entry_at entries n →
-            IsWalk entries links.new b result }
-        ensures looks { (looks.old ≤ looks.new) × (looks.new ≤ looks.old + 1) }
+        ensures walk { (entries : List Entry) → IsTable entries → IsWalk entries threads.old.links b self → IsNext (meets_at entries b) self.seen (length entries) (Some n) → entry ≡ entry_at entries n →
+            IsWalk entries threads.new.links b result }
+        ensures stays { Stays threads.old threads.new }
+        ensures looks { (threads.old.looks ≤ threads.new.looks) × (threads.new.looks ≤ threads.old.looks + 1) }
     {
-        let passed = self.passed(n, entry, links, looks);
+        let passed = self.passed(n, entry, threads);
         if entry.last > b {
-            passed.keep(n, links)
+            passed.keep(n, threads)
         } else {
             passed
         }

@@ -1,5 +1,6 @@
 use Rattle.std.proofs.Common.{◌≡◌, ◌+◌, ◌*◌, ◌-◌, ◌≤◌, length, take}
 use Rattle.vp_field.specs.Bands.{Shows}
+use Rattle.vp_threads.specs.Held.{Stays}
 use Rattle.vp_threads.specs.Threads.{IsWalk}
 use Rattle.vp_bands.specs.Standing.{met, AreMarked}
 use Rattle.vp_bands.proofs.Painted.{strokes}
@@ -8,14 +9,15 @@ use Rattle.vp_bands.proofs.walk.paint_band.Given as goal
 -- of the fields seen those that meet the band are painted, and each of these took one look or two
 abbrev pub invariant-loop-n : goal.invariant-loop-n
 invariant-loop-n l = record {
-  walk : IsWalk l.entries l.links l.b l.walk;
-  lengths : (length l.links ≡ length l.initial.links) × (length l.marks ≡ length l.initial.marks);
-  shows : Shows l.view (32 * l.b) (strokes l.sheets l.stored (met l.b (take l.walk.seen l.entries))) l.band;
-  ahead : AreMarked l.stored l.entries l.marks l.b l.walk.seen (length l.entries);
-  behind : AreMarked l.stored l.entries l.marks (l.b + 1) 0 l.walk.seen;
-  at_least : l.initial.looks + length (met l.b (take l.walk.seen l.entries)) ≤ l.looks;
-  at_most : l.looks ≤ l.initial.looks + 2 * length (met l.b (take l.walk.seen l.entries));
+  walk : IsWalk l.fn.threads.entries l.threads.links l.b l.walk;
+  stays : Stays l.fn.threads l.threads;
+  lengths : length l.marks ≡ length l.fn.marks;
+  shows : Shows l.view (32 * l.b) (strokes l.sheets l.stored (met l.b (take l.walk.seen l.fn.threads.entries))) l.band;
+  ahead : AreMarked l.stored l.fn.threads.entries l.marks l.b l.walk.seen (length l.fn.threads.entries);
+  behind : AreMarked l.stored l.fn.threads.entries l.marks (l.b + 1) 0 l.walk.seen;
+  at_least : l.fn.threads.looks + length (met l.b (take l.walk.seen l.fn.threads.entries)) ≤ l.threads.looks;
+  at_most : l.threads.looks ≤ l.fn.threads.looks + 1 + 2 * length (met l.b (take l.walk.seen l.fn.threads.entries));
 }
 
 abbrev pub decreases-loop-n : goal.decreases-loop-n
-decreases-loop-n l = length l.entries - l.walk.seen
+decreases-loop-n l = length l.fn.threads.entries - l.walk.seen

@@ -3,4 +3,4 @@ use Rattle.vp_bands.proofs.painter.BandPainter.start.Goals as goal
 
 pub returns-clause-before : goal.returns-clause-before
 returns-clause-before c = λ sheets stored view b before.
-    started sheets stored view b _ (rw (← c.self.view_is) at before)
+    rw c.start.ensures (started sheets stored view b _ (rw (← c.self.view_is) at before))

@@ -1,7 +1,7 @@
 use Rattle.std.proofs.Common.{length, None, inl, inr, arith}
 use Rattle.std.proofs.lemmas.Bool.{cases_lt}
 use Rattle.std.proofs.lemmas.List.{get_or_past}
-use Rattle.vp_bands.proofs.table.clear_heads.Goals as goal
+use Rattle.vp_threads.proofs.table.clear_heads.Goals as goal
 
 pub returns-clause-none : goal.returns-clause-none
 returns-clause-none c = λ b. elim (cases_lt b (length c.loop-head.heads)) [

@@ -1,6 +1,6 @@
 use Rattle.std.proofs.Common.{◌≡◌, ◌≤◌, length}
 use Rattle.vp_threads.specs.Threads.{KeepsSpans, ThreadedFrom}
-use Rattle.vp_threads.proofs.table.thread.Given as goal
+use Rattle.vp_threads.proofs.table.thread_all.Given as goal
 
 abbrev pub invariant-loop-k : goal.invariant-loop-k
 invariant-loop-k l = record {
