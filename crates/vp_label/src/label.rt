@@ -30,11 +30,21 @@ use vp_label_settings::laws::{between_formats, in_range};
 use vp_zpl::{Command, ZplItem};
 
 /// A label printer. What an item prints is pending until it is put out.
-#[derive(Drop)]
 pub struct Label {
     sheets: Sheets,
     gathered: Gathered,
     press: Press,
+}
+
+/// Its memory is given back here, whoever held it.
+impl Drop for Label {
+    fn drop(self) {
+        let Label {
+            sheets: _,
+            gathered: _,
+            press: _,
+        } = self;
+    }
 }
 
 impl Model for Label {
@@ -66,6 +76,7 @@ impl Label {
     pub fn new(alloc: Global, sheets: Sheets) -> Result<Self, AllocError>
         ensures stands { IfOk result (λ label. Stands sheets label []) }
         ensures pending { IfOk result (λ label. label.pending ≡ []) }
+        ensures looks { IfOk result (λ label. label.press.painter.looks ≡ 0) }
     {
         Ok(Label {
             sheets,
@@ -87,6 +98,8 @@ impl Label {
             Stands sheets self.old before →
             self.new.pending ≡ all_print sheets before (shown_item item.entry)) }
         ensures looks { OnOk result (0 < length self.new.pending → self.new.press.painter.looks ≡ 0) }
+        ensures idle { OnOk result (self.new.pending ≡ [] →
+            self.new.press.painter.looks ≡ self.old.press.painter.looks) }
         ensures err { OnErr result (self.new ≡ self.old) }
     {
         match item {
@@ -111,6 +124,7 @@ impl Label {
         ensures stands { (sheets : Given_sheets) (before : List Item) → Stands sheets self.old before →
             Stands sheets self.new (followed_by before (data_items bytes.now)) }
         ensures pending { self.new.pending ≡ [] }
+        ensures idle { self.new.press ≡ self.old.press }
     {
         pending_law();
         self.gathered.take(bytes);
@@ -128,6 +142,7 @@ impl Label {
             Gathers sheets self.new.gathered (followed_by before (data_items bytes.now))) }
         ensures sheets { self.new.sheets ≡ self.old.sheets }
         ensures pending { OnOk result (self.new.pending ≡ []) }
+        ensures idle { OnOk result (self.new.press ≡ self.old.press) }
         ensures err { OnErr result (self.new ≡ self.old) }
     {
         pending_law();
@@ -152,6 +167,8 @@ impl Label {
             Gathers self.old.sheets self.old.gathered before →
             0 < length self.new.pending → IsPrinted self.old.sheets self.new.gathered before) }
         ensures looks { OnOk result (0 < length self.new.pending → self.new.press.painter.looks ≡ 0) }
+        ensures idle { OnOk result (self.new.pending ≡ [] →
+            self.new.press.painter.looks ≡ self.old.press.painter.looks) }
         ensures err { OnErr result (self.new ≡ self.old) }
     {
         pending_law();
@@ -187,6 +204,7 @@ impl Label {
             self.new.press.painter.looks ≤ bands self.old + 2 * met self.old }
         ensures at_least { 0 < result → IsBetween self.new.press.copies.place →
             met self.old ≤ self.new.press.painter.looks }
+        ensures idle { result ≡ 0 → self.new.press ≡ self.old.press }
     {
         if !self.press.copies.is_pending() {
             return 0;

@@ -28,7 +28,8 @@ pub struct Press {
 impl Press {
     /// Nothing to put out.
     pub fn new(alloc: Global) -> Result<Press, AllocError>
-        ensures { IfOk result (λ press. press.copies.place.copies ≡ 0) }
+        ensures none { IfOk result (λ press. press.copies.place.copies ≡ 0) }
+        ensures looks { IfOk result (λ press. press.painter.looks ≡ 0) }
     {
         Ok(Press {
             copies: Copies::new(1, 1, 0),
@@ -48,6 +49,7 @@ impl Press {
         ensures press { IsPress sheets.now format.now.stored view self.new }
         ensures fields { fields_of self.new.painter.entries ≡ format.now.fields }
         ensures looks { self.new.painter.looks ≡ 0 }
+        ensures some { 0 < self.new.copies.place.copies }
         ensures left { left sheets.now format.now.stored view self.new
             ≡ copies_text (label_image sheets.now view format.now.stored format.now.fields) copies }
     {
@@ -105,6 +107,7 @@ impl Press {
             ≡ drop result (left sheets.now stored.now view self.old) }
         ensures ended { 0 < result → IsBetween self.new.copies.place →
             IsBefore sheets.now stored.now view (bands_of view) self.new.painter }
+        ensures idle { result ≡ 0 → self.new ≡ self.old }
     {
         let mut n = 0;
         while n < out.len() && self.copies.is_pending() {

@@ -8,8 +8,8 @@ use Rattle.vp_label.proofs.label.Label.new.Goals as goal
 pub invariant_of-result : goal.invariant_of-result
 invariant_of-result c = record {
   gathered = ([], c.in_ok-new.ensures c.args.sheets);
-  press = λ some. absurd (omega (arith, c.in_ok-new-2.ensures));
-  fields = λ some. absurd (omega (arith, c.in_ok-new-2.ensures));
+  press = λ some. absurd (omega (arith, c.in_ok-new-2.ensures.none));
+  fields = λ some. absurd (omega (arith, c.in_ok-new-2.ensures.none));
 }
 
 pub returns-clause-stands : goal.returns-clause-stands
@@ -19,5 +19,5 @@ returns-clause-stands c =
     record {
       sheets_are = refl;
       gathered = c.in_ok-new.ensures c.args.sheets;
-      printing = λ some. none_printing c.args.sheets c.in_ok-new.field-0 [] _ (nothing_left (shown c.args.sheets g.format.stored (view_of g.in_force.settings) p) p.copies.place c.in_ok-new-2.ensures) some;
+      printing = λ some. none_printing c.args.sheets c.in_ok-new.field-0 [] _ (nothing_left (shown c.args.sheets g.format.stored (view_of g.in_force.settings) p) p.copies.place c.in_ok-new-2.ensures.none) some;
     }

@@ -63,3 +63,12 @@ returns-clause-pending c =
     subst P c.self.view_is (λ before name sent g.
     sym (ap (λ (v : View). left j.sheets bytes v c.begin.new.self) view) ∙ c.begin.ensures.left
     ∙ ap (λ (v : View). copies_text (label_image j.sheets v bytes fields) c.in-Ok.copies) view ∙ c.in-Ok.ensures.prints before name sent g)
+
+pub returns-clause-idle : goal.returns-clause-idle
+returns-clause-idle c = λ none.
+    let j = c.self.inside in
+    let now = c.obey.new.self in
+    let q = c.begin.new.self in
+    let p = c.begin.ensures.press in
+    let over = no_copies c.pending_law.ensures (shown j.sheets now.format.stored (view_of now.in_force.settings) q) q.copies.place (λ some. (let h = p.high in let e = p.height in omega arith, p.place)) none in
+    absurd (omega (arith, over, c.begin.ensures.some))

@@ -20,4 +20,5 @@ loop-n-preserved c =
       bytes = put_more text c.args.out.now c.loop-n.out c.put_line-n.new.out n r done.within done.room done.bytes (part.bytes ∙ ap (λ rest. take r rest ++ drop r (take (length c.loop-n.out - n) (drop n c.loop-n.out))) done.rest);
       rest = part.rest ∙ ap (drop r) done.rest ∙ drop-drop r n text;
       ended = λ some between. part.ended between;
+      idle = λ none. absurd (omega (arith, part.some, none));
     }

@@ -14,6 +14,7 @@ invariant-loop-n l = record {
   bytes : l.out ≡ take l.n (left l.sheets l.stored l.view l.initial.self) ++ drop l.n l.initial.out;
   rest : left l.sheets l.stored l.view l.self ≡ drop l.n (left l.sheets l.stored l.view l.initial.self);
   ended : 0 < l.n → IsBetween l.self.copies.place → IsBefore l.sheets l.stored l.view (bands_of l.view) l.self.painter;
+  idle : l.n ≡ 0 → l.self ≡ l.initial.self;
 }
 
 abbrev pub decreases-loop-n : goal.decreases-loop-n
