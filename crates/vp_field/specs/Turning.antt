@@ -36,13 +36,6 @@ from_y BottomUp w h x y = x
 abbrev pub turned : Orientation → ℕ → ℕ → (ℕ → ℕ → Bool) → ℤ → ℤ → Bool
 turned o w h ink x y = ink_at ink (from_x o (pos w) (pos h) x y) (from_y o (pos w) (pos h) x y)
 
--- the size of the turned box
-abbrev pub turned_width : Orientation → ℕ → ℕ → ℕ
-turned_width Normal w h = w
-turned_width Rotated w h = h
-turned_width Inverted w h = w
-turned_width BottomUp w h = h
-
 abbrev pub turned_height : Orientation → ℕ → ℕ → ℕ
 turned_height Normal w h = h
 turned_height Rotated w h = w

@@ -4,6 +4,7 @@ ghost use Rattle.vp_field.specs.Fields.{IsKept};
 
 use crate::{View, clear, content_size, cut, paint_field};
 use std::alloc::Global;
+use std::process::Abort;
 use std::test::Fail;
 use vp_bars::Place;
 use vp_dots::{Band, Fault, Op, fill_dots};
@@ -220,218 +221,393 @@ impl Painter {
     }
 }
 
-#[test]
-fn a_box(rt: HostRuntime) -> Result<(), Fail> {
-    let mut page = Painter::new(rt.alloc(), plain(16, 4), 0)?;
-    page.paint(&NONE, &[], &boxed(2, 1, 5, 3, 1, Op::Black));
-    let rows = page.rows();
-    for (y, want) in [(0, 0), (1, 0x3e), (2, 0x22), (3, 0x3e), (4, 0)] {
-        assert_eq!(rt; rows[y], [want, 0, 0, 0, 0, 0]);
+/// Rows of a band from the top, so many that begin alike and go on white; below them it is white.
+type Rows = &'static [(usize, [u8; 6])];
+
+/// A band shows these rows.
+fn shows(rt: &impl Abort, painter: Painter, name: &str, want: Rows) {
+    let rows = painter.rows();
+    let mut rest = rows.iter();
+    for (count, row) in want {
+        for _ in 0..*count {
+            assert_eq!(rt; rest.next(), Some(row), "{name}");
+        }
     }
-    Ok(())
+    for row in rest {
+        assert_eq!(rt; *row, [0; 6], "{name}");
+    }
 }
 
-#[test]
-fn a_reversing_box(rt: HostRuntime) -> Result<(), Fail> {
-    let mut page = Painter::new(rt.alloc(), plain(16, 2), 0)?;
-    page.paint(&NONE, &[], &boxed(0, 0, 8, 2, 2, Op::Black));
-    page.paint(&NONE, &[], &boxed(4, 0, 8, 2, 2, Op::Flip));
-    let rows = page.rows();
-    assert_eq!(rt; rows[0], [0xf0, 0xf0, 0, 0, 0, 0]);
-    assert_eq!(rt; rows[1], [0xf0, 0xf0, 0, 0, 0, 0]);
-    assert_eq!(rt; rows[2], [0; 6]);
-    Ok(())
+/// A label's width and its rows, and whether it is put out inverted, and mirrored.
+type Label = (u16, u16, bool, bool);
+
+fn view_of((width, height, inverted, mirrored): Label) -> View {
+    View {
+        inverted,
+        mirrored,
+        ..plain(width, height)
+    }
+}
+
+/// Boxes painted one after the other: of each its place, width, height, thickness and how it paints.
+struct BoxRow {
+    name: &'static str,
+    label: Label,
+    first: u32,
+    boxes: &'static [(i16, i16, u16, u16, u16, Op)],
+    rows: Rows,
 }
 
 /// A black box, a white one and a reversing one over the end of a band.
-fn over_the_end(alloc: Global, view: View, first: u32) -> Result<[[u8; 6]; 32], Fail> {
-    let mut page = Painter::new(alloc, view, first)?;
-    page.paint(&NONE, &[], &boxed(0, 30, 8, 4, 4, Op::Black));
-    page.paint(&NONE, &[], &boxed(0, 32, 8, 1, 1, Op::White));
-    page.paint(&NONE, &[], &boxed(0, 31, 4, 3, 3, Op::Flip));
-    Ok(page.rows())
-}
+const OVER_THE_END: &[(i16, i16, u16, u16, u16, Op)] = &[
+    (0, 30, 8, 4, 4, Op::Black),
+    (0, 32, 8, 1, 1, Op::White),
+    (0, 31, 4, 3, 3, Op::Flip),
+];
+
+/// The left half of a row of eight dots.
+const HALF: &[(i16, i16, u16, u16, u16, Op)] = &[(0, 0, 4, 1, 1, Op::Black)];
+
+static BOX_ROWS: &[BoxRow] = &[
+    BoxRow {
+        name: "a box",
+        label: (16, 4, false, false),
+        first: 0,
+        boxes: &[(2, 1, 5, 3, 1, Op::Black)],
+        rows: &[
+            (1, [0; 6]),
+            (1, [0x3e, 0, 0, 0, 0, 0]),
+            (1, [0x22, 0, 0, 0, 0, 0]),
+            (1, [0x3e, 0, 0, 0, 0, 0]),
+        ],
+    },
+    BoxRow {
+        name: "a reversing box",
+        label: (16, 2, false, false),
+        first: 0,
+        boxes: &[(0, 0, 8, 2, 2, Op::Black), (4, 0, 8, 2, 2, Op::Flip)],
+        rows: &[(2, [0xf0, 0xf0, 0, 0, 0, 0])],
+    },
+    BoxRow {
+        name: "the upper of two bands",
+        label: (8, 34, false, false),
+        first: 0,
+        boxes: OVER_THE_END,
+        rows: &[
+            (30, [0; 6]),
+            (1, [0xff, 0, 0, 0, 0, 0]),
+            (1, [0x0f, 0, 0, 0, 0, 0]),
+        ],
+    },
+    BoxRow {
+        name: "the lower of two bands",
+        label: (8, 34, false, false),
+        first: 32,
+        boxes: OVER_THE_END,
+        rows: &[(1, [0xf0, 0, 0, 0, 0, 0]), (1, [0x0f, 0, 0, 0, 0, 0])],
+    },
+    BoxRow {
+        name: "the upper of two bands upside down",
+        label: (8, 34, true, false),
+        first: 0,
+        boxes: OVER_THE_END,
+        rows: &[
+            (1, [0xf0, 0, 0, 0, 0, 0]),
+            (1, [0x0f, 0, 0, 0, 0, 0]),
+            (1, [0xf0, 0, 0, 0, 0, 0]),
+            (1, [0xff, 0, 0, 0, 0, 0]),
+        ],
+    },
+    BoxRow {
+        name: "the lower of two bands upside down",
+        label: (8, 34, true, false),
+        first: 32,
+        boxes: OVER_THE_END,
+        rows: &[],
+    },
+    BoxRow {
+        name: "mirrored",
+        label: (8, 1, false, true),
+        first: 0,
+        boxes: HALF,
+        rows: &[(1, [0x0f, 0, 0, 0, 0, 0])],
+    },
+    BoxRow {
+        name: "inverted",
+        label: (8, 1, true, false),
+        first: 0,
+        boxes: HALF,
+        rows: &[(1, [0x0f, 0, 0, 0, 0, 0])],
+    },
+    BoxRow {
+        name: "mirrored, of seven dots",
+        label: (7, 1, false, true),
+        first: 0,
+        boxes: HALF,
+        rows: &[(1, [0x1e, 0, 0, 0, 0, 0])],
+    },
+    BoxRow {
+        name: "inverted, of seven dots",
+        label: (7, 1, true, false),
+        first: 0,
+        boxes: HALF,
+        rows: &[(1, [0x1e, 0, 0, 0, 0, 0])],
+    },
+    BoxRow {
+        name: "inverted and mirrored, of seven dots",
+        label: (7, 1, true, true),
+        first: 0,
+        boxes: HALF,
+        rows: &[(1, [0xf0, 0, 0, 0, 0, 0])],
+    },
+    BoxRow {
+        name: "of seven dots",
+        label: (7, 1, false, false),
+        first: 0,
+        boxes: HALF,
+        rows: &[(1, [0xf0, 0, 0, 0, 0, 0])],
+    },
+    BoxRow {
+        name: "a box over one that reverses",
+        label: (8, 1, false, false),
+        first: 0,
+        boxes: &[(0, 0, 8, 1, 1, Op::Flip), (0, 0, 8, 1, 1, Op::Black)],
+        rows: &[(1, [0xff, 0, 0, 0, 0, 0])],
+    },
+    BoxRow {
+        name: "reversing boxes over one",
+        label: (8, 1, false, false),
+        first: 0,
+        boxes: &[
+            (0, 0, 8, 1, 1, Op::Black),
+            (0, 0, 4, 1, 1, Op::Flip),
+            (0, 0, 2, 1, 1, Op::Flip),
+        ],
+        rows: &[(1, [0xcf, 0, 0, 0, 0, 0])],
+    },
+];
 
 #[test]
-fn two_bands(rt: HostRuntime) -> Result<(), Fail> {
-    let view = plain(8, 34);
-    let upper = over_the_end(rt.alloc(), view, 0)?;
-    let lower = over_the_end(rt.alloc(), view, 32)?;
-    for (y, want) in [(0, 0), (29, 0), (30, 0xff), (31, 0x0f)] {
-        assert_eq!(rt; upper[y], [want, 0, 0, 0, 0, 0]);
+fn boxes(rt: HostRuntime) -> Result<(), Fail> {
+    for case in BOX_ROWS {
+        let mut page = Painter::new(rt.alloc(), view_of(case.label), case.first)?;
+        for (left, top, w, h, t, op) in case.boxes {
+            page.paint(&NONE, &[], &boxed(*left, *top, *w, *h, *t, *op));
+        }
+        shows(&rt, page, case.name, case.rows);
     }
-    for (y, want) in [(0, 0xf0), (1, 0x0f), (2, 0), (31, 0)] {
-        assert_eq!(rt; lower[y], [want, 0, 0, 0, 0, 0]);
-    }
-    let inverted = View {
-        inverted: true,
-        ..view
-    };
-    let upper = over_the_end(rt.alloc(), inverted, 0)?;
-    let lower = over_the_end(rt.alloc(), inverted, 32)?;
-    for (y, want) in [(0, 0xf0), (1, 0x0f), (2, 0xf0), (3, 0xff), (4, 0), (31, 0)] {
-        assert_eq!(rt; upper[y], [want, 0, 0, 0, 0, 0]);
-    }
-    assert_eq!(rt; lower, [[0; 6]; 32]);
     Ok(())
 }
 
-#[test]
-fn mirrored_labels(rt: HostRuntime) -> Result<(), Fail> {
-    let rows = [
-        (8, false, true, 0x0f),
-        (8, true, false, 0x0f),
-        (7, false, true, 0x1e),
-        (7, true, false, 0x1e),
-        (7, true, true, 0xf0),
-        (7, false, false, 0xf0),
-    ];
-    for (width, inverted, mirrored, want) in rows {
-        let view = View {
-            inverted,
-            mirrored,
-            ..plain(width, 1)
-        };
-        let mut page = Painter::new(rt.alloc(), view, 0)?;
-        page.paint(&NONE, &[], &boxed(0, 0, 4, 1, 1, Op::Black));
-        let rows = page.rows();
-        assert_eq!(rt; rows[0], [want, 0, 0, 0, 0, 0]);
-        assert_eq!(rt; rows[1], [0; 6]);
-    }
-    Ok(())
+/// A text in each orientation, by its left edge, on a label of so many dots and rows.
+struct TextRow {
+    letters: &'static [u8],
+    orientation: Orientation,
+    left: i8,
+    label: Label,
+    rows: Rows,
 }
 
-#[test]
-fn the_order_of_fields(rt: HostRuntime) -> Result<(), Fail> {
-    let mut page = Painter::new(rt.alloc(), plain(8, 1), 0)?;
-    page.paint(&NONE, &[], &boxed(0, 0, 8, 1, 1, Op::Flip));
-    page.paint(&NONE, &[], &boxed(0, 0, 8, 1, 1, Op::Black));
-    assert_eq!(rt; page.rows()[0], [0xff, 0, 0, 0, 0, 0]);
-    let mut page = Painter::new(rt.alloc(), plain(8, 1), 0)?;
-    page.paint(&NONE, &[], &boxed(0, 0, 8, 1, 1, Op::Black));
-    page.paint(&NONE, &[], &boxed(0, 0, 4, 1, 1, Op::Flip));
-    page.paint(&NONE, &[], &boxed(0, 0, 2, 1, 1, Op::Flip));
-    assert_eq!(rt; page.rows()[0], [0xcf, 0, 0, 0, 0, 0]);
-    Ok(())
-}
+static TEXT_ROWS: &[TextRow] = &[
+    TextRow {
+        letters: b"M",
+        orientation: Orientation::Normal,
+        left: 0,
+        label: (16, 24, false, false),
+        rows: &[(24, [0xff, 0xf0, 0, 0, 0, 0])],
+    },
+    TextRow {
+        letters: b"B",
+        orientation: Orientation::Rotated,
+        left: 0,
+        label: (24, 12, false, false),
+        rows: &[(1, [0xff, 0xff, 0xff, 0, 0, 0])],
+    },
+    TextRow {
+        letters: b"B",
+        orientation: Orientation::BottomUp,
+        left: 0,
+        label: (24, 12, false, false),
+        rows: &[(11, [0; 6]), (1, [0xff, 0xff, 0xff, 0, 0, 0])],
+    },
+    TextRow {
+        letters: b"B",
+        orientation: Orientation::Inverted,
+        left: 0,
+        label: (24, 12, false, false),
+        rows: &[(12, [0, 0x10, 0, 0, 0, 0])],
+    },
+    TextRow {
+        letters: b"B",
+        orientation: Orientation::Normal,
+        left: 0,
+        label: (24, 12, false, false),
+        rows: &[(12, [0x80, 0, 0, 0, 0, 0])],
+    },
+    // past the left edge
+    TextRow {
+        letters: b"NMNMB",
+        orientation: Orientation::Normal,
+        left: -30,
+        label: (40, 24, false, false),
+        rows: &[(24, [0x03, 0xff, 0xe0, 0, 0, 0])],
+    },
+];
 
 #[test]
 fn texts(rt: HostRuntime) -> Result<(), Fail> {
     let sheets = stairs(rt.alloc())?;
-    let mut page = Painter::new(rt.alloc(), plain(16, 24), 0)?;
-    page.paint(&sheets, b"M", &text(Orientation::Normal, 0, b"M"));
-    let rows = page.rows();
-    assert_eq!(rt; rows[0], [0xff, 0xf0, 0, 0, 0, 0]);
-    assert_eq!(rt; rows[23], [0xff, 0xf0, 0, 0, 0, 0]);
-    assert_eq!(rt; rows[24], [0; 6]);
-    let turned = [
-        (Orientation::Rotated, [0xff, 0xff, 0xff, 0, 0, 0], [0; 6]),
-        (Orientation::BottomUp, [0; 6], [0xff, 0xff, 0xff, 0, 0, 0]),
-        (
-            Orientation::Inverted,
-            [0, 0x10, 0, 0, 0, 0],
-            [0, 0x10, 0, 0, 0, 0],
-        ),
-        (
-            Orientation::Normal,
-            [0x80, 0, 0, 0, 0, 0],
-            [0x80, 0, 0, 0, 0, 0],
-        ),
-    ];
-    for (orientation, upper, lower) in turned {
-        let mut page = Painter::new(rt.alloc(), plain(24, 12), 0)?;
-        page.paint(&sheets, b"B", &text(orientation, 0, b"B"));
-        let rows = page.rows();
-        assert_eq!(rt; rows[0], upper);
-        assert_eq!(rt; rows[11], lower);
-        assert_eq!(rt; rows[12], [0; 6]);
+    for case in TEXT_ROWS {
+        let letters = case.letters;
+        assert!(rt; letters.len() <= 100);
+        let mut page = Painter::new(rt.alloc(), view_of(case.label), 0)?;
+        page.paint(
+            &sheets,
+            letters,
+            &text(case.orientation, case.left, letters),
+        );
+        shows(&rt, page, "a text", case.rows);
     }
     Ok(())
 }
 
-#[test]
-fn a_text_past_the_left_edge(rt: HostRuntime) -> Result<(), Fail> {
-    let sheets = stairs(rt.alloc())?;
-    let mut page = Painter::new(rt.alloc(), plain(40, 24), 0)?;
-    let letters = b"NMNMB";
-    page.paint(&sheets, letters, &text(Orientation::Normal, -30, letters));
-    assert_eq!(rt; page.rows()[0], [0x03, 0xff, 0xe0, 0, 0, 0]);
-    Ok(())
+/// A block of 24 dots, and a band of the label that it is on.
+struct BlockRow {
+    letters: &'static [u8],
+    orientation: Orientation,
+    lines: u8,
+    alignment: Alignment,
+    label: Label,
+    first: u32,
+    rows: Rows,
 }
+
+const FULL: [u8; 6] = [0xff, 0xff, 0xff, 0, 0, 0];
+
+static BLOCK_ROWS: &[BlockRow] = &[
+    BlockRow {
+        letters: b"MM M",
+        orientation: Orientation::Normal,
+        lines: 2,
+        alignment: Alignment::Right,
+        label: (24, 48, false, false),
+        first: 0,
+        rows: &[(24, FULL), (8, [0, 0x0f, 0xff, 0, 0, 0])],
+    },
+    BlockRow {
+        letters: b"MM M",
+        orientation: Orientation::Normal,
+        lines: 2,
+        alignment: Alignment::Right,
+        label: (24, 48, false, false),
+        first: 32,
+        rows: &[(16, [0, 0x0f, 0xff, 0, 0, 0])],
+    },
+    BlockRow {
+        letters: b"MM M",
+        orientation: Orientation::Normal,
+        lines: 1,
+        alignment: Alignment::Left,
+        label: (24, 48, false, false),
+        first: 0,
+        rows: &[(24, FULL), (8, [0; 6])],
+    },
+    BlockRow {
+        letters: b"MM M",
+        orientation: Orientation::Normal,
+        lines: 1,
+        alignment: Alignment::Left,
+        label: (24, 48, false, false),
+        first: 32,
+        rows: &[(16, [0; 6])],
+    },
+    BlockRow {
+        letters: b"M\\&MM",
+        orientation: Orientation::Normal,
+        lines: 2,
+        alignment: Alignment::Centre,
+        label: (24, 48, false, false),
+        first: 0,
+        rows: &[(24, [0x03, 0xff, 0xc0, 0, 0, 0]), (8, FULL)],
+    },
+    BlockRow {
+        letters: b"M\\&MM",
+        orientation: Orientation::Normal,
+        lines: 2,
+        alignment: Alignment::Centre,
+        label: (24, 48, false, false),
+        first: 32,
+        rows: &[(16, FULL)],
+    },
+    BlockRow {
+        letters: b"MMM",
+        orientation: Orientation::Normal,
+        lines: 2,
+        alignment: Alignment::Left,
+        label: (24, 48, false, false),
+        first: 0,
+        rows: &[(24, FULL), (8, [0xff, 0xf0, 0, 0, 0, 0])],
+    },
+    BlockRow {
+        letters: b"MMM",
+        orientation: Orientation::Normal,
+        lines: 2,
+        alignment: Alignment::Left,
+        label: (24, 48, false, false),
+        first: 32,
+        rows: &[(16, [0xff, 0xf0, 0, 0, 0, 0])],
+    },
+    BlockRow {
+        letters: b"MM M",
+        orientation: Orientation::Rotated,
+        lines: 2,
+        alignment: Alignment::Right,
+        label: (48, 24, false, false),
+        first: 0,
+        rows: &[(12, [0, 0, 0, 0xff, 0xff, 0xff]), (12, [0xff; 6])],
+    },
+];
 
 #[test]
 fn blocks(rt: HostRuntime) -> Result<(), Fail> {
     let sheets = stairs(rt.alloc())?;
-    let full = [0xff, 0xff, 0xff, 0, 0, 0];
-    let rows = [
-        (
-            &b"MM M"[..],
-            2,
-            Alignment::Right,
-            full,
-            [0, 0x0f, 0xff, 0, 0, 0],
-        ),
-        (b"MM M", 1, Alignment::Left, full, [0; 6]),
-        (
-            b"M\\&MM",
-            2,
-            Alignment::Centre,
-            [0x03, 0xff, 0xc0, 0, 0, 0],
-            full,
-        ),
-        (b"MMM", 2, Alignment::Left, full, [0xff, 0xf0, 0, 0, 0, 0]),
-    ];
-    for (letters, lines, alignment, upper, lower) in rows {
-        let field = block(Orientation::Normal, letters, lines, alignment);
-        let mut page = Painter::new(rt.alloc(), plain(24, 48), 0)?;
+    for case in BLOCK_ROWS {
+        let letters = case.letters;
+        assert!(rt; letters.len() <= 100);
+        let field = block(case.orientation, letters, case.lines, case.alignment);
+        let mut page = Painter::new(rt.alloc(), view_of(case.label), case.first)?;
         page.paint(&sheets, letters, &field);
-        let rows = page.rows();
-        assert_eq!(rt; rows[0], upper);
-        assert_eq!(rt; rows[23], upper);
-        assert_eq!(rt; rows[24], lower);
-        assert_eq!(rt; rows[31], lower);
-        let mut page = Painter::new(rt.alloc(), plain(24, 48), 32)?;
-        page.paint(&sheets, letters, &field);
-        let rows = page.rows();
-        assert_eq!(rt; rows[0], lower);
-        assert_eq!(rt; rows[15], lower);
-        assert_eq!(rt; rows[16], [0; 6]);
+        shows(&rt, page, "a block", case.rows);
     }
-    let mut page = Painter::new(rt.alloc(), plain(48, 24), 0)?;
-    let letters = b"MM M";
-    let field = block(Orientation::Rotated, letters, 2, Alignment::Right);
-    page.paint(&sheets, letters, &field);
-    let rows = page.rows();
-    assert_eq!(rt; rows[0], [0, 0, 0, 0xff, 0xff, 0xff]);
-    assert_eq!(rt; rows[11], [0, 0, 0, 0xff, 0xff, 0xff]);
-    assert_eq!(rt; rows[12], [0xff; 6]);
-    assert_eq!(rt; rows[23], [0xff; 6]);
-    assert_eq!(rt; rows[24], [0; 6]);
     Ok(())
 }
+
+/// The bars of an A along the label.
+static ALONG: Rows = &[(1, [0xc3, 0x3c, 0xf3, 0x3c, 0xcc, 0x33])];
+
+/// The bars of an A down the label.
+static DOWN: Rows = &[
+    (2, [0x80, 0, 0, 0, 0, 0]),
+    (4, [0; 6]),
+    (2, [0x80, 0, 0, 0, 0, 0]),
+    (2, [0; 6]),
+    (4, [0x80, 0, 0, 0, 0, 0]),
+    (2, [0; 6]),
+    (4, [0x80, 0, 0, 0, 0, 0]),
+    (2, [0; 6]),
+    (2, [0x80, 0, 0, 0, 0, 0]),
+    (2, [0; 6]),
+    (4, [0x80, 0, 0, 0, 0, 0]),
+];
 
 #[test]
 fn bars(rt: HostRuntime) -> Result<(), Fail> {
     let mut page = Painter::new(rt.alloc(), plain(80, 1), 0)?;
     page.paint(&NONE, b"A", &bars_of(Orientation::Normal, b"A"));
-    let rows = page.rows();
-    assert_eq!(rt; rows[0], [0xc3, 0x3c, 0xf3, 0x3c, 0xcc, 0x33]);
-    assert_eq!(rt; rows[1], [0; 6]);
+    shows(&rt, page, "bars", ALONG);
     let mut page = Painter::new(rt.alloc(), plain(80, 80), 0)?;
     page.paint(&NONE, b"A", &bars_of(Orientation::Rotated, b"A"));
-    let rows = page.rows();
-    for (y, want) in [
-        (0, 0x80),
-        (1, 0x80),
-        (2, 0),
-        (5, 0),
-        (6, 0x80),
-        (7, 0x80),
-        (8, 0),
-        (10, 0x80),
-    ] {
-        assert_eq!(rt; rows[y], [want, 0, 0, 0, 0, 0]);
-    }
+    shows(&rt, page, "turned bars", DOWN);
     Ok(())
 }
 
@@ -449,10 +625,8 @@ fn qr(rt: HostRuntime) -> Result<(), Fail> {
         Err(_) => assert!(rt; false),
     }
     let rows = page.rows();
-    assert_eq!(rt; rows[0][0], 0xfe);
-    assert_eq!(rt; rows[0][2], 0xf8);
-    assert_eq!(rt; rows[6][0], 0xfe);
-    assert_eq!(rt; rows[20][0], 0xfe);
+    assert_eq!(rt; (rows[0][0], rows[0][2]), (0xfe, 0xf8));
+    assert_eq!(rt; (rows[6][0], rows[20][0]), (0xfe, 0xfe));
     assert_eq!(rt; rows[21], [0; 6]);
     Ok(())
 }
@@ -463,7 +637,7 @@ fn data_without_a_symbol(rt: HostRuntime) -> Result<(), Fail> {
     let field = bars_of(Orientation::Normal, b"a");
     page.paint(&NONE, b"a", &field);
     assert_eq!(rt; content_size(&NONE, b"a", &field.content), (0, 0));
-    assert_eq!(rt; page.rows(), [[0; 6]; 32]);
+    shows(&rt, page, "no symbol", &[]);
     Ok(())
 }
 

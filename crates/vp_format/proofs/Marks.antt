@@ -48,10 +48,6 @@ whole_decoded coding codes row new s end n at to is whole here ends d =
     let f = subst (λ (k : Coding). Decoded (2 * n) k codes s end (record { left = 0; digit = 0; at = to }) row new) (sym is) e in
     subst (λ (r : RowEnd). Decoded (2 * n) coding codes s end (record { left = r.left; digit = r.digit; at = to }) row new) (sym ends) f
 
-pub front_answer : (coding : Coding) (codes row : List ℕ) (s : Spot) (r : Result RowEnd Fault) (n : ℕ) → n ≤ length row → is_err r ≡ is_nothing (shown (2 * length (take n row)) 0 (symbols_at coding codes s) (2 * length (take n row) - 1))
-    → is_err r ≡ is_nothing (shown (2 * n) 0 (symbols_at coding codes s) (2 * n - 1))
-front_answer coding codes row s r n room e = subst (λ (k : ℕ). is_err r ≡ is_nothing (shown (2 * k) 0 (symbols_at coding codes s) (2 * k - 1))) (length_take_le n row room) e
-
 -- a value, by the one above it
 pub value-at : (p : Picture) (y j : ℕ) → value p y j ≡ value_of (place_of p y j) (above p y j)
 unfolding value

@@ -3,7 +3,7 @@ use Rattle.std.proofs.Common.{inl, inr, ◌≡◌, ℕ, ◌+◌, ◌-◌, ◌*�
 use Rattle.std.proofs.Common.{get_or-take}
 use Rattle.std.proofs.Math.ListN.{get_or-append}
 use Rattle.std.proofs.lemmas.List.{get_or-replicate, get_or-append_right, length-take, length-drop, length-replicate}
-use Rattle.std.proofs.lemmas.Bool.{cases_lt, cases_eq, cases_Bool}
+use Rattle.std.proofs.lemmas.Bool.{cases_eq, cases_Bool}
 use Rattle.vp_format.specs.Pictures.{nibble}
 use Rattle.vp_format.specs.Cursors.{Filled}
 
@@ -41,26 +41,6 @@ half_filled row from v h small odd = record {
     | inr n ↦ nibble_other row (from / 2) _ j n
   ];
   filled = λ j l m. nibble_low row (from / 2) _ j (omega arith) (omega arith) ∙ omega arith;
-}
-
--- one more byte written
-pub byte_filled : (old row : List ℕ) (first i v : ℕ) → i < length row → v < 16 → first ≤ i → Filled (2 * first) (2 * i) v old row → Filled (2 * first) (2 * (i + 1)) v old (set row i (v * 16 + v))
-byte_filled old row first i v h small from f = record {
-  kept = λ j l. nibble_other row i _ j (omega arith) ∙ f.kept j l;
-  filled = λ j l m. elim (cases_lt j (2 * i)) [
-    | inl b ↦ nibble_other row i _ j (omega arith) ∙ f.filled j l b
-    | inr b ↦ elim (cases_eq j (2 * i)) [
-      | inl e ↦ nibble_high row i _ j h e ∙ omega arith
-      | inr n ↦ nibble_low row i _ j h (omega arith) ∙ omega arith
-    ]
-  ];
-}
-
--- one run behind the other
-pub run_filled : (old mid new : List ℕ) (from seam to after v : ℕ) → from ≤ seam → to ≤ after → Filled from seam v old mid → Filled seam after v mid new → Filled from to v old new
-run_filled old mid new from seam to after v h e f g = record {
-  kept = λ j l. g.kept j (omega arith) ∙ f.kept j l;
-  filled = λ j l m. elim (cases_lt j seam) [ inl b ↦ g.kept j b ∙ f.filled j l b | inr b ↦ g.filled j b (omega arith) ];
 }
 
 -- the front of a row, and a row with more behind it

@@ -128,9 +128,6 @@ pub again_refused : (w x k : ℕ) (ss : List Spelled) → 0 < x → x < w → sh
 again_refused w x k ss some h = shown_in w x (spelled Again k) ss (w - 1) (rw (row_end w x h) (omega arith)) ∙ ap (λ r. cond (eqb r 0) AsAbove Nothing) (mod-eq_of_lt h)
     ∙ ap (λ b. cond b AsAbove Nothing) (ne_eqb x 0 (omega arith))
 
-pub refused_shown : (w x k : ℕ) (ss : List Spelled) → x < w → shown w x (spelled Refused k ∷ ss) (w - 1) ≡ Nothing
-refused_shown w x k ss h = shown_in w x (spelled Refused k) ss (w - 1) (rw (row_end w x h) (omega arith))
-
 -- a row further on, the symbols show the same
 end_later : (w p : ℕ) (s : Symbol) → 0 < w → end_of w (w + p) s ≡ w + end_of w p s
 end_later w p (Digits n v) h = omega arith

@@ -4,7 +4,7 @@ ghost use Rattle.vp_format.specs.Codes.{code_of};
 ghost use Rattle.vp_format.specs.Cursors.{SmallCode, digit_value};
 
 /// What a byte of the codes is.
-#[derive(Clone, Copy, Debug, PartialEq, Eq)]
+#[derive(Clone, Copy)]
 pub enum Code {
     /// A hex digit, by its value.
     Digit(u8),
@@ -18,7 +18,7 @@ pub enum Code {
 }
 
 /// Codes with the counts joined to their digit.
-#[derive(Clone, Copy, Debug, PartialEq, Eq)]
+#[derive(Clone, Copy)]
 pub enum Symbol {
     /// A digit, so often.
     Digits(u128, u8),

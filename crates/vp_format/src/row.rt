@@ -49,7 +49,7 @@ fn fill(from: usize, to: usize, v: u8, row: &mut [u8])
 }
 
 /// What is known of a row that was read.
-#[derive(Clone, Copy, Debug, PartialEq, Eq)]
+#[derive(Clone, Copy)]
 pub struct RowEnd {
     /// What is left of a run that reaches into the next row, and its digit.
     pub left: u128,

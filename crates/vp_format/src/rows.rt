@@ -21,7 +21,7 @@ pub enum Coding {
 }
 
 /// A place of the codes where a row starts: what is left there of a digit's run, and the next byte.
-#[derive(Clone, Copy, Debug, PartialEq, Eq)]
+#[derive(Clone, Copy)]
 pub struct Spot {
     pub left: u128,
     pub digit: u8,
@@ -29,7 +29,7 @@ pub struct Spot {
 }
 
 /// Where a cursor stands before a row.
-#[derive(Clone, Copy, Debug, PartialEq, Eq)]
+#[derive(Clone, Copy)]
 pub struct RunMark {
     /// The row.
     next: u32,

@@ -1,11 +1,14 @@
 //! Pictures worked by hand, and each short code against a reader that looks at each place alone.
 ghost use Rattle.std.specs.Prelude.{◌≡◌, ℕ, ◌<◌, ◌≤◌, ◌^◌, length, if◌then◌else◌, None, Some};
 ghost use Rattle.vp_format.specs.Codes.{symbols_behind};
+ghost use Rattle.vp_format.specs.Cursors.{IsMark};
 ghost use Rattle.vp_format.specs.Pictures.{shown, is_nothing, value_of};
+ghost use Rattle.vp_format.specs.declared.rows.Coding.TheVariants.{RunLength};
 
 use crate::codes::{Code, code_of};
-use crate::{Coding, Content, Field, Format, RunRows, Span, Text};
+use crate::{Coding, Content, Field, Format, RunMark, RunRows, Span, Text};
 use std::alloc::AllocError;
+use std::process::Abort;
 use vp_dots::{Fault, Op};
 use vp_zpl::item::Orientation;
 
@@ -44,41 +47,62 @@ fn value_of_place(codes: &[u8], width: u128, place: u128, above: u8) -> Option<u
     Some(0)
 }
 
+/// The next row of a cursor is this one.
+fn next_is(rt: &impl Abort, cursor: &mut RunRows, want: &[u8])
+    requires wide { length want.now ≡ cursor.old.picture.row_bytes }
+    requires small { length want.now ≤ 164 }
+    ensures { cursor.new.picture ≡ cursor.old.picture }
+{
+    let mut row = [0; 164];
+    let row = &mut row[..want.len()];
+    assert_eq!(rt; cursor.next_row(row), Ok(true));
+    assert_eq!(rt; &*row, want);
+}
+
+/// There is no further row, or it is refused.
+fn next_answers(rt: &impl Abort, cursor: &mut RunRows, row_bytes: usize, want: Result<bool, Fault>)
+    requires wide { row_bytes ≡ cursor.old.picture.row_bytes }
+    requires small { row_bytes ≤ 164 }
+    ensures { cursor.new.picture ≡ cursor.old.picture }
+{
+    let mut row = [0; 164];
+    assert_eq!(rt; cursor.next_row(&mut row[..row_bytes]), want);
+}
+
 #[test]
 fn counts_add(rt: HostRuntime) {
-    let mut row = [0; 164];
+    let mut want = [0xbb; 164];
+    want[163] = 0xb0;
     let mut cursor = RunRows::new(b"vMB", Coding::RunLength, 164, 1);
-    assert_eq!(rt; cursor.next_row(&mut row), Ok(true));
-    assert_eq!(rt; row[0], 0xbb);
-    assert_eq!(rt; row[81], 0xbb);
-    assert_eq!(rt; row[162], 0xbb);
-    assert_eq!(rt; row[163], 0xb0);
-    assert_eq!(rt; cursor.next_row(&mut row), Ok(false));
+    next_is(&rt, &mut cursor, &want);
+    next_answers(&rt, &mut cursor, 164, Ok(false));
     assert_eq!(rt; cursor.read(), 3);
-    let mut row = [0; 4];
     let mut cursor = RunRows::new(b"MB", Coding::RunLength, 4, 1);
-    assert_eq!(rt; cursor.next_row(&mut row), Ok(true));
-    assert_eq!(rt; row, [0xbb, 0xbb, 0xbb, 0xb0]);
+    next_is(&rt, &mut cursor, &[0xbb, 0xbb, 0xbb, 0xb0]);
+}
+
+/// The row of two bytes behind a mark in four rows is this one; how many codes were read for it, and its mark.
+fn row_behind(rt: &impl Abort, codes: &[u8], mark: RunMark, want: [u8; 2]) -> (u64, RunMark)
+    requires { IsMark (record { coding = RunLength; codes = codes.now; row_bytes = 2; rows = 4 }) mark }
+    ensures { IsMark (record { coding = RunLength; codes = codes.now; row_bytes = 2; rows = 4 }) result.1 }
+{
+    let mut cursor = RunRows::resume(codes, Coding::RunLength, 2, 4, mark);
+    next_is(rt, &mut cursor, &want);
+    (cursor.read(), cursor.mark())
 }
 
 #[test]
 fn rows_repeat(rt: HostRuntime) {
-    let mut row = [0; 2];
-    let mut cursor = RunRows::new(b"8F,:!3", Coding::RunLength, 2, 4);
-    assert_eq!(rt; cursor.next_row(&mut row), Ok(true));
-    assert_eq!(rt; row, [0x8f, 0x00]);
-    let mut cursor = RunRows::resume(b"8F,:!3", Coding::RunLength, 2, 4, cursor.mark());
-    assert_eq!(rt; cursor.next_row(&mut row), Ok(true));
-    assert_eq!(rt; row, [0x8f, 0x00]);
-    assert_eq!(rt; cursor.read(), 4);
-    let mut cursor = RunRows::resume(b"8F,:!3", Coding::RunLength, 2, 4, cursor.mark());
-    assert_eq!(rt; cursor.next_row(&mut row), Ok(true));
-    assert_eq!(rt; row, [0xff, 0xff]);
-    let mut cursor = RunRows::resume(b"8F,:!3", Coding::RunLength, 2, 4, cursor.mark());
-    assert_eq!(rt; cursor.next_row(&mut row), Ok(true));
-    assert_eq!(rt; row, [0x30, 0x00]);
-    assert_eq!(rt; cursor.read(), 2);
-    assert_eq!(rt; cursor.next_row(&mut row), Ok(false));
+    let codes = b"8F,:!3";
+    let first = RunRows::new(codes, Coding::RunLength, 2, 4).mark();
+    let (_, second) = row_behind(&rt, codes, first, [0x8f, 0x00]);
+    let (read, third) = row_behind(&rt, codes, second, [0x8f, 0x00]);
+    assert_eq!(rt; read, 4);
+    let (_, fourth) = row_behind(&rt, codes, third, [0xff, 0xff]);
+    let (read, last) = row_behind(&rt, codes, fourth, [0x30, 0x00]);
+    assert_eq!(rt; read, 2);
+    let mut cursor = RunRows::resume(codes, Coding::RunLength, 2, 4, last);
+    next_answers(&rt, &mut cursor, 2, Ok(false));
 }
 
 /// The last of 34 rows of one byte, read from a mark on before each row, of which the others have a byte each.
@@ -114,40 +138,33 @@ fn thirty_four_rows(rt: HostRuntime) {
 
 #[test]
 fn refusals(rt: HostRuntime) {
-    let mut row = [0; 1];
     let mut cursor = RunRows::new(b":Z64:x", Coding::RunLength, 1, 2);
-    assert_eq!(rt; cursor.next_row(&mut row), Ok(true));
-    assert_eq!(rt; row, [0]);
-    assert_eq!(rt; cursor.next_row(&mut row), Err(Fault::Graphic));
-    assert_eq!(rt; cursor.next_row(&mut row), Err(Fault::Graphic));
+    next_is(&rt, &mut cursor, &[0]);
+    next_answers(&rt, &mut cursor, 1, Err(Fault::Graphic));
+    next_answers(&rt, &mut cursor, 1, Err(Fault::Graphic));
     let refused = [b"1:".as_slice(), b"1G", b"G", b"G,", b"1G:", b" 1"];
     for codes in refused.iter() {
-        assert_eq!(rt;
-            RunRows::new(codes, Coding::RunLength, 1, 1).next_row(&mut row),
-            Err(Fault::Graphic)
-        );
+        let mut cursor = RunRows::new(codes, Coding::RunLength, 1, 1);
+        next_answers(&rt, &mut cursor, 1, Err(Fault::Graphic));
     }
-    assert_eq!(rt;
-        RunRows::new(b"12G", Coding::RunLength, 1, 1).next_row(&mut row),
-        Ok(true)
+    next_is(
+        &rt,
+        &mut RunRows::new(b"12G", Coding::RunLength, 1, 1),
+        &[0x12],
     );
     let mut cursor = RunRows::new(b"12G", Coding::RunLength, 1, 2);
-    assert_eq!(rt; cursor.next_row(&mut row), Ok(true));
-    assert_eq!(rt; cursor.next_row(&mut row), Err(Fault::Graphic));
+    next_is(&rt, &mut cursor, &[0x12]);
+    next_answers(&rt, &mut cursor, 1, Err(Fault::Graphic));
 }
 
 #[test]
 fn bytes_as_they_are(rt: HostRuntime) {
-    let mut row = [0; 2];
     let mut cursor = RunRows::new(b"^x:", Coding::Binary, 2, 3);
-    assert_eq!(rt; cursor.next_row(&mut row), Ok(true));
-    assert_eq!(rt; row, [b'^', b'x']);
+    next_is(&rt, &mut cursor, b"^x");
     let mut cursor = RunRows::resume(b"^x:", Coding::Binary, 2, 3, cursor.mark());
-    assert_eq!(rt; cursor.next_row(&mut row), Ok(true));
-    assert_eq!(rt; row, [b':', 0]);
-    assert_eq!(rt; cursor.next_row(&mut row), Ok(true));
-    assert_eq!(rt; row, [0, 0]);
-    assert_eq!(rt; cursor.next_row(&mut row), Ok(false));
+    next_is(&rt, &mut cursor, b":\0");
+    next_is(&rt, &mut cursor, b"\0\0");
+    next_answers(&rt, &mut cursor, 2, Ok(false));
     assert_eq!(rt; cursor.read(), 3);
 }
 
@@ -209,13 +226,19 @@ fn each_short_code(rt: HostRuntime) {
     }
 }
 
+/// A format holds so many fields, and these bytes.
+fn holds(rt: &impl Abort, format: &Format, fields: usize, stored: &[u8]) {
+    assert_eq!(rt; format.len(), fields);
+    assert_eq!(rt; format.stored(), stored);
+}
+
 #[test]
 fn a_format_holds_fields_and_bytes(rt: HostRuntime) -> Result<(), AllocError> {
     let mut format = Format::new(rt.alloc())?;
-    assert_eq!(rt; format.len(), 0);
-    assert_eq!(rt; format.keep(b"MB"), Ok(()));
-    assert_eq!(rt; format.keep(b"0"), Ok(()));
-    assert_eq!(rt; format.stored(), b"MB0".as_slice());
+    holds(&rt, &format, 0, b"");
+    assert!(rt; format.keep(b"MB").is_ok());
+    assert!(rt; format.keep(b"0").is_ok());
+    holds(&rt, &format, 0, b"MB0");
     let text = Field {
         left: 8,
         top: -4,
@@ -227,10 +250,9 @@ fn a_format_holds_fields_and_bytes(rt: HostRuntime) -> Result<(), AllocError> {
             height: 24,
         }),
     };
-    assert_eq!(rt; format.close(text), Ok(()));
-    assert_eq!(rt; format.len(), 1);
+    assert!(rt; format.close(text).is_ok());
+    holds(&rt, &format, 1, b"MB0");
     format.clear();
-    assert_eq!(rt; format.len(), 0);
-    assert_eq!(rt; format.stored(), b"".as_slice());
+    holds(&rt, &format, 0, b"");
     Ok(())
 }

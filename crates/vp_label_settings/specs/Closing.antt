@@ -109,7 +109,3 @@ fields_by field _ fields = fields
 abbrev pub fields : List Item → List Field
 fields [] = []
 fields (item ∷ before) = acting (fields_by (closing before)) (is_open before) item (fields before)
-
--- those of the image that ^XZ prints, which closes the last one
-abbrev pub printed_fields : List Item → List Field
-printed_fields before = with_field (fields before) (closing before)

@@ -6,7 +6,7 @@ use crate::range::ranged;
 use vp_zpl::item::{Code128Mode, Justification, LineSpace, Orientation};
 
 /// What ^A says; what it leaves out is the settings' matter when the field is closed.
-#[derive(Clone, Copy, Debug, PartialEq, Eq)]
+#[derive(Clone, Copy)]
 pub struct FontChoice {
     pub orientation: Option<Orientation>,
     pub height: Option<u32>,
@@ -22,7 +22,7 @@ pub enum BarText {
 }
 
 /// The linear symbols.
-#[derive(Clone, Copy, Debug, PartialEq, Eq)]
+#[derive(Clone, Copy, PartialEq, Eq)]
 pub enum BarKind {
     /// ^B3: whether there is a check digit.
     Code39 { check: bool },
@@ -33,7 +33,7 @@ pub enum BarKind {
 }
 
 /// A linear symbol; how it is turned and how high it is are the settings' matter where it doesn't say it.
-#[derive(Clone, Copy, Debug, PartialEq, Eq)]
+#[derive(Clone, Copy)]
 pub struct BarChoice {
     pub kind: BarKind,
     pub orientation: Option<Orientation>,
@@ -42,7 +42,7 @@ pub struct BarChoice {
 }
 
 /// The symbol that a field asks for.
-#[derive(Clone, Copy, Debug, PartialEq, Eq)]
+#[derive(Clone, Copy)]
 pub enum SymbolChoice {
     /// ^B3, ^BE, ^BC
     Bars(BarChoice),
@@ -59,7 +59,7 @@ pub enum Alignment {
 }
 
 /// A field block (^FB).
-#[derive(Clone, Copy, Debug, PartialEq, Eq)]
+#[derive(Clone, Copy, PartialEq, Eq)]
 pub struct FieldBlock {
     /// In dots, 0 to 32,000.
     pub width: u16,

@@ -12,7 +12,7 @@ use vp_dots::Op;
 use vp_zpl::item::{Colour, Orientation};
 
 /// Where a field stands on its label, in dots, with the home added.
-#[derive(Clone, Copy, Debug, PartialEq, Eq)]
+#[derive(Clone, Copy, PartialEq, Eq)]
 pub enum Position {
     /// ^FO: the upper left corner of its turned box.
     Corner { x: u32, y: u32 },
@@ -21,14 +21,14 @@ pub enum Position {
 }
 
 /// Bytes of a format's stored ones.
-#[derive(Clone, Copy, Debug, PartialEq, Eq)]
+#[derive(Clone, Copy, PartialEq, Eq)]
 pub struct Stored {
     pub start: u32,
     pub length: u32,
 }
 
 /// What a field shows.
-#[derive(Clone, Copy, Debug, PartialEq, Eq)]
+#[derive(Clone, Copy, PartialEq, Eq)]
 pub enum Content {
     /// A text, in a block where ^FB asks for one.
     Text {
@@ -60,7 +60,7 @@ pub enum Content {
 }
 
 /// A closed field.
-#[derive(Clone, Copy, Debug, PartialEq, Eq)]
+#[derive(Clone, Copy)]
 pub struct Field {
     pub position: Position,
     /// How its box is turned; boxes, pictures and QR symbols aren't.

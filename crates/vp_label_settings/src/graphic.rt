@@ -6,7 +6,7 @@ use crate::range::ranged;
 use vp_zpl::item::{Colour, GraphicFormat};
 
 /// A box (^GB): a frame of lines as thick as said, each way 1 to 32,000 dots and at least as many as its lines.
-#[derive(Clone, Copy, Debug, PartialEq, Eq)]
+#[derive(Clone, Copy, PartialEq, Eq)]
 pub struct GraphicBox {
     pub width: u16,
     pub height: u16,
@@ -44,7 +44,7 @@ pub enum Coding {
 }
 
 /// What ^GF says of the picture that follows.
-#[derive(Clone, Copy, Debug, PartialEq, Eq)]
+#[derive(Clone, Copy, PartialEq, Eq)]
 pub struct PictureHead {
     pub coding: Coding,
     /// 1 to 1,024.

@@ -20,7 +20,7 @@ use vp_zpl::Command;
 pub const STORE: u32 = 262_144;
 
 /// All that is in force on a label printer.
-#[derive(Clone, Copy, Debug, PartialEq, Eq)]
+#[derive(Clone, Copy)]
 pub struct InForce {
     /// Whether a format is open.
     pub is_open: bool,

@@ -1,7 +1,7 @@
 //! The parts of the open field.
 ghost use Rattle.std.specs.Prelude.{◌≡◌, []};
 ghost use Rattle.vp_label_settings.specs.Settings.{coordinate};
-ghost use Rattle.vp_label_settings.specs.Parts.{parts_of, parts_by};
+ghost use Rattle.vp_label_settings.specs.Parts.{origin_by, font_by, symbol_by, is_reversed_by, block_by, content_by, parts_of, parts_by};
 
 use crate::choice::{BarKind, FieldBlock, FontChoice, SymbolChoice};
 use crate::graphic::{GraphicBox, PictureHead};
@@ -9,7 +9,7 @@ use crate::range::ranged;
 use vp_zpl::item::Command;
 
 /// Where a field stands, in dots, 0 to 32,000 each way from the home.
-#[derive(Clone, Copy, Debug, PartialEq, Eq)]
+#[derive(Clone, Copy)]
 pub enum Origin {
     /// ^FO: its upper left corner.
     Corner { x: u16, y: u16 },
@@ -18,7 +18,7 @@ pub enum Origin {
 }
 
 /// The content of an open field, the last of ^FD, ^GB and ^GF.
-#[derive(Clone, Copy, Debug, PartialEq, Eq)]
+#[derive(Clone, Copy)]
 pub enum OpenContent {
     /// ^FD: its data begin behind so many stored bytes.
     Data { start: u32 },
@@ -29,7 +29,7 @@ pub enum OpenContent {
 }
 
 /// The parts of the open field: what was said of it last.
-#[derive(Clone, Copy, Debug, PartialEq, Eq)]
+#[derive(Clone, Copy)]
 pub struct FieldParts {
     pub origin: Origin,
     pub font: Option<FontChoice>,
@@ -61,130 +61,148 @@ impl FieldParts {
         }
     }
 
-    /// The parts with a symbol.
-    fn with_symbol(self, symbol: SymbolChoice) -> FieldParts
-        ensures { result ≡ record self { symbol = Some symbol } }
-    {
-        FieldParts {
-            symbol: Some(symbol),
-            ..self
-        }
-    }
-
-    /// The parts with a content, or none.
-    fn with_content(self, content: Option<OpenContent>) -> FieldParts
-        ensures { result ≡ record self { content = content } }
-    {
-        FieldParts { content, ..self }
-    }
-
     /// What a command of an open format leaves of them, where so many bytes are stored.
     pub fn after(self, command: Command, stored: u32) -> FieldParts
         ensures { result ≡ parts_by stored command self }
     {
+        FieldParts {
+            origin: self.origin.after(command),
+            font: font_after(self.font, command),
+            symbol: symbol_after(self.symbol, command),
+            is_reversed: is_reversed_after(self.is_reversed, command),
+            block: block_after(self.block, command),
+            content: content_after(self.content, command, stored),
+        }
+    }
+}
+
+impl Origin {
+    /// ^FO, ^FT
+    fn after(self, command: Command) -> Origin
+        ensures { result ≡ origin_by command self }
+    {
         match command {
-            Command::FieldSeparator | Command::FormatEnd => FieldParts::new(),
-            Command::FieldOrigin { x, y } => FieldParts {
-                origin: Origin::Corner {
-                    x: coordinate(x),
-                    y: coordinate(y),
-                },
-                ..self
+            Command::FieldOrigin { x, y } => Origin::Corner {
+                x: coordinate(x),
+                y: coordinate(y),
             },
-            Command::FieldTypeset { x, y } => FieldParts {
-                origin: Origin::Baseline {
-                    x: coordinate(x),
-                    y: coordinate(y),
-                },
-                ..self
+            Command::FieldTypeset { x, y } => Origin::Baseline {
+                x: coordinate(x),
+                y: coordinate(y),
             },
-            Command::Font {
-                orientation,
-                height,
-                width,
-            } => FieldParts {
-                font: Some(FontChoice {
-                    orientation,
-                    height,
-                    width,
-                }),
-                ..self
-            },
-            Command::Code39 {
-                orientation,
-                check,
-                height,
-                text,
-                above,
-            } => {
-                let kind = BarKind::Code39 {
-                    check: check.unwrap_or(false),
-                };
-                self.with_symbol(SymbolChoice::bars(kind, orientation, height, text, above))
-            }
-            Command::Ean13 {
-                orientation,
-                height,
-                text,
-                above,
-            } => self.with_symbol(SymbolChoice::bars(
-                BarKind::Ean13,
-                orientation,
-                height,
-                text,
-                above,
-            )),
-            Command::Code128 {
-                orientation,
-                height,
-                text,
-                above,
-                mode,
-            } => self.with_symbol(SymbolChoice::bars(
-                BarKind::Code128 { mode },
-                orientation,
-                height,
-                text,
-                above,
-            )),
-            Command::QrCode { model, module } => self.with_symbol(SymbolChoice::qr(model, module)),
-            Command::ReversePrint => FieldParts {
-                is_reversed: true,
-                ..self
-            },
-            Command::FieldBlock {
-                width,
-                lines,
-                space,
-                justification,
-            } => FieldParts {
-                block: Some(FieldBlock::new(width, lines, space, justification)),
-                ..self
-            },
-            Command::FieldData => self.with_content(Some(OpenContent::Data { start: stored })),
-            Command::GraphicBox {
-                width,
-                height,
-                thickness,
-                colour,
-            } => self.with_content(Some(OpenContent::Frame(GraphicBox::new(
-                width, height, thickness, colour,
-            )))),
-            Command::Graphic {
-                format,
-                binary_bytes,
-                picture_bytes,
-                row_bytes,
-            } => self.with_content(
-                match PictureHead::new(format, binary_bytes, picture_bytes, row_bytes) {
-                    Some(head) => Some(OpenContent::Picture {
-                        head,
-                        start: stored,
-                    }),
-                    None => None,
-                },
-            ),
+            Command::FieldSeparator | Command::FormatEnd => Origin::Corner { x: 0, y: 0 },
             _ => self,
         }
+    }
+}
+
+/// ^A
+fn font_after(font: Option<FontChoice>, command: Command) -> Option<FontChoice>
+    ensures { result ≡ font_by command font }
+{
+    match command {
+        Command::Font {
+            orientation,
+            height,
+            width,
+        } => Some(FontChoice {
+            orientation,
+            height,
+            width,
+        }),
+        Command::FieldSeparator | Command::FormatEnd => None,
+        _ => font,
+    }
+}
+
+/// ^B3, ^BE, ^BC, ^BQ
+fn symbol_after(symbol: Option<SymbolChoice>, command: Command) -> Option<SymbolChoice>
+    ensures { result ≡ symbol_by command symbol }
+{
+    match command {
+        Command::Code39 {
+            orientation,
+            check,
+            height,
+            text,
+            above,
+        } => {
+            let kind = BarKind::Code39 {
+                check: check.unwrap_or(false),
+            };
+            Some(SymbolChoice::bars(kind, orientation, height, text, above))
+        }
+        Command::Ean13 {
+            orientation,
+            height,
+            text,
+            above,
+        } => Some(SymbolChoice::bars(BarKind::Ean13, orientation, height, text, above)),
+        Command::Code128 {
+            orientation,
+            height,
+            text,
+            above,
+            mode,
+        } => Some(SymbolChoice::bars(BarKind::Code128 { mode }, orientation, height, text, above)),
+        Command::QrCode { model, module } => Some(SymbolChoice::qr(model, module)),
+        Command::FieldSeparator | Command::FormatEnd => None,
+        _ => symbol,
+    }
+}
+
+/// ^FR
+fn is_reversed_after(is_reversed: bool, command: Command) -> bool
+    ensures { result ≡ is_reversed_by command is_reversed }
+{
+    match command {
+        Command::ReversePrint => true,
+        Command::FieldSeparator | Command::FormatEnd => false,
+        _ => is_reversed,
+    }
+}
+
+/// ^FB
+fn block_after(block: Option<FieldBlock>, command: Command) -> Option<FieldBlock>
+    ensures { result ≡ block_by command block }
+{
+    match command {
+        Command::FieldBlock {
+            width,
+            lines,
+            space,
+            justification,
+        } => Some(FieldBlock::new(width, lines, space, justification)),
+        Command::FieldSeparator | Command::FormatEnd => None,
+        _ => block,
+    }
+}
+
+/// ^FD, ^GB, ^GF
+fn content_after(content: Option<OpenContent>, command: Command, stored: u32) -> Option<OpenContent>
+    ensures { result ≡ content_by stored command content }
+{
+    match command {
+        Command::FieldData => Some(OpenContent::Data { start: stored }),
+        Command::GraphicBox {
+            width,
+            height,
+            thickness,
+            colour,
+        } => Some(OpenContent::Frame(GraphicBox::new(width, height, thickness, colour))),
+        Command::Graphic {
+            format,
+            binary_bytes,
+            picture_bytes,
+            row_bytes,
+        } => {
+            let head = PictureHead::new(format, binary_bytes, picture_bytes, row_bytes)?;
+            Some(OpenContent::Picture {
+                head,
+                start: stored,
+            })
+        }
+        Command::FieldSeparator | Command::FormatEnd => None,
+        _ => content,
     }
 }

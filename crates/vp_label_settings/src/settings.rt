@@ -14,14 +14,14 @@ pub const WIDEST: u16 = 1248;
 pub const LONGEST: u16 = 8000;
 
 /// The place from which fields are counted (^LH), each way 0 to 32,000 dots.
-#[derive(Clone, Copy, Debug, PartialEq, Eq)]
+#[derive(Clone, Copy, PartialEq, Eq)]
 pub struct Home {
     pub x: u16,
     pub y: u16,
 }
 
 /// How bars are drawn that don't say it (^BY).
-#[derive(Clone, Copy, Debug, PartialEq, Eq)]
+#[derive(Clone, Copy, PartialEq, Eq)]
 pub struct BarDefaults {
     /// Dots of a narrow bar, 1 to 10.
     pub module_dots: u8,
@@ -32,7 +32,7 @@ pub struct BarDefaults {
 }
 
 /// What outlives a format.
-#[derive(Clone, Copy, Debug, PartialEq, Eq)]
+#[derive(Clone, Copy, PartialEq, Eq)]
 pub struct Settings {
     pub home: Home,
     /// How wide a label is (^PW), 1 to `WIDEST`.

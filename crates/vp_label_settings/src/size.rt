@@ -3,7 +3,7 @@ ghost use Rattle.std.specs.Prelude.{◌≡◌};
 ghost use Rattle.vp_label_settings.specs.Ranges.{counted, size_of, size_given};
 
 /// The size of characters, in dots.
-#[derive(Clone, Copy, Debug, PartialEq, Eq)]
+#[derive(Clone, Copy, PartialEq, Eq)]
 pub struct CharacterSize {
     pub height: u16,
     pub width: u16,

@@ -58,7 +58,7 @@ pub enum Justification {
 }
 
 /// Dots between the lines of a field block.
-#[derive(Clone, Copy, Debug, PartialEq, Eq)]
+#[derive(Clone, Copy, PartialEq, Eq)]
 pub enum LineSpace {
     Added(u32),
     /// With `-` before the number.
@@ -68,7 +68,7 @@ pub enum LineSpace {
 /// A command with its arguments, by Zebra's names. An argument that is missing or can't be read is `None`:
 /// which value then stands, and which range it is brought into, is the label's matter. Numbers are 0 to
 /// 99,999,999; coordinates, sizes and lengths are in dots.
-#[derive(Clone, Copy, Debug, PartialEq, Eq)]
+#[derive(Clone, Copy)]
 pub enum Command {
     /// ^XA
     FormatStart,
@@ -200,7 +200,7 @@ pub enum Command {
 }
 
 /// Bytes of data that become known at once.
-#[derive(Clone, Copy, Debug, PartialEq, Eq)]
+#[derive(Clone, Copy)]
 pub enum DataBytes {
     One([u8; 1]),
     Two([u8; 2]),

@@ -44,7 +44,7 @@ fn behind_name(line: &mut ArrayVec<u8, 160>, command: Command, parameters: &[Par
     ensures value { line.new.items ≡ line.old.items ++ behind_name_as command (shown_parts parameters.now) }
     ensures len { length line.new.items < 160 }
 {
-    if command == Command::Skipped {
+    if let Command::Skipped = command {
         let _fits = line.try_extend_from_slice(b" skipped");
         return;
     }

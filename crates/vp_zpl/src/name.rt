@@ -15,7 +15,7 @@ pub struct Name {
 }
 
 /// The commands whose parameters end with the command.
-#[derive(Clone, Copy, Debug, PartialEq, Eq)]
+#[derive(Clone, Copy)]
 pub enum Plain {
     FieldOrigin,
     FieldTypeset,
@@ -40,7 +40,7 @@ pub enum Plain {
 }
 
 /// The commands, by how they go on behind their name.
-#[derive(Clone, Copy, Debug, PartialEq, Eq)]
+#[derive(Clone, Copy)]
 pub enum Kind {
     /// ^XA
     FormatStart,
