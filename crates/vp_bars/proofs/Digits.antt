@@ -9,7 +9,6 @@ use Rattle.vp_dots.specs.declared.fault.Fault.TheVariants.{Symbol}
 use Rattle.vp_dots.specs.declared.fault.Why.TheVariants.{Length}
 use Rattle.vp_bars.specs.declared.bars.Symbology.TheVariants.{Ean13}
 use Rattle.vp_bars.specs.Ean13.{weighted, with_check, is_count, symbol_of, padded, digits_of, ean13_for}
-use Rattle.vp_bars.proofs.Lists.{list_all_get}
 
 -- one more digit of the sum
 pub weighted_more : (ds : List ℕ) (i sum weight : ℕ) → i < length ds → weighted 1 ds ≡ sum + weighted weight (drop i ds)
@@ -18,9 +17,6 @@ weighted_more ds i sum weight h e = e ∙ ap (λ xs. sum + weighted weight xs) (
 
 pub digit_range : (c : ℕ) → is_ascii_digit c ≡ true → (48 ≤ c) × (c ≤ 57)
 digit_range c e = (grind (arith, nat_tests), grind (arith, nat_tests))
-
-pub digit_at : (src : List ℕ) (i : ℕ) → i < length src → list_all is_ascii_digit src ≡ true → (48 ≤ get_or src i 0) × (get_or src i 0 ≤ 57)
-digit_at src i h e = digit_range (get_or src i 0) (list_all_get is_ascii_digit src i 0 h e)
 
 -- zeros and then the first 12
 padded_true : (src : List ℕ) → replicate (12 - min (length src) 12) 0 ++ digits_of (take (min (length src) 12) src) ≡ padded true (digits_of src)

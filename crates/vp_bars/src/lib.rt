@@ -12,7 +12,7 @@
 //! - `text`: what the values of a symbol show.
 //! - `patterns`: the tables of bars and spaces. `laws` says what holds of them as a whole, and of texts.
 //! - `pen`, `strokes`: the bars of a row, drawn from the left in one pass.
-//! - `bar_box`: bars and text together. `wide`: how wide a wide element is.
+//! - `bar_box`: bars and text together.
 #![tactic(auto)]
 
 mod bar_box;
@@ -30,7 +30,6 @@ mod strokes;
 #[cfg(test)]
 mod tests;
 mod text;
-mod wide;
 
 pub use bar_box::{BarBox, Place};
 pub use bars::{Bars, Symbology};
@@ -42,4 +41,3 @@ pub use laws::{
     packed_text_law, set_b_text_law,
 };
 pub use packing::code128_zpl;
-pub use wide::{wide_by_ratio, wide_on_receipt};

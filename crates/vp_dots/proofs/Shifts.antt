@@ -1,7 +1,7 @@
 -- A row of dots moved by a signed offset.
-use Rattle.std.proofs.Common.{inl, inr, ◌⊎◌, ◌≡◌, ℕ, ◌+◌, ◌-◌, ◌*◌, ◌/◌, ◌%◌, ◌<◌, ◌≤◌, Bool, true, false, eqb, ltb, leb, ◌&&◌, ◌||◌, refl, sym, ap, ◌∙◌, arith, eq-eqb, ℤ, pos, negsuc, ◌+ℤ◌}
+use Rattle.std.proofs.Common.{inl, inr, ◌⊎◌, ◌≡◌, ℕ, ◌+◌, ◌-◌, ◌*◌, ◌/◌, ◌%◌, ◌<◌, ◌≤◌, Bool, true, false, eqb, ltb, leb, ◌&&◌, ◌||◌, refl, sym, ap, ◌∙◌, arith, ℤ, pos, negsuc, ◌+ℤ◌}
 use Rattle.std.proofs.lemmas.Int.{ints}
-use Rattle.std.proofs.lemmas.Bool.{cases_Bool, cases_eq, cases_lt, ne_eqb, le-leb, lt-leb}
+use Rattle.std.proofs.lemmas.Bool.{cases_Bool, cases_eq, cases_lt, le-leb, lt-leb}
 use Rattle.std.proofs.lemmas.Bool.Decides.{nat_tests}
 use Rattle.vp_dots.specs.Dots.{shifted}
 
@@ -33,26 +33,6 @@ pub shifted_and : (at : ℤ) (f g : ℕ → Bool) (d : ℕ) → ((x : ℕ) → (
 shifted_and at f g d e = elim (met at d) [
   | inl p ↦ ap (λ b. b && shifted at g d) (p.2 f) ∙ ap (λ b. f p.0 && b) (p.2 g) ∙ e p.0
   | inr n ↦ ap (λ b. b && shifted at g d) (n.1 f)
-]
-
--- one place, moved
-pub shifted_one : (at : ℤ) (x n d : ℕ) → pos n ≡ at +ℤ pos x → eqb d n ≡ shifted at (λ i. eqb i x) d
-shifted_one at x n d e = elim (met at d) [
-  | inl p ↦ (let q = p.1 in same p.0 p.1 ∙ sym (p.2 (λ i. eqb i x)))
-  | inr q ↦ ne_eqb d n (λ y. q.0 x (ap pos y ∙ e)) ∙ sym (q.1 (λ i. eqb i x))
-]
-  where
-    same : (i : ℕ) → pos d ≡ at +ℤ pos i → eqb d n ≡ eqb i x
-    same i k = elim (cases_eq i x) [
-      | inl y ↦ (let d_is : d ≡ n = omega (arith, ints) in eq-eqb d n d_is ∙ sym (eq-eqb i x y))
-      | inr q ↦ ne_eqb d n (λ z. q (omega (arith, ints))) ∙ sym (ne_eqb i x q)
-    ]
-
--- one place, moved off the left edge
-pub shifted_off : (at : ℤ) (x d : ℕ) → ((n : ℕ) → pos n ≡ at +ℤ pos x → ⊥) → false ≡ shifted at (λ i. eqb i x) d
-shifted_off at x d h = elim (met at d) [
-  | inl p ↦ sym (p.2 (λ i. eqb i x) ∙ ne_eqb p.0 x (λ y. h d (p.1 ∙ ap (λ j. at +ℤ pos j) y)))
-  | inr q ↦ sym (q.1 (λ i. eqb i x))
 ]
 
 -- the places below x that f has, and one more

@@ -1,7 +1,7 @@
 -- The rows of cells as words.
-use Rattle.std.proofs.Common.{◌≡◌, ℕ, ◌+◌, ◌*◌, ◌/◌, ◌%◌, ◌<◌, ◌≤◌, Bool, true, false, ltb, ◌&&◌, refl, sym, ap, ◌∙◌, arith, List, get_or, take, drop, zero, suc, inl, inr}
+use Rattle.std.proofs.Common.{◌≡◌, ℕ, ◌+◌, ◌*◌, ◌/◌, ◌%◌, ◌<◌, ◌≤◌, Bool, true, false, ltb, ◌&&◌, refl, sym, ap, ◌∙◌, arith, List, get_or, take, drop, inl, inr}
 use Rattle.std.proofs.lemmas.Nat.{div-mul-add, mul-add-lt}
-use Rattle.std.proofs.Math.Nat.{mul-add-mod_self_right, mod-eq_of_lt, mod-lt, div-lt_iff_lt-mul}
+use Rattle.std.proofs.Math.Nat.{mul-add-mod_self_right, mod-eq_of_lt}
 use Rattle.std.proofs.lemmas.List.{get_or-take, get_or-drop, get_or_past, length-take}
 use Rattle.std.proofs.lemmas.Bool.{cases_lt, le-ltb, lt-ltb}
 use Rattle.vp_dots.specs.Dots.{dot}
@@ -47,7 +47,3 @@ rows_are sheet rows c x y first n cut l f m = elim (cases_lt y sheet.high) [
     nowhere : (a b : Bool) → (a && false && b) ≡ false
     nowhere true b = refl
     nowhere false b = refl
-
-pub row_place : (i h : ℕ) → i < 256 * h → (0 < h) × (i / h < 256) × (i % h < h)
-row_place i zero l = absurd (omega arith)
-row_place i (suc h) l = (omega arith, (div-lt_iff_lt-mul {k = suc h} {x = i} {y = 256} (omega arith)).1 (omega arith), mod-lt i (omega arith))

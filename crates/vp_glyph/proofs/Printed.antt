@@ -1,7 +1,7 @@
 -- Rows of characters that aren't magnified.
-use Rattle.std.proofs.Common.{inl, inr, ◌≡◌, ℕ, ◌+◌, ◌-◌, ◌*◌, ◌/◌, ◌<◌, ◌≤◌, Bool, true, false, not, cond, ltb, ◌&&◌, ◌||◌, refl, sym, ap, ◌∙◌, arith, List, length, get_or, set, replicate, get_or-set_same, get_or-set_other}
+use Rattle.std.proofs.Common.{inl, inr, ◌≡◌, ℕ, ◌+◌, ◌-◌, ◌*◌, ◌/◌, ◌<◌, ◌≤◌, Bool, true, false, not, cond, ltb, ◌&&◌, ◌||◌, refl, sym, ap, ◌∙◌, arith, get_or, replicate}
 use Rattle.std.proofs.lemmas.List.{get_or-replicate, get_or_past, length-replicate}
-use Rattle.std.proofs.lemmas.Bool.{cases_eq, cases_lt, lt-ltb, le-ltb, lt-leb, le-leb}
+use Rattle.std.proofs.lemmas.Bool.{cases_lt, lt-ltb, le-ltb, lt-leb, le-leb}
 use Rattle.vp_dots.specs.Words.{word_dot}
 use Rattle.vp_glyph.specs.Cells.{font_width, font_height, font_dot, bold_dot, cell_width, underlined, cell_dot}
 use Rattle.vp_glyph.specs.declared.cell.Font.{Font}
@@ -87,13 +87,3 @@ words_none f k x = ap (λ w. word_dot w x) (elim (cases_lt k 24) as (λ _. get_o
   | inl l ↦ get_or-replicate 24 k 0 0 l
   | inr g ↦ get_or_past (replicate {A = ℕ} 24 0) k 0 (omega (arith, length-replicate {A = ℕ} 24 0))
 ]) ∙ white_dot x ∙ rw (le-ltb k 0 (omega arith)) refl
-
-pub words_more : (f : ℕ → ℕ → Bool) (words : List ℕ) (y v : ℕ) → y < length words → ((k x : ℕ) → word_dot (get_or words k 0) x ≡ (ltb k y && f x k)) → ((x : ℕ) → word_dot v x ≡ f x y)
-    → (k x : ℕ) → word_dot (get_or (set words y v) k 0) x ≡ (ltb k (y + 1) && f x k)
-words_more f words y v l before row k x = elim (cases_eq k y) [
-  | inl e ↦ ap (λ w. word_dot w x) (ap (λ i. get_or (set words y v) i 0) e ∙ get_or-set_same words y v 0 l) ∙ row x ∙ rw (e, lt-ltb y (y + 1) (omega arith)) refl
-  | inr n ↦ ap (λ w. word_dot w x) (get_or-set_other words y k v 0 n) ∙ before k x ∙ ap (λ b. b && f x k) (one_less k y n)
-]
-  where
-    one_less : (d x : ℕ) → (d ≡ x → ⊥) → ltb d x ≡ ltb d (x + 1)
-    one_less d x n = elim (cases_lt d x) [ inl y ↦ lt-ltb d x y ∙ sym (lt-ltb d (x + 1) (omega arith)) | inr g ↦ le-ltb d x g ∙ sym (le-ltb d (x + 1) (omega arith)) ]

@@ -44,10 +44,6 @@ turned old new e h d = elim (cases_lt d (8 * length old)) [
   | inr g ↦ rw (le-ltb d (8 * length old) g) (dot_past new d (omega arith))
 ]
 
--- a line that begins at a place
-pub forward : (start long x : ℕ) (f l : ℕ → Bool) → ((d : ℕ) → l d ≡ (ltb d long && f d)) → shifted (pos start) l x ≡ (leb start x && (ltb (x - start) long && f (x - start)))
-forward start long x f l e = ap (λ b. leb start x && b) (e (x - start))
-
 -- a row of n dots, turned, that ends before a place
 pub backward : (end n long x : ℕ) (at : ℤ) (f r : ℕ → Bool) → at +ℤ pos n ≡ pos end → ((d : ℕ) → r d ≡ (ltb d n && (ltb (n - 1 - d) long && f (n - 1 - d))))
     → ((d : ℕ) → n ≤ d → f d ≡ false) → shifted at r x ≡ (ltb x end && (ltb (end - 1 - x) long && f (end - 1 - x)))
