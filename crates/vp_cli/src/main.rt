@@ -1,6 +1,7 @@
 //! `vp`, the virtual printer: prints what shop software sends to a printer as PBM images.
 #![tactic(auto)]
 
+mod file;
 mod order;
 mod run;
 mod sheets;

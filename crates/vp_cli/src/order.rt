@@ -129,6 +129,14 @@ fn join<'a>(alloc: Global) -> Result<Command<'a>, AllocError> {
         .arg(file)
 }
 
+/// A command with one subcommand more.
+fn with<'a>(
+    command: Command<'a>,
+    subcommand: Result<Command<'a>, AllocError>,
+) -> Result<Command<'a>, AllocError> {
+    command.subcommand(subcommand?)
+}
+
 /// The words that are read.
 fn program<'a>(alloc: Global) -> Result<Command<'a>, AllocError> {
     let command = Command::new(alloc, "vp")
@@ -136,11 +144,10 @@ fn program<'a>(alloc: Global) -> Result<Command<'a>, AllocError> {
         .version(VERSION)
         .about("A virtual printer: what is printed goes to standard output as PBM images")
         .subcommand_required(true);
-    command
-        .subcommand(receipt(alloc)?)?
-        .subcommand(label(alloc)?)?
-        .subcommand(list(alloc)?)?
-        .subcommand(join(alloc)?)
+    let command = with(command, receipt(alloc))?;
+    let command = with(command, label(alloc))?;
+    let command = with(command, list(alloc))?;
+    with(command, join(alloc))
 }
 
 /// A receipt that is printed.
@@ -187,15 +194,28 @@ fn asked<'a>(words: &ArgMatches<'a>) -> Option<Order<'a>> {
     Some(order)
 }
 
+/// What the words ask this command for.
+fn asked_of<'a, S: AsStr>(
+    command: &mut Command<'a>,
+    words: &'a [S],
+) -> Result<Option<Order<'a>>, Error> {
+    let matches = command.try_get_matches_from_mut(words)?;
+    Ok(asked(&matches))
+}
+
+/// The order that the words give this command.
+fn order_of<'a, S: AsStr>(command: &mut Command<'a>, words: &'a [S]) -> Result<Order<'a>, Error> {
+    match asked_of(command, words)? {
+        Some(order) => Ok(order),
+        None => Err(command.error(ErrorKind::MissingSubcommand, "a subcommand is wanted")?),
+    }
+}
+
 impl<'a> Order<'a> {
     /// Reads the words, the first of which is the program's name.
     pub fn read<S: AsStr>(alloc: Global, words: &'a [S]) -> Result<Order<'a>, Error> {
         let mut command = program(alloc)?;
-        let matches = command.try_get_matches_from_mut(words)?;
-        match asked(&matches) {
-            Some(order) => Ok(order),
-            None => Err(command.error(ErrorKind::MissingSubcommand, "a subcommand is wanted")?),
-        }
+        order_of(&mut command, words)
     }
 }
 

@@ -1,4 +1,5 @@
 //! A run of the program, from its words to its exit status.
+use crate::file::open;
 use crate::order::{Order, Stream, Task};
 use crate::sheets;
 use crate::stop::Stop;
@@ -7,8 +8,8 @@ use std::alloc::Global;
 use std::convert::AsStr;
 use std::io::{Read, Write};
 use std::rt::{Env, Files};
-use std::{env, fs, io};
-use vp_engine::{Counted, Language, Session, list};
+use std::{env, io};
+use vp_engine::{Counted, Language, Session, Sink, Source, list};
 use vp_glyph::Sheets;
 use vp_join::join;
 
@@ -20,21 +21,23 @@ pub fn words<R: Env + Alloc, E: Write>(
     rt: &R,
     errors: &mut E,
 ) -> Result<Vec<String<R::A>, R::A>, u8> {
-    let mut words = Vec::new(rt.alloc());
     let all = match env::args(rt) {
         Ok(all) => all,
-        Err(error) if error.kind() == io::ErrorKind::InvalidData => {
-            let _ = writeln!(errors, "error: a word of the command line is not UTF-8");
-            return Err(USAGE);
-        }
-        Err(_) => return Err(report(&Stop::Memory, errors)),
+        Err(error) => return Err(no_words(&error, errors)),
     };
-    for word in all {
-        if words.push(word).is_err() {
-            return Err(report(&Stop::Memory, errors));
-        }
+    match all.collect(rt.alloc()) {
+        Ok(words) => Ok(words),
+        Err(_) => Err(report(&Stop::Memory, errors)),
     }
-    Ok(words)
+}
+
+/// Says why the words can't be had, and gives the exit status.
+fn no_words<E: Write>(error: &io::Error, errors: &mut E) -> u8 {
+    if error.kind() != io::ErrorKind::InvalidData {
+        return report(&Stop::Memory, errors);
+    }
+    let _ = writeln!(errors, "error: a word of the command line is not UTF-8");
+    USAGE
 }
 
 /// Runs the program on its words, the first of which is its name, and gives the exit status: 0 success,
@@ -48,17 +51,26 @@ pub fn run<R: Files, S: AsStr, I: Read, O: Write, E: Write>(
     output: &mut O,
     errors: &mut E,
 ) -> u8 {
-    let order = match Order::read(alloc, words) {
-        Ok(order) => order,
-        Err(error) => return usage(&error, output, errors),
-    };
-    let done = match order {
+    match Order::read(alloc, words) {
+        Ok(order) => match obey(rt, alloc, order, input, output) {
+            Ok(()) => 0,
+            Err(stop) => report(&stop, errors),
+        },
+        Err(error) => usage(&error, output, errors),
+    }
+}
+
+/// Does what an order asks for.
+fn obey<'a, R: Files, I: Read, O: Write>(
+    rt: &R,
+    alloc: Global,
+    order: Order<'a>,
+    input: &mut I,
+    output: &mut O,
+) -> Result<(), Stop<'a>> {
+    match order {
         Order::Read(stream) => carry_out(rt, alloc, stream, input, output),
         Order::Join(name) => join_images(rt, name, output),
-    };
-    match done {
-        Ok(()) => 0,
-        Err(stop) => report(&stop, errors),
     }
 }
 
@@ -68,12 +80,8 @@ fn join_images<'a, R: Files, O: Write>(
     name: &'a str,
     output: &mut O,
 ) -> Result<(), Stop<'a>> {
-    let Ok(first) = fs::open(rt, name) else {
-        return Err(Stop::CannotOpen(name));
-    };
-    let Ok(second) = fs::open(rt, name) else {
-        return Err(Stop::CannotOpen(name));
-    };
+    let first = open(rt, name)?;
+    let second = open(rt, name)?;
     let mut writer = Counted::new(output);
     match join(
         &mut Counted::new(first),
@@ -107,10 +115,8 @@ fn carry_out<'a, R: Files, I: Read, O: Write>(
     let Some(name) = stream.file else {
         return work_on(alloc, work, stream.language, input, output);
     };
-    match fs::open(rt, name) {
-        Ok(mut file) => work_on(alloc, work, stream.language, &mut file, output),
-        Err(_) => Err(Stop::CannotOpen(name)),
-    }
+    let mut file = open(rt, name)?;
+    work_on(alloc, work, stream.language, &mut file, output)
 }
 
 /// Prints or lists what is read, as it comes.
@@ -123,18 +129,29 @@ fn work_on<'a, I: Read, O: Write>(
 ) -> Result<(), Stop<'a>> {
     let mut reader = Counted::new(input);
     let mut writer = Counted::new(output);
-    let fault = match work {
-        Work::Print(sheets) => {
-            let Ok(mut session) = Session::new(alloc, language, sheets) else {
-                return Err(Stop::Memory);
-            };
-            session.pump(&mut reader, &mut writer).err()
-        }
-        Work::List => list(language, &mut reader, &mut writer).err(),
+    match work {
+        Work::Print(sheets) => print(alloc, sheets, language, &mut reader, &mut writer),
+        Work::List => match list(language, &mut reader, &mut writer) {
+            Ok(_) => Ok(()),
+            Err(fault) => Err(Stop::of_run(fault)),
+        },
+    }
+}
+
+/// Prints what is read, as it comes.
+fn print<'a, S: Source, K: Sink>(
+    alloc: Global,
+    sheets: Sheets,
+    language: Language,
+    reader: &mut S,
+    writer: &mut K,
+) -> Result<(), Stop<'a>> {
+    let Ok(mut session) = Session::new(alloc, language, sheets) else {
+        return Err(Stop::Memory);
     };
-    match fault {
-        Some(fault) => Err(Stop::of_run(fault)),
-        None => Ok(()),
+    match session.pump(reader, writer) {
+        Ok(_) => Ok(()),
+        Err(fault) => Err(Stop::of_run(fault)),
     }
 }
 

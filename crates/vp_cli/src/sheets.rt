@@ -1,10 +1,10 @@
 //! The glyph sheets that a command line names.
 ghost use Rattle.std.specs.Prelude.{◌≤◌};
 
+use crate::file::open;
 use crate::order::Fonts;
 use crate::stop::Stop;
 use std::alloc::Global;
-use std::fs;
 use std::io::Read;
 use std::rt::Files;
 use vp_glyph::{Sheet, Sheets};
@@ -33,22 +33,19 @@ fn sheet<'a, R: Files>(
     let Some(name) = name else {
         return Ok(None);
     };
-    let Ok(file) = fs::open(rt, name) else {
-        return Err(Stop::CannotOpen(name));
-    };
-    let mut bytes = Vec::new(alloc);
-    if let Err(error) = file.take(MOST).read_to_end(&mut bytes) {
-        return Err(Stop::of_read(&error));
-    }
+    let bytes = bytes_of(rt, alloc, name)?;
     match Sheet::read(alloc, bytes.as_slice(), w, h) {
         Ok(sheet) => Ok(Some(sheet)),
-        Err(error) => Err(match error.number() {
-            Some(number) => Stop::Sheet {
-                name,
-                number,
-                error,
-            },
-            None => Stop::Memory,
-        }),
+        Err(error) => Err(Stop::of_sheet(name, error)),
+    }
+}
+
+/// The bytes of a sheet's file.
+fn bytes_of<'a, R: Files>(rt: &R, alloc: Global, name: &'a str) -> Result<Vec<u8>, Stop<'a>> {
+    let file = open(rt, name)?;
+    let mut bytes = Vec::new(alloc);
+    match file.take(MOST).read_to_end(&mut bytes) {
+        Ok(_) => Ok(bytes),
+        Err(error) => Err(Stop::of_read(&error)),
     }
 }

@@ -40,7 +40,7 @@ pub enum Stop<'a> {
     Memory,
 }
 
-impl Stop<'_> {
+impl<'a> Stop<'a> {
     /// The exit status: 1 for a fault of the stream or of images, 3 for a file, a sheet, a read or a write,
     /// 4 for want of memory.
     pub fn status(&self) -> u8
@@ -60,6 +60,18 @@ impl Stop<'_> {
             Stop::Memory
         } else {
             Stop::Read
+        }
+    }
+
+    /// Why the file of this name is no sheet that can be held.
+    pub fn of_sheet(name: &'a str, error: SheetError) -> Self {
+        match error.number() {
+            Some(number) => Stop::Sheet {
+                name,
+                number,
+                error,
+            },
+            None => Stop::Memory,
         }
     }
 
