@@ -165,6 +165,33 @@ label '1,000 copies of boxes and pictures' "$scratch/labels"
 formats 1 1 "$scratch/fields" > "$scratch/labels"
 label 'a picture of 832 by 1,218' "$scratch/labels"
 
+# runs ROWS: rows of 104 bytes by runs of codes, every fourth of which is the one above
+runs() {
+    for y in $(seq "$1"); do
+        if [ $((y % 4)) = 0 ]; then
+            printf ':'
+        else
+            for x in $(seq 13); do
+                if [ $((x % 3)) = $((y % 3)) ]; then printf 'K0JFA5K0'; else printf 'C3H0JFN0'; fi
+            done
+        fi
+    done
+}
+
+# one dot, 20 boxes, and a picture by runs: 100 labels, and 100 copies of one
+printf '^GB1,1,1^FS' > "$scratch/dot"
+for i in $(seq 20); do
+    printf '^FO%s,%s^GB60,40,%s^FS' $((i * 97 % 700)) $((i * 7919 % 1200)) $((1 + i % 2 * 60))
+done > "$scratch/boxes"
+codes=$(runs 1218)
+printf '^GFA,%s,126672,104,%s^FS' ${#codes} "$codes" > "$scratch/runs"
+for kind in dot boxes runs; do
+    formats 1 100 "$scratch/$kind" > "$scratch/labels"
+    label "100 labels of $kind" "$scratch/labels"
+    formats 100 1 "$scratch/$kind" > "$scratch/labels"
+    label "100 copies of a label of $kind" "$scratch/labels"
+done
+
 # 10 boxes and 1,000 on 8,000 rows, and a text of as many bytes as a format holds
 for boxes in 10 1000; do
     {

@@ -115,7 +115,7 @@ class Room:
     def start(self, jobs):
         self.move(f"{ROOT}/crates/{self.name}", f"{self.folder}/crates/{self.name}")
         words = ["rt", "run"] if self.name == PROGRAM else ["rt", "lib"]
-        words += ["--jobs", str(jobs)] if jobs else []
+        words += ["--jobs", str(jobs)]
         words += ["--", "--help"] if self.name == PROGRAM else []
         with open(f"{self.folder}/log", "wb") as log:
             how = {"cwd": f"{self.folder}/crates/{self.name}", "stdin": subprocess.DEVNULL, "stdout": log, "stderr": log}
@@ -200,13 +200,12 @@ class Build:
             for it in self.names
             if it not in self.took and it not in self.running and all(dep in self.took for dep in self.below[it])
         ]
-        lanes, is_alone = len(os.sched_getaffinity(0)), len(ready) == 1 and not self.running
+        lanes = len(os.sched_getaffinity(0))
         for it in sorted(ready, key=lambda it: -self.behind(it)):
             room = self.memory - sum(map(self.need, self.running))
             if len(self.running) < lanes and (not self.running or self.need(it) <= room):
                 self.running[it] = Room(it, self.uses)
-                # alone it chooses for itself how many jobs it takes
-                self.running[it].start(None if is_alone else max(1, lanes // len(ready)))
+                self.running[it].start(max(1, lanes // len(ready)))
 
     def run(self):
         """Builds all, and returns whether that went well."""

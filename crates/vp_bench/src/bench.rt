@@ -11,9 +11,6 @@ pub enum Bench {
     Esc,
     Page,
     Qr,
-    Receipt,
-    Engine,
-    Label,
 }
 
 impl Bench {
@@ -27,9 +24,6 @@ impl Bench {
             "esc" => Some(Bench::Esc),
             "page" => Some(Bench::Page),
             "qr" => Some(Bench::Qr),
-            "receipt" => Some(Bench::Receipt),
-            "engine" => Some(Bench::Engine),
-            "label" => Some(Bench::Label),
             _ => None,
         }
     }

@@ -1,7 +1,7 @@
-//! How long a byte of a raster takes through the reader, beside counting it.
+//! How long a byte of a raster takes through the reader, beside counting it and beside copying it.
 ghost use Rattle.std.specs.Prelude.{◌≡◌, ◌-◌, ◌==◌, if◌then◌else◌};
 
-use crate::measure::{least, some_bytes};
+use crate::measure::{copying, least, some_bytes};
 use anyhow::Result;
 use std::rt::Clock;
 use vp_esc::{EscItem, EscReader};
@@ -40,16 +40,16 @@ fn read(reader: &mut EscReader, bytes: &[u8]) -> u64 {
     let mut sum = 0u64;
     for byte in bytes {
         if let Ok(Some(EscItem::RasterByte(b))) = reader.take(*byte) {
-            sum = sum.wrapping_add(u64::from(b));
+            sum = sum.wrapping_add(u64::from(*b));
         }
     }
     sum
 }
 
 #[inline(never)]
-fn accept(item: EscItem) -> u64 {
+fn accept(item: &EscItem) -> u64 {
     match item {
-        EscItem::RasterByte(b) => u64::from(b),
+        EscItem::RasterByte(b) => u64::from(*b),
         _ => 0,
     }
 }
@@ -81,12 +81,15 @@ pub fn run(rt: &(impl AllocGlobal + Clock + Print)) -> Result<()> {
     let mut left = u32::MAX;
     let counted = least(rt, ROUNDS, || sum = count(&mut left, &bytes))? / 4608.0;
     println!(rt; "counting a byte: {counted:.2} ns, sum {sum}")?;
+    let copied = copying(rt, &some_bytes(rt.alloc(), 125 * BYTES)?)?;
+    println!(rt; "copying a byte: {copied:.3} ns")?;
     let mut reader = in_raster();
     let took = least(rt, ROUNDS, || sum = read(&mut reader, &bytes))? / 4608.0;
     println!(rt;
-        "reading a raster byte: {took:.2} ns, {:.0} MB/s, {:.1} times, sum {sum}",
+        "reading a raster byte: {took:.2} ns, {:.0} MB/s, {:.1} times, {:.1} times copying, sum {sum}",
         1e3 / took,
-        took / counted
+        took / counted,
+        took / copied
     )?;
     let took = least(rt, ROUNDS, || sum = hand_on(&mut reader, &bytes))? / 4608.0;
     println!(rt;

@@ -4,14 +4,11 @@
 
 mod bench;
 mod dots;
-mod engine;
 mod esc;
 mod glyph;
-mod label;
 mod measure;
 mod page;
 mod qr;
-mod receipt;
 
 use anyhow::Result;
 use bench::Bench;
@@ -33,11 +30,8 @@ fn main(rt: HostRuntime) -> Result<()> {
         Some(Bench::Esc) => esc::run(&rt),
         Some(Bench::Page) => page::run(&rt),
         Some(Bench::Qr) => qr::run(&rt),
-        Some(Bench::Receipt) => receipt::run(&rt),
-        Some(Bench::Engine) => engine::run(&rt),
-        Some(Bench::Label) => label::run(&rt),
         None => {
-            println!(rt; "a bench is one of: dots glyph esc page qr receipt engine label")?;
+            println!(rt; "a bench is one of: dots glyph esc page qr")?;
             Ok(())
         }
     }

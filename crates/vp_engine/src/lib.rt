@@ -24,6 +24,3 @@ pub use listing::list;
 pub use printer::{Printer, State, Step};
 pub use session::{Report, RunFault, Session};
 pub use vp_streams::{Counted, Sink, Source};
-
-#[cfg(test)]
-mod tests;

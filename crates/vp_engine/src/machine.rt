@@ -160,13 +160,13 @@ impl Machine {
     {
         match self {
             Machine::Receipt { reader, receipt } => match reader.take(byte) {
-                Ok(Some(item)) => receipt.apply(&item),
+                Ok(Some(item)) => receipt.apply(item),
                 Ok(None) => Ok(()),
                 Err(fault) => Err(fault),
             },
             Machine::ReceiptLines { reader, lines } => match reader.take(byte) {
                 Ok(Some(item)) => {
-                    begin_line(lines, &item);
+                    begin_line(lines, item);
                     Ok(())
                 }
                 Ok(None) => Ok(()),

@@ -37,10 +37,19 @@ pub struct Step {
 }
 
 /// A printer.
-#[derive(Drop)]
 pub struct Printer {
     machine: Machine,
     stopped: Option<Fault>,
+}
+
+/// Its memory is given back here, whoever held it.
+impl Drop for Printer {
+    fn drop(self) {
+        let Printer {
+            machine: _,
+            stopped: _,
+        } = self;
+    }
 }
 
 impl Model for Printer {

@@ -1,9 +1,7 @@
 //! Streams, and the bytes that they must print.
-use crate::fields::FIELDS;
-use crate::labels::{LABELS, Label, Printed};
-use crate::pages::PAGES;
-use crate::streams::{STREAMS, Stream};
-use crate::symbols::SYMBOLS;
+use crate::labels::{Label, Printed};
+use crate::streams::Stream;
+use crate::{fields, labels, pages, streams, symbols};
 use std::alloc::{AllocError, Global};
 use std::io::Write;
 use std::test::Fail;
@@ -73,33 +71,35 @@ fn add(paper: &mut Vec<u8>, printed: &Printed) -> Result<(), Fail> {
 }
 
 /// What these receipts must come to.
-fn receipts(alloc: Global, streams: &'static [Stream]) -> Result<Vec<Case>, Fail> {
+fn receipts(alloc: Global, tables: &[&'static [Stream]]) -> Result<Vec<Case>, Fail> {
     let mut cases = Vec::new(alloc);
-    for stream in streams {
-        cases.push(Case {
-            name: stream.name,
-            language: stream.language,
-            bytes: stream.bytes,
-            paper: receipt_paper(alloc, stream)?,
-            fault: stream.fault,
-        })?;
+    for table in tables {
+        for stream in *table {
+            cases.push(Case {
+                name: stream.name,
+                language: stream.language,
+                bytes: stream.bytes,
+                paper: receipt_paper(alloc, stream)?,
+                fault: stream.fault,
+            })?;
+        }
     }
     Ok(cases)
 }
 
 /// What receipts without pages and QR symbols must come to.
-pub fn streams(alloc: Global) -> Result<Vec<Case>, Fail> {
-    receipts(alloc, STREAMS)
+pub fn of_streams(alloc: Global) -> Result<Vec<Case>, Fail> {
+    receipts(alloc, &streams::tables())
 }
 
 /// What pages must come to.
-pub fn pages(alloc: Global) -> Result<Vec<Case>, Fail> {
-    receipts(alloc, PAGES)
+pub fn of_pages(alloc: Global) -> Result<Vec<Case>, Fail> {
+    receipts(alloc, &pages::tables())
 }
 
 /// What QR symbols, and symbols on pages, must come to.
-pub fn symbols(alloc: Global) -> Result<Vec<Case>, Fail> {
-    receipts(alloc, SYMBOLS)
+pub fn of_symbols(alloc: Global) -> Result<Vec<Case>, Fail> {
+    receipts(alloc, &symbols::tables())
 }
 
 /// Adds what these labels must come to.
@@ -123,9 +123,13 @@ fn add_labels(alloc: Global, cases: &mut Vec<Case>, labels: &'static [Label]) ->
 }
 
 /// What all labels must come to.
-pub fn labels(alloc: Global) -> Result<Vec<Case>, Fail> {
+pub fn of_labels(alloc: Global) -> Result<Vec<Case>, Fail> {
     let mut cases = Vec::new(alloc);
-    add_labels(alloc, &mut cases, LABELS)?;
-    add_labels(alloc, &mut cases, FIELDS)?;
+    for table in labels::tables() {
+        add_labels(alloc, &mut cases, table)?;
+    }
+    for table in fields::tables() {
+        add_labels(alloc, &mut cases, table)?;
+    }
     Ok(cases)
 }

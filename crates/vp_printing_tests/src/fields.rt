@@ -2,7 +2,8 @@
 use crate::labels::{Label, Printed};
 use vp_dots::{Fault, Why};
 
-pub const FIELDS: &[Label] = &[
+/// Texts.
+const TEXT_LABELS: &[Label] = &[
     Label {
         name: "a text",
         bytes: b"^XA^PW16^LL24^A0N,24,12^FDM^FS^XZ",
@@ -106,6 +107,10 @@ pub const FIELDS: &[Label] = &[
         }],
         fault: None,
     },
+];
+
+/// Blocks.
+const BLOCK_LABELS: &[Label] = &[
     Label {
         name: "a block to the right",
         bytes: b"^XA^PW24^LL48^A0N,24,12^FB24,2,0,R^FDMM M^FS^XZ",
@@ -188,6 +193,10 @@ pub const FIELDS: &[Label] = &[
         }],
         fault: None,
     },
+];
+
+/// Bar codes, and a QR symbol.
+const BAR_LABELS: &[Label] = &[
     Label {
         name: "Code 39",
         bytes: b"^XA^PW80^LL1^BY2,2.0,1^FO0,0^B3N,N,1,N,N^FDA^FS^XZ",
@@ -346,6 +355,10 @@ pub const FIELDS: &[Label] = &[
         }],
         fault: None,
     },
+];
+
+/// Symbols that are refused.
+const REFUSED_LABELS: &[Label] = &[
     Label {
         name: "a QR symbol without its level",
         bytes: b"^XA^BQN,2,2^FDXA,1^FS",
@@ -389,3 +402,25 @@ pub const FIELDS: &[Label] = &[
         fault: Some(Fault::Symbol(Why::Char)),
     },
 ];
+
+fn texts() -> &'static [Label] {
+    TEXT_LABELS
+}
+
+fn blocks() -> &'static [Label] {
+    BLOCK_LABELS
+}
+
+fn bars() -> &'static [Label] {
+    BAR_LABELS
+}
+
+fn refused() -> &'static [Label] {
+    REFUSED_LABELS
+}
+
+/// All of them, each table from a function of its own: a check of a function takes the longer the more its
+/// tables hold.
+pub fn tables() -> [&'static [Label]; 4] {
+    [texts(), blocks(), bars(), refused()]
+}

@@ -19,7 +19,8 @@ pub struct Label {
     pub fault: Option<Fault>,
 }
 
-pub const LABELS: &[Label] = &[
+/// Boxes, some of which reverse others.
+const BOX_LABELS: &[Label] = &[
     Label {
         name: "a box",
         bytes: b"^XA^PW16^LL4^FO2,1^GB5,3,1^FS^XZ",
@@ -74,6 +75,10 @@ pub const LABELS: &[Label] = &[
         }],
         fault: None,
     },
+];
+
+/// Boxes over the end of a band.
+const BAND_LABELS: &[Label] = &[
     Label {
         name: "boxes over one another in two bands",
         bytes: b"^XA^PW8^LL34^FO0,30^GB8,4,4^FS^FO0,32^GB8,1,1,W^FS^FO0,31^FR^GB4,3,3^FS^XZ",
@@ -140,6 +145,10 @@ pub const LABELS: &[Label] = &[
         }],
         fault: None,
     },
+];
+
+/// Labels reversed, mirrored and inverted, and boxes at their edges.
+const TURNED_LABELS: &[Label] = &[
     Label {
         name: "a box over one that reverses",
         bytes: b"^XA^PW8^LL1^FR^GB8,1,1^FS^GB8,1,1^FS^XZ",
@@ -225,6 +234,10 @@ pub const LABELS: &[Label] = &[
         }],
         fault: None,
     },
+];
+
+/// What stays from one format to the next, and what is skipped.
+const SETTING_LABELS: &[Label] = &[
     Label {
         name: "settings that stay for the next label, and a quantity that doesn't",
         bytes: b"^XA^PW8^LL2^POI^LRY^PQ2^GB4,2,2^FS^GB2,1,1^FS^XZ^XA^GB3,1,1^FS^XZ",
@@ -289,6 +302,10 @@ pub const LABELS: &[Label] = &[
         }],
         fault: None,
     },
+];
+
+/// Pictures.
+const PICTURE_LABELS: &[Label] = &[
     Label {
         name: "a picture by run-length codes",
         bytes: b"^XA^PW32^LL1^FO0,0^GFA,4,4,4,MB^FS^XZ",
@@ -366,6 +383,10 @@ pub const LABELS: &[Label] = &[
         }],
         fault: None,
     },
+];
+
+/// Streams that end early or are refused, and of other printers.
+const ENDED_LABELS: &[Label] = &[
     Label {
         name: "a box that is cut off",
         bytes: b"^XA^FO0,0^GB8,2,2",
@@ -396,6 +417,12 @@ pub const LABELS: &[Label] = &[
         fault: Some(Fault::Graphic),
     },
     Label {
+        name: "commands of receipts",
+        bytes: b"\x1BJ\x02\n",
+        prints: &[],
+        fault: None,
+    },
+    Label {
         name: "commands of other printers",
         bytes: b"\x1B@N\r\nq400\r\nA50,0,0,1,1,1,N,\"text\"\r\nP1\r\n! 0 200 200 210 1\r\nFORM\r\\
             nPRINT\r\n\x1DV\x00",
@@ -403,3 +430,33 @@ pub const LABELS: &[Label] = &[
         fault: None,
     },
 ];
+
+fn boxes() -> &'static [Label] {
+    BOX_LABELS
+}
+
+fn bands() -> &'static [Label] {
+    BAND_LABELS
+}
+
+fn turned() -> &'static [Label] {
+    TURNED_LABELS
+}
+
+fn settings() -> &'static [Label] {
+    SETTING_LABELS
+}
+
+fn pictures() -> &'static [Label] {
+    PICTURE_LABELS
+}
+
+fn ended() -> &'static [Label] {
+    ENDED_LABELS
+}
+
+/// All of them, each table from a function of its own: a check of a function takes the longer the more its
+/// tables hold.
+pub fn tables() -> [&'static [Label]; 6] {
+    [boxes(), bands(), turned(), settings(), pictures(), ended()]
+}

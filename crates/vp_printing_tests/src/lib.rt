@@ -7,6 +7,8 @@ mod cases;
 #[cfg(test)]
 mod fields;
 #[cfg(test)]
+mod held;
+#[cfg(test)]
 mod labels;
 #[cfg(test)]
 mod listings;

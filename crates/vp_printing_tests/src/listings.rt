@@ -96,6 +96,13 @@ const LISTINGS: &[Listing] = &[
             byte 5f\nbyte 34\nbyte 58\nbyte 20\nbyte 4d\nbyte 5f\nbyte 34\n^FS\n~JA skipped\n",
         answer: Ok(17),
     },
+    // three bytes are known at once
+    Listing {
+        languages: LABELS,
+        bytes: b"^XA^FH^FDa_4g^FS^XZ",
+        lines: b"^XA\n^FH\n^FD\nbyte 61\nbyte 5f\nbyte 34\nbyte 67\n^FS\n^XZ\n",
+        answer: Ok(9),
+    },
     // a picture as bytes that are signs and a line end, and one that is cut off
     Listing {
         languages: LABELS,
@@ -114,6 +121,10 @@ const LISTINGS: &[Listing] = &[
         answer: Ok(4),
     },
 ];
+
+fn listings() -> &'static [Listing] {
+    LISTINGS
+}
 
 /// What was written, the answer, and how often it read and wrote.
 #[derive(Drop)]
@@ -156,7 +167,7 @@ fn listed(
 
 #[test]
 fn each_item_has_its_line(rt: HostRuntime) {
-    for listing in LISTINGS {
+    for listing in listings() {
         for language in listing.languages {
             let whole = listed(rt.alloc(), *language, listing.bytes, 1000, (NEVER, NEVER));
             assert_eq!(rt; whole.lines.as_slice(), listing.lines);
@@ -167,7 +178,7 @@ fn each_item_has_its_line(rt: HostRuntime) {
 
 #[test]
 fn a_listing_is_cut_into_bytes(rt: HostRuntime) {
-    for listing in LISTINGS {
+    for listing in listings() {
         for language in listing.languages {
             for most in [1, 2, 3, 7, 8, 9] {
                 let calls = (NEVER, NEVER);
@@ -182,7 +193,7 @@ fn a_listing_is_cut_into_bytes(rt: HostRuntime) {
 /// Each read and each write fails, up to the last: what is written begins the listing.
 #[test]
 fn a_failed_read_or_write_ends_a_listing(rt: HostRuntime) {
-    for listing in LISTINGS {
+    for listing in listings() {
         for language in listing.languages {
             for most in [1, 5, 1000] {
                 fail_once(&rt, rt.alloc(), listing, *language, most);

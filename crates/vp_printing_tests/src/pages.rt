@@ -3,7 +3,8 @@ use crate::streams::{Image, Stream};
 use vp_dots::Fault;
 use vp_engine::Language;
 
-pub const PAGES: &[Stream] = &[
+/// Rasters in each direction.
+const RASTER_PAGES: &[Stream] = &[
     Stream {
         name: "a raster along a page",
         language: Language::Receipt,
@@ -64,6 +65,10 @@ pub const PAGES: &[Stream] = &[
         }],
         fault: Some(Fault::Unprinted),
     },
+];
+
+/// Areas, and how pages end.
+const AREA_PAGES: &[Stream] = &[
     Stream {
         name: "an area that is cancelled beside another",
         language: Language::Receipt,
@@ -152,3 +157,17 @@ pub const PAGES: &[Stream] = &[
         fault: Some(Fault::Unprinted),
     },
 ];
+
+fn rasters() -> &'static [Stream] {
+    RASTER_PAGES
+}
+
+fn areas() -> &'static [Stream] {
+    AREA_PAGES
+}
+
+/// All of them, each table from a function of its own: a check of a function takes the longer the more its
+/// tables hold.
+pub fn tables() -> [&'static [Stream]; 2] {
+    [rasters(), areas()]
+}

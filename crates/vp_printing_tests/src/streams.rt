@@ -17,7 +17,54 @@ pub struct Stream {
     pub fault: Option<Fault>,
 }
 
-pub const STREAMS: &[Stream] = &[
+/// Rasters and feeds.
+const FEED_STREAMS: &[Stream] = &[
+    Stream {
+        name: "nothing",
+        language: Language::Receipt,
+        bytes: b"",
+        images: &[],
+        fault: None,
+    },
+    Stream {
+        name: "a printer that begins anew",
+        language: Language::Receipt,
+        bytes: b"\x1B@",
+        images: &[],
+        fault: None,
+    },
+    Stream {
+        name: "a raster whose row is wider than the paper",
+        language: Language::Receipt,
+        bytes: b"\x1Dv0\x00\x49\x00\x01\x00\
+            \0\0\0\0\0\0\0\0\0\0\0\0\0\0\0\0\0\0\0\0\0\0\0\0\0\0\0\0\0\0\0\0\0\0\0\0\
+            \0\0\0\0\0\0\0\0\0\0\0\0\0\0\0\0\0\0\0\0\0\0\0\0\0\0\0\0\0\0\0\0\0\0\0\0\xFF",
+        images: &[Image {
+            head: b"P4\n576 1\n",
+            rows: &[(1, b"")],
+        }],
+        fault: None,
+    },
+    Stream {
+        name: "a feed before an unknown command",
+        language: Language::Receipt,
+        bytes: b"\x1BJ\x02\x1B\x7F\x0A",
+        images: &[Image {
+            head: b"P4\n576 2\n",
+            rows: &[(2, b"")],
+        }],
+        fault: Some(Fault::Unknown(0x1B, 0x7F)),
+    },
+    Stream {
+        name: "line feed on narrow paper",
+        language: Language::Receipt58,
+        bytes: b"\x0A",
+        images: &[Image {
+            head: b"P4\n384 34\n",
+            rows: &[(34, b"")],
+        }],
+        fault: None,
+    },
     Stream {
         name: "a raster of two rows",
         language: Language::Receipt,
@@ -55,6 +102,10 @@ pub const STREAMS: &[Stream] = &[
         images: &[],
         fault: None,
     },
+];
+
+/// Lines of text.
+const LINE_STREAMS: &[Stream] = &[
     Stream {
         name: "a character",
         language: Language::Receipt,
@@ -149,6 +200,10 @@ pub const STREAMS: &[Stream] = &[
         }],
         fault: None,
     },
+];
+
+/// Styles, margins and areas.
+const STYLE_STREAMS: &[Stream] = &[
     Stream {
         name: "underlined white",
         language: Language::Receipt,
@@ -264,6 +319,10 @@ pub const STREAMS: &[Stream] = &[
         }],
         fault: None,
     },
+];
+
+/// Rasters, and narrow paper.
+const PAPER_STREAMS: &[Stream] = &[
     Stream {
         name: "a raster doubled both ways",
         language: Language::Receipt,
@@ -346,6 +405,10 @@ pub const STREAMS: &[Stream] = &[
         images: &[],
         fault: Some(Fault::Unprinted),
     },
+];
+
+/// Symbols, drawn and refused.
+const SYMBOL_STREAMS: &[Stream] = &[
     Stream {
         name: "a bar code",
         language: Language::Receipt,
@@ -421,3 +484,29 @@ pub const STREAMS: &[Stream] = &[
         fault: None,
     },
 ];
+
+fn feeds() -> &'static [Stream] {
+    FEED_STREAMS
+}
+
+fn lines() -> &'static [Stream] {
+    LINE_STREAMS
+}
+
+fn styles() -> &'static [Stream] {
+    STYLE_STREAMS
+}
+
+fn papers() -> &'static [Stream] {
+    PAPER_STREAMS
+}
+
+fn symbols() -> &'static [Stream] {
+    SYMBOL_STREAMS
+}
+
+/// All of them, each table from a function of its own: a check of a function takes the longer the more its
+/// tables hold.
+pub fn tables() -> [&'static [Stream]; 5] {
+    [feeds(), lines(), styles(), papers(), symbols()]
+}

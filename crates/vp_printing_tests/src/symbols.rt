@@ -3,7 +3,7 @@ use crate::streams::{Image, Stream};
 use vp_dots::Fault;
 use vp_engine::Language;
 
-pub const SYMBOLS: &[Stream] = &[
+const SYMBOL_PAGES: &[Stream] = &[
     Stream {
         name: "a QR symbol",
         language: Language::Receipt,
@@ -100,3 +100,7 @@ pub const SYMBOLS: &[Stream] = &[
         fault: Some(Fault::SymbolTooWide),
     },
 ];
+
+pub fn tables() -> [&'static [Stream]; 1] {
+    [SYMBOL_PAGES]
+}
