@@ -1,7 +1,7 @@
 //! The files that a command line names.
-use crate::stop::Stop;
 use std::fs;
 use std::rt::Files;
+use vp_stop::Stop;
 
 /// Opens a file to be read.
 pub fn open<'a, R: Files>(rt: &R, name: &'a str) -> Result<R::File, Stop<'a>> {

@@ -2,10 +2,8 @@
 #![tactic(auto)]
 
 mod file;
-mod order;
 mod run;
 mod sheets;
-mod stop;
 #[cfg(test)]
 mod tests;
 

@@ -1,17 +1,17 @@
 //! A run of the program, from its words to its exit status.
 use crate::file::open;
-use crate::order::{Order, Stream, Task};
 use crate::sheets;
-use crate::stop::Stop;
 use clap::error::ErrorKind;
 use std::alloc::Global;
 use std::convert::AsStr;
 use std::io::{Read, Write};
 use std::rt::{Env, Files};
 use std::{env, io};
-use vp_engine::{Counted, Language, Session, Sink, Source, list};
+use vp_engine::{Counted, Language, RunFault, Session, Sink, Source, list};
 use vp_glyph::Sheets;
 use vp_join::join;
+use vp_order::{Order, Stream, Task};
+use vp_stop::Stop;
 
 /// The exit status where the words are wrong.
 const USAGE: u8 = 2;
@@ -133,7 +133,7 @@ fn work_on<'a, I: Read, O: Write>(
         Work::Print(sheets) => print(alloc, sheets, language, &mut reader, &mut writer),
         Work::List => match list(language, &mut reader, &mut writer) {
             Ok(_) => Ok(()),
-            Err(fault) => Err(Stop::of_run(fault)),
+            Err(fault) => Err(ended_by(fault)),
         },
     }
 }
@@ -151,7 +151,17 @@ fn print<'a, S: Source, K: Sink>(
     };
     match session.pump(reader, writer) {
         Ok(_) => Ok(()),
-        Err(fault) => Err(Stop::of_run(fault)),
+        Err(fault) => Err(ended_by(fault)),
+    }
+}
+
+/// Why a session ended before its input did.
+fn ended_by<'a>(fault: RunFault) -> Stop<'a> {
+    match fault {
+        RunFault::Print { fault, after } => Stop::Print { fault, after },
+        RunFault::Read => Stop::Read,
+        RunFault::Write => Stop::Write,
+        RunFault::TooManyTurns => Stop::TooManyTurns,
     }
 }
 

@@ -2,12 +2,12 @@
 ghost use Rattle.std.specs.Prelude.{◌≤◌};
 
 use crate::file::open;
-use crate::order::Fonts;
-use crate::stop::Stop;
 use std::alloc::Global;
 use std::io::Read;
 use std::rt::Files;
 use vp_glyph::{Sheet, Sheets};
+use vp_order::Fonts;
+use vp_stop::Stop;
 
 /// Of a sheet's file no more bytes than these are read.
 const MOST: u64 = 1_048_576;

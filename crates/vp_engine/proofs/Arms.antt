@@ -8,7 +8,7 @@ use Rattle.vp_receipt.specs.Standing.{Printing, Stands as ReceiptStands}
 use Rattle.vp_zpl.specs.declared.reader.ZplReader.{ZplReader}
 use Rattle.vp_zpl.specs.Reader.{Stands as ZplStands}
 use Rattle.vp_label.specs.Standing.{Printing as LabelPrinting, Stands as LabelStands}
-use Rattle.vp_engine.specs.declared.language.Language.TheVariants as languages
+use Rattle.vp_streams.specs.declared.language.Language.TheVariants as languages
 use Rattle.vp_engine.specs.declared.machine.Machine.{Machine}
 use Rattle.vp_engine.specs.declared.machine.Machine.TheVariants.{Receipt, ReceiptLines, Label, LabelLines}
 use Rattle.vp_streams.specs.Count.{counted}

@@ -2,7 +2,7 @@
 use Rattle.std.proofs.Common.{◌≡◌, ℕ, List, [], ◌∷◌, ◌++◌, length, reverse, Option, Ok, Err, inl, inr, ◌⊎◌, ap, ◌∙◌, arith, length-append}
 use Rattle.std.proofs.lemmas.List.{length-reverse}
 use Rattle.vp_dots.specs.declared.fault.Fault.{Fault}
-use Rattle.vp_engine.specs.declared.language.Language.{Language}
+use Rattle.vp_streams.specs.declared.language.Language.{Language}
 use Rattle.vp_engine.specs.declared.session.Report.{Report}
 use Rattle.vp_engine.specs.declared.session.RunFault.{RunFault}
 use Rattle.vp_engine.specs.declared.session.RunFault.TheVariants.{Print, Read, Write, TooManyTurns}

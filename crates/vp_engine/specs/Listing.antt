@@ -1,7 +1,7 @@
 -- What a listing is: a line for each item.
 use Rattle.std.specs.Prelude.{◌≡◌, ℕ, List, length, flat_map, Option, Result, Ok, Err}
 use Rattle.std.specs.Io.KnownBytes.{Consumes, Appends, IsAtEnd}
-use Rattle.vp_engine.specs.declared.language.Language.{Language}
+use Rattle.vp_streams.specs.declared.language.Language.{Language}
 use Rattle.vp_engine.specs.declared.session.RunFault.{RunFault}
 use Rattle.vp_engine.specs.declared.session.RunFault.TheVariants.{Print, Read, Write, TooManyTurns}
 use Rattle.vp_engine.specs.Bytes.{IsPrefix}

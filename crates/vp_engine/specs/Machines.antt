@@ -4,7 +4,7 @@ use Rattle.vp_esc.specs.Reader.{Stands as EscStands}
 use Rattle.vp_receipt.specs.Standing.{Stands as ReceiptStands}
 use Rattle.vp_zpl.specs.Reader.{Stands as ZplStands}
 use Rattle.vp_label.specs.Standing.{Stands as LabelStands}
-use Rattle.vp_engine.specs.declared.language.Language.TheVariants as languages
+use Rattle.vp_streams.specs.declared.language.Language.TheVariants as languages
 use Rattle.vp_engine.specs.declared.machine.Machine.{Machine}
 use Rattle.vp_engine.specs.declared.machine.Machine.TheVariants.{Receipt, ReceiptLines, Label, LabelLines}
 use Rattle.vp_streams.specs.Count.{counted}

@@ -12,8 +12,8 @@ use Rattle.vp_zpl.specs.Lines as zpl_lines
 use Rattle.vp_label.specs.Prints as label
 use Rattle.vp_label.specs.Refusals as label_refusals
 use Rattle.vp_label.specs.Held.{band_rows_after, stored_after, fields_after}
-use Rattle.vp_engine.specs.declared.language.Language.{Language}
-use Rattle.vp_engine.specs.declared.language.Language.TheVariants as languages
+use Rattle.vp_streams.specs.declared.language.Language.{Language}
+use Rattle.vp_streams.specs.declared.language.Language.TheVariants as languages
 use Rattle.vp_streams.specs.Count.{counted}
 use Rattle.vp_engine.specs.Paper.{Reading, Rules, listing, nothing_held}
 

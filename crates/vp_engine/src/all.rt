@@ -3,12 +3,12 @@ ghost use Rattle.std.specs.Prelude.{◌≡◌, IfOk};
 ghost use Rattle.vp_engine.specs.Paper.{paper, fault_at_end};
 ghost use Rattle.vp_engine.specs.Setups.{setup_of, rules_of};
 
-use crate::language::Language;
 use crate::laws::{nothing_follows_a_fault, paper_grows};
 use crate::printer::{Printer, State};
 use std::alloc::{AllocError, Global};
 use vp_dots::Fault;
 use vp_glyph::Sheets;
+use vp_streams::Language;
 
 /// The whole paper of some bytes, and their first fault, else that of ending there.
 pub fn print_all(

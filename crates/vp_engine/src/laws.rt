@@ -9,7 +9,7 @@ ghost use Rattle.vp_glyph.specs.declared.Sheets.{Sheets};
 ghost use Rattle.vp_label.specs.Images.{AreOfLabels};
 ghost use Rattle.vp_receipt.specs.Images.{AreAcross};
 ghost use Rattle.vp_settings.specs.Setup.{Setup as ReceiptSetup, across};
-ghost use Rattle.vp_engine.specs.declared.language.Language.{Language};
+ghost use Rattle.vp_streams.specs.declared.language.Language.{Language};
 ghost use Rattle.vp_engine.specs.Bytes.{IsPrefix};
 ghost use Rattle.vp_engine.specs.Images.{receipts, IsPrinted, images_of, begun_of, labels, images_of_labels};
 ghost use Rattle.vp_engine.specs.Listing.{lines};

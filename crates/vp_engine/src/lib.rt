@@ -9,7 +9,6 @@
 mod all;
 mod buffer;
 mod held;
-mod language;
 pub mod laws;
 mod lines;
 mod listing;
@@ -19,8 +18,7 @@ mod session;
 
 pub use all::print_all;
 pub use held::Held;
-pub use language::Language;
 pub use listing::list;
 pub use printer::{Printer, State, Step};
 pub use session::{Report, RunFault, Session};
-pub use vp_streams::{Counted, Sink, Source};
+pub use vp_streams::{Counted, Language, Sink, Source};

@@ -4,10 +4,9 @@ ghost use Rattle.vp_streams.specs.Count.{grown, one_more_if};
 ghost use Rattle.vp_engine.specs.Listing.{Lists};
 ghost use Rattle.vp_engine.specs.Session.{is_read_fault, is_write_fault};
 
-use crate::language::Language;
 use crate::laws::{a_listing_is_its_lines, paper_grows};
 use crate::session::{RunFault, Session};
-use vp_streams::{Sink, Source};
+use vp_streams::{Language, Sink, Source};
 
 /// Reads to the end, writes a line for each item, and gives the number of the lines, which stops at the
 /// greatest u64. It takes no memory and reads at most 1,000,000,000 times. At a fault of the stream the lines

@@ -12,7 +12,6 @@ ghost use Rattle.vp_zpl.specs.Lines.{lines_of as label_lines_of};
 ghost use Rattle.vp_zpl.specs.Shown.{shown_item};
 
 use crate::held::{Held, NOTHING};
-use crate::language::Language;
 use crate::lines::Lines;
 use std::alloc::{AllocError, Global};
 use vp_dots::Fault;
@@ -21,6 +20,7 @@ use vp_glyph::Sheets;
 use vp_label::Label;
 use vp_label::laws::{data_in_turn, in_turn};
 use vp_receipt::{Receipt, Width};
+use vp_streams::Language;
 use vp_zpl::{ZplItem, ZplReader};
 
 /// How many bytes were taken, and put out.

@@ -9,13 +9,13 @@ ghost use Rattle.vp_engine.specs.Setups.{Listing};
 ghost use Rattle.vp_engine.specs.Stands.{Stands};
 
 use crate::held::Held;
-use crate::language::Language;
 use crate::laws::items_grow;
 use crate::machine::{Machine, Moved};
 use std::alloc::{AllocError, Global};
 use std::marker::Model;
 use vp_dots::Fault;
 use vp_glyph::Sheets;
+use vp_streams::Language;
 
 /// What a step has come to.
 #[derive(Clone, Copy, Debug, PartialEq, Eq)]

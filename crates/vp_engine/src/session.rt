@@ -10,13 +10,12 @@ ghost use Rattle.vp_engine.specs.Setups.{Listing};
 ghost use Rattle.vp_engine.specs.Stands.{Stands, IsFresh};
 
 use crate::buffer::Buffer;
-use crate::language::Language;
 use crate::printer::Printer;
 use std::alloc::{AllocError, Global};
 use std::marker::Model;
 use vp_dots::Fault;
 use vp_glyph::Sheets;
-use vp_streams::{Sink, Source};
+use vp_streams::{Language, Sink, Source};
 
 /// The bytes taken and written since `new`; both counts stop at the greatest u64.
 #[derive(Clone, Copy, Debug, PartialEq, Eq)]

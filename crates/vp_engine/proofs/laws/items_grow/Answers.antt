@@ -1,4 +1,4 @@
-use Rattle.vp_engine.specs.declared.language.Language.TheVariants as languages
+use Rattle.vp_streams.specs.declared.language.Language.TheVariants as languages
 use Rattle.vp_engine.specs.Paper.{Reads}
 use Rattle.vp_engine.specs.Setups.{esc_reading, zpl_reading}
 use Rattle.vp_engine.specs.Setups.{Receipts, Labels, Listing}

@@ -5,7 +5,7 @@ use Rattle.vp_zpl.specs.Reader.{Stands as ZplStands}
 use Rattle.vp_zpl.specs.Lines.{line_of}
 use Rattle.vp_zpl.specs.Shown.{shown_item}
 use Rattle.vp_engine.specs.Machines.{pending_of}
-use Rattle.vp_engine.specs.declared.language.Language.TheVariants as languages
+use Rattle.vp_streams.specs.declared.language.Language.TheVariants as languages
 use Rattle.vp_engine.specs.Paper.{listing, printed}
 use Rattle.vp_engine.specs.Setups.{Receipts, Labels, Listing, rules_of, zpl_reading}
 use Rattle.vp_engine.proofs.Arms.{at_receipt, at_lines, at_label, at_label_lines}

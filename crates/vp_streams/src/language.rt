@@ -1,4 +1,4 @@
-//! The languages of the printers.
+//! What a stream is written in.
 
 /// What a stream is written in, and on which paper it is printed.
 #[derive(Clone, Copy, Debug, PartialEq, Eq)]

@@ -1,8 +1,8 @@
 -- The exit statuses of a run that ends early.
 use Rattle.std.specs.Prelude.{ℕ}
-use Rattle.vp_cli.specs.declared.stop.Stop.{Stop}
-use Rattle.vp_cli.specs.declared.stop.Stop.TheVariants.{Print, Join, CannotOpen, Sheet}
-use Rattle.vp_cli.specs.declared.stop.Stop.TheVariants.{Read, Write, TooManyTurns, Memory}
+use Rattle.vp_stop.specs.declared.stop.Stop.{Stop}
+use Rattle.vp_stop.specs.declared.stop.Stop.TheVariants.{Print, Join, CannotOpen, Sheet}
+use Rattle.vp_stop.specs.declared.stop.Stop.TheVariants.{Read, Write, TooManyTurns, Memory}
 
 -- 1: the stream, or the images; 3: a file, a sheet, a read or a write; 4: memory
 abbrev pub status_of : Stop → ℕ

@@ -1,11 +1,10 @@
 //! How a run ends early: its line, and its status.
 ghost use Rattle.std.specs.Prelude.{◌≡◌};
-ghost use Rattle.vp_cli.specs.Statuses.{status_of};
+ghost use Rattle.vp_stop.specs.Statuses.{status_of};
 
 use std::io;
 use thiserror::Error;
 use vp_dots::Fault;
-use vp_engine::RunFault;
 use vp_glyph::SheetError;
 use vp_join::JoinFault;
 
@@ -72,16 +71,6 @@ impl<'a> Stop<'a> {
                 error,
             },
             None => Stop::Memory,
-        }
-    }
-
-    /// Why a session ended before its input did.
-    pub fn of_run(fault: RunFault) -> Self {
-        match fault {
-            RunFault::Print { fault, after } => Stop::Print { fault, after },
-            RunFault::Read => Stop::Read,
-            RunFault::Write => Stop::Write,
-            RunFault::TooManyTurns => Stop::TooManyTurns,
         }
     }
 

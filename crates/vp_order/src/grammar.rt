@@ -1,0 +1,114 @@
+//! The words that are read.
+use clap::{Arg, Command};
+use std::alloc::{AllocError, Global};
+
+/// The program's version. Its first number is raised where a stream prints other bytes than before.
+const VERSION: &str = "1.0.0";
+
+/// The widths of paper, in dots.
+const WIDTHS: [&str; 2] = ["576", "384"];
+
+/// The languages that can be listed.
+const LANGUAGES: [&str; 2] = ["receipt", "label"];
+
+/// The file that is read.
+fn file<'a>(alloc: Global) -> Arg<'a> {
+    Arg::new(alloc, "FILE").help("What was sent to the printer [default: standard input]")
+}
+
+/// The width of the paper.
+fn width<'a>(alloc: Global) -> Arg<'a> {
+    Arg::new(alloc, "width")
+        .long("width")
+        .value_name("DOTS")
+        .value_parser(WIDTHS.as_slice())
+        .default_value("576")
+        .help("Width of the paper")
+}
+
+/// The file of a sheet.
+fn sheet<'a>(alloc: Global, name: &'a str, help: &'a str) -> Arg<'a> {
+    Arg::new(alloc, name)
+        .long(name)
+        .value_name("FILE")
+        .help(help)
+}
+
+fn font_a<'a>(alloc: Global) -> Arg<'a> {
+    sheet(
+        alloc,
+        "font-a",
+        "Glyph sheet of font A, PBM of 192 by 384 dots",
+    )
+}
+
+fn font_b<'a>(alloc: Global) -> Arg<'a> {
+    sheet(
+        alloc,
+        "font-b",
+        "Glyph sheet of font B, PBM of 144 by 272 dots",
+    )
+}
+
+/// The language of a stream that is listed.
+fn lang<'a>(alloc: Global) -> Arg<'a> {
+    Arg::new(alloc, "lang")
+        .long("lang")
+        .value_name("LANGUAGE")
+        .value_parser(LANGUAGES.as_slice())
+        .required(true)
+        .help("What the stream is written in")
+}
+
+fn receipt<'a>(alloc: Global) -> Result<Command<'a>, AllocError> {
+    Command::new(alloc, "receipt")
+        .about("Prints a receipt (ESC/POS)")
+        .arg(width(alloc))?
+        .arg(font_a(alloc))?
+        .arg(font_b(alloc))?
+        .arg(file(alloc))
+}
+
+fn label<'a>(alloc: Global) -> Result<Command<'a>, AllocError> {
+    Command::new(alloc, "label")
+        .about("Prints labels (ZPL II)")
+        .arg(font_a(alloc))?
+        .arg(file(alloc))
+}
+
+fn list<'a>(alloc: Global) -> Result<Command<'a>, AllocError> {
+    Command::new(alloc, "list")
+        .about("Lists the commands of a stream, a line for each")
+        .arg(lang(alloc))?
+        .arg(file(alloc))
+}
+
+fn join<'a>(alloc: Global) -> Result<Command<'a>, AllocError> {
+    let file = Arg::new(alloc, "FILE")
+        .required(true)
+        .help("Images of one width, as they were printed; read twice");
+    Command::new(alloc, "join")
+        .about("Joins images to one, with all their rows in order")
+        .arg(file)
+}
+
+/// A command with one subcommand more.
+fn with<'a>(
+    command: Command<'a>,
+    subcommand: Result<Command<'a>, AllocError>,
+) -> Result<Command<'a>, AllocError> {
+    command.subcommand(subcommand?)
+}
+
+/// The words that are read.
+pub fn program<'a>(alloc: Global) -> Result<Command<'a>, AllocError> {
+    let command = Command::new(alloc, "vp")
+        .bin_name("vp")?
+        .version(VERSION)
+        .about("A virtual printer: what is printed goes to standard output as PBM images")
+        .subcommand_required(true);
+    let command = with(command, receipt(alloc))?;
+    let command = with(command, label(alloc))?;
+    let command = with(command, list(alloc))?;
+    with(command, join(alloc))
+}
