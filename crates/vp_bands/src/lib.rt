@@ -16,8 +16,6 @@ mod laws;
 mod meeting;
 mod painter;
 mod table;
-#[cfg(test)]
-mod tests;
 mod walk;
 
 pub use laws::{bands_met, looks_bounded};

@@ -27,8 +27,6 @@ mod packing;
 mod patterns;
 mod pen;
 mod strokes;
-#[cfg(test)]
-mod tests;
 mod text;
 
 pub use bar_box::{BarBox, Place};

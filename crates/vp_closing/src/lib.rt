@@ -13,8 +13,6 @@ pub mod laws;
 mod position;
 mod span;
 mod symbol;
-#[cfg(test)]
-mod tests;
 mod text;
 
 pub use field::kept;

@@ -11,8 +11,6 @@
 mod copies;
 mod law;
 mod place;
-#[cfg(test)]
-mod tests;
 
 pub use copies::{BAND_DOTS, Copies};
 pub use law::{copies_law, pending_law, place_law};

@@ -32,8 +32,6 @@ mod place;
 mod single;
 mod span;
 mod store;
-#[cfg(test)]
-mod tests;
 mod word;
 
 use crate::single::paint_moved_dot;

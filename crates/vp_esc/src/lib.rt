@@ -21,8 +21,6 @@ pub mod laws;
 mod line;
 mod qr;
 mod reader;
-#[cfg(test)]
-mod tests;
 mod value;
 
 pub use item::EscItem;

@@ -29,8 +29,6 @@ mod lines;
 mod paint;
 mod picture;
 mod standing;
-#[cfg(test)]
-mod tests;
 mod text;
 mod turning;
 mod view;

@@ -15,8 +15,6 @@ mod law;
 mod reading;
 mod row;
 mod rows;
-#[cfg(test)]
-mod tests;
 
 pub use field::{BarCode, Bars, Block, Content, Field, GraphicBox, Picture, QrSymbol, Span, Text};
 pub use format::{FIELDS, Format, STORED};

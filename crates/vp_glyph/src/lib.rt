@@ -21,8 +21,6 @@ mod lines;
 mod look;
 mod sampled;
 mod sheet;
-#[cfg(test)]
-mod tests;
 
 pub use block::{Alignment, Block};
 pub use cell::{Cell, Font, Style};

@@ -10,8 +10,6 @@ mod gathered;
 mod label;
 pub mod laws;
 mod press;
-#[cfg(test)]
-mod tests;
 
 pub use gathered::{Effect, Gathered};
 pub use label::Label;

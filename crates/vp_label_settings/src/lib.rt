@@ -15,8 +15,6 @@ mod parts;
 mod range;
 mod settings;
 mod size;
-#[cfg(test)]
-mod tests;
 
 pub use choice::{Alignment, BarChoice, BarKind, BarText, FieldBlock, FontChoice, SymbolChoice};
 pub use field::{Content, Field, Position, Stored};

@@ -5,8 +5,6 @@ mod area;
 mod laws;
 mod line;
 mod page;
-#[cfg(test)]
-mod tests;
 
 pub use area::{Area, Direction};
 pub use laws::{dots_fall, marks_and_wipes, rows_make_an_image};

@@ -32,6 +32,3 @@ pub use level::Level;
 pub use qr::{Qr, drawn, encode};
 pub use segment::Mode;
 pub use walk::free_modules_hold_the_codewords;
-
-#[cfg(test)]
-mod tests;

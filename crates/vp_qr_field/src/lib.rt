@@ -4,7 +4,5 @@
 #![tactic(auto)]
 
 mod front;
-#[cfg(test)]
-mod tests;
 
 pub use front::{QrFront, qr_front};

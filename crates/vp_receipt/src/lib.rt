@@ -10,8 +10,6 @@ mod drawn;
 mod laws;
 mod raster_page;
 mod receipt;
-#[cfg(test)]
-mod tests;
 
 pub use laws::{a_row_is_its_bytes, what_is_printed_is_images};
 pub use receipt::Receipt;

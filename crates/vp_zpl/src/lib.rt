@@ -16,8 +16,6 @@ mod line;
 mod name;
 mod part;
 mod reader;
-#[cfg(test)]
-mod tests;
 
 pub use item::{Command, DataBytes, Sent, ZplItem};
 pub use name::Name;

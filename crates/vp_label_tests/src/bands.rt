@@ -1,0 +1,186 @@
+//! Copies of labels of boxes, painted band by band, and the looks that they take.
+ghost use Rattle.std.specs.Prelude.{◌≡◌, ℕ, ◌*◌, ◌≤◌, List, IfOk, None};
+ghost use Rattle.std.specs.List.{All};
+ghost use Rattle.vp_field.specs.Fields.{IsKept};
+ghost use Rattle.vp_bands.specs.Standing.{IsBefore};
+
+use crate::sheets::NONE;
+use std::alloc::Global;
+use std::test::Fail;
+use vp_bands::{BANDS, BandPainter};
+use vp_dots::{Band, Op};
+use vp_field::View;
+use vp_format::{Content, Field, Format, GraphicBox};
+use vp_zpl::item::Orientation;
+
+/// A label of 8 dots in a row.
+fn label(height: u16, inverted: bool) -> View
+    ensures narrow { result.width ≡ 8 }
+    ensures height { result.height ≡ height }
+{
+    View {
+        width: 8,
+        height: u32::from(height),
+        inverted,
+        mirrored: false,
+    }
+}
+
+/// A box that is all ink, of so many dots by so many rows from a row on.
+fn boxed(top: u16, width: u16, height: u16, op: Op) -> Field
+    ensures { (stored : List ℕ) → IsKept stored result }
+{
+    Field {
+        left: 0,
+        top: i64::from(top),
+        orientation: Orientation::Normal,
+        op,
+        content: Content::Box(GraphicBox {
+            width,
+            height,
+            thickness: height,
+        }),
+    }
+}
+
+/// A format of such boxes.
+fn boxes(alloc: Global, all: &[(u16, u16, u16, Op)]) -> Result<Format, Fail>
+    ensures { IfOk result (λ format. All (IsKept format.stored) format.fields) }
+{
+    let mut format = Format::new(alloc)?;
+    for one in all {
+        let (top, width, height, op) = *one;
+        format.close(boxed(top, width, height, op))?;
+    }
+    Ok(format)
+}
+
+/// What a copy shows at its left edge: the first bytes of five of its rows, how many of all rows have a dot
+/// there, and how many looks it took.
+#[derive(Clone, Copy, Debug, PartialEq, Eq)]
+struct Copied {
+    rows: [u8; 5],
+    black: u64,
+    looks: u64,
+}
+
+/// The next copy of a label, with five rows from one on.
+fn copy(
+    painter: &mut BandPainter,
+    format: &Format,
+    view: View,
+    from: usize,
+    band: &mut Band<156, 32>,
+) -> Copied
+    requires narrow { view.width ≤ 1248 }
+    requires low { view.height ≤ 32 * BANDS }
+    requires from { from ≤ 8000 }
+    requires before { IsBefore (record { a = None; b = None }) format.now.stored view 0 painter.old }
+    ensures { IsBefore (record { a = None; b = None }) format.now.stored view 0 painter.new }
+{
+    let mut rows = [0; 5];
+    let mut black = 0u64;
+    for b in 0..view.height.div_ceil(32) as usize {
+        painter.paint(b, &NONE, format.stored(), view, band);
+        for k in 0..32 {
+            let byte = band.row(k)[0];
+            black = black.saturating_add(u64::from(byte != 0));
+            if 32 * b + k >= from && 32 * b + k < from + 5 {
+                rows[32 * b + k - from] = byte;
+            }
+        }
+    }
+    let looks = painter.looks();
+    painter.start();
+    Copied { rows, black, looks }
+}
+
+/// The first and the second copy of a label with such boxes.
+fn copies(
+    alloc: Global,
+    all: &[(u16, u16, u16, Op)],
+    view: View,
+    from: usize,
+) -> Result<[Copied; 2], Fail>
+    requires narrow { view.width ≤ 1248 }
+    requires low { view.height ≤ 32 * BANDS }
+    requires from { from ≤ 8000 }
+{
+    let format = boxes(alloc, all)?;
+    let mut band = Band::new(alloc)?;
+    let mut painter = BandPainter::new(alloc)?;
+    painter.thread(&NONE, &format, view);
+    let first = copy(&mut painter, &format, view, from, &mut band);
+    let second = copy(&mut painter, &format, view, from, &mut band);
+    Ok([first, second])
+}
+
+/// Five pairs of a box and a band.
+const OVER_THE_END: [(u16, u16, u16, Op); 3] = [
+    (30, 8, 4, Op::Black),
+    (32, 8, 1, Op::White),
+    (31, 4, 3, Op::Flip),
+];
+
+#[test]
+fn boxes_over_the_end_of_a_band(rt: HostRuntime) -> Result<(), Fail> {
+    for copied in copies(rt.alloc(), &OVER_THE_END, label(34, false), 29)? {
+        assert_eq!(rt; copied.rows, [0, 0xff, 0x0f, 0xf0, 0x0f]);
+        assert_eq!(rt; copied.black, 4);
+        assert!(rt; copied.looks >= 5 && copied.looks <= 12);
+    }
+    Ok(())
+}
+
+#[test]
+fn boxes_on_a_label_upside_down(rt: HostRuntime) -> Result<(), Fail> {
+    for copied in copies(rt.alloc(), &OVER_THE_END, label(34, true), 0)? {
+        assert_eq!(rt; copied.rows, [0xf0, 0x0f, 0xf0, 0xff, 0]);
+        assert_eq!(rt; copied.black, 4);
+        assert!(rt; copied.looks >= 3 && copied.looks <= 8);
+    }
+    Ok(())
+}
+
+#[test]
+fn a_thousand_boxes_on_one_row(rt: HostRuntime) -> Result<(), Fail> {
+    let all = [(0, 8, 1, Op::Black); 1000];
+    for copied in copies(rt.alloc(), &all, label(8000, false), 0)? {
+        assert_eq!(rt; copied.rows, [0xff, 0, 0, 0, 0]);
+        assert_eq!(rt; copied.black, 1);
+        assert!(rt; copied.looks >= 1000 && copied.looks <= 2250);
+    }
+    Ok(())
+}
+
+#[test]
+fn boxes_behind_the_label(rt: HostRuntime) -> Result<(), Fail> {
+    let all = [(100, 8, 1, Op::Black), (34, 8, 1, Op::Black)];
+    for copied in copies(rt.alloc(), &all, label(34, false), 0)? {
+        assert_eq!(rt; copied.black, 0);
+        assert!(rt; copied.looks <= 2);
+    }
+    Ok(())
+}
+
+#[test]
+fn a_box_without_a_width(rt: HostRuntime) -> Result<(), Fail> {
+    for copied in copies(rt.alloc(), &[(0, 0, 34, Op::Black)], label(34, false), 0)? {
+        assert_eq!(rt; copied.black, 0);
+        assert!(rt; copied.looks >= 2 && copied.looks <= 6);
+    }
+    Ok(())
+}
+
+#[test]
+fn the_order_of_closing(rt: HostRuntime) -> Result<(), Fail> {
+    let black_first = [(32, 8, 1, Op::Black), (0, 8, 64, Op::Flip)];
+    for copied in copies(rt.alloc(), &black_first, label(64, false), 30)? {
+        assert_eq!(rt; copied.rows, [0xff, 0xff, 0, 0xff, 0xff]);
+    }
+    let black_last = [(0, 8, 64, Op::Flip), (32, 8, 1, Op::Black)];
+    for copied in copies(rt.alloc(), &black_last, label(64, false), 30)? {
+        assert_eq!(rt; copied.rows, [0xff; 5]);
+    }
+    Ok(())
+}

@@ -1,0 +1,290 @@
+//! Fields as they are kept, and what is refused.
+ghost use Rattle.std.specs.Prelude.{◌≡◌, ◌≤◌, ◌<◌, length};
+ghost use Rattle.vp_label_settings.specs.Laws.{IsDrawable, HasBytesAmong};
+
+use crate::sheets::NONE;
+use std::test::Fail;
+use vp_bars::Place;
+use vp_closing::kept;
+use vp_dots::{Fault, Op, Why};
+use vp_format::{STORED, Span};
+use vp_label_settings::{
+    Alignment, BarKind, BarText, CharacterSize, Coding, Content, Field, FieldBlock, PictureHead,
+    Position, Stored,
+};
+use vp_qr::{Level, Mode};
+use vp_zpl::item::{Code128Mode, LineSpace, Orientation};
+
+/// All stored bytes.
+fn all(stored: &[u8]) -> Stored
+    requires { length stored.now ≤ STORED }
+    ensures start { result.start ≡ 0 }
+    ensures count { result.length ≡ length stored.now }
+{
+    Stored {
+        start: 0,
+        length: stored.len() as u32,
+    }
+}
+
+/// A black field at a place, or why it is refused.
+fn black(
+    stored: &[u8],
+    position: Position,
+    orientation: Orientation,
+    content: Content,
+) -> Result<vp_format::Field, Fault>
+    requires drawable { IsDrawable content }
+    requires among { HasBytesAmong (length stored.now) content }
+    requires few { length stored.now ≤ STORED }
+{
+    let field = Field {
+        position,
+        orientation,
+        operation: Op::Black,
+        content,
+    };
+    kept(&NONE, stored, &field)
+}
+
+/// What is kept of a content, or why it is refused.
+fn content(stored: &[u8], content: Content) -> Result<vp_format::Content, Fault>
+    requires drawable { IsDrawable content }
+    requires among { HasBytesAmong (length stored.now) content }
+    requires few { length stored.now ≤ STORED }
+{
+    let corner = Position::Corner { x: 0, y: 0 };
+    Ok(black(stored, corner, Orientation::Normal, content)?.content)
+}
+
+/// Bars of data.
+fn bars(kind: BarKind, text: BarText, stored: &[u8]) -> Result<vp_format::Content, Fault>
+    requires { length stored.now ≤ STORED }
+{
+    content(
+        stored,
+        Content::Bars {
+            kind,
+            narrow: 2,
+            wide: 4,
+            height: 10,
+            text,
+            bytes: all(stored),
+        },
+    )
+}
+
+/// The first row of another answer.
+fn wrong_bars(rows: &[(BarKind, &[u8], Result<(), Fault>)]) -> Option<usize> {
+    for i in 0..rows.len() {
+        let (kind, data, want) = rows[i];
+        if data.len() > STORED {
+            return Some(i);
+        }
+        let got = match bars(kind, BarText::Below, data) {
+            Ok(_) => Ok(()),
+            Err(why) => Err(why),
+        };
+        if got != want {
+            return Some(i);
+        }
+    }
+    None
+}
+
+/// Bars whose kind isn't drawn, then those without data, then the first offence.
+#[test]
+fn bar_codes(rt: HostRuntime) -> Result<(), Fail> {
+    let plain = BarKind::Code128 { mode: None };
+    let ucc_case = BarKind::Code128 {
+        mode: Some(Code128Mode::UccCase),
+    };
+    let ucc_ean = BarKind::Code128 {
+        mode: Some(Code128Mode::UccEan),
+    };
+    let packed = BarKind::Code128 {
+        mode: Some(Code128Mode::Automatic),
+    };
+    let unchecked = BarKind::Code39 { check: false };
+    let rows = [
+        (
+            ucc_case,
+            b"".as_slice(),
+            Err(Fault::Symbol(Why::Unsupported)),
+        ),
+        (
+            ucc_ean,
+            b"1".as_slice(),
+            Err(Fault::Symbol(Why::Unsupported)),
+        ),
+        (plain, b"".as_slice(), Err(Fault::Symbol(Why::Empty))),
+        (plain, b">;1A".as_slice(), Err(Fault::Symbol(Why::Empty))),
+        (plain, b"A>9".as_slice(), Err(Fault::Symbol(Why::CodeSet))),
+        (plain, b">;123".as_slice(), Ok(())),
+        (packed, b"A>9".as_slice(), Ok(())),
+        (unchecked, b"**".as_slice(), Err(Fault::Symbol(Why::Empty))),
+        (unchecked, b"a".as_slice(), Err(Fault::Symbol(Why::Char))),
+        (unchecked, &[b'A'; 256], Err(Fault::SymbolTooLong)),
+        (BarKind::Ean13, b"1".as_slice(), Ok(())),
+        (
+            BarKind::Ean13,
+            b"1 ".as_slice(),
+            Err(Fault::Symbol(Why::Char)),
+        ),
+    ];
+    assert_eq!(rt; wrong_bars(&rows), None);
+    Ok(())
+}
+
+/// The text above bars is one more.
+#[test]
+fn bar_texts(rt: HostRuntime) -> Result<(), Fail> {
+    let code = vp_format::BarCode::Code39 { check: true };
+    let places = [
+        (BarText::Omitted, Place::None),
+        (BarText::Below, Place::Below),
+        (BarText::Above, Place::Above),
+    ];
+    for (text, place) in places.iter() {
+        let kept = vp_format::Bars {
+            bytes: Span { start: 0, len: 1 },
+            code,
+            narrow: 2,
+            wide: 4,
+            height: 10,
+            place: *place,
+        };
+        let kind = BarKind::Code39 { check: true };
+        assert_eq!(rt; bars(kind, *text, b"1"), Ok(vp_format::Content::Bars(kept)));
+    }
+    Ok(())
+}
+
+/// A QR symbol of data.
+fn qr(model: u16, stored: &[u8]) -> Result<vp_format::Content, Fault>
+    requires low { 1 ≤ model }
+    requires high { model ≤ 2 }
+    requires few { length stored.now ≤ STORED }
+{
+    content(
+        stored,
+        Content::Qr {
+            model,
+            module_dots: 3,
+            bytes: all(stored),
+        },
+    )
+}
+
+/// A QR symbol is refused for its model, then for want of data, then by its front, then by its bytes.
+#[test]
+fn qr_codes(rt: HostRuntime) -> Result<(), Fail> {
+    assert_eq!(rt; qr(1, b""), Err(Fault::Symbol(Why::Unsupported)));
+    assert_eq!(rt; qr(2, b""), Err(Fault::Symbol(Why::Empty)));
+    assert_eq!(rt; qr(2, b"XA,1"), Err(Fault::Symbol(Why::CodeSet)));
+    assert_eq!(rt; qr(2, b"HM,N1A"), Err(Fault::Symbol(Why::Char)));
+    assert_eq!(rt; qr(2, b"HA,"), Err(Fault::Symbol(Why::Empty)));
+    let kept = vp_format::QrSymbol {
+        bytes: Span { start: 3, len: 11 },
+        level: Level::M,
+        mode: Mode::Auto,
+        module: 3,
+        version: 1,
+        mask: 0,
+    };
+    assert_eq!(rt; qr(2, b"MA,HELLO WORLD"), Ok(vp_format::Content::Qr(kept)));
+    Ok(())
+}
+
+/// A picture of codes.
+fn picture(row_bytes: u16, rows: u32, stored: &[u8]) -> Result<(), Fault>
+    requires some { 1 ≤ row_bytes }
+    requires short { row_bytes ≤ 1024 }
+    requires rows { 1 ≤ rows }
+    requires few { length stored.now ≤ STORED }
+{
+    let head = PictureHead {
+        coding: Coding::Ascii,
+        row_bytes,
+        rows,
+    };
+    let bytes = all(stored);
+    let _ = content(stored, Content::Picture { head, bytes })?;
+    Ok(())
+}
+
+/// Codes are refused in any row, and not behind the last one.
+#[test]
+fn pictures(rt: HostRuntime) -> Result<(), Fail> {
+    assert_eq!(rt; picture(1, 2, b":Z64:x"), Err(Fault::Graphic));
+    assert_eq!(rt; picture(2, 2, b"FFFF8:"), Err(Fault::Graphic));
+    assert_eq!(rt; picture(1, 1, b"80:x"), Ok(()));
+    assert_eq!(rt; picture(1, 2, b"80G"), Err(Fault::Graphic));
+    assert_eq!(rt; picture(1, 1, b"80G"), Ok(()));
+    assert_eq!(rt; picture(1, 99_999_999, b"zz0"), Ok(()));
+    Ok(())
+}
+
+/// The corner of a text of two cells of 12 by 30 dots.
+fn corner(position: Position, orientation: Orientation) -> Result<(i64, i64), Fault> {
+    let stored = b"xAB";
+    let text = Content::Text {
+        size: CharacterSize {
+            height: 30,
+            width: 12,
+        },
+        block: None,
+        bytes: Stored {
+            start: 1,
+            length: 2,
+        },
+    };
+    let field = black(stored, position, orientation, text)?;
+    Ok((field.left, field.top))
+}
+
+/// ^FO gives the corner of the turned box, ^FT the lower left corner of the text as it is read.
+#[test]
+fn corners(rt: HostRuntime) -> Result<(), Fail> {
+    let typeset = Position::Baseline { x: 10, y: 200 };
+    let origin = Position::Corner { x: 10, y: 200 };
+    assert_eq!(rt; corner(typeset, Orientation::Normal), Ok((10, 170)));
+    assert_eq!(rt; corner(typeset, Orientation::Rotated), Ok((10, 200)));
+    assert_eq!(rt; corner(typeset, Orientation::Inverted), Ok((-14, 200)));
+    assert_eq!(rt; corner(typeset, Orientation::BottomUp), Ok((-20, 176)));
+    assert_eq!(rt; corner(origin, Orientation::BottomUp), Ok((10, 200)));
+    Ok(())
+}
+
+/// Deleted dots bring the lines of a block nearer.
+#[test]
+fn blocks(rt: HostRuntime) -> Result<(), Fail> {
+    let size = CharacterSize {
+        height: 9,
+        width: 5,
+    };
+    let block = FieldBlock {
+        width: 100,
+        lines: 3,
+        space: LineSpace::Deleted(4),
+        alignment: Alignment::Right,
+    };
+    let asked = Content::Text {
+        size,
+        block: Some(block),
+        bytes: all(b"a b"),
+    };
+    let kept = vp_format::Block {
+        text: vp_format::Text {
+            bytes: Span { start: 0, len: 3 },
+            width: 5,
+            height: 9,
+        },
+        width: 100,
+        lines: 3,
+        gap: -4,
+        alignment: vp_glyph::Alignment::Right,
+    };
+    assert_eq!(rt; content(b"a b", asked), Ok(vp_format::Content::Block(kept)));
+    Ok(())
+}

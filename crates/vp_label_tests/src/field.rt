@@ -1,0 +1,105 @@
+//! Fields painted on bands, row by row.
+ghost use Rattle.std.specs.Prelude.{◌≡◌, ◌≤◌, length};
+ghost use Rattle.vp_field.specs.Fields.{IsKept};
+
+mod boxes;
+mod pictures;
+mod symbols;
+mod texts;
+
+use std::alloc::Global;
+use std::process::Abort;
+use std::test::Fail;
+use vp_dots::Band;
+use vp_field::{View, clear, cut, paint_field};
+use vp_format::{Field, Span};
+use vp_glyph::Sheets;
+
+/// A label that is put out as it is.
+fn plain(width: u16, height: u16) -> View {
+    View {
+        width: u32::from(width),
+        height: u32::from(height),
+        inverted: false,
+        mirrored: false,
+    }
+}
+
+/// The first stored bytes.
+fn whole(stored: &[u8]) -> Span
+    requires { length stored.now ≤ 100 }
+    ensures { result ≡ record { start = 0; len = length stored.now } }
+{
+    Span {
+        start: 0,
+        len: stored.len() as u32,
+    }
+}
+
+/// The first bytes of the rows of a band after fields are painted, one after the other.
+#[derive(Drop)]
+struct Painter {
+    view: View,
+    first: u32,
+    band: Band<156, 32>,
+}
+
+impl Painter {
+    fn new(alloc: Global, view: View, first: u32) -> Result<Painter, Fail> {
+        let mut band = Band::new(alloc)?;
+        clear(&mut band);
+        Ok(Painter { view, first, band })
+    }
+
+    fn paint(&mut self, sheets: &Sheets, stored: &[u8], field: &Field)
+        requires { IsKept stored.now field.now }
+    {
+        let _ = paint_field(
+            sheets,
+            stored,
+            field,
+            None,
+            self.view,
+            self.first,
+            &mut self.band,
+        );
+    }
+
+    fn rows(mut self) -> [[u8; 6]; 32] {
+        let width = self.view.width.min(1248);
+        cut(View { width, ..self.view }, self.first, &mut self.band);
+        let mut rows = [[0; 6]; 32];
+        for y in 0..32 {
+            rows[y].copy_from_slice(&self.band.row(y)[..6]);
+        }
+        rows
+    }
+}
+
+/// Rows of a band from the top, so many that begin alike and go on white; below them it is white.
+type Rows = &'static [(usize, [u8; 6])];
+
+/// A band shows these rows.
+fn shows(rt: &impl Abort, painter: Painter, name: &str, want: Rows) {
+    let rows = painter.rows();
+    let mut rest = rows.iter();
+    for (count, row) in want {
+        for _ in 0..*count {
+            assert_eq!(rt; rest.next(), Some(row), "{name}");
+        }
+    }
+    for row in rest {
+        assert_eq!(rt; *row, [0; 6], "{name}");
+    }
+}
+
+/// A label's width and its rows, and whether it is put out inverted, and mirrored.
+type Label = (u16, u16, bool, bool);
+
+fn view_of((width, height, inverted, mirrored): Label) -> View {
+    View {
+        inverted,
+        mirrored,
+        ..plain(width, height)
+    }
+}

@@ -1,0 +1,95 @@
+//! Pictures over several bands.
+ghost use Rattle.std.specs.Prelude.{◌≤◌, length};
+ghost use Rattle.vp_field.specs.Fields.{IsKept};
+
+use super::{plain, whole};
+use crate::sheets::NONE;
+use std::alloc::Global;
+use std::test::Fail;
+use vp_dots::{Band, Op};
+use vp_field::{View, clear, cut, paint_field};
+use vp_format::{Coding, Content, Field, Picture, binary_law};
+use vp_zpl::item::Orientation;
+
+/// A picture of rows of one byte in the label's first column.
+fn picture(top: i8, rows: u8, op: Op, stored: &[u8]) -> Field
+    requires { length stored.now ≤ 100 }
+    ensures { IsKept stored.now result }
+{
+    binary_law();
+    Field {
+        op,
+        left: 0,
+        top: i64::from(top),
+        orientation: Orientation::Rotated,
+        content: Content::Picture(Picture {
+            codes: whole(stored),
+            coding: Coding::Binary,
+            row_bytes: 1,
+            rows: u32::from(rows),
+        }),
+    }
+}
+
+/// The first byte of each row of four bands of a label of 8 dots that shows a picture. Its mark is kept from
+/// band to band, or there is none.
+fn over_bands(
+    alloc: Global,
+    view: View,
+    keeps: bool,
+    field: &Field,
+    stored: &[u8],
+) -> Result<[u8; 128], Fail>
+    requires { IsKept stored.now field.now }
+{
+    let view = View { width: 8, ..view };
+    let mut bytes = [0; 128];
+    let mut mark = None;
+    for b in 0..4u8 {
+        let first = 32 * u32::from(b);
+        let mut band = Band::new(alloc)?;
+        clear(&mut band);
+        mark = paint_field(&NONE, stored, field, mark, view, first, &mut band);
+        if !keeps {
+            mark = None;
+        }
+        cut(view, first, &mut band);
+        for k in 0..32u8 {
+            bytes[usize::from(32 * b + k)] = band.row(usize::from(k))[0];
+        }
+    }
+    Ok(bytes)
+}
+
+#[test]
+fn pictures(rt: HostRuntime) -> Result<(), Fail> {
+    let mut stored = [0x81u8; 100];
+    for y in 0..70u8 {
+        stored[usize::from(y)] = y;
+    }
+    for (inverted, mirrored) in [(false, false), (true, false), (false, true), (true, true)] {
+        let view = View {
+            inverted,
+            mirrored,
+            ..plain(8, 128)
+        };
+        for keeps in [false, true] {
+            let field = picture(30, 80, Op::Black, &stored);
+            let bytes = over_bands(rt.alloc(), view, keeps, &field, &stored)?;
+            for y in 0..128u8 {
+                let v = if inverted { 127 - y } else { y };
+                let byte = match v.wrapping_sub(30) {
+                    r if r < 80 => stored[usize::from(r)],
+                    _ => 0,
+                };
+                let want = if inverted == mirrored {
+                    byte
+                } else {
+                    byte.reverse_bits()
+                };
+                assert_eq!(rt; bytes[usize::from(y)], want);
+            }
+        }
+    }
+    Ok(())
+}

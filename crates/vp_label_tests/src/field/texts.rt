@@ -1,0 +1,236 @@
+//! Texts and blocks of lines, in each orientation.
+ghost use Rattle.std.specs.Prelude.{◌≤◌, length};
+ghost use Rattle.vp_field.specs.Fields.{IsKept};
+
+use super::{Label, Painter, Rows, shows, view_of, whole};
+use crate::sheets::stairs;
+use std::test::Fail;
+use vp_dots::Op;
+use vp_format::{Block, Content, Field, Text};
+use vp_glyph::Alignment;
+use vp_zpl::item::Orientation;
+
+/// A text of cells of 12 by 24 in the label's first row.
+fn text(orientation: Orientation, left: i8, stored: &[u8]) -> Field
+    requires { length stored.now ≤ 100 }
+    ensures { IsKept stored.now result }
+{
+    Field {
+        op: Op::Black,
+        left: i64::from(left),
+        top: 0,
+        orientation,
+        content: Content::Text(Text {
+            bytes: whole(stored),
+            width: 12,
+            height: 24,
+        }),
+    }
+}
+
+/// A block of 24 dots at the label's corner.
+fn block(orientation: Orientation, stored: &[u8], lines: u8, alignment: Alignment) -> Field
+    requires { length stored.now ≤ 100 }
+    ensures { IsKept stored.now result }
+{
+    Field {
+        op: Op::Black,
+        left: 0,
+        top: 0,
+        orientation,
+        content: Content::Block(Block {
+            text: Text {
+                bytes: whole(stored),
+                width: 12,
+                height: 24,
+            },
+            width: 24,
+            lines: u16::from(lines),
+            gap: 0,
+            alignment,
+        }),
+    }
+}
+
+/// A text in each orientation, by its left edge, on a label of so many dots and rows.
+struct TextRow {
+    letters: &'static [u8],
+    orientation: Orientation,
+    left: i8,
+    label: Label,
+    rows: Rows,
+}
+
+static TEXT_ROWS: &[TextRow] = &[
+    TextRow {
+        letters: b"M",
+        orientation: Orientation::Normal,
+        left: 0,
+        label: (16, 24, false, false),
+        rows: &[(24, [0xff, 0xf0, 0, 0, 0, 0])],
+    },
+    TextRow {
+        letters: b"B",
+        orientation: Orientation::Rotated,
+        left: 0,
+        label: (24, 12, false, false),
+        rows: &[(1, [0xff, 0xff, 0xff, 0, 0, 0])],
+    },
+    TextRow {
+        letters: b"B",
+        orientation: Orientation::BottomUp,
+        left: 0,
+        label: (24, 12, false, false),
+        rows: &[(11, [0; 6]), (1, [0xff, 0xff, 0xff, 0, 0, 0])],
+    },
+    TextRow {
+        letters: b"B",
+        orientation: Orientation::Inverted,
+        left: 0,
+        label: (24, 12, false, false),
+        rows: &[(12, [0, 0x10, 0, 0, 0, 0])],
+    },
+    TextRow {
+        letters: b"B",
+        orientation: Orientation::Normal,
+        left: 0,
+        label: (24, 12, false, false),
+        rows: &[(12, [0x80, 0, 0, 0, 0, 0])],
+    },
+    // past the left edge
+    TextRow {
+        letters: b"NMNMB",
+        orientation: Orientation::Normal,
+        left: -30,
+        label: (40, 24, false, false),
+        rows: &[(24, [0x03, 0xff, 0xe0, 0, 0, 0])],
+    },
+];
+
+#[test]
+fn texts(rt: HostRuntime) -> Result<(), Fail> {
+    let sheets = stairs(rt.alloc())?;
+    for case in TEXT_ROWS {
+        let letters = case.letters;
+        assert!(rt; letters.len() <= 100);
+        let mut page = Painter::new(rt.alloc(), view_of(case.label), 0)?;
+        page.paint(
+            &sheets,
+            letters,
+            &text(case.orientation, case.left, letters),
+        );
+        shows(&rt, page, "a text", case.rows);
+    }
+    Ok(())
+}
+
+/// A block of 24 dots, and a band of the label that it is on.
+struct BlockRow {
+    letters: &'static [u8],
+    orientation: Orientation,
+    lines: u8,
+    alignment: Alignment,
+    label: Label,
+    first: u32,
+    rows: Rows,
+}
+
+const FULL: [u8; 6] = [0xff, 0xff, 0xff, 0, 0, 0];
+
+static BLOCK_ROWS: &[BlockRow] = &[
+    BlockRow {
+        letters: b"MM M",
+        orientation: Orientation::Normal,
+        lines: 2,
+        alignment: Alignment::Right,
+        label: (24, 48, false, false),
+        first: 0,
+        rows: &[(24, FULL), (8, [0, 0x0f, 0xff, 0, 0, 0])],
+    },
+    BlockRow {
+        letters: b"MM M",
+        orientation: Orientation::Normal,
+        lines: 2,
+        alignment: Alignment::Right,
+        label: (24, 48, false, false),
+        first: 32,
+        rows: &[(16, [0, 0x0f, 0xff, 0, 0, 0])],
+    },
+    BlockRow {
+        letters: b"MM M",
+        orientation: Orientation::Normal,
+        lines: 1,
+        alignment: Alignment::Left,
+        label: (24, 48, false, false),
+        first: 0,
+        rows: &[(24, FULL), (8, [0; 6])],
+    },
+    BlockRow {
+        letters: b"MM M",
+        orientation: Orientation::Normal,
+        lines: 1,
+        alignment: Alignment::Left,
+        label: (24, 48, false, false),
+        first: 32,
+        rows: &[(16, [0; 6])],
+    },
+    BlockRow {
+        letters: b"M\\&MM",
+        orientation: Orientation::Normal,
+        lines: 2,
+        alignment: Alignment::Centre,
+        label: (24, 48, false, false),
+        first: 0,
+        rows: &[(24, [0x03, 0xff, 0xc0, 0, 0, 0]), (8, FULL)],
+    },
+    BlockRow {
+        letters: b"M\\&MM",
+        orientation: Orientation::Normal,
+        lines: 2,
+        alignment: Alignment::Centre,
+        label: (24, 48, false, false),
+        first: 32,
+        rows: &[(16, FULL)],
+    },
+    BlockRow {
+        letters: b"MMM",
+        orientation: Orientation::Normal,
+        lines: 2,
+        alignment: Alignment::Left,
+        label: (24, 48, false, false),
+        first: 0,
+        rows: &[(24, FULL), (8, [0xff, 0xf0, 0, 0, 0, 0])],
+    },
+    BlockRow {
+        letters: b"MMM",
+        orientation: Orientation::Normal,
+        lines: 2,
+        alignment: Alignment::Left,
+        label: (24, 48, false, false),
+        first: 32,
+        rows: &[(16, [0xff, 0xf0, 0, 0, 0, 0])],
+    },
+    BlockRow {
+        letters: b"MM M",
+        orientation: Orientation::Rotated,
+        lines: 2,
+        alignment: Alignment::Right,
+        label: (48, 24, false, false),
+        first: 0,
+        rows: &[(12, [0, 0, 0, 0xff, 0xff, 0xff]), (12, [0xff; 6])],
+    },
+];
+
+#[test]
+fn blocks(rt: HostRuntime) -> Result<(), Fail> {
+    let sheets = stairs(rt.alloc())?;
+    for case in BLOCK_ROWS {
+        let letters = case.letters;
+        assert!(rt; letters.len() <= 100);
+        let field = block(case.orientation, letters, case.lines, case.alignment);
+        let mut page = Painter::new(rt.alloc(), view_of(case.label), case.first)?;
+        page.paint(&sheets, letters, &field);
+        shows(&rt, page, "a block", case.rows);
+    }
+    Ok(())
+}

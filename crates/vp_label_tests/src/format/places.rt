@@ -1,0 +1,126 @@
+//! Each short code against a reader that looks at each place alone.
+ghost use Rattle.std.specs.Prelude.{◌≡◌, ◌<◌, ◌≤◌, ◌^◌, length, if◌then◌else◌, None, Some, IfSome};
+ghost use Rattle.vp_format.specs.Codes.{code_of, symbols_behind};
+ghost use Rattle.vp_format.specs.Pictures.{shown, is_nothing, value_of};
+ghost use Rattle.vp_label_tests.specs.Codes.{told};
+
+use vp_dots::Fault;
+use vp_format::{Coding, RunRows};
+
+/// What a byte of the codes is: a count, else a digit, else a digit up to the row's end, else whether it is
+/// the row before once more.
+type Told = (Option<u16>, Option<u8>, Option<u8>, bool);
+
+/// What a byte of the codes is, by the ranges that it may lie in.
+#[tactic(auto, unfolding(vp_format::specs::Codes::code_of))]
+fn told(b: u8) -> Told
+    ensures code { told result.0 result.1 result.2 result.3 ≡ code_of b }
+    ensures small { IfSome result.0 (λ n. n ≤ 400) }
+{
+    match b {
+        b'0'..=b'9' => (None, Some(b - b'0'), None, false),
+        b'A'..=b'F' => (None, Some(b - b'A' + 10), None, false),
+        b'a'..=b'f' => (None, Some(b - b'a' + 10), None, false),
+        b'G'..=b'Y' => (Some(u16::from(b - b'F')), None, None, false),
+        b'g'..=b'z' => (Some(20 * u16::from(b - b'f')), None, None, false),
+        b',' => (None, None, Some(0), false),
+        b'!' => (None, None, Some(15), false),
+        b':' => (None, None, None, true),
+        _ => (None, None, None, false),
+    }
+}
+
+/// The value of a place in rows of so many places, where the place above has another, by the codes from the
+/// first on; none where its symbol is refused.
+fn value_of_place(codes: &[u8], width: u128, place: u128, above: u8) -> Option<u8>
+    requires some { 0 < width }
+    requires small { width < 2 ^ 32 }
+    requires near { place < 2 ^ 32 }
+    requires few { length codes.now < 2 ^ 32 }
+    ensures { result ≡ (if is_nothing (shown width 0 (symbols_behind codes.now 0 0) place) then None
+        else Some (value_of (shown width 0 (symbols_behind codes.now 0 0) place) above)) }
+{
+    let mut start: u128 = 0;
+    let mut count: u128 = 0;
+    for i in 0..codes.len() {
+        let (counted, digit, filled, is_above) = told(codes[i]);
+        if let Some(n) = counted {
+            count += n as u128;
+            continue;
+        }
+        let row_end = (start / width + 1) * width;
+        let (end, value) = match (digit, filled) {
+            (Some(v), _) => (start + count.max(1), Some(v)),
+            (None, Some(v)) if count == 0 => (row_end, Some(v)),
+            (None, None) if is_above && count == 0 && start % width == 0 => (row_end, Some(above)),
+            _ => (row_end, None),
+        };
+        if place < end {
+            return value;
+        }
+        start = end;
+        count = 0;
+    }
+    if count > 0 && place < (start / width + 1) * width {
+        return None;
+    }
+    Some(0)
+}
+
+/// Whether a picture of three rows of one or two bytes reads row by row, and from a mark on before each row,
+/// as its places do one by one.
+fn reads_by_places(codes: &[u8], row_bytes: usize) -> bool
+    requires some { 0 < row_bytes }
+    requires narrow { row_bytes ≤ 2 }
+    requires few { length codes.now < 2 ^ 32 }
+{
+    let mut cursor = RunRows::new(codes, Coding::RunLength, row_bytes, 3);
+    let mut above = [0; 4];
+    for y in 0..3 {
+        let mark = cursor.mark();
+        let mut row = [0; 2];
+        let read = cursor.next_row(&mut row[..row_bytes]);
+        let mut marked = [0; 2];
+        let resumed = RunRows::resume(codes, Coding::RunLength, row_bytes, 3, mark).next_row(
+            &mut marked[..row_bytes],
+        );
+        if read != resumed {
+            return false;
+        }
+        for x in 0..2 * row_bytes {
+            let place = 2 * row_bytes * y + x;
+            let Some(v) = value_of_place(codes, 2 * row_bytes as u128, place as u128, above[x])
+            else {
+                return read == Err(Fault::Graphic);
+            };
+            above[x] = v;
+        }
+        if read != Ok(true) || row != marked {
+            return false;
+        }
+        for i in 0..row_bytes {
+            if row[i] as u32 != 16 * above[2 * i] as u32 + above[2 * i + 1] as u32 {
+                return false;
+            }
+        }
+    }
+    true
+}
+
+#[test]
+fn each_short_code(rt: HostRuntime) {
+    let alphabet = *b"0FGg,!: x";
+    let powers: [u32; 5] = [9, 81, 729, 6561, 59049];
+    for len in 1..6 {
+        for number in 0..powers[len - 1] {
+            let mut codes = [0; 5];
+            let mut rest = number;
+            for i in 0..len {
+                codes[i] = alphabet[(rest % 9) as usize];
+                rest /= 9;
+            }
+            assert!(rt; reads_by_places(&codes[..len], 1));
+            assert!(rt; reads_by_places(&codes[..len], 2));
+        }
+    }
+}

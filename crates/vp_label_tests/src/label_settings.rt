@@ -1,0 +1,171 @@
+//! Streams, what is in force behind them, and the fields that they close.
+mod contents;
+mod places;
+mod symbols;
+mod texts;
+
+use std::alloc::{AllocError, Global};
+use std::test::Fail;
+use vp_label_settings::{Content, Field, Home, InForce, STORE, Settings, Stored};
+use vp_zpl::{Command, ZplItem, ZplReader};
+
+/// The first stored byte.
+const ONE: Stored = Stored {
+    start: 0,
+    length: 1,
+};
+
+/// What is in force behind a stream, and the fields that it closed, in their order.
+fn run(alloc: Global, stream: &[u8]) -> Result<(InForce, Vec<Field>), AllocError> {
+    let mut reader = ZplReader::new();
+    let mut now = InForce::new();
+    let mut fields = Vec::new(alloc);
+    for byte in stream {
+        match reader.take(*byte) {
+            None => {}
+            Some(ZplItem::Data(bytes)) => {
+                if now.has_room(bytes.as_slice()) {
+                    now.store(bytes.as_slice());
+                }
+            }
+            Some(ZplItem::Command(sent)) => {
+                if let Command::FieldSeparator | Command::FormatEnd = sent.command {
+                    if let Some(field) = now.closing() {
+                        fields.push(field)?;
+                    }
+                }
+                now.obey(sent.command);
+            }
+        }
+    }
+    Ok((now, fields))
+}
+
+/// What is in force behind a stream.
+fn in_force(alloc: Global, stream: &[u8]) -> Result<InForce, AllocError> {
+    let (now, _) = run(alloc, stream)?;
+    Ok(now)
+}
+
+/// The last field that a stream closes.
+fn last(alloc: Global, stream: &[u8]) -> Result<Option<Field>, AllocError> {
+    let (_, fields) = run(alloc, stream)?;
+    Ok(fields.as_slice().last().copied())
+}
+
+/// Whether a stream closes a field of this content last, or none where none is wanted.
+fn closes(alloc: Global, stream: &[u8], want: Option<Content>) -> Result<bool, AllocError> {
+    let found = match last(alloc, stream)? {
+        Some(field) => Some(field.content),
+        None => None,
+    };
+    Ok(found == want)
+}
+
+/// The first row behind whose stream these settings aren't in force, or other bytes are stored.
+fn wrong_settings(
+    alloc: Global,
+    rows: &[(&[u8], Settings, u32)],
+) -> Result<Option<usize>, AllocError> {
+    for i in 0..rows.len() {
+        let (stream, settings, stored) = rows[i];
+        let found = in_force(alloc, stream)?;
+        if found.settings != settings || found.stored != stored {
+            return Ok(Some(i));
+        }
+    }
+    Ok(None)
+}
+
+/// The settings at the start, with these sizes of a label.
+fn label(print_width: u16, label_length: u16) -> Settings {
+    Settings {
+        print_width,
+        label_length,
+        ..Settings::new()
+    }
+}
+
+/// The same with a quantity.
+fn copies(quantity: u32) -> Settings {
+    Settings {
+        quantity,
+        ..Settings::new()
+    }
+}
+
+/// A command that leaves a parameter out sets its default, not what was in force.
+#[test]
+fn defaults(rt: HostRuntime) -> Result<(), Fail> {
+    let first = Settings::new();
+    let rows = [
+        (
+            b"^XA^POI^XZ".as_slice(),
+            Settings {
+                is_inverted: true,
+                ..first
+            },
+            0,
+        ),
+        (b"^XA^POI^PO^XZ".as_slice(), first, 0),
+        (
+            b"^XA^PMY^XZ^XA^LRX^XZ".as_slice(),
+            Settings {
+                is_mirrored: true,
+                ..first
+            },
+            0,
+        ),
+        (b"^XA^LRY^LR^FWB^FWX^XZ".as_slice(), first, 0),
+        (
+            b"^XA^LH5,7^LH,9^XZ".as_slice(),
+            Settings {
+                home: Home { x: 0, y: 9 },
+                ..first
+            },
+            0,
+        ),
+        (b"^XA^PW100^PW^LL7^LLx^XZ".as_slice(), first, 0),
+        (b"^XA^PW1300^LL0^XZ".as_slice(), label(1248, 1), 0),
+        (b"^XA^PW0^LL9000^XZ".as_slice(), label(1, 8000), 0),
+    ];
+    assert_eq!(rt; wrong_settings(rt.alloc(), &rows)?, None);
+    Ok(())
+}
+
+/// Commands act in a format alone; ^XA inside one is ignored, and ^XZ outside.
+#[test]
+fn formats(rt: HostRuntime) -> Result<(), Fail> {
+    let rows = [
+        (
+            b"^PW100^FO1,1^FDabc^FS^XZ^POI^FX".as_slice(),
+            Settings::new(),
+            0,
+        ),
+        (b"^XA^PW100^XZ^PW200^XZ".as_slice(), label(100, 1218), 0),
+        (b"^XA^PW100^XA^XZ".as_slice(), label(100, 1218), 0),
+        (b"^XA^PQ7^XA".as_slice(), copies(7), 0),
+        (b"^XA^PQ7^XZ^XA".as_slice(), copies(1), 0),
+        (b"^PQ7^XA".as_slice(), copies(1), 0),
+        (b"^XA^PQ7^PQ0^FX".as_slice(), copies(1), 0),
+        (b"^XA^PQ999999999^FX".as_slice(), copies(99_999_999), 0),
+        (b"^XA^FDabc^XAde^FS".as_slice(), copies(1), 3),
+        (b"^XA^FDabc^FS^FDde^FS".as_slice(), copies(1), 5),
+        (b"^XA^FDabc^FDde^GB1^FS".as_slice(), copies(1), 5),
+        (b"^XA^FDabc^FS^XZ^XA".as_slice(), copies(1), 0),
+    ];
+    assert_eq!(rt; wrong_settings(rt.alloc(), &rows)?, None);
+    Ok(())
+}
+
+/// The store is full at its last byte, and not before.
+#[test]
+fn room(rt: HostRuntime) -> Result<(), Fail> {
+    let mut now = in_force(rt.alloc(), b"^XA^FD")?;
+    now.stored = STORE - 2;
+    assert!(rt; now.has_room(b"ab"));
+    assert!(rt; !now.has_room(b"abc"));
+    now.obey(Command::FormatEnd);
+    assert!(rt; now.has_room(b"abc"));
+    Ok(())
+}

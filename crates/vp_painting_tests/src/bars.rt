@@ -1,0 +1,364 @@
+//! Worked symbols: their values, texts and bars, and why there is none.
+use crate::sheet::stairs;
+use std::test::Fail;
+use vp_bars::{Bars, Place, code39, code128_esc, code128_zpl, ean13};
+use vp_dots::{Fault, Ink, Op, Why};
+use vp_glyph::{Font, Sheets};
+
+/// Which symbol of some bytes.
+#[derive(Clone, Copy)]
+enum Made {
+    Code39,
+    Code39Checked,
+    Ean13,
+    Ean13Padded,
+    Receipt,
+    Label,
+    LabelPacked,
+}
+
+use Made::{Code39, Code39Checked, Ean13, Ean13Padded, Label, LabelPacked, Receipt};
+
+fn symbol_of(how: Made, src: &[u8]) -> Result<Bars, Fault> {
+    match how {
+        Code39 => code39(src, false),
+        Code39Checked => code39(src, true),
+        Ean13 => ean13(src, false),
+        Ean13Padded => ean13(src, true),
+        Receipt => code128_esc(src),
+        Label => code128_zpl(src, false),
+        LabelPacked => code128_zpl(src, true),
+    }
+}
+
+type Worked = (Made, &'static [u8], &'static [u8], &'static [u8]);
+
+/// Bytes, and the values and the text of their symbol.
+static SYMBOLS: [Worked; 22] = [
+    (Code39, b"A", &[43, 10, 43], b"A"),
+    (Code39, b"*A*", &[43, 10, 43], b"A"),
+    (Code39, b"*A-1 $*", &[43, 10, 36, 1, 38, 39, 43], b"A-1 $"),
+    (Code39Checked, b"ABC", &[43, 10, 11, 12, 33, 43], b"ABCX"),
+    (
+        Code39Checked,
+        b"CODE39",
+        &[43, 12, 24, 13, 14, 3, 9, 32, 43],
+        b"CODE39W",
+    ),
+    (
+        Ean13,
+        b"400638133393",
+        &[4, 0, 0, 6, 3, 8, 1, 3, 3, 3, 9, 3, 1],
+        b"4006381333931",
+    ),
+    (
+        Ean13,
+        b"4006381333937",
+        &[4, 0, 0, 6, 3, 8, 1, 3, 3, 3, 9, 3, 1],
+        b"4006381333931",
+    ),
+    (
+        Ean13Padded,
+        b"40063813339300",
+        &[4, 0, 0, 6, 3, 8, 1, 3, 3, 3, 9, 3, 1],
+        b"4006381333931",
+    ),
+    (
+        Ean13Padded,
+        b"12",
+        &[0, 0, 0, 0, 0, 0, 0, 0, 0, 0, 1, 2, 3],
+        b"0000000000123",
+    ),
+    // A book's number, 978-3-16-148410-0.
+    (
+        Ean13,
+        b"978316148410",
+        &[9, 7, 8, 3, 1, 6, 1, 4, 8, 4, 1, 0, 0],
+        b"9783161484100",
+    ),
+    (
+        Receipt,
+        b"{APJJ123C",
+        &[103, 48, 42, 42, 17, 18, 19, 35, 54, 106],
+        b"PJJ123C",
+    ),
+    (
+        Receipt,
+        b"{BA{C\x0c{1",
+        &[104, 33, 99, 12, 102, 58, 106],
+        b"A12",
+    ),
+    (
+        Receipt,
+        b"{BWikipedia",
+        &[104, 55, 73, 75, 73, 80, 69, 68, 73, 65, 88, 106],
+        b"Wikipedia",
+    ),
+    (
+        Receipt,
+        b"{B{B{{{S\x01{4",
+        &[104, 91, 98, 65, 100, 59, 106],
+        b"{\x01",
+    ),
+    (
+        Receipt,
+        b"{Ba{S\x01b{4c",
+        &[104, 65, 98, 65, 66, 100, 67, 78, 106],
+        b"a\x01bc",
+    ),
+    (Label, b">;123456", &[105, 12, 34, 56, 44, 106], b"123456"),
+    (Label, b">;123", &[105, 12, 14, 106], b"12"),
+    (
+        Label,
+        b">935>61>6",
+        &[103, 35, 100, 17, 100, 68, 106],
+        b"C1",
+    ),
+    (
+        Label,
+        b">=A>50x12>8",
+        &[104, 94, 33, 99, 12, 102, 89, 106],
+        b"~A12",
+    ),
+    (
+        Label,
+        b">9>1>0><>=",
+        &[103, 95, 30, 62, 94, 99, 106],
+        b"\x1f>^\x1e",
+    ),
+    (
+        LabelPacked,
+        b"12345",
+        &[105, 12, 34, 100, 21, 54, 106],
+        b"12345",
+    ),
+    (
+        LabelPacked,
+        b"A1234>123",
+        &[104, 33, 99, 12, 34, 100, 30, 17, 18, 19, 76, 106],
+        b"A1234>123",
+    ),
+];
+
+/// The first row whose bytes haven't this symbol.
+fn wrong_symbol(rows: &[Worked]) -> Option<usize> {
+    for i in 0..rows.len() {
+        let (how, src, values, text) = rows[i];
+        match symbol_of(how, src) {
+            Ok(bars) => {
+                if bars.symbols() != values || bars.text().as_slice() != text {
+                    return Some(i);
+                }
+            }
+            Err(_) => return Some(i),
+        }
+    }
+    None
+}
+
+#[test]
+fn symbols(rt: HostRuntime) {
+    assert_eq!(rt; wrong_symbol(&SYMBOLS), None);
+}
+
+type Refused = (Made, &'static [u8], Fault);
+
+/// Bytes, and why they have no symbol.
+static REFUSED: [Refused; 32] = [
+    (Code39, b"", Fault::Symbol(Why::Empty)),
+    (Code39, b"**", Fault::Symbol(Why::Empty)),
+    (Code39, b"*", Fault::Symbol(Why::Char)),
+    (Code39, b"***", Fault::Symbol(Why::Char)),
+    (Code39Checked, b"a", Fault::Symbol(Why::Char)),
+    (Code39, &[b'A'; 256], Fault::SymbolTooLong),
+    (Ean13Padded, b"", Fault::Symbol(Why::Empty)),
+    (Ean13, b"12", Fault::Symbol(Why::Length)),
+    (Ean13, b"12345678901234", Fault::Symbol(Why::Length)),
+    (Ean13Padded, b"12345678901234A", Fault::Symbol(Why::Char)),
+    (Ean13Padded, &[b'1'; 256], Fault::SymbolTooLong),
+    (Receipt, b"", Fault::Symbol(Why::Empty)),
+    (Receipt, b"{C", Fault::Symbol(Why::Empty)),
+    (Receipt, b"{B{B", Fault::Symbol(Why::Empty)),
+    (Receipt, b"A", Fault::Symbol(Why::CodeSet)),
+    (Receipt, b"{C{2", Fault::Symbol(Why::CodeSet)),
+    (Receipt, b"{C{{", Fault::Symbol(Why::CodeSet)),
+    (Receipt, b"{A1{S", Fault::Symbol(Why::CodeSet)),
+    (Receipt, b"{A1{", Fault::Symbol(Why::CodeSet)),
+    (Receipt, b"{Aa{S", Fault::Symbol(Why::Char)),
+    (Receipt, b"{Cd", Fault::Symbol(Why::Char)),
+    (Receipt, &[b'{'; 256], Fault::SymbolTooLong),
+    (Label, b"", Fault::Symbol(Why::Empty)),
+    (Label, b">;1A", Fault::Symbol(Why::Empty)),
+    (Label, b"A>9", Fault::Symbol(Why::CodeSet)),
+    (Label, b"A>4", Fault::Symbol(Why::CodeSet)),
+    (Label, b"A\x80", Fault::Symbol(Why::Char)),
+    (Label, b"A>", Fault::Symbol(Why::CodeSet)),
+    (Label, &[b'A'; 256], Fault::SymbolTooLong),
+    (LabelPacked, b"", Fault::Symbol(Why::Empty)),
+    (LabelPacked, b"\x1f", Fault::Symbol(Why::Char)),
+    (LabelPacked, &[b'1'; 256], Fault::SymbolTooLong),
+];
+
+/// The first row whose bytes aren't refused so.
+fn wrong_refusal(rows: &[Refused]) -> Option<usize> {
+    for i in 0..rows.len() {
+        let (how, src, fault) = rows[i];
+        if symbol_of(how, src).err() != Some(fault) {
+            return Some(i);
+        }
+    }
+    None
+}
+
+#[test]
+fn refusals(rt: HostRuntime) {
+    assert_eq!(rt; wrong_refusal(&REFUSED), None);
+}
+
+/// The values of as many bytes as a symbol can have.
+#[test]
+fn longest(rt: HostRuntime) {
+    let checked = symbol_of(Code39Checked, &[b'A'; 255]);
+    assert_eq!(rt; checked.ok().map(|bars| bars.symbols().len()), Some(258));
+    let packed = symbol_of(LabelPacked, &[b'A'; 255]);
+    assert_eq!(rt; packed.ok().map(|bars| bars.symbols().len()), Some(258));
+}
+
+type Drawn = (Made, &'static [u8], u16, u16, [u8; 16]);
+
+/// Bytes, the dots of a narrow and of a wide element, and the first bytes of a row of the bars.
+static DRAWN: [Drawn; 4] = [
+    (
+        Code39,
+        b"A",
+        2,
+        5,
+        [
+            0xc1, 0x9f, 0x3e, 0x67, 0xcc, 0xc1, 0x9f, 0x30, 0x67, 0xcf, 0x98, 0, 0, 0, 0, 0,
+        ],
+    ),
+    (
+        Code39,
+        b"A",
+        2,
+        4,
+        [
+            0xc3, 0x3c, 0xf3, 0x3c, 0xcc, 0x33, 0xcc, 0x33, 0xcf, 0x30, 0, 0, 0, 0, 0, 0,
+        ],
+    ),
+    // 101 0001101 0100111 0101111 0111101 0001001 0110011 01010 1000010 1000010 1000010 1110100
+    // 1000010 1100110 101
+    (
+        Ean13,
+        b"400638133393",
+        1,
+        1,
+        [
+            0xa3, 0x53, 0xaf, 0x7a, 0x25, 0x9a, 0xa1, 0x42, 0x85, 0xd2, 0x16, 0x6a, 0, 0, 0, 0,
+        ],
+    ),
+    // 11010000100 10011100110 10011100110 1100011101011: start A, 1, the check 17, stop
+    (
+        Receipt,
+        b"{A1",
+        1,
+        1,
+        [
+            0xd0, 0x93, 0x9a, 0x73, 0x63, 0xac, 0, 0, 0, 0, 0, 0, 0, 0, 0, 0,
+        ],
+    ),
+];
+
+/// The first row whose bars are others.
+fn wrong_bars(rows: &[Drawn]) -> Option<usize> {
+    let sheets = Sheets { a: None, b: None };
+    for i in 0..rows.len() {
+        let (how, src, narrow, wide, bytes) = rows[i];
+        let mut row = [0u8; 16];
+        if let Ok(bars) = symbol_of(how, src) {
+            bars.boxed(narrow, wide, 1, &sheets, Font::A, Place::None)
+                .paint_row(0, Op::Black, 0, &mut row);
+        }
+        if row != bytes {
+            return Some(i);
+        }
+    }
+    None
+}
+
+#[test]
+fn bars_to_the_dot(rt: HostRuntime) {
+    assert_eq!(rt; wrong_bars(&DRAWN), None);
+}
+
+/// A symbol's box: which text it has, in which font, and its size.
+type Sized = (Made, &'static [u8], u16, u16, u16, Font, Place, (u32, u32));
+
+static SIZED: [Sized; 5] = [
+    (Code39, b"3", 2, 5, 1, Font::A, Place::Below, (85, 25)),
+    (Code39, b"3", 2, 5, 1, Font::B, Place::Both, (85, 35)),
+    (Receipt, b"{C\x0c", 1, 1, 5, Font::A, Place::Above, (46, 29)),
+    (
+        LabelPacked,
+        b"1234567890",
+        1,
+        1,
+        5,
+        Font::A,
+        Place::Above,
+        (120, 29),
+    ),
+    (
+        LabelPacked,
+        b"1234567890",
+        1,
+        1,
+        5,
+        Font::A,
+        Place::None,
+        (90, 5),
+    ),
+];
+
+/// The first row whose box has another size.
+fn wrong_size(rows: &[Sized]) -> Option<usize> {
+    let sheets = Sheets { a: None, b: None };
+    for i in 0..rows.len() {
+        let (how, src, narrow, wide, height, font, place, size) = rows[i];
+        match symbol_of(how, src) {
+            Ok(bars) => {
+                let boxed = bars.boxed(narrow, wide, height, &sheets, font, place);
+                if boxed.size() != size {
+                    return Some(i);
+                }
+            }
+            Err(_) => return Some(i),
+        }
+    }
+    None
+}
+
+#[test]
+fn sizes(rt: HostRuntime) {
+    assert_eq!(rt; wrong_size(&SIZED), None);
+}
+
+#[test]
+fn a_box_with_its_text(rt: HostRuntime) -> Result<(), Fail> {
+    let sheets = stairs(rt.alloc())?;
+    let bars = code39(b"3", false).ok().ok_or("none")?;
+    let below = bars.boxed(2, 5, 1, &sheets, Font::A, Place::Below);
+    let mut first = [0u8; 11];
+    below.paint_row(0, Op::Black, 0, &mut first);
+    assert_eq!(rt;
+        first,
+        [
+            0xc1, 0x9f, 0x3e, 0x67, 0xcf, 0x83, 0x33, 0x30, 0x67, 0xcf, 0x98
+        ]
+    );
+    let mut last = [0u8; 11];
+    below.paint_row(24, Op::Black, 0, &mut last);
+    assert_eq!(rt; last, [0, 0, 0, 0, 0x0f, 0xff, 0, 0, 0, 0, 0]);
+    assert_eq!(rt; (below.ink(36, 1), below.ink(35, 1)), (true, false));
+    Ok(())
+}

@@ -1,0 +1,18 @@
+//! What is painted, through the public calls of the crates below: dots, characters, bar codes, QR symbols
+//! and the page, by outside vectors and by plain bodies that paint dot by dot.
+#![tactic(auto)]
+
+#[cfg(test)]
+mod bars;
+#[cfg(test)]
+mod dots;
+#[cfg(test)]
+mod glyph;
+#[cfg(test)]
+mod page;
+#[cfg(test)]
+mod qr;
+#[cfg(test)]
+mod qr_field;
+#[cfg(test)]
+mod sheet;

@@ -1,0 +1,335 @@
+//! Outside vectors: the standard's worked examples and capacities, and symbols of an encoder
+//! written apart from this one.
+
+ghost use Rattle.std.specs.Prelude.{◌<◌};
+
+use arrayvec::ArrayVec;
+use std::process::Abort;
+use vp_dots::{Fault, Ink, Op, Why, paint_dot};
+use vp_qr::{Level, Mode, Qr, QrInk, drawn, encode, rs};
+
+type Sample = ArrayVec<u8, 700>;
+
+const LEVELS: [Level; 4] = [Level::L, Level::M, Level::Q, Level::H];
+
+const ALPHABET: [u8; 45] = *b"0123456789ABCDEFGHIJKLMNOPQRSTUVWXYZ $%*+-./:";
+
+/// A sample of `n` bytes that a mode has.
+fn sample(mode: Mode, n: usize) -> Sample {
+    let mut sample = ArrayVec::new();
+    for i in 0..n {
+        let byte = match mode {
+            Mode::Digits => b'0' + (i % 10 * 7 + 3) as u8 % 10,
+            Mode::Alnum => ALPHABET[(i % 45 * 11 + 5) % 45],
+            Mode::Auto | Mode::Bytes => ((i % 256 * 37 + 11) % 256) as u8,
+        };
+        let _ = sample.try_push(byte);
+    }
+    sample
+}
+
+/// The symbol's version, or 0 where it is refused.
+fn version_of(mode: Mode, n: usize, level: Level) -> usize {
+    match encode(sample(mode, n).as_slice(), level, mode) {
+        Ok(qr) => qr.version(),
+        Err(_) => 0,
+    }
+}
+
+/// The modules of a row of a symbol whose modules are single dots: bit x is that of column x.
+fn modules(ink: &QrInk, y: u32) -> u64 {
+    let mut row = 0u64;
+    for x in 0..57u32 {
+        if ink.ink(x, y) {
+            row |= 1 << x;
+        }
+    }
+    row
+}
+
+/// The rows of a symbol as one number.
+fn checksum(qr: &Qr) -> u64 {
+    let ink = qr.scaled(1);
+    let mut sum: u64 = 0;
+    for y in 0..57u32 {
+        let row = modules(&ink, y);
+        if row != 0 {
+            sum = sum.wrapping_mul(31).wrapping_add(row);
+        }
+    }
+    sum
+}
+
+#[test]
+fn check_codewords(rt: HostRuntime) {
+    // "01234567" in version 1-M, the standard's own example
+    let data = [
+        16, 32, 12, 86, 97, 128, 236, 17, 236, 17, 236, 17, 236, 17, 236, 17,
+    ];
+    assert_eq!(rt;
+        rs(&data, 10).as_slice(),
+        [165, 36, 212, 193, 237, 54, 199, 135, 44, 85].as_slice()
+    );
+}
+
+#[test]
+fn hello_world(rt: HostRuntime) {
+    let Ok(qr) = encode(b"HELLO WORLD", Level::M, Mode::Auto) else {
+        assert!(rt; false, "no symbol");
+        return;
+    };
+    assert_eq!(rt; qr.version(), 1);
+    assert_eq!(rt; qr.mask(), 0);
+    assert_eq!(rt;
+        qr.codewords(),
+        [
+            32, 91, 11, 120, 209, 114, 220, 77, 67, 64, 236, 17, 236, 17, 236, 17, 196, 35, 39,
+            119, 235, 215, 231, 226, 93, 23
+        ]
+        .as_slice()
+    );
+}
+
+/// The rows of that symbol.
+const HELLO_WORLD: [u64; 21] = [
+    2086015, 1066817, 1528925, 1528925, 1531229, 1068609, 2086271, 0, 594517, 1116446, 216056,
+    965039, 1428210, 1328384, 430207, 181825, 2085725, 568413, 1240925, 1718337, 1108863,
+];
+
+#[test]
+fn hello_world_to_the_module(rt: HostRuntime) {
+    let Ok(qr) = encode(b"HELLO WORLD", Level::M, Mode::Auto) else {
+        assert!(rt; false, "no symbol");
+        return;
+    };
+    let ink = qr.scaled(1);
+    assert_eq!(rt; ink.size(), (21, 21));
+    for y in 0..21u32 {
+        assert_eq!(rt; modules(&ink, y), HELLO_WORLD[y as usize]);
+    }
+    let mut row = [0; 4];
+    ink.paint_row(0, Op::Black, 0, &mut row);
+    assert_eq!(rt; (row[0], row[2], row[3]), (0xfe, 0xf8, 0));
+}
+
+/// The bits of the format beside the upper left finder: to the right below it, and then up on its right.
+fn format(ink: &QrInk) -> u32 {
+    let mut bits = 0u32;
+    for (x, y) in [
+        (0, 8),
+        (1, 8),
+        (2, 8),
+        (3, 8),
+        (4, 8),
+        (5, 8),
+        (7, 8),
+        (8, 8),
+        (8, 7),
+        (8, 5),
+        (8, 4),
+        (8, 3),
+        (8, 2),
+        (8, 1),
+        (8, 0),
+    ] {
+        bits = bits.wrapping_mul(2) | u32::from(ink.ink(x, y));
+    }
+    bits
+}
+
+/// The bits of the version of a symbol of version 7: the six rows of three modules on the left of its upper
+/// right finder, from their lower right on.
+fn version(ink: &QrInk) -> u32 {
+    let mut bits = 0u32;
+    for y in 0..6u32 {
+        for x in 0..3u32 {
+            bits = bits.wrapping_mul(2) | u32::from(ink.ink(36 - x, 5 - y));
+        }
+    }
+    bits
+}
+
+#[test]
+fn format_and_version(rt: HostRuntime) {
+    let Ok(qr) = encode(sample(Mode::Digits, 64).as_slice(), Level::L, Mode::Digits) else {
+        assert!(rt; false, "no symbol");
+        return;
+    };
+    assert_eq!(rt; qr.mask(), 4);
+    assert_eq!(rt; format(&qr.scaled(1)), 0b110011000101111);
+    let Ok(qr) = encode(sample(Mode::Alnum, 178).as_slice(), Level::M, Mode::Alnum) else {
+        assert!(rt; false, "no symbol");
+        return;
+    };
+    assert_eq!(rt; version(&qr.scaled(1)), 0b000111110010010100);
+}
+
+#[test]
+fn refusals(rt: HostRuntime) {
+    let fault = |src: &[u8], mode: Mode| match encode(src, Level::L, mode) {
+        Ok(_) => None,
+        Err(fault) => Some(fault),
+    };
+    assert_eq!(rt; fault(b"", Mode::Auto), Some(Fault::Symbol(Why::Empty)));
+    assert_eq!(rt; fault(b"a", Mode::Alnum), Some(Fault::Symbol(Why::Char)));
+    assert_eq!(rt; fault(b"12A", Mode::Digits), Some(Fault::Symbol(Why::Char)));
+    assert_eq!(rt; fault(b"a", Mode::Auto), None);
+    assert_eq!(rt;
+        fault(sample(Mode::Digits, 652).as_slice(), Mode::Auto),
+        None
+    );
+    assert_eq!(rt;
+        fault(sample(Mode::Digits, 653).as_slice(), Mode::Auto),
+        Some(Fault::SymbolTooLong)
+    );
+}
+
+/// The greatest numbers of digits, alphanumeric characters and bytes that levels L, M, Q and H of
+/// each version hold (table 7 of the standard).
+const CAPACITIES: [[(usize, usize, usize); 4]; 10] = [
+    [(41, 25, 17), (34, 20, 14), (27, 16, 11), (17, 10, 7)],
+    [(77, 47, 32), (63, 38, 26), (48, 29, 20), (34, 20, 14)],
+    [(127, 77, 53), (101, 61, 42), (77, 47, 32), (58, 35, 24)],
+    [(187, 114, 78), (149, 90, 62), (111, 67, 46), (82, 50, 34)],
+    [
+        (255, 154, 106),
+        (202, 122, 84),
+        (144, 87, 60),
+        (106, 64, 44),
+    ],
+    [
+        (322, 195, 134),
+        (255, 154, 106),
+        (178, 108, 74),
+        (139, 84, 58),
+    ],
+    [
+        (370, 224, 154),
+        (293, 178, 122),
+        (207, 125, 86),
+        (154, 93, 64),
+    ],
+    [
+        (461, 279, 192),
+        (365, 221, 152),
+        (259, 157, 108),
+        (202, 122, 84),
+    ],
+    [
+        (552, 335, 230),
+        (432, 262, 180),
+        (312, 189, 130),
+        (235, 143, 98),
+    ],
+    [
+        (652, 395, 271),
+        (513, 311, 213),
+        (364, 221, 151),
+        (288, 174, 119),
+    ],
+];
+
+/// The greatest number that fits a version does, and one more takes the next.
+fn holds(rt: &impl Abort, mode: Mode, most: usize, level: Level, version: usize)
+    requires { most < 1000 }
+{
+    let next = if version < 10 { version + 1 } else { 0 };
+    assert_eq!(rt; version_of(mode, most, level), version);
+    assert_eq!(rt; version_of(mode, most + 1, level), next);
+}
+
+#[test]
+fn capacities(rt: HostRuntime) {
+    for (i, row) in CAPACITIES.iter().enumerate() {
+        for (k, level) in LEVELS.iter().enumerate() {
+            let (digits, alnum, bytes) = row[k];
+            assert!(rt; digits < 1000 && alnum < 1000 && bytes < 1000);
+            holds(&rt, Mode::Digits, digits, *level, i + 1);
+            holds(&rt, Mode::Alnum, alnum, *level, i + 1);
+            holds(&rt, Mode::Bytes, bytes, *level, i + 1);
+        }
+    }
+}
+
+/// Samples with the version, the mask and the checksum of the rows that they give.
+const SYMBOLS: [(Mode, usize, Level, usize, usize, u64); 19] = [
+    (Mode::Digits, 41, Level::L, 1, 6, 885061506499725426),
+    (Mode::Alnum, 20, Level::M, 1, 2, 8853321219724140617),
+    (Mode::Bytes, 20, Level::Q, 2, 0, 7924698432542904124),
+    (Mode::Digits, 58, Level::H, 3, 4, 1089666235147253452),
+    (Mode::Bytes, 62, Level::M, 4, 2, 10621477148810131946),
+    (Mode::Alnum, 87, Level::Q, 5, 0, 5813238348046485764),
+    (Mode::Bytes, 106, Level::L, 5, 2, 14081563637946888618),
+    (Mode::Digits, 139, Level::H, 6, 2, 12986685033864707472),
+    (Mode::Alnum, 178, Level::M, 7, 0, 1110297228461666887),
+    (Mode::Bytes, 192, Level::L, 8, 7, 13120313123889634396),
+    (Mode::Digits, 312, Level::Q, 9, 0, 1200604923597109206),
+    (Mode::Alnum, 143, Level::H, 9, 4, 8935368610759116994),
+    (Mode::Bytes, 271, Level::L, 10, 3, 8391701922847712325),
+    (Mode::Digits, 652, Level::L, 10, 6, 718976473595783743),
+    (Mode::Alnum, 174, Level::H, 10, 3, 13227549535668860470),
+    (Mode::Bytes, 150, Level::Q, 10, 7, 323455786406555968),
+    (Mode::Digits, 513, Level::M, 10, 4, 7959983387593902926),
+    (Mode::Alnum, 4, Level::H, 1, 5, 11681583600701038955),
+    (Mode::Digits, 7, Level::H, 1, 1, 8048749137363741816),
+];
+
+#[test]
+fn whole_symbols(rt: HostRuntime) {
+    for (mode, n, level, version, mask, rows) in SYMBOLS.iter() {
+        let Ok(qr) = encode(sample(*mode, *n).as_slice(), *level, *mode) else {
+            assert!(rt; false, "no symbol");
+            return;
+        };
+        assert_eq!(rt;
+            (qr.version(), qr.mask(), checksum(&qr)),
+            (*version, *mask, *rows)
+        );
+    }
+}
+
+#[test]
+fn drawn_again(rt: HostRuntime) {
+    for (mode, n, level, _, _, rows) in SYMBOLS.iter() {
+        let src = sample(*mode, *n);
+        let Ok(qr) = encode(src.as_slice(), *level, *mode) else {
+            assert!(rt; false, "no symbol");
+            return;
+        };
+        let again = drawn(src.as_slice(), *level, *mode, qr.version(), qr.mask());
+        assert_eq!(rt; checksum(&again), *rows);
+    }
+}
+
+/// A row that is painted dot by dot.
+fn expected(ink: &QrInk, y: u32, right: u32, left: u32) -> [u8; 12]
+    requires right { right < 1000 }
+    requires left { left < 1000 }
+{
+    let mut row = [0x5a; 12];
+    for d in 0..96u32 {
+        if d >= right && ink.ink(d + left - right, y) {
+            paint_dot(Op::Flip, d as u128, &mut row);
+        }
+    }
+    row
+}
+
+#[test]
+fn rows_are_the_dots(rt: HostRuntime) {
+    let Ok(qr) = encode(b"vp", Level::Q, Mode::Bytes) else {
+        assert!(rt; false, "no symbol");
+        return;
+    };
+    let ink = qr.scaled(3);
+    for far in 0..40u32 {
+        for y in 0..70u32 {
+            let mut row = [0x5a; 12];
+            ink.paint_row(y, Op::Flip, far as i64, &mut row);
+            assert_eq!(rt; row, expected(&ink, y, far, 0));
+            let mut row = [0x5a; 12];
+            ink.paint_row(y, Op::Flip, -(far as i64), &mut row);
+            assert_eq!(rt; row, expected(&ink, y, 0, far));
+        }
+    }
+}

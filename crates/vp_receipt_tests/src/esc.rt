@@ -1,0 +1,154 @@
+//! What bytes say: their items and lines, faults, and where text ends.
+mod rows;
+mod values;
+
+use std::alloc::{AllocError, Global};
+use std::test::Fail;
+use vp_dots::Fault;
+use vp_esc::{EscItem, EscReader};
+
+/// Appends the lines of the bytes' items, and answers the fault where there is one.
+fn push_lines(
+    reader: &mut EscReader,
+    bytes: &[u8],
+    lines: &mut Vec<u8>,
+) -> Result<Option<Fault>, AllocError> {
+    for byte in bytes {
+        match reader.take(*byte) {
+            Ok(None) => {}
+            Ok(Some(item)) => lines.extend_from_slice(item.line().as_slice())?,
+            Err(fault) => return Ok(Some(fault)),
+        }
+    }
+    Ok(None)
+}
+
+/// Whether the bytes give these lines and this fault, and the reader is at rest where there is none.
+fn lists(
+    alloc: Global,
+    bytes: &[u8],
+    want: &[u8],
+    fault: Option<Fault>,
+) -> Result<bool, AllocError> {
+    let mut reader = EscReader::new();
+    let mut lines = Vec::new(alloc);
+    let found = push_lines(&mut reader, bytes, &mut lines)?;
+    Ok(lines.as_slice() == want && found == fault && reader.at_rest() == fault.is_none())
+}
+
+/// The item that the last of the bytes gives.
+fn last_item<'a>(reader: &'a mut EscReader, bytes: &[u8]) -> Option<&'a EscItem> {
+    let (last, front) = bytes.split_last()?;
+    for byte in front {
+        let _earlier = reader.take(*byte).is_ok();
+    }
+    reader.take(*last).ok().flatten()
+}
+
+/// Bytes, the lines before their fault, and the fault.
+type Faulty = (&'static [u8], &'static [u8], Fault);
+
+static FAULTS: [Faulty; 11] = [
+    (b"\x0A\x1B\x7F", b"LF\n", Fault::Unknown(0x1B, 0x7F)),
+    (b"\x1D\x41", b"", Fault::Unknown(0x1D, 0x41)),
+    (b"\x1C\x00", b"", Fault::Unknown(0x1C, 0x00)),
+    (b"\x10\x14", b"", Fault::Unknown(0x10, 0x14)),
+    (b"\x1B\x63\x32", b"", Fault::Unknown(0x1B, 0x63)),
+    (b"\x1B\x2A\x02", b"", Fault::Unknown(0x1B, 0x2A)),
+    (b"\x1D\x56\x02", b"", Fault::Unknown(0x1D, 0x56)),
+    (b"\x1D\x76\x31", b"", Fault::Unknown(0x1D, 0x76)),
+    (b"\x1D\x6B\x07", b"", Fault::Unknown(0x1D, 0x6B)),
+    (b"\x1D\x6B\x4A", b"", Fault::Unknown(0x1D, 0x6B)),
+    (b"\x1D\x38\x4B", b"", Fault::Unknown(0x1D, 0x38)),
+];
+
+/// The first row whose bytes don't end with this fault behind these lines.
+fn wrong_fault(alloc: Global, rows: &[Faulty]) -> Result<Option<usize>, AllocError> {
+    for i in 0..rows.len() {
+        let (bytes, lines, fault) = rows[i];
+        if !lists(alloc, bytes, lines, Some(fault))? {
+            return Ok(Some(i));
+        }
+    }
+    Ok(None)
+}
+
+#[test]
+fn faults(rt: HostRuntime) -> Result<(), Fail> {
+    assert_eq!(rt; wrong_fault(rt.alloc(), &FAULTS)?, None);
+    Ok(())
+}
+
+/// The line of a symbol of so many bytes that end at a 0, and whether it has more than are kept.
+fn long_symbol(alloc: Global, count: usize) -> Result<(usize, bool), AllocError> {
+    let mut bytes = Vec::new(alloc);
+    bytes.extend_from_slice(b"\x1D\x6B\x04")?;
+    for _ in 0..count {
+        bytes.push(b'A')?;
+    }
+    bytes.push(0)?;
+    Ok(match last_item(&mut EscReader::new(), bytes.as_slice()) {
+        Some(EscItem::Symbol { data, more, .. }) => (data.len(), *more),
+        _ => (0, false),
+    })
+}
+
+#[test]
+fn long_symbols(rt: HostRuntime) -> Result<(), Fail> {
+    for (count, want) in [
+        (254, (254, false)),
+        (255, (255, false)),
+        (256, (255, true)),
+        (300, (255, true)),
+    ] {
+        assert_eq!(rt; long_symbol(rt.alloc(), count)?, want);
+    }
+    Ok(())
+}
+
+/// Whether the bytes give nothing.
+fn gives_nothing(reader: &mut EscReader, bytes: &[u8]) -> bool {
+    for byte in bytes {
+        if !matches!(reader.take(*byte), Ok(None)) {
+            return false;
+        }
+    }
+    true
+}
+
+#[test]
+fn stop_32_ends_the_stops(rt: HostRuntime) -> Result<(), Fail> {
+    let mut reader = EscReader::new();
+    assert!(rt; gives_nothing(&mut reader, b"\x1B\x44"));
+    for stop in 1..0x20u8 {
+        assert!(rt; gives_nothing(&mut reader, &[stop]));
+    }
+    assert!(rt;
+        matches!(
+            reader.take(0x20),
+            Ok(Some(EscItem::TabStops { end: None, .. }))
+        )
+    );
+    assert!(rt; matches!(reader.take(0x21), Ok(Some(EscItem::Character(0x21)))));
+    Ok(())
+}
+
+#[test]
+fn faults_stay(rt: HostRuntime) {
+    let mut reader = EscReader::new();
+    assert!(rt; matches!(reader.take(0x1B), Ok(None)));
+    for byte in [0x7F, 0x0A, 0x1B, 0x40] {
+        assert!(rt; matches!(reader.take(byte), Err(Fault::Unknown(0x1B, 0x7F))));
+        assert!(rt; !reader.at_rest());
+    }
+}
+
+#[test]
+fn text_in_runs(rt: HostRuntime) {
+    let mut reader = EscReader::new();
+    assert!(rt; reader.take_text(b"7\x0D\x00~\xFF\x0Aa") == 5);
+    assert!(rt; matches!(reader.take(0x1B), Ok(None)));
+    assert!(rt; reader.take_text(b"@a") == 0);
+    assert!(rt; matches!(reader.take(0x40), Ok(Some(EscItem::Initialize))));
+    assert!(rt; reader.take_text(b"a\x09") == 1);
+}

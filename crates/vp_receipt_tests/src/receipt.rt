@@ -1,0 +1,146 @@
+//! What a receipt prints: what is sent, and the strips that come of it.
+mod images;
+mod lines;
+mod page;
+mod page_images;
+mod page_runs;
+mod symbols;
+
+use std::alloc::{AllocError, Global};
+use std::test::Fail;
+use vp_dots::Fault;
+use vp_esc::EscReader;
+use vp_glyph::{Sheet, Sheets};
+use vp_receipt::{Receipt, Width};
+
+/// A sheet of font A in whose cell c the leftmost c mod 13 dots of each row are black.
+fn stairs(alloc: Global) -> Result<Sheets, Fail> {
+    let mut bytes = Vec::new(alloc);
+    bytes.extend_from_slice(b"P4\n192 384\n")?;
+    for y in 0..384usize {
+        for i in 0..24usize {
+            let mut byte = 0u8;
+            for bit in 0..8usize {
+                let x = 8 * i + bit;
+                let c = y / 24 * 16 + x / 12;
+                if x % 12 < c % 13 {
+                    byte |= 0x80 >> bit;
+                }
+            }
+            bytes.push(byte)?;
+        }
+    }
+    match Sheet::read(alloc, bytes.as_slice(), 12, 24) {
+        Ok(sheet) => Ok(Sheets {
+            a: Some(sheet),
+            b: None,
+        }),
+        Err(_) => Ok(Sheets { a: None, b: None }),
+    }
+}
+
+/// What is printed of what is sent, put out by so many bytes at a time.
+fn printed(alloc: Global, width: Width, sent: &[u8], room: usize) -> Result<Vec<u8>, Fail> {
+    let mut receipt = Receipt::new(alloc, stairs(alloc)?, width)?;
+    let mut paper = Vec::new(alloc);
+    let _ = print_on(&mut receipt, sent, room, &mut paper)?;
+    Ok(paper)
+}
+
+/// Goes on with whole commands, putting out so many bytes at a time, and answers the fault of the last item.
+fn print_on(
+    receipt: &mut Receipt,
+    sent: &[u8],
+    room: usize,
+    paper: &mut Vec<u8>,
+) -> Result<Option<Fault>, AllocError> {
+    let mut reader = EscReader::new();
+    let mut fault = None;
+    for byte in sent {
+        if let Ok(Some(item)) = reader.take(*byte) {
+            if !receipt.pending() {
+                fault = receipt.apply(item).err();
+            }
+            put_all(receipt, room, paper)?;
+        }
+    }
+    Ok(fault)
+}
+
+fn put_all(receipt: &mut Receipt, room: usize, paper: &mut Vec<u8>) -> Result<(), AllocError> {
+    let mut out = [0u8; 4096];
+    for _ in 0..100000 {
+        let n = receipt.put(&mut out[..room.min(4096)]);
+        if n == 0 {
+            return Ok(());
+        }
+        paper.extend_from_slice(&out[..n.min(4096)])?;
+    }
+    Ok(())
+}
+
+/// Appends so many rows that begin with the bytes and go on white.
+fn rows(paper: &mut Vec<u8>, count: usize, bytes: &[u8], width: usize) -> Result<(), AllocError> {
+    for _ in 0..count {
+        for x in 0..width {
+            paper.push(if x < bytes.len() { bytes[x] } else { 0 })?;
+        }
+    }
+    Ok(())
+}
+
+/// A strip as it is wanted: its header's text, and rows that are so often there and begin so.
+struct Strip {
+    head: &'static [u8],
+    rows: &'static [(usize, &'static [u8])],
+}
+
+fn wanted(alloc: Global, width: Width, strips: &[Strip]) -> Result<Vec<u8>, AllocError> {
+    let bytes = match width {
+        Width::W576 => 72,
+        Width::W384 => 48,
+    };
+    let mut paper = Vec::new(alloc);
+    for strip in strips {
+        paper.extend_from_slice(strip.head)?;
+        for (count, row) in strip.rows {
+            rows(&mut paper, *count, row, bytes)?;
+        }
+    }
+    Ok(paper)
+}
+
+/// Whether the strips are printed where so many bytes are put out at a time.
+fn prints(
+    alloc: Global,
+    width: Width,
+    sent: &[u8],
+    strips: &[Strip],
+    room: usize,
+) -> Result<bool, Fail> {
+    let paper = printed(alloc, width, sent, room)?;
+    let want = wanted(alloc, width, strips)?;
+    Ok(paper.as_slice() == want.as_slice())
+}
+
+/// What is sent, and the strips that are printed.
+type Case = (&'static [u8], &'static [Strip]);
+
+/// The first case that prints others, with ample room or a byte at a time.
+fn wrong_case(alloc: Global, width: Width, cases: &[Case]) -> Result<Option<usize>, Fail> {
+    for i in 0..cases.len() {
+        let (sent, strips) = cases[i];
+        for room in [4096, 1] {
+            if !prints(alloc, width, sent, strips, room)? {
+                return Ok(Some(i));
+            }
+        }
+    }
+    Ok(None)
+}
+
+/// The line of an M.
+const M: Strip = Strip {
+    head: b"P4\n576 34\n",
+    rows: &[(24, b"\xFF\xF0"), (10, b"")],
+};

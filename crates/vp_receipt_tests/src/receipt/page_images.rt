@@ -1,0 +1,197 @@
+//! Rasters and symbols on a page.
+use super::{Case, Strip, print_on, printed, stairs, wrong_case};
+use std::alloc::{AllocError, Global};
+use std::test::Fail;
+use vp_receipt::{Receipt, Width};
+
+static DIRECTIONS: [Case; 4] = [
+    (
+        b"\x1BL\x1BW\0\0\0\0\x10\0\x08\0\x1BT\x00\x1Dv0\0\x01\0\x01\0\xE0\x0C",
+        &[Strip {
+            head: b"P4\n576 8\n",
+            rows: &[(1, b"\xE0"), (7, b"")],
+        }],
+    ),
+    (
+        b"\x1BL\x1BW\0\0\0\0\x10\0\x08\0\x1BT\x01\x1Dv0\0\x01\0\x01\0\xE0\x0C",
+        &[Strip {
+            head: b"P4\n576 8\n",
+            rows: &[(5, b""), (3, b"\x80")],
+        }],
+    ),
+    (
+        b"\x1BL\x1BW\0\0\0\0\x10\0\x08\0\x1BT\x02\x1Dv0\0\x01\0\x01\0\xE0\x0C",
+        &[Strip {
+            head: b"P4\n576 8\n",
+            rows: &[(7, b""), (1, b"\0\x07")],
+        }],
+    ),
+    (
+        b"\x1BL\x1BW\0\0\0\0\x10\0\x08\0\x1BT\x03\x1Dv0\0\x01\0\x01\0\xE0\x0C",
+        &[Strip {
+            head: b"P4\n576 8\n",
+            rows: &[(3, b"\0\x01"), (5, b"")],
+        }],
+    ),
+];
+
+#[test]
+fn a_raster_in_each_direction(rt: HostRuntime) -> Result<(), Fail> {
+    assert_eq!(rt; wrong_case(rt.alloc(), Width::W576, &DIRECTIONS)?, None);
+    Ok(())
+}
+
+static AREAS: [Case; 3] = [
+    // One of two areas made white.
+    (
+        b"\x1BL\x1BW\0\0\0\0\x08\0\x01\0\x1Dv0\0\x01\0\x01\0\xFF\
+        \x1BW\x08\0\0\0\x08\0\x01\0\x1Dv0\0\x01\0\x01\0\xFF\x18\x0C",
+        &[Strip {
+            head: b"P4\n576 1\n",
+            rows: &[(1, b"\xFF")],
+        }],
+    ),
+    // Below a vertical position.
+    (
+        b"\x1BL\x1BW\0\0\0\0\x08\0\x04\0\x1D$\x02\0\x1Dv0\0\x01\0\x01\0\xFF\x0C",
+        &[Strip {
+            head: b"P4\n576 4\n",
+            rows: &[(2, b""), (1, b"\xFF"), (1, b"")],
+        }],
+    ),
+    // Printed, and then made white.
+    (
+        b"\x1BL\x1BW\0\0\0\0\x08\0\x02\0\x1Dv0\0\x01\0\x01\0\xFF\x1B\x0C\x18\x0C",
+        &[
+            Strip {
+                head: b"P4\n576 2\n",
+                rows: &[(1, b"\xFF"), (1, b"")],
+            },
+            Strip {
+                head: b"P4\n576 2\n",
+                rows: &[(2, b"")],
+            },
+        ],
+    ),
+];
+
+#[test]
+fn rasters_in_areas(rt: HostRuntime) -> Result<(), Fail> {
+    assert_eq!(rt; wrong_case(rt.alloc(), Width::W576, &AREAS)?, None);
+    Ok(())
+}
+
+static BELOW_EACH_OTHER: [Case; 1] = [(
+    b"\x1BL\x1BW\0\0\0\0\x10\0\x2D\0M\x1Dv0\0\x01\0\x02\0\xFF\x81\
+    \x1Dv0\x03\x01\0\x01\0\x1E\x1Dv0\0\x01\0\x01\0\xFF\x0C",
+    &[Strip {
+        head: b"P4\n576 45\n",
+        rows: &[
+            (24, b"\xFF\xF0"),
+            (10, b""),
+            (1, b"\xFF"),
+            (1, b"\x81"),
+            (2, b"\x03\xFC"),
+            (1, b"\xFF"),
+            (6, b""),
+        ],
+    }],
+)];
+
+#[test]
+fn rasters_below_each_other(rt: HostRuntime) -> Result<(), Fail> {
+    assert_eq!(rt;
+        wrong_case(rt.alloc(), Width::W576, &BELOW_EACH_OTHER)?,
+        None
+    );
+    Ok(())
+}
+
+static PAST_THE_DEPTH: [Case; 2] = [
+    (
+        b"\x1BW\0\0\x0A\0\x08\0\x04\0\x1BL\x1D$\x64\0\x1Dv0\0\x01\0\x01\0\xFF\
+        \x1BW\0\0\0\0\x08\0\x04\0\x0C",
+        &[Strip {
+            head: b"P4\n576 14\n",
+            rows: &[(14, b"")],
+        }],
+    ),
+    // A raster of no bytes counts for nothing.
+    (
+        b"\x1BW\0\0\x0A\0\x08\0\x04\0\x1BL\x1D$\x64\0\x1Dv0\0\0\0\x01\0\
+        \x1BW\0\0\0\0\x08\0\x04\0\x0C",
+        &[Strip {
+            head: b"P4\n576 4\n",
+            rows: &[(4, b"")],
+        }],
+    ),
+];
+
+#[test]
+fn rasters_past_the_depth_count_for_the_page(rt: HostRuntime) -> Result<(), Fail> {
+    assert_eq!(rt; wrong_case(rt.alloc(), Width::W576, &PAST_THE_DEPTH)?, None);
+    Ok(())
+}
+
+/// A page whose lines run down, with a raster of one row: white up to a byte, and then each eighth dot black.
+fn long_row(alloc: Global, scale: u8, bytes: u16, at: u16) -> Result<Vec<u8>, AllocError> {
+    let mut sent = Vec::new(alloc);
+    sent.extend_from_slice(b"\x1BL\x1BT\x03\x1Dv0")?;
+    sent.extend_from_slice(&[scale, (bytes % 256) as u8, (bytes / 256) as u8, 1, 0])?;
+    for i in 0..bytes {
+        sent.push(if i < at { 0 } else { 0x01 })?;
+    }
+    sent.push(0x0C)?;
+    Ok(sent)
+}
+
+/// How many bytes of the page are 1, and the last one.
+fn ones(alloc: Global, scale: u8, bytes: u16, at: u16) -> Result<(usize, usize, Option<u8>), Fail> {
+    let sent = long_row(alloc, scale, bytes, at)?;
+    let paper = printed(alloc, Width::W576, sent.as_slice(), 4096)?;
+    let mut black = 0usize;
+    for byte in paper.as_slice() {
+        if *byte == 0x01 {
+            black = black.saturating_add(1);
+        }
+    }
+    Ok((paper.len(), black, paper.as_slice().last().copied()))
+}
+
+/// Rows as long as the longest line of a page: the last dot of 1,664 is kept, what comes after it is not
+/// seen.
+#[test]
+fn a_raster_as_long_as_the_page(rt: HostRuntime) -> Result<(), Fail> {
+    for (scale, bytes, at, black) in [
+        (0, 208, 207, 1),
+        (0, 300, 207, 1),
+        (1, 104, 103, 2),
+        (1, 150, 103, 2),
+    ] {
+        let want = (12 + 1664 * 72, black, Some(0x01));
+        assert_eq!(rt; ones(rt.alloc(), scale, bytes, at)?, want);
+    }
+    Ok(())
+}
+
+/// Whether the same is printed on paper and on a page that begins so.
+fn same_on_a_page(alloc: Global, head: &[u8], sent: &[u8]) -> Result<bool, Fail> {
+    let paper = printed(alloc, Width::W576, sent, 4096)?;
+    let mut receipt = Receipt::new(alloc, stairs(alloc)?, Width::W576)?;
+    let mut page = Vec::new(alloc);
+    let _ = print_on(&mut receipt, head, 4096, &mut page)?;
+    let _ = print_on(&mut receipt, sent, 4096, &mut page)?;
+    let _ = print_on(&mut receipt, b"\x0C", 4096, &mut page)?;
+    Ok(page.as_slice() == paper.as_slice())
+}
+
+#[test]
+fn symbols_are_the_same_on_a_page(rt: HostRuntime) -> Result<(), Fail> {
+    let head = b"\x1BL\x1BW\0\0\0\0\x40\x02\x40\0";
+    let bars = b"\x1Dh\x28\x1DH\x02\x1Dk\x04A1\0";
+    assert!(rt; same_on_a_page(rt.alloc(), head, bars)?);
+    let head = b"\x1BL\x1BW\0\0\0\0\x40\x02\x3F\0";
+    let qr = b"\x1D(k\x0E\x001P0HELLO WORLD\x1D(k\x03\x001Q0";
+    assert!(rt; same_on_a_page(rt.alloc(), head, qr)?);
+    Ok(())
+}

@@ -1,0 +1,140 @@
+//! Symbols on paper, and those that are refused.
+use super::{Case, M, Strip, print_on, printed, stairs, wrong_case};
+use std::alloc::{AllocError, Global};
+use std::test::Fail;
+use vp_dots::{Fault, Why};
+use vp_receipt::{Receipt, Width};
+
+/// The fault of the last item, and how many bytes all of them print.
+fn refused(alloc: Global, sent: &[u8]) -> Result<(Option<Fault>, usize), Fail> {
+    let mut receipt = Receipt::new(alloc, stairs(alloc)?, Width::W576)?;
+    let mut paper = Vec::new(alloc);
+    let fault = print_on(&mut receipt, sent, 4096, &mut paper)?;
+    Ok((fault, paper.len()))
+}
+
+/// What is sent, and why the last item is refused.
+type Refusal = (&'static [u8], Fault);
+
+/// The first case whose last item isn't refused so, or in which anything is printed.
+fn wrong_refusal(alloc: Global, cases: &[Refusal]) -> Result<Option<usize>, Fail> {
+    for i in 0..cases.len() {
+        let (sent, fault) = cases[i];
+        if refused(alloc, sent)? != (Some(fault), 0) {
+            return Ok(Some(i));
+        }
+    }
+    Ok(None)
+}
+
+/// The header and the first row of a symbol of 21 modules, each of one dot.
+static FIRST_ROW: &[u8] = b"P4\n576 21\n\xFE\x2B\xF8\
+    \0\0\0\0\0\0\0\0\0\0\0\0\0\0\0\0\0\0\0\0\0\0\0\0\0\0\0\0\0\0\0\0\0\0\
+    \0\0\0\0\0\0\0\0\0\0\0\0\0\0\0\0\0\0\0\0\0\0\0\0\0\0\0\0\0\0\0\0\0\0\0";
+
+#[test]
+fn qr_symbols(rt: HostRuntime) -> Result<(), Fail> {
+    let sent =
+        b"\x1D(k\x03\x001E1\x1D(k\x03\x001C\x01\x1D(k\x0E\x001P0HELLO WORLD\x1D(k\x03\x001Q0";
+    let paper = printed(rt.alloc(), Width::W576, sent, 4096)?;
+    assert_eq!(rt; paper.len(), 10 + 21 * 72);
+    assert!(rt; paper.as_slice().starts_with(FIRST_ROW));
+    Ok(())
+}
+
+static REFUSED_QR: [Refusal; 2] = [
+    (b"M\x1D(k\x03\x001Q0", Fault::Symbol(Why::Empty)),
+    (
+        b"\x1D(k\x04\x001A1\x00\x1D(k\x0E\x001P0HELLO WORLDM\x1D(k\x03\x001Q0",
+        Fault::Symbol(Why::Unsupported),
+    ),
+];
+
+#[test]
+fn refused_symbols(rt: HostRuntime) -> Result<(), Fail> {
+    assert_eq!(rt; wrong_refusal(rt.alloc(), &REFUSED_QR)?, None);
+    Ok(())
+}
+
+/// The bytes with so many of one kind between them.
+fn filled(
+    alloc: Global,
+    front: &[u8],
+    byte: u8,
+    count: usize,
+    back: &[u8],
+) -> Result<Vec<u8>, AllocError> {
+    let mut sent = Vec::new(alloc);
+    sent.extend_from_slice(front)?;
+    for _ in 0..count {
+        sent.push(byte)?;
+    }
+    sent.extend_from_slice(back)?;
+    Ok(sent)
+}
+
+#[test]
+fn more_than_a_qr_symbol_holds(rt: HostRuntime) -> Result<(), Fail> {
+    let front = b"\x1D(k\x90\x021P0";
+    let sent = filled(rt.alloc(), front, b'1', 653, b"\x1D(k\x03\x001Q0")?;
+    let want = (Some(Fault::SymbolTooLong), 0);
+    assert_eq!(rt; refused(rt.alloc(), sent.as_slice())?, want);
+    Ok(())
+}
+
+#[test]
+fn a_qr_symbol_wider_than_the_line(rt: HostRuntime) -> Result<(), Fail> {
+    let front = b"\x1D(k\x8F\x021P0";
+    let back = b"\x1D(k\x03\x001C\x0BM\x1D(k\x03\x001Q0";
+    let sent = filled(rt.alloc(), front, b'1', 652, back)?;
+    let want = (Some(Fault::SymbolTooWide), 0);
+    assert_eq!(rt; refused(rt.alloc(), sent.as_slice())?, want);
+    Ok(())
+}
+
+static BAR_CODES: [Case; 2] = [
+    (
+        b"\x1Dw\x02\x1Dh\x01\x1Dk\x04A\0",
+        &[Strip {
+            head: b"P4\n576 1\n",
+            rows: &[(1, b"\xC1\x9F\x3E\x67\xCC\xC1\x9F\x30\x67\xCF\x98")],
+        }],
+    ),
+    (
+        b"M\x1Dw\x02\x1Dh\x01\x1DH\x02\x1Dk\x043\0",
+        &[
+            M,
+            Strip {
+                head: b"P4\n576 25\n",
+                rows: &[
+                    (1, b"\xC1\x9F\x3E\x67\xCF\x83\x33\x30\x67\xCF\x98"),
+                    (24, b"\0\0\0\0\x0F\xFF"),
+                ],
+            },
+        ],
+    ),
+];
+
+#[test]
+fn bar_codes(rt: HostRuntime) -> Result<(), Fail> {
+    assert_eq!(rt; wrong_case(rt.alloc(), Width::W576, &BAR_CODES)?, None);
+    Ok(())
+}
+
+static REFUSED_BARS: [Refusal; 6] = [
+    (b"M\x1Dw\x03\x1Dk\x0212\0", Fault::Symbol(Why::Length)),
+    (b"M\x1Dw\x06\x1Dk\x04AAAAA\0", Fault::SymbolTooWide),
+    (b"M\x1Dw\x03\x1DkA\x010", Fault::Symbol(Why::Unsupported)),
+    (b"M\x1Dw\x03\x1Dk\x04\0", Fault::Symbol(Why::Empty)),
+    (b"M\x1Dw\x03\x1Dk\x04a\0", Fault::Symbol(Why::Char)),
+    (b"M\x1Dw\x03\x1DkI\x01A", Fault::Symbol(Why::CodeSet)),
+];
+
+#[test]
+fn refused_bar_codes(rt: HostRuntime) -> Result<(), Fail> {
+    assert_eq!(rt; wrong_refusal(rt.alloc(), &REFUSED_BARS)?, None);
+    let sent = filled(rt.alloc(), b"M\x1Dw\x03\x1Dk\x04", b'A', 256, b"\0")?;
+    let want = (Some(Fault::SymbolTooLong), 0);
+    assert_eq!(rt; refused(rt.alloc(), sent.as_slice())?, want);
+    Ok(())
+}
