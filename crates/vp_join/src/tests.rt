@@ -69,34 +69,64 @@ const NEVER: Fails = Fails {
     write: 0,
 };
 
-/// What is answered and written where at most so many bytes are read and written a call.
-fn run(
-    alloc: Global,
-    first: &[u8],
-    second: &[u8],
-    most: usize,
-    fails: Fails,
-) -> (Result<u64, JoinFault>, Vec<u8>) {
-    let mut a = Counted::new(Pieces {
-        rest: first,
+/// A reader of pieces.
+fn reader(bytes: &[u8], most: usize, fails_at: usize) -> Counted<Pieces<'_>> {
+    Counted::new(Pieces {
+        rest: bytes,
         most,
         calls: 0,
-        fails_at: fails.first,
-    });
-    let mut b = Counted::new(Pieces {
-        rest: second,
-        most,
-        calls: 0,
-        fails_at: fails.second,
-    });
-    let mut writer = Counted::new(Sips {
+        fails_at,
+    })
+}
+
+/// A writer of sips.
+fn writer(alloc: Global, most: usize, fails_at: usize) -> Counted<Sips> {
+    Counted::new(Sips {
         bytes: Vec::new(alloc),
         most,
         calls: 0,
-        fails_at: fails.write,
-    });
+        fails_at,
+    })
+}
+
+/// What was answered and written.
+#[derive(Drop)]
+struct Ran {
+    answer: Result<u64, JoinFault>,
+    written: Vec<u8>,
+}
+
+/// Joins where at most so many bytes are read and written a call.
+fn run(alloc: Global, first: &[u8], second: &[u8], most: usize, fails: Fails) -> Ran {
+    let mut a = reader(first, most, fails.first);
+    let mut b = reader(second, most, fails.second);
+    let mut writer = writer(alloc, most, fails.write);
     let answer = join(&mut a, &mut b, &mut writer);
-    (answer, writer.into_inner().bytes)
+    Ran {
+        answer,
+        written: writer.into_inner().bytes,
+    }
+}
+
+/// What was tried: words and a number.
+type Tried = (&'static str, usize);
+
+/// A run came to this answer and these bytes.
+fn came_to(
+    rt: &impl Abort,
+    ran: &Ran,
+    (what, n): Tried,
+    answer: Result<u64, JoinFault>,
+    bytes: &[u8],
+) {
+    assert_eq!(rt; ran.answer, answer, "{what} {n}");
+    assert_eq!(rt; ran.written.as_slice(), bytes, "{what} {n}");
+}
+
+/// A run came to this answer, and wrote a beginning of the three strips joined.
+fn ended(rt: &impl Abort, ran: &Ran, (what, n): Tried, answer: Result<u64, JoinFault>) {
+    assert_eq!(rt; ran.answer, answer, "{what} {n}");
+    assert!(rt; THREE_JOINED.starts_with(&ran.written), "{what} {n}");
 }
 
 /// The text comes to this answer and these bytes, whatever its pieces.
@@ -108,9 +138,8 @@ fn comes_to(
     bytes: &[u8],
 ) {
     for most in [1, 2, 3, 7, 100_000] {
-        let (answer, written) = run(alloc, text, text, most, NEVER);
-        assert_eq!(rt; answer, want, "{most} bytes a call");
-        assert_eq!(rt; written.as_slice(), bytes, "{most} bytes a call");
+        let ran = run(alloc, text, text, most, NEVER);
+        came_to(rt, &ran, ("bytes a call:", most), want, bytes);
     }
 }
 
@@ -120,134 +149,187 @@ const THREE: &[u8] = b"P4\n4 1\n\xFFP4\n4 2\n\xA5\x1FP4\n4 1\n\x40";
 const THREE_JOINED: &[u8] = b"P4\n4 4\n\xF0\xA0\x10\x40";
 
 #[test]
-fn images_are_joined(rt: HostRuntime) -> Result<(), Fail> {
+fn images_are_joined(rt: HostRuntime) {
     comes_to(&rt, rt.alloc(), b"", Ok(0), b"");
     comes_to(&rt, rt.alloc(), b"P4\n8 1\n\x81", Ok(1), b"P4\n8 1\n\x81");
     comes_to(&rt, rt.alloc(), THREE, Ok(4), THREE_JOINED);
     comes_to(&rt, rt.alloc(), THREE_JOINED, Ok(4), THREE_JOINED);
+}
 
-    // a feed of two rows, and a partial cut
-    let mut strips = Vec::new(rt.alloc());
-    strips.extend_from_slice(b"P4\n576 2\n")?;
+/// A header, a feed of two rows, perhaps another header, and a partial cut.
+fn fed_and_cut(alloc: Global, head: &[u8], between: &[u8]) -> Result<Vec<u8>, AllocError> {
+    let mut strips = Vec::new(alloc);
+    strips.extend_from_slice(head)?;
     strips.extend_from_slice(&[0; 144])?;
-    strips.extend_from_slice(b"P4\n576 1\n")?;
-    let mut whole = Vec::new(rt.alloc());
-    whole.extend_from_slice(b"P4\n576 3\n")?;
-    whole.extend_from_slice(&[0; 144])?;
+    strips.extend_from_slice(between)?;
     for _ in 0..36 {
         strips.extend_from_slice(&[0xFF, 0])?;
-        whole.extend_from_slice(&[0xFF, 0])?;
     }
-    comes_to(&rt, rt.alloc(), strips.as_slice(), Ok(3), whole.as_slice());
+    Ok(strips)
+}
+
+#[test]
+fn a_feed_and_a_cut_are_joined(rt: HostRuntime) -> Result<(), Fail> {
+    let strips = fed_and_cut(rt.alloc(), b"P4\n576 2\n", b"P4\n576 1\n")?;
+    let whole = fed_and_cut(rt.alloc(), b"P4\n576 3\n", b"")?;
+    comes_to(&rt, rt.alloc(), &strips, Ok(3), &whole);
     Ok(())
+}
+
+/// A text, and why it is refused.
+type Refused = (&'static [u8], JoinFault);
+
+const REFUSED: &[Refused] = &[
+    (b"P4\n8 1\n", JoinFault::Short),
+    (b"P4\n8 2\n\x80", JoinFault::Short),
+    (b"P4\n8 1\n\x80P4\n8 2\n\x80", JoinFault::Short),
+    (b"P4\n08 1\n\x80", JoinFault::Header),
+    (b"P4\n8 01\n\x80", JoinFault::Header),
+    (b"P4\n8 0\n", JoinFault::Header),
+    (b"P4\n0 8\n", JoinFault::Header),
+    (b"P4\n8", JoinFault::Header),
+    (b"P", JoinFault::Header),
+    (b"P5\n8 1\n\x80", JoinFault::Header),
+    (b"P4 8 1\n\x80", JoinFault::Header),
+    (b"P4\n8  1\n\x80", JoinFault::Header),
+    (b"P4\n8\n1\n\x80", JoinFault::Header),
+    (b"P4\n1000000000 1\n", JoinFault::Header),
+    (b"P4\n8 1\n\x80\n", JoinFault::Header),
+    (b"P4\n8 1\n\x80P4\n16 1\n\x80\x00", JoinFault::Width),
+    (b"P4\n8 1\n\x80P4\n16 999999999\n", JoinFault::Width),
+    (b"P4\n8 1\n\x80P4\n8 999999999\n", JoinFault::TooTall),
+    // the tallest image is no fault of its header
+    (b"P4\n8 999999999\n\x80", JoinFault::Short),
+];
+
+fn refused() -> &'static [Refused] {
+    REFUSED
 }
 
 #[test]
 fn texts_are_refused(rt: HostRuntime) {
-    let table: [(&[u8], JoinFault); 18] = [
-        (b"P4\n8 1\n", JoinFault::Short),
-        (b"P4\n8 2\n\x80", JoinFault::Short),
-        (b"P4\n8 1\n\x80P4\n8 2\n\x80", JoinFault::Short),
-        (b"P4\n08 1\n\x80", JoinFault::Header),
-        (b"P4\n8 01\n\x80", JoinFault::Header),
-        (b"P4\n8 0\n", JoinFault::Header),
-        (b"P4\n0 8\n", JoinFault::Header),
-        (b"P4\n8", JoinFault::Header),
-        (b"P", JoinFault::Header),
-        (b"P5\n8 1\n\x80", JoinFault::Header),
-        (b"P4 8 1\n\x80", JoinFault::Header),
-        (b"P4\n8  1\n\x80", JoinFault::Header),
-        (b"P4\n8\n1\n\x80", JoinFault::Header),
-        (b"P4\n1000000000 1\n", JoinFault::Header),
-        (b"P4\n8 1\n\x80\n", JoinFault::Header),
-        (b"P4\n8 1\n\x80P4\n16 1\n\x80\x00", JoinFault::Width),
-        (b"P4\n8 1\n\x80P4\n16 999999999\n", JoinFault::Width),
-        (b"P4\n8 1\n\x80P4\n8 999999999\n", JoinFault::TooTall),
-    ];
-    for (text, fault) in table {
-        comes_to(&rt, rt.alloc(), text, Err(fault), b"");
+    for (text, fault) in refused() {
+        comes_to(&rt, rt.alloc(), text, Err(*fault), b"");
     }
-    // the tallest image is no fault of its header
-    comes_to(
-        &rt,
-        rt.alloc(),
-        b"P4\n8 999999999\n\x80",
-        Err(JoinFault::Short),
-        b"",
-    );
 }
 
-/// An image of black dots, its padding set or not.
-fn black(alloc: Global, width: u32, height: u32, last: u8) -> Result<Vec<u8>, AllocError> {
-    let head = format!(in alloc; "P4\n{width} {height}\n")?;
-    let mut image = head.into_bytes();
-    for _ in 0..height {
-        for _ in 1..width.div_ceil(8) {
-            image.push(0xFF)?;
-        }
-        image.push(last)?;
+/// Adds a row of black dots, its padding set or not.
+fn add_row(image: &mut Vec<u8>, width: u32, last: u8) -> Result<(), AllocError> {
+    for _ in 1..width.div_ceil(8) {
+        image.push(0xFF)?;
     }
-    Ok(image)
+    image.push(last)?;
+    Ok(())
+}
+
+/// Adds an image of black dots, its padding set or not.
+fn add_black(image: &mut Vec<u8>, width: u32, height: u32, last: u8) -> Result<(), Fail> {
+    write!(image, "P4\n{width} {height}\n")?;
+    for _ in 0..height {
+        add_row(image, width, last)?;
+    }
+    Ok(())
+}
+
+/// A run of a size came to this answer and these bytes.
+fn is_black(
+    rt: &impl Abort,
+    ran: &Ran,
+    (width, height): (u32, u32),
+    answer: Result<u64, JoinFault>,
+    bytes: &[u8],
+) {
+    assert_eq!(rt; ran.answer, answer, "{width} by {height}");
+    assert_eq!(rt; ran.written.as_slice(), bytes, "{width} by {height}");
+}
+
+/// An image of three rows and one of this height are joined.
+fn a_size_is_joined(
+    rt: &impl Abort,
+    alloc: Global,
+    width: u32,
+    height: u32,
+    last: u8,
+) -> Result<(), Fail> {
+    let mut text = Vec::new(alloc);
+    add_black(&mut text, width, 3, 0xFF)?;
+    add_black(&mut text, width, height, 0xFF)?;
+    let mut want = Vec::new(alloc);
+    add_black(&mut want, width, height.saturating_add(3), last)?;
+    let ran = run(alloc, &text, &text, 5, NEVER);
+    let answer = Ok(u64::from(height).saturating_add(3));
+    is_black(rt, &ran, (width, height), answer, &want);
+    Ok(())
+}
+
+/// The last byte of a row of black dots.
+fn last_byte(width: u32) -> u8 {
+    match width % 8 {
+        0 => 0xFF,
+        dots => !(0xFFu8 >> dots),
+    }
 }
 
 #[test]
 fn each_size_is_joined(rt: HostRuntime) -> Result<(), Fail> {
     for width in 1..21u32 {
-        let last = match width % 8 {
-            0 => 0xFF,
-            dots => !(0xFFu8 >> dots),
-        };
         for height in 1..41u32 {
-            let mut text = black(rt.alloc(), width, 3, 0xFF)?;
-            text.extend_from_slice(&black(rt.alloc(), width, height, 0xFF)?)?;
-            let want = black(rt.alloc(), width, height + 3, last)?;
-            let (answer, written) = run(rt.alloc(), &text, &text, 5, NEVER);
-            assert_eq!(rt; answer, Ok(u64::from(height) + 3), "{width} by {height}");
-            assert_eq!(rt; written.as_slice(), want.as_slice(), "{width} by {height}");
+            a_size_is_joined(&rt, rt.alloc(), width, height, last_byte(width))?;
         }
     }
     Ok(())
 }
 
+/// The answer where a call fails, of so many that are made.
+fn failing(call: usize, calls: usize, fault: JoinFault) -> Result<u64, JoinFault> {
+    if call <= calls { Err(fault) } else { Ok(4) }
+}
+
+/// So many bytes are written, or all.
+fn writes(rt: &impl Abort, ran: &Ran, bytes: usize, (what, n): Tried) {
+    if ran.answer.is_err() {
+        assert_eq!(rt; ran.written.len(), bytes, "{what} {n}");
+    }
+}
+
+fn first_read_fails(rt: &impl Abort, alloc: Global, call: usize) {
+    let fails = Fails {
+        first: call,
+        ..NEVER
+    };
+    let ran = run(alloc, THREE, THREE, 1, fails);
+    let answer = failing(call, THREE.len() + 1, JoinFault::Read);
+    ended(rt, &ran, ("read", call), answer);
+    writes(rt, &ran, 0, ("read", call));
+}
+
+fn second_read_fails(rt: &impl Abort, alloc: Global, call: usize) {
+    let fails = Fails {
+        second: call,
+        ..NEVER
+    };
+    let ran = run(alloc, THREE, THREE, 1, fails);
+    let answer = failing(call, THREE.len() + 1, JoinFault::Read);
+    ended(rt, &ran, ("second read", call), answer);
+}
+
+fn write_fails(rt: &impl Abort, alloc: Global, call: usize) {
+    let fails = Fails {
+        write: call,
+        ..NEVER
+    };
+    let ran = run(alloc, THREE, THREE, 1, fails);
+    let answer = failing(call, THREE_JOINED.len(), JoinFault::Write);
+    ended(rt, &ran, ("write", call), answer);
+    writes(rt, &ran, call.wrapping_sub(1), ("write", call));
+}
+
 #[test]
 fn each_call_fails_in_turn(rt: HostRuntime) {
     for call in 1..60usize {
-        let first = Fails {
-            first: call,
-            ..NEVER
-        };
-        let (answer, written) = run(rt.alloc(), THREE, THREE, 1, first);
-        if call <= THREE.len() + 1 {
-            assert_eq!(rt; answer, Err(JoinFault::Read), "read {call}");
-            assert_eq!(rt; written.len(), 0, "read {call}");
-        } else {
-            assert_eq!(rt; answer, Ok(4), "read {call}");
-        }
-
-        let second = Fails {
-            second: call,
-            ..NEVER
-        };
-        let (answer, written) = run(rt.alloc(), THREE, THREE, 1, second);
-        assert!(rt; THREE_JOINED.starts_with(&written), "second read {call}");
-        if call <= THREE.len() + 1 {
-            assert_eq!(rt; answer, Err(JoinFault::Read), "second read {call}");
-        } else {
-            assert_eq!(rt; answer, Ok(4), "second read {call}");
-        }
-
-        let write = Fails {
-            write: call,
-            ..NEVER
-        };
-        let (answer, written) = run(rt.alloc(), THREE, THREE, 1, write);
-        assert!(rt; THREE_JOINED.starts_with(&written), "write {call}");
-        if call <= THREE_JOINED.len() {
-            assert_eq!(rt; answer, Err(JoinFault::Write), "write {call}");
-            assert_eq!(rt; written.len(), call - 1, "write {call}");
-        } else {
-            assert_eq!(rt; answer, Ok(4), "write {call}");
-        }
+        first_read_fails(&rt, rt.alloc(), call);
+        second_read_fails(&rt, rt.alloc(), call);
+        write_fails(&rt, rt.alloc(), call);
     }
 }
 
@@ -255,61 +337,86 @@ fn each_call_fails_in_turn(rt: HostRuntime) {
 fn a_writer_that_takes_nothing_has_failed(rt: HostRuntime) {
     let mut a = Counted::new(THREE);
     let mut b = Counted::new(THREE);
-    let mut writer = Counted::new(Sips {
-        bytes: Vec::new(rt.alloc()),
-        most: 0,
-        calls: 0,
-        fails_at: 0,
-    });
+    let mut writer = writer(rt.alloc(), 0, 0);
     assert_eq!(rt; join(&mut a, &mut b, &mut writer), Err(JoinFault::Write));
 }
 
+/// Another width; and the same rows in other images, which are no difference.
 #[test]
-fn the_second_reader_differs(rt: HostRuntime) -> Result<(), Fail> {
+fn the_second_reader_differs(rt: HostRuntime) {
     let wide = b"P4\n16 1\n\x80\x00";
-    let (answer, written) = run(rt.alloc(), b"P4\n8 1\n\x80", wide, 100, NEVER);
-    assert_eq!(rt; answer, Err(JoinFault::Differ));
-    assert_eq!(rt; written.as_slice(), b"P4\n8 1\n".as_slice());
+    let ran = run(rt.alloc(), b"P4\n8 1\n\x80", wide, 100, NEVER);
+    let begun = b"P4\n8 1\n";
+    came_to(&rt, &ran, ("width", 16), Err(JoinFault::Differ), begun);
+    let ran = run(rt.alloc(), THREE, THREE_JOINED, 3, NEVER);
+    came_to(&rt, &ran, ("images", 1), Ok(4), THREE_JOINED);
+    let ran = run(rt.alloc(), b"", THREE, 3, NEVER);
+    assert_eq!(rt; ran.answer, Err(JoinFault::Differ));
+}
 
-    // the same rows in other images are no difference
-    let (answer, written) = run(rt.alloc(), THREE, THREE_JOINED, 3, NEVER);
-    assert_eq!(rt; answer, Ok(4));
-    assert_eq!(rt; written.as_slice(), THREE_JOINED);
-    let (answer, _) = run(rt.alloc(), b"", THREE, 3, NEVER);
-    assert_eq!(rt; answer, Err(JoinFault::Differ));
+/// The second reader gives other bytes than the first one.
+fn differs(rt: &impl Abort, alloc: Global, second: &[u8], most: usize, tried: Tried) {
+    let ran = run(alloc, THREE, second, most, NEVER);
+    ended(rt, &ran, tried, Err(JoinFault::Differ));
+}
 
+#[test]
+fn the_second_reader_gives_fewer_bytes(rt: HostRuntime) {
     for most in [1, 4, 100] {
-        // fewer bytes
         for n in 0..THREE.len() {
-            let (answer, written) = run(rt.alloc(), THREE, &THREE[..n], most, NEVER);
-            assert_eq!(rt; answer, Err(JoinFault::Differ), "{n} bytes");
-            assert!(rt; THREE_JOINED.starts_with(&written), "{n} bytes");
+            differs(&rt, rt.alloc(), &THREE[..n], most, ("bytes:", n));
         }
-        // more bytes
-        for more in [b"P".as_slice(), b"\n", b"P4\n4 1\n\xFF"] {
-            let mut text = Vec::new(rt.alloc());
-            text.extend_from_slice(THREE)?;
-            text.extend_from_slice(more)?;
-            let (answer, written) = run(rt.alloc(), THREE, &text, most, NEVER);
-            assert_eq!(rt; answer, Err(JoinFault::Differ), "more bytes");
-            assert!(rt; THREE_JOINED.starts_with(&written), "more bytes");
-        }
-        // another byte
+    }
+}
+
+/// The three strips, and these bytes behind them.
+fn three_and(alloc: Global, more: &[u8]) -> Result<Vec<u8>, AllocError> {
+    let mut text = Vec::new(alloc);
+    text.extend_from_slice(THREE)?;
+    text.extend_from_slice(more)?;
+    Ok(text)
+}
+
+fn more_bytes_differ(rt: &impl Abort, alloc: Global, more: &[u8], most: usize) -> Result<(), Fail> {
+    let text = three_and(alloc, more)?;
+    differs(rt, alloc, &text, most, ("more bytes:", more.len()));
+    Ok(())
+}
+
+#[test]
+fn the_second_reader_gives_more_bytes(rt: HostRuntime) -> Result<(), Fail> {
+    for most in [1, 4, 100] {
+        more_bytes_differ(&rt, rt.alloc(), b"P", most)?;
+        more_bytes_differ(&rt, rt.alloc(), b"\n", most)?;
+        more_bytes_differ(&rt, rt.alloc(), b"P4\n4 1\n\xFF", most)?;
+    }
+    Ok(())
+}
+
+/// 7, 15, 16 and 24 are bytes of rows, of which only padding is changed; else the readers differ.
+fn is_changed_at(rt: &impl Abort, ran: &Ran, n: usize) {
+    if n == 7 || n == 15 || n == 16 || n == 24 {
+        came_to(rt, ran, ("byte", n), Ok(4), THREE_JOINED);
+    } else {
+        assert_eq!(rt; ran.answer, Err(JoinFault::Differ), "byte {n}");
+        assert!(rt; ran.written.len() <= THREE_JOINED.len(), "byte {n}");
+    }
+}
+
+fn another_byte_differs(rt: &impl Abort, alloc: Global, n: usize, most: usize) -> Result<(), Fail> {
+    let mut text = three_and(alloc, b"")?;
+    if let Some(byte) = text.get_mut(n) {
+        *byte ^= 1;
+    }
+    is_changed_at(rt, &run(alloc, THREE, &text, most, NEVER), n);
+    Ok(())
+}
+
+#[test]
+fn the_second_reader_gives_another_byte(rt: HostRuntime) -> Result<(), Fail> {
+    for most in [1, 4, 100] {
         for n in 0..THREE.len() {
-            let mut text = Vec::new(rt.alloc());
-            text.extend_from_slice(THREE)?;
-            if let Some(byte) = text.get_mut(n) {
-                *byte ^= 1;
-            }
-            let (answer, written) = run(rt.alloc(), THREE, &text, most, NEVER);
-            // 7, 15, 16 and 24 are bytes of rows, of which only padding is changed
-            if n == 7 || n == 15 || n == 16 || n == 24 {
-                assert_eq!(rt; answer, Ok(4), "byte {n}");
-                assert_eq!(rt; written.as_slice(), THREE_JOINED, "byte {n}");
-            } else {
-                assert_eq!(rt; answer, Err(JoinFault::Differ), "byte {n}");
-                assert!(rt; written.len() <= THREE_JOINED.len(), "byte {n}");
-            }
+            another_byte_differs(&rt, rt.alloc(), n, most)?;
         }
     }
     Ok(())

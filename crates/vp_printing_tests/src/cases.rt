@@ -1,6 +1,7 @@
 //! Streams, and the bytes that they must print.
 use crate::labels::{Label, Printed};
-use crate::streams::Stream;
+use crate::sheet::repeat;
+use crate::streams::{Image, Stream};
 use crate::{fields, labels, pages, streams, symbols};
 use std::alloc::{AllocError, Global};
 use std::io::Write;
@@ -18,6 +19,23 @@ pub struct Case {
     pub fault: Option<Fault>,
 }
 
+/// Adds a row of so many bytes that begins like this.
+fn add_row(paper: &mut Vec<u8>, front: &[u8], width: usize) -> Result<(), AllocError> {
+    paper.extend_from_slice(front)?;
+    repeat(paper, b"\0", width.saturating_sub(front.len()))
+}
+
+/// Adds an image of a receipt.
+fn add_strip(paper: &mut Vec<u8>, image: &Image, width: usize) -> Result<(), AllocError> {
+    paper.extend_from_slice(image.head)?;
+    for (count, front) in image.rows {
+        for _ in 0..*count {
+            add_row(paper, front, width)?;
+        }
+    }
+    Ok(())
+}
+
 /// The bytes of the images of a receipt.
 fn receipt_paper(alloc: Global, stream: &Stream) -> Result<Vec<u8>, AllocError> {
     let width: usize = match stream.language {
@@ -26,15 +44,7 @@ fn receipt_paper(alloc: Global, stream: &Stream) -> Result<Vec<u8>, AllocError> 
     };
     let mut paper = Vec::new(alloc);
     for image in stream.images {
-        paper.extend_from_slice(image.head)?;
-        for (count, front) in image.rows {
-            for _ in 0..*count {
-                paper.extend_from_slice(front)?;
-                for _ in front.len()..width {
-                    paper.push(0)?;
-                }
-            }
-        }
+        add_strip(&mut paper, image, width)?;
     }
     Ok(paper)
 }
@@ -50,24 +60,37 @@ fn eight_dots(left: usize, dots: &[u8], x: usize) -> u8 {
     byte
 }
 
+/// Adds a row of a label.
+fn add_dots(paper: &mut Vec<u8>, width: usize, left: usize, dots: &[u8]) -> Result<(), AllocError> {
+    for byte in 0..width.div_ceil(8) {
+        paper.push(eight_dots(left, dots, byte.wrapping_mul(8)))?;
+    }
+    Ok(())
+}
+
 /// Adds an image of a label.
 fn add(paper: &mut Vec<u8>, printed: &Printed) -> Result<(), Fail> {
     write!(paper, "P4\n{} {}\n", printed.width, printed.height)?;
     let mut below = printed.height;
     for (count, left, dots) in printed.rows {
         for _ in 0..*count {
-            for byte in 0..printed.width.div_ceil(8) {
-                paper.push(eight_dots(*left, dots, byte.wrapping_mul(8)))?;
-            }
+            add_dots(paper, printed.width, *left, dots)?;
             below = below.wrapping_sub(1);
         }
     }
-    for _ in 0..below {
-        for _ in 0..printed.width.div_ceil(8) {
-            paper.push(0)?;
-        }
-    }
+    repeat(paper, b"\0", below.wrapping_mul(printed.width.div_ceil(8)))?;
     Ok(())
+}
+
+/// What a receipt must come to.
+fn receipt(alloc: Global, stream: &Stream) -> Result<Case, AllocError> {
+    Ok(Case {
+        name: stream.name,
+        language: stream.language,
+        bytes: stream.bytes,
+        paper: receipt_paper(alloc, stream)?,
+        fault: stream.fault,
+    })
 }
 
 /// What these receipts must come to.
@@ -75,13 +98,7 @@ fn receipts(alloc: Global, tables: &[&'static [Stream]]) -> Result<Vec<Case>, Fa
     let mut cases = Vec::new(alloc);
     for table in tables {
         for stream in *table {
-            cases.push(Case {
-                name: stream.name,
-                language: stream.language,
-                bytes: stream.bytes,
-                paper: receipt_paper(alloc, stream)?,
-                fault: stream.fault,
-            })?;
+            cases.push(receipt(alloc, stream)?)?;
         }
     }
     Ok(cases)
@@ -102,22 +119,32 @@ pub fn of_symbols(alloc: Global) -> Result<Vec<Case>, Fail> {
     receipts(alloc, &symbols::tables())
 }
 
+/// The bytes of the images of a label.
+fn label_paper(alloc: Global, label: &Label) -> Result<Vec<u8>, Fail> {
+    let mut paper = Vec::new(alloc);
+    for printed in label.prints {
+        for _ in 0..printed.copies {
+            add(&mut paper, printed)?;
+        }
+    }
+    Ok(paper)
+}
+
+/// What a label must come to.
+fn label(alloc: Global, label: &Label) -> Result<Case, Fail> {
+    Ok(Case {
+        name: label.name,
+        language: Language::Label,
+        bytes: label.bytes,
+        paper: label_paper(alloc, label)?,
+        fault: label.fault,
+    })
+}
+
 /// Adds what these labels must come to.
 fn add_labels(alloc: Global, cases: &mut Vec<Case>, labels: &'static [Label]) -> Result<(), Fail> {
-    for label in labels {
-        let mut paper = Vec::new(alloc);
-        for printed in label.prints {
-            for _ in 0..printed.copies {
-                add(&mut paper, printed)?;
-            }
-        }
-        cases.push(Case {
-            name: label.name,
-            language: Language::Label,
-            bytes: label.bytes,
-            paper,
-            fault: label.fault,
-        })?;
+    for each in labels {
+        cases.push(label(alloc, each)?)?;
     }
     Ok(())
 }

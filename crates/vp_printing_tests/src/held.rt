@@ -1,10 +1,11 @@
 //! What a printer holds while it prints: the rows of its line, its page and its band, and the bytes and
 //! fields of a format.
+use crate::sheet::repeated;
 use std::alloc::Global;
 use std::process::Abort;
 use std::test::Fail;
 use vp_dots::Fault;
-use vp_engine::{Language, Printer, State};
+use vp_engine::{Held, Language, Printer, State};
 use vp_glyph::Sheets;
 
 /// No font is drawn.
@@ -12,7 +13,7 @@ const NO_SHEETS: Sheets = Sheets { a: None, b: None };
 
 /// A step: its input, its room, what it comes to, and the rows that are then held of the line and of the
 /// page.
-type Stage = (&'static [u8], usize, State, u16, u16);
+type Stage = (&'static [u8], usize, State, (u16, u16));
 
 /// ESC L, an area of two rows, and FF: a page of 153 bytes.
 const PAGE: &[u8] = b"\x1BL\x1BW\x00\x00\x00\x00\x10\x00\x02\x00\x0C";
@@ -21,25 +22,25 @@ const PAGE: &[u8] = b"\x1BL\x1BW\x00\x00\x00\x00\x10\x00\x02\x00\x0C";
 const STAGES: &[&[Stage]] = &[
     // a line on paper
     &[
-        (b"", 0, State::More, 0, 0),
-        (b"M", 0, State::More, 24, 0),
-        (b"\n", 0, State::Room, 24, 0),
-        (b"", 1, State::Room, 24, 0),
-        (b"", 2456, State::Room, 24, 0),
-        (b"", 1, State::More, 0, 0),
+        (b"", 0, State::More, (0, 0)),
+        (b"M", 0, State::More, (24, 0)),
+        (b"\n", 0, State::Room, (24, 0)),
+        (b"", 1, State::Room, (24, 0)),
+        (b"", 2456, State::Room, (24, 0)),
+        (b"", 1, State::More, (0, 0)),
     ],
     // ESC L, and FF
     &[
-        (b"\x1BL", 0, State::More, 0, 1664),
-        (b"\x0C", 0, State::Room, 0, 1664),
+        (b"\x1BL", 0, State::More, (0, 1664)),
+        (b"\x0C", 0, State::Room, (0, 1664)),
     ],
     // FF prints the page and ends page mode
     &[
-        (PAGE, 0, State::Room, 0, 1664),
-        (b"", 152, State::Room, 0, 1664),
-        (b"", 1, State::More, 0, 0),
-        (b"\x0C", 0, State::More, 0, 0),
-        (b"\n", 0, State::Room, 0, 0),
+        (PAGE, 0, State::Room, (0, 1664)),
+        (b"", 152, State::Room, (0, 1664)),
+        (b"", 1, State::More, (0, 0)),
+        (b"\x0C", 0, State::More, (0, 0)),
+        (b"\n", 0, State::Room, (0, 0)),
     ],
     // ESC FF keeps it
     &[
@@ -47,21 +48,20 @@ const STAGES: &[&[Stage]] = &[
             b"\x1BL\x1BW\x00\x00\x00\x00\x10\x00\x02\x00",
             0,
             State::More,
-            0,
-            1664,
+            (0, 1664),
         ),
-        (b"\x1B\x0C", 0, State::Room, 0, 1664),
-        (b"", 152, State::Room, 0, 1664),
-        (b"", 1, State::More, 0, 1664),
+        (b"\x1B\x0C", 0, State::Room, (0, 1664)),
+        (b"", 152, State::Room, (0, 1664)),
+        (b"", 1, State::More, (0, 1664)),
     ],
     // ESC S, ESC @
     &[
-        (b"\x1BLM", 0, State::More, 24, 1664),
-        (b"\x1BS", 0, State::More, 0, 0),
+        (b"\x1BLM", 0, State::More, (24, 1664)),
+        (b"\x1BS", 0, State::More, (0, 0)),
     ],
     &[
-        (b"\x1BL", 0, State::More, 0, 1664),
-        (b"\x1B@", 0, State::More, 0, 0),
+        (b"\x1BL", 0, State::More, (0, 1664)),
+        (b"\x1B@", 0, State::More, (0, 0)),
     ],
 ];
 
@@ -69,44 +69,81 @@ fn stages() -> &'static [&'static [Stage]] {
     STAGES
 }
 
-/// The stages of a printer come to what they say.
-fn holds(rt: &impl Abort, printer: &mut Printer, stages: &[Stage]) {
-    let mut out = [0; 2457];
-    for (input, room, state, line_rows, page_rows) in stages {
-        let step = printer.step(input, &mut out[..(*room).min(2457)]);
-        let held = printer.held();
-        assert_eq!(rt; step.state, *state);
-        assert_eq!(rt; (held.line_rows, held.page_rows), (*line_rows, *page_rows));
+/// So many rows are held of the line and of the page.
+fn has_rows(rt: &impl Abort, held: Held, (line, page): (u16, u16)) {
+    assert_eq!(rt; held.line_rows, line);
+    assert_eq!(rt; held.page_rows, page);
+}
+
+/// A stage of a printer comes to what it says.
+fn holds(rt: &impl Abort, printer: &mut Printer, room: &mut [u8], stage: &Stage) {
+    let (input, most, state, rows) = *stage;
+    let most = most.min(room.len());
+    let step = printer.step(input, &mut room[..most]);
+    assert_eq!(rt; step.state, state);
+    has_rows(rt, printer.held(), rows);
+}
+
+/// The stages of a new printer come to what they say.
+fn each_holds(
+    rt: &impl Abort,
+    alloc: Global,
+    room: &mut [u8],
+    stages: &[Stage],
+) -> Result<(), Fail> {
+    let mut printer = Printer::new(alloc, Language::Receipt, NO_SHEETS)?;
+    for stage in stages {
+        holds(rt, &mut printer, room, stage);
     }
+    Ok(())
 }
 
 #[test]
 fn the_heights_of_line_and_page_are_held(rt: HostRuntime) -> Result<(), Fail> {
+    let mut room = repeated(rt.alloc(), b"", b"\0", 2457)?;
     for stages in stages() {
-        let mut printer = Printer::new(rt.alloc(), Language::Receipt, NO_SHEETS)?;
-        holds(&rt, &mut printer, stages);
+        each_holds(&rt, rt.alloc(), &mut room, stages)?;
     }
     Ok(())
+}
+
+/// A byte is put out.
+fn puts_a_byte(rt: &impl Abort, printer: &mut Printer, state: State, rows: (u16, u16)) {
+    holds(rt, printer, &mut [0], &(b"", 1, state, rows));
+}
+
+fn holds_a_page(rt: &impl Abort, printer: &mut Printer) {
+    holds(rt, printer, &mut [], &(PAGE, 0, State::Room, (0, 1664)));
+    for _ in 0..152 {
+        puts_a_byte(rt, printer, State::Room, (0, 1664));
+    }
+    puts_a_byte(rt, printer, State::More, (0, 0));
 }
 
 #[test]
 fn a_page_is_held_to_its_last_byte(rt: HostRuntime) -> Result<(), Fail> {
     let mut printer = Printer::new(rt.alloc(), Language::Receipt, NO_SHEETS)?;
-    holds(&rt, &mut printer, &[(PAGE, 0, State::Room, 0, 1664)]);
-    for _ in 0..152 {
-        holds(&rt, &mut printer, &[(b"", 1, State::Room, 0, 1664)]);
-    }
-    holds(&rt, &mut printer, &[(b"", 1, State::More, 0, 0)]);
+    holds_a_page(&rt, &mut printer);
     Ok(())
+}
+
+/// A printer whose page isn't printed has not finished.
+fn is_unprinted(rt: &impl Abort, printer: &Printer) {
+    if !printer.pending() {
+        assert_eq!(rt; printer.finish(), Err(Fault::Unprinted));
+    }
 }
 
 #[test]
 fn a_page_is_unprinted(rt: HostRuntime) -> Result<(), Fail> {
     let mut printer = Printer::new(rt.alloc(), Language::Receipt, NO_SHEETS)?;
-    holds(&rt, &mut printer, &[(b"\x1BL", 0, State::More, 0, 1664)]);
-    if !printer.pending() {
-        assert_eq!(rt; printer.finish(), Err(Fault::Unprinted));
-    }
+    holds(
+        &rt,
+        &mut printer,
+        &mut [],
+        &(b"\x1BL", 0, State::More, (0, 1664)),
+    );
+    is_unprinted(&rt, &printer);
     Ok(())
 }
 
@@ -151,42 +188,49 @@ fn format() -> &'static [LabelStage] {
     FORMAT
 }
 
-/// The stages of a label come to what they say.
-fn label_holds(rt: &impl Abort, alloc: Global, stages: &[LabelStage]) -> Result<(), Fail> {
-    let mut printer = Printer::new(alloc, Language::Label, NO_SHEETS)?;
+/// A stage of a label comes to what it says.
+fn label_holds(rt: &impl Abort, printer: &mut Printer, stage: &LabelStage) {
+    let (input, room, state, counts) = *stage;
     let mut out = [0; 32];
-    for (input, room, state, counts) in stages {
-        let step = printer.step(input, &mut out[..(*room).min(32)]);
-        let held = printer.held();
-        assert_eq!(rt; step.state, *state);
-        assert_eq!(rt; (held.band_rows, held.stored, held.fields), *counts);
+    let step = printer.step(input, &mut out[..room.min(32)]);
+    let held = printer.held();
+    assert_eq!(rt; step.state, state);
+    assert_eq!(rt; (held.band_rows, held.stored, held.fields), counts);
+}
+
+/// The stages of a new printer of labels come to what they say.
+fn each_label_holds(rt: &impl Abort, alloc: Global, stages: &[LabelStage]) -> Result<(), Fail> {
+    let mut printer = Printer::new(alloc, Language::Label, NO_SHEETS)?;
+    for stage in stages {
+        label_holds(rt, &mut printer, stage);
     }
     Ok(())
 }
 
 #[test]
 fn the_band_is_held(rt: HostRuntime) -> Result<(), Fail> {
-    label_holds(&rt, rt.alloc(), bands())
+    each_label_holds(&rt, rt.alloc(), bands())
 }
 
 #[test]
 fn the_format_is_held(rt: HostRuntime) -> Result<(), Fail> {
-    label_holds(&rt, rt.alloc(), format())
+    each_label_holds(&rt, rt.alloc(), format())
 }
 
-#[test]
-fn stops_where_the_store_is_full(rt: HostRuntime) -> Result<(), Fail> {
-    let mut bytes = Vec::new(rt.alloc());
-    bytes.extend_from_slice(b"^XA^FD")?;
-    for _ in 0..262_147 {
-        bytes.push(b'A')?;
-    }
-    let mut printer = Printer::new(rt.alloc(), Language::Label, NO_SHEETS)?;
-    let step = printer.step(bytes.as_slice(), &mut []);
+/// A label printer stops at the first byte that its store has no place for.
+fn stops_full(rt: &impl Abort, printer: &mut Printer, bytes: &[u8]) {
+    let step = printer.step(bytes, &mut []);
     assert_eq!(rt;
         (step.taken, step.state),
         (262_151, State::Stopped(Fault::StoreFull))
     );
     assert_eq!(rt; printer.held().stored, 262_144);
+}
+
+#[test]
+fn stops_where_the_store_is_full(rt: HostRuntime) -> Result<(), Fail> {
+    let bytes = repeated(rt.alloc(), b"^XA^FD", b"A", 262_147)?;
+    let mut printer = Printer::new(rt.alloc(), Language::Label, NO_SHEETS)?;
+    stops_full(&rt, &mut printer, &bytes);
     Ok(())
 }

@@ -1,10 +1,11 @@
 //! Streams, and their listings.
-use crate::pieces::{Pieces, Sips};
+use crate::pieces::{reader, writer};
+use crate::sheet::repeated;
 use std::alloc::Global;
 use std::process::Abort;
 use std::test::Fail;
 use vp_dots::Fault;
-use vp_engine::{Counted, Language, RunFault, list};
+use vp_engine::{Language, RunFault, list};
 
 /// Never reached: no call fails.
 const NEVER: usize = 0;
@@ -143,18 +144,8 @@ fn listed(
     most: usize,
     (bad_read, bad_write): (usize, usize),
 ) -> Outcome {
-    let mut reader = Counted::new(Pieces {
-        rest: bytes,
-        most,
-        calls: 0,
-        fails_at: bad_read,
-    });
-    let mut writer = Counted::new(Sips {
-        bytes: Vec::new(alloc),
-        most,
-        calls: 0,
-        fails_at: bad_write,
-    });
+    let mut reader = reader(bytes, most, bad_read);
+    let mut writer = writer(alloc, most, bad_write);
     let answer = list(language, &mut reader, &mut writer);
     let writer = writer.into_inner();
     Outcome {
@@ -165,13 +156,18 @@ fn listed(
     }
 }
 
+/// A listing in a language comes to its lines and its answer, with so many bytes a call.
+fn is_listed(rt: &impl Abort, alloc: Global, listing: &Listing, language: Language, most: usize) {
+    let whole = listed(alloc, language, listing.bytes, most, (NEVER, NEVER));
+    assert_eq!(rt; whole.lines.as_slice(), listing.lines);
+    assert_eq!(rt; whole.answer, listing.answer);
+}
+
 #[test]
 fn each_item_has_its_line(rt: HostRuntime) {
     for listing in listings() {
         for language in listing.languages {
-            let whole = listed(rt.alloc(), *language, listing.bytes, 1000, (NEVER, NEVER));
-            assert_eq!(rt; whole.lines.as_slice(), listing.lines);
-            assert_eq!(rt; whole.answer, listing.answer);
+            is_listed(&rt, rt.alloc(), listing, *language, 1000);
         }
     }
 }
@@ -181,12 +177,35 @@ fn a_listing_is_cut_into_bytes(rt: HostRuntime) {
     for listing in listings() {
         for language in listing.languages {
             for most in [1, 2, 3, 7, 8, 9] {
-                let calls = (NEVER, NEVER);
-                let cut = listed(rt.alloc(), *language, listing.bytes, most, calls);
-                assert_eq!(rt; cut.lines.as_slice(), listing.lines);
-                assert_eq!(rt; cut.answer, listing.answer);
+                is_listed(&rt, rt.alloc(), listing, *language, most);
             }
         }
+    }
+}
+
+/// What is written begins the listing.
+fn ends_in(rt: &impl Abort, listing: &Listing, cut: &Outcome, fault: RunFault) {
+    assert_eq!(rt; cut.answer, Err(fault));
+    assert!(rt; listing.lines.starts_with(cut.lines.as_slice()));
+}
+
+/// Each read of at most so many bytes fails.
+fn fail_reads(rt: &impl Abort, alloc: Global, listing: &Listing, language: Language, most: usize) {
+    let Outcome { reads, .. } = listed(alloc, language, listing.bytes, most, (NEVER, NEVER));
+    for call in 1..reads.saturating_add(1) {
+        let cut = listed(alloc, language, listing.bytes, most, (call, NEVER));
+        ends_in(rt, listing, &cut, RunFault::Read);
+        assert_eq!(rt; cut.reads, call);
+    }
+}
+
+/// Each write of at most so many bytes fails.
+fn fail_writes(rt: &impl Abort, alloc: Global, listing: &Listing, language: Language, most: usize) {
+    let Outcome { writes, .. } = listed(alloc, language, listing.bytes, most, (NEVER, NEVER));
+    for call in 1..writes.saturating_add(1) {
+        let cut = listed(alloc, language, listing.bytes, most, (NEVER, call));
+        ends_in(rt, listing, &cut, RunFault::Write);
+        assert_eq!(rt; cut.writes, call);
     }
 }
 
@@ -196,50 +215,32 @@ fn a_failed_read_or_write_ends_a_listing(rt: HostRuntime) {
     for listing in listings() {
         for language in listing.languages {
             for most in [1, 5, 1000] {
-                fail_once(&rt, rt.alloc(), listing, *language, most);
+                fail_reads(&rt, rt.alloc(), listing, *language, most);
+                fail_writes(&rt, rt.alloc(), listing, *language, most);
             }
         }
     }
 }
 
-/// Each read and each write of at most so many bytes fails.
-fn fail_once(rt: &impl Abort, alloc: Global, listing: &Listing, language: Language, most: usize) {
-    let calm = listed(alloc, language, listing.bytes, most, (NEVER, NEVER));
-    for call in 1..calm.reads.saturating_add(1) {
-        let cut = listed(alloc, language, listing.bytes, most, (call, NEVER));
-        assert_eq!(rt; cut.answer, Err(RunFault::Read));
-        assert!(rt; listing.lines.starts_with(cut.lines.as_slice()));
-        assert_eq!(rt; cut.reads, call);
-    }
-    for call in 1..calm.writes.saturating_add(1) {
-        let cut = listed(alloc, language, listing.bytes, most, (NEVER, call));
-        assert_eq!(rt; cut.answer, Err(RunFault::Write));
-        assert!(rt; listing.lines.starts_with(cut.lines.as_slice()));
-        assert_eq!(rt; cut.writes, call);
-    }
+/// A raster is listed, with so many bytes a call.
+fn lists(rt: &impl Abort, alloc: Global, bytes: &[u8], most: usize, lines: &[u8]) {
+    let long = listed(alloc, Language::Receipt, bytes, most, (NEVER, NEVER));
+    assert_eq!(rt; long.answer, Ok(10001));
+    assert_eq!(rt; long.lines.as_slice(), lines);
 }
 
 /// More lines than a buffer holds.
 #[test]
 fn a_long_raster_is_listed(rt: HostRuntime) -> Result<(), Fail> {
-    let mut bytes = Vec::new(rt.alloc());
-    bytes.extend_from_slice(b"\x1Dv0\x00\x10\x27\x01\x00")?;
-    let mut lines = Vec::new(rt.alloc());
-    lines.extend_from_slice(b"gs 76 30 00 10 27 01 00\n")?;
-    for _ in 0..10000u32 {
-        bytes.push(0xA5)?;
-        lines.extend_from_slice(b"byte a5\n")?;
-    }
+    let bytes = repeated(rt.alloc(), b"\x1Dv0\x00\x10\x27\x01\x00", b"\xA5", 10000)?;
+    let lines = repeated(
+        rt.alloc(),
+        b"gs 76 30 00 10 27 01 00\n",
+        b"byte a5\n",
+        10000,
+    )?;
     for most in [100, 4096, 100000] {
-        let long = listed(
-            rt.alloc(),
-            Language::Receipt,
-            bytes.as_slice(),
-            most,
-            (NEVER, NEVER),
-        );
-        assert_eq!(rt; long.answer, Ok(10001));
-        assert_eq!(rt; long.lines.as_slice(), lines.as_slice());
+        lists(&rt, rt.alloc(), &bytes, most, &lines);
     }
     Ok(())
 }

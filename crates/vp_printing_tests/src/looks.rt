@@ -1,4 +1,5 @@
 //! The looks at fields and links while copies of a label are painted, whole copy by whole copy.
+use crate::sheet::{repeat, repeated};
 use std::alloc::{AllocError, Global};
 use std::process::Abort;
 use std::test::Fail;
@@ -27,21 +28,26 @@ fn printing(alloc: Global, stream: &[u8]) -> Result<Label, AllocError> {
     Ok(label)
 }
 
+/// A copy of so many bytes takes so many looks, at least and at most.
+fn a_copy_takes(rt: &impl Abort, label: &mut Label, bytes: usize, (least, most): (u64, u64)) {
+    assert!(rt; label.pending());
+    for _ in 0..bytes {
+        assert_eq!(rt; label.put(&mut [0]), 1);
+    }
+    assert!(rt; least <= label.visits() && label.visits() <= most);
+}
+
 /// Each copy of so many bytes takes so many looks, at least and at most.
 fn takes(
     rt: &impl Abort,
     alloc: Global,
     stream: &[u8],
     (copies, bytes): (usize, usize),
-    (least, most): (u64, u64),
+    looks: (u64, u64),
 ) -> Result<(), Fail> {
     let mut label = printing(alloc, stream)?;
     for _ in 0..copies {
-        assert!(rt; label.pending());
-        for _ in 0..bytes {
-            assert_eq!(rt; label.put(&mut [0]), 1);
-        }
-        assert!(rt; least <= label.visits() && label.visits() <= most);
+        a_copy_takes(rt, &mut label, bytes, looks);
     }
     assert!(rt; !label.pending());
     Ok(())
@@ -50,19 +56,23 @@ fn takes(
 #[test]
 fn each_copy_takes_few_looks(rt: HostRuntime) -> Result<(), Fail> {
     // two bands, which meet two fields and three
-    let three =
-        b"^XA^PW8^LL34^FO0,30^GB8,4,4^FS^FO0,32^GB8,1,1,W^FS^FO0,31^FR^GB4,3,3^FS^XZ".as_slice();
+    let three = b"^XA^PW8^LL34^FO0,30^GB8,4,4^FS^FO0,32^GB8,1,1,W^FS^FO0,31^FR^GB4,3,3^FS^XZ";
     takes(&rt, rt.alloc(), three, (1, 42), (5, 12))?;
     let twice = b"^XA^PW8^LL34^PQ2^FO0,30^GB8,4,4^FS^FO0,32^GB8,1,1,W^FS^FO0,31^FR^GB4,3,3^FS^XZ";
-    takes(&rt, rt.alloc(), twice.as_slice(), (2, 42), (5, 12))?;
-    let below = b"^XA^PW8^LL34^FO0,100^GB8,1,1^FS^XZ".as_slice();
-    takes(&rt, rt.alloc(), below, (1, 42), (0, 2))?;
-    // 250 bands, of which one meets 1,000 fields
-    let mut many = Vec::new(rt.alloc());
-    many.extend_from_slice(b"^XA^PW8^LL8000")?;
-    for _ in 0..1000 {
-        many.extend_from_slice(b"^FO0,0^GB8,1,1^FS")?;
-    }
-    many.extend_from_slice(b"^XZ")?;
-    takes(&rt, rt.alloc(), many.as_slice(), (1, 8010), (1000, 2250))
+    takes(&rt, rt.alloc(), twice, (2, 42), (5, 12))?;
+    takes(
+        &rt,
+        rt.alloc(),
+        b"^XA^PW8^LL34^FO0,100^GB8,1,1^FS^XZ",
+        (1, 42),
+        (0, 2),
+    )
+}
+
+/// 250 bands, of which one meets 1,000 fields.
+#[test]
+fn a_copy_of_many_bands_takes_few_looks(rt: HostRuntime) -> Result<(), Fail> {
+    let mut many = repeated(rt.alloc(), b"^XA^PW8^LL8000", b"^FO0,0^GB8,1,1^FS", 1000)?;
+    repeat(&mut many, b"^XZ", 1)?;
+    takes(&rt, rt.alloc(), &many, (1, 8010), (1000, 2250))
 }

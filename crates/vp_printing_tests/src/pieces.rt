@@ -1,6 +1,8 @@
 //! A reader and a writer over memory that give and take at most so many bytes a call, and fail at one call.
+use std::alloc::Global;
 use std::io;
 use std::io::{ErrorKind, Read, Write};
+use vp_engine::Counted;
 
 /// Gives the bytes in pieces.
 #[derive(Drop)]
@@ -49,4 +51,24 @@ impl Write for Sips {
     fn flush(&mut self) -> io::Result<()> {
         Ok(())
     }
+}
+
+/// Gives the bytes, so many a call.
+pub fn reader(bytes: &[u8], most: usize, fails_at: usize) -> Counted<Pieces<'_>> {
+    Counted::new(Pieces {
+        rest: bytes,
+        most,
+        calls: 0,
+        fails_at,
+    })
+}
+
+/// Takes so many bytes a call.
+pub fn writer(alloc: Global, most: usize, fails_at: usize) -> Counted<Sips> {
+    Counted::new(Sips {
+        bytes: Vec::new(alloc),
+        most,
+        calls: 0,
+        fails_at,
+    })
 }

@@ -1,4 +1,4 @@
-//! The sheet of the tests: in cell c the leftmost c mod 13 dots of each row are black.
+//! The sheet of the tests: in cell c the leftmost c mod 13 dots of each row are black; and long streams.
 use std::alloc::{AllocError, Global};
 use vp_glyph::{Sheet, Sheets};
 
@@ -33,4 +33,25 @@ pub fn sheets(alloc: Global, image: &[u8]) -> Sheets {
         a: Sheet::read(alloc, image, 12, 24).ok(),
         b: None,
     }
+}
+
+/// Adds a part so many times.
+pub fn repeat(bytes: &mut Vec<u8>, part: &[u8], times: usize) -> Result<(), AllocError> {
+    for _ in 0..times {
+        bytes.extend_from_slice(part)?;
+    }
+    Ok(())
+}
+
+/// A front, and behind it a part so many times.
+pub fn repeated(
+    alloc: Global,
+    front: &[u8],
+    part: &[u8],
+    times: usize,
+) -> Result<Vec<u8>, AllocError> {
+    let mut bytes = Vec::new(alloc);
+    repeat(&mut bytes, front, 1)?;
+    repeat(&mut bytes, part, times)?;
+    Ok(bytes)
 }

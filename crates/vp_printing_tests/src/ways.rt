@@ -1,58 +1,88 @@
 //! A stream through the printer in each way: in one piece, cut into bytes, between a reader and a
 //! writer, and where one of these fails.
 use crate::cases::Case;
-use crate::pieces::{Pieces, Sips};
+use crate::pieces::{reader, writer};
 use crate::sheet::{sheet, sheets};
 use std::alloc::Global;
 use std::process::Abort;
 use std::test::Fail;
 use vp_dots::Fault;
-use vp_engine::{Counted, Language, Printer, Report, RunFault, Session, State, print_all};
+use vp_engine::{Language, Printer, Report, RunFault, Session, State, print_all};
 
 /// Never reached: no call fails.
 const NEVER: usize = 0;
 
+/// A case has printed what it must.
+fn is_its_paper(rt: &impl Abort, case: &Case, paper: &[u8]) {
+    assert_eq!(rt; paper, case.paper.as_slice(), "{}", case.name);
+}
+
+fn prints_its_images(
+    rt: &impl Abort,
+    alloc: Global,
+    image: &[u8],
+    case: &Case,
+) -> Result<(), Fail> {
+    let (paper, fault) = print_all(alloc, case.language, sheets(alloc, image), case.bytes)?;
+    is_its_paper(rt, case, &paper);
+    assert_eq!(rt; fault, case.fault, "{}", case.name);
+    Ok(())
+}
+
 pub fn print_their_images(rt: &impl Abort, alloc: Global, cases: &[Case]) -> Result<(), Fail> {
     let image = sheet(alloc)?;
     for case in cases {
-        let name = case.name;
-        let sheets = sheets(alloc, &image);
-        let (paper, fault) = print_all(alloc, case.language, sheets, case.bytes)?;
-        assert_eq!(rt; paper.as_slice(), case.paper.as_slice(), "{name}");
-        assert_eq!(rt; fault, case.fault, "{name}");
+        prints_its_images(rt, alloc, &image, case)?;
     }
     Ok(())
 }
 
+/// One byte in, at most, and one byte out.
+fn step_a_byte(
+    printer: &mut Printer,
+    rest: &mut &[u8],
+    paper: &mut Vec<u8>,
+) -> Result<State, Fail> {
+    let mut output = [0u8; 1];
+    let step = printer.step(&rest[..rest.len().min(1)], &mut output);
+    *rest = &rest[step.taken.min(rest.len())..];
+    if step.put == 1 {
+        paper.push(output[0])?;
+    }
+    Ok(step.state)
+}
+
 /// The bytes of a stream through a printer, one byte in and one byte out at a time.
-fn cut_into_bytes(alloc: Global, image: &[u8], case: &Case) -> Result<(Vec<u8>, State), Fail> {
+fn cut_into_bytes(printer: &mut Printer, bytes: &[u8], paper: &mut Vec<u8>) -> Result<State, Fail> {
+    let mut state = State::More;
+    let mut rest = bytes;
+    for _ in 0..90000u32 {
+        state = step_a_byte(printer, &mut rest, paper)?;
+    }
+    Ok(state)
+}
+
+/// What a printer comes to behind a stream that ends in this fault.
+fn end(fault: Option<Fault>) -> State {
+    match fault {
+        None | Some(Fault::Truncated | Fault::Unprinted) => State::More,
+        Some(fault) => State::Stopped(fault),
+    }
+}
+
+fn prints_the_same(rt: &impl Abort, alloc: Global, image: &[u8], case: &Case) -> Result<(), Fail> {
     let mut printer = Printer::new(alloc, case.language, sheets(alloc, image))?;
     let mut paper = Vec::new(alloc);
-    let mut state = State::More;
-    let mut rest = case.bytes;
-    for _ in 0..90000u32 {
-        let mut output = [0u8; 1];
-        let step = printer.step(&rest[..rest.len().min(1)], &mut output);
-        rest = &rest[step.taken.min(rest.len())..];
-        if step.put == 1 {
-            paper.push(output[0])?;
-        }
-        state = step.state;
-    }
-    Ok((paper, state))
+    let state = cut_into_bytes(&mut printer, case.bytes, &mut paper)?;
+    is_its_paper(rt, case, &paper);
+    assert_eq!(rt; state, end(case.fault), "{}", case.name);
+    Ok(())
 }
 
 pub fn print_the_same_in_bytes(rt: &impl Abort, alloc: Global, cases: &[Case]) -> Result<(), Fail> {
     let image = sheet(alloc)?;
     for case in cases {
-        let name = case.name;
-        let (paper, state) = cut_into_bytes(alloc, &image, case)?;
-        assert_eq!(rt; paper.as_slice(), case.paper.as_slice(), "{name}");
-        let want = match case.fault {
-            None | Some(Fault::Truncated | Fault::Unprinted) => State::More,
-            Some(fault) => State::Stopped(fault),
-        };
-        assert_eq!(rt; state, want, "{name}");
+        prints_the_same(rt, alloc, &image, case)?;
     }
     Ok(())
 }
@@ -68,40 +98,109 @@ pub struct Pumped {
 }
 
 /// Reads and writes so many bytes a call, and once more after a failed read or write.
-pub fn pump(
+fn pump_with(
+    session: &mut Session,
     alloc: Global,
-    image: &[u8],
-    language: Language,
     bytes: &[u8],
     most: usize,
     (bad_read, bad_write): (usize, usize),
-) -> Result<Pumped, Fail> {
-    let mut reader = Counted::new(Pieces {
-        rest: bytes,
-        most,
-        calls: 0,
-        fails_at: bad_read,
-    });
-    let mut writer = Counted::new(Sips {
-        bytes: Vec::new(alloc),
-        most,
-        calls: 0,
-        fails_at: bad_write,
-    });
-    let mut session = Session::new(alloc, language, sheets(alloc, image))?;
+) -> Pumped {
+    let mut reader = reader(bytes, most, bad_read);
+    let mut writer = writer(alloc, most, bad_write);
     let first = session.pump(&mut reader, &mut writer);
     let last = match first {
         Err(RunFault::Read | RunFault::Write) => session.pump(&mut reader, &mut writer),
         _ => first,
     };
     let writer = writer.into_inner();
-    Ok(Pumped {
+    Pumped {
         paper: writer.bytes,
         first,
         last,
         reads: reader.into_inner().calls,
         writes: writer.calls,
-    })
+    }
+}
+
+/// A new session that reads and writes so many bytes a call, and once more after a failed read or write.
+pub fn pump(
+    alloc: Global,
+    image: &[u8],
+    language: Language,
+    bytes: &[u8],
+    most: usize,
+    fails: (usize, usize),
+) -> Result<Pumped, Fail> {
+    let mut session = Session::new(alloc, language, sheets(alloc, image))?;
+    Ok(pump_with(&mut session, alloc, bytes, most, fails))
+}
+
+/// Where the first refused front ends: what ends too early isn't refused.
+fn refused(before: Option<usize>, n: usize, fault: Option<Fault>) -> Option<usize> {
+    match (before, fault) {
+        (None, None | Some(Fault::Truncated | Fault::Unprinted)) => None,
+        (None, _) => Some(n),
+        _ => before,
+    }
+}
+
+/// What a session answers to a front.
+fn answer(
+    n: usize,
+    refused: Option<usize>,
+    written: usize,
+    fault: Option<Fault>,
+) -> Result<Report, RunFault> {
+    match fault {
+        None => Ok(Report {
+            taken: n as u64,
+            written: written as u64,
+        }),
+        Some(fault) => Err(RunFault::Print {
+            fault,
+            after: refused.unwrap_or(n) as u64,
+        }),
+    }
+}
+
+/// A session came to this paper and this answer.
+fn comes_to(
+    rt: &impl Abort,
+    name: &str,
+    n: usize,
+    pumped: &Pumped,
+    paper: &[u8],
+    answer: Result<Report, RunFault>,
+) {
+    assert_eq!(rt; pumped.paper.as_slice(), paper, "{name}, {n} bytes");
+    assert_eq!(rt; pumped.first, answer, "{name}, {n} bytes");
+}
+
+/// A front prints alike through a session; where it is refused, then at the last byte of the first such
+/// front, which may be this one.
+fn pump_a_front(
+    rt: &impl Abort,
+    alloc: Global,
+    image: &[u8],
+    case: &Case,
+    n: usize,
+    before: Option<usize>,
+) -> Result<Option<usize>, Fail> {
+    let front = &case.bytes[..n.min(case.bytes.len())];
+    let (paper, fault) = print_all(alloc, case.language, sheets(alloc, image), front)?;
+    let pumped = pump(alloc, image, case.language, front, 7, (NEVER, NEVER))?;
+    let refused = refused(before, n, fault);
+    let answer = answer(n, refused, paper.len(), fault);
+    comes_to(rt, case.name, n, &pumped, &paper, answer);
+    Ok(refused)
+}
+
+fn pump_its_fronts(rt: &impl Abort, alloc: Global, image: &[u8], case: &Case) -> Result<(), Fail> {
+    let mut refused = None;
+    for n in 0..case.bytes.len() + 1 {
+        refused = pump_a_front(rt, alloc, image, case, n, refused)?;
+    }
+    Ok(())
 }
 
 /// Each front prints alike through a session; where it is refused, then at the last byte of the shortest
@@ -109,40 +208,76 @@ pub fn pump(
 pub fn pump_their_fronts(rt: &impl Abort, alloc: Global, cases: &[Case]) -> Result<(), Fail> {
     let image = sheet(alloc)?;
     for case in cases {
-        let name = case.name;
-        let mut refused = None;
-        for n in 0..case.bytes.len() + 1 {
-            let front = &case.bytes[..n.min(case.bytes.len())];
-            let (paper, fault) = print_all(alloc, case.language, sheets(alloc, &image), front)?;
-            let pumped = pump(alloc, &image, case.language, front, 7, (NEVER, NEVER))?;
-            assert_eq!(rt;
-                pumped.paper.as_slice(),
-                paper.as_slice(),
-                "{name}, {n} bytes"
-            );
-            match pumped.first {
-                Ok(report) => {
-                    assert_eq!(rt; fault, None, "{name}, {n} bytes");
-                    assert_eq!(rt; report.taken, n as u64, "{name}");
-                    assert_eq!(rt; report.written, paper.len() as u64, "{name}");
-                }
-                Err(
-                    RunFault::Print {
-                        fault: found,
-                        after,
-                    },
-                ) => {
-                    assert_eq!(rt; fault, Some(found), "{name}, {n} bytes");
-                    let ends = matches!(found, Fault::Truncated | Fault::Unprinted);
-                    if !ends && refused.is_none() {
-                        refused = Some(n);
-                    }
-                    let last = refused.unwrap_or(n);
-                    assert_eq!(rt; after, last as u64, "{name}, {n} bytes");
-                }
-                Err(_) => assert!(rt; false, "{name}, {n} bytes"),
-            }
-        }
+        pump_its_fronts(rt, alloc, &image, case)?;
+    }
+    Ok(())
+}
+
+/// A session failed in this way at its call, and went on to what one that didn't fail came to.
+fn went_on(
+    rt: &impl Abort,
+    case: &Case,
+    (fault, call): (RunFault, usize),
+    pumped: &Pumped,
+    calm: Result<Report, RunFault>,
+) {
+    let name = case.name;
+    assert_eq!(rt; pumped.first, Err(fault), "{name}, call {call}");
+    assert_eq!(rt; pumped.last, calm, "{name}, {fault:?} at call {call}");
+    is_its_paper(rt, case, &pumped.paper);
+}
+
+/// One read or one write fails.
+fn fail_at(
+    rt: &impl Abort,
+    alloc: Global,
+    image: &[u8],
+    case: &Case,
+    most: usize,
+    (fault, call): (RunFault, usize),
+    calm: Result<Report, RunFault>,
+) -> Result<(), Fail> {
+    let fails = match fault {
+        RunFault::Read => (call, NEVER),
+        _ => (NEVER, call),
+    };
+    let pumped = pump(alloc, image, case.language, case.bytes, most, fails)?;
+    went_on(rt, case, (fault, call), &pumped, calm);
+    Ok(())
+}
+
+fn fail_its_reads(rt: &impl Abort, alloc: Global, image: &[u8], case: &Case) -> Result<(), Fail> {
+    let Pumped { first, reads, .. } = pump(
+        alloc,
+        image,
+        case.language,
+        case.bytes,
+        3,
+        (NEVER, NEVER),
+    )?;
+    for call in 1..reads.saturating_add(1) {
+        fail_at(rt, alloc, image, case, 3, (RunFault::Read, call), first)?;
+    }
+    Ok(())
+}
+
+fn fail_its_writes(
+    rt: &impl Abort,
+    alloc: Global,
+    image: &[u8],
+    case: &Case,
+    most: usize,
+) -> Result<(), Fail> {
+    let Pumped { first, writes, .. } = pump(
+        alloc,
+        image,
+        case.language,
+        case.bytes,
+        most,
+        (NEVER, NEVER),
+    )?;
+    for call in 1..writes.saturating_add(1) {
+        fail_at(rt, alloc, image, case, most, (RunFault::Write, call), first)?;
     }
     Ok(())
 }
@@ -152,37 +287,8 @@ pub fn pump_their_fronts(rt: &impl Abort, alloc: Global, cases: &[Case]) -> Resu
 pub fn fail_once(rt: &impl Abort, alloc: Global, cases: &[Case], sip: usize) -> Result<(), Fail> {
     let image = sheet(alloc)?;
     for case in cases {
-        let name = case.name;
-        let paper = case.paper.as_slice();
-        let calm = pump(alloc, &image, case.language, case.bytes, 3, (NEVER, NEVER))?;
-        for call in 1..calm.reads.saturating_add(1) {
-            let pumped = pump(alloc, &image, case.language, case.bytes, 3, (call, NEVER))?;
-            assert_eq!(rt; pumped.first, Err(RunFault::Read), "{name}, read {call}");
-            assert_eq!(rt; pumped.last, calm.first, "{name}, read {call}");
-            assert_eq!(rt; pumped.paper.as_slice(), paper, "{name}, read {call}");
-        }
-        let most = (paper.len() / 30).max(sip);
-        let calm = pump(
-            alloc,
-            &image,
-            case.language,
-            case.bytes,
-            most,
-            (NEVER, NEVER),
-        )?;
-        for call in 1..calm.writes.saturating_add(1) {
-            let pumped = pump(
-                alloc,
-                &image,
-                case.language,
-                case.bytes,
-                most,
-                (NEVER, call),
-            )?;
-            assert_eq!(rt; pumped.first, Err(RunFault::Write), "{name}, write {call}");
-            assert_eq!(rt; pumped.last, calm.first, "{name}, write {call}");
-            assert_eq!(rt; pumped.paper.as_slice(), paper, "{name}, write {call}");
-        }
+        fail_its_reads(rt, alloc, &image, case)?;
+        fail_its_writes(rt, alloc, &image, case, (case.paper.len() / 30).max(sip))?;
     }
     Ok(())
 }
