@@ -43,26 +43,40 @@ fn row(rt: &impl Clock, work: Work, band: &mut Band<72, 64>) -> io::Result<f64> 
     Ok(least(rt, ROUNDS, || paint(work, &source, band))? / 64.0)
 }
 
-/// Prints the times.
-pub fn run(rt: &(impl AllocGlobal + Clock + Print)) -> Result<()> {
-    let mut band: Band<72, 64> = Band::new(rt.alloc())?;
-    let copied = row(rt, Work::Copy, &mut band)?;
-    println!(rt; "copying 72 bytes: {copied:.1} ns")?;
+fn show_or_into(rt: &(impl Clock + Print), band: &mut Band<72, 64>, copied: f64) -> io::Result<()> {
     for at in [0i64, 16, -24, 1, 3, 9, -5, -13] {
-        let painted = row(rt, Work::OrInto(at), &mut band)?;
+        let painted = row(rt, Work::OrInto(at), band)?;
         println!(rt;
             "or_into of 72 bytes at {at:>3}: {painted:.1} ns, {:.1} times",
             painted / copied
         )?;
     }
-    let filled = row(rt, Work::FillBytes, &mut band)?;
-    println!(rt; "filling 72 bytes: {filled:.1} ns")?;
+    Ok(())
+}
+
+fn show_fill_dots(
+    rt: &(impl Clock + Print),
+    band: &mut Band<72, 64>,
+    filled: f64,
+) -> io::Result<()> {
     for (from, to) in [(0u64, 576u64), (3, 571)] {
-        let painted = row(rt, Work::FillDots(from, to), &mut band)?;
+        let painted = row(rt, Work::FillDots(from, to), band)?;
         println!(rt;
             "fill_dots from {from} to {to}: {painted:.1} ns, {:.1} times",
             painted / filled
         )?;
     }
+    Ok(())
+}
+
+/// Prints the times.
+pub fn run(rt: &(impl AllocGlobal + Clock + Print)) -> Result<()> {
+    let mut band: Band<72, 64> = Band::new(rt.alloc())?;
+    let copied = row(rt, Work::Copy, &mut band)?;
+    println!(rt; "copying 72 bytes: {copied:.1} ns")?;
+    show_or_into(rt, &mut band, copied)?;
+    let filled = row(rt, Work::FillBytes, &mut band)?;
+    println!(rt; "filling 72 bytes: {filled:.1} ns")?;
+    show_fill_dots(rt, &mut band, filled)?;
     Ok(())
 }

@@ -3,6 +3,7 @@ ghost use Rattle.std.specs.Prelude.{◌≡◌, ◌-◌, ◌==◌, if◌then◌el
 
 use crate::measure::{copying, least, some_bytes};
 use anyhow::Result;
+use std::io;
 use std::rt::Clock;
 use vp_esc::{EscItem, EscReader};
 
@@ -74,28 +75,50 @@ fn in_raster() -> EscReader {
     reader
 }
 
-/// Prints the times.
-pub fn run(rt: &(impl AllocGlobal + Clock + Print)) -> Result<()> {
-    let bytes = some_bytes(rt.alloc(), BYTES)?;
+/// Prints how long a byte takes that is counted, and returns it.
+fn show_counting(rt: &(impl Clock + Print), bytes: &[u8]) -> io::Result<f64> {
     let mut sum = 0u64;
     let mut left = u32::MAX;
-    let counted = least(rt, ROUNDS, || sum = count(&mut left, &bytes))? / 4608.0;
-    println!(rt; "counting a byte: {counted:.2} ns, sum {sum}")?;
-    let copied = copying(rt, &some_bytes(rt.alloc(), 125 * BYTES)?)?;
-    println!(rt; "copying a byte: {copied:.3} ns")?;
+    let took = least(rt, ROUNDS, || sum = count(&mut left, bytes))? / 4608.0;
+    println!(rt; "counting a byte: {took:.2} ns, sum {sum}")?;
+    Ok(took)
+}
+
+fn show_reading(
+    rt: &(impl Clock + Print),
+    bytes: &[u8],
+    counted: f64,
+    copied: f64,
+) -> io::Result<()> {
+    let mut sum = 0u64;
     let mut reader = in_raster();
-    let took = least(rt, ROUNDS, || sum = read(&mut reader, &bytes))? / 4608.0;
+    let took = least(rt, ROUNDS, || sum = read(&mut reader, bytes))? / 4608.0;
     println!(rt;
         "reading a raster byte: {took:.2} ns, {:.0} MB/s, {:.1} times, {:.1} times copying, sum {sum}",
         1e3 / took,
         took / counted,
         took / copied
-    )?;
-    let took = least(rt, ROUNDS, || sum = hand_on(&mut reader, &bytes))? / 4608.0;
+    )
+}
+
+fn show_handing_on(rt: &(impl Clock + Print), bytes: &[u8], counted: f64) -> io::Result<()> {
+    let mut sum = 0u64;
+    let mut reader = in_raster();
+    let took = least(rt, ROUNDS, || sum = hand_on(&mut reader, bytes))? / 4608.0;
     println!(rt;
         "reading and handing on a raster byte: {took:.2} ns, {:.0} MB/s, {:.1} times, sum {sum}",
         1e3 / took,
         took / counted
-    )?;
+    )
+}
+
+/// Prints the times.
+pub fn run(rt: &(impl AllocGlobal + Clock + Print)) -> Result<()> {
+    let bytes = some_bytes(rt.alloc(), BYTES)?;
+    let counted = show_counting(rt, &bytes)?;
+    let copied = copying(rt, &some_bytes(rt.alloc(), 125 * BYTES)?)?;
+    println!(rt; "copying a byte: {copied:.3} ns")?;
+    show_reading(rt, &bytes, counted, copied)?;
+    show_handing_on(rt, &bytes, counted)?;
     Ok(())
 }

@@ -22,6 +22,43 @@ const PLAIN: Style = Style {
     inverse: false,
 };
 
+const STYLES: [(&str, Style); 5] = [
+    ("plain", PLAIN),
+    (
+        "bold",
+        Style {
+            bold: true,
+            ..PLAIN
+        },
+    ),
+    (
+        "double",
+        Style {
+            wm: 2,
+            hm: 2,
+            ..PLAIN
+        },
+    ),
+    (
+        "eightfold",
+        Style {
+            wm: 8,
+            hm: 8,
+            ..PLAIN
+        },
+    ),
+    (
+        "inverse",
+        Style {
+            inverse: true,
+            spacing: 4,
+            ..PLAIN
+        },
+    ),
+];
+
+const SAMPLED: [(&str, u32, u32); 2] = [("sampled 12 by 24", 12, 24), ("sampled 30 by 60", 30, 60)];
+
 /// The same ink, painted dot by dot.
 #[derive(Drop)]
 struct Slow<'a, I> {
@@ -92,65 +129,34 @@ fn show<I: Ink>(rt: &(impl Clock + Print), name: &str, ink: &I) -> io::Result<()
     )
 }
 
+/// The cell of font A in five styles.
+fn show_styles(rt: &(impl Clock + Print), sheets: &Sheets) -> io::Result<()> {
+    for (name, style) in STYLES {
+        show(rt, name, &sheets.cell(b'M', Font::A, style))?;
+    }
+    Ok(())
+}
+
+fn show_sampled(rt: &(impl Clock + Print), sheets: &Sheets) -> io::Result<()> {
+    for (name, width, height) in SAMPLED {
+        show(rt, name, &sheets.sampled(b'M', width, height))?;
+    }
+    Ok(())
+}
+
+fn show_block(rt: &(impl Clock + Print), sheets: &Sheets) -> io::Result<()> {
+    let text = b"Ten words in this block, broken by lines";
+    let block = sheets.block(text, 12, 24, 240, 3, 0, Alignment::Left);
+    show(rt, "a block of 40 characters", &block)
+}
+
 /// Prints the times.
 pub fn run(rt: &(impl AllocGlobal + Clock + Print)) -> Result<()> {
     let sheets = strokes(rt.alloc())?;
-    let cell = |style| sheets.cell(b'M', Font::A, style);
-    show(rt, "plain", &cell(PLAIN))?;
-    show(
-        rt,
-        "bold",
-        &cell(Style {
-            bold: true,
-            ..PLAIN
-        }),
-    )?;
-    show(
-        rt,
-        "double",
-        &cell(Style {
-            wm: 2,
-            hm: 2,
-            ..PLAIN
-        }),
-    )?;
-    show(
-        rt,
-        "eightfold",
-        &cell(Style {
-            wm: 8,
-            hm: 8,
-            ..PLAIN
-        }),
-    )?;
-    show(
-        rt,
-        "inverse",
-        &cell(Style {
-            inverse: true,
-            spacing: 4,
-            ..PLAIN
-        }),
-    )?;
-    show(
-        rt,
-        "font B from sheet A",
-        &sheets.cell(b'M', Font::B, PLAIN),
-    )?;
-    show(rt, "sampled 12 by 24", &sheets.sampled(b'M', 12, 24))?;
-    show(rt, "sampled 30 by 60", &sheets.sampled(b'M', 30, 60))?;
-    show(
-        rt,
-        "a block of 40 characters",
-        &sheets.block(
-            b"Ten words in this block, broken by lines",
-            12,
-            24,
-            240,
-            3,
-            0,
-            Alignment::Left,
-        ),
-    )?;
+    show_styles(rt, &sheets)?;
+    let cell = sheets.cell(b'M', Font::B, PLAIN);
+    show(rt, "font B from sheet A", &cell)?;
+    show_sampled(rt, &sheets)?;
+    show_block(rt, &sheets)?;
     Ok(())
 }

@@ -61,6 +61,32 @@ fn rate(page: f64) -> f64 {
     BYTES * 1e3 / page
 }
 
+/// What stands in the rows of a page.
+fn kinds() -> [(&'static str, [u8; 4096]); 4] {
+    [
+        ("black rows", [0xff; 4096]),
+        ("rows of 5a", [0x5a; 4096]),
+        ("rows of 01", [0x01; 4096]),
+        ("mixed rows", mixed()),
+    ]
+}
+
+/// Prints how many times as long as copying the rows are laid, and how fast.
+fn show_rows(
+    rt: &impl Print,
+    name: &str,
+    kind: &str,
+    x: u16,
+    laid: f64,
+    copied: f64,
+) -> io::Result<()> {
+    println!(rt;
+        "{name}, {kind}, from column {x}: {:.0} MB/s, {:.1} times copying",
+        rate(laid),
+        laid / copied
+    )
+}
+
 fn show(
     rt: &(impl Clock + Print),
     name: &str,
@@ -68,25 +94,21 @@ fn show(
     page: &mut Page,
     copied: f64,
 ) -> io::Result<()> {
-    let rows = [
-        ("black rows", [0xff; 4096]),
-        ("rows of 5a", [0x5a; 4096]),
-        ("rows of 01", [0x01; 4096]),
-        ("mixed rows", mixed()),
-    ];
-    for (kind, bytes) in &rows {
+    for (kind, bytes) in &kinds() {
         for area in [WHOLE, INNER] {
             let laid = least(rt, ROUNDS, || lay_rows(area, direction, bytes, page))?;
-            let x = area.x;
-            println!(rt;
-                "{name}, {kind}, from column {x}: {:.0} MB/s, {:.1} times copying",
-                rate(laid),
-                laid / copied
-            )?;
+            show_rows(rt, name, kind, area.x, laid, copied)?;
         }
     }
     Ok(())
 }
+
+const DIRECTIONS: [(&str, Direction); 4] = [
+    ("left to right", Direction::LeftToRight),
+    ("bottom to top", Direction::BottomToTop),
+    ("right to left", Direction::RightToLeft),
+    ("top to bottom", Direction::TopToBottom),
+];
 
 /// Prints the times.
 pub fn run(rt: &(impl AllocGlobal + Clock + Print)) -> Result<()> {
@@ -95,33 +117,8 @@ pub fn run(rt: &(impl AllocGlobal + Clock + Print)) -> Result<()> {
     let copied = least(rt, ROUNDS, || copy_rows(&source, &mut band))?;
     println!(rt; "copying the rows of a page: {:.0} MB/s", rate(copied))?;
     let mut page = Page::new(rt.alloc())?;
-    show(
-        rt,
-        "left to right",
-        Direction::LeftToRight,
-        &mut page,
-        copied,
-    )?;
-    show(
-        rt,
-        "bottom to top",
-        Direction::BottomToTop,
-        &mut page,
-        copied,
-    )?;
-    show(
-        rt,
-        "right to left",
-        Direction::RightToLeft,
-        &mut page,
-        copied,
-    )?;
-    show(
-        rt,
-        "top to bottom",
-        Direction::TopToBottom,
-        &mut page,
-        copied,
-    )?;
+    for (name, direction) in DIRECTIONS {
+        show(rt, name, direction, &mut page, copied)?;
+    }
     Ok(())
 }
