@@ -21,7 +21,7 @@ pub enum Symbology {
 }
 
 /// A linear symbol: the values of its characters, at most 258, of 0 to 106.
-#[derive(Drop, Debug)]
+#[derive(Drop)]
 pub struct Bars {
     symbology: Symbology,
     values: ArrayVec<u8, 258>,
@@ -70,8 +70,7 @@ impl Bars {
     {
         let values = self.values.as_slice();
         match self.symbology {
-            Symbology::Code39 => characters(values),
-            Symbology::Ean13 => characters(values),
+            Symbology::Code39 | Symbology::Ean13 => characters(values),
             Symbology::Code128 => shown_data(values),
         }
     }

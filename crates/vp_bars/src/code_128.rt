@@ -9,7 +9,7 @@ use arrayvec::ArrayVec;
 use vp_dots::{Fault, Why};
 
 /// A code set of Code 128.
-#[derive(Clone, Copy, Debug, PartialEq, Eq)]
+#[derive(Clone, Copy, PartialEq, Eq)]
 pub enum CodeSet {
     A,
     B,
@@ -17,7 +17,7 @@ pub enum CodeSet {
 }
 
 /// A part of data in which a lead and the byte after it are a code.
-#[derive(Clone, Copy, Debug, PartialEq, Eq)]
+#[derive(Clone, Copy)]
 pub enum Token {
     Byte(u8),
     Code(u8),
@@ -80,7 +80,6 @@ impl CodeSet {
 }
 
 /// The first token, and the bytes behind it.
-#[tactic(auto, using(crate::proofs::Tokens::token_byte, crate::proofs::Tokens::token_lead, crate::proofs::Tokens::token_code))]
 pub(crate) fn first_token(lead: u8, bytes: &[u8]) -> Option<(Token, &[u8])>
     ensures token { MatchOption result (bytes.now ≡ []) (λ t. tokens lead bytes.now
         ≡ t.0 ∷ tokens lead t.1.now) }

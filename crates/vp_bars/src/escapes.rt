@@ -55,8 +55,7 @@ fn read_other(set: CodeSet, code: u8, values: &mut ArrayVec<u8, 258>) -> Result<
         (CodeSet::C, _) => return Err(Why::CodeSet),
         (CodeSet::A, BRACE) => return Err(Why::Char),
         (CodeSet::B, BRACE) => BRACE - 32,
-        (CodeSet::A, _) => function(set, code).ok_or(Why::CodeSet)?,
-        (CodeSet::B, _) => function(set, code).ok_or(Why::CodeSet)?,
+        (CodeSet::A | CodeSet::B, _) => function(set, code).ok_or(Why::CodeSet)?,
     };
     push_value(value, values);
     Ok(())

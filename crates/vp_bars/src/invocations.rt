@@ -70,11 +70,7 @@ fn read_other(set: CodeSet, code: u8, values: &mut ArrayVec<u8, 258>) -> Result<
     }
     match (set, invoked_value(code)) {
         (_, None) => Err(Why::CodeSet),
-        (CodeSet::A, Some(value)) => {
-            push_value(value, values);
-            Ok(())
-        }
-        (CodeSet::B, Some(value)) => {
+        (CodeSet::A | CodeSet::B, Some(value)) => {
             push_value(value, values);
             Ok(())
         }
@@ -185,8 +181,7 @@ fn read_token<'a>(
                 push_byte(CodeSet::B, b, values)?;
                 Ok((CodeSet::B, bytes))
             }
-            CodeSet::A => Ok((CodeSet::A, read_pair(CodeSet::A, b, bytes, values))),
-            CodeSet::C => Ok((CodeSet::C, read_pair(CodeSet::C, b, bytes, values))),
+            CodeSet::A | CodeSet::C => Ok((set, read_pair(set, b, bytes, values))),
         },
     }
 }

@@ -60,7 +60,6 @@ fn read_byte<'a>(bytes: &'a [u8], values: &mut ArrayVec<u8, 258>) -> Result<&'a 
 }
 
 /// Appends the values of what comes first, and gives the set in force after it and the bytes behind it.
-#[tactic(auto, using(crate::proofs::Packed::packed_pair, crate::proofs::Packed::packed_change))]
 fn read_in_c<'a>(
     bytes: &'a [u8],
     values: &mut ArrayVec<u8, 258>,
@@ -84,7 +83,6 @@ fn read_in_c<'a>(
 }
 
 /// The same in another set.
-#[tactic(auto, using(crate::proofs::Packed::packed_byte, crate::proofs::Packed::run_pairs))]
 fn read_in_b<'a>(
     bytes: &'a [u8],
     values: &mut ArrayVec<u8, 258>,
@@ -122,8 +120,7 @@ fn read_packed(start: CodeSet, src: &[u8]) -> Result<ArrayVec<u8, 258>, Why>
     while !bytes.is_empty() {
         let (next, rest) = match set {
             CodeSet::C => read_in_c(bytes, &mut values)?,
-            CodeSet::A => read_in_b(bytes, &mut values)?,
-            CodeSet::B => read_in_b(bytes, &mut values)?,
+            CodeSet::A | CodeSet::B => read_in_b(bytes, &mut values)?,
         };
         set = next;
         bytes = rest;

@@ -34,8 +34,7 @@ impl Strokes<'_> {
         match self.symbology {
             Symbology::Code39 if element == 1 => u32::from(self.wide),
             Symbology::Code39 => u32::from(self.narrow),
-            Symbology::Ean13 => u32::from(element) * u32::from(self.narrow),
-            Symbology::Code128 => u32::from(element) * u32::from(self.narrow),
+            Symbology::Ean13 | Symbology::Code128 => u32::from(element) * u32::from(self.narrow),
         }
     }
 
@@ -132,8 +131,7 @@ impl Strokes<'_> {
     {
         match self.symbology {
             Symbology::Ean13 => self.draw_digits(pen, op, at, row),
-            Symbology::Code39 => self.draw_characters(pen, op, at, row),
-            Symbology::Code128 => self.draw_characters(pen, op, at, row),
+            Symbology::Code39 | Symbology::Code128 => self.draw_characters(pen, op, at, row),
         }
     }
 }

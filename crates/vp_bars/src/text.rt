@@ -73,9 +73,7 @@ fn next_set(set: CodeSet, v: u8) -> CodeSet
     match (set, v) {
         (CodeSet::A, 98) => CodeSet::B,
         (CodeSet::B, 98) => CodeSet::A,
-        (CodeSet::A, _) => set_behind(set, v),
-        (CodeSet::B, _) => set_behind(set, v),
-        (CodeSet::C, _) => set_behind(set, v),
+        (_, _) => set_behind(set, v),
     }
 }
 

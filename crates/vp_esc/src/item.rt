@@ -2,21 +2,21 @@
 use arrayvec::ArrayVec;
 
 /// A byte as it was sent, and what it stands for.
-#[derive(Clone, Copy, Debug, PartialEq, Eq)]
+#[derive(Clone, Copy)]
 pub struct Spelled<T> {
     pub byte: u8,
     pub value: T,
 }
 
 /// The two fonts.
-#[derive(Clone, Copy, Debug, PartialEq, Eq)]
+#[derive(Clone, Copy)]
 pub enum Font {
     A,
     B,
 }
 
 /// How many rows an underline has.
-#[derive(Clone, Copy, Debug, PartialEq, Eq)]
+#[derive(Clone, Copy)]
 pub enum Underline {
     Off,
     OneRow,
@@ -24,7 +24,7 @@ pub enum Underline {
 }
 
 /// Where a line stands in the line length.
-#[derive(Clone, Copy, Debug, PartialEq, Eq)]
+#[derive(Clone, Copy)]
 pub enum Justification {
     Left,
     Centre,
@@ -32,7 +32,7 @@ pub enum Justification {
 }
 
 /// Which way a page is printed, and where it begins.
-#[derive(Clone, Copy, Debug, PartialEq, Eq)]
+#[derive(Clone, Copy)]
 pub enum Direction {
     /// Left to right from the upper left.
     LeftToRight,
@@ -45,7 +45,7 @@ pub enum Direction {
 }
 
 /// What ESC ! sets at once.
-#[derive(Clone, Copy, Debug, PartialEq, Eq)]
+#[derive(Clone, Copy)]
 pub struct PrintMode {
     pub font: Font,
     pub emphasized: bool,
@@ -55,14 +55,14 @@ pub struct PrintMode {
 }
 
 /// How often a character's dots are drawn, each way 1 to 8 times.
-#[derive(Clone, Copy, Debug, PartialEq, Eq)]
+#[derive(Clone, Copy)]
 pub struct Magnification {
     pub width: u8,
     pub height: u8,
 }
 
 /// Where the text of a bar code stands.
-#[derive(Clone, Copy, Debug, PartialEq, Eq)]
+#[derive(Clone, Copy)]
 pub enum TextPlace {
     None,
     Above,
@@ -71,14 +71,14 @@ pub enum TextPlace {
 }
 
 /// How a cut leaves the paper.
-#[derive(Clone, Copy, Debug, PartialEq, Eq)]
+#[derive(Clone, Copy)]
 pub enum Cut {
     Full,
     Partial,
 }
 
 /// The dots of a column of ESC *: how many there are, and how wide each is.
-#[derive(Clone, Copy, Debug, PartialEq, Eq)]
+#[derive(Clone, Copy)]
 pub enum ColumnMode {
     /// m 0: eight dots, two wide.
     Single8,
@@ -91,7 +91,7 @@ pub enum ColumnMode {
 }
 
 /// How a raster is drawn.
-#[derive(Clone, Copy, Debug, PartialEq, Eq)]
+#[derive(Clone, Copy)]
 pub enum RasterScale {
     Normal,
     DoubleWidth,
@@ -100,7 +100,7 @@ pub enum RasterScale {
 }
 
 /// The bar codes that are drawn.
-#[derive(Clone, Copy, Debug, PartialEq, Eq)]
+#[derive(Clone, Copy)]
 pub enum BarKind {
     Ean13,
     Code39,
@@ -108,7 +108,7 @@ pub enum BarKind {
 }
 
 /// QR code models.
-#[derive(Clone, Copy, Debug, PartialEq, Eq)]
+#[derive(Clone, Copy)]
 pub enum QrModel {
     One,
     Two,
@@ -116,7 +116,7 @@ pub enum QrModel {
 }
 
 /// How much of a QR symbol may be lost.
-#[derive(Clone, Copy, Debug, PartialEq, Eq)]
+#[derive(Clone, Copy)]
 pub enum QrLevel {
     L,
     M,
@@ -125,7 +125,7 @@ pub enum QrLevel {
 }
 
 /// The bytes that begin a command of several bytes.
-#[derive(Clone, Copy, Debug, PartialEq, Eq)]
+#[derive(Clone, Copy)]
 pub enum Lead {
     Esc,
     Gs,

@@ -43,7 +43,7 @@ impl Font {
 }
 
 /// How a character is printed.
-#[derive(Clone, Copy, Debug, PartialEq, Eq)]
+#[derive(Clone, Copy)]
 pub struct Style {
     /// How often each dot stands beside itself, 1 to 8.
     pub wm: u8,
@@ -81,6 +81,15 @@ fn height_of(font: Font, style: Style) -> u32
     ensures { result ≡ cell_height font style }
 {
     font.height() * u32::from(style.hm)
+}
+
+/// The row of a character in its font that stands on a row of the magnified one.
+fn row_behind(y: u32, font: Font, style: Style) -> u32
+    requires { y < cell_height font style }
+    ensures row { result ≡ y / style.hm }
+    ensures within { result < font_height font }
+{
+    y / u32::from(style.hm)
 }
 
 impl Cell<'_> {
@@ -214,7 +223,7 @@ impl Cell<'_> {
     {
         let style = self.style;
         let (width, _) = self.size();
-        let word = self.source_row(y / u32::from(style.hm));
+        let word = self.source_row(row_behind(y, self.font, style));
         self.paint_body(word, op, at, row);
         fill_moved(op, at, self.font.width() * u32::from(style.wm), width, row);
     }
@@ -232,7 +241,7 @@ impl Cell<'_> {
             fill_moved(op, at, 0, width, row);
             return;
         }
-        let word = self.source_row(y / u32::from(style.hm));
+        let word = self.source_row(row_behind(y, self.font, style));
         self.paint_body(word, op, at, row);
     }
 }
@@ -261,7 +270,8 @@ impl Ink for Cell<'_> {
             return false;
         }
         let source = x / u32::from(style.wm);
-        let body = source < self.font.width() && self.bold_dot(source, y / u32::from(style.hm));
+        let body = source < self.font.width()
+            && self.bold_dot(source, row_behind(y, self.font, style));
         if style.inverse {
             !body
         } else {

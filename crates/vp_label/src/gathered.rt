@@ -32,7 +32,7 @@ pub struct Gathered {
 }
 
 /// What a command does.
-#[derive(Clone, Copy, Debug, PartialEq, Eq)]
+#[derive(Clone, Copy)]
 pub enum Effect {
     /// It sets what is in force, or nothing.
     Sets,

@@ -17,7 +17,7 @@ pub enum Level {
 }
 
 /// The blocks of a symbol.
-#[derive(Clone, Copy, Debug, PartialEq, Eq)]
+#[derive(Clone, Copy)]
 pub struct Blocks {
     /// Check codewords of each block.
     pub check: usize,

@@ -24,7 +24,7 @@ pub enum Mode {
 }
 
 /// The mode of the segment.
-#[derive(Clone, Copy, Debug, PartialEq, Eq)]
+#[derive(Clone, Copy)]
 pub enum Kind {
     Numeric,
     Alphanumeric,

@@ -153,6 +153,16 @@ same_on old s t n e f =
     f ∙ ap (λ (q : Settings). record q { position = n; is_open = t.is_open; height = t.height; right_edge = t.right_edge }) e
     ∙ ap (λ m. record old { position = m; is_open = t.is_open; height = t.height; right_edge = t.right_edge }) (sym (ap (λ (q : Settings). q.position) f))
 
+-- a character goes into the line
+pub has_room : (old : Settings) (sheets : Sheets) (empty : List (List ℕ)) (text : List ℕ) (left : ℕ) (s : Settings) (bitmap : List (List ℕ)) → Put old sheets empty text (suc left) s bitmap
+    → s.position + cell_width s.text.font (style_of s.text) ≤ length_of s
+has_room old sheets empty text left s bitmap p =
+    let wide : cell_width s.text.font (style_of s.text) ≡ cell_width old.text.font (style_of old.text) = ap (λ (q : Settings). cell_width q.text.font (style_of q.text)) p.same in
+    let long : length_of s ≡ length_of old = ap length_of p.same in
+    let some : 0 < cell_width old.text.font (style_of old.text) = subst (λ n. 0 < n) wide (wide_some s.text.font s.text.right_spacing s.text.wide p.fit.text.wide_some) in
+    let fits : s.position + cell_width old.text.font (style_of old.text) ≤ length_of old = room_one left _ _ s.position p.room some in
+    omega (arith, wide, long)
+
 -- a character more
 pub character_put : (old : Settings) (sheets : Sheets) (empty : List (List ℕ)) (text : List ℕ) (left : ℕ) (s t : Settings) (bitmap new : List (List ℕ)) (b : ℕ) → 0x20 ≤ b
     → Put old sheets empty text (suc left) s bitmap
@@ -162,11 +172,8 @@ pub character_put : (old : Settings) (sheets : Sheets) (empty : List (List ℕ))
     → Put old sheets empty (text ++ b ∷ []) left t new
 character_put old sheets empty text left s t bitmap new b large p after moved fit put =
     let wide : cell_width s.text.font (style_of s.text) ≡ cell_width old.text.font (style_of old.text) = ap (λ (q : Settings). cell_width q.text.font (style_of q.text)) p.same in
-    let long : length_of s ≡ length_of old = ap length_of p.same in
     let moved_by : t.position ≡ s.position + cell_width old.text.font (style_of old.text) = ap (λ (q : Settings). q.position) moved ∙ ap (λ n. s.position + n) wide in
-    let some : 0 < cell_width old.text.font (style_of old.text) = subst (λ n. 0 < n) wide (wide_some s.text.font s.text.right_spacing s.text.wide p.fit.text.wide_some) in
-    let fits : s.position + cell_width old.text.font (style_of old.text) ≤ length_of old = room_one left _ _ s.position p.room some in
-    let one : s.position + cell_width s.text.font (style_of s.text) ≤ length_of s = omega (arith, wide, long) in
+    let one = has_room old sheets empty text left s bitmap p in
     let more : (before : List EscItem) → Character b ∷ text_after text before ≡ text_after (text ++ b ∷ []) before =
     λ before. ap (λ (i : EscItem). i ∷ text_after text before) (sym (character_is b large)) ∙ sym (text_more text b before) in
     record {

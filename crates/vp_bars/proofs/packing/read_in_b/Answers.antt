@@ -1,9 +1,9 @@
-use Rattle.std.proofs.Common.{ℕ, [], ◌∷◌, get_or, ap, ◌∙◌, sym}
-use Rattle.vp_bars.specs.declared.code_128.CodeSet.TheVariants.{C}
+use Rattle.std.proofs.Common.{ℕ, [], ◌∷◌, get_or, drop, ap, ◌∙◌, sym}
+use Rattle.vp_bars.specs.declared.code_128.CodeSet.TheVariants.{B, C}
 use Rattle.vp_bars.specs.CodeSets.{onto}
 use Rattle.vp_bars.specs.Invocations.{pair_of}
 use Rattle.vp_bars.specs.Packing.{packed}
-use Rattle.vp_bars.proofs.Packed.{packed_run}
+use Rattle.vp_bars.proofs.Packed.{packed_byte, packed_run}
 use Rattle.vp_bars.proofs.packing.read_in_b.Goals as goal
 
 pub returns-then-begins_run-clause-value : goal.returns-then-begins_run-clause-value
@@ -19,3 +19,11 @@ returns-then-begins_run-clause-value c =
     ∙ c.push_value.ensures.value first
     ∙ c.read_pair-rest.ensures.value second
     ∙ c.read_pair-rest-then-begins_run.ensures.value behind
+
+pub returns-clause-value : goal.returns-clause-value
+returns-clause-value c =
+    let bytes = c.args.bytes.now in
+    λ set not_c.
+    ap (onto c.args.values.now.items) (packed_byte set not_c bytes c.requires.some (sym c.if-begins_run.ensures))
+    ∙ c.in_ok-rest.ensures.value (packed B (drop 1 bytes))
+    ∙ ap (λ rest. onto c.read_byte.new.values.items (packed B rest)) (sym c.in_ok-rest.ensures.rest)

@@ -1,8 +1,8 @@
 use Rattle.std.proofs.Common.{◌≡◌, ◌+◌, ◌-◌, ◌++◌, ◌∷◌, [], suc, take, length, get_or, true, sym, subst, arith}
-use Rattle.std.proofs.lemmas.List.{take_more}
+use Rattle.std.proofs.lemmas.List.{take_more, take_all}
 use Rattle.std.proofs.lemmas.List.Elements.{All-from_recursion}
 use Rattle.vp_esc.specs.Reader.{is_text}
-use Rattle.vp_receipt.proofs.Texts.{Put, none_put, control_put, character_put}
+use Rattle.vp_receipt.proofs.Texts.{Put, none_put, has_room, control_put, character_put}
 use Rattle.vp_receipt.proofs.act.put_text.Goals.{then-code-ge32, else-code-ge32}
 use Rattle.vp_receipt.proofs.act.put_text.Goals as goal
 
@@ -28,3 +28,24 @@ loop-code-preserved c =
       | else-code-ge32 w ↦ rw (w.s-is, w.bitmap-is) (control_put old sheets c.args.bitmap.now (take k text) left c.loop-code.s c.loop-code.bitmap b w.if-code-ge32.false
           (All-from_recursion (λ b. is_text b ≡ true) text c.requires.text k 0 c.loop-code-test.true) was)
     ])
+
+pub with_character-requires-clause-fit : goal.with_character-requires-clause-fit
+with_character-requires-clause-fit c = c.loop-code.invariant.fit
+
+pub with_character-requires-clause-room : goal.with_character-requires-clause-room
+with_character-requires-clause-room c =
+    let text = c.args.text.now in
+    let k = c.loop-code.code-index in
+    let left = length text - (k + 1) in
+    let some : length text - k ≡ suc left = omega (arith, c.loop-code-test.true) in
+    has_room c.args.s.now c.args.sheets.now c.args.bitmap.now (take k text) left c.loop-code.s c.loop-code.bitmap
+    (subst (λ n. Put c.args.s.now c.args.sheets.now c.args.bitmap.now (take k text) n c.loop-code.s c.loop-code.bitmap) some c.loop-code.invariant)
+
+pub returns : goal.returns
+returns c =
+    let text = c.args.text.now in
+    let k = c.loop-code.code-index in
+    let all : take k text ≡ text = take_all k text c.loop-code-test.false in
+    let done : Put c.args.s.now c.args.sheets.now c.args.bitmap.now text (length text - k) c.loop-code.s c.loop-code.bitmap =
+    subst (λ xs. Put c.args.s.now c.args.sheets.now c.args.bitmap.now xs (length text - k) c.loop-code.s c.loop-code.bitmap) all c.loop-code.invariant in
+    record { fit = done.fit; settings = done.settings; line = done.line; others = done.others }

@@ -9,4 +9,4 @@ returns-then-y-saturating_sub c = rw (sym (to_z-of_z w64 c.args.at c.ranges.at))
 
 pub returns : goal.returns
 returns c = rw (sym (to_z-of_z w64 c.args.at c.ranges.at))
-    (cell_upright _ _ _ _ _ _ _ c.requires.inverse c.requires.y c.source_row-word.result _ _ (omega arith) (rw c.from-2.ensures at c.source_row-word.ensures) c.paint_body.ensures)
+    (cell_upright _ _ _ _ _ _ _ c.requires.inverse c.requires.y c.source_row-word.result _ _ (omega arith) (rw c.row_behind.ensures.row at c.source_row-word.ensures) c.paint_body.ensures)

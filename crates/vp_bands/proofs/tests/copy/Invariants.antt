@@ -1,6 +1,0 @@
-use Rattle.std.proofs.Common.{None}
-use Rattle.vp_bands.specs.Standing.{IsBefore}
-use Rattle.vp_bands.proofs.tests.copy.Given as goal
-
-abbrev pub invariant-loop-b : goal.invariant-loop-b
-invariant-loop-b l = IsBefore (record { a = None; b = None }) l.format.stored l.view l.b l.painter
