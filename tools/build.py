@@ -84,8 +84,9 @@ def free():
 class Room:
     """A crate that is being built, in its room."""
 
-    def __init__(self, name, uses):
-        self.name, self.folder, self.started, self.ran = name, f"{ROOMS}/{name}", time.time(), None
+    def __init__(self, name, uses, jobs):
+        self.name, self.jobs, self.folder = name, jobs, f"{ROOMS}/{name}"
+        self.started, self.ran = time.time(), None
         shutil.rmtree(self.folder, ignore_errors=True)
         inside = [*below(name, uses), name]
         os.makedirs(f"{self.folder}/crates")
@@ -112,10 +113,10 @@ class Room:
             os.rename(f"{old}/out", f"{new}/out")
         os.close(held)
 
-    def start(self, jobs):
+    def start(self):
         self.move(f"{ROOT}/crates/{self.name}", f"{self.folder}/crates/{self.name}")
         words = ["rt", "run"] if self.name == PROGRAM else ["rt", "lib"]
-        words += ["--jobs", str(jobs)]
+        words += ["--jobs", str(self.jobs)]
         words += ["--", "--help"] if self.name == PROGRAM else []
         with open(f"{self.folder}/log", "wb") as log:
             how = {"cwd": f"{self.folder}/crates/{self.name}", "stdin": subprocess.DEVNULL, "stdout": log, "stderr": log}
@@ -194,18 +195,23 @@ class Build:
         self.said.line(f"{what} ({len(self.took)} of {len(self.names)} crates{left})")
 
     def begin(self):
-        """Starts what can be started, the longest chain first, as many as there are processors and memory for."""
+        """Starts what can be started, the longest chain first, as many as there are processors and memory for. What the
+        longest chain of all waits for gets two processors at least, the others what is idle."""
         ready = [
             it
             for it in self.names
             if it not in self.took and it not in self.running and all(dep in self.took for dep in self.below[it])
         ]
+        ready.sort(key=lambda it: -self.behind(it))
         lanes = len(os.sched_getaffinity(0))
-        for it in sorted(ready, key=lambda it: -self.behind(it)):
-            room = self.memory - sum(map(self.need, self.running))
-            if len(self.running) < lanes and (not self.running or self.need(it) <= room):
-                self.running[it] = Room(it, self.uses)
-                self.running[it].start(max(1, lanes // len(ready)))
+        longest = max(map(self.behind, [*ready, *self.running]), default=0)
+        for at, it in enumerate(ready):
+            idle = lanes - sum(room.jobs for room in self.running.values())
+            memory = self.memory - sum(map(self.need, self.running))
+            if idle > 0 and (not self.running or self.need(it) <= memory):
+                jobs = max(idle // (len(ready) - at), 2 if self.behind(it) == longest else 1)
+                self.running[it] = Room(it, self.uses, min(jobs, lanes))
+                self.running[it].start()
 
     def run(self):
         """Builds all, and returns whether that went well."""
