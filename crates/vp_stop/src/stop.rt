@@ -1,5 +1,8 @@
 //! How a run ends early: its line, and its status.
-ghost use Rattle.std.specs.Prelude.{◌≡◌};
+ghost use Rattle.std.specs.Prelude.{◌≡◌, ◌⊎◌};
+ghost use Rattle.vp_glyph.specs.Reading.{number_of};
+ghost use Rattle.vp_stop.specs.Ends.{end_of_join, end_of_sheet};
+ghost use Rattle.vp_stop.specs.declared.stop.Stop.TheVariants.{Memory, Read};
 ghost use Rattle.vp_stop.specs.Statuses.{status_of};
 
 use std::io;
@@ -54,7 +57,9 @@ impl<'a> Stop<'a> {
     }
 
     /// Why a whole file can't be read.
-    pub fn of_read(error: &io::Error) -> Self {
+    pub fn of_read(error: &io::Error) -> Self
+        ensures { (result ≡ Memory) ⊎ (result ≡ Read) }
+    {
         if error.kind() == io::ErrorKind::OutOfMemory {
             Stop::Memory
         } else {
@@ -63,7 +68,9 @@ impl<'a> Stop<'a> {
     }
 
     /// Why the file of this name is no sheet that can be held.
-    pub fn of_sheet(name: &'a str, error: SheetError) -> Self {
+    pub fn of_sheet(name: &'a str, error: SheetError) -> Self
+        ensures { result ≡ end_of_sheet name.entry error (number_of error) }
+    {
         match error.number() {
             Some(number) => Stop::Sheet {
                 name,
@@ -75,7 +82,9 @@ impl<'a> Stop<'a> {
     }
 
     /// Why images weren't joined.
-    pub fn of_join(fault: JoinFault) -> Self {
+    pub fn of_join(fault: JoinFault) -> Self
+        ensures { result ≡ end_of_join fault }
+    {
         match fault {
             JoinFault::Read => Stop::Read,
             JoinFault::Write => Stop::Write,
