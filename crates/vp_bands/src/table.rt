@@ -52,7 +52,8 @@ fn fill(threads: &mut Threads, sheets: &Sheets, format: &Format, view: View)
     ensures few { length threads.new.entries ≤ FIELDS }
     ensures fields { fields_of threads.new.entries ≡ format.now.fields }
     ensures spanned { All (IsSpanned sheets.now format.now.stored view) threads.new.entries }
-    ensures placed { (k : ℕ) → k < length threads.new.entries → IsPlaced (entry_at threads.new.entries k) BANDS }
+    ensures placed { (k : ℕ) → k < length threads.new.entries →
+        IsPlaced (entry_at threads.new.entries k) BANDS }
     ensures heads { threads.new.heads ≡ threads.old.heads }
     ensures links { threads.new.links ≡ threads.old.links }
 {

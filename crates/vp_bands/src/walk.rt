@@ -22,7 +22,8 @@ fn mark_for(entry: &Entry, b: usize, mark: Option<RunMark>) -> Option<RunMark>
     if entry.first < b { mark } else { None }
 }
 
-/// Paints band b of a label from the fields that meet it, and threads those that the next band is to carry on.
+/// Paints band b of a label from the fields that meet it, and threads those
+/// that the next band is to carry on.
 pub fn paint_band(
     threads: &mut Threads,
     marks: &mut [Option<RunMark>],
@@ -43,11 +44,13 @@ pub fn paint_band(
     requires carried { IsThreaded threads.old.entries threads.old.links b threads.old.carried }
     requires marked { AreMarked stored.now threads.old.entries marks.old b 0 (length threads.old.entries) }
     ensures dots { (x k : ℕ) → k < 32 → dot (slice_index_or band.new k []) x
-        ≡ image_dot view (map (stroke_of sheets.now stored.now) (fields_of threads.old.entries)) x (32 * b + k) }
+        ≡ image_dot view (map (stroke_of sheets.now stored.now) (fields_of threads.old.entries))
+        x (32 * b + k) }
     ensures stays { Stays threads.old threads.new }
     ensures lengths { length marks.new ≡ length marks.old }
     ensures carried { IsThreaded threads.old.entries threads.new.links (b + 1) threads.new.carried }
-    ensures marked { AreMarked stored.now threads.old.entries marks.new (b + 1) 0 (length threads.old.entries) }
+    ensures marked { AreMarked stored.now threads.old.entries marks.new (b + 1) 0
+        (length threads.old.entries) }
     ensures at_least { threads.old.looks + length (met b threads.old.entries) ≤ threads.new.looks }
     ensures at_most { threads.new.looks ≤ threads.old.looks + 1 + 2 * length (met b threads.old.entries) }
 {

@@ -1,5 +1,5 @@
-//! The benches: how long parts of the printer take, beside copying as many bytes. The times are those of the machine
-//! they run on; the ratios are what to look at.
+//! The benches: how long parts of the printer take, beside copying as many bytes. The times are those of the
+//! machine they run on; the ratios are what to look at.
 #![tactic(auto)]
 
 mod bench;

@@ -31,7 +31,8 @@ pub fn run(rt: &(impl Clock + Print)) -> Result<()> {
         let size = 17 + 4 * version;
         let tested = 8 * size * size;
         println!(rt;
-            "version {version}, masks that add up to {masks}: {:.0} symbols/s, {:.3} ms each, {tested} modules tested",
+            "version {version}, masks that add up to {masks}: {:.0} symbols/s, {:.3} ms each, \
+            {tested} modules tested",
             1e9 / took,
             took / 1e6
         )?;

@@ -13,8 +13,8 @@ block_dot block skip left top x y =
     nat_le left x && (nat_lt (x - left) 8 && (nat_le top y && (nat_lt (y - top + skip) 8
     && word_dot block (8 * (y - top + skip) + (x - left)))))
 
--- dot (x, y) of eight columns, the first at `left`: the first `long` dots of eight lines, dot `skip` of each on row
--- `top`
+-- dot (x, y) of eight columns, the first at `left`: the first `long` dots of
+-- eight lines, dot `skip` of each on row `top`
 abbrev pub columns_dot : List (List ℕ) → ℕ → ℕ → ℕ → ℕ → ℕ → ℕ → Bool
 columns_dot lines long skip left top x y =
     nat_le left x && (nat_lt (x - left) 8 && (nat_le top y && (nat_lt (y - top + skip) long

@@ -1,4 +1,5 @@
--- Images: boxes of dots, and their bytes (netpbm, raw pbm: 1 is black, the leftmost dot is a byte's highest bit).
+-- Images: boxes of dots, and their bytes (netpbm, raw pbm: 1 is black, the
+-- leftmost dot is a byte's highest bit).
 use Rattle.std.specs.Prelude.{ℕ, ◌+◌, ◌/◌, ◌^◌, zero, suc, Bool, nat_lt, ◌==◌, ◌&&◌, List, [], ◌∷◌, ◌++◌, flat_map, if◌then◌else◌}
 use Rattle.std.specs.List.{range_with_len}
 use Rattle.vp_dots.specs.Headers.{header_of}

@@ -16,4 +16,5 @@ words_dot words left top h x y =
 
 -- the rows above row `high`, each with the operation applied where there is ink
 pub record RowsPainted (high : ℕ) (op : Op) (ink : ℕ → ℕ → Bool) (old new : List (List ℕ)) : Type 0 where
-  pub rows_are : (y : ℕ) → y < high → Painted op (λ x. ink x y) (slice_index_or old y []) (slice_index_or new y [])
+  pub rows_are : (y : ℕ) → y < high →
+      Painted op (λ x. ink x y) (slice_index_or old y []) (slice_index_or new y [])

@@ -53,7 +53,8 @@ impl<const B: usize, const H: usize> Band<B, H> {
         ensures rows { length self.new ≡ length self.old }
         ensures white { (y : ℕ) → slice_index_or self.new y []
             ≡ (if span from to y then replicate B 0 else slice_index_or self.old y []) }
-        ensures all { ((y : ℕ) → y < H → span from to y ≡ false → slice_index_or self.old y [] ≡ replicate B 0)
+        ensures all { ((y : ℕ) → y < H → span from to y ≡ false →
+            slice_index_or self.old y [] ≡ replicate B 0)
             → self.new ≡ replicate H (replicate B 0) }
     {
         for y in from..to {
@@ -63,7 +64,8 @@ impl<const B: usize, const H: usize> Band<B, H> {
 
     /// The dot at column x of row y, if there is one.
     pub fn get(&self, x: usize, y: usize) -> Option<bool>
-        ensures { result ≡ (if nat_lt x (8 * B) && nat_lt y H then Some (dot (slice_index_or self.now y []) x) else None) }
+        ensures { result ≡ (if nat_lt x (8 * B) && nat_lt y H
+            then Some (dot (slice_index_or self.now y []) x) else None) }
     {
         if x / 8 < B && y < H {
             Some(self.rows[y][x / 8] >> (7 - x % 8) & 1 == 1)
@@ -85,7 +87,8 @@ impl<const B: usize, const H: usize> Band<B, H> {
     /// The bytes of a row, to be written.
     pub fn row_mut(&mut self, y: usize) -> &mut [u8]
         requires { y < H }
-        ensures* writes_back { sem 𝓛 (Lends (the_row B.row H.row) (Array byte 0) self.entry result (slice_set self.old y)) }
+        ensures* writes_back { sem 𝓛
+            (Lends (the_row B.row H.row) (Array byte 0) self.entry result (slice_set self.old y)) }
         ensures value { result.now ≡ slice_index_or self.old y [] }
         ensures len { length result.now ≡ B }
         ensures rows { length self.old ≡ H }

@@ -39,8 +39,10 @@ pub fn row_law()
 
 /// A law: bytes with these dots are the bytes of that row.
 pub fn dots_decide(row: &[u8])
-    ensures row { (n : ℕ) (f : ℕ → Bool) → length row.now ≡ n → ((d : ℕ) → d < 8 * n → dot row.now d ≡ f d) → row.now ≡ row_of n f }
-    ensures image { (i : Image) (y : ℕ) → length row.now ≡ row_bytes i.width → ((x : ℕ) → x < i.width → dot row.now x ≡ i.is_black x y)
+    ensures row { (n : ℕ) (f : ℕ → Bool) → length row.now ≡ n → ((d : ℕ) → d < 8 * n → dot row.now d ≡ f d) →
+        row.now ≡ row_of n f }
+    ensures image { (i : Image) (y : ℕ) → length row.now ≡ row_bytes i.width →
+        ((x : ℕ) → x < i.width → dot row.now x ≡ i.is_black x y)
         → ((x : ℕ) → i.width ≤ x → dot row.now x ≡ false) → row.now ≡ image_row i y }
 {}
 
@@ -53,5 +55,6 @@ pub fn image_law()
     ensures padding { (i : Image) (x y : ℕ) → i.width ≤ x → x < 8 * row_bytes i.width → y < i.height
         → bit (slice_index (image_rows i) (y * row_bytes i.width + x / 8)) (7 - x % 8) ≡ false }
     ensures same { (w h : ℕ) (f g : ℕ → ℕ → Bool) → ((x y : ℕ) → x < w → y < h → f x y ≡ g x y)
-        → pbm (record { width = w; height = h; is_black = f }) ≡ pbm (record { width = w; height = h; is_black = g }) }
+        → pbm (record { width = w; height = h; is_black = f })
+        ≡ pbm (record { width = w; height = h; is_black = g }) }
 {}

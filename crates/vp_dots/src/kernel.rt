@@ -14,7 +14,8 @@ use std::simd::u8x32;
 #[inline(always)]
 fn window(hi: u8, lo: u8, s: u32) -> u8
     requires { s ≤ 8 }
-    ensures { (k : ℕ) → k < 8 → bit result k ≡ (if nat_lt (k + s) 8 then bit lo (k + s) else bit hi (k + s - 8)) }
+    ensures { (k : ℕ) → k < 8 →
+        bit result k ≡ (if nat_lt (k + s) 8 then bit lo (k + s) else bit hi (k + s - 8)) }
 {
     (((hi as u16 * 256 + lo as u16) >> s) & 255) as u8
 }
@@ -223,10 +224,12 @@ pub fn paint_into(op: Op, source: &[u8], at: i64, row: &mut [u8])
 /// nothing where none does.
 pub fn shift_law()
     ensures meets { (at : ℤ) (f : ℕ → Bool) (d x : ℕ) → pos d ≡ at +ℤ pos x → shifted at f d ≡ f x }
-    ensures outside { (at : ℤ) (f : ℕ → Bool) (d : ℕ) → ((x : ℕ) → pos d ≢ at +ℤ pos x) → shifted at f d ≡ false }
+    ensures outside { (at : ℤ) (f : ℕ → Bool) (d : ℕ) → ((x : ℕ) → pos d ≢ at +ℤ pos x) →
+        shifted at f d ≡ false }
 {}
 
 /// A law: no two rows are what painting makes of a row.
 pub fn painted_law(one: &[u8], other: &[u8])
-    ensures { (op : Op) (ink : ℕ → Bool) (row : List ℕ) → Painted op ink row one.now → Painted op ink row other.now → one.now ≡ other.now }
+    ensures { (op : Op) (ink : ℕ → Bool) (row : List ℕ) → Painted op ink row one.now →
+        Painted op ink row other.now → one.now ≡ other.now }
 {}

@@ -88,14 +88,16 @@ pub trait Ink {
         }
     }
 
-    /// Whether the ink is no wider than a word and has no more lines than `WORDS`: then the words are its lines.
+    /// Whether the ink is no wider than a word and has no more lines than
+    /// `WORDS`: then the words are its lines.
     fn words(&self, _words: &mut [u64; WORDS]) -> bool
         ensures { result ≡ true → (x y : ℕ) → word_dot (slice_index _words.new y) x ≡ ink_at self.now x y }
     {
         false
     }
 
-    /// Whether line y is known to have the ink of the line above it, so that what was drawn for that serves again.
+    /// Whether line y is known to have the ink of the line above it, so that
+    /// what was drawn for that serves again.
     fn repeats(&self, _y: u32) -> bool
         ensures { result ≡ true → (x : ℕ) → ink_at self.now x _y ≡ ink_at self.now x (_y - 1) }
     {

@@ -16,7 +16,8 @@ fn first_row(top: i64) -> u64
 
 /// The row below the last one that ink of h lines, with its top at this row, may meet.
 fn row_below(top: i64, h: u32) -> u64
-    ensures { (line : ℕ → Bool) → ((v : ℕ) → line v ≡ true → v < h) → (y : ℕ) → result ≤ y → shifted top line y ≡ false }
+    ensures { (line : ℕ → Bool) → ((v : ℕ) → line v ≡ true → v < h) → (y : ℕ) → result ≤ y →
+        shifted top line y ≡ false }
 {
     let far = top.unsigned_abs();
     let h = u64::from(h);
@@ -29,7 +30,8 @@ fn row_below(top: i64, h: u32) -> u64
 
 /// The line of ink with its top at this row that falls on row y, if there is one.
 fn line_on(top: i64, y: u64) -> Option<u32>
-    ensures { (line : ℕ → Bool) → ((v : ℕ) → line v ≡ true → v < 2 ^ 32) → shifted top line y ≡ unwrap_or (option_map line result) false }
+    ensures { (line : ℕ → Bool) → ((v : ℕ) → line v ≡ true → v < 2 ^ 32) →
+        shifted top line y ≡ unwrap_or (option_map line result) false }
 {
     let far = top.unsigned_abs();
     let line = if top >= 0 {
@@ -40,8 +42,8 @@ fn line_on(top: i64, y: u64) -> Option<u32>
     u32::try_from(line).ok()
 }
 
-/// Applies the operation to the dots of the band where the ink, with its top left place at column `left` of row `top`,
-/// has ink: line by line.
+/// Applies the operation to the dots of the band where the ink, with its top left place at column
+/// `left` of row `top`, has ink: line by line.
 fn paint_lines<I: Ink, const B: usize, const H: usize>(
     ink: &I,
     op: Op,
@@ -107,8 +109,8 @@ fn paint_words<const B: usize, const H: usize>(
     }
 }
 
-/// Applies the operation to the dots of the band where the ink, with its top left place at column `left` of row `top`,
-/// has ink.
+/// Applies the operation to the dots of the band where the ink, with its top left
+/// place at column `left` of row `top`, has ink.
 pub fn paint_at<I: Ink, const B: usize, const H: usize>(
     ink: &I,
     op: Op,

@@ -35,8 +35,8 @@ fn lost(word: u64, s: u32) -> u8
     (((word & 255) * 256) >> s & 255) as u8
 }
 
-/// Applies the operation to the dots d of the row where dot d - far of the word is black: the row has room for nine
-/// bytes.
+/// Applies the operation to the dots d of the row where dot d - far of the word
+/// is black: the row has room for nine bytes.
 #[inline(always)]
 fn paint_inside(op: Op, word: u64, far: u64, row: &mut [u8])
     requires { far / 8 + 9 ≤ length row.old }
@@ -72,8 +72,8 @@ fn paint_bytes<const N: usize>(op: Op, word: u64, i: usize, row: &mut [u8])
     }
 }
 
-/// Applies the operation to the dots d of the row where dot d - at of the word is black: of a word of so few dots that
-/// N bytes have room for them wherever the first one falls.
+/// Applies the operation to the dots d of the row where dot d - at of the word is black: of a word of so few
+/// dots that N bytes have room for them wherever the first one falls.
 #[inline(always)]
 pub fn paint_few<const N: usize>(op: Op, word: u64, at: usize, row: &mut [u8])
     requires bytes { N ≤ 8 }

@@ -25,7 +25,8 @@ module _ {Item : Type 0} (rules : Rules Item) (At : List ℕ → List Item → T
   Comes bytes before (Err f) result = (result ≡ Err f) × At bytes before × (pending ≡ [])
 
   -- a byte was taken after these bytes, of which these items are printed
-  pub record Takes (bytes : List ℕ) (before : List Item) (byte : ℕ) (result : Result (Unit {0}) Fault) : Type 0 where
+  pub record Takes (bytes : List ℕ) (before : List Item) (byte : ℕ)
+      (result : Result (Unit {0}) Fault) : Type 0 where
     pub given : Result (List Item) Fault
     pub gives : Gives given (rules.reading.items bytes) (rules.reading.items (bytes ++ byte ∷ []))
         (rules.reading.fault_of (bytes ++ byte ∷ []))

@@ -69,11 +69,13 @@ impl Buffer {
     /// Reads once, where nothing is held.
     pub fn read_from<S: Source>(&mut self, reader: &mut S) -> io::Result<usize>
         requires { self.old ≡ [] }
-        ensures bytes { IfOk result (λ n. Consumes (S.remaining reader.old) (S.remaining reader.new) self.new) }
+        ensures bytes { IfOk result
+            (λ n. Consumes (S.remaining reader.old) (S.remaining reader.new) self.new) }
         ensures end { IfOk result (λ n. n ≡ 0 → IsAtEnd (S.remaining reader.new)) }
         ensures count { IfOk result (λ n. n ≡ length self.new) }
         ensures fit { length self.new ≤ buffer_size }
-        ensures err { OnErr result (Keeps (S.remaining reader.old) (S.remaining reader.new) × (self.new ≡ [])) }
+        ensures err { OnErr result (Keeps (S.remaining reader.old) (S.remaining reader.new)
+            × (self.new ≡ [])) }
         ensures reads { S.reads reader.new ≡ grown (S.reads reader.old) 1 }
         ensures failed { S.failed_reads reader.new ≡ one_more_if (is_err result) (S.failed_reads reader.old) }
     {

@@ -13,7 +13,8 @@ between low b high = nat_le low b && nat_le b high
 -- a hex digit in either case, a count G to Y of 1 to 19 or g to z of 20, 40, .. 400, or one of `,` `!` `:`
 unfoldable pub code_of : ℕ → Code
 code_of b =
-    if between 48 b 57 then Digit (b - 48) else if between 65 b 70 then Digit (b - 55) else if between 97 b 102 then Digit (b - 87)
+    if between 48 b 57 then Digit (b - 48) else if between 65 b 70 then Digit (b - 55)
+    else if between 97 b 102 then Digit (b - 87)
     else if between 71 b 89 then Count (b - 70) else if between 103 b 122 then Count (20 * (b - 102))
     else if b == 44 then Fill 0 else if b == 33 then Fill 15 else if b == 58 then Above else Other
 
@@ -29,7 +30,8 @@ spelled s k = record { symbol = s; bytes = k }
 abbrev pub alone : ℕ → Symbol → Symbol
 alone n s = if n == 0 then s else Refused
 
--- the symbols from a code on, behind k counts that add up to n; the later codes give symbols behind counts likewise
+-- the symbols from a code on, behind k counts that add up to n; the later codes
+-- give symbols behind counts likewise
 abbrev pub joined : Code → ℕ → ℕ → (ℕ → ℕ → List Spelled) → List Spelled
 joined (Digit v) n k later = spelled (Digits (max n 1) v) (k + 1) ∷ later 0 0
 joined (Count m) n k later = later (n + m) (k + 1)
@@ -45,7 +47,8 @@ symbols_behind (b ∷ codes) n k = joined (code_of b) n k (symbols_behind codes)
 -- bytes as they are: each one two digits
 abbrev pub binary_symbols : List ℕ → List Spelled
 binary_symbols [] = []
-binary_symbols (b ∷ codes) = spelled (Digits 1 (b / 16)) 1 ∷ spelled (Digits 1 (b % 16)) 0 ∷ binary_symbols codes
+binary_symbols (b ∷ codes) =
+    spelled (Digits 1 (b / 16)) 1 ∷ spelled (Digits 1 (b % 16)) 0 ∷ binary_symbols codes
 
 -- the symbols of codes
 abbrev pub symbols : Coding → List ℕ → List Spelled

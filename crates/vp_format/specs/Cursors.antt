@@ -77,23 +77,29 @@ pub record Filled (from to v : ℕ) (old new : List ℕ) : Type 0 where
   pub kept : (j : ℕ) → j < from → nibble new j ≡ nibble old j
   pub filled : (j : ℕ) → from ≤ j → j < to → nibble new j ≡ v
 
--- the symbols, of which the first is spelled from a place of the codes on, show what the row has before place x, and from there on what
--- those show that are left, which are spelled from a later place on
-pub record Reached (width : ℕ) (all : List Spelled) (from : ℕ) (row : List ℕ) (x : ℕ) (left : List Spelled) (at : ℕ) : Type 0 where
+-- the symbols, of which the first is spelled from a place of the codes on, show what the row has before place
+-- x, and from there on what those show that are left, which are spelled from a later place on
+pub record Reached (width : ℕ) (all : List Spelled) (from : ℕ) (row : List ℕ) (x : ℕ)
+    (left : List Spelled) (at : ℕ) : Type 0 where
   pub so_far : (j : ℕ) → j < x → shown width 0 all j ≡ Value (nibble row j)
   pub ahead : (j : ℕ) → x ≤ j → shown width 0 all j ≡ shown width x left j
   pub bytes : (j : ℕ) → x ≤ j → from + bytes_before width 0 all j ≡ at + bytes_before width x left j
 
--- the row that starts at a spot stands in the bytes, which were those of the row before; it is that one once more or not, and the next
--- row starts at another spot
-pub record Decoded (width : ℕ) (coding : Coding) (codes : List ℕ) (s : Spot) (end : RowEnd) (after : Spot) (old new : List ℕ) : Type 0 where
+-- the row that starts at a spot stands in the bytes, which were those of the row before; it is that one once
+-- more or not, and the next row starts at another spot
+pub record Decoded (width : ℕ) (coding : Coding) (codes : List ℕ) (s : Spot) (end : RowEnd) (after : Spot)
+    (old new : List ℕ) : Type 0 where
   pub spot : IsSpot codes after
   pub whole : IsWhole coding after
-  pub row : (j : ℕ) → j < width → nibble new j ≡ value_of (shown width 0 (symbols_at coding codes s) j) (nibble old j)
-  pub own : end.repeats ≡ false → (j : ℕ) → j < width → shown width 0 (symbols_at coding codes s) j ≡ Value (nibble new j)
+  pub row : (j : ℕ) → j < width →
+      nibble new j ≡ value_of (shown width 0 (symbols_at coding codes s) j) (nibble old j)
+  pub own : end.repeats ≡ false → (j : ℕ) → j < width →
+      shown width 0 (symbols_at coding codes s) j ≡ Value (nibble new j)
   pub again : end.repeats ≡ true → (j : ℕ) → j < width → shown width 0 (symbols_at coding codes s) j ≡ AsAbove
-  pub next : (j : ℕ) → shown width 0 (symbols_at coding codes s) (width + j) ≡ shown width 0 (symbols_at coding codes after) j
-  pub bytes : (j : ℕ) → s.at + bytes_before width 0 (symbols_at coding codes s) (width + j) ≡ after.at + bytes_before width 0 (symbols_at coding codes after) j
+  pub next : (j : ℕ) → shown width 0 (symbols_at coding codes s) (width + j)
+      ≡ shown width 0 (symbols_at coding codes after) j
+  pub bytes : (j : ℕ) → s.at + bytes_before width 0 (symbols_at coding codes s) (width + j)
+      ≡ after.at + bytes_before width 0 (symbols_at coding codes after) j
 
 -- the values of the row before, and 0 above the first
 abbrev pub above : Picture → ℕ → ℕ → ℕ
@@ -104,18 +110,22 @@ above p (suc y) j = value p y j
 abbrev pub marked_row : RunMark → ℕ
 marked_row m = m.next
 
--- a mark of a cursor in a picture: the symbols at its place are those of its row, and the row that starts at the place before, which is
--- read up to its own place at most, is the row above
+-- a mark of a cursor in a picture: the symbols at its place are those of its row, and the row that starts at
+-- the place before, which is read up to its own place at most, is the row above
 pub record IsMark (p : Picture) (m : RunMark) : Type 0 where
   pub here : IsSpot p.codes m.here
   pub whole : IsWhole p.coding m.here
-  pub shown_is : (j : ℕ) → shown (width_of p) 0 (symbols p.coding p.codes) (width_of p * m.next + j) ≡ shown (width_of p) 0 (symbols_at p.coding p.codes m.here) j
-  pub bytes_is : (j : ℕ) → bytes_before (width_of p) 0 (symbols p.coding p.codes) (width_of p * m.next + j) ≡ m.here.at + bytes_before (width_of p) 0 (symbols_at p.coding p.codes m.here) j
+  pub shown_is : (j : ℕ) → shown (width_of p) 0 (symbols p.coding p.codes) (width_of p * m.next + j)
+      ≡ shown (width_of p) 0 (symbols_at p.coding p.codes m.here) j
+  pub bytes_is : (j : ℕ) → bytes_before (width_of p) 0 (symbols p.coding p.codes) (width_of p * m.next + j)
+      ≡ m.here.at + bytes_before (width_of p) 0 (symbols_at p.coding p.codes m.here) j
   pub before : IsSpot p.codes m.before
   pub whole_before : IsWhole p.coding m.before
   pub before_is : m.before.at ≡ start_above p m.next
-  pub above_is : (j : ℕ) → j < width_of p → shown (width_of p) 0 (symbols_at p.coding p.codes m.before) j ≡ Value (above p m.next j)
-  pub above_bytes : bytes_before (width_of p) 0 (symbols_at p.coding p.codes m.before) (width_of p) ≤ m.here.at - m.before.at
+  pub above_is : (j : ℕ) → j < width_of p →
+      shown (width_of p) 0 (symbols_at p.coding p.codes m.before) j ≡ Value (above p m.next j)
+  pub above_bytes : bytes_before (width_of p) 0 (symbols_at p.coding p.codes m.before) (width_of p)
+      ≤ m.here.at - m.before.at
 
 abbrev pub picture_of : Inside → Picture
 picture_of c = record { coding = c.coding; codes = c.codes.bytes.now; row_bytes = c.row_bytes; rows = c.rows }
@@ -128,7 +138,8 @@ pub record IsCursor (c : Inside) : Type 0 where
   pub some : 0 < c.row_bytes
   pub short : c.row_bytes ≤ 1024
   pub mark : IsMark (picture_of c) c.mark
-  pub kept : c.refused ≡ false → (j : ℕ) → j < 2 * c.row_bytes → nibble c.row j ≡ above (picture_of c) c.mark.next j
+  pub kept : c.refused ≡ false → (j : ℕ) → j < 2 * c.row_bytes →
+      nibble c.row j ≡ above (picture_of c) c.mark.next j
   pub place : c.refused ≡ false → c.codes.at ≡ c.mark.here.at
   pub stopped : c.refused ≡ true → is_refused (picture_of c) c.mark.next ≡ true
   pub reading : IsReading c.codes

@@ -26,17 +26,19 @@ shows width start (ToEnd v) = Value v
 shows width start Again = if start % width == 0 then AsAbove else Nothing
 shows width start Refused = Nothing
 
--- what a place shows, in rows of so many places, where the first of the symbols starts at a place: the symbols stand one after the
--- other, and a place that none covers is 0
+-- what a place shows, in rows of so many places, where the first of the symbols starts at a place: the
+-- symbols stand one after the other, and a place that none covers is 0
 abbrev pub shown : ℕ → ℕ → List Spelled → ℕ → Shown
 shown width start [] place = Value 0
 shown width start (s ∷ ss) place =
-    if nat_lt place (end_of width start s.symbol) then shows width start s.symbol else shown width (end_of width start s.symbol) ss place
+    if nat_lt place (end_of width start s.symbol) then shows width start s.symbol
+    else shown width (end_of width start s.symbol) ss place
 
 -- the bytes of the symbols that start before a place
 abbrev pub bytes_before : ℕ → ℕ → List Spelled → ℕ → ℕ
 bytes_before width start [] place = 0
-bytes_before width start (s ∷ ss) place = if nat_lt start place then s.bytes + bytes_before width (end_of width start s.symbol) ss place else 0
+bytes_before width start (s ∷ ss) place =
+    if nat_lt start place then s.bytes + bytes_before width (end_of width start s.symbol) ss place else 0
 
 abbrev pub is_nothing : Shown → Bool
 is_nothing Nothing = true
@@ -87,7 +89,8 @@ unfoldable pub start_above : Picture → ℕ → ℕ
 start_above p zero = length p.codes
 start_above p (suc y) = if is_repeat p y then start_above p y else start_of p y
 
--- where reading may start for the rows from y on: at the last row before that isn't `:`, or at row y where there is none
+-- where reading may start for the rows from y on: at the last row before that
+-- isn't `:`, or at row y where there is none
 unfoldable pub bound_of : Picture → ℕ → ℕ
 bound_of p y = min (start_above p y) (start_of p y)
 

@@ -33,8 +33,8 @@ pub struct Text {
     pub height: u16,
 }
 
-/// A text in lines (^FB): the block's width, 0 to 32,000 dots, its lines, 1 to 9,999, the dots between them, -9,999 to
-/// 9,999, and where they stand in its width.
+/// A text in lines (^FB): the block's width, 0 to 32,000 dots, its lines, 1 to 9,999, the dots between them,
+/// -9,999 to 9,999, and where they stand in its width.
 #[derive(Clone, Copy, Debug, PartialEq, Eq)]
 pub struct Block {
     pub text: Text,
@@ -72,7 +72,8 @@ pub struct Bars {
     pub place: Place,
 }
 
-/// A QR symbol (^BQ): its data, a module's side in dots, 1 to 16, and the version and mask that were chosen for it.
+/// A QR symbol (^BQ): its data, a module's side in dots, 1 to 16, and the
+/// version and mask that were chosen for it.
 #[derive(Clone, Copy, Debug, PartialEq, Eq)]
 pub struct QrSymbol {
     pub bytes: Span,

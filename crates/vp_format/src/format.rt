@@ -56,8 +56,8 @@ impl Format {
         })
     }
 
-    /// Stores bytes behind those that are held; `Full`, and nothing changes, where these are more than 262,144 in
-    /// all.
+    /// Stores bytes behind those that are held; `Full`, and nothing changes,
+    /// where these are more than 262,144 in all.
     pub fn keep(&mut self, bytes: &[u8]) -> Result<(), Full>
         ensures room { IsOk result ↔ (length self.old.stored + length bytes.now ≤ STORED) }
         ensures ok { OnOk result (self.new ≡ record self.old { stored = self.old.stored ++ bytes.now }) }

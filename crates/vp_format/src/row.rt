@@ -102,9 +102,13 @@ fn digits(codes: &mut Codes, first: usize, row: &mut [u8]) -> (usize, Option<u8>
     ensures advanced { Advanced codes.old codes.new }
     ensures hand { InHand codes.new result.1 }
     ensures inside { result.0 + held result.1 ≤ 2 * length row.old }
-    ensures end { held result.1 ≡ 0 → result.0 < 2 * length row.old → codes.new.at ≡ length codes.new.bytes.now }
-    ensures reached { (all : List Spelled) (from : ℕ) → Reached (2 * length row.old) all from row.old (2 * first) (symbols_from codes.old.bytes.now codes.old.at) codes.old.at
-        → Reached (2 * length row.old) all from row.new result.0 (symbols_from codes.new.bytes.now (codes.new.at - held result.1)) (codes.new.at - held result.1) }
+    ensures end { held result.1 ≡ 0 → result.0 < 2 * length row.old →
+        codes.new.at ≡ length codes.new.bytes.now }
+    ensures reached { (all : List Spelled) (from : ℕ) →
+        Reached (2 * length row.old) all from row.old (2 * first)
+        (symbols_from codes.old.bytes.now codes.old.at) codes.old.at
+        → Reached (2 * length row.old) all from row.new result.0
+        (symbols_from codes.new.bytes.now (codes.new.at - held result.1)) (codes.new.at - held result.1) }
     ensures more { held result.1 ≡ 1 → codes.old.at < codes.new.at }
     ensures after { 2 * first ≤ result.0 }
     ensures same { result.0 ≡ 2 * first → row.new ≡ row.old }
@@ -140,10 +144,14 @@ fn digits_from(codes: &mut Codes, from: usize, row: &mut [u8]) -> (usize, Option
     ensures advanced { Advanced codes.old codes.new }
     ensures hand { InHand codes.new result.1 }
     ensures inside { result.0 + held result.1 ≤ 2 * length row.old }
-    ensures end { held result.1 ≡ 0 → result.0 < 2 * length row.old → codes.new.at ≡ length codes.new.bytes.now }
+    ensures end { held result.1 ≡ 0 → result.0 < 2 * length row.old →
+        codes.new.at ≡ length codes.new.bytes.now }
     ensures more { held result.1 ≡ 1 → codes.old.at < codes.new.at }
-    ensures reached { (all : List Spelled) (start : ℕ) → Reached (2 * length row.old) all start row.old from (symbols_from codes.old.bytes.now codes.old.at) codes.old.at
-        → Reached (2 * length row.old) all start row.new result.0 (symbols_from codes.new.bytes.now (codes.new.at - held result.1)) (codes.new.at - held result.1) }
+    ensures reached { (all : List Spelled) (start : ℕ) →
+        Reached (2 * length row.old) all start row.old from
+        (symbols_from codes.old.bytes.now codes.old.at) codes.old.at
+        → Reached (2 * length row.old) all start row.new result.0
+        (symbols_from codes.new.bytes.now (codes.new.at - held result.1)) (codes.new.at - held result.1) }
     ensures after { from ≤ result.0 }
     ensures same { result.0 ≡ from → row.new ≡ row.old }
 {
@@ -192,11 +200,16 @@ fn read_on(codes: &mut Codes, from: usize, row: &mut [u8]) -> Result<RowEnd, Fau
     requires from { from < 2 * length row.old }
     ensures len { length row.new ≡ length row.old }
     ensures advanced { Advanced codes.old codes.new }
-    ensures answer { (all : List Spelled) (start : ℕ) → Reached (2 * length row.old) all start row.old from (symbols_from codes.old.bytes.now codes.old.at) codes.old.at
+    ensures answer { (all : List Spelled) (start : ℕ) →
+        Reached (2 * length row.old) all start row.old from
+        (symbols_from codes.old.bytes.now codes.old.at) codes.old.at
         → is_err result ≡ is_nothing (shown (2 * length row.old) 0 all (2 * length row.old - 1)) }
-    ensures decoded { (s : Spot) (before : List ℕ) → Reached (2 * length row.old) (symbols_at RunLength codes.old.bytes.now s) s.at row.old from (symbols_from codes.old.bytes.now codes.old.at) codes.old.at
+    ensures decoded { (s : Spot) (before : List ℕ) →
+        Reached (2 * length row.old) (symbols_at RunLength codes.old.bytes.now s) s.at row.old from
+        (symbols_from codes.old.bytes.now codes.old.at) codes.old.at
         → (from ≡ 0 → row.old ≡ before)
-        → IfOk result (λ end. Decoded (2 * length row.old) RunLength codes.old.bytes.now s end (record { left = end.left; digit = end.digit; at = codes.new.at }) before row.new) }
+        → IfOk result (λ end. Decoded (2 * length row.old) RunLength codes.old.bytes.now s end
+        (record { left = end.left; digit = end.digit; at = codes.new.at }) before row.new) }
 {
     let places = 2 * row.len();
     let mut x = from;
@@ -234,8 +247,11 @@ fn decode(codes: &mut Codes, left: u128, digit: u8, row: &mut [u8]) -> Result<Ro
     requires digit { digit < 16 }
     ensures len { length row.new ≡ length row.old }
     ensures advanced { Advanced codes.old codes.new }
-    ensures answer { is_err result ≡ is_nothing (shown (2 * length row.old) 0 (symbols_at RunLength codes.old.bytes.now (record { left = left; digit = digit; at = codes.old.at })) (2 * length row.old - 1)) }
-    ensures decoded { IfOk result (λ end. Decoded (2 * length row.old) RunLength codes.old.bytes.now (record { left = left; digit = digit; at = codes.old.at }) end
+    ensures answer { is_err result ≡ is_nothing (shown (2 * length row.old) 0
+        (symbols_at RunLength codes.old.bytes.now (record { left = left; digit = digit; at = codes.old.at }))
+        (2 * length row.old - 1)) }
+    ensures decoded { IfOk result (λ end. Decoded (2 * length row.old) RunLength codes.old.bytes.now
+        (record { left = left; digit = digit; at = codes.old.at }) end
         (record { left = end.left; digit = end.digit; at = codes.new.at }) row.old row.new) }
 {
     if left == 0 {
@@ -256,9 +272,12 @@ fn copy(codes: &mut Codes, row: &mut [u8]) -> RowEnd
     ensures len { length row.new ≡ length row.old }
     ensures advanced { Advanced codes.old codes.new }
     ensures end { result ≡ record { left = 0; digit = 0; repeats = false } }
-    ensures decoded { Decoded (2 * length row.old) Binary codes.old.bytes.now (record { left = 0; digit = 0; at = codes.old.at }) result
+    ensures decoded { Decoded (2 * length row.old) Binary codes.old.bytes.now
+        (record { left = 0; digit = 0; at = codes.old.at }) result
         (record { left = 0; digit = 0; at = codes.new.at }) row.old row.new }
-    ensures taken { (j : ℕ) → is_nothing (shown (2 * length row.old) 0 (symbols_at Binary codes.old.bytes.now (record { left = 0; digit = 0; at = codes.old.at })) j) ≡ false }
+    ensures taken { (j : ℕ) → is_nothing (shown (2 * length row.old) 0
+        (symbols_at Binary codes.old.bytes.now (record { left = 0; digit = 0; at = codes.old.at })) j)
+        ≡ false }
 {
     let part = codes.up_to(row.len());
     row.fill(0);
@@ -283,8 +302,10 @@ pub fn next_row(
     requires whole { IsWhole coding spot }
     ensures len { length row.new ≡ length row.old }
     ensures advanced { Advanced codes.old codes.new }
-    ensures answer { is_err result ≡ is_nothing (shown (2 * n) 0 (symbols_at coding codes.old.bytes.now spot) (2 * n - 1)) }
-    ensures decoded { IfOk result (λ end. Decoded (2 * n) coding codes.old.bytes.now spot end (record { left = end.left; digit = end.digit; at = codes.new.at }) row.old row.new) }
+    ensures answer { is_err result
+        ≡ is_nothing (shown (2 * n) 0 (symbols_at coding codes.old.bytes.now spot) (2 * n - 1)) }
+    ensures decoded { IfOk result (λ end. Decoded (2 * n) coding codes.old.bytes.now spot end
+        (record { left = end.left; digit = end.digit; at = codes.new.at }) row.old row.new) }
 {
     let front = &mut row[..n];
     match coding {

@@ -43,7 +43,11 @@ pub struct RunMark {
 impl RunMark {
     /// The mark before the first row of codes of so many bytes.
     pub fn first(len: usize) -> RunMark
-        ensures { result ≡ record { next = 0; here = record { left = 0; digit = 0; at = 0 }; before = record { left = 0; digit = 0; at = len } } }
+        ensures { result ≡ record {
+          next = 0;
+          here = record { left = 0; digit = 0; at = 0 };
+          before = record { left = 0; digit = 0; at = len };
+        } }
     {
         let here = Spot {
             left: 0,
@@ -114,7 +118,16 @@ impl<'a> RunRows<'a> {
     pub fn new(codes: &'a [u8], coding: Coding, row_bytes: usize, rows: u32) -> Self
         requires some { 0 < row_bytes }
         requires short { row_bytes ≤ 1024 }
-        ensures { result ≡ record { picture = record { coding = coding; codes = codes.now; row_bytes = row_bytes; rows = rows }; first = 0; next = 0 } }
+        ensures { result ≡ record {
+          picture = record {
+            coding = coding;
+            codes = codes.now;
+            row_bytes = row_bytes;
+            rows = rows;
+          };
+          first = 0;
+          next = 0;
+        } }
     {
         RunRows {
             codes: Codes::new(codes, 0),
@@ -133,7 +146,8 @@ impl<'a> RunRows<'a> {
     pub fn next_row(&mut self, out: &mut [u8]) -> Result<bool, Fault>
         requires { length out.old ≡ self.old.picture.row_bytes }
         ensures answer { result ≡ answer self.old.picture self.old.next }
-        ensures row { result ≡ Ok true → (x : ℕ) → x < 2 * length out.old → nibble out.new x ≡ value self.old.picture self.old.next x }
+        ensures row { result ≡ Ok true → (x : ℕ) → x < 2 * length out.old →
+            nibble out.new x ≡ value self.old.picture self.old.next x }
         ensures next { self.new ≡ record self.old { next = row_after self.old.picture self.old.next } }
         ensures len { length out.new ≡ length out.old }
     {
@@ -174,7 +188,8 @@ impl<'a> RunRows<'a> {
     /// Whether no code is left for the rows to come: then none of them is refused.
     pub fn is_at_end(&self) -> bool
         ensures later { result ≡ true → (y : ℕ) → self.now.next ≤ y → is_refused self.now.picture y ≡ false }
-        ensures ended { start_of self.now.picture self.now.next ≡ length self.now.picture.codes → result ≡ true }
+        ensures ended { start_of self.now.picture self.now.next ≡ length self.now.picture.codes →
+            result ≡ true }
     {
         self.mark.here.at == self.codes.len()
     }
@@ -189,8 +204,22 @@ impl<'a> RunRows<'a> {
     ) -> Self
         requires some { 0 < row_bytes }
         requires short { row_bytes ≤ 1024 }
-        requires mark { IsMark (record { coding = coding; codes = codes.now; row_bytes = row_bytes; rows = rows }) mark }
-        ensures { result ≡ record { picture = record { coding = coding; codes = codes.now; row_bytes = row_bytes; rows = rows }; first = marked_row mark; next = marked_row mark } }
+        requires mark { IsMark (record {
+          coding = coding;
+          codes = codes.now;
+          row_bytes = row_bytes;
+          rows = rows;
+        }) mark }
+        ensures { result ≡ record {
+          picture = record {
+            coding = coding;
+            codes = codes.now;
+            row_bytes = row_bytes;
+            rows = rows;
+          };
+          first = marked_row mark;
+          next = marked_row mark;
+        } }
     {
         let mut row = [0; ROW];
         let mut bytes = Codes::new(codes, mark.before.at);
@@ -208,10 +237,11 @@ impl<'a> RunRows<'a> {
         }
     }
 
-    /// How many bytes of the codes were read, each reading counted: at least those of the symbols that start in
-    /// the rows given, and none before the place of the last row before the first of these that isn't `:`.
+    /// How many bytes of the codes were read, each reading counted: at least those of the symbols that start
+    /// in the rows given, and none before the place of the last row before the first of these that isn't `:`.
     pub fn read(&self) -> u64
-        ensures at_least { start_of self.now.picture self.now.next ≤ start_of self.now.picture self.now.first + result }
+        ensures at_least { start_of self.now.picture self.now.next
+            ≤ start_of self.now.picture self.now.first + result }
         ensures at_most { bound_of self.now.picture self.now.first + result ≤ length self.now.picture.codes }
     {
         self.codes.read()

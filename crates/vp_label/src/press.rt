@@ -64,8 +64,10 @@ impl Press {
         requires some { 0 < self.old.copies.place.copies }
         ensures copies { self.new.copies ≡ self.old.copies }
         ensures fields { self.new.painter.entries ≡ self.old.painter.entries }
-        ensures painted { IsPainted (shown sheets.now stored.now view self.new) self.new.copies.place.line self.new.band }
-        ensures before { IsBefore sheets.now stored.now view (bands_above self.new.copies.place.line) self.new.painter }
+        ensures painted { IsPainted (shown sheets.now stored.now view self.new)
+            self.new.copies.place.line self.new.band }
+        ensures before { IsBefore sheets.now stored.now view
+            (bands_above self.new.copies.place.line) self.new.painter }
     {
         match self.copies.ahead() {
             Ahead::Nothing => {}

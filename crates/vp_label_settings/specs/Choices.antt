@@ -15,7 +15,8 @@ use Rattle.vp_label_settings.specs.declared.choice.Alignment.TheVariants as alig
 use Rattle.vp_label_settings.specs.declared.choice.FieldBlock.{FieldBlock}
 use Rattle.vp_label_settings.specs.Ranges.{ranged}
 
--- ^B3, ^BE, ^BC: the text stands below the bars, or above them where that is asked for too; by default it is there, and below
+-- ^B3, ^BE, ^BC: the text stands below the bars, or above them where that is asked
+-- for too; by default it is there, and below
 abbrev pub text_if : Bool → Bool → BarText
 text_if false above = Omitted
 text_if true false = Below

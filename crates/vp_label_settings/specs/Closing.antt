@@ -52,7 +52,8 @@ abbrev pub wide_bar : BarDefaults → ℕ
 wide_bar d = max (d.module_dots + 1) (d.module_dots * d.ratio_tenths / 10)
 
 abbrev pub bars : Settings → BarChoice → Stored → Content
-bars s b data_bytes = Bars b.kind s.bar_defaults.module_dots (wide_bar s.bar_defaults) (ranged 1 8000 s.bar_defaults.height b.height) b.text data_bytes
+bars s b data_bytes = Bars b.kind s.bar_defaults.module_dots (wide_bar s.bar_defaults)
+    (ranged 1 8000 s.bar_defaults.height b.height) b.text data_bytes
 
 -- ^FD: data are drawn as the symbol that was asked for, or as a text; a QR symbol isn't turned
 abbrev pub data_content : Settings → FieldParts → Option SymbolChoice → Stored → Content
@@ -79,14 +80,21 @@ bytes_from start end = record { start = start; length = end - start }
 
 abbrev pub field_with : Settings → FieldParts → Orientation → Op → Content → Field
 field_with s p orientation colour content =
-    record { position = position_of s.home p.origin; orientation = orientation; operation = operation s p colour; content = content }
+    record {
+      position = position_of s.home p.origin;
+      orientation = orientation;
+      operation = operation s p colour;
+      content = content;
+    }
 
 -- a field with a content, where so many bytes are stored; boxes and pictures aren't turned
 abbrev pub field_of : Settings → FieldParts → ℕ → OpenContent → Field
 field_of s p end (opened.Data start) =
-    field_with s p (data_orientation s p p.symbol) paints.Black (data_content s p p.symbol (bytes_from start end))
+    field_with s p (data_orientation s p p.symbol) paints.Black
+    (data_content s p p.symbol (bytes_from start end))
 field_of s p end (opened.Frame b) = field_with s p Normal (paint_of b.colour) (Frame b)
-field_of s p end (opened.Picture head start) = field_with s p Normal paints.Black (Picture head (bytes_from start end))
+field_of s p end (opened.Picture head start) =
+    field_with s p Normal paints.Black (Picture head (bytes_from start end))
 
 -- the field that is closed, if there is a content
 abbrev pub closed : Settings → FieldParts → ℕ → Option Field

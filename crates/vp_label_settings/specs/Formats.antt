@@ -33,5 +33,6 @@ stored_by _ bytes = bytes
 
 abbrev pub stored : List Item → List ℕ
 stored [] = []
-stored (Given command name sent ∷ before) = if is_open before then stored_by command (stored before) else stored before
+stored (Given command name sent ∷ before) =
+    if is_open before then stored_by command (stored before) else stored before
 stored (Data byte ∷ before) = if is_open before then stored before ++ byte ∷ [] else stored before

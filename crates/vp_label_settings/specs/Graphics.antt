@@ -16,7 +16,12 @@ side_of side t = max t (ranged 1 32000 t side)
 
 abbrev pub box_with : ℕ → Option ℕ → Option ℕ → Option Colour → GraphicBox
 box_with t width height colour =
-    record { width = side_of width t; height = side_of height t; thickness = t; colour = unwrap_or colour Black }
+    record {
+      width = side_of width t;
+      height = side_of height t;
+      thickness = t;
+      colour = unwrap_or colour Black;
+    }
 
 abbrev pub box_of : Option ℕ → Option ℕ → Option ℕ → Option Colour → GraphicBox
 box_of width height thickness colour = box_with (ranged 1 32000 1 thickness) width height colour

@@ -67,7 +67,8 @@ pub record IsPicture (p : PictureHead) : Type 0 where
 -- a content can be drawn
 abbrev pub IsDrawable : Content → Type 0
 IsDrawable (Text size block bytes) = IsSize size × IsBlockIf block
-IsDrawable (Bars kind narrow wide height text bytes) = Within 1 10 narrow × Within (narrow + 1) 30 wide × Within 1 8000 height
+IsDrawable (Bars kind narrow wide height text bytes) = Within 1 10 narrow × Within (narrow + 1) 30 wide
+    × Within 1 8000 height
 IsDrawable (Qr model dots bytes) = Within 1 2 model × Within 1 10 dots
 IsDrawable (Frame b) = IsFrame b
 IsDrawable (Picture head bytes) = IsPicture head

@@ -1,4 +1,5 @@
--- The parts of the open field, by looking back: each is what the last command that names it says, and ^FS and ^XZ forget them all.
+-- The parts of the open field, by looking back: each is what the last command that
+-- names it says, and ^FS and ^XZ forget them all.
 use Rattle.std.specs.Prelude.{ℕ, Bool, true, false, Option, Some, None, option_map, unwrap_or, List, [], ◌∷◌, length}
 use Rattle.vp_zpl.specs.declared.item.Command.{Command}
 use Rattle.vp_zpl.specs.declared.item.Command.TheVariants.{FormatEnd, FieldSeparator, FieldOrigin, FieldTypeset, Font, Code39, Ean13, Code128, QrCode, ReversePrint, FieldBlock as SetBlock, FieldData, GraphicBox as DrawBox, Graphic}
@@ -32,7 +33,8 @@ origin (item ∷ before) = acting origin_by (is_open before) item (origin before
 
 -- ^A: the font
 abbrev pub font_by : Command → Option FontChoice → Option FontChoice
-font_by (Font orientation height width) old = Some (record { orientation = orientation; height = height; width = width })
+font_by (Font orientation height width) old =
+    Some (record { orientation = orientation; height = height; width = width })
 font_by FieldSeparator old = None
 font_by FormatEnd old = None
 font_by _ old = old
@@ -45,8 +47,10 @@ font (item ∷ before) = acting font_by (is_open before) item (font before)
 abbrev pub symbol_by : Command → Option SymbolChoice → Option SymbolChoice
 symbol_by (Code39 orientation check height text above) old =
     Some (bar_choice (kinds.Code39 (unwrap_or check false)) orientation height text above)
-symbol_by (Ean13 orientation height text above) old = Some (bar_choice kinds.Ean13 orientation height text above)
-symbol_by (Code128 orientation height text above mode) old = Some (bar_choice (kinds.Code128 mode) orientation height text above)
+symbol_by (Ean13 orientation height text above) old =
+    Some (bar_choice kinds.Ean13 orientation height text above)
+symbol_by (Code128 orientation height text above mode) old =
+    Some (bar_choice (kinds.Code128 mode) orientation height text above)
 symbol_by (QrCode model dots) old = Some (qr_choice model dots)
 symbol_by FieldSeparator old = None
 symbol_by FormatEnd old = None
@@ -84,8 +88,10 @@ picture_behind start head = contents.Picture head start
 
 abbrev pub content_by : ℕ → Command → Option OpenContent → Option OpenContent
 content_by start FieldData old = Some (contents.Data start)
-content_by start (DrawBox width height thickness colour) old = Some (contents.Frame (box_of width height thickness colour))
-content_by start (Graphic format sent bytes row) old = option_map (picture_behind start) (picture_head format sent bytes row)
+content_by start (DrawBox width height thickness colour) old =
+    Some (contents.Frame (box_of width height thickness colour))
+content_by start (Graphic format sent bytes row) old =
+    option_map (picture_behind start) (picture_head format sent bytes row)
 content_by start FieldSeparator old = None
 content_by start FormatEnd old = None
 content_by start _ old = old

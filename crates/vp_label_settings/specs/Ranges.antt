@@ -1,4 +1,5 @@
--- An argument in its range: one that is missing or can't be read takes its default, one out of range the nearest value.
+-- An argument in its range: one that is missing or can't be read takes its
+-- default, one out of range the nearest value.
 use Rattle.std.specs.Prelude.{ℕ, ◌/◌, ◌==◌, Option, Some, None, min, max, if◌then◌else◌}
 use Rattle.vp_label_settings.specs.declared.size.CharacterSize.{CharacterSize}
 

@@ -1,5 +1,6 @@
--- The settings of labels, by looking back: each is what the last command of a format that names it says, and stays so from format to
--- format. A command that leaves a parameter out sets its default, and not what was in force.
+-- The settings of labels, by looking back: each is what the last command of a format that
+-- names it says, and stays so from format to format. A command that leaves a parameter out
+-- sets its default, and not what was in force.
 use Rattle.std.specs.Prelude.{ℕ, Bool, false, Option, unwrap_or, List, [], ◌∷◌}
 use Rattle.vp_zpl.specs.declared.item.Orientation.{Orientation}
 use Rattle.vp_zpl.specs.declared.item.Orientation.TheVariants.{Normal}
@@ -79,7 +80,8 @@ field_orientation_by _ old = old
 
 abbrev pub field_orientation : List Item → Orientation
 field_orientation [] = Normal
-field_orientation (item ∷ before) = acting field_orientation_by (is_open before) item (field_orientation before)
+field_orientation (item ∷ before) =
+    acting field_orientation_by (is_open before) item (field_orientation before)
 
 -- ^CF: the size of characters of fields that don't say it
 abbrev pub first_font : CharacterSize
@@ -93,10 +95,15 @@ abbrev pub default_font : List Item → CharacterSize
 default_font [] = first_font
 default_font (item ∷ before) = acting default_font_by (is_open before) item (default_font before)
 
--- ^BY: the narrow bar's width in dots, the ratio of a wide one to it in tenths, and the height of bars that don't say it
+-- ^BY: the narrow bar's width in dots, the ratio of a wide one to it in tenths,
+-- and the height of bars that don't say it
 abbrev pub bar_defaults_by : Command → BarDefaults → BarDefaults
 bar_defaults_by (SetBarDefaults narrow ratio height) old =
-    record { module_dots = ranged 1 10 2 narrow; ratio_tenths = ranged 20 30 30 ratio; height = ranged 1 8000 10 height }
+    record {
+      module_dots = ranged 1 10 2 narrow;
+      ratio_tenths = ranged 20 30 30 ratio;
+      height = ranged 1 8000 10 height;
+    }
 bar_defaults_by _ old = old
 
 abbrev pub bar_defaults : List Item → BarDefaults

@@ -174,7 +174,9 @@ impl Settings {
 
     /// A field of data.
     fn data_field(&self, parts: &FieldParts, bytes: Stored) -> Field
-        ensures { result ≡ field_with self.now parts.now (data_orientation self.now parts.now parts.now.symbol) Op.Black (data_content self.now parts.now parts.now.symbol bytes) }
+        ensures { result ≡ field_with self.now parts.now
+            (data_orientation self.now parts.now parts.now.symbol) Op.Black
+            (data_content self.now parts.now parts.now.symbol bytes) }
     {
         let (orientation, content) = match parts.symbol {
             None => (
@@ -201,8 +203,8 @@ impl Settings {
         self.field(parts, orientation, Op::Black, content)
     }
 
-    /// The field that these parts close, where so many bytes are stored; without a content there is none. What the
-    /// parts leave out is taken as the settings stand now.
+    /// The field that these parts close, where so many bytes are stored; without a content there is none.
+    /// What the parts leave out is taken as the settings stand now.
     pub fn closed(&self, parts: &FieldParts, stored: u32) -> Option<Field>
         ensures { result ≡ closed self.now parts.now stored }
     {

@@ -5,7 +5,8 @@ ghost use Rattle.vp_label_settings.specs.Graphics.{box_of, picture_coding, pictu
 use crate::range::ranged;
 use vp_zpl::item::{Colour, GraphicFormat};
 
-/// A box (^GB): a frame of lines as thick as said, each way 1 to 32,000 dots and at least as many as its lines.
+/// A box (^GB): a frame of lines as thick as said, each way 1 to 32,000 dots
+/// and at least as many as its lines.
 #[derive(Clone, Copy, PartialEq, Eq)]
 pub struct GraphicBox {
     pub width: u16,

@@ -79,7 +79,8 @@ impl InForce {
 
     /// Takes a command. Outside a format every one but ^XA is ignored, and inside ^XA is.
     pub fn obey(&mut self, command: Command)
-        ensures { (before : List Item) (name : Name) (sent : List Kept) → StandsAfter self.old before → StandsAfter self.new (Given command name sent ∷ before) }
+        ensures { (before : List Item) (name : Name) (sent : List Kept) → StandsAfter self.old before →
+            StandsAfter self.new (Given command name sent ∷ before) }
     {
         let is_open = self.is_open;
         if is_open {
@@ -102,7 +103,8 @@ impl InForce {
     /// Takes data.
     pub fn store(&mut self, bytes: &[u8])
         requires room { has_room self.old bytes.now ≡ true }
-        ensures { (before : List Item) → StandsAfter self.old before → StandsAfter self.new (followed_by before (data_items bytes.now)) }
+        ensures { (before : List Item) → StandsAfter self.old before →
+            StandsAfter self.new (followed_by before (data_items bytes.now)) }
     {
         if self.is_open {
             self.stored += bytes.len() as u32;

@@ -16,7 +16,8 @@ pub fn in_range()
 
 /// The bytes of what is closed lie among the stored ones.
 pub fn among_the_stored()
-    ensures { (before : List Item) → IfSome (closing before) (λ field. HasBytesAmong (length (stored before)) field.content) }
+    ensures { (before : List Item) →
+        IfSome (closing before) (λ field. HasBytesAmong (length (stored before)) field.content) }
 {}
 
 /// Where no format is open, nothing is said of a field, nothing is stored, and one copy is to be printed.

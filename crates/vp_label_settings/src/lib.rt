@@ -1,9 +1,10 @@
 //! What is in force on a label printer, by what was sent, and what a field is once it is closed.
 //!
 //! - `range`: an argument in its range. `size`: the size of characters.
-//! - `settings`: what outlives a format. `choice`: symbols, fonts and blocks as they were asked for. `graphic`: boxes
-//!   and pictures. `parts`: the open field.
-//! - `field`: a closed field. `in_force`: all of it, and what an item changes. `laws`: what holds behind every stream.
+//! - `settings`: what outlives a format. `choice`: symbols, fonts and blocks as they were asked for.
+//!   `graphic`: boxes and pictures. `parts`: the open field.
+//! - `field`: a closed field. `in_force`: all of it, and what an item changes.
+//!   `laws`: what holds behind every stream.
 #![tactic(auto)]
 
 mod choice;

@@ -2,8 +2,8 @@
 ghost use Rattle.std.specs.Prelude.{◌≡◌, ◌≤◌, max};
 ghost use Rattle.vp_label_settings.specs.Ranges.{ranged};
 
-/// An argument brought into its range, which goes from `low` to `high`; where it is missing or can't be read, its
-/// default.
+/// An argument brought into its range, which goes from `low` to `high`; where it
+/// is missing or can't be read, its default.
 pub fn ranged(argument: Option<u32>, low: u16, high: u16, default: u16) -> u16
     ensures value { result ≡ ranged low high default argument }
     ensures most { result ≤ max default (max low high) }

@@ -75,7 +75,11 @@ impl Home {
 impl BarDefaults {
     /// Those of ^BY.
     fn given(narrow: Option<u32>, ratio_tenths: Option<u32>, height: Option<u32>) -> BarDefaults
-        ensures { result ≡ record { module_dots = in_range 1 10 2 narrow; ratio_tenths = in_range 20 30 30 ratio_tenths; height = in_range 1 8000 10 height } }
+        ensures { result ≡ record {
+          module_dots = in_range 1 10 2 narrow;
+          ratio_tenths = in_range 20 30 30 ratio_tenths;
+          height = in_range 1 8000 10 height;
+        } }
     {
         BarDefaults {
             module_dots: ranged(narrow, 1, 10, 2) as u8,
@@ -125,7 +129,8 @@ impl Settings {
         Settings { quantity, ..self }
     }
 
-    /// What a command of an open format leaves in force. What it leaves out takes its default, not what was in force.
+    /// What a command of an open format leaves in force. What it leaves out
+    /// takes its default, not what was in force.
     pub fn after(self, command: Command) -> Settings
         ensures { result ≡ settings_by command self }
     {

@@ -35,8 +35,8 @@ fn size_of(height: Option<u16>, width: Option<u16>, default: CharacterSize) -> C
 }
 
 impl CharacterSize {
-    /// The size that ^A and ^CF say: of a height alone the width is the half; a width alone goes with the default's
-    /// height, and with neither the default stands.
+    /// The size that ^A and ^CF say: of a height alone the width is the half; a width alone goes with the
+    /// default's height, and with neither the default stands.
     pub fn given(height: Option<u32>, width: Option<u32>, default: CharacterSize) -> CharacterSize
         ensures { result ≡ size_given height width default }
     {

@@ -21,7 +21,8 @@ impl Ink for Stairs {
 
     ghost ink_at = { λ s x y. nat_le x y && nat_lt x s.steps && nat_lt y s.steps };
 
-    ghost outside = { λ s x y h. (ltb-true x s.steps (and_parts _ _ (and_parts _ _ h).0).1, ltb-true y s.steps (and_parts _ _ h).1) };
+    ghost outside = { λ s x y h.
+        (ltb-true x s.steps (and_parts _ _ (and_parts _ _ h).0).1, ltb-true y s.steps (and_parts _ _ h).1) };
 
     fn size(&self) -> (u32, u32) {
         (self.steps, self.steps)

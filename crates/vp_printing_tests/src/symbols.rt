@@ -39,7 +39,8 @@ const SYMBOL_PAGES: &[Stream] = &[
     Stream {
         name: "a QR symbol back along a page",
         language: Language::Receipt,
-        bytes: b"\x1BL\x1BW\x00\x00\x00\x00\x18\x00\x15\x00\x1BT\x02\x1D(k\x03\x001E1\x1D(k\x03\x001C\x01\x1D(k\x0E\x001P0HELLO WORLD\x1D(k\x03\x001Q0\x0C",
+        bytes: b"\x1BL\x1BW\x00\x00\x00\x00\x18\x00\x15\x00\x1BT\x02\x1D(k\x03\x001E1\x1D(k\x03\x001C\x01\
+            \x1D(k\x0E\x001P0HELLO WORLD\x1D(k\x03\x001Q0\x0C",
         images: &[Image {
             head: b"P4\n576 21\n",
             rows: &[

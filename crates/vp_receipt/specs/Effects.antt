@@ -57,7 +57,8 @@ own_by setup _ = []
 
 -- what it prints on paper
 abbrev pub strips_by : Setup → List EscItem → Effect → List ℕ
-strips_by setup before effect = line_text setup before (line_rows_by setup before effect) ++ own_by setup effect
+strips_by setup before effect =
+    line_text setup before (line_rows_by setup before effect) ++ own_by setup effect
 
 -- what it prints of a page
 abbrev pub page_by : Setup → List EscItem → Effect → List ℕ

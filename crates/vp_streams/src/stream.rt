@@ -42,7 +42,8 @@ pub trait Sink {
         ensures bound { WritesAtMost result buf.now }
         ensures bytes { WriteAppends (contents self.old) (contents self.new) result buf.now }
         ensures writes { writes self.new ≡ grown (writes self.old) 1 }
-        ensures failed { failed_writes self.new ≡ one_more_if (has_failed_to_write result) (failed_writes self.old) };
+        ensures failed { failed_writes self.new
+            ≡ one_more_if (has_failed_to_write result) (failed_writes self.old) };
 }
 
 /// Any reader or writer, with the counts of a `Source` or a `Sink`.

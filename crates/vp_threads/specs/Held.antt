@@ -3,9 +3,9 @@ use Rattle.std.specs.Prelude.{◌≡◌, ℕ, ◌+◌, ◌≤◌, List, length, 
 use Rattle.vp_threads.specs.declared.table.Entry.{Entry}
 use Rattle.vp_threads.specs.declared.table.Threads.TheInside.{Inside}
 
--- the entries of the fields, in the order of closing; the first that begins in each band; of each entry that is
--- carried over the next such one; the first entry that is carried to the next band; how often an entry, the first
--- of a band or a link was read since the copy's start
+-- the entries of the fields, in the order of closing; the first that begins in each band; of each entry that
+-- is carried over the next such one; the first entry that is carried to the next band; how often an entry,
+-- the first of a band or a link was read since the copy's start
 pub record Table : Type 0 where
   pub entries : List Entry
   pub heads : List (Option ℕ)

@@ -9,7 +9,13 @@ use Rattle.vp_threads.specs.declared.walk.Walk.{Walk}
 
 -- the field and the entry that stand for none
 abbrev no_field : Field
-no_field = record { left = pos 0; top = pos 0; orientation = Normal; op = Black; content = Text (record { bytes = record { start = 0; len = 0 }; width = 0; height = 0 }) }
+no_field = record {
+  left = pos 0;
+  top = pos 0;
+  orientation = Normal;
+  op = Black;
+  content = Text (record { bytes = record { start = 0; len = 0 }; width = 0; height = 0 });
+}
 
 abbrev pub no_entry : Entry
 no_entry = record { field = no_field; first = 0; last = 0; next = None }
@@ -54,22 +60,27 @@ link_at links k = slice_index_or links k None
 
 -- the fields that begin in each band are threaded
 pub record IsTable (entries : List Entry) : Type 0 where
-  pub begins : (b k : ℕ) → k < length entries → begins_at entries b k ≡ true → IsNext (begins_at entries b) (k + 1) (length entries) (entry_at entries k).next
+  pub begins : (b k : ℕ) → k < length entries → begins_at entries b k ≡ true →
+      IsNext (begins_at entries b) (k + 1) (length entries) (entry_at entries k).next
 
 -- the fields that begin before the band and reach it are threaded from this start
-pub record IsThreaded (entries : List Entry) (links : List (Option ℕ)) (b : ℕ) (start : Option ℕ) : Type 0 where
+pub record IsThreaded (entries : List Entry) (links : List (Option ℕ)) (b : ℕ)
+    (start : Option ℕ) : Type 0 where
   pub head : IsNext (carried_at entries b) 0 (length entries) start
-  pub rest : (k : ℕ) → k < length entries → carried_at entries b k ≡ true → IsNext (carried_at entries b) (k + 1) (length entries) (link_at links k)
+  pub rest : (k : ℕ) → k < length entries → carried_at entries b k ≡ true →
+      IsNext (carried_at entries b) (k + 1) (length entries) (link_at links k)
 
 -- a walk over the fields of band b: what is ahead is threaded for this band, what is behind for the next
 pub record IsWalk (entries : List Entry) (links : List (Option ℕ)) (b : ℕ) (w : Walk) : Type 0 where
   pub within : w.seen ≤ length entries
   pub carried : IsNext (carried_at entries b) w.seen (length entries) w.carried
   pub begins : IsNext (begins_at entries b) w.seen (length entries) w.begins
-  pub ahead : (k : ℕ) → w.seen ≤ k → k < length entries → carried_at entries b k ≡ true → IsNext (carried_at entries b) (k + 1) (length entries) (link_at links k)
+  pub ahead : (k : ℕ) → w.seen ≤ k → k < length entries → carried_at entries b k ≡ true →
+      IsNext (carried_at entries b) (k + 1) (length entries) (link_at links k)
   pub kept : IsNext (carried_at entries (b + 1)) 0 w.seen w.kept
   pub tail : IsLast (carried_at entries (b + 1)) w.seen w.tail
-  pub behind : (k : ℕ) → k < w.seen → carried_at entries (b + 1) k ≡ true → Some k ≢ w.tail → IsNext (carried_at entries (b + 1)) (k + 1) w.seen (link_at links k)
+  pub behind : (k : ℕ) → k < w.seen → carried_at entries (b + 1) k ≡ true → Some k ≢ w.tail →
+      IsNext (carried_at entries (b + 1)) (k + 1) w.seen (link_at links k)
 
 -- the links once field n follows the tail
 abbrev pub linked : List (Option ℕ) → Option ℕ → ℕ → List (Option ℕ)
@@ -92,9 +103,11 @@ IsPlaced e bands = e.first ≤ e.last → e.first < bands
 
 -- the fields and their bands stay
 abbrev pub KeepsSpans : List Entry → List Entry → Type 0
-KeepsSpans old new = (k : ℕ) → ((entry_at new k).field ≡ (entry_at old k).field) × ((entry_at new k).first ≡ (entry_at old k).first) × ((entry_at new k).last ≡ (entry_at old k).last)
+KeepsSpans old new = (k : ℕ) → ((entry_at new k).field ≡ (entry_at old k).field)
+    × ((entry_at new k).first ≡ (entry_at old k).first) × ((entry_at new k).last ≡ (entry_at old k).last)
 
 -- the fields from k on are threaded, each band's from its head
 pub record ThreadedFrom (entries : List Entry) (tops : List (Option ℕ)) (k : ℕ) : Type 0 where
   pub heads : (b : ℕ) → IsNext (begins_at entries b) k (length entries) (link_at tops b)
-  pub rest : (b j : ℕ) → k ≤ j → j < length entries → begins_at entries b j ≡ true → IsNext (begins_at entries b) (j + 1) (length entries) (entry_at entries j).next
+  pub rest : (b j : ℕ) → k ≤ j → j < length entries → begins_at entries b j ≡ true →
+      IsNext (begins_at entries b) (j + 1) (length entries) (entry_at entries j).next

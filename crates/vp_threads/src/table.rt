@@ -1,5 +1,5 @@
-//! The table: which bands each field meets, and which field comes next in its band. It is read by calls alone,
-//! each of which is counted.
+//! The table: which bands each field meets, and which field comes next in its band. It is read
+//! by calls alone, each of which is counted.
 ghost use Rattle.std.specs.Prelude.{◌≡◌, ℕ, ◌+◌, ◌^◌, ◌<◌, ◌≤◌, [], ◌∷◌, ◌++◌, Option, None, length, slice_set, take, IfOk};
 ghost use Rattle.vp_threads.specs.Threads.{entry_at, link_at, IsPlaced, KeepsSpans, ThreadedFrom};
 ghost use Rattle.vp_threads.specs.Held.{looked};
@@ -10,8 +10,8 @@ use vp_dots::Op;
 use vp_format::{Content, FIELDS, Field, GraphicBox};
 use vp_zpl::item::Orientation;
 
-/// A field, the bands that it begins and ends in, and the next field that begins in the same band. One that ends
-/// before it begins meets none.
+/// A field, the bands that it begins and ends in, and the next field that begins in the same band.
+/// One that ends before it begins meets none.
 #[derive(Clone, Copy, Debug, PartialEq, Eq)]
 pub struct Entry {
     pub field: Field,
@@ -68,7 +68,8 @@ fn clear_heads(heads: &mut [Option<usize>])
 
 /// Threads the entries by the band that they begin in.
 fn thread_all(entries: &mut [Entry], heads: &mut [Option<usize>])
-    requires placed { (k : ℕ) → k < length entries.old → IsPlaced (entry_at entries.old k) (length heads.old) }
+    requires placed { (k : ℕ) → k < length entries.old →
+        IsPlaced (entry_at entries.old k) (length heads.old) }
     requires empty { (b : ℕ) → link_at heads.old b ≡ None }
     ensures spans { KeepsSpans entries.old entries.new }
     ensures table { ThreadedFrom entries.new heads.new 0 }
@@ -94,8 +95,8 @@ fn thread_first(entries: &mut [Entry], len: usize, heads: &mut [Option<usize>])
     thread_all(&mut entries[..len], heads);
 }
 
-/// At most 1,024 fields, threaded by the bands that they begin in, and from band to band. An entry, the first of
-/// a band and a link are read by calls alone, each of which counts a look.
+/// At most 1,024 fields, threaded by the bands that they begin in, and from band to band. An entry, the first
+/// of a band and a link are read by calls alone, each of which counts a look.
 #[derive(Drop)]
 pub struct Threads {
     entries: Vec<Entry>,

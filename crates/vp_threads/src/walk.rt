@@ -24,7 +24,8 @@ pub struct Walk {
 
 /// The first of the fields that either list has next.
 pub fn next_of(carried: Option<usize>, begins: Option<usize>) -> Option<usize>
-    ensures { (entries : List Entry) (b from to : ℕ) → IsNext (carried_at entries b) from to carried → IsNext (begins_at entries b) from to begins →
+    ensures { (entries : List Entry) (b from to : ℕ) → IsNext (carried_at entries b) from to carried →
+        IsNext (begins_at entries b) from to begins →
         IsNext (meets_at entries b) from to result }
 {
     match (carried, begins) {
@@ -50,7 +51,13 @@ impl Walk {
     pub fn start(b: usize, threads: &mut Threads) -> Walk
         requires within { b < length threads.old.heads }
         requires countable { threads.old.looks < 2 ^ 62 }
-        ensures walk { result ≡ record { carried = threads.old.carried; begins = link_at threads.old.heads b; seen = 0; kept = None; tail = None } }
+        ensures walk { result ≡ record {
+          carried = threads.old.carried;
+          begins = link_at threads.old.heads b;
+          seen = 0;
+          kept = None;
+          tail = None;
+        } }
         ensures look { threads.new ≡ looked threads.old }
     {
         Walk {
@@ -68,10 +75,14 @@ impl Walk {
         requires countable { threads.old.looks < 2 ^ 62 }
         ensures seen { result.seen ≡ n + 1 }
         ensures kept { (result.kept ≡ self.kept) × (result.tail ≡ self.tail) }
-        ensures heads { (entries : List Entry) (b : ℕ) → IsTable entries → IsWalk entries threads.old.links b self → IsNext (meets_at entries b) self.seen (length entries) (Some n) → entry ≡ entry_at entries n →
-            IsNext (carried_at entries b) (n + 1) (length entries) result.carried × IsNext (begins_at entries b) (n + 1) (length entries) result.begins }
+        ensures heads { (entries : List Entry) (b : ℕ) →
+            IsTable entries → IsWalk entries threads.old.links b self →
+            IsNext (meets_at entries b) self.seen (length entries) (Some n) → entry ≡ entry_at entries n →
+            IsNext (carried_at entries b) (n + 1) (length entries) result.carried
+            × IsNext (begins_at entries b) (n + 1) (length entries) result.begins }
         ensures stays { threads.new ≡ record threads.old { looks = threads.new.looks } }
-        ensures looks { (threads.old.looks ≤ threads.new.looks) × (threads.new.looks ≤ threads.old.looks + 1) }
+        ensures looks { (threads.old.looks ≤ threads.new.looks)
+            × (threads.new.looks ≤ threads.old.looks + 1) }
     {
         if leads_to(self.carried, n) {
             Walk {
@@ -111,7 +122,10 @@ impl Walk {
     /// Ends what is kept, which is carried over to the next band.
     pub fn close(self, threads: &mut Threads)
         requires { ForSome self.tail (λ t. t < length threads.old.links) }
-        ensures { threads.new ≡ record threads.old { links = ended threads.old.links self.tail; carried = self.kept } }
+        ensures { threads.new ≡ record threads.old {
+          links = ended threads.old.links self.tail;
+          carried = self.kept;
+        } }
     {
         if let Some(t) = self.tail {
             threads.set_link(t, None);
@@ -125,10 +139,12 @@ impl Walk {
         requires tail { ForSome self.tail (λ t. t < length threads.old.links) }
         requires countable { threads.old.looks < 2 ^ 62 }
         ensures seen { result.seen ≡ n + 1 }
-        ensures walk { (entries : List Entry) → IsTable entries → IsWalk entries threads.old.links b self → IsNext (meets_at entries b) self.seen (length entries) (Some n) → entry ≡ entry_at entries n →
+        ensures walk { (entries : List Entry) → IsTable entries → IsWalk entries threads.old.links b self →
+            IsNext (meets_at entries b) self.seen (length entries) (Some n) → entry ≡ entry_at entries n →
             IsWalk entries threads.new.links b result }
         ensures stays { Stays threads.old threads.new }
-        ensures looks { (threads.old.looks ≤ threads.new.looks) × (threads.new.looks ≤ threads.old.looks + 1) }
+        ensures looks { (threads.old.looks ≤ threads.new.looks)
+            × (threads.new.looks ≤ threads.old.looks + 1) }
     {
         let passed = self.passed(n, entry, threads);
         if entry.last > b {

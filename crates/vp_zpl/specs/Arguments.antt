@@ -161,16 +161,22 @@ plain_command plain.LabelReverse ps = commands.LabelReverse (yes_at 0 ps)
 plain_command plain.FieldOrientation ps = commands.FieldOrientation (orientation_at 0 ps)
 plain_command plain.DefaultFont ps = commands.DefaultFont (number_at 1 ps) (number_at 2 ps)
 plain_command plain.Font ps = commands.Font (orientation_at 0 ps) (number_at 1 ps) (number_at 2 ps)
-plain_command plain.BarDefaults ps = commands.BarDefaults (number_at 0 ps) (tenths_if (slice_get ps 1)) (number_at 2 ps)
-plain_command plain.Code39 ps = commands.Code39 (orientation_at 0 ps) (yes_at 1 ps) (number_at 2 ps) (yes_at 3 ps) (yes_at 4 ps)
-plain_command plain.Ean13 ps = commands.Ean13 (orientation_at 0 ps) (number_at 1 ps) (yes_at 2 ps) (yes_at 3 ps)
+plain_command plain.BarDefaults ps =
+    commands.BarDefaults (number_at 0 ps) (tenths_if (slice_get ps 1)) (number_at 2 ps)
+plain_command plain.Code39 ps =
+    commands.Code39 (orientation_at 0 ps) (yes_at 1 ps) (number_at 2 ps) (yes_at 3 ps) (yes_at 4 ps)
+plain_command plain.Ean13 ps =
+    commands.Ean13 (orientation_at 0 ps) (number_at 1 ps) (yes_at 2 ps) (yes_at 3 ps)
 plain_command plain.Code128 ps =
-    commands.Code128 (orientation_at 0 ps) (number_at 1 ps) (yes_at 2 ps) (yes_at 3 ps) (mode_of (letter_at 5 ps))
+    commands.Code128 (orientation_at 0 ps) (number_at 1 ps) (yes_at 2 ps) (yes_at 3 ps)
+    (mode_of (letter_at 5 ps))
 plain_command plain.QrCode ps = commands.QrCode (number_at 1 ps) (number_at 2 ps)
-plain_command plain.GraphicBox ps = commands.GraphicBox (number_at 0 ps) (number_at 1 ps) (number_at 2 ps) (colour_of (letter_at 3 ps))
+plain_command plain.GraphicBox ps =
+    commands.GraphicBox (number_at 0 ps) (number_at 1 ps) (number_at 2 ps) (colour_of (letter_at 3 ps))
 plain_command plain.Comment ps = commands.Comment
 plain_command plain.FieldBlock ps =
-    commands.FieldBlock (number_at 0 ps) (number_at 1 ps) (space_if (slice_get ps 2)) (justification_of (letter_at 3 ps))
+    commands.FieldBlock (number_at 0 ps) (number_at 1 ps) (space_if (slice_get ps 2))
+    (justification_of (letter_at 3 ps))
 
 -- the command of these parameters
 unfoldable pub command_of : Kind → List Kept → Command
@@ -181,5 +187,6 @@ command_of kinds.ReversePrint ps = commands.ReversePrint
 command_of kinds.FieldHex ps = commands.FieldHex (byte_at 0 ps)
 command_of (kinds.Plain k) ps = plain_command k ps
 command_of kinds.FieldData ps = commands.FieldData
-command_of kinds.Graphic ps = commands.Graphic (format_of ps) (number_at 1 ps) (number_at 2 ps) (number_at 3 ps)
+command_of kinds.Graphic ps =
+    commands.Graphic (format_of ps) (number_at 1 ps) (number_at 2 ps) (number_at 3 ps)
 command_of kinds.Skipped ps = commands.Skipped

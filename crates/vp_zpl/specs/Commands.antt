@@ -167,7 +167,8 @@ indicator_in [] = 0x5F
 indicator_in (p ∷ more) = indicator_spelled p.bytes
 
 abbrev pub indicator_by : Option Kind → List ℕ → Bool → Option ℕ → Option ℕ
-indicator_by (Some kinds.FieldHex) command true was = Some (indicator_in (kept_of (parameters (drop 3 command))))
+indicator_by (Some kinds.FieldHex) command true was =
+    Some (indicator_in (kept_of (parameters (drop 3 command))))
 indicator_by (Some kinds.FieldSeparator) command opened was = None
 indicator_by (Some kinds.FormatEnd) command opened was = None
 indicator_by _ command opened was = was

@@ -46,7 +46,8 @@ is_code c = not (is_blank c || c == 0x09)
 
 -- the data of ^GF: b bytes for B, else up to the next sign
 unfoldable pub picture : List ℕ → List ℕ
-picture args = if is_b (head args) then take (count_of (head args)) (behind 4 args) else filter is_code (behind 4 args)
+picture args =
+    if is_b (head args) then take (count_of (head args)) (behind 4 args) else filter is_code (behind 4 args)
 
 abbrev pub graphic : Name → List ℕ → List Item
 graphic name args = item_of kinds.Graphic name (head args) ∷ data_items (picture args)
@@ -55,7 +56,8 @@ abbrev pub given_named : Kind → List (List ℕ) → Name → List ℕ → List
 given_named kinds.FieldHex before name args = []
 given_named (kinds.Plain k) before name args = []
 given_named kinds.Graphic before name args = if is_whole args then graphic name args else []
-given_named kinds.FieldData before name args = item_of kinds.FieldData name [] ∷ data_items (text_known (indicator before) args)
+given_named kinds.FieldData before name args =
+    item_of kinds.FieldData name [] ∷ data_items (text_known (indicator before) args)
 given_named kind before name args = item_of kind name [] ∷ []
 
 -- what a command has given while it stands open, after these
@@ -68,7 +70,8 @@ at_end_named kinds.FieldHex before name args = item_of kinds.FieldHex name (kept
 at_end_named (kinds.Plain k) before name args = item_of (kinds.Plain k) name (kept_of (parameters args)) ∷ []
 at_end_named kinds.Graphic before name args =
     if is_whole args then graphic name args else item_of kinds.Graphic name (kept_of (parameters args)) ∷ []
-at_end_named kinds.FieldData before name args = item_of kinds.FieldData name [] ∷ data_items (text_of (indicator before) args)
+at_end_named kinds.FieldData before name args =
+    item_of kinds.FieldData name [] ∷ data_items (text_of (indicator before) args)
 at_end_named kind before name args = item_of kind name [] ∷ []
 
 -- what it has given once a sign has ended it

@@ -130,12 +130,14 @@ unfoldable pub Stands : ZplReader → List ℕ → Type 0
 Stands r bytes = StandsIn r (cut bytes).before (cut bytes).open_one
 
 -- by a byte that the open command takes
-pub record Goes (items : List Item) (new : ZplReader) (before : List (List ℕ)) (command : List ℕ) (c : ℕ) : Type 0 where
+pub record Goes (items : List Item) (new : ZplReader) (before : List (List ℕ)) (command : List ℕ)
+    (c : ℕ) : Type 0 where
   pub gives : given before (longer command c) ≡ given before command ++ items
   pub stands : StandsIn new before (longer command c)
 
 -- by a sign that ends it
-pub record Ends (items : List Item) (new : ZplReader) (before : List (List ℕ)) (command : List ℕ) (c : ℕ) : Type 0 where
+pub record Ends (items : List Item) (new : ZplReader) (before : List (List ℕ)) (command : List ℕ)
+    (c : ℕ) : Type 0 where
   pub gives : at_end before command ≡ given before command ++ items
   pub stands : StandsIn new (command ∷ before) (c ∷ [])
 

@@ -29,7 +29,8 @@ text_front (a ∷ undecided) indicated input = 0
 
 abbrev pub picture_front : List ℕ → List ℕ → ℕ
 picture_front args input =
-    if is_b (head args) then min (length input) (count_of (head args) - length (behind 4 args)) else prefix_len is_kept_code input
+    if is_b (head args) then min (length input) (count_of (head args) - length (behind 4 args))
+    else prefix_len is_kept_code input
 
 abbrev pub front_named : Kind → Option ℕ → List ℕ → List ℕ → ℕ
 front_named kinds.FieldData indicated args input = text_front (waiting indicated args) indicated input

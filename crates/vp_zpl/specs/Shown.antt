@@ -22,7 +22,8 @@ data_bytes (known.Three bytes) = bytes
 
 -- a command is one item, and each byte of data one
 abbrev pub shown_item : ZplItem → List Item
-shown_item (lent.Command sent) = Given sent.now.command sent.now.name (shown_parts sent.now.parameters.items) ∷ []
+shown_item (lent.Command sent) =
+    Given sent.now.command sent.now.name (shown_parts sent.now.parameters.items) ∷ []
 shown_item (lent.Data bytes) = data_items (data_bytes bytes.now)
 
 abbrev pub shown : Option ZplItem → List Item

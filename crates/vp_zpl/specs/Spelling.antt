@@ -1,4 +1,5 @@
--- How a command spells its parameters and its data (ZPL II, "Basic ZPL exercises": format, control and parameter).
+-- How a command spells its parameters and its data (ZPL II, "Basic ZPL
+-- exercises": format, control and parameter).
 use Rattle.std.specs.Prelude.{ℕ, ◌+◌, ◌*◌, ◌-◌, ◌==◌, Bool, true, false, ◌&&◌, ◌||◌, Option, Some, None, List, [], ◌∷◌, ◌++◌, length, take, map, nat_lt, nat_le, min, if◌then◌else◌}
 
 -- ^ and ~
@@ -34,12 +35,16 @@ hex_of c =
 -- the parameters that a comma has ended; p is what is read of the first
 abbrev pub ended : List ℕ → List ℕ → List (List ℕ)
 ended p [] = []
-ended p (c ∷ args) = if is_comma c then p ∷ ended [] args else if is_blank c then ended p args else ended (p ++ c ∷ []) args
+ended p (c ∷ args) =
+    if is_comma c then p ∷ ended [] args else if is_blank c then ended p args
+    else ended (p ++ c ∷ []) args
 
 -- the parameter behind the last comma
 abbrev pub last : List ℕ → List ℕ → List ℕ
 last p [] = p
-last p (c ∷ args) = if is_comma c then last [] args else if is_blank c then last p args else last (p ++ c ∷ []) args
+last p (c ∷ args) =
+    if is_comma c then last [] args else if is_blank c then last p args
+    else last (p ++ c ∷ []) args
 
 -- parameters are separated by commas; blanks in them are dropped
 unfoldable pub parameters : List ℕ → List (List ℕ)
@@ -98,7 +103,8 @@ abbrev pub or_itself : Option ℕ → List ℕ → ℕ → List ℕ → List ℕ
 or_itself (Some n) behind_it a rest = n ∷ behind_it
 or_itself None behind_it a rest = a ∷ rest
 
--- The data of a field whose indicator is x: it and two hex digits are one byte, and without them it is itself.
+-- The data of a field whose indicator is x: it and two hex digits are one byte,
+-- and without them it is itself.
 abbrev pub decoded : ℕ → List ℕ → List ℕ
 decoded x (a ∷ b ∷ c ∷ more) = or_itself (spelled x a b c) (decoded x more) a (decoded x (b ∷ c ∷ more))
 decoded x bytes = bytes

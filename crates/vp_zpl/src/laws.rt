@@ -12,14 +12,16 @@ pub fn only_more()
     ensures { (bytes more : List ℕ) → (added : List Item) × (items (bytes ++ more) ≡ items bytes ++ added) }
 {}
 
-/// A stream is one list of commands with their data, and what is spelled behind a command as one is read as one.
+/// A stream is one list of commands with their data, and what is spelled behind
+/// a command as one is read as one.
 pub fn commands()
     ensures are { (bytes : List ℕ) → IsCut (cut bytes) }
     ensures read { (bytes command : List ℕ) → IsCommand command → wants_binary (cut bytes).open_one ≡ false →
         cut (bytes ++ command) ≡ cut_of ((cut bytes).open_one ∷ (cut bytes).before) command }
 {}
 
-/// A name behind ^ is read in either case as its row of the table says, ^A with any font; any other is skipped.
+/// A name behind ^ is read in either case as its row of the table says, ^A with
+/// any font; any other is skipped.
 pub fn names()
     ensures { (a b : ℕ) → kind_named 0x5E a b ≡
         (if capital a == 0x41 then kinds.Plain plain.Font else kind_in rows (capital a) (capital b)) }
@@ -35,12 +37,14 @@ pub fn line_ends()
 pub fn blanks()
     ensures parameters { (args more : List ℕ) → parameters (args ++ 0x20 ∷ more) ≡ parameters (args ++ more) }
     ensures head { (args more : List ℕ) → is_whole args ≡ false →
-        (head (args ++ 0x20 ∷ more) ≡ head (args ++ more)) × (behind 4 (args ++ 0x20 ∷ more) ≡ behind 4 (args ++ more)) }
+        (head (args ++ 0x20 ∷ more) ≡ head (args ++ more))
+        × (behind 4 (args ++ 0x20 ∷ more) ≡ behind 4 (args ++ more)) }
 {}
 
 /// Data that are known stay known, and at the end what is undecided is itself.
 pub fn hex_data()
-    ensures grows { (x : ℕ) (bytes : List ℕ) (c : ℕ) → (added : List ℕ) × (known x (bytes ++ c ∷ []) ≡ known x bytes ++ added) }
+    ensures grows { (x : ℕ) (bytes : List ℕ) (c : ℕ) →
+        (added : List ℕ) × (known x (bytes ++ c ∷ []) ≡ known x bytes ++ added) }
     ensures ends { (x : ℕ) (bytes : List ℕ) → decoded x bytes ≡ known x bytes ++ undecided x bytes }
 {}
 

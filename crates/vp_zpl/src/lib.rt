@@ -1,8 +1,8 @@
 //! Reads the commands of a label printer, byte by byte, and gives the items that they spell.
 //! The spelling is that of Zebra's ZPL II programming guide.
 //!
-//! `ZplReader` takes one byte at a time and answers what that byte makes known: a command with its arguments, or
-//! data of a field. `ZplItem::line` is an item's line in a listing.
+//! `ZplReader` takes one byte at a time and answers what that byte makes known: a command with its arguments,
+//! or data of a field. `ZplItem::line` is an item's line in a listing.
 //!
 //! - `item`: what a stream says. `name`: which command a name is. `part`: parameters as they are kept.
 //! - `argument`: what parameters mean. `reader`: one byte at a time. `line`: the listing.

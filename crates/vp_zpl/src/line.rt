@@ -11,8 +11,8 @@ use arrayvec::ArrayVec;
 use vp_dots::list;
 
 impl ZplItem<'_> {
-    /// The lines of the listing, each up to and with its LF: a command's name and parameters as they were sent,
-    /// or `byte` and two hex digits for each byte of data.
+    /// The lines of the listing, each up to and with its LF: a command's name and parameters as they were
+    /// sent, or `byte` and two hex digits for each byte of data.
     pub fn line(&self) -> ArrayVec<u8, 160>
         ensures { result.items ≡ lines_of (shown_item self.now) }
     {
@@ -25,7 +25,8 @@ impl ZplItem<'_> {
 
 impl Sent {
     fn line(&self) -> ArrayVec<u8, 160>
-        ensures { result.items ≡ line_of (Given self.now.command self.now.name (shown_parts self.now.parameters.items)) }
+        ensures { result.items
+            ≡ line_of (Given self.now.command self.now.name (shown_parts self.now.parameters.items)) }
     {
         let mut line = ArrayVec::new();
         line.push(self.name.sign);

@@ -98,8 +98,12 @@ impl ZplReader {
 
     /// A comma or the end has ended a parameter.
     fn end_parameter(&mut self)
-        ensures rest { self.new ≡ record self.old { sent = record self.old.sent { parameters = self.new.sent.parameters }; part = self.new.part } }
-        ensures kept { shown_parts self.new.sent.parameters.items ≡ take 8 (shown_parts self.old.sent.parameters.items ++ shown_part self.old.part ∷ []) }
+        ensures rest { self.new ≡ record self.old {
+          sent = record self.old.sent { parameters = self.new.sent.parameters };
+          part = self.new.part;
+        } }
+        ensures kept { shown_parts self.new.sent.parameters.items
+            ≡ take 8 (shown_parts self.old.sent.parameters.items ++ shown_part self.old.part ∷ []) }
         ensures part { shown_part self.new.part ≡ kept [] }
     {
         let part = self.part.take();
@@ -126,7 +130,11 @@ impl ZplReader {
     /// The command of the parameters that are ended is given.
     fn give(&mut self, kind: Kind) -> Event
         ensures event { result ≡ Event.Given }
-        ensures state { self.new ≡ record self.old { sent = record self.old.sent { command = command_as kind (shown_parts self.old.sent.parameters.items) } } }
+        ensures state { self.new ≡ record self.old {
+          sent = record self.old.sent {
+            command = command_as kind (shown_parts self.old.sent.parameters.items);
+          };
+        } }
     {
         self.sent.command = command_of(kind, self.sent.parameters.as_slice());
         Event::Given
@@ -136,7 +144,8 @@ impl ZplReader {
     fn called(&mut self, kind: Kind) -> Event
         requires { self.old.sent.parameters.items ≡ [] }
         ensures shows { shown_event result self.new ≡ at_name kind self.old.sent.name }
-        ensures rest { self.new ≡ record self.old { sent = record self.old.sent { command = self.new.sent.command } } }
+        ensures rest { self.new
+            ≡ record self.old { sent = record self.old.sent { command = self.new.sent.command } } }
     {
         match kind {
             Kind::FieldHex | Kind::Plain(_) | Kind::Graphic => Event::Nothing,
@@ -230,7 +239,8 @@ impl ZplReader {
 
     /// A byte that the open command takes.
     fn more(&mut self, byte: u8) -> Event
-        ensures { (before : List (List ℕ)) (command : List ℕ) → StandsIn self.old before command → wants_binary command ≡ false →
+        ensures { (before : List (List ℕ)) (command : List ℕ) → StandsIn self.old before command →
+            wants_binary command ≡ false →
             Goes (shown_event result self.new) self.new before command byte }
     {
         match self.phase {
@@ -262,7 +272,8 @@ impl ZplReader {
 
     /// A byte of binary data.
     fn binary(&mut self, left: u32, byte: u8) -> Event
-        ensures { (before : List (List ℕ)) (command : List ℕ) → StandsIn self.old before command → left_of self.old.phase ≡ left → 0 < left →
+        ensures { (before : List (List ℕ)) (command : List ℕ) → StandsIn self.old before command →
+            left_of self.old.phase ≡ left → 0 < left →
             Goes (shown_event result self.new) self.new before command byte }
     {
         self.phase = Phase::Binary(left.saturating_sub(1));
@@ -280,7 +291,8 @@ impl ZplReader {
 
     /// The indicator behind a command with these parameters.
     fn indicator_set(&self, kind: Kind) -> Option<u8>
-        ensures { result ≡ indicator_with kind (shown_parts self.now.sent.parameters.items) self.now.in_format self.now.indicator }
+        ensures { result ≡ indicator_with kind (shown_parts self.now.sent.parameters.items)
+            self.now.in_format self.now.indicator }
     {
         match kind {
             Kind::FieldHex => {
@@ -295,7 +307,8 @@ impl ZplReader {
 
     /// Data that may yet be spelled are themselves.
     fn undecided(&mut self) -> Event
-        ensures shows { (r : ZplReader) → r.known ≡ self.new.known → shown_event result r ≡ data_items (left_over self.old.phase) }
+        ensures shows { (r : ZplReader) → r.known ≡ self.new.known →
+            shown_event result r ≡ data_items (left_over self.old.phase) }
         ensures rest { self.new ≡ record self.old { known = self.new.known } }
     {
         match self.phase {
@@ -317,7 +330,8 @@ impl ZplReader {
 
     /// One byte, by the phase.
     fn step(&mut self, byte: u8) -> Event
-        ensures { (s : Cut) → StandsIn self.old s.before s.open_one → Advances (shown_event result self.new) self.new s byte }
+        ensures { (s : Cut) → StandsIn self.old s.before s.open_one →
+            Advances (shown_event result self.new) self.new s byte }
     {
         let left = self.wanted();
         if left > 0 {
@@ -334,12 +348,14 @@ impl ZplReader {
         self.more(byte)
     }
 
-    /// Takes the next byte, and gives what it makes known: a command at its name, at ^GF's fourth comma or at the
-    /// sign that ends it, or data as soon as they are known, up to three bytes behind ^FH. A command is the reader's
-    /// and stands until the next byte.
+    /// Takes the next byte, and gives what it makes known: a command at its name, at ^GF's fourth comma or at
+    /// the sign that ends it, or data as soon as they are known, up to three bytes behind ^FH. A command is
+    /// the reader's and stands until the next byte.
     pub fn take(&mut self, byte: u8) -> Option<ZplItem<'_>>
-        ensures* stands { sem 𝓛 (Leaves self.entry (λ new. (bytes : List ℕ) → Stands self.old bytes → Stands new (bytes ++ byte ∷ []))) }
-        ensures gives { (bytes : List ℕ) → Stands self.old bytes → items (bytes ++ byte ∷ []) ≡ items bytes ++ shown result }
+        ensures* stands { sem 𝓛 (Leaves self.entry (λ new. (bytes : List ℕ) → Stands self.old bytes →
+            Stands new (bytes ++ byte ∷ []))) }
+        ensures gives { (bytes : List ℕ) → Stands self.old bytes →
+            items (bytes ++ byte ∷ []) ≡ items bytes ++ shown result }
     {
         match self.step(byte) {
             Event::Nothing => None,
@@ -348,14 +364,15 @@ impl ZplReader {
         }
     }
 
-    /// Takes the bytes at the front of the input that are data by themselves: none but in the data of ^FD, where
-    /// no byte of them can be one that ^FH spells, and of ^GF. They may be taken one by one as well.
+    /// Takes the bytes at the front of the input that are data by themselves: none but in the data of ^FD,
+    /// where no byte of them can be one that ^FH spells, and of ^GF. They may be taken one by one as well.
     pub fn take_data(&mut self, input: &[u8]) -> usize
         ensures count { (bytes : List ℕ) → Stands self.old bytes → result ≡ data_front (cut bytes) input.now }
         ensures fits { result ≤ length input.now }
         ensures gives { (bytes : List ℕ) (n : ℕ) → Stands self.old bytes → n ≤ result →
             items (bytes ++ take n input.now) ≡ items bytes ++ data_items (take n input.now) }
-        ensures stands { (bytes : List ℕ) → Stands self.old bytes → Stands self.new (bytes ++ take result input.now) }
+        ensures stands { (bytes : List ℕ) → Stands self.old bytes →
+            Stands self.new (bytes ++ take result input.now) }
     {
         let n = self.phase.front(self.indicator, input);
         self.phase = self.phase.after(n);
