@@ -1,22 +1,26 @@
 -- Which band is next, some bytes further on.
-use Rattle.std.proofs.Common.{◌≡◌, ◌+◌, ◌*◌, ◌/◌, ◌%◌, ◌<◌, ◌≤◌, inl, inr, ℕ, zero, suc, true, false, Bool, refl, subst, arith}
-use Rattle.std.specs.Prelude.{◌==◌, ◌||◌, nat_lt, if◌then◌else◌}
-use Rattle.std.proofs.lemmas.Bool.{cases_Bool}
-use Rattle.std.proofs.lemmas.Bool.Decides.{nat_tests}
+use Rattle.std.proofs.Common.{◌≡◌, ◌+◌, ◌*◌, ◌/◌, ◌%◌, ◌<◌, ◌≤◌, ◌-◌, inl, inr, ℕ, zero, suc, true, false, Bool, refl, sym, ap, ◌∙◌, subst, arith}
+use Rattle.std.specs.Prelude.{◌==◌, ◌||◌, nat_lt, if◌then◌else◌, map}
+use Rattle.std.proofs.lemmas.Bool.{cases_Bool, cases_lt, lt-ltb, le-ltb}
+use Rattle.std.proofs.lemmas.Bool.Decides.{eqb_tells, nat_tests}
 use Rattle.vp_copies.specs.declared.place.Ahead.{Ahead}
 use Rattle.vp_copies.specs.declared.place.Ahead.TheVariants.{Nothing, Band}
 use Rattle.vp_copies.specs.declared.place.Line.{Line}
 use Rattle.vp_copies.specs.declared.place.Line.TheVariants.{Head, Row}
 use Rattle.vp_copies.specs.declared.place.Place.{Place}
-use Rattle.vp_copies.specs.Copies.{ahead, ahead_of}
-use Rattle.vp_copies.specs.Progress.{IsLineOf}
+use Rattle.vp_copies.specs.Copies.{advanced, ahead, ahead_of, line_bytes, pending, row_after}
+use Rattle.vp_copies.specs.Progress.{Progress, image_of, IsLineOf}
+use Rattle.vp_format.specs.declared.field.Field.{Field}
+use Rattle.vp_field.specs.Fields.{stroke_of}
+use Rattle.vp_field.specs.Strokes.{image_dot}
+use Rattle.vp_label.specs.declared.press.Press.{Press}
 use Rattle.std.proofs.Common.{List}
 use Rattle.vp_glyph.specs.declared.Sheets.{Sheets}
 use Rattle.vp_field.specs.declared.view.View.{View}
 use Rattle.vp_bands.specs.Laws.{LooksBounded}
 use Rattle.vp_bands.specs.Meeting.{bands_of, pairs}
 use Rattle.vp_bands.specs.Standing.{fields_of, IsBefore, Threaded}
-use Rattle.vp_label.specs.Press.{bands_above, IsNextBand}
+use Rattle.vp_label.specs.Press.{bands_above, left, IsBetween, IsNextBand}
 
 abbrev pub at : ℕ → Line → ℕ → Place
 at copies l byte = record { copies = copies; line = l; byte = byte }
@@ -62,3 +66,56 @@ is_within height bands next copies (Row y) zero all b some now =
       | inl t ↦ (y / 32, omega arith, rw t at go)
       | inr f ↦ (y / 32 + 1, omega arith, rw f at go)
     ]
+
+-- which band is next at a place, and where all are painted
+pub record IsMet (bands : ℕ) (next : ℕ → Type 0) (p : Place) : Type 0 where
+  pub pending : 0 < p.copies → IsNextBand (ahead p) p.line bands next
+  pub over : p.copies ≡ 0 → next bands
+  pub between : IsBetween p → next bands
+
+all_above : (l : Line) → bands_above l ≡ (row_after l + 31) / 32
+all_above Head = refl
+all_above (Row y) = omega arith
+
+last_row : (height : ℕ) (l : Line) → 0 < height → IsLineOf height l → height ≤ row_after l → row_after l ≡ height
+last_row height Head high line last = omega arith
+last_row height (Row y) high line last = omega arith
+
+row_begun : (bands : ℕ) (next : ℕ → Type 0) (copies y : ℕ) → 0 < copies → next ((y + 31) / 32) → IsNextBand (ahead (at copies (Row y) 0)) (Row y) bands next
+row_begun bands next copies y some now =
+    subst (λ (a : Ahead). IsNextBand a (Row y) bands next) (sym (first_ahead copies (Row y) some)) (elim (eqb_tells (y % 32) 0) [
+      | inl t ↦ (let e : (y + 31) / 32 ≡ y / 32 = (let z = t.1 in omega arith) in rw t.0 (subst next e now))
+      | inr f ↦ (let e : (y + 31) / 32 ≡ y / 32 + 1 = (let z = f.1 in omega arith) in rw f.0 (subst next e now))
+    ])
+
+-- behind bytes of a line, whose bands are painted
+pub met_behind : (width height bands : ℕ) (next : ℕ → Type 0) (n : ℕ) (p : Place) → bands ≡ (height + 31) / 32 → 0 < height → IsLineOf height p.line → 0 < p.copies → 0 < n → next (bands_above p.line) →
+    IsMet bands next (advanced width height n p)
+met_behind width height bands next n p all high line some out now = elim (cases_lt (p.byte + n) (line_bytes width height p.line)) [
+  | inl more ↦ rw (lt-ltb (p.byte + n) (line_bytes width height p.line) more) (record {
+    pending = λ _. subst (λ (a : Ahead). IsNextBand a p.line bands next) (sym (more_ahead p.copies p.line (p.byte + n) (omega arith))) now;
+    over = λ none. absurd (omega arith);
+    between = λ b. absurd (let z = b.byte in omega arith);
+  })
+  | inr done ↦ elim (cases_lt (row_after p.line) height) [
+    | inl row ↦ rw (le-ltb (p.byte + n) (line_bytes width height p.line) done, lt-ltb (row_after p.line) height row) (record {
+      pending = λ _. row_begun bands next p.copies (row_after p.line) some (subst next (all_above p.line) now);
+      over = λ none. absurd (omega arith);
+      between = λ b. absurd (let no = b.line in cc);
+    })
+    | inr end ↦
+        let e : bands_above p.line ≡ bands = all_above p.line ∙ ap (λ h. (h + 31) / 32) (last_row height p.line high line end) ∙ sym all in
+        let last = subst next e now in
+        rw (le-ltb (p.byte + n) (line_bytes width height p.line) done, le-ltb (row_after p.line) height end) (record {
+          pending = λ more. subst (λ (a : Ahead). IsNextBand a Head bands next) (sym (first_ahead (p.copies - 1) Head more)) (inr last);
+          over = λ _. last;
+          between = λ _. last;
+        })
+  ]
+]
+
+-- what is left hangs on the copies and the fields alone
+pub same_left : (sheets : Sheets) (bytes : List ℕ) (view : View) (p q : Press) → q.copies ≡ p.copies → q.painter.entries ≡ p.painter.entries → left sheets bytes view q ≡ left sheets bytes view p
+same_left sheets bytes view p q copies entries =
+    ap (λ (x : Progress). pending (image_of x (image_dot view (map (stroke_of sheets bytes) (fields_of q.painter.entries)))) x.place) copies
+    ∙ ap (λ (fields : List Field). pending (image_of p.copies (image_dot view (map (stroke_of sheets bytes) fields))) p.copies.place) (ap fields_of entries)

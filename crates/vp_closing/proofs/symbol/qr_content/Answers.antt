@@ -1,5 +1,9 @@
-use Rattle.std.proofs.Common.{ap, arith}
+use Rattle.std.proofs.Common.{◌≡◌, ◌∙◌, Ok, ap, sym, arith}
+use Rattle.vp_field.specs.Contents.{bytes_of}
 use Rattle.vp_format.specs.declared.field.Span.{Span}
+use Rattle.vp_qr_field.specs.Fronts.{front_of}
+use Rattle.vp_closing.specs.Symbols.{qr_of}
+use Rattle.vp_closing.specs.Texts.{span_of}
 use Rattle.vp_closing.proofs.symbol.qr_content.Goals as goal
 
 pub overflow_add-behind : goal.overflow_add-behind
@@ -13,3 +17,10 @@ overflow_add-behind c =
       c.requires.among,
       c.requires.few,
     )
+
+pub returns-clause-value : goal.returns-clause-value
+returns-clause-value c =
+    let a = c.args in
+    let front : front_of a.model (bytes_of a.stored.now (span_of a.bytes)) ≡ Ok c.in_ok-front.front =
+    sym (c.qr_front.ensures.value ∙ ap (front_of a.model) (c.bytes_of.ensures.bytes ∙ ap (bytes_of a.stored.now) c.span_of.ensures)) ∙ c.in_ok-front.was in
+    c.qr_behind.ensures.value ∙ sym (ap (qr_of a.stored.now a.dots a.bytes) front)

@@ -46,6 +46,12 @@ loop-taken-preserved c =
       zero = λ h. absurd (omega arith);
     }
 
+pub returns-in-Some-clause-more : goal.returns-in-Some-clause-more
+returns-in-Some-clause-more c e setup t o s = cc
+
+pub returns-in-Some-clause-room : goal.returns-in-Some-clause-room
+returns-in-Some-clause-room c e setup t o s = cc
+
 pub returns-in-Some-clause-stopped : goal.returns-in-Some-clause-stopped
 returns-in-Some-clause-stopped c f setup t o s =
     let now = c.loop-taken.invariant.stands setup t o s in (
@@ -62,6 +68,12 @@ returns-in-Some-clause-stopped_at c f setup t o s e =
       last = now.last;
       fault_of = sym now.stopped ∙ sym c.in-Some.ensures.value ∙ ap Some same;
     }
+
+pub returns-in-None-clause-more : goal.returns-in-None-clause-more
+returns-in-None-clause-more c e setup t o s = cc
+
+pub returns-in-None-clause-stopped_at : goal.returns-in-None-clause-stopped_at
+returns-in-None-clause-stopped_at c f setup t o s e = cc
 
 pub returns-in-None-clause-stopped : goal.returns-in-None-clause-stopped
 returns-in-None-clause-stopped c f setup t o s =
@@ -81,6 +93,12 @@ returns-in-None-2-clause-more c e setup t o s =
       ];
       printed = sym (append-nil _) ∙ ap (λ x. (o ++ take c.loop-taken.put c.loop-taken.output) ++ x) (sym none) ∙ now.pending;
     }
+
+pub returns-in-None-2-clause-room : goal.returns-in-None-2-clause-room
+returns-in-None-2-clause-room c e setup t o s = cc
+
+pub returns-in-None-2-clause-stopped_at : goal.returns-in-None-2-clause-stopped_at
+returns-in-None-2-clause-stopped_at c f setup t o s e = cc
 
 pub returns-in-None-2-clause-stopped : goal.returns-in-None-2-clause-stopped
 returns-in-None-2-clause-stopped c f setup t o s =

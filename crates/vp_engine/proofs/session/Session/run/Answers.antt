@@ -1,5 +1,6 @@
 use Rattle.std.proofs.Common.{◌≡◌, None, refl, sym, ap, ◌∙◌, arith}
 use Rattle.std.proofs.lemmas.Result.{err_from_is_err_and}
+use Rattle.vp_streams.specs.Count.{grown}
 use Rattle.vp_engine.specs.Session.{IsDrained}
 use Rattle.vp_engine.specs.Stands.{Engine}
 use Rattle.vp_engine.proofs.Desks.{reaches_start, reaches_accepts, reaches_takes, stop_answer, whole_answer, end_answer, none_of, reads_more}
@@ -77,3 +78,8 @@ turns-preserved g c = record {
   none_yet = λ e. absurd (omega arith);
   reads = λ h. reads_more _ _ _ c.turns._turn c.turns.invariant.none_yet c.turns.invariant.reads c.fill.ensures.reads;
 }
+
+pub returns-clause-turns : goal.returns-clause-turns
+returns-clause-turns g c e =
+    let all : c.turns._turn ≡ 1000000000 = omega arith in
+    c.turns.invariant.reads (omega arith) ∙ ap (grown _) all
