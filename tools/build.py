@@ -21,8 +21,9 @@ PROGRAM = "vp_cli"
 PARTS = ("src", "specs", "proofs")
 # What a check is likely to take, in bytes: of most crates, and of one of more than so many lines.
 MEMORY, LARGE_MEMORY, LARGE = 1_000_000_000, 2_000_000_000, 4_500
-# A first guess at a check's seconds: to load the library, and for each line.
-TO_LOAD, A_LINE = 20, 0.03
+# A first guess at the seconds of a crate: to load the library, for each crate below and for each line; and to compile
+# the program.
+TO_LOAD, A_CRATE, A_LINE, TO_COMPILE = 12, 2, 0.022, 90
 
 
 def listed():
@@ -171,7 +172,8 @@ class Build:
 
     def guess(self, name):
         """Returns about how many seconds the crate takes, by how far those before it were from the first guess."""
-        first = lambda it: TO_LOAD + A_LINE * self.lines[it]
+        to_load = lambda it: TO_LOAD + A_CRATE * len(self.below[it])
+        first = lambda it: to_load(it) + A_LINE * self.lines[it] + TO_COMPILE * (it == PROGRAM)
         done = [it for it in self.took if self.took[it] > 5]
         pace = sum(self.took[it] for it in done) / sum(map(first, done)) if done else 1
         return pace * first(name)
