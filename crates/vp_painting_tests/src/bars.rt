@@ -1,5 +1,7 @@
 //! Worked symbols: their values, texts and bars, and why there is none.
+use crate::asserts::same;
 use crate::sheet::stairs;
+use std::process::Abort;
 use std::test::Fail;
 use vp_bars::{Bars, Place, code39, code128_esc, code128_zpl, ean13};
 use vp_dots::{Fault, Ink, Op, Why};
@@ -158,7 +160,7 @@ fn wrong_symbol(rows: &[Worked]) -> Option<usize> {
 
 #[test]
 fn symbols(rt: HostRuntime) {
-    assert_eq!(rt; wrong_symbol(&SYMBOLS), None);
+    same(&rt, &wrong_symbol(&SYMBOLS), &None);
 }
 
 type Refused = (Made, &'static [u8], Fault);
@@ -212,16 +214,24 @@ fn wrong_refusal(rows: &[Refused]) -> Option<usize> {
 
 #[test]
 fn refusals(rt: HostRuntime) {
-    assert_eq!(rt; wrong_refusal(&REFUSED), None);
+    same(&rt, &wrong_refusal(&REFUSED), &None);
 }
 
-/// The values of as many bytes as a symbol can have.
+/// As many bytes as a symbol can have.
+static MOST: [u8; 255] = [b'A'; 255];
+
+/// How many values a symbol has.
+fn count_of(how: Made, src: &[u8]) -> Option<usize> {
+    match symbol_of(how, src) {
+        Ok(bars) => Some(bars.symbols().len()),
+        Err(_) => None,
+    }
+}
+
 #[test]
 fn longest(rt: HostRuntime) {
-    let checked = symbol_of(Code39Checked, &[b'A'; 255]);
-    assert_eq!(rt; checked.ok().map(|bars| bars.symbols().len()), Some(258));
-    let packed = symbol_of(LabelPacked, &[b'A'; 255]);
-    assert_eq!(rt; packed.ok().map(|bars| bars.symbols().len()), Some(258));
+    let counts = [count_of(Code39Checked, &MOST), count_of(LabelPacked, &MOST)];
+    same(&rt, &counts, &[Some(258); 2]);
 }
 
 type Drawn = (Made, &'static [u8], u16, u16, [u8; 16]);
@@ -269,17 +279,21 @@ static DRAWN: [Drawn; 4] = [
     ),
 ];
 
+/// The first bytes of a row of a symbol's bars.
+fn bars_of(how: Made, src: &[u8], narrow: u16, wide: u16, sheets: &Sheets) -> [u8; 16] {
+    let mut row = [0; 16];
+    if let Ok(bars) = symbol_of(how, src) {
+        bars.boxed(narrow, wide, 1, sheets, Font::A, Place::None)
+            .paint_row(0, Op::Black, 0, &mut row);
+    }
+    row
+}
+
 /// The first row whose bars are others.
-fn wrong_bars(rows: &[Drawn]) -> Option<usize> {
-    let sheets = Sheets { a: None, b: None };
+fn wrong_bars(rows: &[Drawn], sheets: &Sheets) -> Option<usize> {
     for i in 0..rows.len() {
         let (how, src, narrow, wide, bytes) = rows[i];
-        let mut row = [0u8; 16];
-        if let Ok(bars) = symbol_of(how, src) {
-            bars.boxed(narrow, wide, 1, &sheets, Font::A, Place::None)
-                .paint_row(0, Op::Black, 0, &mut row);
-        }
-        if row != bytes {
+        if bars_of(how, src, narrow, wide, sheets) != bytes {
             return Some(i);
         }
     }
@@ -288,7 +302,8 @@ fn wrong_bars(rows: &[Drawn]) -> Option<usize> {
 
 #[test]
 fn bars_to_the_dot(rt: HostRuntime) {
-    assert_eq!(rt; wrong_bars(&DRAWN), None);
+    let sheets = Sheets { a: None, b: None };
+    same(&rt, &wrong_bars(&DRAWN, &sheets), &None);
 }
 
 /// A symbol's box: which text it has, in which font, and its size.
@@ -321,13 +336,12 @@ static SIZED: [Sized; 5] = [
 ];
 
 /// The first row whose box has another size.
-fn wrong_size(rows: &[Sized]) -> Option<usize> {
-    let sheets = Sheets { a: None, b: None };
+fn wrong_size(rows: &[Sized], sheets: &Sheets) -> Option<usize> {
     for i in 0..rows.len() {
         let (how, src, narrow, wide, height, font, place, size) = rows[i];
         match symbol_of(how, src) {
             Ok(bars) => {
-                let boxed = bars.boxed(narrow, wide, height, &sheets, font, place);
+                let boxed = bars.boxed(narrow, wide, height, sheets, font, place);
                 if boxed.size() != size {
                     return Some(i);
                 }
@@ -340,25 +354,35 @@ fn wrong_size(rows: &[Sized]) -> Option<usize> {
 
 #[test]
 fn sizes(rt: HostRuntime) {
-    assert_eq!(rt; wrong_size(&SIZED), None);
+    let sheets = Sheets { a: None, b: None };
+    same(&rt, &wrong_size(&SIZED, &sheets), &None);
+}
+
+/// A row of ink, painted black at the left.
+fn row_of<I: Ink>(ink: &I, y: u32) -> [u8; 11] {
+    let mut row = [0; 11];
+    ink.paint_row(y, Op::Black, 0, &mut row);
+    row
+}
+
+/// The bars of a 3 are in the first row, and the 3 is below them.
+fn has_bars_and_text<I: Ink>(rt: &impl Abort, below: &I) {
+    let bars = [
+        0xc1, 0x9f, 0x3e, 0x67, 0xcf, 0x83, 0x33, 0x30, 0x67, 0xcf, 0x98,
+    ];
+    let text = [0, 0, 0, 0, 0x0f, 0xff, 0, 0, 0, 0, 0];
+    same(rt, &[row_of(below, 0), row_of(below, 24)], &[bars, text]);
+    same(rt, &[below.ink(36, 1), below.ink(35, 1)], &[true, false]);
+}
+
+fn shows_a_three(rt: &impl Abort, sheets: &Sheets) {
+    let bars = code39(b"3", false).expect(rt, "no symbol");
+    let below = bars.boxed(2, 5, 1, sheets, Font::A, Place::Below);
+    has_bars_and_text(rt, &below);
 }
 
 #[test]
 fn a_box_with_its_text(rt: HostRuntime) -> Result<(), Fail> {
-    let sheets = stairs(rt.alloc())?;
-    let bars = code39(b"3", false).ok().ok_or("none")?;
-    let below = bars.boxed(2, 5, 1, &sheets, Font::A, Place::Below);
-    let mut first = [0u8; 11];
-    below.paint_row(0, Op::Black, 0, &mut first);
-    assert_eq!(rt;
-        first,
-        [
-            0xc1, 0x9f, 0x3e, 0x67, 0xcf, 0x83, 0x33, 0x30, 0x67, 0xcf, 0x98
-        ]
-    );
-    let mut last = [0u8; 11];
-    below.paint_row(24, Op::Black, 0, &mut last);
-    assert_eq!(rt; last, [0, 0, 0, 0, 0x0f, 0xff, 0, 0, 0, 0, 0]);
-    assert_eq!(rt; (below.ink(36, 1), below.ink(35, 1)), (true, false));
+    shows_a_three(&rt, &stairs(rt.alloc())?);
     Ok(())
 }

@@ -1,4 +1,9 @@
 //! Rows of dots, bands, stores and faults.
+
+ghost use Rattle.std.specs.Prelude.{◌≤◌};
+
+use crate::asserts::{reads, same};
+use std::process::Abort;
 use std::test::Fail;
 use vp_dots::{
     Band, Fault, Full, Ink, Op, Store, Why, clear_into, fill_dots, fill_moved, first_dots, header,
@@ -33,38 +38,56 @@ impl Ink for Stairs {
     }
 }
 
+static OPS: [Op; 3] = [Op::Black, Op::White, Op::Flip];
+
+/// The last dot of a new band is white, then it is painted, and then the band is cleared.
+fn paints_its_last_dot(rt: &impl Abort, band: &mut Band<72, 2>) {
+    let dots = [
+        band.get(0, 0),
+        band.get(576, 0),
+        band.get(575, 1),
+        band.get(0, 2),
+    ];
+    same(rt, &dots, &[Some(false), None, Some(false), None]);
+    band.row_mut(1)[71] = 1;
+    same(rt, &band.get(575, 1), &Some(true));
+    band.clear();
+    same(rt, &band.row(1)[71], &0);
+}
+
 #[test]
 fn bands(rt: HostRuntime) -> Result<(), Fail> {
     let mut band: Band<72, 2> = Band::new(rt.alloc())?;
-    assert_eq!(rt; band.get(0, 0), Some(false));
-    assert_eq!(rt; band.get(576, 0), None);
-    assert_eq!(rt; band.get(575, 1), Some(false));
-    assert_eq!(rt; band.get(0, 2), None);
-    band.row_mut(1)[71] = 1;
-    assert_eq!(rt; band.get(575, 1), Some(true));
-    band.clear();
-    assert_eq!(rt; band.row(1)[71], 0);
+    paints_its_last_dot(&rt, &mut band);
     Ok(())
+}
+
+/// Places, and a white row after the byte C1 is painted there.
+static KERNELS: [(i64, [u8; 3]); 6] = [
+    (0, [0xc1, 0, 0]),
+    (3, [0x18, 0x20, 0]),
+    (8, [0, 0xc1, 0]),
+    (23, [0, 0, 0x01]),
+    (-1, [0x82, 0, 0]),
+    (-8, [0, 0, 0]),
+];
+
+/// A white row painted black, a black row painted white, and that flipped.
+fn painted(source: &[u8], at: i64) -> [[u8; 3]; 3] {
+    let mut black = [0; 3];
+    or_into(source, at, &mut black);
+    let mut white = [0xff; 3];
+    clear_into(source, at, &mut white);
+    let mut flipped = white;
+    xor_into(source, at, &mut flipped);
+    [black, white, flipped]
 }
 
 #[test]
 fn kernels(rt: HostRuntime) {
-    for (at, want) in [
-        (0i64, [0xc1u8, 0, 0]),
-        (3, [0x18, 0x20, 0]),
-        (8, [0, 0xc1, 0]),
-        (23, [0, 0, 0x01]),
-        (-1, [0x82, 0, 0]),
-        (-8, [0, 0, 0]),
-    ] {
-        let mut row = [0u8; 3];
-        or_into(&[0xc1], at, &mut row);
-        assert_eq!(rt; row, want);
-        let mut row = [0xffu8; 3];
-        clear_into(&[0xc1], at, &mut row);
-        assert_eq!(rt; row, [!want[0], !want[1], !want[2]]);
-        xor_into(&[0xc1], at, &mut row);
-        assert_eq!(rt; row, [0xff, 0xff, 0xff]);
+    for (at, want) in &KERNELS {
+        let white = [!want[0], !want[1], !want[2]];
+        same(&rt, &painted(&[0xc1], *at), &[*want, white, [0xff; 3]]);
     }
 }
 
@@ -87,163 +110,223 @@ fn kernel(op: Op, source: &[u8], at: i64, row: &mut [u8]) {
     }
 }
 
-#[test]
-fn kernels_agree_with_the_slow_reference(rt: HostRuntime) {
+/// The kernel paints the beginning of a row as the slow reference does.
+fn kernel_agrees(rt: &impl Abort, op: Op, source: &[u8], at: i64, length: usize)
+    requires { length ≤ 70 }
+{
+    let mut fast = mixed(2);
+    let mut slow = mixed(2);
+    kernel(op, source, at, &mut fast[..length]);
+    paint_bits(op, source, at, &mut slow[..length]);
+    same(rt, &fast, &slow);
+}
+
+/// It does so at this place, whatever the lengths of the source and of the row.
+fn kernel_agrees_at(rt: &impl Abort, op: Op, at: i64) {
     let source = mixed(1);
-    for op in [Op::Black, Op::White, Op::Flip] {
-        for at in -9i64..10 {
-            for n in 0..71usize {
-                for m in [n, 70 - n, 70] {
-                    let mut fast = mixed(2);
-                    let mut slow = mixed(2);
-                    kernel(op, &source[..n], at, &mut fast[..m]);
-                    paint_bits(op, &source[..n], at, &mut slow[..m]);
-                    assert_eq!(rt; fast.as_slice(), slow.as_slice());
-                }
-            }
+    for n in 0..71usize {
+        for m in [n, 70 - n, 70] {
+            kernel_agrees(rt, op, &source[..n], at, m);
         }
     }
+}
+
+#[test]
+fn kernels_agree_with_the_slow_reference(rt: HostRuntime) {
+    for op in &OPS {
+        for at in -9i64..10 {
+            kernel_agrees_at(&rt, *op, at);
+        }
+    }
+}
+
+/// A span is filled as dot by dot.
+fn span_agrees(rt: &impl Abort, op: Op, from: u64, to: u64) {
+    let mut fast = mixed(3);
+    let mut slow = mixed(3);
+    fill_dots(op, from, to, &mut fast[..10]);
+    for d in from..to {
+        paint_dot(op, u128::from(d), &mut slow[..10]);
+    }
+    same(rt, &fast, &slow);
 }
 
 #[test]
 fn spans_agree_with_the_slow_reference(rt: HostRuntime) {
-    for op in [Op::Black, Op::White, Op::Flip] {
+    for op in &OPS {
         for from in 0..90u64 {
             for to in 0..90u64 {
-                let mut fast = mixed(3);
-                let mut slow = mixed(3);
-                fill_dots(op, from, to, &mut fast[..10]);
-                for d in from..to {
-                    paint_dot(op, u128::from(d), &mut slow[..10]);
-                }
-                assert_eq!(rt; fast.as_slice(), slow.as_slice());
+                span_agrees(&rt, *op, from, to);
             }
         }
     }
 }
 
+static FAR: [i64; 6] = [
+    i64::MIN,
+    i64::MIN + 1,
+    i64::MIN + 9,
+    i64::MAX - 9,
+    i64::MAX - 1,
+    i64::MAX,
+];
+
+/// A row after bytes and a span are painted at a place.
+fn row_painted_at(op: Op, at: i64) -> [u8; 70] {
+    let mut row = mixed(5);
+    kernel(op, &mixed(4), at, &mut row);
+    fill_moved(op, at, 0, u32::MAX, &mut row);
+    row
+}
+
+/// A row after a span is filled past its end.
+fn row_filled_past_its_end(op: Op) -> [u8; 70] {
+    let mut row = mixed(5);
+    fill_dots(op, u64::MAX - 9, u64::MAX, &mut row);
+    row
+}
+
 #[test]
 fn far_away_nothing_is_painted(rt: HostRuntime) {
-    let source = mixed(4);
-    for op in [Op::Black, Op::White, Op::Flip] {
-        for at in [
-            i64::MIN,
-            i64::MIN + 1,
-            i64::MIN + 9,
-            i64::MAX - 9,
-            i64::MAX - 1,
-            i64::MAX,
-        ] {
-            let mut row = mixed(5);
-            kernel(op, &source, at, &mut row);
-            fill_moved(op, at, 0, u32::MAX, &mut row);
-            assert_eq!(rt; row.as_slice(), mixed(5).as_slice());
+    for op in &OPS {
+        for at in &FAR {
+            same(&rt, &row_painted_at(*op, *at), &mixed(5));
         }
-        let mut row = mixed(5);
-        fill_dots(op, u64::MAX - 9, u64::MAX, &mut row);
-        assert_eq!(rt; row.as_slice(), mixed(5).as_slice());
+        same(&rt, &row_filled_past_its_end(*op), &mixed(5));
     }
-    let mut row = [0u8; 3];
+    let mut row = [0; 3];
     fill_dots(Op::Black, 5, u64::MAX, &mut row);
-    assert_eq!(rt; row, [0x07, 0xff, 0xff]);
+    same(&rt, &row, &[0x07, 0xff, 0xff]);
+}
+
+/// How stairs of three steps are painted, one after the other, where, and the rows of the band then.
+static PLACES: [(Op, i64, i64, [[u8; 2]; 3]); 3] = [
+    (Op::Black, 7, 1, [[0, 0], [0x01, 0], [0x01, 0x80]]),
+    (Op::Flip, -1, -2, [[0xc0, 0], [0x01, 0], [0x01, 0x80]]),
+    (
+        Op::White,
+        i64::MIN,
+        i64::MAX,
+        [[0xc0, 0], [0x01, 0], [0x01, 0x80]],
+    ),
+];
+
+fn rows_of(band: &Band<2, 3>) -> [[u8; 2]; 3] {
+    let mut rows = [[0; 2]; 3];
+    for y in 0..3usize {
+        rows[y].copy_from_slice(band.row(y));
+    }
+    rows
 }
 
 #[test]
 fn places(rt: HostRuntime) -> Result<(), Fail> {
     let mut band: Band<2, 3> = Band::new(rt.alloc())?;
-    let stairs = Stairs { steps: 3 };
-    paint_at(&stairs, Op::Black, 7, 1, &mut band);
-    assert_eq!(rt; band.row(0), [0x00, 0x00].as_slice());
-    assert_eq!(rt; band.row(1), [0x01, 0x00].as_slice());
-    assert_eq!(rt; band.row(2), [0x01, 0x80].as_slice());
-    paint_at(&stairs, Op::Flip, -1, -2, &mut band);
-    assert_eq!(rt; band.row(0), [0xc0, 0x00].as_slice());
-    paint_at(&stairs, Op::White, i64::MIN, i64::MAX, &mut band);
-    assert_eq!(rt; band.row(2), [0x01, 0x80].as_slice());
+    for (op, x, y, rows) in &PLACES {
+        paint_at(&Stairs { steps: 3 }, *op, *x, *y, &mut band);
+        same(&rt, &rows_of(&band), rows);
+    }
     Ok(())
 }
 
+static HEADS: [(u32, u32, &'static [u8]); 3] = [
+    (576, 34, b"P4\n576 34\n"),
+    (1, 1248, b"P4\n1 1248\n"),
+    (u32::MAX, u32::MAX, b"P4\n4294967295 4294967295\n"),
+];
+
 #[test]
 fn heads(rt: HostRuntime) {
-    assert_eq!(rt; header(576, 34).as_slice(), b"P4\n576 34\n".as_slice());
-    assert_eq!(rt; header(1, 1248).as_slice(), b"P4\n1 1248\n".as_slice());
-    assert_eq!(rt;
-        header(u32::MAX, u32::MAX).as_slice(),
-        b"P4\n4294967295 4294967295\n".as_slice()
-    );
+    for (width, height, text) in &HEADS {
+        same(&rt, &header(*width, *height).as_slice(), text);
+    }
+}
+
+/// The third byte finds no room, until what is held is dropped.
+fn holds_two_bytes(rt: &impl Abort, store: &mut Store<2>) {
+    let pushed = [store.push(1), store.push(2), store.push(3)];
+    same(rt, &pushed, &[Ok(()), Ok(()), Err(Full)]);
+    same(rt, &store.bytes(), &[1, 2].as_slice());
+    store.clear();
+    same(rt, &store.push(4), &Ok(()));
+    same(rt, &store.bytes(), &[4].as_slice());
 }
 
 #[test]
 fn stores(rt: HostRuntime) -> Result<(), Fail> {
     let mut store: Store<2> = Store::new(rt.alloc())?;
-    assert_eq!(rt; store.push(1), Ok(()));
-    assert_eq!(rt; store.push(2), Ok(()));
-    assert_eq!(rt; store.push(3), Err(Full));
-    assert_eq!(rt; store.bytes(), [1, 2].as_slice());
-    store.clear();
-    assert_eq!(rt; store.push(4), Ok(()));
-    assert_eq!(rt; store.bytes(), [4].as_slice());
+    holds_two_bytes(&rt, &mut store);
     Ok(())
 }
 
 #[test]
 fn a_full_store_in_words(rt: HostRuntime) -> Result<(), Fail> {
-    let text = format!(in rt.alloc(); "{}", Full)?;
-    assert_eq!(rt; text.as_str(), "no room is left");
-    Ok(())
+    reads(&rt, rt.alloc(), &Full, "no room is left")
 }
+
+static FAULTS: [(Fault, u8, &'static str); 14] = [
+    (Fault::Unknown(0x1b, 0x7f), 1, "unknown command 1B 7F"),
+    (Fault::Unknown(0, 0x41), 1, "unknown command 00 41"),
+    (Fault::Symbol(Why::Empty), 2, "symbol: empty"),
+    (Fault::Symbol(Why::Char), 2, "symbol: character"),
+    (Fault::Symbol(Why::Length), 2, "symbol: length"),
+    (Fault::Symbol(Why::CodeSet), 2, "symbol: set"),
+    (Fault::Symbol(Why::Unsupported), 2, "symbol: unsupported"),
+    (Fault::SymbolTooLong, 3, "symbol too long"),
+    (Fault::SymbolTooWide, 4, "symbol too wide"),
+    (Fault::FieldsFull, 5, "too many fields"),
+    (Fault::StoreFull, 6, "too much field data"),
+    (Fault::Graphic, 7, "bad graphic"),
+    (Fault::Truncated, 8, "input ends inside a command"),
+    (Fault::Unprinted, 9, "input ends before printing"),
+];
 
 #[test]
 fn fault_texts(rt: HostRuntime) -> Result<(), Fail> {
-    for (fault, number, text) in [
-        (Fault::Unknown(0x1b, 0x7f), 1u8, "unknown command 1B 7F"),
-        (Fault::Unknown(0, 0x41), 1, "unknown command 00 41"),
-        (Fault::Symbol(Why::Empty), 2, "symbol: empty"),
-        (Fault::Symbol(Why::Char), 2, "symbol: character"),
-        (Fault::Symbol(Why::Length), 2, "symbol: length"),
-        (Fault::Symbol(Why::CodeSet), 2, "symbol: set"),
-        (Fault::Symbol(Why::Unsupported), 2, "symbol: unsupported"),
-        (Fault::SymbolTooLong, 3, "symbol too long"),
-        (Fault::SymbolTooWide, 4, "symbol too wide"),
-        (Fault::FieldsFull, 5, "too many fields"),
-        (Fault::StoreFull, 6, "too much field data"),
-        (Fault::Graphic, 7, "bad graphic"),
-        (Fault::Truncated, 8, "input ends inside a command"),
-        (Fault::Unprinted, 9, "input ends before printing"),
-    ] {
-        assert_eq!(rt; fault.number(), number);
-        assert_eq!(rt; format!(in rt.alloc(); "{fault}")?.as_str(), text);
+    for (fault, number, text) in &FAULTS {
+        same(&rt, &fault.number(), number);
+        reads(&rt, rt.alloc(), fault, text)?;
     }
     Ok(())
 }
 
-/// Rows of twelve bytes painted by a word at each of these places, as dot by dot.
+static WORD_PLACES: [i64; 17] = [
+    -70, -64, -63, -9, -1, 0, 1, 7, 8, 24, 25, 31, 32, 33, 40, 95, 96,
+];
+
+static TWELVE_BYTES: [u8; 12] = [
+    0x5a, 0xff, 0x01, 0, 0xf0, 0x3c, 0x80, 0x0f, 0x55, 0xaa, 0, 0x81,
+];
+
+/// A row is painted by a word as dot by dot.
+fn word_agrees(rt: &impl Abort, op: Op, at: i64) {
+    let word: u64 = 0x9123_4567_89ab_cdef;
+    let mut by_word = TWELVE_BYTES;
+    paint_word(op, word, at, &mut by_word);
+    let mut by_dot = TWELVE_BYTES;
+    paint_bits(op, &word.to_be_bytes(), at, &mut by_dot);
+    same(rt, &by_word, &by_dot);
+}
+
 #[test]
 fn words(rt: HostRuntime) {
-    let word: u64 = 0x9123_4567_89ab_cdef;
-    for op in [Op::Black, Op::White, Op::Flip] {
-        for at in [
-            -70i64, -64, -63, -9, -1, 0, 1, 7, 8, 24, 25, 31, 32, 33, 40, 95, 96,
-        ] {
-            let old = [
-                0x5a, 0xff, 0x01, 0, 0xf0, 0x3c, 0x80, 0x0f, 0x55, 0xaa, 0, 0x81,
-            ];
-            let mut by_word = old;
-            paint_word(op, word, at, &mut by_word);
-            let mut by_dot = old;
-            paint_bits(op, &word.to_be_bytes(), at, &mut by_dot);
-            assert_eq!(rt; by_word, by_dot);
+    for op in &OPS {
+        for at in &WORD_PLACES {
+            word_agrees(&rt, *op, *at);
         }
     }
 }
 
 #[test]
 fn words_cut(rt: HostRuntime) {
-    assert_eq!(rt; word_at(&[0x12, 0x34, 0x56], 4), 0x2345_6000_0000_0000);
-    assert_eq!(rt; word_at(&[0xff; 20], 3), u64::MAX);
-    assert_eq!(rt; first_dots(0), 0);
-    assert_eq!(rt; first_dots(12), 0xfff0_0000_0000_0000);
-    assert_eq!(rt; first_dots(64), u64::MAX);
+    same(
+        &rt,
+        &word_at(&[0x12, 0x34, 0x56], 4),
+        &0x2345_6000_0000_0000,
+    );
+    same(&rt, &word_at(&[0xff; 20], 3), &u64::MAX);
+    let firsts = [first_dots(0), first_dots(12), first_dots(64)];
+    same(&rt, &firsts, &[0, 0xfff0_0000_0000_0000, u64::MAX]);
 }
 
 /// A diagonal of lines: line i has its dot i + 3.
@@ -255,21 +338,27 @@ fn diagonal() -> [[u8; 2]; 8] {
     lines
 }
 
+/// The diagonal is laid, and flipped further up.
+fn lays_the_diagonal(rt: &impl Abort, band: &mut Band<3, 12>) {
+    lay_eight(Op::Black, &diagonal(), 5, 0, band);
+    for i in 0..8u8 {
+        let (x, y) = (usize::from(i) + 5, usize::from(i) + 3);
+        same(
+            rt,
+            &[band.get(x, y), band.get(x, y - 1)],
+            &[Some(true), Some(false)],
+        );
+    }
+    lay_eight(Op::Flip, &diagonal(), 5, -4, band);
+    let dots = [band.get(5, 0), band.get(6, 0), band.get(12, 6)];
+    same(rt, &dots, &[Some(false), Some(true), Some(true)]);
+}
+
 /// Laid across the rows of a band.
 #[test]
 fn across(rt: HostRuntime) -> Result<(), Fail> {
     let mut band: Band<3, 12> = Band::new(rt.alloc())?;
-    lay_eight(Op::Black, &diagonal(), 5, 0, &mut band);
-    for i in 0..8u8 {
-        let (x, y) = (usize::from(i) + 5, usize::from(i) + 3);
-        assert_eq!(rt;
-            (band.get(x, y), band.get(x, y - 1)),
-            (Some(true), Some(false))
-        );
-    }
-    lay_eight(Op::Flip, &diagonal(), 5, -4, &mut band);
-    assert_eq!(rt; (band.get(5, 0), band.get(6, 0)), (Some(false), Some(true)));
-    assert_eq!(rt; band.get(12, 6), Some(true));
+    lays_the_diagonal(&rt, &mut band);
     Ok(())
 }
 
@@ -278,12 +367,15 @@ fn cleared_rows(rt: HostRuntime) -> Result<(), Fail> {
     let mut band: Band<3, 12> = Band::new(rt.alloc())?;
     lay_eight(Op::Black, &diagonal(), 5, 0, &mut band);
     band.clear_rows(0, 10);
-    assert_eq!(rt; band.get(11, 9), Some(false));
-    assert_eq!(rt; band.get(12, 10), Some(true));
+    same(
+        &rt,
+        &[band.get(11, 9), band.get(12, 10)],
+        &[Some(false), Some(true)],
+    );
     Ok(())
 }
 
 #[test]
 fn a_row_turned(rt: HostRuntime) {
-    assert_eq!(rt; turned(0xff00_0000_0000_0000), 0x8080_8080_8080_8080);
+    same(&rt, &turned(0xff00_0000_0000_0000), &0x8080_8080_8080_8080);
 }

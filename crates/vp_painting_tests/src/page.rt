@@ -1,4 +1,7 @@
 //! The page: rows, images and wipes in four directions.
+use crate::asserts::same;
+use std::alloc::Global;
+use std::process::Abort;
 use std::test::Fail;
 use vp_dots::Ink;
 use vp_page::{Area, Direction, LINE_BYTES, PAGE_ROWS, Page};
@@ -38,23 +41,37 @@ const BOX: Area = Area {
     dy: 8,
 };
 
-/// The first two bytes of the first eight rows after one row of three dots is laid.
-fn corner(rt: HostRuntime, area: Area, direction: Direction, v: u32) -> Result<[[u8; 2]; 8], Fail> {
-    let mut page = Page::new(rt.alloc())?;
-    page.lay_row(area, direction, v, &[0xe0]);
+/// The first two bytes of the first eight rows.
+fn corner(page: &Page) -> [[u8; 2]; 8] {
     let mut rows = [[0; 2]; 8];
     for y in 0..8 {
-        rows[y] = [page.row(y)[0], page.row(y)[1]];
+        if let [first, second, ..] = page.row(y) {
+            rows[y] = [*first, *second];
+        }
     }
-    Ok(rows)
+    rows
+}
+
+/// One row of three dots is laid on a white page, whose corner is as wanted then.
+fn lays(
+    rt: &impl Abort,
+    alloc: Global,
+    area: Area,
+    direction: Direction,
+    v: u32,
+    wanted: &[[u8; 2]; 8],
+) -> Result<(), Fail> {
+    let mut page = Page::new(alloc)?;
+    page.lay_row(area, direction, v, &[0xe0]);
+    same(rt, &corner(&page), wanted);
+    Ok(())
 }
 
 #[test]
 fn left_to_right(rt: HostRuntime) -> Result<(), Fail> {
     let mut wanted = [[0; 2]; 8];
     wanted[0] = [0xe0, 0];
-    assert_eq!(rt; corner(rt, BOX, Direction::LeftToRight, 0)?, wanted);
-    Ok(())
+    lays(&rt, rt.alloc(), BOX, Direction::LeftToRight, 0, &wanted)
 }
 
 #[test]
@@ -63,16 +80,14 @@ fn bottom_to_top(rt: HostRuntime) -> Result<(), Fail> {
     for y in 5..8 {
         wanted[y] = [0x80, 0];
     }
-    assert_eq!(rt; corner(rt, BOX, Direction::BottomToTop, 0)?, wanted);
-    Ok(())
+    lays(&rt, rt.alloc(), BOX, Direction::BottomToTop, 0, &wanted)
 }
 
 #[test]
 fn right_to_left(rt: HostRuntime) -> Result<(), Fail> {
     let mut wanted = [[0; 2]; 8];
     wanted[7] = [0, 0x07];
-    assert_eq!(rt; corner(rt, BOX, Direction::RightToLeft, 0)?, wanted);
-    Ok(())
+    lays(&rt, rt.alloc(), BOX, Direction::RightToLeft, 0, &wanted)
 }
 
 #[test]
@@ -81,50 +96,67 @@ fn top_to_bottom(rt: HostRuntime) -> Result<(), Fail> {
     for y in 0..3 {
         wanted[y] = [0, 0x01];
     }
-    assert_eq!(rt; corner(rt, BOX, Direction::TopToBottom, 0)?, wanted);
-    Ok(())
+    lays(&rt, rt.alloc(), BOX, Direction::TopToBottom, 0, &wanted)
 }
+
+/// An area two dots wide and six high.
+const NARROW: Area = Area {
+    x: 3,
+    y: 1,
+    dx: 2,
+    dy: 6,
+};
 
 #[test]
 fn a_depth_further(rt: HostRuntime) -> Result<(), Fail> {
-    let area = Area {
-        x: 3,
-        y: 1,
-        dx: 2,
-        dy: 6,
-    };
     let mut wanted = [[0; 2]; 8];
     wanted[2] = [0x18, 0];
-    assert_eq!(rt; corner(rt, area, Direction::LeftToRight, 1)?, wanted);
-    assert_eq!(rt; corner(rt, area, Direction::BottomToTop, 2)?, [[0; 2]; 8]);
-    Ok(())
+    lays(&rt, rt.alloc(), NARROW, Direction::LeftToRight, 1, &wanted)?;
+    lays(
+        &rt,
+        rt.alloc(),
+        NARROW,
+        Direction::BottomToTop,
+        2,
+        &[[0; 2]; 8],
+    )
 }
 
 #[test]
 fn images(rt: HostRuntime) -> Result<(), Fail> {
     let mut page = Page::new(rt.alloc())?;
     page.lay(&Wedge { side: 3 }, BOX, Direction::TopToBottom, 1);
-    assert_eq!(rt; page.row(0)[1], 0x0e);
-    assert_eq!(rt; page.row(1)[1], 0x06);
-    assert_eq!(rt; page.row(2)[1], 0x02);
-    assert_eq!(rt; page.row(3)[1], 0);
+    let mut wanted = [[0; 2]; 8];
+    wanted[0] = [0, 0x0e];
+    wanted[1] = [0, 0x06];
+    wanted[2] = [0, 0x02];
+    same(&rt, &corner(&page), &wanted);
     Ok(())
+}
+
+/// From the fifth dot of the last of eight rows on, past the end of the page.
+const FROM_THE_EIGHTH_ROW: Area = Area {
+    x: 4,
+    y: 7,
+    dx: 5,
+    dy: 60000,
+};
+
+/// Five dots of a row are wiped, and then all.
+fn wipes(rt: &impl Abort, page: &mut Page) {
+    page.lay_row(BOX, Direction::LeftToRight, 7, &[0xff, 0xff]);
+    page.wipe(FROM_THE_EIGHTH_ROW);
+    let mut wanted = [[0; 2]; 8];
+    wanted[7] = [0xf0, 0x7f];
+    same(rt, &corner(page), &wanted);
+    page.clear();
+    same(rt, &corner(page), &[[0; 2]; 8]);
 }
 
 #[test]
 fn wiped(rt: HostRuntime) -> Result<(), Fail> {
     let mut page = Page::new(rt.alloc())?;
-    page.lay_row(BOX, Direction::LeftToRight, 7, &[0xff, 0xff]);
-    page.wipe(Area {
-        x: 4,
-        y: 7,
-        dx: 5,
-        dy: 60000,
-    });
-    assert_eq!(rt; page.row(7)[0], 0xf0);
-    assert_eq!(rt; page.row(7)[1], 0x7f);
-    page.clear();
-    assert_eq!(rt; page.row(7)[0], 0);
+    wipes(&rt, &mut page);
     Ok(())
 }
 
@@ -139,52 +171,79 @@ fn eight_rows() -> [[u8; LINE_BYTES]; 8] {
     rows
 }
 
-/// How many rows of the page differ where eight rows are laid at once from where they are laid one by one.
-fn differences(rt: HostRuntime, area: Area, direction: Direction, v: u32) -> Result<u32, Fail> {
-    let rows = eight_rows();
-    let mut at_once = Page::new(rt.alloc())?;
-    at_once.lay_eight(area, direction, v, &rows);
-    let mut one_by_one = Page::new(rt.alloc())?;
-    for i in 0..8u8 {
-        one_by_one.lay_row(
-            area,
-            direction,
-            v.saturating_add(u32::from(i)),
-            &rows[usize::from(i)],
-        );
-    }
+/// How many rows of two pages differ.
+fn differences(one: &Page, other: &Page) -> u32 {
     let mut count = 0u32;
     for y in 0..PAGE_ROWS {
-        if at_once.row(y) != one_by_one.row(y) {
+        if one.row(y) != other.row(y) {
             count = count.saturating_add(1);
         }
     }
-    Ok(count)
+    count
 }
 
-#[test]
-fn eight_at_once(rt: HostRuntime) -> Result<(), Fail> {
-    let inner = Area {
+/// Lays the same eight rows at once and one by one.
+fn lay_both_ways(
+    at_once: &mut Page,
+    one_by_one: &mut Page,
+    area: Area,
+    direction: Direction,
+    v: u32,
+) {
+    let rows = eight_rows();
+    at_once.lay_eight(area, direction, v, &rows);
+    for i in 0..8u8 {
+        let row = &rows[usize::from(i)];
+        one_by_one.lay_row(area, direction, v.saturating_add(u32::from(i)), row);
+    }
+}
+
+/// The page is the same where eight rows are laid at once and where they are laid one by one.
+fn lays_eight(
+    rt: &impl Abort,
+    alloc: Global,
+    area: Area,
+    direction: Direction,
+    v: u32,
+) -> Result<(), Fail> {
+    let mut at_once = Page::new(alloc)?;
+    let mut one_by_one = Page::new(alloc)?;
+    lay_both_ways(&mut at_once, &mut one_by_one, area, direction, v);
+    same(rt, &differences(&at_once, &one_by_one), &0);
+    Ok(())
+}
+
+/// An area inside the page, and one past its edges.
+static AREAS: [Area; 2] = [
+    Area {
         x: 13,
         y: 21,
         dx: 40,
         dy: 99,
-    };
-    let past_the_edges = Area {
+    },
+    Area {
         x: 560,
         y: 1600,
         dx: 60,
         dy: 3000,
-    };
-    for area in [inner, past_the_edges] {
-        for direction in [
-            Direction::LeftToRight,
-            Direction::BottomToTop,
-            Direction::RightToLeft,
-            Direction::TopToBottom,
-        ] {
-            for v in [0u32, 5, 32, 33, 52] {
-                assert_eq!(rt; differences(rt, area, direction, v)?, 0);
+    },
+];
+
+static DIRECTIONS: [Direction; 4] = [
+    Direction::LeftToRight,
+    Direction::BottomToTop,
+    Direction::RightToLeft,
+    Direction::TopToBottom,
+];
+
+static DEPTHS: [u32; 5] = [0, 5, 32, 33, 52];
+
+#[test]
+fn eight_at_once(rt: HostRuntime) -> Result<(), Fail> {
+    for area in &AREAS {
+        for direction in &DIRECTIONS {
+            for v in &DEPTHS {
+                lays_eight(&rt, rt.alloc(), *area, *direction, *v)?;
             }
         }
     }
@@ -195,6 +254,6 @@ fn eight_at_once(rt: HostRuntime) -> Result<(), Fail> {
 fn eight_blacken(rt: HostRuntime) -> Result<(), Fail> {
     let mut page = Page::new(rt.alloc())?;
     page.lay_eight(BOX, Direction::TopToBottom, 1, &eight_rows());
-    assert_eq!(rt; page.row(0)[1] != 0, true);
+    same(&rt, &(page.row(0)[1] != 0), &true);
     Ok(())
 }

@@ -3,6 +3,7 @@
 
 ghost use Rattle.std.specs.Prelude.{◌<◌};
 
+use crate::asserts::same;
 use arrayvec::ArrayVec;
 use std::process::Abort;
 use vp_dots::{Fault, Ink, Op, Why, paint_dot};
@@ -10,9 +11,9 @@ use vp_qr::{Level, Mode, Qr, QrInk, drawn, encode, rs};
 
 type Sample = ArrayVec<u8, 700>;
 
-const LEVELS: [Level; 4] = [Level::L, Level::M, Level::Q, Level::H];
+static LEVELS: [Level; 4] = [Level::L, Level::M, Level::Q, Level::H];
 
-const ALPHABET: [u8; 45] = *b"0123456789ABCDEFGHIJKLMNOPQRSTUVWXYZ $%*+-./:";
+static ALPHABET: [u8; 45] = *b"0123456789ABCDEFGHIJKLMNOPQRSTUVWXYZ $%*+-./:";
 
 /// A sample of `n` bytes that a mode has.
 fn sample(mode: Mode, n: usize) -> Sample {
@@ -34,6 +35,16 @@ fn version_of(mode: Mode, n: usize, level: Level) -> usize {
         Ok(qr) => qr.version(),
         Err(_) => 0,
     }
+}
+
+/// The symbol of some bytes, which have one.
+fn symbol(rt: &impl Abort, src: &[u8], level: Level, mode: Mode) -> Qr {
+    encode(src, level, mode).expect(rt, "no symbol")
+}
+
+/// The symbol of a sample.
+fn sample_symbol(rt: &impl Abort, mode: Mode, n: usize, level: Level) -> Qr {
+    symbol(rt, sample(mode, n).as_slice(), level, mode)
 }
 
 /// The modules of a row of a symbol whose modules are single dots: bit x is that of column x.
@@ -66,50 +77,43 @@ fn check_codewords(rt: HostRuntime) {
     let data = [
         16, 32, 12, 86, 97, 128, 236, 17, 236, 17, 236, 17, 236, 17, 236, 17,
     ];
-    assert_eq!(rt;
-        rs(&data, 10).as_slice(),
-        [165, 36, 212, 193, 237, 54, 199, 135, 44, 85].as_slice()
-    );
+    let check = [165, 36, 212, 193, 237, 54, 199, 135, 44, 85];
+    same(&rt, &rs(&data, 10).as_slice(), &check.as_slice());
 }
+
+static HELLO_WORLD_CODEWORDS: [u8; 26] = [
+    32, 91, 11, 120, 209, 114, 220, 77, 67, 64, 236, 17, 236, 17, 236, 17, 196, 35, 39, 119, 235,
+    215, 231, 226, 93, 23,
+];
 
 #[test]
 fn hello_world(rt: HostRuntime) {
-    let Ok(qr) = encode(b"HELLO WORLD", Level::M, Mode::Auto) else {
-        assert!(rt; false, "no symbol");
-        return;
-    };
-    assert_eq!(rt; qr.version(), 1);
-    assert_eq!(rt; qr.mask(), 0);
-    assert_eq!(rt;
-        qr.codewords(),
-        [
-            32, 91, 11, 120, 209, 114, 220, 77, 67, 64, 236, 17, 236, 17, 236, 17, 196, 35, 39,
-            119, 235, 215, 231, 226, 93, 23
-        ]
-        .as_slice()
-    );
+    let qr = symbol(&rt, b"HELLO WORLD", Level::M, Mode::Auto);
+    same(&rt, &(qr.version(), qr.mask()), &(1, 0));
+    same(&rt, &qr.codewords(), &HELLO_WORLD_CODEWORDS.as_slice());
 }
 
 /// The rows of that symbol.
-const HELLO_WORLD: [u64; 21] = [
+static HELLO_WORLD: [u64; 21] = [
     2086015, 1066817, 1528925, 1528925, 1531229, 1068609, 2086271, 0, 594517, 1116446, 216056,
     965039, 1428210, 1328384, 430207, 181825, 2085725, 568413, 1240925, 1718337, 1108863,
 ];
 
-#[test]
-fn hello_world_to_the_module(rt: HostRuntime) {
-    let Ok(qr) = encode(b"HELLO WORLD", Level::M, Mode::Auto) else {
-        assert!(rt; false, "no symbol");
-        return;
-    };
-    let ink = qr.scaled(1);
-    assert_eq!(rt; ink.size(), (21, 21));
+/// Ink has those rows, and the first of them is painted so.
+fn is_hello_world(rt: &impl Abort, ink: &QrInk) {
+    same(rt, &ink.size(), &(21, 21));
     for y in 0..21u32 {
-        assert_eq!(rt; modules(&ink, y), HELLO_WORLD[y as usize]);
+        same(rt, &modules(ink, y), &HELLO_WORLD[y as usize]);
     }
     let mut row = [0; 4];
     ink.paint_row(0, Op::Black, 0, &mut row);
-    assert_eq!(rt; (row[0], row[2], row[3]), (0xfe, 0xf8, 0));
+    same(rt, &(row[0], row[2], row[3]), &(0xfe, 0xf8, 0));
+}
+
+#[test]
+fn hello_world_to_the_module(rt: HostRuntime) {
+    let qr = symbol(&rt, b"HELLO WORLD", Level::M, Mode::Auto);
+    is_hello_world(&rt, &qr.scaled(1));
 }
 
 /// The bits of the format beside the upper left finder: to the right below it, and then up on its right.
@@ -151,42 +155,48 @@ fn version(ink: &QrInk) -> u32 {
 
 #[test]
 fn format_and_version(rt: HostRuntime) {
-    let Ok(qr) = encode(sample(Mode::Digits, 64).as_slice(), Level::L, Mode::Digits) else {
-        assert!(rt; false, "no symbol");
-        return;
-    };
-    assert_eq!(rt; qr.mask(), 4);
-    assert_eq!(rt; format(&qr.scaled(1)), 0b110011000101111);
-    let Ok(qr) = encode(sample(Mode::Alnum, 178).as_slice(), Level::M, Mode::Alnum) else {
-        assert!(rt; false, "no symbol");
-        return;
-    };
-    assert_eq!(rt; version(&qr.scaled(1)), 0b000111110010010100);
+    let digits = sample_symbol(&rt, Mode::Digits, 64, Level::L);
+    same(&rt, &digits.mask(), &4);
+    same(&rt, &format(&digits.scaled(1)), &0b110011000101111);
+    let alnum = sample_symbol(&rt, Mode::Alnum, 178, Level::M);
+    same(&rt, &version(&alnum.scaled(1)), &0b000111110010010100);
 }
+
+/// Why bytes have no symbol.
+fn fault(src: &[u8], mode: Mode) -> Option<Fault> {
+    match encode(src, Level::L, mode) {
+        Ok(_) => None,
+        Err(fault) => Some(fault),
+    }
+}
+
+static REFUSALS: [(&'static [u8], Mode, Option<Fault>); 4] = [
+    (b"", Mode::Auto, Some(Fault::Symbol(Why::Empty))),
+    (b"a", Mode::Alnum, Some(Fault::Symbol(Why::Char))),
+    (b"12A", Mode::Digits, Some(Fault::Symbol(Why::Char))),
+    (b"a", Mode::Auto, None),
+];
+
+/// Numbers of digits.
+static LENGTHS: [(usize, Option<Fault>); 2] = [(652, None), (653, Some(Fault::SymbolTooLong))];
 
 #[test]
 fn refusals(rt: HostRuntime) {
-    let fault = |src: &[u8], mode: Mode| match encode(src, Level::L, mode) {
-        Ok(_) => None,
-        Err(fault) => Some(fault),
-    };
-    assert_eq!(rt; fault(b"", Mode::Auto), Some(Fault::Symbol(Why::Empty)));
-    assert_eq!(rt; fault(b"a", Mode::Alnum), Some(Fault::Symbol(Why::Char)));
-    assert_eq!(rt; fault(b"12A", Mode::Digits), Some(Fault::Symbol(Why::Char)));
-    assert_eq!(rt; fault(b"a", Mode::Auto), None);
-    assert_eq!(rt;
-        fault(sample(Mode::Digits, 652).as_slice(), Mode::Auto),
-        None
-    );
-    assert_eq!(rt;
-        fault(sample(Mode::Digits, 653).as_slice(), Mode::Auto),
-        Some(Fault::SymbolTooLong)
-    );
+    for (src, mode, want) in &REFUSALS {
+        same(&rt, &fault(src, *mode), want);
+    }
+    for (n, want) in &LENGTHS {
+        same(
+            &rt,
+            &fault(sample(Mode::Digits, *n).as_slice(), Mode::Auto),
+            want,
+        );
+    }
 }
 
 /// The greatest numbers of digits, alphanumeric characters and bytes that levels L, M, Q and H of
 /// each version hold (table 7 of the standard).
-const CAPACITIES: [[(usize, usize, usize); 4]; 10] = [
+static CAPACITIES: [[(usize, usize, usize); 4]; 10] = [
     [(41, 25, 17), (34, 20, 14), (27, 16, 11), (17, 10, 7)],
     [(77, 47, 32), (63, 38, 26), (48, 29, 20), (34, 20, 14)],
     [(127, 77, 53), (101, 61, 42), (77, 47, 32), (58, 35, 24)],
@@ -230,12 +240,13 @@ const CAPACITIES: [[(usize, usize, usize); 4]; 10] = [
 ];
 
 /// The greatest number that fits a version does, and one more takes the next.
-fn holds(rt: &impl Abort, mode: Mode, most: usize, level: Level, version: usize)
-    requires { most < 1000 }
-{
+fn holds(rt: &impl Abort, mode: Mode, most: usize, level: Level, version: usize) {
     let next = if version < 10 { version + 1 } else { 0 };
-    assert_eq!(rt; version_of(mode, most, level), version);
-    assert_eq!(rt; version_of(mode, most + 1, level), next);
+    let versions = [
+        version_of(mode, most, level),
+        version_of(mode, most.saturating_add(1), level),
+    ];
+    same(rt, &versions, &[version, next]);
 }
 
 #[test]
@@ -243,7 +254,6 @@ fn capacities(rt: HostRuntime) {
     for (i, row) in CAPACITIES.iter().enumerate() {
         for (k, level) in LEVELS.iter().enumerate() {
             let (digits, alnum, bytes) = row[k];
-            assert!(rt; digits < 1000 && alnum < 1000 && bytes < 1000);
             holds(&rt, Mode::Digits, digits, *level, i + 1);
             holds(&rt, Mode::Alnum, alnum, *level, i + 1);
             holds(&rt, Mode::Bytes, bytes, *level, i + 1);
@@ -252,7 +262,7 @@ fn capacities(rt: HostRuntime) {
 }
 
 /// Samples with the version, the mask and the checksum of the rows that they give.
-const SYMBOLS: [(Mode, usize, Level, usize, usize, u64); 19] = [
+static SYMBOLS: [(Mode, usize, Level, usize, usize, u64); 19] = [
     (Mode::Digits, 41, Level::L, 1, 6, 885061506499725426),
     (Mode::Alnum, 20, Level::M, 1, 2, 8853321219724140617),
     (Mode::Bytes, 20, Level::Q, 2, 0, 7924698432542904124),
@@ -276,28 +286,28 @@ const SYMBOLS: [(Mode, usize, Level, usize, usize, u64); 19] = [
 
 #[test]
 fn whole_symbols(rt: HostRuntime) {
-    for (mode, n, level, version, mask, rows) in SYMBOLS.iter() {
-        let Ok(qr) = encode(sample(*mode, *n).as_slice(), *level, *mode) else {
-            assert!(rt; false, "no symbol");
-            return;
-        };
-        assert_eq!(rt;
-            (qr.version(), qr.mask(), checksum(&qr)),
-            (*version, *mask, *rows)
-        );
+    for (mode, n, level, version, mask, rows) in &SYMBOLS {
+        let qr = sample_symbol(&rt, *mode, *n, *level);
+        let found = (qr.version(), qr.mask(), checksum(&qr));
+        same(&rt, &found, &(*version, *mask, *rows));
     }
+}
+
+/// The checksum of a symbol, drawn in the version and with the mask that encoding takes.
+fn checksum_again(rt: &impl Abort, src: &[u8], level: Level, mode: Mode) -> u64 {
+    let qr = encode(src, level, mode).expect(rt, "no symbol");
+    checksum(&drawn(src, level, mode, qr.version(), qr.mask()))
 }
 
 #[test]
 fn drawn_again(rt: HostRuntime) {
-    for (mode, n, level, _, _, rows) in SYMBOLS.iter() {
+    for (mode, n, level, _, _, rows) in &SYMBOLS {
         let src = sample(*mode, *n);
-        let Ok(qr) = encode(src.as_slice(), *level, *mode) else {
-            assert!(rt; false, "no symbol");
-            return;
-        };
-        let again = drawn(src.as_slice(), *level, *mode, qr.version(), qr.mask());
-        assert_eq!(rt; checksum(&again), *rows);
+        same(
+            &rt,
+            &checksum_again(&rt, src.as_slice(), *level, *mode),
+            rows,
+        );
     }
 }
 
@@ -315,21 +325,24 @@ fn expected(ink: &QrInk, y: u32, right: u32, left: u32) -> [u8; 12]
     row
 }
 
+/// A row is painted as dot by dot, this far to the right and to the left.
+fn row_is_its_dots(rt: &impl Abort, ink: &QrInk, y: u32, far: u32)
+    requires { far < 1000 }
+{
+    let mut to_the_right = [0x5a; 12];
+    ink.paint_row(y, Op::Flip, far as i64, &mut to_the_right);
+    let mut to_the_left = [0x5a; 12];
+    ink.paint_row(y, Op::Flip, -(far as i64), &mut to_the_left);
+    let dots = [expected(ink, y, far, 0), expected(ink, y, 0, far)];
+    same(rt, &[to_the_right, to_the_left], &dots);
+}
+
 #[test]
 fn rows_are_the_dots(rt: HostRuntime) {
-    let Ok(qr) = encode(b"vp", Level::Q, Mode::Bytes) else {
-        assert!(rt; false, "no symbol");
-        return;
-    };
-    let ink = qr.scaled(3);
+    let ink = symbol(&rt, b"vp", Level::Q, Mode::Bytes).scaled(3);
     for far in 0..40u32 {
         for y in 0..70u32 {
-            let mut row = [0x5a; 12];
-            ink.paint_row(y, Op::Flip, far as i64, &mut row);
-            assert_eq!(rt; row, expected(&ink, y, far, 0));
-            let mut row = [0x5a; 12];
-            ink.paint_row(y, Op::Flip, -(far as i64), &mut row);
-            assert_eq!(rt; row, expected(&ink, y, 0, far));
+            row_is_its_dots(&rt, &ink, y, far);
         }
     }
 }

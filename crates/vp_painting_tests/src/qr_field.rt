@@ -1,26 +1,47 @@
 //! Data of QR fields.
-use std::test::Fail;
+use crate::asserts::same;
 use vp_dots::{Fault, Why};
 use vp_qr::{Level, Mode};
-use vp_qr_field::{QrFront, qr_front};
+use vp_qr_field::qr_front;
 
-fn front(level: Level, mode: Mode, length: usize) -> Result<QrFront, Fault> {
-    Ok(QrFront {
-        level,
-        mode,
-        length,
-    })
+/// What a front says, or why it is refused.
+type Front = Result<(Level, Mode, usize), Fault>;
+
+fn front_of(model: u16, data: &[u8]) -> Front {
+    match qr_front(model, data) {
+        Ok(front) => Ok((front.level, front.mode, front.length)),
+        Err(fault) => Err(fault),
+    }
 }
 
-fn refused(why: Why) -> Result<QrFront, Fault> {
-    Err(Fault::Symbol(why))
-}
+type Row = (&'static [u8], Front);
+
+/// Data of a field of model 2, and their front.
+static FRONTS: [Row; 17] = [
+    (b"HA,abc", Ok((Level::H, Mode::Auto, 3))),
+    (b"LA,", Ok((Level::L, Mode::Auto, 3))),
+    (b"QM,N12", Ok((Level::Q, Mode::Digits, 4))),
+    (b"MM,A12", Ok((Level::M, Mode::Alnum, 4))),
+    (b"HM,B0003abc", Ok((Level::H, Mode::Bytes, 8))),
+    (b"HM,B0000", Ok((Level::H, Mode::Bytes, 8))),
+    (b"HM,B0003ab", Err(Fault::Symbol(Why::Length))),
+    (b"HM,B0003abcd", Err(Fault::Symbol(Why::Length))),
+    (b"HM,B12", Err(Fault::Symbol(Why::CodeSet))),
+    (b"HM,K", Err(Fault::Symbol(Why::Unsupported))),
+    (b"HM,", Err(Fault::Symbol(Why::CodeSet))),
+    (b"HM,n1", Err(Fault::Symbol(Why::CodeSet))),
+    (b"", Err(Fault::Symbol(Why::Empty))),
+    (b"HA", Err(Fault::Symbol(Why::CodeSet))),
+    (b"hA,1", Err(Fault::Symbol(Why::CodeSet))),
+    (b"XA,1", Err(Fault::Symbol(Why::CodeSet))),
+    (b"HA;1", Err(Fault::Symbol(Why::CodeSet))),
+];
 
 /// The first row of another front.
-fn wrong_row(rows: &[(&[u8], Result<QrFront, Fault>)]) -> Option<usize> {
+fn wrong_row(rows: &[Row]) -> Option<usize> {
     for i in 0..rows.len() {
         let (data, want) = rows[i];
-        if qr_front(2, data) != want {
+        if front_of(2, data) != want {
             return Some(i);
         }
     }
@@ -29,28 +50,8 @@ fn wrong_row(rows: &[(&[u8], Result<QrFront, Fault>)]) -> Option<usize> {
 
 /// Fronts that are right, and those that aren't.
 #[test]
-fn fronts(rt: HostRuntime) -> Result<(), Fail> {
-    let rows = [
-        (b"HA,abc".as_slice(), front(Level::H, Mode::Auto, 3)),
-        (b"LA,".as_slice(), front(Level::L, Mode::Auto, 3)),
-        (b"QM,N12".as_slice(), front(Level::Q, Mode::Digits, 4)),
-        (b"MM,A12".as_slice(), front(Level::M, Mode::Alnum, 4)),
-        (b"HM,B0003abc".as_slice(), front(Level::H, Mode::Bytes, 8)),
-        (b"HM,B0000".as_slice(), front(Level::H, Mode::Bytes, 8)),
-        (b"HM,B0003ab".as_slice(), refused(Why::Length)),
-        (b"HM,B0003abcd".as_slice(), refused(Why::Length)),
-        (b"HM,B12".as_slice(), refused(Why::CodeSet)),
-        (b"HM,K".as_slice(), refused(Why::Unsupported)),
-        (b"HM,".as_slice(), refused(Why::CodeSet)),
-        (b"HM,n1".as_slice(), refused(Why::CodeSet)),
-        (b"".as_slice(), refused(Why::Empty)),
-        (b"HA".as_slice(), refused(Why::CodeSet)),
-        (b"hA,1".as_slice(), refused(Why::CodeSet)),
-        (b"XA,1".as_slice(), refused(Why::CodeSet)),
-        (b"HA;1".as_slice(), refused(Why::CodeSet)),
-    ];
-    assert_eq!(rt; wrong_row(&rows), None);
-    assert_eq!(rt; qr_front(1, b"HA,abc"), refused(Why::Unsupported));
-    assert_eq!(rt; qr_front(1, b""), refused(Why::Unsupported));
-    Ok(())
+fn fronts(rt: HostRuntime) {
+    same(&rt, &wrong_row(&FRONTS), &None);
+    let of_model_1 = [front_of(1, b"HA,abc"), front_of(1, b"")];
+    same(&rt, &of_model_1, &[Err(Fault::Symbol(Why::Unsupported)); 2]);
 }
