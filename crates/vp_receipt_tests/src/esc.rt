@@ -2,10 +2,16 @@
 mod rows;
 mod values;
 
+use crate::check::{all_hold, same};
 use std::alloc::{AllocError, Global};
 use std::test::Fail;
 use vp_dots::Fault;
 use vp_esc::{EscItem, EscReader};
+
+/// Appends the line of an item.
+fn push_line(item: &EscItem, lines: &mut Vec<u8>) -> Result<(), AllocError> {
+    lines.extend_from_slice(item.line().as_slice())
+}
 
 /// Appends the lines of the bytes' items, and answers the fault where there is one.
 fn push_lines(
@@ -16,7 +22,7 @@ fn push_lines(
     for byte in bytes {
         match reader.take(*byte) {
             Ok(None) => {}
-            Ok(Some(item)) => lines.extend_from_slice(item.line().as_slice())?,
+            Ok(Some(item)) => push_line(item, lines)?,
             Err(fault) => return Ok(Some(fault)),
         }
     }
@@ -75,33 +81,42 @@ fn wrong_fault(alloc: Global, rows: &[Faulty]) -> Result<Option<usize>, AllocErr
 
 #[test]
 fn faults(rt: HostRuntime) -> Result<(), Fail> {
-    assert_eq!(rt; wrong_fault(rt.alloc(), &FAULTS)?, None);
+    same(&rt, &wrong_fault(rt.alloc(), &FAULTS)?, &None);
     Ok(())
 }
 
-/// The line of a symbol of so many bytes that end at a 0, and whether it has more than are kept.
-fn long_symbol(alloc: Global, count: usize) -> Result<(usize, bool), AllocError> {
-    let mut bytes = Vec::new(alloc);
+/// Appends a symbol of so many bytes that end at a 0.
+fn push_symbol(bytes: &mut Vec<u8>, count: usize) -> Result<(), AllocError> {
     bytes.extend_from_slice(b"\x1D\x6B\x04")?;
     for _ in 0..count {
         bytes.push(b'A')?;
     }
     bytes.push(0)?;
+    Ok(())
+}
+
+/// How many bytes of such a symbol are kept, and whether there are more.
+fn long_symbol(alloc: Global, count: usize) -> Result<(usize, bool), AllocError> {
+    let mut bytes = Vec::new(alloc);
+    push_symbol(&mut bytes, count)?;
     Ok(match last_item(&mut EscReader::new(), bytes.as_slice()) {
         Some(EscItem::Symbol { data, more, .. }) => (data.len(), *more),
         _ => (0, false),
     })
 }
 
+/// How many bytes are sent, how many are kept, and whether there are more.
+static LONG_SYMBOLS: [(usize, usize, bool); 4] = [
+    (254, 254, false),
+    (255, 255, false),
+    (256, 255, true),
+    (300, 255, true),
+];
+
 #[test]
 fn long_symbols(rt: HostRuntime) -> Result<(), Fail> {
-    for (count, want) in [
-        (254, (254, false)),
-        (255, (255, false)),
-        (256, (255, true)),
-        (300, (255, true)),
-    ] {
-        assert_eq!(rt; long_symbol(rt.alloc(), count)?, want);
+    for (count, kept, more) in &LONG_SYMBOLS {
+        same(&rt, &long_symbol(rt.alloc(), *count)?, &(*kept, *more));
     }
     Ok(())
 }
@@ -116,39 +131,48 @@ fn gives_nothing(reader: &mut EscReader, bytes: &[u8]) -> bool {
     true
 }
 
+/// The start of ESC D with its first 31 stops.
+static STOPS: &[u8] = b"\x1BD\
+    \x01\x02\x03\x04\x05\x06\x07\x08\x09\x0A\x0B\x0C\x0D\x0E\x0F\x10\
+    \x11\x12\x13\x14\x15\x16\x17\x18\x19\x1A\x1B\x1C\x1D\x1E\x1F";
+
 #[test]
-fn stop_32_ends_the_stops(rt: HostRuntime) -> Result<(), Fail> {
+fn stop_32_ends_the_stops(rt: HostRuntime) {
     let mut reader = EscReader::new();
-    assert!(rt; gives_nothing(&mut reader, b"\x1B\x44"));
-    for stop in 1..0x20u8 {
-        assert!(rt; gives_nothing(&mut reader, &[stop]));
-    }
-    assert!(rt;
+    let found = [
+        gives_nothing(&mut reader, STOPS),
         matches!(
             reader.take(0x20),
             Ok(Some(EscItem::TabStops { end: None, .. }))
-        )
-    );
-    assert!(rt; matches!(reader.take(0x21), Ok(Some(EscItem::Character(0x21)))));
-    Ok(())
+        ),
+        matches!(reader.take(0x21), Ok(Some(EscItem::Character(0x21)))),
+    ];
+    all_hold(&rt, &found);
 }
 
 #[test]
 fn faults_stay(rt: HostRuntime) {
     let mut reader = EscReader::new();
-    assert!(rt; matches!(reader.take(0x1B), Ok(None)));
-    for byte in [0x7F, 0x0A, 0x1B, 0x40] {
-        assert!(rt; matches!(reader.take(byte), Err(Fault::Unknown(0x1B, 0x7F))));
-        assert!(rt; !reader.at_rest());
+    all_hold(&rt, &[gives_nothing(&mut reader, b"\x1B")]);
+    for byte in b"\x7F\x0A\x1B\x40" {
+        let fault = reader.take(*byte).err();
+        same(
+            &rt,
+            &(fault, reader.at_rest()),
+            &(Some(Fault::Unknown(0x1B, 0x7F)), false),
+        );
     }
 }
 
 #[test]
 fn text_in_runs(rt: HostRuntime) {
     let mut reader = EscReader::new();
-    assert!(rt; reader.take_text(b"7\x0D\x00~\xFF\x0Aa") == 5);
-    assert!(rt; matches!(reader.take(0x1B), Ok(None)));
-    assert!(rt; reader.take_text(b"@a") == 0);
-    assert!(rt; matches!(reader.take(0x40), Ok(Some(EscItem::Initialize))));
-    assert!(rt; reader.take_text(b"a\x09") == 1);
+    let found = [
+        reader.take_text(b"7\x0D\x00~\xFF\x0Aa") == 5,
+        matches!(reader.take(0x1B), Ok(None)),
+        reader.take_text(b"@a") == 0,
+        matches!(reader.take(0x40), Ok(Some(EscItem::Initialize))),
+        reader.take_text(b"a\x09") == 1,
+    ];
+    all_hold(&rt, &found);
 }

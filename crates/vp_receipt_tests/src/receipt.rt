@@ -7,9 +7,10 @@ mod page_runs;
 mod symbols;
 
 use std::alloc::{AllocError, Global};
+use std::process::Abort;
 use std::test::Fail;
 use vp_dots::Fault;
-use vp_esc::EscReader;
+use vp_esc::{EscItem, EscReader};
 use vp_glyph::{Sheet, Sheets};
 use vp_receipt::{Receipt, Width};
 
@@ -39,11 +40,18 @@ fn stairs(alloc: Global) -> Result<Sheets, Fail> {
     }
 }
 
-/// What is printed of what is sent, put out by so many bytes at a time.
-fn printed(alloc: Global, width: Width, sent: &[u8], room: usize) -> Result<Vec<u8>, Fail> {
-    let mut receipt = Receipt::new(alloc, stairs(alloc)?, width)?;
+/// A receipt on which nothing is printed yet.
+fn new_receipt(alloc: Global, width: Width) -> Result<Receipt, Fail> {
+    Ok(Receipt::new(alloc, stairs(alloc)?, width)?)
+}
+
+/// What is printed of parts that are sent, each of whole commands, put out by so many bytes at a time.
+fn printed(alloc: Global, width: Width, parts: &[&[u8]], room: usize) -> Result<Vec<u8>, Fail> {
+    let mut receipt = new_receipt(alloc, width)?;
     let mut paper = Vec::new(alloc);
-    let _ = print_on(&mut receipt, sent, room, &mut paper)?;
+    for part in parts {
+        let _ = print_on(&mut receipt, part, room, &mut paper)?;
+    }
     Ok(paper)
 }
 
@@ -58,13 +66,19 @@ fn print_on(
     let mut fault = None;
     for byte in sent {
         if let Ok(Some(item)) = reader.take(*byte) {
-            if !receipt.pending() {
-                fault = receipt.apply(item).err();
-            }
+            fault = apply(receipt, item);
             put_all(receipt, room, paper)?;
         }
     }
     Ok(fault)
+}
+
+/// Applies an item where nothing is pending, and answers its fault.
+fn apply(receipt: &mut Receipt, item: &EscItem) -> Option<Fault> {
+    if receipt.pending() {
+        return None;
+    }
+    receipt.apply(item).err()
 }
 
 fn put_all(receipt: &mut Receipt, room: usize, paper: &mut Vec<u8>) -> Result<(), AllocError> {
@@ -95,6 +109,14 @@ struct Strip {
     rows: &'static [(usize, &'static [u8])],
 }
 
+fn push_strip(paper: &mut Vec<u8>, strip: &Strip, width: usize) -> Result<(), AllocError> {
+    paper.extend_from_slice(strip.head)?;
+    for (count, row) in strip.rows {
+        rows(paper, *count, row, width)?;
+    }
+    Ok(())
+}
+
 fn wanted(alloc: Global, width: Width, strips: &[Strip]) -> Result<Vec<u8>, AllocError> {
     let bytes = match width {
         Width::W576 => 72,
@@ -102,10 +124,7 @@ fn wanted(alloc: Global, width: Width, strips: &[Strip]) -> Result<Vec<u8>, Allo
     };
     let mut paper = Vec::new(alloc);
     for strip in strips {
-        paper.extend_from_slice(strip.head)?;
-        for (count, row) in strip.rows {
-            rows(&mut paper, *count, row, bytes)?;
-        }
+        push_strip(&mut paper, strip, bytes)?;
     }
     Ok(paper)
 }
@@ -118,7 +137,7 @@ fn prints(
     strips: &[Strip],
     room: usize,
 ) -> Result<bool, Fail> {
-    let paper = printed(alloc, width, sent, room)?;
+    let paper = printed(alloc, width, &[sent], room)?;
     let want = wanted(alloc, width, strips)?;
     Ok(paper.as_slice() == want.as_slice())
 }
@@ -137,6 +156,13 @@ fn wrong_case(alloc: Global, width: Width, cases: &[Case]) -> Result<Option<usiz
         }
     }
     Ok(None)
+}
+
+/// Each case prints its strips on paper of this width, or the number of the first that doesn't is told.
+fn right(rt: &impl Abort, alloc: Global, width: Width, cases: &[Case]) -> Result<(), Fail> {
+    let wrong = wrong_case(alloc, width, cases)?;
+    assert_eq!(rt; wrong, None, "{width:?}");
+    Ok(())
 }
 
 /// The line of an M.

@@ -1,6 +1,7 @@
 //! The lines of every command of the table, by one spelling or more.
 use super::lists;
 use std::alloc::{AllocError, Global};
+use std::process::Abort;
 use std::test::Fail;
 
 /// The bytes of whole units, and their lines.
@@ -15,6 +16,13 @@ fn wrong_row(alloc: Global, rows: &[Row]) -> Result<Option<usize>, AllocError> {
         }
     }
     Ok(None)
+}
+
+/// Each row's bytes are whole units with its lines, or the number of the first for which that fails is told.
+fn right(rt: &impl Abort, alloc: Global, rows: &[Row]) -> Result<(), Fail> {
+    let wrong = wrong_row(alloc, rows)?;
+    assert_eq!(rt; wrong, None);
+    Ok(())
 }
 
 static SINGLE_BYTES: [Row; 10] = [
@@ -32,8 +40,7 @@ static SINGLE_BYTES: [Row; 10] = [
 
 #[test]
 fn single_bytes(rt: HostRuntime) -> Result<(), Fail> {
-    assert_eq!(rt; wrong_row(rt.alloc(), &SINGLE_BYTES)?, None);
-    Ok(())
+    right(&rt, rt.alloc(), &SINGLE_BYTES)
 }
 
 static AFTER_ESC: [Row; 42] = [
@@ -98,8 +105,7 @@ static AFTER_ESC: [Row; 42] = [
 
 #[test]
 fn after_esc(rt: HostRuntime) -> Result<(), Fail> {
-    assert_eq!(rt; wrong_row(rt.alloc(), &AFTER_ESC)?, None);
-    Ok(())
+    right(&rt, rt.alloc(), &AFTER_ESC)
 }
 
 static AFTER_GS: [Row; 27] = [
@@ -152,8 +158,7 @@ static AFTER_GS: [Row; 27] = [
 
 #[test]
 fn after_gs(rt: HostRuntime) -> Result<(), Fail> {
-    assert_eq!(rt; wrong_row(rt.alloc(), &AFTER_GS)?, None);
-    Ok(())
+    right(&rt, rt.alloc(), &AFTER_GS)
 }
 
 static QR: [Row; 15] = [
@@ -215,8 +220,7 @@ static QR: [Row; 15] = [
 
 #[test]
 fn qr(rt: HostRuntime) -> Result<(), Fail> {
-    assert_eq!(rt; wrong_row(rt.alloc(), &QR)?, None);
-    Ok(())
+    right(&rt, rt.alloc(), &QR)
 }
 
 static READ_PAST: [Row; 16] = [
@@ -243,6 +247,5 @@ static READ_PAST: [Row; 16] = [
 
 #[test]
 fn read_past(rt: HostRuntime) -> Result<(), Fail> {
-    assert_eq!(rt; wrong_row(rt.alloc(), &READ_PAST)?, None);
-    Ok(())
+    right(&rt, rt.alloc(), &READ_PAST)
 }

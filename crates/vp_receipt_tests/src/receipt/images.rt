@@ -1,5 +1,5 @@
 //! Rasters on paper.
-use super::{Case, M, Strip, wrong_case};
+use super::{Case, M, Strip, right};
 use std::test::Fail;
 use vp_receipt::Width;
 
@@ -44,7 +44,6 @@ static NARROW_RASTERS: [Case; 1] = [(
 
 #[test]
 fn rasters(rt: HostRuntime) -> Result<(), Fail> {
-    assert_eq!(rt; wrong_case(rt.alloc(), Width::W576, &RASTERS)?, None);
-    assert_eq!(rt; wrong_case(rt.alloc(), Width::W384, &NARROW_RASTERS)?, None);
-    Ok(())
+    right(&rt, rt.alloc(), Width::W576, &RASTERS)?;
+    right(&rt, rt.alloc(), Width::W384, &NARROW_RASTERS)
 }

@@ -1,7 +1,9 @@
 //! Lines of text: their places and styles, columns in them, and the cuts behind them.
-use super::{Case, M, Strip, put_all, stairs, wanted, wrong_case};
+use super::{Case, M, Strip, new_receipt, print_on, right, wanted};
+use crate::check::same;
+use std::alloc::Global;
+use std::process::Abort;
 use std::test::Fail;
-use vp_esc::EscItem;
 use vp_receipt::{Receipt, Width};
 
 static LINES: [Case; 7] = [
@@ -40,8 +42,7 @@ static LINES: [Case; 7] = [
 
 #[test]
 fn lines(rt: HostRuntime) -> Result<(), Fail> {
-    assert_eq!(rt; wrong_case(rt.alloc(), Width::W576, &LINES)?, None);
-    Ok(())
+    right(&rt, rt.alloc(), Width::W576, &LINES)
 }
 
 static FULL_LINE: [Case; 1] = [(
@@ -74,12 +75,8 @@ const NARROW_M: Strip = Strip {
 
 #[test]
 fn a_full_line_and_one_more(rt: HostRuntime) -> Result<(), Fail> {
-    assert_eq!(rt; wrong_case(rt.alloc(), Width::W576, &FULL_LINE)?, None);
-    assert_eq!(rt;
-        wrong_case(rt.alloc(), Width::W384, &FULL_NARROW_LINE)?,
-        None
-    );
-    Ok(())
+    right(&rt, rt.alloc(), Width::W576, &FULL_LINE)?;
+    right(&rt, rt.alloc(), Width::W384, &FULL_NARROW_LINE)
 }
 
 static PLACES: [Case; 4] = [
@@ -120,9 +117,8 @@ static NARROW_PLACES: [Case; 1] = [(b"\x1DL\x80\x01M\n", &[NARROW_M])];
 
 #[test]
 fn places(rt: HostRuntime) -> Result<(), Fail> {
-    assert_eq!(rt; wrong_case(rt.alloc(), Width::W576, &PLACES)?, None);
-    assert_eq!(rt; wrong_case(rt.alloc(), Width::W384, &NARROW_PLACES)?, None);
-    Ok(())
+    right(&rt, rt.alloc(), Width::W576, &PLACES)?;
+    right(&rt, rt.alloc(), Width::W384, &NARROW_PLACES)
 }
 
 static LAST_STOP: [Case; 1] = [(
@@ -146,8 +142,7 @@ static LAST_STOP: [Case; 1] = [(
 
 #[test]
 fn the_last_of_32_stops(rt: HostRuntime) -> Result<(), Fail> {
-    assert_eq!(rt; wrong_case(rt.alloc(), Width::W576, &LAST_STOP)?, None);
-    Ok(())
+    right(&rt, rt.alloc(), Width::W576, &LAST_STOP)
 }
 
 static STYLES: [Case; 5] = [
@@ -190,8 +185,7 @@ static STYLES: [Case; 5] = [
 
 #[test]
 fn styles(rt: HostRuntime) -> Result<(), Fail> {
-    assert_eq!(rt; wrong_case(rt.alloc(), Width::W576, &STYLES)?, None);
-    Ok(())
+    right(&rt, rt.alloc(), Width::W576, &STYLES)
 }
 
 static COLUMNS: [Case; 2] = [
@@ -213,8 +207,7 @@ static COLUMNS: [Case; 2] = [
 
 #[test]
 fn columns(rt: HostRuntime) -> Result<(), Fail> {
-    assert_eq!(rt; wrong_case(rt.alloc(), Width::W576, &COLUMNS)?, None);
-    Ok(())
+    right(&rt, rt.alloc(), Width::W576, &COLUMNS)
 }
 
 /// A cut that leaves some of the paper.
@@ -253,9 +246,8 @@ static NARROW_CUTS: [Case; 1] = [(
 
 #[test]
 fn cuts(rt: HostRuntime) -> Result<(), Fail> {
-    assert_eq!(rt; wrong_case(rt.alloc(), Width::W576, &CUTS)?, None);
-    assert_eq!(rt; wrong_case(rt.alloc(), Width::W384, &NARROW_CUTS)?, None);
-    Ok(())
+    right(&rt, rt.alloc(), Width::W576, &CUTS)?;
+    right(&rt, rt.alloc(), Width::W384, &NARROW_CUTS)
 }
 
 static THREE: [Strip; 1] = [Strip {
@@ -263,18 +255,29 @@ static THREE: [Strip; 1] = [Strip {
     rows: &[(24, b"\xFF\xFF\xFF\xFF\xF0"), (10, b"")],
 }];
 
+/// Takes three letters as a run of text where there is room for it: whether anything was pending, the room in
+/// the line before and after, and the height of the line.
+fn take_three(receipt: &mut Receipt) -> (bool, usize, usize, u16) {
+    let pending = receipt.pending();
+    let room = receipt.text_room();
+    if !pending && room >= 4 {
+        receipt.apply_text(b"M\x0DMM");
+    }
+    (pending, room, receipt.text_room(), receipt.line_rows())
+}
+
+/// A line feed is obeyed, and prints the three letters.
+fn three_are_printed(rt: &impl Abort, alloc: Global, receipt: &mut Receipt) -> Result<(), Fail> {
+    let mut paper = Vec::new(alloc);
+    let fault = print_on(receipt, b"\n", 4096, &mut paper)?;
+    let want = wanted(alloc, Width::W576, &THREE)?;
+    same(rt, &(fault, paper.as_slice()), &(None, want.as_slice()));
+    Ok(())
+}
+
 #[test]
 fn a_run_of_text(rt: HostRuntime) -> Result<(), Fail> {
-    let alloc = rt.alloc();
-    let mut receipt = Receipt::new(alloc, stairs(alloc)?, Width::W576)?;
-    assert!(rt; !receipt.pending());
-    assert!(rt; receipt.text_room() == 48);
-    receipt.apply_text(b"M\x0DMM");
-    assert!(rt; receipt.text_room() == 45);
-    assert!(rt; receipt.line_rows() == 24);
-    assert!(rt; matches!(receipt.apply(&EscItem::LineFeed), Ok(())));
-    let mut paper = Vec::new(alloc);
-    put_all(&mut receipt, 4096, &mut paper)?;
-    assert!(rt; paper.as_slice() == wanted(alloc, Width::W576, &THREE)?.as_slice());
-    Ok(())
+    let mut receipt = new_receipt(rt.alloc(), Width::W576)?;
+    same(&rt, &take_three(&mut receipt), &(false, 48, 45, 24));
+    three_are_printed(&rt, rt.alloc(), &mut receipt)
 }

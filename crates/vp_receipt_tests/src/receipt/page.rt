@@ -1,5 +1,8 @@
 //! Lines on a page: their directions, areas and positions, and what is printed of it.
-use super::{Case, Strip, prints, stairs, wrong_case};
+use super::{Case, Strip, apply, new_receipt, prints, right};
+use crate::check::same;
+use std::alloc::Global;
+use std::process::Abort;
 use std::test::Fail;
 use vp_esc::EscItem;
 use vp_receipt::{Receipt, Width};
@@ -37,8 +40,7 @@ static DIRECTIONS: [Case; 4] = [
 
 #[test]
 fn a_line_in_each_direction(rt: HostRuntime) -> Result<(), Fail> {
-    assert_eq!(rt; wrong_case(rt.alloc(), Width::W576, &DIRECTIONS)?, None);
-    Ok(())
+    right(&rt, rt.alloc(), Width::W576, &DIRECTIONS)
 }
 
 static AREAS: [Case; 2] = [
@@ -62,8 +64,7 @@ static AREAS: [Case; 2] = [
 
 #[test]
 fn areas(rt: HostRuntime) -> Result<(), Fail> {
-    assert_eq!(rt; wrong_case(rt.alloc(), Width::W576, &AREAS)?, None);
-    Ok(())
+    right(&rt, rt.alloc(), Width::W576, &AREAS)
 }
 
 /// Two Ms in one line of a page.
@@ -98,8 +99,7 @@ static POSITIONS: [Case; 4] = [
 
 #[test]
 fn positions_on_a_page(rt: HostRuntime) -> Result<(), Fail> {
-    assert_eq!(rt; wrong_case(rt.alloc(), Width::W576, &POSITIONS)?, None);
-    Ok(())
+    right(&rt, rt.alloc(), Width::W576, &POSITIONS)
 }
 
 static PAGES: [Case; 2] = [
@@ -134,9 +134,8 @@ static NARROW_PAGES: [Case; 1] = [(
 
 #[test]
 fn pages_are_printed(rt: HostRuntime) -> Result<(), Fail> {
-    assert_eq!(rt; wrong_case(rt.alloc(), Width::W576, &PAGES)?, None);
-    assert_eq!(rt; wrong_case(rt.alloc(), Width::W384, &NARROW_PAGES)?, None);
-    Ok(())
+    right(&rt, rt.alloc(), Width::W576, &PAGES)?;
+    right(&rt, rt.alloc(), Width::W384, &NARROW_PAGES)
 }
 
 static WHOLE_PAGE: [Strip; 1] = [Strip {
@@ -149,29 +148,29 @@ static WHOLE_NARROW_PAGE: [Strip; 1] = [Strip {
     rows: &[(1664, b"")],
 }];
 
-#[test]
-fn whole_pages_are_printed(rt: HostRuntime) -> Result<(), Fail> {
-    assert!(rt; prints(rt.alloc(), Width::W576, b"\x1BL\x0C", &WHOLE_PAGE, 4096)?);
-    assert!(rt;
-        prints(
-            rt.alloc(),
-            Width::W384,
-            b"\x1BL\x0C",
-            &WHOLE_NARROW_PAGE,
-            4096
-        )?
-    );
+/// A page on which nothing stands is printed as these strips.
+fn prints_page(rt: &impl Abort, alloc: Global, width: Width, strips: &[Strip]) -> Result<(), Fail> {
+    let is = prints(alloc, width, b"\x1BL\x0C", strips, 4096)?;
+    assert!(rt; is, "{width:?}");
     Ok(())
 }
 
 #[test]
+fn whole_pages_are_printed(rt: HostRuntime) -> Result<(), Fail> {
+    prints_page(&rt, rt.alloc(), Width::W576, &WHOLE_PAGE)?;
+    prints_page(&rt, rt.alloc(), Width::W384, &WHOLE_NARROW_PAGE)
+}
+
+/// Whether a receipt is at rest, whether anything is pending, and the rows of its page.
+fn state(receipt: &Receipt) -> (bool, bool, u16) {
+    (receipt.at_rest(), receipt.pending(), receipt.page_rows())
+}
+
+#[test]
 fn a_page_is_no_rest(rt: HostRuntime) -> Result<(), Fail> {
-    let mut receipt = Receipt::new(rt.alloc(), stairs(rt.alloc())?, Width::W576)?;
-    assert!(rt; receipt.at_rest());
-    assert_eq!(rt; receipt.page_rows(), 0);
-    let _ = receipt.apply(&EscItem::PageMode);
-    assert!(rt; !receipt.at_rest());
-    assert!(rt; !receipt.pending());
-    assert_eq!(rt; receipt.page_rows(), 1664);
+    let mut receipt = new_receipt(rt.alloc(), Width::W576)?;
+    same(&rt, &state(&receipt), &(true, false, 0));
+    let _ = apply(&mut receipt, &EscItem::PageMode);
+    same(&rt, &state(&receipt), &(false, false, 1664));
     Ok(())
 }

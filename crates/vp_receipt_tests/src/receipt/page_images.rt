@@ -1,8 +1,10 @@
 //! Rasters and symbols on a page.
-use super::{Case, Strip, print_on, printed, stairs, wrong_case};
+use super::page_runs::push_words;
+use super::{Case, Strip, printed, right};
+use crate::check::{all_hold, same};
 use std::alloc::{AllocError, Global};
 use std::test::Fail;
-use vp_receipt::{Receipt, Width};
+use vp_receipt::Width;
 
 static DIRECTIONS: [Case; 4] = [
     (
@@ -37,8 +39,7 @@ static DIRECTIONS: [Case; 4] = [
 
 #[test]
 fn a_raster_in_each_direction(rt: HostRuntime) -> Result<(), Fail> {
-    assert_eq!(rt; wrong_case(rt.alloc(), Width::W576, &DIRECTIONS)?, None);
-    Ok(())
+    right(&rt, rt.alloc(), Width::W576, &DIRECTIONS)
 }
 
 static AREAS: [Case; 3] = [
@@ -77,8 +78,7 @@ static AREAS: [Case; 3] = [
 
 #[test]
 fn rasters_in_areas(rt: HostRuntime) -> Result<(), Fail> {
-    assert_eq!(rt; wrong_case(rt.alloc(), Width::W576, &AREAS)?, None);
-    Ok(())
+    right(&rt, rt.alloc(), Width::W576, &AREAS)
 }
 
 static BELOW_EACH_OTHER: [Case; 1] = [(
@@ -100,11 +100,7 @@ static BELOW_EACH_OTHER: [Case; 1] = [(
 
 #[test]
 fn rasters_below_each_other(rt: HostRuntime) -> Result<(), Fail> {
-    assert_eq!(rt;
-        wrong_case(rt.alloc(), Width::W576, &BELOW_EACH_OTHER)?,
-        None
-    );
-    Ok(())
+    right(&rt, rt.alloc(), Width::W576, &BELOW_EACH_OTHER)
 }
 
 static PAST_THE_DEPTH: [Case; 2] = [
@@ -129,69 +125,81 @@ static PAST_THE_DEPTH: [Case; 2] = [
 
 #[test]
 fn rasters_past_the_depth_count_for_the_page(rt: HostRuntime) -> Result<(), Fail> {
-    assert_eq!(rt; wrong_case(rt.alloc(), Width::W576, &PAST_THE_DEPTH)?, None);
-    Ok(())
+    right(&rt, rt.alloc(), Width::W576, &PAST_THE_DEPTH)
 }
 
-/// A page whose lines run down, with a raster of one row: white up to a byte, and then each eighth dot black.
-fn long_row(alloc: Global, scale: u8, bytes: u16, at: u16) -> Result<Vec<u8>, AllocError> {
-    let mut sent = Vec::new(alloc);
+/// Sends a page whose lines run down, with a raster of one row: white up to a byte, and then each eighth dot
+/// black.
+fn send_long_row(sent: &mut Vec<u8>, scale: u8, bytes: u16, at: u16) -> Result<(), AllocError> {
     sent.extend_from_slice(b"\x1BL\x1BT\x03\x1Dv0")?;
-    sent.extend_from_slice(&[scale, (bytes % 256) as u8, (bytes / 256) as u8, 1, 0])?;
+    sent.push(scale)?;
+    push_words(sent, &[bytes, 1])?;
     for i in 0..bytes {
         sent.push(if i < at { 0 } else { 0x01 })?;
     }
     sent.push(0x0C)?;
-    Ok(sent)
+    Ok(())
 }
 
-/// How many bytes of the page are 1, and the last one.
-fn ones(alloc: Global, scale: u8, bytes: u16, at: u16) -> Result<(usize, usize, Option<u8>), Fail> {
-    let sent = long_row(alloc, scale, bytes, at)?;
-    let paper = printed(alloc, Width::W576, sent.as_slice(), 4096)?;
+/// How many bytes are 1.
+fn ones(paper: &[u8]) -> usize {
     let mut black = 0usize;
-    for byte in paper.as_slice() {
+    for byte in paper {
         if *byte == 0x01 {
             black = black.saturating_add(1);
         }
     }
-    Ok((paper.len(), black, paper.as_slice().last().copied()))
+    black
+}
+
+/// The scale of a row, its bytes, the byte up to which it is white, and how many bytes of the page are 1.
+static LONG_ROWS: [(u8, u16, u16, usize); 4] = [
+    (0, 208, 207, 1),
+    (0, 300, 207, 1),
+    (1, 104, 103, 2),
+    (1, 150, 103, 2),
+];
+
+/// How many bytes a page with the row has, how many of them are 1, and the last one.
+fn long_row(
+    alloc: Global,
+    scale: u8,
+    bytes: u16,
+    at: u16,
+) -> Result<(usize, usize, Option<u8>), Fail> {
+    let mut sent = Vec::new(alloc);
+    send_long_row(&mut sent, scale, bytes, at)?;
+    let paper = printed(alloc, Width::W576, &[sent.as_slice()], 4096)?;
+    let page = paper.as_slice();
+    Ok((page.len(), ones(page), page.last().copied()))
 }
 
 /// Rows as long as the longest line of a page: the last dot of 1,664 is kept, what comes after it is not
 /// seen.
 #[test]
 fn a_raster_as_long_as_the_page(rt: HostRuntime) -> Result<(), Fail> {
-    for (scale, bytes, at, black) in [
-        (0, 208, 207, 1),
-        (0, 300, 207, 1),
-        (1, 104, 103, 2),
-        (1, 150, 103, 2),
-    ] {
-        let want = (12 + 1664 * 72, black, Some(0x01));
-        assert_eq!(rt; ones(rt.alloc(), scale, bytes, at)?, want);
+    for (scale, bytes, at, black) in &LONG_ROWS {
+        let found = long_row(rt.alloc(), *scale, *bytes, *at)?;
+        same(&rt, &found, &(12 + 1664 * 72, *black, Some(0x01)));
     }
     Ok(())
 }
 
 /// Whether the same is printed on paper and on a page that begins so.
 fn same_on_a_page(alloc: Global, head: &[u8], sent: &[u8]) -> Result<bool, Fail> {
-    let paper = printed(alloc, Width::W576, sent, 4096)?;
-    let mut receipt = Receipt::new(alloc, stairs(alloc)?, Width::W576)?;
-    let mut page = Vec::new(alloc);
-    let _ = print_on(&mut receipt, head, 4096, &mut page)?;
-    let _ = print_on(&mut receipt, sent, 4096, &mut page)?;
-    let _ = print_on(&mut receipt, b"\x0C", 4096, &mut page)?;
+    let paper = printed(alloc, Width::W576, &[sent], 4096)?;
+    let page = printed(alloc, Width::W576, &[head, sent, b"\x0C"], 4096)?;
     Ok(page.as_slice() == paper.as_slice())
 }
 
 #[test]
 fn symbols_are_the_same_on_a_page(rt: HostRuntime) -> Result<(), Fail> {
-    let head = b"\x1BL\x1BW\0\0\0\0\x40\x02\x40\0";
     let bars = b"\x1Dh\x28\x1DH\x02\x1Dk\x04A1\0";
-    assert!(rt; same_on_a_page(rt.alloc(), head, bars)?);
-    let head = b"\x1BL\x1BW\0\0\0\0\x40\x02\x3F\0";
     let qr = b"\x1D(k\x0E\x001P0HELLO WORLD\x1D(k\x03\x001Q0";
-    assert!(rt; same_on_a_page(rt.alloc(), head, qr)?);
+    let agree = [
+        same_on_a_page(rt.alloc(), b"\x1BL\x1BW\0\0\0\0\x40\x02\x40\0", bars)?,
+        same_on_a_page(rt.alloc(), b"\x1BL\x1BW\0\0\0\0\x40\x02\x3F\0", qr)?,
+    ];
+    all_hold(&rt, &agree);
     Ok(())
 }

@@ -1,5 +1,6 @@
 //! Rasters on a page in runs of bytes: what they print is what they print byte by byte.
-use super::{Strip, print_on, put_all, stairs, wanted};
+use super::{Strip, new_receipt, print_on, put_all, wanted};
+use crate::check::all_hold;
 use std::alloc::{AllocError, Global};
 use std::test::Fail;
 use vp_esc::EscItem;
@@ -23,15 +24,43 @@ fn take_in_runs(receipt: &mut Receipt, bytes: &[u8], run: usize) {
     }
 }
 
-/// What a page prints that begins so, with a raster on it whose bytes come in runs.
+/// Prints a page that begins so, with a raster on it whose bytes come in runs.
+fn print_in_runs(
+    receipt: &mut Receipt,
+    head: &[u8],
+    bytes: &[u8],
+    run: usize,
+    paper: &mut Vec<u8>,
+) -> Result<(), AllocError> {
+    let _ = print_on(receipt, head, 4096, paper)?;
+    take_in_runs(receipt, bytes, run);
+    let _ = print_on(receipt, b"\x0C", 4096, paper)?;
+    put_all(receipt, 4096, paper)
+}
+
+/// What such a page prints.
 fn page_in_runs(alloc: Global, head: &[u8], bytes: &[u8], run: usize) -> Result<Vec<u8>, Fail> {
-    let mut receipt = Receipt::new(alloc, stairs(alloc)?, Width::W576)?;
+    let mut receipt = new_receipt(alloc, Width::W576)?;
     let mut paper = Vec::new(alloc);
-    let _ = print_on(&mut receipt, head, 4096, &mut paper)?;
-    take_in_runs(&mut receipt, bytes, run);
-    let _ = print_on(&mut receipt, b"\x0C", 4096, &mut paper)?;
-    put_all(&mut receipt, 4096, &mut paper)?;
+    print_in_runs(&mut receipt, head, bytes, run, &mut paper)?;
     Ok(paper)
+}
+
+/// Whether it prints this in each of these runs.
+fn prints_in_runs(
+    alloc: Global,
+    head: &[u8],
+    bytes: &[u8],
+    runs: &[usize],
+    want: &[u8],
+) -> Result<bool, Fail> {
+    for run in runs {
+        let paper = page_in_runs(alloc, head, bytes, *run)?;
+        if paper.as_slice() != want {
+            return Ok(false);
+        }
+    }
+    Ok(true)
 }
 
 /// Bytes of which none are alike near each other.
@@ -44,7 +73,7 @@ fn some_bytes(alloc: Global, count: u32) -> Result<Vec<u8>, AllocError> {
 }
 
 /// A raster on a page.
-#[derive(Clone, Copy)]
+#[derive(Drop)]
 struct OnPage {
     /// The area: its place, width and height.
     area: [u16; 4],
@@ -53,7 +82,7 @@ struct OnPage {
     rows: u16,
 }
 
-fn push_words(sent: &mut Vec<u8>, words: &[u16]) -> Result<(), AllocError> {
+pub fn push_words(sent: &mut Vec<u8>, words: &[u16]) -> Result<(), AllocError> {
     for word in words {
         sent.push((*word % 256) as u8)?;
         sent.push((*word / 256) as u8)?;
@@ -71,19 +100,21 @@ fn head(alloc: Global, raster: &OnPage, direction: u8) -> Result<Vec<u8>, AllocE
     Ok(sent)
 }
 
-/// Whether the raster prints the same in any runs.
+static RUNS: [usize; 5] = [1, 2, 10, 61, 10000];
+
+/// Whether the raster prints the same in any runs as byte by byte.
 fn same_in_direction(alloc: Global, raster: &OnPage, direction: u8) -> Result<bool, Fail> {
     let head = head(alloc, raster, direction)?;
     let count = u32::from(raster.bytes).wrapping_mul(u32::from(raster.rows));
     let came = some_bytes(alloc, count)?;
     let want = page_in_runs(alloc, head.as_slice(), came.as_slice(), 0)?;
-    for run in [1, 2, 10, 61, 10000] {
-        let paper = page_in_runs(alloc, head.as_slice(), came.as_slice(), run)?;
-        if paper.as_slice() != want.as_slice() {
-            return Ok(false);
-        }
-    }
-    Ok(true)
+    prints_in_runs(
+        alloc,
+        head.as_slice(),
+        came.as_slice(),
+        &RUNS,
+        want.as_slice(),
+    )
 }
 
 /// Whether it does in each direction.
@@ -114,14 +145,18 @@ fn same_in_scales(alloc: Global, area: [u16; 4], bytes: u16, rows: u16) -> Resul
 
 #[test]
 fn rasters_in_runs_on_a_page(rt: HostRuntime) -> Result<(), Fail> {
-    assert!(rt; same_in_scales(rt.alloc(), [9, 5, 60, 61], 3, 21)?);
+    let agree = same_in_scales(rt.alloc(), [9, 5, 60, 61], 3, 21)?;
+    all_hold(&rt, &[agree]);
     Ok(())
 }
 
 #[test]
 fn rasters_in_runs_past_their_area(rt: HostRuntime) -> Result<(), Fail> {
-    assert!(rt; same_in_scales(rt.alloc(), [3, 0, 19, 12], 3, 30)?);
-    assert!(rt; same_in_scales(rt.alloc(), [560, 1650, 100, 100], 2, 26)?);
+    let agree = [
+        same_in_scales(rt.alloc(), [3, 0, 19, 12], 3, 30)?,
+        same_in_scales(rt.alloc(), [560, 1650, 100, 100], 2, 26)?,
+    ];
+    all_hold(&rt, &agree);
     Ok(())
 }
 
@@ -133,11 +168,14 @@ fn rows_as_long_as_a_page_in_runs(rt: HostRuntime) -> Result<(), Fail> {
         bytes: 210,
         rows: 17,
     };
-    assert!(rt; same_in_runs(rt.alloc(), &raster)?);
+    let agree = same_in_runs(rt.alloc(), &raster)?;
+    all_hold(&rt, &[agree]);
     Ok(())
 }
 
 static NINE_BYTES: [u8; 9] = [0x80, 0x40, 0x20, 0x10, 8, 4, 2, 1, 0xff];
+
+static RUNS_OF_NINE: [usize; 5] = [0, 1, 4, 8, 9];
 
 static UP: [Strip; 1] = [Strip {
     head: b"P4\n576 8\n",
@@ -177,18 +215,21 @@ fn nine_rows(alloc: Global, direction: u8, strips: &[Strip]) -> Result<bool, Fai
     };
     let head = head(alloc, &raster, direction)?;
     let want = wanted(alloc, Width::W576, strips)?;
-    for run in [0, 1, 4, 8, 9] {
-        let paper = page_in_runs(alloc, head.as_slice(), &NINE_BYTES, run)?;
-        if paper.as_slice() != want.as_slice() {
-            return Ok(false);
-        }
-    }
-    Ok(true)
+    prints_in_runs(
+        alloc,
+        head.as_slice(),
+        &NINE_BYTES,
+        &RUNS_OF_NINE,
+        want.as_slice(),
+    )
 }
 
 #[test]
 fn nine_rows_in_runs(rt: HostRuntime) -> Result<(), Fail> {
-    assert!(rt; nine_rows(rt.alloc(), 1, &UP)?);
-    assert!(rt; nine_rows(rt.alloc(), 3, &DOWN)?);
+    let agree = [
+        nine_rows(rt.alloc(), 1, &UP)?,
+        nine_rows(rt.alloc(), 3, &DOWN)?,
+    ];
+    all_hold(&rt, &agree);
     Ok(())
 }

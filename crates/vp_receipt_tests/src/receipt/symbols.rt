@@ -1,13 +1,15 @@
 //! Symbols on paper, and those that are refused.
-use super::{Case, M, Strip, print_on, printed, stairs, wrong_case};
+use super::{Case, M, Strip, new_receipt, print_on, printed, right};
+use crate::check::same;
 use std::alloc::{AllocError, Global};
+use std::process::Abort;
 use std::test::Fail;
 use vp_dots::{Fault, Why};
-use vp_receipt::{Receipt, Width};
+use vp_receipt::Width;
 
 /// The fault of the last item, and how many bytes all of them print.
 fn refused(alloc: Global, sent: &[u8]) -> Result<(Option<Fault>, usize), Fail> {
-    let mut receipt = Receipt::new(alloc, stairs(alloc)?, Width::W576)?;
+    let mut receipt = new_receipt(alloc, Width::W576)?;
     let mut paper = Vec::new(alloc);
     let fault = print_on(&mut receipt, sent, 4096, &mut paper)?;
     Ok((fault, paper.len()))
@@ -16,15 +18,19 @@ fn refused(alloc: Global, sent: &[u8]) -> Result<(Option<Fault>, usize), Fail> {
 /// What is sent, and why the last item is refused.
 type Refusal = (&'static [u8], Fault);
 
-/// The first case whose last item isn't refused so, or in which anything is printed.
-fn wrong_refusal(alloc: Global, cases: &[Refusal]) -> Result<Option<usize>, Fail> {
-    for i in 0..cases.len() {
-        let (sent, fault) = cases[i];
-        if refused(alloc, sent)? != (Some(fault), 0) {
-            return Ok(Some(i));
-        }
+/// The last item of what is sent is refused so, and nothing is printed.
+fn is_refused(rt: &impl Abort, alloc: Global, sent: &[u8], fault: Fault) -> Result<(), Fail> {
+    let found = refused(alloc, sent)?;
+    assert_eq!(rt; found, (Some(fault), 0));
+    Ok(())
+}
+
+/// Each case is refused so.
+fn all_are_refused(rt: &impl Abort, alloc: Global, cases: &[Refusal]) -> Result<(), Fail> {
+    for (sent, fault) in cases {
+        is_refused(rt, alloc, sent, *fault)?;
     }
-    Ok(None)
+    Ok(())
 }
 
 /// The header and the first row of a symbol of 21 modules, each of one dot.
@@ -36,9 +42,9 @@ static FIRST_ROW: &[u8] = b"P4\n576 21\n\xFE\x2B\xF8\
 fn qr_symbols(rt: HostRuntime) -> Result<(), Fail> {
     let sent =
         b"\x1D(k\x03\x001E1\x1D(k\x03\x001C\x01\x1D(k\x0E\x001P0HELLO WORLD\x1D(k\x03\x001Q0";
-    let paper = printed(rt.alloc(), Width::W576, sent, 4096)?;
-    assert_eq!(rt; paper.len(), 10 + 21 * 72);
-    assert!(rt; paper.as_slice().starts_with(FIRST_ROW));
+    let paper = printed(rt.alloc(), Width::W576, &[sent], 4096)?;
+    let begins = paper.as_slice().starts_with(FIRST_ROW);
+    same(&rt, &(paper.len(), begins), &(10 + 21 * 72, true));
     Ok(())
 }
 
@@ -52,8 +58,7 @@ static REFUSED_QR: [Refusal; 2] = [
 
 #[test]
 fn refused_symbols(rt: HostRuntime) -> Result<(), Fail> {
-    assert_eq!(rt; wrong_refusal(rt.alloc(), &REFUSED_QR)?, None);
-    Ok(())
+    all_are_refused(&rt, rt.alloc(), &REFUSED_QR)
 }
 
 /// The bytes with so many of one kind between them.
@@ -77,9 +82,7 @@ fn filled(
 fn more_than_a_qr_symbol_holds(rt: HostRuntime) -> Result<(), Fail> {
     let front = b"\x1D(k\x90\x021P0";
     let sent = filled(rt.alloc(), front, b'1', 653, b"\x1D(k\x03\x001Q0")?;
-    let want = (Some(Fault::SymbolTooLong), 0);
-    assert_eq!(rt; refused(rt.alloc(), sent.as_slice())?, want);
-    Ok(())
+    is_refused(&rt, rt.alloc(), sent.as_slice(), Fault::SymbolTooLong)
 }
 
 #[test]
@@ -87,9 +90,7 @@ fn a_qr_symbol_wider_than_the_line(rt: HostRuntime) -> Result<(), Fail> {
     let front = b"\x1D(k\x8F\x021P0";
     let back = b"\x1D(k\x03\x001C\x0BM\x1D(k\x03\x001Q0";
     let sent = filled(rt.alloc(), front, b'1', 652, back)?;
-    let want = (Some(Fault::SymbolTooWide), 0);
-    assert_eq!(rt; refused(rt.alloc(), sent.as_slice())?, want);
-    Ok(())
+    is_refused(&rt, rt.alloc(), sent.as_slice(), Fault::SymbolTooWide)
 }
 
 static BAR_CODES: [Case; 2] = [
@@ -117,8 +118,7 @@ static BAR_CODES: [Case; 2] = [
 
 #[test]
 fn bar_codes(rt: HostRuntime) -> Result<(), Fail> {
-    assert_eq!(rt; wrong_case(rt.alloc(), Width::W576, &BAR_CODES)?, None);
-    Ok(())
+    right(&rt, rt.alloc(), Width::W576, &BAR_CODES)
 }
 
 static REFUSED_BARS: [Refusal; 6] = [
@@ -132,9 +132,7 @@ static REFUSED_BARS: [Refusal; 6] = [
 
 #[test]
 fn refused_bar_codes(rt: HostRuntime) -> Result<(), Fail> {
-    assert_eq!(rt; wrong_refusal(rt.alloc(), &REFUSED_BARS)?, None);
+    all_are_refused(&rt, rt.alloc(), &REFUSED_BARS)?;
     let sent = filled(rt.alloc(), b"M\x1Dw\x03\x1Dk\x04", b'A', 256, b"\0")?;
-    let want = (Some(Fault::SymbolTooLong), 0);
-    assert_eq!(rt; refused(rt.alloc(), sent.as_slice())?, want);
-    Ok(())
+    is_refused(&rt, rt.alloc(), sent.as_slice(), Fault::SymbolTooLong)
 }
