@@ -1,11 +1,12 @@
 //! Copies of labels of boxes, painted band by band, and the looks that they take.
-ghost use Rattle.std.specs.Prelude.{◌≡◌, ℕ, ◌*◌, ◌≤◌, List, IfOk, None};
+ghost use Rattle.std.specs.Prelude.{◌≡◌, ℕ, ◌*◌, ◌≤◌, ◌<◌, List, IfOk, None};
 ghost use Rattle.std.specs.List.{All};
 ghost use Rattle.vp_field.specs.Fields.{IsKept};
 ghost use Rattle.vp_bands.specs.Standing.{IsBefore};
 
 use crate::sheets::NONE;
 use std::alloc::Global;
+use std::process::Abort;
 use std::test::Fail;
 use vp_bands::{BANDS, BandPainter};
 use vp_dots::{Band, Op};
@@ -57,11 +58,26 @@ fn boxes(alloc: Global, all: &[(u16, u16, u16, Op)]) -> Result<Format, Fail>
 
 /// What a copy shows at its left edge: the first bytes of five of its rows, how many of all rows have a dot
 /// there, and how many looks it took.
-#[derive(Clone, Copy, Debug, PartialEq, Eq)]
+#[derive(Clone, Copy)]
 struct Copied {
     rows: [u8; 5],
     black: u64,
     looks: u64,
+}
+
+/// Adds what a band shows, with five rows of the label from one on.
+fn add(copied: &mut Copied, b: usize, band: &Band<156, 32>, from: usize)
+    requires low { b < BANDS }
+    requires from { from ≤ 8000 }
+{
+    for k in 0..32 {
+        let byte = band.row(k)[0];
+        copied.black = copied.black.saturating_add(u64::from(byte != 0));
+        let y = 32 * b + k;
+        if y >= from && y < from + 5 {
+            copied.rows[y - from] = byte;
+        }
+    }
 }
 
 /// The next copy of a label, with five rows from one on.
@@ -78,21 +94,37 @@ fn copy(
     requires before { IsBefore (record { a = None; b = None }) format.now.stored view 0 painter.old }
     ensures { IsBefore (record { a = None; b = None }) format.now.stored view 0 painter.new }
 {
-    let mut rows = [0; 5];
-    let mut black = 0u64;
+    let mut copied = Copied {
+        rows: [0; 5],
+        black: 0,
+        looks: 0,
+    };
     for b in 0..view.height.div_ceil(32) as usize {
         painter.paint(b, &NONE, format.stored(), view, band);
-        for k in 0..32 {
-            let byte = band.row(k)[0];
-            black = black.saturating_add(u64::from(byte != 0));
-            if 32 * b + k >= from && 32 * b + k < from + 5 {
-                rows[32 * b + k - from] = byte;
-            }
-        }
+        add(&mut copied, b, band, from);
     }
-    let looks = painter.looks();
+    copied.looks = painter.looks();
     painter.start();
-    Copied { rows, black, looks }
+    copied
+}
+
+/// The first and the second copy of a label of the fields of a format.
+fn both(
+    painter: &mut BandPainter,
+    format: &Format,
+    view: View,
+    from: usize,
+    band: &mut Band<156, 32>,
+) -> [Copied; 2]
+    requires kept { All (IsKept format.now.stored) format.now.fields }
+    requires narrow { view.width ≤ 1248 }
+    requires low { view.height ≤ 32 * BANDS }
+    requires from { from ≤ 8000 }
+{
+    painter.thread(&NONE, format, view);
+    let first = copy(painter, format, view, from, band);
+    let second = copy(painter, format, view, from, band);
+    [first, second]
 }
 
 /// The first and the second copy of a label with such boxes.
@@ -109,14 +141,26 @@ fn copies(
     let format = boxes(alloc, all)?;
     let mut band = Band::new(alloc)?;
     let mut painter = BandPainter::new(alloc)?;
-    painter.thread(&NONE, &format, view);
-    let first = copy(&mut painter, &format, view, from, &mut band);
-    let second = copy(&mut painter, &format, view, from, &mut band);
-    Ok([first, second])
+    Ok(both(&mut painter, &format, view, from, &mut band))
+}
+
+/// Each copy shows these five rows, and so many of all rows have a dot at the left edge.
+fn each_shows(rt: &impl Abort, copies: &[Copied; 2], rows: [u8; 5], black: u64) {
+    for copied in copies {
+        assert_eq!(rt; (copied.rows, copied.black), (rows, black));
+    }
+}
+
+/// Each copy took so many looks, at least and at most.
+fn each_took(rt: &impl Abort, copies: &[Copied; 2], least: u64, most: u64) {
+    for copied in copies {
+        let looks = copied.looks;
+        assert!(rt; looks >= least && looks <= most, "{looks} looks");
+    }
 }
 
 /// Five pairs of a box and a band.
-const OVER_THE_END: [(u16, u16, u16, Op); 3] = [
+static OVER_THE_END: [(u16, u16, u16, Op); 3] = [
     (30, 8, 4, Op::Black),
     (32, 8, 1, Op::White),
     (31, 4, 3, Op::Flip),
@@ -124,63 +168,54 @@ const OVER_THE_END: [(u16, u16, u16, Op); 3] = [
 
 #[test]
 fn boxes_over_the_end_of_a_band(rt: HostRuntime) -> Result<(), Fail> {
-    for copied in copies(rt.alloc(), &OVER_THE_END, label(34, false), 29)? {
-        assert_eq!(rt; copied.rows, [0, 0xff, 0x0f, 0xf0, 0x0f]);
-        assert_eq!(rt; copied.black, 4);
-        assert!(rt; copied.looks >= 5 && copied.looks <= 12);
-    }
+    let both = copies(rt.alloc(), &OVER_THE_END, label(34, false), 29)?;
+    each_shows(&rt, &both, [0, 0xff, 0x0f, 0xf0, 0x0f], 4);
+    each_took(&rt, &both, 5, 12);
     Ok(())
 }
 
 #[test]
 fn boxes_on_a_label_upside_down(rt: HostRuntime) -> Result<(), Fail> {
-    for copied in copies(rt.alloc(), &OVER_THE_END, label(34, true), 0)? {
-        assert_eq!(rt; copied.rows, [0xf0, 0x0f, 0xf0, 0xff, 0]);
-        assert_eq!(rt; copied.black, 4);
-        assert!(rt; copied.looks >= 3 && copied.looks <= 8);
-    }
+    let both = copies(rt.alloc(), &OVER_THE_END, label(34, true), 0)?;
+    each_shows(&rt, &both, [0xf0, 0x0f, 0xf0, 0xff, 0], 4);
+    each_took(&rt, &both, 3, 8);
     Ok(())
 }
 
 #[test]
 fn a_thousand_boxes_on_one_row(rt: HostRuntime) -> Result<(), Fail> {
     let all = [(0, 8, 1, Op::Black); 1000];
-    for copied in copies(rt.alloc(), &all, label(8000, false), 0)? {
-        assert_eq!(rt; copied.rows, [0xff, 0, 0, 0, 0]);
-        assert_eq!(rt; copied.black, 1);
-        assert!(rt; copied.looks >= 1000 && copied.looks <= 2250);
-    }
+    let both = copies(rt.alloc(), &all, label(8000, false), 0)?;
+    each_shows(&rt, &both, [0xff, 0, 0, 0, 0], 1);
+    each_took(&rt, &both, 1000, 2250);
     Ok(())
 }
 
 #[test]
 fn boxes_behind_the_label(rt: HostRuntime) -> Result<(), Fail> {
     let all = [(100, 8, 1, Op::Black), (34, 8, 1, Op::Black)];
-    for copied in copies(rt.alloc(), &all, label(34, false), 0)? {
-        assert_eq!(rt; copied.black, 0);
-        assert!(rt; copied.looks <= 2);
-    }
+    let both = copies(rt.alloc(), &all, label(34, false), 0)?;
+    each_shows(&rt, &both, [0; 5], 0);
+    each_took(&rt, &both, 0, 2);
     Ok(())
 }
 
 #[test]
 fn a_box_without_a_width(rt: HostRuntime) -> Result<(), Fail> {
-    for copied in copies(rt.alloc(), &[(0, 0, 34, Op::Black)], label(34, false), 0)? {
-        assert_eq!(rt; copied.black, 0);
-        assert!(rt; copied.looks >= 2 && copied.looks <= 6);
-    }
+    let all = [(0, 0, 34, Op::Black)];
+    let both = copies(rt.alloc(), &all, label(34, false), 0)?;
+    each_shows(&rt, &both, [0; 5], 0);
+    each_took(&rt, &both, 2, 6);
     Ok(())
 }
 
 #[test]
 fn the_order_of_closing(rt: HostRuntime) -> Result<(), Fail> {
     let black_first = [(32, 8, 1, Op::Black), (0, 8, 64, Op::Flip)];
-    for copied in copies(rt.alloc(), &black_first, label(64, false), 30)? {
-        assert_eq!(rt; copied.rows, [0xff, 0xff, 0, 0xff, 0xff]);
-    }
+    let both = copies(rt.alloc(), &black_first, label(64, false), 30)?;
+    each_shows(&rt, &both, [0xff, 0xff, 0, 0xff, 0xff], 63);
     let black_last = [(0, 8, 64, Op::Flip), (32, 8, 1, Op::Black)];
-    for copied in copies(rt.alloc(), &black_last, label(64, false), 30)? {
-        assert_eq!(rt; copied.rows, [0xff; 5]);
-    }
+    let both = copies(rt.alloc(), &black_last, label(64, false), 30)?;
+    each_shows(&rt, &both, [0xff; 5], 64);
     Ok(())
 }

@@ -2,7 +2,9 @@
 ghost use Rattle.std.specs.Prelude.{◌≡◌, ◌≤◌, ◌<◌, length};
 ghost use Rattle.vp_label_settings.specs.Laws.{IsDrawable, HasBytesAmong};
 
+use crate::same::{same, same_by};
 use crate::sheets::NONE;
+use std::process::Abort;
 use std::test::Fail;
 use vp_bars::Place;
 use vp_closing::kept;
@@ -92,60 +94,58 @@ fn wrong_bars(rows: &[(BarKind, &[u8], Result<(), Fault>)]) -> Option<usize> {
     None
 }
 
+const PLAIN: BarKind = BarKind::Code128 { mode: None };
+
+const UCC_CASE: BarKind = BarKind::Code128 {
+    mode: Some(Code128Mode::UccCase),
+};
+
+const UCC_EAN: BarKind = BarKind::Code128 {
+    mode: Some(Code128Mode::UccEan),
+};
+
+const PACKED: BarKind = BarKind::Code128 {
+    mode: Some(Code128Mode::Automatic),
+};
+
+const UNCHECKED: BarKind = BarKind::Code39 { check: false };
+
+/// Bars of data, and why they are refused.
+static BARS: [(BarKind, &[u8], Result<(), Fault>); 12] = [
+    (UCC_CASE, b"", Err(Fault::Symbol(Why::Unsupported))),
+    (UCC_EAN, b"1", Err(Fault::Symbol(Why::Unsupported))),
+    (PLAIN, b"", Err(Fault::Symbol(Why::Empty))),
+    (PLAIN, b">;1A", Err(Fault::Symbol(Why::Empty))),
+    (PLAIN, b"A>9", Err(Fault::Symbol(Why::CodeSet))),
+    (PLAIN, b">;123", Ok(())),
+    (PACKED, b"A>9", Ok(())),
+    (UNCHECKED, b"**", Err(Fault::Symbol(Why::Empty))),
+    (UNCHECKED, b"a", Err(Fault::Symbol(Why::Char))),
+    (UNCHECKED, &[b'A'; 256], Err(Fault::SymbolTooLong)),
+    (BarKind::Ean13, b"1", Ok(())),
+    (BarKind::Ean13, b"1 ", Err(Fault::Symbol(Why::Char))),
+];
+
 /// Bars whose kind isn't drawn, then those without data, then the first offence.
 #[test]
 fn bar_codes(rt: HostRuntime) -> Result<(), Fail> {
-    let plain = BarKind::Code128 { mode: None };
-    let ucc_case = BarKind::Code128 {
-        mode: Some(Code128Mode::UccCase),
-    };
-    let ucc_ean = BarKind::Code128 {
-        mode: Some(Code128Mode::UccEan),
-    };
-    let packed = BarKind::Code128 {
-        mode: Some(Code128Mode::Automatic),
-    };
-    let unchecked = BarKind::Code39 { check: false };
-    let rows = [
-        (
-            ucc_case,
-            b"".as_slice(),
-            Err(Fault::Symbol(Why::Unsupported)),
-        ),
-        (
-            ucc_ean,
-            b"1".as_slice(),
-            Err(Fault::Symbol(Why::Unsupported)),
-        ),
-        (plain, b"".as_slice(), Err(Fault::Symbol(Why::Empty))),
-        (plain, b">;1A".as_slice(), Err(Fault::Symbol(Why::Empty))),
-        (plain, b"A>9".as_slice(), Err(Fault::Symbol(Why::CodeSet))),
-        (plain, b">;123".as_slice(), Ok(())),
-        (packed, b"A>9".as_slice(), Ok(())),
-        (unchecked, b"**".as_slice(), Err(Fault::Symbol(Why::Empty))),
-        (unchecked, b"a".as_slice(), Err(Fault::Symbol(Why::Char))),
-        (unchecked, &[b'A'; 256], Err(Fault::SymbolTooLong)),
-        (BarKind::Ean13, b"1".as_slice(), Ok(())),
-        (
-            BarKind::Ean13,
-            b"1 ".as_slice(),
-            Err(Fault::Symbol(Why::Char)),
-        ),
-    ];
-    assert_eq!(rt; wrong_bars(&rows), None);
+    same(&rt, &wrong_bars(&BARS), &None);
     Ok(())
 }
+
+/// Where the text of bars is asked for, and where it is kept.
+static TEXT_PLACES: [(BarText, Place); 3] = [
+    (BarText::Omitted, Place::None),
+    (BarText::Below, Place::Below),
+    (BarText::Above, Place::Above),
+];
 
 /// The text above bars is one more.
 #[test]
 fn bar_texts(rt: HostRuntime) -> Result<(), Fail> {
     let code = vp_format::BarCode::Code39 { check: true };
-    let places = [
-        (BarText::Omitted, Place::None),
-        (BarText::Below, Place::Below),
-        (BarText::Above, Place::Above),
-    ];
-    for (text, place) in places.iter() {
+    let kind = BarKind::Code39 { check: true };
+    for (text, place) in &TEXT_PLACES {
         let kept = vp_format::Bars {
             bytes: Span { start: 0, len: 1 },
             code,
@@ -154,8 +154,11 @@ fn bar_texts(rt: HostRuntime) -> Result<(), Fail> {
             height: 10,
             place: *place,
         };
-        let kind = BarKind::Code39 { check: true };
-        assert_eq!(rt; bars(kind, *text, b"1"), Ok(vp_format::Content::Bars(kept)));
+        same(
+            &rt,
+            &bars(kind, *text, b"1"),
+            &Ok(vp_format::Content::Bars(kept)),
+        );
     }
     Ok(())
 }
@@ -176,14 +179,19 @@ fn qr(model: u16, stored: &[u8]) -> Result<vp_format::Content, Fault>
     )
 }
 
+/// The symbol of this name is refused.
+fn qr_refused(rt: &impl Abort, name: &str, found: Result<vp_format::Content, Fault>, why: Why) {
+    same_by(rt, name, &found, &Err(Fault::Symbol(why)));
+}
+
 /// A QR symbol is refused for its model, then for want of data, then by its front, then by its bytes.
 #[test]
 fn qr_codes(rt: HostRuntime) -> Result<(), Fail> {
-    assert_eq!(rt; qr(1, b""), Err(Fault::Symbol(Why::Unsupported)));
-    assert_eq!(rt; qr(2, b""), Err(Fault::Symbol(Why::Empty)));
-    assert_eq!(rt; qr(2, b"XA,1"), Err(Fault::Symbol(Why::CodeSet)));
-    assert_eq!(rt; qr(2, b"HM,N1A"), Err(Fault::Symbol(Why::Char)));
-    assert_eq!(rt; qr(2, b"HA,"), Err(Fault::Symbol(Why::Empty)));
+    qr_refused(&rt, "model 1", qr(1, b""), Why::Unsupported);
+    qr_refused(&rt, "no data", qr(2, b""), Why::Empty);
+    qr_refused(&rt, "XA,1", qr(2, b"XA,1"), Why::CodeSet);
+    qr_refused(&rt, "HM,N1A", qr(2, b"HM,N1A"), Why::Char);
+    qr_refused(&rt, "HA,", qr(2, b"HA,"), Why::Empty);
     let kept = vp_format::QrSymbol {
         bytes: Span { start: 3, len: 11 },
         level: Level::M,
@@ -192,7 +200,11 @@ fn qr_codes(rt: HostRuntime) -> Result<(), Fail> {
         version: 1,
         mask: 0,
     };
-    assert_eq!(rt; qr(2, b"MA,HELLO WORLD"), Ok(vp_format::Content::Qr(kept)));
+    same(
+        &rt,
+        &qr(2, b"MA,HELLO WORLD"),
+        &Ok(vp_format::Content::Qr(kept)),
+    );
     Ok(())
 }
 
@@ -216,12 +228,13 @@ fn picture(row_bytes: u16, rows: u32, stored: &[u8]) -> Result<(), Fault>
 /// Codes are refused in any row, and not behind the last one.
 #[test]
 fn pictures(rt: HostRuntime) -> Result<(), Fail> {
-    assert_eq!(rt; picture(1, 2, b":Z64:x"), Err(Fault::Graphic));
-    assert_eq!(rt; picture(2, 2, b"FFFF8:"), Err(Fault::Graphic));
-    assert_eq!(rt; picture(1, 1, b"80:x"), Ok(()));
-    assert_eq!(rt; picture(1, 2, b"80G"), Err(Fault::Graphic));
-    assert_eq!(rt; picture(1, 1, b"80G"), Ok(()));
-    assert_eq!(rt; picture(1, 99_999_999, b"zz0"), Ok(()));
+    let refused = Err(Fault::Graphic);
+    same_by(&rt, "a first row", &picture(1, 2, b":Z64:x"), &refused);
+    same_by(&rt, "a row's end", &picture(2, 2, b"FFFF8:"), &refused);
+    same_by(&rt, "behind the row", &picture(1, 1, b"80:x"), &Ok(()));
+    same_by(&rt, "a count in two rows", &picture(1, 2, b"80G"), &refused);
+    same_by(&rt, "a count behind a row", &picture(1, 1, b"80G"), &Ok(()));
+    same_by(&rt, "many rows", &picture(1, 99_999_999, b"zz0"), &Ok(()));
     Ok(())
 }
 
@@ -248,11 +261,21 @@ fn corner(position: Position, orientation: Orientation) -> Result<(i64, i64), Fa
 fn corners(rt: HostRuntime) -> Result<(), Fail> {
     let typeset = Position::Baseline { x: 10, y: 200 };
     let origin = Position::Corner { x: 10, y: 200 };
-    assert_eq!(rt; corner(typeset, Orientation::Normal), Ok((10, 170)));
-    assert_eq!(rt; corner(typeset, Orientation::Rotated), Ok((10, 200)));
-    assert_eq!(rt; corner(typeset, Orientation::Inverted), Ok((-14, 200)));
-    assert_eq!(rt; corner(typeset, Orientation::BottomUp), Ok((-20, 176)));
-    assert_eq!(rt; corner(origin, Orientation::BottomUp), Ok((10, 200)));
+    let found = [
+        corner(typeset, Orientation::Normal),
+        corner(typeset, Orientation::Rotated),
+        corner(typeset, Orientation::Inverted),
+        corner(typeset, Orientation::BottomUp),
+        corner(origin, Orientation::BottomUp),
+    ];
+    let want = [
+        Ok((10, 170)),
+        Ok((10, 200)),
+        Ok((-14, 200)),
+        Ok((-20, 176)),
+        Ok((10, 200)),
+    ];
+    same(&rt, &found, &want);
     Ok(())
 }
 
@@ -285,6 +308,10 @@ fn blocks(rt: HostRuntime) -> Result<(), Fail> {
         gap: -4,
         alignment: vp_glyph::Alignment::Right,
     };
-    assert_eq!(rt; content(b"a b", asked), Ok(vp_format::Content::Block(kept)));
+    same(
+        &rt,
+        &content(b"a b", asked),
+        &Ok(vp_format::Content::Block(kept)),
+    );
     Ok(())
 }

@@ -1,5 +1,7 @@
 //! Copies in pieces of each length: the room may end at any byte.
+use crate::same::same;
 use std::alloc::{AllocError, Global};
+use std::process::Abort;
 use std::test::Fail;
 use vp_copies::{Ahead, Copies};
 use vp_dots::Band;
@@ -11,36 +13,65 @@ fn paint(number: usize, band: &mut Band<156, 32>) {
     }
 }
 
-/// The bytes that are put out where there is room for so many at once.
-fn printed(alloc: Global, mut copies: Copies, room: usize) -> Result<Vec<u8>, AllocError> {
-    let mut band = Band::new(alloc)?;
+/// Puts out copies behind a text, where there is room for so many bytes at once.
+fn put_out(
+    copies: &mut Copies,
+    band: &mut Band<156, 32>,
+    room: usize,
+    text: &mut Vec<u8>,
+) -> Result<(), AllocError> {
     let mut out = [0u8; 64];
-    let mut text = Vec::new(alloc);
     for _ in 0..1000 {
         if !copies.is_pending() {
             break;
         }
         if let Ahead::Band(number) = copies.ahead() {
-            paint(number, &mut band);
+            paint(number, band);
         }
-        let n = copies.put_line(&band, &mut out[..room.min(64)]);
+        let n = copies.put_line(band, &mut out[..room.min(64)]);
         text.extend_from_slice(&out[..n])?;
+    }
+    Ok(())
+}
+
+/// Copies are put out as this text, where there is room for so many bytes at once.
+fn prints(
+    rt: &impl Abort,
+    alloc: Global,
+    mut copies: Copies,
+    room: usize,
+    want: &[u8],
+) -> Result<(), Fail> {
+    let mut band = Band::new(alloc)?;
+    let mut text = Vec::new(alloc);
+    put_out(&mut copies, &mut band, room, &mut text)?;
+    same(rt, &text.as_slice(), &want);
+    Ok(())
+}
+
+/// Two copies of an image of 34 rows of 8 dots.
+fn two_copies(alloc: Global) -> Result<Vec<u8>, AllocError> {
+    let mut text = Vec::new(alloc);
+    for _ in 0..2 {
+        text.extend_from_slice(b"P4\n8 34\n")?;
+        for y in 0..34u8 {
+            text.push(y)?;
+        }
     }
     Ok(text)
 }
 
 #[test]
 fn in_pieces(rt: HostRuntime) -> Result<(), Fail> {
-    let mut whole = Vec::new(rt.alloc());
-    for _ in 0..2 {
-        whole.extend_from_slice(b"P4\n8 34\n")?;
-        for y in 0..34u8 {
-            whole.push(y)?;
-        }
-    }
+    let want = two_copies(rt.alloc())?;
     for room in 1..10 {
-        let text = printed(rt.alloc(), Copies::new(8, 34, 2), room)?;
-        assert!(rt; text == whole);
+        prints(
+            &rt,
+            rt.alloc(),
+            Copies::new(8, 34, 2),
+            room,
+            want.as_slice(),
+        )?;
     }
     Ok(())
 }
@@ -48,15 +79,31 @@ fn in_pieces(rt: HostRuntime) -> Result<(), Fail> {
 /// A row of 12 dots fills two bytes.
 #[test]
 fn last_byte_of_a_row(rt: HostRuntime) -> Result<(), Fail> {
-    let text = printed(rt.alloc(), Copies::new(12, 2, 1), 3)?;
-    assert!(rt; text.as_slice() == b"P4\n12 2\n\x00\x00\x01\x00".as_slice());
-    Ok(())
+    let want = b"P4\n12 2\n\x00\x00\x01\x00";
+    prints(&rt, rt.alloc(), Copies::new(12, 2, 1), 3, want)
 }
 
 #[test]
 fn no_copies(rt: HostRuntime) -> Result<(), Fail> {
-    let text = printed(rt.alloc(), Copies::new(8, 34, 0), 1)?;
-    assert!(rt; text.is_empty());
+    prints(&rt, rt.alloc(), Copies::new(8, 34, 0), 1, b"")
+}
+
+/// What is wanted next where something is, and how many rows its band has, as copies are put out in pieces of
+/// at most eight bytes.
+fn see(
+    copies: &mut Copies,
+    band: &Band<156, 32>,
+    seen: &mut Vec<(Ahead, usize)>,
+) -> Result<(), AllocError> {
+    let mut out = [0u8; 8];
+    for _ in 0..36 {
+        if copies.is_pending() {
+            if copies.ahead() != Ahead::Nothing {
+                seen.push((copies.ahead(), copies.band_rows()))?;
+            }
+            copies.put_line(band, &mut out);
+        }
+    }
     Ok(())
 }
 
@@ -65,19 +112,11 @@ fn no_copies(rt: HostRuntime) -> Result<(), Fail> {
 fn bands(rt: HostRuntime) -> Result<(), Fail> {
     let mut band = Band::new(rt.alloc())?;
     paint(0, &mut band);
-    let mut out = [0u8; 8];
     let mut copies = Copies::new(8, 34, 1);
     let mut seen = Vec::new(rt.alloc());
-    for _ in 0..36 {
-        if copies.is_pending() {
-            if copies.ahead() != Ahead::Nothing {
-                seen.push((copies.ahead(), copies.band_rows()))?;
-            }
-            copies.put_line(&band, &mut out);
-        }
-    }
-    let bands = [(Ahead::Copy, 0), (Ahead::Band(0), 32), (Ahead::Band(1), 2)];
-    assert!(rt; seen.as_slice() == bands.as_slice());
-    assert!(rt; !copies.is_pending());
+    see(&mut copies, &band, &mut seen)?;
+    let want = [(Ahead::Copy, 0), (Ahead::Band(0), 32), (Ahead::Band(1), 2)];
+    same(&rt, &seen.as_slice(), &want.as_slice());
+    same(&rt, &copies.is_pending(), &false);
     Ok(())
 }

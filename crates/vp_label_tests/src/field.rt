@@ -7,6 +7,7 @@ mod pictures;
 mod symbols;
 mod texts;
 
+use crate::same::same_by;
 use std::alloc::Global;
 use std::process::Abort;
 use std::test::Fail;
@@ -79,18 +80,25 @@ impl Painter {
 /// Rows of a band from the top, so many that begin alike and go on white; below them it is white.
 type Rows = &'static [(usize, [u8; 6])];
 
-/// A band shows these rows.
-fn shows(rt: &impl Abort, painter: Painter, name: &str, want: Rows) {
-    let rows = painter.rows();
-    let mut rest = rows.iter();
+/// All rows of such a band; none where they are more than its 32.
+fn all_rows(want: Rows) -> Option<[[u8; 6]; 32]> {
+    let mut rows = [[0; 6]; 32];
+    let mut next = 0;
     for (count, row) in want {
         for _ in 0..*count {
-            assert_eq!(rt; rest.next(), Some(row), "{name}");
+            if next >= 32 {
+                return None;
+            }
+            rows[next] = *row;
+            next += 1;
         }
     }
-    for row in rest {
-        assert_eq!(rt; *row, [0; 6], "{name}");
-    }
+    Some(rows)
+}
+
+/// A band shows these rows.
+fn shows(rt: &impl Abort, painter: Painter, name: &str, want: Rows) {
+    same_by(rt, name, &Some(painter.rows()), &all_rows(want));
 }
 
 /// A label's width and its rows, and whether it is put out inverted, and mirrored.

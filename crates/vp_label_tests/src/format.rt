@@ -5,6 +5,7 @@ ghost use Rattle.vp_format.specs.declared.rows.Coding.TheVariants.{RunLength};
 
 mod places;
 
+use crate::same::same;
 use std::alloc::AllocError;
 use std::process::Abort;
 use vp_dots::{Fault, Op};
@@ -19,8 +20,8 @@ fn next_is(rt: &impl Abort, cursor: &mut RunRows, want: &[u8])
 {
     let mut row = [0; 164];
     let row = &mut row[..want.len()];
-    assert_eq!(rt; cursor.next_row(row), Ok(true));
-    assert_eq!(rt; &*row, want);
+    same(rt, &cursor.next_row(row), &Ok(true));
+    same(rt, &&*row, &want);
 }
 
 /// There is no further row, or it is refused.
@@ -30,7 +31,7 @@ fn next_answers(rt: &impl Abort, cursor: &mut RunRows, row_bytes: usize, want: R
     ensures { cursor.new.picture ≡ cursor.old.picture }
 {
     let mut row = [0; 164];
-    assert_eq!(rt; cursor.next_row(&mut row[..row_bytes]), want);
+    same(rt, &cursor.next_row(&mut row[..row_bytes]), &want);
 }
 
 #[test]
@@ -40,7 +41,7 @@ fn counts_add(rt: HostRuntime) {
     let mut cursor = RunRows::new(b"vMB", Coding::RunLength, 164, 1);
     next_is(&rt, &mut cursor, &want);
     next_answers(&rt, &mut cursor, 164, Ok(false));
-    assert_eq!(rt; cursor.read(), 3);
+    same(&rt, &cursor.read(), &3);
     let mut cursor = RunRows::new(b"MB", Coding::RunLength, 4, 1);
     next_is(&rt, &mut cursor, &[0xbb, 0xbb, 0xbb, 0xb0]);
 }
@@ -61,11 +62,10 @@ fn rows_repeat(rt: HostRuntime) {
     let codes = b"8F,:!3";
     let first = RunRows::new(codes, Coding::RunLength, 2, 4).mark();
     let (_, second) = row_behind(&rt, codes, first, [0x8f, 0x00]);
-    let (read, third) = row_behind(&rt, codes, second, [0x8f, 0x00]);
-    assert_eq!(rt; read, 4);
+    let (read_again, third) = row_behind(&rt, codes, second, [0x8f, 0x00]);
     let (_, fourth) = row_behind(&rt, codes, third, [0xff, 0xff]);
     let (read, last) = row_behind(&rt, codes, fourth, [0x30, 0x00]);
-    assert_eq!(rt; read, 2);
+    same(&rt, &(read_again, read), &(4, 2));
     let mut cursor = RunRows::resume(codes, Coding::RunLength, 2, 4, last);
     next_answers(&rt, &mut cursor, 2, Ok(false));
 }
@@ -92,35 +92,38 @@ fn last_row(codes: &[u8], others: &[u8; 1]) -> Result<u8, Fault> {
 #[test]
 fn thirty_four_rows(rt: HostRuntime) {
     // one row, repeated over a band's end, and another
-    let mut codes = [b':'; 36];
-    codes[0] = b'8';
-    codes[1] = b'0';
-    codes[34] = b'0';
-    codes[35] = b'1';
-    assert_eq!(rt; last_row(&codes, &[0x80]), Ok(0x01));
+    let repeated = last_row(b"80::::::::::::::::::::::::::::::::01", &[0x80]);
+    same(&rt, &repeated, &Ok(0x01));
     // a run over a band's end: 67 times F, and 0
-    assert_eq!(rt; last_row(b"iMF0", &[0xff]), Ok(0xf0));
+    same(&rt, &last_row(b"iMF0", &[0xff]), &Ok(0xf0));
 }
+
+/// The first row, of one byte, is refused.
+fn first_is_refused(rt: &impl Abort, codes: &[u8]) {
+    let mut cursor = RunRows::new(codes, Coding::RunLength, 1, 1);
+    next_answers(rt, &mut cursor, 1, Err(Fault::Graphic));
+}
+
+/// The first of two rows is this byte, and the second is refused, as often as it is asked for.
+fn second_is_refused(rt: &impl Abort, codes: &[u8], byte: u8) {
+    let mut cursor = RunRows::new(codes, Coding::RunLength, 1, 2);
+    next_is(rt, &mut cursor, &[byte]);
+    next_answers(rt, &mut cursor, 1, Err(Fault::Graphic));
+    next_answers(rt, &mut cursor, 1, Err(Fault::Graphic));
+}
+
+/// Codes that are refused in the first row.
+static REFUSED: [&[u8]; 6] = [b"1:", b"1G", b"G", b"G,", b"1G:", b" 1"];
 
 #[test]
 fn refusals(rt: HostRuntime) {
-    let mut cursor = RunRows::new(b":Z64:x", Coding::RunLength, 1, 2);
-    next_is(&rt, &mut cursor, &[0]);
-    next_answers(&rt, &mut cursor, 1, Err(Fault::Graphic));
-    next_answers(&rt, &mut cursor, 1, Err(Fault::Graphic));
-    let refused = [b"1:".as_slice(), b"1G", b"G", b"G,", b"1G:", b" 1"];
-    for codes in refused.iter() {
-        let mut cursor = RunRows::new(codes, Coding::RunLength, 1, 1);
-        next_answers(&rt, &mut cursor, 1, Err(Fault::Graphic));
+    second_is_refused(&rt, b":Z64:x", 0);
+    for codes in REFUSED.iter() {
+        first_is_refused(&rt, codes);
     }
-    next_is(
-        &rt,
-        &mut RunRows::new(b"12G", Coding::RunLength, 1, 1),
-        &[0x12],
-    );
-    let mut cursor = RunRows::new(b"12G", Coding::RunLength, 1, 2);
-    next_is(&rt, &mut cursor, &[0x12]);
-    next_answers(&rt, &mut cursor, 1, Err(Fault::Graphic));
+    let mut one_row = RunRows::new(b"12G", Coding::RunLength, 1, 1);
+    next_is(&rt, &mut one_row, &[0x12]);
+    second_is_refused(&rt, b"12G", 0x12);
 }
 
 #[test]
@@ -131,22 +134,23 @@ fn bytes_as_they_are(rt: HostRuntime) {
     next_is(&rt, &mut cursor, b":\0");
     next_is(&rt, &mut cursor, b"\0\0");
     next_answers(&rt, &mut cursor, 2, Ok(false));
-    assert_eq!(rt; cursor.read(), 3);
+    same(&rt, &cursor.read(), &3);
 }
 
 /// A format holds so many fields, and these bytes.
 fn holds(rt: &impl Abort, format: &Format, fields: usize, stored: &[u8]) {
-    assert_eq!(rt; format.len(), fields);
-    assert_eq!(rt; format.stored(), stored);
+    same(rt, &format.len(), &fields);
+    same(rt, &format.stored(), &stored);
 }
 
-#[test]
-fn a_format_holds_fields_and_bytes(rt: HostRuntime) -> Result<(), AllocError> {
-    let mut format = Format::new(rt.alloc())?;
-    holds(&rt, &format, 0, b"");
-    assert!(rt; format.keep(b"MB").is_ok());
-    assert!(rt; format.keep(b"0").is_ok());
-    holds(&rt, &format, 0, b"MB0");
+/// Bytes are kept behind those that are held, and these are then held.
+fn keeps(rt: &impl Abort, format: &mut Format, bytes: &[u8], stored: &[u8]) {
+    same(rt, &format.keep(bytes).is_ok(), &true);
+    holds(rt, format, 0, stored);
+}
+
+/// A text that is closed is one field more.
+fn closes_a_text(rt: &impl Abort, format: &mut Format, stored: &[u8]) {
     let text = Field {
         left: 8,
         top: -4,
@@ -158,8 +162,17 @@ fn a_format_holds_fields_and_bytes(rt: HostRuntime) -> Result<(), AllocError> {
             height: 24,
         }),
     };
-    assert!(rt; format.close(text).is_ok());
-    holds(&rt, &format, 1, b"MB0");
+    same(rt, &format.close(text).is_ok(), &true);
+    holds(rt, format, 1, stored);
+}
+
+#[test]
+fn a_format_holds_fields_and_bytes(rt: HostRuntime) -> Result<(), AllocError> {
+    let mut format = Format::new(rt.alloc())?;
+    holds(&rt, &format, 0, b"");
+    keeps(&rt, &mut format, b"MB", b"MB");
+    keeps(&rt, &mut format, b"0", b"MB0");
+    closes_a_text(&rt, &mut format, b"MB0");
     format.clear();
     holds(&rt, &format, 0, b"");
     Ok(())

@@ -4,7 +4,9 @@ mod places;
 mod symbols;
 mod texts;
 
+use crate::same::same;
 use std::alloc::{AllocError, Global};
+use std::process::Abort;
 use std::test::Fail;
 use vp_label_settings::{Content, Field, Home, InForce, STORE, Settings, Stored};
 use vp_zpl::{Command, ZplItem, ZplReader};
@@ -53,13 +55,19 @@ fn last(alloc: Global, stream: &[u8]) -> Result<Option<Field>, AllocError> {
     Ok(fields.as_slice().last().copied())
 }
 
-/// Whether a stream closes a field of this content last, or none where none is wanted.
-fn closes(alloc: Global, stream: &[u8], want: Option<Content>) -> Result<bool, AllocError> {
+/// A stream closes a field of this content last, or none where none is wanted.
+fn closes(
+    rt: &impl Abort,
+    alloc: Global,
+    stream: &[u8],
+    want: Option<Content>,
+) -> Result<(), AllocError> {
     let found = match last(alloc, stream)? {
         Some(field) => Some(field.content),
         None => None,
     };
-    Ok(found == want)
+    assert!(rt; found == want, "{stream:?}");
+    Ok(())
 }
 
 /// The first row behind whose stream these settings aren't in force, or other bytes are stored.
@@ -75,6 +83,16 @@ fn wrong_settings(
         }
     }
     Ok(None)
+}
+
+/// Behind each stream these settings are in force, and so many bytes are stored.
+fn right(
+    rt: &impl Abort,
+    alloc: Global,
+    rows: &[(&[u8], Settings, u32)],
+) -> Result<(), AllocError> {
+    same(rt, &wrong_settings(alloc, rows)?, &None);
+    Ok(())
 }
 
 /// The settings at the start, with these sizes of a label.
@@ -129,7 +147,7 @@ fn defaults(rt: HostRuntime) -> Result<(), Fail> {
         (b"^XA^PW1300^LL0^XZ".as_slice(), label(1248, 1), 0),
         (b"^XA^PW0^LL9000^XZ".as_slice(), label(1, 8000), 0),
     ];
-    assert_eq!(rt; wrong_settings(rt.alloc(), &rows)?, None);
+    right(&rt, rt.alloc(), &rows)?;
     Ok(())
 }
 
@@ -154,7 +172,7 @@ fn formats(rt: HostRuntime) -> Result<(), Fail> {
         (b"^XA^FDabc^FDde^GB1^FS".as_slice(), copies(1), 5),
         (b"^XA^FDabc^FS^XZ^XA".as_slice(), copies(1), 0),
     ];
-    assert_eq!(rt; wrong_settings(rt.alloc(), &rows)?, None);
+    right(&rt, rt.alloc(), &rows)?;
     Ok(())
 }
 
@@ -163,9 +181,12 @@ fn formats(rt: HostRuntime) -> Result<(), Fail> {
 fn room(rt: HostRuntime) -> Result<(), Fail> {
     let mut now = in_force(rt.alloc(), b"^XA^FD")?;
     now.stored = STORE - 2;
-    assert!(rt; now.has_room(b"ab"));
-    assert!(rt; !now.has_room(b"abc"));
+    same(
+        &rt,
+        &[now.has_room(b"ab"), now.has_room(b"abc")],
+        &[true, false],
+    );
     now.obey(Command::FormatEnd);
-    assert!(rt; now.has_room(b"abc"));
+    same(&rt, &now.has_room(b"abc"), &true);
     Ok(())
 }

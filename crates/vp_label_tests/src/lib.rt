@@ -17,6 +17,8 @@ mod label;
 #[cfg(test)]
 mod label_settings;
 #[cfg(test)]
+mod same;
+#[cfg(test)]
 mod sheets;
 #[cfg(test)]
 mod zpl;

@@ -3,8 +3,10 @@ mod pictures;
 mod rows;
 mod table;
 
+use crate::same::same;
 use arrayvec::ArrayVec;
 use std::alloc::{AllocError, Global};
+use std::process::Abort;
 use std::test::Fail;
 use vp_dots::list;
 use vp_zpl::ZplReader;
@@ -40,6 +42,12 @@ fn wrong_row(alloc: Global, rows: &[Row]) -> Result<Option<usize>, AllocError> {
         }
     }
     Ok(None)
+}
+
+/// Each row's bytes give its lines, and leave the reader so.
+fn right(rt: &impl Abort, alloc: Global, rows: &[Row]) -> Result<(), Fail> {
+    same(rt, &wrong_row(alloc, rows)?, &None);
+    Ok(())
 }
 
 static LABELS: [Row; 12] = [
@@ -104,8 +112,7 @@ static LABELS: [Row; 12] = [
 /// Labels of boxes, pictures, text and field blocks.
 #[test]
 fn labels(rt: HostRuntime) -> Result<(), Fail> {
-    assert_eq!(rt; wrong_row(rt.alloc(), &LABELS)?, None);
-    Ok(())
+    right(&rt, rt.alloc(), &LABELS)
 }
 
 static DATA: [Row; 16] = [
@@ -162,8 +169,7 @@ static DATA: [Row; 16] = [
 /// Data behind ^FH, and binary data.
 #[test]
 fn data(rt: HostRuntime) -> Result<(), Fail> {
-    assert_eq!(rt; wrong_row(rt.alloc(), &DATA)?, None);
-    Ok(())
+    right(&rt, rt.alloc(), &DATA)
 }
 
 static SPELLING: [Row; 24] = [
@@ -200,7 +206,16 @@ static SPELLING: [Row; 24] = [
 /// Names, and what parameters are kept.
 #[test]
 fn spelling(rt: HostRuntime) -> Result<(), Fail> {
-    assert_eq!(rt; wrong_row(rt.alloc(), &SPELLING)?, None);
+    right(&rt, rt.alloc(), &SPELLING)
+}
+
+/// Appends the lines of data.
+fn list_bytes(data: &[u8], lines: &mut Vec<u8>) -> Result<(), AllocError> {
+    for byte in data {
+        let mut line = ArrayVec::<u8, 8>::new();
+        list(&mut line, b"byte", &[*byte]);
+        lines.extend_from_slice(line.as_slice())?;
+    }
     Ok(())
 }
 
@@ -214,11 +229,7 @@ fn listing_by_run(
     let mut lines = Vec::new(alloc);
     list_items(&mut reader, head, &mut lines)?;
     let n = reader.take_data(input);
-    for byte in &input[..n] {
-        let mut line = ArrayVec::<u8, 8>::new();
-        list(&mut line, b"byte", &[*byte]);
-        lines.extend_from_slice(line.as_slice())?;
-    }
+    list_bytes(&input[..n], &mut lines)?;
     list_items(&mut reader, &input[n..], &mut lines)?;
     Ok((lines, n, reader.at_rest()))
 }
@@ -226,13 +237,17 @@ fn listing_by_run(
 /// Bytes, their front that is taken one by one, what stands behind it, and how long its run is.
 type Run = (&'static [u8], &'static [u8], &'static [u8], usize);
 
-/// The first row whose run isn't so long, or whose items and rest aren't those of single bytes.
+/// Whether a run is so long, and its items and rest are those of single bytes.
+fn is_run(alloc: Global, (whole, head, input, run): Run) -> Result<bool, AllocError> {
+    let (lines, rests) = listing(alloc, whole)?;
+    let (found, n, found_rests) = listing_by_run(alloc, head, input)?;
+    Ok(found.as_slice() == lines.as_slice() && n == run && found_rests == rests)
+}
+
+/// The first row whose run isn't so.
 fn wrong_run(alloc: Global, rows: &[Run]) -> Result<Option<usize>, AllocError> {
     for i in 0..rows.len() {
-        let (whole, head, input, run) = rows[i];
-        let (lines, rests) = listing(alloc, whole)?;
-        let (found, n, found_rests) = listing_by_run(alloc, head, input)?;
-        if found.as_slice() != lines.as_slice() || n != run || found_rests != rests {
+        if !is_run(alloc, rows[i])? {
             return Ok(Some(i));
         }
     }
@@ -262,6 +277,6 @@ static RUNS: [Run; 7] = [
 /// Data taken as runs, as far as they can be.
 #[test]
 fn runs(rt: HostRuntime) -> Result<(), Fail> {
-    assert_eq!(rt; wrong_run(rt.alloc(), &RUNS)?, None);
+    same(&rt, &wrong_run(rt.alloc(), &RUNS)?, &None);
     Ok(())
 }

@@ -2,7 +2,8 @@
 ghost use Rattle.std.specs.Prelude.{◌≤◌, length};
 ghost use Rattle.vp_field.specs.Fields.{IsKept};
 
-use super::{plain, whole};
+use super::{view_of, whole};
+use crate::same::same;
 use crate::sheets::NONE;
 use std::alloc::Global;
 use std::test::Fail;
@@ -61,6 +62,25 @@ fn over_bands(
     Ok(bytes)
 }
 
+/// The first byte of each row of a label of 128 rows that is put out so and shows a picture of 80 rows from
+/// the 31st on.
+fn wanted(stored: &[u8; 100], inverted: bool, mirrored: bool) -> [u8; 128] {
+    let mut bytes = [0; 128];
+    for y in 0..128u8 {
+        let v = if inverted { 127 - y } else { y };
+        let byte = match v.wrapping_sub(30) {
+            r if r < 80 => stored[usize::from(r)],
+            _ => 0,
+        };
+        bytes[usize::from(y)] = if inverted == mirrored {
+            byte
+        } else {
+            byte.reverse_bits()
+        };
+    }
+    bytes
+}
+
 #[test]
 fn pictures(rt: HostRuntime) -> Result<(), Fail> {
     let mut stored = [0x81u8; 100];
@@ -68,27 +88,12 @@ fn pictures(rt: HostRuntime) -> Result<(), Fail> {
         stored[usize::from(y)] = y;
     }
     for (inverted, mirrored) in [(false, false), (true, false), (false, true), (true, true)] {
-        let view = View {
-            inverted,
-            mirrored,
-            ..plain(8, 128)
-        };
+        let view = view_of((8, 128, inverted, mirrored));
+        let want = wanted(&stored, inverted, mirrored);
         for keeps in [false, true] {
             let field = picture(30, 80, Op::Black, &stored);
             let bytes = over_bands(rt.alloc(), view, keeps, &field, &stored)?;
-            for y in 0..128u8 {
-                let v = if inverted { 127 - y } else { y };
-                let byte = match v.wrapping_sub(30) {
-                    r if r < 80 => stored[usize::from(r)],
-                    _ => 0,
-                };
-                let want = if inverted == mirrored {
-                    byte
-                } else {
-                    byte.reverse_bits()
-                };
-                assert_eq!(rt; bytes[usize::from(y)], want);
-            }
+            same(&rt, &bytes, &want);
         }
     }
     Ok(())

@@ -3,7 +3,9 @@ ghost use Rattle.std.specs.Prelude.{◌≤◌, length, IfOk};
 ghost use Rattle.vp_field.specs.Fields.{IsKept};
 
 use super::{Painter, Rows, plain, shows, whole};
+use crate::same::same;
 use crate::sheets::NONE;
+use std::alloc::Global;
 use std::test::Fail;
 use vp_bars::Place;
 use vp_dots::{Fault, Op};
@@ -76,43 +78,65 @@ static DOWN: Rows = &[
     (4, [0x80, 0, 0, 0, 0, 0]),
 ];
 
+/// A band of a label of so many dots and rows with a field.
+fn painted(
+    alloc: Global,
+    width: u16,
+    height: u16,
+    stored: &[u8],
+    field: &Field,
+) -> Result<Painter, Fail>
+    requires { IsKept stored.now field.now }
+{
+    let mut page = Painter::new(alloc, plain(width, height), 0)?;
+    page.paint(&NONE, stored, field);
+    Ok(page)
+}
+
 #[test]
 fn bars(rt: HostRuntime) -> Result<(), Fail> {
-    let mut page = Painter::new(rt.alloc(), plain(80, 1), 0)?;
-    page.paint(&NONE, b"A", &bars_of(Orientation::Normal, b"A"));
-    shows(&rt, page, "bars", ALONG);
-    let mut page = Painter::new(rt.alloc(), plain(80, 80), 0)?;
-    page.paint(&NONE, b"A", &bars_of(Orientation::Rotated, b"A"));
-    shows(&rt, page, "turned bars", DOWN);
+    let along = bars_of(Orientation::Normal, b"A");
+    shows(
+        &rt,
+        painted(rt.alloc(), 80, 1, b"A", &along)?,
+        "bars",
+        ALONG,
+    );
+    let down = bars_of(Orientation::Rotated, b"A");
+    shows(
+        &rt,
+        painted(rt.alloc(), 80, 80, b"A", &down)?,
+        "turned bars",
+        DOWN,
+    );
     Ok(())
 }
 
 #[test]
 fn qr(rt: HostRuntime) -> Result<(), Fail> {
-    let mut page = Painter::new(rt.alloc(), plain(40, 40), 0)?;
     match symbol(b"HELLO WORLD") {
         Ok(field) => {
-            page.paint(&NONE, b"HELLO WORLD", &field);
-            assert_eq!(rt;
-                content_size(&NONE, b"HELLO WORLD", &field.content),
-                (21, 21)
-            );
+            let size = content_size(&NONE, b"HELLO WORLD", &field.content);
+            same(&rt, &size, &(21, 21));
+            let rows = painted(rt.alloc(), 40, 40, b"HELLO WORLD", &field)?.rows();
+            let found = [rows[0][0], rows[0][2], rows[6][0], rows[20][0]];
+            same(&rt, &found, &[0xfe, 0xf8, 0xfe, 0xfe]);
+            same(&rt, &rows[21], &[0; 6]);
         }
-        Err(_) => assert!(rt; false),
+        Err(fault) => same(&rt, &Some(fault), &None),
     }
-    let rows = page.rows();
-    assert_eq!(rt; (rows[0][0], rows[0][2]), (0xfe, 0xf8));
-    assert_eq!(rt; (rows[6][0], rows[20][0]), (0xfe, 0xfe));
-    assert_eq!(rt; rows[21], [0; 6]);
     Ok(())
 }
 
 #[test]
 fn data_without_a_symbol(rt: HostRuntime) -> Result<(), Fail> {
-    let mut page = Painter::new(rt.alloc(), plain(40, 40), 0)?;
     let field = bars_of(Orientation::Normal, b"a");
-    page.paint(&NONE, b"a", &field);
-    assert_eq!(rt; content_size(&NONE, b"a", &field.content), (0, 0));
-    shows(&rt, page, "no symbol", &[]);
+    same(&rt, &content_size(&NONE, b"a", &field.content), &(0, 0));
+    shows(
+        &rt,
+        painted(rt.alloc(), 40, 40, b"a", &field)?,
+        "no symbol",
+        &[],
+    );
     Ok(())
 }

@@ -1,11 +1,13 @@
 //! Each short code against a reader that looks at each place alone.
 ghost use Rattle.std.specs.Prelude.{◌≡◌, ◌<◌, ◌≤◌, ◌^◌, length, if◌then◌else◌, None, Some, IfSome};
 ghost use Rattle.vp_format.specs.Codes.{code_of, symbols_behind};
+ghost use Rattle.vp_format.specs.Cursors.{IsMark};
+ghost use Rattle.vp_format.specs.declared.rows.Coding.TheVariants.{RunLength};
 ghost use Rattle.vp_format.specs.Pictures.{shown, is_nothing, value_of};
 ghost use Rattle.vp_label_tests.specs.Codes.{told};
 
 use vp_dots::Fault;
-use vp_format::{Coding, RunRows};
+use vp_format::{Coding, RunMark, RunRows};
 
 /// What a byte of the codes is: a count, else a digit, else a digit up to the row's end, else whether it is
 /// the row before once more.
@@ -67,6 +69,52 @@ fn value_of_place(codes: &[u8], width: u128, place: u128, above: u8) -> Option<u
     Some(0)
 }
 
+/// The row behind a mark in three rows of one or two bytes, and what its reading answers.
+fn row_behind(codes: &[u8], row_bytes: usize, mark: RunMark) -> (Result<bool, Fault>, [u8; 2])
+    requires some { 0 < row_bytes }
+    requires narrow { row_bytes ≤ 2 }
+    requires mark { IsMark (record {
+      coding = RunLength;
+      codes = codes.now;
+      row_bytes = row_bytes;
+      rows = 3;
+    }) mark }
+{
+    let mut row = [0; 2];
+    let mut cursor = RunRows::resume(codes, Coding::RunLength, row_bytes, 3, mark);
+    let read = cursor.next_row(&mut row[..row_bytes]);
+    (read, row)
+}
+
+/// Brings the values of a row's places from the row above to this one; false where one is refused.
+fn step(codes: &[u8], row_bytes: usize, y: usize, above: &mut [u8; 4]) -> bool
+    requires some { 0 < row_bytes }
+    requires narrow { row_bytes ≤ 2 }
+    requires row { y < 3 }
+    requires few { length codes.now < 2 ^ 32 }
+{
+    for x in 0..2 * row_bytes {
+        let place = 2 * row_bytes * y + x;
+        let Some(v) = value_of_place(codes, 2 * row_bytes as u128, place as u128, above[x]) else {
+            return false;
+        };
+        above[x] = v;
+    }
+    true
+}
+
+/// Whether a row's first bytes are of these values, two in a byte.
+fn is_of(row: [u8; 2], row_bytes: usize, values: &[u8; 4]) -> bool
+    requires { row_bytes ≤ 2 }
+{
+    for i in 0..row_bytes {
+        if row[i] as u32 != 16 * values[2 * i] as u32 + values[2 * i + 1] as u32 {
+            return false;
+        }
+    }
+    true
+}
+
 /// Whether a picture of three rows of one or two bytes reads row by row, and from a mark on before each row,
 /// as its places do one by one.
 fn reads_by_places(codes: &[u8], row_bytes: usize) -> bool
@@ -75,33 +123,19 @@ fn reads_by_places(codes: &[u8], row_bytes: usize) -> bool
     requires few { length codes.now < 2 ^ 32 }
 {
     let mut cursor = RunRows::new(codes, Coding::RunLength, row_bytes, 3);
-    let mut above = [0; 4];
+    let mut values = [0; 4];
     for y in 0..3 {
-        let mark = cursor.mark();
+        let (marked_read, marked_row) = row_behind(codes, row_bytes, cursor.mark());
         let mut row = [0; 2];
         let read = cursor.next_row(&mut row[..row_bytes]);
-        let mut marked = [0; 2];
-        let resumed = RunRows::resume(codes, Coding::RunLength, row_bytes, 3, mark).next_row(
-            &mut marked[..row_bytes],
-        );
-        if read != resumed {
+        if read != marked_read {
             return false;
         }
-        for x in 0..2 * row_bytes {
-            let place = 2 * row_bytes * y + x;
-            let Some(v) = value_of_place(codes, 2 * row_bytes as u128, place as u128, above[x])
-            else {
-                return read == Err(Fault::Graphic);
-            };
-            above[x] = v;
+        if !step(codes, row_bytes, y, &mut values) {
+            return read == Err(Fault::Graphic);
         }
-        if read != Ok(true) || row != marked {
+        if read != Ok(true) || row != marked_row || !is_of(row, row_bytes, &values) {
             return false;
-        }
-        for i in 0..row_bytes {
-            if row[i] as u32 != 16 * above[2 * i] as u32 + above[2 * i + 1] as u32 {
-                return false;
-            }
         }
     }
     true

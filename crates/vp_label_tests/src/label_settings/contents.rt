@@ -72,19 +72,19 @@ fn qr(module_dots: u16) -> Option<Content> {
 /// data.
 #[test]
 fn contents(rt: HostRuntime) -> Result<(), Fail> {
-    for (stream, width, height, thickness, colour) in BOXES {
-        let want = frame(width, height, thickness, colour);
-        assert!(rt; closes(rt.alloc(), stream, want)?);
+    for (stream, width, height, thickness, colour) in &BOXES {
+        let want = frame(*width, *height, *thickness, *colour);
+        closes(&rt, rt.alloc(), *stream, want)?;
     }
-    for (stream, coding, row_bytes, rows, length) in PICTURES {
-        let want = picture(coding, row_bytes, rows, length);
-        assert!(rt; closes(rt.alloc(), stream, want)?);
+    for (stream, coding, row_bytes, rows, length) in &PICTURES {
+        let want = picture(*coding, *row_bytes, *rows, *length);
+        closes(&rt, rt.alloc(), *stream, want)?;
     }
-    for stream in NO_FIELDS {
-        assert!(rt; closes(rt.alloc(), stream, None)?);
+    for stream in &NO_FIELDS {
+        closes(&rt, rt.alloc(), *stream, None)?;
     }
-    for (stream, module_dots) in QR_SYMBOLS {
-        assert!(rt; closes(rt.alloc(), stream, qr(module_dots))?);
+    for (stream, module_dots) in &QR_SYMBOLS {
+        closes(&rt, rt.alloc(), *stream, qr(*module_dots))?;
     }
     Ok(())
 }

@@ -1,5 +1,6 @@
 //! Where fields stand, how they are turned and what they do.
 use super::{last, run};
+use crate::same::same;
 use std::alloc::{AllocError, Global};
 use std::test::Fail;
 use vp_dots::Op;
@@ -99,12 +100,21 @@ static PLACES: [(&[u8], Position, Orientation, Op); 15] = [
     (b"^XA^FWB^GB^FS", CORNER, Orientation::Normal, Op::Black),
 ];
 
+/// How many fields a stream closes.
+fn closed(alloc: Global, stream: &[u8]) -> Result<usize, AllocError> {
+    let (_, fields) = run(alloc, stream)?;
+    Ok(fields.len())
+}
+
 /// What a field leaves out is taken as it stands when the field is closed, and ^FS forgets what was said of
 /// it.
 #[test]
 fn at_closing(rt: HostRuntime) -> Result<(), Fail> {
-    assert_eq!(rt; wrong_place(rt.alloc(), &PLACES)?, None);
-    let (_, fields) = run(rt.alloc(), b"^XA^FDA^FS^FS^FO1,1^FS^FDB^XZ^FS")?;
-    assert_eq!(rt; fields.len(), 2);
+    same(&rt, &wrong_place(rt.alloc(), &PLACES)?, &None);
+    same(
+        &rt,
+        &closed(rt.alloc(), b"^XA^FDA^FS^FS^FO1,1^FS^FDB^XZ^FS")?,
+        &2,
+    );
     Ok(())
 }

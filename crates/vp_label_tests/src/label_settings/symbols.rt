@@ -99,9 +99,9 @@ static BARS: [(&[u8], BarKind, u8, u16, u16, BarText); 10] = [
 /// Bars take what they leave out from ^BY, and a wide bar is at least a dot wider than a narrow one.
 #[test]
 fn bar_codes(rt: HostRuntime) -> Result<(), Fail> {
-    for (stream, kind, narrow, wide, height, text) in BARS {
-        let want = bars(kind, narrow, wide, height, text);
-        assert!(rt; closes(rt.alloc(), stream, want)?);
+    for (stream, kind, narrow, wide, height, text) in &BARS {
+        let want = bars(*kind, *narrow, *wide, *height, *text);
+        closes(&rt, rt.alloc(), *stream, want)?;
     }
     Ok(())
 }

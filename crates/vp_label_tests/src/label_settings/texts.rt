@@ -41,8 +41,8 @@ static FONTS: [(&[u8], u16, u16); 17] = [
 /// ^CF and ^A: 0 counts as missing, and a width alone goes with the default's height.
 #[test]
 fn fonts(rt: HostRuntime) -> Result<(), Fail> {
-    for (stream, height, width) in FONTS {
-        assert!(rt; closes(rt.alloc(), stream, text(height, width))?);
+    for (stream, height, width) in &FONTS {
+        closes(&rt, rt.alloc(), *stream, text(*height, *width))?;
     }
     Ok(())
 }
@@ -103,10 +103,10 @@ static BLOCKS: [(&[u8], u16, u16, LineSpace, Alignment); 6] = [
 /// ^FB's ranges and defaults; it acts on texts, and the last one counts.
 #[test]
 fn blocks(rt: HostRuntime) -> Result<(), Fail> {
-    for (stream, width, lines, space, alignment) in BLOCKS {
-        let want = block(width, lines, space, alignment);
-        assert!(rt; closes(rt.alloc(), stream, want)?);
+    for (stream, width, lines, space, alignment) in &BLOCKS {
+        let want = block(*width, *lines, *space, *alignment);
+        closes(&rt, rt.alloc(), *stream, want)?;
     }
-    assert!(rt; closes(rt.alloc(), b"^XA^FB1^FS^FDA^FS", text(9, 5))?);
+    closes(&rt, rt.alloc(), b"^XA^FB1^FS^FDA^FS", text(9, 5))?;
     Ok(())
 }

@@ -1,5 +1,5 @@
 //! Commands of pictures and data, with their arguments and lines.
-use super::rows::{Row, wrong_row};
+use super::rows::{Row, right};
 use std::test::Fail;
 use vp_zpl::Command;
 use vp_zpl::item::{Colour, GraphicFormat, Justification, LineSpace};
@@ -113,6 +113,5 @@ static PICTURES_AND_DATA: [Row; 16] = [
 /// Pictures and data.
 #[test]
 fn pictures_and_data(rt: HostRuntime) -> Result<(), Fail> {
-    assert_eq!(rt; wrong_row(rt.alloc(), &PICTURES_AND_DATA)?, None);
-    Ok(())
+    right(&rt, rt.alloc(), &PICTURES_AND_DATA)
 }

@@ -1,7 +1,10 @@
 //! Rows of bytes, the command that they give last and their lines, in either case.
 use super::listing;
+use crate::same::same;
 use arrayvec::ArrayVec;
 use std::alloc::{AllocError, Global};
+use std::process::Abort;
+use std::test::Fail;
 use vp_zpl::{Command, ZplItem, ZplReader};
 
 /// The bytes of a command and the sign behind it, the command and its lines.
@@ -44,7 +47,7 @@ fn gives(alloc: Global, bytes: &[u8], command: Command, lines: &[u8]) -> Result<
 
 /// The first row whose bytes don't give its command last, or don't give its lines, with the name in capitals
 /// or in small letters.
-pub fn wrong_row(alloc: Global, rows: &[Row]) -> Result<Option<usize>, AllocError> {
+fn wrong_row(alloc: Global, rows: &[Row]) -> Result<Option<usize>, AllocError> {
     for i in 0..rows.len() {
         let (bytes, command, lines) = rows[i];
         let small = with_small_name(bytes);
@@ -55,6 +58,12 @@ pub fn wrong_row(alloc: Global, rows: &[Row]) -> Result<Option<usize>, AllocErro
         }
     }
     Ok(None)
+}
+
+/// Each row's bytes give its command last, and its lines, with the name in capitals and in small letters.
+pub fn right(rt: &impl Abort, alloc: Global, rows: &[Row]) -> Result<(), Fail> {
+    same(rt, &wrong_row(alloc, rows)?, &None);
+    Ok(())
 }
 
 /// Whether two commands and their arguments are the same.
@@ -70,9 +79,12 @@ fn is_same(a: Command, b: Command) -> bool {
         _ => {
             is_same_place(a, b)
                 || is_same_label(a, b)
+                || is_same_font(a, b)
                 || is_same_style(a, b)
+                || is_same_bars(a, b)
                 || is_same_symbol(a, b)
                 || is_same_picture(a, b)
+                || is_same_indicator(a, b)
         }
     }
 }
@@ -140,8 +152,8 @@ fn is_same_label(a: Command, b: Command) -> bool {
     }
 }
 
-/// How fields are drawn.
-fn is_same_style(a: Command, b: Command) -> bool {
+/// How texts are drawn.
+fn is_same_font(a: Command, b: Command) -> bool {
     match (a, b) {
         (
             Command::FieldOrientation { orientation },
@@ -168,6 +180,13 @@ fn is_same_style(a: Command, b: Command) -> bool {
                 width: other_width,
             },
         ) => orientation == other_orientation && height == other_height && width == other_width,
+        _ => false,
+    }
+}
+
+/// How bars and blocks are drawn.
+fn is_same_style(a: Command, b: Command) -> bool {
+    match (a, b) {
         (
             Command::BarDefaults {
                 module,
@@ -201,8 +220,8 @@ fn is_same_style(a: Command, b: Command) -> bool {
     }
 }
 
-/// A symbol.
-fn is_same_symbol(a: Command, b: Command) -> bool {
+/// Bars of one kind alone.
+fn is_same_bars(a: Command, b: Command) -> bool {
     match (a, b) {
         (
             Command::Code39 {
@@ -241,6 +260,13 @@ fn is_same_symbol(a: Command, b: Command) -> bool {
             && height == other_height
             && text == other_text
             && above == other_above,
+        _ => false,
+    }
+}
+
+/// Bars of a mode, or a QR symbol.
+fn is_same_symbol(a: Command, b: Command) -> bool {
+    match (a, b) {
         (
             Command::Code128 {
                 orientation,
@@ -272,7 +298,7 @@ fn is_same_symbol(a: Command, b: Command) -> bool {
     }
 }
 
-/// A box, a picture, or how data are read.
+/// A box or a picture.
 fn is_same_picture(a: Command, b: Command) -> bool {
     match (a, b) {
         (
@@ -309,6 +335,13 @@ fn is_same_picture(a: Command, b: Command) -> bool {
             && binary_bytes == other_binary_bytes
             && picture_bytes == other_picture_bytes
             && row_bytes == other_row_bytes,
+        _ => false,
+    }
+}
+
+/// How data are read.
+fn is_same_indicator(a: Command, b: Command) -> bool {
+    match (a, b) {
         (
             Command::FieldHex { indicator },
             Command::FieldHex {

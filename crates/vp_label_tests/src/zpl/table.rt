@@ -1,5 +1,5 @@
 //! Commands of formats, fields, fonts and symbols, with their arguments and lines.
-use super::rows::{Row, wrong_row};
+use super::rows::{Row, right};
 use std::test::Fail;
 use vp_zpl::Command;
 use vp_zpl::item::{Code128Mode, Colour, Orientation};
@@ -118,8 +118,7 @@ static FORMATS_AND_FIELDS: [Row; 20] = [
 /// Formats and fields.
 #[test]
 fn formats_and_fields(rt: HostRuntime) -> Result<(), Fail> {
-    assert_eq!(rt; wrong_row(rt.alloc(), &FORMATS_AND_FIELDS)?, None);
-    Ok(())
+    right(&rt, rt.alloc(), &FORMATS_AND_FIELDS)
 }
 
 static FONTS_AND_SYMBOLS: [Row; 14] = [
@@ -265,6 +264,5 @@ static FONTS_AND_SYMBOLS: [Row; 14] = [
 /// Fonts and symbols.
 #[test]
 fn fonts_and_symbols(rt: HostRuntime) -> Result<(), Fail> {
-    assert_eq!(rt; wrong_row(rt.alloc(), &FONTS_AND_SYMBOLS)?, None);
-    Ok(())
+    right(&rt, rt.alloc(), &FONTS_AND_SYMBOLS)
 }
