@@ -9,6 +9,17 @@ use std::test::Fail;
 use vp_dots::Fault;
 use vp_engine::Language;
 
+/// What the cases are streams of.
+#[derive(Clone, Copy)]
+pub enum Kind {
+    /// Receipts without pages and QR symbols.
+    Streams,
+    Pages,
+    /// QR symbols, and symbols on pages.
+    Symbols,
+    Labels,
+}
+
 /// A stream, what it must print, and its fault.
 #[derive(Drop)]
 pub struct Case {
@@ -68,15 +79,33 @@ fn add_dots(paper: &mut Vec<u8>, width: usize, left: usize, dots: &[u8]) -> Resu
     Ok(())
 }
 
+/// Adds so many rows of a label that are alike.
+fn add_alike(
+    paper: &mut Vec<u8>,
+    width: usize,
+    count: usize,
+    left: usize,
+    dots: &[u8],
+) -> Result<(), AllocError> {
+    for _ in 0..count {
+        add_dots(paper, width, left, dots)?;
+    }
+    Ok(())
+}
+
+/// Adds the header of an image of a label.
+fn add_head(paper: &mut Vec<u8>, width: usize, height: usize) -> Result<(), Fail> {
+    write!(paper, "P4\n{width} {height}\n")?;
+    Ok(())
+}
+
 /// Adds an image of a label.
 fn add(paper: &mut Vec<u8>, printed: &Printed) -> Result<(), Fail> {
-    write!(paper, "P4\n{} {}\n", printed.width, printed.height)?;
+    add_head(paper, printed.width, printed.height)?;
     let mut below = printed.height;
     for (count, left, dots) in printed.rows {
-        for _ in 0..*count {
-            add_dots(paper, printed.width, *left, dots)?;
-            below = below.wrapping_sub(1);
-        }
+        add_alike(paper, printed.width, *count, *left, dots)?;
+        below = below.wrapping_sub(*count);
     }
     repeat(paper, b"\0", below.wrapping_mul(printed.width.div_ceil(8)))?;
     Ok(())
@@ -93,30 +122,18 @@ fn receipt(alloc: Global, stream: &Stream) -> Result<Case, AllocError> {
     })
 }
 
-/// What these receipts must come to.
-fn receipts(alloc: Global, tables: &[&'static [Stream]]) -> Result<Vec<Case>, Fail> {
-    let mut cases = Vec::new(alloc);
+/// Adds what these receipts must come to.
+fn add_receipts(
+    alloc: Global,
+    cases: &mut Vec<Case>,
+    tables: &[&'static [Stream]],
+) -> Result<(), Fail> {
     for table in tables {
         for stream in *table {
             cases.push(receipt(alloc, stream)?)?;
         }
     }
-    Ok(cases)
-}
-
-/// What receipts without pages and QR symbols must come to.
-pub fn of_streams(alloc: Global) -> Result<Vec<Case>, Fail> {
-    receipts(alloc, &streams::tables())
-}
-
-/// What pages must come to.
-pub fn of_pages(alloc: Global) -> Result<Vec<Case>, Fail> {
-    receipts(alloc, &pages::tables())
-}
-
-/// What QR symbols, and symbols on pages, must come to.
-pub fn of_symbols(alloc: Global) -> Result<Vec<Case>, Fail> {
-    receipts(alloc, &symbols::tables())
+    Ok(())
 }
 
 /// The bytes of the images of a label.
@@ -142,21 +159,35 @@ fn label(alloc: Global, label: &Label) -> Result<Case, Fail> {
 }
 
 /// Adds what these labels must come to.
-fn add_labels(alloc: Global, cases: &mut Vec<Case>, labels: &'static [Label]) -> Result<(), Fail> {
-    for each in labels {
-        cases.push(label(alloc, each)?)?;
+fn add_labels(
+    alloc: Global,
+    cases: &mut Vec<Case>,
+    tables: &[&'static [Label]],
+) -> Result<(), Fail> {
+    for table in tables {
+        for each in *table {
+            cases.push(label(alloc, each)?)?;
+        }
     }
     Ok(())
 }
 
-/// What all labels must come to.
-pub fn of_labels(alloc: Global) -> Result<Vec<Case>, Fail> {
+/// Adds what the cases of a kind must come to.
+fn add_cases(alloc: Global, cases: &mut Vec<Case>, kind: Kind) -> Result<(), Fail> {
+    match kind {
+        Kind::Streams => add_receipts(alloc, cases, &streams::tables()),
+        Kind::Pages => add_receipts(alloc, cases, &pages::tables()),
+        Kind::Symbols => add_receipts(alloc, cases, &symbols::tables()),
+        Kind::Labels => {
+            add_labels(alloc, cases, &labels::tables())?;
+            add_labels(alloc, cases, &fields::tables())
+        }
+    }
+}
+
+/// What the cases of a kind must come to.
+pub fn cases(alloc: Global, kind: Kind) -> Result<Vec<Case>, Fail> {
     let mut cases = Vec::new(alloc);
-    for table in labels::tables() {
-        add_labels(alloc, &mut cases, table)?;
-    }
-    for table in fields::tables() {
-        add_labels(alloc, &mut cases, table)?;
-    }
+    add_cases(alloc, &mut cases, kind)?;
     Ok(cases)
 }

@@ -3,7 +3,7 @@ use crate::labels::{Label, Printed};
 use vp_dots::{Fault, Why};
 
 /// Texts.
-const TEXT_LABELS: &[Label] = &[
+static TEXT_LABELS: &[Label] = &[
     Label {
         name: "a text",
         bytes: b"^XA^PW16^LL24^A0N,24,12^FDM^FS^XZ",
@@ -110,7 +110,7 @@ const TEXT_LABELS: &[Label] = &[
 ];
 
 /// Blocks.
-const BLOCK_LABELS: &[Label] = &[
+static BLOCK_LABELS: &[Label] = &[
     Label {
         name: "a block to the right",
         bytes: b"^XA^PW24^LL48^A0N,24,12^FB24,2,0,R^FDMM M^FS^XZ",
@@ -196,7 +196,7 @@ const BLOCK_LABELS: &[Label] = &[
 ];
 
 /// Bar codes, and a QR symbol.
-const BAR_LABELS: &[Label] = &[
+static BAR_LABELS: &[Label] = &[
     Label {
         name: "Code 39",
         bytes: b"^XA^PW80^LL1^BY2,2.0,1^FO0,0^B3N,N,1,N,N^FDA^FS^XZ",
@@ -358,7 +358,7 @@ const BAR_LABELS: &[Label] = &[
 ];
 
 /// Symbols that are refused.
-const REFUSED_LABELS: &[Label] = &[
+static REFUSED_LABELS: &[Label] = &[
     Label {
         name: "a QR symbol without its level",
         bytes: b"^XA^BQN,2,2^FDXA,1^FS",

@@ -1,11 +1,12 @@
 //! What a printer holds while it prints: the rows of its line, its page and its band, and the bytes and
 //! fields of a format.
+use crate::checks::{same, same_at};
 use crate::sheet::repeated;
 use std::alloc::Global;
 use std::process::Abort;
 use std::test::Fail;
 use vp_dots::Fault;
-use vp_engine::{Held, Language, Printer, State};
+use vp_engine::{Language, Printer, State};
 use vp_glyph::Sheets;
 
 /// No font is drawn.
@@ -19,7 +20,7 @@ type Stage = (&'static [u8], usize, State, (u16, u16));
 const PAGE: &[u8] = b"\x1BL\x1BW\x00\x00\x00\x00\x10\x00\x02\x00\x0C";
 
 /// Each from a new printer on.
-const STAGES: &[&[Stage]] = &[
+static STAGES: &[&[Stage]] = &[
     // a line on paper
     &[
         (b"", 0, State::More, (0, 0)),
@@ -65,23 +66,21 @@ const STAGES: &[&[Stage]] = &[
     ],
 ];
 
-fn stages() -> &'static [&'static [Stage]] {
-    STAGES
-}
-
-/// So many rows are held of the line and of the page.
-fn has_rows(rt: &impl Abort, held: Held, (line, page): (u16, u16)) {
-    assert_eq!(rt; held.line_rows, line);
-    assert_eq!(rt; held.page_rows, page);
-}
-
-/// A stage of a printer comes to what it says.
-fn holds(rt: &impl Abort, printer: &mut Printer, room: &mut [u8], stage: &Stage) {
+/// A stage of a printer, the nth of all, comes to what it says.
+fn holds(rt: &impl Abort, printer: &mut Printer, room: &mut [u8], n: usize, stage: &Stage) {
     let (input, most, state, rows) = *stage;
     let most = most.min(room.len());
     let step = printer.step(input, &mut room[..most]);
-    assert_eq!(rt; step.state, state);
-    has_rows(rt, printer.held(), rows);
+    let held = printer.held();
+    let found = (step.state, (held.line_rows, held.page_rows));
+    same_at(rt, "stage", n, &found, &(state, rows));
+}
+
+/// The stages of a printer come to what they say.
+fn holds_all(rt: &impl Abort, printer: &mut Printer, room: &mut [u8], stages: &[Stage]) {
+    for (n, stage) in stages.iter().enumerate() {
+        holds(rt, printer, room, n, stage);
+    }
 }
 
 /// The stages of a new printer come to what they say.
@@ -92,32 +91,30 @@ fn each_holds(
     stages: &[Stage],
 ) -> Result<(), Fail> {
     let mut printer = Printer::new(alloc, Language::Receipt, NO_SHEETS)?;
-    for stage in stages {
-        holds(rt, &mut printer, room, stage);
-    }
+    holds_all(rt, &mut printer, room, stages);
     Ok(())
 }
 
 #[test]
 fn the_heights_of_line_and_page_are_held(rt: HostRuntime) -> Result<(), Fail> {
     let mut room = repeated(rt.alloc(), b"", b"\0", 2457)?;
-    for stages in stages() {
+    for stages in STAGES {
         each_holds(&rt, rt.alloc(), &mut room, stages)?;
     }
     Ok(())
 }
 
-/// A byte is put out.
-fn puts_a_byte(rt: &impl Abort, printer: &mut Printer, state: State, rows: (u16, u16)) {
-    holds(rt, printer, &mut [0], &(b"", 1, state, rows));
+/// The nth byte is put out.
+fn puts_a_byte(rt: &impl Abort, printer: &mut Printer, n: usize, state: State, rows: (u16, u16)) {
+    holds(rt, printer, &mut [0], n, &(b"", 1, state, rows));
 }
 
 fn holds_a_page(rt: &impl Abort, printer: &mut Printer) {
-    holds(rt, printer, &mut [], &(PAGE, 0, State::Room, (0, 1664)));
-    for _ in 0..152 {
-        puts_a_byte(rt, printer, State::Room, (0, 1664));
+    holds(rt, printer, &mut [], 0, &(PAGE, 0, State::Room, (0, 1664)));
+    for n in 1..153usize {
+        puts_a_byte(rt, printer, n, State::Room, (0, 1664));
     }
-    puts_a_byte(rt, printer, State::More, (0, 0));
+    puts_a_byte(rt, printer, 153, State::More, (0, 0));
 }
 
 #[test]
@@ -130,19 +127,15 @@ fn a_page_is_held_to_its_last_byte(rt: HostRuntime) -> Result<(), Fail> {
 /// A printer whose page isn't printed has not finished.
 fn is_unprinted(rt: &impl Abort, printer: &Printer) {
     if !printer.pending() {
-        assert_eq!(rt; printer.finish(), Err(Fault::Unprinted));
+        same(rt, "finish", &printer.finish(), &Err(Fault::Unprinted));
     }
 }
 
 #[test]
 fn a_page_is_unprinted(rt: HostRuntime) -> Result<(), Fail> {
     let mut printer = Printer::new(rt.alloc(), Language::Receipt, NO_SHEETS)?;
-    holds(
-        &rt,
-        &mut printer,
-        &mut [],
-        &(b"\x1BL", 0, State::More, (0, 1664)),
-    );
+    let begun = (b"\x1BL".as_slice(), 0, State::More, (0, 1664));
+    holds(&rt, &mut printer, &mut [], 0, &begun);
     is_unprinted(&rt, &printer);
     Ok(())
 }
@@ -152,7 +145,7 @@ fn a_page_is_unprinted(rt: HostRuntime) -> Result<(), Fail> {
 type LabelStage = (&'static [u8], usize, State, (u16, u32, u16));
 
 /// Three boxes over two bands: the bands are held one after the other.
-const BANDS: &[LabelStage] = &[
+static BANDS: &[LabelStage] = &[
     (
         b"^XA^PW8^LL34^FO0,30^GB8,4,4^FS^FO0,32^GB8,1,1,W^FS^FO0,31^FR^GB4,3,3^FS^XZ",
         7,
@@ -165,7 +158,7 @@ const BANDS: &[LabelStage] = &[
 ];
 
 /// A format of two fields and two copies.
-const FORMAT: &[LabelStage] = &[
+static FORMAT: &[LabelStage] = &[
     // data outside a format are none
     (b"^FDAB^FS", 0, State::More, (0, 0, 0)),
     (b"^XA^PW8^LL1^PQ2^FDAB", 0, State::More, (0, 2, 0)),
@@ -180,51 +173,46 @@ const FORMAT: &[LabelStage] = &[
     (b"", 1, State::More, (0, 0, 0)),
 ];
 
-fn bands() -> &'static [LabelStage] {
-    BANDS
-}
-
-fn format() -> &'static [LabelStage] {
-    FORMAT
-}
-
-/// A stage of a label comes to what it says.
-fn label_holds(rt: &impl Abort, printer: &mut Printer, stage: &LabelStage) {
+/// A stage of a label, the nth of all, comes to what it says.
+fn label_holds(rt: &impl Abort, printer: &mut Printer, n: usize, stage: &LabelStage) {
     let (input, room, state, counts) = *stage;
     let mut out = [0; 32];
     let step = printer.step(input, &mut out[..room.min(32)]);
     let held = printer.held();
-    assert_eq!(rt; step.state, state);
-    assert_eq!(rt; (held.band_rows, held.stored, held.fields), counts);
+    let found = (step.state, (held.band_rows, held.stored, held.fields));
+    same_at(rt, "stage", n, &found, &(state, counts));
+}
+
+/// The stages of a printer of labels come to what they say.
+fn label_holds_all(rt: &impl Abort, printer: &mut Printer, stages: &[LabelStage]) {
+    for (n, stage) in stages.iter().enumerate() {
+        label_holds(rt, printer, n, stage);
+    }
 }
 
 /// The stages of a new printer of labels come to what they say.
 fn each_label_holds(rt: &impl Abort, alloc: Global, stages: &[LabelStage]) -> Result<(), Fail> {
     let mut printer = Printer::new(alloc, Language::Label, NO_SHEETS)?;
-    for stage in stages {
-        label_holds(rt, &mut printer, stage);
-    }
+    label_holds_all(rt, &mut printer, stages);
     Ok(())
 }
 
 #[test]
 fn the_band_is_held(rt: HostRuntime) -> Result<(), Fail> {
-    each_label_holds(&rt, rt.alloc(), bands())
+    each_label_holds(&rt, rt.alloc(), BANDS)
 }
 
 #[test]
 fn the_format_is_held(rt: HostRuntime) -> Result<(), Fail> {
-    each_label_holds(&rt, rt.alloc(), format())
+    each_label_holds(&rt, rt.alloc(), FORMAT)
 }
 
 /// A label printer stops at the first byte that its store has no place for.
 fn stops_full(rt: &impl Abort, printer: &mut Printer, bytes: &[u8]) {
     let step = printer.step(bytes, &mut []);
-    assert_eq!(rt;
-        (step.taken, step.state),
-        (262_151, State::Stopped(Fault::StoreFull))
-    );
-    assert_eq!(rt; printer.held().stored, 262_144);
+    let found = (step.taken, step.state, printer.held().stored);
+    let want = (262_151, State::Stopped(Fault::StoreFull), 262_144);
+    same(rt, "taken, state, stored", &found, &want);
 }
 
 #[test]

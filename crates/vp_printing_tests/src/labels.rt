@@ -20,7 +20,7 @@ pub struct Label {
 }
 
 /// Boxes, some of which reverse others.
-const BOX_LABELS: &[Label] = &[
+static BOX_LABELS: &[Label] = &[
     Label {
         name: "a box",
         bytes: b"^XA^PW16^LL4^FO2,1^GB5,3,1^FS^XZ",
@@ -78,7 +78,7 @@ const BOX_LABELS: &[Label] = &[
 ];
 
 /// Boxes over the end of a band.
-const BAND_LABELS: &[Label] = &[
+static BAND_LABELS: &[Label] = &[
     Label {
         name: "boxes over one another in two bands",
         bytes: b"^XA^PW8^LL34^FO0,30^GB8,4,4^FS^FO0,32^GB8,1,1,W^FS^FO0,31^FR^GB4,3,3^FS^XZ",
@@ -148,7 +148,7 @@ const BAND_LABELS: &[Label] = &[
 ];
 
 /// Labels reversed, mirrored and inverted, and boxes at their edges.
-const TURNED_LABELS: &[Label] = &[
+static TURNED_LABELS: &[Label] = &[
     Label {
         name: "a box over one that reverses",
         bytes: b"^XA^PW8^LL1^FR^GB8,1,1^FS^GB8,1,1^FS^XZ",
@@ -237,7 +237,7 @@ const TURNED_LABELS: &[Label] = &[
 ];
 
 /// What stays from one format to the next, and what is skipped.
-const SETTING_LABELS: &[Label] = &[
+static SETTING_LABELS: &[Label] = &[
     Label {
         name: "settings that stay for the next label, and a quantity that doesn't",
         bytes: b"^XA^PW8^LL2^POI^LRY^PQ2^GB4,2,2^FS^GB2,1,1^FS^XZ^XA^GB3,1,1^FS^XZ",
@@ -305,7 +305,7 @@ const SETTING_LABELS: &[Label] = &[
 ];
 
 /// Pictures.
-const PICTURE_LABELS: &[Label] = &[
+static PICTURE_LABELS: &[Label] = &[
     Label {
         name: "a picture by run-length codes",
         bytes: b"^XA^PW32^LL1^FO0,0^GFA,4,4,4,MB^FS^XZ",
@@ -386,7 +386,7 @@ const PICTURE_LABELS: &[Label] = &[
 ];
 
 /// Streams that end early or are refused, and of other printers.
-const ENDED_LABELS: &[Label] = &[
+static ENDED_LABELS: &[Label] = &[
     Label {
         name: "a box that is cut off",
         bytes: b"^XA^FO0,0^GB8,2,2",

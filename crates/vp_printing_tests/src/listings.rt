@@ -1,4 +1,5 @@
 //! Streams, and their listings.
+use crate::checks::{same, same_at};
 use crate::pieces::{reader, writer};
 use crate::sheet::repeated;
 use std::alloc::Global;
@@ -23,7 +24,7 @@ struct Listing {
     answer: Result<u64, RunFault>,
 }
 
-const LISTINGS: &[Listing] = &[
+static LISTINGS: &[Listing] = &[
     Listing {
         languages: RECEIPTS,
         bytes: b"",
@@ -123,10 +124,6 @@ const LISTINGS: &[Listing] = &[
     },
 ];
 
-fn listings() -> &'static [Listing] {
-    LISTINGS
-}
-
 /// What was written, the answer, and how often it read and wrote.
 #[derive(Drop)]
 struct Outcome {
@@ -134,6 +131,16 @@ struct Outcome {
     answer: Result<u64, RunFault>,
     reads: usize,
     writes: usize,
+}
+
+impl Outcome {
+    /// How often it read, or else wrote.
+    fn calls(&self, fault: RunFault) -> usize {
+        match fault {
+            RunFault::Read => self.reads,
+            _ => self.writes,
+        }
+    }
 }
 
 /// Lists, with so many bytes a call.
@@ -156,16 +163,34 @@ fn listed(
     }
 }
 
+/// These bytes are listed in these lines, with this answer, with so many bytes a call.
+fn lists(
+    rt: &impl Abort,
+    alloc: Global,
+    language: Language,
+    bytes: &[u8],
+    most: usize,
+    want: (&[u8], Result<u64, RunFault>),
+) {
+    let whole = listed(alloc, language, bytes, most, (NEVER, NEVER));
+    same_at(
+        rt,
+        "bytes a call",
+        most,
+        &(whole.lines.as_slice(), whole.answer),
+        &want,
+    );
+}
+
 /// A listing in a language comes to its lines and its answer, with so many bytes a call.
 fn is_listed(rt: &impl Abort, alloc: Global, listing: &Listing, language: Language, most: usize) {
-    let whole = listed(alloc, language, listing.bytes, most, (NEVER, NEVER));
-    assert_eq!(rt; whole.lines.as_slice(), listing.lines);
-    assert_eq!(rt; whole.answer, listing.answer);
+    let want = (listing.lines, listing.answer);
+    lists(rt, alloc, language, listing.bytes, most, want);
 }
 
 #[test]
 fn each_item_has_its_line(rt: HostRuntime) {
-    for listing in listings() {
+    for listing in LISTINGS {
         for language in listing.languages {
             is_listed(&rt, rt.alloc(), listing, *language, 1000);
         }
@@ -174,7 +199,7 @@ fn each_item_has_its_line(rt: HostRuntime) {
 
 #[test]
 fn a_listing_is_cut_into_bytes(rt: HostRuntime) {
-    for listing in listings() {
+    for listing in LISTINGS {
         for language in listing.languages {
             for most in [1, 2, 3, 7, 8, 9] {
                 is_listed(&rt, rt.alloc(), listing, *language, most);
@@ -183,50 +208,68 @@ fn a_listing_is_cut_into_bytes(rt: HostRuntime) {
     }
 }
 
-/// What is written begins the listing.
-fn ends_in(rt: &impl Abort, listing: &Listing, cut: &Outcome, fault: RunFault) {
-    assert_eq!(rt; cut.answer, Err(fault));
-    assert!(rt; listing.lines.starts_with(cut.lines.as_slice()));
+/// A read or a write failed at this call, which was the last of its kind, and what is written begins the
+/// listing.
+fn ends_in(rt: &impl Abort, listing: &Listing, cut: &Outcome, (fault, call): (RunFault, usize)) {
+    let front = &listing.lines[..cut.lines.len().min(listing.lines.len())];
+    let found = (cut.answer, cut.lines.as_slice(), cut.calls(fault));
+    same_at(rt, "call", call, &found, &(Err(fault), front, call));
 }
 
-/// Each read of at most so many bytes fails.
-fn fail_reads(rt: &impl Abort, alloc: Global, listing: &Listing, language: Language, most: usize) {
-    let Outcome { reads, .. } = listed(alloc, language, listing.bytes, most, (NEVER, NEVER));
-    for call in 1..reads.saturating_add(1) {
-        let cut = listed(alloc, language, listing.bytes, most, (call, NEVER));
-        ends_in(rt, listing, &cut, RunFault::Read);
-        assert_eq!(rt; cut.reads, call);
-    }
+/// A read or a write of at most so many bytes fails.
+fn fail_at(
+    rt: &impl Abort,
+    alloc: Global,
+    listing: &Listing,
+    language: Language,
+    most: usize,
+    (fault, call): (RunFault, usize),
+) {
+    let fails = match fault {
+        RunFault::Read => (call, NEVER),
+        _ => (NEVER, call),
+    };
+    let cut = listed(alloc, language, listing.bytes, most, fails);
+    ends_in(rt, listing, &cut, (fault, call));
 }
 
-/// Each write of at most so many bytes fails.
-fn fail_writes(rt: &impl Abort, alloc: Global, listing: &Listing, language: Language, most: usize) {
-    let Outcome { writes, .. } = listed(alloc, language, listing.bytes, most, (NEVER, NEVER));
-    for call in 1..writes.saturating_add(1) {
-        let cut = listed(alloc, language, listing.bytes, most, (NEVER, call));
-        ends_in(rt, listing, &cut, RunFault::Write);
-        assert_eq!(rt; cut.writes, call);
+/// How often a listing that doesn't fail reads, or else writes, with so many bytes a call.
+fn calls(
+    alloc: Global,
+    listing: &Listing,
+    language: Language,
+    most: usize,
+    fault: RunFault,
+) -> usize {
+    listed(alloc, language, listing.bytes, most, (NEVER, NEVER)).calls(fault)
+}
+
+/// Each read, or each write, of at most so many bytes fails.
+fn fail_each(
+    rt: &impl Abort,
+    alloc: Global,
+    listing: &Listing,
+    language: Language,
+    most: usize,
+    fault: RunFault,
+) {
+    let calls = calls(alloc, listing, language, most, fault);
+    for call in 1..calls.saturating_add(1) {
+        fail_at(rt, alloc, listing, language, most, (fault, call));
     }
 }
 
 /// Each read and each write fails, up to the last: what is written begins the listing.
 #[test]
 fn a_failed_read_or_write_ends_a_listing(rt: HostRuntime) {
-    for listing in listings() {
+    for listing in LISTINGS {
         for language in listing.languages {
             for most in [1, 5, 1000] {
-                fail_reads(&rt, rt.alloc(), listing, *language, most);
-                fail_writes(&rt, rt.alloc(), listing, *language, most);
+                fail_each(&rt, rt.alloc(), listing, *language, most, RunFault::Read);
+                fail_each(&rt, rt.alloc(), listing, *language, most, RunFault::Write);
             }
         }
     }
-}
-
-/// A raster is listed, with so many bytes a call.
-fn lists(rt: &impl Abort, alloc: Global, bytes: &[u8], most: usize, lines: &[u8]) {
-    let long = listed(alloc, Language::Receipt, bytes, most, (NEVER, NEVER));
-    assert_eq!(rt; long.answer, Ok(10001));
-    assert_eq!(rt; long.lines.as_slice(), lines);
 }
 
 /// More lines than a buffer holds.
@@ -240,7 +283,14 @@ fn a_long_raster_is_listed(rt: HostRuntime) -> Result<(), Fail> {
         10000,
     )?;
     for most in [100, 4096, 100000] {
-        lists(&rt, rt.alloc(), &bytes, most, &lines);
+        lists(
+            &rt,
+            rt.alloc(),
+            Language::Receipt,
+            &bytes,
+            most,
+            (&lines, Ok(10001)),
+        );
     }
     Ok(())
 }

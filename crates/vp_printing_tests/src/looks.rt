@@ -1,4 +1,5 @@
 //! The looks at fields and links while copies of a label are painted, whole copy by whole copy.
+use crate::checks::same;
 use crate::sheet::{repeat, repeated};
 use std::alloc::{AllocError, Global};
 use std::process::Abort;
@@ -28,13 +29,40 @@ fn printing(alloc: Global, stream: &[u8]) -> Result<Label, AllocError> {
     Ok(label)
 }
 
-/// A copy of so many bytes takes so many looks, at least and at most.
-fn a_copy_takes(rt: &impl Abort, label: &mut Label, bytes: usize, (least, most): (u64, u64)) {
-    assert!(rt; label.pending());
+/// Puts out so many bytes, one a call, and says how many there were.
+fn put_bytes(label: &mut Label, bytes: usize) -> usize {
+    let mut put: usize = 0;
     for _ in 0..bytes {
-        assert_eq!(rt; label.put(&mut [0]), 1);
+        put = put.saturating_add(label.put(&mut [0]));
     }
-    assert!(rt; least <= label.visits() && label.visits() <= most);
+    put
+}
+
+/// A copy is pending, has so many bytes, and takes so many looks, at least and at most.
+fn a_copy_takes(rt: &impl Abort, label: &mut Label, bytes: usize, (least, most): (u64, u64)) {
+    let pending = label.pending();
+    let put = put_bytes(label, bytes);
+    let looks = label.visits();
+    let few = looks.max(least).min(most);
+    same(
+        rt,
+        "pending, bytes, looks",
+        &(pending, put, looks),
+        &(true, bytes, few),
+    );
+}
+
+/// Each copy takes so many looks, and nothing is pending behind the last.
+fn copies_take(
+    rt: &impl Abort,
+    label: &mut Label,
+    (copies, bytes): (usize, usize),
+    looks: (u64, u64),
+) {
+    for _ in 0..copies {
+        a_copy_takes(rt, label, bytes, looks);
+    }
+    same(rt, "pending", &label.pending(), &false);
 }
 
 /// Each copy of so many bytes takes so many looks, at least and at most.
@@ -42,14 +70,11 @@ fn takes(
     rt: &impl Abort,
     alloc: Global,
     stream: &[u8],
-    (copies, bytes): (usize, usize),
+    copies: (usize, usize),
     looks: (u64, u64),
 ) -> Result<(), Fail> {
     let mut label = printing(alloc, stream)?;
-    for _ in 0..copies {
-        a_copy_takes(rt, &mut label, bytes, looks);
-    }
-    assert!(rt; !label.pending());
+    copies_take(rt, &mut label, copies, looks);
     Ok(())
 }
 

@@ -4,7 +4,7 @@ use vp_dots::Fault;
 use vp_engine::Language;
 
 /// Rasters in each direction.
-const RASTER_PAGES: &[Stream] = &[
+static RASTER_PAGES: &[Stream] = &[
     Stream {
         name: "a raster along a page",
         language: Language::Receipt,
@@ -68,7 +68,7 @@ const RASTER_PAGES: &[Stream] = &[
 ];
 
 /// Areas, and how pages end.
-const AREA_PAGES: &[Stream] = &[
+static AREA_PAGES: &[Stream] = &[
     Stream {
         name: "an area that is cancelled beside another",
         language: Language::Receipt,

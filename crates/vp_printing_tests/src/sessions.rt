@@ -1,8 +1,9 @@
 //! What stands from one call to the next: a session behind a failed write and behind the end of the
 //! input, a printer without room, and the faults of a format that is full.
+use crate::checks::{same, same_at};
 use crate::pieces::{Sips, writer};
-use crate::sheet::{repeat, repeated, sheet, sheets};
-use crate::ways::{Pumped, pump};
+use crate::sheet::{joined, repeat, repeated, sheet, sheets};
+use crate::ways::pump;
 use std::alloc::Global;
 use std::process::Abort;
 use std::test::Fail;
@@ -21,7 +22,7 @@ fn pumps<K: Sink>(
     writer: &mut K,
     want: Result<Report, RunFault>,
 ) {
-    assert_eq!(rt; session.pump(reader, writer), want);
+    same(rt, "answer", &session.pump(reader, writer), &want);
 }
 
 /// A stream, and how many bytes it prints.
@@ -34,7 +35,7 @@ struct Written {
 /// Reverses one box by another, on two copies.
 const TWICE: &[u8] = b"^XA^PW16^LL2^PQ2^FO0,0^GB8,2,2^FS^FO4,0^FR^GB8,2,2^FS^XZ";
 
-const WRITTEN: &[Written] = &[
+static WRITTEN: &[Written] = &[
     Written {
         language: Language::Receipt,
         bytes: b"\x1Dv0\x00\x01\x00\x02\x00\x80\x01",
@@ -49,8 +50,13 @@ const WRITTEN: &[Written] = &[
 
 /// A byte a call was written, and one call failed.
 fn has_sipped(rt: &impl Abort, sips: &Sips, written: usize) {
-    assert_eq!(rt; sips.bytes.len(), written);
-    assert_eq!(rt; sips.calls, written.saturating_add(1));
+    let want = (written, written.saturating_add(1));
+    same(
+        rt,
+        "bytes and calls",
+        &(sips.bytes.len(), sips.calls),
+        &want,
+    );
 }
 
 /// The writer takes one byte a call, and fails at the ninth.
@@ -66,27 +72,39 @@ fn goes_on_at_the_ninth(rt: &impl Abort, alloc: Global, session: &mut Session, s
     has_sipped(rt, &writer.into_inner(), stream.written);
 }
 
+/// The same, of a new session.
+fn goes_on_writing(
+    rt: &impl Abort,
+    alloc: Global,
+    image: &[u8],
+    stream: &Written,
+) -> Result<(), Fail> {
+    let mut session = Session::new(alloc, stream.language, sheets(alloc, image))?;
+    goes_on_at_the_ninth(rt, alloc, &mut session, stream);
+    Ok(())
+}
+
 #[test]
 fn goes_on_behind_the_byte_that_was_written_last(rt: HostRuntime) -> Result<(), Fail> {
     let image = sheet(rt.alloc())?;
     for stream in WRITTEN {
-        let mut session = Session::new(rt.alloc(), stream.language, sheets(rt.alloc(), &image))?;
-        goes_on_at_the_ninth(&rt, rt.alloc(), &mut session, stream);
+        goes_on_writing(&rt, rt.alloc(), &image, stream)?;
     }
     Ok(())
 }
 
-/// A stream that ends early, what it comes to then, and what the rest of it comes to: the paper of both.
+/// A stream that ends early, what it comes to then, and what the rest of it comes to: the paper of both, in
+/// parts that come so many times.
 struct GoneOn {
     language: Language,
     front: &'static [u8],
     early: RunFault,
     back: &'static [u8],
     whole: Report,
-    paper: &'static [&'static [u8]],
+    paper: &'static [(&'static [u8], usize)],
 }
 
-const GONE_ON: &[GoneOn] = &[
+static GONE_ON: &[GoneOn] = &[
     GoneOn {
         language: Language::Label,
         front: b"^XA^FO0,0^GB8,2,2^FS",
@@ -99,7 +117,7 @@ const GONE_ON: &[GoneOn] = &[
             taken: 31,
             written: 9,
         },
-        paper: &[b"P4\n8 2\n\xFF\xFF"],
+        paper: &[(b"P4\n8 2\n\xFF\xFF", 1)],
     },
     GoneOn {
         language: Language::Receipt,
@@ -113,38 +131,37 @@ const GONE_ON: &[GoneOn] = &[
             taken: 10,
             written: 153,
         },
-        paper: &[b"P4\n576 2\n\x80", &[0; 71], b"\x01", &[0; 71]],
+        paper: &[
+            (b"P4\n576 2\n\x80", 1),
+            (b"\0", 71),
+            (b"\x01", 1),
+            (b"\0", 71),
+        ],
     },
 ];
 
-fn gone_on() -> &'static [GoneOn] {
-    GONE_ON
-}
-
-/// These parts, one after the other.
-fn is_made_of(rt: &impl Abort, paper: &[u8], parts: &[&[u8]]) {
-    let mut rest = paper;
-    for part in parts {
-        assert!(rt; rest.starts_with(part));
-        rest = &rest[part.len().min(rest.len())..];
-    }
-    assert_eq!(rt; rest.len(), 0);
-}
-
-fn goes_on(rt: &impl Abort, alloc: Global, session: &mut Session, stream: &GoneOn) {
+fn goes_on(rt: &impl Abort, alloc: Global, session: &mut Session, stream: &GoneOn, paper: &[u8]) {
     let mut writer = Counted::new(Vec::new(alloc));
     let mut first = Counted::new(stream.front);
     pumps(rt, session, &mut first, &mut writer, Err(stream.early));
     let mut second = Counted::new(stream.back);
     pumps(rt, session, &mut second, &mut writer, Ok(stream.whole));
-    is_made_of(rt, &writer.into_inner(), stream.paper);
+    let written: Vec<u8> = writer.into_inner();
+    same(rt, "paper", &written.as_slice(), &paper);
+}
+
+/// The same, of a new session.
+fn goes_on_printing(rt: &impl Abort, alloc: Global, stream: &GoneOn) -> Result<(), Fail> {
+    let paper = joined(alloc, stream.paper)?;
+    let mut session = Session::new(alloc, stream.language, NO_SHEETS)?;
+    goes_on(rt, alloc, &mut session, stream, &paper);
+    Ok(())
 }
 
 #[test]
 fn goes_on_in_the_next_input(rt: HostRuntime) -> Result<(), Fail> {
-    for stream in gone_on() {
-        let mut session = Session::new(rt.alloc(), stream.language, NO_SHEETS)?;
-        goes_on(&rt, rt.alloc(), &mut session, stream);
+    for stream in GONE_ON {
+        goes_on_printing(&rt, rt.alloc(), stream)?;
     }
     Ok(())
 }
@@ -154,14 +171,14 @@ fn answers_again(rt: &impl Abort, alloc: Global, session: &mut Session) {
     let mut reader = Counted::new(b"\x1BJ\x02\x1B\x7F\x0A".as_slice());
     let mut writer = Counted::new(Vec::new(alloc));
     let fault = RunFault::Print {
-        fault: Fault::Unknown(0x1B, 0x7F),
+        fault: UNKNOWN,
         after: 5,
     };
     for _ in 0..2 {
         pumps(rt, session, &mut reader, &mut writer, Err(fault));
     }
-    let bytes: Vec<u8> = writer.into_inner();
-    assert_eq!(rt; bytes.len(), 153);
+    let written: Vec<u8> = writer.into_inner();
+    same(rt, "bytes", &written.len(), &153);
 }
 
 #[test]
@@ -171,51 +188,66 @@ fn stays_at_its_fault(rt: HostRuntime) -> Result<(), Fail> {
     Ok(())
 }
 
-/// A step takes and puts out so many bytes, and comes to this.
-fn steps(
-    rt: &impl Abort,
-    printer: &mut Printer,
-    input: &[u8],
-    output: &mut [u8],
-    want: (usize, usize, State),
-) {
-    let step = printer.step(input, output);
-    assert_eq!(rt; (step.taken, step.put, step.state), want);
+/// A step: its input, its room, how many bytes it takes and puts out, what it comes to, and what its output
+/// begins with.
+type Stage = (&'static [u8], usize, (usize, usize, State), &'static [u8]);
+
+/// A step, the nth of a printer, comes to what it says.
+fn steps(rt: &impl Abort, printer: &mut Printer, n: usize, stage: &Stage) {
+    let (input, room, want, front) = *stage;
+    let mut out = [0; 81];
+    let step = printer.step(input, &mut out[..room.min(81)]);
+    let found = (step.taken, step.put, step.state);
+    let begins = &out[..front.len().min(81)];
+    same_at(rt, "step", n, &(found, begins), &(want, front));
+}
+
+/// The steps of a printer come to what they say.
+fn each_steps(rt: &impl Abort, printer: &mut Printer, stages: &[Stage]) {
+    for (n, stage) in stages.iter().enumerate() {
+        steps(rt, printer, n, stage);
+    }
 }
 
 /// A raster of two rows, the first of which has room in one part, and the other in the next one.
-fn prints_as_there_is_room(rt: &impl Abort, printer: &mut Printer) {
-    let raster = b"\x1Dv0\x00\x01\x00\x02\x00\x80\x01";
-    steps(rt, printer, raster, &mut [], (8, 0, State::Room));
-    let mut out = [0; 81];
-    steps(rt, printer, &raster[8..], &mut out, (2, 81, State::Room));
-    assert!(rt; out.starts_with(b"P4\n576 2\n\x80"));
-    let mut row = [0; 72];
-    steps(rt, printer, &[], &mut row, (0, 72, State::More));
-    assert_eq!(rt; row[0], 0x01);
-}
+static ROWS: [Stage; 3] = [
+    (
+        b"\x1Dv0\x00\x01\x00\x02\x00\x80\x01",
+        0,
+        (8, 0, State::Room),
+        b"",
+    ),
+    (b"\x80\x01", 81, (2, 81, State::Room), b"P4\n576 2\n\x80"),
+    (b"", 72, (0, 72, State::More), b"\x01"),
+];
 
 #[test]
 fn waits_for_room(rt: HostRuntime) -> Result<(), Fail> {
     let mut printer = Printer::new(rt.alloc(), Language::Receipt, NO_SHEETS)?;
-    prints_as_there_is_room(&rt, &mut printer);
+    each_steps(&rt, &mut printer, &ROWS);
     Ok(())
 }
 
-fn stops(rt: &impl Abort, printer: &mut Printer, fault: Fault) {
-    let mut out = [0; 16];
-    let stopped = State::Stopped(fault);
-    steps(rt, printer, b"\x1B\x7F", &mut out, (2, 0, stopped));
-    steps(rt, printer, b"\x0A", &mut out, (0, 0, stopped));
+/// The fault of a command that isn't known.
+const UNKNOWN: Fault = Fault::Unknown(0x1B, 0x7F);
+
+static STOPPED: [Stage; 2] = [
+    (b"\x1B\x7F", 16, (2, 0, State::Stopped(UNKNOWN)), b""),
+    (b"\x0A", 16, (0, 0, State::Stopped(UNKNOWN)), b""),
+];
+
+/// A printer that has stopped ends in its fault.
+fn ends_in(rt: &impl Abort, printer: &Printer, fault: Fault) {
     if !printer.pending() {
-        assert_eq!(rt; printer.finish(), Err(fault));
+        same(rt, "finish", &printer.finish(), &Err(fault));
     }
 }
 
 #[test]
 fn stays_stopped(rt: HostRuntime) -> Result<(), Fail> {
     let mut printer = Printer::new(rt.alloc(), Language::Receipt, NO_SHEETS)?;
-    stops(&rt, &mut printer, Fault::Unknown(0x1B, 0x7F));
+    each_steps(&rt, &mut printer, &STOPPED);
+    ends_in(&rt, &printer, UNKNOWN);
     Ok(())
 }
 
@@ -228,8 +260,12 @@ fn prints(
     (paper, want): (&[u8], Option<Fault>),
 ) -> Result<(), Fail> {
     let (found, fault) = print_all(alloc, language, NO_SHEETS, bytes)?;
-    assert_eq!(rt; found.as_slice(), paper);
-    assert_eq!(rt; fault, want);
+    same(
+        rt,
+        "paper and fault",
+        &(found.as_slice(), fault),
+        &(paper, want),
+    );
     Ok(())
 }
 
@@ -242,64 +278,81 @@ fn the_widest_raster(rt: HostRuntime) -> Result<(), Fail> {
 }
 
 /// So many copies that no output holds them: each call puts out the next one.
-fn prints_copies(rt: &impl Abort, printer: &mut Printer) {
-    let input = b"^XA^PW8^LL1^PQ99999999^GB8,1,1^FS^XZ".as_slice();
-    steps(rt, printer, input, &mut [], (input.len(), 0, State::Room));
-    for _ in 0..3 {
-        let mut output = [0u8; 8];
-        steps(rt, printer, b"", &mut output, (0, 8, State::Room));
-        assert_eq!(rt; output.as_slice(), b"P4\n8 1\n\xFF".as_slice());
-    }
-}
+static COPIES: [Stage; 4] = [
+    (
+        b"^XA^PW8^LL1^PQ99999999^GB8,1,1^FS^XZ",
+        0,
+        (36, 0, State::Room),
+        b"",
+    ),
+    (b"", 8, (0, 8, State::Room), b"P4\n8 1\n\xFF"),
+    (b"", 8, (0, 8, State::Room), b"P4\n8 1\n\xFF"),
+    (b"", 8, (0, 8, State::Room), b"P4\n8 1\n\xFF"),
+];
 
 #[test]
 fn copies_come_as_there_is_room(rt: HostRuntime) -> Result<(), Fail> {
     let mut printer = Printer::new(rt.alloc(), Language::Label, NO_SHEETS)?;
-    prints_copies(&rt, &mut printer);
+    each_steps(&rt, &mut printer, &COPIES);
     Ok(())
 }
 
-/// A session printed this paper and stopped at this fault.
-fn is_refused(rt: &impl Abort, pumped: &Pumped, paper: &[u8], fault: Fault, after: u64) {
-    assert_eq!(rt; pumped.paper.as_slice(), paper);
-    assert_eq!(rt; pumped.first, Err(RunFault::Print { fault, after }));
+/// A session prints this paper of a label and stops at this fault, behind so many bytes.
+fn is_refused(
+    rt: &impl Abort,
+    alloc: Global,
+    bytes: &[u8],
+    paper: &[u8],
+    (fault, after): (Fault, u64),
+) -> Result<(), Fail> {
+    let pumped = pump(alloc, b"", Language::Label, bytes, 4096, (0, 0))?;
+    let want = (paper, Err(RunFault::Print { fault, after }));
+    same(
+        rt,
+        "paper and fault",
+        &(pumped.paper.as_slice(), pumped.first),
+        &want,
+    );
+    Ok(())
 }
 
-/// As many fields as a format holds, and one more.
-fn full_of_fields(alloc: Global) -> Result<Vec<u8>, Fail> {
-    let mut bytes = repeated(alloc, b"^XA^PW8^LL1", b"^GB1,1,1^FS", 1024)?;
-    repeat(&mut bytes, b"^XZ^XA", 1)?;
-    repeat(&mut bytes, b"^GB1,1,1^FS", 1025)?;
-    repeat(&mut bytes, b"^XZ", 1)?;
-    Ok(bytes)
-}
+/// As many fields as a format holds, and in the next one a field more.
+static FULL_OF_FIELDS: [(&[u8], usize); 5] = [
+    (b"^XA^PW8^LL1", 1),
+    (b"^GB1,1,1^FS", 1024),
+    (b"^XZ^XA", 1),
+    (b"^GB1,1,1^FS", 1025),
+    (b"^XZ", 1),
+];
 
 /// None of the fields is printed where there is one more than a format holds.
 #[test]
 fn one_field_more_than_are_held(rt: HostRuntime) -> Result<(), Fail> {
-    let bytes = full_of_fields(rt.alloc())?;
-    let pumped = pump(rt.alloc(), b"", Language::Label, &bytes, 4096, (0, 0))?;
+    let bytes = joined(rt.alloc(), &FULL_OF_FIELDS)?;
     // the first format, ^XA and the 1,025 fields
     let after = (11 + 1024 * 11 + 3) + (3 + 1025 * 11);
-    is_refused(&rt, &pumped, b"P4\n8 1\n\x80", Fault::FieldsFull, after);
-    Ok(())
+    is_refused(
+        &rt,
+        rt.alloc(),
+        &bytes,
+        b"P4\n8 1\n\x80",
+        (Fault::FieldsFull, after),
+    )
+}
+
+/// Data that a format holds print nothing, and a byte more is refused.
+fn one_more_is_refused(rt: &impl Abort, alloc: Global, bytes: &mut Vec<u8>) -> Result<(), Fail> {
+    let held = (b"".as_slice(), Some(Fault::Truncated));
+    prints(rt, alloc, Language::Label, bytes, held)?;
+    repeat(bytes, b"M^FS^XZ", 1)?;
+    is_refused(rt, alloc, bytes, b"", (Fault::StoreFull, 6 + 262145))
 }
 
 /// As many bytes of data as a format holds, and one more.
 #[test]
 fn one_byte_more_than_is_held(rt: HostRuntime) -> Result<(), Fail> {
     let mut bytes = repeated(rt.alloc(), b"^XA^FD", b"M", 262144)?;
-    prints(
-        &rt,
-        rt.alloc(),
-        Language::Label,
-        &bytes,
-        (b"", Some(Fault::Truncated)),
-    )?;
-    repeat(&mut bytes, b"M^FS^XZ", 1)?;
-    let pumped = pump(rt.alloc(), b"", Language::Label, &bytes, 4096, (0, 0))?;
-    is_refused(&rt, &pumped, b"", Fault::StoreFull, 6 + 262145);
-    Ok(())
+    one_more_is_refused(&rt, rt.alloc(), &mut bytes)
 }
 
 /// Data of so many digits behind their front come to this fault.
@@ -316,12 +369,17 @@ fn refuses(
 }
 
 /// One more than 255 bytes of bars, and one more than the digits of the largest QR symbol.
+static TOO_LONG: [(&[u8], usize, Fault); 4] = [
+    (b"^XA^BC^FD", 255, Fault::Unprinted),
+    (b"^XA^BC^FD", 256, Fault::SymbolTooLong),
+    (b"^XA^BQ^FDLA,", 652, Fault::Unprinted),
+    (b"^XA^BQ^FDLA,", 653, Fault::SymbolTooLong),
+];
+
 #[test]
 fn data_too_long_for_a_symbol(rt: HostRuntime) -> Result<(), Fail> {
-    let bars = b"^XA^BC^FD";
-    refuses(&rt, rt.alloc(), bars, 255, Fault::Unprinted)?;
-    refuses(&rt, rt.alloc(), bars, 256, Fault::SymbolTooLong)?;
-    let symbol = b"^XA^BQ^FDLA,";
-    refuses(&rt, rt.alloc(), symbol, 652, Fault::Unprinted)?;
-    refuses(&rt, rt.alloc(), symbol, 653, Fault::SymbolTooLong)
+    for (head, digits, fault) in &TOO_LONG {
+        refuses(&rt, rt.alloc(), head, *digits, *fault)?;
+    }
+    Ok(())
 }

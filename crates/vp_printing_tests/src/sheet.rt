@@ -55,3 +55,12 @@ pub fn repeated(
     repeat(&mut bytes, part, times)?;
     Ok(bytes)
 }
+
+/// These parts, one after the other, each so many times.
+pub fn joined(alloc: Global, parts: &[(&[u8], usize)]) -> Result<Vec<u8>, AllocError> {
+    let mut bytes = Vec::new(alloc);
+    for (part, times) in parts {
+        repeat(&mut bytes, part, *times)?;
+    }
+    Ok(bytes)
+}

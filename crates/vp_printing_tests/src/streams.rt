@@ -18,7 +18,7 @@ pub struct Stream {
 }
 
 /// Rasters and feeds.
-const FEED_STREAMS: &[Stream] = &[
+static FEED_STREAMS: &[Stream] = &[
     Stream {
         name: "nothing",
         language: Language::Receipt,
@@ -105,7 +105,7 @@ const FEED_STREAMS: &[Stream] = &[
 ];
 
 /// Lines of text.
-const LINE_STREAMS: &[Stream] = &[
+static LINE_STREAMS: &[Stream] = &[
     Stream {
         name: "a character",
         language: Language::Receipt,
@@ -209,7 +209,7 @@ const LINE_STREAMS: &[Stream] = &[
 ];
 
 /// Styles, margins and areas.
-const STYLE_STREAMS: &[Stream] = &[
+static STYLE_STREAMS: &[Stream] = &[
     Stream {
         name: "underlined white",
         language: Language::Receipt,
@@ -331,7 +331,7 @@ const STYLE_STREAMS: &[Stream] = &[
 ];
 
 /// Rasters, and narrow paper.
-const PAPER_STREAMS: &[Stream] = &[
+static PAPER_STREAMS: &[Stream] = &[
     Stream {
         name: "a raster doubled both ways",
         language: Language::Receipt,
@@ -421,7 +421,7 @@ const PAPER_STREAMS: &[Stream] = &[
 ];
 
 /// Symbols, drawn and refused.
-const SYMBOL_STREAMS: &[Stream] = &[
+static SYMBOL_STREAMS: &[Stream] = &[
     Stream {
         name: "a bar code",
         language: Language::Receipt,

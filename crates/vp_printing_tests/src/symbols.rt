@@ -3,7 +3,7 @@ use crate::streams::{Image, Stream};
 use vp_dots::Fault;
 use vp_engine::Language;
 
-const SYMBOL_PAGES: &[Stream] = &[
+static SYMBOL_PAGES: &[Stream] = &[
     Stream {
         name: "a QR symbol",
         language: Language::Receipt,

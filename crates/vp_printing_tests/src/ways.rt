@@ -1,6 +1,7 @@
 //! A stream through the printer in each way: in one piece, cut into bytes, between a reader and a
 //! writer, and where one of these fails.
-use crate::cases::Case;
+use crate::cases::{Case, Kind, cases};
+use crate::checks::{same, same_at};
 use crate::pieces::{reader, writer};
 use crate::sheet::{sheet, sheets};
 use std::alloc::Global;
@@ -12,11 +13,20 @@ use vp_engine::{Language, Printer, Report, RunFault, Session, State, print_all};
 /// Never reached: no call fails.
 const NEVER: usize = 0;
 
-/// A case has printed what it must.
-fn is_its_paper(rt: &impl Abort, case: &Case, paper: &[u8]) {
-    assert_eq!(rt; paper, case.paper.as_slice(), "{}", case.name);
+/// How a case is printed.
+#[derive(Clone, Copy)]
+pub enum Way {
+    InOnePiece,
+    /// One byte in and one byte out at a time.
+    InBytes,
+    /// Each of its fronts through a session.
+    ByFronts,
+    /// Through sessions in which a read or a write fails once; at most so many bytes are written a call,
+    /// or a thirtieth of all.
+    Failing(usize),
 }
 
+/// A case prints what it must.
 fn prints_its_images(
     rt: &impl Abort,
     alloc: Global,
@@ -24,16 +34,8 @@ fn prints_its_images(
     case: &Case,
 ) -> Result<(), Fail> {
     let (paper, fault) = print_all(alloc, case.language, sheets(alloc, image), case.bytes)?;
-    is_its_paper(rt, case, &paper);
-    assert_eq!(rt; fault, case.fault, "{}", case.name);
-    Ok(())
-}
-
-pub fn print_their_images(rt: &impl Abort, alloc: Global, cases: &[Case]) -> Result<(), Fail> {
-    let image = sheet(alloc)?;
-    for case in cases {
-        prints_its_images(rt, alloc, &image, case)?;
-    }
+    let want = (case.paper.as_slice(), case.fault);
+    same(rt, case.name, &(paper.as_slice(), fault), &want);
     Ok(())
 }
 
@@ -70,21 +72,24 @@ fn end(fault: Option<Fault>) -> State {
     }
 }
 
-fn prints_the_same(rt: &impl Abort, alloc: Global, image: &[u8], case: &Case) -> Result<(), Fail> {
-    let mut printer = Printer::new(alloc, case.language, sheets(alloc, image))?;
+/// A new printer prints what a case must, one byte in and one byte out at a time.
+fn prints_the_same(
+    rt: &impl Abort,
+    alloc: Global,
+    printer: &mut Printer,
+    case: &Case,
+) -> Result<(), Fail> {
     let mut paper = Vec::new(alloc);
-    let state = cut_into_bytes(&mut printer, case.bytes, &mut paper)?;
-    is_its_paper(rt, case, &paper);
-    assert_eq!(rt; state, end(case.fault), "{}", case.name);
+    let state = cut_into_bytes(printer, case.bytes, &mut paper)?;
+    let want = (case.paper.as_slice(), end(case.fault));
+    same(rt, case.name, &(paper.as_slice(), state), &want);
     Ok(())
 }
 
-pub fn print_the_same_in_bytes(rt: &impl Abort, alloc: Global, cases: &[Case]) -> Result<(), Fail> {
-    let image = sheet(alloc)?;
-    for case in cases {
-        prints_the_same(rt, alloc, &image, case)?;
-    }
-    Ok(())
+/// A case prints the same, one byte in and one byte out at a time.
+fn prints_in_bytes(rt: &impl Abort, alloc: Global, image: &[u8], case: &Case) -> Result<(), Fail> {
+    let mut printer = Printer::new(alloc, case.language, sheets(alloc, image))?;
+    prints_the_same(rt, alloc, &mut printer, case)
 }
 
 /// What a session came to: what it wrote, its answers, and how often it read and wrote.
@@ -163,17 +168,19 @@ fn answer(
     }
 }
 
-/// A session came to this paper and this answer.
+/// A new session comes to this paper and this answer of a front.
 fn comes_to(
     rt: &impl Abort,
-    name: &str,
-    n: usize,
-    pumped: &Pumped,
-    paper: &[u8],
-    answer: Result<Report, RunFault>,
-) {
-    assert_eq!(rt; pumped.paper.as_slice(), paper, "{name}, {n} bytes");
-    assert_eq!(rt; pumped.first, answer, "{name}, {n} bytes");
+    alloc: Global,
+    image: &[u8],
+    case: &Case,
+    front: &[u8],
+    (paper, answer): (&[u8], Result<Report, RunFault>),
+) -> Result<(), Fail> {
+    let pumped = pump(alloc, image, case.language, front, 7, (NEVER, NEVER))?;
+    let found = (pumped.paper.as_slice(), pumped.first);
+    same_at(rt, case.name, front.len(), &found, &(paper, answer));
+    Ok(())
 }
 
 /// A front prints alike through a session; where it is refused, then at the last byte of the first such
@@ -188,27 +195,18 @@ fn pump_a_front(
 ) -> Result<Option<usize>, Fail> {
     let front = &case.bytes[..n.min(case.bytes.len())];
     let (paper, fault) = print_all(alloc, case.language, sheets(alloc, image), front)?;
-    let pumped = pump(alloc, image, case.language, front, 7, (NEVER, NEVER))?;
     let refused = refused(before, n, fault);
     let answer = answer(n, refused, paper.len(), fault);
-    comes_to(rt, case.name, n, &pumped, &paper, answer);
+    comes_to(rt, alloc, image, case, front, (&paper, answer))?;
     Ok(refused)
-}
-
-fn pump_its_fronts(rt: &impl Abort, alloc: Global, image: &[u8], case: &Case) -> Result<(), Fail> {
-    let mut refused = None;
-    for n in 0..case.bytes.len() + 1 {
-        refused = pump_a_front(rt, alloc, image, case, n, refused)?;
-    }
-    Ok(())
 }
 
 /// Each front prints alike through a session; where it is refused, then at the last byte of the shortest
 /// such one.
-pub fn pump_their_fronts(rt: &impl Abort, alloc: Global, cases: &[Case]) -> Result<(), Fail> {
-    let image = sheet(alloc)?;
-    for case in cases {
-        pump_its_fronts(rt, alloc, &image, case)?;
+fn pump_its_fronts(rt: &impl Abort, alloc: Global, image: &[u8], case: &Case) -> Result<(), Fail> {
+    let mut refused = None;
+    for n in 0..case.bytes.len() + 1 {
+        refused = pump_a_front(rt, alloc, image, case, n, refused)?;
     }
     Ok(())
 }
@@ -221,10 +219,9 @@ fn went_on(
     pumped: &Pumped,
     calm: Result<Report, RunFault>,
 ) {
-    let name = case.name;
-    assert_eq!(rt; pumped.first, Err(fault), "{name}, call {call}");
-    assert_eq!(rt; pumped.last, calm, "{name}, {fault:?} at call {call}");
-    is_its_paper(rt, case, &pumped.paper);
+    let found = (pumped.first, pumped.last, pumped.paper.as_slice());
+    let want = (Err(fault), calm, case.paper.as_slice());
+    same_at(rt, case.name, call, &found, &want);
 }
 
 /// One read or one write fails.
@@ -246,29 +243,15 @@ fn fail_at(
     Ok(())
 }
 
-fn fail_its_reads(rt: &impl Abort, alloc: Global, image: &[u8], case: &Case) -> Result<(), Fail> {
-    let Pumped { first, reads, .. } = pump(
-        alloc,
-        image,
-        case.language,
-        case.bytes,
-        3,
-        (NEVER, NEVER),
-    )?;
-    for call in 1..reads.saturating_add(1) {
-        fail_at(rt, alloc, image, case, 3, (RunFault::Read, call), first)?;
-    }
-    Ok(())
-}
-
-fn fail_its_writes(
-    rt: &impl Abort,
+/// What a session that doesn't fail comes to, and how often it reads, or else writes.
+fn calm(
     alloc: Global,
     image: &[u8],
     case: &Case,
     most: usize,
-) -> Result<(), Fail> {
-    let Pumped { first, writes, .. } = pump(
+    fault: RunFault,
+) -> Result<(Result<Report, RunFault>, usize), Fail> {
+    let pumped = pump(
         alloc,
         image,
         case.language,
@@ -276,19 +259,63 @@ fn fail_its_writes(
         most,
         (NEVER, NEVER),
     )?;
-    for call in 1..writes.saturating_add(1) {
-        fail_at(rt, alloc, image, case, most, (RunFault::Write, call), first)?;
+    let calls = match fault {
+        RunFault::Read => pumped.reads,
+        _ => pumped.writes,
+    };
+    Ok((pumped.first, calls))
+}
+
+/// Each read, or each write, of at most so many bytes fails once.
+fn fail_each(
+    rt: &impl Abort,
+    alloc: Global,
+    image: &[u8],
+    case: &Case,
+    most: usize,
+    fault: RunFault,
+) -> Result<(), Fail> {
+    let (calm, calls) = calm(alloc, image, case, most, fault)?;
+    for call in 1..calls.saturating_add(1) {
+        fail_at(rt, alloc, image, case, most, (fault, call), calm)?;
     }
     Ok(())
 }
 
-/// Each read and each write fails once, up to the last; at most so many bytes are written a call, or a
-/// thirtieth of all.
-pub fn fail_once(rt: &impl Abort, alloc: Global, cases: &[Case], sip: usize) -> Result<(), Fail> {
+/// Each read and each write fails once, up to the last.
+fn fail_once(
+    rt: &impl Abort,
+    alloc: Global,
+    image: &[u8],
+    case: &Case,
+    sip: usize,
+) -> Result<(), Fail> {
+    fail_each(rt, alloc, image, case, 3, RunFault::Read)?;
+    let most = (case.paper.len() / 30).max(sip);
+    fail_each(rt, alloc, image, case, most, RunFault::Write)
+}
+
+/// A case comes to what it must in this way.
+fn prints(rt: &impl Abort, alloc: Global, image: &[u8], case: &Case, way: Way) -> Result<(), Fail> {
+    match way {
+        Way::InOnePiece => prints_its_images(rt, alloc, image, case),
+        Way::InBytes => prints_in_bytes(rt, alloc, image, case),
+        Way::ByFronts => pump_its_fronts(rt, alloc, image, case),
+        Way::Failing(sip) => fail_once(rt, alloc, image, case, sip),
+    }
+}
+
+/// These cases come to what they must in this way.
+fn print_cases(rt: &impl Abort, alloc: Global, cases: &[Case], way: Way) -> Result<(), Fail> {
     let image = sheet(alloc)?;
     for case in cases {
-        fail_its_reads(rt, alloc, &image, case)?;
-        fail_its_writes(rt, alloc, &image, case, (case.paper.len() / 30).max(sip))?;
+        prints(rt, alloc, &image, case, way)?;
     }
     Ok(())
+}
+
+/// Each case of a kind comes to what it must in this way.
+pub fn each_prints(rt: &impl Abort, alloc: Global, kind: Kind, way: Way) -> Result<(), Fail> {
+    let cases = cases(alloc, kind)?;
+    print_cases(rt, alloc, &cases, way)
 }
