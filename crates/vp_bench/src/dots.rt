@@ -69,14 +69,18 @@ fn show_fill_dots(
     Ok(())
 }
 
+fn show(rt: &(impl Clock + Print), band: &mut Band<72, 64>) -> io::Result<()> {
+    let copied = row(rt, Work::Copy, band)?;
+    println!(rt; "copying 72 bytes: {copied:.1} ns")?;
+    show_or_into(rt, band, copied)?;
+    let filled = row(rt, Work::FillBytes, band)?;
+    println!(rt; "filling 72 bytes: {filled:.1} ns")?;
+    show_fill_dots(rt, band, filled)
+}
+
 /// Prints the times.
 pub fn run(rt: &(impl AllocGlobal + Clock + Print)) -> Result<()> {
-    let mut band: Band<72, 64> = Band::new(rt.alloc())?;
-    let copied = row(rt, Work::Copy, &mut band)?;
-    println!(rt; "copying 72 bytes: {copied:.1} ns")?;
-    show_or_into(rt, &mut band, copied)?;
-    let filled = row(rt, Work::FillBytes, &mut band)?;
-    println!(rt; "filling 72 bytes: {filled:.1} ns")?;
-    show_fill_dots(rt, &mut band, filled)?;
+    let mut band = Band::new(rt.alloc())?;
+    show(rt, &mut band)?;
     Ok(())
 }

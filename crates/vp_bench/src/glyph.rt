@@ -150,13 +150,17 @@ fn show_block(rt: &(impl Clock + Print), sheets: &Sheets) -> io::Result<()> {
     show(rt, "a block of 40 characters", &block)
 }
 
+fn show_all(rt: &(impl Clock + Print), sheets: &Sheets) -> io::Result<()> {
+    show_styles(rt, sheets)?;
+    let cell = sheets.cell(b'M', Font::B, PLAIN);
+    show(rt, "font B from sheet A", &cell)?;
+    show_sampled(rt, sheets)?;
+    show_block(rt, sheets)
+}
+
 /// Prints the times.
 pub fn run(rt: &(impl AllocGlobal + Clock + Print)) -> Result<()> {
     let sheets = strokes(rt.alloc())?;
-    show_styles(rt, &sheets)?;
-    let cell = sheets.cell(b'M', Font::B, PLAIN);
-    show(rt, "font B from sheet A", &cell)?;
-    show_sampled(rt, &sheets)?;
-    show_block(rt, &sheets)?;
+    show_all(rt, &sheets)?;
     Ok(())
 }
