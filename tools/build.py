@@ -2,9 +2,9 @@
 """Builds the printer, which proves it, and says on standard error how far it is. Where the built program stands for the
 sources as they are, by their content, it does nothing.
 
-Each crate is built in a room of its own, out/rooms/NAME, a repository of that crate and of those below it: `rt` locks
-all that a crate stands on for as long as it works, so that only rooms let crates that don't stand on one another be
-proved side by side. What a crate's build leaves goes back to crates/NAME/out, where `rt check` goes on from it."""
+Crates that don't stand on one another are proved side by side, each from nothing, by the toolchain's rattle itself: its
+command rt would lock all that a crate stands on. A crate's library, with statements and not their proofs, stands in
+crates/NAME/out/rlib/proved beside the sum of what it was made from."""
 import fcntl
 import hashlib
 import os
@@ -15,52 +15,20 @@ import sys
 import time
 
 ROOT = os.path.dirname(os.path.dirname(os.path.realpath(__file__)))
-ROOMS = f"{ROOT}/out/rooms"
-STAMP = f"{ROOT}/out/printer"
-PROGRAM = "vp_cli"
+NAME = "vp_cli"
+OUT = f"{ROOT}/out"
 PARTS = ("src", "specs", "proofs")
-# What a check is likely to take, in bytes: of most crates, and of one of more than so many lines.
-MEMORY, LARGE_MEMORY, LARGE = 1_000_000_000, 2_000_000_000, 4_500
-# A first guess at the seconds of a crate: to load the library, for each crate below and for each line; and to compile
-# the program.
-TO_LOAD, A_CRATE, A_LINE, TO_COMPILE = 12, 2, 0.022, 90
-
-
-def listed():
-    """Returns what each crate of crates.txt stands on, of the repository's own."""
-    with open(f"{ROOT}/crates.txt", encoding="utf-8") as it:
-        lines = [line.partition("#")[0].partition(":") for line in it]
-    names = {name.split()[0]: deps.split() for name, _, deps in lines if name.strip()}
-    return {name: [it for it in deps if it in names] for name, deps in names.items()}
-
-
-def below(name, uses):
-    """Returns the crates that this one stands on, each after those below it."""
-    found = []
-    for dep in uses[name]:
-        found += [it for it in [*below(dep, uses), dep] if it not in found]
-    return found
-
-
-def files_of(name):
-    return sorted(
-        os.path.join(at, file)
-        for part in PARTS
-        for at, _, files in os.walk(f"{ROOT}/crates/{name}/{part}")
-        for file in files
-    )
-
-
-def content(names):
-    """Returns a sum of all that the program is made from: the sources, what stands on what, and the toolchain."""
-    made = hashlib.sha256(repr([(it, listed()[it]) for it in names]).encode())
-    rt = shutil.which("rt")
-    made.update(repr(rt and [os.path.realpath(rt), os.stat(rt).st_mtime]).encode())
-    for name in names:
-        for file in files_of(name):
-            with open(file, "rb") as it:
-                made.update(repr((os.path.relpath(file, ROOT), hashlib.sha256(it.read()).digest())).encode())
-    return made.hexdigest()
+# What a check is likely to take, in bytes, with one job and for each further one.
+MEMORY, A_JOB = 1_600_000_000, 300_000_000
+# A guess at the seconds of a processor that a crate takes: to load the library, for each crate below and for each line;
+# and to compile the program.
+TO_LOAD, A_CRATE, A_LINE, TO_COMPILE = 15, 5, 0.023, 60
+# How much of the processors is used, how many of them a crate uses that is proved alone, and for how many of the
+# guess's seconds that is believed rather than what was measured.
+USED, ALONE, BELIEVED = 0.85, 2, 100
+# For so many seconds that a crate is ahead of the longest chain it has one job less, and gives way to others by one more
+# step.
+A_STEP = 20
 
 
 def text_of(file):
@@ -71,65 +39,140 @@ def text_of(file):
         return None
 
 
-def lines_of(name):
-    return sum(text_of(it).count("\n") for it in files_of(name))
+def listed():
+    """Returns what each crate of crates.txt stands on."""
+    lines = [line.partition("#")[0].partition(":") for line in (text_of(f"{ROOT}/crates.txt") or "").split("\n")]
+    return {name.strip(): deps.split() for name, _, deps in lines if name.strip()}
 
 
 def free():
     for line in (text_of("/proc/meminfo") or "").split("\n"):
         if line.startswith("MemAvailable:"):
             return 1024 * int(line.split()[1])
-    return 2 * LARGE_MEMORY
+    return 2 * MEMORY
 
 
-class Room:
-    """A crate that is being built, in its room."""
+class Crate:
+    """A crate, with those of the repository below it, each after those that it stands on itself."""
 
-    def __init__(self, name, uses, jobs):
-        self.name, self.jobs, self.folder = name, jobs, f"{ROOMS}/{name}"
-        self.started, self.ran = time.time(), None
-        shutil.rmtree(self.folder, ignore_errors=True)
-        inside = [*below(name, uses), name]
-        os.makedirs(f"{self.folder}/crates")
-        for it in inside:
-            for part in PARTS:
-                if os.path.isdir(f"{ROOT}/crates/{it}/{part}"):
-                    shutil.copytree(f"{ROOT}/crates/{it}/{part}", f"{self.folder}/crates/{it}/{part}")
-            if it != name:
-                # the library as it is, under further names of its files, which nothing here writes
-                to = f"{self.folder}/crates/{it}/out/rlib"
-                shutil.copytree(f"{ROOT}/crates/{it}/out/rlib", to, copy_function=os.link)
-        shutil.copy(f"{ROOT}/crates.txt", self.folder)
-        with open(f"{self.folder}/crates.txt", encoding="utf-8") as it:
-            kept = [line for line in it if line.partition(":")[0].strip() in inside]
-        with open(f"{self.folder}/crates.txt", "w", encoding="utf-8") as it:
-            it.writelines(kept)
+    def __init__(self, name, stands_on, kit):
+        self.name, self.kit, self.folder = name, kit, f"{ROOT}/crates/{name}"
+        self.uses = [it for it in stands_on if isinstance(it, Crate)]
+        self.libraries = ["std", *[it for it in stands_on if not isinstance(it, Crate)]]
+        self.below = [*dict.fromkeys(it for dep in self.uses for it in [*dep.below, dep])]
+        self.lines = sum((text_of(it) or "").count("\n") for it in self.files())
 
-    def move(self, old, new):
-        """Moves what a build leaves from one folder of the crate to the other, while no rt works there."""
-        held = os.open(f"{ROOT}/crates/{self.name}", os.O_RDONLY)
-        fcntl.flock(held, fcntl.LOCK_EX)
-        if os.path.isdir(f"{old}/out"):
-            shutil.rmtree(f"{new}/out", ignore_errors=True)
-            os.rename(f"{old}/out", f"{new}/out")
-        os.close(held)
+    def files(self):
+        parts = [os.walk(f"{self.folder}/{part}") for part in PARTS]
+        return sorted(f"{at}/{file}" for part in parts for at, _, files in part for file in files)
 
-    def start(self):
-        self.move(f"{ROOT}/crates/{self.name}", f"{self.folder}/crates/{self.name}")
-        words = ["rt", "run"] if self.name == PROGRAM else ["rt", "lib"]
-        words += ["--jobs", str(self.jobs)]
-        words += ["--", "--help"] if self.name == PROGRAM else []
-        with open(f"{self.folder}/log", "wb") as log:
-            how = {"cwd": f"{self.folder}/crates/{self.name}", "stdin": subprocess.DEVNULL, "stdout": log, "stderr": log}
-            self.ran = subprocess.Popen(words, start_new_session=True, **how)
+    def content(self):
+        """Returns a sum of all that is made into the crate: its sources and those below it, the libraries, the toolchain."""
+        made = hashlib.sha256((text_of(f"{self.kit}/KIT-ID") or "").encode())
+        for crate in [*self.below, self]:
+            made.update(repr([crate.name, [it.name for it in crate.uses], crate.libraries]).encode())
+            for file in crate.files():
+                with open(file, "rb") as it:
+                    made.update(repr((os.path.relpath(file, ROOT), hashlib.sha256(it.read()).digest())).encode())
+        return made.hexdigest()
+
+    def built(self):
+        """Returns what is built and the file with the sum of what it was made from."""
+        to = f"{self.folder}/out/rlib/proved"
+        return f"{to}/{self.name}.rlib", f"{to}/made-from"
+
+    def is_built(self):
+        built, made_from = self.built()
+        return os.path.exists(built) and text_of(made_from) == self.content()
+
+    def command(self, root, to):
+        """Returns the words that prove the crate and write what is made of it."""
+        words = [f"{self.kit}/bin/rattle", "build", "--crate-name", self.name, root]
+        for it in self.libraries:
+            words += ["--extern", f"{it}={self.kit}/rlibs/{it}.rlib"]
+        for it in self.uses:
+            words += ["--extern", f"{it.name}={it.built()[0]}"]
+        for it in [f"{self.kit}/rlibs", *[os.path.dirname(it.built()[0]) for it in self.below]]:
+            words += ["-L", f"dependency={it}"]
+        words += ["--antt-project", f"{self.kit}/rattle/logic/antt-project.json"]
+        return [*words, "--logic-built", f"{self.kit}/logic_built", "-o", to]
+
+    def commands(self, jobs):
+        return [[*self.command("src/lib.rt", self.built()[0]), "--statements", "--jobs", str(jobs)]]
+
+
+class Program(Crate):
+    def built(self):
+        return f"{self.folder}/out/{self.name}", f"{OUT}/printer"
+
+    def commands(self, jobs):
+        program, made = self.built()[0], f"{OUT}/{self.name}.o"
+        tools = ["--toolchain", f"{self.kit}/toolchain"]
+        link = [f"{self.kit}/bin/rattle-link", "--target", "x86_64-unknown-linux-gnu", *tools, "-o", program, made]
+        link += [f"{self.kit}/c/libos_c.a", f"{self.kit}/c/liblibc_c.a"]
+        return [[*self.command("src/main.rt", made), *tools, "--jobs", str(jobs)], link]
+
+
+def crates_below(name, stands_on, kit):
+    """Returns the program's crates, each after those that it stands on."""
+    made = {}
+
+    def make(it):
+        if it in stands_on and it not in made:
+            made[it] = (Program if it == name else Crate)(it, [*map(make, stands_on[it])], kit)
+        return made.get(it, it)
+
+    make(name)
+    return [*made.values()]
+
+
+class Run:
+    """A crate that is being built."""
+
+    def __init__(self, crate, jobs, gives_way, lock):
+        self.crate, self.jobs, self.started, self.content = crate, jobs, time.time(), crate.content()
+        self.left = [["nice", "-n", str(gives_way), *it] for it in crate.commands(jobs)]
+        self.log, self.lock = f"{OUT}/{crate.name}.log", lock
+        built, made_from = crate.built()
+        os.makedirs(os.path.dirname(built), exist_ok=True)
+        if os.path.exists(made_from):
+            os.remove(made_from)
+        self.is_well, self.ran = True, None
+        with open(self.log, "wb"):
+            self.go_on()
+
+    def go_on(self):
+        """Starts the next command. It holds the lock too, so that however this process ends the next one waits for it."""
+        with open(self.log, "ab") as log:
+            how = {"cwd": self.crate.folder, "stdin": subprocess.DEVNULL, "stdout": log, "stderr": log}
+            how |= {"start_new_session": True, "pass_fds": [self.lock.fileno()]}
+            self.ran = subprocess.Popen(self.left.pop(0), **how)
+
+    def has_ended(self):
+        if self.ran.poll() is None:
+            return False
+        self.is_well = self.ran.returncode == 0
+        if self.is_well and self.left:
+            self.go_on()
+            return False
+        return True
+
+    def is_built(self):
+        """Returns whether the crate is built as its sources are, and then says so beside it."""
+        if self.is_well and self.content == self.crate.content():
+            with open(self.crate.built()[1], "w", encoding="utf-8") as it:
+                it.write(self.content)
+        return self.is_well
+
+    def gone(self):
+        return time.time() - self.started
 
     def close(self):
-        """Ends the build where it still runs, and puts what it left back."""
-        if self.ran and self.ran.poll() is None:
+        """Ends the build where it still goes on."""
+        if self.ran.poll() is None:
             os.killpg(self.ran.pid, signal.SIGKILL)
             self.ran.wait()
-        self.move(f"{self.folder}/crates/{self.name}", f"{ROOT}/crates/{self.name}")
-        shutil.rmtree(self.folder, ignore_errors=True)
+        os.remove(self.log)
 
 
 class Progress:
@@ -154,91 +197,97 @@ class Progress:
             self.shown = ""
 
 
+def need(jobs):
+    """Returns the memory that a crate's proof is likely to take."""
+    return MEMORY + A_JOB * (jobs - 1)
+
+
 def minutes(seconds):
     return f"{round(seconds)} s" if seconds < 90 else f"{round(seconds / 60)} minutes"
 
 
 class Build:
-    def __init__(self, names, uses):
-        self.names, self.uses = names, uses
-        self.below = {it: below(it, uses) for it in names}
-        self.lines = {it: lines_of(it) for it in names}
-        self.memory = 0.85 * free()
-        self.said = Progress()
-        self.running, self.took = {}, {}
+    """The crates, each with the guess for the longest chain that begins with it."""
 
-    def need(self, name):
-        return LARGE_MEMORY if self.lines[name] > LARGE else MEMORY
+    def __init__(self, crates, lock):
+        self.crates, self.lock = crates, lock
+        self.memory, self.lanes = 0.85 * free(), len(os.sched_getaffinity(0))
+        self.said, self.started, self.ends = Progress(), time.time(), time.time()
+        self.running, self.took, self.behind = {}, {}, {}
+        for crate in reversed(crates):
+            above = [it for it in crates if crate in it.uses]
+            self.behind[crate] = self.guess(crate) + max((self.behind[it] for it in above), default=0)
 
-    def guess(self, name):
-        """Returns about how many seconds the crate takes, by how far those before it were from the first guess."""
-        to_load = lambda it: TO_LOAD + A_CRATE * len(self.below[it])
-        first = lambda it: to_load(it) + A_LINE * self.lines[it] + TO_COMPILE * (it == PROGRAM)
-        done = [it for it in self.took if self.took[it] > 5]
-        pace = sum(self.took[it] for it in done) / sum(map(first, done)) if done else 1
-        return pace * first(name)
+    def guess(self, crate):
+        return TO_LOAD + A_CRATE * len(crate.below) + A_LINE * crate.lines + TO_COMPILE * isinstance(crate, Program)
 
-    def behind(self, name):
-        """Returns about how many seconds the longest chain takes that begins with the crate."""
-        above = [it for it in self.names if name in self.below[it]]
-        return self.guess(name) + max((self.behind(it) for it in above if name in self.uses[it]), default=0)
+    def reckon(self):
+        """Reckons when all is built: by what was done up to now, for all that is left or the longest chain."""
+        done = sum(self.guess(it) for it, seconds in self.took.items() if seconds)
+        todo = [it for it in self.crates if it not in self.took]
+        pace = (done + BELIEVED) / (time.time() - self.started + BELIEVED / (USED * self.lanes))
+        chain = max((self.behind[it] for it in todo), default=0) * USED * self.lanes / min(ALONE, self.lanes)
+        gone = sum(self.guess(it) / 2 for it in self.running)
+        self.ends = time.time() + max(sum(map(self.guess, todo)) - gone, chain) / pace
 
     def left(self):
-        """Returns about how many seconds are left: the longest chain, or all the work shared out."""
-        gone = {it: time.time() - room.started for it, room in self.running.items()}
-        todo = [it for it in self.names if it not in self.took]
-        chain = max((self.behind(it) - min(gone.get(it, 0), self.guess(it)) for it in todo), default=0)
-        work = sum(self.guess(it) - min(gone.get(it, 0), self.guess(it)) for it in todo)
-        return max(chain, work / (os.cpu_count() or 1))
+        return minutes(max(self.ends - time.time(), 1))
 
-    def tell(self, name, seconds):
-        left = f", about {minutes(self.left())} left" if len(self.took) < len(self.names) else ""
-        what = f"{name} proved in {minutes(seconds)}" if seconds > 5 else f"{name} was proved before"
-        self.said.line(f"{what} ({len(self.took)} of {len(self.names)} crates{left})")
+    def tell(self, crate):
+        self.reckon()
+        left = f", about {self.left()} left" if len(self.took) < len(self.crates) else ""
+        how = f"proved in {minutes(self.took[crate])}" if self.took[crate] else "was proved before"
+        self.said.line(f"{crate.name} {how} ({len(self.took)} of {len(self.crates)} crates{left})")
 
     def begin(self):
-        """Starts what can be started, the longest chain first, as many as there are processors and memory for. What the
-        longest chain of all waits for gets two processors at least, the others what is idle."""
-        ready = [
-            it
-            for it in self.names
-            if it not in self.took and it not in self.running and all(dep in self.took for dep in self.below[it])
-        ]
-        ready.sort(key=lambda it: -self.behind(it))
-        lanes = len(os.sched_getaffinity(0))
-        longest = max(map(self.behind, [*ready, *self.running]), default=0)
-        for at, it in enumerate(ready):
-            idle = lanes - sum(room.jobs for room in self.running.values())
-            memory = self.memory - sum(map(self.need, self.running))
-            if idle > 0 and (not self.running or self.need(it) <= memory):
-                jobs = max(idle // (len(ready) - at), 2 if self.behind(it) == longest else 1)
-                self.running[it] = Room(it, self.uses, min(jobs, lanes))
-                self.running[it].start()
+        """Starts what can be started and finds memory. What the longest chain waits for goes before all others; where
+        there are no more crates than processors, each has two jobs at least."""
+        is_ready = lambda it: it not in self.took and it not in self.running and all(dep in self.took for dep in it.uses)
+        ready = sorted(filter(is_ready, self.crates), key=lambda it: -self.behind[it])
+        longest = max((self.behind[it] for it in [*ready, *self.running]), default=0)
+        least = 2 if len(ready) + len(self.running) <= self.lanes else 1
+        for it in ready:
+            steps = int((longest - self.behind[it]) / A_STEP)
+            jobs = min(max(self.lanes - steps, least), self.lanes)
+            memory = self.memory - sum(need(run.jobs) for run in self.running.values())
+            while jobs > 1 and need(jobs) > memory:
+                jobs -= 1
+            if not self.running or need(jobs) <= memory:
+                self.running[it] = Run(it, jobs, min(steps, 19), self.lock)
+
+    def end(self):
+        """Puts away what has ended, and returns the first that did not go well, if any did."""
+        for it, run in [*self.running.items()]:
+            if run.has_ended():
+                if not run.is_built():
+                    return run
+                self.took[it] = run.gone()
+                self.running.pop(it).close()
+                self.tell(it)
+        return None
 
     def run(self):
         """Builds all, and returns whether that went well."""
+        for it in [it for it in self.crates if it.is_built()]:
+            self.took[it] = 0
+            self.tell(it)
+        self.reckon()
         try:
-            while len(self.took) < len(self.names):
+            while len(self.took) < len(self.crates):
                 self.begin()
                 time.sleep(0.2)
-                names = " ".join(self.running)
-                self.said.moving(f"vp: proving {names} ({len(self.took)} of {len(self.names)} crates done, about {minutes(self.left())} left)")
-                for name, room in [*self.running.items()]:
-                    if room.ran.poll() is None:
-                        continue
-                    log = text_of(f"{room.folder}/log")
-                    self.running.pop(name).close()
-                    if room.ran.returncode:
-                        self.said.line(f"{name} was not built. What rt said:")
-                        print(log, file=sys.stderr)
-                        return False
-                    self.took[name] = time.time() - room.started
-                    self.tell(name, self.took[name])
+                names = " ".join(it.name for it in self.running)
+                self.said.moving(f"vp: proving {names} ({len(self.took)} of {len(self.crates)} crates, about {self.left()} left)")
+                lost = self.end()
+                if lost:
+                    self.said.line(f"{lost.crate.name} was not built. What rattle said:")
+                    print(text_of(lost.log), file=sys.stderr)
+                    return False
             return True
         finally:
             self.said.wipe()
-            for room in self.running.values():
-                room.close()
+            for run in self.running.values():
+                run.close()
 
 
 def stop(signum, frame):
@@ -246,35 +295,28 @@ def stop(signum, frame):
 
 
 def main():
-    uses = listed()
-    names = [*below(PROGRAM, uses), PROGRAM]
-    made = content(names)
-    program = f"{ROOT}/crates/{PROGRAM}/out/{PROGRAM}"
-    is_built = lambda: text_of(STAMP) == made and os.access(program, os.X_OK)
-    if is_built():
-        return 0
-    if not shutil.which("rt"):
+    rt = shutil.which("rt")
+    if not rt:
         print("vp: the Rattle toolchain's command rt is not on the path", file=sys.stderr)
         return 1
+    crates = crates_below(NAME, listed(), os.path.dirname(os.path.dirname(os.path.realpath(rt))))
+    program = crates[-1]
+    if program.is_built():
+        return 0
     signal.signal(signal.SIGTERM, stop)
-    os.makedirs(f"{ROOT}/out", exist_ok=True)
-    with open(f"{ROOT}/out/lock", "w", encoding="utf-8") as lock:
+    os.makedirs(OUT, exist_ok=True)
+    with open(f"{OUT}/lock", "w", encoding="utf-8") as lock:
         try:
             fcntl.flock(lock, fcntl.LOCK_EX | fcntl.LOCK_NB)
         except BlockingIOError:
             print("vp: another vp is building the printer: waiting for it", file=sys.stderr, flush=True)
             fcntl.flock(lock, fcntl.LOCK_EX)
-        if is_built():
+        if program.is_built():
             return 0
-        print(f"vp: building the printer, which proves its {len(names)} crates: some minutes", file=sys.stderr, flush=True)
-        shutil.rmtree(ROOMS, ignore_errors=True)
-        if os.path.exists(STAMP):
-            os.remove(STAMP)
+        print(f"vp: building the printer, which proves its {len(crates)} crates: some minutes", file=sys.stderr, flush=True)
         started = time.time()
-        if not Build(names, uses).run():
+        if not Build(crates, lock).run():
             return 1
-        with open(STAMP, "w", encoding="utf-8") as it:
-            it.write(made)
         print(f"vp: built in {minutes(time.time() - started)}", file=sys.stderr, flush=True)
     return 0
 
