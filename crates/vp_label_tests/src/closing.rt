@@ -2,7 +2,7 @@
 ghost use Rattle.std.specs.Prelude.{◌≡◌, ◌≤◌, ◌<◌, length};
 ghost use Rattle.vp_label_settings.specs.Laws.{IsDrawable, HasBytesAmong};
 
-use crate::same::{same, same_by};
+use crate::checks::{same, same_by};
 use crate::sheets::NONE;
 use std::process::Abort;
 use std::test::Fail;

@@ -1,5 +1,5 @@
 //! Copies in pieces of each length: the room may end at any byte.
-use crate::same::same;
+use crate::checks::same;
 use std::alloc::{AllocError, Global};
 use std::process::Abort;
 use std::test::Fail;

@@ -7,7 +7,7 @@ mod pictures;
 mod symbols;
 mod texts;
 
-use crate::same::same_by;
+use crate::checks::same_by;
 use std::alloc::Global;
 use std::process::Abort;
 use std::test::Fail;

@@ -5,7 +5,7 @@ ghost use Rattle.vp_format.specs.declared.rows.Coding.TheVariants.{RunLength};
 
 mod places;
 
-use crate::same::same;
+use crate::checks::same;
 use std::alloc::AllocError;
 use std::process::Abort;
 use vp_dots::{Fault, Op};

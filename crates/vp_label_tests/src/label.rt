@@ -1,5 +1,5 @@
 //! Streams and what they print, also where there is room for one byte at a time.
-use crate::same::same;
+use crate::checks::same;
 use crate::sheets::NONE;
 use std::alloc::{AllocError, Global};
 use std::process::Abort;

@@ -4,7 +4,7 @@ mod places;
 mod symbols;
 mod texts;
 
-use crate::same::same;
+use crate::checks::same;
 use std::alloc::{AllocError, Global};
 use std::process::Abort;
 use std::test::Fail;

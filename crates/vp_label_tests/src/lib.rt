@@ -5,6 +5,8 @@
 #[cfg(test)]
 mod bands;
 #[cfg(test)]
+mod checks;
+#[cfg(test)]
 mod closing;
 #[cfg(test)]
 mod copies;
@@ -16,8 +18,6 @@ mod format;
 mod label;
 #[cfg(test)]
 mod label_settings;
-#[cfg(test)]
-mod same;
 #[cfg(test)]
 mod sheets;
 #[cfg(test)]

@@ -3,7 +3,7 @@ mod pictures;
 mod rows;
 mod table;
 
-use crate::same::same;
+use crate::checks::same;
 use arrayvec::ArrayVec;
 use std::alloc::{AllocError, Global};
 use std::process::Abort;

@@ -1,5 +1,5 @@
 //! Worked symbols: their values, texts and bars, and why there is none.
-use crate::asserts::same;
+use crate::checks::same;
 use crate::sheet::stairs;
 use std::process::Abort;
 use std::test::Fail;

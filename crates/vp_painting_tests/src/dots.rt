@@ -2,7 +2,7 @@
 
 ghost use Rattle.std.specs.Prelude.{◌≤◌};
 
-use crate::asserts::{reads, same};
+use crate::checks::{reads, same};
 use std::process::Abort;
 use std::test::Fail;
 use vp_dots::{

@@ -2,7 +2,7 @@
 
 ghost use Rattle.std.specs.Prelude.{◌≤◌, ◌≤ℤ◌, pos};
 
-use crate::asserts::{reads, same};
+use crate::checks::{reads, same};
 use crate::sheet::{stairs, stairs_text};
 use std::alloc::Global;
 use std::process::Abort;

@@ -3,9 +3,9 @@
 #![tactic(auto)]
 
 #[cfg(test)]
-mod asserts;
-#[cfg(test)]
 mod bars;
+#[cfg(test)]
+mod checks;
 #[cfg(test)]
 mod dots;
 #[cfg(test)]

@@ -1,5 +1,5 @@
 //! The page: rows, images and wipes in four directions.
-use crate::asserts::same;
+use crate::checks::same;
 use std::alloc::Global;
 use std::process::Abort;
 use std::test::Fail;

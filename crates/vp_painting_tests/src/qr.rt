@@ -3,7 +3,7 @@
 
 ghost use Rattle.std.specs.Prelude.{◌<◌};
 
-use crate::asserts::same;
+use crate::checks::same;
 use arrayvec::ArrayVec;
 use std::process::Abort;
 use vp_dots::{Fault, Ink, Op, Why, paint_dot};

@@ -1,5 +1,5 @@
 //! Data of QR fields.
-use crate::asserts::same;
+use crate::checks::same;
 use vp_dots::{Fault, Why};
 use vp_qr::{Level, Mode};
 use vp_qr_field::qr_front;

@@ -1,4 +1,4 @@
-//! What the tests compare.
+//! What the tests compare, once for all of them.
 use std::fmt::Debug;
 use std::process::Abort;
 

@@ -2,7 +2,7 @@
 mod rows;
 mod values;
 
-use crate::check::{all_hold, same};
+use crate::checks::{all_hold, same};
 use std::alloc::{AllocError, Global};
 use std::test::Fail;
 use vp_dots::Fault;

@@ -3,7 +3,7 @@
 #![tactic(auto)]
 
 #[cfg(test)]
-mod check;
+mod checks;
 #[cfg(test)]
 mod esc;
 #[cfg(test)]

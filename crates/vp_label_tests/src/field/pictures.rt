@@ -3,7 +3,7 @@ ghost use Rattle.std.specs.Prelude.{◌≤◌, length};
 ghost use Rattle.vp_field.specs.Fields.{IsKept};
 
 use super::{view_of, whole};
-use crate::same::same;
+use crate::checks::same;
 use crate::sheets::NONE;
 use std::alloc::Global;
 use std::test::Fail;

@@ -1,6 +1,6 @@
 //! Where fields stand, how they are turned and what they do.
 use super::{last, run};
-use crate::same::same;
+use crate::checks::same;
 use std::alloc::{AllocError, Global};
 use std::test::Fail;
 use vp_dots::Op;

@@ -1,6 +1,6 @@
 //! Rows of bytes, the command that they give last and their lines, in either case.
 use super::listing;
-use crate::same::same;
+use crate::checks::same;
 use arrayvec::ArrayVec;
 use std::alloc::{AllocError, Global};
 use std::process::Abort;

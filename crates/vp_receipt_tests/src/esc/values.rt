@@ -1,6 +1,6 @@
 //! What the bytes of arguments stand for in items.
 use super::last_item;
-use crate::check::same;
+use crate::checks::same;
 use std::process::Abort;
 use vp_esc::item::{
     BarKind, ColumnMode, Cut, Direction, Font, Justification, Magnification, QrLevel, QrModel,

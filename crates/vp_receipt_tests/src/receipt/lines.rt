@@ -1,6 +1,6 @@
 //! Lines of text: their places and styles, columns in them, and the cuts behind them.
 use super::{Case, M, Strip, new_receipt, print_on, right, wanted};
-use crate::check::same;
+use crate::checks::same;
 use std::alloc::Global;
 use std::process::Abort;
 use std::test::Fail;

@@ -1,6 +1,6 @@
 //! Lines on a page: their directions, areas and positions, and what is printed of it.
 use super::{Case, Strip, apply, new_receipt, prints, right};
-use crate::check::same;
+use crate::checks::same;
 use std::alloc::Global;
 use std::process::Abort;
 use std::test::Fail;

@@ -1,7 +1,7 @@
 //! Rasters and symbols on a page.
 use super::page_runs::push_words;
 use super::{Case, Strip, printed, right};
-use crate::check::{all_hold, same};
+use crate::checks::{all_hold, same};
 use std::alloc::{AllocError, Global};
 use std::test::Fail;
 use vp_receipt::Width;

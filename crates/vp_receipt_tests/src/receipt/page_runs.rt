@@ -1,6 +1,6 @@
 //! Rasters on a page in runs of bytes: what they print is what they print byte by byte.
 use super::{Strip, new_receipt, print_on, put_all, wanted};
-use crate::check::all_hold;
+use crate::checks::all_hold;
 use std::alloc::{AllocError, Global};
 use std::test::Fail;
 use vp_esc::EscItem;

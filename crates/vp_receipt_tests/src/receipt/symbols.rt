@@ -1,6 +1,6 @@
 //! Symbols on paper, and those that are refused.
 use super::{Case, M, Strip, new_receipt, print_on, printed, right};
-use crate::check::same;
+use crate::checks::same;
 use std::alloc::{AllocError, Global};
 use std::process::Abort;
 use std::test::Fail;

@@ -1,4 +1,4 @@
-//! What tests compare by.
+//! What the tests compare, once for all of them.
 use std::fmt::Debug;
 use std::process::Abort;
 

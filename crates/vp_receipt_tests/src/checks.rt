@@ -1,4 +1,4 @@
-//! What is compared in tests, and told where it differs.
+//! What the tests compare, once for all of them.
 use std::fmt::Debug;
 use std::process::Abort;
 

@@ -1,4 +1,4 @@
-//! What the tests assert, once for all of them.
+//! What the tests compare, once for all of them.
 use std::alloc::Global;
 use std::fmt::{Debug, Display};
 use std::process::Abort;
