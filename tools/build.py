@@ -26,8 +26,7 @@ TO_LOAD, A_CRATE, A_LINE, TO_COMPILE = 15, 5, 0.023, 60
 # How much of the processors is used, how many of them a crate uses that is proved alone, and for how many of the
 # guess's seconds that is believed rather than what was measured.
 USED, ALONE, BELIEVED = 0.85, 2, 100
-# For so many seconds that a crate is ahead of the longest chain it has one job less, and gives way to others by one more
-# step.
+# For so many seconds that a crate is ahead of the longest chain it gives way to others by one more step.
 A_STEP = 20
 
 
@@ -145,7 +144,9 @@ class Run:
         """Starts the next command. It holds the lock too, so that however this process ends the next one waits for it."""
         with open(self.log, "ab") as log:
             how = {"cwd": self.crate.folder, "stdin": subprocess.DEVNULL, "stdout": log, "stderr": log}
-            how |= {"start_new_session": True, "pass_fds": [self.lock.fileno()]}
+            # (a group of its own, to be ended by, but no session: Linux shares processors out by sessions before it looks
+            # at nice)
+            how |= {"preexec_fn": os.setpgrp, "pass_fds": [self.lock.fileno()]}
             self.ran = subprocess.Popen(self.left.pop(0), **how)
 
     def has_ended(self):
@@ -240,15 +241,16 @@ class Build:
         self.said.line(f"{crate.name} {how} ({len(self.took)} of {len(self.crates)} crates{left})")
 
     def begin(self):
-        """Starts what can be started and finds memory. What the longest chain waits for goes before all others; where
-        there are no more crates than processors, each has two jobs at least."""
+        """Starts what can be started and finds memory. What the longest chain waits for goes before all others, with as
+        many jobs as there are processors; others have one, which takes a fifth less of them, unless they are few."""
         is_ready = lambda it: it not in self.took and it not in self.running and all(dep in self.took for dep in it.uses)
         ready = sorted(filter(is_ready, self.crates), key=lambda it: -self.behind[it])
-        longest = max((self.behind[it] for it in [*ready, *self.running]), default=0)
-        least = 2 if len(ready) + len(self.running) <= self.lanes else 1
+        half_done = [self.behind[it] - self.guess(it) / 2 for it in self.running]
+        longest = max([*map(self.behind.get, ready), *half_done], default=0)
+        are_few = len(ready) + len(self.running) <= self.lanes // 2
         for it in ready:
-            steps = int((longest - self.behind[it]) / A_STEP)
-            jobs = min(max(self.lanes - steps, least), self.lanes)
+            steps = max(int((longest - self.behind[it]) / A_STEP), 0)
+            jobs = self.lanes if are_few or not steps else 1
             memory = self.memory - sum(need(run.jobs) for run in self.running.values())
             while jobs > 1 and need(jobs) > memory:
                 jobs -= 1
