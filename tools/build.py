@@ -27,7 +27,7 @@ TO_LOAD, A_CRATE, A_LINE, TO_COMPILE = 15, 5, 0.023, 60
 # guess's seconds that is believed rather than what was measured.
 USED, ALONE, BELIEVED = 0.85, 2, 100
 # For so many seconds that a crate is ahead of the longest chain it gives way to others by one more step.
-A_STEP = 20
+A_STEP = 60
 
 
 def text_of(file):

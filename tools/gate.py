@@ -1,0 +1,178 @@
+#!/usr/bin/env python3
+"""The gate: rt ci, which tries the must-fail edits of a crate several at a time.
+
+rt tries each edit in a check of its own, and most of that is the loading of what the crate stands on. A function is
+proved from its own body and from the contracts of what it calls. So edits in the bodies of different functions are
+tried in one check, and each is refused there where the prover finds fault with its own function. What isn't refused so,
+and an edit that changes more than bodies, is tried alone by rt itself, as rt must-fail does it."""
+import importlib.machinery
+import importlib.util
+import os
+import re
+import shutil
+import sys
+import tempfile
+
+FUNCTION = re.compile(r"( *)(?:pub(?:\([^)]*\))? )?(?:const )?fn (\w+)")
+# What has methods: a trait, or a type, maybe with the trait that it is given there.
+OWNER = re.compile(r"(?:pub )?trait (?P<of>\w+)|impl(?:<.*?>)? (?:(?P<trait>\w+)(?:<.*?>)? for &?)?(?P<type>\w+)")
+# Faults that the prover finds: by a place of the source, or in a file that answers a function's goals.
+IN_SOURCE = re.compile(r"note: (?:\./)?src/(\S+)\.rt:(\d+):\d+: it is not proved ")
+IN_PROOF = re.compile(r"(?:\./)?proofs/(\S+)/\w+\.antt:\d+:\d+: error: ")
+# What says only that a proof names what the edit took away.
+OF_A_NAME = re.compile(r"has no field|is not in scope|has no `|was not admitted")
+
+
+def kit():
+    """Returns the command rt as a module."""
+    sys.dont_write_bytecode = True
+    loader = importlib.machinery.SourceFileLoader("rt", os.path.realpath(shutil.which("rt")))
+    made = importlib.util.module_from_spec(importlib.util.spec_from_loader("rt", loader))
+    loader.exec_module(made)
+    return made
+
+
+class Function:
+    """A function of a file of src, by its lines there, of which the first is 1, and by where its proof stands."""
+
+    def __init__(self, path, first, last, owner, name):
+        self.module, self.first, self.last = path.removeprefix("src/").removesuffix(".rt"), first, last
+        under = "" if self.module == "lib" else f"{self.module}/"
+        self.proof = rf"([a-z]\w*/)*{owner}/{name}" if owner else f"{under}{name}"
+
+    def is_at_fault(self, line):
+        """Returns whether a line of the prover's tells a fault of this function."""
+        at = IN_SOURCE.match(line)
+        if at:
+            return at[1] == self.module and self.first <= int(at[2]) <= self.last
+        at = IN_PROOF.match(line)
+        return bool(at and re.fullmatch(self.proof, at[1]) and not OF_A_NAME.search(line))
+
+
+def function_around(path, text, place):
+    """Returns the function whose body a place of a file is in, if it is in one, of a text as rt fmt lays it out."""
+    lines, at = text.split("\n"), text.count("\n", 0, place)
+    for named in range(at, -1, -1):
+        found = FUNCTION.match(lines[named])
+        last = found and next((it for it in range(named, len(lines)) if lines[it] == f"{found[1]}}}"), None)
+        if last and at < last:
+            opens = re.compile(rf"{found[1]}(\{{|(pub|const|fn|\)).* \{{)")
+            body = next((it for it in range(named, last) if opens.fullmatch(lines[it])), last)
+            # its attributes are lines of it
+            first = next(it for it in range(named, 0, -1) if not lines[it - 1] or lines[it - 1].endswith(("{", "}", ";")))
+            owners = filter(None, map(OWNER.match, reversed(lines[:first]))) if found[1] else ()
+            owner = next(("".join(filter(None, it.group("of", "type", "trait"))) for it in owners), "")
+            return Function(path, first + 1, last + 1, owner, found[2]) if body < at else None
+    return None
+
+
+class Edit:
+    """A must-fail edit: its texts, each in place of another, and the functions whose bodies those places are in."""
+
+    def __init__(self, crate, file):
+        self.file, self.cuts, self.functions = file, [], []
+        with open(file, encoding="utf-8", errors="replace") as it:
+            lines = it.read().split("\n")
+        path = old = ""
+        for line in lines:
+            word, _, text = line.partition(":")
+            text = text.removeprefix(" ")
+            if word == "file":
+                path = text.strip()
+            elif word == "old":
+                old = text
+            elif word == "new":
+                self.cut(crate, path, old, text)
+
+    def cut(self, crate, path, old, new):
+        with open(f"{crate.folder}/{path}", encoding="utf-8") as it:
+            text = it.read()
+        place = text.find(old)
+        self.cuts.append((path, place, old, new))
+        self.functions.append(function_around(path, text, place) if place >= 0 else None)
+
+    def is_of_bodies(self):
+        return all(self.functions)
+
+    def keys(self):
+        return {it.proof for it in self.functions}
+
+    def fault(self, lines):
+        """Returns the first line that tells a fault of a function that the edit changes."""
+        return next((line for line in lines for it in self.functions if it.is_at_fault(line)), None)
+
+
+def one_for_each_function(edits):
+    """Returns the first edits of which none changes a function that another changes."""
+    taken, keys = [], set()
+    for edit in edits:
+        if not keys & edit.keys():
+            taken.append(edit)
+            keys |= edit.keys()
+    return taken
+
+
+def with_all(crate, edits):
+    """Returns the texts of the files that the edits change."""
+    texts = {}
+    for path in {path for edit in edits for path, *_ in edit.cuts}:
+        with open(f"{crate.folder}/{path}", encoding="utf-8") as it:
+            text = it.read()
+        for at, old, new in sorted((it[1:] for edit in edits for it in edit.cuts if it[0] == path), reverse=True):
+            text = text[:at] + new + text[at + len(old) :]
+        texts[path] = text
+    return texts
+
+
+def tried_together(rt, crate, edits, flags, kept):
+    """Tries edits of different functions in one check, and returns those that are refused, each with the prover's word."""
+    texts = with_all(crate, edits)
+    ran = rt.checked(crate, texts, flags, kept)
+    lines = ran.stdout.rstrip("\n").split("\n")
+    is_refused = ran.returncode == 1 and lines[-1].startswith("logic=not-proved")
+    if not is_refused or rt.rtlib.STALE.search(ran.stdout) or any(rt.unread(it, texts) for it in lines):
+        return {}
+    found = {it.file: it.fault(lines) for it in edits}
+    return {file: fault for file, fault in found.items() if fault}
+
+
+def tried_by_rounds(rt, crate, edits, flags, kept):
+    """Tries edits of bodies, each round over what the crate's own check kept. One whose function calls what is refused in its
+    round may have to wait for the next one. Returns those that are refused, each with the prover's word."""
+    found = {}
+    with tempfile.TemporaryDirectory(prefix="rt-edits-") as room:
+        while edits:
+            shutil.copytree(kept, f"{room}/kept")
+            new = tried_together(rt, crate, one_for_each_function(edits), flags, f"{room}/kept")
+            shutil.rmtree(f"{room}/kept")
+            found |= new
+            edits = [it for it in edits if it.file not in found] if new else []
+    return found
+
+
+def must_fail_all(rt, crate, files, flags):
+    """Tries a crate's edits over what a check of the crate itself kept. What isn't refused so is tried again by rt, from
+    nothing."""
+    readable = [it for it in files if not rt.read_edit(it, crate.folder)[1]]
+    together = [it for it in (Edit(crate, file) for file in readable) if it.is_of_bodies()]
+    tried = {}
+    with tempfile.TemporaryDirectory(prefix="rt-edits-") as kept:
+        if not rt.checked(crate, {}, flags, kept).returncode:
+            for file, fault in tried_by_rounds(rt, crate, together, flags, kept).items():
+                label = f"must-fail {crate.name}/{os.path.basename(file)}"
+                tried[file] = True, f"{label}: refused, as it must be: {fault[:160]}"
+            for file in files:
+                if file not in tried:
+                    tried[file] = rt.must_fail(crate, file, flags, kept)
+    return [tried[it] if it in tried and tried[it][0] else rt.must_fail(crate, it, flags) for it in files]
+
+
+def main():
+    rt = kit()
+    if all(hasattr(rt, it) for it in ("must_fail_all", "must_fail", "checked", "read_edit", "unread", "rtlib")):
+        rt.must_fail_all = lambda *of: must_fail_all(rt, *of)
+    return rt.main(["ci"])
+
+
+if __name__ == "__main__":
+    sys.exit(main())
