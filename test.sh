@@ -16,6 +16,7 @@ tools/minutes.py out/gate.log tools/gate.py || {
     sed -n 's/^ *[0-9.]* | \(rt: FAILED.*\)/\1/p' out/gate.log
     exit 1
 }
+timed ./test-gate.sh
 timed ./test-examples.sh
 timed ./test-recipes.sh
 timed ./test-memory.sh

@@ -19,8 +19,8 @@ OWNER = re.compile(r"(?:pub )?trait (?P<of>\w+)|impl(?:<.*?>)? (?:(?P<trait>\w+)
 # Faults that the prover finds: by a place of the source, or in a file that answers a function's goals.
 IN_SOURCE = re.compile(r"note: (?:\./)?src/(\S+)\.rt:(\d+):\d+: it is not proved ")
 IN_PROOF = re.compile(r"(?:\./)?proofs/(\S+)/\w+\.antt:\d+:\d+: error: ")
-# What says only that a proof names what the edit took away.
-OF_A_NAME = re.compile(r"has no field|is not in scope|has no `|was not admitted")
+# What says only that a proof names what the edit took away, or cites what was refused.
+OF_ANOTHER = re.compile(r"has no field|is not in scope|has no `|was not admitted|depends on ")
 
 
 def kit():
@@ -46,7 +46,7 @@ class Function:
         if at:
             return at[1] == self.module and self.first <= int(at[2]) <= self.last
         at = IN_PROOF.match(line)
-        return bool(at and re.fullmatch(self.proof, at[1]) and not OF_A_NAME.search(line))
+        return bool(at and re.fullmatch(self.proof, at[1]) and not OF_ANOTHER.search(line))
 
 
 def function_around(path, text, place):
@@ -153,6 +153,8 @@ def tried_by_rounds(rt, crate, edits, flags, kept):
 def must_fail_all(rt, crate, files, flags):
     """Tries a crate's edits over what a check of the crate itself kept. What isn't refused so is tried again by rt, from
     nothing."""
+    if not files:
+        return []
     readable = [it for it in files if not rt.read_edit(it, crate.folder)[1]]
     together = [it for it in (Edit(crate, file) for file in readable) if it.is_of_bodies()]
     tried = {}

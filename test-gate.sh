@@ -1,0 +1,54 @@
+#!/bin/sh
+# Runs the gate on a crate of two functions, one of which calls the other. What must be refused is, and an edit that
+# breaks nothing isn't taken for refused where it is tried beside one of the function that it calls.
+set -eu
+gate=$(dirname "$(realpath "$0")")/tools/gate.py
+room=$(mktemp -d)
+trap 'rm -rf "$room"' EXIT
+mkdir -p "$room/crates/one/src" "$room/crates/one/must-fail"
+cd "$room"
+echo 'one:' >crates.txt
+echo 'Handles allowed: none.' >HANDLES
+cat >crates/one/src/lib.rt <<'END'
+//! Two functions, of which one calls the other.
+#![tactic(auto)]
+
+ghost use Rattle.std.specs.Prelude.{◌≡◌, ◌/◌};
+
+/// Half of a number.
+pub fn half(a: u8) -> u8
+    ensures { result ≡ a / 2 }
+{
+    a / 2
+}
+
+/// A quarter of it.
+pub fn quarter(a: u8) -> u8
+    ensures { result ≡ a / 2 / 2 }
+{
+    let it = half(a);
+    half(it)
+}
+END
+
+# edit NAME OLD NEW
+edit() { printf 'file: src/lib.rt\nold: %s\nnew: %s\n' "$2" "$3" >"crates/one/must-fail/$1.edit"; }
+edit half_is_a_third '    a / 2' '    a / 3'
+edit quarter_is_a_half '    half(it)' '    it'
+edit quarter_with_a_type 'let it = half(a);' 'let it: u8 = half(a);'
+
+status=0
+"$gate" >said 2>&1 || status=$?
+says() {
+    grep -q "$1" said || {
+        echo "test-gate: nothing said of: $1" >&2
+        cat said >&2
+        exit 1
+    }
+}
+says 'must-fail one/half_is_a_third.edit: refused, as it must be: note: src/lib.rt:7:1: it is not proved'
+says 'must-fail one/quarter_is_a_half.edit: refused, as it must be: note: src/lib.rt:14:1: it is not proved'
+says 'must-fail one/quarter_with_a_type.edit: NOT REFUSED'
+says '^3 passed, 1 failed$'
+[ "$status" = 1 ]
+echo 'the gate refuses what it must, and nothing else: ok'
