@@ -16,6 +16,13 @@ fn file<'a>(alloc: Global) -> Arg<'a> {
     Arg::new(alloc, "FILE").help("What was sent to the printer [default: standard input]")
 }
 
+/// The images that are joined.
+fn images<'a>(alloc: Global) -> Arg<'a> {
+    Arg::new(alloc, "FILE")
+        .required(true)
+        .help("Images of one width, as they were printed; read twice")
+}
+
 /// The width of the paper.
 fn width<'a>(alloc: Global) -> Arg<'a> {
     Arg::new(alloc, "width")
@@ -84,12 +91,9 @@ fn list<'a>(alloc: Global) -> Result<Command<'a>, AllocError> {
 }
 
 fn join<'a>(alloc: Global) -> Result<Command<'a>, AllocError> {
-    let file = Arg::new(alloc, "FILE")
-        .required(true)
-        .help("Images of one width, as they were printed; read twice");
     Command::new(alloc, "join")
         .about("Joins images to one, with all their rows in order")
-        .arg(file)
+        .arg(images(alloc))
 }
 
 /// A command with one subcommand more.
@@ -100,14 +104,20 @@ fn with<'a>(
     command.subcommand(subcommand?)
 }
 
+/// The program without its subcommands.
+fn vp<'a>(alloc: Global) -> Result<Command<'a>, AllocError> {
+    Ok(
+        Command::new(alloc, "vp")
+            .bin_name("vp")?
+            .version(VERSION)
+            .about("A virtual printer: what is printed goes to standard output as PBM images")
+            .subcommand_required(true),
+    )
+}
+
 /// The words that are read.
 pub fn program<'a>(alloc: Global) -> Result<Command<'a>, AllocError> {
-    let command = Command::new(alloc, "vp")
-        .bin_name("vp")?
-        .version(VERSION)
-        .about("A virtual printer: what is printed goes to standard output as PBM images")
-        .subcommand_required(true);
-    let command = with(command, receipt(alloc))?;
+    let command = with(vp(alloc)?, receipt(alloc))?;
     let command = with(command, label(alloc))?;
     let command = with(command, list(alloc))?;
     with(command, join(alloc))
