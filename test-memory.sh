@@ -4,6 +4,7 @@
 # processors, each in a copy of the sources, since rt does one thing at a time in a folder.
 set -eu
 cd "$(dirname "$0")"
+tools=$PWD/tools
 lanes=$(nproc)
 rooms=$(mktemp -d)
 trap 'rm -rf "$rooms"' EXIT
@@ -19,7 +20,7 @@ done
 # refuse LANE NTH: runs the tests in the lane's room, with their nth allocation refused
 refuse() {
     cd "$rooms/$1/crates/vp_memory_tests"
-    rt try --test --fail-alloc "$2" >"$rooms/$1/log" 2>&1 || true
+    "$tools/try.py" --test --fail-alloc "$2" >"$rooms/$1/log" 2>&1 || true
 }
 
 # is_last LANE NTH: whether nothing was left to be refused; ends the test where a call answered otherwise
