@@ -26,8 +26,9 @@ TO_LOAD, A_CRATE, A_LINE, TO_COMPILE = 15, 5, 0.023, 60
 # How much of the processors is used, how many of them a crate uses that is proved alone, and for how many of the
 # guess's seconds that is believed rather than what was measured.
 USED, ALONE, BELIEVED = 0.85, 2, 100
-# For so many seconds that a crate is ahead of the longest chain it gives way to others by one more step.
-A_STEP = 60
+# How many jobs go on for each processor at most, and for how many seconds that a crate is ahead of the longest chain it
+# gives way to others by one more step.
+MOST, A_STEP = 2, 60
 
 
 def text_of(file):
@@ -241,8 +242,9 @@ class Build:
         self.said.line(f"{crate.name} {how} ({len(self.took)} of {len(self.crates)} crates{left})")
 
     def begin(self):
-        """Starts what can be started and finds memory. What the longest chain waits for goes before all others, with as
-        many jobs as there are processors; others have one, which takes a fifth less of them, unless they are few."""
+        """Starts what can be started and finds memory and processors. What the longest chain waits for goes before all
+        others, with as many jobs as there are processors; others have one, which takes a fifth less of them, unless they are
+        few."""
         is_ready = lambda it: it not in self.took and it not in self.running and all(dep in self.took for dep in it.uses)
         ready = sorted(filter(is_ready, self.crates), key=lambda it: -self.behind[it])
         half_done = [self.behind[it] - self.guess(it) / 2 for it in self.running]
@@ -252,9 +254,10 @@ class Build:
             steps = max(int((longest - self.behind[it]) / A_STEP), 0)
             jobs = self.lanes if are_few or not steps else 1
             memory = self.memory - sum(need(run.jobs) for run in self.running.values())
-            while jobs > 1 and need(jobs) > memory:
+            lanes = MOST * self.lanes - sum(run.jobs for run in self.running.values())
+            while jobs > 1 and (need(jobs) > memory or jobs > lanes):
                 jobs -= 1
-            if not self.running or need(jobs) <= memory:
+            if not self.running or (need(jobs) <= memory and jobs <= lanes):
                 self.running[it] = Run(it, jobs, min(steps, 19), self.lock)
 
     def end(self):
