@@ -242,9 +242,9 @@ class Build:
         self.said.line(f"{crate.name} {how} ({len(self.took)} of {len(self.crates)} crates{left})")
 
     def begin(self):
-        """Starts what can be started and finds memory and processors. What the longest chain waits for goes before all
-        others, with as many jobs as there are processors; others have one, which takes a fifth less of them, unless they are
-        few."""
+        """Starts what can be started and finds memory. What the longest chain waits for goes before all others, with as
+        many jobs as there are processors; others have one, which takes a fifth less of them, unless they are few, and wait
+        while the processors are full."""
         is_ready = lambda it: it not in self.took and it not in self.running and all(dep in self.took for dep in it.uses)
         ready = sorted(filter(is_ready, self.crates), key=lambda it: -self.behind[it])
         half_done = [self.behind[it] - self.guess(it) / 2 for it in self.running]
@@ -254,7 +254,7 @@ class Build:
             steps = max(int((longest - self.behind[it]) / A_STEP), 0)
             jobs = self.lanes if are_few or not steps else 1
             memory = self.memory - sum(need(run.jobs) for run in self.running.values())
-            lanes = MOST * self.lanes - sum(run.jobs for run in self.running.values())
+            lanes = MOST * self.lanes - sum(run.jobs for run in self.running.values()) if steps else jobs
             while jobs > 1 and (need(jobs) > memory or jobs > lanes):
                 jobs -= 1
             if not self.running or (need(jobs) <= memory and jobs <= lanes):
