@@ -151,8 +151,8 @@ def tried_by_rounds(rt, crate, edits, flags, kept):
 
 
 def must_fail_all(rt, crate, files, flags):
-    """Tries a crate's edits over what a check of the crate itself kept. What isn't refused so is tried again by rt, from
-    nothing."""
+    """Tries a crate's edits over what a check of the crate itself kept: by rounds, and alone what no round refused. What
+    isn't refused so is tried once more from nothing."""
     if not files:
         return []
     readable = [it for it in files if not rt.read_edit(it, crate.folder)[1]]
