@@ -33,12 +33,14 @@ def kit():
 
 
 class Function:
-    """A function of a file of src, by its lines there, of which the first is 1, and by where its proof stands."""
+    """A function of a file of src, by its lines there, of which the first is 1, by where its proof stands, and by its name
+    for rattle, or as much of its end as says which it is."""
 
     def __init__(self, path, first, last, owner, name):
         self.module, self.first, self.last = path.removeprefix("src/").removesuffix(".rt"), first, last
         under = "" if self.module == "lib" else f"{self.module}/"
         self.proof = rf"([a-z]\w*/)*{owner}/{name}" if owner else f"{under}{name}"
+        self.path = f"{owner}::{name}" if owner else f"{under}{name}".replace("/", "::")
 
     def is_at_fault(self, line):
         """Returns whether a line of the prover's tells a fault of this function."""
@@ -125,11 +127,13 @@ def with_all(crate, edits):
 
 
 def tried_together(rt, crate, edits, flags, kept):
-    """Tries edits of different functions in one check, and returns those that are refused, each with the prover's word."""
+    """Tries edits of different functions in one check of these and of what they call, and returns those that are refused,
+    each with the prover's word."""
     texts = with_all(crate, edits)
-    ran = rt.checked(crate, texts, flags, kept)
+    only = [word for edit in edits for it in edit.functions for word in ("--only", it.path)]
+    ran = rt.checked(crate, texts, flags + only, kept)
     lines = ran.stdout.rstrip("\n").split("\n")
-    is_refused = ran.returncode == 1 and lines[-1].startswith("logic=not-proved")
+    is_refused = ran.returncode == 1 and lines[-1].startswith("only=")
     if not is_refused or rt.rtlib.STALE.search(ran.stdout) or any(rt.unread(it, texts) for it in lines):
         return {}
     found = {it.file: it.fault(lines) for it in edits}
@@ -137,36 +141,30 @@ def tried_together(rt, crate, edits, flags, kept):
 
 
 def tried_by_rounds(rt, crate, edits, flags, kept):
-    """Tries edits of bodies, each round over what the crate's own check kept. One whose function calls what is refused in its
-    round may have to wait for the next one. Returns those that are refused, each with the prover's word."""
+    """Tries edits of bodies, a round of them in each check, the first from nothing and the others over what those before
+    them kept. One whose function calls what is refused in its round may have to wait for the next one. Returns those that
+    are refused, each with the prover's word."""
     found = {}
-    with tempfile.TemporaryDirectory(prefix="rt-edits-") as room:
-        while edits:
-            shutil.copytree(kept, f"{room}/kept")
-            new = tried_together(rt, crate, one_for_each_function(edits), flags, f"{room}/kept")
-            shutil.rmtree(f"{room}/kept")
-            found |= new
-            edits = [it for it in edits if it.file not in found] if new else []
+    while edits:
+        new = tried_together(rt, crate, one_for_each_function(edits), flags, kept)
+        found |= new
+        edits = [it for it in edits if it.file not in found] if new else []
     return found
 
 
 def must_fail_all(rt, crate, files, flags):
-    """Tries a crate's edits over what a check of the crate itself kept: by rounds, and alone what no round refused. What
-    isn't refused so is tried once more from nothing."""
-    if not files:
-        return []
+    """Tries the edits of a crate that is proved: by rounds, and alone what no round refused. What isn't refused so either is
+    tried once more from nothing, and so is what was tried alone where the crate itself isn't proved over what was kept."""
     readable = [it for it in files if not rt.read_edit(it, crate.folder)[1]]
     together = [it for it in (Edit(crate, file) for file in readable) if it.is_of_bodies()]
-    tried = {}
     with tempfile.TemporaryDirectory(prefix="rt-edits-") as kept:
-        if not rt.checked(crate, {}, flags, kept).returncode:
-            for file, fault in tried_by_rounds(rt, crate, together, flags, kept).items():
-                label = f"must-fail {crate.name}/{os.path.basename(file)}"
-                tried[file] = True, f"{label}: refused, as it must be: {fault[:160]}"
-            for file in files:
-                if file not in tried:
-                    tried[file] = rt.must_fail(crate, file, flags, kept)
-    return [tried[it] if it in tried and tried[it][0] else rt.must_fail(crate, it, flags) for it in files]
+        found = tried_by_rounds(rt, crate, together, flags, kept)
+        label = f"must-fail {crate.name}/%s: refused, as it must be: %s"
+        tried = {it: (True, label % (os.path.basename(it), fault[:160])) for it, fault in found.items()}
+        alone = {it: rt.must_fail(crate, it, flags, kept) for it in files if it not in tried}
+        if alone and not rt.checked(crate, {}, flags, kept).returncode:
+            tried |= {it: said for it, said in alone.items() if said[0]}
+    return [tried[it] if it in tried else rt.must_fail(crate, it, flags) for it in files]
 
 
 def main():
