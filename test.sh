@@ -17,6 +17,7 @@ tools/minutes.py out/gate.log tools/gate.py || {
     exit 1
 }
 timed ./test-gate.sh
+timed ./test-program.py
 timed ./test-examples.sh
 timed ./test-recipes.sh
 timed ./test-memory.sh

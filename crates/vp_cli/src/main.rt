@@ -4,8 +4,6 @@
 mod file;
 mod run;
 mod sheets;
-#[cfg(test)]
-mod tests;
 
 use run::{run, words};
 use std::process::ExitCode;
