@@ -72,7 +72,7 @@ def watch(run, start, note):
         for it in [it for it in live if it not in spent]:
             began, seconds = live.pop(it)
             note(f'{now:8.1f} = {" ".join(known.pop(it))} {now - began:.1f} {seconds:.1f}')
-        time.sleep(.2)
+        time.sleep(.5)
 
 
 def record(name, command):

@@ -6,8 +6,6 @@ pub mod laws;
 mod padding;
 mod passes;
 mod reading;
-#[cfg(test)]
-mod tests;
 
 pub use fault::{JoinFault, Offence};
 pub use passes::join;

@@ -1,5 +1,6 @@
 //! Whole streams through the printer and its listings: what they print in one piece, cut at both ends,
-//! and between readers and writers that give and take a few bytes at a time and fail once.
+//! and between readers and writers that give and take a few bytes at a time and fail once. Images that are
+//! joined, between such readers and writers.
 #![tactic(auto)]
 
 #[cfg(test)]
@@ -10,6 +11,8 @@ mod checks;
 mod fields;
 #[cfg(test)]
 mod held;
+#[cfg(test)]
+mod joining;
 #[cfg(test)]
 mod labels;
 #[cfg(test)]

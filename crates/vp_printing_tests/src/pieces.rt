@@ -1,8 +1,10 @@
 //! A reader and a writer over memory that give and take at most so many bytes a call, and fail at one call.
+use crate::checks::same;
 use std::alloc::Global;
 use std::io;
 use std::io::{ErrorKind, Read, Write};
-use vp_engine::Counted;
+use std::test::Fail;
+use vp_engine::{Counted, Sink, Source};
 
 /// Gives the bytes in pieces.
 #[derive(Drop)]
@@ -71,4 +73,24 @@ pub fn writer(alloc: Global, most: usize, fails_at: usize) -> Counted<Sips> {
         calls: 0,
         fails_at,
     })
+}
+
+/// What one read of at most three bytes gives is written: how many were read, and how many written.
+fn pass<S: Source, K: Sink>(reader: &mut S, writer: &mut K) -> Result<(usize, usize), Fail> {
+    let mut buffer = [0; 3];
+    let n = reader.read(&mut buffer)?;
+    Ok((n, writer.write(&buffer[..n])?))
+}
+
+#[test]
+fn bytes_go_through(rt: HostRuntime) -> Result<(), Fail> {
+    let mut reader = Counted::new(b"paper".as_slice());
+    let mut writer = Counted::new(Vec::<u8>::new(rt.alloc()));
+    same(&rt, "first", &pass(&mut reader, &mut writer)?, &(3, 3));
+    same(&rt, "second", &pass(&mut reader, &mut writer)?, &(2, 2));
+    same(&rt, "last", &pass(&mut reader, &mut writer)?, &(0, 0));
+    let (rest, written) = (reader.into_inner(), writer.into_inner());
+    same(&rt, "rest", &rest.len(), &0);
+    same(&rt, "written", &written.as_slice(), &b"paper".as_slice());
+    Ok(())
 }

@@ -12,5 +12,3 @@ mod stream;
 pub use language::Language;
 pub use stream::{Counted, Sink, Source};
 
-#[cfg(test)]
-mod tests;
