@@ -11,4 +11,3 @@ mod stream;
 
 pub use language::Language;
 pub use stream::{Counted, Sink, Source};
-
