@@ -26,9 +26,8 @@ TO_LOAD, A_CRATE, A_LINE, TO_COMPILE = 15, 5, 0.023, 60
 # How much of the processors is used, how many of them a crate uses that is proved alone, and for how many of the
 # guess's seconds that is believed rather than what was measured.
 USED, ALONE, BELIEVED = 0.85, 2, 100
-# How many jobs go on for each processor at most, and for how many seconds that a crate is ahead of the longest chain it
-# gives way to others by one more step.
-MOST, A_STEP = 2, 60
+# How many jobs a crate has at most: with more of them it takes about as long.
+JOBS = 4
 
 
 def text_of(file):
@@ -129,9 +128,9 @@ def crates_below(name, stands_on, kit):
 class Run:
     """A crate that is being built."""
 
-    def __init__(self, crate, jobs, gives_way, lock):
+    def __init__(self, crate, jobs, lock):
         self.crate, self.jobs, self.started, self.content = crate, jobs, time.time(), crate.content()
-        self.left = [["nice", "-n", str(gives_way), *it] for it in crate.commands(jobs)]
+        self.left = crate.commands(jobs)
         self.log, self.lock = f"{OUT}/{crate.name}.log", lock
         built, made_from = crate.built()
         os.makedirs(os.path.dirname(built), exist_ok=True)
@@ -145,8 +144,7 @@ class Run:
         """Starts the next command. It holds the lock too, so that however this process ends the next one waits for it."""
         with open(self.log, "ab") as log:
             how = {"cwd": self.crate.folder, "stdin": subprocess.DEVNULL, "stdout": log, "stderr": log}
-            # (a group of its own, to be ended by, but no session: Linux shares processors out by sessions before it looks
-            # at nice)
+            # (a group of its own, to be ended by)
             how |= {"preexec_fn": os.setpgrp, "pass_fds": [self.lock.fileno()]}
             self.ran = subprocess.Popen(self.left.pop(0), **how)
 
@@ -242,23 +240,17 @@ class Build:
         self.said.line(f"{crate.name} {how} ({len(self.took)} of {len(self.crates)} crates{left})")
 
     def begin(self):
-        """Starts what can be started and finds memory. What the longest chain waits for goes before all others, with as
-        many jobs as there are processors; others have one, which takes a fifth less of them, unless they are few, and wait
-        while the processors are full."""
+        """Starts what can be started and finds memory, what the longest chain waits for first: two crates at a time, or half
+        as many as there are processors, each with a job for each processor that no crate before it was begun for."""
         is_ready = lambda it: it not in self.took and it not in self.running and all(dep in self.took for dep in it.uses)
-        ready = sorted(filter(is_ready, self.crates), key=lambda it: -self.behind[it])
-        half_done = [self.behind[it] - self.guess(it) / 2 for it in self.running]
-        longest = max([*map(self.behind.get, ready), *half_done], default=0)
-        are_few = len(ready) + len(self.running) <= self.lanes // 2
-        for it in ready:
-            steps = max(int((longest - self.behind[it]) / A_STEP), 0)
-            jobs = self.lanes if are_few or not steps else 1
+        at_once = max(self.lanes // 2, min(self.lanes, 2))
+        for it in sorted(filter(is_ready, self.crates), key=lambda it: -self.behind[it]):
+            jobs = min(self.lanes - len(self.running), JOBS)
             memory = self.memory - sum(need(run.jobs) for run in self.running.values())
-            lanes = MOST * self.lanes - sum(run.jobs for run in self.running.values()) if steps else jobs
-            while jobs > 1 and (need(jobs) > memory or jobs > lanes):
+            while jobs > 1 and need(jobs) > memory:
                 jobs -= 1
-            if not self.running or (need(jobs) <= memory and jobs <= lanes):
-                self.running[it] = Run(it, jobs, min(steps, 19), self.lock)
+            if not self.running or (need(jobs) <= memory and len(self.running) < at_once):
+                self.running[it] = Run(it, jobs, self.lock)
 
     def end(self):
         """Puts away what has ended, and returns the first that did not go well, if any did."""
