@@ -26,7 +26,7 @@ TO_LOAD, A_CRATE, A_LINE, TO_COMPILE = 15, 5, 0.023, 60
 # How much of the processors is used, how many of them a crate uses that is proved alone, and for how many of the
 # guess's seconds that is believed rather than what was measured.
 USED, ALONE, BELIEVED = 0.85, 2, 100
-# How many jobs a crate has at most: with more of them it takes about as long.
+# How many jobs a crate has at most.
 JOBS = 4
 
 
