@@ -5,7 +5,7 @@
 set -eu
 export LC_ALL=C
 cd "$(dirname "$0")"
-vp=$PWD/crates/vp_cli/out/vp_cli
+vp=$PWD/crates/program/vp_cli/out/vp_cli
 [ -x "$vp" ] || ./vp --help >/dev/null
 scratch=$(mktemp -d)
 trap 'rm -rf "$scratch"' EXIT

@@ -11,7 +11,7 @@ trap 'rm -rf "$rooms"' EXIT
 for lane in $(seq "$lanes"); do
     mkdir "$rooms/$lane"
     cp HANDLES crates.txt "$rooms/$lane"
-    for sources in crates/*/src; do
+    for sources in crates/*/*/src; do
         mkdir -p "$rooms/$lane/$sources"
         cp -R "$sources/." "$rooms/$lane/$sources"
     done
@@ -19,7 +19,7 @@ done
 
 # refuse LANE NTH: runs the tests in the lane's room, with their nth allocation refused
 refuse() {
-    cd "$rooms/$1/crates/vp_memory_tests"
+    cd "$rooms/$1/crates/tests/vp_memory_tests"
     "$tools/try.py" --test --fail-alloc "$2" >"$rooms/$1/log" 2>&1 || true
 }
 

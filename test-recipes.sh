@@ -3,7 +3,7 @@
 set -eu
 cd "$(dirname "$0")"
 root=$PWD
-vp=$root/crates/vp_cli/out/vp_cli
+vp=$root/crates/program/vp_cli/out/vp_cli
 [ -x "$vp" ] || ./vp --help >/dev/null
 scratch=$(mktemp -d)
 server=

@@ -2,7 +2,7 @@
 # Builds the bench programs and runs one: bench/run.sh NAME. With no name it says which there are.
 # The times are those of the machine it runs on; the ratios are what to look at.
 set -eu
-cd "$(dirname "$0")/../crates/vp_bench"
+cd "$(dirname "$0")/../crates/tests/vp_bench"
 log=$(mktemp)
 trap 'rm -f "$log"' EXIT
 if ! rt run >"$log" 2>&1; then

@@ -4,7 +4,7 @@ sources as they are, by their content, it does nothing.
 
 Crates that don't stand on one another are proved side by side, each from nothing, by the toolchain's rattle itself: its
 command rt would lock all that a crate stands on. A crate's library, with statements and not their proofs, stands in
-crates/NAME/out/rlib/proved beside the sum of what it was made from."""
+crates/FOLDER/NAME/out/rlib/proved beside the sum of what it was made from."""
 import fcntl
 import hashlib
 import os
@@ -15,7 +15,7 @@ import sys
 import time
 
 ROOT = os.path.dirname(os.path.dirname(os.path.realpath(__file__)))
-NAME = "vp_cli"
+PROGRAM = "program/vp_cli"
 OUT = f"{ROOT}/out"
 PARTS = ("src", "specs", "proofs")
 # What a check is likely to take, in bytes, with one job and for each further one.
@@ -39,7 +39,7 @@ def text_of(file):
 
 
 def listed():
-    """Returns what each crate of crates.txt stands on."""
+    """Returns what each crate of crates.txt stands on, by its place below crates/."""
     lines = [line.partition("#")[0].partition(":") for line in (text_of(f"{ROOT}/crates.txt") or "").split("\n")]
     return {name.strip(): deps.split() for name, _, deps in lines if name.strip()}
 
@@ -54,8 +54,8 @@ def free():
 class Crate:
     """A crate, with those of the repository below it, each after those that it stands on itself."""
 
-    def __init__(self, name, stands_on, kit):
-        self.name, self.kit, self.folder = name, kit, f"{ROOT}/crates/{name}"
+    def __init__(self, place, stands_on, kit):
+        self.name, self.kit, self.folder = os.path.basename(place), kit, f"{ROOT}/crates/{place}"
         self.uses = [it for it in stands_on if isinstance(it, Crate)]
         self.libraries = ["std", *[it for it in stands_on if not isinstance(it, Crate)]]
         self.below = [*dict.fromkeys(it for dep in self.uses for it in [*dep.below, dep])]
@@ -296,7 +296,7 @@ def main():
     if not rt:
         print("vp: the Rattle toolchain's command rt is not on the path", file=sys.stderr)
         return 1
-    crates = crates_below(NAME, listed(), os.path.dirname(os.path.dirname(os.path.realpath(rt))))
+    crates = crates_below(PROGRAM, listed(), os.path.dirname(os.path.dirname(os.path.realpath(rt))))
     program = crates[-1]
     if program.is_built():
         return 0

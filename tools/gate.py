@@ -4,7 +4,10 @@
 rt tries each edit in a check of its own, and most of that is the loading of what the crate stands on. A function is
 proved from its own body and from the contracts of what it calls. So edits in the bodies of different functions are
 tried in one check, and each is refused there where the prover finds fault with its own function. What isn't refused so,
-and an edit that changes more than bodies, is tried alone by rt itself, as rt must-fail does it."""
+and an edit that changes more than bodies, is tried alone by rt itself, as rt must-fail does it.
+
+rt ci wants all crates side by side. So it runs on a copy of the repository in which each crate of crates/FOLDER/NAME
+stands in crates/NAME, and what it made of the program is brought back."""
 import importlib.machinery
 import importlib.util
 import os
@@ -167,11 +170,37 @@ def must_fail_all(rt, crate, files, flags):
     return [tried[it] if it in tried else rt.must_fail(crate, it, flags) for it in files]
 
 
+def side_by_side(root, room):
+    """Copies the repository with its crates side by side, and returns where each program that was copied stands in it."""
+    shutil.copytree(root, room, ignore=shutil.ignore_patterns(".git", "out"), symlinks=True)
+    with open(f"{room}/crates.txt", encoding="utf-8") as it:
+        listed = it.read()
+    programs = {}
+    for place in re.findall(r"(?m)^([\w-]+(?:/[\w-]+)+)\b", listed):
+        name = os.path.basename(place)
+        if os.path.isdir(f"{room}/crates/{place}"):
+            os.rename(f"{room}/crates/{place}", f"{room}/crates/{name}")
+        if os.path.isfile(f"{room}/crates/{name}/src/main.rt"):
+            programs[f"{room}/crates/{name}/out/{name}"] = f"{root}/crates/{place}/out/{name}"
+    with open(f"{room}/crates.txt", "w", encoding="utf-8") as it:
+        it.write(re.sub(r"(?m)(^| )(?:[\w-]+/)+([\w-]+)", r"\1\2", re.sub(r"#.*", "", listed)))
+    return programs
+
+
 def main():
     rt = kit()
     if all(hasattr(rt, it) for it in ("must_fail_all", "must_fail", "checked", "read_edit", "unread", "rtlib")):
         rt.must_fail_all = lambda *of: must_fail_all(rt, *of)
-    return rt.main(["ci"])
+    with tempfile.TemporaryDirectory(prefix="vp-gate-") as room:
+        programs = side_by_side(os.getcwd(), f"{room}/all")
+        os.chdir(f"{room}/all")
+        status = rt.main(["ci"])
+        for made, to in programs.items():
+            if os.path.isfile(made):
+                os.makedirs(os.path.dirname(to), exist_ok=True)
+                shutil.copy2(made, f"{to}.new")
+                os.replace(f"{to}.new", to)
+        return status
 
 
 if __name__ == "__main__":

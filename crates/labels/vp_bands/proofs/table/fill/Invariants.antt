@@ -1,0 +1,16 @@
+use Rattle.std.proofs.Common.{◌≡◌, length, take}
+use Rattle.std.specs.List.{All}
+use Rattle.vp_fields_by_band.specs.Threads.{IsPlaced}
+use Rattle.vp_bands.specs.Standing.{fields_of, IsSpanned}
+use Rattle.vp_bands.proofs.table.fill.Given as goal
+
+-- the entries before this one are set
+abbrev pub invariant-loop-n : goal.invariant-loop-n
+invariant-loop-n l = record {
+  len : length l.threads.entries ≡ l.n;
+  fields : fields_of l.threads.entries ≡ take l.n l.format.fields;
+  spanned : All (IsSpanned l.sheets l.format.stored l.view) l.threads.entries;
+  placed : All (λ e. IsPlaced e 250) l.threads.entries;
+  heads : l.threads.heads ≡ l.fn.threads.heads;
+  links : l.threads.links ≡ l.fn.threads.links;
+}

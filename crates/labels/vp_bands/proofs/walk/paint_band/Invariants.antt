@@ -1,0 +1,23 @@
+use Rattle.std.proofs.Common.{◌≡◌, ◌+◌, ◌*◌, ◌-◌, ◌≤◌, length, take}
+use Rattle.vp_field.specs.Bands.{Shows}
+use Rattle.vp_fields_by_band.specs.Held.{Stays}
+use Rattle.vp_fields_by_band.specs.Threads.{IsWalk}
+use Rattle.vp_bands.specs.Standing.{met, AreMarked}
+use Rattle.vp_bands.proofs.Painted.{strokes}
+use Rattle.vp_bands.proofs.walk.paint_band.Given as goal
+
+-- of the fields seen those that meet the band are painted, and each of these took one look or two
+abbrev pub invariant-loop-n : goal.invariant-loop-n
+invariant-loop-n l = record {
+  walk : IsWalk l.fn.threads.entries l.threads.links l.b l.walk;
+  stays : Stays l.fn.threads l.threads;
+  lengths : length l.marks ≡ length l.fn.marks;
+  shows : Shows l.view (32 * l.b) (strokes l.sheets l.stored (met l.b (take l.walk.seen l.fn.threads.entries))) l.band;
+  ahead : AreMarked l.stored l.fn.threads.entries l.marks l.b l.walk.seen (length l.fn.threads.entries);
+  behind : AreMarked l.stored l.fn.threads.entries l.marks (l.b + 1) 0 l.walk.seen;
+  at_least : l.fn.threads.looks + length (met l.b (take l.walk.seen l.fn.threads.entries)) ≤ l.threads.looks;
+  at_most : l.threads.looks ≤ l.fn.threads.looks + 1 + 2 * length (met l.b (take l.walk.seen l.fn.threads.entries));
+}
+
+abbrev pub decreases-loop-n : goal.decreases-loop-n
+decreases-loop-n l = length l.fn.threads.entries - l.walk.seen

@@ -1,0 +1,115 @@
+//! All bands of a label, copy after copy.
+ghost use Rattle.std.specs.Prelude.{◌≡◌, ℕ, ◌+◌, ◌*◌, ◌<◌, ◌≤◌, List, [], map, slice_index_or, IfOk};
+ghost use Rattle.std.specs.List.{All};
+ghost use Rattle.vp_dots.specs.Dots.{dot};
+ghost use Rattle.vp_glyph.specs.declared.Sheets.{Sheets as Given};
+ghost use Rattle.vp_field.specs.Fields.{stroke_of, IsKept};
+ghost use Rattle.vp_field.specs.Strokes.{image_dot};
+ghost use Rattle.vp_field.specs.declared.view.View.{View as Seen};
+ghost use Rattle.vp_bands.specs.Meeting.{meeting};
+ghost use Rattle.vp_bands.specs.Standing.{fields_of, IsBefore};
+
+use crate::meeting::BANDS;
+use crate::table::thread_fields;
+use crate::walk::paint_band;
+use std::alloc::{AllocError, Global};
+use std::marker::Model;
+use vp_dots::Band;
+use vp_field::View;
+use vp_fields_by_band::Threads;
+use vp_format::{FIELDS, Format, RunMark};
+use vp_glyph::Sheets;
+
+/// Paints the bands of a label of at most 1,248 by 8,000 dots and 1,024 fields, one after the other, in each
+/// of its copies.
+#[derive(Drop)]
+pub struct BandPainter {
+    threads: Threads,
+    marks: Vec<Option<RunMark>>,
+}
+
+impl Model for BandPainter {
+    ghost use Rattle.vp_bands.specs.Standing.{Threaded, HasRoom, threaded_by};
+
+    ghost Value = { Threaded };
+
+    ghost view = { threaded_by };
+
+    ghost invariant = { HasRoom };
+}
+
+impl BandPainter {
+    /// A painter of a label without fields: the only call that takes memory.
+    pub fn new(alloc: Global) -> Result<Self, AllocError>
+        ensures none { IfOk result (λ painter. painter.entries ≡ []) }
+        ensures looks { IfOk result (λ painter. painter.looks ≡ 0) }
+    {
+        Ok(BandPainter {
+            threads: Threads::new(alloc, BANDS)?,
+            marks: vec![in alloc; None; FIELDS]?,
+        })
+    }
+
+    /// Takes on the fields of a format, whose label is put out as `view` says, before its first band.
+    pub fn thread(&mut self, sheets: &Sheets, format: &Format, view: View)
+        requires kept { All (IsKept format.now.stored) format.now.fields }
+        requires low { view.height ≤ 32 * BANDS }
+        ensures fields { fields_of self.new.entries ≡ format.now.fields }
+        ensures before { IsBefore sheets.now format.now.stored view 0 self.new }
+        ensures looks { self.new.looks ≡ 0 }
+    {
+        thread_fields(&mut self.threads, sheets, format, view);
+        self.threads.start();
+    }
+
+    /// Goes back before the first band, for another copy of the same label.
+    pub fn start(&mut self)
+        ensures fields { self.new.entries ≡ self.old.entries }
+        ensures before { (sheets : Given) (stored : List ℕ) (view : Seen) (b : ℕ)
+            → IsBefore sheets stored view b self.old → IsBefore sheets stored view 0 self.new }
+        ensures looks { self.new.looks ≡ 0 }
+    {
+        self.threads.start();
+    }
+
+    /// Paints band b, whose first row is row 32 b of the label as it is put out: each band of a copy once, in
+    /// their order.
+    pub fn paint(
+        &mut self,
+        b: usize,
+        sheets: &Sheets,
+        stored: &[u8],
+        view: View,
+        band: &mut Band<156, 32>,
+    )
+        requires before { IsBefore sheets.now stored.now view b self.old }
+        requires narrow { view.width ≤ 1248 }
+        requires low { b < BANDS }
+        ensures dots { (x k : ℕ) → k < 32 → dot (slice_index_or band.new k []) x
+            ≡ image_dot view (map (stroke_of sheets.now stored.now) (fields_of self.old.entries)) x
+            (32 * b + k) }
+        ensures fields { self.new.entries ≡ self.old.entries }
+        ensures before { IsBefore sheets.now stored.now view (b + 1) self.new }
+        ensures at_least { self.old.looks
+            + meeting sheets.now stored.now view (fields_of self.old.entries) b ≤ self.new.looks }
+        ensures at_most { self.new.looks ≤ self.old.looks + 1
+            + 2 * meeting sheets.now stored.now view (fields_of self.old.entries) b }
+    {
+        paint_band(
+            &mut self.threads,
+            &mut self.marks,
+            b,
+            sheets,
+            stored,
+            view,
+            band,
+        );
+    }
+
+    /// How often an entry or a link was read since the copy's start.
+    pub fn looks(&self) -> u64
+        ensures { result ≡ self.now.looks }
+    {
+        self.threads.looks()
+    }
+}

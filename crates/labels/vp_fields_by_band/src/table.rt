@@ -1,0 +1,244 @@
+//! The table: which bands each field meets, and which field comes next in its band. It is read
+//! by calls alone, each of which is counted.
+ghost use Rattle.std.specs.Prelude.{◌≡◌, ℕ, ◌+◌, ◌^◌, ◌<◌, ◌≤◌, [], ◌∷◌, ◌++◌, Option, None, length, slice_set, take, IfOk};
+ghost use Rattle.vp_fields_by_band.specs.Threads.{entry_at, link_at, IsPlaced, KeepsSpans, ThreadedFrom};
+ghost use Rattle.vp_fields_by_band.specs.Held.{looked};
+
+use std::alloc::{AllocError, Global};
+use std::marker::Model;
+use vp_dots::Op;
+use vp_format::{Content, FIELDS, Field, GraphicBox};
+use vp_zpl::item::Orientation;
+
+/// A field, the bands that it begins and ends in, and the next field that begins in the same band.
+/// One that ends before it begins meets none.
+#[derive(Clone, Copy, Debug, PartialEq, Eq)]
+pub struct Entry {
+    pub field: Field,
+    pub first: usize,
+    pub last: usize,
+    pub next: Option<usize>,
+}
+
+/// What stands in the table where no entry is held: it meets no band.
+const NO_ENTRY: Entry = Entry {
+    field: Field {
+        left: 0,
+        top: 0,
+        orientation: Orientation::Normal,
+        op: Op::Black,
+        content: Content::Box(GraphicBox {
+            width: 1,
+            height: 1,
+            thickness: 1,
+        }),
+    },
+    first: 1,
+    last: 0,
+    next: None,
+};
+
+/// Puts entry `k` before those of its band.
+fn thread_one(entries: &mut [Entry], k: usize, heads: &mut [Option<usize>])
+    requires within { k < length entries.old }
+    requires placed { IsPlaced (entry_at entries.old k) (length heads.old) }
+    ensures spans { KeepsSpans entries.old entries.new }
+    ensures table { ThreadedFrom entries.old heads.old (k + 1) → ThreadedFrom entries.new heads.new k }
+    ensures lengths { (length entries.new ≡ length entries.old) × (length heads.new ≡ length heads.old) }
+{
+    let entry = entries[k];
+    if entry.first <= entry.last {
+        entries[k] = Entry {
+            next: heads[entry.first],
+            ..entry
+        };
+        heads[entry.first] = Some(k);
+    }
+}
+
+/// Lets no field begin in any band.
+fn clear_heads(heads: &mut [Option<usize>])
+    ensures len { length heads.new ≡ length heads.old }
+    ensures none { (b : ℕ) → link_at heads.new b ≡ None }
+{
+    for head in heads.iter_mut() {
+        *head = None;
+    }
+}
+
+/// Threads the entries by the band that they begin in.
+fn thread_all(entries: &mut [Entry], heads: &mut [Option<usize>])
+    requires placed { (k : ℕ) → k < length entries.old →
+        IsPlaced (entry_at entries.old k) (length heads.old) }
+    requires empty { (b : ℕ) → link_at heads.old b ≡ None }
+    ensures spans { KeepsSpans entries.old entries.new }
+    ensures table { ThreadedFrom entries.new heads.new 0 }
+    ensures lengths { (length entries.new ≡ length entries.old) × (length heads.new ≡ length heads.old) }
+{
+    let mut k = entries.len();
+    while k > 0 {
+        k -= 1;
+        thread_one(entries, k, heads);
+    }
+}
+
+/// Threads the first of the entries, whatever began in the bands before.
+fn thread_first(entries: &mut [Entry], len: usize, heads: &mut [Option<usize>])
+    requires within { len ≤ length entries.old }
+    requires placed { (k : ℕ) → k < length (take len entries.old)
+        → IsPlaced (entry_at (take len entries.old) k) (length heads.old) }
+    ensures spans { KeepsSpans (take len entries.old) (take len entries.new) }
+    ensures table { ThreadedFrom (take len entries.new) heads.new 0 }
+    ensures lengths { (length entries.new ≡ length entries.old) × (length heads.new ≡ length heads.old) }
+{
+    clear_heads(heads);
+    thread_all(&mut entries[..len], heads);
+}
+
+/// At most 1,024 fields, threaded by the bands that they begin in, and from band to band. An entry, the first
+/// of a band and a link are read by calls alone, each of which counts a look.
+#[derive(Drop)]
+pub struct Threads {
+    entries: Vec<Entry>,
+    len: usize,
+    heads: Vec<Option<usize>>,
+    links: Vec<Option<usize>>,
+    carried: Option<usize>,
+    looks: u64,
+}
+
+impl Model for Threads {
+    ghost use Rattle.vp_fields_by_band.specs.Held.{Table, HasRoom, table_by};
+
+    ghost Value = { Table };
+
+    ghost view = { table_by };
+
+    ghost invariant = { HasRoom };
+}
+
+impl Threads {
+    /// No fields, with room for 1,024 and for so many bands: the only call that takes memory.
+    pub fn new(alloc: Global, bands: usize) -> Result<Self, AllocError>
+        ensures none { IfOk result (λ threads. threads.entries ≡ []) }
+        ensures bands { IfOk result (λ threads. length threads.heads ≡ bands) }
+        ensures links { IfOk result (λ threads. length threads.links ≡ FIELDS) }
+        ensures carried { IfOk result (λ threads. threads.carried ≡ None) }
+        ensures looks { IfOk result (λ threads. threads.looks ≡ 0) }
+    {
+        Ok(Threads {
+            entries: vec![in alloc; NO_ENTRY; FIELDS]?,
+            len: 0,
+            heads: vec![in alloc; None; bands]?,
+            links: vec![in alloc; None; FIELDS]?,
+            carried: None,
+            looks: 0,
+        })
+    }
+
+    /// Drops all entries.
+    pub fn clear(&mut self)
+        ensures { self.new ≡ record self.old { entries = [] } }
+    {
+        self.len = 0;
+    }
+
+    /// Adds an entry behind those that are held.
+    pub fn push(&mut self, entry: Entry)
+        requires { length self.old.entries < FIELDS }
+        ensures { self.new ≡ record self.old { entries = self.old.entries ++ entry ∷ [] } }
+    {
+        self.entries[self.len] = entry;
+        self.len += 1;
+    }
+
+    /// Threads the entries by the band that they begin in.
+    pub fn thread(&mut self)
+        requires placed { (k : ℕ) → k < length self.old.entries
+            → IsPlaced (entry_at self.old.entries k) (length self.old.heads) }
+        ensures spans { KeepsSpans self.old.entries self.new.entries }
+        ensures table { ThreadedFrom self.new.entries self.new.heads 0 }
+        ensures entries { length self.new.entries ≡ length self.old.entries }
+        ensures heads { length self.new.heads ≡ length self.old.heads }
+        ensures links { self.new.links ≡ self.old.links }
+    {
+        thread_first(&mut self.entries, self.len, &mut self.heads);
+    }
+
+    /// Goes back before the first band, where nothing is carried over and nothing was read.
+    pub fn start(&mut self)
+        ensures { self.new ≡ record self.old { carried = None; looks = 0 } }
+    {
+        self.carried = None;
+        self.looks = 0;
+    }
+
+    /// How many entries are held.
+    pub fn len(&self) -> usize
+        ensures { result ≡ length self.now.entries }
+    {
+        self.len
+    }
+
+    /// Reads an entry, which is counted.
+    pub fn entry(&mut self, n: usize) -> Entry
+        requires within { n < length self.old.entries }
+        requires countable { self.old.looks < 2 ^ 63 }
+        ensures value { result ≡ entry_at self.old.entries n }
+        ensures look { self.new ≡ looked self.old }
+    {
+        self.looks += 1;
+        self.entries[n]
+    }
+
+    /// Reads which entry is the first that begins in a band, which is counted.
+    pub fn first_in(&mut self, b: usize) -> Option<usize>
+        requires within { b < length self.old.heads }
+        requires countable { self.old.looks < 2 ^ 63 }
+        ensures value { result ≡ link_at self.old.heads b }
+        ensures look { self.new ≡ looked self.old }
+    {
+        self.looks += 1;
+        self.heads[b]
+    }
+
+    /// Reads a link, which is counted.
+    pub fn link(&mut self, n: usize) -> Option<usize>
+        requires within { n < FIELDS }
+        requires countable { self.old.looks < 2 ^ 63 }
+        ensures value { result ≡ link_at self.old.links n }
+        ensures look { self.new ≡ looked self.old }
+    {
+        self.looks += 1;
+        self.links[n]
+    }
+
+    /// Links an entry that is carried over to the next such one.
+    pub fn set_link(&mut self, from: usize, to: Option<usize>)
+        requires { from < length self.old.links }
+        ensures { self.new ≡ record self.old { links = slice_set self.old.links from to } }
+    {
+        self.links[from] = to;
+    }
+
+    /// The first entry that is carried over to the band that comes next.
+    pub fn carried(&self) -> Option<usize>
+        ensures { result ≡ self.now.carried }
+    {
+        self.carried
+    }
+
+    /// Carries entries over to the next band, from this one on.
+    pub fn carry(&mut self, first: Option<usize>)
+        ensures { self.new ≡ record self.old { carried = first } }
+    {
+        self.carried = first;
+    }
+
+    /// How often an entry, the first of a band or a link was read since the copy's start.
+    pub fn looks(&self) -> u64
+        ensures { result ≡ self.now.looks }
+    {
+        self.looks
+    }
+}

@@ -1,0 +1,156 @@
+//! A walk over the fields that meet a band, in the order of closing.
+ghost use Rattle.std.specs.Prelude.{◌≡◌, ℕ, ◌+◌, ◌^◌, ◌<◌, ◌≤◌, ◌↔◌, List, Option, None, Some, length, IsTrue};
+ghost use Rattle.std.specs.Option.{ForSome};
+ghost use Rattle.vp_fields_by_band.specs.declared.table.Entry.{Entry};
+ghost use Rattle.vp_fields_by_band.specs.Held.{looked, Stays};
+ghost use Rattle.vp_fields_by_band.specs.Threads.{entry_at, begins_at, carried_at, meets_at, IsNext, IsTable, IsWalk, link_at, linked, ended, first_kept};
+
+use crate::table::{Entry, Threads};
+use vp_format::FIELDS;
+
+/// Where a walk over the fields of a band stands.
+#[derive(Clone, Copy, Debug, PartialEq, Eq)]
+pub struct Walk {
+    /// The next field that an earlier band carried over.
+    pub carried: Option<usize>,
+    /// The next field that begins here.
+    pub begins: Option<usize>,
+    /// The number up to which all fields were seen.
+    pub seen: usize,
+    /// The first and the last field seen that the next band is to carry on.
+    pub kept: Option<usize>,
+    pub tail: Option<usize>,
+}
+
+/// The first of the fields that either list has next.
+pub fn next_of(carried: Option<usize>, begins: Option<usize>) -> Option<usize>
+    ensures { (entries : List Entry) (b from to : ℕ) → IsNext (carried_at entries b) from to carried →
+        IsNext (begins_at entries b) from to begins →
+        IsNext (meets_at entries b) from to result }
+{
+    match (carried, begins) {
+        (Some(m), Some(n)) => { if m < n { Some(m) } else { Some(n) } }
+        (Some(m), None) => Some(m),
+        (None, Some(n)) => Some(n),
+        (None, None) => None,
+    }
+}
+
+/// Whether the link leads to the field.
+fn leads_to(link: Option<usize>, n: usize) -> bool
+    ensures { IsTrue result ↔ (link ≡ Some n) }
+{
+    match link {
+        Some(m) => m == n,
+        None => false,
+    }
+}
+
+impl Walk {
+    /// A walk before the first field of band b.
+    pub fn start(b: usize, threads: &mut Threads) -> Walk
+        requires within { b < length threads.old.heads }
+        requires countable { threads.old.looks < 2 ^ 62 }
+        ensures walk { result ≡ record {
+          carried = threads.old.carried;
+          begins = link_at threads.old.heads b;
+          seen = 0;
+          kept = None;
+          tail = None;
+        } }
+        ensures look { threads.new ≡ looked threads.old }
+    {
+        Walk {
+            carried: threads.carried(),
+            begins: threads.first_in(b),
+            seen: 0,
+            kept: None,
+            tail: None,
+        }
+    }
+
+    /// The walk past field `n`, whose entry is given. What it keeps is the same.
+    fn passed(self, n: usize, entry: Entry, threads: &mut Threads) -> Walk
+        requires within { n < FIELDS }
+        requires countable { threads.old.looks < 2 ^ 62 }
+        ensures seen { result.seen ≡ n + 1 }
+        ensures kept { (result.kept ≡ self.kept) × (result.tail ≡ self.tail) }
+        ensures heads { (entries : List Entry) (b : ℕ) →
+            IsTable entries → IsWalk entries threads.old.links b self →
+            IsNext (meets_at entries b) self.seen (length entries) (Some n) → entry ≡ entry_at entries n →
+            IsNext (carried_at entries b) (n + 1) (length entries) result.carried
+            × IsNext (begins_at entries b) (n + 1) (length entries) result.begins }
+        ensures stays { threads.new ≡ record threads.old { looks = threads.new.looks } }
+        ensures looks { (threads.old.looks ≤ threads.new.looks)
+            × (threads.new.looks ≤ threads.old.looks + 1) }
+    {
+        if leads_to(self.carried, n) {
+            Walk {
+                carried: threads.link(n),
+                seen: n + 1,
+                ..self
+            }
+        } else {
+            Walk {
+                begins: entry.next,
+                seen: n + 1,
+                ..self
+            }
+        }
+    }
+
+    /// Adds field `n` to what is kept for the next band.
+    fn keep(self, n: usize, threads: &mut Threads) -> Walk
+        requires { ForSome self.tail (λ t. t < length threads.old.links) }
+        ensures links { threads.new ≡ record threads.old { links = linked threads.old.links self.tail n } }
+        ensures walk { result ≡ record self { kept = first_kept self.kept n; tail = Some n } }
+    {
+        if let Some(t) = self.tail {
+            threads.set_link(t, Some(n));
+        }
+        let kept = match self.kept {
+            Some(first) => first,
+            None => n,
+        };
+        Walk {
+            kept: Some(kept),
+            tail: Some(n),
+            ..self
+        }
+    }
+
+    /// Ends what is kept, which is carried over to the next band.
+    pub fn close(self, threads: &mut Threads)
+        requires { ForSome self.tail (λ t. t < length threads.old.links) }
+        ensures { threads.new ≡ record threads.old {
+          links = ended threads.old.links self.tail;
+          carried = self.kept;
+        } }
+    {
+        if let Some(t) = self.tail {
+            threads.set_link(t, None);
+        }
+        threads.carry(self.kept);
+    }
+
+    /// The walk after field `n`, whose entry is given.
+    pub fn after(self, n: usize, b: usize, entry: Entry, threads: &mut Threads) -> Walk
+        requires within { n < FIELDS }
+        requires tail { ForSome self.tail (λ t. t < length threads.old.links) }
+        requires countable { threads.old.looks < 2 ^ 62 }
+        ensures seen { result.seen ≡ n + 1 }
+        ensures walk { (entries : List Entry) → IsTable entries → IsWalk entries threads.old.links b self →
+            IsNext (meets_at entries b) self.seen (length entries) (Some n) → entry ≡ entry_at entries n →
+            IsWalk entries threads.new.links b result }
+        ensures stays { Stays threads.old threads.new }
+        ensures looks { (threads.old.looks ≤ threads.new.looks)
+            × (threads.new.looks ≤ threads.old.looks + 1) }
+    {
+        let passed = self.passed(n, entry, threads);
+        if entry.last > b {
+            passed.keep(n, threads)
+        } else {
+            passed
+        }
+    }
+}

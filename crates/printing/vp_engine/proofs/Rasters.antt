@@ -1,0 +1,50 @@
+-- The items of a raster's bytes: what a receipt and a listing do with them.
+use Rattle.std.proofs.Common.{◌≡◌, ℕ, List, [], ◌∷◌, ◌++◌, reverse, append_assoc, flat_map, length, zero, suc, take, ◌<◌, None, arith, refl, sym, ap, ◌∙◌}
+use Rattle.std.proofs.lemmas.List.{reverse-append, append-nil}
+use Rattle.vp_esc.specs.declared.item.EscItem.{EscItem}
+use Rattle.vp_esc.specs.declared.item.EscItem.TheVariants.{RasterByte}
+use Rattle.vp_esc.specs.Lines.{line_of}
+use Rattle.vp_esc.specs.Split.{fault_of}
+use Rattle.vp_esc.specs.Reader.{raster_items}
+use Rattle.vp_receipt_settings.specs.Setup.{Setup as ReceiptSetup}
+use Rattle.vp_receipt.specs.Strips.{prints, printed as printed_receipt}
+use Rattle.vp_engine.specs.Paper.{Reading, listing, printed}
+use Rattle.vp_engine.specs.Setups.{rules_of}
+use Rattle.vp_engine.specs.Lines.{byte_lines}
+use Rattle.vp_engine.specs.Setups.{Receipts}
+use Rattle.vp_engine.specs.Takes.{AreAccepted}
+
+-- where a run of none or more bytes is known at its end
+pub known_run : (t ys run : List ℕ) (n : ℕ) → take n ys ≡ run → fault_of t ≡ None → (0 < n → fault_of (t ++ take n ys) ≡ None) → fault_of (t ++ run) ≡ None
+known_run t ys run zero e none later = ap (λ x. fault_of (t ++ x)) (sym e) ∙ ap fault_of (append-nil t) ∙ none
+known_run t ys run (suc n) e none later = ap (λ x. fault_of (t ++ x)) (sym e) ∙ later (omega arith)
+
+-- a byte of a raster is not refused
+pub accepted_bytes : (setup : ReceiptSetup) (xs : List ℕ) (before : List EscItem) → AreAccepted (rules_of (Receipts setup)) before (raster_items xs)
+accepted_bytes setup [] before = tt
+accepted_bytes setup (b ∷ xs) before = (refl, accepted_bytes setup xs (RasterByte b ∷ before))
+
+pub printed_same : (setup : ReceiptSetup) (h : List EscItem) → printed (rules_of (Receipts setup)) h ≡ printed_receipt setup h
+printed_same setup [] = refl
+printed_same setup (i ∷ h) = ap (λ x. x ++ prints setup h i) (printed_same setup h)
+
+-- nothing is refused in a listing
+pub all_listed : {Item : Type 0} (reading : Reading Item) (line : Item → List ℕ) (added before : List Item) → AreAccepted (listing reading line) before added
+all_listed reading line [] before = tt
+all_listed reading line (i ∷ added) before = (refl, all_listed reading line added (i ∷ before))
+
+-- and each item prints its line
+pub printed_lines : {Item : Type 0} (reading : Reading Item) (line : Item → List ℕ) (added before : List Item) →
+    printed (listing reading line) (reverse added ++ before) ≡ printed (listing reading line) before ++ flat_map line added
+printed_lines reading line [] before = sym (append-nil (printed (listing reading line) before))
+printed_lines reading line (i ∷ added) before =
+    ap (printed (listing reading line)) (ap (λ x. x ++ before) (reverse-append (i ∷ []) added) ∙ append_assoc (reverse added) (i ∷ []) before)
+    ∙ printed_lines reading line added (i ∷ before) ∙ append_assoc (printed (listing reading line) before) (line i) (flat_map line added)
+
+pub raster_length : (xs : List ℕ) → length (raster_items xs) ≡ length xs
+raster_length [] = refl
+raster_length (b ∷ xs) = omega (arith, raster_length xs)
+
+pub lines_of_bytes : (xs : List ℕ) → flat_map line_of (raster_items xs) ≡ byte_lines xs
+lines_of_bytes [] = refl
+lines_of_bytes (b ∷ xs) = ap (λ x. line_of (RasterByte b) ++ x) (lines_of_bytes xs)

@@ -1,0 +1,27 @@
+use Rattle.std.proofs.Common.{◌≡◌, ◌≤◌, ℕ, List, sym, subst, arith}
+use Rattle.vp_dots.specs.Images.{Image}
+use Rattle.vp_join.specs.Strips.{IsNumber, IsJoined, greatest, height_together}
+use Rattle.vp_receipt_settings.specs.declared.width.Width.{Width}
+use Rattle.vp_receipt_settings.specs.declared.width.Width.TheVariants.{W576, W384}
+use Rattle.vp_receipt_settings.specs.Setup.{Setup as ReceiptSetup, across}
+use Rattle.vp_engine.specs.Images.{receipts, IsPrinted, images_of}
+use Rattle.vp_engine.specs.Paper.{paper}
+use Rattle.vp_engine.proofs.laws.a_receipt_is_joined.Goals as goal
+
+fits : (paper : Width) → IsNumber (across paper)
+fits W576 = record { least = omega arith; most = omega arith }
+fits W384 = record { least = omega arith; most = omega arith }
+
+joins : (c : goal.After-images_are_not_refused) (setup : ReceiptSetup) (bytes : List ℕ) → IsPrinted setup bytes → height_together (images_of setup bytes) ≤ greatest →
+    (image : Image) × IsJoined (paper (receipts setup) bytes) image × (image.width ≡ across setup.width) × (image.height ≡ height_together (images_of setup bytes))
+joins c setup bytes e most =
+    let one = c.images_make_one.ensures (across setup.width) (images_of setup bytes) (fits setup.width) (c.a_receipt_is_images.ensures.across setup bytes) most in
+    (one.0, subst (λ text. IsJoined text one.0) (sym (c.a_receipt_is_images.ensures.printed setup bytes e)) one.1, one.2, one.3)
+
+pub returns-clause-joined : goal.returns-clause-joined
+returns-clause-joined c = joins c
+
+pub returns-clause-not_refused : goal.returns-clause-not_refused
+returns-clause-not_refused c = λ setup bytes held holds fault e most refused.
+    let one = joins c setup bytes e most in
+    c.images_are_not_refused.ensures (paper (receipts setup) bytes) one.0 held holds fault one.1 refused

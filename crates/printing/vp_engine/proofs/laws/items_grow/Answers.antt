@@ -1,0 +1,31 @@
+use Rattle.vp_language.specs.declared.language.Language.TheVariants as languages
+use Rattle.vp_engine.specs.Paper.{Reads}
+use Rattle.vp_engine.specs.Setups.{esc_reading, zpl_reading}
+use Rattle.vp_engine.specs.Setups.{Receipts, Labels, Listing}
+use Rattle.std.proofs.Common.{refl, sym}
+use Rattle.vp_engine.proofs.Escs.{items_none, fault_none}
+use Rattle.vp_engine.proofs.Labels.{items_none as labels_none}
+use Rattle.vp_engine.proofs.laws.items_grow.Goals as goal
+
+escs : (c : goal.After-only_more-2) → Reads esc_reading
+escs c = record {
+  nothing = items_none;
+  no_fault = fault_none;
+  grows = λ bytes more. let p = c.only_more.ensures bytes more in (p.0, sym p.1);
+  stays = c.fault_stays.ensures;
+}
+
+zpls : (c : goal.After-only_more-2) → Reads zpl_reading
+zpls c = record {
+  nothing = labels_none;
+  no_fault = refl;
+  grows = λ bytes more. let p = c.only_more-2.ensures bytes more in (p.0, sym p.1);
+  stays = λ bytes more f e. cc;
+}
+
+pub returns : goal.returns
+returns c (Receipts receipt) = escs c
+returns c (Labels sheets) = zpls c
+returns c (Listing languages.Receipt) = escs c
+returns c (Listing languages.Receipt58) = escs c
+returns c (Listing languages.Label) = zpls c

@@ -1,0 +1,36 @@
+-- The images of receipts and of labels.
+use Rattle.std.specs.Prelude.{◌≡◌, ℕ, List, None}
+use Rattle.vp_dots.specs.Images.{Image}
+use Rattle.vp_glyph.specs.declared.Sheets.{Sheets}
+use Rattle.vp_esc.specs.declared.item.EscItem.{EscItem}
+use Rattle.vp_receipt_settings.specs.Setup.{Setup as ReceiptSetup}
+use Rattle.vp_receipt.specs.Images.{images, begun}
+use Rattle.vp_zpl.specs.Items.{Item}
+use Rattle.vp_label.specs.Images as label
+use Rattle.vp_engine.specs.Paper.{Rules, history, before_fault, fault_at_end}
+use Rattle.vp_engine.specs.Setups.{Receipts, Labels, rules_of}
+
+-- the rules of receipts on a paper with sheets
+abbrev pub receipts : ReceiptSetup → Rules EscItem
+receipts setup = rules_of (Receipts setup)
+
+-- the bytes have no fault, and all is printed where they end
+abbrev pub IsPrinted : ReceiptSetup → List ℕ → Type 0
+IsPrinted setup bytes = fault_at_end (receipts setup) bytes ≡ None
+
+-- the images of the bytes before the first fault, from the top
+abbrev pub images_of : ReceiptSetup → List ℕ → List Image
+images_of setup bytes = images setup (history (receipts setup) (before_fault (receipts setup) bytes))
+
+-- what has come of a raster that rows are to come of: its header, and rows
+abbrev pub begun_of : ReceiptSetup → List ℕ → List ℕ
+begun_of setup bytes = begun setup (history (receipts setup) (before_fault (receipts setup) bytes))
+
+-- the rules of labels with sheets
+abbrev pub labels : Sheets → Rules Item
+labels sheets = rules_of (Labels sheets)
+
+-- the images of the bytes before the first fault, one after the other
+abbrev pub images_of_labels : Sheets → List ℕ → List Image
+images_of_labels sheets bytes =
+    label.images sheets (history (labels sheets) (before_fault (labels sheets) bytes))

@@ -1,0 +1,36 @@
+-- The machines by cases: each a reader and what it drives.
+use Rattle.std.specs.Prelude.{◌≡◌, ℕ, List, [], length}
+use Rattle.vp_esc.specs.Reader.{Stands as EscStands}
+use Rattle.vp_receipt.specs.Standing.{Stands as ReceiptStands}
+use Rattle.vp_zpl.specs.Reader.{Stands as ZplStands}
+use Rattle.vp_label.specs.Standing.{Stands as LabelStands}
+use Rattle.vp_language.specs.declared.language.Language.TheVariants as languages
+use Rattle.vp_engine.specs.declared.machine.Machine.{Machine}
+use Rattle.vp_engine.specs.declared.machine.Machine.TheVariants.{Receipt, ReceiptLines, Label, LabelLines}
+use Rattle.vp_streams.specs.Count.{counted}
+use Rattle.vp_engine.specs.Setups.{Setup, Receipts, Labels, Listing, Item}
+
+-- what is still to be put out
+abbrev pub pending_of : Machine → List ℕ
+pending_of (Receipt reader receipt) = receipt.pending
+pending_of (ReceiptLines reader lines) = lines.pending
+pending_of (Label reader label) = label.pending
+pending_of (LabelLines reader lines) = lines.pending
+
+-- the reader stands after these bytes, and what it drives after these items
+abbrev pub MachineStands : Machine → (setup : Setup) → List ℕ → List (Item setup) → Type 0
+MachineStands (Receipt reader receipt) (Receipts setup) bytes before =
+    EscStands reader bytes × ReceiptStands setup receipt before
+MachineStands (ReceiptLines reader lines) (Listing languages.Receipt) bytes before =
+    EscStands reader bytes × (lines.count ≡ counted (length before))
+MachineStands (ReceiptLines reader lines) (Listing languages.Receipt58) bytes before =
+    EscStands reader bytes × (lines.count ≡ counted (length before))
+MachineStands (Label reader label) (Labels sheets) bytes before =
+    ZplStands reader bytes × LabelStands sheets label before
+MachineStands (LabelLines reader lines) (Listing languages.Label) bytes before =
+    ZplStands reader bytes × (lines.count ≡ counted (length before))
+MachineStands machine setup bytes before = ⊥
+
+-- A machine took nothing.
+abbrev pub TookNothing : Machine → Type 0
+TookNothing machine = (setup : Setup) × MachineStands machine setup [] [] × (pending_of machine ≡ [])

@@ -1,0 +1,96 @@
+//! What the definitions of `specs/` say of every stream, whatever it is written in.
+ghost use Rattle.std.specs.Prelude.{◌≡◌, ◌≤◌, ◌++◌, ℕ, List, flat_map, Option, Some, Err};
+ghost use Rattle.vp_dots.specs.declared.fault.Fault.{Fault};
+ghost use Rattle.vp_dots.specs.Images.{Image, pbm};
+ghost use Rattle.vp_join.specs.Passes.{IsExact, IsOfCalls};
+ghost use Rattle.vp_join.specs.Strips.{IsJoined, greatest, height_together};
+ghost use Rattle.vp_join.specs.declared.fault.JoinFault.{JoinFault};
+ghost use Rattle.vp_glyph.specs.declared.Sheets.{Sheets};
+ghost use Rattle.vp_label.specs.Images.{AreOfLabels};
+ghost use Rattle.vp_receipt.specs.Images.{AreAcross};
+ghost use Rattle.vp_receipt_settings.specs.Setup.{Setup as ReceiptSetup, across};
+ghost use Rattle.vp_language.specs.declared.language.Language.{Language};
+ghost use Rattle.vp_engine.specs.Bytes.{IsPrefix};
+ghost use Rattle.vp_engine.specs.Images.{receipts, IsPrinted, images_of, begun_of, labels, images_of_labels};
+ghost use Rattle.vp_engine.specs.Listing.{lines};
+ghost use Rattle.vp_engine.specs.Paper.{Reads, before_fault, fault, paper};
+ghost use Rattle.vp_engine.specs.Setups.{Setup, rules_of};
+ghost use Rattle.vp_engine.specs.Setups.{Listing};
+
+use vp_join::laws::{images_are_not_refused, images_make_one};
+use vp_receipt::what_is_printed_is_images;
+
+/// Items that are given stay given, and a fault stays, in each language.
+pub fn items_grow()
+    ensures { (setup : Setup) → Reads (rules_of setup).reading }
+{
+    vp_esc::laws::only_more();
+    vp_esc::laws::fault_stays();
+    vp_zpl::laws::only_more();
+}
+
+/// What is printed stays printed.
+pub fn paper_grows()
+    ensures { (setup : Setup) (bytes more : List ℕ) →
+        IsPrefix (paper (rules_of setup) bytes) (paper (rules_of setup) (bytes ++ more)) }
+{
+    items_grow();
+}
+
+/// The first fault stays the first, and nothing is printed after it.
+pub fn nothing_follows_a_fault()
+    ensures fault { (setup : Setup) (bytes more : List ℕ) (f : Fault) →
+        fault (rules_of setup) bytes ≡ Some f →
+        fault (rules_of setup) (bytes ++ more) ≡ Some f }
+    ensures paper { (setup : Setup) (bytes more : List ℕ) (f : Fault) →
+        fault (rules_of setup) bytes ≡ Some f →
+        paper (rules_of setup) (bytes ++ more) ≡ paper (rules_of setup) bytes }
+{}
+
+/// The paper of a listing is the lines of the items before the first fault.
+pub fn a_listing_is_its_lines()
+    ensures { (language : Language) (bytes : List ℕ) →
+        paper (rules_of (Listing language)) bytes ≡
+        lines language (before_fault (rules_of (Listing language)) bytes) }
+{}
+
+/// The paper of a receipt that has no fault, and is printed where it ends, is images, one after the other,
+/// each as wide as the paper and of a row or more. That of any bytes is images, and what has come of a
+/// raster.
+pub fn a_receipt_is_images()
+    ensures printed { (setup : ReceiptSetup) (bytes : List ℕ) → IsPrinted setup bytes →
+        paper (receipts setup) bytes ≡ flat_map pbm (images_of setup bytes) }
+    ensures any { (setup : ReceiptSetup) (bytes : List ℕ) →
+        paper (receipts setup) bytes ≡ flat_map pbm (images_of setup bytes) ++ begun_of setup bytes }
+    ensures across { (setup : ReceiptSetup) (bytes : List ℕ) →
+        AreAcross (across setup.width) (images_of setup bytes) }
+{
+    what_is_printed_is_images();
+}
+
+/// So what is printed of it is one joined image, as wide as the paper, where that is within the greatest
+/// height, and is then never refused: only a call that fails, or too many of them, ends a call of `join`
+/// early.
+pub fn a_receipt_is_joined()
+    ensures joined { (setup : ReceiptSetup) (bytes : List ℕ) → IsPrinted setup bytes →
+        height_together (images_of setup bytes) ≤ greatest →
+        (image : Image) × IsJoined (paper (receipts setup) bytes) image × (image.width ≡ across setup.width)
+        × (image.height ≡ height_together (images_of setup bytes)) }
+    ensures not_refused { (setup : ReceiptSetup) (bytes : List ℕ) (held holds : Option (List ℕ))
+        (fault : JoinFault) → IsPrinted setup bytes → height_together (images_of setup bytes) ≤ greatest →
+        IsExact (paper (receipts setup) bytes) held holds (Err fault) → IsOfCalls fault }
+{
+    a_receipt_is_images();
+    images_make_one();
+    images_are_not_refused();
+}
+
+/// The paper of any bytes of labels is images, one after the other: the copies of each format that has ended,
+/// each as wide and as high as a label may be, and of a dot or more.
+pub fn a_label_is_images()
+    ensures images { (sheets : Sheets) (bytes : List ℕ) →
+        paper (labels sheets) bytes ≡ flat_map pbm (images_of_labels sheets bytes) }
+    ensures sizes { (sheets : Sheets) (bytes : List ℕ) → AreOfLabels (images_of_labels sheets bytes) }
+{
+    vp_label::laws::what_is_printed_is_images();
+}

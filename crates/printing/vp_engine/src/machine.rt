@@ -1,0 +1,334 @@
+//! The machines: each a reader and what it drives. Only here has each language an arm.
+ghost use Rattle.std.specs.Prelude.{◌≡◌, ◌<◌, ◌≤◌, ◌++◌, ◌↔◌, List, [], ℕ, IsTrue, IfOk, None, length, min, take, drop};
+ghost use Rattle.vp_engine.specs.Answers.{IsBounded};
+ghost use Rattle.vp_streams.specs.Count.{grown};
+ghost use Rattle.vp_engine.specs.Machines.{pending_of, MachineStands};
+ghost use Rattle.vp_engine.specs.Paper.{missing};
+ghost use Rattle.vp_engine.specs.Setups.{Setup, Item, setup_of, rules_of, lines_of};
+ghost use Rattle.vp_engine.specs.Setups.{Receipts, Labels, Listing};
+ghost use Rattle.vp_engine.specs.Takes.{Takes, TakesRun};
+ghost use Rattle.vp_esc.specs.Lines.{line_of};
+ghost use Rattle.vp_zpl.specs.Lines.{lines_of as label_lines_of};
+ghost use Rattle.vp_zpl.specs.Shown.{shown_item};
+
+use crate::held::{Held, NOTHING};
+use crate::lines::Lines;
+use std::alloc::{AllocError, Global};
+use vp_dots::Fault;
+use vp_esc::{EscItem, EscReader};
+use vp_glyph::Sheets;
+use vp_label::Label;
+use vp_label::laws::{data_in_turn, in_turn};
+use vp_language::Language;
+use vp_receipt::{Receipt, Width};
+use vp_zpl::{ZplItem, ZplReader};
+
+/// How many bytes were taken, and put out.
+#[derive(Clone, Copy)]
+pub struct Moved {
+    pub taken: usize,
+    pub put: usize,
+}
+
+/// What is missing where bytes end between commands or not, and all is printed or not.
+fn missing(is_between: bool, at_rest: bool) -> Option<Fault>
+    ensures { result ≡ missing is_between at_rest }
+{
+    if !is_between {
+        return Some(Fault::Truncated);
+    }
+    if !at_rest {
+        return Some(Fault::Unprinted);
+    }
+    None
+}
+
+/// Begins the line of a receipt's item. What prints doesn't pay for the room of a line, so this stands in no
+/// other function.
+#[inline(never)]
+fn begin_line(lines: &mut Lines, item: &EscItem)
+    requires { lines.old.pending ≡ [] }
+    ensures pending { lines.new.pending ≡ line_of item.now }
+    ensures count { lines.new.count ≡ grown lines.old.count 1 }
+{
+    lines.begin(item.line().as_slice(), 1);
+}
+
+/// How many items a byte of a label gave.
+fn items_in(item: &ZplItem<'_>) -> usize
+    ensures { result ≡ length (shown_item item.now) }
+{
+    match item {
+        ZplItem::Command(_) => 1,
+        ZplItem::Data(bytes) => bytes.as_slice().len(),
+    }
+}
+
+/// Begins the lines of a label's items, likewise.
+#[inline(never)]
+fn begin_label_lines(lines: &mut Lines, item: &ZplItem<'_>)
+    requires { lines.old.pending ≡ [] }
+    ensures pending { lines.new.pending ≡ label_lines_of (shown_item item.now) }
+    ensures count { lines.new.count ≡ grown lines.old.count (length (shown_item item.now)) }
+{
+    lines.begin(item.line().as_slice(), items_in(item));
+}
+
+#[derive(Drop)]
+pub enum Machine {
+    Receipt { reader: EscReader, receipt: Receipt },
+    ReceiptLines { reader: EscReader, lines: Lines },
+    Label { reader: ZplReader, label: Label },
+    LabelLines { reader: ZplReader, lines: Lines },
+}
+
+impl Machine {
+    /// One that prints a language, and took nothing.
+    pub fn printing(alloc: Global, language: Language, sheets: Sheets) -> Result<Self, AllocError>
+        ensures stands { IfOk result (λ m. MachineStands m (setup_of language sheets) [] []) }
+        ensures pending { IfOk result (λ m. pending_of m ≡ []) }
+    {
+        match language {
+            Language::Receipt => Machine::receipt(alloc, sheets, Width::W576),
+            Language::Receipt58 => Machine::receipt(alloc, sheets, Width::W384),
+            Language::Label => Machine::label(alloc, sheets),
+        }
+    }
+
+    fn receipt(alloc: Global, sheets: Sheets, width: Width) -> Result<Self, AllocError>
+        ensures stands { IfOk result
+            (λ m. MachineStands m (Receipts (record { width = width; sheets = sheets })) [] []) }
+        ensures pending { IfOk result (λ m. pending_of m ≡ []) }
+    {
+        let receipt = Receipt::new(alloc, sheets, width)?;
+        Ok(Machine::Receipt {
+            reader: EscReader::new(),
+            receipt,
+        })
+    }
+
+    fn label(alloc: Global, sheets: Sheets) -> Result<Self, AllocError>
+        ensures stands { IfOk result (λ m. MachineStands m (Labels sheets) [] []) }
+        ensures pending { IfOk result (λ m. pending_of m ≡ []) }
+    {
+        let label = Label::new(alloc, sheets)?;
+        Ok(Machine::Label {
+            reader: ZplReader::new(),
+            label,
+        })
+    }
+
+    /// One that lists a language, and took nothing.
+    pub fn listing(language: Language) -> Self
+        ensures stands { MachineStands result (Listing language) [] [] }
+        ensures pending { pending_of result ≡ [] }
+    {
+        match language {
+            Language::Receipt => Machine::receipt_lines(),
+            Language::Receipt58 => Machine::receipt_lines(),
+            Language::Label => Machine::label_lines(),
+        }
+    }
+
+    fn receipt_lines() -> Self
+        ensures wide { MachineStands result (Listing Language.Receipt) [] [] }
+        ensures narrow { MachineStands result (Listing Language.Receipt58) [] [] }
+        ensures pending { pending_of result ≡ [] }
+    {
+        Machine::ReceiptLines {
+            reader: EscReader::new(),
+            lines: Lines::new(),
+        }
+    }
+
+    fn label_lines() -> Self
+        ensures stands { MachineStands result (Listing Language.Label) [] [] }
+        ensures pending { pending_of result ≡ [] }
+    {
+        Machine::LabelLines {
+            reader: ZplReader::new(),
+            lines: Lines::new(),
+        }
+    }
+
+    /// Takes a byte where nothing is pending, and answers the fault that it makes.
+    pub fn take(&mut self, byte: u8) -> Result<(), Fault>
+        requires { pending_of self.old ≡ [] }
+        ensures { (setup : Setup) (t : List ℕ) (before : List (Item setup)) →
+            MachineStands self.old setup t before →
+            Takes (rules_of setup) (MachineStands self.new setup) (pending_of self.new) t before byte result }
+    {
+        match self {
+            Machine::Receipt { reader, receipt } => match reader.take(byte) {
+                Ok(Some(item)) => receipt.apply(item),
+                Ok(None) => Ok(()),
+                Err(fault) => Err(fault),
+            },
+            Machine::ReceiptLines { reader, lines } => match reader.take(byte) {
+                Ok(Some(item)) => {
+                    begin_line(lines, item);
+                    Ok(())
+                }
+                Ok(None) => Ok(()),
+                Err(fault) => Err(fault),
+            },
+            Machine::Label { reader, label } => {
+                in_turn();
+                data_in_turn();
+                match reader.take(byte) {
+                    Some(item) => label.apply(item),
+                    None => Ok(()),
+                }
+            }
+            Machine::LabelLines { reader, lines } => {
+                if let Some(item) = reader.take(byte) {
+                    begin_label_lines(lines, &item);
+                }
+                Ok(())
+            }
+        }
+    }
+
+    /// Takes bytes at the front and puts out all that they print, as far as it has a quick way.
+    pub fn take_run(&mut self, input: &[u8], output: &mut [u8]) -> Moved
+        requires { pending_of self.old ≡ [] }
+        ensures taken { result.taken ≤ length input.now }
+        ensures put { result.put ≤ length output.old }
+        ensures rest { drop result.put output.new ≡ drop result.put output.old }
+        ensures pending { pending_of self.new ≡ [] }
+        ensures takes { (setup : Setup) (t : List ℕ) (before : List (Item setup)) →
+            MachineStands self.old setup t before →
+            (rules_of setup).reading.fault_of t ≡ None →
+            TakesRun (rules_of setup) (MachineStands self.new setup) t before
+            (take result.taken input.now) (take result.put output.new) }
+    {
+        match self {
+            Machine::Receipt { reader, receipt } => {
+                let skipped = reader.take_skipped(input);
+                if skipped > 0 {
+                    return Moved {
+                        taken: skipped,
+                        put: 0,
+                    };
+                }
+                let room = receipt.text_room().min(input.len());
+                let text = reader.take_text(&input[..room]);
+                if text > 0 {
+                    receipt.apply_text(&input[..text]);
+                    return Moved {
+                        taken: text,
+                        put: 0,
+                    };
+                }
+                let room = receipt.raster_room().min(input.len());
+                let n = reader.take_raster(&input[..room]);
+                receipt.apply_raster(&input[..n]);
+                Moved { taken: n, put: 0 }
+            }
+            Machine::ReceiptLines { reader, lines } => {
+                let room = input.len().min(output.len() / 8);
+                let n = reader.take_raster(&input[..room]);
+                lines.put_bytes(&input[..n], output);
+                let put = 8 * n;
+                Moved { taken: n, put }
+            }
+            Machine::Label { reader, label } => {
+                in_turn();
+                data_in_turn();
+                let room = label.data_room().min(input.len());
+                let n = reader.take_data(&input[..room]);
+                label.apply_data(&input[..n]);
+                Moved { taken: n, put: 0 }
+            }
+            Machine::LabelLines { reader, lines } => {
+                let room = input.len().min(output.len() / 8);
+                let n = reader.take_data(&input[..room]);
+                lines.put_bytes(&input[..n], output);
+                let put = 8 * n;
+                Moved { taken: n, put }
+            }
+        }
+    }
+
+    /// Whether anything is still to be put out.
+    pub fn pending(&self) -> bool
+        ensures { IsTrue result ↔ (0 < length (pending_of self.now)) }
+    {
+        match self {
+            Machine::Receipt { receipt, .. } => receipt.pending(),
+            Machine::ReceiptLines { lines, .. } => lines.pending(),
+            Machine::Label { label, .. } => label.pending(),
+            Machine::LabelLines { lines, .. } => lines.pending(),
+        }
+    }
+
+    /// Puts out what is pending, as far as there is room.
+    pub fn put(&mut self, output: &mut [u8]) -> usize
+        ensures count { result ≡ min (length (pending_of self.old)) (length output.old) }
+        ensures bytes { output.new ≡ take result (pending_of self.old) ++ drop result output.old }
+        ensures rest { pending_of self.new ≡ drop result (pending_of self.old) }
+        ensures stands { (setup : Setup) (t : List ℕ) (before : List (Item setup)) →
+            MachineStands self.old setup t before →
+            MachineStands self.new setup t before }
+    {
+        match self {
+            Machine::Receipt { receipt, .. } => receipt.put(output),
+            Machine::ReceiptLines { lines, .. } => lines.put(output),
+            Machine::Label { label, .. } => label.put(output),
+            Machine::LabelLines { lines, .. } => lines.put(output),
+        }
+    }
+
+    /// What is missing where the bytes end.
+    pub fn ending(&self) -> Option<Fault>
+        ensures { (setup : Setup) (t : List ℕ) (before : List (Item setup)) →
+            MachineStands self.now setup t before →
+            (rules_of setup).reading.fault_of t ≡ None →
+            result ≡ missing ((rules_of setup).reading.is_between t) ((rules_of setup).is_at_rest before) }
+    {
+        match self {
+            Machine::Receipt { reader, receipt } => missing(reader.at_rest(), receipt.at_rest()),
+            Machine::ReceiptLines { reader, .. } => missing(reader.at_rest(), true),
+            Machine::Label { reader, label } => missing(reader.at_rest(), label.at_rest()),
+            Machine::LabelLines { reader, .. } => missing(reader.at_rest(), true),
+        }
+    }
+
+    /// What the machine holds now.
+    pub fn held(&self) -> Held
+        ensures value { (setup : Setup) (t : List ℕ) (before : List (Item setup)) →
+            MachineStands self.now setup t before →
+            result ≡ (rules_of setup).held before (pending_of self.now) }
+        ensures most { IsBounded result }
+    {
+        match self {
+            Machine::Receipt { receipt, .. } => Held {
+                line_rows: receipt.line_rows(),
+                page_rows: receipt.page_rows(),
+                ..NOTHING
+            },
+            Machine::ReceiptLines { .. } => NOTHING,
+            Machine::Label { label, .. } => Held {
+                band_rows: label.band_rows(),
+                stored: label.stored(),
+                fields: label.fields(),
+                ..NOTHING
+            },
+            Machine::LabelLines { .. } => NOTHING,
+        }
+    }
+
+    /// How many lines of a listing there were.
+    pub fn lines(&self) -> u64
+        ensures { (setup : Setup) (t : List ℕ) (before : List (Item setup)) →
+            MachineStands self.now setup t before →
+            result ≡ lines_of setup before }
+    {
+        match self {
+            Machine::Receipt { .. } => 0,
+            Machine::ReceiptLines { lines, .. } => lines.count(),
+            Machine::Label { .. } => 0,
+            Machine::LabelLines { lines, .. } => lines.count(),
+        }
+    }
+}

@@ -1,0 +1,185 @@
+//! A run of the program, from its words to its exit status.
+use crate::file::open;
+use crate::sheets;
+use clap::error::ErrorKind;
+use std::alloc::Global;
+use std::convert::AsStr;
+use std::io::{Read, Write};
+use std::rt::{Env, Files};
+use std::{env, io};
+use vp_command_line::{Order, Stream, Task};
+use vp_engine::{Counted, Language, RunFault, Session, Sink, Source, list};
+use vp_exit_status::Stop;
+use vp_glyph::Sheets;
+use vp_join::join;
+
+/// The exit status where the words are wrong.
+const USAGE: u8 = 2;
+
+/// The words of the command line, or the exit status where they can't be had.
+pub fn words<R: Env + Alloc, E: Write>(
+    rt: &R,
+    errors: &mut E,
+) -> Result<Vec<String<R::A>, R::A>, u8> {
+    let all = match env::args(rt) {
+        Ok(all) => all,
+        Err(error) => return Err(no_words(&error, errors)),
+    };
+    match all.collect(rt.alloc()) {
+        Ok(words) => Ok(words),
+        Err(_) => Err(report(&Stop::Memory, errors)),
+    }
+}
+
+/// Says why the words can't be had, and gives the exit status.
+fn no_words<E: Write>(error: &io::Error, errors: &mut E) -> u8 {
+    if error.kind() != io::ErrorKind::InvalidData {
+        return report(&Stop::Memory, errors);
+    }
+    let _ = writeln!(errors, "error: a word of the command line is not UTF-8");
+    USAGE
+}
+
+/// Runs the program on its words, the first of which is its name, and gives the exit status: 0 success,
+/// 1 a fault of the stream or of the images, 2 usage, 3 a file, a sheet, a read or a write, 4 want of memory.
+/// What was printed is written first.
+pub fn run<R: Files, S: AsStr, I: Read, O: Write, E: Write>(
+    rt: &R,
+    alloc: Global,
+    words: &[S],
+    input: &mut I,
+    output: &mut O,
+    errors: &mut E,
+) -> u8 {
+    match Order::read(alloc, words) {
+        Ok(order) => match obey(rt, alloc, order, input, output) {
+            Ok(()) => 0,
+            Err(stop) => report(&stop, errors),
+        },
+        Err(error) => usage(&error, output, errors),
+    }
+}
+
+/// Does what an order asks for.
+fn obey<'a, R: Files, I: Read, O: Write>(
+    rt: &R,
+    alloc: Global,
+    order: Order<'a>,
+    input: &mut I,
+    output: &mut O,
+) -> Result<(), Stop<'a>> {
+    match order {
+        Order::Read(stream) => carry_out(rt, alloc, stream, input, output),
+        Order::Join(name) => join_images(rt, name, output),
+    }
+}
+
+/// Joins the images of a file, which is opened twice.
+fn join_images<'a, R: Files, O: Write>(
+    rt: &R,
+    name: &'a str,
+    output: &mut O,
+) -> Result<(), Stop<'a>> {
+    let first = open(rt, name)?;
+    let second = open(rt, name)?;
+    let mut writer = Counted::new(output);
+    match join(
+        &mut Counted::new(first),
+        &mut Counted::new(second),
+        &mut writer,
+    ) {
+        Ok(_) => Ok(()),
+        Err(fault) => Err(Stop::of_join(fault)),
+    }
+}
+
+/// What is done with what is read, once the sheets are.
+#[derive(Drop)]
+enum Work {
+    Print(Sheets),
+    List,
+}
+
+/// Reads the sheets, opens the file if one is named, and prints or lists.
+fn carry_out<'a, R: Files, I: Read, O: Write>(
+    rt: &R,
+    alloc: Global,
+    stream: Stream<'a>,
+    input: &mut I,
+    output: &mut O,
+) -> Result<(), Stop<'a>> {
+    let work = match stream.task {
+        Task::Print(fonts) => Work::Print(sheets::read(rt, alloc, fonts)?),
+        Task::List => Work::List,
+    };
+    let Some(name) = stream.file else {
+        return work_on(alloc, work, stream.language, input, output);
+    };
+    let mut file = open(rt, name)?;
+    work_on(alloc, work, stream.language, &mut file, output)
+}
+
+/// Prints or lists what is read, as it comes.
+fn work_on<'a, I: Read, O: Write>(
+    alloc: Global,
+    work: Work,
+    language: Language,
+    input: &mut I,
+    output: &mut O,
+) -> Result<(), Stop<'a>> {
+    let mut reader = Counted::new(input);
+    let mut writer = Counted::new(output);
+    match work {
+        Work::Print(sheets) => print(alloc, sheets, language, &mut reader, &mut writer),
+        Work::List => match list(language, &mut reader, &mut writer) {
+            Ok(_) => Ok(()),
+            Err(fault) => Err(ended_by(fault)),
+        },
+    }
+}
+
+/// Prints what is read, as it comes.
+fn print<'a, S: Source, K: Sink>(
+    alloc: Global,
+    sheets: Sheets,
+    language: Language,
+    reader: &mut S,
+    writer: &mut K,
+) -> Result<(), Stop<'a>> {
+    let Ok(mut session) = Session::new(alloc, language, sheets) else {
+        return Err(Stop::Memory);
+    };
+    match session.pump(reader, writer) {
+        Ok(_) => Ok(()),
+        Err(fault) => Err(ended_by(fault)),
+    }
+}
+
+/// Why a session ended before its input did.
+fn ended_by<'a>(fault: RunFault) -> Stop<'a> {
+    match fault {
+        RunFault::Print { fault, after } => Stop::Print { fault, after },
+        RunFault::Read => Stop::Read,
+        RunFault::Write => Stop::Write,
+        RunFault::TooManyTurns => Stop::TooManyTurns,
+    }
+}
+
+/// Writes help to the output, and usage to the errors.
+fn usage<O: Write, E: Write>(error: &clap::Error, output: &mut O, errors: &mut E) -> u8 {
+    if error.kind() == ErrorKind::OutOfMemory {
+        return report(&Stop::Memory, errors);
+    }
+    let _ = if error.use_stderr() {
+        write!(errors, "{error}")
+    } else {
+        write!(output, "{error}")
+    };
+    if error.use_stderr() { USAGE } else { 0 }
+}
+
+/// Writes the line of a run that ends early.
+fn report<E: Write>(stop: &Stop<'_>, errors: &mut E) -> u8 {
+    let _ = writeln!(errors, "vp: {stop}");
+    stop.status()
+}

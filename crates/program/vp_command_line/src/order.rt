@@ -1,0 +1,49 @@
+//! What can be asked for.
+use crate::grammar::program;
+use crate::reading::order_of;
+use clap::Error;
+use std::alloc::Global;
+use std::convert::AsStr;
+use vp_language::Language;
+
+/// A run of the program. Names of files are used as they are written.
+#[derive(Clone, Copy)]
+pub enum Order<'a> {
+    /// A stream is printed or listed.
+    Read(Stream<'a>),
+    /// The images of this file are joined.
+    Join(&'a str),
+}
+
+/// A stream, and what is done with it.
+#[derive(Clone, Copy)]
+pub struct Stream<'a> {
+    pub task: Task<'a>,
+    pub language: Language,
+    /// The file to be read, or none for standard input.
+    pub file: Option<&'a str>,
+}
+
+/// What is done with what is read.
+#[derive(Clone, Copy)]
+pub enum Task<'a> {
+    /// It is printed, with the sheets of these files.
+    Print(Fonts<'a>),
+    /// Its items are listed.
+    List,
+}
+
+/// The files of the sheets of the two fonts.
+#[derive(Clone, Copy)]
+pub struct Fonts<'a> {
+    pub a: Option<&'a str>,
+    pub b: Option<&'a str>,
+}
+
+impl<'a> Order<'a> {
+    /// Reads the words, the first of which is the program's name.
+    pub fn read<S: AsStr>(alloc: Global, words: &'a [S]) -> Result<Order<'a>, Error> {
+        let mut command = program(alloc)?;
+        order_of(&mut command, words)
+    }
+}

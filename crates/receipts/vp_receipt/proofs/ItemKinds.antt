@@ -1,0 +1,93 @@
+-- What items of some kinds leave alone.
+use Rattle.std.proofs.Common.{◌≡◌, ℕ, Bool, true, false, ◌&&◌, refl, List, [], ◌∷◌, Option, Some, None}
+use Rattle.vp_esc.specs.declared.item.EscItem.{EscItem}
+use Rattle.vp_esc.specs.declared.item.EscItem.TheVariants.{CarriageReturn, Control, QrIgnored, WithoutEffect, QrPrint, Symbol as SetSymbol}
+use Rattle.arrayvec.specs.ArrayVec.{ArrayVec}
+use Rattle.vp_esc.specs.declared.item.Spelled.{Spelled}
+use Rattle.vp_esc.specs.declared.item.BarKind.{BarKind}
+use Rattle.vp_dots.specs.Images.{Image}
+use Rattle.vp_glyph.specs.declared.Sheets.{Sheets}
+use Rattle.vp_receipt_settings.specs.declared.page_mode.Mode.{Mode}
+use Rattle.vp_receipt_settings.specs.declared.page_mode.Mode.TheVariants.{Standard, Page}
+use Rattle.vp_receipt_settings.specs.Setup.{Setup}
+use Rattle.vp_receipt_settings.specs.Tabs.{tab_stops}
+use Rattle.vp_receipt_settings.specs.Symbols.{qr_data, symbol_image, image_rows}
+use Rattle.vp_receipt_settings.specs.Pages.{is_paged}
+use Rattle.vp_receipt_settings.specs.History.{settings_of, line, mode}
+use Rattle.vp_strips.specs.declared.symbol.Symbol.{Symbol}
+use Rattle.vp_strips.specs.SymbolInks.{is_symbol, symbol_height, IsSymbolOf}
+use Rattle.vp_receipt.specs.PageMarks.{layers}
+use Rattle.vp_receipt.specs.Strips.{prints, refusal, printed_page}
+use Rattle.vp_receipt.proofs.Runs.{nothing_by}
+
+-- commands that do nothing
+abbrev pub is_ignored : EscItem → Bool
+is_ignored CarriageReturn = true
+is_ignored (Control byte) = true
+is_ignored (QrIgnored bytes) = true
+is_ignored (WithoutEffect lead bytes) = true
+is_ignored _ = false
+
+-- what they leave alone
+pub record DoesNothing (setup : Setup) (before : List EscItem) (item : EscItem) : Type 0 where
+  pub settings : settings_of setup (item ∷ before) ≡ settings_of setup before
+  pub line : line setup (item ∷ before) ≡ line setup before
+  pub stops : tab_stops (item ∷ before) ≡ tab_stops before
+  pub stored : qr_data (item ∷ before) ≡ qr_data before
+  pub mode : mode setup (item ∷ before) ≡ mode setup before
+  pub layers : layers setup (item ∷ before) ≡ layers setup before
+  pub refusal : refusal setup before item ≡ None
+  pub prints : prints setup before item ≡ []
+
+pub does_nothing : (setup : Setup) (before : List EscItem) (item : EscItem) → is_ignored item ≡ true → DoesNothing setup before item
+does_nothing setup before CarriageReturn h = record { settings = refl; line = refl; stops = refl; stored = refl; mode = refl; layers = refl; refusal = refl; prints = nothing_by (mode setup before) }
+does_nothing setup before (Control byte) h = record { settings = refl; line = refl; stops = refl; stored = refl; mode = refl; layers = refl; refusal = refl; prints = nothing_by (mode setup before) }
+does_nothing setup before (QrIgnored bytes) h = record { settings = refl; line = refl; stops = refl; stored = refl; mode = refl; layers = refl; refusal = refl; prints = nothing_by (mode setup before) }
+does_nothing setup before (WithoutEffect lead bytes) h = record { settings = refl; line = refl; stops = refl; stored = refl; mode = refl; layers = refl; refusal = refl; prints = nothing_by (mode setup before) }
+does_nothing setup before _ h = cc
+
+-- one that prints no symbol
+pub no_image : (setup : Setup) (before : List EscItem) (item : EscItem) → is_symbol item ≡ false → symbol_image setup before item ≡ None
+no_image setup before (SetSymbol kind bytes more) h = cc
+no_image setup before QrPrint h = cc
+no_image setup before _ h = refl
+
+pub no_refusal : (setup : Setup) (before : List EscItem) (item : EscItem) → is_symbol item ≡ false → refusal setup before item ≡ None
+no_refusal setup before (SetSymbol kind bytes more) h = cc
+no_refusal setup before QrPrint h = cc
+no_refusal setup before _ h = refl
+
+-- one that prints a symbol
+pub stops_kept : (before : List EscItem) (item : EscItem) → is_symbol item ≡ true → tab_stops (item ∷ before) ≡ tab_stops before
+stops_kept before (SetSymbol kind bytes more) h = refl
+stops_kept before QrPrint h = refl
+stops_kept before _ h = cc
+
+pub data_kept : (before : List EscItem) (item : EscItem) → is_symbol item ≡ true → qr_data (item ∷ before) ≡ qr_data before
+data_kept before (SetSymbol kind bytes more) h = refl
+data_kept before QrPrint h = refl
+data_kept before _ h = cc
+
+no_page_of : (m : Mode) → false ≡ is_paged m && false
+no_page_of Standard = refl
+no_page_of Page = refl
+
+pub no_page : (setup : Setup) (before : List EscItem) (item : EscItem) → is_symbol item ≡ true → false ≡ printed_page setup (item ∷ before)
+no_page setup before (SetSymbol kind bytes more) h = no_page_of (mode setup before)
+no_page setup before QrPrint h = no_page_of (mode setup before)
+no_page setup before _ h = cc
+
+-- how many rows it has
+rows_of : (sheets : Sheets) (symbol : Symbol) (image : Option Image) → IsSymbolOf sheets (Some symbol) image → symbol_height sheets symbol ≡ image_rows image
+rows_of sheets symbol (Some image) h = h.height
+rows_of sheets symbol None h = absurd h
+
+pub rows_drawn : (setup : Setup) (before : List EscItem) (item : EscItem) (symbol : Symbol) → IsSymbolOf setup.sheets (Some symbol) (symbol_image setup before item)
+    → symbol_height setup.sheets symbol ≡ image_rows (symbol_image setup before item)
+rows_drawn setup before item symbol h = rows_of setup.sheets symbol (symbol_image setup before item) h
+
+-- the symbols are bars and QR
+pub is_qr : (item : EscItem) → ((kind : Spelled (Option BarKind)) (bytes : ArrayVec ℕ) (more : Bool) → item ≡ SetSymbol kind bytes more → ⊥) → is_symbol item ≡ true → item ≡ QrPrint
+is_qr (SetSymbol kind bytes more) n h = absurd (n kind bytes more refl)
+is_qr QrPrint n h = refl
+is_qr _ n h = cc

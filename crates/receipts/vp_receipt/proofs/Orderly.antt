@@ -1,0 +1,163 @@
+-- The items of bytes: those of a raster's bytes come before any other item does.
+use Rattle.std.proofs.Common.{◌≡◌, ℕ, zero, suc, ◌+◌, ◌-◌, ◌*◌, ◌≤◌, ◌<◌, ◌==◌, Bool, true, false, List, [], ◌∷◌, ◌++◌, length, map, reverse, append_assoc, Option, Some, None, inl, inr, refl, sym, ap, subst, ◌∙◌, arith, length-append}
+use Rattle.std.specs.List.{flat_map, AllByRecursion}
+use Rattle.std.proofs.Math.Nat.{mul_comm, suc-mul}
+use Rattle.std.proofs.lemmas.Bool.{eqb-true, eqb-false, ltb-true, and_parts}
+use Rattle.std.proofs.lemmas.List.{append-nil, reverse-append}
+use Rattle.vp_esc.specs.declared.item.EscItem.{EscItem}
+use Rattle.vp_esc.specs.declared.item.EscItem.TheVariants.{Raster, RasterByte}
+use Rattle.vp_esc.specs.declared.item.RasterScale.{RasterScale}
+use Rattle.vp_esc.specs.Laws.{IsUnit, Splits}
+use Rattle.vp_esc.specs.Split.{split, items}
+use Rattle.vp_esc.specs.Units.{is_open, given, raster_bytes as given_bytes}
+use Rattle.vp_receipt_settings.specs.Rasters.{draws, raster_bytes, rows_to_come, row_so_far}
+use Rattle.vp_receipt.proofs.Begun.{IsOrderly, by_bool}
+use Rattle.vp_receipt.proofs.Images.{is_raster}
+use Rattle.vp_receipt.proofs.UnitKinds.{IsOther, IsRasterGiven, Kind, kinds}
+
+-- items onto those before them
+abbrev onto : List EscItem → List EscItem → List EscItem
+onto [] before = before
+onto (item ∷ items) before = onto items (item ∷ before)
+
+onto_is : (items before : List EscItem) → onto items before ≡ reverse items ++ before
+onto_is [] before = refl
+onto_is (item ∷ items) before =
+    onto_is items (item ∷ before) ∙ sym (ap (λ x. x ++ before) (reverse-append (item ∷ []) items) ∙ append_assoc (reverse items) (item ∷ []) before)
+
+onto_more : (xs ys before : List EscItem) → onto (xs ++ ys) before ≡ onto ys (onto xs before)
+onto_more [] ys before = refl
+onto_more (x ∷ xs) ys before = onto_more xs ys (x ∷ before)
+
+-- no raster has begun
+abbrev IsBetween : List EscItem → Type 0
+IsBetween before = IsOrderly before × (rows_to_come before ≡ 0)
+
+other_next : (item : EscItem) (before : List EscItem) → is_raster item ≡ false → IsBetween before → IsBetween (item ∷ before)
+other_next (Raster scale bytes rows) before h b = cc
+other_next (RasterByte byte) before h b = cc
+other_next _ before h b = ((b.1, b.0), refl)
+
+others_next : (items before : List EscItem) → AllByRecursion IsOther items → IsBetween before → IsBetween (onto items before)
+others_next [] before h b = b
+others_next (item ∷ items) before h b = others_next items (item ∷ before) h.1 (other_next item before h.0.is b)
+
+-- so many bytes of a raster are enough
+record IsEnough (before : List EscItem) (n : ℕ) : Type 0 where
+  pub count : rows_to_come before * raster_bytes before ≤ length (row_so_far before) + n
+  pub within : 0 < rows_to_come before → length (row_so_far before) < raster_bytes before
+
+row_less : (rows bytes got n : ℕ) → rows * bytes ≤ got + suc n → got + 1 ≡ bytes → (rows - 1) * bytes ≤ n
+row_less zero bytes got n h e = omega arith
+row_less (suc rows) bytes got n h e =
+    let s = suc-mul rows bytes in
+    let less : suc rows - 1 ≡ rows = omega arith in
+    subst (λ r. r * bytes ≤ n) (sym less) (omega (arith, h, e, s))
+
+none_left : (rows bytes got : ℕ) → rows * bytes ≤ got + 0 → (0 < rows → got < bytes) → rows ≡ 0
+none_left zero bytes got h w = refl
+none_left (suc rows) bytes got h w = let s = suc-mul rows bytes in let l = w (omega arith) in absurd (omega (arith, h, s, l))
+
+module _ (before : List EscItem) (byte n : ℕ) (enough : IsEnough before (suc n)) where
+  abbrev after : List EscItem
+  after = RasterByte byte ∷ before
+
+  by_row : (ends none : Bool) → (length (row_so_far before) + 1 == raster_bytes before) ≡ ends → (rows_to_come before == 0) ≡ none → IsEnough after n
+  by_row true none e z =
+      let got = eqb-true (length (row_so_far before) + 1) (raster_bytes before) e in
+      let rows : rows_to_come after ≡ rows_to_come before - 1 = rw e refl in
+      let row : row_so_far after ≡ [] = rw e refl in
+      record {
+        count = rw (rows, row) (omega (arith, row_less (rows_to_come before) (raster_bytes before) (length (row_so_far before)) n enough.count got));
+        within = λ some. rw row (omega (arith, got));
+      }
+  by_row false true e z =
+      let rows : rows_to_come after ≡ rows_to_come before = rw e refl in
+      let none : rows_to_come before ≡ 0 = eqb-true _ _ z in
+      record { count = rw (rows, none) (omega arith); within = λ some. absurd (omega (arith, rows, none, some)) }
+  by_row false false e z =
+      let rows : rows_to_come after ≡ rows_to_come before = rw e refl in
+      let row : length (row_so_far after) ≡ length (row_so_far before) + 1 = rw (e, z) (length-append (row_so_far before) (byte ∷ [])) in
+      let other : length (row_so_far before) + 1 ≡ raster_bytes before → ⊥ = eqb-false _ _ e in
+      record {
+        count = rw (rows, row) (omega (arith, enough.count));
+        within = λ some. let inside = enough.within (omega (arith, rows, some)) in omega (arith, row, inside, other);
+      }
+
+  enough_next : IsEnough after n
+  enough_next = by_row (length (row_so_far before) + 1 == raster_bytes before) (rows_to_come before == 0) refl refl
+
+all_come : (dots : List ℕ) (before : List EscItem) → IsEnough before (length dots) → rows_to_come (onto (map (λ b. RasterByte b) dots) before) ≡ 0
+all_come [] before enough = none_left (rows_to_come before) (raster_bytes before) (length (row_so_far before)) enough.count enough.within
+all_come (b ∷ dots) before enough = all_come dots (RasterByte b ∷ before) (enough_next before b (length dots) enough)
+
+bytes_orderly : (dots : List ℕ) (before : List EscItem) → IsOrderly before → IsOrderly (onto (map (λ b. RasterByte b) dots) before)
+bytes_orderly [] before o = o
+bytes_orderly (b ∷ dots) before o = bytes_orderly dots (RasterByte b ∷ before) o
+
+given_orderly : (value : Option RasterScale) (dots : List ℕ) (before : List EscItem) → IsOrderly before → IsOrderly (onto (given_bytes value dots) before)
+given_orderly None dots before o = o
+given_orderly (Some scale) dots before o = bytes_orderly dots before o
+
+given_whole : (value : Option RasterScale) (dots : List ℕ) (before : List EscItem) → (value ≡ None → rows_to_come before ≡ 0) → IsEnough before (length dots) →
+    rows_to_come (onto (given_bytes value dots) before) ≡ 0
+given_whole None dots before none enough = none refl
+given_whole (Some scale) dots before none enough = all_come dots before enough
+
+some_bytes : (value : Option RasterScale) (bytes rows : ℕ) → draws value bytes rows ≡ true → 0 < bytes
+some_bytes None bytes rows e = cc
+some_bytes (Some scale) bytes rows e = ltb-true 0 bytes (and_parts _ _ e).0
+
+module _ (given : List EscItem) (part : Bool) (r : IsRasterGiven given part) (before : List EscItem) (b : IsBetween before) where
+  abbrev head : EscItem
+  head = Raster r.scale r.bytes r.rows
+
+  raster_orderly : IsOrderly (onto given before)
+  raster_orderly =
+      subst (λ xs. IsOrderly (onto xs before)) (sym r.given_is) (given_orderly r.scale.value r.dots (head ∷ before) (b.1, b.0))
+
+  enough_given : part ≡ false → IsEnough (head ∷ before) (length r.dots)
+  enough_given whole =
+      let all = r.all whole in
+      let turned = mul_comm r.rows r.bytes in
+      by_bool (draws r.scale.value r.bytes r.rows)
+      (λ e. record { count = rw e (omega (arith, all, turned)); within = λ some. some_bytes r.scale.value r.bytes r.rows e })
+      (λ e. record { count = rw e (omega arith); within = λ some. absurd (let none : rows_to_come (head ∷ before) ≡ 0 = rw e refl in omega (arith, some, none)) })
+
+  raster_whole : part ≡ false → rows_to_come (onto given before) ≡ 0
+  raster_whole whole =
+      ap (λ xs. rows_to_come (onto xs before)) r.given_is ∙ given_whole r.scale.value r.dots (head ∷ before) (λ e. rw e refl) (enough_given whole)
+
+unit_next : (given before : List EscItem) (part : Bool) → Kind given part → part ≡ false → IsBetween before → IsBetween (onto given before)
+unit_next given before part (inl o) whole b = others_next given before o.each b
+unit_next given before part (inr r) whole b = (raster_orderly given part r before b, raster_whole given part r before b whole)
+
+rest_next : (given before : List EscItem) (part : Bool) → Kind given part → IsBetween before → IsOrderly (onto given before)
+rest_next given before part (inl o) b = (others_next given before o.each b).0
+rest_next given before part (inr r) b = raster_orderly given part r before b
+
+units_next : (units : List (List ℕ)) (before : List EscItem) → AllByRecursion IsUnit units → IsBetween before → IsBetween (onto (flat_map given units) before)
+units_next [] before each b = b
+units_next (unit ∷ units) before each b =
+    subst IsBetween (sym (onto_more (given unit) (flat_map given units) before))
+    (units_next units (onto (given unit) before) each.1 (unit_next (given unit) before (is_open unit) (kinds unit) each.0.whole b))
+
+module _ (bytes : List ℕ) (s : Splits bytes (split bytes).units (split bytes).rest) where
+  units_between : IsBetween (onto (flat_map given (split bytes).units) [])
+  units_between = units_next (split bytes).units [] s.each (tt, refl)
+
+  history_is : reverse (items bytes) ≡ onto (given (split bytes).rest) (onto (flat_map given (split bytes).units) [])
+  unfolding items
+  history_is =
+      sym (append-nil (reverse (items bytes))) ∙ sym (onto_is (items bytes) []) ∙ onto_more (flat_map given (split bytes).units) (given (split bytes).rest) []
+
+  -- in the items of bytes
+  pub items_orderly : IsOrderly (reverse (items bytes))
+  items_orderly =
+      subst IsOrderly (sym history_is)
+      (rest_next (given (split bytes).rest) (onto (flat_map given (split bytes).units) []) (is_open (split bytes).rest) (kinds (split bytes).rest) units_between)
+
+  -- and where they end with a whole command, all rows have come
+  pub items_whole : (split bytes).rest ≡ [] → rows_to_come (reverse (items bytes)) ≡ 0
+  unfolding given
+  items_whole e = ap rows_to_come history_is ∙ ap (λ rest. rows_to_come (onto (given rest) (onto (flat_map given (split bytes).units) []))) e ∙ units_between.1

@@ -1,0 +1,94 @@
+-- The line and the page: what a bitmap lays, and the rows that are printed.
+use Rattle.std.proofs.Common.{◌≡◌, ℕ, zero, suc, ◌+◌, ◌-◌, ◌<◌, ◌≤◌, Bool, true, refl, sym, ap, subst, ◌∙◌, arith, List, [], ◌∷◌, ◌++◌, ◌==◌, if◌then◌else◌, eq-eqb, inl, inr}
+use Rattle.std.proofs.lemmas.Bool.{lt-ltb, le-leb, and_parts, ltb-true, cases_eq, ne_eqb}
+use Rattle.vp_dots.specs.Headers.{header_of}
+use Rattle.vp_esc.specs.declared.item.EscItem.{EscItem}
+use Rattle.vp_esc.specs.declared.item.EscItem.TheVariants.{PageMode}
+use Rattle.vp_page.specs.declared.area.Area.{Area}
+use Rattle.vp_page.specs.declared.area.Direction.{Direction}
+use Rattle.vp_page.specs.declared.area.Direction.TheVariants.{LeftToRight, BottomToTop, RightToLeft, TopToBottom}
+use Rattle.vp_page.specs.Areas.{line_length as length_on_page}
+use Rattle.vp_page.specs.Layers.{Layer, Laid, page_dot}
+use Rattle.vp_page.specs.Pages.{HasPage}
+use Rattle.vp_receipt_settings.specs.declared.width.Width.{Width}
+use Rattle.vp_receipt_settings.specs.declared.settings.Settings.{Settings}
+use Rattle.vp_receipt_settings.specs.Setup.{Setup, across}
+use Rattle.vp_strips.specs.declared.canvas.Canvas.{Canvas}
+use Rattle.vp_strips.specs.declared.strip.Dots.TheVariants.{Page as PageDots}
+use Rattle.vp_receipt_settings.specs.declared.page_mode.Mode.{Mode}
+use Rattle.vp_receipt_settings.specs.declared.page_mode.Mode.TheVariants.{Standard, Page}
+use Rattle.vp_strips.specs.Held.{whole}
+use Rattle.vp_receipt.specs.Standing.{HasPageIf, IsSettled}
+use Rattle.vp_receipt_settings.specs.History.{Placed, height, line, is_open, mode, settings_of}
+use Rattle.vp_receipt_settings.specs.declared.page_mode.PageSettings.{PageSettings}
+use Rattle.vp_strips.specs.LineDots.{HasDots, any_dot}
+use Rattle.vp_receipt.specs.PageMarks.{HasRows, mark_of, line_dot, line_mark, laid_if, layers, layers_with}
+use Rattle.vp_strips.specs.Rows.{paper_row, rows_text, strip_text}
+use Rattle.vp_strips.specs.Jobs.{page_dot_of}
+use Rattle.vp_strips.proofs.Rows.{paper_row_same}
+use Rattle.vp_strips.proofs.LineTexts.{raised}
+use Rattle.vp_strips.proofs.Strips.{text_of_rows}
+
+-- a line of an area on the page is at most as long as the page is high
+pub length_small : (a : Area) (d : Direction) → a.x + a.dx ≤ 576 → a.y + a.dy ≤ 1664 → length_on_page a d ≤ 1664
+length_small a LeftToRight h k = omega arith
+length_small a BottomToTop h k = omega arith
+length_small a RightToLeft h k = omega arith
+length_small a TopToBottom h k = omega arith
+
+-- the lowest rows of the line's bitmap are the line
+pub has_rows : (s : Settings) (placed : List Placed) (bitmap : List (List ℕ)) → s.height ≡ height placed → s.height ≤ 192 → HasDots placed bitmap → HasRows s bitmap (line_dot placed)
+has_rows s placed bitmap e small has = record {
+  same = λ u w h k. has.dots_are u (192 - s.height + w) h (omega arith) ∙ ap (λ n. any_dot placed 192 u (192 - n + w)) e
+      ∙ sym (raised placed (height placed) u w (omega arith) (omega arith) (omega arith)) ∙ sym (rw (lt-ltb w (height placed) (omega arith)) refl);
+  high = λ u w h. let k = ltb-true w (height placed) (and_parts _ _ h).0 in omega arith;
+}
+
+rows_up_to : (paper : Width) (f g : ℕ → ℕ → Bool) (y n : ℕ) → y + n ≤ 1664 → ((x y : ℕ) → x < 576 → y < 1664 → f x y ≡ g x y) → rows_text paper f y n ≡ rows_text paper g y n
+rows_up_to paper f g y zero l h = refl
+rows_up_to paper f g y (suc n) l h = ap (λ r. r ++ rows_text paper f (y + 1) n) (paper_row_same paper (λ x. f x y) (λ x. g x y) (λ x k. h x y k (omega arith))) ∙ ap (λ r. paper_row paper (λ x. g x y) ++ r) (rows_up_to paper f g (y + 1) n (omega arith) h)
+
+-- a row of the page is that of its layers
+page_shown : (layers : List Layer) (page : List (List ℕ)) → HasPage layers page → (x y : ℕ) → x < 576 → y < 1664 → page_dot_of page x y ≡ page_dot layers x y
+page_shown layers page has x y h k = let e : x - 0 ≡ x = omega arith in rw (lt-ltb y 1664 k, le-leb 0 x (omega arith), e, lt-ltb x 576 h) (has.dots_are x y h k)
+
+strip_shown : (paper : Width) (layers : List Layer) (canvas : Canvas) (rows : ℕ) → rows ≤ 1664 → HasPage layers canvas.page → (rows ≡ 0 → ⊥)
+    → whole (record { paper = paper; tall = rows; rows = rows; dots = PageDots }) canvas ≡ strip_text paper rows (page_dot layers)
+strip_shown paper layers canvas rows h has some =
+    ap (λ k. header_of (across paper) rows ++ rows_text paper (page_dot_of canvas.page) 0 k) (let z : rows - 0 ≡ rows = omega arith in z)
+    ∙ ap (λ r. header_of (across paper) rows ++ r) (rows_up_to paper (page_dot_of canvas.page) (page_dot layers) 0 rows (omega arith) (page_shown layers canvas.page has))
+    ∙ text_of_rows paper rows (page_dot layers) some
+
+-- the strip of the page
+pub page_strip : (paper : Width) (layers : List Layer) (canvas : Canvas) (rows : ℕ) → rows ≤ 1664 → HasPage layers canvas.page
+    → (if rows == 0 then [] else whole (record { paper = paper; tall = rows; rows = rows; dots = PageDots }) canvas) ≡ strip_text paper rows (page_dot layers)
+page_strip paper layers canvas rows h has = elim (cases_eq rows 0) [
+  | inl e ↦ rw (eq-eqb rows 0 e) refl
+  | inr n ↦ rw (ne_eqb rows 0 n) (strip_shown paper layers canvas rows h has n ∙ rw (ne_eqb rows 0 n) refl)
+]
+
+pub has_page : (m : Mode) (layers : List Layer) (page : List (List ℕ)) → HasPage layers page → HasPageIf m layers page
+has_page Standard layers page h = tt
+has_page Page layers page h = h
+
+-- the page after an item in page mode
+pub page_kept : (setup : Setup) (before : List EscItem) (item : EscItem) (page : List (List ℕ)) → mode setup before ≡ Page → HasPage (layers_with setup before item (layers setup before)) page → HasPageIf (mode setup (item ∷ before)) (layers setup (item ∷ before)) page
+page_kept setup before PageMode page e h = has_page (mode setup (PageMode ∷ before)) (layers setup (PageMode ∷ before)) page (rw e h)
+page_kept setup before item page e h = has_page (mode setup (item ∷ before)) (layers setup (item ∷ before)) page h
+
+-- the line that is laid
+pub line_laid : (setup : Setup) (before : List EscItem) (s : Settings) (bitmap page : List (List ℕ)) (layers : List Layer) → s ≡ settings_of setup before → s.height ≤ 192 → s.is_open ≡ true
+    → (is_open (line setup before) ≡ true → HasDots (line setup before) bitmap)
+    → (HasRows s bitmap (line_dot (line setup before)) → HasPage (Laid (mark_of s.page (line_dot (line setup before))) ∷ layers) page)
+    → HasPage (laid_if (is_open (line setup before)) (line_mark setup before) layers) page
+line_laid setup before s bitmap page layers e small o has laid =
+    let open_is : is_open (line setup before) ≡ true = sym (ap (λ (q : Settings). q.is_open) e) ∙ o in
+    rw open_is (subst (λ (p : PageSettings). HasPage (Laid (mark_of p (line_dot (line setup before))) ∷ layers) page) (ap (λ (q : Settings). q.page) e)
+    (laid (has_rows s (line setup before) bitmap (ap (λ (q : Settings). q.height) e) small (has open_is))))
+
+pub mode_is : (setup : Setup) (before : List EscItem) (s : Settings) (m : Mode) → s ≡ settings_of setup before → s.page.mode ≡ m → mode setup before ≡ m
+mode_is setup before s m e is = sym (ap (λ (q : Settings). q.page.mode) e) ∙ is
+
+-- what is settled has its page in page mode
+pub page_held : (setup : Setup) (before : List EscItem) (s : Settings) (canvas : Canvas) → IsSettled setup before s canvas → s.page.mode ≡ Page → HasPage (layers setup before) canvas.page
+page_held setup before s canvas h is = subst (λ (m : Mode). HasPageIf m (layers setup before) canvas.page) (mode_is setup before s Page h.settings is) h.page

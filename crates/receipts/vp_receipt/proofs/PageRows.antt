@@ -1,0 +1,300 @@
+-- Whole rows of a raster, laid on the page one below the other.
+use Rattle.std.proofs.Common.{inl, inr, ◌≡◌, ℕ, zero, suc, ◌+◌, ◌-◌, ◌*◌, ◌/◌, ◌<◌, ◌≤◌, Bool, true, false, ltb, leb, eqb, cond, nat_lt, ◌&&◌, ◌||◌, List, [], ◌∷◌, ◌++◌, length, take, drop, min, refl, sym, ap, subst, ◌∙◌, append_assoc, arith, Option, Some, None}
+use Rattle.std.proofs.Math.Nat.{suc-mul, mul_comm, mul-le-mul_right, div-le_self, div-le_of_le-mul, div-mul-le_self, lt-div-mul-add, le_trans}
+use Rattle.std.proofs.lemmas.Bool.{cases_lt, lt-ltb}
+use Rattle.std.proofs.lemmas.Bool.Decides.{nat_tests}
+use Rattle.std.proofs.lemmas.List.{append-nil, take-append-drop, take-take, take_all, length-take, length-drop}
+use Rattle.std.proofs.lemmas.Nat.{div-mul-add}
+use Rattle.vp_dots.specs.Dots.{dot}
+use Rattle.vp_esc.specs.declared.item.EscItem.{EscItem}
+use Rattle.vp_esc.specs.declared.item.EscItem.TheVariants.{RasterByte}
+use Rattle.vp_esc.specs.declared.item.RasterScale.{RasterScale}
+use Rattle.vp_page.specs.Areas.{holds, along, down, depth}
+use Rattle.vp_page.specs.Layers.{Layer, Laid, Mark, mark_dot, page_dot, first_rows}
+use Rattle.vp_page.specs.Pages.{HasPage}
+use Rattle.vp_page.specs.declared.area.Area.{Area}
+use Rattle.vp_page.specs.declared.area.Direction.{Direction}
+use Rattle.vp_page.specs.declared.area.Direction.TheVariants.{LeftToRight, BottomToTop, RightToLeft, TopToBottom}
+use Rattle.vp_page.proofs.Falling.{lies, within}
+use Rattle.vp_page.proofs.Pages.{same_page}
+use Rattle.vp_glyph.specs.declared.Sheets.{Sheets}
+use Rattle.vp_receipt_settings.specs.Setup.{Setup}
+use Rattle.vp_receipt_settings.specs.History.{settings_of, page_of, mode, line, Placed, image_of, IsFitPage}
+use Rattle.vp_receipt_settings.specs.Texts.{text_of}
+use Rattle.vp_receipt_settings.specs.declared.text.Text.{Text}
+use Rattle.vp_receipt_settings.specs.Rasters.{times_across, times_down, raster_scale, raster_bytes, row_so_far, is_row_end, bytes_after, row_at}
+use Rattle.vp_receipt_settings.specs.Gathering.{IsGathering, IsPartRow, room_of, left_of}
+use Rattle.vp_receipt_settings.specs.Runs.{below}
+use Rattle.vp_receipt_settings.specs.declared.raster.Raster.{Raster}
+use Rattle.vp_receipt_settings.specs.declared.page_mode.Mode.TheVariants.{Page}
+use Rattle.vp_receipt_settings.specs.declared.settings.Settings.{Settings}
+use Rattle.vp_receipt_settings.proofs.Runs.{after_first, AreInside, settings_same, settings_stay, line_stays, run_inside, inside}
+use Rattle.vp_receipt_settings.proofs.WholeRows.{Lacks, at_end, not_end, goes, row_below, HaveRows, have_rows, fewer, are_whole, lacks_row, next_row, no_row, rows_below, after_both}
+use Rattle.vp_receipt.specs.PageMarks.{mark_of, raster_mark, rows_dot, layers}
+use Rattle.vp_receipt.specs.Strips.{printed, prints}
+use Rattle.vp_strips.specs.LineDots.{HasOpen}
+use Rattle.vp_receipt.specs.Standing.{Gathers, IsOnPage}
+use Rattle.vp_receipt.proofs.EightRows.{first_dots_of}
+use Rattle.vp_receipt.proofs.Runs.{layers_same}
+
+-- on a page a raster's bytes print nothing
+pub nothing_printed : (setup : Setup) (bytes : List ℕ) (before : List EscItem) → mode setup before ≡ Page → printed setup (bytes_after bytes before) ≡ printed setup before
+nothing_printed setup [] before e = refl
+nothing_printed setup (b ∷ bytes) before e =
+    let none : prints setup before (RasterByte b) ≡ [] = rw e refl in
+    ap (printed setup) (after_first b bytes before) ∙ nothing_printed setup bytes (RasterByte b ∷ before) e
+    ∙ ap (λ x. printed setup before ++ x) none ∙ append-nil (printed setup before)
+
+pub layers_stay : (setup : Setup) (bytes : List ℕ) (before : List EscItem) → AreInside bytes before → layers setup (bytes_after bytes before) ≡ layers setup before
+layers_stay setup [] before in_row = refl
+layers_stay setup (b ∷ bytes) before in_row =
+    ap (layers setup) (after_first b bytes before) ∙ layers_stay setup bytes (RasterByte b ∷ before) in_row.1 ∙ layers_same setup b before in_row.0
+
+-- a row of the raster as it is drawn
+abbrev row_dot : RasterScale → List ℕ → ℕ → ℕ → Bool
+row_dot scale row u w = nat_lt w (times_down scale) && dot row (u / times_across scale)
+
+mark_same : (setup : Setup) (b : ℕ) (before : List EscItem) (row : List ℕ) → is_row_end before ≡ false → raster_mark setup (RasterByte b ∷ before) row ≡ raster_mark setup before row
+mark_same setup b before row e = ap (λ (s : Settings). mark_of s.page (row_dot (raster_scale before) row)) (settings_same setup b before e)
+
+-- bytes that end the row lay it
+pub row_laid_by : (setup : Setup) (bytes : List ℕ) (before : List EscItem) → Lacks bytes before
+    → layers setup (bytes_after bytes before) ≡ Laid (raster_mark setup before (row_so_far before ++ bytes)) ∷ layers setup before
+row_laid_by setup [] before h = absurd (omega (arith, h.some))
+row_laid_by setup (b ∷ []) before h = rw (at_end b before h) refl
+row_laid_by setup (b ∷ c ∷ bytes) before h =
+    let more = not_end b c bytes before h in
+    let go = goes b c bytes before h in
+    let row : row_so_far (RasterByte b ∷ before) ++ c ∷ bytes ≡ row_so_far before ++ b ∷ c ∷ bytes =
+    ap (λ xs. xs ++ c ∷ bytes) (inside b before h.rows go.room).row ∙ append_assoc (row_so_far before) (b ∷ []) (c ∷ bytes) in
+    ap (layers setup) (after_first b (c ∷ bytes) before) ∙ row_laid_by setup (c ∷ bytes) (RasterByte b ∷ before) go.rest
+    ∙ ap (λ xs. Laid (raster_mark setup (RasterByte b ∷ before) xs) ∷ layers setup (RasterByte b ∷ before)) row
+    ∙ ap (λ (m : Mark). Laid m ∷ layers setup (RasterByte b ∷ before)) (mark_same setup b before (row_so_far before ++ b ∷ c ∷ bytes) more)
+    ∙ ap (λ (l : List Layer). Laid (raster_mark setup before (row_so_far before ++ b ∷ c ∷ bytes)) ∷ l) (layers_same setup b before more)
+
+-- the rows of an area on the page
+depth_small : (a : Area) (d : Direction) → a.x + a.dx ≤ 576 → a.y + a.dy ≤ 1664 → depth a d ≤ 1664
+depth_small a LeftToRight h k = omega arith
+depth_small a BottomToTop h k = omega arith
+depth_small a RightToLeft h k = omega arith
+depth_small a TopToBottom h k = omega arith
+
+-- a row below others, where it isn't past the end of the page
+row_more : (h r m p : Bool) (w top k d : ℕ) → (h ≡ true → w < 65535) → (h ≡ true → top + k ≤ w → w - (top + k) < d → r ≡ m)
+    → (h && (leb (min (top + k) 65535) w && (ltb (w - min (top + k) 65535) d && r)) || (h && (leb top w && (ltb (w - top) k && m)) || p))
+    ≡ (h && (leb top w && (ltb (w - top) (k + d) && m)) || p)
+row_more false r m p w top k d small same = refl
+row_more true r m p w top k d small same = elim (cases_lt w (top + k)) [
+  | inl l ↦ (let s : w < 65535 = small refl in grind (arith, nat_tests))
+  | inr g ↦ elim (cases_lt (w - (top + k)) d) [
+    | inl n ↦ (let e : r ≡ m = same refl g n in let s : w < 65535 = small refl in grind (arith, nat_tests))
+    | inr n ↦ (let s : w < 65535 = small refl in grind (arith, nat_tests))
+  ]
+]
+
+no_rows : (h t : Bool) (w k : ℕ) (b : Bool) → k ≡ 0 → (h && (t && (ltb w k && b))) ≡ false
+no_rows h t w k b e = grind (arith, nat_tests)
+
+-- dots of row k
+pub row_is : (scale : RasterScale) (wide n : ℕ) (bytes : List ℕ) (k u w y : ℕ) → k < n → y ≡ k * times_down scale + w → w < times_down scale
+    → rows_dot scale wide n bytes u y ≡ dot (row_at bytes wide k) (u / times_across scale)
+row_is scale wide n bytes k u w y few at in_row =
+    let d = times_down scale in
+    let room : suc k * d ≤ n * d = mul-le-mul_right d (omega arith) in
+    let shown : y < n * d = omega (arith, suc-mul k d, room) in
+    rw (lt-ltb y (n * d) shown) (ap (λ i. dot (row_at bytes wide i) (u / times_across scale)) (ap (λ v. v / d) at ∙ div-mul-add k d w in_row))
+
+-- the bytes that are shown of a row have its dots
+pub front_shown : (wide v : ℕ) (bytes : List ℕ) → v < 1664 → dot (take (min wide 208) bytes) v ≡ dot (take wide bytes) v
+front_shown wide v bytes h = elim (cases_lt 208 wide) [
+  | inl long ↦ (let e : min wide 208 ≡ 208 = omega arith in
+      ap (λ i. dot (take i bytes) v) e ∙ ap (λ (xs : List ℕ). dot xs v) (sym (take-take 208 wide bytes (omega arith))) ∙ first_dots_of (take wide bytes) 208 v (omega arith))
+  | inr short ↦ (let e : min wide 208 ≡ wide = omega arith in ap (λ i. dot (take i bytes) v) e)
+]
+
+pub row_shown : (scale : RasterScale) (wide n : ℕ) (bytes : List ℕ) (k u w at : ℕ) → k < n → at ≡ k * times_down scale → u < 1664 → w < times_down scale
+    → dot (take (min wide 208) (drop (k * wide) bytes)) (u / times_across scale) ≡ rows_dot scale wide n bytes u (at + w)
+row_shown scale wide n bytes k u w at few is l h =
+    let near = div-le_self u (times_across scale) in
+    front_shown wide (u / times_across scale) (drop (k * wide) bytes) (omega (arith, near)) ∙ sym (row_is scale wide n bytes k u w (at + w) few (omega arith) h)
+
+-- the mark of rows at the vertical position
+abbrev rows_mark : Setup → List ℕ → ℕ → List EscItem → Mark
+rows_mark setup bytes n before = mark_of (page_of setup before) (rows_dot (raster_scale before) (raster_bytes before) n bytes)
+
+-- the mark of the row below so many
+mark_below : (setup : Setup) (bytes : List ℕ) (k : ℕ) (before : List EscItem) → (settings_of setup before).page.vertical ≤ 65535 → HaveRows bytes k before
+    → raster_mark setup (bytes_after (take (k * raster_bytes before) bytes) before) (row_so_far (bytes_after (take (k * raster_bytes before) bytes) before) ++ row_at bytes (raster_bytes before) k)
+    ≡ mark_of (below (settings_of setup before) (k * times_down (raster_scale before))).page (row_dot (raster_scale before) (row_at bytes (raster_bytes before) k))
+mark_below setup bytes k before small h =
+    let here = bytes_after (take (k * raster_bytes before) bytes) before in
+    let row = row_at bytes (raster_bytes before) k in
+    let above = are_whole bytes k before h in
+    ap (λ (xs : List ℕ). raster_mark setup here (xs ++ row)) above.row
+    ∙ ap (λ (t : RasterScale). mark_of (page_of setup here) (row_dot t row)) above.scale
+    ∙ ap (λ (s : Settings). mark_of s.page (row_dot (raster_scale before) row)) (rows_below setup bytes k before small h)
+
+module _ (setup : Setup) (bytes : List ℕ) (n : ℕ) (before : List EscItem) (small : (settings_of setup before).page.vertical ≤ 65535) (fit : IsFitPage (page_of setup before)) where
+  abbrev m : Mark
+  m = rows_mark setup bytes n before
+
+  abbrev d : ℕ
+  d = times_down (raster_scale before)
+
+  on_page : (x y : ℕ) → holds m.area x y ≡ true → down m.area m.direction x y < 1664
+  on_page x y t =
+      let deep = depth_small m.area m.direction fit.across fit.down in
+      let in_depth = (lies m.area m.direction x y (within m.area x y t)).in_depth in
+      omega (arith, deep, in_depth)
+
+  -- so many rows one by one are the first rows of the mark
+  first_laid : (k : ℕ) → k ≤ n → HaveRows bytes k before → (x y : ℕ)
+      → page_dot (layers setup (bytes_after (take (k * raster_bytes before) bytes) before)) x y ≡ page_dot (Laid (first_rows (k * d) m) ∷ layers setup before) x y
+  first_laid zero few h x y =
+      ap (λ (items : List EscItem). page_dot (layers setup items) x y) (no_row bytes (raster_bytes before) before)
+      ∙ sym (ap (λ b. b || page_dot (layers setup before) x y)
+      (no_rows (holds m.area x y) (leb m.top (down m.area m.direction x y)) (down m.area m.direction x y - m.top) (0 * d) _ (let none : 0 * d ≡ 0 = omega arith in none)))
+  first_laid (suc k) few h x y =
+      let here = bytes_after (take (k * raster_bytes before) bytes) before in
+      let row = row_at bytes (raster_bytes before) k in
+      let less = fewer bytes k before h in
+      let u = along m.area m.direction x y in
+      let w = down m.area m.direction x y in
+      let p = page_dot (layers setup before) x y in
+      ap (λ (items : List EscItem). page_dot (layers setup items) x y) (next_row bytes (raster_bytes before) k before)
+      ∙ ap (λ (l : List Layer). page_dot l x y) (row_laid_by setup row here (lacks_row bytes k before h))
+      ∙ ap (λ (l : Mark). mark_dot l x y || page_dot (layers setup here) x y) (mark_below setup bytes k before small less)
+      ∙ ap (λ b. mark_dot (mark_of (below (settings_of setup before) (k * d)).page (row_dot (raster_scale before) row)) x y || b) (first_laid k (omega arith) less x y)
+      ∙ row_more (holds m.area x y) (dot row (u / times_across (raster_scale before))) (m.dot u (w - m.top)) p w m.top (k * d) d
+      (λ t. let i = on_page x y t in omega (arith, i))
+      (λ t g l. sym (row_is (raster_scale before) (raster_bytes before) n bytes k u (w - (m.top + k * d)) (w - m.top) (omega arith) (omega arith) l))
+      ∙ ap (λ q. mark_dot (first_rows q m) x y || p) (sym (suc-mul k d))
+
+  all_shown : (x y : ℕ) → page_dot (Laid m ∷ layers setup before) x y ≡ page_dot (Laid (first_rows (n * d) m) ∷ layers setup before) x y
+  all_shown x y = ap (λ b. b || page_dot (layers setup before) x y)
+      (twice (holds m.area x y) (leb m.top (down m.area m.direction x y)) (nat_lt (down m.area m.direction x y - m.top) (n * d)) _)
+    where
+      twice : (h t c b : Bool) → (h && (t && (c && b))) ≡ (h && (t && (c && (c && b))))
+      twice h t true b = refl
+      twice h t false b = refl
+
+  -- rows that are laid as one mark are laid one by one
+  pub rows_laid : (page : List (List ℕ)) → HaveRows bytes n before → HasPage (Laid m ∷ layers setup before) page
+      → HasPage (layers setup (bytes_after (take (n * raster_bytes before) bytes) before)) page
+  rows_laid page h has = same_page _ _ page (λ x y. all_shown x y ∙ sym (first_laid n (omega arith) h x y)) has
+
+-- bytes within the row are kept, and leave the page as it is
+pub inside_on_page : (setup : Setup) (before : List EscItem) (s : Settings) (r now : Raster) (bytes : List ℕ) (page : List (List ℕ)) → length bytes ≤ room_of r → IsOnPage setup before s r page
+    → IsGathering now (bytes_after bytes before) → IsOnPage setup (bytes_after bytes before) s now page
+inside_on_page setup before s r now bytes page room h g =
+    let in_row = run_inside r bytes before room h.raster in
+    record {
+      settings = h.settings ∙ sym (settings_stay setup bytes before in_row);
+      raster = g;
+      page = subst (λ (l : List Layer). HasPage l page) (sym (layers_stay setup bytes before in_row)) h.page;
+    }
+
+-- bytes that end the row lay it
+pub row_on_page : (setup : Setup) (before : List EscItem) (s t : Settings) (r now : Raster) (bytes : List ℕ) (page new : List (List ℕ)) → Lacks bytes before → IsOnPage setup before s r page
+    → t ≡ below s (times_down r.scale) → IsGathering now (bytes_after bytes before) → HasPage (Laid (raster_mark setup before (row_so_far before ++ bytes)) ∷ layers setup before) new
+    → IsOnPage setup (bytes_after bytes before) t now new
+row_on_page setup before s t r now bytes page new lacks h e g laid = record {
+  settings = e ∙ ap (λ (q : Settings). below q (times_down r.scale)) h.settings ∙ ap (λ (k : RasterScale). below (settings_of setup before) (times_down k)) h.raster.scale
+      ∙ sym (row_below setup bytes before lacks);
+  raster = g;
+  page = subst (λ (l : List Layer). HasPage l new) (sym (row_laid_by setup bytes before lacks)) laid;
+}
+
+-- whole rows are laid
+pub rows_on_page : (setup : Setup) (before : List EscItem) (s t : Settings) (r now : Raster) (bytes : List ℕ) (n : ℕ) (page new : List (List ℕ)) → s.page.vertical ≤ 65535 → IsFitPage s.page
+    → IsPartRow r → r.got ≡ 0 → n ≤ r.rows → n * r.bytes ≤ length bytes → IsOnPage setup before s r page → t ≡ below s (n * times_down r.scale)
+    → IsGathering now (bytes_after (take (n * r.bytes) bytes) before)
+    → HasPage (Laid (mark_of s.page (rows_dot r.scale r.bytes n bytes)) ∷ layers setup before) new
+    → IsOnPage setup (bytes_after (take (n * r.bytes) bytes) before) t now new
+rows_on_page setup before s t r now bytes n page new small fit part begins few long h e g laid =
+    let have = have_rows r n bytes before part begins few h.raster long in
+    let low = subst (λ (q : Settings). q.page.vertical ≤ 65535) h.settings small in
+    let mark : mark_of s.page (rows_dot r.scale r.bytes n bytes) ≡ rows_mark setup bytes n before =
+    ap (λ (q : Settings). mark_of q.page (rows_dot r.scale r.bytes n bytes)) h.settings
+    ∙ ap (λ (k : RasterScale). mark_of (page_of setup before) (rows_dot k r.bytes n bytes)) h.raster.scale
+    ∙ ap (λ w. mark_of (page_of setup before) (rows_dot (raster_scale before) w n bytes)) h.raster.bytes in
+    record {
+      settings = e ∙ ap (λ (q : Settings). below q (n * times_down r.scale)) h.settings ∙ ap (λ (k : RasterScale). below (settings_of setup before) (n * times_down k)) h.raster.scale
+          ∙ sym (rows_below setup bytes n before low have) ∙ ap (λ w. settings_of setup (bytes_after (take (n * w) bytes) before)) (sym h.raster.bytes);
+      raster = g;
+      page = subst (λ w. HasPage (layers setup (bytes_after (take (n * w) bytes) before)) new) (sym h.raster.bytes)
+          (rows_laid setup bytes n before low (subst (λ (q : Settings). IsFitPage q.page) h.settings fit) new have
+          (subst (λ (m : Mark). HasPage (Laid m ∷ layers setup before) new) mark laid));
+    }
+
+rest_whole : (bytes : List ℕ) (n : ℕ) → take (length bytes - n) (drop n bytes) ≡ drop n bytes
+rest_whole bytes n = take_all (length bytes - n) (drop n bytes) (omega (arith, length-drop n bytes))
+
+-- the bytes behind others
+pub rest_on_page : (setup : Setup) (before : List EscItem) (s : Settings) (r : Raster) (bytes : List ℕ) (n : ℕ) (page : List (List ℕ))
+    → IsOnPage setup (bytes_after (take (length bytes - n) (drop n bytes)) (bytes_after (take n bytes) before)) s r page → IsOnPage setup (bytes_after bytes before) s r page
+rest_on_page setup before s r bytes n page h =
+    subst (λ (items : List EscItem). IsOnPage setup items s r page)
+    (ap (λ xs. bytes_after xs (bytes_after (take n bytes) before)) (rest_whole bytes n)
+    ∙ sym (after_both (take n bytes) (drop n bytes) before) ∙ ap (λ xs. bytes_after xs before) (take-append-drop n bytes)) h
+
+-- bytes of which so many rows are taken, all that they have
+pub record Taken (r : Raster) (long n : ℕ) : Type 0 where
+  pub few : n ≤ r.rows
+  pub bytes : n * r.bytes ≤ long
+  pub rest : long - n * r.bytes ≤ room_of (record r { rows = r.rows - n })
+
+some_rows : (rows b got long : ℕ) → 0 < long → long ≤ rows * b - got → 0 < rows
+some_rows zero b got long some few = let none : 0 * b ≡ 0 = omega arith in absurd (omega (arith, none))
+some_rows (suc rows) b got long some few = omega arith
+
+rest_room : (rows b n long : ℕ) (none : Bool) → eqb (rows - n) 0 ≡ none → n ≤ rows → long ≤ rows * b → long < n * b + b → long - n * b ≤ cond none 0 (b - 0 - 1)
+rest_room rows b n long true e few all more =
+    let same : n ≡ rows = grind (arith, nat_tests) in
+    let whole : n * b ≡ rows * b = ap (λ k. k * b) same in
+    omega arith
+rest_room rows b n long false e few all more = omega arith
+
+pub taken : (r : Raster) (long n : ℕ) → IsPartRow r → r.got ≡ 0 → 0 < long → long ≤ left_of r → n ≡ min r.rows (long / r.bytes) → Taken r long n
+taken r long n part begins some room is =
+    let comes = some_rows r.rows r.bytes r.got long some room in
+    let wide = part.some comes in
+    let all : long ≤ r.rows * r.bytes = omega arith in
+    let most : long / r.bytes ≤ r.rows = div-le_of_le-mul r.bytes (let e = mul_comm r.bytes r.rows in omega (arith, e, all)) in
+    let n_is : n ≡ long / r.bytes = omega arith in
+    let under : n * r.bytes ≡ long / r.bytes * r.bytes = ap (λ k. k * r.bytes) n_is in
+    let more : long < long / r.bytes * r.bytes + r.bytes = lt-div-mul-add {a = long} {b = r.bytes} (omega (arith, wide)) in
+    let rest : long - n * r.bytes ≤ cond (eqb (r.rows - n) 0) 0 (r.bytes - 0 - 1) =
+    rest_room r.rows r.bytes n long (eqb (r.rows - n) 0) refl (omega arith) all (omega arith) in
+    record {
+      few = omega arith;
+      bytes = omega (arith, div-mul-le_self long r.bytes);
+      rest = subst (λ g. long - n * r.bytes ≤ cond (eqb (r.rows - n) 0) 0 (r.bytes - g - 1)) (sym begins) rest;
+    }
+
+pub rest_fits : (r now : Raster) (bytes : List ℕ) (n wide : ℕ) → Taken r (length bytes) n → wide ≡ r.bytes → now ≡ record r { rows = r.rows - n }
+    → length (take (length bytes - n * wide) (drop (n * wide) bytes)) ≤ room_of now
+rest_fits r now bytes n wide t is e =
+    let size : length (take (length bytes - n * wide) (drop (n * wide) bytes)) ≤ length bytes - n * wide = omega (arith, length-take (length bytes - n * wide) (drop (n * wide) bytes)) in
+    subst (λ (k : Raster). length (take (length bytes - n * wide) (drop (n * wide) bytes)) ≤ room_of k) (sym e)
+    (le_trans size (subst (λ w. length bytes - n * w ≤ room_of (record r { rows = r.rows - n })) (sym is) t.rest))
+
+-- a row that has begun lacks one byte more than come before its last
+whole_by : (r : Raster) (none : Bool) → eqb r.rows 0 ≡ none → IsPartRow r → (r.got ≡ 0 → ⊥) → r.got + (cond none 0 (r.bytes - r.got - 1) + 1) ≡ r.bytes
+whole_by r true e part begun = absurd (begun (part.none (grind (arith, nat_tests))))
+whole_by r false e part begun = let less = part.some (grind (arith, nat_tests)) in omega (arith, less)
+
+pub row_whole : (r : Raster) → IsPartRow r → (r.got ≡ 0 → ⊥) → r.got + (room_of r + 1) ≡ r.bytes
+row_whole r part begun = whole_by r (eqb r.rows 0) refl part begun
+
+-- the line stays where it is gathered
+text_stays : (bytes : List ℕ) (before : List EscItem) → text_of (bytes_after bytes before) ≡ text_of before
+text_stays [] before = refl
+text_stays (b ∷ bytes) before = ap text_of (after_first b bytes before) ∙ text_stays bytes (RasterByte b ∷ before)
+
+pub gathers_still : (setup : Setup) (bytes : List ℕ) (before : List EscItem) (sheets : Sheets) (s t : Settings) (bitmap : List (List ℕ)) (waiting : Option ℕ) → s ≡ settings_of setup before
+    → t ≡ settings_of setup (bytes_after bytes before) → Gathers sheets s bitmap waiting (line setup before) → Gathers sheets t bitmap waiting (line setup (bytes_after bytes before))
+gathers_still setup bytes before sheets s t bitmap None e f h = subst (λ (placed : List Placed). HasOpen placed bitmap) (sym (line_stays setup bytes before)) h
+gathers_still setup bytes before sheets s t bitmap (Some code) e f h =
+    let same : s.text ≡ t.text = ap (λ (q : Settings). q.text) e ∙ sym (text_stays bytes before) ∙ sym (ap (λ (q : Settings). q.text) f) in
+    line_stays setup bytes before ∙ h ∙ ap (λ (x : Text). record { at = 0; image = image_of sheets x code } ∷ []) same

@@ -1,0 +1,102 @@
+-- The height of the line that is shown, or else gathered.
+use Rattle.std.proofs.Common.{◌≡◌, ℕ, List, [], ◌∷◌, ◌++◌, refl, length, ap, arith, Option, Some, None, IfSome, unwrap_or}
+use Rattle.std.specs.Option.{option_map}
+use Rattle.std.proofs.lemmas.Bool.{lt-ltb, le-ltb}
+use Rattle.vp_esc.specs.declared.item.EscItem.{EscItem}
+use Rattle.vp_receipt_settings.specs.Setup.{Setup}
+use Rattle.vp_receipt_settings.specs.History.{height, line}
+use Rattle.vp_receipt.specs.Strips.{own_part, line_rows_after}
+use Rattle.vp_strips.specs.declared.canvas.Canvas.{Canvas}
+use Rattle.vp_strips.specs.declared.job.Job.{Job}
+use Rattle.vp_strips.specs.declared.job.After.{After}
+use Rattle.vp_strips.specs.declared.job.After.TheVariants.{End}
+use Rattle.vp_strips.specs.declared.lines.Lines.{Lines}
+use Rattle.vp_strips.specs.declared.place.Place.{Place}
+use Rattle.vp_strips.specs.declared.place.Place.TheVariants.{Nothing, Head, Row}
+use Rattle.vp_strips.specs.declared.strip.Dots.{Dots}
+use Rattle.vp_strips.specs.declared.strip.Dots.TheVariants.{Line, White, Across, Raster, Drawn, Page}
+use Rattle.vp_strips.specs.Jobs.{text}
+use Rattle.vp_strips.proofs.Jobs.{part_left}
+use Rattle.vp_strips.specs.Held.{Showing, Shows, IsShowing, showing_of, shown_in, text_of, SomeLeft, IsJob, IsTurned}
+use Rattle.vp_receipt.specs.Effects.{text_if}
+use Rattle.vp_receipt.specs.Standing.{ShowsLine}
+
+pub rows_told : (setup : Setup) (showing : Option Showing) (before : List EscItem) (pending : List ℕ) (high : ℕ) → high ≡ height (line setup before) → ShowsLine setup showing pending before
+    → unwrap_or (option_map (λ (s : Showing). s.height) showing) high ≡ line_rows_after setup before pending
+rows_told setup None [] pending high e h = e
+rows_told setup (Some s) [] pending high e h = h.0
+rows_told setup None (item ∷ before) pending high e h = rw (le-ltb (length (own_part setup before item)) (length pending) h) e
+rows_told setup (Some s) (item ∷ before) pending high e h = rw (lt-ltb (length (own_part setup before item)) (length pending) h.2) h.0
+
+-- where nothing is pending no line is shown
+pub shows_nothing : (setup : Setup) (showing : Option Showing) (pending : List ℕ) (before after : List EscItem) → pending ≡ [] → ShowsLine setup showing pending before → ShowsLine setup showing pending after
+shows_nothing setup None pending before [] e h = omega (arith, ap length e)
+shows_nothing setup None pending before (item ∷ after) e h = omega (arith, ap length e)
+shows_nothing setup (Some s) pending [] after e h = absurd (omega (arith, ap length e, h.2))
+shows_nothing setup (Some s) pending (item ∷ before) after e h = absurd (omega (arith, ap length e, h.2))
+
+-- bytes that are put out leave shown what is
+pub shows_put : (setup : Setup) (j k : Job) (canvas : Canvas) (before : List EscItem) → ((high others : ℕ) → IsShowing j canvas high others → IsShowing k canvas high others)
+    → ShowsLine setup (showing_of j canvas) (text_of j canvas) before → ShowsLine setup (showing_of k canvas) (text_of k canvas) before
+shows_put setup j k canvas [] further h = further 0 0 h
+shows_put setup j k canvas (item ∷ before) further h = further _ _ h
+
+pub nothing_shown : (setup : Setup) (showing : Option Showing) (pending : List ℕ) (before : List EscItem) → ((high others : ℕ) → Shows showing (length pending) high others) → ShowsLine setup showing pending before
+nothing_shown setup showing pending [] h = h 0 0
+nothing_shown setup showing pending (item ∷ before) h = h _ _
+
+-- a job of which nothing is left, over any canvas
+done : (j : Job) (canvas : Canvas) (p : Place) → SomeLeft j.strip p → text j.strip canvas p ≡ [] → p ≡ Nothing
+done j canvas Nothing left e = refl
+done j canvas (Head byte) left e = absurd (omega (arith, part_left j canvas (Head byte) left (λ w. cc), ap length e))
+done j canvas (Row y byte) left e = absurd (omega (arith, part_left j canvas (Row y byte) left (λ w. cc), ap length e))
+
+front_none : (a b : List ℕ) → a ++ b ≡ [] → a ≡ []
+front_none [] b e = refl
+front_none (x ∷ a) b e = cc
+
+pub is_done : (j : Job) (canvas : Canvas) (lines : Lines) → IsJob j canvas lines → text_of j canvas ≡ [] → j.place ≡ Nothing
+is_done j canvas lines job e = done j canvas j.place job.left (front_none _ _ e)
+
+no_line : (d : Dots) (others : ℕ) → shown_in d Nothing others ≡ None
+no_line (Line height left length) others = refl
+no_line White others = refl
+no_line (Across cut) others = refl
+no_line Raster others = refl
+no_line Page others = refl
+no_line (Drawn left length) others = refl
+
+no_after : (p : Place) (after : After) → p ≡ Nothing → IsTurned p after → after ≡ End
+no_after Nothing after e h = h
+no_after (Head byte) after e h = cc
+no_after (Row y byte) after e h = cc
+
+pub text_done : (j : Job) (canvas : Canvas) → j.place ≡ Nothing → IsTurned j.place j.after → text_of j canvas ≡ []
+text_done j canvas e t = rw (e, no_after j.place j.after e t) refl
+
+pub job_done : (j : Job) (old canvas : Canvas) (lines : Lines) → IsJob j old lines → text_of j old ≡ [] → IsJob j canvas lines
+job_done j old canvas lines was none =
+    let e = is_done j old lines was none in
+    record { low = was.low; after = was.after; place = was.place; left = was.left; line = rw e tt }
+
+-- what is printed stands in its place
+pub job_replaced : (printed : Option Job) (j : Job) (old canvas : Canvas) (lines : Lines) → IfSome printed (λ job. (lines : Lines) → IsJob job canvas lines)
+    → IsJob j old lines → text_of j old ≡ [] → IsJob (unwrap_or printed j) canvas lines
+job_replaced (Some job) j old canvas lines h was none = h lines
+job_replaced None j old canvas lines h was none = job_done j old canvas lines was none
+
+pub turned_replaced : (printed : Option Job) (j : Job) → IfSome printed (λ job. IsTurned job.place job.after) → IsTurned j.place j.after → IsTurned (unwrap_or printed j).place (unwrap_or printed j).after
+turned_replaced (Some job) j h was = h
+turned_replaced None j h was = was
+
+pub text_replaced : (printed : Option Job) (j : Job) (old canvas : Canvas) (lines : Lines) → IsJob j old lines → IsTurned j.place j.after → text_of j old ≡ [] → text_of (unwrap_or printed j) canvas ≡ text_if printed canvas
+text_replaced (Some job) j old canvas lines was turned none = refl
+text_replaced None j old canvas lines was turned none = text_done j canvas (is_done j old lines was none) turned
+
+pub shows_done : (j : Job) (canvas : Canvas) (high others : ℕ) → j.place ≡ Nothing → IsTurned j.place j.after → IsShowing j canvas high others
+shows_done j canvas high others e t = rw (e, no_line, no_after j.place j.after e t) (omega arith)
+
+pub shows_replaced : (printed : Option Job) (j : Job) (old canvas : Canvas) (lines : Lines) (high others : ℕ) → IfSome printed (λ job. IsShowing job canvas high others)
+    → IsJob j old lines → IsTurned j.place j.after → text_of j old ≡ [] → IsShowing (unwrap_or printed j) canvas high others
+shows_replaced (Some job) j old canvas lines high others h was turned none = h
+shows_replaced None j old canvas lines high others h was turned none = shows_done j canvas high others (is_done j old lines was none) turned

@@ -1,0 +1,33 @@
+use Rattle.std.proofs.Common.{ap, ◌∙◌, length}
+use Rattle.vp_glyph.specs.declared.Sheets.{Sheets}
+use Rattle.vp_receipt_settings.specs.History.{height, line}
+use Rattle.vp_strips.specs.declared.canvas.Canvas.{Canvas}
+use Rattle.vp_strips.specs.Held.{text_of, IsShowing}
+use Rattle.vp_strips.specs.SymbolInks.{symbol_width, symbol_height, symbol_dot}
+use Rattle.vp_receipt.proofs.SymbolTexts.{text_shown, own_shown}
+use Rattle.vp_receipt.proofs.act.symbol_on_paper.Goals as goal
+
+pub returns-clause-text : goal.returns-clause-text
+returns-clause-text c = λ setup before item h is.
+    let canvas : Canvas = record c.args.canvas.now { symbol = c.args.symbol } in
+    text_shown setup before item c.args.symbol (text_of c.symbol_job.result canvas) is
+    (λ image i. c.symbol_job.ensures.text setup before canvas image (record { settings = h.settings; sheets = h.sheets; line = h.line; page = h.page })
+    (record {
+      width = c.size-wide.ensures.width ∙ ap (λ (k : Sheets). symbol_width k c.args.symbol) h.sheets ∙ i.width;
+      height = c.size-wide.ensures.height ∙ ap (λ (k : Sheets). symbol_height k c.args.symbol) h.sheets ∙ i.height;
+      dots = λ x y. ap (λ (k : Sheets). symbol_dot k c.args.symbol x y) h.sheets ∙ i.dots x y;
+    }))
+
+pub returns-clause-shows : goal.returns-clause-shows
+returns-clause-shows c = λ setup before item h is.
+    let canvas : Canvas = record c.args.canvas.now { symbol = c.args.symbol } in
+    own_shown setup before item c.args.symbol (λ own. IsShowing c.symbol_job.result canvas (height (line setup before)) (length own)) is
+    (λ image i. c.symbol_job.ensures.shows setup before canvas image (record { settings = h.settings; sheets = h.sheets; line = h.line; page = h.page })
+    (record {
+      width = c.size-wide.ensures.width ∙ ap (λ (k : Sheets). symbol_width k c.args.symbol) h.sheets ∙ i.width;
+      height = c.size-wide.ensures.height ∙ ap (λ (k : Sheets). symbol_height k c.args.symbol) h.sheets ∙ i.height;
+      dots = λ x y. ap (λ (k : Sheets). symbol_dot k c.args.symbol x y) h.sheets ∙ i.dots x y;
+    }))
+
+pub returns-clause-job : goal.returns-clause-job
+returns-clause-job c = c.symbol_job.ensures.job _

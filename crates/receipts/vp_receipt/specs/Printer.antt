@@ -1,0 +1,27 @@
+-- What a receipt printer keeps.
+use Rattle.vp_receipt.specs.declared.receipt.Receipt.TheInside.{Inside}
+use Rattle.vp_receipt_settings.specs.History.{IsFit}
+use Rattle.vp_strips.specs.Held.{text_of, showing_of, IsJob, IsTurned}
+use Rattle.vp_receipt.specs.Standing.{Printing}
+use Rattle.vp_receipt_settings.specs.Gathering.{IsPartRow}
+
+abbrev pub printing_of : Inside → Printing
+printing_of r = record {
+  sheets = r.canvas.sheets;
+  settings = r.settings;
+  stops = r.stops.items;
+  raster = r.raster;
+  stored = r.stored;
+  bitmap = r.canvas.bitmap;
+  page = r.canvas.page;
+  waiting = r.waiting;
+  pending = text_of r.job r.canvas;
+  showing = showing_of r.job r.canvas;
+  of_page = r.of_page;
+}
+
+pub record IsPrinter (r : Inside) : Type 0 where
+  pub fit : IsFit r.settings
+  pub raster : IsPartRow r.raster
+  pub job : IsJob r.job r.canvas r.lines
+  pub turned : IsTurned r.job.place r.job.after

@@ -1,0 +1,43 @@
+//! Laws of what is printed: a raster's rows, and images one after the other.
+ghost use Rattle.std.specs.Prelude.{◌≡◌, ◌<◌, ◌+◌, ◌∷◌, ◌++◌, ℕ, List, [], flat_map, length, reverse};
+ghost use Rattle.vp_dots.specs.Images.{pbm};
+ghost use Rattle.vp_esc.specs.Split.{items, split};
+ghost use Rattle.vp_esc.specs.declared.item.EscItem.{EscItem};
+ghost use Rattle.vp_receipt_settings.specs.Setup.{Setup, across};
+ghost use Rattle.vp_receipt_settings.specs.Rasters.{raster_bytes, rows_to_come, row_so_far, bytes_after};
+ghost use Rattle.vp_receipt.specs.Images.{images, begun, AreAcross};
+ghost use Rattle.vp_receipt.specs.Strips.{own_strips, printed, raster_row_text};
+
+use vp_esc::laws::one_reading;
+
+/// A law: where a row of a raster begins, the bytes of a row are gathered, the last of them prints them as a
+/// row, and the next row begins.
+pub fn a_row_is_its_bytes()
+    ensures gathered { (before : List EscItem) (row : List ℕ) → row_so_far before ≡ [] →
+        0 < rows_to_come before → length row < raster_bytes before →
+        row_so_far (bytes_after row before) ≡ row }
+    ensures printed { (setup : Setup) (before : List EscItem) (row : List ℕ) (byte : ℕ) →
+        row_so_far before ≡ [] → 0 < rows_to_come before → length row + 1 ≡ raster_bytes before →
+        own_strips setup (bytes_after row before) (EscItem.RasterByte byte) ≡
+        raster_row_text setup (bytes_after row before) (row ++ byte ∷ []) }
+    ensures begins { (before : List EscItem) (row : List ℕ) (byte : ℕ) → row_so_far before ≡ [] →
+        0 < rows_to_come before → length row + 1 ≡ raster_bytes before →
+        row_so_far (EscItem.RasterByte byte ∷ bytes_after row before) ≡ [] }
+    ensures fewer { (before : List EscItem) (row : List ℕ) (byte : ℕ) → row_so_far before ≡ [] →
+        0 < rows_to_come before → length row + 1 ≡ raster_bytes before →
+        rows_to_come (EscItem.RasterByte byte ∷ bytes_after row before) + 1 ≡ rows_to_come before }
+{}
+
+/// A law: what the items of bytes print is images, one after the other, each as wide as the paper and of a
+/// row or more, and then what has come of a raster of which rows are to come: nothing where the bytes end
+/// with a whole command.
+pub fn what_is_printed_is_images()
+    ensures images { (setup : Setup) (bytes : List ℕ) → printed setup (reverse (items bytes)) ≡
+        flat_map pbm (images setup (reverse (items bytes))) ++ begun setup (reverse (items bytes)) }
+    ensures whole { (setup : Setup) (bytes : List ℕ) → (split bytes).rest ≡ [] →
+        begun setup (reverse (items bytes)) ≡ [] }
+    ensures across { (setup : Setup) (before : List EscItem) →
+        AreAcross (across setup.width) (images setup before) }
+{
+    one_reading();
+}

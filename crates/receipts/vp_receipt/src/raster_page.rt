@@ -1,0 +1,226 @@
+//! Rows of a raster, laid on the page: one, or a run of them.
+ghost use Rattle.std.specs.Prelude.{◌≡◌, ◌≤◌, ◌<◌, ◌+◌, ◌-◌, ◌*◌, ◌/◌, ◌∷◌, List, [], ℕ, Bool, length, take, slice_index_or};
+ghost use Rattle.vp_dots.specs.Dots.{dot};
+ghost use Rattle.vp_esc.specs.declared.item.EscItem.{EscItem};
+ghost use Rattle.vp_esc.specs.declared.item.RasterScale.{RasterScale};
+ghost use Rattle.vp_page.specs.Layers.{Layer, Laid, first_rows};
+ghost use Rattle.vp_page.specs.Pages.{HasPage};
+ghost use Rattle.vp_page.specs.declared.line.TheConstants.{LINE_BYTES, LINE_DOTS};
+ghost use Rattle.vp_receipt.specs.PageMarks.{mark_of, raster_mark, rows_dot};
+ghost use Rattle.vp_receipt.specs.Standing.{IsOnPage};
+ghost use Rattle.vp_receipt_settings.specs.Gathering.{IsPartRow, kept_of, left_of};
+ghost use Rattle.vp_receipt_settings.specs.History.{settings_of, IsFit, IsFitPage};
+ghost use Rattle.vp_receipt_settings.specs.Rasters.{bytes_after, raster_scale, row_at, times_across, times_down};
+ghost use Rattle.vp_receipt_settings.specs.Setup.{Setup};
+
+use vp_dots::or_into;
+use vp_esc::item::RasterScale;
+use vp_page::{Direction, LINE_BYTES, Page};
+use vp_receipt_settings::{PageSettings, Raster, Settings, times_across, times_down};
+use vp_strips::doubled;
+
+/// Lays a row so often, one below the other, from so far below the vertical position on.
+fn lay_times(p: PageSettings, row: &[u8], at: u32, times: u32, page: &mut Page)
+    requires fit { IsFitPage p }
+    requires long { length row.now ≤ LINE_BYTES }
+    requires near { at ≤ 131070 }
+    requires few { times ≤ 2 }
+    ensures { (dots : ℕ → ℕ → Bool) (layers : List Layer) →
+        ((u w : ℕ) → u < LINE_DOTS → w < times → dot row.now u ≡ dots u (at + w)) →
+        HasPage (Laid (first_rows at (mark_of p dots)) ∷ layers) page.old →
+        HasPage (Laid (first_rows (at + times) (mark_of p dots)) ∷ layers) page.new }
+{
+    let top = p.vertical as u32 + at;
+    for y in 0..times {
+        page.lay_row(p.area, p.direction, top + y, row);
+    }
+}
+
+/// Lays a row as often as a scale says, from so far below the vertical position on.
+fn lay_scaled(p: PageSettings, scale: RasterScale, row: &[u8], at: u32, page: &mut Page)
+    requires fit { IsFitPage p }
+    requires long { length row.now ≤ LINE_BYTES }
+    requires near { at ≤ 131070 }
+    ensures { (dots : ℕ → ℕ → Bool) (layers : List Layer) → ((u w : ℕ) → u < LINE_DOTS →
+        w < times_down scale → dot row.now (u / times_across scale) ≡ dots u (at + w)) →
+        HasPage (Laid (first_rows at (mark_of p dots)) ∷ layers) page.old →
+        HasPage (Laid (first_rows (at + times_down scale) (mark_of p dots)) ∷ layers) page.new }
+{
+    let times = times_down(scale);
+    if times_across(scale) == 1 {
+        lay_times(p, row, at, times, page);
+    } else {
+        lay_times(p, &doubled(row), at, times, page);
+    }
+}
+
+/// Lays the row whose last byte came, as often as its raster's scale says.
+pub fn lay_raster_row(s: &Settings, raster: &Raster, page: &mut Page)
+    requires { IsFit s.now }
+    ensures { (setup : Setup) (before : List EscItem) (came : List ℕ) (layers : List Layer) →
+        s.now ≡ settings_of setup before → raster.now.scale ≡ raster_scale before →
+        kept_of raster.now ≡ take LINE_BYTES came → HasPage layers page.old →
+        HasPage (Laid (raster_mark setup before came) ∷ layers) page.new }
+{
+    lay_scaled(s.page, raster.scale, raster.kept(), 0, page);
+}
+
+/// Lays whole rows of a raster one by one, as they stand in the bytes, from row `from` on.
+fn lay_from(
+    p: PageSettings,
+    raster: &Raster,
+    bytes: &[u8],
+    from: usize,
+    rows: usize,
+    page: &mut Page,
+)
+    requires fit { IsFitPage p }
+    requires begins { from ≤ rows }
+    requires few { rows ≤ 65535 }
+    requires long { rows * raster.now.bytes ≤ length bytes.now }
+    ensures { (layers : List Layer) →
+        HasPage (Laid (first_rows (from * times_down raster.now.scale)
+        (mark_of p (rows_dot raster.now.scale raster.now.bytes rows bytes.now))) ∷ layers) page.old →
+        HasPage (Laid (mark_of p (rows_dot raster.now.scale raster.now.bytes rows bytes.now))
+        ∷ layers) page.new }
+{
+    let wide = usize::from(raster.bytes);
+    let shown = wide.min(LINE_BYTES);
+    let times = times_down(raster.scale);
+    for k in from..rows {
+        let row = &bytes[k * wide..k * wide + shown];
+        lay_scaled(p, raster.scale, row, k as u32 * times, page);
+    }
+}
+
+/// A row as long as the longest line, white behind its bytes.
+fn lengthened(row: &[u8]) -> [u8; LINE_BYTES]
+    ensures { (u : ℕ) → u < LINE_DOTS → dot result u ≡ dot row.now u }
+{
+    let mut line = [0; LINE_BYTES];
+    or_into(row, 0, &mut line);
+    line
+}
+
+/// Eight rows from one on, as they stand in bytes of which so many make a row.
+fn eight_rows(bytes: &[u8], wide: usize, from: usize) -> [[u8; LINE_BYTES]; 8]
+    requires near { from ≤ 65535 }
+    requires long { (from + 8) * wide ≤ length bytes.now }
+    ensures { (i u : ℕ) → i < 8 → u < LINE_DOTS →
+        dot (slice_index_or result i []) u ≡ dot (row_at bytes.now wide (from + i)) u }
+{
+    let shown = wide.min(LINE_BYTES);
+    let mut rows = [[0; LINE_BYTES]; 8];
+    for i in 0..8usize {
+        let at = (from + i) * wide;
+        rows[i] = lengthened(&bytes[at..at + shown]);
+    }
+    rows
+}
+
+/// Lays whole rows of a raster eight at a time, as far as eight go, and tells how many.
+fn lay_eights(p: PageSettings, raster: &Raster, bytes: &[u8], rows: usize, page: &mut Page) -> usize
+    requires fit { IsFitPage p }
+    requires once { raster.now.scale ≡ RasterScale.Normal }
+    requires few { rows ≤ 65535 }
+    requires long { rows * raster.now.bytes ≤ length bytes.now }
+    ensures few { result ≤ rows }
+    ensures laid { (layers : List Layer) → HasPage layers page.old →
+        HasPage (Laid (first_rows (result * times_down raster.now.scale)
+        (mark_of p (rows_dot raster.now.scale raster.now.bytes rows bytes.now))) ∷ layers) page.new }
+{
+    let wide = usize::from(raster.bytes);
+    let top = p.vertical as u32;
+    let eights = rows / 8;
+    for k in 0..eights {
+        let eight = eight_rows(bytes, wide, 8 * k);
+        page.lay_eight(p.area, p.direction, top + 8 * k as u32, &eight);
+    }
+    8 * eights
+}
+
+/// Lays whole rows of a raster, as they stand in the bytes, from the vertical position on.
+fn lay_rows(p: PageSettings, raster: &Raster, bytes: &[u8], rows: usize, page: &mut Page)
+    requires fit { IsFitPage p }
+    requires few { rows ≤ 65535 }
+    requires long { rows * raster.now.bytes ≤ length bytes.now }
+    ensures { (layers : List Layer) → HasPage layers page.old →
+        HasPage (Laid (mark_of p (rows_dot raster.now.scale raster.now.bytes rows bytes.now))
+        ∷ layers) page.new }
+{
+    let across = matches!(p.direction, Direction::BottomToTop | Direction::TopToBottom);
+    match raster.scale {
+        RasterScale::Normal if across => {
+            let done = lay_eights(p, raster, bytes, rows, page);
+            lay_from(p, raster, bytes, done, rows, page);
+        }
+        _ => lay_from(p, raster, bytes, 0, rows, page),
+    }
+}
+
+/// Takes what a row that has begun lacks, as far as it has come, and tells how many bytes; the row is laid
+/// once it is whole.
+fn end_begun(s: &mut Settings, raster: &mut Raster, bytes: &[u8], page: &mut Page) -> usize
+    requires fit { IsFit s.old }
+    requires part { IsPartRow raster.old }
+    requires few { length bytes.now ≤ left_of raster.old }
+    ensures fit { IsFit s.new }
+    ensures part { IsPartRow raster.new }
+    ensures taken { result ≤ length bytes.now }
+    ensures begins { result < length bytes.now → raster.new.got ≡ 0 }
+    ensures few { length bytes.now - result ≤ left_of raster.new }
+    ensures on_page { (setup : Setup) (before : List EscItem) →
+        IsOnPage setup before s.old raster.old page.old →
+        IsOnPage setup (bytes_after (take result bytes.now) before) s.new raster.new page.new }
+{
+    if raster.got == 0 {
+        return 0;
+    }
+    let room = usize::from(raster.room());
+    if bytes.len() <= room {
+        raster.take_all(bytes);
+        return bytes.len();
+    }
+    raster.end_row(&bytes[..room + 1]);
+    lay_raster_row(s, raster, page);
+    *s = s.after_row(times_down(raster.scale));
+    room + 1
+}
+
+/// Takes bytes of a raster of which no row has begun: whole rows are laid, and what is left is kept.
+fn take_rows(s: &mut Settings, raster: &mut Raster, bytes: &[u8], page: &mut Page)
+    requires fit { IsFit s.old }
+    requires part { IsPartRow raster.old }
+    requires begins { 0 < length bytes.now → raster.old.got ≡ 0 }
+    requires few { length bytes.now ≤ left_of raster.old }
+    ensures fit { IsFit s.new }
+    ensures part { IsPartRow raster.new }
+    ensures on_page { (setup : Setup) (before : List EscItem) →
+        IsOnPage setup before s.old raster.old page.old →
+        IsOnPage setup (bytes_after bytes.now before) s.new raster.new page.new }
+{
+    if bytes.is_empty() {
+        return;
+    }
+    let wide = usize::from(raster.bytes);
+    let rows = usize::from(raster.rows).min(bytes.len() / wide);
+    lay_rows(s.page, raster, bytes, rows, page);
+    *s = s.after_row(rows as u32 * times_down(raster.scale));
+    raster.pass(rows as u16);
+    raster.take_all(&bytes[rows * wide..]);
+}
+
+/// Takes bytes of a raster in page mode: rows that are whole are laid.
+pub fn take_run(s: &mut Settings, raster: &mut Raster, bytes: &[u8], page: &mut Page)
+    requires fit { IsFit s.old }
+    requires part { IsPartRow raster.old }
+    requires few { length bytes.now ≤ left_of raster.old }
+    ensures fit { IsFit s.new }
+    ensures part { IsPartRow raster.new }
+    ensures on_page { (setup : Setup) (before : List EscItem) →
+        IsOnPage setup before s.old raster.old page.old →
+        IsOnPage setup (bytes_after bytes.now before) s.new raster.new page.new }
+{
+    let begun = end_begun(s, raster, bytes, page);
+    take_rows(s, raster, &bytes[begun..], page);
+}

@@ -1,0 +1,331 @@
+//! The printer: what it stands after, and what is still to be put out.
+ghost use Rattle.std.specs.List.{AllByRecursion};
+ghost use Rattle.vp_esc.specs.Reader.{is_text};
+ghost use Rattle.vp_receipt_settings.specs.Runs.{text_room, text_after, raster_run};
+ghost use Rattle.vp_strips.specs.SymbolInks.{is_symbol};
+ghost use Rattle.std.specs.Prelude.{◌≡◌, ◌≤◌, ◌<◌, ◌+◌, ◌∷◌, ◌++◌, ◌↔◌, List, [], IsTrue, Some, None, IfOk, MatchResult, OnOk, OnErr, length, min, take, drop, true, unwrap_or};
+ghost use Rattle.vp_esc.specs.declared.item.EscItem.{EscItem};
+ghost use Rattle.vp_glyph.specs.declared.Sheets.{Sheets};
+ghost use Rattle.vp_receipt_settings.specs.declared.raster.Raster.{Raster};
+ghost use Rattle.vp_receipt_settings.specs.Setup.{Setup};
+ghost use Rattle.vp_receipt_settings.specs.History.{is_open, line, mode};
+ghost use Rattle.vp_receipt_settings.specs.Rasters.{bytes_after};
+ghost use Rattle.vp_page.specs.declared.page.TheConstants.{PAGE_ROWS};
+ghost use Rattle.vp_receipt_settings.specs.declared.text.TheConstants.{LINE_ROWS};
+ghost use Rattle.vp_receipt.specs.Strips.{prints, printed, refusal, is_at_rest, line_rows_after, page_rows_after};
+ghost use Rattle.vp_receipt.specs.Standing.{Stands, IsActing};
+ghost use Rattle.vp_receipt_settings.specs.Effects.{effect_of};
+ghost use Rattle.vp_receipt_settings.specs.Gathering.{run_of};
+
+use crate::act::{act, act_on_row, draw, prints_page, put_text, settle};
+use crate::drawn::drawn;
+use crate::raster_page::take_run;
+use std::alloc::{AllocError, Global};
+use std::marker::Model;
+use vp_dots::Fault;
+use vp_esc::item::EscItem;
+use vp_glyph::Sheets;
+use vp_page::{PAGE_ROWS, PAPER_BYTES, Page};
+use vp_receipt_settings::{
+    Effect, Mode, Raster, Settings, Stops, Stored, Width, first_stops, set_stops, times_down,
+};
+use vp_strips::{Bitmap, Canvas, Job, Lines, Symbol};
+
+/// A receipt printer. What an item prints is pending until it is put out.
+pub struct Receipt {
+    settings: Settings,
+    stops: Stops,
+    raster: Raster,
+    stored: Stored,
+    canvas: Canvas,
+    /// The line that is being put out.
+    lines: Lines,
+    /// A character that broke the line, and is put into the next one once that line is printed.
+    waiting: Option<u8>,
+    job: Job,
+    /// Whether what is pending is of a page.
+    of_page: bool,
+}
+
+/// Its memory is given back here, whoever held it.
+impl Drop for Receipt {
+    fn drop(self) {
+        let Receipt {
+            settings: _,
+            stops: _,
+            raster: _,
+            stored: _,
+            canvas: _,
+            lines: _,
+            waiting: _,
+            job: _,
+            of_page: _,
+        } = self;
+    }
+}
+
+impl Model for Receipt {
+    ghost use Rattle.vp_receipt.specs.Standing.{Printing};
+
+    ghost Value = { Printing };
+
+    ghost use Rattle.vp_receipt.specs.Printer.{printing_of, IsPrinter};
+
+    ghost view = { printing_of };
+
+    ghost invariant = { IsPrinter };
+}
+
+/// Puts what is printed in the place of a job that is done.
+#[inline(always)]
+fn replace(job: &mut Job, printed: Option<Job>)
+    ensures { job.new ≡ unwrap_or printed job.old }
+{
+    if let Some(printed) = printed {
+        *job = printed;
+    }
+}
+
+impl Receipt {
+    /// One that stands after no items, with these sheets for its fonts, on paper of this width.
+    pub fn new(alloc: Global, sheets: Sheets, width: Width) -> Result<Self, AllocError>
+        ensures stands { IfOk result (λ r. Stands (record { width = width; sheets = sheets }) r []) }
+        ensures pending { IfOk result (λ r. r.pending ≡ []) }
+    {
+        let bitmap = Bitmap::new(alloc)?;
+        let page = Page::new(alloc)?;
+        Ok(Receipt {
+            settings: Settings::start(width),
+            stops: first_stops(),
+            raster: Raster::none(),
+            stored: Stored::none(),
+            canvas: Canvas {
+                sheets,
+                bitmap,
+                raster_row: [0; PAPER_BYTES],
+                symbol: Symbol::Blank,
+                page,
+            },
+            lines: Lines::none(),
+            waiting: None,
+            job: Job::none(),
+            of_page: false,
+        })
+    }
+
+    /// Prints an item: what it prints is then pending. A refused one changes nothing.
+    #[inline(always)]
+    pub fn apply(&mut self, item: &EscItem) -> Result<(), Fault>
+        requires { self.old.pending ≡ [] }
+        ensures refusal { (setup : Setup) (before : List EscItem) → Stands setup self.old before →
+            MatchResult result (λ _. refusal setup before item.now ≡ None)
+            (λ f. refusal setup before item.now ≡ Some f) }
+        ensures stands { OnOk result ((setup : Setup) (before : List EscItem) →
+            Stands setup self.old before → Stands setup self.new (item.now ∷ before)) }
+        ensures pending { OnOk result ((setup : Setup) (before : List EscItem) →
+            Stands setup self.old before → self.new.pending ≡ prints setup before item.now) }
+        ensures err { OnErr result (self.new ≡ self.old) }
+    {
+        let effect = self.settings.effect(item);
+        match effect {
+            Effect::Nothing => {
+                self.raster.begin(item);
+                Ok(())
+            }
+            Effect::Fills(byte) => {
+                self.fill(byte);
+                Ok(())
+            }
+            Effect::Draws => self.draw(item),
+            _ => {
+                self.act(item, effect);
+                Ok(())
+            }
+        }
+    }
+
+    /// Takes a byte of a raster. One that ends a row prints it, or lays it on the page.
+    #[inline(always)]
+    fn fill(&mut self, byte: u8)
+        requires { self.old.pending ≡ [] }
+        ensures stands { (setup : Setup) (before : List EscItem) → Stands setup self.old before →
+            Stands setup self.new (EscItem.RasterByte byte ∷ before) }
+        ensures pending { (setup : Setup) (before : List EscItem) → Stands setup self.old before →
+            self.new.pending ≡ prints setup before (EscItem.RasterByte byte) }
+    {
+        if self.raster.take(byte) {
+            self.job = act_on_row(&self.settings, &self.raster, &mut self.canvas);
+            self.of_page = false;
+            self.settings = self.settings.after_row(times_down(self.raster.scale));
+        }
+    }
+
+    /// Does what an item does to the line and the page, and sets what it sets.
+    #[inline(always)]
+    fn act(&mut self, item: &EscItem, effect: Effect)
+        requires pending { self.old.pending ≡ [] }
+        requires effect { effect ≡ effect_of self.old.settings item.now }
+        requires acts { IsActing item.now }
+        ensures stands { (setup : Setup) (before : List EscItem) → Stands setup self.old before →
+            Stands setup self.new (item.now ∷ before) }
+        ensures pending { (setup : Setup) (before : List EscItem) → Stands setup self.old before →
+            self.new.pending ≡ prints setup before item.now }
+    {
+        settle(
+            &self.settings,
+            self.waiting,
+            &self.canvas.sheets,
+            &mut self.canvas.bitmap,
+        );
+        let job = act(&self.settings, effect, &mut self.canvas);
+        replace(&mut self.job, job);
+        self.waiting = effect.waiting();
+        self.of_page = prints_page(&self.settings, effect);
+        let text = self.settings.text;
+        self.settings = self.settings.after(item, effect, self.stops.as_slice(), 0);
+        set_stops(&mut self.stops, item, text);
+        self.raster.begin(item);
+        self.stored.take(item);
+    }
+
+    /// Draws a symbol.
+    fn draw(&mut self, item: &EscItem) -> Result<(), Fault>
+        requires pending { self.old.pending ≡ [] }
+        requires symbol { is_symbol item.now ≡ true }
+        ensures refusal { (setup : Setup) (before : List EscItem) → Stands setup self.old before →
+            MatchResult result (λ _. refusal setup before item.now ≡ None)
+            (λ f. refusal setup before item.now ≡ Some f) }
+        ensures stands { OnOk result ((setup : Setup) (before : List EscItem) →
+            Stands setup self.old before → Stands setup self.new (item.now ∷ before)) }
+        ensures pending { OnOk result ((setup : Setup) (before : List EscItem) →
+            Stands setup self.old before → self.new.pending ≡ prints setup before item.now) }
+        ensures err { OnErr result (self.new ≡ self.old) }
+    {
+        let symbol = drawn(&self.settings, item, &self.stored, &self.canvas.sheets)?;
+        settle(
+            &self.settings,
+            self.waiting,
+            &self.canvas.sheets,
+            &mut self.canvas.bitmap,
+        );
+        let (_, rows) = symbol.size(&self.canvas.sheets);
+        self.job = draw(&self.settings, symbol, &mut self.canvas);
+        self.waiting = None;
+        self.of_page = false;
+        let stops = self.stops.as_slice();
+        self.settings = self.settings.after(item, Effect::Draws, stops, rows);
+        self.raster.begin(item);
+        Ok(())
+    }
+
+    /// How many characters go into the line before one could break it.
+    pub fn text_room(&self) -> usize
+        ensures { result ≡ text_room self.now.settings }
+    {
+        usize::from(self.settings.text_room())
+    }
+
+    /// Takes text that there is room for in the line: it prints nothing.
+    pub fn apply_text(&mut self, text: &[u8])
+        requires pending { self.old.pending ≡ [] }
+        requires text { AllByRecursion (λ b. is_text b ≡ true) text.now }
+        requires room { length text.now ≤ text_room self.old.settings }
+        ensures prints { (setup : Setup) (before : List EscItem) → Stands setup self.old before →
+            printed setup (text_after text.now before) ≡ printed setup before }
+        ensures stands { (setup : Setup) (before : List EscItem) → Stands setup self.old before →
+            Stands setup self.new (text_after text.now before) }
+        ensures pending { self.new.pending ≡ [] }
+    {
+        if text.is_empty() {
+            return;
+        }
+        let bitmap = &mut self.canvas.bitmap;
+        settle(&self.settings, self.waiting, &self.canvas.sheets, bitmap);
+        put_text(&mut self.settings, text, &self.canvas.sheets, bitmap);
+        self.waiting = None;
+        self.raster.end();
+    }
+
+    /// How many bytes of a raster come before one that prints: in standard mode that is the one that ends the
+    /// row; in page mode there is none, and it is how many have not come.
+    pub fn raster_room(&self) -> usize
+        ensures value { result ≡ run_of self.now.settings.page.mode self.now.raster }
+        ensures comes { (setup : Setup) (before : List EscItem) → Stands setup self.now before →
+            result ≡ raster_run (mode setup before) before }
+    {
+        match self.settings.page.mode {
+            Mode::Standard => usize::from(self.raster.room()),
+            Mode::Page => self.raster.left(),
+        }
+    }
+
+    /// Takes bytes of a raster that there is room for: they print nothing.
+    pub fn apply_raster(&mut self, bytes: &[u8])
+        requires pending { self.old.pending ≡ [] }
+        requires few { length bytes.now ≤ run_of self.old.settings.page.mode self.old.raster }
+        ensures prints { (setup : Setup) (before : List EscItem) → Stands setup self.old before →
+            printed setup (bytes_after bytes.now before) ≡ printed setup before }
+        ensures stands { (setup : Setup) (before : List EscItem) → Stands setup self.old before →
+            Stands setup self.new (bytes_after bytes.now before) }
+        ensures pending { self.new.pending ≡ [] }
+    {
+        match self.settings.page.mode {
+            Mode::Standard => self.raster.take_all(bytes),
+            Mode::Page => {
+                let page = &mut self.canvas.page;
+                take_run(&mut self.settings, &mut self.raster, bytes, page);
+                self.job = Job::none();
+            }
+        }
+    }
+
+    /// Whether anything is still to be put out.
+    pub fn pending(&self) -> bool
+        ensures { IsTrue result ↔ (0 < length self.now.pending) }
+    {
+        self.job.is_pending()
+    }
+
+    /// Puts out what is pending, as far as there is room.
+    pub fn put(&mut self, output: &mut [u8]) -> usize
+        ensures count { result ≡ min (length self.old.pending) (length output.old) }
+        ensures bytes { output.new ≡ take result self.old.pending ++ drop result output.old }
+        ensures rest { self.new.pending ≡ drop result self.old.pending }
+        ensures stands { (setup : Setup) (before : List EscItem) → Stands setup self.old before →
+            Stands setup self.new before }
+    {
+        self.job.put(&self.canvas, &mut self.lines, output)
+    }
+
+    /// Whether the mode is standard, and no line open.
+    pub fn at_rest(&self) -> bool
+        ensures { (setup : Setup) (before : List EscItem) → Stands setup self.now before →
+            IsTrue result ↔ (is_at_rest setup before ≡ true) }
+    {
+        !self.settings.page.is_paged() && !self.settings.is_open
+    }
+
+    /// The height of the line of whose strip bytes are still to be put out, else of the line that is
+    /// gathered.
+    pub fn line_rows(&self) -> u16
+        ensures value { (setup : Setup) (before : List EscItem) → Stands setup self.now before →
+            result ≡ line_rows_after setup before self.now.pending }
+        ensures most { result ≤ LINE_ROWS }
+    {
+        self.job.line_rows().unwrap_or(self.settings.height)
+    }
+
+    /// The rows of the page that is held: all of them in page mode and while bytes of a page are still to be
+    /// put out, else none.
+    pub fn page_rows(&self) -> u16
+        ensures value { (setup : Setup) (before : List EscItem) → Stands setup self.now before →
+            result ≡ page_rows_after setup before self.now.pending }
+        ensures most { result ≤ PAGE_ROWS }
+    {
+        if self.settings.page.is_paged() || (self.of_page && self.pending()) {
+            PAGE_ROWS as u16
+        } else {
+            0
+        }
+    }
+}

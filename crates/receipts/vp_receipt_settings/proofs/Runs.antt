@@ -1,0 +1,126 @@
+-- Bytes of a raster that don't end its row, one after another.
+use Rattle.std.proofs.Common.{◌≡◌, ℕ, ◌+◌, ◌-◌, ◌<◌, ◌≤◌, eqb, true, false, Bool, cond, List, [], ◌∷◌, ◌++◌, length, map, reverse, take, min, refl, sym, ap, ◌∙◌, append_assoc, arith, length-append}
+use Rattle.std.proofs.lemmas.Bool.Decides.{nat_tests}
+use Rattle.std.proofs.lemmas.List.{append-nil, reverse-append}
+use Rattle.vp_esc.specs.declared.item.EscItem.{EscItem}
+use Rattle.vp_esc.specs.declared.item.EscItem.TheVariants.{RasterByte}
+use Rattle.vp_receipt_settings.specs.Setup.{Setup}
+use Rattle.vp_receipt_settings.specs.History.{settings_of, line}
+use Rattle.vp_receipt_settings.specs.Tabs.{tab_stops}
+use Rattle.vp_receipt_settings.specs.Symbols.{qr_data}
+use Rattle.vp_receipt_settings.specs.declared.raster.Raster.{Raster}
+use Rattle.vp_receipt_settings.specs.Rasters.{raster_scale, raster_bytes, rows_to_come, row_so_far, is_row_end, bytes_after}
+use Rattle.vp_receipt_settings.specs.Gathering.{IsGathering, room_of}
+
+-- the oldest byte first
+pub after_first : (b : ℕ) (bytes : List ℕ) (before : List EscItem) → bytes_after (b ∷ bytes) before ≡ bytes_after bytes (RasterByte b ∷ before)
+after_first b bytes before =
+    ap (λ (x : List EscItem). x ++ before) (reverse-append (RasterByte b ∷ []) (map (λ c. RasterByte c) bytes))
+    ∙ append_assoc (reverse (map (λ c. RasterByte c) bytes)) (RasterByte b ∷ []) before
+
+-- no byte ends a row
+abbrev pub AreInside : List ℕ → List EscItem → Type 0
+AreInside [] before = Unit {0}
+AreInside (b ∷ bytes) before = (is_row_end before ≡ false) × AreInside bytes (RasterByte b ∷ before)
+
+-- what a raster's bytes leave alone
+pub settings_same : (setup : Setup) (b : ℕ) (before : List EscItem) → is_row_end before ≡ false → settings_of setup (RasterByte b ∷ before) ≡ settings_of setup before
+settings_same setup b before e = rw e refl
+
+pub settings_stay : (setup : Setup) (bytes : List ℕ) (before : List EscItem) → AreInside bytes before → settings_of setup (bytes_after bytes before) ≡ settings_of setup before
+settings_stay setup [] before in_row = refl
+settings_stay setup (b ∷ bytes) before in_row = ap (settings_of setup) (after_first b bytes before) ∙ settings_stay setup bytes (RasterByte b ∷ before) in_row.1 ∙ settings_same setup b before in_row.0
+
+pub line_stays : (setup : Setup) (bytes : List ℕ) (before : List EscItem) → line setup (bytes_after bytes before) ≡ line setup before
+line_stays setup [] before = refl
+line_stays setup (b ∷ bytes) before = ap (line setup) (after_first b bytes before) ∙ line_stays setup bytes (RasterByte b ∷ before)
+
+pub stops_stay : (bytes : List ℕ) (before : List EscItem) → tab_stops (bytes_after bytes before) ≡ tab_stops before
+stops_stay [] before = refl
+stops_stay (b ∷ bytes) before = ap tab_stops (after_first b bytes before) ∙ stops_stay bytes (RasterByte b ∷ before)
+
+pub data_stay : (bytes : List ℕ) (before : List EscItem) → qr_data (bytes_after bytes before) ≡ qr_data before
+data_stay [] before = refl
+data_stay (b ∷ bytes) before = ap qr_data (after_first b bytes before) ∙ data_stay bytes (RasterByte b ∷ before)
+
+-- the row with bytes that don't end it
+pub record Lasts (bytes : List ℕ) (before : List EscItem) : Type 0 where
+  pub scale : raster_scale (bytes_after bytes before) ≡ raster_scale before
+  pub width : raster_bytes (bytes_after bytes before) ≡ raster_bytes before
+  pub rows : rows_to_come (bytes_after bytes before) ≡ rows_to_come before
+  pub row : row_so_far (bytes_after bytes before) ≡ row_so_far before ++ bytes
+
+pub record IsInside (b : ℕ) (before : List EscItem) : Type 0 where
+  pub rows : rows_to_come (RasterByte b ∷ before) ≡ rows_to_come before
+  pub row : row_so_far (RasterByte b ∷ before) ≡ row_so_far before ++ b ∷ []
+
+pub goes_on : (before : List EscItem) → length (row_so_far before) + 1 < raster_bytes before → eqb (length (row_so_far before) + 1) (raster_bytes before) ≡ false
+goes_on before room = grind (arith, nat_tests)
+
+pub inside : (b : ℕ) (before : List EscItem) → 0 < rows_to_come before → length (row_so_far before) + 1 < raster_bytes before → IsInside b before
+inside b before some room =
+    let more : eqb (length (row_so_far before) + 1) (raster_bytes before) ≡ false = goes_on before room in
+    let come : eqb (rows_to_come before) 0 ≡ false = grind (arith, nat_tests) in
+    record { rows = rw more refl; row = rw (more, come) refl }
+
+pub lasts : (bytes : List ℕ) (before : List EscItem) → 0 < rows_to_come before → length (row_so_far before) + length bytes < raster_bytes before → Lasts bytes before
+lasts [] before some room = record { scale = refl; width = refl; rows = refl; row = sym (append-nil (row_so_far before)) }
+lasts (b ∷ bytes) before some room =
+    let one = inside b before some (omega arith) in
+    let all = after_first b bytes before in
+    let more = lasts bytes (RasterByte b ∷ before) (omega (arith, one.rows)) (omega (arith, ap length one.row, length-append (row_so_far before) (b ∷ []))) in
+    record {
+      scale = ap raster_scale all ∙ more.scale;
+      width = ap raster_bytes all ∙ more.width;
+      rows = ap rows_to_come all ∙ more.rows ∙ one.rows;
+      row = ap row_so_far all ∙ more.row ∙ ap (λ x. x ++ bytes) one.row ∙ append_assoc (row_so_far before) (b ∷ []) bytes;
+    }
+
+are_inside : (bytes : List ℕ) (before : List EscItem) → 0 < rows_to_come before → length (row_so_far before) + length bytes < raster_bytes before → AreInside bytes before
+are_inside [] before some room = tt
+are_inside (b ∷ bytes) before some room =
+    let one = inside b before some (omega arith) in
+    let more : eqb (length (row_so_far before) + 1) (raster_bytes before) ≡ false = goes_on before (omega arith) in
+    (rw more refl, are_inside bytes (RasterByte b ∷ before) (omega (arith, one.rows)) (omega (arith, ap length one.row, length-append (row_so_far before) (b ∷ []))))
+
+-- where there is room for bytes, a row comes
+pub record HasRoom (r : Raster) (n : ℕ) : Type 0 where
+  pub some : 0 < r.rows
+  pub less : r.got + n < r.bytes
+
+room_by : (r : Raster) (n : ℕ) (none : Bool) → eqb r.rows 0 ≡ none → 0 < n → n ≤ cond none 0 (r.bytes - r.got - 1) → HasRoom r n
+room_by r n true e some h = absurd (omega arith)
+room_by r n false e some h = record { some = grind (arith, nat_tests); less = omega arith }
+
+pub has_room : (r : Raster) (b : ℕ) (bytes : List ℕ) → length (b ∷ bytes) ≤ room_of r → HasRoom r (length (b ∷ bytes))
+has_room r b bytes h = room_by r (length (b ∷ bytes)) (eqb r.rows 0) refl (omega arith) h
+
+-- bytes that there is room for are gathered
+pub gathers_run : (r : Raster) (row bytes : List ℕ) (before : List EscItem) → length bytes ≤ room_of r → IsGathering r before
+    → ((came : List ℕ) → r.got ≡ length came → take (min r.got 208) r.row ≡ take 208 came → take (min (r.got + length bytes) 208) row ≡ take 208 (came ++ bytes))
+    → IsGathering (record r { got = r.got + length bytes; row = row }) (bytes_after bytes before)
+gathers_run r row [] before h g k =
+    record {
+      scale = g.scale;
+      bytes = g.bytes;
+      rows = g.rows;
+      got = omega (arith, g.got);
+      row = k (row_so_far before) g.got g.row ∙ ap (take 208) (append-nil (row_so_far before));
+    }
+gathers_run r row (b ∷ bytes) before h g k =
+    let room = has_room r b bytes h in
+    let l = lasts (b ∷ bytes) before (omega (arith, room.some, g.rows)) (omega (arith, room.less, g.got, g.bytes)) in
+    record {
+      scale = g.scale ∙ sym l.scale;
+      bytes = g.bytes ∙ sym l.width;
+      rows = g.rows ∙ sym l.rows;
+      got = omega (arith, g.got, ap length l.row, length-append (row_so_far before) (b ∷ bytes));
+      row = k (row_so_far before) g.got g.row ∙ ap (take 208) (sym l.row);
+    }
+
+-- and don't end the row
+pub run_inside : (r : Raster) (bytes : List ℕ) (before : List EscItem) → length bytes ≤ room_of r → IsGathering r before → AreInside bytes before
+run_inside r [] before h g = tt
+run_inside r (b ∷ bytes) before h g =
+    let room = has_room r b bytes h in
+    are_inside (b ∷ bytes) before (omega (arith, room.some, g.rows)) (omega (arith, room.less, g.got, g.bytes))

@@ -1,0 +1,88 @@
+-- What an item does, as the code tells it.
+use Rattle.std.specs.Prelude.{ℕ, ◌*◌, nat_lt, Bool, true, false, not, ◌&&◌, if◌then◌else◌, Option, Some, None, is_some, max}
+use Rattle.vp_esc.specs.declared.item.EscItem.{EscItem}
+use Rattle.vp_esc.specs.declared.item.EscItem.TheVariants.{LineFeed, CarriageReturn, Control, Character, Column8, Column24, Initialize, FeedDots, FeedLines, CutLeavingOnePoint, CutLeavingThreePoints, Cut, FeedAndCut, Raster, RasterByte, Symbol, QrPrint, QrIgnored, WithoutEffect, PageMode, StandardMode, FormFeed, Cancel, PrintPage, VerticalPosition, MoveVerticalPosition, Area, Direction}
+use Rattle.vp_esc.specs.declared.item.Cut.TheVariants.{Partial}
+use Rattle.vp_glyph.specs.Cells.{cell_width}
+use Rattle.vp_receipt_settings.specs.declared.effect.Piece.TheVariants.{Character as OneCharacter, Column8 as OneColumn8, Column24 as OneColumn24}
+use Rattle.vp_receipt_settings.specs.declared.effect.Effect.{Effect}
+use Rattle.vp_receipt_settings.specs.declared.effect.Effect.TheVariants.{Nothing, Sets, Drops, Puts, Breaks, Feeds, Cuts, BeginsRaster, Fills, Draws, BeginsPage, Lays, Wipes, PrintsPage}
+use Rattle.vp_receipt_settings.specs.declared.settings.Settings.{Settings}
+use Rattle.vp_receipt_settings.specs.Texts.{style_of}
+use Rattle.vp_receipt_settings.specs.Pages.{is_paged, is_area, is_vertical_move}
+use Rattle.vp_receipt_settings.specs.Rasters.{draws, scale_or, times_down}
+use Rattle.vp_receipt_settings.specs.History.{breaks, length_of, lines_rows}
+
+-- the rows of the strip that LF prints
+abbrev pub feed_of : Settings → ℕ
+feed_of s = max s.height s.line_spacing
+
+-- a character would pass the end of the line
+abbrev pub is_full_of : Settings → Bool
+is_full_of s = breaks s.position (cell_width s.text.font (style_of s.text)) (length_of s)
+
+-- what is only set where it isn't done
+abbrev pub if_done : Bool → Effect → Effect
+if_done done effect = if done then effect else Sets
+
+-- what an item does that has to do with the page or with the modes, or only sets
+abbrev pub page_effect_of : Settings → EscItem → Effect
+page_effect_of s PageMode = if_done (not (is_paged s.page.mode) && not s.is_open) BeginsPage
+page_effect_of s StandardMode = if_done (is_paged s.page.mode) Drops
+page_effect_of s Initialize = Drops
+page_effect_of s (VerticalPosition n) = Lays
+page_effect_of s (MoveVerticalPosition n) = if_done (is_vertical_move n s.page.vertical) Lays
+page_effect_of s (Area x y wide high) = if_done (is_area s.paper x y wide high) Lays
+page_effect_of s (Direction d) = if_done (is_some d.value) Lays
+page_effect_of s Cancel = Wipes
+page_effect_of s PrintPage = PrintsPage
+page_effect_of s FormFeed = PrintsPage
+page_effect_of s CarriageReturn = Nothing
+page_effect_of s (Control byte) = Nothing
+page_effect_of s (QrIgnored bytes) = Nothing
+page_effect_of s (WithoutEffect lead bytes) = Nothing
+page_effect_of s _ = Sets
+
+-- what an item does under the settings
+abbrev pub effect_of : Settings → EscItem → Effect
+effect_of s (Character code) = if is_full_of s then Breaks (feed_of s) code else Puts (OneCharacter code)
+effect_of s (Column8 byte) = if_done (nat_lt s.position (length_of s)) (Puts (OneColumn8 byte))
+effect_of s (Column24 bytes) = if_done (nat_lt s.position (length_of s)) (Puts (OneColumn24 bytes))
+effect_of s LineFeed = Feeds (feed_of s)
+effect_of s (FeedDots n) = Feeds (max s.height n)
+effect_of s (FeedLines n) = Feeds (lines_rows n s.height s.line_spacing)
+effect_of s CutLeavingOnePoint = Cuts 0 Partial
+effect_of s CutLeavingThreePoints = Cuts 0 Partial
+effect_of s (Cut cut) = Cuts 0 cut.value
+effect_of s (FeedAndCut cut dots) = Cuts dots cut.value
+effect_of s (Raster scale bytes rows) =
+    if_done (draws scale.value bytes rows) (BeginsRaster (times_down (scale_or scale.value) * rows))
+effect_of s (RasterByte byte) = Fills byte
+effect_of s (Symbol kind bytes more) = Draws
+effect_of s QrPrint = Draws
+effect_of s item = page_effect_of s item
+
+-- the rows of the strip in which it ends the line
+abbrev pub rows_of : Settings → Effect → ℕ
+rows_of s (Breaks rows code) = rows
+rows_of s (Feeds rows) = rows
+rows_of s (BeginsRaster rows) = if s.is_open then feed_of s else 0
+rows_of s Draws = if s.is_open then feed_of s else 0
+rows_of s _ = 0
+
+-- whether it lays the line of a page where it is
+abbrev pub lays_it : Effect → Bool
+lays_it Lays = true
+lays_it Wipes = true
+lays_it PrintsPage = true
+lays_it _ = false
+
+-- whether it prints the page
+abbrev pub is_page : Effect → Bool
+is_page PrintsPage = true
+is_page _ = false
+
+-- the character that waits for the line before it
+abbrev pub waits_of : Effect → Option ℕ
+waits_of (Breaks rows code) = Some code
+waits_of _ = None

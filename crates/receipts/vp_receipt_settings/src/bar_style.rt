@@ -1,0 +1,59 @@
+//! How bar codes are drawn: their height, their module, and where their text stands.
+ghost use Rattle.std.specs.Prelude.{◌≡◌, ◌<◌, ◌∷◌, List};
+ghost use Rattle.vp_esc.specs.declared.item.EscItem.{EscItem};
+ghost use Rattle.vp_receipt_settings.specs.Symbols.{bar_style_of, IsFitBars};
+
+use crate::text::font_named;
+use vp_esc::item::{EscItem, TextPlace};
+use vp_glyph::Font;
+
+/// How bar codes are drawn.
+#[derive(Clone, Copy)]
+pub struct BarStyle {
+    pub height: u8,
+    /// Dots of a module.
+    pub module_dots: u8,
+    pub place: TextPlace,
+    pub font: Font,
+}
+
+impl BarStyle {
+    pub const START: BarStyle = BarStyle {
+        height: 162,
+        module_dots: 3,
+        place: TextPlace::None,
+        font: Font::A,
+    };
+
+    /// What is in force after an item.
+    pub fn after(self, item: &EscItem) -> BarStyle
+        requires { IsFitBars self }
+        ensures style { (before : List EscItem) → self ≡ bar_style_of before →
+            result ≡ bar_style_of (item.now ∷ before) }
+        ensures fit { IsFitBars result }
+    {
+        match item {
+            EscItem::BarHeight(height) if *height > 0 => BarStyle {
+                height: *height,
+                ..self
+            },
+            EscItem::BarModule(module) if 2 <= *module && *module <= 6 => BarStyle {
+                module_dots: *module,
+                ..self
+            },
+            EscItem::BarTextPlace(place) => match place.value {
+                Some(place) => BarStyle { place, ..self },
+                None => self,
+            },
+            EscItem::BarTextFont(font) => match font.value {
+                Some(font) => BarStyle {
+                    font: font_named(font),
+                    ..self
+                },
+                None => self,
+            },
+            EscItem::Initialize => BarStyle::START,
+            _ => self,
+        }
+    }
+}

@@ -1,0 +1,177 @@
+//! What an item does, on paper and on a page.
+ghost use Rattle.std.specs.Prelude.{◌≡◌, ℕ};
+ghost use Rattle.vp_esc.specs.declared.item.EscItem.{EscItem};
+ghost use Rattle.vp_receipt_settings.specs.History.{IsFit};
+ghost use Rattle.vp_receipt_settings.specs.Effects.{effect_of, page_effect_of, if_done, rows_of, lays_it, is_page, waits_of};
+
+use crate::page_mode::{is_area, is_vertical_move};
+use crate::raster::{draws, scale_named, times_down};
+use crate::settings::Settings;
+use vp_esc::item::{Cut, EscItem};
+
+/// A piece of the line.
+#[derive(Clone, Copy)]
+pub enum Piece {
+    Character(u8),
+    /// A column of eight dots, each three rows high.
+    Column8(u8),
+    /// A column of 24 dots.
+    Column24([u8; 3]),
+}
+
+/// What an item does. A line that is ended is printed on paper, and laid on a page.
+#[derive(Clone, Copy)]
+pub enum Effect {
+    /// Nothing.
+    Nothing,
+    /// It sets what is in force, if anything.
+    Sets,
+    /// It gives up the line, and sets what is in force.
+    Drops,
+    /// It puts a piece into the line.
+    Puts(Piece),
+    /// A character that the line has no room for ends it in so many rows, and begins the next one.
+    Breaks { rows: u32, code: u8 },
+    /// It ends the line in so many rows.
+    Feeds(u32),
+    /// On paper it ends the line if it is open, and cuts after so many white rows.
+    Cuts { dots: u8, cut: Cut },
+    /// It ends the line if it is open, and begins a raster of so many rows.
+    BeginsRaster(u32),
+    /// It is a byte of a raster.
+    Fills(u8),
+    /// It ends the line if it is open, and draws a symbol.
+    Draws,
+    /// It begins a white page.
+    BeginsPage,
+    /// On a page it ends the line where it is, if it is open.
+    Lays,
+    /// On a page it does, and makes the area white.
+    Wipes,
+    /// On a page it does, and prints the page.
+    PrintsPage,
+}
+
+impl Effect {
+    /// What is only set where it isn't done.
+    fn if_done(self, done: bool) -> Effect
+        ensures { result ≡ if_done done self }
+    {
+        if done { self } else { Effect::Sets }
+    }
+
+    /// That of a cut, after so many white rows.
+    fn cuts(dots: u8, cut: Cut) -> Effect
+        ensures { result ≡ Effect.Cuts dots cut }
+    {
+        Effect::Cuts { dots, cut }
+    }
+
+    /// Whether it ends the line of a page where that is.
+    pub(crate) fn lays(self) -> bool
+        ensures { result ≡ lays_it self }
+    {
+        matches!(self, Effect::Lays | Effect::Wipes | Effect::PrintsPage)
+    }
+
+    /// Whether it prints the page, on a page.
+    pub fn is_page(self) -> bool
+        ensures { result ≡ is_page self }
+    {
+        matches!(self, Effect::PrintsPage)
+    }
+
+    /// The character that waits until the line before it is printed.
+    pub fn waiting(self) -> Option<u8>
+        ensures { result ≡ waits_of self }
+    {
+        match self {
+            Effect::Breaks { code, .. } => Some(code),
+            _ => None,
+        }
+    }
+}
+
+impl Settings {
+    /// What an item does that has to do with the page or with the modes, or only sets.
+    fn page_effect(self, item: &EscItem) -> Effect
+        ensures { result ≡ page_effect_of self item.now }
+    {
+        match item {
+            EscItem::PageMode => Effect::BeginsPage.if_done(self.begins_page()),
+            EscItem::StandardMode => Effect::Drops.if_done(self.page.is_paged()),
+            EscItem::Initialize => Effect::Drops,
+            EscItem::VerticalPosition(_) => Effect::Lays,
+            EscItem::MoveVerticalPosition(by) => Effect::Lays.if_done(is_vertical_move(
+                *by,
+                self.page.vertical,
+            )),
+            EscItem::Area {
+                x,
+                y,
+                width,
+                height,
+            } => Effect::Lays.if_done(is_area(self.paper, *x, *y, *width, *height)),
+            EscItem::Direction(s) => Effect::Lays.if_done(s.value.is_some()),
+            EscItem::Cancel => Effect::Wipes,
+            EscItem::PrintPage | EscItem::FormFeed => Effect::PrintsPage,
+            EscItem::CarriageReturn
+            | EscItem::Control(_)
+            | EscItem::QrIgnored(_)
+            | EscItem::WithoutEffect { .. } => Effect::Nothing,
+            _ => Effect::Sets,
+        }
+    }
+
+    /// What an item does.
+    pub fn effect(self, item: &EscItem) -> Effect
+        requires { IsFit self }
+        ensures { result ≡ effect_of self item.now }
+    {
+        match item {
+            EscItem::Character(code) if self.breaks() => Effect::Breaks {
+                rows: self.feed_rows(),
+                code: *code,
+            },
+            EscItem::Character(code) => Effect::Puts(Piece::Character(*code)),
+            EscItem::Column8(byte) => Effect::Puts(Piece::Column8(*byte)).if_done(
+                self.takes_column(),
+            ),
+            EscItem::Column24(bytes) => Effect::Puts(Piece::Column24(*bytes)).if_done(
+                self.takes_column(),
+            ),
+            EscItem::LineFeed => Effect::Feeds(self.feed_rows()),
+            EscItem::FeedDots(n) => Effect::Feeds(u32::from(self.height).max(u32::from(*n))),
+            EscItem::FeedLines(n) => Effect::Feeds(self.lines_rows(*n)),
+            EscItem::CutLeavingOnePoint | EscItem::CutLeavingThreePoints => Effect::cuts(
+                0,
+                Cut::Partial,
+            ),
+            EscItem::Cut(cut) => Effect::cuts(0, cut.value),
+            EscItem::FeedAndCut { cut, dots } => Effect::cuts(*dots, cut.value),
+            EscItem::Raster { scale, bytes, rows } => {
+                let times = times_down(scale_named(scale.value));
+                Effect::BeginsRaster(times * u32::from(*rows)).if_done(draws(
+                    scale.value,
+                    *bytes,
+                    *rows,
+                ))
+            }
+            EscItem::RasterByte(byte) => Effect::Fills(*byte),
+            EscItem::Symbol { .. } | EscItem::QrPrint => Effect::Draws,
+            _ => self.page_effect(item),
+        }
+    }
+
+    /// The rows of the strip in which an effect ends the line.
+    pub(crate) fn rows_of(self, effect: Effect) -> u32
+        ensures { result ≡ rows_of self effect }
+    {
+        match effect {
+            Effect::Breaks { rows, .. } => rows,
+            Effect::Feeds(rows) => rows,
+            Effect::BeginsRaster(_) | Effect::Draws => self.ended_rows(),
+            _ => 0,
+        }
+    }
+}

@@ -1,0 +1,327 @@
+//! What is in force on a page: its mode, its area, the direction of its lines, and how far down it is used.
+ghost use Rattle.std.specs.Prelude.{◌≡◌, ◌≤◌, ◌<◌, ◌+◌, ◌-◌, ◌∷◌, List, [], ℕ, nat_lt, not, true, ◌&&◌, ◌||◌, is_some, if◌then◌else◌};
+ghost use Rattle.vp_esc.specs.declared.item.EscItem.{EscItem};
+ghost use Rattle.vp_page.specs.Areas.{line_length as length_on_page};
+ghost use Rattle.vp_page.specs.declared.page.TheConstants.{PAGE_ROWS};
+ghost use Rattle.vp_page.specs.declared.line.TheConstants.{LINE_DOTS};
+ghost use Rattle.vp_receipt_settings.specs.Setup.{Setup};
+ghost use Rattle.vp_receipt_settings.specs.Pages.{is_paged, is_area, area_cut, direction_of, direction_or, is_vertical_move, vertical_moved, vertical_after, raised, area};
+ghost use Rattle.vp_receipt_settings.specs.History.{settings_of, page_of, symbol_top, lays, line, symbol_top, begins_page, mode, vertical, used, IsFit, IsFitPage};
+ghost use Rattle.vp_receipt_settings.specs.Effects.{effect_of, rows_of, lays_it};
+ghost use Rattle.vp_receipt_settings.specs.Runs.{below};
+ghost use Rattle.vp_receipt_settings.specs.Symbols.{symbol_image, image_rows};
+ghost use Rattle.vp_receipt_settings.specs.Rasters.{is_row_end, raster_scale, times_down};
+ghost use Rattle.vp_receipt_settings.specs.History.{printed_rows};
+
+use crate::effect::Effect;
+use crate::settings::Settings;
+use crate::width::Width;
+use vp_esc::item::{self, EscItem};
+use vp_page::{Area, Direction, PAGE_ROWS};
+
+/// Whether lines are printed on paper or laid on a page.
+#[derive(Clone, Copy, Debug, PartialEq, Eq)]
+pub enum Mode {
+    Standard,
+    Page,
+}
+
+/// What is in force on the page.
+#[derive(Clone, Copy)]
+pub struct PageSettings {
+    pub mode: Mode,
+    pub area: Area,
+    pub direction: Direction,
+    /// Where the next line is laid, from the area's top as its lines run.
+    pub vertical: u16,
+    /// The greatest lower edge of the areas that ESC W set on the page, or in which a row was laid; 0 where
+    /// there is none.
+    pub used: u16,
+}
+
+/// The direction that ESC T names.
+fn direction_of(direction: item::Direction) -> Direction
+    ensures { result ≡ direction_of direction }
+{
+    match direction {
+        item::Direction::LeftToRight => Direction::LeftToRight,
+        item::Direction::BottomToTop => Direction::BottomToTop,
+        item::Direction::RightToLeft => Direction::RightToLeft,
+        item::Direction::TopToBottom => Direction::TopToBottom,
+    }
+}
+
+/// Whether an area begins on the page, and has a dot.
+pub(crate) fn is_area(paper: Width, x: u16, y: u16, wide: u16, high: u16) -> bool
+    ensures { result ≡ is_area paper x y wide high }
+{
+    x < paper.across() && usize::from(y) < PAGE_ROWS && wide > 0 && high > 0
+}
+
+/// An area that ends at the page's edges.
+fn area_cut(paper: Width, x: u16, y: u16, wide: u16, high: u16) -> Area
+    ensures { result ≡ area_cut paper x y wide high }
+{
+    Area {
+        x,
+        y,
+        dx: wide.min(paper.across().saturating_sub(x)),
+        dy: high.min((PAGE_ROWS as u16).saturating_sub(y)),
+    }
+}
+
+/// Whether a vertical position is moved to one.
+pub(crate) fn is_vertical_move(by: i16, vertical: u16) -> bool
+    ensures { result ≡ is_vertical_move by vertical }
+{
+    let far = by.unsigned_abs();
+    if by >= 0 {
+        u32::from(vertical) + u32::from(far) <= 65535
+    } else {
+        far <= vertical
+    }
+}
+
+/// The vertical position moved.
+fn vertical_moved(by: i16, vertical: u16) -> u16
+    ensures { result ≡ vertical_moved by vertical }
+{
+    let far = by.unsigned_abs();
+    if by >= 0 {
+        if u32::from(vertical) + u32::from(far) <= 65535 {
+            return vertical + far;
+        }
+    } else if far <= vertical {
+        return vertical - far;
+    }
+    vertical
+}
+
+/// The vertical position after rows.
+fn vertical_after(vertical: u16, rows: u32) -> u16
+    ensures { result ≡ vertical_after vertical rows }
+{
+    u32::from(vertical).saturating_add(rows).min(65535) as u16
+}
+
+/// The greatest lower edge, with that of an area which is used or not.
+fn raised(uses: bool, area: Area, old: u16) -> u16
+    requires down { area.y + area.dy ≤ PAGE_ROWS }
+    ensures value { result ≡ raised uses area old }
+    ensures most { old ≤ PAGE_ROWS → result ≤ PAGE_ROWS }
+{
+    if uses { old.max(area.y + area.dy) } else { old }
+}
+
+impl PageSettings {
+    /// What is in force at the start.
+    pub fn start(paper: Width) -> PageSettings
+        ensures settings { (setup : Setup) → setup.width ≡ paper → result ≡ page_of setup [] }
+        ensures fit { IsFitPage result }
+    {
+        PageSettings {
+            mode: Mode::Standard,
+            area: Area {
+                x: 0,
+                y: 0,
+                dx: paper.across(),
+                dy: PAGE_ROWS as u16,
+            },
+            direction: Direction::LeftToRight,
+            vertical: 0,
+            used: 0,
+        }
+    }
+
+    /// Whether page mode is in force.
+    pub fn is_paged(self) -> bool
+        ensures { result ≡ is_paged self.mode }
+    {
+        match self.mode {
+            Mode::Standard => false,
+            Mode::Page => true,
+        }
+    }
+
+    /// How many dots a line of the area holds.
+    pub fn line_length(self) -> u16
+        requires { IsFitPage self }
+        ensures value { result ≡ length_on_page self.area self.direction }
+        ensures most { result ≤ LINE_DOTS }
+    {
+        self.area.line_length(self.direction)
+    }
+
+    /// The settings with another vertical position.
+    fn at(self, vertical: u16) -> PageSettings
+        ensures { result ≡ record self { vertical = vertical } }
+    {
+        PageSettings { vertical, ..self }
+    }
+
+    /// The settings where an area is set.
+    fn within(self, area: Area) -> PageSettings
+        requires down { area.y + area.dy ≤ PAGE_ROWS }
+        ensures value { result ≡ record self {
+          area = area;
+          vertical = 0;
+          used = raised true area self.used;
+        } }
+    {
+        PageSettings {
+            area,
+            vertical: 0,
+            used: raised(true, area, self.used),
+            ..self
+        }
+    }
+
+    /// The settings where a direction is set, if one is.
+    fn turned(self, direction: Option<item::Direction>) -> PageSettings
+        ensures { result ≡ record self {
+          direction = direction_or direction self.direction;
+          vertical = (if is_some direction then 0 else self.vertical);
+        } }
+    {
+        match direction {
+            Some(direction) => PageSettings {
+                direction: direction_of(direction),
+                vertical: 0,
+                ..self
+            },
+            None => self,
+        }
+    }
+
+    /// What is in force after rows were laid.
+    fn below(self, rows: u32) -> PageSettings
+        requires { IsFitPage self }
+        ensures value { result ≡ record self {
+          vertical = vertical_after self.vertical rows;
+          used = raised (nat_lt 0 rows) self.area self.used;
+        } }
+        ensures fit { IsFitPage result }
+    {
+        PageSettings {
+            vertical: vertical_after(self.vertical, rows),
+            used: raised(rows > 0, self.area, self.used),
+            ..self
+        }
+    }
+}
+
+impl Settings {
+    /// Where a symbol is laid: below the line that it ends.
+    pub fn symbol_top(self) -> u16
+        ensures { (setup : Setup) (before : List EscItem) → self ≡ settings_of setup before →
+            result ≡ symbol_top setup before }
+    {
+        vertical_after(self.page.vertical, self.ended_rows())
+    }
+
+    /// The settings after a byte that ends a row of a raster, which was laid or printed so often; or after so
+    /// many rows.
+    pub fn after_row(self, times: u32) -> Settings
+        requires { IsFit self }
+        ensures value { result ≡ below self times }
+        ensures settings { (setup : Setup) (before : List EscItem) (byte : ℕ) →
+            self ≡ settings_of setup before → is_row_end before ≡ true →
+            times ≡ times_down (raster_scale before) →
+            result ≡ settings_of setup (EscItem.RasterByte byte ∷ before) }
+        ensures fit { IsFit result }
+    {
+        Settings {
+            page: self.page.below(times),
+            ..self
+        }
+    }
+
+    /// How many rows of the page are printed.
+    pub fn printed_rows(self) -> u32
+        requires { IsFit self }
+        ensures rows { (setup : Setup) (before : List EscItem) → self ≡ settings_of setup before →
+            result ≡ printed_rows setup before }
+        ensures most { result ≤ PAGE_ROWS }
+    {
+        let used = raised(self.is_open, self.page.area, self.page.used);
+        if used == 0 {
+            u32::from(self.page.area.y) + u32::from(self.page.area.dy)
+        } else {
+            u32::from(used)
+        }
+    }
+
+    /// Whether ESC L begins a page.
+    pub(crate) fn begins_page(self) -> bool
+        ensures { result ≡ (not (is_paged self.page.mode) && not self.is_open) }
+    {
+        match self.page.mode {
+            Mode::Standard => !self.is_open,
+            Mode::Page => false,
+        }
+    }
+
+    /// The greatest lower edge after an effect, with so many rows of a symbol.
+    fn used_after(self, effect: Effect, symbol_rows: u32) -> u16
+        requires { IsFit self }
+        ensures value { result ≡ raised (nat_lt 0 (rows_of self effect)
+            || (nat_lt 0 symbol_rows || (lays_it effect && self.is_open))) self.page.area self.page.used }
+        ensures most { result ≤ PAGE_ROWS }
+    {
+        let lays = self.rows_of(effect) > 0 || (effect.lays() && self.is_open);
+        raised(lays || symbol_rows > 0, self.page.area, self.page.used)
+    }
+
+    /// What is in force on the page after an item that is no byte of a raster, with so many rows of a symbol.
+    pub fn page_after(self, item: &EscItem, effect: Effect, symbol_rows: u32) -> PageSettings
+        requires fit { IsFit self }
+        requires item { (byte : ℕ) → item.now ≡ EscItem.RasterByte byte → ⊥ }
+        requires effect { effect ≡ effect_of self item.now }
+        ensures settings { (setup : Setup) (before : List EscItem) → self ≡ settings_of setup before →
+            symbol_rows ≡ image_rows (symbol_image setup before item.now) →
+            result ≡ page_of setup (item.now ∷ before) }
+        ensures fit { IsFitPage result }
+    {
+        let page = PageSettings {
+            used: self.used_after(effect, symbol_rows),
+            ..self.page
+        };
+        match item {
+            EscItem::Character(_)
+            | EscItem::LineFeed
+            | EscItem::FeedDots(_)
+            | EscItem::FeedLines(_)
+            | EscItem::Raster { .. } => page.at(vertical_after(
+                page.vertical,
+                self.rows_of(effect),
+            )),
+            EscItem::Symbol { .. } | EscItem::QrPrint => {
+                page.at(vertical_after(self.symbol_top(), symbol_rows))
+            }
+            EscItem::VerticalPosition(vertical) => page.at(*vertical),
+            EscItem::MoveVerticalPosition(by) => page.at(vertical_moved(*by, page.vertical)),
+            EscItem::Area {
+                x,
+                y,
+                width,
+                height,
+            } if is_area(self.paper, *x, *y, *width, *height) => page.within(area_cut(
+                self.paper, *x, *y, *width, *height,
+            )),
+            EscItem::Direction(s) => page.turned(s.value),
+            EscItem::Cancel => page.at(0),
+            EscItem::PageMode if self.begins_page() => PageSettings {
+                mode: Mode::Page,
+                vertical: 0,
+                used: 0,
+                ..page
+            },
+            EscItem::StandardMode | EscItem::FormFeed => PageSettings {
+                mode: Mode::Standard,
+                ..page
+            },
+            EscItem::Initialize => PageSettings::start(self.paper),
+            _ => page,
+        }
+    }
+}

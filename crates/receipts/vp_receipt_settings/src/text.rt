@@ -1,0 +1,206 @@
+//! How characters are drawn.
+ghost use Rattle.std.specs.Prelude.{◌≡◌, ◌+◌, ◌*◌, ◌≤◌, ◌<◌, if◌then◌else◌, List, ◌∷◌};
+ghost use Rattle.vp_esc.specs.declared.item.EscItem.{EscItem};
+ghost use Rattle.vp_receipt_settings.specs.Texts.{font_of, rows_of, is_magnification, text_of, style_of};
+ghost use Rattle.vp_receipt_settings.specs.History.{IsFitText};
+ghost use Rattle.vp_glyph.specs.Cells.{cell_width, cell_height};
+ghost use Rattle.vp_receipt_settings.specs.declared.text.TheConstants.{LINE_ROWS, WIDEST};
+
+use vp_esc::item::{EscItem, Font as EscFont, Magnification, PrintMode, Underline};
+use vp_glyph::{Cell, Font, Sheets, Style};
+
+/// The most rows of a line: eight times those of a character.
+pub const LINE_ROWS: usize = 192;
+
+/// The most dots that a character takes in a line.
+pub const WIDEST: u16 = 2136;
+
+/// How characters are drawn.
+#[derive(Clone, Copy)]
+pub struct Text {
+    pub font: Font,
+    pub emphasized: bool,
+    pub double_strike: bool,
+    /// Rows of the underline.
+    pub underline: u8,
+    pub inverse: bool,
+    pub wide: u8,
+    pub high: u8,
+    pub right_spacing: u8,
+}
+
+/// The font that a command names.
+pub fn font_named(font: EscFont) -> Font
+    ensures { result ≡ font_of font }
+{
+    match font {
+        EscFont::A => Font::A,
+        EscFont::B => Font::B,
+    }
+}
+
+/// How many rows an underline has.
+fn rows_named(underline: Underline) -> u8
+    ensures { result ≡ rows_of underline }
+{
+    match underline {
+        Underline::Off => 0,
+        Underline::OneRow => 1,
+        Underline::TwoRows => 2,
+    }
+}
+
+fn is_accepted(m: Magnification) -> bool
+    ensures { result ≡ is_magnification m }
+{
+    0 < m.width && m.width <= 8 && 0 < m.height && m.height <= 8
+}
+
+impl Text {
+    pub const START: Text = Text {
+        font: Font::A,
+        emphasized: false,
+        double_strike: false,
+        underline: 0,
+        inverse: false,
+        wide: 1,
+        high: 1,
+        right_spacing: 0,
+    };
+
+    /// The style of a cell.
+    pub fn style(self) -> Style
+        ensures { result ≡ style_of self }
+    {
+        Style {
+            wm: self.wide,
+            hm: self.high,
+            spacing: self.right_spacing,
+            bold: self.emphasized || self.double_strike,
+            underline: self.underline,
+            inverse: self.inverse,
+        }
+    }
+
+    /// The cell of a character.
+    pub fn cell(self, sheets: &Sheets, code: u8) -> Cell<'_>
+        ensures sheets { result.sheets.now ≡ sheets.now }
+        ensures character { result.character ≡ code }
+        ensures font { result.font ≡ self.font }
+        ensures style { result.style ≡ style_of self }
+    {
+        sheets.cell(code, self.font, self.style())
+    }
+
+    /// How wide a character is.
+    pub fn advance(self) -> u16
+        requires { IsFitText self }
+        ensures value { result ≡ cell_width self.font (style_of self) }
+        ensures small { result ≤ WIDEST }
+    {
+        let cell = match self.font {
+            Font::A => 12,
+            Font::B => 9,
+        };
+        (cell + self.right_spacing as u16) * self.wide as u16
+    }
+
+    /// How high it is.
+    pub fn height(self) -> u16
+        requires { IsFitText self }
+        ensures value { result ≡ cell_height self.font (style_of self) }
+        ensures small { result ≤ LINE_ROWS }
+    {
+        let cell = match self.font {
+            Font::A => 24,
+            Font::B => 17,
+        };
+        cell * self.high as u16
+    }
+
+    fn after_mode(self, mode: PrintMode) -> Text
+        ensures { result ≡ record self {
+          font = font_of mode.font;
+          emphasized = mode.emphasized;
+          underline = (if mode.underlined then 1 else 0);
+          wide = (if mode.double_width then 2 else 1);
+          high = (if mode.double_height then 2 else 1);
+        } }
+    {
+        Text {
+            font: font_named(mode.font),
+            emphasized: mode.emphasized,
+            underline: if mode.underlined { 1 } else { 0 },
+            wide: if mode.double_width { 2 } else { 1 },
+            high: if mode.double_height { 2 } else { 1 },
+            ..self
+        }
+    }
+
+    fn after_magnification(self, m: Magnification) -> Text
+        requires { IsFitText self }
+        ensures text { result ≡ record self {
+          wide = (if is_magnification m then m.width else self.wide);
+          high = (if is_magnification m then m.height else self.high);
+        } }
+        ensures fit { IsFitText result }
+    {
+        if is_accepted(m) {
+            Text {
+                wide: m.width,
+                high: m.height,
+                ..self
+            }
+        } else {
+            self
+        }
+    }
+
+    /// What is in force after an item.
+    pub fn after(self, item: &EscItem) -> Text
+        requires { IsFitText self }
+        ensures text { (before : List EscItem) → self ≡ text_of before →
+            result ≡ text_of (item.now ∷ before) }
+        ensures fit { IsFitText result }
+    {
+        match item {
+            EscItem::RightSpacing(n) => Text {
+                right_spacing: *n,
+                ..self
+            },
+            EscItem::PrintMode(mode) => self.after_mode(mode.value),
+            EscItem::Underline(rule) => match rule.value {
+                Some(rule) => Text {
+                    underline: rows_named(rule),
+                    ..self
+                },
+                None => self,
+            },
+            EscItem::Initialize => Text::START,
+            EscItem::Emphasized(s) => Text {
+                emphasized: s.value,
+                ..self
+            },
+            EscItem::DoubleStrike(s) => Text {
+                double_strike: s.value,
+                ..self
+            },
+            EscItem::Font(font) => match font.value {
+                Some(font) => Text {
+                    font: font_named(font),
+                    ..self
+                },
+                None => self,
+            },
+            EscItem::Magnify(m) => match m.value {
+                Some(m) => self.after_magnification(m),
+                None => self,
+            },
+            EscItem::Inverse(s) => Text {
+                inverse: s.value,
+                ..self
+            },
+            _ => self,
+        }
+    }
+}

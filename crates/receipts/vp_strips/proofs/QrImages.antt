@@ -1,0 +1,75 @@
+-- A QR symbol as it is drawn.
+use Rattle.std.proofs.Common.{◌≡◌, ℕ, ◌*◌, ◌/◌, ◌<◌, ◌≤◌, Bool, true, false, nat_lt, ◌&&◌, refl, ap, sym, ◌∙◌, arith, List, Option, Some, None, Result, Ok, Err, OnOk, IfOk, IfErr, length, take, inl, inr, cond}
+use Rattle.std.proofs.lemmas.Bool.{ltb-true, lt-ltb, le-ltb, cases_lt, true≢false}
+use Rattle.std.proofs.lemmas.List.{take_all}
+use Rattle.std.proofs.Math.Nat.{div-lt_iff_lt-mul}
+use Rattle.std.specs.Option.{option_or}
+use Rattle.vp_dots.specs.declared.fault.Fault.{Fault}
+use Rattle.vp_dots.specs.declared.fault.Fault.TheVariants.{SymbolTooWide, SymbolTooLong}
+use Rattle.vp_qr.specs.declared.segment.Mode.TheVariants.{Auto}
+use Rattle.vp_qr.specs.Places.{size}
+use Rattle.vp_qr.specs.Walk.{dark}
+use Rattle.vp_qr.specs.Encoding.{QrSymbol, Encodes, symbol_module}
+use Rattle.vp_qr.specs.Inks.{ScaledSymbol, side, ink_of}
+use Rattle.vp_esc.specs.declared.item.QrModel.{QrModel}
+use Rattle.vp_esc.specs.declared.item.QrModel.TheVariants.{Two}
+use Rattle.vp_receipt_settings.specs.declared.stored.Stored.{Stored}
+use Rattle.vp_receipt_settings.specs.declared.qr_style.QrStyle.{QrStyle}
+use Rattle.vp_receipt_settings.specs.Symbols.{level_of, qr_side, qr_dot, qr_image, IsQrImage, IsStored, too_wide, model_refusal, many_refusal, bytes_refusal, qr_refusal}
+
+and_under : (a b c d : Bool) → (a ≡ true → b ≡ true → c ≡ d) → (a && b && c) ≡ (a && b && d)
+and_under true true c d h = h refl refl
+and_under true false c d h = refl
+and_under false b c d h = refl
+
+module _ (style : QrStyle) (bytes : List ℕ) (qr : QrSymbol) (ink : ScaledSymbol) (e : Encodes (level_of style.level) Auto bytes qr)
+    (size_is : ink.size ≡ size qr.version) (scale_is : ink.scale ≡ style.module_dots) (rows_are : ink.rows ≡ qr.rows) (some : 0 < style.module_dots) where
+  pub side_is : side ink ≡ qr_side style bytes
+  side_is = ap (λ m. m * ink.size) scale_is ∙ ap (λ s. style.module_dots * s) (size_is ∙ ap size e.version_is)
+
+  dots_are : (x y : ℕ) → ink_of ink x y ≡ qr_dot style bytes x y
+  dots_are x y =
+      and_under (nat_lt x (side ink)) (nat_lt y (side ink)) (dark ink.rows (y / ink.scale) (x / ink.scale)) (symbol_module (level_of style.level) Auto bytes (y / style.module_dots) (x / style.module_dots))
+      (λ a b.
+      let inside : side ink ≡ style.module_dots * size qr.version = ap (λ m. m * ink.size) scale_is ∙ ap (λ s. style.module_dots * s) size_is in
+      let row : y / style.module_dots < size qr.version = (div-lt_iff_lt-mul some).1 (let l = ltb-true y (side ink) b in omega arith) in
+      let column : x / style.module_dots < size qr.version = (div-lt_iff_lt-mul some).1 (let l = ltb-true x (side ink) a in omega arith) in
+      ap (λ m. dark ink.rows (y / m) (x / m)) scale_is ∙ ap (λ (rows : List ℕ). dark rows (y / style.module_dots) (x / style.module_dots)) rows_are
+      ∙ e.modules_are (y / style.module_dots) (x / style.module_dots) row column)
+      ∙ ap (λ s. nat_lt x s && nat_lt y s && symbol_module (level_of style.level) Auto bytes (y / style.module_dots) (x / style.module_dots)) side_is
+
+  pub is_image : IsQrImage ink (qr_image style bytes)
+  is_image = record { width = side_is; height = side_is; dots = dots_are }
+
+-- wider than the line
+pub wide_refused : (wide length : ℕ) (f : Option Fault) → f ≡ None → length < wide → option_or f (too_wide wide length) ≡ Some SymbolTooWide
+wide_refused wide length f e h = ap (λ g. option_or g (too_wide wide length)) e ∙ rw (lt-ltb length wide h) refl
+
+pub room_left : (wide length : ℕ) (f : Option Fault) → f ≡ None → wide ≤ length → option_or f (too_wide wide length) ≡ None
+room_left wide length f e h = ap (λ g. option_or g (too_wide wide length)) e ∙ rw (le-ltb length wide h) refl
+
+-- bytes that are all kept
+all_kept : (bytes : List ℕ) → nat_lt 652 (length bytes) ≡ false → take 652 bytes ≡ bytes
+all_kept bytes h = take_all 652 bytes (elim (cases_lt 652 (length bytes)) [ inl l ↦ absurd (true≢false (sym (lt-ltb 652 (length bytes) l) ∙ h)) | inr g ↦ g ])
+
+pub kept_are : (stored : Stored) (bytes kept : List ℕ) → kept ≡ stored.bytes.items → stored.more ≡ false → IsStored stored bytes → kept ≡ bytes
+kept_are stored bytes kept e m h = e ∙ h.kept ∙ all_kept bytes (sym h.more ∙ m)
+
+pub refusal_is : (style : QrStyle) (stored : Stored) (bytes kept : List ℕ) (wide : ℕ) → kept ≡ stored.bytes.items → style.model ≡ Two → stored.more ≡ false → IsStored stored bytes → qr_refusal style bytes wide ≡ bytes_refusal style kept wide
+refusal_is style stored bytes kept wide e two m h =
+    ap (λ (k : QrModel). option_or (model_refusal k) (option_or (many_refusal bytes) (bytes_refusal style bytes wide))) two
+    ∙ ap (λ b. option_or (cond b (Some SymbolTooLong) None) (bytes_refusal style bytes wide)) (sym h.more ∙ m)
+    ∙ ap (λ (b : List ℕ). bytes_refusal style b wide) (sym (kept_are stored bytes kept e m h))
+
+-- from a clause of a result to another
+pub ok_then : (r : Result ScaledSymbol Fault) (P Q : Type 0) → (P → Q) → OnOk r P → OnOk r Q
+ok_then (Ok ink) P Q f h = f h
+ok_then (Err fault) P Q f h = h
+
+pub if_ok_then : (r : Result ScaledSymbol Fault) (P Q : ScaledSymbol → Type 0) → ((ink : ScaledSymbol) → P ink → Q ink) → IfOk r P → IfOk r Q
+if_ok_then (Ok ink) P Q f h = f ink h
+if_ok_then (Err fault) P Q f h = h
+
+pub if_err_then : (r : Result ScaledSymbol Fault) (P Q : Fault → Type 0) → ((fault : Fault) → P fault → Q fault) → IfErr r P → IfErr r Q
+if_err_then (Ok ink) P Q f h = h
+if_err_then (Err fault) P Q f h = f fault h

@@ -1,0 +1,77 @@
+-- What is left to put out from a place in a strip.
+use Rattle.std.specs.Prelude.{◌<◌, ℕ, ◌+◌, ◌-◌, nat_lt, Bool, ◌&&◌, false, List, [], ◌++◌, drop, slice_index_or}
+use Rattle.vp_page.specs.declared.page.TheConstants.{PAPER_DOTS, PAGE_ROWS}
+use Rattle.vp_receipt_settings.specs.declared.text.TheConstants.{LINE_ROWS}
+use Rattle.vp_dots.specs.Dots.{dot}
+use Rattle.vp_dots.specs.Headers.{header_of}
+use Rattle.vp_strips.specs.declared.canvas.Canvas.{Canvas}
+use Rattle.vp_strips.specs.declared.strip.Strip.{Strip}
+use Rattle.vp_strips.specs.declared.strip.Dots.{Dots}
+use Rattle.vp_strips.specs.declared.strip.Dots.TheVariants.{Line, White, Across, Raster, Drawn, Page}
+use Rattle.vp_strips.specs.declared.place.Place.{Place}
+use Rattle.vp_strips.specs.declared.place.Place.TheVariants.{Nothing, Head, Row}
+use Rattle.vp_strips.specs.SymbolInks.{symbol_dot}
+use Rattle.vp_receipt_settings.specs.Setup.{across}
+use Rattle.vp_strips.specs.Rows.{paper_row, rows_text, clipped, cut_dot}
+
+-- dot (x, y) of the lowest rows of a bitmap, moved to the right and clipped
+abbrev pub line_dot_of : ℕ → ℕ → ℕ → List (List ℕ) → ℕ → ℕ → Bool
+line_dot_of height left length bitmap x y =
+    nat_lt y height && clipped left length (dot (slice_index_or bitmap (LINE_ROWS - height + y) [])) x
+
+-- dot (x, y) of a page
+abbrev pub page_dot_of : List (List ℕ) → ℕ → ℕ → Bool
+page_dot_of page x y = nat_lt y PAGE_ROWS && clipped 0 PAPER_DOTS (dot (slice_index_or page y [])) x
+
+-- dot (x, y) of a strip
+abbrev pub dot_in : Dots → Canvas → ℕ → ℕ → Bool
+dot_in (Line height left length) canvas x y = line_dot_of height left length canvas.bitmap x y
+dot_in White canvas x y = false
+dot_in (Across cut) canvas x y = cut_dot cut x
+dot_in Raster canvas x y = dot canvas.raster_row x
+dot_in Page canvas x y = page_dot_of canvas.page x y
+dot_in (Drawn left length) canvas x y =
+    clipped left length (λ u. symbol_dot canvas.sheets canvas.symbol u y) x
+
+abbrev pub strip_dot : Strip → Canvas → ℕ → ℕ → Bool
+strip_dot s canvas x y = dot_in s.dots canvas x y
+
+-- the bytes of a row of the strip
+abbrev pub row_text : Strip → Canvas → ℕ → List ℕ
+row_text s canvas y = paper_row s.paper (λ x. strip_dot s canvas x y)
+
+-- the rows of the strip from row y on
+abbrev pub rows_from : Strip → Canvas → ℕ → List ℕ
+rows_from s canvas y = rows_text s.paper (strip_dot s canvas) y (s.rows - y)
+
+-- the header of the image that it begins
+abbrev pub head_text : Strip → List ℕ
+head_text s = header_of (across s.paper) s.tall
+
+-- the bytes of the place's line: of the header, or of a row
+abbrev pub line_at : Strip → Canvas → Place → List ℕ
+line_at s canvas Nothing = []
+line_at s canvas (Head byte) = head_text s
+line_at s canvas (Row y byte) = row_text s canvas y
+
+-- how many of them are put out
+abbrev pub byte_at : Place → ℕ
+byte_at Nothing = 0
+byte_at (Head byte) = byte
+byte_at (Row y byte) = byte
+
+-- the rows after the place's line
+abbrev pub rows_after : Strip → Canvas → Place → List ℕ
+rows_after s canvas Nothing = []
+rows_after s canvas (Head byte) = rows_from s canvas 0
+rows_after s canvas (Row y byte) = rows_from s canvas (y + 1)
+
+-- what is still to be put out
+abbrev pub text : Strip → Canvas → Place → List ℕ
+text s canvas place = drop (byte_at place) (line_at s canvas place) ++ rows_after s canvas place
+
+-- a row is one of so many
+abbrev pub IsPlace : ℕ → Place → Type 0
+IsPlace rows Nothing = Unit {0}
+IsPlace rows (Head byte) = Unit {0}
+IsPlace rows (Row y byte) = y < rows

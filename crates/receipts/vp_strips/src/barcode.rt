@@ -1,0 +1,133 @@
+//! The bar code of a command, in its box.
+ghost use Rattle.std.specs.Prelude.{◌≡◌, ◌≤◌, ◌<◌, OnOk, IfOk, IfErr, None, Some};
+ghost use Rattle.vp_bars.specs.Boxes.{box_width, box_height};
+ghost use Rattle.vp_strips.specs.SymbolInks.{box_of};
+ghost use Rattle.vp_receipt_settings.specs.Symbols.{IsFitBars, place_of, bars_of_kind, bars_of, bars_refusal, bars_image, box_image};
+
+use vp_bars::{BarBox, Bars, Place, code39, code128_esc, ean13};
+use vp_dots::{Fault, Ink, Why};
+use vp_esc::item::{BarKind, TextPlace};
+use vp_glyph::{Font, Sheets};
+use vp_receipt_settings::BarStyle;
+
+/// Bars that are put out, and how they are drawn.
+#[derive(Drop)]
+pub struct BarSymbol {
+    pub bars: Bars,
+    pub narrow: u16,
+    pub wide: u16,
+    pub height: u16,
+    pub font: Font,
+    pub place: Place,
+}
+
+impl BarSymbol {
+    /// Them in their box.
+    pub fn boxed<'a>(&'a self, sheets: &'a Sheets) -> BarBox<'a>
+        ensures { record {
+          bars = result.bars.now;
+          narrow = result.narrow;
+          wide = result.wide;
+          height = result.height;
+          sheets = result.sheets.now;
+          font = result.font;
+          place = result.place;
+        } ≡
+            box_of sheets.now self.now }
+    {
+        self.bars.boxed(
+            self.narrow,
+            self.wide,
+            self.height,
+            sheets,
+            self.font,
+            self.place,
+        )
+    }
+
+    /// How wide and high the box is.
+    pub fn size(&self, sheets: &Sheets) -> (u32, u32)
+        ensures width { result.0 ≡ box_width (box_of sheets.now self.now) }
+        ensures height { result.1 ≡ box_height (box_of sheets.now self.now) }
+    {
+        self.boxed(sheets).size()
+    }
+}
+
+/// Where a command puts the text.
+fn place_named(place: TextPlace) -> Place
+    ensures { result ≡ place_of place }
+{
+    match place {
+        TextPlace::None => Place::None,
+        TextPlace::Above => Place::Above,
+        TextPlace::Below => Place::Below,
+        TextPlace::Both => Place::Both,
+    }
+}
+
+/// The bars of data of a kind.
+fn bars_of_kind(kind: BarKind, bytes: &[u8]) -> Result<Bars, Fault>
+    ensures { result ≡ bars_of_kind kind bytes.now }
+{
+    match kind {
+        BarKind::Ean13 => ean13(bytes, false),
+        BarKind::Code39 => code39(bytes, false),
+        BarKind::Code128 => code128_esc(bytes),
+    }
+}
+
+/// The bars of a command, or why it has none.
+fn bars_of(kind: Option<BarKind>, bytes: &[u8], more: bool) -> Result<Bars, Fault>
+    ensures { result ≡ bars_of kind bytes.now more }
+{
+    let Some(kind) = kind else {
+        return Err(Fault::Symbol(Why::Unsupported));
+    };
+    if more {
+        return Err(Fault::SymbolTooLong);
+    }
+    bars_of_kind(kind, bytes)
+}
+
+/// The bars of a command as they are drawn, if the line has room for them.
+///
+/// Refused are, in this order: a kind that isn't drawn (`Symbol(Unsupported)`), no bytes (`Symbol(Empty)`),
+/// more than are kept (`SymbolTooLong`), what the symbol's standard refuses, and a box wider than the line
+/// (`SymbolTooWide`).
+pub fn bar_symbol(
+    style: BarStyle,
+    kind: Option<BarKind>,
+    bytes: &[u8],
+    more: bool,
+    length: u16,
+    sheets: &Sheets,
+) -> Result<BarSymbol, Fault>
+    requires { IsFitBars style }
+    ensures accepted { OnOk result (bars_refusal sheets.now style length (bars_of kind bytes.now more) ≡
+        None) }
+    ensures refused { IfErr result
+        (λ fault. bars_refusal sheets.now style length (bars_of kind bytes.now more) ≡ Some fault) }
+    ensures image { IfOk result (λ b. bars_image sheets.now style (bars_of kind bytes.now more) ≡
+        Some (box_image (box_of sheets.now b))) }
+    ensures some { IfOk result (λ b. 0 < box_height (box_of sheets.now b)) }
+    ensures fits { IfOk result (λ b. box_width (box_of sheets.now b) ≤ length) }
+{
+    let bars = match bars_of(kind, bytes, more) {
+        Ok(bars) => bars,
+        Err(fault) => return Err(fault),
+    };
+    let symbol = BarSymbol {
+        bars,
+        narrow: u16::from(style.module_dots),
+        wide: (5 * u16::from(style.module_dots) + 1) / 2,
+        height: u16::from(style.height),
+        font: style.font,
+        place: place_named(style.place),
+    };
+    let (wide, _) = symbol.size(sheets);
+    if wide > u32::from(length) {
+        return Err(Fault::SymbolTooWide);
+    }
+    Ok(symbol)
+}

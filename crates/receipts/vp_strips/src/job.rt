@@ -1,0 +1,229 @@
+//! What is put out: a strip from a place on, and the strips that come after it.
+ghost use Rattle.std.specs.Prelude.{◌≡◌, ℕ, ◌+◌, ◌-◌, ◌<◌, ◌≤◌, ◌++◌, [], true, min, take, drop, length, IsTrue, ◌↔◌, None, ◌==◌, if◌then◌else◌};
+ghost use Rattle.vp_strips.specs.declared.canvas.Canvas.{Canvas};
+ghost use Rattle.vp_strips.specs.declared.lines.Lines.{Lines};
+ghost use Rattle.vp_strips.specs.declared.strip.Strip.{Strip};
+ghost use Rattle.vp_strips.specs.Rows.{rows_text};
+ghost use Rattle.vp_strips.specs.Jobs.{strip_dot};
+ghost use Rattle.vp_strips.specs.Held.{text_of, part_of, SomeLeft, whole, whole_if, after_text, IsJob, IsTurned, IsLowIf, IsOwn, AreOwn, IsShowing, showing_of, IsHigh};
+ghost use Rattle.std.specs.Option.{option_map};
+
+use crate::canvas::Canvas;
+use crate::lines::Lines;
+use crate::place::Place;
+use crate::strip::{Dots, Strip};
+use vp_receipt_settings::Width;
+
+/// The strips that come after one.
+#[derive(Clone, Copy)]
+pub enum After {
+    End,
+    One(Strip),
+    Two(Strip, Strip),
+}
+
+/// A strip that is being put out, from a place on, and what comes then.
+#[derive(Clone, Copy)]
+pub struct Job {
+    pub strip: Strip,
+    pub place: Place,
+    pub after: After,
+}
+
+/// Copies what there is room for of the line from a byte on, and answers how much.
+fn copy_from(line: &[u8], byte: usize, out: &mut [u8]) -> usize
+    requires { byte ≤ length line.now }
+    ensures count { result ≡ min (length line.now - byte) (length out.old) }
+    ensures bytes { out.new ≡ take result (drop byte line.now) ++ drop result out.old }
+{
+    let rest = &line[byte..];
+    let n = rest.len().min(out.len());
+    out[..n].copy_from_slice(&rest[..n]);
+    n
+}
+
+impl Job {
+    /// One that puts out nothing.
+    pub fn none() -> Job
+        ensures job { (canvas : Canvas) (lines : Lines) → IsJob result canvas lines }
+        ensures turned { IsTurned result.place result.after }
+        ensures text { (canvas : Canvas) → text_of result canvas ≡ [] }
+        ensures shows { (canvas : Canvas) (high others : ℕ) → IsShowing result canvas high others }
+    {
+        Job {
+            strip: Strip::white(Width::W576, 0),
+            place: Place::Nothing,
+            after: After::End,
+        }
+    }
+
+    /// The strips, one after the other.
+    pub fn of(first: Option<Strip>, after: After) -> Job
+        requires first { IsLowIf first }
+        requires after { AreOwn after }
+        ensures job { (canvas : Canvas) (lines : Lines) → IsJob result canvas lines }
+        ensures turned { IsTurned result.place result.after }
+        ensures text { (canvas : Canvas) →
+            text_of result canvas ≡ whole_if first canvas ++ after_text after canvas }
+        ensures shows { (canvas : Canvas) (high : ℕ) → IsHigh first high →
+            IsShowing result canvas high (length (after_text after canvas)) }
+    {
+        let Some(strip) = first else {
+            let mut job = Job {
+                strip: Strip::white(Width::W576, 0),
+                place: Place::Nothing,
+                after,
+            };
+            job.turn();
+            return job;
+        };
+        Job {
+            strip,
+            place: Place::Head(0),
+            after,
+        }
+    }
+
+    /// One strip that shows no line, if it has rows.
+    pub fn alone(strip: Strip) -> Job
+        requires own { IsOwn strip }
+        ensures job { (canvas : Canvas) (lines : Lines) → IsJob result canvas lines }
+        ensures turned { IsTurned result.place result.after }
+        ensures text { (canvas : Canvas) →
+            text_of result canvas ≡ (if strip.rows == 0 then [] else whole strip canvas) }
+        ensures shows { (canvas : Canvas) (high : ℕ) →
+            IsShowing result canvas high (length (text_of result canvas)) }
+    {
+        if strip.rows == 0 {
+            return Job::none();
+        }
+        Job::of(None, After::One(strip))
+    }
+
+    /// The rows of a strip without a header.
+    pub fn of_rows(strip: Strip) -> Job
+        requires own { IsOwn strip }
+        requires some { 0 < strip.rows }
+        ensures job { (canvas : Canvas) (lines : Lines) → IsJob result canvas lines }
+        ensures turned { IsTurned result.place result.after }
+        ensures text { (canvas : Canvas) →
+            text_of result canvas ≡ rows_text strip.paper (strip_dot strip canvas) 0 strip.rows }
+        ensures shows { (canvas : Canvas) (high : ℕ) →
+            IsShowing result canvas high (length (text_of result canvas)) }
+    {
+        Job {
+            strip,
+            place: Place::Row(0, 0),
+            after: After::End,
+        }
+    }
+
+    /// Puts out bytes of one line.
+    fn put_part(&mut self, canvas: &Canvas, lines: &mut Lines, out: &mut [u8]) -> usize
+        requires job { IsJob self.old canvas.now lines.old }
+        requires pending { 0 < length (part_of self.old canvas.now) }
+        requires room { 0 < length out.old }
+        ensures strip { self.new.strip ≡ self.old.strip }
+        ensures after { self.new.after ≡ self.old.after }
+        ensures job { IsJob self.new canvas.now lines.new }
+        ensures some { 0 < result }
+        ensures fits { result ≤ length out.old }
+        ensures within { result ≤ length (part_of self.old canvas.now) }
+        ensures bytes { out.new ≡ take result (part_of self.old canvas.now) ++ drop result out.old }
+        ensures rest { part_of self.new canvas.now ≡ drop result (part_of self.old canvas.now) }
+    {
+        lines.make(self.strip, self.place, canvas);
+        let line = lines.at(self.place, self.strip.paper);
+        let n = copy_from(line, self.place.byte(), out);
+        self.place = self.place.advanced(n, line.len(), self.strip.rows);
+        n
+    }
+
+    /// Begins the next strip where one ended.
+    fn turn(&mut self)
+        ensures text { (canvas : Canvas) → text_of self.new canvas ≡ text_of self.old canvas }
+        ensures job { (canvas : Canvas) (lines : Lines) → IsJob self.old canvas lines →
+            IsJob self.new canvas lines }
+        ensures turned { IsTurned self.new.place self.new.after }
+        ensures shows { (canvas : Canvas) (high others : ℕ) → AreOwn self.old.after →
+            IsShowing self.old canvas high others → IsShowing self.new canvas high others }
+    {
+        if let Place::Nothing = self.place {
+            let (strip, after) = match self.after {
+                After::End => return,
+                After::One(strip) => (strip, After::End),
+                After::Two(strip, last) => (strip, After::One(last)),
+            };
+            self.strip = strip;
+            self.place = Place::Head(0);
+            self.after = after;
+        }
+    }
+
+    /// Puts out bytes of one line, and begins the next strip where one ends.
+    // Where nothing is pending, its room isn't paid for.
+    #[inline(never)]
+    fn put_some(&mut self, canvas: &Canvas, lines: &mut Lines, out: &mut [u8]) -> usize
+        requires job { IsJob self.old canvas.now lines.old }
+        requires turned { IsTurned self.old.place self.old.after }
+        requires pending { 0 < length (text_of self.old canvas.now) }
+        requires room { 0 < length out.old }
+        ensures job { IsJob self.new canvas.now lines.new }
+        ensures turned { IsTurned self.new.place self.new.after }
+        ensures some { 0 < result }
+        ensures fits { result ≤ length out.old }
+        ensures within { result ≤ length (text_of self.old canvas.now) }
+        ensures bytes { out.new ≡ take result (text_of self.old canvas.now) ++ drop result out.old }
+        ensures rest { text_of self.new canvas.now ≡ drop result (text_of self.old canvas.now) }
+        ensures shows { (high others : ℕ) → IsShowing self.old canvas.now high others →
+            IsShowing self.new canvas.now high others }
+    {
+        let n = self.put_part(canvas, lines, out);
+        self.turn();
+        n
+    }
+
+    /// The height of the line of whose strip bytes are left.
+    pub fn line_rows(&self) -> Option<u16>
+        ensures { (canvas : Canvas) →
+            result ≡ option_map (λ shown. shown.height) (showing_of self.now canvas) }
+    {
+        match (self.place, self.strip.dots) {
+            (Place::Nothing, _) => None,
+            (_, Dots::Line { height, .. }) => Some(height),
+            _ => None,
+        }
+    }
+
+    /// Whether bytes are left.
+    pub fn is_pending(&self) -> bool
+        ensures { (canvas : Canvas) → SomeLeft self.now.strip self.now.place →
+            IsTurned self.now.place self.now.after →
+            IsTrue result ↔ (0 < length (text_of self.now canvas)) }
+    {
+        match self.place {
+            Place::Nothing => false,
+            Place::Head(_) => true,
+            Place::Row(_, _) => true,
+        }
+    }
+
+    /// Puts out the next bytes, as many as there are and room is for, and answers how many.
+    pub fn put(&mut self, canvas: &Canvas, lines: &mut Lines, out: &mut [u8]) -> usize
+        requires job { IsJob self.old canvas.now lines.old }
+        requires turned { IsTurned self.old.place self.old.after }
+        ensures job { IsJob self.new canvas.now lines.new }
+        ensures turned { IsTurned self.new.place self.new.after }
+        ensures count { result ≡ min (length (text_of self.old canvas.now)) (length out.old) }
+        ensures bytes { out.new ≡ take result (text_of self.old canvas.now) ++ drop result out.old }
+        ensures rest { text_of self.new canvas.now ≡ drop result (text_of self.old canvas.now) }
+        ensures shows { (high others : ℕ) → IsShowing self.old canvas.now high others →
+            IsShowing self.new canvas.now high others }
+    {
+        let mut n = 0;
+        while n < out.len() && self.is_pending() {
+            n += self.put_some(canvas, lines, &mut out[n..]);
+        }
+        n
+    }
+}

@@ -1,0 +1,59 @@
+//! The bytes of the line that is being put out, a header or a row, made when the first of them is wanted.
+ghost use Rattle.std.specs.Prelude.{◌≡◌};
+ghost use Rattle.vp_strips.specs.declared.canvas.Canvas.{Canvas};
+ghost use Rattle.vp_strips.specs.declared.strip.Strip.{Strip};
+ghost use Rattle.vp_strips.specs.Jobs.{line_at};
+ghost use Rattle.vp_strips.specs.Held.{HasLine, IsBegun, IsLow};
+
+use crate::canvas::Canvas;
+use crate::place::Place;
+use crate::strip::Strip;
+use arrayvec::ArrayVec;
+use vp_dots::header;
+use vp_page::PAPER_BYTES;
+use vp_receipt_settings::Width;
+
+/// The bytes of a header, and those of a row.
+#[derive(Drop)]
+pub struct Lines {
+    pub head: ArrayVec<u8, 32>,
+    pub row: [u8; PAPER_BYTES],
+}
+
+impl Lines {
+    /// None yet.
+    pub fn none() -> Lines {
+        Lines {
+            head: ArrayVec::new(),
+            row: [0; PAPER_BYTES],
+        }
+    }
+
+    /// Makes the bytes of the place's line where the first of them comes next, unless they are those of the
+    /// row above it.
+    pub fn make(&mut self, strip: Strip, place: Place, canvas: &Canvas)
+        requires low { IsLow strip }
+        requires begun { IsBegun strip canvas.now self.old place }
+        ensures { HasLine strip canvas.now self.new place }
+    {
+        match place {
+            Place::Head(0) => self.head = header(u32::from(strip.paper.across()), strip.tall),
+            Place::Row(y, 0) if y == 0 || !strip.repeats(y, canvas) => {
+                strip.write_row(y, canvas, &mut self.row)
+            }
+            _ => {}
+        }
+    }
+
+    /// The bytes of the place's line.
+    pub fn at(&self, place: Place, paper: Width) -> &[u8]
+        ensures { (s : Strip) (canvas : Canvas) → s.paper ≡ paper → HasLine s canvas self.now place →
+            result.now ≡ line_at s canvas place }
+    {
+        match place {
+            Place::Nothing => &[],
+            Place::Head(_) => self.head.as_slice(),
+            Place::Row(_, _) => &self.row[..paper.row_bytes()],
+        }
+    }
+}
