@@ -38,10 +38,9 @@ number_of a b c d = 1000 * (a - 0x30) + 100 * (b - 0x30) + 10 * (c - 0x30) + (d 
 -- B: four digits say how many bytes come, and as many come
 abbrev pub counted : Level → List ℕ → Result QrFront Fault
 counted level (a ∷ b ∷ c ∷ d ∷ bytes) =
-    if are_digits a b c d then if number_of a b c d == length bytes then front level Bytes 8
+    if are_digits a b c d && number_of a b c d == length bytes then front level Bytes 8
     else Err (Symbol Length)
-    else no_front
-counted level _ = no_front
+counted level _ = Err (Symbol Length)
 
 -- M and a comma: a letter says how the bytes are read; K, Kanji, isn't drawn
 abbrev pub manual : Level → List ℕ → Result QrFront Fault

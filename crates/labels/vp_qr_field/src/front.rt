@@ -19,6 +19,9 @@ pub struct QrFront {
 /// Any other front.
 const NO_FRONT: Fault = Fault::Symbol(Why::CodeSet);
 
+/// Behind B not four digits and as many bytes as they say.
+const WRONG_COUNT: Fault = Fault::Symbol(Why::Length);
+
 /// The level of a letter.
 fn level_of(letter: u8) -> Option<Level>
     ensures { result ≡ level_of letter }
@@ -45,14 +48,14 @@ fn counted(level: Level, rest: &[u8]) -> Result<QrFront, Fault>
     ensures within { IfOk result (λ front. front.length ≤ length rest.now + 4) }
 {
     let [a, b, c, d, bytes @ ..] = rest else {
-        return Err(NO_FRONT);
+        return Err(WRONG_COUNT);
     };
     if !(is_digit(*a) && is_digit(*b) && is_digit(*c) && is_digit(*d)) {
-        return Err(NO_FRONT);
+        return Err(WRONG_COUNT);
     }
     let hundreds = 10 * usize::from(*a - b'0') + usize::from(*b - b'0');
     if 100 * hundreds + 10 * usize::from(*c - b'0') + usize::from(*d - b'0') != bytes.len() {
-        return Err(Fault::Symbol(Why::Length));
+        return Err(WRONG_COUNT);
     }
     Ok(QrFront {
         level,
@@ -113,8 +116,9 @@ fn front_in(data: &[u8]) -> Result<QrFront, Fault>
 
 /// What the data of a QR field of a model (^BQ, 1 or 2) say before the bytes of the symbol: a letter for
 /// the level, and `A,` or `M,` with `N`, `A`, or `B` and four digits that say how many bytes come. Model 1
-/// is refused as not supported whatever the data, then no data as empty, other bytes in number than said by
-/// their length, Kanji (`M,K`) as not supported, and any other front by its code set.
+/// is refused as not supported whatever the data, then no data as empty; behind `M,B` all else than four
+/// digits and as many bytes by their length, Kanji (`M,K`) as not supported, and any other front by its code
+/// set.
 pub fn qr_front(model: u16, data: &[u8]) -> Result<QrFront, Fault>
     ensures value { result ≡ front_of model data.now }
     ensures within { IfOk result (λ front. front.length ≤ length data.now) }

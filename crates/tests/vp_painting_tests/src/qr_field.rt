@@ -17,7 +17,7 @@ fn front_of(model: u16, data: &[u8]) -> Front {
 type Row = (&'static [u8], Front);
 
 /// Data of a field of model 2, and their front.
-static FRONTS: [Row; 17] = [
+static FRONTS: [Row; 19] = [
     (b"HA,abc", Ok((Level::H, Mode::Auto, 3))),
     (b"LA,", Ok((Level::L, Mode::Auto, 3))),
     (b"QM,N12", Ok((Level::Q, Mode::Digits, 4))),
@@ -26,7 +26,9 @@ static FRONTS: [Row; 17] = [
     (b"HM,B0000", Ok((Level::H, Mode::Bytes, 8))),
     (b"HM,B0003ab", Err(Fault::Symbol(Why::Length))),
     (b"HM,B0003abcd", Err(Fault::Symbol(Why::Length))),
-    (b"HM,B12", Err(Fault::Symbol(Why::CodeSet))),
+    (b"HM,B12", Err(Fault::Symbol(Why::Length))),
+    (b"HM,B", Err(Fault::Symbol(Why::Length))),
+    (b"MM,B3abc", Err(Fault::Symbol(Why::Length))),
     (b"HM,K", Err(Fault::Symbol(Why::Unsupported))),
     (b"HM,", Err(Fault::Symbol(Why::CodeSet))),
     (b"HM,n1", Err(Fault::Symbol(Why::CodeSet))),
