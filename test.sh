@@ -11,6 +11,7 @@ timed() {
     "$@"
     echo "$*: $(($(date +%s) - started)) s"
 }
+timed ./test-evidence.py
 tools/minutes.py out/gate.log tools/gate.py || {
     # behind the table of minutes, once more what failed
     sed -n 's/^ *[0-9.]* | \(rt: FAILED.*\)/\1/p' out/gate.log

@@ -60,9 +60,3 @@ packed_byte B n (a ∷ []) h e = refl
 packed_byte B n (a ∷ b ∷ []) h e = refl
 packed_byte B n (a ∷ b ∷ c ∷ []) h e = refl
 packed_byte B n (a ∷ b ∷ c ∷ d ∷ bytes) h e = rw e refl
-
--- four digits are two and two
-pub run_pairs : (bytes : List ℕ) → begins_run bytes ≡ true → (begins_pair bytes ≡ true) × (begins_pair (drop 2 bytes) ≡ true)
-run_pairs [] e = cc
-run_pairs (a ∷ []) e = cc
-run_pairs (a ∷ b ∷ bytes) e = let p = and_parts _ _ e in (p.0, p.1)

@@ -173,13 +173,6 @@ impl Threads {
         self.looks = 0;
     }
 
-    /// How many entries are held.
-    pub fn len(&self) -> usize
-        ensures { result ≡ length self.now.entries }
-    {
-        self.len
-    }
-
     /// Reads an entry, which is counted.
     pub fn entry(&mut self, n: usize) -> Entry
         requires within { n < length self.old.entries }

@@ -8,26 +8,24 @@ use Rattle.vp_zpl.specs.Items.Item.{Given, Data}
 use Rattle.vp_label_settings.specs.Formats.{is_open, stored}
 use Rattle.vp_label_settings.specs.Settings.{quantity}
 use Rattle.vp_label_settings.specs.Parts.{parts_of}
-use Rattle.vp_label_settings.specs.Closing.{fields}
 
 pub record IsIdle (before : List Item) : Type 0 where
   pub parts : parts_of before ≡ parts_of []
   pub stored : stored before ≡ []
-  pub fields : fields before ≡ []
   pub quantity : quantity before ≡ 1
 
 ended : (opened : Bool) (name : Name) (sent : List Kept) (before : List Item) → is_open before ≡ opened →
     (is_open before ≡ false → IsIdle before) → IsIdle (Given FormatEnd name sent ∷ before)
 ended true name sent before so idle_before =
-    record { parts = rw so refl; stored = rw so refl; fields = rw so refl; quantity = rw so refl }
+    record { parts = rw so refl; stored = rw so refl; quantity = rw so refl }
 ended false name sent before so idle_before = let h : IsIdle before = idle_before so in
-    record { parts = rw so h.parts; stored = rw so h.stored; fields = rw so h.fields; quantity = rw so h.quantity }
+    record { parts = rw so h.parts; stored = rw so h.stored; quantity = rw so h.quantity }
 
 pub idle : (before : List Item) → is_open before ≡ false → IsIdle before
-idle [] shut = record { parts = refl; stored = refl; fields = refl; quantity = refl }
+idle [] shut = record { parts = refl; stored = refl; quantity = refl }
 idle (Data b ∷ before) shut = let h : IsIdle before = idle before shut in
-    record { parts = h.parts; stored = rw shut h.stored; fields = h.fields; quantity = h.quantity }
+    record { parts = h.parts; stored = rw shut h.stored; quantity = h.quantity }
 idle (Given FormatStart name sent ∷ before) shut = cc
 idle (Given FormatEnd name sent ∷ before) shut = ended (is_open before) name sent before refl (λ so. idle before so)
 idle (Given _ name sent ∷ before) shut = let h : IsIdle before = idle before shut in
-    record { parts = rw shut h.parts; stored = rw shut h.stored; fields = rw shut h.fields; quantity = rw shut h.quantity }
+    record { parts = rw shut h.parts; stored = rw shut h.stored; quantity = rw shut h.quantity }

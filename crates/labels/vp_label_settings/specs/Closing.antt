@@ -1,13 +1,11 @@
 -- Closing a field: what its parts leave out is taken as the settings stand when it is closed.
-use Rattle.std.specs.Prelude.{ℕ, ◌+◌, ◌-◌, ◌*◌, ◌/◌, ◌||◌, Option, Some, None, unwrap_or, option_map, List, [], ◌∷◌, ◌++◌, length, max, if◌then◌else◌}
+use Rattle.std.specs.Prelude.{ℕ, ◌+◌, ◌-◌, ◌*◌, ◌/◌, ◌||◌, Option, Some, None, unwrap_or, option_map, List, length, max, if◌then◌else◌}
 use Rattle.vp_dots.specs.declared.Op.{Op}
 use Rattle.vp_dots.specs.declared.Op.TheVariants as paints
 use Rattle.vp_zpl.specs.declared.item.Orientation.{Orientation}
 use Rattle.vp_zpl.specs.declared.item.Orientation.TheVariants.{Normal}
 use Rattle.vp_zpl.specs.declared.item.Colour.{Colour}
 use Rattle.vp_zpl.specs.declared.item.Colour.TheVariants.{Black, White}
-use Rattle.vp_zpl.specs.declared.item.Command.{Command}
-use Rattle.vp_zpl.specs.declared.item.Command.TheVariants.{FormatEnd, FieldSeparator}
 use Rattle.vp_zpl.specs.Items.{Item}
 use Rattle.vp_label_settings.specs.declared.size.CharacterSize.{CharacterSize}
 use Rattle.vp_label_settings.specs.declared.settings.Home.{Home}
@@ -29,7 +27,7 @@ use Rattle.vp_label_settings.specs.declared.field.Content.{Content}
 use Rattle.vp_label_settings.specs.declared.field.Content.TheVariants.{Text, Bars, Qr, Frame, Picture}
 use Rattle.vp_label_settings.specs.declared.field.Field.{Field}
 use Rattle.vp_label_settings.specs.Ranges.{ranged, size_given}
-use Rattle.vp_label_settings.specs.Formats.{is_open, acting, stored}
+use Rattle.vp_label_settings.specs.Formats.{stored}
 use Rattle.vp_label_settings.specs.Settings.{settings_of}
 use Rattle.vp_label_settings.specs.Parts.{parts_of}
 
@@ -103,17 +101,3 @@ closed s p end = option_map (field_of s p end) p.content
 -- by looking back: the field that ^FS or ^XZ closes
 abbrev pub closing : List Item → Option Field
 closing before = closed (settings_of before) (parts_of before) (length (stored before))
-
-abbrev pub with_field : List Field → Option Field → List Field
-with_field fields None = fields
-with_field fields (Some field) = fields ++ field ∷ []
-
--- the closed fields of the open format, in the order of closing
-abbrev pub fields_by : Option Field → Command → List Field → List Field
-fields_by field FieldSeparator fields = with_field fields field
-fields_by field FormatEnd fields = []
-fields_by field _ fields = fields
-
-abbrev pub fields : List Item → List Field
-fields [] = []
-fields (item ∷ before) = acting (fields_by (closing before)) (is_open before) item (fields before)

@@ -4,7 +4,7 @@ ghost use Rattle.vp_zpl.specs.Items.{Item};
 ghost use Rattle.vp_label_settings.specs.Formats.{is_open, stored};
 ghost use Rattle.vp_label_settings.specs.Settings.{settings_of, quantity};
 ghost use Rattle.vp_label_settings.specs.Parts.{parts_of};
-ghost use Rattle.vp_label_settings.specs.Closing.{closing, fields};
+ghost use Rattle.vp_label_settings.specs.Closing.{closing};
 ghost use Rattle.vp_label_settings.specs.Laws.{AreInRange, IsDrawable, IsPlace, HasBytesAmong};
 
 /// The settings are in their ranges, and what is closed can be drawn.
@@ -24,6 +24,5 @@ pub fn among_the_stored()
 pub fn between_formats()
     ensures parts { (before : List Item) → is_open before ≡ false → parts_of before ≡ parts_of [] }
     ensures stored { (before : List Item) → is_open before ≡ false → stored before ≡ [] }
-    ensures fields { (before : List Item) → is_open before ≡ false → fields before ≡ [] }
     ensures quantity { (before : List Item) → is_open before ≡ false → quantity before ≡ 1 }
 {}

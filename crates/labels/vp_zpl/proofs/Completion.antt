@@ -2,6 +2,7 @@
 use Rattle.std.proofs.Common.{◌≡◌, ℕ, ◌+◌, ◌-◌, ◌<◌, ◌≤◌, Bool, true, false, ◌&&◌, zero, suc, List, [], ◌∷◌, ◌++◌, length, refl, sym, ap, ◌∙◌, append_assoc, arith, nat_lt}
 use Rattle.std.proofs.lemmas.Bool.Decides.{nat_tests}
 use Rattle.std.proofs.lemmas.List.{length_push}
+use Rattle.std.specs.List.{AllByRecursion}
 use Rattle.vp_zpl.specs.declared.name.Kind.{Kind}
 use Rattle.vp_zpl.specs.declared.name.Kind.TheVariants as kinds
 use Rattle.vp_zpl.specs.Spelling.{behind}
@@ -62,6 +63,7 @@ none_left (s ∷ a ∷ b ∷ args) w h =
 
 pub record Filled (bytes : List ℕ) : Type 0 where
   pub end : List ℕ
+  pub small : AllByRecursion (λ b. b < 256) end
   pub done : wants_binary (cut (bytes ++ end)).open_one ≡ false
 
 nothing_after : (xs : List ℕ) → xs ++ [] ≡ xs
@@ -69,13 +71,13 @@ nothing_after [] = refl
 nothing_after (x ∷ xs) = ap (λ y. x ∷ y) (nothing_after xs)
 
 fill : (n : ℕ) (z : Bool) (bytes : List ℕ) → wants_binary (cut bytes).open_one ≡ z → short_by (cut bytes).open_one ≤ n → Filled bytes
-fill n false bytes w h = record { end = []; done = ap (λ b. wants_binary (cut b).open_one) (nothing_after bytes) ∙ w }
-fill zero true bytes w h = record { end = []; done = ap (λ b. wants_binary (cut b).open_one) (nothing_after bytes) ∙ w ∙ none_left (cut bytes).open_one w h }
+fill n false bytes w h = record { end = []; small = tt; done = ap (λ b. wants_binary (cut b).open_one) (nothing_after bytes) ∙ w }
+fill zero true bytes w h = record { end = []; small = tt; done = ap (λ b. wants_binary (cut b).open_one) (nothing_after bytes) ∙ w ∙ none_left (cut bytes).open_one w h }
 fill (suc n) true bytes w h =
     let one : cut (bytes ++ 0 ∷ []) ≡ record (cut bytes) { open_one = longer (cut bytes).open_one 0 } = cut-push bytes 0 ∙ with-byte (cut bytes) 0 true false false w refl refl in
     let few : short_by (cut (bytes ++ 0 ∷ [])).open_one ≤ n = rw one (less (cut bytes).open_one 0 n w h) in
     let rest = fill n (wants_binary (cut (bytes ++ 0 ∷ [])).open_one) (bytes ++ 0 ∷ []) refl few in
-    record { end = 0 ∷ rest.end; done = ap (λ b. wants_binary (cut b).open_one) (sym (append_assoc bytes (0 ∷ []) rest.end)) ∙ rest.done }
+    record { end = 0 ∷ rest.end; small = (omega arith, rest.small); done = ap (λ b. wants_binary (cut b).open_one) (sym (append_assoc bytes (0 ∷ []) rest.end)) ∙ rest.done }
 
 -- ^XZ
 ends_format : (before : List (List ℕ)) → rests (record { before = before; open_one = 0x5E ∷ 0x58 ∷ 0x5A ∷ [] }) ≡ true
@@ -103,11 +105,16 @@ closed bytes w =
     at_rest_is (((bytes ++ 0x5E ∷ []) ++ 0x58 ∷ []) ++ 0x5A ∷ [])
     ∙ ap rests (cut-push ((bytes ++ 0x5E ∷ []) ++ 0x58 ∷ []) 0x5A ∙ ap (λ s. with_byte s 0x5A) two ∙ third before) ∙ ends_format before
 
-pub completed : (bytes : List ℕ) → (end : List ℕ) × (at_rest (bytes ++ end) ≡ true)
+ends_small : (xs : List ℕ) → AllByRecursion (λ b. b < 256) xs → AllByRecursion (λ b. b < 256) (xs ++ 0x5E ∷ 0x58 ∷ 0x5A ∷ [])
+ends_small [] h = (omega arith, (omega arith, (omega arith, tt)))
+ends_small (x ∷ xs) h = (h.0, ends_small xs h.1)
+
+pub completed : (bytes : List ℕ) → (end : List ℕ) × AllByRecursion (λ b. b < 256) end × (at_rest (bytes ++ end) ≡ true)
 completed bytes =
     let f = fill (short_by (cut bytes).open_one) (wants_binary (cut bytes).open_one) bytes refl (omega arith) in (
       f.end ++ 0x5E ∷ 0x58 ∷ 0x5A ∷ [],
+      (ends_small f.end f.small,
       ap at_rest (sym (append_assoc bytes f.end (0x5E ∷ 0x58 ∷ 0x5A ∷ [])) ∙ sym (append_assoc (bytes ++ f.end) (0x5E ∷ []) (0x58 ∷ 0x5A ∷ []))
           ∙ sym (append_assoc ((bytes ++ f.end) ++ 0x5E ∷ []) (0x58 ∷ []) (0x5A ∷ [])))
-          ∙ closed (bytes ++ f.end) f.done,
+          ∙ closed (bytes ++ f.end) f.done),
     )

@@ -1,5 +1,6 @@
 //! What the definitions of `specs/` say of every stream, whichever program reads it.
 ghost use Rattle.std.specs.Prelude.{◌≡◌, ◌++◌, ◌∷◌, [], ℕ, List, IsTrue, true, false, length, ◌<◌, if◌then◌else◌, ◌==◌};
+ghost use Rattle.std.specs.List.{AllByRecursion};
 ghost use Rattle.vp_zpl.specs.declared.name.Kind.TheVariants as kinds;
 ghost use Rattle.vp_zpl.specs.declared.name.Plain.TheVariants as plain;
 ghost use Rattle.vp_zpl.specs.Spelling.{is_line_end, capital, known, undecided, decoded, parameters, behind};
@@ -57,5 +58,6 @@ pub fn binary_data()
 
 /// Whatever was read, more bytes bring the reader to rest.
 pub fn can_be_completed()
-    ensures { (bytes : List ℕ) → (end : List ℕ) × (at_rest (bytes ++ end) ≡ true) }
+    ensures { (bytes : List ℕ) → (end : List ℕ) × AllByRecursion (λ b. b < 256) end
+        × (at_rest (bytes ++ end) ≡ true) }
 {}

@@ -64,7 +64,9 @@ pub fn only_rows()
     ensures { (bytes : List ℕ) → IsUnit bytes → IsRow bytes }
 {}
 
-/// The lines of a unit list its bytes.
+/// The lines of a unit list its bytes, with two exceptions: data without effect, behind GS v 0, GS ( and
+/// GS 8, stand in no line; and nothing is said here of GS k with more than 255 bytes of data, whose line
+/// lists the first 255.
 pub fn lines_list_bytes()
     ensures byte { (b : ℕ) → lead_of b ≡ None → map line_of (given (b ∷ [])) ≡ line_of_byte b ∷ [] }
     ensures command { (lead : Lead) (bytes : List ℕ) → AllByRecursion (λ b. b < 256) bytes

@@ -7,8 +7,5 @@ returns-clause-parts c before shut = let h : IsIdle before = idle before shut in
 pub returns-clause-stored : goal.returns-clause-stored
 returns-clause-stored c before shut = let h : IsIdle before = idle before shut in h.stored
 
-pub returns-clause-fields : goal.returns-clause-fields
-returns-clause-fields c before shut = let h : IsIdle before = idle before shut in h.fields
-
 pub returns-clause-quantity : goal.returns-clause-quantity
 returns-clause-quantity c before shut = let h : IsIdle before = idle before shut in h.quantity
