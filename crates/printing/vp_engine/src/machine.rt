@@ -220,10 +220,10 @@ impl Machine {
                         put: 0,
                     };
                 }
-                let room = receipt.raster_room().min(input.len());
+                let room = receipt.rows_room(output.len()).min(input.len());
                 let n = reader.take_raster(&input[..room]);
-                receipt.apply_raster(&input[..n]);
-                Moved { taken: n, put: 0 }
+                let put = receipt.put_rows(&input[..n], output);
+                Moved { taken: n, put }
             }
             Machine::ReceiptLines { reader, lines } => {
                 let room = input.len().min(output.len() / 8);

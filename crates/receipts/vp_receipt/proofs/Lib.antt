@@ -18,3 +18,4 @@ pub mod Orderly
 pub mod Texts
 pub mod PageRows
 pub mod PageEights
+pub mod PlainRows

@@ -227,7 +227,7 @@ rows_on_page setup before s t r now bytes n page new small fit part begins few l
           (subst (λ (m : Mark). HasPage (Laid m ∷ layers setup before) new) mark laid));
     }
 
-rest_whole : (bytes : List ℕ) (n : ℕ) → take (length bytes - n) (drop n bytes) ≡ drop n bytes
+pub rest_whole : (bytes : List ℕ) (n : ℕ) → take (length bytes - n) (drop n bytes) ≡ drop n bytes
 rest_whole bytes n = take_all (length bytes - n) (drop n bytes) (omega (arith, length-drop n bytes))
 
 -- the bytes behind others
@@ -248,7 +248,7 @@ some_rows : (rows b got long : ℕ) → 0 < long → long ≤ rows * b - got →
 some_rows zero b got long some few = let none : 0 * b ≡ 0 = omega arith in absurd (omega (arith, none))
 some_rows (suc rows) b got long some few = omega arith
 
-rest_room : (rows b n long : ℕ) (none : Bool) → eqb (rows - n) 0 ≡ none → n ≤ rows → long ≤ rows * b → long < n * b + b → long - n * b ≤ cond none 0 (b - 0 - 1)
+pub rest_room : (rows b n long : ℕ) (none : Bool) → eqb (rows - n) 0 ≡ none → n ≤ rows → long ≤ rows * b → long < n * b + b → long - n * b ≤ cond none 0 (b - 0 - 1)
 rest_room rows b n long true e few all more =
     let same : n ≡ rows = grind (arith, nat_tests) in
     let whole : n * b ≡ rows * b = ap (λ k. k * b) same in

@@ -6,3 +6,4 @@ pub mod Images
 pub mod Standing
 pub mod Effects
 pub mod Printer
+pub mod Plain

@@ -14,12 +14,14 @@ ghost use Rattle.vp_page.specs.declared.page.TheConstants.{PAGE_ROWS};
 ghost use Rattle.vp_receipt_settings.specs.declared.text.TheConstants.{LINE_ROWS};
 ghost use Rattle.vp_receipt.specs.Strips.{prints, printed, refusal, is_at_rest, line_rows_after, page_rows_after};
 ghost use Rattle.vp_receipt.specs.Standing.{Stands, IsActing};
+ghost use Rattle.vp_receipt.specs.Plain.{rows_room, rows_put};
 ghost use Rattle.vp_receipt_settings.specs.Effects.{effect_of};
 ghost use Rattle.vp_receipt_settings.specs.Gathering.{run_of};
 
 use crate::act::{act, act_on_row, draw, prints_page, put_text, settle};
 use crate::drawn::drawn;
 use crate::raster_page::take_run;
+use crate::raster_paper::{is_plain, plain_room, put_plain};
 use std::alloc::{AllocError, Global};
 use std::marker::Model;
 use vp_dots::Fault;
@@ -277,6 +279,39 @@ impl Receipt {
                 self.job = Job::none();
             }
         }
+    }
+
+    /// How many bytes of a raster are taken in one run where so many can be put out.
+    pub fn rows_room(&self, output: usize) -> usize
+        ensures { result ≡ rows_room self.now.settings self.now.raster output }
+    {
+        if is_plain(&self.settings, &self.raster) {
+            return plain_room(&self.raster, output);
+        }
+        self.raster_room()
+    }
+
+    /// Takes bytes of a raster that there is room for, puts out all that they print, and answers how much: rows
+    /// that are printed as they come are copied.
+    pub fn put_rows(&mut self, bytes: &[u8], output: &mut [u8]) -> usize
+        requires pending { self.old.pending ≡ [] }
+        requires few { length bytes.now ≤ rows_room self.old.settings self.old.raster (length output.old) }
+        ensures count { result ≡ rows_put self.old.settings self.old.raster (length bytes.now) }
+        ensures within { result ≤ length bytes.now }
+        ensures fits { result ≤ length output.old }
+        ensures bytes { output.new ≡ take result bytes.now ++ drop result output.old }
+        ensures prints { (setup : Setup) (before : List EscItem) → Stands setup self.old before →
+            printed setup (bytes_after bytes.now before) ≡
+            printed setup before ++ take result bytes.now }
+        ensures stands { (setup : Setup) (before : List EscItem) → Stands setup self.old before →
+            Stands setup self.new (bytes_after bytes.now before) }
+        ensures pending { self.new.pending ≡ [] }
+    {
+        if is_plain(&self.settings, &self.raster) {
+            return put_plain(&mut self.settings, &mut self.raster, bytes, output);
+        }
+        self.apply_raster(bytes);
+        0
     }
 
     /// Whether anything is still to be put out.

@@ -4,6 +4,7 @@ mod lines;
 mod page;
 mod page_images;
 mod page_runs;
+mod paper_runs;
 mod symbols;
 
 use std::alloc::{AllocError, Global};

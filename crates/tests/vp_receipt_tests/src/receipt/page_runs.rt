@@ -64,7 +64,7 @@ fn prints_in_runs(
 }
 
 /// Bytes of which none are alike near each other.
-fn some_bytes(alloc: Global, count: u32) -> Result<Vec<u8>, AllocError> {
+pub fn some_bytes(alloc: Global, count: u32) -> Result<Vec<u8>, AllocError> {
     let mut bytes = Vec::new(alloc);
     for i in 0..count {
         bytes.push((i.wrapping_mul(197).wrapping_add(i / 7) % 251) as u8)?;

@@ -64,6 +64,13 @@ returns-then-text-gt0-clause-takes c = at_receipt _ _ _ _ c.in-Receipt.is (λ s 
       stands = (subst (λ x. EscStands c.take_text-text.new.self (t ++ x)) front (e.stands t still), a.stands s before at.1);
     })
 
+pub returns-else-text-gt0-clause-rest : goal.returns-else-text-gt0-clause-rest
+returns-else-text-gt0-clause-rest c =
+    let put = c.put_rows-put.result in
+    let bytes = take c.take_raster-n.result c.args.input.now in
+    ap (drop put) c.put_rows-put.ensures.bytes
+    ∙ drop_at (take put bytes) (drop put c.args.output.now) put (length-take-le put bytes c.put_rows-put.ensures.within)
+
 pub returns-else-text-gt0-clause-takes : goal.returns-else-text-gt0-clause-takes
 returns-else-text-gt0-clause-takes c = at_receipt _ _ _ _ c.in-Receipt.is (λ s t before at known.
     let e = c.take_raster-n.ensures in
@@ -76,13 +83,18 @@ returns-else-text-gt0-clause-takes c = at_receipt _ _ _ _ c.in-Receipt.is (λ s 
     let idle : EscStands c.take_skipped-skipped.new.self t = still_stands c.take_skipped-skipped.new.self t input c.take_skipped-skipped.result (omega (arith, c.if-skipped-gt0.false)) (c.take_skipped-skipped.ensures.stands t at.0) in
     let still : EscStands c.take_text-text.new.self t = still_stands c.take_text-text.new.self t (take c.min-room.result input) c.take_text-text.result (omega (arith, c.if-text-gt0.false)) (c.take_text-text.ensures.stands t idle) in
     let front : take n (take room input) ≡ take n input = take-take n room input less in
-    let a = c.apply_raster.ensures in
+    let a = c.put_rows-put.ensures in
+    let put = c.put_rows-put.result in
+    let rows = take put (take n input) in
+    let text : rows ≡ take put c.put_rows-put.new.output =
+    sym (ap (take put) a.bytes ∙ take_at rows (drop put c.args.output.now) put (length-take-le put (take n input) a.within)) in
     record {
       added = raster_items (take n input);
       gives = ap (λ x. items (t ++ x)) (sym front) ∙ e.gives t n still (omega arith) ∙ ap (λ x. items t ++ raster_items x) front;
       known = known_run t (take room input) (take n input) n front known (λ some. e.known t n still some (omega arith));
       accepted = accepted_bytes s (take n input) before;
-      prints = printed_same s (reverse (raster_items (take n input)) ++ before) ∙ a.prints s before at.1 ∙ sym (printed_same s before) ∙ sym (append-nil (printed (rules_of (Receipts s)) before));
+      prints = printed_same s (reverse (raster_items (take n input)) ++ before) ∙ a.prints s before at.1 ∙ ap (λ x. x ++ rows) (sym (printed_same s before))
+          ∙ ap (λ x. printed (rules_of (Receipts s)) before ++ x) text;
       stands = (subst (λ x. EscStands c.take_raster-n.new.self (t ++ x)) front (e.stands t still), a.stands s before at.1);
     })
 

@@ -1,0 +1,271 @@
+-- Rows of a raster that are printed as they come.
+use Rattle.std.proofs.Common.{inl, inr, ◌≡◌, ℕ, zero, suc, ◌+◌, ◌-◌, ◌*◌, ◌/◌, ◌<◌, ◌≤◌, ◌^◌, Bool, true, false, not, eqb, cond, nat_lt, nat_le, ◌&&◌, List, [], ◌∷◌, ◌++◌, length, take, drop, min, refl, sym, ap, subst, ◌∙◌, append_assoc, arith, get_or}
+use Rattle.std.proofs.Math.Nat.{suc-mul, mul_comm, div-le_of_le-mul, div-mul-le_self, lt-div-mul-add, div-lt_iff_lt-mul, mul-le-mul_right, le_trans}
+use Rattle.std.proofs.Math.Seq.{take-add}
+use Rattle.std.proofs.lemmas.Bool.{cases_lt, lt-ltb, and_parts, eqb-true}
+use Rattle.std.proofs.lemmas.Bool.Decides.{nat_tests}
+use Rattle.std.proofs.lemmas.List.{append-nil, take-append-drop, take_all, length-take, length-take-le, length-drop, get_or-take, get_or-drop, get_or_past}
+use Rattle.vp_dots.specs.Dots.{dot}
+use Rattle.vp_dots.proofs.ImageRows.{row_is}
+use Rattle.vp_esc.specs.declared.item.EscItem.{EscItem}
+use Rattle.vp_esc.specs.declared.item.EscItem.TheVariants.{RasterByte}
+use Rattle.vp_esc.specs.declared.item.RasterScale.{RasterScale}
+use Rattle.vp_esc.specs.declared.item.RasterScale.TheVariants.{Normal, DoubleWidth, DoubleHeight, Quadruple}
+use Rattle.vp_esc.specs.declared.item.Justification.{Justification}
+use Rattle.vp_esc.specs.declared.item.Justification.TheVariants.{Left, Centre, Right}
+use Rattle.vp_receipt_settings.specs.declared.page_mode.Mode.{Mode}
+use Rattle.vp_receipt_settings.specs.declared.page_mode.Mode.TheVariants.{Standard, Page}
+use Rattle.vp_receipt_settings.specs.declared.raster.Raster.{Raster}
+use Rattle.vp_receipt_settings.specs.declared.settings.Settings.{Settings}
+use Rattle.vp_receipt_settings.specs.declared.width.Width.{Width}
+use Rattle.vp_receipt_settings.specs.declared.width.Width.TheVariants.{W576, W384}
+use Rattle.vp_receipt_settings.specs.Gathering.{IsGathering, IsPartRow, left_of, room_of, run_of}
+use Rattle.vp_receipt_settings.specs.History.{settings_of, mode, paper_length, printed_at, shift, left_margin, area_width, justification}
+use Rattle.vp_receipt_settings.specs.Pages.{is_paged}
+use Rattle.vp_receipt_settings.specs.Rasters.{raster_scale, raster_bytes, row_so_far, is_row_end, bytes_after, row_at, times_across, times_down}
+use Rattle.vp_receipt_settings.specs.Runs.{below}
+use Rattle.vp_receipt_settings.specs.Setup.{Setup, across, row_bytes}
+use Rattle.vp_receipt_settings.proofs.Runs.{after_first, settings_stay, run_inside, inside}
+use Rattle.vp_receipt_settings.proofs.WholeRows.{Lacks, at_end, not_end, goes, HaveRows, have_rows, fewer, are_whole, lacks_row, next_row, no_row, rows_below, after_both}
+use Rattle.vp_strips.specs.Rows.{paper_row, rows_text, clipped, raster_dot}
+use Rattle.vp_receipt.specs.Plain.{is_once, is_plain, rows_room, rows_put, IsOnPaper}
+use Rattle.vp_receipt.specs.PageMarks.{layers}
+use Rattle.vp_receipt.specs.Standing.{HasPageIf}
+use Rattle.vp_receipt.specs.Strips.{printed, prints, raster_row_text}
+use Rattle.vp_receipt.proofs.PageRows.{Taken, rest_room}
+use Rattle.vp_receipt.proofs.RowEnds.{row_owned, row_printed}
+use Rattle.vp_receipt.proofs.Runs.{paper_stays}
+
+-- bytes that end a row print it
+row_printed_by : (setup : Setup) (bytes : List ℕ) (before : List EscItem) → mode setup before ≡ Standard → Lacks bytes before
+    → printed setup (bytes_after bytes before) ≡ printed setup before ++ raster_row_text setup before (row_so_far before ++ bytes)
+row_printed_by setup [] before e h = absurd (omega (arith, h.some))
+row_printed_by setup (b ∷ []) before e h =
+    ap (λ x. printed setup before ++ x) (sym (row_owned setup before b e (at_end b before h) ∙ row_printed setup before b e))
+row_printed_by setup (b ∷ c ∷ bytes) before e h =
+    let more : is_row_end before ≡ false = not_end b c bytes before h in
+    let go = goes b c bytes before h in
+    let row : row_so_far (RasterByte b ∷ before) ++ c ∷ bytes ≡ row_so_far before ++ b ∷ c ∷ bytes =
+    ap (λ xs. xs ++ c ∷ bytes) (inside b before h.rows go.room).row ∙ append_assoc (row_so_far before) (b ∷ []) (c ∷ bytes) in
+    let none : prints setup before (RasterByte b) ≡ [] = rw (e, more) refl in
+    let first : printed setup (RasterByte b ∷ before) ≡ printed setup before = ap (λ x. printed setup before ++ x) none ∙ append-nil (printed setup before) in
+    ap (printed setup) (after_first b (c ∷ bytes) before) ∙ row_printed_by setup (c ∷ bytes) (RasterByte b ∷ before) e go.rest
+    ∙ ap (λ xs. printed setup (RasterByte b ∷ before) ++ raster_row_text setup before xs) row
+    ∙ ap (λ x. x ++ raster_row_text setup before (row_so_far before ++ b ∷ c ∷ bytes)) first
+
+-- what is in force where rows are printed as they come
+pub record IsPlain (setup : Setup) (before : List EscItem) : Type 0 where
+  pub mode : mode setup before ≡ Standard
+  pub scale : raster_scale before ≡ Normal
+  pub wide : raster_bytes before ≡ row_bytes setup.width
+  pub free : paper_length setup before ≡ across setup.width
+
+still_plain : (setup : Setup) (bytes : List ℕ) (before : List EscItem) → IsPlain setup before → IsPlain setup (bytes_after bytes before)
+still_plain setup [] before h = h
+still_plain setup (b ∷ bytes) before h =
+    subst (IsPlain setup) (sym (after_first b bytes before))
+    (still_plain setup bytes (RasterByte b ∷ before) (record { mode = h.mode; scale = h.scale; wide = h.wide; free = h.free }))
+
+dots_across : (paper : Width) → across paper ≡ 8 * row_bytes paper
+dots_across W576 = refl
+dots_across W384 = refl
+
+some_across : (paper : Width) → 0 < row_bytes paper
+some_across W576 = omega arith
+some_across W384 = omega arith
+
+none_shifted : (j : Justification) → shift j 0 ≡ 0
+none_shifted Left = refl
+none_shifted Centre = refl
+none_shifted Right = refl
+
+-- nothing moves what is as wide as the paper
+at_left : (setup : Setup) (before : List EscItem) (wide : ℕ) → IsPlain setup before → wide ≡ across setup.width → printed_at setup before wide ≡ 0
+at_left setup before wide h e =
+    let some = some_across setup.width in
+    let dots = dots_across setup.width in
+    let margin : left_margin setup before ≡ 0 = omega (arith, h.free, some, dots) in
+    let spare : paper_length setup before - min wide (paper_length setup before) ≡ 0 = omega (arith, h.free, e) in
+    let moved : shift (justification setup before) (paper_length setup before - min wide (paper_length setup before)) ≡ 0 =
+    ap (shift (justification setup before)) spare ∙ none_shifted (justification setup before) in
+    let here : left_margin setup before + shift (justification setup before) (paper_length setup before - min wide (paper_length setup before)) ≡ 0 = omega (arith, margin, moved) in
+    here
+
+seen : (left long d : ℕ) (b c : Bool) → left ≡ 0 → d < long → b ≡ c → b ≡ (nat_le left d && nat_lt (d - left) long && c)
+seen left long d b c e h same = grind (arith, nat_tests)
+
+-- a row as wide as the paper is its bytes
+plain_row : (setup : Setup) (before : List EscItem) (row : List ℕ) → IsPlain setup before → length row ≡ row_bytes setup.width → ((i : ℕ) → get_or row i 0 < 2 ^ 8)
+    → raster_row_text setup before row ≡ row
+unfolding paper_row
+plain_row setup before row h long fits =
+    let dots = dots_across setup.width in
+    let wide : 8 * raster_bytes before * 1 ≡ across setup.width = omega (arith, h.wide, dots) in
+    let left = at_left setup before (8 * raster_bytes before * 1) h wide in
+    let shown : ℕ → Bool = λ x. raster_dot setup before 1 (raster_bytes before) row x in
+    let same : (d : ℕ) → d < 8 * row_bytes setup.width → dot row d ≡ shown d = λ d l.
+    let once : d - printed_at setup before (8 * raster_bytes before * 1) ≡ d = omega (arith, left) in
+    let one : d ≡ (d - printed_at setup before (8 * raster_bytes before * 1)) / 1 = omega (arith, once) in
+    seen (printed_at setup before (8 * raster_bytes before * 1)) (paper_length setup before) d (dot row d) _ left (omega (arith, h.free, dots, l)) (ap (dot row) one) in
+    ap (λ (k : RasterScale). rows_text setup.width (λ x y. raster_dot setup before (times_across k) (raster_bytes before) row x) 0 (times_down k)) h.scale
+    ∙ append-nil (paper_row setup.width shown)
+    ∙ sym (row_is row (row_bytes setup.width) shown long fits same)
+
+front_fits : (w : ℕ) (xs : List ℕ) (i : ℕ) → ((i : ℕ) → get_or xs i 0 < 2 ^ 8) → get_or (take w xs) i 0 < 2 ^ 8
+front_fits w xs i fits = elim (cases_lt i w) [
+  | inl l ↦ subst (λ b. b < 2 ^ 8) (sym (get_or-take w xs i 0 l)) (fits i)
+  | inr g ↦ subst (λ b. b < 2 ^ 8) (sym (get_or_past (take w xs) i 0 (omega (arith, length-take w xs)))) (omega arith)
+]
+
+rest_of_fits : (n : ℕ) (xs : List ℕ) → ((i : ℕ) → get_or xs i 0 < 2 ^ 8) → (i : ℕ) → get_or (drop n xs) i 0 < 2 ^ 8
+rest_of_fits n xs fits i = subst (λ b. b < 2 ^ 8) (sym (get_or-drop n xs i 0)) (fits (n + i))
+
+no_front : (bytes : List ℕ) (w : ℕ) → [] ≡ take (0 * w) bytes
+no_front bytes w = let none : 0 ≡ 0 * w = omega arith in ap (λ n. take n bytes) none
+
+-- so many rows print their bytes
+rows_printed : (setup : Setup) (bytes : List ℕ) (k : ℕ) (before : List EscItem) → ((i : ℕ) → get_or bytes i 0 < 2 ^ 8) → IsPlain setup before → HaveRows bytes k before
+    → printed setup (bytes_after (take (k * raster_bytes before) bytes) before) ≡ printed setup before ++ take (k * raster_bytes before) bytes
+rows_printed setup bytes zero before fits plain h =
+    ap (printed setup) (no_row bytes (raster_bytes before) before) ∙ sym (append-nil (printed setup before))
+    ∙ ap (λ x. printed setup before ++ x) (no_front bytes (raster_bytes before))
+rows_printed setup bytes (suc k) before fits plain h =
+    let w = raster_bytes before in
+    let above_bytes = take (k * w) bytes in
+    let here = bytes_after above_bytes before in
+    let row = row_at bytes w k in
+    let less = fewer bytes k before h in
+    let above = are_whole bytes k before less in
+    let here_plain = still_plain setup above_bytes before plain in
+    let lacks = lacks_row bytes k before h in
+    let long : length row ≡ row_bytes setup.width = omega (arith, lacks.all, ap length above.row, above.width, plain.wide) in
+    ap (printed setup) (next_row bytes w k before)
+    ∙ row_printed_by setup row here here_plain.mode lacks
+    ∙ ap (λ xs. printed setup here ++ raster_row_text setup here (xs ++ row)) above.row
+    ∙ ap (λ x. printed setup here ++ x) (plain_row setup here row here_plain long (λ i. front_fits w (drop (k * w) bytes) i (rest_of_fits (k * w) bytes fits)))
+    ∙ ap (λ x. x ++ row) (rows_printed setup bytes k before fits plain less)
+    ∙ append_assoc (printed setup before) above_bytes row
+    ∙ ap (λ x. printed setup before ++ x) (sym (ap (λ n. take n bytes) (suc-mul k w) ∙ take-add (k * w) w bytes))
+
+-- what the test tells
+pub record Told (s : Settings) (r : Raster) : Type 0 where
+  pub begins : r.got ≡ 0
+  pub mode : s.page.mode ≡ Standard
+  pub scale : r.scale ≡ Normal
+  pub wide : r.bytes ≡ row_bytes s.paper
+  pub free : min s.area_width (across s.paper - s.left_margin) ≡ across s.paper
+  pub some : 0 < r.bytes
+
+on_paper : (m : Mode) → not (is_paged m) ≡ true → m ≡ Standard
+on_paper Standard e = refl
+on_paper Page e = cc
+
+drawn_once : (k : RasterScale) → is_once k ≡ true → k ≡ Normal
+drawn_once Normal e = refl
+drawn_once DoubleWidth e = cc
+drawn_once DoubleHeight e = cc
+drawn_once Quadruple e = cc
+
+pub told : (s : Settings) (r : Raster) → is_plain s r ≡ true → Told s r
+told s r h =
+    let a = and_parts _ _ h in
+    let b = and_parts _ _ a.1 in
+    let c = and_parts _ _ b.1 in
+    let d = and_parts _ _ c.1 in
+    let wide = eqb-true r.bytes (row_bytes s.paper) d.0 in
+    let some = some_across s.paper in
+    record {
+      begins = eqb-true r.got 0 a.0;
+      mode = on_paper s.page.mode b.0;
+      scale = drawn_once r.scale c.0;
+      wide = wide;
+      free = eqb-true _ _ d.1;
+      some = omega (arith, wide, some);
+    }
+
+plain_of : (setup : Setup) (before : List EscItem) (s : Settings) (r : Raster) → Told s r → s ≡ settings_of setup before → IsGathering r before → IsPlain setup before
+plain_of setup before s r t e g = record {
+  mode = sym (ap (λ (q : Settings). q.page.mode) e) ∙ t.mode;
+  scale = sym g.scale ∙ t.scale;
+  wide = sym g.bytes ∙ t.wide ∙ ap (λ (q : Settings). row_bytes q.paper) e;
+  free = sym (ap (λ (q : Settings). min q.area_width (across q.paper - q.left_margin)) e) ∙ t.free ∙ ap (λ (q : Settings). across q.paper) e;
+}
+
+-- the rows that are whole among bytes that there is room for
+pub all_whole : (r : Raster) (long n : ℕ) → r.got ≡ 0 → long ≤ left_of r → n ≡ min r.rows (long / r.bytes) → n ≡ long / r.bytes
+all_whole r long n begins room is =
+    let all : long ≤ r.rows * r.bytes = omega arith in
+    let most : long / r.bytes ≤ r.rows = div-le_of_le-mul r.bytes (let e = mul_comm r.bytes r.rows in omega (arith, e, all)) in
+    omega arith
+
+-- and what is left of one
+pub plain_taken : (r : Raster) (long n : ℕ) → 0 < r.bytes → r.got ≡ 0 → long ≤ left_of r → n ≡ min r.rows (long / r.bytes) → Taken r long n
+plain_taken r long n wide begins room is =
+    let all : long ≤ r.rows * r.bytes = omega arith in
+    let n_is = all_whole r long n begins room is in
+    let under : n * r.bytes ≡ long / r.bytes * r.bytes = ap (λ k. k * r.bytes) n_is in
+    let more : long < long / r.bytes * r.bytes + r.bytes = lt-div-mul-add {a = long} {b = r.bytes} (omega (arith, wide)) in
+    let rest : long - n * r.bytes ≤ cond (eqb (r.rows - n) 0) 0 (r.bytes - 0 - 1) =
+    rest_room r.rows r.bytes n long (eqb (r.rows - n) 0) refl (omega arith) all (omega arith) in
+    record {
+      few = omega arith;
+      bytes = omega (arith, div-mul-le_self long r.bytes);
+      rest = subst (λ g. long - n * r.bytes ≤ cond (eqb (r.rows - n) 0) 0 (r.bytes - g - 1)) (sym begins) rest;
+    }
+
+-- the rows that are whole have room where they are put out
+pub put_fits : (w long output : ℕ) → 0 < w → long ≤ output / w * w + (w - 1) → long / w * w ≤ output
+put_fits w long output some few =
+    let under = div-mul-le_self output w in
+    let next : long < suc (output / w) * w = omega (arith, some, few, suc-mul (output / w) w) in
+    let most : long / w < suc (output / w) = (div-lt_iff_lt-mul {k = w} {x = long} {y = suc (output / w)} some).1 next in
+    le_trans (mul-le-mul_right w (omega (arith, most))) under
+
+-- whole rows are put out, and what is left is kept
+pub rows_on_paper : (setup : Setup) (before : List EscItem) (s : Settings) (r now : Raster) (t : Settings) (last : Raster) (bytes : List ℕ) (n end : ℕ) → ((i : ℕ) → get_or bytes i 0 < 2 ^ 8) → s.page.vertical ≤ 65535
+    → IsPartRow r → Told s r → Taken r (length bytes) n → end ≡ n * r.bytes → s ≡ settings_of setup before → IsGathering r before → t ≡ below s n
+    → IsGathering now (bytes_after (take end bytes) before) → length (drop end bytes) ≤ room_of now
+    → IsGathering last (bytes_after (drop end bytes) (bytes_after (take end bytes) before))
+    → IsOnPaper setup before t last bytes end
+rows_on_paper setup before s r now t last bytes n end fits small part told taken at e g f passed room kept =
+    let plain = plain_of setup before s r told e g in
+    let low = subst (λ (q : Settings). q.page.vertical ≤ 65535) e small in
+    let have = have_rows r n bytes before part told.begins taken.few g taken.bytes in
+    let here = bytes_after (take end bytes) before in
+    let width : n * raster_bytes before ≡ end = ap (λ w. n * w) (sym g.bytes) ∙ sym at in
+    let all : bytes_after bytes before ≡ bytes_after (drop end bytes) here =
+    ap (λ xs. bytes_after xs before) (sym (take-append-drop end bytes)) ∙ after_both (take end bytes) (drop end bytes) before in
+    let times : n ≡ n * times_down (raster_scale before) = (let one : n ≡ n * 1 = omega arith in one) ∙ ap (λ (k : RasterScale). n * times_down k) (sym plain.scale) in
+    let shown : printed setup here ≡ printed setup before ++ take end bytes =
+    subst (λ m. printed setup (bytes_after (take m bytes) before) ≡ printed setup before ++ take m bytes) width (rows_printed setup bytes n before fits plain have) in
+    let now_is : t ≡ settings_of setup here =
+    f ∙ ap (λ (q : Settings). below q n) e ∙ ap (below (settings_of setup before)) times ∙ sym (rows_below setup bytes n before low have)
+    ∙ ap (λ m. settings_of setup (bytes_after (take m bytes) before)) width in
+    record {
+      settings = now_is ∙ sym (settings_stay setup (drop end bytes) here (run_inside now (drop end bytes) here room passed)) ∙ sym (ap (settings_of setup) all);
+      raster = subst (IsGathering last) (sym all) kept;
+      printed = ap (printed setup) all ∙ paper_stays setup now (drop end bytes) here room passed ∙ shown;
+    }
+
+-- what the words for a run's room and bytes say by cases
+pub room_plain : (s : Settings) (r : Raster) (output : ℕ) → is_plain s r ≡ true → rows_room s r output ≡ min (left_of r) (output / r.bytes * r.bytes + (r.bytes - 1))
+room_plain s r output e = rw e refl
+
+pub room_else : (s : Settings) (r : Raster) (output : ℕ) → is_plain s r ≡ false → rows_room s r output ≡ run_of s.page.mode r
+room_else s r output e = rw e refl
+
+pub put_is : (s : Settings) (r : Raster) (n : ℕ) → is_plain s r ≡ true → n / r.bytes * r.bytes ≡ rows_put s r n
+put_is s r n e = rw e refl
+
+pub none_put : (s : Settings) (r : Raster) (n : ℕ) → is_plain s r ≡ false → 0 ≡ rows_put s r n
+none_put s r n e = rw e refl
+
+mode_stays : (setup : Setup) (bytes : List ℕ) (before : List EscItem) → mode setup (bytes_after bytes before) ≡ mode setup before
+mode_stays setup [] before = refl
+mode_stays setup (b ∷ bytes) before = ap (mode setup) (after_first b bytes before) ∙ mode_stays setup bytes (RasterByte b ∷ before)
+
+-- on paper no page is asked for
+pub no_page : (setup : Setup) (bytes : List ℕ) (before : List EscItem) (page : List (List ℕ)) → mode setup before ≡ Standard
+    → HasPageIf (mode setup (bytes_after bytes before)) (layers setup (bytes_after bytes before)) page
+no_page setup bytes before page e =
+    subst (λ (m : Mode). HasPageIf m (layers setup (bytes_after bytes before)) page) (sym (mode_stays setup bytes before ∙ e)) tt

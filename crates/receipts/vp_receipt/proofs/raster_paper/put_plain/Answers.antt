@@ -1,0 +1,52 @@
+use Rattle.std.proofs.Common.{◌≡◌, ◌≤◌, ◌*◌, ◌/◌, ◌+◌, ◌-◌, ◌<◌, ℕ, true, length, take, drop, min, ap, sym, ◌∙◌, subst, arith, List}
+use Rattle.std.proofs.Math.Nat.{div-mul-le_self}
+use Rattle.vp_receipt_settings.specs.Gathering.{IsGathering, left_of, room_of}
+use Rattle.vp_receipt_settings.specs.Rasters.{bytes_after}
+use Rattle.vp_receipt_settings.specs.declared.raster.Raster.{Raster}
+use Rattle.vp_receipt_settings.specs.declared.settings.Settings.{Settings}
+use Rattle.vp_receipt.specs.Plain.{is_plain}
+use Rattle.vp_receipt.proofs.PageRows.{Taken, rest_fits, rest_whole}
+use Rattle.vp_receipt.proofs.PlainRows.{told, all_whole, plain_taken, put_fits, rows_on_paper}
+use Rattle.vp_receipt.proofs.raster_paper.put_plain.Goals as goal
+
+-- what the code counts
+record Counts (r : Raster) (long output wide n : ℕ) : Type 0 where
+  pub taken : Taken r long n
+  pub whole : n * wide ≡ long / r.bytes * r.bytes
+  pub at : n * wide ≡ n * r.bytes
+  pub within : n * wide ≤ long
+  pub fits : n * wide ≤ output
+  pub some : 0 < wide
+
+counts : (s : Settings) (r : Raster) (long output wide n rows : ℕ) → is_plain s r ≡ true → long ≤ min (left_of r) (output / r.bytes * r.bytes + (r.bytes - 1)) → wide ≡ r.bytes → rows ≡ r.rows → n ≡ min rows (long / wide)
+    → Counts r long output wide n
+counts s r long output wide n rows plain few is all n_is =
+    let t = told s r plain in
+    let m : n ≡ min r.rows (long / r.bytes) = n_is ∙ ap (λ k. min k (long / wide)) all ∙ ap (λ w. min r.rows (long / w)) is in
+    let whole = all_whole r long n t.begins (omega (arith, few)) m in
+    let at : n * wide ≡ long / r.bytes * r.bytes = ap (λ w. n * w) is ∙ ap (λ k. k * r.bytes) whole in
+    let room = put_fits r.bytes long output t.some (omega (arith, few)) in
+    record {
+      taken = plain_taken r long n t.some t.begins (omega (arith, few)) m;
+      whole = at;
+      at = ap (λ w. n * w) is;
+      within = omega (arith, at, div-mul-le_self long r.bytes);
+      fits = omega (arith, at, room);
+      some = omega (arith, is, t.some);
+    }
+
+pub returns-clause-on_paper : goal.returns-clause-on_paper
+returns-clause-on_paper c = λ setup before e g.
+    let bytes = c.args.bytes.now in
+    let r = c.args.raster.now in
+    let wide = c.from-wide.result in
+    let n = c.min-rows.result in
+    let end = n * wide in
+    let k = counts c.args.s.now r (length bytes) (length c.args.output.now) wide n c.from.result c.requires.plain c.requires.few c.from-wide.ensures c.from.ensures c.min-rows.ensures in
+    let passed : IsGathering c.pass.new.self (bytes_after (take end bytes) before) =
+    subst (λ m. IsGathering c.pass.new.self (bytes_after (take m bytes) before)) (sym k.at) (c.pass.ensures.gathers bytes before g k.taken.bytes) in
+    let rest = rest_whole bytes end in
+    rows_on_paper setup before c.args.s.now r c.pass.new.self c.after_row.result c.take_all.new.self bytes n end (λ i. omega (arith, c.type_inv.bytes i)) c.requires.fit.page.vertical
+    c.requires.part (told c.args.s.now r c.requires.plain) k.taken k.at e g c.after_row.ensures.value passed
+    (subst (λ xs. length xs ≤ room_of c.pass.new.self) rest (rest_fits r c.pass.new.self bytes n wide k.taken c.from-wide.ensures c.pass.ensures.value))
+    (subst (λ xs. IsGathering c.take_all.new.self (bytes_after xs (bytes_after (take end bytes) before))) rest (c.take_all.ensures.gathers _ passed))
