@@ -113,8 +113,8 @@ pub completed : (bytes : List ℕ) → (end : List ℕ) × AllByRecursion (λ b.
 completed bytes =
     let f = fill (short_by (cut bytes).open_one) (wants_binary (cut bytes).open_one) bytes refl (omega arith) in (
       f.end ++ 0x5E ∷ 0x58 ∷ 0x5A ∷ [],
-      (ends_small f.end f.small,
+      ends_small f.end f.small,
       ap at_rest (sym (append_assoc bytes f.end (0x5E ∷ 0x58 ∷ 0x5A ∷ [])) ∙ sym (append_assoc (bytes ++ f.end) (0x5E ∷ []) (0x58 ∷ 0x5A ∷ []))
           ∙ sym (append_assoc ((bytes ++ f.end) ++ 0x5E ∷ []) (0x58 ∷ []) (0x5A ∷ [])))
-          ∙ closed (bytes ++ f.end) f.done),
+          ∙ closed (bytes ++ f.end) f.done,
     )
