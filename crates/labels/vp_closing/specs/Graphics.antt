@@ -1,37 +1,21 @@
--- Boxes and pictures as the format keeps them (ZPL II, ^GB and ^GF).
+-- Pictures as the format keeps them (ZPL II, ^GF).
 use Rattle.std.specs.Prelude.{Bool, true, false, Result, Ok, Err}
 use Rattle.std.specs.List.{list_any, range_with_len}
 use Rattle.vp_dots.specs.declared.fault.Fault.{Fault}
 use Rattle.vp_dots.specs.declared.fault.Fault.TheVariants as faults
-use Rattle.vp_format.specs.declared.rows.Coding.{Coding}
-use Rattle.vp_format.specs.declared.rows.Coding.TheVariants.{RunLength, Binary}
-use Rattle.vp_format.specs.declared.field.GraphicBox.{GraphicBox}
 use Rattle.vp_format.specs.declared.field.Picture.{Picture}
 use Rattle.vp_format.specs.declared.field.Content.{Content}
 use Rattle.vp_format.specs.declared.field.Content.TheVariants as contents
 use Rattle.vp_format.specs.Pictures.{is_refused, Picture as Codes}
-use Rattle.vp_label_settings.specs.declared.graphic.GraphicBox.{GraphicBox as Frame}
-use Rattle.vp_label_settings.specs.declared.graphic.Coding.{Coding as Written}
-use Rattle.vp_label_settings.specs.declared.graphic.Coding.TheVariants as written
 use Rattle.vp_label_settings.specs.declared.graphic.PictureHead.{PictureHead}
-use Rattle.vp_label_settings.specs.declared.field.Stored.{Stored}
-use Rattle.vp_closing.specs.Texts.{span_of}
-
--- a box; its colour is the field's operation
-abbrev pub box_of : Frame → GraphicBox
-box_of b = record { width = b.width; height = b.height; thickness = b.thickness }
-
--- ^GF's A and B
-abbrev pub coding_of : Written → Coding
-coding_of written.Ascii = RunLength
-coding_of written.Binary = Binary
+use Rattle.vp_format.specs.declared.field.Span.{Span}
 
 -- the picture that a head and codes behind it give
-abbrev pub headed : PictureHead → Stored → Picture
+abbrev pub headed : PictureHead → Span → Picture
 headed head codes =
     record {
-      codes = span_of codes;
-      coding = coding_of head.coding;
+      codes = codes;
+      coding = head.coding;
       row_bytes = head.row_bytes;
       rows = head.rows;
     }

@@ -6,7 +6,7 @@ use Rattle.vp_zpl.specs.declared.item.Orientation.{Orientation}
 use Rattle.vp_glyph.specs.declared.Sheets.{Sheets}
 use Rattle.vp_format.specs.declared.field.Content.{Content}
 use Rattle.vp_format.specs.declared.field.Field.{Field}
-use Rattle.vp_field.specs.Contents.{content_width, content_height, orientation_of}
+use Rattle.vp_field.specs.Contents.{content_width, content_height}
 use Rattle.vp_label_settings.specs.declared.field.Position.{Position}
 use Rattle.vp_label_settings.specs.declared.field.Field.{Field as Closed}
 use Rattle.vp_closing.specs.Positions.{left_of, top_of}
@@ -22,11 +22,11 @@ placed sheets stored at o op content = record {
   content = content;
 }
 
--- a field with its content, unless that is refused; boxes, pictures and QR symbols aren't turned
+-- a field with its content, unless that is refused
 abbrev pub kept_with : Sheets → List ℕ → Closed → Result Content Fault → Result Field Fault
 kept_with sheets stored f (Err why) = Err why
 kept_with sheets stored f (Ok content) =
-    Ok (placed sheets stored f.position (orientation_of f.orientation content) f.operation content)
+    Ok (placed sheets stored f.position f.orientation f.operation content)
 
 abbrev pub kept : Sheets → List ℕ → Closed → Result Field Fault
 kept sheets stored f = kept_with sheets stored f (kept_content stored f.content)

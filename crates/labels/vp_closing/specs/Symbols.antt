@@ -1,61 +1,31 @@
 -- Bars and QR symbols as the format keeps them, or why the data have none (ZPL II, ^B3, ^BE, ^BC and ^BQ).
-use Rattle.std.specs.Prelude.{ℕ, ◌+◌, ◌-◌, List, Option, Some, None, Result, Ok, Err, false, true}
+use Rattle.std.specs.Prelude.{ℕ, ◌+◌, ◌-◌, List, Option, Some, None, Result, Ok, Err}
 use Rattle.vp_dots.specs.declared.fault.Fault.{Fault}
-use Rattle.vp_dots.specs.declared.fault.Fault.TheVariants as faults
-use Rattle.vp_dots.specs.declared.fault.Why.TheVariants.{Unsupported}
-use Rattle.vp_zpl.specs.declared.item.Code128Mode.{Code128Mode}
-use Rattle.vp_zpl.specs.declared.item.Code128Mode.TheVariants.{UccCase, Automatic, UccEan}
 use Rattle.vp_bars.specs.declared.bar_box.Place.{Place}
-use Rattle.vp_bars.specs.declared.bar_box.Place.TheVariants as places
 use Rattle.vp_bars.specs.Symbols.{Linear}
 use Rattle.vp_qr.specs.Encoding.{refusal, version_of, mask_of}
 use Rattle.vp_qr_field.specs.declared.front.QrFront.{QrFront}
 use Rattle.vp_format.specs.declared.field.Span.{Span}
 use Rattle.vp_format.specs.declared.field.BarCode.{BarCode}
-use Rattle.vp_format.specs.declared.field.BarCode.TheVariants as codes
 use Rattle.vp_format.specs.declared.field.Bars.{Bars}
 use Rattle.vp_format.specs.declared.field.QrSymbol.{QrSymbol}
 use Rattle.vp_format.specs.declared.field.Content.{Content}
 use Rattle.vp_format.specs.declared.field.Content.TheVariants as contents
 use Rattle.vp_field.specs.Contents.{bytes_of, symbol_of}
-use Rattle.vp_label_settings.specs.declared.choice.BarText.{BarText}
-use Rattle.vp_label_settings.specs.declared.choice.BarText.TheVariants.{Omitted, Below, Above}
-use Rattle.vp_label_settings.specs.declared.choice.BarKind.{BarKind}
-use Rattle.vp_label_settings.specs.declared.choice.BarKind.TheVariants as kinds
-use Rattle.vp_label_settings.specs.declared.field.Stored.{Stored}
-
--- ^BC: in mode A the data choose the code sets; modes U and D aren't drawn
-abbrev pub code_128_of : Option Code128Mode → Result BarCode Fault
-code_128_of None = Ok (codes.Code128 false)
-code_128_of (Some Automatic) = Ok (codes.Code128 true)
-code_128_of (Some UccCase) = Err (faults.Symbol Unsupported)
-code_128_of (Some UccEan) = Err (faults.Symbol Unsupported)
-
-abbrev pub code_of : BarKind → Result BarCode Fault
-code_of (kinds.Code39 check) = Ok (codes.Code39 check)
-code_of kinds.Ean13 = Ok codes.Ean13
-code_of (kinds.Code128 mode) = code_128_of mode
-
--- the text stands below the bars, or above them where that is asked for too
-abbrev pub place_of : BarText → Place
-place_of Omitted = places.None
-place_of Below = places.Below
-place_of Above = places.Above
 
 abbrev pub bars_if : Result Linear Fault → Bars → Result Content Fault
 bars_if (Err why) bars = Err why
 bars_if (Ok symbol) bars = Ok (contents.Bars bars)
 
--- bars: their kind is looked at first, then the data
-abbrev pub bars_of : List ℕ → Result BarCode Fault → ℕ → ℕ → ℕ → Place → Span → Result Content Fault
-bars_of stored (Err why) narrow wide height place bytes = Err why
-bars_of stored (Ok code) narrow wide height place bytes =
+-- bars of the data
+abbrev pub bars_of : List ℕ → BarCode → ℕ → ℕ → ℕ → Place → Span → Result Content Fault
+bars_of stored code narrow wide height place bytes =
     bars_if (symbol_of code (bytes_of stored bytes))
     (record { bytes = bytes; code = code; narrow = narrow; wide = wide; height = height; place = place })
 
 -- the bytes behind what the data say before them
-abbrev pub behind : QrFront → Stored → Span
-behind front bytes = record { start = bytes.start + front.length; len = bytes.length - front.length }
+abbrev pub behind : QrFront → Span → Span
+behind front bytes = record { start = bytes.start + front.length; len = bytes.len - front.length }
 
 -- a QR symbol of bytes, with the version and the mask that they choose
 abbrev pub qr_symbol : List ℕ → ℕ → QrFront → Span → QrSymbol
@@ -73,7 +43,7 @@ qr_unless (Some why) symbol = Err why
 qr_unless None symbol = Ok (contents.Qr symbol)
 
 -- ^BQ: what the data say first is looked at first, then the bytes behind it
-abbrev pub qr_of : List ℕ → ℕ → Stored → Result QrFront Fault → Result Content Fault
+abbrev pub qr_of : List ℕ → ℕ → Span → Result QrFront Fault → Result Content Fault
 qr_of stored dots bytes (Err why) = Err why
 qr_of stored dots bytes (Ok front) =
     qr_unless (refusal front.level front.mode (bytes_of stored (behind front bytes)))

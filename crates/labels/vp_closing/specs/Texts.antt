@@ -2,36 +2,22 @@
 use Rattle.std.specs.Prelude.{ℤ, pos, neg_ℤ, Option, Some, None}
 use Rattle.vp_zpl.specs.declared.item.LineSpace.{LineSpace}
 use Rattle.vp_zpl.specs.declared.item.LineSpace.TheVariants.{Added, Deleted}
-use Rattle.vp_glyph.specs.declared.block.Alignment.{Alignment}
-use Rattle.vp_glyph.specs.declared.block.Alignment.TheVariants as aligned
 use Rattle.vp_format.specs.declared.field.Span.{Span}
 use Rattle.vp_format.specs.declared.field.Text.{Text}
 use Rattle.vp_format.specs.declared.field.Block.{Block}
 use Rattle.vp_format.specs.declared.field.Content.{Content}
 use Rattle.vp_format.specs.declared.field.Content.TheVariants as contents
 use Rattle.vp_label_settings.specs.declared.size.CharacterSize.{CharacterSize}
-use Rattle.vp_label_settings.specs.declared.choice.Alignment.{Alignment as Asked}
-use Rattle.vp_label_settings.specs.declared.choice.Alignment.TheVariants.{Left, Centre, Right}
 use Rattle.vp_label_settings.specs.declared.choice.FieldBlock.{FieldBlock}
-use Rattle.vp_label_settings.specs.declared.field.Stored.{Stored}
-
--- bytes among the stored ones
-abbrev pub span_of : Stored → Span
-span_of bytes = record { start = bytes.start; len = bytes.length }
 
 -- a text in one line
-abbrev pub text_of : CharacterSize → Stored → Text
-text_of size bytes = record { bytes = span_of bytes; width = size.width; height = size.height }
+abbrev pub text_of : CharacterSize → Span → Text
+text_of size bytes = record { bytes = bytes; width = size.width; height = size.height }
 
 -- ^FB: the dots between its lines; deleted ones bring them nearer
 abbrev pub gap_of : LineSpace → ℤ
 gap_of (Added dots) = pos dots
 gap_of (Deleted dots) = neg_ℤ (pos dots)
-
-abbrev pub alignment_of : Asked → Alignment
-alignment_of Left = aligned.Left
-alignment_of Centre = aligned.Centre
-alignment_of Right = aligned.Right
 
 abbrev pub block_of : Text → FieldBlock → Block
 block_of text b = record {
@@ -39,7 +25,7 @@ block_of text b = record {
   width = b.width;
   lines = b.lines;
   gap = gap_of b.space;
-  alignment = alignment_of b.alignment;
+  alignment = b.alignment;
 }
 
 -- a text, in a block where ^FB asks for one

@@ -4,10 +4,10 @@ ghost use Rattle.vp_label_settings.specs.Laws.{IsDrawable, HasBytesAmong};
 ghost use Rattle.vp_field.specs.Contents.{IsStored};
 ghost use Rattle.vp_closing.specs.Contents.{kept_content};
 
-use crate::graphic::{box_of, picture_content};
+use crate::graphic::picture_content;
 use crate::symbol::{bars_content, qr_content};
 use crate::text::{text_content, text_of};
-use vp_dots::Fault;
+use vp_dots::{Fault, Why};
 use vp_format::{Content, STORED};
 use vp_label_settings::Content as Asked;
 
@@ -22,19 +22,20 @@ pub fn kept_content(stored: &[u8], content: Asked) -> Result<Content, Fault>
     match content {
         Asked::Text { size, block, bytes } => Ok(text_content(text_of(size, bytes), block)),
         Asked::Bars {
-            kind,
+            code,
             narrow,
             wide,
             height,
-            text,
+            place,
             bytes,
-        } => bars_content(stored, kind, narrow, wide, height, text, bytes),
+        } => bars_content(stored, code, narrow, wide, height, place, bytes),
+        Asked::NotDrawn => Err(Fault::Symbol(Why::Unsupported)),
         Asked::Qr {
             model,
             module_dots,
             bytes,
         } => qr_content(stored, model, module_dots as u8, bytes),
-        Asked::Frame(frame) => Ok(Content::Box(box_of(frame))),
+        Asked::Frame(frame) => Ok(Content::Box(frame)),
         Asked::Picture { head, bytes } => picture_content(stored, head, bytes),
     }
 }

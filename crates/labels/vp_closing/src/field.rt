@@ -1,7 +1,6 @@
 //! A closed field as the format keeps it.
 ghost use Rattle.std.specs.Prelude.{◌≡◌, ◌≤◌, length, IfOk};
 ghost use Rattle.vp_label_settings.specs.Laws.{IsDrawable, HasBytesAmong};
-ghost use Rattle.vp_field.specs.Contents.{orientation_of};
 ghost use Rattle.vp_field.specs.Fields.{IsKept};
 ghost use Rattle.vp_closing.specs.Kept.{kept};
 
@@ -9,20 +8,9 @@ use crate::content::kept_content;
 use crate::position::{left_of, top_of};
 use vp_dots::Fault;
 use vp_field::content_size;
-use vp_format::{Content, Field, STORED};
+use vp_format::{Field, STORED};
 use vp_glyph::Sheets;
 use vp_label_settings::Field as Closed;
-use vp_zpl::item::Orientation;
-
-/// How a content is turned: boxes, pictures and QR symbols aren't.
-fn orientation_of(orientation: Orientation, content: &Content) -> Orientation
-    ensures { result ≡ orientation_of orientation content.now }
-{
-    match content {
-        Content::Text(_) | Content::Block(_) | Content::Bars(_) => orientation,
-        Content::Box(_) | Content::Picture(_) | Content::Qr(_) => Orientation::Normal,
-    }
-}
 
 /// The field that the format keeps for a closed one, whose bytes lie among the stored ones. It is refused as
 /// `Symbol` or `SymbolTooLong` where the data have no bars or no QR symbol, or these aren't drawn, and as
@@ -35,7 +23,7 @@ pub fn kept(sheets: &Sheets, stored: &[u8], field: &Closed) -> Result<Field, Fau
     ensures kept { IfOk result (IsKept stored.now) }
 {
     let content = kept_content(stored, field.content)?;
-    let orientation = orientation_of(field.orientation, &content);
+    let orientation = field.orientation;
     let (width, height) = content_size(sheets, stored, &content);
     Ok(Field {
         left: left_of(field.position, orientation, width, height),

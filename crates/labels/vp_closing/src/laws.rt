@@ -1,61 +1,62 @@
 //! What is refused.
-ghost use Rattle.std.specs.Prelude.{◌≡◌, ◌≢◌, ◌<◌, ℕ, List, length, Some, Ok, Err, true, false};
+ghost use Rattle.std.specs.Prelude.{◌≡◌, ◌≢◌, ◌<◌, ℕ, Bool, List, length, Option, Some, Ok, Err, true, false};
 ghost use Rattle.vp_dots.specs.declared.fault.Fault.TheVariants.{Symbol, SymbolTooLong, Graphic};
 ghost use Rattle.vp_dots.specs.declared.fault.Why.TheVariants.{Unsupported, Empty};
 ghost use Rattle.vp_zpl.specs.declared.item.Code128Mode.TheVariants.{UccCase, UccEan};
 ghost use Rattle.vp_format.specs.declared.field.BarCode.{BarCode};
 ghost use Rattle.vp_format.specs.declared.field.Content.TheVariants as kept;
 ghost use Rattle.vp_format.specs.Pictures.{is_refused};
-ghost use Rattle.vp_label_settings.specs.declared.choice.BarKind.{BarKind};
-ghost use Rattle.vp_label_settings.specs.declared.choice.BarKind.TheVariants.{Code128};
-ghost use Rattle.vp_label_settings.specs.declared.choice.BarText.{BarText};
 ghost use Rattle.vp_label_settings.specs.declared.graphic.PictureHead.{PictureHead};
-ghost use Rattle.vp_label_settings.specs.declared.field.Stored.{Stored};
+ghost use Rattle.vp_bars.specs.declared.bar_box.Place.{Place};
+ghost use Rattle.vp_format.specs.declared.field.Span.{Span};
+ghost use Rattle.vp_zpl.specs.declared.item.Orientation.{Orientation};
+ghost use Rattle.vp_label_settings.specs.declared.parts.FieldParts.{FieldParts};
+ghost use Rattle.vp_label_settings.specs.declared.settings.Settings.{Settings};
+ghost use Rattle.vp_label_settings.specs.Choices.{code128_choice};
+ghost use Rattle.vp_label_settings.specs.Closing.{data_content};
 ghost use Rattle.vp_label_settings.specs.declared.field.Content.TheVariants.{Bars, Qr, Picture};
-ghost use Rattle.vp_closing.specs.Texts.{span_of};
 ghost use Rattle.vp_closing.specs.Graphics.{headed};
-ghost use Rattle.vp_closing.specs.Symbols.{code_of};
 ghost use Rattle.vp_field.specs.Contents.{bytes_of, picture_of};
 ghost use Rattle.vp_closing.specs.Contents.{kept_content};
 
 /// A picture is refused where a symbol that starts in one of its rows is, and kept where none is, whatever
 /// stands behind its last row.
 pub fn pictures_are_read()
-    ensures refused { (stored : List ℕ) (head : PictureHead) (bytes : Stored) (y : ℕ) → y < head.rows
+    ensures refused { (stored : List ℕ) (head : PictureHead) (bytes : Span) (y : ℕ) → y < head.rows
         → is_refused (picture_of stored (headed head bytes)) y ≡ true
         → kept_content stored (Picture head bytes) ≡ Err Graphic }
-    ensures kept { (stored : List ℕ) (head : PictureHead) (bytes : Stored)
+    ensures kept { (stored : List ℕ) (head : PictureHead) (bytes : Span)
         → ((y : ℕ) → y < head.rows → is_refused (picture_of stored (headed head bytes)) y ≡ false)
         → kept_content stored (Picture head bytes) ≡ Ok (kept.Picture (headed head bytes)) }
 {}
 
 /// Bars of ^BC's modes U and D and QR symbols of model 1 aren't drawn, whatever their data.
 pub fn not_drawn()
-    ensures ucc_case { (stored : List ℕ) (narrow wide height : ℕ) (text : BarText) (bytes : Stored)
-        → kept_content stored (Bars (Code128 (Some UccCase)) narrow wide height text bytes)
+    ensures ucc_case { (stored : List ℕ) (s : Settings) (p : FieldParts) (o : Option Orientation)
+        (height : Option ℕ) (text above : Option Bool) (bytes : Span) → kept_content stored
+        (data_content s p (Some (code128_choice (Some UccCase) o height text above)) bytes)
         ≡ Err (Symbol Unsupported) }
-    ensures ucc_ean { (stored : List ℕ) (narrow wide height : ℕ) (text : BarText) (bytes : Stored)
-        → kept_content stored (Bars (Code128 (Some UccEan)) narrow wide height text bytes)
+    ensures ucc_ean { (stored : List ℕ) (s : Settings) (p : FieldParts) (o : Option Orientation)
+        (height : Option ℕ) (text above : Option Bool) (bytes : Span) → kept_content stored
+        (data_content s p (Some (code128_choice (Some UccEan) o height text above)) bytes)
         ≡ Err (Symbol Unsupported) }
-    ensures model_1 { (stored : List ℕ) (dots : ℕ) (bytes : Stored)
+    ensures model_1 { (stored : List ℕ) (dots : ℕ) (bytes : Span)
         → kept_content stored (Qr 1 dots bytes) ≡ Err (Symbol Unsupported) }
 {}
 
-/// Of bars that are drawn, no data at all are refused first, then more than 255 bytes.
+/// Of bars, no data at all are refused first, then more than 255 bytes.
 pub fn bars_are_counted()
-    ensures none { (stored : List ℕ) (kind : BarKind) (code : BarCode) (narrow wide height : ℕ)
-        (text : BarText) (bytes : Stored)
-        → code_of kind ≡ Ok code → length (bytes_of stored (span_of bytes)) ≡ 0
-        → kept_content stored (Bars kind narrow wide height text bytes) ≡ Err (Symbol Empty) }
-    ensures many { (stored : List ℕ) (kind : BarKind) (code : BarCode) (narrow wide height : ℕ)
-        (text : BarText) (bytes : Stored)
-        → code_of kind ≡ Ok code → 255 < length (bytes_of stored (span_of bytes))
-        → kept_content stored (Bars kind narrow wide height text bytes) ≡ Err SymbolTooLong }
+    ensures none { (stored : List ℕ) (code : BarCode) (narrow wide height : ℕ) (place : Place)
+        (bytes : Span) → length (bytes_of stored bytes) ≡ 0
+        → kept_content stored (Bars code narrow wide height place bytes) ≡ Err (Symbol Empty) }
+    ensures many { (stored : List ℕ) (code : BarCode) (narrow wide height : ℕ) (place : Place)
+        (bytes : Span) → 255 < length (bytes_of stored bytes)
+        → kept_content stored (Bars code narrow wide height place bytes) ≡ Err SymbolTooLong }
 {}
 
 /// Of QR symbols that are drawn, no data at all are refused first.
 pub fn no_front()
-    ensures { (stored : List ℕ) (model dots : ℕ) (bytes : Stored) → model ≢ 1
-        → length (bytes_of stored (span_of bytes)) ≡ 0
+    ensures { (stored : List ℕ) (model dots : ℕ) (bytes : Span) → model ≢ 1
+        → length (bytes_of stored bytes) ≡ 0
         → kept_content stored (Qr model dots bytes) ≡ Err (Symbol Empty) }
 {}

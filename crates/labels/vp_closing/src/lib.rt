@@ -1,7 +1,6 @@
 //! Closed fields as the format keeps them, or why they are refused (ZPL II, ^FS and ^XZ).
 //!
-//! - `span`: bytes among the stored ones.
-//! - `text`, `graphic`, `symbol`: texts and their blocks, boxes and pictures, bars and QR symbols.
+//! - `text`, `graphic`, `symbol`: texts and their blocks, pictures, bars and QR symbols.
 //! - `position`: where a field stands.
 //! - `content`, `field`: what a field shows, and the whole field, as they are kept. `laws`: what is refused.
 #![tactic(auto)]
@@ -11,7 +10,6 @@ mod field;
 mod graphic;
 pub mod laws;
 mod position;
-mod span;
 mod symbol;
 mod text;
 

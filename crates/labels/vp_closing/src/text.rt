@@ -1,20 +1,18 @@
 //! Texts, and blocks of them.
 ghost use Rattle.std.specs.Prelude.{◌≡◌};
 ghost use Rattle.vp_label_settings.specs.Laws.{IsSpace, IsBlock, IsBlockIf};
-ghost use Rattle.vp_closing.specs.Texts.{text_of, gap_of, alignment_of, block_of, text_content};
+ghost use Rattle.vp_closing.specs.Texts.{text_of, gap_of, block_of, text_content};
 
-use crate::span::span_of;
-use vp_format::{Block, Content, Text};
-use vp_glyph::Alignment;
-use vp_label_settings::{Alignment as Asked, CharacterSize, FieldBlock, Stored};
+use vp_format::{Block, Content, Span, Text};
+use vp_label_settings::{CharacterSize, FieldBlock};
 use vp_zpl::item::LineSpace;
 
 /// A text in one line.
-pub fn text_of(size: CharacterSize, bytes: Stored) -> Text
+pub fn text_of(size: CharacterSize, bytes: Span) -> Text
     ensures { result ≡ text_of size bytes }
 {
     Text {
-        bytes: span_of(bytes),
+        bytes,
         width: size.width,
         height: size.height,
     }
@@ -31,16 +29,6 @@ fn gap_of(space: LineSpace) -> i16
     }
 }
 
-fn alignment_of(asked: Asked) -> Alignment
-    ensures { result ≡ alignment_of asked }
-{
-    match asked {
-        Asked::Left => Alignment::Left,
-        Asked::Centre => Alignment::Centre,
-        Asked::Right => Alignment::Right,
-    }
-}
-
 fn block_of(text: Text, block: FieldBlock) -> Block
     requires { IsBlock block }
     ensures { result ≡ block_of text block }
@@ -50,7 +38,7 @@ fn block_of(text: Text, block: FieldBlock) -> Block
         width: block.width,
         lines: block.lines,
         gap: gap_of(block.space),
-        alignment: alignment_of(block.alignment),
+        alignment: block.alignment,
     }
 }
 

@@ -116,17 +116,50 @@ fn column_of<I: Ink>(ink: &I, columns: Axis, rows: Axis, x: u64, first: u32) -> 
     }
 }
 
-/// The ink on eight columns of the label, the first of which is x.
-fn eight_columns<I: Ink>(ink: &I, columns: Axis, rows: Axis, x: u64, first: u32) -> [[u8; 4]; 8]
+/// The same on a column that comes behind another, which shows a line of ink.
+fn column_after<I: Ink>(
+    ink: &I,
+    columns: Axis,
+    rows: Axis,
+    x: u64,
+    first: u32,
+    before: [u8; 4],
+) -> [u8; 4]
+    requires low { I.height ink.now < 2 ^ 32 }
+    requires near { IsWithin (2 ^ 41) rows }
+    requires after { 0 < x }
+    requires before { (k : ℕ) → k < 32 → dot before k ≡ laid Across columns rows (I.ink_at ink.now)
+        (pos (x - 1)) (pos (first + k)) }
+    ensures { (k : ℕ) → k < 32 → dot result k ≡ laid Across columns rows (I.ink_at ink.now) (pos x)
+        (pos (first + k)) }
+{
+    if repeats_above(ink, columns, x) {
+        return before;
+    }
+    column_of(ink, columns, rows, x, first)
+}
+
+/// The ink on eight columns of the label, the first of which is x and is given. Columns that are known to show
+/// the same line are drawn once.
+fn eight_columns<I: Ink>(
+    ink: &I,
+    columns: Axis,
+    rows: Axis,
+    x: u64,
+    first: u32,
+    line: [u8; 4],
+) -> [[u8; 4]; 8]
     requires low { I.height ink.now < 2 ^ 32 }
     requires near { IsWithin (2 ^ 41) rows }
     requires x { x < 2 ^ 32 }
+    requires line { (k : ℕ) → k < 32 → dot line k ≡ laid Across columns rows (I.ink_at ink.now) (pos x)
+        (pos (first + k)) }
     ensures { (i k : ℕ) → i < 8 → k < 32 → dot (slice_index_or result i []) k
         ≡ laid Across columns rows (I.ink_at ink.now) (pos (x + i)) (pos (first + k)) }
 {
-    let mut lines = [[0; 4]; 8];
-    for i in 0..8usize {
-        lines[i] = column_of(ink, columns, rows, x + i as u64, first);
+    let mut lines = [line; 8];
+    for i in 1..8usize {
+        lines[i] = column_after(ink, columns, rows, x + i as u64, first, lines[i - 1]);
     }
     lines
 }
@@ -147,10 +180,12 @@ fn paint_across<I: Ink>(
     let (_, h) = ink.size();
     let (from, to) = columns.span(h);
     row_lengths(band);
+    let mut line = column_of(ink, columns, rows, from, first);
     for j in 0..to.min(WIDTH).saturating_sub(from).div_ceil(8) {
         let x = from + 8 * j;
-        let lines = eight_columns(ink, columns, rows, x, first);
+        let lines = eight_columns(ink, columns, rows, x, first, line);
         lay_eight(op, &lines, x as usize, 0, band);
+        line = column_after(ink, columns, rows, x + 8, first, lines[7]);
     }
 }
 

@@ -114,18 +114,14 @@ fn read_row(rows: &mut RunRows<'_>, row: &mut [u8])
     let _ = rows.next_row(row);
 }
 
-/// Reads on to a row of a picture of which none is refused.
-fn read_to(rows: &mut RunRows<'_>, to: u32, row: &mut [u8])
-    requires len { length row.old ≡ rows.old.picture.row_bytes }
+/// Goes on to a row of a picture of which none is refused.
+fn skip_to(rows: &mut RunRows<'_>, to: u32)
     requires next { rows.old.next ≤ to }
     requires to { to ≤ rows.old.picture.rows }
     requires read { (y : ℕ) → y < rows.old.picture.rows → is_refused rows.old.picture y ≡ false }
-    ensures len { length row.new ≡ length row.old }
-    ensures next { rows.new ≡ record rows.old { next = to } }
+    ensures { rows.new ≡ record rows.old { next = to } }
 {
-    for _ in rows.mark().row()..to {
-        read_row(rows, row);
-    }
+    let _ = rows.skip(to - rows.mark().row());
 }
 
 /// Paints a row of a picture where it falls on the band.
@@ -215,7 +211,7 @@ pub fn paint_picture(
     let mut row = [0u8; ROW];
     let row = &mut row[..usize::from(picture.row_bytes)];
     let mut rows = cursor(stored, picture, mark, from);
-    read_to(&mut rows, from, row);
+    skip_to(&mut rows, from);
     paint_rows(&mut rows, from, to, row, on.op, at, first, band);
     Some(rows.mark())
 }

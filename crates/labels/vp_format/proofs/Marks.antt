@@ -55,7 +55,7 @@ value-at p zero j = refl
 value-at p (suc y) j = refl
 
 -- what a marked row shows
-marked_place : (p : Picture) (m : RunMark) (j : ℕ) → IsMark p m → place_of p m.next j ≡ shown (width_of p) 0 (symbols_at p.coding p.codes m.here) j
+pub marked_place : (p : Picture) (m : RunMark) (j : ℕ) → IsMark p m → place_of p m.next j ≡ shown (width_of p) 0 (symbols_at p.coding p.codes m.here) j
 unfolding place_of
 marked_place p m j h = h.shown_is j
 
@@ -72,19 +72,19 @@ marked_start p m h =
     ap (bytes_before w 0 (symbols p.coding p.codes)) e ∙ h.bytes_is 0 ∙ ap (λ k. m.here.at + k) (bytes_none w 0 (symbols_at p.coding p.codes m.here) 0 (omega arith)) ∙ omega arith
 
 -- a row that repeats, and one that doesn't
-marked_repeat : (p : Picture) (m : RunMark) → IsMark p m → is_repeat p m.next ≡ is_above (shown (width_of p) 0 (symbols_at p.coding p.codes m.here) 0)
+pub marked_repeat : (p : Picture) (m : RunMark) → IsMark p m → is_repeat p m.next ≡ is_above (shown (width_of p) 0 (symbols_at p.coding p.codes m.here) 0)
 unfolding is_repeat
 marked_repeat p m h = ap is_above (marked_place p m 0 h)
 
 -- the mark before the first row
-symbols_none : (coding : Coding) (codes : List ℕ) → symbols coding (drop (length codes) codes) ≡ symbols coding []
+pub symbols_none : (coding : Coding) (codes : List ℕ) → symbols coding (drop (length codes) codes) ≡ symbols coding []
 symbols_none coding codes = ap (symbols coding) (drop-length codes)
 
-nothing_shown : (coding : Coding) (w j : ℕ) → shown w 0 (symbols coding []) j ≡ Value 0
+pub nothing_shown : (coding : Coding) (w j : ℕ) → shown w 0 (symbols coding []) j ≡ Value 0
 nothing_shown RunLength w j = refl
 nothing_shown Binary w j = refl
 
-nothing_spelled : (coding : Coding) (w j : ℕ) → bytes_before w 0 (symbols coding []) j ≡ 0
+pub nothing_spelled : (coding : Coding) (w j : ℕ) → bytes_before w 0 (symbols coding []) j ≡ 0
 nothing_spelled RunLength w j = refl
 nothing_spelled Binary w j = refl
 
@@ -118,7 +118,7 @@ pub above_next : (p : Picture) (m n : RunMark) (j : ℕ) → n.next ≡ m.next +
 above_next p m n j next = ap (λ y. above p y j) (next ∙ add-one m.next)
 
 -- where the last row starts that isn't a repeat
-start_next : (p : Picture) (y : ℕ) → start_above p (y + 1) ≡ cond (is_repeat p y) (start_above p y) (start_of p y)
+pub start_next : (p : Picture) (y : ℕ) → start_above p (y + 1) ≡ cond (is_repeat p y) (start_above p y) (start_of p y)
 unfolding start_above
 start_next p y = ap (start_above p) (add-one y)
 

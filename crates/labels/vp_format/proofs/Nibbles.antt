@@ -78,6 +78,9 @@ nibble_of_byte row b j e = ap (λ x. cond (eqb (j % 2) 0) (x / 16) (x % 16)) e
 nibble_of_twice : (row : List ℕ) (v j : ℕ) → v < 16 → get_or row (j / 2) 0 ≡ v * 16 + v → nibble row j ≡ v
 nibble_of_twice row v j small e = nibble_of_byte row (v * 16 + v) j e ∙ (elim (cases_Bool (eqb (j % 2) 0)) [ inl t ↦ rw t (omega arith) | inr t ↦ rw t (omega arith) ])
 
+pub nibble_twice : (n v j : ℕ) → v < 16 → j < 2 * n → nibble (replicate n (v * 16 + v)) j ≡ v
+nibble_twice n v j small h = nibble_of_twice (replicate n (v * 16 + v)) v j small (get_or-replicate {A = ℕ} n (j / 2) (v * 16 + v) 0 (omega arith))
+
 -- bytes written
 pub bytes_filled : (old mid rest : List ℕ) (first last v : ℕ) → first ≤ last → last ≤ length old → v < 16 → mid ≡ replicate (length (take (last - first) (drop first old))) (v * 16 + v)
     → Filled (2 * first) (2 * last) v old (take first old ++ (mid ++ rest))

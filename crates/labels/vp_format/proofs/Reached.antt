@@ -141,7 +141,7 @@ shows_later w p (ToEnd v) = refl
 shows_later w p Again = ap (λ r. cond (eqb r 0) AsAbove Nothing) (add-mod_left w p)
 shows_later w p Refused = refl
 
-shown_later : (w p : ℕ) (ss : List Spelled) (j : ℕ) → 0 < w → shown w (w + p) ss (w + j) ≡ shown w p ss j
+pub shown_later : (w p : ℕ) (ss : List Spelled) (j : ℕ) → 0 < w → shown w (w + p) ss (w + j) ≡ shown w p ss j
 shown_later w p [] j h = refl
 shown_later w p (s ∷ ss) j h = elim (cases_lt j (end_of w p s.symbol)) [
   | inl l ↦ shown_in w (w + p) s ss (w + j) (rw (end_later w p s.symbol h) (omega arith)) ∙ shows_later w p s.symbol ∙ sym (shown_in w p s ss j l)
@@ -149,7 +149,7 @@ shown_later w p (s ∷ ss) j h = elim (cases_lt j (end_of w p s.symbol)) [
       ∙ shown_later w (end_of w p s.symbol) ss j h ∙ sym (shown_past w p s ss j g)
 ]
 
-bytes_later : (w p : ℕ) (ss : List Spelled) (j : ℕ) → 0 < w → bytes_before w (w + p) ss (w + j) ≡ bytes_before w p ss j
+pub bytes_later : (w p : ℕ) (ss : List Spelled) (j : ℕ) → 0 < w → bytes_before w (w + p) ss (w + j) ≡ bytes_before w p ss j
 bytes_later w p [] j h = refl
 bytes_later w p (s ∷ ss) j h = elim (cases_lt p j) [
   | inl l ↦ bytes_past w (w + p) s ss (w + j) (omega arith) ∙ ap (λ q. s.bytes + bytes_before w q ss (w + j)) (end_later w p s.symbol h)

@@ -72,6 +72,22 @@ IsWhole Binary s = (s.left ≡ 0) × (s.digit ≡ 0)
 abbrev pub symbols_at : Coding → List ℕ → Spot → List Spelled
 symbols_at coding codes s = spelled (Digits s.left s.digit) 0 ∷ symbols coding (drop s.at codes)
 
+-- the spot so many rows later, where no code is read
+abbrev pub spot_behind : ℕ → Spot → ℕ → Spot
+spot_behind width s k = record { left = s.left - width * k; digit = s.digit; at = s.at }
+
+-- rows from a spot on show one value, no code spells them, and the row behind them starts at another spot
+pub record Even (width : ℕ) (coding : Coding) (codes : List ℕ) (s : Spot) (k v : ℕ) (after : Spot) : Type 0 where
+  pub spot : IsSpot codes after
+  pub whole : IsWhole coding after
+  pub at : after.at ≡ s.at
+  pub shows : (j : ℕ) → j < width * k → shown width 0 (symbols_at coding codes s) j ≡ Value v
+  pub none : (j : ℕ) → j ≤ width * k → bytes_before width 0 (symbols_at coding codes s) j ≡ 0
+  pub next : (j : ℕ) → shown width 0 (symbols_at coding codes s) (width * k + j)
+      ≡ shown width 0 (symbols_at coding codes after) j
+  pub bytes : (j : ℕ) → bytes_before width 0 (symbols_at coding codes s) (width * k + j)
+      ≡ bytes_before width 0 (symbols_at coding codes after) j
+
 -- places from <= j < to of a row have the value, and those before are as they were
 pub record Filled (from to v : ℕ) (old new : List ℕ) : Type 0 where
   pub kept : (j : ℕ) → j < from → nibble new j ≡ nibble old j

@@ -106,6 +106,21 @@ answer p y = if nat_lt y p.rows then (if is_refused p y then Err Graphic else Ok
 abbrev pub row_after : Picture → ℕ → ℕ
 row_after p y = if nat_lt y p.rows then (if is_refused p y then y else y + 1) else y
 
+-- a fault, or what comes later
+abbrev pub unless_fault : Result Bool Fault → Result (Unit {0}) Fault → Result (Unit {0}) Fault
+unless_fault (Err why) later = Err why
+unless_fault (Ok read) later = later
+
+-- what so many readings answer from row y on: the first fault that one of them does
+unfoldable pub passing : Picture → ℕ → ℕ → Result (Unit {0}) Fault
+passing p y zero = Ok tt
+passing p y (suc n) = unless_fault (answer p y) (passing p (row_after p y) n)
+
+-- the row to be read after so many readings
+unfoldable pub rows_after : Picture → ℕ → ℕ → ℕ
+rows_after p y zero = y
+rows_after p y (suc n) = rows_after p (row_after p y) n
+
 -- a cursor before a row of a picture, and the row before which it began
 pub record Cursor : Type 0 where
   pub picture : Picture

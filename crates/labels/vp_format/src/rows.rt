@@ -1,7 +1,7 @@
 //! The rows of a picture, one after the other.
-ghost use Rattle.std.specs.Prelude.{◌≡◌, ℕ, ◌+◌, ◌-◌, ◌*◌, ◌^◌, if◌then◌else◌, ◌<◌, ◌≤◌, Result, Ok, true, false, length};
-ghost use Rattle.vp_format.specs.Pictures.{value, is_refused, nibble, answer, row_after, start_of, bound_of};
-ghost use Rattle.vp_format.specs.Cursors.{marked_row, IsMark};
+ghost use Rattle.std.specs.Prelude.{◌≡◌, ℕ, ◌+◌, ◌-◌, ◌*◌, ◌^◌, if◌then◌else◌, ◌<◌, ◌≤◌, Result, Ok, true, false, List, length};
+ghost use Rattle.vp_format.specs.Pictures.{value, is_refused, nibble, answer, row_after, passing, rows_after, start_of, bound_of};
+ghost use Rattle.vp_format.specs.Cursors.{marked_row, IsMark, IsSpot, IsWhole, spot_behind, Even};
 
 use crate::reading::Codes;
 use crate::row::{RowEnd, next_row};
@@ -26,6 +26,44 @@ pub struct Spot {
     pub left: u128,
     pub digit: u8,
     pub at: usize,
+}
+
+impl Spot {
+    /// How many rows of so many bytes from a spot on, of the most that are asked for, are one digit that no
+    /// code spells, and the digit: rows that a run covers whole, and white ones where no code and no run is
+    /// left.
+    fn even_rows(self, row_bytes: usize, codes: usize, most: u32) -> (u32, u8)
+        requires some { 0 < row_bytes }
+        requires short { row_bytes ≤ 1024 }
+        requires digit { self.digit < 16 }
+        ensures most { result.0 ≤ most }
+        ensures digit { result.1 < 16 }
+        ensures even { (coding : Coding) (bytes : List ℕ) (k : ℕ) → length bytes ≡ codes → IsSpot bytes self →
+            IsWhole coding self → k ≤ result.0 →
+            Even (2 * row_bytes) coding bytes self k result.1 (spot_behind (2 * row_bytes) self k) }
+    {
+        let places = 2 * row_bytes as u128;
+        if self.left >= places {
+            let rows = (self.left / places).min(u128::from(most));
+            (rows as u32, self.digit)
+        } else if self.left == 0 && self.at == codes {
+            (most, 0)
+        } else {
+            (0, self.digit)
+        }
+    }
+
+    /// The spot behind so many rows of so many bytes that no code spells.
+    fn behind(self, row_bytes: usize, rows: u32) -> Spot
+        requires short { row_bytes ≤ 1024 }
+        ensures { result ≡ spot_behind (2 * row_bytes) self rows }
+    {
+        let places = 2 * row_bytes as u128 * u128::from(rows);
+        Spot {
+            left: self.left.saturating_sub(places),
+            ..self
+        }
+    }
 }
 
 /// Where a cursor stands before a row.
@@ -85,6 +123,22 @@ impl RunMark {
             before: if end.repeats { self.before } else { self.here },
         }
     }
+
+    /// The mark behind so many rows of so many bytes that no code spells.
+    fn behind_even(self, row_bytes: usize, rows: u32) -> RunMark
+        requires short { row_bytes ≤ 1024 }
+        requires some { 0 < rows }
+        requires room { self.next + rows < 2 ^ 32 }
+        ensures next { result.next ≡ self.next + rows }
+        ensures here { result.here ≡ spot_behind (2 * row_bytes) self.here rows }
+        ensures before { result.before ≡ spot_behind (2 * row_bytes) self.here (rows - 1) }
+    {
+        RunMark {
+            next: self.next + rows,
+            here: self.here.behind(row_bytes, rows),
+            before: self.here.behind(row_bytes, rows - 1),
+        }
+    }
 }
 
 /// A cursor in the codes of a picture.
@@ -141,10 +195,10 @@ impl<'a> RunRows<'a> {
         }
     }
 
-    /// Writes the next row, if there is one; `Graphic` where a symbol that starts in it is refused. From the
-    /// fault on each call answers it, and the bytes are any.
+    /// Writes the first bytes of the next row, as many as there is room for, if there is one; `Graphic` where
+    /// a symbol that starts in it is refused. From the fault on each call answers it, and the bytes are any.
     pub fn next_row(&mut self, out: &mut [u8]) -> Result<bool, Fault>
-        requires { length out.old ≡ self.old.picture.row_bytes }
+        requires { length out.old ≤ self.old.picture.row_bytes }
         ensures answer { result ≡ answer self.old.picture self.old.next }
         ensures row { result ≡ Ok true → (x : ℕ) → x < 2 * length out.old →
             nibble out.new x ≡ value self.old.picture self.old.next x }
@@ -170,11 +224,51 @@ impl<'a> RunRows<'a> {
                 Err(Fault::Graphic)
             }
             Ok(end) => {
-                out.copy_from_slice(&self.row[..self.row_bytes]);
+                out.copy_from_slice(&self.row[..out.len()]);
                 self.mark = self.mark.behind(end, self.codes.at());
                 Ok(true)
             }
         }
+    }
+
+    /// Passes rows that no code spells, so many at most, and says how many they are.
+    fn pass_even(&mut self, most: u32) -> u32
+        requires room { self.old.next + most < 2 ^ 32 }
+        ensures most { result ≤ most }
+        ensures next { self.new ≡ record self.old { next = self.old.next + result } }
+        ensures taken { (y : ℕ) → self.old.next ≤ y → y < self.old.next + result →
+            is_refused self.old.picture y ≡ false }
+    {
+        let (rows, v) = self
+            .mark
+            .here
+            .even_rows(self.row_bytes, self.codes.len(), most);
+        if rows > 0 {
+            self.row = [v * 16 + v; ROW];
+            self.mark = self.mark.behind_even(self.row_bytes, rows);
+        }
+        rows
+    }
+
+    /// Goes on as so many calls of `next_row` would, and answers the first fault that one of them would. Rows
+    /// that no code spells are passed at once.
+    pub fn skip(&mut self, rows: u32) -> Result<(), Fault>
+        ensures answer { result ≡ passing self.old.picture self.old.next rows }
+        ensures next { self.new ≡ record self.old { next = rows_after self.old.picture self.old.next rows } }
+    {
+        let mut left = rows;
+        while left > 0 {
+            if self.mark.next >= self.rows {
+                return Ok(());
+            }
+            let even = self.pass_even(left.min(self.rows - self.mark.next));
+            left -= even;
+            if even == 0 {
+                let _ = self.next_row(&mut [])?;
+                left -= 1;
+            }
+        }
+        Ok(())
     }
 
     /// Where the cursor stands.

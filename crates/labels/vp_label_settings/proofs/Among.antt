@@ -46,7 +46,7 @@ closed-place : (s : Settings) (p : FieldParts) (end : ℕ) (content : Option Ope
     IfSome (option_map (field_of s p end) content) (λ field. IsPlace field.position)
 closed-place s p end None fits = tt
 closed-place s p end (Some (opened.Data start)) fits = fits
-closed-place s p end (Some (opened.Frame b)) fits = fits
+closed-place s p end (Some (opened.Frame b colour)) fits = fits
 closed-place s p end (Some (opened.Picture head start)) fits = fits
 
 pub closing-place : (before : List Item) → IfSome (closing before) (λ field. IsPlace field.position)
@@ -58,13 +58,13 @@ closing-place before =
 abbrev pub BeginsBy : ℕ → Option OpenContent → Type 0
 BeginsBy end None = Unit {0}
 BeginsBy end (Some (opened.Data start)) = start ≤ end
-BeginsBy end (Some (opened.Frame b)) = Unit {0}
+BeginsBy end (Some (opened.Frame b colour)) = Unit {0}
 BeginsBy end (Some (opened.Picture head start)) = start ≤ end
 
 more-stored : (n m : ℕ) (content : Option OpenContent) → n ≤ m → BeginsBy n content → BeginsBy m content
 more-stored n m None order begins = tt
 more-stored n m (Some (opened.Data start)) order begins = omega arith
-more-stored n m (Some (opened.Frame b)) order begins = tt
+more-stored n m (Some (opened.Frame b colour)) order begins = tt
 more-stored n m (Some (opened.Picture head start)) order begins = omega arith
 
 picture-begins : (end : ℕ) (head : Option PictureHead) → BeginsBy end (option_map (picture_behind end) head)
@@ -97,13 +97,14 @@ data-among : (s : Settings) (p : FieldParts) (symbol : Option SymbolChoice) (sta
     HasBytesAmong end (data_content s p symbol (bytes_from start end))
 data-among s p None start end order = omega arith
 data-among s p (Some (asked.Bars b)) start end order = omega arith
+data-among s p (Some asked.NotDrawn) start end order = tt
 data-among s p (Some (asked.Qr model dots)) start end order = omega arith
 
 closed-among : (s : Settings) (p : FieldParts) (end : ℕ) (content : Option OpenContent) → BeginsBy end content →
     IfSome (option_map (field_of s p end) content) (λ field. HasBytesAmong end field.content)
 closed-among s p end None begins = tt
 closed-among s p end (Some (opened.Data start)) begins = data-among s p p.symbol start end begins
-closed-among s p end (Some (opened.Frame b)) begins = tt
+closed-among s p end (Some (opened.Frame b colour)) begins = tt
 closed-among s p end (Some (opened.Picture head start)) begins = omega arith
 
 pub closing-among : (before : List Item) → IfSome (closing before) (λ field. HasBytesAmong (length (stored before)) field.content)

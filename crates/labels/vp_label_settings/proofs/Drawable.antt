@@ -4,7 +4,9 @@ use Rattle.std.proofs.lemmas.Nat.{mul-le, le-div}
 use Rattle.std.specs.Prelude.{IfSome}
 use Rattle.vp_zpl.specs.declared.item.LineSpace.{LineSpace}
 use Rattle.vp_zpl.specs.declared.item.LineSpace.TheVariants.{Added, Deleted}
-use Rattle.vp_zpl.specs.declared.item.Colour.{Colour}
+use Rattle.vp_zpl.specs.declared.item.Code128Mode.{Code128Mode}
+use Rattle.vp_zpl.specs.declared.item.Code128Mode.TheVariants.{UccCase, Automatic, UccEan}
+use Rattle.vp_zpl.specs.declared.item.Orientation.{Orientation}
 use Rattle.vp_zpl.specs.declared.item.GraphicFormat.{GraphicFormat}
 use Rattle.vp_zpl.specs.declared.item.Command.{Command}
 use Rattle.vp_zpl.specs.declared.item.Command.TheVariants.{FormatEnd, FieldSeparator, Code39, Ean13, Code128, QrCode, FieldBlock as SetBlock, FieldData, GraphicBox as DrawBox, Graphic}
@@ -14,15 +16,15 @@ use Rattle.vp_label_settings.specs.declared.choice.FontChoice.{FontChoice}
 use Rattle.vp_label_settings.specs.declared.choice.SymbolChoice.{SymbolChoice}
 use Rattle.vp_label_settings.specs.declared.choice.SymbolChoice.TheVariants as asked
 use Rattle.vp_label_settings.specs.declared.choice.FieldBlock.{FieldBlock}
-use Rattle.vp_label_settings.specs.declared.graphic.Coding.{Coding}
+use Rattle.vp_format.specs.declared.rows.Coding.{Coding}
 use Rattle.vp_label_settings.specs.declared.parts.OpenContent.{OpenContent}
 use Rattle.vp_label_settings.specs.declared.parts.OpenContent.TheVariants as opened
 use Rattle.vp_label_settings.specs.declared.parts.FieldParts.{FieldParts}
-use Rattle.vp_label_settings.specs.declared.field.Stored.{Stored}
+use Rattle.vp_format.specs.declared.field.Span.{Span}
 use Rattle.vp_label_settings.specs.Ranges.{ranged}
 use Rattle.vp_label_settings.specs.Formats.{is_open, stored}
 use Rattle.vp_label_settings.specs.Settings.{settings_of}
-use Rattle.vp_label_settings.specs.Choices.{line_space}
+use Rattle.vp_label_settings.specs.Choices.{line_space, code128_choice}
 use Rattle.vp_label_settings.specs.Graphics.{side_of, box_with, has_rows, picture_coding, headed, picture_head}
 use Rattle.vp_label_settings.specs.Parts.{symbol_by, symbol, block_by, block, picture_behind, content_by, content, parts_of}
 use Rattle.vp_label_settings.specs.Closing.{text_size, data_content, field_of, closing}
@@ -32,12 +34,19 @@ use Rattle.vp_label_settings.proofs.InRange.{acting-keeps, ranged-within, size_g
 abbrev pub IsSymbolIf : Option SymbolChoice → Type 0
 IsSymbolIf None = Unit {0}
 IsSymbolIf (Some (asked.Bars b)) = Unit {0}
+IsSymbolIf (Some asked.NotDrawn) = Unit {0}
 IsSymbolIf (Some (asked.Qr model dots)) = Within 1 2 model × Within 1 10 dots
+
+code128-fits : (mode : Option Code128Mode) (o : Option Orientation) (h : Option ℕ) (t a : Option Bool) → IsSymbolIf (Some (code128_choice mode o h t a))
+code128-fits None o h t a = tt
+code128-fits (Some Automatic) o h t a = tt
+code128-fits (Some UccCase) o h t a = tt
+code128-fits (Some UccEan) o h t a = tt
 
 symbol-step : (command : Command) (old : Option SymbolChoice) → IsSymbolIf old → IsSymbolIf (symbol_by command old)
 symbol-step (Code39 o c h t a) old fits = tt
 symbol-step (Ean13 o h t a) old fits = tt
-symbol-step (Code128 o h t a m) old fits = tt
+symbol-step (Code128 o h t a m) old fits = code128-fits m o h t a
 symbol-step (QrCode model dots) old fits = (
   ranged-within 1 2 2 model (omega arith) (record { least = omega arith; most = omega arith }),
   ranged-within 1 10 2 dots (omega arith) (record { least = omega arith; most = omega arith }),
@@ -72,7 +81,7 @@ block-fits (item ∷ before) = acting-keeps IsBlockIf block_by block-step (is_op
 abbrev pub IsContentIf : Option OpenContent → Type 0
 IsContentIf None = Unit {0}
 IsContentIf (Some (opened.Data start)) = Unit {0}
-IsContentIf (Some (opened.Frame b)) = IsFrame b
+IsContentIf (Some (opened.Frame b colour)) = IsFrame b
 IsContentIf (Some (opened.Picture head start)) = IsPicture head
 
 raised-within : (t n : ℕ) → Within 1 32000 t → Within 1 32000 n → Within t 32000 (max t n)
@@ -81,8 +90,8 @@ raised-within t n t_fits n_fits = record { least = omega arith; most = omega (ar
 side-fits : (side : Option ℕ) (t : ℕ) → Within 1 32000 t → Within t 32000 (side_of side t)
 side-fits side t fits = raised-within t (ranged 1 32000 t side) fits (ranged-within 1 32000 t side (omega arith) fits)
 
-box-fits : (t : ℕ) (w h : Option ℕ) (c : Option Colour) → Within 1 32000 t → IsFrame (box_with t w h c)
-box-fits t w h c fits = record { thickness = fits; width = side-fits w t fits; height = side-fits h t fits }
+box-fits : (t : ℕ) (w h : Option ℕ) → Within 1 32000 t → IsFrame (box_with t w h)
+box-fits t w h fits = record { thickness = fits; width = side-fits w t fits; height = side-fits h t fits }
 
 row-fits : (bytes row : ℕ) → has_rows bytes row ≡ true → Within 1 1024 row
 row-fits bytes row so = record { least = grind (arith, so); most = grind (arith, so) }
@@ -106,7 +115,7 @@ picture-fits format sent (Some bytes) (Some row) start =
 content-step : (start : ℕ) (command : Command) (old : Option OpenContent) → IsContentIf old → IsContentIf (content_by start command old)
 content-step start FieldData old fits = tt
 content-step start (DrawBox w h t c) old fits =
-    box-fits (ranged 1 32000 1 t) w h c (ranged-within 1 32000 1 t (omega arith) (record { least = omega arith; most = omega arith }))
+    box-fits (ranged 1 32000 1 t) w h (ranged-within 1 32000 1 t (omega arith) (record { least = omega arith; most = omega arith }))
 content-step start (Graphic format sent bytes row) old fits = picture-fits format sent bytes row start
 content-step start FieldSeparator old fits = tt
 content-step start FormatEnd old fits = tt
@@ -124,7 +133,7 @@ text-fits s (Some font) fits = size_given-fits font.height font.width s.default_
 wide-within : (n r : ℕ) → n ≤ 10 → r ≤ 30 → Within (n + 1) 30 (max (n + 1) (n * r / 10))
 wide-within n r n_most r_most = record { least = omega arith; most = omega (arith, mul-le n r 10 30 n_most r_most) }
 
-data-fits : (s : Settings) (p : FieldParts) (bytes : Stored) (symbol : Option SymbolChoice) → AreInRange s → IsSymbolIf symbol → IsBlockIf p.block →
+data-fits : (s : Settings) (p : FieldParts) (bytes : Span) (symbol : Option SymbolChoice) → AreInRange s → IsSymbolIf symbol → IsBlockIf p.block →
     IsDrawable (data_content s p symbol bytes)
 data-fits s p bytes None fits symbol_fits block_fits = (text-fits s p.font fits.default_font, block_fits)
 data-fits s p bytes (Some (asked.Bars b)) fits symbol_fits block_fits = (
@@ -132,14 +141,15 @@ data-fits s p bytes (Some (asked.Bars b)) fits symbol_fits block_fits = (
   wide-within s.bar_defaults.module_dots s.bar_defaults.ratio_tenths fits.bar_defaults.module_dots.most fits.bar_defaults.ratio_tenths.most,
   ranged-within 1 8000 s.bar_defaults.height b.height (omega arith) fits.bar_defaults.height,
 )
+data-fits s p bytes (Some asked.NotDrawn) fits symbol_fits block_fits = tt
 data-fits s p bytes (Some (asked.Qr model dots)) fits symbol_fits block_fits = symbol_fits
 
 closed-fits : (s : Settings) (p : FieldParts) (end : ℕ) (content : Option OpenContent) → AreInRange s → IsSymbolIf p.symbol → IsBlockIf p.block →
     IsContentIf content → IfSome (option_map (field_of s p end) content) (λ field. IsDrawable field.content)
 closed-fits s p end None fits symbol_fits block_fits content_fits = tt
 closed-fits s p end (Some (opened.Data start)) fits symbol_fits block_fits content_fits =
-    data-fits s p (record { start = start; length = end - start }) p.symbol fits symbol_fits block_fits
-closed-fits s p end (Some (opened.Frame b)) fits symbol_fits block_fits content_fits = content_fits
+    data-fits s p (record { start = start; len = end - start }) p.symbol fits symbol_fits block_fits
+closed-fits s p end (Some (opened.Frame b colour)) fits symbol_fits block_fits content_fits = content_fits
 closed-fits s p end (Some (opened.Picture head start)) fits symbol_fits block_fits content_fits = content_fits
 
 pub closing-fits : (before : List Item) → IfSome (closing before) (λ field. IsDrawable field.content)

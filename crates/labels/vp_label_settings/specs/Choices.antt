@@ -5,29 +5,42 @@ use Rattle.vp_zpl.specs.declared.item.Justification.{Justification}
 use Rattle.vp_zpl.specs.declared.item.Justification.TheVariants as sides
 use Rattle.vp_zpl.specs.declared.item.LineSpace.{LineSpace}
 use Rattle.vp_zpl.specs.declared.item.LineSpace.TheVariants.{Added, Deleted}
-use Rattle.vp_label_settings.specs.declared.choice.BarText.{BarText}
-use Rattle.vp_label_settings.specs.declared.choice.BarText.TheVariants.{Omitted, Below, Above}
-use Rattle.vp_label_settings.specs.declared.choice.BarKind.{BarKind}
+use Rattle.vp_zpl.specs.declared.item.Code128Mode.{Code128Mode}
+use Rattle.vp_zpl.specs.declared.item.Code128Mode.TheVariants.{UccCase, Automatic, UccEan}
+use Rattle.vp_bars.specs.declared.bar_box.Place.{Place}
+use Rattle.vp_bars.specs.declared.bar_box.Place.TheVariants as places
+use Rattle.vp_glyph.specs.declared.block.Alignment.{Alignment}
+use Rattle.vp_glyph.specs.declared.block.Alignment.TheVariants as aligned
+use Rattle.vp_format.specs.declared.field.BarCode.{BarCode}
+use Rattle.vp_format.specs.declared.field.BarCode.TheVariants.{Code128}
 use Rattle.vp_label_settings.specs.declared.choice.SymbolChoice.{SymbolChoice}
-use Rattle.vp_label_settings.specs.declared.choice.SymbolChoice.TheVariants.{Bars, Qr}
-use Rattle.vp_label_settings.specs.declared.choice.Alignment.{Alignment}
-use Rattle.vp_label_settings.specs.declared.choice.Alignment.TheVariants as aligned
+use Rattle.vp_label_settings.specs.declared.choice.SymbolChoice.TheVariants.{Bars, NotDrawn, Qr}
 use Rattle.vp_label_settings.specs.declared.choice.FieldBlock.{FieldBlock}
 use Rattle.vp_label_settings.specs.Ranges.{ranged}
 
 -- ^B3, ^BE, ^BC: the text stands below the bars, or above them where that is asked
 -- for too; by default it is there, and below
-abbrev pub text_if : Bool → Bool → BarText
-text_if false above = Omitted
-text_if true false = Below
-text_if true true = Above
+abbrev pub text_if : Bool → Bool → Place
+text_if false above = places.None
+text_if true false = places.Below
+text_if true true = places.Above
 
-abbrev pub bar_text : Option Bool → Option Bool → BarText
+abbrev pub bar_text : Option Bool → Option Bool → Place
 bar_text text above = text_if (unwrap_or text true) (unwrap_or above false)
 
-abbrev pub bar_choice : BarKind → Option Orientation → Option ℕ → Option Bool → Option Bool → SymbolChoice
-bar_choice kind orientation height text above =
-    Bars (record { kind = kind; orientation = orientation; height = height; text = bar_text text above })
+abbrev pub bar_choice : BarCode → Option Orientation → Option ℕ → Option Bool → Option Bool → SymbolChoice
+bar_choice code orientation height text above =
+    Bars (record { code = code; orientation = orientation; height = height; place = bar_text text above })
+
+-- ^BC: in mode A the data choose the code sets; modes U and D aren't drawn
+abbrev pub code128_choice : Option Code128Mode → Option Orientation → Option ℕ → Option Bool → Option Bool →
+    SymbolChoice
+code128_choice None orientation height text above =
+    bar_choice (Code128 false) orientation height text above
+code128_choice (Some Automatic) orientation height text above =
+    bar_choice (Code128 true) orientation height text above
+code128_choice (Some UccCase) orientation height text above = NotDrawn
+code128_choice (Some UccEan) orientation height text above = NotDrawn
 
 -- ^BQ: the model, and the dots of a module's side
 abbrev pub qr_choice : Option ℕ → Option ℕ → SymbolChoice

@@ -22,9 +22,9 @@ use Rattle.vp_label_settings.specs.declared.parts.OpenContent.TheVariants as ope
 use Rattle.vp_label_settings.specs.declared.parts.FieldParts.{FieldParts}
 use Rattle.vp_label_settings.specs.declared.field.Position.{Position}
 use Rattle.vp_label_settings.specs.declared.field.Position.TheVariants.{Corner, Baseline}
-use Rattle.vp_label_settings.specs.declared.field.Stored.{Stored}
+use Rattle.vp_format.specs.declared.field.Span.{Span}
 use Rattle.vp_label_settings.specs.declared.field.Content.{Content}
-use Rattle.vp_label_settings.specs.declared.field.Content.TheVariants.{Text, Bars, Qr, Frame, Picture}
+use Rattle.vp_label_settings.specs.declared.field.Content.TheVariants.{Text, Bars, NotDrawn, Qr, Frame, Picture}
 use Rattle.vp_label_settings.specs.declared.field.Field.{Field}
 use Rattle.vp_label_settings.specs.Ranges.{ranged, size_given}
 use Rattle.vp_label_settings.specs.Formats.{stored}
@@ -49,19 +49,21 @@ text_size s (Some font) = size_given font.height font.width s.default_font
 abbrev pub wide_bar : BarDefaults → ℕ
 wide_bar d = max (d.module_dots + 1) (d.module_dots * d.ratio_tenths / 10)
 
-abbrev pub bars : Settings → BarChoice → Stored → Content
-bars s b data_bytes = Bars b.kind s.bar_defaults.module_dots (wide_bar s.bar_defaults)
-    (ranged 1 8000 s.bar_defaults.height b.height) b.text data_bytes
+abbrev pub bars : Settings → BarChoice → Span → Content
+bars s b data_bytes = Bars b.code s.bar_defaults.module_dots (wide_bar s.bar_defaults)
+    (ranged 1 8000 s.bar_defaults.height b.height) b.place data_bytes
 
 -- ^FD: data are drawn as the symbol that was asked for, or as a text; a QR symbol isn't turned
-abbrev pub data_content : Settings → FieldParts → Option SymbolChoice → Stored → Content
+abbrev pub data_content : Settings → FieldParts → Option SymbolChoice → Span → Content
 data_content s p None bytes = Text (text_size s p.font) p.block bytes
 data_content s p (Some (asked.Bars b)) bytes = bars s b bytes
+data_content s p (Some asked.NotDrawn) bytes = NotDrawn
 data_content s p (Some (asked.Qr model dots)) bytes = Qr model dots bytes
 
 abbrev pub data_orientation : Settings → FieldParts → Option SymbolChoice → Orientation
 data_orientation s p None = text_orientation s p.font
 data_orientation s p (Some (asked.Bars b)) = unwrap_or b.orientation s.field_orientation
+data_orientation s p (Some asked.NotDrawn) = Normal
 data_orientation s p (Some (asked.Qr model dots)) = Normal
 
 -- ^FR and ^LR reverse whatever the colour
@@ -73,8 +75,8 @@ paint_of Black = paints.Black
 paint_of White = paints.White
 
 -- the bytes from a place of the stored ones to their end
-abbrev pub bytes_from : ℕ → ℕ → Stored
-bytes_from start end = record { start = start; length = end - start }
+abbrev pub bytes_from : ℕ → ℕ → Span
+bytes_from start end = record { start = start; len = end - start }
 
 abbrev pub field_with : Settings → FieldParts → Orientation → Op → Content → Field
 field_with s p orientation colour content =
@@ -90,7 +92,7 @@ abbrev pub field_of : Settings → FieldParts → ℕ → OpenContent → Field
 field_of s p end (opened.Data start) =
     field_with s p (data_orientation s p p.symbol) paints.Black
     (data_content s p p.symbol (bytes_from start end))
-field_of s p end (opened.Frame b) = field_with s p Normal (paint_of b.colour) (Frame b)
+field_of s p end (opened.Frame b colour) = field_with s p Normal (paint_of colour) (Frame b)
 field_of s p end (opened.Picture head start) =
     field_with s p Normal paints.Black (Picture head (bytes_from start end))
 

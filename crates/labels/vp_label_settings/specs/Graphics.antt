@@ -1,12 +1,10 @@
 -- Boxes, and the heads of pictures.
-use Rattle.std.specs.Prelude.{ℕ, ◌/◌, ◌==◌, ◌&&◌, nat_le, Bool, Option, Some, None, unwrap_or, max, if◌then◌else◌}
-use Rattle.vp_zpl.specs.declared.item.Colour.{Colour}
-use Rattle.vp_zpl.specs.declared.item.Colour.TheVariants.{Black}
+use Rattle.std.specs.Prelude.{ℕ, ◌/◌, ◌==◌, ◌&&◌, nat_le, Bool, Option, Some, None, max, if◌then◌else◌}
 use Rattle.vp_zpl.specs.declared.item.GraphicFormat.{GraphicFormat}
 use Rattle.vp_zpl.specs.declared.item.GraphicFormat.TheVariants as formats
-use Rattle.vp_label_settings.specs.declared.graphic.GraphicBox.{GraphicBox}
-use Rattle.vp_label_settings.specs.declared.graphic.Coding.{Coding}
-use Rattle.vp_label_settings.specs.declared.graphic.Coding.TheVariants as codings
+use Rattle.vp_format.specs.declared.field.GraphicBox.{GraphicBox}
+use Rattle.vp_format.specs.declared.rows.Coding.{Coding}
+use Rattle.vp_format.specs.declared.rows.Coding.TheVariants as codings
 use Rattle.vp_label_settings.specs.declared.graphic.PictureHead.{PictureHead}
 use Rattle.vp_label_settings.specs.Ranges.{ranged}
 
@@ -14,17 +12,16 @@ use Rattle.vp_label_settings.specs.Ranges.{ranged}
 abbrev pub side_of : Option ℕ → ℕ → ℕ
 side_of side t = max t (ranged 1 32000 t side)
 
-abbrev pub box_with : ℕ → Option ℕ → Option ℕ → Option Colour → GraphicBox
-box_with t width height colour =
+abbrev pub box_with : ℕ → Option ℕ → Option ℕ → GraphicBox
+box_with t width height =
     record {
       width = side_of width t;
       height = side_of height t;
       thickness = t;
-      colour = unwrap_or colour Black;
     }
 
-abbrev pub box_of : Option ℕ → Option ℕ → Option ℕ → Option Colour → GraphicBox
-box_of width height thickness colour = box_with (ranged 1 32000 1 thickness) width height colour
+abbrev pub box_of : Option ℕ → Option ℕ → Option ℕ → GraphicBox
+box_of width height thickness = box_with (ranged 1 32000 1 thickness) width height
 
 -- ^GF: a row has 1 to 1,024 bytes, and there is at least one
 abbrev pub has_rows : ℕ → ℕ → Bool
@@ -36,8 +33,8 @@ binary_coding None bytes = None
 binary_coding (Some sent) bytes = if sent == bytes then Some codings.Binary else None
 
 abbrev pub picture_coding : Option GraphicFormat → Option ℕ → ℕ → Option Coding
-picture_coding None sent bytes = Some codings.Ascii
-picture_coding (Some formats.Ascii) sent bytes = Some codings.Ascii
+picture_coding None sent bytes = Some codings.RunLength
+picture_coding (Some formats.Ascii) sent bytes = Some codings.RunLength
 picture_coding (Some formats.Binary) sent bytes = binary_coding sent bytes
 picture_coding (Some formats.Other) sent bytes = None
 

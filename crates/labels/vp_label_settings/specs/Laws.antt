@@ -8,13 +8,13 @@ use Rattle.vp_label_settings.specs.declared.settings.Home.{Home}
 use Rattle.vp_label_settings.specs.declared.settings.BarDefaults.{BarDefaults}
 use Rattle.vp_label_settings.specs.declared.settings.Settings.{Settings}
 use Rattle.vp_label_settings.specs.declared.choice.FieldBlock.{FieldBlock}
-use Rattle.vp_label_settings.specs.declared.graphic.GraphicBox.{GraphicBox}
+use Rattle.vp_format.specs.declared.field.GraphicBox.{GraphicBox}
 use Rattle.vp_label_settings.specs.declared.graphic.PictureHead.{PictureHead}
 use Rattle.vp_label_settings.specs.declared.field.Position.{Position}
 use Rattle.vp_label_settings.specs.declared.field.Position.TheVariants.{Corner, Baseline}
-use Rattle.vp_label_settings.specs.declared.field.Stored.{Stored}
+use Rattle.vp_format.specs.declared.field.Span.{Span}
 use Rattle.vp_label_settings.specs.declared.field.Content.{Content}
-use Rattle.vp_label_settings.specs.declared.field.Content.TheVariants.{Text, Bars, Qr, Frame, Picture}
+use Rattle.vp_label_settings.specs.declared.field.Content.TheVariants.{Text, Bars, NotDrawn, Qr, Frame, Picture}
 
 pub record Within (low : ℕ) (high : ℕ) (n : ℕ) : Type 0 where
   pub least : low ≤ n
@@ -67,8 +67,9 @@ pub record IsPicture (p : PictureHead) : Type 0 where
 -- a content can be drawn
 abbrev pub IsDrawable : Content → Type 0
 IsDrawable (Text size block bytes) = IsSize size × IsBlockIf block
-IsDrawable (Bars kind narrow wide height text bytes) = Within 1 10 narrow × Within (narrow + 1) 30 wide
+IsDrawable (Bars code narrow wide height place bytes) = Within 1 10 narrow × Within (narrow + 1) 30 wide
     × Within 1 8000 height
+IsDrawable NotDrawn = Unit {0}
 IsDrawable (Qr model dots bytes) = Within 1 2 model × Within 1 10 dots
 IsDrawable (Frame b) = IsFrame b
 IsDrawable (Picture head bytes) = IsPicture head
@@ -79,13 +80,14 @@ IsPlace (Corner x y) = (x ≤ 64000) × (y ≤ 64000)
 IsPlace (Baseline x y) = (x ≤ 64000) × (y ≤ 64000)
 
 -- bytes lie among so many stored ones
-abbrev pub IsAmong : ℕ → Stored → Type 0
-IsAmong stored bytes = bytes.start + bytes.length ≤ stored
+abbrev pub IsAmong : ℕ → Span → Type 0
+IsAmong stored bytes = bytes.start + bytes.len ≤ stored
 
 -- the bytes of a content do
 abbrev pub HasBytesAmong : ℕ → Content → Type 0
 HasBytesAmong stored (Text size block bytes) = IsAmong stored bytes
-HasBytesAmong stored (Bars kind narrow wide height text bytes) = IsAmong stored bytes
+HasBytesAmong stored (Bars code narrow wide height place bytes) = IsAmong stored bytes
+HasBytesAmong stored NotDrawn = Unit {0}
 HasBytesAmong stored (Qr model dots bytes) = IsAmong stored bytes
 HasBytesAmong stored (Frame b) = Unit {0}
 HasBytesAmong stored (Picture head bytes) = IsAmong stored bytes

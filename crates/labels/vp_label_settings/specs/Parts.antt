@@ -1,10 +1,11 @@
 -- The parts of the open field, by looking back: each is what the last command that
 -- names it says, and ^FS and ^XZ forget them all.
 use Rattle.std.specs.Prelude.{ℕ, Bool, true, false, Option, Some, None, option_map, unwrap_or, List, [], ◌∷◌, length}
+use Rattle.vp_zpl.specs.declared.item.Colour.TheVariants.{Black}
 use Rattle.vp_zpl.specs.declared.item.Command.{Command}
 use Rattle.vp_zpl.specs.declared.item.Command.TheVariants.{FormatEnd, FieldSeparator, FieldOrigin, FieldTypeset, Font, Code39, Ean13, Code128, QrCode, ReversePrint, FieldBlock as SetBlock, FieldData, GraphicBox as DrawBox, Graphic}
 use Rattle.vp_zpl.specs.Items.{Item}
-use Rattle.vp_label_settings.specs.declared.choice.BarKind.TheVariants as kinds
+use Rattle.vp_format.specs.declared.field.BarCode.TheVariants as codes
 use Rattle.vp_label_settings.specs.declared.choice.FontChoice.{FontChoice}
 use Rattle.vp_label_settings.specs.declared.choice.SymbolChoice.{SymbolChoice}
 use Rattle.vp_label_settings.specs.declared.choice.FieldBlock.{FieldBlock}
@@ -16,7 +17,7 @@ use Rattle.vp_label_settings.specs.declared.parts.OpenContent.TheVariants as con
 use Rattle.vp_label_settings.specs.declared.parts.FieldParts.{FieldParts}
 use Rattle.vp_label_settings.specs.Formats.{is_open, acting, stored}
 use Rattle.vp_label_settings.specs.Settings.{coordinate}
-use Rattle.vp_label_settings.specs.Choices.{bar_choice, qr_choice, block_of}
+use Rattle.vp_label_settings.specs.Choices.{bar_choice, code128_choice, qr_choice, block_of}
 use Rattle.vp_label_settings.specs.Graphics.{box_of, picture_head}
 
 -- ^FO, ^FT: where the field stands, counted from the home
@@ -46,11 +47,11 @@ font (item ∷ before) = acting font_by (is_open before) item (font before)
 -- ^B3, ^BE, ^BC, ^BQ: the symbol that data are drawn as
 abbrev pub symbol_by : Command → Option SymbolChoice → Option SymbolChoice
 symbol_by (Code39 orientation check height text above) old =
-    Some (bar_choice (kinds.Code39 (unwrap_or check false)) orientation height text above)
+    Some (bar_choice (codes.Code39 (unwrap_or check false)) orientation height text above)
 symbol_by (Ean13 orientation height text above) old =
-    Some (bar_choice kinds.Ean13 orientation height text above)
+    Some (bar_choice codes.Ean13 orientation height text above)
 symbol_by (Code128 orientation height text above mode) old =
-    Some (bar_choice (kinds.Code128 mode) orientation height text above)
+    Some (code128_choice mode orientation height text above)
 symbol_by (QrCode model dots) old = Some (qr_choice model dots)
 symbol_by FieldSeparator old = None
 symbol_by FormatEnd old = None
@@ -89,7 +90,7 @@ picture_behind start head = contents.Picture head start
 abbrev pub content_by : ℕ → Command → Option OpenContent → Option OpenContent
 content_by start FieldData old = Some (contents.Data start)
 content_by start (DrawBox width height thickness colour) old =
-    Some (contents.Frame (box_of width height thickness colour))
+    Some (contents.Frame (box_of width height thickness) (unwrap_or colour Black))
 content_by start (Graphic format sent bytes row) old =
     option_map (picture_behind start) (picture_head format sent bytes row)
 content_by start FieldSeparator old = None

@@ -1,8 +1,11 @@
 //! Fonts, symbols and blocks, as a field asks for them.
 ghost use Rattle.std.specs.Prelude.{◌≡◌};
-ghost use Rattle.vp_label_settings.specs.Choices.{bar_text, bar_choice, qr_choice, line_space, alignment_of, block_of};
+ghost use Rattle.vp_label_settings.specs.Choices.{bar_text, bar_choice, code128_choice, qr_choice, line_space, alignment_of, block_of};
 
 use crate::range::ranged;
+use vp_bars::Place;
+use vp_format::BarCode;
+use vp_glyph::Alignment;
 use vp_zpl::item::{Code128Mode, Justification, LineSpace, Orientation};
 
 /// What ^A says; what it leaves out is the settings' matter when the field is closed.
@@ -13,32 +16,14 @@ pub struct FontChoice {
     pub width: Option<u32>,
 }
 
-/// Where the text of bars stands.
-#[derive(Clone, Copy, Debug, PartialEq, Eq)]
-pub enum BarText {
-    Omitted,
-    Below,
-    Above,
-}
-
-/// The linear symbols.
-#[derive(Clone, Copy, PartialEq, Eq)]
-pub enum BarKind {
-    /// ^B3: whether there is a check digit.
-    Code39 { check: bool },
-    /// ^BE
-    Ean13,
-    /// ^BC: none is the mode that takes the data as they are sent.
-    Code128 { mode: Option<Code128Mode> },
-}
-
 /// A linear symbol; how it is turned and how high it is are the settings' matter where it doesn't say it.
 #[derive(Clone, Copy)]
 pub struct BarChoice {
-    pub kind: BarKind,
+    pub code: BarCode,
     pub orientation: Option<Orientation>,
     pub height: Option<u32>,
-    pub text: BarText,
+    /// Where their text stands.
+    pub place: Place,
 }
 
 /// The symbol that a field asks for.
@@ -46,16 +31,10 @@ pub struct BarChoice {
 pub enum SymbolChoice {
     /// ^B3, ^BE, ^BC
     Bars(BarChoice),
+    /// ^BC in its modes U and D, which aren't drawn.
+    NotDrawn,
     /// ^BQ: the model, 1 or 2, and the dots of a module, 1 to 10.
     Qr { model: u16, module_dots: u16 },
-}
-
-/// How the lines of a field block stand in its width.
-#[derive(Clone, Copy, Debug, PartialEq, Eq)]
-pub enum Alignment {
-    Left,
-    Centre,
-    Right,
 }
 
 /// A field block (^FB).
@@ -71,35 +50,53 @@ pub struct FieldBlock {
 }
 
 /// Below, or above where that is asked for too.
-fn bar_text(text: Option<bool>, above: Option<bool>) -> BarText
+fn bar_text(text: Option<bool>, above: Option<bool>) -> Place
     ensures { result ≡ bar_text text above }
 {
     if !text.unwrap_or(true) {
-        BarText::Omitted
+        Place::None
     } else if above.unwrap_or(false) {
-        BarText::Above
+        Place::Above
     } else {
-        BarText::Below
+        Place::Below
     }
 }
 
 impl SymbolChoice {
     /// Bars, with their text where it stands by default.
     pub fn bars(
-        kind: BarKind,
+        code: BarCode,
         orientation: Option<Orientation>,
         height: Option<u32>,
         text: Option<bool>,
         above: Option<bool>,
     ) -> SymbolChoice
-        ensures { result ≡ bar_choice kind orientation height text above }
+        ensures { result ≡ bar_choice code orientation height text above }
     {
         SymbolChoice::Bars(BarChoice {
-            kind,
+            code,
             orientation,
             height,
-            text: bar_text(text, above),
+            place: bar_text(text, above),
         })
+    }
+
+    /// Bars of ^BC, unless its mode isn't drawn.
+    pub fn code128(
+        mode: Option<Code128Mode>,
+        orientation: Option<Orientation>,
+        height: Option<u32>,
+        text: Option<bool>,
+        above: Option<bool>,
+    ) -> SymbolChoice
+        ensures { result ≡ code128_choice mode orientation height text above }
+    {
+        let auto = match mode {
+            None => false,
+            Some(Code128Mode::Automatic) => true,
+            Some(Code128Mode::UccCase | Code128Mode::UccEan) => return SymbolChoice::NotDrawn,
+        };
+        SymbolChoice::bars(BarCode::Code128 { auto }, orientation, height, text, above)
     }
 
     /// A QR symbol.
@@ -124,16 +121,14 @@ fn line_space(space: Option<LineSpace>) -> LineSpace
     }
 }
 
-impl Alignment {
-    /// Justified lines stand at the left.
-    fn of(justification: Option<Justification>) -> Alignment
-        ensures { result ≡ alignment_of justification }
-    {
-        match justification {
-            Some(Justification::Centre) => Alignment::Centre,
-            Some(Justification::Right) => Alignment::Right,
-            None | Some(Justification::Left | Justification::Justified) => Alignment::Left,
-        }
+/// How the lines of a block stand in its width: justified ones at the left.
+fn alignment_of(justification: Option<Justification>) -> Alignment
+    ensures { result ≡ alignment_of justification }
+{
+    match justification {
+        Some(Justification::Centre) => Alignment::Centre,
+        Some(Justification::Right) => Alignment::Right,
+        None | Some(Justification::Left | Justification::Justified) => Alignment::Left,
     }
 }
 
@@ -151,7 +146,7 @@ impl FieldBlock {
             width: ranged(width, 0, 32_000, 0),
             lines: ranged(lines, 1, 9999, 1),
             space: line_space(space),
-            alignment: Alignment::of(justification),
+            alignment: alignment_of(justification),
         }
     }
 }

@@ -2,13 +2,15 @@
 ghost use Rattle.std.specs.Prelude.{◌≡◌, ℕ};
 ghost use Rattle.vp_label_settings.specs.Closing.{position_of, text_orientation, text_size, wide_bar, bars, data_content, data_orientation, operation, paint_of, bytes_from, field_of, field_with, closed};
 
-use crate::choice::{BarChoice, BarKind, BarText, FieldBlock, FontChoice, SymbolChoice};
-use crate::graphic::{GraphicBox, PictureHead};
+use crate::choice::{BarChoice, FieldBlock, FontChoice, SymbolChoice};
+use crate::graphic::PictureHead;
 use crate::parts::{FieldParts, OpenContent, Origin};
 use crate::range::ranged;
 use crate::settings::{BarDefaults, Home, Settings};
 use crate::size::CharacterSize;
+use vp_bars::Place;
 use vp_dots::Op;
+use vp_format::{BarCode, GraphicBox, Span};
 use vp_zpl::item::{Colour, Orientation};
 
 /// Where a field stands on its label, in dots, with the home added.
@@ -20,13 +22,6 @@ pub enum Position {
     Baseline { x: u32, y: u32 },
 }
 
-/// Bytes of a format's stored ones.
-#[derive(Clone, Copy, PartialEq, Eq)]
-pub struct Stored {
-    pub start: u32,
-    pub length: u32,
-}
-
 /// What a field shows.
 #[derive(Clone, Copy, PartialEq, Eq)]
 pub enum Content {
@@ -34,28 +29,30 @@ pub enum Content {
     Text {
         size: CharacterSize,
         block: Option<FieldBlock>,
-        bytes: Stored,
+        bytes: Span,
     },
     /// Bars, so many dots narrow or wide and so many high.
     Bars {
-        kind: BarKind,
+        code: BarCode,
         narrow: u8,
         wide: u16,
         height: u16,
-        text: BarText,
-        bytes: Stored,
+        place: Place,
+        bytes: Span,
     },
+    /// Bars of a kind that isn't drawn.
+    NotDrawn,
     /// A QR symbol, of model 1 or 2 and so many dots a module.
     Qr {
         model: u16,
         module_dots: u16,
-        bytes: Stored,
+        bytes: Span,
     },
     /// A box.
     Frame(GraphicBox),
     Picture {
         head: PictureHead,
-        bytes: Stored,
+        bytes: Span,
     },
 }
 
@@ -71,12 +68,12 @@ pub struct Field {
 }
 
 /// The bytes from a place of the stored ones to their end.
-fn bytes_from(start: u32, end: u32) -> Stored
+fn bytes_from(start: u32, end: u32) -> Span
     ensures { result ≡ bytes_from start end }
 {
-    Stored {
+    Span {
         start,
-        length: end.saturating_sub(start),
+        len: end.saturating_sub(start),
     }
 }
 
@@ -137,15 +134,15 @@ impl Settings {
         }
     }
 
-    fn bars(&self, choice: BarChoice, bytes: Stored) -> Content
+    fn bars(&self, choice: BarChoice, bytes: Span) -> Content
         ensures { result ≡ bars self.now choice bytes }
     {
         Content::Bars {
-            kind: choice.kind,
+            code: choice.code,
             narrow: self.bar_defaults.module_dots,
             wide: self.bar_defaults.wide(),
             height: ranged(choice.height, 1, 8000, self.bar_defaults.height),
-            text: choice.text,
+            place: choice.place,
             bytes,
         }
     }
@@ -173,7 +170,7 @@ impl Settings {
     }
 
     /// A field of data.
-    fn data_field(&self, parts: &FieldParts, bytes: Stored) -> Field
+    fn data_field(&self, parts: &FieldParts, bytes: Span) -> Field
         ensures { result ≡ field_with self.now parts.now
             (data_orientation self.now parts.now parts.now.symbol) Op.Black
             (data_content self.now parts.now parts.now.symbol bytes) }
@@ -191,6 +188,7 @@ impl Settings {
                 choice.orientation.unwrap_or(self.field_orientation),
                 self.bars(choice, bytes),
             ),
+            Some(SymbolChoice::NotDrawn) => (Orientation::Normal, Content::NotDrawn),
             Some(SymbolChoice::Qr { model, module_dots }) => (
                 Orientation::Normal,
                 Content::Qr {
@@ -210,10 +208,10 @@ impl Settings {
     {
         match parts.content? {
             OpenContent::Data { start } => Some(self.data_field(parts, bytes_from(start, stored))),
-            OpenContent::Frame(frame) => Some(self.field(
+            OpenContent::Frame { frame, colour } => Some(self.field(
                 parts,
                 Orientation::Normal,
-                paint_of(frame.colour),
+                paint_of(colour),
                 Content::Frame(frame),
             )),
             OpenContent::Picture { head, start } => {

@@ -3,45 +3,20 @@ ghost use Rattle.std.specs.Prelude.{◌≡◌, ◌&&◌, nat_le};
 ghost use Rattle.vp_label_settings.specs.Graphics.{box_of, picture_coding, picture_head, has_rows};
 
 use crate::range::ranged;
-use vp_zpl::item::{Colour, GraphicFormat};
+use vp_format::{Coding, GraphicBox};
+use vp_zpl::item::GraphicFormat;
 
-/// A box (^GB): a frame of lines as thick as said, each way 1 to 32,000 dots
-/// and at least as many as its lines.
-#[derive(Clone, Copy, PartialEq, Eq)]
-pub struct GraphicBox {
-    pub width: u16,
-    pub height: u16,
-    pub thickness: u16,
-    pub colour: Colour,
-}
-
-impl GraphicBox {
-    /// The box of ^GB: where no width or height is given it is that of the line.
-    pub fn new(
-        width: Option<u32>,
-        height: Option<u32>,
-        thickness: Option<u32>,
-        colour: Option<Colour>,
-    ) -> GraphicBox
-        ensures { result ≡ box_of width height thickness colour }
-    {
-        let thickness = ranged(thickness, 1, 32_000, 1);
-        GraphicBox {
-            width: ranged(width, 1, 32_000, thickness).max(thickness),
-            height: ranged(height, 1, 32_000, thickness).max(thickness),
-            thickness,
-            colour: colour.unwrap_or(Colour::Black),
-        }
+/// The box of ^GB, each way 1 to 32,000 dots and at least as many as its lines: where no width or height is
+/// given it is that of the line.
+pub fn box_of(width: Option<u32>, height: Option<u32>, thickness: Option<u32>) -> GraphicBox
+    ensures { result ≡ box_of width height thickness }
+{
+    let thickness = ranged(thickness, 1, 32_000, 1);
+    GraphicBox {
+        width: ranged(width, 1, 32_000, thickness).max(thickness),
+        height: ranged(height, 1, 32_000, thickness).max(thickness),
+        thickness,
     }
-}
-
-/// How a picture's bytes are written.
-#[derive(Clone, Copy, Debug, PartialEq, Eq)]
-pub enum Coding {
-    /// Hex digits and what shortens them.
-    Ascii,
-    /// The bytes themselves.
-    Binary,
 }
 
 /// What ^GF says of the picture that follows.
@@ -70,7 +45,7 @@ fn picture_coding(
     ensures { result ≡ picture_coding format binary_bytes picture_bytes }
 {
     match format {
-        None | Some(GraphicFormat::Ascii) => Some(Coding::Ascii),
+        None | Some(GraphicFormat::Ascii) => Some(Coding::RunLength),
         Some(GraphicFormat::Binary) => match binary_bytes {
             Some(bytes) if bytes == picture_bytes => Some(Coding::Binary),
             _ => None,

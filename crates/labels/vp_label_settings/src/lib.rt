@@ -17,9 +17,9 @@ mod range;
 mod settings;
 mod size;
 
-pub use choice::{Alignment, BarChoice, BarKind, BarText, FieldBlock, FontChoice, SymbolChoice};
-pub use field::{Content, Field, Position, Stored};
-pub use graphic::{Coding, GraphicBox, PictureHead};
+pub use choice::{BarChoice, FieldBlock, FontChoice, SymbolChoice};
+pub use field::{Content, Field, Position};
+pub use graphic::PictureHead;
 pub use in_force::{InForce, STORE};
 pub use parts::{FieldParts, OpenContent, Origin};
 pub use settings::{BarDefaults, Home, LONGEST, Settings, WIDEST};

@@ -3,10 +3,11 @@ ghost use Rattle.std.specs.Prelude.{◌≡◌, []};
 ghost use Rattle.vp_label_settings.specs.Settings.{coordinate};
 ghost use Rattle.vp_label_settings.specs.Parts.{origin_by, font_by, symbol_by, is_reversed_by, block_by, content_by, parts_of, parts_by};
 
-use crate::choice::{BarKind, FieldBlock, FontChoice, SymbolChoice};
-use crate::graphic::{GraphicBox, PictureHead};
+use crate::choice::{FieldBlock, FontChoice, SymbolChoice};
+use crate::graphic::{PictureHead, box_of};
 use crate::range::ranged;
-use vp_zpl::item::Command;
+use vp_format::{BarCode, GraphicBox};
+use vp_zpl::item::{Colour, Command};
 
 /// Where a field stands, in dots, 0 to 32,000 each way from the home.
 #[derive(Clone, Copy)]
@@ -22,8 +23,8 @@ pub enum Origin {
 pub enum OpenContent {
     /// ^FD: its data begin behind so many stored bytes.
     Data { start: u32 },
-    /// ^GB
-    Frame(GraphicBox),
+    /// ^GB: the box, and its colour.
+    Frame { frame: GraphicBox, colour: Colour },
     /// ^GF: its codes begin behind so many stored bytes.
     Picture { head: PictureHead, start: u32 },
 }
@@ -127,24 +128,24 @@ fn symbol_after(symbol: Option<SymbolChoice>, command: Command) -> Option<Symbol
             text,
             above,
         } => {
-            let kind = BarKind::Code39 {
+            let code = BarCode::Code39 {
                 check: check.unwrap_or(false),
             };
-            Some(SymbolChoice::bars(kind, orientation, height, text, above))
+            Some(SymbolChoice::bars(code, orientation, height, text, above))
         }
         Command::Ean13 {
             orientation,
             height,
             text,
             above,
-        } => Some(SymbolChoice::bars(BarKind::Ean13, orientation, height, text, above)),
+        } => Some(SymbolChoice::bars(BarCode::Ean13, orientation, height, text, above)),
         Command::Code128 {
             orientation,
             height,
             text,
             above,
             mode,
-        } => Some(SymbolChoice::bars(BarKind::Code128 { mode }, orientation, height, text, above)),
+        } => Some(SymbolChoice::code128(mode, orientation, height, text, above)),
         Command::QrCode { model, module } => Some(SymbolChoice::qr(model, module)),
         Command::FieldSeparator | Command::FormatEnd => None,
         _ => symbol,
@@ -189,7 +190,10 @@ fn content_after(content: Option<OpenContent>, command: Command, stored: u32) ->
             height,
             thickness,
             colour,
-        } => Some(OpenContent::Frame(GraphicBox::new(width, height, thickness, colour))),
+        } => Some(OpenContent::Frame {
+            frame: box_of(width, height, thickness),
+            colour: colour.unwrap_or(Colour::Black),
+        }),
         Command::Graphic {
             format,
             binary_bytes,

@@ -9,23 +9,21 @@ use std::test::Fail;
 use vp_bars::Place;
 use vp_closing::kept;
 use vp_dots::{Fault, Op, Why};
-use vp_format::{STORED, Span};
-use vp_label_settings::{
-    Alignment, BarKind, BarText, CharacterSize, Coding, Content, Field, FieldBlock, PictureHead,
-    Position, Stored,
-};
+use vp_format::{BarCode, Coding, STORED, Span};
+use vp_glyph::Alignment;
+use vp_label_settings::{CharacterSize, Content, Field, FieldBlock, PictureHead, Position};
 use vp_qr::{Level, Mode};
-use vp_zpl::item::{Code128Mode, LineSpace, Orientation};
+use vp_zpl::item::{LineSpace, Orientation};
 
 /// All stored bytes.
-fn all(stored: &[u8]) -> Stored
+fn all(stored: &[u8]) -> Span
     requires { length stored.now ≤ STORED }
     ensures start { result.start ≡ 0 }
-    ensures count { result.length ≡ length stored.now }
+    ensures count { result.len ≡ length stored.now }
 {
-    Stored {
+    Span {
         start: 0,
-        length: stored.len() as u32,
+        len: stored.len() as u32,
     }
 }
 
@@ -60,30 +58,34 @@ fn content(stored: &[u8], content: Content) -> Result<vp_format::Content, Fault>
 }
 
 /// Bars of data.
-fn bars(kind: BarKind, text: BarText, stored: &[u8]) -> Result<vp_format::Content, Fault>
+fn bars(code: BarCode, place: Place, stored: &[u8]) -> Result<vp_format::Content, Fault>
     requires { length stored.now ≤ STORED }
 {
     content(
         stored,
         Content::Bars {
-            kind,
+            code,
             narrow: 2,
             wide: 4,
             height: 10,
-            text,
+            place,
             bytes: all(stored),
         },
     )
 }
 
 /// The first row of another answer.
-fn wrong_bars(rows: &[(BarKind, &[u8], Result<(), Fault>)]) -> Option<usize> {
+fn wrong_bars(rows: &[(Option<BarCode>, &[u8], Result<(), Fault>)]) -> Option<usize> {
     for i in 0..rows.len() {
-        let (kind, data, want) = rows[i];
+        let (code, data, want) = rows[i];
         if data.len() > STORED {
             return Some(i);
         }
-        let got = match bars(kind, BarText::Below, data) {
+        let kept = match code {
+            None => content(data, Content::NotDrawn),
+            Some(code) => bars(code, Place::Below, data),
+        };
+        let got = match kept {
             Ok(_) => Ok(()),
             Err(why) => Err(why),
         };
@@ -94,26 +96,16 @@ fn wrong_bars(rows: &[(BarKind, &[u8], Result<(), Fault>)]) -> Option<usize> {
     None
 }
 
-const PLAIN: BarKind = BarKind::Code128 { mode: None };
+const PLAIN: Option<BarCode> = Some(BarCode::Code128 { auto: false });
 
-const UCC_CASE: BarKind = BarKind::Code128 {
-    mode: Some(Code128Mode::UccCase),
-};
+const PACKED: Option<BarCode> = Some(BarCode::Code128 { auto: true });
 
-const UCC_EAN: BarKind = BarKind::Code128 {
-    mode: Some(Code128Mode::UccEan),
-};
+const UNCHECKED: Option<BarCode> = Some(BarCode::Code39 { check: false });
 
-const PACKED: BarKind = BarKind::Code128 {
-    mode: Some(Code128Mode::Automatic),
-};
-
-const UNCHECKED: BarKind = BarKind::Code39 { check: false };
-
-/// Bars of data, and why they are refused.
-static BARS: [(BarKind, &[u8], Result<(), Fault>); 12] = [
-    (UCC_CASE, b"", Err(Fault::Symbol(Why::Unsupported))),
-    (UCC_EAN, b"1", Err(Fault::Symbol(Why::Unsupported))),
+/// Bars of data, none of a kind that isn't drawn, and why they are refused.
+static BARS: [(Option<BarCode>, &[u8], Result<(), Fault>); 12] = [
+    (None, b"", Err(Fault::Symbol(Why::Unsupported))),
+    (None, b"1", Err(Fault::Symbol(Why::Unsupported))),
     (PLAIN, b"", Err(Fault::Symbol(Why::Empty))),
     (PLAIN, b">;1A", Err(Fault::Symbol(Why::Empty))),
     (PLAIN, b"A>9", Err(Fault::Symbol(Why::CodeSet))),
@@ -122,8 +114,8 @@ static BARS: [(BarKind, &[u8], Result<(), Fault>); 12] = [
     (UNCHECKED, b"**", Err(Fault::Symbol(Why::Empty))),
     (UNCHECKED, b"a", Err(Fault::Symbol(Why::Char))),
     (UNCHECKED, &[b'A'; 256], Err(Fault::SymbolTooLong)),
-    (BarKind::Ean13, b"1", Ok(())),
-    (BarKind::Ean13, b"1 ", Err(Fault::Symbol(Why::Char))),
+    (Some(BarCode::Ean13), b"1", Ok(())),
+    (Some(BarCode::Ean13), b"1 ", Err(Fault::Symbol(Why::Char))),
 ];
 
 /// Bars whose kind isn't drawn, then those without data, then the first offence.
@@ -133,19 +125,14 @@ fn bar_codes(rt: HostRuntime) -> Result<(), Fail> {
     Ok(())
 }
 
-/// Where the text of bars is asked for, and where it is kept.
-static TEXT_PLACES: [(BarText, Place); 3] = [
-    (BarText::Omitted, Place::None),
-    (BarText::Below, Place::Below),
-    (BarText::Above, Place::Above),
-];
+/// Where the text of bars is asked for.
+static TEXT_PLACES: [Place; 3] = [Place::None, Place::Below, Place::Above];
 
-/// The text above bars is one more.
+/// The text is kept where it is asked for.
 #[test]
 fn bar_texts(rt: HostRuntime) -> Result<(), Fail> {
-    let code = vp_format::BarCode::Code39 { check: true };
-    let kind = BarKind::Code39 { check: true };
-    for (text, place) in &TEXT_PLACES {
+    let code = BarCode::Code39 { check: true };
+    for place in &TEXT_PLACES {
         let kept = vp_format::Bars {
             bytes: Span { start: 0, len: 1 },
             code,
@@ -156,7 +143,7 @@ fn bar_texts(rt: HostRuntime) -> Result<(), Fail> {
         };
         same(
             &rt,
-            &bars(kind, *text, b"1"),
+            &bars(code, *place, b"1"),
             &Ok(vp_format::Content::Bars(kept)),
         );
     }
@@ -216,7 +203,7 @@ fn picture(row_bytes: u16, rows: u32, stored: &[u8]) -> Result<(), Fault>
     requires few { length stored.now ≤ STORED }
 {
     let head = PictureHead {
-        coding: Coding::Ascii,
+        coding: Coding::RunLength,
         row_bytes,
         rows,
     };
@@ -247,10 +234,7 @@ fn corner(position: Position, orientation: Orientation) -> Result<(i64, i64), Fa
             width: 12,
         },
         block: None,
-        bytes: Stored {
-            start: 1,
-            length: 2,
-        },
+        bytes: Span { start: 1, len: 2 },
     };
     let field = black(stored, position, orientation, text)?;
     Ok((field.left, field.top))
@@ -306,7 +290,7 @@ fn blocks(rt: HostRuntime) -> Result<(), Fail> {
         width: 100,
         lines: 3,
         gap: -4,
-        alignment: vp_glyph::Alignment::Right,
+        alignment: Alignment::Right,
     };
     same(
         &rt,

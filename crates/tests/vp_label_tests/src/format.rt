@@ -70,6 +70,26 @@ fn rows_repeat(rt: HostRuntime) {
     next_answers(&rt, &mut cursor, 2, Ok(false));
 }
 
+#[test]
+fn rows_are_skipped(rt: HostRuntime) {
+    let mut cursor = RunRows::new(b"iAB123:::,!", Coding::RunLength, 2, 100_000_000);
+    same(&rt, &cursor.skip(14), &Ok(()));
+    next_is(&rt, &mut cursor, &[0xaa, 0xaa]);
+    next_is(&rt, &mut cursor, &[0xb1, 0x23]);
+    same(&rt, &cursor.skip(2), &Ok(()));
+    next_is(&rt, &mut cursor, &[0xb1, 0x23]);
+    same(&rt, &cursor.skip(1), &Ok(()));
+    next_is(&rt, &mut cursor, &[0xff, 0xff]);
+    same(&rt, &cursor.skip(99_999_978), &Ok(()));
+    next_is(&rt, &mut cursor, &[0x00, 0x00]);
+    same(&rt, &cursor.skip(1), &Ok(()));
+    next_answers(&rt, &mut cursor, 2, Ok(false));
+    same(&rt, &cursor.read(), &11);
+    let mut cursor = RunRows::new(b"11x", Coding::RunLength, 1, 100_000_000);
+    same(&rt, &cursor.skip(5), &Err(Fault::Graphic));
+    next_answers(&rt, &mut cursor, 1, Err(Fault::Graphic));
+}
+
 /// The last of 34 rows of one byte, read from a mark on before each row, of which the others have a byte
 /// each.
 fn last_row(codes: &[u8], others: &[u8; 1]) -> Result<u8, Fault> {

@@ -108,6 +108,16 @@ fn labels(rt: HostRuntime) -> Result<(), Fail> {
     Ok(())
 }
 
+/// A hundred million rows that end with the label's last one, of which each band is put out from below.
+#[test]
+fn rows_above_the_label(rt: HostRuntime) -> Result<(), Fail> {
+    let stream = b"^XA^PW8^LL8000^POI^FT0,8000^GFA,,99999999,1^FS^XZ";
+    let mut want = [0u8; 8010];
+    want[..10].copy_from_slice(b"P4\n8 8000\n");
+    same(&rt, &prints(rt.alloc(), stream, 64, &want)?, &true);
+    Ok(())
+}
+
 /// Puts out so many more bytes, one at a time.
 fn put_out(label: &mut Label, bytes: usize) {
     let mut out = [0u8; 1];

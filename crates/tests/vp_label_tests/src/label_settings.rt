@@ -8,14 +8,12 @@ use crate::checks::same;
 use std::alloc::{AllocError, Global};
 use std::process::Abort;
 use std::test::Fail;
-use vp_label_settings::{Content, Field, Home, InForce, STORE, Settings, Stored};
+use vp_format::Span;
+use vp_label_settings::{Content, Field, Home, InForce, STORE, Settings};
 use vp_zpl::{Command, ZplItem, ZplReader};
 
 /// The first stored byte.
-const ONE: Stored = Stored {
-    start: 0,
-    length: 1,
-};
+const ONE: Span = Span { start: 0, len: 1 };
 
 /// What is in force behind a stream, and the fields that it closed, in their order.
 fn run(alloc: Global, stream: &[u8]) -> Result<(InForce, Vec<Field>), AllocError> {

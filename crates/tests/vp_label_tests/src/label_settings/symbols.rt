@@ -1,82 +1,67 @@
 //! Bars.
 use super::{ONE, closes};
 use std::test::Fail;
-use vp_label_settings::{BarKind, BarText, Content};
-use vp_zpl::item::Code128Mode;
+use vp_bars::Place;
+use vp_format::BarCode;
+use vp_label_settings::Content;
 
-fn bars(kind: BarKind, narrow: u8, wide: u16, height: u16, text: BarText) -> Option<Content> {
+fn bars(code: BarCode, narrow: u8, wide: u16, height: u16, place: Place) -> Option<Content> {
     Some(Content::Bars {
-        kind,
+        code,
         narrow,
         wide,
         height,
-        text,
+        place,
         bytes: ONE,
     })
 }
 
-const UNCHECKED: BarKind = BarKind::Code39 { check: false };
+const UNCHECKED: BarCode = BarCode::Code39 { check: false };
 
 /// Streams that close bars, their kind, their narrow and wide ones, their height and where their text stands.
-static BARS: [(&[u8], BarKind, u8, u16, u16, BarText); 10] = [
-    (b"^XA^B3^FD1^FS", UNCHECKED, 2, 6, 10, BarText::Below),
+static BARS: [(&[u8], BarCode, u8, u16, u16, Place); 10] = [
+    (b"^XA^B3^FD1^FS", UNCHECKED, 2, 6, 10, Place::Below),
     (
         b"^XA^B3,Y,,N,Y^FD1^FS",
-        BarKind::Code39 { check: true },
+        BarCode::Code39 { check: true },
         2,
         6,
         10,
-        BarText::Omitted,
+        Place::None,
     ),
     (
         b"^XA^BE,50,Y,Y^FD1^FS",
-        BarKind::Ean13,
+        BarCode::Ean13,
         2,
         6,
         50,
-        BarText::Above,
+        Place::Above,
     ),
     (
         b"^XA^BC,9000,,,,A^FD1^FS",
-        BarKind::Code128 {
-            mode: Some(Code128Mode::Automatic),
-        },
+        BarCode::Code128 { auto: true },
         2,
         6,
         8000,
-        BarText::Below,
+        Place::Below,
     ),
     (
         b"^XA^BC,0,,,,N^FD1^FS",
-        BarKind::Code128 { mode: None },
+        BarCode::Code128 { auto: false },
         2,
         6,
         1,
-        BarText::Below,
+        Place::Below,
     ),
-    (
-        b"^XA^BY1,2.0,7^B3^FD1^FS",
-        UNCHECKED,
-        1,
-        2,
-        7,
-        BarText::Below,
-    ),
-    (
-        b"^XA^BY3,2.5^B3^FD1^FS",
-        UNCHECKED,
-        3,
-        7,
-        10,
-        BarText::Below,
-    ),
+    (b"^XA^BY1,2.0,7^B3^FD1^FS", UNCHECKED, 1, 2, 7, Place::Below),
+    (b"^XA^BY3,2.5^B3^FD1^FS", UNCHECKED, 3, 7, 10, Place::Below),
     (
         b"^XA^BY20,9.9^B3^FD1^FS",
         UNCHECKED,
         10,
         30,
         10,
-        BarText::Below,
+        Place::Below,
     ),
     (
         b"^XA^B3^FD1^BY4,1.0,30^FS",
@@ -84,7 +69,7 @@ static BARS: [(&[u8], BarKind, u8, u16, u16, BarText); 10] = [
         4,
         8,
         30,
-        BarText::Below,
+        Place::Below,
     ),
     (
         b"^XA^BY4,2.0,30^BY5^B3^FD1^FS",
@@ -92,16 +77,22 @@ static BARS: [(&[u8], BarKind, u8, u16, u16, BarText); 10] = [
         5,
         15,
         10,
-        BarText::Below,
+        Place::Below,
     ),
 ];
+
+/// Streams that close bars of modes that aren't drawn.
+static NOT_DRAWN: [&[u8]; 2] = [b"^XA^BC,,,,,U^FD1^FS", b"^XA^BC,,,,,D^FD1^FS"];
 
 /// Bars take what they leave out from ^BY, and a wide bar is at least a dot wider than a narrow one.
 #[test]
 fn bar_codes(rt: HostRuntime) -> Result<(), Fail> {
-    for (stream, kind, narrow, wide, height, text) in &BARS {
-        let want = bars(*kind, *narrow, *wide, *height, *text);
+    for (stream, code, narrow, wide, height, place) in &BARS {
+        let want = bars(*code, *narrow, *wide, *height, *place);
         closes(&rt, rt.alloc(), *stream, want)?;
+    }
+    for stream in &NOT_DRAWN {
+        closes(&rt, rt.alloc(), *stream, Some(Content::NotDrawn))?;
     }
     Ok(())
 }

@@ -1,7 +1,8 @@
 //! The size of characters, and blocks of lines.
 use super::{ONE, closes};
 use std::test::Fail;
-use vp_label_settings::{Alignment, CharacterSize, Content, FieldBlock};
+use vp_glyph::Alignment;
+use vp_label_settings::{CharacterSize, Content, FieldBlock};
 use vp_zpl::item::LineSpace;
 
 fn size(height: u16, width: u16) -> CharacterSize {

@@ -1,5 +1,4 @@
 use Rattle.std.proofs.Common.{ap}
-use Rattle.vp_closing.specs.Texts.{span_of}
 use Rattle.vp_closing.specs.Symbols.{qr_of}
 use Rattle.vp_field.specs.Contents.{bytes_of}
 use Rattle.vp_closing.proofs.Counted.{no_front}
@@ -7,4 +6,4 @@ use Rattle.vp_closing.proofs.laws.no_front.Goals as goal
 
 pub returns : goal.returns
 returns c stored model dots bytes other none =
-    ap (qr_of stored dots bytes) (no_front model (bytes_of stored (span_of bytes)) other none)
+    ap (qr_of stored dots bytes) (no_front model (bytes_of stored bytes) other none)

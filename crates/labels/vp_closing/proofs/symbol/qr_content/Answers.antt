@@ -1,18 +1,16 @@
-use Rattle.std.proofs.Common.{◌≡◌, ◌∙◌, Ok, ap, sym, arith}
+use Rattle.std.proofs.Common.{◌≡◌, ◌∙◌, Ok, ap, sym, arith, length, drop}
+use Rattle.std.proofs.lemmas.List.{length-take}
 use Rattle.vp_field.specs.Contents.{bytes_of}
-use Rattle.vp_format.specs.declared.field.Span.{Span}
 use Rattle.vp_qr_field.specs.Fronts.{front_of}
 use Rattle.vp_closing.specs.Symbols.{qr_of}
-use Rattle.vp_closing.specs.Texts.{span_of}
 use Rattle.vp_closing.proofs.symbol.qr_content.Goals as goal
 
 pub overflow_add-behind : goal.overflow_add-behind
 overflow_add-behind c =
-    let count = ap (λ (s : Span). s.len) c.span_of.ensures in
     omega (
       arith,
-      count,
-      c.bytes_of.ensures.count,
+      ap length c.bytes_of.ensures,
+      length-take c.args.bytes.len (drop c.args.bytes.start c.args.stored.now),
       c.in_ok-front.ensures.within,
       c.requires.among,
       c.requires.few,
@@ -21,6 +19,6 @@ overflow_add-behind c =
 pub returns-clause-value : goal.returns-clause-value
 returns-clause-value c =
     let a = c.args in
-    let front : front_of a.model (bytes_of a.stored.now (span_of a.bytes)) ≡ Ok c.in_ok-front.front =
-    sym (c.qr_front.ensures.value ∙ ap (front_of a.model) (c.bytes_of.ensures.bytes ∙ ap (bytes_of a.stored.now) c.span_of.ensures)) ∙ c.in_ok-front.was in
+    let front : front_of a.model (bytes_of a.stored.now a.bytes) ≡ Ok c.in_ok-front.front =
+    sym (c.qr_front.ensures.value ∙ ap (front_of a.model) c.bytes_of.ensures) ∙ c.in_ok-front.was in
     c.qr_behind.ensures.value ∙ sym (ap (qr_of a.stored.now a.dots a.bytes) front)

@@ -24,4 +24,4 @@ returns-clause-dots c sheets =
     let on = c.lines_on-from in
     lines_all a.on.op at.result.columns at.result.rows a.first (picture_dot p) a.picture.rows on.result.0 on.result.1 (drawn sheets a.stored.now (contents.Picture a.picture) a.on a.first) a.band.now c.paint_rows.new.band
     (λ m n e. (picture_inside p m n e).1) (λ k n l o e. (on.ensures.from k n l o e, on.ensures.to k n l o e)) (λ x k. rw c.requires.normal (at.ensures.ink (picture_dot p) (pos x) (pos (a.first + k))))
-    (rw (c.read_to.ensures.next, c.cursor-rows.ensures.picture) at c.paint_rows.ensures.painted)
+    (rw (c.skip_to.ensures, c.cursor-rows.ensures.picture) at c.paint_rows.ensures.painted)

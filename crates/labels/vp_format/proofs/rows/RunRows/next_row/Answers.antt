@@ -59,8 +59,7 @@ returns-in-Ok-clause-row c = λ _ x l.
     let i = c.self.invariant in
     let p = picture_of c.self.inside in
     let m = c.self.inside.mark in
-    let long : length c.args.out.now ≡ c.self.inside.row_bytes = c.requires ∙ sym (ap (λ (v : Cursor). v.picture.row_bytes) c.self.view_is) in
-    let inside : x < 2 * c.self.inside.row_bytes = omega arith in
+    let inside : x < 2 * c.self.inside.row_bytes = omega (arith, c.requires, ap (λ (v : Cursor). v.picture.row_bytes) c.self.view_is) in
     subst (λ (v : Cursor). nibble c.copy_from_slice.new.self x ≡ value v.picture v.next x) c.self.view_is
-    (ap (λ row. nibble row x) c.copy_from_slice.ensures.after ∙ nibble_front c.next_row-end.new.row c.self.inside.row_bytes x inside
+    (ap (λ row. nibble row x) c.copy_from_slice.ensures.after ∙ nibble_front c.next_row-end.new.row (length c.args.out.now) x l
     ∙ read_value p m c.in-Ok.end _ c.self.inside.row c.next_row-end.new.row x i.mark c.in-Ok.ensures.decoded inside (i.kept c.if-self-2.false x inside))

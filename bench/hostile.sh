@@ -1,0 +1,88 @@
+#!/bin/sh
+# How long labels take that are made to hold the program up, beside 1,024 boxes over a whole label:
+# bench/hostile.sh [VP [SECONDS]], with the program that `rt run` in crates/program/vp_cli built, and the most
+# seconds that a stream may take. The times are those of the machine it runs on; the ratios are what to look
+# at.
+set -eu
+top=$(cd "$(dirname "$0")/.." && pwd)
+vp=${1:-$top/crates/program/vp_cli/out/vp_cli}
+limit=${2:-60}
+font=$top/examples/font-a.pbm
+# what is printed stays in memory
+scratch=$(mktemp -d -p /dev/shm)
+trap 'rm -rf "$scratch"' EXIT
+
+# repeated NUMBER TEXT: the text so many times
+repeated() {
+    printf '%s\n' "$2" | awk -v number="$1" '{ for (i = 0; i < number; i++) printf "%s", $0 }'
+}
+
+# took: the milliseconds for the format in the file, the least of three runs, or nothing if one ends too late
+took() {
+    for _ in 1 2 3; do
+        start=$(date +%s%N)
+        timeout "$limit" "$vp" label --font-a "$font" "$scratch/format" > "$scratch/paper" \
+            || { [ $? != 124 ] || return 0; echo "refused" >&2; }
+        end=$(date +%s%N)
+        echo $(((end - start) / 1000000))
+    done | sort -n | head -1
+}
+
+# measure NAME HEAD NUMBER FIELD: a format of a head and as many fields, beside the boxes
+measure() {
+    { printf '^XA^LL8000%s' "$2"; repeated "$3" "$4"; printf '^XZ'; } > "$scratch/format"
+    compare "$1"
+}
+
+# compare NAME: the format in the file, beside the boxes
+compare() {
+    now=$(took)
+    if [ -z "$now" ]; then
+        echo "$1: more than $limit s"
+    else
+        echo "$now $boxes" \
+            | awk -v name="$1" '{ printf "%s: %d ms, %.1f times the boxes\n", name, $1, $1 / $2 }'
+    fi
+}
+
+{ printf '^XA^PW1248^LL8000'; repeated 1024 '^FR^GB1248,8000,8000^FS'; printf '^XZ'; } > "$scratch/format"
+boxes=$(took)
+[ -n "$boxes" ] || { echo "1,024 boxes: more than $limit s" >&2; exit 1; }
+echo "1,024 boxes of 1,248 by 8,000: $boxes ms"
+
+white='^FT0,8000^GFA,,99999999,1^FS'
+measure 'a white picture of 100,000,000 rows, turned' '^POI' 1 "$white"
+measure 'the same, upright' '' 1 "$white"
+measure '1,024 of them, turned' '^POI' 1024 "$white"
+
+# codes NAME CODES: a turned picture of 100,000,000 rows of one byte, of codes that stand in a file
+codes() {
+    {
+        printf '^XA^LL8000^POI^FT0,8000^GFA,%s,99999999,1,' "$(wc -c < "$2")"
+        cat "$2"
+        printf '^FS^XZ'
+    } > "$scratch/format"
+    compare "$1"
+}
+{ repeated 261999 z; printf 'F'; } > "$scratch/codes"
+codes '262,000 codes of one run, turned' "$scratch/codes"
+{ printf 'F0'; repeated 262000 :; } > "$scratch/codes"
+codes '262,000 rows like the first, turned' "$scratch/codes"
+
+measure '1,024 pictures of 1,024 bytes by 8,000 rows, turned' '^PW1248^POI' 1024 \
+    '^GFA,8192000,8192000,1024,FF^FS'
+measure '1,024 pictures of 240 codes, turned' '^PW1248^POI' 1024 \
+    "^GFA,8192000,8192000,1024,$(repeated 80 'F,:')^FS"
+
+cells=$(repeated 254 A)
+measure 'a turned block of 262,000 cells on a column' '^PW1' 1 \
+    "^FB32000,1^A0R,1500,1^FD$(repeated 262000 A)^FS"
+measure '1,024 turned texts of 254 cells' '^PW1248' 1024 "^A0R,1500,30^FD$cells^FS"
+measure '1,024 blocks of lines over each other' '^PW1248' 1024 "^FB1,9999,-9999^A0N,1500,1^FD$cells^FS"
+measure 'a block of 87,000 paragraphs' '^PW1248' 1 \
+    "^FB32000,9999,-9999^A0N,1500,1^FD$(repeated 87000 'A\&')^FS"
+
+digits=$(repeated 238 7)
+measure '1,020 turned Code 128 symbols of 238 bytes' '^PW1248' 1020 "^BY1^BCR,1248,N^FD>:$digits^FS"
+measure '1,000 Code 128 symbols of 8,000 rows' '^PW1248' 1000 "^BY1^BCN,8000,N^FD>:$(repeated 234 A)^FS"
+measure '1,024 QR symbols of 250 bytes' '^PW1248' 1024 "^BQN,2,10^FDLA,$(repeated 250 a)^FS"

@@ -1,0 +1,118 @@
+-- So many readings, one after the other.
+use Rattle.std.proofs.Common.{inl, inr, ◌≡◌, ℕ, zero, suc, ◌+◌, ◌-◌, ◌<◌, ◌≤◌, Bool, true, false, Ok, Err, subst, ap, sym, ◌∙◌, refl, arith}
+use Rattle.std.proofs.lemmas.Bool.{cases_lt, cases_Bool, lt-ltb, le-ltb}
+use Rattle.vp_dots.specs.declared.fault.Fault.{Fault}
+use Rattle.vp_format.specs.Pictures.{Picture, Cursor, is_refused, answer, row_after, unless_fault, passing, rows_after}
+
+-- one reading, and those behind it
+pub first_read : (p : Picture) (y n : ℕ) → 0 < n → (passing p y n ≡ unless_fault (answer p y) (passing p (row_after p y) (n - 1))) × (rows_after p y n ≡ rows_after p (row_after p y) (n - 1))
+unfolding passing rows_after
+first_read p y zero h = absurd (omega arith)
+first_read p y (suc n) h = let e : suc n - 1 ≡ n = omega arith in rw e (refl, refl)
+
+-- behind the last row nothing more is read
+pub none_read : (p : Picture) (y n : ℕ) → p.rows ≤ y → (passing p y n ≡ Ok tt) × (rows_after p y n ≡ y)
+unfolding passing rows_after
+none_read p y zero h = (refl, refl)
+none_read p y (suc n) h = rw (le-ltb y p.rows h) (none_read p y n h)
+
+-- nor at a refused row
+stopped_at : (p : Picture) (y n : ℕ) → y < p.rows → is_refused p y ≡ true → rows_after p y n ≡ y
+unfolding rows_after
+stopped_at p y zero h e = refl
+stopped_at p y (suc n) h e = rw (lt-ltb y p.rows h, e) (stopped_at p y n h e)
+
+-- rows of which none is refused
+pub rows_read : (p : Picture) (y n k : ℕ) → k ≤ n → y + k ≤ p.rows → ((z : ℕ) → y ≤ z → z < y + k → is_refused p z ≡ false) → (passing p y n ≡ passing p (y + k) (n - k)) × (rows_after p y n ≡ rows_after p (y + k) (n - k))
+unfolding passing rows_after
+rows_read p y n zero few room taken = let e : y + 0 ≡ y = omega arith in let f : n - 0 ≡ n = omega arith in rw (e, f) (refl, refl)
+rows_read p y zero (suc k) few room taken = absurd (omega arith)
+rows_read p y (suc n) (suc k) few room taken =
+    let e : y + suc k ≡ y + 1 + k = omega arith in
+    let f : suc n - suc k ≡ n - k = omega arith in
+    rw (lt-ltb y p.rows (omega arith), taken y (omega arith) (omega arith), e, f) (rows_read p (y + 1) n k (omega arith) (omega arith) (λ z l m. taken z (omega arith) (omega arith)))
+
+-- up to a row
+pub read_to : (p : Picture) (y to : ℕ) → y ≤ to → to ≤ p.rows → ((z : ℕ) → y ≤ z → z < to → is_refused p z ≡ false) → (passing p y (to - y) ≡ Ok tt) × (rows_after p y (to - y) ≡ to)
+unfolding passing rows_after
+read_to p y to order room taken =
+    let all = rows_read p y (to - y) (to - y) (omega arith) (omega arith) (λ z l m. taken z l (omega arith)) in
+    let none : to - y - (to - y) ≡ 0 = omega arith in
+    let there : y + (to - y) ≡ to = omega arith in
+    (rw (none, there) at all)
+
+-- one cursor is on its way to where so many readings bring another: as many as are left
+pub record OnWay (a b : Cursor) (rows left : ℕ) : Type 0 where
+  pub same : b ≡ record { picture = a.picture; first = a.first; next = b.next }
+  pub answer : passing a.picture a.next rows ≡ passing a.picture b.next left
+  pub row : rows_after a.picture a.next rows ≡ rows_after a.picture b.next left
+
+abbrev at_row : Cursor → ℕ → Cursor
+at_row a y = record { picture = a.picture; first = a.first; next = y }
+
+-- it is there
+pub way_done : (a b : Cursor) (rows left : ℕ) → OnWay a b rows left → left ≡ 0 → (Ok tt ≡ passing a.picture a.next rows) × (b ≡ record { picture = a.picture; first = a.first; next = rows_after a.picture a.next rows })
+unfolding passing rows_after
+way_done a b rows left w none =
+    (sym (w.answer ∙ ap (passing a.picture b.next) none), w.same ∙ ap (at_row a) (sym (w.row ∙ ap (rows_after a.picture b.next) none)))
+
+-- it is behind the last row
+pub way_ended : (a b : Cursor) (rows left : ℕ) → OnWay a b rows left → b.picture.rows ≤ b.next → (Ok tt ≡ passing a.picture a.next rows) × (b ≡ record { picture = a.picture; first = a.first; next = rows_after a.picture a.next rows })
+way_ended a b rows left w ends =
+    let all = ap (λ (v : Cursor). v.picture.rows) w.same in
+    let none = none_read a.picture b.next left (omega arith) in
+    (sym (w.answer ∙ none.0), w.same ∙ ap (at_row a) (sym none.1 ∙ sym w.row))
+
+-- rows are passed of which none is refused
+pub way_even : (a b d : Cursor) (rows left k : ℕ) → OnWay a b rows left → k ≤ left → b.next + k ≤ b.picture.rows → d ≡ record { picture = b.picture; first = b.first; next = b.next + k }
+    → ((z : ℕ) → b.next ≤ z → z < b.next + k → is_refused b.picture z ≡ false) → OnWay a d rows (left - k)
+way_even a b d rows left k w few room is taken =
+    let picture = ap (λ (v : Cursor). v.picture) w.same in
+    let first = ap (λ (v : Cursor). v.first) w.same in
+    let next = ap (λ (v : Cursor). v.next) is in
+    let all = rows_read a.picture b.next left k few (omega (arith, ap (λ (v : Cursor). v.picture.rows) w.same)) (subst (λ (p : Picture). (z : ℕ) → b.next ≤ z → z < b.next + k → is_refused p z ≡ false) picture taken) in
+    record {
+      same = rw (is, picture, first) refl;
+      answer = w.answer ∙ all.0 ∙ ap (λ y. passing a.picture y (left - k)) (sym next);
+      row = w.row ∙ all.1 ∙ ap (λ y. rows_after a.picture y (left - k)) (sym next);
+    }
+
+-- a row is read
+pub way_read : (a b d : Cursor) (rows left : ℕ) (ok : Bool) → OnWay a b rows left → 0 < left → Ok ok ≡ answer b.picture b.next → d ≡ record { picture = b.picture; first = b.first; next = row_after b.picture b.next }
+    → OnWay a d rows (left - 1)
+way_read a b d rows left ok w some read is =
+    let picture = ap (λ (v : Cursor). v.picture) w.same in
+    let first = ap (λ (v : Cursor). v.first) w.same in
+    let next : d.next ≡ row_after a.picture b.next = ap (λ (v : Cursor). v.next) is ∙ ap (λ (p : Picture). row_after p b.next) picture in
+    let step = first_read a.picture b.next left some in
+    let told : Ok ok ≡ answer a.picture b.next = read ∙ ap (λ (p : Picture). answer p b.next) picture in
+    record {
+      same = is ∙ ap (λ (p : Picture). let v : Cursor = record { picture = p; first = b.first; next = row_after b.picture b.next } in v) picture
+          ∙ ap (λ (f : ℕ). let v : Cursor = record { picture = a.picture; first = f; next = row_after b.picture b.next } in v) first ∙ ap (at_row a) (sym (ap (λ (v : Cursor). v.next) is));
+      answer = w.answer ∙ step.0 ∙ ap (λ r. unless_fault r (passing a.picture (row_after a.picture b.next) (left - 1))) (sym told) ∙ ap (λ y. passing a.picture y (left - 1)) (sym next);
+      row = w.row ∙ step.1 ∙ ap (λ y. rows_after a.picture y (left - 1)) (sym next);
+    }
+
+-- a fault stops it
+fault_stays : (p : Picture) (y n : ℕ) (why : Fault) → Err why ≡ answer p y → rows_after p (row_after p y) n ≡ row_after p y
+unfolding rows_after
+fault_stays p y n why e = elim (cases_lt y p.rows) [
+  | inl l ↦ (elim (cases_Bool (is_refused p y)) [
+    | inl r ↦ rw (lt-ltb y p.rows l, r) (stopped_at p y n l r)
+    | inr r ↦ absurd (let no : Err why ≡ Ok true = e ∙ rw (lt-ltb y p.rows l, r) refl in cc)
+  ])
+  | inr g ↦ absurd (let no : Err why ≡ Ok false = e ∙ rw (le-ltb y p.rows g) refl in cc)
+]
+
+pub way_stopped : (a b d : Cursor) (rows left : ℕ) (why : Fault) → OnWay a b rows left → 0 < left → Err why ≡ answer b.picture b.next → d ≡ record { picture = b.picture; first = b.first; next = row_after b.picture b.next }
+    → (Err why ≡ passing a.picture a.next rows) × (d ≡ record { picture = a.picture; first = a.first; next = rows_after a.picture a.next rows })
+way_stopped a b d rows left why w some read is =
+    let picture = ap (λ (v : Cursor). v.picture) w.same in
+    let first = ap (λ (v : Cursor). v.first) w.same in
+    let told : Err why ≡ answer a.picture b.next = read ∙ ap (λ (p : Picture). answer p b.next) picture in
+    let step = first_read a.picture b.next left some in
+    let there : rows_after a.picture a.next rows ≡ row_after a.picture b.next = w.row ∙ step.1 ∙ fault_stays a.picture b.next (left - 1) why told in (
+      sym (w.answer ∙ step.0 ∙ ap (λ r. unless_fault r (passing a.picture (row_after a.picture b.next) (left - 1))) (sym told)),
+      is ∙ ap (λ (p : Picture). let v : Cursor = record { picture = p; first = b.first; next = row_after p b.next } in v) picture
+          ∙ ap (λ (f : ℕ). let v : Cursor = record { picture = a.picture; first = f; next = row_after a.picture b.next } in v) first ∙ ap (at_row a) (sym there),
+    )
