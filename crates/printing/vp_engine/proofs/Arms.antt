@@ -11,10 +11,11 @@ use Rattle.vp_label.specs.Standing.{Printing as LabelPrinting, Stands as LabelSt
 use Rattle.vp_language.specs.declared.language.Language.TheVariants as languages
 use Rattle.vp_engine.specs.declared.machine.Machine.{Machine}
 use Rattle.vp_engine.specs.declared.machine.Machine.TheVariants.{Receipt, ReceiptLines, Label, LabelLines}
+use Rattle.vp_engine.specs.declared.machine.Machine.TheVariants.{ReceiptOffsets, LabelOffsets}
 use Rattle.vp_streams.specs.Count.{counted}
 use Rattle.vp_engine.specs.Lines.{Listed}
-use Rattle.vp_engine.specs.Machines.{MachineStands}
-use Rattle.vp_engine.specs.Setups.{Setup, Receipts, Labels, Listing, Item}
+use Rattle.vp_engine.specs.Machines.{MachineStands, AreLines}
+use Rattle.vp_engine.specs.Setups.{Setup, Receipts, Labels, Listing, ListingWithOffsets, Item}
 
 module _ (P : (setup : Setup) → List ℕ → List (Item setup) → Type 0) where
   by_receipt : (reader : EscReader) (receipt : Printing) →
@@ -63,3 +64,28 @@ module _ (P : (setup : Setup) → List ℕ → List (Item setup) → Type 0) whe
       ((t : List ℕ) (before : List (Item (Listing languages.Label))) → ZplStands reader t × (lines.count ≡ counted (length before)) → P (Listing languages.Label) t before) →
       (setup : Setup) (t : List ℕ) (before : List (Item setup)) → MachineStands machine setup t before → P setup t before
   at_label_lines machine reader lines is f setup t before at = by_label_lines reader lines f setup t before (subst (λ m. MachineStands m setup t before) is at)
+
+  by_offsets : (reader : EscReader) (lines : Listed) (taken : ℕ) →
+      ((t : List ℕ) (before : List (Item (ListingWithOffsets languages.Receipt))) → EscStands reader t × AreLines lines taken t before → P (ListingWithOffsets languages.Receipt) t before) →
+      ((t : List ℕ) (before : List (Item (ListingWithOffsets languages.Receipt58))) → EscStands reader t × AreLines lines taken t before → P (ListingWithOffsets languages.Receipt58) t before) →
+      (setup : Setup) (t : List ℕ) (before : List (Item setup)) → MachineStands (ReceiptOffsets reader lines taken) setup t before → P setup t before
+  by_offsets reader lines taken f g (ListingWithOffsets languages.Receipt) t before at = f t before at
+  by_offsets reader lines taken f g (ListingWithOffsets languages.Receipt58) t before at = g t before at
+  by_offsets reader lines taken f g setup t before at = absurd at
+
+  pub at_offsets : (machine : Machine) (reader : EscReader) (lines : Listed) (taken : ℕ) → machine ≡ ReceiptOffsets reader lines taken →
+      ((t : List ℕ) (before : List (Item (ListingWithOffsets languages.Receipt))) → EscStands reader t × AreLines lines taken t before → P (ListingWithOffsets languages.Receipt) t before) →
+      ((t : List ℕ) (before : List (Item (ListingWithOffsets languages.Receipt58))) → EscStands reader t × AreLines lines taken t before → P (ListingWithOffsets languages.Receipt58) t before) →
+      (setup : Setup) (t : List ℕ) (before : List (Item setup)) → MachineStands machine setup t before → P setup t before
+  at_offsets machine reader lines taken is f g setup t before at = by_offsets reader lines taken f g setup t before (subst (λ m. MachineStands m setup t before) is at)
+
+  by_label_offsets : (reader : ZplReader) (lines : Listed) (taken : ℕ) →
+      ((t : List ℕ) (before : List (Item (ListingWithOffsets languages.Label))) → ZplStands reader t × AreLines lines taken t before → P (ListingWithOffsets languages.Label) t before) →
+      (setup : Setup) (t : List ℕ) (before : List (Item setup)) → MachineStands (LabelOffsets reader lines taken) setup t before → P setup t before
+  by_label_offsets reader lines taken f (ListingWithOffsets languages.Label) t before at = f t before at
+  by_label_offsets reader lines taken f setup t before at = absurd at
+
+  pub at_label_offsets : (machine : Machine) (reader : ZplReader) (lines : Listed) (taken : ℕ) → machine ≡ LabelOffsets reader lines taken →
+      ((t : List ℕ) (before : List (Item (ListingWithOffsets languages.Label))) → ZplStands reader t × AreLines lines taken t before → P (ListingWithOffsets languages.Label) t before) →
+      (setup : Setup) (t : List ℕ) (before : List (Item setup)) → MachineStands machine setup t before → P setup t before
+  at_label_offsets machine reader lines taken is f setup t before at = by_label_offsets reader lines taken f setup t before (subst (λ m. MachineStands m setup t before) is at)

@@ -8,6 +8,7 @@ pub mod Arms
 pub mod Rasters
 pub mod ByteLines
 pub mod Labels
+pub mod Offsets
 pub mod Listings
 pub mod Whole
 pub mod Desks

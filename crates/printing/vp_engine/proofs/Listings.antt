@@ -2,16 +2,15 @@
 use Rattle.std.proofs.Common.{◌≡◌, ℕ, List, [], ◌∷◌, ◌++◌, length, reverse, Option, Ok, Err, inl, inr, ◌⊎◌, ap, ◌∙◌, arith, length-append}
 use Rattle.std.proofs.lemmas.List.{length-reverse}
 use Rattle.vp_dots.specs.declared.fault.Fault.{Fault}
-use Rattle.vp_language.specs.declared.language.Language.{Language}
 use Rattle.vp_engine.specs.declared.session.Report.{Report}
 use Rattle.vp_engine.specs.declared.session.RunFault.{RunFault}
 use Rattle.vp_engine.specs.declared.session.RunFault.TheVariants.{Print, Read, Write, TooManyTurns}
 use Rattle.vp_engine.specs.Bytes.{IsPrefix}
 use Rattle.vp_streams.specs.Count.{counted, grown}
-use Rattle.vp_engine.specs.Listing.{lines, Lists, IsListing}
+use Rattle.vp_engine.specs.Listing.{lines, ListsBy, IsListing}
 use Rattle.vp_engine.specs.Paper.{history, before_fault, fault, ending, paper}
 use Rattle.vp_engine.specs.Session.{Desk, IsFirstFault, IsEnding, HasEnded, IsAnswer, Pumps}
-use Rattle.vp_engine.specs.Setups.{Listing, rules_of, reading, lines_of}
+use Rattle.vp_engine.specs.Setups.{Setup, Item, rules_of}
 use Rattle.vp_engine.proofs.Desks.{written_front}
 use Rattle.vp_engine.proofs.Faults.{before_whole, none_first}
 
@@ -21,36 +20,36 @@ one_line_more old new before item e f = omega (arith, e, f)
 pub lines_more : {Item : Type 0} (old new n : ℕ) (before added : List Item) → old ≡ counted (length before) → new ≡ grown old n → length added ≡ n → new ≡ counted (length (reverse added ++ before))
 lines_more old new n before added e f l = omega (arith, e, f, l, length-append (reverse added) before, length-reverse added)
 
-module _ (language : Language) (before after held holds : Option (List ℕ)) (s : Desk)
-    (grows : (bytes more : List ℕ) → IsPrefix (paper (rules_of (Listing language)) bytes) (paper (rules_of (Listing language)) (bytes ++ more))) where
+-- a setup whose paper is a listing
+module _ (setup : Setup) (line : Item setup → List ℕ) (before after held holds : Option (List ℕ)) (s : Desk)
+    (grows : (bytes more : List ℕ) → IsPrefix (paper (rules_of setup) bytes) (paper (rules_of setup) (bytes ++ more))) where
   -- all items are listed
-  pub lists_all : (report : Report) (n : ℕ) → (p : Pumps before after held holds (Listing language) s [] [] (Ok report)) →
-      ((bytes : List ℕ) → paper (rules_of (Listing language)) bytes ≡ lines language (before_fault (rules_of (Listing language)) bytes)) →
-      n ≡ lines_of (Listing language) (history (rules_of (Listing language)) (before_fault (rules_of (Listing language)) p.reaches.read)) → Lists language before after held holds (Ok n)
+  pub lists_all : (report : Report) (n : ℕ) → (p : Pumps before after held holds setup s [] [] (Ok report)) →
+      ((bytes : List ℕ) → paper (rules_of setup) bytes ≡ lines (rules_of setup) line (before_fault (rules_of setup) bytes)) →
+      n ≡ counted (length (history (rules_of setup) (before_fault (rules_of setup) p.reaches.read))) → ListsBy (rules_of setup) line before after held holds (Ok n)
   lists_all report n p law count =
       let r = p.reaches.read in
       let whole = p.answer.whole in
-      let sound : before_fault (rules_of (Listing language)) r ≡ r =
-      before_whole (rules_of (Listing language)) r (none_first (fault (rules_of (Listing language)) r) (ending (rules_of (Listing language)) r) whole.fault_of) in
+      let sound : before_fault (rules_of setup) r ≡ r = before_whole (rules_of setup) r (none_first (fault (rules_of setup) r) (ending (rules_of setup) r) whole.fault_of) in
       record {
         read = r;
         accepted = p.reaches.accepted;
         consumed = p.reaches.consumed;
         appended = p.reaches.appended;
-        front = written_front (Listing language) s r p.reaches.accepted p.reaches.at grows;
+        front = written_front setup s r p.reaches.accepted p.reaches.at grows;
         answer = record {
           whole = whole;
-          lines_of = whole.paper_of ∙ law r ∙ ap (lines language) sound;
-          count = count ∙ ap (λ x. counted (length (reverse ((reading language).items x)))) sound ∙ ap counted (length-reverse ((reading language).items r));
+          lines_of = whole.paper_of ∙ law r ∙ ap (lines (rules_of setup) line) sound;
+          count = count ∙ ap (λ x. counted (length (history (rules_of setup) x))) sound ∙ ap counted (length-reverse ((rules_of setup).reading.items r));
         };
       }
 
-  stops : (f : Fault) (after : ℕ) (t rest : List ℕ) (end : Type 0) → IsFirstFault (rules_of (Listing language)) f t (HasEnded s f after) ⊎ IsEnding (rules_of (Listing language)) f t rest end →
-      IsFirstFault (rules_of (Listing language)) f t (Unit {0}) ⊎ IsEnding (rules_of (Listing language)) f t rest end
+  stops : (f : Fault) (after : ℕ) (t rest : List ℕ) (end : Type 0) → IsFirstFault (rules_of setup) f t (HasEnded s f after) ⊎ IsEnding (rules_of setup) f t rest end →
+      IsFirstFault (rules_of setup) f t (Unit {0}) ⊎ IsEnding (rules_of setup) f t rest end
   stops f after t rest end (inl first) = inl (record { fault_of = first.fault_of; last = first.last; ended = tt })
   stops f after t rest end (inr e) = inr e
 
-  answers : (fault : RunFault) (r w : List ℕ) (end : Type 0) → IsAnswer (Listing language) s (Err fault) r w end → IsListing language (Err fault) r w end
+  answers : (fault : RunFault) (r w : List ℕ) (end : Type 0) → IsAnswer setup s (Err fault) r w end → IsListing (rules_of setup) line (Err fault) r w end
   answers (Print f after) r w end a = record {
     t = a.t;
     rest = a.rest;
@@ -64,12 +63,12 @@ module _ (language : Language) (before after held holds : Option (List ℕ)) (s 
   answers TooManyTurns r w end a = tt
 
   -- it ends early
-  pub lists_some : (fault : RunFault) → Pumps before after held holds (Listing language) s [] [] (Err fault) → Lists language before after held holds (Err fault)
+  pub lists_some : (fault : RunFault) → Pumps before after held holds setup s [] [] (Err fault) → ListsBy (rules_of setup) line before after held holds (Err fault)
   lists_some fault p = record {
     read = p.reaches.read;
     accepted = p.reaches.accepted;
     consumed = p.reaches.consumed;
     appended = p.reaches.appended;
-    front = written_front (Listing language) s p.reaches.read p.reaches.accepted p.reaches.at grows;
+    front = written_front setup s p.reaches.read p.reaches.accepted p.reaches.at grows;
     answer = answers fault p.reaches.read p.reaches.accepted _ p.answer;
   }

@@ -1,6 +1,7 @@
 -- the rules of every language, and of each; the images of receipts and labels
 pub mod Bytes
 pub mod Paper
+pub mod Offsets
 pub mod Setups
 pub mod Images
 -- what a printer, a session and a listing do

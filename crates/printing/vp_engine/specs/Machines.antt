@@ -7,8 +7,10 @@ use Rattle.vp_label.specs.Standing.{Stands as LabelStands}
 use Rattle.vp_language.specs.declared.language.Language.TheVariants as languages
 use Rattle.vp_engine.specs.declared.machine.Machine.{Machine}
 use Rattle.vp_engine.specs.declared.machine.Machine.TheVariants.{Receipt, ReceiptLines, Label, LabelLines}
+use Rattle.vp_engine.specs.declared.machine.Machine.TheVariants.{ReceiptOffsets, LabelOffsets}
 use Rattle.vp_streams.specs.Count.{counted}
-use Rattle.vp_engine.specs.Setups.{Setup, Receipts, Labels, Listing, Item}
+use Rattle.vp_engine.specs.Lines.{Listed}
+use Rattle.vp_engine.specs.Setups.{Setup, Receipts, Labels, Listing, ListingWithOffsets, Item}
 
 -- what is still to be put out
 abbrev pub pending_of : Machine → List ℕ
@@ -16,6 +18,14 @@ pending_of (Receipt reader receipt) = receipt.pending
 pending_of (ReceiptLines reader lines) = lines.pending
 pending_of (Label reader label) = label.pending
 pending_of (LabelLines reader lines) = lines.pending
+pending_of (ReceiptOffsets reader lines taken) = lines.pending
+pending_of (LabelOffsets reader lines taken) = lines.pending
+
+-- so many lines there were, and so many bytes were taken
+pub record AreLines {Item : Type 0} (lines : Listed) (taken : ℕ) (bytes : List ℕ) (before : List Item)
+    : Type 0 where
+  pub count : lines.count ≡ counted (length before)
+  pub taken_is : taken ≡ counted (length bytes)
 
 -- the reader stands after these bytes, and what it drives after these items
 abbrev pub MachineStands : Machine → (setup : Setup) → List ℕ → List (Item setup) → Type 0
@@ -29,6 +39,12 @@ MachineStands (Label reader label) (Labels sheets) bytes before =
     ZplStands reader bytes × LabelStands sheets label before
 MachineStands (LabelLines reader lines) (Listing languages.Label) bytes before =
     ZplStands reader bytes × (lines.count ≡ counted (length before))
+MachineStands (ReceiptOffsets reader lines taken) (ListingWithOffsets languages.Receipt) bytes before =
+    EscStands reader bytes × AreLines lines taken bytes before
+MachineStands (ReceiptOffsets reader lines taken) (ListingWithOffsets languages.Receipt58) bytes before =
+    EscStands reader bytes × AreLines lines taken bytes before
+MachineStands (LabelOffsets reader lines taken) (ListingWithOffsets languages.Label) bytes before =
+    ZplStands reader bytes × AreLines lines taken bytes before
 MachineStands machine setup bytes before = ⊥
 
 -- A machine took nothing.

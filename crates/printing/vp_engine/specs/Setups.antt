@@ -15,6 +15,7 @@ use Rattle.vp_label.specs.Held.{band_rows_after, stored_after, fields_after}
 use Rattle.vp_language.specs.declared.language.Language.{Language}
 use Rattle.vp_language.specs.declared.language.Language.TheVariants as languages
 use Rattle.vp_streams.specs.Count.{counted}
+use Rattle.vp_engine.specs.Offsets.{Placed, with_offsets, placed_line}
 use Rattle.vp_engine.specs.Paper.{Reading, Rules, listing, nothing_held}
 
 abbrev pub ItemOf : Language → Type 0
@@ -46,11 +47,12 @@ line languages.Receipt58 = line_of
 line languages.Label = zpl_lines.line_of
 
 -- what a printer prints: receipts on a paper with sheets, labels with sheets, or a line for each item of a
--- language
+-- language, with its place or without
 pub data Setup : Type 0 where
   Receipts : ReceiptSetup → Setup
   Labels : Sheets → Setup
   Listing : Language → Setup
+  ListingWithOffsets : Language → Setup
 
 -- the printer of a language with these sheets
 abbrev pub setup_of : Language → Sheets → Setup
@@ -62,6 +64,7 @@ abbrev pub Item : Setup → Type 0
 Item (Receipts receipt) = EscItem
 Item (Labels sheets) = zpl.Item
 Item (Listing language) = ItemOf language
+Item (ListingWithOffsets language) = Placed (ItemOf language)
 
 abbrev pub rules_of : (setup : Setup) → Rules (Item setup)
 rules_of (Receipts receipt) = record {
@@ -86,9 +89,12 @@ rules_of (Labels sheets) = record {
   };
 }
 rules_of (Listing language) = listing (reading language) (line language)
+rules_of (ListingWithOffsets language) =
+    listing (with_offsets (reading language)) (placed_line (line language))
 
 -- how many lines of a listing these items are
 abbrev pub lines_of : (setup : Setup) → List (Item setup) → ℕ
 lines_of (Receipts receipt) before = 0
 lines_of (Labels sheets) before = 0
 lines_of (Listing language) before = counted (length before)
+lines_of (ListingWithOffsets language) before = counted (length before)

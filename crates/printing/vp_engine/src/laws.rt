@@ -1,5 +1,5 @@
 //! What the definitions of `specs/` say of every stream, whatever it is written in.
-ghost use Rattle.std.specs.Prelude.{◌≡◌, ◌≤◌, ◌++◌, ℕ, List, flat_map, Option, Some, Err};
+ghost use Rattle.std.specs.Prelude.{◌≡◌, ◌<◌, ◌≤◌, ◌++◌, ℕ, List, flat_map, length, take, Option, Some, Err};
 ghost use Rattle.vp_dots.specs.declared.fault.Fault.{Fault};
 ghost use Rattle.vp_dots.specs.Images.{Image, pbm};
 ghost use Rattle.vp_join.specs.Passes.{IsExact, IsOfCalls};
@@ -13,9 +13,10 @@ ghost use Rattle.vp_language.specs.declared.language.Language.{Language};
 ghost use Rattle.vp_engine.specs.Bytes.{IsPrefix};
 ghost use Rattle.vp_engine.specs.Images.{receipts, IsPrinted, images_of, begun_of, labels, images_of_labels};
 ghost use Rattle.vp_engine.specs.Listing.{lines};
+ghost use Rattle.vp_engine.specs.Offsets.{offset_of, placed_line};
 ghost use Rattle.vp_engine.specs.Paper.{Reads, before_fault, fault, paper};
-ghost use Rattle.vp_engine.specs.Setups.{Setup, rules_of};
-ghost use Rattle.vp_engine.specs.Setups.{Listing};
+ghost use Rattle.vp_engine.specs.Setups.{Setup, reading, rules_of};
+ghost use Rattle.vp_engine.specs.Setups.{line, Listing, ListingWithOffsets};
 
 use vp_join::laws::{images_are_not_refused, images_make_one};
 use vp_receipt::what_is_printed_is_images;
@@ -47,11 +48,33 @@ pub fn nothing_follows_a_fault()
         paper (rules_of setup) (bytes ++ more) ≡ paper (rules_of setup) bytes }
 {}
 
-/// The paper of a listing is the lines of the items before the first fault.
+/// The paper of a listing is the lines of the items before the first fault, with their places or without.
 pub fn a_listing_is_its_lines()
-    ensures { (language : Language) (bytes : List ℕ) →
+    ensures alone { (language : Language) (bytes : List ℕ) →
         paper (rules_of (Listing language)) bytes ≡
-        lines language (before_fault (rules_of (Listing language)) bytes) }
+        lines (rules_of (Listing language)) (line language)
+        (before_fault (rules_of (Listing language)) bytes) }
+    ensures with_offsets { (language : Language) (bytes : List ℕ) →
+        paper (rules_of (ListingWithOffsets language)) bytes ≡
+        lines (rules_of (ListingWithOffsets language)) (placed_line (line language))
+        (before_fault (rules_of (ListingWithOffsets language)) bytes) }
+{}
+
+/// The place of an item of a language: as many bytes give it, and no fewer; it is no more than there are, it
+/// stays, and later items have none before it.
+pub fn places()
+    ensures gives { (language : Language) (bytes : List ℕ) (k : ℕ) →
+        k < length ((reading language).items bytes) →
+        k < length ((reading language).items (take (offset_of (reading language) bytes k) bytes)) }
+    ensures shortest { (language : Language) (bytes : List ℕ) (k n : ℕ) →
+        n < offset_of (reading language) bytes k → length ((reading language).items (take n bytes)) ≤ k }
+    ensures within { (language : Language) (bytes : List ℕ) (k : ℕ) →
+        offset_of (reading language) bytes k ≤ length bytes }
+    ensures stays { (language : Language) (bytes more : List ℕ) (k : ℕ) →
+        k < length ((reading language).items bytes) →
+        offset_of (reading language) (bytes ++ more) k ≡ offset_of (reading language) bytes k }
+    ensures rises { (language : Language) (bytes : List ℕ) (j k : ℕ) → j ≤ k →
+        offset_of (reading language) bytes j ≤ offset_of (reading language) bytes k }
 {}
 
 /// The paper of a receipt that has no fault, and is printed where it ends, is images, one after the other,

@@ -12,7 +12,7 @@ use std::marker::Model;
 /// stops at the greatest u64.
 #[derive(Drop)]
 pub struct Lines {
-    line: ArrayVec<u8, 800>,
+    line: ArrayVec<u8, 821>,
     at: usize,
     count: u64,
 }
@@ -43,7 +43,7 @@ impl Lines {
     /// Begins so many lines, where those before them are put out.
     pub fn begin(&mut self, lines: &[u8], count: usize)
         requires idle { self.old.pending ≡ [] }
-        requires room { length lines.now ≤ 800 }
+        requires room { length lines.now ≤ 821 }
         ensures pending { self.new.pending ≡ lines.now }
         ensures count { self.new.count ≡ grown self.old.count count }
     {
@@ -98,7 +98,7 @@ impl Lines {
 const DIGITS: [u8; 16] = *b"0123456789abcdef";
 
 /// The line of a byte of data.
-fn byte_line(byte: u8) -> [u8; 8]
+pub fn byte_line(byte: u8) -> [u8; 8]
     ensures { result ≡ line_of (RasterByte byte) }
 {
     let high = DIGITS[(byte / 16) as usize];

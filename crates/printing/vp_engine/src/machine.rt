@@ -1,18 +1,22 @@
 //! The machines: each a reader and what it drives. Only here has each language an arm.
-ghost use Rattle.std.specs.Prelude.{◌≡◌, ◌<◌, ◌≤◌, ◌++◌, ◌↔◌, List, [], ℕ, IsTrue, IfOk, None, length, min, take, drop};
+ghost use Rattle.std.specs.Prelude.{◌≡◌, ◌<◌, ◌≤◌, ◌++◌, ◌↔◌, List, [], ℕ, IsTrue, IfOk, None, flat_map, length, min, take, drop};
 ghost use Rattle.vp_engine.specs.Answers.{IsBounded};
 ghost use Rattle.vp_streams.specs.Count.{grown};
 ghost use Rattle.vp_engine.specs.Machines.{pending_of, MachineStands};
 ghost use Rattle.vp_engine.specs.Paper.{missing};
 ghost use Rattle.vp_engine.specs.Setups.{Setup, Item, setup_of, rules_of, lines_of};
-ghost use Rattle.vp_engine.specs.Setups.{Receipts, Labels, Listing};
+ghost use Rattle.vp_engine.specs.Offsets.{offset_line};
+ghost use Rattle.vp_engine.specs.Setups.{Receipts, Labels, Listing, ListingWithOffsets};
 ghost use Rattle.vp_engine.specs.Takes.{Takes, TakesRun};
 ghost use Rattle.vp_esc.specs.Lines.{line_of};
-ghost use Rattle.vp_zpl.specs.Lines.{lines_of as label_lines_of};
+ghost use Rattle.vp_zpl.specs.Lines.{line_of as label_line_of, lines_of as label_lines_of};
 ghost use Rattle.vp_zpl.specs.Shown.{shown_item};
 
 use crate::held::{Held, NOTHING};
+use crate::laws::items_grow;
 use crate::lines::Lines;
+use crate::offset::{offset_byte_lines, offset_line};
+use arrayvec::ArrayVec;
 use std::alloc::{AllocError, Global};
 use vp_dots::Fault;
 use vp_esc::{EscItem, EscReader};
@@ -74,12 +78,65 @@ fn begin_label_lines(lines: &mut Lines, item: &ZplItem<'_>)
     lines.begin(item.line().as_slice(), items_in(item));
 }
 
+/// Begins the line of a receipt's item behind its place, likewise.
+#[inline(never)]
+fn begin_offset_line(lines: &mut Lines, offset: u64, item: &EscItem)
+    requires { lines.old.pending ≡ [] }
+    ensures pending { lines.new.pending ≡ offset_line offset (line_of item.now) }
+    ensures count { lines.new.count ≡ grown lines.old.count 1 }
+{
+    lines.begin(offset_line(offset, item.line().as_slice()).as_slice(), 1);
+}
+
+/// The lines of a label's items, all behind one place.
+fn label_offset_lines(offset: u64, item: &ZplItem<'_>) -> ArrayVec<u8, 821>
+    ensures { result.items ≡ flat_map (λ i. offset_line offset (label_line_of i)) (shown_item item.now) }
+{
+    match item {
+        ZplItem::Command(_) => offset_line(offset, item.line().as_slice()),
+        ZplItem::Data(bytes) => offset_byte_lines(offset, bytes.as_slice()),
+    }
+}
+
+/// Begins the lines of a label's items behind their place, likewise.
+#[inline(never)]
+fn begin_label_offset_lines(lines: &mut Lines, offset: u64, item: &ZplItem<'_>)
+    requires { lines.old.pending ≡ [] }
+    ensures pending { lines.new.pending
+        ≡ flat_map (λ i. offset_line offset (label_line_of i)) (shown_item item.now) }
+    ensures count { lines.new.count ≡ grown lines.old.count (length (shown_item item.now)) }
+{
+    lines.begin(label_offset_lines(offset, item).as_slice(), items_in(item));
+}
+
 #[derive(Drop)]
 pub enum Machine {
-    Receipt { reader: EscReader, receipt: Receipt },
-    ReceiptLines { reader: EscReader, lines: Lines },
-    Label { reader: ZplReader, label: Label },
-    LabelLines { reader: ZplReader, lines: Lines },
+    Receipt {
+        reader: EscReader,
+        receipt: Receipt,
+    },
+    ReceiptLines {
+        reader: EscReader,
+        lines: Lines,
+    },
+    Label {
+        reader: ZplReader,
+        label: Label,
+    },
+    LabelLines {
+        reader: ZplReader,
+        lines: Lines,
+    },
+    ReceiptOffsets {
+        reader: EscReader,
+        lines: Lines,
+        taken: u64,
+    },
+    LabelOffsets {
+        reader: ZplReader,
+        lines: Lines,
+        taken: u64,
+    },
 }
 
 impl Machine {
@@ -127,6 +184,41 @@ impl Machine {
             Language::Receipt => Machine::receipt_lines(),
             Language::Receipt58 => Machine::receipt_lines(),
             Language::Label => Machine::label_lines(),
+        }
+    }
+
+    /// One that lists a language with the places of its items, and took nothing.
+    pub fn listing_with_offsets(language: Language) -> Self
+        ensures stands { MachineStands result (ListingWithOffsets language) [] [] }
+        ensures pending { pending_of result ≡ [] }
+    {
+        match language {
+            Language::Receipt => Machine::receipt_offsets(),
+            Language::Receipt58 => Machine::receipt_offsets(),
+            Language::Label => Machine::label_offsets(),
+        }
+    }
+
+    fn receipt_offsets() -> Self
+        ensures wide { MachineStands result (ListingWithOffsets Language.Receipt) [] [] }
+        ensures narrow { MachineStands result (ListingWithOffsets Language.Receipt58) [] [] }
+        ensures pending { pending_of result ≡ [] }
+    {
+        Machine::ReceiptOffsets {
+            reader: EscReader::new(),
+            lines: Lines::new(),
+            taken: 0,
+        }
+    }
+
+    fn label_offsets() -> Self
+        ensures stands { MachineStands result (ListingWithOffsets Language.Label) [] [] }
+        ensures pending { pending_of result ≡ [] }
+    {
+        Machine::LabelOffsets {
+            reader: ZplReader::new(),
+            lines: Lines::new(),
+            taken: 0,
         }
     }
 
@@ -183,6 +275,34 @@ impl Machine {
             Machine::LabelLines { reader, lines } => {
                 if let Some(item) = reader.take(byte) {
                     begin_label_lines(lines, &item);
+                }
+                Ok(())
+            }
+            Machine::ReceiptOffsets {
+                reader,
+                lines,
+                taken,
+            } => {
+                items_grow();
+                *taken = taken.saturating_add(1);
+                match reader.take(byte) {
+                    Ok(Some(item)) => {
+                        begin_offset_line(lines, *taken, item);
+                        Ok(())
+                    }
+                    Ok(None) => Ok(()),
+                    Err(fault) => Err(fault),
+                }
+            }
+            Machine::LabelOffsets {
+                reader,
+                lines,
+                taken,
+            } => {
+                items_grow();
+                *taken = taken.saturating_add(1);
+                if let Some(item) = reader.take(byte) {
+                    begin_label_offset_lines(lines, *taken, &item);
                 }
                 Ok(())
             }
@@ -247,6 +367,8 @@ impl Machine {
                 let put = 8 * n;
                 Moved { taken: n, put }
             }
+            Machine::ReceiptOffsets { .. } => Moved { taken: 0, put: 0 },
+            Machine::LabelOffsets { .. } => Moved { taken: 0, put: 0 },
         }
     }
 
@@ -259,6 +381,8 @@ impl Machine {
             Machine::ReceiptLines { lines, .. } => lines.pending(),
             Machine::Label { label, .. } => label.pending(),
             Machine::LabelLines { lines, .. } => lines.pending(),
+            Machine::ReceiptOffsets { lines, .. } => lines.pending(),
+            Machine::LabelOffsets { lines, .. } => lines.pending(),
         }
     }
 
@@ -276,6 +400,8 @@ impl Machine {
             Machine::ReceiptLines { lines, .. } => lines.put(output),
             Machine::Label { label, .. } => label.put(output),
             Machine::LabelLines { lines, .. } => lines.put(output),
+            Machine::ReceiptOffsets { lines, .. } => lines.put(output),
+            Machine::LabelOffsets { lines, .. } => lines.put(output),
         }
     }
 
@@ -291,6 +417,8 @@ impl Machine {
             Machine::ReceiptLines { reader, .. } => missing(reader.at_rest(), true),
             Machine::Label { reader, label } => missing(reader.at_rest(), label.at_rest()),
             Machine::LabelLines { reader, .. } => missing(reader.at_rest(), true),
+            Machine::ReceiptOffsets { reader, .. } => missing(reader.at_rest(), true),
+            Machine::LabelOffsets { reader, .. } => missing(reader.at_rest(), true),
         }
     }
 
@@ -315,6 +443,8 @@ impl Machine {
                 ..NOTHING
             },
             Machine::LabelLines { .. } => NOTHING,
+            Machine::ReceiptOffsets { .. } => NOTHING,
+            Machine::LabelOffsets { .. } => NOTHING,
         }
     }
 
@@ -329,6 +459,8 @@ impl Machine {
             Machine::ReceiptLines { lines, .. } => lines.count(),
             Machine::Label { .. } => 0,
             Machine::LabelLines { lines, .. } => lines.count(),
+            Machine::ReceiptOffsets { lines, .. } => lines.count(),
+            Machine::LabelOffsets { lines, .. } => lines.count(),
         }
     }
 }

@@ -5,7 +5,7 @@ ghost use Rattle.vp_engine.specs.Answers.{IsMore, IsRoom, IsStopped, IsStill, Is
 ghost use Rattle.vp_engine.specs.Machines.{MachineStands, TookNothing};
 ghost use Rattle.vp_engine.specs.Paper.{history, before_fault, fault, fault_at_end, held_after};
 ghost use Rattle.vp_engine.specs.Setups.{Setup, setup_of, rules_of, lines_of};
-ghost use Rattle.vp_engine.specs.Setups.{Listing};
+ghost use Rattle.vp_engine.specs.Setups.{Listing, ListingWithOffsets};
 ghost use Rattle.vp_engine.specs.Stands.{Stands};
 
 use crate::held::Held;
@@ -76,6 +76,13 @@ impl Printer {
         ensures { Stands (Listing language) result [] [] }
     {
         Printer::over(Machine::listing(language))
+    }
+
+    /// One that prints each line behind the place of its item, likewise.
+    pub(crate) fn listing_with_offsets(language: Language) -> Self
+        ensures { Stands (ListingWithOffsets language) result [] [] }
+    {
+        Printer::over(Machine::listing_with_offsets(language))
     }
 
     /// One over a machine that took nothing.

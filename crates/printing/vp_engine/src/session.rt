@@ -6,7 +6,7 @@ ghost use Rattle.vp_streams.specs.Count.{grown, one_more_if};
 ghost use Rattle.vp_engine.specs.Paper.{history, before_fault, fault_at_end};
 ghost use Rattle.vp_engine.specs.Session.{IsAt, Accepts, SameDesk, IsDrained, IsSettled, HasEnded, Reads, SamePrinter, Pumps, IsAgain, is_read_fault, is_write_fault};
 ghost use Rattle.vp_engine.specs.Setups.{Setup, setup_of, rules_of, lines_of};
-ghost use Rattle.vp_engine.specs.Setups.{Listing};
+ghost use Rattle.vp_engine.specs.Setups.{Listing, ListingWithOffsets};
 ghost use Rattle.vp_engine.specs.Stands.{Stands, IsFresh};
 
 use crate::buffer::Buffer;
@@ -84,6 +84,13 @@ impl Session {
         ensures { IsAt (Listing language) result [] [] }
     {
         Session::over(Printer::listing(language))
+    }
+
+    /// One that lists each item behind its place, and read and wrote nothing.
+    pub(crate) fn listing_with_offsets(language: Language) -> Self
+        ensures { IsAt (ListingWithOffsets language) result [] [] }
+    {
+        Session::over(Printer::listing_with_offsets(language))
     }
 
     /// One over a printer that took and put out nothing.

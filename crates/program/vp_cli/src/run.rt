@@ -8,7 +8,7 @@ use std::io::{Read, Write};
 use std::rt::{Env, Files};
 use std::{env, io};
 use vp_command_line::{Order, Stream, Task};
-use vp_engine::{Counted, Language, RunFault, Session, Sink, Source, list};
+use vp_engine::{Counted, Language, RunFault, Session, Sink, Source, list, list_with_offsets};
 use vp_exit_status::Stop;
 use vp_glyph::Sheets;
 use vp_join::join;
@@ -98,6 +98,7 @@ fn join_images<'a, R: Files, O: Write>(
 enum Work {
     Print(Sheets),
     List,
+    ListWithOffsets,
 }
 
 /// Reads the sheets, opens the file if one is named, and prints or lists.
@@ -111,6 +112,7 @@ fn carry_out<'a, R: Files, I: Read, O: Write>(
     let work = match stream.task {
         Task::Print(fonts) => Work::Print(sheets::read(rt, alloc, fonts)?),
         Task::List => Work::List,
+        Task::ListWithOffsets => Work::ListWithOffsets,
     };
     let Some(name) = stream.file else {
         return work_on(alloc, work, stream.language, input, output);
@@ -132,6 +134,10 @@ fn work_on<'a, I: Read, O: Write>(
     match work {
         Work::Print(sheets) => print(alloc, sheets, language, &mut reader, &mut writer),
         Work::List => match list(language, &mut reader, &mut writer) {
+            Ok(_) => Ok(()),
+            Err(fault) => Err(ended_by(fault)),
+        },
+        Work::ListWithOffsets => match list_with_offsets(language, &mut reader, &mut writer) {
             Ok(_) => Ok(()),
             Err(fault) => Err(ended_by(fault)),
         },

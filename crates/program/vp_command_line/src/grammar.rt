@@ -1,9 +1,9 @@
 //! The words that are read.
-use clap::{Arg, Command};
+use clap::{Arg, ArgAction, Command};
 use std::alloc::{AllocError, Global};
 
 /// The program's version. Its first number is raised where a stream prints other bytes than before.
-const VERSION: &str = "1.0.0";
+const VERSION: &str = "1.1.0";
 
 /// The widths of paper, in dots.
 const WIDTHS: [&str; 2] = ["576", "384"];
@@ -45,7 +45,7 @@ fn font_a<'a>(alloc: Global) -> Arg<'a> {
     sheet(
         alloc,
         "font-a",
-        "Glyph sheet of font A, PBM of 192 by 384 dots",
+        "Glyph sheet of font A, PBM of 192 by 384 dots; without it characters are white",
     )
 }
 
@@ -65,6 +65,14 @@ fn lang<'a>(alloc: Global) -> Arg<'a> {
         .value_parser(LANGUAGES.as_slice())
         .required(true)
         .help("What the stream is written in")
+}
+
+/// Whether the places of what is listed are.
+fn offsets<'a>(alloc: Global) -> Arg<'a> {
+    Arg::new(alloc, "offsets")
+        .long("offsets")
+        .action(ArgAction::SetTrue)
+        .help("Begin each line with the number of bytes read up to there")
 }
 
 fn receipt<'a>(alloc: Global) -> Result<Command<'a>, AllocError> {
@@ -87,6 +95,7 @@ fn list<'a>(alloc: Global) -> Result<Command<'a>, AllocError> {
     Command::new(alloc, "list")
         .about("Lists the commands of a stream, a line for each")
         .arg(lang(alloc))?
+        .arg(offsets(alloc))?
         .arg(file(alloc))
 }
 
@@ -110,7 +119,9 @@ fn vp<'a>(alloc: Global) -> Result<Command<'a>, AllocError> {
         Command::new(alloc, "vp")
             .bin_name("vp")?
             .version(VERSION)
-            .about("A virtual printer: what is printed goes to standard output as PBM images")
+            .about(
+                "A virtual printer that prints PBM images; without a glyph sheet characters are white",
+            )
             .subcommand_required(true),
     )
 }

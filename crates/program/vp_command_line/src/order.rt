@@ -31,6 +31,8 @@ pub enum Task<'a> {
     Print(Fonts<'a>),
     /// Its items are listed.
     List,
+    /// Its items are listed, each behind its place.
+    ListWithOffsets,
 }
 
 /// The files of the sheets of the two fonts.

@@ -32,7 +32,7 @@ fn printed_labels<'a>(words: &ArgMatches<'a>) -> Stream<'a> {
 /// A stream that is listed.
 fn listed<'a>(words: &ArgMatches<'a>) -> Stream<'a> {
     Stream {
-        task: Task::List,
+        task: listing(words.get_flag("offsets")),
         language: language_named(words.get_str("lang")),
         file: words.get_str("FILE"),
     }
@@ -74,6 +74,15 @@ fn language_of_width(width: Option<&str>) -> Language {
     match width {
         Some("384") => Language::Receipt58,
         _ => Language::Receipt,
+    }
+}
+
+/// A listing, with places or without.
+fn listing<'a>(offsets: bool) -> Task<'a> {
+    if offsets {
+        Task::ListWithOffsets
+    } else {
+        Task::List
     }
 }
 

@@ -1,15 +1,21 @@
-use Rattle.std.proofs.Common.{[], sym, ap, ◌∙◌}
+use Rattle.std.proofs.Common.{◌≡◌, ℕ, List, [], sym, ap, ◌∙◌, flat_map}
 use Rattle.std.proofs.lemmas.List.{append-nil}
-use Rattle.vp_engine.specs.Paper.{history, before_fault, printed}
-use Rattle.vp_engine.specs.Setups.{rules_of, reading, line}
-use Rattle.vp_engine.specs.Setups.{Listing}
+use Rattle.vp_engine.specs.Offsets.{with_offsets, placed_line}
+use Rattle.vp_engine.specs.Paper.{Reading, listing, history, before_fault, printed, paper}
+use Rattle.vp_engine.specs.Setups.{reading, line}
 use Rattle.vp_engine.proofs.Faults.{paper_is}
 use Rattle.vp_engine.proofs.Rasters.{printed_lines}
 use Rattle.vp_engine.proofs.laws.a_listing_is_its_lines.Goals as goal
 
-pub returns : goal.returns
-returns c language bytes =
-    let sound = before_fault (rules_of (Listing language)) bytes in
-    paper_is (rules_of (Listing language)) bytes
-    ∙ ap (printed (rules_of (Listing language))) (sym (append-nil (history (rules_of (Listing language)) sound)))
-    ∙ printed_lines (reading language) (line language) ((reading language).items sound) []
+lines_are : {Item : Type 0} (reading : Reading Item) (line : Item → List ℕ) (bytes : List ℕ) →
+    paper (listing reading line) bytes ≡ flat_map line (reading.items (before_fault (listing reading line) bytes))
+lines_are reading line bytes =
+    let sound = before_fault (listing reading line) bytes in
+    paper_is (listing reading line) bytes ∙ ap (printed (listing reading line)) (sym (append-nil (history (listing reading line) sound)))
+    ∙ printed_lines reading line (reading.items sound) []
+
+pub returns-clause-alone : goal.returns-clause-alone
+returns-clause-alone c language bytes = lines_are (reading language) (line language) bytes
+
+pub returns-clause-with_offsets : goal.returns-clause-with_offsets
+returns-clause-with_offsets c language bytes = lines_are (with_offsets (reading language)) (placed_line (line language)) bytes

@@ -1,10 +1,11 @@
 use Rattle.vp_language.specs.declared.language.Language.TheVariants as languages
 use Rattle.vp_engine.specs.Paper.{Reads}
 use Rattle.vp_engine.specs.Setups.{esc_reading, zpl_reading}
-use Rattle.vp_engine.specs.Setups.{Receipts, Labels, Listing}
+use Rattle.vp_engine.specs.Setups.{Receipts, Labels, Listing, ListingWithOffsets}
 use Rattle.std.proofs.Common.{refl, sym}
 use Rattle.vp_engine.proofs.Escs.{items_none, fault_none}
 use Rattle.vp_engine.proofs.Labels.{items_none as labels_none}
+use Rattle.vp_engine.proofs.Offsets.{places_read}
 use Rattle.vp_engine.proofs.laws.items_grow.Goals as goal
 
 escs : (c : goal.After-only_more-2) → Reads esc_reading
@@ -29,3 +30,6 @@ returns c (Labels sheets) = zpls c
 returns c (Listing languages.Receipt) = escs c
 returns c (Listing languages.Receipt58) = escs c
 returns c (Listing languages.Label) = zpls c
+returns c (ListingWithOffsets languages.Receipt) = places_read esc_reading (escs c)
+returns c (ListingWithOffsets languages.Receipt58) = places_read esc_reading (escs c)
+returns c (ListingWithOffsets languages.Label) = places_read zpl_reading (zpls c)

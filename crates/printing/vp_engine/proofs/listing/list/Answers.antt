@@ -1,5 +1,5 @@
 use Rattle.std.proofs.Common.{[]}
-use Rattle.vp_engine.specs.Setups.{Listing}
+use Rattle.vp_engine.specs.Setups.{Listing, line}
 use Rattle.vp_engine.proofs.Listings.{lists_all, lists_some}
 use Rattle.vp_engine.proofs.listing.list.Goals as goal
 
@@ -10,9 +10,9 @@ pub returns-in-Ok-clause-lists : goal.returns-in-Ok-clause-lists
 returns-in-Ok-clause-lists g c =
     let setup = Listing c.args.language in
     let p = c.in-Ok.ensures.pumps setup [] [] c.listing-session.ensures in
-    lists_all c.args.language _ _ _ _ _ (c.paper_grows.ensures setup) c.in-Ok.field-0 c.lines.result p (c.a_listing_is_its_lines.ensures c.args.language) (c.lines.ensures setup p.reaches.read p.reaches.accepted p.reaches.at)
+    lists_all setup (line c.args.language) _ _ _ _ _ (c.paper_grows.ensures setup) c.in-Ok.field-0 c.lines.result p (c.a_listing_is_its_lines.ensures.alone c.args.language) (c.lines.ensures setup p.reaches.read p.reaches.accepted p.reaches.at)
 
 pub returns-clause-lists : goal.returns-clause-lists
 returns-clause-lists g c =
     let setup = Listing c.args.language in
-    lists_some c.args.language _ _ _ _ _ (c.paper_grows.ensures setup) c.in-Err.fault (c.in-Err.ensures.pumps setup [] [] c.listing-session.ensures)
+    lists_some setup (line c.args.language) _ _ _ _ _ (c.paper_grows.ensures setup) c.in-Err.fault (c.in-Err.ensures.pumps setup [] [] c.listing-session.ensures)

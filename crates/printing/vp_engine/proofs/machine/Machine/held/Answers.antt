@@ -4,7 +4,7 @@ use Rattle.vp_label.specs.Held.{band_rows_after, stored_after}
 use Rattle.vp_engine.specs.Machines.{pending_of}
 use Rattle.vp_engine.specs.Paper.{nothing_held}
 use Rattle.vp_engine.specs.Setups.{Labels, rules_of}
-use Rattle.vp_engine.proofs.Arms.{at_receipt, at_lines, at_label, at_label_lines}
+use Rattle.vp_engine.proofs.Arms.{at_receipt, at_lines, at_label, at_label_lines, at_offsets, at_label_offsets}
 use Rattle.vp_engine.proofs.machine.Machine.held.Goals as goal
 
 pub returns-in-Receipt-clause-value : goal.returns-in-Receipt-clause-value
@@ -25,3 +25,9 @@ returns-in-ReceiptLines-clause-value c = at_lines _ _ _ _ c.in-ReceiptLines.is (
 
 pub returns-in-LabelLines-clause-value : goal.returns-in-LabelLines-clause-value
 returns-in-LabelLines-clause-value c = at_label_lines _ _ _ _ c.in-LabelLines.is (λ t before at. refl)
+
+pub returns-in-ReceiptOffsets-clause-value : goal.returns-in-ReceiptOffsets-clause-value
+returns-in-ReceiptOffsets-clause-value c = at_offsets _ _ _ _ _ c.in-ReceiptOffsets.is (λ t before at. refl) (λ t before at. refl)
+
+pub returns-in-LabelOffsets-clause-value : goal.returns-in-LabelOffsets-clause-value
+returns-in-LabelOffsets-clause-value c = at_label_offsets _ _ _ _ _ c.in-LabelOffsets.is (λ t before at. refl)

@@ -1,17 +1,23 @@
-use Rattle.std.proofs.Common.{refl, sym, ap, subst, ◌∙◌, ◌++◌, length, Ok, Err, [], ◌∷◌}
+use Rattle.std.proofs.Common.{◌≡◌, ℕ, suc, List, map, refl, sym, ap, subst, ◌∙◌, ◌++◌, length, Ok, Err, [], ◌∷◌, arith}
 use Rattle.vp_esc.specs.Reader.{Stands as EscStands}
 use Rattle.vp_receipt.specs.Standing.{Printing, Stands as ReceiptStands}
 use Rattle.vp_zpl.specs.Reader.{Stands as ZplStands}
 use Rattle.vp_zpl.specs.Lines.{line_of}
+use Rattle.vp_esc.specs.declared.item.EscItem.{EscItem}
+use Rattle.vp_esc.specs.Lines.{line_of as receipt_line_of}
+use Rattle.vp_streams.specs.Count.{grown}
 use Rattle.vp_zpl.specs.Shown.{shown_item}
-use Rattle.vp_engine.specs.Machines.{pending_of}
+use Rattle.vp_engine.specs.Machines.{pending_of, AreLines}
+use Rattle.vp_engine.specs.Offsets.{Placed, with_offsets, placed_line}
+use Rattle.vp_engine.specs.Takes.{Takes}
 use Rattle.vp_language.specs.declared.language.Language.TheVariants as languages
 use Rattle.vp_engine.specs.Paper.{listing, printed}
-use Rattle.vp_engine.specs.Setups.{Receipts, Labels, Listing, rules_of, zpl_reading}
-use Rattle.vp_engine.proofs.Arms.{at_receipt, at_lines, at_label, at_label_lines}
+use Rattle.vp_engine.specs.Setups.{Receipts, Labels, Listing, rules_of, esc_reading, zpl_reading}
+use Rattle.vp_engine.proofs.Arms.{at_receipt, at_lines, at_label, at_label_lines, at_offsets, at_label_offsets}
 use Rattle.vp_engine.proofs.Comes.{comes, one_printed, none_printed, on_ok, on_err}
 use Rattle.vp_engine.proofs.Listings.{one_line_more, lines_more}
 use Rattle.vp_engine.proofs.Labels.{items_come}
+use Rattle.vp_engine.proofs.Offsets.{at_place, placed_byte, placed_count, taken_more, taken_is, line_at, lines_at}
 use Rattle.vp_engine.proofs.Rasters.{all_listed, printed_lines}
 use Rattle.vp_engine.proofs.machine.Machine.take.Goals as goal
 
@@ -136,3 +142,102 @@ returns-in_default c = at_label_lines _ _ _ _ c.in-LabelLines.is (λ t before at
     none_printed (listing zpl_reading line_of) _ before (sym (ap pending_of c.in-LabelLines.is) ∙ c.requires),
   );
 })
+
+pub returns-in-Ok-Some-take-2 : goal.returns-in-Ok-Some-take-2
+returns-in-Ok-Some-take-2 c =
+    let item = c.in-Ok-Some-take-2.item.now in
+    let rules = listing (with_offsets esc_reading) (placed_line receipt_line_of) in
+    let grew : c.saturating_add.result ≡ grown c.in-ReceiptOffsets.taken 1 = omega (arith, c.saturating_add.ensures) in
+    let takes : (t : List ℕ) (before : List (Placed EscItem)) → EscStands c.in-ReceiptOffsets.reader t × AreLines c.in-ReceiptOffsets.lines c.in-ReceiptOffsets.taken t before →
+    Takes rules (λ t before. EscStands c.take-in-ReceiptOffsets.follows.lender-at-none t × AreLines c.begin_offset_line.new.lines c.saturating_add.result t before) c.begin_offset_line.new.lines.pending t before c.args.byte (Ok tt) =
+    λ t before at.
+    let gives = (rw c.in-Ok-Some-take-2.field-0-is at c.in-Ok-Some-take-2.ensures).gives t at.0 in
+    let placed = at_place (suc (length t)) item in
+    record {
+      given = Ok (placed ∷ []);
+      gives = (gives.0, placed_byte esc_reading (c.items_grow.ensures (Listing languages.Receipt)).grows t c.args.byte (item ∷ []) gives.1);
+      comes = (
+        (refl, tt),
+        (
+          c.take-in-ReceiptOffsets.follows.holds-at-none t at.0,
+          record {
+            count = one_line_more _ _ before placed at.1.count c.begin_offset_line.ensures.count;
+            taken_is = taken_more _ _ t c.args.byte at.1.taken_is grew;
+          },
+        ),
+        one_printed rules _ before placed (c.begin_offset_line.ensures.pending ∙ line_at (suc (length t)) _ (receipt_line_of item) (taken_is _ _ t at.1.taken_is grew)),
+      );
+    } in
+    at_offsets _ _ _ _ _ c.in-ReceiptOffsets.is takes takes
+
+pub returns-in-Ok-None-take-2 : goal.returns-in-Ok-None-take-2
+returns-in-Ok-None-take-2 c =
+    let rules = listing (with_offsets esc_reading) (placed_line receipt_line_of) in
+    let grew : c.saturating_add.result ≡ grown c.in-ReceiptOffsets.taken 1 = omega (arith, c.saturating_add.ensures) in
+    let takes : (t : List ℕ) (before : List (Placed EscItem)) → EscStands c.in-ReceiptOffsets.reader t × AreLines c.in-ReceiptOffsets.lines c.in-ReceiptOffsets.taken t before →
+    Takes rules (λ t before. EscStands c.take-in-ReceiptOffsets.follows.lender-at-none t × AreLines c.in-ReceiptOffsets.lines c.saturating_add.result t before) c.in-ReceiptOffsets.lines.pending t before c.args.byte (Ok tt) =
+    λ t before at.
+    let gives = (rw c.in-Ok-None-take-2.field-0-is at c.in-Ok-None-take-2.ensures).gives t at.0 in
+    record {
+      given = Ok [];
+      gives = (gives.0, placed_byte esc_reading (c.items_grow.ensures (Listing languages.Receipt)).grows t c.args.byte [] gives.1);
+      comes = (
+        tt,
+        (c.take-in-ReceiptOffsets.follows.holds-at-none t at.0, record { count = at.1.count; taken_is = taken_more _ _ t c.args.byte at.1.taken_is grew }),
+        none_printed rules _ before (sym (ap pending_of c.in-ReceiptOffsets.is) ∙ c.requires),
+      );
+    } in
+    at_offsets _ _ _ _ _ c.in-ReceiptOffsets.is takes takes
+
+pub returns-in-Err-take-2 : goal.returns-in-Err-take-2
+returns-in-Err-take-2 c =
+    let rules = listing (with_offsets esc_reading) (placed_line receipt_line_of) in
+    let grew : c.saturating_add.result ≡ grown c.in-ReceiptOffsets.taken 1 = omega (arith, c.saturating_add.ensures) in
+    let takes : (t : List ℕ) (before : List (Placed EscItem)) → EscStands c.in-ReceiptOffsets.reader t × AreLines c.in-ReceiptOffsets.lines c.in-ReceiptOffsets.taken t before →
+    Takes rules (λ t before. EscStands c.take-in-ReceiptOffsets.follows.lender-at-none t × AreLines c.in-ReceiptOffsets.lines c.saturating_add.result t before) c.in-ReceiptOffsets.lines.pending t before c.args.byte (Err c.in-Err-take-2.fault) =
+    λ t before at. record {
+      given = Err c.in-Err-take-2.fault;
+      gives = c.in-Err-take-2.ensures.gives t at.0;
+      comes = (
+        refl,
+        (c.take-in-ReceiptOffsets.follows.holds-at-none t at.0, record { count = at.1.count; taken_is = taken_more _ _ t c.args.byte at.1.taken_is grew }),
+        sym (ap pending_of c.in-ReceiptOffsets.is) ∙ c.requires,
+      );
+    } in
+    at_offsets _ _ _ _ _ c.in-ReceiptOffsets.is takes takes
+
+pub returns-in-Some-take-2 : goal.returns-in-Some-take-2
+returns-in-Some-take-2 c = at_label_offsets _ _ _ _ _ c.in-LabelOffsets.is (λ t before at.
+    let items = shown_item c.in-Some-take-2.item in
+    let placed = map (at_place (suc (length t))) items in
+    let grew : c.saturating_add-in-LabelOffsets.result ≡ grown c.in-LabelOffsets.taken 1 = omega (arith, c.saturating_add-in-LabelOffsets.ensures) in
+    record {
+      given = Ok placed;
+      gives = (refl, placed_byte zpl_reading (c.items_grow-in-LabelOffsets.ensures (Listing languages.Label)).grows t c.args.byte items (c.in-Some-take-2.ensures.gives t at.0));
+      comes = (
+        all_listed (with_offsets zpl_reading) (placed_line line_of) placed before,
+        (
+          c.take-in-LabelOffsets.follows.holds-at-none t at.0,
+          record {
+            count = lines_more _ _ (length items) before placed at.1.count c.begin_label_offset_lines.ensures.count (placed_count (suc (length t)) items);
+            taken_is = taken_more _ _ t c.args.byte at.1.taken_is grew;
+          },
+        ),
+        printed_lines (with_offsets zpl_reading) (placed_line line_of) placed before
+            ∙ ap (λ x. printed (listing (with_offsets zpl_reading) (placed_line line_of)) before ++ x)
+            (sym (c.begin_label_offset_lines.ensures.pending ∙ lines_at line_of (suc (length t)) _ items (taken_is _ _ t at.1.taken_is grew))),
+      );
+    })
+
+pub returns-in_default-take : goal.returns-in_default-take
+returns-in_default-take c = at_label_offsets _ _ _ _ _ c.in-LabelOffsets.is (λ t before at.
+    let grew : c.saturating_add-in-LabelOffsets.result ≡ grown c.in-LabelOffsets.taken 1 = omega (arith, c.saturating_add-in-LabelOffsets.ensures) in
+    record {
+      given = Ok [];
+      gives = (refl, placed_byte zpl_reading (c.items_grow-in-LabelOffsets.ensures (Listing languages.Label)).grows t c.args.byte [] (c.in_default-take.ensures.gives t at.0));
+      comes = (
+        tt,
+        (c.take-in-LabelOffsets.follows.holds-at-none t at.0, record { count = at.1.count; taken_is = taken_more _ _ t c.args.byte at.1.taken_is grew }),
+        none_printed (listing (with_offsets zpl_reading) (placed_line line_of)) _ before (sym (ap pending_of c.in-LabelOffsets.is) ∙ c.requires),
+      );
+    })

@@ -1,0 +1,235 @@
+-- The places of items: they stay, they don't go down, and each is that of the byte that gives its item.
+use Rattle.std.proofs.Common.{◌≡◌, Bool, true, false, ℕ, zero, suc, ◌+◌, ◌<◌, ◌≤◌, List, [], ◌∷◌, ◌++◌, length, take, map, flat_map, decimal, nat_lt, cond, append_assoc, refl, sym, ap, ◌∙◌, arith, length-append, subst, zero-add, eqb}
+use Rattle.std.proofs.lemmas.Bool.{lt-ltb, le-ltb, ltb-true, ltb-false, eqb-true, eqb-false}
+use Rattle.std.proofs.lemmas.List.{append-nil, length-map, take_at}
+use Rattle.vp_esc.specs.declared.item.EscItem.TheVariants.{RasterByte}
+use Rattle.vp_esc.specs.Lines.{line_of}
+use Rattle.vp_zpl.specs.Items.{data_items}
+use Rattle.vp_zpl.specs.Lines.{line_of as label_line_of}
+use Rattle.vp_streams.specs.Count.{counted, grown}
+use Rattle.vp_engine.specs.Bytes.{IsPrefix}
+use Rattle.vp_engine.specs.Offsets.{Placed, offset_from, offset_of, placed_from, with_offsets, offset_line, placed_line}
+use Rattle.vp_engine.specs.Paper.{Reading, Reads}
+
+-- an item at a place
+abbrev pub at_place : {Item : Type 0} → ℕ → Item → Placed Item
+at_place n item = record { offset = n; item = item }
+
+-- items of which each byte behind the first n gives one
+abbrev pub in_turn : {Item : Type 0} → (ℕ → Item) → ℕ → List ℕ → List (Placed Item)
+in_turn f n [] = []
+in_turn f n (b ∷ bytes) = at_place (suc n) (f b) ∷ in_turn f (suc n) bytes
+
+pub in_turn_length : {Item : Type 0} (f : ℕ → Item) (n : ℕ) (bytes : List ℕ) → length (in_turn f n bytes) ≡ length bytes
+in_turn_length f n [] = refl
+in_turn_length f n (b ∷ bytes) = ap suc (in_turn_length f (suc n) bytes)
+
+module _ {Item : Type 0} (reading : Reading Item) where
+  one_more : (k : ℕ) (front : List ℕ) (b : ℕ) (rest : List ℕ) →
+      offset_from reading k front (b ∷ rest) ≡ cond (nat_lt k (length (reading.items front))) (length front) (offset_from reading k (front ++ b ∷ []) rest)
+  unfolding offset_from
+  one_more k front b rest = refl
+
+  none_more : (k : ℕ) (front : List ℕ) → offset_from reading k front [] ≡ length front
+  unfolding offset_from
+  none_more k front = refl
+
+  there : (k : ℕ) (front : List ℕ) (b : ℕ) (rest : List ℕ) → k < length (reading.items front) → offset_from reading k front (b ∷ rest) ≡ length front
+  there k front b rest l = one_more k front b rest ∙ ap (λ t. cond t (length front) (offset_from reading k (front ++ b ∷ []) rest)) (lt-ltb k (length (reading.items front)) l)
+
+  later : (k : ℕ) (front : List ℕ) (b : ℕ) (rest : List ℕ) → length (reading.items front) ≤ k → offset_from reading k front (b ∷ rest) ≡ offset_from reading k (front ++ b ∷ []) rest
+  later k front b rest l = one_more k front b rest ∙ ap (λ t. cond t (length front) (offset_from reading k (front ++ b ∷ []) rest)) (le-ltb k (length (reading.items front)) l)
+
+  at_front : (k : ℕ) (front rest : List ℕ) → k < length (reading.items front) → offset_from reading k front rest ≡ length front
+  at_front k front [] l = none_more k front
+  at_front k front (b ∷ rest) l = there k front b rest l
+
+  at_false : (k : ℕ) (front : List ℕ) → nat_lt k (length (reading.items front)) ≡ false → length (reading.items front) ≤ k
+  at_false k front e = ltb-false k (length (reading.items front)) e
+
+  shift : (front : List ℕ) (b : ℕ) (rest : List ℕ) → (front ++ b ∷ []) ++ rest ≡ front ++ b ∷ rest
+  shift front b rest = append_assoc front (b ∷ []) rest
+
+  -- what is given keeps its place
+  stays_by : (k : ℕ) (front rest more : List ℕ) → k < length (reading.items (front ++ rest)) → offset_from reading k front (rest ++ more) ≡ offset_from reading k front rest
+  stays_by k front [] more l =
+      at_front k front more (subst (λ x. k < length (reading.items x)) (append-nil front) l) ∙ sym (none_more k front)
+  stays_by k front (b ∷ rest) more l = one_more k front b (rest ++ more)
+      ∙ ap (cond (nat_lt k (length (reading.items front))) (length front)) (stays_by k (front ++ b ∷ []) rest more (subst (λ x. k < length (reading.items x)) (sym (shift front b rest)) l))
+      ∙ sym (one_more k front b rest)
+
+  -- a place is no less than where the search begins, and within the bytes
+  least_at : (k : ℕ) (front : List ℕ) (b : ℕ) (rest : List ℕ) → length (front ++ b ∷ []) ≤ offset_from reading k (front ++ b ∷ []) rest →
+      (t : Bool) → nat_lt k (length (reading.items front)) ≡ t → length front ≤ offset_from reading k front (b ∷ rest)
+  least_at k front b rest next true e = omega (arith, there k front b rest (ltb-true k (length (reading.items front)) e))
+  least_at k front b rest next false e = omega (arith, later k front b rest (at_false k front e), next, length-append front (b ∷ []))
+
+  least_by : (k : ℕ) (front rest : List ℕ) → length front ≤ offset_from reading k front rest
+  least_by k front [] = omega (arith, none_more k front)
+  least_by k front (b ∷ rest) = least_at k front b rest (least_by k (front ++ b ∷ []) rest) (nat_lt k (length (reading.items front))) refl
+
+  within_at : (k : ℕ) (front : List ℕ) (b : ℕ) (rest : List ℕ) → offset_from reading k (front ++ b ∷ []) rest ≤ length ((front ++ b ∷ []) ++ rest) →
+      (t : Bool) → nat_lt k (length (reading.items front)) ≡ t → offset_from reading k front (b ∷ rest) ≤ length (front ++ b ∷ rest)
+  within_at k front b rest next true e = omega (arith, there k front b rest (ltb-true k (length (reading.items front)) e), length-append front (b ∷ rest))
+  within_at k front b rest next false e = omega (arith, later k front b rest (at_false k front e), next, ap length (shift front b rest))
+
+  within_by : (k : ℕ) (front rest : List ℕ) → offset_from reading k front rest ≤ length (front ++ rest)
+  within_by k front [] = omega (arith, none_more k front, length-append front [])
+  within_by k front (b ∷ rest) = within_at k front b rest (within_by k (front ++ b ∷ []) rest) (nat_lt k (length (reading.items front))) refl
+
+  pub place_within : (bytes : List ℕ) (k : ℕ) → offset_of reading bytes k ≤ length bytes
+  place_within bytes k = within_by k [] bytes
+
+  -- so many bytes give the item
+  gives_at : (k : ℕ) (front : List ℕ) (b : ℕ) (rest : List ℕ) → k < length (reading.items (take (offset_from reading k (front ++ b ∷ []) rest) ((front ++ b ∷ []) ++ rest))) →
+      (t : Bool) → nat_lt k (length (reading.items front)) ≡ t → k < length (reading.items (take (offset_from reading k front (b ∷ rest)) (front ++ b ∷ rest)))
+  gives_at k front b rest next true e =
+      let here = ltb-true k (length (reading.items front)) e in
+      subst (λ x. k < length (reading.items x)) (sym (take_at front (b ∷ rest) (offset_from reading k front (b ∷ rest)) (sym (there k front b rest here)))) here
+  gives_at k front b rest next false e =
+      subst (λ n. k < length (reading.items (take n (front ++ b ∷ rest)))) (sym (later k front b rest (at_false k front e)))
+      (subst (λ x. k < length (reading.items (take (offset_from reading k (front ++ b ∷ []) rest) x))) (shift front b rest) next)
+
+  gives_by : (k : ℕ) (front rest : List ℕ) → k < length (reading.items (front ++ rest)) → k < length (reading.items (take (offset_from reading k front rest) (front ++ rest)))
+  gives_by k front [] l =
+      let whole : take (offset_from reading k front []) (front ++ []) ≡ front = take_at front [] (offset_from reading k front []) (sym (none_more k front)) in
+      subst (λ x. k < length (reading.items x)) (append-nil front ∙ sym whole) l
+  gives_by k front (b ∷ rest) l =
+      gives_at k front b rest (gives_by k (front ++ b ∷ []) rest (subst (λ x. k < length (reading.items x)) (sym (shift front b rest)) l)) (nat_lt k (length (reading.items front))) refl
+
+  pub place_gives : (bytes : List ℕ) (k : ℕ) → k < length (reading.items bytes) → k < length (reading.items (take (offset_of reading bytes k) bytes))
+  place_gives bytes k l = gives_by k [] bytes l
+
+  -- and no fewer do
+  shortest_at : (k n : ℕ) (front : List ℕ) (b : ℕ) (rest : List ℕ) → length front ≤ n → n < offset_from reading k front (b ∷ rest) →
+      (length (front ++ b ∷ []) ≤ n → n < offset_from reading k (front ++ b ∷ []) rest → length (reading.items (take n ((front ++ b ∷ []) ++ rest))) ≤ k) →
+      (t : Bool) → nat_lt k (length (reading.items front)) ≡ t → (u : Bool) → eqb n (length front) ≡ u → length (reading.items (take n (front ++ b ∷ rest))) ≤ k
+  shortest_at k n front b rest from l next true e u f = omega (arith, from, l, there k front b rest (ltb-true k (length (reading.items front)) e))
+  shortest_at k n front b rest from l next false e true f =
+      subst (λ x. length (reading.items x) ≤ k) (sym (take_at front (b ∷ rest) n (sym (eqb-true n (length front) f)))) (at_false k front e)
+  shortest_at k n front b rest from l next false e false f =
+      let differ = eqb-false n (length front) f in
+      let more : length (front ++ b ∷ []) ≤ n = omega (arith, length-append front (b ∷ []), from, differ) in
+      let before : n < offset_from reading k (front ++ b ∷ []) rest = omega (arith, l, later k front b rest (at_false k front e)) in
+      subst (λ x. length (reading.items (take n x)) ≤ k) (shift front b rest) (next more before)
+
+  shortest_by : (k n : ℕ) (front rest : List ℕ) → length front ≤ n → n < offset_from reading k front rest → length (reading.items (take n (front ++ rest))) ≤ k
+  shortest_by k n front [] from l = omega (arith, from, l, none_more k front)
+  shortest_by k n front (b ∷ rest) from l =
+      shortest_at k n front b rest from l (shortest_by k n (front ++ b ∷ []) rest) (nat_lt k (length (reading.items front))) refl (eqb n (length front)) refl
+
+  pub place_shortest : (bytes : List ℕ) (k n : ℕ) → n < offset_of reading bytes k → length (reading.items (take n bytes)) ≤ k
+  place_shortest bytes k n l = shortest_by k n [] bytes (omega arith) l
+
+  -- later items have no earlier places
+  rises_at : (j k : ℕ) (front : List ℕ) (b : ℕ) (rest : List ℕ) → j ≤ k → offset_from reading j (front ++ b ∷ []) rest ≤ offset_from reading k (front ++ b ∷ []) rest →
+      (t : Bool) → nat_lt j (length (reading.items front)) ≡ t → offset_from reading j front (b ∷ rest) ≤ offset_from reading k front (b ∷ rest)
+  rises_at j k front b rest l next true e = omega (arith, there j front b rest (ltb-true j (length (reading.items front)) e), least_by k front (b ∷ rest))
+  rises_at j k front b rest l next false e =
+      let few = at_false j front e in
+      omega (arith, later j front b rest few, later k front b rest (omega (arith, few, l)), next)
+
+  rises_by : (j k : ℕ) (front rest : List ℕ) → j ≤ k → offset_from reading j front rest ≤ offset_from reading k front rest
+  rises_by j k front [] l = omega (arith, none_more j front, none_more k front)
+  rises_by j k front (b ∷ rest) l = rises_at j k front b rest l (rises_by j k (front ++ b ∷ []) rest l) (nat_lt j (length (reading.items front))) refl
+
+  pub place_rises : (bytes : List ℕ) (j k : ℕ) → j ≤ k → offset_of reading bytes j ≤ offset_of reading bytes k
+  place_rises bytes j k l = rises_by j k [] bytes l
+
+  pub place_stays : (bytes more : List ℕ) (k : ℕ) → k < length (reading.items bytes) → offset_of reading (bytes ++ more) k ≡ offset_of reading bytes k
+  place_stays bytes more k l = stays_by k [] bytes more l
+
+  placed_stays : (bytes more : List ℕ) (k : ℕ) (items : List Item) → k + length items ≤ length (reading.items bytes) → placed_from reading (bytes ++ more) k items ≡ placed_from reading bytes k items
+  placed_stays bytes more k [] l = refl
+  placed_stays bytes more k (i ∷ items) l =
+      ap (λ n. at_place n i ∷ placed_from reading (bytes ++ more) (suc k) items) (place_stays bytes more k (omega (arith, l)))
+      ∙ ap (λ x. at_place (offset_of reading bytes k) i ∷ x) (placed_stays bytes more (suc k) items (omega (arith, l)))
+
+  placed_append : (bytes : List ℕ) (k : ℕ) (xs ys : List Item) → placed_from reading bytes k (xs ++ ys) ≡ placed_from reading bytes k xs ++ placed_from reading bytes (k + length xs) ys
+  placed_append bytes k [] ys = ap (λ n. placed_from reading bytes n ys) (omega arith)
+  placed_append bytes k (i ∷ xs) ys =
+      ap (λ x. at_place (offset_of reading bytes k) i ∷ x) (placed_append bytes (suc k) xs ys ∙ ap (λ n. placed_from reading bytes (suc k) xs ++ placed_from reading bytes n ys) (omega arith))
+
+  pub placed_length : (bytes : List ℕ) (k : ℕ) (items : List Item) → length (placed_from reading bytes k items) ≡ length items
+  placed_length bytes k [] = refl
+  placed_length bytes k (i ∷ items) = ap suc (placed_length bytes (suc k) items)
+
+  -- more bytes give more items behind those that there are
+  pub placed_more : (bytes more : List ℕ) (added : List Item) → reading.items (bytes ++ more) ≡ reading.items bytes ++ added →
+      (with_offsets reading).items (bytes ++ more) ≡ (with_offsets reading).items bytes ++ placed_from reading (bytes ++ more) (length (reading.items bytes)) added
+  placed_more bytes more added e =
+      ap (placed_from reading (bytes ++ more) 0) e ∙ placed_append (bytes ++ more) 0 (reading.items bytes) added
+      ∙ ap (λ n. placed_from reading (bytes ++ more) 0 (reading.items bytes) ++ placed_from reading (bytes ++ more) n added) (zero-add (length (reading.items bytes)))
+      ∙ ap (λ x. x ++ placed_from reading (bytes ++ more) (length (reading.items bytes)) added) (placed_stays bytes more 0 (reading.items bytes) (omega arith))
+
+  pub places_read : Reads reading → Reads (with_offsets reading)
+  places_read reads = record {
+    nothing = ap (placed_from reading [] 0) reads.nothing;
+    no_fault = reads.no_fault;
+    grows = λ bytes more. let p = reads.grows bytes more in (placed_from reading (bytes ++ more) (length (reading.items bytes)) p.0, sym (placed_more bytes more p.0 (sym p.1)));
+    stays = reads.stays;
+  }
+
+  module _ (grows : (bytes more : List ℕ) → IsPrefix (reading.items bytes) (reading.items (bytes ++ more))) where
+    no_fewer : (bytes more : List ℕ) → length (reading.items bytes) ≤ length (reading.items (bytes ++ more))
+    no_fewer bytes more = let p = grows bytes more in omega (arith, length-append (reading.items bytes) p.0, ap length p.1)
+
+    last_by : (k : ℕ) (front rest : List ℕ) (b : ℕ) → length (reading.items (front ++ rest)) ≤ k → offset_from reading k front (rest ++ b ∷ []) ≡ suc (length (front ++ rest))
+    last_by k front [] b l =
+        later k front b [] (subst (λ x. length (reading.items x) ≤ k) (append-nil front) l) ∙ none_more k (front ++ b ∷ [])
+        ∙ length-append (front) (b ∷ []) ∙ omega (arith, length-append front [])
+    last_by k front (c ∷ rest) b l =
+        let fewer = no_fewer front (c ∷ rest) in
+        later k front c (rest ++ b ∷ []) (omega (arith, fewer, l)) ∙ last_by k (front ++ c ∷ []) rest b (subst (λ x. length (reading.items x) ≤ k) (sym (shift front c rest)) l)
+        ∙ ap (λ x. suc (length x)) (shift front c rest)
+
+    placed_last : (t : List ℕ) (b k : ℕ) (added : List Item) → length (reading.items t) ≤ k → placed_from reading (t ++ b ∷ []) k added ≡ map (at_place (suc (length t))) added
+    placed_last t b k [] l = refl
+    placed_last t b k (i ∷ added) l =
+        ap (λ n. at_place n i ∷ placed_from reading (t ++ b ∷ []) (suc k) added) (last_by k [] t b l)
+        ∙ ap (λ x. at_place (suc (length t)) i ∷ x) (placed_last t b (suc k) added (omega (arith, l)))
+
+    -- the items that a byte gives have its place
+    pub placed_byte : (t : List ℕ) (b : ℕ) (added : List Item) → reading.items (t ++ b ∷ []) ≡ reading.items t ++ added →
+        (with_offsets reading).items (t ++ b ∷ []) ≡ (with_offsets reading).items t ++ map (at_place (suc (length t))) added
+    placed_byte t b added e =
+        placed_more t (b ∷ []) added e ∙ ap (λ x. (with_offsets reading).items t ++ x) (placed_last t b (length (reading.items t)) added (omega arith))
+
+    -- of bytes that give one item each, each has its own
+    pub placed_run : (f : ℕ → Item) (t xs : List ℕ) → ((n : ℕ) → n ≤ length xs → reading.items (t ++ take n xs) ≡ reading.items t ++ map f (take n xs)) →
+        (with_offsets reading).items (t ++ xs) ≡ (with_offsets reading).items t ++ in_turn f (length t) xs
+    placed_run f t [] e = ap (with_offsets reading).items (append-nil t) ∙ sym (append-nil ((with_offsets reading).items t))
+    placed_run f t (b ∷ xs) e =
+        let one : reading.items (t ++ b ∷ []) ≡ reading.items t ++ f b ∷ [] = e 1 (omega arith) in
+        let next : (n : ℕ) → n ≤ length xs → reading.items ((t ++ b ∷ []) ++ take n xs) ≡ reading.items (t ++ b ∷ []) ++ map f (take n xs) =
+        λ n l. ap reading.items (shift t b (take n xs)) ∙ e (suc n) (omega (arith, l)) ∙ sym (append_assoc (reading.items t) (f b ∷ []) (map f (take n xs))) ∙ ap (λ x. x ++ map f (take n xs)) (sym one) in
+        let long : length (t ++ b ∷ []) ≡ suc (length t) = length-append t (b ∷ []) ∙ omega arith in
+        ap (with_offsets reading).items (sym (shift t b xs)) ∙ placed_run f (t ++ b ∷ []) xs next
+        ∙ ap (λ x. x ++ in_turn f (length (t ++ b ∷ [])) xs) (placed_byte t b (f b ∷ []) one)
+        ∙ append_assoc ((with_offsets reading).items t) (at_place (suc (length t)) (f b) ∷ []) (in_turn f (length (t ++ b ∷ [])) xs)
+        ∙ ap (λ n. (with_offsets reading).items t ++ at_place (suc (length t)) (f b) ∷ in_turn f n xs) long
+
+-- a count of bytes that stops, by one more
+pub taken_more : (old new : ℕ) (t : List ℕ) (b : ℕ) → old ≡ counted (length t) → new ≡ grown old 1 → new ≡ counted (length (t ++ b ∷ []))
+taken_more old new t b e f = omega (arith, e, f, length-append t (b ∷ []))
+
+pub taken_is : (old new : ℕ) (t : List ℕ) → old ≡ counted (length t) → new ≡ grown old 1 → counted new ≡ counted (suc (length t))
+taken_is old new t e f = omega (arith, e, f)
+
+-- the line at a place that a count gives
+pub line_at : (n taken : ℕ) (line : List ℕ) → counted taken ≡ counted n → offset_line taken line ≡ offset_line n line
+line_at n taken line e = ap (λ x. decimal x ++ 0x20 ∷ line) e
+
+pub lines_at : {Item : Type 0} (line : Item → List ℕ) (n taken : ℕ) (items : List Item) → counted taken ≡ counted n →
+    flat_map (λ i. offset_line taken (line i)) items ≡ flat_map (placed_line line) (map (at_place n) items)
+lines_at line n taken [] e = refl
+lines_at line n taken (i ∷ items) e = ap (λ x. x ++ flat_map (λ i. offset_line taken (line i)) items) (line_at n taken (line i) e) ∙ ap (λ x. offset_line n (line i) ++ x) (lines_at line n taken items e)
+
+pub placed_count : {Item : Type 0} (n : ℕ) (items : List Item) → length (map (at_place n) items) ≡ length items
+placed_count n [] = refl
+placed_count n (i ∷ items) = ap suc (placed_count n items)
+
+-- the lines of bytes of data are those of a label's
+pub data_lines_at : (n : ℕ) (bytes : List ℕ) → flat_map (λ b. offset_line n (line_of (RasterByte b))) bytes ≡ flat_map (λ i. offset_line n (label_line_of i)) (data_items bytes)
+data_lines_at n [] = refl
+data_lines_at n (b ∷ bytes) = ap (λ x. offset_line n (line_of (RasterByte b)) ++ x) (data_lines_at n bytes)
