@@ -1,0 +1,149 @@
+// The editor: a text field over a layer that shows its visible lines with colours and marks.
+
+const LINE = 20;
+const WIDE = 400;
+
+export class Editor {
+  constructor(root) {
+    this.area = root.querySelector('textarea');
+    this.layer = root.querySelector('.layer');
+    this.gutter = root.querySelector('.gutter');
+    // kinds(from, to): the class of each visible character, and the marks that stand in these places
+    this.kinds = () => [];
+    this.marks = [];
+    this.notes = [];
+    this.starts = [0];
+    this.area.addEventListener('scroll', () => this.draw());
+    new ResizeObserver(() => this.draw()).observe(this.area);
+    const probe = document.createElement('span');
+    probe.textContent = '0'.repeat(100);
+    this.layer.append(probe);
+    this.wide = probe.getBoundingClientRect().width / 100 || 8;
+    probe.remove();
+  }
+
+  get text() {
+    return this.area.value;
+  }
+
+  set text(text) {
+    this.area.value = text;
+    this.area.setSelectionRange(0, 0);
+    this.area.scrollTo(0, 0);
+    this.measure();
+  }
+
+  // Finds the lines anew.
+  measure() {
+    const text = this.area.value;
+    this.starts = [0];
+    for (let at = text.indexOf('\n'); at >= 0; at = text.indexOf('\n', at + 1)) this.starts.push(at + 1);
+    this.draw();
+  }
+
+  lineOf(place) {
+    let low = 0;
+    let high = this.starts.length - 1;
+    while (low < high) {
+      const middle = (low + high + 1) >> 1;
+      if (this.starts[middle] <= place) low = middle; else high = middle - 1;
+    }
+    return low;
+  }
+
+  // Marks are {from, to, kind}; notes are {place, kind, text}, shown behind the line of their place.
+  show(marks, notes) {
+    this.marks = marks;
+    this.notes = notes;
+    this.draw();
+  }
+
+  draw() {
+    if (this.drawing) return;
+    this.drawing = requestAnimationFrame(() => {
+      this.drawing = 0;
+      this.paint();
+    });
+  }
+
+  paint() {
+    const { scrollTop: top, scrollLeft: left, clientHeight: high, clientWidth: width } = this.area;
+    const text = this.area.value;
+    const first = Math.floor(top / LINE);
+    const last = Math.min(this.starts.length, Math.ceil((top + high) / LINE) + 1);
+    const lines = [];
+    const numbers = [];
+    for (let n = first; n < last; n++) {
+      const start = this.starts[n];
+      const end = n + 1 < this.starts.length ? this.starts[n + 1] - 1 : text.length;
+      const number = document.createElement('div');
+      number.textContent = n + 1;
+      number.style.top = `${n * LINE - top}px`;
+      numbers.push(number);
+      const line = document.createElement('div');
+      line.className = 'line';
+      line.style.top = `${n * LINE - top}px`;
+      // of a long line only what is seen; all its characters are as wide
+      const skip = end - start > WIDE ? Math.max(0, Math.floor(left / this.wide) - 2) : 0;
+      const from = Math.min(end, start + skip);
+      const to = end - start > WIDE ? Math.min(end, from + Math.ceil(width / this.wide) + 4) : end;
+      line.style.left = `${skip * this.wide - left}px`;
+      this.spans(line, text, from, to);
+      for (const note of this.notes) {
+        if (note.place < start || note.place > end) continue;
+        const said = document.createElement('span');
+        said.className = `note ${note.kind}`;
+        said.textContent = note.text;
+        line.append(said);
+        number.className = note.kind === 'fault' ? 'fault' : number.className || note.kind;
+      }
+      lines.push(line);
+    }
+    this.layer.replaceChildren(...lines);
+    this.gutter.replaceChildren(...numbers);
+    // what is said of a long line stands over its end
+    const right = this.layer.getBoundingClientRect().right - 8;
+    for (const said of this.layer.querySelectorAll('.note')) {
+      const over = said.getBoundingClientRect().right - right;
+      if (over > 0) said.style.transform = `translateX(${-over}px)`;
+    }
+  }
+
+  spans(line, text, from, to) {
+    const kinds = this.kinds(from, to);
+    const marks = this.marks.filter(it => it.from < Math.max(to, from + 1) && it.to >= from);
+    const classOf = at => {
+      let name = kinds[at - from] || '';
+      for (const it of marks) if (it.from <= at && at < it.to) name += ` ${it.kind}`;
+      return name;
+    };
+    for (let at = from; at < to;) {
+      const name = classOf(at);
+      let next = at + 1;
+      while (next < to && classOf(next) === name) next++;
+      const span = document.createElement('span');
+      if (name) span.className = name;
+      span.textContent = text.slice(at, next);
+      line.append(span);
+      at = next;
+    }
+    for (const it of marks) {
+      if (it.from === it.to && it.from >= from && it.from === to) {
+        const span = document.createElement('span');
+        span.className = it.kind;
+        span.textContent = ' ';
+        line.append(span);
+      }
+    }
+  }
+
+  // Brings a place into view.
+  reveal(place) {
+    const line = this.lineOf(place);
+    const { scrollTop: top, clientHeight: high, scrollLeft: left, clientWidth: width } = this.area;
+    if (line * LINE < top || (line + 1) * LINE > top + high) this.area.scrollTop = line * LINE - high / 3;
+    const across = (place - this.starts[line]) * this.wide;
+    if (across < left || across > left + width - 40) this.area.scrollLeft = Math.max(0, across - width / 3);
+    this.draw();
+  }
+}

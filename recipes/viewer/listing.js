@@ -1,0 +1,96 @@
+// The listing: the lines that vp lists, of which only the visible ones are in the page.
+
+const LINE = 20;
+
+export class Listing {
+  constructor(box, choose) {
+    this.box = box;
+    this.inside = box.querySelector('.inside');
+    this.rows = [];
+    this.current = -1;
+    this.choose = choose;
+    box.addEventListener('scroll', () => this.draw());
+    new ResizeObserver(() => this.draw()).observe(box);
+    box.addEventListener('click', event => {
+      const row = Math.floor((event.clientY - box.getBoundingClientRect().top + box.scrollTop) / LINE);
+      if (row < this.rows.length) this.pick(row);
+    });
+    box.addEventListener('keydown', event => {
+      const page = Math.max(1, Math.floor(box.clientHeight / LINE) - 1);
+      const steps = { ArrowDown: 1, ArrowUp: -1, PageDown: page, PageUp: -page, Home: -this.rows.length,
+        End: this.rows.length, Enter: 0 };
+      if (!(event.key in steps) || !this.rows.length) return;
+      event.preventDefault();
+      this.pick(Math.max(0, Math.min(this.rows.length - 1, this.current + steps[event.key])), event.key ===
+          'Enter');
+    });
+  }
+
+  set(rows) {
+    this.rows = rows;
+    this.current = Math.min(this.current, rows.length - 1);
+    this.inside.style.height = `${rows.length * LINE}px`;
+    this.draw();
+  }
+
+  pick(row, enter = false) {
+    this.mark(row);
+    this.choose(row, enter);
+  }
+
+  mark(row) {
+    this.current = row;
+    const top = row * LINE;
+    if (row >= 0 && (top < this.box.scrollTop || top + LINE > this.box.scrollTop + this.box.clientHeight)) {
+      this.box.scrollTop = top - this.box.clientHeight / 3;
+    }
+    this.draw();
+  }
+
+  draw() {
+    if (this.drawing) return;
+    this.drawing = requestAnimationFrame(() => {
+      this.drawing = 0;
+      this.paint();
+    });
+  }
+
+  paint() {
+    const first = Math.floor(this.box.scrollTop / LINE);
+    const last = Math.min(this.rows.length, Math.ceil((this.box.scrollTop + this.box.clientHeight) / LINE)
+        + 1);
+    const lines = [];
+    for (let n = first; n < last; n++) {
+      const row = this.rows[n];
+      const line = document.createElement('div');
+      line.id = `row-${n}`;
+      line.setAttribute('role', 'option');
+      line.setAttribute('aria-posinset', n + 1);
+      line.setAttribute('aria-setsize', this.rows.length);
+      line.setAttribute('aria-selected', n === this.current);
+      line.className = `row ${row.kind}${row.said ? ` said ${row.said.kind}` : ''}`;
+      line.style.top = `${n * LINE}px`;
+      const place = document.createElement('span');
+      place.className = 'place';
+      place.textContent = row.place === null ? '' : row.place.toLocaleString('en');
+      const text = document.createElement('span');
+      text.className = 'text';
+      text.textContent = row.text;
+      line.append(place, text);
+      if (row.count) {
+        const count = document.createElement('span');
+        count.className = 'count';
+        count.textContent = `×${row.count.toLocaleString('en')}`;
+        line.append(count);
+      }
+      line.title = row.said ? `${row.text}: ${row.said.text}` : row.text;
+      lines.push(line);
+    }
+    this.inside.replaceChildren(...lines);
+    if (this.current >= first && this.current < last) {
+      this.box.setAttribute('aria-activedescendant', `row-${this.current}`);
+    } else {
+      this.box.removeAttribute('aria-activedescendant');
+    }
+  }
+}

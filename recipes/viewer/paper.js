@@ -1,0 +1,435 @@
+// The paper: sheets of dots, drawn as far as they are seen, each dot so many of the screen's own pixels.
+
+export const DOTS_A_MM = 8;
+const RULER = { left: 44, top: 22 };
+const MARGIN = 20;
+const CAPTION = 24;
+const HALO = 6;
+const MOST_AT_ONCE = 6e6;
+const rgb = (r, g, b) => (255 << 24 | b << 16 | g << 8 | r) >>> 0;
+const WHITE = rgb(255, 255, 255);
+const BLACK = rgb(0, 0, 0);
+const COLOURS = { same: rgb(150, 150, 150), lost: rgb(214, 30, 50), added: rgb(0, 90, 220), near: rgb(255,
+    240, 170) };
+
+// Sheets of what vp printed: each image of a label is one, all strips of a receipt are one.
+export function sheetsOf(images, bytes, joined) {
+  const sheets = [];
+  for (const [width, height, start, rows] of images) {
+    const strip = { y: 0, start, rows, height };
+    const last = sheets[sheets.length - 1];
+    if (joined && last && last.width === width) {
+      strip.y = last.height;
+      last.height += height;
+      last.strips.push(strip);
+    } else {
+      sheets.push({ width, height, strips: [strip], bytes, stride: (width + 7) >> 3 });
+    }
+  }
+  return sheets;
+}
+
+// The images of a file as vp writes it; null where it is none.
+export function imagesOf(bytes) {
+  const images = [];
+  for (let at = 0; at < bytes.length;) {
+    const head = /^P4\n(\d{1,9}) (\d{1,9})\n/.exec(String.fromCharCode(...bytes.subarray(at, at + 24)));
+    if (!head) return null;
+    const [width, height] = [Number(head[1]), Number(head[2])];
+    const start = at + head[0].length;
+    const stride = (width + 7) >> 3;
+    images.push([width, height, start, Math.max(0, Math.min(height,
+        Math.floor((bytes.length - start) / stride)))]);
+    at = start + stride * height;
+  }
+  return images.length ? images : null;
+}
+
+// Where a row's bytes begin; -1 where it isn't there.
+export function rowOf(sheet, y) {
+  const { strips } = sheet;
+  let low = 0;
+  let high = strips.length - 1;
+  while (low < high) {
+    const middle = (low + high + 1) >> 1;
+    if (strips[middle].y <= y) low = middle; else high = middle - 1;
+  }
+  const strip = strips[low];
+  return strip && y >= 0 && y - strip.y < strip.rows ? strip.start + (y - strip.y) * sheet.stride : -1;
+}
+
+export function isBlack(sheet, x, y) {
+  const row = sheet && x >= 0 && x < sheet.width ? rowOf(sheet, y) : -1;
+  return row >= 0 && (sheet.bytes[row + (x >> 3)] >> (7 - (x & 7)) & 1) === 1;
+}
+
+const BITS = Uint8Array.from({ length: 256 }, (_, n) => n.toString(2).replaceAll('0', '').length);
+
+// How many dots differ between two lists of sheets, and where the first one is.
+export function difference(sheets, others) {
+  let count = 0;
+  let first = null;
+  for (let n = 0; n < Math.max(sheets.length, others.length); n++) {
+    const [one, other] = [sheets[n], others[n]];
+    const high = Math.max(one?.height ?? 0, other?.height ?? 0);
+    const stride = Math.max(one?.stride ?? 0, other?.stride ?? 0);
+    for (let y = 0; y < high; y++) {
+      const a = one ? rowOf(one, y) : -1;
+      const b = other ? rowOf(other, y) : -1;
+      for (let x = 0; x < stride; x++) {
+        const left = a >= 0 && x < one.stride ? one.bytes[a + x] : 0;
+        const right = b >= 0 && x < other.stride ? other.bytes[b + x] : 0;
+        if (left === right) continue;
+        count += BITS[left ^ right];
+        first ??= { sheet: n, x: 8 * x + Math.clz32(left ^ right) - 24, y };
+      }
+    }
+  }
+  return { count, first };
+}
+
+export class Paper {
+  constructor(root, told) {
+    this.canvas = root.querySelector('canvas');
+    this.scroll = root.querySelector('.scroll');
+    this.space = root.querySelector('.space');
+    this.context = this.canvas.getContext('2d', { alpha: false });
+    this.piece = document.createElement('canvas');
+    this.sheets = [];
+    this.others = null;
+    this.placed = [];
+    this.zoom = 'fit';
+    this.grid = true;
+    this.cursor = null;
+    this.told = told;
+    this.drawn = () => {};
+    this.scroll.addEventListener('scroll', () => this.draw());
+    this.scroll.addEventListener('pointermove', event => this.point(event));
+    this.scroll.addEventListener('pointerleave', () => this.told(null));
+    this.scroll.addEventListener('keydown', event => this.key(event));
+    new ResizeObserver(() => this.lay()).observe(root);
+    matchMedia('(prefers-color-scheme: dark)').addEventListener('change', () => this.draw());
+  }
+
+  show(sheets, others = null) {
+    if (this.sheets === sheets && this.others === others) return;
+    this.sheets = sheets;
+    this.others = others;
+    this.lay();
+  }
+
+  setZoom(zoom) {
+    const { scrollTop: top, clientHeight: high } = this.scroll;
+    const middle = this.at(this.scroll.clientWidth / 2, high / 2) ?? this.at(this.placed[0]?.x / this.ratio
+        + 1, top);
+    this.zoom = zoom;
+    this.lay();
+    if (middle && zoom !== 'fit') this.bring(middle.sheet, middle.x, middle.y);
+  }
+
+  // Gives every sheet its place, in pixels of the screen.
+  lay() {
+    const ratio = this.ratio = devicePixelRatio || 1;
+    const { clientWidth: width, clientHeight: height } = this.scroll;
+    const count = Math.max(this.sheets.length, this.others?.length ?? 0);
+    const sizes = Array.from({ length: count }, (_, n) => [
+      Math.max(this.sheets[n]?.width ?? 0, this.others?.[n]?.width ?? 0),
+      Math.max(this.sheets[n]?.height ?? 0, this.others?.[n]?.height ?? 0)]);
+    const widest = Math.max(1, ...sizes.map(it => it[0]));
+    const room = [width - RULER.left - 2 * MARGIN, height - RULER.top - CAPTION - MARGIN];
+    if (this.zoom === 'fit') {
+      // a long paper is fitted by its width alone
+      const high = sizes[0] && sizes[0][1] < 4 * sizes[0][0] && sizes.length
+          ? Math.max(...sizes.map(it => it[1])) : 1;
+      const fit = Math.min(room[0] / widest, room[1] / high) * ratio;
+      this.dot = fit >= 1 ? Math.min(Math.floor(fit), Math.round(4 * ratio)) : Math.max(fit, 0.01);
+    } else {
+      this.dot = Math.max(1, Math.round(this.zoom * ratio));
+    }
+    const left = Math.max(MARGIN * ratio, (room[0] + 2 * MARGIN) * ratio / 2 - widest * this.dot / 2);
+    let y = RULER.top * ratio;
+    this.placed = sizes.map(([wide, high]) => {
+      const place = { x: Math.round(RULER.left * ratio + left), y: Math.round(y + CAPTION * ratio), wide,
+          high };
+      y = place.y + high * this.dot + 4 * ratio;
+      return place;
+    });
+    this.space.style.width = `${Math.ceil(RULER.left + left / ratio + widest * this.dot / ratio + MARGIN)}px`;
+    this.space.style.height = `${Math.ceil(y / ratio + MARGIN)}px`;
+    this.draw();
+  }
+
+  // The dot at a place of the window.
+  at(x, y) {
+    const left = (x + this.scroll.scrollLeft) * this.ratio;
+    const top = (y + this.scroll.scrollTop) * this.ratio;
+    for (let n = 0; n < this.placed.length; n++) {
+      const place = this.placed[n];
+      const dot = { sheet: n, x: Math.floor((left - place.x) / this.dot),
+          y: Math.floor((top - place.y) / this.dot) };
+      if (dot.x >= 0 && dot.x < place.wide && dot.y >= 0 && dot.y < place.high) return dot;
+    }
+    return null;
+  }
+
+  point(event) {
+    const box = this.scroll.getBoundingClientRect();
+    this.told(this.at(event.clientX - box.left, event.clientY - box.top));
+  }
+
+  key(event) {
+    const step = event.shiftKey ? 8 : 1;
+    const moves = { ArrowLeft: [-step, 0], ArrowRight: [step, 0], ArrowUp: [0, -step], ArrowDown: [0, step] };
+    const move = moves[event.key];
+    if (!move || event.ctrlKey || event.metaKey || event.altKey || !this.placed.length) return;
+    event.preventDefault();
+    const { sheet, x, y } = this.cursor ?? this.at(this.scroll.clientWidth / 2,
+        this.scroll.clientHeight / 2) ??
+      { sheet: 0, x: 0, y: 0 };
+    const clamp = (value, most) => Math.max(0, Math.min(most - 1, value));
+    let to = Math.min(sheet, this.placed.length - 1);
+    if (y + move[1] >= this.placed[to].high && to + 1 < this.placed.length) this.cursor = { sheet: ++to, x,
+        y: 0 };
+    else if (y + move[1] < 0 && to > 0) this.cursor = { sheet: --to, x, y: this.placed[to].high - 1 };
+    else this.cursor = { sheet: to, x: x + move[0], y: y + move[1] };
+    this.cursor.x = clamp(this.cursor.x, this.placed[to].wide);
+    this.cursor.y = clamp(this.cursor.y, this.placed[to].high);
+    this.bring(this.cursor.sheet, this.cursor.x, this.cursor.y, true);
+    this.told(this.cursor);
+  }
+
+  // Scrolls a dot into view; to the middle, but where it is seen and need only be.
+  bring(sheet, x, y, seen = false) {
+    const place = this.placed[Math.min(sheet, this.placed.length - 1)];
+    if (!place) return;
+    const left = (place.x + x * this.dot) / this.ratio;
+    const top = (place.y + y * this.dot) / this.ratio;
+    const { scrollLeft, scrollTop, clientWidth, clientHeight } = this.scroll;
+    const size = this.dot / this.ratio;
+    const inside = left >= scrollLeft + RULER.left && left + size <= scrollLeft + clientWidth &&
+      top >= scrollTop + RULER.top && top + size <= scrollTop + clientHeight;
+    if (!seen || !inside) this.scroll.scrollTo(left - clientWidth / 2, top - clientHeight / 2);
+    this.draw();
+  }
+
+  // The sheet of which most is seen.
+  current() {
+    const middle = (this.scroll.scrollTop + this.scroll.clientHeight / 2) * this.ratio;
+    let found = 0;
+    this.placed.forEach((place, n) => { if (place.y <= middle) found = n; });
+    return found;
+  }
+
+  draw() {
+    if (this.drawing) return;
+    this.drawing = requestAnimationFrame(() => {
+      this.drawing = 0;
+      this.paint();
+      this.drawn();
+    });
+  }
+
+  paint() {
+    const { ratio, dot, context } = this;
+    const wide = Math.round(this.scroll.clientWidth * ratio);
+    const high = Math.round(this.scroll.clientHeight * ratio);
+    if (this.canvas.width !== wide || this.canvas.height !== high) {
+      this.canvas.width = wide;
+      this.canvas.height = high;
+      this.canvas.style.width = `${wide / ratio}px`;
+      this.canvas.style.height = `${high / ratio}px`;
+    }
+    const style = getComputedStyle(this.canvas);
+    const colour = name => style.getPropertyValue(name).trim();
+    context.fillStyle = colour('--desk');
+    context.fillRect(0, 0, wide, high);
+    const [left, top] = [Math.round(this.scroll.scrollLeft * ratio),
+        Math.round(this.scroll.scrollTop * ratio)];
+    const seen = [];
+    this.placed.forEach((place, n) => {
+      const x = place.x - left;
+      const y = place.y - top;
+      if (y > high || y + place.high * dot < -CAPTION * ratio) return;
+      seen.push({ place, x, y, n });
+      this.paintSheet(n, place, x, y, wide, high, colour);
+    });
+    this.rulers(seen, wide, high, colour);
+  }
+
+  paintSheet(n, place, x, y, wide, high, colour) {
+    const { context, dot, ratio } = this;
+    const full = { w: Math.round(place.wide * dot), h: Math.round(place.high * dot) };
+    context.fillStyle = colour('--ink');
+    context.font = `${12 * ratio}px system-ui, sans-serif`;
+    context.textBaseline = 'alphabetic';
+    context.textAlign = 'left';
+    const mm = value => (value / DOTS_A_MM).toFixed(1);
+    const name = this.placed.length > 1 ? `${n + 1} of ${this.placed.length}  ` : '';
+    const size = `${name}${place.wide} × ${place.high} dots, ${mm(place.wide)} × ${mm(place.high)} mm`;
+    context.fillText(size, Math.max(x, RULER.left * ratio + 6), y - 8 * ratio);
+    const x0 = Math.max(0, Math.floor(-x / dot));
+    const x1 = Math.min(place.wide, Math.ceil((wide - x) / dot));
+    const y0 = Math.max(0, Math.floor(-y / dot));
+    const y1 = Math.min(place.high, Math.ceil((high - y) / dot));
+    if (x1 <= x0 || y1 <= y0) return;
+    context.fillStyle = colour('--edge');
+    context.fillRect(x - ratio, y - ratio, full.w + 2 * ratio, full.h + 2 * ratio);
+    // of far too many dots only each so many one
+    const step = Math.ceil(Math.sqrt((x1 - x0) * (y1 - y0) / MOST_AT_ONCE));
+    const size1 = [Math.ceil((x1 - x0) / step), Math.ceil((y1 - y0) / step)];
+    if (this.piece.width < size1[0] || this.piece.height < size1[1]) [this.piece.width, this.piece.height] =
+        size1;
+    const to = this.piece.getContext('2d');
+    const image = to.createImageData(...size1);
+    const pixels = new Uint32Array(image.data.buffer);
+    const outside = this.outside(colour);
+    if (this.others) this.compare(pixels, n, x0, y0, ...size1, step, outside);
+    else this.plain(pixels, this.sheets[n], x0, y0, ...size1, step, outside);
+    to.putImageData(image, 0, 0);
+    context.imageSmoothingEnabled = dot < 1;
+    context.imageSmoothingQuality = dot < 0.5 ? 'medium' : 'low';
+    context.drawImage(this.piece, 0, 0, ...size1, x + x0 * dot, y + y0 * dot, size1[0] * step * dot,
+      size1[1] * step * dot);
+    if (this.grid && dot >= 4 * ratio) {
+      for (const [each, name] of dot >= 8 * ratio ? [[1, '--fine'], [8, '--grid']] : [[8, '--grid']]) {
+        context.fillStyle = colour(name);
+        for (let at = Math.ceil(x0 / each) * each; at <= x1; at += each) {
+          context.fillRect(x + at * dot, y + y0 * dot, ratio, (y1 - y0) * dot);
+        }
+        for (let at = Math.ceil(y0 / each) * each; at <= y1; at += each) {
+          context.fillRect(x + x0 * dot, y + at * dot, (x1 - x0) * dot, ratio);
+        }
+      }
+    }
+    if (this.cursor?.sheet === n) {
+      context.strokeStyle = colour('--mark');
+      context.lineWidth = 2 * ratio;
+      const grown = Math.max(dot, 6 * ratio);
+      context.strokeRect(x + (this.cursor.x + 0.5) * dot - grown / 2, y + (this.cursor.y
+          + 0.5) * dot - grown / 2,
+        grown, grown);
+    }
+  }
+
+  outside(colour) {
+    const [r, g, b] = colour('--missing').match(/\d+/g).map(Number);
+    return rgb(r, g, b);
+  }
+
+  plain(pixels, sheet, x0, y0, wide, high, step, outside) {
+    let to = 0;
+    for (let y = 0; y < high; y++) {
+      const row = rowOf(sheet, y0 + y * step);
+      if (row < 0) {
+        pixels.fill(outside, to, to += wide);
+        continue;
+      }
+      const { bytes } = sheet;
+      for (let x = 0, dot = x0; x < wide; x++, dot += step) {
+        pixels[to++] = bytes[row + (dot >> 3)] >> (7 - (dot & 7)) & 1 ? BLACK : WHITE;
+      }
+    }
+  }
+
+  // Red is on the other paper alone, blue on ours alone, and yellow are the places near one of them.
+  compare(pixels, n, x0, y0, wide, high, step, outside) {
+    const [w, h] = [wide + 2 * HALO, high + 2 * HALO];
+    const kind = new Uint8Array(w * h);
+    for (const [sheet, bit] of [[this.sheets[n], 1], [this.others[n], 2]]) {
+      for (let y = 0; sheet && y < h; y++) {
+        const row = rowOf(sheet, y0 + (y - HALO) * step);
+        if (row < 0) continue;
+        for (let x = 0, dot = x0 - HALO * step; x < w; x++, dot += step) {
+          if (dot < 0 || dot >= sheet.width) continue;
+          kind[y * w + x] |= 4 * bit | (sheet.bytes[row + (dot >> 3)] >> (7 - (dot & 7)) & 1 ? bit : 0);
+        }
+      }
+    }
+    const differs = it => (it & 3) === 1 || (it & 3) === 2;
+    const near = new Uint8Array(w * h);
+    const spread = (count, length, place, test, set) => {
+      for (let line = 0; line < count; line++) {
+        for (const back of [false, true]) {
+          for (let n = 0, left = 0; n < length; n++) {
+            const at = place(line, back ? length - 1 - n : n);
+            if (test(at)) left = HALO + 1;
+            if (left-- > 0) set(at);
+          }
+        }
+      }
+    };
+    spread(h, w, (y, x) => y * w + x, at => differs(kind[at]), at => { near[at] |= 1; });
+    spread(w, h, (x, y) => y * w + x, at => near[at] & 1, at => { near[at] |= 2; });
+    for (let y = 0, to = 0; y < high; y++) {
+      for (let x = 0; x < wide; x++) {
+        const at = (y + HALO) * w + x + HALO;
+        const it = kind[at];
+        pixels[to++] = (it & 3) === 3 ? COLOURS.same : (it & 3) === 2 ? COLOURS.lost : (it & 3) === 1
+            ? COLOURS.added
+          : near[at] ? COLOURS.near : it ? WHITE : outside;
+      }
+    }
+  }
+
+  rulers(seen, wide, high, colour) {
+    const { context, dot, ratio } = this;
+    const [left, top] = [RULER.left * ratio, RULER.top * ratio];
+    context.fillStyle = colour('--panel');
+    context.fillRect(0, 0, wide, top);
+    context.fillRect(0, 0, left, high);
+    context.fillStyle = colour('--line');
+    context.fillRect(0, top - ratio, wide, ratio);
+    context.fillRect(left - ratio, 0, ratio, high);
+    const mm = DOTS_A_MM * dot;
+    const step = [1, 2, 5, 10, 20, 50, 100, 200, 500, 1000].find(it => it * mm >= 48 * ratio) ?? 2000;
+    const minor = [step / 10, step / 5, step / 2, step].find(it => it * mm >= 5 * ratio && it % 1 ===
+        0) ?? step;
+    context.font = `${10.5 * ratio}px system-ui, sans-serif`;
+    const ticks = (from, length, start, end, tick) => {
+      const first = Math.max(0, Math.ceil((start - from) / mm / minor));
+      for (let n = first; n * minor * mm <= length * dot + 0.5; n++) {
+        const at = from + n * minor * mm;
+        if (at > end) break;
+        tick(Math.round(at), n * minor % step === 0, n * minor);
+      }
+    };
+    context.fillStyle = colour('--quiet');
+    if (seen[0]) {
+      context.textAlign = 'left';
+      ticks(seen[0].x, seen[0].place.wide, left, wide, (at, large, value) => {
+        context.fillRect(at, top - (large ? 9 : 4) * ratio, ratio, (large ? 9 : 4) * ratio);
+        if (large) context.fillText(value, at + 3 * ratio, top - 8 * ratio);
+      });
+    }
+    context.textAlign = 'right';
+    for (const { place, y, n } of seen) {
+      ticks(y, place.high, top, high, (at, large, value) => {
+        if (at < top) return;
+        context.fillRect(left - (large ? 9 : 4) * ratio, at, (large ? 9 : 4) * ratio, ratio);
+        if (large) context.fillText(value, left - 11 * ratio, at + 4 * ratio);
+      });
+      this.edges(this.sheets[n], y, top, high, left, colour);
+      context.fillStyle = colour('--quiet');
+    }
+    context.fillStyle = colour('--panel');
+    context.fillRect(0, 0, left - ratio, top - ratio);
+    context.fillStyle = colour('--quiet');
+    context.textAlign = 'center';
+    context.fillText('mm', left / 2, top - 7 * ratio);
+  }
+
+  // Where one strip of a receipt ends and the next begins.
+  edges(sheet, y, top, high, left, colour) {
+    if (!sheet || sheet.strips.length < 2) return;
+    const { context, dot, ratio } = this;
+    context.fillStyle = colour('--mark');
+    let last = -Infinity;
+    for (const strip of sheet.strips) {
+      const at = y + strip.y * dot;
+      if (at > high) break;
+      if (strip.y === 0 || at < top || at - last < 3 * ratio) continue;
+      last = at;
+      context.fillRect(left, Math.round(at), 8 * ratio, ratio);
+    }
+  }
+}
