@@ -1,6 +1,7 @@
 #!/usr/bin/env python3
-"""Builds the printer, which proves it, and says on standard error how far it is. Where the built program stands for the
-sources as they are, by their content, it does nothing.
+"""build.py [WHY]: builds the printer, which proves it, and says on standard error why, and how far it is. Where the built
+program stands for the sources as they are, by their content, nothing is built. Beside the program made-from tells what it
+was made from, as dist/made-from does.
 
 Crates that don't stand on one another are proved side by side, each from nothing, by the toolchain's rattle itself: its
 command rt would lock all that a crate stands on. A crate's library, with statements and not their proofs, stands in
@@ -287,19 +288,30 @@ class Build:
                 run.close()
 
 
+def tell_made_from(program):
+    """Writes beside the program what it was made from, and returns 0."""
+    built = program.built()[0]
+    told = subprocess.run([f"{ROOT}/tools/made-from", built], capture_output=True, check=True).stdout
+    with open(f"{os.path.dirname(built)}/made-from", "wb") as it:
+        it.write(told)
+    return 0
+
+
 def stop(signum, frame):
     raise KeyboardInterrupt
 
 
 def main():
     rt = shutil.which("rt")
+    if sys.argv[1:] and sys.argv[1]:
+        print(f"vp: {sys.argv[1]}", file=sys.stderr, flush=True)
     if not rt:
         print("vp: the Rattle toolchain's command rt is not on the path", file=sys.stderr)
         return 1
     crates = crates_below(PROGRAM, listed(), os.path.dirname(os.path.dirname(os.path.realpath(rt))))
     program = crates[-1]
     if program.is_built():
-        return 0
+        return tell_made_from(program)
     signal.signal(signal.SIGTERM, stop)
     os.makedirs(OUT, exist_ok=True)
     with open(f"{OUT}/lock", "w", encoding="utf-8") as lock:
@@ -309,13 +321,13 @@ def main():
             print("vp: another vp is building the printer: waiting for it", file=sys.stderr, flush=True)
             fcntl.flock(lock, fcntl.LOCK_EX)
         if program.is_built():
-            return 0
+            return tell_made_from(program)
         print(f"vp: building the printer, which proves its {len(crates)} crates: some minutes", file=sys.stderr, flush=True)
         started = time.time()
         if not Build(crates, lock).run():
             return 1
         print(f"vp: built in {minutes(time.time() - started)}", file=sys.stderr, flush=True)
-    return 0
+        return tell_made_from(program)
 
 
 if __name__ == "__main__":

@@ -7,15 +7,19 @@ tried in one check, and each is refused there where the prover finds fault with 
 and an edit that changes more than bodies, is tried alone by rt itself, as rt must-fail does it.
 
 rt ci wants all crates side by side. So it runs on a copy of the repository in which each crate of crates/FOLDER/NAME
-stands in crates/NAME, and what it made of the program is brought back."""
+stands in crates/NAME, and what it made of the program is brought back. Where all went well and no source changed
+meanwhile, made-from beside the program tells what it was made from."""
 import importlib.machinery
 import importlib.util
 import os
 import re
 import shutil
+import subprocess
 import sys
 import tempfile
 
+PROGRAM = "crates/program/vp_cli/out/vp_cli"
+TOOLS = os.path.dirname(os.path.realpath(__file__))
 FUNCTION = re.compile(r"( *)(?:pub(?:\([^)]*\))? )?(?:const )?fn (\w+)")
 # What has methods: a trait, or a type, maybe with the trait that it is given there.
 OWNER = re.compile(r"(?:pub )?trait (?P<of>\w+)|impl(?:<.*?>)? (?:(?P<trait>\w+)(?:<.*?>)? for &?)?(?P<type>\w+)")
@@ -187,19 +191,40 @@ def side_by_side(root, room):
     return programs
 
 
+def sources(root):
+    """Returns the sum of what the program is made from, as the repository stands."""
+    told = ["sh", "-c", 'root=$1 && . "$2/dist.sh" && sources', "sh", root, TOOLS]
+    return subprocess.run(told, capture_output=True, check=True).stdout
+
+
+def bring_back(made, to):
+    os.makedirs(os.path.dirname(to), exist_ok=True)
+    shutil.copy2(made, f"{to}.new")
+    os.replace(f"{to}.new", to)
+
+
+def tell_made_from(program):
+    """Writes beside the program what it was made from."""
+    with open(f"{os.path.dirname(program)}/made-from", "wb") as it:
+        subprocess.run([f"{TOOLS}/made-from", program], stdout=it, check=True)
+
+
 def main():
     rt = kit()
     if all(hasattr(rt, it) for it in ("must_fail_all", "must_fail", "checked", "read_edit", "unread", "rtlib")):
         rt.must_fail_all = lambda *of: must_fail_all(rt, *of)
+    root = os.getcwd()
     with tempfile.TemporaryDirectory(prefix="vp-gate-") as room:
-        programs = side_by_side(os.getcwd(), f"{room}/all")
+        before = sources(root)
+        programs = side_by_side(root, f"{room}/all")
         os.chdir(f"{room}/all")
         status = rt.main(["ci"])
         for made, to in programs.items():
             if os.path.isfile(made):
-                os.makedirs(os.path.dirname(to), exist_ok=True)
-                shutil.copy2(made, f"{to}.new")
-                os.replace(f"{to}.new", to)
+                bring_back(made, to)
+        program = f"{root}/{PROGRAM}"
+        if not status and program in programs.values() and sources(root) == before:
+            tell_made_from(program)
         return status
 
 

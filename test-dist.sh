@@ -1,0 +1,300 @@
+#!/bin/sh
+# Tries ./vp, ./build and what holds dist/ to the sources, in a small tree of made-up crates, with a made-up
+# toolchain that proves nothing and makes of other sources another program. Nothing is proved.
+set -eu
+export LC_ALL=C
+root=$(dirname "$(realpath "$0")")
+program=$root/crates/program/vp_cli/out/vp_cli
+[ -x "$program" ] || program=$root/dist/vp
+if ! "$program" --version >/dev/null 2>&1; then
+    echo 'not tested: dist/: there is no program to try it with'
+    exit 0
+fi
+room=$(mktemp -d)
+trap 'rm -rf "$room"' EXIT
+unset CI
+
+fail() {
+    echo "test-dist: $1" >&2
+    [ ! -s "$room/said" ] || cat "$room/said" >&2
+    exit 1
+}
+# is EXPECTED WHAT COMMAND..: whether a command ends with this status; what it printed and said is kept
+is() {
+    expected=$1 what=$2 status=0
+    shift 2
+    "$@" >"$room/printed" 2>"$room/said" </dev/null || status=$?
+    [ "$status" -eq "$expected" ] || fail "$what: status $status in place of $expected"
+}
+says() { grep -q -- "$1" "$room/said" || fail "it doesn't say: $1"; }
+prints() { "$program" --version | cmp -s - "$room/printed" || fail "$1: it doesn't print its version"; }
+silent() { [ ! -s "$room/said" ] || fail "$1: something is said"; }
+
+# a toolchain, and a path without one
+kit=$room/kit bin=$room/bin
+mkdir -p "$kit/bin" "$kit/rlibs" "$bin"
+echo 'made-up-kit 1' >"$kit/KIT-ID"
+cat >"$kit/bin/rattle" <<'END'
+#!/bin/sh
+set -eu
+to=
+while [ $# -gt 0 ]; do
+    [ "$1" != -o ] || to=$2
+    shift
+done
+find src -type f | LC_ALL=C sort | xargs cat >"$to"
+END
+cat >"$kit/bin/rattle-link" <<END
+#!/bin/sh
+set -eu
+cat "$program" "\$7" >"\$6"
+chmod +x "\$6"
+END
+# (rt ci builds the program as rattle does)
+cat >"$kit/bin/rt" <<'END'
+import subprocess
+
+BUILT = """cd crates/vp_cli && mkdir -p out && rattle build -o out/vp_cli.o &&
+rattle-link --target any --toolchain any -o out/vp_cli out/vp_cli.o && rm out/vp_cli.o"""
+
+
+def main(words):
+    return subprocess.run(["sh", "-c", BUILT], check=False).returncode
+END
+chmod +x "$kit/bin"/*
+for tool in sh env find sort xargs sha256sum cut sed awk cat dirname basename readlink wc head od tr mkdir \
+    rm mv cp cmp chmod stat tail ls grep sleep date id uname; do
+    ln -s "$(command -v "$tool")" "$bin/$tool"
+done
+ln -s "$(python3 -c 'import sys; print(sys.executable)')" "$bin/python3"
+alone=$bin with=$kit/bin:$bin
+
+# a tree
+tree=$room/tree
+mkdir -p "$tree/tools" "$tree/crates/drawing/vp_dots/src" "$tree/crates/drawing/vp_dots/proofs/dot" \
+    "$tree/crates/program/vp_cli/src" "$tree/crates/tests/vp_tests/src"
+cp "$root/vp" "$root/build" "$tree"
+for tool in dist.sh build.py gate.py needs.py made-from check-dist; do
+    cp "$root/tools/$tool" "$tree/tools"
+done
+cat >"$tree/crates.txt" <<'END'
+# drawing
+drawing/vp_dots: hex
+program/vp_cli: drawing/vp_dots clap # the program
+tests/vp_tests: drawing/vp_dots
+END
+echo dots >"$tree/crates/drawing/vp_dots/src/lib.rt"
+echo proof >"$tree/crates/drawing/vp_dots/proofs/dot/Answers.antt"
+echo program >"$tree/crates/program/vp_cli/src/main.rt"
+echo test >"$tree/crates/tests/vp_tests/src/lib.rt"
+dots=$tree/crates/drawing/vp_dots/src/lib.rt
+cd "$room"
+vp() { PATH=$1 "$tree/vp" --version; }
+build() { path=$1 && shift && PATH=$path "$tree/build" "$@"; }
+gate() { (cd "$tree" && PATH=$with python3 tools/gate.py); }
+check() { PATH=$with "$tree/tools/check-dist" >&2; }
+
+is 0 'the gate on a tree without dist/' check
+says 'no program is kept there'
+is 125 'a tree without dist/ and without a toolchain' vp "$alone"
+says '^vp: the Rattle toolchain'
+is 0 'a tree without dist/' vp "$with"
+prints 'a tree without dist/'
+says '^vp: vp_cli proved in'
+is 0 'a program that is built' vp "$with"
+silent 'a program that is built'
+is 0 'a build where there is no dist/' build "$with"
+is 0 'renewing' build "$with" --renew
+is 2 'a wrong word' build "$with" --renwe
+(cd "$tree/dist" && sha256sum --quiet --strict -c made-from) || fail 'made-from has no sum of the program'
+cmp "$tree/dist/vp" "$tree/crates/program/vp_cli/out/vp_cli"
+is 0 'the gate' check
+says 'byte for byte the program that these sources make$'
+is 0 'a build of the same' build "$with"
+says 'byte for byte the program that these sources make$'
+echo 'built, kept and compared: ok'
+
+# as a clone has it: no toolchain, nothing built
+kept=$room/kept
+cp -R "$tree/dist" "$kept"
+clone() {
+    rm -rf "$tree/out" "$tree/crates/program/vp_cli/out" "$tree/dist"
+    cp -R "$kept" "$tree/dist"
+}
+clone
+for nth in 1 2; do
+    is 0 "call $nth in a clone" vp "$alone"
+    prints "call $nth in a clone"
+    silent "call $nth in a clone"
+done
+[ -e "$tree/out/seen" ] || fail 'sums are taken by each call'
+[ ! -e "$tree/crates/program/vp_cli/out" ] || fail 'something is built in a clone'
+(cd "$tree" && PATH=$alone sh vp --version >/dev/null) || fail 'sh vp'
+mv "$tree/out" "$room/away"
+echo >"$tree/out"
+is 0 'where nothing can be kept' vp "$alone"
+prints 'where nothing can be kept'
+silent 'where nothing can be kept'
+rm "$tree/out"
+mv "$room/away" "$tree/out"
+mkdir "$tree/docs" "$tree/examples"
+cp "$root/docs/vp.1" "$tree/docs"
+cp "$root"/examples/*.pbm "$tree/examples"
+for part in install completions recipes LICENSE-MIT LICENSE-APACHE NOTICE CHANGELOG.md; do
+    cp -R "$root/$part" "$tree"
+done
+is 0 'an install of the program that is kept' env PATH="$alone" "$tree/install" "$room/prefix"
+cmp "$room/prefix/bin/vp" "$kept/vp"
+echo 'a clone without a toolchain: ok'
+
+# a source that changed is never missed
+was="$room/was"
+changed() {
+    is 125 "$1" vp "$alone"
+    says '^vp: dist/vp is made from other sources than these$'
+    is 1 "the gate: $1" check
+    says 'dist: dist/vp is made from other sources than these: ./build --renew'
+}
+same() {
+    is 0 "$1" vp "$alone"
+    prints "$1"
+    silent "$1"
+}
+for nth in 1 2 3 4 5; do
+    same "a source as it was, $nth"
+    cp -p "$dots" "$was"
+    printf 'dotz\n' >"$dots"
+    touch -r "$was" "$dots"
+    changed "a source of the same size and time, $nth"
+    cp -p "$was" "$dots"
+done
+same 'all as it was'
+echo >"$tree/crates/drawing/vp_dots/src/new.rt"
+changed 'a new source'
+rm "$tree/crates/drawing/vp_dots/src/new.rt"
+same 'the new source taken away'
+mv "$tree/crates/drawing/vp_dots/proofs" "$room"
+changed 'proofs taken away'
+mv "$room/proofs" "$tree/crates/drawing/vp_dots"
+mkdir "$tree/crates/drawing/vp_dots/specs"
+same 'an empty folder'
+echo >"$tree/crates/drawing/vp_dots/specs/Lib.antt"
+changed 'a first definition'
+rm -r "$tree/crates/drawing/vp_dots/specs"
+cp "$tree/crates.txt" "$was"
+sed 's/: hex/: hex itoa/' "$was" >"$tree/crates.txt"
+changed 'a library more'
+sed 's/#.*//; s/: /:  /' "$was" >"$tree/crates.txt"
+same 'other words in crates.txt'
+cp "$was" "$tree/crates.txt"
+mv "$dots" "$room/elsewhere.rt"
+ln -s "$room/elsewhere.rt" "$dots"
+same 'a source through a link'
+echo other >"$room/elsewhere.rt"
+changed 'a source that changed behind a link'
+rm "$dots"
+echo dots >"$dots"
+echo other >"$tree/crates/tests/vp_tests/src/lib.rt"
+same 'a test that changed'
+echo 'a source that changed is never missed: ok'
+
+# other sources are built, and what is built is run
+echo squares >"$dots"
+is 0 'other sources' vp "$with"
+prints 'other sources'
+says '^vp: dist/vp is made from other sources than these$'
+says '^vp: vp_cli proved in'
+is 0 'other sources, built' vp "$with"
+silent 'other sources, built'
+is 0 'a build of other sources' build "$with"
+says 'made from other sources than these: ./build --renew'
+is 1 'the gate' check
+is 0 'renewing' build "$with" --renew
+is 0 'the gate, renewed' check
+# the program that the gate made is known as one that was built is
+rm -r "$tree/out" "$tree/crates/program/vp_cli/out"
+is 0 'the gate' gate
+is 0 'what the gate made' check
+says 'byte for byte the program that these sources make$'
+rm "$tree/dist/vp" "$tree/dist/made-from"
+is 0 'what the gate made, run without a toolchain' vp "$alone"
+prints 'what the gate made'
+silent 'what the gate made'
+is 0 'renewing of what the gate made' build "$with" --renew
+! grep -q building "$room/said" || fail 'what the gate made is built once more'
+echo dots >"$dots"
+echo 'other sources: ok'
+
+# faults of dist/
+ELSE="$room/else"
+wrong() {
+    is 125 "$1" vp "$alone"
+    says "^vp: $2"
+    is 1 "the gate: $1" check
+    says "^dist: $2.*: ./build --renew, and commit"
+    is 0 "$1, with a toolchain" vp "$with"
+    prints "$1"
+    says "^vp: $2"
+    clone
+}
+clone
+rm "$tree/dist/vp"
+wrong 'no program' 'dist/vp is missing'
+rm "$tree/dist/made-from"
+wrong 'no word of what it is made from' 'dist/made-from is missing'
+chmod -x "$tree/dist/vp"
+wrong 'not executable' 'dist/vp is not executable'
+head -c 1000 "$kept/vp" >"$tree/dist/vp"
+wrong 'cut short' 'dist/vp is cut short or has grown: 1000 bytes in place of'
+: >"$tree/dist/vp"
+wrong 'empty' 'dist/vp is cut short or has grown: 0 bytes in place of'
+{ head -c 18 "$kept/vp" && printf '\267\000' && tail -c +21 "$kept/vp"; } >"$tree/dist/vp"
+wrong 'for another machine' 'dist/vp is for another machine than x86-64'
+{ head -c 5000 "$kept/vp" && printf x && tail -c +5002 "$kept/vp"; } >"$ELSE"
+cat "$ELSE" >"$tree/dist/vp"
+is 125 'a byte that changed' vp "$alone"
+says "^vp: dist/vp isn't the program that dist/made-from tells of"
+wrong 'a byte that changed' "dist/vp isn't the program that dist/made-from tells of"
+is 0 'as it was' vp "$alone"
+cat "$ELSE" >"$tree/dist/vp"
+is 125 'a byte that changed after it was run' vp "$alone"
+clone
+# a made-from that fits the changed byte: only the gate can tell
+cat "$ELSE" >"$tree/dist/vp"
+sed "s/^[0-9a-f]\{64\}/$(sha256sum <"$ELSE" | cut -c 1-64)/" "$kept/made-from" >"$tree/dist/made-from"
+is 1 'the gate where nothing is built' check
+says 'no program was built of these sources'
+is 1 'a build, which is another program' build "$with"
+says "dist/vp isn't the program that these sources make: it differs first at byte 5001: ./build --renew"
+is 1 'the gate on another program' check
+says 'it differs first at byte 5001'
+clone
+# as on a system with another C library
+sed 's/ld-linux-x86-64/ld-linux-x86-46/' "$kept/vp" >"$tree/dist/vp"
+sed "s/^[0-9a-f]\{64\}/$(sha256sum <"$tree/dist/vp" | cut -c 1-64)/" "$kept/made-from" >"$tree/dist/made-from"
+is 125 'a program that is not started here' vp "$alone"
+says "^vp: dist/vp doesn't run here"
+clone
+echo 'faults of dist/: ok'
+
+# what the documents say of the program that is kept
+if [ -e "$root/dist/made-from" ]; then
+    needed=$(sed -n 's/^# glibc: //p' "$root/dist/made-from")
+    grep -q "with glibc $needed or later" "$root/README.md" ||
+        fail "README.md names another glibc than $needed"
+    grep -qF "$(sed -n 's/^# toolchain: //p' "$root/dist/made-from")" "$root/README.md" ||
+        fail 'README.md names another toolchain than dist/made-from'
+fi
+
+# another toolchain can't tell
+is 0 'a build' build "$with"
+echo 'made-up-kit 2' >"$kit/KIT-ID"
+is 0 'another toolchain' check
+says "it can't be told .* made by made-up-kit 1, and on the path is made-up-kit 2"
+export CI=true
+is 1 'another toolchain, in CI' check
+says "it can't be told"
+unset CI
+is 0 'another toolchain' vp "$with"
+silent 'another toolchain'
+echo 'another toolchain: ok'

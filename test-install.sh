@@ -1,0 +1,183 @@
+#!/bin/sh
+# Installs the program below a folder and takes it away again, asks the completions for words where their
+# shells are, and makes the Debian package, which is unpacked into an empty root.
+set -eu
+export LC_ALL=C
+root=$(dirname "$(realpath "$0")")
+program=$root/crates/program/vp_cli/out/vp_cli
+[ -x "$program" ] || program=$root/dist/vp
+if ! "$program" --version >/dev/null 2>&1; then
+    echo 'not tested: install, completions, package: there is no program to try them with'
+    exit 0
+fi
+room=$(mktemp -d)
+trap 'rm -rf "$room"' EXIT
+export VP_PROGRAM="$program"
+
+fail() {
+    echo "test-install: $1" >&2
+    [ ! -s "$room/said" ] || cat "$room/said" >&2
+    exit 1
+}
+# is EXPECTED WHAT COMMAND..: whether a command ends with this status
+is() {
+    expected=$1 what=$2 status=0
+    shift 2
+    "$@" >"$room/printed" 2>"$room/said" || status=$?
+    [ "$status" -eq "$expected" ] || fail "$what: status $status in place of $expected"
+}
+has() { command -v "$1" >/dev/null || { echo "not tested: $2: $1 isn't installed"; false; }; }
+
+# below a prefix, and below a prefix in another root
+for dest in '' "$room/a root"; do
+    prefix="$room/a prefix"
+    [ -z "$dest" ] || prefix=/usr
+    mkdir -p "$dest$prefix/share/doc/other" "$dest$prefix/lib/vp/own"
+    echo kept >"$dest$prefix/share/doc/other/kept"
+    echo kept >"$dest$prefix/lib/vp/own/kept"
+    export DESTDIR="$dest"
+    is 0 'install' "$root/install" "$prefix"
+    grep -qx "$dest$prefix/bin/vp" "$room/printed" || fail 'install names no program'
+    (cd "$dest$prefix" && find . -type f | LC_ALL=C sort) >"$room/files"
+    for file in bin/vp share/man/man1/vp.1 share/vp/font-a.pbm share/vp/font-b.pbm lib/vp/job lib/vp/paper.py \
+        share/doc/vp/LICENSE-MIT share/doc/vp/LICENSE-APACHE share/doc/vp/NOTICE share/doc/vp/CHANGELOG.md; do
+        grep -qx "./$file" "$room/files" || fail "$file isn't installed"
+    done
+    ! grep '/tests/\|testing\|\.new$' "$room/files" || fail 'what only serves tests is installed'
+    (cd "$dest$prefix/share/vp" && env -i ../../bin/vp receipt --font-a font-a.pbm --font-b font-b.pbm) \
+        <"$root/examples/receipt.bin" >"$room/receipt.pbm"
+    (cd "$room" && env -i PATH="$PATH" "$dest$prefix/lib/vp/paper.py" receipt.png) <"$room/receipt.pbm"
+    cmp "$room/receipt.png" "$root/docs/receipt.png"
+    # a file of an earlier version goes with the next install
+    echo old >"$dest$prefix/lib/vp/old"
+    echo lib/vp/old >>"$dest$prefix/lib/vp/installed"
+    is 0 'install over an install' "$root/install" "$prefix"
+    [ ! -e "$dest$prefix/lib/vp/old" ] || fail 'a file of an earlier version stays'
+    mkdir "$dest$prefix/lib/vp/__pycache__"
+    touch "$dest$prefix/lib/vp/__pycache__/paper.pyc"
+    is 0 'uninstall' "$root/install" --uninstall "$prefix"
+    left=$(cd "$dest$prefix" && find . -type f | LC_ALL=C sort | tr '\n' ' ')
+    [ "$left" = './lib/vp/own/kept ./share/doc/other/kept ' ] || fail "other files are left: $left"
+    [ ! -e "$dest$prefix/share/vp" ] || fail 'an empty folder is left'
+    is 3 'uninstall where nothing is' "$root/install" --uninstall "$prefix"
+done
+unset DESTDIR
+is 2 'install without a place' "$root/install"
+is 2 'install with a wrong word' "$root/install" --prefix "$room"
+is 2 'uninstall without a place' "$root/install" --uninstall
+echo 'install and uninstall: ok'
+
+# what each shell offers: offers SHELL WORDS WANT..: behind these words just these come, in any order
+offers() {
+    shell=$1 words=$2
+    shift 2
+    found=$("in_$shell" "$words" | LC_ALL=C sort | tr '\n' ' ')
+    wanted=$(printf '%s\n' "$@" | LC_ALL=C sort | tr '\n' ' ')
+    [ "$found" = "$wanted" ] || fail "$shell offers behind '$words': $found"
+}
+in_bash() {
+    bash --norc -c '. "$1"; read -ra COMP_WORDS <<<"$2"; case $2 in *" ") COMP_WORDS+=("") ;; esac
+        COMP_CWORD=$((${#COMP_WORDS[@]} - 1)); _vp; printf "%s\n" "${COMPREPLY[@]}"' \
+        bash "$root/completions/vp.bash" "$1" 2>/dev/null
+}
+in_fish() {
+    HOME=$room XDG_CONFIG_HOME=$room XDG_DATA_HOME=$room \
+        fish -c "source $root/completions/vp.fish; complete -C '$1'" 2>/dev/null | cut -f 1
+}
+# (zsh completes only on a terminal: one is made for it, and what is added to its list is kept)
+in_zsh() {
+    (
+        cd "$room/zsh"
+        rm -f ready offered finished
+        HOME=$room timeout 30 zsh -f ask.zsh "$1" >/dev/null 2>&1 || true
+        sort -u offered
+    )
+}
+mkdir "$room/zsh"
+cat >"$room/zsh/setup.zsh" <<END
+PROMPT=
+fpath=($root/completions \$fpath)
+autoload -U compinit
+compinit -u -D
+bindkey '^I' complete-word
+compadd() {
+    if [[ \${@[1,(i)(-|--)]} != *-(O|A|D)\ * ]]; then
+        local -a hits
+        builtin compadd -A hits "\$@"
+        (( \$#hits )) && print -rl -- \$hits >>offered
+    fi
+    builtin compadd "\$@"
+}
+ended() { : >finished }
+comppostfuncs=(ended)
+: >ready
+END
+cat >"$room/zsh/ask.zsh" <<'END'
+zmodload zsh/zpty
+await() { repeat 200; do [[ -e $1 ]] && return; sleep 0.05; done; exit 1 }
+zpty asked zsh -f -i
+zpty -w asked 'source ./setup.zsh'
+await ready
+zpty -n -w asked "$1"$'\t'
+await finished
+zpty -d asked
+END
+touch "$room/zsh/order.bin"
+touch "$room/order.bin"
+cd "$room"
+for shell in bash fish zsh; do
+    if has "$shell" "completions of $shell"; then
+        offers "$shell" 'vp l' label list
+        offers "$shell" 'vp j' join
+        offers "$shell" 'vp receipt --width ' 384 576
+        offers "$shell" 'vp list --lang ' label receipt
+        offers "$shell" 'vp list --o' --offsets
+        offers "$shell" 'vp receipt --font-' --font-a --font-b
+        offers "$shell" 'vp label --font-' --font-a
+        offers "$shell" 'vp receipt ord' order.bin
+        offers "$shell" 'vp label --font-a ord' order.bin
+        offers "$shell" 'vp join ord' order.bin
+        echo "completions of $shell: ok"
+    fi
+done
+
+# the Debian package
+mkdir deb again
+is 0 'the package' "$root/tools/deb.py" deb
+is 0 'the package once more' "$root/tools/deb.py" again
+deb=$(ls deb/*.deb)
+cmp "$deb" "again/${deb#deb/}" || fail 'the package is made of other bytes'
+[ "$deb" = "deb/vp_$("$program" --version | cut -d ' ' -f 2)_amd64.deb" ] || fail "the package is $deb"
+version=$("$program" --version | cut -d ' ' -f 2)
+grep -q "^## $version," "$root/CHANGELOG.md" || fail "CHANGELOG.md lacks $version"
+is 2 'two folders' "$root/tools/deb.py" deb again
+is 3 'a folder that is a file' "$root/tools/deb.py" order.bin
+if has dpkg-deb 'what the package holds'; then
+    # into an empty root, run there, and taken away
+    mkdir empty
+    dpkg-deb -x "$deb" empty
+    empty/usr/bin/vp receipt --font-a empty/usr/share/vp/font-a.pbm --font-b empty/usr/share/vp/font-b.pbm \
+        "$root/examples/receipt.bin" | cmp - receipt.pbm
+    dpkg-deb -e "$deb" head
+    (cd empty && md5sum --quiet -c ../head/md5sums) || fail 'a sum of the package is wrong'
+    needed=$("$root/tools/needs.py" "$program")
+    grep -q "^Depends: libc6 (>= $needed)" head/control || fail 'the package needs another libc6'
+    echo 'what the package holds: ok'
+fi
+if [ "$(id -u)" != 0 ]; then
+    echo 'not tested: the package, installed and removed: only root can'
+elif has dpkg 'the package, installed and removed'; then
+    mkdir -p place/var/lib/dpkg/updates place/var/lib/dpkg/info
+    : >place/var/lib/dpkg/status
+    dpkg_in() { PATH=$PATH:/usr/sbin:/sbin dpkg --root="$room/place" --force-depends --log=/dev/null "$@"; }
+    is 0 'installed by dpkg' dpkg_in -i "$deb"
+    place/usr/bin/vp --version >/dev/null
+    is 0 'removed by dpkg' dpkg_in --purge vp
+    left=$(cd place && find . -path ./var -prune -o -type f -print)
+    [ -z "$left" ] || fail "dpkg left: $left"
+    echo 'the package, installed and removed: ok'
+fi
+if has lintian 'the package by lintian'; then
+    lintian --allow-root --fail-on error "$deb" >said 2>&1 || fail 'lintian finds an error'
+    echo 'the package by lintian: ok'
+fi

@@ -1,0 +1,179 @@
+#!/usr/bin/env python3
+"""deb.py [FOLDER]: makes the Debian package vp_VERSION_amd64.deb in a folder, else in out/, of dist/vp and of what
+./install puts beside it. The same sources give the same bytes, packed by the same zlib. It needs no tool of Debian's.
+
+Status 0; 2 for wrong words, 3 where a file can't be read or written, 125 where the program couldn't be built."""
+import gzip
+import hashlib
+import io
+import os
+import re
+import subprocess
+import sys
+import tarfile
+import tempfile
+
+sys.dont_write_bytecode = True
+import needs
+
+ROOT = os.path.dirname(os.path.dirname(os.path.realpath(__file__)))
+MAINTAINER = "Vuzaremo maintainers <maintainers@users.noreply.vuzaremo.example>"
+# Where Debian has a place of its own.
+PLACES = {"usr/share/zsh/site-functions/_vp": "usr/share/zsh/vendor-completions/_vp"}
+# What stands in the package's copyright, or only serves ./install.
+LEFT_OUT = ("usr/lib/vp/installed", "usr/share/doc/vp/LICENSE-MIT", "usr/share/doc/vp/LICENSE-APACHE")
+DESCRIPTION = """virtual receipt and label printer
+ vp reads what software sends to a printer, receipts in ESC/POS or labels in
+ ZPL II, and prints it as PBM images, the exact dots on the paper, or names the
+ fault where the stream is wrong. Its functions are proved to meet their
+ contracts. Scripts for tests, print queues and a network port are in
+ /usr/lib/vp."""
+
+
+def read(path):
+    with open(path, "rb") as it:
+        return it.read()
+
+
+def packed(data):
+    """Returns the data as gzip -9n packs them."""
+    room = io.BytesIO()
+    with gzip.GzipFile(fileobj=room, mode="wb", compresslevel=9, mtime=0, filename="") as it:
+        it.write(data)
+    return room.getvalue()
+
+
+def installed(program):
+    """Returns what ./install puts below /usr: each file's path, with its mode and bytes."""
+    with tempfile.TemporaryDirectory() as room:
+        env = {**os.environ, "DESTDIR": room, **({"VP_PROGRAM": program} if program else {})}
+        ran = subprocess.run([f"{ROOT}/install", "/usr"], env=env, stdout=subprocess.DEVNULL, check=False)
+        if ran.returncode:
+            sys.exit(ran.returncode)
+        found = {}
+        for at, _, files in os.walk(room):
+            for file in files:
+                path = os.path.relpath(f"{at}/{file}", room)
+                found[path] = (0o755 if os.access(f"{at}/{file}", os.X_OK) else 0o644, read(f"{at}/{file}"))
+        return found
+
+
+def copyright_file():
+    parts = [read(f"{ROOT}/{name}").decode() for name in ("NOTICE", "LICENSE-MIT")]
+    apache = "On Debian systems the Apache License, Version 2.0, is in\n/usr/share/common-licenses/Apache-2.0.\n"
+    return "\n".join([*parts, apache]).encode()
+
+
+def changelog(version, when):
+    day = subprocess.run(
+        ["date", "-u", "-R", "-d", f"@{when}"], env={**os.environ, "LC_ALL": "C"}, capture_output=True, check=True
+    ).stdout.decode()
+    text = "See /usr/share/doc/vp/CHANGELOG.md.gz."
+    return f"vp ({version}) unstable; urgency=medium\n\n  * {text}\n\n -- {MAINTAINER}  {day}".encode()
+
+
+def files_of(version, when, program):
+    """Returns the package's files, by their paths."""
+    files = {PLACES.get(path, path): it for path, it in installed(program).items() if path not in LEFT_OUT}
+    for path in ("usr/share/man/man1/vp.1", "usr/share/doc/vp/CHANGELOG.md"):
+        files[f"{path}.gz"] = (0o644, packed(files.pop(path)[1]))
+    files["usr/share/doc/vp/copyright"] = (0o644, copyright_file())
+    files["usr/share/doc/vp/changelog.gz"] = (0o644, packed(changelog(version, when)))
+    # dist/vp is taken byte for byte, as it was proved and compared
+    override = b"vp: unstripped-binary-or-object\n"
+    files["usr/share/lintian/overrides/vp"] = (0o644, b"# the bytes are those that were built and compared\n" + override)
+    return files
+
+
+def control(version, files):
+    size = sum((len(data) + 1023) // 1024 for _, data in files.values())
+    uses_python = any(data.startswith(b"#!/usr/bin/env python3") for _, data in files.values())
+    depends = [f"libc6 (>= {needs.glibc(files['usr/bin/vp'][1])})", *(["python3 (>= 3.9)"] if uses_python else [])]
+    fields = {
+        "Package": "vp",
+        "Version": version,
+        "Architecture": "amd64",
+        "Maintainer": MAINTAINER,
+        "Installed-Size": str(size),
+        "Depends": ", ".join(depends),
+        "Section": "utils",
+        "Priority": "optional",
+        "Description": DESCRIPTION,
+    }
+    return "".join(f"{name}: {value}\n" for name, value in fields.items()).encode()
+
+
+def tar(files, when):
+    """Returns an archive of files, each after its folders, all of root's and of one time."""
+    room = io.BytesIO()
+    with tarfile.open(fileobj=room, mode="w", format=tarfile.GNU_FORMAT) as it:
+
+        def add(name, kind, mode, data=b""):
+            one = tarfile.TarInfo(name)
+            one.type, one.mode, one.size, one.mtime = kind, mode, len(data), when
+            one.uname = one.gname = "root"
+            it.addfile(one, io.BytesIO(data))
+
+        folders = {"."}
+        for path in files:
+            parts = path.split("/")[:-1]
+            folders |= {"/".join([".", *parts[: nth + 1]]) for nth in range(len(parts))}
+        for name in sorted([*folders, *(f"./{path}" for path in files)]):
+            if name in folders:
+                add(f"{name}/", tarfile.DIRTYPE, 0o755)
+            else:
+                mode, data = files[name[2:]]
+                add(name, tarfile.REGTYPE, mode, data)
+    return room.getvalue()
+
+
+def ar(members, when):
+    """Returns an archive, as ar makes it, of names and bytes."""
+    made = b"!<arch>\n"
+    for name, data in members:
+        head = f"{name:<16}{when:<12}{0:<6}{0:<6}{'100644':<8}{len(data):<10}`\n"
+        made += head.encode() + data + b"\n" * (len(data) % 2)
+    return made
+
+
+def package(version, when, program):
+    files = files_of(version, when, program)
+    sums = "".join(f"{hashlib.md5(files[path][1]).hexdigest()}  {path}\n" for path in sorted(files))
+    head = {"control": (0o644, control(version, files)), "md5sums": (0o644, sums.encode())}
+    members = [("debian-binary", b"2.0\n"), ("control.tar.gz", packed(tar(head, when)))]
+    return ar([*members, ("data.tar.gz", packed(tar(files, when)))], when)
+
+
+def version_and_time():
+    """Returns the version, by the sources, and the time that all is given: SOURCE_DATE_EPOCH, else that of the
+    version's day in CHANGELOG.md, else none."""
+    grammar = read(f"{ROOT}/crates/program/vp_command_line/src/grammar.rt").decode()
+    version = re.search(r'const VERSION: &str = "([0-9.]+)"', grammar)[1]
+    day = re.search(rf"(?m)^## {re.escape(version)}, (\d{{4}}-\d\d-\d\d)$", read(f"{ROOT}/CHANGELOG.md").decode())
+    if "SOURCE_DATE_EPOCH" in os.environ:
+        return version, int(os.environ["SOURCE_DATE_EPOCH"])
+    words = ["date", "-u", "-d", day[1] if day else "1970-01-01", "+%s"]
+    return version, int(subprocess.run(words, capture_output=True, check=True).stdout)
+
+
+def main():
+    if len(sys.argv) > 2 or (sys.argv[1:] and sys.argv[1].startswith("-")):
+        print("usage: deb.py [FOLDER]", file=sys.stderr)
+        return 2
+    folder = sys.argv[1] if sys.argv[1:] else f"{ROOT}/out"
+    try:
+        version, when = version_and_time()
+        made = package(version, when, os.environ.get("VP_PROGRAM"))
+        os.makedirs(folder, exist_ok=True)
+        name = f"{folder}/vp_{version}_amd64.deb"
+        with open(name, "wb") as it:
+            it.write(made)
+    except (OSError, ValueError) as fault:
+        print(f"deb.py: {fault}", file=sys.stderr)
+        return 3
+    print(name)
+    return 0
+
+
+if __name__ == "__main__":
+    sys.exit(main())

@@ -1,0 +1,166 @@
+# shellcheck shell=sh
+# What dist/ is held to: functions for scripts that have set root to the repository's folder.
+# shellcheck disable=SC2034,SC2154,SC2164
+dist=$root/dist built=$root/crates/program/vp_cli/out/vp_cli
+
+# lines: those of crates.txt of the crates that the program stands on
+lines() {
+    awk '
+        { sub(/#.*/, "") }
+        at = index($0, ":") {
+            name = substr($0, 1, at - 1)
+            gsub(/[ \t]/, "", name)
+            $0 = substr($0, at + 1)
+            $1 = $1
+            stands_on[name] = $0
+            order[++count] = name
+        }
+        END {
+            needed["program/vp_cli"] = more = 1
+            while (more) {
+                more = 0
+                for (name in stands_on)
+                    if (name in needed) {
+                        words = split(stands_on[name], on, " ")
+                        for (i = 1; i <= words; i++)
+                            if (on[i] in stands_on && !(on[i] in needed)) needed[on[i]] = more = 1
+                    }
+            }
+            for (i = 1; i <= count; i++)
+                if (order[i] in needed) print order[i] ": " stands_on[order[i]]
+        }' "$root/crates.txt"
+}
+
+# sources: the sum of what the program is made from: these lines, and by name the sums of all files of the
+# crates' src, specs and proofs
+sources() (
+    export LC_ALL=C
+    cd "$root" || exit
+    set --
+    for place in $(lines | sed 's/:.*//'); do
+        for part in src specs proofs; do
+            [ ! -e "crates/$place/$part" ] || set -- "$@" "crates/$place/$part"
+        done
+    done
+    {
+        lines
+        [ $# -eq 0 ] || find -L "$@" -type f -print0 | sort -z | xargs -0 sha256sum
+    } | sha256sum | cut -c 1-64
+)
+
+# toolchain: its identity, as rt version prints it; nothing where rt isn't on the path
+toolchain() {
+    rt=$(command -v rt) || return 0
+    cat "$(dirname -- "$(dirname -- "$(readlink -f -- "$rt")")")/KIT-ID" 2>/dev/null || true
+}
+
+# told NAME [FILE]: what a made-from, that of dist/ where no other is named, says of toolchain, sources, glibc
+# or bytes
+told() { sed -n "s/^# $1: //p" "${2:-$dist/made-from}" 2>/dev/null || true; }
+
+# sum_told [FILE], sum_of FILE: the program's sum as a made-from has it, and a file's own
+sum_told() { sed -n 's/^\([0-9a-f]\{64\}\)  .*/\1/p' "${1:-$dist/made-from}" 2>/dev/null || true; }
+sum_of() { sha256sum <"$1" | cut -c 1-64; }
+
+# fault: says what keeps dist/vp from being the program that dist/made-from tells of; nothing where it is
+fault() {
+    if [ ! -e "$dist/vp" ]; then
+        echo 'dist/vp is missing'
+    elif [ ! -e "$dist/made-from" ]; then
+        echo 'dist/made-from is missing'
+    elif [ ! -x "$dist/vp" ] || [ ! -r "$dist/vp" ]; then
+        echo 'dist/vp is not executable'
+    elif [ "$(head -c 20 "$dist/vp" | od -An -v -tx1 -j18 | tr -d ' \n')" != 3e00 ] && [ -s "$dist/vp" ]; then
+        echo 'dist/vp is for another machine than x86-64'
+    elif [ "$(wc -c <"$dist/vp")" != "$(told bytes)" ]; then
+        echo "dist/vp is cut short or has grown: $(wc -c <"$dist/vp") bytes in place of $(told bytes)"
+    elif [ "$(sum_of "$dist/vp")" != "$(sum_told)" ]; then
+        echo "dist/vp isn't the program that dist/made-from tells of: its bytes are others"
+    fi
+}
+
+# is_built SOURCES: whether the program that the gate or a build left is made from sources of this sum
+is_built() {
+    made=${built%/*}/made-from
+    [ -x "$built" ] && [ -e "$made" ] && [ "$(told sources "$made")" = "$1" ] &&
+        [ "$(sum_of "$built")" = "$(sum_told "$made")" ] || return 1
+    here=$(toolchain)
+    [ -z "$here" ] || [ "$here" = "$(told toolchain "$made")" ]
+}
+
+# seen: in what a change shows, of each file and folder of out/seen.list: when it was last changed, its place
+# on the disk and its size
+seen() (cd "$root" && xargs -0 stat -c '%.9Z %i %s %n' <"${1:-out/seen.list}" 2>/dev/null)
+
+# look, keep WORD: what is seen of all that sums are taken of, before they are, and kept, with the word for
+# the program that they showed to be current. It is kept only where all was last changed before the look
+# began, by the clock of this file system: a later change has another time, and in a folder so has what comes
+# and goes. What a link leads to isn't seen.
+look() {
+    at=$root/out/look.$$
+    rm -f "$root"/out/look.*
+    { mkdir -p "$root/out" && : >"$at"; } 2>/dev/null || return 0
+    (
+        cd "$root" || exit
+        for place in $(lines | sed 's/:.*//'); do
+            printf '%s\0' "crates/$place"
+            for part in src specs proofs; do
+                [ ! -e "crates/$place/$part" ] || find "crates/$place/$part" -print0
+            done
+        done
+        find crates.txt dist "${built#"$root"/}" "${built%/*}/made-from" -print0 2>/dev/null
+        readlink -z -f -- "$(command -v rt)" || true
+    ) >"$at.list"
+    seen "$at.list" >"$at.seen" || rm -f "$at" "$at".*
+}
+keep() {
+    at=$root/out/look.$$
+    [ -s "$at.seen" ] || return 0
+    # when the last change was, what kinds of files there are, and on which disks but for the toolchain's
+    last=$(cut -d ' ' -f 1 "$at.seen" | LC_ALL=C sort | tail -n 1)
+    kinds=$(cd "$root" && grep -zv '^/' "$at.list" | xargs -0 stat -c '%d %F' | sort -u)
+    began=$(stat -c '%.9Z' "$at")
+    first=$(printf '%s\n' "$last" "$began" | LC_ALL=C sort | head -n 1)
+    if [ "$last" != "$began" ] && [ "$first" = "$last" ] && ! echo "$kinds" | grep -q ' symbolic' &&
+        [ "$(echo "$kinds" | cut -d ' ' -f 1 | sort -u | wc -l)" = 1 ]; then
+        { echo "$1 $(command -v rt)"; cat "$at.seen"; } >"$at"
+        mv -f "$at.list" "$root/out/seen.list" && mv -f "$at" "$root/out/seen"
+    fi
+    rm -f "$at" "$at".*
+}
+
+# is_seen: whether nothing changed since a program was shown to be current; sets run to it
+is_seen() {
+    { [ -r "$root/out/seen" ] && read -r word with <"$root/out/seen"; } || return 1
+    case $word in
+    dist) run=$dist/vp ;;
+    built) run=$built && [ "$with" = "$(command -v rt)" ] || return 1 ;;
+    *) return 1 ;;
+    esac
+    { echo "$word $with" && seen; } | cmp -s - "$root/out/seen"
+}
+
+# find_program: sets run to the program of the sources as they stand: that of dist/, or the one that was
+# built, or else it is built now; status 125 where that doesn't go well
+find_program() {
+    is_seen && return 0
+    look
+    now=$(sources) why=
+    if [ -e "$dist/vp" ] || [ -e "$dist/made-from" ]; then
+        why=$(fault)
+        [ -n "$why" ] || [ "$now" = "$(told sources)" ] || why='dist/vp is made from other sources than these'
+        [ -n "$why" ] || said=$("$dist/vp" --version 2>&1) || why="dist/vp doesn't run here: $said"
+        if [ -z "$why" ]; then
+            run=$dist/vp
+            keep dist
+            return 0
+        fi
+    fi
+    run=$built
+    if ! is_built "$now"; then
+        python3 "$root/tools/build.py" "$why" || return 125
+        look
+        is_built "$(sources)" || return 0
+    fi
+    keep built
+}
