@@ -5,8 +5,8 @@
 set -eu
 export LC_ALL=C
 cd "$(dirname "$0")"
-vp=$PWD/crates/program/vp_cli/out/vp_cli
-[ -x "$vp" ] || ./vp --help >/dev/null
+vp=${VP:-$PWD/crates/program/vp_cli/out/vp_cli}
+[ -x "$vp" ] || vp=$(tools/program)
 scratch=$(mktemp -d)
 trap 'rm -rf "$scratch"' EXIT
 
@@ -17,10 +17,9 @@ fail() {
 
 # streams and sheets are those that their scripts write
 mkdir "$scratch/written" "$scratch/printed"
-for script in write_streams.py draw_sheets.py; do
-    cp "examples/$script" "$scratch/written"
-    python3 "$scratch/written/$script"
-done
+cp examples/write_streams.py "$scratch/written"
+python3 "$scratch/written/write_streams.py"
+python3 examples/draw_sheets.py "$scratch/written"
 for file in "$scratch/written"/*.bin "$scratch/written"/*.zpl "$scratch/written"/*.pbm; do
     cmp "$file" "examples/${file##*/}"
 done
@@ -39,7 +38,7 @@ for picture in docs/*.png; do
     name=${picture#docs/}
     printed=$(ls "$scratch/printed/${name%.png}".*.pbm)
     if [ "${1:-}" = accept ]; then recipes/paper.py "$picture" <"$printed"; fi
-    python3 recipes/testing.py same "$picture" "$printed"
+    python3 recipes/tests/testing.py same "$picture" "$printed"
 done
 echo 'examples: ok'
 

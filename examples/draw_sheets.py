@@ -1,11 +1,18 @@
 #!/usr/bin/env python3
-"""Draws the glyph sheets font-a.pbm and font-b.pbm beside this file.
+"""Draws the glyph sheets font-a.pbm and font-b.pbm: draw_sheets.py [FOLDER], or beside this file.
 
-Each character from 20 to 7E is a few strokes on a grid of 5 by 9: points are two digits, column and row, and row 6
-is the baseline. A dot is black where it lies within half a pen's width of a stroke.
+Each character from 21 to 7E is a few strokes on a grid of 5 by 9: points are two digits, column and row, and row 6
+is the baseline. A dot is black where it lies within half a pen's width of a stroke. Every other byte shows its two
+hex digits in a frame, but for the spaces 20 and A0.
 """
 import math
 import os
+import sys
+
+HERE = os.path.dirname(os.path.abspath(__file__))
+sys.path.insert(0, os.path.join(HERE, '../recipes'))
+sys.dont_write_bytecode = True
+from streams import framed  # noqa: E402
 
 STROKES = {
     '!': '20 24; 26', '"': '10 12; 30 32', '#': '10 16; 30 36; 02 42; 04 44',
@@ -45,21 +52,29 @@ def distance(px, py, a, b):
     return math.hypot(px - a[0] - t * dx, py - a[1] - t * dy)
 
 
-def sheet(name, width, height, left, top, across, down, pen):
-    rows = [bytearray(2 * width) for _ in range(16 * height)]
-    for char, strokes in STROKES.items():
-        column, line = ord(char) % 16, ord(char) // 16
-        segments = []
-        for stroke in strokes.split('; '):
-            points = [(left + across * int(p[0]), top + down * int(p[1])) for p in stroke.split()]
-            segments += list(zip(points, points[1:] or points))
-        for y in range(height):
-            for x in range(width):
-                if any(distance(x + .5, y + .5, a, b) <= pen / 2 for a, b in segments):
-                    at = column * width + x
-                    rows[line * height + y][at // 8] |= 0x80 >> at % 8
-    with open(os.path.join(os.path.dirname(os.path.abspath(__file__)), name), 'wb') as out:
-        out.write(b'P4\n%d %d\n' % (16 * width, 16 * height) + b''.join(rows))
+def drawn(strokes, width, height, left, top, across, down, pen):
+    """The rows of a character's cell, the leftmost dot highest."""
+    segments = []
+    for stroke in strokes.split('; '):
+        points = [(left + across * int(p[0]), top + down * int(p[1])) for p in stroke.split()]
+        segments += list(zip(points, points[1:] or points))
+    is_black = [[any(distance(x + .5, y + .5, a, b) <= pen / 2 for a, b in segments) for x in range(width)]
+                for y in range(height)]
+    return [sum(black << width - 1 - x for x, black in enumerate(row)) for row in is_black]
+
+
+def sheet(name, width, height, *grid):
+    strokes = {ord(char): it for char, it in STROKES.items()}
+    cells = [drawn(strokes[byte], width, height, *grid) if byte in strokes else framed(byte, (width, height))
+             for byte in range(256)]
+    with open(os.path.join(sys.argv[1] if sys.argv[1:] else HERE, name), 'wb') as out:
+        out.write(b'P4\n%d %d\n' % (16 * width, 16 * height))
+        for line in range(16):
+            for y in range(height):
+                row = 0
+                for cell in cells[16 * line:16 * line + 16]:
+                    row = row << width | cell[y]
+                out.write(row.to_bytes(2 * width, 'big'))
 
 
 sheet('font-a.pbm', 12, 24, 2.0, 4.0, 2.0, 2.0, 1.8)

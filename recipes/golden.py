@@ -1,29 +1,38 @@
 #!/usr/bin/env python3
 """Golden images: whether each stream of a folder still prints what it printed when its image was accepted.
 
-  golden.py check STREAMS EXPECTED [--report FOLDER] [-- COMMAND..]     status 0: all as expected, 1: not, 2: not run
-  golden.py accept STREAMS EXPECTED [NAME..] [-- COMMAND..]             takes over what is printed now
+  golden.py check STREAMS EXPECTED [--report FOLDER] [--junit FILE] [--ignore PATTERN] [-- COMMAND..]
+  golden.py accept STREAMS EXPECTED [NAME..] [--ignore PATTERN] [-- COMMAND..]
 
-COMMAND prints standard input as vp does; without it, it is `vp receipt`. The stream STREAMS/NAME has its images in
-EXPECTED/NAME.pbm and, where it ends in a fault, the fault's line in EXPECTED/NAME.fault.
+check has status 0 where all are as expected, 1 where not, 2 where it couldn't run; accept takes over what is printed
+now. COMMAND prints standard input as vp does; without it, it is vp in the language that the stream is in, with the
+shipped sheets. The stream STREAMS/NAME has its images in EXPECTED/NAME.pbm and, where it ends in a fault, the fault's
+line in EXPECTED/NAME.fault. README files, hidden files, PATTERNs and these outputs are no streams.
 """
 import argparse
 import base64
+import difflib
+import fnmatch
 import html
 import io
 import os
 import pathlib
+import re
 import subprocess
 import sys
 from concurrent.futures import ThreadPoolExecutor
 from itertools import accumulate
-from paper import Png, images
+sys.dont_write_bytecode = True
+import streams  # noqa: E402
+from paper import Png, images  # noqa: E402
 
 # What a picture shows: (255, 255, 255) and so on by the names' places.
 PALETTE = {'white': (255, 255, 255), 'black': (0, 0, 0), 'outside': (214, 218, 224), 'same': (150, 150, 150),
            'lost': (214, 30, 50), 'new': (0, 90, 220), 'near': (255, 240, 170)}
 COLOURS = list(PALETTE)
 GAP, HALO, MOST_ROWS, ROWS_BEFORE = 16, 6, 4000, 200
+# Where several strips changed, so many rows are compared to find which became which.
+MOST_COMPARED = 1000000
 # The first difference is shown so many times as large, with so many dots and rows beside it.
 TIMES, BESIDE, ABOVE = 6, 48, 16
 MOST_SHOWN = 100
@@ -57,21 +66,81 @@ background-size: %dpx %dpx; background-position: %dpx %dpx"></div>'''
 
 
 class Paper:
-    """Rows of dots: each a width and a number with a bit for each dot, the leftmost highest."""
+    """Strips, each a tuple of rows: a row is its width and a number with a bit for each dot, the leftmost highest."""
 
     def __init__(self, data):
-        self.rows, self.heights, self.widths = [], [], set()
+        self.strips, self.widths = [], set()
         for width, height, rows in images(io.BytesIO(data)):
-            self.heights.append(height)
             self.widths.add(width)
-            self.rows += [(width, int.from_bytes(row, 'big') >> -width % 8) for row in rows]
+            self.strips.append(tuple((width, int.from_bytes(row, 'big') >> -width % 8) for row in rows))
+        self.rows = [row for strip in self.strips for row in strip]
+        self.heights = [len(strip) for strip in self.strips]
 
-    def row(self, y, width):
-        """A row as wide as the picture's part, and which of its places are paper."""
-        if y >= len(self.rows):
-            return 0, 0
-        own, dots = self.rows[y]
-        return dots << width - own, (1 << own) - 1 << width - own
+
+def ink(dots):
+    return bin(dots).count('1')
+
+
+def weight(one, other):
+    """How much two strips differ: their other dots, and two for each row that only one has."""
+    if one and other and one[0][0] != other[0][0]:
+        return float('inf')
+    both = min(len(one), len(other))
+    return (sum(ink(a ^ b) for (_, a), (_, b) in zip(one, other)) + 2 * abs(len(one) - len(other))
+            + sum(ink(dots) for _, dots in one[both:] + other[both:]))
+
+
+def paired(old, new):
+    """Strips that changed, each beside the one that it became, with () where it has none: what differs least."""
+    if sum(map(len, old)) * len(new) + sum(map(len, new)) * len(old) > MOST_COMPARED:
+        longer = max(len(old), len(new))
+        return list(zip(old + [()] * (longer - len(old)), new + [()] * (longer - len(new))))
+    best, lost, added = {}, [weight(it, ()) for it in old], [weight((), it) for it in new]
+    for i in range(len(old), -1, -1):
+        for j in range(len(new), -1, -1):
+            ways = []
+            if i < len(old) and j < len(new):
+                ways.append((weight(old[i], new[j]) + best[i + 1, j + 1][0], 1, 1))
+            if i < len(old):
+                ways.append((lost[i] + best[i + 1, j][0], 1, 0))
+            if j < len(new):
+                ways.append((added[j] + best[i, j + 1][0], 0, 1))
+            best[i, j] = min(ways, key=lambda it: it[0], default=(0, 0, 0))
+    pairs, i, j = [], 0, 0
+    while i < len(old) or j < len(new):
+        _, down, right = best[i, j]
+        pairs.append((old[i] if down else (), new[j] if right else ()))
+        i, j = i + down, j + right
+    return pairs
+
+
+def aligned(expected, got):
+    """The strips of two papers side by side, so that one that was put in or left out moves no other."""
+    if expected.rows == got.rows:
+        return [(tuple(expected.rows), tuple(got.rows))]
+    pairs = []
+    match = difflib.SequenceMatcher(None, expected.strips, got.strips, len(got.strips) > 2000)
+    for kind, a, b, c, d in match.get_opcodes():
+        old, new = expected.strips[a:b], got.strips[c:d]
+        pairs += zip(old, new) if kind == 'equal' else paired(old, new)
+    return pairs
+
+
+def beside(strip, y, width):
+    """A row of a strip as wide as the picture's part, and which of its places are paper."""
+    if y >= len(strip):
+        return 0, 0
+    own, dots = strip[y]
+    return dots << width - own, (1 << own) - 1 << width - own
+
+
+def rows_of(numbers):
+    return f'row {numbers[0]:,}' if numbers[0] == numbers[-1] else f'rows {numbers[0]:,} to {numbers[-1]:,}'
+
+
+def strips_of(heights):
+    rows = f'{sum(heights):,} rows' if sum(heights) > 1 else '1 row'
+    return f'1 strip of {rows}' if len(heights) == 1 else f'{len(heights):,} strips of {rows} in all'
 
 
 def spread(dots, width):
@@ -94,13 +163,25 @@ def pixels(width, layers, colours):
 def compare(expected, got, file):
     """Writes the picture of two papers and what differs. Gives that in words, and the page's part that shows it."""
     width = max(expected.widths | got.widths, default=8)
-    height = max(len(expected.rows), len(got.rows), 1)
-    both = [(*expected.row(y, width), *got.row(y, width)) for y in range(height)]
+    both, places, added, lost, changed = [], [], [], [], []
+    at = dots = 0
+    for old, new in aligned(expected, got):
+        for y in range(max(len(old), len(new))):
+            row = *beside(old, y, width), *beside(new, y, width)
+            if old and new and row[0] != row[2]:
+                changed.append(at + min(y, len(new)))
+                dots += ink(row[0] ^ row[2])
+            both.append(row)
+            places.append(at + min(y, len(new)))
+        if not old or not new:
+            (lost if old else added).append((at, len(old or new)))
+        at += len(new)
+    both = both or [(0, 0, 0, 0)]
     differs = [e ^ g for e, _, g, _ in both]
     spreads = [spread(d, width) | on_e ^ on_g for d, (_, on_e, _, on_g) in zip(differs, both)]
     found = [y for y, it in enumerate(spreads) if it]
-    first = max(0, found[0] - ROWS_BEFORE) if found and height > MOST_ROWS else 0
-    last = min(height, first + MOST_ROWS)
+    first = max(0, found[0] - ROWS_BEFORE) if found and len(both) > MOST_ROWS else 0
+    last = min(len(both), first + MOST_ROWS)
     png = Png(file, 3 * width + 2 * GAP, 8, tuple(PALETTE.values()))
     gap = bytes([COLOURS.index('outside')]) * GAP
     for y in range(first, last):
@@ -113,21 +194,27 @@ def compare(expected, got, file):
         png.row(pixels(width, [e, on_e], plain) + gap + pixels(width, [g, on_g], plain) + gap
                 + pixels(width, [e, g, on_e | on_g, near], what))
     png.close()
-    dots = sum(bin(it).count('1') for it in differs)
-    where = f'row {found[0]:,}' if len(found) == 1 else f'rows {found[0]:,} to {found[-1]:,}' if found else ''
-    said = [f'{dots:,} dots differ, in {where}' if dots > 1 else f'1 dot differs, in {where}' if dots else
-            'all dots are the same']
+    said = []
+    if changed:
+        where = rows_of(changed)
+        said.append(f'{dots:,} dots differ, in {where}' if dots > 1 else f'1 dot differs, in {where}')
+    for what, strips in ('added', added), ('missing', lost):
+        if strips:
+            many = 'is' if len(strips) == 1 else 'are'
+            said.append(f'{strips_of([height for _, height in strips])} {many} {what}, at row {strips[0][0]:,}')
+    if not said:
+        said.append('all dots are the same')
     if len(expected.rows) != len(got.rows):
         said.append(f'{len(expected.rows):,} rows are expected and {len(got.rows):,} printed')
-    elif expected.heights != got.heights:
+    elif expected.heights != got.heights and not added and not lost:
         ends = next(it for it in zip(accumulate(expected.heights), accumulate(got.heights)) if it[0] != it[1])
         said.append('an image is to end after {:,} rows and ends after {:,}'.format(*ends))
     if expected.widths != got.widths and expected.rows and got.rows:
         said.append(f'{max(expected.widths)} dots of width are expected and {max(got.widths)} printed')
-    if last - first < height:
-        said.append(f'rows {first:,} to {last - 1:,} are shown')
+    if last - first < len(both):
+        said.append(f'rows {places[first]:,} to {places[last - 1]:,} are shown')
     shown = WHOLE % (png.width, last - first, html.escape(os.path.basename(file.name)))
-    if dots and expected.rows:
+    if any(differs) and expected.rows:
         y = next(n for n, it in enumerate(differs) if it)
         x = 2 * (width + GAP) + width - differs[y].bit_length() + HALO
         left = max(2 * (width + GAP), min(x - BESIDE, png.width - 2 * BESIDE))
@@ -138,13 +225,43 @@ def compare(expected, got, file):
     return '; '.join(said), shown
 
 
+def command_of(data):
+    """The words that print a stream where none were given: vp in its language, with the shipped sheets."""
+    language = streams.guess(data)
+    return [*streams.find_vp(), language, *streams.sheets(language)]
+
+
+def unseen(command, stream, image, fault):
+    """What an image of a stream can't show, in words."""
+    said = []
+    if fault:
+        said.append(f'it ends in a fault, {fault.strip()}')
+    dots = Paper(image)
+    if dots.rows and not any(row for _, row in dots.rows):
+        said.append('its paper is all white')
+    elif not dots.rows:
+        said.append('nothing is printed')
+    at = next((n for n, word in enumerate(command) if word in streams.LANGUAGES), None)
+    if at:
+        sheet, found = streams.sheet_words(command), {}
+        items, _ = streams.listing(stream.read_bytes(), command[at], command[:at], dots=False)
+        for (_, byte), (count, _) in streams.without_cell(items, command[at], command).items():
+            found[byte] = found.get(byte, 0) + count
+        if found and not sheet:
+            said.append('no sheet is named, so its characters are white')
+        elif found:
+            bytes_said = ', '.join(f'{byte:02X} {streams.times(count)}' for byte, count in sorted(found.items()))
+            said.append(f'the sheet has no character for {bytes_said}')
+    return '; '.join(said)
+
+
 def printed(command, stream):
     """What the command prints of a stream, and the line of the fault that it ends in."""
     with open(stream, 'rb') as file:
-        ran = subprocess.run(command, stdin=file, capture_output=True)
+        ran = subprocess.run(command, stdin=file, stdout=subprocess.PIPE, stderr=subprocess.PIPE)
     line = ran.stderr.decode(errors='replace')
     if ran.returncode not in (0, 1):
-        raise OSError(f'{stream}: {command[0]} ended with status {ran.returncode}: {line.strip()}')
+        raise streams.Fault(f'{stream}: {command[0]} ended with status {ran.returncode}: {line.strip()}', 2)
     return ran.stdout, line if ran.returncode else ''
 
 
@@ -155,38 +272,86 @@ def expected(folder, name):
     return image.read_bytes(), fault.read_text() if fault.is_file() else ''
 
 
-def check(count, found, gone, report):
+def keep(folder, name, now):
+    """Takes over what is printed of a stream."""
+    at, line = folder / f'{name}.pbm', folder / f'{name}.fault'
+    at.parent.mkdir(parents=True, exist_ok=True)
+    at.write_bytes(now[0])
+    if now[1]:
+        line.write_text(now[1])
+    elif line.exists():
+        line.unlink()
+
+
+def difference(name, known, now, report, number):
+    """What differs of a stream in a line, and its part of the page."""
+    (was, was_fault), (image, fault) = known or (b'', ''), now
+    said, shown = 'the images are the same', ''
+    if was != image and number <= MOST_SHOWN:
+        report.mkdir(parents=True, exist_ok=True)
+        picture = report / f'{number:03}-{name.replace(os.sep, "-")}.png'
+        said, shown = compare(Paper(was), Paper(image), open(picture, 'wb'))
+        data = base64.b64encode(picture.read_bytes()).decode()
+        shown = f'<div style="--picture: url(data:image/png;base64,{data})">{shown}</div>'
+    elif was != image:
+        said = f'other dots or images (the first {MOST_SHOWN} differences alone are drawn)'
+    if not known:
+        said = 'no image was accepted yet'
+    part = f'<h2>{html.escape(name)}</h2><p>{said}</p>'
+    if fault != was_fault:
+        faults = [it.strip() or 'none' for it in (was_fault, fault)]
+        said += '; the fault is to be {} and is {}'.format(*faults)
+        part += '<p>Fault expected, and fault now:</p><pre>{}</pre><pre>{}</pre>'.format(*map(html.escape, faults))
+    return said, part + shown
+
+
+def verify(stream, name, folder, command=(), accept=False, report='golden-report'):
+    """For tests: compares what a stream's bytes print with folder/NAME.pbm. Gives what differs in a line, '' where
+    nothing does, with a picture in the report's folder. With accept it takes it over."""
+    folder, report = pathlib.Path(folder), pathlib.Path(report)
+    command = list(command) or command_of(stream)
+    image, line, _ = streams.run(command[1:], stream, command[:1])
+    known, now = expected(folder, name), (image, line + '\n' if line else '')
+    if known == now:
+        return ''
+    if accept:
+        keep(folder, name, now)
+        return ''
+    return f'{name}: {difference(name, known, now, report, 0)[0]}; see {report}'
+
+
+def junit(names, said, file):
+    """A report as CI systems read it: a test case for each stream."""
+    def quoted(text):
+        return html.escape(re.sub('[^\t -\uFFFD]', '?', text))
+    lines = [f'<testsuite name="golden" tests="{len(names)}" failures="{len(said)}" errors="0" skipped="0">']
+    for name in names:
+        failure = f'<failure message="{quoted(said[name])}"/>' if name in said else ''
+        lines.append(f'<testcase classname="golden" name="{quoted(name)}">{failure}</testcase>')
+    text = '\n'.join(['<?xml version="1.0" encoding="UTF-8"?>', *lines, '</testsuite>', ''])
+    file.parent.mkdir(parents=True, exist_ok=True)
+    file.write_text(text, encoding='utf-8')
+
+
+def check(names, found, gone, report, to):
     for old in [*report.glob('[0-9][0-9][0-9]-*.png'), *report.glob('index.html')]:
         old.unlink()
-    if found:
-        report.mkdir(parents=True, exist_ok=True)
-    parts = []
+    said, parts = {}, []
     for name in gone:
-        print(f'{name}: an image is expected, but there is no such stream')
-        parts.append(f'<h2>{html.escape(name)}</h2><p>an image is expected, but there is no such stream</p>')
-    for name, known, (image, fault) in found:
-        was, was_fault = known or (b'', '')
-        said, shown = 'the images are the same', ''
-        if was != image and len(parts) < MOST_SHOWN:
-            picture = report / f'{len(parts) + 1:03}-{name.replace(os.sep, "-")}.png'
-            said, shown = compare(Paper(was), Paper(image), open(picture, 'wb'))
-            data = base64.b64encode(picture.read_bytes()).decode()
-            shown = f'<div style="--picture: url(data:image/png;base64,{data})">{shown}</div>'
-        elif was != image:
-            said = f'other dots or images (the first {MOST_SHOWN} differences alone are drawn)'
-        if not known:
-            said = 'no image was accepted yet'
-        part = f'<h2>{html.escape(name)}</h2><p>{said}</p>'
-        if fault != was_fault:
-            faults = [it.strip() or 'none' for it in (was_fault, fault)]
-            said += '; the fault is to be {} and is {}'.format(*faults)
-            part += '<p>Fault expected, and fault now:</p><pre>{}</pre><pre>{}</pre>'.format(*map(html.escape, faults))
-        print(f'{name}: {said}')
-        parts.append(part + shown)
-    if not parts:
-        print(f'{count} streams print what is expected')
+        said[name] = 'an image is expected, but there is no such stream'
+        parts.append(f'<h2>{html.escape(name)}</h2><p>{said[name]}</p>')
+    for name, known, now in found:
+        said[name], part = difference(name, known, now, report, len(parts) + 1)
+        parts.append(part)
+    for name, line in said.items():
+        print(f'{name}: {line}')
+    names = sorted([*names, *gone])
+    if to:
+        junit(names, said, to)
+    if not said:
+        print(f'{len(names)} streams print what is expected')
         return 0
-    title = f'{len(parts)} of {count} streams print otherwise than expected'
+    title = f'{len(said)} of {len(names)} streams print otherwise than expected'
     report.mkdir(parents=True, exist_ok=True)
     page = report / 'index.html'
     page.write_text(PAGE % {'title': title, 'parts': '\n'.join(parts)}, encoding='utf-8')
@@ -194,56 +359,80 @@ def check(count, found, gone, report):
     return 1
 
 
-def accept(count, found, gone, folder):
-    for name, _, (image, fault) in found:
-        at, line = folder / f'{name}.pbm', folder / f'{name}.fault'
-        at.parent.mkdir(parents=True, exist_ok=True)
-        at.write_bytes(image)
-        line.write_text(fault) if fault else line.unlink(missing_ok=True)
-        print(f'{name}: accepted')
+def accept(names, found, gone, folder, remarks):
+    taken = set()
+    for name, _, now in found:
+        keep(folder, name, now)
+        taken.add(name)
+    for name in names:
+        if name in taken or remarks[name]:
+            kept = 'accepted' if name in taken else 'as before'
+            print(f'{name}: {kept}; {remarks[name]}' if remarks[name] else f'{name}: {kept}')
     for name in gone:
         (folder / f'{name}.pbm').unlink()
-        (folder / f'{name}.fault').unlink(missing_ok=True)
+        fault = folder / f'{name}.fault'
+        if fault.exists():
+            fault.unlink()
         print(f'{name}: there is no such stream, so its image is taken away')
-    print(f'{len(found) + len(gone)} of {count} streams taken over')
+    print(f'{len(found) + len(gone)} of {len(names) + len(gone)} streams taken over')
     return 0
+
+
+def is_stream(path, given):
+    """Whether a file is what software sent: not hidden, no README, nothing that this script writes or is told of."""
+    name = path.relative_to(given.streams)
+    if not path.is_file() or any(part.startswith('.') for part in name.parts) or name.name.startswith('README'):
+        return False
+    inside = [folder.resolve() for folder in (given.report, given.expected)]
+    if any(folder in path.resolve().parents and folder != given.streams.resolve() for folder in inside):
+        return False
+    if given.expected.resolve() == given.streams.resolve() and name.suffix in ('.pbm', '.fault'):
+        return False
+    return not any(fnmatch.fnmatch(it, pattern) for pattern in given.ignore for it in (str(name), name.name))
 
 
 def main():
     words = sys.argv[1:]
     at = words.index('--') if '--' in words else len(words)
-    command = words[at + 1:] or ['vp', 'receipt']
+    command = words[at + 1:]
     parser = argparse.ArgumentParser(description=__doc__, formatter_class=argparse.RawDescriptionHelpFormatter)
     parser.add_argument('what', choices=('check', 'accept'))
     parser.add_argument('streams', type=pathlib.Path)
     parser.add_argument('expected', type=pathlib.Path)
     parser.add_argument('names', nargs='*')
     parser.add_argument('--report', type=pathlib.Path, default=pathlib.Path('golden-report'))
+    parser.add_argument('--junit', type=pathlib.Path, metavar='FILE')
+    parser.add_argument('--ignore', action='append', default=[], metavar='PATTERN')
     given = parser.parse_args(words[:at])
 
     def changed(name):
-        """What is expected of a stream and what is printed, where these differ."""
-        known, now = expected(given.expected, name), printed(command, given.streams / name)
-        return None if known == now else (name, known, now)
+        """What is expected of a stream and printed, where these differ, and, to be accepted, what the image hides."""
+        stream = given.streams / name
+        own = command or command_of(stream.read_bytes())
+        known, now = expected(given.expected, name), printed(own, stream)
+        hidden = unseen(own, stream, *now) if given.what == 'accept' else ''
+        return (None if known == now else (name, known, now)), hidden
 
     names, gone = given.names, []
-    if not names:
-        names = sorted(str(it.relative_to(given.streams)) for it in given.streams.rglob('*') if it.is_file())
-        known = {str(it.relative_to(given.expected))[:-len('.pbm')] for it in given.expected.rglob('*.pbm')}
-        gone = sorted(known.difference(names))
-    count = len(names) + len(gone)
     try:
+        if given.junit and given.junit.exists():
+            given.junit.unlink()
+        if not names and given.streams.is_dir():
+            files = [it for it in given.streams.rglob('*') if is_stream(it, given)]
+            names = sorted(str(it.relative_to(given.streams)) for it in files)
+            known = {str(it.relative_to(given.expected))[:-len('.pbm')] for it in given.expected.rglob('*.pbm')}
+            gone = sorted(known.difference(names))
         if not names:
-            raise OSError(f'{given.streams}: no streams')
+            raise streams.Fault(f'{given.streams}: no streams', 2)
         with ThreadPoolExecutor(os.cpu_count()) as pool:
-            found = [it for it in pool.map(changed, names) if it]
+            answers = list(pool.map(changed, names))
+        found = [it for it, _ in answers if it]
         if given.what == 'accept':
-            return accept(count, found, gone, given.expected)
-        return check(count, found, gone, given.report)
+            return accept(names, found, gone, given.expected, dict(zip(names, (it for _, it in answers))))
+        return check(names, found, gone, given.report, given.junit)
     except OSError as error:
-        print(f'golden.py: {error}', file=sys.stderr)
-        return 2
+        raise streams.Fault(f'{error.filename}: {error.strerror}', 2) from None
 
 
 if __name__ == '__main__':
-    sys.exit(main())
+    sys.exit(streams.ended(main))

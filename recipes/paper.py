@@ -2,8 +2,12 @@
 """Makes a PNG of what vp prints: vp receipt order.bin | paper.py order.png
 
 All images of one width stand under each other in one PNG. Where the width changes, as it may between labels, a
-further one begins: order-2.png and so on. It reads as vp writes and holds one row. No image: no file.
+further one begins: order-2.png and so on; with --each each image has its own, order-1.png, order-2.png. It reads as vp
+writes and holds one row. No image: no file, not even that of an earlier run.
 """
+import argparse
+import contextlib
+import io
 import os
 import struct
 import sys
@@ -31,13 +35,17 @@ def chunk(kind, data):
 
 
 class Png:
-    """A PNG that is written row by row, to a file whose head, with the height, can be written at the end."""
+    """A PNG that is written row by row. Its head, with the height, is written again at the end, where the file can go
+    back; else the PNG is held and written then. With dots a millimetre it says its true size."""
 
-    def __init__(self, file, width, depth=1, palette=((255, 255, 255), (0, 0, 0))):
-        self.file, self.width, self.depth, self.height = file, width, depth, 0
+    def __init__(self, file, width, depth=1, palette=((255, 255, 255), (0, 0, 0)), dpmm=None):
+        self.out, self.file = file, file if file.seekable() else io.BytesIO()
+        self.width, self.depth, self.height = width, depth, 0
         self.packer = zlib.compressobj(6)
         self.head()
-        file.write(chunk(b'PLTE', bytes(sum(palette, ()))))
+        if dpmm:
+            self.file.write(chunk(b'pHYs', struct.pack('>IIB', *[round(1000 * dpmm)] * 2, 1)))
+        self.file.write(chunk(b'PLTE', bytes(sum(palette, ()))))
 
     def head(self):
         size = struct.pack('>IIBBBBB', self.width, self.height, self.depth, 3, 0, 0, 0)
@@ -53,29 +61,92 @@ class Png:
         self.file.write(chunk(b'IDAT', self.packer.flush()) + chunk(b'IEND', b''))
         self.file.seek(0)
         self.head()
-        self.file.close()
+        if self.file is not self.out:
+            self.out.write(self.file.getvalue())
+        self.out.close()
 
 
-def main():
-    if len(sys.argv) != 2:
-        sys.exit('usage: paper.py FILE.png < IMAGES')
-    stem, end = os.path.splitext(sys.argv[1])
-    png, count = None, 0
+class Files:
+    """Where PNGs go: FILE.png, FILE-2.png and so on, or with `each` FILE-1.png, FILE-2.png. What an earlier run left
+    beyond them goes."""
+
+    def __init__(self, name, each=False):
+        self.name, self.each, self.made = name, each, []
+        self.is_file = name != '-' and (not os.path.exists(name) or os.path.isfile(name))
+
+    def named(self, count):
+        stem, end = os.path.splitext(self.name)
+        return f'{stem}-{count}{end}' if self.each or count > 1 else self.name
+
+    def next(self):
+        if not self.is_file:
+            if self.made:
+                raise ValueError('several images to be one PNG, and no file to number')
+            self.made.append(self.name)
+            return os.fdopen(os.dup(1), 'wb') if self.name == '-' else open(self.name, 'wb')
+        name = self.named(len(self.made) + 1)
+        file = open(name, 'wb')
+        self.made.append(name)
+        return file
+
+    def close(self):
+        if not self.is_file:
+            return
+        count = len(self.made)
+        if self.each or not count:
+            with contextlib.suppress(FileNotFoundError):
+                os.unlink(self.name)
+        while os.path.isfile(self.named(count + 1)) or count == 0 and not self.each:
+            count += 1
+            with contextlib.suppress(FileNotFoundError):
+                os.unlink(self.named(count))
+
+
+def write(file, name, each=False, dpmm=None, most=None):
+    """Writes PNGs of the images that a file has, at most so many images. Gives the names, and whether that was all."""
+    files, png, count = Files(name, each), None, 0
     try:
-        for width, _, rows in images(sys.stdin.buffer):
-            if not png or png.width != width:
+        for width, _, rows in images(file):
+            if count == most:
+                return files.made, False
+            count += 1
+            if not png or each or png.width != width:
                 if png:
                     png.close()
-                count += 1
-                png = Png(open(f'{stem}-{count}{end}' if count > 1 else sys.argv[1], 'wb'), width)
+                png = Png(files.next(), width, dpmm=dpmm)
             for row in rows:
                 png.row(row.ljust((width + 7) // 8, b'\0'))
-    except (OSError, ValueError) as error:
-        sys.exit(f'paper.py: {error}')
     finally:
         if png:
             png.close()
+        files.close()
+    return files.made, True
+
+
+def dots(text):
+    value = float(text)
+    if not 0 < value < 1000:
+        raise ValueError
+    return value
+
+
+def main():
+    words = argparse.ArgumentParser(usage='paper.py [--each] [--dpmm N] FILE.png < IMAGES',
+                                    description='Makes a PNG of what vp prints; - is standard output.')
+    words.add_argument('file', metavar='FILE.png')
+    words.add_argument('--each', action='store_true', help='a PNG for each image: FILE-1.png, FILE-2.png and so on')
+    words.add_argument('--dpmm', type=dots, metavar='N', help='dots a millimetre, so that it is shown in its true size')
+    given = words.parse_args()
+    try:
+        write(sys.stdin.buffer, given.file, given.each, given.dpmm)
+    except ValueError as error:
+        sys.stderr.write(f'paper.py: {error}\n')
+        return 1
+    except OSError as error:
+        sys.stderr.write(f'paper.py: {given.file}: {error.strerror}\n')
+        return 3
+    return 0
 
 
 if __name__ == '__main__':
-    main()
+    sys.exit(main())

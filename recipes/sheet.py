@@ -1,9 +1,10 @@
 #!/usr/bin/env python3
-"""Makes a glyph sheet for vp of a bitmap font: sheet.py FONT [--font a|b] [--table CODEC] > sheet.pbm
+"""Makes a glyph sheet for vp of a bitmap font: sheet.py FONT [--font a|b] [--table CODEC] [--blank] > sheet.pbm
 
 FONT is BDF, PCF, PSF or Unifont's .hex, as it is or packed by gzip. CODEC is the table that says which character a
 byte is, by Python's name for it: cp437 (the default), cp850, cp858, cp1252, latin1, iso8859-15, koi8-r and so on.
-What the font lacks, and what loses dots, is listed on standard error. docs/sheets.md says what a sheet is.
+What the font lacks, and what loses dots, is listed on standard error. A byte without a character shows its two hex
+digits in a frame; with --blank its cell is white. docs/sheets.md says what a sheet is.
 """
 import argparse
 import codecs
@@ -12,8 +13,9 @@ import struct
 import sys
 import unicodedata
 from collections import namedtuple
+sys.dont_write_bytecode = True
+from streams import BLANKS, CELLS, framed  # noqa: E402
 
-CELLS = {'a': (12, 24), 'b': (9, 17)}
 # A bitmap of `width` dots a row, the leftmost highest, that begins `left` of the pen and `top` below the line's top.
 Glyph = namedtuple('Glyph', 'advance left top width rows')
 # Glyphs by character, or by number where the font doesn't say its characters; lines are so many rows high.
@@ -185,6 +187,7 @@ def main():
     words.add_argument('font_file', metavar='FONT', help='BDF, PCF, PSF or .hex, perhaps packed by gzip')
     words.add_argument('--font', choices=CELLS, default='a', help='cells of 12 by 24 dots (a) or 9 by 17 (b)')
     words.add_argument('--table', default='cp437', metavar='CODEC', help="which character a byte is: a Python codec")
+    words.add_argument('--blank', action='store_true', help='leave white what has no character')
     given = words.parse_args()
     try:
         font, chars = read(given.font_file), list(wanted(given.table))
@@ -204,6 +207,11 @@ def main():
         if kind:
             say(f'{kind} {n:02X} U+{ord(char):04X} {unicodedata.name(char, "")}')
     say(f'font {given.font.upper()}, {given.table}: {len(found)} of {len(chars)} characters')
+    table = [codecs.decode(bytes([n]), given.table, 'replace')[:1] for n in range(256)]
+    spaces = {n for n, char in enumerate(table) if char and unicodedata.category(char) == 'Zs'}
+    for n in range(256) if not given.blank else ():
+        if n not in cells and n not in spaces.union(BLANKS):
+            cells[n] = framed(n, size)
     out = b'P4\n%d %d\n' % (16 * size[0], 16 * size[1])
     for line in range(16):
         for y in range(size[1]):

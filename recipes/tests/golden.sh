@@ -1,0 +1,121 @@
+#!/bin/sh
+# Golden images: what is accepted, changed, lost, and the page that shows it.
+. "$(dirname "$0")/common.sh"
+set -- "$vp" receipt --font-a "$root/examples/font-a.pbm" --font-b "$root/examples/font-b.pbm"
+golden=$root/recipes/golden.py streams=$room/streams golds=$room/golds report=$room/report
+mkdir "$streams"
+cp examples/*.bin "$streams"
+printf 'before\n\033\177after\n' >"$streams/fault.bin"
+is 0 'accept' "$golden" accept "$streams" "$golds" -- "$@"
+is 0 'check of what was accepted' "$golden" check "$streams" "$golds" --report "$report" -- "$@"
+[ ! -e "$report" ] || fail 'a report though nothing differs'
+"$@" examples/receipt.bin | cmp - "$golds/receipt.bin.pbm"
+# one dot more, the last but one of first.bin's raster of 16 dots by 2; and the fault elsewhere
+{ head -c 9 examples/first.bin; printf '\003'; } >"$streams/first.bin"
+printf 'before\n\033\176after\n' >"$streams/fault.bin"
+is 1 'check of a changed dot' "$golden" check "$streams" "$golds" --report "$report" -- "$@"
+says '^first.bin: 1 dot differs, in row 1$'
+says '^fault.bin: .*the fault is to be .*1B 7F and is .*1B 7E$'
+says '^2 of 4 streams'
+for place in '6 ffffff' '598 000000' '1190 005adc' '1191 969696' '1200 ffffff'; do
+    colour=$(testing dot "$report/002-first.bin.png" "${place% *}" 1)
+    [ "$colour" = "${place#* }" ] || fail "the picture of a changed dot is $colour at $place"
+done
+grep -q 'first.bin' "$report/index.html" && grep -q 'data:image/png;base64,' "$report/index.html" ||
+    fail 'the page of differences shows none'
+! grep -q 'http' "$report/index.html" || fail 'the page of differences needs a server'
+is 0 'accept by name' "$golden" accept "$streams" "$golds" first.bin -- "$@"
+is 1 'check of the fault' "$golden" check "$streams" "$golds" --report "$report" -- "$@"
+says '^1 of 4 streams'
+is 0 'accept' "$golden" accept "$streams" "$golds" -- "$@"
+is 0 'check' "$golden" check "$streams" "$golds" --report "$report" -- "$@"
+[ ! -e "$report/index.html" ] || fail 'the report of an earlier check stays'
+mv "$streams/first.bin" "$room"
+is 1 'check of a lost stream' "$golden" check "$streams" "$golds" --report "$report" -- "$@"
+says '^first.bin: an image is expected, but there is no such stream$'
+is 0 'accept' "$golden" accept "$streams" "$golds" -- "$@"
+[ ! -e "$golds/first.bin.pbm" ] || fail 'the image of a lost stream stays'
+is 2 'check without the program' "$golden" check "$streams" "$golds" -- "$room/no-vp"
+
+# with no words a stream is printed in its language with the shipped sheets: what a changed price and an accent print
+# differs, and what an image can't show is said
+streams=$room/own golds=$room/own-golds
+mkdir "$streams"
+cp examples/*.bin examples/*.zpl "$streams"
+printf 'Caf\351\n' >"$streams/cafe.bin"
+printf '   \n' >"$streams/white.bin"
+printf 'before\n\033\177after\n' >"$streams/fault.bin"
+touch "$streams/.gitkeep" "$streams/README.md"
+echo note >"$streams/notes.txt"
+is 0 'accept without words' "$golden" accept "$streams" "$golds" --ignore '*.txt'
+says '^cafe.bin: accepted; the sheet has no character for E9 once$'
+says '^white.bin: accepted; its paper is all white$'
+says '^fault.bin: accepted; it ends in a fault, vp: F1 after 9 bytes: unknown command 1B 7F$'
+says '^shelf.zpl: accepted$'
+says '^8 of 8 streams taken over$'
+is 0 'accept again' "$golden" accept "$streams" "$golds" --ignore '*.txt'
+says '^white.bin: as before; its paper is all white$'
+"$@" examples/receipt.bin | cmp - "$golds/receipt.bin.pbm"
+is 0 'check without words' "$golden" check "$streams" "$golds" --ignore '*.txt' --junit "$room/junit.xml"
+says '^8 streams print what is expected$'
+grep -q '<testsuite name="golden" tests="8" failures="0"' "$room/junit.xml" || fail 'no JUnit report'
+sed 's/2\.58/9.99/' examples/receipt.bin >"$streams/receipt.bin"
+printf 'Caf\350\n' >"$streams/cafe.bin"
+is 1 'check of a price and an accent' "$golden" check "$streams" "$golds" --ignore '*.txt' \
+    --report "$report" --junit "$room/junit.xml"
+says '^receipt.bin: [0-9,]* dots differ, in rows 15[0-9] to 16[0-9]$'
+says '^cafe.bin: [0-9]* dots differ'
+python3 - "$room/junit.xml" <<'END' || fail 'the JUnit report is none'
+import sys
+import xml.etree.ElementTree as tree
+suite = tree.parse(sys.argv[1]).getroot()
+failed = [it.get('name') for it in suite if it.find('failure') is not None]
+assert suite.get('tests') == '8' and suite.get('failures') == '2' and failed == ['cafe.bin', 'receipt.bin'], failed
+END
+is 0 'accept of the accent' "$golden" accept "$streams" "$golds" cafe.bin
+
+# a line that is put in, or left out, is one strip: what stands below is the same
+python3 - "$streams/receipt.bin" <<'END'
+import pathlib
+import sys
+data = pathlib.Path('examples/receipt.bin').read_bytes()
+at = data.index(b'Apples')
+pathlib.Path(sys.argv[1]).write_bytes(data[:at] + b'One more line\n' + data[at:])
+END
+is 1 'check of a line put in' "$golden" check "$streams" "$golds" --ignore '*.txt' --report "$report"
+says '^receipt.bin: 1 strip of 34 rows is added, at row 218; 800 rows are expected and 834 printed$'
+is 0 'accept of the line' "$golden" accept "$streams" "$golds" receipt.bin
+sed 's/2\.58/2.59/' examples/receipt.bin >"$streams/receipt.bin"
+is 1 'check of a line left out' "$golden" check "$streams" "$golds" --ignore '*.txt' --report "$report"
+says '^receipt.bin: [0-9]* dots differ, in rows 15[0-9] to 16[0-9]; 1 strip of 34 rows is missing, at row 218; 834'
+
+# images beside their streams
+is 0 'accept into the streams' "$golden" accept "$streams" "$streams" --ignore '*.txt'
+is 0 'check of these' "$golden" check "$streams" "$streams" --ignore '*.txt'
+says '^8 streams print what is expected$'
+is 0 'accept without a sheet' "$golden" accept "$streams" "$room/blind" receipt.bin -- "$vp" receipt
+says '^receipt.bin: accepted; no sheet is named, so its characters are white$'
+is 2 'no folder' "$golden" check "$room/none" "$golds"
+says '^golden.py: .*/none: no streams$'
+[ "$(wc -l <"$room/said")" -eq 1 ] || fail 'a folder that is not there has more than a line'
+
+# the fixture of golden.md, by pytest
+if needs pytest; then
+    mkdir "$room/suite"
+    sed -n '/^```python$/,/^```$/p' recipes/pytest.md | sed '/^```/d' >"$room/suite/conftest.py"
+    cat >"$room/suite/test_till.py" <<'END'
+def test_a_receipt(prints):
+    prints('total.bin', b'TOTAL 8.08\n')
+END
+    export PYTHONPATH="$root/recipes" PYTHONDONTWRITEBYTECODE=1
+    cd "$room/suite"
+    is 1 'a test with nothing accepted' pytest -q -p no:cacheprovider
+    says 'total.bin: no image was accepted yet'
+    is 0 'tests that accept' pytest -q -p no:cacheprovider --accept
+    is 0 'tests of what was accepted' pytest -q -p no:cacheprovider
+    sed -i 's/8.08/9.99/' test_till.py
+    is 1 'a test of a changed total' pytest -q -p no:cacheprovider
+    says 'total.bin: [0-9]* dots differ, in rows'
+    [ -n "$(ls golden-report/*.png)" ] || fail 'no picture of what differs'
+fi
+echo 'golden images: ok'

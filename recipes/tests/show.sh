@@ -1,0 +1,85 @@
+#!/bin/sh
+# show: PNGs of any stream, and what they don't show; text and past, beside it.
+. "$(dirname "$0")/common.sh"
+export VP="$vp"
+show=$root/recipes/show
+cd "$room"
+# each label a PNG of its own, the receipt one, and standard input
+printf '^XA^PW200^LL100^FO9,9^BY2^BKN,N,40^FD123^FS^CI28^FO9,60^A0,24^FDCaf\303\251^FS^PQ2^XZ' >two.zpl
+printf 'stale' >two-3.png
+is 0 'two labels' "$show" "$root/examples/receipt.bin" two.zpl
+says '/receipt.bin: receipt (guessed): receipt.png$'
+says '^two.zpl: label (guessed): two-1.png to two-2.png$'
+says '^two.zpl: skipped once: ^BK prints a Codabar bar code$'
+says '^two.zpl: skipped once: ^CI chooses a code table'
+says '^two.zpl: bytes without a character in the sheet: A9 once, C3 once$'
+[ ! -e two-3.png ] || fail 'the PNG of an earlier run stays'
+"$vp" receipt --font-a "$root/examples/font-a.pbm" --font-b "$root/examples/font-b.pbm" "$root/examples/receipt.bin" \
+    >receipt.pbm
+testing same receipt.png receipt.pbm
+cmp two-1.png two-2.png
+is 0 'standard input' "$show" <"$root/examples/shelf.zpl"
+says '^-: label (guessed): stdin-1.png$'
+is 0 'another language' "$show" --lang label "$root/examples/receipt.bin"
+says '/receipt.bin: label: nothing is printed$'
+[ ! -e receipt.png ] || fail 'the PNG of an earlier run stays where nothing is printed'
+mkdir out
+is 0 'another folder' "$show" --to out "$root/examples/ticket.bin"
+[ -e out/ticket.png ] || fail 'no PNG in the folder'
+# its status is vp's, and each fault a line
+printf 'Hi\n\033\177more\n' >bad.bin
+is 1 'a fault' "$show" bad.bin
+says '^bad.bin: vp: F1 after 5 bytes: unknown command 1B 7F$'
+is 3 'no file' "$show" none.bin
+says '^show: cannot read none.bin: No such file'
+is 3 'no folder' "$show" --to none "$root/examples/ticket.bin"
+[ "$(wc -l <said)" -eq 1 ] || fail 'a folder that is not there has more than a line'
+is 2 'wrong words' "$show" --lang french bad.bin
+VP=$room/none is 2 'no program' "$show" bad.bin
+says '^show: cannot run '
+printf '^XA^FO1,1^GB9,9,9^FS^PQ99999999^XZ' | "$show" >said
+says 'only the first 100 images are shown$'
+rm stdin-*.png
+# --open hands each PNG to xdg-open
+mkdir bin
+printf '#!/bin/sh\necho "opened $1"\n' >bin/xdg-open
+chmod +x bin/xdg-open
+PATH=$room/bin:$PATH is 0 'opened' "$show" --open two.zpl
+says '^opened two-1.png$'
+says '^opened two-2.png$'
+echo 'show: ok'
+
+# beside an installed vp: its program and its sheets are found by where the recipe stands
+cd "$root"
+VP_PROGRAM=$vp ./install "$room/prefix" >/dev/null
+install -D -t "$room/prefix/lib/vp" recipes/show recipes/print recipes/paper.py recipes/streams.py recipes/commands.tsv
+cd "$room"
+(unset VP && is 0 'show of a prefix' prefix/lib/vp/show --to out "$root/examples/receipt.bin")
+testing same out/receipt.png receipt.pbm
+(unset VP && prefix/lib/vp/print <"$root/examples/receipt.bin") | cmp - receipt.pbm
+cp -r prefix/lib/vp elsewhere
+(unset VP && PATH=$room/prefix/bin:$PATH && elsewhere/print <"$root/examples/receipt.bin") | cmp - receipt.pbm
+echo 'recipes of a prefix: ok'
+
+is 0 'the text of a receipt' "$root/recipes/text" "$root/examples/receipt.bin"
+says '^2 x Milk 1 l  *2\.58$'
+says '^TOTAL EUR  *8\.08$'
+is 0 'the text of a label' "$root/recipes/text" two.zpl
+says '^Café$'
+is 1 'the text before a fault' "$root/recipes/text" bad.bin
+says '^Hi$'
+says '^vp: F1 after 5 bytes'
+is 2 'a table that is none' "$root/recipes/text" --table klingon two.zpl
+says '^text: unknown encoding: klingon$'
+echo 'text: ok'
+
+printf 'Hi\n\033\177more\n\035\001last\n' >worse.bin
+printf 'Hi\nmore\nlast\n' >good.bin
+"$root/recipes/past" <worse.bin >past.pbm 2>said && fail 'what was cut out is no fault' || [ $? -eq 1 ]
+says '^cut out at byte 3: 1B 7F$'
+says '^cut out at byte 10: 1D 01$'
+"$root/recipes/print" <good.bin | cmp - past.pbm
+"$root/recipes/past" "$vp" receipt --width 384 <worse.bin 2>/dev/null | head -c 9 | grep -q '^384 ' ||
+    fail 'other words'
+"$root/recipes/past" <"$root/examples/receipt.bin" | cmp - receipt.pbm
+echo 'past: ok'
