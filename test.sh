@@ -1,9 +1,13 @@
 #!/bin/sh
-# Proves every crate from nothing, tries the must-fail edits, runs tests, program, examples and recipes, and refuses
-# memory. It says how long each part took; out/gate.log keeps what the prover said, and when.
+# Proves every crate from nothing, tries the must-fail edits, holds dist/ to what was built, runs tests, program, examples
+# and recipes, and refuses memory. It says how long each part took, and how many checks were left out for want of which
+# tool; it installs nothing. out/gate.log keeps what the prover said, and when.
 set -eu
 cd "$(dirname "$0")"
 mkdir -p out
+VP_LEFT_OUT=$(mktemp)
+export VP_LEFT_OUT
+trap 'rm -f "$VP_LEFT_OUT"' EXIT
 
 # timed COMMAND..: runs it, and says its seconds
 timed() {
@@ -17,8 +21,12 @@ tools/minutes.py out/gate.log tools/gate.py || {
     sed -n 's/^ *[0-9.]* | \(rt: FAILED.*\)/\1/p' out/gate.log
     exit 1
 }
+timed tools/check-dist
+timed ./test-dist.sh
+timed ./test-install.sh
 timed ./test-gate.sh
 timed ./test-program.py
 timed ./test-examples.sh
 timed ./test-recipes.sh
 timed ./test-memory.sh
+tools/left-out

@@ -1,9 +1,9 @@
 #!/bin/sh
 # How long the program takes, beside cat of what it prints and od of what it lists: bench/program.sh [VP], with the
-# program that `rt run` in crates/program/vp_cli built. The times are those of the machine it runs on; the ratios are what to look at.
+# program that ./vp runs. The times are those of the machine it runs on; the ratios are what to look at.
 set -eu
 top=$(cd "$(dirname "$0")/.." && pwd)
-vp=${1:-$top/crates/program/vp_cli/out/vp_cli}
+vp=${1:-$("$top/tools/program")}
 # what is printed stays in memory
 scratch=$(mktemp -d -p /dev/shm)
 trap 'rm -rf "$scratch"' EXIT
