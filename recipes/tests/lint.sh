@@ -30,8 +30,8 @@ done
 ! grep -q '\^MM' said || fail 'lint speaks of what no paper shows'
 [ "$(grep -c 'FO390,0' said)" -eq 1 ] || fail 'a box that just fits passes the edge'
 if [ "$has_places" ]; then
-    for place in '19 ^CI' '65 ^BK'; do
-        grep -q "^label.zpl: byte ${place% *}: \\${place#* } " said || { cat said >&2; fail "no $place"; }
+    for line in '19 ^CI' '65 ^BK'; do
+        grep -q "^label.zpl: byte ${line% *}: \\${line#* } " said || { cat said >&2; fail "no $line"; }
     done
 fi
 {
@@ -46,7 +46,7 @@ for line in 'ESC t 10 chooses a code table' 'FS p 01 00 prints a picture that is
 done
 says '^receipt.bin: byte 44: F1 unknown command 1B 7F: nothing behind it is printed$'
 if [ "$has_places" ]; then
-    for place in '2: ESC t' '15: FS p' '19: GS ( L'; do says "^receipt.bin: byte $place"; done
+    for line in '2: ESC t' '15: FS p' '19: GS ( L'; do says "^receipt.bin: byte $line"; done
 fi
 # a code table that no byte asks for is nothing
 printf '\033@\033t\020plain\n\033p\000\001\002' | "$lint" >said || fail 'lint of a plain receipt'

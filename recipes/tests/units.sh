@@ -4,7 +4,7 @@
 if needs systemd-analyze; then
     mkdir "$room/units"
     cp recipes/port-9100/vp-printer.socket "$room/units"
-    sed "s|/usr/local/lib/vp|$root/recipes/port-9100|; s|/usr/local/bin/vp|$vp|" \
+    sed "s|/usr/local/lib/vp|$root/recipes|; s|/usr/local/bin/vp|$vp|" \
         recipes/port-9100/vp-printer.service >"$room/units/vp-printer.service"
     is 0 'the systemd units' systemd-analyze verify "$room"/units/*
     ! grep 'vp-printer' "$room/said" >&2 || fail 'systemd complains of a unit'

