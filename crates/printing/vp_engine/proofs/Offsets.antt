@@ -1,7 +1,7 @@
 -- The places of items: they stay, they don't go down, and each is that of the byte that gives its item.
-use Rattle.std.proofs.Common.{◌≡◌, Bool, true, false, ℕ, zero, suc, ◌+◌, ◌<◌, ◌≤◌, List, [], ◌∷◌, ◌++◌, length, take, map, flat_map, decimal, nat_lt, cond, append_assoc, refl, sym, ap, ◌∙◌, arith, length-append, subst, zero-add, eqb}
+use Rattle.std.proofs.Common.{◌≡◌, Bool, true, false, ℕ, suc, ◌+◌, ◌<◌, ◌≤◌, List, [], ◌∷◌, ◌++◌, length, take, map, flat_map, decimal, nat_lt, cond, append_assoc, refl, sym, ap, ◌∙◌, arith, length-append, subst, zero-add, eqb}
 use Rattle.std.proofs.lemmas.Bool.{lt-ltb, le-ltb, ltb-true, ltb-false, eqb-true, eqb-false}
-use Rattle.std.proofs.lemmas.List.{append-nil, length-map, take_at}
+use Rattle.std.proofs.lemmas.List.{append-nil, take_at}
 use Rattle.vp_esc.specs.declared.item.EscItem.TheVariants.{RasterByte}
 use Rattle.vp_esc.specs.Lines.{line_of}
 use Rattle.vp_zpl.specs.Items.{data_items}
@@ -14,15 +14,6 @@ use Rattle.vp_engine.specs.Paper.{Reading, Reads}
 -- an item at a place
 abbrev pub at_place : {Item : Type 0} → ℕ → Item → Placed Item
 at_place n item = record { offset = n; item = item }
-
--- items of which each byte behind the first n gives one
-abbrev pub in_turn : {Item : Type 0} → (ℕ → Item) → ℕ → List ℕ → List (Placed Item)
-in_turn f n [] = []
-in_turn f n (b ∷ bytes) = at_place (suc n) (f b) ∷ in_turn f (suc n) bytes
-
-pub in_turn_length : {Item : Type 0} (f : ℕ → Item) (n : ℕ) (bytes : List ℕ) → length (in_turn f n bytes) ≡ length bytes
-in_turn_length f n [] = refl
-in_turn_length f n (b ∷ bytes) = ap suc (in_turn_length f (suc n) bytes)
 
 module _ {Item : Type 0} (reading : Reading Item) where
   one_more : (k : ℕ) (front : List ℕ) (b : ℕ) (rest : List ℕ) →
@@ -150,10 +141,6 @@ module _ {Item : Type 0} (reading : Reading Item) where
   placed_append bytes k (i ∷ xs) ys =
       ap (λ x. at_place (offset_of reading bytes k) i ∷ x) (placed_append bytes (suc k) xs ys ∙ ap (λ n. placed_from reading bytes (suc k) xs ++ placed_from reading bytes n ys) (omega arith))
 
-  pub placed_length : (bytes : List ℕ) (k : ℕ) (items : List Item) → length (placed_from reading bytes k items) ≡ length items
-  placed_length bytes k [] = refl
-  placed_length bytes k (i ∷ items) = ap suc (placed_length bytes (suc k) items)
-
   -- more bytes give more items behind those that there are
   pub placed_more : (bytes more : List ℕ) (added : List Item) → reading.items (bytes ++ more) ≡ reading.items bytes ++ added →
       (with_offsets reading).items (bytes ++ more) ≡ (with_offsets reading).items bytes ++ placed_from reading (bytes ++ more) (length (reading.items bytes)) added
@@ -194,20 +181,6 @@ module _ {Item : Type 0} (reading : Reading Item) where
         (with_offsets reading).items (t ++ b ∷ []) ≡ (with_offsets reading).items t ++ map (at_place (suc (length t))) added
     placed_byte t b added e =
         placed_more t (b ∷ []) added e ∙ ap (λ x. (with_offsets reading).items t ++ x) (placed_last t b (length (reading.items t)) added (omega arith))
-
-    -- of bytes that give one item each, each has its own
-    pub placed_run : (f : ℕ → Item) (t xs : List ℕ) → ((n : ℕ) → n ≤ length xs → reading.items (t ++ take n xs) ≡ reading.items t ++ map f (take n xs)) →
-        (with_offsets reading).items (t ++ xs) ≡ (with_offsets reading).items t ++ in_turn f (length t) xs
-    placed_run f t [] e = ap (with_offsets reading).items (append-nil t) ∙ sym (append-nil ((with_offsets reading).items t))
-    placed_run f t (b ∷ xs) e =
-        let one : reading.items (t ++ b ∷ []) ≡ reading.items t ++ f b ∷ [] = e 1 (omega arith) in
-        let next : (n : ℕ) → n ≤ length xs → reading.items ((t ++ b ∷ []) ++ take n xs) ≡ reading.items (t ++ b ∷ []) ++ map f (take n xs) =
-        λ n l. ap reading.items (shift t b (take n xs)) ∙ e (suc n) (omega (arith, l)) ∙ sym (append_assoc (reading.items t) (f b ∷ []) (map f (take n xs))) ∙ ap (λ x. x ++ map f (take n xs)) (sym one) in
-        let long : length (t ++ b ∷ []) ≡ suc (length t) = length-append t (b ∷ []) ∙ omega arith in
-        ap (with_offsets reading).items (sym (shift t b xs)) ∙ placed_run f (t ++ b ∷ []) xs next
-        ∙ ap (λ x. x ++ in_turn f (length (t ++ b ∷ [])) xs) (placed_byte t b (f b ∷ []) one)
-        ∙ append_assoc ((with_offsets reading).items t) (at_place (suc (length t)) (f b) ∷ []) (in_turn f (length (t ++ b ∷ [])) xs)
-        ∙ ap (λ n. (with_offsets reading).items t ++ at_place (suc (length t)) (f b) ∷ in_turn f n xs) long
 
 -- a count of bytes that stops, by one more
 pub taken_more : (old new : ℕ) (t : List ℕ) (b : ℕ) → old ≡ counted (length t) → new ≡ grown old 1 → new ≡ counted (length (t ++ b ∷ []))

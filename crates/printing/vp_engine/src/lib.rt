@@ -25,5 +25,6 @@ pub use listing::list;
 pub use listing_with_offsets::list_with_offsets;
 pub use printer::{Printer, State, Step};
 pub use session::{Report, RunFault, Session};
+pub use vp_join::{JoinFault, join};
 pub use vp_language::Language;
 pub use vp_streams::{Counted, Sink, Source};
