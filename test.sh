@@ -25,6 +25,7 @@ timed tools/check-dist
 timed ./test-dist.sh
 timed ./test-install.sh
 timed ./test-gate.sh
+timed ./test-library.sh
 timed ./test-program.py
 timed ./test-examples.sh
 timed ./test-recipes.sh

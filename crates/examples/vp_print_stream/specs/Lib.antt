@@ -1,0 +1,2 @@
+-- The rules: what is printed of what is read.
+pub mod Printed
