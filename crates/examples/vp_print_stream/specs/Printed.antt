@@ -7,8 +7,8 @@ use Rattle.vp_engine.specs.Setups.{Setup, rules_of}
 
 -- A reader gave some bytes: these are their paper and their first fault, or that of ending there. Where the
 -- bytes have no fault, the reader has no more.
-pub record IsPrinted (before after : Option (List ℕ)) (setup : Setup) (printed : List ℕ) (first : Option Fault)
-    : Type 0 where
+pub record IsPrinted (before after : Option (List ℕ)) (setup : Setup) (printed : List ℕ)
+    (first : Option Fault) : Type 0 where
   pub read : List ℕ
   pub consumed : Consumes before after read
   pub paper_of : printed ≡ paper (rules_of setup) read
