@@ -61,11 +61,8 @@ measure receipt raster "$scratch/raster"
 listed raster "$scratch/long"
 /usr/bin/time -f 'listing: %e s, %M KB at most' "$vp" list --lang receipt "$scratch/long" > /dev/null
 
-# a day of 1,000 receipts of 30 lines
-line='2 x Espresso doppio, milk apart        7.40'
-for _ in $(seq 30); do echo "$line"; done > "$scratch/receipt"
-printf '\035V\001' >> "$scratch/receipt"
-repeated 1000 "$scratch/receipt" > "$scratch/day"
+# a day of 1,000 receipts of 30 lines, each another
+"$top/bench/receipts.py" text 1000 > "$scratch/day"
 measure receipt text "$scratch/day" --font-a "$top/examples/font-a.pbm"
 listed text "$scratch/day"
 
@@ -75,22 +72,15 @@ idle 'carriage returns' "$scratch/returns"
 { printf '\0358L\000\055\061\001'; head -c 20000000 /dev/zero; } > "$scratch/graphics"
 idle 'skipped data' "$scratch/graphics"
 
-# 500 bar codes and 500 QR symbols, and 1,000 receipts with a logo, 10 lines, both symbols and a cut
-bars='\035H\002\035k\002400638133393\000'
-square='\035(k\033\000\061\120\060receipt 0123456789 24.50\035(k\003\000\061\121\060'
-printf "$bars$square" > "$scratch/symbols"
-repeated 500 "$scratch/symbols" > "$scratch/journal"
+# 500 bar codes and 500 QR symbols, each of other data and in all versions, and 1,000 receipts, each with another
+# logo, 10 lines of which three are in a style, both symbols and a cut
+"$top/bench/receipts.py" symbols 500 > "$scratch/journal"
 measure receipt symbols "$scratch/journal" --font-a "$top/examples/font-a.pbm"
-{
-    printf '\035v0\000\110\000\140\000'
-    head -c 6912 /dev/urandom
-    for _ in $(seq 10); do echo "$line"; done
-    printf "$bars$square\035V\001"
-} > "$scratch/receipt"
-repeated 1000 "$scratch/receipt" > "$scratch/journal"
+"$top/bench/receipts.py" journal 1000 > "$scratch/journal"
 measure receipt journal "$scratch/journal" --font-a "$top/examples/font-a.pbm"
 
 # in each direction 200 pages of 576 dots by 1,664 that one raster fills, and 200 full of text
+line='2 x Espresso doppio, milk apart        7.40'
 for direction in 0 1 2 3; do
     case $direction in
     0 | 2) size='\110\000\200\006' columns=48 lines=69 ;;

@@ -1,0 +1,65 @@
+#!/usr/bin/env python3
+"""Writes receipts that all differ, for bench/program.sh: receipts.py text|symbols|journal NUMBER. The same words give
+the same bytes."""
+import random
+import sys
+
+CUT = b"\x1dV\x01"
+CHOICE = random.Random(1)
+
+
+def line(width=42):
+    """A line of a receipt: a number, a thing and a price."""
+    thing = CHOICE.choice(("Espresso doppio", "milk apart", "flat white", "croissant", "water, still", "rye bread"))
+    left = f"{CHOICE.randrange(1, 20)} x {thing}"
+    price = f"{CHOICE.randrange(10, 100000) / 100:.2f}"
+    return (left + price.rjust(width - len(left)) + "\n").encode()
+
+
+def styled():
+    """A line in another style: emphasis, double size or white on black, and back."""
+    begin, end = CHOICE.choice(((b"\x1bE\x01", b"\x1bE\x00"), (b"\x1d!\x11", b"\x1d!\x00"), (b"\x1dB\x01", b"\x1dB\x00")))
+    return begin + line(21) + end
+
+
+def bars():
+    """A bar code with its text below: EAN-13, Code 39 or Code 128."""
+    digits = "".join(CHOICE.choices("0123456789", k=12))
+    letters = "".join(CHOICE.choices("ABCDEFGHIJKLMNOPQRSTUVWXYZ0123456789", k=8))
+    return b"\x1dH\x02" + CHOICE.choice((
+        b"\x1dk\x02" + digits.encode() + b"\0",
+        b"\x1dk\x04" + letters.encode() + b"\0",
+        b"\x1dkI" + bytes([len(letters) + 2]) + b"{B" + letters.encode(),
+    ))
+
+
+def square():
+    """A QR symbol of up to 250 bytes, so of versions 1 to 10."""
+    data = "".join(CHOICE.choices("abcdefghijklmnopqrstuvwxyz0123456789:/.", k=CHOICE.randrange(1, 251))).encode()
+    return b"\x1d(k" + (len(data) + 3).to_bytes(2, "little") + b"1P0" + data + b"\x1d(k\x03\x001Q0"
+
+
+def logo():
+    """A raster of 576 dots by 96."""
+    return b"\x1dv0\x00\x48\x00\x60\x00" + CHOICE.randbytes(72 * 96)
+
+
+def text():
+    return b"".join(line() for _ in range(30)) + CUT
+
+
+def symbols():
+    return bars() + square()
+
+
+def journal():
+    return logo() + b"".join(line() for _ in range(7)) + b"".join(styled() for _ in range(3)) + symbols() + CUT
+
+
+def main(kind, number):
+    for _ in range(int(number)):
+        sys.stdout.buffer.write({"text": text, "symbols": symbols, "journal": journal}[kind]())
+
+
+if __name__ == "__main__":
+    main(*sys.argv[1:])
