@@ -79,25 +79,11 @@ measure receipt symbols "$scratch/journal" --font-a "$top/examples/font-a.pbm"
 "$top/bench/receipts.py" journal 1000 > "$scratch/journal"
 measure receipt journal "$scratch/journal" --font-a "$top/examples/font-a.pbm"
 
-# in each direction 200 pages of 576 dots by 1,664 that one raster fills, and 200 full of text
-line='2 x Espresso doppio, milk apart        7.40'
+# in each direction 200 pages of 576 dots by 1,664 that one raster fills, and 200 full of text, each another
 for direction in 0 1 2 3; do
-    case $direction in
-    0 | 2) size='\110\000\200\006' columns=48 lines=69 ;;
-    *) size='\320\000\100\002' columns=138 lines=24 ;;
-    esac
-    begin="\033L\033T\\00$direction"
-    { printf "$begin\035v0\000$size"; head -c 119808 /dev/urandom; printf '\014'; } > "$scratch/page"
-    repeated 200 "$scratch/page" > "$scratch/pages"
+    "$top/bench/receipts.py" rasters 200 "$direction" > "$scratch/pages"
     measure receipt "pages of rasters, direction $direction" "$scratch/pages"
-    {
-        printf "$begin\0333\030"
-        for _ in $(seq $lines); do
-            echo "$line $line $line $line" | cut -c "1-$columns"
-        done
-        printf '\014'
-    } > "$scratch/page"
-    repeated 200 "$scratch/page" > "$scratch/pages"
+    "$top/bench/receipts.py" pages 200 "$direction" > "$scratch/pages"
     measure receipt "pages of text, direction $direction" "$scratch/pages" --font-a "$top/examples/font-a.pbm"
 done
 
@@ -123,24 +109,19 @@ digits() {
     head -c "$1" /dev/urandom | od -An -v -tx1 | tr -d ' \n'
 }
 
-# a shipping label: 20 texts, 4 boxes, 3 bar codes, a QR symbol and a logo of 200 by 200
-{
-    printf '^FO30,30^GFA,10000,5000,25,'
-    digits 5000
-    printf '^FS'
-    for i in $(seq 16); do printf '^FO260,%s^A0N,30,24^FDLine %s of the label^FS' $((2 + 38 * i)) "$i"; done
-    for i in $(seq 4); do printf '^FO%s,700^A0R,30,24^FDTurned text %s^FS' $((40 * i)) "$i"; done
-    printf '^FO10,10^GB812,1198,4^FS^FO10,660^GB812,4,4^FS^FO240,10^GB4,650,4^FS^FO20,20^FR^GB200,40,40^FS'
-    printf '^BY3,3,100^FO260,700^BCN,100,Y,N^FD>:SHIP123456^FS^BY2,3,80^FO260,860^B3N,N,80,Y,N^FDTRACK99^FS'
-    printf '^FO260,1000^BEN,80,Y,N^FD400638133393^FS'
-    printf '^FO600,980^BQN,2,6^FDMA,https://example.org/parcel/0123456789^FS'
-} > "$scratch/fields"
-formats 1 1000 "$scratch/fields" > "$scratch/labels"
+# 1,000 shipping labels, each another: 20 texts, 6 boxes, 3 bar codes, a QR symbol and a logo of 200 by 200; and
+# 1,000 copies of one
+"$top/bench/labels.py" shipping 1000 > "$scratch/labels"
 label '1,000 shipping labels' "$scratch/labels"
-formats 1000 1 "$scratch/fields" > "$scratch/labels"
+"$top/bench/labels.py" shipping 1 | sed 's/\^XZ$/^PQ1000^XZ/' > "$scratch/labels"
 label '1,000 copies of a shipping label' "$scratch/labels"
 
-# boxes and three pictures of 400 by 300, and a picture of the whole label
+# 10,000 copies of a label of 400 dots by 200
+printf '^PW400^LL200^FO10,10^GB380,180,4^FS^FO30,80^A0N,36,24^FDCoffee 7.40^FS' > "$scratch/fields"
+formats 10000 1 "$scratch/fields" > "$scratch/labels"
+label '10,000 copies of a small label' "$scratch/labels"
+
+# boxes and three pictures of 400 by 300
 {
     for i in $(seq 20); do printf '^FO%s,%s^GB%s,60,%s^FS' $((30 * i)) $((50 * i)) $((20 + 5 * i)) $((1 + i % 2 * 60)); done
     for i in 0 1 2; do
@@ -151,9 +132,12 @@ label '1,000 copies of a shipping label' "$scratch/labels"
 } > "$scratch/fields"
 formats 1000 1 "$scratch/fields" > "$scratch/labels"
 label '1,000 copies of boxes and pictures' "$scratch/labels"
-{ printf '^GFA,253344,126672,104,'; digits 126672; printf '^FS'; } > "$scratch/fields"
-formats 1 1 "$scratch/fields" > "$scratch/labels"
-label 'a picture of 832 by 1,218' "$scratch/labels"
+
+# 100 labels, each of another picture of 832 by 1,218: in plain hex digits, and in short mixed runs
+"$top/bench/labels.py" digits 100 > "$scratch/labels"
+label '100 pictures in plain digits' "$scratch/labels"
+"$top/bench/labels.py" runs 100 > "$scratch/labels"
+label '100 pictures in short runs' "$scratch/labels"
 
 # runs ROWS: rows of 104 bytes by runs of codes, every fourth of which is the one above
 runs() {

@@ -1,6 +1,6 @@
 #!/usr/bin/env python3
-"""Writes receipts that all differ, for bench/program.sh: receipts.py text|symbols|journal NUMBER. The same words give
-the same bytes."""
+"""Writes receipts that all differ, for bench/program.sh: receipts.py text|symbols|journal NUMBER, or pages in a
+direction of 0 to 3: receipts.py rasters|pages NUMBER DIRECTION. The same words give the same bytes."""
 import random
 import sys
 
@@ -56,9 +56,28 @@ def journal():
     return logo() + b"".join(line() for _ in range(7)) + b"".join(styled() for _ in range(3)) + symbols() + CUT
 
 
-def main(kind, number):
+def paged(direction, data):
+    """A page of 576 dots by 1,664 in a print direction."""
+    return b"\x1bL\x1bT" + direction.encode() + data + b"\x0c"
+
+
+def rasters(direction):
+    """A page that one raster fills."""
+    row, rows = (72, 1664) if direction in "02" else (208, 576)
+    raster = b"\x1dv0\x00" + row.to_bytes(2, "little") + rows.to_bytes(2, "little") + CHOICE.randbytes(row * rows)
+    return paged(direction, raster)
+
+
+def pages(direction):
+    """A page full of text."""
+    columns, lines = (48, 69) if direction in "02" else (138, 24)
+    return paged(direction, b"\x1b3\x18" + b"".join(line(columns) for _ in range(lines)))
+
+
+def main(kind, number, *direction):
+    kinds = {"text": text, "symbols": symbols, "journal": journal, "rasters": rasters, "pages": pages}
     for _ in range(int(number)):
-        sys.stdout.buffer.write({"text": text, "symbols": symbols, "journal": journal}[kind]())
+        sys.stdout.buffer.write(kinds[kind](*direction))
 
 
 if __name__ == "__main__":
