@@ -1,5 +1,5 @@
 -- Words cut out of rows.
-use Rattle.std.proofs.Common.{inl, inr, zero, ◌≡◌, ℕ, ◌+◌, ◌-◌, ◌*◌, ◌/◌, ◌%◌, ◌^◌, ◌<◌, ◌≤◌, Bool, true, false, not, cond, eqb, ltb, leb, ◌&&◌, refl, sym, ap, ◌∙◌, arith, List, bit_or, length, get_or, replicate, ℤ, pos, ◌+ℤ◌}
+use Rattle.std.proofs.Common.{inl, inr, zero, ◌≡◌, ℕ, ◌+◌, ◌-◌, ◌*◌, ◌/◌, ◌%◌, ◌^◌, ◌<◌, ◌≤◌, Bool, true, false, not, cond, eqb, ltb, leb, ◌&&◌, refl, sym, ap, ◌∙◌, arith, List, bit_and, bit_or, length, get_or, replicate, ℤ, pos, ◌+ℤ◌}
 use Rattle.std.specs.Int.{bit_at, from_be_bytes, w64}
 use lib.Lanes.{chunk}
 use Rattle.std.proofs.Math.Nat.{div-le_self}
@@ -13,6 +13,7 @@ use Rattle.vp_dots.specs.Dots.{bit, dot, shifted}
 use Rattle.vp_dots.specs.Painting.{Painted}
 use Rattle.vp_dots.specs.declared.Op.TheVariants.{Black}
 use Rattle.vp_dots.proofs.Bits.{bit_of_or}
+use Rattle.vp_dots.proofs.Spans.{bit_of_and}
 use Rattle.vp_dots.proofs.Rows.{dot_at}
 use Rattle.vp_dots.proofs.Shifts.{shifted_meets}
 use Rattle.vp_dots.specs.Words.{word_dot}
@@ -79,6 +80,15 @@ of_not x p = grind (arith, nat_tests)
 pub bit_not64 : (n k : ℕ) → n < 2 ^ 64 → k < 64 → bit (2 ^ 64 - 1 - n) k ≡ not (bit n k)
 unfolding bit
 bit_not64 n k p q = rw (bit_at_not w64 n k p q) (of_not _ (bit_at-lt n k))
+
+pub bit_of_and_not64 : (a b k : ℕ) → b < 2 ^ 64 → k < 64 → bit (bit_and a (2 ^ 64 - 1 - b)) k ≡ cond (bit b k) false (bit a k)
+bit_of_and_not64 a b k p q = bit_of_and a (2 ^ 64 - 1 - b) k ∙ ap (λ x. bit a k && x) (bit_not64 b k p q) ∙ less (bit a k) (bit b k)
+  where
+    less : (x y : Bool) → (x && not y) ≡ cond y false x
+    less true true = refl
+    less true false = refl
+    less false true = refl
+    less false false = refl
 
 ones : (k : ℕ) → k < 64 → bit (2 ^ 64 - 1) k ≡ true
 unfolding bit

@@ -1,10 +1,12 @@
 -- Rows painted one after the other.
-use Rattle.std.proofs.Common.{ℤ, pos, inl, inr, ◌≡◌, ℕ, ◌+◌, ◌-◌, ◌<◌, ◌≤◌, Bool, true, false, ltb, leb, ◌&&◌, sym, ap, ◌∙◌, arith, List, [], length, get_or, set, get_or-set_same, get_or-set_other}
-use Rattle.std.proofs.lemmas.Bool.{cases_eq, cases_lt, lt-ltb, le-ltb, false_from_ne_true, true≢false}
+use Rattle.std.proofs.Common.{ℤ, pos, inl, inr, ◌≡◌, ℕ, ◌+◌, ◌-◌, ◌<◌, ◌≤◌, Bool, true, false, eqb, ltb, leb, ◌&&◌, refl, sym, ap, ◌∙◌, arith, List, [], length, get_or, set, get_or-set_same, get_or-set_other}
+use Rattle.std.proofs.lemmas.Bool.{cases_eq, cases_lt, lt-ltb, le-ltb, lt-leb, le-leb, false_from_ne_true, true≢false}
+use Rattle.std.proofs.lemmas.List.{get_or_past}
+use Rattle.std.proofs.lemmas.Nat.Bits.{bit_at-zero}
 use Rattle.std.proofs.lemmas.Bool.Decides.{nat_tests}
-use Rattle.vp_dots.specs.Dots.{shifted}
+use Rattle.vp_dots.specs.Dots.{bit, shifted}
 use Rattle.vp_dots.specs.Painting.{Painted}
-use Rattle.vp_dots.specs.Words.{word_dot}
+use Rattle.vp_dots.specs.Words.{word_dot, IsReady}
 use Rattle.vp_dots.specs.Places.{placed, words_dot, RowsPainted}
 use Rattle.vp_dots.specs.declared.Op.{Op}
 use Rattle.vp_dots.proofs.Paints.{painted_same, painted_none, painted_then}
@@ -63,3 +65,29 @@ words_placed left top row h words ink t e o x y = rw t (ap (λ b. leb row y && b
   | inl l ↦ rw (lt-ltb (y - row) h l) (shifted_same left (word_dot (get_or words (y - row) 0)) (λ u. ink u (y - row)) x (λ u _. e u (y - row)))
   | inr g ↦ rw (le-ltb (y - row) h g) (sym (shifted_none left (λ u. ink u (y - row)) x (λ u. false_from_ne_true (ink u (y - row)) (λ t. absurd (let k = o u (y - row) t in omega arith)))))
 ]))
+
+white_word : (x : ℕ) → word_dot 0 x ≡ false
+unfolding bit
+white_word x = elim (cases_lt x 64) [
+  | inl l ↦ rw (lt-ltb x 64 l) (ap (λ b. eqb b 1) (bit_at-zero (63 - x)))
+  | inr g ↦ rw (le-ltb x 64 g) refl
+]
+
+-- words that stand ready as the lines of ink
+pub ready_placed : (left top : ℤ) (row high above : ℕ) (words : List ℕ) (ink : ℕ → ℕ → Bool) → top ≡ pos row → IsReady high above words ink
+    → (x y : ℕ) → words_dot words left (row + above) (length words) x y ≡ placed left top ink x y
+ready_placed left top row high above words ink t is x y = rw t (elim (cases_lt y (row + above)) [
+  | inl l ↦ rw (lt-leb (row + above) y l) (elim (cases_lt y row) [
+    | inl m ↦ rw (lt-leb row y m) refl
+    | inr g ↦ rw (le-leb row y g) (sym (shifted_none left (λ u. ink u (y - row)) x (λ u. sym (is.dots_are u (y - row)) ∙ rw (lt-leb above (y - row) (omega arith)) refl)))
+  ])
+  | inr g ↦
+      let from : y - row - above ≡ y - (row + above) = omega arith in
+      let line : (u : ℕ) → word_dot (get_or words (y - (row + above)) 0) u ≡ ink u (y - row) = λ u.
+          rw (from, le-leb above (y - row) (omega arith)) at (is.dots_are u (y - row)) in
+      rw (le-leb (row + above) y g, le-leb row y (omega arith)) (elim (cases_lt (y - (row + above)) (length words)) [
+        | inl m ↦ rw (lt-ltb (y - (row + above)) (length words) m) (shifted_same left (word_dot (get_or words (y - (row + above)) 0)) (λ u. ink u (y - row)) x (λ u _. line u))
+        | inr m ↦ rw (le-ltb (y - (row + above)) (length words) m) (sym (shifted_none left (λ u. ink u (y - row)) x
+            (λ u. sym (line u) ∙ ap (λ w. word_dot w u) (get_or_past words (y - (row + above)) 0 m) ∙ white_word u)))
+      ])
+])

@@ -138,3 +138,11 @@ few_bytes word n at d fits small few = elim (cases_lt (d / 8) (at / 8 + n)) [
   | inl l ↦ rw (lt-ltb (d / 8) (at / 8 + n) l) (front word at d fits (omega arith))
   | inr g ↦ rw (le-ltb (d / 8) (at / 8 + n) g, few (d - at) (omega arith)) (sym (and_false (leb at d)))
 ]
+
+-- a word of few dots, in eight bytes
+pub narrow_bytes : (word at d : ℕ) → word < 2 ^ 64 → ((x : ℕ) → 56 < x → word_dot word x ≡ false)
+    → (leb (8 * (at / 8)) d && word_dot (word / 2 ^ (at % 8)) (d - 8 * (at / 8))) ≡ (leb at d && word_dot word (d - at))
+narrow_bytes word at d fits few = elim (cases_lt (d / 8) (at / 8 + 8)) [
+  | inl l ↦ front word at d fits l
+  | inr g ↦ rw (le-ltb (d - 8 * (at / 8)) 64 (omega arith), few (d - at) (omega arith)) (and_false (leb (8 * (at / 8)) d) ∙ sym (and_false (leb at d)))
+]

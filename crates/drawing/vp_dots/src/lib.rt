@@ -17,10 +17,10 @@
 //! - `fault`: why a stream is refused.
 #![tactic(auto)]
 
-ghost use Rattle.std.specs.Prelude.{◌≡◌, ℕ, ◌-◌, ◌<◌, Bool, true, slice_index};
+ghost use Rattle.std.specs.Prelude.{◌≡◌, ℕ, ◌-◌, ◌<◌, Bool, true, slice_index, MatchOption};
 ghost use Rattle.vp_dots.specs.Dots.{shifted};
 ghost use Rattle.vp_dots.specs.Painting.{Painted};
-ghost use Rattle.vp_dots.specs.Words.{word_dot};
+ghost use Rattle.vp_dots.specs.Words.{word_dot, IsReady};
 
 mod band;
 mod block;
@@ -45,7 +45,7 @@ pub use place::paint_at;
 pub use single::{dot_of, paint_bits, paint_dot};
 pub use span::{fill_dots, fill_moved};
 pub use store::{Full, Store};
-pub use word::{first_dots, paint_few, paint_word, word_at, word_of};
+pub use word::{NARROW, first_dots, paint_few, paint_narrow, paint_word, word_at, word_of};
 
 /// The most lines of ink that is painted by words at once: as many as a character of a receipt has.
 pub const WORDS: usize = 24;
@@ -56,6 +56,14 @@ pub enum Op {
     Black,
     White,
     Flip,
+}
+
+/// Lines that stand ready as words, from the first on that has ink to the last.
+#[derive(Clone, Copy)]
+pub struct Ready<'a> {
+    /// How many lines stand above them.
+    pub above: usize,
+    pub words: &'a [u64],
 }
 
 /// Something that can be painted: dots of ink in a box.
@@ -94,6 +102,14 @@ pub trait Ink {
         ensures { result ≡ true → (x y : ℕ) → word_dot (slice_index _words.new y) x ≡ ink_at self.now x y }
     {
         false
+    }
+
+    /// The lines, where the ink is no wider than a word and keeps them as words.
+    fn ready(&self) -> Option<Ready<'_>>
+        ensures { MatchOption result (Unit {0}) (λ ready.
+            IsReady (height self.now) ready.above ready.words.now (ink_at self.now)) }
+    {
+        None
     }
 
     /// Whether line y is known to have the ink of the line above it, so that

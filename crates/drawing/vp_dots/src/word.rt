@@ -1,7 +1,8 @@
 //! Words of 64 dots, the leftmost in the highest bit: cut out of rows of bytes, and painted on them.
 ghost use Rattle.std.specs.Prelude.{◌≡◌, ℕ, ◌+◌, ◌-◌, ◌*◌, ◌/◌, ◌<◌, ◌≤◌, ◌^◌, nat_lt, nat_le, ◌&&◌, false, length};
 ghost use Rattle.vp_dots.specs.Dots.{bit, dot, shifted};
-ghost use Rattle.vp_dots.specs.Painting.{Painted};
+ghost use Rattle.vp_dots.specs.Painting.{paint, Painted};
+ghost use Rattle.vp_dots.specs.declared.word.TheConstants.{NARROW};
 ghost use Rattle.vp_dots.specs.Words.{word_dot};
 
 use crate::Op;
@@ -10,20 +11,32 @@ use crate::single::painted_byte;
 use crate::span::paint_masked;
 use std::simd::u8x8;
 
+/// Eight bytes have room for a row of so many dots wherever it begins.
+pub const NARROW: u32 = 57;
+
+/// The word with the operation applied where the ink is black.
+#[inline(always)]
+fn painted_word(op: Op, word: u64, ink: u64) -> u64
+    ensures { (k : ℕ) → k < 64 → bit result k ≡ paint op (bit ink k) (bit word k) }
+{
+    match op {
+        Op::Black => word | ink,
+        Op::White => word & !ink,
+        Op::Flip => word ^ ink,
+    }
+}
+
 /// Applies the operation to eight bytes of the row, from byte i on, where the word is black.
+// The compiler joins the eight bytes that are written to one word.
 #[inline(always)]
 fn paint_eight(op: Op, word: u64, i: usize, row: &mut [u8])
     requires { i + 8 ≤ length row.old }
     ensures { Painted op (λ d. nat_le (8 * i) d && word_dot word (d - 8 * i)) row.old row.new }
 {
-    let ink = u8x8::from_array(word.to_be_bytes());
-    let old = u8x8::from_slice(&row[i..]);
-    let new = match op {
-        Op::Black => old | ink,
-        Op::White => old & !ink,
-        Op::Flip => old ^ ink,
-    };
-    new.copy_to_slice(&mut row[i..]);
+    let new = painted_word(op, eight_at(row, i), word);
+    for j in 0..8usize {
+        row[i + j] = (new >> (56 - 8 * j) & 255) as u8;
+    }
 }
 
 /// The dots that a word loses when it moves s dots to the right.
@@ -84,6 +97,22 @@ pub fn paint_few<const N: usize>(op: Op, word: u64, at: usize, row: &mut [u8])
     let i = at / 8;
     if i + N <= row.len() {
         paint_bytes::<N>(op, word >> (at % 8), i, row);
+    } else {
+        paint_into(op, &word.to_be_bytes(), at as i64, row);
+    }
+}
+
+/// Applies the operation to the dots d of the row where dot d - at of the word is black: of a word of so few
+/// dots that eight bytes have room for them wherever the first one falls.
+#[inline(always)]
+pub fn paint_narrow(op: Op, word: u64, at: usize, row: &mut [u8])
+    requires narrow { (x : ℕ) → NARROW ≤ x → word_dot word x ≡ false }
+    requires at { at < 2 ^ 63 }
+    ensures { Painted op (λ d. nat_le at d && word_dot word (d - at)) row.old row.new }
+{
+    let i = at / 8;
+    if i + 8 <= row.len() {
+        paint_eight(op, word >> (at % 8), i, row);
     } else {
         paint_into(op, &word.to_be_bytes(), at as i64, row);
     }

@@ -1,12 +1,14 @@
 -- The rows of cells as words.
-use Rattle.std.proofs.Common.{◌≡◌, ℕ, ◌+◌, ◌*◌, ◌/◌, ◌%◌, ◌<◌, ◌≤◌, Bool, true, false, ltb, ◌&&◌, refl, sym, ap, ◌∙◌, arith, List, get_or, take, drop, inl, inr}
+use Rattle.std.proofs.Common.{◌≡◌, ℕ, ◌+◌, ◌-◌, ◌*◌, ◌/◌, ◌%◌, ◌<◌, ◌≤◌, Bool, true, false, ltb, leb, ◌&&◌, refl, sym, ap, ◌∙◌, arith, List, get_or, take, drop, inl, inr}
 use Rattle.std.proofs.lemmas.Nat.{div-mul-add, mul-add-lt}
 use Rattle.std.proofs.Math.Nat.{mul-add-mod_self_right, mod-eq_of_lt}
 use Rattle.std.proofs.lemmas.List.{get_or-take, get_or-drop, get_or_past, length-take}
-use Rattle.std.proofs.lemmas.Bool.{cases_lt, le-ltb, lt-ltb}
+use Rattle.std.proofs.lemmas.Bool.{and_parts, cases_lt, le-leb, le-ltb, lt-leb, lt-ltb, ltb-true}
 use Rattle.vp_dots.specs.Dots.{dot}
-use Rattle.vp_dots.specs.Words.{word_dot}
+use Rattle.vp_dots.specs.Words.{word_dot, IsReady}
 use Rattle.vp_glyph.specs.Sheets.{Glyphs, IsCut, raster_dot, glyph_dot}
+use Rattle.vp_glyph.specs.Inked.{IsInked}
+use Rattle.vp_glyph.specs.declared.sheet.Inked.{Inked}
 use Rattle.vp_glyph.proofs.Looks.{white_dot}
 
 -- no dot of a part of no dots
@@ -47,3 +49,33 @@ rows_are sheet rows c x y first n cut l f m = elim (cases_lt y sheet.high) [
     nowhere : (a b : Bool) → (a && false && b) ≡ false
     nowhere true b = refl
     nowhere false b = refl
+
+-- the rows of a cell from the first on that has ink to the last
+pub inked_dot : (rows : List ℕ) (inked : Inked) (x y : ℕ) → IsInked rows inked
+    → (leb inked.first y && word_dot (get_or (take (inked.below - inked.first) (drop inked.first rows)) (y - inked.first) 0) x) ≡ word_dot (get_or rows y 0) x
+inked_dot rows inked x y is = elim (cases_lt y inked.first) [
+  | inl l ↦ rw (lt-leb inked.first y l, is.white y (rw (lt-leb inked.first y l) refl)) (sym (white_dot x))
+  | inr g ↦ rw (le-leb inked.first y g) (ap (λ w. word_dot w x) (elim (cases_lt y inked.below) [
+    | inl l ↦ (let place : inked.first + (y - inked.first) ≡ y = omega arith in
+        get_or-take (inked.below - inked.first) (drop inked.first rows) (y - inked.first) 0 (omega arith) ∙ get_or-drop inked.first rows (y - inked.first) 0 ∙ ap (λ i. get_or rows i 0) place)
+    | inr m ↦ get_or_past (take (inked.below - inked.first) (drop inked.first rows)) (y - inked.first) 0 (omega (arith, length-take (inked.below - inked.first) (drop inked.first rows)))
+        ∙ sym (is.white y (rw (le-leb inked.first y g, le-ltb y inked.below m) refl))
+  ]))
+]
+
+-- no dot stands outside a cell
+pub glyph_inside : (sheet : Glyphs) (c x y : ℕ) → glyph_dot sheet c x y ≡ true → (x < sheet.wide) × (y < sheet.high)
+unfolding glyph_dot
+glyph_inside sheet c x y e =
+    let p = and_parts _ _ e in
+    let q = and_parts _ _ p.0 in
+    (ltb-true x sheet.wide q.0, ltb-true y sheet.high q.1)
+
+-- what stands ready of a cell
+pub ready_of : (sheet : Glyphs) (rows : List ℕ) (c w h first n : ℕ) (inked : Inked) → IsCut sheet rows → c < 256 → first ≡ sheet.high * c → n ≡ sheet.high → sheet.wide ≤ w → sheet.high ≤ h
+    → IsInked (take n (drop first rows)) inked
+    → IsReady h inked.first (take (inked.below - inked.first) (drop inked.first (take n (drop first rows)))) (glyph_dot sheet c) × ((x y : ℕ) → glyph_dot sheet c x y ≡ true → (x < w) × (y < h))
+ready_of sheet rows c w h first n inked cut l f m wide high is = (record {
+  inside = omega (arith, m, is.order, is.inside, length-take n (drop first rows), length-take (inked.below - inked.first) (drop inked.first (take n (drop first rows))));
+  dots_are = λ x y. inked_dot (take n (drop first rows)) inked x y is ∙ rows_are sheet rows c x y first n cut l f m;
+}, λ x y e. (let p = glyph_inside sheet c x y e in (omega (arith, p.0), omega (arith, p.1))))

@@ -1,9 +1,10 @@
 -- Rows of characters that aren't magnified.
-use Rattle.std.proofs.Common.{inl, inr, ◌≡◌, ℕ, ◌+◌, ◌-◌, ◌*◌, ◌/◌, ◌<◌, ◌≤◌, Bool, true, false, not, cond, ltb, ◌&&◌, ◌||◌, refl, sym, ap, ◌∙◌, arith, get_or, replicate}
+use Rattle.std.proofs.Common.{inl, inr, ◌≡◌, ℕ, ◌+◌, ◌-◌, ◌*◌, ◌/◌, ◌<◌, ◌≤◌, Bool, true, false, not, cond, ltb, ◌&&◌, ◌||◌, refl, sym, ap, ◌∙◌, arith, List, length, get_or, replicate}
 use Rattle.std.proofs.lemmas.List.{get_or-replicate, get_or_past, length-replicate}
-use Rattle.std.proofs.lemmas.Bool.{cases_lt, lt-ltb, le-ltb, lt-leb, le-leb}
-use Rattle.vp_dots.specs.Words.{word_dot}
-use Rattle.vp_glyph.specs.Cells.{font_width, font_height, font_dot, bold_dot, cell_width, underlined, cell_dot}
+use Rattle.std.proofs.lemmas.Bool.{cases_lt, false_from_ne_true, lt-ltb, le-ltb, lt-leb, le-leb}
+use Rattle.std.specs.Prelude.{Option, None, Some, MatchOption}
+use Rattle.vp_dots.specs.Words.{word_dot, IsReady}
+use Rattle.vp_glyph.specs.Cells.{font_width, font_height, font_dot, bold_dot, cell_width, cell_height, underlined, cell_dot}
 use Rattle.vp_glyph.specs.declared.cell.Font.{Font}
 use Rattle.vp_glyph.specs.declared.cell.Style.{Style}
 use Rattle.vp_glyph.specs.declared.Sheets.{Sheets}
@@ -87,3 +88,49 @@ words_none f k x = ap (λ w. word_dot w x) (elim (cases_lt k 24) as (λ _. get_o
   | inl l ↦ get_or-replicate 24 k 0 0 l
   | inr g ↦ get_or_past (replicate {A = ℕ} 24 0) k 0 (omega (arith, length-replicate {A = ℕ} 24 0))
 ]) ∙ white_dot x ∙ rw (le-ltb k 0 (omega arith)) refl
+
+-- a character that is printed just as it stands in its sheet
+pub ready_cell : (sheets : Sheets) (font : Font) (style : Style) (c : ℕ) → (style.wm ≡ 1) × (style.hm ≡ 1) × (style.bold ≡ false) × (style.underline ≡ 0) × (style.inverse ≡ false)
+    → ((x y : ℕ) → font_dot sheets c font x y ≡ true → (x < font_width font) × (y < font_height font))
+    → (x y : ℕ) → font_dot sheets c font x y ≡ cell_dot sheets font style c x y
+unfolding cell_dot
+ready_cell sheets font style c (w, h, b, u, i) inside x y =
+    let across : x / 1 ≡ x = omega arith in
+    let down : y / 1 ≡ y = omega arith in
+    let wide : (font_width font + style.spacing) * 1 ≡ font_width font + style.spacing = omega arith in
+    let high : font_height font * 1 ≡ font_height font = omega arith in
+    let low : font_height font - 0 ≡ font_height font = omega arith in
+    rw (w, h, b, u, i, across, down, wide, high, low) (elim (cases_lt x (font_width font)) [
+      | inl l ↦ elim (cases_lt y (font_height font)) [
+        | inl m ↦ rw (lt-ltb x (font_width font) l, lt-ltb x (font_width font + style.spacing) (omega arith), lt-ltb y (font_height font) m, lt-leb (font_height font) y m) (plain (font_dot sheets c font x y))
+        | inr g ↦ rw (le-ltb y (font_height font) g, outside (λ e. absurd (omega (arith, (inside x y e).1)))) (sym (below _ _))
+      ]
+      | inr g ↦ rw (le-ltb x (font_width font) g, outside (λ e. absurd (omega (arith, (inside x y e).0)))) (elim (cases_lt y (font_height font)) [
+        | inl m ↦ rw (lt-leb (font_height font) y m) (sym (and_false _))
+        | inr n ↦ rw (le-ltb y (font_height font) n) (sym (below _ _))
+      ])
+    ])
+  where
+    outside : (font_dot sheets c font x y ≡ true → ⊥) → font_dot sheets c font x y ≡ false
+    outside n = false_from_ne_true (font_dot sheets c font x y) n
+
+    plain : (a : Bool) → a ≡ (a || false || false)
+    plain true = refl
+    plain false = refl
+
+    below : (a b : Bool) → (a && false && b) ≡ false
+    below true b = refl
+    below false b = refl
+
+pub map_ready : {X : Type 0} (r : Option X) (P Q : X → Type 0) → ((v : X) → P v → Q v) → MatchOption r (Unit {0}) P → MatchOption r (Unit {0}) Q
+map_ready None P Q f m = m
+map_ready (Some v) P Q f m = f v m
+
+pub ready_printed : (sheets : Sheets) (font : Font) (style : Style) (c above : ℕ) (words : List ℕ) (dots : ℕ → ℕ → Bool)
+    → (style.wm ≡ 1) × (style.hm ≡ 1) × (style.bold ≡ false) × (style.underline ≡ 0) × (style.inverse ≡ false) → ((x y : ℕ) → dots x y ≡ font_dot sheets c font x y)
+    → IsReady (font_height font) above words dots × ((x y : ℕ) → dots x y ≡ true → (x < font_width font) × (y < font_height font))
+    → IsReady (cell_height font style) above words (λ x y. cell_dot sheets font style c x y)
+ready_printed sheets font style c above words dots plain same p = record {
+  inside = (let high : font_height font * style.hm ≡ font_height font = ap (λ n. font_height font * n) plain.1 ∙ omega arith in rw high p.0.inside);
+  dots_are = λ x y. p.0.dots_are x y ∙ same x y ∙ ready_cell sheets font style c plain (λ u v e. p.1 u v (same u v ∙ e)) x y;
+}

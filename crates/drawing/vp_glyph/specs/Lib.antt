@@ -5,3 +5,4 @@ pub mod Reading
 pub mod Cells
 pub mod Texts
 pub mod Blocks
+pub mod Inked

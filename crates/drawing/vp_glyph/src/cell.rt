@@ -8,8 +8,8 @@ ghost use Rattle.vp_glyph.specs.Cells.{font_width, font_height, font_dot, bold_d
 
 use crate::Sheets;
 use crate::look::{emphasized, inverted, nine_of, paint_scaled, shared};
-use crate::sheet::{dot_in, row_at, rows_in};
-use vp_dots::{Ink, Op, WORDS, fill_moved, first_dots, paint_word};
+use crate::sheet::{dot_in, ready_in, row_at, rows_in};
+use vp_dots::{Ink, Op, Ready, WORDS, fill_moved, first_dots, paint_word};
 
 /// The two fonts of a receipt printer.
 #[derive(Clone, Copy, Debug, PartialEq, Eq)]
@@ -57,6 +57,16 @@ pub struct Style {
     pub underline: u8,
     /// Black and white are exchanged, also those of the spacing; there is no underline then.
     pub inverse: bool,
+}
+
+impl Style {
+    /// Whether a character is printed just as it stands in its sheet.
+    fn is_plain(self) -> bool
+        ensures { result ≡ true → (self.wm ≡ 1) × (self.hm ≡ 1) × (self.bold ≡ false)
+            × (self.underline ≡ 0) × (self.inverse ≡ false) }
+    {
+        self.wm == 1 && self.hm == 1 && !self.bold && self.underline == 0 && !self.inverse
+    }
 }
 
 /// A character of a font in a style.
@@ -292,6 +302,18 @@ impl Ink for Cell<'_> {
             words[y as usize] = printed_row(row_at(rows, y as usize), font, style, y);
         }
         true
+    }
+
+    fn ready(&self) -> Option<Ready<'_>> {
+        if !self.style.is_plain() {
+            return None;
+        }
+        let (width, height) = (self.font.width(), self.font.height());
+        match (self.font, &self.sheets.b) {
+            (Font::B, Some(b)) => b.ready(self.character, width, height),
+            (Font::B, None) => None,
+            (Font::A, _) => ready_in(&self.sheets.a, self.character, width, height),
+        }
     }
 
     fn paint_row(&self, y: u32, op: Op, at: i64, row: &mut [u8]) {

@@ -1,6 +1,7 @@
 //! A glyph sheet: an image of 16 by 16 cells.
-ghost use Rattle.std.specs.Prelude.{◌≡◌, ℕ, ◌<◌, ◌+◌, ◌≤◌, ◌*◌, ◌⊎◌, length, slice_index, IfOk, Ok, Err, IsOk, MatchResult, alloc_error};
-ghost use Rattle.vp_dots.specs.Words.{word_dot};
+ghost use Rattle.std.specs.Prelude.{◌≡◌, ℕ, ◌<◌, ◌+◌, ◌≤◌, ◌*◌, ◌⊎◌, length, slice_index, IfOk, Ok, Err, IsOk, MatchResult, MatchOption, true, alloc_error};
+ghost use Rattle.vp_dots.specs.Words.{word_dot, IsReady};
+ghost use Rattle.vp_glyph.specs.Inked.{IsInked, AreInked};
 ghost use Rattle.vp_glyph.specs.Sheets.{IsCut, glyph_dot, sheet_dot};
 ghost use Rattle.vp_glyph.specs.Reading.{sheet_of, number_of};
 
@@ -9,7 +10,7 @@ use crate::look::shared;
 use std::alloc::{AllocError, Global};
 use std::marker::Model;
 use thiserror::Error;
-use vp_dots::{dot_of, first_dots, word_at};
+use vp_dots::{Ready, dot_of, first_dots, word_at};
 
 /// Why a text is no sheet, in the order in which it is looked at.
 #[derive(Debug, Drop, PartialEq, Eq, Error)]
@@ -54,11 +55,22 @@ pub struct Sheet {
     raster: Vec<u8>,
     /// The rows of the cells as words, those of cell 0 first.
     rows: Vec<u64>,
+    /// Which rows of each cell have ink.
+    inked: Vec<Inked>,
+}
+
+/// The rows of a cell from the first on that has ink to the last.
+#[derive(Clone, Copy)]
+struct Inked {
+    first: usize,
+    /// The row below the last.
+    below: usize,
 }
 
 impl Model for Sheet {
     ghost use Rattle.std.specs.Prelude.{ℕ, ◌≡◌, ◌*◌, ◌≤◌, length};
     ghost use Rattle.vp_glyph.specs.Sheets.{Glyphs, IsCut};
+    ghost use Rattle.vp_glyph.specs.Inked.{AreInked};
 
     ghost Value = { Glyphs };
 
@@ -69,6 +81,7 @@ impl Model for Sheet {
       high : s.high ≤ 64;
       whole : length s.raster.items ≡ 32 * s.wide * s.high;
       cut : IsCut (record { wide = s.wide; high = s.high; raster = s.raster.items }) s.rows.items;
+      inked : AreInked s.high s.rows.items s.inked.items;
     } };
 }
 
@@ -99,12 +112,14 @@ impl Sheet {
         ensures { IfOk result (λ sheet. sheet ≡ record { wide = w; high = h; raster = raster.now }) }
     {
         let rows = cut(alloc, raster, w, h)?;
+        let inked = inked_cells(alloc, &rows, h as usize)?;
         let raster = Vec::from_slice(alloc, raster)?;
         Ok(Sheet {
             wide: w,
             high: h,
             raster,
             rows,
+            inked,
         })
     }
 
@@ -131,6 +146,54 @@ impl Sheet {
         let first = high * usize::from(c);
         &self.rows[first..first + high]
     }
+
+    /// The lines of cell c, unless cells are larger than so many dots.
+    pub(crate) fn ready(&self, c: u8, w: u32, h: u32) -> Option<Ready<'_>>
+        ensures { MatchOption result (Unit {0}) (λ ready.
+            IsReady h ready.above ready.words.now (glyph_dot self.now c)
+            × ((x y : ℕ) → glyph_dot self.now c x y ≡ true → (x < w) × (y < h))) }
+    {
+        if self.wide > w || self.high > h {
+            return None;
+        }
+        let high = self.high as usize;
+        let top = high * usize::from(c);
+        let rows = &self.rows[top..top + high];
+        let Inked { first, below } = self.inked[usize::from(c)];
+        Some(Ready {
+            above: first,
+            words: &rows[first..below],
+        })
+    }
+}
+
+/// Which rows have ink.
+fn inked_rows(rows: &[u64]) -> Inked
+    ensures { IsInked rows.now result }
+{
+    let mut first = 0;
+    while first < rows.len() && rows[first] == 0 {
+        first += 1;
+    }
+    let mut below = rows.len();
+    while below > first && rows[below - 1] == 0 {
+        below -= 1;
+    }
+    Inked { first, below }
+}
+
+/// Which rows of each cell have ink, of cells so high.
+fn inked_cells(alloc: Global, rows: &[u64], high: usize) -> Result<Vec<Inked>, AllocError>
+    requires high { high ≤ 64 }
+    requires whole { length rows.now ≡ 256 * high }
+    ensures { IfOk result (λ inked. AreInked high rows.now inked.items) }
+{
+    let none = Inked { first: 0, below: 0 };
+    let mut cells = vec![in alloc; none; 256]?;
+    for c in 0..256usize {
+        cells[c] = inked_rows(&rows[high * c..high * c + high]);
+    }
+    Ok(cells)
 }
 
 /// A row of a cell of a raster, white past the cell.
@@ -193,6 +256,14 @@ pub fn dot_in(sheet: &Option<Sheet>, c: u8, x: u32, y: u32) -> bool
         Some(sheet) => sheet.dot(c, x, y),
         None => false,
     }
+}
+
+/// The lines of a cell of a sheet, unless cells are larger than so many dots, or there is no sheet.
+pub fn ready_in(sheet: &Option<Sheet>, c: u8, w: u32, h: u32) -> Option<Ready<'_>>
+    ensures { MatchOption result (Unit {0}) (λ ready. IsReady h ready.above ready.words.now (sheet_dot sheet.now c)
+        × ((x y : ℕ) → sheet_dot sheet.now c x y ≡ true → (x < w) × (y < h))) }
+{
+    sheet.as_ref()?.ready(c, w, h)
 }
 
 /// The rows of a cell of a sheet, none without a sheet.
