@@ -4,21 +4,17 @@ ghost use Rattle.vp_dots.specs.Dots.{dot};
 ghost use Rattle.vp_dots.specs.Words.{word_dot};
 ghost use Rattle.vp_dots.specs.Places.{placed, words_dot, RowsPainted};
 ghost use Rattle.vp_dots.specs.declared.Op.TheVariants.{Black};
-ghost use Rattle.vp_dots.specs.declared.TheConstants.{WORDS};
 ghost use Rattle.vp_page.specs.declared.line.TheConstants.{LINE_BYTES, LINE_DOTS};
 ghost use Rattle.vp_receipt_settings.specs.declared.text.TheConstants.{LINE_ROWS};
-ghost use Rattle.vp_strips.specs.declared.paint.TheConstants.{NARROW};
+ghost use Rattle.vp_dots.specs.declared.word.TheConstants.{NARROW};
 ghost use Rattle.vp_receipt_settings.specs.History.{Placed};
 ghost use Rattle.vp_strips.specs.LineDots.{HasDots, ink_placed};
 
 use std::alloc::{AllocError, Global};
 use std::marker::Model;
-use vp_dots::{Band, Ink, Op, WORDS, paint_at, paint_few};
+use vp_dots::{Band, Ink, NARROW, Op, Ready, WORDS, paint_at, paint_narrow};
 use vp_page::LINE_BYTES;
 use vp_receipt_settings::LINE_ROWS;
-
-/// Three bytes have room for a row of so many dots wherever it begins.
-const NARROW: u32 = 17;
 
 /// The rows of a line, as long as the longest one of a page, of which the lowest are in use.
 #[derive(Drop)]
@@ -40,35 +36,42 @@ impl Model for Bitmap {
 }
 
 /// Paints so many words of few dots, one on each row from `top` on.
-fn paint_narrow(
-    words: &[u64; WORDS],
+#[inline(always)]
+fn paint_words(
+    words: &[u64],
     high: usize,
     at: usize,
     top: usize,
     band: &mut Band<LINE_BYTES, LINE_ROWS>,
 )
-    requires few { high ≤ WORDS }
+    requires few { high ≤ length words.now }
     requires room { top + high ≤ LINE_ROWS }
     requires at { at < 2 ^ 63 }
     requires narrow { (x y : ℕ) → NARROW ≤ x → word_dot (slice_index words.now y) x ≡ false }
     ensures { RowsPainted LINE_ROWS Black (words_dot words.now (pos at) top high) band.old band.new }
 {
     for y in 0..high {
-        paint_few::<3>(Op::Black, words[y], at, band.row_mut(top + y));
+        paint_narrow(Op::Black, words[y], at, band.row_mut(top + y));
     }
 }
 
-/// Paints ink at a place: by its words where they are of few dots, as those of a plain character.
+/// Paints ink at a place: by its words where they are of few dots, as those of a character.
 fn paint_ink<I: Ink>(ink: &I, left: i64, top: i64, band: &mut Band<LINE_BYTES, LINE_ROWS>)
     ensures { RowsPainted LINE_ROWS Black (placed left top (I.ink_at ink.now)) band.old band.new }
 {
     let (wide, high) = ink.size();
     let high = high as usize;
-    let mut words = [0; WORDS];
     if let (Ok(at), Ok(row)) = (usize::try_from(left), usize::try_from(top)) {
-        if wide <= NARROW && high <= WORDS && row <= LINE_ROWS - high && ink.words(&mut words) {
-            paint_narrow(&words, high, at, row, band);
-            return;
+        if wide <= NARROW && high <= LINE_ROWS && row <= LINE_ROWS - high {
+            if let Some(Ready { above, words }) = ink.ready() {
+                paint_words(words, words.len(), at, row + above, band);
+                return;
+            }
+            let mut words = [0; WORDS];
+            if high <= WORDS && ink.words(&mut words) {
+                paint_words(&words, high, at, row, band);
+                return;
+            }
         }
     }
     paint_at(ink, Op::Black, left, top, band);

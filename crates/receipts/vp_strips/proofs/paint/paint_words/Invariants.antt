@@ -3,7 +3,7 @@ use Rattle.vp_dots.specs.Dots.{shifted}
 use Rattle.vp_dots.specs.Words.{word_dot}
 use Rattle.vp_dots.specs.Places.{RowsPainted}
 use Rattle.vp_dots.specs.declared.Op.TheVariants.{Black}
-use Rattle.vp_strips.proofs.paint.paint_narrow.Given as goal
+use Rattle.vp_strips.proofs.paint.paint_words.Given as goal
 
 -- the rows above top + y are done
 abbrev pub invariant-loop-y : goal.invariant-loop-y
