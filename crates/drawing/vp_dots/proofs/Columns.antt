@@ -1,12 +1,12 @@
 -- Blocks of eight by eight dots, and eight lines laid as eight columns.
-use Rattle.std.proofs.Common.{inl, inr, zero, suc, ◌≡◌, ℕ, ◌+◌, ◌-◌, ◌*◌, ◌/◌, ◌%◌, ◌^◌, ◌<◌, ◌≤◌, Bool, true, false, eqb, ltb, leb, ◌&&◌, ◌||◌, refl, sym, ap, ◌∙◌, arith, List, [], ◌∷◌, get_or, bit_and}
+use Rattle.std.proofs.Common.{inl, inr, zero, suc, ◌≡◌, ℕ, ◌+◌, ◌-◌, ◌*◌, ◌/◌, ◌%◌, ◌^◌, ◌<◌, ◌≤◌, Bool, true, false, eqb, ltb, leb, ◌&&◌, ◌||◌, refl, sym, ap, ◌∙◌, arith, eq-eqb, List, [], ◌∷◌, get_or, bit_and}
 use Rattle.std.proofs.lemmas.Nat.Bits.{bit_at-zero}
-use Rattle.std.proofs.lemmas.Bool.{cases_lt, lt-ltb, le-ltb, lt-leb, le-leb}
+use Rattle.std.proofs.lemmas.Bool.{cases_eq, cases_lt, ne_eqb, lt-ltb, le-ltb, lt-leb, le-leb}
 use Rattle.vp_dots.specs.Dots.{bit, dot}
 use Rattle.vp_dots.proofs.Spans.{bit_of_and, bit_of_all}
 use Rattle.vp_dots.specs.Words.{word_dot}
 use Rattle.vp_dots.specs.Blocks.{block_dot, columns_dot}
-use Rattle.vp_dots.proofs.Words.{bit_shl, and_true, and_false, or_false}
+use Rattle.vp_dots.proofs.Words.{bit_shl, byte_bit, and_true, and_false, or_false}
 use Rattle.vp_dots.proofs.Cuts.{bit_low64}
 
 eight_of : (f : ℕ → ℕ) (x : ℕ) → x < 8 → get_or (f 0 ∷ f 1 ∷ f 2 ∷ f 3 ∷ f 4 ∷ f 5 ∷ f 6 ∷ f 7 ∷ []) x 0 ≡ f x
@@ -74,6 +74,35 @@ block_rows left x top skip rows k b few h = elim (cases_lt k top) [
     nowhere : (c d : Bool) → false ≡ (c && (d && false))
     nowhere true d = sym (and_false d)
     nowhere false d = refl
+
+-- one row of a block, on one byte
+pub block_byte : (block column top i x : ℕ) → i < 8
+    → (eqb (x / 8) column && bit (bit_and (block / 2 ^ (56 - 8 * i)) 255) (7 - x % 8)) ≡ block_dot block 0 (8 * column) top x (top + i)
+block_byte block column top i x h =
+    let e : top + i - top + 0 ≡ i = omega arith in
+    rw (le-leb top (top + i) (omega arith), e, lt-ltb i 8 h) (elim (cases_eq (x / 8) column) [
+      | inl y ↦
+          let place : 8 * (0 + i) + (7 - (7 - x % 8)) - 8 * 0 ≡ 8 * i + (x - 8 * column) = omega (arith, y) in
+          rw (eq-eqb (x / 8) column y, le-leb (8 * column) x (omega (arith, y)), lt-ltb (x - 8 * column) 8 (omega (arith, y)))
+          (byte_bit block 0 i (7 - x % 8) h (omega arith) ∙ rw (le-leb (8 * 0) (8 * (0 + i) + (7 - (7 - x % 8))) (omega arith), place) refl)
+      | inr n ↦ rw (ne_eqb (x / 8) column n) (elim (cases_lt x (8 * column)) [
+        | inl l ↦ rw (lt-leb (8 * column) x l) refl
+        | inr g ↦ rw (le-ltb (x - 8 * column) 8 (let far : 8 ≤ x - 8 * column = (elim (cases_lt (x - 8 * column) 8) [ inl l ↦ absurd (n (omega arith)) | inr m ↦ m ]) in far)) (sym (and_false _))
+      ])
+    ])
+
+-- the rows of a block, after the eighth
+pub block_whole : (block left top x k : ℕ) → (ltb k (top + 8) && block_dot block 0 left top x k) ≡ block_dot block 0 left top x k
+block_whole block left top x k = elim (cases_lt k (top + 8)) [
+  | inl l ↦ rw (lt-ltb k (top + 8) l) refl
+  | inr g ↦ rw (le-ltb k (top + 8) g, le-ltb (k - top + 0) 8 (omega arith)) (nowhere (leb left x) (ltb (x - left) 8) (leb top k))
+]
+  where
+    nowhere : (c d e : Bool) → false ≡ (c && (d && (e && false)))
+    nowhere true true true = refl
+    nowhere true true false = refl
+    nowhere true false e = refl
+    nowhere false d e = refl
 
 module _ (left x : ℕ) (one other : Bool) where
   -- what holds in eight columns

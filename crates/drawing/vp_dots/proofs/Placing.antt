@@ -84,7 +84,7 @@ ready_placed left top row high above words ink t is x y = rw t (elim (cases_lt y
   | inr g ↦
       let from : y - row - above ≡ y - (row + above) = omega arith in
       let line : (u : ℕ) → word_dot (get_or words (y - (row + above)) 0) u ≡ ink u (y - row) = λ u.
-          rw (from, le-leb above (y - row) (omega arith)) at (is.dots_are u (y - row)) in
+      rw (from, le-leb above (y - row) (omega arith)) at (is.dots_are u (y - row)) in
       rw (le-leb (row + above) y g, le-leb row y (omega arith)) (elim (cases_lt (y - (row + above)) (length words)) [
         | inl m ↦ rw (lt-ltb (y - (row + above)) (length words) m) (shifted_same left (word_dot (get_or words (y - (row + above)) 0)) (λ u. ink u (y - row)) x (λ u _. line u))
         | inr m ↦ rw (le-ltb (y - (row + above)) (length words) m) (sym (shifted_none left (λ u. ink u (y - row)) x

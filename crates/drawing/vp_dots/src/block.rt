@@ -5,6 +5,7 @@ ghost use Rattle.vp_dots.specs.Places.{RowsPainted};
 ghost use Rattle.vp_dots.specs.Words.{word_dot};
 ghost use Rattle.vp_dots.specs.Blocks.{swap_place, block_dot, columns_dot, across_dot};
 
+use crate::span::paint_masked;
 use crate::word::{paint_few, word_of};
 use crate::{Band, Op};
 
@@ -90,7 +91,26 @@ fn lay_part<const B: usize, const H: usize>(
     lay_block_rows(op, block, skip, rows, left, top, band);
 }
 
-/// The same. Mostly the band has all eight rows of the block.
+/// Paints the rows of a block, each on one byte, and the first on row `top`.
+// A call for each block leaves the loop over blocks short.
+#[inline(never)]
+fn lay_bytes<const B: usize, const H: usize>(
+    op: Op,
+    block: u64,
+    column: usize,
+    top: usize,
+    band: &mut Band<B, H>,
+)
+    requires inside { top + 8 ≤ H }
+    ensures { RowsPainted H op (block_dot block 0 (8 * column) top) band.old band.new }
+{
+    for i in 0..8usize {
+        let byte = (block >> (56 - 8 * i) & 255) as u8;
+        paint_masked(op, byte, column as u64, band.row_mut(top + i));
+    }
+}
+
+/// The same as `lay_part`. Mostly the band has all eight rows of the block, and often each falls on one byte.
 #[inline(always)]
 fn lay_block<const B: usize, const H: usize>(
     op: Op,
@@ -104,7 +124,11 @@ fn lay_block<const B: usize, const H: usize>(
     ensures { RowsPainted H op (block_dot block skip left top) band.old band.new }
 {
     if skip == 0 && top < H && H - top >= 8 {
-        lay_block_rows(op, block, 0, 8, left, top, band);
+        if left % 8 == 0 {
+            lay_bytes(op, block, left / 8, top, band);
+        } else {
+            lay_block_rows(op, block, 0, 8, left, top, band);
+        }
     } else {
         lay_part(op, block, skip, left, top, band);
     }

@@ -1,4 +1,4 @@
-use Rattle.std.proofs.Common.{◌≡◌, ◌∙◌, ap, arith, w64, to_z, pos, leb, ltb, ◌&&◌, ◌+◌, ◌-◌, ◌*◌, ◌/◌}
+use Rattle.std.proofs.Common.{◌≡◌, ◌∙◌, ap, arith, w64, to_z, pos, leb, ◌&&◌, ◌-◌}
 use Rattle.std.proofs.lemmas.Int.{ints}
 use Rattle.vp_dots.specs.Dots.{dot, shifted}
 use Rattle.vp_dots.proofs.Paints.{painted_same}
