@@ -11,6 +11,7 @@ pub mod Tables
 pub mod Paints
 pub mod Spaces
 pub mod Draws
+pub mod WordBars
 pub mod Halves
 pub mod Modules
 pub mod Bounds

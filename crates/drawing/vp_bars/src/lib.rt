@@ -11,7 +11,7 @@
 //!   receipt, `invocations` and `packing` those of a label.
 //! - `text`: what the values of a symbol show.
 //! - `patterns`: the tables of bars and spaces. `laws` says what holds of them as a whole, and of texts.
-//! - `pen`, `strokes`: the bars of a row, drawn from the left in one pass.
+//! - `pen`, `strokes`: the bars of a row, drawn from the left in one pass, a character at a time.
 //! - `bar_box`: bars and text together.
 #![tactic(auto)]
 

@@ -1,15 +1,17 @@
 //! The bars of a symbol, drawn on a row.
 
-ghost use Rattle.std.specs.Prelude.{◌≡◌, ℕ, ◌+◌, ◌<◌, ◌≤◌, ◌^◌, ◌++◌, Bool, List, length, take, flat_map};
-ghost use Rattle.vp_bars.specs.Widths.{size_of, sized, next_widths, widths_of, bar_widths, width_of, total};
+ghost use Rattle.std.specs.Prelude.{◌≡◌, ℕ, ◌+◌, ◌<◌, ◌≤◌, ◌^◌, ◌++◌, Bool, true, false, List, length, take, flat_map};
+ghost use Rattle.vp_bars.specs.Widths.{size_of, sized, next_widths, widths_of, bar_widths, width_of, total, in_bar};
 ghost use Rattle.vp_bars.specs.Elements.{left_elements, ean13_elements};
 ghost use Rattle.vp_bars.specs.declared.bars.Symbology.TheVariants.{Ean13};
-ghost use Rattle.vp_bars.specs.Drawing.{Draws};
+ghost use Rattle.vp_bars.specs.Drawing.{Draws, turned};
+ghost use Rattle.vp_dots.specs.Dots.{dots, shifted};
+ghost use Rattle.vp_dots.specs.Words.{word_dot};
 
 use crate::bars::Symbology;
 use crate::patterns::{gap_of, left_digit, parity, pattern_of};
 use crate::pen::Pen;
-use vp_dots::Op;
+use vp_dots::{Op, paint_word};
 
 /// The guards of EAN-13, in modules.
 static GUARD: [u8; 3] = [1, 1, 1];
@@ -26,6 +28,13 @@ pub(crate) struct Strokes<'a> {
     pub wide: u16,
 }
 
+/// Whether a row ends before a place.
+fn is_past(place: i64, row: &[u8]) -> bool
+    ensures { result ≡ true → (f : ℕ → Bool) (d : ℕ) → d < dots row.now → shifted place f d ≡ false }
+{
+    place >= 0 && place.unsigned_abs() / 8 >= row.len() as u64
+}
+
 impl Strokes<'_> {
     /// How wide an element is.
     fn size(&self, element: u8) -> u32
@@ -38,8 +47,51 @@ impl Strokes<'_> {
         }
     }
 
-    /// Draws elements, and gives the pen behind them.
-    fn draw(&self, elements: &[u8], pen: Pen, op: Op, at: i64, row: &mut [u8]) -> Pen
+    /// How wide elements are together.
+    fn width(&self, elements: &[u8]) -> u32
+        requires { total (sized self.now.symbology self.now.narrow self.now.wide elements.now) < 2 ^ 32 }
+        ensures { result ≡ total (sized self.now.symbology self.now.narrow self.now.wide elements.now) }
+    {
+        let mut width = 0;
+        for e in elements {
+            width += self.size(*e);
+        }
+        width
+    }
+
+    /// The pen behind elements.
+    fn behind(&self, elements: &[u8], pen: Pen) -> Pen
+        requires { pen.x + total (sized self.now.symbology self.now.narrow self.now.wide elements.now) < 2 ^
+            32 }
+        ensures x { result.x ≡ pen.x + total (sized self.now.symbology self.now.narrow self.now.wide
+            elements.now) }
+        ensures bar { result.bar ≡ turned pen.bar (sized self.now.symbology self.now.narrow self.now.wide
+            elements.now) }
+    {
+        Pen {
+            x: pen.x + self.width(elements),
+            bar: pen.bar != (elements.len() % 2 == 1),
+        }
+    }
+
+    /// The dots of elements as a word.
+    fn word(&self, elements: &[u8], bar: bool) -> u64
+        requires { total (sized self.now.symbology self.now.narrow self.now.wide elements.now) < 64 }
+        ensures { (x : ℕ) → word_dot result x
+            ≡ in_bar bar (sized self.now.symbology self.now.narrow self.now.wide elements.now) x }
+    {
+        let mut word = 0;
+        let mut pen = Pen { x: 0, bar };
+        for e in elements {
+            let width = self.size(*e);
+            word = pen.marked(width, word);
+            pen = pen.moved(width);
+        }
+        word
+    }
+
+    /// Draws elements one by one, and gives the pen behind them.
+    fn draw_each(&self, elements: &[u8], pen: Pen, op: Op, at: i64, row: &mut [u8]) -> Pen
         requires { pen.x + total (sized self.now.symbology self.now.narrow self.now.wide elements.now) < 2 ^
             32 }
         ensures { Draws op at row.old row.new pen result
@@ -50,6 +102,28 @@ impl Strokes<'_> {
             pen = pen.draw(self.size(*e), op, at, row);
         }
         pen
+    }
+
+    /// Draws elements, and gives the pen behind them: at once where a word has room for them, and not at all
+    /// where the row ends before them.
+    fn draw(&self, elements: &[u8], pen: Pen, op: Op, at: i64, row: &mut [u8]) -> Pen
+        requires { pen.x + total (sized self.now.symbology self.now.narrow self.now.wide elements.now) < 2 ^
+            32 }
+        ensures { Draws op at row.old row.new pen result
+            (sized self.now.symbology self.now.narrow self.now.wide elements.now) }
+    {
+        let next = self.behind(elements, pen);
+        let Some(place) = at.checked_add(i64::from(pen.x)) else {
+            return self.draw_each(elements, pen, op, at, row);
+        };
+        if is_past(place, row) {
+            return next;
+        }
+        if next.x - pen.x >= 64 {
+            return self.draw_each(elements, pen, op, at, row);
+        }
+        paint_word(op, self.word(elements, pen.bar), place, row);
+        next
     }
 
     /// Draws characters, each behind another, and gives the pen behind them.

@@ -1,22 +1,18 @@
-use Rattle.std.proofs.Common.{sym, arith, w64}
-use Rattle.std.proofs.lemmas.Int.{to_z-of_z}
-use Rattle.std.proofs.lemmas.List.{take_all}
-use Rattle.vp_bars.specs.Widths.{size_of}
-use Rattle.vp_bars.proofs.Draws.{draws_same, draws_then, map_more, map_room}
+use Rattle.std.proofs.Common.{rules, w64, to_z, of_z}
+use mir.Val.{SFits}
+use Rattle.vp_bars.proofs.Paints.{moved_same}
+use Rattle.vp_bars.proofs.WordBars.{draws_at_once, draws_past, place_sum}
 use Rattle.vp_bars.proofs.strokes.Strokes.draw.Goals as goal
 
-pub draw-pen-requires : goal.draw-pen-requires
-draw-pen-requires c =
-    let room = map_room (size_of c.args.self.now.symbology c.args.self.now.narrow c.args.self.now.wide) c.args.elements.now c.loop-e.e-index c.loop-e-test.true in
-    omega (arith, room, c.size.ensures, c.loop-e.invariant.ends)
-
-pub loop-e-preserved : goal.loop-e-preserved
-loop-e-preserved c =
-    let size = size_of c.args.self.now.symbology c.args.self.now.narrow c.args.self.now.wide in
-    draws_same _ _ _ _ _ _ _ _ (rw c.size.ensures (map_more size c.args.elements.now c.loop-e.e-index c.loop-e-test.true))
-    (draws_then _ _ _ _ _ _ _ _ _ _ c.loop-e.invariant c.draw-pen.ensures)
+pub returns-then-is_past : goal.returns-then-is_past
+returns-then-is_past c =
+    let fits : SFits w64 c.from.result = search rules in
+    let place = place_sum c.args.at c.from.result c.in-Some.place c.args.pen.x c.ranges.at fits c.from.ensures c.in-Some.ensures in
+    draws_past _ _ (to_z w64 (of_z w64 c.in-Some.place)) _ _ _ _ c.behind-next.ensures.x c.behind-next.ensures.bar place (c.is_past.ensures c.if-is_past.true)
 
 pub returns : goal.returns
 returns c =
-    let all = take_all c.loop-e.e-index c.args.elements.now c.loop-e-test.false in
-    rw (sym (to_z-of_z w64 c.args.at c.ranges.at)) (rw all at c.loop-e.invariant)
+    let fits : SFits w64 c.from.result = search rules in
+    let place = place_sum c.args.at c.from.result c.in-Some.place c.args.pen.x c.ranges.at fits c.from.ensures c.in-Some.ensures in
+    draws_at_once _ _ (to_z w64 (of_z w64 c.in-Some.place)) _ _ _ _ _ c.behind-next.ensures.x c.behind-next.ensures.bar place
+    (moved_same _ _ _ _ _ _ c.word.ensures c.paint_word.ensures)

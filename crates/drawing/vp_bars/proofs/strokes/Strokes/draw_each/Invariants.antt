@@ -1,7 +1,7 @@
 use Rattle.std.proofs.Common.{take}
 use Rattle.vp_bars.specs.Widths.{sized}
 use Rattle.vp_bars.specs.Drawing.{Draws}
-use Rattle.vp_bars.proofs.strokes.Strokes.draw.Given as goal
+use Rattle.vp_bars.proofs.strokes.Strokes.draw_each.Given as goal
 
 -- the elements so far
 abbrev pub invariant-loop-e : goal.invariant-loop-e

@@ -1,0 +1,179 @@
+-- Bars and spaces in a word, and drawn at once.
+use Rattle.std.proofs.Common.{inl, inr, ◌≡◌, ℕ, suc, ◌+◌, ◌-◌, ◌/◌, ◌%◌, ◌^◌, ◌<◌, ◌≤◌, Bool, true, false, not, ltb, leb, eqb, ◌&&◌, ◌||◌, refl, sym, ap, ◌∙◌, subst, arith, List, [], ◌∷◌, ◌++◌, ℤ, length, bit_or, map, cond, pos, negsuc, ◌+ℤ◌, SFits, to_z, of_z, w64}
+use mathlib.Core.Bool.{beq}
+use Rattle.std.proofs.lemmas.Int.{ints, to_z-of_z}
+use Rattle.std.proofs.lemmas.Nat.Bits.{bit_at-zero}
+use Rattle.std.proofs.lemmas.Bool.{cases_lt, lt-ltb, le-ltb, lt-leb, le-leb}
+use Rattle.vp_dots.specs.Dots.{bit, dot, dots, shifted}
+use Rattle.vp_dots.specs.Words.{word_dot}
+use Rattle.vp_dots.specs.Painting.{paint, Painted}
+use Rattle.vp_dots.specs.declared.Op.{Op}
+use Rattle.vp_bars.specs.declared.pen.Pen.{Pen}
+use Rattle.vp_bars.specs.Drawing.{Drawn, Draws, turned}
+use Rattle.vp_bars.specs.Widths.{in_bar, total}
+use Rattle.vp_bars.proofs.Draws.{total-append}
+use Rattle.vp_dots.proofs.Words.{word_shr}
+use Rattle.vp_dots.proofs.Bits.{bit_of_or}
+use Rattle.vp_bars.proofs.Paints.{drawn_more}
+
+-- behind widths there is no bar
+pub in_bar_past : (bar : Bool) (ws : List ℕ) (x : ℕ) → total ws ≤ x → in_bar bar ws x ≡ false
+in_bar_past bar [] x h = refl
+in_bar_past bar (w ∷ ws) x h = rw (le-ltb x w (omega arith)) (in_bar_past (not bar) ws (x - w) (omega arith))
+
+-- the first widths of more
+pub in_bar_front : (bar : Bool) (us vs : List ℕ) (x : ℕ) → x < total us → in_bar bar (us ++ vs) x ≡ in_bar bar us x
+in_bar_front bar [] vs x h = absurd (omega arith)
+in_bar_front bar (u ∷ us) vs x h = elim (cases_lt x u) [
+  | inl l ↦ rw (lt-ltb x u l) refl
+  | inr g ↦ rw (le-ltb x u g) (in_bar_front (not bar) us vs (x - u) (omega arith))
+]
+
+-- and those behind them
+pub in_bar_behind : (bar : Bool) (us vs : List ℕ) (x : ℕ) → in_bar bar (us ++ vs) (total us + x) ≡ in_bar (turned bar us) vs x
+in_bar_behind bar [] vs x = let e : 0 + x ≡ x = omega arith in rw e refl
+in_bar_behind bar (u ∷ us) vs x =
+    let e : u + total us + x - u ≡ total us + x = omega arith in
+    rw (le-ltb (u + total us + x) u (omega arith), e) (in_bar_behind (not bar) us vs x)
+
+pub turned_more : (bar : Bool) (us : List ℕ) (w : ℕ) → turned bar (us ++ w ∷ []) ≡ not (turned bar us)
+turned_more bar [] w = refl
+turned_more bar (u ∷ us) w = turned_more (not bar) us w
+
+-- a word has the bars of these widths, the first one a bar or not, and `now` tells what comes behind them at x
+pub record Marked (bar : Bool) (us : List ℕ) (word x : ℕ) (now : Bool) : Type 0 where
+  pub dots_are : (j : ℕ) → word_dot word j ≡ in_bar bar us j
+  pub x_is : x ≡ total us
+  pub bar_is : now ≡ turned bar us
+
+no_bit : (k : ℕ) → bit 0 k ≡ false
+unfolding bit
+no_bit k = ap (λ n. eqb n 1) (bit_at-zero k)
+
+pub marked_none : (bar : Bool) → Marked bar [] 0 0 bar
+marked_none bar = record {
+  dots_are = λ j. ap (λ b. ltb j 64 && b) (no_bit (63 - j)) ∙ and_none (ltb j 64);
+  x_is = refl;
+  bar_is = refl;
+}
+  where
+    and_none : (b : Bool) → (b && false) ≡ false
+    and_none true = refl
+    and_none false = refl
+
+pub marked_more : (bar : Bool) (us : List ℕ) (word x : ℕ) (now : Bool) (w new : ℕ) → Marked bar us word x now
+    → ((j : ℕ) → word_dot new j ≡ (word_dot word j || now && (leb x j && ltb (j - x) w))) → Marked bar (us ++ w ∷ []) new (x + w) (not now)
+marked_more bar us word x now w new m e = record {
+  dots_are = λ j. e j ∙ ap (λ b. b || now && (leb x j && ltb (j - x) w)) (m.dots_are j) ∙ elim (cases_lt j (total us)) [
+    | inl l ↦ rw (lt-leb x j (omega (arith, m.x_is))) (either_none now (in_bar bar us j) ∙ sym (in_bar_front bar us (w ∷ []) j l))
+    | inr g ↦ rw (in_bar_past bar us j g, le-leb x j (omega (arith, m.x_is)), m.x_is, m.bar_is) (
+      (let k : total us + (j - total us) ≡ j = omega arith in
+      in_last (turned bar us) (j - total us) ∙ sym (in_bar_behind bar us (w ∷ []) (j - total us)) ∙ ap (in_bar bar (us ++ w ∷ [])) k))
+  ];
+  x_is = omega (arith, m.x_is, total-append us (w ∷ []));
+  bar_is = ap not m.bar_is ∙ sym (turned_more bar us w);
+}
+  where
+    either_none : (a b : Bool) → (b || a && false) ≡ b
+    either_none true true = refl
+    either_none true false = refl
+    either_none false true = refl
+    either_none false false = refl
+
+    in_last : (b : Bool) (y : ℕ) → (false || b && (true && ltb y w)) ≡ in_bar b (w ∷ []) y
+    in_last true y = by_place (ltb y w)
+      where
+        by_place : (c : Bool) → c ≡ (cond c true false)
+        by_place true = refl
+        by_place false = refl
+    in_last false y = by_place (ltb y w)
+      where
+        by_place : (c : Bool) → false ≡ (cond c false false)
+        by_place true = refl
+        by_place false = refl
+
+-- the dot that a bar more has
+pub marked_bar : (word dots x w j : ℕ) → dots < 2 ^ 64 → ((i : ℕ) → word_dot dots i ≡ ltb i w) → x + w < 64
+    → word_dot (bit_or word (dots / 2 ^ x)) j ≡ (word_dot word j || leb x j && ltb (j - x) w)
+marked_bar word dots x w j h e l = elim (cases_lt j 64) [
+  | inl k ↦ rw (lt-ltb j 64 k) (bit_of_or word (dots / 2 ^ x) (63 - j) ∙ other (bit (dots / 2 ^ x) (63 - j)) (bit word (63 - j)) ∙ ap (λ b. bit word (63 - j) || b) (word_shr dots x j h k ∙ elim (cases_lt j x) [
+    | inl m ↦ rw (lt-leb x j m) refl
+    | inr m ↦ rw (le-leb x j m) (sym (ap (λ b. b && bit dots (63 - (j - x))) (lt-ltb (j - x) 64 (omega arith))) ∙ e (j - x))
+  ]))
+  | inr g ↦ rw (le-ltb j 64 g, le-leb x j (omega arith), le-ltb (j - x) w (omega arith)) refl
+]
+  where
+    other : (b a : Bool) → cond b true a ≡ (a || b)
+    other true true = refl
+    other true false = refl
+    other false true = refl
+    other false false = refl
+
+-- a place of what is moved twice
+pub moved_twice : (at place : ℤ) (x : ℕ) (f : ℕ → Bool) (d : ℕ) → place ≡ at +ℤ pos x → shifted place f d ≡ shifted at (λ i. leb x i && f (i - x)) d
+moved_twice (pos a) (pos p) x f d e = let k : p ≡ a + x = omega (arith, ints) in elim (cases_lt d a) [
+  | inl l ↦ rw (lt-leb a d l, lt-leb p d (omega arith)) refl
+  | inr g ↦ rw (le-leb a d g) (elim (cases_lt (d - a) x) [
+    | inl l ↦ rw (lt-leb x (d - a) l, lt-leb p d (omega arith)) refl
+    | inr h ↦ rw (le-leb x (d - a) h, le-leb p d (omega arith)) (ap f (omega arith))
+  ])
+]
+moved_twice (pos a) (negsuc p) x f d e = absurd (omega (arith, ints))
+moved_twice (negsuc a) (pos p) x f d e = let k : p + (a + 1) ≡ x = omega (arith, ints) in elim (cases_lt d p) [
+  | inl l ↦ rw (lt-leb p d l, lt-leb x (d + (a + 1)) (omega arith)) refl
+  | inr g ↦ rw (le-leb p d g, le-leb x (d + (a + 1)) (omega arith)) (ap f (omega arith))
+]
+moved_twice (negsuc a) (negsuc p) x f d e = let k : p + x ≡ a = omega (arith, ints) in rw (le-leb x (d + (a + 1)) (omega arith)) (ap f (omega arith))
+
+-- bars and spaces that are drawn at once
+pub draws_at_once : (op : Op) (at place : ℤ) (before after : List ℕ) (pen next : Pen) (ws : List ℕ) → next.x ≡ pen.x + total ws → next.bar ≡ turned pen.bar ws → place ≡ at +ℤ pos pen.x
+    → Painted op (shifted place (in_bar pen.bar ws)) before after → Draws op at before after pen next ws
+draws_at_once op at place before after pen next ws e t h p = record {
+  ends = e;
+  drawn = λ f old rest z. subst (λ n. Drawn op at f old after n (in_bar next.bar rest)) (sym e) (
+      drawn_more op at f old before after pen.x (total ws) (in_bar pen.bar (ws ++ rest)) (in_bar pen.bar ws) (in_bar next.bar rest) z
+      (record { length_is = p.length_is; dots_are = λ d l. p.dots_are d l ∙ ap (λ i. paint op i (dot before d)) (moved_twice at place pen.x (in_bar pen.bar ws) d h) })
+      (λ j l. in_bar_front pen.bar ws rest j l) (λ j l. in_bar_past pen.bar ws j l)
+      (λ j. in_bar_behind pen.bar ws rest j ∙ ap (λ b. in_bar b rest j) (sym t)));
+}
+
+-- and none of whose places the row has
+pub draws_past : (op : Op) (at place : ℤ) (row : List ℕ) (pen next : Pen) (ws : List ℕ) → next.x ≡ pen.x + total ws → next.bar ≡ turned pen.bar ws → place ≡ at +ℤ pos pen.x
+    → ((f : ℕ → Bool) (d : ℕ) → d < dots row → shifted place f d ≡ false) → Draws op at row row pen next ws
+draws_past op at place row pen next ws e t h none =
+    draws_at_once op at place row row pen next ws e t h (record { length_is = refl; dots_are = λ d l. ap (λ i. paint op i (dot row d)) (sym (none (in_bar pen.bar ws) d l)) })
+
+
+-- so many elements turn the pen
+turned_odd : (s : ℕ → ℕ) (bar : Bool) (es : List ℕ) → turned bar (map s es) ≡ cond (eqb (length es % 2) 1) (not bar) bar
+turned_odd s bar [] = refl
+turned_odd s bar (e ∷ []) = refl
+turned_odd s bar (e ∷ d ∷ es) =
+    let two : suc (suc (length es)) % 2 ≡ length es % 2 = omega arith in
+    rw two (ap (λ b. turned b (map s es)) (twice bar) ∙ turned_odd s bar es)
+  where
+    twice : (b : Bool) → not (not b) ≡ b
+    twice true = refl
+    twice false = refl
+
+pub turned_by : (s : ℕ → ℕ) (bar : Bool) (es : List ℕ) → not (beq bar (eqb (length es % 2) 1)) ≡ turned bar (map s es)
+turned_by s bar es = differs bar (eqb (length es % 2) 1) ∙ sym (turned_odd s bar es)
+  where
+    differs : (b c : Bool) → not (beq b c) ≡ cond c (not b) b
+    differs true true = refl
+    differs true false = refl
+    differs false true = refl
+    differs false false = refl
+
+pub marked_same : (bar : Bool) (us vs : List ℕ) (word x y : ℕ) (now next : Bool) → us ≡ vs → y ≡ x → next ≡ now → Marked bar us word x now → Marked bar vs word y next
+marked_same bar us vs word x y now next e f g m = record {
+  dots_are = λ j. m.dots_are j ∙ ap (λ ws. in_bar bar ws j) e;
+  x_is = f ∙ m.x_is ∙ ap total e;
+  bar_is = g ∙ m.bar_is ∙ ap (turned bar) e;
+}
+
+-- a place that is the sum of two
+pub place_sum : (at from place : ℤ) (x : ℕ) → SFits w64 at → SFits w64 from → from ≡ pos x → SFits w64 (to_z w64 (of_z w64 at) +ℤ to_z w64 (of_z w64 from)) × (place ≡ to_z w64 (of_z w64 at) +ℤ to_z w64 (of_z w64 from))
+    → to_z w64 (of_z w64 place) ≡ at +ℤ pos x
+place_sum at from place x fits f e s =
+    to_z-of_z w64 place (subst (SFits w64) (sym s.1) s.0) ∙ s.1 ∙ ap (λ z. z +ℤ to_z w64 (of_z w64 from)) (to_z-of_z w64 at fits) ∙ ap (λ z. at +ℤ z) (to_z-of_z w64 from f ∙ e)
