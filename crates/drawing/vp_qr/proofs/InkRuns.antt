@@ -1,6 +1,7 @@
 -- A line of modules, painted run by run.
-use Rattle.std.proofs.Common.{◌≡◌, ℕ, ◌+◌, ◌-◌, ◌*◌, ◌/◌, ◌<◌, ◌≤◌, ◌&&◌, ◌||◌, Bool, true, false, ltb, leb, List, get_or, ℤ, refl, sym, ap, ◌∙◌, inl, inr, arith, pos, negsuc, mul-le-mul_right, le_of_lt}
-use Rattle.std.proofs.lemmas.Nat.{div_below, le-div}
+use Rattle.std.proofs.Common.{◌≡◌, ℕ, zero, suc, ◌+◌, ◌-◌, ◌*◌, ◌/◌, ◌%◌, not, eqb, ◌<◌, ◌≤◌, ◌&&◌, ◌||◌, Bool, true, false, ltb, leb, List, get_or, ℤ, refl, sym, ap, ◌∙◌, inl, inr, arith, pos, negsuc, mul-le-mul_right, le_of_lt}
+use Rattle.std.proofs.lemmas.Nat.{div_below, le-div, div-mul-add, div-add-mod'}
+use Rattle.std.proofs.Math.Nat.{mod-lt, mul_comm}
 use Rattle.std.proofs.lemmas.Bool.{cases_lt, lt-ltb, le-ltb, lt-leb, le-leb}
 use Rattle.vp_dots.specs.Dots.{dot, shifted, span}
 use Rattle.vp_dots.specs.Painting.{paint, Painted}
@@ -178,3 +179,29 @@ line_is s y hy x =
 pub line_painted : (op : Op) (at : ℤ) (s : ScaledSymbol) (y : ℕ) (a b : List ℕ) → y < side s
     → Painted op (shifted at (line_ink (get_or s.rows (y / s.scale) 0) s.size s.scale)) a b → Painted op (shifted at (λ x. ink_of s x y)) a b
 line_painted op at s y a b hy p = same_painted op at (line_ink (get_or s.rows (y / s.scale) 0) s.size s.scale) (λ x. ink_of s x y) a b (line_is s y hy) p
+
+-- a row of dots that does not begin a row of modules is as the one above it
+same_height : (k n y : ℕ) → 0 < k → not (eqb (y % k) 0) ≡ true → (y / k ≡ (y - 1) / k) × (ltb y (k * n) ≡ ltb (y - 1) (k * n))
+same_height k n y h t =
+    let some : 0 < y % k = positive (y % k) t in
+    let all : y / k * k + y % k ≡ y = div-add-mod' y k in
+    let low : y % k < k = mod-lt y h in
+    let above : y - 1 ≡ y / k * k + (y % k - 1) = omega arith in
+    let same : (y - 1) / k ≡ y / k = ap (λ m. m / k) above ∙ div-mul-add (y / k) k (y % k - 1) (omega arith) in
+    (
+      sym same,
+      elim (cases_lt y (k * n)) [
+        | inl l ↦ rw (lt-ltb y (k * n) l, lt-ltb (y - 1) (k * n) (omega arith)) refl
+        | inr g ↦
+            let e : n * k ≡ k * n = mul_comm n k in
+            let q : n ≤ y / k = le-div n y k h (omega (arith, e)) in
+            rw (le-ltb y (k * n) g, le-ltb (y - 1) (k * n) (omega (arith, e, mul-le-mul_right k q))) refl
+      ],
+    )
+  where
+    positive : (r : ℕ) → not (eqb r 0) ≡ true → 0 < r
+    positive zero e = cc
+    positive (suc r) e = omega arith
+
+pub ink_repeats : (s : ScaledSymbol) (x y : ℕ) → 0 < s.scale → not (eqb (y % s.scale) 0) ≡ true → ink_of s x y ≡ ink_of s x (y - 1)
+ink_repeats s x y h t = let same = same_height s.scale s.size y h t in rw (same.0, same.1) refl

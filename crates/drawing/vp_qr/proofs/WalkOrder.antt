@@ -1,8 +1,10 @@
 -- The walk by lists is the walk by arithmetic, version by version.
-use Rattle.std.proofs.Common.{◌≡◌, ℕ, zero, suc, ◌+◌, ◌-◌, ◌*◌, ◌/◌, ◌<◌, ◌≤◌, ◌&&◌, ◌||◌, Bool, true, false, cond, eqb, ltb, List, [], ◌∷◌, length, get_or, take, refl, sym, ap, ◌∙◌, subst, inl, inr, arith}
+use Rattle.std.proofs.Common.{◌≡◌, ℕ, zero, suc, ◌+◌, ◌-◌, ◌*◌, ◌/◌, ◌%◌, ◌<◌, ◌≤◌, ◌&&◌, ◌||◌, Bool, true, false, cond, eqb, ltb, List, [], ◌∷◌, length, get_or, take, refl, sym, ap, ◌∙◌, subst, inl, inr, arith, leb}
+use Rattle.std.proofs.Math.Nat.{mul-add-mod_self_left, mul-le-mul_left, mul-suc, mul_comm, mul_assoc, mod-eq_of_lt}
+use Rattle.std.proofs.lemmas.Nat.{div-mul-add}
 use Rattle.std.specs.List.{filter, position_or_len}
 use Rattle.std.proofs.lemmas.Bool.Decides.{eqb_tells}
-use Rattle.std.proofs.lemmas.Bool.{eq-eqb, cases_Bool, and_parts, eqb-true, ltb-true}
+use Rattle.std.proofs.lemmas.Bool.{eq-eqb, cases_Bool, and_parts, eqb-true, ltb-true, leb-true}
 use Rattle.vp_qr.specs.declared.walk.Place.{Place}
 use Rattle.vp_qr.specs.Places.{size}
 use Rattle.vp_qr.specs.Walk.{walk, pairs, upwards, downwards, place, rank, steps, right_column, is_free, is_at, number_of, free_places}
@@ -158,3 +160,43 @@ module _ (v : ℕ) (low : 1 ≤ v) (high : v ≤ 10) where
       let here : is_at p.row p.column w ≡ true = rw (eq-eqb w.row p.row same.0, eq-eqb w.column p.column same.1) refl in
       let free_here : is_free v w ≡ true = rw (same.0, same.1) free in
       first_among (is_at p.row p.column) (is_free v) (walk (size v)) m d (omega (arith, walk_length v low high)) here free_here (λ (n : ℕ) (h : n < m). not_before m n d lt h)
+
+-- module number `step` of a pair, the pairs being counted from the right
+module _ (v : ℕ) (low : 1 ≤ v) (high : v ≤ 10) (pair step : ℕ) (hp : pair < (size v - 1) / 2) (hs : step < 2 * size v) where
+  pair_of : (2 * size v * pair + step) / (2 * size v) ≡ pair
+  pair_of = ap (λ n. (n + step) / (2 * size v)) (mul_comm (2 * size v) pair) ∙ div-mul-add pair (2 * size v) step hs
+
+  step_of : (2 * size v * pair + step) % (2 * size v) ≡ step
+  step_of = mul-add-mod_self_left (2 * size v) pair step ∙ mod-eq_of_lt hs
+
+  half_of : (2 * size v * pair + step) % 2 ≡ step % 2
+  half_of =
+      let e : 2 * size v * pair ≡ 2 * (size v * pair) = mul_assoc 2 (size v) pair in
+      omega (arith, e)
+
+  abbrev made : Place → Place
+  made p = p
+
+  place_of : place (size v) (2 * size v * pair + step)
+      ≡ record { row = cond (eqb (((size v - 1) / 2 - 1 - pair) % 2) 1) (size v - 1 - step / 2) (step / 2); column = right_column ((size v - 1) / 2 - 1 - pair) - step % 2 }
+  unfolding place
+  place_of = rw (pair_of, step_of, half_of) refl
+
+  pub place_here : (up : Bool) (right : ℕ) → right ≡ right_column ((size v - 1) / 2 - 1 - pair) → eqb (((size v - 1) / 2 - 1 - pair) % 2) 1 ≡ up
+      → ◌≡◌ {A = Place} (record { row = cond up (size v - 1 - step / 2) (step / 2); column = right - step % 2 }) (place (size v) (2 * size v * pair + step))
+  place_here up right e f =
+      ap (λ n. made (record { row = cond up (size v - 1 - step / 2) (step / 2); column = n - step % 2 })) e
+      ∙ ap (λ b. made (record { row = cond b (size v - 1 - step / 2) (step / 2); column = right_column ((size v - 1) / 2 - 1 - pair) - step % 2 })) (sym f)
+      ∙ sym place_of
+
+  pub step_within : 2 * size v * pair + step < steps (size v)
+  step_within =
+      let all : 2 * size v * ((size v - 1) / 2) ≤ steps (size v) = leb-true _ _ (for_version (λ n. leb (2 * size n * ((size n - 1) / 2)) (steps (size n))) refl v low high) in
+      let upto : 2 * size v * suc pair ≤ 2 * size v * ((size v - 1) / 2) = mul-le-mul_left (2 * size v) (omega arith) in
+      omega (arith, all, upto, mul-suc (2 * size v) pair)
+
+pub steps_of_pairs : (v : ℕ) → 1 ≤ v → v ≤ 10 → steps (size v) ≤ 2 * size v * ((size v - 1) / 2)
+steps_of_pairs v low high = leb-true _ _ (for_version (λ n. leb (steps (size n)) (2 * size n * ((size n - 1) / 2))) refl v low high)
+
+pub pair_more : (s pair : ℕ) → 2 * s * pair + 2 * s ≡ 2 * s * (pair + 1)
+pair_more s pair = sym (mul-suc (2 * s) pair) ∙ ap (λ n. 2 * s * n) (let e : suc pair ≡ pair + 1 = omega arith in e)

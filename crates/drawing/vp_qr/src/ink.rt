@@ -107,6 +107,10 @@ impl Ink for QrInk {
         let line = self.rows[(y / self.scale) as usize];
         paint_line(line, self.size, self.scale, op, at, row);
     }
+
+    fn repeats(&self, y: u32) -> bool {
+        y % self.scale != 0
+    }
 }
 
 /// Paints a line of modules, run by run.

@@ -339,7 +339,7 @@ impl Grid {
     {
         let free = free_rows(version);
         let mut unmasked = [0; 57];
-        fill(&mut unmasked, version, codewords);
+        fill(&mut unmasked, &free, version, codewords);
         let patterns = pattern_rows(version, &free);
         let format = format_rows(version);
         Grid {

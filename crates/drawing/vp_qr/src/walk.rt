@@ -1,10 +1,12 @@
 //! The walk over the modules of a symbol, and the data bits that it places.
 
-ghost use Rattle.std.specs.Prelude.{◌≡◌, ◌<◌, ◌≤◌, ◌*◌, ◌+◌, ◌-◌, ◌==◌, ◌&&◌, ◌||◌, not, ℕ, length};
+ghost use Rattle.std.specs.Prelude.{◌≡◌, ◌<◌, ◌≤◌, ◌*◌, ◌/◌, ◌+◌, ◌-◌, ◌==◌, ◌&&◌, ◌||◌, not, ℕ, length};
 ghost use Rattle.vp_qr.specs.Places.{size, near, corner, alignment, version_area, reserved};
 ghost use Rattle.vp_qr.specs.Blocks.{total, remainder_bits};
 ghost use Rattle.vp_qr.specs.Cost.{is_set};
-ghost use Rattle.vp_qr.specs.Walk.{place, steps, free_places, dark, data_bit, number_of};
+ghost use Rattle.vp_qr.specs.Walk.{right_column, place, free_places, dark, data_bit, number_of};
+
+use crate::mask::is_dark;
 
 /// A module by its row and column.
 #[derive(Clone, Copy)]
@@ -14,16 +16,13 @@ pub struct Place {
 }
 
 /// Sets a module where `bit` is set.
-#[tactic(auto, using(crate::proofs::Bits::dark_set, crate::proofs::Bits::dark_kept))]
 pub fn set_dark(rows: &mut [u64; 57], row: usize, column: usize, bit: bool)
     requires row { row < 57 }
     requires column { column < 64 }
     ensures { (i j : ℕ) → j < 64 → dark rows.new i j
         ≡ (dark rows.old i j || (i == row && j == column && bit)) }
 {
-    if bit {
-        rows[row] |= 1 << column;
-    }
+    rows[row] |= u64::from(bit) << column;
 }
 
 /// Bit `k` of the codewords, or 0 behind their end.
@@ -123,42 +122,62 @@ pub fn free_rows(version: usize) -> [u64; 57]
     rows
 }
 
-/// The module number `step` of the walk over a symbol of `version`.
-#[tactic(auto, using(crate::proofs::WalkOrder::place_pair), unfolding(crate::specs::Walk::place))]
-fn place_at(version: usize, step: usize) -> Place
+/// The right column of a pair, the pairs being counted from the left.
+fn right_column(pair: usize) -> usize
+    requires { pair < 100 }
+    ensures column { result ≡ right_column pair }
+    ensures some { 0 < result }
+    ensures within { result ≤ 2 * pair + 2 }
+{
+    if pair < 3 { 2 * pair + 1 } else { 2 * pair + 2 }
+}
+
+/// The module number `step` of a pair of columns, the pairs being counted from the right.
+fn place_at(version: usize, pair: usize, step: usize) -> Place
     requires low { 1 ≤ version }
     requires high { version ≤ 10 }
-    requires step { step < steps (size version) }
-    ensures { result ≡ place (size version) step }
+    requires pair { pair < (size version - 1) / 2 }
+    requires step { step < 2 * size version }
+    ensures place { result ≡ place (size version) (2 * size version * pair + step) }
+    ensures row { result.row < size version }
+    ensures column { result.column < size version }
 {
     let size = 17 + 4 * version;
-    let pair = (size - 1) / 2 - 1 - step / (2 * size);
-    let right = if pair < 3 { 2 * pair + 1 } else { 2 * pair + 2 };
-    let rows = step % (2 * size) / 2;
+    let pair = (size - 1) / 2 - 1 - pair;
+    let column = right_column(pair) - step % 2;
+    if pair % 2 == 1 {
+        return Place {
+            row: size - 1 - step / 2,
+            column,
+        };
+    }
     Place {
-        row: if pair % 2 == 1 { size - 1 - rows } else { rows },
-        column: right - step % 2,
+        row: step / 2,
+        column,
     }
 }
 
 /// Places the data bits of the codewords on the free modules.
-#[tactic(auto, using(crate::proofs::Filling::filled_none, crate::proofs::Filling::filled_past, crate::proofs::Filling::filled_bit, crate::proofs::Filling::filled_all, crate::proofs::WalkOrder::place_row, crate::proofs::WalkOrder::place_column))]
-pub fn fill(rows: &mut [u64; 57], version: usize, codewords: &[u8])
+pub fn fill(rows: &mut [u64; 57], free: &[u64; 57], version: usize, codewords: &[u8])
     requires low { 1 ≤ version }
     requires high { version ≤ 10 }
+    requires free { (i j : ℕ) → i < size version → j < size version
+        → dark free.now i j ≡ not (reserved version i j) }
     ensures { (i j : ℕ) → i < size version → j < size version
         → dark rows.new i j ≡ (dark rows.old i j || (not (reserved version i j)
         && data_bit codewords.now (number_of version i j))) }
 {
     let size = 17 + 4 * version;
     let mut k = 0;
-    for step in 0..size * (size - 1) {
-        let place = place_at(version, step);
-        if is_reserved(version, place.row, place.column) {
-            continue;
+    for pair in 0..(size - 1) / 2 {
+        for step in 0..2 * size {
+            let place = place_at(version, pair, step);
+            if !is_dark(free[place.row], place.column) {
+                continue;
+            }
+            set_dark(rows, place.row, place.column, bit_of(codewords, k));
+            k += 1;
         }
-        set_dark(rows, place.row, place.column, bit_of(codewords, k));
-        k += 1;
     }
 }
 
