@@ -4,6 +4,7 @@ pub mod WalkOrder
 pub mod Bits
 pub mod Filling
 pub mod Modules
+pub mod RowParts
 pub mod Runs
 pub mod Patterns
 pub mod FreePlaces

@@ -7,7 +7,7 @@
 //! - `segment`, `string`: the mode, the bits and the data codewords of the bytes
 //! - `level`, `interleave`: the blocks of each version and level, and the order of their codewords
 //! - `field`, `check`: the field of 256 elements, and the check codewords of a block
-//! - `walk`: the modules that hold data, in the order of their bits
+//! - `lines`, `walk`: the modules that hold data, row by row, and in the order of their bits
 //! - `code`, `symbol`: format and version, and the finished modules by cases on the place
 //! - `mask`: the cost of a symbol, by which its mask is chosen
 //! - `qr`, `ink`: the symbol, and its dots
@@ -19,6 +19,7 @@ mod field;
 mod ink;
 mod interleave;
 mod level;
+mod lines;
 mod mask;
 mod qr;
 mod segment;

@@ -25,8 +25,9 @@ ghost use Rattle.vp_qr.specs.Grids.{IsGrid};
 
 use crate::code::{format_code, version_code};
 use crate::level::Level;
+use crate::lines::format_line;
 use crate::mask::is_dark;
-use crate::walk::{fill, free_rows, is_alignment, is_corner, is_near, is_version};
+use crate::walk::{fill, free_rows, is_alignment, is_near, is_version};
 
 /// The square ring round a centre on which a module lies.
 fn ring(row_centre: usize, column_centre: usize, row: usize, column: usize) -> usize
@@ -191,25 +192,6 @@ fn is_pattern_dark(version: usize, code: u64, row: usize, column: usize) -> bool
     row == size - 8 && column == 8
 }
 
-/// A bit of the format stands on this module.
-#[tactic(auto, unfolding(crate::specs::Symbol::format_here))]
-fn is_format(version: usize, row: usize, column: usize) -> bool
-    requires low { 1 ≤ version }
-    requires version { version ≤ 10 }
-    requires row { row < size version }
-    requires column { column < size version }
-    ensures { result ≡ format_here version row column }
-{
-    let size = 17 + 4 * version;
-    is_corner(size, row, column)
-        && !(is_finder(size, row, column)
-            || row == 6
-            || column == 6
-            || is_alignment(version, row, column)
-            || is_version(version, row, column)
-            || row == size - 8 && column == 8)
-}
-
 /// Bit `at` of a code, 0 behind its highest.
 #[tactic(auto, using(crate::proofs::Bits::no_bit))]
 fn bit(code: u64, at: usize) -> bool
@@ -281,24 +263,7 @@ fn pattern_rows(version: usize, free: &[u64; 57]) -> [u64; 57]
     rows
 }
 
-/// The modules of a row on which a bit of the format stands.
-fn format_line(version: usize, row: usize) -> u64
-    requires low { 1 ≤ version }
-    requires version { version ≤ 10 }
-    requires row { row < size version }
-    ensures { (j : ℕ) → j < size version → is_set result j ≡ format_here version row j }
-{
-    let mut line = 0;
-    for column in 0..17 + 4 * version {
-        if !is_format(version, row, column) {
-            continue;
-        }
-        line |= 1 << column;
-    }
-    line
-}
-
-/// The same of all rows.
+/// The modules on which a bit of the format stands.
 fn format_rows(version: usize) -> [u64; 57]
     requires low { 1 ≤ version }
     requires version { version ≤ 10 }

@@ -6,6 +6,7 @@ ghost use Rattle.vp_qr.specs.Blocks.{total, remainder_bits};
 ghost use Rattle.vp_qr.specs.Cost.{is_set};
 ghost use Rattle.vp_qr.specs.Walk.{right_column, place, free_places, dark, data_bit, number_of};
 
+use crate::lines::free_line;
 use crate::mask::is_dark;
 
 /// A module by its row and column.
@@ -42,14 +43,6 @@ pub fn is_near(centre: usize, at: usize) -> bool
     centre <= at + 2 && at <= centre + 2
 }
 
-/// A finder with its separator and the format beside it.
-pub fn is_corner(size: usize, row: usize, column: usize) -> bool
-    requires { 8 ≤ size }
-    ensures { result ≡ corner size row column }
-{
-    row < 9 && (column < 9 || size - 8 <= column) || size - 8 <= row && column < 9
-}
-
 /// The version, from version 7 on.
 pub fn is_version(version: usize, row: usize, column: usize) -> bool
     requires { version ≤ 10 }
@@ -75,38 +68,6 @@ pub fn is_alignment(version: usize, row: usize, column: usize) -> bool
             && (is_near(middle, row)
                 && (is_near(6, column) || is_near(middle, column) || is_near(last, column))
                 || is_near(middle, column) && (is_near(6, row) || is_near(last, row)))
-}
-
-/// The module holds no data.
-#[tactic(auto, unfolding(crate::specs::Places::reserved))]
-fn is_reserved(version: usize, row: usize, column: usize) -> bool
-    requires version { version ≤ 10 }
-    requires row { row < 57 }
-    requires column { column < 57 }
-    ensures { result ≡ reserved version row column }
-{
-    is_corner(17 + 4 * version, row, column)
-        || row == 6
-        || column == 6
-        || is_alignment(version, row, column)
-        || is_version(version, row, column)
-}
-
-/// The modules of a row that hold data.
-fn free_line(version: usize, row: usize) -> u64
-    requires low { 1 ≤ version }
-    requires high { version ≤ 10 }
-    requires row { row < size version }
-    ensures { (j : ℕ) → j < size version → is_set result j ≡ not (reserved version row j) }
-{
-    let mut line = 0;
-    for column in 0..17 + 4 * version {
-        if is_reserved(version, row, column) {
-            continue;
-        }
-        line |= 1 << column;
-    }
-    line
 }
 
 /// The modules that hold data.
