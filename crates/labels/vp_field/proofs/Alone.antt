@@ -16,6 +16,13 @@ alone_at_top h b s y e = record {
   others = λ _ p l. inl (let z : p ≡ 0 = omega arith in ap (λ n. n * s) z ∙ (let o : 0 * s ≡ y - y = omega arith in o));
 }
 
+-- lines that are moved by no row
+pub alone_together : (h b s y : ℕ) → s ≡ 0 → IsAlone h b s y y
+alone_together h b s y e = record {
+  below = omega arith;
+  others = λ _ p l. inl (ap (λ n. p * n) e ∙ (let o : p * 0 ≡ y - y = omega arith in o));
+}
+
 -- lines that stand apart
 pub alone_apart : (h b s y q : ℕ) → h ≤ s → 0 < s → q ≡ min (y / s) (b - 1) → IsAlone h b s y (y - q * s)
 alone_apart h b s y q a n e = record {

@@ -1,12 +1,13 @@
 -- Columns painted one after the other.
-use Rattle.std.proofs.Common.{inl, inr, ◌≡◌, ℕ, ◌+◌, ◌-◌, ◌*◌, ◌<◌, ◌≤◌, Bool, false, ltb, ◌&&◌, ap, ◌∙◌, arith, List, [], get_or, pos}
+use Rattle.std.proofs.Common.{inl, inr, ◌≡◌, ℕ, ◌+◌, ◌-◌, ◌<◌, ◌≤◌, Bool, false, ltb, ◌&&◌, ap, ◌∙◌, arith, List, [], get_or, pos}
 use Rattle.std.proofs.lemmas.Bool.{cases_lt}
 use Rattle.std.proofs.lemmas.Bool.Decides.{nat_tests}
 use Rattle.vp_dots.specs.Blocks.{across_dot}
-use Rattle.vp_dots.specs.Dots.{dot, dots}
+use Rattle.vp_dots.specs.Dots.{dot, dots, span}
 use Rattle.vp_dots.specs.Places.{RowsPainted}
 use Rattle.vp_dots.specs.declared.Op.{Op}
-use Rattle.vp_dots.proofs.Paints.{painted_none, painted_same, painted_then}
+use Rattle.vp_dots.proofs.Heights.{rows_same, rows_then}
+use Rattle.vp_dots.proofs.Paints.{painted_none, painted_same}
 
 module _ (high : ℕ) (op : Op) (f : ℕ → ℕ → Bool) where
   -- left of the first column with ink
@@ -27,20 +28,34 @@ module _ (high : ℕ) (op : Op) (f : ℕ → ℕ → Bool) where
     ]) (p.rows_are k h);
   }
 
--- eight more columns
-pub columns_eight : (op : Op) (f : ℕ → ℕ → Bool) (from j x : ℕ) (lines a b c : List (List ℕ)) → x ≡ from + 8 * j → ((i k : ℕ) → i < 8 → k < 32 → dot (get_or lines i []) k ≡ f (x + i) k)
-    → RowsPainted 32 op (λ d k. ltb d (from + 8 * j) && f d k) a b → RowsPainted 32 op (across_dot lines 32 x (pos 0)) b c → RowsPainted 32 op (λ d k. ltb d (from + 8 * (j + 1)) && f d k) a c
-columns_eight op f from j x lines a b c s e p q = record {
-  rows_are = λ k h. painted_then op (λ d. ltb d (from + 8 * j) && f d k) (λ d. across_dot lines 32 x (pos 0) d k) (λ d. ltb d (from + 8 * (j + 1)) && f d k) _ _ _ (p.rows_are k h) (q.rows_are k h)
-      (λ d l. elim (cases_lt d x) [
-        | inl b ↦ grind (arith, nat_tests)
-        | inr g ↦ elim (cases_lt d (x + 8)) [
-          | inl i ↦ (let z : dot (get_or lines (d - x) []) k ≡ f d k = at d k g i h in let w : dot (get_or lines (d - x) []) (k - 0) ≡ dot (get_or lines (d - x) []) k = ap (dot (get_or lines (d - x) [])) (let o : k - 0 ≡ k = omega arith in o) in grind (arith, nat_tests))
-          | inr o ↦ grind (arith, nat_tests)
-        ]
-      ])
-      (λ d l. grind (arith, nat_tests));
-}
+-- columns behind those that are painted
+pub columns_more : (op : Op) (f : ℕ → ℕ → Bool) (x n : ℕ) (a b c : List (List ℕ)) → RowsPainted 32 op (λ d k. ltb d x && f d k) a b → RowsPainted 32 op (λ d k. span x (x + n) d && f d k) b c
+    → RowsPainted 32 op (λ d k. ltb d (x + n) && f d k) a c
+columns_more op f x n a b c p q = rows_then 32 op _ _ _ _ _ _ (λ d k. grind (arith, nat_tests)) (λ d k. grind (arith, nat_tests)) p q
+
+-- columns that show the same line
+pub columns_alike : (op : Op) (f : ℕ → ℕ → Bool) (line : List ℕ) (x n : ℕ) (a b : List (List ℕ)) → ((d k : ℕ) → k < 32 → x ≤ d → d < x + n → dot line k ≡ f d k)
+    → RowsPainted 32 op (λ d k. span x (x + n) d && dot line k) a b → RowsPainted 32 op (λ d k. span x (x + n) d && f d k) a b
+columns_alike op f line x n a b e p = rows_same 32 op _ _ _ _
+    (λ d k h. elim (cases_lt d x) [
+      | inl o ↦ grind (arith, nat_tests)
+      | inr g ↦ elim (cases_lt d (x + n)) [
+        | inl i ↦ (let z : dot line k ≡ f d k = e d k h g i in grind (arith, nat_tests))
+        | inr o ↦ grind (arith, nat_tests)
+      ]
+    ]) p
+
+-- eight columns
+pub columns_eight : (op : Op) (f : ℕ → ℕ → Bool) (x : ℕ) (lines a b : List (List ℕ)) → ((i k : ℕ) → i < 8 → k < 32 → dot (get_or lines i []) k ≡ f (x + i) k)
+    → RowsPainted 32 op (across_dot lines 32 x (pos 0)) a b → RowsPainted 32 op (λ d k. span x (x + 8) d && f d k) a b
+columns_eight op f x lines a b e p = rows_same 32 op _ _ _ _
+    (λ d k h. elim (cases_lt d x) [
+      | inl o ↦ grind (arith, nat_tests)
+      | inr g ↦ elim (cases_lt d (x + 8)) [
+        | inl i ↦ (let z : dot (get_or lines (d - x) []) k ≡ f d k = at d k g i h in let w : dot (get_or lines (d - x) []) (k - 0) ≡ dot (get_or lines (d - x) []) k = ap (dot (get_or lines (d - x) [])) (let o : k - 0 ≡ k = omega arith in o) in grind (arith, nat_tests))
+        | inr o ↦ grind (arith, nat_tests)
+      ]
+    ]) p
   where
     at : (d k : ℕ) → x ≤ d → d < x + 8 → k < 32 → dot (get_or lines (d - x) []) k ≡ f d k
     at d k g i h = let m : x + (d - x) ≡ d = omega arith in e (d - x) k (omega arith) h ∙ ap (λ n. f n k) m

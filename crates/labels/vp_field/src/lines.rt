@@ -3,7 +3,7 @@ ghost use Rattle.std.specs.Prelude.{MatchOption};
 ghost use Rattle.vp_glyph.specs.Blocks.{block_width, block_height, block_dot, block_inside};
 ghost use Rattle.vp_field.specs.Alone.{IsAlone};
 
-use crate::text::source_row;
+use crate::text::shows_row_above;
 use std::alloc::AllocError;
 use vp_dots::{Ink, Op};
 use vp_glyph::Block;
@@ -28,11 +28,8 @@ impl BlockRows<'_> {
             IsAlone self.now.block.h self.now.block.rows self.now.block.pitch y row) }
     {
         let last = self.block.rows.saturating_sub(1);
-        if last == 0 {
+        if last == 0 || self.block.pitch == 0 {
             return Some(y);
-        }
-        if self.block.pitch == 0 {
-            return None;
         }
         if self.block.pitch < self.block.h {
             return None;
@@ -79,6 +76,6 @@ impl Ink for BlockRows<'_> {
         if row >= self.block.h {
             return false;
         }
-        source_row(row, self.block.h) == source_row(row - 1, self.block.h)
+        shows_row_above(row, self.block.h)
     }
 }

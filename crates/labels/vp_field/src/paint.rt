@@ -1,6 +1,7 @@
 //! Ink painted on a band of a label.
 ghost use Rattle.std.specs.Prelude.{◌≡◌, ℕ, ◌+◌, ◌^◌, ◌-◌, ◌<◌, ◌≤◌, ◌&&◌, [], true, pos, length, slice_index_or};
 ghost use Rattle.vp_dots.specs.Dots.{dot, span};
+ghost use Rattle.vp_dots.specs.Painting.{Painted};
 ghost use Rattle.vp_dots.specs.Places.{RowsPainted};
 ghost use Rattle.vp_field.specs.Places.{at_place};
 ghost use Rattle.vp_field.specs.Axes.{IsWithin, dot_on, laid};
@@ -8,10 +9,13 @@ ghost use Rattle.vp_field.specs.declared.axis.Lines.TheVariants.{Along, Across};
 
 use crate::axis::{Axis, Lines};
 use crate::line::{drawn, paint_line, paint_over};
-use vp_dots::{Band, Ink, Op, lay_eight};
+use vp_dots::{Band, Ink, Op, dot_of, fill_dots, lay_eight};
 
 /// The dots of a row of a band.
 const WIDTH: u64 = 1248;
+
+/// As many columns that are known to be alike are painted row by row.
+const RUN: u64 = 8;
 
 /// Each row of a band has 156 bytes.
 fn row_lengths(band: &Band<156, 32>)
@@ -34,17 +38,17 @@ fn repeats_above<I: Ink>(ink: &I, rows: Axis, row: u64) -> bool
     }
 }
 
-/// How many rows from one on, and before another, are known to show the same line.
-fn alike_rows<I: Ink>(ink: &I, rows: Axis, from: u64, to: u64) -> u64
+/// How many places from one on, and before another, are known to show the same line.
+fn alike_places<I: Ink>(ink: &I, axis: Axis, from: u64, to: u64) -> u64
     requires { from < to }
     ensures some { 0 < result }
     ensures within { from + result ≤ to }
     ensures alike { (j : ℕ) → j < result → (u : ℕ)
-        → at_place (λ v. I.ink_at ink.now u v) (dot_on rows (pos (from + j)))
-        ≡ at_place (λ v. I.ink_at ink.now u v) (dot_on rows (pos from)) }
+        → at_place (λ v. I.ink_at ink.now u v) (dot_on axis (pos (from + j)))
+        ≡ at_place (λ v. I.ink_at ink.now u v) (dot_on axis (pos from)) }
 {
     for n in 1..to - from {
-        if !repeats_above(ink, rows, from + n) {
+        if !repeats_above(ink, axis, from + n) {
             return n;
         }
     }
@@ -95,7 +99,7 @@ fn paint_along<I: Ink>(
     let mut k = from.saturating_sub(first);
     let end = to.saturating_sub(first).min(32);
     while k < end {
-        let alike = alike_rows(ink, rows, first + k, first + end);
+        let alike = alike_places(ink, rows, first + k, first + end);
         if let Some(v) = rows.dot_on(first + k) {
             paint_alike(ink, v, op, columns, k as usize, alike as usize, band);
         }
@@ -164,6 +168,62 @@ fn eight_columns<I: Ink>(
     lines
 }
 
+/// Paints the dots of a row of the band from one to another, where they have ink.
+fn paint_dots(op: Op, ink: bool, from: u64, to: u64, row: &mut [u8])
+    ensures { Painted op (λ d. span from to d && ink) row.old row.new }
+{
+    if ink {
+        fill_dots(op, from, to, row);
+    }
+}
+
+/// Paints columns of the band from one to another, each of which shows the same line.
+fn paint_run(op: Op, line: [u8; 4], from: u64, to: u64, band: &mut Band<156, 32>)
+    ensures { RowsPainted 32 op (λ d k. span from to d && dot line k) band.old band.new }
+{
+    for k in 0..32usize {
+        paint_dots(op, dot_of(&line, k as u128), from, to, band.row_mut(k));
+    }
+}
+
+/// Paints columns of the band, which begin at x with the one that is given, and end before another: how many
+/// it painted, and the column behind them. A run that is known to be alike is painted row by row.
+fn paint_columns<I: Ink>(
+    ink: &I,
+    op: Op,
+    columns: Axis,
+    rows: Axis,
+    x: u64,
+    end: u64,
+    first: u32,
+    line: [u8; 4],
+    band: &mut Band<156, 32>,
+) -> (u64, [u8; 4])
+    requires low { I.height ink.now < 2 ^ 32 }
+    requires near { IsWithin (2 ^ 41) rows }
+    requires x { x < end }
+    requires end { end ≤ 1248 }
+    requires line { (k : ℕ) → k < 32 → dot line k ≡ laid Across columns rows (I.ink_at ink.now) (pos x)
+        (pos (first + k)) }
+    ensures some { 0 < result.0 }
+    ensures most { result.0 ≤ 1248 }
+    ensures painted { RowsPainted 32 op (λ d k. span x (x + result.0) d
+        && laid Across columns rows (I.ink_at ink.now) (pos d) (pos (first + k))) band.old band.new }
+    ensures line { (k : ℕ) → k < 32 → dot result.1 k ≡ laid Across columns rows (I.ink_at ink.now)
+        (pos (x + result.0)) (pos (first + k)) }
+{
+    let alike = alike_places(ink, columns, x, end);
+    if alike >= RUN {
+        let behind = column_of(ink, columns, rows, x + alike, first);
+        paint_run(op, line, x, x + alike, band);
+        return (alike, behind);
+    }
+    let lines = eight_columns(ink, columns, rows, x, first, line);
+    let behind = column_after(ink, columns, rows, x + 8, first, lines[7]);
+    lay_eight(op, &lines, x as usize, 0, band);
+    (8, behind)
+}
+
 /// Paints ink whose lines lie across the rows.
 fn paint_across<I: Ink>(
     ink: &I,
@@ -180,12 +240,13 @@ fn paint_across<I: Ink>(
     let (_, h) = ink.size();
     let (from, to) = columns.span(h);
     row_lengths(band);
-    let mut line = column_of(ink, columns, rows, from, first);
-    for j in 0..to.min(WIDTH).saturating_sub(from).div_ceil(8) {
-        let x = from + 8 * j;
-        let lines = eight_columns(ink, columns, rows, x, first, line);
-        lay_eight(op, &lines, x as usize, 0, band);
-        line = column_after(ink, columns, rows, x + 8, first, lines[7]);
+    let end = to.min(WIDTH);
+    let mut x = from;
+    let mut line = column_of(ink, columns, rows, x, first);
+    while x < end {
+        let (painted, behind) = paint_columns(ink, op, columns, rows, x, end, first, line, band);
+        x += painted;
+        line = behind;
     }
 }
 

@@ -1,5 +1,5 @@
 //! Texts.
-ghost use Rattle.std.specs.Prelude.{◌≡◌, ℕ, ◌+◌, ◌-◌, ◌*◌, ◌/◌, ◌<◌, ◌≤◌, ◌^◌, nat_le, ◌&&◌, ℤ, pos, ◌+ℤ◌, ◌<ℤ◌, length, slice_index};
+ghost use Rattle.std.specs.Prelude.{◌≡◌, true, ℕ, ◌+◌, ◌-◌, ◌*◌, ◌/◌, ◌<◌, ◌≤◌, ◌^◌, nat_le, ◌&&◌, ℤ, pos, ◌+ℤ◌, ◌<ℤ◌, length, slice_index};
 ghost use Rattle.vp_dots.specs.Dots.{shifted};
 ghost use Rattle.vp_dots.specs.Painting.{Painted};
 ghost use Rattle.vp_glyph.specs.Texts.{sampled_dot, text_dot, text_inside};
@@ -60,12 +60,13 @@ fn moved(at: i64, dots: u64) -> i64
     at + dots as i64
 }
 
-/// The row of a character of 24 rows that is shown in row y of one that is drawn so high.
-pub fn source_row(y: u32, high: u32) -> u32
-    requires { y < high }
-    ensures { result ≡ y * 24 / high }
+/// Whether row y of a character that is drawn so high shows the row of the sheet that the row above shows.
+pub fn shows_row_above(y: u32, high: u32) -> bool
+    requires some { 0 < y }
+    requires inside { y < high }
+    ensures { result ≡ true → y * 24 / high ≡ (y - 1) * 24 / high }
 {
-    (u64::from(y) * 24 / u64::from(high)) as u32
+    u64::from(y) * 24 % u64::from(high) >= 24
 }
 
 impl Cells<'_> {
@@ -145,6 +146,6 @@ impl Ink for Cells<'_> {
         if y >= self.h {
             return false;
         }
-        source_row(y, self.h) == source_row(y - 1, self.h)
+        shows_row_above(y, self.h)
     }
 }

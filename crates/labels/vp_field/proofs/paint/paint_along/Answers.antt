@@ -24,15 +24,15 @@ loop-k-preserved g c =
     let shown = λ (x k : ℕ). laid Along c.args.columns c.args.rows ink (pos x) (pos (c.args.first + k)) in
     let on = λ (u y : ℕ). at_place (λ v. ink u v) (dot_on c.args.rows (pos y)) in
     let falls = λ (d : ℕ). ap (λ n. at_place (line d) (dot_on c.args.rows (pos (n + c.loop-k.k)))) (sym c.from-first.ensures) ∙ c.dot_on.ensures (line d) (λ v e. let l = line_inside ink c.size-h.result.1 lines (dot_on c.args.columns (pos d)) v e in omega arith) in
-    let alike : (x k : ℕ) → c.loop-k.k ≤ k → k < c.loop-k.k + c.alike_rows-alike.result → shown x k ≡ shown x c.loop-k.k = λ x k a b.
+    let alike : (x k : ℕ) → c.loop-k.k ≤ k → k < c.loop-k.k + c.alike_places-alike.result → shown x k ≡ shown x c.loop-k.k = λ x k a b.
     laid_alike c.args.columns c.args.rows ink (pos x) (pos (c.args.first + k)) (pos (c.args.first + c.loop-k.k)) (λ u.
     let there : c.args.first + k ≡ c.from-first.result + c.loop-k.k + (k - c.loop-k.k) = omega (arith, c.from-first.ensures) in
     let here : c.from-first.result + c.loop-k.k ≡ c.args.first + c.loop-k.k = omega (arith, c.from-first.ensures) in
-    ap (on u) there ∙ c.alike_rows-alike.ensures.alike (k - c.loop-k.k) (omega arith) u ∙ ap (on u) here) in
+    ap (on u) there ∙ c.alike_places-alike.ensures.alike (k - c.loop-k.k) (omega arith) u ∙ ap (on u) here) in
     elim c.match-dot_on.branch [
-      | in-Some w ↦ rw w.band-is (rows_painted c.args.op shown (λ x. line x w.in-Some.v) c.loop-k.k c.alike_rows-alike.result
+      | in-Some w ↦ rw w.band-is (rows_painted c.args.op shown (λ x. line x w.in-Some.v) c.loop-k.k c.alike_places-alike.result
           (λ x k a b. alike x k a b ∙ falls x ∙ ap (λ o. unwrap_or (option_map (line x) o) false) w.in-Some.is) _ _ _ c.loop-k.invariant w.paint_alike.ensures)
-      | in_default w ↦ rw w.band-is (rows_passed c.args.op shown (λ x. shown x c.loop-k.k) c.loop-k.k c.alike_rows-alike.result alike _ _
+      | in_default w ↦ rw w.band-is (rows_passed c.args.op shown (λ x. shown x c.loop-k.k) c.loop-k.k c.alike_places-alike.result alike _ _
           (λ x. falls x ∙ ap (λ o. unwrap_or (option_map (line x) o) false) w.in_default.is) c.loop-k.invariant)
     ]
 
