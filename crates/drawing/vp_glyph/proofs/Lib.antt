@@ -12,3 +12,4 @@ pub mod Sides
 pub mod Spread
 pub mod Stacks
 pub mod Styled
+pub mod Masks

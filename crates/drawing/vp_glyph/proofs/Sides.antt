@@ -1,6 +1,7 @@
 -- Cells side by side.
-use Rattle.std.proofs.Common.{Bool, List, Option, ap, arith, false, get_or, inl, inr, leb, length, ltb, refl, sym, take, true, ℕ, ℤ, ◌%◌, ◌&&◌, ◌*◌, ◌+◌, ◌-◌, ◌/◌, ◌<◌, ◌||◌, ◌∙◌, ◌≡◌, ◌≤◌}
+use Rattle.std.proofs.Common.{Bool, List, Option, ap, arith, false, get_or, inl, inr, leb, length, ltb, refl, sym, take, true, pos, ℕ, ℤ, ◌+ℤ◌, ◌%◌, ◌&&◌, ◌*◌, ◌+◌, ◌-◌, ◌/◌, ◌<◌, ◌||◌, ◌∙◌, ◌≡◌, ◌≤◌}
 use Rattle.std.proofs.Math.Nat.{mul-le-mul_left}
+use Rattle.std.proofs.Math.Seq.{take-length}
 use Rattle.std.proofs.lemmas.List.{length-take-le, get_or-take}
 use Rattle.std.proofs.lemmas.Bool.{le-ltb, lt-ltb}
 use Rattle.std.proofs.lemmas.Bool.{cases_lt, le-leb, lt-leb}
@@ -8,6 +9,9 @@ use Rattle.vp_dots.specs.Dots.{shifted}
 use Rattle.vp_dots.specs.Painting.{Painted}
 use Rattle.vp_dots.specs.declared.Op.{Op}
 use Rattle.vp_dots.proofs.Moves.{moved_then, moved_same}
+use Rattle.vp_dots.proofs.Paints.{painted_none, painted_same}
+use Rattle.vp_dots.proofs.Shifts.{met}
+use Rattle.vp_glyph.proofs.Drawn.{moved_none}
 use Rattle.vp_glyph.proofs.Spread.{quotient}
 use Rattle.vp_glyph.specs.Sheets.{Glyphs}
 use Rattle.vp_glyph.specs.Texts.{sampled_dot, text_dot}
@@ -46,10 +50,9 @@ or_false : (b : Bool) → (b || false) ≡ b
 or_false true = refl
 or_false false = refl
 
-twice : (a b s : Bool) → (a && b && (b && s)) ≡ (a && (b && s))
-twice true true s = refl
-twice true false s = refl
-twice false b s = refl
+true_and : (a s : Bool) → (a && true && s) ≡ (a && s)
+true_and true s = refl
+true_and false s = refl
 
 module _ (op : Op) (at : ℤ) (sheet : Option Glyphs) (cells : List ℕ) (k w h left y : ℕ) (within : k ≤ length cells) (some : 0 < w) where
   module _ (i b place : ℕ) (l : i < k) (g : get_or cells i 0 ≡ b) (e : place ≡ left + w * i) where
@@ -91,7 +94,54 @@ module _ (op : Op) (at : ℤ) (sheet : Option Glyphs) (cells : List ℕ) (k w h 
           | inr j ↦ ap (λ v. v && (leb place x && sampled_dot sheet b w h (x - place) y)) (not_yet x j)
         ])
 
-  pub side_all : (i : ℕ) (a b : List ℕ) → i ≡ k → Painted op (shifted at (so_far sheet (take k cells) w h left y i)) a b → Painted op (shifted at (λ x. leb left x && text_dot sheet (take k cells) w h (x - left) y)) a b
-  unfolding text_dot
-  side_all i a b e p = moved_same op at (so_far sheet (take k cells) w h left y i) (λ x. leb left x && text_dot sheet (take k cells) w h (x - left) y) a b
-      (λ x. rw (e, length-take-le k cells within) (twice (leb left x) (ltb (x - left) (w * k)) (sampled_dot sheet (get_or (take k cells) ((x - left) / w) 0) w h ((x - left) % w) y))) p
+  -- left of the row's first dot nothing is painted
+  pub side_none : (i : ℕ) (row : List ℕ) → ((x d : ℕ) → left ≤ x → x < left + w * i → pos d ≡ at +ℤ pos x → d < 0) → Painted op (shifted at (so_far sheet (take k cells) w h left y i)) row row
+  side_none i row n = painted_none op (shifted at (so_far sheet (take k cells) w h left y i)) row (λ d l. elim (met at d) [
+    | inl q ↦ q.2 (so_far sheet (take k cells) w h left y i) ∙ elim (cases_lt q.0 left) [
+      | inl j ↦ rw (lt-leb left q.0 j) refl
+      | inr g ↦ elim (cases_lt (q.0 - left) (w * i)) [
+        | inl u ↦ absurd (let z = n q.0 d g (omega arith) q.1 in omega arith)
+        | inr u ↦ rw (le-ltb (q.0 - left) (w * i) u, and_false (leb left q.0)) refl
+      ]
+    ]
+    | inr q ↦ q.1 (so_far sheet (take k cells) w h left y i)
+  ])
+
+  -- nor right of its last one
+  pub side_all : (i to : ℕ) (a b : List ℕ) → to ≤ i → ((x d : ℕ) → left + w * to ≤ x → x < left + w * k → pos d ≡ at +ℤ pos x → 8 * length a ≤ d)
+      → Painted op (shifted at (so_far sheet (take k cells) w h left y i)) a b → Painted op (shifted at (λ x. leb left x && text_dot sheet (take k cells) w h (x - left) y)) a b
+  side_all i to a b e n p =
+      let f = so_far sheet (take k cells) w h left y i in
+      let g = λ (x : ℕ). leb left x && text_dot sheet (take k cells) w h (x - left) y in
+      let more = mul-le-mul_left {m = to} {n = i} w e in
+      painted_same op (shifted at f) (shifted at g) a b (λ d m. elim (met at d) [
+        | inl q ↦ q.2 f ∙ elim (cases_lt (q.0 - left) (w * i)) [
+          | inl u ↦ rw (lt-ltb (q.0 - left) (w * i) u) (true_and (leb left q.0) (text_dot sheet (take k cells) w h (q.0 - left) y))
+          | inr u ↦ elim (cases_lt q.0 (left + w * k)) [
+            | inl v ↦ elim (cases_lt q.0 left) [
+              | inl j ↦ rw (lt-leb left q.0 j) refl
+              | inr j ↦ absurd (let z = n q.0 d (omega arith) v q.1 in omega arith)
+            ]
+            | inr v ↦ rw (text_past sheet cells k w h (q.0 - left) y within (omega arith), and_false (leb left q.0 && ltb (q.0 - left) (w * i)), and_false (leb left q.0)) refl
+          ]
+        ] ∙ sym (q.2 g)
+        | inr q ↦ q.1 f ∙ sym (q.1 g)
+      ]) p
+
+module _ (op : Op) (at : ℤ) (sheet : Option Glyphs) (cells : List ℕ) (w h y : ℕ) where
+  -- a row below the cells
+  pub text_below : (row : List ℕ) → h ≤ y → Painted op (shifted at (λ x. text_dot sheet cells w h x y)) row row
+  unfolding text_dot sampled_dot
+  text_below row l = moved_none op at (λ x. text_dot sheet cells w h x y) row (λ x. rw (le-ltb y h l) (nothing (ltb x (w * length cells)) (ltb (x % w) w) _))
+    where
+      nothing : (a b c : Bool) → (a && (b && false && c)) ≡ false
+      nothing true true c = refl
+      nothing true false c = refl
+      nothing false b c = refl
+
+  -- all cells of a text that can be seen
+  pub text_all : 0 < w → (i to : ℕ) (a b : List ℕ) → to ≤ i → ((x d : ℕ) → 0 + w * to ≤ x → x < 0 + w * length cells → pos d ≡ at +ℤ pos x → 8 * length a ≤ d)
+      → Painted op (shifted at (so_far sheet (take (length cells) cells) w h 0 y i)) a b → Painted op (shifted at (λ x. text_dot sheet cells w h x y)) a b
+  text_all p i to a b e n q = moved_same op at (λ x. leb 0 x && text_dot sheet (take (length cells) cells) w h (x - 0) y) (λ x. text_dot sheet cells w h x y) a b
+      (λ x. let z : x - 0 ≡ x = omega arith in rw (le-leb 0 x (omega arith), z, take-length cells) refl)
+      (side_all op at sheet cells (length cells) w h 0 y (omega arith) p i to a b e n q)

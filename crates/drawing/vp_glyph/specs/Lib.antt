@@ -6,3 +6,4 @@ pub mod Cells
 pub mod Texts
 pub mod Blocks
 pub mod Inked
+pub mod Stretches

@@ -6,8 +6,9 @@ ghost use Rattle.vp_glyph.specs.Texts.{text_dot};
 ghost use Rattle.vp_glyph.specs.Blocks.{pieces, first, indent, pitch, block_lines, line_dot, lines_dot, block_width, block_height, block_dot, block_inside};
 
 use crate::lines::{Line, behind_cells, next_cell, next_line};
-use crate::sampled::Sampled;
+use crate::sampled::{Sampled, paint_cell, seen, source_row};
 use crate::sheet::Sheet;
+use crate::stretch::Stretch;
 use std::alloc::AllocError;
 use vp_dots::{Ink, Op, xor_into};
 
@@ -101,11 +102,11 @@ fn dot_of_line(line: Line<'_>, sheet: &Option<Sheet>, w: u32, h: u32, x: u32, y:
     cell.ink(x % w, y)
 }
 
-/// Paints row y of a line, from its left and top on.
+/// Paints row y of a line, from its left and top on: the cells that can be seen on the row.
 fn paint_line(
     line: Line<'_>,
     sheet: &Option<Sheet>,
-    w: u32,
+    stretch: &Stretch,
     h: u32,
     y: u32,
     op: Op,
@@ -113,26 +114,24 @@ fn paint_line(
     left: u32,
     row: &mut [u8],
 )
-    requires w { 0 < w }
+    requires w { 0 < stretch.now.width }
+    requires y { y < h }
     requires cells { line.cells ≤ length (first (pieces line.text.now)) }
-    requires fits { left + w * line.cells < 2 ^ 32 }
+    requires fits { left + stretch.now.width * line.cells < 2 ^ 32 }
     ensures { Painted op (shifted at (λ x. nat_le left x
-        && text_dot sheet.now (take line.entry.cells (first (pieces line.entry.text.now))) w h
-        (x - left) y)) row.old row.new }
+        && text_dot sheet.now (take line.entry.cells (first (pieces line.entry.text.now)))
+        stretch.now.width h (x - left) y)) row.old row.new }
 {
-    let mut rest = line.text;
-    let mut place = left;
-    for _i in 0..line.cells {
+    let w = stretch.width;
+    let source = source_row(y, h);
+    let (from, to) = seen(at, left, w, line.cells, row.len());
+    let mut rest = behind_cells(line.text, from);
+    let mut place = left + w * from as u32;
+    for _i in from..to {
         let Some((character, behind)) = next_cell(rest) else {
             unreachable!()
         };
-        let cell = Sampled {
-            sheet,
-            character,
-            w,
-            h,
-        };
-        cell.paint_from(y, op, at, place, row);
+        paint_cell(sheet, character, source, stretch, op, at, place, row);
         place += w;
         rest = behind;
     }
@@ -225,7 +224,17 @@ impl Block<'_> {
     }
 
     /// Paints row y of a line that stands so many lines below the first.
-    fn paint_line(&self, line: Line<'_>, place: u32, y: u32, op: Op, at: i64, row: &mut [u8])
+    fn paint_line(
+        &self,
+        line: Line<'_>,
+        stretch: &Stretch,
+        place: u32,
+        y: u32,
+        op: Op,
+        at: i64,
+        row: &mut [u8],
+    )
+        requires stretch { stretch.now.width ≡ self.now.w }
         requires cells { line.cells ≤ length (first (pieces line.text.now)) }
         requires most { line.cells ≤ self.now.wide / self.now.w }
         requires place { place ≤ self.now.rows - 1 }
@@ -241,7 +250,17 @@ impl Block<'_> {
         let left = self
             .alignment
             .indent(self.wide - self.w * line.cells as u32);
-        paint_line(line, self.sheet, self.w, self.h, y - top, op, at, left, row);
+        paint_line(
+            line,
+            self.sheet,
+            stretch,
+            self.h,
+            y - top,
+            op,
+            at,
+            left,
+            row,
+        );
     }
 
     /// Paints row y black or white, line over line.
@@ -253,6 +272,7 @@ impl Block<'_> {
             self.now.h self.now.wide self.now.rows self.now.pitch self.now.alignment x y)) row.old row.new }
     {
         let most = (self.wide / self.w) as usize;
+        let stretch = Stretch::new(self.w);
         let (above, text) = self.first_line(y);
         let mut place = above;
         let mut left = Some(text);
@@ -261,7 +281,7 @@ impl Block<'_> {
                 return;
             }
             let (line, rest) = next_line(text, most);
-            self.paint_line(line, place, y, op, at, row);
+            self.paint_line(line, &stretch, place, y, op, at, row);
             place = (place + 1).min(self.rows.saturating_sub(1));
             left = rest;
         }

@@ -7,7 +7,8 @@
 //!
 //! - `header`, `sheet`: the file and its refusals, and the dots of its cells.
 //! - `cell`, `look`: a character in a font and a style, dot by dot and as the words of its rows.
-//! - `sampled`: a character at any size.
+//! - `sampled`, `stretch`: a character at any size, and the dots of its rows as a word.
+//! - `text`: characters side by side.
 //! - `lines`, `block`: a text broken into lines, and the lines below each other.
 #![tactic(auto)]
 
@@ -21,6 +22,8 @@ mod lines;
 mod look;
 mod sampled;
 mod sheet;
+mod stretch;
+mod text;
 
 pub use block::{Alignment, Block};
 pub use cell::{Cell, Font, Style};
@@ -28,6 +31,7 @@ pub use header::header_law;
 pub use lines::lines_law;
 pub use sampled::Sampled;
 pub use sheet::{Sheet, SheetError};
+pub use text::paint_text;
 
 /// The sheets of the two fonts, as far as there are any.
 #[derive(Drop)]

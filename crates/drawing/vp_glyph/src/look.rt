@@ -8,7 +8,7 @@ use vp_dots::{Op, fill_moved};
 
 #[tactic(auto, using(crate::proofs::Spread::edge_within))]
 /// Where dot s begins, of N that are drawn so wide in all.
-fn edge<const N: u32>(s: u32, width: u32) -> u32
+pub fn edge<const N: u32>(s: u32, width: u32) -> u32
     requires some { 0 < N }
     requires few { N ≤ 16 }
     requires s { s ≤ N }
@@ -19,7 +19,7 @@ fn edge<const N: u32>(s: u32, width: u32) -> u32
 }
 
 /// Dot x of a word.
-fn dot_in_word(word: u64, x: u32) -> bool
+pub fn dot_in_word(word: u64, x: u32) -> bool
     requires { x < 64 }
     ensures { result ≡ word_dot word x }
 {

@@ -1,5 +1,5 @@
 //! Characters of sheet A at any size.
-ghost use Rattle.std.specs.Prelude.{◌≡◌, ◌+◌, ◌-◌, ◌*◌, ◌/◌, ◌<◌, ◌^◌, nat_le, ◌&&◌};
+ghost use Rattle.std.specs.Prelude.{◌≡◌, ℕ, ◌+◌, ◌-◌, ◌*◌, ◌/◌, ◌<◌, ◌≤◌, ◌^◌, nat_le, min, ◌&&◌, pos, ◌+ℤ◌};
 ghost use Rattle.vp_dots.specs.Dots.{shifted};
 ghost use Rattle.vp_dots.specs.Painting.{Painted};
 ghost use Rattle.vp_glyph.specs.Sheets.{scaled_dot};
@@ -7,6 +7,7 @@ ghost use Rattle.vp_glyph.specs.Texts.{sampled_dot, sampled_inside};
 
 use crate::look::paint_scaled;
 use crate::sheet::{Sheet, dot_in, row_at, rows_in};
+use crate::stretch::Stretch;
 use vp_dots::{Ink, Op};
 
 /// A character of a sheet with cells of 12 by 24, drawn w by h dots.
@@ -26,6 +27,67 @@ fn sampled_place(place: u32, cell: u32, size: u32) -> u32
     ensures { result ≡ place * cell / size }
 {
     (u64::from(place) * u64::from(cell) / u64::from(size)) as u32
+}
+
+/// Paints one row of a character from a place on, stretched to a width: row `source` of its cell.
+pub fn paint_cell(
+    sheet: &Option<Sheet>,
+    character: u8,
+    source: usize,
+    stretch: &Stretch,
+    op: Op,
+    at: i64,
+    left: u32,
+    row: &mut [u8],
+)
+    requires { left + stretch.now.width < 2 ^ 32 }
+    ensures { (h y : ℕ) → y < h → source ≡ y * 24 / h → Painted op (shifted at (λ x. nat_le left x
+        && sampled_dot sheet.now character stretch.now.width h (x - left) y)) row.old row.new }
+{
+    let word = row_at(rows_in(sheet, character), source);
+    stretch.paint(word, op, at, left, row);
+}
+
+/// Which row of a cell is shown in row y of a character that is drawn so high.
+pub fn source_row(y: u32, high: u32) -> usize
+    requires { y < high }
+    ensures { result ≡ y * 24 / high }
+{
+    sampled_place(y, 24, high) as usize
+}
+
+/// How far a place lies behind the first of so many, none before it and all behind the last.
+fn within(place: u128, left: u32, places: u32) -> u32
+    ensures { result ≡ min (place - left) places }
+{
+    place
+        .saturating_sub(u128::from(left))
+        .min(u128::from(places)) as u32
+}
+
+/// Of so many cells of w dots side by side, which begin at a place, the first that can be seen on a row of so
+/// many bytes, and the one behind the last.
+pub fn seen(at: i64, left: u32, w: u32, cells: usize, bytes: usize) -> (usize, usize)
+    requires some { 0 < w }
+    requires fits { left + w * cells < 2 ^ 32 }
+    ensures before { (x d : ℕ) → left ≤ x → x < left + w * result.0 → pos d ≡ at +ℤ pos x → d < 0 }
+    ensures behind { (x d : ℕ) → left + w * result.1 ≤ x → x < left + w * cells → pos d ≡ at +ℤ pos x
+        → 8 * bytes ≤ d }
+    ensures first { result.0 ≤ cells }
+    ensures last { result.1 ≤ cells }
+{
+    let far = u128::from(at.unsigned_abs());
+    let room = 8 * bytes as u128;
+    let (from, to) = if at >= 0 {
+        (0, room.saturating_sub(far))
+    } else {
+        (far, room + far)
+    };
+    let wide = w * cells as u32;
+    (
+        (within(from, left, wide) / w) as usize,
+        within(to, left, wide).div_ceil(w) as usize,
+    )
 }
 
 impl Sampled<'_> {

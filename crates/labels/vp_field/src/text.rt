@@ -1,12 +1,10 @@
 //! Texts.
-ghost use Rattle.std.specs.Prelude.{◌≡◌, true, ℕ, ◌+◌, ◌-◌, ◌*◌, ◌/◌, ◌<◌, ◌≤◌, ◌^◌, nat_le, ◌&&◌, ℤ, pos, ◌+ℤ◌, ◌<ℤ◌, length, slice_index};
-ghost use Rattle.vp_dots.specs.Dots.{shifted};
-ghost use Rattle.vp_dots.specs.Painting.{Painted};
-ghost use Rattle.vp_glyph.specs.Texts.{sampled_dot, text_dot, text_inside};
+ghost use Rattle.std.specs.Prelude.{◌≡◌, true, ◌-◌, ◌*◌, ◌/◌, ◌<◌, ◌^◌, length, slice_index};
+ghost use Rattle.vp_glyph.specs.Texts.{text_dot, text_inside};
 
 use std::alloc::AllocError;
-use vp_dots::{Ink, Op, fill_moved};
-use vp_glyph::{Sampled, Sheet};
+use vp_dots::{Ink, Op};
+use vp_glyph::{Sampled, Sheet, paint_text};
 
 /// The cells of a text side by side, each w by h dots.
 pub struct Cells<'a> {
@@ -24,40 +22,6 @@ impl Clone for Cells<'_> {
     fn clone(&self) -> Result<Self, AllocError> {
         Ok(*self)
     }
-}
-
-/// Offsets from here on lie far past any label.
-const FAR: i64 = 1 << 40;
-
-/// The first of `count` cells of w dots that can be seen on a row of so many bytes, and the one behind the
-/// last, where the first begins at an offset.
-fn visible(at: i64, w: u32, count: usize, bytes: usize) -> (usize, usize)
-    requires some { 0 < w }
-    ensures before { (x d : ℕ) → x < w * result.0 → pos d ≡ at +ℤ pos x → d < 0 }
-    ensures behind { (x d : ℕ) → w * result.1 ≤ x → x < w * count → pos d ≡ at +ℤ pos x → 8 * bytes ≤ d }
-    ensures within { result.1 ≤ count }
-{
-    let far = u128::from(at.unsigned_abs());
-    let w = u128::from(w);
-    let room = 8 * bytes as u128;
-    if at >= 0 {
-        (
-            0,
-            room.saturating_sub(far).div_ceil(w).min(count as u128) as usize,
-        )
-    } else {
-        let from = (far / w).min(count as u128) as usize;
-        (from, (room + far).div_ceil(w).min(count as u128) as usize)
-    }
-}
-
-/// The offset of a cell that begins so many dots behind the first.
-fn moved(at: i64, dots: u64) -> i64
-    requires near { at <ℤ pos (2 ^ 40) }
-    requires few { dots < 2 ^ 32 }
-    ensures { result ≡ at +ℤ pos dots }
-{
-    at + dots as i64
 }
 
 /// Whether row y of a character that is drawn so high shows the row of the sheet that the row above shows.
@@ -84,32 +48,6 @@ impl Cells<'_> {
             h: self.h,
         }
     }
-
-    /// Paints the cells of line y that can be seen on the row.
-    fn paint_cells(&self, y: u32, op: Op, at: i64, row: &mut [u8])
-        requires { at <ℤ pos (2 ^ 40) }
-        ensures { Painted op (shifted at (λ x.
-            text_dot self.now.sheet.now self.now.text.now self.now.w self.now.h x y)) row.old row.new }
-    {
-        let (from, to) = visible(at, self.w, self.text.len(), row.len());
-        for k in from..to {
-            let left = moved(at, u64::from(self.w) * k as u64);
-            self.cell(k).paint_row(y, op, left, row);
-        }
-    }
-
-    /// Paints line y dot by dot.
-    fn paint_dots(&self, y: u32, op: Op, at: i64, row: &mut [u8])
-        ensures { Painted op (shifted at (λ x.
-            text_dot self.now.sheet.now self.now.text.now self.now.w self.now.h x y)) row.old row.new }
-    {
-        let (width, _) = self.size();
-        for x in 0..width {
-            if self.ink(x, y) {
-                fill_moved(op, at, x, x + 1, row);
-            }
-        }
-    }
 }
 
 impl Ink for Cells<'_> {
@@ -132,11 +70,7 @@ impl Ink for Cells<'_> {
     }
 
     fn paint_row(&self, y: u32, op: Op, at: i64, row: &mut [u8]) {
-        if at < FAR {
-            self.paint_cells(y, op, at, row);
-        } else {
-            self.paint_dots(y, op, at, row);
-        }
+        paint_text(self.sheet, self.text, self.w, self.h, y, op, at, row);
     }
 
     fn repeats(&self, y: u32) -> bool {

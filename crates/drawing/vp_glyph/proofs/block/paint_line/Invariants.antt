@@ -10,6 +10,6 @@ use Rattle.vp_glyph.proofs.block.paint_line.Given as goal
 abbrev pub invariant-loop-i : goal.invariant-loop-i
 invariant-loop-i l = record {
   behind : Behind l._i (pieces l.line.text.now) (pieces l.rest);
-  place_is : l.place ≡ l.left + l.w * l._i;
-  painted : Painted l.op (shifted l.fn.at (so_far l.sheet (take l.line.cells (first (pieces l.line.text.now))) l.w l.h l.left l.y l._i)) l.fn.row l.row;
+  place_is : l.place ≡ l.left + l.stretch.width * l._i;
+  painted : Painted l.op (shifted l.fn.at (so_far l.sheet (take l.line.cells (first (pieces l.line.text.now))) l.stretch.width l.h l.left l.y l._i)) l.fn.row l.row;
 }

@@ -1,0 +1,108 @@
+//! The dots of a row of a character, each drawn at another width.
+ghost use Rattle.std.specs.Prelude.{◌≡◌, ℕ, ◌+◌, ◌-◌, ◌*◌, ◌/◌, ◌<◌, ◌≤◌, ◌^◌, nat_lt, nat_le, ◌&&◌, pos, ◌+ℤ◌, ◌<ℤ◌};
+ghost use Rattle.vp_dots.specs.Dots.{shifted, span};
+ghost use Rattle.vp_dots.specs.Painting.{Painted};
+ghost use Rattle.vp_dots.specs.Words.{word_dot};
+ghost use Rattle.vp_glyph.specs.Stretches.{StretchedBy};
+
+use crate::look::{dot_in_word, edge, inverted, paint_scaled, shared};
+use vp_dots::{Op, first_dots, paint_word};
+
+/// The dots of a row of a cell.
+const CELL: u32 = 12;
+
+/// So many dots are a word.
+const WORD: u32 = 64;
+
+/// Offsets from here on lie far past any row.
+const FAR: i64 = 1 << 40;
+
+/// Twelve dots drawn so wide in all.
+#[derive(Clone, Copy)]
+pub struct Stretch {
+    pub width: u32,
+    /// The dots of a word on which each of the twelve falls, where all fall on one.
+    masks: [u64; 12],
+    ghost masks_are: { width ≤ 64 → StretchedBy width masks },
+}
+
+/// A word that is black from one dot to another.
+fn mask(from: u32, to: u32) -> u64
+    requires from { from ≤ 64 }
+    requires to { to ≤ 64 }
+    ensures { (x : ℕ) → word_dot result x ≡ span from to x }
+{
+    shared(inverted(first_dots(from)), first_dots(to))
+}
+
+/// On which dots of a word each of twelve falls, that are drawn so wide in all.
+fn masks(width: u32) -> [u64; 12]
+    requires { width ≤ 64 }
+    ensures { StretchedBy width result }
+{
+    let mut masks = [0u64; 12];
+    for s in 0..CELL {
+        masks[s as usize] = mask(edge::<12>(s, width), edge::<12>(s + 1, width));
+    }
+    masks
+}
+
+/// The mask of dot s, where a word has that.
+fn picked(word: u64, s: u32, mask: u64) -> u64
+    requires { s < 64 }
+    ensures { (x : ℕ) → word_dot result x ≡ (word_dot word s && word_dot mask x) }
+{
+    if dot_in_word(word, s) { mask } else { 0 }
+}
+
+/// The offset of what begins so many dots behind another.
+fn moved(at: i64, dots: u32) -> i64
+    requires near { at <ℤ pos (2 ^ 40) }
+    ensures { result ≡ at +ℤ pos dots }
+{
+    at + i64::from(dots)
+}
+
+impl Stretch {
+    /// Twelve dots drawn so wide.
+    pub fn new(width: u32) -> Stretch
+        ensures { result.width ≡ width }
+    {
+        if width > WORD {
+            return Stretch {
+                width,
+                masks: [0; 12],
+            };
+        }
+        Stretch {
+            width,
+            masks: masks(width),
+        }
+    }
+
+    /// The first twelve dots of a word, drawn so wide.
+    fn of(&self, word: u64) -> u64
+        requires { self.now.width ≤ 64 }
+        ensures { (x : ℕ) → word_dot result x ≡ (nat_lt x self.now.width
+            && word_dot word (x * 12 / self.now.width)) }
+    {
+        let mut wide = 0u64;
+        for s in 0..CELL {
+            wide |= picked(word, s, self.masks[s as usize]);
+        }
+        wide
+    }
+
+    /// Paints the first twelve dots of a word from a place on.
+    pub fn paint(&self, word: u64, op: Op, at: i64, left: u32, row: &mut [u8])
+        requires fits { left + self.now.width < 2 ^ 32 }
+        ensures { Painted op (shifted at (λ x. nat_le left x && nat_lt (x - left) self.now.width
+            && word_dot word ((x - left) * 12 / self.now.width))) row.old row.new }
+    {
+        if self.width > WORD || at >= FAR {
+            paint_scaled::<12>(op, at, word, left, self.width, row);
+            return;
+        }
+        paint_word(op, self.of(word), moved(at, left), row);
+    }
+}
