@@ -22,8 +22,9 @@ fn next_piece(text: &[u8]) -> Option<(Piece, &[u8])>
     }
 }
 
-/// The cell at the front of a text, unless its paragraph ends there, and what stands behind it.
-pub fn next_cell(text: &[u8]) -> Option<(u8, &[u8])>
+/// The cell of the piece at the front of a text, unless its paragraph ends there, and what stands behind it.
+#[inline(never)]
+fn cell_of_piece(text: &[u8]) -> Option<(u8, &[u8])>
     ensures { MatchOption result (first (pieces text.now) ≡ []) (λ r. pieces text.now
         ≡ Piece.Cell r.0 ∷ pieces r.1.now) }
 {
@@ -33,27 +34,73 @@ pub fn next_cell(text: &[u8]) -> Option<(u8, &[u8])>
     }
 }
 
+/// The same, found at once where the text doesn't begin with a backslash.
+#[inline(always)]
+pub fn next_cell(text: &[u8]) -> Option<(u8, &[u8])>
+    ensures { MatchOption result (first (pieces text.now) ≡ []) (λ r. pieces text.now
+        ≡ Piece.Cell r.0 ∷ pieces r.1.now) }
+{
+    match text {
+        [b, rest @ ..] if *b != b'\\' => Some((*b, rest)),
+        _ => cell_of_piece(text),
+    }
+}
+
+/// The front of a paragraph.
+struct Measured<'a> {
+    /// How many cells are left in the paragraph, or one more than fit into a line.
+    cells: usize,
+    /// The last blank among them behind the first, or 0.
+    blank: usize,
+    /// What stands behind those of them that fit into a line.
+    behind: &'a [u8],
+}
+
+/// The front of a paragraph, in lines of at most so many cells.
 #[tactic(auto, using(crate::proofs::Breaking::last_blank_within))]
-/// How many cells are left in the paragraph, or one more than `most`, and the last blank among them behind
-/// the first.
-fn measure(text: &[u8], most: usize) -> (usize, usize)
+fn measure(text: &[u8], most: usize) -> Measured<'_>
     requires { most < 2 ^ 32 }
-    ensures cells { result.0 ≡ min (length (first (pieces text.now))) (most + 1) }
-    ensures blank { result.1 ≡ last_blank (result.0 - 1) (first (pieces text.now)) }
-    ensures within { result.1 ≤ result.0 - 1 }
+    ensures cells { result.cells ≡ min (length (first (pieces text.now))) (most + 1) }
+    ensures blank { result.blank ≡ last_blank (result.cells - 1) (first (pieces text.now)) }
+    ensures within { result.blank ≤ result.cells - 1 }
+    ensures first { first (pieces result.behind.now)
+        ≡ drop (min result.cells most) (first (pieces text.now)) }
+    ensures others { others (pieces result.behind.now) ≡ others (pieces text.now) }
 {
     let mut at = text;
     let mut blank = 0;
-    for i in 0..most + 1 {
+    for i in 0..most {
         let Some((b, rest)) = next_cell(at) else {
-            return (i, blank);
+            return Measured {
+                cells: i,
+                blank,
+                behind: at,
+            };
         };
         if b == b' ' {
             blank = i;
         }
         at = rest;
     }
-    (most + 1, blank)
+    let Some((b, _)) = next_cell(at) else {
+        return Measured {
+            cells: most,
+            blank,
+            behind: at,
+        };
+    };
+    if b == b' ' {
+        return Measured {
+            cells: most + 1,
+            blank: most,
+            behind: at,
+        };
+    }
+    Measured {
+        cells: most + 1,
+        blank,
+        behind: at,
+    }
 }
 
 /// A text behind its first cells.
@@ -102,13 +149,15 @@ pub fn next_line(text: &[u8], most: usize) -> (Line<'_>, Option<&[u8]>)
         in MatchOption result.1 (block_lines most text.now ≡ line ∷ []) (λ r. block_lines most text.now
         ≡ line ∷ block_lines most r.now) }
 {
-    let (cells, blank) = measure(text, most);
+    let Measured {
+        cells,
+        blank,
+        behind,
+    } = measure(text, most);
     if cells <= most {
-        let behind = next_paragraph(behind_cells(text, cells));
-        return (Line { text, cells }, behind);
+        return (Line { text, cells }, next_paragraph(behind));
     }
     if blank == 0 {
-        let behind = behind_cells(text, most);
         return (Line { text, cells: most }, Some(behind));
     }
     let line = Line { text, cells: blank };

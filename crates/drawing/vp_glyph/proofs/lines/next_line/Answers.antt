@@ -1,4 +1,4 @@
-use Rattle.std.proofs.Common.{◌≡◌, ◌+◌, ◌-◌, arith, sym, ap, ◌∙◌, ℕ, List}
+use Rattle.std.proofs.Common.{◌≡◌, ◌+◌, ◌-◌, arith, sym, ap, ◌∙◌, ℕ, List, min}
 use Rattle.vp_glyph.specs.Blocks.{last_blank}
 use Rattle.vp_glyph.proofs.Breaking.{block_short, cut_hard, cut_blank, cut_last, paragraph_next}
 use Rattle.vp_glyph.proofs.Pieces.{some_cell}
@@ -6,7 +6,7 @@ use Rattle.vp_glyph.proofs.lines.next_line.Goals as goal
 
 pub returns-then-cells-most-clause-lines : goal.returns-then-cells-most-clause-lines
 returns-then-cells-most-clause-lines c =
-    paragraph_next c.args.most c.args.text.now _ _ _ _ (block_short c.args.most c.measure-cells.result.0 c.args.text.now (omega arith) (omega arith)) c.behind_cells.ensures.others c.next_paragraph-behind.ensures
+    paragraph_next c.args.most c.args.text.now _ _ _ _ (block_short c.args.most c.measure-cells.result.cells c.args.text.now (omega arith) (omega arith)) c.measure-cells.ensures.others c.next_paragraph.ensures
 
 -- the last blank of more than n cells
 blank_is : (n t b : ℕ) (cells : List ℕ) → b ≡ last_blank (t - 1) cells → t ≡ n + 1 → last_blank n cells ≡ b
@@ -14,20 +14,21 @@ blank_is n t b cells e w = let z : n ≡ t - 1 = omega arith in ap (λ k. last_b
 
 pub returns-then-blank-eq0-clause-lines : goal.returns-then-blank-eq0-clause-lines
 returns-then-blank-eq0-clause-lines c =
-    cut_hard c.args.most c.args.text.now c.behind_cells-behind.result.now c.requires.some (omega arith)
-    (blank_is c.args.most c.measure-cells.result.0 c.measure-cells.result.1 _ c.measure-cells.ensures.blank (omega arith) ∙ c.if-blank-eq0.true)
-    c.behind_cells-behind.ensures.first c.behind_cells-behind.ensures.others
+    let fits : min c.measure-cells.result.cells c.args.most ≡ c.args.most = omega arith in
+    cut_hard c.args.most c.args.text.now c.measure-cells.result.behind.now c.requires.some (omega arith)
+    (blank_is c.args.most c.measure-cells.result.cells c.measure-cells.result.blank _ c.measure-cells.ensures.blank (omega arith) ∙ c.if-blank-eq0.true)
+    (rw fits at c.measure-cells.ensures.first) c.measure-cells.ensures.others
 
 pub returns-in_default-clause-lines : goal.returns-in_default-clause-lines
 returns-in_default-clause-lines c =
     paragraph_next c.args.most c.args.text.now _ _ _ _
-    (cut_last c.args.most c.args.text.now c.behind_cells-behind-2.result.now c.requires.some (omega arith) c.measure-cells.result.1
-    (blank_is c.args.most c.measure-cells.result.0 c.measure-cells.result.1 _ c.measure-cells.ensures.blank (omega arith)) (omega arith)
-    c.behind_cells-behind-2.ensures.first c.in_default.ensures)
-    c.behind_cells-behind-2.ensures.others c.next_paragraph.ensures
+    (cut_last c.args.most c.args.text.now c.behind_cells-behind.result.now c.requires.some (omega arith) c.measure-cells.result.blank
+    (blank_is c.args.most c.measure-cells.result.cells c.measure-cells.result.blank _ c.measure-cells.ensures.blank (omega arith)) (omega arith)
+    c.behind_cells-behind.ensures.first c.in_default.ensures)
+    c.behind_cells-behind.ensures.others c.next_paragraph-in_default.ensures
 
 pub returns-clause-lines : goal.returns-clause-lines
 returns-clause-lines c =
-    cut_blank c.args.most c.args.text.now c.behind_cells-behind-2.result.now c.requires.some (omega arith) c.measure-cells.result.1
-    (blank_is c.args.most c.measure-cells.result.0 c.measure-cells.result.1 _ c.measure-cells.ensures.blank (omega arith)) (omega arith)
-    c.behind_cells-behind-2.ensures.first c.behind_cells-behind-2.ensures.others (some_cell _ _ _ c.in-Some.ensures)
+    cut_blank c.args.most c.args.text.now c.behind_cells-behind.result.now c.requires.some (omega arith) c.measure-cells.result.blank
+    (blank_is c.args.most c.measure-cells.result.cells c.measure-cells.result.blank _ c.measure-cells.ensures.blank (omega arith)) (omega arith)
+    c.behind_cells-behind.ensures.first c.behind_cells-behind.ensures.others (some_cell _ _ _ c.in-Some.ensures)
