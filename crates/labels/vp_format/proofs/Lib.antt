@@ -1,8 +1,10 @@
 pub mod Bytes
 pub mod Ends
 pub mod Even
+pub mod Lanes
 pub mod Marks
 pub mod Nibbles
 pub mod Places
+pub mod Quick
 pub mod Reached
 pub mod Skipped

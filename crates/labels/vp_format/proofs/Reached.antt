@@ -1,5 +1,5 @@
 -- What symbols show of a row, and how many bytes spell them.
-use Rattle.std.proofs.Common.{inl, inr, ◌≡◌, ℕ, ◌+◌, ◌-◌, ◌*◌, ◌/◌, ◌<◌, ◌≤◌, true, false, ltb, eqb, cond, List, [], ◌∷◌, drop, set, length, get_or, Option, Some, subst, ap, sym, ◌∙◌, refl, arith}
+use Rattle.std.proofs.Common.{inl, inr, ◌≡◌, ℕ, ◌+◌, ◌-◌, ◌*◌, ◌/◌, ◌<◌, ◌≤◌, true, false, ltb, eqb, cond, List, [], ◌∷◌, drop, length, get_or, Option, Some, subst, ap, sym, ◌∙◌, refl, arith}
 use Rattle.std.proofs.Math.Seq.{drop-length}
 use Rattle.std.proofs.lemmas.List.{drop_more}
 use Rattle.std.proofs.lemmas.Bool.{cases_lt, ne_eqb, lt-ltb, le-ltb, true≢false, false≢true}
@@ -12,10 +12,9 @@ use Rattle.vp_format.specs.declared.row.RowEnd.{RowEnd}
 use Rattle.vp_format.specs.declared.codes.Symbol.{Symbol}
 use Rattle.vp_format.specs.declared.codes.Symbol.TheVariants.{Digits, ToEnd, Again, Refused}
 use Rattle.vp_format.specs.Codes.{code_of, Spelled, spelled, joined, symbols_behind}
-use Rattle.vp_format.specs.Pictures.{Value, AsAbove, Nothing, shown, shows, end_of, bytes_before, value_of, nibble}
+use Rattle.vp_format.specs.Pictures.{Value, AsAbove, Nothing, shown, shows, end_of, bytes_before, value_of, is_nothing, nibble}
 use Rattle.vp_format.specs.declared.reading.Codes.{Codes}
-use Rattle.vp_format.specs.Cursors.{digit_value, symbols_from, symbols_at, held, InHand, IsReading, Advanced, IsSpot, Filled, Decoded, Reached}
-use Rattle.vp_format.proofs.Nibbles.{pair_first, pair_second}
+use Rattle.vp_format.specs.Cursors.{digit_value, symbols_from, symbols_at, held, InHand, IsReading, Advanced, IsSpot, AreSmall, Filled, Decoded, Reached}
 
 -- a place that the first symbol covers
 pub shown_in : (w p : ℕ) (s : Spelled) (ss : List Spelled) (j : ℕ) → j < end_of w p s.symbol → shown w p (s ∷ ss) j ≡ shows w p s.symbol
@@ -39,14 +38,15 @@ row_end : (w p : ℕ) → p < w → (p / w + 1) * w ≡ w
 row_end w p h = ap (λ q. (q + 1) * w) (div-eq_of_lt h) ∙ omega arith
 
 -- a span that is filled with what its symbols show
-reached_more : (w : ℕ) (all : List Spelled) (from : ℕ) (old new : List ℕ) (x to v : ℕ) (ss left : List Spelled) (at k : ℕ) → x ≤ to → Reached w all from old x ss at → Filled x to v old new
+reached_more : (w : ℕ) (all : List Spelled) (from : ℕ) (old new : List ℕ) (x to v : ℕ) (ss left : List Spelled) (at k : ℕ) → x ≤ to → v < 16 → Reached w all from old x ss at → Filled x to v old new
     → ((j : ℕ) → x ≤ j → j < to → shown w x ss j ≡ Value v) → ((j : ℕ) → to ≤ j → shown w x ss j ≡ shown w to left j)
     → ((j : ℕ) → to ≤ j → bytes_before w x ss j ≡ k + bytes_before w to left j) → Reached w all from new to left (at + k)
-reached_more w all from old new x to v ss left at k h r f inside behind more = record {
+reached_more w all from old new x to v ss left at k h few r f inside behind more = record {
   so_far = λ j l. elim (cases_lt j x) [
     | inl b ↦ r.so_far j b ∙ ap Value (sym (f.kept j b))
     | inr b ↦ r.ahead j b ∙ inside j b l ∙ ap Value (sym (f.filled j b l))
   ];
+  small = λ j l. elim (cases_lt j x) [ inl b ↦ omega (arith, f.kept j b, r.small j b) | inr b ↦ omega (arith, f.filled j b l, few) ];
   ahead = λ j l. r.ahead j (omega arith) ∙ behind j l;
   bytes = λ j l. let e = r.bytes j (omega arith) in let g = more j l in omega arith;
 }
@@ -66,9 +66,9 @@ pub bytes_over : (w p v : ℕ) (ss : List Spelled) (j : ℕ) → p ≤ j → byt
 bytes_over w p v ss j h = bytes_run w p 0 v ss j h ∙ ap (λ q. bytes_before w q ss j) (omega arith)
 
 -- a digit's run as far as it goes, and what is left of it
-pub run_reached : (w : ℕ) (all : List Spelled) (from : ℕ) (old new : List ℕ) (x to n v k : ℕ) (left : List Spelled) (at : ℕ) → x < to → to ≤ x + n → Reached w all from old x (spelled (Digits n v) k ∷ left) at
+pub run_reached : (w : ℕ) (all : List Spelled) (from : ℕ) (old new : List ℕ) (x to n v k : ℕ) (left : List Spelled) (at : ℕ) → x < to → to ≤ x + n → v < 16 → Reached w all from old x (spelled (Digits n v) k ∷ left) at
     → Filled x to v old new → Reached w all from new to (spelled (Digits (n - (to - x)) v) 0 ∷ left) (at + k)
-run_reached w all from old new x to n v k left at h e r f = reached_more w all from old new x to v (spelled (Digits n v) k ∷ left) (spelled (Digits (n - (to - x)) v) 0 ∷ left) at k (omega arith) r f
+run_reached w all from old new x to n v k left at h e few r f = reached_more w all from old new x to v (spelled (Digits n v) k ∷ left) (spelled (Digits (n - (to - x)) v) 0 ∷ left) at k (omega arith) few r f
     (λ j l m. shown_in w x (spelled (Digits n v) k) left j (omega arith))
     (λ j l. ap (λ q. cond (ltb j q) (Value v) (shown w q left j)) (omega arith))
     (λ j l. bytes_past w x (spelled (Digits n v) k) left j (omega arith) ∙ ap (λ q. k + bytes_before w q left j) (omega arith) ∙ ap (λ b. k + b) (sym (bytes_run w to (n - (to - x)) v left j l)))
@@ -76,6 +76,7 @@ run_reached w all from old new x to n v k left at h e r f = reached_more w all f
 pub run_done : (w : ℕ) (all : List Spelled) (from : ℕ) (row : List ℕ) (x n v : ℕ) (left : List Spelled) (at : ℕ) → n ≡ 0 → Reached w all from row x (spelled (Digits n v) 0 ∷ left) at → Reached w all from row x left at
 run_done w all from row x n v left at e r = record {
   so_far = r.so_far;
+  small = r.small;
   ahead = λ j l. r.ahead j l ∙ ap (λ m. shown w x (spelled (Digits m v) 0 ∷ left) j) e ∙ run_over w x v 0 left j l;
   bytes = λ j l. r.bytes j l ∙ ap (λ m. at + bytes_before w x (spelled (Digits m v) 0 ∷ left) j) e ∙ ap (λ b. at + b) (bytes_over w x v left j l);
 }
@@ -84,16 +85,17 @@ run_done w all from row x n v left at e r = record {
 pub run_before : (w : ℕ) (all : List Spelled) (from : ℕ) (row : List ℕ) (x v : ℕ) (left : List Spelled) (at : ℕ) → Reached w all from row x left at → Reached w all from row x (spelled (Digits 0 v) 0 ∷ left) at
 run_before w all from row x v left at r = record {
   so_far = r.so_far;
+  small = r.small;
   ahead = λ j l. r.ahead j l ∙ sym (run_over w x v 0 left j l);
   bytes = λ j l. r.bytes j l ∙ ap (λ b. at + b) (sym (bytes_over w x v left j l));
 }
 
 -- a digit to the row's end
-pub end_reached : (w : ℕ) (all : List Spelled) (from : ℕ) (old new : List ℕ) (x v k : ℕ) (left : List Spelled) (at : ℕ) → x < w → Reached w all from old x (spelled (ToEnd v) k ∷ left) at → Filled x w v old new
+pub end_reached : (w : ℕ) (all : List Spelled) (from : ℕ) (old new : List ℕ) (x v k : ℕ) (left : List Spelled) (at : ℕ) → x < w → v < 16 → Reached w all from old x (spelled (ToEnd v) k ∷ left) at → Filled x w v old new
     → Reached w all from new w left (at + k)
-end_reached w all from old new x v k left at h r f =
+end_reached w all from old new x v k left at h few r f =
     let e = row_end w x h in
-    reached_more w all from old new x w v (spelled (ToEnd v) k ∷ left) left at k (omega arith) r f
+    reached_more w all from old new x w v (spelled (ToEnd v) k ∷ left) left at k (omega arith) few r f
     (λ j l m. shown_in w x (spelled (ToEnd v) k) left j (rw e m))
     (λ j l. shown_past w x (spelled (ToEnd v) k) left j (rw e l) ∙ ap (λ q. shown w q left j) e)
     (λ j l. bytes_past w x (spelled (ToEnd v) k) left j (omega arith) ∙ ap (λ q. k + bytes_before w q left j) e)
@@ -108,13 +110,13 @@ white_reached w all from old new codes x at h none r f =
       | inr m ↦ let e : x ≡ w = omega arith in rw e (refl, refl)
     ] in
     let plus : at + 0 ≡ at = omega arith in
-    subst (λ k. Reached w all from new w (symbols_from codes at) k) plus (reached_more w all from old new x w 0 (symbols_from codes at) (symbols_from codes at) at 0 h r f
+    subst (λ k. Reached w all from new w (symbols_from codes at) k) plus (reached_more w all from old new x w 0 (symbols_from codes at) (symbols_from codes at) at 0 h (omega arith) r f
     (λ j l m. ap (λ ss. shown w x ss j) (ended (omega arith)))
     (λ j l. (same j l).0)
     (λ j l. (same j l).1 ∙ omega arith))
 
 -- the row before once more
-again_shown : (w k : ℕ) (ss : List Spelled) (j : ℕ) → j < w → shown w 0 (spelled Again k ∷ ss) j ≡ AsAbove
+pub again_shown : (w k : ℕ) (ss : List Spelled) (j : ℕ) → j < w → shown w 0 (spelled Again k ∷ ss) j ≡ AsAbove
 again_shown w k ss j h = shown_in w 0 (spelled Again k) ss j (rw (row_end w 0 (omega arith)) h) ∙ ap (λ r. cond (eqb r 0) AsAbove Nothing) (zero-mod w)
 
 again_behind : (w k : ℕ) (ss : List Spelled) (j : ℕ) → 0 < w → w ≤ j → shown w 0 (spelled Again k ∷ ss) j ≡ shown w w ss j
@@ -127,6 +129,14 @@ again_bytes w k ss j h l = bytes_past w 0 (spelled Again k) ss j (omega arith) �
 pub again_refused : (w x k : ℕ) (ss : List Spelled) → 0 < x → x < w → shown w x (spelled Again k ∷ ss) (w - 1) ≡ Nothing
 again_refused w x k ss some h = shown_in w x (spelled Again k) ss (w - 1) (rw (row_end w x h) (omega arith)) ∙ ap (λ r. cond (eqb r 0) AsAbove Nothing) (mod-eq_of_lt h)
     ∙ ap (λ b. cond b AsAbove Nothing) (ne_eqb x 0 (omega arith))
+
+-- a refused symbol
+pub refused_shown : (w x k : ℕ) (ss : List Spelled) → x < w → shown w x (spelled Refused k ∷ ss) (w - 1) ≡ Nothing
+refused_shown w x k ss h = shown_in w x (spelled Refused k) ss (w - 1) (rw (row_end w x h) (omega arith))
+
+-- a row whose places are all reached shows something at its last one
+pub all_shown : (w : ℕ) (all : List Spelled) (from : ℕ) (places : List ℕ) (left : List Spelled) (at : ℕ) → 0 < w → Reached w all from places w left at → false ≡ is_nothing (shown w 0 all (w - 1))
+all_shown w all from places left at some r = sym (ap is_nothing (r.so_far (w - 1) (omega arith)))
 
 -- a row further on, the symbols show the same
 end_later : (w p : ℕ) (s : Symbol) → 0 < w → end_of w (w + p) s ≡ w + end_of w p s
@@ -164,22 +174,23 @@ behind_row w ss j h = ap (λ q. shown w q ss (w + j)) (omega arith) ∙ shown_la
 pub bytes_behind_row : (w : ℕ) (ss : List Spelled) (j : ℕ) → 0 < w → bytes_before w w ss (w + j) ≡ bytes_before w 0 ss j
 bytes_behind_row w ss j h = ap (λ q. bytes_before w q ss (w + j)) (omega arith) ∙ bytes_later w 0 ss j h
 
--- a row whose places are all reached
-pub row_decoded : (w : ℕ) (codes old new : List ℕ) (s after : Spot) → 0 < w → IsSpot codes after → Reached w (symbols_at RunLength codes s) s.at new w (symbols_at RunLength codes after) after.at
+-- a row whose places are all reached, and packed into bytes
+pub row_decoded : (w : ℕ) (codes places old new : List ℕ) (s after : Spot) → 0 < w → IsSpot codes after → ((j : ℕ) → j < w → nibble new j ≡ get_or places j 0)
+    → Reached w (symbols_at RunLength codes s) s.at places w (symbols_at RunLength codes after) after.at
     → Decoded w RunLength codes s (record { left = after.left; digit = after.digit; repeats = false }) after old new
-row_decoded w codes old new s after some spot r = record {
+row_decoded w codes places old new s after some spot packed r = record {
   spot = spot;
   whole = tt;
-  row = λ j l. sym (ap (λ c. value_of c (nibble old j)) (r.so_far j l));
-  own = λ _ j l. r.so_far j l;
+  row = λ j l. packed j l ∙ sym (ap (λ c. value_of c (nibble old j)) (r.so_far j l));
+  own = λ _ j l. r.so_far j l ∙ ap Value (sym (packed j l));
   again = λ e. absurd (false≢true e);
   next = λ j. r.ahead (w + j) (omega arith) ∙ behind_row w (symbols_at RunLength codes after) j some;
   bytes = λ j. r.bytes (w + j) (omega arith) ∙ ap (λ b. after.at + b) (bytes_behind_row w (symbols_at RunLength codes after) j some);
 }
 
-pub same_row_decoded : (w : ℕ) (codes row : List ℕ) (s : Spot) (at k : ℕ) → 0 < w → at + k ≤ length codes → Reached w (symbols_at RunLength codes s) s.at row 0 (spelled Again k ∷ symbols_from codes (at + k)) at
+pub same_row_decoded : (w : ℕ) (codes places row : List ℕ) (s : Spot) (at k : ℕ) → 0 < w → at + k ≤ length codes → Reached w (symbols_at RunLength codes s) s.at places 0 (spelled Again k ∷ symbols_from codes (at + k)) at
     → Decoded w RunLength codes s (record { left = 0; digit = 0; repeats = true }) (record { left = 0; digit = 0; at = at + k }) row row
-same_row_decoded w codes row s at k some inside r =
+same_row_decoded w codes places row s at k some inside r =
     let left = symbols_from codes (at + k) in
     record {
       spot = record { at = inside; digit = omega arith };
@@ -198,7 +209,7 @@ in_hand codes at b some inside e =
     ap (λ cs. symbols_behind cs 0 0) (drop_more codes (at - 1) 0 (omega arith)) ∙ ap (λ c. joined (code_of c) 0 0 (symbols_behind (drop (at - 1 + 1) codes))) (sym e) ∙ ap (λ k. joined (code_of b) 0 0 (symbols_behind (drop k codes))) next
 
 -- a digit by its value
-digit_is : (c : Code) (v : ℕ) → v ≡ digit_value c → v < 16 → c ≡ Digit v
+pub digit_is : (c : Code) (v : ℕ) → v ≡ digit_value c → v < 16 → c ≡ Digit v
 digit_is (Digit u) v e h = ap Digit (sym e)
 digit_is (Count n) v e h = absurd (omega arith)
 digit_is (Fill u) v e h = absurd (omega arith)
@@ -208,39 +219,9 @@ digit_is Other v e h = absurd (omega arith)
 pub digit_in_hand : (codes : List ℕ) (at b v : ℕ) → 0 < at → at ≤ length codes → b ≡ get_or codes (at - 1) 0 → v ≡ digit_value (code_of b) → v < 16 → symbols_from codes (at - 1) ≡ spelled (Digits 1 v) 1 ∷ symbols_from codes at
 digit_in_hand codes at b v some inside e is small = in_hand codes at b some inside e ∙ ap (λ c. joined c 0 0 (symbols_behind (drop at codes))) (digit_is (code_of b) v is small)
 
--- one digit at the first place of a byte
-pub one_reached : (w : ℕ) (all : List Spelled) (from : ℕ) (row : List ℕ) (i v : ℕ) (ss left : List Spelled) (at : ℕ) → i < length row → ss ≡ spelled (Digits 1 v) 1 ∷ left → v < 16
-    → Reached w all from row (2 * i) ss at → Reached w all from (set row i (v * 16)) (2 * i + 1) left (at + 1)
-one_reached w all from row i v ss left at h e small r =
-    let half : (2 * i) / 2 ≡ i = omega arith in
-    let zero : v * 16 + 0 ≡ v * 16 = omega arith in
-    let f : Filled (2 * i) (2 * i + 1) v row (set row i (v * 16)) = subst (λ b. Filled (2 * i) (2 * i + 1) v row (set row i b)) zero (subst (λ k. Filled (2 * i) (2 * i + 1) v row (set row k (v * 16 + 0))) half (pair_first row (2 * i) v 0 (omega arith) (omega arith) (omega arith))) in
-    run_done w all from _ (2 * i + 1) _ v left (at + 1) (omega arith) (run_reached w all from row _ (2 * i) (2 * i + 1) 1 v 1 left at (omega arith) (omega arith) (subst (λ p. Reached w all from row (2 * i) p at) e r) f)
-
--- two digits in a byte
-pub two_reached : (w : ℕ) (all : List Spelled) (from : ℕ) (row : List ℕ) (i v u : ℕ) (ss mid left : List Spelled) (at : ℕ) → i < length row → ss ≡ spelled (Digits 1 v) 1 ∷ mid → mid ≡ spelled (Digits 1 u) 1 ∷ left → v < 16 → u < 16
-    → Reached w all from row (2 * i) ss at → Reached w all from (set row i (v * 16 + u)) (2 * (i + 1)) left (at + 2)
-two_reached w all from row i v u ss mid left at h e g small few r =
-    let half : (2 * i) / 2 ≡ i = omega arith in
-    let new = set row i (v * 16 + u) in
-    let first : Filled (2 * i) (2 * i + 1) v row new = subst (λ k. Filled (2 * i) (2 * i + 1) v row (set row k (v * 16 + u))) half (pair_first row (2 * i) v u (omega arith) (omega arith) few) in
-    let second : Filled (2 * i + 1) (2 * i + 2) u new new = subst (λ k. Filled (2 * i + 1) (2 * i + 2) u (set row k (v * 16 + u)) (set row k (v * 16 + u))) half (pair_second row (2 * i) v u (omega arith) (omega arith) few) in
-    let one = run_done w all from new (2 * i + 1) _ v mid (at + 1) (omega arith) (run_reached w all from row new (2 * i) (2 * i + 1) 1 v 1 mid at (omega arith) (omega arith) (subst (λ p. Reached w all from row (2 * i) p at) e r) first) in
-    let two = run_done w all from new (2 * i + 2) _ u left (at + 1 + 1) (omega arith) (run_reached w all from new new (2 * i + 1) (2 * i + 2) 1 u 1 left (at + 1) (omega arith) (omega arith) (subst (λ p. Reached w all from new (2 * i + 1) p (at + 1)) g one) second) in
-    let plus : at + 1 + 1 ≡ at + 2 = omega arith in
-    let place : 2 * i + 2 ≡ 2 * (i + 1) = omega arith in
-    subst (λ x. Reached w all from new x left (at + 2)) place (subst (λ k. Reached w all from new (2 * i + 2) left k) plus two)
-
 -- the same symbols, the same place
 pub reached_at : (w : ℕ) (all : List Spelled) (from : ℕ) (row : List ℕ) (x y : ℕ) (ss left : List Spelled) (at to : ℕ) → x ≡ y → ss ≡ left → at ≡ to → Reached w all from row x ss at → Reached w all from row y left to
 reached_at w all from row x y ss left at to d e f r = subst (λ q. Reached w all from row q left to) d (subst (λ p. Reached w all from row x p to) e (subst (λ k. Reached w all from row x ss k) f r))
-
--- a digit handed out
-pub handed : (old new : Codes) (b v : ℕ) → Advanced old new → new.at ≡ old.at + 1 → InHand new (Some b) → v ≡ digit_value (code_of b) → v < 16
-    → symbols_from old.bytes.now old.at ≡ spelled (Digits 1 v) 1 ∷ symbols_from new.bytes.now new.at
-handed old new b v a e h is small =
-    let before : old.at ≡ new.at - 1 = omega arith in
-    ap (λ cs. symbols_from cs old.at) (sym a.bytes) ∙ ap (λ k. symbols_from new.bytes.now k) before ∙ digit_in_hand new.bytes.now new.at b v h.0 a.reading.at h.1 is small
 
 -- the symbols from the byte in hand on, if there is one
 pub from_hand : (old new : Codes) (o : Option ℕ) → Advanced old new → new.at ≡ old.at + held o → symbols_from old.bytes.now old.at ≡ symbols_from new.bytes.now (new.at - held o)
@@ -253,39 +234,46 @@ pub symbol_reached : (old new : Codes) (b k : ℕ) (s : Symbol) (w : ℕ) (all :
 symbol_reached old new b k s w all from row x h reading e r =
     reached_at w all from row x x _ _ _ _ refl (in_hand old.bytes.now old.at b h.0 reading.at h.1 ∙ e) refl r
 
--- the end of a row whose places are all reached
-pub ended_decoded : (codes old new : List ℕ) (c : Codes) (w : ℕ) (s : Spot) (end : RowEnd) (n v at : ℕ) → end ≡ record { left = n; digit = v; repeats = false } → 0 < w → c.bytes.now ≡ codes → IsReading c → v < 16 → at ≡ c.at
-    → Reached w (symbols_at RunLength codes s) s.at new w (spelled (Digits n v) 0 ∷ symbols_from c.bytes.now c.at) at
+-- the end of a row whose places are all reached and packed
+pub ended_decoded : (codes places old new : List ℕ) (c : Codes) (w : ℕ) (s : Spot) (end : RowEnd) (n v at : ℕ) → end ≡ record { left = n; digit = v; repeats = false } → 0 < w → c.bytes.now ≡ codes → IsReading c → v < 16 → at ≡ c.at
+    → (AreSmall w places → (j : ℕ) → j < w → nibble new j ≡ get_or places j 0)
+    → Reached w (symbols_at RunLength codes s) s.at places w (spelled (Digits n v) 0 ∷ symbols_from c.bytes.now c.at) at
     → Decoded w RunLength codes s end (record { left = end.left; digit = end.digit; at = c.at }) old new
-ended_decoded codes old new c w s end n v at is some same reading small here r =
+ended_decoded codes places old new c w s end n v at is some same reading few here packed r =
     let after : Spot = record { left = n; digit = v; at = c.at } in
-    let left = reached_at w (symbols_at RunLength codes s) s.at new w w _ _ at c.at refl (ap (λ cs. spelled (Digits n v) 0 ∷ symbols_from cs c.at) same) here r in
-    let d = row_decoded w codes old new s after some (record { at = subst (λ cs. c.at ≤ length cs) same reading.at; digit = small }) left in
+    let left = reached_at w (symbols_at RunLength codes s) s.at places w w _ _ at c.at refl (ap (λ cs. spelled (Digits n v) 0 ∷ symbols_from cs c.at) same) here r in
+    let d = row_decoded w codes places old new s after some (record { at = subst (λ cs. c.at ≤ length cs) same reading.at; digit = few }) (packed r.small) left in
     subst (λ (e : RowEnd). Decoded w RunLength codes s e (record { left = e.left; digit = e.digit; at = c.at }) old new) (sym is) d
 
 -- the end of a row that is the one before
-pub again_decoded : (codes before row : List ℕ) (c : Codes) (w : ℕ) (s : Spot) (end : RowEnd) (x k at : ℕ) → end ≡ record { left = 0; digit = 0; repeats = true } → 0 < w → c.bytes.now ≡ codes → IsReading c → at + k ≡ c.at → x ≡ 0 → row ≡ before
-    → Reached w (symbols_at RunLength codes s) s.at row x (spelled Again k ∷ symbols_from c.bytes.now c.at) at
-    → Decoded w RunLength codes s end (record { left = end.left; digit = end.digit; at = c.at }) before row
-again_decoded codes before row c w s end x k at is some same reading here start kept r =
-    let left = reached_at w (symbols_at RunLength codes s) s.at row x 0 _ (spelled Again k ∷ symbols_from codes (at + k)) at at start (ap (λ cs. spelled Again k ∷ symbols_from cs c.at) same ∙ ap (λ a. spelled Again k ∷ symbols_from codes a) (sym here)) refl r in
+pub again_decoded : (codes places row : List ℕ) (c : Codes) (w : ℕ) (s : Spot) (end : RowEnd) (x k at : ℕ) → end ≡ record { left = 0; digit = 0; repeats = true } → 0 < w → c.bytes.now ≡ codes → IsReading c → at + k ≡ c.at → x ≡ 0
+    → Reached w (symbols_at RunLength codes s) s.at places x (spelled Again k ∷ symbols_from c.bytes.now c.at) at
+    → Decoded w RunLength codes s end (record { left = end.left; digit = end.digit; at = c.at }) row row
+again_decoded codes places row c w s end x k at is some same reading here start r =
+    let left = reached_at w (symbols_at RunLength codes s) s.at places x 0 _ (spelled Again k ∷ symbols_from codes (at + k)) at at start (ap (λ cs. spelled Again k ∷ symbols_from cs c.at) same ∙ ap (λ a. spelled Again k ∷ symbols_from codes a) (sym here)) refl r in
     let inside : at + k ≤ length codes = subst (λ cs. at + k ≤ length cs) same (omega (arith, reading.at, here)) in
-    let d = same_row_decoded w codes row s at k some inside left in
+    let d = same_row_decoded w codes places row s at k some inside left in
     let e = subst (λ (a : ℕ). Decoded w RunLength codes s (record { left = 0; digit = 0; repeats = true }) (record { left = 0; digit = 0; at = a }) row row) here d in
-    let f = subst (λ (old : List ℕ). Decoded w RunLength codes s (record { left = 0; digit = 0; repeats = true }) (record { left = 0; digit = 0; at = c.at }) old row) kept e in
-    subst (λ (e : RowEnd). Decoded w RunLength codes s e (record { left = e.left; digit = e.digit; at = c.at }) before row) (sym is) f
+    subst (λ (e : RowEnd). Decoded w RunLength codes s e (record { left = e.left; digit = e.digit; at = c.at }) row row) (sym is) e
 
--- a reading of digits, with what it left in hand
-pub hand_taken : (n m : ℕ) (all : List Spelled) (from : ℕ) (row new : List ℕ) (x to : ℕ) (old c : Codes) (o h : Option ℕ) → n ≡ m → o ≡ h
-    → (Reached (2 * n) all from row x (symbols_from old.bytes.now old.at) old.at → Reached (2 * n) all from new to (symbols_from c.bytes.now (c.at - held o)) (c.at - held o))
-    → Reached (2 * m) all from row x (symbols_from old.bytes.now old.at) old.at → Reached (2 * m) all from new to (symbols_from c.bytes.now (c.at - held h)) (c.at - held h)
-hand_taken n m all from row new x to old c o h e f step =
-    subst (λ (i : ℕ). Reached (2 * i) all from row x (symbols_from old.bytes.now old.at) old.at → Reached (2 * i) all from new to (symbols_from c.bytes.now (c.at - held h)) (c.at - held h)) e
-    (subst (λ (i : Option ℕ). Reached (2 * n) all from row x (symbols_from old.bytes.now old.at) old.at → Reached (2 * n) all from new to (symbols_from c.bytes.now (c.at - held i)) (c.at - held i)) f step)
+-- two readings of a slice, one after the other, and the place that they came to
+pub twice_reached : (w : ℕ) (all : List Spelled) (from : ℕ) (places mid new : List ℕ) (x y z : ℕ) (old c : Codes) (bytes : List ℕ) (first at to : ℕ) → bytes ≡ old.bytes.now → first ≡ old.at → c.bytes.now ≡ old.bytes.now → c.at ≡ to
+    → (Reached w all from places x (symbols_from bytes first) first → Reached w all from mid y (symbols_from bytes at) at) → (Reached w all from mid y (symbols_from bytes at) at → Reached w all from new z (symbols_from bytes to) to)
+    → Reached w all from places x (symbols_from old.bytes.now old.at) old.at → Reached w all from new z (symbols_from c.bytes.now c.at) c.at
+twice_reached w all from places mid new x y z old c bytes first at to same here kept there one two r =
+    let begun = reached_at w all from places x x _ _ old.at first refl (ap (λ cs. symbols_from cs old.at) (sym same) ∙ ap (symbols_from bytes) (sym here)) (sym here) r in
+    reached_at w all from new z z _ _ to c.at refl (ap (λ cs. symbols_from cs to) (same ∙ sym kept) ∙ ap (symbols_from c.bytes.now) (sym there)) (sym there) (two (one begun))
+
+-- a reading of short codes, with what it left in hand
+pub hand_taken : (w : ℕ) (all : List Spelled) (from : ℕ) (places new : List ℕ) (x to : ℕ) (old c : Codes) (o h : Option ℕ) → o ≡ h
+    → (Reached w all from places x (symbols_from old.bytes.now old.at) old.at → Reached w all from new to (symbols_from c.bytes.now (c.at - held o)) (c.at - held o))
+    → Reached w all from places x (symbols_from old.bytes.now old.at) old.at → Reached w all from new to (symbols_from c.bytes.now (c.at - held h)) (c.at - held h)
+hand_taken w all from places new x to old c o h f step =
+    subst (λ (i : Option ℕ). Reached w all from places x (symbols_from old.bytes.now old.at) old.at → Reached w all from new to (symbols_from c.bytes.now (c.at - held i)) (c.at - held i)) f step
 
 pub nothing_taken : (w : ℕ) (all : List Spelled) (from : ℕ) (new : List ℕ) (to : ℕ) (c : Codes) → Reached w all from new to (symbols_from c.bytes.now (c.at - 0)) (c.at - 0) → Reached w all from new to (symbols_from c.bytes.now c.at) c.at
 nothing_taken w all from new to c r = let e : c.at - 0 ≡ c.at = omega arith in reached_at w all from new to to _ _ _ _ refl (ap (λ k. symbols_from c.bytes.now k) e) e r
 
 -- before the first place all symbols are left
 pub start_reached : (w : ℕ) (all : List Spelled) (from : ℕ) (row : List ℕ) → Reached w all from row 0 all from
-start_reached w all from row = record { so_far = λ j l. absurd (omega (arith, l)); ahead = λ j _. refl; bytes = λ j _. refl }
+start_reached w all from row = record { so_far = λ j l. absurd (omega (arith, l)); small = λ j l. absurd (omega (arith, l)); ahead = λ j _. refl; bytes = λ j _. refl }

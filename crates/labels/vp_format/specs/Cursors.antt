@@ -1,5 +1,6 @@
 -- What a cursor keeps of the codes.
-use Rattle.std.specs.Prelude.{◌≡◌, ℕ, zero, suc, true, false, ◌*◌, ◌+◌, ◌-◌, ◌≤◌, ◌<◌, List, ◌∷◌, drop, length, slice_index, Option, None, Some}
+use Rattle.std.specs.Prelude.{◌≡◌, ℕ, zero, suc, true, false, ◌*◌, ◌+◌, ◌-◌, ◌≤◌, ◌<◌, ◌==◌, if◌then◌else◌, List, ◌∷◌, drop, length, slice_index, Option, None, Some}
+use Rattle.std.specs.Int.{w64, trailing_zeros}
 use Rattle.vp_format.specs.declared.codes.Code.{Code}
 use Rattle.vp_format.specs.declared.codes.Code.TheVariants.{Digit, Count, Fill}
 use Rattle.vp_format.specs.declared.reading.Codes.{Codes}
@@ -18,6 +19,16 @@ use Rattle.vp_format.specs.Pictures.{Value, AsAbove, shown, bytes_before, value_
 abbrev pub digit_value : Code → ℕ
 digit_value (Digit v) = v
 digit_value _ = 16
+
+-- what a code adds to the counts before it: none of a digit, and more than any count of a code that is neither
+abbrev pub count_value : Code → ℕ
+count_value (Digit v) = 0
+count_value (Count n) = n
+count_value _ = 1000
+
+-- the first bit of a mask that is set, and 16 where none is
+abbrev pub first_set : ℕ → ℕ
+first_set mask = if mask == 0 then 16 else trailing_zeros w64 mask
 
 -- values are digits, and a count is 400 at most
 abbrev pub SmallCode : Code → Type 0
@@ -88,16 +99,21 @@ pub record Even (width : ℕ) (coding : Coding) (codes : List ℕ) (s : Spot) (k
   pub bytes : (j : ℕ) → bytes_before width 0 (symbols_at coding codes s) (width * k + j)
       ≡ bytes_before width 0 (symbols_at coding codes after) j
 
--- places from <= j < to of a row have the value, and those before are as they were
+-- places from <= j < to have the value, and those before are as they were
 pub record Filled (from to v : ℕ) (old new : List ℕ) : Type 0 where
-  pub kept : (j : ℕ) → j < from → nibble new j ≡ nibble old j
-  pub filled : (j : ℕ) → from ≤ j → j < to → nibble new j ≡ v
+  pub kept : (j : ℕ) → j < from → slice_index new j ≡ slice_index old j
+  pub filled : (j : ℕ) → from ≤ j → j < to → slice_index new j ≡ v
 
--- the symbols, of which the first is spelled from a place of the codes on, show what the row has before place
--- x, and from there on what those show that are left, which are spelled from a later place on
-pub record Reached (width : ℕ) (all : List Spelled) (from : ℕ) (row : List ℕ) (x : ℕ)
+-- the places before x have values of digits
+abbrev pub AreSmall : ℕ → List ℕ → Type 0
+AreSmall x places = (j : ℕ) → j < x → slice_index places j < 16
+
+-- the symbols, of which the first is spelled from a place of the codes on, show what the row's places have before
+-- place x, and from there on what those show that are left, which are spelled from a later place on
+pub record Reached (width : ℕ) (all : List Spelled) (from : ℕ) (places : List ℕ) (x : ℕ)
     (left : List Spelled) (at : ℕ) : Type 0 where
-  pub so_far : (j : ℕ) → j < x → shown width 0 all j ≡ Value (nibble row j)
+  pub so_far : (j : ℕ) → j < x → shown width 0 all j ≡ Value (slice_index places j)
+  pub small : AreSmall x places
   pub ahead : (j : ℕ) → x ≤ j → shown width 0 all j ≡ shown width x left j
   pub bytes : (j : ℕ) → x ≤ j → from + bytes_before width 0 all j ≡ at + bytes_before width x left j
 

@@ -2,6 +2,8 @@
 //!
 //! - `codes`: what a byte of run-length codes is.
 //! - `reading`: the bytes of codes, handed out one after the other, and counted.
+//! - `digits`, `short_runs`: the codes that most pictures are made of, read in a quick way.
+//! - `packing`: the places of a row, and its bytes.
 //! - `row`: the row that starts at a place of the codes.
 //! - `rows`: the rows, one after the other.
 //! - `law`: the laws of codes.
@@ -9,12 +11,15 @@
 #![tactic(auto)]
 
 mod codes;
+mod digits;
 mod field;
 mod format;
 mod law;
+mod packing;
 mod reading;
 mod row;
 mod rows;
+mod short_runs;
 
 pub use field::{BarCode, Bars, Block, Content, Field, GraphicBox, Picture, QrSymbol, Span, Text};
 pub use format::{FIELDS, Format, STORED};

@@ -72,6 +72,25 @@ impl<'a> Codes<'a> {
         self.read
     }
 
+    /// All the bytes.
+    pub fn bytes(&self) -> &'a [u8]
+        ensures { result.now ≡ self.now.bytes.now }
+    {
+        self.bytes
+    }
+
+    /// Hands out the bytes up to a place.
+    pub fn go_on_to(&mut self, at: usize)
+        requires reading { IsReading self.old }
+        requires from { self.old.at ≤ at }
+        requires inside { at ≤ length self.old.bytes.now }
+        ensures advanced { Advanced self.old self.new }
+        ensures at { self.new.at ≡ at }
+    {
+        self.read += (at - self.at) as u64;
+        self.at = at;
+    }
+
     /// Goes on at a place.
     pub fn go_to(&mut self, at: usize)
         ensures { self.new ≡ record { bytes = self.old.bytes; at = at; read = self.old.read } }

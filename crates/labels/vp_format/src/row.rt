@@ -1,52 +1,18 @@
 //! One row of a picture.
-ghost use Rattle.std.specs.Prelude.{◌≡◌, ℕ, ◌+◌, ◌-◌, ◌*◌, ◌%◌, ◌<◌, ◌≤◌, min, false, true, IfOk, IsOk, is_err, length, drop, List, ◌∷◌, Err, Ok};
+ghost use Rattle.std.specs.Prelude.{◌≡◌, ℕ, ◌+◌, ◌-◌, ◌*◌, ◌<◌, ◌≤◌, min, false, true, IfOk, IsOk, is_err, length, slice_index, drop, List, ◌∷◌, Err, Ok};
 ghost use Rattle.vp_format.specs.Codes.{Spelled, spelled, alone, joined, code_of, symbols_behind};
-ghost use Rattle.vp_format.specs.Pictures.{shown, is_nothing, Nothing};
-ghost use Rattle.vp_format.specs.Cursors.{symbols_at, symbols_from, held, SmallSymbol, IsReading, IsSpot, IsWhole, Advanced, InHand, Filled, Reached, Decoded};
+ghost use Rattle.vp_format.specs.Pictures.{shown, is_nothing, nibble, Nothing};
+ghost use Rattle.vp_format.specs.Cursors.{symbols_at, symbols_from, held, SmallSymbol, IsReading, IsSpot, IsWhole, Advanced, InHand, AreSmall, Reached, Decoded};
 ghost use Rattle.vp_format.specs.declared.rows.Spot.{Spot};
 ghost use Rattle.vp_format.specs.declared.rows.Coding.TheVariants.{RunLength, Binary};
 
-use crate::codes::{Code, Symbol, code_of, digit_value};
+use crate::codes::{Code, Symbol, code_of};
+use crate::digits::digits;
+use crate::packing::{SHORT, fill, pack};
 use crate::reading::Codes;
 use crate::rows::{Coding, Spot};
+use crate::short_runs::short_runs;
 use vp_dots::Fault;
-
-/// Gives a value to the second place of the byte in which a run starts, where it starts there.
-fn fill_half(from: usize, v: u8, row: &mut [u8])
-    requires from { from < 2 * length row.old }
-    requires v { v < 16 }
-    ensures { Filled from (from + from % 2) v row.old row.new }
-{
-    if from % 2 == 1 {
-        row[from / 2] = row[from / 2] / 16 * 16 + v;
-    }
-}
-
-/// Gives a value to both places of bytes.
-fn fill_bytes(first: usize, last: usize, v: u8, row: &mut [u8])
-    requires first { first ≤ last }
-    requires last { last ≤ length row.old }
-    requires v { v < 16 }
-    ensures { Filled (2 * first) (2 * last) v row.old row.new }
-{
-    row[first..last].fill(v * 16 + v);
-}
-
-/// Gives a value to a run of places.
-fn fill(from: usize, to: usize, v: u8, row: &mut [u8])
-    requires short { length row.old ≤ 1024 }
-    requires from { from ≤ to }
-    requires to { to ≤ 2 * length row.old }
-    requires v { v < 16 }
-    ensures filled { Filled from to v row.old row.new }
-    ensures len { length row.new ≡ length row.old }
-{
-    if from == to {
-        return;
-    }
-    fill_half(from, v, row);
-    fill_bytes((from + 1) / 2, (to + 1) / 2, v, row);
-}
 
 /// What is known of a row that was read.
 #[derive(Clone, Copy)]
@@ -92,73 +58,38 @@ fn end_of_run(x: usize, count: u128, places: usize) -> usize
     }
 }
 
-/// Writes digits without counts from a byte of the row on, two to a byte, and gives the place behind them and
-/// the byte of the codes that ended them, if any.
-fn digits(codes: &mut Codes, first: usize, row: &mut [u8]) -> (usize, Option<u8>)
+/// Reads digits and short runs from a place of a row of so many places on, and gives the place behind them, and
+/// the byte of the codes that comes next, if the row goes on and there is one.
+fn read_short(
+    codes: &mut Codes,
+    from: usize,
+    width: usize,
+    places: &mut [u8],
+) -> (usize, Option<u8>)
     requires reading { IsReading codes.old }
-    requires first { first ≤ length row.old }
-    requires short { length row.old ≤ 1024 }
-    ensures len { length row.new ≡ length row.old }
+    requires from { from ≤ width }
+    requires short { width ≤ 2048 }
+    requires room { width + SHORT ≤ length places.old }
+    ensures len { length places.new ≡ length places.old }
     ensures advanced { Advanced codes.old codes.new }
     ensures hand { InHand codes.new result.1 }
-    ensures inside { result.0 + held result.1 ≤ 2 * length row.old }
-    ensures end { held result.1 ≡ 0 → result.0 < 2 * length row.old →
-        codes.new.at ≡ length codes.new.bytes.now }
-    ensures reached { (all : List Spelled) (from : ℕ) →
-        Reached (2 * length row.old) all from row.old (2 * first)
-        (symbols_from codes.old.bytes.now codes.old.at) codes.old.at
-        → Reached (2 * length row.old) all from row.new result.0
-        (symbols_from codes.new.bytes.now (codes.new.at - held result.1)) (codes.new.at - held result.1) }
+    ensures inside { result.0 + held result.1 ≤ width }
+    ensures end { held result.1 ≡ 0 → result.0 < width → codes.new.at ≡ length codes.new.bytes.now }
     ensures more { held result.1 ≡ 1 → codes.old.at < codes.new.at }
-    ensures after { 2 * first ≤ result.0 }
-    ensures same { result.0 ≡ 2 * first → row.new ≡ row.old }
-{
-    for i in first..row.len() {
-        let Some(one) = codes.next() else {
-            return (2 * i, None);
-        };
-        let high = digit_value(one);
-        if high >= 16 {
-            return (2 * i, Some(one));
-        }
-        let Some(other) = codes.next() else {
-            row[i] = high * 16;
-            return (2 * i + 1, None);
-        };
-        let low = digit_value(other);
-        if low >= 16 {
-            row[i] = high * 16;
-            return (2 * i + 1, Some(other));
-        }
-        row[i] = high * 16 + low;
-    }
-    (2 * row.len(), None)
-}
-
-/// The same from any place of the row on.
-fn digits_from(codes: &mut Codes, from: usize, row: &mut [u8]) -> (usize, Option<u8>)
-    requires reading { IsReading codes.old }
-    requires from { from < 2 * length row.old }
-    requires short { length row.old ≤ 1024 }
-    ensures len { length row.new ≡ length row.old }
-    ensures advanced { Advanced codes.old codes.new }
-    ensures hand { InHand codes.new result.1 }
-    ensures inside { result.0 + held result.1 ≤ 2 * length row.old }
-    ensures end { held result.1 ≡ 0 → result.0 < 2 * length row.old →
-        codes.new.at ≡ length codes.new.bytes.now }
-    ensures more { held result.1 ≡ 1 → codes.old.at < codes.new.at }
-    ensures reached { (all : List Spelled) (start : ℕ) →
-        Reached (2 * length row.old) all start row.old from
-        (symbols_from codes.old.bytes.now codes.old.at) codes.old.at
-        → Reached (2 * length row.old) all start row.new result.0
-        (symbols_from codes.new.bytes.now (codes.new.at - held result.1)) (codes.new.at - held result.1) }
     ensures after { from ≤ result.0 }
-    ensures same { result.0 ≡ from → row.new ≡ row.old }
+    ensures reached { (all : List Spelled) (start : ℕ) →
+        Reached width all start places.old from (symbols_from codes.old.bytes.now codes.old.at) codes.old.at
+        → Reached width all start places.new result.0
+        (symbols_from codes.new.bytes.now (codes.new.at - held result.1)) (codes.new.at - held result.1) }
 {
-    if from % 2 == 0 {
-        return digits(codes, from / 2, row);
+    let bytes = codes.bytes();
+    let (x, at) = digits(bytes, codes.at(), from, width, places);
+    let (x, at) = short_runs(bytes, at, x, width, places);
+    codes.go_on_to(at);
+    if x == width {
+        return (x, None);
     }
-    (from, codes.next())
+    (x, codes.next())
 }
 
 /// A symbol that no count may stand before.
@@ -193,45 +124,64 @@ fn symbol_of(codes: &mut Codes, first: u8) -> Symbol
     }
 }
 
+/// Puts the places of a row into its bytes, behind which so much is left of a run.
+fn finished(left: u128, digit: u8, places: &[u8], row: &mut [u8]) -> RowEnd
+    requires short { length row.old ≤ 1024 }
+    requires places { 2 * length row.old ≤ length places.now }
+    ensures end { result ≡ record { left = left; digit = digit; repeats = false } }
+    ensures len { length row.new ≡ length row.old }
+    ensures packed { AreSmall (2 * length row.old) places.now → (j : ℕ) → j < 2 * length row.old →
+        nibble row.new j ≡ slice_index places.now j }
+{
+    pack(places, row);
+    ended(left, digit)
+}
+
 /// The rest of a row, from a place on, by the codes.
-fn read_on(codes: &mut Codes, from: usize, row: &mut [u8]) -> Result<RowEnd, Fault>
+fn read_on(
+    codes: &mut Codes,
+    from: usize,
+    places: &mut [u8],
+    row: &mut [u8],
+) -> Result<RowEnd, Fault>
     requires reading { IsReading codes.old }
     requires short { length row.old ≤ 1024 }
+    requires room { 2 * length row.old + SHORT ≤ length places.old }
     requires from { from < 2 * length row.old }
     ensures len { length row.new ≡ length row.old }
+    ensures places { length places.new ≡ length places.old }
     ensures advanced { Advanced codes.old codes.new }
     ensures answer { (all : List Spelled) (start : ℕ) →
-        Reached (2 * length row.old) all start row.old from
+        Reached (2 * length row.old) all start places.old from
         (symbols_from codes.old.bytes.now codes.old.at) codes.old.at
         → is_err result ≡ is_nothing (shown (2 * length row.old) 0 all (2 * length row.old - 1)) }
-    ensures decoded { (s : Spot) (before : List ℕ) →
-        Reached (2 * length row.old) (symbols_at RunLength codes.old.bytes.now s) s.at row.old from
+    ensures decoded { (s : Spot) →
+        Reached (2 * length row.old) (symbols_at RunLength codes.old.bytes.now s) s.at places.old from
         (symbols_from codes.old.bytes.now codes.old.at) codes.old.at
-        → (from ≡ 0 → row.old ≡ before)
         → IfOk result (λ end. Decoded (2 * length row.old) RunLength codes.old.bytes.now s end
-        (record { left = end.left; digit = end.digit; at = codes.new.at }) before row.new) }
+        (record { left = end.left; digit = end.digit; at = codes.new.at }) row.old row.new) }
 {
-    let places = 2 * row.len();
+    let width = 2 * row.len();
     let mut x = from;
     loop {
         let hand;
-        (x, hand) = digits_from(codes, x, row);
+        (x, hand) = read_short(codes, x, width, places);
         let Some(b) = hand else {
-            fill(x, places, 0, row);
-            return Ok(ended(0, 0));
+            fill(x, width, 0, places);
+            return Ok(finished(0, 0, places, row));
         };
         match symbol_of(codes, b) {
             Symbol::Digits(n, v) => {
-                let to = end_of_run(x, n, places);
-                fill(x, to, v, row);
-                if to == places {
-                    return Ok(ended(n - (to - x) as u128, v));
+                let to = end_of_run(x, n, width);
+                fill(x, to, v, places);
+                if to == width {
+                    return Ok(finished(n - (to - x) as u128, v, places, row));
                 }
                 x = to;
             }
             Symbol::ToEnd(v) => {
-                fill(x, places, v, row);
-                return Ok(ended(0, 0));
+                fill(x, width, v, places);
+                return Ok(finished(0, 0, places, row));
             }
             Symbol::Again if x == 0 => return Ok(repeated()),
             Symbol::Again | Symbol::Refused => return Err(Fault::Graphic),
@@ -240,12 +190,20 @@ fn read_on(codes: &mut Codes, from: usize, row: &mut [u8]) -> Result<RowEnd, Fau
 }
 
 /// Turns the row before into the one that starts here, behind what is left of a digit's run.
-fn decode(codes: &mut Codes, left: u128, digit: u8, row: &mut [u8]) -> Result<RowEnd, Fault>
+fn decode(
+    codes: &mut Codes,
+    left: u128,
+    digit: u8,
+    places: &mut [u8],
+    row: &mut [u8],
+) -> Result<RowEnd, Fault>
     requires reading { IsReading codes.old }
     requires short { length row.old ≤ 1024 }
     requires some { 0 < length row.old }
+    requires room { 2 * length row.old + SHORT ≤ length places.old }
     requires digit { digit < 16 }
     ensures len { length row.new ≡ length row.old }
+    ensures places { length places.new ≡ length places.old }
     ensures advanced { Advanced codes.old codes.new }
     ensures answer { is_err result ≡ is_nothing (shown (2 * length row.old) 0
         (symbols_at RunLength codes.old.bytes.now (record { left = left; digit = digit; at = codes.old.at }))
@@ -255,15 +213,15 @@ fn decode(codes: &mut Codes, left: u128, digit: u8, row: &mut [u8]) -> Result<Ro
         (record { left = end.left; digit = end.digit; at = codes.new.at }) row.old row.new) }
 {
     if left == 0 {
-        return read_on(codes, 0, row);
+        return read_on(codes, 0, places, row);
     }
-    let places = 2 * row.len();
-    let to = end_of_run(0, left, places);
-    fill(0, to, digit, row);
-    if to == places {
-        return Ok(ended(left - to as u128, digit));
+    let width = 2 * row.len();
+    let to = end_of_run(0, left, width);
+    fill(0, to, digit, places);
+    if to == width {
+        return Ok(finished(left - to as u128, digit, places, row));
     }
-    read_on(codes, to, row)
+    read_on(codes, to, places, row)
 }
 
 /// The row's bytes as they are in the codes, and white where these end.
@@ -285,12 +243,14 @@ fn copy(codes: &mut Codes, row: &mut [u8]) -> RowEnd
     ended(0, 0)
 }
 
-/// Turns the first bytes of a longer row, the row before, into the row that starts at a spot.
+/// Turns the first bytes of a longer row, the row before, into the row that starts at a spot; of the places any
+/// may be overwritten.
 pub fn next_row(
     codes: &mut Codes,
     coding: Coding,
     spot: Spot,
     n: usize,
+    places: &mut [u8],
     row: &mut [u8],
 ) -> Result<RowEnd, Fault>
     requires reading { IsReading codes.old }
@@ -298,9 +258,11 @@ pub fn next_row(
     requires short { n ≤ 1024 }
     requires some { 0 < n }
     requires room { n ≤ length row.old }
+    requires places { 2 * n + SHORT ≤ length places.old }
     requires spot { IsSpot codes.old.bytes.now spot }
     requires whole { IsWhole coding spot }
     ensures len { length row.new ≡ length row.old }
+    ensures places { length places.new ≡ length places.old }
     ensures advanced { Advanced codes.old codes.new }
     ensures answer { is_err result
         ≡ is_nothing (shown (2 * n) 0 (symbols_at coding codes.old.bytes.now spot) (2 * n - 1)) }
@@ -309,7 +271,7 @@ pub fn next_row(
 {
     let front = &mut row[..n];
     match coding {
-        Coding::RunLength => decode(codes, spot.left, spot.digit, front),
+        Coding::RunLength => decode(codes, spot.left, spot.digit, places, front),
         Coding::Binary => Ok(copy(codes, front)),
     }
 }

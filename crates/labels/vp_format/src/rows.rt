@@ -3,6 +3,7 @@ ghost use Rattle.std.specs.Prelude.{◌≡◌, ℕ, ◌+◌, ◌-◌, ◌*◌, �
 ghost use Rattle.vp_format.specs.Pictures.{value, is_refused, nibble, answer, row_after, passing, rows_after, start_of, bound_of};
 ghost use Rattle.vp_format.specs.Cursors.{marked_row, IsMark, IsSpot, IsWhole, spot_behind, Even};
 
+use crate::packing::SHORT;
 use crate::reading::Codes;
 use crate::row::{RowEnd, next_row};
 use std::marker::Model;
@@ -10,6 +11,9 @@ use vp_dots::Fault;
 
 /// The most bytes of a row.
 pub const ROW: usize = 1024;
+
+/// The places of a row, and the room behind them.
+const PLACES: usize = 2 * ROW + SHORT;
 
 /// How the codes of a picture spell its rows.
 #[derive(Clone, Copy, Debug, PartialEq, Eq)]
@@ -153,6 +157,8 @@ pub struct RunRows<'a> {
     mark: RunMark,
     /// The row before, in its first bytes.
     row: [u8; ROW],
+    /// The room in which a row is put together.
+    places: [u8; PLACES],
     refused: bool,
 }
 
@@ -191,6 +197,7 @@ impl<'a> RunRows<'a> {
             first: 0,
             mark: RunMark::first(codes.len()),
             row: [0; ROW],
+            places: [0; PLACES],
             refused: false,
         }
     }
@@ -216,6 +223,7 @@ impl<'a> RunRows<'a> {
             self.coding,
             self.mark.here,
             self.row_bytes,
+            &mut self.places,
             &mut self.row,
         );
         match end {
@@ -316,8 +324,16 @@ impl<'a> RunRows<'a> {
         } }
     {
         let mut row = [0; ROW];
+        let mut places = [0; PLACES];
         let mut bytes = Codes::new(codes, mark.before.at);
-        let _ = next_row(&mut bytes, coding, mark.before, row_bytes, &mut row);
+        let _ = next_row(
+            &mut bytes,
+            coding,
+            mark.before,
+            row_bytes,
+            &mut places,
+            &mut row,
+        );
         bytes.go_to(mark.here.at);
         RunRows {
             codes: bytes,
@@ -327,6 +343,7 @@ impl<'a> RunRows<'a> {
             first: mark.next,
             mark,
             row,
+            places,
             refused: false,
         }
     }

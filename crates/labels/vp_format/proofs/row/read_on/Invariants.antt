@@ -3,15 +3,15 @@ use Rattle.vp_format.specs.Codes.{Spelled}
 use Rattle.vp_format.specs.Cursors.{Advanced, Reached, symbols_from}
 use Rattle.vp_format.proofs.row.read_on.Given as goal
 
--- the row is right before place x, where the codes that are left start; before the first place it is still the row before
+-- the places are right before place x, where the codes that are left start
 abbrev pub invariant-loop-b : goal.invariant-loop-b
 invariant-loop-b l = record {
   advanced : Advanced l.fn.codes l.codes;
-  len : length l.row ≡ length l.fn.row;
+  len : length l.places ≡ length l.fn.places;
+  row : l.row ≡ l.fn.row;
   inside : l.x < 2 * length l.fn.row;
-  start : l.x ≡ 0 → (l.from ≡ 0) × (l.row ≡ l.fn.row);
-  reached : (all : List Spelled) (start : ℕ) → Reached (2 * length l.fn.row) all start l.fn.row l.from (symbols_from l.fn.codes.bytes.now l.fn.codes.at) l.fn.codes.at
-      → Reached (2 * length l.fn.row) all start l.row l.x (symbols_from l.codes.bytes.now l.codes.at) l.codes.at;
+  reached : (all : List Spelled) (start : ℕ) → Reached (2 * length l.fn.row) all start l.fn.places l.from (symbols_from l.fn.codes.bytes.now l.fn.codes.at) l.fn.codes.at
+      → Reached (2 * length l.fn.row) all start l.places l.x (symbols_from l.codes.bytes.now l.codes.at) l.codes.at;
 }
 
 abbrev pub decreases-loop-b : goal.decreases-loop-b

@@ -13,7 +13,7 @@ invariant_of-self c =
     let k = c.even_rows-rows.result.0 in
     let v = c.even_rows-rows.result.1 in
     let behind = c.behind_even-self-inside in
-    let n : Inside = record { codes = i.codes; coding = i.coding; row_bytes = i.row_bytes; rows = i.rows; first = i.first; mark = behind.result; row = replicate 1024 (v * 16 + v); refused = i.refused } in
+    let n : Inside = record { codes = i.codes; coding = i.coding; row_bytes = i.row_bytes; rows = i.rows; first = i.first; mark = behind.result; row = replicate 1024 (v * 16 + v); places = i.places; refused = i.refused } in
     let even = λ (m : ℕ) (few : m ≤ k). c.even_rows-rows.ensures.even i.coding i.codes.bytes.now m (sym c.len.ensures) inv.mark.here inv.mark.whole few in
     let w = 2 * i.row_bytes in
     even_cursor i n k v inv c.if-rows-gt0.true c.even_rows-rows.ensures.digit
