@@ -3,6 +3,7 @@ use Rattle.std.proofs.Common.{◌≡◌, ◌<◌, ◌≤◌, ◌+◌, ◌-◌, �
 use Rattle.std.specs.Prelude.{map}
 use Rattle.std.proofs.lemmas.Bool.{lt-ltb, le-ltb}
 use Rattle.std.proofs.lemmas.Nat.{div-mul-add}
+use Rattle.std.proofs.Math.Nat.{zero-mod}
 use Rattle.vp_dots.specs.Headers.{header_of}
 use Rattle.vp_dots.specs.Images.{Image, row_bytes, pbm}
 use Rattle.vp_glyph.specs.declared.Sheets.{Sheets}
@@ -26,6 +27,7 @@ use Rattle.vp_copies.specs.Copies.{band_rows, bytes_above, copies_text, line_byt
 use Rattle.vp_copies.specs.Progress.{IsPlaceOf}
 use Rattle.vp_label.specs.Entries.{printed_entries}
 use Rattle.vp_label.specs.Held.{band_rows_after, fields_after, rows_at}
+use Rattle.vp_label.specs.Press.{IsBetween}
 use Rattle.vp_label.specs.Prints.{image, label_image, prints, unless_empty}
 use Rattle.vp_label.specs.Standing.{IsEndOf, IsPrinting}
 use Rattle.vp_label.specs.declared.gathered.Gathered.{Gathered}
@@ -34,6 +36,18 @@ use Rattle.vp_label.specs.Gathered.{IsPrinted}
 abbrev pub PlaceLaw : Type 0
 PlaceLaw = (i : Image) (p : Place) (copies : ℕ) → 0 < i.height → IsPlaceOf i.width i.height p → 0 < p.copies → length (pending i p) ≤ length (copies_text i copies) →
     (length (copies_text i copies) - length (pending i p)) % length (pbm i) ≡ bytes_above i.width i.height p.line + p.byte
+
+-- where as many bytes are left as whole copies have, the place is between two
+header_before : (width height : ℕ) (l : Line) (byte : ℕ) → bytes_above width height l + byte ≡ 0 → l ≡ Head
+header_before width height Head byte none = refl
+header_before width height (Row y) byte none = absurd (omega (arith, none))
+
+pub between_copies : PlaceLaw → (i : Image) (p : Place) (copies : ℕ) → 0 < i.height → IsPlaceOf i.width i.height p → 0 < p.copies →
+    length (pending i p) ≡ length (copies_text i copies) → IsBetween p
+between_copies law i p copies high at some whole =
+    let gone : length (copies_text i copies) - length (pending i p) ≡ 0 = omega (arith, whole) in
+    let none : bytes_above i.width i.height p.line + p.byte ≡ 0 = sym (law i p copies high at some (omega (arith, whole))) ∙ ap (λ n. n % length (pbm i)) gone ∙ zero-mod (length (pbm i)) in
+    record { line = header_before i.width i.height p.line p.byte none; byte = omega (arith, none) }
 
 -- the rows of the band of a place's line
 rows_of_line : (i : Image) (l : Line) (byte : ℕ) → byte < line_bytes i.width i.height l → rows_at i (bytes_above i.width i.height l + byte) ≡ band_rows i.height l

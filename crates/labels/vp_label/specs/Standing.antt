@@ -5,7 +5,7 @@ use Rattle.vp_zpl.specs.Items.{Item}
 use Rattle.vp_label.specs.declared.gathered.Gathered.{Gathered}
 use Rattle.vp_label.specs.declared.press.Press.{Press}
 use Rattle.vp_bands.specs.Meeting.{bands_of, pairs}
-use Rattle.vp_label.specs.Gathered.{Gathers, IsPrinted}
+use Rattle.vp_label.specs.Gathered.{Gathers, IsPrinted, to_print}
 use Rattle.vp_label.specs.Prints.{prints, view_of}
 
 -- a label printer: its sheets, what is gathered of a format, what is put out of one that has ended, and what
@@ -25,6 +25,10 @@ abbrev pub met : Printing → ℕ
 met p =
     let view = view_of p.gathered.in_force.settings in
     pairs p.sheets p.gathered.format.stored view p.gathered.format.fields (bands_of view)
+
+-- as many bytes as whole copies of the format that is held have: none of no copies
+abbrev pub AreCopies : Printing → List ℕ → Type 0
+AreCopies p bytes = (copies : ℕ) × (length bytes ≡ length (to_print p.sheets p.gathered copies))
 
 -- bytes are the end of a text
 abbrev pub IsEndOf : List ℕ → List ℕ → Type 0

@@ -13,8 +13,7 @@ ghost use Rattle.vp_format.specs.declared.format.TheConstants.{FIELDS, STORED};
 ghost use Rattle.vp_label.specs.Gathered.{Gathers, IsPrinted, data_room};
 ghost use Rattle.vp_label.specs.Prints.{all_print, is_at_rest, prints, view_of as seen};
 ghost use Rattle.vp_label.specs.Refusals.{first_refusal, refusal};
-ghost use Rattle.vp_label.specs.Standing.{bands, met, Stands};
-ghost use Rattle.vp_label.specs.Press.{IsBetween};
+ghost use Rattle.vp_label.specs.Standing.{bands, met, AreCopies, Stands};
 
 use crate::gathered::Gathered;
 use crate::press::Press;
@@ -202,7 +201,7 @@ impl Label {
             Stands sheets self.new before }
         ensures at_most { 0 < length self.old.pending →
             self.new.press.painter.looks ≤ bands self.old + 2 * met self.old }
-        ensures at_least { 0 < result → IsBetween self.new.press.copies.place →
+        ensures at_least { 0 < result → AreCopies self.old self.new.pending →
             met self.old ≤ self.new.press.painter.looks }
         ensures idle { result ≡ 0 → self.new.press ≡ self.old.press }
     {
@@ -210,6 +209,7 @@ impl Label {
             return 0;
         }
         looks_bounded();
+        place_law();
         let view = view_of(&self.gathered.in_force.settings);
         self.press
             .put(&self.sheets, self.gathered.format.stored(), view, out)

@@ -4,12 +4,15 @@ use Rattle.std.proofs.lemmas.Bool.{cases_lt}
 use Rattle.vp_bands.specs.Meeting.{bands_of, pairs}
 use Rattle.vp_bands.specs.Standing.{fields_of, IsBefore}
 use Rattle.vp_copies.specs.Progress.{IsLineOf}
+use Rattle.vp_copies.specs.Copies.{copies_text}
+use Rattle.vp_label.proofs.Counts.{between_copies, same_image}
 use Rattle.vp_label.proofs.Presses.{is_within, most}
+use Rattle.vp_label.specs.Prints.{label_image, view_of}
 use Rattle.vp_label.specs.Standing.{bands, met, IsPrinting, Printing}
 use Rattle.vp_label.specs.declared.gathered.Gathered.{Gathered}
 use Rattle.vp_label.specs.Gathered.{Gathers}
 use Rattle.vp_label.proofs.Pending.{still_printing}
-use Rattle.vp_label.specs.Press.{left, IsPress}
+use Rattle.vp_label.specs.Press.{left, shown, IsPress}
 use Rattle.vp_field.specs.declared.view.View.{View}
 use Rattle.vp_label.proofs.label.Label.put.Goals as goal
 
@@ -64,13 +67,30 @@ returns-clause-at_most c = λ pending.
     omega (arith, bound, e, n)
 
 pub returns-clause-at_least : goal.returns-clause-at_least
-returns-clause-at_least c = λ out between.
+returns-clause-at_least c = λ out whole.
     let j = c.self.inside in
     let q = c.put.new.self in
     let view = c.view_of-view.result in
     let bytes = c.stored.result.now in
-    let bound = c.looks_bounded.ensures.at_least j.sheets bytes view q.painter (c.put.ensures.ended out between) in
+    let p = c.put.ensures.press in
     let some : 0 < j.press.copies.place.copies = search rules in
+    let fields : fields_of q.painter.entries ≡ j.gathered.format.fields = ap fields_of c.put.ensures.fields ∙ c.self.invariant.fields some in
+    let shows : shown j.sheets bytes view q ≡ label_image c.args.self.now.sheets (view_of c.args.self.now.gathered.in_force.settings) c.args.self.now.gathered.format.stored c.args.self.now.gathered.format.fields =
+    same_image j.sheets c.args.self.now.sheets bytes c.args.self.now.gathered.format.stored view (view_of c.args.self.now.gathered.in_force.settings) (fields_of q.painter.entries) c.args.self.now.gathered.format.fields q.copies.width q.copies.height
+    (ap (λ (x : Printing). x.sheets) c.self.view_is)
+    (c.stored.ensures.bytes ∙ ap (λ (x : Printing). x.gathered.format.stored) c.self.view_is)
+    (c.view_of-view.ensures ∙ ap (λ (x : Printing). view_of x.gathered.in_force.settings) c.self.view_is)
+    (fields ∙ ap (λ (x : Printing). x.gathered.format.fields) c.self.view_is)
+    p.width p.height in
+    let left_is : left j.sheets bytes view q ≡ left j.sheets j.gathered.format.stored (view_of j.gathered.in_force.settings) q =
+    ap (λ s. left j.sheets s view q) c.stored.ensures.bytes ∙ ap (λ v. left j.sheets j.gathered.format.stored v q) c.view_of-view.ensures in
+    let count : length (left j.sheets bytes view q) ≡ length (copies_text (shown j.sheets bytes view q) whole.0) =
+    ap length left_is ∙ whole.1 ∙ ap (λ i. length (copies_text i whole.0)) (sym shows) in
+    let before : IsBefore j.sheets bytes view (bands_of view) q.painter = elim (cases_lt 0 q.copies.place.copies) [
+      | inl more ↦ c.put.ensures.ended out (between_copies c.place_law.ensures (shown j.sheets bytes view q) q.copies.place whole.0 (omega (arith, p.high, p.height)) p.place more count)
+      | inr none_left ↦ p.over (omega arith)
+    ] in
+    let bound = c.looks_bounded.ensures.at_least j.sheets bytes view q.painter before in
     let e : pairs j.sheets bytes view (fields_of q.painter.entries) (bands_of view) ≡ met c.args.self.now =
     ap (λ xs. pairs j.sheets bytes view (fields_of xs) (bands_of view)) c.put.ensures.fields ∙ ap (λ xs. pairs j.sheets bytes view xs (bands_of view)) (c.self.invariant.fields some)
     ∙ ap (λ s. pairs j.sheets s view j.gathered.format.fields (bands_of view)) c.stored.ensures.bytes ∙ ap (λ (v : View). pairs j.sheets j.gathered.format.stored v j.gathered.format.fields (bands_of v)) c.view_of-view.ensures
