@@ -1,26 +1,44 @@
 -- What a field shows as the format keeps it, or why it is refused.
-use Rattle.std.specs.Prelude.{ℕ, List, Result, Ok, Err}
+use Rattle.std.specs.Prelude.{ℕ, ◌-◌, List, length, Option, Some, None, Result, Ok, Err}
 use Rattle.vp_dots.specs.declared.fault.Fault.{Fault}
 use Rattle.vp_dots.specs.declared.fault.Fault.TheVariants as faults
 use Rattle.vp_dots.specs.declared.fault.Why.TheVariants.{Unsupported}
 use Rattle.vp_qr_field.specs.Fronts.{front_of}
+use Rattle.vp_format.specs.declared.field.Span.{Span}
 use Rattle.vp_format.specs.declared.field.Content.{Content}
 use Rattle.vp_format.specs.declared.field.Content.TheVariants as contents
 use Rattle.vp_field.specs.Contents.{bytes_of, picture_of}
-use Rattle.vp_label_settings.specs.declared.field.Content.{Content as Asked}
-use Rattle.vp_label_settings.specs.declared.field.Content.TheVariants.{Text, Bars, NotDrawn, Qr, Frame, Picture}
-use Rattle.vp_closing.specs.Texts.{text_of, text_content}
+use Rattle.vp_label_settings.specs.declared.settings.Settings.{Settings}
+use Rattle.vp_label_settings.specs.declared.choice.SymbolChoice.{SymbolChoice}
+use Rattle.vp_label_settings.specs.declared.choice.SymbolChoice.TheVariants.{Bars, NotDrawn, Qr}
+use Rattle.vp_label_settings.specs.declared.graphic.PictureHead.{PictureHead}
+use Rattle.vp_label_settings.specs.declared.parts.OpenContent.{OpenContent}
+use Rattle.vp_label_settings.specs.declared.parts.OpenContent.TheVariants.{Data, Frame, Picture}
+use Rattle.vp_label_settings.specs.declared.parts.FieldParts.{FieldParts}
+use Rattle.vp_closing.specs.Texts.{text_size, text_of, text_content}
 use Rattle.vp_closing.specs.Graphics.{headed, has_refused, picture_unless}
-use Rattle.vp_closing.specs.Symbols.{bars_of, qr_of}
+use Rattle.vp_closing.specs.Symbols.{bars, bars_of, qr_of}
 
--- a content, whose bytes lie among the stored ones
-abbrev pub kept_content : List ℕ → Asked → Result Content Fault
-kept_content stored (Text size block bytes) = Ok (text_content (text_of size bytes) block)
-kept_content stored (Bars code narrow wide height place bytes) =
-    bars_of stored code narrow wide height place bytes
-kept_content stored NotDrawn = Err (faults.Symbol Unsupported)
-kept_content stored (Qr model dots bytes) =
+-- the stored bytes from a place on
+abbrev pub bytes_from : List ℕ → ℕ → Span
+bytes_from stored start = record { start = start; len = length stored - start }
+
+-- ^FD: data are drawn as the symbol that was asked for, or as a text
+abbrev pub data_content : List ℕ → Settings → FieldParts → Option SymbolChoice → Span →
+    Result Content Fault
+data_content stored s p None bytes = Ok (text_content (text_of (text_size s p.font) bytes) p.block)
+data_content stored s p (Some (Bars b)) bytes = bars_of stored (bars s.bar_defaults b bytes)
+data_content stored s p (Some NotDrawn) bytes = Err (faults.Symbol Unsupported)
+data_content stored s p (Some (Qr model dots)) bytes =
     qr_of stored dots bytes (front_of model (bytes_of stored bytes))
-kept_content stored (Frame b) = Ok (contents.Box b)
-kept_content stored (Picture head bytes) =
+
+-- a picture, unless a code of its rows is refused
+abbrev pub picture_content : List ℕ → PictureHead → Span → Result Content Fault
+picture_content stored head bytes =
     picture_unless (has_refused (picture_of stored (headed head bytes))) (headed head bytes)
+
+-- what a field shows; its bytes go from its start to the end of the stored ones
+abbrev pub content_of : List ℕ → Settings → FieldParts → OpenContent → Result Content Fault
+content_of stored s p (Data start) = data_content stored s p p.symbol (bytes_from stored start)
+content_of stored s p (Frame b colour) = Ok (contents.Box b)
+content_of stored s p (Picture head start) = picture_content stored head (bytes_from stored start)

@@ -4,4 +4,4 @@ pub mod Texts
 pub mod Graphics
 pub mod Symbols
 pub mod Contents
-pub mod Kept
+pub mod Closing

@@ -1,22 +1,23 @@
--- Where a field stands on its label (ZPL II, ^FO and ^FT; the home of ^LH is added).
-use Rattle.std.specs.Prelude.{ℕ, ℤ, pos, ◌-ℤ◌}
+-- Where a field stands on its label (ZPL II, ^FO and ^FT), counted from the home of ^LH.
+use Rattle.std.specs.Prelude.{ℕ, ◌+◌, ℤ, pos, ◌-ℤ◌}
 use Rattle.vp_zpl.specs.declared.item.Orientation.{Orientation}
 use Rattle.vp_zpl.specs.declared.item.Orientation.TheVariants.{Normal, Rotated, Inverted, BottomUp}
-use Rattle.vp_label_settings.specs.declared.field.Position.{Position}
-use Rattle.vp_label_settings.specs.declared.field.Position.TheVariants.{Corner, Baseline}
+use Rattle.vp_label_settings.specs.declared.settings.Home.{Home}
+use Rattle.vp_label_settings.specs.declared.parts.Origin.{Origin}
+use Rattle.vp_label_settings.specs.declared.parts.Origin.TheVariants.{Corner, Baseline}
 
 -- the leftmost column of the turned box, which is w by h before it is turned
-abbrev pub left_of : Position → Orientation → ℕ → ℕ → ℤ
-left_of (Corner x y) o w h = pos x
-left_of (Baseline x y) Normal w h = pos x
-left_of (Baseline x y) Rotated w h = pos x
-left_of (Baseline x y) Inverted w h = pos x -ℤ pos w
-left_of (Baseline x y) BottomUp w h = pos x -ℤ pos h
+abbrev pub left_of : Home → Origin → Orientation → ℕ → ℕ → ℤ
+left_of home (Corner x y) o w h = pos (home.x + x)
+left_of home (Baseline x y) Normal w h = pos (home.x + x)
+left_of home (Baseline x y) Rotated w h = pos (home.x + x)
+left_of home (Baseline x y) Inverted w h = pos (home.x + x) -ℤ pos w
+left_of home (Baseline x y) BottomUp w h = pos (home.x + x) -ℤ pos h
 
 -- and its topmost row: ^FT gives the lower left corner of the box as it is read
-abbrev pub top_of : Position → Orientation → ℕ → ℕ → ℤ
-top_of (Corner x y) o w h = pos y
-top_of (Baseline x y) Normal w h = pos y -ℤ pos h
-top_of (Baseline x y) Rotated w h = pos y
-top_of (Baseline x y) Inverted w h = pos y
-top_of (Baseline x y) BottomUp w h = pos y -ℤ pos w
+abbrev pub top_of : Home → Origin → Orientation → ℕ → ℕ → ℤ
+top_of home (Corner x y) o w h = pos (home.y + y)
+top_of home (Baseline x y) Normal w h = pos (home.y + y) -ℤ pos h
+top_of home (Baseline x y) Rotated w h = pos (home.y + y)
+top_of home (Baseline x y) Inverted w h = pos (home.y + y)
+top_of home (Baseline x y) BottomUp w h = pos (home.y + y) -ℤ pos w

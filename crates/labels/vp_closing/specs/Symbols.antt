@@ -1,27 +1,41 @@
 -- Bars and QR symbols as the format keeps them, or why the data have none (ZPL II, ^B3, ^BE, ^BC and ^BQ).
-use Rattle.std.specs.Prelude.{ℕ, ◌+◌, ◌-◌, List, Option, Some, None, Result, Ok, Err}
+use Rattle.std.specs.Prelude.{ℕ, ◌+◌, ◌-◌, ◌*◌, ◌/◌, max, List, Option, Some, None, Result, Ok, Err}
 use Rattle.vp_dots.specs.declared.fault.Fault.{Fault}
-use Rattle.vp_bars.specs.declared.bar_box.Place.{Place}
 use Rattle.vp_bars.specs.Symbols.{Linear}
 use Rattle.vp_qr.specs.Encoding.{refusal, version_of, mask_of}
 use Rattle.vp_qr_field.specs.declared.front.QrFront.{QrFront}
 use Rattle.vp_format.specs.declared.field.Span.{Span}
-use Rattle.vp_format.specs.declared.field.BarCode.{BarCode}
 use Rattle.vp_format.specs.declared.field.Bars.{Bars}
 use Rattle.vp_format.specs.declared.field.QrSymbol.{QrSymbol}
 use Rattle.vp_format.specs.declared.field.Content.{Content}
 use Rattle.vp_format.specs.declared.field.Content.TheVariants as contents
 use Rattle.vp_field.specs.Contents.{bytes_of, symbol_of}
+use Rattle.vp_label_settings.specs.declared.settings.BarDefaults.{BarDefaults}
+use Rattle.vp_label_settings.specs.declared.choice.BarChoice.{BarChoice}
+use Rattle.vp_label_settings.specs.Ranges.{ranged}
+
+-- ^BY: the dots of a wide bar, more than those of a narrow one
+abbrev pub wide_bar : BarDefaults → ℕ
+wide_bar d = max (d.module_dots + 1) (d.module_dots * d.ratio_tenths / 10)
+
+-- bars that were asked for, with what ^BY says where they don't say it
+abbrev pub bars : BarDefaults → BarChoice → Span → Bars
+bars d b bytes = record {
+  bytes = bytes;
+  code = b.code;
+  narrow = d.module_dots;
+  wide = wide_bar d;
+  height = ranged 1 8000 d.height b.height;
+  place = b.place;
+}
 
 abbrev pub bars_if : Result Linear Fault → Bars → Result Content Fault
 bars_if (Err why) bars = Err why
 bars_if (Ok symbol) bars = Ok (contents.Bars bars)
 
--- bars of the data
-abbrev pub bars_of : List ℕ → BarCode → ℕ → ℕ → ℕ → Place → Span → Result Content Fault
-bars_of stored code narrow wide height place bytes =
-    bars_if (symbol_of code (bytes_of stored bytes))
-    (record { bytes = bytes; code = code; narrow = narrow; wide = wide; height = height; place = place })
+-- bars, unless their data have none
+abbrev pub bars_of : List ℕ → Bars → Result Content Fault
+bars_of stored bars = bars_if (symbol_of bars.code (bytes_of stored bars.bytes)) bars
 
 -- the bytes behind what the data say before them
 abbrev pub behind : QrFront → Span → Span

@@ -1,5 +1,6 @@
 -- Texts and their blocks as the format keeps them (ZPL II, ^A and ^FB).
-use Rattle.std.specs.Prelude.{ℤ, pos, neg_ℤ, Option, Some, None}
+use Rattle.std.specs.Prelude.{ℤ, pos, neg_ℤ, Option, Some, None, unwrap_or}
+use Rattle.vp_zpl.specs.declared.item.Orientation.{Orientation}
 use Rattle.vp_zpl.specs.declared.item.LineSpace.{LineSpace}
 use Rattle.vp_zpl.specs.declared.item.LineSpace.TheVariants.{Added, Deleted}
 use Rattle.vp_format.specs.declared.field.Span.{Span}
@@ -8,7 +9,19 @@ use Rattle.vp_format.specs.declared.field.Block.{Block}
 use Rattle.vp_format.specs.declared.field.Content.{Content}
 use Rattle.vp_format.specs.declared.field.Content.TheVariants as contents
 use Rattle.vp_label_settings.specs.declared.size.CharacterSize.{CharacterSize}
+use Rattle.vp_label_settings.specs.declared.choice.FontChoice.{FontChoice}
 use Rattle.vp_label_settings.specs.declared.choice.FieldBlock.{FieldBlock}
+use Rattle.vp_label_settings.specs.declared.settings.Settings.{Settings}
+use Rattle.vp_label_settings.specs.Ranges.{size_given}
+
+-- ^A, or ^FW and ^CF where that isn't said
+abbrev pub text_orientation : Settings → Option FontChoice → Orientation
+text_orientation s None = s.field_orientation
+text_orientation s (Some font) = unwrap_or font.orientation s.field_orientation
+
+abbrev pub text_size : Settings → Option FontChoice → CharacterSize
+text_size s None = s.default_font
+text_size s (Some font) = size_given font.height font.width s.default_font
 
 -- a text in one line
 abbrev pub text_of : CharacterSize → Span → Text

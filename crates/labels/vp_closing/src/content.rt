@@ -1,41 +1,81 @@
 //! What a field shows, as the format keeps it.
-ghost use Rattle.std.specs.Prelude.{◌≡◌, ◌≤◌, length, IfOk};
-ghost use Rattle.vp_label_settings.specs.Laws.{IsDrawable, HasBytesAmong};
+ghost use Rattle.std.specs.Prelude.{◌≡◌, ◌+◌, ◌≤◌, length, IfOk};
+ghost use Rattle.vp_label_settings.specs.Laws.{AreInRange, IsBlockIf, IsContent, IsSymbolIf};
 ghost use Rattle.vp_field.specs.Contents.{IsStored};
-ghost use Rattle.vp_closing.specs.Contents.{kept_content};
+ghost use Rattle.vp_closing.specs.Contents.{bytes_from, data_content, content_of};
 
 use crate::graphic::picture_content;
 use crate::symbol::{bars_content, qr_content};
-use crate::text::{text_content, text_of};
+use crate::text::{text_content, text_of, text_size};
 use vp_dots::{Fault, Why};
-use vp_format::{Content, STORED};
-use vp_label_settings::Content as Asked;
+use vp_format::{Content, STORED, Span};
+use vp_label_settings::{FieldParts, OpenContent, Settings, SymbolChoice};
 
-/// A content, whose bytes lie among the stored ones, or why it is refused.
-pub fn kept_content(stored: &[u8], content: Asked) -> Result<Content, Fault>
-    requires drawable { IsDrawable content }
-    requires among { HasBytesAmong (length stored.now) content }
+/// The stored bytes from a place on.
+fn bytes_from(stored: &[u8], start: u32) -> Span
+    requires within { start ≤ length stored.now }
     requires few { length stored.now ≤ STORED }
-    ensures value { result ≡ kept_content stored.now content }
+    ensures value { result ≡ bytes_from stored.now start }
+    ensures among { result.start + result.len ≤ length stored.now }
+{
+    Span {
+        start,
+        len: stored.len() as u32 - start,
+    }
+}
+
+/// What data are drawn as, or why they aren't.
+fn data_content(
+    stored: &[u8],
+    settings: &Settings,
+    parts: &FieldParts,
+    bytes: Span,
+) -> Result<Content, Fault>
+    requires settings { AreInRange settings.now }
+    requires symbol { IsSymbolIf parts.now.symbol }
+    requires block { IsBlockIf parts.now.block }
+    requires among { bytes.start + bytes.len ≤ length stored.now }
+    requires few { length stored.now ≤ STORED }
+    ensures value { result ≡ data_content stored.now settings.now parts.now parts.now.symbol bytes }
+    ensures stored { IfOk result (IsStored stored.now) }
+{
+    match parts.symbol {
+        None => {
+            let text = text_of(text_size(settings, parts.font), bytes);
+            Ok(text_content(text, parts.block))
+        }
+        Some(SymbolChoice::Bars(choice)) => {
+            bars_content(stored, settings.bar_defaults, choice, bytes)
+        }
+        Some(SymbolChoice::NotDrawn) => Err(Fault::Symbol(Why::Unsupported)),
+        Some(SymbolChoice::Qr { model, module_dots }) => {
+            qr_content(stored, model, module_dots as u8, bytes)
+        }
+    }
+}
+
+/// What a field shows, or why it is refused.
+pub fn content_of(
+    stored: &[u8],
+    settings: &Settings,
+    parts: &FieldParts,
+    content: OpenContent,
+) -> Result<Content, Fault>
+    requires settings { AreInRange settings.now }
+    requires symbol { IsSymbolIf parts.now.symbol }
+    requires block { IsBlockIf parts.now.block }
+    requires content { IsContent (length stored.now) content }
+    requires few { length stored.now ≤ STORED }
+    ensures value { result ≡ content_of stored.now settings.now parts.now content }
     ensures stored { IfOk result (IsStored stored.now) }
 {
     match content {
-        Asked::Text { size, block, bytes } => Ok(text_content(text_of(size, bytes), block)),
-        Asked::Bars {
-            code,
-            narrow,
-            wide,
-            height,
-            place,
-            bytes,
-        } => bars_content(stored, code, narrow, wide, height, place, bytes),
-        Asked::NotDrawn => Err(Fault::Symbol(Why::Unsupported)),
-        Asked::Qr {
-            model,
-            module_dots,
-            bytes,
-        } => qr_content(stored, model, module_dots as u8, bytes),
-        Asked::Frame(frame) => Ok(Content::Box(frame)),
-        Asked::Picture { head, bytes } => picture_content(stored, head, bytes),
+        OpenContent::Data { start } => {
+            data_content(stored, settings, parts, bytes_from(stored, start))
+        }
+        OpenContent::Frame { frame, colour: _ } => Ok(Content::Box(frame)),
+        OpenContent::Picture { head, start } => {
+            picture_content(stored, head, bytes_from(stored, start))
+        }
     }
 }

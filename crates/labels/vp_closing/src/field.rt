@@ -1,35 +1,108 @@
-//! A closed field as the format keeps it.
-ghost use Rattle.std.specs.Prelude.{◌≡◌, ◌≤◌, length, IfOk};
-ghost use Rattle.vp_label_settings.specs.Laws.{IsDrawable, HasBytesAmong};
+//! A field that is closed, as the format keeps it.
+ghost use Rattle.std.specs.Prelude.{◌≡◌, ◌≤◌, length, IfOk, IfSome};
+ghost use Rattle.vp_label_settings.specs.Laws.{AreInRange, AreParts, IsBlockIf, IsContent, IsSymbolIf};
+ghost use Rattle.vp_field.specs.Contents.{orientation_of};
 ghost use Rattle.vp_field.specs.Fields.{IsKept};
-ghost use Rattle.vp_closing.specs.Kept.{kept};
+ghost use Rattle.vp_closing.specs.Closing.{asked_orientation, closed, colour_of, field_of, operation, paint_of};
 
-use crate::content::kept_content;
+use crate::content::content_of;
 use crate::position::{left_of, top_of};
-use vp_dots::Fault;
+use crate::text::text_orientation;
+use vp_dots::{Fault, Op};
 use vp_field::content_size;
-use vp_format::{Field, STORED};
+use vp_format::{Content, Field, STORED};
 use vp_glyph::Sheets;
-use vp_label_settings::Field as Closed;
+use vp_label_settings::{FieldParts, OpenContent, Settings, SymbolChoice};
+use vp_zpl::item::{Colour, Orientation};
 
-/// The field that the format keeps for a closed one, whose bytes lie among the stored ones. It is refused as
-/// `Symbol` or `SymbolTooLong` where the data have no bars or no QR symbol, or these aren't drawn, and as
-/// `Graphic` where a code that starts in one of a picture's rows is refused.
-pub fn kept(sheets: &Sheets, stored: &[u8], field: &Closed) -> Result<Field, Fault>
-    requires drawable { IsDrawable field.now.content }
-    requires among { HasBytesAmong (length stored.now) field.now.content }
+/// How a field is turned, if its content is one that is.
+fn asked_orientation(settings: &Settings, parts: &FieldParts) -> Orientation
+    ensures { result ≡ asked_orientation settings.now parts.now parts.now.symbol }
+{
+    match parts.symbol {
+        None => text_orientation(settings, parts.font),
+        Some(SymbolChoice::Bars(bars)) => bars.orientation.unwrap_or(settings.field_orientation),
+        Some(_) => settings.field_orientation,
+    }
+}
+
+/// How a content is turned; boxes, pictures and QR symbols are not.
+fn turned(orientation: Orientation, content: &Content) -> Orientation
+    ensures { result ≡ orientation_of orientation content.now }
+{
+    match content {
+        Content::Text(_) | Content::Block(_) | Content::Bars(_) => orientation,
+        Content::Box(_) | Content::Picture(_) | Content::Qr(_) => Orientation::Normal,
+    }
+}
+
+/// What a content paints, unless it reverses.
+fn colour_of(content: OpenContent) -> Op
+    ensures { result ≡ colour_of content }
+{
+    match content {
+        OpenContent::Frame {
+            frame: _,
+            colour: Colour::White,
+        } => Op::White,
+        _ => Op::Black,
+    }
+}
+
+/// What a field does where it has ink.
+fn operation(settings: &Settings, parts: &FieldParts, colour: Op) -> Op
+    ensures { result ≡ operation settings.now parts.now colour }
+{
+    if parts.is_reversed || settings.label_reverse {
+        Op::Flip
+    } else {
+        colour
+    }
+}
+
+/// The field of a content.
+fn field_of(
+    sheets: &Sheets,
+    stored: &[u8],
+    settings: &Settings,
+    parts: &FieldParts,
+    asked: OpenContent,
+) -> Result<Field, Fault>
+    requires settings { AreInRange settings.now }
+    requires symbol { IsSymbolIf parts.now.symbol }
+    requires block { IsBlockIf parts.now.block }
+    requires content { IsContent (length stored.now) asked }
     requires few { length stored.now ≤ STORED }
-    ensures value { result ≡ kept sheets.now stored.now field.now }
+    ensures value { result ≡ field_of sheets.now stored.now settings.now parts.now asked }
     ensures kept { IfOk result (IsKept stored.now) }
 {
-    let content = kept_content(stored, field.content)?;
-    let orientation = field.orientation;
+    let content = content_of(stored, settings, parts, asked)?;
+    let orientation = turned(asked_orientation(settings, parts), &content);
     let (width, height) = content_size(sheets, stored, &content);
     Ok(Field {
-        left: left_of(field.position, orientation, width, height),
-        top: top_of(field.position, orientation, width, height),
+        left: left_of(settings.home, parts.origin, orientation, width, height),
+        top: top_of(settings.home, parts.origin, orientation, width, height),
         orientation,
-        op: field.operation,
+        op: operation(settings, parts, colour_of(asked)),
         content,
     })
+}
+
+/// The field that its parts close behind the stored bytes, as the format keeps it; without a content there is
+/// none. It is refused as `Symbol` or `SymbolTooLong` where the data have no bars or no QR symbol, or these
+/// aren't drawn, and as `Graphic` where a code that starts in one of a picture's rows is refused.
+pub fn closed(
+    sheets: &Sheets,
+    stored: &[u8],
+    settings: &Settings,
+    parts: &FieldParts,
+) -> Option<Result<Field, Fault>>
+    requires settings { AreInRange settings.now }
+    requires parts { AreParts (length stored.now) parts.now }
+    requires few { length stored.now ≤ STORED }
+    ensures value { result ≡ closed sheets.now stored.now settings.now parts.now }
+    ensures kept { IfSome result (λ field. IfOk field (IsKept stored.now)) }
+{
+    let content = parts.content?;
+    Some(field_of(sheets, stored, settings, parts, content))
 }

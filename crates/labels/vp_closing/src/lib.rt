@@ -1,8 +1,9 @@
-//! Closed fields as the format keeps them, or why they are refused (ZPL II, ^FS and ^XZ).
+//! The field that ^FS or ^XZ closes, from its parts and the settings in force: as the format keeps it, or why
+//! it is refused (ZPL II).
 //!
 //! - `text`, `graphic`, `symbol`: texts and their blocks, pictures, bars and QR symbols.
 //! - `position`: where a field stands.
-//! - `content`, `field`: what a field shows, and the whole field, as they are kept. `laws`: what is refused.
+//! - `content`, `field`: what a field shows, and the whole field. `laws`: what is refused.
 #![tactic(auto)]
 
 mod content;
@@ -13,4 +14,4 @@ mod position;
 mod symbol;
 mod text;
 
-pub use field::kept;
+pub use field::closed;

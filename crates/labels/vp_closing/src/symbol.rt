@@ -1,41 +1,52 @@
 //! Bars and QR symbols of data, or why there are none.
 ghost use Rattle.std.specs.Prelude.{◌≡◌, ◌<◌, ◌≤◌, ◌+◌, length, IfOk};
 ghost use Rattle.vp_qr_field.specs.Fronts.{front_of};
-ghost use Rattle.vp_closing.specs.Symbols.{bars_of, qr_unless, qr_symbol, qr_of};
+ghost use Rattle.vp_closing.specs.Symbols.{wide_bar, bars, bars_of, qr_unless, qr_symbol, qr_of};
 ghost use Rattle.vp_field.specs.Contents.{bytes_of, LiesIn, IsStored};
 ghost use Rattle.vp_qr.specs.Encoding.{refusal};
 
-use vp_bars::Place;
 use vp_dots::Fault;
 use vp_field::{bytes_of, linear};
-use vp_format::{BarCode, Bars, Content, QrSymbol, STORED, Span};
+use vp_format::{Bars, Content, QrSymbol, STORED, Span};
+use vp_label_settings::{BarChoice, BarDefaults, ranged};
 use vp_qr::encode;
 use vp_qr_field::{QrFront, qr_front};
+
+/// The dots of a wide bar, more than those of a narrow one.
+fn wide_bar(defaults: BarDefaults) -> u16
+    ensures { result ≡ wide_bar defaults }
+{
+    let narrow = u16::from(defaults.module_dots);
+    (narrow * u16::from(defaults.ratio_tenths) / 10).max(narrow + 1)
+}
+
+/// Bars that were asked for, with what the defaults say where they don't say it.
+fn bars(defaults: BarDefaults, choice: BarChoice, bytes: Span) -> Bars
+    ensures { result ≡ bars defaults choice bytes }
+{
+    Bars {
+        bytes,
+        code: choice.code,
+        narrow: u16::from(defaults.module_dots),
+        wide: wide_bar(defaults),
+        height: ranged(choice.height, 1, 8000, defaults.height),
+        place: choice.place,
+    }
+}
 
 /// Bars, unless the data have none.
 pub fn bars_content(
     stored: &[u8],
-    code: BarCode,
-    narrow: u8,
-    wide: u16,
-    height: u16,
-    place: Place,
+    defaults: BarDefaults,
+    choice: BarChoice,
     bytes: Span,
 ) -> Result<Content, Fault>
     requires among { bytes.start + bytes.len ≤ length stored.now }
     requires few { length stored.now ≤ STORED }
-    ensures value { result
-        ≡ bars_of stored.now code narrow wide height place bytes }
+    ensures value { result ≡ bars_of stored.now (bars defaults choice bytes) }
     ensures stored { IfOk result (IsStored stored.now) }
 {
-    let bars = Bars {
-        bytes,
-        code,
-        narrow: u16::from(narrow),
-        wide,
-        height,
-        place,
-    };
+    let bars = bars(defaults, choice, bytes);
     let _ = linear(bars.code, bytes_of(stored, bars.bytes))?;
     Ok(Content::Bars(bars))
 }

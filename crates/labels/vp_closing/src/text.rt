@@ -1,11 +1,33 @@
 //! Texts, and blocks of them.
 ghost use Rattle.std.specs.Prelude.{◌≡◌};
-ghost use Rattle.vp_label_settings.specs.Laws.{IsSpace, IsBlock, IsBlockIf};
-ghost use Rattle.vp_closing.specs.Texts.{text_of, gap_of, block_of, text_content};
+ghost use Rattle.vp_label_settings.specs.Laws.{IsSize, IsSpace, IsBlock, IsBlockIf};
+ghost use Rattle.vp_closing.specs.Texts.{text_orientation, text_size, text_of, gap_of, block_of, text_content};
 
 use vp_format::{Block, Content, Span, Text};
-use vp_label_settings::{CharacterSize, FieldBlock};
-use vp_zpl::item::LineSpace;
+use vp_label_settings::{CharacterSize, FieldBlock, FontChoice, Settings};
+use vp_zpl::item::{LineSpace, Orientation};
+
+/// How a text is turned: as ^A says, or else ^FW.
+pub fn text_orientation(settings: &Settings, font: Option<FontChoice>) -> Orientation
+    ensures { result ≡ text_orientation settings.now font }
+{
+    match font {
+        None => settings.field_orientation,
+        Some(font) => font.orientation.unwrap_or(settings.field_orientation),
+    }
+}
+
+/// The size of its characters: as ^A says, or else ^CF.
+pub fn text_size(settings: &Settings, font: Option<FontChoice>) -> CharacterSize
+    requires { IsSize settings.now.default_font }
+    ensures value { result ≡ text_size settings.now font }
+    ensures fits { IsSize result }
+{
+    match font {
+        None => settings.default_font,
+        Some(font) => CharacterSize::given(font.height, font.width, settings.default_font),
+    }
+}
 
 /// A text in one line.
 pub fn text_of(size: CharacterSize, bytes: Span) -> Text

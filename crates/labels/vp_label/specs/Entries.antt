@@ -1,5 +1,5 @@
 -- The fields of a format as they are kept, by looking back over the items, of which the newest comes first.
-use Rattle.std.specs.Prelude.{List, [], ◌∷◌, ◌++◌, Option, Some, None, option_map, Result, Ok, Err}
+use Rattle.std.specs.Prelude.{List, [], ◌∷◌, ◌++◌, Option, Some, None, Result, Ok, Err}
 use Rattle.vp_dots.specs.declared.fault.Fault.{Fault}
 use Rattle.vp_glyph.specs.declared.Sheets.{Sheets}
 use Rattle.vp_zpl.specs.declared.item.Command.{Command}
@@ -7,12 +7,13 @@ use Rattle.vp_zpl.specs.declared.item.Command.TheVariants.{FormatEnd, FieldSepar
 use Rattle.vp_zpl.specs.Items.{Item}
 use Rattle.vp_format.specs.declared.field.Field.{Field}
 use Rattle.vp_label_settings.specs.Formats.{is_open, acting, stored}
-use Rattle.vp_label_settings.specs.Closing.{closing}
-use Rattle.vp_closing.specs.Kept.{kept}
+use Rattle.vp_label_settings.specs.Settings.{settings_of}
+use Rattle.vp_label_settings.specs.Parts.{parts_of}
+use Rattle.vp_closing.specs.Closing.{closed as closed_by}
 
 -- the field that ^FS or ^XZ closes, if there is one: as it is kept, or why it is refused
 abbrev pub closed : Sheets → List Item → Option (Result Field Fault)
-closed sheets before = option_map (kept sheets (stored before)) (closing before)
+closed sheets before = closed_by sheets (stored before) (settings_of before) (parts_of before)
 
 abbrev pub with_kept : List Field → Option (Result Field Fault) → List Field
 with_kept fields None = fields

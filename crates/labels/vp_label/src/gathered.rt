@@ -15,12 +15,12 @@ ghost use Rattle.vp_label.specs.Effects.{effect_of};
 ghost use Rattle.vp_label.specs.Prints.{prints};
 
 use std::alloc::{AllocError, Global};
-use vp_closing::kept;
+use vp_closing::closed;
 use vp_dots::Fault;
 use vp_field::stored_behind;
 use vp_format::Format;
 use vp_glyph::Sheets;
-use vp_label_settings::laws::{among_the_stored, between_formats, in_range};
+use vp_label_settings::laws::{between_formats, in_range};
 use vp_label_settings::{InForce, STORE};
 use vp_zpl::Command;
 
@@ -138,12 +138,13 @@ impl Gathered {
         ensures kept { OnOk result (AreKept self.new.format.stored self.new.format.fields) }
         ensures err { OnErr result (self.new ≡ self.old) }
     {
-        let Some(field) = self.in_force.closing() else {
+        in_range();
+        let settings = &self.in_force.settings;
+        let Some(closed) = closed(sheets, self.format.stored(), settings, &self.in_force.parts)
+        else {
             return Ok(());
         };
-        in_range();
-        among_the_stored();
-        let field = kept(sheets, self.format.stored(), &field)?;
+        let field = closed?;
         match self.format.close(field) {
             Ok(()) => Ok(()),
             Err(_) => Err(Fault::FieldsFull),

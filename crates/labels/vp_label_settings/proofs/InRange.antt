@@ -1,4 +1,4 @@
--- What is in force is in its ranges, and what is closed can be drawn.
+-- What is in force is in its ranges.
 use Rattle.std.proofs.Common.{◌≤◌, ◌==◌, ℕ, Bool, true, false, Option, Some, None, List, [], ◌∷◌, arith, if◌then◌else◌}
 use Rattle.vp_zpl.specs.declared.item.Command.{Command}
 use Rattle.vp_zpl.specs.declared.item.Command.TheVariants.{FormatEnd, LabelHome, PrintWidth, LabelLength, DefaultFont, BarDefaults as SetBarDefaults, PrintQuantity}

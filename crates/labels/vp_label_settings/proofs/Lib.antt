@@ -1,5 +1,5 @@
 pub mod Storing
 pub mod InRange
-pub mod Drawable
+pub mod PartsInRange
 pub mod Among
 pub mod Idle

@@ -1,5 +1,5 @@
--- Words of the laws: what can be drawn, in dots, and which bytes it takes.
-use Rattle.std.specs.Prelude.{◌≤◌, ℕ, ◌+◌, Option, Some, None}
+-- Words of the laws: settings and parts of a field in their ranges, in dots.
+use Rattle.std.specs.Prelude.{◌≤◌, ℕ, Option, Some, None, IfSome}
 use Rattle.vp_zpl.specs.declared.item.LineSpace.{LineSpace}
 use Rattle.vp_zpl.specs.declared.item.LineSpace.TheVariants.{Added, Deleted}
 use Rattle.vp_label_settings.specs.declared.size.CharacterSize.{CharacterSize}
@@ -10,11 +10,13 @@ use Rattle.vp_label_settings.specs.declared.settings.Settings.{Settings}
 use Rattle.vp_label_settings.specs.declared.choice.FieldBlock.{FieldBlock}
 use Rattle.vp_format.specs.declared.field.GraphicBox.{GraphicBox}
 use Rattle.vp_label_settings.specs.declared.graphic.PictureHead.{PictureHead}
-use Rattle.vp_label_settings.specs.declared.field.Position.{Position}
-use Rattle.vp_label_settings.specs.declared.field.Position.TheVariants.{Corner, Baseline}
-use Rattle.vp_format.specs.declared.field.Span.{Span}
-use Rattle.vp_label_settings.specs.declared.field.Content.{Content}
-use Rattle.vp_label_settings.specs.declared.field.Content.TheVariants.{Text, Bars, NotDrawn, Qr, Frame, Picture}
+use Rattle.vp_label_settings.specs.declared.choice.SymbolChoice.{SymbolChoice}
+use Rattle.vp_label_settings.specs.declared.choice.SymbolChoice.TheVariants.{Bars, NotDrawn, Qr}
+use Rattle.vp_label_settings.specs.declared.parts.Origin.{Origin}
+use Rattle.vp_label_settings.specs.declared.parts.Origin.TheVariants.{Corner, Baseline}
+use Rattle.vp_label_settings.specs.declared.parts.OpenContent.{OpenContent}
+use Rattle.vp_label_settings.specs.declared.parts.OpenContent.TheVariants.{Data, Frame, Picture}
+use Rattle.vp_label_settings.specs.declared.parts.FieldParts.{FieldParts}
 
 pub record Within (low : ℕ) (high : ℕ) (n : ℕ) : Type 0 where
   pub least : low ≤ n
@@ -64,30 +66,27 @@ pub record IsPicture (p : PictureHead) : Type 0 where
   pub row_bytes : Within 1 1024 p.row_bytes
   pub rows : 1 ≤ p.rows
 
--- a content can be drawn
-abbrev pub IsDrawable : Content → Type 0
-IsDrawable (Text size block bytes) = IsSize size × IsBlockIf block
-IsDrawable (Bars code narrow wide height place bytes) = Within 1 10 narrow × Within (narrow + 1) 30 wide
-    × Within 1 8000 height
-IsDrawable NotDrawn = Unit {0}
-IsDrawable (Qr model dots bytes) = Within 1 2 model × Within 1 10 dots
-IsDrawable (Frame b) = IsFrame b
-IsDrawable (Picture head bytes) = IsPicture head
+-- ^FO and ^FT
+abbrev pub IsOrigin : Origin → Type 0
+IsOrigin (Corner x y) = (x ≤ 32000) × (y ≤ 32000)
+IsOrigin (Baseline x y) = (x ≤ 32000) × (y ≤ 32000)
 
--- a place as far off as the home and a coordinate can bring it
-abbrev pub IsPlace : Position → Type 0
-IsPlace (Corner x y) = (x ≤ 64000) × (y ≤ 64000)
-IsPlace (Baseline x y) = (x ≤ 64000) × (y ≤ 64000)
+-- ^BQ; of bars the kind says all
+abbrev pub IsSymbolIf : Option SymbolChoice → Type 0
+IsSymbolIf None = Unit {0}
+IsSymbolIf (Some (Bars b)) = Unit {0}
+IsSymbolIf (Some NotDrawn) = Unit {0}
+IsSymbolIf (Some (Qr model dots)) = Within 1 2 model × Within 1 10 dots
 
--- bytes lie among so many stored ones
-abbrev pub IsAmong : ℕ → Span → Type 0
-IsAmong stored bytes = bytes.start + bytes.len ≤ stored
+-- a content begins behind no more bytes than are stored
+abbrev pub IsContent : ℕ → OpenContent → Type 0
+IsContent stored (Data start) = start ≤ stored
+IsContent stored (Frame b colour) = IsFrame b
+IsContent stored (Picture head start) = IsPicture head × (start ≤ stored)
 
--- the bytes of a content do
-abbrev pub HasBytesAmong : ℕ → Content → Type 0
-HasBytesAmong stored (Text size block bytes) = IsAmong stored bytes
-HasBytesAmong stored (Bars code narrow wide height place bytes) = IsAmong stored bytes
-HasBytesAmong stored NotDrawn = Unit {0}
-HasBytesAmong stored (Qr model dots bytes) = IsAmong stored bytes
-HasBytesAmong stored (Frame b) = Unit {0}
-HasBytesAmong stored (Picture head bytes) = IsAmong stored bytes
+-- the parts of a field are in their ranges, where so many bytes are stored
+pub record AreParts (stored : ℕ) (p : FieldParts) : Type 0 where
+  pub origin : IsOrigin p.origin
+  pub symbol : IsSymbolIf p.symbol
+  pub block : IsBlockIf p.block
+  pub content : IfSome p.content (IsContent stored)

@@ -5,7 +5,6 @@ pub mod Settings
 pub mod Choices
 pub mod Graphics
 pub mod Parts
-pub mod Closing
 pub mod Refusals
 pub mod Laws
 -- What the code keeps.

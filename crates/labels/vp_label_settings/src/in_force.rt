@@ -5,11 +5,9 @@ ghost use Rattle.vp_zpl.specs.declared.name.Name.{Name};
 ghost use Rattle.vp_zpl.specs.Items.Item.{Given};
 ghost use Rattle.vp_zpl.specs.Items.{Item, data_items};
 ghost use Rattle.vp_label_settings.specs.Formats.{is_open_by, followed_by};
-ghost use Rattle.vp_label_settings.specs.Closing.{closing};
 ghost use Rattle.vp_label_settings.specs.Refusals.{head_refusal};
 ghost use Rattle.vp_label_settings.specs.Standing.{StandsAfter, has_room};
 
-use crate::field::Field;
 use crate::graphic::PictureHead;
 use crate::parts::FieldParts;
 use crate::settings::Settings;
@@ -109,12 +107,5 @@ impl InForce {
         if self.is_open {
             self.stored += bytes.len() as u32;
         }
-    }
-
-    /// The field that ^FS or ^XZ closes, if there is one.
-    pub fn closing(&self) -> Option<Field>
-        ensures { (before : List Item) → StandsAfter self.now before → result ≡ closing before }
-    {
-        self.settings.closed(&self.parts, self.stored)
     }
 }

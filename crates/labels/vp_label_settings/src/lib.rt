@@ -1,14 +1,12 @@
-//! What is in force on a label printer, by what was sent, and what a field is once it is closed.
+//! What is in force on a label printer, by what was sent.
 //!
 //! - `range`: an argument in its range. `size`: the size of characters.
 //! - `settings`: what outlives a format. `choice`: symbols, fonts and blocks as they were asked for.
 //!   `graphic`: boxes and pictures. `parts`: the open field.
-//! - `field`: a closed field. `in_force`: all of it, and what an item changes.
-//!   `laws`: what holds behind every stream.
+//! - `in_force`: all of it, and what an item changes. `laws`: what holds behind every stream.
 #![tactic(auto)]
 
 mod choice;
-mod field;
 mod graphic;
 mod in_force;
 pub mod laws;
@@ -18,9 +16,9 @@ mod settings;
 mod size;
 
 pub use choice::{BarChoice, FieldBlock, FontChoice, SymbolChoice};
-pub use field::{Content, Field, Position};
 pub use graphic::PictureHead;
 pub use in_force::{InForce, STORE};
 pub use parts::{FieldParts, OpenContent, Origin};
+pub use range::ranged;
 pub use settings::{BarDefaults, Home, LONGEST, Settings, WIDEST};
 pub use size::CharacterSize;

@@ -1,5 +1,6 @@
 //! The size of characters.
 ghost use Rattle.std.specs.Prelude.{◌≡◌};
+ghost use Rattle.vp_label_settings.specs.Laws.{IsSize};
 ghost use Rattle.vp_label_settings.specs.Ranges.{counted, size_of, size_given};
 
 /// The size of characters, in dots.
@@ -38,7 +39,8 @@ impl CharacterSize {
     /// The size that ^A and ^CF say: of a height alone the width is the half; a width alone goes with the
     /// default's height, and with neither the default stands.
     pub fn given(height: Option<u32>, width: Option<u32>, default: CharacterSize) -> CharacterSize
-        ensures { result ≡ size_given height width default }
+        ensures value { result ≡ size_given height width default }
+        ensures fits { IsSize default → IsSize result }
     {
         size_of(counted(height), counted(width), default)
     }

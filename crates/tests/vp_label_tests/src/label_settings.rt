@@ -1,25 +1,14 @@
-//! Streams, what is in force behind them, and the fields that they close.
-mod contents;
-mod places;
-mod symbols;
-mod texts;
-
+//! Streams, and what is in force behind them.
 use crate::checks::same;
-use std::alloc::{AllocError, Global};
 use std::process::Abort;
 use std::test::Fail;
-use vp_format::Span;
-use vp_label_settings::{Content, Field, Home, InForce, STORE, Settings};
+use vp_label_settings::{Home, InForce, STORE, Settings};
 use vp_zpl::{Command, ZplItem, ZplReader};
 
-/// The first stored byte.
-const ONE: Span = Span { start: 0, len: 1 };
-
-/// What is in force behind a stream, and the fields that it closed, in their order.
-fn run(alloc: Global, stream: &[u8]) -> Result<(InForce, Vec<Field>), AllocError> {
+/// What is in force behind a stream.
+fn in_force(stream: &[u8]) -> InForce {
     let mut reader = ZplReader::new();
     let mut now = InForce::new();
-    let mut fields = Vec::new(alloc);
     for byte in stream {
         match reader.take(*byte) {
             None => {}
@@ -28,69 +17,27 @@ fn run(alloc: Global, stream: &[u8]) -> Result<(InForce, Vec<Field>), AllocError
                     now.store(bytes.as_slice());
                 }
             }
-            Some(ZplItem::Command(sent)) => {
-                if let Command::FieldSeparator | Command::FormatEnd = sent.command {
-                    if let Some(field) = now.closing() {
-                        fields.push(field)?;
-                    }
-                }
-                now.obey(sent.command);
-            }
+            Some(ZplItem::Command(sent)) => now.obey(sent.command),
         }
     }
-    Ok((now, fields))
-}
-
-/// What is in force behind a stream.
-fn in_force(alloc: Global, stream: &[u8]) -> Result<InForce, AllocError> {
-    let (now, _) = run(alloc, stream)?;
-    Ok(now)
-}
-
-/// The last field that a stream closes.
-fn last(alloc: Global, stream: &[u8]) -> Result<Option<Field>, AllocError> {
-    let (_, fields) = run(alloc, stream)?;
-    Ok(fields.as_slice().last().copied())
-}
-
-/// A stream closes a field of this content last, or none where none is wanted.
-fn closes(
-    rt: &impl Abort,
-    alloc: Global,
-    stream: &[u8],
-    want: Option<Content>,
-) -> Result<(), AllocError> {
-    let found = match last(alloc, stream)? {
-        Some(field) => Some(field.content),
-        None => None,
-    };
-    assert!(rt; found == want, "{stream:?}");
-    Ok(())
+    now
 }
 
 /// The first row behind whose stream these settings aren't in force, or other bytes are stored.
-fn wrong_settings(
-    alloc: Global,
-    rows: &[(&[u8], Settings, u32)],
-) -> Result<Option<usize>, AllocError> {
+fn wrong_settings(rows: &[(&[u8], Settings, u32)]) -> Option<usize> {
     for i in 0..rows.len() {
         let (stream, settings, stored) = rows[i];
-        let found = in_force(alloc, stream)?;
+        let found = in_force(stream);
         if found.settings != settings || found.stored != stored {
-            return Ok(Some(i));
+            return Some(i);
         }
     }
-    Ok(None)
+    None
 }
 
 /// Behind each stream these settings are in force, and so many bytes are stored.
-fn right(
-    rt: &impl Abort,
-    alloc: Global,
-    rows: &[(&[u8], Settings, u32)],
-) -> Result<(), AllocError> {
-    same(rt, &wrong_settings(alloc, rows)?, &None);
-    Ok(())
+fn right(rt: &impl Abort, rows: &[(&[u8], Settings, u32)]) {
+    same(rt, &wrong_settings(rows), &None);
 }
 
 /// The settings at the start, with these sizes of a label.
@@ -145,7 +92,7 @@ fn defaults(rt: HostRuntime) -> Result<(), Fail> {
         (b"^XA^PW1300^LL0^XZ".as_slice(), label(1248, 1), 0),
         (b"^XA^PW0^LL9000^XZ".as_slice(), label(1, 8000), 0),
     ];
-    right(&rt, rt.alloc(), &rows)?;
+    right(&rt, &rows);
     Ok(())
 }
 
@@ -170,14 +117,14 @@ fn formats(rt: HostRuntime) -> Result<(), Fail> {
         (b"^XA^FDabc^FDde^GB1^FS".as_slice(), copies(1), 5),
         (b"^XA^FDabc^FS^XZ^XA".as_slice(), copies(1), 0),
     ];
-    right(&rt, rt.alloc(), &rows)?;
+    right(&rt, &rows);
     Ok(())
 }
 
 /// The store is full at its last byte, and not before.
 #[test]
 fn room(rt: HostRuntime) -> Result<(), Fail> {
-    let mut now = in_force(rt.alloc(), b"^XA^FD")?;
+    let mut now = in_force(b"^XA^FD");
     now.stored = STORE - 2;
     same(
         &rt,

@@ -5,5 +5,5 @@ use Rattle.vp_closing.proofs.Counted.{no_front}
 use Rattle.vp_closing.proofs.laws.no_front.Goals as goal
 
 pub returns : goal.returns
-returns c stored model dots bytes other none =
+returns c stored s p model dots bytes other none =
     ap (qr_of stored dots bytes) (no_front model (bytes_of stored bytes) other none)

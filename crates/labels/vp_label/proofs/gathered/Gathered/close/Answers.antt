@@ -1,6 +1,9 @@
 use Rattle.std.proofs.Common.{◌≡◌, true, sym, subst, ◌∙◌, ℕ, List}
 use Rattle.std.proofs.lemmas.List.Elements.{All-push}
+use Rattle.std.specs.Prelude.{IfOk, Result}
+use Rattle.vp_dots.specs.declared.fault.Fault.{Fault}
 use Rattle.vp_format.specs.Formats.{Held}
+use Rattle.vp_format.specs.declared.field.Field.{Field}
 use Rattle.vp_field.specs.Fields.{IsKept}
 use Rattle.vp_label_settings.specs.Formats.{is_open}
 use Rattle.vp_label.specs.Gathered.{AreKept}
@@ -13,5 +16,6 @@ returns-in-Ok-clause-kept c =
     let g = c.requires.some.1 in
     let so : is_open c.requires.some.0 ≡ true = sym g.in_force.is_open ∙ c.requires.opened in
     let h = g.held so in
+    let kept : IsKept c.stored.result.now field = subst (λ (r : Result Field Fault). IfOk r (IsKept c.stored.result.now)) c.in_ok-field.was c.in-Some.ensures.kept in
     subst (λ (x : Held). AreKept x.stored x.fields) (sym c.in-Ok.ensures.ok)
-    (All-push (IsKept old.stored) old.fields field h.kept (subst (λ (s : List ℕ). IsKept s field) c.stored.ensures.bytes c.in_ok-field.ensures.kept))
+    (All-push (IsKept old.stored) old.fields field h.kept (subst (λ (s : List ℕ). IsKept s field) c.stored.ensures.bytes kept))

@@ -1,7 +1,6 @@
--- What is closed can be drawn.
-use Rattle.std.proofs.Common.{◌≡◌, ◌≤◌, ◌+◌, ◌-◌, ◌*◌, ◌/◌, refl, length, ℕ, Bool, true, false, Option, Some, None, List, [], ◌∷◌, arith, max, option_map, if◌then◌else◌}
-use Rattle.std.proofs.lemmas.Nat.{mul-le, le-div}
-use Rattle.std.specs.Prelude.{IfSome}
+-- The parts of a field are in their ranges.
+use Rattle.std.proofs.Common.{◌≡◌, ◌≤◌, ◌/◌, refl, length, ℕ, Bool, true, false, Option, Some, None, List, [], ◌∷◌, arith, max, option_map, if◌then◌else◌}
+use Rattle.std.proofs.lemmas.Nat.{le-div}
 use Rattle.vp_zpl.specs.declared.item.LineSpace.{LineSpace}
 use Rattle.vp_zpl.specs.declared.item.LineSpace.TheVariants.{Added, Deleted}
 use Rattle.vp_zpl.specs.declared.item.Code128Mode.{Code128Mode}
@@ -11,31 +10,18 @@ use Rattle.vp_zpl.specs.declared.item.GraphicFormat.{GraphicFormat}
 use Rattle.vp_zpl.specs.declared.item.Command.{Command}
 use Rattle.vp_zpl.specs.declared.item.Command.TheVariants.{FormatEnd, FieldSeparator, Code39, Ean13, Code128, QrCode, FieldBlock as SetBlock, FieldData, GraphicBox as DrawBox, Graphic}
 use Rattle.vp_zpl.specs.Items.{Item}
-use Rattle.vp_label_settings.specs.declared.settings.Settings.{Settings}
-use Rattle.vp_label_settings.specs.declared.choice.FontChoice.{FontChoice}
 use Rattle.vp_label_settings.specs.declared.choice.SymbolChoice.{SymbolChoice}
-use Rattle.vp_label_settings.specs.declared.choice.SymbolChoice.TheVariants as asked
 use Rattle.vp_label_settings.specs.declared.choice.FieldBlock.{FieldBlock}
 use Rattle.vp_format.specs.declared.rows.Coding.{Coding}
 use Rattle.vp_label_settings.specs.declared.parts.OpenContent.{OpenContent}
 use Rattle.vp_label_settings.specs.declared.parts.OpenContent.TheVariants as opened
-use Rattle.vp_label_settings.specs.declared.parts.FieldParts.{FieldParts}
-use Rattle.vp_format.specs.declared.field.Span.{Span}
 use Rattle.vp_label_settings.specs.Ranges.{ranged}
 use Rattle.vp_label_settings.specs.Formats.{is_open, stored}
-use Rattle.vp_label_settings.specs.Settings.{settings_of}
 use Rattle.vp_label_settings.specs.Choices.{line_space, code128_choice}
 use Rattle.vp_label_settings.specs.Graphics.{side_of, box_with, has_rows, picture_coding, headed, picture_head}
-use Rattle.vp_label_settings.specs.Parts.{symbol_by, symbol, block_by, block, picture_behind, content_by, content, parts_of}
-use Rattle.vp_label_settings.specs.Closing.{text_size, data_content, field_of, closing}
-use Rattle.vp_label_settings.specs.Laws.{Within, IsSize, AreInRange, IsSpace, IsBlockIf, IsFrame, IsPicture, IsDrawable}
-use Rattle.vp_label_settings.proofs.InRange.{acting-keeps, ranged-within, size_given-fits, settings-fit}
-
-abbrev pub IsSymbolIf : Option SymbolChoice → Type 0
-IsSymbolIf None = Unit {0}
-IsSymbolIf (Some (asked.Bars b)) = Unit {0}
-IsSymbolIf (Some asked.NotDrawn) = Unit {0}
-IsSymbolIf (Some (asked.Qr model dots)) = Within 1 2 model × Within 1 10 dots
+use Rattle.vp_label_settings.specs.Parts.{symbol_by, symbol, block_by, block, picture_behind, content_by, content}
+use Rattle.vp_label_settings.specs.Laws.{Within, IsSpace, IsSymbolIf, IsBlockIf, IsFrame, IsPicture}
+use Rattle.vp_label_settings.proofs.InRange.{acting-keeps, ranged-within}
 
 code128-fits : (mode : Option Code128Mode) (o : Option Orientation) (h : Option ℕ) (t a : Option Bool) → IsSymbolIf (Some (code128_choice mode o h t a))
 code128-fits None o h t a = tt
@@ -55,7 +41,7 @@ symbol-step FieldSeparator old fits = tt
 symbol-step FormatEnd old fits = tt
 symbol-step _ old fits = fits
 
-symbol-fits : (before : List Item) → IsSymbolIf (symbol before)
+pub symbol-fits : (before : List Item) → IsSymbolIf (symbol before)
 symbol-fits [] = tt
 symbol-fits (item ∷ before) = acting-keeps IsSymbolIf symbol_by symbol-step (is_open before) item (symbol before) (symbol-fits before)
 
@@ -74,7 +60,7 @@ block-step FieldSeparator old fits = tt
 block-step FormatEnd old fits = tt
 block-step _ old fits = fits
 
-block-fits : (before : List Item) → IsBlockIf (block before)
+pub block-fits : (before : List Item) → IsBlockIf (block before)
 block-fits [] = tt
 block-fits (item ∷ before) = acting-keeps IsBlockIf block_by block-step (is_open before) item (block before) (block-fits before)
 
@@ -121,38 +107,7 @@ content-step start FieldSeparator old fits = tt
 content-step start FormatEnd old fits = tt
 content-step start _ old fits = fits
 
-content-fits : (before : List Item) → IsContentIf (content before)
+pub content-fits : (before : List Item) → IsContentIf (content before)
 content-fits [] = tt
 content-fits (item ∷ before) =
     acting-keeps IsContentIf (content_by (length (stored before))) (content-step (length (stored before))) (is_open before) item (content before) (content-fits before)
-
-text-fits : (s : Settings) (font : Option FontChoice) → IsSize s.default_font → IsSize (text_size s font)
-text-fits s None fits = fits
-text-fits s (Some font) fits = size_given-fits font.height font.width s.default_font fits
-
-wide-within : (n r : ℕ) → n ≤ 10 → r ≤ 30 → Within (n + 1) 30 (max (n + 1) (n * r / 10))
-wide-within n r n_most r_most = record { least = omega arith; most = omega (arith, mul-le n r 10 30 n_most r_most) }
-
-data-fits : (s : Settings) (p : FieldParts) (bytes : Span) (symbol : Option SymbolChoice) → AreInRange s → IsSymbolIf symbol → IsBlockIf p.block →
-    IsDrawable (data_content s p symbol bytes)
-data-fits s p bytes None fits symbol_fits block_fits = (text-fits s p.font fits.default_font, block_fits)
-data-fits s p bytes (Some (asked.Bars b)) fits symbol_fits block_fits = (
-  fits.bar_defaults.module_dots,
-  wide-within s.bar_defaults.module_dots s.bar_defaults.ratio_tenths fits.bar_defaults.module_dots.most fits.bar_defaults.ratio_tenths.most,
-  ranged-within 1 8000 s.bar_defaults.height b.height (omega arith) fits.bar_defaults.height,
-)
-data-fits s p bytes (Some asked.NotDrawn) fits symbol_fits block_fits = tt
-data-fits s p bytes (Some (asked.Qr model dots)) fits symbol_fits block_fits = symbol_fits
-
-closed-fits : (s : Settings) (p : FieldParts) (end : ℕ) (content : Option OpenContent) → AreInRange s → IsSymbolIf p.symbol → IsBlockIf p.block →
-    IsContentIf content → IfSome (option_map (field_of s p end) content) (λ field. IsDrawable field.content)
-closed-fits s p end None fits symbol_fits block_fits content_fits = tt
-closed-fits s p end (Some (opened.Data start)) fits symbol_fits block_fits content_fits =
-    data-fits s p (record { start = start; len = end - start }) p.symbol fits symbol_fits block_fits
-closed-fits s p end (Some (opened.Frame b colour)) fits symbol_fits block_fits content_fits = content_fits
-closed-fits s p end (Some (opened.Picture head start)) fits symbol_fits block_fits content_fits = content_fits
-
-pub closing-fits : (before : List Item) → IfSome (closing before) (λ field. IsDrawable field.content)
-closing-fits before =
-    closed-fits (settings_of before) (parts_of before) (length (stored before)) (content before) (settings-fit before)
-    (symbol-fits before) (block-fits before) (content-fits before)

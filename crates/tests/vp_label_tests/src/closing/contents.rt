@@ -3,8 +3,8 @@ use super::{closes, last};
 use crate::checks::same;
 use std::test::Fail;
 use vp_dots::Op;
-use vp_format::{Coding, GraphicBox, Span};
-use vp_label_settings::{Content, PictureHead};
+use vp_format::{Coding, Content, GraphicBox, Picture, QrSymbol, Span};
+use vp_qr::{Level, Mode};
 
 /// Streams that close a box, its width, its height, its thickness, and what it paints.
 static BOXES: [(&[u8], u16, u16, u16, Op); 6] = [
@@ -36,11 +36,15 @@ static NO_FIELDS: [&[u8]; 8] = [
     b"^XA^GFA,3,3,FFF^FS",
 ];
 
-/// Streams that close a QR symbol of three bytes, and the dots of its modules.
-static QR_SYMBOLS: [(&[u8], u16); 2] = [(b"^XA^BQN,5,0^FDabc^FS", 1), (b"^XA^FDabc^B3^BQ^FS", 2)];
+/// Streams that close a QR symbol of eleven bytes behind three, and the dots of its modules.
+static QR_SYMBOLS: [(&[u8], u8); 3] = [
+    (b"^XA^BQN,2,3^FDMA,HELLO WORLD^FS", 3),
+    (b"^XA^BQN,5,0^FDMA,HELLO WORLD^FS", 1),
+    (b"^XA^FDMA,HELLO WORLD^B3^BQ^FS", 2),
+];
 
 fn frame(width: u16, height: u16, thickness: u16) -> Option<Content> {
-    Some(Content::Frame(GraphicBox {
+    Some(Content::Box(GraphicBox {
         width,
         height,
         thickness,
@@ -48,22 +52,23 @@ fn frame(width: u16, height: u16, thickness: u16) -> Option<Content> {
 }
 
 fn picture(coding: Coding, row_bytes: u16, rows: u32, len: u32) -> Option<Content> {
-    Some(Content::Picture {
-        head: PictureHead {
-            coding,
-            row_bytes,
-            rows,
-        },
-        bytes: Span { start: 0, len },
-    })
+    Some(Content::Picture(Picture {
+        codes: Span { start: 0, len },
+        coding,
+        row_bytes,
+        rows,
+    }))
 }
 
-fn qr(module_dots: u16) -> Option<Content> {
-    Some(Content::Qr {
-        model: 2,
-        module_dots,
-        bytes: Span { start: 0, len: 3 },
-    })
+fn qr(module: u8) -> Option<Content> {
+    Some(Content::Qr(QrSymbol {
+        bytes: Span { start: 3, len: 11 },
+        level: Level::M,
+        mode: Mode::Auto,
+        module,
+        version: 1,
+        mask: 0,
+    }))
 }
 
 /// The last of ^FD, ^GB and ^GF is the content, and the last symbol command anywhere in the field draws its
@@ -74,7 +79,7 @@ fn contents(rt: HostRuntime) -> Result<(), Fail> {
         let want = frame(*width, *height, *thickness);
         closes(&rt, rt.alloc(), *stream, want)?;
         let paints = match last(rt.alloc(), stream)? {
-            Some(field) => Some(field.operation),
+            Some(field) => Some(field.op),
             None => None,
         };
         same(&rt, &paints, &Some(*operation));
@@ -86,8 +91,8 @@ fn contents(rt: HostRuntime) -> Result<(), Fail> {
     for stream in &NO_FIELDS {
         closes(&rt, rt.alloc(), *stream, None)?;
     }
-    for (stream, module_dots) in &QR_SYMBOLS {
-        closes(&rt, rt.alloc(), *stream, qr(*module_dots))?;
+    for (stream, module) in &QR_SYMBOLS {
+        closes(&rt, rt.alloc(), *stream, qr(*module))?;
     }
     Ok(())
 }

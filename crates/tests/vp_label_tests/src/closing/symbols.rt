@@ -2,24 +2,23 @@
 use super::{ONE, closes};
 use std::test::Fail;
 use vp_bars::Place;
-use vp_format::BarCode;
-use vp_label_settings::Content;
+use vp_format::{BarCode, Bars, Content};
 
-fn bars(code: BarCode, narrow: u8, wide: u16, height: u16, place: Place) -> Option<Content> {
-    Some(Content::Bars {
+fn bars(code: BarCode, narrow: u16, wide: u16, height: u16, place: Place) -> Option<Content> {
+    Some(Content::Bars(Bars {
+        bytes: ONE,
         code,
         narrow,
         wide,
         height,
         place,
-        bytes: ONE,
-    })
+    }))
 }
 
 const UNCHECKED: BarCode = BarCode::Code39 { check: false };
 
 /// Streams that close bars, their kind, their narrow and wide ones, their height and where their text stands.
-static BARS: [(&[u8], BarCode, u8, u16, u16, Place); 10] = [
+static BARS: [(&[u8], BarCode, u16, u16, u16, Place); 10] = [
     (b"^XA^B3^FD1^FS", UNCHECKED, 2, 6, 10, Place::Below),
     (
         b"^XA^B3,Y,,N,Y^FD1^FS",
@@ -81,18 +80,12 @@ static BARS: [(&[u8], BarCode, u8, u16, u16, Place); 10] = [
     ),
 ];
 
-/// Streams that close bars of modes that aren't drawn.
-static NOT_DRAWN: [&[u8]; 2] = [b"^XA^BC,,,,,U^FD1^FS", b"^XA^BC,,,,,D^FD1^FS"];
-
 /// Bars take what they leave out from ^BY, and a wide bar is at least a dot wider than a narrow one.
 #[test]
 fn bar_codes(rt: HostRuntime) -> Result<(), Fail> {
     for (stream, code, narrow, wide, height, place) in &BARS {
         let want = bars(*code, *narrow, *wide, *height, *place);
         closes(&rt, rt.alloc(), *stream, want)?;
-    }
-    for stream in &NOT_DRAWN {
-        closes(&rt, rt.alloc(), *stream, Some(Content::NotDrawn))?;
     }
     Ok(())
 }

@@ -1,21 +1,21 @@
 //! The size of characters, and blocks of lines.
 use super::{ONE, closes};
 use std::test::Fail;
+use vp_format::{Block, Content, Text};
 use vp_glyph::Alignment;
-use vp_label_settings::{CharacterSize, Content, FieldBlock};
-use vp_zpl::item::LineSpace;
 
-fn size(height: u16, width: u16) -> CharacterSize {
-    CharacterSize { height, width }
+/// A text of one byte.
+fn one(height: u16, width: u16) -> Text {
+    Text {
+        bytes: ONE,
+        width,
+        height,
+    }
 }
 
-/// A text of one byte without a block.
+/// A text without a block.
 fn text(height: u16, width: u16) -> Option<Content> {
-    Some(Content::Text {
-        size: size(height, width),
-        block: None,
-        bytes: ONE,
-    })
+    Some(Content::Text(one(height, width)))
 }
 
 /// Streams that close a text, and the height and width of its characters.
@@ -48,55 +48,52 @@ fn fonts(rt: HostRuntime) -> Result<(), Fail> {
     Ok(())
 }
 
-fn block(width: u16, lines: u16, space: LineSpace, alignment: Alignment) -> Option<Content> {
-    Some(Content::Text {
-        size: size(9, 5),
-        block: Some(FieldBlock {
-            width,
-            lines,
-            space,
-            alignment,
-        }),
-        bytes: ONE,
-    })
+fn block(width: u16, lines: u16, gap: i16, alignment: Alignment) -> Option<Content> {
+    Some(Content::Block(Block {
+        text: one(9, 5),
+        width,
+        lines,
+        gap,
+        alignment,
+    }))
 }
 
 /// Streams that close a block, its width, its lines, the dots between them and where they stand.
-static BLOCKS: [(&[u8], u16, u16, LineSpace, Alignment); 6] = [
-    (b"^XA^FB^FDA^FS", 0, 1, LineSpace::Added(0), Alignment::Left),
+static BLOCKS: [(&[u8], u16, u16, i16, Alignment); 6] = [
+    (b"^XA^FB^FDA^FS", 0, 1, 0, Alignment::Left),
     (
         b"^XA^FB24,2,0,R^FDA^FS",
         24,
         2,
-        LineSpace::Added(0),
+        0,
         Alignment::Right,
     ),
     (
         b"^XA^FB40000,0,-20000,J^FDA^FS",
         32_000,
         1,
-        LineSpace::Deleted(9999),
+        -9999,
         Alignment::Left,
     ),
     (
         b"^XA^FB1,10000,10000,C^FDA^FS",
         1,
         9999,
-        LineSpace::Added(9999),
+        9999,
         Alignment::Centre,
     ),
     (
         b"^XA^FB1,2,x,x^FDA^FS",
         1,
         2,
-        LineSpace::Added(0),
+        0,
         Alignment::Left,
     ),
     (
         b"^XA^FB1^FB2^FDA^FS",
         2,
         1,
-        LineSpace::Added(0),
+        0,
         Alignment::Left,
     ),
 ];
@@ -104,8 +101,8 @@ static BLOCKS: [(&[u8], u16, u16, LineSpace, Alignment); 6] = [
 /// ^FB's ranges and defaults; it acts on texts, and the last one counts.
 #[test]
 fn blocks(rt: HostRuntime) -> Result<(), Fail> {
-    for (stream, width, lines, space, alignment) in &BLOCKS {
-        let want = block(*width, *lines, *space, *alignment);
+    for (stream, width, lines, gap, alignment) in &BLOCKS {
+        let want = block(*width, *lines, *gap, *alignment);
         closes(&rt, rt.alloc(), *stream, want)?;
     }
     closes(&rt, rt.alloc(), b"^XA^FB1^FS^FDA^FS", text(9, 5))?;

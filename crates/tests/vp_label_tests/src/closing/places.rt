@@ -1,24 +1,23 @@
 //! Where fields stand, how they are turned and what they do.
-use super::{last, run};
+use super::{closed, last};
 use crate::checks::same;
 use std::alloc::{AllocError, Global};
 use std::test::Fail;
 use vp_dots::Op;
-use vp_label_settings::Position;
 use vp_zpl::item::Orientation;
 
 /// The first row whose stream doesn't end in a field of such a place.
 fn wrong_place(
     alloc: Global,
-    rows: &[(&[u8], Position, Orientation, Op)],
+    rows: &[(&[u8], (i64, i64), Orientation, Op)],
 ) -> Result<Option<usize>, AllocError> {
     for i in 0..rows.len() {
-        let (stream, position, orientation, operation) = rows[i];
+        let (stream, corner, orientation, op) = rows[i];
         let is_there = match last(alloc, stream)? {
             Some(field) => {
-                field.position == position
+                (field.left, field.top) == corner
                     && field.orientation == orientation
-                    && field.operation == operation
+                    && field.op == op
             }
             None => false,
         };
@@ -29,10 +28,11 @@ fn wrong_place(
     Ok(None)
 }
 
-const CORNER: Position = Position::Corner { x: 0, y: 0 };
+const CORNER: (i64, i64) = (0, 0);
 
-/// Streams, and where the field that they close last stands, how it is turned and what it does.
-static PLACES: [(&[u8], Position, Orientation, Op); 15] = [
+/// Streams, and where the turned box of the field that they close last stands, how it is turned and what it
+/// does.
+static PLACES: [(&[u8], (i64, i64), Orientation, Op); 15] = [
     (
         b"^XA^A0^FDA^FWR^FS",
         CORNER,
@@ -54,7 +54,7 @@ static PLACES: [(&[u8], Position, Orientation, Op); 15] = [
     ),
     (
         b"^XA^FO1,2^FT3,4^FDA^LH10,20^FS",
-        Position::Baseline { x: 13, y: 24 },
+        (13, 15),
         Orientation::Normal,
         Op::Black,
     ),
@@ -66,7 +66,7 @@ static PLACES: [(&[u8], Position, Orientation, Op); 15] = [
     ),
     (
         b"^XA^FO32001,5^LH32000^GB^FS",
-        Position::Corner { x: 64_000, y: 5 },
+        (64_000, 5),
         Orientation::Normal,
         Op::Black,
     ),
@@ -92,7 +92,7 @@ static PLACES: [(&[u8], Position, Orientation, Op); 15] = [
         Op::Black,
     ),
     (
-        b"^XA^FWB^BQR^FD1^FS",
+        b"^XA^FWB^BQR^FDMA,1^FS",
         CORNER,
         Orientation::Normal,
         Op::Black,
@@ -101,9 +101,9 @@ static PLACES: [(&[u8], Position, Orientation, Op); 15] = [
 ];
 
 /// How many fields a stream closes.
-fn closed(alloc: Global, stream: &[u8]) -> Result<usize, AllocError> {
-    let (_, fields) = run(alloc, stream)?;
-    Ok(fields.len())
+fn count(alloc: Global, stream: &[u8]) -> Result<usize, AllocError> {
+    let (count, _, _) = closed(alloc, stream)?;
+    Ok(count)
 }
 
 /// What a field leaves out is taken as it stands when the field is closed, and ^FS forgets what was said of
@@ -113,8 +113,49 @@ fn at_closing(rt: HostRuntime) -> Result<(), Fail> {
     same(&rt, &wrong_place(rt.alloc(), &PLACES)?, &None);
     same(
         &rt,
-        &closed(rt.alloc(), b"^XA^FDA^FS^FS^FO1,1^FS^FDB^XZ^FS")?,
+        &count(rt.alloc(), b"^XA^FDA^FS^FS^FO1,1^FS^FDB^XZ^FS")?,
         &2,
     );
+    Ok(())
+}
+
+/// Texts of two cells of 12 by 30 dots, turned each way, and the corners of their turned boxes.
+static CORNERS: [(&[u8], (i64, i64), Orientation, Op); 5] = [
+    (
+        b"^XA^FT10,200^A0N,30,12^FDAB^FS",
+        (10, 170),
+        Orientation::Normal,
+        Op::Black,
+    ),
+    (
+        b"^XA^FT10,200^A0R,30,12^FDAB^FS",
+        (10, 200),
+        Orientation::Rotated,
+        Op::Black,
+    ),
+    (
+        b"^XA^FT10,200^A0I,30,12^FDAB^FS",
+        (-14, 200),
+        Orientation::Inverted,
+        Op::Black,
+    ),
+    (
+        b"^XA^FT10,200^A0B,30,12^FDAB^FS",
+        (-20, 176),
+        Orientation::BottomUp,
+        Op::Black,
+    ),
+    (
+        b"^XA^FO10,200^A0B,30,12^FDAB^FS",
+        (10, 200),
+        Orientation::BottomUp,
+        Op::Black,
+    ),
+];
+
+/// ^FO gives the corner of the turned box, ^FT the lower left corner of the text as it is read.
+#[test]
+fn corners(rt: HostRuntime) -> Result<(), Fail> {
+    same(&rt, &wrong_place(rt.alloc(), &CORNERS)?, &None);
     Ok(())
 }
