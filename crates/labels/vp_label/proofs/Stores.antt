@@ -11,7 +11,7 @@ use Rattle.vp_dots.specs.declared.fault.Fault.TheVariants.{StoreFull}
 use Rattle.vp_glyph.specs.declared.Sheets.{Sheets}
 use Rattle.vp_zpl.specs.Items.Item.{Data}
 use Rattle.vp_zpl.specs.Items.{Item, data_items}
-use Rattle.vp_label_settings.specs.declared.in_force.TheConstants.{STORE}
+use Rattle.vp_format.specs.declared.format.TheConstants.{STORED}
 use Rattle.vp_label_settings.specs.Formats.{is_open, followed_by, stored}
 use Rattle.vp_label.specs.Entries.{entries}
 use Rattle.vp_label.specs.Refusals.{first_refusal, refusal}
@@ -32,28 +32,28 @@ all-stored before [] is_so = sym (append-nil (stored before))
 all-stored before (b ∷ bytes) is_so = all-stored (Data b ∷ before) bytes is_so ∙ ap (λ xs. xs ++ bytes) (one-stored before b is_so) ∙ append_assoc (stored before) (b ∷ []) bytes
 
 -- a byte that fits
-fits : (opened : Bool) (n : ℕ) → n < STORE → (opened && nat_le STORE n) ≡ false
-fits true n h = lt-leb STORE n h
+fits : (opened : Bool) (n : ℕ) → n < STORED → (opened && nat_le STORED n) ≡ false
+fits true n h = lt-leb STORED n h
 fits false n h = refl
 
-pub no_room : (opened : Bool) (n : ℕ) → (not opened || nat_le n STORE) ≡ false → (opened ≡ true) × (STORE < n)
+pub no_room : (opened : Bool) (n : ℕ) → (not opened || nat_le n STORED) ≡ false → (opened ≡ true) × (STORED < n)
 no_room true n h = (refl, grind (arith, nat_tests))
 no_room false n h = cc
 
-pub has_room : (opened : Bool) (n : ℕ) → opened ≡ true → (not opened || nat_le n STORE) ≡ true → n ≤ STORE
+pub has_room : (opened : Bool) (n : ℕ) → opened ≡ true → (not opened || nat_le n STORED) ≡ true → n ≤ STORED
 has_room true n o h = grind (arith, nat_tests)
 has_room false n o h = cc
 
-taken : (sheets : Sheets) (before : List Item) (b : ℕ) → length (stored before) < STORE → refusal sheets before (Data b) ≡ None
+taken : (sheets : Sheets) (before : List Item) (b : ℕ) → length (stored before) < STORED → refusal sheets before (Data b) ≡ None
 taken sheets before b h = rw (fits (is_open before) (length (stored before)) h) refl
 
-refused : (sheets : Sheets) (before : List Item) (b : ℕ) → is_open before ≡ true → STORE ≤ length (stored before) → refusal sheets before (Data b) ≡ Some StoreFull
-refused sheets before b is_so h = rw (is_so, le-leb STORE (length (stored before)) h) refl
+refused : (sheets : Sheets) (before : List Item) (b : ℕ) → is_open before ≡ true → STORED ≤ length (stored before) → refusal sheets before (Data b) ≡ Some StoreFull
+refused sheets before b is_so h = rw (is_so, le-leb STORED (length (stored before)) h) refl
 
 unheard : (sheets : Sheets) (before : List Item) (b : ℕ) → is_open before ≡ false → refusal sheets before (Data b) ≡ None
 unheard sheets before b shut = rw shut refl
 
-pub all_taken : (sheets : Sheets) (before : List Item) (bytes : List ℕ) → is_open before ≡ true → length (stored before) + length bytes ≤ STORE → first_refusal sheets before (data_items bytes) ≡ None
+pub all_taken : (sheets : Sheets) (before : List Item) (bytes : List ℕ) → is_open before ≡ true → length (stored before) + length bytes ≤ STORED → first_refusal sheets before (data_items bytes) ≡ None
 all_taken sheets before [] is_so h = refl
 all_taken sheets before (b ∷ bytes) is_so h =
     let more = length-append (stored before) (b ∷ []) in
@@ -63,10 +63,10 @@ pub all_unheard : (sheets : Sheets) (before : List Item) (bytes : List ℕ) → 
 all_unheard sheets before [] shut = refl
 all_unheard sheets before (b ∷ bytes) shut = rw (unheard sheets before b shut) (all_unheard sheets (Data b ∷ before) bytes shut)
 
-pub one_refused : (sheets : Sheets) (before : List Item) (bytes : List ℕ) → is_open before ≡ true → STORE < length (stored before) + length bytes → length (stored before) ≤ STORE →
+pub one_refused : (sheets : Sheets) (before : List Item) (bytes : List ℕ) → is_open before ≡ true → STORED < length (stored before) + length bytes → length (stored before) ≤ STORED →
     first_refusal sheets before (data_items bytes) ≡ Some StoreFull
 one_refused sheets before [] is_so h few = absurd (omega arith)
-one_refused sheets before (b ∷ bytes) is_so h few = elim (cases_lt (length (stored before)) STORE) [
+one_refused sheets before (b ∷ bytes) is_so h few = elim (cases_lt (length (stored before)) STORED) [
   | inl room ↦
       let more = length-append (stored before) (b ∷ []) in
       rw (taken sheets before b room) (one_refused sheets (Data b ∷ before) bytes is_so (omega (arith, ap length (one-stored before b is_so))) (omega (arith, ap length (one-stored before b is_so))))
@@ -83,15 +83,15 @@ last_refused sheets before bytes byte f some = elim (cases_Bool (is_open before)
   where
     open_refused : (sheets : Sheets) (before : List Item) (bytes : List ℕ) (byte : ℕ) (f : Fault) → is_open before ≡ true → first_refusal sheets before (data_items (bytes ++ byte ∷ [])) ≡ Some f →
         refusal sheets (followed_by before (data_items bytes)) (Data byte) ≡ Some f
-    open_refused sheets before [] byte f so some = elim (cases_lt (length (stored before)) STORE) [
+    open_refused sheets before [] byte f so some = elim (cases_lt (length (stored before)) STORED) [
       | inl room ↦ absurd (let none = taken sheets before byte room in let no = rw none at some in cc)
       | inr full ↦ let is = refused sheets before byte so full in is ∙ rw is at some
     ]
-    open_refused sheets before (b ∷ bytes) byte f so some = elim (cases_lt (length (stored before)) STORE) [
+    open_refused sheets before (b ∷ bytes) byte f so some = elim (cases_lt (length (stored before)) STORED) [
       | inl room ↦ let one = taken sheets before b room in open_refused sheets (Data b ∷ before) bytes byte f so (rw one at some)
       | inr full ↦
           let is = refused sheets before b so full in
-          let still : STORE ≤ length (stored (followed_by (Data b ∷ before) (data_items bytes))) =
+          let still : STORED ≤ length (stored (followed_by (Data b ∷ before) (data_items bytes))) =
           omega (arith, ap length (all-stored (Data b ∷ before) bytes so), length-append (stored (Data b ∷ before)) bytes, ap length (one-stored before b so), length-append (stored before) (b ∷ [])) in
           refused sheets (followed_by (Data b ∷ before) (data_items bytes)) byte (open-kept (Data b ∷ before) bytes ∙ so) still ∙ rw is at some
     ]

@@ -7,7 +7,6 @@ use Rattle.vp_format.specs.declared.field.Field.{Field}
 use Rattle.vp_format.specs.Formats.{Held}
 use Rattle.vp_format.specs.declared.format.TheConstants.{STORED}
 use Rattle.vp_field.specs.Fields.{IsKept}
-use Rattle.vp_label_settings.specs.declared.in_force.TheConstants.{STORE}
 use Rattle.vp_label_settings.specs.Formats.{is_open, stored}
 use Rattle.vp_label_settings.specs.Settings.{settings_of}
 use Rattle.vp_label_settings.specs.Standing.{StandsAfter}
@@ -45,7 +44,7 @@ IsGathered sheets g = (before : List Item) × Gathers sheets g before
 -- so many bytes of data there is room for: what is left of the store, in which there are none outside a
 -- format
 abbrev pub data_room : Gathered → ℕ
-data_room g = STORE - g.in_force.stored
+data_room g = STORED - g.in_force.stored
 
 -- so many copies of an image with the fields of the format that has ended
 abbrev pub to_print : Sheets → Gathered → ℕ → List ℕ

@@ -11,6 +11,7 @@ use Rattle.vp_copies.specs.declared.place.Ahead.TheVariants.{Nothing, Copy, Band
 use Rattle.vp_copies.specs.declared.place.Line.{Line}
 use Rattle.vp_copies.specs.declared.place.Line.TheVariants.{Head, Row}
 use Rattle.vp_copies.specs.declared.place.Place.{Place}
+use Rattle.vp_copies.specs.declared.place.TheConstants.{BAND_ROWS}
 use Rattle.vp_copies.specs.Copies.{ahead, pending}
 use Rattle.vp_copies.specs.Progress.{image_of, IsPlaceOf, IsReady}
 use Rattle.vp_label.specs.declared.press.Press.{Press}
@@ -20,7 +21,7 @@ use Rattle.vp_bands.specs.Standing.{fields_of, IsBefore}
 -- how many bands of the copy are painted where the next byte is in a line, whose band isn't wanted
 abbrev pub bands_above : Line → ℕ
 bands_above Head = 0
-bands_above (Row y) = y / 32 + 1
+bands_above (Row y) = y / BAND_ROWS + 1
 
 -- which band is the next one to be painted: where a copy begins it is the first one, or all bands of the copy
 -- before are painted

@@ -18,10 +18,10 @@ use std::alloc::{AllocError, Global};
 use vp_closing::closed;
 use vp_dots::Fault;
 use vp_field::stored_behind;
-use vp_format::Format;
+use vp_format::{Format, STORED};
 use vp_glyph::Sheets;
+use vp_label_settings::InForce;
 use vp_label_settings::laws::{between_formats, in_range};
-use vp_label_settings::{InForce, STORE};
 use vp_zpl::Command;
 
 /// What is gathered of the format that is open.
@@ -83,7 +83,7 @@ impl Gathered {
     pub fn data_room(&self) -> usize
         ensures { result ≡ data_room self.now }
     {
-        STORE.saturating_sub(self.in_force.stored) as usize
+        STORED.saturating_sub(self.in_force.stored as usize)
     }
 
     /// Takes data that there is room for: in a format they are stored.

@@ -1,7 +1,7 @@
 -- What the code keeps of all that is in force.
 use Rattle.std.specs.Prelude.{◌≡◌, ℕ, ◌+◌, nat_le, Bool, not, ◌||◌, List, length}
 use Rattle.vp_zpl.specs.Items.{Item}
-use Rattle.vp_label_settings.specs.declared.in_force.TheConstants.{STORE}
+use Rattle.vp_format.specs.declared.format.TheConstants.{STORED}
 use Rattle.vp_label_settings.specs.declared.in_force.InForce.{InForce}
 use Rattle.vp_label_settings.specs.Formats.{is_open, stored}
 use Rattle.vp_label_settings.specs.Settings.{settings_of}
@@ -16,4 +16,4 @@ pub record StandsAfter (s : InForce) (before : List Item) : Type 0 where
 
 -- more bytes can be stored, or need not be
 abbrev pub has_room : InForce → List ℕ → Bool
-has_room s bytes = not s.is_open || nat_le (s.stored + length bytes) STORE
+has_room s bytes = not s.is_open || nat_le (s.stored + length bytes) STORED

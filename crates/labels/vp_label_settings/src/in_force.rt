@@ -12,10 +12,8 @@ use crate::graphic::PictureHead;
 use crate::parts::FieldParts;
 use crate::settings::Settings;
 use vp_dots::Fault;
+use vp_format::STORED;
 use vp_zpl::Command;
-
-/// The most bytes that a format stores.
-pub const STORE: u32 = 262_144;
 
 /// All that is in force on a label printer.
 #[derive(Clone, Copy)]
@@ -95,7 +93,7 @@ impl InForce {
     pub fn has_room(&self, bytes: &[u8]) -> bool
         ensures { result ≡ has_room self.now bytes.now }
     {
-        !self.is_open || (self.stored as usize).saturating_add(bytes.len()) <= STORE as usize
+        !self.is_open || (self.stored as usize).saturating_add(bytes.len()) <= STORED
     }
 
     /// Takes data.

@@ -17,7 +17,7 @@ mod size;
 
 pub use choice::{BarChoice, FieldBlock, FontChoice, SymbolChoice};
 pub use graphic::PictureHead;
-pub use in_force::{InForce, STORE};
+pub use in_force::InForce;
 pub use parts::{FieldParts, OpenContent, Origin};
 pub use range::ranged;
 pub use settings::{BarDefaults, Home, LONGEST, Settings, WIDEST};

@@ -2,7 +2,8 @@
 use crate::checks::same;
 use std::process::Abort;
 use std::test::Fail;
-use vp_label_settings::{Home, InForce, STORE, Settings};
+use vp_format::STORED;
+use vp_label_settings::{Home, InForce, Settings};
 use vp_zpl::{Command, ZplItem, ZplReader};
 
 /// What is in force behind a stream.
@@ -125,7 +126,7 @@ fn formats(rt: HostRuntime) -> Result<(), Fail> {
 #[test]
 fn room(rt: HostRuntime) -> Result<(), Fail> {
     let mut now = in_force(b"^XA^FD");
-    now.stored = STORE - 2;
+    now.stored = STORED as u32 - 2;
     same(
         &rt,
         &[now.has_room(b"ab"), now.has_room(b"abc")],

@@ -1,6 +1,6 @@
 use Rattle.std.proofs.Common.{◌≡◌, ◌+◌, ◌∙◌, ◌≤◌, get_or, arith, sym, ap, subst, length, true, false, ◌++◌, length-append}
 use Rattle.vp_format.specs.Formats.{Held}
-use Rattle.vp_label_settings.specs.declared.in_force.TheConstants.{STORE}
+use Rattle.vp_format.specs.declared.format.TheConstants.{STORED}
 use Rattle.vp_label_settings.specs.Formats.{followed_by, is_open}
 use Rattle.vp_label_settings.specs.Standing.{StandsAfter}
 use Rattle.vp_zpl.specs.Items.{data_items}
@@ -31,8 +31,8 @@ returns-clause-stands c = λ sheets before g.
           let so : is_open before ≡ true = sym g.in_force.is_open ∙ w.if-self.true in
           let h = g.held so in
           let n = g.in_force.stored in
-          let few : s.stored + length bytes ≤ STORE = has_room s.is_open (s.stored + length bytes) w.if-self.true c.requires in
-          let fits : length old.stored + length bytes ≤ STORE = omega (arith, ap length h.stored) in
+          let few : s.stored + length bytes ≤ STORED = has_room s.is_open (s.stored + length bytes) w.if-self.true c.requires in
+          let fits : length old.stored + length bytes ≤ STORED = omega (arith, ap length h.stored) in
           let kept : w.keep-fits.new.self ≡ record old { stored = old.stored ++ bytes } = on_ok w.keep-fits.result (w.keep-fits.ensures.room.1 fits) w.keep-fits.ensures.ok in
           let now : c.if-self.self.format ≡ record old { stored = old.stored ++ bytes } = ap (λ (x : Gathered). x.format) w.self-is ∙ kept in
           let fields = ap (λ (x : Held). x.fields) now in
