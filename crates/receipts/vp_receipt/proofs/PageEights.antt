@@ -11,13 +11,14 @@ use Rattle.vp_esc.specs.declared.item.RasterScale.TheVariants.{Normal}
 use Rattle.vp_receipt_settings.specs.Rasters.{row_at}
 use Rattle.vp_receipt.specs.PageMarks.{rows_dot}
 use Rattle.vp_receipt.proofs.PageRows.{row_is}
+use Rattle.vp_page.specs.declared.line.TheConstants.{LINE_BYTES, LINE_DOTS}
 
 black_if : (b : Bool) → cond b true false ≡ b
 black_if true = refl
 black_if false = refl
 
 -- a white line that is black where a row is has its dots
-pub blackened : (row old new : List ℕ) (n u : ℕ) → Painted Black (shifted (pos 0) (dot row)) old new → n ≡ 208 → old ≡ replicate n 0 → u < 1664 → dot new u ≡ dot row u
+pub blackened : (row old new : List ℕ) (n u : ℕ) → Painted Black (shifted (pos 0) (dot row)) old new → n ≡ LINE_BYTES → old ≡ replicate n 0 → u < LINE_DOTS → dot new u ≡ dot row u
 blackened row old new n u p long white h =
     let size : length old ≡ n = ap length white ∙ length-replicate {A = ℕ} n 0 in
     let was : dot old u ≡ false = ap (λ xs. dot xs u) white ∙ dot_white n u (omega (arith, long)) in
@@ -37,9 +38,9 @@ eight_dots scale wide n bytes y u once few = subst (λ (k : RasterScale). dot (r
 
 -- one more of the rows
 pub row_set : (bytes : List ℕ) (wide from : ℕ) (rows : List (List ℕ)) (i : ℕ) (line : List ℕ) → i < length rows
-    → ((u : ℕ) → u < 1664 → dot line u ≡ dot (row_at bytes wide (from + i)) u)
-    → ((k u : ℕ) → k < i → u < 1664 → dot (get_or rows k []) u ≡ dot (row_at bytes wide (from + k)) u)
-    → (k u : ℕ) → k < i + 1 → u < 1664 → dot (get_or (set rows i line) k []) u ≡ dot (row_at bytes wide (from + k)) u
+    → ((u : ℕ) → u < LINE_DOTS → dot line u ≡ dot (row_at bytes wide (from + i)) u)
+    → ((k u : ℕ) → k < i → u < LINE_DOTS → dot (get_or rows k []) u ≡ dot (row_at bytes wide (from + k)) u)
+    → (k u : ℕ) → k < i + 1 → u < LINE_DOTS → dot (get_or (set rows i line) k []) u ≡ dot (row_at bytes wide (from + k)) u
 row_set bytes wide from rows i line within here above k u h l = elim (cases_eq k i) [
   | inl at ↦ rw (at, get_or-set_same rows i line [] within) (here u l)
   | inr other ↦ rw (get_or-set_other rows i k line [] other) (above k u (omega arith) l)

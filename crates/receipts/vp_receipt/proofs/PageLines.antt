@@ -28,31 +28,34 @@ use Rattle.vp_strips.specs.Jobs.{page_dot_of}
 use Rattle.vp_strips.proofs.Rows.{paper_row_same}
 use Rattle.vp_strips.proofs.LineTexts.{raised}
 use Rattle.vp_strips.proofs.Strips.{text_of_rows}
+use Rattle.vp_page.specs.declared.page.TheConstants.{PAGE_ROWS, PAPER_DOTS}
+use Rattle.vp_page.specs.declared.line.TheConstants.{LINE_DOTS}
+use Rattle.vp_receipt_settings.specs.declared.text.TheConstants.{LINE_ROWS}
 
 -- a line of an area on the page is at most as long as the page is high
-pub length_small : (a : Area) (d : Direction) → a.x + a.dx ≤ 576 → a.y + a.dy ≤ 1664 → length_on_page a d ≤ 1664
+pub length_small : (a : Area) (d : Direction) → a.x + a.dx ≤ PAPER_DOTS → a.y + a.dy ≤ PAGE_ROWS → length_on_page a d ≤ LINE_DOTS
 length_small a LeftToRight h k = omega arith
 length_small a BottomToTop h k = omega arith
 length_small a RightToLeft h k = omega arith
 length_small a TopToBottom h k = omega arith
 
 -- the lowest rows of the line's bitmap are the line
-pub has_rows : (s : Settings) (placed : List Placed) (bitmap : List (List ℕ)) → s.height ≡ height placed → s.height ≤ 192 → HasDots placed bitmap → HasRows s bitmap (line_dot placed)
+pub has_rows : (s : Settings) (placed : List Placed) (bitmap : List (List ℕ)) → s.height ≡ height placed → s.height ≤ LINE_ROWS → HasDots placed bitmap → HasRows s bitmap (line_dot placed)
 has_rows s placed bitmap e small has = record {
-  same = λ u w h k. has.dots_are u (192 - s.height + w) h (omega arith) ∙ ap (λ n. any_dot placed 192 u (192 - n + w)) e
+  same = λ u w h k. has.dots_are u (LINE_ROWS - s.height + w) h (omega arith) ∙ ap (λ n. any_dot placed LINE_ROWS u (LINE_ROWS - n + w)) e
       ∙ sym (raised placed (height placed) u w (omega arith) (omega arith) (omega arith)) ∙ sym (rw (lt-ltb w (height placed) (omega arith)) refl);
   high = λ u w h. let k = ltb-true w (height placed) (and_parts _ _ h).0 in omega arith;
 }
 
-rows_up_to : (paper : Width) (f g : ℕ → ℕ → Bool) (y n : ℕ) → y + n ≤ 1664 → ((x y : ℕ) → x < 576 → y < 1664 → f x y ≡ g x y) → rows_text paper f y n ≡ rows_text paper g y n
+rows_up_to : (paper : Width) (f g : ℕ → ℕ → Bool) (y n : ℕ) → y + n ≤ PAGE_ROWS → ((x y : ℕ) → x < PAPER_DOTS → y < PAGE_ROWS → f x y ≡ g x y) → rows_text paper f y n ≡ rows_text paper g y n
 rows_up_to paper f g y zero l h = refl
 rows_up_to paper f g y (suc n) l h = ap (λ r. r ++ rows_text paper f (y + 1) n) (paper_row_same paper (λ x. f x y) (λ x. g x y) (λ x k. h x y k (omega arith))) ∙ ap (λ r. paper_row paper (λ x. g x y) ++ r) (rows_up_to paper f g (y + 1) n (omega arith) h)
 
 -- a row of the page is that of its layers
-page_shown : (layers : List Layer) (page : List (List ℕ)) → HasPage layers page → (x y : ℕ) → x < 576 → y < 1664 → page_dot_of page x y ≡ page_dot layers x y
-page_shown layers page has x y h k = let e : x - 0 ≡ x = omega arith in rw (lt-ltb y 1664 k, le-leb 0 x (omega arith), e, lt-ltb x 576 h) (has.dots_are x y h k)
+page_shown : (layers : List Layer) (page : List (List ℕ)) → HasPage layers page → (x y : ℕ) → x < PAPER_DOTS → y < PAGE_ROWS → page_dot_of page x y ≡ page_dot layers x y
+page_shown layers page has x y h k = let e : x - 0 ≡ x = omega arith in rw (lt-ltb y PAGE_ROWS k, le-leb 0 x (omega arith), e, lt-ltb x PAPER_DOTS h) (has.dots_are x y h k)
 
-strip_shown : (paper : Width) (layers : List Layer) (canvas : Canvas) (rows : ℕ) → rows ≤ 1664 → HasPage layers canvas.page → (rows ≡ 0 → ⊥)
+strip_shown : (paper : Width) (layers : List Layer) (canvas : Canvas) (rows : ℕ) → rows ≤ PAGE_ROWS → HasPage layers canvas.page → (rows ≡ 0 → ⊥)
     → whole (record { paper = paper; tall = rows; rows = rows; dots = PageDots }) canvas ≡ strip_text paper rows (page_dot layers)
 strip_shown paper layers canvas rows h has some =
     ap (λ k. header_of (across paper) rows ++ rows_text paper (page_dot_of canvas.page) 0 k) (let z : rows - 0 ≡ rows = omega arith in z)
@@ -60,7 +63,7 @@ strip_shown paper layers canvas rows h has some =
     ∙ text_of_rows paper rows (page_dot layers) some
 
 -- the strip of the page
-pub page_strip : (paper : Width) (layers : List Layer) (canvas : Canvas) (rows : ℕ) → rows ≤ 1664 → HasPage layers canvas.page
+pub page_strip : (paper : Width) (layers : List Layer) (canvas : Canvas) (rows : ℕ) → rows ≤ PAGE_ROWS → HasPage layers canvas.page
     → (if rows == 0 then [] else whole (record { paper = paper; tall = rows; rows = rows; dots = PageDots }) canvas) ≡ strip_text paper rows (page_dot layers)
 page_strip paper layers canvas rows h has = elim (cases_eq rows 0) [
   | inl e ↦ rw (eq-eqb rows 0 e) refl
@@ -77,7 +80,7 @@ page_kept setup before PageMode page e h = has_page (mode setup (PageMode ∷ be
 page_kept setup before item page e h = has_page (mode setup (item ∷ before)) (layers setup (item ∷ before)) page h
 
 -- the line that is laid
-pub line_laid : (setup : Setup) (before : List EscItem) (s : Settings) (bitmap page : List (List ℕ)) (layers : List Layer) → s ≡ settings_of setup before → s.height ≤ 192 → s.is_open ≡ true
+pub line_laid : (setup : Setup) (before : List EscItem) (s : Settings) (bitmap page : List (List ℕ)) (layers : List Layer) → s ≡ settings_of setup before → s.height ≤ LINE_ROWS → s.is_open ≡ true
     → (is_open (line setup before) ≡ true → HasDots (line setup before) bitmap)
     → (HasRows s bitmap (line_dot (line setup before)) → HasPage (Laid (mark_of s.page (line_dot (line setup before))) ∷ layers) page)
     → HasPage (laid_if (is_open (line setup before)) (line_mark setup before) layers) page

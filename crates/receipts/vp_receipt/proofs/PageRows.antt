@@ -36,6 +36,8 @@ use Rattle.vp_strips.specs.LineDots.{HasOpen}
 use Rattle.vp_receipt.specs.Standing.{Gathers, IsOnPage}
 use Rattle.vp_receipt.proofs.EightRows.{first_dots_of}
 use Rattle.vp_receipt.proofs.Runs.{layers_same}
+use Rattle.vp_page.specs.declared.page.TheConstants.{PAGE_ROWS, PAPER_DOTS}
+use Rattle.vp_page.specs.declared.line.TheConstants.{LINE_BYTES, LINE_DOTS}
 
 -- on a page a raster's bytes print nothing
 pub nothing_printed : (setup : Setup) (bytes : List ℕ) (before : List EscItem) → mode setup before ≡ Page → printed setup (bytes_after bytes before) ≡ printed setup before
@@ -73,7 +75,7 @@ row_laid_by setup (b ∷ c ∷ bytes) before h =
     ∙ ap (λ (l : List Layer). Laid (raster_mark setup before (row_so_far before ++ b ∷ c ∷ bytes)) ∷ l) (layers_same setup b before more)
 
 -- the rows of an area on the page
-depth_small : (a : Area) (d : Direction) → a.x + a.dx ≤ 576 → a.y + a.dy ≤ 1664 → depth a d ≤ 1664
+depth_small : (a : Area) (d : Direction) → a.x + a.dx ≤ PAPER_DOTS → a.y + a.dy ≤ PAGE_ROWS → depth a d ≤ PAGE_ROWS
 depth_small a LeftToRight h k = omega arith
 depth_small a BottomToTop h k = omega arith
 depth_small a RightToLeft h k = omega arith
@@ -105,15 +107,15 @@ row_is scale wide n bytes k u w y few at in_row =
     rw (lt-ltb y (n * d) shown) (ap (λ i. dot (row_at bytes wide i) (u / times_across scale)) (ap (λ v. v / d) at ∙ div-mul-add k d w in_row))
 
 -- the bytes that are shown of a row have its dots
-pub front_shown : (wide v : ℕ) (bytes : List ℕ) → v < 1664 → dot (take (min wide 208) bytes) v ≡ dot (take wide bytes) v
-front_shown wide v bytes h = elim (cases_lt 208 wide) [
-  | inl long ↦ (let e : min wide 208 ≡ 208 = omega arith in
-      ap (λ i. dot (take i bytes) v) e ∙ ap (λ (xs : List ℕ). dot xs v) (sym (take-take 208 wide bytes (omega arith))) ∙ first_dots_of (take wide bytes) 208 v (omega arith))
-  | inr short ↦ (let e : min wide 208 ≡ wide = omega arith in ap (λ i. dot (take i bytes) v) e)
+pub front_shown : (wide v : ℕ) (bytes : List ℕ) → v < LINE_DOTS → dot (take (min wide LINE_BYTES) bytes) v ≡ dot (take wide bytes) v
+front_shown wide v bytes h = elim (cases_lt LINE_BYTES wide) [
+  | inl long ↦ (let e : min wide LINE_BYTES ≡ LINE_BYTES = omega arith in
+      ap (λ i. dot (take i bytes) v) e ∙ ap (λ (xs : List ℕ). dot xs v) (sym (take-take LINE_BYTES wide bytes (omega arith))) ∙ first_dots_of (take wide bytes) LINE_BYTES v (omega arith))
+  | inr short ↦ (let e : min wide LINE_BYTES ≡ wide = omega arith in ap (λ i. dot (take i bytes) v) e)
 ]
 
-pub row_shown : (scale : RasterScale) (wide n : ℕ) (bytes : List ℕ) (k u w at : ℕ) → k < n → at ≡ k * times_down scale → u < 1664 → w < times_down scale
-    → dot (take (min wide 208) (drop (k * wide) bytes)) (u / times_across scale) ≡ rows_dot scale wide n bytes u (at + w)
+pub row_shown : (scale : RasterScale) (wide n : ℕ) (bytes : List ℕ) (k u w at : ℕ) → k < n → at ≡ k * times_down scale → u < LINE_DOTS → w < times_down scale
+    → dot (take (min wide LINE_BYTES) (drop (k * wide) bytes)) (u / times_across scale) ≡ rows_dot scale wide n bytes u (at + w)
 row_shown scale wide n bytes k u w at few is l h =
     let near = div-le_self u (times_across scale) in
     front_shown wide (u / times_across scale) (drop (k * wide) bytes) (omega (arith, near)) ∙ sym (row_is scale wide n bytes k u w (at + w) few (omega arith) h)
@@ -141,7 +143,7 @@ module _ (setup : Setup) (bytes : List ℕ) (n : ℕ) (before : List EscItem) (s
   abbrev d : ℕ
   d = times_down (raster_scale before)
 
-  on_page : (x y : ℕ) → holds m.area x y ≡ true → down m.area m.direction x y < 1664
+  on_page : (x y : ℕ) → holds m.area x y ≡ true → down m.area m.direction x y < PAGE_ROWS
   on_page x y t =
       let deep = depth_small m.area m.direction fit.across fit.down in
       let in_depth = (lies m.area m.direction x y (within m.area x y t)).in_depth in

@@ -2,9 +2,9 @@
 use Rattle.std.proofs.Common.{inl, inr, ◌≡◌, ℕ, zero, suc, ◌+◌, ◌-◌, ◌*◌, ◌/◌, ◌<◌, ◌≤◌, ◌^◌, Bool, true, false, not, eqb, cond, nat_lt, nat_le, ◌&&◌, List, [], ◌∷◌, ◌++◌, length, take, drop, min, refl, sym, ap, subst, ◌∙◌, append_assoc, arith, get_or}
 use Rattle.std.proofs.Math.Nat.{suc-mul, mul_comm, div-le_of_le-mul, div-mul-le_self, lt-div-mul-add, div-lt_iff_lt-mul, mul-le-mul_right, le_trans}
 use Rattle.std.proofs.Math.Seq.{take-add}
-use Rattle.std.proofs.lemmas.Bool.{cases_lt, lt-ltb, and_parts, eqb-true}
+use Rattle.std.proofs.lemmas.Bool.{cases_lt, and_parts, eqb-true}
 use Rattle.std.proofs.lemmas.Bool.Decides.{nat_tests}
-use Rattle.std.proofs.lemmas.List.{append-nil, take-append-drop, take_all, length-take, length-take-le, length-drop, get_or-take, get_or-drop, get_or_past}
+use Rattle.std.proofs.lemmas.List.{append-nil, take-append-drop, length-take, get_or-take, get_or-drop, get_or_past}
 use Rattle.vp_dots.specs.Dots.{dot}
 use Rattle.vp_dots.proofs.ImageRows.{row_is}
 use Rattle.vp_esc.specs.declared.item.EscItem.{EscItem}
@@ -20,14 +20,14 @@ use Rattle.vp_receipt_settings.specs.declared.settings.Settings.{Settings}
 use Rattle.vp_receipt_settings.specs.declared.width.Width.{Width}
 use Rattle.vp_receipt_settings.specs.declared.width.Width.TheVariants.{W576, W384}
 use Rattle.vp_receipt_settings.specs.Gathering.{IsGathering, IsPartRow, left_of, room_of, run_of}
-use Rattle.vp_receipt_settings.specs.History.{settings_of, mode, paper_length, printed_at, shift, left_margin, area_width, justification}
+use Rattle.vp_receipt_settings.specs.History.{settings_of, mode, paper_length, printed_at, shift, left_margin, justification}
 use Rattle.vp_receipt_settings.specs.Pages.{is_paged}
 use Rattle.vp_receipt_settings.specs.Rasters.{raster_scale, raster_bytes, row_so_far, is_row_end, bytes_after, row_at, times_across, times_down}
 use Rattle.vp_receipt_settings.specs.Runs.{below}
 use Rattle.vp_receipt_settings.specs.Setup.{Setup, across, row_bytes}
 use Rattle.vp_receipt_settings.proofs.Runs.{after_first, settings_stay, run_inside, inside}
 use Rattle.vp_receipt_settings.proofs.WholeRows.{Lacks, at_end, not_end, goes, HaveRows, have_rows, fewer, are_whole, lacks_row, next_row, no_row, rows_below, after_both}
-use Rattle.vp_strips.specs.Rows.{paper_row, rows_text, clipped, raster_dot}
+use Rattle.vp_strips.specs.Rows.{paper_row, rows_text, raster_dot}
 use Rattle.vp_receipt.specs.Plain.{is_once, is_plain, rows_room, rows_put, IsOnPaper}
 use Rattle.vp_receipt.specs.PageMarks.{layers}
 use Rattle.vp_receipt.specs.Standing.{HasPageIf}

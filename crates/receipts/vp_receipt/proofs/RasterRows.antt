@@ -19,31 +19,33 @@ use Rattle.vp_page.specs.Pages.{HasPage}
 use Rattle.vp_receipt_settings.specs.declared.page_mode.PageSettings.{PageSettings}
 use Rattle.vp_receipt.specs.PageMarks.{mark_of, raster_mark}
 use Rattle.vp_receipt_settings.specs.Rasters.{times_across, times_down, raster_scale}
+use Rattle.vp_page.specs.declared.line.TheConstants.{LINE_BYTES, LINE_DOTS}
+use Rattle.vp_page.specs.declared.page.TheConstants.{PAPER_BYTES}
 
 -- the first 208 bytes have the dots that paper and pages show
-pub dot_kept : (came : List ℕ) (d : ℕ) → d < 1664 → dot (take 208 came) d ≡ dot came d
+pub dot_kept : (came : List ℕ) (d : ℕ) → d < LINE_DOTS → dot (take LINE_BYTES came) d ≡ dot came d
 unfolding dot
-dot_kept came d h = ap (λ b. bit b (7 - d % 8)) (get_or-take 208 came (d / 8) 0 (omega arith))
+dot_kept came d h = ap (λ b. bit b (7 - d % 8)) (get_or-take LINE_BYTES came (d / 8) 0 (omega arith))
 
 pub rows_shown : (setup : Setup) (before : List EscItem) (s : Settings) (kept came row : List ℕ) (left length times bytes n : ℕ) → s ≡ settings_of setup before → left ≡ printed_at setup before (8 * bytes * times) → length ≡ paper_length setup before →
-    kept ≡ take 208 came → row ≡ row_of 72 (clipped left length (λ x. dot kept (x / times))) → rows_text s.paper (λ x y. dot row x) 0 n ≡ rows_text setup.width (λ x y. raster_dot setup before times bytes came x) 0 n
+    kept ≡ take LINE_BYTES came → row ≡ row_of PAPER_BYTES (clipped left length (λ x. dot kept (x / times))) → rows_text s.paper (λ x y. dot row x) 0 n ≡ rows_text setup.width (λ x y. raster_dot setup before times bytes came x) 0 n
 rows_shown setup before s kept came row left length times bytes n e left_is long_is kept_is row_is =
     rows_same s.paper (λ x y. dot row x) (λ x y. raster_dot setup before times bytes came x) 0 n (λ x y h.
-    ap (λ (r : List ℕ). dot r x) row_is ∙ dot-row_of 72 (clipped left length (λ x. dot kept (x / times))) x h
+    ap (λ (r : List ℕ). dot r x) row_is ∙ dot-row_of PAPER_BYTES (clipped left length (λ x. dot kept (x / times))) x h
     ∙ ap (λ b. nat_le left x && nat_lt (x - left) length && b) (ap (λ (r : List ℕ). dot r ((x - left) / times)) kept_is
     ∙ dot_kept came ((x - left) / times) (let le = div-le_self (x - left) times in omega arith))
     ∙ ap (λ l. clipped l length (λ x. dot came (x / times)) x) left_is ∙ ap (λ n. clipped (printed_at setup before (8 * bytes * times)) n (λ x. dot came (x / times)) x) long_is)
     ∙ ap (λ (q : Settings). rows_text q.paper (λ x y. raster_dot setup before times bytes came x) 0 n) e
 
 -- a row that is laid, as often as its scale says
-laid_dots : (came kept : List ℕ) (across down : ℕ) → kept ≡ take 208 came → (u w : ℕ) → u < 1664 → w < down → dot kept (u / across) ≡ nat_lt w down && dot came (u / across)
+laid_dots : (came kept : List ℕ) (across down : ℕ) → kept ≡ take LINE_BYTES came → (u w : ℕ) → u < LINE_DOTS → w < down → dot kept (u / across) ≡ nat_lt w down && dot came (u / across)
 laid_dots came kept across down k u w h l =
     ap (λ (xs : List ℕ). dot xs (u / across)) k ∙ dot_kept came (u / across) (let le = div-le_self u across in omega arith)
     ∙ sym (rw (lt-ltb w down l) refl)
 
 pub laid_row : (setup : Setup) (before : List EscItem) (s : Settings) (scale : RasterScale) (came kept : List ℕ) (layers : List Layer) (page : List (List ℕ)) → s ≡ settings_of setup before → scale ≡ raster_scale before
-    → kept ≡ take 208 came
-    → ((dots : ℕ → ℕ → Bool) → ((u w : ℕ) → u < 1664 → w < times_down scale → dot kept (u / times_across scale) ≡ dots u w) → ((u w : ℕ) → dots u w ≡ true → w < times_down scale) → HasPage (Laid (mark_of s.page dots) ∷ layers) page)
+    → kept ≡ take LINE_BYTES came
+    → ((dots : ℕ → ℕ → Bool) → ((u w : ℕ) → u < LINE_DOTS → w < times_down scale → dot kept (u / times_across scale) ≡ dots u w) → ((u w : ℕ) → dots u w ≡ true → w < times_down scale) → HasPage (Laid (mark_of s.page dots) ∷ layers) page)
     → HasPage (Laid (raster_mark setup before came) ∷ layers) page
 laid_row setup before s scale came kept layers page e scale_is kept_is laid =
     subst (λ (k : RasterScale). HasPage (Laid (mark_of (page_of setup before) (λ u w. nat_lt w (times_down k) && dot came (u / times_across k))) ∷ layers) page) scale_is

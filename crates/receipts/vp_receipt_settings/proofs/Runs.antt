@@ -11,6 +11,7 @@ use Rattle.vp_receipt_settings.specs.Symbols.{qr_data}
 use Rattle.vp_receipt_settings.specs.declared.raster.Raster.{Raster}
 use Rattle.vp_receipt_settings.specs.Rasters.{raster_scale, raster_bytes, rows_to_come, row_so_far, is_row_end, bytes_after}
 use Rattle.vp_receipt_settings.specs.Gathering.{IsGathering, room_of}
+use Rattle.vp_page.specs.declared.line.TheConstants.{LINE_BYTES}
 
 -- the oldest byte first
 pub after_first : (b : ℕ) (bytes : List ℕ) (before : List EscItem) → bytes_after (b ∷ bytes) before ≡ bytes_after bytes (RasterByte b ∷ before)
@@ -97,7 +98,7 @@ has_room r b bytes h = room_by r (length (b ∷ bytes)) (eqb r.rows 0) refl (ome
 
 -- bytes that there is room for are gathered
 pub gathers_run : (r : Raster) (row bytes : List ℕ) (before : List EscItem) → length bytes ≤ room_of r → IsGathering r before
-    → ((came : List ℕ) → r.got ≡ length came → take (min r.got 208) r.row ≡ take 208 came → take (min (r.got + length bytes) 208) row ≡ take 208 (came ++ bytes))
+    → ((came : List ℕ) → r.got ≡ length came → take (min r.got LINE_BYTES) r.row ≡ take LINE_BYTES came → take (min (r.got + length bytes) LINE_BYTES) row ≡ take LINE_BYTES (came ++ bytes))
     → IsGathering (record r { got = r.got + length bytes; row = row }) (bytes_after bytes before)
 gathers_run r row [] before h g k =
     record {
@@ -105,7 +106,7 @@ gathers_run r row [] before h g k =
       bytes = g.bytes;
       rows = g.rows;
       got = omega (arith, g.got);
-      row = k (row_so_far before) g.got g.row ∙ ap (take 208) (append-nil (row_so_far before));
+      row = k (row_so_far before) g.got g.row ∙ ap (take LINE_BYTES) (append-nil (row_so_far before));
     }
 gathers_run r row (b ∷ bytes) before h g k =
     let room = has_room r b bytes h in
@@ -115,7 +116,7 @@ gathers_run r row (b ∷ bytes) before h g k =
       bytes = g.bytes ∙ sym l.width;
       rows = g.rows ∙ sym l.rows;
       got = omega (arith, g.got, ap length l.row, length-append (row_so_far before) (b ∷ bytes));
-      row = k (row_so_far before) g.got g.row ∙ ap (take 208) (sym l.row);
+      row = k (row_so_far before) g.got g.row ∙ ap (take LINE_BYTES) (sym l.row);
     }
 
 -- and don't end the row

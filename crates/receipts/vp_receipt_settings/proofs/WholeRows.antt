@@ -18,6 +18,7 @@ use Rattle.vp_receipt_settings.specs.Runs.{below}
 use Rattle.vp_receipt_settings.specs.declared.raster.Raster.{Raster}
 use Rattle.vp_receipt_settings.specs.declared.settings.Settings.{Settings}
 use Rattle.vp_receipt_settings.proofs.Runs.{after_first, settings_same, goes_on, inside}
+use Rattle.vp_page.specs.declared.line.TheConstants.{LINE_BYTES}
 
 -- bytes after others
 pub after_both : (xs ys : List ℕ) (before : List EscItem) → bytes_after (xs ++ ys) before ≡ bytes_after ys (bytes_after xs before)
@@ -201,8 +202,8 @@ rows_below setup bytes (suc k) before small h =
     ∙ below_more (settings_of setup before) (k * d) d (some_down (raster_scale before))
     ∙ ap (λ n. below (settings_of setup before) n) (sym (suc-mul k d))
 
-none_kept : (row : List ℕ) (got : ℕ) → got ≡ 0 → take (min got 208) row ≡ []
-none_kept row got none = let e : min got 208 ≡ 0 = omega arith in ap (λ n. take n row) e
+none_kept : (row : List ℕ) (got : ℕ) → got ≡ 0 → take (min got LINE_BYTES) row ≡ []
+none_kept row got none = let e : min got LINE_BYTES ≡ 0 = omega arith in ap (λ n. take n row) e
 
 -- bytes that end the row are gathered
 pub row_gathered : (r : Raster) (row bytes : List ℕ) (before : List EscItem) → 0 < r.rows → r.got < r.bytes → r.got + length bytes ≡ r.bytes → IsGathering r before
@@ -214,7 +215,7 @@ row_gathered r row bytes before some few lacks g =
       bytes = g.bytes ∙ sym e.width;
       rows = ap (λ n. n - 1) g.rows ∙ sym e.rows;
       got = ap length (sym e.row);
-      row = ap (take 208) (sym e.row);
+      row = ap (take LINE_BYTES) (sym e.row);
     }
 
 no_bytes : (xs : List ℕ) → length xs ≡ 0 → xs ≡ []
@@ -242,5 +243,5 @@ rows_pass r n bytes before part begins few g long =
       bytes = g.bytes ∙ sym e.width;
       rows = ap (λ m. m - n) g.rows ∙ sym e.rows;
       got = begins ∙ ap length (sym e.row);
-      row = none_kept r.row r.got begins ∙ ap (take 208) (sym e.row);
+      row = none_kept r.row r.got begins ∙ ap (take LINE_BYTES) (sym e.row);
     })

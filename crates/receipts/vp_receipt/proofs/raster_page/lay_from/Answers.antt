@@ -8,6 +8,7 @@ use Rattle.vp_page.proofs.Pages.{rows_make_an_image}
 use Rattle.vp_receipt_settings.specs.Rasters.{times_across, times_down}
 use Rattle.vp_receipt.specs.PageMarks.{mark_of, rows_dot}
 use Rattle.vp_receipt.proofs.PageRows.{row_shown}
+use Rattle.vp_page.specs.declared.line.TheConstants.{LINE_BYTES}
 use Rattle.vp_receipt.proofs.raster_page.lay_from.Goals as goal
 
 pub loop-k-preserved : goal.loop-k-preserved
@@ -23,9 +24,9 @@ loop-k-preserved c = λ layers page.
     (c.lay_scaled.ensures dots layers (λ u w h l.
     let wide = c.from-wide.result in
     let is : wide ≡ r.bytes = c.from-wide.ensures in
-    let shown : k * wide + c.min-shown.result - k * wide ≡ min r.bytes 208 = omega (arith, c.min-shown.ensures, is) in
+    let shown : k * wide + c.min-shown.result - k * wide ≡ min r.bytes LINE_BYTES = omega (arith, c.min-shown.ensures, is) in
     ap (λ i. dot (take i (drop (k * wide) c.args.bytes.now)) (u / times_across r.scale)) shown
-    ∙ ap (λ x. dot (take (min r.bytes 208) (drop (k * x) c.args.bytes.now)) (u / times_across r.scale)) is
+    ∙ ap (λ x. dot (take (min r.bytes LINE_BYTES) (drop (k * x) c.args.bytes.now)) (u / times_across r.scale)) is
     ∙ row_shown r.scale r.bytes c.args.rows c.args.bytes.now k u w (k * c.times_down-times.result) c.loop-k-test.true at h l)
     (subst (λ n. HasPage (Laid (first_rows n m) ∷ layers) c.loop-k.page) (sym at) (c.loop-k.invariant layers page)))
 

@@ -1,4 +1,4 @@
-use Rattle.std.proofs.Common.{◌≡◌, ◌≤◌, ◌*◌, ◌/◌, ◌+◌, ◌-◌, ◌<◌, ℕ, true, length, take, drop, min, ap, sym, ◌∙◌, subst, arith, List}
+use Rattle.std.proofs.Common.{◌≡◌, ◌≤◌, ◌*◌, ◌/◌, ◌+◌, ◌-◌, ◌<◌, ℕ, true, length, take, min, ap, sym, ◌∙◌, subst, arith}
 use Rattle.std.proofs.Math.Nat.{div-mul-le_self}
 use Rattle.vp_receipt_settings.specs.Gathering.{IsGathering, left_of, room_of}
 use Rattle.vp_receipt_settings.specs.Rasters.{bytes_after}

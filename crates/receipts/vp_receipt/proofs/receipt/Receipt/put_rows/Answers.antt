@@ -1,7 +1,6 @@
-use Rattle.std.proofs.Common.{◌≡◌, ◌≤◌, ℕ, List, ◌++◌, [], length, take, ap, sym, ◌∙◌, subst, arith}
+use Rattle.std.proofs.Common.{◌≤◌, length, ap, sym, ◌∙◌, subst, arith}
 use Rattle.std.proofs.lemmas.List.{append-nil}
 use Rattle.vp_receipt_settings.specs.Symbols.{IsStored}
-use Rattle.vp_receipt_settings.specs.History.{mode}
 use Rattle.vp_receipt_settings.specs.Rasters.{bytes_after}
 use Rattle.vp_receipt_settings.specs.declared.page_mode.Mode.TheVariants.{Standard}
 use Rattle.vp_receipt_settings.proofs.Runs.{stops_stay, data_stay}
