@@ -1,24 +1,27 @@
 -- What an item does is what its effect does.
-use Rattle.std.proofs.Common.{◌≡◌, ℕ, Bool, true, false, not, ◌&&◌, nat_lt, is_some, if◌then◌else◌, refl, sym, ap, ◌∙◌, subst, ◌*◌, List, [], ◌∷◌, ◌++◌, Option, Some, None, IfSome}
+use Rattle.std.proofs.Common.{◌≡◌, ℕ, Bool, true, false, not, ◌&&◌, nat_lt, if◌then◌else◌, refl, sym, ap, ◌∙◌, subst, ◌*◌, List, [], ◌∷◌, ◌++◌, Option, Some, None, IfSome}
 use Rattle.vp_esc.specs.declared.item.EscItem.{EscItem}
 use Rattle.vp_esc.specs.declared.item.EscItem.TheVariants.{CarriageReturn, Control, QrIgnored, WithoutEffect, Character, Column8, Column24, Raster, RasterByte, Symbol, QrPrint, PageMode, StandardMode, FormFeed, Initialize, LeftMargin, AreaWidth, MoveVerticalPosition, Area, Direction}
+use Rattle.vp_esc.specs.declared.item.Direction.{Direction as EscDirection}
+use Rattle.vp_esc.specs.declared.item.Spelled.{Spelled}
 use Rattle.vp_glyph.specs.declared.Sheets.{Sheets}
 use Rattle.vp_page.specs.Layers.{Layer}
 use Rattle.vp_page.specs.Pages.{HasPage}
 use Rattle.vp_receipt_settings.specs.declared.effect.Piece.{Piece}
 use Rattle.vp_receipt_settings.specs.declared.effect.Piece.TheVariants.{Character as OneCharacter, Column8 as OneColumn8, Column24 as OneColumn24}
 use Rattle.vp_receipt_settings.specs.declared.effect.Effect.{Effect}
-use Rattle.vp_receipt_settings.specs.declared.effect.Effect.TheVariants.{Nothing, Sets, Drops, Puts, Breaks, Feeds, Cuts, BeginsRaster, Fills, Draws, BeginsPage, Lays, Wipes, PrintsPage}
+use Rattle.vp_receipt_settings.specs.declared.effect.Effect.TheVariants.{Nothing, Sets, Initializes, Puts, Breaks, Feeds, Cuts, BeginsRaster, Fills, Draws, BeginsPage, LeavesPage, Lays, Wipes, PrintsPage, EndsPage}
+use Rattle.vp_receipt_settings.specs.declared.effect.NextLines.TheVariants.{At, Within}
 use Rattle.vp_receipt_settings.specs.declared.settings.Settings.{Settings}
 use Rattle.vp_receipt_settings.specs.declared.text.Text.{Text}
 use Rattle.vp_receipt_settings.specs.declared.page_mode.Mode.{Mode}
 use Rattle.vp_receipt_settings.specs.declared.page_mode.Mode.TheVariants.{Standard, Page}
 use Rattle.vp_receipt_settings.specs.Setup.{Setup}
 use Rattle.vp_receipt_settings.specs.Texts.{text_of}
-use Rattle.vp_receipt_settings.specs.Pages.{is_paged, is_area, is_vertical_move}
+use Rattle.vp_receipt_settings.specs.Pages.{is_paged, is_area, area_cut, is_vertical_move, vertical_moved}
 use Rattle.vp_receipt_settings.specs.Rasters.{draws, scale_or, times_down}
 use Rattle.vp_receipt_settings.specs.History.{Placed, Frame, settings_of, line, mode, length_of, is_open, image_of, character}
-use Rattle.vp_receipt_settings.specs.Effects.{effect_of, feed_of, is_full_of, is_page, waits_of}
+use Rattle.vp_receipt_settings.specs.Effects.{effect_of, feed_of, is_full_of, is_page, waits_of, runs_along}
 use Rattle.vp_dots.specs.Images.{Image}
 use Rattle.vp_strips.specs.LineDots.{HasOpen}
 use Rattle.vp_strips.specs.Rows.{line_text}
@@ -41,6 +44,10 @@ either : (P : Effect → Type 0) (b : Bool) (x y : Effect) → P x → P y → P
 either P true x y h k = h
 either P false x y h k = k
 
+way_kind : (d : Spelled (Option EscDirection)) (named : Option EscDirection) → IsKind (Direction d) (runs_along named)
+way_kind d None = record { byte = λ b e. cc; symbol = refl }
+way_kind d (Some way) = record { byte = λ b e. cc; symbol = refl }
+
 pub kind_is : (s : Settings) (item : EscItem) → IsKind item (effect_of s item)
 kind_is s CarriageReturn = refl
 kind_is s (Control byte) = refl
@@ -54,10 +61,10 @@ kind_is s (Column8 byte) = either (IsKind (Column8 byte)) (nat_lt s.position (le
 kind_is s (Column24 bytes) = either (IsKind (Column24 bytes)) (nat_lt s.position (length_of s)) (Puts (OneColumn24 bytes)) Sets (record { byte = λ b e. cc; symbol = refl }) (record { byte = λ b e. cc; symbol = refl })
 kind_is s (Raster scale bytes rows) = either (IsKind (Raster scale bytes rows)) (draws scale.value bytes rows) (BeginsRaster (times_down (scale_or scale.value) * rows)) Sets (record { byte = λ b e. cc; symbol = refl }) (record { byte = λ b e. cc; symbol = refl })
 kind_is s PageMode = either (IsKind PageMode) (not (is_paged s.page.mode) && not s.is_open) BeginsPage Sets (record { byte = λ b e. cc; symbol = refl }) (record { byte = λ b e. cc; symbol = refl })
-kind_is s StandardMode = either (IsKind StandardMode) (is_paged s.page.mode) Drops Sets (record { byte = λ b e. cc; symbol = refl }) (record { byte = λ b e. cc; symbol = refl })
-kind_is s (MoveVerticalPosition n) = either (IsKind (MoveVerticalPosition n)) (is_vertical_move n s.page.vertical) Lays Sets (record { byte = λ b e. cc; symbol = refl }) (record { byte = λ b e. cc; symbol = refl })
-kind_is s (Area x y wide high) = either (IsKind (Area x y wide high)) (is_area s.paper x y wide high) Lays Sets (record { byte = λ b e. cc; symbol = refl }) (record { byte = λ b e. cc; symbol = refl })
-kind_is s (Direction d) = either (IsKind (Direction d)) (is_some d.value) Lays Sets (record { byte = λ b e. cc; symbol = refl }) (record { byte = λ b e. cc; symbol = refl })
+kind_is s StandardMode = either (IsKind StandardMode) (is_paged s.page.mode) LeavesPage Sets (record { byte = λ b e. cc; symbol = refl }) (record { byte = λ b e. cc; symbol = refl })
+kind_is s (MoveVerticalPosition n) = either (IsKind (MoveVerticalPosition n)) (is_vertical_move n s.page.vertical) (Lays (At (vertical_moved n s.page.vertical))) Sets (record { byte = λ b e. cc; symbol = refl }) (record { byte = λ b e. cc; symbol = refl })
+kind_is s (Area x y wide high) = either (IsKind (Area x y wide high)) (is_area s.paper x y wide high) (Lays (Within (area_cut s.paper x y wide high))) Sets (record { byte = λ b e. cc; symbol = refl }) (record { byte = λ b e. cc; symbol = refl })
+kind_is s (Direction d) = way_kind d d.value
 kind_is s _ = record { byte = λ b e. cc; symbol = refl }
 
 pub is_acting : (item : EscItem) (effect : Effect) → (effect ≡ Nothing → ⊥) → ((byte : ℕ) → effect ≡ Fills byte → ⊥) → (effect ≡ Draws → ⊥) → IsKind item effect → IsActing item
@@ -79,6 +86,10 @@ pub record Does (setup : Setup) (before : List EscItem) (item : EscItem) (effect
 chosen : (P : Effect → Type 0) (b : Bool) (x y : Effect) → (b ≡ true → P x) → (b ≡ false → P y) → P (if b then x else y)
 chosen P true x y h k = h refl
 chosen P false x y h k = k refl
+
+way_does : (setup : Setup) (before : List EscItem) (d : Spelled (Option EscDirection)) (named : Option EscDirection) → d.value ≡ named → Does setup before (Direction d) (runs_along named)
+way_does setup before d None e = record { line = rw e refl; text = λ code w. refl; rows = refl; own = refl; layers = λ m. rw e refl; page = refl; is_page = refl }
+way_does setup before d (Some way) e = record { line = rw e refl; text = λ code w. refl; rows = refl; own = refl; layers = λ m. rw e refl; page = refl; is_page = refl }
 
 pub does : (setup : Setup) (before : List EscItem) (item : EscItem) → IsActing item → Does setup before item (effect_of (settings_of setup before) item)
 does setup before (RasterByte byte) a = absurd (a.byte byte refl)
@@ -110,23 +121,20 @@ does setup before PageMode a =
     (λ e. record { line = refl; text = λ code w. refl; rows = refl; own = refl; layers = λ m. refl; page = refl; is_page = refl })
 does setup before StandardMode a =
     let s = settings_of setup before in
-    chosen (Does setup before StandardMode) (is_paged s.page.mode) Drops Sets
+    chosen (Does setup before StandardMode) (is_paged s.page.mode) LeavesPage Sets
     (λ e. record { line = rw e refl; text = λ code w. cc; rows = refl; own = refl; layers = λ m. refl; page = refl; is_page = refl })
     (λ e. record { line = rw e refl; text = λ code w. cc; rows = refl; own = refl; layers = λ m. refl; page = refl; is_page = refl })
 does setup before (MoveVerticalPosition n) a =
     let s = settings_of setup before in
-    chosen (Does setup before (MoveVerticalPosition n)) (is_vertical_move n s.page.vertical) Lays Sets
+    chosen (Does setup before (MoveVerticalPosition n)) (is_vertical_move n s.page.vertical) (Lays (At (vertical_moved n s.page.vertical))) Sets
     (λ e. record { line = rw e refl; text = λ code w. refl; rows = refl; own = refl; layers = λ m. rw e refl; page = refl; is_page = refl })
     (λ e. record { line = rw e refl; text = λ code w. refl; rows = refl; own = refl; layers = λ m. rw e refl; page = refl; is_page = refl })
 does setup before (Area x y wide high) a =
     let s = settings_of setup before in
-    chosen (Does setup before (Area x y wide high)) (is_area s.paper x y wide high) Lays Sets
+    chosen (Does setup before (Area x y wide high)) (is_area s.paper x y wide high) (Lays (Within (area_cut s.paper x y wide high))) Sets
     (λ e. record { line = rw e refl; text = λ code w. refl; rows = refl; own = refl; layers = λ m. rw e refl; page = refl; is_page = refl })
     (λ e. record { line = rw e refl; text = λ code w. refl; rows = refl; own = refl; layers = λ m. rw e refl; page = refl; is_page = refl })
-does setup before (Direction d) a =
-    chosen (Does setup before (Direction d)) (is_some d.value) Lays Sets
-    (λ e. record { line = rw e refl; text = λ code w. refl; rows = refl; own = refl; layers = λ m. rw e refl; page = refl; is_page = refl })
-    (λ e. record { line = rw e refl; text = λ code w. refl; rows = refl; own = refl; layers = λ m. rw e refl; page = refl; is_page = refl })
+does setup before (Direction d) a = way_does setup before d d.value refl
 does setup before _ a = record { line = refl; text = λ code w. cc; rows = refl; own = refl; layers = λ m. refl; page = refl; is_page = refl }
 
 -- what is printed
@@ -221,14 +229,16 @@ line_stays setup before (Puts piece) s sheets bitmap n e k h = absurd (n piece r
 line_stays setup before (Breaks rows code) s sheets bitmap n e k h =
     let z : image_of sheets s.text code ≡ character setup before code = ap (λ (t : Settings). image_of sheets t.text code) e ∙ ap (λ (x : Sheets). image_of x (text_of before) code) k in
     sym (ap (λ (i : Image). record { at = 0; image = i } ∷ []) z)
-line_stays setup before Drops s sheets bitmap n e k h = λ o. cc
+line_stays setup before Initializes s sheets bitmap n e k h = λ o. cc
+line_stays setup before LeavesPage s sheets bitmap n e k h = λ o. cc
 line_stays setup before (Feeds rows) s sheets bitmap n e k h = λ o. cc
 line_stays setup before (BeginsRaster rows) s sheets bitmap n e k h = λ o. cc
 line_stays setup before Draws s sheets bitmap n e k h = λ o. cc
 line_stays setup before (Cuts dots cut) s sheets bitmap n e k h = if_open (is_paged (mode setup before)) _ bitmap h
-line_stays setup before Lays s sheets bitmap n e k h = unless_open (is_paged (mode setup before)) _ bitmap h
+line_stays setup before (Lays next) s sheets bitmap n e k h = unless_open (is_paged (mode setup before)) _ bitmap h
 line_stays setup before Wipes s sheets bitmap n e k h = unless_open (is_paged (mode setup before)) _ bitmap h
 line_stays setup before PrintsPage s sheets bitmap n e k h = unless_open (is_paged (mode setup before)) _ bitmap h
+line_stays setup before EndsPage s sheets bitmap n e k h = unless_open (is_paged (mode setup before)) _ bitmap h
 line_stays setup before _ s sheets bitmap n e k h = h
 
 -- by mode

@@ -7,7 +7,7 @@ use Rattle.vp_page.specs.Layers.{Layer, Wiped}
 use Rattle.vp_receipt_settings.specs.declared.effect.Piece.{Piece}
 use Rattle.vp_receipt_settings.specs.declared.effect.Piece.TheVariants.{Character, Column8, Column24}
 use Rattle.vp_receipt_settings.specs.declared.effect.Effect.{Effect}
-use Rattle.vp_receipt_settings.specs.declared.effect.Effect.TheVariants.{Drops, Puts, Breaks, Feeds, Cuts, BeginsRaster, Draws, BeginsPage, Lays, Wipes, PrintsPage}
+use Rattle.vp_receipt_settings.specs.declared.effect.Effect.TheVariants.{Initializes, Puts, Breaks, Feeds, Cuts, BeginsRaster, Draws, BeginsPage, LeavesPage, Lays, Wipes, PrintsPage, EndsPage}
 use Rattle.vp_receipt_settings.specs.declared.page_mode.Mode.{Mode}
 use Rattle.vp_receipt_settings.specs.declared.page_mode.Mode.TheVariants.{Page}
 use Rattle.vp_receipt_settings.specs.Setup.{Setup, across}
@@ -28,7 +28,7 @@ piece_image setup before (Column24 bytes) = column24 before bytes
 
 -- the line after it
 abbrev pub line_by : Setup → List EscItem → Effect → List Placed
-line_by setup before Drops = []
+line_by setup before Initializes = []
 line_by setup before (Puts piece) =
     record { at = position setup before; image = piece_image setup before piece } ∷ line setup before
 line_by setup before (Breaks rows code) = record { at = 0; image = character setup before code } ∷ []
@@ -36,9 +36,11 @@ line_by setup before (Feeds rows) = []
 line_by setup before (Cuts dots cut) = if is_paged (mode setup before) then line setup before else []
 line_by setup before (BeginsRaster rows) = []
 line_by setup before Draws = []
-line_by setup before Lays = if is_paged (mode setup before) then [] else line setup before
+line_by setup before LeavesPage = []
+line_by setup before (Lays next) = if is_paged (mode setup before) then [] else line setup before
 line_by setup before Wipes = if is_paged (mode setup before) then [] else line setup before
 line_by setup before PrintsPage = if is_paged (mode setup before) then [] else line setup before
+line_by setup before EndsPage = if is_paged (mode setup before) then [] else line setup before
 line_by setup before _ = line setup before
 
 -- the rows of the line's strip that it prints on paper
@@ -63,6 +65,7 @@ strips_by setup before effect =
 -- what it prints of a page
 abbrev pub page_by : Setup → List EscItem → Effect → List ℕ
 page_by setup before PrintsPage = page_text setup before
+page_by setup before EndsPage = page_text setup before
 page_by setup before _ = []
 
 -- what it prints of its own
@@ -81,9 +84,10 @@ layers_by setup before (Breaks rows code) = printed_layers setup before
 layers_by setup before (Feeds rows) = printed_layers setup before
 layers_by setup before (BeginsRaster rows) = printed_layers setup before
 layers_by setup before BeginsPage = []
-layers_by setup before Lays = printed_layers setup before
+layers_by setup before (Lays next) = printed_layers setup before
 layers_by setup before Wipes = Wiped (area setup before) ∷ printed_layers setup before
 layers_by setup before PrintsPage = printed_layers setup before
+layers_by setup before EndsPage = printed_layers setup before
 layers_by setup before _ = layers setup before
 
 -- the mode in which the page has them

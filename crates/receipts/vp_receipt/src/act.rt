@@ -175,14 +175,18 @@ fn printed(s: &Settings, effect: Effect) -> Option<Job>
         }
         Effect::Nothing
         | Effect::Sets
-        | Effect::Drops
+        | Effect::Moves(_)
+        | Effect::Tabs
+        | Effect::Initializes
         | Effect::Puts(_)
         | Effect::Fills(_)
         | Effect::Draws
         | Effect::BeginsPage
-        | Effect::Lays
+        | Effect::LeavesPage
+        | Effect::Lays(_)
         | Effect::Wipes
-        | Effect::PrintsPage => None,
+        | Effect::PrintsPage
+        | Effect::EndsPage => None,
     }
 }
 
@@ -270,7 +274,7 @@ fn laid(s: &Settings, effect: Effect, canvas: &mut Canvas) -> Option<Job>
         IsShowing job canvas.new high (length (text_of job canvas.new))) }
 {
     match effect {
-        Effect::Breaks { .. } | Effect::Feeds(_) | Effect::BeginsRaster(_) | Effect::Lays => {
+        Effect::Breaks { .. } | Effect::Feeds(_) | Effect::BeginsRaster(_) | Effect::Lays(_) => {
             lay_open(s, canvas);
             None
         }
@@ -279,18 +283,21 @@ fn laid(s: &Settings, effect: Effect, canvas: &mut Canvas) -> Option<Job>
             canvas.page.wipe(s.page.area);
             None
         }
-        Effect::PrintsPage => {
+        Effect::PrintsPage | Effect::EndsPage => {
             lay_open(s, canvas);
             Some(page_job(s))
         }
         Effect::Nothing
         | Effect::Sets
-        | Effect::Drops
+        | Effect::Moves(_)
+        | Effect::Tabs
+        | Effect::Initializes
         | Effect::Puts(_)
         | Effect::Cuts { .. }
         | Effect::Fills(_)
         | Effect::Draws
-        | Effect::BeginsPage => None,
+        | Effect::BeginsPage
+        | Effect::LeavesPage => None,
     }
 }
 

@@ -1,17 +1,19 @@
 -- What an item does, as the code tells it.
-use Rattle.std.specs.Prelude.{ℕ, ◌*◌, nat_lt, Bool, true, false, not, ◌&&◌, if◌then◌else◌, Option, Some, None, is_some, max}
+use Rattle.std.specs.Prelude.{ℕ, ◌*◌, nat_lt, Bool, true, false, not, ◌&&◌, if◌then◌else◌, Option, Some, None, max}
 use Rattle.vp_esc.specs.declared.item.EscItem.{EscItem}
-use Rattle.vp_esc.specs.declared.item.EscItem.TheVariants.{LineFeed, CarriageReturn, Control, Character, Column8, Column24, Initialize, FeedDots, FeedLines, CutLeavingOnePoint, CutLeavingThreePoints, Cut, FeedAndCut, Raster, RasterByte, Symbol, QrPrint, QrIgnored, WithoutEffect, PageMode, StandardMode, FormFeed, Cancel, PrintPage, VerticalPosition, MoveVerticalPosition, Area, Direction}
+use Rattle.vp_esc.specs.declared.item.EscItem.TheVariants.{LineFeed, CarriageReturn, Control, Tab, Position, MovePosition, Character, Column8, Column24, Initialize, FeedDots, FeedLines, CutLeavingOnePoint, CutLeavingThreePoints, Cut, FeedAndCut, Raster, RasterByte, Symbol, QrPrint, QrIgnored, WithoutEffect, PageMode, StandardMode, FormFeed, Cancel, PrintPage, VerticalPosition, MoveVerticalPosition, Area, Direction}
 use Rattle.vp_esc.specs.declared.item.Cut.TheVariants.{Partial}
+use Rattle.vp_esc.specs.declared.item.Direction.{Direction as EscDirection}
 use Rattle.vp_glyph.specs.Cells.{cell_width}
 use Rattle.vp_receipt_settings.specs.declared.effect.Piece.TheVariants.{Character as OneCharacter, Column8 as OneColumn8, Column24 as OneColumn24}
 use Rattle.vp_receipt_settings.specs.declared.effect.Effect.{Effect}
-use Rattle.vp_receipt_settings.specs.declared.effect.Effect.TheVariants.{Nothing, Sets, Drops, Puts, Breaks, Feeds, Cuts, BeginsRaster, Fills, Draws, BeginsPage, Lays, Wipes, PrintsPage}
+use Rattle.vp_receipt_settings.specs.declared.effect.Effect.TheVariants.{Nothing, Sets, Moves, Tabs, Initializes, Puts, Breaks, Feeds, Cuts, BeginsRaster, Fills, Draws, BeginsPage, LeavesPage, Lays, Wipes, PrintsPage, EndsPage}
+use Rattle.vp_receipt_settings.specs.declared.effect.NextLines.TheVariants.{At, Within, Along}
 use Rattle.vp_receipt_settings.specs.declared.settings.Settings.{Settings}
 use Rattle.vp_receipt_settings.specs.Texts.{style_of}
-use Rattle.vp_receipt_settings.specs.Pages.{is_paged, is_area, is_vertical_move}
+use Rattle.vp_receipt_settings.specs.Pages.{is_paged, is_area, area_cut, direction_of, is_vertical_move, vertical_moved}
 use Rattle.vp_receipt_settings.specs.Rasters.{draws, scale_or, times_down}
-use Rattle.vp_receipt_settings.specs.History.{breaks, length_of, lines_rows}
+use Rattle.vp_receipt_settings.specs.History.{breaks, length_of, lines_rows, position_at, position_moved}
 
 -- the rows of the strip that LF prints
 abbrev pub feed_of : Settings → ℕ
@@ -25,18 +27,28 @@ is_full_of s = breaks s.position (cell_width s.text.font (style_of s.text)) (len
 abbrev pub if_done : Bool → Effect → Effect
 if_done done effect = if done then effect else Sets
 
--- what an item does that has to do with the page or with the modes, or only sets
+-- ESC T: the next lines run so, if it names a direction
+abbrev pub runs_along : Option EscDirection → Effect
+runs_along (Some d) = Lays (Along (direction_of d))
+runs_along None = Sets
+
+-- what an item does that has to do with positions, with the page or with the modes, or only sets
 abbrev pub page_effect_of : Settings → EscItem → Effect
+page_effect_of s Tab = Tabs
+page_effect_of s (Position n) = Moves (position_at n s.position (length_of s))
+page_effect_of s (MovePosition by) = Moves (position_moved by s.position (length_of s))
+page_effect_of s Initialize = Initializes
 page_effect_of s PageMode = if_done (not (is_paged s.page.mode) && not s.is_open) BeginsPage
-page_effect_of s StandardMode = if_done (is_paged s.page.mode) Drops
-page_effect_of s Initialize = Drops
-page_effect_of s (VerticalPosition n) = Lays
-page_effect_of s (MoveVerticalPosition n) = if_done (is_vertical_move n s.page.vertical) Lays
-page_effect_of s (Area x y wide high) = if_done (is_area s.paper x y wide high) Lays
-page_effect_of s (Direction d) = if_done (is_some d.value) Lays
+page_effect_of s StandardMode = if_done (is_paged s.page.mode) LeavesPage
+page_effect_of s (VerticalPosition n) = Lays (At n)
+page_effect_of s (MoveVerticalPosition by) =
+    if_done (is_vertical_move by s.page.vertical) (Lays (At (vertical_moved by s.page.vertical)))
+page_effect_of s (Area x y wide high) =
+    if_done (is_area s.paper x y wide high) (Lays (Within (area_cut s.paper x y wide high)))
+page_effect_of s (Direction d) = runs_along d.value
 page_effect_of s Cancel = Wipes
 page_effect_of s PrintPage = PrintsPage
-page_effect_of s FormFeed = PrintsPage
+page_effect_of s FormFeed = EndsPage
 page_effect_of s CarriageReturn = Nothing
 page_effect_of s (Control byte) = Nothing
 page_effect_of s (QrIgnored bytes) = Nothing
@@ -72,14 +84,16 @@ rows_of s _ = 0
 
 -- whether it lays the line of a page where it is
 abbrev pub lays_it : Effect → Bool
-lays_it Lays = true
+lays_it (Lays next) = true
 lays_it Wipes = true
 lays_it PrintsPage = true
+lays_it EndsPage = true
 lays_it _ = false
 
 -- whether it prints the page
 abbrev pub is_page : Effect → Bool
 is_page PrintsPage = true
+is_page EndsPage = true
 is_page _ = false
 
 -- the character that waits for the line before it

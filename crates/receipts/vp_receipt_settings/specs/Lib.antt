@@ -9,5 +9,6 @@ pub mod Rasters
 pub mod History
 -- What the code keeps.
 pub mod Effects
+pub mod Followed
 pub mod Gathering
 pub mod Runs

@@ -2,12 +2,13 @@
 ghost use Rattle.std.specs.Prelude.{◌≡◌, ℕ};
 ghost use Rattle.vp_esc.specs.declared.item.EscItem.{EscItem};
 ghost use Rattle.vp_receipt_settings.specs.History.{IsFit};
-ghost use Rattle.vp_receipt_settings.specs.Effects.{effect_of, page_effect_of, if_done, rows_of, lays_it, is_page, waits_of};
+ghost use Rattle.vp_receipt_settings.specs.Effects.{effect_of, page_effect_of, if_done, runs_along, rows_of, lays_it, is_page, waits_of};
 
-use crate::page_mode::{is_area, is_vertical_move};
+use crate::page_mode::{area_cut, direction_of, is_area, is_vertical_move, vertical_moved};
 use crate::raster::{draws, scale_named, times_down};
-use crate::settings::Settings;
-use vp_esc::item::{Cut, EscItem};
+use crate::settings::{Settings, moved, placed};
+use vp_esc::item::{self, Cut, EscItem};
+use vp_page::{Area, Direction};
 
 /// A piece of the line.
 #[derive(Clone, Copy)]
@@ -19,15 +20,30 @@ pub enum Piece {
     Column24([u8; 3]),
 }
 
+/// Where the next lines of a page are laid.
+#[derive(Clone, Copy)]
+pub enum NextLines {
+    /// So far from the area's top as lines run.
+    At(u16),
+    /// From the top of an area.
+    Within(Area),
+    /// From the area's top, in a direction.
+    Along(Direction),
+}
+
 /// What an item does. A line that is ended is printed on paper, and laid on a page.
 #[derive(Clone, Copy)]
 pub enum Effect {
     /// Nothing.
     Nothing,
-    /// It sets what is in force, if anything.
+    /// It sets what is in force of characters, symbols, spacing, margins and justification, if anything.
     Sets,
-    /// It gives up the line, and sets what is in force.
-    Drops,
+    /// It puts the position here.
+    Moves(u16),
+    /// It moves the position to the next tab stop.
+    Tabs,
+    /// It gives up the line, and puts back all that is in force.
+    Initializes,
     /// It puts a piece into the line.
     Puts(Piece),
     /// A character that the line has no room for ends it in so many rows, and begins the next one.
@@ -44,12 +60,16 @@ pub enum Effect {
     Draws,
     /// It begins a white page.
     BeginsPage,
-    /// On a page it ends the line where it is, if it is open.
-    Lays,
-    /// On a page it does, and makes the area white.
+    /// It gives up the line and the page.
+    LeavesPage,
+    /// On a page it ends the line where it is, if it is open. In either mode it sets where the next lines go.
+    Lays(NextLines),
+    /// On a page it ends the line likewise, and makes the area white.
     Wipes,
-    /// On a page it does, and prints the page.
+    /// On a page it ends the line where it is, if it is open, and prints the page.
     PrintsPage,
+    /// On a page it prints the page so, and leaves it.
+    EndsPage,
 }
 
 impl Effect {
@@ -58,6 +78,16 @@ impl Effect {
         ensures { result ≡ if_done done self }
     {
         if done { self } else { Effect::Sets }
+    }
+
+    /// That of a direction that ESC T names, if it names one.
+    fn runs(direction: Option<item::Direction>) -> Effect
+        ensures { result ≡ runs_along direction }
+    {
+        match direction {
+            Some(direction) => Effect::Lays(NextLines::Along(direction_of(direction))),
+            None => Effect::Sets,
+        }
     }
 
     /// That of a cut, after so many white rows.
@@ -71,14 +101,17 @@ impl Effect {
     pub(crate) fn lays(self) -> bool
         ensures { result ≡ lays_it self }
     {
-        matches!(self, Effect::Lays | Effect::Wipes | Effect::PrintsPage)
+        matches!(
+            self,
+            Effect::Lays(_) | Effect::Wipes | Effect::PrintsPage | Effect::EndsPage
+        )
     }
 
     /// Whether it prints the page, on a page.
     pub fn is_page(self) -> bool
         ensures { result ≡ is_page self }
     {
-        matches!(self, Effect::PrintsPage)
+        matches!(self, Effect::PrintsPage | Effect::EndsPage)
     }
 
     /// The character that waits until the line before it is printed.
@@ -93,28 +126,40 @@ impl Effect {
 }
 
 impl Settings {
-    /// What an item does that has to do with the page or with the modes, or only sets.
+    /// What an item does that has to do with positions, with the page or with the modes, or only sets.
     fn page_effect(self, item: &EscItem) -> Effect
+        requires { IsFit self }
         ensures { result ≡ page_effect_of self item.now }
     {
         match item {
+            EscItem::Tab => Effect::Tabs,
+            EscItem::Position(n) => Effect::Moves(placed(*n, self.position, self.line_length())),
+            EscItem::MovePosition(by) => {
+                Effect::Moves(moved(*by, self.position, self.line_length()))
+            }
+            EscItem::Initialize => Effect::Initializes,
             EscItem::PageMode => Effect::BeginsPage.if_done(self.begins_page()),
-            EscItem::StandardMode => Effect::Drops.if_done(self.page.is_paged()),
-            EscItem::Initialize => Effect::Drops,
-            EscItem::VerticalPosition(_) => Effect::Lays,
-            EscItem::MoveVerticalPosition(by) => Effect::Lays.if_done(is_vertical_move(
-                *by,
-                self.page.vertical,
-            )),
+            EscItem::StandardMode => Effect::LeavesPage.if_done(self.page.is_paged()),
+            EscItem::VerticalPosition(n) => Effect::Lays(NextLines::At(*n)),
+            EscItem::MoveVerticalPosition(by) => {
+                let at = NextLines::At(vertical_moved(*by, self.page.vertical));
+                Effect::Lays(at).if_done(is_vertical_move(*by, self.page.vertical))
+            }
             EscItem::Area {
                 x,
                 y,
                 width,
                 height,
-            } => Effect::Lays.if_done(is_area(self.paper, *x, *y, *width, *height)),
-            EscItem::Direction(s) => Effect::Lays.if_done(s.value.is_some()),
+            } => {
+                let area = area_cut(self.paper, *x, *y, *width, *height);
+                Effect::Lays(NextLines::Within(area)).if_done(is_area(
+                    self.paper, *x, *y, *width, *height,
+                ))
+            }
+            EscItem::Direction(s) => Effect::runs(s.value),
             EscItem::Cancel => Effect::Wipes,
-            EscItem::PrintPage | EscItem::FormFeed => Effect::PrintsPage,
+            EscItem::PrintPage => Effect::PrintsPage,
+            EscItem::FormFeed => Effect::EndsPage,
             EscItem::CarriageReturn
             | EscItem::Control(_)
             | EscItem::QrIgnored(_)

@@ -7,13 +7,14 @@ ghost use Rattle.vp_page.specs.declared.line.TheConstants.{LINE_DOTS};
 ghost use Rattle.vp_receipt_settings.specs.Setup.{Setup};
 ghost use Rattle.vp_receipt_settings.specs.Pages.{is_paged, is_area, area_cut, direction_of, direction_or, is_vertical_move, vertical_moved, vertical_after, raised, area};
 ghost use Rattle.vp_receipt_settings.specs.History.{settings_of, page_of, symbol_top, lays, line, symbol_top, begins_page, mode, vertical, used, IsFit, IsFitPage};
-ghost use Rattle.vp_receipt_settings.specs.Effects.{effect_of, rows_of, lays_it};
+ghost use Rattle.vp_receipt_settings.specs.Followed.{IsWithin, lays_rows, page_going, page_after};
+ghost use Rattle.vp_receipt_settings.specs.declared.effect.Effect.{Effect};
 ghost use Rattle.vp_receipt_settings.specs.Runs.{below};
 ghost use Rattle.vp_receipt_settings.specs.Symbols.{symbol_image, image_rows};
 ghost use Rattle.vp_receipt_settings.specs.Rasters.{is_row_end, raster_scale, times_down};
 ghost use Rattle.vp_receipt_settings.specs.History.{printed_rows};
 
-use crate::effect::Effect;
+use crate::effect::{Effect, NextLines};
 use crate::settings::Settings;
 use crate::width::Width;
 use vp_esc::item::{self, EscItem};
@@ -40,7 +41,7 @@ pub struct PageSettings {
 }
 
 /// The direction that ESC T names.
-fn direction_of(direction: item::Direction) -> Direction
+pub(crate) fn direction_of(direction: item::Direction) -> Direction
     ensures { result ≡ direction_of direction }
 {
     match direction {
@@ -59,7 +60,7 @@ pub(crate) fn is_area(paper: Width, x: u16, y: u16, wide: u16, high: u16) -> boo
 }
 
 /// An area that ends at the page's edges.
-fn area_cut(paper: Width, x: u16, y: u16, wide: u16, high: u16) -> Area
+pub(crate) fn area_cut(paper: Width, x: u16, y: u16, wide: u16, high: u16) -> Area
     ensures { result ≡ area_cut paper x y wide high }
 {
     Area {
@@ -83,7 +84,7 @@ pub(crate) fn is_vertical_move(by: i16, vertical: u16) -> bool
 }
 
 /// The vertical position moved.
-fn vertical_moved(by: i16, vertical: u16) -> u16
+pub(crate) fn vertical_moved(by: i16, vertical: u16) -> u16
     ensures { result ≡ vertical_moved by vertical }
 {
     let far = by.unsigned_abs();
@@ -159,37 +160,26 @@ impl PageSettings {
         PageSettings { vertical, ..self }
     }
 
-    /// The settings where an area is set.
-    fn within(self, area: Area) -> PageSettings
-        requires down { area.y + area.dy ≤ PAGE_ROWS }
-        ensures value { result ≡ record self {
-          area = area;
-          vertical = 0;
-          used = raised true area self.used;
-        } }
+    /// The settings where the next lines go elsewhere.
+    fn going(self, next: NextLines) -> PageSettings
+        requires fit { IsFitPage self }
+        requires within { IsWithin (Effect.Lays next) }
+        ensures value { result ≡ page_going next self }
+        ensures fit { IsFitPage result }
     {
-        PageSettings {
-            area,
-            vertical: 0,
-            used: raised(true, area, self.used),
-            ..self
-        }
-    }
-
-    /// The settings where a direction is set, if one is.
-    fn turned(self, direction: Option<item::Direction>) -> PageSettings
-        ensures { result ≡ record self {
-          direction = direction_or direction self.direction;
-          vertical = (if is_some direction then 0 else self.vertical);
-        } }
-    {
-        match direction {
-            Some(direction) => PageSettings {
-                direction: direction_of(direction),
+        match next {
+            NextLines::At(vertical) => self.at(vertical),
+            NextLines::Within(area) => PageSettings {
+                area,
+                vertical: 0,
+                used: raised(true, area, self.used),
+                ..self
+            },
+            NextLines::Along(direction) => PageSettings {
+                direction,
                 vertical: 0,
                 ..self
             },
-            None => self,
         }
     }
 
@@ -261,67 +251,54 @@ impl Settings {
         }
     }
 
-    /// The greatest lower edge after an effect, with so many rows of a symbol.
-    fn used_after(self, effect: Effect, symbol_rows: u32) -> u16
-        requires { IsFit self }
-        ensures value { result ≡ raised (nat_lt 0 (rows_of self effect)
-            || (nat_lt 0 symbol_rows || (lays_it effect && self.is_open))) self.page.area self.page.used }
-        ensures most { result ≤ PAGE_ROWS }
+    /// Whether rows are laid in the area by an effect, with so many rows of a symbol.
+    fn lays_rows(self, effect: Effect, symbol_rows: u32) -> bool
+        ensures { result ≡ lays_rows self effect symbol_rows }
     {
-        let lays = self.rows_of(effect) > 0 || (effect.lays() && self.is_open);
-        raised(lays || symbol_rows > 0, self.page.area, self.page.used)
+        self.rows_of(effect) > 0 || symbol_rows > 0 || (effect.lays() && self.is_open)
     }
 
-    /// What is in force on the page after an item that is no byte of a raster, with so many rows of a symbol.
-    pub fn page_after(self, item: &EscItem, effect: Effect, symbol_rows: u32) -> PageSettings
+    /// What is in force on the page after an effect, with so many rows of a symbol.
+    pub(crate) fn page_after(self, effect: Effect, symbol_rows: u32) -> PageSettings
         requires fit { IsFit self }
-        requires item { (byte : ℕ) → item.now ≡ EscItem.RasterByte byte → ⊥ }
-        requires effect { effect ≡ effect_of self item.now }
-        ensures settings { (setup : Setup) (before : List EscItem) → self ≡ settings_of setup before →
-            symbol_rows ≡ image_rows (symbol_image setup before item.now) →
-            result ≡ page_of setup (item.now ∷ before) }
+        requires within { IsWithin effect }
+        ensures value { result ≡ page_after self effect symbol_rows }
         ensures fit { IsFitPage result }
     {
+        let lays = self.lays_rows(effect, symbol_rows);
         let page = PageSettings {
-            used: self.used_after(effect, symbol_rows),
+            used: raised(lays, self.page.area, self.page.used),
             ..self.page
         };
-        match item {
-            EscItem::Character(_)
-            | EscItem::LineFeed
-            | EscItem::FeedDots(_)
-            | EscItem::FeedLines(_)
-            | EscItem::Raster { .. } => page.at(vertical_after(
-                page.vertical,
-                self.rows_of(effect),
-            )),
-            EscItem::Symbol { .. } | EscItem::QrPrint => {
-                page.at(vertical_after(self.symbol_top(), symbol_rows))
+        match effect {
+            Effect::Breaks { .. } | Effect::Feeds(_) | Effect::BeginsRaster(_) => {
+                page.at(vertical_after(page.vertical, self.rows_of(effect)))
             }
-            EscItem::VerticalPosition(vertical) => page.at(*vertical),
-            EscItem::MoveVerticalPosition(by) => page.at(vertical_moved(*by, page.vertical)),
-            EscItem::Area {
-                x,
-                y,
-                width,
-                height,
-            } if is_area(self.paper, *x, *y, *width, *height) => page.within(area_cut(
-                self.paper, *x, *y, *width, *height,
+            Effect::Draws => page.at(vertical_after(
+                vertical_after(page.vertical, self.rows_of(effect)),
+                symbol_rows,
             )),
-            EscItem::Direction(s) => page.turned(s.value),
-            EscItem::Cancel => page.at(0),
-            EscItem::PageMode if self.begins_page() => PageSettings {
+            Effect::Lays(next) => page.going(next),
+            Effect::Wipes => page.at(0),
+            Effect::BeginsPage => PageSettings {
                 mode: Mode::Page,
                 vertical: 0,
                 used: 0,
                 ..page
             },
-            EscItem::StandardMode | EscItem::FormFeed => PageSettings {
+            Effect::LeavesPage | Effect::EndsPage => PageSettings {
                 mode: Mode::Standard,
                 ..page
             },
-            EscItem::Initialize => PageSettings::start(self.paper),
-            _ => page,
+            Effect::Nothing
+            | Effect::Sets
+            | Effect::Moves(_)
+            | Effect::Tabs
+            | Effect::Initializes
+            | Effect::Puts(_)
+            | Effect::Cuts { .. }
+            | Effect::Fills(_)
+            | Effect::PrintsPage => page,
         }
     }
 }

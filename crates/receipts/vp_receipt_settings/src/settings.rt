@@ -10,17 +10,18 @@ ghost use Rattle.vp_receipt_settings.specs.Tabs.{tab_stops, tabbed};
 ghost use Rattle.vp_receipt_settings.specs.Symbols.{symbol_image, image_rows, bar_style_of, qr_style_of};
 ghost use Rattle.vp_receipt_settings.specs.Texts.{text_of, style_of};
 ghost use Rattle.vp_receipt_settings.specs.Runs.{text_room};
-ghost use Rattle.vp_receipt_settings.specs.Effects.{effect_of, feed_of, lays_it};
+ghost use Rattle.vp_receipt_settings.specs.Effects.{effect_of, feed_of};
+ghost use Rattle.vp_receipt_settings.specs.Followed.{IsWithin, closed, closed_if, without_line, without_line_if, with_piece, with_cell, with_set, line_after};
+ghost use Rattle.vp_receipt_settings.specs.declared.text.TheConstants.{LINE_ROWS, WIDEST};
 ghost use Rattle.vp_glyph.specs.Cells.{cell_width};
 ghost use Rattle.vp_receipt_settings.specs.History.{settings_of, line_settings_of, lines_rows, IsFit, length_within, length_of, breaks, column_width_of, ended_rows, position_moved, position_at, justification_or, margin_or, width_or, line, position, line_spacing, line_length, column_width, left_margin, area_width, justification};
 
 use crate::bar_style::BarStyle;
 use crate::column::Column;
-use crate::effect::Effect;
+use crate::effect::{Effect, NextLines, Piece};
 use crate::page_mode::{Mode, PageSettings};
 use crate::qr_style::QrStyle;
-use crate::raster::draws;
-use crate::text::Text;
+use crate::text::{LINE_ROWS, Text, WIDEST};
 use crate::width::Width;
 use vp_esc::item::{ColumnMode, EscItem, Justification};
 
@@ -76,7 +77,7 @@ fn after_tab(stops: &[u32], position: u16, length: u16) -> u16
 }
 
 /// The position moved within the line.
-fn moved(by: i16, position: u16, length: u16) -> u16
+pub(crate) fn moved(by: i16, position: u16, length: u16) -> u16
     ensures value { result ≡ position_moved by position length }
     ensures small { result ≤ max position length }
 {
@@ -92,7 +93,7 @@ fn moved(by: i16, position: u16, length: u16) -> u16
 }
 
 /// The position, where the line reaches so far.
-fn placed(n: u16, position: u16, length: u16) -> u16
+pub(crate) fn placed(n: u16, position: u16, length: u16) -> u16
     ensures value { result ≡ position_at n position length }
     ensures small { result ≤ max position length }
 {
@@ -202,7 +203,7 @@ impl Settings {
 
     /// The settings with no line.
     fn closed(self) -> Settings
-        ensures { result ≡ record self { position = 0; is_open = false; height = 0; right_edge = 0 } }
+        ensures { result ≡ closed self }
     {
         Settings {
             position: 0,
@@ -215,7 +216,7 @@ impl Settings {
 
     /// The settings with no line, at the same position.
     fn without_line(self) -> Settings
-        ensures { result ≡ record self { is_open = false; height = 0; right_edge = 0 } }
+        ensures { result ≡ without_line self }
     {
         Settings {
             position: self.position,
@@ -223,21 +224,45 @@ impl Settings {
         }
     }
 
-    fn after_character(self, code: u8) -> Settings
-        requires { IsFit self }
-        ensures settings { (setup : Setup) (before : List EscItem) → self ≡ settings_of setup before →
-            result ≡ line_settings_of setup self.page (EscItem.Character code ∷ before) }
+    /// The settings with no line at the same position, if it is ended.
+    fn without_line_if(self, ends: bool) -> Settings
+        ensures { result ≡ without_line_if ends self }
+    {
+        if ends { self.without_line() } else { self }
+    }
+
+    /// The settings with no line, if it is ended.
+    fn closed_if(self, ends: bool) -> Settings
+        ensures { result ≡ closed_if ends self }
+    {
+        if ends { self.closed() } else { self }
+    }
+
+    /// The settings with a piece so wide and high in the line.
+    fn with_piece(self, wide: u16, high: u16) -> Settings
+        requires fit { IsFit self }
+        requires wide { wide ≤ WIDEST }
+        requires high { high ≤ LINE_ROWS }
+        ensures value { result ≡ with_piece self wide high }
         ensures fit { IsFit result }
     {
-        let line = if self.breaks() { self.closed() } else { self };
-        let edge = line.position + self.text.advance();
+        let edge = self.position + wide;
         Settings {
             position: edge.min(self.line_length()),
             is_open: true,
-            height: line.height.max(self.text.height()),
-            right_edge: line.right_edge.max(edge),
+            height: high.max(self.height),
+            right_edge: edge.max(self.right_edge),
             ..self
         }
+    }
+
+    /// The settings with a character in the line.
+    fn with_cell(self) -> Settings
+        requires { IsFit self }
+        ensures value { result ≡ with_cell self }
+        ensures fit { IsFit result }
+    {
+        self.with_piece(self.text.advance(), self.text.height())
     }
 
     /// How many characters go into the line before one could break it.
@@ -296,47 +321,11 @@ impl Settings {
         }
     }
 
-    fn after_column(self) -> Settings
-        requires { IsFit self }
-        ensures eight { (setup : Setup) (before : List EscItem) (byte : ℕ) →
-            self ≡ settings_of setup before →
-            result ≡ line_settings_of setup self.page (EscItem.Column8 byte ∷ before) }
-        ensures more { (setup : Setup) (before : List EscItem) (bytes : List ℕ) →
-            self ≡ settings_of setup before →
-            result ≡ line_settings_of setup self.page (EscItem.Column24 bytes ∷ before) }
-        ensures fit { IsFit result }
-    {
-        if !self.takes_column() {
-            return self;
-        }
-        let edge = self.position + self.column_width as u16;
-        Settings {
-            position: edge.min(self.line_length()),
-            is_open: true,
-            height: self.height.max(24),
-            right_edge: self.right_edge.max(edge),
-            ..self
-        }
-    }
-
     /// The settings at another position.
     fn at(self, position: u16) -> Settings
         ensures { result ≡ record self { position = position } }
     {
         Settings { position, ..self }
-    }
-
-    /// Those at the start, with the page as it is.
-    fn initialized(self) -> Settings
-        requires { IsFit self }
-        ensures settings { (setup : Setup) → setup.width ≡ self.paper →
-            result ≡ line_settings_of setup self.page [] }
-        ensures fit { IsFit result }
-    {
-        Settings {
-            page: self.page,
-            ..Settings::start(self.paper)
-        }
     }
 
     /// The settings with dots of columns so wide.
@@ -404,21 +393,12 @@ impl Settings {
         }
     }
 
-    /// The settings after an item that has to do neither with the line nor with its position.
-    fn after_setting(self, item: &EscItem) -> Settings
+    /// The settings with what an item sets that has to do neither with the line nor with the page.
+    fn set(self, item: &EscItem) -> Settings
         requires fit { IsFit self }
         requires item { item.now ≡ EscItem.Initialize → ⊥ }
         ensures settings { (setup : Setup) (before : List EscItem) → self ≡ settings_of setup before →
-            result ≡ record self {
-              text = text_of (item.now ∷ before);
-              bars = bar_style_of (item.now ∷ before);
-              qr = qr_style_of (item.now ∷ before);
-              line_spacing = line_spacing (item.now ∷ before);
-              column_width = column_width (item.now ∷ before);
-              left_margin = left_margin setup (item.now ∷ before);
-              area_width = area_width setup (item.now ∷ before);
-              justification = justification setup (item.now ∷ before);
-            } }
+            result ≡ with_set setup before item.now self }
         ensures fit { IsFit result }
     {
         match item {
@@ -437,11 +417,29 @@ impl Settings {
         }
     }
 
-    /// Whether an effect lays the line of a page where it is.
-    fn lays_here(self, effect: Effect) -> bool
-        ensures { result ≡ (lays_it effect && is_paged self.page.mode) }
+    /// The line after an effect that neither sets nor initializes, at these tab stops.
+    fn line_after(self, effect: Effect, stops: &[u32]) -> Settings
+        requires fit { IsFit self }
+        requires within { IsWithin effect }
+        ensures value { result ≡ line_after self effect stops.now }
+        ensures fit { IsFit result }
     {
-        self.page.is_paged() && effect.lays()
+        let is_paged = self.page.is_paged();
+        match effect {
+            Effect::Moves(to) => self.at(to),
+            Effect::Tabs => self.at(after_tab(stops, self.position, self.line_length())),
+            Effect::Puts(Piece::Character(_)) => self.with_cell(),
+            Effect::Puts(_) => self.with_piece(u16::from(self.column_width), 24),
+            Effect::Breaks { .. } => self.closed().with_cell(),
+            Effect::Feeds(_) | Effect::BeginsRaster(_) | Effect::Draws | Effect::LeavesPage => {
+                self.closed()
+            }
+            Effect::BeginsPage => self.at(0),
+            Effect::Cuts { .. } => self.closed_if(!is_paged),
+            Effect::Lays(NextLines::At(_)) | Effect::PrintsPage => self.without_line_if(is_paged),
+            Effect::Lays(_) | Effect::Wipes | Effect::EndsPage => self.closed_if(is_paged),
+            Effect::Nothing | Effect::Sets | Effect::Initializes | Effect::Fills(_) => self,
+        }
     }
 
     /// The settings after an item that is no byte of a raster, with these tab stops, and so many rows of a
@@ -455,46 +453,13 @@ impl Settings {
             result ≡ settings_of setup (item.now ∷ before) }
         ensures fit { IsFit result }
     {
-        Settings {
-            page: self.page_after(item, effect, symbol_rows),
-            ..self.after_in_line(item, effect, stops)
-        }
-    }
-
-    /// The same, with the page as it was.
-    fn after_in_line(self, item: &EscItem, effect: Effect, stops: &[u32]) -> Settings
-        requires fit { IsFit self }
-        requires effect { effect ≡ effect_of self item.now }
-        ensures settings { (setup : Setup) (before : List EscItem) → self ≡ settings_of setup before →
-            stops.now ≡ tab_stops before → result ≡ line_settings_of setup self.page (item.now ∷ before) }
-        ensures fit { IsFit result }
-    {
-        match item {
-            EscItem::Character(code) => self.after_character(*code),
-            EscItem::Column8(_) | EscItem::Column24(_) => self.after_column(),
-            EscItem::Tab => self.at(after_tab(stops, self.position, self.line_length())),
-            EscItem::Position(n) => self.at(placed(*n, self.position, self.line_length())),
-            EscItem::MovePosition(n) => self.at(moved(*n, self.position, self.line_length())),
-            EscItem::LineFeed
-            | EscItem::FeedDots(_)
-            | EscItem::FeedLines(_)
-            | EscItem::Symbol { .. }
-            | EscItem::QrPrint => self.closed(),
-            EscItem::Raster { scale, bytes, rows } if draws(scale.value, *bytes, *rows) =>
-                self.closed(),
-            EscItem::CutLeavingOnePoint
-            | EscItem::CutLeavingThreePoints
-            | EscItem::Cut(_)
-            | EscItem::FeedAndCut { .. }
-                if !self.page.is_paged() => { self.closed() }
-            EscItem::StandardMode if self.page.is_paged() => self.closed(),
-            EscItem::PageMode if self.begins_page() => self.at(0),
-            EscItem::VerticalPosition(_) | EscItem::MoveVerticalPosition(_) | EscItem::PrintPage
-                if self.lays_here(effect) => { self.without_line() }
-            EscItem::Area { .. } | EscItem::Direction(_) | EscItem::FormFeed | EscItem::Cancel
-                if self.lays_here(effect) => { self.closed() }
-            EscItem::Initialize => self.initialized(),
-            _ => self.after_setting(item),
+        match effect {
+            Effect::Initializes => Settings::start(self.paper),
+            Effect::Sets => self.set(item),
+            _ => Settings {
+                page: self.page_after(effect, symbol_rows),
+                ..self.line_after(effect, stops)
+            },
         }
     }
 }
