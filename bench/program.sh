@@ -47,6 +47,14 @@ listed() {
     echo "$list $dump $bytes" | awk -v name="$1" '{ printf "listing of %s: %d bytes, %.1f ms, od %.1f ms, %.2f times od\n", name, $3, $1 / 1e6, $2 / 1e6, $1 / $2 }'
 }
 
+# placed NAME FILE: the lines of a file with their places, beside those without
+placed() {
+    list=$(seconds "$scratch/lines" "$vp" list --lang receipt "$2")
+    with=$(seconds "$scratch/lines" "$vp" list --lang receipt --offsets "$2")
+    bytes=$(wc -c < "$2")
+    echo "$with $list $bytes" | awk -v name="$1" '{ printf "listing of %s with places: %d bytes, %.1f ms, without %.1f ms, %.2f times that\n", name, $3, $1 / 1e6, $2 / 1e6, $1 / $2 }'
+}
+
 # repeated NUMBER FILE: the file so many times
 repeated() {
     for _ in $(seq "$1"); do cat "$2"; done
@@ -59,6 +67,7 @@ measure receipt raster "$scratch/raster"
 # 20 MB of a raster, and of its lines the most memory that the program held
 { printf '\035v0\000\000\004\000\120'; head -c 20971520 /dev/urandom; } > "$scratch/long"
 listed raster "$scratch/long"
+placed raster "$scratch/long"
 /usr/bin/time -f 'listing: %e s, %M KB at most' "$vp" list --lang receipt "$scratch/long" > /dev/null
 
 # a day of 1,000 receipts of 30 lines, each another

@@ -9,6 +9,8 @@ pub mod Rasters
 pub mod ByteLines
 pub mod Labels
 pub mod Offsets
+pub mod OffsetLines
+pub mod OffsetRuns
 pub mod Listings
 pub mod Whole
 pub mod Desks

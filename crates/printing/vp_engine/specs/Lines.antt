@@ -1,7 +1,8 @@
 -- The lines of a listing.
-use Rattle.std.specs.Prelude.{ℕ, List, flat_map}
+use Rattle.std.specs.Prelude.{ℕ, suc, List, [], ◌∷◌, ◌++◌, flat_map}
 use Rattle.vp_esc.specs.declared.item.EscItem.TheVariants.{RasterByte}
 use Rattle.vp_esc.specs.Lines.{line_of}
+use Rattle.vp_engine.specs.Offsets.{offset_line}
 
 -- what is still to be put out of the last line, and how many lines there were
 pub record Listed : Type 0 where
@@ -11,3 +12,9 @@ pub record Listed : Type 0 where
 -- the lines of bytes of data
 abbrev pub byte_lines : List ℕ → List ℕ
 byte_lines bytes = flat_map (λ b. line_of (RasterByte b)) bytes
+
+-- the same, each behind its place, where so many bytes are taken before them
+abbrev pub byte_lines_after : ℕ → List ℕ → List ℕ
+byte_lines_after taken [] = []
+byte_lines_after taken (byte ∷ bytes) =
+    offset_line (suc taken) (line_of (RasterByte byte)) ++ byte_lines_after (suc taken) bytes

@@ -1,10 +1,12 @@
 //! The lines of a listing: each is put out before the next begins.
 ghost use Rattle.std.specs.Prelude.{◌≡◌, ◌≤◌, ◌<◌, ◌*◌, ◌++◌, ◌↔◌, [], IsTrue, length, min, take, drop};
 ghost use Rattle.vp_streams.specs.Count.{grown};
-ghost use Rattle.vp_engine.specs.Lines.{byte_lines};
+ghost use Rattle.vp_engine.specs.Lines.{byte_lines, byte_lines_after};
+ghost use Rattle.vp_engine.specs.declared.offset.TheConstants.{LONGEST_BYTE_LINE};
 ghost use Rattle.vp_esc.specs.Lines.{line_of};
 ghost use Rattle.vp_esc.specs.declared.item.EscItem.TheVariants.{RasterByte};
 
+use crate::offset::put_byte_lines_after;
 use arrayvec::ArrayVec;
 use std::marker::Model;
 
@@ -84,6 +86,20 @@ impl Lines {
     {
         put_byte_lines(bytes, output);
         self.count = self.count.saturating_add(bytes.len() as u64);
+    }
+
+    /// Puts out the whole lines of bytes of data behind their places, where so many bytes are taken before
+    /// them, nothing is pending and there is room for the longest lines, and gives how long they are.
+    pub fn put_bytes_after(&mut self, taken: u64, bytes: &[u8], output: &mut [u8]) -> usize
+        requires idle { self.old.pending ≡ [] }
+        requires room { LONGEST_BYTE_LINE * length bytes.now ≤ length output.old }
+        ensures put { result ≡ length (byte_lines_after taken bytes.now) }
+        ensures bytes { output.new ≡ byte_lines_after taken bytes.now ++ drop result output.old }
+        ensures pending { self.new.pending ≡ [] }
+        ensures count { self.new.count ≡ grown self.old.count (length bytes.now) }
+    {
+        self.count = self.count.saturating_add(bytes.len() as u64);
+        put_byte_lines_after(taken, bytes, output)
     }
 
     /// How many lines there were.

@@ -15,7 +15,7 @@ ghost use Rattle.vp_zpl.specs.Shown.{shown_item};
 use crate::held::{Held, NOTHING};
 use crate::laws::items_grow;
 use crate::lines::Lines;
-use crate::offset::{offset_byte_lines, offset_line};
+use crate::offset::{LONGEST_BYTE_LINE, offset_byte_lines, offset_line};
 use arrayvec::ArrayVec;
 use std::alloc::{AllocError, Global};
 use vp_dots::Fault;
@@ -367,8 +367,30 @@ impl Machine {
                 let put = 8 * n;
                 Moved { taken: n, put }
             }
-            Machine::ReceiptOffsets { .. } => Moved { taken: 0, put: 0 },
-            Machine::LabelOffsets { .. } => Moved { taken: 0, put: 0 },
+            Machine::ReceiptOffsets {
+                reader,
+                lines,
+                taken,
+            } => {
+                items_grow();
+                let room = input.len().min(output.len() / LONGEST_BYTE_LINE);
+                let n = reader.take_raster(&input[..room]);
+                let put = lines.put_bytes_after(*taken, &input[..n], output);
+                *taken = taken.saturating_add(n as u64);
+                Moved { taken: n, put }
+            }
+            Machine::LabelOffsets {
+                reader,
+                lines,
+                taken,
+            } => {
+                items_grow();
+                let room = input.len().min(output.len() / LONGEST_BYTE_LINE);
+                let n = reader.take_data(&input[..room]);
+                let put = lines.put_bytes_after(*taken, &input[..n], output);
+                *taken = taken.saturating_add(n as u64);
+                Moved { taken: n, put }
+            }
         }
     }
 

@@ -1,6 +1,7 @@
-use Rattle.std.proofs.Common.{[], ◌≡◌, ◌≤◌, ◌*◌, ◌++◌, ℕ, List, take, drop, length, reverse, None, sym, ap, subst, ◌∙◌, arith}
+use Rattle.std.proofs.Common.{[], ◌≡◌, ◌≤◌, ◌*◌, ◌++◌, ℕ, List, take, drop, length, reverse, None, refl, sym, ap, subst, ◌∙◌, arith}
 use Rattle.std.proofs.lemmas.List.{take-take, length-take-le, take_at, drop_at, append-nil}
 use Rattle.vp_esc.specs.declared.item.EscItem.{EscItem}
+use Rattle.vp_esc.specs.declared.item.EscItem.TheVariants.{RasterByte}
 use Rattle.vp_esc.specs.Reader.{Stands as EscStands, raster_items, text_items}
 use Rattle.vp_esc.specs.declared.reader.EscReader.{EscReader}
 use Rattle.vp_receipt_settings.specs.Runs.{text_after}
@@ -8,19 +9,24 @@ use Rattle.vp_engine.proofs.Texts.{accepted_text}
 use Rattle.vp_esc.specs.Split.{items, fault_of}
 use Rattle.vp_esc.specs.Lines.{line_of}
 use Rattle.vp_zpl.specs.Items.{data_items}
+use Rattle.vp_zpl.specs.Items.Item.{Data}
 use Rattle.vp_zpl.specs.Reader.{Stands as ZplStands}
 use Rattle.vp_zpl.specs.Items as zpl
 use Rattle.vp_zpl.specs.Lines as zpl_lines
 use Rattle.vp_label.specs.Standing.{Stands as LabelStands}
 use Rattle.vp_streams.specs.Count.{counted, grown}
-use Rattle.vp_engine.specs.Lines.{byte_lines}
+use Rattle.vp_engine.specs.Lines.{byte_lines, byte_lines_after}
+use Rattle.vp_engine.specs.Machines.{AreLines}
+use Rattle.vp_engine.specs.Offsets.{Placed, with_offsets, placed_line}
+use Rattle.vp_language.specs.declared.language.Language.TheVariants as languages
 use Rattle.vp_engine.specs.Paper.{listing, printed}
-use Rattle.vp_engine.specs.Setups.{Receipts, Labels, rules_of, esc_reading, zpl_reading}
+use Rattle.vp_engine.specs.Setups.{Receipts, Labels, Listing, rules_of, esc_reading, zpl_reading}
 use Rattle.vp_engine.specs.Takes.{TakesRun}
-use Rattle.vp_engine.proofs.Arms.{at_receipt, at_lines, at_label, at_label_lines}
+use Rattle.vp_engine.proofs.Arms.{at_receipt, at_lines, at_label, at_label_lines, at_offsets, at_label_offsets}
 use Rattle.vp_engine.proofs.ByteLines.{lines_length}
 use Rattle.vp_engine.proofs.Listings.{lines_more}
 use Rattle.vp_engine.proofs.Rasters.{known_run, accepted_bytes, printed_same, all_listed, printed_lines, raster_length, lines_of_bytes}
+use Rattle.vp_engine.proofs.OffsetRuns.{takes_after}
 use Rattle.vp_engine.proofs.Labels.{data_length, lines_of_data, all_accepted, all_printed}
 use Rattle.vp_engine.proofs.machine.Machine.take_run.Goals as goal
 
@@ -182,3 +188,72 @@ returns-in-LabelLines-clause-takes c = at_label_lines _ _ _ _ c.in-LabelLines.is
       prints = printed_lines zpl_reading zpl_lines.line_of (data_items (take n input)) before ∙ ap (λ x. printed (listing zpl_reading zpl_lines.line_of) before ++ x) (lines_of_data (take n input) ∙ text);
       stands = (subst (λ x. ZplStands c.take_data-n-in-LabelLines.new.self (t ++ x)) front (e.stands t at.0), lines_more _ _ n before (data_items (take n input)) at.1 (c.put_bytes-in-LabelLines.ensures.count ∙ ap (grown c.in-LabelLines.lines.count) short) (data_length (take n input) ∙ short));
     })
+
+pub returns-in-ReceiptOffsets-clause-rest : goal.returns-in-ReceiptOffsets-clause-rest
+returns-in-ReceiptOffsets-clause-rest c =
+    let e = c.put_bytes_after-put.ensures in
+    let put = c.put_bytes_after-put.result in
+    let lines = byte_lines_after c.in-ReceiptOffsets.taken (take c.take_raster-n-in-ReceiptOffsets.result c.args.input.now) in
+    ap (drop put) e.bytes ∙ drop_at lines (drop put c.args.output.now) put (sym e.put)
+
+pub returns-in-ReceiptOffsets-clause-takes : goal.returns-in-ReceiptOffsets-clause-takes
+returns-in-ReceiptOffsets-clause-takes c =
+    let e = c.take_raster-n-in-ReceiptOffsets.ensures in
+    let p = c.put_bytes_after-put.ensures in
+    let put = c.put_bytes_after-put.result in
+    let n = c.take_raster-n-in-ReceiptOffsets.result in
+    let room = c.min-room-in-ReceiptOffsets.result in
+    let input = c.args.input.now in
+    let taken = c.in-ReceiptOffsets.taken in
+    let within : room ≤ length input = omega (arith, c.min-room-in-ReceiptOffsets.ensures) in
+    let long : length (take room input) ≡ room = length-take-le room input within in
+    let less : n ≤ room = omega (arith, e.fits, long) in
+    let front : take n (take room input) ≡ take n input = take-take n room input less in
+    let short : length (take n input) ≡ n = length-take-le n input (omega arith) in
+    let text : take put c.put_bytes_after-put.new.output ≡ byte_lines_after taken (take n input) =
+    ap (take put) p.bytes ∙ take_at (byte_lines_after taken (take n input)) (drop put c.args.output.now) put (sym p.put) in
+    let each : (k : ℕ) → k ≤ n → take k (take n input) ≡ take k (take room input) =
+    λ k l. take-take k n input l ∙ sym (take-take k room input (omega (arith, l, less))) in
+    let runs : (t : List ℕ) (before : List (Placed EscItem)) → EscStands c.in-ReceiptOffsets.reader t × AreLines c.in-ReceiptOffsets.lines taken t before → fault_of t ≡ None →
+    TakesRun (listing (with_offsets esc_reading) (placed_line line_of)) (λ t before. EscStands c.take_raster-n-in-ReceiptOffsets.new.self t × AreLines c.put_bytes_after-put.new.self c.saturating_add.result t before) t before (take n input) (take put c.put_bytes_after-put.new.output) =
+    λ t before at known. takes_after esc_reading line_of RasterByte (λ b. refl) (c.items_grow.ensures (Listing languages.Receipt)).grows (EscStands c.take_raster-n-in-ReceiptOffsets.new.self)
+    c.in-ReceiptOffsets.lines c.put_bytes_after-put.new.self taken c.saturating_add.result n t (take n input) (take put c.put_bytes_after-put.new.output) before at.1
+    (λ k l. let within : k ≤ n = omega (arith, l, short) in
+    ap (λ x. items (t ++ x)) (each k within) ∙ e.gives t k at.0 within ∙ ap (λ x. items t ++ raster_items x) (sym (each k within)))
+    (known_run t (take room input) (take n input) n front known (λ some. e.known t n at.0 some (omega arith)))
+    (subst (λ x. EscStands c.take_raster-n-in-ReceiptOffsets.new.self (t ++ x)) front (e.stands t at.0))
+    text short (p.count ∙ ap (grown c.in-ReceiptOffsets.lines.count) short) (omega (arith, c.saturating_add.ensures)) in
+    at_offsets _ _ _ _ _ c.in-ReceiptOffsets.is runs runs
+
+pub returns-in-LabelOffsets-clause-rest : goal.returns-in-LabelOffsets-clause-rest
+returns-in-LabelOffsets-clause-rest c =
+    let e = c.put_bytes_after-put-in-LabelOffsets.ensures in
+    let put = c.put_bytes_after-put-in-LabelOffsets.result in
+    let lines = byte_lines_after c.in-LabelOffsets.taken (take c.take_data-n-in-LabelOffsets.result c.args.input.now) in
+    ap (drop put) e.bytes ∙ drop_at lines (drop put c.args.output.now) put (sym e.put)
+
+pub returns-in-LabelOffsets-clause-takes : goal.returns-in-LabelOffsets-clause-takes
+returns-in-LabelOffsets-clause-takes c = at_label_offsets _ _ _ _ _ c.in-LabelOffsets.is (λ t before at known.
+    let e = c.take_data-n-in-LabelOffsets.ensures in
+    let p = c.put_bytes_after-put-in-LabelOffsets.ensures in
+    let put = c.put_bytes_after-put-in-LabelOffsets.result in
+    let n = c.take_data-n-in-LabelOffsets.result in
+    let room = c.min-room-in-LabelOffsets.result in
+    let input = c.args.input.now in
+    let taken = c.in-LabelOffsets.taken in
+    let within : room ≤ length input = omega (arith, c.min-room-in-LabelOffsets.ensures) in
+    let long : length (take room input) ≡ room = length-take-le room input within in
+    let less : n ≤ room = omega (arith, e.fits, long) in
+    let front : take n (take room input) ≡ take n input = take-take n room input less in
+    let short : length (take n input) ≡ n = length-take-le n input (omega arith) in
+    let text : take put c.put_bytes_after-put-in-LabelOffsets.new.output ≡ byte_lines_after taken (take n input) =
+    ap (take put) p.bytes ∙ take_at (byte_lines_after taken (take n input)) (drop put c.args.output.now) put (sym p.put) in
+    let each : (k : ℕ) → k ≤ n → take k (take n input) ≡ take k (take room input) =
+    λ k l. take-take k n input l ∙ sym (take-take k room input (omega (arith, l, less))) in
+    takes_after zpl_reading zpl_lines.line_of Data (λ b. refl) (c.items_grow-in-LabelOffsets.ensures (Listing languages.Label)).grows (ZplStands c.take_data-n-in-LabelOffsets.new.self)
+    c.in-LabelOffsets.lines c.put_bytes_after-put-in-LabelOffsets.new.self taken c.saturating_add-in-LabelOffsets.result n t (take n input) (take put c.put_bytes_after-put-in-LabelOffsets.new.output) before at.1
+    (λ k l. let within : k ≤ n = omega (arith, l, short) in
+    ap (λ x. zpl.items (t ++ x)) (each k within) ∙ e.gives t k at.0 within ∙ ap (λ x. zpl.items t ++ data_items x) (sym (each k within)))
+    known
+    (subst (λ x. ZplStands c.take_data-n-in-LabelOffsets.new.self (t ++ x)) front (e.stands t at.0))
+    text short (p.count ∙ ap (grown c.in-LabelOffsets.lines.count) short) (omega (arith, c.saturating_add-in-LabelOffsets.ensures)))
