@@ -75,7 +75,10 @@ glyph_inside sheet c x y e =
 pub ready_of : (sheet : Glyphs) (rows : List ℕ) (c w h first n : ℕ) (inked : Inked) → IsCut sheet rows → c < 256 → first ≡ sheet.high * c → n ≡ sheet.high → sheet.wide ≤ w → sheet.high ≤ h
     → IsInked (take n (drop first rows)) inked
     → IsReady h inked.first (take (inked.below - inked.first) (drop inked.first (take n (drop first rows)))) (glyph_dot sheet c) × ((x y : ℕ) → glyph_dot sheet c x y ≡ true → (x < w) × (y < h))
-ready_of sheet rows c w h first n inked cut l f m wide high is = (record {
-  inside = omega (arith, m, is.order, is.inside, length-take n (drop first rows), length-take (inked.below - inked.first) (drop inked.first (take n (drop first rows))));
-  dots_are = λ x y. inked_dot (take n (drop first rows)) inked x y is ∙ rows_are sheet rows c x y first n cut l f m;
-}, λ x y e. (let p = glyph_inside sheet c x y e in (omega (arith, p.0), omega (arith, p.1))))
+ready_of sheet rows c w h first n inked cut l f m wide high is = (
+  record {
+    inside = omega (arith, m, is.order, is.inside, length-take n (drop first rows), length-take (inked.below - inked.first) (drop inked.first (take n (drop first rows))));
+    dots_are = λ x y. inked_dot (take n (drop first rows)) inked x y is ∙ rows_are sheet rows c x y first n cut l f m;
+  },
+  λ x y e. (let p = glyph_inside sheet c x y e in (omega (arith, p.0), omega (arith, p.1))),
+)

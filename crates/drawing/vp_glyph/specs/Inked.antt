@@ -1,5 +1,5 @@
 -- Which rows of a cell have ink.
-use Rattle.std.specs.Prelude.{◌≡◌, ℕ, ◌+◌, ◌*◌, ◌<◌, ◌≤◌, List, length, slice_index, slice_index_or, take, drop, nat_le, nat_lt, ◌&&◌, false}
+use Rattle.std.specs.Prelude.{◌≡◌, ℕ, ◌*◌, ◌<◌, ◌≤◌, List, length, slice_index, slice_index_or, take, drop, nat_le, nat_lt, ◌&&◌, false}
 use Rattle.vp_glyph.specs.declared.sheet.Inked.{Inked}
 
 -- all rows are white but those from the first on to the last
