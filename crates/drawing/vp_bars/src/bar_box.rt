@@ -1,11 +1,11 @@
 //! A symbol with its text above or below, which can be painted.
 
-ghost use Rattle.std.specs.Prelude.{◌≡◌, ◌+◌, ◌-◌, ◌*◌, ◌<◌, ◌≤◌, ◌^◌, ◌&&◌, ◌+ℤ◌, pos, nat_le, length, FitsSigned};
+ghost use Rattle.std.specs.Prelude.{◌≡◌, ℕ, ◌+◌, ◌-◌, ◌*◌, ◌<◌, ◌≤◌, ◌^◌, ◌&&◌, ◌+ℤ◌, pos, nat_le, true, length, FitsSigned};
 ghost use Rattle.std.specs.Int.{w64};
 ghost use Rattle.vp_dots.specs.Dots.{shifted};
 ghost use Rattle.vp_dots.specs.Painting.{Painted};
 ghost use Rattle.vp_glyph.specs.Cells.{font_width, font_height, cell_dot, cell_width};
-ghost use Rattle.vp_bars.specs.Boxes.{texts_above, texts_below, line_dot, line_width, box_width, box_height, text_row, bars_row, box_dot, box_inside};
+ghost use Rattle.vp_bars.specs.Boxes.{Boxed, texts_above, texts_below, line_dot, line_width, box_width, box_height, text_row, bars_row, box_dot, box_inside};
 ghost use Rattle.vp_bars.specs.Texts.{text_of};
 ghost use Rattle.vp_bars.specs.Widths.{bars_width as width_of_bars};
 
@@ -184,6 +184,16 @@ impl Bars {
     }
 }
 
+/// Whether row y of a box is known to have the dots of the row above it, as two rows of bars have: of any
+/// symbol whose text stands in a place and whose bars are so high.
+pub fn rows_repeat(place: Place, font: Font, height: u16, y: u32) -> bool
+    ensures { result ≡ true → (b : Boxed) → b.place ≡ place → b.font ≡ font → b.height ≡ height
+        → (x : ℕ) → box_dot b x y ≡ box_dot b x (y - 1) }
+{
+    let top = place.above() * font.height();
+    y > top && y < top + u32::from(height)
+}
+
 impl BarBox<'_> {
     ghost use Rattle.vp_bars.specs.InBox.{boxed};
 
@@ -289,7 +299,6 @@ impl Ink for BarBox<'_> {
     }
 
     fn repeats(&self, y: u32) -> bool {
-        let top = self.top();
-        y > top && y < top + u32::from(self.height)
+        rows_repeat(self.place, self.font, self.height, y)
     }
 }

@@ -29,7 +29,7 @@ mod pen;
 mod strokes;
 mod text;
 
-pub use bar_box::{BarBox, Place};
+pub use bar_box::{BarBox, Place, rows_repeat};
 pub use bars::{Bars, Symbology};
 pub use code_39::code39;
 pub use ean_13::ean13;

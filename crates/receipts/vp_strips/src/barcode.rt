@@ -1,10 +1,11 @@
 //! The bar code of a command, in its box.
-ghost use Rattle.std.specs.Prelude.{◌≡◌, ◌≤◌, ◌<◌, OnOk, IfOk, IfErr, None, Some};
-ghost use Rattle.vp_bars.specs.Boxes.{box_width, box_height};
+ghost use Rattle.std.specs.Prelude.{◌≡◌, ◌≤◌, ◌<◌, ◌-◌, ℕ, true, OnOk, IfOk, IfErr, None, Some};
+ghost use Rattle.vp_glyph.specs.declared.Sheets.{Sheets};
+ghost use Rattle.vp_bars.specs.Boxes.{box_width, box_height, box_dot};
 ghost use Rattle.vp_strips.specs.SymbolInks.{box_of};
 ghost use Rattle.vp_receipt_settings.specs.Symbols.{IsFitBars, place_of, bars_of_kind, bars_of, bars_refusal, bars_image, box_image};
 
-use vp_bars::{BarBox, Bars, Place, code39, code128_esc, ean13};
+use vp_bars::{BarBox, Bars, Place, code39, code128_esc, ean13, rows_repeat};
 use vp_dots::{Fault, Ink, Why};
 use vp_esc::item::{BarKind, TextPlace};
 use vp_glyph::{Font, Sheets};
@@ -43,6 +44,14 @@ impl BarSymbol {
             self.font,
             self.place,
         )
+    }
+
+    /// Whether row y of the box is known to have the dots of the row above it.
+    pub fn repeats(&self, y: u32) -> bool
+        ensures { result ≡ true → (sheets : Sheets) (x : ℕ) →
+            box_dot (box_of sheets self.now) x y ≡ box_dot (box_of sheets self.now) x (y - 1) }
+    {
+        rows_repeat(self.place, self.font, self.height, y)
     }
 
     /// How wide and high the box is.

@@ -67,7 +67,7 @@ impl Symbol {
         match self {
             Symbol::Blank => true,
             Symbol::Qr(ink) => ink.repeats(y),
-            Symbol::Bars(bars) => bars.boxed(sheets).repeats(y),
+            Symbol::Bars(bars) => bars.repeats(y),
         }
     }
 
