@@ -1,5 +1,6 @@
 -- The columns in which a mask's formula is 0 repeat after six.
 use Rattle.std.proofs.Common.{◌≡◌, ℕ, suc, ◌+◌, ◌*◌, ◌/◌, ◌%◌, ◌^◌, ◌<◌, ◌&&◌, true, eqb, refl, sym, ap, ◌∙◌, arith, bit_or, pow-suc}
+use Rattle.std.proofs.Math.Nat.{mul_comm}
 use mathlib.Core.Bool.{beq}
 use Rattle.std.proofs.lemmas.Bool.{lt-ltb}
 use Rattle.std.proofs.lemmas.Nat.{mul-mod_second, or_lt, one_shl}
@@ -49,3 +50,21 @@ six_below six column h lt =
 
 pub six_kept : (six column : ℕ) → six < 2 ^ column → six < 2 ^ (column + 1)
 six_kept six column lt = omega (arith, twice column)
+
+-- and its rows after twelve
+pub formula_rows : (m i j : ℕ) → formula m (i % 12) j ≡ formula m i j
+formula_rows m i j =
+    let product : (j * (i % 12)) % 12 ≡ (j * i) % 12 = mul-mod_second j i 12 in
+    let e0 : (i % 12 + j) % 2 ≡ (i + j) % 2 = omega arith in
+    let e1 : i % 12 % 2 ≡ i % 2 = omega arith in
+    let e3 : (i % 12 + j) % 3 ≡ (i + j) % 3 = omega arith in
+    let e4 : (i % 12 / 2 + j / 3) % 2 ≡ (i / 2 + j / 3) % 2 = omega arith in
+    let two : (i % 12 * j) % 2 ≡ (i * j) % 2 = rw (mul_comm (i % 12) j, mul_comm i j) (even _ _ product) in
+    let three : (i % 12 * j) % 3 ≡ (i * j) % 3 = rw (mul_comm (i % 12) j, mul_comm i j) (third _ _ product) in
+    rw (e0, e1, e3, e4, two, three) refl
+  where
+    even : (a b : ℕ) → a % 12 ≡ b % 12 → a % 2 ≡ b % 2
+    even a b h = omega arith
+
+    third : (a b : ℕ) → a % 12 ≡ b % 12 → a % 3 ≡ b % 3
+    third a b h = omega arith

@@ -225,6 +225,17 @@ fn flips(mask: usize, row: usize) -> u64
     six * 0x0041_0410_4104_1041
 }
 
+/// The same of the first twelve rows, after which they repeat.
+fn flips_by_row(mask: usize) -> [u64; 12]
+    ensures { (i j : ℕ) → i < 12 → j < 57 → dark result i j ≡ (formula mask i j == 0) }
+{
+    let mut rows = [0; 12];
+    for row in 0..12usize {
+        rows[row] = flips(mask, row);
+    }
+    rows
+}
+
 /// The dark modules of a row where neither data nor format stand, from those that hold data.
 fn pattern_line(version: usize, code: u64, free: u64, row: usize) -> u64
     requires low { 1 ≤ version }
@@ -343,14 +354,15 @@ impl Grid {
     }
 
     /// A row of the finished symbol: the data under the mask, the patterns and the format.
-    fn line(&self, format: u64, mask: usize, row: usize) -> u64
+    fn line(&self, format: u64, flips: &[u64; 12], row: usize) -> u64
         requires grid { IsGrid self.now }
         requires row { row < size self.now.version }
-        ensures { (j : ℕ) → j < size self.now.version → is_set result j
+        ensures { (mask : ℕ) → ((i j : ℕ) → i < 12 → j < 57 → dark flips.now i j ≡ (formula mask i j == 0))
+            → (j : ℕ) → j < size self.now.version → is_set result j
             ≡ module_at self.now.version format (version_code self.now.version) mask
             (dark self.now.unmasked) row j }
     {
-        let flipped = (self.unmasked[row] ^ flips(mask, row)) & self.free[row];
+        let flipped = (self.unmasked[row] ^ flips[row % 12]) & self.free[row];
         flipped | self.patterns[row] | self.format_bits(format, row)
     }
 
@@ -363,9 +375,10 @@ impl Grid {
             (version_code self.now.version) mask (dark self.now.unmasked) i j }
     {
         let format = format_code(level, mask);
+        let flips = flips_by_row(mask);
         let mut rows = [0; 57];
         for row in 0..17 + 4 * self.version {
-            rows[row] = self.line(format, mask, row);
+            rows[row] = self.line(format, &flips, row);
         }
         rows
     }
