@@ -6,7 +6,8 @@ use Rattle.vp_esc.specs.declared.item.EscItem.{EscItem}
 use Rattle.vp_esc.specs.declared.item.EscItem.TheVariants.{CutLeavingOnePoint, CutLeavingThreePoints, Cut, FeedAndCut, RasterByte, Symbol, QrPrint}
 use Rattle.vp_esc.specs.declared.item.Cut.TheVariants.{Partial}
 use Rattle.vp_page.specs.Layers.{page_dot}
-use Rattle.vp_receipt_settings.specs.History.{mode, printed_rows}
+use Rattle.vp_receipt_settings.specs.Line.{mode}
+use Rattle.vp_receipt_settings.specs.Extent.{printed_rows}
 use Rattle.vp_receipt_settings.specs.Pages.{is_paged}
 use Rattle.vp_receipt_settings.specs.Rasters.{times_down, raster_scale}
 use Rattle.vp_receipt_settings.specs.Setup.{Setup, across}

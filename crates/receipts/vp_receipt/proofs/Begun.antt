@@ -10,7 +10,7 @@ use Rattle.vp_esc.specs.declared.item.EscItem.TheVariants.{Raster, RasterByte}
 use Rattle.vp_esc.specs.declared.item.RasterScale.{RasterScale}
 use Rattle.vp_esc.specs.declared.item.RasterScale.TheVariants.{Normal, DoubleWidth, DoubleHeight, Quadruple}
 use Rattle.vp_esc.specs.declared.item.Spelled.{Spelled}
-use Rattle.vp_receipt_settings.specs.History.{mode}
+use Rattle.vp_receipt_settings.specs.Line.{mode}
 use Rattle.vp_receipt_settings.specs.Pages.{is_paged}
 use Rattle.vp_receipt_settings.specs.Rasters.{draws, scale_or, times_across, times_down, raster_scale, raster_bytes, rows_to_come, row_so_far, is_row_end}
 use Rattle.vp_receipt_settings.specs.Setup.{Setup, across}

@@ -20,7 +20,8 @@ use Rattle.vp_receipt_settings.specs.Setup.{Setup}
 use Rattle.vp_receipt_settings.specs.Texts.{text_of}
 use Rattle.vp_receipt_settings.specs.Pages.{is_paged, is_area, area_cut, is_vertical_move, vertical_moved}
 use Rattle.vp_receipt_settings.specs.Rasters.{draws, scale_or, times_down}
-use Rattle.vp_receipt_settings.specs.History.{Placed, Frame, settings_of, line, mode, length_of, is_open, image_of, character}
+use Rattle.vp_receipt_settings.specs.Line.{Placed, Frame, line, mode, is_open, character}
+use Rattle.vp_receipt_settings.specs.Settings.{settings_of, length_of, image_of}
 use Rattle.vp_receipt_settings.specs.Effects.{effect_of, feed_of, is_full_of, is_page, waits_of, runs_along}
 use Rattle.vp_dots.specs.Images.{Image}
 use Rattle.vp_strips.specs.LineDots.{HasOpen}

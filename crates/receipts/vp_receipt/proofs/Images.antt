@@ -9,7 +9,8 @@ use Rattle.vp_esc.specs.declared.item.EscItem.TheVariants.{CutLeavingOnePoint, C
 use Rattle.vp_esc.specs.declared.item.Cut.TheVariants.{Partial}
 use Rattle.vp_page.specs.Layers.{page_dot}
 use Rattle.vp_receipt_settings.specs.declared.width.Width.{Width}
-use Rattle.vp_receipt_settings.specs.History.{mode, printed_rows}
+use Rattle.vp_receipt_settings.specs.Line.{mode}
+use Rattle.vp_receipt_settings.specs.Extent.{printed_rows}
 use Rattle.vp_receipt_settings.specs.Pages.{is_paged}
 use Rattle.vp_receipt_settings.specs.Setup.{Setup, across}
 use Rattle.vp_receipt_settings.specs.Symbols.{symbol_image}

@@ -13,7 +13,8 @@ use Rattle.vp_receipt_settings.specs.Setup.{Setup}
 use Rattle.vp_receipt_settings.specs.Tabs.{tab_stops}
 use Rattle.vp_receipt_settings.specs.Symbols.{qr_data, symbol_image, image_rows}
 use Rattle.vp_receipt_settings.specs.Pages.{is_paged}
-use Rattle.vp_receipt_settings.specs.History.{settings_of, line, mode}
+use Rattle.vp_receipt_settings.specs.Line.{line, mode}
+use Rattle.vp_receipt_settings.specs.Settings.{settings_of}
 use Rattle.vp_strips.specs.declared.symbol.Symbol.{Symbol}
 use Rattle.vp_strips.specs.SymbolInks.{is_symbol, symbol_height, IsSymbolOf}
 use Rattle.vp_receipt.specs.PageMarks.{layers}

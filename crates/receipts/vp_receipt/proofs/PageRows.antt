@@ -19,7 +19,8 @@ use Rattle.vp_page.proofs.Falling.{lies, within}
 use Rattle.vp_page.proofs.Pages.{same_page}
 use Rattle.vp_glyph.specs.declared.Sheets.{Sheets}
 use Rattle.vp_receipt_settings.specs.Setup.{Setup}
-use Rattle.vp_receipt_settings.specs.History.{settings_of, page_of, mode, line, Placed, image_of, IsFitPage}
+use Rattle.vp_receipt_settings.specs.Line.{mode, line, Placed}
+use Rattle.vp_receipt_settings.specs.Settings.{settings_of, page_of, image_of, IsFitPage}
 use Rattle.vp_receipt_settings.specs.Texts.{text_of}
 use Rattle.vp_receipt_settings.specs.declared.text.Text.{Text}
 use Rattle.vp_receipt_settings.specs.Rasters.{times_across, times_down, raster_scale, raster_bytes, row_so_far, is_row_end, bytes_after, row_at}

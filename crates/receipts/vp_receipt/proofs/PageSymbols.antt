@@ -13,7 +13,8 @@ use Rattle.vp_dots.specs.Images.{Image}
 use Rattle.vp_receipt_settings.specs.Pages.{area, direction}
 use Rattle.vp_glyph.specs.declared.Sheets.{Sheets}
 use Rattle.vp_receipt_settings.specs.declared.settings.Settings.{Settings}
-use Rattle.vp_receipt_settings.specs.History.{Placed, settings_of, line, symbol_top}
+use Rattle.vp_receipt_settings.specs.Line.{Placed, line, symbol_top}
+use Rattle.vp_receipt_settings.specs.Settings.{settings_of}
 use Rattle.vp_receipt.specs.PageMarks.{laid_own, symbol_mark_of, layers, layers_with, printed_layers}
 use Rattle.vp_receipt.specs.Standing.{Gathers}
 use Rattle.vp_receipt_settings.specs.Symbols.{symbol_image, bars_of, bars_image, bar_style_of}

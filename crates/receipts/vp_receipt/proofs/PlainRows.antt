@@ -20,7 +20,8 @@ use Rattle.vp_receipt_settings.specs.declared.settings.Settings.{Settings}
 use Rattle.vp_receipt_settings.specs.declared.width.Width.{Width}
 use Rattle.vp_receipt_settings.specs.declared.width.Width.TheVariants.{W576, W384}
 use Rattle.vp_receipt_settings.specs.Gathering.{IsGathering, IsPartRow, left_of, room_of, run_of}
-use Rattle.vp_receipt_settings.specs.History.{settings_of, mode, paper_length, printed_at, shift, left_margin, justification}
+use Rattle.vp_receipt_settings.specs.Line.{mode, left_margin}
+use Rattle.vp_receipt_settings.specs.Settings.{settings_of, paper_length, printed_at, shift, justification}
 use Rattle.vp_receipt_settings.specs.Pages.{is_paged}
 use Rattle.vp_receipt_settings.specs.Rasters.{raster_scale, raster_bytes, row_so_far, is_row_end, bytes_after, row_at, times_across, times_down}
 use Rattle.vp_receipt_settings.specs.Runs.{below}

@@ -9,9 +9,8 @@ use Rattle.vp_dots.proofs.ImageRows.{dot-row_of}
 use Rattle.vp_esc.specs.declared.item.EscItem.{EscItem}
 use Rattle.vp_receipt_settings.specs.declared.settings.Settings.{Settings}
 use Rattle.vp_receipt_settings.specs.Setup.{Setup}
-use Rattle.vp_receipt_settings.specs.History.{settings_of, page_of, paper_length}
+use Rattle.vp_receipt_settings.specs.Settings.{settings_of, page_of, paper_length, printed_at}
 use Rattle.vp_strips.specs.Rows.{clipped, raster_dot, rows_text}
-use Rattle.vp_receipt_settings.specs.History.{printed_at}
 use Rattle.vp_strips.proofs.Strips.{rows_same}
 use Rattle.vp_esc.specs.declared.item.RasterScale.{RasterScale}
 use Rattle.vp_page.specs.Layers.{Layer, Laid}

@@ -4,7 +4,7 @@ use Rattle.std.proofs.lemmas.List.{append-nil}
 use Rattle.vp_esc.specs.declared.item.EscItem.{EscItem}
 use Rattle.vp_esc.specs.declared.item.EscItem.TheVariants.{RasterByte}
 use Rattle.vp_receipt_settings.specs.Setup.{Setup}
-use Rattle.vp_receipt_settings.specs.History.{mode}
+use Rattle.vp_receipt_settings.specs.Line.{mode}
 use Rattle.vp_receipt_settings.specs.declared.raster.Raster.{Raster}
 use Rattle.vp_receipt_settings.specs.Rasters.{raster_bytes, rows_to_come, row_so_far, is_row_end, bytes_after}
 use Rattle.vp_receipt.specs.Strips.{printed, own_strips}

@@ -16,7 +16,8 @@ use Rattle.vp_glyph.specs.Cells.{cell_width, font_width}
 use Rattle.vp_receipt_settings.specs.Setup.{Setup}
 use Rattle.vp_receipt_settings.specs.Texts.{style_of}
 use Rattle.vp_receipt_settings.specs.declared.settings.Settings.{Settings}
-use Rattle.vp_receipt_settings.specs.History.{is_full, is_open, mode, settings_of, length_of, line, Placed, image_of, breaks, IsFit}
+use Rattle.vp_receipt_settings.specs.Line.{is_full, is_open, mode, line, Placed, breaks}
+use Rattle.vp_receipt_settings.specs.Settings.{settings_of, length_of, image_of, IsFit}
 use Rattle.vp_receipt_settings.specs.Gathering.{IsGathering}
 use Rattle.vp_receipt_settings.specs.declared.raster.Raster.{Raster}
 use Rattle.vp_receipt_settings.specs.Runs.{text_after}

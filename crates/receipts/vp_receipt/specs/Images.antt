@@ -9,7 +9,8 @@ use Rattle.vp_esc.specs.declared.item.Cut.{Cut as PaperCut}
 use Rattle.vp_esc.specs.declared.item.Cut.TheVariants.{Partial}
 use Rattle.vp_receipt_settings.specs.declared.width.Width.{Width}
 use Rattle.vp_receipt_settings.specs.Setup.{Setup, across}
-use Rattle.vp_receipt_settings.specs.History.{mode, printed_rows}
+use Rattle.vp_receipt_settings.specs.Line.{mode}
+use Rattle.vp_receipt_settings.specs.Extent.{printed_rows}
 use Rattle.vp_receipt_settings.specs.Pages.{is_paged}
 use Rattle.vp_receipt_settings.specs.Rasters.{times_across, times_down, raster_scale, raster_bytes, rows_to_come, row_so_far, is_row_end}
 use Rattle.vp_receipt_settings.specs.Symbols.{symbol_image}

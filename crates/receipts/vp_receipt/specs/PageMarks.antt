@@ -7,7 +7,9 @@ use Rattle.vp_page.specs.declared.area.Area.{Area}
 use Rattle.vp_page.specs.Layers.{Layer, Laid, Wiped, Mark}
 use Rattle.vp_receipt_settings.specs.Setup.{Setup}
 use Rattle.vp_receipt_settings.specs.Pages.{area, direction}
-use Rattle.vp_receipt_settings.specs.History.{Placed, line, begins_page, height, is_open, mode, page_of, ends_line, symbol_top}
+use Rattle.vp_receipt_settings.specs.Line.{Placed, line, begins_page, height, is_open, mode, symbol_top}
+use Rattle.vp_receipt_settings.specs.Extent.{ends_line}
+use Rattle.vp_receipt_settings.specs.Settings.{page_of}
 use Rattle.vp_receipt_settings.specs.declared.page_mode.PageSettings.{PageSettings}
 use Rattle.vp_receipt_settings.specs.declared.settings.Settings.{Settings}
 use Rattle.vp_page.specs.declared.line.TheConstants.{LINE_DOTS}

@@ -7,7 +7,8 @@ use Rattle.vp_receipt_settings.specs.declared.settings.Settings.{Settings}
 use Rattle.vp_esc.specs.declared.item.EscItem.{EscItem}
 use Rattle.vp_receipt.specs.Strips.{printed}
 use Rattle.vp_receipt_settings.specs.Gathering.{IsGathering, left_of, run_of}
-use Rattle.vp_receipt_settings.specs.History.{length_within, settings_of}
+use Rattle.vp_receipt_settings.specs.Line.{length_within}
+use Rattle.vp_receipt_settings.specs.Settings.{settings_of}
 use Rattle.vp_receipt_settings.specs.Pages.{is_paged}
 use Rattle.vp_receipt_settings.specs.Rasters.{bytes_after}
 use Rattle.vp_receipt_settings.specs.Setup.{Setup, across, row_bytes}

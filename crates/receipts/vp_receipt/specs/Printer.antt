@@ -1,6 +1,6 @@
 -- What a receipt printer keeps.
 use Rattle.vp_receipt.specs.declared.receipt.Receipt.TheInside.{Inside}
-use Rattle.vp_receipt_settings.specs.History.{IsFit}
+use Rattle.vp_receipt_settings.specs.Settings.{IsFit}
 use Rattle.vp_strips.specs.Held.{text_of, showing_of, IsJob, IsTurned}
 use Rattle.vp_receipt.specs.Standing.{Printing}
 use Rattle.vp_receipt_settings.specs.Gathering.{IsPartRow}

@@ -14,7 +14,8 @@ use Rattle.vp_page.specs.Pages.{HasPage}
 use Rattle.vp_receipt_settings.specs.declared.page_mode.Mode.{Mode}
 use Rattle.vp_receipt_settings.specs.declared.page_mode.Mode.TheVariants.{Standard, Page}
 use Rattle.vp_receipt.specs.PageMarks.{layers}
-use Rattle.vp_receipt_settings.specs.History.{Placed, height, mode, line, settings_of, image_of}
+use Rattle.vp_receipt_settings.specs.Line.{Placed, height, mode, line}
+use Rattle.vp_receipt_settings.specs.Settings.{settings_of, image_of}
 use Rattle.vp_receipt_settings.specs.Gathering.{IsGathering}
 use Rattle.vp_strips.specs.Held.{Showing, Shows}
 use Rattle.vp_receipt.specs.Strips.{own_part, printed, printed_page}

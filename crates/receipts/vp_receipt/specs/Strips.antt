@@ -6,12 +6,12 @@ use Rattle.vp_esc.specs.declared.item.EscItem.{EscItem}
 use Rattle.vp_esc.specs.declared.item.EscItem.TheVariants.{CutLeavingOnePoint, CutLeavingThreePoints, Cut, FeedAndCut, Raster, RasterByte, Symbol, QrPrint, PrintPage, FormFeed}
 use Rattle.vp_esc.specs.declared.item.Cut.TheVariants.{Partial}
 use Rattle.vp_receipt_settings.specs.Setup.{Setup, across}
-use Rattle.vp_receipt_settings.specs.History.{line, line_length, height, is_open, mode, ended_rows, strip_rows}
+use Rattle.vp_receipt_settings.specs.Line.{line, line_length, height, is_open, mode, ended_rows, strip_rows}
+use Rattle.vp_receipt_settings.specs.Extent.{printed_rows}
 use Rattle.vp_page.specs.declared.page.TheConstants.{PAGE_ROWS}
 use Rattle.vp_page.specs.Layers.{page_dot}
 use Rattle.vp_receipt_settings.specs.Pages.{is_paged}
 use Rattle.vp_receipt.specs.PageMarks.{printed_layers}
-use Rattle.vp_receipt_settings.specs.History.{printed_rows}
 use Rattle.vp_receipt_settings.specs.Rasters.{draws, times_across, times_down, scale_or, raster_scale, raster_bytes, is_row_end, row_so_far}
 use Rattle.vp_strips.specs.Rows.{line_text, cut_text, white_text, raster_dot, rows_text, image_text, strip_text}
 use Rattle.vp_receipt_settings.specs.Symbols.{qr_style_of, qr_data, qr_refusal, bar_style_of, bars_of, bars_refusal, symbol_image}

@@ -10,7 +10,8 @@ ghost use Rattle.vp_page.specs.declared.line.TheConstants.{LINE_BYTES, LINE_DOTS
 ghost use Rattle.vp_strips.specs.declared.job.After.{After};
 ghost use Rattle.vp_strips.specs.declared.lines.Lines.{Lines};
 ghost use Rattle.vp_receipt_settings.specs.Setup.{Setup};
-ghost use Rattle.vp_receipt_settings.specs.History.{settings_of, IsFit, height, is_open, line, mode, Placed};
+ghost use Rattle.vp_receipt_settings.specs.Line.{height, is_open, line, mode, Placed};
+ghost use Rattle.vp_receipt_settings.specs.Settings.{settings_of, IsFit};
 ghost use Rattle.vp_page.specs.Layers.{Layer, Laid};
 ghost use Rattle.vp_page.specs.Pages.{HasPage};
 ghost use Rattle.vp_receipt.specs.PageMarks.{HasRows, mark_of, layers_with, layers, printed_layers};

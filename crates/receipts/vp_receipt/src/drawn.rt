@@ -3,7 +3,7 @@ ghost use Rattle.std.specs.Prelude.{◌≡◌, ◌≤◌, ◌<◌, List, true, O
 ghost use Rattle.vp_esc.specs.declared.item.EscItem.{EscItem};
 ghost use Rattle.vp_page.specs.declared.line.TheConstants.{LINE_DOTS};
 ghost use Rattle.vp_receipt_settings.specs.Setup.{Setup};
-ghost use Rattle.vp_receipt_settings.specs.History.{IsFit};
+ghost use Rattle.vp_receipt_settings.specs.Settings.{IsFit};
 ghost use Rattle.vp_receipt.specs.Strips.{refusal};
 ghost use Rattle.vp_receipt.specs.Standing.{IsInForce};
 ghost use Rattle.vp_receipt_settings.specs.Symbols.{symbol_image};

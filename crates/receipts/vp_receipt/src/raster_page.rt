@@ -9,7 +9,7 @@ ghost use Rattle.vp_page.specs.declared.line.TheConstants.{LINE_BYTES, LINE_DOTS
 ghost use Rattle.vp_receipt.specs.PageMarks.{mark_of, raster_mark, rows_dot};
 ghost use Rattle.vp_receipt.specs.Standing.{IsOnPage};
 ghost use Rattle.vp_receipt_settings.specs.Gathering.{IsPartRow, kept_of, left_of};
-ghost use Rattle.vp_receipt_settings.specs.History.{settings_of, IsFit, IsFitPage};
+ghost use Rattle.vp_receipt_settings.specs.Settings.{settings_of, IsFit, IsFitPage};
 ghost use Rattle.vp_receipt_settings.specs.Rasters.{bytes_after, raster_scale, row_at, times_across, times_down};
 ghost use Rattle.vp_receipt_settings.specs.Setup.{Setup};
 

@@ -3,7 +3,7 @@ ghost use Rattle.std.specs.Prelude.{◌≡◌, ◌<◌, ◌≤◌, ◌+◌, ◌-
 ghost use Rattle.vp_esc.specs.declared.item.EscItem.{EscItem};
 ghost use Rattle.vp_receipt.specs.Plain.{is_once, is_plain, IsOnPaper};
 ghost use Rattle.vp_receipt_settings.specs.Gathering.{IsGathering, IsPartRow, left_of};
-ghost use Rattle.vp_receipt_settings.specs.History.{settings_of, IsFit};
+ghost use Rattle.vp_receipt_settings.specs.Settings.{settings_of, IsFit};
 ghost use Rattle.vp_receipt_settings.specs.Setup.{Setup};
 
 use vp_esc::item::RasterScale;

@@ -8,7 +8,7 @@ ghost use Rattle.vp_esc.specs.declared.item.EscItem.{EscItem};
 ghost use Rattle.vp_glyph.specs.declared.Sheets.{Sheets};
 ghost use Rattle.vp_receipt_settings.specs.declared.raster.Raster.{Raster};
 ghost use Rattle.vp_receipt_settings.specs.Setup.{Setup};
-ghost use Rattle.vp_receipt_settings.specs.History.{is_open, line, mode};
+ghost use Rattle.vp_receipt_settings.specs.Line.{is_open, line, mode};
 ghost use Rattle.vp_receipt_settings.specs.Rasters.{bytes_after};
 ghost use Rattle.vp_page.specs.declared.page.TheConstants.{PAGE_ROWS};
 ghost use Rattle.vp_receipt_settings.specs.declared.text.TheConstants.{LINE_ROWS};

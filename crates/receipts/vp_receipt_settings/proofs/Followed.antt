@@ -16,7 +16,8 @@ use Rattle.vp_receipt_settings.specs.Tabs.{tab_stops}
 use Rattle.vp_receipt_settings.specs.Symbols.{symbol_image, image_rows}
 use Rattle.vp_receipt_settings.specs.Pages.{is_paged, is_area, area_cut, is_vertical_move, vertical_moved, vertical_after}
 use Rattle.vp_receipt_settings.specs.Rasters.{draws, scale_or, times_down}
-use Rattle.vp_receipt_settings.specs.History.{settings_of, page_of, length_of, line, is_open, vertical, Frame, frame, margin_or, width_or, mode}
+use Rattle.vp_receipt_settings.specs.Line.{line, is_open, vertical, Frame, frame, margin_or, width_or, mode}
+use Rattle.vp_receipt_settings.specs.Settings.{settings_of, page_of, length_of}
 use Rattle.vp_receipt_settings.specs.Effects.{effect_of, feed_of, is_full_of}
 use Rattle.vp_receipt_settings.specs.Followed.{with_set, line_after, page_after}
 

@@ -5,7 +5,8 @@ use Rattle.std.proofs.lemmas.List.{append-nil, reverse-append}
 use Rattle.vp_esc.specs.declared.item.EscItem.{EscItem}
 use Rattle.vp_esc.specs.declared.item.EscItem.TheVariants.{RasterByte}
 use Rattle.vp_receipt_settings.specs.Setup.{Setup}
-use Rattle.vp_receipt_settings.specs.History.{settings_of, line}
+use Rattle.vp_receipt_settings.specs.Line.{line}
+use Rattle.vp_receipt_settings.specs.Settings.{settings_of}
 use Rattle.vp_receipt_settings.specs.Tabs.{tab_stops}
 use Rattle.vp_receipt_settings.specs.Symbols.{qr_data}
 use Rattle.vp_receipt_settings.specs.declared.raster.Raster.{Raster}

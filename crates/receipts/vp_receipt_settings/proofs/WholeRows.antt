@@ -11,7 +11,7 @@ use Rattle.vp_esc.specs.declared.item.RasterScale.TheVariants.{Normal, DoubleWid
 use Rattle.vp_page.specs.declared.area.Area.{Area}
 use Rattle.vp_receipt_settings.specs.Setup.{Setup}
 use Rattle.vp_receipt_settings.specs.Gathering.{IsGathering, IsPartRow}
-use Rattle.vp_receipt_settings.specs.History.{settings_of}
+use Rattle.vp_receipt_settings.specs.Settings.{settings_of}
 use Rattle.vp_receipt_settings.specs.Pages.{vertical_after, raised, lower_edge}
 use Rattle.vp_receipt_settings.specs.Rasters.{times_down, raster_scale, raster_bytes, rows_to_come, row_so_far, is_row_end, bytes_after, row_at}
 use Rattle.vp_receipt_settings.specs.Runs.{below}

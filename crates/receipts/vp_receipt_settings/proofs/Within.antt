@@ -22,7 +22,8 @@ use Rattle.vp_receipt_settings.specs.declared.width.Width.TheVariants.{W576, W38
 use Rattle.vp_receipt_settings.specs.Setup.{across}
 use Rattle.vp_receipt_settings.specs.Pages.{is_paged, is_area, area_cut, is_vertical_move, vertical_moved}
 use Rattle.vp_receipt_settings.specs.Rasters.{draws, scale_or, times_down}
-use Rattle.vp_receipt_settings.specs.History.{IsFit, length_in, length_of, position_at, position_moved}
+use Rattle.vp_receipt_settings.specs.Line.{length_in, position_at, position_moved}
+use Rattle.vp_receipt_settings.specs.Settings.{IsFit, length_of}
 use Rattle.vp_receipt_settings.specs.Effects.{effect_of, feed_of, is_full_of, runs_along}
 use Rattle.vp_receipt_settings.specs.Followed.{IsWithin}
 

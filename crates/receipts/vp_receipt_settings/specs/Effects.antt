@@ -13,7 +13,8 @@ use Rattle.vp_receipt_settings.specs.declared.settings.Settings.{Settings}
 use Rattle.vp_receipt_settings.specs.Texts.{style_of}
 use Rattle.vp_receipt_settings.specs.Pages.{is_paged, is_area, area_cut, direction_of, is_vertical_move, vertical_moved}
 use Rattle.vp_receipt_settings.specs.Rasters.{draws, scale_or, times_down}
-use Rattle.vp_receipt_settings.specs.History.{breaks, length_of, lines_rows, position_at, position_moved}
+use Rattle.vp_receipt_settings.specs.Line.{breaks, lines_rows, position_at, position_moved}
+use Rattle.vp_receipt_settings.specs.Settings.{length_of}
 
 -- the rows of the strip that LF prints
 abbrev pub feed_of : Settings → ℕ
@@ -83,12 +84,12 @@ rows_of s Draws = if s.is_open then feed_of s else 0
 rows_of s _ = 0
 
 -- whether it lays the line of a page where it is
-abbrev pub lays_it : Effect → Bool
-lays_it (Lays next) = true
-lays_it Wipes = true
-lays_it PrintsPage = true
-lays_it EndsPage = true
-lays_it _ = false
+abbrev pub lays_line_by : Effect → Bool
+lays_line_by (Lays next) = true
+lays_line_by Wipes = true
+lays_line_by PrintsPage = true
+lays_line_by EndsPage = true
+lays_line_by _ = false
 
 -- whether it prints the page
 abbrev pub is_page : Effect → Bool

@@ -9,8 +9,10 @@ use Rattle.vp_receipt_settings.specs.Texts.{text_of, style_of}
 use Rattle.vp_receipt_settings.specs.Tabs.{tabbed}
 use Rattle.vp_receipt_settings.specs.Symbols.{bar_style_of, qr_style_of}
 use Rattle.vp_receipt_settings.specs.Pages.{is_paged, vertical_after, raised}
-use Rattle.vp_receipt_settings.specs.History.{length_of, line_spacing, column_width, left_margin, area_width, justification}
-use Rattle.vp_receipt_settings.specs.Effects.{rows_of, lays_it}
+use Rattle.vp_receipt_settings.specs.Spacing.{line_spacing, column_width}
+use Rattle.vp_receipt_settings.specs.Line.{left_margin, area_width}
+use Rattle.vp_receipt_settings.specs.Settings.{length_of, justification}
+use Rattle.vp_receipt_settings.specs.Effects.{rows_of, lays_line_by}
 use Rattle.vp_receipt_settings.specs.declared.effect.Piece.TheVariants.{Character}
 use Rattle.vp_receipt_settings.specs.declared.effect.Effect.{Effect}
 use Rattle.vp_receipt_settings.specs.declared.effect.Effect.TheVariants.{Moves, Tabs, Puts, Breaks, Feeds, Cuts, BeginsRaster, Draws, BeginsPage, LeavesPage, Lays, Wipes, PrintsPage, EndsPage}
@@ -103,14 +105,14 @@ page_next s EndsPage symbol page = record page { mode = Standard }
 page_next s _ symbol page = page
 
 -- whether rows are laid in the area
-abbrev pub lays_rows : Settings → Effect → ℕ → Bool
-lays_rows s effect symbol =
-    nat_lt 0 (rows_of s effect) || (nat_lt 0 symbol || (lays_it effect && s.is_open))
+abbrev pub lays_rows_by : Settings → Effect → ℕ → Bool
+lays_rows_by s effect symbol =
+    nat_lt 0 (rows_of s effect) || (nat_lt 0 symbol || (lays_line_by effect && s.is_open))
 
 abbrev pub page_after : Settings → Effect → ℕ → PageSettings
 page_after s effect symbol =
     page_next s effect symbol
-    (record s.page { used = raised (lays_rows s effect symbol) s.page.area s.page.used })
+    (record s.page { used = raised (lays_rows_by s effect symbol) s.page.area s.page.used })
 
 -- what an effect puts is within the line and within the page
 abbrev pub IsWithin : Effect → Type 0

@@ -6,7 +6,10 @@ pub mod Tabs
 pub mod Symbols
 pub mod Pages
 pub mod Rasters
-pub mod History
+pub mod Spacing
+pub mod Line
+pub mod Extent
+pub mod Settings
 -- What the code keeps.
 pub mod Effects
 pub mod Followed

@@ -1,7 +1,7 @@
 -- The area of the page and the direction of its lines, by looking back over the items.
-use Rattle.std.specs.Prelude.{ℕ, ◌+◌, ◌-◌, nat_lt, nat_le, Bool, true, false, ◌&&◌, if◌then◌else◌, List, [], ◌∷◌, Option, Some, None, is_some, min, max, ◌==◌, ℤ, pos, negsuc}
+use Rattle.std.specs.Prelude.{ℕ, ◌+◌, ◌-◌, nat_lt, nat_le, Bool, true, false, ◌&&◌, if◌then◌else◌, List, [], ◌∷◌, Option, Some, None, min, max, ◌==◌, ℤ, pos, negsuc}
 use Rattle.vp_esc.specs.declared.item.EscItem.{EscItem}
-use Rattle.vp_esc.specs.declared.item.EscItem.TheVariants.{Area as SetArea, Direction as SetDirection, Initialize, VerticalPosition, MoveVerticalPosition, PrintPage, FormFeed, Cancel}
+use Rattle.vp_esc.specs.declared.item.EscItem.TheVariants.{Area as SetArea, Direction as SetDirection, Initialize}
 use Rattle.vp_esc.specs.declared.item.Direction.{Direction as EscDirection}
 use Rattle.vp_esc.specs.declared.item.Direction.TheVariants.{LeftToRight as EscLeftToRight, BottomToTop as EscBottomToTop, RightToLeft as EscRightToLeft, TopToBottom as EscTopToBottom}
 use Rattle.vp_page.specs.declared.page.TheConstants.{PAGE_ROWS}
@@ -67,18 +67,6 @@ vertical_moved (negsuc n) vertical = if nat_lt n vertical then vertical - (n + 1
 -- rows further down, at most at 65,535
 abbrev pub vertical_after : ℕ → ℕ → ℕ
 vertical_after vertical rows = min (vertical + rows) 65535
-
--- GS $, GS \, ESC W, ESC T, ESC FF, FF, CAN: what lays an open line of the page where it is, unless its
--- argument is refused
-abbrev pub is_obeyed : Width → ℕ → EscItem → Bool
-is_obeyed paper vertical (VerticalPosition n) = true
-is_obeyed paper vertical (MoveVerticalPosition n) = is_vertical_move n vertical
-is_obeyed paper vertical (SetArea x y wide high) = is_area paper x y wide high
-is_obeyed paper vertical (SetDirection s) = is_some s.value
-is_obeyed paper vertical PrintPage = true
-is_obeyed paper vertical FormFeed = true
-is_obeyed paper vertical Cancel = true
-is_obeyed paper vertical _ = false
 
 -- the lower edge of an area
 abbrev pub lower_edge : Area → ℕ

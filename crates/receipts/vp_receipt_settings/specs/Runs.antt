@@ -7,7 +7,7 @@ use Rattle.vp_receipt_settings.specs.declared.page_mode.Mode.{Mode}
 use Rattle.vp_receipt_settings.specs.declared.page_mode.Mode.TheVariants.{Standard, Page}
 use Rattle.vp_receipt_settings.specs.declared.settings.Settings.{Settings}
 use Rattle.vp_receipt_settings.specs.Texts.{style_of}
-use Rattle.vp_receipt_settings.specs.History.{length_of}
+use Rattle.vp_receipt_settings.specs.Settings.{length_of}
 use Rattle.vp_receipt_settings.specs.Pages.{vertical_after, raised}
 use Rattle.vp_receipt_settings.specs.Rasters.{bytes_within_row, bytes_to_come}
 

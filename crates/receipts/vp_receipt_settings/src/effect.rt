@@ -1,8 +1,8 @@
 //! What an item does, on paper and on a page.
 ghost use Rattle.std.specs.Prelude.{◌≡◌, ℕ};
 ghost use Rattle.vp_esc.specs.declared.item.EscItem.{EscItem};
-ghost use Rattle.vp_receipt_settings.specs.History.{IsFit};
-ghost use Rattle.vp_receipt_settings.specs.Effects.{effect_of, page_effect_of, if_done, runs_along, rows_of, lays_it, is_page, waits_of};
+ghost use Rattle.vp_receipt_settings.specs.Settings.{IsFit};
+ghost use Rattle.vp_receipt_settings.specs.Effects.{effect_of, page_effect_of, if_done, runs_along, rows_of, lays_line_by, is_page, waits_of};
 
 use crate::page_mode::{area_cut, direction_of, is_area, is_vertical_move, vertical_moved};
 use crate::raster::{draws, scale_named, times_down};
@@ -99,7 +99,7 @@ impl Effect {
 
     /// Whether it ends the line of a page where that is.
     pub(crate) fn lays(self) -> bool
-        ensures { result ≡ lays_it self }
+        ensures { result ≡ lays_line_by self }
     {
         matches!(
             self,

@@ -6,13 +6,14 @@ ghost use Rattle.vp_page.specs.declared.page.TheConstants.{PAGE_ROWS};
 ghost use Rattle.vp_page.specs.declared.line.TheConstants.{LINE_DOTS};
 ghost use Rattle.vp_receipt_settings.specs.Setup.{Setup};
 ghost use Rattle.vp_receipt_settings.specs.Pages.{is_paged, is_area, area_cut, direction_of, direction_or, is_vertical_move, vertical_moved, vertical_after, raised, area};
-ghost use Rattle.vp_receipt_settings.specs.History.{settings_of, page_of, symbol_top, lays, line, symbol_top, begins_page, mode, vertical, used, IsFit, IsFitPage};
-ghost use Rattle.vp_receipt_settings.specs.Followed.{IsWithin, lays_rows, page_going, page_after};
+ghost use Rattle.vp_receipt_settings.specs.Line.{symbol_top, line, begins_page, mode, vertical};
+ghost use Rattle.vp_receipt_settings.specs.Extent.{used, printed_rows};
+ghost use Rattle.vp_receipt_settings.specs.Settings.{settings_of, page_of, IsFit, IsFitPage};
+ghost use Rattle.vp_receipt_settings.specs.Followed.{IsWithin, lays_rows_by, page_going, page_after};
 ghost use Rattle.vp_receipt_settings.specs.declared.effect.Effect.{Effect};
 ghost use Rattle.vp_receipt_settings.specs.Runs.{below};
 ghost use Rattle.vp_receipt_settings.specs.Symbols.{symbol_image, image_rows};
 ghost use Rattle.vp_receipt_settings.specs.Rasters.{is_row_end, raster_scale, times_down};
-ghost use Rattle.vp_receipt_settings.specs.History.{printed_rows};
 
 use crate::effect::{Effect, NextLines};
 use crate::settings::Settings;
@@ -253,7 +254,7 @@ impl Settings {
 
     /// Whether rows are laid in the area by an effect, with so many rows of a symbol.
     fn lays_rows(self, effect: Effect, symbol_rows: u32) -> bool
-        ensures { result ≡ lays_rows self effect symbol_rows }
+        ensures { result ≡ lays_rows_by self effect symbol_rows }
     {
         self.rows_of(effect) > 0 || symbol_rows > 0 || (effect.lays() && self.is_open)
     }

@@ -5,7 +5,9 @@ ghost use Rattle.vp_page.specs.declared.page.TheConstants.{PAPER_DOTS};
 ghost use Rattle.vp_page.specs.declared.line.TheConstants.{LINE_DOTS};
 ghost use Rattle.vp_receipt_settings.specs.Setup.{Setup};
 ghost use Rattle.vp_receipt_settings.specs.Pages.{is_paged};
-ghost use Rattle.vp_receipt_settings.specs.History.{shift, printed_at};
+ghost use Rattle.vp_receipt_settings.specs.Spacing.{column_width_of, line_spacing, column_width};
+ghost use Rattle.vp_receipt_settings.specs.Line.{lines_rows, length_within, breaks, ended_rows, position_moved, position_at, margin_or, width_or, line, position, line_length, left_margin, area_width};
+ghost use Rattle.vp_receipt_settings.specs.Settings.{shift, printed_at, settings_of, line_settings_of, IsFit, length_of, justification_or, justification};
 ghost use Rattle.vp_receipt_settings.specs.Tabs.{tab_stops, tabbed};
 ghost use Rattle.vp_receipt_settings.specs.Symbols.{symbol_image, image_rows, bar_style_of, qr_style_of};
 ghost use Rattle.vp_receipt_settings.specs.Texts.{text_of, style_of};
@@ -14,7 +16,6 @@ ghost use Rattle.vp_receipt_settings.specs.Effects.{effect_of, feed_of};
 ghost use Rattle.vp_receipt_settings.specs.Followed.{IsWithin, closed, closed_if, without_line, without_line_if, with_piece, with_cell, with_set, line_after};
 ghost use Rattle.vp_receipt_settings.specs.declared.text.TheConstants.{LINE_ROWS, WIDEST};
 ghost use Rattle.vp_glyph.specs.Cells.{cell_width};
-ghost use Rattle.vp_receipt_settings.specs.History.{settings_of, line_settings_of, lines_rows, IsFit, length_within, length_of, breaks, column_width_of, ended_rows, position_moved, position_at, justification_or, margin_or, width_or, line, position, line_spacing, line_length, column_width, left_margin, area_width, justification};
 
 use crate::bar_style::BarStyle;
 use crate::column::Column;

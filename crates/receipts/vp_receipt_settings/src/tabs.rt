@@ -2,7 +2,7 @@
 ghost use Rattle.std.specs.Prelude.{◌≡◌, ◌*◌, ◌∷◌, List, map};
 ghost use Rattle.vp_esc.specs.declared.item.EscItem.{EscItem};
 ghost use Rattle.vp_receipt_settings.specs.Texts.{text_of};
-ghost use Rattle.vp_receipt_settings.specs.History.{IsFitText};
+ghost use Rattle.vp_receipt_settings.specs.Settings.{IsFitText};
 ghost use Rattle.vp_receipt_settings.specs.Tabs.{tab_stops, first_tab_stops};
 
 use crate::text::Text;

@@ -9,10 +9,10 @@ use Rattle.vp_dots.specs.Images.{Image}
 use Rattle.vp_strips.specs.SymbolInks.{IsDrawn}
 use Rattle.vp_receipt_settings.specs.Setup.{Setup}
 use Rattle.vp_strips.specs.Held.{whole}
-use Rattle.vp_receipt_settings.specs.History.{Placed, height, right_edge, line, is_open, settings_of, paper_length, length_within}
+use Rattle.vp_receipt_settings.specs.Line.{Placed, height, right_edge, line, is_open, length_within}
+use Rattle.vp_receipt_settings.specs.Settings.{settings_of, paper_length, printed_at}
 use Rattle.vp_strips.specs.LineDots.{HasDots, HasOpen, any_dot, item_dot}
 use Rattle.vp_strips.specs.Rows.{printed_dot, strip_text, line_text, image_dot, image_text}
-use Rattle.vp_receipt_settings.specs.History.{printed_at}
 use Rattle.vp_receipt_settings.specs.declared.settings.Settings.{Settings}
 use Rattle.vp_strips.specs.Jobs.{line_dot_of}
 use Rattle.vp_strips.proofs.Strips.{whole_is}

@@ -3,7 +3,7 @@ use Rattle.std.specs.Prelude.{◌≡◌, ◌<◌, ℕ, ◌-◌, ◌≤◌, nat_l
 use Rattle.vp_page.specs.declared.line.TheConstants.{LINE_BYTES, LINE_DOTS}
 use Rattle.vp_receipt_settings.specs.declared.text.TheConstants.{LINE_ROWS}
 use Rattle.vp_dots.specs.Dots.{dot}
-use Rattle.vp_receipt_settings.specs.History.{Placed, is_open}
+use Rattle.vp_receipt_settings.specs.Line.{Placed, is_open}
 
 -- ink so wide and high that is put at a position
 abbrev pub ink_placed : ℕ → ℕ → ℕ → (ℕ → ℕ → Bool) → Placed

@@ -8,7 +8,8 @@ use Rattle.vp_esc.specs.declared.item.Cut.{Cut}
 use Rattle.vp_esc.specs.declared.item.Cut.TheVariants.{Full, Partial}
 use Rattle.vp_receipt_settings.specs.declared.width.Width.{Width}
 use Rattle.vp_receipt_settings.specs.Setup.{Setup, across, row_bytes}
-use Rattle.vp_receipt_settings.specs.History.{line, paper_length, printed_at, height, right_edge}
+use Rattle.vp_receipt_settings.specs.Line.{line, height, right_edge}
+use Rattle.vp_receipt_settings.specs.Settings.{paper_length, printed_at}
 use Rattle.vp_strips.specs.LineDots.{any_dot}
 
 -- dots so far from the left, of which so many are seen

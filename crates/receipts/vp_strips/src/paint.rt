@@ -7,7 +7,7 @@ ghost use Rattle.vp_dots.specs.declared.Op.TheVariants.{Black};
 ghost use Rattle.vp_page.specs.declared.line.TheConstants.{LINE_BYTES, LINE_DOTS};
 ghost use Rattle.vp_receipt_settings.specs.declared.text.TheConstants.{LINE_ROWS};
 ghost use Rattle.vp_dots.specs.declared.word.TheConstants.{NARROW};
-ghost use Rattle.vp_receipt_settings.specs.History.{Placed};
+ghost use Rattle.vp_receipt_settings.specs.Line.{Placed};
 ghost use Rattle.vp_strips.specs.LineDots.{HasDots, ink_placed};
 
 use std::alloc::{AllocError, Global};

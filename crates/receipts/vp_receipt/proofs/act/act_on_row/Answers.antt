@@ -2,7 +2,7 @@ use Rattle.std.proofs.Common.{[], ◌∷◌, ◌++◌, refl, sym, ◌∙◌, sub
 use Rattle.vp_receipt_settings.specs.declared.page_mode.Mode.{Mode}
 use Rattle.vp_receipt_settings.specs.declared.page_mode.Mode.TheVariants.{Standard, Page}
 use Rattle.vp_esc.specs.declared.item.EscItem.TheVariants.{RasterByte}
-use Rattle.vp_receipt_settings.specs.History.{line, height}
+use Rattle.vp_receipt_settings.specs.Line.{line, height}
 use Rattle.vp_receipt.specs.PageMarks.{layers}
 use Rattle.vp_receipt_settings.specs.Rasters.{row_so_far}
 use Rattle.vp_strips.specs.declared.canvas.Canvas.{Canvas}

@@ -1,6 +1,6 @@
 use Rattle.std.proofs.Common.{◌≡◌, false, ap, sym, ◌∙◌}
 use Rattle.vp_page.specs.Pages.{HasPage}
-use Rattle.vp_receipt_settings.specs.History.{line, is_open}
+use Rattle.vp_receipt_settings.specs.Line.{line, is_open}
 use Rattle.vp_receipt_settings.specs.declared.settings.Settings.{Settings}
 use Rattle.vp_receipt.specs.PageMarks.{layers, line_dot}
 use Rattle.vp_receipt.proofs.PageLines.{line_laid, page_held}

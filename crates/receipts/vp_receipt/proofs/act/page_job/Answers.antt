@@ -3,7 +3,7 @@ use Rattle.vp_page.specs.Layers.{page_dot}
 use Rattle.vp_receipt_settings.specs.declared.settings.Settings.{Settings}
 use Rattle.vp_strips.specs.declared.strip.Strip.{Strip}
 use Rattle.vp_receipt.specs.PageMarks.{printed_layers}
-use Rattle.vp_receipt_settings.specs.History.{printed_rows}
+use Rattle.vp_receipt_settings.specs.Extent.{printed_rows}
 use Rattle.vp_strips.specs.Rows.{strip_text}
 use Rattle.vp_strips.specs.Held.{whole}
 use Rattle.vp_receipt.proofs.PageLines.{page_strip}

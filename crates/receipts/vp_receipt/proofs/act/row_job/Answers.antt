@@ -2,10 +2,10 @@ use Rattle.std.proofs.Common.{◌≡◌, ◌*◌, ap, ◌∙◌, take, min}
 use Rattle.vp_esc.specs.declared.item.RasterScale.{RasterScale}
 use Rattle.vp_strips.specs.declared.strip.Strip.{Strip}
 use Rattle.vp_receipt_settings.specs.declared.settings.Settings.{Settings}
-use Rattle.vp_receipt_settings.specs.History.{length_within}
+use Rattle.vp_receipt_settings.specs.Line.{length_within}
+use Rattle.vp_receipt_settings.specs.Settings.{printed_at}
 use Rattle.vp_receipt_settings.specs.Rasters.{times_across, times_down, raster_bytes}
 use Rattle.vp_strips.specs.Rows.{rows_text, raster_dot}
-use Rattle.vp_receipt_settings.specs.History.{printed_at}
 use Rattle.vp_strips.specs.Jobs.{strip_dot}
 use Rattle.vp_receipt.proofs.RasterRows.{rows_shown}
 use Rattle.vp_page.specs.declared.line.TheConstants.{LINE_BYTES}

@@ -1,6 +1,6 @@
 use Rattle.std.proofs.Common.{ap, ◌∙◌, length}
 use Rattle.vp_glyph.specs.declared.Sheets.{Sheets}
-use Rattle.vp_receipt_settings.specs.History.{height, line}
+use Rattle.vp_receipt_settings.specs.Line.{height, line}
 use Rattle.vp_strips.specs.declared.canvas.Canvas.{Canvas}
 use Rattle.vp_strips.specs.Held.{text_of, IsShowing}
 use Rattle.vp_strips.specs.SymbolInks.{symbol_width, symbol_height, symbol_dot}

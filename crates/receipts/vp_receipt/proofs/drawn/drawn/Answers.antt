@@ -2,7 +2,8 @@ use Rattle.std.proofs.Common.{◌≡◌, rules, arith, Some, ap, sym, ◌∙◌,
 use Rattle.vp_esc.specs.declared.item.EscItem.{EscItem}
 use Rattle.vp_receipt_settings.specs.declared.qr_style.QrStyle.{QrStyle}
 use Rattle.vp_receipt_settings.specs.declared.settings.Settings.{Settings}
-use Rattle.vp_receipt_settings.specs.History.{line_length, length_of}
+use Rattle.vp_receipt_settings.specs.Line.{line_length}
+use Rattle.vp_receipt_settings.specs.Settings.{length_of}
 use Rattle.vp_receipt_settings.specs.Symbols.{qr_style_of, qr_data, qr_image, qr_refusal, symbol_image, IsQrImage}
 use Rattle.vp_strips.specs.declared.symbol.Symbol.TheVariants.{Qr}
 use Rattle.vp_strips.specs.SymbolInks.{IsSymbolOf}

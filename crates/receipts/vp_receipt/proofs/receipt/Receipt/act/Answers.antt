@@ -7,7 +7,8 @@ use Rattle.vp_receipt_settings.specs.Setup.{Setup}
 use Rattle.vp_receipt_settings.specs.Symbols.{image_rows}
 use Rattle.vp_receipt_settings.specs.Pages.{is_paged}
 use Rattle.vp_receipt_settings.specs.Effects.{effect_of, is_page, waits_of}
-use Rattle.vp_receipt_settings.specs.History.{settings_of, line, mode, height}
+use Rattle.vp_receipt_settings.specs.Line.{line, mode, height}
+use Rattle.vp_receipt_settings.specs.Settings.{settings_of}
 use Rattle.vp_strips.specs.declared.job.Job.{Job}
 use Rattle.vp_strips.specs.Held.{text_of, showing_of, IsShowing}
 use Rattle.vp_receipt.specs.Strips.{own_part}

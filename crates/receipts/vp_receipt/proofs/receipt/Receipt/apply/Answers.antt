@@ -6,7 +6,7 @@ use Rattle.vp_receipt_settings.specs.declared.effect.Effect.{Effect}
 use Rattle.vp_receipt_settings.specs.declared.page_mode.Mode.{Mode}
 use Rattle.vp_receipt_settings.specs.Effects.{effect_of}
 use Rattle.vp_receipt_settings.specs.Symbols.{IsStored}
-use Rattle.vp_receipt_settings.specs.History.{mode, Placed}
+use Rattle.vp_receipt_settings.specs.Line.{mode, Placed}
 use Rattle.vp_receipt.specs.PageMarks.{layers}
 use Rattle.vp_receipt.specs.Printer.{printing_of}
 use Rattle.vp_receipt.specs.Standing.{Printing, Gathers, HasPageIf, Stands}

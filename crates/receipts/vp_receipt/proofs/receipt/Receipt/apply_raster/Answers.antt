@@ -1,6 +1,7 @@
 use Rattle.std.proofs.Common.{◌≡◌, ◌≤◌, ℕ, length, ap, sym, ◌∙◌, subst, arith}
 use Rattle.vp_receipt_settings.specs.Symbols.{IsStored, qr_data}
-use Rattle.vp_receipt_settings.specs.History.{settings_of, line, mode}
+use Rattle.vp_receipt_settings.specs.Line.{line, mode}
+use Rattle.vp_receipt_settings.specs.Settings.{settings_of}
 use Rattle.vp_receipt.specs.PageMarks.{layers}
 use Rattle.vp_receipt_settings.specs.Rasters.{bytes_after}
 use Rattle.vp_receipt.specs.Printer.{printing_of}

@@ -3,7 +3,7 @@ use Rattle.std.proofs.lemmas.Bool.Decides.{nat_tests}
 use Rattle.vp_page.specs.Layers.{Layer}
 use Rattle.vp_receipt_settings.specs.declared.page_mode.Mode.{Mode}
 use Rattle.vp_receipt_settings.specs.Symbols.{IsStored}
-use Rattle.vp_receipt_settings.specs.History.{line, mode}
+use Rattle.vp_receipt_settings.specs.Line.{line, mode}
 use Rattle.vp_receipt_settings.specs.Runs.{text_after}
 use Rattle.vp_strips.specs.Held.{text_of}
 use Rattle.vp_receipt.specs.PageMarks.{layers}

@@ -1,6 +1,6 @@
 use Rattle.std.proofs.Common.{◌∷◌, ap, sym, ◌∙◌, subst, Some}
 use Rattle.vp_receipt_settings.specs.Symbols.{IsStored, symbol_image}
-use Rattle.vp_receipt_settings.specs.History.{line}
+use Rattle.vp_receipt_settings.specs.Line.{line}
 use Rattle.vp_glyph.specs.declared.Sheets.{Sheets}
 use Rattle.vp_strips.specs.SymbolInks.{IsSymbolOf, symbol_height}
 use Rattle.vp_receipt.specs.Printer.{printing_of}

@@ -9,7 +9,8 @@ use Rattle.vp_receipt_settings.specs.declared.page_mode.Mode.TheVariants.{Standa
 use Rattle.vp_receipt_settings.specs.Pages.{is_paged}
 use Rattle.vp_strips.specs.declared.canvas.Canvas.{Canvas}
 use Rattle.vp_receipt_settings.specs.declared.text.Text.{Text}
-use Rattle.vp_receipt_settings.specs.History.{settings_of, line, mode, Placed, image_of}
+use Rattle.vp_receipt_settings.specs.Line.{line, mode, Placed}
+use Rattle.vp_receipt_settings.specs.Settings.{settings_of, image_of}
 use Rattle.vp_receipt_settings.specs.Rasters.{is_row_end, times_down}
 use Rattle.vp_receipt.specs.PageMarks.{layers}
 use Rattle.vp_receipt.specs.Standing.{Printing, Gathers, HasPageIf, ShowsLine}

@@ -1,5 +1,5 @@
 use Rattle.std.proofs.Common.{refl, ◌∙◌, ap}
-use Rattle.vp_receipt_settings.specs.History.{printed_at}
+use Rattle.vp_receipt_settings.specs.Settings.{printed_at}
 use Rattle.vp_strips.proofs.LineTexts.{text_is}
 use Rattle.vp_strips.proofs.strip.Strip.of_line.Goals as goal
 
