@@ -6,7 +6,7 @@ use Rattle.vp_esc.specs.Lines.{line_of}
 use Rattle.hex.specs.Hex.{encode_with}
 use Rattle.vp_engine.specs.Lines.{byte_lines}
 
-line_length : (b : ℕ) → length (line_of (RasterByte b)) ≡ 8
+pub line_length : (b : ℕ) → length (line_of (RasterByte b)) ≡ 8
 unfolding listed encode_with
 line_length b = refl
 

@@ -1,5 +1,5 @@
 -- The lines of a listing.
-use Rattle.std.specs.Prelude.{ℕ, suc, List, [], ◌∷◌, ◌++◌, flat_map}
+use Rattle.std.specs.Prelude.{ℕ, suc, ◌==◌, List, [], ◌∷◌, ◌++◌, flat_map, decimal, if◌then◌else◌}
 use Rattle.vp_esc.specs.declared.item.EscItem.TheVariants.{RasterByte}
 use Rattle.vp_esc.specs.Lines.{line_of}
 use Rattle.vp_engine.specs.Offsets.{offset_line}
@@ -18,3 +18,7 @@ abbrev pub byte_lines_after : ℕ → List ℕ → List ℕ
 byte_lines_after taken [] = []
 byte_lines_after taken (byte ∷ bytes) =
     offset_line (suc taken) (line_of (RasterByte byte)) ++ byte_lines_after (suc taken) bytes
+
+-- the digits of a place but its last, which all places of these tens have in common
+abbrev pub leading : ℕ → List ℕ
+leading tens = if tens == 0 then [] else decimal tens
