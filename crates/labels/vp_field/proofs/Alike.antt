@@ -1,5 +1,5 @@
 -- Lines next to each other that show the same.
-use Rattle.std.proofs.Common.{inl, inr, ◌≡◌, ℕ, ◌+◌, ◌-◌, ◌<◌, ◌≤◌, Bool, false, ltb, ◌&&◌, max, List, refl, sym, ap, ◌∙◌, arith, ℤ, pos, negsuc}
+use Rattle.std.proofs.Common.{inl, inr, ◌≡◌, ℕ, ◌+◌, ◌-◌, ◌*◌, ◌/◌, ◌<◌, ◌≤◌, Bool, false, ltb, ◌&&◌, max, List, refl, sym, ap, ◌∙◌, arith, ℤ, pos, negsuc}
 use Rattle.std.proofs.lemmas.Bool.{cases_lt}
 use Rattle.std.proofs.lemmas.Bool.Decides.{nat_tests}
 use Rattle.std.proofs.lemmas.Int.{ints}
@@ -70,3 +70,16 @@ module _ (op : Op) (f : ℕ → ℕ → Bool) (g : ℕ → Bool) (y n : ℕ) (e 
           | inr o ↦ grind (arith, nat_tests)
         ]
       ]) p
+
+-- places that show lines like that on the first
+pub run_forward : (at : ℤ) (v high n : ℕ) → v + n ≤ high → ((w : ℕ) → v ≤ w → w < v + n → w * 24 / high ≡ v * 24 / high) → (line : ℕ → Bool) (p : ℕ) → dot_on (Forward at) (pos p) ≡ pos v
+    → ((w : ℕ) → w < high → w * 24 / high ≡ v * 24 / high → line w ≡ line v) → (j : ℕ) → j < n → at_place line (dot_on (Forward at) (pos (p + j))) ≡ at_place line (dot_on (Forward at) (pos p))
+run_forward at v high n m a line p d h j l =
+    let e : dot_on (Forward at) (pos (p + j)) ≡ pos (v + j) = omega (arith, ints, d) in
+    ap (at_place line) e ∙ h (v + j) (omega arith) (a (v + j) (omega arith) (omega arith)) ∙ sym (ap (at_place line) d)
+
+pub run_back : (at : ℤ) (v high n : ℕ) → v < high → n ≤ v + 1 → ((w : ℕ) → v + 1 - n ≤ w → w ≤ v → w * 24 / high ≡ v * 24 / high) → (line : ℕ → Bool) (p : ℕ) → dot_on (Back at) (pos p) ≡ pos v
+    → ((w : ℕ) → w < high → w * 24 / high ≡ v * 24 / high → line w ≡ line v) → (j : ℕ) → j < n → at_place line (dot_on (Back at) (pos (p + j))) ≡ at_place line (dot_on (Back at) (pos p))
+run_back at v high n i m a line p d h j l =
+    let e : dot_on (Back at) (pos (p + j)) ≡ pos (v - j) = omega (arith, ints, d) in
+    ap (at_place line) e ∙ h (v - j) (omega arith) (a (v - j) (omega arith) (omega arith)) ∙ sym (ap (at_place line) d)

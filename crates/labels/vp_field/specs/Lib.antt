@@ -14,3 +14,4 @@ pub mod Axes
 pub mod Rows
 pub mod Drawn
 pub mod Alone
+pub mod Stretched

@@ -36,7 +36,8 @@ fn paint_text(
     ensures { RowsPainted 32 on.op (drawn sheets.now stored.now (contents.Text text) on first)
         band.old band.new }
 {
-    paint_standing(&cells(sheets, stored, text), on, first, band);
+    let ink = cells(sheets, stored, text);
+    paint_standing(&ink, Some(ink.h), on, first, band);
 }
 
 /// Paints a block of lines.
@@ -59,7 +60,7 @@ fn paint_block(
     let rows = BlockRows {
         block: ink.from_row(line),
     };
-    paint_standing(&rows, on, first, band);
+    paint_standing(&rows, None, on, first, band);
 }
 
 /// Paints a linear symbol and its text; nothing where the data have none.
@@ -86,7 +87,7 @@ fn paint_bars(
                 Font::A,
                 bars.place,
             );
-            paint_standing(&ink, on, first, band);
+            paint_standing(&ink, None, on, first, band);
         }
         Err(_) => {}
     }
@@ -106,7 +107,7 @@ fn paint_qr(stored: &[u8], symbol: QrSymbol, on: Standing, first: u32, band: &mu
         usize::from(symbol.version),
         usize::from(symbol.mask),
     );
-    paint_standing(&qr.scaled(u32::from(symbol.module)), on, first, band);
+    paint_standing(&qr.scaled(u32::from(symbol.module)), None, on, first, band);
 }
 
 /// Applies the field's operation to the dots of a band, whose first row is row `first` of the label as it
@@ -141,7 +142,7 @@ fn paint_content(
     match field.content {
         Content::Text(text) => paint_text(sheets, stored, text, turned, first, band),
         Content::Block(block) => paint_block(sheets, stored, block, turned, first, band),
-        Content::Box(shape) => paint_standing(&Frame::of(shape), on, first, band),
+        Content::Box(shape) => paint_standing(&Frame::of(shape), None, on, first, band),
         Content::Picture(picture) => return paint_picture(stored, picture, on, mark, first, band),
         Content::Bars(bars) => paint_bars(sheets, stored, bars, turned, first, band),
         Content::Qr(symbol) => paint_qr(stored, symbol, on, first, band),

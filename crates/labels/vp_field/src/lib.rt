@@ -29,6 +29,7 @@ mod lines;
 mod paint;
 mod picture;
 mod standing;
+mod stretched;
 mod text;
 mod turning;
 mod view;

@@ -5,10 +5,12 @@ ghost use Rattle.vp_dots.specs.Painting.{Painted};
 ghost use Rattle.vp_dots.specs.Places.{RowsPainted};
 ghost use Rattle.vp_field.specs.Places.{at_place};
 ghost use Rattle.vp_field.specs.Axes.{IsWithin, dot_on, laid};
+ghost use Rattle.vp_field.specs.Stretched.{AreStretched};
 ghost use Rattle.vp_field.specs.declared.axis.Lines.TheVariants.{Along, Across};
 
 use crate::axis::{Axis, Lines};
 use crate::line::{drawn, paint_line, paint_over};
+use crate::stretched::alike_dots;
 use vp_dots::{Band, Ink, Op, dot_of, fill_dots, lay_eight};
 
 /// The dots of a row of a band.
@@ -38,8 +40,8 @@ fn repeats_above<I: Ink>(ink: &I, rows: Axis, row: u64) -> bool
     }
 }
 
-/// How many places from one on, and before another, are known to show the same line.
-fn alike_places<I: Ink>(ink: &I, axis: Axis, from: u64, to: u64) -> u64
+/// How many places from one on, and before another, show the same line, as the ink says of each two.
+fn repeating_places<I: Ink>(ink: &I, axis: Axis, from: u64, to: u64) -> u64
     requires { from < to }
     ensures some { 0 < result }
     ensures within { from + result ≤ to }
@@ -53,6 +55,22 @@ fn alike_places<I: Ink>(ink: &I, axis: Axis, from: u64, to: u64) -> u64
         }
     }
     to - from
+}
+
+/// How many places from one on, and before another, are known to show the same line.
+fn alike_places<I: Ink>(ink: &I, stretched: Option<u32>, axis: Axis, from: u64, to: u64) -> u64
+    requires stretched { AreStretched stretched (I.ink_at ink.now) }
+    requires places { from < to }
+    ensures some { 0 < result }
+    ensures within { from + result ≤ to }
+    ensures alike { (j : ℕ) → j < result → (u : ℕ)
+        → at_place (λ v. I.ink_at ink.now u v) (dot_on axis (pos (from + j)))
+        ≡ at_place (λ v. I.ink_at ink.now u v) (dot_on axis (pos from)) }
+{
+    match (stretched, axis.dot_on(from)) {
+        (Some(high), Some(v)) if v < high => alike_dots(axis, v, high).min(to - from),
+        _ => repeating_places(ink, axis, from, to),
+    }
 }
 
 /// Paints rows of the band, from row k on, each of which shows line v.
@@ -83,13 +101,15 @@ fn paint_alike<I: Ink>(
 /// Paints ink whose lines lie along the rows.
 fn paint_along<I: Ink>(
     ink: &I,
+    stretched: Option<u32>,
     op: Op,
     columns: Axis,
     rows: Axis,
     first: u32,
     band: &mut Band<156, 32>,
 )
-    requires { IsWithin (2 ^ 41) columns }
+    requires stretched { AreStretched stretched (I.ink_at ink.now) }
+    requires near { IsWithin (2 ^ 41) columns }
     ensures { RowsPainted 32 op (λ x k. laid Along columns rows (I.ink_at ink.now) (pos x)
         (pos (first + k))) band.old band.new }
 {
@@ -99,7 +119,7 @@ fn paint_along<I: Ink>(
     let mut k = from.saturating_sub(first);
     let end = to.saturating_sub(first).min(32);
     while k < end {
-        let alike = alike_places(ink, rows, first + k, first + end);
+        let alike = alike_places(ink, stretched, rows, first + k, first + end);
         if let Some(v) = rows.dot_on(first + k) {
             paint_alike(ink, v, op, columns, k as usize, alike as usize, band);
         }
@@ -190,6 +210,7 @@ fn paint_run(op: Op, line: [u8; 4], from: u64, to: u64, band: &mut Band<156, 32>
 /// it painted, and the column behind them. A run that is known to be alike is painted row by row.
 fn paint_columns<I: Ink>(
     ink: &I,
+    stretched: Option<u32>,
     op: Op,
     columns: Axis,
     rows: Axis,
@@ -199,6 +220,7 @@ fn paint_columns<I: Ink>(
     line: [u8; 4],
     band: &mut Band<156, 32>,
 ) -> (u64, [u8; 4])
+    requires stretched { AreStretched stretched (I.ink_at ink.now) }
     requires low { I.height ink.now < 2 ^ 32 }
     requires near { IsWithin (2 ^ 41) rows }
     requires x { x < end }
@@ -212,7 +234,7 @@ fn paint_columns<I: Ink>(
     ensures line { (k : ℕ) → k < 32 → dot result.1 k ≡ laid Across columns rows (I.ink_at ink.now)
         (pos (x + result.0)) (pos (first + k)) }
 {
-    let alike = alike_places(ink, columns, x, end);
+    let alike = alike_places(ink, stretched, columns, x, end);
     if alike >= RUN {
         let behind = column_of(ink, columns, rows, x + alike, first);
         paint_run(op, line, x, x + alike, band);
@@ -227,13 +249,15 @@ fn paint_columns<I: Ink>(
 /// Paints ink whose lines lie across the rows.
 fn paint_across<I: Ink>(
     ink: &I,
+    stretched: Option<u32>,
     op: Op,
     columns: Axis,
     rows: Axis,
     first: u32,
     band: &mut Band<156, 32>,
 )
-    requires { IsWithin (2 ^ 41) rows }
+    requires stretched { AreStretched stretched (I.ink_at ink.now) }
+    requires near { IsWithin (2 ^ 41) rows }
     ensures { RowsPainted 32 op (λ x k. laid Across columns rows (I.ink_at ink.now) (pos x)
         (pos (first + k))) band.old band.new }
 {
@@ -244,16 +268,18 @@ fn paint_across<I: Ink>(
     let mut x = from;
     let mut line = column_of(ink, columns, rows, x, first);
     while x < end {
-        let (painted, behind) = paint_columns(ink, op, columns, rows, x, end, first, line, band);
+        let (painted, behind) =
+            paint_columns(ink, stretched, op, columns, rows, x, end, first, line, band);
         x += painted;
         line = behind;
     }
 }
 
 /// Applies the operation to the dots of a band, whose first row is row `first` of the label, where ink that
-/// lies so on the label has ink.
+/// lies so on the label has ink. Its lines may be known to be stretched.
 pub fn paint_laid<I: Ink>(
     ink: &I,
+    stretched: Option<u32>,
     op: Op,
     lines: Lines,
     columns: Axis,
@@ -261,13 +287,14 @@ pub fn paint_laid<I: Ink>(
     first: u32,
     band: &mut Band<156, 32>,
 )
+    requires stretched { AreStretched stretched (I.ink_at ink.now) }
     requires columns { IsWithin (2 ^ 41) columns }
     requires rows { IsWithin (2 ^ 41) rows }
     ensures { RowsPainted 32 op (λ x k. laid lines columns rows (I.ink_at ink.now) (pos x)
         (pos (first + k))) band.old band.new }
 {
     match lines {
-        Lines::Along => paint_along(ink, op, columns, rows, first, band),
-        Lines::Across => paint_across(ink, op, columns, rows, first, band),
+        Lines::Along => paint_along(ink, stretched, op, columns, rows, first, band),
+        Lines::Across => paint_across(ink, stretched, op, columns, rows, first, band),
     }
 }

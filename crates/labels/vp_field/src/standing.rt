@@ -3,6 +3,7 @@ ghost use Rattle.std.specs.Prelude.{◌≡◌, ℕ, ◌+◌, ◌^◌, Bool, ℤ,
 ghost use Rattle.vp_dots.specs.Places.{RowsPainted};
 ghost use Rattle.vp_field.specs.Axes.{laid, IsWithin};
 ghost use Rattle.vp_field.specs.Standing.{standing, IsNear};
+ghost use Rattle.vp_field.specs.Stretched.{AreStretched};
 ghost use Rattle.vp_field.specs.Views.{seen_x, seen_y};
 
 use crate::laid::Laid;
@@ -38,13 +39,29 @@ impl Standing {
 }
 
 /// Applies the operation to the dots of a band, whose first row is row `first` of the label as it is put out,
-/// where ink that stands on the label has ink.
-pub fn paint_standing<I: Ink>(ink: &I, on: Standing, first: u32, band: &mut Band<156, 32>)
-    requires { IsNear on.left on.top }
+/// where ink that stands on the label has ink. Its lines may be known to be stretched.
+pub fn paint_standing<I: Ink>(
+    ink: &I,
+    stretched: Option<u32>,
+    on: Standing,
+    first: u32,
+    band: &mut Band<156, 32>,
+)
+    requires stretched { AreStretched stretched (I.ink_at ink.now) }
+    requires near { IsNear on.left on.top }
     ensures { RowsPainted 32 on.op (λ x k. standing on.left on.top on.orientation (I.width ink.now)
         (I.height ink.now) (I.ink_at ink.now) (seen_x on.view (pos x))
         (seen_y on.view (pos (first + k)))) band.old band.new }
 {
     let laid = on.laid(ink);
-    paint_laid(ink, on.op, laid.lines, laid.columns, laid.rows, first, band);
+    paint_laid(
+        ink,
+        stretched,
+        on.op,
+        laid.lines,
+        laid.columns,
+        laid.rows,
+        first,
+        band,
+    );
 }

@@ -1,7 +1,7 @@
 use Rattle.std.proofs.Common.{◌≡◌, ℕ, ◌+◌, ◌<◌, pos}
 use Rattle.vp_field.specs.Places.{at_place}
 use Rattle.vp_field.specs.Axes.{dot_on}
-use Rattle.vp_field.proofs.paint.alike_places.Given as goal
+use Rattle.vp_field.proofs.paint.repeating_places.Given as goal
 
 -- n rows show the same line
 abbrev pub invariant-loop-n : goal.invariant-loop-n
