@@ -12,6 +12,7 @@
 //! - `content`, `field`: what fields show, and how they are painted.
 //! - `view`: how a label is put out.
 //! - `axis`, `laid`: which way the lines of an ink run on the label as it is put out, and where they begin.
+//! - `stretched`: which lines that show the rows of stretched characters are alike.
 //! - `line`, `paint`, `standing`: ink painted along the rows of a band or across them.
 //! - `band`: a white band, and one cut at the label's edges.
 //! - `laws`: what the dots of a label come to.
