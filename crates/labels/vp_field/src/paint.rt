@@ -268,8 +268,9 @@ fn paint_across<I: Ink>(
     let mut x = from;
     let mut line = column_of(ink, columns, rows, x, first);
     while x < end {
-        let (painted, behind) =
-            paint_columns(ink, stretched, op, columns, rows, x, end, first, line, band);
+        let (painted, behind) = paint_columns(
+            ink, stretched, op, columns, rows, x, end, first, line, band,
+        );
         x += painted;
         line = behind;
     }
