@@ -260,7 +260,8 @@ pub fn dot_in(sheet: &Option<Sheet>, c: u8, x: u32, y: u32) -> bool
 
 /// The lines of a cell of a sheet, unless cells are larger than so many dots, or there is no sheet.
 pub fn ready_in(sheet: &Option<Sheet>, c: u8, w: u32, h: u32) -> Option<Ready<'_>>
-    ensures { MatchOption result (Unit {0}) (λ ready. IsReady h ready.above ready.words.now (sheet_dot sheet.now c)
+    ensures { MatchOption result (Unit {0}) (λ ready.
+        IsReady h ready.above ready.words.now (sheet_dot sheet.now c)
         × ((x y : ℕ) → sheet_dot sheet.now c x y ≡ true → (x < w) × (y < h))) }
 {
     sheet.as_ref()?.ready(c, w, h)
