@@ -3,7 +3,7 @@ use Rattle.std.proofs.Common.{inl, inr, ◌≡◌, ℕ, suc, ◌+◌, ◌-◌, �
 use mathlib.Core.Bool.{beq}
 use Rattle.std.proofs.lemmas.Int.{ints, to_z-of_z}
 use Rattle.std.proofs.lemmas.Nat.Bits.{bit_at-zero}
-use Rattle.std.proofs.lemmas.Bool.{cases_lt, lt-ltb, le-ltb, lt-leb, le-leb}
+use Rattle.std.proofs.lemmas.Bool.{cases_lt, eqb-true, lt-ltb, le-ltb, lt-leb, le-leb}
 use Rattle.vp_dots.specs.Dots.{bit, dot, dots, shifted}
 use Rattle.vp_dots.specs.Words.{word_dot}
 use Rattle.vp_dots.specs.Painting.{paint, Painted}
@@ -177,3 +177,7 @@ pub place_sum : (at from place : ℤ) (x : ℕ) → SFits w64 at → SFits w64 f
     → to_z w64 (of_z w64 place) ≡ at +ℤ pos x
 place_sum at from place x fits f e s =
     to_z-of_z w64 place (subst (SFits w64) (sym s.1) s.0) ∙ s.1 ∙ ap (λ z. z +ℤ to_z w64 (of_z w64 from)) (to_z-of_z w64 at fits) ∙ ap (λ z. at +ℤ z) (to_z-of_z w64 from f ∙ e)
+
+pub empty_of : (es : List ℕ) → true ≡ eqb (length es) 0 → [] ≡ es
+empty_of [] h = refl
+empty_of (e ∷ es) h = let z : length (e ∷ es) ≡ 0 = eqb-true (length (e ∷ es)) 0 (sym h) in absurd (omega arith)

@@ -112,6 +112,9 @@ impl Strokes<'_> {
         ensures { Draws op at row.old row.new pen result
             (sized self.now.symbology self.now.narrow self.now.wide elements.now) }
     {
+        if elements.is_empty() {
+            return pen;
+        }
         let next = self.behind(elements, pen);
         let Some(place) = at.checked_add(i64::from(pen.x)) else {
             return self.draw_each(elements, pen, op, at, row);

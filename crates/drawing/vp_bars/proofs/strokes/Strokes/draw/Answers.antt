@@ -1,8 +1,15 @@
-use Rattle.std.proofs.Common.{rules, w64, to_z, of_z}
+use Rattle.std.proofs.Common.{[], ap, rules, w64, to_z, of_z}
 use mir.Val.{SFits}
 use Rattle.vp_bars.proofs.Paints.{moved_same}
-use Rattle.vp_bars.proofs.WordBars.{draws_at_once, draws_past, place_sum}
+use Rattle.vp_bars.specs.Widths.{sized}
+use Rattle.vp_bars.proofs.Draws.{draws_none, draws_same}
+use Rattle.vp_bars.proofs.WordBars.{draws_at_once, draws_past, place_sum, empty_of}
 use Rattle.vp_bars.proofs.strokes.Strokes.draw.Goals as goal
+
+pub returns-then-is_empty : goal.returns-then-is_empty
+returns-then-is_empty c =
+    let s = c.args.self.now in
+    draws_same _ _ _ _ _ _ [] _ (ap (sized s.symbology s.narrow s.wide) (empty_of c.args.elements.now c.if-is_empty.ensures)) (draws_none _ _ c.args.row.now c.args.pen)
 
 pub returns-then-is_past : goal.returns-then-is_past
 returns-then-is_past c =
