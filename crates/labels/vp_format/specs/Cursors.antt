@@ -20,7 +20,7 @@ abbrev pub digit_value : Code → ℕ
 digit_value (Digit v) = v
 digit_value _ = 16
 
--- what a code adds to the counts before it: none of a digit, and more than any count of a code that is neither
+-- what a code adds to the counts before it: a digit nothing, and what is neither more than any count
 abbrev pub count_value : Code → ℕ
 count_value (Digit v) = 0
 count_value (Count n) = n
@@ -108,8 +108,9 @@ pub record Filled (from to v : ℕ) (old new : List ℕ) : Type 0 where
 abbrev pub AreSmall : ℕ → List ℕ → Type 0
 AreSmall x places = (j : ℕ) → j < x → slice_index places j < 16
 
--- the symbols, of which the first is spelled from a place of the codes on, show what the row's places have before
--- place x, and from there on what those show that are left, which are spelled from a later place on
+-- the symbols, of which the first is spelled from a place of the codes on, show what the places of the row
+-- have before place x, and from there on what those show that are left, which are spelled from a later place
+-- on
 pub record Reached (width : ℕ) (all : List Spelled) (from : ℕ) (places : List ℕ) (x : ℕ)
     (left : List Spelled) (at : ℕ) : Type 0 where
   pub so_far : (j : ℕ) → j < x → shown width 0 all j ≡ Value (slice_index places j)

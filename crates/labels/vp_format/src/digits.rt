@@ -50,8 +50,8 @@ fn put_values(bytes: &[u8], at: usize, x: usize, places: &mut [u8])
     ((codes & u8x16::splat(15)) + letters * u8x16::splat(9)).copy_to_slice(&mut places[x..]);
 }
 
-/// Reads digits from a place of a row of so many places on, as far as they go, and gives the place behind them
-/// and that of the next code; of the codes' last bytes none may be read.
+/// Reads digits from a place of a row of so many places on, as far as they go, and gives the place behind
+/// them and that of the next code. Of the codes' last bytes none may be read.
 pub fn digits(
     bytes: &[u8],
     first: usize,

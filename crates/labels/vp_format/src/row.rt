@@ -58,8 +58,8 @@ fn end_of_run(x: usize, count: u128, places: usize) -> usize
     }
 }
 
-/// Reads digits and short runs from a place of a row of so many places on, and gives the place behind them, and
-/// the byte of the codes that comes next, if the row goes on and there is one.
+/// Reads digits and short runs from a place of a row of so many places on, and gives the place behind them,
+/// and the byte of the codes that comes next, if the row goes on and there is one.
 fn read_short(
     codes: &mut Codes,
     from: usize,
@@ -243,8 +243,8 @@ fn copy(codes: &mut Codes, row: &mut [u8]) -> RowEnd
     ended(0, 0)
 }
 
-/// Turns the first bytes of a longer row, the row before, into the row that starts at a spot; of the places any
-/// may be overwritten.
+/// Turns the first bytes of a longer row, the row before, into the row that starts at a spot; of the places
+/// any may be overwritten.
 pub fn next_row(
     codes: &mut Codes,
     coding: Coding,

@@ -6,9 +6,10 @@ ghost use Rattle.vp_format.specs.Cursors.{symbols_from, Reached};
 use crate::codes::{count_value, digit_value};
 use crate::packing::{SHORT, fill_short};
 
-/// Reads digits and runs of at most `SHORT` places from a place of a row of so many places on, as long as they
-/// end within it, and gives the place behind them and that of the next code that isn't read.
-// Each code fills as many places, a count with what its digit overwrites, so that nothing hangs on which it is.
+/// Reads digits and runs of at most `SHORT` places from a place of a row of so many places on, as long as
+/// they end within it, and gives the place behind them and that of the next code that isn't read.
+// Each code fills as many places, a count with what its digit overwrites, so that nothing hangs on which it
+// is.
 pub fn short_runs(
     bytes: &[u8],
     first: usize,
