@@ -161,14 +161,23 @@ pub record Layout : Type 0 where
 abbrev pub first_layout : Width → Layout
 first_layout paper = record { line = []; position = 0; frame = first_frame paper; vertical = 0 }
 
+-- whether it is a page's
+abbrev pub on_page : Layout → Bool
+on_page l = is_paged l.frame.mode
+
+-- how many dots the line holds
+abbrev pub length_for : Setup → List EscItem → Layout → ℕ
+length_for setup before l = length_by setup before l.frame
+
 -- a character, in a new line where it breaks the one that stands
 abbrev pub with_character : Image → ℕ → ℕ → Layout → Layout
-with_character image length spacing l = record l {
-  line = line_with l.line l.position image length;
-  position = next_position l.position image.width length;
-  vertical =
-      vertical_after l.vertical (rows_if (breaks l.position image.width length) (max (height l.line) spacing));
-}
+with_character image length spacing l =
+    let broken = breaks l.position image.width length in
+    record l {
+      line = line_with l.line l.position image length;
+      position = next_position l.position image.width length;
+      vertical = vertical_after l.vertical (rows_if broken (max (height l.line) spacing));
+    }
 
 -- a column of dots
 abbrev pub with_column : Image → ℕ → Layout → Layout
@@ -177,15 +186,30 @@ with_column image length l = record l {
   position = position_after_column l.position image.width length;
 }
 
--- the position moved
+-- the position elsewhere, in the line and down the page
 abbrev pub moved_to : ℕ → Layout → Layout
 moved_to position l = record l { position = position }
+
+abbrev pub down_at : ℕ → Layout → Layout
+down_at vertical l = record l { vertical = vertical }
+
+-- so many rows further down
+abbrev pub further : ℕ → Layout → Layout
+further rows l = record l { vertical = vertical_after l.vertical rows }
+
+-- at the area's top, if so
+abbrev pub at_top_if : Bool → Layout → Layout
+at_top_if top l = record l { vertical = if top then 0 else l.vertical }
 
 -- the line printed or laid in so many rows
 abbrev pub fed : ℕ → Layout → Layout
 fed rows l = record l { line = []; position = 0; vertical = vertical_after l.vertical rows }
 
--- the line given up or laid, if so, with the position at its start or where it is
+-- in as many as it has, if it is open
+abbrev pub ended : ℕ → Layout → Layout
+ended spacing l = fed (rows_if_open l.line spacing) l
+
+-- the line given up or laid where it is, if so: the next one is at its start, or at the same position
 abbrev pub closed_if : Bool → Layout → Layout
 closed_if ends l = record l { line = if ends then [] else l.line; position = if ends then 0 else l.position }
 
@@ -195,39 +219,30 @@ emptied_if ends l = record l { line = if ends then [] else l.line }
 -- a cut ends the line on paper
 abbrev pub cut_off : Layout → Layout
 cut_off l = record l {
-  line = if is_paged l.frame.mode then l.line else [];
-  position = if is_paged l.frame.mode then l.position else 0;
+  line = if on_page l then l.line else [];
+  position = if on_page l then l.position else 0;
 }
 
--- so many rows further down
-abbrev pub further : ℕ → Layout → Layout
-further rows l = record l { vertical = vertical_after l.vertical rows }
-
--- the vertical position elsewhere
-abbrev pub down_at : ℕ → Layout → Layout
-down_at vertical l = record l { vertical = vertical }
-
--- the vertical position at the area's top, if so
-abbrev pub at_top_if : Bool → Layout → Layout
-at_top_if top l = record l { vertical = if top then 0 else l.vertical }
-
-abbrev pub in_frame : Frame → Layout → Layout
-in_frame f l = record l { frame = f }
+-- another mode
+abbrev pub in_mode : Mode → Layout → Layout
+in_mode m l = record l { frame = record l.frame { mode = m } }
 
 -- what an open line holds fast stays as it is
 abbrev pub unless_open : Frame → Layout → Layout
 unless_open f l = record l { frame = if is_open l.line then l.frame else f }
 
--- what an item leaves of it
+-- what an item leaves of it: characters, columns, and where the next one goes
 abbrev pub layout_by : Setup → List EscItem → EscItem → Layout → Layout
 layout_by setup before (Character c) l =
-    with_character (character setup before c) (length_by setup before l.frame) (line_spacing before) l
-layout_by setup before (Column8 byte) l = with_column (column8 before byte) (length_by setup before l.frame) l
-layout_by setup before (Column24 bytes) l =
-    with_column (column24 before bytes) (length_by setup before l.frame) l
-layout_by setup before Tab l = moved_to (tabbed (tab_stops before) l.position (length_by setup before l.frame)) l
-layout_by setup before (Position n) l = moved_to (position_at n l.position (length_by setup before l.frame)) l
-layout_by setup before (MovePosition n) l = moved_to (position_moved n l.position (length_by setup before l.frame)) l
+    with_character (character setup before c) (length_for setup before l) (line_spacing before) l
+layout_by setup before (Column8 byte) l = with_column (column8 before byte) (length_for setup before l) l
+layout_by setup before (Column24 bytes) l = with_column (column24 before bytes) (length_for setup before l) l
+layout_by setup before Tab l =
+    moved_to (tabbed (tab_stops before) l.position (length_for setup before l)) l
+layout_by setup before (Position n) l = moved_to (position_at n l.position (length_for setup before l)) l
+layout_by setup before (MovePosition n) l =
+    moved_to (position_moved n l.position (length_for setup before l)) l
+-- what ends the line
 layout_by setup before LineFeed l = fed (max (height l.line) (line_spacing before)) l
 layout_by setup before (FeedDots n) l = fed (max (height l.line) n) l
 layout_by setup before (FeedLines n) l = fed (lines_rows n (height l.line) (line_spacing before)) l
@@ -235,39 +250,37 @@ layout_by setup before CutLeavingOnePoint l = cut_off l
 layout_by setup before CutLeavingThreePoints l = cut_off l
 layout_by setup before (Cut cut) l = cut_off l
 layout_by setup before (FeedAndCut cut dots) l = cut_off l
+layout_by setup before (Symbol kind bytes more) l =
+    further (image_rows (symbol_image setup before (Symbol kind bytes more))) (ended (line_spacing before) l)
+layout_by setup before QrPrint l =
+    further (image_rows (symbol_image setup before QrPrint)) (ended (line_spacing before) l)
 layout_by setup before (Raster scale bytes rows) l =
     let drawn = draws scale.value bytes rows in
     further (rows_if drawn (rows_if_open l.line (line_spacing before))) (closed_if drawn l)
-layout_by setup before (RasterByte byte) l =
-    record l {
-      vertical =
-          (if is_row_end before then vertical_after l.vertical (times_down (raster_scale before))
-          else l.vertical);
-    }
-layout_by setup before (Symbol kind bytes more) l =
-    further (image_rows (symbol_image setup before (Symbol kind bytes more)))
-    (fed (rows_if_open l.line (line_spacing before)) l)
-layout_by setup before QrPrint l =
-    further (image_rows (symbol_image setup before QrPrint)) (fed (rows_if_open l.line (line_spacing before)) l)
+layout_by setup before (RasterByte byte) l = record l {
+  vertical =
+      (if is_row_end before then vertical_after l.vertical (times_down (raster_scale before))
+      else l.vertical);
+}
+-- ESC @, and the modes
 layout_by setup before Initialize l = first_layout setup.width
 layout_by setup before PageMode l =
     let begins = begins_page l.frame.mode l.line in
     unless_open (record l.frame { mode = Page })
     (record l { position = if begins then 0 else l.position; vertical = if begins then 0 else l.vertical })
-layout_by setup before StandardMode l =
-    in_frame (record l.frame { mode = Standard }) (closed_if (is_paged l.frame.mode) l)
-layout_by setup before (VerticalPosition n) l = down_at n (emptied_if (is_paged l.frame.mode) l)
+layout_by setup before StandardMode l = in_mode Standard (closed_if (on_page l) l)
+-- what lays the line of a page where it is
+layout_by setup before (VerticalPosition n) l = down_at n (emptied_if (on_page l) l)
 layout_by setup before (MoveVerticalPosition n) l =
-    down_at (vertical_moved n l.vertical) (emptied_if (is_vertical_move n l.vertical && is_paged l.frame.mode) l)
+    down_at (vertical_moved n l.vertical) (emptied_if (is_vertical_move n l.vertical && on_page l) l)
 layout_by setup before (SetArea x y wide high) l =
-    let begins = is_area setup.width x y wide high in
-    at_top_if begins (closed_if (begins && is_paged l.frame.mode) l)
+    let begins = is_area setup.width x y wide high in at_top_if begins (closed_if (begins && on_page l) l)
 layout_by setup before (SetDirection s) l =
-    at_top_if (is_some s.value) (closed_if (is_some s.value && is_paged l.frame.mode) l)
-layout_by setup before PrintPage l = emptied_if (is_paged l.frame.mode) l
-layout_by setup before FormFeed l =
-    in_frame (record l.frame { mode = Standard }) (closed_if (is_paged l.frame.mode) l)
-layout_by setup before Cancel l = down_at 0 (closed_if (is_paged l.frame.mode) l)
+    at_top_if (is_some s.value) (closed_if (is_some s.value && on_page l) l)
+layout_by setup before PrintPage l = emptied_if (on_page l) l
+layout_by setup before FormFeed l = in_mode Standard (closed_if (on_page l) l)
+layout_by setup before Cancel l = down_at 0 (closed_if (on_page l) l)
+-- GS L, GS W
 layout_by setup before (LeftMargin n) l =
     unless_open (record l.frame { left_margin = margin_or n setup.width l.frame.left_margin }) l
 layout_by setup before (AreaWidth n) l =
