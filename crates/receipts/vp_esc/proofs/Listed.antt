@@ -107,8 +107,8 @@ byte_listed lead name of_byte.Direction n e = rw (e.0, e.1) refl
 byte_listed lead name of_byte.Justify n e = rw (e.0, e.1) refl
 byte_listed lead name of_byte.Magnify n e = rw (e.0, e.1) refl
 byte_listed lead name of_byte.Inverse n e = rw (e.0, e.1) refl
-byte_listed lead name of_byte.BarTextPlace n e = rw (e.0, e.1) refl
-byte_listed lead name of_byte.BarTextFont n e = rw (e.0, e.1) refl
+byte_listed lead name of_byte.HriPosition n e = rw (e.0, e.1) refl
+byte_listed lead name of_byte.HriFont n e = rw (e.0, e.1) refl
 byte_listed lead name of_byte.BarHeight n e = rw (e.0, e.1) refl
 byte_listed lead name of_byte.BarModule n e = rw (e.0, e.1) refl
 

@@ -38,8 +38,8 @@ IsNamed (Plain (OfByte of_byte.Justify)) = Is Esc 0x61
 IsNamed (Plain (OfByte of_byte.FeedLines)) = Is Esc 0x64
 IsNamed (Plain (OfByte of_byte.Magnify)) = Is Gs 0x21
 IsNamed (Plain (OfByte of_byte.Inverse)) = Is Gs 0x42
-IsNamed (Plain (OfByte of_byte.BarTextPlace)) = Is Gs 0x48
-IsNamed (Plain (OfByte of_byte.BarTextFont)) = Is Gs 0x66
+IsNamed (Plain (OfByte of_byte.HriPosition)) = Is Gs 0x48
+IsNamed (Plain (OfByte of_byte.HriFont)) = Is Gs 0x66
 IsNamed (Plain (OfByte of_byte.BarHeight)) = Is Gs 0x68
 IsNamed (Plain (OfByte of_byte.BarModule)) = Is Gs 0x77
 IsNamed (Plain (OfWord of_word.Position)) = Is Esc 0x24
@@ -106,12 +106,12 @@ esc_command_named b k e =
     pick Esc b 0x57 k (Plain Area) _ (refl, refl) (
     pick Esc b 0x5C k (Plain (OfWord of_word.MovePosition)) _ (refl, refl) (
     pick Esc b 0x61 k (Plain (OfByte of_byte.Justify)) _ (refl, refl) (
-    pass Esc b k (Plain Sensor) (eqb b 0x63) _ tt (
+    pass Esc b k (Plain Sensor) _ _ tt (
     pick Esc b 0x64 k (Plain (OfByte of_byte.FeedLines)) _ (refl, refl) (
     pick Esc b 0x69 k (Plain (Alone alone.CutLeavingOnePoint)) _ (refl, refl) (
     pick Esc b 0x6D k (Plain (Alone alone.CutLeavingThreePoints)) _ (refl, refl) (
-    pass Esc b k (Plain (Unused arguments.Three)) (eqb b 0x70) _ tt (
-    pass Esc b k (Plain (Unused arguments.One)) (eqb b 0x25 || eqb b 0x3D || eqb b 0x3F || eqb b 0x52 || eqb b 0x55 || eqb b 0x56 || eqb b 0x72 || eqb b 0x74 || eqb b 0x7B) _ tt (
+    pass Esc b k (Plain (Unused arguments.Three)) _ _ tt (
+    pass Esc b k (Plain (Unused arguments.One)) _ _ tt (
     λ f. none f)))))))))))))))))))))))))) e
 
 gs_command_named : (b : ℕ) (k : Command) → gs_command b ≡ Some k → IsNamed k Gs b
@@ -121,31 +121,31 @@ gs_command_named b k e =
     pick Gs b 0x28 k Function _ (refl, refl) (
     pick Gs b 0x38 k Graphics _ (refl, refl) (
     pick Gs b 0x42 k (Plain (OfByte of_byte.Inverse)) _ (refl, refl) (
-    pick Gs b 0x48 k (Plain (OfByte of_byte.BarTextPlace)) _ (refl, refl) (
+    pick Gs b 0x48 k (Plain (OfByte of_byte.HriPosition)) _ (refl, refl) (
     pick Gs b 0x4C k (Plain (OfWord of_word.LeftMargin)) _ (refl, refl) (
-    pass Gs b k (Plain (Unused arguments.Two)) (eqb b 0x50) _ tt (
+    pass Gs b k (Plain (Unused arguments.Two)) _ _ tt (
     pick Gs b 0x56 k (Plain Cut) _ (refl, refl) (
     pick Gs b 0x57 k (Plain (OfWord of_word.AreaWidth)) _ (refl, refl) (
     pick Gs b 0x5C k (Plain (OfWord of_word.MoveVerticalPosition)) _ (refl, refl) (
-    pick Gs b 0x66 k (Plain (OfByte of_byte.BarTextFont)) _ (refl, refl) (
+    pick Gs b 0x66 k (Plain (OfByte of_byte.HriFont)) _ (refl, refl) (
     pick Gs b 0x68 k (Plain (OfByte of_byte.BarHeight)) _ (refl, refl) (
     pick Gs b 0x6B k Symbol _ (refl, refl) (
     pick Gs b 0x76 k Raster _ (refl, refl) (
     pick Gs b 0x77 k (Plain (OfByte of_byte.BarModule)) _ (refl, refl) (
-    pass Gs b k (Plain (Unused arguments.One)) (eqb b 0x49 || eqb b 0x61 || eqb b 0x62 || eqb b 0x72) _ tt (
+    pass Gs b k (Plain (Unused arguments.One)) _ _ tt (
     λ f. none f))))))))))))))))) e
 
 fs_command_named : (b : ℕ) (k : Command) → fs_command b ≡ Some k → IsNamed k Fs b
 fs_command_named b k e =
-    pass Fs b k (Plain (Unused arguments.None)) (eqb b 0x26 || eqb b 0x2E) _ tt (
-    pass Fs b k (Plain (Unused arguments.One)) (eqb b 0x21 || eqb b 0x2D || eqb b 0x43 || eqb b 0x57) _ tt (
-    pass Fs b k (Plain (Unused arguments.Two)) (eqb b 0x53 || eqb b 0x70) _ tt (
+    pass Fs b k (Plain (Unused arguments.None)) _ _ tt (
+    pass Fs b k (Plain (Unused arguments.One)) _ _ tt (
+    pass Fs b k (Plain (Unused arguments.Two)) _ _ tt (
     λ f. none f))) e
 
 dle_command_named : (b : ℕ) (k : Command) → dle_command b ≡ Some k → IsNamed k Dle b
 dle_command_named b k e =
-    pass Dle b k (Plain RealTime) (eqb b 0x04) _ tt (
-    pass Dle b k (Plain (Unused arguments.One)) (eqb b 0x05) _ tt (
+    pass Dle b k (Plain RealTime) _ _ tt (
+    pass Dle b k (Plain (Unused arguments.One)) _ _ tt (
     λ f. none f)) e
 
 -- each command is named so

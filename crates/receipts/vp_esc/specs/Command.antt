@@ -71,13 +71,13 @@ gs_command b =
     else if b == 0x28 then Some Function
     else if b == 0x38 then Some Graphics
     else if b == 0x42 then Some (Plain (OfByte of_byte.Inverse))
-    else if b == 0x48 then Some (Plain (OfByte of_byte.BarTextPlace))
+    else if b == 0x48 then Some (Plain (OfByte of_byte.HriPosition))
     else if b == 0x4C then Some (Plain (OfWord of_word.LeftMargin))
     else if b == 0x50 then Some (Plain (Unused arguments.Two))
     else if b == 0x56 then Some (Plain Cut)
     else if b == 0x57 then Some (Plain (OfWord of_word.AreaWidth))
     else if b == 0x5C then Some (Plain (OfWord of_word.MoveVerticalPosition))
-    else if b == 0x66 then Some (Plain (OfByte of_byte.BarTextFont))
+    else if b == 0x66 then Some (Plain (OfByte of_byte.HriFont))
     else if b == 0x68 then Some (Plain (OfByte of_byte.BarHeight))
     else if b == 0x6B then Some Symbol
     else if b == 0x76 then Some Raster

@@ -99,8 +99,8 @@ of_byte_item of_byte.Direction n = items.Direction (spelled n (Values.direction_
 of_byte_item of_byte.Justify n = items.Justify (spelled n (Values.justification_of n))
 of_byte_item of_byte.Magnify n = items.Magnify (spelled n (Values.magnification_of n))
 of_byte_item of_byte.Inverse n = items.Inverse (spelled n (bit n 0))
-of_byte_item of_byte.BarTextPlace n = items.BarTextPlace (spelled n (Values.text_place_of n))
-of_byte_item of_byte.BarTextFont n = items.BarTextFont (spelled n (Values.font_of n))
+of_byte_item of_byte.HriPosition n = items.HriPosition (spelled n (Values.hri_position_of n))
+of_byte_item of_byte.HriFont n = items.HriFont (spelled n (Values.font_of n))
 of_byte_item of_byte.BarHeight n = items.BarHeight n
 of_byte_item of_byte.BarModule n = items.BarModule n
 

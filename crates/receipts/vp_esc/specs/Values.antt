@@ -2,19 +2,19 @@
 use Rattle.std.specs.Prelude.{ℕ, ◌+◌, ◌/◌, ◌%◌, ◌^◌, ◌==◌, Bool, ◌&&◌, nat_le, ◌||◌, Option, Some, None}
 use Rattle.std.specs.Prelude.{if◌then◌else◌}
 use Rattle.vp_esc.specs.declared.item.Spelled.{Spelled}
-use Rattle.vp_esc.specs.declared.item.Font.{Font}
-use Rattle.vp_esc.specs.declared.item.Font.TheVariants.{A, B}
+use Rattle.vp_esc.specs.declared.item.CharacterFont.{CharacterFont}
+use Rattle.vp_esc.specs.declared.item.CharacterFont.TheVariants.{A, B}
 use Rattle.vp_esc.specs.declared.item.Underline.{Underline}
 use Rattle.vp_esc.specs.declared.item.Underline.TheVariants.{Off, OneRow, TwoRows}
 use Rattle.vp_esc.specs.declared.item.Justification.{Justification}
 use Rattle.vp_esc.specs.declared.item.Justification.TheVariants.{Left, Centre, Right}
-use Rattle.vp_esc.specs.declared.item.Direction.{Direction}
-use Rattle.vp_esc.specs.declared.item.Direction.TheVariants.{LeftToRight, BottomToTop, RightToLeft}
-use Rattle.vp_esc.specs.declared.item.Direction.TheVariants.{TopToBottom}
+use Rattle.vp_esc.specs.declared.item.PrintDirection.{PrintDirection}
+use Rattle.vp_esc.specs.declared.item.PrintDirection.TheVariants.{LeftToRight, BottomToTop, RightToLeft}
+use Rattle.vp_esc.specs.declared.item.PrintDirection.TheVariants.{TopToBottom}
 use Rattle.vp_esc.specs.declared.item.PrintMode.{PrintMode}
 use Rattle.vp_esc.specs.declared.item.Magnification.{Magnification}
-use Rattle.vp_esc.specs.declared.item.TextPlace.{TextPlace}
-use Rattle.vp_esc.specs.declared.item.TextPlace.TheVariants as places
+use Rattle.vp_esc.specs.declared.item.HriPosition.{HriPosition}
+use Rattle.vp_esc.specs.declared.item.HriPosition.TheVariants as positions
 use Rattle.vp_esc.specs.declared.item.Cut.{Cut}
 use Rattle.vp_esc.specs.declared.item.Cut.TheVariants.{Full, Partial}
 use Rattle.vp_esc.specs.declared.item.ColumnMode.{ColumnMode}
@@ -45,7 +45,7 @@ underline_of n =
     else None
 
 -- ESC M, GS f
-abbrev pub font_of : ℕ → Option Font
+abbrev pub font_of : ℕ → Option CharacterFont
 font_of n = if n == 0 || n == 48 then Some A else if n == 1 || n == 49 then Some B else None
 
 -- ESC a
@@ -57,7 +57,7 @@ justification_of n =
     else None
 
 -- ESC T
-abbrev pub direction_of : ℕ → Option Direction
+abbrev pub direction_of : ℕ → Option PrintDirection
 direction_of n =
     if n == 0 || n == 48 then Some LeftToRight
     else if n == 1 || n == 49 then Some BottomToTop
@@ -82,12 +82,12 @@ magnification_of n =
     if bit n 3 || bit n 7 then None else Some (record { width = 1 + n / 16 % 8; height = 1 + n % 8 })
 
 -- GS H
-abbrev pub text_place_of : ℕ → Option TextPlace
-text_place_of n =
-    if n == 0 || n == 48 then Some places.None
-    else if n == 1 || n == 49 then Some places.Above
-    else if n == 2 || n == 50 then Some places.Below
-    else if n == 3 || n == 51 then Some places.Both
+abbrev pub hri_position_of : ℕ → Option HriPosition
+hri_position_of n =
+    if n == 0 || n == 48 then Some positions.None
+    else if n == 1 || n == 49 then Some positions.Above
+    else if n == 2 || n == 50 then Some positions.Below
+    else if n == 3 || n == 51 then Some positions.Both
     else None
 
 -- GS V, function A: cuts

@@ -8,8 +8,8 @@ ghost use Rattle.vp_esc.specs.Units.{plain_item};
 
 use crate::item::{EscItem, Lead};
 use crate::value::{
-    bit, cut_of, direction_of, font_of, is_column_mode, is_cut, is_feed_cut, is_kind_counted,
-    is_kind_to_zero, justification_of, magnification_of, print_mode_of, spelled, text_place_of,
+    bit, cut_of, direction_of, font_of, hri_position_of, is_column_mode, is_cut, is_feed_cut,
+    is_kind_counted, is_kind_to_zero, justification_of, magnification_of, print_mode_of, spelled,
     underline_of, word,
 };
 use arrayvec::ArrayVec;
@@ -42,8 +42,8 @@ pub enum OfByte {
     Justify,
     Magnify,
     Inverse,
-    BarTextPlace,
-    BarTextFont,
+    HriPosition,
+    HriFont,
     BarHeight,
     BarModule,
 }
@@ -188,13 +188,13 @@ impl Command {
             0x28 => return Some(Command::Function),
             0x38 => return Some(Command::Graphics),
             0x42 => Plain::OfByte(OfByte::Inverse),
-            0x48 => Plain::OfByte(OfByte::BarTextPlace),
+            0x48 => Plain::OfByte(OfByte::HriPosition),
             0x4C => Plain::OfWord(OfWord::LeftMargin),
             0x50 => Plain::Unused(Arguments::Two),
             0x56 => Plain::Cut,
             0x57 => Plain::OfWord(OfWord::AreaWidth),
             0x5C => Plain::OfWord(OfWord::MoveVerticalPosition),
-            0x66 => Plain::OfByte(OfByte::BarTextFont),
+            0x66 => Plain::OfByte(OfByte::HriFont),
             0x68 => Plain::OfByte(OfByte::BarHeight),
             0x6B => return Some(Command::Symbol),
             0x76 => return Some(Command::Raster),
@@ -346,8 +346,8 @@ impl OfByte {
             OfByte::Justify => EscItem::Justify(spelled(n, justification_of(n))),
             OfByte::Magnify => EscItem::Magnify(spelled(n, magnification_of(n))),
             OfByte::Inverse => EscItem::Inverse(spelled(n, bit(n, 0))),
-            OfByte::BarTextPlace => EscItem::BarTextPlace(spelled(n, text_place_of(n))),
-            OfByte::BarTextFont => EscItem::BarTextFont(spelled(n, font_of(n))),
+            OfByte::HriPosition => EscItem::HriPosition(spelled(n, hri_position_of(n))),
+            OfByte::HriFont => EscItem::HriFont(spelled(n, font_of(n))),
             OfByte::BarHeight => EscItem::BarHeight(n),
             OfByte::BarModule => EscItem::BarModule(n),
         }

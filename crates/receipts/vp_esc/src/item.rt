@@ -10,7 +10,7 @@ pub struct Spelled<T> {
 
 /// The two fonts.
 #[derive(Clone, Copy)]
-pub enum Font {
+pub enum CharacterFont {
     A,
     B,
 }
@@ -33,7 +33,7 @@ pub enum Justification {
 
 /// Which way a page is printed, and where it begins.
 #[derive(Clone, Copy)]
-pub enum Direction {
+pub enum PrintDirection {
     /// Left to right from the upper left.
     LeftToRight,
     /// Bottom to top from the lower left.
@@ -47,7 +47,7 @@ pub enum Direction {
 /// What ESC ! sets at once.
 #[derive(Clone, Copy)]
 pub struct PrintMode {
-    pub font: Font,
+    pub font: CharacterFont,
     pub emphasized: bool,
     pub double_height: bool,
     pub double_width: bool,
@@ -61,9 +61,9 @@ pub struct Magnification {
     pub height: u8,
 }
 
-/// Where the text of a bar code stands.
+/// Where the text of a bar code stands (HRI, human-readable interpretation).
 #[derive(Clone, Copy)]
-pub enum TextPlace {
+pub enum HriPosition {
     None,
     Above,
     Below,
@@ -192,9 +192,9 @@ pub enum EscItem {
     /// ESC FF
     PrintPage,
     /// ESC M
-    Font(Spelled<Option<Font>>),
+    Font(Spelled<Option<CharacterFont>>),
     /// ESC T
-    Direction(Spelled<Option<Direction>>),
+    Direction(Spelled<Option<PrintDirection>>),
     /// ESC W: dots.
     Area {
         x: u16,
@@ -218,9 +218,9 @@ pub enum EscItem {
     /// GS B
     Inverse(Spelled<bool>),
     /// GS H
-    BarTextPlace(Spelled<Option<TextPlace>>),
+    HriPosition(Spelled<Option<HriPosition>>),
     /// GS f
-    BarTextFont(Spelled<Option<Font>>),
+    HriFont(Spelled<Option<CharacterFont>>),
     /// GS h: dots; 0 is ignored.
     BarHeight(u8),
     /// GS w: dots of a module, accepted from 2 to 6.

@@ -4,8 +4,8 @@ ghost use Rattle.vp_esc.specs.Values as spec;
 ghost use Rattle.vp_esc.specs.Values.{spelled as spelled_as};
 
 use crate::item::{
-    BarKind, ColumnMode, Cut, Direction, Font, Justification, Magnification, PrintMode, QrLevel,
-    QrModel, RasterScale, Spelled, TextPlace, Underline,
+    BarKind, CharacterFont, ColumnMode, Cut, HriPosition, Justification, Magnification,
+    PrintDirection, PrintMode, QrLevel, QrModel, RasterScale, Spelled, Underline,
 };
 
 /// A byte, and what it stands for.
@@ -41,12 +41,12 @@ pub fn underline_of(n: u8) -> Option<Underline>
     }
 }
 
-pub fn font_of(n: u8) -> Option<Font>
+pub fn font_of(n: u8) -> Option<CharacterFont>
     ensures { result ≡ spec.font_of n }
 {
     match n {
-        0 | 48 => Some(Font::A),
-        1 | 49 => Some(Font::B),
+        0 | 48 => Some(CharacterFont::A),
+        1 | 49 => Some(CharacterFont::B),
         _ => None,
     }
 }
@@ -62,14 +62,14 @@ pub fn justification_of(n: u8) -> Option<Justification>
     }
 }
 
-pub fn direction_of(n: u8) -> Option<Direction>
+pub fn direction_of(n: u8) -> Option<PrintDirection>
     ensures { result ≡ spec.direction_of n }
 {
     match n {
-        0 | 48 => Some(Direction::LeftToRight),
-        1 | 49 => Some(Direction::BottomToTop),
-        2 | 50 => Some(Direction::RightToLeft),
-        3 | 51 => Some(Direction::TopToBottom),
+        0 | 48 => Some(PrintDirection::LeftToRight),
+        1 | 49 => Some(PrintDirection::BottomToTop),
+        2 | 50 => Some(PrintDirection::RightToLeft),
+        3 | 51 => Some(PrintDirection::TopToBottom),
         _ => None,
     }
 }
@@ -78,7 +78,11 @@ pub fn print_mode_of(n: u8) -> PrintMode
     ensures { result ≡ spec.print_mode_of n }
 {
     PrintMode {
-        font: if bit(n, 0) { Font::B } else { Font::A },
+        font: if bit(n, 0) {
+            CharacterFont::B
+        } else {
+            CharacterFont::A
+        },
         emphasized: bit(n, 3),
         double_height: bit(n, 4),
         double_width: bit(n, 5),
@@ -98,14 +102,14 @@ pub fn magnification_of(n: u8) -> Option<Magnification>
     })
 }
 
-pub fn text_place_of(n: u8) -> Option<TextPlace>
-    ensures { result ≡ spec.text_place_of n }
+pub fn hri_position_of(n: u8) -> Option<HriPosition>
+    ensures { result ≡ spec.hri_position_of n }
 {
     match n {
-        0 | 48 => Some(TextPlace::None),
-        1 | 49 => Some(TextPlace::Above),
-        2 | 50 => Some(TextPlace::Below),
-        3 | 51 => Some(TextPlace::Both),
+        0 | 48 => Some(HriPosition::None),
+        1 | 49 => Some(HriPosition::Above),
+        2 | 50 => Some(HriPosition::Below),
+        3 | 51 => Some(HriPosition::Both),
         _ => None,
     }
 }

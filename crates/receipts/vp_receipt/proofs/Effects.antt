@@ -2,7 +2,7 @@
 use Rattle.std.proofs.Common.{◌≡◌, ℕ, Bool, true, false, not, ◌&&◌, nat_lt, if◌then◌else◌, refl, sym, ap, ◌∙◌, subst, ◌*◌, List, [], ◌∷◌, ◌++◌, Option, Some, None, IfSome}
 use Rattle.vp_esc.specs.declared.item.EscItem.{EscItem}
 use Rattle.vp_esc.specs.declared.item.EscItem.TheVariants.{CarriageReturn, Control, QrIgnored, WithoutEffect, Character, Column8, Column24, Raster, RasterByte, Symbol, QrPrint, PageMode, StandardMode, FormFeed, Initialize, LeftMargin, AreaWidth, MoveVerticalPosition, Area, Direction}
-use Rattle.vp_esc.specs.declared.item.Direction.{Direction as EscDirection}
+use Rattle.vp_esc.specs.declared.item.PrintDirection.{PrintDirection}
 use Rattle.vp_esc.specs.declared.item.Spelled.{Spelled}
 use Rattle.vp_glyph.specs.declared.Sheets.{Sheets}
 use Rattle.vp_page.specs.Layers.{Layer}
@@ -45,7 +45,7 @@ either : (P : Effect → Type 0) (b : Bool) (x y : Effect) → P x → P y → P
 either P true x y h k = h
 either P false x y h k = k
 
-way_kind : (d : Spelled (Option EscDirection)) (named : Option EscDirection) → IsKind (Direction d) (runs_along named)
+way_kind : (d : Spelled (Option PrintDirection)) (named : Option PrintDirection) → IsKind (Direction d) (runs_along named)
 way_kind d None = record { byte = λ b e. cc; symbol = refl }
 way_kind d (Some way) = record { byte = λ b e. cc; symbol = refl }
 
@@ -88,7 +88,7 @@ chosen : (P : Effect → Type 0) (b : Bool) (x y : Effect) → (b ≡ true → P
 chosen P true x y h k = h refl
 chosen P false x y h k = k refl
 
-way_does : (setup : Setup) (before : List EscItem) (d : Spelled (Option EscDirection)) (named : Option EscDirection) → d.value ≡ named → Does setup before (Direction d) (runs_along named)
+way_does : (setup : Setup) (before : List EscItem) (d : Spelled (Option PrintDirection)) (named : Option PrintDirection) → d.value ≡ named → Does setup before (Direction d) (runs_along named)
 way_does setup before d None e = record { line = rw e refl; text = λ code w. refl; rows = refl; own = refl; layers = λ m. rw e refl; page = refl; is_page = refl }
 way_does setup before d (Some way) e = record { line = rw e refl; text = λ code w. refl; rows = refl; own = refl; layers = λ m. rw e refl; page = refl; is_page = refl }
 

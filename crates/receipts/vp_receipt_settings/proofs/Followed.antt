@@ -2,7 +2,7 @@
 use Rattle.std.proofs.Common.{◌≡◌, ◌≤◌, ℕ, ◌*◌, nat_lt, Bool, true, false, not, ◌&&◌, if◌then◌else◌, List, [], ◌∷◌, Option, Some, None, refl, sym, ap, subst, ◌∙◌, arith, ℤ, pos, negsuc}
 use Rattle.vp_esc.specs.declared.item.EscItem.{EscItem}
 use Rattle.vp_esc.specs.declared.item.EscItem.TheVariants.{Character, Column8, Column24, Raster, RasterByte, CutLeavingOnePoint, CutLeavingThreePoints, Cut, FeedAndCut, PageMode, StandardMode, FormFeed, Cancel, PrintPage, VerticalPosition, MoveVerticalPosition, Area, Direction, LeftMargin, AreaWidth}
-use Rattle.vp_esc.specs.declared.item.Direction.{Direction as EscDirection}
+use Rattle.vp_esc.specs.declared.item.PrintDirection.{PrintDirection}
 use Rattle.vp_esc.specs.declared.item.Spelled.{Spelled}
 use Rattle.vp_receipt_settings.specs.declared.effect.Effect.{Effect}
 use Rattle.vp_receipt_settings.specs.declared.effect.Effect.TheVariants.{Sets, Initializes, Puts, Breaks, BeginsRaster, BeginsPage, LeavesPage, Lays}
@@ -86,7 +86,7 @@ mode_kept : (opened : Bool) (f g : Frame) → g.mode ≡ f.mode → (if opened t
 mode_kept true f g e = refl
 mode_kept false f g e = e
 
-direction_follows : (setup : Setup) (before : List EscItem) (d : Spelled (Option EscDirection)) (named : Option EscDirection) → d.value ≡ named → Follows setup before (Direction d) (effect_of (settings_of setup before) (Direction d))
+direction_follows : (setup : Setup) (before : List EscItem) (d : Spelled (Option PrintDirection)) (named : Option PrintDirection) → d.value ≡ named → Follows setup before (Direction d) (effect_of (settings_of setup before) (Direction d))
 direction_follows setup before d None e = rw e refl
 direction_follows setup before d (Some way) e = split (is_paged (mode setup before)) (λ p. rw (e, p) refl) (λ p. rw (e, p) refl)
 

@@ -3,7 +3,7 @@ use Rattle.std.proofs.Common.{◌≡◌, ◌≤◌, ℕ, ◌+◌, ◌*◌, not, 
 use Rattle.std.proofs.lemmas.Bool.Decides.{nat_tests}
 use Rattle.vp_esc.specs.declared.item.EscItem.{EscItem}
 use Rattle.vp_esc.specs.declared.item.EscItem.TheVariants.{Character, Column8, Column24, Position, MovePosition, Raster, PageMode, StandardMode, MoveVerticalPosition, Area, Direction}
-use Rattle.vp_esc.specs.declared.item.Direction.{Direction as EscDirection}
+use Rattle.vp_esc.specs.declared.item.PrintDirection.{PrintDirection}
 use Rattle.vp_page.specs.declared.page.TheConstants.{PAPER_DOTS, PAGE_ROWS}
 use Rattle.vp_page.specs.declared.line.TheConstants.{LINE_DOTS}
 use Rattle.vp_page.specs.declared.area.Direction.{Direction as PageDirection}
@@ -59,7 +59,7 @@ if_within : (b : Bool) (x y : Effect) → (b ≡ true → IsWithin x) → IsWith
 if_within true x y h k = h refl
 if_within false x y h k = k
 
-way_within : (d : Option EscDirection) → IsWithin (runs_along d)
+way_within : (d : Option PrintDirection) → IsWithin (runs_along d)
 way_within (Some d) = tt
 way_within None = tt
 

@@ -3,7 +3,7 @@ use Rattle.std.specs.Prelude.{ℕ, ◌*◌, nat_lt, Bool, true, false, not, ◌&
 use Rattle.vp_esc.specs.declared.item.EscItem.{EscItem}
 use Rattle.vp_esc.specs.declared.item.EscItem.TheVariants.{LineFeed, CarriageReturn, Control, Tab, Position, MovePosition, Character, Column8, Column24, Initialize, FeedDots, FeedLines, CutLeavingOnePoint, CutLeavingThreePoints, Cut, FeedAndCut, Raster, RasterByte, Symbol, QrPrint, QrIgnored, WithoutEffect, PageMode, StandardMode, FormFeed, Cancel, PrintPage, VerticalPosition, MoveVerticalPosition, Area, Direction}
 use Rattle.vp_esc.specs.declared.item.Cut.TheVariants.{Partial}
-use Rattle.vp_esc.specs.declared.item.Direction.{Direction as EscDirection}
+use Rattle.vp_esc.specs.declared.item.PrintDirection.{PrintDirection}
 use Rattle.vp_glyph.specs.Cells.{cell_width}
 use Rattle.vp_receipt_settings.specs.declared.effect.Piece.TheVariants.{Character as OneCharacter, Column8 as OneColumn8, Column24 as OneColumn24}
 use Rattle.vp_receipt_settings.specs.declared.effect.Effect.{Effect}
@@ -29,7 +29,7 @@ abbrev pub if_done : Bool → Effect → Effect
 if_done done effect = if done then effect else Sets
 
 -- ESC T: the next lines run so, if it names a direction
-abbrev pub runs_along : Option EscDirection → Effect
+abbrev pub runs_along : Option PrintDirection → Effect
 runs_along (Some d) = Lays (Along (direction_of d))
 runs_along None = Sets
 

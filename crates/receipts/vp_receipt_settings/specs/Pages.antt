@@ -2,8 +2,8 @@
 use Rattle.std.specs.Prelude.{ℕ, ◌+◌, ◌-◌, nat_lt, nat_le, Bool, true, false, ◌&&◌, if◌then◌else◌, List, [], ◌∷◌, Option, Some, None, min, max, ◌==◌, ℤ, pos, negsuc}
 use Rattle.vp_esc.specs.declared.item.EscItem.{EscItem}
 use Rattle.vp_esc.specs.declared.item.EscItem.TheVariants.{Area as SetArea, Direction as SetDirection, Initialize}
-use Rattle.vp_esc.specs.declared.item.Direction.{Direction as EscDirection}
-use Rattle.vp_esc.specs.declared.item.Direction.TheVariants.{LeftToRight as EscLeftToRight, BottomToTop as EscBottomToTop, RightToLeft as EscRightToLeft, TopToBottom as EscTopToBottom}
+use Rattle.vp_esc.specs.declared.item.PrintDirection.{PrintDirection}
+use Rattle.vp_esc.specs.declared.item.PrintDirection.TheVariants.{LeftToRight as EscLeftToRight, BottomToTop as EscBottomToTop, RightToLeft as EscRightToLeft, TopToBottom as EscTopToBottom}
 use Rattle.vp_page.specs.declared.page.TheConstants.{PAGE_ROWS}
 use Rattle.vp_page.specs.declared.area.Area.{Area}
 use Rattle.vp_page.specs.declared.area.Direction.{Direction}
@@ -39,13 +39,13 @@ area setup (Initialize ∷ before) = whole_page setup.width
 area setup (_ ∷ before) = area setup before
 
 -- ESC T: the direction of lines, in either mode
-abbrev pub direction_of : EscDirection → Direction
+abbrev pub direction_of : PrintDirection → Direction
 direction_of EscLeftToRight = LeftToRight
 direction_of EscBottomToTop = BottomToTop
 direction_of EscRightToLeft = RightToLeft
 direction_of EscTopToBottom = TopToBottom
 
-abbrev pub direction_or : Option EscDirection → Direction → Direction
+abbrev pub direction_or : Option PrintDirection → Direction → Direction
 direction_or (Some d) old = direction_of d
 direction_or None old = old
 

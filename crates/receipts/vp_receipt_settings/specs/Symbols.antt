@@ -2,9 +2,9 @@
 use Rattle.std.specs.Prelude.{◌≡◌, ◌≤◌, ◌<◌, ℕ, ◌+◌, ◌*◌, ◌/◌, Bool, false, Result, Ok, Err, take, length as list_length, nat_lt, nat_le, ◌&&◌, if◌then◌else◌, List, [], ◌∷◌, ◌++◌, Option, Some, None}
 use Rattle.std.specs.Option.{option_or}
 use Rattle.vp_esc.specs.declared.item.EscItem.{EscItem}
-use Rattle.vp_esc.specs.declared.item.EscItem.TheVariants.{BarTextPlace, BarTextFont, BarHeight, BarModule, QrModel as SetQrModel, QrModule as SetQrModule, QrLevel as SetQrLevel, QrStore, QrByte, Initialize, QrPrint, Symbol as PrintSymbol}
-use Rattle.vp_esc.specs.declared.item.TextPlace.{TextPlace}
-use Rattle.vp_esc.specs.declared.item.TextPlace.TheVariants.{None as NoText, Above, Below, Both}
+use Rattle.vp_esc.specs.declared.item.EscItem.TheVariants.{HriPosition as SetHriPosition, HriFont as SetHriFont, BarHeight, BarModule, QrModel as SetQrModel, QrModule as SetQrModule, QrLevel as SetQrLevel, QrStore, QrByte, Initialize, QrPrint, Symbol as PrintSymbol}
+use Rattle.vp_esc.specs.declared.item.HriPosition.{HriPosition}
+use Rattle.vp_esc.specs.declared.item.HriPosition.TheVariants.{None as NoText, Above, Below, Both}
 use Rattle.vp_esc.specs.declared.item.QrModel.{QrModel}
 use Rattle.vp_esc.specs.declared.item.QrModel.TheVariants.{Two}
 use Rattle.vp_esc.specs.declared.item.QrLevel.{QrLevel}
@@ -54,31 +54,31 @@ bar_module (BarModule n ∷ before) = if nat_le 2 n && nat_le n 6 then n else ba
 bar_module (Initialize ∷ before) = 3
 bar_module (_ ∷ before) = bar_module before
 
--- GS H: where the text of bars stands
-abbrev pub place_or : Option TextPlace → TextPlace → TextPlace
-place_or (Some place) old = place
-place_or None old = old
+-- GS H: the HRI position, where the text of bars stands
+abbrev pub hri_position_or : Option HriPosition → HriPosition → HriPosition
+hri_position_or (Some position) old = position
+hri_position_or None old = old
 
-abbrev pub bar_text_place : List EscItem → TextPlace
-bar_text_place [] = NoText
-bar_text_place (BarTextPlace s ∷ before) = place_or s.value (bar_text_place before)
-bar_text_place (Initialize ∷ before) = NoText
-bar_text_place (_ ∷ before) = bar_text_place before
+abbrev pub hri_position : List EscItem → HriPosition
+hri_position [] = NoText
+hri_position (SetHriPosition s ∷ before) = hri_position_or s.value (hri_position before)
+hri_position (Initialize ∷ before) = NoText
+hri_position (_ ∷ before) = hri_position before
 
--- GS f: the font of that text
-abbrev pub bar_text_font : List EscItem → Font
-bar_text_font [] = A
-bar_text_font (BarTextFont s ∷ before) = font_or s.value (bar_text_font before)
-bar_text_font (Initialize ∷ before) = A
-bar_text_font (_ ∷ before) = bar_text_font before
+-- GS f: the HRI font, that of the text
+abbrev pub hri_font : List EscItem → Font
+hri_font [] = A
+hri_font (SetHriFont s ∷ before) = font_or s.value (hri_font before)
+hri_font (Initialize ∷ before) = A
+hri_font (_ ∷ before) = hri_font before
 
 -- all of these
 abbrev pub bar_style_of : List EscItem → BarStyle
 bar_style_of before = record {
   height = bar_height before;
   module_dots = bar_module before;
-  place = bar_text_place before;
-  font = bar_text_font before;
+  hri_position = hri_position before;
+  hri_font = hri_font before;
 }
 
 -- GS ( k, function 65: the model
@@ -181,7 +181,7 @@ pub record IsQrImage (ink : ScaledSymbol) (image : Image) : Type 0 where
   pub dots : (x y : ℕ) → ink_of ink x y ≡ image.is_black x y
 
 -- GS k: where the text stands
-abbrev pub place_of : TextPlace → Place
+abbrev pub place_of : HriPosition → Place
 place_of NoText = NoPlace
 place_of Above = PlaceAbove
 place_of Below = PlaceBelow
@@ -195,8 +195,8 @@ boxed sheets style bars = record {
   wide = (5 * style.module_dots + 1) / 2;
   height = style.height;
   sheets = sheets;
-  font = style.font;
-  place = place_of style.place;
+  font = style.hri_font;
+  place = place_of style.hri_position;
 }
 
 abbrev pub box_image : Boxed → Image

@@ -1,10 +1,10 @@
-//! How bar codes are drawn: their height, their module, and where their text stands.
+//! How bar codes are drawn: their height, their module, and the position and font of their text (HRI).
 ghost use Rattle.std.specs.Prelude.{◌≡◌, ◌<◌, ◌∷◌, List};
 ghost use Rattle.vp_esc.specs.declared.item.EscItem.{EscItem};
 ghost use Rattle.vp_receipt_settings.specs.Symbols.{bar_style_of, IsFitBars};
 
 use crate::text::font_named;
-use vp_esc::item::{EscItem, TextPlace};
+use vp_esc::item::{EscItem, HriPosition};
 use vp_glyph::Font;
 
 /// How bar codes are drawn.
@@ -13,16 +13,16 @@ pub struct BarStyle {
     pub height: u8,
     /// Dots of a module.
     pub module_dots: u8,
-    pub place: TextPlace,
-    pub font: Font,
+    pub hri_position: HriPosition,
+    pub hri_font: Font,
 }
 
 impl BarStyle {
     pub const START: BarStyle = BarStyle {
         height: 162,
         module_dots: 3,
-        place: TextPlace::None,
-        font: Font::A,
+        hri_position: HriPosition::None,
+        hri_font: Font::A,
     };
 
     /// What is in force after an item.
@@ -41,13 +41,16 @@ impl BarStyle {
                 module_dots: *module,
                 ..self
             },
-            EscItem::BarTextPlace(place) => match place.value {
-                Some(place) => BarStyle { place, ..self },
+            EscItem::HriPosition(position) => match position.value {
+                Some(hri_position) => BarStyle {
+                    hri_position,
+                    ..self
+                },
                 None => self,
             },
-            EscItem::BarTextFont(font) => match font.value {
+            EscItem::HriFont(font) => match font.value {
                 Some(font) => BarStyle {
-                    font: font_named(font),
+                    hri_font: font_named(font),
                     ..self
                 },
                 None => self,

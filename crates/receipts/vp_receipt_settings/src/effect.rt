@@ -7,7 +7,7 @@ ghost use Rattle.vp_receipt_settings.specs.Effects.{effect_of, page_effect_of, i
 use crate::page_mode::{area_cut, direction_of, is_area, is_vertical_move, vertical_moved};
 use crate::raster::{draws, scale_named, times_down};
 use crate::settings::{Settings, moved, placed};
-use vp_esc::item::{self, Cut, EscItem};
+use vp_esc::item::{Cut, EscItem, PrintDirection};
 use vp_page::{Area, Direction};
 
 /// A piece of the line.
@@ -81,7 +81,7 @@ impl Effect {
     }
 
     /// That of a direction that ESC T names, if it names one.
-    fn runs(direction: Option<item::Direction>) -> Effect
+    fn runs(direction: Option<PrintDirection>) -> Effect
         ensures { result ≡ runs_along direction }
     {
         match direction {

@@ -18,7 +18,7 @@ ghost use Rattle.vp_receipt_settings.specs.Rasters.{is_row_end, raster_scale, ti
 use crate::effect::{Effect, NextLines};
 use crate::settings::Settings;
 use crate::width::Width;
-use vp_esc::item::{self, EscItem};
+use vp_esc::item::PrintDirection;
 use vp_page::{Area, Direction, PAGE_ROWS};
 
 /// Whether lines are printed on paper or laid on a page.
@@ -42,14 +42,14 @@ pub struct PageSettings {
 }
 
 /// The direction that ESC T names.
-pub(crate) fn direction_of(direction: item::Direction) -> Direction
+pub(crate) fn direction_of(direction: PrintDirection) -> Direction
     ensures { result ≡ direction_of direction }
 {
     match direction {
-        item::Direction::LeftToRight => Direction::LeftToRight,
-        item::Direction::BottomToTop => Direction::BottomToTop,
-        item::Direction::RightToLeft => Direction::RightToLeft,
-        item::Direction::TopToBottom => Direction::TopToBottom,
+        PrintDirection::LeftToRight => Direction::LeftToRight,
+        PrintDirection::BottomToTop => Direction::BottomToTop,
+        PrintDirection::RightToLeft => Direction::RightToLeft,
+        PrintDirection::TopToBottom => Direction::TopToBottom,
     }
 }
 

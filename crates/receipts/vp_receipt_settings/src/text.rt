@@ -6,7 +6,7 @@ ghost use Rattle.vp_receipt_settings.specs.Settings.{IsFitText};
 ghost use Rattle.vp_glyph.specs.Cells.{cell_width, cell_height};
 ghost use Rattle.vp_receipt_settings.specs.declared.text.TheConstants.{LINE_ROWS, WIDEST};
 
-use vp_esc::item::{EscItem, Font as EscFont, Magnification, PrintMode, Underline};
+use vp_esc::item::{CharacterFont, EscItem, Magnification, PrintMode, Underline};
 use vp_glyph::{Cell, Font, Sheets, Style};
 
 /// The most rows of a line: eight times those of a character.
@@ -30,12 +30,12 @@ pub struct Text {
 }
 
 /// The font that a command names.
-pub fn font_named(font: EscFont) -> Font
+pub fn font_named(font: CharacterFont) -> Font
     ensures { result ≡ font_of font }
 {
     match font {
-        EscFont::A => Font::A,
-        EscFont::B => Font::B,
+        CharacterFont::A => Font::A,
+        CharacterFont::B => Font::B,
     }
 }
 

@@ -7,7 +7,7 @@ ghost use Rattle.vp_receipt_settings.specs.Symbols.{IsFitBars, place_of, bars_of
 
 use vp_bars::{BarBox, Bars, Place, code39, code128_esc, ean13, rows_repeat};
 use vp_dots::{Fault, Ink, Why};
-use vp_esc::item::{BarKind, TextPlace};
+use vp_esc::item::{BarKind, HriPosition};
 use vp_glyph::{Font, Sheets};
 use vp_receipt_settings::BarStyle;
 
@@ -64,14 +64,14 @@ impl BarSymbol {
 }
 
 /// Where a command puts the text.
-fn place_named(place: TextPlace) -> Place
+fn place_named(place: HriPosition) -> Place
     ensures { result ≡ place_of place }
 {
     match place {
-        TextPlace::None => Place::None,
-        TextPlace::Above => Place::Above,
-        TextPlace::Below => Place::Below,
-        TextPlace::Both => Place::Both,
+        HriPosition::None => Place::None,
+        HriPosition::Above => Place::Above,
+        HriPosition::Below => Place::Below,
+        HriPosition::Both => Place::Both,
     }
 }
 
@@ -131,8 +131,8 @@ pub fn bar_symbol(
         narrow: u16::from(style.module_dots),
         wide: (5 * u16::from(style.module_dots) + 1) / 2,
         height: u16::from(style.height),
-        font: style.font,
-        place: place_named(style.place),
+        font: style.hri_font,
+        place: place_named(style.hri_position),
     };
     let (wide, _) = symbol.size(sheets);
     if wide > u32::from(length) {

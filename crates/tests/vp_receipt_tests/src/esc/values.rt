@@ -3,8 +3,8 @@ use super::last_item;
 use crate::checks::same;
 use std::process::Abort;
 use vp_esc::item::{
-    BarKind, ColumnMode, Cut, Direction, Font, Justification, Magnification, QrLevel, QrModel,
-    RasterScale, Spelled, TextPlace, Underline,
+    BarKind, CharacterFont, ColumnMode, Cut, HriPosition, Justification, Magnification,
+    PrintDirection, QrLevel, QrModel, RasterScale, Spelled, Underline,
 };
 use vp_esc::{EscItem, EscReader};
 
@@ -12,7 +12,7 @@ use vp_esc::{EscItem, EscReader};
 fn print_mode(bytes: &[u8]) -> Option<[bool; 5]> {
     match last_item(&mut EscReader::new(), bytes) {
         Some(EscItem::PrintMode(n)) => Some([
-            matches!(n.value.font, Font::B),
+            matches!(n.value.font, CharacterFont::B),
             n.value.emphasized,
             n.value.double_height,
             n.value.double_width,
@@ -90,7 +90,7 @@ fn in_words(item: &EscItem) -> &'static str {
         EscItem::Inverse(Spelled { value: false, .. }) => "not inverse",
         EscItem::Font(
             Spelled {
-                value: Some(Font::B),
+                value: Some(CharacterFont::B),
                 ..
             },
         ) => "font B",
@@ -110,7 +110,7 @@ fn place_in_words(item: &EscItem) -> &'static str {
         EscItem::MoveVerticalPosition(-2) => "up by 2",
         EscItem::Direction(
             Spelled {
-                value: Some(Direction::TopToBottom),
+                value: Some(PrintDirection::TopToBottom),
                 ..
             },
         ) => "top to bottom",
@@ -171,13 +171,13 @@ fn symbol_in_words(item: &EscItem) -> &'static str {
             },
             dots: 5,
         } => "5 dots and a partial cut",
-        EscItem::BarTextPlace(
+        EscItem::HriPosition(
             Spelled {
-                value: Some(TextPlace::Below),
+                value: Some(HriPosition::Below),
                 ..
             },
         ) => "text below",
-        EscItem::BarTextFont(Spelled { value: None, .. }) => "text in no font",
+        EscItem::HriFont(Spelled { value: None, .. }) => "text in no font",
         EscItem::Symbol {
             kind,
             more: false,
