@@ -15,7 +15,7 @@ use Rattle.vp_receipt_settings.specs.Setup.{Setup, across}
 use Rattle.vp_receipt_settings.specs.Pages.{area, direction}
 use Rattle.vp_dots.specs.Images.{Image}
 use Rattle.vp_receipt_settings.specs.Images.{cell_image}
-use Rattle.vp_receipt_settings.specs.Texts.{font, text_of, style_of}
+use Rattle.vp_receipt_settings.specs.Texts.{text_of, style_of}
 use Rattle.vp_receipt_settings.specs.Symbols.{bar_style_of, qr_style_of, IsFitBars, IsFitQr}
 use Rattle.vp_receipt_settings.specs.Spacing.{column_width, line_spacing}
 use Rattle.vp_receipt_settings.specs.Line.{area_width, height, is_open, left_margin, length_in, length_within, line, mode, position, right_edge, vertical}

@@ -1,18 +1,17 @@
 //! What is in force on a page: its mode, its area, the direction of its lines, and how far down it is used.
-ghost use Rattle.std.specs.Prelude.{◌≡◌, ◌≤◌, ◌<◌, ◌+◌, ◌-◌, ◌∷◌, List, [], ℕ, nat_lt, not, true, ◌&&◌, ◌||◌, is_some, if◌then◌else◌};
+ghost use Rattle.std.specs.Prelude.{◌≡◌, ◌≤◌, ◌<◌, ◌+◌, ◌-◌, ◌∷◌, List, [], ℕ, nat_lt, not, true, ◌&&◌, ◌||◌, if◌then◌else◌};
 ghost use Rattle.vp_esc.specs.declared.item.EscItem.{EscItem};
 ghost use Rattle.vp_page.specs.Areas.{line_length as length_on_page};
 ghost use Rattle.vp_page.specs.declared.page.TheConstants.{PAGE_ROWS};
 ghost use Rattle.vp_page.specs.declared.line.TheConstants.{LINE_DOTS};
 ghost use Rattle.vp_receipt_settings.specs.Setup.{Setup};
-ghost use Rattle.vp_receipt_settings.specs.Pages.{is_paged, is_area, area_cut, direction_of, direction_or, is_vertical_move, vertical_moved, vertical_after, raised, area};
-ghost use Rattle.vp_receipt_settings.specs.Line.{symbol_top, line, begins_page, mode, vertical};
+ghost use Rattle.vp_receipt_settings.specs.Pages.{is_paged, is_area, area_cut, direction_of, is_vertical_move, vertical_moved, vertical_after, raised, area};
+ghost use Rattle.vp_receipt_settings.specs.Line.{symbol_top, begins_page, mode, vertical};
 ghost use Rattle.vp_receipt_settings.specs.Extent.{used, printed_rows};
 ghost use Rattle.vp_receipt_settings.specs.Settings.{settings_of, page_of, IsFit, IsFitPage};
 ghost use Rattle.vp_receipt_settings.specs.Followed.{IsWithin, lays_rows_by, page_going, page_after};
 ghost use Rattle.vp_receipt_settings.specs.declared.effect.Effect.{Effect};
 ghost use Rattle.vp_receipt_settings.specs.Runs.{below};
-ghost use Rattle.vp_receipt_settings.specs.Symbols.{symbol_image, image_rows};
 ghost use Rattle.vp_receipt_settings.specs.Rasters.{is_row_end, raster_scale, times_down};
 
 use crate::effect::{Effect, NextLines};
