@@ -1,5 +1,5 @@
 -- The first two bytes of a command, by the command.
-use Rattle.std.proofs.Common.{◌≡◌, ℕ, Bool, true, false, eqb, ◌||◌, cond, Option, Some, None, refl, sym, subst}
+use Rattle.std.proofs.Common.{◌≡◌, ℕ, Bool, true, false, eqb, cond, Option, Some, None, refl, sym, subst}
 use Rattle.std.proofs.lemmas.Bool.{eqb-true}
 use Rattle.vp_esc.specs.declared.item.Lead.{Lead}
 use Rattle.vp_esc.specs.declared.item.Lead.TheVariants.{Esc, Gs, Fs, Dle}
