@@ -67,8 +67,8 @@ marked_more bar us word x now w new m e = record {
   dots_are = λ j. e j ∙ ap (λ b. b || now && (leb x j && ltb (j - x) w)) (m.dots_are j) ∙ elim (cases_lt j (total us)) [
     | inl l ↦ rw (lt-leb x j (omega (arith, m.x_is))) (either_none now (in_bar bar us j) ∙ sym (in_bar_front bar us (w ∷ []) j l))
     | inr g ↦ rw (in_bar_past bar us j g, le-leb x j (omega (arith, m.x_is)), m.x_is, m.bar_is) (
-      (let k : total us + (j - total us) ≡ j = omega arith in
-      in_last (turned bar us) (j - total us) ∙ sym (in_bar_behind bar us (w ∷ []) (j - total us)) ∙ ap (in_bar bar (us ++ w ∷ [])) k))
+        (let k : total us + (j - total us) ≡ j = omega arith in
+        in_last (turned bar us) (j - total us) ∙ sym (in_bar_behind bar us (w ∷ []) (j - total us)) ∙ ap (in_bar bar (us ++ w ∷ [])) k))
   ];
   x_is = omega (arith, m.x_is, total-append us (w ∷ []));
   bar_is = ap not m.bar_is ∙ sym (turned_more bar us w);
@@ -142,7 +142,6 @@ pub draws_past : (op : Op) (at place : ℤ) (row : List ℕ) (pen next : Pen) (w
     → ((f : ℕ → Bool) (d : ℕ) → d < dots row → shifted place f d ≡ false) → Draws op at row row pen next ws
 draws_past op at place row pen next ws e t h none =
     draws_at_once op at place row row pen next ws e t h (record { length_is = refl; dots_are = λ d l. ap (λ i. paint op i (dot row d)) (sym (none (in_bar pen.bar ws) d l)) })
-
 
 -- so many elements turn the pen
 turned_odd : (s : ℕ → ℕ) (bar : Bool) (es : List ℕ) → turned bar (map s es) ≡ cond (eqb (length es % 2) 1) (not bar) bar

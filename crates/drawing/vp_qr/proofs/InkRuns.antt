@@ -187,8 +187,7 @@ same_height k n y h t =
     let all : y / k * k + y % k ≡ y = div-add-mod' y k in
     let low : y % k < k = mod-lt y h in
     let above : y - 1 ≡ y / k * k + (y % k - 1) = omega arith in
-    let same : (y - 1) / k ≡ y / k = ap (λ m. m / k) above ∙ div-mul-add (y / k) k (y % k - 1) (omega arith) in
-    (
+    let same : (y - 1) / k ≡ y / k = ap (λ m. m / k) above ∙ div-mul-add (y / k) k (y % k - 1) (omega arith) in (
       sym same,
       elim (cases_lt y (k * n)) [
         | inl l ↦ rw (lt-ltb y (k * n) l, lt-ltb (y - 1) (k * n) (omega arith)) refl

@@ -106,6 +106,9 @@ pub fn format_line(version: usize, row: usize) -> u64
     ensures { (j : ℕ) → j < size version → is_set result j ≡ format_here version row j }
 {
     let size = 17 + 4 * version;
-    let patterns = corners(size, 8, row) | timing(row) | alignments(version, row) | versions(version, row);
+    let patterns = corners(size, 8, row)
+        | timing(row)
+        | alignments(version, row)
+        | versions(version, row);
     corners(size, 9, row) & !(patterns | only(row == size - 8, span(8, 9)))
 }
