@@ -70,7 +70,7 @@ impl Model for Leading {
 }
 
 impl Leading {
-    /// Those of a place of so many tens.
+    /// The digits but the last of a place of so many tens.
     fn of(tens: u64) -> Self
         ensures { result ≡ tens }
     {
@@ -120,7 +120,8 @@ pub fn put_byte_lines_after(taken: u64, bytes: &[u8], output: &mut [u8]) -> usiz
     put
 }
 
-/// Writes one of them, by the digits of its place but the last, and the last, and gives how long it is.
+/// Writes the line of a byte of data behind its place, which is given as its digits but the last and the
+/// last, and gives how long it is.
 fn put_byte_line(digits: &[u8], last: u8, byte: u8, output: &mut [u8]) -> usize
     requires last { last < 10 }
     requires room { length digits.now + 10 ≤ length output.old }
