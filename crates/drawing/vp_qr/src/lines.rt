@@ -38,7 +38,8 @@ fn corners(size: usize, wide: usize, row: usize) -> u64
     requires high { size ≤ 57 }
     requires wide { wide < 64 }
     ensures { (j : ℕ) → j < 63 → is_set result j
-        ≡ (nat_lt row wide && (nat_lt j wide || nat_le (size - 8) j) || nat_le (size - 8) row && nat_lt j wide) }
+        ≡ (nat_lt row wide && (nat_lt j wide || nat_le (size - 8) j)
+        || nat_le (size - 8) row && nat_lt j wide) }
 {
     let left = span(0, wide);
     let right = span(size - 8, 63);
