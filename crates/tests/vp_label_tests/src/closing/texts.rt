@@ -61,13 +61,7 @@ fn block(width: u16, lines: u16, gap: i16, alignment: Alignment) -> Option<Conte
 /// Streams that close a block, its width, its lines, the dots between them and where they stand.
 static BLOCKS: [(&[u8], u16, u16, i16, Alignment); 6] = [
     (b"^XA^FB^FDA^FS", 0, 1, 0, Alignment::Left),
-    (
-        b"^XA^FB24,2,0,R^FDA^FS",
-        24,
-        2,
-        0,
-        Alignment::Right,
-    ),
+    (b"^XA^FB24,2,0,R^FDA^FS", 24, 2, 0, Alignment::Right),
     (
         b"^XA^FB40000,0,-20000,J^FDA^FS",
         32_000,
@@ -82,20 +76,8 @@ static BLOCKS: [(&[u8], u16, u16, i16, Alignment); 6] = [
         9999,
         Alignment::Centre,
     ),
-    (
-        b"^XA^FB1,2,x,x^FDA^FS",
-        1,
-        2,
-        0,
-        Alignment::Left,
-    ),
-    (
-        b"^XA^FB1^FB2^FDA^FS",
-        2,
-        1,
-        0,
-        Alignment::Left,
-    ),
+    (b"^XA^FB1,2,x,x^FDA^FS", 1, 2, 0, Alignment::Left),
+    (b"^XA^FB1^FB2^FDA^FS", 2, 1, 0, Alignment::Left),
 ];
 
 /// ^FB's ranges and defaults; it acts on texts, and the last one counts.
