@@ -1,8 +1,8 @@
 -- Places of a row of bytes, two to a byte.
-use Rattle.std.proofs.Common.{inl, inr, ◌≡◌, ℕ, ◌+◌, ◌*◌, ◌/◌, ◌%◌, ◌<◌, eqb, cond, List, length, get_or, ◌++◌, take, replicate, ap, ◌∙◌, refl, arith}
+use Rattle.std.proofs.Common.{inl, inr, ◌≡◌, ℕ, ◌+◌, ◌*◌, ◌/◌, ◌%◌, ◌<◌, eqb, cond, List, length, get_or, ◌++◌, take, replicate, ap, ◌∙◌, refl, arith, ◌-◌, ◌≤◌}
 use Rattle.std.proofs.Common.{get_or-take}
 use Rattle.std.proofs.Math.ListN.{get_or-append}
-use Rattle.std.proofs.lemmas.List.{get_or-replicate}
+use Rattle.std.proofs.lemmas.List.{get_or-replicate, get_or-append_right, length-take, length-replicate}
 use Rattle.std.proofs.lemmas.Bool.{cases_eq, cases_Bool}
 use Rattle.vp_format.specs.Pictures.{nibble}
 
@@ -37,3 +37,17 @@ nibble_of_pair row places j e small = nibble_of_byte row _ j e ∙ (elim (cases_
   | inl t ↦ (let i : 2 * (j / 2) ≡ j = omega arith in ap (λ r. cond (eqb r 0) ((get_or places (2 * (j / 2)) 0 * 16 + get_or places (2 * (j / 2) + 1) 0) / 16) ((get_or places (2 * (j / 2)) 0 * 16 + get_or places (2 * (j / 2) + 1) 0) % 16)) t ∙ omega arith ∙ ap (λ k. get_or places k 0) i)
   | inr t ↦ (let r : j % 2 ≡ 1 = omega arith in let i : 2 * (j / 2) + 1 ≡ j = omega arith in ap (λ r. cond (eqb r 0) ((get_or places (2 * (j / 2)) 0 * 16 + get_or places (2 * (j / 2) + 1) 0) / 16) ((get_or places (2 * (j / 2)) 0 * 16 + get_or places (2 * (j / 2) + 1) 0) % 16)) r ∙ omega arith ∙ ap (λ k. get_or places k 0) i)
 ])
+
+-- a row of which the front stays, and a value stands twice in each byte behind it
+pub nibble_kept : (row mid rest : List ℕ) (n j : ℕ) → n ≤ length row → j < 2 * n → nibble (take n row ++ (mid ++ rest)) j ≡ nibble row j
+nibble_kept row mid rest n j room l =
+    let front : length (take n row) ≡ n = omega (arith, length-take n row) in
+    nibble_append (take n row) (mid ++ rest) j (rw front (omega arith)) ∙ nibble_front row n j l
+
+pub nibble_behind : (row mid rest : List ℕ) (n k v j : ℕ) → n ≤ length row → mid ≡ replicate k (v * 16 + v) → v < 16 → 2 * n ≤ j → j < 2 * (n + k) → nibble (take n row ++ (mid ++ rest)) j ≡ v
+nibble_behind row mid rest n k v j room e small l m =
+    let front : length (take n row) ≡ n = omega (arith, length-take n row) in
+    nibble_of_twice (take n row ++ (mid ++ rest)) v j small
+    (get_or-append_right (take n row) (mid ++ rest) n (j / 2) 0 front (omega arith)
+    ∙ get_or-append mid rest 0 (j / 2 - n) (rw (e, length-replicate {A = ℕ} k (v * 16 + v)) (omega arith))
+    ∙ ap (λ r. get_or r (j / 2 - n) 0) e ∙ get_or-replicate {A = ℕ} k (j / 2 - n) (v * 16 + v) 0 (omega arith))

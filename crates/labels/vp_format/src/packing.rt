@@ -46,7 +46,7 @@ fn pack_eight(places: &[u8], i: usize, row: &mut [u8])
 }
 
 /// Puts the places of a row into its bytes, two to a byte.
-pub fn pack(places: &[u8], row: &mut [u8])
+fn pack(places: &[u8], row: &mut [u8])
     requires short { length row.old ≤ 1024 }
     requires places { 2 * length row.old ≤ length places.now }
     ensures len { length row.new ≡ length row.old }
@@ -64,4 +64,20 @@ pub fn pack(places: &[u8], row: &mut [u8])
             .wrapping_add(places[2 * i + 1]);
         i += 1;
     }
+}
+
+/// Puts the places of a row into its bytes, of which those from place x on all have one value.
+pub fn pack_filled(x: usize, v: u8, places: &[u8], row: &mut [u8])
+    requires short { length row.old ≤ 1024 }
+    requires inside { x ≤ 2 * length row.old }
+    requires small { v < 16 }
+    requires places { 2 * length row.old ≤ length places.now }
+    requires filled { (j : ℕ) → x ≤ j → j < 2 * length row.old → slice_index places.now j ≡ v }
+    ensures len { length row.new ≡ length row.old }
+    ensures packed { AreSmall (2 * length row.old) places.now → (j : ℕ) → j < 2 * length row.old →
+        nibble row.new j ≡ slice_index places.now j }
+{
+    let n = (x + 1) / 2;
+    pack(places, &mut row[..n]);
+    row[n..].fill(v * 16 + v);
 }

@@ -8,7 +8,7 @@ ghost use Rattle.vp_format.specs.declared.rows.Coding.TheVariants.{RunLength, Bi
 
 use crate::codes::{Code, Symbol, code_of};
 use crate::digits::digits;
-use crate::packing::{SHORT, fill, pack};
+use crate::packing::{SHORT, fill, pack_filled};
 use crate::reading::Codes;
 use crate::rows::{Coding, Spot};
 use crate::short_runs::short_runs;
@@ -124,19 +124,6 @@ fn symbol_of(codes: &mut Codes, first: u8) -> Symbol
     }
 }
 
-/// Puts the places of a row into its bytes, behind which so much is left of a run.
-fn finished(left: u128, digit: u8, places: &[u8], row: &mut [u8]) -> RowEnd
-    requires short { length row.old ≤ 1024 }
-    requires places { 2 * length row.old ≤ length places.now }
-    ensures end { result ≡ record { left = left; digit = digit; repeats = false } }
-    ensures len { length row.new ≡ length row.old }
-    ensures packed { AreSmall (2 * length row.old) places.now → (j : ℕ) → j < 2 * length row.old →
-        nibble row.new j ≡ slice_index places.now j }
-{
-    pack(places, row);
-    ended(left, digit)
-}
-
 /// The rest of a row, from a place on, by the codes.
 fn read_on(
     codes: &mut Codes,
@@ -168,20 +155,23 @@ fn read_on(
         (x, hand) = read_short(codes, x, width, places);
         let Some(b) = hand else {
             fill(x, width, 0, places);
-            return Ok(finished(0, 0, places, row));
+            pack_filled(x, 0, places, row);
+            return Ok(ended(0, 0));
         };
         match symbol_of(codes, b) {
             Symbol::Digits(n, v) => {
                 let to = end_of_run(x, n, width);
                 fill(x, to, v, places);
                 if to == width {
-                    return Ok(finished(n - (to - x) as u128, v, places, row));
+                    pack_filled(x, v, places, row);
+                    return Ok(ended(n - (to - x) as u128, v));
                 }
                 x = to;
             }
             Symbol::ToEnd(v) => {
                 fill(x, width, v, places);
-                return Ok(finished(0, 0, places, row));
+                pack_filled(x, v, places, row);
+                return Ok(ended(0, 0));
             }
             Symbol::Again if x == 0 => return Ok(repeated()),
             Symbol::Again | Symbol::Refused => return Err(Fault::Graphic),
@@ -219,7 +209,8 @@ fn decode(
     let to = end_of_run(0, left, width);
     fill(0, to, digit, places);
     if to == width {
-        return Ok(finished(left - to as u128, digit, places, row));
+        pack_filled(0, digit, places, row);
+        return Ok(ended(left - to as u128, digit));
     }
     read_on(codes, to, places, row)
 }

@@ -30,7 +30,7 @@ returns-then-to-width-clause-decoded c =
     let to = c.end_of_run-to.result in
     let run = run_reached w all s.at c.args.places.now c.fill.new.places 0 to s.left s.digit 0 (symbols_from codes s.at) s.at (omega arith) (omega arith) c.requires.digit (start_reached w all s.at c.args.places.now) c.fill.ensures.filled in
     let left : s.left - (to - 0) ≡ s.left - to = omega arith in
-    ended_decoded codes c.fill.new.places c.args.row.now _ c.args.codes.now w s c.finished.result (s.left - to) s.digit s.at c.finished.ensures.end (omega arith) refl c.requires.reading c.requires.digit refl c.finished.ensures.packed
+    ended_decoded codes c.fill.new.places c.args.row.now _ c.args.codes.now w s c.ended.result (s.left - to) s.digit s.at c.ended.ensures (omega arith) refl c.requires.reading c.requires.digit refl c.pack_filled.ensures.packed
     (reached_at w all s.at _ to w _ _ (s.at + 0) s.at c.if-to-width.true (ap (λ n. spelled (Digits n s.digit) 0 ∷ symbols_from codes s.at) left) (omega arith) run)
 
 pub returns-clause-answer : goal.returns-clause-answer

@@ -19,7 +19,7 @@ returns-in_default-clause-decoded c = λ s r.
     let none : held d.result.1 ≡ 0 = ap held c.in_default.is in
     let taken = hand_taken w all s.at _ _ _ _ c.loop-b.codes d.new.codes _ None c.in_default.is (d.ensures.reached all s.at) (c.loop-b.invariant.reached all s.at r) in
     let white = white_reached w all s.at d.new.places c.fill.new.places d.new.codes.bytes.now d.result.0 d.new.codes.at (omega (arith, none)) (λ l. d.ensures.end none (omega (arith, l))) (nothing_taken w all s.at d.new.places d.result.0 d.new.codes taken) c.fill.ensures.filled in
-    ended_decoded _ c.fill.new.places c.args.row.now _ d.new.codes w s c.finished.result 0 0 d.new.codes.at c.finished.ensures.end (omega arith) (d.ensures.advanced.bytes ∙ c.loop-b.invariant.advanced.bytes) d.ensures.advanced.reading (omega arith) refl (packed _ _ c.fill.new.places c.finished.new.row c.loop-b.invariant.row c.finished.ensures.packed)
+    ended_decoded _ c.fill.new.places c.args.row.now _ d.new.codes w s c.ended.result 0 0 d.new.codes.at c.ended.ensures (omega arith) (d.ensures.advanced.bytes ∙ c.loop-b.invariant.advanced.bytes) d.ensures.advanced.reading (omega arith) refl (packed _ _ c.fill.new.places c.pack_filled.new.row c.loop-b.invariant.row c.pack_filled.ensures.packed)
     (run_before w all s.at _ w 0 _ _ white)
 
 pub returns-then-to-width-clause-decoded : goal.returns-then-to-width-clause-decoded
@@ -33,8 +33,8 @@ returns-then-to-width-clause-decoded c = λ s r.
     let taken = hand_taken w all s.at _ _ _ _ c.loop-b.codes d.new.codes _ (Some c.in-Some.b) c.in-Some.is (d.ensures.reached all s.at) (c.loop-b.invariant.reached all s.at r) in
     let next = symbol_reached d.new.codes e c.in-Some.b _ (Digits c.in-Digits.n c.in-Digits.v) w all s.at d.new.places d.result.0 hand d.ensures.advanced.reading c.in-Digits.ensures.symbol taken in
     let run = run_reached w all s.at d.new.places c.fill-in-Digits.new.places d.result.0 c.end_of_run-to.result c.in-Digits.n c.in-Digits.v _ _ _ (omega (arith, one)) (omega arith) c.in-Digits.ensures.small.1 next c.fill-in-Digits.ensures.filled in
-    ended_decoded _ c.fill-in-Digits.new.places c.args.row.now _ e w s c.finished-then-to-width.result _ c.in-Digits.v _ c.finished-then-to-width.ensures.end (omega arith) (c.in-Digits.ensures.advanced.bytes ∙ d.ensures.advanced.bytes ∙ c.loop-b.invariant.advanced.bytes) c.in-Digits.ensures.advanced.reading c.in-Digits.ensures.small.1 (omega (arith, hand.0, c.in-Digits.ensures.advanced.at))
-    (packed _ _ c.fill-in-Digits.new.places c.finished-then-to-width.new.row c.loop-b.invariant.row c.finished-then-to-width.ensures.packed)
+    ended_decoded _ c.fill-in-Digits.new.places c.args.row.now _ e w s c.ended-then-to-width.result _ c.in-Digits.v _ c.ended-then-to-width.ensures (omega arith) (c.in-Digits.ensures.advanced.bytes ∙ d.ensures.advanced.bytes ∙ c.loop-b.invariant.advanced.bytes) c.in-Digits.ensures.advanced.reading c.in-Digits.ensures.small.1 (omega (arith, hand.0, c.in-Digits.ensures.advanced.at))
+    (packed _ _ c.fill-in-Digits.new.places c.pack_filled-then-to-width.new.row c.loop-b.invariant.row c.pack_filled-then-to-width.ensures.packed)
     (reached_at w all s.at _ _ w _ _ _ _ c.if-to-width.true refl refl run)
 
 pub returns-in-ToEnd-clause-decoded : goal.returns-in-ToEnd-clause-decoded
@@ -48,8 +48,8 @@ returns-in-ToEnd-clause-decoded c = λ s r.
     let taken = hand_taken w all s.at _ _ _ _ c.loop-b.codes d.new.codes _ (Some c.in-Some.b) c.in-Some.is (d.ensures.reached all s.at) (c.loop-b.invariant.reached all s.at r) in
     let next = symbol_reached d.new.codes e c.in-Some.b _ (ToEnd c.in-ToEnd.v) w all s.at d.new.places d.result.0 hand d.ensures.advanced.reading c.in-ToEnd.ensures.symbol taken in
     let filled = end_reached w all s.at d.new.places c.fill-in-ToEnd.new.places d.result.0 c.in-ToEnd.v _ _ _ (omega (arith, one)) c.in-ToEnd.ensures.small next c.fill-in-ToEnd.ensures.filled in
-    ended_decoded _ c.fill-in-ToEnd.new.places c.args.row.now _ e w s c.finished-in-ToEnd.result 0 0 _ c.finished-in-ToEnd.ensures.end (omega arith) (c.in-ToEnd.ensures.advanced.bytes ∙ d.ensures.advanced.bytes ∙ c.loop-b.invariant.advanced.bytes) c.in-ToEnd.ensures.advanced.reading (omega arith) (omega (arith, hand.0, c.in-ToEnd.ensures.advanced.at))
-    (packed _ _ c.fill-in-ToEnd.new.places c.finished-in-ToEnd.new.row c.loop-b.invariant.row c.finished-in-ToEnd.ensures.packed)
+    ended_decoded _ c.fill-in-ToEnd.new.places c.args.row.now _ e w s c.ended-in-ToEnd.result 0 0 _ c.ended-in-ToEnd.ensures (omega arith) (c.in-ToEnd.ensures.advanced.bytes ∙ d.ensures.advanced.bytes ∙ c.loop-b.invariant.advanced.bytes) c.in-ToEnd.ensures.advanced.reading (omega arith) (omega (arith, hand.0, c.in-ToEnd.ensures.advanced.at))
+    (packed _ _ c.fill-in-ToEnd.new.places c.pack_filled-in-ToEnd.new.row c.loop-b.invariant.row c.pack_filled-in-ToEnd.ensures.packed)
     (run_before w all s.at _ w 0 _ _ filled)
 
 pub returns-in-Again-clause-decoded : goal.returns-in-Again-clause-decoded
