@@ -1,9 +1,9 @@
 -- How wide symbols can be.
-use Rattle.std.proofs.Common.{◌≡◌, ℕ, ◌+◌, ◌*◌, ◌^◌, ◌<◌, ◌≤◌, Bool, true, false, cond, eqb, leb, List, [], ◌∷◌, ◌++◌, length, take, drop, reverse, refl, arith}
+use Rattle.std.proofs.Common.{inl, inr, ◌⊎◌, ◌≡◌, ℕ, ◌+◌, ◌*◌, ◌^◌, ◌<◌, ◌≤◌, Bool, true, false, cond, eqb, leb, List, [], ◌∷◌, ◌++◌, length, take, drop, map, reverse, refl, sym, ap, ◌∙◌, arith}
 use Rattle.std.specs.List.{flat_map}
 use Rattle.std.proofs.Math.Nat.{mul-le-mul_left}
-use Rattle.std.proofs.lemmas.Bool.{leb-true}
-use Rattle.std.proofs.lemmas.List.{length-append, length-take, length-drop}
+use Rattle.std.proofs.lemmas.Bool.{leb-true, eqb-true}
+use Rattle.std.proofs.lemmas.List.{length-append, length-take, length-drop, get_or-take}
 use Rattle.vp_bars.specs.declared.bars.Symbology.{Symbology}
 use Rattle.vp_bars.specs.declared.bars.Symbology.TheVariants.{Code39, Ean13, Code128}
 use Rattle.vp_bars.specs.Patterns.{code39_table, code128_table, parity}
@@ -11,6 +11,7 @@ use Rattle.vp_bars.specs.Elements.{set_a_widths, set_a_elements, set_b_elements,
 use Rattle.vp_bars.specs.Widths.{size_of, sized, pattern_of, next_widths, widths_of, bar_widths, width_of, black_of, in_bar, total}
 use Rattle.vp_bars.proofs.Draws.{total-append}
 use Rattle.vp_bars.proofs.Tables.{each_row}
+use Rattle.vp_bars.proofs.Lists.{list_all_get}
 use Rattle.vp_bars.proofs.Modules.{ean13_width, ean13_bars}
 
 -- elements by their modules and their number
@@ -95,6 +96,19 @@ narrow_bars Code39 n w vs h k l = omega (arith, characters_light n w (omega arit
 narrow_bars Ean13 n w vs h k l = digits_light n w (omega arith) (omega arith) vs l
 narrow_bars Code128 n w vs h k l = omega (arith, characters_light n w (omega arith) (omega arith) Code128 vs)
 
+-- the modules of a character of Code 128 other than the stop
+eleven : (v : ℕ) → v < 106 → total (pattern_of Code128 v) ≡ 11
+eleven v h =
+    ap total (sym (get_or-take 106 code128_table v [] h))
+    ∙ eqb-true _ _ (list_all_get (λ es. eqb (total es) 11) (take 106 code128_table) v [] h refl)
+
+by_modules : (n : ℕ) (es : List ℕ) → total (map (λ e. e * n) es) ≡ total es * n
+by_modules n [] = omega arith
+by_modules n (e ∷ es) = omega (arith, by_modules n es)
+
+pub eleven_modules : (n w v : ℕ) → v < 106 → total (sized Code128 n w (pattern_of Code128 v)) ≡ 11 * n
+eleven_modules n w v h = by_modules n (pattern_of Code128 v) ∙ ap (λ k. k * n) (eleven v h)
+
 pub width_is : (s : Symbology) (n w : ℕ) (vs : List ℕ) → width_of s n w vs ≡ total (bar_widths s n w vs)
 width_is Code39 n w vs = refl
 width_is Ean13 n w vs = ean13_width n vs
@@ -104,3 +118,10 @@ pub black_is : (s : Symbology) (n w : ℕ) (vs : List ℕ) (x : ℕ) → black_o
 black_is Code39 n w vs x = refl
 black_is Ean13 n w vs x = ean13_bars n vs x
 black_is Code128 n w vs x = refl
+
+-- the bars of the symbologies that aren't EAN-13
+pub characters_are : (s : Symbology) (n w : ℕ) (vs : List ℕ) → (s ≡ Code39) ⊎ (s ≡ Code128) → bar_widths s n w vs ≡ widths_of s n w vs
+characters_are s n w vs h = elim h [
+  | inl e ↦ ap (λ t. bar_widths t n w vs) e ∙ sym (ap (λ t. widths_of t n w vs) e)
+  | inr e ↦ ap (λ t. bar_widths t n w vs) e ∙ sym (ap (λ t. widths_of t n w vs) e)
+]

@@ -96,7 +96,7 @@ has_below Above k t y h l = absurd (omega arith)
 has_below Below k t y h l = omega arith
 has_below Both k t y h l = omega arith
 
-text_fits : (f : Font) (p : Place) → 0 < texts_above p + texts_below p → (t : List ℕ) → text_width f p t ≡ line_width f t
+pub text_fits : (f : Font) (p : Place) → 0 < texts_above p + texts_below p → (t : List ℕ) → text_width f p t ≡ line_width f t
 text_fits f None h t = absurd (omega arith)
 text_fits f Above h t = refl
 text_fits f Below h t = refl

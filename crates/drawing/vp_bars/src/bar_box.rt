@@ -5,7 +5,7 @@ ghost use Rattle.std.specs.Int.{w64};
 ghost use Rattle.vp_dots.specs.Dots.{shifted};
 ghost use Rattle.vp_dots.specs.Painting.{Painted};
 ghost use Rattle.vp_glyph.specs.Cells.{font_width, font_height, cell_dot, cell_width};
-ghost use Rattle.vp_bars.specs.Boxes.{Boxed, texts_above, texts_below, line_dot, line_width, box_width, box_height, text_row, bars_row, box_dot, box_inside};
+ghost use Rattle.vp_bars.specs.Boxes.{Boxed, texts_above, texts_below, line_dot, line_width, text_width as width_of_text, box_width, box_height, text_row, bars_row, box_dot, box_inside};
 ghost use Rattle.vp_bars.specs.Texts.{text_of};
 ghost use Rattle.vp_bars.specs.Widths.{bars_width as width_of_bars};
 
@@ -135,12 +135,23 @@ pub struct BarBox<'a> {
     pub place: Place,
     /// The dots of a row of the bars.
     pub bars_width: u32,
-    /// The dots of a row of the text.
+    /// The dots of a row of the text, where one stands.
     pub text_width: u32,
     ghost bars_are: { bars_width ≡ width_of_bars bars.now narrow wide },
     ghost bars_fit: { bars_width < 2 ^ 30 },
-    ghost text_is: { text_width ≡ line_width font (text_of bars.now) },
+    ghost text_is: { text_width ≡ width_of_text font place (text_of bars.now) },
     ghost text_fits: { text_width < 2 ^ 30 },
+}
+
+/// How wide the text of a symbol is, where one stands.
+fn text_width(bars: &Bars, font: Font, place: Place) -> u32
+    ensures width { result ≡ width_of_text font place (text_of bars.now) }
+    ensures small { result < 2 ^ 30 }
+{
+    match place {
+        Place::None => 0,
+        Place::Above | Place::Below | Place::Both => font.width() * bars.text().len() as u32,
+    }
 }
 
 impl Bars {
@@ -169,7 +180,7 @@ impl Bars {
         ensures place { result.place ≡ place }
     {
         let bars_width = bars_width(self.symbology(), self.symbols(), narrow, wide);
-        let text_width = font.width() * self.text().len() as u32;
+        let text_width = text_width(self, font, place);
         BarBox {
             bars: self,
             narrow,
@@ -236,6 +247,7 @@ impl BarBox<'_> {
 
     /// Paints a row of the text.
     fn paint_text(&self, y: u32, op: Op, at: i64, row: &mut [u8])
+        requires { 0 < texts_above self.now.place + texts_below self.now.place }
         ensures { Painted op (shifted at (text_row (boxed self.now) y)) row.old row.new }
     {
         let text = self.bars.text();

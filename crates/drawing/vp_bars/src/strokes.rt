@@ -1,7 +1,7 @@
 //! The bars of a symbol, drawn on a row.
 
 ghost use Rattle.std.specs.Prelude.{◌≡◌, ℕ, ◌+◌, ◌<◌, ◌≤◌, ◌^◌, ◌++◌, Bool, true, false, List, length, take, flat_map};
-ghost use Rattle.vp_bars.specs.Widths.{size_of, sized, next_widths, widths_of, bar_widths, width_of, total, in_bar};
+ghost use Rattle.vp_bars.specs.Widths.{pattern_of as pattern_for, size_of, sized, next_widths, widths_of, bar_widths, width_of, total, in_bar};
 ghost use Rattle.vp_bars.specs.Elements.{left_elements, ean13_elements};
 ghost use Rattle.vp_bars.specs.declared.bars.Symbology.TheVariants.{Ean13};
 ghost use Rattle.vp_bars.specs.Drawing.{Draws, turned};
@@ -59,6 +59,47 @@ impl Strokes<'_> {
         width
     }
 
+    /// How wide a character is: of Code 128 all but the stop have eleven modules.
+    fn character_width(&self, v: u8) -> u32
+        requires { total (sized self.now.symbology self.now.narrow self.now.wide
+            (pattern_for self.now.symbology v)) < 2 ^ 32 }
+        ensures { result ≡ total (sized self.now.symbology self.now.narrow self.now.wide
+            (pattern_for self.now.symbology v)) }
+    {
+        match self.symbology {
+            Symbology::Code128 if v < 106 => 11 * u32::from(self.narrow),
+            _ => self.width(pattern_of(self.symbology, v)),
+        }
+    }
+
+    /// How wide characters are, each behind another.
+    fn next_width(&self, values: &[u8]) -> u32
+        requires { total (flat_map (next_widths self.now.symbology self.now.narrow self.now.wide)
+            values.now) < 2 ^ 32 }
+        ensures { result ≡ total (flat_map (next_widths self.now.symbology self.now.narrow self.now.wide)
+            values.now) }
+    {
+        let gap = self.width(gap_of(self.symbology));
+        let mut width = 0;
+        for v in values {
+            width += gap + self.character_width(*v);
+        }
+        width
+    }
+
+    /// How wide the values are, one after the other.
+    fn characters_width(&self) -> u32
+        requires { total (widths_of self.now.symbology self.now.narrow self.now.wide self.now.values.now)
+            < 2 ^ 32 }
+        ensures { result ≡ total (widths_of self.now.symbology self.now.narrow self.now.wide
+            self.now.values.now) }
+    {
+        let Some((first, others)) = self.values.split_first() else {
+            return 0;
+        };
+        self.character_width(*first) + self.next_width(others)
+    }
+
     /// The pen behind elements.
     fn behind(&self, elements: &[u8], pen: Pen) -> Pen
         requires { pen.x + total (sized self.now.symbology self.now.narrow self.now.wide elements.now) < 2 ^
@@ -106,15 +147,12 @@ impl Strokes<'_> {
 
     /// Draws elements, and gives the pen behind them: at once where a word has room for them, and not at all
     /// where the row ends before them.
-    fn draw(&self, elements: &[u8], pen: Pen, op: Op, at: i64, row: &mut [u8]) -> Pen
+    fn draw_some(&self, elements: &[u8], pen: Pen, op: Op, at: i64, row: &mut [u8]) -> Pen
         requires { pen.x + total (sized self.now.symbology self.now.narrow self.now.wide elements.now) < 2 ^
             32 }
         ensures { Draws op at row.old row.new pen result
             (sized self.now.symbology self.now.narrow self.now.wide elements.now) }
     {
-        if elements.is_empty() {
-            return pen;
-        }
         let next = self.behind(elements, pen);
         let Some(place) = at.checked_add(i64::from(pen.x)) else {
             return self.draw_each(elements, pen, op, at, row);
@@ -127,6 +165,20 @@ impl Strokes<'_> {
         }
         paint_word(op, self.word(elements, pen.bar), place, row);
         next
+    }
+
+    /// The same of elements that may be none, as those between two characters of Code 128.
+    #[inline(always)]
+    fn draw(&self, elements: &[u8], pen: Pen, op: Op, at: i64, row: &mut [u8]) -> Pen
+        requires { pen.x + total (sized self.now.symbology self.now.narrow self.now.wide elements.now) < 2 ^
+            32 }
+        ensures { Draws op at row.old row.new pen result
+            (sized self.now.symbology self.now.narrow self.now.wide elements.now) }
+    {
+        if elements.is_empty() {
+            return pen;
+        }
+        self.draw_some(elements, pen, op, at, row)
     }
 
     /// Draws characters, each behind another, and gives the pen behind them.
@@ -226,6 +278,11 @@ pub(crate) fn bars_width(symbology: Symbology, values: &[u8], narrow: u16, wide:
         narrow,
         wide,
     };
-    let pen = Pen { x: 0, bar: true };
-    strokes.draw_bars(pen, Op::Black, 0, &mut []).x
+    match symbology {
+        Symbology::Ean13 => {
+            let pen = Pen { x: 0, bar: true };
+            strokes.draw_bars(pen, Op::Black, 0, &mut []).x
+        }
+        Symbology::Code39 | Symbology::Code128 => strokes.characters_width(),
+    }
 }

@@ -16,3 +16,4 @@ pub mod Cuts
 pub mod Swaps
 pub mod Heights
 pub mod Columns
+pub mod Squares

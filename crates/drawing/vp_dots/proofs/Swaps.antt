@@ -66,7 +66,7 @@ module _ (n s mask : ℕ) where
       ∙ place i (bit mask i) (leb s i && bit mask (i - s))
 
 -- a test that each number below n passes
-abbrev every : ℕ → (ℕ → Bool) → Bool
+abbrev pub every : ℕ → (ℕ → Bool) → Bool
 every zero f = true
 every (suc n) f = f n && every n f
 

@@ -9,3 +9,4 @@ pub mod Faults
 pub mod Listing
 -- What the code keeps.
 pub mod Blocks
+pub mod Squares

@@ -10,6 +10,7 @@
 //! - `kernel`: the dots of one row on another, moved by any offset.
 //! - `word`: 64 dots at once, cut out of a row and painted on one.
 //! - `block`: eight by eight dots in a word, and eight lines laid across the rows of a band.
+//! - `square`: 64 by 64 dots in 64 words, rows and columns exchanged.
 //! - `place`: an ink at a place of a band.
 //! - `band`, `store`: rows of dots and bytes on the heap.
 //! - `image`: the header of an image, and the laws from the bytes of its rows to its dots and back.
@@ -31,6 +32,7 @@ mod listing;
 mod place;
 mod single;
 mod span;
+mod square;
 mod store;
 mod word;
 
@@ -41,11 +43,14 @@ pub use fault::{Fault, Why};
 pub use image::{dots_decide, header, image_law, row_law};
 pub use kernel::{clear_into, or_into, paint_into, painted_law, shift_law, xor_into};
 pub use listing::{list, spell};
-pub use place::paint_at;
+pub use place::{paint_at, paint_words};
 pub use single::{dot_of, paint_bits, paint_dot};
 pub use span::{fill_dots, fill_moved};
+pub use square::{SIDE, turned_square};
 pub use store::{Full, Store};
-pub use word::{NARROW, first_dots, paint_few, paint_narrow, paint_word, word_at, word_of};
+pub use word::{
+    NARROW, eight_at, first_dots, paint_few, paint_narrow, paint_word, word_at, word_of,
+};
 
 /// The most lines of ink that is painted by words at once: as many as a character of a receipt has.
 pub const WORDS: usize = 24;

@@ -1,8 +1,7 @@
 //! Ink painted at a place of a band.
-ghost use Rattle.std.specs.Prelude.{◌≡◌, ℕ, ◌<◌, ◌≤◌, ◌^◌, Bool, true, false, ◌+◌, pos, MatchOption, option_map, unwrap_or};
+ghost use Rattle.std.specs.Prelude.{◌≡◌, ℕ, ◌<◌, ◌≤◌, ◌^◌, Bool, true, false, ◌+◌, pos, MatchOption, option_map, unwrap_or, length};
 ghost use Rattle.vp_dots.specs.Dots.{shifted};
 ghost use Rattle.vp_dots.specs.Places.{placed, words_dot, RowsPainted};
-ghost use Rattle.vp_dots.specs.declared.TheConstants.{WORDS};
 
 use crate::word::paint_word;
 use crate::{Band, Ink, Op, WORDS};
@@ -74,13 +73,13 @@ fn row_for(top: i64, h: u32, rows: usize) -> Option<usize>
 #[inline(always)]
 fn paint_words_by<const B: usize, const H: usize>(
     op: Op,
-    words: &[u64; WORDS],
+    words: &[u64],
     h: usize,
     left: i64,
     top: usize,
     band: &mut Band<B, H>,
 )
-    requires few { h ≤ WORDS }
+    requires few { h ≤ length words.now }
     requires room { top + h ≤ H }
     ensures { RowsPainted H op (words_dot words.now left top h) band.old band.new }
 {
@@ -89,16 +88,16 @@ fn paint_words_by<const B: usize, const H: usize>(
     }
 }
 
-/// The same, with a loop for each operation.
-fn paint_words<const B: usize, const H: usize>(
+/// Paints the first h words, each as a row of a band, from a row on and moved by an offset.
+pub fn paint_words<const B: usize, const H: usize>(
     op: Op,
-    words: &[u64; WORDS],
+    words: &[u64],
     h: usize,
     left: i64,
     top: usize,
     band: &mut Band<B, H>,
 )
-    requires few { h ≤ WORDS }
+    requires few { h ≤ length words.now }
     requires room { top + h ≤ H }
     ensures { RowsPainted H op (words_dot words.now left top h) band.old band.new }
 {

@@ -128,7 +128,7 @@ pub fn word_of(bytes: &[u8; 8]) -> u64
 
 /// Eight bytes of the row, from byte i on.
 #[inline(always)]
-fn eight_at(row: &[u8], i: usize) -> u64
+pub fn eight_at(row: &[u8], i: usize) -> u64
     requires { i + 8 ≤ length row.now }
     ensures { (x : ℕ) → x < 64 → word_dot result x ≡ dot row.now (8 * i + x) }
 {

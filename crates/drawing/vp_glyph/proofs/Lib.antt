@@ -2,6 +2,7 @@ pub mod Breaking
 pub mod Cuts
 pub mod Drawn
 pub mod Formed
+pub mod Gathered
 pub mod Forms
 pub mod Looks
 pub mod Numbers
@@ -13,3 +14,4 @@ pub mod Spread
 pub mod Stacks
 pub mod Styled
 pub mod Masks
+pub mod Moved

@@ -125,13 +125,13 @@ module _ (sheet : Option Glyphs) (w h a b s : ℕ) (d : Alignment) (y : ℕ) whe
   above_none op at place line row l = moved_none op at (λ x. line_dot sheet w h a s d place line x y) row (λ x. line_above sheet w h a b s d x y place line l)
 
 -- a white row
-zero_at : (n i : ℕ) → get_or (replicate {A = ℕ} n 0) i 0 ≡ 0
+pub zero_at : (n i : ℕ) → get_or (replicate {A = ℕ} n 0) i 0 ≡ 0
 zero_at n i = elim (cases_lt i n) [
   | inl l ↦ get_or-replicate n i 0 0 l
   | inr g ↦ get_or_past (replicate {A = ℕ} n 0) i 0 (let m = length-replicate {A = ℕ} n 0 in omega (arith, m))
 ]
 
-zero_dots : (n x : ℕ) → dot (replicate {A = ℕ} n 0) x ≡ false
+pub zero_dots : (n x : ℕ) → dot (replicate {A = ℕ} n 0) x ≡ false
 unfolding dot bit
 zero_dots n x = ap (λ k. eqb (bit_at k (7 - x % 8)) 1) (zero_at n (x / 8)) ∙ ap (λ k. eqb k 1) (bit_at-zero (7 - x % 8))
 

@@ -53,6 +53,8 @@ pub struct Block<'a> {
     pub text: &'a [u8],
     pub w: u32,
     pub h: u32,
+    /// How a row of a cell is drawn w dots wide.
+    pub(crate) stretch: Stretch,
     /// The dots of a line.
     pub wide: u32,
     /// How many lines stand below each other.
@@ -65,6 +67,7 @@ pub struct Block<'a> {
     /// The text from the next line on.
     pub(crate) rest: &'a [u8],
     ghost some: { 0 < w },
+    ghost drawn: { stretch.width ≡ w },
     ghost narrow: { wide ≤ 32000 },
     ghost fits: { block_height h rows pitch < 2 ^ 32 },
     ghost apart: { passed ≤ rows - 1 },
@@ -196,6 +199,7 @@ impl<'a> Block<'a> {
             text: self.text,
             w: self.w,
             h: self.h,
+            stretch: self.stretch,
             wide: self.wide,
             rows: self.rows,
             pitch: self.pitch,
@@ -207,14 +211,15 @@ impl<'a> Block<'a> {
 }
 
 impl Block<'_> {
-    /// The first line that may have a dot in row y: how many lines stand above it, and the text from it on.
-    fn first_line(&self, y: u32) -> (u32, &[u8])
+    /// The first line that may have a dot in row y, or in one below it: how many lines stand above, and the
+    /// text from it on.
+    pub(crate) fn first_line(&self, y: u32) -> (u32, &[u8])
         ensures above { result.0 ≤ self.now.rows - 1 }
-        ensures lines { (x : ℕ) → lines_dot self.now.sheet.now self.now.w self.now.h self.now.wide
+        ensures lines { (x z : ℕ) → y ≤ z → lines_dot self.now.sheet.now self.now.w self.now.h self.now.wide
             self.now.rows self.now.pitch self.now.alignment 0
-            (block_lines (self.now.wide / self.now.w) self.now.text.now) x y
+            (block_lines (self.now.wide / self.now.w) self.now.text.now) x z
             ≡ lines_dot self.now.sheet.now self.now.w self.now.h self.now.wide self.now.rows self.now.pitch
-            self.now.alignment result.0 (block_lines (self.now.wide / self.now.w) result.1.now) x y }
+            self.now.alignment result.0 (block_lines (self.now.wide / self.now.w) result.1.now) x z }
     {
         if y >= self.passed.saturating_sub(1) * self.pitch + self.h {
             (self.passed, self.rest)
@@ -224,17 +229,15 @@ impl Block<'_> {
     }
 
     /// Paints row y of a line that stands so many lines below the first.
-    fn paint_line(
+    pub(crate) fn paint_line(
         &self,
         line: Line<'_>,
-        stretch: &Stretch,
         place: u32,
         y: u32,
         op: Op,
         at: i64,
         row: &mut [u8],
     )
-        requires stretch { stretch.now.width ≡ self.now.w }
         requires cells { line.cells ≤ length (first (pieces line.text.now)) }
         requires most { line.cells ≤ self.now.wide / self.now.w }
         requires place { place ≤ self.now.rows - 1 }
@@ -253,7 +256,7 @@ impl Block<'_> {
         paint_line(
             line,
             self.sheet,
-            stretch,
+            &self.stretch,
             self.h,
             y - top,
             op,
@@ -272,7 +275,6 @@ impl Block<'_> {
             self.now.h self.now.wide self.now.rows self.now.pitch self.now.alignment x y)) row.old row.new }
     {
         let most = (self.wide / self.w) as usize;
-        let stretch = Stretch::new(self.w);
         let (above, text) = self.first_line(y);
         let mut place = above;
         let mut left = Some(text);
@@ -281,7 +283,7 @@ impl Block<'_> {
                 return;
             }
             let (line, rest) = next_line(text, most);
-            self.paint_line(line, &stretch, place, y, op, at, row);
+            self.paint_line(line, place, y, op, at, row);
             place = (place + 1).min(self.rows.saturating_sub(1));
             left = rest;
         }

@@ -9,7 +9,8 @@
 //! - `cell`, `look`: a character in a font and a style, dot by dot and as the words of its rows.
 //! - `sampled`, `stretch`: a character at any size, and the dots of its rows as a word.
 //! - `text`: characters side by side.
-//! - `lines`, `block`: a text broken into lines, and the lines below each other.
+//! - `lines`, `block`, `fronts`: a text broken into lines, the lines below each other, and many of their rows
+//!   at once.
 #![tactic(auto)]
 
 ghost use Rattle.std.specs.Prelude.{◌≡◌, ◌<◌, ◌≤◌, ◌≤ℤ◌, pos};
@@ -17,6 +18,7 @@ ghost use Rattle.vp_glyph.specs.Blocks.{pitch};
 
 mod block;
 mod cell;
+mod fronts;
 mod header;
 mod lines;
 mod look;
@@ -31,6 +33,7 @@ pub use header::header_law;
 pub use lines::lines_law;
 pub use sampled::Sampled;
 pub use sheet::{Sheet, SheetError};
+pub use stretch::Stretch;
 pub use text::paint_text;
 
 /// The sheets of the two fonts, as far as there are any.
@@ -112,6 +115,7 @@ impl Sheets {
             text,
             w,
             h,
+            stretch: Stretch::new(w),
             wide,
             rows,
             pitch: block::pitch(h, gap),

@@ -55,6 +55,48 @@ fn picked(word: u64, s: u32, mask: u64) -> u64
     if dot_in_word(word, s) { mask } else { 0 }
 }
 
+/// A word moved so many dots to the right.
+fn moved_right(word: u64, far: u64) -> u64
+    ensures { (x : ℕ) → x < 64 → word_dot result x ≡ (nat_le far x && word_dot word (x - far)) }
+{
+    if far >= 64 {
+        return 0;
+    }
+    word >> far
+}
+
+/// A word moved so many dots to the left.
+fn moved_left(word: u64, far: u64) -> u64
+    ensures { (x : ℕ) → x < 64 → word_dot result x ≡ word_dot word (x + far) }
+{
+    if far >= 64 {
+        return 0;
+    }
+    word << far
+}
+
+/// The first 64 dots of a row on which a word begins at an offset.
+fn moved_word(word: u64, at: i64) -> u64
+    ensures { (x : ℕ) → x < 64 → word_dot result x ≡ shifted at (word_dot word) x }
+{
+    if at >= 0 {
+        moved_right(word, at.unsigned_abs())
+    } else {
+        moved_left(word, at.unsigned_abs())
+    }
+}
+
+/// Paints a word on a row, which may be shorter than the word.
+fn paint_moved(op: Op, word: u64, at: i64, row: &mut [u8])
+    ensures { Painted op (shifted at (word_dot word)) row.old row.new }
+{
+    if row.len() <= 8 {
+        paint_word(op, moved_word(word, at), 0, row);
+    } else {
+        paint_word(op, word, at, row);
+    }
+}
+
 /// The offset of what begins so many dots behind another.
 fn moved(at: i64, dots: u32) -> i64
     requires near { at <ℤ pos (2 ^ 40) }
@@ -99,10 +141,13 @@ impl Stretch {
         ensures { Painted op (shifted at (λ x. nat_le left x && nat_lt (x - left) self.now.width
             && word_dot word ((x - left) * 12 / self.now.width))) row.old row.new }
     {
+        if word == 0 {
+            return;
+        }
         if self.width > WORD || at >= FAR {
             paint_scaled::<12>(op, at, word, left, self.width, row);
             return;
         }
-        paint_word(op, self.of(word), moved(at, left), row);
+        paint_moved(op, self.of(word), moved(at, left), row);
     }
 }

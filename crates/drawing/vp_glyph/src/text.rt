@@ -9,29 +9,30 @@ use crate::sheet::Sheet;
 use crate::stretch::Stretch;
 use vp_dots::Op;
 
-/// Paints line y of the cells of a text, each w by h dots from a sheet with cells of 12 by 24: those that can
-/// be seen on the row.
+/// Paints line y of the cells of a text, each stretched to a width and drawn h dots high, from a sheet with
+/// cells of 12 by 24: those that can be seen on the row.
 pub fn paint_text(
     sheet: &Option<Sheet>,
     text: &[u8],
-    w: u32,
+    stretch: &Stretch,
     h: u32,
     y: u32,
     op: Op,
     at: i64,
     row: &mut [u8],
 )
-    requires some { 0 < w }
-    requires fits { w * length text.now < 2 ^ 32 }
-    ensures { Painted op (shifted at (λ x. text_dot sheet.now text.now w h x y)) row.old row.new }
+    requires some { 0 < stretch.now.width }
+    requires fits { stretch.now.width * length text.now < 2 ^ 32 }
+    ensures { Painted op (shifted at (λ x. text_dot sheet.now text.now stretch.now.width h x y)) row.old
+        row.new }
 {
     if y >= h {
         return;
     }
-    let stretch = Stretch::new(w);
+    let w = stretch.width;
     let source = source_row(y, h);
     let (from, to) = seen(at, 0, w, text.len(), row.len());
     for k in from..to {
-        paint_cell(sheet, text[k], source, &stretch, op, at, w * k as u32, row);
+        paint_cell(sheet, text[k], source, stretch, op, at, w * k as u32, row);
     }
 }

@@ -1,4 +1,4 @@
--- The least cost, and symbols that differ only where no data stands.
+-- The least penalty, and symbols that differ only where no data stands.
 use Rattle.std.proofs.Common.{◌≡◌, ℕ, zero, suc, ◌-◌, ◌<◌, ◌≤◌, ◌&&◌, ◌||◌, not, Bool, true, false, eqb, leb, cond, List, [], ◌∷◌, length, get_or, map, refl, sym, ap, ◌∙◌, inl, inr, arith}
 use Rattle.std.specs.List.{list_all, position_or_len}
 use Rattle.std.proofs.lemmas.Bool.{eqb-true, lt-leb, le-leb, cases_lt}
@@ -9,9 +9,9 @@ use Rattle.vp_qr.specs.Walk.{number_of, data_bit, dark}
 use Rattle.vp_qr.specs.Symbol.{finder, module_at, differ, formula}
 use Rattle.vp_qr.specs.declared.level.Level.{Level}
 use Rattle.vp_qr.specs.Codes.{format_code, version_code}
-use Rattle.vp_qr.specs.Cost.{cost}
+use Rattle.vp_qr.specs.Penalty.{penalty}
 use Rattle.vp_qr.specs.Encoding.{least_place, masks, masked, best_mask}
-use Rattle.vp_qr.proofs.Counting.{cost_same}
+use Rattle.vp_qr.proofs.Counting.{penalty_same}
 use Rattle.vp_qr.proofs.FieldLaws.{passes_below, passes_at}
 
 all_least : (x : ℕ) (xs : List ℕ) → ((m : ℕ) → m < length xs → x ≤ get_or xs m 0) → list_all (leb x) xs ≡ true
@@ -38,10 +38,10 @@ least_place_is xs b lt least lowest =
 masks_are : passes_below 8 (λ k. eqb (get_or masks k 0) k) ≡ true
 masks_are = refl
 
--- the costs of the eight masks
-pub costs_are : (costs : List ℕ) (f : ℕ → ℕ) → length costs ≡ 8 → ((k : ℕ) → k < 8 → get_or costs k 0 ≡ f k) → costs ≡ map f masks
-costs_are costs f e h =
-    ext_get_or 0 costs (map f masks) (e ∙ sym (length-map masks f))
+-- the penalties of the eight masks
+pub penalties_are : (penalties : List ℕ) (f : ℕ → ℕ) → length penalties ≡ 8 → ((k : ℕ) → k < 8 → get_or penalties k 0 ≡ f k) → penalties ≡ map f masks
+penalties_are penalties f e h =
+    ext_get_or 0 penalties (map f masks) (e ∙ sym (length-map masks f))
     (λ k lt.
     let below : k < 8 = omega (arith, e) in
     h k below ∙ ap f (sym (eqb-true (get_or masks k 0) k (passes_at 8 (λ k. eqb (get_or masks k 0) k) masks_are k below)))
@@ -83,16 +83,16 @@ pub data_placed : (v : ℕ) (words rows : List ℕ) (i j : ℕ) → dark rows i 
     → reserved v i j ≡ false → dark rows i j ≡ data_bit words (number_of v i j)
 data_placed v words rows i j e free = e ∙ ap (λ t. not t && data_bit words (number_of v i j)) free
 
--- the least costs, taken from the placed data or from the codewords
+-- the least penalties, taken from the placed data or from the codewords
 pub same_choice : (level : Level) (v : ℕ) (words rows : List ℕ)
     → ((i j : ℕ) → i < size v → j < size v → dark rows i j ≡ (not (reserved v i j) && data_bit words (number_of v i j)))
-    → least_place (map (λ k. cost (module_at v (format_code level k) (version_code v) k (dark rows)) (size v)) masks) ≡ best_mask level v words
+    → least_place (map (λ k. penalty (module_at v (format_code level k) (version_code v) k (dark rows)) (size v)) masks) ≡ best_mask level v words
 unfolding best_mask masked
 same_choice level v words rows h =
     ap least_place
-    (map_same (λ k. cost (module_at v (format_code level k) (version_code v) k (dark rows)) (size v))
-    (λ k. cost (masked level v words k) (size v))
-    (λ k. cost_same _ _ (size v) (λ i j hi hj. module_same v (format_code level k) (version_code v) k (dark rows) (λ i j. data_bit words (number_of v i j)) i j (data_placed v words rows i j (h i j hi hj))))
+    (map_same (λ k. penalty (module_at v (format_code level k) (version_code v) k (dark rows)) (size v))
+    (λ k. penalty (masked level v words k) (size v))
+    (λ k. penalty_same _ _ (size v) (λ i j hi hj. module_same v (format_code level k) (version_code v) k (dark rows) (λ i j. data_bit words (number_of v i j)) i j (data_placed v words rows i j (h i j hi hj))))
     masks)
   where
     map_same : (f g : ℕ → ℕ) → ((k : ℕ) → f k ≡ g k) → (xs : List ℕ) → map f xs ≡ map g xs

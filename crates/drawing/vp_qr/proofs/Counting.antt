@@ -5,7 +5,7 @@ use Rattle.std.specs.Int.{bit_at}
 use Rattle.std.proofs.lemmas.Bool.{cases_lt}
 use Rattle.std.proofs.lemmas.Nat.{div_below, ones_cat, one_shl, and_mask, div-add-mod', mod_below, pow_pos}
 use Rattle.std.proofs.lemmas.Nat.Bits.{bit_at-lt, bit_at_cat_low}
-use Rattle.vp_qr.specs.Cost.{is_set, sum_below, line_from, line_cost, lines_cost, same, square_at, squares_cost, dark_modules, balance_cost, cost}
+use Rattle.vp_qr.specs.Penalty.{is_set, sum_below, line_from, line_penalty, lines_penalty, same, square_at, squares_penalty, dark_modules, balance_penalty, penalty}
 use Rattle.vp_qr.specs.Walk.{dark}
 
 pub sum_more : (n : ℕ) (f : ℕ → ℕ) → sum_below (n + 1) f ≡ sum_below n f + f n
@@ -122,12 +122,12 @@ pub dark_in_row : (rows : List ℕ) (i n : ℕ) → sum_below n (λ j. bit_at (g
 unfolding dark
 dark_in_row rows i n = sum_same n (λ j. bit_at (get_or rows i 0) j) (λ j. cond (dark rows i j) 1 0) (λ j h. bit_as_one (bit_at (get_or rows i 0) j) (bit_at-lt (get_or rows i 0) j))
 
--- symbols that are the same below a size cost the same
+-- symbols that are the same below a size have the same penalty
 module _ (f g : ℕ → ℕ → Bool) (s : ℕ) (h : (i j : ℕ) → i < s → j < s → f i j ≡ g i j) where
-  lines_same : lines_cost f s ≡ lines_cost g s
+  lines_same : lines_penalty f s ≡ lines_penalty g s
   lines_same =
-      sum_same s (λ i. line_cost (line_from (f i) 0 s)) (λ i. line_cost (line_from (g i) 0 s))
-      (λ i lt. ap line_cost (line_same (f i) (g i) s 0 (λ j _ below. h i j lt (omega arith))))
+      sum_same s (λ i. line_penalty (line_from (f i) 0 s)) (λ i. line_penalty (line_from (g i) 0 s))
+      (λ i lt. ap line_penalty (line_same (f i) (g i) s 0 (λ j _ below. h i j lt (omega arith))))
 
   square_same : (i j : ℕ) → i < s - 1 → j < s - 1 → square_at (f i) (f (i + 1)) j ≡ square_at (g i) (g (i + 1)) j
   square_same i j hi hj =
@@ -136,7 +136,7 @@ module _ (f g : ℕ → ℕ → Bool) (s : ℕ) (h : (i j : ℕ) → i < s → j
       ∙ ap (λ b. cond (same (g i j) (g i (j + 1)) && same (g i j) b && same (g i j) (f (i + 1) (j + 1))) 1 0) (h (i + 1) j (omega arith) (omega arith))
       ∙ ap (λ b. cond (same (g i j) (g i (j + 1)) && same (g i j) (g (i + 1) j) && same (g i j) b) 1 0) (h (i + 1) (j + 1) (omega arith) (omega arith))
 
-  pub squares_same : squares_cost f s ≡ squares_cost g s
+  pub squares_same : squares_penalty f s ≡ squares_penalty g s
   squares_same =
       ap (λ m. 3 * m)
       (sum_same (s - 1) (λ i. sum_below (s - 1) (square_at (f i) (f (i + 1)))) (λ i. sum_below (s - 1) (square_at (g i) (g (i + 1))))
@@ -147,10 +147,10 @@ module _ (f g : ℕ → ℕ → Bool) (s : ℕ) (h : (i j : ℕ) → i < s → j
       sum_same s (λ i. sum_below s (λ j. cond (f i j) 1 0)) (λ i. sum_below s (λ j. cond (g i j) 1 0))
       (λ i hi. sum_same s (λ j. cond (f i j) 1 0) (λ j. cond (g i j) 1 0) (λ j hj. ap (λ b. cond b 1 0) (h i j hi hj)))
 
-pub cost_same : (f g : ℕ → ℕ → Bool) (s : ℕ) → ((i j : ℕ) → i < s → j < s → f i j ≡ g i j) → cost f s ≡ cost g s
-unfolding cost
-cost_same f g s h =
-    ap (λ m. m + lines_cost (λ i j. f j i) s + squares_cost f s + balance_cost (dark_modules f s) (s * s)) (lines_same f g s h)
-    ∙ ap (λ m. lines_cost g s + m + squares_cost f s + balance_cost (dark_modules f s) (s * s)) (lines_same (λ i j. f j i) (λ i j. g j i) s (λ i j hi hj. h j i hj hi))
-    ∙ ap (λ m. lines_cost g s + lines_cost (λ i j. g j i) s + m + balance_cost (dark_modules f s) (s * s)) (squares_same f g s h)
-    ∙ ap (λ m. lines_cost g s + lines_cost (λ i j. g j i) s + squares_cost g s + balance_cost m (s * s)) (dark_same f g s h)
+pub penalty_same : (f g : ℕ → ℕ → Bool) (s : ℕ) → ((i j : ℕ) → i < s → j < s → f i j ≡ g i j) → penalty f s ≡ penalty g s
+unfolding penalty
+penalty_same f g s h =
+    ap (λ m. m + lines_penalty (λ i j. f j i) s + squares_penalty f s + balance_penalty (dark_modules f s) (s * s)) (lines_same f g s h)
+    ∙ ap (λ m. lines_penalty g s + m + squares_penalty f s + balance_penalty (dark_modules f s) (s * s)) (lines_same (λ i j. f j i) (λ i j. g j i) s (λ i j hi hj. h j i hj hi))
+    ∙ ap (λ m. lines_penalty g s + lines_penalty (λ i j. g j i) s + m + balance_penalty (dark_modules f s) (s * s)) (squares_same f g s h)
+    ∙ ap (λ m. lines_penalty g s + lines_penalty (λ i j. g j i) s + squares_penalty g s + balance_penalty m (s * s)) (dark_same f g s h)

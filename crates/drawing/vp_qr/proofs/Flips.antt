@@ -4,7 +4,7 @@ use Rattle.std.proofs.Math.Nat.{mul_comm}
 use mathlib.Core.Bool.{beq}
 use Rattle.std.proofs.lemmas.Bool.{lt-ltb}
 use Rattle.std.proofs.lemmas.Nat.{mul-mod_second, or_lt, one_shl}
-use Rattle.vp_qr.specs.Cost.{is_set}
+use Rattle.vp_qr.specs.Penalty.{is_set}
 use Rattle.vp_qr.specs.Symbol.{formula}
 use Rattle.vp_qr.proofs.FieldLaws.{passes_below, passes_at}
 use Rattle.vp_qr.proofs.FreeModules.{Made}

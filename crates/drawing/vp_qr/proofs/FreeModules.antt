@@ -2,11 +2,12 @@
 use Rattle.std.proofs.Common.{◌≡◌, ℕ, zero, suc, ◌+◌, ◌-◌, ◌*◌, ◌^◌, ◌%◌, ◌<◌, ◌&&◌, ◌||◌, not, Bool, true, false, eqb, ltb, leb, List, length, replicate, get_or, set, get_or-set_same, get_or-set_other, cond, refl, sym, ap, ◌∙◌, inl, inr, arith, bit_or, w64}
 use Rattle.std.specs.Int.{bit_at}
 use Rattle.std.proofs.lemmas.Bool.{cases_Bool, cases_lt, cases_eq, and_parts, eqb-true, lt-ltb, le-ltb, le-leb}
+use Rattle.std.proofs.lemmas.Bool.Decides.{nat_tests}
 use Rattle.std.proofs.lemmas.Nat.Bits.{bit_at_set_same, bit_at_set_other, bit_at-zero}
 use Rattle.vp_qr.specs.Places.{size, corner, alignment, version_area, reserved}
 use Rattle.vp_qr.specs.Symbol.{finder, finder_dark, alignment_dark, format_bit, version_bit, module_at, differ, formula, format_here, pattern_dark}
 use Rattle.vp_qr.specs.Walk.{dark}
-use Rattle.vp_qr.specs.Cost.{is_set, same}
+use Rattle.vp_qr.specs.Penalty.{is_set, same}
 
 or_parts : (a b : Bool) → (a || b) ≡ false → (a ≡ false) × (b ≡ false)
 or_parts true b h = cc
@@ -151,6 +152,38 @@ reserved_place v i j h = some (reserved v i j) h
 pub format_corner : (v i j : ℕ) → format_here v i j ≡ true → corner (size v) i j ≡ true
 unfolding format_here
 format_corner v i j h = (and_parts _ _ h).0
+
+-- but for row 8, the format stands in column 8 alone
+in_column : (s i j : ℕ) → (i ≡ 8 → ⊥) → corner s i j ≡ true → finder s i j ≡ false → j ≡ 8
+in_column s i j ne h f = grind (arith, nat_tests)
+
+format_column : (v i j : ℕ) → (i ≡ 8 → ⊥) → format_here v i j ≡ true → j ≡ 8
+unfolding format_here
+format_column v i j ne h =
+    let parts = and_parts _ _ h in
+    in_column (size v) i j ne parts.0 (without (finder (size v) i j) _ _ _ _ _ parts.1)
+  where
+    without : (a b c d e f : Bool) → not (((((a || b) || c) || d) || e) || f) ≡ true → a ≡ false
+    without true b c d e f g = cc
+    without false b c d e f g = refl
+
+pub only_column : (v i j : ℕ) (f : ℕ → Bool) (b : Bool) → (i ≡ 8 → ⊥) → b ≡ (format_here v i 8 && f 8) → (b && format_here v i j) ≡ (format_here v i j && f j)
+only_column v i j f b ne e = by_place (format_here v i j) refl
+  where
+    whole : (a : Bool) → (a && true) ≡ a
+    whole true = refl
+    whole false = refl
+
+    none : (a : Bool) → (a && false) ≡ false
+    none true = refl
+    none false = refl
+
+    by_place : (here : Bool) → format_here v i j ≡ here → (b && here) ≡ (here && f j)
+    by_place false h = none b
+    by_place true h =
+        let c : j ≡ 8 = format_column v i j ne h in
+        let at : format_here v i 8 ≡ true = ap (format_here v i) (sym c) ∙ h in
+        whole b ∙ e ∙ ap (λ a. a && f 8) at ∙ ap f (sym c)
 
 -- the bits of a row below a column
 pub record Made (f : ℕ → Bool) (line column : ℕ) : Type 0 where

@@ -7,7 +7,7 @@ use Rattle.vp_dots.specs.Dots.{dot, shifted, span}
 use Rattle.vp_dots.specs.Painting.{paint, Painted}
 use Rattle.vp_dots.specs.declared.Op.{Op}
 use Rattle.vp_qr.specs.Walk.{dark}
-use Rattle.vp_qr.specs.Cost.{is_set}
+use Rattle.vp_qr.specs.Penalty.{is_set}
 use Rattle.vp_qr.specs.Inks.{ScaledSymbol, side, ink_of, line_ink}
 
 shifted_same : (at : ℤ) (f g : ℕ → Bool) → ((x : ℕ) → f x ≡ g x) → (d : ℕ) → shifted at f d ≡ shifted at g d

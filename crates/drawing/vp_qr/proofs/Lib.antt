@@ -1,5 +1,6 @@
 pub mod FieldLaws
 pub mod Division
+pub mod Multiples
 pub mod WalkOrder
 pub mod Bits
 pub mod Filling

@@ -4,7 +4,7 @@ use mathlib.Core.Bool.{beq}
 use Rattle.std.specs.Int.{bit_at}
 use Rattle.std.proofs.lemmas.Nat.{shr-shr, div-add-mod', xor_lt}
 use Rattle.std.proofs.lemmas.Nat.Bits.{bit_at_and, bit_at_or, bit_at_xor, bit_at_not, bit_at-lt, bit_at-suc, bit_at-zero, bit_at_cat_low}
-use Rattle.vp_qr.specs.Cost.{is_set, same}
+use Rattle.vp_qr.specs.Penalty.{is_set, same}
 use Rattle.vp_qr.proofs.FieldLaws.{passes_below, passes_at}
 
 pub beq_same : (a b : Bool) → beq a b ≡ true → a ≡ b

@@ -5,7 +5,7 @@ use Rattle.std.proofs.lemmas.Bool.Decides.{nat_tests}
 use Rattle.std.proofs.Math.Nat.{pow-le-pow_right}
 use Rattle.std.proofs.lemmas.Nat.{one_shl}
 use Rattle.std.proofs.lemmas.Nat.Bits.{bit_at_mask_above, bit_at_mask_below, bit_at_mask_inside}
-use Rattle.vp_qr.specs.Cost.{is_set}
+use Rattle.vp_qr.specs.Penalty.{is_set}
 use Rattle.vp_qr.specs.Places.{near}
 
 pub span_bit : (from to j : ℕ) → from ≤ to → to < 64 → is_set (1 * 2 ^ to % 2 ^ 64 - 1 * 2 ^ from % 2 ^ 64) j ≡ (leb from j && ltb j to)

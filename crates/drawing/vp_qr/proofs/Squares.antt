@@ -4,7 +4,7 @@ use Rattle.std.specs.Int.{bit_at}
 use Rattle.std.proofs.lemmas.Bool.{eqb-true}
 use Rattle.std.proofs.lemmas.Nat.{or_lt, xor_lt}
 use Rattle.std.proofs.lemmas.Nat.Bits.{bit_at_not, bit_at_or, bit_at_xor, bit_at-suc, bit_at-lt}
-use Rattle.vp_qr.specs.Cost.{same, is_set, square_at}
+use Rattle.vp_qr.specs.Penalty.{same, is_set, square_at}
 use Rattle.vp_qr.proofs.FieldLaws.{passes_below, passes_at}
 
 abbrev all_equal : ℕ → ℕ → ℕ → ℕ → Bool

@@ -14,7 +14,7 @@ use Rattle.vp_qr.specs.Places.{size}
 use Rattle.vp_qr.specs.Walk.{number_of, data_bit, dark}
 use Rattle.vp_qr.specs.Codes.{format_code, version_code}
 use Rattle.vp_qr.specs.Symbol.{module_at}
-use Rattle.vp_qr.specs.Cost.{cost}
+use Rattle.vp_qr.specs.Penalty.{penalty}
 
 -- why bytes have no symbol: there are none; the mode lacks one of them; no version up to 10 holds them
 abbrev pub refusal : Level → Mode → List ℕ → Option Fault
@@ -50,10 +50,10 @@ least_place xs = position_or_len (λ x. list_all (nat_le x) xs) xs
 abbrev pub masks : List ℕ
 masks = 0 ∷ 1 ∷ 2 ∷ 3 ∷ 4 ∷ 5 ∷ 6 ∷ 7 ∷ []
 
--- the lowest mask of least cost (7.8.3)
+-- the lowest mask of least penalty (7.8.3)
 unfoldable pub best_mask : Level → ℕ → List ℕ → ℕ
 best_mask level version codewords = least_place (map
-    (λ mask. cost (masked level version codewords mask) (size version)) masks)
+    (λ mask. penalty (masked level version codewords mask) (size version)) masks)
 
 abbrev pub mask_of : Level → Mode → List ℕ → ℕ
 mask_of level mode src = best_mask level (version_of level mode src) (codewords_of level mode src)

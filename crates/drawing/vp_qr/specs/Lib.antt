@@ -3,6 +3,7 @@ pub mod Strings
 pub mod Segments
 pub mod Field
 pub mod Polynomial
+pub mod Divisors
 pub mod Blocks
 pub mod Versions
 pub mod Places
@@ -10,6 +11,6 @@ pub mod Walk
 pub mod Codes
 pub mod Symbol
 pub mod Grids
-pub mod Cost
+pub mod Penalty
 pub mod Encoding
 pub mod Inks

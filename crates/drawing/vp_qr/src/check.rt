@@ -1,9 +1,10 @@
 //! The check codewords of a block.
 
-ghost use Rattle.std.specs.Prelude.{◌≡◌, ℕ, ◌<◌, ◌≤◌, ◌++◌, [], ◌∷◌, length, drop, replicate, slice_index, bit_xor};
+ghost use Rattle.std.specs.Prelude.{◌≡◌, ℕ, ◌+◌, ◌<◌, ◌≤◌, ◌++◌, [], ◌∷◌, true, false, length, take, slice_index, slice_index_or, bit_xor, if◌then◌else◌};
 ghost use Rattle.arrayvec.specs.ArrayVec.{array_vec_len};
-ghost use Rattle.vp_qr.specs.Field.{power};
-ghost use Rattle.vp_qr.specs.Polynomial.{plus, scaled, value_at, generator, check_of};
+ghost use Rattle.vp_qr.specs.Field.{doubled, times, power};
+ghost use Rattle.vp_qr.specs.Polynomial.{value_at, scaled, check_of};
+ghost use Rattle.vp_qr.specs.Divisors.{low_row, AreMultiples};
 
 use crate::field::{doubled_byte, product};
 use arrayvec::ArrayVec;
@@ -11,7 +12,6 @@ use arrayvec::ArrayVec;
 /// The check codewords of a block (ISO/IEC 18004, error correction): the remainder of its data, 1 to 116
 /// codewords, by the generator of `n`, 1 to 30 codewords. Both have the coefficient of the highest power
 /// first.
-#[tactic(auto, using(crate::proofs::Division::registers_none, crate::proofs::Division::registers_more, crate::proofs::Division::registers_done, crate::proofs::Division::generator_size))]
 pub fn rs(src: &[u8], n: usize) -> ArrayVec<u8, 30>
     requires some { 0 < length src.now }
     requires longest { length src.now ≤ 116 }
@@ -20,12 +20,7 @@ pub fn rs(src: &[u8], n: usize) -> ArrayVec<u8, 30>
     ensures remainder { result.items ≡ check_of src.now n }
     ensures count { array_vec_len result ≡ n }
 {
-    let low = generator_low(n);
-    let mut register = zeros(n);
-    for byte in src {
-        register = shifted(register.as_slice(), low.as_slice(), *byte);
-    }
-    register
+    check_by(&multiples(n), src, n)
 }
 
 /// A law: a block's data followed by its check, as a polynomial, is zero at each root of the generator.
@@ -33,67 +28,114 @@ pub fn check_is_zero_at_roots(src: &[u8], n: usize)
     ensures { (i : ℕ) → i < n → value_at (power i) (src.now ++ check_of src.now n) ≡ 0 }
 {}
 
-/// The coefficients of the generator below its highest, which is 1.
-#[tactic(auto, using(crate::proofs::Division::generator_none, crate::proofs::Division::generator_more, crate::proofs::Division::generator_size))]
-fn generator_low(n: usize) -> ArrayVec<u8, 30>
-    requires { n ≤ 30 }
-    ensures { 1 ∷ result.items ≡ generator n }
+/// The same check codewords, by the multiples of the generator.
+pub fn check_by(rows: &[[u8; 32]; 256], src: &[u8], n: usize) -> ArrayVec<u8, 30>
+    requires rows { AreMultiples n rows.now }
+    requires most { n ≤ 30 }
+    ensures remainder { result.items ≡ check_of src.now n }
+    ensures count { array_vec_len result ≡ n }
 {
-    let mut low = ArrayVec::new();
+    let mut register = [0; 32];
+    for byte in src {
+        register = shifted(&register, row_of(rows, *byte ^ register[0]));
+    }
+    first(&register, n)
+}
+
+/// The row of an element.
+fn row_of(rows: &[[u8; 32]; 256], element: u8) -> &[u8; 32]
+    ensures row { result.now ≡ slice_index_or rows.now element [] }
+    ensures element { element < 256 }
+{
+    &rows[usize::from(element)]
+}
+
+/// The multiples of the generator, a row for each element: its coefficients below the highest, which is 1,
+/// times the element.
+pub fn multiples(n: usize) -> [[u8; 32]; 256]
+    requires { n ≤ 30 }
+    ensures { AreMultiples n result }
+{
+    let low = generator_low(n);
+    let mut rows = [[0; 32]; 256];
+    for f in 1..256usize {
+        rows[f] = multiple(&rows[f / 2], &low, f % 2 == 1);
+    }
+    rows
+}
+
+/// A multiple from that of half the element: doubled, and where the element is odd the row once more.
+fn multiple(half: &[u8; 32], low: &[u8; 32], odd: bool) -> [u8; 32]
+    ensures len { length result ≡ 32 }
+    ensures terms { (k : ℕ) → k < 32 → slice_index result k
+        ≡ bit_xor (doubled (slice_index half.now k)) (if odd then slice_index low.now k else 0) }
+{
+    let mut row = [0; 32];
+    for k in 0..32usize {
+        row[k] = doubled_byte(half[k]) ^ if odd { low[k] } else { 0 };
+    }
+    row
+}
+
+/// The coefficients of the generator below its highest.
+fn generator_low(n: usize) -> [u8; 32]
+    requires { n ≤ 30 }
+    ensures { result ≡ low_row n }
+{
+    let mut low = [0; 32];
     let mut root = 1;
     for _ in 0..n {
-        low = with_root(low.as_slice(), root);
+        low = with_root(&low, root);
         root = doubled_byte(root);
     }
     low
 }
 
+/// A row moved back by a coefficient, a 1 before it.
+fn behind_one(low: &[u8; 32]) -> [u8; 32]
+    ensures len { length result ≡ 32 }
+    ensures terms { (k : ℕ) → k < 32 → slice_index result k ≡ slice_index (1 ∷ low.now) k }
+{
+    let mut row = [1; 32];
+    for k in 1..32usize {
+        row[k] = low[k - 1];
+    }
+    row
+}
+
 /// The product with one more factor, whose zero is `root`.
-#[tactic(auto, using(crate::proofs::Division::with_root_more, crate::proofs::Division::with_root_all))]
-fn with_root(low: &[u8], root: u8) -> ArrayVec<u8, 30>
-    requires { length low.now < 30 }
-    ensures { result.items ≡ plus (low.now ++ 0 ∷ []) (scaled root (1 ∷ low.now)) }
+fn with_root(low: &[u8; 32], root: u8) -> [u8; 32]
+    ensures len { length result ≡ 32 }
+    ensures terms { (k : ℕ) → k < 32 → slice_index result k
+        ≡ bit_xor (slice_index low.now k) (times root (slice_index (1 ∷ low.now) k)) }
 {
-    let mut next = ArrayVec::new();
-    let mut above = 1;
-    for c in low {
-        next.push(*c ^ product(root, above));
-        above = *c;
+    let above = behind_one(low);
+    let mut next = [0; 32];
+    for k in 0..32usize {
+        next[k] = low[k] ^ product(above[k], root);
     }
-    next.push(product(root, above));
     next
 }
 
-/// `n` zeros.
-fn zeros(n: usize) -> ArrayVec<u8, 30>
+/// The register after one more byte: moved by a coefficient, and a multiple of the generator taken off.
+fn shifted(register: &[u8; 32], row: &[u8; 32]) -> [u8; 32]
+    ensures len { length result ≡ 32 }
+    ensures terms { (k : ℕ) → k < 32 → slice_index result k
+        ≡ bit_xor (slice_index register.now (k + 1)) (slice_index row.now k) }
+{
+    let mut next = *row;
+    for k in 0..31usize {
+        next[k] = register[k + 1] ^ row[k];
+    }
+    next
+}
+
+/// The first coefficients of a row.
+fn first(row: &[u8; 32], n: usize) -> ArrayVec<u8, 30>
     requires { n ≤ 30 }
-    ensures { result.items ≡ replicate n 0 }
+    ensures { result.items ≡ take n row.now }
 {
-    let mut register = ArrayVec::new();
-    for _ in 0..n {
-        register.push(0);
-    }
-    register
-}
-
-/// The register after one more byte.
-#[tactic(auto, using(crate::proofs::Division::shifted_more, crate::proofs::Division::shifted_all))]
-fn shifted(register: &[u8], low: &[u8], byte: u8) -> ArrayVec<u8, 30>
-    requires some { 0 < length register.now }
-    requires same { length low.now ≡ length register.now }
-    requires most { length low.now ≤ 30 }
-    ensures { result.items ≡ plus (drop 1 register.now)
-        (scaled (bit_xor byte (slice_index register.now 0)) low.now) }
-{
-    let factor = byte ^ register[0];
-    let mut next = ArrayVec::new();
-    for (i, c) in low.iter().enumerate() {
-        let behind = if i + 1 < register.len() {
-            register[i + 1]
-        } else {
-            0
-        };
-        next.push(behind ^ product(factor, *c));
-    }
-    next
+    let mut items = ArrayVec::new();
+    let _ = items.try_extend_from_slice(&row[..n]);
+    items
 }

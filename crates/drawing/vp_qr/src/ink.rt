@@ -5,7 +5,7 @@ ghost use Rattle.std.specs.Int.{bit_at};
 ghost use Rattle.vp_qr.specs.Places.{size};
 ghost use Rattle.vp_dots.specs.Dots.{shifted};
 ghost use Rattle.vp_dots.specs.Painting.{Painted};
-ghost use Rattle.vp_qr.specs.Cost.{is_set};
+ghost use Rattle.vp_qr.specs.Penalty.{is_set};
 ghost use Rattle.vp_qr.specs.Inks.{line_ink};
 
 use crate::mask::is_dark;

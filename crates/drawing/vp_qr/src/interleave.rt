@@ -4,9 +4,10 @@ ghost use Rattle.std.specs.Prelude.{◌≡◌, ◌+◌, ◌*◌, ◌<◌, ◌≤
 ghost use Rattle.std.specs.List.{flat_map};
 ghost use Rattle.arrayvec.specs.ArrayVec.{array_vec_len};
 ghost use Rattle.vp_qr.specs.Polynomial.{check_of};
+ghost use Rattle.vp_qr.specs.Divisors.{AreMultiples};
 ghost use Rattle.vp_qr.specs.Blocks.{blocks_of, words_of, IsSound, total, data_blocks, column, columns, interleaved, block_start, block_length};
 
-use crate::check::rs;
+use crate::check::{check_by, multiples};
 use crate::level::{Blocks, Level};
 use arrayvec::ArrayVec;
 
@@ -50,7 +51,13 @@ impl Blocks {
 }
 
 /// The check codewords of a block.
-fn check_block(words: &[u8], blocks: Blocks, block: usize) -> ArrayVec<u8, 30>
+fn check_block(
+    rows: &[[u8; 32]; 256],
+    words: &[u8],
+    blocks: Blocks,
+    block: usize,
+) -> ArrayVec<u8, 30>
+    requires rows { AreMultiples blocks.check rows.now }
     requires words { length words.now ≡ words_of blocks }
     requires sound { IsSound blocks }
     requires block { block < blocks.short + blocks.long }
@@ -60,7 +67,7 @@ fn check_block(words: &[u8], blocks: Blocks, block: usize) -> ArrayVec<u8, 30>
 {
     let start = blocks.start(block);
     let end = blocks.end(block);
-    rs(&words[start..end], blocks.check)
+    check_by(rows, &words[start..end], blocks.check)
 }
 
 /// Appends codeword number `at` of each block that has one.
@@ -104,9 +111,10 @@ fn check_words(words: &[u8], blocks: Blocks) -> ArrayVec<u8, 240>
         (data_blocks blocks words.now) }
     ensures count { array_vec_len result ≡ (blocks.short + blocks.long) * blocks.check }
 {
+    let rows = multiples(blocks.check);
     let mut checks = ArrayVec::new();
     for block in 0..blocks.short + blocks.long {
-        let check = check_block(words, blocks, block);
+        let check = check_block(&rows, words, blocks, block);
         push_all(&mut checks, check.as_slice());
     }
     checks

@@ -1,7 +1,7 @@
 //! QR symbols of versions 1 to 10, exact to the module (ISO/IEC 18004).
 //!
 //! `encode` gives the symbol of some bytes, in one segment and in the smallest version that holds
-//! them, with the lowest mask of least cost; `drawn` gives it again with the version and mask kept;
+//! them, with the lowest mask of least penalty; `drawn` gives it again with the version and mask kept;
 //! `Qr::scaled` is that symbol as ink.
 //!
 //! - `segment`, `string`: the mode, the bits and the data codewords of the bytes
@@ -9,7 +9,7 @@
 //! - `field`, `check`: the field of 256 elements, and the check codewords of a block
 //! - `lines`, `walk`: the modules that hold data, row by row, and in the order of their bits
 //! - `code`, `symbol`: format and version, and the finished modules by cases on the place
-//! - `mask`: the cost of a symbol, by which its mask is chosen
+//! - `mask`: the penalty of a symbol, by which its mask is chosen
 //! - `qr`, `ink`: the symbol, and its dots
 #![tactic(auto)]
 

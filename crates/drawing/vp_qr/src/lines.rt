@@ -2,7 +2,7 @@
 
 ghost use Rattle.std.specs.Prelude.{◌≡◌, ◌<◌, ◌≤◌, ◌+◌, ◌*◌, ◌==◌, ◌&&◌, ◌||◌, ◌-◌, not, nat_le, nat_lt, ℕ};
 ghost use Rattle.vp_qr.specs.Places.{size, near, corner, alignment, version_area, reserved};
-ghost use Rattle.vp_qr.specs.Cost.{is_set};
+ghost use Rattle.vp_qr.specs.Penalty.{is_set};
 ghost use Rattle.vp_qr.specs.Symbol.{finder, format_here};
 
 use crate::mask::is_dark;
@@ -17,7 +17,7 @@ fn span(from: usize, to: usize) -> u64
 }
 
 /// Columns that a row has or not.
-fn only(row_has: bool, line: u64) -> u64
+pub fn only(row_has: bool, line: u64) -> u64
     ensures { (j : ℕ) → is_set result j ≡ (row_has && is_set line j) }
 {
     if row_has { line } else { 0 }

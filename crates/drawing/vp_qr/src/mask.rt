@@ -1,8 +1,8 @@
-//! The cost of a finished symbol, and the choice of its mask.
+//! The penalty of a finished symbol, and the choice of its mask.
 
 ghost use Rattle.std.specs.Prelude.{◌≡◌, ◌==◌, ◌<◌, ◌≤◌, ◌&&◌, ◌||◌, ◌+◌, ◌-◌, ℕ, not, length, slice_index};
 ghost use Rattle.std.specs.Int.{bit_at};
-ghost use Rattle.vp_qr.specs.Cost.{same, line_from, begins, light_behind, light_before, runs_worth, runs, patterns_worth, bits_line, line_cost, lines_cost, is_set, square_at, squares_cost, dark_modules, balance_cost, sum_below, cost};
+ghost use Rattle.vp_qr.specs.Penalty.{same, line_from, begins, light_behind, light_before, runs_penalty, runs, patterns_penalty, bits_line, line_penalty, lines_penalty, is_set, square_at, squares_penalty, dark_modules, balance_penalty, sum_below, penalty};
 ghost use Rattle.vp_qr.specs.Walk.{dark};
 ghost use Rattle.vp_qr.specs.Encoding.{least_place};
 
@@ -85,48 +85,48 @@ fn shifted(line: u64) -> [u64; 11]
     ]
 }
 
-/// What the runs of a line of `size` modules cost: 1 for each five equal modules, and 2 more for the first
-/// five of a run.
-fn runs_worth(line: u64, size: usize) -> u32
+/// The penalty of the runs of a line of `size` modules: 1 for each five equal modules, and 2 more for the
+/// first five of a run.
+fn runs_penalty(line: u64, size: usize) -> u32
     requires low { 21 ≤ size }
     requires most { size ≤ 57 }
-    ensures worth { result ≡ runs_worth (runs (bits_line line size)) }
+    ensures penalty { result ≡ runs_penalty (runs (bits_line line size)) }
     ensures most { result ≤ 171 }
 {
     let fives = fives(&shifted(line), 0);
     ones(fives, size - 4) + 2 * ones(fives & !(fives << 1), size - 4)
 }
 
-/// What the patterns in a line of `size` modules cost.
-fn patterns_worth(line: u64, size: usize) -> u32
+/// The penalty of the patterns in a line of `size` modules.
+fn patterns_penalty(line: u64, size: usize) -> u32
     requires low { 21 ≤ size }
     requires most { size ≤ 57 }
-    ensures worth { result ≡ patterns_worth (bits_line line size) }
+    ensures penalty { result ≡ patterns_penalty (bits_line line size) }
     ensures most { result ≤ 2280 }
 {
     40 * ones(patterns(&shifted(line), 0), size - 10)
 }
 
-/// What a line of `size` modules costs.
-fn line_cost(line: u64, size: usize) -> u32
+/// The penalty of a line of `size` modules.
+fn line_penalty(line: u64, size: usize) -> u32
     requires low { 21 ≤ size }
     requires high { size ≤ 57 }
-    ensures cost { result ≡ line_cost (bits_line line size) }
+    ensures penalty { result ≡ line_penalty (bits_line line size) }
     ensures most { result ≤ 2500 }
 {
-    runs_worth(line, size) + patterns_worth(line, size)
+    runs_penalty(line, size) + patterns_penalty(line, size)
 }
 
-/// What the rows cost as lines.
-fn lines_cost(rows: &[u64; 57], size: usize) -> u32
+/// The penalty of the rows as lines.
+fn lines_penalty(rows: &[u64; 57], size: usize) -> u32
     requires low { 21 ≤ size }
     requires high { size ≤ 57 }
-    ensures cost { result ≡ lines_cost (dark rows.now) size }
+    ensures penalty { result ≡ lines_penalty (dark rows.now) size }
     ensures most { result ≤ 142500 }
 {
     let mut total = 0;
     for i in 0..size {
-        total += line_cost(rows[i], size);
+        total += line_penalty(rows[i], size);
     }
     total
 }
@@ -159,11 +159,11 @@ fn row_squares(above: u64, below: u64, size: usize) -> u32
     ones(squares_between(above, below), size - 1)
 }
 
-/// What the squares of four equal modules cost.
-fn squares_cost(rows: &[u64; 57], size: usize) -> u32
+/// The penalty of the squares of four equal modules.
+fn squares_penalty(rows: &[u64; 57], size: usize) -> u32
     requires low { 21 ≤ size }
     requires high { size ≤ 57 }
-    ensures cost { result ≡ squares_cost (dark rows.now) size }
+    ensures penalty { result ≡ squares_penalty (dark rows.now) size }
     ensures most { result ≤ 10000 }
 {
     let mut squares = 0;
@@ -186,22 +186,22 @@ fn dark_modules(rows: &[u64; 57], size: usize) -> u32
     total
 }
 
-/// What a symbol costs whose dark modules are so many among all.
-fn balance_cost(dark: u32, all: u32) -> u32
+/// The penalty of a symbol whose dark modules are so many among all.
+fn balance_penalty(dark: u32, all: u32) -> u32
     requires dark { dark ≤ 3249 }
     requires some { 0 < all }
     requires all { all ≤ 3249 }
-    ensures cost { result ≡ balance_cost dark all }
+    ensures penalty { result ≡ balance_penalty dark all }
     ensures most { result < 1000000 }
 {
     10 * ((20 * dark).abs_diff(10 * all) / all)
 }
 
-/// What the runs in the columns cost.
+/// The penalty of the runs in the columns.
 fn columns_runs(rows: &[u64; 57], size: usize) -> u32
     requires low { 21 ≤ size }
     requires high { size ≤ 57 }
-    ensures worth { result ≡ sum_below size (λ j. runs_worth
+    ensures penalty { result ≡ sum_below size (λ j. runs_penalty
         (runs (line_from (λ i. dark rows.now i j) 0 size))) }
     ensures most { result ≤ 10000 }
 {
@@ -215,11 +215,11 @@ fn columns_runs(rows: &[u64; 57], size: usize) -> u32
     total
 }
 
-/// What the patterns in the columns cost.
+/// The penalty of the patterns in the columns.
 fn columns_patterns(rows: &[u64; 57], size: usize) -> u32
     requires low { 21 ≤ size }
     requires high { size ≤ 57 }
-    ensures worth { result ≡ sum_below size (λ j. patterns_worth
+    ensures penalty { result ≡ sum_below size (λ j. patterns_penalty
         (line_from (λ i. dark rows.now i j) 0 size)) }
     ensures most { result ≤ 130000 }
 {
@@ -230,38 +230,38 @@ fn columns_patterns(rows: &[u64; 57], size: usize) -> u32
     40 * found
 }
 
-/// What the columns cost as lines.
-fn columns_cost(rows: &[u64; 57], size: usize) -> u32
+/// The penalty of the columns as lines.
+fn columns_penalty(rows: &[u64; 57], size: usize) -> u32
     requires low { 21 ≤ size }
     requires high { size ≤ 57 }
-    ensures cost { result ≡ lines_cost (λ i j. dark rows.now j i) size }
+    ensures penalty { result ≡ lines_penalty (λ i j. dark rows.now j i) size }
     ensures most { result ≤ 140000 }
 {
     columns_runs(rows, size) + columns_patterns(rows, size)
 }
 
-/// What a finished symbol costs.
-#[tactic(auto, unfolding(crate::specs::Cost::cost))]
-pub fn cost(rows: &[u64; 57], size: usize) -> u32
+/// The penalty of a finished symbol.
+#[tactic(auto, unfolding(crate::specs::Penalty::penalty))]
+pub fn penalty(rows: &[u64; 57], size: usize) -> u32
     requires low { 21 ≤ size }
     requires high { size ≤ 57 }
-    ensures { result ≡ cost (dark rows.now) size }
+    ensures { result ≡ penalty (dark rows.now) size }
 {
     let all = (size * size) as u32;
-    lines_cost(rows, size)
-        + columns_cost(rows, size)
-        + squares_cost(rows, size)
-        + balance_cost(dark_modules(rows, size), all)
+    lines_penalty(rows, size)
+        + columns_penalty(rows, size)
+        + squares_penalty(rows, size)
+        + balance_penalty(dark_modules(rows, size), all)
 }
 
-/// The first place of a least cost.
-pub fn least(costs: &[u32; 8]) -> usize
-    ensures place { result ≡ least_place costs.now }
+/// The first place of a least penalty.
+pub fn least(penalties: &[u32; 8]) -> usize
+    ensures place { result ≡ least_place penalties.now }
     ensures most { result < 8 }
 {
     let mut best = 0;
     for m in 1..8usize {
-        if costs[m] < costs[best] {
+        if penalties[m] < penalties[best] {
             best = m;
         }
     }

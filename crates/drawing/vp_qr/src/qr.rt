@@ -11,12 +11,12 @@ ghost use Rattle.vp_qr.specs.Walk.{dark, data_bit, number_of};
 ghost use Rattle.vp_qr.specs.Codes.{format_code, version_code};
 ghost use Rattle.vp_qr.specs.Symbol.{module_at};
 ghost use Rattle.vp_qr.specs.Grids.{IsGrid};
-ghost use Rattle.vp_qr.specs.Cost.{cost};
+ghost use Rattle.vp_qr.specs.Penalty.{penalty};
 ghost use Rattle.vp_qr.specs.Encoding.{refusal, version_of, mask_of, masked, least_place, masks, best_mask, Encodes};
 
 use crate::interleave::{Codewords, interleaved};
 use crate::level::Level;
-use crate::mask::{cost, least};
+use crate::mask::{least, penalty};
 use crate::segment::{Kind, Mode, message, smallest_version};
 use crate::string::{Words, padded};
 use crate::symbol::Grid;
@@ -86,22 +86,22 @@ impl Qr {
     }
 }
 
-/// The lowest mask of least cost.
+/// The lowest mask of least penalty.
 fn best_mask(level: Level, grid: &Grid) -> usize
     requires { IsGrid grid.now }
-    ensures mask { result ≡ least_place (map (λ k. cost (module_at grid.now.version (format_code level k)
+    ensures mask { result ≡ least_place (map (λ k. penalty (module_at grid.now.version (format_code level k)
         (version_code grid.now.version) k (dark grid.now.unmasked)) (size grid.now.version)) masks) }
     ensures most { result < 8 }
 {
-    let mut costs = [0; 8];
+    let mut penalties = [0; 8];
     for mask in 0..8usize {
         let rows = grid.masked(level, mask);
-        costs[mask] = cost(&rows, 17 + 4 * grid.version);
+        penalties[mask] = penalty(&rows, 17 + 4 * grid.version);
     }
-    least(&costs)
+    least(&penalties)
 }
 
-/// The symbol of codewords with the lowest mask of least cost.
+/// The symbol of codewords with the lowest mask of least penalty.
 fn finished(level: Level, version: usize, codewords: Codewords) -> Qr
     requires low { 1 ≤ version }
     requires high { version ≤ 10 }

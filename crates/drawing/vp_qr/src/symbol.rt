@@ -2,7 +2,7 @@
 
 ghost use Rattle.std.specs.Prelude.{◌≡◌, ◌==◌, ◌<◌, ◌≤◌, ◌&&◌, not, ℕ, true};
 ghost use Rattle.vp_qr.specs.Places.{size, corner, alignment, version_area, reserved};
-ghost use Rattle.vp_qr.specs.Cost.{is_set};
+ghost use Rattle.vp_qr.specs.Penalty.{is_set};
 ghost use Rattle.vp_qr.specs.Symbol.{
   apart,
   ring,
@@ -25,7 +25,7 @@ ghost use Rattle.vp_qr.specs.Grids.{IsGrid};
 
 use crate::code::{format_code, version_code};
 use crate::level::Level;
-use crate::lines::format_line;
+use crate::lines::{format_line, only};
 use crate::mask::is_dark;
 use crate::walk::{fill, free_rows, is_alignment, is_near, is_version};
 
@@ -327,7 +327,19 @@ impl Grid {
         }
     }
 
-    /// The dark modules of a row among those of the format.
+    /// The module in column 8 of a row is a dark one of the format.
+    #[tactic(auto, unfolding(crate::specs::Walk::dark))]
+    fn is_format_dark(&self, format: u64, row: usize) -> bool
+        requires grid { IsGrid self.now }
+        requires row { row < size self.now.version }
+        ensures { result ≡ (format_here self.now.version row 8
+            && bit_at format (format_bit (size self.now.version) row 8) == 1) }
+    {
+        is_dark(self.format[row], 8) && bit(format, format_bit(17 + 4 * self.version, row, 8))
+    }
+
+    /// The dark modules of a row among those of the format: but for row 8 it has one of them at most, in
+    /// column 8.
     fn format_bits(&self, format: u64, row: usize) -> u64
         requires grid { IsGrid self.now }
         requires row { row < size self.now.version }
@@ -338,6 +350,9 @@ impl Grid {
         let places = self.format[row];
         if places == 0 {
             return 0;
+        }
+        if row != 8 {
+            return only(self.is_format_dark(format, row), places);
         }
         let size = 17 + 4 * self.version;
         let mut line = 0;

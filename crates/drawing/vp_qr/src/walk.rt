@@ -1,9 +1,9 @@
 //! The walk over the modules of a symbol, and the data bits that it places.
 
-ghost use Rattle.std.specs.Prelude.{◌≡◌, ◌<◌, ◌≤◌, ◌*◌, ◌/◌, ◌+◌, ◌-◌, ◌==◌, ◌&&◌, ◌||◌, not, ℕ, length};
+ghost use Rattle.std.specs.Prelude.{◌≡◌, ◌<◌, ◌≤◌, ◌*◌, ◌/◌, ◌+◌, ◌-◌, ◌==◌, ◌&&◌, ◌||◌, not, ℕ, length, ◌^◌, if◌then◌else◌};
 ghost use Rattle.vp_qr.specs.Places.{size, near, corner, alignment, version_area, reserved};
 ghost use Rattle.vp_qr.specs.Blocks.{total, remainder_bits};
-ghost use Rattle.vp_qr.specs.Cost.{is_set};
+ghost use Rattle.vp_qr.specs.Penalty.{is_set};
 ghost use Rattle.vp_qr.specs.Walk.{right_column, place, free_places, dark, data_bit, number_of};
 
 use crate::lines::free_line;
@@ -118,6 +118,30 @@ fn place_at(version: usize, pair: usize, step: usize) -> Place
     }
 }
 
+/// Places bit `k` of the codewords on a module if it is free: the number of the next bit.
+#[tactic(auto, unfolding(crate::specs::Walk::dark))]
+fn place_bit(
+    rows: &mut [u64; 57],
+    free: &[u64; 57],
+    place: Place,
+    codewords: &[u8],
+    k: usize,
+) -> usize
+    requires row { place.row < 57 }
+    requires column { place.column < 57 }
+    requires few { k < 2 ^ 32 }
+    ensures next { result ≡ (if dark free.now place.row place.column then k + 1 else k) }
+    ensures placed { (i j : ℕ) → j < 64 → dark rows.new i j ≡ (dark rows.old i j
+        || (i == place.row && j == place.column && (dark free.now place.row place.column
+        && data_bit codewords.now k))) }
+{
+    if !is_dark(free[place.row], place.column) {
+        return k;
+    }
+    set_dark(rows, place.row, place.column, bit_of(codewords, k));
+    k + 1
+}
+
 /// Places the data bits of the codewords on the free modules.
 pub fn fill(rows: &mut [u64; 57], free: &[u64; 57], version: usize, codewords: &[u8])
     requires low { 1 ≤ version }
@@ -131,13 +155,11 @@ pub fn fill(rows: &mut [u64; 57], free: &[u64; 57], version: usize, codewords: &
     let size = 17 + 4 * version;
     let mut k = 0;
     for pair in 0..(size - 1) / 2 {
-        for step in 0..2 * size {
-            let place = place_at(version, pair, step);
-            if !is_dark(free[place.row], place.column) {
-                continue;
-            }
-            set_dark(rows, place.row, place.column, bit_of(codewords, k));
-            k += 1;
+        for half in 0..size {
+            let right = place_at(version, pair, 2 * half);
+            k = place_bit(rows, free, right, codewords, k);
+            let left = place_at(version, pair, 2 * half + 1);
+            k = place_bit(rows, free, left, codewords, k);
         }
     }
 }

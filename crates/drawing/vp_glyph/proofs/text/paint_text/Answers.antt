@@ -7,13 +7,13 @@ pub returns-then-y-h : goal.returns-then-y-h
 returns-then-y-h c = text_below _ _ _ _ _ _ _ _ c.if-y-h.true
 
 pub loop-k-init : goal.loop-k-init
-loop-k-init c = side_none _ _ c.args.sheet.now c.args.text.now (length c.args.text.now) c.args.w c.args.h 0 c.args.y (omega arith) c.requires.some c.seen-from.result.0 _ c.seen-from.ensures.before
+loop-k-init c = side_none _ _ c.args.sheet.now c.args.text.now (length c.args.text.now) c.args.stretch.now.width c.args.h 0 c.args.y (omega arith) c.requires.some c.seen-from.result.0 _ c.seen-from.ensures.before
 
 pub loop-k-preserved : goal.loop-k-preserved
 loop-k-preserved c =
-    side_more _ _ c.args.sheet.now c.args.text.now (length c.args.text.now) c.args.w c.args.h 0 c.args.y (omega arith) c.requires.some c.loop-k.k _ (c.args.w * c.loop-k.k) (omega (arith, c.seen-from.ensures.last)) refl (omega arith) _ _ _
-    c.loop-k.invariant (rw c.new-stretch.ensures at (c.paint_cell.ensures c.args.h c.args.y c.if-y-h.false (rw c.source_row-source.ensures refl)))
+    side_more _ _ c.args.sheet.now c.args.text.now (length c.args.text.now) c.args.stretch.now.width c.args.h 0 c.args.y (omega arith) c.requires.some c.loop-k.k _ (c.args.stretch.now.width * c.loop-k.k) (omega (arith, c.seen-from.ensures.last)) refl (omega arith) _ _ _
+    c.loop-k.invariant (c.paint_cell.ensures c.args.h c.args.y c.if-y-h.false (rw c.source_row-source.ensures refl))
 
 pub returns : goal.returns
 returns c = rw (sym (to_z-of_z w64 c.args.at c.ranges.at))
-    (text_all _ _ c.args.sheet.now c.args.text.now c.args.w c.args.h c.args.y c.requires.some c.loop-k.k c.seen-from.result.1 _ _ (omega arith) c.seen-from.ensures.behind c.loop-k.invariant)
+    (text_all _ _ c.args.sheet.now c.args.text.now c.args.stretch.now.width c.args.h c.args.y c.requires.some c.loop-k.k c.seen-from.result.1 _ _ (omega arith) c.seen-from.ensures.behind c.loop-k.invariant)

@@ -1,5 +1,5 @@
 use Rattle.std.proofs.Common.{◌≡◌, ℕ, ◌<◌, ◌≤◌, true}
-use Rattle.vp_qr.specs.Cost.{is_set}
+use Rattle.vp_qr.specs.Penalty.{is_set}
 use Rattle.vp_qr.proofs.ink.run_end.Given as goal
 
 abbrev pub invariant-loop-end : goal.invariant-loop-end

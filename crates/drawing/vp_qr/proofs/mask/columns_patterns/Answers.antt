@@ -1,5 +1,5 @@
 use Rattle.std.proofs.Common.{◌≡◌, ℕ, ◌+◌, ◌-◌, ◌*◌, ap, sym, ◌∙◌, arith}
-use Rattle.vp_qr.specs.Cost.{sum_below, line_from, patterns_worth}
+use Rattle.vp_qr.specs.Penalty.{sum_below, line_from, patterns_penalty}
 use Rattle.vp_qr.specs.Walk.{dark}
 use Rattle.vp_qr.proofs.Counting.{sum_more, sum_same, sum_set, sum_swap, sum_forty}
 use Rattle.vp_qr.proofs.Patterns.{found, pattern_at, patterns_are}
@@ -18,8 +18,8 @@ loop-at-preserved c =
       omega (arith, c.loop-at.invariant.1, c.ones-found.ensures.most),
     )
 
-pub returns-clause-worth : goal.returns-clause-worth
-returns-clause-worth c =
+pub returns-clause-penalty : goal.returns-clause-penalty
+returns-clause-penalty c =
     let rows = c.args.rows.now in
     let s : ℕ = c.args.size in
     let end : c.loop-at.at ≡ s - 10 = omega (arith, c.loop-at-test.false, c.loop-at.auto.at-end) in
@@ -28,5 +28,5 @@ returns-clause-worth c =
     ∙ ap (λ n. sum_below n (λ p. sum_below s (λ j. pattern_at (λ i. dark rows i j) p))) end
     ∙ sum_swap (s - 10) s (λ p j. pattern_at (λ i. dark rows i j) p))
     ∙ sym (sum_forty s (λ j. sum_below (s - 10) (pattern_at (λ i. dark rows i j))))
-    ∙ sum_same s (λ j. 40 * sum_below (s - 10) (pattern_at (λ i. dark rows i j))) (λ j. patterns_worth (line_from (λ i. dark rows i j) 0 s))
+    ∙ sum_same s (λ j. 40 * sum_below (s - 10) (pattern_at (λ i. dark rows i j))) (λ j. patterns_penalty (line_from (λ i. dark rows i j) 0 s))
     (λ j _. sym (patterns_are (λ i. dark rows i j) s (omega arith)))

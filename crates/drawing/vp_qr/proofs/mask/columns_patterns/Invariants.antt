@@ -1,5 +1,5 @@
 use Rattle.std.proofs.Common.{◌≡◌, ◌*◌, ◌≤◌}
-use Rattle.vp_qr.specs.Cost.{sum_below}
+use Rattle.vp_qr.specs.Penalty.{sum_below}
 use Rattle.vp_qr.specs.Walk.{dark}
 use Rattle.vp_qr.proofs.Patterns.{pattern_at}
 use Rattle.vp_qr.proofs.mask.columns_patterns.Given as goal

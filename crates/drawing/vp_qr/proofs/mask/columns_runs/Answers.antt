@@ -1,9 +1,9 @@
 use Rattle.std.proofs.Common.{◌≡◌, ℕ, suc, ◌+◌, ◌-◌, ◌*◌, ◌&&◌, not, ap, sym, ◌∙◌, arith}
-use Rattle.vp_qr.specs.Cost.{sum_below, line_from, runs_worth, runs}
+use Rattle.vp_qr.specs.Penalty.{sum_below, line_from, runs_penalty, runs}
 use Rattle.vp_qr.specs.Walk.{dark}
 use Rattle.vp_qr.proofs.Counting.{sum_more, sum_same, sum_set, sum_swap}
 use Rattle.vp_qr.proofs.Modules.{both, other, is_set_zero}
-use Rattle.vp_qr.proofs.Runs.{five, five_before, five_worth, runs_are, worth_is}
+use Rattle.vp_qr.proofs.Runs.{five, five_before, five_penalty, runs_are, penalty_is}
 use Rattle.vp_qr.proofs.mask.columns_runs.Goals as goal
 
 pub loop-at-init : goal.loop-at-init
@@ -15,10 +15,10 @@ loop-at-preserved c =
     let s : ℕ = c.args.size in
     let at : ℕ = c.loop-at.at in
     let next : suc at ≡ at + 1 = omega arith in
-    let columns = λ (p : ℕ). sum_below s (λ j. five_worth (λ i. dark rows i j) p) in (
+    let columns = λ (p : ℕ). sum_below s (λ j. five_penalty (λ i. dark rows i j) p) in (
       ap (λ m. m + (c.ones.result + 2 * c.ones-in-loop-at.result)) c.loop-at.invariant.0
           ∙ ap (λ m. sum_below at columns + m)
-          (worth_is s c.ones.result c.ones-in-loop-at.result (λ j. five (λ i. dark rows i j) at) (λ j. five_before (λ i. dark rows i j) at)
+          (penalty_is s c.ones.result c.ones-in-loop-at.result (λ j. five (λ i. dark rows i j) at) (λ j. five_before (λ i. dark rows i j) at)
           (c.ones.ensures.value ∙ sum_set c.fives-fives.result s (λ j. five (λ i. dark rows i j) at) (λ j h. c.fives-fives.ensures j (omega arith)))
           (c.ones-in-loop-at.ensures.value
           ∙ sum_set _ s (λ j. five (λ i. dark rows i j) at && not (five_before (λ i. dark rows i j) at))
@@ -29,13 +29,13 @@ loop-at-preserved c =
       λ j h. c.fives-fives.ensures j h ∙ ap (five_before (λ i. dark rows i j)) next,
     )
 
-pub returns-clause-worth : goal.returns-clause-worth
-returns-clause-worth c =
+pub returns-clause-penalty : goal.returns-clause-penalty
+returns-clause-penalty c =
     let rows = c.args.rows.now in
     let s : ℕ = c.args.size in
     let end : c.loop-at.at ≡ s - 4 = omega (arith, c.loop-at-test.false, c.loop-at.auto.at-end) in
     c.loop-at.invariant.0
-    ∙ ap (λ n. sum_below n (λ p. sum_below s (λ j. five_worth (λ i. dark rows i j) p))) end
-    ∙ sum_swap (s - 4) s (λ p j. five_worth (λ i. dark rows i j) p)
-    ∙ sum_same s (λ j. sum_below (s - 4) (five_worth (λ i. dark rows i j))) (λ j. runs_worth (runs (line_from (λ i. dark rows i j) 0 s)))
+    ∙ ap (λ n. sum_below n (λ p. sum_below s (λ j. five_penalty (λ i. dark rows i j) p))) end
+    ∙ sum_swap (s - 4) s (λ p j. five_penalty (λ i. dark rows i j) p)
+    ∙ sum_same s (λ j. sum_below (s - 4) (five_penalty (λ i. dark rows i j))) (λ j. runs_penalty (runs (line_from (λ i. dark rows i j) 0 s)))
     (λ j _. sym (runs_are (λ i. dark rows i j) s (omega arith)))

@@ -1,5 +1,5 @@
 use Rattle.std.proofs.Common.{ℕ, ◌+◌, ap, sym, ◌∙◌, arith, cond}
-use Rattle.vp_qr.specs.Cost.{sum_below}
+use Rattle.vp_qr.specs.Penalty.{sum_below}
 use Rattle.vp_qr.specs.Walk.{dark}
 use Rattle.vp_qr.proofs.Counting.{sum_more, dark_in_row}
 use Rattle.vp_qr.proofs.mask.dark_modules.Goals as goal

@@ -1,6 +1,6 @@
 use Rattle.std.proofs.Common.{◌≡◌, ◌*◌, ◌≤◌}
 use Rattle.std.specs.Prelude.{if◌then◌else◌}
-use Rattle.vp_qr.specs.Cost.{sum_below}
+use Rattle.vp_qr.specs.Penalty.{sum_below}
 use Rattle.vp_qr.specs.Walk.{dark}
 use Rattle.vp_qr.proofs.mask.dark_modules.Given as goal
 

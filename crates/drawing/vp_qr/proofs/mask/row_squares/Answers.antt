@@ -1,6 +1,6 @@
 use Rattle.std.proofs.Common.{ℕ, ◌-◌, ◌<◌, ◌∙◌, arith}
 use Rattle.std.specs.Int.{bit_at}
-use Rattle.vp_qr.specs.Cost.{square_at, is_set}
+use Rattle.vp_qr.specs.Penalty.{square_at, is_set}
 use Rattle.vp_qr.proofs.Counting.{sum_same}
 use Rattle.vp_qr.proofs.mask.row_squares.Goals as goal
 

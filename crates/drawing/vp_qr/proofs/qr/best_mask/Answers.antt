@@ -3,22 +3,22 @@ use Rattle.vp_qr.specs.Places.{size}
 use Rattle.vp_qr.specs.Walk.{dark}
 use Rattle.vp_qr.specs.Codes.{format_code, version_code}
 use Rattle.vp_qr.specs.Symbol.{module_at}
-use Rattle.vp_qr.specs.Cost.{cost}
+use Rattle.vp_qr.specs.Penalty.{penalty}
 use Rattle.vp_qr.specs.Encoding.{least_place}
-use Rattle.vp_qr.proofs.Counting.{cost_same}
-use Rattle.vp_qr.proofs.Choosing.{costs_are}
+use Rattle.vp_qr.proofs.Counting.{penalty_same}
+use Rattle.vp_qr.proofs.Choosing.{penalties_are}
 use Rattle.vp_qr.proofs.qr.best_mask.Goals as goal
 
 pub loop-mask-preserved : goal.loop-mask-preserved
 loop-mask-preserved c =
     let v : ℕ = c.args.grid.now.version in
     let m : ℕ = c.loop-mask.mask in (
-      length-set c.loop-mask.costs m c.cost.result ∙ c.loop-mask.invariant.0,
+      length-set c.loop-mask.penalties m c.penalty.result ∙ c.loop-mask.invariant.0,
       below_more _ _
-          (λ (k : ℕ) (h : k < m). get_or-set_other c.loop-mask.costs m k c.cost.result 0 (λ e. absurd (omega arith)) ∙ c.loop-mask.invariant.1 k h)
-          (get_or-set_same c.loop-mask.costs m c.cost.result 0 (omega arith)
-          ∙ c.cost.ensures
-          ∙ cost_same (dark c.masked-rows.result) (module_at v (format_code c.args.level m) (version_code v) m (dark c.args.grid.now.unmasked)) (size v) c.masked-rows.ensures),
+          (λ (k : ℕ) (h : k < m). get_or-set_other c.loop-mask.penalties m k c.penalty.result 0 (λ e. absurd (omega arith)) ∙ c.loop-mask.invariant.1 k h)
+          (get_or-set_same c.loop-mask.penalties m c.penalty.result 0 (omega arith)
+          ∙ c.penalty.ensures
+          ∙ penalty_same (dark c.masked-rows.result) (module_at v (format_code c.args.level m) (version_code v) m (dark c.args.grid.now.unmasked)) (size v) c.masked-rows.ensures),
     )
 
 pub returns-clause-mask : goal.returns-clause-mask
@@ -26,5 +26,5 @@ returns-clause-mask c =
     let v : ℕ = c.args.grid.now.version in
     c.least.ensures.place
     ∙ ap least_place
-    (costs_are c.loop-mask.costs (λ (k : ℕ). cost (module_at v (format_code c.args.level k) (version_code v) k (dark c.args.grid.now.unmasked)) (size v)) c.loop-mask.invariant.0
+    (penalties_are c.loop-mask.penalties (λ (k : ℕ). penalty (module_at v (format_code c.args.level k) (version_code v) k (dark c.args.grid.now.unmasked)) (size v)) c.loop-mask.invariant.0
     (λ (k : ℕ) (h : k < 8). c.loop-mask.invariant.1 k (omega arith)))

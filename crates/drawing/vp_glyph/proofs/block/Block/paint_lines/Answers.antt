@@ -5,7 +5,7 @@ use Rattle.vp_glyph.proofs.Overlaid.{overlaid_none, overlaid_more, overlaid_all}
 use Rattle.vp_glyph.proofs.block.Block.paint_lines.Goals as goal
 
 pub loop-left-init : goal.loop-left-init
-loop-left-init c = record { place_within = omega arith; overlaid = overlaid_none _ _ _ _ _ _ _ _ _ _ _ _ _ _ _ c.first_line-above.ensures.lines }
+loop-left-init c = record { place_within = omega arith; overlaid = overlaid_none _ _ _ _ _ _ _ _ _ _ _ _ _ _ _ (λ x. c.first_line-above.ensures.lines x c.args.y (omega arith)) }
 
 pub loop-left-preserved : goal.loop-left-preserved
 loop-left-preserved c = record {

@@ -3,9 +3,13 @@ use mir.Val.{SFits}
 use Rattle.std.proofs.lemmas.Int.{to_z-of_z}
 use Rattle.vp_dots.specs.Words.{word_dot}
 use Rattle.vp_glyph.proofs.Masks.{word_painted}
+use Rattle.vp_glyph.proofs.Moved.{white_word}
 use Rattle.vp_glyph.proofs.stretch.Stretch.paint.Goals as goal
+
+pub returns-then-word-eq0 : goal.returns-then-word-eq0
+returns-then-word-eq0 c = white_word _ _ c.args.word c.args.left c.args.self.now.width _ c.if-word-eq0.true
 
 pub returns : goal.returns
 returns c =
     let fits : SFits w64 c.moved.result = search rules in
-    rw (sym (to_z-of_z w64 c.args.at c.ranges.at)) (word_painted c.args.op _ _ (word_dot c.args.word) c.args.left c.args.self.now.width c.of.result _ _ (to_z-of_z w64 c.moved.result fits ∙ c.moved.ensures) c.of.ensures c.paint_word.ensures)
+    rw (sym (to_z-of_z w64 c.args.at c.ranges.at)) (word_painted c.args.op _ _ (word_dot c.args.word) c.args.left c.args.self.now.width c.of.result _ _ (to_z-of_z w64 c.moved.result fits ∙ c.moved.ensures) c.of.ensures c.paint_moved.ensures)

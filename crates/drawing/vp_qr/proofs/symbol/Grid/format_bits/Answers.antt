@@ -1,11 +1,11 @@
 use Rattle.std.proofs.Common.{◌≡◌, ℕ, ◌<◌, ◌&&◌, Bool, true, false, eqb, refl, sym, ap, ◌∙◌, arith}
 use Rattle.std.specs.Int.{bit_at}
 use Rattle.vp_qr.specs.Places.{size}
-use Rattle.vp_qr.specs.Cost.{is_set}
+use Rattle.vp_qr.specs.Penalty.{is_set}
 use Rattle.vp_qr.specs.Walk.{dark}
 use Rattle.vp_qr.specs.Symbol.{format_here, format_bit}
 use Rattle.vp_qr.proofs.Modules.{is_set_zero}
-use Rattle.vp_qr.proofs.FreeModules.{made_none, made_dark, made_light, made_all, format_corner}
+use Rattle.vp_qr.proofs.FreeModules.{made_none, made_dark, made_light, made_all, format_corner, only_column}
 use Rattle.vp_qr.proofs.symbol.Grid.format_bits.Goals as goal
 
 -- where the format does not stand there is none of its bits
@@ -61,3 +61,11 @@ pub returns : goal.returns
 returns c =
     λ (j : ℕ) (h : j < size c.args.self.now.version).
     made_all (λ j. format_here c.args.self.now.version c.args.row j && eqb (bit_at c.args.format (format_bit (size c.args.self.now.version) c.args.row j)) 1) c.loop-column.line c.loop-column.column c.loop-column.invariant j (omega arith) (omega arith)
+
+pub returns-then-row-ne8 : goal.returns-then-row-ne8
+unfolding dark
+returns-then-row-ne8 c =
+    λ (j : ℕ) (h : j < size c.args.self.now.version).
+    c.only.ensures j
+    ∙ ap (λ b. c.is_format_dark.result && b) (c.requires.grid.format_is c.args.row j c.requires.row h)
+    ∙ only_column c.args.self.now.version c.args.row j (λ k. eqb (bit_at c.args.format (format_bit (size c.args.self.now.version) c.args.row k)) 1) c.is_format_dark.result c.if-row-ne8.true c.is_format_dark.ensures

@@ -1,7 +1,7 @@
 use Rattle.std.proofs.Common.{ℕ, ◌<◌, ◌%◌, eqb, not, ap, ◌∙◌, arith, get_or}
 use Rattle.vp_qr.specs.Places.{size}
 use Rattle.vp_qr.specs.Codes.{version_code}
-use Rattle.vp_qr.specs.Cost.{is_set, same}
+use Rattle.vp_qr.specs.Penalty.{is_set, same}
 use Rattle.vp_qr.specs.Walk.{dark}
 use Rattle.vp_qr.proofs.Flips.{formula_rows}
 use Rattle.vp_qr.proofs.FreeModules.{line_module}

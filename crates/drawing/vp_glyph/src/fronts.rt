@@ -1,0 +1,111 @@
+//! The first dots of many rows of a block, for which each of its lines is looked at once.
+ghost use Rattle.std.specs.Prelude.{◌≡◌, ℕ, ◌+◌, ◌-◌, ◌*◌, ◌/◌, ◌<◌, ◌≤◌, ◌^◌, ◌||◌, false, min, length, take, slice_index};
+ghost use Rattle.vp_dots.specs.Dots.{shifted, span};
+ghost use Rattle.vp_dots.specs.Words.{word_dot};
+ghost use Rattle.vp_glyph.specs.Blocks.{pieces, first, line_dot, block_height, block_dot};
+
+use crate::block::Block;
+use crate::lines::{Line, next_line};
+use vp_dots::{Op, word_of};
+
+/// The first of the rows of a cell, drawn so high, that show row s of 24.
+fn first_row(s: u32, high: u32) -> u32
+    requires { s ≤ 24 }
+    ensures row { result ≡ (s * high + 23) / 24 }
+    ensures within { result ≤ high }
+{
+    ((u64::from(s) * u64::from(high) + 23) / 24) as u32
+}
+
+/// How many of N rows from one on stand above another.
+fn rows_above<const N: usize>(row: u32, first: u32) -> usize
+    ensures { result ≡ min (row - first) N }
+{
+    (row.saturating_sub(first) as usize).min(N)
+}
+
+/// Makes the dots of the words from one to another black where a word is.
+fn blacken<const N: usize>(ink: u64, from: usize, to: usize, words: &mut [u64; N])
+    requires order { from ≤ to }
+    requires to { to ≤ N }
+    ensures inside { (i x : ℕ) → from ≤ i → i < to → word_dot (slice_index words.new i) x
+        ≡ (word_dot (slice_index words.old i) x || word_dot ink x) }
+    ensures outside { (i : ℕ) → span from to i ≡ false → slice_index words.new i ≡ slice_index words.old i }
+{
+    for i in from..to {
+        words[i] |= ink;
+    }
+}
+
+impl Block<'_> {
+    /// The first 64 dots of a row on which row y of a line stands, so many lines below the first.
+    fn front_of_line(&self, line: Line<'_>, place: u32, y: u32, at: i64) -> u64
+        requires cells { line.cells ≤ length (first (pieces line.text.now)) }
+        requires most { line.cells ≤ self.now.wide / self.now.w }
+        requires place { place ≤ self.now.rows - 1 }
+        requires top { place * self.now.pitch ≤ y }
+        ensures { (x : ℕ) → x < 64 → word_dot result x ≡ shifted at (λ x. line_dot self.now.sheet.now
+            self.now.w self.now.h self.now.wide self.now.pitch self.now.alignment place
+            (take line.entry.cells (first (pieces line.entry.text.now))) x y) x }
+    {
+        let mut bytes = [0u8; 8];
+        self.paint_line(line, place, y, Op::Black, at, &mut bytes);
+        word_of(&bytes)
+    }
+
+    /// Adds a line to the fronts of N rows, which stands so many lines below the first.
+    fn add_line<const N: usize>(
+        &self,
+        line: Line<'_>,
+        place: u32,
+        top: u32,
+        at: i64,
+        fronts: &mut [u64; N],
+    )
+        requires cells { line.cells ≤ length (first (pieces line.text.now)) }
+        requires most { line.cells ≤ self.now.wide / self.now.w }
+        requires place { place ≤ self.now.rows - 1 }
+        ensures { (i x : ℕ) → i < N → x < 64 → word_dot (slice_index fronts.new i) x
+            ≡ (word_dot (slice_index fronts.old i) x || shifted at (λ x. line_dot self.now.sheet.now
+            self.now.w self.now.h self.now.wide self.now.pitch self.now.alignment place
+            (take line.entry.cells (first (pieces line.entry.text.now))) x (top + i)) x) }
+    {
+        let above = place * self.pitch;
+        for s in 0..24u32 {
+            let from = rows_above::<N>(above + first_row(s, self.h), top);
+            let to = rows_above::<N>(above + first_row(s + 1, self.h), top);
+            if from < to {
+                let ink = self.front_of_line(line, place, top + from as u32, at);
+                blacken(ink, from, to, fronts);
+            }
+        }
+    }
+
+    /// The first 64 dots of N rows, each moved by an offset and black where row top, top + 1, .. has ink.
+    pub fn fronts<const N: usize>(&self, top: u32, at: i64) -> [u64; N]
+        requires { N < 2 ^ 32 }
+        ensures { (i x : ℕ) → i < N → x < 64 → top + i < block_height self.now.h self.now.rows self.now.pitch
+            → word_dot (slice_index result i) x ≡ shifted at (λ x. block_dot self.now.sheet.now
+            self.now.text.now self.now.w self.now.h self.now.wide self.now.rows self.now.pitch
+            self.now.alignment x (top + i)) x }
+    {
+        let mut fronts = [0u64; N];
+        if self.wide < self.w {
+            return fronts;
+        }
+        let most = (self.wide / self.w) as usize;
+        let (above, text) = self.first_line(top);
+        let mut place = above;
+        let mut left = Some(text);
+        while let Some(text) = left {
+            if u64::from(top) + N as u64 <= u64::from(place * self.pitch) {
+                return fronts;
+            }
+            let (line, rest) = next_line(text, most);
+            self.add_line(line, place, top, at, &mut fronts);
+            place = (place + 1).min(self.rows.saturating_sub(1));
+            left = rest;
+        }
+        fronts
+    }
+}

@@ -1,0 +1,3 @@
+-- The rules.
+pub mod Lines
+pub mod Places
