@@ -6,8 +6,8 @@ use Rattle.vp_esc.specs.declared.item.CharacterFont.{CharacterFont}
 use Rattle.vp_esc.specs.declared.item.CharacterFont.TheVariants.{A, B}
 use Rattle.vp_esc.specs.declared.item.Underline.{Underline}
 use Rattle.vp_esc.specs.declared.item.Underline.TheVariants.{Off, OneRow, TwoRows}
-use Rattle.vp_esc.specs.declared.item.Justification.{Justification}
-use Rattle.vp_esc.specs.declared.item.Justification.TheVariants.{Left, Centre, Right}
+use Rattle.vp_glyph.specs.declared.block.Alignment.{Alignment}
+use Rattle.vp_glyph.specs.declared.block.Alignment.TheVariants.{Left, Centre, Right}
 use Rattle.vp_esc.specs.declared.item.PrintDirection.{PrintDirection}
 use Rattle.vp_esc.specs.declared.item.PrintDirection.TheVariants.{LeftToRight, BottomToTop, RightToLeft}
 use Rattle.vp_esc.specs.declared.item.PrintDirection.TheVariants.{TopToBottom}
@@ -49,7 +49,7 @@ abbrev pub font_of : ℕ → Option CharacterFont
 font_of n = if n == 0 || n == 48 then Some A else if n == 1 || n == 49 then Some B else None
 
 -- ESC a
-abbrev pub justification_of : ℕ → Option Justification
+abbrev pub justification_of : ℕ → Option Alignment
 justification_of n =
     if n == 0 || n == 48 then Some Left
     else if n == 1 || n == 49 then Some Centre

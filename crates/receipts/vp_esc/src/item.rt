@@ -1,5 +1,6 @@
 //! What a receipt stream says, command by command.
 use arrayvec::ArrayVec;
+use vp_glyph::Alignment;
 
 /// A byte as it was sent, and what it stands for.
 #[derive(Clone, Copy)]
@@ -21,14 +22,6 @@ pub enum Underline {
     Off,
     OneRow,
     TwoRows,
-}
-
-/// Where a line stands in the line length.
-#[derive(Clone, Copy)]
-pub enum Justification {
-    Left,
-    Centre,
-    Right,
 }
 
 /// Which way a page is printed, and where it begins.
@@ -203,7 +196,7 @@ pub enum EscItem {
         height: u16,
     },
     /// ESC a
-    Justify(Spelled<Option<Justification>>),
+    Justify(Spelled<Option<Alignment>>),
     /// ESC i: a partial cut.
     CutLeavingOnePoint,
     /// ESC m: a partial cut.

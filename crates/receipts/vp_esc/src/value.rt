@@ -4,9 +4,10 @@ ghost use Rattle.vp_esc.specs.Values as spec;
 ghost use Rattle.vp_esc.specs.Values.{spelled as spelled_as};
 
 use crate::item::{
-    BarKind, CharacterFont, ColumnMode, Cut, HriPosition, Justification, Magnification,
-    PrintDirection, PrintMode, QrLevel, QrModel, RasterScale, Spelled, Underline,
+    BarKind, CharacterFont, ColumnMode, Cut, HriPosition, Magnification, PrintDirection, PrintMode,
+    QrLevel, QrModel, RasterScale, Spelled, Underline,
 };
+use vp_glyph::Alignment;
 
 /// A byte, and what it stands for.
 pub fn spelled<T>(byte: u8, value: T) -> Spelled<T>
@@ -51,13 +52,13 @@ pub fn font_of(n: u8) -> Option<CharacterFont>
     }
 }
 
-pub fn justification_of(n: u8) -> Option<Justification>
+pub fn justification_of(n: u8) -> Option<Alignment>
     ensures { result ≡ spec.justification_of n }
 {
     match n {
-        0 | 48 => Some(Justification::Left),
-        1 | 49 => Some(Justification::Centre),
-        2 | 50 => Some(Justification::Right),
+        0 | 48 => Some(Alignment::Left),
+        1 | 49 => Some(Alignment::Centre),
+        2 | 50 => Some(Alignment::Right),
         _ => None,
     }
 }

@@ -3,6 +3,8 @@ pub mod Bytes
 pub mod Falling
 pub mod Lines
 pub mod Eights
+pub mod Marks
 pub mod Pages
+pub mod Squares
 pub mod Rows
 pub mod Wipes

@@ -2,6 +2,7 @@
 use Rattle.std.specs.Prelude.{ℕ, ◌-◌, slice_index_or, nat_eq, nat_lt, nat_le, Bool, false, not, ◌&&◌, ◌||◌, List, [], ◌∷◌}
 use Rattle.vp_dots.specs.Dots.{dot}
 use Rattle.vp_page.specs.declared.line.TheConstants.{LINE_DOTS}
+use Rattle.vp_page.specs.declared.across.TheConstants.{AT_ONCE}
 use Rattle.vp_page.specs.declared.area.Area.{Area}
 use Rattle.vp_page.specs.declared.area.Direction.{Direction}
 use Rattle.vp_page.specs.Areas.{holds, along, down}
@@ -42,6 +43,16 @@ eight_mark a d v rows = record {
   direction = d;
   top = v;
   dot = λ u w. nat_lt w 8 && (nat_lt u LINE_DOTS && dot (slice_index_or rows w []) u);
+}
+
+-- as many rows as are laid at once, no longer than the longest line, one below the other from a depth of the
+-- area on
+abbrev pub lines_mark : Area → Direction → ℕ → List (List ℕ) → Mark
+lines_mark a d v lines = record {
+  area = a;
+  direction = d;
+  top = v;
+  dot = λ u w. nat_lt w AT_ONCE && (nat_lt u LINE_DOTS && dot (slice_index_or lines w []) u);
 }
 
 -- the first n rows of what a mark lays

@@ -1,11 +1,13 @@
 //! The page of page mode: dots laid in four directions, and areas made white.
 #![tactic(auto)]
 
+mod across;
 mod area;
 mod laws;
 mod line;
 mod page;
 
+pub use across::AT_ONCE;
 pub use area::{Area, Direction};
 pub use laws::{dots_fall, marks_and_wipes, rows_make_an_image};
 pub use line::{LINE_BYTES, LINE_DOTS};

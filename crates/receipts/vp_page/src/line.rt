@@ -64,7 +64,7 @@ fn clip_reversed(row: &[u8], end: u16, line: &mut [u8])
 }
 
 /// Where a line of so many bytes begins that ends before a place.
-fn start_of(end: u32, bytes: usize) -> i64
+pub(crate) fn start_of(end: u32, bytes: usize) -> i64
     requires { bytes ≤ LINE_BYTES }
     ensures { result +ℤ pos (8 * bytes) ≡ pos end }
 {

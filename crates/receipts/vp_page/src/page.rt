@@ -5,6 +5,7 @@ ghost use Rattle.vp_dots.specs.Images.{row_of};
 ghost use Rattle.vp_page.specs.declared.line.TheConstants.{LINE_BYTES, LINE_DOTS};
 ghost use Rattle.vp_page.specs.declared.page.TheConstants.{PAPER_BYTES, PAGE_ROWS};
 
+use crate::across::{AT_ONCE, first_lines, lay_lines_down, lay_lines_up};
 use crate::line::{
     LINE_BYTES, draw, lay_down, lay_eight_down, lay_eight_up, lay_left, lay_right, lay_up, whiten,
 };
@@ -40,7 +41,7 @@ impl Model for Page {
 }
 
 impl Page {
-    ghost use Rattle.vp_page.specs.Layers.{Layer, Laid, Wiped, row_mark, eight_mark, page_dot};
+    ghost use Rattle.vp_page.specs.Layers.{Layer, Laid, Wiped, row_mark, eight_mark, lines_mark, page_dot};
     ghost use Rattle.vp_page.specs.Pages.{HasPage};
 
     /// A white page.
@@ -112,6 +113,40 @@ impl Page {
         }
     }
 
+    /// Lays as many rows of dots as are laid at once, one below the other, the first at the depth v of an
+    /// area, as `lay_row` lays each.
+    pub fn lay_lines(
+        &mut self,
+        area: Area,
+        direction: Direction,
+        v: u32,
+        lines: &[[u8; LINE_BYTES]; AT_ONCE],
+    )
+        ensures { (layers : List Layer) → HasPage layers self.old →
+            HasPage (Laid (lines_mark area direction v lines.now) ∷ layers) self.new }
+    {
+        let depth = u32::from(area.depth(direction));
+        if v >= depth {
+            return;
+        }
+        let room = (depth - v) as usize;
+        let left = u32::from(area.x);
+        match direction {
+            Direction::BottomToTop => {
+                lay_lines_up(&first_lines(lines, room), area, left + v, &mut self.band)
+            }
+            Direction::TopToBottom => {
+                let right = left + depth - v;
+                lay_lines_down(&first_lines(lines, room), area, right, &mut self.band)
+            }
+            _ => {
+                for i in 0..AT_ONCE {
+                    self.lay_row(area, direction, v + i as u32, &lines[i]);
+                }
+            }
+        }
+    }
+
     /// Lays an image no wider than the longest line, with its top at a depth of an area. Dots past the line
     /// length and the depth are dropped, and what falls off the page.
     pub fn lay<I: Ink>(&mut self, ink: &I, area: Area, direction: Direction, top: u32)
@@ -142,6 +177,7 @@ impl Page {
     pub fn row(&self, y: usize) -> &[u8]
         requires { y < PAGE_ROWS }
         ensures value { result.now ≡ slice_index_or self.now y [] }
+        ensures len { length result.now ≡ PAPER_BYTES }
         ensures bytes { (layers : List Layer) → HasPage layers self.now →
             result.now ≡ row_of PAPER_BYTES (λ x. page_dot layers x y) }
         ensures left { (layers : List Layer) (n : ℕ) → HasPage layers self.now → n ≤ PAPER_BYTES →

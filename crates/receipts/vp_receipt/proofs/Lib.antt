@@ -1,5 +1,6 @@
 pub mod PageLines
 pub mod EightRows
+pub mod LinesAtOnce
 pub mod PageSymbols
 pub mod RasterRows
 pub mod Showing
@@ -17,5 +18,5 @@ pub mod Begun
 pub mod Orderly
 pub mod Texts
 pub mod PageRows
-pub mod PageEights
+pub mod RasterLines
 pub mod PlainRows

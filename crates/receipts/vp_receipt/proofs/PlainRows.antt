@@ -11,17 +11,17 @@ use Rattle.vp_esc.specs.declared.item.EscItem.{EscItem}
 use Rattle.vp_esc.specs.declared.item.EscItem.TheVariants.{RasterByte}
 use Rattle.vp_esc.specs.declared.item.RasterScale.{RasterScale}
 use Rattle.vp_esc.specs.declared.item.RasterScale.TheVariants.{Normal, DoubleWidth, DoubleHeight, Quadruple}
-use Rattle.vp_esc.specs.declared.item.Justification.{Justification}
-use Rattle.vp_esc.specs.declared.item.Justification.TheVariants.{Left, Centre, Right}
+use Rattle.vp_glyph.specs.declared.block.Alignment.{Alignment}
+use Rattle.vp_glyph.specs.declared.block.Alignment.TheVariants.{Left, Centre, Right}
+use Rattle.vp_glyph.specs.Blocks.{indent}
 use Rattle.vp_receipt_settings.specs.declared.page_mode.Mode.{Mode}
 use Rattle.vp_receipt_settings.specs.declared.page_mode.Mode.TheVariants.{Standard, Page}
 use Rattle.vp_receipt_settings.specs.declared.raster.Raster.{Raster}
 use Rattle.vp_receipt_settings.specs.declared.settings.Settings.{Settings}
-use Rattle.vp_receipt_settings.specs.declared.width.Width.{Width}
-use Rattle.vp_receipt_settings.specs.declared.width.Width.TheVariants.{W576, W384}
+use Rattle.vp_receipt_settings.proofs.Widths.{dots_across, some_bytes}
 use Rattle.vp_receipt_settings.specs.Gathering.{IsGathering, IsPartRow, left_of, room_of, run_of}
 use Rattle.vp_receipt_settings.specs.Line.{mode, left_margin}
-use Rattle.vp_receipt_settings.specs.Settings.{settings_of, paper_length, printed_at, shift, justification}
+use Rattle.vp_receipt_settings.specs.Settings.{settings_of, paper_length, printed_at, justification}
 use Rattle.vp_receipt_settings.specs.Pages.{is_paged}
 use Rattle.vp_receipt_settings.specs.Rasters.{raster_scale, raster_bytes, row_so_far, is_row_end, bytes_after, row_at, times_across, times_down}
 use Rattle.vp_receipt_settings.specs.Runs.{below}
@@ -67,15 +67,7 @@ still_plain setup (b ∷ bytes) before h =
     subst (IsPlain setup) (sym (after_first b bytes before))
     (still_plain setup bytes (RasterByte b ∷ before) (record { mode = h.mode; scale = h.scale; wide = h.wide; free = h.free }))
 
-dots_across : (paper : Width) → across paper ≡ 8 * row_bytes paper
-dots_across W576 = refl
-dots_across W384 = refl
-
-some_across : (paper : Width) → 0 < row_bytes paper
-some_across W576 = omega arith
-some_across W384 = omega arith
-
-none_shifted : (j : Justification) → shift j 0 ≡ 0
+none_shifted : (j : Alignment) → indent j 0 ≡ 0
 none_shifted Left = refl
 none_shifted Centre = refl
 none_shifted Right = refl
@@ -83,13 +75,13 @@ none_shifted Right = refl
 -- nothing moves what is as wide as the paper
 at_left : (setup : Setup) (before : List EscItem) (wide : ℕ) → IsPlain setup before → wide ≡ across setup.width → printed_at setup before wide ≡ 0
 at_left setup before wide h e =
-    let some = some_across setup.width in
+    let some = some_bytes setup.width in
     let dots = dots_across setup.width in
     let margin : left_margin setup before ≡ 0 = omega (arith, h.free, some, dots) in
     let spare : paper_length setup before - min wide (paper_length setup before) ≡ 0 = omega (arith, h.free, e) in
-    let moved : shift (justification setup before) (paper_length setup before - min wide (paper_length setup before)) ≡ 0 =
-    ap (shift (justification setup before)) spare ∙ none_shifted (justification setup before) in
-    let here : left_margin setup before + shift (justification setup before) (paper_length setup before - min wide (paper_length setup before)) ≡ 0 = omega (arith, margin, moved) in
+    let moved : indent (justification setup before) (paper_length setup before - min wide (paper_length setup before)) ≡ 0 =
+    ap (indent (justification setup before)) spare ∙ none_shifted (justification setup before) in
+    let here : left_margin setup before + indent (justification setup before) (paper_length setup before - min wide (paper_length setup before)) ≡ 0 = omega (arith, margin, moved) in
     here
 
 seen : (left long d : ℕ) (b c : Bool) → left ≡ 0 → d < long → b ≡ c → b ≡ (nat_le left d && nat_lt (d - left) long && c)
@@ -174,7 +166,7 @@ told s r h =
     let c = and_parts _ _ b.1 in
     let d = and_parts _ _ c.1 in
     let wide = eqb-true r.bytes (row_bytes s.paper) d.0 in
-    let some = some_across s.paper in
+    let some = some_bytes s.paper in
     record {
       begins = eqb-true r.got 0 a.0;
       mode = on_paper s.page.mode b.0;

@@ -11,12 +11,11 @@ use Rattle.vp_strips.specs.declared.job.Job.{Job}
 use Rattle.vp_strips.specs.declared.job.After.{After}
 use Rattle.vp_strips.specs.declared.job.After.TheVariants.{End}
 use Rattle.vp_strips.specs.declared.lines.Lines.{Lines}
-use Rattle.vp_strips.specs.declared.place.Place.{Place}
-use Rattle.vp_strips.specs.declared.place.Place.TheVariants.{Nothing, Head, Row}
+use Rattle.vp_output.specs.declared.place.Place.{Place}
 use Rattle.vp_strips.specs.declared.strip.Dots.{Dots}
 use Rattle.vp_strips.specs.declared.strip.Dots.TheVariants.{Line, White, Across, Raster, Drawn, Page}
 use Rattle.vp_strips.specs.Jobs.{text}
-use Rattle.vp_strips.proofs.Jobs.{part_left}
+use Rattle.vp_strips.proofs.Jobs.{some_left}
 use Rattle.vp_strips.specs.Held.{Showing, Shows, IsShowing, showing_of, shown_in, text_of, SomeLeft, IsJob, IsTurned}
 use Rattle.vp_receipt.specs.Effects.{text_if}
 use Rattle.vp_receipt.specs.Standing.{ShowsLine}
@@ -46,19 +45,18 @@ nothing_shown setup showing pending [] h = h 0 0
 nothing_shown setup showing pending (item ∷ before) h = h _ _
 
 -- a job of which nothing is left, over any canvas
-done : (j : Job) (canvas : Canvas) (p : Place) → SomeLeft j.strip p → text j.strip canvas p ≡ [] → p ≡ Nothing
-done j canvas Nothing left e = refl
-done j canvas (Head byte) left e = absurd (omega (arith, part_left j canvas (Head byte) left (λ w. cc), ap length e))
-done j canvas (Row y byte) left e = absurd (omega (arith, part_left j canvas (Row y byte) left (λ w. cc), ap length e))
+done : (j : Job) (canvas : Canvas) (p : Option Place) → SomeLeft j.strip p → text j.strip canvas p ≡ [] → p ≡ None
+done j canvas None left e = refl
+done j canvas (Some p) left e = absurd (omega (arith, some_left j.strip canvas p left, ap length e))
 
 front_none : (a b : List ℕ) → a ++ b ≡ [] → a ≡ []
 front_none [] b e = refl
 front_none (x ∷ a) b e = cc
 
-pub is_done : (j : Job) (canvas : Canvas) (lines : Lines) → IsJob j canvas lines → text_of j canvas ≡ [] → j.place ≡ Nothing
+pub is_done : (j : Job) (canvas : Canvas) (lines : Lines) → IsJob j canvas lines → text_of j canvas ≡ [] → j.place ≡ None
 is_done j canvas lines job e = done j canvas j.place job.left (front_none _ _ e)
 
-no_line : (d : Dots) (others : ℕ) → shown_in d Nothing others ≡ None
+no_line : (d : Dots) (others : ℕ) → shown_in d None others ≡ None
 no_line (Line height left length) others = refl
 no_line White others = refl
 no_line (Across cut) others = refl
@@ -66,12 +64,11 @@ no_line Raster others = refl
 no_line Page others = refl
 no_line (Drawn left length) others = refl
 
-no_after : (p : Place) (after : After) → p ≡ Nothing → IsTurned p after → after ≡ End
-no_after Nothing after e h = h
-no_after (Head byte) after e h = cc
-no_after (Row y byte) after e h = cc
+no_after : (p : Option Place) (after : After) → p ≡ None → IsTurned p after → after ≡ End
+no_after None after e h = h
+no_after (Some p) after e h = cc
 
-pub text_done : (j : Job) (canvas : Canvas) → j.place ≡ Nothing → IsTurned j.place j.after → text_of j canvas ≡ []
+pub text_done : (j : Job) (canvas : Canvas) → j.place ≡ None → IsTurned j.place j.after → text_of j canvas ≡ []
 text_done j canvas e t = rw (e, no_after j.place j.after e t) refl
 
 pub job_done : (j : Job) (old canvas : Canvas) (lines : Lines) → IsJob j old lines → text_of j old ≡ [] → IsJob j canvas lines
@@ -93,7 +90,7 @@ pub text_replaced : (printed : Option Job) (j : Job) (old canvas : Canvas) (line
 text_replaced (Some job) j old canvas lines was turned none = refl
 text_replaced None j old canvas lines was turned none = text_done j canvas (is_done j old lines was none) turned
 
-pub shows_done : (j : Job) (canvas : Canvas) (high others : ℕ) → j.place ≡ Nothing → IsTurned j.place j.after → IsShowing j canvas high others
+pub shows_done : (j : Job) (canvas : Canvas) (high others : ℕ) → j.place ≡ None → IsTurned j.place j.after → IsShowing j canvas high others
 shows_done j canvas high others e t = rw (e, no_line, no_after j.place j.after e t) (omega arith)
 
 pub shows_replaced : (printed : Option Job) (j : Job) (old canvas : Canvas) (lines : Lines) (high others : ℕ) → IfSome printed (λ job. IsShowing job canvas high others)

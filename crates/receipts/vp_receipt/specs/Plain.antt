@@ -33,15 +33,16 @@ is_plain s r =
 -- whole, and then all of one row but its end
 abbrev pub rows_room : Settings → Raster → ℕ → ℕ
 rows_room s r output =
-    if is_plain s r then min (left_of r) (output / r.bytes * r.bytes + (r.bytes - 1)) else run_of s.page.mode r
+    if is_plain s r then min (left_of r) (output / r.bytes * r.bytes + (r.bytes - 1))
+    else run_of s.page.mode r
 
 -- how many of so many bytes are put out in that run: those of whole plain rows
 abbrev pub rows_put : Settings → Raster → ℕ → ℕ
 rows_put s r bytes = if is_plain s r then bytes / r.bytes * r.bytes else 0
 
 -- these bytes have come, and the first of them are all that they print
-pub record IsOnPaper (setup : Setup) (before : List EscItem) (s : Settings) (r : Raster) (bytes : List ℕ) (n : ℕ)
-    : Type 0 where
+pub record IsOnPaper (setup : Setup) (before : List EscItem) (s : Settings) (r : Raster) (bytes : List ℕ)
+    (n : ℕ) : Type 0 where
   pub settings : s ≡ settings_of setup (bytes_after bytes before)
   pub raster : IsGathering r (bytes_after bytes before)
   pub printed : printed setup (bytes_after bytes before) ≡ printed setup before ++ take n bytes

@@ -1,8 +1,8 @@
 //! A receipt printer: the line that it gathers, and the strips that it prints.
 //!
 //! `drawn` knows the symbol that an item prints, `act` what an item prints or lays on the page, and
-//! `raster_page` rows of a raster on the page, `raster_paper` those that are printed as they come. `receipt` is
-//! the printer, and `laws` says what a raster's row is, and that all that is printed is images.
+//! `raster_page` rows of a raster on the page, `raster_paper` those that are printed as they come. `receipt`
+//! is the printer, and `laws` says what a raster's row is, and that all that is printed is images.
 #![tactic(auto)]
 
 mod act;

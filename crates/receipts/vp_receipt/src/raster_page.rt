@@ -1,10 +1,11 @@
 //! Rows of a raster, laid on the page: one, or a run of them.
-ghost use Rattle.std.specs.Prelude.{◌≡◌, ◌≤◌, ◌<◌, ◌+◌, ◌-◌, ◌*◌, ◌/◌, ◌∷◌, List, [], ℕ, Bool, length, take, slice_index_or};
+ghost use Rattle.std.specs.Prelude.{◌≡◌, ◌≤◌, ◌<◌, ◌+◌, ◌-◌, ◌*◌, ◌/◌, ◌∷◌, ◌&&◌, List, [], ℕ, Bool, length, take, nat_lt, slice_index_or};
 ghost use Rattle.vp_dots.specs.Dots.{dot};
 ghost use Rattle.vp_esc.specs.declared.item.EscItem.{EscItem};
 ghost use Rattle.vp_esc.specs.declared.item.RasterScale.{RasterScale};
 ghost use Rattle.vp_page.specs.Layers.{Layer, Laid, first_rows};
 ghost use Rattle.vp_page.specs.Pages.{HasPage};
+ghost use Rattle.vp_page.specs.declared.across.TheConstants.{AT_ONCE};
 ghost use Rattle.vp_page.specs.declared.line.TheConstants.{LINE_BYTES, LINE_DOTS};
 ghost use Rattle.vp_receipt.specs.PageMarks.{mark_of, raster_mark, rows_dot};
 ghost use Rattle.vp_receipt.specs.Standing.{IsOnPage};
@@ -15,7 +16,7 @@ ghost use Rattle.vp_receipt_settings.specs.Setup.{Setup};
 
 use vp_dots::or_into;
 use vp_esc::item::RasterScale;
-use vp_page::{Direction, LINE_BYTES, Page};
+use vp_page::{AT_ONCE, Direction, LINE_BYTES, Page};
 use vp_receipt_settings::{PageSettings, Raster, Settings, times_across, times_down};
 use vp_strips::doubled;
 
@@ -65,29 +66,19 @@ pub fn lay_raster_row(s: &Settings, raster: &Raster, page: &mut Page)
     lay_scaled(s.page, raster.scale, raster.kept(), 0, page);
 }
 
-/// Lays whole rows of a raster one by one, as they stand in the bytes, from row `from` on.
-fn lay_from(
-    p: PageSettings,
-    raster: &Raster,
-    bytes: &[u8],
-    from: usize,
-    rows: usize,
-    page: &mut Page,
-)
+/// Lays whole rows of a raster one by one, as they stand in the bytes.
+fn lay_each(p: PageSettings, raster: &Raster, bytes: &[u8], rows: usize, page: &mut Page)
     requires fit { IsFitPage p }
-    requires begins { from ≤ rows }
     requires few { rows ≤ 65535 }
     requires long { rows * raster.now.bytes ≤ length bytes.now }
-    ensures { (layers : List Layer) →
-        HasPage (Laid (first_rows (from * times_down raster.now.scale)
-        (mark_of p (rows_dot raster.now.scale raster.now.bytes rows bytes.now))) ∷ layers) page.old →
+    ensures { (layers : List Layer) → HasPage layers page.old →
         HasPage (Laid (mark_of p (rows_dot raster.now.scale raster.now.bytes rows bytes.now))
         ∷ layers) page.new }
 {
     let wide = usize::from(raster.bytes);
     let shown = wide.min(LINE_BYTES);
     let times = times_down(raster.scale);
-    for k in from..rows {
+    for k in 0..rows {
         let row = &bytes[k * wide..k * wide + shown];
         lay_scaled(p, raster.scale, row, k as u32 * times, page);
     }
@@ -102,41 +93,41 @@ fn lengthened(row: &[u8]) -> [u8; LINE_BYTES]
     line
 }
 
-/// Eight rows from one on, as they stand in bytes of which so many make a row.
-fn eight_rows(bytes: &[u8], wide: usize, from: usize) -> [[u8; LINE_BYTES]; 8]
-    requires near { from ≤ 65535 }
-    requires long { (from + 8) * wide ≤ length bytes.now }
-    ensures { (i u : ℕ) → i < 8 → u < LINE_DOTS →
-        dot (slice_index_or result i []) u ≡ dot (row_at bytes.now wide (from + i)) u }
+/// As many rows as are laid at once, from one on, as they stand in bytes of which so many make a row: white
+/// ones past the last.
+fn rows_from(bytes: &[u8], wide: usize, from: usize, rows: usize) -> [[u8; LINE_BYTES]; AT_ONCE]
+    requires begins { from ≤ rows }
+    requires few { rows ≤ 65535 }
+    requires long { rows * wide ≤ length bytes.now }
+    ensures { (i u : ℕ) → i < AT_ONCE → u < LINE_DOTS → dot (slice_index_or result i []) u ≡
+        (nat_lt (from + i) rows && dot (row_at bytes.now wide (from + i)) u) }
 {
     let shown = wide.min(LINE_BYTES);
-    let mut rows = [[0; LINE_BYTES]; 8];
-    for i in 0..8usize {
+    let mut lines = [[0; LINE_BYTES]; AT_ONCE];
+    for i in 0..(rows - from).min(AT_ONCE) {
         let at = (from + i) * wide;
-        rows[i] = lengthened(&bytes[at..at + shown]);
+        lines[i] = lengthened(&bytes[at..at + shown]);
     }
-    rows
+    lines
 }
 
-/// Lays whole rows of a raster eight at a time, as far as eight go, and tells how many.
-fn lay_eights(p: PageSettings, raster: &Raster, bytes: &[u8], rows: usize, page: &mut Page) -> usize
+/// Lays whole rows of a raster as many at once as go.
+fn lay_across(p: PageSettings, raster: &Raster, bytes: &[u8], rows: usize, page: &mut Page)
     requires fit { IsFitPage p }
     requires once { raster.now.scale ≡ RasterScale.Normal }
     requires few { rows ≤ 65535 }
     requires long { rows * raster.now.bytes ≤ length bytes.now }
-    ensures few { result ≤ rows }
-    ensures laid { (layers : List Layer) → HasPage layers page.old →
-        HasPage (Laid (first_rows (result * times_down raster.now.scale)
-        (mark_of p (rows_dot raster.now.scale raster.now.bytes rows bytes.now))) ∷ layers) page.new }
+    ensures { (layers : List Layer) → HasPage layers page.old →
+        HasPage (Laid (mark_of p (rows_dot raster.now.scale raster.now.bytes rows bytes.now))
+        ∷ layers) page.new }
 {
     let wide = usize::from(raster.bytes);
     let top = p.vertical as u32;
-    let eights = rows / 8;
-    for k in 0..eights {
-        let eight = eight_rows(bytes, wide, 8 * k);
-        page.lay_eight(p.area, p.direction, top + 8 * k as u32, &eight);
+    for k in 0..rows.div_ceil(AT_ONCE) {
+        let lines = rows_from(bytes, wide, AT_ONCE * k, rows);
+        let v = top + (AT_ONCE * k) as u32;
+        page.lay_lines(p.area, p.direction, v, &lines);
     }
-    8 * eights
 }
 
 /// Lays whole rows of a raster, as they stand in the bytes, from the vertical position on.
@@ -150,11 +141,8 @@ fn lay_rows(p: PageSettings, raster: &Raster, bytes: &[u8], rows: usize, page: &
 {
     let across = matches!(p.direction, Direction::BottomToTop | Direction::TopToBottom);
     match raster.scale {
-        RasterScale::Normal if across => {
-            let done = lay_eights(p, raster, bytes, rows, page);
-            lay_from(p, raster, bytes, done, rows, page);
-        }
-        _ => lay_from(p, raster, bytes, 0, rows, page),
+        RasterScale::Normal if across => lay_across(p, raster, bytes, rows, page),
+        _ => lay_each(p, raster, bytes, rows, page),
     }
 }
 

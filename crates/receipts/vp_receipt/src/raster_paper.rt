@@ -42,8 +42,8 @@ pub fn plain_room(raster: &Raster, output: usize) -> usize
     raster.left().min(most)
 }
 
-/// Takes bytes of such rows: whole rows are put out, and what is left is kept. Answers how many bytes were put
-/// out.
+/// Takes bytes of such rows: whole rows are put out, and what is left is kept. Answers how many bytes were
+/// put out.
 pub fn put_plain(s: &mut Settings, raster: &mut Raster, bytes: &[u8], output: &mut [u8]) -> usize
     requires fit { IsFit s.old }
     requires part { IsPartRow raster.old }

@@ -291,8 +291,8 @@ impl Receipt {
         self.raster_room()
     }
 
-    /// Takes bytes of a raster that there is room for, puts out all that they print, and answers how much: rows
-    /// that are printed as they come are copied.
+    /// Takes bytes of a raster that there is room for, puts out all that they print, and answers how much:
+    /// rows that are printed as they come are copied.
     pub fn put_rows(&mut self, bytes: &[u8], output: &mut [u8]) -> usize
         requires pending { self.old.pending ≡ [] }
         requires few { length bytes.now ≤ rows_room self.old.settings self.old.raster (length output.old) }

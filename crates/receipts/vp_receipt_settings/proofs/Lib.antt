@@ -1,3 +1,4 @@
+pub mod Widths
 pub mod Gathering
 pub mod Storing
 pub mod Runs

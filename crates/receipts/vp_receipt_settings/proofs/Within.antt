@@ -18,18 +18,14 @@ use Rattle.vp_receipt_settings.specs.declared.page_mode.Mode.{Mode}
 use Rattle.vp_receipt_settings.specs.declared.page_mode.Mode.TheVariants.{Standard, Page}
 use Rattle.vp_receipt_settings.specs.declared.settings.Settings.{Settings}
 use Rattle.vp_receipt_settings.specs.declared.width.Width.{Width}
-use Rattle.vp_receipt_settings.specs.declared.width.Width.TheVariants.{W576, W384}
 use Rattle.vp_receipt_settings.specs.Setup.{across}
+use Rattle.vp_receipt_settings.proofs.Widths.{few_dots}
 use Rattle.vp_receipt_settings.specs.Pages.{is_paged, is_area, area_cut, is_vertical_move, vertical_moved}
 use Rattle.vp_receipt_settings.specs.Rasters.{draws, scale_or, times_down}
 use Rattle.vp_receipt_settings.specs.Line.{length_in, position_at, position_moved}
 use Rattle.vp_receipt_settings.specs.Settings.{IsFit, length_of}
 use Rattle.vp_receipt_settings.specs.Effects.{effect_of, feed_of, is_full_of, runs_along}
 use Rattle.vp_receipt_settings.specs.Followed.{IsWithin}
-
-across_small : (paper : Width) → across paper ≤ PAPER_DOTS
-across_small W576 = omega arith
-across_small W384 = omega arith
 
 area_small : (a : PageArea) (d : PageDirection) → a.x + a.dx ≤ PAPER_DOTS → a.y + a.dy ≤ PAGE_ROWS → length_on_page a d ≤ LINE_DOTS
 area_small a LeftToRight h k = omega arith
@@ -38,7 +34,7 @@ area_small a RightToLeft h k = omega arith
 area_small a TopToBottom h k = omega arith
 
 length_small : (m : Mode) (a : PageArea) (d : PageDirection) (paper : Width) (margin width : ℕ) → a.x + a.dx ≤ PAPER_DOTS → a.y + a.dy ≤ PAGE_ROWS → length_in m a d paper margin width ≤ LINE_DOTS
-length_small Standard a d paper margin width h k = let s = across_small paper in omega arith
+length_small Standard a d paper margin width h k = let s = few_dots paper in omega arith
 length_small Page a d paper margin width h k = area_small a d h k
 
 position_small : (n position length : ℕ) → position ≤ LINE_DOTS → length ≤ LINE_DOTS → position_at n position length ≤ LINE_DOTS
@@ -50,7 +46,7 @@ moved_small (negsuc n) position length h k = grind (arith, nat_tests)
 
 area_within : (paper : Width) (x y wide high : ℕ) → is_area paper x y wide high ≡ true → IsWithin (Lays (Within (area_cut paper x y wide high)))
 area_within paper x y wide high e =
-    let s = across_small paper in
+    let s = few_dots paper in
     let l : x < across paper = grind (arith, nat_tests) in
     let m : y < PAGE_ROWS = grind (arith, nat_tests) in
     (omega arith, omega arith)

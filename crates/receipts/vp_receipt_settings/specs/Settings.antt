@@ -1,9 +1,10 @@
 -- All that is in force.
-use Rattle.std.specs.Prelude.{◌≤◌, ◌<◌, ℕ, ◌+◌, ◌-◌, ◌/◌, if◌then◌else◌, List, [], ◌∷◌, Option, Some, None, min}
+use Rattle.std.specs.Prelude.{◌≤◌, ◌<◌, ℕ, ◌+◌, ◌-◌, if◌then◌else◌, List, [], ◌∷◌, Option, Some, None, min}
 use Rattle.vp_esc.specs.declared.item.EscItem.{EscItem}
 use Rattle.vp_esc.specs.declared.item.EscItem.TheVariants.{Initialize, Justify}
-use Rattle.vp_esc.specs.declared.item.Justification.{Justification}
-use Rattle.vp_esc.specs.declared.item.Justification.TheVariants.{Left, Centre, Right}
+use Rattle.vp_glyph.specs.declared.block.Alignment.{Alignment}
+use Rattle.vp_glyph.specs.declared.block.Alignment.TheVariants.{Left}
+use Rattle.vp_glyph.specs.Blocks.{indent}
 use Rattle.vp_glyph.specs.declared.Sheets.{Sheets}
 use Rattle.vp_receipt_settings.specs.declared.text.Text.{Text}
 use Rattle.vp_receipt_settings.specs.declared.settings.Settings.{Settings}
@@ -11,7 +12,7 @@ use Rattle.vp_page.specs.declared.page.TheConstants.{PAPER_DOTS, PAGE_ROWS}
 use Rattle.vp_page.specs.declared.line.TheConstants.{LINE_DOTS}
 use Rattle.vp_receipt_settings.specs.declared.text.TheConstants.{LINE_ROWS, WIDEST}
 use Rattle.vp_receipt_settings.specs.declared.page_mode.PageSettings.{PageSettings}
-use Rattle.vp_receipt_settings.specs.Setup.{Setup, across}
+use Rattle.vp_receipt_settings.specs.Setup.{Setup}
 use Rattle.vp_receipt_settings.specs.Pages.{area, direction}
 use Rattle.vp_dots.specs.Images.{Image}
 use Rattle.vp_receipt_settings.specs.Images.{cell_image}
@@ -22,11 +23,11 @@ use Rattle.vp_receipt_settings.specs.Line.{area_width, height, is_open, left_mar
 use Rattle.vp_receipt_settings.specs.Extent.{used}
 
 -- ESC a: the justification, not while the line is open
-abbrev pub justification_or : Option Justification → Justification → Justification
+abbrev pub justification_or : Option Alignment → Alignment → Alignment
 justification_or (Some j) old = j
 justification_or None old = old
 
-abbrev pub justification : Setup → List EscItem → Justification
+abbrev pub justification : Setup → List EscItem → Alignment
 justification setup [] = Left
 justification setup (Justify s ∷ before) =
     if is_open (line setup before) then justification setup before
@@ -38,17 +39,11 @@ justification setup (_ ∷ before) = justification setup before
 abbrev pub paper_length : Setup → List EscItem → ℕ
 paper_length setup before = length_within setup.width (left_margin setup before) (area_width setup before)
 
--- ESC a: how far something is shifted in what is left of the line length
-abbrev pub shift : Justification → ℕ → ℕ
-shift Left spare = 0
-shift Centre spare = spare / 2
-shift Right spare = spare
-
--- where something so wide is printed, shifted like a line
+-- where something so wide is printed, shifted like a line in what is left of the line length
 abbrev pub printed_at : Setup → List EscItem → ℕ → ℕ
 printed_at setup before wide =
     let length = paper_length setup before in
-    left_margin setup before + shift (justification setup before) (length - min wide length)
+    left_margin setup before + indent (justification setup before) (length - min wide length)
 
 -- what is in force on the page
 abbrev pub page_of : Setup → List EscItem → PageSettings

@@ -7,7 +7,7 @@ ghost use Rattle.vp_receipt_settings.specs.Setup.{Setup};
 ghost use Rattle.vp_receipt_settings.specs.Pages.{is_paged};
 ghost use Rattle.vp_receipt_settings.specs.Spacing.{column_width_of, line_spacing, column_width};
 ghost use Rattle.vp_receipt_settings.specs.Line.{lines_rows, length_within, breaks, ended_rows, position_moved, position_at, margin_or, width_or, position, line_length, left_margin, area_width};
-ghost use Rattle.vp_receipt_settings.specs.Settings.{shift, printed_at, settings_of, IsFit, length_of, justification_or, justification};
+ghost use Rattle.vp_receipt_settings.specs.Settings.{printed_at, settings_of, IsFit, length_of, justification_or, justification};
 ghost use Rattle.vp_receipt_settings.specs.Tabs.{tab_stops, tabbed};
 ghost use Rattle.vp_receipt_settings.specs.Symbols.{symbol_image, image_rows};
 ghost use Rattle.vp_receipt_settings.specs.Texts.{style_of};
@@ -15,6 +15,7 @@ ghost use Rattle.vp_receipt_settings.specs.Runs.{text_room};
 ghost use Rattle.vp_receipt_settings.specs.Effects.{effect_of, feed_of};
 ghost use Rattle.vp_receipt_settings.specs.Followed.{IsWithin, closed, closed_if, without_line, without_line_if, with_piece, with_cell, with_set, line_after};
 ghost use Rattle.vp_receipt_settings.specs.declared.text.TheConstants.{LINE_ROWS, WIDEST};
+ghost use Rattle.vp_glyph.specs.Blocks.{indent};
 ghost use Rattle.vp_glyph.specs.Cells.{cell_width};
 
 use crate::bar_style::BarStyle;
@@ -24,7 +25,8 @@ use crate::page_mode::{Mode, PageSettings};
 use crate::qr_style::QrStyle;
 use crate::text::{LINE_ROWS, Text, WIDEST};
 use crate::width::Width;
-use vp_esc::item::{ColumnMode, EscItem, Justification};
+use vp_esc::item::{ColumnMode, EscItem};
+use vp_glyph::Alignment;
 
 /// The line spacing at the start, in dots.
 pub const DEFAULT_LINE_SPACING: u8 = 34;
@@ -42,7 +44,7 @@ pub struct Settings {
     pub column_width: u8,
     pub left_margin: u16,
     pub area_width: u16,
-    pub justification: Justification,
+    pub justification: Alignment,
     pub position: u16,
     pub is_open: bool,
     pub height: u16,
@@ -102,13 +104,13 @@ pub(crate) fn placed(n: u16, position: u16, length: u16) -> u16
 }
 
 /// How far something is shifted in what is left of the line.
-fn shift(justification: Justification, spare: u16) -> u16
-    ensures { result ≡ shift justification spare }
+fn shift(justification: Alignment, spare: u16) -> u16
+    ensures { result ≡ indent justification spare }
 {
     match justification {
-        Justification::Left => 0,
-        Justification::Centre => spare / 2,
-        Justification::Right => spare,
+        Alignment::Left => 0,
+        Alignment::Centre => spare / 2,
+        Alignment::Right => spare,
     }
 }
 
@@ -128,7 +130,7 @@ impl Settings {
             column_width: 1,
             left_margin: 0,
             area_width: paper.across(),
-            justification: Justification::Left,
+            justification: Alignment::Left,
             position: 0,
             is_open: false,
             height: 0,
@@ -378,7 +380,7 @@ impl Settings {
     }
 
     /// The settings with a justification, if the line isn't open.
-    fn justified(self, justification: Option<Justification>) -> Settings
+    fn justified(self, justification: Option<Alignment>) -> Settings
         ensures { result ≡ record self {
           justification =
               (if self.is_open then self.justification

@@ -1,7 +1,5 @@
 pub mod Bitmaps
 pub mod Rows
-pub mod Places
-pub mod Cut
 pub mod Jobs
 pub mod Strips
 pub mod LineTexts

@@ -1,6 +1,8 @@
 -- The line's strip out of its bitmap.
 use Rattle.std.proofs.Common.{inl, inr, ◌≡◌, ℕ, ◌+◌, ◌-◌, ◌<◌, ◌≤◌, Bool, true, false, nat_lt, nat_le, leb, ◌&&◌, ◌||◌, refl, sym, ap, ◌∙◌, arith, List, [], ◌∷◌, get_or, Some}
 use Rattle.std.proofs.lemmas.Bool.{cases_lt, le-leb, lt-leb, le-ltb}
+use Rattle.vp_page.specs.declared.page.TheConstants.{PAPER_DOTS}
+use Rattle.vp_page.specs.declared.line.TheConstants.{LINE_DOTS}
 use Rattle.vp_dots.specs.Dots.{dot}
 use Rattle.vp_esc.specs.declared.item.EscItem.{EscItem}
 use Rattle.vp_strips.specs.declared.canvas.Canvas.{Canvas}
@@ -40,11 +42,11 @@ open_line (p ∷ rest) h = refl
 -- the lowest rows of the bitmap of a line are that line
 module _ (setup : Setup) (before : List EscItem) (bitmap : List (List ℕ)) (high left length : ℕ) (high_is : high ≡ height (line setup before)) (long_is : length ≡ paper_length setup before)
     (left_is : left ≡ printed_at setup before (right_edge (line setup before))) (small : high ≤ 192) (has : is_open (line setup before) ≡ true → HasDots (line setup before) bitmap) where
-  read : (x y : ℕ) → x < 1664 → y < high → dot (get_or bitmap (192 - high + y) []) x ≡ any_dot (line setup before) (height (line setup before)) x y
+  read : (x y : ℕ) → x < LINE_DOTS → y < high → dot (get_or bitmap (192 - high + y) []) x ≡ any_dot (line setup before) (height (line setup before)) x y
   read x y l h = (has (open_line (line setup before) (omega arith))).dots_are x (192 - high + y) l (omega arith)
       ∙ ap (λ k. any_dot (line setup before) 192 x (192 - k + y)) high_is ∙ sym (raised (line setup before) (height (line setup before)) x y (omega arith) (omega arith) (omega arith))
 
-  pub same_dot : (x y : ℕ) → x < 576 → line_dot_of high left length bitmap x y ≡ printed_dot setup before x y
+  pub same_dot : (x y : ℕ) → x < PAPER_DOTS → line_dot_of high left length bitmap x y ≡ printed_dot setup before x y
   same_dot x y l = elim (cases_lt y high) [
     | inl h ↦ ap (λ b. nat_lt y high && (nat_le left x && nat_lt (x - left) length && b)) (read (x - left) y (omega arith) h) ∙ rw (high_is, long_is, left_is) refl
     | inr h ↦ rw (le-ltb y high h, le-ltb y (height (line setup before)) (omega arith)) refl

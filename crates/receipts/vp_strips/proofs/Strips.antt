@@ -1,12 +1,13 @@
 -- A strip is an image across the paper.
-use Rattle.std.proofs.Common.{◌≡◌, ℕ, zero, suc, ◌+◌, ◌-◌, ◌<◌, Bool, nat_lt, ◌&&◌, refl, sym, ap, ◌∙◌, arith, ◌++◌, flat_map}
+use Rattle.std.proofs.Common.{◌≡◌, ℕ, zero, suc, ◌+◌, ◌-◌, ◌/◌, ◌<◌, Bool, nat_lt, ◌&&◌, refl, sym, ap, ◌∙◌, arith, ◌++◌, flat_map}
 use Rattle.std.specs.List.{range_with_len}
 use Rattle.std.proofs.lemmas.Bool.{ne_eqb, lt-ltb}
+use Rattle.vp_page.specs.declared.page.TheConstants.{PAPER_DOTS}
 use Rattle.vp_dots.specs.Headers.{header_of}
-use Rattle.vp_dots.specs.Images.{image_row}
+use Rattle.vp_dots.specs.Images.{image_row, row_of}
 use Rattle.vp_receipt_settings.specs.declared.width.Width.{Width}
-use Rattle.vp_receipt_settings.specs.declared.width.Width.TheVariants.{W576, W384}
-use Rattle.vp_receipt_settings.specs.Setup.{across}
+use Rattle.vp_receipt_settings.specs.Setup.{across, row_bytes}
+use Rattle.vp_receipt_settings.proofs.Widths.{dots_across}
 use Rattle.vp_strips.specs.declared.canvas.Canvas.{Canvas}
 use Rattle.vp_strips.specs.declared.strip.Strip.{Strip}
 use Rattle.vp_strips.specs.Rows.{rows_text, paper_row, strip_text}
@@ -14,15 +15,17 @@ use Rattle.vp_strips.specs.Jobs.{strip_dot, head_text}
 use Rattle.vp_strips.specs.Held.{whole}
 use Rattle.vp_strips.proofs.Rows.{paper_row_same, row_of_same}
 
-pub rows_same : (paper : Width) (f g : ℕ → ℕ → Bool) (y n : ℕ) → ((x y : ℕ) → x < 576 → f x y ≡ g x y) → rows_text paper f y n ≡ rows_text paper g y n
+pub rows_same : (paper : Width) (f g : ℕ → ℕ → Bool) (y n : ℕ) → ((x y : ℕ) → x < PAPER_DOTS → f x y ≡ g x y) → rows_text paper f y n ≡ rows_text paper g y n
 rows_same paper f g y zero h = refl
 rows_same paper f g y (suc n) h = ap (λ r. r ++ rows_text paper f (y + 1) n) (paper_row_same paper (λ x. f x y) (λ x. g x y) (λ x l. h x y l)) ∙ ap (λ r. paper_row paper (λ x. g x y) ++ r) (rows_same paper f g (y + 1) n h)
 
 -- a row across the paper is one of an image as wide
 row_is : (paper : Width) (rows y : ℕ) (f : ℕ → ℕ → Bool) → paper_row paper (λ x. f x y) ≡ image_row (record { width = across paper; height = rows; is_black = f }) y
 unfolding paper_row
-row_is W576 rows y f = row_of_same 72 (λ x. f x y) (λ x. nat_lt x 576 && f x y) (λ d h. sym (rw (lt-ltb d 576 (omega arith)) refl))
-row_is W384 rows y f = row_of_same 48 (λ x. f x y) (λ x. nat_lt x 384 && f x y) (λ d h. sym (rw (lt-ltb d 384 (omega arith)) refl))
+row_is paper rows y f =
+    let wide : row_bytes paper ≡ (across paper + 7) / 8 = omega (arith, dots_across paper) in
+    row_of_same (row_bytes paper) (λ x. f x y) (λ x. nat_lt x (across paper) && f x y) (λ d h. sym (rw (lt-ltb d (across paper) (omega (arith, dots_across paper))) refl))
+    ∙ ap (λ n. row_of n (λ x. nat_lt x (across paper) && f x y)) wide
 
 rows_are : (paper : Width) (rows : ℕ) (f : ℕ → ℕ → Bool) (y n : ℕ) → rows_text paper f y n ≡ flat_map (image_row (record { width = across paper; height = rows; is_black = f })) (range_with_len y n)
 rows_are paper rows f y zero = refl
@@ -34,7 +37,7 @@ rows_are paper rows f y (suc n) =
 pub text_of_rows : (paper : Width) (rows : ℕ) (f : ℕ → ℕ → Bool) → (rows ≡ 0 → ⊥) → header_of (across paper) rows ++ rows_text paper f 0 rows ≡ strip_text paper rows f
 text_of_rows paper rows f some = ap (λ r. header_of (across paper) rows ++ r) (rows_are paper rows f 0 rows) ∙ sym (rw (ne_eqb rows 0 some) refl)
 
-pub whole_is : (s : Strip) (canvas : Canvas) (f : ℕ → ℕ → Bool) → s.tall ≡ s.rows → (s.rows ≡ 0 → ⊥) → ((x y : ℕ) → x < 576 → strip_dot s canvas x y ≡ f x y) → whole s canvas ≡ strip_text s.paper s.rows f
+pub whole_is : (s : Strip) (canvas : Canvas) (f : ℕ → ℕ → Bool) → s.tall ≡ s.rows → (s.rows ≡ 0 → ⊥) → ((x y : ℕ) → x < PAPER_DOTS → strip_dot s canvas x y ≡ f x y) → whole s canvas ≡ strip_text s.paper s.rows f
 whole_is s canvas f tall some same =
     ap (λ n. head_text s ++ rows_text s.paper (strip_dot s canvas) 0 n) (let z : s.rows - 0 ≡ s.rows = omega arith in z)
     ∙ ap (λ h. header_of (across s.paper) h ++ rows_text s.paper (strip_dot s canvas) 0 s.rows) tall

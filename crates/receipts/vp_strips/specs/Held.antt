@@ -9,8 +9,9 @@ use Rattle.vp_strips.specs.declared.job.After.TheVariants.{End, One, Two}
 use Rattle.vp_strips.specs.declared.strip.Strip.{Strip}
 use Rattle.vp_strips.specs.declared.strip.Dots.{Dots}
 use Rattle.vp_strips.specs.declared.strip.Dots.TheVariants.{Line, White, Across, Raster, Drawn, Page}
-use Rattle.vp_strips.specs.declared.place.Place.{Place}
-use Rattle.vp_strips.specs.declared.place.Place.TheVariants.{Nothing, Head, Row}
+use Rattle.vp_output.specs.declared.place.Line.{Line as LineOf}
+use Rattle.vp_output.specs.declared.place.Line.TheVariants.{Head, Row}
+use Rattle.vp_output.specs.declared.place.Place.{Place}
 use Rattle.vp_receipt_settings.specs.Setup.{row_bytes}
 use Rattle.vp_strips.specs.Jobs.{row_text, text, head_text, IsPlace}
 
@@ -20,7 +21,7 @@ part_of j canvas = text j.strip canvas j.place
 
 -- a whole strip
 abbrev pub whole : Strip → Canvas → List ℕ
-whole s canvas = text s canvas (Head 0)
+whole s canvas = text s canvas (Some (record { line = Head; byte = 0 }))
 
 abbrev pub whole_if : Option Strip → Canvas → List ℕ
 whole_if None canvas = []
@@ -83,33 +84,38 @@ AreOwn (One s) = IsOwn s
 AreOwn (Two s t) = IsOwn s × IsOwn t
 
 -- the next strip begins where one ends
-abbrev pub IsTurned : Place → After → Type 0
-IsTurned Nothing after = after ≡ End
-IsTurned (Head byte) after = Unit {0}
-IsTurned (Row y byte) after = Unit {0}
+abbrev pub IsTurned : Option Place → After → Type 0
+IsTurned None after = after ≡ End
+IsTurned (Some p) after = Unit {0}
 
 -- the bytes of row y are there
 abbrev pub HasRow : Strip → Canvas → Lines → ℕ → Type 0
 HasRow s canvas lines y = take (row_bytes s.paper) lines.row ≡ row_text s canvas y
 
--- the bytes of the place's line are there
-abbrev pub HasLine : Strip → Canvas → Lines → Place → Type 0
-HasLine s canvas lines Nothing = Unit {0}
-HasLine s canvas lines (Head byte) = lines.head.items ≡ head_text s
-HasLine s canvas lines (Row y byte) = HasRow s canvas lines y
+-- the bytes of a line are there
+abbrev pub HasLine : Strip → Canvas → Lines → LineOf → Type 0
+HasLine s canvas lines Head = lines.head.items ≡ head_text s
+HasLine s canvas lines (Row y) = HasRow s canvas lines y
 
 -- they are there once the first of them is put out, and before that those of the row above
-abbrev pub IsBegun : Strip → Canvas → Lines → Place → Type 0
-IsBegun s canvas lines Nothing = Unit {0}
-IsBegun s canvas lines (Head byte) = 0 < byte → lines.head.items ≡ head_text s
-IsBegun s canvas lines (Row y byte) =
+abbrev pub IsLineBegun : Strip → Canvas → Lines → LineOf → ℕ → Type 0
+IsLineBegun s canvas lines Head byte = 0 < byte → lines.head.items ≡ head_text s
+IsLineBegun s canvas lines (Row y) byte =
     (0 < byte → HasRow s canvas lines y) × (byte ≡ 0 → 0 < y → HasRow s canvas lines (y - 1))
 
+abbrev pub IsBegun : Strip → Canvas → Lines → Option Place → Type 0
+IsBegun s canvas lines None = Unit {0}
+IsBegun s canvas lines (Some p) = IsLineBegun s canvas lines p.line p.byte
+
+-- how many bytes a line has
+abbrev pub line_bytes : Strip → LineOf → ℕ
+line_bytes s Head = length (head_text s)
+line_bytes s (Row y) = row_bytes s.paper
+
 -- a byte is left in the place's line
-abbrev pub SomeLeft : Strip → Place → Type 0
-SomeLeft s Nothing = Unit {0}
-SomeLeft s (Head byte) = byte < length (head_text s)
-SomeLeft s (Row y byte) = byte < row_bytes s.paper
+abbrev pub SomeLeft : Strip → Option Place → Type 0
+SomeLeft s None = Unit {0}
+SomeLeft s (Some p) = p.byte < line_bytes s p.line
 
 -- what is put out, with the bytes of the line that is begun
 pub record IsJob (j : Job) (canvas : Canvas) (lines : Lines) : Type 0 where
@@ -125,12 +131,11 @@ pub record Showing : Type 0 where
   pub others : ℕ
 
 -- the line of whose strip bytes are left
-abbrev pub shown_at : ℕ → Place → ℕ → Option Showing
-shown_at height Nothing others = None
-shown_at height (Head byte) others = Some (record { height = height; others = others })
-shown_at height (Row y byte) others = Some (record { height = height; others = others })
+abbrev pub shown_at : ℕ → Option Place → ℕ → Option Showing
+shown_at height None others = None
+shown_at height (Some p) others = Some (record { height = height; others = others })
 
-abbrev pub shown_in : Dots → Place → ℕ → Option Showing
+abbrev pub shown_in : Dots → Option Place → ℕ → Option Showing
 shown_in (Line height left length) place others = shown_at height place others
 shown_in White place others = None
 shown_in (Across cut) place others = None

@@ -1,5 +1,5 @@
 -- What is left to put out from a place in a strip.
-use Rattle.std.specs.Prelude.{◌<◌, ℕ, ◌+◌, ◌-◌, nat_lt, Bool, ◌&&◌, false, List, [], ◌++◌, drop, slice_index_or}
+use Rattle.std.specs.Prelude.{ℕ, ◌+◌, ◌-◌, nat_lt, Bool, ◌&&◌, false, List, [], Option, Some, None, slice_index_or}
 use Rattle.vp_page.specs.declared.page.TheConstants.{PAPER_DOTS, PAGE_ROWS}
 use Rattle.vp_receipt_settings.specs.declared.text.TheConstants.{LINE_ROWS}
 use Rattle.vp_dots.specs.Dots.{dot}
@@ -8,11 +8,12 @@ use Rattle.vp_strips.specs.declared.canvas.Canvas.{Canvas}
 use Rattle.vp_strips.specs.declared.strip.Strip.{Strip}
 use Rattle.vp_strips.specs.declared.strip.Dots.{Dots}
 use Rattle.vp_strips.specs.declared.strip.Dots.TheVariants.{Line, White, Across, Raster, Drawn, Page}
-use Rattle.vp_strips.specs.declared.place.Place.{Place}
-use Rattle.vp_strips.specs.declared.place.Place.TheVariants.{Nothing, Head, Row}
+use Rattle.vp_output.specs.declared.place.Place.{Place}
+use Rattle.vp_output.specs.Lines.{Lined, IsLineOf}
+use Rattle.vp_output.specs.Places.{pending_if}
 use Rattle.vp_strips.specs.SymbolInks.{symbol_dot}
 use Rattle.vp_receipt_settings.specs.Setup.{across}
-use Rattle.vp_strips.specs.Rows.{paper_row, rows_text, clipped, cut_dot}
+use Rattle.vp_strips.specs.Rows.{paper_row, clipped, cut_dot}
 
 -- dot (x, y) of the lowest rows of a bitmap, moved to the right and clipped
 abbrev pub line_dot_of : ℕ → ℕ → ℕ → List (List ℕ) → ℕ → ℕ → Bool
@@ -40,38 +41,19 @@ strip_dot s canvas x y = dot_in s.dots canvas x y
 abbrev pub row_text : Strip → Canvas → ℕ → List ℕ
 row_text s canvas y = paper_row s.paper (λ x. strip_dot s canvas x y)
 
--- the rows of the strip from row y on
-abbrev pub rows_from : Strip → Canvas → ℕ → List ℕ
-rows_from s canvas y = rows_text s.paper (strip_dot s canvas) y (s.rows - y)
-
 -- the header of the image that it begins
 abbrev pub head_text : Strip → List ℕ
 head_text s = header_of (across s.paper) s.tall
 
--- the bytes of the place's line: of the header, or of a row
-abbrev pub line_at : Strip → Canvas → Place → List ℕ
-line_at s canvas Nothing = []
-line_at s canvas (Head byte) = head_text s
-line_at s canvas (Row y byte) = row_text s canvas y
+-- the strip by lines: the header, and its rows
+abbrev pub lines_of : Strip → Canvas → Lined
+lines_of s canvas = record { head = head_text s; rows = s.rows; row = row_text s canvas }
 
--- how many of them are put out
-abbrev pub byte_at : Place → ℕ
-byte_at Nothing = 0
-byte_at (Head byte) = byte
-byte_at (Row y byte) = byte
-
--- the rows after the place's line
-abbrev pub rows_after : Strip → Canvas → Place → List ℕ
-rows_after s canvas Nothing = []
-rows_after s canvas (Head byte) = rows_from s canvas 0
-rows_after s canvas (Row y byte) = rows_from s canvas (y + 1)
-
--- what is still to be put out
-abbrev pub text : Strip → Canvas → Place → List ℕ
-text s canvas place = drop (byte_at place) (line_at s canvas place) ++ rows_after s canvas place
+-- what is still to be put out of the strip, from the place on
+abbrev pub text : Strip → Canvas → Option Place → List ℕ
+text s canvas place = pending_if (lines_of s canvas) place
 
 -- a row is one of so many
-abbrev pub IsPlace : ℕ → Place → Type 0
-IsPlace rows Nothing = Unit {0}
-IsPlace rows (Head byte) = Unit {0}
-IsPlace rows (Row y byte) = y < rows
+abbrev pub IsPlace : ℕ → Option Place → Type 0
+IsPlace rows None = Unit {0}
+IsPlace rows (Some p) = IsLineOf rows p.line

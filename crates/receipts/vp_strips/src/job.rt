@@ -10,8 +10,8 @@ ghost use Rattle.std.specs.Option.{option_map};
 
 use crate::canvas::Canvas;
 use crate::lines::Lines;
-use crate::place::Place;
 use crate::strip::{Dots, Strip};
+use vp_output::{Line, Place, put_part};
 use vp_receipt_settings::Width;
 
 /// The strips that come after one.
@@ -26,20 +26,9 @@ pub enum After {
 #[derive(Clone, Copy)]
 pub struct Job {
     pub strip: Strip,
-    pub place: Place,
+    /// None, and nothing of the strip is left.
+    pub place: Option<Place>,
     pub after: After,
-}
-
-/// Copies what there is room for of the line from a byte on, and answers how much.
-fn copy_from(line: &[u8], byte: usize, out: &mut [u8]) -> usize
-    requires { byte ≤ length line.now }
-    ensures count { result ≡ min (length line.now - byte) (length out.old) }
-    ensures bytes { out.new ≡ take result (drop byte line.now) ++ drop result out.old }
-{
-    let rest = &line[byte..];
-    let n = rest.len().min(out.len());
-    out[..n].copy_from_slice(&rest[..n]);
-    n
 }
 
 impl Job {
@@ -52,7 +41,7 @@ impl Job {
     {
         Job {
             strip: Strip::white(Width::W576, 0),
-            place: Place::Nothing,
+            place: None,
             after: After::End,
         }
     }
@@ -71,7 +60,7 @@ impl Job {
         let Some(strip) = first else {
             let mut job = Job {
                 strip: Strip::white(Width::W576, 0),
-                place: Place::Nothing,
+                place: None,
                 after,
             };
             job.turn();
@@ -79,7 +68,7 @@ impl Job {
         };
         Job {
             strip,
-            place: Place::Head(0),
+            place: Some(Place::start()),
             after,
         }
     }
@@ -113,13 +102,16 @@ impl Job {
     {
         Job {
             strip,
-            place: Place::Row(0, 0),
+            place: Some(Place {
+                line: Line::Row(0),
+                byte: 0,
+            }),
             after: After::End,
         }
     }
 
     /// Puts out bytes of one line.
-    fn put_part(&mut self, canvas: &Canvas, lines: &mut Lines, out: &mut [u8]) -> usize
+    fn put_line(&mut self, canvas: &Canvas, lines: &mut Lines, out: &mut [u8]) -> usize
         requires job { IsJob self.old canvas.now lines.old }
         requires pending { 0 < length (part_of self.old canvas.now) }
         requires room { 0 < length out.old }
@@ -132,11 +124,14 @@ impl Job {
         ensures bytes { out.new ≡ take result (part_of self.old canvas.now) ++ drop result out.old }
         ensures rest { part_of self.new canvas.now ≡ drop result (part_of self.old canvas.now) }
     {
-        lines.make(self.strip, self.place, canvas);
-        let line = lines.at(self.place, self.strip.paper);
-        let n = copy_from(line, self.place.byte(), out);
-        self.place = self.place.advanced(n, line.len(), self.strip.rows);
-        n
+        let Some(place) = self.place else {
+            return 0;
+        };
+        lines.make(self.strip, place, canvas);
+        let line = lines.at(place.line, self.strip.paper);
+        let output = put_part(place, line, self.strip.rows, out);
+        self.place = output.next;
+        output.count
     }
 
     /// Begins the next strip where one ended.
@@ -148,14 +143,14 @@ impl Job {
         ensures shows { (canvas : Canvas) (high others : ℕ) → AreOwn self.old.after →
             IsShowing self.old canvas high others → IsShowing self.new canvas high others }
     {
-        if let Place::Nothing = self.place {
+        if self.place.is_none() {
             let (strip, after) = match self.after {
                 After::End => return,
                 After::One(strip) => (strip, After::End),
                 After::Two(strip, last) => (strip, After::One(last)),
             };
             self.strip = strip;
-            self.place = Place::Head(0);
+            self.place = Some(Place::start());
             self.after = after;
         }
     }
@@ -178,7 +173,7 @@ impl Job {
         ensures shows { (high others : ℕ) → IsShowing self.old canvas.now high others →
             IsShowing self.new canvas.now high others }
     {
-        let n = self.put_part(canvas, lines, out);
+        let n = self.put_line(canvas, lines, out);
         self.turn();
         n
     }
@@ -189,7 +184,7 @@ impl Job {
             result ≡ option_map (λ shown. shown.height) (showing_of self.now canvas) }
     {
         match (self.place, self.strip.dots) {
-            (Place::Nothing, _) => None,
+            (None, _) => None,
             (_, Dots::Line { height, .. }) => Some(height),
             _ => None,
         }
@@ -201,11 +196,7 @@ impl Job {
             IsTurned self.now.place self.now.after →
             IsTrue result ↔ (0 < length (text_of self.now canvas)) }
     {
-        match self.place {
-            Place::Nothing => false,
-            Place::Head(_) => true,
-            Place::Row(_, _) => true,
-        }
+        self.place.is_some()
     }
 
     /// Puts out the next bytes, as many as there are and room is for, and answers how many.

@@ -1,8 +1,8 @@
 //! What a receipt printer puts out: strips of rows across the paper, byte by byte.
 //!
 //! `paint` knows the bitmap of a line, `barcode`, `qr` and `symbol` a symbol, `raster_row` a row of a raster,
-//! and `canvas` all that strips are painted from. `strip` knows the rows of one, `place` how far it is put
-//! out, `lines` the bytes of the line at the place, and `job` what is still to come.
+//! and `canvas` all that strips are painted from. `strip` knows the rows of one, `lines` the bytes of the
+//! line that is put out, and `job` what is still to come.
 #![tactic(auto)]
 
 mod barcode;
@@ -10,7 +10,6 @@ mod canvas;
 mod job;
 mod lines;
 mod paint;
-mod place;
 mod qr;
 mod raster_row;
 mod strip;

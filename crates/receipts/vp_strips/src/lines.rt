@@ -2,14 +2,15 @@
 ghost use Rattle.std.specs.Prelude.{◌≡◌};
 ghost use Rattle.vp_strips.specs.declared.canvas.Canvas.{Canvas};
 ghost use Rattle.vp_strips.specs.declared.strip.Strip.{Strip};
-ghost use Rattle.vp_strips.specs.Jobs.{line_at};
-ghost use Rattle.vp_strips.specs.Held.{HasLine, IsBegun, IsLow};
+ghost use Rattle.vp_output.specs.Lines.{line_text};
+ghost use Rattle.vp_strips.specs.Jobs.{lines_of};
+ghost use Rattle.vp_strips.specs.Held.{HasLine, IsLineBegun, IsLow};
 
 use crate::canvas::Canvas;
-use crate::place::Place;
 use crate::strip::Strip;
 use arrayvec::ArrayVec;
 use vp_dots::header;
+use vp_output::{Line, Place};
 use vp_page::PAPER_BYTES;
 use vp_receipt_settings::Width;
 
@@ -33,27 +34,29 @@ impl Lines {
     /// row above it.
     pub fn make(&mut self, strip: Strip, place: Place, canvas: &Canvas)
         requires low { IsLow strip }
-        requires begun { IsBegun strip canvas.now self.old place }
-        ensures { HasLine strip canvas.now self.new place }
+        requires begun { IsLineBegun strip canvas.now self.old place.line place.byte }
+        ensures { HasLine strip canvas.now self.new place.line }
     {
-        match place {
-            Place::Head(0) => self.head = header(u32::from(strip.paper.across()), strip.tall),
-            Place::Row(y, 0) if y == 0 || !strip.repeats(y, canvas) => {
+        if place.byte > 0 {
+            return;
+        }
+        match place.line {
+            Line::Head => self.head = header(u32::from(strip.paper.across()), strip.tall),
+            Line::Row(y) if y == 0 || !strip.repeats(y, canvas) => {
                 strip.write_row(y, canvas, &mut self.row)
             }
-            _ => {}
+            Line::Row(_) => {}
         }
     }
 
-    /// The bytes of the place's line.
-    pub fn at(&self, place: Place, paper: Width) -> &[u8]
-        ensures { (s : Strip) (canvas : Canvas) → s.paper ≡ paper → HasLine s canvas self.now place →
-            result.now ≡ line_at s canvas place }
+    /// The bytes of the line.
+    pub fn at(&self, line: Line, paper: Width) -> &[u8]
+        ensures { (s : Strip) (canvas : Canvas) → s.paper ≡ paper → HasLine s canvas self.now line →
+            result.now ≡ line_text (lines_of s canvas) line }
     {
-        match place {
-            Place::Nothing => &[],
-            Place::Head(_) => self.head.as_slice(),
-            Place::Row(_, _) => &self.row[..paper.row_bytes()],
+        match line {
+            Line::Head => self.head.as_slice(),
+            Line::Row(_) => &self.row[..paper.row_bytes()],
         }
     }
 }

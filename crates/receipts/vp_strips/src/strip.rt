@@ -88,7 +88,8 @@ fn write_page_row(y: u32, page: &Page, row: &mut [u8; PAPER_BYTES])
     ensures { row.new ≡ row_of PAPER_BYTES (λ x. page_dot_of page.now x y) }
 {
     if (y as usize) < PAGE_ROWS {
-        write_clipped(page.row(y as usize), 0, PAPER_DOTS, row);
+        row.copy_from_slice(page.row(y as usize));
+        dots_decide(row);
         return;
     }
     *row = [0; PAPER_BYTES];

@@ -1,5 +1,5 @@
 use Rattle.std.proofs.Common.{refl}
-use Rattle.vp_receipt.proofs.PageEights.{blackened}
+use Rattle.vp_receipt.proofs.RasterLines.{blackened}
 use Rattle.vp_page.specs.declared.line.TheConstants.{LINE_BYTES}
 use Rattle.vp_receipt.proofs.raster_page.lengthened.Goals as goal
 

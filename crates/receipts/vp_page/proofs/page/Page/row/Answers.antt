@@ -13,6 +13,7 @@ returns c =
     (λ d h. ap (λ row. dot row d) (c.row-row.ensures.value ∙ ap (λ (p : List (List ℕ)). get_or p c.args.y []) c.self.view_is) ∙ page.dots_are d c.args.y (omega arith) c.requires)
     in record {
       value = c.row-row.ensures.value ∙ ap (λ (p : List (List ℕ)). get_or p c.args.y []) c.self.view_is;
+      len = c.row-row.ensures.len;
       bytes = whole;
       left = λ layers n page h. ap (take n) (whole layers page) ∙ take-row_of n 72 (λ x. page_dot layers x c.args.y) h;
     }
