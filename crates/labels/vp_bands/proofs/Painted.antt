@@ -1,16 +1,14 @@
 -- The fields that meet a band, one after the other, and those that don't.
-use Rattle.std.proofs.Common.{◌≡◌, ℕ, zero, suc, ◌+◌, ◌-◌, ◌*◌, ◌<◌, ◌≤◌, Bool, true, false, ◌&&◌, cond, nat_lt, List, [], ◌∷◌, ◌++◌, length, map, take, subst, refl, ap, sym, ◌∙◌, arith, inl, inr, Option, None, Some, filter, ℤ, pos, ◌+ℤ◌, ◌≤ℤ◌, ◌<ℤ◌, int_le, int_lt}
+use Rattle.std.proofs.Common.{◌≡◌, ℕ, zero, suc, ◌+◌, ◌-◌, ◌*◌, ◌<◌, ◌≤◌, Bool, true, false, ◌&&◌, cond, nat_lt, List, [], ◌∷◌, ◌++◌, length, map, take, subst, refl, ap, sym, ◌∙◌, arith, inl, inr, None, Some, filter, ℤ, pos, ◌+ℤ◌, ◌≤ℤ◌, ◌<ℤ◌, int_le, int_lt}
 use Rattle.std.specs.List.{list_any, range_with_len, sum_by}
 use Rattle.std.proofs.lemmas.Int.{ints}
 use Rattle.std.proofs.lemmas.Bool.{cases_Bool, both_ways, lt-ltb, ltb-true}
-use Rattle.std.proofs.lemmas.Bool.Decides.{nat_tests}
 use Rattle.std.proofs.lemmas.List.{map-id, map-append, take_all, take_more, append-nil, length-append, length-take}
 use Rattle.std.proofs.lemmas.List.Elements.{filter_more}
 use Rattle.std.proofs.lemmas.List.FromFn.{sum_by-map-range_with_len_more}
 use Rattle.std.proofs.lemmas.List.Sums.{length-filter, count_by-le-length}
 use Rattle.vp_dots.specs.Painting.{paint}
 use Rattle.vp_glyph.specs.declared.Sheets.{Sheets}
-use Rattle.vp_format.specs.declared.rows.RunMark.{RunMark}
 use Rattle.vp_format.specs.declared.field.Field.{Field}
 use Rattle.vp_field.specs.declared.view.View.{View}
 use Rattle.vp_field.specs.Views.{seen_x, seen_y}
@@ -19,9 +17,9 @@ use Rattle.vp_field.specs.Strokes.{Stroke, viewed, label_dot, image_dot}
 use Rattle.vp_field.proofs.Folds.{label_dot-push, moved_dot}
 use Rattle.vp_field.proofs.Boxed.{in_the_box}
 use Rattle.vp_fields_by_band.specs.declared.table.Entry.{Entry}
-use Rattle.vp_fields_by_band.specs.Threads.{no_entry, entry_at, meets, meets_at, is_carried, carried_at, IsNext, IsThreaded}
+use Rattle.vp_fields_by_band.specs.Threads.{no_entry, entry_at, meets, meets_at, IsNext}
 use Rattle.vp_bands.specs.Meeting.{shows_row, box_meets, box_rows, field_meets, meeting, pairs}
-use Rattle.vp_bands.specs.Standing.{Threaded, fields_of, met, IsSpanned, AreMarked, IsThreadedFor, IsBefore}
+use Rattle.vp_bands.specs.Standing.{fields_of, met, IsSpanned}
 use Rattle.vp_bands.proofs.Spans.{row_any}
 
 -- what no step changes is the same at the end
@@ -162,42 +160,3 @@ few_pairs sheets stored view fields zero few = omega (arith, no_pairs sheets sto
 few_pairs sheets stored view fields (suc n) few =
     let more : pairs sheets stored view fields (suc n) ≡ pairs sheets stored view fields n + meeting sheets stored view fields n = ap (pairs sheets stored view fields) (let e : suc n ≡ n + 1 = omega arith in e) ∙ pairs_more sheets stored view fields n in
     omega (arith, more, few_pairs sheets stored view fields n few, count_by-le-length (field_meets sheets stored view n) fields)
-
--- nothing is carried to the first band
-first_band : (e : Entry) → is_carried 0 e ≡ false
-first_band e = grind (arith, nat_tests)
-
-pub none_carried : (entries : List Entry) (links : List (Option ℕ)) → IsThreaded entries links 0 None
-none_carried entries links = record {
-  head = λ k ge lt. first_band (entry_at entries k);
-  rest = λ k lt now. absurd (both_ways (carried_at entries 0 k) (first_band (entry_at entries k)) now);
-}
-
--- nothing of a copy is painted yet
-pub begun : (sheets : Sheets) (stored : List ℕ) (view : View) (t : Threaded) → IsThreadedFor sheets stored view t.entries t.heads → t.carried ≡ None → t.looks ≡ 0 → IsBefore sheets stored view 0 t
-begun sheets stored view t label none unread = record {
-  label = label;
-  carried = rw none (none_carried t.entries t.links);
-  marks = λ k ge lt now. absurd (both_ways (carried_at t.entries 0 k) (first_band (entry_at t.entries k)) now);
-  at_least = omega (arith, no_pairs sheets stored view (fields_of t.entries));
-  at_most = omega arith;
-}
-
--- another copy of the label
-pub started : (sheets : Sheets) (stored : List ℕ) (view : View) (b : ℕ) (t : Threaded) → IsBefore sheets stored view b t → IsBefore sheets stored view 0 (record t { carried = None; looks = 0 })
-started sheets stored view b t before = begun sheets stored view (record t { carried = None; looks = 0 }) before.label refl refl
-
--- one more band of it is painted
-pub painted_on : (sheets : Sheets) (stored : List ℕ) (view : View) (b : ℕ) (t : Threaded) (links : List (Option ℕ)) (marks : List (Option RunMark)) (carried : Option ℕ) (looks : ℕ) → IsBefore sheets stored view b t
-    → IsThreaded t.entries links (b + 1) carried → AreMarked stored t.entries marks (b + 1) 0 (length t.entries) → t.looks + length (met b t.entries) ≤ looks → looks ≤ t.looks + 1 + 2 * length (met b t.entries)
-    → IsBefore sheets stored view (b + 1) (record t { links = links; marks = marks; carried = carried; looks = looks })
-painted_on sheets stored view b t links marks carried looks before threaded marked least most =
-    let more = pairs_more sheets stored view (fields_of t.entries) b in
-    let count = met_count sheets stored view b t.entries before.label.spanned in
-    record {
-      label = before.label;
-      carried = threaded;
-      marks = marked;
-      at_least = rw more (omega (arith, before.at_least, least, count));
-      at_most = rw more (omega (arith, before.at_most, most, count));
-    }

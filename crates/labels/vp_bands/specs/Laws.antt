@@ -1,9 +1,9 @@
--- Which bands are met, and how many looks a copy takes.
+-- Which bands are met, and what a copy takes.
 use Rattle.std.specs.Prelude.{◌≡◌, ◌↔◌, ◌<◌, ◌≤◌, ℕ, ◌+◌, ◌*◌, ◌/◌, ℤ, pos, ◌+ℤ◌, ◌≤ℤ◌, ◌<ℤ◌, true, false, List}
 use Rattle.vp_glyph.specs.declared.Sheets.{Sheets}
 use Rattle.vp_field.specs.declared.view.View.{View}
 use Rattle.vp_field.specs.Views.{seen_y}
-use Rattle.vp_bands.specs.Meeting.{box_meets, pairs, bands_of}
+use Rattle.vp_bands.specs.Meeting.{box_meets, pairs, copy_work, bands_of}
 use Rattle.vp_bands.specs.Standing.{Threaded, fields_of, IsBefore}
 
 -- a box meets band b exactly where a row of the band lies on the label and shows one of the box's; it meets
@@ -23,3 +23,9 @@ pub record LooksBounded : Type 0 where
   pub at_least : (sheets : Sheets) (stored : List ℕ) (view : View) (t : Threaded)
       → IsBefore sheets stored view (bands_of view) t
       → pairs sheets stored view (fields_of t.entries) (bands_of view) ≤ t.looks
+
+-- at each band of a copy painting took at most the work of the pairs of a field and a band that it meets
+pub record WorkBounded : Type 0 where
+  pub at_most : (sheets : Sheets) (stored : List ℕ) (view : View) (b : ℕ) (t : Threaded)
+      → IsBefore sheets stored view b t → b ≤ bands_of view
+      → t.work ≤ copy_work sheets stored view (fields_of t.entries) (bands_of view)

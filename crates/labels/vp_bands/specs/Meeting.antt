@@ -1,9 +1,9 @@
 -- Which bands of a label a field meets, and how many do.
-use Rattle.std.specs.Prelude.{ℕ, ◌+◌, ◌*◌, ◌/◌, ℤ, pos, ◌+ℤ◌, int_le, int_lt, nat_lt, Bool, ◌&&◌, List, count_by, sum_by}
+use Rattle.std.specs.Prelude.{ℕ, ◌+◌, ◌*◌, ◌/◌, ℤ, pos, ◌+ℤ◌, int_le, int_lt, nat_lt, Bool, ◌&&◌, List, count_by, filter, sum_by}
 use Rattle.std.specs.List.{list_any, range_with_len}
 use Rattle.vp_glyph.specs.declared.Sheets.{Sheets}
 use Rattle.vp_format.specs.declared.field.Field.{Field}
-use Rattle.vp_field.specs.Contents.{content_width, content_height, orientation_of}
+use Rattle.vp_field.specs.Contents.{content_width, content_height, orientation_of, most_work}
 use Rattle.vp_field.specs.Turning.{turned_height}
 use Rattle.vp_field.specs.declared.view.View.{View}
 use Rattle.vp_field.specs.Views.{seen_y}
@@ -41,6 +41,15 @@ meeting sheets stored view fields b = count_by (field_meets sheets stored view b
 -- how many pairs of a field and one of the first n bands there are where the field meets the band
 unfoldable pub pairs : Sheets → List ℕ → View → List Field → ℕ → ℕ
 pairs sheets stored view fields n = sum_by (meeting sheets stored view fields) (range_with_len 0 n)
+
+-- what painting the fields that meet band b takes at most
+abbrev pub band_work : Sheets → List ℕ → View → List Field → ℕ → ℕ
+band_work sheets stored view fields b =
+    sum_by (λ f. most_work f.content) (filter (field_meets sheets stored view b) fields)
+
+-- and in the first n bands: the sum over the pairs of a field and one of these bands that the field meets
+unfoldable pub copy_work : Sheets → List ℕ → View → List Field → ℕ → ℕ
+copy_work sheets stored view fields n = sum_by (band_work sheets stored view fields) (range_with_len 0 n)
 
 -- how many bands a label has
 abbrev pub bands_of : View → ℕ

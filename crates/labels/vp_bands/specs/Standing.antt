@@ -1,26 +1,28 @@
 -- What is kept of the fields of a label while it is put out.
-use Rattle.std.specs.Prelude.{◌≡◌, ℕ, ◌+◌, ◌*◌, ◌<◌, ◌≤◌, true, List, map, filter, length, Option, None, slice_index_or}
+use Rattle.std.specs.Prelude.{◌≡◌, ℕ, ◌+◌, ◌*◌, ◌^◌, ◌<◌, ◌≤◌, true, List, map, filter, length, Option, slice_index_or}
 use Rattle.std.specs.List.{All}
 use Rattle.vp_glyph.specs.declared.Sheets.{Sheets}
 use Rattle.vp_format.specs.declared.field.Field.{Field}
-use Rattle.vp_format.specs.declared.rows.RunMark.{RunMark}
 use Rattle.vp_fields_by_band.specs.declared.table.Entry.{Entry}
 use Rattle.vp_fields_by_band.specs.Threads.{entry_at, link_at, meets, begins_at, carried_at, IsNext, IsTable, IsThreaded}
+use Rattle.vp_field.specs.declared.marks.Marks.{Marks}
 use Rattle.vp_field.specs.declared.view.View.{View}
-use Rattle.vp_field.specs.Fields.{IsKept, IsMarkOf}
-use Rattle.vp_bands.specs.Meeting.{field_meets, pairs}
+use Rattle.vp_field.specs.Contents.{most_work}
+use Rattle.vp_field.specs.Fields.{no_marks, IsKept, AreMarksOf}
+use Rattle.vp_bands.specs.Meeting.{field_meets, pairs, copy_work}
 use Rattle.vp_bands.specs.declared.painter.BandPainter.TheInside.{Inside}
 
 -- the entries of the fields, in the order of closing; the first that begins in each band; of each entry that
 -- is carried over the next such one; the marks of the pictures; the first entry that is carried to the next
--- band; how often an entry or a link was read since the copy's start
+-- band; how often an entry or a link was read since the copy's start, and what painting took
 pub record Threaded : Type 0 where
   pub entries : List Entry
   pub heads : List (Option ℕ)
   pub links : List (Option ℕ)
-  pub marks : List (Option RunMark)
+  pub marks : List Marks
   pub carried : Option ℕ
   pub looks : ℕ
+  pub work : ℕ
 
 abbrev pub threaded_by : Inside → Threaded
 threaded_by p =
@@ -31,6 +33,7 @@ threaded_by p =
       marks = p.marks.items;
       carried = p.threads.carried;
       looks = p.threads.looks;
+      work = p.work;
     }
 
 -- there is room for 1,024 fields and 250 bands
@@ -39,6 +42,9 @@ pub record HasRoom (p : Inside) : Type 0 where
   pub heads : length p.threads.heads ≡ 250
   pub links : length p.threads.links ≡ 1024
   pub marks : length p.marks.items ≡ 1024
+
+abbrev pub entry_work : Entry → ℕ
+entry_work e = most_work e.field.content
 
 abbrev pub fields_of : List Entry → List Field
 fields_of entries = map (λ e. e.field) entries
@@ -51,14 +57,14 @@ met b entries = filter (meets b) entries
 abbrev pub IsSpanned : Sheets → List ℕ → View → Entry → Type 0
 IsSpanned sheets stored view e = (b : ℕ) → meets b e ≡ field_meets sheets stored view b e.field
 
-abbrev pub mark_at : List (Option RunMark) → ℕ → Option RunMark
-mark_at marks k = slice_index_or marks k None
+abbrev pub marks_at : List Marks → ℕ → Marks
+marks_at marks k = slice_index_or marks k no_marks
 
--- the entries from one to another that are carried to band b have marks of their pictures, or none
-abbrev pub AreMarked : List ℕ → List Entry → List (Option RunMark) → ℕ → ℕ → ℕ → Type 0
+-- the marks of the entries from one to another that are carried to band b are of their pictures
+abbrev pub AreMarked : List ℕ → List Entry → List Marks → ℕ → ℕ → ℕ → Type 0
 AreMarked stored entries marks b from to =
     (k : ℕ) → from ≤ k → k < to → carried_at entries b k ≡ true
-    → IsMarkOf stored (entry_at entries k).field.content (mark_at marks k)
+    → AreMarksOf stored (entry_at entries k).field.content (marks_at marks k)
 
 -- the fields of the label are threaded by the bands that they meet, each band's from its head
 pub record IsThreadedFor (sheets : Sheets) (stored : List ℕ) (view : View) (entries : List Entry)
@@ -69,10 +75,13 @@ pub record IsThreadedFor (sheets : Sheets) (stored : List ℕ) (view : View) (en
   pub begins : (b : ℕ) → IsNext (begins_at entries b) 0 (length entries) (link_at heads b)
 
 -- band b of a copy is the next one: the entries that reach on from the bands before are threaded, and each
--- of these bands took at most one look, and each pair of one and a field that meets it one or two
+-- of these bands took at most one look, and each pair of one and a field that meets it one or two, and at
+-- most the work of its field
 pub record IsBefore (sheets : Sheets) (stored : List ℕ) (view : View) (b : ℕ) (t : Threaded) : Type 0 where
   pub label : IsThreadedFor sheets stored view t.entries t.heads
   pub carried : IsThreaded t.entries t.links b t.carried
   pub marks : AreMarked stored t.entries t.marks b 0 (length t.entries)
   pub at_least : pairs sheets stored view (fields_of t.entries) b ≤ t.looks
   pub at_most : t.looks ≤ b + 2 * pairs sheets stored view (fields_of t.entries) b
+  pub work : t.work ≤ copy_work sheets stored view (fields_of t.entries) b
+  pub countable : t.work ≤ 2 ^ 30 * b

@@ -6,7 +6,7 @@ ghost use Rattle.vp_glyph.specs.declared.Sheets.{Sheets as Given};
 ghost use Rattle.vp_field.specs.Fields.{stroke_of, IsKept};
 ghost use Rattle.vp_field.specs.Strokes.{image_dot};
 ghost use Rattle.vp_field.specs.declared.view.View.{View as Seen};
-ghost use Rattle.vp_bands.specs.Meeting.{meeting};
+ghost use Rattle.vp_bands.specs.Meeting.{meeting, band_work};
 ghost use Rattle.vp_bands.specs.Standing.{fields_of, IsBefore};
 
 use crate::meeting::BANDS;
@@ -14,18 +14,19 @@ use crate::table::thread_fields;
 use crate::walk::paint_band;
 use std::alloc::{AllocError, Global};
 use std::marker::Model;
-use vp_dots::Band;
-use vp_field::View;
+use vp_field::{Marks, View};
 use vp_fields_by_band::Threads;
-use vp_format::{FIELDS, Format, RunMark};
+use vp_format::{FIELDS, Format};
 use vp_glyph::Sheets;
+use vp_label_size::LabelBand;
 
 /// Paints the bands of a label of at most 1,248 by 8,000 dots and 1,024 fields, one after the other, in each
 /// of its copies.
 #[derive(Drop)]
 pub struct BandPainter {
     threads: Threads,
-    marks: Vec<Option<RunMark>>,
+    marks: Vec<Marks>,
+    work: u64,
 }
 
 impl Model for BandPainter {
@@ -43,10 +44,12 @@ impl BandPainter {
     pub fn new(alloc: Global) -> Result<Self, AllocError>
         ensures none { IfOk result (λ painter. painter.entries ≡ []) }
         ensures looks { IfOk result (λ painter. painter.looks ≡ 0) }
+        ensures work { IfOk result (λ painter. painter.work ≡ 0) }
     {
         Ok(BandPainter {
             threads: Threads::new(alloc, BANDS)?,
-            marks: vec![in alloc; None; FIELDS]?,
+            marks: vec![in alloc; Marks::none(); FIELDS]?,
+            work: 0,
         })
     }
 
@@ -57,9 +60,11 @@ impl BandPainter {
         ensures fields { fields_of self.new.entries ≡ format.now.fields }
         ensures before { IsBefore sheets.now format.now.stored view 0 self.new }
         ensures looks { self.new.looks ≡ 0 }
+        ensures work { self.new.work ≡ 0 }
     {
         thread_fields(&mut self.threads, sheets, format, view);
         self.threads.start();
+        self.work = 0;
     }
 
     /// Goes back before the first band, for another copy of the same label.
@@ -68,8 +73,10 @@ impl BandPainter {
         ensures before { (sheets : Given) (stored : List ℕ) (view : Seen) (b : ℕ)
             → IsBefore sheets stored view b self.old → IsBefore sheets stored view 0 self.new }
         ensures looks { self.new.looks ≡ 0 }
+        ensures work { self.new.work ≡ 0 }
     {
         self.threads.start();
+        self.work = 0;
     }
 
     /// Paints band b, whose first row is row 32 b of the label as it is put out: each band of a copy once, in
@@ -80,7 +87,7 @@ impl BandPainter {
         sheets: &Sheets,
         stored: &[u8],
         view: View,
-        band: &mut Band<156, 32>,
+        band: &mut LabelBand,
     )
         requires before { IsBefore sheets.now stored.now view b self.old }
         requires narrow { view.width ≤ 1248 }
@@ -94,8 +101,10 @@ impl BandPainter {
             + meeting sheets.now stored.now view (fields_of self.old.entries) b ≤ self.new.looks }
         ensures at_most { self.new.looks ≤ self.old.looks + 1
             + 2 * meeting sheets.now stored.now view (fields_of self.old.entries) b }
+        ensures work { self.new.work ≤ self.old.work
+            + band_work sheets.now stored.now view (fields_of self.old.entries) b }
     {
-        paint_band(
+        self.work += paint_band(
             &mut self.threads,
             &mut self.marks,
             b,
@@ -111,5 +120,13 @@ impl BandPainter {
         ensures { result ≡ self.now.looks }
     {
         self.threads.looks()
+    }
+
+    /// What painting took since the copy's start: how many bytes of pictures' codes were read, and how many
+    /// of their rows passed or painted.
+    pub fn work(&self) -> u64
+        ensures { result ≡ self.now.work }
+    {
+        self.work
     }
 }

@@ -1,38 +1,65 @@
 //! One band of a label, painted from the fields that meet it.
-ghost use Rattle.std.specs.Prelude.{◌≡◌, ℕ, ◌+◌, ◌*◌, ◌^◌, ◌<◌, ◌≤◌, List, [], length, map, slice_index_or};
+ghost use Rattle.std.specs.Prelude.{◌≡◌, ℕ, ◌+◌, ◌*◌, ◌^◌, ◌<◌, ◌≤◌, List, [], ◌∷◌, ◌++◌, length, map, slice_index_or, sum_by};
 ghost use Rattle.vp_dots.specs.Dots.{dot};
-ghost use Rattle.vp_field.specs.Fields.{stroke_of, IsMarkOf};
-ghost use Rattle.vp_field.specs.Strokes.{image_dot};
+ghost use Rattle.vp_field.specs.Fields.{stroke_of, IsKept, AreMarksOf};
+ghost use Rattle.vp_field.specs.Bands.{Shows};
+ghost use Rattle.vp_field.specs.Strokes.{Stroke, image_dot};
 ghost use Rattle.vp_fields_by_band.specs.Held.{Stays};
 ghost use Rattle.vp_fields_by_band.specs.Threads.{IsThreaded};
-ghost use Rattle.vp_bands.specs.Standing.{fields_of, met, AreMarked, IsThreadedFor};
+ghost use Rattle.vp_bands.specs.Standing.{entry_work, fields_of, met, AreMarked, IsThreadedFor};
 
 use crate::meeting::BANDS;
-use vp_dots::Band;
-use vp_field::{View, clear, cut, paint_field};
+use vp_field::{Marks, View, clear, cut, paint_field};
 use vp_fields_by_band::{Entry, Threads, Walk, next_of};
-use vp_format::{FIELDS, RunMark};
+use vp_format::FIELDS;
 use vp_glyph::Sheets;
+use vp_label_size::LabelBand;
 
-/// The mark that an earlier band left for the field of an entry.
-fn mark_for(entry: &Entry, b: usize, mark: Option<RunMark>) -> Option<RunMark>
-    ensures { (stored : List ℕ) → (entry.now.first < b → IsMarkOf stored entry.now.field.content mark)
-        → IsMarkOf stored entry.now.field.content result }
+/// Drops the marks of another copy or label: those before the first band of a field.
+fn drop_others(entry: &Entry, b: usize, marks: &mut Marks)
+    ensures { (stored : List ℕ) →
+        (entry.now.first < b → AreMarksOf stored entry.now.field.content marks.old)
+        → AreMarksOf stored entry.now.field.content marks.new }
 {
-    if entry.first < b { mark } else { None }
+    if entry.first >= b {
+        *marks = Marks::none();
+    }
 }
 
-/// Paints band b of a label from the fields that meet it, and threads those
-/// that the next band is to carry on.
-pub fn paint_band(
-    threads: &mut Threads,
-    marks: &mut [Option<RunMark>],
+/// Paints a field on band b, whose first row is row `first` of the label, and says what that took.
+fn paint_entry(
+    entry: &Entry,
+    marks: &mut Marks,
     b: usize,
     sheets: &Sheets,
     stored: &[u8],
     view: View,
-    band: &mut Band<156, 32>,
-)
+    first: u32,
+    band: &mut LabelBand,
+) -> u64
+    requires kept { IsKept stored.now entry.now.field }
+    requires marked { entry.now.first < b → AreMarksOf stored.now entry.now.field.content marks.old }
+    ensures shows { (strokes : List Stroke) → Shows view first strokes band.old
+        → Shows view first (strokes ++ stroke_of sheets.now stored.now entry.now.field ∷ []) band.new }
+    ensures marked { AreMarksOf stored.now entry.now.field.content marks.new }
+    ensures work { result ≤ entry_work entry.now }
+    ensures countable { result ≤ 2 ^ 20 }
+{
+    drop_others(entry, b, marks);
+    paint_field(sheets, stored, &entry.field, marks, view, first, band)
+}
+
+/// Paints band b of a label from the fields that meet it, and threads those
+/// that the next band is to carry on. What painting took comes back.
+pub fn paint_band(
+    threads: &mut Threads,
+    marks: &mut [Marks],
+    b: usize,
+    sheets: &Sheets,
+    stored: &[u8],
+    view: View,
+    band: &mut LabelBand,
+) -> u64
     requires heads { b < length threads.old.heads }
     requires links { length threads.old.entries ≤ length threads.old.links }
     requires marks { length threads.old.entries ≤ length marks.old }
@@ -53,16 +80,19 @@ pub fn paint_band(
         (length threads.old.entries) }
     ensures at_least { threads.old.looks + length (met b threads.old.entries) ≤ threads.new.looks }
     ensures at_most { threads.new.looks ≤ threads.old.looks + 1 + 2 * length (met b threads.old.entries) }
+    ensures work { result ≤ sum_by entry_work (met b threads.old.entries) }
+    ensures countable { result ≤ 2 ^ 30 }
 {
     clear(band);
     let first = 32 * b as u32;
+    let mut work = 0;
     let mut walk = Walk::start(b, threads);
     while let Some(n) = next_of(walk.carried, walk.begins) {
         let entry = threads.entry(n);
-        let mark = mark_for(&entry, b, marks[n]);
-        marks[n] = paint_field(sheets, stored, &entry.field, mark, view, first, band);
+        work += paint_entry(&entry, &mut marks[n], b, sheets, stored, view, first, band);
         walk = walk.after(n, b, entry, threads);
     }
     cut(view, first, band);
     walk.close(threads);
+    work
 }

@@ -6,7 +6,7 @@ ghost use Rattle.vp_field.specs.Contents.{picture_of, LiesIn, IsStored};
 
 use vp_dots::Fault;
 use vp_field::bytes_of;
-use vp_format::{Content, Picture, RunRows, STORED, Span};
+use vp_format::{Content, Picture, STORED, Span, check};
 use vp_label_settings::PictureHead;
 
 fn headed(head: PictureHead, codes: Span) -> Picture
@@ -20,7 +20,7 @@ fn headed(head: PictureHead, codes: Span) -> Picture
     }
 }
 
-/// Reads the rows of a picture: `Graphic` where a symbol that starts in one of them is refused.
+/// Whether the rows of a picture can be read: `Graphic` where a symbol that starts in one of them is refused.
 fn read(stored: &[u8], picture: Picture) -> Result<(), Fault>
     requires some { 0 < picture.row_bytes }
     requires short { picture.row_bytes ≤ 1024 }
@@ -30,7 +30,7 @@ fn read(stored: &[u8], picture: Picture) -> Result<(), Fault>
 {
     let codes = bytes_of(stored, picture.codes);
     let row_bytes = usize::from(picture.row_bytes);
-    RunRows::new(codes, picture.coding, row_bytes, picture.rows).skip(picture.rows)
+    check(codes, picture.coding, row_bytes, picture.rows)
 }
 
 /// A picture, unless its codes are refused.

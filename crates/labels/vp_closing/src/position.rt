@@ -30,9 +30,9 @@ pub fn left_of(home: Home, origin: Origin, orientation: Orientation, w: u32, h: 
     ensures high { result ≤ℤ pos (2 ^ 32) }
 {
     match (origin, orientation) {
-        (Origin::Baseline { x, .. }, Orientation::Inverted) => before(home.x, x, w),
-        (Origin::Baseline { x, .. }, Orientation::BottomUp) => before(home.x, x, h),
-        (Origin::Corner { x, .. } | Origin::Baseline { x, .. }, _) => from_home(home.x, x),
+        (Origin::LowerLeft { x, .. }, Orientation::Inverted) => before(home.x, x, w),
+        (Origin::LowerLeft { x, .. }, Orientation::BottomUp) => before(home.x, x, h),
+        (Origin::UpperLeft { x, .. } | Origin::LowerLeft { x, .. }, _) => from_home(home.x, x),
     }
 }
 
@@ -43,8 +43,8 @@ pub fn top_of(home: Home, origin: Origin, orientation: Orientation, w: u32, h: u
     ensures high { result ≤ℤ pos (2 ^ 32) }
 {
     match (origin, orientation) {
-        (Origin::Baseline { y, .. }, Orientation::Normal) => before(home.y, y, h),
-        (Origin::Baseline { y, .. }, Orientation::BottomUp) => before(home.y, y, w),
-        (Origin::Corner { y, .. } | Origin::Baseline { y, .. }, _) => from_home(home.y, y),
+        (Origin::LowerLeft { y, .. }, Orientation::Normal) => before(home.y, y, h),
+        (Origin::LowerLeft { y, .. }, Orientation::BottomUp) => before(home.y, y, w),
+        (Origin::UpperLeft { y, .. } | Origin::LowerLeft { y, .. }, _) => from_home(home.y, y),
     }
 }

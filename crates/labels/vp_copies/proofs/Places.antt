@@ -1,90 +1,72 @@
 -- What is pending at a place.
-use Rattle.std.proofs.Common.{◌≡◌, ℕ, zero, suc, ◌+◌, ◌-◌, ◌*◌, ◌<◌, ◌≤◌, inl, inr, ap, sym, ◌∙◌, arith, [], ◌++◌, length, take, drop, append_assoc, length-append, length-drop}
-use Rattle.std.proofs.Math.Nat.{suc-mul}
-use Rattle.std.proofs.lemmas.Bool.{cases_lt, lt-ltb, le-ltb}
-use Rattle.std.proofs.lemmas.List.{drop_at, drop-drop, drop-append-le, take-append-le}
-use Rattle.vp_dots.specs.Headers.{header_of}
-use Rattle.vp_dots.specs.Images.{Image, row_bytes, pbm}
-use Rattle.vp_copies.specs.declared.place.Line.{Line}
-use Rattle.vp_copies.specs.declared.place.Line.TheVariants.{Head, Row}
-use Rattle.vp_copies.specs.declared.place.Place.{Place}
-use Rattle.vp_copies.specs.Copies.{advanced, behind_line, bytes_above, line_text, line_bytes, copies_text, pending, row_after}
-use Rattle.vp_copies.specs.Progress.{IsLineOf}
-use Rattle.vp_copies.proofs.Texts.{rows_behind, text_from, length-line, length-pbm}
-
-abbrev pub at : ℕ → Line → ℕ → Place
-at copies l byte = record { copies = copies; line = l; byte = byte }
+use Rattle.std.proofs.Common.{◌≡◌, ℕ, zero, suc, ◌+◌, ◌-◌, ◌<◌, ◌≤◌, Option, Some, None, ap, sym, ◌∙◌, arith, [], ◌++◌, length, take, drop, append_assoc, length-append, length-drop, refl}
+use Rattle.std.proofs.lemmas.List.{drop-drop, drop-append-le, take-append-le}
+use Rattle.vp_dots.specs.Images.{Image, pbm}
+use Rattle.vp_output.specs.declared.place.Place.{Place as InImage}
+use Rattle.vp_output.specs.Lines.{line_text, IsLineOf}
+use Rattle.vp_output.specs.Places.{advanced as advanced_in, pending as pending_in, pending_if}
+use Rattle.vp_output.proofs.Parts.{each_place, pending_long}
+use Rattle.vp_copies.specs.Copies.{at, behind, bytes_above, line_bytes, lines_of, copies_text, pending}
+use Rattle.vp_copies.proofs.Texts.{rows_behind, text_from, length-line}
 
 module _ (i : Image) (some : 0 < i.height) where
-  -- what comes next is the rest of the line
-  pub pending_is : (copies : ℕ) (l : Line) (byte : ℕ) → 0 < copies → IsLineOf i.height l → byte < line_bytes i.width i.height l →
-      pending i (at copies l byte) ≡ drop byte (line_text i l) ++ (rows_behind i l ++ copies_text i (copies - 1))
-  pending_is zero l byte c b n = absurd (omega arith)
-  pending_is (suc q) l byte c b n =
-      let above = bytes_above i.width i.height l in
+  -- a byte of the line is left
+  pub record IsPlaceIn (p : InImage) : Type 0 where
+    pub line : IsLineOf i.height p.line
+    pub byte : p.byte < line_bytes i.width i.height p.line
+
+  -- what comes next is the rest of the image, and then the other copies
+  pub pending_is : (copies : ℕ) (p : InImage) → 0 < copies → IsPlaceIn p → pending i (at copies p) ≡ pending_in (lines_of i) p ++ copies_text i (copies - 1)
+  pending_is zero p c b = absurd (omega arith)
+  pending_is (suc q) p c b =
+      let above = bytes_above i.width i.height p.line in
       let rest = copies_text i q in
+      let line = line_text (lines_of i) p.line in
       let one : q ≡ suc q - 1 = omega arith in
-      let here = text_from i l some b in
+      let here = text_from i p.line some b.line in
       let short : above ≤ length (pbm i) =
-      omega (arith, ap length here, length-drop above (pbm i), length-append (line_text i l) (rows_behind i l), length-line i l) in
-      sym (drop-drop byte above (pbm i ++ rest))
-      ∙ ap (drop byte) (drop-append-le above (pbm i) rest short ∙ ap (λ t. t ++ rest) here ∙ append_assoc (line_text i l) (rows_behind i l) rest)
-      ∙ drop-append-le byte (line_text i l) (rows_behind i l ++ rest) (omega (arith, length-line i l))
-      ∙ ap (λ k. drop byte (line_text i l) ++ (rows_behind i l ++ copies_text i k)) one
+      omega (arith, b.byte, ap length here, length-drop above (pbm i), length-append line (rows_behind i p.line), length-line i p.line) in
+      sym (drop-drop p.byte above (pbm i ++ rest))
+      ∙ ap (drop p.byte) (drop-append-le above (pbm i) rest short ∙ ap (λ t. t ++ rest) here ∙ append_assoc line (rows_behind i p.line) rest)
+      ∙ drop-append-le p.byte line (rows_behind i p.line ++ rest) (omega (arith, b.byte, length-line i p.line))
+      ∙ sym (append_assoc (drop p.byte line) (rows_behind i p.line) rest)
+      ∙ ap (λ k. pending_in (lines_of i) p ++ copies_text i k) one
 
-  -- no more than the rest of the line goes out
-  pub pending_long : (copies : ℕ) (l : Line) (byte n : ℕ) → 0 < copies → IsLineOf i.height l → byte < line_bytes i.width i.height l → n ≤ line_bytes i.width i.height l - byte →
-      n ≤ length (pending i (at copies l byte))
-  pending_long copies l byte n c b h m =
-      omega (arith, ap length (pending_is copies l byte c b h), length-append (drop byte (line_text i l)) (rows_behind i l ++ copies_text i (copies - 1)), length-drop byte (line_text i l), length-line i l)
+  -- the place behind bytes of a copy is one of its bytes too, unless it is none
+  abbrev pub IsNext : Option InImage → Type 0
+  IsNext None = Unit {0}
+  IsNext (Some p) = IsPlaceIn p
 
-  pub pending_front : (copies : ℕ) (l : Line) (byte n : ℕ) → 0 < copies → IsLineOf i.height l → byte < line_bytes i.width i.height l → n ≤ line_bytes i.width i.height l - byte →
-      take n (drop byte (line_text i l)) ≡ take n (pending i (at copies l byte))
-  pending_front copies l byte n c b h m =
-      sym (ap (take n) (pending_is copies l byte c b h)
-      ∙ take-append-le n (drop byte (line_text i l)) (rows_behind i l ++ copies_text i (copies - 1)) (omega (arith, length-drop byte (line_text i l), length-line i l)))
+  pub next_is : 0 < i.width → (n : ℕ) (p : InImage) → IsPlaceIn p → IsNext (advanced_in i.height (line_bytes i.width i.height p.line) n p)
+  next_is wide n p b =
+      each_place IsNext i.height (line_bytes i.width i.height p.line) n p
+      (λ less. record { line = b.line; byte = less })
+      (λ end more. record { line = more; byte = omega arith })
+      (λ end last. tt)
 
-  above_next : (l : Line) → bytes_above i.width i.height l + line_bytes i.width i.height l ≡ length (header_of i.width i.height) + row_after l * row_bytes i.width
-  above_next Head = omega arith
-  above_next (Row y) = omega (arith, suc-mul y (row_bytes i.width))
-
-  none_behind : (l : Line) → IsLineOf i.height l → i.height ≤ row_after l → row_after l ≡ i.height
-  none_behind Head b h = omega arith
-  none_behind (Row y) b h = omega arith
-
-  -- at a line's end
-  pending_behind : (copies : ℕ) (l : Line) (byte n : ℕ) → 0 < copies → IsLineOf i.height l → byte + n ≡ line_bytes i.width i.height l →
-      pending i (behind_line i.height (at copies l byte)) ≡ drop n (pending i (at copies l byte))
-  pending_behind zero l byte n c b e = absurd (omega arith)
-  pending_behind (suc q) l byte n c b e =
-      let w = i.width in
-      let above = bytes_above w i.height l in
-      let text = pbm i ++ copies_text i q in
-      let one : suc q - 1 ≡ q = omega arith in
-      elim (cases_lt (row_after l) i.height) [
-        | inl more ↦
-            let on : bytes_above w i.height (Row (row_after l)) + 0 ≡ above + byte + n = omega (arith, above_next l) in
-            rw (lt-ltb (row_after l) i.height more) (ap (λ k. drop k text) on ∙ sym (drop-drop n (above + byte) text))
-        | inr last ↦
-            let all : above + byte + n ≡ length (pbm i) = omega (arith, above_next l, length-pbm i some, ap (λ y. y * row_bytes w) (none_behind l b last)) in
-            rw (le-ltb (row_after l) i.height last) (ap (copies_text i) one ∙ sym (drop-drop n (above + byte) text ∙ drop_at (pbm i) (copies_text i q) (above + byte + n) (sym all)))
-      ]
-
-  -- so many bytes further on
-  pub pending_on : (copies : ℕ) (l : Line) (byte n : ℕ) → 0 < copies → IsLineOf i.height l → byte + n ≤ line_bytes i.width i.height l →
-      pending i (advanced i.width i.height n (at copies l byte)) ≡ drop n (pending i (at copies l byte))
-  pending_on copies l byte n c b m = elim (cases_lt (byte + n) (line_bytes i.width i.height l)) [
-    | inl less ↦
-        let above = bytes_above i.width i.height l in
-        let on : above + (byte + n) ≡ above + byte + n = omega arith in
-        rw (lt-ltb (byte + n) (line_bytes i.width i.height l) less) (ap (λ k. drop k (copies_text i copies)) on ∙ sym (drop-drop n (above + byte) (copies_text i copies)))
-    | inr end ↦ rw (le-ltb (byte + n) (line_bytes i.width i.height l) end) (pending_behind copies l byte n c b (omega arith))
-  ]
+  pub pending_behind : (copies : ℕ) (q : Option InImage) → 0 < copies → IsNext q → pending i (behind copies q) ≡ pending_if (lines_of i) q ++ copies_text i (copies - 1)
+  pending_behind copies None c b = refl
+  pending_behind copies (Some p) c b = pending_is copies p c b
 
   -- bytes are pending while copies are
-  pub some_pending : (copies : ℕ) (l : Line) (byte : ℕ) → 0 < copies → IsLineOf i.height l → byte < line_bytes i.width i.height l → 0 < length (pending i (at copies l byte))
-  some_pending copies l byte c b h = pending_long copies l byte 1 c b h (omega arith)
+  pub some_pending : (copies : ℕ) (p : InImage) → 0 < copies → IsPlaceIn p → 0 < length (pending i (at copies p))
+  some_pending copies p c b =
+      let one : 1 ≤ length (pending_in (lines_of i) p) = pending_long (lines_of i) p 1 (omega (arith, b.byte, length-line i p.line)) in
+      omega (arith, one, ap length (pending_is copies p c b), length-append (pending_in (lines_of i) p) (copies_text i (copies - 1)))
 
-  pub none_pending : (copies : ℕ) (l : Line) (byte : ℕ) → 0 < length (pending i (at copies l byte)) → 0 < copies
-  none_pending zero l byte h = absurd (omega (arith, length-drop {A = ℕ} (bytes_above i.width i.height l + byte) []))
-  none_pending (suc q) l byte h = omega arith
+  pub none_pending : (copies : ℕ) (p : InImage) → 0 < length (pending i (at copies p)) → 0 < copies
+  none_pending zero p h = absurd (omega (arith, length-drop {A = ℕ} (bytes_above i.width i.height p.line + p.byte) []))
+  none_pending (suc q) p h = omega arith
+
+  -- bytes of one copy are the next ones, and what is left is left of the copies
+  pub pending_longer : (copies : ℕ) (p : InImage) (n : ℕ) → 0 < copies → IsPlaceIn p → n ≤ length (pending_in (lines_of i) p) → n ≤ length (pending i (at copies p))
+  pending_longer copies p n c b h = omega (arith, h, ap length (pending_is copies p c b), length-append (pending_in (lines_of i) p) (copies_text i (copies - 1)))
+
+  pub pending_front : (copies : ℕ) (p : InImage) (n : ℕ) → 0 < copies → IsPlaceIn p → n ≤ length (pending_in (lines_of i) p) → take n (pending_in (lines_of i) p) ≡ take n (pending i (at copies p))
+  pending_front copies p n c b h = sym (ap (take n) (pending_is copies p c b) ∙ take-append-le n (pending_in (lines_of i) p) (copies_text i (copies - 1)) h)
+
+  pub pending_on : (copies : ℕ) (p : InImage) (q : Option InImage) (n : ℕ) → 0 < copies → IsPlaceIn p → IsNext q → n ≤ length (pending_in (lines_of i) p) → pending_if (lines_of i) q ≡ drop n (pending_in (lines_of i) p) →
+      pending i (behind copies q) ≡ drop n (pending i (at copies p))
+  pending_on copies p q n c b d h e =
+      pending_behind copies q c d ∙ ap (λ t. t ++ copies_text i (copies - 1)) e
+      ∙ sym (drop-append-le n (pending_in (lines_of i) p) (copies_text i (copies - 1)) h) ∙ ap (drop n) (sym (pending_is copies p c b))

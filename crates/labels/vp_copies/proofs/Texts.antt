@@ -7,11 +7,10 @@ use Rattle.vp_dots.specs.Dots.{bit, dot}
 use Rattle.vp_dots.specs.Headers.{header_of}
 use Rattle.vp_dots.specs.Images.{Image, row_bytes, image_row, image_rows, pbm}
 use Rattle.vp_dots.proofs.ImageRows.{length-row_from}
-use Rattle.vp_dots.proofs.ImageLaws.{length-image_rows}
-use Rattle.vp_copies.specs.declared.place.Line.{Line}
-use Rattle.vp_copies.specs.declared.place.Line.TheVariants.{Head, Row}
-use Rattle.vp_copies.specs.Copies.{bytes_above, copies_text, line_text, line_bytes}
-use Rattle.vp_copies.specs.Progress.{IsLineOf}
+use Rattle.vp_output.specs.declared.place.Line.{Line}
+use Rattle.vp_output.specs.declared.place.Line.TheVariants.{Head, Row}
+use Rattle.vp_output.specs.Lines.{line_text, row_after, rows_from, IsLineOf}
+use Rattle.vp_copies.specs.Copies.{bytes_above, copies_text, line_bytes, lines_of}
 
 -- pieces of one length from one of them on
 module _ (piece : ℕ → List ℕ) (n : ℕ) (even : (k : ℕ) → length (piece k) ≡ n) where
@@ -33,24 +32,22 @@ module _ (piece : ℕ → List ℕ) (n : ℕ) (even : (k : ℕ) → length (piec
       ∙ ap (λ b. flat_map piece (range_with_len b (h - k))) on ∙ ap (λ m. flat_map piece (range_with_len (a + suc k) m)) left
 
 module _ (i : Image) where
-  pub length-line : (l : Line) → length (line_text i l) ≡ line_bytes i.width i.height l
+  pub length-line : (l : Line) → length (line_text (lines_of i) l) ≡ line_bytes i.width i.height l
   length-line Head = refl
   length-line (Row y) = length-row_from (row_bytes i.width) (λ x. ltb x i.width && i.is_black x y) 0
 
   -- the rows behind a line
   abbrev pub rows_behind : Line → List ℕ
-  rows_behind Head = image_rows i
-  rows_behind (Row y) = flat_map (image_row i) (range_with_len (y + 1) (i.height - (y + 1)))
+  rows_behind l = rows_from (lines_of i) (row_after l)
 
   pbm_is : 0 < i.height → pbm i ≡ header_of i.width i.height ++ image_rows i
   pbm_is h = ap (λ b. cond b [] (header_of i.width i.height ++ image_rows i)) (let n : eqb i.height 0 ≡ false = grind arith in n)
 
-  pub length-pbm : 0 < i.height → length (pbm i) ≡ length (header_of i.width i.height) + i.height * row_bytes i.width
-  length-pbm h = ap length (pbm_is h) ∙ length-append (header_of i.width i.height) (image_rows i) ∙ ap (λ n. length (header_of i.width i.height) + n) (length-image_rows i)
-
   -- the text from a line on
-  pub text_from : (l : Line) → 0 < i.height → IsLineOf i.height l → drop (bytes_above i.width i.height l) (pbm i) ≡ line_text i l ++ rows_behind l
-  text_from Head h b = pbm_is h
+  pub text_from : (l : Line) → 0 < i.height → IsLineOf i.height l → drop (bytes_above i.width i.height l) (pbm i) ≡ line_text (lines_of i) l ++ rows_behind l
+  text_from Head h b =
+      let all : i.height ≡ i.height - 0 = omega arith in
+      pbm_is h ∙ ap (λ n. header_of i.width i.height ++ flat_map (image_row i) (range_with_len 0 n)) all
   text_from (Row y) h b =
       let head = header_of i.width i.height in
       let w = row_bytes i.width in

@@ -1,13 +1,21 @@
 -- The copies of an image, and what is left of them.
-use Rattle.std.specs.Prelude.{ℕ, zero, suc, ◌+◌, ◌-◌, ◌*◌, ◌/◌, ◌%◌, min, ◌==◌, nat_lt, ◌||◌, List, [], ◌++◌, length, drop, if◌then◌else◌}
+use Rattle.std.specs.Prelude.{ℕ, zero, suc, ◌+◌, ◌-◌, ◌*◌, ◌/◌, ◌%◌, min, ◌==◌, nat_lt, ◌||◌, List, [], ◌++◌, length, drop, if◌then◌else◌, Option, Some, None}
 use Rattle.vp_dots.specs.Headers.{header_of}
 use Rattle.vp_dots.specs.Images.{Image, row_bytes, image_row, pbm}
-use Rattle.vp_copies.specs.declared.place.Line.{Line}
-use Rattle.vp_copies.specs.declared.place.Line.TheVariants.{Head, Row}
+use Rattle.vp_output.specs.declared.place.Line.{Line}
+use Rattle.vp_output.specs.declared.place.Line.TheVariants.{Head, Row}
+use Rattle.vp_output.specs.declared.place.Place.{Place as InImage}
+use Rattle.vp_output.specs.Lines.{Lined}
+use Rattle.vp_output.specs.Places.{advanced as advanced_in}
 use Rattle.vp_copies.specs.declared.place.Ahead.{Ahead}
 use Rattle.vp_copies.specs.declared.place.Ahead.TheVariants.{Nothing, Copy, Band}
-use Rattle.vp_copies.specs.declared.place.Place.{Place}
-use Rattle.vp_copies.specs.declared.place.TheConstants.{BAND_ROWS}
+use Rattle.vp_label_size.specs.declared.TheConstants.{BAND_ROWS}
+
+-- the next byte to put out: how many copies are not put out whole, and where it is in the first of them
+pub record Place : Type 0 where
+  pub copies : ℕ
+  pub line : Line
+  pub byte : ℕ
 
 -- the text of so many copies: that of the image, so often
 abbrev pub copies_text : Image → ℕ → List ℕ
@@ -23,34 +31,29 @@ bytes_above width height (Row y) = length (header_of width height) + y * row_byt
 abbrev pub pending : Image → Place → List ℕ
 pending i p = drop (bytes_above i.width i.height p.line + p.byte) (copies_text i p.copies)
 
--- the bytes of a line
-abbrev pub line_text : Image → Line → List ℕ
-line_text i Head = header_of i.width i.height
-line_text i (Row y) = image_row i y
+-- an image by lines: its header, and its rows
+abbrev pub lines_of : Image → Lined
+lines_of i = record { head = header_of i.width i.height; rows = i.height; row = image_row i }
 
--- how many they are
+-- how many bytes a line has
 abbrev pub line_bytes : ℕ → ℕ → Line → ℕ
 line_bytes width height Head = length (header_of width height)
 line_bytes width height (Row y) = row_bytes width
 
--- the row that comes after a line
-abbrev pub row_after : Line → ℕ
-row_after Head = 0
-row_after (Row y) = y + 1
+-- a place in the first of so many copies
+abbrev pub at : ℕ → InImage → Place
+at copies p = record { copies = copies; line = p.line; byte = p.byte }
 
--- the place behind a line: the next row's start, or the next copy's behind the last row
-abbrev pub behind_line : ℕ → Place → Place
-behind_line height p =
-    if nat_lt (row_after p.line) height
-    then record { copies = p.copies; line = Row (row_after p.line); byte = 0 }
-    else record { copies = p.copies - 1; line = Head; byte = 0 }
+-- behind the last row the next copy begins
+abbrev pub behind : ℕ → Option InImage → Place
+behind copies None = record { copies = copies - 1; line = Head; byte = 0 }
+behind copies (Some p) = at copies p
 
 -- the place so many bytes further on in its line, or behind it
 abbrev pub advanced : ℕ → ℕ → ℕ → Place → Place
 advanced width height n p =
-    if nat_lt (p.byte + n) (line_bytes width height p.line)
-    then record { copies = p.copies; line = p.line; byte = p.byte + n }
-    else behind_line height p
+    behind p.copies
+    (advanced_in height (line_bytes width height p.line) n (record { line = p.line; byte = p.byte }))
 
 -- before a line's first byte: the header begins a copy, and every 32nd row a band
 abbrev pub ahead_of : Line → Ahead

@@ -2,13 +2,13 @@
 use Rattle.std.specs.Prelude.{◌≡◌, ℕ, ◌+◌, ◌*◌, ◌/◌, ◌<◌, ◌≤◌, Bool, false, List, [], slice_index_or}
 use Rattle.vp_dots.specs.Dots.{dot}
 use Rattle.vp_dots.specs.Images.{Image, row_bytes}
-use Rattle.vp_copies.specs.declared.place.Line.{Line}
-use Rattle.vp_copies.specs.declared.place.Line.TheVariants.{Head, Row}
+use Rattle.vp_output.specs.declared.place.Line.{Line}
+use Rattle.vp_output.specs.declared.place.Line.TheVariants.{Head, Row}
 use Rattle.vp_copies.specs.declared.place.Ahead.{Ahead}
 use Rattle.vp_copies.specs.declared.place.Ahead.TheVariants.{Nothing, Copy, Band}
-use Rattle.vp_copies.specs.declared.place.Place.{Place}
-use Rattle.vp_copies.specs.declared.place.TheConstants.{BAND_ROWS}
-use Rattle.vp_copies.specs.Copies.{ahead, line_bytes}
+use Rattle.vp_label_size.specs.declared.TheConstants.{BAND_ROWS}
+use Rattle.vp_output.specs.Lines.{IsLineOf}
+use Rattle.vp_copies.specs.Copies.{ahead, line_bytes, Place}
 
 -- how wide and high the image is of which copies are put out, and where the next byte is
 pub record Progress : Type 0 where
@@ -19,11 +19,6 @@ pub record Progress : Type 0 where
 -- that image, with these dots
 abbrev pub image_of : Progress → (ℕ → ℕ → Bool) → Image
 image_of p dots = record { width = p.width; height = p.height; is_black = dots }
-
--- the line is one of an image of so many rows
-abbrev pub IsLineOf : ℕ → Line → Type 0
-IsLineOf height Head = Unit {0}
-IsLineOf height (Row y) = y < height
 
 -- a byte of a line of an image so wide and high is left
 pub record IsPlaceOf (width height : ℕ) (p : Place) : Type 0 where

@@ -1,17 +1,18 @@
 //! Copies that are being put out, as far as there is room.
 ghost use Rattle.std.specs.Prelude.{◌≡◌, ℕ, ◌-◌, ◌<◌, ◌≤◌, ◌++◌, ◌↔◌, Bool, List, min, take, drop, length, IsTrue};
 ghost use Rattle.vp_dots.specs.Images.{Image};
-ghost use Rattle.vp_copies.specs.Copies.{advanced, ahead, band_rows, copies_text, line_bytes, line_text, pending};
+ghost use Rattle.vp_copies.specs.Copies.{advanced, ahead, band_rows, copies_text, line_bytes, lines_of, pending};
+ghost use Rattle.vp_output.specs.Lines.{line_text};
 ghost use Rattle.vp_copies.specs.Progress.{image_of, IsPainted, IsPlaceOf, IsReady};
-ghost use Rattle.vp_copies.specs.declared.place.Line.TheVariants.{Head};
+ghost use Rattle.vp_output.specs.declared.place.Line.TheVariants.{Head};
+ghost use Rattle.vp_label_size.specs.declared.TheConstants.{WIDEST};
 
-use crate::place::{Ahead, BAND_ROWS, Line, Place};
+use crate::place::{Ahead, behind, wanted};
 use arrayvec::ArrayVec;
 use std::marker::Model;
-use vp_dots::{Band, dots_decide, header};
-
-/// The dots across a band, which no image is wider than.
-pub const BAND_DOTS: u16 = 1248;
+use vp_dots::{dots_decide, header};
+use vp_label_size::{BAND_ROWS, LabelBand};
+use vp_output::{Line, Place, put_part};
 
 /// Copies of an image that are being put out. Clauses see how wide and high it is, and the place of the next
 /// byte.
@@ -20,6 +21,9 @@ pub struct Copies {
     width: u16,
     height: u16,
     head: ArrayVec<u8, 32>,
+    /// How many copies are not put out whole.
+    copies: u32,
+    /// In the first of them.
     place: Place,
 }
 
@@ -35,24 +39,12 @@ impl Model for Copies {
     ghost invariant = { IsCopies };
 }
 
-/// Copies what there is room for of the line from a byte on, and answers how much.
-fn copy_from(line: &[u8], byte: usize, out: &mut [u8]) -> usize
-    requires { byte ≤ length line.now }
-    ensures count { result ≡ min (length line.now - byte) (length out.old) }
-    ensures bytes { out.new ≡ take result (drop byte line.now) ++ drop result out.old }
-{
-    let rest = &line[byte..];
-    let n = rest.len().min(out.len());
-    out[..n].copy_from_slice(&rest[..n]);
-    n
-}
-
 /// The bytes of a row of the band, for an image so wide.
-fn row_of_band(band: &Band<156, 32>, y: usize, width: u16) -> &[u8]
-    requires narrow { width ≤ BAND_DOTS }
+fn row_of_band(band: &LabelBand, y: usize, width: u16) -> &[u8]
+    requires narrow { width ≤ WIDEST }
     ensures count { length result.now ≡ line_bytes width 0 (Line.Row y) }
     ensures text { (i : Image) → i.width ≡ width → y < i.height → IsPainted i (Line.Row y) band.now →
-        result.now ≡ line_text i (Line.Row y) }
+        result.now ≡ line_text (lines_of i) (Line.Row y) }
 {
     let row = &band.row(y % BAND_ROWS)[..(usize::from(width) + 7) / 8];
     dots_decide(row);
@@ -63,7 +55,7 @@ impl Copies {
     /// So many copies of an image, of 1 to 1,248 dots across and a row or more; none, and nothing is pending.
     pub fn new(width: u16, height: u16, copies: u32) -> Copies
         requires wide { 0 < width }
-        requires narrow { width ≤ BAND_DOTS }
+        requires narrow { width ≤ WIDEST }
         requires high { 0 < height }
         ensures value { result ≡
             record {
@@ -81,7 +73,8 @@ impl Copies {
             width,
             height,
             head: header(u32::from(width), u32::from(height)),
-            place: Place::start(copies),
+            copies,
+            place: Place::start(),
         }
     }
 
@@ -91,14 +84,14 @@ impl Copies {
             IsTrue result ↔ (0 < length (pending (image_of self.now dots) self.now.place)) }
         ensures copies { IsTrue result ↔ (0 < self.now.place.copies) }
     {
-        self.place.copies > 0
+        self.copies > 0
     }
 
     /// What has to be ready before the next byte is put out.
     pub fn ahead(&self) -> Ahead
         ensures { result ≡ ahead self.now.place }
     {
-        self.place.ahead()
+        wanted(self.copies, self.place)
     }
 
     /// How many rows of the image are in the band of the next byte: none for the header's.
@@ -109,28 +102,28 @@ impl Copies {
         match self.place.line {
             Line::Head => 0,
             Line::Row(y) => {
-                let above = y / BAND_ROWS * BAND_ROWS;
+                let above = y as usize / BAND_ROWS * BAND_ROWS;
                 (usize::from(self.height) - above).min(BAND_ROWS)
             }
         }
     }
 
     /// The bytes of the place's line.
-    fn line<'a>(&'a self, band: &'a Band<156, 32>) -> &'a [u8]
+    fn line<'a>(&'a self, band: &'a LabelBand) -> &'a [u8]
         ensures count { length result.now ≡ line_bytes self.now.width self.now.height self.now.place.line }
         ensures text { (dots : ℕ → ℕ → Bool) →
             IsPainted (image_of self.now dots) self.now.place.line band.now →
-            result.now ≡ line_text (image_of self.now dots) self.now.place.line }
+            result.now ≡ line_text (lines_of (image_of self.now dots)) self.now.place.line }
     {
         match self.place.line {
             Line::Head => self.head.as_slice(),
-            Line::Row(y) => row_of_band(band, y, self.width),
+            Line::Row(y) => row_of_band(band, y as usize, self.width),
         }
     }
 
     /// Puts out the next bytes of the place's line, as many as there are and room is for, and answers how
     /// many. For whatever dots the band is painted with, they are the image's.
-    pub fn put_line(&mut self, band: &Band<156, 32>, out: &mut [u8]) -> usize
+    pub fn put_line(&mut self, band: &LabelBand, out: &mut [u8]) -> usize
         requires { 0 < self.old.place.copies }
         ensures count { result ≡
             min (line_bytes self.old.width self.old.height self.old.place.line - self.old.place.byte)
@@ -151,9 +144,8 @@ impl Copies {
         ensures place { IsPlaceOf self.new.width self.new.height self.new.place }
     {
         let line = self.line(band);
-        let len = line.len();
-        let n = copy_from(line, self.place.byte, out);
-        self.place = self.place.advanced(n, len, usize::from(self.height));
-        n
+        let output = put_part(self.place, line, u32::from(self.height), out);
+        (self.copies, self.place) = behind(self.copies, output.next);
+        output.count
     }
 }

@@ -1,8 +1,7 @@
 //! The laws of the text of copies.
 ghost use Rattle.std.specs.Prelude.{◌≡◌, ℕ, ◌+◌, ◌-◌, ◌*◌, ◌%◌, ◌++◌, ◌<◌, ◌≤◌, ◌↔◌, length};
 ghost use Rattle.vp_dots.specs.Images.{Image, pbm};
-ghost use Rattle.vp_copies.specs.Copies.{bytes_above, copies_text, pending};
-ghost use Rattle.vp_copies.specs.declared.place.Place.{Place};
+ghost use Rattle.vp_copies.specs.Copies.{bytes_above, copies_text, pending, Place};
 ghost use Rattle.vp_copies.specs.Progress.{IsPlaceOf};
 
 /// A law: the text of copies is that of one image so often, and copies put out one after the other are all of

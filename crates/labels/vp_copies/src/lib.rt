@@ -3,7 +3,7 @@
 //! A copy is one image, its header and its rows. Its rows are painted by bands of 32, and whoever paints is
 //! told when a copy begins and which band is wanted next; so nothing here hangs on what an image shows.
 //!
-//! - `place`: where the next byte is.
+//! - `place`: what has to be ready for the next byte, and where it is behind bytes of a copy.
 //! - `copies`: copies that are being put out, as far as there is room.
 //! - `law`: the laws of their text.
 #![tactic(auto)]
@@ -12,6 +12,6 @@ mod copies;
 mod law;
 mod place;
 
-pub use copies::{BAND_DOTS, Copies};
+pub use copies::Copies;
 pub use law::{copies_law, pending_law, place_law};
-pub use place::{Ahead, BAND_ROWS, Line, Place};
+pub use place::Ahead;

@@ -1,17 +1,9 @@
-//! Where the next byte is: in which copy, in which line of it, and how far into that.
-ghost use Rattle.std.specs.Prelude.{◌≡◌, ℕ, ◌+◌, ◌<◌, ◌≤◌};
-ghost use Rattle.vp_copies.specs.Copies.{advanced, ahead, behind_line, line_bytes};
-ghost use Rattle.vp_copies.specs.Progress.{IsLineOf};
+//! What has to be ready for the next byte, and where it is behind bytes of a copy.
+ghost use Rattle.std.specs.Prelude.{◌≡◌, ◌<◌};
+ghost use Rattle.vp_copies.specs.Copies.{ahead, at, behind};
 
-/// The rows of a band.
-pub const BAND_ROWS: usize = 32;
-
-/// A line of a copy: its header, or a row, counted from 0.
-#[derive(Clone, Copy, Debug, PartialEq, Eq)]
-pub enum Line {
-    Head,
-    Row(usize),
-}
+use vp_label_size::BAND_ROWS;
+use vp_output::{Line, Place};
 
 /// What has to be ready before the next byte is put out.
 #[derive(Clone, Copy, Debug, PartialEq, Eq)]
@@ -24,82 +16,33 @@ pub enum Ahead {
     Band(usize),
 }
 
-/// The next byte to put out.
-#[derive(Clone, Copy, Debug, PartialEq, Eq)]
-pub struct Place {
-    /// How many copies are not put out whole.
-    pub copies: u32,
-    pub line: Line,
-    /// How many bytes of the line are put out.
-    pub byte: usize,
-}
-
-impl Place {
-    /// The first byte of so many copies.
-    pub fn start(copies: u32) -> Place
-        ensures { result ≡ record { copies = copies; line = Line.Head; byte = 0 } }
-    {
-        Place {
-            copies,
-            line: Line::Head,
-            byte: 0,
-        }
+/// What has to be ready before the next byte of so many copies is put out.
+pub fn wanted(copies: u32, place: Place) -> Ahead
+    ensures { result ≡ ahead (at copies place) }
+{
+    if copies == 0 || place.byte > 0 {
+        return Ahead::Nothing;
     }
-
-    /// What has to be ready before the next byte is put out.
-    pub fn ahead(self) -> Ahead
-        ensures { result ≡ ahead self }
-    {
-        if self.copies == 0 || self.byte > 0 {
-            return Ahead::Nothing;
-        }
-        match self.line {
-            Line::Head => Ahead::Copy,
-            Line::Row(y) => {
-                if y % BAND_ROWS == 0 {
-                    Ahead::Band(y / BAND_ROWS)
-                } else {
-                    Ahead::Nothing
-                }
+    match place.line {
+        Line::Head => Ahead::Copy,
+        Line::Row(y) => {
+            let y = y as usize;
+            if y % BAND_ROWS == 0 {
+                Ahead::Band(y / BAND_ROWS)
+            } else {
+                Ahead::Nothing
             }
         }
     }
+}
 
-    /// The place behind the line, in an image of so many rows.
-    fn behind_line(self, height: usize) -> Place
-        requires pending { 0 < self.copies }
-        requires line { IsLineOf height self.line }
-        ensures { result ≡ behind_line height self }
-    {
-        let y = match self.line {
-            Line::Head => 0,
-            Line::Row(y) => y + 1,
-        };
-        if y < height {
-            return Place {
-                copies: self.copies,
-                line: Line::Row(y),
-                byte: 0,
-            };
-        }
-        Place::start(self.copies - 1)
-    }
-
-    /// The place `n` bytes further on, in a line of `len` bytes of an image of so many rows.
-    pub fn advanced(self, n: usize, len: usize, height: usize) -> Place
-        requires pending { 0 < self.copies }
-        requires within { self.byte + n ≤ len }
-        requires line { IsLineOf height self.line }
-        ensures { (width : ℕ) → len ≡ line_bytes width height self.line →
-            result ≡ advanced width height n self }
-    {
-        if self.byte + n < len {
-            return Place {
-                copies: self.copies,
-                line: self.line,
-                byte: self.byte + n,
-            };
-        }
-        self.behind_line(height)
+/// How many copies are left behind bytes of one, and the place in the first of them.
+pub fn behind(copies: u32, next: Option<Place>) -> (u32, Place)
+    requires { 0 < copies }
+    ensures { at result.0 result.1 ≡ behind copies next }
+{
+    match next {
+        Some(place) => (copies, place),
+        None => (copies - 1, Place::start()),
     }
 }

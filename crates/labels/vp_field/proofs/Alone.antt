@@ -7,7 +7,7 @@ use Rattle.vp_glyph.specs.Texts.{text_dot, sampled_dot}
 use Rattle.vp_glyph.specs.Blocks.{indent, line_dot, lines_dot, block_dot, block_lines, block_height}
 use Rattle.vp_glyph.specs.declared.block.Alignment.{Alignment}
 use Rattle.vp_field.specs.Alone.{IsAlone}
-use Rattle.vp_field.proofs.Celled.{text_alike}
+use Rattle.vp_glyph.proofs.Gathered.{text_alike}
 
 -- lines that all begin at the top
 pub alone_at_top : (h b s y : ℕ) → b - 1 ≡ 0 → IsAlone h b s y y

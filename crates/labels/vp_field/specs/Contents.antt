@@ -175,3 +175,9 @@ IsStored stored (contents.Box b) = Unit {0}
 IsStored stored (contents.Picture p) = IsPicture stored p
 IsStored stored (contents.Bars b) = LiesIn stored b.bytes
 IsStored stored (contents.Qr q) = IsSymbol stored q
+
+-- what painting a content on a band takes at most. Of a picture each byte of its codes is read once, no more
+-- rows than these bytes and two are passed, and 32 rows fall on the band; of other contents nothing is counted
+abbrev pub most_work : Content → ℕ
+most_work (contents.Picture p) = 2 * p.codes.len + 34
+most_work _ = 0

@@ -1,11 +1,12 @@
 -- Fields, and what they do to a label.
-use Rattle.std.specs.Prelude.{ℕ, ℤ, Bool, List, Option, None, Some}
+use Rattle.std.specs.Prelude.{ℕ, ℤ, Bool, List, [], Option, None, Some, slice_index_or}
 use Rattle.vp_glyph.specs.declared.Sheets.{Sheets}
-use Rattle.vp_format.specs.Cursors.{IsMark}
+use Rattle.vp_format.specs.Cursors.{marked_row, IsMark}
 use Rattle.vp_format.specs.declared.field.Content.{Content}
 use Rattle.vp_format.specs.declared.field.Content.TheVariants.{Picture}
 use Rattle.vp_format.specs.declared.field.Field.{Field}
 use Rattle.vp_format.specs.declared.rows.RunMark.{RunMark}
+use Rattle.vp_field.specs.declared.marks.Marks.{Marks}
 use Rattle.vp_field.specs.Contents.{content_width, content_height, content_dot, orientation_of, picture_of, IsStored}
 use Rattle.vp_field.specs.Standing.{standing, IsNear}
 use Rattle.vp_field.specs.Strokes.{Stroke}
@@ -29,3 +30,15 @@ abbrev pub IsMarkOf : List ℕ → Content → Option RunMark → Type 0
 IsMarkOf stored c None = Unit {0}
 IsMarkOf stored (Picture p) (Some mark) = IsMark (picture_of stored p) mark
 IsMarkOf stored _ (Some mark) = Unit {0}
+
+-- the row before which a cursor at the mark stands, and the first where there is none
+abbrev pub row_at : Option RunMark → ℕ
+row_at None = 0
+row_at (Some mark) = marked_row mark
+
+-- each of several marks was made in it
+abbrev pub AreMarksOf : List ℕ → Content → Marks → Type 0
+AreMarksOf stored c marks = (k : ℕ) → IsMarkOf stored c (slice_index_or marks.places k None)
+
+abbrev pub no_marks : Marks
+no_marks = record { places = [] }

@@ -7,10 +7,11 @@ ghost use Rattle.vp_field.specs.Bands.{Shows};
 ghost use Rattle.vp_field.specs.declared.view.View.{View};
 
 use crate::view::View;
-use vp_dots::{Band, Op, fill_dots};
+use vp_dots::{Op, fill_dots};
+use vp_label_size::LabelBand;
 
 /// Makes a band white: it shows a label without strokes.
-pub fn clear(band: &mut Band<156, 32>)
+pub fn clear(band: &mut LabelBand)
     ensures { (view : View) (first : ℕ) → Shows view first [] band.new }
 {
     band.clear();
@@ -36,7 +37,7 @@ fn cut_row(view: View, y: u64, row: &mut [u8])
 }
 
 /// Makes the dots off the label white.
-pub fn cut(view: View, first: u32, band: &mut Band<156, 32>)
+pub fn cut(view: View, first: u32, band: &mut LabelBand)
     requires { view.width ≤ 1248 }
     ensures { (strokes : List Stroke) → Shows view first strokes band.old → (x k : ℕ) → k < 32
         → dot (slice_index_or band.new k []) x ≡ image_dot view strokes x (first + k) }

@@ -10,7 +10,7 @@ use crate::text::Cells;
 use vp_bars::{code39, code128_zpl, ean13};
 use vp_dots::{Fault, Ink};
 use vp_format::{BarCode, Bars, Block, Content, QrSymbol, Span, Text};
-use vp_glyph::{Font, Sheets};
+use vp_glyph::{Font, Sheets, Stretch};
 
 /// The bytes that a span names among the stored ones.
 pub fn bytes_of(stored: &[u8], span: Span) -> &[u8]
@@ -37,13 +37,13 @@ pub fn cells<'a>(sheets: &'a Sheets, stored: &'a [u8], text: Text) -> Cells<'a>
     requires { IsText stored.now text }
     ensures sheet { result.sheet.now ≡ sheets.now.a }
     ensures text { result.text.now ≡ bytes_of stored.now text.bytes }
-    ensures w { result.w ≡ text.width }
+    ensures w { result.stretch.width ≡ text.width }
     ensures h { result.h ≡ text.height }
 {
     Cells {
         sheet: &sheets.a,
         text: bytes_of(stored, text.bytes),
-        w: u32::from(text.width),
+        stretch: Stretch::new(u32::from(text.width)),
         h: u32::from(text.height),
     }
 }

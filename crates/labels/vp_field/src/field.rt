@@ -1,25 +1,30 @@
 //! The fields of a label, painted on a band.
-ghost use Rattle.std.specs.Prelude.{◌+◌, pos, List, [], ◌∷◌, ◌++◌};
+ghost use Rattle.std.specs.Prelude.{◌+◌, ◌≤◌, pos, List, [], ◌∷◌, ◌++◌};
 ghost use Rattle.vp_dots.specs.Places.{RowsPainted};
 ghost use Rattle.vp_glyph.specs.declared.Sheets.{Sheets};
 ghost use Rattle.vp_format.specs.declared.field.Content.TheVariants as contents;
-ghost use Rattle.vp_field.specs.Contents.{LiesIn, IsText, IsBlock, IsSymbol};
+ghost use Rattle.vp_field.specs.Contents.{most_work, LiesIn, IsText, IsBlock, IsSymbol};
 ghost use Rattle.vp_field.specs.Standing.{IsNear};
-ghost use Rattle.vp_field.specs.Fields.{field_ink, stroke_of, IsKept, IsMarkOf};
+ghost use Rattle.vp_field.specs.Fields.{field_ink, stroke_of, IsKept, AreMarksOf};
 ghost use Rattle.vp_field.specs.Strokes.{Stroke};
 ghost use Rattle.vp_field.specs.Views.{seen_x, seen_y};
 ghost use Rattle.vp_field.specs.Bands.{Shows};
 ghost use Rattle.vp_field.specs.Drawn.{drawn};
 
+use crate::axis::Lines;
+use crate::block_columns::BlockColumns;
 use crate::content::{block_of, bytes_of, cells, linear};
 use crate::frame::Frame;
+use crate::line::drawn_at;
 use crate::lines::BlockRows;
+use crate::marks::Marks;
 use crate::picture::paint_picture;
 use crate::standing::{Standing, paint_standing};
 use crate::view::View;
-use vp_dots::{Band, Ink};
-use vp_format::{Bars, Block, Content, Field, QrSymbol, RunMark, Text};
+use vp_dots::Ink;
+use vp_format::{Bars, Block, Content, Field, QrSymbol, Text};
 use vp_glyph::{Font, Sheets};
+use vp_label_size::LabelBand;
 use vp_zpl::item::Orientation;
 
 /// Paints a text.
@@ -29,7 +34,7 @@ fn paint_text(
     text: Text,
     on: Standing,
     first: u32,
-    band: &mut Band<156, 32>,
+    band: &mut LabelBand,
 )
     requires text { IsText stored.now text }
     requires near { IsNear on.left on.top }
@@ -47,7 +52,7 @@ fn paint_block(
     block: Block,
     on: Standing,
     first: u32,
-    band: &mut Band<156, 32>,
+    band: &mut LabelBand,
 )
     requires block { IsBlock stored.now block }
     requires near { IsNear on.left on.top }
@@ -56,11 +61,18 @@ fn paint_block(
 {
     let ink = block_of(sheets, stored, block);
     let (_, height) = ink.size();
-    let line = on.laid(&ink).first_line(height, first);
+    let laid = on.laid(&ink);
+    let line = laid.first_line(height, first);
     let rows = BlockRows {
         block: ink.from_row(line),
     };
-    paint_standing(&rows, None, on, first, band);
+    match laid.lines {
+        Lines::Along => paint_standing(&rows, None, on, first, band),
+        Lines::Across => {
+            let columns = BlockColumns::new(rows, line, drawn_at(laid.rows, first, 4));
+            paint_standing(&columns, None, on, first, band);
+        }
+    }
 }
 
 /// Paints a linear symbol and its text; nothing where the data have none.
@@ -70,7 +82,7 @@ fn paint_bars(
     bars: Bars,
     on: Standing,
     first: u32,
-    band: &mut Band<156, 32>,
+    band: &mut LabelBand,
 )
     requires bytes { LiesIn stored.now bars.bytes }
     requires near { IsNear on.left on.top }
@@ -94,7 +106,7 @@ fn paint_bars(
 }
 
 /// Paints a QR symbol with the version and the mask that it keeps.
-fn paint_qr(stored: &[u8], symbol: QrSymbol, on: Standing, first: u32, band: &mut Band<156, 32>)
+fn paint_qr(stored: &[u8], symbol: QrSymbol, on: Standing, first: u32, band: &mut LabelBand)
     requires symbol { IsSymbol stored.now symbol }
     requires near { IsNear on.left on.top }
     ensures { (sheets : Sheets) → RowsPainted 32 on.op
@@ -116,17 +128,18 @@ fn paint_content(
     sheets: &Sheets,
     stored: &[u8],
     field: &Field,
-    mark: Option<RunMark>,
+    marks: &mut Marks,
     view: View,
     first: u32,
-    band: &mut Band<156, 32>,
-) -> Option<RunMark>
+    band: &mut LabelBand,
+) -> u64
     requires kept { IsKept stored.now field.now }
-    requires mark { IsMarkOf stored.now field.now.content mark }
+    requires marks { AreMarksOf stored.now field.now.content marks.old }
     ensures dots { RowsPainted 32 field.now.op (λ x k.
         field_ink sheets.now stored.now field.now (seen_x view (pos x))
         (seen_y view (pos (first + k)))) band.old band.new }
-    ensures mark { IsMarkOf stored.now field.now.content result }
+    ensures marks { AreMarksOf stored.now field.now.content marks.new }
+    ensures work { result ≤ most_work field.now.content }
 {
     let turned = Standing {
         op: field.op,
@@ -143,33 +156,35 @@ fn paint_content(
         Content::Text(text) => paint_text(sheets, stored, text, turned, first, band),
         Content::Block(block) => paint_block(sheets, stored, block, turned, first, band),
         Content::Box(shape) => paint_standing(&Frame::of(shape), None, on, first, band),
-        Content::Picture(picture) => return paint_picture(stored, picture, on, mark, first, band),
+        Content::Picture(picture) => return paint_picture(stored, picture, on, marks, first, band),
         Content::Bars(bars) => paint_bars(sheets, stored, bars, turned, first, band),
         Content::Qr(symbol) => paint_qr(stored, symbol, on, first, band),
     }
-    None
+    0
 }
 
-/// Paints a field on a band, whose first row is row `first` of the label as it is put out. Of a picture the
-/// mark of an earlier band may be given, so that the rows above aren't read again; a mark for the next band
-/// comes back.
+/// Paints a field on a band, whose first row is row `first` of the label as it is put out. The marks are
+/// those that earlier bands left in its picture, or none, so that not all rows above are read again; more are
+/// left for the bands that come later. What a picture took comes back: how many bytes of its codes were read,
+/// rows passed, and rows painted.
 pub fn paint_field(
     sheets: &Sheets,
     stored: &[u8],
     field: &Field,
-    mark: Option<RunMark>,
+    marks: &mut Marks,
     view: View,
     first: u32,
-    band: &mut Band<156, 32>,
-) -> Option<RunMark>
+    band: &mut LabelBand,
+) -> u64
     requires kept { IsKept stored.now field.now }
-    requires mark { IsMarkOf stored.now field.now.content mark }
+    requires marks { AreMarksOf stored.now field.now.content marks.old }
     ensures dots { RowsPainted 32 field.now.op (λ x k.
         field_ink sheets.now stored.now field.now (seen_x view (pos x))
         (seen_y view (pos (first + k)))) band.old band.new }
     ensures shows { (strokes : List Stroke) → Shows view first strokes band.old
         → Shows view first (strokes ++ stroke_of sheets.now stored.now field.now ∷ []) band.new }
-    ensures mark { IsMarkOf stored.now field.now.content result }
+    ensures marks { AreMarksOf stored.now field.now.content marks.new }
+    ensures work { result ≤ most_work field.now.content }
 {
-    paint_content(sheets, stored, field, mark, view, first, band)
+    paint_content(sheets, stored, field, marks, view, first, band)
 }

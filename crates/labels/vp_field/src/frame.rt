@@ -1,9 +1,10 @@
 //! Boxes.
-ghost use Rattle.std.specs.Prelude.{◌≡◌, ℕ, ◌-◌, ◌<◌, ◌||◌, true, false};
-ghost use Rattle.vp_dots.specs.Dots.{span};
+ghost use Rattle.std.specs.Prelude.{◌≡◌, ℕ, ◌+◌, ◌-◌, ◌^◌, ◌<◌, ◌||◌, true, false, pos, ◌+ℤ◌, ◌<ℤ◌};
+ghost use Rattle.vp_dots.specs.Dots.{shifted, span};
+ghost use Rattle.vp_dots.specs.Painting.{Painted};
 ghost use Rattle.vp_field.specs.Frames.{frame_dot, frame_inside};
 
-use vp_dots::{Ink, Op, fill_moved};
+use vp_dots::{Ink, Op, fill_moved, first_dots, paint_word};
 use vp_format::GraphicBox;
 
 /// ^GB: a box of w by h dots whose edges are t dots thick.
@@ -12,6 +13,32 @@ pub struct Frame {
     pub w: u32,
     pub h: u32,
     pub t: u32,
+}
+
+/// So many dots are a word.
+const WORD: u32 = 64;
+
+/// Offsets from here on lie far past any row.
+const FAR: i64 = 1 << 40;
+
+/// The offset of what begins so many dots behind another.
+fn moved(at: i64, dots: u32) -> i64
+    requires near { at <ℤ pos (2 ^ 40) }
+    ensures { result ≡ at +ℤ pos dots }
+{
+    at + i64::from(dots)
+}
+
+/// Paints so many dots from one on: as a word, where they are few.
+fn paint_side(op: Op, at: i64, from: u32, dots: u32, row: &mut [u8])
+    requires fits { from + dots < 2 ^ 32 }
+    ensures { Painted op (shifted at (span from (from + dots))) row.old row.new }
+{
+    if dots > WORD || at >= FAR {
+        fill_moved(op, at, from, from + dots, row);
+        return;
+    }
+    paint_word(op, first_dots(dots), moved(at, from), row);
 }
 
 impl Frame {
@@ -72,7 +99,7 @@ impl Ink for Frame {
             fill_moved(op, at, 0, self.w, row);
             return;
         }
-        fill_moved(op, at, 0, self.t, row);
-        fill_moved(op, at, self.w.saturating_sub(self.t), self.w, row);
+        paint_side(op, at, 0, self.t, row);
+        paint_side(op, at, self.w.saturating_sub(self.t), self.t, row);
     }
 }

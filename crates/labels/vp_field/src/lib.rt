@@ -9,6 +9,8 @@
 //!
 //! - `turning`: how boxes are turned.
 //! - `frame`, `text`, `lines`, `picture`: boxes, texts, blocks of lines and pictures.
+//! - `block_columns`: blocks of lines, many of whose rows are drawn at once.
+//! - `marks`: the marks of a picture that earlier bands left.
 //! - `content`, `field`: what fields show, and how they are painted.
 //! - `view`: how a label is put out.
 //! - `axis`, `laid`: which way the lines of an ink run on the label as it is put out, and where they begin.
@@ -20,6 +22,7 @@
 
 mod axis;
 mod band;
+mod block_columns;
 mod content;
 mod field;
 mod frame;
@@ -27,6 +30,7 @@ mod laid;
 mod laws;
 mod line;
 mod lines;
+mod marks;
 mod paint;
 mod picture;
 mod standing;
@@ -39,5 +43,6 @@ pub use band::{clear, cut};
 pub use content::{bytes_of, content_size, linear};
 pub use field::paint_field;
 pub use laws::{dots_move, in_the_box, stored_behind, stroke_after_stroke, turned_and_mirrored};
+pub use marks::Marks;
 pub use turning::dots_fall;
 pub use view::View;

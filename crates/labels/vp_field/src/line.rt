@@ -39,6 +39,17 @@ fn offset_from_end(at: i64, from: u32, bytes: usize) -> i64
     i64::from(from) - 1 - at + 8 * bytes as i64
 }
 
+/// The offset by which a line that lies so is drawn on the places of so many bytes from one on.
+pub fn drawn_at(axis: Axis, from: u32, bytes: usize) -> i64
+    requires near { IsWithin (2 ^ 41) axis }
+    requires few { bytes ≤ 156 }
+{
+    match axis {
+        Axis::Forward(at) => offset(at, from),
+        Axis::Back(at) => offset_from_end(at, from, bytes),
+    }
+}
+
 /// What line v of the ink has on the places of N bytes, the first of which is `from`.
 pub fn drawn<I: Ink, const N: usize>(ink: &I, v: u32, axis: Axis, from: u32) -> [u8; N]
     requires near { IsWithin (2 ^ 41) axis }

@@ -11,7 +11,8 @@ ghost use Rattle.vp_field.specs.declared.axis.Lines.TheVariants.{Along, Across};
 use crate::axis::{Axis, Lines};
 use crate::line::{drawn, paint_line, paint_over};
 use crate::stretched::alike_dots;
-use vp_dots::{Band, Ink, Op, dot_of, fill_dots, lay_eight};
+use vp_dots::{Ink, Op, dot_of, fill_dots, lay_eight};
+use vp_label_size::LabelBand;
 
 /// The dots of a row of a band.
 const WIDTH: u64 = 1248;
@@ -20,7 +21,7 @@ const WIDTH: u64 = 1248;
 const RUN: u64 = 8;
 
 /// Each row of a band has 156 bytes.
-fn row_lengths(band: &Band<156, 32>)
+fn row_lengths(band: &LabelBand)
     ensures { (k : ℕ) → k < 32 → length (slice_index_or band.now k []) ≡ 156 }
 {
     for k in 0..32usize {
@@ -81,7 +82,7 @@ fn paint_alike<I: Ink>(
     columns: Axis,
     k: usize,
     rows: usize,
-    band: &mut Band<156, 32>,
+    band: &mut LabelBand,
 )
     requires columns { IsWithin (2 ^ 41) columns }
     requires inside { k + rows ≤ 32 }
@@ -106,7 +107,7 @@ fn paint_along<I: Ink>(
     columns: Axis,
     rows: Axis,
     first: u32,
-    band: &mut Band<156, 32>,
+    band: &mut LabelBand,
 )
     requires stretched { AreStretched stretched (I.ink_at ink.now) }
     requires near { IsWithin (2 ^ 41) columns }
@@ -163,8 +164,8 @@ fn column_after<I: Ink>(
     column_of(ink, columns, rows, x, first)
 }
 
-/// The ink on eight columns of the label, the first of which is x and is given. Columns that are known to show
-/// the same line are drawn once.
+/// The ink on eight columns of the label, the first of which is x and is given. Columns that are known to
+/// show the same line are drawn once.
 fn eight_columns<I: Ink>(
     ink: &I,
     columns: Axis,
@@ -198,7 +199,7 @@ fn paint_dots(op: Op, ink: bool, from: u64, to: u64, row: &mut [u8])
 }
 
 /// Paints columns of the band from one to another, each of which shows the same line.
-fn paint_run(op: Op, line: [u8; 4], from: u64, to: u64, band: &mut Band<156, 32>)
+fn paint_run(op: Op, line: [u8; 4], from: u64, to: u64, band: &mut LabelBand)
     ensures { RowsPainted 32 op (λ d k. span from to d && dot line k) band.old band.new }
 {
     for k in 0..32usize {
@@ -218,7 +219,7 @@ fn paint_columns<I: Ink>(
     end: u64,
     first: u32,
     line: [u8; 4],
-    band: &mut Band<156, 32>,
+    band: &mut LabelBand,
 ) -> (u64, [u8; 4])
     requires stretched { AreStretched stretched (I.ink_at ink.now) }
     requires low { I.height ink.now < 2 ^ 32 }
@@ -254,7 +255,7 @@ fn paint_across<I: Ink>(
     columns: Axis,
     rows: Axis,
     first: u32,
-    band: &mut Band<156, 32>,
+    band: &mut LabelBand,
 )
     requires stretched { AreStretched stretched (I.ink_at ink.now) }
     requires near { IsWithin (2 ^ 41) rows }
@@ -286,7 +287,7 @@ pub fn paint_laid<I: Ink>(
     columns: Axis,
     rows: Axis,
     first: u32,
-    band: &mut Band<156, 32>,
+    band: &mut LabelBand,
 )
     requires stretched { AreStretched stretched (I.ink_at ink.now) }
     requires columns { IsWithin (2 ^ 41) columns }

@@ -1,4 +1,4 @@
-//! Pictures: one row as ink, and the rows that fall on a band, read from a mark.
+//! Pictures: one row as ink, and the rows that fall on a band, read from a mark on.
 ghost use Rattle.std.specs.Prelude.{◌≡◌, ℕ, ◌+◌, ◌*◌, ◌^◌, ◌<◌, ◌≤◌, ℤ, pos, Bool, false, length};
 ghost use Rattle.vp_dots.specs.Dots.{dot, shifted};
 ghost use Rattle.vp_dots.specs.Places.{RowsPainted};
@@ -6,9 +6,9 @@ ghost use Rattle.vp_glyph.specs.declared.Sheets.{Sheets};
 ghost use Rattle.vp_format.specs.Pictures.{is_refused};
 ghost use Rattle.vp_format.specs.declared.field.Content.TheVariants as contents;
 ghost use Rattle.vp_field.specs.Axes.{dot_on, laid, IsWithin};
-ghost use Rattle.vp_field.specs.Contents.{picture_of, picture_dot, IsPicture};
+ghost use Rattle.vp_field.specs.Contents.{picture_of, picture_dot, most_work, IsPicture};
 ghost use Rattle.vp_field.specs.Drawn.{drawn, part};
-ghost use Rattle.vp_field.specs.Fields.{IsMarkOf};
+ghost use Rattle.vp_field.specs.Fields.{row_at, AreMarksOf, IsMarkOf};
 ghost use Rattle.vp_field.specs.Rows.{row_dot, row_inside};
 ghost use Rattle.vp_field.specs.Standing.{standing, IsNear};
 ghost use Rattle.vp_field.specs.Views.{seen_x, seen_y};
@@ -19,10 +19,12 @@ use crate::axis::{Axis, clamped};
 use crate::content::bytes_of;
 use crate::laid::Laid;
 use crate::line::paint_line;
+use crate::marks::{Marks, ON_WAY};
 use crate::standing::Standing;
 use std::alloc::AllocError;
-use vp_dots::{Band, Ink, Op, clear_into, dot_of, or_into, xor_into};
+use vp_dots::{Ink, Op, clear_into, dot_of, or_into, xor_into};
 use vp_format::{Picture, RunMark, RunRows};
+use vp_label_size::LabelBand;
 use vp_zpl::item::Orientation;
 
 /// The most bytes of a row.
@@ -78,6 +80,7 @@ impl Ink for PictureRow<'_> {
 fn lines_on(rows: Axis, height: u32, first: u32) -> (u32, u32)
     requires { IsWithin (2 ^ 41) rows }
     ensures within { result.1 ≤ height }
+    ensures few { result.1 ≤ result.0 + 32 }
     ensures from { (k v : ℕ) → k < 32 → v < height → dot_on rows (pos (first + k)) ≡ pos v → result.0 ≤ v }
     ensures to { (k v : ℕ) → k < 32 → v < height → dot_on rows (pos (first + k)) ≡ pos v → v < result.1 }
 {
@@ -85,20 +88,18 @@ fn lines_on(rows: Axis, height: u32, first: u32) -> (u32, u32)
     (clamped(line, height), clamped(line + 32, height))
 }
 
-/// A cursor before a row of a picture, or an earlier one: where a mark was made, or before the first row.
-fn cursor<'a>(stored: &'a [u8], picture: Picture, mark: Option<RunMark>, row: u32) -> RunRows<'a>
+/// A cursor at a mark of a picture, or before its first row where there is none.
+fn cursor<'a>(stored: &'a [u8], picture: Picture, mark: Option<RunMark>) -> RunRows<'a>
     requires picture { IsPicture stored.now picture }
     requires mark { IsMarkOf stored.now (contents.Picture picture) mark }
     ensures picture { result.picture ≡ picture_of stored.now picture }
-    ensures next { result.next ≤ row }
+    ensures next { result.next ≡ row_at mark }
 {
     let codes = bytes_of(stored, picture.codes);
     let row_bytes = usize::from(picture.row_bytes);
     match mark {
-        Some(mark) if mark.row() <= row => {
-            RunRows::resume(codes, picture.coding, row_bytes, picture.rows, mark)
-        }
-        _ => RunRows::new(codes, picture.coding, row_bytes, picture.rows),
+        Some(mark) => RunRows::resume(codes, picture.coding, row_bytes, picture.rows, mark),
+        None => RunRows::new(codes, picture.coding, row_bytes, picture.rows),
     }
 }
 
@@ -124,8 +125,53 @@ fn skip_to(rows: &mut RunRows<'_>, to: u32)
     let _ = rows.skip(to - rows.mark().row());
 }
 
+/// The next row on the way to one at which a mark is of use to a band that comes later, or the row itself:
+/// the least row that falls on the label, and behind that the row halfway.
+fn next_stop(at: u32, least: u32, row: u32) -> u32
+    requires { at ≤ row }
+    ensures from { at ≤ result }
+    ensures to { result ≤ row }
+{
+    if at < least {
+        least.min(row)
+    } else if row - at < 64 {
+        row
+    } else {
+        at + (row - at) / 2
+    }
+}
+
+/// Goes on to a row of a picture, and leaves marks on the way, from a place on.
+fn go_to(
+    rows: &mut RunRows<'_>,
+    stored: &[u8],
+    picture: Picture,
+    least: u32,
+    row: u32,
+    place: usize,
+    marks: &mut Marks,
+)
+    requires is { rows.old.picture ≡ picture_of stored.now picture }
+    requires next { rows.old.next ≤ row }
+    requires row { row ≤ picture.rows }
+    requires read { (y : ℕ) → y < picture.rows → is_refused rows.old.picture y ≡ false }
+    requires marks { AreMarksOf stored.now (contents.Picture picture) marks.old }
+    ensures rows { rows.new ≡ record rows.old { next = row } }
+    ensures marks { AreMarksOf stored.now (contents.Picture picture) marks.new }
+{
+    let mut place = place;
+    let mut stop = next_stop(rows.mark().row(), least, row);
+    while stop < row && place < ON_WAY {
+        skip_to(rows, stop);
+        marks.keep(place, rows.mark());
+        place += 1;
+        stop = next_stop(stop, least, row);
+    }
+    skip_to(rows, row);
+}
+
 /// Paints a row of a picture where it falls on the band.
-fn paint_row_of(row: &PictureRow<'_>, op: Op, at: Laid, first: u32, band: &mut Band<156, 32>)
+fn paint_row_of(row: &PictureRow<'_>, op: Op, at: Laid, first: u32, band: &mut LabelBand)
     requires columns { IsWithin (2 ^ 41) at.columns }
     requires rows { IsWithin (2 ^ 41) at.rows }
     ensures { RowsPainted 32 op (λ x k. laid Along at.columns at.rows
@@ -145,7 +191,7 @@ fn paint_rows(
     op: Op,
     at: Laid,
     first: u32,
-    band: &mut Band<156, 32>,
+    band: &mut LabelBand,
 )
     requires len { length row.old ≡ rows.old.picture.row_bytes }
     requires short { length row.old ≤ 1024 }
@@ -184,34 +230,38 @@ fn lying(picture: Picture, on: Standing) -> Laid
     Laid::turned(Orientation::Normal, width, picture.rows, on.left, on.top).viewed(on.view)
 }
 
-/// Paints a picture, which isn't turned: the rows that fall on the band are read from a mark where that lies
-/// before them, else from the first row. The mark behind them comes back; where none falls on the band, the
-/// same mark.
+/// Paints a picture, which isn't turned: the rows that fall on the band are read from the last mark before
+/// them on, else from the first row. Marks are left on the way there, and one behind the rows. What that took
+/// comes back: how many bytes of the codes were read, rows passed, and rows painted.
 pub fn paint_picture(
     stored: &[u8],
     picture: Picture,
     on: Standing,
-    mark: Option<RunMark>,
+    marks: &mut Marks,
     first: u32,
-    band: &mut Band<156, 32>,
-) -> Option<RunMark>
+    band: &mut LabelBand,
+) -> u64
     requires picture { IsPicture stored.now picture }
-    requires mark { IsMarkOf stored.now (contents.Picture picture) mark }
+    requires marks { AreMarksOf stored.now (contents.Picture picture) marks.old }
     requires near { IsNear on.left on.top }
     requires normal { on.orientation ≡ Normal }
     ensures dots { (sheets : Sheets) → RowsPainted 32 on.op
         (drawn sheets stored.now (contents.Picture picture) on first) band.old band.new }
-    ensures mark { IsMarkOf stored.now (contents.Picture picture) result }
+    ensures marks { AreMarksOf stored.now (contents.Picture picture) marks.new }
+    ensures work { result ≤ most_work (contents.Picture picture) }
 {
     let at = lying(picture, on);
     let (from, to) = lines_on(at.rows, picture.rows, first);
     if from >= to {
-        return mark;
+        return 0;
     }
     let mut row = [0u8; ROW];
     let row = &mut row[..usize::from(picture.row_bytes)];
-    let mut rows = cursor(stored, picture, mark, from);
-    skip_to(&mut rows, from);
+    let least = clamped(at.rows.first_line(0, on.view.height), picture.rows);
+    let (place, mark) = marks.last_before(from);
+    let mut rows = cursor(stored, picture, mark);
+    go_to(&mut rows, stored, picture, least, from, place, marks);
     paint_rows(&mut rows, from, to, row, on.op, at, first, band);
-    Some(rows.mark())
+    marks.keep(ON_WAY, rows.mark());
+    rows.read() + rows.passed() + u64::from(to - from)
 }

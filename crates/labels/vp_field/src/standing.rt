@@ -9,7 +9,8 @@ ghost use Rattle.vp_field.specs.Views.{seen_x, seen_y};
 use crate::laid::Laid;
 use crate::paint::paint_laid;
 use crate::view::View;
-use vp_dots::{Band, Ink, Op};
+use vp_dots::{Ink, Op};
+use vp_label_size::LabelBand;
 use vp_zpl::item::Orientation;
 
 /// How ink stands on a label, and what it does to the dots there: the upper left corner of its turned box in
@@ -45,7 +46,7 @@ pub fn paint_standing<I: Ink>(
     stretched: Option<u32>,
     on: Standing,
     first: u32,
-    band: &mut Band<156, 32>,
+    band: &mut LabelBand,
 )
     requires stretched { AreStretched stretched (I.ink_at ink.now) }
     requires near { IsNear on.left on.top }

@@ -4,16 +4,16 @@ ghost use Rattle.vp_glyph.specs.Texts.{text_dot, text_inside};
 
 use std::alloc::AllocError;
 use vp_dots::{Ink, Op};
-use vp_glyph::{Sampled, Sheet, paint_text};
+use vp_glyph::{Sampled, Sheet, Stretch, paint_text};
 
-/// The cells of a text side by side, each w by h dots.
+/// The cells of a text side by side, each stretched to a width and h dots high.
 pub struct Cells<'a> {
     pub sheet: &'a Option<Sheet>,
     pub text: &'a [u8],
-    pub w: u32,
+    pub stretch: Stretch,
     pub h: u32,
-    ghost some: { 0 < w },
-    ghost fits: { w * length text.now < 2 ^ 32 },
+    ghost some: { 0 < stretch.width },
+    ghost fits: { stretch.width * length text.now < 2 ^ 32 },
 }
 
 impl Copy for Cells<'_> {}
@@ -38,39 +38,40 @@ impl Cells<'_> {
         requires { k < length self.now.text.now }
         ensures sheet { result.sheet.now ≡ self.now.sheet.now }
         ensures character { result.character ≡ slice_index self.now.text.now k }
-        ensures w { result.w ≡ self.now.w }
+        ensures w { result.w ≡ self.now.stretch.width }
         ensures h { result.h ≡ self.now.h }
     {
         Sampled {
             sheet: self.sheet,
             character: self.text[k],
-            w: self.w,
+            w: self.stretch.width,
             h: self.h,
         }
     }
 }
 
 impl Ink for Cells<'_> {
-    ghost width = { λ s. s.w * length s.text.now };
+    ghost width = { λ s. s.stretch.width * length s.text.now };
 
     ghost height = { λ s. s.h };
 
-    ghost ink_at = { λ s x y. text_dot s.sheet.now s.text.now s.w s.h x y };
+    ghost ink_at = { λ s x y. text_dot s.sheet.now s.text.now s.stretch.width s.h x y };
 
-    ghost outside = { λ s x y h. text_inside s.sheet.now s.text.now s.w s.h x y h };
+    ghost outside = { λ s x y h. text_inside s.sheet.now s.text.now s.stretch.width s.h x y h };
 
     fn size(&self) -> (u32, u32) {
-        (self.w * self.text.len() as u32, self.h)
+        (self.stretch.width * self.text.len() as u32, self.h)
     }
 
     #[tactic(auto, unfolding(vp_glyph::specs::Texts::text_dot))]
     fn ink(&self, x: u32, y: u32) -> bool {
-        let k = (x / self.w) as usize;
-        k < self.text.len() && self.cell(k).ink(x % self.w, y)
+        let w = self.stretch.width;
+        let k = (x / w) as usize;
+        k < self.text.len() && self.cell(k).ink(x % w, y)
     }
 
     fn paint_row(&self, y: u32, op: Op, at: i64, row: &mut [u8]) {
-        paint_text(self.sheet, self.text, self.w, self.h, y, op, at, row);
+        paint_text(self.sheet, self.text, &self.stretch, self.h, y, op, at, row);
     }
 
     fn repeats(&self, y: u32) -> bool {

@@ -161,6 +161,7 @@ impl Threads {
         ensures entries { length self.new.entries ≡ length self.old.entries }
         ensures heads { length self.new.heads ≡ length self.old.heads }
         ensures links { self.new.links ≡ self.old.links }
+        ensures looks { self.new.looks ≡ self.old.looks }
     {
         thread_first(&mut self.entries, self.len, &mut self.heads);
     }

@@ -1,7 +1,8 @@
 -- Rows of one value that no code spells.
-use Rattle.std.proofs.Common.{inl, inr, ◌≡◌, ℕ, zero, suc, ◌+◌, ◌-◌, ◌*◌, ◌<◌, ◌≤◌, true, false, cond, List, ◌∷◌, drop, replicate, length, ap, sym, ◌∙◌, refl, subst, arith}
+use Rattle.std.proofs.Common.{inl, inr, ◌≡◌, ℕ, zero, suc, ◌+◌, ◌-◌, ◌*◌, ◌<◌, ◌≤◌, ◌⊎◌, true, false, cond, List, [], drop, replicate, length, ap, sym, ◌∙◌, refl, subst, arith}
 use Rattle.std.proofs.Math.Nat.{mul-le-mul_left}
-use Rattle.std.proofs.lemmas.Bool.{cases_lt, true≢false}
+use Rattle.std.proofs.lemmas.Bool.{and_parts, cases_Bool, cases_eq, cases_lt, eqb-true, true≢false}
+use Rattle.std.proofs.lemmas.Bool.Decides.{nat_tests}
 use Rattle.vp_format.specs.declared.codes.Symbol.TheVariants.{Digits}
 use Rattle.vp_format.specs.declared.rows.Coding.{Coding}
 use Rattle.vp_format.specs.declared.rows.Coding.TheVariants.{RunLength, Binary}
@@ -11,10 +12,10 @@ use Rattle.vp_format.specs.declared.rows.RunMark.{RunMark}
 use Rattle.vp_format.specs.declared.rows.RunRows.TheInside.{Inside}
 use Rattle.vp_format.specs.Codes.{Spelled, spelled, symbols}
 use Rattle.vp_format.specs.Pictures.{Value, shown, bytes_before, value_of, is_above, is_nothing, Picture, width_of, place_of, is_refused, is_repeat, start_of, start_above, bound_of, nibble}
-use Rattle.vp_format.specs.Cursors.{symbols_at, above, picture_of, IsReading, IsSpot, IsWhole, IsMark, IsCursor, Even, spot_behind}
+use Rattle.vp_format.specs.Cursors.{symbols_at, above, picture_of, is_white, white_rest, IsReading, IsSpot, IsWhole, IsMark, IsCursor, Even, spot_behind}
 use Rattle.vp_format.proofs.Nibbles.{nibble_twice}
-use Rattle.vp_format.proofs.Reached.{shown_in, shown_past, bytes_run, bytes_none, bytes_over, run_over, shown_later, bytes_later}
-use Rattle.vp_format.proofs.Marks.{symbols_none, nothing_shown, nothing_spelled, value-at}
+use Rattle.vp_format.proofs.Reached.{shown_in, shown_past, bytes_run, bytes_none, shown_later, bytes_later}
+use Rattle.vp_format.proofs.Marks.{symbols_none, value-at}
 
 -- rows further on, the symbols show the same
 rows_later : (w k p : ℕ) (ss : List Spelled) (j : ℕ) → 0 < w → shown w (w * k + p) ss (w * k + j) ≡ shown w p ss j
@@ -58,32 +59,72 @@ run_even w coding codes s k some spot whole h =
           ∙ sym (bytes_run w 0 n v ss j (omega arith) ∙ ap (λ q. bytes_before w q ss j) (omega arith));
     }
 
--- where no code and no run is left
-white_shown : (w : ℕ) (coding : Coding) (codes : List ℕ) (s : Spot) (j : ℕ) → s.left ≡ 0 → s.at ≡ length codes → shown w 0 (symbols_at coding codes s) j ≡ Value 0
-white_shown w coding codes s j none ends =
-    let v = s.digit in
-    ap (λ n. shown w 0 (spelled (Digits n v) 0 ∷ symbols coding (drop s.at codes)) j) none ∙ run_over w 0 v 0 (symbols coding (drop s.at codes)) j (omega arith)
-    ∙ ap (λ (a : ℕ). shown w 0 (symbols coding (drop a codes)) j) ends ∙ ap (λ ss. shown w 0 ss j) (symbols_none coding codes) ∙ nothing_shown coding w j
+-- where no code is left
+nothing_from : (coding : Coding) (w p j : ℕ) → shown w p (symbols coding []) j ≡ Value 0
+nothing_from RunLength w p j = refl
+nothing_from Binary w p j = refl
 
-white_spelled : (w : ℕ) (coding : Coding) (codes : List ℕ) (s : Spot) (j : ℕ) → s.left ≡ 0 → s.at ≡ length codes → bytes_before w 0 (symbols_at coding codes s) j ≡ 0
-white_spelled w coding codes s j none ends =
-    let v = s.digit in
-    ap (λ n. bytes_before w 0 (spelled (Digits n v) 0 ∷ symbols coding (drop s.at codes)) j) none ∙ bytes_over w 0 v (symbols coding (drop s.at codes)) j (omega arith)
-    ∙ ap (λ (a : ℕ). bytes_before w 0 (symbols coding (drop a codes)) j) ends ∙ ap (λ ss. bytes_before w 0 ss j) (symbols_none coding codes) ∙ nothing_spelled coding w j
+none_from : (coding : Coding) (w p j : ℕ) → bytes_before w p (symbols coding []) j ≡ 0
+none_from RunLength w p j = refl
+none_from Binary w p j = refl
 
-pub white_even : (w : ℕ) (coding : Coding) (codes : List ℕ) (s : Spot) (k : ℕ) → IsSpot codes s → IsWhole coding s → s.left ≡ 0 → s.at ≡ length codes → Even w coding codes s k 0 (spot_behind w s k)
-white_even w coding codes s k spot whole none ends =
+-- where white is all that comes
+abbrev pub IsWhite : ℕ → Spot → Type 0
+IsWhite codes s = (s.at ≡ codes) × ((s.left ≡ 0) ⊎ (s.digit ≡ 0))
+
+-- behind the last code white comes, once the run has ended
+pub ends_white : (w : ℕ) (coding : Coding) (codes : List ℕ) (s : Spot) (j : ℕ) → s.at ≡ length codes → ((s.left ≤ j) ⊎ (s.digit ≡ 0)) → shown w 0 (symbols_at coding codes s) j ≡ Value 0
+ends_white w coding codes s j ends rest =
+    let ss = symbols coding (drop s.at codes) in
+    let none : ss ≡ symbols coding [] = ap (λ (a : ℕ). symbols coding (drop a codes)) ends ∙ symbols_none coding codes in
+    elim (cases_lt j s.left) [
+      | inl l ↦ (elim rest [
+        | inl short ↦ absurd (omega arith)
+        | inr digit ↦ shown_in w 0 (spelled (Digits s.left s.digit) 0) ss j (omega arith) ∙ ap Value digit
+      ])
+      | inr g ↦ shown_past w 0 (spelled (Digits s.left s.digit) 0) ss j (omega arith) ∙ ap (λ us. shown w (0 + s.left) us j) none ∙ nothing_from coding w (0 + s.left) j
+    ]
+
+white_shown : (w : ℕ) (coding : Coding) (codes : List ℕ) (s : Spot) (j : ℕ) → IsWhite (length codes) s → shown w 0 (symbols_at coding codes s) j ≡ Value 0
+white_shown w coding codes s j white = ends_white w coding codes s j white.0 (elim white.1 [ inl none ↦ inl (omega (arith, none)) | inr digit ↦ inr digit ])
+
+white_spelled : (w : ℕ) (coding : Coding) (codes : List ℕ) (s : Spot) (j : ℕ) → s.at ≡ length codes → bytes_before w 0 (symbols_at coding codes s) j ≡ 0
+white_spelled w coding codes s j ends =
+    bytes_run w 0 s.left s.digit (symbols coding (drop s.at codes)) j (omega arith)
+    ∙ ap (λ ss. bytes_before w (0 + s.left) ss j) (ap (λ (a : ℕ). symbols coding (drop a codes)) ends ∙ symbols_none coding codes) ∙ none_from coding w (0 + s.left) j
+
+pub white_even : (w : ℕ) (coding : Coding) (codes : List ℕ) (s : Spot) (k : ℕ) → IsSpot codes s → IsWhole coding s → IsWhite (length codes) s → Even w coding codes s k 0 (spot_behind w s k)
+white_even w coding codes s k spot whole white =
     let after = spot_behind w s k in
-    let still : after.left ≡ 0 = omega arith in
+    let still : IsWhite (length codes) after = (white.0, elim white.1 [ inl none ↦ inl (omega (arith, none)) | inr digit ↦ inr digit ]) in
     record {
       spot = record { at = spot.at; digit = spot.digit };
       whole = whole_behind coding w s k whole;
       at = refl;
-      shows = λ j l. white_shown w coding codes s j none ends;
-      none = λ j l. white_spelled w coding codes s j none ends;
-      next = λ j. white_shown w coding codes s (w * k + j) none ends ∙ sym (white_shown w coding codes after j still ends);
-      bytes = λ j. white_spelled w coding codes s (w * k + j) none ends ∙ sym (white_spelled w coding codes after j still ends);
+      shows = λ j l. white_shown w coding codes s j white;
+      none = λ j l. white_spelled w coding codes s j white.0;
+      next = λ j. white_shown w coding codes s (w * k + j) white ∙ sym (white_shown w coding codes after j still);
+      bytes = λ j. white_spelled w coding codes s (w * k + j) white.0 ∙ sym (white_spelled w coding codes after j white.0);
     }
+
+-- a test for it
+pub white_is : (n : ℕ) (s : Spot) → IsWhite n s → is_white n s ≡ true
+white_is n s (at, inl none) = rw (at, none) (grind (arith, nat_tests))
+white_is n s (at, inr digit) = rw (at, digit) (grind (arith, nat_tests))
+
+pub is_white_at : (n : ℕ) (s : Spot) → is_white n s ≡ true → IsWhite n s
+is_white_at n s e =
+    let p = and_parts _ _ e in
+    (eqb-true s.at n p.0, elim (cases_eq s.left 0) [ inl none ↦ inl none | inr some ↦ inr (grind (arith, nat_tests)) ])
+
+-- it stays so behind rows
+white_stays : (n w : ℕ) (s : Spot) (k : ℕ) → white_rest n s ≤ white_rest n (spot_behind w s k)
+white_stays n w s k = elim (cases_Bool (is_white n s)) [
+  | inl white ↦ (let at = is_white_at n s white in
+      let still : IsWhite n (spot_behind w s k) = (at.0, elim at.1 [ inl none ↦ inl (omega (arith, none)) | inr digit ↦ inr digit ]) in
+      rw (white, white_is n (spot_behind w s k) still) (omega arith))
+  | inr other ↦ rw other (omega arith)
+]
 
 -- such rows are not refused
 pub even_taken : (p : Picture) (m : RunMark) (k v : ℕ) (after : Spot) (y : ℕ) → 0 < p.row_bytes → IsMark p m → Even (width_of p) p.coding p.codes m.here k v after → m.next ≤ y → y < m.next + k → is_refused p y ≡ false
@@ -138,8 +179,8 @@ even_mark p m n k v some rows h b e next = record {
 
 -- the cursor behind them
 pub even_cursor : (c n : Inside) (k v : ℕ) → IsCursor c → 0 < k → v < 16 → Even (2 * c.row_bytes) c.coding c.codes.bytes.now c.mark.here (k - 1) v n.mark.before → Even (2 * c.row_bytes) c.coding c.codes.bytes.now c.mark.here k v n.mark.here
-    → n.mark.next ≡ c.mark.next + k → n.codes ≡ c.codes → n.coding ≡ c.coding → n.row_bytes ≡ c.row_bytes → n.rows ≡ c.rows → n.first ≡ c.first → n.refused ≡ c.refused → n.row ≡ replicate 1024 (v * 16 + v) → IsCursor n
-even_cursor c n k v i rows small b e next codes coding row_bytes all first refused row =
+    → n.mark.next ≡ c.mark.next + k → n.codes ≡ c.codes → n.coding ≡ c.coding → n.row_bytes ≡ c.row_bytes → n.rows ≡ c.rows → n.first ≡ c.first → n.refused ≡ c.refused → n.row ≡ replicate 1024 (v * 16 + v) → n.mark.here ≡ spot_behind (2 * c.row_bytes) c.mark.here k → n.passed ≡ c.passed → IsCursor n
+even_cursor c n k v i rows small b e next codes coding row_bytes all first refused row behind passed =
     let p = picture_of c in
     let same : picture_of n ≡ p = rw (coding, row_bytes, all, codes) refl in
     let mark = even_mark p c.mark n.mark k v i.some rows i.mark b e next in
@@ -161,4 +202,8 @@ even_cursor c n k v i rows small b e next codes coding row_bytes all first refus
       reading = subst IsReading (sym codes) i.reading;
       least = omega (arith, start, here, read, i.least);
       most = omega (arith, bound, at, read, i.most);
+      passed = record {
+        bytes = omega (arith, passed, start, here, i.passed.bytes, white_stays (length c.codes.bytes.now) (2 * c.row_bytes) c.mark.here k, ap (white_rest (length c.codes.bytes.now)) behind, ap (λ (d : Codes). white_rest (length d.bytes.now) n.mark.here) codes);
+        rows = omega (arith, passed, first, next, i.passed.rows);
+      };
     }

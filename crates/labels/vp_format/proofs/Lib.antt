@@ -8,3 +8,5 @@ pub mod Places
 pub mod Quick
 pub mod Reached
 pub mod Skipped
+pub mod Passed
+pub mod PassedRows

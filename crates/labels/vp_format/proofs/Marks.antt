@@ -13,7 +13,7 @@ use Rattle.vp_format.specs.declared.rows.RunMark.{RunMark}
 use Rattle.vp_format.specs.Codes.{symbols}
 use Rattle.vp_format.specs.Pictures.{Value, shown, bytes_before, value_of, Picture, width_of, place_of, value, is_refused, is_repeat, is_above, is_nothing, start_of, start_above, bound_of, nibble, answer, row_after}
 use Rattle.vp_format.specs.declared.rows.RunRows.TheInside.{Inside}
-use Rattle.vp_format.specs.Cursors.{symbols_at, above, picture_of, Advanced, IsSpot, IsWhole, IsMark, IsCursor, Decoded}
+use Rattle.vp_format.specs.Cursors.{symbols_at, above, picture_of, white_rest, Advanced, IsSpot, IsWhole, IsMark, ArePassed, IsCursor, Decoded}
 use Rattle.vp_format.proofs.Nibbles.{nibble_append, nibble_front, nibble_zero}
 use Rattle.vp_format.proofs.Reached.{run_over, bytes_over, bytes_none}
 
@@ -194,10 +194,14 @@ pub marked_bound : (p : Picture) (m : RunMark) → IsMark p m → bound_of p m.n
 unfolding bound_of
 marked_bound p m h = ap (λ k. min k (start_of p m.next)) (sym h.before_is) ∙ ap (λ k. min m.before.at k) (marked_start p m h)
 
+pub start_first : (p : Picture) → start_of p 0 ≡ 0
+unfolding start_of
+start_first p = let e : width_of p * 0 ≡ 0 = omega arith in ap (bytes_before (width_of p) 0 (symbols p.coding p.codes)) e ∙ bytes_none (width_of p) 0 (symbols p.coding p.codes) 0 (omega arith)
+
 -- a cursor before the first row
 pub first_cursor : (c : Inside) → 0 < c.row_bytes → c.row_bytes ≤ 1024 → c.codes.at ≡ 0 → c.codes.read ≡ 0 → c.first ≡ 0 → c.refused ≡ false → c.row ≡ replicate 1024 0
-    → c.mark ≡ record { next = 0; here = record { left = 0; digit = 0; at = 0 }; before = record { left = 0; digit = 0; at = length c.codes.bytes.now } } → IsCursor c
-first_cursor c some short at read first going white mark =
+    → c.mark ≡ record { next = 0; here = record { left = 0; digit = 0; at = 0 }; before = record { left = 0; digit = 0; at = length c.codes.bytes.now } } → c.passed ≡ 0 → IsCursor c
+first_cursor c some short at read first going white mark passed =
     let p = picture_of c in
     let next : c.mark.next ≡ 0 = ap (λ (m : RunMark). m.next) mark in
     let here : c.mark.here.at ≡ 0 = ap (λ (m : RunMark). m.here.at) mark in
@@ -212,6 +216,7 @@ first_cursor c some short at read first going white mark =
       reading = record { at = omega arith; read = omega arith };
       least = omega (arith, here);
       most = omega (arith, bound);
+      passed = record { bytes = omega (arith, passed, ap (start_of p) first, start_first p); rows = omega (arith, passed, first) };
     }
 
 -- a cursor that goes on at a mark, behind the row above
@@ -219,8 +224,8 @@ pub resumed_cursor : (c : Inside) (bytes from : List ℕ) (r : Result RowEnd Fau
     → IsMark (record { coding = c.coding; codes = bytes; row_bytes = c.row_bytes; rows = c.rows }) c.mark
     → is_err r ≡ is_nothing (shown (2 * c.row_bytes) 0 (symbols_at c.coding from c.mark.before) (2 * c.row_bytes - 1))
     → IfOk r (λ end. Decoded (2 * c.row_bytes) c.coding from c.mark.before end (record { left = end.left; digit = end.digit; at = at }) old c.row)
-    → c.codes.read + c.mark.before.at ≡ at → c.codes.at ≡ c.mark.here.at → c.first ≡ c.mark.next → c.refused ≡ false → IsCursor c
-resumed_cursor c bytes from r at old same also some short mark ans dec read here first going =
+    → c.codes.read + c.mark.before.at ≡ at → c.codes.at ≡ c.mark.here.at → c.first ≡ c.mark.next → c.refused ≡ false → c.passed ≡ 1 → IsCursor c
+resumed_cursor c bytes from r at old same also some short mark ans dec read here first going passed =
     let p = picture_of c in
     let m = subst (λ (b : List ℕ). IsMark (record { coding = c.coding; codes = b; row_bytes = c.row_bytes; rows = c.rows }) c.mark) (sym same) mark in
     let answered = subst (λ (b : List ℕ). is_err r ≡ is_nothing (shown (2 * c.row_bytes) 0 (symbols_at c.coding b c.mark.before) (2 * c.row_bytes - 1))) (also ∙ sym same) ans in
@@ -240,14 +245,15 @@ resumed_cursor c bytes from r at old same also some short mark ans dec read here
       reading = record { at = omega (arith, inside); read = omega (arith, taken, few) };
       least = omega (arith, start);
       most = omega (arith, taken, few, bound);
+      passed = record { bytes = omega (arith, passed, start); rows = omega (arith, passed, first) };
     }
 
 -- the cursor behind a row
 pub next_cursor : (c n : Inside) (end : RowEnd) → IsCursor c → c.refused ≡ false → n.refused ≡ false → Advanced c.codes n.codes
     → Decoded (2 * c.row_bytes) c.coding c.codes.bytes.now c.mark.here end (record { left = end.left; digit = end.digit; at = n.codes.at }) c.row n.row
     → n.coding ≡ c.coding → n.row_bytes ≡ c.row_bytes → n.rows ≡ c.rows → n.first ≡ c.first
-    → n.mark.next ≡ c.mark.next + 1 → n.mark.here ≡ record { left = end.left; digit = end.digit; at = n.codes.at } → n.mark.before ≡ cond end.repeats c.mark.before c.mark.here → IsCursor n
-next_cursor c n end i going goes a d coding row_bytes rows first next here before =
+    → n.mark.next ≡ c.mark.next + 1 → n.mark.here ≡ record { left = end.left; digit = end.digit; at = n.codes.at } → n.mark.before ≡ cond end.repeats c.mark.before c.mark.here → ArePassed n → IsCursor n
+next_cursor c n end i going goes a d coding row_bytes rows first next here before passed =
     let p = picture_of c in
     let kept = i.kept going in
     let same : picture_of n ≡ p = rw (coding, row_bytes, rows, a.bytes) refl in
@@ -266,12 +272,13 @@ next_cursor c n end i going goes a d coding row_bytes rows first next here befor
       reading = a.reading;
       least = omega (arith, start, there, place, i.least, a.read);
       most = omega (arith, bound, i.most, a.read);
+      passed = passed;
     }
 
 -- the cursor behind a refused row
 pub stopped_cursor : (c n : Inside) → IsCursor c → c.refused ≡ false → n.refused ≡ true → Advanced c.codes n.codes → is_nothing (shown (2 * c.row_bytes) 0 (symbols_at c.coding c.codes.bytes.now c.mark.here) (2 * c.row_bytes - 1)) ≡ true
-    → n.coding ≡ c.coding → n.row_bytes ≡ c.row_bytes → n.rows ≡ c.rows → n.first ≡ c.first → n.mark ≡ c.mark → IsCursor n
-stopped_cursor c n i going stops a refused coding row_bytes rows first mark =
+    → n.coding ≡ c.coding → n.row_bytes ≡ c.row_bytes → n.rows ≡ c.rows → n.first ≡ c.first → n.mark ≡ c.mark → n.passed ≡ c.passed → IsCursor n
+stopped_cursor c n i going stops a refused coding row_bytes rows first mark passed =
     let p = picture_of c in
     let same : picture_of n ≡ p = rw (coding, row_bytes, rows, a.bytes) refl in
     let there : n.mark.here.at ≡ c.mark.here.at = ap (λ (m : RunMark). m.here.at) mark in
@@ -287,4 +294,8 @@ stopped_cursor c n i going stops a refused coding row_bytes rows first mark =
       reading = a.reading;
       least = omega (arith, start, there, i.least, a.read, a.at);
       most = omega (arith, bound, i.most, a.read);
+      passed = record {
+        bytes = omega (arith, passed, start, there, i.passed.bytes, ap (λ (m : RunMark). white_rest (length c.codes.bytes.now) m.here) mark, ap (λ (b : List ℕ). white_rest (length b) n.mark.here) a.bytes);
+        rows = omega (arith, passed, first, i.passed.rows, ap (λ (m : RunMark). m.next) mark);
+      };
     }

@@ -32,11 +32,14 @@ pub nibble_twice : (n v j : ℕ) → v < 16 → j < 2 * n → nibble (replicate 
 nibble_twice n v j small h = nibble_of_twice (replicate n (v * 16 + v)) v j small (get_or-replicate {A = ℕ} n (j / 2) (v * 16 + v) 0 (omega arith))
 
 -- the two places of a byte that was put together
-pub nibble_of_pair : (row places : List ℕ) (j : ℕ) → get_or row (j / 2) 0 ≡ get_or places (2 * (j / 2)) 0 * 16 + get_or places (2 * (j / 2) + 1) 0 → get_or places (2 * (j / 2) + 1) 0 < 16 → nibble row j ≡ get_or places j 0
-nibble_of_pair row places j e small = nibble_of_byte row _ j e ∙ (elim (cases_eq (j % 2) 0) [
-  | inl t ↦ (let i : 2 * (j / 2) ≡ j = omega arith in ap (λ r. cond (eqb r 0) ((get_or places (2 * (j / 2)) 0 * 16 + get_or places (2 * (j / 2) + 1) 0) / 16) ((get_or places (2 * (j / 2)) 0 * 16 + get_or places (2 * (j / 2) + 1) 0) % 16)) t ∙ omega arith ∙ ap (λ k. get_or places k 0) i)
-  | inr t ↦ (let r : j % 2 ≡ 1 = omega arith in let i : 2 * (j / 2) + 1 ≡ j = omega arith in ap (λ r. cond (eqb r 0) ((get_or places (2 * (j / 2)) 0 * 16 + get_or places (2 * (j / 2) + 1) 0) / 16) ((get_or places (2 * (j / 2)) 0 * 16 + get_or places (2 * (j / 2) + 1) 0) % 16)) r ∙ omega arith ∙ ap (λ k. get_or places k 0) i)
+pub nibble_of_values : (row : List ℕ) (f : ℕ → ℕ) (j : ℕ) → get_or row (j / 2) 0 ≡ f (2 * (j / 2)) * 16 + f (2 * (j / 2) + 1) → f (2 * (j / 2) + 1) < 16 → nibble row j ≡ f j
+nibble_of_values row f j e small = nibble_of_byte row _ j e ∙ (elim (cases_eq (j % 2) 0) [
+  | inl t ↦ (let i : 2 * (j / 2) ≡ j = omega arith in ap (λ r. cond (eqb r 0) ((f (2 * (j / 2)) * 16 + f (2 * (j / 2) + 1)) / 16) ((f (2 * (j / 2)) * 16 + f (2 * (j / 2) + 1)) % 16)) t ∙ omega arith ∙ ap f i)
+  | inr t ↦ (let r : j % 2 ≡ 1 = omega arith in let i : 2 * (j / 2) + 1 ≡ j = omega arith in ap (λ r. cond (eqb r 0) ((f (2 * (j / 2)) * 16 + f (2 * (j / 2) + 1)) / 16) ((f (2 * (j / 2)) * 16 + f (2 * (j / 2) + 1)) % 16)) r ∙ omega arith ∙ ap f i)
 ])
+
+pub nibble_of_pair : (row places : List ℕ) (j : ℕ) → get_or row (j / 2) 0 ≡ get_or places (2 * (j / 2)) 0 * 16 + get_or places (2 * (j / 2) + 1) 0 → get_or places (2 * (j / 2) + 1) 0 < 16 → nibble row j ≡ get_or places j 0
+nibble_of_pair row places j e small = nibble_of_values row (λ k. get_or places k 0) j e small
 
 -- a row of which the front stays, and a value stands twice in each byte behind it
 pub nibble_kept : (row mid rest : List ℕ) (n j : ℕ) → n ≤ length row → j < 2 * n → nibble (take n row ++ (mid ++ rest)) j ≡ nibble row j

@@ -1,14 +1,18 @@
 -- Codes that are read in a quick way: digits one after the other, and short runs.
-use Rattle.std.proofs.Common.{◌≡◌, ℕ, Bool, true, ltb, zero, suc, ◌+◌, ◌-◌, ◌<◌, ◌≤◌, max, List, ◌∷◌, drop, length, get_or, ap, sym, ◌∙◌, refl, arith}
-use Rattle.std.proofs.lemmas.List.{drop_more}
-use Rattle.std.proofs.lemmas.Bool.{ltb-true, agree_below_at}
+use Rattle.std.proofs.Common.{inl, inr, ◌≡◌, ℕ, Bool, true, false, cond, bit_or, ltb, zero, suc, ◌+◌, ◌-◌, ◌<◌, ◌≤◌, max, List, ◌∷◌, drop, take, map, length, get_or, ap, sym, ◌∙◌, refl, arith}
+use Rattle.std.proofs.lemmas.List.{drop_more, get_or-map}
+use Rattle.std.proofs.lemmas.Simd.{length-chunk, get_or-chunk}
+use Rattle.vp_format.specs.declared.rows.Spot.{Spot}
+use Rattle.vp_format.specs.declared.rows.Coding.TheVariants.{RunLength}
+use Rattle.std.proofs.lemmas.Bool.{cases_lt, lt-ltb, ltb-true, agree_below_at}
+use mir.Val.{bool_byte}
 use Rattle.vp_format.specs.declared.codes.Code.{Code}
 use Rattle.vp_format.specs.declared.codes.Code.TheVariants.{Digit, Count, Fill, Above, Other}
 use Rattle.vp_format.specs.declared.codes.Symbol.TheVariants.{Digits}
 use Rattle.vp_format.specs.Codes.{code_of, Spelled, spelled, joined, symbols_behind}
 use Rattle.vp_format.specs.Pictures.{Value}
-use Rattle.vp_format.specs.Cursors.{count_value, digit_value, symbols_from, Filled, Reached}
-use Rattle.vp_format.proofs.Reached.{run_reached, run_done, reached_at, digit_is, digit_in_hand}
+use Rattle.vp_format.specs.Cursors.{count_value, digit_value, symbols_from, symbols_at, Filled, Reached}
+use Rattle.vp_format.proofs.Reached.{run_reached, run_done, reached_at, start_reached, digit_is, digit_in_hand}
 
 -- places from x on may be overwritten
 pub reached_same : (w : ℕ) (all : List Spelled) (from : ℕ) (old new : List ℕ) (x : ℕ) (left : List Spelled) (at : ℕ) → ((j : ℕ) → j < x → get_or new j 0 ≡ get_or old j 0)
@@ -41,6 +45,22 @@ digits_reached w all from old new x codes at (suc k) kept inside few put r =
     let run = run_reached w all from new new (x + k) (x + suc k) 1 v 1 (symbols_from codes (at + suc k)) (at + k) (omega arith) (omega arith) (few k (omega arith)) (reached_at w all from new (x + k) (x + k) _ _ (at + k) (at + k) refl first refl before) filled in
     reached_at w all from new (x + suc k) (x + suc k) _ _ _ _ refl refl (omega arith) (run_done w all from new (x + suc k) _ v (symbols_from codes (at + suc k)) (at + k + 1) (omega arith) run)
 
+-- the values of so many bytes from a place on
+abbrev pub values_from : List ℕ → ℕ → ℕ → List ℕ
+values_from codes at n = map (λ b. digit_value (code_of b)) (take n (drop at codes))
+
+pub value_from : (codes : List ℕ) (at n j : ℕ) → at + n ≤ length codes → j < n → get_or (values_from codes at n) j 0 ≡ digit_value (code_of (get_or codes (at + j) 0))
+value_from codes at n j inside l = get_or-map (λ b. digit_value (code_of b)) (take n (drop at codes)) j 0 0 (omega (arith, l, length-chunk at n codes inside)) ∙ ap (λ b. digit_value (code_of b)) (get_or-chunk at n codes j 0 l)
+
+-- a row of digits alone, where no run is left
+pub plain_reached : (w : ℕ) (codes : List ℕ) (s : Spot) → s.left ≡ 0 → s.at + w ≤ length codes → ((k : ℕ) → k < w → digit_value (code_of (get_or codes (s.at + k) 0)) < 16)
+    → Reached w (symbols_at RunLength codes s) s.at (values_from codes s.at w) w (symbols_from codes (s.at + w)) (s.at + w)
+plain_reached w codes s none inside few =
+    let all = symbols_at RunLength codes s in
+    let vs = values_from codes s.at w in
+    let begun = run_done w all s.at vs 0 s.left s.digit (symbols_from codes s.at) s.at none (start_reached w all s.at vs) in
+    reached_at w all s.at vs (0 + w) w _ _ _ _ (omega arith) refl refl (digits_reached w all s.at vs vs 0 codes s.at w (λ j l. refl) inside few (λ i l. let e : 0 + i ≡ i = omega arith in ap (λ k. get_or vs k 0) e ∙ value_from codes s.at w i inside l) begun)
+
 -- the symbols behind counts, from a byte on
 behind_next : (codes : List ℕ) (at n k : ℕ) → at < length codes → symbols_behind (drop at codes) n k ≡ joined (code_of (get_or codes at 0)) n k (symbols_behind (drop (at + 1) codes))
 behind_next codes at n k inside = ap (λ cs. symbols_behind cs n k) (drop_more codes at 0 inside)
@@ -54,18 +74,23 @@ small_digits : (b : ℕ) → b < 256 → small_digit (code_of b) ≡ true
 unfolding code_of
 small_digits b h = agree_below_at (λ b. small_digit (code_of b)) (λ _. true) 256 b refl h
 
-count_is : (c : Code) → small_digit c ≡ true → 16 ≤ digit_value c → count_value c ≤ 400 → c ≡ Count (count_value c)
+-- no byte adds more than one that is neither digit nor count
+pub count_few : (b : ℕ) → b < 256 → count_value (code_of b) ≤ 1000
+unfolding code_of
+count_few b h = let below = ltb-true (count_value (code_of b)) 1001 (agree_below_at (λ b. ltb (count_value (code_of b)) 1001) (λ _. true) 256 b refl h) in omega (arith, below)
+
+count_is : (c : Code) → small_digit c ≡ true → 16 ≤ digit_value c → count_value c < 1000 → c ≡ Count (count_value c)
 count_is (Digit v) s h l = absurd (omega (arith, ltb-true v 16 s, h))
 count_is (Count n) s h l = refl
 count_is (Fill v) s h l = absurd (omega (arith, l))
 count_is Above s h l = absurd (omega (arith, l))
 count_is Other s h l = absurd (omega (arith, l))
 
-digit_adds : (c : Code) (v : ℕ) → c ≡ Digit v → count_value c ≡ 0
-digit_adds c v e = ap count_value e
+digit_adds : (c : Code) → digit_value c < 16 → count_value c ≡ 0
+digit_adds c h = ap count_value (digit_is c (digit_value c) refl h)
 
 -- one more count
-pub count_taken : (codes : List ℕ) (begun at n sum : ℕ) → at < length codes → get_or codes at 0 < 256 → begun ≤ at → 16 ≤ digit_value (code_of (get_or codes at 0)) → sum ≡ n + count_value (code_of (get_or codes at 0)) → sum ≤ 400
+count_taken : (codes : List ℕ) (begun at n sum : ℕ) → at < length codes → get_or codes at 0 < 256 → begun ≤ at → 16 ≤ digit_value (code_of (get_or codes at 0)) → sum ≡ n + count_value (code_of (get_or codes at 0)) → sum < 1000
     → symbols_from codes begun ≡ symbols_behind (drop at codes) n (at - begun) → symbols_from codes begun ≡ symbols_behind (drop (at + 1) codes) sum (at + 1 - begun)
 count_taken codes begun at n sum inside byte ordered big is few pending =
     let c = code_of (get_or codes at 0) in
@@ -73,18 +98,66 @@ count_taken codes begun at n sum inside byte ordered big is few pending =
     pending ∙ behind_next codes at n (at - begun) inside ∙ ap (λ d. joined d n (at - begun) (symbols_behind (drop (at + 1) codes))) (count_is c (small_digits (get_or codes at 0) byte) big (omega (arith, is, few)))
     ∙ ap (λ m. symbols_behind (drop (at + 1) codes) m (at - begun + 1)) (sym is) ∙ ap (λ k. symbols_behind (drop (at + 1) codes) sum k) e
 
--- a digit behind the counts so far
-pub digit_taken : (w : ℕ) (all : List Spelled) (from : ℕ) (old new : List ℕ) (x : ℕ) (codes : List ℕ) (begun at n sum v : ℕ) → at < length codes → begun ≤ at → v ≡ digit_value (code_of (get_or codes at 0)) → v < 16
-    → sum ≡ n + count_value (code_of (get_or codes at 0)) → sum ≤ 32 → Filled x (x + 32) v old new → symbols_from codes begun ≡ symbols_behind (drop at codes) n (at - begun)
-    → Reached w all from old x (symbols_from codes begun) begun → Reached w all from new (x + max sum 1) (symbols_from codes (at + 1)) (at + 1)
-digit_taken w all from old new x codes begun at n sum v inside ordered is few adds short f pending r =
+-- one count or none, from a byte on
+one_counted : (codes : List ℕ) (at n next : ℕ) → at < length codes → get_or codes at 0 < 256 → n ≡ count_value (code_of (get_or codes at 0)) → n < 1000 → (0 < n → next ≡ at + 1) → (n ≡ 0 → next ≡ at)
+    → symbols_from codes at ≡ symbols_behind (drop next codes) n (next - at)
+one_counted codes at n next inside byte is few one none =
     let c = code_of (get_or codes at 0) in
-    let digit = digit_is c v is few in
-    let none = digit_adds c v digit in
-    let same : n ≡ sum = omega (arith, adds, none) in
-    let left = symbols_from codes (at + 1) in
-    let first : symbols_from codes begun ≡ spelled (Digits (max sum 1) v) (at - begun + 1) ∷ left =
-    pending ∙ behind_next codes at n (at - begun) inside ∙ ap (λ d. joined d n (at - begun) (symbols_behind (drop (at + 1) codes))) digit ∙ ap (λ m. spelled (Digits (max m 1) v) (at - begun + 1) ∷ left) same in
-    let filled : Filled x (x + max sum 1) v old new = record { kept = f.kept; filled = λ j l m. f.filled j l (omega (arith, m, short)) } in
-    let run = run_reached w all from old new x (x + max sum 1) (max sum 1) v (at - begun + 1) left begun (omega arith) (omega arith) few (reached_at w all from old x x _ _ begun begun refl first refl r) filled in
-    reached_at w all from new (x + max sum 1) (x + max sum 1) _ _ _ _ refl refl (omega (arith, ordered)) (run_done w all from new (x + max sum 1) _ v left (begun + (at - begun + 1)) (omega arith) run)
+    elim (cases_lt 0 n) [
+      | inl l ↦ (let here = one l in
+          let big : 16 ≤ digit_value c = elim (cases_lt (digit_value c) 16) [ inl d ↦ absurd (omega (arith, digit_adds c d, is, l)) | inr g ↦ g ] in
+          let nought : 0 ≡ at - at = omega arith in
+          count_taken codes at at 0 n inside byte (omega arith) big (omega (arith, is)) few (ap (λ k. symbols_behind (drop at codes) 0 k) nought) ∙ ap (λ k. symbols_behind (drop k codes) n (k - at)) (sym here))
+      | inr g ↦ (let nought : 0 ≡ n = omega arith in
+          let here = none (sym nought) in
+          let zero : 0 ≡ next - at = omega (arith, here) in
+          ap (λ k. symbols_behind (drop k codes) 0 0) (sym here) ∙ ap (λ k. symbols_behind (drop next codes) 0 k) zero ∙ ap (λ m. symbols_behind (drop next codes) m (next - at)) nought)
+    ]
+
+-- a digit behind counts
+digit_behind : (codes : List ℕ) (at n next v m to : ℕ) → next < length codes → at ≤ next → v ≡ digit_value (code_of (get_or codes next 0)) → v < 16 → m ≡ max n 1 → to ≡ next + 1 → symbols_from codes at ≡ symbols_behind (drop next codes) n (next - at)
+    → symbols_from codes at ≡ spelled (Digits m v) (to - at) ∷ symbols_from codes to
+digit_behind codes at n next v m to inside ordered shows digit takes there counted =
+    let long : next - at + 1 ≡ to - at = omega (arith, there, ordered) in
+    counted ∙ behind_next codes next n (next - at) inside ∙ ap (λ d. joined d n (next - at) (symbols_behind (drop (next + 1) codes))) (digit_is (code_of (get_or codes next 0)) v shows digit)
+    ∙ ap (λ k. spelled (Digits k v) (next - at + 1) ∷ symbols_from codes (next + 1)) (sym takes) ∙ ap (λ k. spelled (Digits m v) k ∷ symbols_from codes (next + 1)) long ∙ ap (λ k. spelled (Digits m v) (to - at) ∷ symbols_from codes k) (sym there)
+
+-- a plain digit
+pub plain_symbol : (codes : List ℕ) (at : ℕ) → at < length codes → digit_value (code_of (get_or codes at 0)) < 16 → symbols_from codes at ≡ spelled (Digits 1 (digit_value (code_of (get_or codes at 0)))) (at + 1 - at) ∷ symbols_from codes (at + 1)
+plain_symbol codes at inside digit = let nought : 0 ≡ at - at = omega arith in digit_behind codes at 0 at _ 1 (at + 1) inside (omega arith) refl digit refl refl (ap (λ k. symbols_behind (drop at codes) 0 k) nought)
+
+-- a digit behind one count or none
+pub run_symbol : (codes : List ℕ) (at n next v m to : ℕ) → next < length codes → at ≤ next → get_or codes at 0 < 256 → n ≡ count_value (code_of (get_or codes at 0)) → n < 1000 → (0 < n → next ≡ at + 1) → (n ≡ 0 → next ≡ at) → v ≡ digit_value (code_of (get_or codes next 0)) → v < 16 → m ≡ max n 1
+    → to ≡ next + 1 → symbols_from codes at ≡ spelled (Digits m v) (to - at) ∷ symbols_from codes to
+run_symbol codes at n next v m to inside ordered byte is few one none shows digit takes there =
+    digit_behind codes at n next v m to inside ordered shows digit takes there (one_counted codes at n next (omega (arith, ordered, inside)) byte is few one none)
+
+-- a digit behind two
+pub second_symbol : (codes : List ℕ) (at n next sum v m to : ℕ) → next + 1 < length codes → at ≤ next → ((i : ℕ) → get_or codes i 0 < 256) → n ≡ count_value (code_of (get_or codes at 0)) → (0 < n → next ≡ at + 1) → (n ≡ 0 → next ≡ at) → 16 ≤ digit_value (code_of (get_or codes next 0)) → sum ≡ n + count_value (code_of (get_or codes next 0)) → sum < 1000
+    → v ≡ digit_value (code_of (get_or codes (next + 1) 0)) → v < 16 → m ≡ max sum 1 → to ≡ next + 2 → symbols_from codes at ≡ spelled (Digits m v) (to - at) ∷ symbols_from codes to
+second_symbol codes at n next sum v m to inside ordered bytes is one none big adds few shows digit takes there =
+    digit_behind codes at sum (next + 1) v m to inside (omega (arith, ordered)) shows digit takes (omega (arith, there))
+    (count_taken codes at next n sum (omega (arith, inside)) (bytes next) ordered big adds few (one_counted codes at n next (omega (arith, inside, ordered)) (bytes at) is (omega (arith, adds, few)) one none))
+
+-- a short run in the places
+pub run_taken : (w : ℕ) (all : List Spelled) (from : ℕ) (old new : List ℕ) (x n v k : ℕ) (left : List Spelled) (at to : ℕ) → 0 < n → n ≤ 32 → v < 16 → at ≤ to → k ≡ to - at → Filled x (x + 32) v old new
+    → Reached w all from old x (spelled (Digits n v) k ∷ left) at → Reached w all from new (x + n) left to
+run_taken w all from old new x n v k left at to some short few ordered long f r =
+    let filled : Filled x (x + n) v old new = record { kept = f.kept; filled = λ j l m. f.filled j l (omega (arith, m, short)) } in
+    let run = run_reached w all from old new x (x + n) n v k left at (omega (arith, some)) (omega arith) few r filled in
+    reached_at w all from new (x + n) (x + n) _ _ (at + k) to refl refl (omega (arith, ordered, long)) (run_done w all from new (x + n) _ v left (at + k) (omega arith) run)
+
+-- the byte behind a count, and that of a digit
+pub behind_count : (b n r at : ℕ) → b < 256 → n ≡ count_value (code_of b) → n < 1000 → r ≡ bool_byte (ltb 102 (bit_or b 32)) → (0 < n → at + r ≡ at + 1) × (n ≡ 0 → at + r ≡ at)
+unfolding code_of
+behind_count b n r at h is few e =
+    let known : ltb (count_value (code_of b)) 1000 ≡ true = lt-ltb _ 1000 (omega (arith, is, few)) in
+    let asked : ltb 102 (bit_or b 32) ≡ ltb 0 (count_value (code_of b)) =
+    ap (λ t. cond t (ltb 102 (bit_or b 32)) true) (sym known) ∙ agree_below_at (λ x. cond (ltb (count_value (code_of x)) 1000) (ltb 102 (bit_or x 32)) true) (λ x. cond (ltb (count_value (code_of x)) 1000) (ltb 0 (count_value (code_of x))) true) 256 b refl h
+    ∙ ap (λ t. cond t (ltb 0 (count_value (code_of b))) true) known in
+    let so : r ≡ bool_byte (ltb 0 n) = e ∙ ap bool_byte (asked ∙ ap (ltb 0) (sym is)) in
+    (λ l. ap (λ k. at + k) (so ∙ ap bool_byte (lt-ltb 0 n l)), λ z. omega (arith, so ∙ ap (λ m. bool_byte (ltb 0 m)) z))
+
+pub one_most : (r : ℕ) (b : Bool) → r ≡ bool_byte b → r ≤ 1
+one_most r true e = omega (arith, e)
+one_most r false e = omega (arith, e)

@@ -1,5 +1,5 @@
 -- So many readings, one after the other.
-use Rattle.std.proofs.Common.{inl, inr, ◌≡◌, ℕ, zero, suc, ◌+◌, ◌-◌, ◌<◌, ◌≤◌, Bool, true, false, Ok, Err, subst, ap, sym, ◌∙◌, refl, arith}
+use Rattle.std.proofs.Common.{inl, inr, ◌≡◌, ℕ, zero, suc, ◌+◌, ◌-◌, ◌<◌, ◌≤◌, true, false, Ok, Err, subst, ap, sym, ◌∙◌, refl, arith}
 use Rattle.std.proofs.lemmas.Bool.{cases_lt, cases_Bool, lt-ltb, le-ltb}
 use Rattle.vp_dots.specs.declared.fault.Fault.{Fault}
 use Rattle.vp_format.specs.Pictures.{Picture, Cursor, is_refused, answer, row_after, unless_fault, passing, rows_after}
@@ -75,22 +75,6 @@ way_even a b d rows left k w few room is taken =
       same = rw (is, picture, first) refl;
       answer = w.answer ∙ all.0 ∙ ap (λ y. passing a.picture y (left - k)) (sym next);
       row = w.row ∙ all.1 ∙ ap (λ y. rows_after a.picture y (left - k)) (sym next);
-    }
-
--- a row is read
-pub way_read : (a b d : Cursor) (rows left : ℕ) (ok : Bool) → OnWay a b rows left → 0 < left → Ok ok ≡ answer b.picture b.next → d ≡ record { picture = b.picture; first = b.first; next = row_after b.picture b.next }
-    → OnWay a d rows (left - 1)
-way_read a b d rows left ok w some read is =
-    let picture = ap (λ (v : Cursor). v.picture) w.same in
-    let first = ap (λ (v : Cursor). v.first) w.same in
-    let next : d.next ≡ row_after a.picture b.next = ap (λ (v : Cursor). v.next) is ∙ ap (λ (p : Picture). row_after p b.next) picture in
-    let step = first_read a.picture b.next left some in
-    let told : Ok ok ≡ answer a.picture b.next = read ∙ ap (λ (p : Picture). answer p b.next) picture in
-    record {
-      same = is ∙ ap (λ (p : Picture). let v : Cursor = record { picture = p; first = b.first; next = row_after b.picture b.next } in v) picture
-          ∙ ap (λ (f : ℕ). let v : Cursor = record { picture = a.picture; first = f; next = row_after b.picture b.next } in v) first ∙ ap (at_row a) (sym (ap (λ (v : Cursor). v.next) is));
-      answer = w.answer ∙ step.0 ∙ ap (λ r. unless_fault r (passing a.picture (row_after a.picture b.next) (left - 1))) (sym told) ∙ ap (λ y. passing a.picture y (left - 1)) (sym next);
-      row = w.row ∙ step.1 ∙ ap (λ y. rows_after a.picture y (left - 1)) (sym next);
     }
 
 -- a fault stops it

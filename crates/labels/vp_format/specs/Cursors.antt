@@ -1,5 +1,5 @@
 -- What a cursor keeps of the codes.
-use Rattle.std.specs.Prelude.{◌≡◌, ℕ, zero, suc, true, false, ◌*◌, ◌+◌, ◌-◌, ◌≤◌, ◌<◌, ◌==◌, if◌then◌else◌, List, ◌∷◌, drop, length, slice_index, Option, None, Some}
+use Rattle.std.specs.Prelude.{◌≡◌, ℕ, zero, suc, Bool, true, false, ◌&&◌, ◌||◌, ◌*◌, ◌+◌, ◌-◌, ◌≤◌, ◌<◌, ◌==◌, if◌then◌else◌, List, ◌∷◌, drop, length, slice_index, Option, None, Some}
 use Rattle.std.specs.Int.{w64, trailing_zeros}
 use Rattle.vp_format.specs.declared.codes.Code.{Code}
 use Rattle.vp_format.specs.declared.codes.Code.TheVariants.{Digit, Count, Fill}
@@ -13,7 +13,7 @@ use Rattle.vp_format.specs.declared.rows.RunRows.TheInside.{Inside}
 use Rattle.vp_format.specs.declared.codes.Symbol.{Symbol}
 use Rattle.vp_format.specs.declared.codes.Symbol.TheVariants.{Digits, ToEnd}
 use Rattle.vp_format.specs.Codes.{Spelled, spelled, symbols}
-use Rattle.vp_format.specs.Pictures.{Value, AsAbove, shown, bytes_before, value_of, Picture, width_of, value, is_refused, start_above, bound_of, start_of, nibble, Cursor}
+use Rattle.vp_format.specs.Pictures.{Value, AsAbove, shown, is_nothing, bytes_before, value_of, Picture, width_of, value, is_refused, start_above, bound_of, start_of, nibble, Cursor}
 
 -- the value of a digit, and 16 of another code
 abbrev pub digit_value : Code → ℕ
@@ -87,6 +87,14 @@ symbols_at coding codes s = spelled (Digits s.left s.digit) 0 ∷ symbols coding
 abbrev pub spot_behind : ℕ → Spot → ℕ → Spot
 spot_behind width s k = record { left = s.left - width * k; digit = s.digit; at = s.at }
 
+-- no code is left from a spot on, and no run but a white one: white is all that comes
+abbrev pub is_white : ℕ → Spot → Bool
+is_white codes s = s.at == codes && (s.left == 0 || s.digit == 0)
+
+-- the row before white is all that comes may have no code
+abbrev pub white_rest : ℕ → Spot → ℕ
+white_rest codes s = if is_white codes s then 1 else 0
+
 -- rows from a spot on show one value, no code spells them, and the row behind them starts at another spot
 pub record Even (width : ℕ) (coding : Coding) (codes : List ℕ) (s : Spot) (k v : ℕ) (after : Spot) : Type 0 where
   pub spot : IsSpot codes after
@@ -117,6 +125,12 @@ pub record Reached (width : ℕ) (all : List Spelled) (from : ℕ) (places : Lis
   pub small : AreSmall x places
   pub ahead : (j : ℕ) → x ≤ j → shown width 0 all j ≡ shown width x left j
   pub bytes : (j : ℕ) → x ≤ j → from + bytes_before width 0 all j ≡ at + bytes_before width x left j
+
+-- none of the symbols that start before a place is refused, and the places from there on show what those show
+-- that are left
+pub record Passed (width : ℕ) (all : List Spelled) (x : ℕ) (left : List Spelled) : Type 0 where
+  pub taken : (j : ℕ) → j < x → is_nothing (shown width 0 all j) ≡ false
+  pub ahead : (j : ℕ) → x ≤ j → shown width 0 all j ≡ shown width x left j
 
 -- the row that starts at a spot stands in the bytes, which were those of the row before; it is that one once
 -- more or not, and the next row starts at another spot
@@ -166,6 +180,13 @@ picture_of c = record { coding = c.coding; codes = c.codes.bytes.now; row_bytes 
 abbrev pub cursor_of : Inside → Cursor
 cursor_of c = record { picture = picture_of c; first = c.first; next = c.mark.next }
 
+-- each row that was passed by its codes has a byte of them, or is the last before white is all that comes, or
+-- is the row before the first
+pub record ArePassed (c : Inside) : Type 0 where
+  pub bytes : start_of (picture_of c) c.first + c.passed
+      ≤ c.mark.here.at + white_rest (length c.codes.bytes.now) c.mark.here + 1
+  pub rows : c.first + c.passed ≤ c.mark.next + 1
+
 -- the cursor keeps the row before, until one is refused
 pub record IsCursor (c : Inside) : Type 0 where
   pub some : 0 < c.row_bytes
@@ -178,3 +199,4 @@ pub record IsCursor (c : Inside) : Type 0 where
   pub reading : IsReading c.codes
   pub least : c.mark.here.at ≤ start_of (picture_of c) c.first + c.codes.read
   pub most : bound_of (picture_of c) c.first + c.codes.read ≤ c.codes.at
+  pub passed : ArePassed c

@@ -1,5 +1,5 @@
 //! What a byte of run-length codes is.
-ghost use Rattle.std.specs.Prelude.{◌≡◌};
+ghost use Rattle.std.specs.Prelude.{◌≡◌, ◌≤◌};
 ghost use Rattle.vp_format.specs.Codes.{code_of};
 ghost use Rattle.vp_format.specs.Cursors.{SmallCode, count_value, digit_value};
 
@@ -91,7 +91,8 @@ const COUNTS: [u16; 256] = [
 
 /// What a byte adds to the counts before it: none of a digit, and 1,000 of a byte that is neither.
 pub fn count_value(b: u8) -> u16
-    ensures { result ≡ count_value (code_of b) }
+    ensures value { result ≡ count_value (code_of b) }
+    ensures few { result ≤ 1000 }
 {
     COUNTS[b as usize]
 }

@@ -1,17 +1,18 @@
 //! Plain digits, sixteen at a time.
-ghost use Rattle.std.specs.Prelude.{◌≡◌, ℕ, ◌+◌, ◌<◌, ◌≤◌, List, length, slice_index};
+ghost use Rattle.std.specs.Prelude.{◌≡◌, ℕ, ◌+◌, ◌*◌, ◌<◌, ◌≤◌, true, false, List, length, slice_index};
 ghost use Rattle.vp_format.specs.Codes.{Spelled, code_of};
+ghost use Rattle.vp_format.specs.Pictures.{nibble};
 ghost use Rattle.vp_format.specs.Cursors.{digit_value, first_set, symbols_from, Reached};
 
 use crate::packing::SHORT;
 use std::simd::prelude::*;
 
 /// How many bytes are looked at at once.
-const LANES: usize = 16;
+pub const LANES: usize = 16;
 
 /// How many of the bytes from a place on are digits, of the next sixteen.
 #[inline(always)]
-fn digits_in(bytes: &[u8], at: usize) -> usize
+pub fn digits_in(bytes: &[u8], at: usize) -> usize
     requires { at + LANES ≤ length bytes.now }
     ensures few { result ≤ LANES }
     ensures digits { (k : ℕ) → k < result → digit_value (code_of (slice_index bytes.now (at + k))) < 16 }
@@ -84,4 +85,70 @@ pub fn digits(
         }
     }
     (x, at)
+}
+
+/// Whether so many bytes from a place on are there, and digits; fewer than sixteen are not looked at.
+fn are_digits(bytes: &[u8], at: usize, n: usize) -> bool
+    requires { at ≤ length bytes.now }
+    ensures inside { result ≡ true → at + n ≤ length bytes.now }
+    ensures digits { result ≡ true → (k : ℕ) → k < n →
+        digit_value (code_of (slice_index bytes.now (at + k))) < 16 }
+{
+    if n < LANES || bytes.len() - at < n {
+        return false;
+    }
+    let mut k = 0;
+    while n - k >= LANES {
+        if digits_in(bytes, at + k) < LANES {
+            return false;
+        }
+        k += LANES;
+    }
+    digits_in(bytes, at + (n - LANES)) == LANES
+}
+
+/// Puts sixteen digits into eight bytes of a row, from byte i on.
+#[inline(always)]
+fn pack_digits(bytes: &[u8], at: usize, i: usize, row: &mut [u8])
+    requires bytes { at + LANES ≤ length bytes.now }
+    requires room { i + 8 ≤ length row.old }
+    ensures len { length row.new ≡ length row.old }
+    ensures kept { (k : ℕ) → k < i → slice_index row.new k ≡ slice_index row.old k }
+    ensures packed { ((k : ℕ) → k < LANES → digit_value (code_of (slice_index bytes.now (at + k))) < 16) →
+        (k : ℕ) → k < 8 → slice_index row.new (i + k)
+        ≡ digit_value (code_of (slice_index bytes.now (at + 2 * k))) * 16
+        + digit_value (code_of (slice_index bytes.now (at + (2 * k + 1)))) }
+{
+    let codes = u8x16::from_slice(&bytes[at..]);
+    let letters = codes >> u8x16::splat(6);
+    let values = (codes & u8x16::splat(15)) + letters * u8x16::splat(9);
+    let (high, low) = values.deinterleave(values);
+    (high * u8x16::splat(16) + low)
+        .extract::<0, 8>()
+        .copy_to_slice(&mut row[i..]);
+}
+
+/// Reads a row from a place of the codes on, if digits alone spell it: whether they do.
+pub fn plain_row(bytes: &[u8], at: usize, row: &mut [u8]) -> bool
+    requires at { at ≤ length bytes.now }
+    requires short { length row.old ≤ 1024 }
+    ensures len { length row.new ≡ length row.old }
+    ensures inside { result ≡ true → at + 2 * length row.old ≤ length bytes.now }
+    ensures digits { result ≡ true → (k : ℕ) → k < 2 * length row.old →
+        digit_value (code_of (slice_index bytes.now (at + k))) < 16 }
+    ensures packed { result ≡ true → (j : ℕ) → j < 2 * length row.old →
+        nibble row.new j ≡ digit_value (code_of (slice_index bytes.now (at + j))) }
+    ensures kept { result ≡ false → row.new ≡ row.old }
+{
+    let n = row.len();
+    if n < 8 || !are_digits(bytes, at, 2 * n) {
+        return false;
+    }
+    let mut i = 0;
+    while n - i >= 8 {
+        pack_digits(bytes, at + 2 * i, i, row);
+        i += 8;
+    }
+    pack_digits(bytes, at + 2 * (n - 8), n - 8, row);
+    true
 }

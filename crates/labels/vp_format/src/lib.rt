@@ -5,11 +5,12 @@
 //! - `digits`, `short_runs`: the codes that most pictures are made of, read in a quick way.
 //! - `packing`: the places of a row, and its bytes.
 //! - `row`: the row that starts at a place of the codes.
-//! - `rows`: the rows, one after the other.
+//! - `rows`: the rows, one after the other. `checking`: whether any is refused.
 //! - `law`: the laws of codes.
 //! - `field`, `format`: closed fields, and the format that holds them.
 #![tactic(auto)]
 
+mod checking;
 mod codes;
 mod digits;
 mod field;
@@ -21,6 +22,7 @@ mod row;
 mod rows;
 mod short_runs;
 
+pub use checking::check;
 pub use field::{BarCode, Bars, Block, Content, Field, GraphicBox, Picture, QrSymbol, Span, Text};
 pub use format::{FIELDS, Format, STORED};
 pub use law::{binary_law, codes_law, digits_law};

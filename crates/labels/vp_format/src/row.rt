@@ -7,7 +7,7 @@ ghost use Rattle.vp_format.specs.declared.rows.Spot.{Spot};
 ghost use Rattle.vp_format.specs.declared.rows.Coding.TheVariants.{RunLength, Binary};
 
 use crate::codes::{Code, Symbol, code_of};
-use crate::digits::digits;
+use crate::digits::{digits, plain_row};
 use crate::packing::{SHORT, fill, pack_filled};
 use crate::reading::Codes;
 use crate::rows::{Coding, Spot};
@@ -100,7 +100,7 @@ fn alone(count: u128, symbol: Symbol) -> Symbol
 }
 
 /// The symbol that begins with a byte.
-fn symbol_of(codes: &mut Codes, first: u8) -> Symbol
+pub fn symbol_of(codes: &mut Codes, first: u8) -> Symbol
     requires { IsReading codes.old }
     ensures advanced { Advanced codes.old codes.new }
     ensures symbol { joined (code_of first) 0 0 (symbols_behind (drop codes.old.at codes.old.bytes.now))
@@ -203,6 +203,11 @@ fn decode(
         (record { left = end.left; digit = end.digit; at = codes.new.at }) row.old row.new) }
 {
     if left == 0 {
+        let at = codes.at();
+        if plain_row(codes.bytes(), at, row) {
+            codes.go_on_to(at + 2 * row.len());
+            return Ok(ended(0, 0));
+        }
         return read_on(codes, 0, places, row);
     }
     let width = 2 * row.len();

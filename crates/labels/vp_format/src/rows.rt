@@ -1,7 +1,7 @@
 //! The rows of a picture, one after the other.
-ghost use Rattle.std.specs.Prelude.{◌≡◌, ℕ, ◌+◌, ◌-◌, ◌*◌, ◌^◌, if◌then◌else◌, ◌<◌, ◌≤◌, Result, Ok, true, false, List, length};
+ghost use Rattle.std.specs.Prelude.{◌≡◌, ℕ, ◌+◌, ◌-◌, ◌*◌, ◌^◌, if◌then◌else◌, ◌<◌, ◌≤◌, Result, Ok, Err, IfOk, IfErr, true, false, List, length};
 ghost use Rattle.vp_format.specs.Pictures.{value, is_refused, nibble, answer, row_after, passing, rows_after, start_of, bound_of};
-ghost use Rattle.vp_format.specs.Cursors.{marked_row, IsMark, IsSpot, IsWhole, spot_behind, Even};
+ghost use Rattle.vp_format.specs.Cursors.{marked_row, is_white, IsMark, IsSpot, IsWhole, spot_behind, Even};
 
 use crate::packing::SHORT;
 use crate::reading::Codes;
@@ -33,9 +33,15 @@ pub struct Spot {
 }
 
 impl Spot {
+    /// Whether white is all that comes: no code is left of so many bytes, and no run but a white one.
+    fn is_white(self, codes: usize) -> bool
+        ensures { result ≡ is_white codes self }
+    {
+        self.at == codes && (self.left == 0 || self.digit == 0)
+    }
+
     /// How many rows of so many bytes from a spot on, of the most that are asked for, are one digit that no
-    /// code spells, and the digit: rows that a run covers whole, and white ones where no code and no run is
-    /// left.
+    /// code spells, and the digit: rows that a run covers whole, and those where white is all that comes.
     fn even_rows(self, row_bytes: usize, codes: usize, most: u32) -> (u32, u8)
         requires some { 0 < row_bytes }
         requires short { row_bytes ≤ 1024 }
@@ -45,12 +51,14 @@ impl Spot {
         ensures even { (coding : Coding) (bytes : List ℕ) (k : ℕ) → length bytes ≡ codes → IsSpot bytes self →
             IsWhole coding self → k ≤ result.0 →
             Even (2 * row_bytes) coding bytes self k result.1 (spot_behind (2 * row_bytes) self k) }
+        ensures none { result.0 ≡ 0 → 0 < most →
+            (self.left < 2 * row_bytes) × (is_white codes self ≡ false) }
     {
         let places = 2 * row_bytes as u128;
         if self.left >= places {
             let rows = (self.left / places).min(u128::from(most));
             (rows as u32, self.digit)
-        } else if self.left == 0 && self.at == codes {
+        } else if self.is_white(codes) {
             (most, 0)
         } else {
             (0, self.digit)
@@ -160,6 +168,8 @@ pub struct RunRows<'a> {
     /// The room in which a row is put together.
     places: [u8; PLACES],
     refused: bool,
+    /// How many rows were passed by their codes, with the one that was read again to go on at a mark.
+    passed: u64,
 }
 
 impl<'a> Model for RunRows<'a> {
@@ -199,6 +209,7 @@ impl<'a> RunRows<'a> {
             row: [0; ROW],
             places: [0; PLACES],
             refused: false,
+            passed: 0,
         }
     }
 
@@ -239,13 +250,18 @@ impl<'a> RunRows<'a> {
         }
     }
 
-    /// Passes rows that no code spells, so many at most, and says how many they are.
-    fn pass_even(&mut self, most: u32) -> u32
+    /// Passes rows, so many at most: at once those that no code spells, else one by its codes, which is
+    /// counted.
+    fn pass(&mut self, most: u32) -> Result<u32, Fault>
+        requires some { 0 < most }
+        requires rows { self.old.next + most ≤ self.old.picture.rows }
         requires room { self.old.next + most < 2 ^ 32 }
-        ensures most { result ≤ most }
-        ensures next { self.new ≡ record self.old { next = self.old.next + result } }
-        ensures taken { (y : ℕ) → self.old.next ≤ y → y < self.old.next + result →
-            is_refused self.old.picture y ≡ false }
+        ensures some { IfOk result (λ k. (0 < k) × (k ≤ most)) }
+        ensures next { IfOk result (λ k. self.new ≡ record self.old { next = self.old.next + k }) }
+        ensures taken { IfOk result (λ k. (y : ℕ) → self.old.next ≤ y → y < self.old.next + k →
+            is_refused self.old.picture y ≡ false) }
+        ensures fault { IfErr result (λ why. (Err why ≡ answer self.old.picture self.old.next)
+            × (self.new ≡ record self.old { next = row_after self.old.picture self.old.next })) }
     {
         let (rows, v) = self
             .mark
@@ -254,8 +270,25 @@ impl<'a> RunRows<'a> {
         if rows > 0 {
             self.row = [v * 16 + v; ROW];
             self.mark = self.mark.behind_even(self.row_bytes, rows);
+            return Ok(rows);
         }
-        rows
+        if self.refused {
+            return Err(Fault::Graphic);
+        }
+        let Ok(end) = next_row(
+            &mut self.codes,
+            self.coding,
+            self.mark.here,
+            self.row_bytes,
+            &mut self.places,
+            &mut self.row,
+        ) else {
+            self.refused = true;
+            return Err(Fault::Graphic);
+        };
+        self.mark = self.mark.behind(end, self.codes.at());
+        self.passed += 1;
+        Ok(1)
     }
 
     /// Goes on as so many calls of `next_row` would, and answers the first fault that one of them would. Rows
@@ -269,12 +302,8 @@ impl<'a> RunRows<'a> {
             if self.mark.next >= self.rows {
                 return Ok(());
             }
-            let even = self.pass_even(left.min(self.rows - self.mark.next));
-            left -= even;
-            if even == 0 {
-                let _ = self.next_row(&mut [])?;
-                left -= 1;
-            }
+            let passed = self.pass(left.min(self.rows - self.mark.next))?;
+            left -= passed;
         }
         Ok(())
     }
@@ -345,6 +374,7 @@ impl<'a> RunRows<'a> {
             row,
             places,
             refused: false,
+            passed: 1,
         }
     }
 
@@ -356,5 +386,15 @@ impl<'a> RunRows<'a> {
         ensures at_most { bound_of self.now.picture self.now.first + result ≤ length self.now.picture.codes }
     {
         self.codes.read()
+    }
+
+    /// How many rows `skip` passed by their codes, with the one that `resume` read again. Each has a byte of
+    /// the codes, but that one and the last before white is all that comes.
+    pub fn passed(&self) -> u64
+        ensures bytes { start_of self.now.picture self.now.first + result
+            ≤ start_of self.now.picture self.now.next + 2 }
+        ensures at_most { result ≤ length self.now.picture.codes + 2 }
+    {
+        self.passed
     }
 }

@@ -1,15 +1,61 @@
-//! Short runs, one code after the other.
-ghost use Rattle.std.specs.Prelude.{◌≡◌, ℕ, ◌+◌, ◌<◌, ◌≤◌, List, length};
-ghost use Rattle.vp_format.specs.Codes.{Spelled};
+//! Digits with the counts before them, and the short ones of them in a row.
+ghost use Rattle.std.specs.Prelude.{◌≡◌, ℕ, ◌+◌, ◌-◌, ◌∷◌, ◌<◌, ◌≤◌, List, length};
+ghost use Rattle.vp_format.specs.Codes.{Spelled, spelled};
 ghost use Rattle.vp_format.specs.Cursors.{symbols_from, Reached};
+ghost use Rattle.vp_format.specs.declared.codes.Symbol.TheVariants.{Digits};
 
 use crate::codes::{count_value, digit_value};
 use crate::packing::{SHORT, fill_short};
 
+/// More than two counts add.
+pub const OTHER: usize = 1000;
+
+/// A digit, and how many places it takes.
+#[derive(Clone, Copy)]
+pub struct Run {
+    pub places: usize,
+    /// 16 or more: another code stands there.
+    pub digit: u8,
+    /// The byte behind it.
+    pub behind: usize,
+}
+
+/// The digit from a byte on, which may stand behind two counts; where it has `OTHER` places or more, another
+/// code stands before it.
+// Whether a count stands before it is added up, not asked, since no processor guesses it.
+#[inline(always)]
+pub fn run_at(bytes: &[u8], at: usize) -> Run
+    requires { at + 1 < length bytes.now }
+    ensures some { 0 < result.places }
+    ensures few { result.places ≤ 2000 }
+    ensures behind { at < result.behind }
+    ensures inside { result.behind ≤ length bytes.now }
+    ensures symbol { result.places < OTHER → result.digit < 16 → symbols_from bytes.now at
+        ≡ spelled (Digits result.places result.digit) (result.behind - at)
+        ∷ symbols_from bytes.now result.behind }
+{
+    let count = usize::from(count_value(bytes[at]));
+    // of digits and counts, these are the counts
+    let next = at + usize::from(bytes[at] | 0x20 > b'f');
+    let digit = digit_value(bytes[next]);
+    if digit < 16 || bytes.len() - next == 1 {
+        return Run {
+            places: count.max(1),
+            digit,
+            behind: next + 1,
+        };
+    }
+    let sum = count + usize::from(count_value(bytes[next]));
+    Run {
+        places: sum.max(1),
+        digit: digit_value(bytes[next + 1]),
+        behind: next + 2,
+    }
+}
+
 /// Reads digits and runs of at most `SHORT` places from a place of a row of so many places on, as long as
 /// they end within it, and gives the place behind them and that of the next code that isn't read.
-// Each code fills as many places, a count with what its digit overwrites, so that nothing hangs on which it
-// is.
+// Each fills as many places, so that nothing hangs on how long it is.
 pub fn short_runs(
     bytes: &[u8],
     first: usize,
@@ -32,23 +78,14 @@ pub fn short_runs(
 {
     let mut x = from;
     let mut at = first;
-    let mut begun = first;
-    let mut count = 0;
-    while at < bytes.len() {
-        let value = digit_value(bytes[at]);
-        let sum = count + usize::from(count_value(bytes[at]));
-        if sum > SHORT || sum.max(1) >= width - x {
+    while bytes.len() - at > 1 {
+        let run = run_at(bytes, at);
+        if run.digit >= 16 || run.places > SHORT || run.places >= width - x {
             break;
         }
-        fill_short(x, value, places);
-        at += 1;
-        if value < 16 {
-            x += sum.max(1);
-            begun = at;
-            count = 0;
-        } else {
-            count = sum;
-        }
+        fill_short(x, run.digit, places);
+        x += run.places;
+        at = run.behind;
     }
-    (x, begun)
+    (x, at)
 }

@@ -20,10 +20,9 @@ use Rattle.vp_zpl.specs.Items.{Item}
 use Rattle.vp_zpl.specs.Items.Item.{Given, Data}
 use Rattle.vp_label_settings.specs.Formats.{is_open}
 use Rattle.vp_label_settings.specs.Settings.{quantity}
-use Rattle.vp_copies.specs.declared.place.Line.{Line}
-use Rattle.vp_copies.specs.declared.place.Line.TheVariants.{Head, Row}
-use Rattle.vp_copies.specs.declared.place.Place.{Place}
-use Rattle.vp_copies.specs.Copies.{band_rows, bytes_above, copies_text, line_bytes, pending}
+use Rattle.vp_output.specs.declared.place.Line.{Line}
+use Rattle.vp_output.specs.declared.place.Line.TheVariants.{Head, Row}
+use Rattle.vp_copies.specs.Copies.{band_rows, bytes_above, copies_text, line_bytes, pending, Place}
 use Rattle.vp_copies.specs.Progress.{IsPlaceOf}
 use Rattle.vp_label.specs.Entries.{printed_entries}
 use Rattle.vp_label.specs.Held.{band_rows_after, fields_after, rows_at}

@@ -1,8 +1,7 @@
 -- Nothing is pending.
 use Rattle.std.proofs.Common.{◌≡◌, ◌+◌, ◌<◌, ℕ, List, [], length, drop, arith, refl, ap, ◌↔◌}
 use Rattle.vp_dots.specs.Images.{Image}
-use Rattle.vp_copies.specs.declared.place.Place.{Place}
-use Rattle.vp_copies.specs.Copies.{bytes_above, copies_text, pending}
+use Rattle.vp_copies.specs.Copies.{bytes_above, copies_text, pending, Place}
 use Rattle.vp_copies.specs.Progress.{IsPlaceOf}
 use Rattle.std.proofs.Common.{◌∙◌, ◌∷◌, inl, inr, Option, Some, None}
 use Rattle.std.specs.Option.{option_or}

@@ -1,5 +1,4 @@
 pub mod Stores
-pub mod Cut
 pub mod Effects
 pub mod Presses
 pub mod Idle

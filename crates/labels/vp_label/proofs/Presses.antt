@@ -5,11 +5,11 @@ use Rattle.std.proofs.lemmas.Bool.{cases_Bool, cases_lt, lt-ltb, le-ltb}
 use Rattle.std.proofs.lemmas.Bool.Decides.{eqb_tells, nat_tests}
 use Rattle.vp_copies.specs.declared.place.Ahead.{Ahead}
 use Rattle.vp_copies.specs.declared.place.Ahead.TheVariants.{Nothing, Band}
-use Rattle.vp_copies.specs.declared.place.Line.{Line}
-use Rattle.vp_copies.specs.declared.place.Line.TheVariants.{Head, Row}
-use Rattle.vp_copies.specs.declared.place.Place.{Place}
-use Rattle.vp_copies.specs.Copies.{advanced, ahead, ahead_of, line_bytes, pending, row_after}
-use Rattle.vp_copies.specs.Progress.{Progress, image_of, IsLineOf}
+use Rattle.vp_output.specs.declared.place.Line.{Line}
+use Rattle.vp_output.specs.declared.place.Line.TheVariants.{Head, Row}
+use Rattle.vp_copies.specs.Copies.{advanced, ahead, ahead_of, line_bytes, pending, Place}
+use Rattle.vp_output.specs.Lines.{row_after, IsLineOf}
+use Rattle.vp_copies.specs.Progress.{Progress, image_of}
 use Rattle.vp_format.specs.declared.field.Field.{Field}
 use Rattle.vp_field.specs.Fields.{stroke_of}
 use Rattle.vp_field.specs.Strokes.{image_dot}

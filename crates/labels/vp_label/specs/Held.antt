@@ -4,7 +4,7 @@ use Rattle.vp_dots.specs.Headers.{header_of}
 use Rattle.vp_dots.specs.Images.{Image, row_bytes, pbm}
 use Rattle.vp_glyph.specs.declared.Sheets.{Sheets}
 use Rattle.vp_zpl.specs.Items.{Item}
-use Rattle.vp_copies.specs.declared.place.Line.TheVariants.{Row}
+use Rattle.vp_output.specs.declared.place.Line.TheVariants.{Row}
 use Rattle.vp_copies.specs.Copies.{band_rows}
 use Rattle.vp_label_settings.specs.Formats.{stored}
 use Rattle.vp_label.specs.Entries.{entries, printed_entries}

@@ -8,7 +8,7 @@ use Rattle.vp_zpl.specs.declared.item.Command.TheVariants.{FormatEnd}
 use Rattle.vp_zpl.specs.Items.{Item}
 use Rattle.vp_zpl.specs.Items.Item.{Given, Data}
 use Rattle.vp_format.specs.declared.field.Field.{Field}
-use Rattle.vp_label_settings.specs.declared.settings.TheConstants.{WIDEST, LONGEST}
+use Rattle.vp_label_size.specs.declared.TheConstants.{WIDEST, LONGEST}
 use Rattle.vp_label_settings.specs.Formats.{is_open}
 use Rattle.vp_label_settings.specs.Settings.{quantity}
 use Rattle.vp_label.specs.Entries.{printed_entries}

@@ -2,17 +2,16 @@
 use Rattle.std.specs.Prelude.{◌≡◌, ◌+◌, ◌/◌, ◌<◌, ◌≤◌, ◌⊎◌, ℕ, List, map}
 use Rattle.vp_dots.specs.Images.{Image}
 use Rattle.vp_glyph.specs.declared.Sheets.{Sheets}
-use Rattle.vp_label_settings.specs.declared.settings.TheConstants.{WIDEST, LONGEST}
+use Rattle.vp_label_size.specs.declared.TheConstants.{WIDEST, LONGEST}
 use Rattle.vp_field.specs.declared.view.View.{View}
 use Rattle.vp_field.specs.Fields.{stroke_of}
 use Rattle.vp_field.specs.Strokes.{image_dot}
 use Rattle.vp_copies.specs.declared.place.Ahead.{Ahead}
 use Rattle.vp_copies.specs.declared.place.Ahead.TheVariants.{Nothing, Copy, Band}
-use Rattle.vp_copies.specs.declared.place.Line.{Line}
-use Rattle.vp_copies.specs.declared.place.Line.TheVariants.{Head, Row}
-use Rattle.vp_copies.specs.declared.place.Place.{Place}
-use Rattle.vp_copies.specs.declared.place.TheConstants.{BAND_ROWS}
-use Rattle.vp_copies.specs.Copies.{ahead, pending}
+use Rattle.vp_output.specs.declared.place.Line.{Line}
+use Rattle.vp_output.specs.declared.place.Line.TheVariants.{Head, Row}
+use Rattle.vp_label_size.specs.declared.TheConstants.{BAND_ROWS}
+use Rattle.vp_copies.specs.Copies.{ahead, pending, Place}
 use Rattle.vp_copies.specs.Progress.{image_of, IsPlaceOf, IsReady}
 use Rattle.vp_label.specs.declared.press.Press.{Press}
 use Rattle.vp_bands.specs.Meeting.{bands_of}

@@ -4,7 +4,7 @@ use Rattle.vp_glyph.specs.declared.Sheets.{Sheets}
 use Rattle.vp_zpl.specs.Items.{Item}
 use Rattle.vp_label.specs.declared.gathered.Gathered.{Gathered}
 use Rattle.vp_label.specs.declared.press.Press.{Press}
-use Rattle.vp_bands.specs.Meeting.{bands_of, pairs}
+use Rattle.vp_bands.specs.Meeting.{bands_of, copy_work, pairs}
 use Rattle.vp_label.specs.Gathered.{Gathers, IsPrinted, to_print}
 use Rattle.vp_label.specs.Prints.{prints, view_of}
 
@@ -25,6 +25,12 @@ abbrev pub met : Printing → ℕ
 met p =
     let view = view_of p.gathered.in_force.settings in
     pairs p.sheets p.gathered.format.stored view p.gathered.format.fields (bands_of view)
+
+-- what painting a copy of the format takes at most
+abbrev pub painting : Printing → ℕ
+painting p =
+    let view = view_of p.gathered.in_force.settings in
+    copy_work p.sheets p.gathered.format.stored view p.gathered.format.fields (bands_of view)
 
 -- as many bytes as whole copies of the format that is held have: none of no copies
 abbrev pub AreCopies : Printing → List ℕ → Type 0

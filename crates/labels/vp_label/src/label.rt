@@ -8,18 +8,18 @@ ghost use Rattle.vp_zpl.specs.Spelling.{Kept};
 ghost use Rattle.vp_zpl.specs.declared.name.Name.{Name};
 ghost use Rattle.vp_label_settings.specs.Formats.{followed_by};
 ghost use Rattle.vp_label.specs.Held.{band_rows_after, fields_after, stored_after};
-ghost use Rattle.vp_copies.specs.declared.place.TheConstants.{BAND_ROWS};
+ghost use Rattle.vp_label_size.specs.declared.TheConstants.{BAND_ROWS};
 ghost use Rattle.vp_format.specs.declared.format.TheConstants.{FIELDS, STORED};
 ghost use Rattle.vp_label.specs.Gathered.{Gathers, IsPrinted, data_room};
 ghost use Rattle.vp_label.specs.Prints.{all_print, is_at_rest, prints, view_of as seen};
 ghost use Rattle.vp_label.specs.Refusals.{first_refusal, refusal};
-ghost use Rattle.vp_label.specs.Standing.{bands, met, AreCopies, Stands};
+ghost use Rattle.vp_label.specs.Standing.{bands, met, painting, AreCopies, Stands};
 
 use crate::gathered::Gathered;
 use crate::press::Press;
 use std::alloc::{AllocError, Global};
 use std::marker::Model;
-use vp_bands::looks_bounded;
+use vp_bands::{looks_bounded, work_bounded};
 use vp_copies::{pending_law, place_law};
 use vp_dots::Fault;
 use vp_field::View;
@@ -76,6 +76,7 @@ impl Label {
         ensures stands { IfOk result (λ label. Stands sheets label []) }
         ensures pending { IfOk result (λ label. label.pending ≡ []) }
         ensures looks { IfOk result (λ label. label.press.painter.looks ≡ 0) }
+        ensures work { IfOk result (λ label. label.press.painter.work ≡ 0) }
     {
         Ok(Label {
             sheets,
@@ -97,8 +98,11 @@ impl Label {
             Stands sheets self.old before →
             self.new.pending ≡ all_print sheets before (shown_item item.entry)) }
         ensures looks { OnOk result (0 < length self.new.pending → self.new.press.painter.looks ≡ 0) }
+        ensures work { OnOk result (0 < length self.new.pending → self.new.press.painter.work ≡ 0) }
         ensures idle { OnOk result (self.new.pending ≡ [] →
             self.new.press.painter.looks ≡ self.old.press.painter.looks) }
+        ensures idle_work { OnOk result (self.new.pending ≡ [] →
+            self.new.press.painter.work ≡ self.old.press.painter.work) }
         ensures err { OnErr result (self.new ≡ self.old) }
     {
         match item {
@@ -166,8 +170,11 @@ impl Label {
             Gathers self.old.sheets self.old.gathered before →
             0 < length self.new.pending → IsPrinted self.old.sheets self.new.gathered before) }
         ensures looks { OnOk result (0 < length self.new.pending → self.new.press.painter.looks ≡ 0) }
+        ensures work { OnOk result (0 < length self.new.pending → self.new.press.painter.work ≡ 0) }
         ensures idle { OnOk result (self.new.pending ≡ [] →
             self.new.press.painter.looks ≡ self.old.press.painter.looks) }
+        ensures idle_work { OnOk result (self.new.pending ≡ [] →
+            self.new.press.painter.work ≡ self.old.press.painter.work) }
         ensures err { OnErr result (self.new ≡ self.old) }
     {
         pending_law();
@@ -203,12 +210,14 @@ impl Label {
             self.new.press.painter.looks ≤ bands self.old + 2 * met self.old }
         ensures at_least { 0 < result → AreCopies self.old self.new.pending →
             met self.old ≤ self.new.press.painter.looks }
+        ensures work { 0 < length self.old.pending → self.new.press.painter.work ≤ painting self.old }
         ensures idle { result ≡ 0 → self.new.press ≡ self.old.press }
     {
         if !self.press.copies.is_pending() {
             return 0;
         }
         looks_bounded();
+        work_bounded();
         place_law();
         let view = view_of(&self.gathered.in_force.settings);
         self.press
@@ -275,5 +284,13 @@ impl Label {
         ensures { result ≡ self.now.press.painter.looks }
     {
         self.press.painter.looks()
+    }
+
+    /// What painting took for the copy that is put out: how many bytes of pictures' codes were read, and how
+    /// many of their rows passed or painted.
+    pub fn work(&self) -> u64
+        ensures { result ≡ self.now.press.painter.work }
+    {
+        self.press.painter.work()
     }
 }

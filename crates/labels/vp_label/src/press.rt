@@ -2,7 +2,7 @@
 ghost use Rattle.std.specs.Prelude.{◌≡◌, ◌≤◌, ◌<◌, ◌++◌, IfOk, length, min, take, drop};
 ghost use Rattle.vp_copies.specs.Copies.{copies_text};
 ghost use Rattle.vp_copies.specs.Progress.{IsPainted};
-ghost use Rattle.vp_label_settings.specs.declared.settings.TheConstants.{WIDEST, LONGEST};
+ghost use Rattle.vp_label_size.specs.declared.TheConstants.{WIDEST, LONGEST};
 ghost use Rattle.vp_label.specs.Gathered.{AreKept};
 ghost use Rattle.vp_label.specs.Prints.{label_image};
 ghost use Rattle.vp_bands.specs.Meeting.{bands_of};
@@ -12,17 +12,17 @@ ghost use Rattle.vp_label.specs.Press.{bands_above, left, shown, IsBetween, IsPr
 use std::alloc::{AllocError, Global};
 use vp_bands::BandPainter;
 use vp_copies::{Ahead, Copies};
-use vp_dots::Band;
 use vp_field::View;
 use vp_format::Format;
 use vp_glyph::Sheets;
+use vp_label_size::LabelBand;
 
 /// Copies of a label that are being put out.
 #[derive(Drop)]
 pub struct Press {
     pub copies: Copies,
     pub painter: BandPainter,
-    pub band: Band<156, 32>,
+    pub band: LabelBand,
 }
 
 impl Press {
@@ -30,11 +30,12 @@ impl Press {
     pub fn new(alloc: Global) -> Result<Press, AllocError>
         ensures none { IfOk result (λ press. press.copies.place.copies ≡ 0) }
         ensures looks { IfOk result (λ press. press.painter.looks ≡ 0) }
+        ensures work { IfOk result (λ press. press.painter.work ≡ 0) }
     {
         Ok(Press {
             copies: Copies::new(1, 1, 0),
             painter: BandPainter::new(alloc)?,
-            band: Band::new(alloc)?,
+            band: LabelBand::new(alloc)?,
         })
     }
 
@@ -49,6 +50,7 @@ impl Press {
         ensures press { IsPress sheets.now format.now.stored view self.new }
         ensures fields { fields_of self.new.painter.entries ≡ format.now.fields }
         ensures looks { self.new.painter.looks ≡ 0 }
+        ensures work { self.new.painter.work ≡ 0 }
         ensures some { 0 < self.new.copies.place.copies }
         ensures left { left sheets.now format.now.stored view self.new
             ≡ copies_text (label_image sheets.now view format.now.stored format.now.fields) copies }

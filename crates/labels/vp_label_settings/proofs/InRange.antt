@@ -7,7 +7,7 @@ use Rattle.vp_zpl.specs.Items.Item.{Given, Data}
 use Rattle.vp_label_settings.specs.declared.size.CharacterSize.{CharacterSize}
 use Rattle.vp_label_settings.specs.declared.settings.Home.{Home}
 use Rattle.vp_label_settings.specs.declared.settings.BarDefaults.{BarDefaults}
-use Rattle.vp_label_settings.specs.declared.settings.TheConstants.{WIDEST, LONGEST}
+use Rattle.vp_label_size.specs.declared.TheConstants.{WIDEST, LONGEST}
 use Rattle.vp_label_settings.specs.Ranges.{ranged, nearest, counted, size_of, size_given}
 use Rattle.vp_label_settings.specs.Formats.{is_open, acting}
 use Rattle.vp_label_settings.specs.Settings.{coordinate, home_by, home, print_width_by, print_width, label_length_by, label_length, default_font_by, default_font, first_font, bar_defaults_by, bar_defaults, quantity_by, quantity, settings_of}

@@ -3,7 +3,7 @@ use Rattle.std.specs.Prelude.{◌≤◌, ℕ, Option, Some, None, IfSome}
 use Rattle.vp_zpl.specs.declared.item.LineSpace.{LineSpace}
 use Rattle.vp_zpl.specs.declared.item.LineSpace.TheVariants.{Added, Deleted}
 use Rattle.vp_label_settings.specs.declared.size.CharacterSize.{CharacterSize}
-use Rattle.vp_label_settings.specs.declared.settings.TheConstants.{WIDEST, LONGEST}
+use Rattle.vp_label_size.specs.declared.TheConstants.{WIDEST, LONGEST}
 use Rattle.vp_label_settings.specs.declared.settings.Home.{Home}
 use Rattle.vp_label_settings.specs.declared.settings.BarDefaults.{BarDefaults}
 use Rattle.vp_label_settings.specs.declared.settings.Settings.{Settings}
@@ -13,7 +13,7 @@ use Rattle.vp_label_settings.specs.declared.graphic.PictureHead.{PictureHead}
 use Rattle.vp_label_settings.specs.declared.choice.SymbolChoice.{SymbolChoice}
 use Rattle.vp_label_settings.specs.declared.choice.SymbolChoice.TheVariants.{Bars, NotDrawn, Qr}
 use Rattle.vp_label_settings.specs.declared.parts.Origin.{Origin}
-use Rattle.vp_label_settings.specs.declared.parts.Origin.TheVariants.{Corner, Baseline}
+use Rattle.vp_label_settings.specs.declared.parts.Origin.TheVariants.{UpperLeft, LowerLeft}
 use Rattle.vp_label_settings.specs.declared.parts.OpenContent.{OpenContent}
 use Rattle.vp_label_settings.specs.declared.parts.OpenContent.TheVariants.{Data, Frame, Picture}
 use Rattle.vp_label_settings.specs.declared.parts.FieldParts.{FieldParts}
@@ -68,8 +68,8 @@ pub record IsPicture (p : PictureHead) : Type 0 where
 
 -- ^FO and ^FT
 abbrev pub IsOrigin : Origin → Type 0
-IsOrigin (Corner x y) = (x ≤ 32000) × (y ≤ 32000)
-IsOrigin (Baseline x y) = (x ≤ 32000) × (y ≤ 32000)
+IsOrigin (UpperLeft x y) = (x ≤ 32000) × (y ≤ 32000)
+IsOrigin (LowerLeft x y) = (x ≤ 32000) × (y ≤ 32000)
 
 -- ^BQ; of bars the kind says all
 abbrev pub IsSymbolIf : Option SymbolChoice → Type 0

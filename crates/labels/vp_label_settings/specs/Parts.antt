@@ -11,7 +11,7 @@ use Rattle.vp_label_settings.specs.declared.choice.SymbolChoice.{SymbolChoice}
 use Rattle.vp_label_settings.specs.declared.choice.FieldBlock.{FieldBlock}
 use Rattle.vp_label_settings.specs.declared.graphic.PictureHead.{PictureHead}
 use Rattle.vp_label_settings.specs.declared.parts.Origin.{Origin}
-use Rattle.vp_label_settings.specs.declared.parts.Origin.TheVariants.{Corner, Baseline}
+use Rattle.vp_label_settings.specs.declared.parts.Origin.TheVariants.{UpperLeft, LowerLeft}
 use Rattle.vp_label_settings.specs.declared.parts.OpenContent.{OpenContent}
 use Rattle.vp_label_settings.specs.declared.parts.OpenContent.TheVariants as contents
 use Rattle.vp_label_settings.specs.declared.parts.FieldParts.{FieldParts}
@@ -22,14 +22,14 @@ use Rattle.vp_label_settings.specs.Graphics.{box_of, picture_head}
 
 -- ^FO, ^FT: where the field stands, counted from the home
 abbrev pub origin_by : Command → Origin → Origin
-origin_by (FieldOrigin x y) old = Corner (coordinate x) (coordinate y)
-origin_by (FieldTypeset x y) old = Baseline (coordinate x) (coordinate y)
-origin_by FieldSeparator old = Corner 0 0
-origin_by FormatEnd old = Corner 0 0
+origin_by (FieldOrigin x y) old = UpperLeft (coordinate x) (coordinate y)
+origin_by (FieldTypeset x y) old = LowerLeft (coordinate x) (coordinate y)
+origin_by FieldSeparator old = UpperLeft 0 0
+origin_by FormatEnd old = UpperLeft 0 0
 origin_by _ old = old
 
 abbrev pub origin : List Item → Origin
-origin [] = Corner 0 0
+origin [] = UpperLeft 0 0
 origin (item ∷ before) = acting origin_by (is_open before) item (origin before)
 
 -- ^A: the font

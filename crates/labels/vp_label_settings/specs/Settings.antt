@@ -11,7 +11,7 @@ use Rattle.vp_label_settings.specs.declared.size.CharacterSize.{CharacterSize}
 use Rattle.vp_label_settings.specs.declared.settings.Home.{Home}
 use Rattle.vp_label_settings.specs.declared.settings.BarDefaults.{BarDefaults}
 use Rattle.vp_label_settings.specs.declared.settings.Settings.{Settings}
-use Rattle.vp_label_settings.specs.declared.settings.TheConstants.{WIDEST, LONGEST}
+use Rattle.vp_label_size.specs.declared.TheConstants.{WIDEST, LONGEST}
 use Rattle.vp_label_settings.specs.Ranges.{ranged, size_given}
 use Rattle.vp_label_settings.specs.Formats.{is_open, acting}
 

@@ -20,5 +20,5 @@ pub use graphic::PictureHead;
 pub use in_force::InForce;
 pub use parts::{FieldParts, OpenContent, Origin};
 pub use range::ranged;
-pub use settings::{BarDefaults, Home, LONGEST, Settings, WIDEST};
+pub use settings::{BarDefaults, Home, Settings};
 pub use size::CharacterSize;

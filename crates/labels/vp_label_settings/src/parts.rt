@@ -13,9 +13,9 @@ use vp_zpl::item::{Colour, Command};
 #[derive(Clone, Copy)]
 pub enum Origin {
     /// ^FO: its upper left corner.
-    Corner { x: u16, y: u16 },
+    UpperLeft { x: u16, y: u16 },
     /// ^FT: its lower left corner, as it is read.
-    Baseline { x: u16, y: u16 },
+    LowerLeft { x: u16, y: u16 },
 }
 
 /// The content of an open field, the last of ^FD, ^GB and ^GF.
@@ -53,7 +53,7 @@ impl FieldParts {
         ensures { result ≡ parts_of [] }
     {
         FieldParts {
-            origin: Origin::Corner { x: 0, y: 0 },
+            origin: Origin::UpperLeft { x: 0, y: 0 },
             font: None,
             symbol: None,
             is_reversed: false,
@@ -83,15 +83,15 @@ impl Origin {
         ensures { result ≡ origin_by command self }
     {
         match command {
-            Command::FieldOrigin { x, y } => Origin::Corner {
+            Command::FieldOrigin { x, y } => Origin::UpperLeft {
                 x: coordinate(x),
                 y: coordinate(y),
             },
-            Command::FieldTypeset { x, y } => Origin::Baseline {
+            Command::FieldTypeset { x, y } => Origin::LowerLeft {
                 x: coordinate(x),
                 y: coordinate(y),
             },
-            Command::FieldSeparator | Command::FormatEnd => Origin::Corner { x: 0, y: 0 },
+            Command::FieldSeparator | Command::FormatEnd => Origin::UpperLeft { x: 0, y: 0 },
             _ => self,
         }
     }

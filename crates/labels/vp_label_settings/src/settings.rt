@@ -5,13 +5,8 @@ ghost use Rattle.vp_label_settings.specs.Settings.{settings_of, settings_by};
 
 use crate::range::ranged;
 use crate::size::CharacterSize;
+use vp_label_size::{LONGEST, WIDEST};
 use vp_zpl::item::{Command, Orientation};
-
-/// The greatest width of a label, in dots.
-pub const WIDEST: u16 = 1248;
-
-/// The greatest length of a label, in dots.
-pub const LONGEST: u16 = 8000;
 
 /// The place from which fields are counted (^LH), each way 0 to 32,000 dots.
 #[derive(Clone, Copy, PartialEq, Eq)]

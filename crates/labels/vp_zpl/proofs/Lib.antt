@@ -13,6 +13,7 @@ pub mod Rests
 pub mod Runs
 pub mod Growth
 pub mod Table
+pub mod Fronts
 pub mod Blanks
 pub mod Division
 pub mod Completion

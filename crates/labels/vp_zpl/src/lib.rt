@@ -5,11 +5,12 @@
 //! or data of a field. `ZplItem::line` is an item's line in a listing.
 //!
 //! - `item`: what a stream says. `name`: which command a name is. `part`: parameters as they are kept.
-//! - `argument`: what parameters mean. `reader`: one byte at a time. `line`: the listing.
-//! - `laws`: what holds of every stream.
+//! - `argument`: what parameters mean. `reader`: one byte at a time. `front`: data, a run at a time.
+//! - `line`: the listing. `laws`: what holds of every stream.
 #![tactic(auto)]
 
 mod argument;
+mod front;
 pub mod item;
 pub mod laws;
 mod line;

@@ -2,15 +2,15 @@
 ghost use Rattle.std.specs.Prelude.{◌≡◌, ◌∷◌, ◌++◌, [], ℕ, List, false, take, length, ◌<◌, ◌≤◌, ⊤};
 ghost use Rattle.std.specs.Borrow.{sem};
 ghost use Rattle.vp_zpl.specs.Commands.{Cut, cut, wants_binary};
-ghost use Rattle.vp_zpl.specs.Spelling.{is_sign as is_sign_byte, is_line_end as is_line_end_byte, kept};
+ghost use Rattle.vp_zpl.specs.Spelling.{kept};
 ghost use Rattle.vp_zpl.specs.Arguments.{command_of as command_as};
 ghost use Rattle.vp_zpl.specs.Items.{items, data_items, at_rest};
 ghost use Rattle.vp_zpl.specs.Shown.{shown, shown_part, shown_parts};
 ghost use Rattle.vp_zpl.specs.Reader.{Stands, StandsIn, Goes, Ends, Advances, Continues, Closes, shown_event, behind_head, left_of, phase_behind as phase_is, at_name, indicator_with, left_over, rests_in, front_by, phase_after};
-ghost use Rattle.vp_zpl.specs.Runs.{is_text, is_kept_code, data_front};
-ghost use Rattle.std.specs.List.{prefix_len};
+ghost use Rattle.vp_zpl.specs.Runs.{data_front};
 
 use crate::argument::command_of;
+use crate::front::{code_front, is_line_end, is_sign, text_front};
 use crate::item::{Command, DataBytes, Sent, ZplItem};
 use crate::name::{Kind, Name, kind_named};
 use crate::part::{Part, count_of, hex, hex_byte, indicator_of, is_b};
@@ -423,32 +423,6 @@ impl Phase {
     }
 }
 
-/// How many bytes at the front are data of ^FD that are themselves.
-fn text_front(indicator: Option<u8>, input: &[u8]) -> usize
-    ensures { result ≡ prefix_len (is_text indicator) input.now }
-{
-    for i in 0..input.len() {
-        let byte = input[i];
-        if is_sign(byte) || is_line_end(byte) || Some(byte) == indicator {
-            return i;
-        }
-    }
-    input.len()
-}
-
-/// How many bytes at the front are data of ^GF A.
-fn code_front(input: &[u8]) -> usize
-    ensures { result ≡ prefix_len is_kept_code input.now }
-{
-    for i in 0..input.len() {
-        let byte = input[i];
-        if is_sign(byte) || is_line_end(byte) || byte == b' ' || byte == b'\t' {
-            return i;
-        }
-    }
-    input.len()
-}
-
 /// The phase behind a name.
 fn phase_behind(kind: Kind) -> Phase
     ensures { result ≡ phase_is kind }
@@ -469,18 +443,4 @@ fn graphic_phase(head: &[Part]) -> Phase
     } else {
         Phase::Codes
     }
-}
-
-/// ^ and ~
-fn is_sign(byte: u8) -> bool
-    ensures { result ≡ is_sign_byte byte }
-{
-    byte == b'^' || byte == b'~'
-}
-
-/// CR and LF
-fn is_line_end(byte: u8) -> bool
-    ensures { result ≡ is_line_end_byte byte }
-{
-    byte == b'\r' || byte == b'\n'
 }

@@ -1,12 +1,14 @@
-use Rattle.std.proofs.Common.{◌≡◌, ◌+◌, ◌*◌, ◌<◌, length, take, ap, ◌∙◌, refl, subst, arith}
+use Rattle.std.proofs.Common.{◌≡◌, ◌+◌, ◌*◌, ◌<◌, ◌≤◌, length, take, ap, ◌∙◌, refl, subst, arith}
+use Rattle.std.specs.List.{sum_by}
 use Rattle.std.proofs.lemmas.List.{length-set, get_or-map, length-map}
 use Rattle.vp_field.specs.Bands.{Shows}
-use Rattle.vp_field.specs.Fields.{IsMarkOf}
+use Rattle.vp_field.specs.Fields.{AreMarksOf}
 use Rattle.vp_fields_by_band.specs.declared.table.Entry.{Entry}
 use Rattle.vp_fields_by_band.specs.Threads.{no_entry, entry_at, link_at}
 use Rattle.vp_fields_by_band.proofs.Next.{walk_started, walk_ended, tail_in}
-use Rattle.vp_bands.specs.Standing.{met}
+use Rattle.vp_bands.specs.Standing.{entry_work, met}
 use Rattle.vp_bands.proofs.Painted.{strokes, painted_next, met_more, met_all, met_image, few_met}
+use Rattle.vp_bands.proofs.Work.{work_more}
 use Rattle.vp_bands.proofs.Marked.{carried_here, marked_ahead, marked_behind, marked_all}
 use Rattle.vp_bands.proofs.walk.paint_band.Goals as goal
 
@@ -27,15 +29,8 @@ offset_bounds-marks-n c =
     let next = c.in-Some.ensures entries c.args.b c.loop-n.walk.seen (length entries) walk.carried walk.begins in
     omega (arith, next.1, c.requires.few)
 
-pub slice_copy_out-mark_for : goal.slice_copy_out-mark_for
-slice_copy_out-mark_for c =
-    let entries = c.args.threads.now.entries in
-    let walk = c.loop-n.invariant.walk in
-    let next = c.in-Some.ensures entries c.args.b c.loop-n.walk.seen (length entries) walk.carried walk.begins in
-    omega (arith, next.1, c.requires.marks, c.loop-n.invariant.lengths)
-
-pub paint_field-requires-clause-kept : goal.paint_field-requires-clause-kept
-paint_field-requires-clause-kept c =
+pub paint_entry-work-requires-clause-kept : goal.paint_entry-work-requires-clause-kept
+paint_entry-work-requires-clause-kept c =
     let entries = c.args.threads.now.entries in
     let walk = c.loop-n.invariant.walk in
     let next = c.in-Some.ensures entries c.args.b c.loop-n.walk.seen (length entries) walk.carried walk.begins in
@@ -43,23 +38,15 @@ paint_field-requires-clause-kept c =
     rw (c.entry-entry.ensures.value, c.loop-n.invariant.stays.entries, ← get_or-map (λ (e : Entry). e.field) entries n no_entry no_entry.field next.1)
     (c.requires.label.kept n no_entry.field (rw length-map next.1))
 
-pub paint_field-requires-clause-mark : goal.paint_field-requires-clause-mark
-paint_field-requires-clause-mark c =
+pub paint_entry-work-requires-clause-marked : goal.paint_entry-work-requires-clause-marked
+paint_entry-work-requires-clause-marked c =
     let entries = c.args.threads.now.entries in
     let b = c.args.b in
     let n = c.in-Some.n in
     let done = c.loop-n.invariant in
     let next = c.in-Some.ensures entries b c.loop-n.walk.seen (length entries) done.walk.carried done.walk.begins in
     let is : c.entry-entry.result ≡ entry_at entries n = rw (← done.stays.entries) c.entry-entry.ensures.value in
-    c.mark_for-mark.ensures c.args.stored.now (λ before.
-    rw is (done.ahead n next.0 next.1 (carried_here (entry_at entries n) b next.2 (subst (λ (e : Entry). e.first < b) is before))))
-
-pub offset_bounds-marks-n-in-Some : goal.offset_bounds-marks-n-in-Some
-offset_bounds-marks-n-in-Some c =
-    let entries = c.args.threads.now.entries in
-    let walk = c.loop-n.invariant.walk in
-    let next = c.in-Some.ensures entries c.args.b c.loop-n.walk.seen (length entries) walk.carried walk.begins in
-    omega (arith, next.1, c.requires.few)
+    λ before. rw is (done.ahead n next.0 next.1 (carried_here (entry_at entries n) b next.2 (subst (λ (e : Entry). e.first < b) is before)))
 
 pub bounds-marks-n : goal.bounds-marks-n
 bounds-marks-n c =
@@ -99,6 +86,8 @@ loop-n-init c =
       behind = rw is (λ k ge lt. absurd (omega arith));
       at_least = rw (is, look) (omega arith);
       at_most = rw (is, look) (omega arith);
+      work = omega arith;
+      countable = omega arith;
     }
 
 pub loop-n-smaller : goal.loop-n-smaller
@@ -125,16 +114,20 @@ loop-n-preserved c =
     let one : c.entry-entry.new.self.looks ≡ c.loop-n.threads.looks + 1 = rw look refl in
     let next = c.in-Some.ensures entries b w.seen (length entries) done.walk.carried done.walk.begins in
     let count = met_more entries b w.seen n next in
-    let mark : IsMarkOf stored (entry_at entries n).field.content c.paint_field.result = subst (λ (x : Entry). IsMarkOf stored x.field.content c.paint_field.result) is c.paint_field.ensures.mark in
+    let new = c.paint_entry-work.new.marks in
+    let marked : AreMarksOf stored (entry_at entries n).field.content new = subst (λ (x : Entry). AreMarksOf stored x.field.content new) is c.paint_entry-work.ensures.marked in
+    let took : c.paint_entry-work.result ≤ entry_work (entry_at entries n) = subst (λ (x : Entry). c.paint_entry-work.result ≤ entry_work x) is c.paint_entry-work.ensures.work in
     record {
       walk = after.walk entries c.requires.label.table (rw look done.walk) next is;
       stays = record { entries = stays.entries ∙ done.stays.entries; heads = stays.heads ∙ done.stays.heads; links = stays.links ∙ done.stays.links };
-      lengths = length-set c.loop-n.marks n c.paint_field.result ∙ done.lengths;
-      shows = rw (after.seen, painted_next sheets stored entries b w.seen n e next is) (c.paint_field.ensures.shows (strokes sheets stored (met b (take w.seen entries))) done.shows);
-      ahead = rw after.seen (marked_ahead stored entries c.loop-n.marks b w.seen n c.paint_field.result next.0 done.ahead);
-      behind = rw after.seen (marked_behind stored entries c.loop-n.marks b w.seen n c.paint_field.result (omega (arith, next.1, c.requires.marks, done.lengths)) next mark done.behind);
+      lengths = length-set c.loop-n.marks n new ∙ done.lengths;
+      shows = rw (after.seen, painted_next sheets stored entries b w.seen n e next is) (c.paint_entry-work.ensures.shows (strokes sheets stored (met b (take w.seen entries))) done.shows);
+      ahead = rw after.seen (marked_ahead stored entries c.loop-n.marks b w.seen n new next.0 done.ahead);
+      behind = rw after.seen (marked_behind stored entries c.loop-n.marks b w.seen n new (omega (arith, next.1, c.requires.marks, done.lengths)) next marked done.behind);
       at_least = rw (after.seen, count) (omega (arith, one, after.looks, done.at_least));
       at_most = rw (after.seen, count) (omega (arith, one, after.looks, done.at_most));
+      work = rw (after.seen, work_more entries b w.seen n next) (omega (arith, done.work, took));
+      countable = rw (after.seen, count) (omega (arith, done.countable, c.paint_entry-work.ensures.countable));
     }
 
 pub close-requires : goal.close-requires
@@ -177,3 +170,18 @@ returns-clause-at_most c =
     let walk = c.loop-n.invariant.walk in
     let none = c.in_default.ensures entries c.args.b c.loop-n.walk.seen (length entries) walk.carried walk.begins in
     rw c.close.ensures (omega (arith, ap length (met_all entries c.args.b c.loop-n.walk.seen walk.within none), c.loop-n.invariant.at_most))
+
+pub overflow_add-work : goal.overflow_add-work
+overflow_add-work c =
+    omega (arith, c.loop-n.invariant.countable, c.paint_entry-work.ensures.countable, few_met c.args.threads.now.entries c.args.b c.loop-n.walk.seen c.requires.few)
+
+pub returns-clause-work : goal.returns-clause-work
+returns-clause-work c =
+    let entries = c.args.threads.now.entries in
+    let walk = c.loop-n.invariant.walk in
+    let none = c.in_default.ensures entries c.args.b c.loop-n.walk.seen (length entries) walk.carried walk.begins in
+    omega (arith, ap (sum_by entry_work) (met_all entries c.args.b c.loop-n.walk.seen walk.within none), c.loop-n.invariant.work)
+
+pub returns-clause-countable : goal.returns-clause-countable
+returns-clause-countable c =
+    omega (arith, c.loop-n.invariant.countable, few_met c.args.threads.now.entries c.args.b c.loop-n.walk.seen c.requires.few)

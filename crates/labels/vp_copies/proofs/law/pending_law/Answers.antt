@@ -3,6 +3,6 @@ use Rattle.vp_copies.proofs.law.pending_law.Goals as goal
 
 pub returns : goal.returns
 returns c = λ i p high is. (
-  λ some. some_pending i high p.copies p.line p.byte some is.line is.byte,
-  λ left. none_pending i high p.copies p.line p.byte left,
+  λ some. some_pending i high p.copies (record { line = p.line; byte = p.byte }) some (record { line = is.line; byte = is.byte }),
+  λ left. none_pending i high p.copies (record { line = p.line; byte = p.byte }) left,
 )

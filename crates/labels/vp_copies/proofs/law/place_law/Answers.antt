@@ -3,16 +3,16 @@ use Rattle.std.proofs.Math.Nat.{add-mul, mul-le-mul_right}
 use Rattle.std.proofs.lemmas.Bool.{cases_lt}
 use Rattle.std.proofs.lemmas.Nat.{mod-mul-add}
 use Rattle.vp_dots.specs.Images.{Image, pbm}
-use Rattle.vp_copies.specs.declared.place.Line.{Line}
-use Rattle.vp_copies.specs.Copies.{bytes_above, copies_text, line_bytes, line_text, pending}
-use Rattle.vp_copies.specs.Progress.{IsLineOf}
+use Rattle.vp_output.specs.declared.place.Line.{Line}
+use Rattle.vp_output.specs.Lines.{line_text, IsLineOf}
+use Rattle.vp_copies.specs.Copies.{bytes_above, copies_text, line_bytes, lines_of, pending}
 use Rattle.vp_copies.proofs.Texts.{length-copies, length-line, rows_behind, text_from}
 use Rattle.vp_copies.proofs.law.place_law.Goals as goal
 
 -- a place of a copy is one of its bytes
 within : (i : Image) (l : Line) (byte : ℕ) → 0 < i.height → IsLineOf i.height l → byte < line_bytes i.width i.height l → bytes_above i.width i.height l + byte < length (pbm i)
 within i l byte some b h =
-    omega (arith, ap length (text_from i l some b), length-drop (bytes_above i.width i.height l) (pbm i), length-append (line_text i l) (rows_behind i l), length-line i l)
+    omega (arith, ap length (text_from i l some b), length-drop (bytes_above i.width i.height l) (pbm i), length-append (line_text (lines_of i) l) (rows_behind i l), length-line i l)
 
 -- of so many copies of so many bytes, the others are those of a copy's front and of whole copies
 whole_others : (all left n m : ℕ) → m < n → 0 < left → left * n - m ≤ all * n → all * n - (left * n - m) ≡ (all - left) * n + m

@@ -1,4 +1,4 @@
-use Rattle.vp_field.proofs.Celled.{text_alike}
+use Rattle.vp_glyph.proofs.Gathered.{text_alike}
 use Rattle.vp_field.proofs.field.paint_text.Goals as goal
 
 pub paint_standing-requires-clause-stretched : goal.paint_standing-requires-clause-stretched

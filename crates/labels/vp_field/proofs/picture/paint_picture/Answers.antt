@@ -1,4 +1,6 @@
-use Rattle.std.proofs.Common.{arith, pos, ◌+◌}
+use Rattle.std.proofs.Common.{◌≡◌, ◌≤◌, ◌∙◌, arith, pos, ◌+◌, ap, drop, length}
+use Rattle.std.proofs.lemmas.List.{length-take}
+use Rattle.vp_format.specs.Pictures.{Cursor, Picture}
 use Rattle.vp_format.specs.declared.field.Content.TheVariants as contents
 use Rattle.vp_field.specs.Contents.{picture_of, picture_dot}
 use Rattle.vp_field.specs.Drawn.{drawn}
@@ -24,4 +26,13 @@ returns-clause-dots c sheets =
     let on = c.lines_on-from in
     lines_all a.on.op at.result.columns at.result.rows a.first (picture_dot p) a.picture.rows on.result.0 on.result.1 (drawn sheets a.stored.now (contents.Picture a.picture) a.on a.first) a.band.now c.paint_rows.new.band
     (λ m n e. (picture_inside p m n e).1) (λ k n l o e. (on.ensures.from k n l o e, on.ensures.to k n l o e)) (λ x k. rw c.requires.normal (at.ensures.ink (picture_dot p) (pos x) (pos (a.first + k))))
-    (rw (c.skip_to.ensures, c.cursor-rows.ensures.picture) at c.paint_rows.ensures.painted)
+    (rw (c.go_to.ensures.rows, c.cursor-rows.ensures.picture) at c.paint_rows.ensures.painted)
+
+pub returns-clause-work : goal.returns-clause-work
+returns-clause-work c =
+    let a = c.args in
+    let p = picture_of a.stored.now a.picture in
+    let few : length p.codes ≤ a.picture.codes.len = omega (arith, length-take a.picture.codes.len (drop a.picture.codes.start a.stored.now)) in
+    let is : c.paint_rows.new.rows.picture ≡ p = c.paint_rows.ensures.picture ∙ ap (λ (v : Cursor). v.picture) c.go_to.ensures.rows ∙ c.cursor-rows.ensures.picture in
+    let codes = ap (λ (q : Picture). length q.codes) is in
+    omega (arith, c.read.ensures.at_most, c.passed.ensures.at_most, codes, few, c.lines_on-from.ensures.few)

@@ -62,7 +62,7 @@ returns-in-Again-clause-decoded c = λ s r.
     let taken = hand_taken w all s.at _ _ _ _ c.loop-b.codes d.new.codes _ (Some c.in-Some.b) c.in-Some.is (d.ensures.reached all s.at) (c.loop-b.invariant.reached all s.at r) in
     let next = symbol_reached d.new.codes e c.in-Some.b _ Again w all s.at d.new.places d.result.0 hand d.ensures.advanced.reading c.in-Again.ensures.symbol taken in
     subst (λ row. Decoded w RunLength c.args.codes.now.bytes.now s c.repeated.result (record { left = c.repeated.result.left; digit = c.repeated.result.digit; at = e.at }) c.args.row.now row) (sym c.loop-b.invariant.row)
-    (again_decoded _ d.new.places c.args.row.now e w s c.repeated.result d.result.0 _ _ c.repeated.ensures (omega arith) (c.in-Again.ensures.advanced.bytes ∙ d.ensures.advanced.bytes ∙ c.loop-b.invariant.advanced.bytes) c.in-Again.ensures.advanced.reading (omega (arith, hand.0, c.in-Again.ensures.advanced.at)) c.if-x-eq0.true next)
+    (again_decoded _ d.new.places c.args.row.now e w s c.repeated.result d.result.0 _ _ c.repeated.ensures (omega arith) (c.in-Again.ensures.advanced.bytes ∙ d.ensures.advanced.bytes ∙ c.loop-b.invariant.advanced.bytes) c.in-Again.ensures.advanced.reading (omega (arith, hand.0, c.in-Again.ensures.advanced.at)) (omega arith) next)
 
 pub returns-in-Again-2-clause-answer : goal.returns-in-Again-2-clause-answer
 returns-in-Again-2-clause-answer c = λ all start r.
@@ -135,7 +135,7 @@ returns-in-Again-clause-answer c = λ all start r.
     let hand = subst (λ (o : Option ℕ). InHand d.new.codes o) c.in-Some.is d.ensures.hand in
     let taken = hand_taken w all start _ _ _ _ c.loop-b.codes d.new.codes _ (Some c.in-Some.b) c.in-Some.is (d.ensures.reached all start) (c.loop-b.invariant.reached all start r) in
     let next = symbol_reached d.new.codes e c.in-Some.b _ Again w all start d.new.places d.result.0 hand d.ensures.advanced.reading c.in-Again.ensures.symbol taken in
-    let begun = reached_at w all start _ d.result.0 0 _ _ _ _ c.if-x-eq0.true refl refl next in
+    let begun = reached_at w all start _ d.result.0 0 _ _ _ _ (omega arith) refl refl next in
     sym (ap is_nothing (begun.ahead (w - 1) (omega arith) ∙ again_shown w (1 + (e.at - d.new.codes.at)) (symbols_from e.bytes.now e.at) (w - 1) (omega arith)))
 
 pub returns-in-Again-2-2-clause-answer : goal.returns-in-Again-2-2-clause-answer

@@ -1,20 +1,17 @@
-use Rattle.std.proofs.Common.{◌≡◌, ℕ, ◌-◌, ◌≤◌, List, drop, length}
-use Rattle.vp_format.specs.Codes.{Spelled, symbols_behind}
+use Rattle.std.proofs.Common.{◌≡◌, ℕ, ◌-◌, ◌≤◌, List, length}
+use Rattle.vp_format.specs.Codes.{Spelled}
 use Rattle.vp_format.specs.Cursors.{symbols_from, Reached}
 use Rattle.vp_format.proofs.short_runs.short_runs.Given as goal
 
--- the places hold what the codes so far spell, but for the counts since the last digit
+-- the places hold what the codes so far spell
 abbrev pub invariant-loop-at : goal.invariant-loop-at
 invariant-loop-at l = record {
   len : length l.places ≡ length l.fn.places;
   after : l.from ≤ l.x;
   place : l.x ≤ l.width;
-  behind : l.first ≤ l.begun;
-  ordered : l.begun ≤ l.at;
+  behind : l.first ≤ l.at;
   inside : l.at ≤ length l.bytes;
-  count : l.count ≤ 32;
-  pending : symbols_from l.bytes l.begun ≡ symbols_behind (drop l.at l.bytes) l.count (l.at - l.begun);
-  reached : (all : List Spelled) (start : ℕ) → Reached l.width all start l.fn.places l.from (symbols_from l.bytes l.first) l.first → Reached l.width all start l.places l.x (symbols_from l.bytes l.begun) l.begun;
+  reached : (all : List Spelled) (start : ℕ) → Reached l.width all start l.fn.places l.from (symbols_from l.bytes l.first) l.first → Reached l.width all start l.places l.x (symbols_from l.bytes l.at) l.at;
 }
 
 abbrev pub decreases-loop-at : goal.decreases-loop-at

@@ -1,4 +1,4 @@
-use Rattle.vp_bands.proofs.Painted.{started}
+use Rattle.vp_bands.proofs.Before.{started}
 use Rattle.vp_bands.proofs.painter.BandPainter.start.Goals as goal
 
 pub returns-clause-before : goal.returns-clause-before

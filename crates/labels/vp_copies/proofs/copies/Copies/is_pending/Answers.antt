@@ -12,6 +12,6 @@ returns-clause-bytes c = λ dots.
     let i = image_of (progress_of j) dots in
     let P : Progress → Type 0 = λ p. 0 < length (pending (image_of p dots) p.place) in
     let v = c.self.invariant in (
-      λ t. subst P c.self.view_is (some_pending i v.high j.place.copies j.place.line j.place.byte (ltb-true 0 j.place.copies t) v.place.line v.place.byte),
-      λ h. lt-ltb 0 j.place.copies (none_pending i v.high j.place.copies j.place.line j.place.byte (subst P (sym c.self.view_is) h)),
+      λ t. subst P c.self.view_is (some_pending i v.high j.copies j.place (ltb-true 0 j.copies t) (record { line = v.place.line; byte = v.place.byte })),
+      λ h. lt-ltb 0 j.copies (none_pending i v.high j.copies j.place (subst P (sym c.self.view_is) h)),
     )

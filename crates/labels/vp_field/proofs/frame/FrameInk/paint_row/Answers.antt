@@ -1,4 +1,4 @@
-use Rattle.std.proofs.Common.{◌-◌, sym, w64}
+use Rattle.std.proofs.Common.{◌≡◌, ◌+◌, ◌-◌, arith, sym, w64}
 use Rattle.std.proofs.lemmas.Int.{to_z-of_z}
 use Rattle.vp_dots.specs.Dots.{span}
 use Rattle.vp_dots.proofs.Paints.{painted_none}
@@ -21,5 +21,8 @@ returns-then-is_solid c =
 pub returns : goal.returns
 returns c =
     let s = c.args.self.now in
-    rw (sym (to_z-of_z w64 c.args.at c.ranges.at)) (moved_then _ _ (span 0 s.t) (span (s.w - s.t) s.w) (λ x. frame_dot s.w s.h s.t x c.args.y) _ _ _ c.fill_moved-2.ensures (rw c.saturating_sub.ensures at c.fill_moved-3.ensures) (λ x. c.is_solid.ensures.sides c.if-is_solid.false x)
-    (λ x. sides_apart s.t (s.w - s.t) s.w x (c.is_solid.ensures.apart c.if-is_solid.false)))
+    let apart = c.is_solid.ensures.apart c.if-is_solid.false in
+    let first : 0 + s.t ≡ s.t = omega arith in
+    let last : s.w - s.t + s.t ≡ s.w = omega arith in
+    rw (sym (to_z-of_z w64 c.args.at c.ranges.at)) (moved_then _ _ (span 0 s.t) (span (s.w - s.t) s.w) (λ x. frame_dot s.w s.h s.t x c.args.y) _ _ _ (rw first at c.paint_side.ensures) (rw (c.saturating_sub.ensures, last) at c.paint_side-2.ensures) (λ x. c.is_solid.ensures.sides c.if-is_solid.false x)
+    (λ x. sides_apart s.t (s.w - s.t) s.w x apart))

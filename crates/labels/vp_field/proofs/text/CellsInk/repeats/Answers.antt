@@ -1,5 +1,5 @@
 use Rattle.std.proofs.Common.{◌-◌, arith}
-use Rattle.vp_field.proofs.Celled.{text_alike}
+use Rattle.vp_glyph.proofs.Gathered.{text_alike}
 use Rattle.vp_field.proofs.text.CellsInk.repeats.Goals as goal
 
 pub returns : goal.returns

@@ -6,20 +6,23 @@ use Rattle.vp_format.specs.Pictures.{Cursor, answer, row_after, value, nibble}
 use Rattle.vp_format.specs.Cursors.{picture_of}
 use Rattle.vp_format.proofs.Marks.{marked_refusal, answer_refused, answer_row, read_value, next_cursor, stopped_cursor}
 use Rattle.vp_format.proofs.Nibbles.{nibble_front}
+use Rattle.vp_format.proofs.PassedRows.{read_passed}
 use Rattle.vp_format.proofs.rows.RunRows.next_row.Goals as goal
 
 pub invariant_of-self : goal.invariant_of-self
 invariant_of-self c =
     let i = c.self.inside in
-    let n : Inside = record { codes = c.next_row-end.new.codes; coding = i.coding; row_bytes = i.row_bytes; rows = i.rows; first = i.first; mark = i.mark; row = c.next_row-end.new.row; places = c.next_row-end.new.places; refused = true } in
-    stopped_cursor i n c.self.invariant c.if-self-2.false refl c.next_row-end.ensures.advanced (sym c.in-Err.ensures.answer) refl refl refl refl refl
+    let n : Inside = record { codes = c.next_row-end.new.codes; coding = i.coding; row_bytes = i.row_bytes; rows = i.rows; first = i.first; mark = i.mark; row = c.next_row-end.new.row; places = c.next_row-end.new.places; refused = true; passed = i.passed } in
+    stopped_cursor i n c.self.invariant c.if-self-2.false refl c.next_row-end.ensures.advanced (sym c.in-Err.ensures.answer) refl refl refl refl refl refl
 
 pub invariant_of-self-in-Ok : goal.invariant_of-self-in-Ok
 invariant_of-self-in-Ok c =
     let i = c.self.inside in
-    let n : Inside = record { codes = c.next_row-end.new.codes; coding = i.coding; row_bytes = i.row_bytes; rows = i.rows; first = i.first; mark = c.behind-self-inside.result; row = c.next_row-end.new.row; places = c.next_row-end.new.places; refused = i.refused } in
+    let n : Inside = record { codes = c.next_row-end.new.codes; coding = i.coding; row_bytes = i.row_bytes; rows = i.rows; first = i.first; mark = c.behind-self-inside.result; row = c.next_row-end.new.row; places = c.next_row-end.new.places; refused = i.refused; passed = i.passed } in
+    let here = c.behind-self-inside.ensures.here ∙ ap (λ (at : ℕ). let s : Spot = record { left = c.in-Ok.end.left; digit = c.in-Ok.end.digit; at = at } in s) c.at.ensures in
     next_cursor i n c.in-Ok.end c.self.invariant c.if-self-2.false c.if-self-2.false c.next_row-end.ensures.advanced c.in-Ok.ensures.decoded refl refl refl refl c.behind-self-inside.ensures.next
-    (c.behind-self-inside.ensures.here ∙ ap (λ (at : ℕ). let s : Spot = record { left = c.in-Ok.end.left; digit = c.in-Ok.end.digit; at = at } in s) c.at.ensures) c.behind-self-inside.ensures.before
+    here c.behind-self-inside.ensures.before
+    (read_passed i n c.in-Ok.end c.self.invariant c.if-self-2.false c.next_row-end.ensures.advanced c.in-Ok.ensures.decoded refl refl refl refl c.behind-self-inside.ensures.next here refl)
 
 pub returns-in-Err-clause-answer : goal.returns-in-Err-clause-answer
 returns-in-Err-clause-answer c =

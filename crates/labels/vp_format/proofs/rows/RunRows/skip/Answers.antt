@@ -1,6 +1,6 @@
 use Rattle.std.proofs.Common.{ap, arith, rules}
 use Rattle.vp_format.specs.Pictures.{Cursor}
-use Rattle.vp_format.proofs.Skipped.{OnWay, way_done, way_ended, way_even, way_read, way_stopped}
+use Rattle.vp_format.proofs.Skipped.{OnWay, way_done, way_ended, way_even, way_stopped}
 use Rattle.vp_format.proofs.rows.RunRows.skip.Goals as goal
 
 pub returns-then-self-clause-answer : goal.returns-then-self-clause-answer
@@ -31,32 +31,21 @@ pub loop-left-preserved : goal.loop-left-preserved
 loop-left-preserved c =
     let i = c.loop-left.invariant in
     let w : OnWay c.args.self.now c.loop-left.self c.args.rows c.loop-left.left = record { same = i.same; answer = i.answer; row = i.row } in
-    let most = c.pass_even-even.ensures.most in
-    let e = way_even _ _ _ _ _ _ w (omega (arith, most, c.min.ensures)) (omega (arith, most, c.min.ensures, c.if-self.false, ap (λ (v : Cursor). v.next) c.self.view_is, ap (λ (v : Cursor). v.picture.rows) c.self.view_is, ap (λ (v : Cursor). v.next) c.pass_even.view_is, ap (λ (v : Cursor). v.picture.rows) c.pass_even.view_is)) c.pass_even-even.ensures.next c.pass_even-even.ensures.taken in
+    let some = c.in_ok-passed.ensures.some in
+    let e = way_even _ _ _ _ _ _ w (omega (arith, some.1, c.min.ensures)) (omega (arith, some.1, c.min.ensures, c.if-self.false, ap (λ (v : Cursor). v.next) c.self.view_is, ap (λ (v : Cursor). v.picture.rows) c.self.view_is, ap (λ (v : Cursor). v.next) c.pass.view_is, ap (λ (v : Cursor). v.picture.rows) c.pass.view_is)) c.in_ok-passed.ensures.next c.in_ok-passed.ensures.taken in
     record { same = e.same; answer = e.answer; row = e.row }
 
-pub loop-left-preserved-then-even-eq0 : goal.loop-left-preserved-then-even-eq0
-loop-left-preserved-then-even-eq0 c =
+pub returns-in_err-passed-clause-answer : goal.returns-in_err-passed-clause-answer
+returns-in_err-passed-clause-answer c =
     let i = c.loop-left.invariant in
     let w : OnWay c.args.self.now c.loop-left.self c.args.rows c.loop-left.left = record { same = i.same; answer = i.answer; row = i.row } in
-    let most = c.pass_even-even.ensures.most in
-    let e = way_even _ _ _ _ _ _ w (omega (arith, most, c.min.ensures)) (omega (arith, most, c.min.ensures, c.if-self.false, ap (λ (v : Cursor). v.next) c.self.view_is, ap (λ (v : Cursor). v.picture.rows) c.self.view_is, ap (λ (v : Cursor). v.next) c.pass_even.view_is, ap (λ (v : Cursor). v.picture.rows) c.pass_even.view_is)) c.pass_even-even.ensures.next c.pass_even-even.ensures.taken in
-    let r = way_read _ _ _ _ _ _ e (omega arith) c.in_ok-next_row.ensures.answer c.next_row.ensures.next in
-    record { same = r.same; answer = r.answer; row = r.row }
-
-pub returns-in_err-next_row-clause-answer : goal.returns-in_err-next_row-clause-answer
-returns-in_err-next_row-clause-answer c =
-    let i = c.loop-left.invariant in
-    let w : OnWay c.args.self.now c.loop-left.self c.args.rows c.loop-left.left = record { same = i.same; answer = i.answer; row = i.row } in
-    let most = c.pass_even-even.ensures.most in
-    let e = way_even _ _ _ _ _ _ w (omega (arith, most, c.min.ensures)) (omega (arith, most, c.min.ensures, c.if-self.false, ap (λ (v : Cursor). v.next) c.self.view_is, ap (λ (v : Cursor). v.picture.rows) c.self.view_is, ap (λ (v : Cursor). v.next) c.pass_even.view_is, ap (λ (v : Cursor). v.picture.rows) c.pass_even.view_is)) c.pass_even-even.ensures.next c.pass_even-even.ensures.taken in
-    let stop = (way_stopped _ _ _ _ _ _ e (omega arith) c.in_err-next_row.ensures.answer c.next_row.ensures.next).0 in
+    let fault = c.in_err-passed.ensures.fault in
+    let stop = (way_stopped _ _ _ _ _ _ w (omega arith) fault.0 fault.1).0 in
     search (rules, stop)
 
-pub returns-in_err-next_row-clause-next : goal.returns-in_err-next_row-clause-next
-returns-in_err-next_row-clause-next c =
+pub returns-in_err-passed-clause-next : goal.returns-in_err-passed-clause-next
+returns-in_err-passed-clause-next c =
     let i = c.loop-left.invariant in
     let w : OnWay c.args.self.now c.loop-left.self c.args.rows c.loop-left.left = record { same = i.same; answer = i.answer; row = i.row } in
-    let most = c.pass_even-even.ensures.most in
-    let e = way_even _ _ _ _ _ _ w (omega (arith, most, c.min.ensures)) (omega (arith, most, c.min.ensures, c.if-self.false, ap (λ (v : Cursor). v.next) c.self.view_is, ap (λ (v : Cursor). v.picture.rows) c.self.view_is, ap (λ (v : Cursor). v.next) c.pass_even.view_is, ap (λ (v : Cursor). v.picture.rows) c.pass_even.view_is)) c.pass_even-even.ensures.next c.pass_even-even.ensures.taken in
-    (way_stopped _ _ _ _ _ _ e (omega arith) c.in_err-next_row.ensures.answer c.next_row.ensures.next).1
+    let fault = c.in_err-passed.ensures.fault in
+    (way_stopped _ _ _ _ _ _ w (omega arith) fault.0 fault.1).1

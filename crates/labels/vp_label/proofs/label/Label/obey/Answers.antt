@@ -72,3 +72,12 @@ returns-clause-idle c = λ none.
     let p = c.begin.ensures.press in
     let over = no_copies c.pending_law.ensures (shown j.sheets now.format.stored (view_of now.in_force.settings) q) q.copies.place (λ some. (let h = p.high in let e = p.height in omega arith, p.place)) none in
     absurd (omega (arith, over, c.begin.ensures.some))
+
+pub returns-clause-idle_work : goal.returns-clause-idle_work
+returns-clause-idle_work c = λ none.
+    let j = c.self.inside in
+    let now = c.obey.new.self in
+    let q = c.begin.new.self in
+    let p = c.begin.ensures.press in
+    let over = no_copies c.pending_law.ensures (shown j.sheets now.format.stored (view_of now.in_force.settings) q) q.copies.place (λ some. (let h = p.high in let e = p.height in omega arith, p.place)) none in
+    absurd (omega (arith, over, c.begin.ensures.some))

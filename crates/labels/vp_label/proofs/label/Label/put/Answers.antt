@@ -1,14 +1,14 @@
 use Rattle.std.proofs.Common.{◌≡◌, ◌<◌, ◌++◌, rules, ℕ, List, subst, ap, sym, ◌∙◌, length, take, drop, min}
 use Rattle.std.proofs.Common.{◌≤◌, arith, refl, inl, inr}
 use Rattle.std.proofs.lemmas.Bool.{cases_lt}
-use Rattle.vp_bands.specs.Meeting.{bands_of, pairs}
+use Rattle.vp_bands.specs.Meeting.{bands_of, copy_work, pairs}
 use Rattle.vp_bands.specs.Standing.{fields_of, IsBefore}
-use Rattle.vp_copies.specs.Progress.{IsLineOf}
+use Rattle.vp_output.specs.Lines.{IsLineOf}
 use Rattle.vp_copies.specs.Copies.{copies_text}
 use Rattle.vp_label.proofs.Counts.{between_copies, same_image}
 use Rattle.vp_label.proofs.Presses.{is_within, most}
 use Rattle.vp_label.specs.Prints.{label_image, view_of}
-use Rattle.vp_label.specs.Standing.{bands, met, IsPrinting, Printing}
+use Rattle.vp_label.specs.Standing.{bands, met, painting, IsPrinting, Printing}
 use Rattle.vp_label.specs.declared.gathered.Gathered.{Gathered}
 use Rattle.vp_label.specs.Gathered.{Gathers}
 use Rattle.vp_label.proofs.Pending.{still_printing}
@@ -65,6 +65,26 @@ returns-clause-at_most c = λ pending.
     ∙ ap met c.self.view_is in
     let n : bands_of view ≡ bands c.args.self.now = ap bands_of c.view_of-view.ensures ∙ ap bands c.self.view_is in
     omega (arith, bound, e, n)
+
+pub returns-clause-work : goal.returns-clause-work
+returns-clause-work c = λ pending.
+    let j = c.self.inside in
+    let q = c.put.new.self in
+    let view = c.view_of-view.result in
+    let bytes = c.stored.result.now in
+    let p = c.put.ensures.press in
+    let line : IsLineOf view.height q.copies.place.line = subst (λ (h : ℕ). IsLineOf h q.copies.place.line) p.height p.place.line in
+    let w : (b : ℕ) × (b ≤ bands_of view) × IsBefore j.sheets bytes view b q.painter = elim (cases_lt 0 q.copies.place.copies) [
+      | inl some ↦ is_within view.height (bands_of view) (λ b. IsBefore j.sheets bytes view b q.painter) q.copies.place.copies q.copies.place.line q.copies.place.byte refl line some (p.next some)
+      | inr none_left ↦ (bands_of view, omega arith, p.over (omega arith))
+    ] in
+    let bound = c.work_bounded.ensures.at_most j.sheets bytes view w.0 q.painter w.2 w.1 in
+    let some : 0 < j.press.copies.place.copies = search rules in
+    let e : copy_work j.sheets bytes view (fields_of q.painter.entries) (bands_of view) ≡ painting c.args.self.now =
+    ap (λ xs. copy_work j.sheets bytes view (fields_of xs) (bands_of view)) c.put.ensures.fields ∙ ap (λ xs. copy_work j.sheets bytes view xs (bands_of view)) (c.self.invariant.fields some)
+    ∙ ap (λ s. copy_work j.sheets s view j.gathered.format.fields (bands_of view)) c.stored.ensures.bytes ∙ ap (λ (v : View). copy_work j.sheets j.gathered.format.stored v j.gathered.format.fields (bands_of v)) c.view_of-view.ensures
+    ∙ ap painting c.self.view_is in
+    omega (arith, bound, e)
 
 pub returns-clause-at_least : goal.returns-clause-at_least
 returns-clause-at_least c = λ out whole.

@@ -1,7 +1,7 @@
 use Rattle.std.proofs.Common.{◌-◌, ◌++◌, length, take, drop, ap, ◌∙◌, arith, length-drop}
 use Rattle.std.proofs.lemmas.List.{drop-drop, length-take}
 use Rattle.vp_label.specs.Press.{left}
-use Rattle.vp_label.proofs.Cut.{put_more}
+use Rattle.vp_output.proofs.Cut.{put_more}
 use Rattle.vp_label.proofs.press.Press.put.Goals as goal
 
 pub loop-n-preserved : goal.loop-n-preserved

@@ -4,7 +4,8 @@ use Rattle.vp_field.specs.Fields.{stroke_of}
 use Rattle.vp_field.specs.Strokes.{image_dot}
 use Rattle.vp_bands.specs.Meeting.{bands_of}
 use Rattle.vp_bands.specs.Standing.{fields_of, IsBefore}
-use Rattle.vp_copies.specs.Progress.{Progress, IsLineOf}
+use Rattle.vp_copies.specs.Progress.{Progress}
+use Rattle.vp_output.specs.Lines.{IsLineOf}
 use Rattle.vp_label.specs.Press.{left}
 use Rattle.vp_label.proofs.Presses.{met_behind, same_left, IsMet}
 use Rattle.vp_label.proofs.press.Press.put_line.Goals as goal

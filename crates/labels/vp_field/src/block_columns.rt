@@ -1,0 +1,73 @@
+//! Blocks of lines whose rows fall on columns: many of them drawn at once.
+ghost use Rattle.std.specs.Prelude.{◌≡◌, ℕ, ◌+◌, ◌<◌, slice_index};
+ghost use Rattle.vp_dots.specs.Dots.{shifted};
+ghost use Rattle.vp_dots.specs.Words.{word_dot};
+ghost use Rattle.vp_glyph.specs.Blocks.{block_width, block_height, block_dot, block_inside};
+
+use crate::lines::BlockRows;
+use vp_dots::{Ink, Op, paint_word};
+
+/// As many rows are drawn at once as a band has columns.
+const COLUMNS: usize = 1248;
+
+/// A block of lines, whose rows from one on were drawn at an offset, as far as a column of a band goes.
+#[derive(Drop)]
+pub struct BlockColumns<'a> {
+    pub rows: BlockRows<'a>,
+    top: u32,
+    at: i64,
+    fronts: [u64; COLUMNS],
+    ghost drawn: { (i x : ℕ) → i < 1248 → x < 64
+        → top + i < block_height rows.block.h rows.block.rows rows.block.pitch
+        → word_dot (slice_index fronts i) x ≡ shifted at (λ x. block_dot rows.block.sheet.now
+        rows.block.text.now rows.block.w rows.block.h rows.block.wide rows.block.rows rows.block.pitch
+        rows.block.alignment x (top + i)) x },
+}
+
+impl<'a> BlockColumns<'a> {
+    /// The same block, whose rows from this one on are drawn at an offset.
+    pub fn new(rows: BlockRows<'a>, top: u32, at: i64) -> Self
+        ensures { result.rows ≡ rows.entry }
+    {
+        BlockColumns {
+            rows,
+            top,
+            at,
+            fronts: rows.block.fronts::<COLUMNS>(top, at),
+        }
+    }
+}
+
+impl Ink for BlockColumns<'_> {
+    ghost width = { λ s. block_width s.rows.block.wide s.rows.block.w };
+
+    ghost height = { λ s. block_height s.rows.block.h s.rows.block.rows s.rows.block.pitch };
+
+    ghost ink_at = { λ s x y. block_dot s.rows.block.sheet.now s.rows.block.text.now s.rows.block.w
+        s.rows.block.h s.rows.block.wide s.rows.block.rows s.rows.block.pitch s.rows.block.alignment x y };
+
+    ghost outside = { λ s x y h. block_inside s.rows.block.sheet.now s.rows.block.text.now s.rows.block.w
+        s.rows.block.h s.rows.block.wide s.rows.block.rows s.rows.block.pitch s.rows.block.alignment x y h };
+
+    fn size(&self) -> (u32, u32) {
+        self.rows.size()
+    }
+
+    fn ink(&self, x: u32, y: u32) -> bool {
+        self.rows.ink(x, y)
+    }
+
+    fn paint_row(&self, y: u32, op: Op, at: i64, row: &mut [u8]) {
+        let (_, height) = self.size();
+        let place = y.saturating_sub(self.top) as usize;
+        if at == self.at && y >= self.top && y < height && place < COLUMNS && row.len() <= 8 {
+            paint_word(op, self.fronts[place], 0, row);
+            return;
+        }
+        self.rows.paint_row(y, op, at, row);
+    }
+
+    fn repeats(&self, y: u32) -> bool {
+        self.rows.repeats(y)
+    }
+}

@@ -1,0 +1,116 @@
+-- Codes that are passed by where their symbols end, and what passing all rows answers.
+use Rattle.std.proofs.Common.{inl, inr, ◌≡◌, ℕ, zero, suc, ◌+◌, ◌-◌, ◌*◌, ◌/◌, ◌%◌, ◌<◌, ◌≤◌, true, false, Ok, Err, cond, List, [], ◌∷◌, drop, length, get_or, Some, subst, ap, sym, ◌∙◌, refl, arith}
+use Rattle.std.proofs.Math.Seq.{drop-length}
+use Rattle.std.proofs.Math.Nat.{lt-div-mul-add, div-mul-le_self, mod-eq-sub-div-mul, div-lt_iff_lt-mul, mul-le-mul_left, mul_comm}
+use Rattle.std.proofs.lemmas.Bool.{cases_lt, lt-ltb, eq-eqb, ne_eqb}
+use Rattle.vp_dots.specs.declared.fault.Fault.TheVariants.{Graphic}
+use Rattle.vp_format.specs.declared.codes.Symbol.{Symbol}
+use Rattle.vp_format.specs.declared.codes.Symbol.TheVariants.{Digits, ToEnd, Again, Refused}
+use Rattle.vp_format.specs.declared.reading.Codes.{Codes}
+use Rattle.vp_format.specs.Codes.{code_of, Spelled, spelled, joined, symbols, symbols_behind}
+use Rattle.vp_format.specs.Pictures.{AsAbove, Nothing, shown, shows, end_of, is_nothing, Picture, width_of, place_of, is_refused, row_after, unless_fault, passing}
+use Rattle.vp_format.specs.Cursors.{digit_value, symbols_from, InHand, IsReading, Passed}
+use Rattle.vp_format.proofs.Reached.{shown_in, shown_past, in_hand}
+use Rattle.vp_format.proofs.Quick.{plain_symbol}
+use Rattle.vp_format.proofs.Skipped.{first_read, rows_read, read_to}
+
+-- before the first place all symbols are left
+pub start_passed : (w : ℕ) (all : List Spelled) → Passed w all 0 all
+start_passed w all = record { taken = λ j l. absurd (omega (arith, l)); ahead = λ j _. refl }
+
+-- the same symbols, the same place
+pub passed_at : (w : ℕ) (all : List Spelled) (x y : ℕ) (ss left : List Spelled) → x ≡ y → ss ≡ left → Passed w all x ss → Passed w all y left
+passed_at w all x y ss left d e r = subst (λ q. Passed w all q left) d (subst (λ p. Passed w all x p) e r)
+
+-- a symbol that isn't refused
+symbol_passed : (w : ℕ) (all : List Spelled) (x k : ℕ) (s : Symbol) (left : List Spelled) → x ≤ end_of w x s → is_nothing (shows w x s) ≡ false → Passed w all x (spelled s k ∷ left) → Passed w all (end_of w x s) left
+symbol_passed w all x k s left order taken r = record {
+  taken = λ j l. elim (cases_lt j x) [ inl b ↦ r.taken j b | inr b ↦ ap is_nothing (r.ahead j b ∙ shown_in w x (spelled s k) left j l) ∙ taken ];
+  ahead = λ j l. r.ahead j (omega (arith, order, l)) ∙ shown_past w x (spelled s k) left j l;
+}
+
+pub digits_passed : (w : ℕ) (all : List Spelled) (x n v k : ℕ) (left : List Spelled) → Passed w all x (spelled (Digits n v) k ∷ left) → Passed w all (x + n) left
+digits_passed w all x n v k left r = symbol_passed w all x k (Digits n v) left (omega arith) refl r
+
+-- the end of the row that holds a place
+row_end : (w x : ℕ) → (x / w + 1) * w ≡ x - x % w + w
+row_end w x = omega (arith, mod-eq-sub-div-mul x w, div-mul-le_self x w)
+
+pub fill_passed : (w : ℕ) (all : List Spelled) (x v k : ℕ) (left : List Spelled) → 0 < w → Passed w all x (spelled (ToEnd v) k ∷ left) → Passed w all (x - x % w + w) left
+fill_passed w all x v k left some r = passed_at w all _ _ left left (row_end w x) refl (symbol_passed w all x k (ToEnd v) left (omega (arith, lt-div-mul-add {a = x} {b = w} some, row_end w x)) refl r)
+
+pub again_passed : (w : ℕ) (all : List Spelled) (x k : ℕ) (left : List Spelled) → 0 < w → x % w ≡ 0 → Passed w all x (spelled Again k ∷ left) → Passed w all (x - x % w + w) left
+again_passed w all x k left some begins r =
+    passed_at w all _ _ left left (row_end w x) refl (symbol_passed w all x k Again left (omega (arith, lt-div-mul-add {a = x} {b = w} some, row_end w x)) (ap (λ b. is_nothing (cond b AsAbove Nothing)) (eq-eqb (x % w) 0 begins)) r)
+
+-- so many plain digits
+pub plain_passed : (w : ℕ) (all : List Spelled) (x : ℕ) (codes : List ℕ) (at k : ℕ) → at + k ≤ length codes → ((i : ℕ) → i < k → digit_value (code_of (get_or codes (at + i) 0)) < 16)
+    → Passed w all x (symbols_from codes at) → Passed w all (x + k) (symbols_from codes (at + k))
+plain_passed w all x codes at zero inside digit r = let e : x ≡ x + 0 = omega arith in let f : at ≡ at + 0 = omega arith in passed_at w all x (x + 0) _ _ e (ap (symbols_from codes) f) r
+plain_passed w all x codes at (suc k) inside digit r =
+    let before = plain_passed w all x codes at k (omega (arith, inside)) (λ i l. digit i (omega (arith, l))) r in
+    let next = passed_at w all (x + k) (x + k) _ _ refl (plain_symbol codes (at + k) (omega (arith, inside)) (digit k (omega arith))) before in
+    passed_at w all (x + k + 1) (x + suc k) _ _ (omega arith) (ap (symbols_from codes) (omega arith)) (digits_passed w all (x + k) 1 _ _ (symbols_from codes (at + k + 1)) next)
+
+-- none of the rows is refused
+pub all_taken : (p : Picture) → ((y : ℕ) → y < p.rows → is_refused p y ≡ false) → passing p 0 p.rows ≡ Ok tt
+all_taken p taken = let e : p.rows ≡ p.rows - 0 = omega arith in ap (passing p 0) e ∙ (read_to p 0 p.rows (omega arith) (omega arith) (λ z l m. taken z m)).0
+
+-- a row's last place
+last_before : (w y n : ℕ) → 0 < w → y < n → w * y + (w - 1) < w * n
+last_before w y n some l = let m : w * (y + 1) ≤ w * n = mul-le-mul_left w (omega (arith, l)) in omega (arith, m, some)
+
+-- all rows are passed
+pub end_passed : (p : Picture) (x : ℕ) (left : List Spelled) → 0 < width_of p → width_of p * p.rows ≤ x → Passed (width_of p) (symbols p.coding p.codes) x left → passing p 0 p.rows ≡ Ok tt
+unfolding is_refused place_of
+end_passed p x left some ends r = all_taken p (λ y l. r.taken (width_of p * y + (width_of p - 1)) (omega (arith, last_before (width_of p) y p.rows some l, ends)))
+
+-- or no code is left for the others
+pub codes_passed : (p : Picture) (x at : ℕ) → 0 < width_of p → at ≡ length p.codes → Passed (width_of p) (symbols p.coding p.codes) x (symbols_from p.codes at) → passing p 0 p.rows ≡ Ok tt
+unfolding is_refused place_of
+codes_passed p x at some ends r = all_taken p (λ y l.
+    let w = width_of p in
+    let j = w * y + (w - 1) in
+    let none : symbols_from p.codes at ≡ [] = ap (λ k. symbols_from p.codes k) ends ∙ ap (λ cs. symbols_behind cs 0 0) (drop-length p.codes) in
+    elim (cases_lt j x) [ inl b ↦ r.taken j b | inr b ↦ ap is_nothing (r.ahead j b ∙ ap (λ ss. shown w x ss j) none) ])
+
+-- a refused symbol starts in one of the rows
+refused_passed : (p : Picture) (x k : ℕ) (s : Symbol) (left : List Spelled) → 0 < width_of p → x < width_of p * p.rows → end_of (width_of p) x s ≡ (x / width_of p + 1) * width_of p → shows (width_of p) x s ≡ Nothing
+    → Passed (width_of p) (symbols p.coding p.codes) x (spelled s k ∷ left) → passing p 0 p.rows ≡ Err Graphic
+unfolding is_refused place_of
+refused_passed p x k s left some inside ends nothing r =
+    let w = width_of p in
+    let y = x / w in
+    let j = w * y + (w - 1) in
+    let turn = mul_comm w y in
+    let below : y < p.rows = (div-lt_iff_lt-mul {k = w} some).1 (omega (arith, inside, mul_comm w p.rows)) in
+    let from : x ≤ j = omega (arith, lt-div-mul-add {a = x} {b = w} some, turn, some) in
+    let to : j < end_of w x s = omega (arith, ends, turn, some) in
+    let refused : is_refused p y ≡ true = ap is_nothing (r.ahead j from ∙ shown_in w x (spelled s k) left j to ∙ nothing) in
+    let before : (z : ℕ) → 0 ≤ z → z < 0 + y → is_refused p z ≡ false = λ z _ l. r.taken (w * z + (w - 1)) (omega (arith, last_before w z y some (omega (arith, l)), turn, div-mul-le_self x w)) in
+    let there : 0 + y ≡ y = omega arith in
+    (rows_read p 0 p.rows y (omega (arith, below)) (omega (arith, below)) before).0 ∙ ap (λ z. passing p z (p.rows - y)) there ∙ (first_read p y (p.rows - y) (omega (arith, below))).0
+    ∙ ap (λ t. unless_fault (cond t (cond (is_refused p y) (Err Graphic) (Ok true)) (Ok false)) (passing p (row_after p y) (p.rows - y - 1))) (lt-ltb y p.rows below)
+    ∙ ap (λ t. unless_fault (cond t (Err Graphic) (Ok true)) (passing p (row_after p y) (p.rows - y - 1))) refused
+
+pub other_passed : (p : Picture) (x k : ℕ) (left : List Spelled) → 0 < width_of p → x < width_of p * p.rows → Passed (width_of p) (symbols p.coding p.codes) x (spelled Refused k ∷ left) → passing p 0 p.rows ≡ Err Graphic
+other_passed p x k left some inside r = refused_passed p x k Refused left some inside refl refl r
+
+-- `:` inside a row
+pub inside_passed : (p : Picture) (x k : ℕ) (left : List Spelled) → 0 < width_of p → x < width_of p * p.rows → 0 < x % width_of p → Passed (width_of p) (symbols p.coding p.codes) x (spelled Again k ∷ left) → passing p 0 p.rows ≡ Err Graphic
+inside_passed p x k left some inside within r = refused_passed p x k Again left some inside refl (ap (λ b. cond b AsAbove Nothing) (ne_eqb (x % width_of p) 0 (λ e. omega (arith, e, within)))) r
+
+-- what is passed of a reader's bytes
+pub step_passed : (w : ℕ) (all : List Spelled) (from to : ℕ) (codes bytes : List ℕ) (first at : ℕ) (old c : Codes) → bytes ≡ old.bytes.now → old.bytes.now ≡ codes → first ≡ old.at → c.at ≡ at
+    → (Passed w all from (symbols_from bytes first) → Passed w all to (symbols_from bytes at)) → Passed w all from (symbols_from codes old.at) → Passed w all to (symbols_from codes c.at)
+step_passed w all from to codes bytes first at old c here same begins ends step r =
+    let begun = passed_at w all from from _ _ refl (ap (λ cs. symbols_from cs old.at) (sym (here ∙ same)) ∙ ap (symbols_from bytes) (sym begins)) r in
+    passed_at w all to to _ _ refl (ap (λ cs. symbols_from cs at) (here ∙ same) ∙ ap (symbols_from codes) (sym ends)) (step begun)
+
+-- the symbol that begins with the byte in hand
+pub hand_passed : (w : ℕ) (all : List Spelled) (x : ℕ) (codes : List ℕ) (old c e : Codes) (b k : ℕ) (s : Symbol) → c.bytes.now ≡ codes → e.bytes.now ≡ codes → c.at ≡ old.at + 1 → InHand c (Some b) → IsReading c
+    → joined (code_of b) 0 0 (symbols_behind (drop c.at c.bytes.now)) ≡ spelled s k ∷ symbols_from e.bytes.now e.at → Passed w all x (symbols_from codes old.at) → Passed w all x (spelled s k ∷ symbols_from codes e.at)
+hand_passed w all x codes old c e b k s same kept next hand reading is r =
+    let back : old.at ≡ c.at - 1 = omega arith in
+    passed_at w all x x _ _ refl
+    (ap (λ cs. symbols_from cs old.at) (sym same) ∙ ap (symbols_from c.bytes.now) back ∙ in_hand c.bytes.now c.at b hand.0 reading.at hand.1 ∙ is ∙ ap (λ cs. spelled s k ∷ symbols_from cs e.at) kept) r

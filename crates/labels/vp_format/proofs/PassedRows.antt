@@ -1,0 +1,118 @@
+-- Rows that are passed by their codes.
+use Rattle.std.proofs.Common.{inl, inr, ◌≡◌, ◌⊎◌, ℕ, zero, suc, ◌+◌, ◌*◌, ◌/◌, ◌%◌, ◌<◌, ◌≤◌, max, true, false, List, [], ◌∷◌, drop, length, length-drop, ap, sym, ◌∙◌, refl, arith}
+use Rattle.std.specs.Prelude.{◌==◌}
+use Rattle.std.proofs.lemmas.Bool.{cases_Bool, cases_lt}
+use Rattle.std.proofs.lemmas.Bool.Decides.{nat_tests}
+use Rattle.vp_format.specs.declared.codes.Code.{Code}
+use Rattle.vp_format.specs.declared.codes.Code.TheVariants.{Digit, Count, Fill, Above, Other}
+use Rattle.vp_format.specs.declared.codes.Symbol.TheVariants.{Digits, ToEnd, Again, Refused}
+use Rattle.vp_format.specs.declared.row.RowEnd.{RowEnd}
+use Rattle.vp_format.specs.declared.rows.Coding.{Coding}
+use Rattle.vp_format.specs.declared.rows.Coding.TheVariants.{RunLength, Binary}
+use Rattle.vp_format.specs.declared.rows.Spot.{Spot}
+use Rattle.vp_format.specs.declared.rows.RunRows.TheInside.{Inside}
+use Rattle.vp_format.specs.Codes.{code_of, spelled, alone, joined, symbols, symbols_behind, binary_symbols}
+use Rattle.vp_format.specs.Pictures.{Value, shown, bytes_before, start_of}
+use Rattle.vp_format.specs.Cursors.{symbols_at, picture_of, is_white, white_rest, Advanced, Decoded, ArePassed, IsCursor}
+use Rattle.vp_format.proofs.Even.{white_is, is_white_at, ends_white}
+use Rattle.vp_format.proofs.Reached.{shown_in, bytes_run, bytes_past, bytes_none}
+
+-- there is one such row at most
+pub rest_most : (codes : ℕ) (s : Spot) → white_rest codes s ≤ 1
+rest_most codes s = elim (cases_Bool (is_white codes s)) [ inl t ↦ rw t (omega arith) | inr f ↦ rw f (omega arith) ]
+
+-- a count is some
+count_some : (b m : ℕ) → code_of b ≡ Count m → 0 < m
+unfolding code_of
+count_some b m e = grind (arith, nat_tests)
+
+-- the symbol at a code, or behind the counts from it on, has some bytes
+some_joined : (codes : List ℕ) (c : Code) (n k w p : ℕ) → ((m : ℕ) → c ≡ Count m → 0 < m) → ((n k : ℕ) → 0 < n → 0 < k → 0 < bytes_before w p (symbols_behind codes n k) w) → p < w
+    → 0 < bytes_before w p (joined c n k (symbols_behind codes)) w
+some_joined codes (Digit v) n k w p counts later l = omega (arith, bytes_past w p (spelled (Digits (max n 1) v) (k + 1)) (symbols_behind codes 0 0) w l)
+some_joined codes (Count m) n k w p counts later l = later (n + m) (k + 1) (omega (arith, counts m refl)) (omega arith)
+some_joined codes (Fill v) n k w p counts later l = omega (arith, bytes_past w p (spelled (alone n (ToEnd v)) (k + 1)) (symbols_behind codes 0 0) w l)
+some_joined codes Above n k w p counts later l = omega (arith, bytes_past w p (spelled (alone n Again) (k + 1)) (symbols_behind codes 0 0) w l)
+some_joined codes Other n k w p counts later l = omega (arith, bytes_past w p (spelled Refused (k + 1)) (symbols_behind codes 0 0) w l)
+
+some_behind : (codes : List ℕ) (w p : ℕ) → p < w → (n k : ℕ) → 0 < n → 0 < k → 0 < bytes_before w p (symbols_behind codes n k) w
+some_behind [] w p l (suc n) k counts some = let t : (suc n == 0) ≡ false = grind (arith, nat_tests) in rw t (omega (arith, bytes_past w p (spelled Refused k) [] w l))
+some_behind [] w p l zero k counts some = absurd (omega arith)
+some_behind (b ∷ codes) w p l n k counts some = some_joined codes (code_of b) n k w p (λ m e. count_some b m e) (some_behind codes w p l) l
+
+-- so some bytes are read where there is a code
+some_read : (coding : Coding) (codes : List ℕ) (w p : ℕ) → 0 < length codes → p < w → 0 < bytes_before w p (symbols coding codes) w
+some_read coding [] w p some l = absurd (omega arith)
+some_read RunLength (b ∷ codes) w p some l = some_joined codes (code_of b) 0 0 w p (λ m e. count_some b m e) (some_behind codes w p l) l
+some_read Binary (b ∷ codes) w p some l = omega (arith, bytes_past w p (spelled (Digits 1 (b / 16)) 1) (spelled (Digits 1 (b % 16)) 0 ∷ binary_symbols codes) w l)
+
+module _ (w : ℕ) (coding : Coding) (codes : List ℕ) (s after : Spot) (end : RowEnd) (old new : List ℕ) (d : Decoded w coding codes s end after old new) where
+  -- where the next row starts
+  next_start : s.at + bytes_before w 0 (symbols_at coding codes s) w ≡ after.at
+  next_start = let e : w ≡ w + 0 = omega arith in
+      ap (λ q. s.at + bytes_before w 0 (symbols_at coding codes s) q) e ∙ d.bytes 0 ∙ ap (λ k. after.at + k) (bytes_none w 0 (symbols_at coding codes after) 0 (omega arith)) ∙ omega arith
+
+  -- a row that a run doesn't cover has a byte
+  pub byte_read : s.left < w → s.at < length codes → s.at < after.at
+  byte_read short more =
+      let run = bytes_run w 0 s.left s.digit (symbols coding (drop s.at codes)) w (omega arith) in
+      let some = some_read coding (drop s.at codes) w (0 + s.left) (omega (arith, length-drop s.at codes)) (omega arith) in
+      omega (arith, next_start, run, some)
+
+  -- behind the last code white is all that comes once the run has ended
+  pub white_next : s.at ≡ length codes → ((s.left ≤ w) ⊎ (s.digit ≡ 0)) → is_white (length codes) after ≡ true
+  white_next ends rest =
+      let here : after.at ≡ length codes = omega (arith, next_start, ends, d.spot.at) in
+      let first : shown w 0 (symbols_at coding codes after) 0 ≡ Value 0 = sym (d.next 0) ∙ ends_white w coding codes s (w + 0) ends (elim rest [ inl short ↦ inl (omega (arith, short)) | inr digit ↦ inr digit ]) in
+      white_is (length codes) after (
+        here,
+        elim (cases_lt 0 after.left) [
+          | inr none ↦ inl (omega arith)
+          | inl some ↦ inr (value_is after.digit 0 (sym (shown_in w 0 (spelled (Digits after.left after.digit) 0) (symbols coding (drop after.at codes)) 0 (omega arith)) ∙ first))
+        ],
+      )
+    where
+      value_is : (a b : ℕ) → Value a ≡ Value b → a ≡ b
+      value_is a b e = cc
+
+-- the row at the cursor is read
+module _ (c n : Inside) (end : RowEnd) (i : IsCursor c) (going : c.refused ≡ false) (a : Advanced c.codes n.codes)
+    (d : Decoded (2 * c.row_bytes) c.coding c.codes.bytes.now c.mark.here end (record { left = end.left; digit = end.digit; at = n.codes.at }) c.row n.row)
+    (coding : n.coding ≡ c.coding) (row_bytes : n.row_bytes ≡ c.row_bytes) (rows : n.rows ≡ c.rows) (first : n.first ≡ c.first)
+    (next : n.mark.next ≡ c.mark.next + 1) (here : n.mark.here ≡ record { left = end.left; digit = end.digit; at = n.codes.at }) where
+  start : start_of (picture_of n) n.first ≡ start_of (picture_of c) c.first
+  start = let same : picture_of n ≡ picture_of c = rw (coding, row_bytes, rows, a.bytes) refl in
+      ap (λ q. start_of q n.first) same ∙ ap (start_of (picture_of c)) first
+
+  there : n.mark.here.at ≡ n.codes.at
+  there = ap (λ (s : Spot). s.at) here
+
+  rest : white_rest (length n.codes.bytes.now) n.mark.here ≡ white_rest (length c.codes.bytes.now) (record { left = end.left; digit = end.digit; at = n.codes.at })
+  rest = ap (λ (b : List ℕ). white_rest (length b) n.mark.here) a.bytes ∙ ap (white_rest (length c.codes.bytes.now)) here
+
+  white : c.mark.here.at ≡ length c.codes.bytes.now → ((c.mark.here.left ≤ 2 * c.row_bytes) ⊎ (c.mark.here.digit ≡ 0)) → white_rest (length n.codes.bytes.now) n.mark.here ≡ 1
+  white ends short = rest ∙ rw (white_next (2 * c.row_bytes) c.coding c.codes.bytes.now c.mark.here _ end c.row n.row d ends short) refl
+
+  -- and not counted
+  pub read_passed : n.passed ≡ c.passed → ArePassed n
+  read_passed same = record {
+    bytes = elim (cases_Bool (is_white (length c.codes.bytes.now) c.mark.here)) [
+      | inl w ↦ (let at = is_white_at (length c.codes.bytes.now) c.mark.here w in
+          let was : white_rest (length c.codes.bytes.now) c.mark.here ≡ 1 = rw w refl in
+          omega (arith, start, same, there, a.at, i.place going, i.passed.bytes, was, white at.0 (elim at.1 [ inl none ↦ inl (omega (arith, none)) | inr digit ↦ inr digit ])))
+      | inr w ↦ (let was : white_rest (length c.codes.bytes.now) c.mark.here ≡ 0 = rw w refl in omega (arith, start, same, there, a.at, i.place going, i.passed.bytes, was))
+    ];
+    rows = omega (arith, same, first, next, i.passed.rows);
+  }
+
+  -- or counted, where a code spells it
+  pub spelled_passed : n.passed ≡ c.passed + 1 → c.mark.here.left < 2 * c.row_bytes → is_white (length c.codes.bytes.now) c.mark.here ≡ false → ArePassed n
+  spelled_passed more short w =
+      let was : white_rest (length c.codes.bytes.now) c.mark.here ≡ 0 = rw w refl in
+      record {
+        bytes = elim (cases_lt c.mark.here.at (length c.codes.bytes.now)) [
+          | inl l ↦ omega (arith, start, more, there, i.passed.bytes, was, byte_read (2 * c.row_bytes) c.coding c.codes.bytes.now c.mark.here _ end c.row n.row d short l)
+          | inr g ↦ omega (arith, start, more, there, a.at, i.place going, i.passed.bytes, was, white (omega (arith, i.mark.here.at)) (inl (omega arith)))
+        ];
+        rows = omega (arith, more, first, next, i.passed.rows);
+      }

@@ -1,0 +1,19 @@
+//! How large a label may be, and the band of it that is painted at once.
+//!
+//! A label is painted by bands of 32 rows, each as wide as the widest label. Who paints bands and who puts
+//! them out know no more of each other than this.
+#![tactic(auto)]
+
+use vp_dots::Band;
+
+/// The dots across the widest label, and across a band.
+pub const WIDEST: u16 = 1248;
+
+/// The rows of the longest label.
+pub const LONGEST: u16 = 8000;
+
+/// The rows of a band.
+pub const BAND_ROWS: usize = 32;
+
+/// A band of a label: `BAND_ROWS` rows, each of the 156 bytes that `WIDEST` dots take.
+pub type LabelBand = Band<156, 32>;
