@@ -8,14 +8,14 @@ use Rattle.vp_receipt.specs.Standing.{Printing, Stands as ReceiptStands}
 use Rattle.vp_zpl.specs.declared.reader.ZplReader.{ZplReader}
 use Rattle.vp_zpl.specs.Reader.{Stands as ZplStands}
 use Rattle.vp_label.specs.Standing.{Printing as LabelPrinting, Stands as LabelStands}
-use Rattle.vp_language.specs.declared.language.Language.TheVariants as languages
 use Rattle.vp_engine.specs.declared.machine.Machine.{Machine}
 use Rattle.vp_engine.specs.declared.machine.Machine.TheVariants.{Receipt, ReceiptLines, Label, LabelLines}
 use Rattle.vp_engine.specs.declared.machine.Machine.TheVariants.{ReceiptOffsets, LabelOffsets}
 use Rattle.vp_streams.specs.Count.{counted}
 use Rattle.vp_engine.specs.Lines.{Listed}
 use Rattle.vp_engine.specs.Machines.{MachineStands, AreLines}
-use Rattle.vp_engine.specs.Setups.{Setup, Receipts, Labels, Listing, ListingWithOffsets, Item}
+use Rattle.vp_engine.specs.Setups.{EscPos, Zpl}
+use Rattle.vp_engine.specs.Setups.{Setup, Receipts, Labels, ListingIn, ListingWithOffsetsIn, Item}
 
 module _ (P : (setup : Setup) → List ℕ → List (Item setup) → Type 0) where
   by_receipt : (reader : EscReader) (receipt : Printing) →
@@ -30,18 +30,15 @@ module _ (P : (setup : Setup) → List ℕ → List (Item setup) → Type 0) whe
   at_receipt machine reader receipt is f setup t before at = by_receipt reader receipt f setup t before (subst (λ m. MachineStands m setup t before) is at)
 
   by_lines : (reader : EscReader) (lines : Listed) →
-      ((t : List ℕ) (before : List (Item (Listing languages.Receipt))) → EscStands reader t × (lines.count ≡ counted (length before)) → P (Listing languages.Receipt) t before) →
-      ((t : List ℕ) (before : List (Item (Listing languages.Receipt58))) → EscStands reader t × (lines.count ≡ counted (length before)) → P (Listing languages.Receipt58) t before) →
+      ((t : List ℕ) (before : List (Item (ListingIn EscPos))) → EscStands reader t × (lines.count ≡ counted (length before)) → P (ListingIn EscPos) t before) →
       (setup : Setup) (t : List ℕ) (before : List (Item setup)) → MachineStands (ReceiptLines reader lines) setup t before → P setup t before
-  by_lines reader lines f g (Listing languages.Receipt) t before at = f t before at
-  by_lines reader lines f g (Listing languages.Receipt58) t before at = g t before at
-  by_lines reader lines f g setup t before at = absurd at
+  by_lines reader lines f (ListingIn EscPos) t before at = f t before at
+  by_lines reader lines f setup t before at = absurd at
 
   pub at_lines : (machine : Machine) (reader : EscReader) (lines : Listed) → machine ≡ ReceiptLines reader lines →
-      ((t : List ℕ) (before : List (Item (Listing languages.Receipt))) → EscStands reader t × (lines.count ≡ counted (length before)) → P (Listing languages.Receipt) t before) →
-      ((t : List ℕ) (before : List (Item (Listing languages.Receipt58))) → EscStands reader t × (lines.count ≡ counted (length before)) → P (Listing languages.Receipt58) t before) →
+      ((t : List ℕ) (before : List (Item (ListingIn EscPos))) → EscStands reader t × (lines.count ≡ counted (length before)) → P (ListingIn EscPos) t before) →
       (setup : Setup) (t : List ℕ) (before : List (Item setup)) → MachineStands machine setup t before → P setup t before
-  at_lines machine reader lines is f g setup t before at = by_lines reader lines f g setup t before (subst (λ m. MachineStands m setup t before) is at)
+  at_lines machine reader lines is f setup t before at = by_lines reader lines f setup t before (subst (λ m. MachineStands m setup t before) is at)
 
   by_label : (reader : ZplReader) (label : LabelPrinting) →
       ((s : Sheets) (t : List ℕ) (before : List (Item (Labels s))) → ZplStands reader t × LabelStands s label before → P (Labels s) t before) →
@@ -55,37 +52,34 @@ module _ (P : (setup : Setup) → List ℕ → List (Item setup) → Type 0) whe
   at_label machine reader label is f setup t before at = by_label reader label f setup t before (subst (λ m. MachineStands m setup t before) is at)
 
   by_label_lines : (reader : ZplReader) (lines : Listed) →
-      ((t : List ℕ) (before : List (Item (Listing languages.Label))) → ZplStands reader t × (lines.count ≡ counted (length before)) → P (Listing languages.Label) t before) →
+      ((t : List ℕ) (before : List (Item (ListingIn Zpl))) → ZplStands reader t × (lines.count ≡ counted (length before)) → P (ListingIn Zpl) t before) →
       (setup : Setup) (t : List ℕ) (before : List (Item setup)) → MachineStands (LabelLines reader lines) setup t before → P setup t before
-  by_label_lines reader lines f (Listing languages.Label) t before at = f t before at
+  by_label_lines reader lines f (ListingIn Zpl) t before at = f t before at
   by_label_lines reader lines f setup t before at = absurd at
 
   pub at_label_lines : (machine : Machine) (reader : ZplReader) (lines : Listed) → machine ≡ LabelLines reader lines →
-      ((t : List ℕ) (before : List (Item (Listing languages.Label))) → ZplStands reader t × (lines.count ≡ counted (length before)) → P (Listing languages.Label) t before) →
+      ((t : List ℕ) (before : List (Item (ListingIn Zpl))) → ZplStands reader t × (lines.count ≡ counted (length before)) → P (ListingIn Zpl) t before) →
       (setup : Setup) (t : List ℕ) (before : List (Item setup)) → MachineStands machine setup t before → P setup t before
   at_label_lines machine reader lines is f setup t before at = by_label_lines reader lines f setup t before (subst (λ m. MachineStands m setup t before) is at)
 
   by_offsets : (reader : EscReader) (lines : Listed) (taken : ℕ) →
-      ((t : List ℕ) (before : List (Item (ListingWithOffsets languages.Receipt))) → EscStands reader t × AreLines lines taken t before → P (ListingWithOffsets languages.Receipt) t before) →
-      ((t : List ℕ) (before : List (Item (ListingWithOffsets languages.Receipt58))) → EscStands reader t × AreLines lines taken t before → P (ListingWithOffsets languages.Receipt58) t before) →
+      ((t : List ℕ) (before : List (Item (ListingWithOffsetsIn EscPos))) → EscStands reader t × AreLines lines taken t before → P (ListingWithOffsetsIn EscPos) t before) →
       (setup : Setup) (t : List ℕ) (before : List (Item setup)) → MachineStands (ReceiptOffsets reader lines taken) setup t before → P setup t before
-  by_offsets reader lines taken f g (ListingWithOffsets languages.Receipt) t before at = f t before at
-  by_offsets reader lines taken f g (ListingWithOffsets languages.Receipt58) t before at = g t before at
-  by_offsets reader lines taken f g setup t before at = absurd at
+  by_offsets reader lines taken f (ListingWithOffsetsIn EscPos) t before at = f t before at
+  by_offsets reader lines taken f setup t before at = absurd at
 
   pub at_offsets : (machine : Machine) (reader : EscReader) (lines : Listed) (taken : ℕ) → machine ≡ ReceiptOffsets reader lines taken →
-      ((t : List ℕ) (before : List (Item (ListingWithOffsets languages.Receipt))) → EscStands reader t × AreLines lines taken t before → P (ListingWithOffsets languages.Receipt) t before) →
-      ((t : List ℕ) (before : List (Item (ListingWithOffsets languages.Receipt58))) → EscStands reader t × AreLines lines taken t before → P (ListingWithOffsets languages.Receipt58) t before) →
+      ((t : List ℕ) (before : List (Item (ListingWithOffsetsIn EscPos))) → EscStands reader t × AreLines lines taken t before → P (ListingWithOffsetsIn EscPos) t before) →
       (setup : Setup) (t : List ℕ) (before : List (Item setup)) → MachineStands machine setup t before → P setup t before
-  at_offsets machine reader lines taken is f g setup t before at = by_offsets reader lines taken f g setup t before (subst (λ m. MachineStands m setup t before) is at)
+  at_offsets machine reader lines taken is f setup t before at = by_offsets reader lines taken f setup t before (subst (λ m. MachineStands m setup t before) is at)
 
   by_label_offsets : (reader : ZplReader) (lines : Listed) (taken : ℕ) →
-      ((t : List ℕ) (before : List (Item (ListingWithOffsets languages.Label))) → ZplStands reader t × AreLines lines taken t before → P (ListingWithOffsets languages.Label) t before) →
+      ((t : List ℕ) (before : List (Item (ListingWithOffsetsIn Zpl))) → ZplStands reader t × AreLines lines taken t before → P (ListingWithOffsetsIn Zpl) t before) →
       (setup : Setup) (t : List ℕ) (before : List (Item setup)) → MachineStands (LabelOffsets reader lines taken) setup t before → P setup t before
-  by_label_offsets reader lines taken f (ListingWithOffsets languages.Label) t before at = f t before at
+  by_label_offsets reader lines taken f (ListingWithOffsetsIn Zpl) t before at = f t before at
   by_label_offsets reader lines taken f setup t before at = absurd at
 
   pub at_label_offsets : (machine : Machine) (reader : ZplReader) (lines : Listed) (taken : ℕ) → machine ≡ LabelOffsets reader lines taken →
-      ((t : List ℕ) (before : List (Item (ListingWithOffsets languages.Label))) → ZplStands reader t × AreLines lines taken t before → P (ListingWithOffsets languages.Label) t before) →
+      ((t : List ℕ) (before : List (Item (ListingWithOffsetsIn Zpl))) → ZplStands reader t × AreLines lines taken t before → P (ListingWithOffsetsIn Zpl) t before) →
       (setup : Setup) (t : List ℕ) (before : List (Item setup)) → MachineStands machine setup t before → P setup t before
   at_label_offsets machine reader lines taken is f setup t before at = by_label_offsets reader lines taken f setup t before (subst (λ m. MachineStands m setup t before) is at)

@@ -7,12 +7,6 @@ use Rattle.vp_dots.specs.declared.fault.Fault.{Fault}
 use Rattle.vp_engine.specs.Bytes.{IsPrefix, without_last}
 use Rattle.vp_engine.specs.Paper.{Rules, Reading, Reads, history, printed, newest_refusal, fault_at, first_fault, sound, fault, before_fault, paper, ending, fault_at_end, missing}
 
-reverse_last : (t : List ℕ) (b : ℕ) → reverse (t ++ b ∷ []) ≡ b ∷ reverse t
-reverse_last t b = reverse-append t (b ∷ [])
-
-back_again : (t : List ℕ) (b : ℕ) → reverse (b ∷ reverse t) ≡ t ++ b ∷ []
-back_again t b = ap reverse (sym (reverse_last t b)) ∙ reverse-reverse (t ++ b ∷ [])
-
 pub without_last_more : (t : List ℕ) (b : ℕ) → without_last (t ++ b ∷ []) ≡ t
 without_last_more t b = grind (arith, common_steps)
 
@@ -23,6 +17,28 @@ none_first (Some f) b e = e
 pub none_second : (a b : Option Fault) → option_or a b ≡ None → b ≡ None
 none_second None b e = e
 none_second (Some f) b e = cc
+
+or_none : (a : Option Fault) → option_or a None ≡ a
+or_none None = refl
+or_none (Some f) = refl
+
+or_assoc : (a b c : Option Fault) → option_or a (option_or b c) ≡ option_or (option_or a b) c
+or_assoc None b c = refl
+or_assoc (Some f) b c = refl
+
+or_stays : (a b c : Option Fault) (f : Fault) → option_or a b ≡ Some f → (b ≡ Some f → c ≡ Some f) → option_or a c ≡ Some f
+or_stays None b c f e g = g e
+or_stays (Some x) b c f e g = e
+
+-- what comes where there is no fault yet
+else_same : (fault : Option Fault) (xs ys zs : List ℕ) → (fault ≡ None → ys ≡ zs) → cond (is_some fault) xs ys ≡ cond (is_some fault) xs zs
+else_same None xs ys zs e = e refl
+else_same (Some f) xs ys zs e = refl
+
+-- what comes where there is one
+then_is : (fault : Option Fault) (xs ys : List ℕ) (f : Fault) → option_or fault None ≡ Some f → cond (is_some fault) xs ys ≡ xs
+then_is None xs ys f e = cc
+then_is (Some g) xs ys f e = refl
 
 -- where there is no fault, there was none before
 pub sticks : {Item : Type 0} (reading : Reading Item) → Reads reading → (bytes more : List ℕ) → reading.fault_of (bytes ++ more) ≡ None → reading.fault_of bytes ≡ None
@@ -37,48 +53,67 @@ module _ {Item : Type 0} (rules : Rules Item) where
   unfolding paper
   paper_is t = refl
 
+  first_more : (front rest : List ℕ) (b : ℕ) →
+      first_fault rules front (rest ++ b ∷ []) ≡ option_or (first_fault rules front rest) (fault_at rules ((front ++ rest) ++ b ∷ []))
+  unfolding first_fault
+  first_more front [] b = or_none (fault_at rules (front ++ b ∷ [])) ∙ ap (λ x. fault_at rules (x ++ b ∷ [])) (sym (append-nil front))
+  first_more front (x ∷ rest) b =
+      let next = front ++ x ∷ [] in
+      ap (option_or (fault_at rules next)) (first_more next rest b) ∙ or_assoc (fault_at rules next) (first_fault rules next rest) (fault_at rules ((next ++ rest) ++ b ∷ []))
+      ∙ ap (λ y. option_or (option_or (fault_at rules next) (first_fault rules next rest)) (fault_at rules (y ++ b ∷ []))) (append_assoc front (x ∷ []) rest)
+
   pub fault_more : (t : List ℕ) (b : ℕ) → fault rules (t ++ b ∷ []) ≡ option_or (fault rules t) (fault_at rules (t ++ b ∷ []))
-  unfolding fault first_fault
-  fault_more t b = ap (first_fault rules) (reverse_last t b) ∙ ap (λ x. option_or (first_fault rules (reverse t)) (fault_at rules x)) (back_again t b)
+  unfolding fault
+  fault_more t b = first_more [] t b
 
-  sound_back : (h : List ℕ) (b : ℕ) → sound rules (b ∷ h) ≡ cond (is_some (first_fault rules (b ∷ h))) (sound rules h) (reverse (b ∷ h))
-  unfolding sound
-  sound_back h b = refl
-
-  sound_stop : (h : List ℕ) (b : ℕ) (f : Fault) → first_fault rules (b ∷ h) ≡ Some f → sound rules (b ∷ h) ≡ sound rules h
-  sound_stop h b f e = sound_back h b ∙ ap (λ g. cond (is_some g) (sound rules h) (reverse (b ∷ h))) e
-
-  sound_whole : (h : List ℕ) → first_fault rules h ≡ None → sound rules h ≡ reverse h
-  unfolding sound
-  sound_whole [] e = refl
-  sound_whole (b ∷ h) e = ap (λ g. cond (is_some g) (sound rules h) (reverse (b ∷ h))) e
+  sound_whole : (front rest : List ℕ) → first_fault rules front rest ≡ None → sound rules front rest ≡ front ++ rest
+  unfolding first_fault sound
+  sound_whole front [] e = sym (append-nil front)
+  sound_whole front (b ∷ rest) e =
+      let next = front ++ b ∷ [] in
+      ap (λ f. cond (is_some f) front (sound rules next rest)) (none_first (fault_at rules next) (first_fault rules next rest) e)
+      ∙ sound_whole next rest (none_second (fault_at rules next) (first_fault rules next rest) e) ∙ append_assoc front (b ∷ []) rest
 
   -- bytes without a fault are all before it
   pub before_whole : (t : List ℕ) → fault rules t ≡ None → before_fault rules t ≡ t
   unfolding before_fault fault
-  before_whole t e = sound_whole (reverse t) e ∙ reverse-reverse t
+  before_whole t e = sound_whole [] t e
+
+  sound_stop : (front rest : List ℕ) (b : ℕ) (f : Fault) → first_fault rules front (rest ++ b ∷ []) ≡ Some f → sound rules front (rest ++ b ∷ []) ≡ sound rules front rest
+  unfolding first_fault sound
+  sound_stop front [] b f e = then_is (fault_at rules (front ++ b ∷ [])) front (front ++ b ∷ []) f e
+  sound_stop front (x ∷ rest) b f e =
+      let next = front ++ x ∷ [] in
+      else_same (fault_at rules next) front (sound rules next (rest ++ b ∷ [])) (sound rules next rest)
+      (λ none. sound_stop next rest b f (ap (λ g. option_or g (first_fault rules next (rest ++ b ∷ []))) (sym none) ∙ e))
 
   -- the byte that makes the fault is left out
   pub before_stop : (t : List ℕ) (b : ℕ) (f : Fault) → fault rules (t ++ b ∷ []) ≡ Some f → before_fault rules (t ++ b ∷ []) ≡ before_fault rules t
   unfolding before_fault fault
-  before_stop t b f e = ap (sound rules) (reverse_last t b) ∙ sound_stop (reverse t) b f (ap (first_fault rules) (sym (reverse_last t b)) ∙ e)
+  before_stop t b f e = sound_stop [] t b f e
 
-  stays_back : (l h : List ℕ) (f : Fault) → first_fault rules h ≡ Some f → first_fault rules (l ++ h) ≡ Some f
+  first_stays : (front rest more : List ℕ) (f : Fault) → first_fault rules front rest ≡ Some f → first_fault rules front (rest ++ more) ≡ Some f
   unfolding first_fault
-  stays_back [] h f e = e
-  stays_back (b ∷ l) h f e = ap (λ g. option_or g (fault_at rules (reverse (b ∷ (l ++ h))))) (stays_back l h f e)
+  first_stays front [] more f e = cc
+  first_stays front (b ∷ rest) more f e =
+      let next = front ++ b ∷ [] in
+      or_stays (fault_at rules next) (first_fault rules next rest) (first_fault rules next (rest ++ more)) f e (first_stays next rest more f)
 
-  sound_stays : (l h : List ℕ) (f : Fault) → first_fault rules h ≡ Some f → sound rules (l ++ h) ≡ sound rules h
-  sound_stays [] h f e = refl
-  sound_stays (b ∷ l) h f e = sound_stop (l ++ h) b f (stays_back (b ∷ l) h f e) ∙ sound_stays l h f e
+  sound_stays : (front rest more : List ℕ) (f : Fault) → first_fault rules front rest ≡ Some f → sound rules front (rest ++ more) ≡ sound rules front rest
+  unfolding first_fault sound
+  sound_stays front [] more f e = cc
+  sound_stays front (b ∷ rest) more f e =
+      let next = front ++ b ∷ [] in
+      else_same (fault_at rules next) front (sound rules next (rest ++ more)) (sound rules next rest)
+      (λ none. sound_stays next rest more f (ap (λ g. option_or g (first_fault rules next rest)) (sym none) ∙ e))
 
   pub fault_stays : (t c : List ℕ) (f : Fault) → fault rules t ≡ Some f → fault rules (t ++ c) ≡ Some f
   unfolding fault
-  fault_stays t c f e = ap (first_fault rules) (reverse-append t c) ∙ stays_back (reverse c) (reverse t) f e
+  fault_stays t c f e = first_stays [] t c f e
 
   before_stays : (t c : List ℕ) (f : Fault) → fault rules t ≡ Some f → before_fault rules (t ++ c) ≡ before_fault rules t
   unfolding fault before_fault
-  before_stays t c f e = ap (sound rules) (reverse-append t c) ∙ sound_stays (reverse c) (reverse t) f e
+  before_stays t c f e = sound_stays [] t c f e
 
   pub paper_stays : (t c : List ℕ) (f : Fault) → fault rules t ≡ Some f → paper rules (t ++ c) ≡ paper rules t
   unfolding paper
@@ -99,14 +134,20 @@ module _ {Item : Type 0} (rules : Rules Item) where
   last_prints_nothing t f k = last_prints (reverse t) t f refl k
 
   module _ (reads : Reads rules.reading) where
-    sound_at : (h : List ℕ) → first_fault rules h ≡ None → fault_at rules (reverse h) ≡ None
+    none_first_at : fault_at rules [] ≡ None
+    none_first_at = ap (λ f. option_or f (newest_refusal rules (history rules []))) reads.no_fault ∙ ap (λ x. newest_refusal rules (reverse x)) reads.nothing
+
+    none_last_at : (front rest : List ℕ) → fault_at rules front ≡ None → first_fault rules front rest ≡ None → fault_at rules (front ++ rest) ≡ None
     unfolding first_fault
-    sound_at [] e = ap (λ f. option_or f (newest_refusal rules (history rules []))) reads.no_fault ∙ ap (λ x. newest_refusal rules (reverse x)) reads.nothing
-    sound_at (b ∷ h) e = none_second (first_fault rules h) (fault_at rules (reverse (b ∷ h))) e
+    none_last_at front [] h e = ap (fault_at rules) (append-nil front) ∙ h
+    none_last_at front (b ∷ rest) h e =
+        let next = front ++ b ∷ [] in
+        ap (fault_at rules) (sym (append_assoc front (b ∷ []) rest))
+        ∙ none_last_at next rest (none_first (fault_at rules next) (first_fault rules next rest) e) (none_second (fault_at rules next) (first_fault rules next rest) e)
 
     none_at : (t : List ℕ) → fault rules t ≡ None → fault_at rules t ≡ None
     unfolding fault
-    none_at t e = ap (fault_at rules) (sym (reverse-reverse t)) ∙ sound_at (reverse t) e
+    none_at t e = none_last_at [] t none_first_at e
 
     -- without a fault all commands are known
     pub all_known : (t : List ℕ) → fault rules t ≡ None → rules.reading.fault_of t ≡ None

@@ -4,13 +4,13 @@ use Rattle.vp_esc.specs.Reader.{Stands as EscStands}
 use Rattle.vp_receipt.specs.Standing.{Stands as ReceiptStands}
 use Rattle.vp_zpl.specs.Reader.{Stands as ZplStands}
 use Rattle.vp_label.specs.Standing.{Stands as LabelStands}
-use Rattle.vp_language.specs.declared.language.Language.TheVariants as languages
 use Rattle.vp_engine.specs.declared.machine.Machine.{Machine}
 use Rattle.vp_engine.specs.declared.machine.Machine.TheVariants.{Receipt, ReceiptLines, Label, LabelLines}
 use Rattle.vp_engine.specs.declared.machine.Machine.TheVariants.{ReceiptOffsets, LabelOffsets}
 use Rattle.vp_streams.specs.Count.{counted}
 use Rattle.vp_engine.specs.Lines.{Listed}
-use Rattle.vp_engine.specs.Setups.{Setup, Receipts, Labels, Listing, ListingWithOffsets, Item}
+use Rattle.vp_engine.specs.Setups.{EscPos, Zpl}
+use Rattle.vp_engine.specs.Setups.{Setup, Receipts, Labels, ListingIn, ListingWithOffsetsIn, Item}
 
 -- what is still to be put out
 abbrev pub pending_of : Machine → List ℕ
@@ -31,19 +31,15 @@ pub record AreLines {Item : Type 0} (lines : Listed) (taken : ℕ) (bytes : List
 abbrev pub MachineStands : Machine → (setup : Setup) → List ℕ → List (Item setup) → Type 0
 MachineStands (Receipt reader receipt) (Receipts setup) bytes before =
     EscStands reader bytes × ReceiptStands setup receipt before
-MachineStands (ReceiptLines reader lines) (Listing languages.Receipt) bytes before =
-    EscStands reader bytes × (lines.count ≡ counted (length before))
-MachineStands (ReceiptLines reader lines) (Listing languages.Receipt58) bytes before =
+MachineStands (ReceiptLines reader lines) (ListingIn EscPos) bytes before =
     EscStands reader bytes × (lines.count ≡ counted (length before))
 MachineStands (Label reader label) (Labels sheets) bytes before =
     ZplStands reader bytes × LabelStands sheets label before
-MachineStands (LabelLines reader lines) (Listing languages.Label) bytes before =
+MachineStands (LabelLines reader lines) (ListingIn Zpl) bytes before =
     ZplStands reader bytes × (lines.count ≡ counted (length before))
-MachineStands (ReceiptOffsets reader lines taken) (ListingWithOffsets languages.Receipt) bytes before =
+MachineStands (ReceiptOffsets reader lines taken) (ListingWithOffsetsIn EscPos) bytes before =
     EscStands reader bytes × AreLines lines taken bytes before
-MachineStands (ReceiptOffsets reader lines taken) (ListingWithOffsets languages.Receipt58) bytes before =
-    EscStands reader bytes × AreLines lines taken bytes before
-MachineStands (LabelOffsets reader lines taken) (ListingWithOffsets languages.Label) bytes before =
+MachineStands (LabelOffsets reader lines taken) (ListingWithOffsetsIn Zpl) bytes before =
     ZplStands reader bytes × AreLines lines taken bytes before
 MachineStands machine setup bytes before = ⊥
 

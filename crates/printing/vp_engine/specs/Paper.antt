@@ -63,23 +63,26 @@ module _ {Item : Type 0} (rules : Rules Item) where
   abbrev pub fault_at : List ℕ → Option Fault
   fault_at bytes = option_or (rules.reading.fault_of bytes) (newest_refusal (history bytes))
 
-  -- the first fault in the order of the bytes, of which the newest comes first
-  unfoldable pub first_fault : List ℕ → Option Fault
-  first_fault [] = None
-  first_fault (b ∷ before) = option_or (first_fault before) (fault_at (reverse (b ∷ before)))
+  -- the first fault in the order of the bytes, of those that have this front and then the rest: that of the
+  -- shortest front with more of them that has one
+  unfoldable pub first_fault : List ℕ → List ℕ → Option Fault
+  first_fault front [] = None
+  first_fault front (b ∷ rest) =
+      option_or (fault_at (front ++ b ∷ [])) (first_fault (front ++ b ∷ []) rest)
 
   -- the bytes before the one that makes it, likewise
-  unfoldable pub sound : List ℕ → List ℕ
-  sound [] = []
-  sound (b ∷ before) = if is_some (first_fault (b ∷ before)) then sound before else reverse (b ∷ before)
+  unfoldable pub sound : List ℕ → List ℕ → List ℕ
+  sound front [] = front
+  sound front (b ∷ rest) =
+      if is_some (fault_at (front ++ b ∷ [])) then front else sound (front ++ b ∷ []) rest
 
   -- the first fault of the bytes
   unfoldable pub fault : List ℕ → Option Fault
-  fault bytes = first_fault (reverse bytes)
+  fault bytes = first_fault [] bytes
 
   -- the bytes before it
   unfoldable pub before_fault : List ℕ → List ℕ
-  before_fault bytes = sound (reverse bytes)
+  before_fault bytes = sound [] bytes
 
   -- what all items print
   abbrev pub printed : List Item → List ℕ

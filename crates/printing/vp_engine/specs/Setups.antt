@@ -18,10 +18,22 @@ use Rattle.vp_streams.specs.Count.{counted}
 use Rattle.vp_engine.specs.Offsets.{Placed, with_offsets, placed_line}
 use Rattle.vp_engine.specs.Paper.{Reading, Rules, listing, nothing_held}
 
+-- what a stream's bytes are, whatever they are printed on
+pub data Commands : Type 0 where
+  EscPos : Commands
+  Zpl : Commands
+
+abbrev pub commands_of : Language → Commands
+commands_of languages.Receipt = EscPos
+commands_of languages.Receipt58 = EscPos
+commands_of languages.Label = Zpl
+
+abbrev pub ItemIn : Commands → Type 0
+ItemIn EscPos = EscItem
+ItemIn Zpl = zpl.Item
+
 abbrev pub ItemOf : Language → Type 0
-ItemOf languages.Receipt = EscItem
-ItemOf languages.Receipt58 = EscItem
-ItemOf languages.Label = zpl.Item
+ItemOf language = ItemIn (commands_of language)
 
 abbrev pub is_empty : List ℕ → Bool
 is_empty [] = true
@@ -34,25 +46,36 @@ esc_reading = record { items = items; fault_of = fault_of; is_between = λ bytes
 abbrev pub zpl_reading : Reading zpl.Item
 zpl_reading = record { items = zpl.items; fault_of = λ bytes. None; is_between = zpl.at_rest }
 
--- what the bytes of a language say
+-- what the bytes say
+abbrev pub reading_in : (commands : Commands) → Reading (ItemIn commands)
+reading_in EscPos = esc_reading
+reading_in Zpl = zpl_reading
+
 abbrev pub reading : (language : Language) → Reading (ItemOf language)
-reading languages.Receipt = esc_reading
-reading languages.Receipt58 = esc_reading
-reading languages.Label = zpl_reading
+reading language = reading_in (commands_of language)
 
 -- an item's line of a listing
-abbrev pub line : (language : Language) → ItemOf language → List ℕ
-line languages.Receipt = line_of
-line languages.Receipt58 = line_of
-line languages.Label = zpl_lines.line_of
+abbrev pub line_in : (commands : Commands) → ItemIn commands → List ℕ
+line_in EscPos = line_of
+line_in Zpl = zpl_lines.line_of
 
--- what a printer prints: receipts on a paper with sheets, labels with sheets, or a line for each item of a
--- language, with its place or without
+abbrev pub line : (language : Language) → ItemOf language → List ℕ
+line language = line_in (commands_of language)
+
+-- what a printer prints: receipts on a paper with sheets, labels with sheets, or a line for each item, which
+-- needs no paper, with its place or without
 pub data Setup : Type 0 where
   Receipts : ReceiptSetup → Setup
   Labels : Sheets → Setup
-  Listing : Language → Setup
-  ListingWithOffsets : Language → Setup
+  ListingIn : Commands → Setup
+  ListingWithOffsetsIn : Commands → Setup
+
+-- the listing of a language, whatever its paper
+abbrev pub Listing : Language → Setup
+Listing language = ListingIn (commands_of language)
+
+abbrev pub ListingWithOffsets : Language → Setup
+ListingWithOffsets language = ListingWithOffsetsIn (commands_of language)
 
 -- the printer of a language with these sheets
 abbrev pub setup_of : Language → Sheets → Setup
@@ -63,8 +86,8 @@ setup_of languages.Label sheets = Labels sheets
 abbrev pub Item : Setup → Type 0
 Item (Receipts receipt) = EscItem
 Item (Labels sheets) = zpl.Item
-Item (Listing language) = ItemOf language
-Item (ListingWithOffsets language) = Placed (ItemOf language)
+Item (ListingIn commands) = ItemIn commands
+Item (ListingWithOffsetsIn commands) = Placed (ItemIn commands)
 
 abbrev pub rules_of : (setup : Setup) → Rules (Item setup)
 rules_of (Receipts receipt) = record {
@@ -88,13 +111,13 @@ rules_of (Labels sheets) = record {
     fields = fields_after sheets before pending;
   };
 }
-rules_of (Listing language) = listing (reading language) (line language)
-rules_of (ListingWithOffsets language) =
-    listing (with_offsets (reading language)) (placed_line (line language))
+rules_of (ListingIn commands) = listing (reading_in commands) (line_in commands)
+rules_of (ListingWithOffsetsIn commands) =
+    listing (with_offsets (reading_in commands)) (placed_line (line_in commands))
 
 -- how many lines of a listing these items are
 abbrev pub lines_of : (setup : Setup) → List (Item setup) → ℕ
 lines_of (Receipts receipt) before = 0
 lines_of (Labels sheets) before = 0
-lines_of (Listing language) before = counted (length before)
-lines_of (ListingWithOffsets language) before = counted (length before)
+lines_of (ListingIn commands) before = counted (length before)
+lines_of (ListingWithOffsetsIn commands) before = counted (length before)

@@ -6,7 +6,8 @@ ghost use Rattle.vp_engine.specs.Machines.{pending_of, MachineStands};
 ghost use Rattle.vp_engine.specs.Paper.{missing};
 ghost use Rattle.vp_engine.specs.Setups.{Setup, Item, setup_of, rules_of, lines_of};
 ghost use Rattle.vp_engine.specs.Offsets.{offset_line};
-ghost use Rattle.vp_engine.specs.Setups.{Receipts, Labels, Listing, ListingWithOffsets};
+ghost use Rattle.vp_engine.specs.Setups.{EscPos, Zpl, Receipts, Labels};
+ghost use Rattle.vp_engine.specs.Setups.{Listing, ListingWithOffsets, ListingIn, ListingWithOffsetsIn};
 ghost use Rattle.vp_engine.specs.Takes.{Takes, TakesRun};
 ghost use Rattle.vp_esc.specs.Lines.{line_of};
 ghost use Rattle.vp_zpl.specs.Lines.{line_of as label_line_of, lines_of as label_lines_of};
@@ -200,8 +201,7 @@ impl Machine {
     }
 
     fn receipt_offsets() -> Self
-        ensures wide { MachineStands result (ListingWithOffsets Language.Receipt) [] [] }
-        ensures narrow { MachineStands result (ListingWithOffsets Language.Receipt58) [] [] }
+        ensures stands { MachineStands result (ListingWithOffsetsIn EscPos) [] [] }
         ensures pending { pending_of result ≡ [] }
     {
         Machine::ReceiptOffsets {
@@ -212,7 +212,7 @@ impl Machine {
     }
 
     fn label_offsets() -> Self
-        ensures stands { MachineStands result (ListingWithOffsets Language.Label) [] [] }
+        ensures stands { MachineStands result (ListingWithOffsetsIn Zpl) [] [] }
         ensures pending { pending_of result ≡ [] }
     {
         Machine::LabelOffsets {
@@ -223,8 +223,7 @@ impl Machine {
     }
 
     fn receipt_lines() -> Self
-        ensures wide { MachineStands result (Listing Language.Receipt) [] [] }
-        ensures narrow { MachineStands result (Listing Language.Receipt58) [] [] }
+        ensures stands { MachineStands result (ListingIn EscPos) [] [] }
         ensures pending { pending_of result ≡ [] }
     {
         Machine::ReceiptLines {
@@ -234,7 +233,7 @@ impl Machine {
     }
 
     fn label_lines() -> Self
-        ensures stands { MachineStands result (Listing Language.Label) [] [] }
+        ensures stands { MachineStands result (ListingIn Zpl) [] [] }
         ensures pending { pending_of result ≡ [] }
     {
         Machine::LabelLines {

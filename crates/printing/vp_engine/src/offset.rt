@@ -1,9 +1,9 @@
 //! Lines behind the place of their item.
-ghost use Rattle.std.specs.Prelude.{◌≡◌, ◌≤◌, ◌<◌, ◌+◌, ◌*◌, ◌∷◌, ◌++◌, flat_map, length, drop};
+ghost use Rattle.std.specs.Prelude.{◌≡◌, ◌≤◌, ◌<◌, ◌+◌, ◌*◌, ◌^◌, ◌%◌, ◌++◌, flat_map, length, take, drop};
 ghost use Rattle.arrayvec.specs.ArrayVec.{array_vec_len};
-ghost use Rattle.vp_engine.specs.Lines.{byte_lines_after, leading};
+ghost use Rattle.vp_engine.specs.Lines.{byte_lines_after, leading, line_behind, lines_behind};
 ghost use Rattle.vp_engine.specs.Offsets.{offset_line};
-ghost use Rattle.vp_engine.specs.declared.offset.TheConstants.{LONGEST_BYTE_LINE};
+ghost use Rattle.vp_engine.specs.declared.offset.TheConstants.{MOST_LEADING, LONGEST_BYTE_LINE};
 ghost use Rattle.vp_esc.specs.declared.item.EscItem.TheVariants.{RasterByte};
 ghost use Rattle.vp_esc.specs.Lines.{line_of};
 
@@ -12,8 +12,8 @@ use arrayvec::ArrayVec;
 use itoa::Buffer;
 use std::marker::Model;
 
-/// The most digits of a place.
-const MOST_DIGITS: usize = 20;
+/// The most digits of a place but its last.
+const MOST_LEADING: usize = 19;
 
 /// The most bytes of the line of a byte of data behind its place.
 pub const LONGEST_BYTE_LINE: usize = 29;
@@ -35,7 +35,7 @@ pub fn offset_byte_lines(offset: u64, bytes: &[u8]) -> ArrayVec<u8, 821>
 {
     let mut text = ArrayVec::new();
     for byte in bytes {
-        append(&mut text, offset, &byte_line(*byte));
+        append(&mut text, offset, byte_line(*byte));
     }
     text
 }
@@ -51,50 +51,120 @@ fn append(text: &mut ArrayVec<u8, 821>, offset: u64, line: &[u8])
     let _ = text.try_extend_from_slice(line);
 }
 
-/// The digits of a place but its last, which ten places have in common.
+/// The digits of a place but its last, which ten places have in common: so many of these, from the first on.
 #[derive(Drop)]
 struct Leading {
     tens: u64,
-    digits: ArrayVec<u8, MOST_DIGITS>,
+    digits: [u8; MOST_LEADING],
+    count: usize,
 }
 
 impl Model for Leading {
-    ghost use Rattle.std.specs.Prelude.{◌≡◌, ℕ};
+    ghost use Rattle.std.specs.Prelude.{◌≡◌, ◌≤◌, ℕ, length, take};
     ghost use Rattle.vp_engine.specs.Lines.{leading};
 
     ghost Value = { ℕ };
 
     ghost view = { λ l. l.tens };
 
-    ghost invariant = { λ l. l.digits.items ≡ leading l.tens };
+    ghost invariant = { λ l. record {
+      within : l.count ≤ length l.digits;
+      digits : take l.count l.digits ≡ leading l.tens;
+    } };
 }
 
 impl Leading {
     /// The digits but the last of a place of so many tens.
     fn of(tens: u64) -> Self
+        requires { length (leading tens) ≤ MOST_LEADING }
         ensures { result ≡ tens }
     {
-        let mut digits = ArrayVec::new();
+        let mut digits = [b'0'; MOST_LEADING];
+        let mut count = 0;
         if tens > 0 {
-            let _ = digits.try_extend_from_slice(Buffer::new().format(tens).as_bytes());
+            let mut buffer = Buffer::new();
+            let text = buffer.format(tens).as_bytes();
+            count = text.len();
+            digits[..count].copy_from_slice(text);
         }
-        Leading { tens, digits }
+        Leading {
+            tens,
+            digits,
+            count,
+        }
     }
 
     /// Goes to a place of so many tens.
     fn go_to(&mut self, tens: u64)
+        requires { length (leading tens) ≤ MOST_LEADING }
         ensures { self.new ≡ tens }
     {
-        if self.tens != tens {
+        if self.tens > 0 && tens > 0 && self.tens / 10 == tens / 10 {
+            self.digits[self.count - 1] = b'0' + (tens % 10) as u8;
+            self.tens = tens;
+        } else {
             *self = Leading::of(tens);
         }
     }
 
-    fn digits(&self) -> &[u8]
-        ensures { result.now ≡ leading self.now }
+    /// Writes the lines of bytes of data, each behind its place, where the first place has this last digit
+    /// and all have these digits before it, and gives how long they are.
+    fn put_lines(&self, last: u8, bytes: &[u8], output: &mut [u8]) -> usize
+        requires last { last + length bytes.now ≤ 10 }
+        requires room { LONGEST_BYTE_LINE * length bytes.now ≤ length output.old }
+        ensures put { result ≡ length (lines_behind (leading self.now) last bytes.now) }
+        ensures bytes { output.new ≡
+            lines_behind (leading self.now) last bytes.now ++ drop result output.old }
     {
-        self.digits.as_slice()
+        if self.count <= 8 {
+            put_lines_behind(&self.digits[..8], self.count, last, bytes, output)
+        } else {
+            put_lines_behind(&self.digits, self.count, last, bytes, output)
+        }
     }
+}
+
+/// Writes the lines of bytes of data behind places that begin with the first n of these digits.
+#[inline(always)]
+fn put_lines_behind(digits: &[u8], n: usize, last: u8, bytes: &[u8], output: &mut [u8]) -> usize
+    requires last { last + length bytes.now ≤ 10 }
+    requires n { n ≤ length digits.now }
+    requires covered { length digits.now ≤ n + 10 }
+    requires most { length digits.now ≤ MOST_LEADING }
+    requires room { LONGEST_BYTE_LINE * length bytes.now ≤ length output.old }
+    ensures put { result ≡ (n + 10) * length bytes.now }
+    ensures bytes { output.new ≡ lines_behind (take n digits.now) last bytes.now ++ drop result output.old }
+{
+    let long = n + 10;
+    for (i, byte) in bytes.iter().enumerate() {
+        put_line_behind(digits, n, last + i as u8, *byte, &mut output[long * i..]);
+    }
+    long * bytes.len()
+}
+
+/// Writes one of them. All the digits are written, so that their number is known, and the line's rest over
+/// those behind the first n.
+#[inline(always)]
+fn put_line_behind(digits: &[u8], n: usize, last: u8, byte: u8, output: &mut [u8])
+    requires last { last < 10 }
+    requires n { n ≤ length digits.now }
+    requires covered { length digits.now ≤ n + 10 }
+    requires room { n + 10 ≤ length output.old }
+    ensures { output.new ≡ line_behind (take n digits.now) last byte ++ drop (n + 10) output.old }
+{
+    output[..digits.len()].copy_from_slice(digits);
+    output[n] = b'0' + last;
+    output[n + 1] = b' ';
+    output[n + 2..n + 10].copy_from_slice(byte_line(byte));
+}
+
+/// How many places from this one on have the same digits but the last. After the greatest comes none.
+fn alike_from(offset: u64) -> usize
+    ensures some { 0 < result }
+    ensures last { offset % 10 + result ≤ 10 }
+    ensures most { offset + result ≤ 2 ^ 64 }
+{
+    1 + (9 - offset % 10).min(u64::MAX - offset) as usize
 }
 
 /// Writes the lines of bytes of data to the front of the output, each behind its place, where so many bytes
@@ -104,35 +174,15 @@ pub fn put_byte_lines_after(taken: u64, bytes: &[u8], output: &mut [u8]) -> usiz
     ensures put { result ≡ length (byte_lines_after taken bytes.now) }
     ensures bytes { output.new ≡ byte_lines_after taken bytes.now ++ drop result output.old }
 {
-    let mut put = 0;
-    let mut offset = taken;
     let mut leading = Leading::of(taken / 10);
-    for byte in bytes {
-        offset = offset.saturating_add(1);
+    let mut at = 0;
+    let mut put = 0;
+    while at < bytes.len() {
+        let offset = taken.saturating_add(at as u64 + 1);
+        let n = alike_from(offset).min(bytes.len() - at);
         leading.go_to(offset / 10);
-        put += put_byte_line(
-            leading.digits(),
-            (offset % 10) as u8,
-            *byte,
-            &mut output[put..],
-        );
+        put += leading.put_lines((offset % 10) as u8, &bytes[at..at + n], &mut output[put..]);
+        at += n;
     }
     put
-}
-
-/// Writes the line of a byte of data behind its place, which is given as its digits but the last and the
-/// last, and gives how long it is.
-fn put_byte_line(digits: &[u8], last: u8, byte: u8, output: &mut [u8]) -> usize
-    requires last { last < 10 }
-    requires room { length digits.now + 10 ≤ length output.old }
-    ensures put { result ≡ length digits.now + 10 }
-    ensures bytes { output.new ≡
-        (digits.now ++ (48 + last) ∷ 0x20 ∷ line_of (RasterByte byte)) ++ drop result output.old }
-{
-    let mut rest = [b'0' + last, b' ', 0, 0, 0, 0, 0, 0, 0, 0];
-    rest[2..].copy_from_slice(&byte_line(byte));
-    let n = digits.len();
-    output[..n].copy_from_slice(digits);
-    output[n..n + 10].copy_from_slice(&rest);
-    n + 10
 }

@@ -1,7 +1,7 @@
-use Rattle.vp_language.specs.declared.language.Language.TheVariants as languages
 use Rattle.vp_engine.specs.Paper.{Reads}
 use Rattle.vp_engine.specs.Setups.{esc_reading, zpl_reading}
-use Rattle.vp_engine.specs.Setups.{Receipts, Labels, Listing, ListingWithOffsets}
+use Rattle.vp_engine.specs.Setups.{EscPos, Zpl}
+use Rattle.vp_engine.specs.Setups.{Receipts, Labels, ListingIn, ListingWithOffsetsIn}
 use Rattle.std.proofs.Common.{refl, sym}
 use Rattle.vp_engine.proofs.Escs.{items_none, fault_none}
 use Rattle.vp_engine.proofs.Labels.{items_none as labels_none}
@@ -27,9 +27,7 @@ zpls c = record {
 pub returns : goal.returns
 returns c (Receipts receipt) = escs c
 returns c (Labels sheets) = zpls c
-returns c (Listing languages.Receipt) = escs c
-returns c (Listing languages.Receipt58) = escs c
-returns c (Listing languages.Label) = zpls c
-returns c (ListingWithOffsets languages.Receipt) = places_read esc_reading (escs c)
-returns c (ListingWithOffsets languages.Receipt58) = places_read esc_reading (escs c)
-returns c (ListingWithOffsets languages.Label) = places_read zpl_reading (zpls c)
+returns c (ListingIn EscPos) = escs c
+returns c (ListingIn Zpl) = zpls c
+returns c (ListingWithOffsetsIn EscPos) = places_read esc_reading (escs c)
+returns c (ListingWithOffsetsIn Zpl) = places_read zpl_reading (zpls c)

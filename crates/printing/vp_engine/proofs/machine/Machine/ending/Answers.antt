@@ -9,7 +9,6 @@ returns-in-Receipt c = at_receipt _ _ _ _ c.in-Receipt.is (λ s t before at none
 pub returns-in-ReceiptLines : goal.returns-in-ReceiptLines
 returns-in-ReceiptLines c = at_lines _ _ _ _ c.in-ReceiptLines.is
     (λ t before at none. c.missing-in-ReceiptLines.ensures ∙ missing_is _ true true _ _ none (c.at_rest-in-ReceiptLines.ensures t at.0) (λ e. e, λ e. e))
-    (λ t before at none. c.missing-in-ReceiptLines.ensures ∙ missing_is _ true true _ _ none (c.at_rest-in-ReceiptLines.ensures t at.0) (λ e. e, λ e. e))
 
 pub returns-in-Label : goal.returns-in-Label
 returns-in-Label c = at_label _ _ _ _ c.in-Label.is (λ s t before at none.
@@ -21,7 +20,6 @@ returns-in-LabelLines c = at_label_lines _ _ _ _ c.in-LabelLines.is
 
 pub returns-in-ReceiptOffsets : goal.returns-in-ReceiptOffsets
 returns-in-ReceiptOffsets c = at_offsets _ _ _ _ _ c.in-ReceiptOffsets.is
-    (λ t before at none. c.missing-in-ReceiptOffsets.ensures ∙ missing_is _ true true _ _ none (c.at_rest-in-ReceiptOffsets.ensures t at.0) (λ e. e, λ e. e))
     (λ t before at none. c.missing-in-ReceiptOffsets.ensures ∙ missing_is _ true true _ _ none (c.at_rest-in-ReceiptOffsets.ensures t at.0) (λ e. e, λ e. e))
 
 pub returns-in-LabelOffsets : goal.returns-in-LabelOffsets

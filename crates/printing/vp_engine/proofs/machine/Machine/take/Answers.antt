@@ -10,9 +10,8 @@ use Rattle.vp_zpl.specs.Shown.{shown_item}
 use Rattle.vp_engine.specs.Machines.{pending_of, AreLines}
 use Rattle.vp_engine.specs.Offsets.{Placed, with_offsets, placed_line}
 use Rattle.vp_engine.specs.Takes.{Takes}
-use Rattle.vp_language.specs.declared.language.Language.TheVariants as languages
 use Rattle.vp_engine.specs.Paper.{listing, printed}
-use Rattle.vp_engine.specs.Setups.{Receipts, Labels, Listing, rules_of, esc_reading, zpl_reading}
+use Rattle.vp_engine.specs.Setups.{EscPos, Zpl, Receipts, Labels, ListingIn, rules_of, esc_reading, zpl_reading}
 use Rattle.vp_engine.proofs.Arms.{at_receipt, at_lines, at_label, at_label_lines, at_offsets, at_label_offsets}
 use Rattle.vp_engine.proofs.Comes.{comes, one_printed, none_printed, on_ok, on_err}
 use Rattle.vp_engine.proofs.Listings.{one_line_more, lines_more}
@@ -55,16 +54,7 @@ returns-in-Ok-Some-take c = at_lines _ _ _ _ c.in-ReceiptLines.is
       comes = (
         (refl, tt),
         (c.take-in-ReceiptLines.follows.holds-at-none t at.0, one_line_more _ _ before c.in-Ok-Some-take.item.now at.1 c.begin_line.ensures.count),
-        one_printed (rules_of (Listing languages.Receipt)) _ before c.in-Ok-Some-take.item.now c.begin_line.ensures.pending,
-      );
-    })
-    (λ t before at. record {
-      given = Ok (c.in-Ok-Some-take.item.now ∷ []);
-      gives = (rw c.in-Ok-Some-take.field-0-is at c.in-Ok-Some-take.ensures).gives t at.0;
-      comes = (
-        (refl, tt),
-        (c.take-in-ReceiptLines.follows.holds-at-none t at.0, one_line_more _ _ before c.in-Ok-Some-take.item.now at.1 c.begin_line.ensures.count),
-        one_printed (rules_of (Listing languages.Receipt58)) _ before c.in-Ok-Some-take.item.now c.begin_line.ensures.pending,
+        one_printed (rules_of (ListingIn EscPos)) _ before c.in-Ok-Some-take.item.now c.begin_line.ensures.pending,
       );
     })
 
@@ -76,26 +66,12 @@ returns-in-Ok-None-take c = at_lines _ _ _ _ c.in-ReceiptLines.is
       comes = (
         tt,
         (c.take-in-ReceiptLines.follows.holds-at-none t at.0, at.1),
-        none_printed (rules_of (Listing languages.Receipt)) _ before (sym (ap pending_of c.in-ReceiptLines.is) ∙ c.requires),
-      );
-    })
-    (λ t before at. record {
-      given = Ok [];
-      gives = (rw c.in-Ok-None-take.field-0-is at c.in-Ok-None-take.ensures).gives t at.0;
-      comes = (
-        tt,
-        (c.take-in-ReceiptLines.follows.holds-at-none t at.0, at.1),
-        none_printed (rules_of (Listing languages.Receipt58)) _ before (sym (ap pending_of c.in-ReceiptLines.is) ∙ c.requires),
+        none_printed (rules_of (ListingIn EscPos)) _ before (sym (ap pending_of c.in-ReceiptLines.is) ∙ c.requires),
       );
     })
 
 pub returns-in-Err-take : goal.returns-in-Err-take
 returns-in-Err-take c = at_lines _ _ _ _ c.in-ReceiptLines.is
-    (λ t before at. record {
-      given = Err c.in-Err-take.fault;
-      gives = c.in-Err-take.ensures.gives t at.0;
-      comes = (refl, (c.take-in-ReceiptLines.follows.holds-at-none t at.0, at.1), sym (ap pending_of c.in-ReceiptLines.is) ∙ c.requires);
-    })
     (λ t before at. record {
       given = Err c.in-Err-take.fault;
       gives = c.in-Err-take.ensures.gives t at.0;
@@ -155,7 +131,7 @@ returns-in-Ok-Some-take-2 c =
     let placed = at_place (suc (length t)) item in
     record {
       given = Ok (placed ∷ []);
-      gives = (gives.0, placed_byte esc_reading (c.items_grow.ensures (Listing languages.Receipt)).grows t c.args.byte (item ∷ []) gives.1);
+      gives = (gives.0, placed_byte esc_reading (c.items_grow.ensures (ListingIn EscPos)).grows t c.args.byte (item ∷ []) gives.1);
       comes = (
         (refl, tt),
         (
@@ -168,7 +144,7 @@ returns-in-Ok-Some-take-2 c =
         one_printed rules _ before placed (c.begin_offset_line.ensures.pending ∙ line_at (suc (length t)) _ (receipt_line_of item) (taken_is _ _ t at.1.taken_is grew)),
       );
     } in
-    at_offsets _ _ _ _ _ c.in-ReceiptOffsets.is takes takes
+    at_offsets _ _ _ _ _ c.in-ReceiptOffsets.is takes
 
 pub returns-in-Ok-None-take-2 : goal.returns-in-Ok-None-take-2
 returns-in-Ok-None-take-2 c =
@@ -180,14 +156,14 @@ returns-in-Ok-None-take-2 c =
     let gives = (rw c.in-Ok-None-take-2.field-0-is at c.in-Ok-None-take-2.ensures).gives t at.0 in
     record {
       given = Ok [];
-      gives = (gives.0, placed_byte esc_reading (c.items_grow.ensures (Listing languages.Receipt)).grows t c.args.byte [] gives.1);
+      gives = (gives.0, placed_byte esc_reading (c.items_grow.ensures (ListingIn EscPos)).grows t c.args.byte [] gives.1);
       comes = (
         tt,
         (c.take-in-ReceiptOffsets.follows.holds-at-none t at.0, record { count = at.1.count; taken_is = taken_more _ _ t c.args.byte at.1.taken_is grew }),
         none_printed rules _ before (sym (ap pending_of c.in-ReceiptOffsets.is) ∙ c.requires),
       );
     } in
-    at_offsets _ _ _ _ _ c.in-ReceiptOffsets.is takes takes
+    at_offsets _ _ _ _ _ c.in-ReceiptOffsets.is takes
 
 pub returns-in-Err-take-2 : goal.returns-in-Err-take-2
 returns-in-Err-take-2 c =
@@ -204,7 +180,7 @@ returns-in-Err-take-2 c =
         sym (ap pending_of c.in-ReceiptOffsets.is) ∙ c.requires,
       );
     } in
-    at_offsets _ _ _ _ _ c.in-ReceiptOffsets.is takes takes
+    at_offsets _ _ _ _ _ c.in-ReceiptOffsets.is takes
 
 pub returns-in-Some-take-2 : goal.returns-in-Some-take-2
 returns-in-Some-take-2 c = at_label_offsets _ _ _ _ _ c.in-LabelOffsets.is (λ t before at.
@@ -213,7 +189,7 @@ returns-in-Some-take-2 c = at_label_offsets _ _ _ _ _ c.in-LabelOffsets.is (λ t
     let grew : c.saturating_add-in-LabelOffsets.result ≡ grown c.in-LabelOffsets.taken 1 = omega (arith, c.saturating_add-in-LabelOffsets.ensures) in
     record {
       given = Ok placed;
-      gives = (refl, placed_byte zpl_reading (c.items_grow-in-LabelOffsets.ensures (Listing languages.Label)).grows t c.args.byte items (c.in-Some-take-2.ensures.gives t at.0));
+      gives = (refl, placed_byte zpl_reading (c.items_grow-in-LabelOffsets.ensures (ListingIn Zpl)).grows t c.args.byte items (c.in-Some-take-2.ensures.gives t at.0));
       comes = (
         all_listed (with_offsets zpl_reading) (placed_line line_of) placed before,
         (
@@ -234,7 +210,7 @@ returns-in_default-take c = at_label_offsets _ _ _ _ _ c.in-LabelOffsets.is (λ 
     let grew : c.saturating_add-in-LabelOffsets.result ≡ grown c.in-LabelOffsets.taken 1 = omega (arith, c.saturating_add-in-LabelOffsets.ensures) in
     record {
       given = Ok [];
-      gives = (refl, placed_byte zpl_reading (c.items_grow-in-LabelOffsets.ensures (Listing languages.Label)).grows t c.args.byte [] (c.in_default-take.ensures.gives t at.0));
+      gives = (refl, placed_byte zpl_reading (c.items_grow-in-LabelOffsets.ensures (ListingIn Zpl)).grows t c.args.byte [] (c.in_default-take.ensures.gives t at.0));
       comes = (
         tt,
         (c.take-in-LabelOffsets.follows.holds-at-none t at.0, record { count = at.1.count; taken_is = taken_more _ _ t c.args.byte at.1.taken_is grew }),

@@ -18,9 +18,8 @@ use Rattle.vp_streams.specs.Count.{counted, grown}
 use Rattle.vp_engine.specs.Lines.{byte_lines, byte_lines_after}
 use Rattle.vp_engine.specs.Machines.{AreLines}
 use Rattle.vp_engine.specs.Offsets.{Placed, with_offsets, placed_line}
-use Rattle.vp_language.specs.declared.language.Language.TheVariants as languages
 use Rattle.vp_engine.specs.Paper.{listing, printed}
-use Rattle.vp_engine.specs.Setups.{Receipts, Labels, Listing, rules_of, esc_reading, zpl_reading}
+use Rattle.vp_engine.specs.Setups.{EscPos, Zpl, Receipts, Labels, ListingIn, rules_of, esc_reading, zpl_reading}
 use Rattle.vp_engine.specs.Takes.{TakesRun}
 use Rattle.vp_engine.proofs.Arms.{at_receipt, at_lines, at_label, at_label_lines, at_offsets, at_label_offsets}
 use Rattle.vp_engine.proofs.ByteLines.{lines_length}
@@ -135,7 +134,7 @@ returns-in-ReceiptLines-clause-takes c =
       prints = printed_lines esc_reading line_of (raster_items (take n input)) before ∙ ap (λ x. printed (listing esc_reading line_of) before ++ x) (lines_of_bytes (take n input) ∙ text);
       stands = (subst (λ x. EscStands c.take_raster-n-in-ReceiptLines.new.self (t ++ x)) front (e.stands t at.0), lines_more _ _ n before (raster_items (take n input)) at.1 (c.put_bytes.ensures.count ∙ ap (grown c.in-ReceiptLines.lines.count) short) (raster_length (take n input) ∙ short));
     } in
-    at_lines _ _ _ _ c.in-ReceiptLines.is runs runs
+    at_lines _ _ _ _ c.in-ReceiptLines.is runs
 
 pub returns-in-Label-clause-takes : goal.returns-in-Label-clause-takes
 returns-in-Label-clause-takes c = at_label _ _ _ _ c.in-Label.is (λ s t before at known.
@@ -216,14 +215,14 @@ returns-in-ReceiptOffsets-clause-takes c =
     λ k l. take-take k n input l ∙ sym (take-take k room input (omega (arith, l, less))) in
     let runs : (t : List ℕ) (before : List (Placed EscItem)) → EscStands c.in-ReceiptOffsets.reader t × AreLines c.in-ReceiptOffsets.lines taken t before → fault_of t ≡ None →
     TakesRun (listing (with_offsets esc_reading) (placed_line line_of)) (λ t before. EscStands c.take_raster-n-in-ReceiptOffsets.new.self t × AreLines c.put_bytes_after-put.new.self c.saturating_add.result t before) t before (take n input) (take put c.put_bytes_after-put.new.output) =
-    λ t before at known. takes_after esc_reading line_of RasterByte (λ b. refl) (c.items_grow.ensures (Listing languages.Receipt)).grows (EscStands c.take_raster-n-in-ReceiptOffsets.new.self)
+    λ t before at known. takes_after esc_reading line_of RasterByte (λ b. refl) (c.items_grow.ensures (ListingIn EscPos)).grows (EscStands c.take_raster-n-in-ReceiptOffsets.new.self)
     c.in-ReceiptOffsets.lines c.put_bytes_after-put.new.self taken c.saturating_add.result n t (take n input) (take put c.put_bytes_after-put.new.output) before at.1
     (λ k l. let within : k ≤ n = omega (arith, l, short) in
     ap (λ x. items (t ++ x)) (each k within) ∙ e.gives t k at.0 within ∙ ap (λ x. items t ++ raster_items x) (sym (each k within)))
     (known_run t (take room input) (take n input) n front known (λ some. e.known t n at.0 some (omega arith)))
     (subst (λ x. EscStands c.take_raster-n-in-ReceiptOffsets.new.self (t ++ x)) front (e.stands t at.0))
     text short (p.count ∙ ap (grown c.in-ReceiptOffsets.lines.count) short) (omega (arith, c.saturating_add.ensures)) in
-    at_offsets _ _ _ _ _ c.in-ReceiptOffsets.is runs runs
+    at_offsets _ _ _ _ _ c.in-ReceiptOffsets.is runs
 
 pub returns-in-LabelOffsets-clause-rest : goal.returns-in-LabelOffsets-clause-rest
 returns-in-LabelOffsets-clause-rest c =
@@ -250,7 +249,7 @@ returns-in-LabelOffsets-clause-takes c = at_label_offsets _ _ _ _ _ c.in-LabelOf
     ap (take put) p.bytes ∙ take_at (byte_lines_after taken (take n input)) (drop put c.args.output.now) put (sym p.put) in
     let each : (k : ℕ) → k ≤ n → take k (take n input) ≡ take k (take room input) =
     λ k l. take-take k n input l ∙ sym (take-take k room input (omega (arith, l, less))) in
-    takes_after zpl_reading zpl_lines.line_of Data (λ b. refl) (c.items_grow-in-LabelOffsets.ensures (Listing languages.Label)).grows (ZplStands c.take_data-n-in-LabelOffsets.new.self)
+    takes_after zpl_reading zpl_lines.line_of Data (λ b. refl) (c.items_grow-in-LabelOffsets.ensures (ListingIn Zpl)).grows (ZplStands c.take_data-n-in-LabelOffsets.new.self)
     c.in-LabelOffsets.lines c.put_bytes_after-put-in-LabelOffsets.new.self taken c.saturating_add-in-LabelOffsets.result n t (take n input) (take put c.put_bytes_after-put-in-LabelOffsets.new.output) before at.1
     (λ k l. let within : k ≤ n = omega (arith, l, short) in
     ap (λ x. zpl.items (t ++ x)) (each k within) ∙ e.gives t k at.0 within ∙ ap (λ x. zpl.items t ++ data_items x) (sym (each k within)))
