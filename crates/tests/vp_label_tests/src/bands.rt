@@ -9,9 +9,10 @@ use std::alloc::Global;
 use std::process::Abort;
 use std::test::Fail;
 use vp_bands::{BANDS, BandPainter};
-use vp_dots::{Band, Op};
+use vp_dots::Op;
 use vp_field::View;
 use vp_format::{Content, Field, Format, GraphicBox};
+use vp_label_size::LabelBand;
 use vp_zpl::item::Orientation;
 
 /// A label of 8 dots in a row.
@@ -66,7 +67,7 @@ struct Copied {
 }
 
 /// Adds what a band shows, with five rows of the label from one on.
-fn add(copied: &mut Copied, b: usize, band: &Band<156, 32>, from: usize)
+fn add(copied: &mut Copied, b: usize, band: &LabelBand, from: usize)
     requires low { b < BANDS }
     requires from { from ≤ 8000 }
 {
@@ -86,7 +87,7 @@ fn copy(
     format: &Format,
     view: View,
     from: usize,
-    band: &mut Band<156, 32>,
+    band: &mut LabelBand,
 ) -> Copied
     requires narrow { view.width ≤ 1248 }
     requires low { view.height ≤ 32 * BANDS }
@@ -114,7 +115,7 @@ fn both(
     format: &Format,
     view: View,
     from: usize,
-    band: &mut Band<156, 32>,
+    band: &mut LabelBand,
 ) -> [Copied; 2]
     requires kept { All (IsKept format.now.stored) format.now.fields }
     requires narrow { view.width ≤ 1248 }
@@ -139,7 +140,7 @@ fn copies(
     requires from { from ≤ 8000 }
 {
     let format = boxes(alloc, all)?;
-    let mut band = Band::new(alloc)?;
+    let mut band = LabelBand::new(alloc)?;
     let mut painter = BandPainter::new(alloc)?;
     Ok(both(&mut painter, &format, view, from, &mut band))
 }

@@ -4,10 +4,10 @@ use std::alloc::{AllocError, Global};
 use std::process::Abort;
 use std::test::Fail;
 use vp_copies::{Ahead, Copies};
-use vp_dots::Band;
+use vp_label_size::LabelBand;
 
 /// Paints a band so that the first byte of each row of the image is the row's number.
-fn paint(number: usize, band: &mut Band<156, 32>) {
+fn paint(number: usize, band: &mut LabelBand) {
     for y in 0..32 {
         band.row_mut(y)[0] = ((32 * (number % 8) + y) % 256) as u8;
     }
@@ -16,7 +16,7 @@ fn paint(number: usize, band: &mut Band<156, 32>) {
 /// Puts out copies behind a text, where there is room for so many bytes at once.
 fn put_out(
     copies: &mut Copies,
-    band: &mut Band<156, 32>,
+    band: &mut LabelBand,
     room: usize,
     text: &mut Vec<u8>,
 ) -> Result<(), AllocError> {
@@ -42,7 +42,7 @@ fn prints(
     room: usize,
     want: &[u8],
 ) -> Result<(), Fail> {
-    let mut band = Band::new(alloc)?;
+    let mut band = LabelBand::new(alloc)?;
     let mut text = Vec::new(alloc);
     put_out(&mut copies, &mut band, room, &mut text)?;
     same(rt, &text.as_slice(), &want);
@@ -92,7 +92,7 @@ fn no_copies(rt: HostRuntime) -> Result<(), Fail> {
 /// at most eight bytes.
 fn see(
     copies: &mut Copies,
-    band: &Band<156, 32>,
+    band: &LabelBand,
     seen: &mut Vec<(Ahead, usize)>,
 ) -> Result<(), AllocError> {
     let mut out = [0u8; 8];
@@ -110,7 +110,7 @@ fn see(
 /// The bands of an image of 34 rows: what is wanted next, and how many of its rows the band has.
 #[test]
 fn bands(rt: HostRuntime) -> Result<(), Fail> {
-    let mut band = Band::new(rt.alloc())?;
+    let mut band = LabelBand::new(rt.alloc())?;
     paint(0, &mut band);
     let mut copies = Copies::new(8, 34, 1);
     let mut seen = Vec::new(rt.alloc());

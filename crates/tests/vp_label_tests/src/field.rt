@@ -11,10 +11,10 @@ use crate::checks::same_by;
 use std::alloc::Global;
 use std::process::Abort;
 use std::test::Fail;
-use vp_dots::Band;
-use vp_field::{View, clear, cut, paint_field};
+use vp_field::{Marks, View, clear, cut, paint_field};
 use vp_format::{Field, Span};
 use vp_glyph::Sheets;
+use vp_label_size::LabelBand;
 
 /// A label that is put out as it is.
 fn plain(width: u16, height: u16) -> View {
@@ -42,12 +42,12 @@ fn whole(stored: &[u8]) -> Span
 struct Painter {
     view: View,
     first: u32,
-    band: Band<156, 32>,
+    band: LabelBand,
 }
 
 impl Painter {
     fn new(alloc: Global, view: View, first: u32) -> Result<Painter, Fail> {
-        let mut band = Band::new(alloc)?;
+        let mut band = LabelBand::new(alloc)?;
         clear(&mut band);
         Ok(Painter { view, first, band })
     }
@@ -59,7 +59,7 @@ impl Painter {
             sheets,
             stored,
             field,
-            None,
+            &mut Marks::none(),
             self.view,
             self.first,
             &mut self.band,

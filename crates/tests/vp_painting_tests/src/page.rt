@@ -4,7 +4,7 @@ use std::alloc::Global;
 use std::process::Abort;
 use std::test::Fail;
 use vp_dots::Ink;
-use vp_page::{Area, Direction, LINE_BYTES, PAGE_ROWS, Page};
+use vp_page::{AT_ONCE, Area, Direction, LINE_BYTES, PAGE_ROWS, Page};
 
 /// A wedge: line y has ink at its first side - y places.
 #[derive(Drop)]
@@ -247,6 +247,68 @@ fn eight_at_once(rt: HostRuntime) -> Result<(), Fail> {
             }
         }
     }
+    Ok(())
+}
+
+/// As many rows as are laid at once, with dots all over.
+fn many_rows() -> [[u8; LINE_BYTES]; AT_ONCE] {
+    let mut rows = [[0; LINE_BYTES]; AT_ONCE];
+    for i in 0..64u8 {
+        for j in 0..208u8 {
+            rows[usize::from(i)][usize::from(j)] = (j ^ (i << 5)) & 0xb7;
+        }
+    }
+    rows
+}
+
+/// Lays the same rows at once and one by one.
+fn lay_many_both_ways(
+    at_once: &mut Page,
+    one_by_one: &mut Page,
+    area: Area,
+    direction: Direction,
+    v: u32,
+) {
+    let rows = many_rows();
+    at_once.lay_lines(area, direction, v, &rows);
+    for i in 0..64u8 {
+        let row = &rows[usize::from(i)];
+        one_by_one.lay_row(area, direction, v.saturating_add(u32::from(i)), row);
+    }
+}
+
+/// The page is the same where as many rows as go are laid at once and where they are laid one by one.
+fn lays_many(
+    rt: &impl Abort,
+    alloc: Global,
+    area: Area,
+    direction: Direction,
+    v: u32,
+) -> Result<(), Fail> {
+    let mut at_once = Page::new(alloc)?;
+    let mut one_by_one = Page::new(alloc)?;
+    lay_many_both_ways(&mut at_once, &mut one_by_one, area, direction, v);
+    same(rt, &differences(&at_once, &one_by_one), &0);
+    Ok(())
+}
+
+#[test]
+fn many_at_once(rt: HostRuntime) -> Result<(), Fail> {
+    for area in &AREAS {
+        for direction in &DIRECTIONS {
+            for v in &DEPTHS {
+                lays_many(&rt, rt.alloc(), *area, *direction, *v)?;
+            }
+        }
+    }
+    Ok(())
+}
+
+#[test]
+fn many_blacken(rt: HostRuntime) -> Result<(), Fail> {
+    let mut page = Page::new(rt.alloc())?;
+    page.lay_lines(BOX, Direction::TopToBottom, 1, &many_rows());
+    same(&rt, &(page.row(0)[1] != 0), &true);
     Ok(())
 }
 

@@ -2,7 +2,7 @@
 use crate::checks::{same, same_at};
 use crate::pieces::{reader, writer};
 use crate::sheet::repeated;
-use std::alloc::Global;
+use std::alloc::{AllocError, Global};
 use std::process::Abort;
 use std::test::Fail;
 use vp_dots::Fault;
@@ -342,6 +342,34 @@ fn a_long_raster_is_listed(rt: HostRuntime) -> Result<(), Fail> {
             &rt,
             rt.alloc(),
             (Language::Receipt, Form::Alone),
+            &bytes,
+            most,
+            (&lines, Ok(10001)),
+        );
+    }
+    Ok(())
+}
+
+/// The lines of a raster of so many bytes A5, behind their places; its head has eight bytes.
+fn placed_lines(alloc: Global, times: u64) -> Result<Vec<u8>, AllocError> {
+    let mut lines = repeated(alloc, b"8 gs 76 30 00 10 27 01 00\n", b"", 0)?;
+    for n in 0..times {
+        let line = format!(in alloc; "{} byte a5\n", n.saturating_add(9))?;
+        lines.extend_from_slice(line.as_bytes())?;
+    }
+    Ok(lines)
+}
+
+/// Places of one to five digits.
+#[test]
+fn a_long_raster_is_listed_with_places(rt: HostRuntime) -> Result<(), Fail> {
+    let bytes = repeated(rt.alloc(), b"\x1Dv0\x00\x10\x27\x01\x00", b"\xA5", 10000)?;
+    let lines = placed_lines(rt.alloc(), 10000)?;
+    for most in [1, 100, 1129, 4096, 100000] {
+        lists(
+            &rt,
+            rt.alloc(),
+            (Language::Receipt, Form::WithOffsets),
             &bytes,
             most,
             (&lines, Ok(10001)),

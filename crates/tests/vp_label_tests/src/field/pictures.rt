@@ -1,6 +1,7 @@
 //! Pictures over several bands.
-ghost use Rattle.std.specs.Prelude.{◌≤◌, length};
-ghost use Rattle.vp_field.specs.Fields.{IsKept};
+ghost use Rattle.std.specs.Prelude.{◌≤◌, ℕ, List, length};
+ghost use Rattle.vp_format.specs.declared.field.Content.{Content as Shown};
+ghost use Rattle.vp_field.specs.Fields.{IsKept, AreMarksOf};
 
 use super::{view_of, whole};
 use crate::checks::same;
@@ -8,7 +9,7 @@ use crate::sheets::NONE;
 use std::alloc::Global;
 use std::test::Fail;
 use vp_dots::{Band, Op};
-use vp_field::{View, clear, cut, paint_field};
+use vp_field::{Marks, View, clear, cut, paint_field};
 use vp_format::{Coding, Content, Field, Picture, binary_law};
 use vp_zpl::item::Orientation;
 
@@ -32,8 +33,15 @@ fn picture(top: i8, rows: u8, op: Op, stored: &[u8]) -> Field
     }
 }
 
-/// The first byte of each row of four bands of a label of 8 dots that shows a picture. Its mark is kept from
-/// band to band, or there is none.
+/// The marks, or none.
+fn kept(keeps: bool, marks: Marks) -> Marks
+    ensures { (stored : List ℕ) (c : Shown) → AreMarksOf stored c marks → AreMarksOf stored c result }
+{
+    if keeps { marks } else { Marks::none() }
+}
+
+/// The first byte of each row of four bands of a label of 8 dots that shows a picture. Its marks are kept
+/// from band to band, or there are none.
 fn over_bands(
     alloc: Global,
     view: View,
@@ -45,15 +53,13 @@ fn over_bands(
 {
     let view = View { width: 8, ..view };
     let mut bytes = [0; 128];
-    let mut mark = None;
+    let mut marks = Marks::none();
     for b in 0..4u8 {
         let first = 32 * u32::from(b);
         let mut band = Band::new(alloc)?;
         clear(&mut band);
-        mark = paint_field(&NONE, stored, field, mark, view, first, &mut band);
-        if !keeps {
-            mark = None;
-        }
+        let _ = paint_field(&NONE, stored, field, &mut marks, view, first, &mut band);
+        marks = kept(keeps, marks);
         cut(view, first, &mut band);
         for k in 0..32u8 {
             bytes[usize::from(32 * b + k)] = band.row(usize::from(k))[0];

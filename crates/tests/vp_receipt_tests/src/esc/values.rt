@@ -3,10 +3,11 @@ use super::last_item;
 use crate::checks::same;
 use std::process::Abort;
 use vp_esc::item::{
-    BarKind, CharacterFont, ColumnMode, Cut, HriPosition, Justification, Magnification,
-    PrintDirection, QrLevel, QrModel, RasterScale, Spelled, Underline,
+    BarKind, CharacterFont, ColumnMode, Cut, HriPosition, Magnification, PrintDirection, QrLevel,
+    QrModel, RasterScale, Spelled, Underline,
 };
 use vp_esc::{EscItem, EscReader};
+use vp_glyph::Alignment;
 
 /// What ESC ! sets: whether font B, emphasized, of double height, of double width, and underlined.
 fn print_mode(bytes: &[u8]) -> Option<[bool; 5]> {
@@ -116,7 +117,7 @@ fn place_in_words(item: &EscItem) -> &'static str {
         ) => "top to bottom",
         EscItem::Justify(
             Spelled {
-                value: Some(Justification::Centre),
+                value: Some(Alignment::Centre),
                 ..
             },
         ) => "centred",
