@@ -9,7 +9,11 @@ use Rattle.vp_glyph.specs.declared.Sheets.{Sheets}
 use Rattle.vp_format.specs.declared.field.Content.{Content}
 use Rattle.vp_format.specs.declared.field.Content.TheVariants as contents
 use Rattle.vp_format.specs.declared.field.Field.{Field}
-use Rattle.vp_field.specs.Contents.{most_work, IsStored}
+use Rattle.vp_zpl.specs.declared.item.Orientation.{Orientation}
+use Rattle.vp_field.specs.Axes.{lines_of}
+use Rattle.vp_field.specs.Contents.{most_lines, most_block_lines, most_work, IsStored}
+use Rattle.vp_field.specs.declared.axis.Lines.{Lines}
+use Rattle.vp_field.specs.declared.axis.Lines.TheVariants.{Along, Across}
 use Rattle.vp_field.specs.declared.view.View.{View}
 use Rattle.vp_fields_by_band.specs.declared.table.Entry.{Entry}
 use Rattle.vp_fields_by_band.specs.Threads.{entry_at, meets, meets_at, IsNext}
@@ -18,14 +22,23 @@ use Rattle.vp_bands.specs.Laws.{WorkBounded}
 use Rattle.vp_bands.specs.Standing.{entry_work, fields_of, met, IsSpanned}
 use Rattle.vp_bands.proofs.Painted.{met_next}
 
+-- the lines that are drawn on a band are few
+few_lines : (l : Lines) → most_lines l ≤ 2 ^ 20
+few_lines Along = omega arith
+few_lines Across = omega arith
+
+few_block_lines : (l : Lines) → most_block_lines l ≤ 2 ^ 20
+few_block_lines Along = omega arith
+few_block_lines Across = omega arith
+
 -- a format's bytes are few
-pub few_work : (stored : List ℕ) (c : Content) → IsStored stored c → most_work c ≤ 2 ^ 20
-few_work stored (contents.Text t) kept = omega arith
-few_work stored (contents.Block b) kept = omega arith
-few_work stored (contents.Box b) kept = omega arith
-few_work stored (contents.Picture p) kept = omega (arith, kept.codes.few)
-few_work stored (contents.Bars b) kept = omega arith
-few_work stored (contents.Qr q) kept = omega arith
+pub few_work : (stored : List ℕ) (o : Orientation) (c : Content) → IsStored stored c → most_work o c ≤ 2 ^ 20
+few_work stored o (contents.Text t) kept = few_lines (lines_of o)
+few_work stored o (contents.Block b) kept = few_block_lines (lines_of o)
+few_work stored o (contents.Box b) kept = omega arith
+few_work stored o (contents.Picture p) kept = omega (arith, kept.codes.few)
+few_work stored o (contents.Bars b) kept = few_lines (lines_of o)
+few_work stored o (contents.Qr q) kept = omega arith
 
 -- one more entry that meets the band
 pub work_more : (entries : List Entry) (b seen n : ℕ) → IsNext (meets_at entries b) seen (length entries) (Some n)
@@ -37,14 +50,14 @@ work_more entries b seen n next =
 
 -- the work of the entries that meet a band is that of the fields that do
 work_fields : (p : Entry → Bool) (q : Field → Bool) (entries : List Entry) → ((k : ℕ) → k < length entries → p (entry_at entries k) ≡ q (entry_at entries k).field)
-    → sum_by entry_work (filter p entries) ≡ sum_by (λ f. most_work f.content) (filter q (fields_of entries))
+    → sum_by entry_work (filter p entries) ≡ sum_by (λ f. most_work f.orientation f.content) (filter q (fields_of entries))
 work_fields p q [] same = refl
 work_fields p q (e ∷ entries) same =
     rw (same 0 (omega arith)) (one (q e.field) (work_fields p q entries (λ k lt. same (suc k) (omega arith))))
   where
-    one : (c : Bool) → sum_by entry_work (filter p entries) ≡ sum_by (λ f. most_work f.content) (filter q (fields_of entries))
-        → sum_by entry_work (cond c (e ∷ filter p entries) (filter p entries)) ≡ sum_by (λ f. most_work f.content) (cond c (e.field ∷ filter q (fields_of entries)) (filter q (fields_of entries)))
-    one true h = sum_by-cons entry_work e (filter p entries) ∙ ap (λ k. entry_work e + k) h ∙ sym (sum_by-cons (λ (f : Field). most_work f.content) e.field (filter q (fields_of entries)))
+    one : (c : Bool) → sum_by entry_work (filter p entries) ≡ sum_by (λ f. most_work f.orientation f.content) (filter q (fields_of entries))
+        → sum_by entry_work (cond c (e ∷ filter p entries) (filter p entries)) ≡ sum_by (λ f. most_work f.orientation f.content) (cond c (e.field ∷ filter q (fields_of entries)) (filter q (fields_of entries)))
+    one true h = sum_by-cons entry_work e (filter p entries) ∙ ap (λ k. entry_work e + k) h ∙ sym (sum_by-cons (λ (f : Field). most_work f.orientation f.content) e.field (filter q (fields_of entries)))
     one false h = h
 
 pub work_count : (sheets : Sheets) (stored : List ℕ) (view : View) (b : ℕ) (entries : List Entry) → ((k : ℕ) → k < length entries → IsSpanned sheets stored view (entry_at entries k))

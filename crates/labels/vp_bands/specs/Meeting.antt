@@ -45,7 +45,7 @@ pairs sheets stored view fields n = sum_by (meeting sheets stored view fields) (
 -- what painting the fields that meet band b takes at most
 abbrev pub band_work : Sheets → List ℕ → View → List Field → ℕ → ℕ
 band_work sheets stored view fields b =
-    sum_by (λ f. most_work f.content) (filter (field_meets sheets stored view b) fields)
+    sum_by (λ f. most_work f.orientation f.content) (filter (field_meets sheets stored view b) fields)
 
 -- and in the first n bands: the sum over the pairs of a field and one of these bands that the field meets
 unfoldable pub copy_work : Sheets → List ℕ → View → List Field → ℕ → ℕ

@@ -44,7 +44,7 @@ pub record HasRoom (p : Inside) : Type 0 where
   pub marks : length p.marks.items ≡ 1024
 
 abbrev pub entry_work : Entry → ℕ
-entry_work e = most_work e.field.content
+entry_work e = most_work e.field.orientation e.field.content
 
 abbrev pub fields_of : List Entry → List Field
 fields_of entries = map (λ e. e.field) entries

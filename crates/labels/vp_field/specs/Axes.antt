@@ -5,6 +5,8 @@ use Rattle.vp_field.specs.declared.axis.Axis.TheVariants.{Forward, Back}
 use Rattle.vp_field.specs.declared.axis.Lines.{Lines}
 use Rattle.vp_field.specs.declared.axis.Lines.TheVariants.{Along, Across}
 use Rattle.vp_field.specs.Places.{at_place}
+use Rattle.vp_zpl.specs.declared.item.Orientation.{Orientation}
+use Rattle.vp_zpl.specs.declared.item.Orientation.TheVariants.{Normal, Rotated, Inverted, BottomUp}
 
 -- the dot of the line that lies on a place
 abbrev pub dot_on : Axis → ℤ → ℤ
@@ -15,6 +17,13 @@ dot_on (Back at) p = at -ℤ p
 abbrev pub IsWithin : ℕ → Axis → Type 0
 IsWithin n (Forward at) = (neg_ℤ (pos n) ≤ℤ at) × (at ≤ℤ pos n)
 IsWithin n (Back at) = (neg_ℤ (pos n) ≤ℤ at) × (at ≤ℤ pos n)
+
+-- where the lines of what is turned so lie
+abbrev pub lines_of : Orientation → Lines
+lines_of Normal = Along
+lines_of Rotated = Across
+lines_of Inverted = Along
+lines_of BottomUp = Across
 
 -- the ink at a place, where the lines of the ink lie along its rows or across them
 abbrev pub laid : Lines → Axis → Axis → (ℕ → ℕ → Bool) → ℤ → ℤ → Bool

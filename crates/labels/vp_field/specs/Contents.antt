@@ -30,6 +30,9 @@ use Rattle.vp_format.specs.declared.field.Block.{Block}
 use Rattle.vp_format.specs.declared.field.Picture.{Picture}
 use Rattle.vp_format.specs.declared.field.QrSymbol.{QrSymbol}
 use Rattle.vp_field.specs.Frames.{frame_dot}
+use Rattle.vp_field.specs.Axes.{lines_of}
+use Rattle.vp_field.specs.declared.axis.Lines.{Lines}
+use Rattle.vp_field.specs.declared.axis.Lines.TheVariants.{Along, Across}
 
 -- the bytes that a span names among the stored ones
 abbrev pub bytes_of : List ℕ → Span → List ℕ
@@ -176,8 +179,24 @@ IsStored stored (contents.Picture p) = IsPicture stored p
 IsStored stored (contents.Bars b) = LiesIn stored b.bytes
 IsStored stored (contents.Qr q) = IsSymbol stored q
 
--- what painting a content on a band takes at most. Of a picture each byte of its codes is read once, no more
--- rows than these bytes and two are passed, and 32 rows fall on the band; of other contents nothing is counted
-abbrev pub most_work : Content → ℕ
-most_work (contents.Picture p) = 2 * p.codes.len + 34
-most_work _ = 0
+-- how many lines of ink are drawn on a band at most: one a row of the band where they lie along its rows; where
+-- they lie across, one a column of the widest label, and eight
+abbrev pub most_lines : Lines → ℕ
+most_lines Along = 32
+most_lines Across = 1256
+
+-- a block that lies across is drawn at once on all columns, and then laid on them
+abbrev pub most_block_lines : Lines → ℕ
+most_block_lines Along = 32
+most_block_lines Across = 2504
+
+-- what painting a content that is turned so takes on a band at most. Of a picture each byte of its codes is read
+-- once, no more rows than these bytes and two are passed, and 32 rows fall on the band; of other contents the
+-- lines of ink count
+abbrev pub most_work : Orientation → Content → ℕ
+most_work o (contents.Text t) = most_lines (lines_of o)
+most_work o (contents.Block b) = most_block_lines (lines_of o)
+most_work o (contents.Box b) = most_lines Along
+most_work o (contents.Picture p) = 2 * p.codes.len + 34
+most_work o (contents.Bars b) = most_lines (lines_of o)
+most_work o (contents.Qr q) = most_lines Along

@@ -3,7 +3,8 @@ ghost use Rattle.std.specs.Prelude.{◌+◌, ◌≤◌, pos, List, [], ◌∷◌
 ghost use Rattle.vp_dots.specs.Places.{RowsPainted};
 ghost use Rattle.vp_glyph.specs.declared.Sheets.{Sheets};
 ghost use Rattle.vp_format.specs.declared.field.Content.TheVariants as contents;
-ghost use Rattle.vp_field.specs.Contents.{most_work, LiesIn, IsText, IsBlock, IsSymbol};
+ghost use Rattle.vp_field.specs.Axes.{lines_of};
+ghost use Rattle.vp_field.specs.Contents.{most_lines, most_work, LiesIn, IsText, IsBlock, IsSymbol};
 ghost use Rattle.vp_field.specs.Standing.{IsNear};
 ghost use Rattle.vp_field.specs.Fields.{field_ink, stroke_of, IsKept, AreMarksOf};
 ghost use Rattle.vp_field.specs.Strokes.{Stroke};
@@ -24,10 +25,10 @@ use crate::view::View;
 use vp_dots::Ink;
 use vp_format::{Bars, Block, Content, Field, QrSymbol, Text};
 use vp_glyph::{Font, Sheets};
-use vp_label_size::LabelBand;
+use vp_label_size::{LabelBand, WIDEST};
 use vp_zpl::item::Orientation;
 
-/// Paints a text.
+/// Paints a text: how many lines of ink it drew.
 fn paint_text(
     sheets: &Sheets,
     stored: &[u8],
@@ -35,17 +36,18 @@ fn paint_text(
     on: Standing,
     first: u32,
     band: &mut LabelBand,
-)
+) -> u64
     requires text { IsText stored.now text }
     requires near { IsNear on.left on.top }
-    ensures { RowsPainted 32 on.op (drawn sheets.now stored.now (contents.Text text) on first)
+    ensures dots { RowsPainted 32 on.op (drawn sheets.now stored.now (contents.Text text) on first)
         band.old band.new }
+    ensures lines { result ≤ most_work on.orientation (contents.Text text) }
 {
     let ink = cells(sheets, stored, text);
-    paint_standing(&ink, Some(ink.h), on, first, band);
+    paint_standing(&ink, Some(ink.h), on, first, band)
 }
 
-/// Paints a block of lines.
+/// Paints a block of lines: how many lines of ink it drew.
 fn paint_block(
     sheets: &Sheets,
     stored: &[u8],
@@ -53,11 +55,12 @@ fn paint_block(
     on: Standing,
     first: u32,
     band: &mut LabelBand,
-)
+) -> u64
     requires block { IsBlock stored.now block }
     requires near { IsNear on.left on.top }
-    ensures { RowsPainted 32 on.op (drawn sheets.now stored.now (contents.Block block) on first)
+    ensures dots { RowsPainted 32 on.op (drawn sheets.now stored.now (contents.Block block) on first)
         band.old band.new }
+    ensures lines { result ≤ most_work on.orientation (contents.Block block) }
 {
     let ink = block_of(sheets, stored, block);
     let (_, height) = ink.size();
@@ -70,12 +73,12 @@ fn paint_block(
         Lines::Along => paint_standing(&rows, None, on, first, band),
         Lines::Across => {
             let columns = BlockColumns::new(rows, line, drawn_at(laid.rows, first, 4));
-            paint_standing(&columns, None, on, first, band);
+            u64::from(WIDEST) + paint_standing(&columns, None, on, first, band)
         }
     }
 }
 
-/// Paints a linear symbol and its text; nothing where the data have none.
+/// Paints a linear symbol and its text, nothing where the data have none: how many lines of ink it drew.
 fn paint_bars(
     sheets: &Sheets,
     stored: &[u8],
@@ -83,11 +86,12 @@ fn paint_bars(
     on: Standing,
     first: u32,
     band: &mut LabelBand,
-)
+) -> u64
     requires bytes { LiesIn stored.now bars.bytes }
     requires near { IsNear on.left on.top }
-    ensures { RowsPainted 32 on.op (drawn sheets.now stored.now (contents.Bars bars) on first)
+    ensures dots { RowsPainted 32 on.op (drawn sheets.now stored.now (contents.Bars bars) on first)
         band.old band.new }
+    ensures lines { result ≤ most_work on.orientation (contents.Bars bars) }
 {
     match linear(bars.code, bytes_of(stored, bars.bytes)) {
         Ok(symbol) => {
@@ -99,18 +103,19 @@ fn paint_bars(
                 Font::A,
                 bars.place,
             );
-            paint_standing(&ink, None, on, first, band);
+            paint_standing(&ink, None, on, first, band)
         }
-        Err(_) => {}
+        Err(_) => 0,
     }
 }
 
-/// Paints a QR symbol with the version and the mask that it keeps.
-fn paint_qr(stored: &[u8], symbol: QrSymbol, on: Standing, first: u32, band: &mut LabelBand)
+/// Paints a QR symbol with the version and the mask that it keeps: how many lines of ink it drew.
+fn paint_qr(stored: &[u8], symbol: QrSymbol, on: Standing, first: u32, band: &mut LabelBand) -> u64
     requires symbol { IsSymbol stored.now symbol }
     requires near { IsNear on.left on.top }
-    ensures { (sheets : Sheets) → RowsPainted 32 on.op
+    ensures dots { (sheets : Sheets) → RowsPainted 32 on.op
         (drawn sheets stored.now (contents.Qr symbol) on first) band.old band.new }
+    ensures lines { result ≤ most_lines (lines_of on.orientation) }
 {
     let qr = vp_qr::drawn(
         bytes_of(stored, symbol.bytes),
@@ -119,11 +124,11 @@ fn paint_qr(stored: &[u8], symbol: QrSymbol, on: Standing, first: u32, band: &mu
         usize::from(symbol.version),
         usize::from(symbol.mask),
     );
-    paint_standing(&qr.scaled(u32::from(symbol.module)), None, on, first, band);
+    paint_standing(&qr.scaled(u32::from(symbol.module)), None, on, first, band)
 }
 
 /// Applies the field's operation to the dots of a band, whose first row is row `first` of the label as it
-/// is put out, where the field has ink.
+/// is put out, where the field has ink. What that took comes back.
 fn paint_content(
     sheets: &Sheets,
     stored: &[u8],
@@ -139,7 +144,7 @@ fn paint_content(
         field_ink sheets.now stored.now field.now (seen_x view (pos x))
         (seen_y view (pos (first + k)))) band.old band.new }
     ensures marks { AreMarksOf stored.now field.now.content marks.new }
-    ensures work { result ≤ most_work field.now.content }
+    ensures work { result ≤ most_work field.now.orientation field.now.content }
 {
     let turned = Standing {
         op: field.op,
@@ -156,17 +161,16 @@ fn paint_content(
         Content::Text(text) => paint_text(sheets, stored, text, turned, first, band),
         Content::Block(block) => paint_block(sheets, stored, block, turned, first, band),
         Content::Box(shape) => paint_standing(&Frame::of(shape), None, on, first, band),
-        Content::Picture(picture) => return paint_picture(stored, picture, on, marks, first, band),
+        Content::Picture(picture) => paint_picture(stored, picture, on, marks, first, band),
         Content::Bars(bars) => paint_bars(sheets, stored, bars, turned, first, band),
         Content::Qr(symbol) => paint_qr(stored, symbol, on, first, band),
     }
-    0
 }
 
 /// Paints a field on a band, whose first row is row `first` of the label as it is put out. The marks are
 /// those that earlier bands left in its picture, or none, so that not all rows above are read again; more are
-/// left for the bands that come later. What a picture took comes back: how many bytes of its codes were read,
-/// rows passed, and rows painted.
+/// left for the bands that come later. What that took comes back: of a picture how many bytes of its codes were
+/// read, rows passed, and rows painted; of all else how many lines of ink were drawn.
 pub fn paint_field(
     sheets: &Sheets,
     stored: &[u8],
@@ -184,7 +188,7 @@ pub fn paint_field(
     ensures shows { (strokes : List Stroke) → Shows view first strokes band.old
         → Shows view first (strokes ++ stroke_of sheets.now stored.now field.now ∷ []) band.new }
     ensures marks { AreMarksOf stored.now field.now.content marks.new }
-    ensures work { result ≤ most_work field.now.content }
+    ensures work { result ≤ most_work field.now.orientation field.now.content }
 {
     paint_content(sheets, stored, field, marks, view, first, band)
 }

@@ -1,9 +1,8 @@
 //! How a box of dots lies on a label.
 ghost use Rattle.std.specs.Prelude.{◌≡◌, ℕ, ◌+◌, ◌-◌, ◌^◌, ◌<◌, ◌≤◌, Bool, ℤ, pos, neg_ℤ, ◌-ℤ◌, ◌+ℤ◌, ◌≤ℤ◌};
-ghost use Rattle.vp_zpl.specs.declared.item.Orientation.TheVariants.{Normal};
 ghost use Rattle.vp_field.specs.Turning.{turned};
 ghost use Rattle.vp_field.specs.Views.{seen_x, seen_y};
-ghost use Rattle.vp_field.specs.Axes.{laid, IsWithin, dot_on};
+ghost use Rattle.vp_field.specs.Axes.{laid, lines_of, IsWithin, dot_on};
 ghost use Rattle.vp_field.specs.declared.axis.Lines.TheVariants.{Along, Across};
 
 use crate::axis::{Axis, Lines, clamped};
@@ -37,7 +36,7 @@ impl Laid {
         ensures ink { (ink : ℕ → ℕ → Bool) (x y : ℤ)
             → laid result.lines result.columns result.rows ink x y
             ≡ turned orientation w h ink (x -ℤ left) (y -ℤ top) }
-        ensures upright { orientation ≡ Normal → result.lines ≡ Along }
+        ensures lines { result.lines ≡ lines_of orientation }
         ensures columns { IsWithin (2 ^ 40) result.columns }
         ensures rows { IsWithin (2 ^ 40) result.rows }
     {

@@ -5,6 +5,7 @@ ghost use Rattle.vp_dots.specs.Painting.{Painted};
 ghost use Rattle.vp_dots.specs.Places.{RowsPainted};
 ghost use Rattle.vp_field.specs.Places.{at_place};
 ghost use Rattle.vp_field.specs.Axes.{IsWithin, dot_on, laid};
+ghost use Rattle.vp_field.specs.Contents.{most_lines};
 ghost use Rattle.vp_field.specs.Stretched.{AreStretched};
 ghost use Rattle.vp_field.specs.declared.axis.Lines.TheVariants.{Along, Across};
 
@@ -99,7 +100,7 @@ fn paint_alike<I: Ink>(
     }
 }
 
-/// Paints ink whose lines lie along the rows.
+/// Paints ink whose lines lie along the rows: how many lines it drew.
 fn paint_along<I: Ink>(
     ink: &I,
     stretched: Option<u32>,
@@ -108,24 +109,28 @@ fn paint_along<I: Ink>(
     rows: Axis,
     first: u32,
     band: &mut LabelBand,
-)
+) -> u64
     requires stretched { AreStretched stretched (I.ink_at ink.now) }
     requires near { IsWithin (2 ^ 41) columns }
-    ensures { RowsPainted 32 op (λ x k. laid Along columns rows (I.ink_at ink.now) (pos x)
+    ensures dots { RowsPainted 32 op (λ x k. laid Along columns rows (I.ink_at ink.now) (pos x)
         (pos (first + k))) band.old band.new }
+    ensures lines { result ≤ most_lines Along }
 {
     let (_, h) = ink.size();
     let (from, to) = rows.span(h);
     let first = u64::from(first);
     let mut k = from.saturating_sub(first);
     let end = to.saturating_sub(first).min(32);
+    let mut lines = 0;
     while k < end {
         let alike = alike_places(ink, stretched, rows, first + k, first + end);
         if let Some(v) = rows.dot_on(first + k) {
             paint_alike(ink, v, op, columns, k as usize, alike as usize, band);
         }
         k += alike;
+        lines += 1;
     }
+    lines
 }
 
 /// The ink on a column of the label, on 32 rows from one on.
@@ -208,7 +213,8 @@ fn paint_run(op: Op, line: [u8; 4], from: u64, to: u64, band: &mut LabelBand)
 }
 
 /// Paints columns of the band, which begin at x with the one that is given, and end before another: how many
-/// it painted, and the column behind them. A run that is known to be alike is painted row by row.
+/// it painted, the column behind them, and how many lines it drew. A run that is known to be alike is painted
+/// row by row.
 fn paint_columns<I: Ink>(
     ink: &I,
     stretched: Option<u32>,
@@ -220,7 +226,7 @@ fn paint_columns<I: Ink>(
     first: u32,
     line: [u8; 4],
     band: &mut LabelBand,
-) -> (u64, [u8; 4])
+) -> (u64, [u8; 4], u64)
     requires stretched { AreStretched stretched (I.ink_at ink.now) }
     requires low { I.height ink.now < 2 ^ 32 }
     requires near { IsWithin (2 ^ 41) rows }
@@ -230,24 +236,26 @@ fn paint_columns<I: Ink>(
         (pos (first + k)) }
     ensures some { 0 < result.0 }
     ensures most { result.0 ≤ 1248 }
+    ensures near { x + result.0 ≤ end + 7 }
     ensures painted { RowsPainted 32 op (λ d k. span x (x + result.0) d
         && laid Across columns rows (I.ink_at ink.now) (pos d) (pos (first + k))) band.old band.new }
     ensures line { (k : ℕ) → k < 32 → dot result.1 k ≡ laid Across columns rows (I.ink_at ink.now)
         (pos (x + result.0)) (pos (first + k)) }
+    ensures lines { result.2 ≤ result.0 }
 {
     let alike = alike_places(ink, stretched, columns, x, end);
     if alike >= RUN {
         let behind = column_of(ink, columns, rows, x + alike, first);
         paint_run(op, line, x, x + alike, band);
-        return (alike, behind);
+        return (alike, behind, 1);
     }
     let lines = eight_columns(ink, columns, rows, x, first, line);
     let behind = column_after(ink, columns, rows, x + 8, first, lines[7]);
     lay_eight(op, &lines, x as usize, 0, band);
-    (8, behind)
+    (8, behind, 8)
 }
 
-/// Paints ink whose lines lie across the rows.
+/// Paints ink whose lines lie across the rows: how many lines it drew.
 fn paint_across<I: Ink>(
     ink: &I,
     stretched: Option<u32>,
@@ -256,11 +264,12 @@ fn paint_across<I: Ink>(
     rows: Axis,
     first: u32,
     band: &mut LabelBand,
-)
+) -> u64
     requires stretched { AreStretched stretched (I.ink_at ink.now) }
     requires near { IsWithin (2 ^ 41) rows }
-    ensures { RowsPainted 32 op (λ x k. laid Across columns rows (I.ink_at ink.now) (pos x)
+    ensures dots { RowsPainted 32 op (λ x k. laid Across columns rows (I.ink_at ink.now) (pos x)
         (pos (first + k))) band.old band.new }
+    ensures lines { result ≤ most_lines Across }
 {
     let (_, h) = ink.size();
     let (from, to) = columns.span(h);
@@ -268,17 +277,20 @@ fn paint_across<I: Ink>(
     let end = to.min(WIDTH);
     let mut x = from;
     let mut line = column_of(ink, columns, rows, x, first);
+    let mut lines = 1;
     while x < end {
-        let (painted, behind) = paint_columns(
+        let (painted, behind, drawn) = paint_columns(
             ink, stretched, op, columns, rows, x, end, first, line, band,
         );
         x += painted;
         line = behind;
+        lines += drawn;
     }
+    lines
 }
 
 /// Applies the operation to the dots of a band, whose first row is row `first` of the label, where ink that
-/// lies so on the label has ink. Its lines may be known to be stretched.
+/// lies so on the label has ink. Its lines may be known to be stretched. How many lines were drawn comes back.
 pub fn paint_laid<I: Ink>(
     ink: &I,
     stretched: Option<u32>,
@@ -288,12 +300,13 @@ pub fn paint_laid<I: Ink>(
     rows: Axis,
     first: u32,
     band: &mut LabelBand,
-)
+) -> u64
     requires stretched { AreStretched stretched (I.ink_at ink.now) }
     requires columns { IsWithin (2 ^ 41) columns }
     requires rows { IsWithin (2 ^ 41) rows }
-    ensures { RowsPainted 32 op (λ x k. laid lines columns rows (I.ink_at ink.now) (pos x)
+    ensures dots { RowsPainted 32 op (λ x k. laid lines columns rows (I.ink_at ink.now) (pos x)
         (pos (first + k))) band.old band.new }
+    ensures lines { result ≤ most_lines lines }
 {
     match lines {
         Lines::Along => paint_along(ink, stretched, op, columns, rows, first, band),

@@ -248,7 +248,7 @@ pub fn paint_picture(
     ensures dots { (sheets : Sheets) → RowsPainted 32 on.op
         (drawn sheets stored.now (contents.Picture picture) on first) band.old band.new }
     ensures marks { AreMarksOf stored.now (contents.Picture picture) marks.new }
-    ensures work { result ≤ most_work (contents.Picture picture) }
+    ensures work { result ≤ most_work Normal (contents.Picture picture) }
 {
     let at = lying(picture, on);
     let (from, to) = lines_on(at.rows, picture.rows, first);

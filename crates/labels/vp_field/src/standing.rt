@@ -1,7 +1,8 @@
 //! Ink that stands turned on a label, painted on a band of the label as it is put out.
-ghost use Rattle.std.specs.Prelude.{◌≡◌, ℕ, ◌+◌, ◌^◌, Bool, ℤ, pos};
+ghost use Rattle.std.specs.Prelude.{◌≡◌, ℕ, ◌+◌, ◌^◌, ◌≤◌, Bool, ℤ, pos};
 ghost use Rattle.vp_dots.specs.Places.{RowsPainted};
-ghost use Rattle.vp_field.specs.Axes.{laid, IsWithin};
+ghost use Rattle.vp_field.specs.Axes.{laid, lines_of, IsWithin};
+ghost use Rattle.vp_field.specs.Contents.{most_lines};
 ghost use Rattle.vp_field.specs.Standing.{standing, IsNear};
 ghost use Rattle.vp_field.specs.Stretched.{AreStretched};
 ghost use Rattle.vp_field.specs.Views.{seen_x, seen_y};
@@ -30,6 +31,7 @@ impl Standing {
         requires { IsNear self.left self.top }
         ensures columns { IsWithin (2 ^ 41) result.columns }
         ensures rows { IsWithin (2 ^ 41) result.rows }
+        ensures lines { result.lines ≡ lines_of self.orientation }
         ensures ink { (dots : ℕ → ℕ → Bool) (x y : ℤ) → laid result.lines result.columns result.rows dots x y
             ≡ standing self.left self.top self.orientation (I.width ink.now) (I.height ink.now) dots
             (seen_x self.view x) (seen_y self.view y) }
@@ -40,19 +42,21 @@ impl Standing {
 }
 
 /// Applies the operation to the dots of a band, whose first row is row `first` of the label as it is put out,
-/// where ink that stands on the label has ink. Its lines may be known to be stretched.
+/// where ink that stands on the label has ink. Its lines may be known to be stretched. How many lines were
+/// drawn comes back.
 pub fn paint_standing<I: Ink>(
     ink: &I,
     stretched: Option<u32>,
     on: Standing,
     first: u32,
     band: &mut LabelBand,
-)
+) -> u64
     requires stretched { AreStretched stretched (I.ink_at ink.now) }
     requires near { IsNear on.left on.top }
-    ensures { RowsPainted 32 on.op (λ x k. standing on.left on.top on.orientation (I.width ink.now)
+    ensures dots { RowsPainted 32 on.op (λ x k. standing on.left on.top on.orientation (I.width ink.now)
         (I.height ink.now) (I.ink_at ink.now) (seen_x on.view (pos x))
         (seen_y on.view (pos (first + k)))) band.old band.new }
+    ensures lines { result ≤ most_lines (lines_of on.orientation) }
 {
     let laid = on.laid(ink);
     paint_laid(
@@ -64,5 +68,5 @@ pub fn paint_standing<I: Ink>(
         laid.rows,
         first,
         band,
-    );
+    )
 }

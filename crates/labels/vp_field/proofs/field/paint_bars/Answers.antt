@@ -16,15 +16,15 @@ ink sheets b on first r x k =
     standing on.left on.top on.orientation (bars_width sheets b.narrow b.wide b.height b.place r) (bars_height sheets b.narrow b.wide b.height b.place r) (bars_dot sheets b.narrow b.wide b.height b.place r)
     (seen_x on.view (pos x)) (seen_y on.view (pos (first + k)))
 
-pub returns-in-Ok : goal.returns-in-Ok
-returns-in-Ok c =
+pub returns-in-Ok-clause-dots : goal.returns-in-Ok-clause-dots
+returns-in-Ok-clause-dots c =
     let a = c.args in
     let b = c.boxed-ink.ensures in
     let bars : symbol_of a.bars.code (bytes_of a.stored.now a.bars.bytes) ≡ Ok c.in-Ok.symbol = ap (symbol_of a.bars.code) (sym c.bytes_of.ensures) ∙ sym c.linear.ensures ∙ c.in-Ok.is in
-    subst (λ r. RowsPainted 32 a.on.op (ink a.sheets.now a.bars a.on a.first r) a.band.now c.paint_standing.new.band) (sym bars) (rw (b.bars, b.narrow, b.wide, b.height, b.sheets, b.font, b.place) at c.paint_standing.ensures)
+    subst (λ r. RowsPainted 32 a.on.op (ink a.sheets.now a.bars a.on a.first r) a.band.now c.paint_standing.new.band) (sym bars) (rw (b.bars, b.narrow, b.wide, b.height, b.sheets, b.font, b.place) at c.paint_standing.ensures.dots)
 
-pub returns-in-Err : goal.returns-in-Err
-returns-in-Err c =
+pub returns-in-Err-clause-dots : goal.returns-in-Err-clause-dots
+returns-in-Err-clause-dots c =
     let a = c.args in
     let none : symbol_of a.bars.code (bytes_of a.stored.now a.bars.bytes) ≡ Err c.in-Err.field-0 = ap (symbol_of a.bars.code) (sym c.bytes_of.ensures) ∙ sym c.linear.ensures ∙ c.in-Err.is in
     subst (λ r. RowsPainted 32 a.on.op (ink a.sheets.now a.bars a.on a.first r) a.band.now a.band.now) (sym none)

@@ -9,7 +9,7 @@ returns-in-Text-clause-dots c =
     let n = c.requires.kept.near in
     let left : SFits w64 f.left = search (rules, n.left_low, n.left_high) in
     let top : SFits w64 f.top = search (rules, n.top_low, n.top_high) in
-    rw c.in-Text.is (rw (to_z-of_z w64 f.left left, to_z-of_z w64 f.top top) at c.paint_text.ensures)
+    rw c.in-Text.is (rw (to_z-of_z w64 f.left left, to_z-of_z w64 f.top top) at c.paint_text.ensures.dots)
 
 pub returns-in-Block-clause-dots : goal.returns-in-Block-clause-dots
 returns-in-Block-clause-dots c =
@@ -17,7 +17,7 @@ returns-in-Block-clause-dots c =
     let n = c.requires.kept.near in
     let left : SFits w64 f.left = search (rules, n.left_low, n.left_high) in
     let top : SFits w64 f.top = search (rules, n.top_low, n.top_high) in
-    rw c.in-Block.is (rw (to_z-of_z w64 f.left left, to_z-of_z w64 f.top top) at c.paint_block.ensures)
+    rw c.in-Block.is (rw (to_z-of_z w64 f.left left, to_z-of_z w64 f.top top) at c.paint_block.ensures.dots)
 
 pub returns-in-Box-clause-dots : goal.returns-in-Box-clause-dots
 returns-in-Box-clause-dots c =
@@ -25,7 +25,7 @@ returns-in-Box-clause-dots c =
     let n = c.requires.kept.near in
     let left : SFits w64 f.left = search (rules, n.left_low, n.left_high) in
     let top : SFits w64 f.top = search (rules, n.top_low, n.top_high) in
-    rw c.in-Box.is (rw (to_z-of_z w64 f.left left, to_z-of_z w64 f.top top, to_z-of_z w64 f.left left, to_z-of_z w64 f.top top) at (rw c.of.ensures at c.paint_standing.ensures))
+    rw c.in-Box.is (rw (to_z-of_z w64 f.left left, to_z-of_z w64 f.top top, to_z-of_z w64 f.left left, to_z-of_z w64 f.top top) at (rw c.of.ensures at c.paint_standing.ensures.dots))
 
 pub returns-in-Bars-clause-dots : goal.returns-in-Bars-clause-dots
 returns-in-Bars-clause-dots c =
@@ -33,7 +33,7 @@ returns-in-Bars-clause-dots c =
     let n = c.requires.kept.near in
     let left : SFits w64 f.left = search (rules, n.left_low, n.left_high) in
     let top : SFits w64 f.top = search (rules, n.top_low, n.top_high) in
-    rw c.in-Bars.is (rw (to_z-of_z w64 f.left left, to_z-of_z w64 f.top top) at c.paint_bars.ensures)
+    rw c.in-Bars.is (rw (to_z-of_z w64 f.left left, to_z-of_z w64 f.top top) at c.paint_bars.ensures.dots)
 
 pub returns-in-Qr-clause-dots : goal.returns-in-Qr-clause-dots
 returns-in-Qr-clause-dots c =
@@ -41,7 +41,7 @@ returns-in-Qr-clause-dots c =
     let n = c.requires.kept.near in
     let left : SFits w64 f.left = search (rules, n.left_low, n.left_high) in
     let top : SFits w64 f.top = search (rules, n.top_low, n.top_high) in
-    rw c.in-Qr.is (rw (to_z-of_z w64 f.left left, to_z-of_z w64 f.top top, to_z-of_z w64 f.left left, to_z-of_z w64 f.top top) at (c.paint_qr.ensures c.args.sheets.now))
+    rw c.in-Qr.is (rw (to_z-of_z w64 f.left left, to_z-of_z w64 f.top top, to_z-of_z w64 f.left left, to_z-of_z w64 f.top top) at (c.paint_qr.ensures.dots c.args.sheets.now))
 
 pub returns-in-Picture-clause-dots : goal.returns-in-Picture-clause-dots
 returns-in-Picture-clause-dots c =

@@ -13,8 +13,11 @@ pub loop-k-init : goal.loop-k-init
 loop-k-init g c =
     let ink = λ (u v : ℕ). g.I.Ink.ink_at c.args.ink.now u v in
     let lines : (u v : ℕ) → ink u v ≡ true → v < c.size-h.result.1 = λ u v e. rw c.size-h.ensures.height (g.met.I.Ink.outside c.args.ink.now u v e).1 in
-    rows_init _ _ (λ x k. laid Along c.args.columns c.args.rows ink (pos x) (pos (c.args.first + k))) _ _
-    (λ x k l. c.span-from.ensures.before _ (line_inside ink c.size-h.result.1 lines (dot_on c.args.columns (pos x))) (c.args.first + k) (omega (arith, c.from-first.ensures, c.saturating_sub-k.ensures)))
+    record {
+      painted = rows_init _ _ (λ x k. laid Along c.args.columns c.args.rows ink (pos x) (pos (c.args.first + k))) _ _
+          (λ x k l. c.span-from.ensures.before _ (line_inside ink c.size-h.result.1 lines (dot_on c.args.columns (pos x))) (c.args.first + k) (omega (arith, c.from-first.ensures, c.saturating_sub-k.ensures)));
+      lines = omega (arith, c.min-end.ensures);
+    }
 
 pub loop-k-preserved : goal.loop-k-preserved
 loop-k-preserved g c =
@@ -29,16 +32,22 @@ loop-k-preserved g c =
     let there : c.args.first + k ≡ c.from-first.result + c.loop-k.k + (k - c.loop-k.k) = omega (arith, c.from-first.ensures) in
     let here : c.from-first.result + c.loop-k.k ≡ c.args.first + c.loop-k.k = omega (arith, c.from-first.ensures) in
     ap (on u) there ∙ c.alike_places-alike.ensures.alike (k - c.loop-k.k) (omega arith) u ∙ ap (on u) here) in
-    elim c.match-dot_on.branch [
-      | in-Some w ↦ rw w.band-is (rows_painted c.args.op shown (λ x. line x w.in-Some.v) c.loop-k.k c.alike_places-alike.result
-          (λ x k a b. alike x k a b ∙ falls x ∙ ap (λ o. unwrap_or (option_map (line x) o) false) w.in-Some.is) _ _ _ c.loop-k.invariant w.paint_alike.ensures)
-      | in_default w ↦ rw w.band-is (rows_passed c.args.op shown (λ x. shown x c.loop-k.k) c.loop-k.k c.alike_places-alike.result alike _ _
-          (λ x. falls x ∙ ap (λ o. unwrap_or (option_map (line x) o) false) w.in_default.is) c.loop-k.invariant)
-    ]
+    record {
+      painted = elim c.match-dot_on.branch [
+        | in-Some w ↦ rw w.band-is (rows_painted c.args.op shown (λ x. line x w.in-Some.v) c.loop-k.k c.alike_places-alike.result
+            (λ x k a b. alike x k a b ∙ falls x ∙ ap (λ o. unwrap_or (option_map (line x) o) false) w.in-Some.is) _ _ _ c.loop-k.invariant.painted w.paint_alike.ensures)
+        | in_default w ↦ rw w.band-is (rows_passed c.args.op shown (λ x. shown x c.loop-k.k) c.loop-k.k c.alike_places-alike.result alike _ _
+            (λ x. falls x ∙ ap (λ o. unwrap_or (option_map (line x) o) false) w.in_default.is) c.loop-k.invariant.painted)
+      ];
+      lines = omega (arith, c.loop-k.invariant.lines, c.alike_places-alike.ensures.some, c.alike_places-alike.ensures.within);
+    }
 
-pub returns : goal.returns
-returns g c =
+pub returns-clause-dots : goal.returns-clause-dots
+returns-clause-dots g c =
     let ink = λ (u v : ℕ). g.I.Ink.ink_at c.args.ink.now u v in
     let lines : (u v : ℕ) → ink u v ≡ true → v < c.size-h.result.1 = λ u v e. rw c.size-h.ensures.height (g.met.I.Ink.outside c.args.ink.now u v e).1 in
     rows_all _ _ (λ x k. laid Along c.args.columns c.args.rows ink (pos x) (pos (c.args.first + k))) c.loop-k.k _ _
-    (λ x k a b. c.span-from.ensures.behind _ (line_inside ink c.size-h.result.1 lines (dot_on c.args.columns (pos x))) (c.args.first + k) (omega (arith, c.from-first.ensures))) c.loop-k.invariant
+    (λ x k a b. c.span-from.ensures.behind _ (line_inside ink c.size-h.result.1 lines (dot_on c.args.columns (pos x))) (c.args.first + k) (omega (arith, c.from-first.ensures))) c.loop-k.invariant.painted
+
+pub returns-clause-lines : goal.returns-clause-lines
+returns-clause-lines g c = omega (arith, c.loop-k.invariant.lines)
