@@ -122,8 +122,8 @@ impl BandPainter {
         self.threads.looks()
     }
 
-    /// What painting took since the copy's start: how many bytes of pictures' codes were read, how many of their
-    /// rows passed or painted, and how many lines of ink drawn for all other fields.
+    /// What painting took since the copy's start: how many bytes of pictures' codes were read, how many of
+    /// their rows passed or painted, and how many lines of ink drawn for all other fields.
     pub fn work(&self) -> u64
         ensures { result ≡ self.now.work }
     {

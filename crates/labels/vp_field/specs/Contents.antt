@@ -179,8 +179,8 @@ IsStored stored (contents.Picture p) = IsPicture stored p
 IsStored stored (contents.Bars b) = LiesIn stored b.bytes
 IsStored stored (contents.Qr q) = IsSymbol stored q
 
--- how many lines of ink are drawn on a band at most: one a row of the band where they lie along its rows; where
--- they lie across, one a column of the widest label, and eight
+-- how many lines of ink are drawn on a band at most: one a row of the band where they lie along its rows;
+-- where they lie across, one a column of the widest label, and eight
 abbrev pub most_lines : Lines → ℕ
 most_lines Along = 32
 most_lines Across = 1256
@@ -190,9 +190,9 @@ abbrev pub most_block_lines : Lines → ℕ
 most_block_lines Along = 32
 most_block_lines Across = 2504
 
--- what painting a content that is turned so takes on a band at most. Of a picture each byte of its codes is read
--- once, no more rows than these bytes and two are passed, and 32 rows fall on the band; of other contents the
--- lines of ink count
+-- what painting a content that is turned so takes on a band at most. Of a picture each byte of its codes is
+-- read once, no more rows than these bytes and two are passed, and 32 rows fall on the band; of other contents
+-- the lines of ink count
 abbrev pub most_work : Orientation → Content → ℕ
 most_work o (contents.Text t) = most_lines (lines_of o)
 most_work o (contents.Block b) = most_block_lines (lines_of o)

@@ -290,7 +290,8 @@ fn paint_across<I: Ink>(
 }
 
 /// Applies the operation to the dots of a band, whose first row is row `first` of the label, where ink that
-/// lies so on the label has ink. Its lines may be known to be stretched. How many lines were drawn comes back.
+/// lies so on the label has ink. Its lines may be known to be stretched. How many lines were drawn comes
+/// back.
 pub fn paint_laid<I: Ink>(
     ink: &I,
     stretched: Option<u32>,

@@ -286,8 +286,8 @@ impl Label {
         self.press.painter.looks()
     }
 
-    /// What painting took for the copy that is put out: how many bytes of pictures' codes were read, how many of
-    /// their rows passed or painted, and how many lines of ink drawn for all other fields.
+    /// What painting took for the copy that is put out: how many bytes of pictures' codes were read, how many
+    /// of their rows passed or painted, and how many lines of ink drawn for all other fields.
     pub fn work(&self) -> u64
         ensures { result ≡ self.now.press.painter.work }
     {
