@@ -5,6 +5,7 @@ pub mod Formed
 pub mod Gathered
 pub mod Forms
 pub mod Looks
+pub mod Magnified
 pub mod Numbers
 pub mod Overlaid
 pub mod Pieces

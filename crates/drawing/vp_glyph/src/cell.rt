@@ -7,7 +7,7 @@ ghost use Rattle.vp_dots.specs.Painting.{Painted};
 ghost use Rattle.vp_glyph.specs.Cells.{font_width, font_height, font_dot, bold_dot, cell_width, cell_height, cell_dot, cell_inside};
 
 use crate::Sheets;
-use crate::look::{emphasized, inverted, nine_of, paint_scaled, shared};
+use crate::look::{emphasized, inverted, magnified, nine_of, paint_scaled, shared};
 use crate::sheet::{dot_in, ready_in, row_at, rows_in};
 use vp_dots::{Ink, Op, Ready, WORDS, fill_moved, first_dots, paint_word};
 
@@ -99,7 +99,11 @@ fn row_behind(y: u32, font: Font, style: Style) -> u32
     ensures row { result ≡ y / style.hm }
     ensures within { result < font_height font }
 {
-    y / u32::from(style.hm)
+    match style.hm {
+        1 => y,
+        2 => y / 2,
+        hm => y / u32::from(hm),
+    }
 }
 
 impl Cell<'_> {
@@ -214,6 +218,10 @@ impl Cell<'_> {
         let wm = u32::from(self.style.wm);
         if wm == 1 {
             paint_word(op, word, at, row);
+            return;
+        }
+        if 12 * wm <= 64 {
+            paint_word(op, magnified(word, wm), at, row);
             return;
         }
         match self.font {

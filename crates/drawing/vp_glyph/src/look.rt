@@ -4,7 +4,7 @@ ghost use Rattle.vp_dots.specs.Dots.{shifted};
 ghost use Rattle.vp_dots.specs.Painting.{Painted};
 ghost use Rattle.vp_dots.specs.Words.{word_dot};
 
-use vp_dots::{Op, fill_moved};
+use vp_dots::{Op, fill_moved, first_dots};
 
 #[tactic(auto, using(crate::proofs::Spread::edge_within))]
 /// Where dot s begins, of N that are drawn so wide in all.
@@ -70,6 +70,56 @@ pub fn inverted(word: u64) -> u64
     ensures { (x : ℕ) → x < 64 → word_dot result x ≡ not (word_dot word x) }
 {
     !word
+}
+
+/// The dots of a mask, where a word has dot s.
+#[inline(always)]
+pub fn picked(word: u64, s: u32, mask: u64) -> u64
+    requires { s < 64 }
+    ensures { (x : ℕ) → word_dot result x ≡ (word_dot word s && word_dot mask x) }
+{
+    if dot_in_word(word, s) { mask } else { 0 }
+}
+
+/// The dots of a mask that a word has there or so far on the left.
+#[inline(always)]
+fn spread(word: u64, far: u32, mask: u64) -> u64
+    requires { far < 64 }
+    ensures { (x : ℕ) → x < 64 → word_dot result x
+        ≡ ((word_dot word x || nat_le far x && word_dot word (x - far)) && word_dot mask x) }
+{
+    (word | (word >> far)) & mask
+}
+
+/// The first twelve dots of a word, each drawn two dots wide.
+#[inline(always)]
+fn doubled(word: u64) -> u64
+    ensures { (x : ℕ) → word_dot result x ≡ (nat_lt x 24 && word_dot word (x / 2)) }
+{
+    let twelve = shared(word, 0xfff0_0000_0000_0000);
+    let eights = spread(twelve, 8, 0xff00_ff00_0000_0000);
+    let fours = spread(eights, 4, 0xf0f0_f0f0_0000_0000);
+    let twos = spread(fours, 2, 0xcccc_cccc_0000_0000);
+    let ones = spread(twos, 1, 0xaaaa_aaaa_0000_0000);
+    spread(ones, 1, u64::MAX)
+}
+
+/// The first twelve dots of a word, each drawn so many dots wide.
+#[inline(always)]
+pub fn magnified(word: u64, wm: u32) -> u64
+    requires { 12 * wm ≤ 64 }
+    ensures { (x : ℕ) → word_dot result x ≡ (nat_lt x (12 * wm) && word_dot word (x / wm)) }
+{
+    if wm == 2 {
+        return doubled(word);
+    }
+    let mut wide = 0u64;
+    let mut dots = first_dots(wm);
+    for s in 0..12u32 {
+        wide |= picked(word, s, dots);
+        dots >>= wm;
+    }
+    wide
 }
 
 /// Nine dots out of twelve.

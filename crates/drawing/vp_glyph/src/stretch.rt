@@ -5,7 +5,7 @@ ghost use Rattle.vp_dots.specs.Painting.{Painted};
 ghost use Rattle.vp_dots.specs.Words.{word_dot};
 ghost use Rattle.vp_glyph.specs.Stretches.{StretchedBy};
 
-use crate::look::{dot_in_word, edge, inverted, paint_scaled, shared};
+use crate::look::{edge, inverted, paint_scaled, picked, shared};
 use vp_dots::{Op, first_dots, paint_word};
 
 /// The dots of a row of a cell.
@@ -45,14 +45,6 @@ fn masks(width: u32) -> [u64; 12]
         masks[s as usize] = mask(edge::<12>(s, width), edge::<12>(s + 1, width));
     }
     masks
-}
-
-/// The mask of dot s, where a word has that.
-fn picked(word: u64, s: u32, mask: u64) -> u64
-    requires { s < 64 }
-    ensures { (x : ℕ) → word_dot result x ≡ (word_dot word s && word_dot mask x) }
-{
-    if dot_in_word(word, s) { mask } else { 0 }
 }
 
 /// A word moved so many dots to the right.
