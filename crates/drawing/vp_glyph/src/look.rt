@@ -93,7 +93,7 @@ fn spread(word: u64, far: u32, mask: u64) -> u64
 
 /// The first twelve dots of a word, each drawn two dots wide.
 #[inline(always)]
-fn doubled(word: u64) -> u64
+pub fn doubled(word: u64) -> u64
     ensures { (x : ℕ) → word_dot result x ≡ (nat_lt x 24 && word_dot word (x / 2)) }
 {
     let twelve = shared(word, 0xfff0_0000_0000_0000);

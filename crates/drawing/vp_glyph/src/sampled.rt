@@ -1,5 +1,6 @@
 //! Characters of sheet A at any size.
 ghost use Rattle.std.specs.Prelude.{◌≡◌, ℕ, ◌+◌, ◌-◌, ◌*◌, ◌/◌, ◌<◌, ◌≤◌, ◌^◌, nat_le, min, ◌&&◌, pos, ◌+ℤ◌};
+ghost use Rattle.std.specs.Int.{div_ceil};
 ghost use Rattle.vp_dots.specs.Dots.{shifted};
 ghost use Rattle.vp_dots.specs.Painting.{Painted};
 ghost use Rattle.vp_glyph.specs.Sheets.{scaled_dot};
@@ -30,6 +31,7 @@ fn sampled_place(place: u32, cell: u32, size: u32) -> u32
 }
 
 /// Paints one row of a character from a place on, stretched to a width: row `source` of its cell.
+#[inline(always)]
 pub fn paint_cell(
     sheet: &Option<Sheet>,
     character: u8,
@@ -65,6 +67,27 @@ fn within(place: u128, left: u32, places: u32) -> u32
         .min(u128::from(places)) as u32
 }
 
+/// How many cells of w dots end within so many dots.
+fn whole_cells(dots: u32, w: u32) -> u32
+    requires some { 0 < w }
+    ensures { result ≡ dots / w }
+{
+    if dots < w { 0 } else { dots / w }
+}
+
+/// How many of the cells of w dots, of which there are so many, begin within so many dots.
+fn begun_cells(dots: u32, w: u32, cells: usize) -> usize
+    requires some { 0 < w }
+    requires within { dots ≤ w * cells }
+    requires fits { w * cells < 2 ^ 32 }
+    ensures { result ≡ div_ceil dots w }
+{
+    if dots == w * cells as u32 {
+        return cells;
+    }
+    dots.div_ceil(w) as usize
+}
+
 /// Of so many cells of w dots side by side, which begin at a place, the first that can be seen on a row of so
 /// many bytes, and the one behind the last.
 pub fn seen(at: i64, left: u32, w: u32, cells: usize, bytes: usize) -> (usize, usize)
@@ -85,8 +108,8 @@ pub fn seen(at: i64, left: u32, w: u32, cells: usize, bytes: usize) -> (usize, u
     };
     let wide = w * cells as u32;
     (
-        (within(from, left, wide) / w) as usize,
-        within(to, left, wide).div_ceil(w) as usize,
+        whole_cells(within(from, left, wide), w) as usize,
+        begun_cells(within(to, left, wide), w, cells),
     )
 }
 

@@ -139,6 +139,7 @@ impl Sheet {
     }
 
     /// The rows of cell c, white past the cell.
+    #[inline(always)]
     pub(crate) fn rows_of(&self, c: u8) -> &[u64]
         ensures { (x y : ℕ) → word_dot (slice_index result.now y) x ≡ glyph_dot self.now c x y }
     {
@@ -268,6 +269,7 @@ pub fn ready_in(sheet: &Option<Sheet>, c: u8, w: u32, h: u32) -> Option<Ready<'_
 }
 
 /// The rows of a cell of a sheet, none without a sheet.
+#[inline(always)]
 pub fn rows_in(sheet: &Option<Sheet>, c: u8) -> &[u64]
     ensures { (x y : ℕ) → word_dot (slice_index result.now y) x ≡ sheet_dot sheet.now c x y }
 {

@@ -5,7 +5,7 @@ ghost use Rattle.vp_dots.specs.Painting.{Painted};
 ghost use Rattle.vp_dots.specs.Words.{word_dot};
 ghost use Rattle.vp_glyph.specs.Stretches.{StretchedBy};
 
-use crate::look::{edge, inverted, paint_scaled, picked, shared};
+use crate::look::{doubled, edge, inverted, paint_scaled, picked, shared};
 use vp_dots::{Op, first_dots, paint_word};
 
 /// The dots of a row of a cell.
@@ -115,11 +115,15 @@ impl Stretch {
     }
 
     /// The first twelve dots of a word, drawn so wide.
+    #[inline(always)]
     fn of(&self, word: u64) -> u64
         requires { self.now.width ≤ 64 }
         ensures { (x : ℕ) → word_dot result x ≡ (nat_lt x self.now.width
             && word_dot word (x * 12 / self.now.width)) }
     {
+        if self.width == 2 * CELL {
+            return doubled(word);
+        }
         let mut wide = 0u64;
         for s in 0..CELL {
             wide |= picked(word, s, self.masks[s as usize]);
@@ -128,6 +132,7 @@ impl Stretch {
     }
 
     /// Paints the first twelve dots of a word from a place on.
+    #[inline(always)]
     pub fn paint(&self, word: u64, op: Op, at: i64, left: u32, row: &mut [u8])
         requires fits { left + self.now.width < 2 ^ 32 }
         ensures { Painted op (shifted at (λ x. nat_le left x && nat_lt (x - left) self.now.width

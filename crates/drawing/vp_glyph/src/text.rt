@@ -9,9 +9,10 @@ use crate::sheet::Sheet;
 use crate::stretch::Stretch;
 use vp_dots::Op;
 
-/// Paints line y of the cells of a text, each stretched to a width and drawn h dots high, from a sheet with
-/// cells of 12 by 24: those that can be seen on the row.
-pub fn paint_text(
+/// Paints line y of the cells of a text: those that can be seen on the row.
+// Inlined, so that each caller's loop knows its operation.
+#[inline(always)]
+fn paint_cells(
     sheet: &Option<Sheet>,
     text: &[u8],
     stretch: &Stretch,
@@ -34,5 +35,29 @@ pub fn paint_text(
     let (from, to) = seen(at, 0, w, text.len(), row.len());
     for k in from..to {
         paint_cell(sheet, text[k], source, stretch, op, at, w * k as u32, row);
+    }
+}
+
+/// Paints line y of the cells of a text, each stretched to a width and drawn h dots high, from a sheet with
+/// cells of 12 by 24: those that can be seen on the row.
+pub fn paint_text(
+    sheet: &Option<Sheet>,
+    text: &[u8],
+    stretch: &Stretch,
+    h: u32,
+    y: u32,
+    op: Op,
+    at: i64,
+    row: &mut [u8],
+)
+    requires some { 0 < stretch.now.width }
+    requires fits { stretch.now.width * length text.now < 2 ^ 32 }
+    ensures { Painted op (shifted at (λ x. text_dot sheet.now text.now stretch.now.width h x y)) row.old
+        row.new }
+{
+    match op {
+        Op::Black => paint_cells(sheet, text, stretch, h, y, Op::Black, at, row),
+        Op::White => paint_cells(sheet, text, stretch, h, y, Op::White, at, row),
+        Op::Flip => paint_cells(sheet, text, stretch, h, y, Op::Flip, at, row),
     }
 }

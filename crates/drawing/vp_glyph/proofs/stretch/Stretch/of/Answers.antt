@@ -1,4 +1,4 @@
-use Rattle.std.proofs.Common.{ap, ◌∙◌, arith, refl, ◌&&◌}
+use Rattle.std.proofs.Common.{ap, ◌∙◌, ◌≡◌, arith, refl, ◌&&◌, ◌*◌, ◌/◌}
 use Rattle.vp_dots.specs.Words.{word_dot}
 use Rattle.vp_glyph.proofs.Looks.{white_dot}
 use Rattle.vp_glyph.proofs.Masks.{stretch_none, stretch_more, stretch_all}
@@ -14,3 +14,8 @@ loop-s-preserved c x =
 
 pub returns : goal.returns
 returns c x = stretch_all (word_dot c.args.word) c.args.self.now.width c.loop-s.wide c.loop-s.s x (omega arith) (c.loop-s.invariant x)
+
+pub returns-then-self : goal.returns-then-self
+returns-then-self c x =
+    let half : x * 12 / 24 ≡ x / 2 = omega arith in
+    rw (c.if-self.true, half) (c.doubled.ensures x)

@@ -1,7 +1,7 @@
 use Rattle.std.proofs.Common.{arith, refl, length, sym, w64, ◌*◌}
 use Rattle.std.proofs.lemmas.Int.{to_z-of_z}
 use Rattle.vp_glyph.proofs.Sides.{side_none, side_more, text_all, text_below}
-use Rattle.vp_glyph.proofs.text.paint_text.Goals as goal
+use Rattle.vp_glyph.proofs.text.paint_cells.Goals as goal
 
 pub returns-then-y-h : goal.returns-then-y-h
 returns-then-y-h c = text_below _ _ _ _ _ _ _ _ c.if-y-h.true

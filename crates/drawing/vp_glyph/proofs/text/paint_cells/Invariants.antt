@@ -2,7 +2,7 @@ use Rattle.std.proofs.Common.{length, take}
 use Rattle.vp_dots.specs.Dots.{shifted}
 use Rattle.vp_dots.specs.Painting.{Painted}
 use Rattle.vp_glyph.proofs.Sides.{so_far}
-use Rattle.vp_glyph.proofs.text.paint_text.Given as goal
+use Rattle.vp_glyph.proofs.text.paint_cells.Given as goal
 
 -- the cells before k are painted
 abbrev pub invariant-loop-k : goal.invariant-loop-k
