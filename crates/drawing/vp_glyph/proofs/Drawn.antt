@@ -9,7 +9,7 @@ use Rattle.vp_dots.specs.Painting.{Painted}
 use Rattle.vp_dots.specs.declared.Op.{Op}
 use Rattle.vp_dots.proofs.Moves.{moved_same}
 use Rattle.vp_dots.proofs.Paints.{painted_none}
-use Rattle.vp_dots.proofs.Shifts.{shifted_none}
+use Rattle.vp_dots.proofs.Shifts.{shifted_none, shifted_same}
 use Rattle.vp_glyph.specs.Sheets.{Glyphs, sheet_dot}
 use Rattle.vp_glyph.specs.Texts.{sampled_dot}
 use Rattle.vp_glyph.proofs.Spread.{ink}
@@ -24,17 +24,23 @@ module _ (op : Op) (at : ℤ) (sheet : Option Glyphs) (c w h left y : ℕ) where
   sampled_below row l = moved_none op at (λ x. leb left x && sampled_dot sheet c w h (x - left) y) row
       (λ x. elim (cases_Bool (leb left x)) [ inl t ↦ rw (t, le-ltb y h l) (grind (arith, nat_tests)) | inr f ↦ rw f refl ])
 
-  pub sampled_drawn : (word : ℕ) (a b : List ℕ) → y < h → ((x : ℕ) → word_dot word x ≡ sheet_dot sheet c x (y * 24 / h)) → Painted op (shifted at (ink 12 (word_dot word) left w)) a b
-      → Painted op (shifted at (λ x. leb left x && sampled_dot sheet c w h (x - left) y)) a b
-  unfolding sampled_dot
-  sampled_drawn word a b l e p = moved_same op at (ink 12 (word_dot word) left w) (λ x. leb left x && sampled_dot sheet c w h (x - left) y) a b
-      (λ x. elim (cases_Bool (leb left x)) [
-        | inl t ↦ elim (cases_lt (x - left) w) [
-          | inl k ↦ rw (t, lt-ltb (x - left) w k, lt-ltb y h l, e ((x - left) * 12 / w)) refl
-          | inr g ↦ rw (t, le-ltb (x - left) w g) refl
-        ]
-        | inr f ↦ rw f refl
-      ]) p
+  module _ (word : ℕ) (l : y < h) (e : (x : ℕ) → word_dot word x ≡ sheet_dot sheet c x (y * 24 / h)) where
+    sampled_ink : (x : ℕ) → ink 12 (word_dot word) left w x ≡ (leb left x && sampled_dot sheet c w h (x - left) y)
+    unfolding sampled_dot
+    sampled_ink x = elim (cases_Bool (leb left x)) [
+      | inl t ↦ elim (cases_lt (x - left) w) [
+        | inl k ↦ rw (t, lt-ltb (x - left) w k, lt-ltb y h l, e ((x - left) * 12 / w)) refl
+        | inr g ↦ rw (t, le-ltb (x - left) w g) refl
+      ]
+      | inr f ↦ rw f refl
+    ]
+
+    pub sampled_drawn : (a b : List ℕ) → Painted op (shifted at (ink 12 (word_dot word) left w)) a b
+        → Painted op (shifted at (λ x. leb left x && sampled_dot sheet c w h (x - left) y)) a b
+    sampled_drawn a b p = moved_same op at (ink 12 (word_dot word) left w) (λ x. leb left x && sampled_dot sheet c w h (x - left) y) a b sampled_ink p
+
+    pub sampled_front : (d : ℕ) → shifted at (ink 12 (word_dot word) left w) d ≡ shifted at (λ x. leb left x && sampled_dot sheet c w h (x - left) y) d
+    sampled_front d = shifted_same at (ink 12 (word_dot word) left w) (λ x. leb left x && sampled_dot sheet c w h (x - left) y) d (λ x _. sampled_ink x)
 
 -- a character of no width
 pub sampled_narrow : (op : Op) (at : ℤ) (sheet : Option Glyphs) (c w h y : ℕ) (row : List ℕ) → w ≡ 0 → Painted op (shifted at (λ x. sampled_dot sheet c w h x y)) row row

@@ -79,10 +79,13 @@ and_assoc : (a b c : Bool) → (a && (b && c)) ≡ (a && b && c)
 and_assoc true b c = refl
 and_assoc false b c = refl
 
--- a word painted from a place on
-pub word_painted : (op : Op) (at at' : ℤ) (glyph : ℕ → Bool) (left width wide : ℕ) (a b : List ℕ) → at' ≡ at +ℤ pos left → ((x : ℕ) → word_dot wide x ≡ (ltb x width && glyph (x * 12 / width)))
-    → Painted op (shifted at' (word_dot wide)) a b → Painted op (shifted at (ink 12 glyph left width)) a b
-word_painted op at at' glyph left width wide a b e h p = painted_same op (shifted at' (word_dot wide)) (shifted at (ink 12 glyph left width)) a b
-    (λ d l. ap (λ z. shifted z (word_dot wide) d) e ∙ shift_more at left (word_dot wide) d
-    ∙ shifted_same at (λ x. leb left x && word_dot wide (x - left)) (ink 12 glyph left width) d
-    (λ x _. ap (λ t. leb left x && t) (h (x - left)) ∙ and_assoc (leb left x) (ltb (x - left) width) (glyph ((x - left) * 12 / width)))) p
+module _ (at at' : ℤ) (glyph : ℕ → Bool) (left width wide : ℕ) (e : at' ≡ at +ℤ pos left) (h : (x : ℕ) → word_dot wide x ≡ (ltb x width && glyph (x * 12 / width))) where
+  -- a word from a place on
+  pub word_placed : (d : ℕ) → shifted at' (word_dot wide) d ≡ shifted at (ink 12 glyph left width) d
+  word_placed d = ap (λ z. shifted z (word_dot wide) d) e ∙ shift_more at left (word_dot wide) d
+      ∙ shifted_same at (λ x. leb left x && word_dot wide (x - left)) (ink 12 glyph left width) d
+      (λ x _. ap (λ t. leb left x && t) (h (x - left)) ∙ and_assoc (leb left x) (ltb (x - left) width) (glyph ((x - left) * 12 / width)))
+
+  -- and painted there
+  pub word_painted : (op : Op) (a b : List ℕ) → Painted op (shifted at' (word_dot wide)) a b → Painted op (shifted at (ink 12 glyph left width)) a b
+  word_painted op a b p = painted_same op (shifted at' (word_dot wide)) (shifted at (ink 12 glyph left width)) a b (λ d l. word_placed d) p

@@ -1,5 +1,5 @@
 -- Cells side by side.
-use Rattle.std.proofs.Common.{Bool, List, Option, ap, arith, false, get_or, inl, inr, leb, length, ltb, refl, sym, take, true, pos, ℕ, ℤ, ◌+ℤ◌, ◌%◌, ◌&&◌, ◌*◌, ◌+◌, ◌-◌, ◌/◌, ◌<◌, ◌||◌, ◌∙◌, ◌≡◌, ◌≤◌}
+use Rattle.std.proofs.Common.{bit_or, Bool, List, Option, ap, arith, false, get_or, inl, inr, leb, length, ltb, refl, sym, take, true, pos, ℕ, ℤ, ◌+ℤ◌, ◌%◌, ◌&&◌, ◌*◌, ◌+◌, ◌-◌, ◌/◌, ◌<◌, ◌||◌, ◌∙◌, ◌≡◌, ◌≤◌}
 use Rattle.std.proofs.Math.Nat.{mul-le-mul_left}
 use Rattle.std.proofs.Math.Seq.{take-length}
 use Rattle.std.proofs.lemmas.List.{length-take-le, get_or-take}
@@ -7,11 +7,13 @@ use Rattle.std.proofs.lemmas.Bool.{le-ltb, lt-ltb}
 use Rattle.std.proofs.lemmas.Bool.{cases_lt, le-leb, lt-leb}
 use Rattle.vp_dots.specs.Dots.{shifted}
 use Rattle.vp_dots.specs.Painting.{Painted}
+use Rattle.vp_dots.specs.Words.{word_dot}
 use Rattle.vp_dots.specs.declared.Op.{Op}
 use Rattle.vp_dots.proofs.Moves.{moved_then, moved_same}
 use Rattle.vp_dots.proofs.Paints.{painted_none, painted_same}
-use Rattle.vp_dots.proofs.Shifts.{met}
+use Rattle.vp_dots.proofs.Shifts.{met, shifted_or}
 use Rattle.vp_glyph.proofs.Drawn.{moved_none}
+use Rattle.vp_glyph.proofs.Looks.{or_dot, white_dot}
 use Rattle.vp_glyph.proofs.Spread.{quotient}
 use Rattle.vp_glyph.specs.Sheets.{Glyphs}
 use Rattle.vp_glyph.specs.Texts.{sampled_dot, text_dot}
@@ -82,30 +84,46 @@ module _ (op : Op) (at : ℤ) (sheet : Option Glyphs) (cells : List ℕ) (k w h 
     not_yet x j = rw (le-ltb (x - left) (w * i) (omega arith), and_false (leb left x)) refl
 
     -- one cell more
+    more : (x : ℕ) → so_far sheet (take k cells) w h left y (i + 1) x ≡ (so_far sheet (take k cells) w h left y i x || leb place x && sampled_dot sheet b w h (x - place) y)
+    more x = elim (cases_lt x place) [
+      | inl j ↦ rw (lt-leb place x j) (before x j ∙ sym (or_false (so_far sheet (take k cells) w h left y i x)))
+      | inr j ↦ from_cell x j ∙ sym (rw (le-leb place x j) (ap (λ v. v || sampled_dot sheet b w h (x - place) y) (not_yet x j)))
+    ]
+
     pub side_more : (a c d : List ℕ) → Painted op (shifted at (so_far sheet (take k cells) w h left y i)) a c
         → Painted op (shifted at (λ x. leb place x && sampled_dot sheet b w h (x - place) y)) c d → Painted op (shifted at (so_far sheet (take k cells) w h left y (i + 1))) a d
-    side_more a c d p q = moved_then op at (so_far sheet (take k cells) w h left y i) (λ x. leb place x && sampled_dot sheet b w h (x - place) y) (so_far sheet (take k cells) w h left y (i + 1)) a c d p q
-        (λ x. elim (cases_lt x place) [
-          | inl j ↦ rw (lt-leb place x j) (before x j ∙ sym (or_false (so_far sheet (take k cells) w h left y i x)))
-          | inr j ↦ from_cell x j ∙ sym (rw (le-leb place x j) (ap (λ v. v || sampled_dot sheet b w h (x - place) y) (not_yet x j)))
-        ])
+    side_more a c d p q = moved_then op at (so_far sheet (take k cells) w h left y i) (λ x. leb place x && sampled_dot sheet b w h (x - place) y) (so_far sheet (take k cells) w h left y (i + 1)) a c d p q more
         (λ x. elim (cases_lt x place) [
           | inl j ↦ rw (lt-leb place x j) (and_false (so_far sheet (take k cells) w h left y i x))
           | inr j ↦ ap (λ v. v && (leb place x && sampled_dot sheet b w h (x - place) y)) (not_yet x j)
         ])
 
-  -- left of the row's first dot nothing is painted
-  pub side_none : (i : ℕ) (row : List ℕ) → ((x d : ℕ) → left ≤ x → x < left + w * i → pos d ≡ at +ℤ pos x → d < 0) → Painted op (shifted at (so_far sheet (take k cells) w h left y i)) row row
-  side_none i row n = painted_none op (shifted at (so_far sheet (take k cells) w h left y i)) row (λ d l. elim (met at d) [
-    | inl q ↦ q.2 (so_far sheet (take k cells) w h left y i) ∙ elim (cases_lt q.0 left) [
-      | inl j ↦ rw (lt-leb left q.0 j) refl
-      | inr g ↦ elim (cases_lt (q.0 - left) (w * i)) [
-        | inl u ↦ absurd (let z = n q.0 d g (omega arith) q.1 in omega arith)
-        | inr u ↦ rw (le-ltb (q.0 - left) (w * i) u, and_false (leb left q.0)) refl
+    -- in the word of a short row
+    pub front_more : (front cell new d : ℕ) → new ≡ bit_or front cell → word_dot front d ≡ shifted at (so_far sheet (take k cells) w h left y i) d
+        → word_dot cell d ≡ shifted at (λ x. leb place x && sampled_dot sheet b w h (x - place) y) d → word_dot new d ≡ shifted at (so_far sheet (take k cells) w h left y (i + 1)) d
+    front_more front cell new d n p q =
+        ap (λ v. word_dot v d) n ∙ or_dot front cell d ∙ ap (λ v. v || word_dot cell d) p ∙ ap (λ v. shifted at (so_far sheet (take k cells) w h left y i) d || v) q
+        ∙ sym (shifted_or at (so_far sheet (take k cells) w h left y i) (λ x. leb place x && sampled_dot sheet b w h (x - place) y) (so_far sheet (take k cells) w h left y (i + 1)) d more)
+
+  module _ (i : ℕ) (n : (x d : ℕ) → left ≤ x → x < left + w * i → pos d ≡ at +ℤ pos x → d < 0) where
+    -- left of the row's first dot there is nothing
+    none : (d : ℕ) → shifted at (so_far sheet (take k cells) w h left y i) d ≡ false
+    none d = elim (met at d) [
+      | inl q ↦ q.2 (so_far sheet (take k cells) w h left y i) ∙ elim (cases_lt q.0 left) [
+        | inl j ↦ rw (lt-leb left q.0 j) refl
+        | inr g ↦ elim (cases_lt (q.0 - left) (w * i)) [
+          | inl u ↦ absurd (let z = n q.0 d g (omega arith) q.1 in omega arith)
+          | inr u ↦ rw (le-ltb (q.0 - left) (w * i) u, and_false (leb left q.0)) refl
+        ]
       ]
+      | inr q ↦ q.1 (so_far sheet (take k cells) w h left y i)
     ]
-    | inr q ↦ q.1 (so_far sheet (take k cells) w h left y i)
-  ])
+
+    pub side_none : (row : List ℕ) → Painted op (shifted at (so_far sheet (take k cells) w h left y i)) row row
+    side_none row = painted_none op (shifted at (so_far sheet (take k cells) w h left y i)) row (λ d l. none d)
+
+    pub front_none : (d : ℕ) → word_dot 0 d ≡ shifted at (so_far sheet (take k cells) w h left y i) d
+    front_none d = white_dot d ∙ sym (none d)
 
   -- nor right of its last one
   pub side_all : (i to : ℕ) (a b : List ℕ) → to ≤ i → ((x d : ℕ) → left + w * to ≤ x → x < left + w * k → pos d ≡ at +ℤ pos x → 8 * length a ≤ d)

@@ -3,6 +3,7 @@ ghost use Rattle.std.specs.Prelude.{◌≡◌, ℕ, ◌+◌, ◌-◌, ◌*◌, �
 ghost use Rattle.std.specs.Int.{div_ceil};
 ghost use Rattle.vp_dots.specs.Dots.{shifted};
 ghost use Rattle.vp_dots.specs.Painting.{Painted};
+ghost use Rattle.vp_dots.specs.Words.{word_dot};
 ghost use Rattle.vp_glyph.specs.Sheets.{scaled_dot};
 ghost use Rattle.vp_glyph.specs.Texts.{sampled_dot, sampled_inside};
 
@@ -48,6 +49,26 @@ pub fn paint_cell(
 {
     let word = row_at(rows_in(sheet, character), source);
     stretch.paint(word, op, at, left, row);
+}
+
+/// The first 64 dots of a row on which one row of a character stands from a place on, stretched to a width:
+/// row `source` of its cell.
+#[inline(always)]
+pub fn cell_front(
+    sheet: &Option<Sheet>,
+    character: u8,
+    source: usize,
+    stretch: &Stretch,
+    at: i64,
+    left: u32,
+) -> u64
+    requires { left + stretch.now.width < 2 ^ 32 }
+    ensures { (h y : ℕ) → y < h → source ≡ y * 24 / h → (d : ℕ) → d < 64 → word_dot result d
+        ≡ shifted at (λ x. nat_le left x
+        && sampled_dot sheet.now character stretch.now.width h (x - left) y) d }
+{
+    let word = row_at(rows_in(sheet, character), source);
+    stretch.front(word, at, left)
 }
 
 /// Which row of a cell is shown in row y of a character that is drawn so high.

@@ -6,7 +6,7 @@ ghost use Rattle.vp_dots.specs.Words.{word_dot};
 ghost use Rattle.vp_glyph.specs.Stretches.{StretchedBy};
 
 use crate::look::{doubled, edge, inverted, paint_scaled, picked, shared};
-use vp_dots::{Op, first_dots, paint_word};
+use vp_dots::{Op, first_dots, paint_word, word_of};
 
 /// The dots of a row of a cell.
 const CELL: u32 = 12;
@@ -89,6 +89,19 @@ fn paint_moved(op: Op, word: u64, at: i64, row: &mut [u8])
     }
 }
 
+/// The first 64 dots of a row on which the first twelve dots of a word, drawn so wide in all, stand from a
+/// place on.
+#[inline(never)]
+fn scaled_front(word: u64, at: i64, left: u32, width: u32) -> u64
+    requires fits { left + width < 2 ^ 32 }
+    ensures { (d : ℕ) → d < 64 → word_dot result d ≡ shifted at (λ x. nat_le left x
+        && nat_lt (x - left) width && word_dot word ((x - left) * 12 / width)) d }
+{
+    let mut bytes = [0u8; 8];
+    paint_scaled::<12>(Op::Black, at, word, left, width, &mut bytes);
+    word_of(&bytes)
+}
+
 /// The offset of what begins so many dots behind another.
 fn moved(at: i64, dots: u32) -> i64
     requires near { at <ℤ pos (2 ^ 40) }
@@ -129,6 +142,19 @@ impl Stretch {
             wide |= picked(word, s, self.masks[s as usize]);
         }
         wide
+    }
+
+    /// The first 64 dots of a row on which the first twelve dots of a word stand, from a place on.
+    #[inline(always)]
+    pub fn front(&self, word: u64, at: i64, left: u32) -> u64
+        requires fits { left + self.now.width < 2 ^ 32 }
+        ensures { (d : ℕ) → d < 64 → word_dot result d ≡ shifted at (λ x. nat_le left x
+            && nat_lt (x - left) self.now.width && word_dot word ((x - left) * 12 / self.now.width)) d }
+    {
+        if self.width > WORD || at >= FAR {
+            return scaled_front(word, at, left, self.width);
+        }
+        moved_word(self.of(word), moved(at, left))
     }
 
     /// Paints the first twelve dots of a word from a place on.

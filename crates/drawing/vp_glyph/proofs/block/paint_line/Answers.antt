@@ -9,7 +9,7 @@ pub loop-i-init : goal.loop-i-init
 loop-i-init c = record {
   behind = record { first_is = c.behind_cells-rest.ensures.first; others_are = c.behind_cells-rest.ensures.others; within = omega (arith, c.seen-from.ensures.first) };
   place_is = omega arith;
-  painted = side_none _ _ c.args.sheet.now _ c.args.line.cells c.args.stretch.now.width c.args.h c.args.left c.args.y c.requires.cells c.requires.w c.seen-from.result.0 _ c.seen-from.ensures.before;
+  painted = side_none _ _ c.args.sheet.now _ c.args.line.cells c.args.stretch.now.width c.args.h c.args.left c.args.y c.requires.cells c.requires.w c.seen-from.result.0 c.seen-from.ensures.before _;
 }
 
 pub unreachable-requires : goal.unreachable-requires

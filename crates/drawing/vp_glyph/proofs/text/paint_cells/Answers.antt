@@ -7,7 +7,7 @@ pub returns-then-y-h : goal.returns-then-y-h
 returns-then-y-h c = text_below _ _ _ _ _ _ _ _ c.if-y-h.true
 
 pub loop-k-init : goal.loop-k-init
-loop-k-init c = side_none _ _ c.args.sheet.now c.args.text.now (length c.args.text.now) c.args.stretch.now.width c.args.h 0 c.args.y (omega arith) c.requires.some c.seen-from.result.0 _ c.seen-from.ensures.before
+loop-k-init c = side_none _ _ c.args.sheet.now c.args.text.now (length c.args.text.now) c.args.stretch.now.width c.args.h 0 c.args.y (omega arith) c.requires.some c.seen-from.result.0 c.seen-from.ensures.before _
 
 pub loop-k-preserved : goal.loop-k-preserved
 loop-k-preserved c =

@@ -8,4 +8,4 @@ returns-then-y-self c = sampled_below _ _ _ _ _ _ _ _ _ c.if-y-self.true
 
 pub returns : goal.returns
 returns c = rw (sym (to_z-of_z w64 c.args.at c.ranges.at))
-    (sampled_drawn _ _ _ _ _ _ _ _ c.row_at-word.result _ _ c.if-y-self.false (λ x. rw (c.row_at-word.ensures, c.sampled_place-place.ensures) (c.rows_in.ensures x _)) c.paint_scaled.ensures)
+    (sampled_drawn _ _ _ _ _ _ _ _ c.row_at-word.result c.if-y-self.false (λ x. rw (c.row_at-word.ensures, c.sampled_place-place.ensures) (c.rows_in.ensures x _)) _ _ c.paint_scaled.ensures)

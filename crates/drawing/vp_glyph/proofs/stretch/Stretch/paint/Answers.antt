@@ -12,4 +12,4 @@ returns-then-word-eq0 c = white_word _ _ c.args.word c.args.left c.args.self.now
 pub returns : goal.returns
 returns c =
     let fits : SFits w64 c.moved.result = search rules in
-    rw (sym (to_z-of_z w64 c.args.at c.ranges.at)) (word_painted c.args.op _ _ (word_dot c.args.word) c.args.left c.args.self.now.width c.of.result _ _ (to_z-of_z w64 c.moved.result fits ∙ c.moved.ensures) c.of.ensures c.paint_moved.ensures)
+    rw (sym (to_z-of_z w64 c.args.at c.ranges.at)) (word_painted _ _ (word_dot c.args.word) c.args.left c.args.self.now.width c.of.result (to_z-of_z w64 c.moved.result fits ∙ c.moved.ensures) c.of.ensures c.args.op _ _ c.paint_moved.ensures)
