@@ -1,19 +1,21 @@
 -- Words whose dots are drawn several times as wide.
-use Rattle.std.proofs.Common.{inl, inr, ◌≡◌, ℕ, ◌+◌, ◌-◌, ◌*◌, ◌/◌, ◌%◌, ◌^◌, ◌<◌, ◌≤◌, Bool, true, false, cond, eqb, ltb, leb, ◌&&◌, ◌||◌, eq-eqb, refl, sym, ap, ◌∙◌, arith, List, ℤ, bit_and, bit_or}
-use Rattle.std.proofs.Math.Nat.{div-lt_iff_lt-mul, mul-le-mul_right}
+use Rattle.std.proofs.Common.{inl, inr, ◌≡◌, ℕ, ◌+◌, ◌-◌, ◌*◌, ◌/◌, ◌%◌, ◌^◌, ◌<◌, ◌≤◌, Bool, true, false, cond, eqb, ltb, leb, ◌&&◌, ◌||◌, eq-eqb, refl, sym, ap, ◌∙◌, arith, List, ℤ, pos, ◌+ℤ◌, bit_and, bit_or}
+use Rattle.std.proofs.Math.Nat.{div-lt_iff_lt-mul, div-mul-le_self, mul-le-mul_right}
 use Rattle.std.proofs.lemmas.Bool.{cases_Bool, cases_eq, cases_lt, and_parts, eqb-true, ne_eqb, lt-ltb, le-ltb, lt-leb, le-leb}
 use Rattle.std.proofs.lemmas.Bool.Decides.{nat_tests}
 use Rattle.vp_dots.specs.Dots.{bit, shifted, span}
 use Rattle.vp_dots.specs.Words.{word_dot}
 use Rattle.vp_dots.specs.Painting.{Painted}
 use Rattle.vp_dots.specs.declared.Op.{Op}
-use Rattle.vp_dots.proofs.Moves.{moved_same}
+use Rattle.vp_dots.proofs.Moves.{moved_same, moved_then}
+use Rattle.vp_dots.proofs.Paints.{painted_same}
 use Rattle.vp_dots.proofs.Swaps.{every, every_at}
 use Rattle.vp_dots.proofs.Words.{and_true, and_false}
 use Rattle.vp_glyph.specs.Cells.{font_width}
 use Rattle.vp_glyph.specs.declared.cell.Font.{Font}
 use Rattle.vp_glyph.specs.declared.cell.Font.TheVariants.{A, B}
 use Rattle.vp_glyph.proofs.Looks.{and_dot, or_dot}
+use Rattle.vp_glyph.proofs.Masks.{shift_more}
 use Rattle.vp_glyph.proofs.Moved.{moved_right}
 use Rattle.vp_glyph.proofs.Spread.{quotient}
 
@@ -111,7 +113,7 @@ doubled_dot word twelve eights fours twos ones new a b c d e f x = elim (cases_l
 ]
 
 -- the mask that is moved along, on which dot s falls
-pub mask_first : (wm x : ℕ) → 12 * wm ≤ 64 → ltb x wm ≡ (ltb x 64 && span (0 * wm) (0 * wm + wm) x)
+pub mask_first : (wm x : ℕ) → wm ≤ 64 → ltb x wm ≡ (ltb x 64 && span (0 * wm) (0 * wm + wm) x)
 mask_first wm x few = grind (arith, nat_tests)
 
 pub mask_moved : (dots s wm x : ℕ) → dots < 2 ^ 64 → ((y : ℕ) → word_dot dots y ≡ (ltb y 64 && span (s * wm) (s * wm + wm) y))
@@ -121,17 +123,17 @@ mask_moved dots s wm x p e = elim (cases_lt x 64) [
   | inr g ↦ rw (le-ltb x 64 g) refl
 ]
 
-module _ (word wm : ℕ) (few : 12 * wm ≤ 64) where
-  pub magnified_none : (x : ℕ) → false ≡ (ltb x (0 * wm) && word_dot word (x / wm))
-  magnified_none x = rw (le-ltb x (0 * wm) (omega arith)) refl
+pub magnified_none : (word wm x : ℕ) → false ≡ (ltb x (0 * wm) && word_dot word (x / wm))
+magnified_none word wm x = rw (le-ltb x (0 * wm) (omega arith)) refl
 
+module _ (n word wm : ℕ) (few : n * wm ≤ 64) where
   -- one more dot
-  pub magnified_more : (wide more new dots s x : ℕ) → s < 12 → word_dot wide x ≡ (ltb x (s * wm) && word_dot word (x / wm))
+  pub magnified_more : (wide more new dots s x : ℕ) → s < n → word_dot wide x ≡ (ltb x (s * wm) && word_dot word (x / wm))
       → word_dot more x ≡ (word_dot word s && word_dot dots x) → word_dot dots x ≡ (ltb x 64 && span (s * wm) (s * wm + wm) x)
       → new ≡ bit_or wide more → word_dot new x ≡ (ltb x ((s + 1) * wm) && word_dot word (x / wm))
   magnified_more wide more new dots s x h p q d e =
       let next : (s + 1) * wm ≡ s * wm + wm = omega arith in
-      let most : (s + 1) * wm ≤ 12 * wm = mul-le-mul_right wm (let j : s + 1 ≤ 12 = omega arith in j) in
+      let most : (s + 1) * wm ≤ n * wm = mul-le-mul_right wm (let j : s + 1 ≤ n = omega arith in j) in
       ap (λ n. word_dot n x) e ∙ or_dot wide more x ∙ ap (λ b. b || word_dot more x) p ∙ ap (λ b. ltb x (s * wm) && word_dot word (x / wm) || b) (q ∙ ap (λ b. word_dot word s && b) d)
       ∙ elim (cases_lt x (s * wm)) as (λ _. (ltb x (s * wm) && word_dot word (x / wm) || word_dot word s && (ltb x 64 && span (s * wm) (s * wm + wm) x)) ≡ (ltb x ((s + 1) * wm) && word_dot word (x / wm))) [
         | inl b ↦ rw (lt-ltb x (s * wm) b, lt-leb (s * wm) x b, lt-ltb x ((s + 1) * wm) (omega arith)) (neither (word_dot word (x / wm)) (word_dot word s) (ltb x 64))
@@ -170,7 +172,47 @@ same_few font word wm x h =
       | inr f ↦ rw f (and_false _ ∙ sym (and_false _))
     ]
 
+pub few_painted : (op : Op) (at : ℤ) (font : Font) (word wm : ℕ) (a b : List ℕ) → ((y : ℕ) → word_dot word y ≡ true → y < font_width font)
+    → Painted op (shifted at (λ x. ltb x (12 * wm) && word_dot word (x / wm))) a b → Painted op (shifted at (λ x. ltb x (font_width font * wm) && word_dot word (x / wm))) a b
+few_painted op at font word wm a b h p = moved_same op at (λ x. ltb x (12 * wm) && word_dot word (x / wm)) (λ x. ltb x (font_width font * wm) && word_dot word (x / wm)) a b (λ x. same_few font word wm x h) p
+
 pub magnified_painted : (op : Op) (at : ℤ) (font : Font) (word wide wm : ℕ) (a b : List ℕ) → ((y : ℕ) → word_dot word y ≡ true → y < font_width font)
     → ((x : ℕ) → word_dot wide x ≡ (ltb x (12 * wm) && word_dot word (x / wm))) → Painted op (shifted at (word_dot wide)) a b
     → Painted op (shifted at (λ x. ltb x (font_width font * wm) && word_dot word (x / wm))) a b
-magnified_painted op at font word wide wm a b h e p = moved_same op at (word_dot wide) (λ x. ltb x (font_width font * wm) && word_dot word (x / wm)) a b (λ x. e x ∙ same_few font word wm x h) p
+magnified_painted op at font word wide wm a b h e p = few_painted op at font word wm a b h (moved_same op at (word_dot wide) (λ x. ltb x (12 * wm) && word_dot word (x / wm)) a b e p)
+
+-- six dots, and six behind them
+module _ (word six wm x : ℕ) (e : (y : ℕ) → y < 64 → word_dot six y ≡ word_dot word (y + 6)) where
+  second : 6 * wm ≤ x → x < 12 * wm → word_dot six ((x - 6 * wm) / wm) ≡ word_dot word (x / wm)
+  second g l =
+      let some : 0 < wm = omega arith in
+      let low = div-mul-le_self (x - 6 * wm) wm in
+      let high : (x - 6 * wm) / wm < 6 = (div-lt_iff_lt-mul {k = wm} {x = x - 6 * wm} {y = 6} some).1 (omega arith) in
+      let past : x - 6 * wm < ((x - 6 * wm) / wm + 1) * wm = (div-lt_iff_lt-mul {k = wm} {x = x - 6 * wm} {y = (x - 6 * wm) / wm + 1} some).0 (omega arith) in
+      let q : x / wm ≡ (x - 6 * wm) / wm + 6 = quotient x wm ((x - 6 * wm) / wm + 6) some (omega arith) (omega arith) in
+      e ((x - 6 * wm) / wm) (omega arith) ∙ ap (word_dot word) (sym q)
+
+  halves : (left right : ℕ) → word_dot left x ≡ (ltb x (6 * wm) && word_dot word (x / wm)) → word_dot right (x - 6 * wm) ≡ (ltb (x - 6 * wm) (6 * wm) && word_dot six ((x - 6 * wm) / wm))
+      → (ltb x (12 * wm) && word_dot word (x / wm)) ≡ (word_dot left x || leb (6 * wm) x && word_dot right (x - 6 * wm))
+  halves left right p q = sym (ap (λ b. b || leb (6 * wm) x && word_dot right (x - 6 * wm)) p ∙ ap (λ b. ltb x (6 * wm) && word_dot word (x / wm) || leb (6 * wm) x && b) q ∙ elim (cases_lt x (6 * wm)) [
+    | inl l ↦ rw (lt-ltb x (6 * wm) l, lt-leb (6 * wm) x l, lt-ltb x (12 * wm) (omega arith)) (or_false (word_dot word (x / wm)))
+    | inr g ↦ elim (cases_lt x (12 * wm)) [
+      | inl l ↦ (let s = second g l in rw (le-ltb x (6 * wm) g, le-leb (6 * wm) x g, lt-ltb x (12 * wm) l, lt-ltb (x - 6 * wm) (6 * wm) (omega arith)) s)
+      | inr o ↦ rw (le-ltb x (6 * wm) g, le-leb (6 * wm) x g, le-ltb x (12 * wm) o, le-ltb (x - 6 * wm) (6 * wm) (omega arith)) refl
+    ]
+  ])
+
+  halves_apart : (left right : ℕ) → word_dot left x ≡ (ltb x (6 * wm) && word_dot word (x / wm)) → (word_dot left x && (leb (6 * wm) x && word_dot right (x - 6 * wm))) ≡ false
+  halves_apart left right p = elim (cases_lt x (6 * wm)) [
+    | inl l ↦ rw (lt-leb (6 * wm) x l) (and_false (word_dot left x))
+    | inr g ↦ ap (λ b. b && (leb (6 * wm) x && word_dot right (x - 6 * wm))) (p ∙ ap (λ b. b && word_dot word (x / wm)) (le-ltb x (6 * wm) g))
+  ]
+
+pub halves_painted : (op : Op) (at at' : ℤ) (word six left right wm : ℕ) (a b c : List ℕ) → at' ≡ at +ℤ pos (6 * wm) → ((y : ℕ) → y < 64 → word_dot six y ≡ word_dot word (y + 6))
+    → ((x : ℕ) → word_dot left x ≡ (ltb x (6 * wm) && word_dot word (x / wm))) → ((x : ℕ) → word_dot right x ≡ (ltb x (6 * wm) && word_dot six (x / wm)))
+    → Painted op (shifted at (word_dot left)) a b → Painted op (shifted at' (word_dot right)) b c → Painted op (shifted at (λ x. ltb x (12 * wm) && word_dot word (x / wm))) a c
+halves_painted op at at' word six left right wm a b c z e p q s t =
+    moved_then op at (word_dot left) (λ x. leb (6 * wm) x && word_dot right (x - 6 * wm)) (λ x. ltb x (12 * wm) && word_dot word (x / wm)) a b c s
+    (painted_same op (shifted at' (word_dot right)) (shifted at (λ x. leb (6 * wm) x && word_dot right (x - 6 * wm))) b c (λ d l. ap (λ m. shifted m (word_dot right) d) z ∙ shift_more at (6 * wm) (word_dot right) d) t)
+    (λ x. halves word six wm x e left right (p x) (q (x - 6 * wm)))
+    (λ x. halves_apart word six wm x e left right (p x))

@@ -7,7 +7,9 @@ ghost use Rattle.vp_dots.specs.Painting.{Painted};
 ghost use Rattle.vp_glyph.specs.Cells.{font_width, font_height, font_dot, bold_dot, cell_width, cell_height, cell_dot, cell_inside};
 
 use crate::Sheets;
-use crate::look::{emphasized, inverted, magnified, nine_of, paint_scaled, shared};
+use crate::look::{
+    FAR, emphasized, inverted, magnified, nine_of, paint_halves, paint_scaled, shared,
+};
 use crate::sheet::{dot_in, ready_in, row_at, rows_in};
 use vp_dots::{Ink, Op, Ready, WORDS, fill_moved, first_dots, paint_word};
 
@@ -222,6 +224,10 @@ impl Cell<'_> {
         }
         if 12 * wm <= 64 {
             paint_word(op, magnified(word, wm), at, row);
+            return;
+        }
+        if wm <= 10 && at < FAR {
+            paint_halves(op, at, word, wm, row);
             return;
         }
         match self.font {

@@ -1,10 +1,21 @@
 //! How a row of a character looks: its dots in a word, emphasized, inverted, or drawn at another width.
-ghost use Rattle.std.specs.Prelude.{◌≡◌, ℕ, ◌+◌, ◌-◌, ◌*◌, ◌/◌, ◌<◌, ◌≤◌, ◌^◌, nat_lt, nat_le, not, ◌&&◌, ◌||◌};
+ghost use Rattle.std.specs.Prelude.{◌≡◌, ℕ, ◌+◌, ◌-◌, ◌*◌, ◌/◌, ◌<◌, ◌≤◌, ◌^◌, nat_lt, nat_le, not, ◌&&◌, ◌||◌, pos, ◌+ℤ◌, ◌<ℤ◌};
 ghost use Rattle.vp_dots.specs.Dots.{shifted};
 ghost use Rattle.vp_dots.specs.Painting.{Painted};
 ghost use Rattle.vp_dots.specs.Words.{word_dot};
 
-use vp_dots::{Op, fill_moved, first_dots};
+use vp_dots::{Op, fill_moved, first_dots, paint_word};
+
+/// Offsets from here on lie far past any row.
+pub const FAR: i64 = 1 << 40;
+
+/// The offset of what begins so many dots behind another.
+pub fn moved(at: i64, dots: u32) -> i64
+    requires near { at <ℤ pos (2 ^ 40) }
+    ensures { result ≡ at +ℤ pos dots }
+{
+    at + i64::from(dots)
+}
 
 #[tactic(auto, using(crate::proofs::Spread::edge_within))]
 /// Where dot s begins, of N that are drawn so wide in all.
@@ -104,6 +115,23 @@ pub fn doubled(word: u64) -> u64
     spread(ones, 1, u64::MAX)
 }
 
+/// The first N dots of a word, each drawn so many dots wide.
+#[inline(always)]
+fn widened<const N: u32>(word: u64, wm: u32) -> u64
+    requires few { N ≤ 12 }
+    requires narrow { N * wm ≤ 64 }
+    requires wm { wm ≤ 10 }
+    ensures { (x : ℕ) → word_dot result x ≡ (nat_lt x (N * wm) && word_dot word (x / wm)) }
+{
+    let mut wide = 0u64;
+    let mut dots = first_dots(wm);
+    for s in 0..N {
+        wide |= picked(word, s, dots);
+        dots >>= wm;
+    }
+    wide
+}
+
 /// The first twelve dots of a word, each drawn so many dots wide.
 #[inline(always)]
 pub fn magnified(word: u64, wm: u32) -> u64
@@ -113,13 +141,17 @@ pub fn magnified(word: u64, wm: u32) -> u64
     if wm == 2 {
         return doubled(word);
     }
-    let mut wide = 0u64;
-    let mut dots = first_dots(wm);
-    for s in 0..12u32 {
-        wide |= picked(word, s, dots);
-        dots >>= wm;
-    }
-    wide
+    widened::<12>(word, wm)
+}
+
+/// Paints the first twelve dots of a word, each drawn so many dots wide: six and six.
+pub fn paint_halves(op: Op, at: i64, word: u64, wm: u32, row: &mut [u8])
+    requires near { at <ℤ pos (2 ^ 40) }
+    requires wm { wm ≤ 10 }
+    ensures { Painted op (shifted at (λ x. nat_lt x (12 * wm) && word_dot word (x / wm))) row.old row.new }
+{
+    paint_word(op, widened::<6>(word, wm), at, row);
+    paint_word(op, widened::<6>(word << 6, wm), moved(at, 6 * wm), row);
 }
 
 /// Nine dots out of twelve.

@@ -1,11 +1,11 @@
 //! The dots of a row of a character, each drawn at another width.
-ghost use Rattle.std.specs.Prelude.{◌≡◌, ℕ, ◌+◌, ◌-◌, ◌*◌, ◌/◌, ◌<◌, ◌≤◌, ◌^◌, nat_lt, nat_le, ◌&&◌, pos, ◌+ℤ◌, ◌<ℤ◌};
+ghost use Rattle.std.specs.Prelude.{◌≡◌, ℕ, ◌+◌, ◌-◌, ◌*◌, ◌/◌, ◌<◌, ◌≤◌, ◌^◌, nat_lt, nat_le, ◌&&◌};
 ghost use Rattle.vp_dots.specs.Dots.{shifted, span};
 ghost use Rattle.vp_dots.specs.Painting.{Painted};
 ghost use Rattle.vp_dots.specs.Words.{word_dot};
 ghost use Rattle.vp_glyph.specs.Stretches.{StretchedBy};
 
-use crate::look::{doubled, edge, inverted, paint_scaled, picked, shared};
+use crate::look::{FAR, doubled, edge, inverted, moved, paint_scaled, picked, shared};
 use vp_dots::{Op, first_dots, paint_word, word_of};
 
 /// The dots of a row of a cell.
@@ -13,9 +13,6 @@ const CELL: u32 = 12;
 
 /// So many dots are a word.
 const WORD: u32 = 64;
-
-/// Offsets from here on lie far past any row.
-const FAR: i64 = 1 << 40;
 
 /// Twelve dots drawn so wide in all.
 #[derive(Clone, Copy)]
@@ -100,14 +97,6 @@ fn scaled_front(word: u64, at: i64, left: u32, width: u32) -> u64
     let mut bytes = [0u8; 8];
     paint_scaled::<12>(Op::Black, at, word, left, width, &mut bytes);
     word_of(&bytes)
-}
-
-/// The offset of what begins so many dots behind another.
-fn moved(at: i64, dots: u32) -> i64
-    requires near { at <ℤ pos (2 ^ 40) }
-    ensures { result ≡ at +ℤ pos dots }
-{
-    at + i64::from(dots)
 }
 
 impl Stretch {

@@ -4,7 +4,7 @@ use Rattle.vp_dots.specs.Words.{word_dot}
 use Rattle.vp_glyph.proofs.Drawn.{magnified, moved_none}
 use Rattle.vp_glyph.proofs.Cuts.{and_white}
 use Rattle.vp_glyph.proofs.Looks.{white_dot}
-use Rattle.vp_glyph.proofs.Magnified.{magnified_painted}
+use Rattle.vp_glyph.proofs.Magnified.{few_painted, magnified_painted}
 use Rattle.vp_glyph.proofs.cell.Cell.paint_body.Goals as goal
 use Rattle.vp_glyph.specs.Cells.{font_width}
 
@@ -15,6 +15,9 @@ returns-then-word-eq0 c =
 
 pub returns-then-wm-le64 : goal.returns-then-wm-le64
 returns-then-wm-le64 c = rw (sym (to_z-of_z w64 c.args.at c.ranges.at)) (magnified_painted _ _ c.args.self.now.font c.args.word c.magnified.result _ _ _ c.requires (rw c.from-wm.ensures at c.magnified.ensures) c.paint_word-then-wm-le64.ensures)
+
+pub returns-then-at-lt-FAR : goal.returns-then-at-lt-FAR
+returns-then-at-lt-FAR c = rw (sym (to_z-of_z w64 c.args.at c.ranges.at)) (few_painted _ _ c.args.self.now.font c.args.word _ _ _ c.requires (rw c.from-wm.ensures at c.paint_halves.ensures))
 
 pub returns-in-A : goal.returns-in-A
 returns-in-A c = rw (sym (to_z-of_z w64 c.args.at c.ranges.at), c.in-A.is) (magnified _ _ 12 c.args.word c.args.self.now.style.wm _ _ (omega arith) (rw c.from-wm.ensures at c.paint_scaled.ensures))
