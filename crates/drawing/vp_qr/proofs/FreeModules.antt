@@ -235,7 +235,7 @@ row_made f rows row line s lt here before i j hi hj =
     ]
 
 -- no module of empty rows is dark
-zero_row : (n i : ℕ) → ◌≡◌ {A = ℕ} (get_or (replicate n 0) i 0) 0
+pub zero_row : (n i : ℕ) → ◌≡◌ {A = ℕ} (get_or (replicate n 0) i 0) 0
 zero_row zero i = refl
 zero_row (suc n) zero = refl
 zero_row (suc n) (suc i) = zero_row n i

@@ -14,7 +14,7 @@ pub mod Lengths
 pub mod BlockTable
 pub mod FreeModules
 pub mod Flips
-pub mod InkRuns
+pub mod InkLines
 pub mod Encodings
 pub mod Choosing
 pub mod Squares

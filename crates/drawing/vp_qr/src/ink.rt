@@ -1,18 +1,22 @@
 //! A symbol as ink: each module a square of dots.
 
-ghost use Rattle.std.specs.Prelude.{◌≡◌, ℕ, ◌+◌, ◌*◌, ◌<◌, ◌≤◌, Bool, true, false};
-ghost use Rattle.std.specs.Int.{bit_at};
+ghost use Rattle.std.specs.Prelude.{◌≡◌, ℕ, ◌*◌, ◌<◌, ◌≤◌};
 ghost use Rattle.vp_qr.specs.Places.{size};
-ghost use Rattle.vp_dots.specs.Dots.{shifted};
+ghost use Rattle.vp_dots.specs.Dots.{dot, shifted};
+ghost use Rattle.vp_dots.specs.Words.{word_dot};
+ghost use Rattle.vp_dots.specs.declared.word.TheConstants.{NARROW};
 ghost use Rattle.vp_dots.specs.Painting.{Painted};
-ghost use Rattle.vp_qr.specs.Penalty.{is_set};
 ghost use Rattle.vp_qr.specs.Inks.{line_ink};
 
+use crate::lines::only;
 use crate::mask::is_dark;
 use crate::qr::Qr;
 use crate::symbol::is_dark_at;
 use std::marker::Model;
-use vp_dots::{Ink, Op, fill_moved};
+use vp_dots::{Ink, NARROW, Op, first_dots, paint_into, paint_narrow};
+
+/// The bytes of a line of the largest symbol at the largest scale, and as many more as a word is painted on.
+const LINE_BYTES: usize = 120;
 
 /// A symbol as ink, without a quiet zone: (17 + 4 * version) * scale dots in a row and in a column.
 #[derive(Clone, Copy)]
@@ -54,21 +58,39 @@ impl Qr {
     }
 }
 
-/// The end of the dark run that begins at a module.
-fn run_end(line: u64, start: u32, size: u32) -> u32
-    requires size { size ≤ 57 }
-    requires start { start < size }
-    requires dark { is_set line start ≡ true }
-    ensures some { start < result }
-    ensures within { result ≤ size }
-    ensures dark { (j : ℕ) → start ≤ j → j < result → is_set line j ≡ true }
+/// The dots of the first modules of a line, as a word.
+fn modules_word(line: u64, modules: u32, scale: u32) -> u64
+    requires some { 0 < scale }
+    requires most { scale ≤ 16 }
+    requires narrow { modules * scale ≤ NARROW }
+    ensures { (x : ℕ) → word_dot result x ≡ line_ink line modules scale x }
 {
-    for end in start + 1..size {
-        if !is_dark(line, end as usize) {
-            return end;
-        }
+    let module = first_dots(scale);
+    let mut word = 0;
+    for column in 0..modules {
+        let has = is_dark(line, column as usize);
+        word |= only(has, module >> (column * scale));
     }
-    size
+    word
+}
+
+/// The dots of a line of modules.
+fn line_dots(line: u64, size: u32, scale: u32) -> [u8; LINE_BYTES]
+    requires size { size ≤ 57 }
+    requires some { 0 < scale }
+    requires most { scale ≤ 16 }
+    ensures { (x : ℕ) → dot result x ≡ line_ink line size scale x }
+{
+    let mut dots = [0; LINE_BYTES];
+    let most = NARROW / scale;
+    let mut column = 0;
+    while column < size {
+        let modules = most.min(size - column);
+        let word = modules_word(line >> column, modules, scale);
+        paint_narrow(Op::Black, word, (column * scale) as usize, &mut dots);
+        column += modules;
+    }
+    dots
 }
 
 impl Ink for QrInk {
@@ -113,21 +135,13 @@ impl Ink for QrInk {
     }
 }
 
-/// Paints a line of modules, run by run.
+/// Paints a line of modules.
 fn paint_line(line: u64, size: u32, scale: u32, op: Op, at: i64, row: &mut [u8])
     requires size { size ≤ 57 }
     requires some { 0 < scale }
     requires most { scale ≤ 16 }
     ensures { Painted op (shifted at (line_ink line size scale)) row.old row.new }
 {
-    let mut column = 0;
-    while column < size {
-        if !is_dark(line, column as usize) {
-            column += 1;
-            continue;
-        }
-        let end = run_end(line, column, size);
-        fill_moved(op, at, column * scale, end * scale, row);
-        column = end;
-    }
+    let dots = line_dots(line, size, scale);
+    paint_into(op, &dots, at, row);
 }

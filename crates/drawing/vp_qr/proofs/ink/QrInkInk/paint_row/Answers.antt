@@ -3,7 +3,7 @@ use Rattle.std.proofs.lemmas.Int.{to_z-of_z}
 use Rattle.vp_dots.specs.Dots.{shifted}
 use Rattle.vp_dots.specs.Painting.{Painted}
 use Rattle.vp_qr.specs.Inks.{ScaledSymbol, ink_of}
-use Rattle.vp_qr.proofs.InkRuns.{line_painted}
+use Rattle.vp_qr.proofs.InkLines.{line_painted}
 use Rattle.vp_qr.proofs.ink.QrInkInk.paint_row.Goals as goal
 
 pub returns : goal.returns

@@ -1,6 +1,6 @@
 use Rattle.std.proofs.Common.{◌≡◌, ◌-◌, subst}
 use Rattle.vp_qr.specs.Inks.{ScaledSymbol, ink_of}
-use Rattle.vp_qr.proofs.InkRuns.{ink_repeats}
+use Rattle.vp_qr.proofs.InkLines.{ink_repeats}
 use Rattle.vp_qr.proofs.ink.QrInkInk.repeats.Goals as goal
 
 pub returns : goal.returns
