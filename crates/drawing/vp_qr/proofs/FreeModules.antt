@@ -39,10 +39,10 @@ narrower a b false false c d ha hb h = rw (ha refl, hb refl) (none d)
     none true = refl
     none false = refl
 
-finder_corner : (s i j : ℕ) → corner s i j ≡ false → finder s i j ≡ false
+pub finder_corner : (s i j : ℕ) → corner s i j ≡ false → finder s i j ≡ false
 finder_corner s i j h = narrower (ltb i 8) (ltb j 8) (ltb i 9) (ltb j 9) (leb (s - 8) j) (leb (s - 8) i) (small i) (small j) h
 
-dark_corner : (s i j : ℕ) → corner s i j ≡ false → (eqb i (s - 8) && eqb j 8) ≡ false
+pub dark_corner : (s i j : ℕ) → corner s i j ≡ false → (eqb i (s - 8) && eqb j 8) ≡ false
 dark_corner s i j h =
     elim (cases_Bool (eqb i (s - 8) && eqb j 8)) [
       | inr apart ↦ apart
@@ -112,41 +112,6 @@ line_module v format code m i j f =
     turned true false = refl
     turned false true = refl
     turned false false = refl
-
--- what is reserved and none of the others is the dark module, or of the format
-last_tests : (dk co x z : Bool) → (co || false || false || false || false) ≡ true → z ≡ false → ((co || false || false || false || false) && cond dk true (cond co z x)) ≡ dk
-last_tests dk false x z h e = clash (sym h)
-last_tests true true x z h e = refl
-last_tests false true x z h e = e
-
-last_of : (fi r c al ve dk co : Bool) (p q t a v x z : Bool) → (co || r || c || al || ve) ≡ true → fi ≡ false → r ≡ false → c ≡ false → al ≡ false → ve ≡ false → z ≡ false
-    → ((co || r || c || al || ve) && cond fi p (cond r q (cond c t (cond al a (cond ve v (cond dk true (cond co z x))))))) ≡ dk
-last_of fi r c al ve dk co p q t a v x z h f1 f2 f3 f4 f5 e = rw (f1, f2, f3, f4, f5) (last_tests dk co x z (rw (f2, f3, f4, f5) at h) e)
-
-pub last_pattern : (v code i j : ℕ) → reserved v i j ≡ true → finder (size v) i j ≡ false → eqb i 6 ≡ false → eqb j 6 ≡ false → alignment v i j ≡ false → version_area v i j ≡ false
-    → pattern_dark v code i j ≡ (eqb i (size v - 8) && eqb j 8)
-unfolding pattern_dark reserved module_at
-last_pattern v code i j h f1 f2 f3 f4 f5 =
-    let s : ℕ = size v in
-    last_of (finder s i j) (eqb i 6) (eqb j 6) (alignment v i j) (version_area v i j) (eqb i (s - 8) && eqb j 8) (corner s i j)
-    (finder_dark s i j) (eqb (j % 2) 0) (eqb (i % 2) 0) (alignment_dark v i j) (eqb (bit_at code (version_bit s i j)) 1) (differ false (eqb (formula 0 i j) 0)) (eqb (bit_at 0 (format_bit s i j)) 1)
-    h f1 f2 f3 f4 f5 (ap (λ n. eqb n 1) (bit_at-zero (format_bit s i j)))
-
--- data modules have no pattern
-pub free_without_pattern : (v code i j : ℕ) → true ≡ not (reserved v i j) → pattern_dark v code i j ≡ false
-unfolding pattern_dark
-free_without_pattern v code i j h = ap (λ t. t && module_at v 0 code 0 (λ i j. false) i j) (none (reserved v i j) h)
-  where
-    none : (b : Bool) → true ≡ not b → b ≡ false
-    none true e = cc
-    none false e = refl
-
-pub reserved_place : (v i j : ℕ) → false ≡ not (reserved v i j) → reserved v i j ≡ true
-reserved_place v i j h = some (reserved v i j) h
-  where
-    some : (b : Bool) → false ≡ not b → b ≡ true
-    some true e = refl
-    some false e = cc
 
 -- the format stands beside the finders
 pub format_corner : (v i j : ℕ) → format_here v i j ≡ true → corner (size v) i j ≡ true

@@ -13,6 +13,7 @@ pub mod Writing
 pub mod Lengths
 pub mod BlockTable
 pub mod FreeModules
+pub mod ShapeLines
 pub mod Flips
 pub mod InkLines
 pub mod Encodings

@@ -8,7 +8,8 @@
 //! - `level`, `interleave`: the blocks of each version and level, and the order of their codewords
 //! - `field`, `check`: the field of 256 elements, and the check codewords of a block
 //! - `lines`, `walk`: the modules that hold data, row by row, and in the order of their bits
-//! - `code`, `symbol`: format and version, and the finished modules by cases on the place
+//! - `shapes`: the dark modules of the finders, the timing and alignment patterns and the version
+//! - `code`, `symbol`: the codes of format and version, and the finished modules
 //! - `mask`: the penalty of a symbol, by which its mask is chosen
 //! - `qr`, `ink`: the symbol, and its dots
 #![tactic(auto)]
@@ -23,6 +24,7 @@ mod lines;
 mod mask;
 mod qr;
 mod segment;
+mod shapes;
 mod string;
 mod symbol;
 mod walk;

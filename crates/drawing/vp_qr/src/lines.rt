@@ -8,7 +8,7 @@ ghost use Rattle.vp_qr.specs.Symbol.{finder, format_here};
 use crate::mask::is_dark;
 
 /// The columns from one up to another.
-fn span(from: usize, to: usize) -> u64
+pub fn span(from: usize, to: usize) -> u64
     requires from { from ≤ to }
     requires to { to < 64 }
     ensures { (j : ℕ) → is_set result j ≡ (nat_le from j && nat_lt j to) }
@@ -33,7 +33,7 @@ fn near_line(centre: usize) -> u64
 }
 
 /// The finders with their separators, or with the format beside them: so many modules wide and high.
-fn corners(size: usize, wide: usize, row: usize) -> u64
+pub fn corners(size: usize, wide: usize, row: usize) -> u64
     requires low { 21 ≤ size }
     requires high { size ≤ 57 }
     requires wide { wide < 64 }
@@ -54,7 +54,7 @@ fn timing(row: usize) -> u64
 }
 
 /// The alignment patterns.
-fn alignments(version: usize, row: usize) -> u64
+pub fn alignments(version: usize, row: usize) -> u64
     requires version { version ≤ 10 }
     requires row { row < 57 }
     ensures { (j : ℕ) → j < 63 → is_set result j ≡ alignment version row j }
@@ -74,7 +74,7 @@ fn alignments(version: usize, row: usize) -> u64
 }
 
 /// The version, from version 7 on.
-fn versions(version: usize, row: usize) -> u64
+pub fn versions(version: usize, row: usize) -> u64
     requires low { 1 ≤ version }
     requires version { version ≤ 10 }
     requires row { row < 57 }

@@ -1,18 +1,10 @@
 //! The modules of a finished symbol: patterns, format and version by their places, and data under a mask.
 
 ghost use Rattle.std.specs.Prelude.{◌≡◌, ◌==◌, ◌<◌, ◌≤◌, ◌&&◌, not, ℕ, true};
-ghost use Rattle.vp_qr.specs.Places.{size, corner, alignment, version_area, reserved};
+ghost use Rattle.vp_qr.specs.Places.{size, corner, reserved};
 ghost use Rattle.vp_qr.specs.Penalty.{is_set};
 ghost use Rattle.vp_qr.specs.Symbol.{
-  apart,
-  ring,
-  finder,
-  finder_centre,
-  finder_dark,
-  alignment_centre,
-  alignment_dark,
   format_bit,
-  version_bit,
   formula,
   module_at,
   format_here,
@@ -27,76 +19,8 @@ use crate::code::{format_code, version_code};
 use crate::level::Level;
 use crate::lines::{format_line, only};
 use crate::mask::is_dark;
-use crate::walk::{fill, free_rows, is_alignment, is_near, is_version};
-
-/// The square ring round a centre on which a module lies.
-fn ring(row_centre: usize, column_centre: usize, row: usize, column: usize) -> usize
-    ensures { result ≡ ring row_centre column_centre row column }
-{
-    row_centre.abs_diff(row).max(column_centre.abs_diff(column))
-}
-
-/// A finder or its separator.
-fn is_finder(size: usize, row: usize, column: usize) -> bool
-    requires { 8 ≤ size }
-    ensures { result ≡ finder size row column }
-{
-    row < 8 && (column < 8 || size - 8 <= column) || size - 8 <= row && column < 8
-}
-
-/// The finder's centre on this side.
-fn finder_centre(size: usize, at: usize) -> usize
-    requires { 8 ≤ size }
-    ensures { result ≡ finder_centre size at }
-{
-    if at < 8 { 3 } else { size - 4 }
-}
-
-/// A module of a finder or its separator.
-#[tactic(auto, unfolding(crate::specs::Symbol::finder_dark))]
-fn is_finder_dark(size: usize, row: usize, column: usize) -> bool
-    requires { 8 ≤ size }
-    ensures { result ≡ finder_dark size row column }
-{
-    let ring = ring(
-        finder_centre(size, row),
-        finder_centre(size, column),
-        row,
-        column,
-    );
-    ring < 2 || ring == 3
-}
-
-/// The centre of an alignment pattern near this row or column.
-fn alignment_centre(version: usize, at: usize) -> usize
-    requires version { version ≤ 10 }
-    requires at { at < 57 }
-    ensures { result ≡ alignment_centre version at }
-{
-    if is_near(6, at) {
-        return 6;
-    }
-    if is_near(8 + 2 * version, at) && version >= 7 {
-        return 8 + 2 * version;
-    }
-    10 + 4 * version
-}
-
-/// A module of an alignment pattern.
-#[tactic(auto, unfolding(crate::specs::Symbol::alignment_dark))]
-fn is_alignment_dark(version: usize, row: usize, column: usize) -> bool
-    requires version { version ≤ 10 }
-    requires row { row < 57 }
-    requires column { column < 57 }
-    ensures { result ≡ alignment_dark version row column }
-{
-    ring(
-        alignment_centre(version, row),
-        alignment_centre(version, column),
-        row,
-        column,
-    ) != 1
-}
+use crate::shapes::pattern_line;
+use crate::walk::{fill, free_rows};
 
 /// A mask's formula; where it is 0 a data module is flipped.
 fn formula(mask: usize, row: usize, column: usize) -> usize
@@ -147,51 +71,6 @@ fn format_bit(size: usize, row: usize, column: usize) -> usize
     (row + 15).saturating_sub(size)
 }
 
-/// Which bit of the version stands on a module.
-fn version_bit(size: usize, row: usize, column: usize) -> usize
-    requires size { 21 ≤ size }
-    requires high { size ≤ 57 }
-    requires row { row < size }
-    requires column { column < size }
-    ensures value { result ≡ version_bit size row column }
-    ensures below { result < 400 }
-{
-    if row < 6 {
-        3 * row + column.saturating_sub(size - 11)
-    } else {
-        3 * column + row.saturating_sub(size - 11)
-    }
-}
-
-/// A module where neither data nor format stand, by the cases on its place.
-#[tactic(auto, unfolding(crate::specs::Symbol::pattern_dark, crate::specs::Symbol::module_at))]
-fn is_pattern_dark(version: usize, code: u64, row: usize, column: usize) -> bool
-    requires low { 1 ≤ version }
-    requires version { version ≤ 10 }
-    requires row { row < size version }
-    requires column { column < size version }
-    requires reserved { reserved version row column ≡ true }
-    ensures { result ≡ pattern_dark version code row column }
-{
-    let size = 17 + 4 * version;
-    if is_finder(size, row, column) {
-        return is_finder_dark(size, row, column);
-    }
-    if row == 6 {
-        return column % 2 == 0;
-    }
-    if column == 6 {
-        return row % 2 == 0;
-    }
-    if is_alignment(version, row, column) {
-        return is_alignment_dark(version, row, column);
-    }
-    if is_version(version, row, column) {
-        return bit(code, version_bit(size, row, column));
-    }
-    row == size - 8 && column == 8
-}
-
 /// Bit `at` of a code, 0 behind its highest.
 #[tactic(auto, using(crate::proofs::Bits::no_bit))]
 fn bit(code: u64, at: usize) -> bool
@@ -236,40 +115,17 @@ fn flips_by_row(mask: usize) -> [u64; 12]
     rows
 }
 
-/// The dark modules of a row where neither data nor format stand, from those that hold data.
-fn pattern_line(version: usize, code: u64, free: u64, row: usize) -> u64
+/// The dark modules where neither data nor format stand.
+fn pattern_rows(version: usize) -> [u64; 57]
     requires low { 1 ≤ version }
     requires version { version ≤ 10 }
-    requires row { row < size version }
-    requires free { (j : ℕ) → j < size version → is_set free j ≡ not (reserved version row j) }
-    ensures { (j : ℕ) → j < size version → is_set result j ≡ pattern_dark version code row j }
-{
-    let mut line = 0;
-    for column in 0..17 + 4 * version {
-        if is_dark(free, column) {
-            continue;
-        }
-        if !is_pattern_dark(version, code, row, column) {
-            continue;
-        }
-        line |= 1 << column;
-    }
-    line
-}
-
-/// The same of all rows.
-fn pattern_rows(version: usize, free: &[u64; 57]) -> [u64; 57]
-    requires low { 1 ≤ version }
-    requires version { version ≤ 10 }
-    requires free { (i j : ℕ) → i < size version → j < size version
-        → dark free.now i j ≡ not (reserved version i j) }
     ensures { (i j : ℕ) → i < size version → j < size version
         → dark result i j ≡ pattern_dark version (version_code version) i j }
 {
     let code = version_code(version);
     let mut rows = [0; 57];
     for row in 0..17 + 4 * version {
-        rows[row] = pattern_line(version, code, free[row], row);
+        rows[row] = pattern_line(version, code, row);
     }
     rows
 }
@@ -316,7 +172,7 @@ impl Grid {
         let free = free_rows(version);
         let mut unmasked = [0; 57];
         fill(&mut unmasked, &free, version, codewords);
-        let patterns = pattern_rows(version, &free);
+        let patterns = pattern_rows(version);
         let format = format_rows(version);
         Grid {
             version,

@@ -1,7 +1,7 @@
 //! The walk over the modules of a symbol, and the data bits that it places.
 
 ghost use Rattle.std.specs.Prelude.{◌≡◌, ◌<◌, ◌≤◌, ◌*◌, ◌/◌, ◌+◌, ◌-◌, ◌==◌, ◌&&◌, ◌||◌, not, ℕ, length, ◌^◌, if◌then◌else◌};
-ghost use Rattle.vp_qr.specs.Places.{size, near, corner, alignment, version_area, reserved};
+ghost use Rattle.vp_qr.specs.Places.{size, near, reserved};
 ghost use Rattle.vp_qr.specs.Blocks.{total, remainder_bits};
 ghost use Rattle.vp_qr.specs.Penalty.{is_set};
 ghost use Rattle.vp_qr.specs.Walk.{right_column, place, free_places, dark, data_bit, number_of};
@@ -41,33 +41,6 @@ pub fn is_near(centre: usize, at: usize) -> bool
     ensures { result ≡ near centre at }
 {
     centre <= at + 2 && at <= centre + 2
-}
-
-/// The version, from version 7 on.
-pub fn is_version(version: usize, row: usize, column: usize) -> bool
-    requires { version ≤ 10 }
-    ensures { result ≡ version_area version row column }
-{
-    let size = 17 + 4 * version;
-    version >= 7
-        && (row < 6 && size - 11 <= column && column < size - 8
-            || column < 6 && size - 11 <= row && row < size - 8)
-}
-
-/// An alignment pattern, at all pairs of centres but those on a finder.
-pub fn is_alignment(version: usize, row: usize, column: usize) -> bool
-    requires version { version ≤ 10 }
-    requires row { row < 57 }
-    requires column { column < 57 }
-    ensures { result ≡ alignment version row column }
-{
-    let last = 10 + 4 * version;
-    let middle = 8 + 2 * version;
-    version >= 2 && is_near(last, row) && is_near(last, column)
-        || version >= 7
-            && (is_near(middle, row)
-                && (is_near(6, column) || is_near(middle, column) || is_near(last, column))
-                || is_near(middle, column) && (is_near(6, row) || is_near(last, row)))
 }
 
 /// The modules that hold data.

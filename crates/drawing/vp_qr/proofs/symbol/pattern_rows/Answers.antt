@@ -2,7 +2,6 @@ use Rattle.std.proofs.Common.{ℕ, ◌<◌, ap, ◌∙◌, arith, length-set}
 use Rattle.vp_qr.specs.Places.{size}
 use Rattle.vp_qr.specs.Codes.{version_code}
 use Rattle.vp_qr.specs.Symbol.{pattern_dark}
-use Rattle.vp_qr.specs.Walk.{dark}
 use Rattle.vp_qr.proofs.FreeModules.{row_made}
 use Rattle.vp_qr.proofs.symbol.pattern_rows.Goals as goal
 
@@ -12,7 +11,3 @@ loop-row-preserved c = (
   row_made (λ (i j : ℕ). pattern_dark c.args.version (version_code c.args.version) i j) c.loop-row.rows c.loop-row.row c.pattern_line.result (size c.args.version) (omega arith)
       (λ (j : ℕ) (h : j < size c.args.version). c.pattern_line.ensures j h ∙ ap (λ k. pattern_dark c.args.version k c.loop-row.row j) c.version_code-code.ensures) c.loop-row.invariant.1,
 )
-
-pub pattern_line-requires-clause-free : goal.pattern_line-requires-clause-free
-unfolding dark
-pattern_line-requires-clause-free c = λ (j : ℕ) (h : j < size c.args.version). c.requires.free c.loop-row.row j (omega arith) h
