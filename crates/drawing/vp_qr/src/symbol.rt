@@ -22,24 +22,6 @@ use crate::mask::is_dark;
 use crate::shapes::pattern_line;
 use crate::walk::{fill, free_rows};
 
-/// A mask's formula; where it is 0 a data module is flipped.
-fn formula(mask: usize, row: usize, column: usize) -> usize
-    requires row { row < 57 }
-    requires column { column < 57 }
-    ensures { result ≡ formula mask row column }
-{
-    match mask {
-        0 => (row + column) % 2,
-        1 => row % 2,
-        2 => column % 3,
-        3 => (row + column) % 3,
-        4 => (row / 2 + column / 3) % 2,
-        5 => row * column % 2 + row * column % 3,
-        6 => (row * column % 2 + row * column % 3) % 2,
-        _ => ((row + column) % 2 + row * column % 3) % 2,
-    }
-}
-
 /// Which bit of the format stands on a module.
 fn format_bit(size: usize, row: usize, column: usize) -> usize
     requires size { 21 ≤ size }
@@ -89,30 +71,41 @@ pub fn is_dark_at(grid: &[u64; 57], row: usize, column: usize) -> bool
     is_dark(grid[row], column)
 }
 
-/// The columns in which a mask flips a row's data modules. They repeat after six.
+/// The columns, bit by bit, in which each mask flips data modules: the first six of its first twelve rows, after
+/// which they repeat.
+const FLIPS: [[u64; 12]; 8] = [
+    [
+        0x15, 0x2a, 0x15, 0x2a, 0x15, 0x2a, 0x15, 0x2a, 0x15, 0x2a, 0x15, 0x2a,
+    ],
+    [
+        0x3f, 0x00, 0x3f, 0x00, 0x3f, 0x00, 0x3f, 0x00, 0x3f, 0x00, 0x3f, 0x00,
+    ],
+    [
+        0x09, 0x09, 0x09, 0x09, 0x09, 0x09, 0x09, 0x09, 0x09, 0x09, 0x09, 0x09,
+    ],
+    [
+        0x09, 0x24, 0x12, 0x09, 0x24, 0x12, 0x09, 0x24, 0x12, 0x09, 0x24, 0x12,
+    ],
+    [
+        0x07, 0x07, 0x38, 0x38, 0x07, 0x07, 0x38, 0x38, 0x07, 0x07, 0x38, 0x38,
+    ],
+    [
+        0x3f, 0x01, 0x09, 0x15, 0x09, 0x01, 0x3f, 0x01, 0x09, 0x15, 0x09, 0x01,
+    ],
+    [
+        0x3f, 0x07, 0x1b, 0x15, 0x2d, 0x31, 0x3f, 0x07, 0x1b, 0x15, 0x2d, 0x31,
+    ],
+    [
+        0x15, 0x38, 0x31, 0x2a, 0x07, 0x0e, 0x15, 0x38, 0x31, 0x2a, 0x07, 0x0e,
+    ],
+];
+
+/// The columns in which a mask flips a row's data modules.
 fn flips(mask: usize, row: usize) -> u64
-    requires { row < 57 }
+    requires { mask < 8 }
     ensures { (j : ℕ) → j < 57 → is_set result j ≡ (formula mask row j == 0) }
 {
-    let mut six = 0;
-    for column in 0..6 {
-        if formula(mask, row, column) != 0 {
-            continue;
-        }
-        six |= 1 << column;
-    }
-    six * 0x0041_0410_4104_1041
-}
-
-/// The same of the first twelve rows, after which they repeat.
-fn flips_by_row(mask: usize) -> [u64; 12]
-    ensures { (i j : ℕ) → i < 12 → j < 57 → dark result i j ≡ (formula mask i j == 0) }
-{
-    let mut rows = [0; 12];
-    for row in 0..12usize {
-        rows[row] = flips(mask, row);
-    }
-    rows
+    FLIPS[mask][row % 12] * 0x0041_0410_4104_1041
 }
 
 /// The dark modules where neither data nor format stand.
@@ -225,15 +218,15 @@ impl Grid {
     }
 
     /// A row of the finished symbol: the data under the mask, the patterns and the format.
-    fn line(&self, format: u64, flips: &[u64; 12], row: usize) -> u64
+    fn line(&self, format: u64, mask: usize, row: usize) -> u64
         requires grid { IsGrid self.now }
+        requires mask { mask < 8 }
         requires row { row < size self.now.version }
-        ensures { (mask : ℕ) → ((i j : ℕ) → i < 12 → j < 57 → dark flips.now i j ≡ (formula mask i j == 0))
-            → (j : ℕ) → j < size self.now.version → is_set result j
+        ensures { (j : ℕ) → j < size self.now.version → is_set result j
             ≡ module_at self.now.version format (version_code self.now.version) mask
             (dark self.now.unmasked) row j }
     {
-        let flipped = (self.unmasked[row] ^ flips[row % 12]) & self.free[row];
+        let flipped = (self.unmasked[row] ^ flips(mask, row)) & self.free[row];
         flipped | self.patterns[row] | self.format_bits(format, row)
     }
 
@@ -246,10 +239,9 @@ impl Grid {
             (version_code self.now.version) mask (dark self.now.unmasked) i j }
     {
         let format = format_code(level, mask);
-        let flips = flips_by_row(mask);
         let mut rows = [0; 57];
         for row in 0..17 + 4 * self.version {
-            rows[row] = self.line(format, &flips, row);
+            rows[row] = self.line(format, mask, row);
         }
         rows
     }

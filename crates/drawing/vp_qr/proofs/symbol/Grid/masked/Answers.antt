@@ -10,7 +10,7 @@ pub loop-row-preserved : goal.loop-row-preserved
 loop-row-preserved c = (
   length-set c.loop-row.rows c.loop-row.row c.line.result ∙ c.loop-row.invariant.0,
   row_made (module_at c.args.self.now.version c.format_code-format.result (version_code c.args.self.now.version) c.args.mask (dark c.args.self.now.unmasked))
-      c.loop-row.rows c.loop-row.row c.line.result (size c.args.self.now.version) (omega arith) (c.line.ensures c.args.mask c.flips_by_row-flips.ensures) c.loop-row.invariant.1,
+      c.loop-row.rows c.loop-row.row c.line.result (size c.args.self.now.version) (omega arith) c.line.ensures c.loop-row.invariant.1,
 )
 
 pub returns : goal.returns
