@@ -4,6 +4,7 @@ pub mod Multiples
 pub mod WalkOrder
 pub mod Bits
 pub mod Filling
+pub mod PairRows
 pub mod Modules
 pub mod RowParts
 pub mod Runs

@@ -195,6 +195,24 @@ module _ (v : ℕ) (low : 1 ≤ v) (high : v ≤ 10) (pair step : ℕ) (hp : pai
       let upto : 2 * size v * suc pair ≤ 2 * size v * ((size v - 1) / 2) = mul-le-mul_left (2 * size v) (omega arith) in
       omega (arith, all, upto, mul-suc (2 * size v) pair)
 
+-- the two modules of row number `half` of a pair
+module _ (v : ℕ) (low : 1 ≤ v) (high : v ≤ 10) (pair half : ℕ) (hp : pair < (size v - 1) / 2) (hs : half < size v) (up : Bool) (right : ℕ) (e : right ≡ right_column ((size v - 1) / 2 - 1 - pair)) (f : eqb (((size v - 1) / 2 - 1 - pair) % 2) 1 ≡ up) where
+  abbrev in_row : ℕ → ℕ → Place
+  in_row rows column = record { row = cond up (size v - 1 - rows) rows; column = column }
+
+  pub right_here : in_row half right ≡ place (size v) (2 * size v * pair + 2 * half)
+  right_here =
+      let rows : half ≡ 2 * half / 2 = omega arith in
+      let column : right ≡ right - 2 * half % 2 = omega arith in
+      ap (λ n. in_row n right) rows ∙ ap (in_row (2 * half / 2)) column ∙ place_here v low high pair (2 * half) hp (omega arith) up right e f
+
+  pub left_here : in_row half (right - 1) ≡ place (size v) (2 * size v * pair + 2 * half + 1)
+  left_here =
+      let rows : half ≡ (2 * half + 1) / 2 = omega arith in
+      let column : right - 1 ≡ right - (2 * half + 1) % 2 = omega arith in
+      let number : 2 * size v * pair + (2 * half + 1) ≡ 2 * size v * pair + 2 * half + 1 = omega arith in
+      ap (λ n. in_row n (right - 1)) rows ∙ ap (in_row ((2 * half + 1) / 2)) column ∙ place_here v low high pair (2 * half + 1) hp (omega arith) up right e f ∙ ap (place (size v)) number
+
 pub steps_of_pairs : (v : ℕ) → 1 ≤ v → v ≤ 10 → steps (size v) ≤ 2 * size v * ((size v - 1) / 2)
 steps_of_pairs v low high = leb-true _ _ (for_version (λ n. leb (steps (size n)) (2 * size n * ((size n - 1) / 2))) refl v low high)
 
