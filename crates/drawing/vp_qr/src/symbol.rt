@@ -71,8 +71,8 @@ pub fn is_dark_at(grid: &[u64; 57], row: usize, column: usize) -> bool
     is_dark(grid[row], column)
 }
 
-/// The columns, bit by bit, in which each mask flips data modules: the first six of its first twelve rows, after
-/// which they repeat.
+/// The columns, bit by bit, in which each mask flips data modules: the first six of its first twelve rows,
+/// for they repeat.
 const FLIPS: [[u64; 12]; 8] = [
     [
         0x15, 0x2a, 0x15, 0x2a, 0x15, 0x2a, 0x15, 0x2a, 0x15, 0x2a, 0x15, 0x2a,

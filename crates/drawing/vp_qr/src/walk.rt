@@ -49,8 +49,8 @@ fn right_column(pair: usize) -> usize
     if pair < 3 { 2 * pair + 1 } else { 2 * pair + 2 }
 }
 
-/// The right one of the two modules in row number `half` of a pair of columns, the pairs being counted from the
-/// right and the rows from where the walk comes in.
+/// The right one of the two modules in row number `half` of a pair of columns, the pairs being counted from
+/// the right and the rows from where the walk comes in.
 fn place_at(version: usize, pair: usize, half: usize) -> Place
     requires low { 1 ≤ version }
     requires high { version ≤ 10 }
@@ -114,8 +114,8 @@ fn behind(ahead: Ahead, n: u32) -> Ahead
     }
 }
 
-/// The next bits on the two modules of a row in a pair of columns, as bits 1 and 0, where bits of `free` say that
-/// they hold data: the right module, bit 1, comes first.
+/// The next bits on the two modules of a row in a pair of columns, as bits 1 and 0, where bits of `free` say
+/// that they hold data: the right module, bit 1, comes first.
 fn bits_for(free: u64, word: u64) -> u64
     requires { free < 4 }
     ensures { (j : ℕ) → j < 64 → is_set result j ≡ (j == 1 && (is_set free 1 && word_dot word 0)
