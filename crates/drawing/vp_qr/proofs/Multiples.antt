@@ -1,5 +1,5 @@
 -- Polynomials in rows of 32 coefficients, zeros behind their last, and their multiples.
-use Rattle.std.proofs.Common.{◌≡◌, ℕ, zero, suc, ◌+◌, ◌-◌, ◌*◌, ◌/◌, ◌%◌, ◌<◌, ◌≤◌, List, [], ◌∷◌, ◌++◌, length, replicate, drop, take, refl, sym, ap, ◌∙◌, subst, arith, bit_xor, get_or, set, get_or-set_same, get_or-set_other, cond, eqb, inl, inr, length-append, append_assoc}
+use Rattle.std.proofs.Common.{◌≡◌, ℕ, zero, suc, ◌+◌, ◌-◌, ◌*◌, ◌/◌, ◌%◌, ◌<◌, ◌≤◌, List, [], ◌∷◌, ◌++◌, length, replicate, drop, take, refl, sym, ap, ◌∙◌, subst, arith, bit_xor, get_or, set, get_or-set_same, get_or-set_other, cond, eqb, inl, inr, length-append, append_assoc, length-set}
 use Rattle.std.proofs.lemmas.List.{length-replicate, get_or-drop, drop_all, length-drop, ext_get_or, get_or-replicate, drop-append-le, replicate-append-replicate}
 use Rattle.std.proofs.lemmas.Bool.{cases_lt, cases_eq}
 use Rattle.std.proofs.Math.Seq.{take-append_seam}
@@ -166,6 +166,30 @@ multiple_more f half low new hf hl hn bytes is terms =
     ∙ ap (λ (l : List ℕ). bit_xor (doubled (get_or l k 0)) (f % 2 * get_or low k 0)) is
     ∙ ap (λ (a : ℕ). bit_xor (doubled a) (f % 2 * get_or low k 0)) (get_or-scaled (f / 2) low k)
     ∙ sym (times_half f (get_or low k 0) hf (bytes k)) ∙ sym (get_or-scaled f low k))
+
+-- the multiples of twice an element and of the next one
+pub two_multiples : (half : ℕ) (low : List ℕ) (rows : List (List ℕ)) (even odd : List ℕ) → half < 128 → length rows ≡ 256 → length low ≡ 32 → ((k : ℕ) → get_or low k 0 < 256)
+    → get_or rows 0 [] ≡ scaled 0 low → ((g : ℕ) → g < 2 * half → get_or rows g [] ≡ scaled g low)
+    → length even ≡ 32 → ((k : ℕ) → k < 32 → get_or even k 0 ≡ doubled (get_or (get_or rows half []) k 0))
+    → length odd ≡ 32 → ((k : ℕ) → k < 32 → get_or odd k 0 ≡ bit_xor (get_or even k 0) (get_or low k 0))
+    → (g : ℕ) → g < 2 * (half + 1) → get_or (set (set rows (2 * half) even) (2 * half + 1) odd) g [] ≡ scaled g low
+two_multiples half low rows even odd hf long size bytes none before even_long even_terms odd_long odd_terms =
+    let row : List ℕ = get_or rows half [] in
+    let f : ℕ → List ℕ = λ g. scaled g low in
+    let row_is : row ≡ scaled half low = elim (cases_eq half 0) [
+      | inl e ↦ ap (λ g. get_or rows g []) e ∙ none ∙ ap f (sym e)
+      | inr ne ↦ before half (omega arith)
+    ] in
+    let even_half : half ≡ 2 * half / 2 = omega arith in
+    let odd_half : half ≡ (2 * half + 1) / 2 = omega arith in
+    let even_rest : 0 ≡ 2 * half % 2 = omega arith in
+    let odd_rest : 1 ≡ (2 * half + 1) % 2 = omega arith in
+    let even_is : even ≡ scaled (2 * half) low = multiple_more (2 * half) row low even (omega arith) size even_long bytes (row_is ∙ ap f even_half)
+    (λ k lt. even_terms k lt ∙ sym (xor_zero_r (doubled (get_or row k 0))) ∙ ap (λ n. bit_xor (doubled (get_or row k 0)) (cond (eqb n 1) (get_or low k 0) 0)) even_rest) in
+    let odd_is : odd ≡ scaled (2 * half + 1) low = multiple_more (2 * half + 1) row low odd (omega arith) size odd_long bytes (row_is ∙ ap f odd_half)
+    (λ k lt. odd_terms k lt ∙ ap (λ n. bit_xor n (get_or low k 0)) (even_terms k lt) ∙ ap (λ n. bit_xor (doubled (get_or row k 0)) (cond (eqb n 1) (get_or low k 0) 0)) odd_rest) in
+    let one = term_made f rows (2 * half) even [] (omega arith) even_is before in
+    λ g h. term_made f (set rows (2 * half) even) (2 * half + 1) odd [] (omega (arith, length-set rows (2 * half) even)) odd_is one g (omega arith)
 
 -- the register
 

@@ -1,6 +1,6 @@
 //! The check codewords of a block.
 
-ghost use Rattle.std.specs.Prelude.{◌≡◌, ℕ, ◌+◌, ◌<◌, ◌≤◌, ◌++◌, [], ◌∷◌, true, false, length, take, slice_index, slice_index_or, bit_xor, if◌then◌else◌};
+ghost use Rattle.std.specs.Prelude.{◌≡◌, ℕ, ◌+◌, ◌<◌, ◌≤◌, ◌++◌, [], ◌∷◌, length, take, slice_index, slice_index_or, bit_xor};
 ghost use Rattle.arrayvec.specs.ArrayVec.{array_vec_len};
 ghost use Rattle.vp_qr.specs.Field.{doubled, times, power};
 ghost use Rattle.vp_qr.specs.Polynomial.{value_at, scaled, check_of};
@@ -58,23 +58,37 @@ pub fn multiples(n: usize) -> [[u8; 32]; 256]
 {
     let low = generator_low(n);
     let mut rows = [[0; 32]; 256];
-    for f in 1..256usize {
-        rows[f] = multiple(&rows[f / 2], &low, f % 2 == 1);
+    for half in 0..128usize {
+        let even = doubled_row(&rows[half]);
+        rows[2 * half] = even;
+        rows[2 * half + 1] = sum(&even, &low);
     }
     rows
 }
 
-/// A multiple from that of half the element: doubled, and where the element is odd the row once more.
-fn multiple(half: &[u8; 32], low: &[u8; 32], odd: bool) -> [u8; 32]
+/// Each coefficient of a row times x.
+fn doubled_row(row: &[u8; 32]) -> [u8; 32]
+    ensures len { length result ≡ 32 }
+    ensures terms { (k : ℕ) → k < 32 → slice_index result k ≡ doubled (slice_index row.now k) }
+{
+    let mut next = [0; 32];
+    for k in 0..32usize {
+        next[k] = doubled_byte(row[k]);
+    }
+    next
+}
+
+/// The sum of two rows.
+fn sum(one: &[u8; 32], other: &[u8; 32]) -> [u8; 32]
     ensures len { length result ≡ 32 }
     ensures terms { (k : ℕ) → k < 32 → slice_index result k
-        ≡ bit_xor (doubled (slice_index half.now k)) (if odd then slice_index low.now k else 0) }
+        ≡ bit_xor (slice_index one.now k) (slice_index other.now k) }
 {
-    let mut row = [0; 32];
+    let mut next = [0; 32];
     for k in 0..32usize {
-        row[k] = doubled_byte(half[k]) ^ if odd { low[k] } else { 0 };
+        next[k] = one[k] ^ other[k];
     }
-    row
+    next
 }
 
 /// The coefficients of the generator below its highest.

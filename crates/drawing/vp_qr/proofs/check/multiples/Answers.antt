@@ -1,18 +1,31 @@
-use Rattle.std.proofs.Common.{[], ℕ, ◌<◌, ◌/◌, get_or, arith, ap, sym, ◌∙◌, length-set, refl, subst, length}
+use Rattle.std.proofs.Common.{ℕ, ◌*◌, ◌+◌, ◌<◌, set, length, get_or, arith, ap, sym, ◌∙◌, length-set, refl, subst}
 use Rattle.vp_qr.specs.Polynomial.{scaled}
-use Rattle.vp_qr.proofs.Multiples.{term_made, multiples_none, multiple_more, length_row, row_byte}
+use Rattle.vp_qr.proofs.Multiples.{multiples_none, two_multiples, length_row, row_byte}
 use Rattle.vp_qr.proofs.check.multiples.Goals as goal
 
-pub loop-f-init : goal.loop-f-init
-loop-f-init c = (refl, multiples_none c.args.n c.generator_low-low.result (omega (arith, c.requires)) c.generator_low-low.ensures)
+pub loop-half-init : goal.loop-half-init
+loop-half-init c = record {
+  long = refl;
+  none = multiples_none c.args.n c.generator_low-low.result (omega (arith, c.requires)) c.generator_low-low.ensures 0 (omega arith);
+  made = λ g h. absurd (omega arith);
+}
 
-pub loop-f-preserved : goal.loop-f-preserved
-loop-f-preserved c =
-    let f = c.loop-f.f in
-    let low = c.generator_low-low.result in (
-      length-set c.loop-f.rows f c.multiple.result ∙ c.loop-f.invariant.0,
-      term_made (λ (g : ℕ). scaled g low) c.loop-f.rows f c.multiple.result [] (omega (arith, c.loop-f.invariant.0))
-          (multiple_more f (get_or c.loop-f.rows (f / 2) []) low c.multiple.result (omega arith) (ap length c.generator_low-low.ensures ∙ length_row c.args.n (omega (arith, c.requires))) c.multiple.ensures.len
-          (λ k. subst (λ l. get_or l k 0 < 256) (sym c.generator_low-low.ensures) (row_byte c.args.n k)) (c.loop-f.invariant.1 (f / 2) (omega (arith, c.loop-f.auto.f))) c.multiple.ensures.terms)
-          c.loop-f.invariant.1,
-    )
+pub loop-half-preserved : goal.loop-half-preserved
+loop-half-preserved c =
+    let half = c.loop-half.half in
+    let low = c.generator_low-low.result in
+    let even = c.doubled_row-even.result in
+    let made = two_multiples half low c.loop-half.rows even c.sum.result (omega arith) c.loop-half.invariant.long
+    (ap length c.generator_low-low.ensures ∙ length_row c.args.n (omega (arith, c.requires)))
+    (λ k. subst (λ l. get_or l k 0 < 256) (sym c.generator_low-low.ensures) (row_byte c.args.n k))
+    c.loop-half.invariant.none c.loop-half.invariant.made
+    c.doubled_row-even.ensures.len c.doubled_row-even.ensures.terms c.sum.ensures.len c.sum.ensures.terms in
+    record {
+      long = length-set (set c.loop-half.rows (2 * half) even) (2 * half + 1) c.sum.result ∙ length-set c.loop-half.rows (2 * half) even ∙ c.loop-half.invariant.long;
+      none = made 0 (omega arith);
+      made = made;
+    }
+
+pub returns : goal.returns
+returns c = λ (f : ℕ) (h : f < 256).
+    c.loop-half.invariant.made f (omega arith) ∙ ap (scaled f) c.generator_low-low.ensures
