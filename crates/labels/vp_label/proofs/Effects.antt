@@ -1,5 +1,6 @@
 -- What follows from a command's effect.
-use Rattle.std.proofs.Common.{◌≡◌, ℕ, true, false, List, [], ◌∷◌, refl, Option, Some, None, Bool, ap, sym, ◌∙◌}
+use Rattle.std.proofs.Common.{◌≡◌, ℕ, true, false, List, [], ◌∷◌, refl, Some, None, Bool, ap, sym, ◌∙◌, inl, inr}
+use Rattle.std.proofs.lemmas.Bool.{cases_Bool}
 use Rattle.vp_dots.specs.declared.fault.Fault.{Fault}
 use Rattle.vp_glyph.specs.declared.Sheets.{Sheets}
 use Rattle.vp_zpl.specs.Spelling.{Kept}
@@ -12,9 +13,9 @@ use Rattle.vp_format.specs.declared.field.Field.{Field}
 use Rattle.vp_label_settings.specs.Formats.{is_open, is_open_by, stored, stored_by}
 use Rattle.vp_label_settings.specs.Refusals.{head_refusal}
 use Rattle.vp_label.specs.declared.gathered.Effect.TheVariants.{Sets, Begins, Closes, Prints}
-use Rattle.vp_label.specs.Effects.{effect_of, unless_refused}
+use Rattle.vp_label.specs.Effects.{effect_of}
 use Rattle.vp_label.specs.Entries.{entries, entries_by, closed}
-use Rattle.vp_label.specs.Refusals.{command_refusal}
+use Rattle.vp_label.specs.Refusals.{command_refusal, refusal}
 use Rattle.vp_label.specs.Prints.{prints_by, unless_empty, label_image}
 use Rattle.vp_field.specs.declared.view.View.{View}
 use Rattle.vp_label.specs.Gathered.{Holds}
@@ -28,59 +29,59 @@ use Rattle.std.proofs.Common.{arith}
 pub record OnlySets (sheets : Sheets) (before : List Item) (command : Command) : Type 0 where
   pub fields : entries_by (closed sheets before) command (entries sheets before) ≡ entries sheets before
   pub stored : stored_by command (stored before) ≡ stored before
-  pub refusal : command_refusal sheets before command ≡ None
+  pub refusal : command_refusal sheets before command ≡ head_refusal (is_open before) command
   pub prints : prints_by sheets before command ≡ []
 
-accepted : (o : Option Fault) → unless_refused o ≡ Sets → o ≡ None
-accepted None e = refl
-accepted (Some fault) e = cc
-
-pub sets : (sheets : Sheets) (before : List Item) (command : Command) → is_open before ≡ true → effect_of true command ≡ Sets → OnlySets sheets before command
-sets sheets before FieldSeparator so e = cc
-sets sheets before FormatEnd so e = cc
-sets sheets before (Graphic format sent bytes row) so e = record { fields = refl; stored = refl; refusal = rw so (accepted (head_refusal true (Graphic format sent bytes row)) e); prints = refl }
-sets sheets before _ so e = record { fields = refl; stored = refl; refusal = rw so refl; prints = refl }
+pub sets : (sheets : Sheets) (before : List Item) (command : Command) → effect_of true command ≡ Sets → OnlySets sheets before command
+sets sheets before FieldSeparator e = cc
+sets sheets before FormatEnd e = cc
+sets sheets before _ e = record { fields = refl; stored = refl; refusal = refl; prints = refl }
 
 -- outside a format only ^XA begins one
 pub stays : (command : Command) → effect_of false command ≡ Sets → is_open_by command false ≡ false
 stays FormatStart e = cc
 stays _ e = refl
 
-refused_not : (o : Option Fault) → unless_refused o ≡ Closes → ⊥
-refused_not None e = cc
-refused_not (Some f) e = cc
-
 pub closes : (opened : Bool) (command : Command) → effect_of opened command ≡ Closes → (opened ≡ true) × (command ≡ FieldSeparator)
 closes false FormatStart e = cc
 closes false _ e = cc
 closes true FieldSeparator e = (refl, refl)
 closes true FormatEnd e = cc
-closes true (Graphic format sent bytes row) e = absurd (refused_not (head_refusal true (Graphic format sent bytes row)) e)
 closes true _ e = cc
-
-refused_nor : (o : Option Fault) → unless_refused o ≡ Prints → ⊥
-refused_nor None e = cc
-refused_nor (Some f) e = cc
 
 pub ends : (opened : Bool) (command : Command) → effect_of opened command ≡ Prints → (opened ≡ true) × (command ≡ FormatEnd)
 ends false FormatStart e = cc
 ends false _ e = cc
 ends true FieldSeparator e = cc
 ends true FormatEnd e = (refl, refl)
-ends true (Graphic format sent bytes row) e = absurd (refused_nor (head_refusal true (Graphic format sent bytes row)) e)
 ends true _ e = cc
-
-refused_begins : (o : Option Fault) → unless_refused o ≡ Begins → ⊥
-refused_begins None e = cc
-refused_begins (Some f) e = cc
 
 pub begins_shut : (opened : Bool) (command : Command) → effect_of opened command ≡ Begins → (opened ≡ false) × (command ≡ FormatStart)
 begins_shut false FormatStart e = (refl, refl)
 begins_shut false _ e = cc
 begins_shut true FieldSeparator e = cc
 begins_shut true FormatEnd e = cc
-begins_shut true (Graphic format sent bytes row) e = absurd (refused_begins (head_refusal true (Graphic format sent bytes row)) e)
 begins_shut true _ e = cc
+
+-- a head that is refused is that of a command that would set what is in force
+refused_sets : (opened : Bool) (command : Command) (f : Fault) → head_refusal opened command ≡ Some f → (opened ≡ true) × (effect_of true command ≡ Sets)
+refused_sets false _ f e = cc
+refused_sets true (Graphic format sent bytes row) f e = (refl, refl)
+refused_sets true _ f e = cc
+
+pub head_refused : (sheets : Sheets) (before : List Item) (command : Command) (name : Name) (sent : List Kept) (f : Fault) → head_refusal (is_open before) command ≡ Some f →
+    refusal sheets before (Given command name sent) ≡ Some f
+head_refused sheets before command name sent f e =
+    let so = refused_sets (is_open before) command f e in
+    let s = sets sheets before command so.1 in
+    rw so.0 (s.refusal ∙ e)
+
+pub head_taken : (sheets : Sheets) (before : List Item) (command : Command) (name : Name) (sent : List Kept) → effect_of (is_open before) command ≡ Sets → head_refusal (is_open before) command ≡ None →
+    refusal sheets before (Given command name sent) ≡ None
+head_taken sheets before command name sent effect e = elim (cases_Bool (is_open before)) [
+  | inl so ↦ let s = sets sheets before command (rw so at effect) in rw so (s.refusal ∙ e)
+  | inr shut ↦ rw shut refl
+]
 
 -- where no format is open, no field is kept
 ended : (sheets : Sheets) (opened : Bool) (name : Name) (sent : List Kept) (before : List Item) → is_open before ≡ opened →
@@ -98,7 +99,7 @@ idle sheets (Given _ name sent ∷ before) shut = rw shut (idle sheets before sh
 holds_by : (opened : Bool) (sheets : Sheets) (before : List Item) (held : Held) (command : Command) (name : Name) (sent : List Kept) → is_open before ≡ opened → effect_of (is_open before) command ≡ Sets →
     (is_open before ≡ true → Holds sheets before held) → is_open (Given command name sent ∷ before) ≡ true → Holds sheets (Given command name sent ∷ before) held
 holds_by true sheets before held command name sent o e h so =
-    let s = sets sheets before command o (rw o at e) in
+    let s = sets sheets before command (rw o at e) in
     let now = h o in
     record { fields = now.fields ∙ sym (rw o s.fields); stored = now.stored ∙ sym (rw o s.stored); kept = now.kept; few = now.few }
 holds_by false sheets before held command name sent o e h so =

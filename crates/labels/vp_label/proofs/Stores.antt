@@ -1,9 +1,6 @@
 -- Data that are stored, or find no room.
 use Rattle.std.proofs.Common.{◌≡◌, ◌+◌, ◌∙◌, ◌<◌, ◌≤◌, ℕ, true, false, List, [], ◌∷◌, ◌++◌, length, arith, refl, length-append, Some, None, Bool, ◌&&◌, ap, inl, inr, sym, append_assoc}
-use Rattle.std.specs.Prelude.{nat_le, not, ◌||◌}
-use Rattle.std.proofs.lemmas.Bool.Decides.{nat_tests}
-use Rattle.std.specs.Result.{IsOk, OnOk}
-use Rattle.std.specs.Prelude.{Result, Ok, Err}
+use Rattle.std.specs.Prelude.{nat_le}
 use Rattle.std.proofs.lemmas.List.{append-nil}
 use Rattle.std.proofs.lemmas.Bool.{cases_Bool, cases_lt, le-leb, lt-leb}
 use Rattle.vp_dots.specs.declared.fault.Fault.{Fault}
@@ -35,14 +32,6 @@ all-stored before (b ∷ bytes) is_so = all-stored (Data b ∷ before) bytes is_
 fits : (opened : Bool) (n : ℕ) → n < STORED → (opened && nat_le STORED n) ≡ false
 fits true n h = lt-leb STORED n h
 fits false n h = refl
-
-pub no_room : (opened : Bool) (n : ℕ) → (not opened || nat_le n STORED) ≡ false → (opened ≡ true) × (STORED < n)
-no_room true n h = (refl, grind (arith, nat_tests))
-no_room false n h = cc
-
-pub has_room : (opened : Bool) (n : ℕ) → opened ≡ true → (not opened || nat_le n STORED) ≡ true → n ≤ STORED
-has_room true n o h = grind (arith, nat_tests)
-has_room false n o h = cc
 
 taken : (sheets : Sheets) (before : List Item) (b : ℕ) → length (stored before) < STORED → refusal sheets before (Data b) ≡ None
 taken sheets before b h = rw (fits (is_open before) (length (stored before)) h) refl
@@ -95,7 +84,3 @@ last_refused sheets before bytes byte f some = elim (cases_Bool (is_open before)
           omega (arith, ap length (all-stored (Data b ∷ before) bytes so), length-append (stored (Data b ∷ before)) bytes, ap length (one-stored before b so), length-append (stored before) (b ∷ [])) in
           refused sheets (followed_by (Data b ∷ before) (data_items bytes)) byte (open-kept (Data b ∷ before) bytes ∙ so) still ∙ rw is at some
     ]
-
-pub on_ok : {T E P : Type 0} (r : Result T E) → IsOk r → OnOk r P → P
-on_ok (Ok x) i p = p
-on_ok (Err e) i p = absurd (cc)

@@ -1,5 +1,5 @@
 -- What is gathered of the format that is open.
-use Rattle.std.specs.Prelude.{◌≡◌, ◌≤◌, ◌-◌, ℕ, true, List, length}
+use Rattle.std.specs.Prelude.{◌≡◌, ◌≤◌, ◌-◌, ℕ, true, List, length, if◌then◌else◌}
 use Rattle.std.specs.List.{All}
 use Rattle.vp_glyph.specs.declared.Sheets.{Sheets}
 use Rattle.vp_zpl.specs.Items.{Item}
@@ -41,10 +41,10 @@ pub record IsPrinted (sheets : Sheets) (g : Gathered) (before : List Item) : Typ
 abbrev pub IsGathered : Sheets → Gathered → Type 0
 IsGathered sheets g = (before : List Item) × Gathers sheets g before
 
--- so many bytes of data there is room for: what is left of the store, in which there are none outside a
--- format
+-- how many bytes of data there is room for: what is left of the store, and all of it outside a format, where
+-- data aren't stored
 abbrev pub data_room : Gathered → ℕ
-data_room g = STORED - g.in_force.stored
+data_room g = if g.in_force.is_open then STORED - length g.format.stored else STORED
 
 -- so many copies of an image with the fields of the format that has ended
 abbrev pub to_print : Sheets → Gathered → ℕ → List ℕ

@@ -1,6 +1,6 @@
 //! What is gathered of the format that is open: all that is in force, its closed fields, and the bytes stored
 //! for them.
-ghost use Rattle.std.specs.Prelude.{◌≡◌, ◌∷◌, [], List, ℕ, IfOk, OnOk, OnErr, MatchResult, None, Some, length, true, ◌==◌, ◌<◌, ◌≤◌, if◌then◌else◌};
+ghost use Rattle.std.specs.Prelude.{◌≡◌, ◌∷◌, [], List, ℕ, IfOk, IsOk, OnOk, OnErr, MatchResult, None, Some, length, true, ◌==◌, ◌<◌, ◌≤◌, if◌then◌else◌};
 ghost use Rattle.vp_glyph.specs.declared.Sheets.{Sheets};
 ghost use Rattle.vp_zpl.specs.Spelling.{Kept};
 ghost use Rattle.vp_zpl.specs.declared.name.Name.{Name};
@@ -9,7 +9,6 @@ ghost use Rattle.vp_zpl.specs.Items.{Item, data_items};
 ghost use Rattle.vp_label_settings.specs.Formats.{followed_by, is_open, stored};
 ghost use Rattle.vp_label.specs.Entries.{closed, entries, with_kept, printed_entries};
 ghost use Rattle.vp_label.specs.Refusals.{closing_refusal, first_refusal, refusal};
-ghost use Rattle.vp_label_settings.specs.Standing.{has_room};
 ghost use Rattle.vp_label.specs.Gathered.{AreKept, Gathers, IsGathered, IsPrinted, data_room, to_print};
 ghost use Rattle.vp_label.specs.Effects.{effect_of};
 ghost use Rattle.vp_label.specs.Prints.{prints};
@@ -21,7 +20,7 @@ use vp_field::stored_behind;
 use vp_format::{Format, STORED};
 use vp_glyph::Sheets;
 use vp_label_settings::InForce;
-use vp_label_settings::laws::{between_formats, in_range};
+use vp_label_settings::laws::{between_formats, data_set_nothing, in_range};
 use vp_zpl::Command;
 
 /// What is gathered of the format that is open.
@@ -42,16 +41,14 @@ pub enum Effect {
     Closes,
     /// It closes a field and prints the format (^XZ).
     Prints,
-    /// It is refused.
-    Fails(Fault),
 }
 
 impl Effect {
     /// What a command does to the format.
-    fn of(in_force: &InForce, command: Command) -> Effect
-        ensures { result ≡ effect_of in_force.now.is_open command }
+    fn of(is_open: bool, command: Command) -> Effect
+        ensures { result ≡ effect_of is_open command }
     {
-        if !in_force.is_open {
+        if !is_open {
             return match command {
                 Command::FormatStart => Effect::Begins,
                 _ => Effect::Sets,
@@ -60,10 +57,7 @@ impl Effect {
         match command {
             Command::FieldSeparator => Effect::Closes,
             Command::FormatEnd => Effect::Prints,
-            _ => match in_force.head_refusal(command) {
-                None => Effect::Sets,
-                Some(fault) => Effect::Fails(fault),
-            },
+            _ => Effect::Sets,
         }
     }
 }
@@ -79,30 +73,18 @@ impl Gathered {
         })
     }
 
-    /// How many bytes of data there is room for: outside a format, where they aren't stored, as many too.
+    /// How many bytes of data there is room for: outside a format, where they aren't stored, as many as in
+    /// one that has none.
     pub fn data_room(&self) -> usize
         ensures { result ≡ data_room self.now }
     {
-        STORED.saturating_sub(self.in_force.stored as usize)
-    }
-
-    /// Takes data that there is room for: in a format they are stored.
-    pub fn take(&mut self, bytes: &[u8])
-        requires { has_room self.old.in_force bytes.now ≡ true }
-        ensures refusal { (sheets : Sheets) (before : List Item) → Gathers sheets self.old before →
-            first_refusal sheets before (data_items bytes.now) ≡ None }
-        ensures stands { (sheets : Sheets) (before : List Item) → Gathers sheets self.old before →
-            Gathers sheets self.new (followed_by before (data_items bytes.now)) }
-        ensures some { (sheets : Sheets) → IsGathered sheets self.old → IsGathered sheets self.new }
-    {
-        if self.in_force.is_open {
-            stored_behind();
-            let _fits = self.format.keep(bytes);
+        if !self.in_force.is_open {
+            return STORED;
         }
-        self.in_force.store(bytes);
+        STORED - self.format.stored().len()
     }
 
-    /// Takes data, all of them or, where there is no room, none (`StoreFull`).
+    /// Takes data, which in a format are stored: all of them or, where there is no room, none (`StoreFull`).
     pub fn store(&mut self, bytes: &[u8]) -> Result<(), Fault>
         ensures refusal { (sheets : Sheets) (before : List Item) → Gathers sheets self.old before →
             MatchResult result (λ _. first_refusal sheets before (data_items bytes.now) ≡ None)
@@ -112,13 +94,19 @@ impl Gathered {
             Gathers sheets self.new (followed_by before (data_items bytes.now))) }
         ensures some { OnOk result ((sheets : Sheets) →
             IsGathered sheets self.old → IsGathered sheets self.new) }
+        ensures room { (sheets : Sheets) → IsGathered sheets self.old →
+            length bytes.now ≤ data_room self.old → IsOk result }
         ensures err { OnErr result (self.new ≡ self.old) }
     {
-        if !self.in_force.has_room(bytes) {
-            return Err(Fault::StoreFull);
+        data_set_nothing();
+        if !self.in_force.is_open {
+            return Ok(());
         }
-        self.take(bytes);
-        Ok(())
+        stored_behind();
+        match self.format.keep(bytes) {
+            Ok(()) => Ok(()),
+            Err(_) => Err(Fault::StoreFull),
+        }
     }
 
     /// Closes the open field, if there is one. Refused is what it shows, and then one more field than there
@@ -182,29 +170,30 @@ impl Gathered {
         ensures some { OnOk result (IsGathered sheets.now self.new) }
         ensures err { OnErr result (self.new ≡ self.old) }
     {
-        match Effect::of(&self.in_force, command) {
+        let start = self.format.stored().len() as u32;
+        let in_force = self.in_force.after(command, start)?;
+        match Effect::of(self.in_force.is_open, command) {
             Effect::Sets => {
-                self.in_force.obey(command);
+                self.in_force = in_force;
                 Ok(0)
             }
             Effect::Begins => {
                 between_formats();
                 self.format.clear();
-                self.in_force.obey(command);
+                self.in_force = in_force;
                 Ok(0)
             }
             Effect::Closes => {
                 self.close(sheets)?;
-                self.in_force.obey(command);
+                self.in_force = in_force;
                 Ok(0)
             }
             Effect::Prints => {
                 self.close(sheets)?;
                 let copies = self.copies();
-                self.in_force.obey(command);
+                self.in_force = in_force;
                 Ok(copies)
             }
-            Effect::Fails(fault) => Err(fault),
         }
     }
 }

@@ -1,5 +1,5 @@
 //! The printer: what it stands after, and what is still to be put out.
-ghost use Rattle.std.specs.Prelude.{◌≡◌, ◌<◌, ◌≤◌, ◌+◌, ◌*◌, ◌++◌, ◌↔◌, ◌⊎◌, ◌∷◌, [], List, ℕ, true, IsTrue, IfOk, OnOk, OnErr, MatchResult, None, Some, length, min, take, drop};
+ghost use Rattle.std.specs.Prelude.{◌≡◌, ◌<◌, ◌≤◌, ◌+◌, ◌*◌, ◌++◌, ◌↔◌, ◌⊎◌, ◌∷◌, [], List, ℕ, true, IsTrue, IfOk, IsOk, OnOk, OnErr, MatchResult, None, Some, length, min, take, drop};
 ghost use Rattle.vp_glyph.specs.declared.Sheets.{Sheets as Given_sheets};
 ghost use Rattle.vp_zpl.specs.Items.{Item, data_items};
 ghost use Rattle.vp_zpl.specs.Items.Item.{Given};
@@ -129,11 +129,12 @@ impl Label {
         ensures pending { self.new.pending ≡ [] }
         ensures idle { self.new.press ≡ self.old.press }
     {
-        pending_law();
-        self.gathered.take(bytes);
+        let Ok(()) = self.store(bytes) else {
+            unreachable!()
+        };
     }
 
-    /// Takes data.
+    /// Takes data, where there is room for them.
     fn store(&mut self, bytes: &[u8]) -> Result<(), Fault>
         requires { self.old.pending ≡ [] }
         ensures refusal { (sheets : Given_sheets) (before : List Item) →
@@ -146,6 +147,7 @@ impl Label {
         ensures sheets { self.new.sheets ≡ self.old.sheets }
         ensures pending { OnOk result (self.new.pending ≡ []) }
         ensures idle { OnOk result (self.new.press ≡ self.old.press) }
+        ensures room { length bytes.now ≤ data_room self.old.gathered → IsOk result }
         ensures err { OnErr result (self.new ≡ self.old) }
     {
         pending_law();

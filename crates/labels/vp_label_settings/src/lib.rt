@@ -3,7 +3,7 @@
 //! - `range`: an argument in its range. `size`: the size of characters.
 //! - `settings`: what outlives a format. `choice`: symbols, fonts and blocks as they were asked for.
 //!   `graphic`: boxes and pictures. `parts`: the open field.
-//! - `in_force`: all of it, and what an item changes. `laws`: what holds behind every stream.
+//! - `in_force`: all of it, and what a command changes. `laws`: what holds behind every stream.
 #![tactic(auto)]
 
 mod choice;

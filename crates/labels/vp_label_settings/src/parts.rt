@@ -1,11 +1,13 @@
 //! The parts of the open field.
-ghost use Rattle.std.specs.Prelude.{◌≡◌, []};
+ghost use Rattle.std.specs.Prelude.{◌≡◌, [], IfOk, MatchResult, None, Some, true};
 ghost use Rattle.vp_label_settings.specs.Settings.{coordinate};
 ghost use Rattle.vp_label_settings.specs.Parts.{origin_by, font_by, symbol_by, is_reversed_by, block_by, content_by, parts_of, parts_by};
+ghost use Rattle.vp_label_settings.specs.Refusals.{head_refusal};
 
 use crate::choice::{FieldBlock, FontChoice, SymbolChoice};
 use crate::graphic::{PictureHead, box_of};
 use crate::range::ranged;
+use vp_dots::Fault;
 use vp_format::{BarCode, GraphicBox};
 use vp_zpl::item::{Colour, Command};
 
@@ -62,18 +64,21 @@ impl FieldParts {
         }
     }
 
-    /// What a command of an open format leaves of them, where so many bytes are stored.
-    pub fn after(self, command: Command, stored: u32) -> FieldParts
-        ensures { result ≡ parts_by stored command self }
+    /// What a command of an open format leaves of them, where the next byte of data is stored at `start`; or
+    /// why it is refused.
+    pub fn after(self, command: Command, start: u32) -> Result<FieldParts, Fault>
+        ensures refusal { MatchResult result (λ _. head_refusal true command ≡ None)
+            (λ f. head_refusal true command ≡ Some f) }
+        ensures value { IfOk result (λ parts. parts ≡ parts_by start command self) }
     {
-        FieldParts {
+        Ok(FieldParts {
             origin: self.origin.after(command),
             font: font_after(self.font, command),
             symbol: symbol_after(self.symbol, command),
             is_reversed: is_reversed_after(self.is_reversed, command),
             block: block_after(self.block, command),
-            content: content_after(self.content, command, stored),
-        }
+            content: content_after(self.content, command, start)?,
+        })
     }
 }
 
@@ -179,34 +184,37 @@ fn block_after(block: Option<FieldBlock>, command: Command) -> Option<FieldBlock
     }
 }
 
-/// ^FD, ^GB, ^GF
-fn content_after(content: Option<OpenContent>, command: Command, stored: u32) -> Option<OpenContent>
-    ensures { result ≡ content_by stored command content }
+/// ^FD, ^GB, ^GF; a head of ^GF that can't be one is refused.
+fn content_after(
+    content: Option<OpenContent>,
+    command: Command,
+    start: u32,
+) -> Result<Option<OpenContent>, Fault>
+    ensures refusal { MatchResult result (λ _. head_refusal true command ≡ None)
+        (λ f. head_refusal true command ≡ Some f) }
+    ensures value { IfOk result (λ now. now ≡ content_by start command content) }
 {
     match command {
-        Command::FieldData => Some(OpenContent::Data { start: stored }),
+        Command::FieldData => Ok(Some(OpenContent::Data { start })),
         Command::GraphicBox {
             width,
             height,
             thickness,
             colour,
-        } => Some(OpenContent::Frame {
+        } => Ok(Some(OpenContent::Frame {
             frame: box_of(width, height, thickness),
             colour: colour.unwrap_or(Colour::Black),
-        }),
+        })),
         Command::Graphic {
             format,
             binary_bytes,
             picture_bytes,
             row_bytes,
-        } => {
-            let head = PictureHead::new(format, binary_bytes, picture_bytes, row_bytes)?;
-            Some(OpenContent::Picture {
-                head,
-                start: stored,
-            })
-        }
-        Command::FieldSeparator | Command::FormatEnd => None,
-        _ => content,
+        } => match PictureHead::new(format, binary_bytes, picture_bytes, row_bytes) {
+            Some(head) => Ok(Some(OpenContent::Picture { head, start })),
+            None => Err(Fault::Graphic),
+        },
+        Command::FieldSeparator | Command::FormatEnd => Ok(None),
+        _ => Ok(content),
     }
 }

@@ -68,7 +68,7 @@ impl Home {
 }
 
 impl BarDefaults {
-    /// Those of ^BY.
+    /// The defaults of ^BY.
     fn given(narrow: Option<u32>, ratio_tenths: Option<u32>, height: Option<u32>) -> BarDefaults
         ensures { result ≡ record {
           module_dots = in_range 1 10 2 narrow;

@@ -261,6 +261,28 @@ fn full(rt: HostRuntime) -> Result<(), Fail> {
     Ok(())
 }
 
+/// Data are stored behind each other in an open format, and wait for no room outside one.
+#[test]
+fn stored(rt: HostRuntime) -> Result<(), Fail> {
+    let rows = [
+        (b"^XA^FDabc^XAde^FS".as_slice(), 3, 262_141),
+        (b"^XA^FDabc^FS^FDde^FS".as_slice(), 5, 262_139),
+        (b"^XA^FDabc^FDde^GB1^FS".as_slice(), 5, 262_139),
+        (b"^FDabc^FS".as_slice(), 0, 262_144),
+        (b"^XA^FDabc^XZ".as_slice(), 3, 262_144),
+    ];
+    for i in 0..rows.len() {
+        let (stream, stored, room) = rows[i];
+        let (label, _, fault) = behind(rt.alloc(), stream)?;
+        same(
+            &rt,
+            &(label.stored(), label.data_room(), fault),
+            &(stored, room, None),
+        );
+    }
+    Ok(())
+}
+
 /// Takes a run of data where there is room for it: how many of its bytes are taken.
 fn taken_in_a_run(label: &mut Label, reader: &mut ZplReader, data: &[u8]) -> Option<usize> {
     if label.pending() || label.data_room() < data.len() {

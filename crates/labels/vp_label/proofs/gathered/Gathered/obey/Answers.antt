@@ -1,11 +1,12 @@
 use Rattle.std.proofs.Common.{◌≡◌, ◌∙◌, arith, sym, ap, subst, refl, length, [], ◌∷◌}
+use Rattle.std.proofs.lemmas.Result.{err_from_is_err_and}
 use Rattle.vp_zpl.specs.declared.name.Name.{Name}
 use Rattle.vp_zpl.specs.Items.Item.{Given}
 use Rattle.vp_format.specs.Formats.{Held}
 use Rattle.vp_label_settings.specs.declared.settings.Settings.{Settings}
 use Rattle.vp_label_settings.specs.declared.in_force.InForce.{InForce}
 use Rattle.vp_label_settings.specs.Formats.{is_open, stored}
-use Rattle.vp_label_settings.specs.Standing.{StandsAfter}
+use Rattle.vp_label_settings.specs.Refusals.{head_refusal}
 use Rattle.vp_label_settings.specs.Settings.{settings_of, quantity}
 use Rattle.vp_label.specs.Entries.{printed_entries}
 use Rattle.vp_copies.specs.Copies.{copies_text}
@@ -13,17 +14,28 @@ use Rattle.vp_label.specs.Gathered.{AreKept}
 use Rattle.vp_label.specs.Effects.{effect_of}
 use Rattle.vp_label.specs.Prints.{label_image, view_of}
 use Rattle.vp_label.specs.declared.gathered.Effect.TheVariants.{Sets, Begins, Closes, Prints}
-use Rattle.vp_label.proofs.Effects.{holds_still, begins_shut, closes, ends, idle, printed_copies, same_text}
+use Rattle.vp_label.proofs.Effects.{holds_still, head_refused, head_taken, begins_shut, closes, ends, idle, printed_copies, same_text}
 use Rattle.vp_label.proofs.gathered.Gathered.obey.Goals as goal
 
 no_name : Name
 no_name = record { sign = 0; first = 0; second = 0 }
 
+pub returns-in_err-in_force-clause-refusal : goal.returns-in_err-in_force-clause-refusal
+returns-in_err-in_force-clause-refusal c = λ before name sent g.
+    let p = err_from_is_err_and c.from_residual.result c.from_residual.ensures.1 in
+    rw (p.1, p.2) (head_refused c.args.sheets.now before c.args.command name sent _ (ap (λ o. head_refusal o c.args.command) (sym g.in_force.is_open) ∙ c.in_err-in_force.ensures.refusal))
+
+pub returns-in-Sets-clause-refusal : goal.returns-in-Sets-clause-refusal
+returns-in-Sets-clause-refusal c = λ before name sent g.
+    let e : effect_of (is_open before) c.args.command ≡ Sets = ap (λ o. effect_of o c.args.command) (sym g.in_force.is_open) ∙ sym c.of.ensures ∙ c.in-Sets.is in
+    head_taken c.args.sheets.now before c.args.command name sent e
+    (ap (λ o. head_refusal o c.args.command) (sym g.in_force.is_open) ∙ c.in_ok-in_force.ensures.refusal)
+
 pub returns-in-Sets-clause-stands : goal.returns-in-Sets-clause-stands
 returns-in-Sets-clause-stands c = λ before name sent g.
     let e : effect_of (is_open before) c.args.command ≡ Sets = ap (λ o. effect_of o c.args.command) (sym g.in_force.is_open) ∙ sym c.of.ensures ∙ c.in-Sets.is in
     record {
-      in_force = c.obey.ensures before name sent g.in_force;
+      in_force = c.in_ok-in_force.ensures.stands before name sent g.in_force (λ so. let h = g.held so in ap length (c.stored.ensures.bytes ∙ h.stored));
       held = λ so. holds_still c.args.sheets.now before c.args.self.now.format c.args.command name sent e g.held so;
     }
 
@@ -34,7 +46,7 @@ returns-in-Begins-clause-stands c = λ before name sent g.
     let fields = ap (λ (x : Held). x.fields) c.clear.ensures in
     let stored_is = ap (λ (x : Held). x.stored) c.clear.ensures in
     record {
-      in_force = c.obey-in-Begins.ensures before name sent g.in_force;
+      in_force = c.in_ok-in_force.ensures.stands before name sent g.in_force (λ so. let h = g.held so in ap length (c.stored.ensures.bytes ∙ h.stored));
       held = λ so. record {
         fields = fields ∙ sym (rw shut (idle c.args.sheets.now before shut));
         stored = stored_is ∙ sym (rw shut (c.between_formats.ensures.stored before shut));
@@ -50,7 +62,7 @@ returns-in_ok-close-in-Closes-clause-stands c = λ before name sent g.
     let separator = (closes (is_open before) c.args.command e).1 in
     let h = g.held so in
     record {
-      in_force = c.obey-in-Closes.ensures before name sent (subst (λ (s : InForce). StandsAfter s before) (sym c.close.ensures.in_force) g.in_force);
+      in_force = c.in_ok-in_force.ensures.stands before name sent g.in_force (λ so. let h = g.held so in ap length (c.stored.ensures.bytes ∙ h.stored));
       held = λ still. record {
         fields = c.in_ok-close-in-Closes.ensures.fields before g so ∙ sym (rw (so, separator) refl);
         stored = c.close.ensures.stored ∙ h.stored ∙ sym (rw (so, separator) refl);
@@ -64,7 +76,7 @@ returns-in_ok-close-in-Prints-clause-stands c = λ before name sent g.
     let e : effect_of (is_open before) c.args.command ≡ Prints = ap (λ o. effect_of o c.args.command) (sym g.in_force.is_open) ∙ sym c.of.ensures ∙ c.in-Prints.is in
     let end = (ends (is_open before) c.args.command e).1 in
     record {
-      in_force = c.obey-in-Prints.ensures before name sent (subst (λ (s : InForce). StandsAfter s before) (sym c.close-in-Prints.ensures.in_force) g.in_force);
+      in_force = c.in_ok-in_force.ensures.stands before name sent g.in_force (λ so. let h = g.held so in ap length (c.stored.ensures.bytes ∙ h.stored));
       held = λ so. absurd (let no = rw end at so in cc);
     }
 
@@ -76,13 +88,13 @@ returns-in_ok-close-in-Prints-clause-prints c = λ before name sent g.
     let so = (ends (is_open before) c.args.command e).0 in
     let end = (ends (is_open before) c.args.command e).1 in
     let held = g.held so in
-    let image_now = label_image sheets (view_of c.obey-in-Prints.new.self.settings) format.stored format.fields in
-    let after = c.obey-in-Prints.ensures before name sent (subst (λ (s : InForce). StandsAfter s before) (sym c.close-in-Prints.ensures.in_force) g.in_force) in
-    let view : view_of c.obey-in-Prints.new.self.settings ≡ view_of (settings_of before) = ap view_of after.settings ∙ rw (so, end) refl in
+    let image_now = label_image sheets (view_of c.in_ok-in_force.in_force.settings) format.stored format.fields in
+    let after = c.in_ok-in_force.ensures.stands before name sent g.in_force (λ so. let h = g.held so in ap length (c.stored.ensures.bytes ∙ h.stored)) in
+    let view : view_of c.in_ok-in_force.in_force.settings ≡ view_of (settings_of before) = ap view_of after.settings ∙ rw (so, end) refl in
     let quantity_is : c.close-in-Prints.new.self.in_force.settings.quantity ≡ quantity before =
     ap (λ (s : InForce). s.settings.quantity) c.close-in-Prints.ensures.in_force ∙ ap (λ (s : Settings). s.quantity) g.in_force.settings in
     rw (so, end) (ap (copies_text image_now) c.copies-copies.ensures ∙ printed_copies image_now format.fields c.close-in-Prints.new.self.in_force.settings.quantity
-    ∙ same_text sheets (view_of c.obey-in-Prints.new.self.settings) (view_of (settings_of before)) format.stored (stored before) format.fields (printed_entries sheets before) c.close-in-Prints.new.self.in_force.settings.quantity (quantity before)
+    ∙ same_text sheets (view_of c.in_ok-in_force.in_force.settings) (view_of (settings_of before)) format.stored (stored before) format.fields (printed_entries sheets before) c.close-in-Prints.new.self.in_force.settings.quantity (quantity before)
     view (c.close-in-Prints.ensures.stored ∙ held.stored) (c.in_ok-close-in-Prints.ensures.fields before g so) quantity_is)
 
 pub returns-in-Sets-clause-some : goal.returns-in-Sets-clause-some
@@ -103,7 +115,7 @@ returns-in_ok-close-in-Prints-clause-printed c = λ before g some.
     let so = (ends (is_open before) c.args.command e).0 in
     let end = (ends (is_open before) c.args.command e).1 in
     let held = g.held so in
-    let after = c.obey-in-Prints.ensures before no_name [] (subst (λ (s : InForce). StandsAfter s before) (sym c.close-in-Prints.ensures.in_force) g.in_force) in
+    let after = c.in_ok-in_force.ensures.stands before no_name [] g.in_force (λ so. let h = g.held so in ap length (c.stored.ensures.bytes ∙ h.stored)) in
     record {
       view = ap view_of after.settings ∙ rw (so, end) refl;
       stored = c.close-in-Prints.ensures.stored ∙ held.stored;
