@@ -9,6 +9,7 @@ use Rattle.vp_zpl.specs.declared.item.Colour.TheVariants.{Black, White}
 use Rattle.vp_glyph.specs.declared.Sheets.{Sheets}
 use Rattle.vp_format.specs.declared.field.Content.{Content}
 use Rattle.vp_format.specs.declared.field.Field.{Field}
+use Rattle.vp_format.specs.Formats.{Held}
 use Rattle.vp_field.specs.Contents.{content_width, content_height, orientation_of}
 use Rattle.vp_label_settings.specs.declared.settings.Settings.{Settings}
 use Rattle.vp_label_settings.specs.declared.choice.SymbolChoice.{SymbolChoice}
@@ -63,6 +64,6 @@ abbrev pub field_of : Sheets → List ℕ → Settings → FieldParts → OpenCo
 field_of sheets stored s p content =
     field_with sheets stored s p (operation s p (colour_of content)) (content_of stored s p content)
 
--- the field that is closed, if there is a content: as the format keeps it, or why it is refused
-abbrev pub closed : Sheets → List ℕ → Settings → FieldParts → Option (Result Field Fault)
-closed sheets stored s p = option_map (field_of sheets stored s p) p.content
+-- the field that is closed in a format, if there is a content: as the format keeps it, or why it is refused
+abbrev pub closed : Sheets → Held → Settings → FieldParts → Option (Result Field Fault)
+closed sheets format s p = option_map (field_of sheets format.stored s p) p.content

@@ -10,7 +10,7 @@ use crate::position::{left_of, top_of};
 use crate::text::text_orientation;
 use vp_dots::{Fault, Op};
 use vp_field::content_size;
-use vp_format::{Content, Field, STORED};
+use vp_format::{Content, Field, Format, STORED};
 use vp_glyph::Sheets;
 use vp_label_settings::{FieldParts, OpenContent, Settings, SymbolChoice};
 use vp_zpl::item::{Colour, Orientation};
@@ -88,21 +88,20 @@ fn field_of(
     })
 }
 
-/// The field that its parts close behind the stored bytes, as the format keeps it; without a content there is
-/// none. It is refused as `Symbol` or `SymbolTooLong` where the data have no bars or no QR symbol, or these
-/// aren't drawn, and as `Graphic` where a code that starts in one of a picture's rows is refused.
+/// The field that its parts close in a format, as the format keeps it; without a content there is none. It is
+/// refused as `Symbol` or `SymbolTooLong` where the data have no bars or no QR symbol, or these aren't drawn,
+/// and as `Graphic` where a code that starts in one of a picture's rows is refused.
 pub fn closed(
     sheets: &Sheets,
-    stored: &[u8],
+    format: &Format,
     settings: &Settings,
     parts: &FieldParts,
 ) -> Option<Result<Field, Fault>>
     requires settings { AreInRange settings.now }
-    requires parts { AreParts (length stored.now) parts.now }
-    requires few { length stored.now ≤ STORED }
-    ensures value { result ≡ closed sheets.now stored.now settings.now parts.now }
-    ensures kept { IfSome result (λ field. IfOk field (IsKept stored.now)) }
+    requires parts { AreParts (length format.now.stored) parts.now }
+    ensures value { result ≡ closed sheets.now format.now settings.now parts.now }
+    ensures kept { IfSome result (λ field. IfOk field (IsKept format.now.stored)) }
 {
     let content = parts.content?;
-    Some(field_of(sheets, stored, settings, parts, content))
+    Some(field_of(sheets, format.stored(), settings, parts, content))
 }

@@ -128,8 +128,7 @@ impl Gathered {
     {
         in_range();
         let settings = &self.in_force.settings;
-        let Some(closed) = closed(sheets, self.format.stored(), settings, &self.in_force.parts)
-        else {
+        let Some(closed) = closed(sheets, &self.format, settings, &self.in_force.parts) else {
             return Ok(());
         };
         let field = closed?;

@@ -1,4 +1,4 @@
-use Rattle.std.proofs.Common.{◌≡◌, true, sym, subst, ◌∙◌, ℕ, List}
+use Rattle.std.proofs.Common.{◌≡◌, true, sym, subst, ◌∙◌}
 use Rattle.std.proofs.lemmas.List.Elements.{All-push}
 use Rattle.std.specs.Prelude.{IfOk, Result}
 use Rattle.vp_dots.specs.declared.fault.Fault.{Fault}
@@ -16,6 +16,5 @@ returns-in-Ok-clause-kept c =
     let g = c.requires.some.1 in
     let so : is_open c.requires.some.0 ≡ true = sym g.in_force.is_open ∙ c.requires.opened in
     let h = g.held so in
-    let kept : IsKept c.stored.result.now field = subst (λ (r : Result Field Fault). IfOk r (IsKept c.stored.result.now)) c.in_ok-field.was c.in-Some.ensures.kept in
-    subst (λ (x : Held). AreKept x.stored x.fields) (sym c.in-Ok.ensures.ok)
-    (All-push (IsKept old.stored) old.fields field h.kept (subst (λ (s : List ℕ). IsKept s field) c.stored.ensures.bytes kept))
+    let kept : IsKept old.stored field = subst (λ (r : Result Field Fault). IfOk r (IsKept old.stored)) c.in_ok-field.was c.in-Some.ensures.kept in
+    subst (λ (x : Held). AreKept x.stored x.fields) (sym c.in-Ok.ensures.ok) (All-push (IsKept old.stored) old.fields field h.kept kept)
