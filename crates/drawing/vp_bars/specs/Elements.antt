@@ -14,11 +14,11 @@ set_a_widths =
 abbrev pub set_a_elements : ℕ → List ℕ
 set_a_elements d = slice_index_or set_a_widths d []
 
--- those of number set B, a space first
+-- the elements of a digit in number set B, a space first
 abbrev pub set_b_elements : ℕ → List ℕ
 set_b_elements d = reverse (set_a_elements d)
 
--- those of a left digit in its set: 0 for A
+-- the elements of a left digit in its set: 0 for A
 abbrev pub left_elements_of : ℕ → ℕ → List ℕ
 left_elements_of set d = if set == 0 then set_a_elements d else set_b_elements d
 

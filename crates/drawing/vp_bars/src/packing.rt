@@ -59,7 +59,8 @@ fn read_byte<'a>(bytes: &'a [u8], values: &mut ArrayVec<u8, 258>) -> Result<&'a 
     Ok(&bytes[1..])
 }
 
-/// Appends the values of what comes first, and gives the set in force after it and the bytes behind it.
+/// Appends the values of what comes first where set C is in force, and gives the set in force after it and
+/// the bytes behind it.
 fn read_in_c<'a>(
     bytes: &'a [u8],
     values: &mut ArrayVec<u8, 258>,
@@ -82,7 +83,8 @@ fn read_in_c<'a>(
     Ok((CodeSet::B, rest))
 }
 
-/// The same in another set.
+/// Appends the values of what comes first where set A or B is in force, and gives the set in force after it
+/// and the bytes behind it.
 fn read_in_b<'a>(
     bytes: &'a [u8],
     values: &mut ArrayVec<u8, 258>,

@@ -182,7 +182,7 @@ static SET_A: [[u8; 4]; 10] = [
     [3, 1, 1, 2],
 ];
 
-/// The same in number set B, whose digits are those of set A reversed.
+/// The widths of the elements of the digits in number set B, which are those of set A reversed.
 static SET_B: [[u8; 4]; 10] = [
     [1, 1, 2, 3],
     [1, 2, 2, 2],

@@ -167,7 +167,8 @@ impl Strokes<'_> {
         next
     }
 
-    /// The same of elements that may be none, as those between two characters of Code 128.
+    /// Draws elements, and gives the pen behind them, where there may be none, as between two characters of
+    /// Code 128.
     #[inline(always)]
     fn draw(&self, elements: &[u8], pen: Pen, op: Op, at: i64, row: &mut [u8]) -> Pen
         requires { pen.x + total (sized self.now.symbology self.now.narrow self.now.wide elements.now) < 2 ^

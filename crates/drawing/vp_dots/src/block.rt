@@ -110,7 +110,8 @@ fn lay_bytes<const B: usize, const H: usize>(
     }
 }
 
-/// The same as `lay_part`. Mostly the band has all eight rows of the block, and often each falls on one byte.
+/// Paints the rows of a block from row `skip` of it on, as far as the band has rows for them. Mostly it has
+/// all eight, and often each falls on one byte.
 #[inline(always)]
 fn lay_block<const B: usize, const H: usize>(
     op: Op,

@@ -44,7 +44,7 @@ fn paint_bytes(op: Op, from: usize, to: usize, row: &mut [u8])
     }
 }
 
-/// The same, with a loop for each operation.
+/// Applies the operation to all dots of the bytes from <= i < to, with a loop for each operation.
 fn fill_bytes(op: Op, from: usize, to: usize, row: &mut [u8])
     requires { to ≤ length row.old }
     ensures { Painted op (λ d. span from to (d / 8)) row.old row.new }

@@ -49,7 +49,7 @@ fn last_before(at: i64, from: u32, places: u32) -> i64
 }
 
 impl Axis {
-    /// The same line on places that are counted from the other end of so many.
+    /// This line, on places that are counted from the other end of `size`.
     pub fn flipped(self, size: u32) -> Axis
         requires { IsWithin (2 ^ 41) self }
         ensures dots { (p : ℤ) → dot_on result p ≡ dot_on self (pos size -ℤ pos 1 -ℤ p) }
@@ -62,7 +62,7 @@ impl Axis {
         }
     }
 
-    /// The same line, counted back where that is asked for.
+    /// This line, its places counted back where `back` asks for it.
     pub fn counted(self, back: bool, size: u32) -> Axis
         requires { IsWithin (2 ^ 41) self }
         ensures dots { (p : ℤ) → dot_on result p ≡ dot_on self (counted back size p) }

@@ -25,7 +25,7 @@ pub struct BlockColumns<'a> {
 }
 
 impl<'a> BlockColumns<'a> {
-    /// The same block, whose rows from this one on are drawn at an offset.
+    /// A block, its rows from `top` on drawn at the offset `at`.
     pub fn new(rows: BlockRows<'a>, top: u32, at: i64) -> Self
         ensures { result.rows ≡ rows.entry }
     {

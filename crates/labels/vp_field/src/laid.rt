@@ -57,7 +57,7 @@ impl Laid {
         }
     }
 
-    /// The same on the label as it is put out.
+    /// How what is laid so lies on the label as it is put out.
     pub fn viewed(self, view: View) -> Laid
         requires columns { IsWithin (2 ^ 40) self.columns }
         requires rows { IsWithin (2 ^ 40) self.rows }

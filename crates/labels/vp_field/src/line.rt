@@ -29,7 +29,8 @@ fn offset(at: i64, from: u32) -> i64
     at - i64::from(from)
 }
 
-/// The same on a row of so many bytes that is read from its end.
+/// The offset of a line that begins at a place, on a row of `bytes` bytes that begins at another and is read
+/// from its end.
 fn offset_from_end(at: i64, from: u32, bytes: usize) -> i64
     requires low { neg_ℤ (pos (2 ^ 41)) ≤ℤ at }
     requires high { at ≤ℤ pos (2 ^ 41) }

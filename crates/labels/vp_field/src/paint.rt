@@ -146,7 +146,8 @@ fn column_of<I: Ink>(ink: &I, columns: Axis, rows: Axis, x: u64, first: u32) -> 
     }
 }
 
-/// The same on a column that comes behind another, which shows a line of ink.
+/// The ink on a column of the label that comes behind another one, of which `before` is the ink, on 32 rows
+/// from one on.
 fn column_after<I: Ink>(
     ink: &I,
     columns: Axis,

@@ -29,7 +29,7 @@ pub record HasRoom (t : Inside) : Type 0 where
   pub links : length t.links.items ≡ 1024
   pub filled : t.len ≤ 1024
 
--- the same after one more look
+-- the table after one more look
 abbrev pub looked : Table → Table
 looked t = record t { looks = t.looks + 1 }
 

@@ -35,10 +35,11 @@ is_carried b e = nat_lt e.first b && nat_le b e.last
 abbrev pub meets : ℕ → Entry → Bool
 meets b e = nat_le e.first b && nat_le b e.last
 
--- the same of entry k of the table
+-- whether the rows of entry k of the table begin in the band
 abbrev pub begins_at : List Entry → ℕ → ℕ → Bool
 begins_at entries b k = begins_in b (entry_at entries k)
 
+-- whether those of entry k began before, and reach the band
 abbrev pub carried_at : List Entry → ℕ → ℕ → Bool
 carried_at entries b k = is_carried b (entry_at entries k)
 

@@ -30,8 +30,8 @@ spelled s k = record { symbol = s; bytes = k }
 abbrev pub alone : ℕ → Symbol → Symbol
 alone n s = if n == 0 then s else Refused
 
--- the symbols from a code on, behind k counts that add up to n; the later codes
--- give symbols behind counts likewise
+-- the symbols from a code on, behind k counts that add up to n, where the later codes give theirs by how many
+-- counts stand before them and what these add up to
 abbrev pub joined : Code → ℕ → ℕ → (ℕ → ℕ → List Spelled) → List Spelled
 joined (Digit v) n k later = spelled (Digits (max n 1) v) (k + 1) ∷ later 0 0
 joined (Count m) n k later = later (n + m) (k + 1)

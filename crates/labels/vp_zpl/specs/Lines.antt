@@ -33,6 +33,6 @@ line_of (Given command name sent) =
     name.sign ∷ legible name.first ∷ legible name.second ∷ (behind_name command sent ++ 0x0A ∷ [])
 line_of (Data byte) = listed (codes "byte") (byte ∷ [])
 
--- those of a list of items
+-- the lines of a list of items
 abbrev pub lines_of : List Item → List ℕ
 lines_of items = flat_map line_of items

@@ -13,7 +13,7 @@ pub record Listed : Type 0 where
 abbrev pub byte_lines : List ℕ → List ℕ
 byte_lines bytes = flat_map (λ b. line_of (RasterByte b)) bytes
 
--- the same, each behind its place, where so many bytes are taken before them
+-- the lines of bytes of data, each behind its place, where `taken` bytes are taken before them
 abbrev pub byte_lines_after : ℕ → List ℕ → List ℕ
 byte_lines_after taken [] = []
 byte_lines_after taken (byte ∷ bytes) =

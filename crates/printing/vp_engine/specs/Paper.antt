@@ -70,7 +70,8 @@ module _ {Item : Type 0} (rules : Rules Item) where
   first_fault front (b ∷ rest) =
       option_or (fault_at (front ++ b ∷ [])) (first_fault (front ++ b ∷ []) rest)
 
-  -- the bytes before the one that makes it, likewise
+  -- the bytes before the one that makes the first fault, of those that have this front and then the rest: all
+  -- where none does
   unfoldable pub sound : List ℕ → List ℕ → List ℕ
   sound front [] = front
   sound front (b ∷ rest) =

@@ -48,8 +48,8 @@ fn missing(is_between: bool, at_rest: bool) -> Option<Fault>
     None
 }
 
-/// Begins the line of a receipt's item. What prints doesn't pay for the room of a line, so this stands in no
-/// other function.
+/// Begins the line of a receipt's item.
+// What prints doesn't pay for the room of a line, so this stands in no other function.
 #[inline(never)]
 fn begin_line(lines: &mut Lines, item: &EscItem)
     requires { lines.old.pending ≡ [] }
@@ -69,7 +69,8 @@ fn items_in(item: &ZplItem<'_>) -> usize
     }
 }
 
-/// Begins the lines of a label's items, likewise.
+/// Begins the lines of a label's items.
+// What prints doesn't pay for the room of a line, so this stands in no other function.
 #[inline(never)]
 fn begin_label_lines(lines: &mut Lines, item: &ZplItem<'_>)
     requires { lines.old.pending ≡ [] }
@@ -79,7 +80,8 @@ fn begin_label_lines(lines: &mut Lines, item: &ZplItem<'_>)
     lines.begin(item.line().as_slice(), items_in(item));
 }
 
-/// Begins the line of a receipt's item behind its place, likewise.
+/// Begins the line of a receipt's item behind its place.
+// What prints doesn't pay for the room of a line, so this stands in no other function.
 #[inline(never)]
 fn begin_offset_line(lines: &mut Lines, offset: u64, item: &EscItem)
     requires { lines.old.pending ≡ [] }
@@ -99,7 +101,8 @@ fn label_offset_lines(offset: u64, item: &ZplItem<'_>) -> ArrayVec<u8, 821>
     }
 }
 
-/// Begins the lines of a label's items behind their place, likewise.
+/// Begins the lines of a label's items behind their place.
+// What prints doesn't pay for the room of a line, so this stands in no other function.
 #[inline(never)]
 fn begin_label_offset_lines(lines: &mut Lines, offset: u64, item: &ZplItem<'_>)
     requires { lines.old.pending ≡ [] }

@@ -78,7 +78,7 @@ impl Printer {
         Printer::over(Machine::listing(language))
     }
 
-    /// One that prints each line behind the place of its item, likewise.
+    /// One that prints a line for each item of a language, behind its place, and took and put out nothing.
     pub(crate) fn listing_with_offsets(language: Language) -> Self
         ensures { Stands (ListingWithOffsets language) result [] [] }
     {

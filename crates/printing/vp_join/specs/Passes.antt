@@ -33,7 +33,7 @@ pub record HasSize (text : List ℕ) (size : Size) : Type 0 where
   pub width_is : image.width ≡ size.width
   pub height_is : image.height ≡ size.height
 
--- the same of what the text tells
+-- the text tells one image of this width and of this height
 pub record Tells (text : List ℕ) (size : Size) : Type 0 where
   pub rows : List ℕ
   pub whole_is : told text ≡ whole (record { width = size.width; height = size.height; rows = rows })

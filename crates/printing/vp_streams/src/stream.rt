@@ -15,7 +15,7 @@ pub trait Source {
     /// How often it was called; it stops at the greatest u64.
     ghost reads: { Self → ℕ };
 
-    /// How many of the calls failed, likewise.
+    /// How many of the calls failed; it stops at the greatest u64.
     ghost failed_reads: { Self → ℕ };
 
     /// As `Read` has it.
@@ -34,7 +34,7 @@ pub trait Sink {
     /// How often it was called; it stops at the greatest u64.
     ghost writes: { Self → ℕ };
 
-    /// How many of the calls failed or took no byte, likewise.
+    /// How many of the calls failed or took no byte; it stops at the greatest u64.
     ghost failed_writes: { Self → ℕ };
 
     /// As `Write` has it.

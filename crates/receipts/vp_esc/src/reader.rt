@@ -401,7 +401,7 @@ impl EscReader {
         }
     }
 
-    /// The same, with the bytes of a raster and the units of one byte first.
+    /// One byte, by the phase: the bytes of a raster and the units of one byte first.
     #[inline(always)]
     fn event(&mut self, byte: u8) -> Result<Event, Fault>
         ensures { (rest : List ℕ) → StandsIn self.old rest →

@@ -46,7 +46,7 @@ fn square_from(lines: &Lines, from: usize) -> [u64; SIDE]
     square
 }
 
-/// The same, the last line first.
+/// A square of the lines' dots, from one on, the last line first.
 #[inline(always)]
 fn square_back(lines: &Lines, from: usize) -> [u64; SIDE]
     requires { from < 2 ^ 63 }

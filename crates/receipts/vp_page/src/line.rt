@@ -51,7 +51,8 @@ fn clip(row: &[u8], end: u16, line: &mut [u8])
     fill_dots(Op::White, u64::from(end), 8 * row.len() as u64, line);
 }
 
-/// The same, from the last dot to the first.
+/// Copies the dots of a row that stand before a place, from the last dot to the first; the others become
+/// white.
 fn clip_reversed(row: &[u8], end: u16, line: &mut [u8])
     requires short { length row.now ≤ LINE_BYTES }
     requires alike { length line.old ≡ length row.now }
@@ -146,7 +147,8 @@ fn lay_part(byte: u8, skip: usize, top: usize, x: usize, band: &mut PageBand)
     lay_rows(byte, skip, top, rows, x, band);
 }
 
-/// The same. Mostly all eight dots of the byte are on the page.
+/// Blackens column x of the page where the byte, its dot `skip` on row `top`, is black. Mostly all eight dots
+/// of it are on the page.
 #[inline(always)]
 fn lay_byte(byte: u8, skip: usize, top: usize, x: usize, band: &mut PageBand)
     ensures { RowsPainted PAGE_ROWS Black
@@ -246,7 +248,7 @@ fn clipped(row: &[u8; LINE_BYTES], end: u16) -> [u8; LINE_BYTES]
     line
 }
 
-/// The same, from the last dot to the first.
+/// The dots of a line that stand before a place, from the last dot to the first.
 fn clipped_reversed(row: &[u8; LINE_BYTES], end: u16) -> [u8; LINE_BYTES]
     ensures { (d : ℕ) → dot result d ≡ (nat_lt d LINE_DOTS
         && (nat_lt (LINE_DOTS - 1 - d) end && dot row.now (LINE_DOTS - 1 - d))) }

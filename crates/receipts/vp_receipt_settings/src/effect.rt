@@ -64,11 +64,11 @@ pub enum Effect {
     LeavesPage,
     /// On a page it ends the line where it is, if it is open. In either mode it sets where the next lines go.
     Lays(NextLines),
-    /// On a page it ends the line likewise, and makes the area white.
+    /// On a page it ends the line where it is, if it is open, and makes the area white.
     Wipes,
     /// On a page it ends the line where it is, if it is open, and prints the page.
     PrintsPage,
-    /// On a page it prints the page so, and leaves it.
+    /// On a page it ends the line where it is, if it is open, prints the page, and leaves it.
     EndsPage,
 }
 
