@@ -1,5 +1,5 @@
 -- Eight rows laid across the page.
-use Rattle.std.proofs.Common.{inl, inr, ◌≡◌, ℕ, ◌+◌, ◌-◌, ◌<◌, ◌≤◌, ltb, leb, ◌&&◌, refl, ap, ◌∙◌, arith, List, [], length, get_or, ℤ, pos, ◌+ℤ◌}
+use Rattle.std.proofs.Common.{inl, inr, ◌≡◌, ℕ, ◌-◌, ◌<◌, ◌≤◌, ltb, leb, ◌&&◌, refl, ap, ◌∙◌, arith, List, [], length, get_or, ℤ, pos, ◌+ℤ◌}
 use Rattle.std.proofs.lemmas.Bool.{cases_lt, lt-ltb, le-ltb}
 use Rattle.vp_dots.specs.Dots.{dot}
 use Rattle.vp_dots.specs.Blocks.{across_dot}

@@ -1,5 +1,6 @@
 pub mod Blank
 pub mod Bytes
+pub mod WordsOnRows
 pub mod Falling
 pub mod Lines
 pub mod Eights

@@ -1,13 +1,13 @@
 -- Lines laid across an area, as a mark.
-use Rattle.std.proofs.Common.{inl, inr, ◌≡◌, ℕ, ◌+◌, ◌-◌, ◌<◌, ◌≤◌, Bool, false, ltb, leb, ◌&&◌, refl, sym, ap, ◌∙◌, arith, List, [], length, get_or, set, get_or-set_same, get_or-set_other}
-use Rattle.std.proofs.lemmas.Bool.{cases_eq, cases_lt, lt-ltb, le-ltb, lt-leb, le-leb}
+use Rattle.std.proofs.Common.{inl, inr, ◌≡◌, ℕ, ◌+◌, ◌-◌, ◌<◌, ◌≤◌, Bool, false, ltb, leb, ◌&&◌, refl, sym, ap, ◌∙◌, arith, List, [], length, get_or}
+use Rattle.std.proofs.lemmas.Bool.{cases_lt, lt-ltb, le-ltb, lt-leb, le-leb}
 use Rattle.vp_dots.specs.Dots.{dot}
 use Rattle.vp_page.specs.declared.area.Area.{Area}
 use Rattle.vp_page.specs.declared.area.Direction.TheVariants.{BottomToTop, TopToBottom}
 use Rattle.vp_page.specs.Areas.{holds}
 use Rattle.vp_page.specs.Layers.{mark_dot, lines_mark}
 use Rattle.vp_page.proofs.Rows.{dot_past}
-use Rattle.vp_page.proofs.Squares.{no_line, and_false}
+use Rattle.vp_page.proofs.Squares.{and_false}
 
 pub past_line : (line : List ℕ) (u : ℕ) → length line ≤ 208 → dot line u ≡ (ltb u 1664 && dot line u)
 past_line line u short = elim (cases_lt u 1664) [
@@ -19,18 +19,6 @@ past_line line u short = elim (cases_lt u 1664) [
 pub line_in_mark : (lines : List (List ℕ)) (i u : ℕ) → i < 64 → length (get_or lines i []) ≤ 208 → dot (get_or lines i []) u ≡ (ltb i 64 && (ltb u 1664 && dot (get_or lines i []) u))
 line_in_mark lines i u h short = rw (lt-ltb i 64 h) (past_line (get_or lines i []) u short)
 
--- one more of the first lines, and those that are left
-pub lines_more : (lines cut : List (List ℕ)) (row : List ℕ) (i k d : ℕ) → i < length cut → ((d : ℕ) → dot row d ≡ (ltb d 1664 && dot (get_or lines i []) d)) → k < i + 1
-    → ((k d : ℕ) → k < i → dot (get_or cut k []) d ≡ (ltb d 1664 && dot (get_or lines k []) d))
-    → dot (get_or (set cut i row) k []) d ≡ (ltb d 1664 && dot (get_or lines k []) d)
-lines_more lines cut row i k d room same h before = elim (cases_eq k i) [
-  | inl y ↦ rw (y, get_or-set_same cut i row [] room) (same d)
-  | inr n ↦ rw (get_or-set_other cut i k row [] n) (before k d (omega (arith, n)))
-]
-
-pub lines_left : (cut : List (List ℕ)) (i k d : ℕ) (row : List ℕ) → i + 1 ≤ k → ((k d : ℕ) → i ≤ k → dot (get_or cut k []) d ≡ false) → dot (get_or (set cut i row) k []) d ≡ false
-lines_left cut i k d row h before = rw (get_or-set_other cut i k row [] (λ e. absurd (omega arith))) (before k d (omega arith))
-
 nowhere : (p q : Bool) → (p && (q && false)) ≡ false
 nowhere p q = ap (λ b. p && b) (and_false q) ∙ and_false p
 
@@ -40,10 +28,10 @@ not_held p b = ap (λ t. t && b) (and_false p)
 not_at_all : (p b c : Bool) → (p && false && b && c) ≡ false
 not_at_all p b c = ap (λ t. t && c) (not_held p b)
 
-module _ (a : Area) (v : ℕ) (lines cut : List (List ℕ)) (x y : ℕ) (deep : v < a.dx) (long : length cut ≡ 64)
-    (same : (i d : ℕ) → i < 64 → dot (get_or cut i []) d ≡ (ltb i (a.dx - v) && (ltb d 1664 && dot (get_or lines i []) d))) where
+module _ (a : Area) (v : ℕ) (lines : List (List ℕ)) (ink : ℕ → ℕ → Bool) (x y : ℕ) (deep : v < a.dx) (none : (i d : ℕ) → 64 ≤ i → ink i d ≡ false)
+    (same : (i d : ℕ) → i < 64 → ink i d ≡ (ltb i (a.dx - v) && (ltb d 1664 && dot (get_or lines i []) d))) where
   -- lines that run up
-  pub up_mark : (ltb y (a.y + a.dy) && (ltb (a.y + a.dy - 1 - y) a.dy && (leb (a.x + v) x && dot (get_or cut (x - (a.x + v)) []) (a.y + a.dy - 1 - y)))) ≡ mark_dot (lines_mark a BottomToTop v lines) x y
+  pub up_mark : (ltb y (a.y + a.dy) && (ltb (a.y + a.dy - 1 - y) a.dy && (leb (a.x + v) x && ink (x - (a.x + v)) (a.y + a.dy - 1 - y)))) ≡ mark_dot (lines_mark a BottomToTop v lines) x y
   up_mark = elim (cases_lt x (a.x + v)) [
     | inl l ↦ rw (lt-leb (a.x + v) x l) (nowhere (ltb y (a.y + a.dy)) (ltb (a.y + a.dy - 1 - y) a.dy) ∙ sym (elim (cases_lt x a.x) [
       | inl b ↦ rw (lt-leb a.x x b) refl
@@ -61,12 +49,12 @@ module _ (a : Area) (v : ℕ) (lines cut : List (List ℕ)) (x y : ℕ) (deep : 
             ])
             | inr out ↦ rw (le-ltb (x - a.x - v) (a.dx - v) out, le-ltb x (a.x + a.dx) (omega arith)) (nowhere (ltb y (a.y + a.dy)) (ltb (a.y + a.dy - 1 - y) a.dy))
           ])
-          | inr far ↦ rw (no_line cut (x - a.x - v) (a.y + a.dy - 1 - y) long far, le-ltb (x - a.x - v) 64 far) (nowhere (ltb y (a.y + a.dy)) (ltb (a.y + a.dy - 1 - y) a.dy) ∙ sym (and_false _))
+          | inr far ↦ rw (none (x - a.x - v) (a.y + a.dy - 1 - y) far, le-ltb (x - a.x - v) 64 far) (nowhere (ltb y (a.y + a.dy)) (ltb (a.y + a.dy - 1 - y) a.dy) ∙ sym (and_false _))
         ]))
   ]
 
   -- lines that run down
-  pub down_mark : (leb a.y y && (ltb (y - a.y) a.dy && (ltb x (a.x + a.dx - v) && dot (get_or cut (a.x + a.dx - v - 1 - x) []) (y - a.y)))) ≡ mark_dot (lines_mark a TopToBottom v lines) x y
+  pub down_mark : (leb a.y y && (ltb (y - a.y) a.dy && (ltb x (a.x + a.dx - v) && ink (a.x + a.dx - v - 1 - x) (y - a.y)))) ≡ mark_dot (lines_mark a TopToBottom v lines) x y
   down_mark = elim (cases_lt x (a.x + a.dx - v)) [
     | inl l ↦ (let at : a.x + a.dx - v - 1 - x ≡ a.x + a.dx - 1 - x - v = omega arith in
         rw (lt-ltb x (a.x + a.dx - v) l, lt-ltb x (a.x + a.dx) (omega arith), le-leb v (a.x + a.dx - 1 - x) (omega arith), at) (elim (cases_lt (a.x + a.dx - 1 - x - v) 64) [
@@ -80,7 +68,7 @@ module _ (a : Area) (v : ℕ) (lines cut : List (List ℕ)) (x y : ℕ) (deep : 
             ])
             | inr out ↦ rw (le-ltb (a.x + a.dx - 1 - x - v) (a.dx - v) out, lt-leb a.x x (omega arith)) (nowhere (leb a.y y) (ltb (y - a.y) a.dy))
           ])
-          | inr far ↦ rw (no_line cut (a.x + a.dx - 1 - x - v) (y - a.y) long far, le-ltb (a.x + a.dx - 1 - x - v) 64 far) (nowhere (leb a.y y) (ltb (y - a.y) a.dy) ∙ sym (and_false _))
+          | inr far ↦ rw (none (a.x + a.dx - 1 - x - v) (y - a.y) far, le-ltb (a.x + a.dx - 1 - x - v) 64 far) (nowhere (leb a.y y) (ltb (y - a.y) a.dy) ∙ sym (and_false _))
         ]))
     | inr g ↦ rw (le-ltb x (a.x + a.dx - v) g) (nowhere (leb a.y y) (ltb (y - a.y) a.dy) ∙ sym (elim (cases_lt x (a.x + a.dx)) [
       | inl l ↦ rw (lt-leb v (a.x + a.dx - 1 - x) (omega arith)) (and_false (holds a x y))

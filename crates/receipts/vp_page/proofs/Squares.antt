@@ -1,25 +1,15 @@
 -- Squares laid across the page.
-use Rattle.std.proofs.Common.{inl, inr, ◌≡◌, ℕ, ◌+◌, ◌-◌, ◌*◌, ◌/◌, ◌<◌, ◌≤◌, min, Bool, true, false, ltb, leb, ◌&&◌, ◌||◌, refl, sym, ap, ◌∙◌, arith, List, [], length, get_or, take, drop, reverse, replicate, ℤ, pos, ◌+ℤ◌}
+use Rattle.std.proofs.Common.{inl, inr, eqb, ◌≡◌, ℕ, ◌+◌, ◌-◌, ◌*◌, ◌<◌, ◌≤◌, min, Bool, true, false, ltb, leb, ◌&&◌, ◌||◌, refl, sym, ap, ◌∙◌, arith, List, [], length, get_or, take, drop, reverse, replicate, ℤ, pos, ◌+ℤ◌}
 use Rattle.std.proofs.lemmas.Int.{ints}
-use Rattle.std.proofs.lemmas.List.{get_or_past, get_or-replicate, length-replicate, get_or-reverse, get_or-drop, get_or-take}
+use Rattle.std.proofs.lemmas.List.{get_or_past, get_or-replicate, get_or-reverse, get_or-drop, get_or-take}
 use Rattle.std.proofs.lemmas.Bool.{cases_lt, lt-ltb, le-ltb, lt-leb, le-leb}
-use Rattle.vp_dots.specs.Dots.{dot, shifted}
+use Rattle.std.proofs.lemmas.Nat.Bits.{bit_at-zero}
+use Rattle.vp_dots.specs.Dots.{bit, dot, shifted}
 use Rattle.vp_dots.specs.Words.{word_dot}
 use Rattle.vp_dots.specs.Places.{words_dot, RowsPainted}
 use Rattle.vp_dots.specs.declared.Op.TheVariants.{Black}
 use Rattle.vp_dots.proofs.Paints.{painted_none}
-use Rattle.vp_page.proofs.Blank.{dot_white}
 use Rattle.vp_page.proofs.Rows.{dot_past, met}
-
--- white lines
-pub white_lines : (n m k d : ℕ) → dot (get_or (replicate n (replicate {A = ℕ} m 0)) k []) d ≡ false
-white_lines n m k d = elim (cases_lt k n) [
-  | inl l ↦ rw (get_or-replicate n k (replicate {A = ℕ} m 0) [] l) (elim (cases_lt (d / 8) m) [
-    | inl b ↦ dot_white m d b
-    | inr g ↦ dot_past (replicate {A = ℕ} m 0) d (omega (arith, length-replicate {A = ℕ} m 0))
-  ])
-  | inr g ↦ rw (get_or_past {X = List ℕ} (replicate n (replicate {A = ℕ} m 0)) k [] (omega (arith, length-replicate {A = List ℕ} n (replicate {A = ℕ} m 0)))) (dot_past [] d (omega arith))
-]
 
 or_false : (b : Bool) → b ≡ (b || false)
 or_false true = refl
@@ -28,6 +18,17 @@ or_false false = refl
 pub and_false : (b : Bool) → (b && false) ≡ false
 and_false true = refl
 and_false false = refl
+
+white_word : (x : ℕ) → word_dot 0 x ≡ false
+unfolding bit
+white_word x = elim (cases_lt x 64) [
+  | inl l ↦ rw (lt-ltb x 64 l) (ap (λ b. eqb b 1) (bit_at-zero (63 - x)))
+  | inr g ↦ rw (le-ltb x 64 g) refl
+]
+
+-- white words
+pub white_words : (y x : ℕ) → y < 64 → word_dot (get_or (replicate {A = ℕ} 64 0) y 0) x ≡ false
+white_words y x h = rw (get_or-replicate {A = ℕ} 64 y 0 0 h) (white_word x)
 
 -- past the last line there is no dot
 pub no_line : (lines : List (List ℕ)) (i u : ℕ) → length lines ≡ 64 → 64 ≤ i → dot (get_or lines i []) u ≡ false
@@ -40,11 +41,18 @@ last_words square words n i is whole few h =
     get_or-take (64 - (64 - n)) (drop (64 - n) words) i 0 (omega arith) ∙ get_or-drop (64 - n) words i 0 ∙ ap (λ (l : List ℕ). get_or l (64 - n + i) 0) is
     ∙ get_or-reverse square (64 - n + i) 0 (omega arith) ∙ ap (λ j. get_or square j 0) (omega arith)
 
-module _ (lines : List (List ℕ)) (square : List ℕ) (from n x y : ℕ) (long : length lines ≡ 64) (few : n ≤ 64) where
+-- dot u of line i, of so many first ones
+abbrev pub first_dot : List (List ℕ) → ℕ → ℕ → ℕ → Bool
+first_dot lines count i u = ltb i count && (ltb u 1664 && dot (get_or lines i []) u)
+
+pub no_first : (lines : List (List ℕ)) (count i u : ℕ) → length lines ≡ 64 → 64 ≤ i → first_dot lines count i u ≡ false
+no_first lines count i u long h = rw (no_line lines i u long h, and_false (ltb u 1664)) (and_false (ltb i count))
+
+module _ (ink : ℕ → ℕ → Bool) (square : List ℕ) (from n x y : ℕ) (none : (k u : ℕ) → 64 ≤ k → ink k u ≡ false) (few : n ≤ 64) where
   -- a row of a square, whose last line is on the left
   down_row : (right i u : ℕ) (at : ℤ) → at +ℤ pos 64 ≡ pos right → i < 64 → u ≡ from + i
-      → ((s k : ℕ) → s < 64 → k < 64 → word_dot (get_or square k 0) s ≡ dot (get_or lines (63 - s) []) (from + k))
-      → (ltb x right && dot (get_or lines (right - 1 - x) []) u) ≡ shifted at (word_dot (get_or square i 0)) x
+      → ((s k : ℕ) → s < 64 → k < 64 → word_dot (get_or square k 0) s ≡ ink (63 - s) (from + k))
+      → (ltb x right && ink (right - 1 - x) u) ≡ shifted at (word_dot (get_or square i 0)) x
   down_row right i u at e h is dots = elim (met at x) [
     | inl p ↦ (let s = p.0 in let meets = p.1 in elim (cases_lt s 64) [
       | inl l ↦
@@ -55,7 +63,7 @@ module _ (lines : List (List ℕ)) (square : List ℕ) (from n x y : ℕ) (long 
     | inr q ↦ (elim (cases_lt x right) [
       | inl l ↦ (elim (cases_lt (right - 1 - x) 64) [
         | inl b ↦ absurd (q.0 (x + 64 - right) (omega (arith, ints)))
-        | inr g ↦ rw (lt-ltb x right l, no_line lines (right - 1 - x) u long g) (sym (q.1 (word_dot (get_or square i 0))))
+        | inr g ↦ rw (lt-ltb x right l, none (right - 1 - x) u g) (sym (q.1 (word_dot (get_or square i 0))))
       ])
       | inr g ↦ rw (le-ltb x right g) (sym (q.1 (word_dot (get_or square i 0))))
     ])
@@ -63,9 +71,9 @@ module _ (lines : List (List ℕ)) (square : List ℕ) (from n x y : ℕ) (long 
 
   -- the rows of one more square
   pub down_more : (top dy right : ℕ) (at : ℤ) → at +ℤ pos 64 ≡ pos right → from + n ≤ dy
-      → ((s k : ℕ) → s < 64 → k < 64 → word_dot (get_or square k 0) s ≡ dot (get_or lines (63 - s) []) (from + k))
-      → (ltb y (top + (from + n)) && (leb top y && (ltb (y - top) dy && (ltb x right && dot (get_or lines (right - 1 - x) []) (y - top)))))
-      ≡ ((ltb y (top + from) && (leb top y && (ltb (y - top) dy && (ltb x right && dot (get_or lines (right - 1 - x) []) (y - top))))) || words_dot square at (top + from) n x y)
+      → ((s k : ℕ) → s < 64 → k < 64 → word_dot (get_or square k 0) s ≡ ink (63 - s) (from + k))
+      → (ltb y (top + (from + n)) && (leb top y && (ltb (y - top) dy && (ltb x right && ink (right - 1 - x) (y - top)))))
+      ≡ ((ltb y (top + from) && (leb top y && (ltb (y - top) dy && (ltb x right && ink (right - 1 - x) (y - top))))) || words_dot square at (top + from) n x y)
   down_more top dy right at e deep dots = elim (cases_lt y (top + from)) [
     | inl l ↦ rw (lt-ltb y (top + from) l, lt-ltb y (top + (from + n)) (omega arith), lt-leb (top + from) y l) (or_false _)
     | inr g ↦ rw (le-ltb y (top + from) g, le-leb (top + from) y g, le-leb top y (omega arith)) (elim (cases_lt (y - (top + from)) n) [
@@ -74,19 +82,19 @@ module _ (lines : List (List ℕ)) (square : List ℕ) (from n x y : ℕ) (long 
     ])
   ]
 
-  module _ (below left : ℕ) (whole : length square ≡ 64) (dots : (s k : ℕ) → s < 64 → k < 64 → word_dot (get_or square k 0) s ≡ dot (get_or lines s []) (from + k)) where
+  module _ (below left : ℕ) (whole : length square ≡ 64) (dots : (s k : ℕ) → s < 64 → k < 64 → word_dot (get_or square k 0) s ≡ ink s (from + k)) where
     -- a row of a square, whose first line is on the left
     up_row : (words : List ℕ) (i u : ℕ) → get_or words i 0 ≡ get_or square (n - 1 - i) 0 → i < n → u ≡ from + (n - 1 - i)
-        → (leb left x && dot (get_or lines (x - left) []) u) ≡ shifted (pos left) (word_dot (get_or words i 0)) x
+        → (leb left x && ink (x - left) u) ≡ shifted (pos left) (word_dot (get_or words i 0)) x
     up_row words i u at h is = rw (at, is) (ap (λ b. leb left x && b) (elim (cases_lt (x - left) 64) [
       | inl l ↦ sym (dots (x - left) (n - 1 - i) l (omega arith))
-      | inr g ↦ rw (le-ltb (x - left) 64 g) (no_line lines (x - left) (from + (n - 1 - i)) long g)
+      | inr g ↦ rw (le-ltb (x - left) 64 g) (none (x - left) (from + (n - 1 - i)) g)
     ]))
 
     -- the rows of one more square
     pub up_more : (dy : ℕ) (words : List ℕ) (at : ℤ) → ((i : ℕ) → i < n → get_or words i 0 ≡ get_or square (n - 1 - i) 0) → at ≡ pos left → from + n ≤ dy → dy ≤ below
-        → (ltb (below - 1 - y) (from + n) && (ltb y below && (ltb (below - 1 - y) dy && (leb left x && dot (get_or lines (x - left) []) (below - 1 - y)))))
-        ≡ ((ltb (below - 1 - y) from && (ltb y below && (ltb (below - 1 - y) dy && (leb left x && dot (get_or lines (x - left) []) (below - 1 - y)))))
+        → (ltb (below - 1 - y) (from + n) && (ltb y below && (ltb (below - 1 - y) dy && (leb left x && ink (x - left) (below - 1 - y)))))
+        ≡ ((ltb (below - 1 - y) from && (ltb y below && (ltb (below - 1 - y) dy && (leb left x && ink (x - left) (below - 1 - y)))))
         || words_dot words at (below - from - n) n x y)
     up_more dy words at is place deep all = rw place (elim (cases_lt y below) [
       | inl h ↦ rw (lt-ltb y below h) (elim (cases_lt (below - 1 - y) from) [

@@ -6,6 +6,7 @@ mod area;
 mod laws;
 mod line;
 mod page;
+mod words;
 
 pub use across::AT_ONCE;
 pub use area::{Area, Direction};

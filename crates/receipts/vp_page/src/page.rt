@@ -5,7 +5,7 @@ ghost use Rattle.vp_dots.specs.Images.{row_of};
 ghost use Rattle.vp_page.specs.declared.line.TheConstants.{LINE_BYTES, LINE_DOTS};
 ghost use Rattle.vp_page.specs.declared.page.TheConstants.{PAPER_BYTES, PAGE_ROWS};
 
-use crate::across::{AT_ONCE, first_lines, lay_lines_down, lay_lines_up};
+use crate::across::{AT_ONCE, lay_lines_down, lay_lines_up};
 use crate::line::{
     LINE_BYTES, draw, lay_down, lay_eight_down, lay_eight_up, lay_left, lay_right, lay_up, whiten,
 };
@@ -132,12 +132,10 @@ impl Page {
         let room = (depth - v) as usize;
         let left = u32::from(area.x);
         match direction {
-            Direction::BottomToTop => {
-                lay_lines_up(&first_lines(lines, room), area, left + v, &mut self.band)
-            }
+            Direction::BottomToTop => { lay_lines_up(lines, room, area, left + v, &mut self.band) }
             Direction::TopToBottom => {
                 let right = left + depth - v;
-                lay_lines_down(&first_lines(lines, room), area, right, &mut self.band)
+                lay_lines_down(lines, room, area, right, &mut self.band)
             }
             _ => {
                 for i in 0..AT_ONCE {

@@ -1,0 +1,106 @@
+-- Words painted on rows of the page.
+use Rattle.std.proofs.Common.{inl, inr, ◌≡◌, ℕ, ◌+◌, ◌-◌, ◌*◌, ◌/◌, ◌%◌, ◌^◌, ◌<◌, ◌≤◌, Bool, true, false, cond, eqb, ltb, leb, ◌&&◌, ◌||◌, refl, sym, ap, ◌∙◌, arith, List, bit_or, length, get_or, set}
+use Rattle.std.specs.Int.{to_be_bytes, reverse_bits_onto, w64}
+use lib.Lanes.{zip2, chunk, put_chunk}
+use Rattle.std.proofs.lemmas.Simd.{get_or-zip2, get_or-chunk, length-zip2, length-chunk}
+use Rattle.std.proofs.lemmas.Bool.{cases_lt, lt-ltb, le-ltb, lt-leb, le-leb}
+use Rattle.std.proofs.lemmas.Bool.Decides.{nat_tests}
+use Rattle.vp_dots.specs.Dots.{bit, dot, span}
+use Rattle.vp_dots.specs.Words.{word_dot}
+use Rattle.vp_dots.specs.Painting.{Painted}
+use Rattle.vp_dots.specs.declared.Op.TheVariants.{Black}
+use Rattle.vp_dots.proofs.Bits.{bit_of_or}
+use Rattle.vp_dots.proofs.Blocks.{painted_block}
+use Rattle.vp_dots.proofs.Paints.{painted_same, painted_byte_at}
+use Rattle.vp_dots.proofs.Words.{or_false, and_false, bit_shl, word_byte, word_shr}
+use Rattle.vp_dots.proofs.Cuts.{bit_low64}
+use Rattle.vp_page.proofs.Bytes.{word_bit_reversed}
+
+module _ (word i : ℕ) (row : List ℕ) (room : i + 8 ≤ length row) where
+  lane : (j k : ℕ) → j < 8 → k < 8
+      → bit (get_or (zip2 bit_or (chunk i 8 row) (to_be_bytes w64 word)) j 0) k ≡ cond (leb (8 * i) (8 * (i + j) + (7 - k)) && word_dot word (8 * (i + j) + (7 - k) - 8 * i)) true (bit (get_or row (i + j) 0) k)
+  lane j k p h =
+      let place : 8 * (i + j) + (7 - k) - 8 * i ≡ 8 * j + (7 - k) = omega arith in
+      let ink : (leb (8 * i) (8 * (i + j) + (7 - k)) && word_dot word (8 * (i + j) + (7 - k) - 8 * i)) ≡ bit word (63 - (8 * j + (7 - k))) =
+      rw (le-leb (8 * i) (8 * (i + j) + (7 - k)) (omega arith), place, lt-ltb (8 * j + (7 - k)) 64 (omega arith)) refl in
+      ap (λ x. bit x k) (get_or-zip2 bit_or (chunk i 8 row) (to_be_bytes w64 word) j 0 0 0 (omega (arith, length-chunk i 8 row room)) p
+      ∙ ap (λ x. bit_or x (get_or (to_be_bytes w64 word) j 0)) (get_or-chunk i 8 row j 0 p))
+      ∙ bit_of_or (get_or row (i + j) 0) (get_or (to_be_bytes w64 word) j 0) k
+      ∙ ap (λ b. cond b true (bit (get_or row (i + j) 0) k)) (word_byte word j k p h ∙ sym ink)
+
+  spanned : (d : ℕ) (b : Bool) → (span i (i + 8) (d / 8) && (leb (8 * i) d && (ltb (d - 8 * i) 64 && b))) ≡ (leb (8 * i) d && (ltb (d - 8 * i) 64 && b))
+  spanned d b = grind (arith, nat_tests)
+
+  long : length (zip2 bit_or (chunk i 8 row) (to_be_bytes w64 word)) ≡ 8
+  long = length-zip2 bit_or (chunk i 8 row) (to_be_bytes w64 word) (length-chunk i 8 row room) ∙ length-chunk i 8 row room
+
+  -- eight bytes with a word on them
+  pub eight_painted : (bytes : List ℕ) → bytes ≡ to_be_bytes w64 word → Painted Black (λ d. leb (8 * i) d && word_dot word (d - 8 * i)) row (put_chunk i row (zip2 bit_or (chunk i 8 row) bytes))
+  eight_painted bytes e = rw e (painted_same Black _ _ _ _ (λ d l. spanned d (bit word (63 - (d - 8 * i))))
+      (painted_block Black (λ d. leb (8 * i) d && word_dot word (d - 8 * i)) i 8 row _ long room (λ j l k m. lane j k l m)))
+
+-- a byte with a mask on it
+pub byte_painted : (mask i : ℕ) (row : List ℕ) → i < length row → Painted Black (λ d. eqb (d / 8) i && bit mask (7 - d % 8)) row (set row i (bit_or (get_or row i 0) mask))
+byte_painted mask i row h = painted_byte_at Black (λ d. bit mask (7 - d % 8)) i _ row h
+    (λ k l. bit_of_or (get_or row i 0) mask k ∙ ap (λ n. cond (bit mask n) true (bit (get_or row i 0) k)) (let e : k ≡ 7 - (8 * i + (7 - k)) % 8 = omega arith in e))
+
+-- a word that begins in the last eight bytes of a row
+pub last_eight : (word at far d : ℕ) → word < 2 ^ 64 → at ≤ far → d < at + 64
+    → (leb at d && word_dot (word / 2 ^ (far - at)) (d - at)) ≡ (leb far d && word_dot word (d - far))
+last_eight word at far d fits from h = elim (cases_lt d at) [
+  | inl l ↦ rw (lt-leb at d l, lt-leb far d (omega arith)) refl
+  | inr g ↦ rw (le-leb at d g, lt-ltb (d - at) 64 (omega arith)) (word_shr word (far - at) (d - at) fits (omega arith) ∙ elim (cases_lt d far) [
+    | inl b ↦ rw (lt-leb (far - at) (d - at) (omega arith), lt-leb far d b) refl
+    | inr a ↦ rw (le-leb (far - at) (d - at) (omega arith), le-leb far d a, lt-ltb (d - far) 64 (omega arith)) (ap (bit word) (omega arith))
+  ])
+]
+
+-- a word that begins before a row
+pub first_eight : (word far d : ℕ) → (leb 0 d && word_dot (word * 2 ^ far % 2 ^ 64) (d - 0)) ≡ word_dot word (d + far)
+first_eight word far d = rw (le-leb 0 d (omega arith), (let e : d - 0 ≡ d = omega arith in e)) (elim (cases_lt d 64) [
+  | inl l ↦ rw (lt-ltb d 64 l) (bit_low64 (word * 2 ^ far) (63 - d) (omega arith) ∙ bit_shl word far (63 - d) ∙ elim (cases_lt (d + far) 64) [
+    | inl m ↦ rw (le-leb far (63 - d) (omega arith), lt-ltb (d + far) 64 m) (ap (bit word) (omega arith))
+    | inr g ↦ rw (lt-leb far (63 - d) (omega arith), le-ltb (d + far) 64 g) refl
+  ])
+  | inr g ↦ rw (le-ltb d 64 g, le-ltb (d + far) 64 (omega arith)) refl
+])
+
+module _ (f : ℕ → Bool) (q k d : ℕ) where
+  -- one more word of a line
+  pub words_more : (word : ℕ) → ((x : ℕ) → x < 64 → word_dot word x ≡ f (64 * k + x))
+      → (ltb d (8 * q + 64 * (k + 1)) && (leb (8 * q) d && f (d - 8 * q))) ≡ (ltb d (8 * q + 64 * k) && (leb (8 * q) d && f (d - 8 * q)) || leb (8 * (q + 8 * k)) d && word_dot word (d - 8 * (q + 8 * k)))
+  words_more word is = elim (cases_lt d (8 * q + 64 * k)) [
+    | inl l ↦ rw (lt-ltb d (8 * q + 64 * k) l, lt-ltb d (8 * q + 64 * (k + 1)) (omega arith), lt-leb (8 * (q + 8 * k)) d (omega arith)) (or_false _)
+    | inr g ↦ rw (le-ltb d (8 * q + 64 * k) g, le-leb (8 * (q + 8 * k)) d (omega arith)) (elim (cases_lt d (8 * q + 64 * (k + 1))) [
+      | inl m ↦ rw (lt-ltb d (8 * q + 64 * (k + 1)) m, le-leb (8 * q) d (omega arith))
+          (ap f (let e : d - 8 * q ≡ 64 * k + (d - 8 * (q + 8 * k)) = omega arith in e) ∙ sym (is (d - 8 * (q + 8 * k)) (omega arith)))
+      | inr o ↦ rw (le-ltb d (8 * q + 64 * (k + 1)) o, le-ltb (d - 8 * (q + 8 * k)) 64 (omega arith)) refl
+    ])
+  ]
+
+  pub words_apart : (word : ℕ) → (ltb d (8 * q + 64 * k) && (leb (8 * q) d && f (d - 8 * q)) && (leb (8 * (q + 8 * k)) d && word_dot word (d - 8 * (q + 8 * k)))) ≡ false
+  words_apart word = elim (cases_lt d (8 * q + 64 * k)) [
+    | inl l ↦ rw (lt-leb (8 * (q + 8 * k)) d (omega arith)) (and_false _)
+    | inr g ↦ rw (le-ltb d (8 * q + 64 * k) g) refl
+  ]
+
+  -- after the last word
+  pub words_all : ((u : ℕ) → 64 * k ≤ u → f u ≡ false) → (ltb d (8 * q + 64 * k) && (leb (8 * q) d && f (d - 8 * q))) ≡ (leb (8 * q) d && f (d - 8 * q))
+  words_all past = elim (cases_lt d (8 * q + 64 * k)) [
+    | inl l ↦ rw (lt-ltb d (8 * q + 64 * k) l) refl
+    | inr g ↦ rw (le-ltb d (8 * q + 64 * k) g, past (d - 8 * q) (omega arith)) (sym (and_false _))
+  ]
+
+-- before the first word
+pub words_none : (q d : ℕ) (b : Bool) → (ltb d (8 * q + 64 * 0) && (leb (8 * q) d && b)) ≡ false
+words_none q d b = grind (arith, nat_tests)
+
+-- a word of a line from its last dot on
+pub back_word : (line : List ℕ) (word back k x : ℕ) → x < 64 → 8 * (k + 1) ≤ length line → back ≡ reverse_bits_onto 64 word 0
+    → ((x : ℕ) → x < 64 → word_dot word x ≡ dot line (8 * (length line - 8 * (k + 1)) + x))
+    → word_dot back x ≡ (ltb (64 * k + x) (8 * length line) && dot line (8 * length line - 1 - (64 * k + x)))
+back_word line word back k x h room e is =
+    let place : 8 * (length line - 8 * (k + 1)) + (63 - x) ≡ 8 * length line - 1 - (64 * k + x) = omega arith in
+    let there : word_dot word (63 - x) ≡ bit word (63 - (63 - x)) = rw (lt-ltb (63 - x) 64 (omega arith)) refl in
+    rw (e, lt-ltb x 64 h, lt-ltb (64 * k + x) (8 * length line) (omega arith))
+    (word_bit_reversed word (63 - x) (omega arith) ∙ sym there ∙ is (63 - x) (omega arith) ∙ ap (dot line) place)

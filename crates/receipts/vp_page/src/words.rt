@@ -1,0 +1,152 @@
+//! Rows of the page blackened by words of 64 dots: by a word at any place, and by a line whose words stand on
+//! whole bytes, forwards or from its last dot to its first.
+ghost use Rattle.std.specs.Prelude.{◌≡◌, ℕ, ◌+◌, ◌-◌, ◌*◌, ◌/◌, ◌%◌, ◌<◌, ◌≤◌, ◌==◌, ◌&&◌, nat_lt, nat_le, length};
+ghost use Rattle.vp_dots.specs.Dots.{bit, dot, dots, shifted};
+ghost use Rattle.vp_dots.specs.Words.{word_dot};
+ghost use Rattle.vp_dots.specs.Painting.{Painted};
+ghost use Rattle.vp_dots.specs.Places.{words_dot, RowsPainted};
+ghost use Rattle.vp_dots.specs.declared.Op.TheVariants.{Black};
+ghost use Rattle.vp_page.specs.declared.page.TheConstants.{PAPER_BYTES, PAGE_ROWS};
+
+use crate::page::{PAPER_BYTES, PageBand};
+use std::simd::u8x8;
+use vp_dots::{eight_at, or_into};
+
+/// Where the last eight bytes of a row of the page begin.
+const LAST: usize = PAPER_BYTES - 8;
+
+/// Blackens eight bytes of the row, from byte i on, where the word is black.
+// By lanes, so that the bytes are written at once.
+#[inline(always)]
+fn or_eight(word: u64, i: usize, row: &mut [u8])
+    requires { i + 8 ≤ length row.old }
+    ensures { Painted Black (λ d. nat_le (8 * i) d && word_dot word (d - 8 * i)) row.old row.new }
+{
+    let bytes = word.to_be_bytes();
+    let new = u8x8::from_slice(&row[i..]) | u8x8::from_array(bytes);
+    new.copy_to_slice(&mut row[i..]);
+}
+
+/// Blackens byte i of the row where the mask is black.
+#[inline(always)]
+fn or_byte(mask: u8, i: usize, row: &mut [u8])
+    requires { i < length row.old }
+    ensures { Painted Black (λ d. d / 8 == i && bit mask (7 - d % 8)) row.old row.new }
+{
+    row[i] |= mask;
+}
+
+/// The dots that a word loses when it moves s dots to the right.
+#[inline(always)]
+fn lost(word: u64, s: u32) -> u8
+    requires { s < 8 }
+    ensures { (k : ℕ) → k < 8 → bit result k ≡ (nat_le (8 - s) k && bit word (k - (8 - s))) }
+{
+    (((word & 255) * 256) >> s & 255) as u8
+}
+
+/// Blackens the dots d of the row where dot d - far of the word is black: the row has room for nine bytes.
+#[inline(always)]
+fn or_inside(word: u64, far: u64, row: &mut [u8])
+    requires { far / 8 + 9 ≤ length row.old }
+    ensures { Painted Black (λ d. nat_le far d && word_dot word (d - far)) row.old row.new }
+{
+    let s = (far % 8) as u32;
+    let i = (far / 8) as usize;
+    or_eight(word >> s, i, row);
+    or_byte(lost(word, s), i + 8, row);
+}
+
+/// Blackens the dots d of a row of the page where dot d - far of the word is black.
+#[inline(always)]
+fn or_right(word: u64, far: u64, row: &mut [u8])
+    requires { length row.old ≡ PAPER_BYTES }
+    ensures { Painted Black (λ d. nat_le far d && word_dot word (d - far)) row.old row.new }
+{
+    let last = 8 * LAST as u64;
+    if far < last {
+        or_inside(word, far, row);
+    } else if far - last < 64 {
+        or_eight(word >> (far - last), LAST, row);
+    }
+}
+
+/// Blackens the dots d of a row of the page where dot d + far of the word is black.
+#[inline(always)]
+fn or_left(word: u64, far: u64, row: &mut [u8])
+    requires { length row.old ≡ PAPER_BYTES }
+    ensures { Painted Black (λ d. word_dot word (d + far)) row.old row.new }
+{
+    if far < 64 {
+        or_eight(word << far, 0, row);
+    }
+}
+
+/// Blackens the dots d of a row of the page where dot d - left of the word is black.
+#[inline(always)]
+fn or_word(word: u64, left: i64, row: &mut [u8])
+    requires { length row.old ≡ PAPER_BYTES }
+    ensures { Painted Black (shifted left (word_dot word)) row.old row.new }
+{
+    if left >= 0 {
+        or_right(word, left.unsigned_abs(), row);
+    } else {
+        or_left(word, left.unsigned_abs(), row);
+    }
+}
+
+/// Blackens rows of the page, from one on, where the first h words, moved by an offset, are black.
+pub(crate) fn lay_words(words: &[u64], h: usize, left: i64, top: usize, band: &mut PageBand)
+    requires few { h ≤ length words.now }
+    requires room { top + h ≤ PAGE_ROWS }
+    ensures { RowsPainted PAGE_ROWS Black (words_dot words.now left top h) band.old band.new }
+{
+    for i in 0..h {
+        or_word(words[i], left, band.row_mut(top + i));
+    }
+}
+
+/// Blackens the row where the line, its first byte on byte q, is black.
+#[inline(always)]
+fn or_words(line: &[u8], q: usize, row: &mut [u8])
+    requires whole { length line.now % 8 ≡ 0 }
+    requires room { q + length line.now ≤ length row.old }
+    ensures { Painted Black (λ d. nat_le (8 * q) d && dot line.now (d - 8 * q)) row.old row.new }
+{
+    for k in 0..line.len() / 8 {
+        or_eight(eight_at(line, 8 * k), q + 8 * k, row);
+    }
+}
+
+/// Blackens the row where the line, its last byte on byte q and each dot on the left of the one before, is
+/// black.
+#[inline(always)]
+pub(crate) fn or_words_back(line: &[u8], q: usize, row: &mut [u8])
+    requires whole { length line.now % 8 ≡ 0 }
+    requires room { q + length line.now ≤ length row.old }
+    ensures { Painted Black (λ d. nat_le (8 * q) d && (nat_lt (d - 8 * q) (dots line.now)
+        && dot line.now (dots line.now - 1 - (d - 8 * q)))) row.old row.new }
+{
+    for k in 0..line.len() / 8 {
+        let word = eight_at(line, line.len() - 8 * (k + 1));
+        or_eight(word.reverse_bits(), q + 8 * k, row);
+    }
+}
+
+/// Blackens the dots d of the row where dot d - at of the line is black.
+pub(crate) fn or_line(line: &[u8], at: i64, row: &mut [u8])
+    ensures { Painted Black (shifted at (dot line.now)) row.old row.new }
+{
+    let far = at.unsigned_abs();
+    let q = (far / 8) as usize;
+    if at >= 0
+        && far % 8 == 0
+        && line.len() % 8 == 0
+        && q <= row.len()
+        && line.len() <= row.len() - q
+    {
+        or_words(line, q, row);
+    } else {
+        or_into(line, at, row);
+    }
+}
