@@ -226,7 +226,7 @@ impl Cell<'_> {
             paint_word(op, magnified(word, wm), at, row);
             return;
         }
-        if wm <= 10 && at < FAR {
+        if 6 * wm <= 64 && at < FAR {
             paint_halves(op, at, word, wm, row);
             return;
         }

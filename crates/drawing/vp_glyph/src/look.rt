@@ -84,7 +84,6 @@ pub fn inverted(word: u64) -> u64
 }
 
 /// The dots of a mask, where a word has dot s.
-#[inline(always)]
 pub fn picked(word: u64, s: u32, mask: u64) -> u64
     requires { s < 64 }
     ensures { (x : ℕ) → word_dot result x ≡ (word_dot word s && word_dot mask x) }
@@ -147,7 +146,7 @@ pub fn magnified(word: u64, wm: u32) -> u64
 /// Paints the first twelve dots of a word, each drawn so many dots wide: six and six.
 pub fn paint_halves(op: Op, at: i64, word: u64, wm: u32, row: &mut [u8])
     requires near { at <ℤ pos (2 ^ 40) }
-    requires wm { wm ≤ 10 }
+    requires narrow { 6 * wm ≤ 64 }
     ensures { Painted op (shifted at (λ x. nat_lt x (12 * wm) && word_dot word (x / wm))) row.old row.new }
 {
     paint_word(op, widened::<6>(word, wm), at, row);

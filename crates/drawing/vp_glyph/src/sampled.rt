@@ -89,7 +89,7 @@ fn within(place: u128, left: u32, places: u32) -> u32
 }
 
 /// How many cells of w dots end within so many dots.
-fn whole_cells(dots: u32, w: u32) -> u32
+pub fn whole_cells(dots: u32, w: u32) -> u32
     requires some { 0 < w }
     ensures { result ≡ dots / w }
 {
@@ -109,6 +109,26 @@ fn begun_cells(dots: u32, w: u32, cells: usize) -> usize
     dots.div_ceil(w) as usize
 }
 
+/// Of so many dots from a place on, the first that can be seen on a row of so many bytes, and the one behind
+/// the last.
+pub fn seen_dots(at: i64, left: u32, dots: u32, bytes: usize) -> (u32, u32)
+    requires fits { left + dots < 2 ^ 32 }
+    ensures before { (x d : ℕ) → left ≤ x → x < left + result.0 → pos d ≡ at +ℤ pos x → d < 0 }
+    ensures behind { (x d : ℕ) → left + result.1 ≤ x → x < left + dots → pos d ≡ at +ℤ pos x
+        → 8 * bytes ≤ d }
+    ensures first { result.0 ≤ dots }
+    ensures last { result.1 ≤ dots }
+{
+    let far = u128::from(at.unsigned_abs());
+    let room = 8 * bytes as u128;
+    let (from, to) = if at >= 0 {
+        (0, room.saturating_sub(far))
+    } else {
+        (far, room + far)
+    };
+    (within(from, left, dots), within(to, left, dots))
+}
+
 /// Of so many cells of w dots side by side, which begin at a place, the first that can be seen on a row of so
 /// many bytes, and the one behind the last.
 pub fn seen(at: i64, left: u32, w: u32, cells: usize, bytes: usize) -> (usize, usize)
@@ -120,18 +140,8 @@ pub fn seen(at: i64, left: u32, w: u32, cells: usize, bytes: usize) -> (usize, u
     ensures first { result.0 ≤ cells }
     ensures last { result.1 ≤ cells }
 {
-    let far = u128::from(at.unsigned_abs());
-    let room = 8 * bytes as u128;
-    let (from, to) = if at >= 0 {
-        (0, room.saturating_sub(far))
-    } else {
-        (far, room + far)
-    };
-    let wide = w * cells as u32;
-    (
-        whole_cells(within(from, left, wide), w) as usize,
-        begun_cells(within(to, left, wide), w, cells),
-    )
+    let (from, to) = seen_dots(at, left, w * cells as u32, bytes);
+    (whole_cells(from, w) as usize, begun_cells(to, w, cells))
 }
 
 impl Sampled<'_> {

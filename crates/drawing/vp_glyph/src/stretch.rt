@@ -116,6 +116,21 @@ impl Stretch {
         }
     }
 
+    /// The first twelve dots of a word, drawn so wide: the masks of those that are black.
+    // A call leaves the masks where they are; inlined, a loop over cells would first move all to the stack.
+    #[inline(never)]
+    fn masked(&self, word: u64) -> u64
+        requires { self.now.width ≤ 64 }
+        ensures { (x : ℕ) → word_dot result x ≡ (nat_lt x self.now.width
+            && word_dot word (x * 12 / self.now.width)) }
+    {
+        let mut wide = 0u64;
+        for s in 0..CELL {
+            wide |= picked(word, s, self.masks[s as usize]);
+        }
+        wide
+    }
+
     /// The first twelve dots of a word, drawn so wide.
     #[inline(always)]
     fn of(&self, word: u64) -> u64
@@ -126,11 +141,7 @@ impl Stretch {
         if self.width == 2 * CELL {
             return doubled(word);
         }
-        let mut wide = 0u64;
-        for s in 0..CELL {
-            wide |= picked(word, s, self.masks[s as usize]);
-        }
-        wide
+        self.masked(word)
     }
 
     /// The first 64 dots of a row on which the first twelve dots of a word stand, from a place on.

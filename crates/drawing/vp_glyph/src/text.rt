@@ -4,7 +4,7 @@ ghost use Rattle.vp_dots.specs.Dots.{shifted};
 ghost use Rattle.vp_dots.specs.Painting.{Painted};
 ghost use Rattle.vp_glyph.specs.Texts.{text_dot};
 
-use crate::sampled::{cell_front, paint_cell, seen, source_row};
+use crate::sampled::{cell_front, paint_cell, seen, seen_dots, source_row, whole_cells};
 use crate::sheet::Sheet;
 use crate::stretch::Stretch;
 use vp_dots::{Op, paint_word};
@@ -60,10 +60,12 @@ fn paint_short(
     }
     let w = stretch.width;
     let source = source_row(y, h);
-    let (from, to) = seen(at, 0, w, text.len(), row.len());
+    let (from, to) = seen_dots(at, 0, w * text.len() as u32, row.len());
+    let mut k = whole_cells(from, w) as usize;
     let mut front = 0u64;
-    for k in from..to {
+    while k < text.len() && w * (k as u32) < to {
         front |= cell_front(sheet, text[k], source, stretch, at, w * k as u32);
+        k += 1;
     }
     paint_word(op, front, 0, row);
 }
