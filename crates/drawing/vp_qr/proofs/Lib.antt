@@ -15,6 +15,7 @@ pub mod Lengths
 pub mod BlockTable
 pub mod FreeModules
 pub mod ShapeLines
+pub mod FormatAcross
 pub mod Flips
 pub mod InkLines
 pub mod Encodings

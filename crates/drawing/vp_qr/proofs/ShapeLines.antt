@@ -51,22 +51,23 @@ and_none : (b : Bool) → (b && false) ≡ false
 and_none true = refl
 and_none false = refl
 
+-- what is in neither part is not in the shape
+pub in_no_part : (a b c d : Bool) → c ≡ false → d ≡ false → ((a && (c || d)) || (b && c)) ≡ true → ⊥
+in_no_part a b true d hc hd h = cc
+in_no_part a b false true hc hd h = cc
+in_no_part true true false false hc hd h = cc
+in_no_part true false false false hc hd h = cc
+in_no_part false true false false hc hd h = cc
+in_no_part false false false false hc hd h = cc
+
 right_side : (s i j : ℕ) → 8 ≤ j → finder s i j ≡ true → s - 8 ≤ j
 right_side s i j right h = elim (cases_lt j (s - 8)) [
   | inr le ↦ le
   | inl lt ↦
       let left : ltb j 8 ≡ false = le-ltb j 8 right in
       let far : leb (s - 8) j ≡ false = lt-leb (s - 8) j lt in
-      absurd (clash (ltb i 8) (leb (s - 8) i) (ltb j 8) (leb (s - 8) j) left far h)
+      absurd (in_no_part (ltb i 8) (leb (s - 8) i) (ltb j 8) (leb (s - 8) j) left far h)
 ]
-  where
-    clash : (a b c d : Bool) → c ≡ false → d ≡ false → ((a && (c || d)) || (b && c)) ≡ true → ⊥
-    clash a b true d hc hd h = cc
-    clash a b false true hc hd h = cc
-    clash true true false false hc hd h = cc
-    clash true false false false hc hd h = cc
-    clash false true false false hc hd h = cc
-    clash false false false false hc hd h = cc
 
 pub finder_line_is : (s i one j : ℕ) → 21 ≤ s → s ≤ 57 → j < s
     → ((k : ℕ) → k < 64 → is_set one k ≡ in_finder (apart (finder_centre s i) i) k)

@@ -10,7 +10,7 @@ use crate::lines::{alignments, corners, only, span, versions};
 use crate::walk::is_near;
 
 /// The modules of one word where a shape stands, and of another elsewhere.
-fn chosen(shape: u64, inside: u64, outside: u64) -> u64
+pub fn chosen(shape: u64, inside: u64, outside: u64) -> u64
     ensures { (j : ℕ) → j < 64 → is_set result j
         ≡ (if is_set shape j then is_set inside j else is_set outside j) }
 {

@@ -1,6 +1,6 @@
 //! The modules of a finished symbol: patterns, format and version by their places, and data under a mask.
 
-ghost use Rattle.std.specs.Prelude.{◌≡◌, ◌==◌, ◌<◌, ◌≤◌, ◌&&◌, not, ℕ, true};
+ghost use Rattle.std.specs.Prelude.{◌≡◌, ◌==◌, ◌<◌, ◌≤◌, ◌-◌, ◌&&◌, not, ℕ, true};
 ghost use Rattle.vp_qr.specs.Places.{size, corner, reserved};
 ghost use Rattle.vp_qr.specs.Penalty.{is_set};
 ghost use Rattle.vp_qr.specs.Symbol.{
@@ -17,9 +17,9 @@ ghost use Rattle.vp_qr.specs.Grids.{IsGrid};
 
 use crate::code::{format_code, version_code};
 use crate::level::Level;
-use crate::lines::{format_line, only};
+use crate::lines::{format_line, only, span};
 use crate::mask::is_dark;
-use crate::shapes::pattern_line;
+use crate::shapes::{chosen, pattern_line};
 use crate::walk::{fill, free_rows};
 
 /// Which bit of the format stands on a module.
@@ -51,6 +51,30 @@ fn format_bit(size: usize, row: usize, column: usize) -> usize
         return 6;
     }
     (row + 15).saturating_sub(size)
+}
+
+/// The fifteen bits of the format, the highest of them first.
+fn highest_first(format: u64) -> u64
+    ensures { (j : ℕ) → j < 15 → is_set result j ≡ is_set format (14 - j) }
+{
+    let mut bits = 0;
+    for at in 0..15usize {
+        bits |= (format >> (14 - at) & 1) << at;
+    }
+    bits
+}
+
+/// The bits of the format across row 8: six at its left end, two behind the timing pattern, and the rest at
+/// its right end.
+fn format_across(size: usize, format: u64) -> u64
+    requires low { 21 ≤ size }
+    requires high { size ≤ 57 }
+    ensures { (j : ℕ) → j < size → corner size 8 j ≡ true → (j ≡ 6 → ⊥)
+        → is_set result j ≡ (bit_at format (format_bit size 8 j) == 1) }
+{
+    let bits = highest_first(format);
+    let right_end = bits << (size - 15);
+    chosen(span(0, 6), bits, chosen(span(0, 9), bits << 1, right_end))
 }
 
 /// Bit `at` of a code, 0 behind its highest.
@@ -203,18 +227,7 @@ impl Grid {
         if row != 8 {
             return only(self.is_format_dark(format, row), places);
         }
-        let size = 17 + 4 * self.version;
-        let mut line = 0;
-        for column in 0..size {
-            if !is_dark(places, column) {
-                continue;
-            }
-            if !bit(format, format_bit(size, row, column)) {
-                continue;
-            }
-            line |= 1 << column;
-        }
-        line
+        places & format_across(17 + 4 * self.version, format)
     }
 
     /// A row of the finished symbol: the data under the mask, the patterns and the format.
