@@ -116,10 +116,8 @@ impl Stretch {
         }
     }
 
-    /// The first twelve dots of a word, drawn so wide: the masks of those that are black.
-    // A call leaves the masks where they are; inlined, a loop over cells would first move all to the stack.
-    #[inline(never)]
-    fn masked(&self, word: u64) -> u64
+    /// The first twelve dots of a word, drawn so wide.
+    fn of(&self, word: u64) -> u64
         requires { self.now.width ≤ 64 }
         ensures { (x : ℕ) → word_dot result x ≡ (nat_lt x self.now.width
             && word_dot word (x * 12 / self.now.width)) }
@@ -131,17 +129,28 @@ impl Stretch {
         wide
     }
 
-    /// The first twelve dots of a word, drawn so wide.
+    /// The first twelve dots of a word, drawn twice as wide.
     #[inline(always)]
-    fn of(&self, word: u64) -> u64
-        requires { self.now.width ≤ 64 }
+    fn twice(&self, word: u64) -> u64
+        requires { self.now.width ≡ 24 }
         ensures { (x : ℕ) → word_dot result x ≡ (nat_lt x self.now.width
             && word_dot word (x * 12 / self.now.width)) }
     {
-        if self.width == 2 * CELL {
-            return doubled(word);
+        doubled(word)
+    }
+
+    /// What `front` gives, by the masks where all dots fall on a word.
+    // A call leaves the masks where they are; inlined, a loop over cells would first move all to the stack.
+    #[inline(never)]
+    fn front_by_masks(&self, word: u64, at: i64, left: u32) -> u64
+        requires fits { left + self.now.width < 2 ^ 32 }
+        ensures { (d : ℕ) → d < 64 → word_dot result d ≡ shifted at (λ x. nat_le left x
+            && nat_lt (x - left) self.now.width && word_dot word ((x - left) * 12 / self.now.width)) d }
+    {
+        if self.width > WORD || at >= FAR {
+            return scaled_front(word, at, left, self.width);
         }
-        self.masked(word)
+        moved_word(self.of(word), moved(at, left))
     }
 
     /// The first 64 dots of a row on which the first twelve dots of a word stand, from a place on.
@@ -151,10 +160,24 @@ impl Stretch {
         ensures { (d : ℕ) → d < 64 → word_dot result d ≡ shifted at (λ x. nat_le left x
             && nat_lt (x - left) self.now.width && word_dot word ((x - left) * 12 / self.now.width)) d }
     {
-        if self.width > WORD || at >= FAR {
-            return scaled_front(word, at, left, self.width);
+        if self.width == 2 * CELL && at < FAR {
+            return moved_word(self.twice(word), moved(at, left));
         }
-        moved_word(self.of(word), moved(at, left))
+        self.front_by_masks(word, at, left)
+    }
+
+    /// What `paint` paints, by the masks where all dots fall on a word.
+    #[inline(never)]
+    fn paint_by_masks(&self, word: u64, op: Op, at: i64, left: u32, row: &mut [u8])
+        requires fits { left + self.now.width < 2 ^ 32 }
+        ensures { Painted op (shifted at (λ x. nat_le left x && nat_lt (x - left) self.now.width
+            && word_dot word ((x - left) * 12 / self.now.width))) row.old row.new }
+    {
+        if self.width > WORD || at >= FAR {
+            paint_scaled::<12>(op, at, word, left, self.width, row);
+            return;
+        }
+        paint_moved(op, self.of(word), moved(at, left), row);
     }
 
     /// Paints the first twelve dots of a word from a place on.
@@ -167,10 +190,10 @@ impl Stretch {
         if word == 0 {
             return;
         }
-        if self.width > WORD || at >= FAR {
-            paint_scaled::<12>(op, at, word, left, self.width, row);
+        if self.width == 2 * CELL && at < FAR {
+            paint_moved(op, self.twice(word), moved(at, left), row);
             return;
         }
-        paint_moved(op, self.of(word), moved(at, left), row);
+        self.paint_by_masks(word, op, at, left, row);
     }
 }

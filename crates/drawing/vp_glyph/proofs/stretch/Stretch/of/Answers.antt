@@ -1,7 +1,16 @@
-use Rattle.std.proofs.Common.{arith, ◌≡◌, ◌*◌, ◌/◌}
+use Rattle.std.proofs.Common.{ap, ◌∙◌, arith, refl, ◌&&◌}
+use Rattle.vp_dots.specs.Words.{word_dot}
+use Rattle.vp_glyph.proofs.Looks.{white_dot}
+use Rattle.vp_glyph.proofs.Masks.{stretch_none, stretch_more, stretch_all}
 use Rattle.vp_glyph.proofs.stretch.Stretch.of.Goals as goal
 
-pub returns-then-self : goal.returns-then-self
-returns-then-self c x =
-    let half : x * 12 / 24 ≡ x / 2 = omega arith in
-    rw (c.if-self.true, half) (c.doubled.ensures x)
+pub loop-s-init : goal.loop-s-init
+loop-s-init c x = white_dot x ∙ stretch_none (word_dot c.args.word) c.args.self.now.width x
+
+pub loop-s-preserved : goal.loop-s-preserved
+loop-s-preserved c x =
+    stretch_more (word_dot c.args.word) c.args.self.now.width c.loop-s.wide c.picked-wide.result _ c.loop-s.s x (c.loop-s.invariant x)
+    (c.picked-wide.ensures x ∙ ap (λ b. word_dot c.args.word c.loop-s.s && b) (c.args.self.now.masks_are c.requires c.loop-s.s x (omega arith))) refl
+
+pub returns : goal.returns
+returns c x = stretch_all (word_dot c.args.word) c.args.self.now.width c.loop-s.wide c.loop-s.s x (omega arith) (c.loop-s.invariant x)

@@ -1,6 +1,6 @@
 use Rattle.std.proofs.Common.{◌≡◌, ℕ, ◌*◌, ◌/◌, ◌&&◌, ltb}
 use Rattle.vp_dots.specs.Words.{word_dot}
-use Rattle.vp_glyph.proofs.stretch.Stretch.masked.Given as goal
+use Rattle.vp_glyph.proofs.stretch.Stretch.of.Given as goal
 
 -- the dots before s are drawn
 abbrev pub invariant-loop-s : goal.invariant-loop-s

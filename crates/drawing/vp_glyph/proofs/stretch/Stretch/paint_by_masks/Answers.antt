@@ -1,0 +1,11 @@
+use Rattle.std.proofs.Common.{rules, ◌∙◌, w64, sym}
+use mir.Val.{SFits}
+use Rattle.std.proofs.lemmas.Int.{to_z-of_z}
+use Rattle.vp_dots.specs.Words.{word_dot}
+use Rattle.vp_glyph.proofs.Masks.{word_painted}
+use Rattle.vp_glyph.proofs.stretch.Stretch.paint_by_masks.Goals as goal
+
+pub returns : goal.returns
+returns c =
+    let fits : SFits w64 c.moved.result = search rules in
+    rw (sym (to_z-of_z w64 c.args.at c.ranges.at)) (word_painted _ _ (word_dot c.args.word) c.args.left c.args.self.now.width c.of.result (to_z-of_z w64 c.moved.result fits ∙ c.moved.ensures) c.of.ensures c.args.op _ _ c.paint_moved.ensures)
