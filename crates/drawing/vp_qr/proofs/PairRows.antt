@@ -3,6 +3,7 @@ use Rattle.std.proofs.Common.{◌≡◌, ℕ, zero, suc, ◌+◌, ◌-◌, ◌*�
 use lib.Count.{ones}
 use Rattle.std.proofs.lemmas.Bool.{cases_lt, lt-ltb, lt-leb, le-leb, eqb-true}
 use Rattle.std.proofs.lemmas.Bool.Decides.{eqb_tells, nat_tests}
+use Rattle.std.proofs.lemmas.Nat.{div_below}
 use Rattle.vp_dots.specs.Dots.{bit, dot}
 use Rattle.vp_dots.specs.Words.{word_dot}
 use Rattle.vp_dots.proofs.Cuts.{bit_low64}
@@ -59,10 +60,13 @@ both_placed word (suc zero) h = is_set_shr word 62 1 ∙ sym (or_none (word_dot 
 both_placed word (suc (suc j)) h =
     is_set_shr word 62 (suc (suc j)) ∙ no_bit word (suc (suc j) + 62) h (omega arith) ∙ sym (neither (suc (suc j)) (is_set 3 1 && word_dot word 0) (is_set 3 0 && word_dot word (cond (is_set 3 1) 1 0)) (omega arith))
 
+top_bit : (word : ℕ) → word < 2 ^ 64 → word / 2 ^ 63 < 2
+top_bit word h = div_below word (2 ^ 63) 2 (omega arith) (omega arith)
+
 one_bit : (word j : ℕ) → word < 2 ^ 64 → 1 ≤ j → is_set (word / 2 ^ 63) j ≡ false
 one_bit word j h some = is_set_shr word 63 j ∙ no_bit word (j + 63) h (omega arith)
 
-pub right_placed : (word j : ℕ) → word < 2 ^ 64 → j < 64 → is_set (word / 2 ^ 63 * 2 ^ 1 % 2 ^ 64) j ≡ two_placed 2 word j
+right_placed : (word j : ℕ) → word < 2 ^ 64 → j < 64 → is_set (word / 2 ^ 63 * 2 ^ 1 % 2 ^ 64) j ≡ two_placed 2 word j
 right_placed word zero h lt = is_set_shl (word / 2 ^ 63) 1 0 lt
 right_placed word (suc zero) h lt = is_set_shl (word / 2 ^ 63) 1 1 lt ∙ is_set_shr word 63 0 ∙ sym (or_none (word_dot word 0) ∙ first_bit word)
 right_placed word (suc (suc j)) h lt =
@@ -71,17 +75,29 @@ right_placed word (suc (suc j)) h lt =
     ∙ one_bit word (suc (suc j) - 1) h (omega arith)
     ∙ sym (neither (suc (suc j)) (is_set 2 1 && word_dot word 0) (is_set 2 0 && word_dot word (cond (is_set 2 1) 1 0)) (omega arith))
 
-pub left_placed : (word j : ℕ) → word < 2 ^ 64 → is_set (word / 2 ^ 63) j ≡ two_placed 1 word j
+left_placed : (word j : ℕ) → word < 2 ^ 64 → is_set (word / 2 ^ 63) j ≡ two_placed 1 word j
 left_placed word zero h = is_set_shr word 63 0 ∙ sym (first_bit word)
 left_placed word (suc zero) h = one_bit word 1 h (omega arith)
 left_placed word (suc (suc j)) h =
     one_bit word (suc (suc j)) h (omega arith) ∙ sym (neither (suc (suc j)) (is_set 1 1 && word_dot word 0) (is_set 1 0 && word_dot word (cond (is_set 1 1) 1 0)) (omega arith))
 
-pub none_placed : (word j : ℕ) → is_set 0 j ≡ two_placed 0 word j
+none_placed : (word j : ℕ) → is_set 0 j ≡ two_placed 0 word j
 none_placed word zero = refl
 none_placed word (suc zero) = refl
 none_placed word (suc (suc j)) =
     is_set_zero (suc (suc j)) ∙ sym (neither (suc (suc j)) (is_set 0 1 && word_dot word 0) (is_set 0 0 && word_dot word (cond (is_set 0 1) 1 0)) (omega arith))
+
+pub one_placed : (word free j : ℕ) → word < 2 ^ 64 → free < 3 → j < 64 → is_set (word / 2 ^ 63 * free) j ≡ two_placed free word j
+one_placed word zero j h few lt =
+    let e : word / 2 ^ 63 * 0 ≡ 0 = omega arith in
+    ap (λ n. is_set n j) e ∙ none_placed word j
+one_placed word (suc zero) j h few lt =
+    let e : word / 2 ^ 63 * 1 ≡ word / 2 ^ 63 = omega arith in
+    ap (λ n. is_set n j) e ∙ left_placed word j h
+one_placed word (suc (suc zero)) j h few lt =
+    let e : word / 2 ^ 63 * 2 ≡ word / 2 ^ 63 * 2 ^ 1 % 2 ^ 64 = omega (arith, top_bit word h) in
+    ap (λ n. is_set n j) e ∙ right_placed word j h lt
+one_placed word (suc (suc (suc n))) j h few lt = absurd (omega arith)
 
 -- which of the two are free, and how many
 whole : (b : Bool) → (b && true) ≡ b

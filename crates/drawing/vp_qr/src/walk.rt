@@ -121,12 +121,10 @@ fn bits_for(free: u64, word: u64) -> u64
     ensures { (j : ℕ) → j < 64 → is_set result j ≡ (j == 1 && (is_set free 1 && word_dot word 0)
         || j == 0 && (is_set free 0 && word_dot word (if is_set free 1 then 1 else 0))) }
 {
-    match free {
-        3 => word >> 62,
-        2 => word >> 63 << 1,
-        1 => word >> 63,
-        _ => 0,
+    if free == 3 {
+        return word >> 62;
     }
+    (word >> 63) * free
 }
 
 /// Places the next bits on those of the two modules of a row in a pair of columns that hold data: how many.
