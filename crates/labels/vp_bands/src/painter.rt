@@ -8,6 +8,7 @@ ghost use Rattle.vp_field.specs.Strokes.{image_dot};
 ghost use Rattle.vp_field.specs.declared.view.View.{View as Seen};
 ghost use Rattle.vp_bands.specs.Meeting.{meeting, band_work};
 ghost use Rattle.vp_bands.specs.Standing.{fields_of, IsBefore};
+ghost use Rattle.vp_label_size.specs.declared.TheConstants.{WIDEST};
 
 use crate::meeting::BANDS;
 use crate::table::thread_fields;
@@ -90,7 +91,7 @@ impl BandPainter {
         band: &mut LabelBand,
     )
         requires before { IsBefore sheets.now stored.now view b self.old }
-        requires narrow { view.width ≤ 1248 }
+        requires narrow { view.width ≤ WIDEST }
         requires low { b < BANDS }
         ensures dots { (x k : ℕ) → k < 32 → dot (slice_index_or band.new k []) x
             ≡ image_dot view (map (stroke_of sheets.now stored.now) (fields_of self.old.entries)) x

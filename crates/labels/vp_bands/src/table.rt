@@ -1,29 +1,25 @@
 //! The entries of the fields of a format, threaded by the bands that they meet.
 ghost use Rattle.std.specs.Prelude.{◌≡◌, ℕ, ◌*◌, ◌<◌, ◌≤◌, length};
 ghost use Rattle.std.specs.List.{All};
-ghost use Rattle.vp_field.specs.Contents.{orientation_of};
 ghost use Rattle.vp_field.specs.Fields.{IsKept};
 ghost use Rattle.vp_field.specs.Turning.{turned_height};
 ghost use Rattle.vp_fields_by_band.specs.Threads.{entry_at, IsPlaced};
 ghost use Rattle.vp_bands.specs.Standing.{fields_of, IsSpanned, IsThreadedFor};
 
 use crate::meeting::{BANDS, span};
-use vp_field::{View, content_size};
+use vp_field::{View, content_size, orientation_of};
 use vp_fields_by_band::{Entry, Threads};
-use vp_format::{Content, FIELDS, Field, Format};
+use vp_format::{FIELDS, Field, Format};
 use vp_glyph::Sheets;
 use vp_zpl::item::Orientation;
 
-/// How many rows a box of w by h has that is turned; boxes, pictures and QR symbols are not.
-fn turned_rows(orientation: Orientation, content: &Content, w: u32, h: u32) -> u32
-    ensures { result ≡ turned_height (orientation_of orientation content.now) w h }
+/// How many rows a box of w by h has that is turned.
+fn turned_rows(orientation: Orientation, w: u32, h: u32) -> u32
+    ensures { result ≡ turned_height orientation w h }
 {
-    match (content, orientation) {
-        (
-            Content::Text(_) | Content::Block(_) | Content::Bars(_),
-            Orientation::Rotated | Orientation::BottomUp,
-        ) => w,
-        _ => h,
+    match orientation {
+        Orientation::Rotated | Orientation::BottomUp => w,
+        Orientation::Normal | Orientation::Inverted => h,
     }
 }
 
@@ -35,7 +31,8 @@ fn entry_for(sheets: &Sheets, stored: &[u8], view: View, field: Field) -> Entry
     ensures placed { view.height ≤ 32 * BANDS → IsPlaced result BANDS }
 {
     let (w, h) = content_size(sheets, stored, &field.content);
-    let rows = turned_rows(field.orientation, &field.content, w, h);
+    let orientation = orientation_of(field.orientation, &field.content);
+    let rows = turned_rows(orientation, w, h);
     let (first, last) = span(view, field.top, rows);
     Entry {
         field,

@@ -7,6 +7,7 @@ ghost use Rattle.vp_field.specs.Strokes.{Stroke, image_dot};
 ghost use Rattle.vp_fields_by_band.specs.Held.{Stays};
 ghost use Rattle.vp_fields_by_band.specs.Threads.{IsThreaded};
 ghost use Rattle.vp_bands.specs.Standing.{entry_work, fields_of, met, AreMarked, IsThreadedFor};
+ghost use Rattle.vp_label_size.specs.declared.TheConstants.{WIDEST};
 
 use crate::meeting::BANDS;
 use vp_field::{Marks, View, clear, cut, paint_field};
@@ -65,7 +66,7 @@ pub fn paint_band(
     requires marks { length threads.old.entries ≤ length marks.old }
     requires few { length threads.old.entries ≤ FIELDS }
     requires countable { threads.old.looks < 2 ^ 61 }
-    requires narrow { view.width ≤ 1248 }
+    requires narrow { view.width ≤ WIDEST }
     requires low { b < BANDS }
     requires label { IsThreadedFor sheets.now stored.now view threads.old.entries threads.old.heads }
     requires carried { IsThreaded threads.old.entries threads.old.links b threads.old.carried }

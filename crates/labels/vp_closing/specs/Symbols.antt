@@ -5,7 +5,7 @@ use Rattle.vp_bars.specs.Symbols.{Linear}
 use Rattle.vp_qr.specs.Encoding.{refusal, version_of, mask_of}
 use Rattle.vp_qr_field.specs.declared.front.QrFront.{QrFront}
 use Rattle.vp_format.specs.declared.field.Span.{Span}
-use Rattle.vp_format.specs.declared.field.Bars.{Bars}
+use Rattle.vp_format.specs.declared.field.BarSymbol.{BarSymbol}
 use Rattle.vp_format.specs.declared.field.QrSymbol.{QrSymbol}
 use Rattle.vp_format.specs.declared.field.Content.{Content}
 use Rattle.vp_format.specs.declared.field.Content.TheVariants as contents
@@ -19,7 +19,7 @@ abbrev pub wide_bar : BarDefaults → ℕ
 wide_bar d = max (d.module_dots + 1) (d.module_dots * d.ratio_tenths / 10)
 
 -- bars that were asked for, with what ^BY says where they don't say it
-abbrev pub bars : BarDefaults → BarChoice → Span → Bars
+abbrev pub bars : BarDefaults → BarChoice → Span → BarSymbol
 bars d b bytes = record {
   bytes = bytes;
   code = b.code;
@@ -29,12 +29,12 @@ bars d b bytes = record {
   place = b.place;
 }
 
-abbrev pub bars_if : Result Linear Fault → Bars → Result Content Fault
+abbrev pub bars_if : Result Linear Fault → BarSymbol → Result Content Fault
 bars_if (Err why) bars = Err why
 bars_if (Ok symbol) bars = Ok (contents.Bars bars)
 
 -- bars, unless their data have none
-abbrev pub bars_of : List ℕ → Bars → Result Content Fault
+abbrev pub bars_of : List ℕ → BarSymbol → Result Content Fault
 bars_of stored bars = bars_if (symbol_of bars.code (bytes_of stored bars.bytes)) bars
 
 -- the bytes behind what the data say before them

@@ -5,7 +5,7 @@ use Rattle.vp_zpl.specs.declared.item.LineSpace.{LineSpace}
 use Rattle.vp_zpl.specs.declared.item.LineSpace.TheVariants.{Added, Deleted}
 use Rattle.vp_format.specs.declared.field.Span.{Span}
 use Rattle.vp_format.specs.declared.field.Text.{Text}
-use Rattle.vp_format.specs.declared.field.Block.{Block}
+use Rattle.vp_format.specs.declared.field.TextBlock.{TextBlock}
 use Rattle.vp_format.specs.declared.field.Content.{Content}
 use Rattle.vp_format.specs.declared.field.Content.TheVariants as contents
 use Rattle.vp_label_settings.specs.declared.size.CharacterSize.{CharacterSize}
@@ -32,7 +32,7 @@ abbrev pub gap_of : LineSpace → ℤ
 gap_of (Added dots) = pos dots
 gap_of (Deleted dots) = neg_ℤ (pos dots)
 
-abbrev pub block_of : Text → FieldBlock → Block
+abbrev pub block_of : Text → FieldBlock → TextBlock
 block_of text b = record {
   text = text;
   width = b.width;

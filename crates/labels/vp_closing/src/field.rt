@@ -1,7 +1,6 @@
 //! A field that is closed, as the format keeps it.
 ghost use Rattle.std.specs.Prelude.{◌≡◌, ◌≤◌, length, IfOk, IfSome};
 ghost use Rattle.vp_label_settings.specs.Laws.{AreInRange, AreParts, IsBlockIf, IsContent, IsSymbolIf};
-ghost use Rattle.vp_field.specs.Contents.{orientation_of};
 ghost use Rattle.vp_field.specs.Fields.{IsKept};
 ghost use Rattle.vp_closing.specs.Closing.{asked_orientation, closed, colour_of, field_of, operation, paint_of};
 
@@ -9,8 +8,8 @@ use crate::content::content_of;
 use crate::position::{left_of, top_of};
 use crate::text::text_orientation;
 use vp_dots::{Fault, Op};
-use vp_field::content_size;
-use vp_format::{Content, Field, Format, STORED};
+use vp_field::{content_size, orientation_of};
+use vp_format::{Field, Format, STORED};
 use vp_glyph::Sheets;
 use vp_label_settings::{FieldParts, OpenContent, Settings, SymbolChoice};
 use vp_zpl::item::{Colour, Orientation};
@@ -23,16 +22,6 @@ fn asked_orientation(settings: &Settings, parts: &FieldParts) -> Orientation
         None => text_orientation(settings, parts.font),
         Some(SymbolChoice::Bars(bars)) => bars.orientation.unwrap_or(settings.field_orientation),
         Some(_) => settings.field_orientation,
-    }
-}
-
-/// How a content is turned; boxes, pictures and QR symbols are not.
-fn turned(orientation: Orientation, content: &Content) -> Orientation
-    ensures { result ≡ orientation_of orientation content.now }
-{
-    match content {
-        Content::Text(_) | Content::Block(_) | Content::Bars(_) => orientation,
-        Content::Box(_) | Content::Picture(_) | Content::Qr(_) => Orientation::Normal,
     }
 }
 
@@ -77,7 +66,7 @@ fn field_of(
     ensures kept { IfOk result (IsKept stored.now) }
 {
     let content = content_of(stored, settings, parts, asked)?;
-    let orientation = turned(asked_orientation(settings, parts), &content);
+    let orientation = orientation_of(asked_orientation(settings, parts), &content);
     let (width, height) = content_size(sheets, stored, &content);
     Ok(Field {
         left: left_of(settings.home, parts.origin, orientation, width, height),

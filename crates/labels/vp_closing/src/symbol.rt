@@ -7,7 +7,7 @@ ghost use Rattle.vp_qr.specs.Encoding.{refusal};
 
 use vp_dots::Fault;
 use vp_field::{bytes_of, linear};
-use vp_format::{Bars, Content, QrSymbol, STORED, Span};
+use vp_format::{BarSymbol, Content, QrSymbol, STORED, Span};
 use vp_label_settings::{BarChoice, BarDefaults, ranged};
 use vp_qr::encode;
 use vp_qr_field::{QrFront, qr_front};
@@ -21,10 +21,10 @@ fn wide_bar(defaults: BarDefaults) -> u16
 }
 
 /// Bars that were asked for, with what the defaults say where they don't say it.
-fn bars(defaults: BarDefaults, choice: BarChoice, bytes: Span) -> Bars
+fn bars(defaults: BarDefaults, choice: BarChoice, bytes: Span) -> BarSymbol
     ensures { result ≡ bars defaults choice bytes }
 {
-    Bars {
+    BarSymbol {
         bytes,
         code: choice.code,
         narrow: u16::from(defaults.module_dots),

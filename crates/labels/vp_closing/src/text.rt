@@ -3,7 +3,7 @@ ghost use Rattle.std.specs.Prelude.{◌≡◌};
 ghost use Rattle.vp_label_settings.specs.Laws.{IsSize, IsSpace, IsBlock, IsBlockIf};
 ghost use Rattle.vp_closing.specs.Texts.{text_orientation, text_size, text_of, gap_of, block_of, text_content};
 
-use vp_format::{Block, Content, Span, Text};
+use vp_format::{Content, Span, Text, TextBlock};
 use vp_label_settings::{CharacterSize, FieldBlock, FontChoice, Settings};
 use vp_zpl::item::{LineSpace, Orientation};
 
@@ -51,11 +51,11 @@ fn gap_of(space: LineSpace) -> i16
     }
 }
 
-fn block_of(text: Text, block: FieldBlock) -> Block
+fn block_of(text: Text, block: FieldBlock) -> TextBlock
     requires { IsBlock block }
     ensures { result ≡ block_of text block }
 {
-    Block {
+    TextBlock {
         text,
         width: block.width,
         lines: block.lines,

@@ -24,9 +24,10 @@ use Rattle.vp_format.specs.declared.field.BarCode.{BarCode}
 use Rattle.vp_format.specs.declared.field.BarCode.TheVariants.{Code39, Ean13, Code128}
 use Rattle.vp_format.specs.declared.field.Content.{Content}
 use Rattle.vp_format.specs.declared.field.Content.TheVariants as contents
+use Rattle.vp_format.specs.declared.format.TheConstants.{STORED}
 use Rattle.vp_format.specs.declared.field.Span.{Span}
 use Rattle.vp_format.specs.declared.field.Text.{Text}
-use Rattle.vp_format.specs.declared.field.Block.{Block}
+use Rattle.vp_format.specs.declared.field.TextBlock.{TextBlock}
 use Rattle.vp_format.specs.declared.field.Picture.{Picture}
 use Rattle.vp_format.specs.declared.field.QrSymbol.{QrSymbol}
 use Rattle.vp_field.specs.Frames.{frame_dot}
@@ -134,10 +135,10 @@ orientation_of o (contents.Picture p) = Normal
 orientation_of o (contents.Bars b) = o
 orientation_of o (contents.Qr q) = Normal
 
--- the bytes lie among the stored ones, of which a format holds at most 262,144
+-- the bytes lie among the stored ones, of which a format has room for `STORED`
 pub record LiesIn (stored : List ℕ) (s : Span) : Type 0 where
   pub inside : s.start + s.len ≤ length stored
-  pub few : s.len ≤ 262144
+  pub few : s.len ≤ STORED
 
 -- the ranges of a text (^CF and ^A)
 pub record IsText (stored : List ℕ) (t : Text) : Type 0 where
@@ -147,7 +148,7 @@ pub record IsText (stored : List ℕ) (t : Text) : Type 0 where
   pub height : t.height ≤ 1500
 
 -- and of a block of lines (^FB)
-pub record IsBlock (stored : List ℕ) (b : Block) : Type 0 where
+pub record IsBlock (stored : List ℕ) (b : TextBlock) : Type 0 where
   pub text : IsText stored b.text
   pub width : b.width ≤ 32000
   pub lines : b.lines ≤ 9999

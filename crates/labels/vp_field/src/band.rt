@@ -3,6 +3,7 @@ ghost use Rattle.std.specs.Prelude.{◌≡◌, ℕ, ◌+◌, ◌<◌, ◌≤◌,
 ghost use Rattle.vp_dots.specs.Dots.{dot};
 ghost use Rattle.vp_dots.specs.Places.{RowsPainted};
 ghost use Rattle.vp_field.specs.Strokes.{Stroke, viewed, image_dot};
+ghost use Rattle.vp_label_size.specs.declared.TheConstants.{WIDEST};
 ghost use Rattle.vp_field.specs.Bands.{Shows};
 ghost use Rattle.vp_field.specs.declared.view.View.{View};
 
@@ -38,7 +39,7 @@ fn cut_row(view: View, y: u64, row: &mut [u8])
 
 /// Makes the dots off the label white.
 pub fn cut(view: View, first: u32, band: &mut LabelBand)
-    requires { view.width ≤ 1248 }
+    requires { view.width ≤ WIDEST }
     ensures { (strokes : List Stroke) → Shows view first strokes band.old → (x k : ℕ) → k < 32
         → dot (slice_index_or band.new k []) x ≡ image_dot view strokes x (first + k) }
 {

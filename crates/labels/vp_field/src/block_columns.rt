@@ -3,12 +3,14 @@ ghost use Rattle.std.specs.Prelude.{◌≡◌, ℕ, ◌+◌, ◌<◌, slice_inde
 ghost use Rattle.vp_dots.specs.Dots.{shifted};
 ghost use Rattle.vp_dots.specs.Words.{word_dot};
 ghost use Rattle.vp_glyph.specs.Blocks.{block_width, block_height, block_dot, block_inside};
+ghost use Rattle.vp_field.specs.declared.block_columns.TheConstants.{COLUMNS};
 
 use crate::lines::BlockRows;
 use vp_dots::{Ink, Op, paint_word};
+use vp_label_size::WIDEST;
 
 /// As many rows are drawn at once as a band has columns.
-const COLUMNS: usize = 1248;
+const COLUMNS: usize = WIDEST as usize;
 
 /// A block of lines, whose rows from one on were drawn at an offset, as far as a column of a band goes.
 #[derive(Drop)]
@@ -17,7 +19,7 @@ pub struct BlockColumns<'a> {
     top: u32,
     at: i64,
     fronts: [u64; COLUMNS],
-    ghost drawn: { (i x : ℕ) → i < 1248 → x < 64
+    ghost drawn: { (i x : ℕ) → i < COLUMNS → x < 64
         → top + i < block_height rows.block.h rows.block.rows rows.block.pitch
         → word_dot (slice_index fronts i) x ≡ shifted at (λ x. block_dot rows.block.sheet.now
         rows.block.text.now rows.block.w rows.block.h rows.block.wide rows.block.rows rows.block.pitch

@@ -1,16 +1,17 @@
-//! What fields show: its bytes, its symbol and its size.
+//! What fields show: its bytes, its symbol, its size, and whether it is turned.
 ghost use Rattle.std.specs.Prelude.{◌≡◌, ◌*◌, ◌≤◌};
 ghost use Rattle.vp_qr.specs.Places.{size};
 ghost use Rattle.vp_format.specs.declared.field.Content.TheVariants as contents;
 ghost use Rattle.vp_glyph.specs.Blocks.{pitch};
-ghost use Rattle.vp_field.specs.Contents.{bytes_of, symbol_of, content_width, content_height, LiesIn, IsText, IsBlock, IsStored};
+ghost use Rattle.vp_field.specs.Contents.{bytes_of, symbol_of, content_width, content_height, orientation_of, LiesIn, IsText, IsBlock, IsStored};
 
 use crate::frame::Frame;
 use crate::text::Cells;
-use vp_bars::{code39, code128_zpl, ean13};
+use vp_bars::{Bars, code39, code128_zpl, ean13};
 use vp_dots::{Fault, Ink};
-use vp_format::{BarCode, Bars, Block, Content, QrSymbol, Span, Text};
-use vp_glyph::{Font, Sheets, Stretch};
+use vp_format::{BarCode, BarSymbol, Content, QrSymbol, Span, Text, TextBlock};
+use vp_glyph::{Block, Font, Sheets, Stretch};
+use vp_zpl::item::Orientation;
 
 /// The bytes that a span names among the stored ones.
 pub fn bytes_of(stored: &[u8], span: Span) -> &[u8]
@@ -22,7 +23,7 @@ pub fn bytes_of(stored: &[u8], span: Span) -> &[u8]
 }
 
 /// The linear symbol of data, or why there is none.
-pub fn linear(code: BarCode, bytes: &[u8]) -> Result<vp_bars::Bars, Fault>
+pub fn linear(code: BarCode, bytes: &[u8]) -> Result<Bars, Fault>
     ensures { result ≡ symbol_of code bytes.now }
 {
     match code {
@@ -49,7 +50,7 @@ pub fn cells<'a>(sheets: &'a Sheets, stored: &'a [u8], text: Text) -> Cells<'a>
 }
 
 /// A block of lines as ink.
-pub fn block_of<'a>(sheets: &'a Sheets, stored: &'a [u8], block: Block) -> vp_glyph::Block<'a>
+pub fn block_of<'a>(sheets: &'a Sheets, stored: &'a [u8], block: TextBlock) -> Block<'a>
     requires { IsBlock stored.now block }
     ensures sheet { result.sheet.now ≡ sheets.now.a }
     ensures text { result.text.now ≡ bytes_of stored.now block.text.bytes }
@@ -72,7 +73,7 @@ pub fn block_of<'a>(sheets: &'a Sheets, stored: &'a [u8], block: Block) -> vp_gl
 }
 
 /// The width and the height of a linear symbol with its text; none where the data have no symbol.
-fn bars_size(sheets: &Sheets, stored: &[u8], bars: Bars) -> (u32, u32)
+fn bars_size(sheets: &Sheets, stored: &[u8], bars: BarSymbol) -> (u32, u32)
     requires { LiesIn stored.now bars.bytes }
     ensures width { result.0 ≡ content_width sheets.now stored.now (contents.Bars bars) }
     ensures height { result.1 ≡ content_height sheets.now stored.now (contents.Bars bars) }
@@ -118,5 +119,15 @@ pub fn content_size(sheets: &Sheets, stored: &[u8], content: &Content) -> (u32, 
             let side = qr_size(symbol);
             (side, side)
         }
+    }
+}
+
+/// How a content is turned; boxes, pictures and QR symbols are not.
+pub fn orientation_of(orientation: Orientation, content: &Content) -> Orientation
+    ensures { result ≡ orientation_of orientation content.now }
+{
+    match content {
+        Content::Text(_) | Content::Block(_) | Content::Bars(_) => orientation,
+        Content::Box(_) | Content::Picture(_) | Content::Qr(_) => Orientation::Normal,
     }
 }

@@ -23,7 +23,7 @@ use crate::picture::paint_picture;
 use crate::standing::{Standing, paint_standing};
 use crate::view::View;
 use vp_dots::Ink;
-use vp_format::{Bars, Block, Content, Field, QrSymbol, Text};
+use vp_format::{BarSymbol, Content, Field, QrSymbol, Text, TextBlock};
 use vp_glyph::{Font, Sheets};
 use vp_label_size::{LabelBand, WIDEST};
 use vp_zpl::item::Orientation;
@@ -51,7 +51,7 @@ fn paint_text(
 fn paint_block(
     sheets: &Sheets,
     stored: &[u8],
-    block: Block,
+    block: TextBlock,
     on: Standing,
     first: u32,
     band: &mut LabelBand,
@@ -82,7 +82,7 @@ fn paint_block(
 fn paint_bars(
     sheets: &Sheets,
     stored: &[u8],
-    bars: Bars,
+    bars: BarSymbol,
     on: Standing,
     first: u32,
     band: &mut LabelBand,

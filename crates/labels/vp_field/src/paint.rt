@@ -13,10 +13,10 @@ use crate::axis::{Axis, Lines};
 use crate::line::{drawn, paint_line, paint_over};
 use crate::stretched::alike_dots;
 use vp_dots::{Ink, Op, dot_of, fill_dots, lay_eight};
-use vp_label_size::LabelBand;
+use vp_label_size::{LabelBand, WIDEST};
 
 /// The dots of a row of a band.
-const WIDTH: u64 = 1248;
+const WIDTH: u64 = WIDEST as u64;
 
 /// As many columns that are known to be alike are painted row by row.
 const RUN: u64 = 8;
@@ -232,11 +232,11 @@ fn paint_columns<I: Ink>(
     requires low { I.height ink.now < 2 ^ 32 }
     requires near { IsWithin (2 ^ 41) rows }
     requires x { x < end }
-    requires end { end ≤ 1248 }
+    requires end { end ≤ WIDTH }
     requires line { (k : ℕ) → k < 32 → dot line k ≡ laid Across columns rows (I.ink_at ink.now) (pos x)
         (pos (first + k)) }
     ensures some { 0 < result.0 }
-    ensures most { result.0 ≤ 1248 }
+    ensures most { result.0 ≤ WIDTH }
     ensures near { x + result.0 ≤ end + 7 }
     ensures painted { RowsPainted 32 op (λ d k. span x (x + result.0) d
         && laid Across columns rows (I.ink_at ink.now) (pos d) (pos (first + k))) band.old band.new }

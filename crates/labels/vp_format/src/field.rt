@@ -36,7 +36,7 @@ pub struct Text {
 /// A text in lines (^FB): the block's width, 0 to 32,000 dots, its lines, 1 to 9,999, the dots between them,
 /// -9,999 to 9,999, and where they stand in its width.
 #[derive(Clone, Copy, Debug, PartialEq, Eq)]
-pub struct Block {
+pub struct TextBlock {
     pub text: Text,
     pub width: u16,
     pub lines: u16,
@@ -63,7 +63,7 @@ pub struct Picture {
 
 /// Bars: their elements' widths and their height in dots, and where their text stands.
 #[derive(Clone, Copy, Debug, PartialEq, Eq)]
-pub struct Bars {
+pub struct BarSymbol {
     pub bytes: Span,
     pub code: BarCode,
     pub narrow: u16,
@@ -88,10 +88,10 @@ pub struct QrSymbol {
 #[derive(Clone, Copy, Debug, PartialEq, Eq)]
 pub enum Content {
     Text(Text),
-    Block(Block),
+    Block(TextBlock),
     Box(GraphicBox),
     Picture(Picture),
-    Bars(Bars),
+    Bars(BarSymbol),
     Qr(QrSymbol),
 }
 

@@ -2,10 +2,10 @@
 use super::{ONE, closes};
 use std::test::Fail;
 use vp_bars::Place;
-use vp_format::{BarCode, Bars, Content};
+use vp_format::{BarCode, BarSymbol, Content};
 
 fn bars(code: BarCode, narrow: u16, wide: u16, height: u16, place: Place) -> Option<Content> {
-    Some(Content::Bars(Bars {
+    Some(Content::Bars(BarSymbol {
         bytes: ONE,
         code,
         narrow,

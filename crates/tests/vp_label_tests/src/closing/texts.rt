@@ -1,7 +1,7 @@
 //! The size of characters, and blocks of lines.
 use super::{ONE, closes};
 use std::test::Fail;
-use vp_format::{Block, Content, Text};
+use vp_format::{Content, Text, TextBlock};
 use vp_glyph::Alignment;
 
 /// A text of one byte.
@@ -49,7 +49,7 @@ fn fonts(rt: HostRuntime) -> Result<(), Fail> {
 }
 
 fn block(width: u16, lines: u16, gap: i16, alignment: Alignment) -> Option<Content> {
-    Some(Content::Block(Block {
+    Some(Content::Block(TextBlock {
         text: one(9, 5),
         width,
         lines,

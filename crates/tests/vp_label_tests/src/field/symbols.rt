@@ -10,7 +10,7 @@ use std::test::Fail;
 use vp_bars::Place;
 use vp_dots::{Fault, Op};
 use vp_field::content_size;
-use vp_format::{BarCode, Bars, Content, Field, QrSymbol};
+use vp_format::{BarCode, BarSymbol, Content, Field, QrSymbol};
 use vp_qr::{Level, Mode, encode};
 use vp_zpl::item::Orientation;
 
@@ -24,7 +24,7 @@ fn bars_of(orientation: Orientation, stored: &[u8]) -> Field
         left: 0,
         top: 0,
         orientation,
-        content: Content::Bars(Bars {
+        content: Content::Bars(BarSymbol {
             bytes: whole(stored),
             code: BarCode::Code39 { check: false },
             narrow: 2,

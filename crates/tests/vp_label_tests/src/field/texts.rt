@@ -6,7 +6,7 @@ use super::{Label, Painter, Rows, shows, view_of, whole};
 use crate::sheets::stairs;
 use std::test::Fail;
 use vp_dots::Op;
-use vp_format::{Block, Content, Field, Text};
+use vp_format::{Content, Field, Text, TextBlock};
 use vp_glyph::Alignment;
 use vp_zpl::item::Orientation;
 
@@ -38,7 +38,7 @@ fn block(orientation: Orientation, stored: &[u8], lines: u8, alignment: Alignmen
         left: 0,
         top: 0,
         orientation,
-        content: Content::Block(Block {
+        content: Content::Block(TextBlock {
             text: Text {
                 bytes: whole(stored),
                 width: 12,

@@ -13,5 +13,5 @@ returns-clause-spanned c = λ b.
     let o = orientation_of c.args.field.orientation c.args.field.content in
     c.span-first.ensures.bands b ∙ ap (λ t. box_meets c.args.view t c.turned_rows-rows.result b) (to_z-of_z w64 c.args.field.top fits)
     ∙ ap (λ r. box_meets c.args.view c.args.field.top r b)
-    (c.turned_rows-rows.ensures ∙ ap (λ w. turned_height o w c.content_size-w.result.1) c.content_size-w.ensures.width
+    (c.turned_rows-rows.ensures ∙ ap (λ p. turned_height p c.content_size-w.result.0 c.content_size-w.result.1) c.orientation_of-orientation.ensures ∙ ap (λ w. turned_height o w c.content_size-w.result.1) c.content_size-w.ensures.width
     ∙ ap (turned_height o _) c.content_size-w.ensures.height)

@@ -3,7 +3,7 @@ use Rattle.vp_dots.specs.Places.{RowsPainted}
 use Rattle.vp_dots.specs.declared.fault.Fault.{Fault}
 use Rattle.vp_bars.specs.Symbols.{Linear}
 use Rattle.vp_glyph.specs.declared.Sheets.{Sheets}
-use Rattle.vp_format.specs.declared.field.Bars.{Bars}
+use Rattle.vp_format.specs.declared.field.BarSymbol.{BarSymbol}
 use Rattle.vp_field.specs.Contents.{bytes_of, symbol_of, bars_width, bars_height, bars_dot}
 use Rattle.vp_field.specs.Standing.{standing}
 use Rattle.vp_field.specs.Views.{seen_x, seen_y}
@@ -11,7 +11,7 @@ use Rattle.vp_field.specs.declared.standing.Standing.{Standing}
 use Rattle.vp_field.proofs.Shown.{rows_none, standing_none}
 use Rattle.vp_field.proofs.field.paint_bars.Goals as goal
 
-abbrev ink : Sheets → Bars → Standing → ℕ → Result Linear Fault → ℕ → ℕ → Bool
+abbrev ink : Sheets → BarSymbol → Standing → ℕ → Result Linear Fault → ℕ → ℕ → Bool
 ink sheets b on first r x k =
     standing on.left on.top on.orientation (bars_width sheets b.narrow b.wide b.height b.place r) (bars_height sheets b.narrow b.wide b.height b.place r) (bars_dot sheets b.narrow b.wide b.height b.place r)
     (seen_x on.view (pos x)) (seen_y on.view (pos (first + k)))
