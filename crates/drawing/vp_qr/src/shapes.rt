@@ -2,12 +2,11 @@
 
 ghost use Rattle.std.specs.Prelude.{◌≡◌, ◌==◌, ◌<◌, ◌≤◌, ◌*◌, ◌&&◌, ◌||◌, not, nat_lt, max, ℕ, true, if◌then◌else◌};
 ghost use Rattle.std.specs.Int.{bit_at};
-ghost use Rattle.vp_qr.specs.Places.{size, alignment, version_area};
+ghost use Rattle.vp_qr.specs.Places.{size, near, alignment, version_area};
 ghost use Rattle.vp_qr.specs.Penalty.{is_set};
 ghost use Rattle.vp_qr.specs.Symbol.{apart, finder, finder_centre, finder_dark, alignment_centre, alignment_dark, version_bit, pattern_dark};
 
 use crate::lines::{alignments, corners, only, span, versions};
-use crate::walk::is_near;
 
 /// The modules of one word where a shape stands, and of another elsewhere.
 pub fn chosen(shape: u64, inside: u64, outside: u64) -> u64
@@ -48,6 +47,15 @@ fn finder_line(size: usize, row: usize) -> u64
 {
     let one = finder_row(finder_centre(size, row).abs_diff(row));
     one | one << (size - 7)
+}
+
+/// A centre is at most two away.
+fn is_near(centre: usize, at: usize) -> bool
+    requires centre { centre < 100 }
+    requires at { at < 100 }
+    ensures { result ≡ near centre at }
+{
+    centre <= at + 2 && at <= centre + 2
 }
 
 /// The centre of an alignment pattern near this row or column.

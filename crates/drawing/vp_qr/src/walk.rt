@@ -2,7 +2,7 @@
 
 ghost use Rattle.std.specs.Prelude.{◌≡◌, ◌<◌, ◌≤◌, ◌*◌, ◌/◌, ◌+◌, ◌-◌, ◌==◌, ◌&&◌, ◌||◌, not, ℕ, length, ◌^◌, if◌then◌else◌};
 ghost use Rattle.vp_dots.specs.Words.{word_dot};
-ghost use Rattle.vp_qr.specs.Places.{size, near, reserved};
+ghost use Rattle.vp_qr.specs.Places.{size, reserved};
 ghost use Rattle.vp_qr.specs.Blocks.{total, remainder_bits};
 ghost use Rattle.vp_qr.specs.Penalty.{is_set};
 ghost use Rattle.vp_qr.specs.Walk.{right_column, place, free_places, dark, data_bit, number_of};
@@ -15,15 +15,6 @@ use vp_dots::word_at;
 pub struct Place {
     pub row: usize,
     pub column: usize,
-}
-
-/// A centre is at most two away.
-pub fn is_near(centre: usize, at: usize) -> bool
-    requires centre { centre < 100 }
-    requires at { at < 100 }
-    ensures { result ≡ near centre at }
-{
-    centre <= at + 2 && at <= centre + 2
 }
 
 /// The modules that hold data.
