@@ -45,7 +45,3 @@ bit_moved (suc zero) p k h l =
       | inr n ↦ rw (bit_at-pow_other p k n) (ap (λ t. t && true) (sym (ne_eqb k p n)))
     ])
 bit_moved (suc (suc b)) p k h l = absurd (omega arith)
-
-pub word_bit_reversed : (n i : ℕ) → i < 64 → bit (reverse_bits_onto 64 n 0) i ≡ bit n (63 - i)
-unfolding bit
-word_bit_reversed n i h = ap (λ b. eqb b 1) (onto 64 n 0 i h ∙ ap (bit_at n) (let e : 64 - 1 - i ≡ 63 - i = omega arith in e))

@@ -79,17 +79,6 @@ one_more_row byte skip top x i a b row h l s p q =
     (rows_more 1664 Black (λ d k. eqb d x && (leb top k && dot (byte ∷ []) (k - top + skip))) (top + i) a b row l h p
     (painted_same Black _ _ _ _ (λ d _. rw (le-leb top (top + i) (omega arith), u, dot_first byte (skip + i) s) refl) q))
 
--- a row that is no longer than its line, from its last dot on
-pub unclipped_back : (row : List ℕ) (q right long x : ℕ) → 8 * q + 8 * length row ≡ right → 8 * length row ≤ long
-    → (leb (8 * q) x && (ltb (x - 8 * q) (8 * length row) && dot row (8 * length row - 1 - (x - 8 * q)))) ≡ (ltb x right && (ltb (right - 1 - x) long && dot row (right - 1 - x)))
-unclipped_back row q right long x e h = elim (cases_lt x (8 * q)) [
-  | inl l ↦ rw (lt-leb (8 * q) x l) (none_and (ltb x right) _ (sym (none_and (ltb (right - 1 - x) long) (dot row (right - 1 - x)) (dot_past row (right - 1 - x) (omega arith)))))
-  | inr g ↦ rw (le-leb (8 * q) x g) (elim (cases_lt (x - 8 * q) (8 * length row)) [
-    | inl b ↦ rw (lt-ltb (x - 8 * q) (8 * length row) b, lt-ltb x right (omega arith), lt-ltb (right - 1 - x) long (omega arith)) (ap (dot row) (omega arith))
-    | inr o ↦ rw (le-ltb (x - 8 * q) (8 * length row) o, le-ltb x right (omega arith)) refl
-  ])
-]
-
 -- the rows of a line, after the last of them
 pub all_rows : (line : List ℕ) (t : Bool) (k top skip i : ℕ) → (top + i ≤ k → 8 * length line ≤ k - top + skip)
     → (ltb k (top + i) && (t && (leb top k && dot line (k - top + skip)))) ≡ (t && (leb top k && dot line (k - top + skip)))

@@ -1,6 +1,6 @@
 -- Words painted on rows of the page.
 use Rattle.std.proofs.Common.{inl, inr, ◌≡◌, ℕ, ◌+◌, ◌-◌, ◌*◌, ◌/◌, ◌%◌, ◌^◌, ◌<◌, ◌≤◌, Bool, true, false, cond, eqb, ltb, leb, ◌&&◌, ◌||◌, refl, sym, ap, ◌∙◌, arith, List, bit_or, length, get_or, set}
-use Rattle.std.specs.Int.{to_be_bytes, reverse_bits_onto, w64}
+use Rattle.std.specs.Int.{to_be_bytes, w64}
 use lib.Lanes.{zip2, chunk, put_chunk}
 use Rattle.std.proofs.lemmas.Simd.{get_or-zip2, get_or-chunk, length-zip2, length-chunk}
 use Rattle.std.proofs.lemmas.Bool.{cases_lt, lt-ltb, le-ltb, lt-leb, le-leb}
@@ -14,7 +14,8 @@ use Rattle.vp_dots.proofs.Blocks.{painted_block}
 use Rattle.vp_dots.proofs.Paints.{painted_same, painted_byte_at}
 use Rattle.vp_dots.proofs.Words.{or_false, and_false, bit_shl, word_byte, word_shr}
 use Rattle.vp_dots.proofs.Cuts.{bit_low64}
-use Rattle.vp_page.proofs.Bytes.{word_bit_reversed}
+use Rattle.vp_dots.proofs.Rows.{dot_at}
+use Rattle.vp_page.proofs.Rows.{dot_past}
 
 module _ (word i : ℕ) (row : List ℕ) (room : i + 8 ≤ length row) where
   lane : (j k : ℕ) → j < 8 → k < 8
@@ -65,42 +66,53 @@ first_eight word far d = rw (le-leb 0 d (omega arith), (let e : d - 0 ≡ d = om
   | inr g ↦ rw (le-ltb d 64 g, le-ltb (d + far) 64 (omega arith)) refl
 ])
 
-module _ (f : ℕ → Bool) (q k d : ℕ) where
-  -- one more word of a line
-  pub words_more : (word : ℕ) → ((x : ℕ) → x < 64 → word_dot word x ≡ f (64 * k + x))
-      → (ltb d (8 * q + 64 * (k + 1)) && (leb (8 * q) d && f (d - 8 * q))) ≡ (ltb d (8 * q + 64 * k) && (leb (8 * q) d && f (d - 8 * q)) || leb (8 * (q + 8 * k)) d && word_dot word (d - 8 * (q + 8 * k)))
-  words_more word is = elim (cases_lt d (8 * q + 64 * k)) [
+module _ (line : List ℕ) (j i : ℕ) (row : List ℕ) (there : j + 8 ≤ length line) (room : i + 8 ≤ length row) where
+  byte_lane : (n k : ℕ) → n < 8 → k < 8
+      → bit (get_or (zip2 bit_or (chunk i 8 row) (chunk j 8 line)) n 0) k ≡ cond (leb (8 * i) (8 * (i + n) + (7 - k)) && (ltb (8 * (i + n) + (7 - k) - 8 * i) 64 && dot line (8 * j + (8 * (i + n) + (7 - k) - 8 * i)))) true (bit (get_or row (i + n) 0) k)
+  byte_lane n k p h =
+      let place : 8 * (i + n) + (7 - k) - 8 * i ≡ 8 * n + (7 - k) = omega arith in
+      let ink : (leb (8 * i) (8 * (i + n) + (7 - k)) && (ltb (8 * (i + n) + (7 - k) - 8 * i) 64 && dot line (8 * j + (8 * (i + n) + (7 - k) - 8 * i)))) ≡ dot line (8 * j + (8 * n + (7 - k))) =
+      rw (le-leb (8 * i) (8 * (i + n) + (7 - k)) (omega arith), place, lt-ltb (8 * n + (7 - k)) 64 (omega arith)) refl in
+      let here : 8 * (j + n) + (7 - k) ≡ 8 * j + (8 * n + (7 - k)) = omega arith in
+      ap (λ x. bit x k) (get_or-zip2 bit_or (chunk i 8 row) (chunk j 8 line) n 0 0 0 (omega (arith, length-chunk i 8 row room)) (omega (arith, length-chunk j 8 line there))
+      ∙ ap (λ x. bit_or x (get_or (chunk j 8 line) n 0)) (get_or-chunk i 8 row n 0 p) ∙ ap (bit_or (get_or row (i + n) 0)) (get_or-chunk j 8 line n 0 p))
+      ∙ bit_of_or (get_or row (i + n) 0) (get_or line (j + n) 0) k
+      ∙ ap (λ b. cond b true (bit (get_or row (i + n) 0) k)) (sym (dot_at line (j + n) k h) ∙ ap (dot line) here ∙ sym ink)
+
+  bytes_long : length (zip2 bit_or (chunk i 8 row) (chunk j 8 line)) ≡ 8
+  bytes_long = length-zip2 bit_or (chunk i 8 row) (chunk j 8 line) (length-chunk i 8 row room ∙ sym (length-chunk j 8 line there)) ∙ length-chunk i 8 row room
+
+  -- eight bytes with eight bytes of a line on them
+  pub bytes_painted : Painted Black (λ d. leb (8 * i) d && (ltb (d - 8 * i) 64 && dot line (8 * j + (d - 8 * i)))) row (put_chunk i row (zip2 bit_or (chunk i 8 row) (chunk j 8 line)))
+  bytes_painted = painted_same Black _ _ _ _ (λ d l. spanned 0 i row room d (dot line (8 * j + (d - 8 * i))))
+      (painted_block Black (λ d. leb (8 * i) d && (ltb (d - 8 * i) 64 && dot line (8 * j + (d - 8 * i)))) i 8 row _ bytes_long room (λ n l k m. byte_lane n k l m))
+
+module _ (line : List ℕ) (q k d : ℕ) where
+  -- eight more bytes of a line
+  pub words_more : (ltb d (8 * q + 64 * (k + 1)) && (leb (8 * q) d && dot line (d - 8 * q)))
+      ≡ (ltb d (8 * q + 64 * k) && (leb (8 * q) d && dot line (d - 8 * q)) || leb (8 * (q + 8 * k)) d && (ltb (d - 8 * (q + 8 * k)) 64 && dot line (8 * (8 * k) + (d - 8 * (q + 8 * k)))))
+  words_more = elim (cases_lt d (8 * q + 64 * k)) [
     | inl l ↦ rw (lt-ltb d (8 * q + 64 * k) l, lt-ltb d (8 * q + 64 * (k + 1)) (omega arith), lt-leb (8 * (q + 8 * k)) d (omega arith)) (or_false _)
     | inr g ↦ rw (le-ltb d (8 * q + 64 * k) g, le-leb (8 * (q + 8 * k)) d (omega arith)) (elim (cases_lt d (8 * q + 64 * (k + 1))) [
-      | inl m ↦ rw (lt-ltb d (8 * q + 64 * (k + 1)) m, le-leb (8 * q) d (omega arith))
-          (ap f (let e : d - 8 * q ≡ 64 * k + (d - 8 * (q + 8 * k)) = omega arith in e) ∙ sym (is (d - 8 * (q + 8 * k)) (omega arith)))
+      | inl m ↦ rw (lt-ltb d (8 * q + 64 * (k + 1)) m, le-leb (8 * q) d (omega arith), lt-ltb (d - 8 * (q + 8 * k)) 64 (omega arith))
+          (ap (dot line) (let e : d - 8 * q ≡ 8 * (8 * k) + (d - 8 * (q + 8 * k)) = omega arith in e))
       | inr o ↦ rw (le-ltb d (8 * q + 64 * (k + 1)) o, le-ltb (d - 8 * (q + 8 * k)) 64 (omega arith)) refl
     ])
   ]
 
-  pub words_apart : (word : ℕ) → (ltb d (8 * q + 64 * k) && (leb (8 * q) d && f (d - 8 * q)) && (leb (8 * (q + 8 * k)) d && word_dot word (d - 8 * (q + 8 * k)))) ≡ false
-  words_apart word = elim (cases_lt d (8 * q + 64 * k)) [
+  pub words_apart : (b : Bool) → (ltb d (8 * q + 64 * k) && (leb (8 * q) d && dot line (d - 8 * q)) && (leb (8 * (q + 8 * k)) d && b)) ≡ false
+  words_apart b = elim (cases_lt d (8 * q + 64 * k)) [
     | inl l ↦ rw (lt-leb (8 * (q + 8 * k)) d (omega arith)) (and_false _)
     | inr g ↦ rw (le-ltb d (8 * q + 64 * k) g) refl
   ]
 
-  -- after the last word
-  pub words_all : ((u : ℕ) → 64 * k ≤ u → f u ≡ false) → (ltb d (8 * q + 64 * k) && (leb (8 * q) d && f (d - 8 * q))) ≡ (leb (8 * q) d && f (d - 8 * q))
-  words_all past = elim (cases_lt d (8 * q + 64 * k)) [
+  -- after the last ones
+  pub words_all : length line ≤ 8 * k → (ltb d (8 * q + 64 * k) && (leb (8 * q) d && dot line (d - 8 * q))) ≡ (leb (8 * q) d && dot line (d - 8 * q))
+  words_all all = elim (cases_lt d (8 * q + 64 * k)) [
     | inl l ↦ rw (lt-ltb d (8 * q + 64 * k) l) refl
-    | inr g ↦ rw (le-ltb d (8 * q + 64 * k) g, past (d - 8 * q) (omega arith)) (sym (and_false _))
+    | inr g ↦ rw (le-ltb d (8 * q + 64 * k) g, dot_past line (d - 8 * q) (omega arith)) (sym (and_false _))
   ]
 
--- before the first word
+-- before the first ones
 pub words_none : (q d : ℕ) (b : Bool) → (ltb d (8 * q + 64 * 0) && (leb (8 * q) d && b)) ≡ false
 words_none q d b = grind (arith, nat_tests)
-
--- a word of a line from its last dot on
-pub back_word : (line : List ℕ) (word back k x : ℕ) → x < 64 → 8 * (k + 1) ≤ length line → back ≡ reverse_bits_onto 64 word 0
-    → ((x : ℕ) → x < 64 → word_dot word x ≡ dot line (8 * (length line - 8 * (k + 1)) + x))
-    → word_dot back x ≡ (ltb (64 * k + x) (8 * length line) && dot line (8 * length line - 1 - (64 * k + x)))
-back_word line word back k x h room e is =
-    let place : 8 * (length line - 8 * (k + 1)) + (63 - x) ≡ 8 * length line - 1 - (64 * k + x) = omega arith in
-    let there : word_dot word (63 - x) ≡ bit word (63 - (63 - x)) = rw (lt-ltb (63 - x) 64 (omega arith)) refl in
-    rw (e, lt-ltb x 64 h, lt-ltb (64 * k + x) (8 * length line) (omega arith))
-    (word_bit_reversed word (63 - x) (omega arith) ∙ sym there ∙ is (63 - x) (omega arith) ∙ ap (dot line) place)

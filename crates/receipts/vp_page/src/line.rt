@@ -1,7 +1,7 @@
 //! One row of dots, laid along a row of a page or across its rows, and a box made white.
-ghost use Rattle.std.specs.Prelude.{◌≡◌, ℕ, ◌+◌, ◌-◌, ◌*◌, ◌%◌, ◌≤◌, ◌^◌, ◌&&◌, nat_eq, nat_lt, nat_le, ◌<◌, [], ◌∷◌, length, slice_index_or, pos, ◌+ℤ◌};
+ghost use Rattle.std.specs.Prelude.{◌≡◌, ℕ, ◌+◌, ◌-◌, ◌*◌, ◌≤◌, ◌^◌, ◌&&◌, nat_eq, nat_lt, nat_le, ◌<◌, [], ◌∷◌, length, slice_index_or, pos, ◌+ℤ◌};
 ghost use Rattle.vp_page.specs.declared.line.TheConstants.{LINE_BYTES, LINE_DOTS};
-ghost use Rattle.vp_page.specs.declared.page.TheConstants.{PAPER_BYTES, PAGE_ROWS};
+ghost use Rattle.vp_page.specs.declared.page.TheConstants.{PAGE_ROWS};
 ghost use Rattle.vp_dots.specs.Dots.{bit, dot, dots, shifted};
 ghost use Rattle.vp_dots.specs.Painting.{Painted};
 ghost use Rattle.vp_dots.specs.Places.{RowsPainted};
@@ -9,8 +9,8 @@ ghost use Rattle.vp_dots.specs.declared.Op.TheVariants.{Black, White};
 ghost use Rattle.vp_page.specs.Areas.{holds};
 
 use crate::Area;
-use crate::page::{PAGE_ROWS, PAPER_BYTES, PageBand};
-use crate::words::{or_line, or_words_back};
+use crate::page::{PAGE_ROWS, PageBand};
+use crate::words::or_line;
 use vp_dots::{Ink, Op, fill_dots, lay_eight};
 
 /// The bytes of the longest line of a page: one across its rows.
@@ -197,20 +197,6 @@ pub(crate) fn lay_right(row: &[u8], area: Area, y: usize, band: &mut PageBand)
     lay_along(line, i64::from(area.x), y, band);
 }
 
-/// Blackens row y of the page where the line, its last byte on byte q and each dot on the left of the one
-/// before, is black.
-fn lay_back(line: &[u8], q: usize, y: usize, band: &mut PageBand)
-    requires whole { length line.now % 8 ≡ 0 }
-    requires room { q + length line.now ≤ PAPER_BYTES }
-    ensures { RowsPainted PAGE_ROWS Black
-        (λ x k. nat_eq k y && (nat_le (8 * q) x && (nat_lt (x - 8 * q) (dots line.now)
-        && dot line.now (dots line.now - 1 - (x - 8 * q))))) band.old band.new }
-{
-    if y < PAGE_ROWS {
-        or_words_back(line, q, band.row_mut(y));
-    }
-}
-
 /// Blackens row y of the page where the row, from the area's right edge to the left, is black.
 pub(crate) fn lay_left(row: &[u8], area: Area, y: usize, band: &mut PageBand)
     requires { length row.now ≤ LINE_BYTES }
@@ -219,19 +205,10 @@ pub(crate) fn lay_left(row: &[u8], area: Area, y: usize, band: &mut PageBand)
         && (nat_lt (area.x + area.dx - 1 - x) area.dx && dot row.now (area.x + area.dx - 1 - x))))
         band.old band.new }
 {
-    let right = u32::from(area.x) + u32::from(area.dx);
-    let end = (right / 8) as usize;
-    if row.len() % 8 == 0
-        && right % 8 == 0
-        && 8 * row.len() <= area.dx as usize
-        && end <= PAPER_BYTES
-    {
-        lay_back(row, end - row.len(), y, band);
-        return;
-    }
     let mut room = [0; LINE_BYTES];
     let line = &mut room[..row.len()];
     clip_reversed(row, area.dx, line);
+    let right = u32::from(area.x) + u32::from(area.dx);
     lay_along(line, start_of(right, row.len()), y, band);
 }
 

@@ -1,7 +1,7 @@
-//! Rows of the page blackened by words of 64 dots: by a word at any place, and by a line whose words stand on
-//! whole bytes, forwards or from its last dot to its first.
+//! Rows of the page blackened 64 dots at once: by a word at any place, and by a line that stands on whole
+//! bytes.
 ghost use Rattle.std.specs.Prelude.{◌≡◌, ℕ, ◌+◌, ◌-◌, ◌*◌, ◌/◌, ◌%◌, ◌<◌, ◌≤◌, ◌==◌, ◌&&◌, nat_lt, nat_le, length};
-ghost use Rattle.vp_dots.specs.Dots.{bit, dot, dots, shifted};
+ghost use Rattle.vp_dots.specs.Dots.{bit, dot, shifted};
 ghost use Rattle.vp_dots.specs.Words.{word_dot};
 ghost use Rattle.vp_dots.specs.Painting.{Painted};
 ghost use Rattle.vp_dots.specs.Places.{words_dot, RowsPainted};
@@ -9,8 +9,8 @@ ghost use Rattle.vp_dots.specs.declared.Op.TheVariants.{Black};
 ghost use Rattle.vp_page.specs.declared.page.TheConstants.{PAPER_BYTES, PAGE_ROWS};
 
 use crate::page::{PAPER_BYTES, PageBand};
-use std::simd::u8x8;
-use vp_dots::{eight_at, or_into};
+use std::simd::{u8x8, u64x1};
+use vp_dots::or_into;
 
 /// Where the last eight bytes of a row of the page begin.
 const LAST: usize = PAPER_BYTES - 8;
@@ -22,8 +22,8 @@ fn or_eight(word: u64, i: usize, row: &mut [u8])
     requires { i + 8 ≤ length row.old }
     ensures { Painted Black (λ d. nat_le (8 * i) d && word_dot word (d - 8 * i)) row.old row.new }
 {
-    let bytes = word.to_be_bytes();
-    let new = u8x8::from_slice(&row[i..]) | u8x8::from_array(bytes);
+    let bytes = u64x1::from_array([word]).to_le_bytes().reverse();
+    let new = u8x8::from_slice(&row[i..]) | bytes;
     new.copy_to_slice(&mut row[i..]);
 }
 
@@ -106,6 +106,18 @@ pub(crate) fn lay_words(words: &[u64], h: usize, left: i64, top: usize, band: &m
     }
 }
 
+/// Blackens eight bytes of the row, from byte i on, where eight bytes of the line, from byte j on, are black.
+#[inline(always)]
+fn or_bytes(line: &[u8], j: usize, i: usize, row: &mut [u8])
+    requires line { j + 8 ≤ length line.now }
+    requires row { i + 8 ≤ length row.old }
+    ensures { Painted Black (λ d. nat_le (8 * i) d && (nat_lt (d - 8 * i) 64
+        && dot line.now (8 * j + (d - 8 * i)))) row.old row.new }
+{
+    let new = u8x8::from_slice(&row[i..]) | u8x8::from_slice(&line[j..]);
+    new.copy_to_slice(&mut row[i..]);
+}
+
 /// Blackens the row where the line, its first byte on byte q, is black.
 #[inline(always)]
 fn or_words(line: &[u8], q: usize, row: &mut [u8])
@@ -114,22 +126,7 @@ fn or_words(line: &[u8], q: usize, row: &mut [u8])
     ensures { Painted Black (λ d. nat_le (8 * q) d && dot line.now (d - 8 * q)) row.old row.new }
 {
     for k in 0..line.len() / 8 {
-        or_eight(eight_at(line, 8 * k), q + 8 * k, row);
-    }
-}
-
-/// Blackens the row where the line, its last byte on byte q and each dot on the left of the one before, is
-/// black.
-#[inline(always)]
-pub(crate) fn or_words_back(line: &[u8], q: usize, row: &mut [u8])
-    requires whole { length line.now % 8 ≡ 0 }
-    requires room { q + length line.now ≤ length row.old }
-    ensures { Painted Black (λ d. nat_le (8 * q) d && (nat_lt (d - 8 * q) (dots line.now)
-        && dot line.now (dots line.now - 1 - (d - 8 * q)))) row.old row.new }
-{
-    for k in 0..line.len() / 8 {
-        let word = eight_at(line, line.len() - 8 * (k + 1));
-        or_eight(word.reverse_bits(), q + 8 * k, row);
+        or_bytes(line, 8 * k, q + 8 * k, row);
     }
 }
 

@@ -1,9 +1,9 @@
-use Rattle.std.proofs.Common.{◌≡◌, ◌≤◌, ◌+◌, ◌-◌, ◌*◌, ◌/◌, ◌&&◌, w64, eqb, ap, ◌∙◌, arith, rules, length, pos}
+use Rattle.std.proofs.Common.{◌+◌, ◌*◌, ◌&&◌, w64, eqb, ap, ◌∙◌, arith, rules, length, pos}
 use mir.Val.{SFits}
 use Rattle.std.proofs.lemmas.Int.{to_z-of_z}
 use Rattle.vp_dots.specs.Dots.{dot}
 use Rattle.vp_dots.specs.declared.Op.TheVariants.{Black}
-use Rattle.vp_page.proofs.Lines.{backward, unclipped_back}
+use Rattle.vp_page.proofs.Lines.{backward}
 use Rattle.vp_page.proofs.Rows.{dot_past, rows_same}
 use Rattle.vp_page.proofs.line.lay_left.Goals as goal
 
@@ -13,11 +13,3 @@ returns c =
     let fits : SFits w64 c.start_of.result = search rules in
     rows_same Black _ _ _ _ (λ x k _. ap (λ b. eqb k c.args.y && b) (backward (a.x + a.dx) (8 * length c.args.row.now) a.dx x _ (dot c.args.row.now) (dot c.clip_reversed.new.line)
     (rw (to_z-of_z w64 c.start_of.result fits) (c.start_of.ensures ∙ ap pos (omega arith))) c.clip_reversed.ensures.cut (λ d h. dot_past c.args.row.now d (omega arith)))) c.lay_along.ensures
-
-pub returns-then-end-le-PAPER_BYTES : goal.returns-then-end-le-PAPER_BYTES
-returns-then-end-le-PAPER_BYTES c =
-    let a = c.args.area in
-    let row = c.args.row.now in
-    let wide : 8 * length row ≤ a.dx = omega arith in
-    let ends : 8 * ((c.from.result + c.from-2.result) / 8 - length row) + 8 * length row ≡ a.x + a.dx = omega (arith, c.from.ensures, c.from-2.ensures) in
-    rows_same Black _ _ _ _ (λ x k _. ap (λ b. eqb k c.args.y && b) (unclipped_back row ((c.from.result + c.from-2.result) / 8 - length row) (a.x + a.dx) a.dx x ends wide)) c.lay_back.ensures

@@ -1,7 +1,5 @@
-use Rattle.std.proofs.Common.{◌∙◌, ap, arith}
-use Rattle.vp_dots.specs.Dots.{dot}
+use Rattle.std.proofs.Common.{arith}
 use Rattle.vp_dots.proofs.Paints.{painted_none, painted_same, painted_then}
-use Rattle.vp_page.proofs.Rows.{dot_past}
 use Rattle.vp_page.proofs.WordsOnRows.{words_none, words_more, words_apart, words_all}
 use Rattle.vp_page.proofs.words.or_words.Goals as goal
 
@@ -9,9 +7,9 @@ pub loop-k-init : goal.loop-k-init
 loop-k-init c = painted_none _ _ _ (λ d l. words_none c.args.q d _)
 
 pub loop-k-preserved : goal.loop-k-preserved
-loop-k-preserved c = painted_then _ _ _ _ _ _ _ c.loop-k.invariant c.or_eight.ensures
-    (λ d l. words_more (dot c.args.line.now) c.args.q c.loop-k.k d c.eight_at.result (λ x h. c.eight_at.ensures x h ∙ ap (dot c.args.line.now) (omega arith)))
-    (λ d l. words_apart (dot c.args.line.now) c.args.q c.loop-k.k d c.eight_at.result)
+loop-k-preserved c = painted_then _ _ _ _ _ _ _ c.loop-k.invariant c.or_bytes.ensures
+    (λ d l. words_more c.args.line.now c.args.q c.loop-k.k d)
+    (λ d l. words_apart c.args.line.now c.args.q c.loop-k.k d _)
 
 pub returns : goal.returns
-returns c = painted_same _ _ _ _ _ (λ d l. words_all (dot c.args.line.now) c.args.q c.loop-k.k d (λ u h. dot_past c.args.line.now u (omega (arith, c.requires.whole)))) c.loop-k.invariant
+returns c = painted_same _ _ _ _ _ (λ d l. words_all c.args.line.now c.args.q c.loop-k.k d (omega (arith, c.requires.whole))) c.loop-k.invariant
