@@ -1,11 +1,10 @@
 -- Rows of a raster, laid on the page as many at once as go.
-use Rattle.std.proofs.Common.{◌≡◌, ℕ, ◌+◌, ◌-◌, ◌/◌, ◌*◌, ◌<◌, Bool, true, false, cond, ltb, leb, ◌&&◌, min, replicate, List, length, refl, sym, ap, subst, ◌∙◌, arith, pos, inl, inr, [], get_or, set, get_or-set_same, get_or-set_other}
-use Rattle.std.proofs.lemmas.Bool.{cases_eq, cases_lt, le-leb, lt-ltb, le-ltb}
-use Rattle.std.proofs.lemmas.List.{length-replicate}
+use Rattle.std.proofs.Common.{◌≡◌, ℕ, ◌+◌, ◌-◌, ◌/◌, ◌%◌, ◌*◌, ◌<◌, false, ltb, ◌&&◌, ◌++◌, take, drop, min, replicate, List, length, refl, sym, ap, subst, ◌∙◌, arith, inl, inr, [], get_or, set, get_or-set_same, get_or-set_other}
+use Rattle.std.proofs.lemmas.Bool.{cases_eq, cases_lt, lt-ltb, le-ltb}
+use Rattle.std.proofs.lemmas.List.{length-replicate, length-take-le, get_or-replicate, get_or_past, get_or-take, get_or-drop, get_or_append_left, get_or-append_right}
 use Rattle.vp_page.proofs.Blank.{dot_white}
-use Rattle.vp_dots.specs.Dots.{dot, shifted}
-use Rattle.vp_dots.specs.Painting.{Painted}
-use Rattle.vp_dots.specs.declared.Op.TheVariants.{Black}
+use Rattle.vp_page.proofs.Rows.{dot_past}
+use Rattle.vp_dots.specs.Dots.{bit, dot}
 use Rattle.vp_esc.specs.declared.item.RasterScale.{RasterScale}
 use Rattle.vp_esc.specs.declared.item.RasterScale.TheVariants.{Normal}
 use Rattle.vp_receipt_settings.specs.Rasters.{row_at}
@@ -13,19 +12,30 @@ use Rattle.vp_receipt.specs.PageMarks.{rows_dot}
 use Rattle.vp_receipt.proofs.PageRows.{row_is}
 use Rattle.vp_page.specs.declared.line.TheConstants.{LINE_BYTES, LINE_DOTS}
 
-black_if : (b : Bool) → cond b true false ≡ b
-black_if true = refl
-black_if false = refl
+-- white lines
+pub white_lines : (n m k d : ℕ) → dot (get_or (replicate n (replicate {A = ℕ} m 0)) k []) d ≡ false
+white_lines n m k d = elim (cases_lt k n) [
+  | inl l ↦ rw (get_or-replicate n k (replicate {A = ℕ} m 0) [] l) (elim (cases_lt (d / 8) m) [
+    | inl b ↦ dot_white m d b
+    | inr g ↦ dot_past (replicate {A = ℕ} m 0) d (omega (arith, length-replicate {A = ℕ} m 0))
+  ])
+  | inr g ↦ rw (get_or_past {X = List ℕ} (replicate n (replicate {A = ℕ} m 0)) k [] (omega (arith, length-replicate {A = List ℕ} n (replicate {A = ℕ} m 0)))) (dot_past [] d (omega arith))
+]
 
--- a white line that is black where a row is has its dots
-pub blackened : (row old new : List ℕ) (n u : ℕ) → Painted Black (shifted (pos 0) (dot row)) old new → n ≡ LINE_BYTES → old ≡ replicate n 0 → u < LINE_DOTS → dot new u ≡ dot row u
-blackened row old new n u p long white h =
-    let size : length old ≡ n = ap length white ∙ length-replicate {A = ℕ} n 0 in
-    let was : dot old u ≡ false = ap (λ xs. dot xs u) white ∙ dot_white n u (omega (arith, long)) in
-    let here : u - 0 ≡ u = omega arith in
-    let painted : dot new u ≡ cond (leb 0 u && dot row (u - 0)) true (dot old u) = p.dots_are u (omega (arith, size, long)) in
-    painted ∙ ap (λ t. cond (t && dot row (u - 0)) true (dot old u)) (le-leb 0 u (omega arith)) ∙ ap (λ b. cond (dot row (u - 0)) true b) was
-    ∙ black_if (dot row (u - 0)) ∙ ap (dot row) here
+-- a row, and white bytes behind it
+pub lengthened : (row : List ℕ) (m n u : ℕ) → m ≡ LINE_BYTES → n ≡ min (length row) m → u < LINE_DOTS → dot (take n row ++ drop n (replicate m 0)) u ≡ dot row u
+unfolding dot
+lengthened row m n u wide e h =
+    let long : length (take n row) ≡ n = length-take-le n row (omega arith) in
+    elim (cases_lt (u / 8) n) [
+      | inl l ↦ ap (λ x. bit x (7 - u % 8)) (get_or_append_left (take n row) (drop n (replicate m 0)) 0 (u / 8) (omega (arith, long)) ∙ get_or-take n row (u / 8) 0 l)
+      | inr g ↦
+          let inside : u / 8 < m = omega (arith, wide) in
+          let behind : n + (u / 8 - n) ≡ u / 8 = omega arith in
+          ap (λ x. bit x (7 - u % 8)) (get_or-append_right (take n row) (drop n (replicate m 0)) n (u / 8) 0 long g ∙ get_or-drop n (replicate m 0) (u / 8 - n) 0
+          ∙ ap (λ i. get_or (replicate {A = ℕ} m 0) i 0) behind ∙ get_or-replicate {A = ℕ} m (u / 8) 0 0 inside
+          ∙ sym (get_or_past {X = ℕ} row (u / 8) 0 (omega (arith, e, inside))))
+    ]
 
 once_drawn : (wide n : ℕ) (bytes : List ℕ) (y u : ℕ) → y < n → dot (row_at bytes wide y) u ≡ rows_dot Normal wide n bytes u y
 once_drawn wide n bytes y u few =

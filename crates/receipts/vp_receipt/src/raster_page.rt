@@ -14,7 +14,6 @@ ghost use Rattle.vp_receipt_settings.specs.Settings.{settings_of, IsFit, IsFitPa
 ghost use Rattle.vp_receipt_settings.specs.Rasters.{bytes_after, raster_scale, row_at, times_across, times_down};
 ghost use Rattle.vp_receipt_settings.specs.Setup.{Setup};
 
-use vp_dots::or_into;
 use vp_esc::item::RasterScale;
 use vp_page::{AT_ONCE, Direction, LINE_BYTES, Page};
 use vp_receipt_settings::{PageSettings, Raster, Settings, times_across, times_down};
@@ -89,7 +88,8 @@ fn lengthened(row: &[u8]) -> [u8; LINE_BYTES]
     ensures { (u : ℕ) → u < LINE_DOTS → dot result u ≡ dot row.now u }
 {
     let mut line = [0; LINE_BYTES];
-    or_into(row, 0, &mut line);
+    let n = row.len().min(LINE_BYTES);
+    line[..n].copy_from_slice(&row[..n]);
     line
 }
 

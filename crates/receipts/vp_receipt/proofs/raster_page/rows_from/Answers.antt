@@ -1,10 +1,9 @@
 use Rattle.std.proofs.Common.{◌≡◌, ◌+◌, ◌-◌, ◌*◌, ◌&&◌, take, drop, min, ap, refl, ◌∙◌, arith, length-set}
 use Rattle.std.proofs.lemmas.Bool.{le-ltb}
 use Rattle.vp_dots.specs.Dots.{dot}
-use Rattle.vp_page.proofs.Squares.{white_lines}
 use Rattle.vp_receipt_settings.specs.Rasters.{row_at}
 use Rattle.vp_receipt.proofs.PageRows.{front_shown}
-use Rattle.vp_receipt.proofs.RasterLines.{row_set, rows_there}
+use Rattle.vp_receipt.proofs.RasterLines.{white_lines, row_set, rows_there}
 use Rattle.vp_page.specs.declared.line.TheConstants.{LINE_BYTES}
 use Rattle.vp_receipt.proofs.raster_page.rows_from.Goals as goal
 
