@@ -23,6 +23,8 @@ TOOLS = os.path.dirname(os.path.realpath(__file__))
 FUNCTION = re.compile(r"( *)(?:pub(?:\([^)]*\))? )?(?:const )?fn (\w+)")
 # What has methods: a trait, or a type, maybe with the trait that it is given there.
 OWNER = re.compile(r"(?:pub )?trait (?P<of>\w+)|impl(?:<.*?>)? (?:(?P<trait>\w+)(?:<.*?>)? for &?)?(?P<type>\w+)")
+# What of rt the rounds stand on.
+NEEDED = "add_edits", "must_fail", "checked", "read_edit", "unread", "need", "rtlib", "REFUSED", "SETTLED"
 # Faults that the prover finds: by a place of the source, or in a file that answers a function's goals.
 IN_SOURCE = re.compile(r"note: (?:\./)?src/(\S+)\.rt:(\d+):\d+: it is not proved ")
 IN_PROOF = re.compile(r"(?:\./)?proofs/(\S+)/\w+\.antt:\d+:\d+: error: ")
@@ -161,17 +163,29 @@ def tried_by_rounds(rt, crate, edits, flags, kept):
 
 def must_fail_all(rt, crate, files, flags):
     """Tries the edits of a crate that is proved: by rounds, and alone what no round refused. What isn't refused so either is
-    tried once more from nothing, and so is what was tried alone where the crate itself isn't proved over what was kept."""
+    tried once more from nothing, and so is what was tried alone where the crate itself isn't proved over what was kept.
+    Returns what each comes to, and what to say of it."""
     readable = [it for it in files if not rt.read_edit(it, crate.folder)[1]]
     together = [it for it in (Edit(crate, file) for file in readable) if it.is_of_bodies()]
     with tempfile.TemporaryDirectory(prefix="rt-edits-") as kept:
         found = tried_by_rounds(rt, crate, together, flags, kept)
         label = f"must-fail {crate.name}/%s: refused, as it must be: %s"
-        tried = {it: (True, label % (os.path.basename(it), fault[:160])) for it, fault in found.items()}
+        tried = {it: (rt.REFUSED, label % (os.path.basename(it), fault[:160])) for it, fault in found.items()}
         alone = {it: rt.must_fail(crate, it, flags, kept) for it in files if it not in tried}
         if alone and not rt.checked(crate, {}, flags, kept).returncode:
-            tried |= {it: said for it, said in alone.items() if said[0]}
+            tried |= {it: said for it, said in alone.items() if said[0] in rt.SETTLED}
     return [tried[it] if it in tried else rt.must_fail(crate, it, flags) for it in files]
+
+
+def add_edits(rt, tasks, crate, edits, first, waits, is_well, *_, **__):
+    """Adds the task that tries a crate's edits once the crate and its tests are proved, and returns what gives their results,
+    in the edits' order, and what gives those of earlier runs, which are none."""
+    # (what rt calls a seed gets more than one processor where others are idle)
+    key = crate.name, "seed"
+    if edits:
+        call = lambda given, jobs: is_well(given, len(edits)) and must_fail_all(rt, crate, edits, ["--jobs", str(jobs)])
+        tasks[key] = ([*first, *waits], crate.count(rb"\n"), rt.need(crate), call)
+    return lambda given: given[key] if edits else [], dict
 
 
 def side_by_side(root, room):
@@ -211,8 +225,11 @@ def tell_made_from(program):
 
 def main():
     rt = kit()
-    if all(hasattr(rt, it) for it in ("must_fail_all", "must_fail", "checked", "read_edit", "unread", "rtlib")):
-        rt.must_fail_all = lambda *of: must_fail_all(rt, *of)
+    lacking = [it for it in NEEDED if not hasattr(rt, it)]
+    if lacking:
+        print(f"gate: this rt has no {', '.join(lacking)}: it tries each edit in a check of its own, which takes longer")
+    else:
+        rt.add_edits = lambda *of, **named: add_edits(rt, *of, **named)
     root = os.getcwd()
     with tempfile.TemporaryDirectory(prefix="vp-gate-") as room:
         before = sources(root)
