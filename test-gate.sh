@@ -1,6 +1,7 @@
 #!/bin/sh
 # Runs the gate on a crate of two functions, one of which calls the other. What must be refused is, and an edit that
-# breaks nothing isn't taken for refused where it is tried beside one of the function that it calls.
+# breaks nothing isn't taken for refused where it is tried beside one of the function that it calls. Edits are tried by
+# rounds: an rt that lacks what these stand on, with which each would be tried alone, is told.
 set -eu
 gate=$(dirname "$(realpath "$0")")/tools/gate.py
 room=$(mktemp -d)
@@ -50,5 +51,6 @@ says 'must-fail one/half_is_a_third.edit: refused, as it must be: note: src/lib.
 says 'must-fail one/quarter_is_a_half.edit: refused, as it must be: note: src/lib.rt:14:1: it is not proved'
 says 'must-fail one/quarter_with_a_type.edit: NOT REFUSED'
 says '^3 passed, 1 failed$'
+if grep '^gate: this rt has no' said >&2; then exit 1; fi
 [ "$status" = 1 ]
 echo 'the gate refuses what it must, and nothing else: ok'
