@@ -1,14 +1,22 @@
--- How wide symbols can be.
-use Rattle.std.proofs.Common.{inl, inr, ◌⊎◌, ◌≡◌, ℕ, ◌+◌, ◌*◌, ◌^◌, ◌<◌, ◌≤◌, Bool, true, false, cond, eqb, leb, List, [], ◌∷◌, ◌++◌, length, take, drop, map, reverse, refl, sym, ap, ◌∙◌, arith}
+-- How wide symbols can be, and how many bytes have one.
+use Rattle.std.proofs.Common.{◌≡◌, ◌≢◌, ℕ, ◌+◌, ◌*◌, ◌^◌, ◌<◌, ◌≤◌, Bool, true, false, cond, eqb, leb, List, [], ◌∷◌, ◌++◌, length, take, drop, map, reverse, Result, Err, refl, sym, ap, ◌∙◌, arith}
 use Rattle.std.specs.List.{flat_map}
 use Rattle.std.proofs.Math.Nat.{mul-le-mul_left}
-use Rattle.std.proofs.lemmas.Bool.{leb-true, eqb-true}
+use Rattle.std.proofs.lemmas.Bool.{leb-true, eqb-true, lt-ltb}
 use Rattle.std.proofs.lemmas.List.{length-append, length-take, length-drop, get_or-take}
-use Rattle.vp_bars.specs.declared.bars.Symbology.{Symbology}
-use Rattle.vp_bars.specs.declared.bars.Symbology.TheVariants.{Code39, Ean13, Code128}
+use Rattle.vp_bars.specs.declared.symbology.Symbology.{Symbology}
+use Rattle.vp_bars.specs.declared.symbology.Symbology.TheVariants.{Code39, Ean13, Code128}
+use Rattle.vp_dots.specs.declared.fault.Fault.{Fault}
+use Rattle.vp_dots.specs.declared.fault.Fault.TheVariants.{Symbol, SymbolTooLong}
+use Rattle.vp_dots.specs.declared.fault.Why.TheVariants.{Empty}
+use Rattle.vp_bar_code.specs.declared.BarCode.{BarCode}
+use Rattle.vp_bar_code.specs.declared.BarCode.TheVariants as codes
+use Rattle.vp_bar_code.specs.declared.Code128Data.TheVariants.{Escapes, Invocations, Packed}
+use Rattle.vp_bars.specs.Symbols.{Linear, within_length}
 use Rattle.vp_bars.specs.Patterns.{code39_table, code128_table, parity}
 use Rattle.vp_bars.specs.Elements.{set_a_widths, set_a_elements, set_b_elements, left_elements_of, left_elements, ean13_elements}
-use Rattle.vp_bars.specs.Widths.{size_of, sized, pattern_of, next_widths, widths_of, bar_widths, width_of, black_of, in_bar, total}
+use Rattle.vp_bars.specs.Symbologies.{symbol_of, size_of, pattern_of}
+use Rattle.vp_bars.specs.Widths.{sized, next_widths, widths_of, bar_widths, width_of, black_of, in_bar, total}
 use Rattle.vp_bars.proofs.Draws.{total-append}
 use Rattle.vp_bars.proofs.Tables.{each_row}
 use Rattle.vp_bars.proofs.Lists.{list_all_get}
@@ -120,8 +128,29 @@ black_is Ean13 n w vs x = ean13_bars n vs x
 black_is Code128 n w vs x = refl
 
 -- the bars of the symbologies that aren't EAN-13
-pub characters_are : (s : Symbology) (n w : ℕ) (vs : List ℕ) → (s ≡ Code39) ⊎ (s ≡ Code128) → bar_widths s n w vs ≡ widths_of s n w vs
-characters_are s n w vs h = elim h [
-  | inl e ↦ ap (λ t. bar_widths t n w vs) e ∙ sym (ap (λ t. widths_of t n w vs) e)
-  | inr e ↦ ap (λ t. bar_widths t n w vs) e ∙ sym (ap (λ t. widths_of t n w vs) e)
-]
+pub characters_are : (s : Symbology) (n w : ℕ) (vs : List ℕ) → s ≢ Ean13 → bar_widths s n w vs ≡ widths_of s n w vs
+characters_are Code39 n w vs other = refl
+characters_are Ean13 n w vs other = absurd (other refl)
+characters_are Code128 n w vs other = refl
+
+none-within : (symbol : Result Linear Fault) (bytes : List ℕ) → length bytes ≡ 0 → within_length bytes symbol ≡ Err (Symbol Empty)
+none-within symbol [] none = refl
+none-within symbol (b ∷ bytes) none = absurd (omega arith)
+
+many-within : (symbol : Result Linear Fault) (bytes : List ℕ) → 255 < length bytes → within_length bytes symbol ≡ Err SymbolTooLong
+many-within symbol [] many = absurd (omega arith)
+many-within symbol (b ∷ bytes) many = rw (lt-ltb 255 (length (b ∷ bytes)) many) refl
+
+pub none_drawn : (code : BarCode) (bytes : List ℕ) → length bytes ≡ 0 → symbol_of code bytes ≡ Err (Symbol Empty)
+none_drawn (codes.Code39 check) bytes none = none-within _ bytes none
+none_drawn (codes.Ean13 padded) bytes none = none-within _ bytes none
+none_drawn (codes.Code128 Escapes) bytes none = none-within _ bytes none
+none_drawn (codes.Code128 Invocations) bytes none = none-within _ bytes none
+none_drawn (codes.Code128 Packed) bytes none = none-within _ bytes none
+
+pub many_drawn : (code : BarCode) (bytes : List ℕ) → 255 < length bytes → symbol_of code bytes ≡ Err SymbolTooLong
+many_drawn (codes.Code39 check) bytes many = many-within _ bytes many
+many_drawn (codes.Ean13 padded) bytes many = many-within _ bytes many
+many_drawn (codes.Code128 Escapes) bytes many = many-within _ bytes many
+many_drawn (codes.Code128 Invocations) bytes many = many-within _ bytes many
+many_drawn (codes.Code128 Packed) bytes many = many-within _ bytes many

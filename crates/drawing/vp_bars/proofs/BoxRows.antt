@@ -1,19 +1,19 @@
 -- The rows of a box.
 use Rattle.std.proofs.Common.{inl, inr, ◌≡◌, ℕ, ◌+◌, ◌-◌, ◌*◌, ◌/◌, ◌<◌, ◌≤◌, Bool, true, false, not, cond, ltb, leb, ◌&&◌, List, [], ◌∷◌, ◌++◌, ℤ, refl, sym, ap, ◌∙◌, arith}
 use Rattle.std.proofs.lemmas.Bool.{cases_lt, and_parts, ltb-true, leb-true, lt-ltb, le-ltb}
-use Rattle.vp_bars.specs.declared.bar_box.Place.{Place}
-use Rattle.vp_bars.specs.declared.bar_box.Place.TheVariants.{None, Above, Below, Both}
+use Rattle.vp_bar_code.specs.declared.HriPosition.{HriPosition}
+use Rattle.vp_bar_code.specs.declared.HriPosition.TheVariants.{None, Above, Below, Both}
 use Rattle.vp_glyph.specs.Cells.{font_height}
 use Rattle.vp_glyph.specs.declared.cell.Font.{Font}
 use Rattle.vp_bars.specs.Symbols.{Linear}
-use Rattle.vp_bars.specs.Texts.{text_of}
+use Rattle.vp_bars.specs.Symbologies.{text_of}
 use Rattle.vp_bars.specs.Widths.{in_bar, bar_widths, total, bars_width, is_black}
 use Rattle.vp_bars.specs.Boxes.{Boxed, texts_above, texts_below, line_width, line_dot, text_width, box_width, box_top, box_height, centred, text_row, bars_row, box_dot}
 use Rattle.vp_dots.specs.Dots.{shifted}
 use Rattle.vp_dots.specs.Painting.{Painted}
 use Rattle.vp_dots.specs.declared.Op.{Op}
 use Rattle.std.proofs.lemmas.List.{append-nil}
-use Rattle.vp_bars.specs.declared.bars.Symbology.{Symbology}
+use Rattle.vp_bars.specs.declared.symbology.Symbology.{Symbology}
 use Rattle.vp_bars.specs.declared.pen.Pen.{Pen}
 use Rattle.vp_bars.specs.Drawing.{Draws}
 use Rattle.vp_bars.proofs.Paints.{drawn_none, drawn_all}
@@ -84,19 +84,19 @@ module _ (w h t high x y : ℕ) (above bars below : Bool) where
       shape true = refl
       shape false = refl
 
-has_above : (p : Place) (k y : ℕ) → y < texts_above p * k → 0 < texts_above p + texts_below p
+has_above : (p : HriPosition) (k y : ℕ) → y < texts_above p * k → 0 < texts_above p + texts_below p
 has_above None k y h = absurd (omega arith)
 has_above Above k y h = omega arith
 has_above Below k y h = absurd (omega arith)
 has_above Both k y h = omega arith
 
-has_below : (p : Place) (k t y : ℕ) → t ≤ y → y < t + texts_below p * k → 0 < texts_above p + texts_below p
+has_below : (p : HriPosition) (k t y : ℕ) → t ≤ y → y < t + texts_below p * k → 0 < texts_above p + texts_below p
 has_below None k t y h l = absurd (omega arith)
 has_below Above k t y h l = absurd (omega arith)
 has_below Below k t y h l = omega arith
 has_below Both k t y h l = omega arith
 
-pub text_fits : (f : Font) (p : Place) → 0 < texts_above p + texts_below p → (t : List ℕ) → text_width f p t ≡ line_width f t
+pub text_fits : (f : Font) (p : HriPosition) → 0 < texts_above p + texts_below p → (t : List ℕ) → text_width f p t ≡ line_width f t
 text_fits f None h t = absurd (omega arith)
 text_fits f Above h t = refl
 text_fits f Below h t = refl

@@ -8,11 +8,12 @@ use Rattle.std.proofs.lemmas.List.Concat.{flat_map-append}
 use Rattle.vp_dots.specs.declared.fault.Fault.{Fault}
 use Rattle.vp_dots.specs.declared.fault.Fault.TheVariants.{Symbol}
 use Rattle.vp_dots.specs.declared.fault.Why.TheVariants.{Char}
-use Rattle.vp_bars.specs.declared.bars.Symbology.TheVariants.{Ean13}
+use Rattle.vp_bars.specs.declared.symbology.Symbology.TheVariants.{Ean13}
 use Rattle.vp_bars.specs.Symbols.{Linear}
 use Rattle.vp_bars.specs.Code39.{alphabet}
 use Rattle.vp_bars.specs.Ean13.{check_of, padded, with_check, is_count, symbol_of, digits_of, ean13_for, ean13_of}
-use Rattle.vp_bars.specs.Texts.{character_of, characters, text_of}
+use Rattle.vp_bars.specs.Symbologies.{text_of}
+use Rattle.vp_bars.specs.Texts.{character_of, characters}
 use Rattle.vp_bars.proofs.Digits.{digit_range, ean13_twelve, ean13_none}
 use Rattle.vp_bars.proofs.PlainTexts.{within_ok}
 

@@ -7,7 +7,7 @@ use Rattle.std.proofs.lemmas.Bool.Decides.{nat_tests}
 use Rattle.std.proofs.lemmas.List.{drop_more, take_all, take-map, length-map, length-replicate, length-take-le, length-append}
 use Rattle.vp_dots.specs.declared.fault.Fault.TheVariants.{Symbol}
 use Rattle.vp_dots.specs.declared.fault.Why.TheVariants.{Length}
-use Rattle.vp_bars.specs.declared.bars.Symbology.TheVariants.{Ean13}
+use Rattle.vp_bars.specs.declared.symbology.Symbology.TheVariants.{Ean13}
 use Rattle.vp_bars.specs.Ean13.{weighted, with_check, is_count, symbol_of, padded, digits_of, ean13_for}
 
 -- one more digit of the sum

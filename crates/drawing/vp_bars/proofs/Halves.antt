@@ -3,11 +3,12 @@ use Rattle.std.proofs.Common.{inl, inr, ◌≡◌, ℕ, zero, suc, ◌+◌, ◌<
 use Rattle.std.specs.List.{flat_map}
 use Rattle.std.proofs.lemmas.Bool.{cases_lt}
 use Rattle.std.proofs.lemmas.List.{append-nil, take_all, drop_all}
-use Rattle.vp_bars.specs.declared.bars.Symbology.{Symbology}
-use Rattle.vp_bars.specs.declared.bars.Symbology.TheVariants.{Ean13}
+use Rattle.vp_bars.specs.declared.symbology.Symbology.{Symbology}
+use Rattle.vp_bars.specs.declared.symbology.Symbology.TheVariants.{Ean13}
 use Rattle.vp_bars.specs.Patterns.{parity}
 use Rattle.vp_bars.specs.Elements.{set_a_elements, left_elements_of, left_elements, ean13_elements}
-use Rattle.vp_bars.specs.Widths.{size_of, sized, next_widths, total}
+use Rattle.vp_bars.specs.Symbologies.{size_of}
+use Rattle.vp_bars.specs.Widths.{sized, next_widths, total}
 use Rattle.vp_bars.proofs.Draws.{total-append, map_append}
 
 -- one more digit

@@ -6,14 +6,15 @@ use Rattle.std.specs.Char.{is_ascii_digit}
 use Rattle.vp_dots.specs.declared.fault.Why.{Why}
 use Rattle.vp_dots.specs.declared.fault.Fault.{Fault}
 use Rattle.vp_dots.specs.declared.fault.Fault.TheVariants.{SymbolTooLong}
-use Rattle.vp_bars.specs.declared.bars.Symbology.TheVariants as symbologies
+use Rattle.vp_bars.specs.declared.symbology.Symbology.TheVariants as symbologies
 use Rattle.vp_bars.specs.declared.code_128.CodeSet.{CodeSet}
 use Rattle.vp_bars.specs.declared.code_128.CodeSet.TheVariants.{A, B, C}
 use Rattle.vp_bars.specs.Symbols.{Linear}
 use Rattle.vp_bars.specs.CodeSets.{start_of, value_in, onto, plain, check_of, stop, values_with, symbol_from}
 use Rattle.vp_bars.specs.Invocations.{pair_of}
 use Rattle.vp_bars.specs.Packing.{two_digits, begins_run, packed, first_set, packed_symbol, code128_zpl_of}
-use Rattle.vp_bars.specs.Texts.{shown_from, data_of, shown_by, text_of}
+use Rattle.vp_bars.specs.Symbologies.{text_of}
+use Rattle.vp_bars.specs.Texts.{shown_from, data_of, shown_by}
 use Rattle.vp_bars.proofs.Digits.{digit_range}
 use Rattle.vp_bars.proofs.Packed.{packed_pair, packed_change, packed_run, packed_byte}
 

@@ -8,7 +8,7 @@ use Rattle.std.proofs.lemmas.List.Quantifiers.{position-Some}
 use Rattle.std.proofs.lemmas.List.Concat.{flat_map-append}
 use Rattle.vp_dots.specs.declared.fault.Fault.{Fault}
 use Rattle.vp_dots.specs.declared.fault.Fault.TheVariants.{SymbolTooLong}
-use Rattle.vp_bars.specs.declared.bars.Symbology.TheVariants as symbologies
+use Rattle.vp_bars.specs.declared.symbology.Symbology.TheVariants as symbologies
 use Rattle.vp_bars.specs.declared.code_128.CodeSet.TheVariants.{B}
 use Rattle.vp_bars.specs.declared.code_128.Token.TheVariants.{Byte}
 use Rattle.vp_bars.specs.Symbols.{Linear, within_length}
@@ -17,7 +17,8 @@ use Rattle.vp_bars.specs.CodeSets.{tokens}
 use Rattle.vp_bars.specs.Escapes.{brace, escaped, code128_esc_of}
 use Rattle.vp_bars.specs.Invocations.{greater, invoked, invoked_from, started_symbol, started}
 use Rattle.vp_bars.specs.Packing.{code128_zpl_of}
-use Rattle.vp_bars.specs.Texts.{character_of, characters, text_of}
+use Rattle.vp_bars.specs.Symbologies.{text_of}
+use Rattle.vp_bars.specs.Texts.{character_of, characters}
 use Rattle.vp_bars.proofs.PackedTexts.{Shows, byte_shown, no_values, symbol_text}
 
 -- what isn't refused for its length

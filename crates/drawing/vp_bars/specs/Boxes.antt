@@ -5,10 +5,10 @@ use Rattle.vp_glyph.specs.declared.Sheets.{Sheets}
 use Rattle.vp_glyph.specs.declared.cell.Font.{Font}
 use Rattle.vp_glyph.specs.declared.cell.Style.{Style}
 use Rattle.vp_glyph.specs.Cells.{font_width, font_height, cell_dot}
-use Rattle.vp_bars.specs.declared.bar_box.Place.{Place}
-use Rattle.vp_bars.specs.declared.bar_box.Place.TheVariants.{None, Above, Below, Both}
+use Rattle.vp_bar_code.specs.declared.HriPosition.{HriPosition}
+use Rattle.vp_bar_code.specs.declared.HriPosition.TheVariants.{None, Above, Below, Both}
 use Rattle.vp_bars.specs.Symbols.{Linear}
-use Rattle.vp_bars.specs.Texts.{text_of}
+use Rattle.vp_bars.specs.Symbologies.{text_of}
 use Rattle.vp_bars.specs.Widths.{bars_width, is_black}
 
 -- what stands in a box: a symbol, how wide its narrow and wide elements and how high its bars are, and
@@ -20,16 +20,16 @@ pub record Boxed : Type 0 where
   pub height : ℕ
   pub sheets : Sheets
   pub font : Font
-  pub place : Place
+  pub place : HriPosition
 
 -- the texts above and below the bars
-abbrev pub texts_above : Place → ℕ
+abbrev pub texts_above : HriPosition → ℕ
 texts_above None = 0
 texts_above Above = 1
 texts_above Below = 0
 texts_above Both = 1
 
-abbrev pub texts_below : Place → ℕ
+abbrev pub texts_below : HriPosition → ℕ
 texts_below None = 0
 texts_below Above = 0
 texts_below Below = 1
@@ -48,7 +48,7 @@ line_dot sheets font text x y = nat_lt x (line_width font text)
     && cell_dot sheets font plain (slice_index text (x / font_width font)) (x % font_width font) y
 
 -- no text asked for is no text
-abbrev pub text_width : Font → Place → List ℕ → ℕ
+abbrev pub text_width : Font → HriPosition → List ℕ → ℕ
 text_width font None text = 0
 text_width font _ text = line_width font text
 

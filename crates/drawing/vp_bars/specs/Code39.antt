@@ -3,7 +3,7 @@ use Rattle.std.specs.Prelude.{ℕ, ◌-◌, ◌%◌, ◌==◌, Bool, true, false
 use Rattle.vp_dots.specs.declared.fault.Fault.{Fault}
 use Rattle.vp_dots.specs.declared.fault.Fault.TheVariants.{Symbol}
 use Rattle.vp_dots.specs.declared.fault.Why.TheVariants.{Empty, Char}
-use Rattle.vp_bars.specs.declared.bars.Symbology.TheVariants as symbologies
+use Rattle.vp_bars.specs.declared.symbology.Symbology.TheVariants as symbologies
 use Rattle.vp_bars.specs.Symbols.{Linear, within_length}
 
 -- the 43 characters in the order of their values (table 1)

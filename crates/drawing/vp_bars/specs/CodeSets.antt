@@ -4,7 +4,7 @@ use Rattle.vp_dots.specs.declared.fault.Fault.{Fault}
 use Rattle.vp_dots.specs.declared.fault.Fault.TheVariants.{Symbol}
 use Rattle.vp_dots.specs.declared.fault.Why.{Why}
 use Rattle.vp_dots.specs.declared.fault.Why.TheVariants.{Empty, Char}
-use Rattle.vp_bars.specs.declared.bars.Symbology.TheVariants as symbologies
+use Rattle.vp_bars.specs.declared.symbology.Symbology.TheVariants as symbologies
 use Rattle.vp_bars.specs.declared.code_128.CodeSet.{CodeSet}
 use Rattle.vp_bars.specs.declared.code_128.CodeSet.TheVariants.{A, B, C}
 use Rattle.vp_bars.specs.declared.code_128.Token.{Token}

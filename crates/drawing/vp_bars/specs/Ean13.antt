@@ -5,7 +5,7 @@ use Rattle.std.specs.List.{list_all}
 use Rattle.vp_dots.specs.declared.fault.Fault.{Fault}
 use Rattle.vp_dots.specs.declared.fault.Fault.TheVariants.{Symbol}
 use Rattle.vp_dots.specs.declared.fault.Why.TheVariants.{Char, Length}
-use Rattle.vp_bars.specs.declared.bars.Symbology.TheVariants as symbologies
+use Rattle.vp_bars.specs.declared.symbology.Symbology.TheVariants as symbologies
 use Rattle.vp_bars.specs.Symbols.{Linear, within_length}
 
 -- the digits weighted 1, 3, 1 and so on, or 3, 1, 3

@@ -8,6 +8,7 @@ pub mod Packing
 pub mod Texts
 pub mod Patterns
 pub mod Elements
+pub mod Symbologies
 pub mod Widths
 pub mod Drawing
 pub mod Boxes

@@ -3,7 +3,7 @@ use Rattle.std.specs.Prelude.{ℕ, List, [], ◌∷◌, length, nat_lt, Result, 
 use Rattle.vp_dots.specs.declared.fault.Fault.{Fault}
 use Rattle.vp_dots.specs.declared.fault.Fault.TheVariants.{Symbol, SymbolTooLong}
 use Rattle.vp_dots.specs.declared.fault.Why.TheVariants.{Empty}
-use Rattle.vp_bars.specs.declared.bars.Symbology.{Symbology}
+use Rattle.vp_bars.specs.declared.symbology.Symbology.{Symbology}
 
 -- a symbol: the values of its characters from the left, with starts, check and stops
 pub record Linear : Type 0 where

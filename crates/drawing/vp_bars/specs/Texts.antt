@@ -1,11 +1,8 @@
--- The text of a symbol.
+-- What the values of a symbol show.
 use Rattle.std.specs.Prelude.{ℕ, ◌+◌, ◌-◌, ◌/◌, ◌%◌, ◌==◌, Bool, false, List, [], ◌∷◌, ◌++◌, length, take, drop, nat_lt, slice_index, if◌then◌else◌}
 use Rattle.std.specs.List.{flat_map}
-use Rattle.vp_bars.specs.declared.bars.Symbology.{Symbology}
-use Rattle.vp_bars.specs.declared.bars.Symbology.TheVariants.{Code39, Ean13, Code128}
 use Rattle.vp_bars.specs.declared.code_128.CodeSet.{CodeSet}
 use Rattle.vp_bars.specs.declared.code_128.CodeSet.TheVariants.{A, B, C}
-use Rattle.vp_bars.specs.Symbols.{Linear}
 use Rattle.vp_bars.specs.Code39.{alphabet}
 use Rattle.vp_bars.specs.CodeSets.{other_of}
 
@@ -52,12 +49,3 @@ data_of vs = take (length vs - 3) (drop 1 vs)
 
 abbrev pub shown_by : List ℕ → List ℕ
 shown_by vs = let set = set_of_start (slice_index vs 0) in shown_from set set (data_of vs)
-
-abbrev pub text_of_values : Symbology → List ℕ → List ℕ
-text_of_values Code39 vs = characters vs
-text_of_values Ean13 vs = characters vs
-text_of_values Code128 vs = shown_by vs
-
--- the text of a symbol: data and check of Code 39, thirteen digits, or what the data of Code 128 show
-unfoldable pub text_of : Linear → List ℕ
-text_of bars = text_of_values bars.symbology bars.values

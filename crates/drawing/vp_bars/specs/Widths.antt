@@ -1,38 +1,22 @@
 -- The bars and spaces of a symbol, in dots.
 use Rattle.std.specs.Prelude.{ℕ, ◌+◌, ◌-◌, ◌*◌, ◌==◌, Bool, true, false, not, List, [], ◌∷◌, ◌++◌, map, length, take, drop, nat_lt, if◌then◌else◌}
 use Rattle.std.specs.List.{flat_map}
-use Rattle.vp_bars.specs.declared.bars.Symbology.{Symbology}
-use Rattle.vp_bars.specs.declared.bars.Symbology.TheVariants.{Code39, Ean13, Code128}
+use Rattle.vp_bars.specs.declared.symbology.Symbology.{Symbology}
+use Rattle.vp_bars.specs.declared.symbology.Symbology.TheVariants.{Ean13}
 use Rattle.vp_bars.specs.Symbols.{Linear}
-use Rattle.vp_bars.specs.Elements.{set_a_elements, ean13_elements}
-use Rattle.vp_bars.specs.Patterns.{code39_pattern, code128_pattern, set_a, set_b, set_c, parity}
-
--- how wide an element is: Code 39 has narrow and wide ones, Code 128 and EAN-13 have them of one to four
--- modules
-abbrev pub size_of : Symbology → ℕ → ℕ → ℕ → ℕ
-size_of Code39 narrow wide e = if e == 1 then wide else narrow
-size_of _ narrow wide e = e * narrow
+use Rattle.vp_bars.specs.Elements.{ean13_elements}
+use Rattle.vp_bars.specs.Patterns.{set_a, set_b, set_c, parity}
+use Rattle.vp_bars.specs.Symbologies.{size_of, pattern_of, gap_of}
 
 abbrev pub sized : Symbology → ℕ → ℕ → List ℕ → List ℕ
 sized symbology narrow wide es = map (size_of symbology narrow wide) es
-
--- the elements of a character
-abbrev pub pattern_of : Symbology → ℕ → List ℕ
-pattern_of Code39 v = code39_pattern v
-pattern_of Ean13 v = set_a_elements v
-pattern_of Code128 v = code128_pattern v
-
--- the elements between two characters: a narrow gap in Code 39
-abbrev pub gap_of : Symbology → List ℕ
-gap_of Code39 = 0 ∷ []
-gap_of _ = []
 
 -- the widths of a character behind another
 abbrev pub next_widths : Symbology → ℕ → ℕ → ℕ → List ℕ
 next_widths symbology narrow wide v = sized symbology narrow wide (gap_of symbology)
     ++ sized symbology narrow wide (pattern_of symbology v)
 
--- the widths of the bars and spaces of Code 39 and Code 128, a bar first
+-- the widths of the bars and spaces of characters in a row, a bar first: of any symbol but EAN-13
 abbrev pub widths_of : Symbology → ℕ → ℕ → List ℕ → List ℕ
 widths_of symbology narrow wide [] = []
 widths_of symbology narrow wide (v ∷ vs) = sized symbology narrow wide (pattern_of symbology v)

@@ -6,47 +6,35 @@ ghost use Rattle.vp_dots.specs.Dots.{shifted};
 ghost use Rattle.vp_dots.specs.Painting.{Painted};
 ghost use Rattle.vp_glyph.specs.Cells.{font_width, font_height, cell_dot, cell_width};
 ghost use Rattle.vp_bars.specs.Boxes.{Boxed, texts_above, texts_below, line_dot, line_width, text_width as width_of_text, box_width, box_height, text_row, bars_row, box_dot, box_inside};
-ghost use Rattle.vp_bars.specs.Texts.{text_of};
+ghost use Rattle.vp_bars.specs.Symbologies.{text_of};
 ghost use Rattle.vp_bars.specs.Widths.{bars_width as width_of_bars};
 
 use crate::Bars;
 use crate::pen::Pen;
 use crate::strokes::{Strokes, bars_width};
+use vp_bar_code::HriPosition;
 use vp_dots::{Ink, Op, dot_of, fill_moved};
 use vp_glyph::{Cell, Font, Sheets, Style};
 
-/// Where the text of a symbol stands.
-#[derive(Clone, Copy, Debug, PartialEq, Eq)]
-pub enum Place {
-    /// There is no text.
-    None,
-    Above,
-    Below,
-    /// Above and below.
-    Both,
+/// The texts above the bars.
+fn above(place: HriPosition) -> u32
+    ensures texts { result ≡ texts_above place }
+    ensures small { result ≤ 1 }
+{
+    match place {
+        HriPosition::None | HriPosition::Below => 0,
+        HriPosition::Above | HriPosition::Both => 1,
+    }
 }
 
-impl Place {
-    /// The texts above the bars.
-    fn above(self) -> u32
-        ensures texts { result ≡ texts_above self }
-        ensures small { result ≤ 1 }
-    {
-        match self {
-            Place::None | Place::Below => 0,
-            Place::Above | Place::Both => 1,
-        }
-    }
-
-    /// The texts below the bars.
-    fn below(self) -> u32
-        ensures texts { result ≡ texts_below self }
-        ensures small { result ≤ 1 }
-    {
-        match self {
-            Place::None | Place::Above => 0,
-            Place::Below | Place::Both => 1,
-        }
+/// The texts below the bars.
+fn below(place: HriPosition) -> u32
+    ensures texts { result ≡ texts_below place }
+    ensures small { result ≤ 1 }
+{
+    match place {
+        HriPosition::None | HriPosition::Above => 0,
+        HriPosition::Below | HriPosition::Both => 1,
     }
 }
 
@@ -60,7 +48,7 @@ const PLAIN: Style = Style {
     inverse: false,
 };
 
-/// Paints a row of a cell that stands so many dots to the right, dot by dot.
+/// Paints row y of a cell that stands `left` dots to the right, dot by dot.
 fn paint_cell_dots(cell: &Cell<'_>, y: u32, left: u32, op: Op, at: i64, row: &mut [u8])
     requires { left + cell_width cell.now.font cell.now.style < 2 ^ 32 }
     ensures { Painted op (shifted at (λ i. nat_le left i
@@ -75,7 +63,7 @@ fn paint_cell_dots(cell: &Cell<'_>, y: u32, left: u32, op: Op, at: i64, row: &mu
     }
 }
 
-/// Paints a row of a cell that stands so many dots to the right.
+/// Paints row y of a cell that stands `left` dots to the right.
 fn paint_cell(cell: &Cell<'_>, y: u32, left: u32, op: Op, at: i64, row: &mut [u8])
     requires { left + cell_width cell.now.font cell.now.style < 2 ^ 32 }
     ensures { Painted op (shifted at (λ i. nat_le left i
@@ -88,7 +76,7 @@ fn paint_cell(cell: &Cell<'_>, y: u32, left: u32, op: Op, at: i64, row: &mut [u8
     }
 }
 
-/// Paints a row of a text that stands so many dots to the right.
+/// Paints row y of a text that stands `left` dots to the right.
 fn paint_line(
     sheets: &Sheets,
     font: Font,
@@ -132,7 +120,7 @@ pub struct BarBox<'a> {
     /// What the text is drawn from.
     pub sheets: &'a Sheets,
     pub font: Font,
-    pub place: Place,
+    pub place: HriPosition,
     /// The dots of a row of the bars.
     pub bars_width: u32,
     /// The dots of a row of the text, where one stands.
@@ -144,13 +132,14 @@ pub struct BarBox<'a> {
 }
 
 /// How wide the text of a symbol is, where one stands.
-fn text_width(bars: &Bars, font: Font, place: Place) -> u32
+fn text_width(bars: &Bars, font: Font, place: HriPosition) -> u32
     ensures width { result ≡ width_of_text font place (text_of bars.now) }
     ensures small { result < 2 ^ 30 }
 {
     match place {
-        Place::None => 0,
-        Place::Above | Place::Below | Place::Both => font.width() * bars.text().len() as u32,
+        HriPosition::None => 0,
+        HriPosition::Above | HriPosition::Below | HriPosition::Both => font.width()
+            * bars.text().len() as u32,
     }
 }
 
@@ -169,7 +158,7 @@ impl Bars {
         height: u16,
         sheets: &'a Sheets,
         font: Font,
-        place: Place,
+        place: HriPosition,
     ) -> BarBox<'a>
         ensures bars { result.bars.now ≡ self.now }
         ensures narrow { result.narrow ≡ narrow }
@@ -196,12 +185,12 @@ impl Bars {
 }
 
 /// Whether row y of a box is known to have the dots of the row above it, as two rows of bars have: of any
-/// symbol whose text stands in a place and whose bars are so high.
-pub fn rows_repeat(place: Place, font: Font, height: u16, y: u32) -> bool
+/// symbol whose text stands at `place` in `font`, and whose bars are `height` dots high.
+pub fn rows_repeat(place: HriPosition, font: Font, height: u16, y: u32) -> bool
     ensures { result ≡ true → (b : Boxed) → b.place ≡ place → b.font ≡ font → b.height ≡ height
         → (x : ℕ) → box_dot b x y ≡ box_dot b x (y - 1) }
 {
-    let top = place.above() * font.height();
+    let top = above(place) * font.height();
     y > top && y < top + u32::from(height)
 }
 
@@ -215,10 +204,10 @@ impl BarBox<'_> {
         ensures bars { self.now.bars_width ≤ result }
     {
         match self.place {
-            Place::None => self.bars_width,
-            Place::Above => self.bars_width.max(self.text_width),
-            Place::Below => self.bars_width.max(self.text_width),
-            Place::Both => self.bars_width.max(self.text_width),
+            HriPosition::None => self.bars_width,
+            HriPosition::Above => self.bars_width.max(self.text_width),
+            HriPosition::Below => self.bars_width.max(self.text_width),
+            HriPosition::Both => self.bars_width.max(self.text_width),
         }
     }
 
@@ -227,7 +216,7 @@ impl BarBox<'_> {
         ensures rows { result ≡ texts_above self.now.place * font_height self.now.font }
         ensures small { result ≤ 24 }
     {
-        self.place.above() * self.font.height()
+        above(self.place) * self.font.height()
     }
 
     /// Paints a row of the bars.
@@ -278,7 +267,7 @@ impl BarBox<'_> {
             self.paint_bars(op, at, row);
             return;
         }
-        if y - bottom < self.place.below() * self.font.height() {
+        if y - bottom < below(self.place) * self.font.height() {
             self.paint_text(y - bottom, op, at, row);
         }
     }
@@ -296,7 +285,7 @@ impl Ink for BarBox<'_> {
     ghost outside = { λ s x y h. box_inside (boxed s) x y h };
 
     fn size(&self) -> (u32, u32) {
-        let height = self.top() + u32::from(self.height) + self.place.below() * self.font.height();
+        let height = self.top() + u32::from(self.height) + below(self.place) * self.font.height();
         (self.width(), height)
     }
 

@@ -4,21 +4,10 @@ ghost use Rattle.std.specs.Prelude.{◌≡◌, ◌+◌, ◌≤◌, ◌++◌, len
 ghost use Rattle.vp_dots.specs.declared.fault.Fault.{Fault};
 ghost use Rattle.vp_bars.specs.Symbols.{Linear, within_length};
 
-use crate::text::{characters, shown_data};
+use crate::symbology::{Symbology, text_of as text_in};
 use arrayvec::ArrayVec;
 use std::marker::Model;
 use vp_dots::{Fault, Why};
-
-/// The kinds of linear symbols.
-#[derive(Clone, Copy, Debug, PartialEq, Eq)]
-pub enum Symbology {
-    /// ISO/IEC 16388.
-    Code39,
-    /// ISO/IEC 15420.
-    Ean13,
-    /// ISO/IEC 15417.
-    Code128,
-}
 
 /// A linear symbol: the values of its characters, at most 258, of 0 to 106.
 #[derive(Drop)]
@@ -36,7 +25,7 @@ impl Model for Bars {
 }
 
 impl Bars {
-    ghost use Rattle.vp_bars.specs.Texts.{text_of};
+    ghost use Rattle.vp_bars.specs.Symbologies.{text_of};
 
     /// The symbol of these values.
     pub(crate) fn new(symbology: Symbology, values: ArrayVec<u8, 258>) -> Self
@@ -64,15 +53,11 @@ impl Bars {
     /// Its text, a byte a character: data and check of Code 39 without the stars, the thirteen digits of
     /// EAN-13, or what the data of Code 128 show, a byte for a value of set A or B, two digits for one of
     /// set C, and nothing for a function character.
-    #[tactic(auto, unfolding(crate::specs::Texts::text_of))]
+    #[tactic(auto, unfolding(crate::specs::Symbologies::text_of))]
     pub fn text(&self) -> ArrayVec<u8, 512>
         ensures { result.items ≡ text_of self.now }
     {
-        let values = self.values.as_slice();
-        match self.symbology {
-            Symbology::Code39 | Symbology::Ean13 => characters(values),
-            Symbology::Code128 => shown_data(values),
-        }
+        text_in(self.symbology, self.values.as_slice())
     }
 }
 

@@ -4,7 +4,8 @@ ghost use Rattle.std.specs.Prelude.{◌≡◌, ℕ, ◌+◌, ◌*◌, ◌≤◌,
 ghost use Rattle.vp_dots.specs.declared.fault.Why.{Why};
 ghost use Rattle.vp_bars.specs.CodeSets.{start_of, selector_of, other_of, value_in, onto, plain, tokens, size_of, check_of, symbol_from};
 
-use crate::bars::{Bars, Symbology, extend};
+use crate::bars::{Bars, extend};
+use crate::symbology::Symbology;
 use arrayvec::ArrayVec;
 use vp_dots::{Fault, Why};
 

@@ -4,7 +4,8 @@ ghost use Rattle.std.specs.Prelude.{◌≡◌, ℕ, ◌<◌, ◌≤◌, ◌∷�
 ghost use Rattle.std.specs.Option.{option_map};
 ghost use Rattle.vp_bars.specs.Code39.{value_of, values_of, check_of, unstarred, code39_of};
 
-use crate::bars::{Bars, Symbology, check_length, extend};
+use crate::bars::{Bars, check_length, extend};
+use crate::symbology::Symbology;
 use arrayvec::ArrayVec;
 use vp_dots::{Fault, Why};
 

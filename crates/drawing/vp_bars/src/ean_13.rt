@@ -5,7 +5,8 @@ ghost use Rattle.std.specs.Char.{is_ascii_digit};
 ghost use Rattle.std.specs.List.{list_all};
 ghost use Rattle.vp_bars.specs.Ean13.{check_of, is_count as has_count, padded, digits_of, ean13_of};
 
-use crate::bars::{Bars, Symbology, check_length};
+use crate::bars::{Bars, check_length};
+use crate::symbology::Symbology;
 use arrayvec::ArrayVec;
 use vp_dots::{Fault, Why};
 
@@ -47,7 +48,7 @@ fn are_digits(src: &[u8]) -> bool
     src.iter().all(|c| c.is_ascii_digit())
 }
 
-/// Whether a symbol is made of so many digits.
+/// Whether a symbol is made of `count` digits: of any number with `pad`, else of 12 or 13.
 fn is_count(count: usize, pad: bool) -> bool
     ensures { result ≡ has_count count pad }
 {

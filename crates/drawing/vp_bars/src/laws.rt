@@ -1,14 +1,17 @@
 //! What holds of the tables of patterns as a whole: no symbol is mistaken for another for want of a
-//! difference. And what the texts of symbols are.
+//! difference. What the texts of symbols are, and how many bytes have one.
 
-ghost use Rattle.std.specs.Prelude.{◌≡◌, ℕ, ◌+◌, ◌-◌, Bool, true, false, ◌==◌, length, replicate, List, [], ◌∷◌, ◌++◌, Ok, Some, IsTrue, take, drop, slice_index};
+ghost use Rattle.std.specs.Prelude.{◌≡◌, ℕ, ◌+◌, ◌-◌, ◌<◌, Bool, true, false, ◌==◌, length, replicate, List, [], ◌∷◌, ◌++◌, Ok, Err, Some, IsTrue, take, drop, slice_index};
 ghost use Rattle.vp_bars.specs.Symbols.{Linear};
 ghost use Rattle.vp_bars.specs.Code39.{alphabet, values_of, check_of, unstarred, code39_of};
 ghost use Rattle.vp_bars.specs.Ean13.{check_of as check_digit_of, digits_of, ean13_of};
 ghost use Rattle.vp_bars.specs.Escapes.{brace, code128_esc_of};
 ghost use Rattle.vp_bars.specs.Invocations.{greater};
 ghost use Rattle.vp_bars.specs.Packing.{code128_zpl_of};
-ghost use Rattle.vp_bars.specs.Texts.{text_of};
+ghost use Rattle.vp_dots.specs.declared.fault.Fault.TheVariants as faults;
+ghost use Rattle.vp_dots.specs.declared.fault.Why.TheVariants.{Empty};
+ghost use Rattle.vp_bar_code.specs.declared.BarCode.{BarCode};
+ghost use Rattle.vp_bars.specs.Symbologies.{symbol_of, text_of};
 ghost use Rattle.std.specs.List.{list_all, list_any};
 ghost use Rattle.vp_bars.specs.Patterns.{code39_table, code128_table};
 ghost use Rattle.vp_bars.specs.Laws.{distinct, three_of_nine, eleven_modules, thirteen_modules, digit_patterns, seven_modules};
@@ -64,4 +67,12 @@ pub fn set_b_text_law()
         → text_of bars ≡ src }
     ensures receipt { (src : List ℕ) (bars : Linear) → list_any (λ b. b == brace) src ≡ false
         → code128_esc_of (brace ∷ 66 ∷ src) ≡ Ok bars → text_of bars ≡ src }
+{}
+
+/// A law: of no data there is no symbol, nor of more than 255 bytes, whatever they are.
+pub fn data_are_counted()
+    ensures none { (code : BarCode) (bytes : List ℕ) → length bytes ≡ 0
+        → symbol_of code bytes ≡ Err (faults.Symbol Empty) }
+    ensures many { (code : BarCode) (bytes : List ℕ) → 255 < length bytes
+        → symbol_of code bytes ≡ Err faults.SymbolTooLong }
 {}

@@ -2,15 +2,15 @@
 //! (ISO/IEC 15417).
 //!
 //! `code39`, `ean13`, `code128_esc` and `code128_zpl` make the symbol of some bytes, or say why there is
-//! none. `Bars` is such a symbol: the values of its characters, and its text. `Bars::boxed` puts bars and
-//! text into a `BarBox`, which is an `Ink`.
+//! none; `linear` makes that of any bar code that a command asks for. `Bars` is such a symbol: the values of
+//! its characters, and its text. `Bars::boxed` puts bars and text into a `BarBox`, which is an `Ink`.
 //!
-//! - `bars`: a symbol.
+//! - `bars`: a symbol. `symbology`: the kinds of them, and all in which they differ behind their data.
 //! - `code_39`, `ean_13`: the symbols of characters and of digits.
 //! - `code_128`: code sets, tokens of data, and the symbol of values. `escapes` reads the data of a
 //!   receipt, `invocations` and `packing` those of a label.
 //! - `text`: what the values of a symbol show.
-//! - `patterns`: the tables of bars and spaces. `laws` says what holds of them as a whole, and of texts.
+//! - `patterns`: the tables of bars and spaces. `laws` says what holds of them as a whole, and of data.
 //! - `pen`, `strokes`: the bars of a row, drawn from the left in one pass, a character at a time.
 //! - `bar_box`: bars and text together.
 #![tactic(auto)]
@@ -27,15 +27,18 @@ mod packing;
 mod patterns;
 mod pen;
 mod strokes;
+mod symbology;
 mod text;
 
-pub use bar_box::{BarBox, Place, rows_repeat};
-pub use bars::{Bars, Symbology};
+pub use bar_box::{BarBox, rows_repeat};
+pub use bars::Bars;
 pub use code_39::code39;
 pub use ean_13::ean13;
 pub use escapes::code128_esc;
 pub use laws::{
-    code39_patterns_law, code39_text_law, code128_patterns_law, ean13_patterns_law, ean13_text_law,
-    packed_text_law, set_b_text_law,
+    code39_patterns_law, code39_text_law, code128_patterns_law, data_are_counted,
+    ean13_patterns_law, ean13_text_law, packed_text_law, set_b_text_law,
 };
 pub use packing::code128_zpl;
+pub use symbology::{Symbology, linear};
+pub use vp_bar_code::{BarCode, Code128Data, HriPosition};

@@ -1,11 +1,8 @@
 //! The tables of the patterns of bars and spaces.
 
 ghost use Rattle.std.specs.Prelude.{◌≡◌, [], slice_index_or};
-ghost use Rattle.vp_bars.specs.Widths.{pattern_of as pattern_for, gap_of as gap_for};
-ghost use Rattle.vp_bars.specs.Patterns.{code128_pattern as pattern_for_128, parity as sets_for};
+ghost use Rattle.vp_bars.specs.Patterns.{code39_pattern as pattern_for_39, code128_pattern as pattern_for_128, parity as sets_for};
 ghost use Rattle.vp_bars.specs.Elements.{set_a_elements, left_elements_of as left_digit_elements};
-
-use crate::bars::Symbology;
 
 /// The elements of the characters of Code 39: 1 is wide.
 static CODE39: [[u8; 9]; 44] = [
@@ -220,8 +217,15 @@ fn row<const N: usize>(table: &'static [[u8; N]], v: u8) -> &'static [u8]
     }
 }
 
+/// The elements of a character of Code 39.
+pub(crate) fn code39_pattern(v: u8) -> &'static [u8]
+    ensures { result.now ≡ pattern_for_39 v }
+{
+    row(&CODE39, v)
+}
+
 /// The elements of a character of Code 128.
-fn code128_pattern(v: u8) -> &'static [u8]
+pub(crate) fn code128_pattern(v: u8) -> &'static [u8]
     ensures { result.now ≡ pattern_for_128 v }
 {
     if v == 106 {
@@ -230,29 +234,8 @@ fn code128_pattern(v: u8) -> &'static [u8]
     row(&CODE128, v)
 }
 
-/// The elements of a character.
-pub(crate) fn pattern_of(symbology: Symbology, v: u8) -> &'static [u8]
-    ensures { result.now ≡ pattern_for symbology v }
-{
-    match symbology {
-        Symbology::Code39 => row(&CODE39, v),
-        Symbology::Ean13 => set_a(v),
-        Symbology::Code128 => code128_pattern(v),
-    }
-}
-
-/// The elements between two characters.
-pub(crate) fn gap_of(symbology: Symbology) -> &'static [u8]
-    ensures { result.now ≡ gap_for symbology }
-{
-    match symbology {
-        Symbology::Code39 => &[0],
-        _ => &[],
-    }
-}
-
 /// The elements of a digit in number sets A and C.
-fn set_a(digit: u8) -> &'static [u8]
+pub(crate) fn set_a(digit: u8) -> &'static [u8]
     ensures { result.now ≡ set_a_elements digit }
 {
     row(&SET_A, digit)

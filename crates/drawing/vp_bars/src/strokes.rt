@@ -1,16 +1,17 @@
 //! The bars of a symbol, drawn on a row.
 
 ghost use Rattle.std.specs.Prelude.{◌≡◌, ℕ, ◌+◌, ◌<◌, ◌≤◌, ◌^◌, ◌++◌, Bool, true, false, List, length, take, flat_map};
-ghost use Rattle.vp_bars.specs.Widths.{pattern_of as pattern_for, size_of, sized, next_widths, widths_of, bar_widths, width_of, total, in_bar};
+ghost use Rattle.vp_bars.specs.Symbologies.{pattern_of as pattern_for, size_of as size_for};
+ghost use Rattle.vp_bars.specs.Widths.{sized, next_widths, widths_of, bar_widths, width_of, total, in_bar};
 ghost use Rattle.vp_bars.specs.Elements.{left_elements, ean13_elements};
-ghost use Rattle.vp_bars.specs.declared.bars.Symbology.TheVariants.{Ean13};
+ghost use Rattle.vp_bars.specs.declared.symbology.Symbology.TheVariants.{Ean13};
 ghost use Rattle.vp_bars.specs.Drawing.{Draws, turned};
 ghost use Rattle.vp_dots.specs.Dots.{dots, shifted};
 ghost use Rattle.vp_dots.specs.Words.{word_dot};
 
-use crate::bars::Symbology;
-use crate::patterns::{gap_of, left_digit, parity, pattern_of};
+use crate::patterns::{left_digit, parity};
 use crate::pen::Pen;
+use crate::symbology::{Symbology, gap_of, pattern_of, size_of};
 use vp_dots::{Op, paint_word};
 
 /// The guards of EAN-13, in modules.
@@ -38,13 +39,9 @@ fn is_past(place: i64, row: &[u8]) -> bool
 impl Strokes<'_> {
     /// How wide an element is.
     fn size(&self, element: u8) -> u32
-        ensures { result ≡ size_of self.now.symbology self.now.narrow self.now.wide element }
+        ensures { result ≡ size_for self.now.symbology self.now.narrow self.now.wide element }
     {
-        match self.symbology {
-            Symbology::Code39 if element == 1 => u32::from(self.wide),
-            Symbology::Code39 => u32::from(self.narrow),
-            Symbology::Ean13 | Symbology::Code128 => u32::from(element) * u32::from(self.narrow),
-        }
+        size_of(self.symbology, self.narrow, self.wide, element)
     }
 
     /// How wide elements are together.
@@ -261,7 +258,7 @@ impl Strokes<'_> {
     {
         match self.symbology {
             Symbology::Ean13 => self.draw_digits(pen, op, at, row),
-            Symbology::Code39 | Symbology::Code128 => self.draw_characters(pen, op, at, row),
+            _ => self.draw_characters(pen, op, at, row),
         }
     }
 }
@@ -284,6 +281,6 @@ pub(crate) fn bars_width(symbology: Symbology, values: &[u8], narrow: u16, wide:
             let pen = Pen { x: 0, bar: true };
             strokes.draw_bars(pen, Op::Black, 0, &mut []).x
         }
-        Symbology::Code39 | Symbology::Code128 => strokes.characters_width(),
+        _ => strokes.characters_width(),
     }
 }

@@ -1,5 +1,4 @@
 pub mod Stored
-pub mod Counted
 pub mod Reading
 pub mod Graphics
 pub mod Masks

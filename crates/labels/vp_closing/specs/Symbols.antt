@@ -9,7 +9,8 @@ use Rattle.vp_format.specs.declared.field.BarSymbol.{BarSymbol}
 use Rattle.vp_format.specs.declared.field.QrSymbol.{QrSymbol}
 use Rattle.vp_format.specs.declared.field.Content.{Content}
 use Rattle.vp_format.specs.declared.field.Content.TheVariants as contents
-use Rattle.vp_field.specs.Contents.{bytes_of, symbol_of}
+use Rattle.vp_field.specs.Contents.{bytes_of}
+use Rattle.vp_bars.specs.Symbologies.{symbol_of}
 use Rattle.vp_label_settings.specs.declared.settings.BarDefaults.{BarDefaults}
 use Rattle.vp_label_settings.specs.declared.choice.BarChoice.{BarChoice}
 use Rattle.vp_label_settings.specs.Ranges.{ranged}

@@ -17,6 +17,8 @@ ghost use Rattle.vp_closing.specs.Graphics.{headed};
 ghost use Rattle.vp_field.specs.Contents.{bytes_of, picture_of};
 ghost use Rattle.vp_closing.specs.Contents.{data_content, picture_content};
 
+use vp_bars::data_are_counted;
+
 /// A picture is refused where a symbol that starts in one of its rows is, and kept where none is, whatever
 /// stands behind its last row.
 pub fn pictures_are_read()
@@ -50,7 +52,9 @@ pub fn bars_are_counted()
     ensures many { (stored : List ℕ) (s : Settings) (p : FieldParts) (b : BarChoice) (bytes : Span)
         → 255 < length (bytes_of stored bytes)
         → data_content stored s p (Some (Bars b)) bytes ≡ Err SymbolTooLong }
-{}
+{
+    data_are_counted();
+}
 
 /// Of QR symbols that are drawn, no data at all are refused first.
 pub fn no_front()

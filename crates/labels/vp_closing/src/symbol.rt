@@ -5,8 +5,9 @@ ghost use Rattle.vp_closing.specs.Symbols.{wide_bar, bars, bars_of, qr_unless, q
 ghost use Rattle.vp_field.specs.Contents.{bytes_of, LiesIn, IsStored};
 ghost use Rattle.vp_qr.specs.Encoding.{refusal};
 
+use vp_bars::linear;
 use vp_dots::Fault;
-use vp_field::{bytes_of, linear};
+use vp_field::bytes_of;
 use vp_format::{BarSymbol, Content, QrSymbol, STORED, Span};
 use vp_label_settings::{BarChoice, BarDefaults, ranged};
 use vp_qr::encode;

@@ -10,7 +10,8 @@ use Rattle.vp_zpl.specs.declared.item.Orientation.TheVariants.{Normal}
 use Rattle.vp_format.specs.declared.field.Content.{Content}
 use Rattle.vp_format.specs.declared.field.Content.TheVariants.{Text, Block, Box, Picture, Bars, Qr}
 use Rattle.vp_format.specs.declared.field.Span.{Span}
-use Rattle.vp_field.specs.Contents.{bytes_of, symbol_of, bars_width, bars_height, bars_dot, qr_side, qr_dot, picture_dot, content_width, content_height, content_dot, orientation_of, LiesIn, IsStored}
+use Rattle.vp_field.specs.Contents.{bytes_of, bars_width, bars_height, bars_dot, qr_side, qr_dot, picture_dot, content_width, content_height, content_dot, orientation_of, LiesIn, IsStored}
+use Rattle.vp_bars.specs.Symbologies.{symbol_of}
 use Rattle.vp_field.specs.Standing.{standing}
 use Rattle.vp_field.specs.Strokes.{Stroke}
 use Rattle.vp_field.specs.Laws.{StoredBehind}

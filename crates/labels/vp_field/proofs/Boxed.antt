@@ -7,7 +7,7 @@ use Rattle.vp_dots.specs.declared.fault.Fault.{Fault}
 use Rattle.vp_glyph.specs.declared.Sheets.{Sheets}
 use Rattle.vp_glyph.specs.Texts.{text_inside}
 use Rattle.vp_glyph.specs.Blocks.{pitch, block_inside}
-use Rattle.vp_bars.specs.declared.bar_box.Place.{Place}
+use Rattle.vp_bar_code.specs.declared.HriPosition.{HriPosition}
 use Rattle.vp_bars.specs.Symbols.{Linear}
 use Rattle.vp_bars.specs.Boxes.{box_inside}
 use Rattle.vp_zpl.specs.declared.item.Orientation.{Orientation}
@@ -19,7 +19,8 @@ use Rattle.vp_format.specs.declared.field.Field.{Field}
 use Rattle.vp_field.specs.declared.view.View.{View}
 use Rattle.vp_field.specs.Turning.{falls_y, turned_height}
 use Rattle.vp_field.specs.Frames.{frame_inside}
-use Rattle.vp_field.specs.Contents.{bytes_of, symbol_of, boxed_as, bars_width, bars_height, bars_dot, picture_of, picture_dot, content_width, content_height, content_dot, orientation_of}
+use Rattle.vp_field.specs.Contents.{bytes_of, boxed_as, bars_width, bars_height, bars_dot, picture_of, picture_dot, content_width, content_height, content_dot, orientation_of}
+use Rattle.vp_bars.specs.Symbologies.{symbol_of}
 use Rattle.vp_field.specs.Fields.{field_ink}
 use Rattle.vp_field.specs.Views.{seen_x, seen_y}
 use Rattle.vp_field.specs.Strokes.{Stroke, label_dot}
@@ -28,7 +29,7 @@ use Rattle.vp_field.specs.Laws.{InTheBox}
 use Rattle.vp_field.proofs.Turns.{dots_fall}
 use Rattle.vp_field.proofs.Folds.{label_dot-push, moved_dot}
 
-bars_inside : (sheets : Sheets) (narrow wide height : ℕ) (place : Place) (r : Result Linear Fault) (x y : ℕ) → bars_dot sheets narrow wide height place r x y ≡ true
+bars_inside : (sheets : Sheets) (narrow wide height : ℕ) (place : HriPosition) (r : Result Linear Fault) (x y : ℕ) → bars_dot sheets narrow wide height place r x y ≡ true
     → (x < bars_width sheets narrow wide height place r) × (y < bars_height sheets narrow wide height place r)
 bars_inside sheets narrow wide height place (Ok bars) x y e = box_inside (boxed_as sheets narrow wide height place bars) x y e
 bars_inside sheets narrow wide height place (Err why) x y e = absurd (true≢false (sym e))

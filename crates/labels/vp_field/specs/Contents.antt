@@ -1,17 +1,15 @@
 -- What fields show: the box of a content, as it is read, and its ink.
-use Rattle.std.specs.Prelude.{◌≡◌, ℕ, ◌+◌, ◌-◌, ◌*◌, ◌/◌, ◌%◌, ◌<◌, ◌≤◌, ◌≤ℤ◌, pos, neg_ℤ, Bool, true, false, ◌&&◌, List, length, take, drop, nat_lt, is_none, None, Result, Ok, Err, if◌then◌else◌}
+use Rattle.std.specs.Prelude.{◌≡◌, ℕ, ◌+◌, ◌-◌, ◌*◌, ◌/◌, ◌%◌, ◌<◌, ◌≤◌, ◌≤ℤ◌, pos, neg_ℤ, Bool, false, ◌&&◌, List, length, take, drop, nat_lt, is_none, None, Result, Ok, Err, if◌then◌else◌}
 use Rattle.vp_dots.specs.Dots.{bit}
 use Rattle.vp_dots.specs.declared.fault.Fault.{Fault}
 use Rattle.vp_glyph.specs.declared.Sheets.{Sheets}
 use Rattle.vp_glyph.specs.declared.cell.Font.TheVariants.{A}
 use Rattle.vp_glyph.specs.Texts.{text_dot}
 use Rattle.vp_glyph.specs.Blocks.{block_width, block_height, block_dot, pitch}
-use Rattle.vp_bars.specs.declared.bar_box.Place.{Place}
+use Rattle.vp_bar_code.specs.declared.HriPosition.{HriPosition}
 use Rattle.vp_bars.specs.Symbols.{Linear}
+use Rattle.vp_bars.specs.Symbologies.{symbol_of}
 use Rattle.vp_bars.specs.Boxes.{Boxed, box_width, box_height, box_dot}
-use Rattle.vp_bars.specs.Code39.{code39_of}
-use Rattle.vp_bars.specs.Ean13.{ean13_of}
-use Rattle.vp_bars.specs.Packing.{code128_zpl_of}
 use Rattle.vp_qr.specs.declared.level.Level.{Level}
 use Rattle.vp_qr.specs.declared.segment.Mode.{Mode}
 use Rattle.vp_qr.specs.Encoding.{refusal, version_of, mask_of, symbol_module}
@@ -20,8 +18,6 @@ use Rattle.vp_zpl.specs.declared.item.Orientation.{Orientation}
 use Rattle.vp_zpl.specs.declared.item.Orientation.TheVariants.{Normal}
 use Rattle.vp_format.specs.Pictures as pictures
 use Rattle.vp_format.specs.Pictures.{value, is_refused}
-use Rattle.vp_format.specs.declared.field.BarCode.{BarCode}
-use Rattle.vp_format.specs.declared.field.BarCode.TheVariants.{Code39, Ean13, Code128}
 use Rattle.vp_format.specs.declared.field.Content.{Content}
 use Rattle.vp_format.specs.declared.field.Content.TheVariants as contents
 use Rattle.vp_format.specs.declared.format.TheConstants.{STORED}
@@ -39,14 +35,8 @@ use Rattle.vp_field.specs.declared.axis.Lines.TheVariants.{Along, Across}
 abbrev pub bytes_of : List ℕ → Span → List ℕ
 bytes_of stored s = take s.len (drop s.start stored)
 
--- the linear symbol of data (^B3, ^BE, ^BC)
-abbrev pub symbol_of : BarCode → List ℕ → Result Linear Fault
-symbol_of (Code39 check) bytes = code39_of bytes check
-symbol_of Ean13 bytes = ean13_of bytes true
-symbol_of (Code128 auto) bytes = code128_zpl_of bytes auto
-
--- its bars and its text, which is drawn in font A
-abbrev pub boxed_as : Sheets → ℕ → ℕ → ℕ → Place → Linear → Boxed
+-- the bars of a symbol and their text, which is drawn in font A
+abbrev pub boxed_as : Sheets → ℕ → ℕ → ℕ → HriPosition → Linear → Boxed
 boxed_as sheets narrow wide height place bars =
     record {
       bars = bars;
@@ -59,22 +49,22 @@ boxed_as sheets narrow wide height place bars =
     }
 
 -- data without a symbol have no box
-abbrev pub bars_width : Sheets → ℕ → ℕ → ℕ → Place → Result Linear Fault → ℕ
+abbrev pub bars_width : Sheets → ℕ → ℕ → ℕ → HriPosition → Result Linear Fault → ℕ
 bars_width sheets narrow wide height place (Err why) = 0
 bars_width sheets narrow wide height place (Ok bars) =
     box_width (boxed_as sheets narrow wide height place bars)
 
-abbrev pub bars_height : Sheets → ℕ → ℕ → ℕ → Place → Result Linear Fault → ℕ
+abbrev pub bars_height : Sheets → ℕ → ℕ → ℕ → HriPosition → Result Linear Fault → ℕ
 bars_height sheets narrow wide height place (Err why) = 0
 bars_height sheets narrow wide height place (Ok bars) =
     box_height (boxed_as sheets narrow wide height place bars)
 
-abbrev pub bars_dot : Sheets → ℕ → ℕ → ℕ → Place → Result Linear Fault → ℕ → ℕ → Bool
+abbrev pub bars_dot : Sheets → ℕ → ℕ → ℕ → HriPosition → Result Linear Fault → ℕ → ℕ → Bool
 bars_dot sheets narrow wide height place (Err why) x y = false
 bars_dot sheets narrow wide height place (Ok bars) x y =
     box_dot (boxed_as sheets narrow wide height place bars) x y
 
--- a QR symbol, each module a square of so many dots a row
+-- a QR symbol, each module a square of `scale` dots a row
 abbrev pub qr_side : Level → Mode → List ℕ → ℕ → ℕ
 qr_side level mode bytes scale =
     if is_none (refusal level mode bytes) then scale * size (version_of level mode bytes) else 0
@@ -192,8 +182,8 @@ most_block_lines Along = 32
 most_block_lines Across = 2504
 
 -- what painting a content that is turned so takes on a band at most. Of a picture each byte of its codes is
--- read once, no more rows than these bytes and two are passed, and 32 rows fall on the band; of other contents
--- the lines of ink count
+-- read once, no more rows than these bytes and two are passed, and 32 rows fall on the band; of other
+-- contents the lines of ink count
 abbrev pub most_work : Orientation → Content → ℕ
 most_work o (contents.Text t) = most_lines (lines_of o)
 most_work o (contents.Block b) = most_block_lines (lines_of o)

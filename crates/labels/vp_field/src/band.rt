@@ -9,7 +9,7 @@ ghost use Rattle.vp_field.specs.declared.view.View.{View};
 
 use crate::view::View;
 use vp_dots::{Op, fill_dots};
-use vp_label_size::LabelBand;
+use vp_label_size::{LabelBand, WIDEST};
 
 /// Makes a band white: it shows a label without strokes.
 pub fn clear(band: &mut LabelBand)
@@ -34,7 +34,7 @@ fn cut_row(view: View, y: u64, row: &mut [u8])
     requires { length row.old ≡ 156 }
     ensures { (x : ℕ) → dot row.new x ≡ (nat_lt x view.width && nat_lt y view.height && dot row.old x) }
 {
-    fill_dots(Op::White, edge(view, y), 1248, row);
+    fill_dots(Op::White, edge(view, y), u64::from(WIDEST), row);
 }
 
 /// Makes the dots off the label white.

@@ -3,13 +3,13 @@ ghost use Rattle.std.specs.Prelude.{◌≡◌, ◌*◌, ◌≤◌};
 ghost use Rattle.vp_qr.specs.Places.{size};
 ghost use Rattle.vp_format.specs.declared.field.Content.TheVariants as contents;
 ghost use Rattle.vp_glyph.specs.Blocks.{pitch};
-ghost use Rattle.vp_field.specs.Contents.{bytes_of, symbol_of, content_width, content_height, orientation_of, LiesIn, IsText, IsBlock, IsStored};
+ghost use Rattle.vp_field.specs.Contents.{bytes_of, content_width, content_height, orientation_of, LiesIn, IsText, IsBlock, IsStored};
 
 use crate::frame::Frame;
 use crate::text::Cells;
-use vp_bars::{Bars, code39, code128_zpl, ean13};
-use vp_dots::{Fault, Ink};
-use vp_format::{BarCode, BarSymbol, Content, QrSymbol, Span, Text, TextBlock};
+use vp_bars::linear;
+use vp_dots::Ink;
+use vp_format::{BarSymbol, Content, QrSymbol, Span, Text, TextBlock};
 use vp_glyph::{Block, Font, Sheets, Stretch};
 use vp_zpl::item::Orientation;
 
@@ -20,17 +20,6 @@ pub fn bytes_of(stored: &[u8], span: Span) -> &[u8]
 {
     let start = span.start as usize;
     &stored[start..start + span.len as usize]
-}
-
-/// The linear symbol of data, or why there is none.
-pub fn linear(code: BarCode, bytes: &[u8]) -> Result<Bars, Fault>
-    ensures { result ≡ symbol_of code bytes.now }
-{
-    match code {
-        BarCode::Code39 { check } => code39(bytes, check),
-        BarCode::Ean13 => ean13(bytes, true),
-        BarCode::Code128 { auto } => code128_zpl(bytes, auto),
-    }
 }
 
 /// A text as ink.

@@ -14,7 +14,7 @@ ghost use Rattle.vp_field.specs.Drawn.{drawn};
 
 use crate::axis::Lines;
 use crate::block_columns::BlockColumns;
-use crate::content::{block_of, bytes_of, cells, linear};
+use crate::content::{block_of, bytes_of, cells};
 use crate::frame::Frame;
 use crate::line::drawn_at;
 use crate::lines::BlockRows;
@@ -22,6 +22,7 @@ use crate::marks::Marks;
 use crate::picture::paint_picture;
 use crate::standing::{Standing, paint_standing};
 use crate::view::View;
+use vp_bars::linear;
 use vp_dots::Ink;
 use vp_format::{BarSymbol, Content, Field, QrSymbol, Text, TextBlock};
 use vp_glyph::{Font, Sheets};

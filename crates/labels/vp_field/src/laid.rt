@@ -4,9 +4,11 @@ ghost use Rattle.vp_field.specs.Turning.{turned};
 ghost use Rattle.vp_field.specs.Views.{seen_x, seen_y};
 ghost use Rattle.vp_field.specs.Axes.{laid, lines_of, IsWithin, dot_on};
 ghost use Rattle.vp_field.specs.declared.axis.Lines.TheVariants.{Along, Across};
+ghost use Rattle.vp_label_size.specs.declared.TheConstants.{WIDEST};
 
 use crate::axis::{Axis, Lines, clamped};
 use crate::view::View;
+use vp_label_size::WIDEST;
 use vp_zpl::item::Orientation;
 
 /// How a box of dots lies on a label: which way its lines run, and where their dots fall.
@@ -17,7 +19,7 @@ pub struct Laid {
     pub rows: Axis,
 }
 
-/// The last of so many places from one on.
+/// The last of `size` places from place `from` on.
 fn last(from: i64, size: u32) -> i64
     requires low { neg_ℤ (pos (2 ^ 32)) ≤ℤ from }
     requires high { from ≤ℤ pos (2 ^ 32) }
@@ -78,18 +80,18 @@ impl Laid {
         }
     }
 
-    /// The first of so many lines that may fall on a band whose first row is this one: none before it does.
+    /// The first of `lines` lines that may fall on the band from row `first` on: none before it does.
     pub fn first_line(self, lines: u32, first: u32) -> u32
         requires columns { IsWithin (2 ^ 41) self.columns }
         requires rows { IsWithin (2 ^ 41) self.rows }
         ensures along { self.lines ≡ Along → (k v : ℕ) → k < 32 → v < lines
             → dot_on self.rows (pos (first + k)) ≡ pos v → result ≤ v }
-        ensures across { self.lines ≡ Across → (x v : ℕ) → x < 1248 → v < lines
+        ensures across { self.lines ≡ Across → (x v : ℕ) → x < WIDEST → v < lines
             → dot_on self.columns (pos x) ≡ pos v → result ≤ v }
     {
         match self.lines {
             Lines::Along => clamped(self.rows.first_line(first, 32), lines),
-            Lines::Across => clamped(self.columns.first_line(0, 1248), lines),
+            Lines::Across => clamped(self.columns.first_line(0, u32::from(WIDEST)), lines),
         }
     }
 }

@@ -40,7 +40,7 @@ mod turning;
 mod view;
 
 pub use band::{clear, cut};
-pub use content::{bytes_of, content_size, linear, orientation_of};
+pub use content::{bytes_of, content_size, orientation_of};
 pub use field::paint_field;
 pub use laws::{dots_move, in_the_box, stored_behind, stroke_after_stroke, turned_and_mirrored};
 pub use marks::Marks;

@@ -1,7 +1,7 @@
 //! A closed field: where it stands, how it is turned, how it paints and what it shows.
 
 use crate::rows::Coding;
-use vp_bars::Place;
+use vp_bars::{BarCode, HriPosition};
 use vp_dots::Op;
 use vp_glyph::Alignment;
 use vp_qr::{Level, Mode};
@@ -12,17 +12,6 @@ use vp_zpl::item::Orientation;
 pub struct Span {
     pub start: u32,
     pub len: u32,
-}
-
-/// A linear symbol of a label.
-#[derive(Clone, Copy, Debug, PartialEq, Eq)]
-pub enum BarCode {
-    /// ^B3, with its check character or without.
-    Code39 { check: bool },
-    /// ^BE.
-    Ean13,
-    /// ^BC, in code sets that are chosen for the data (m A) or by the data.
-    Code128 { auto: bool },
 }
 
 /// A text in one line, of cells of 1 to 1,500 by 1 to 1,500 dots.
@@ -69,7 +58,7 @@ pub struct BarSymbol {
     pub narrow: u16,
     pub wide: u16,
     pub height: u16,
-    pub place: Place,
+    pub place: HriPosition,
 }
 
 /// A QR symbol (^BQ): its data, a module's side in dots, 1 to 16, and the

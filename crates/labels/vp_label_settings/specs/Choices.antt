@@ -7,12 +7,13 @@ use Rattle.vp_zpl.specs.declared.item.LineSpace.{LineSpace}
 use Rattle.vp_zpl.specs.declared.item.LineSpace.TheVariants.{Added, Deleted}
 use Rattle.vp_zpl.specs.declared.item.Code128Mode.{Code128Mode}
 use Rattle.vp_zpl.specs.declared.item.Code128Mode.TheVariants.{UccCase, Automatic, UccEan}
-use Rattle.vp_bars.specs.declared.bar_box.Place.{Place}
-use Rattle.vp_bars.specs.declared.bar_box.Place.TheVariants as places
+use Rattle.vp_bar_code.specs.declared.HriPosition.{HriPosition}
+use Rattle.vp_bar_code.specs.declared.HriPosition.TheVariants as places
 use Rattle.vp_glyph.specs.declared.block.Alignment.{Alignment}
 use Rattle.vp_glyph.specs.declared.block.Alignment.TheVariants as aligned
-use Rattle.vp_format.specs.declared.field.BarCode.{BarCode}
-use Rattle.vp_format.specs.declared.field.BarCode.TheVariants.{Code128}
+use Rattle.vp_bar_code.specs.declared.BarCode.{BarCode}
+use Rattle.vp_bar_code.specs.declared.BarCode.TheVariants.{Code128}
+use Rattle.vp_bar_code.specs.declared.Code128Data.TheVariants.{Invocations, Packed}
 use Rattle.vp_label_settings.specs.declared.choice.SymbolChoice.{SymbolChoice}
 use Rattle.vp_label_settings.specs.declared.choice.SymbolChoice.TheVariants.{Bars, NotDrawn, Qr}
 use Rattle.vp_label_settings.specs.declared.choice.FieldBlock.{FieldBlock}
@@ -20,12 +21,12 @@ use Rattle.vp_label_settings.specs.Ranges.{ranged}
 
 -- ^B3, ^BE, ^BC: the text stands below the bars, or above them where that is asked
 -- for too; by default it is there, and below
-abbrev pub text_if : Bool → Bool → Place
+abbrev pub text_if : Bool → Bool → HriPosition
 text_if false above = places.None
 text_if true false = places.Below
 text_if true true = places.Above
 
-abbrev pub bar_text : Option Bool → Option Bool → Place
+abbrev pub bar_text : Option Bool → Option Bool → HriPosition
 bar_text text above = text_if (unwrap_or text true) (unwrap_or above false)
 
 abbrev pub bar_choice : BarCode → Option Orientation → Option ℕ → Option Bool → Option Bool → SymbolChoice
@@ -36,9 +37,9 @@ bar_choice code orientation height text above =
 abbrev pub code128_choice : Option Code128Mode → Option Orientation → Option ℕ → Option Bool → Option Bool →
     SymbolChoice
 code128_choice None orientation height text above =
-    bar_choice (Code128 false) orientation height text above
+    bar_choice (Code128 Invocations) orientation height text above
 code128_choice (Some Automatic) orientation height text above =
-    bar_choice (Code128 true) orientation height text above
+    bar_choice (Code128 Packed) orientation height text above
 code128_choice (Some UccCase) orientation height text above = NotDrawn
 code128_choice (Some UccEan) orientation height text above = NotDrawn
 

@@ -5,7 +5,7 @@ use Rattle.vp_zpl.specs.declared.item.Colour.TheVariants.{Black}
 use Rattle.vp_zpl.specs.declared.item.Command.{Command}
 use Rattle.vp_zpl.specs.declared.item.Command.TheVariants.{FormatEnd, FieldSeparator, FieldOrigin, FieldTypeset, Font, Code39, Ean13, Code128, QrCode, ReversePrint, FieldBlock as SetBlock, FieldData, GraphicBox as DrawBox, Graphic}
 use Rattle.vp_zpl.specs.Items.{Item}
-use Rattle.vp_format.specs.declared.field.BarCode.TheVariants as codes
+use Rattle.vp_bar_code.specs.declared.BarCode.TheVariants as codes
 use Rattle.vp_label_settings.specs.declared.choice.FontChoice.{FontChoice}
 use Rattle.vp_label_settings.specs.declared.choice.SymbolChoice.{SymbolChoice}
 use Rattle.vp_label_settings.specs.declared.choice.FieldBlock.{FieldBlock}
@@ -49,7 +49,7 @@ abbrev pub symbol_by : Command → Option SymbolChoice → Option SymbolChoice
 symbol_by (Code39 orientation check height text above) old =
     Some (bar_choice (codes.Code39 (unwrap_or check false)) orientation height text above)
 symbol_by (Ean13 orientation height text above) old =
-    Some (bar_choice codes.Ean13 orientation height text above)
+    Some (bar_choice (codes.Ean13 true) orientation height text above)
 symbol_by (Code128 orientation height text above mode) old =
     Some (code128_choice mode orientation height text above)
 symbol_by (QrCode model dots) old = Some (qr_choice model dots)
@@ -112,7 +112,7 @@ parts_of before = record {
   content = content before;
 }
 
--- what a command of a format leaves of them, behind so many stored bytes
+-- what a command of a format leaves of the parts of a field, behind `start` stored bytes
 abbrev pub parts_by : ℕ → Command → FieldParts → FieldParts
 parts_by start command old = record {
   origin = origin_by command old.origin;

@@ -3,8 +3,7 @@ ghost use Rattle.std.specs.Prelude.{◌≡◌};
 ghost use Rattle.vp_label_settings.specs.Choices.{bar_text, bar_choice, code128_choice, qr_choice, line_space, alignment_of, block_of};
 
 use crate::range::ranged;
-use vp_bars::Place;
-use vp_format::BarCode;
+use vp_bars::{BarCode, Code128Data, HriPosition};
 use vp_glyph::Alignment;
 use vp_zpl::item::{Code128Mode, Justification, LineSpace, Orientation};
 
@@ -23,7 +22,7 @@ pub struct BarChoice {
     pub orientation: Option<Orientation>,
     pub height: Option<u32>,
     /// Where their text stands.
-    pub place: Place,
+    pub place: HriPosition,
 }
 
 /// The symbol that a field asks for.
@@ -50,15 +49,15 @@ pub struct FieldBlock {
 }
 
 /// Below, or above where that is asked for too.
-fn bar_text(text: Option<bool>, above: Option<bool>) -> Place
+fn bar_text(text: Option<bool>, above: Option<bool>) -> HriPosition
     ensures { result ≡ bar_text text above }
 {
     if !text.unwrap_or(true) {
-        Place::None
+        HriPosition::None
     } else if above.unwrap_or(false) {
-        Place::Above
+        HriPosition::Above
     } else {
-        Place::Below
+        HriPosition::Below
     }
 }
 
@@ -91,12 +90,12 @@ impl SymbolChoice {
     ) -> SymbolChoice
         ensures { result ≡ code128_choice mode orientation height text above }
     {
-        let auto = match mode {
-            None => false,
-            Some(Code128Mode::Automatic) => true,
+        let data = match mode {
+            None => Code128Data::Invocations,
+            Some(Code128Mode::Automatic) => Code128Data::Packed,
             Some(Code128Mode::UccCase | Code128Mode::UccEan) => return SymbolChoice::NotDrawn,
         };
-        SymbolChoice::bars(BarCode::Code128 { auto }, orientation, height, text, above)
+        SymbolChoice::bars(BarCode::Code128 { data }, orientation, height, text, above)
     }
 
     /// A QR symbol.

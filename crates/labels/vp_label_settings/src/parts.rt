@@ -7,8 +7,9 @@ ghost use Rattle.vp_label_settings.specs.Refusals.{head_refusal};
 use crate::choice::{FieldBlock, FontChoice, SymbolChoice};
 use crate::graphic::{PictureHead, box_of};
 use crate::range::ranged;
+use vp_bars::BarCode;
 use vp_dots::Fault;
-use vp_format::{BarCode, GraphicBox};
+use vp_format::GraphicBox;
 use vp_zpl::item::{Colour, Command};
 
 /// Where a field stands, in dots, 0 to 32,000 each way from the home.
@@ -23,11 +24,11 @@ pub enum Origin {
 /// The content of an open field, the last of ^FD, ^GB and ^GF.
 #[derive(Clone, Copy)]
 pub enum OpenContent {
-    /// ^FD: its data begin behind so many stored bytes.
+    /// ^FD: its data begin behind `start` stored bytes.
     Data { start: u32 },
     /// ^GB: the box, and its colour.
     Frame { frame: GraphicBox, colour: Colour },
-    /// ^GF: its codes begin behind so many stored bytes.
+    /// ^GF: its codes begin behind `start` stored bytes.
     Picture { head: PictureHead, start: u32 },
 }
 
@@ -143,7 +144,13 @@ fn symbol_after(symbol: Option<SymbolChoice>, command: Command) -> Option<Symbol
             height,
             text,
             above,
-        } => Some(SymbolChoice::bars(BarCode::Ean13, orientation, height, text, above)),
+        } => Some(SymbolChoice::bars(
+            BarCode::Ean13 { padded: true },
+            orientation,
+            height,
+            text,
+            above,
+        )),
         Command::Code128 {
             orientation,
             height,

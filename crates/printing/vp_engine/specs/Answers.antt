@@ -1,6 +1,10 @@
 -- What the answers of a step mean, where the printer then stands after t and o.
 use Rattle.std.specs.Prelude.{◌≡◌, ◌<◌, ◌≤◌, ℕ, List, length, Some, None}
 use Rattle.vp_dots.specs.declared.fault.Fault.{Fault}
+use Rattle.vp_page.specs.declared.page.TheConstants.{PAGE_ROWS}
+use Rattle.vp_receipt_settings.specs.declared.text.TheConstants.{LINE_ROWS}
+use Rattle.vp_label_size.specs.declared.TheConstants.{BAND_ROWS}
+use Rattle.vp_format.specs.declared.format.TheConstants.{STORED, FIELDS}
 use Rattle.vp_engine.specs.declared.held.Held.{Held}
 use Rattle.vp_engine.specs.declared.printer.State.TheVariants.{Stopped}
 use Rattle.vp_engine.specs.declared.printer.Step.{Step}
@@ -32,8 +36,8 @@ pub record IsStill (f : Fault) (step : Step) : Type 0 where
 
 -- no more is held than one line, one page, one band and one format
 pub record IsBounded (held : Held) : Type 0 where
-  pub line_rows : held.line_rows ≤ 192
-  pub page_rows : held.page_rows ≤ 1664
-  pub band_rows : held.band_rows ≤ 32
-  pub stored : held.stored ≤ 262144
-  pub fields : held.fields ≤ 1024
+  pub line_rows : held.line_rows ≤ LINE_ROWS
+  pub page_rows : held.page_rows ≤ PAGE_ROWS
+  pub band_rows : held.band_rows ≤ BAND_ROWS
+  pub stored : held.stored ≤ STORED
+  pub fields : held.fields ≤ FIELDS

@@ -142,7 +142,7 @@ symbol_data args =
     if is_kind_to_zero (slice_index args 0) then take (length args - 2) (drop 1 args) else drop 2 args
 
 abbrev pub symbol_with : ℕ → List ℕ → Bool → EscItem
-symbol_with m kept more = items.Symbol (spelled m (Values.bar_kind_of m)) (record { items = kept }) more
+symbol_with m kept more = items.Symbol (spelled m (Values.bar_code_of m)) (record { items = kept }) more
 
 -- the first 255 bytes, and whether there are more
 abbrev pub symbol_of : ℕ → List ℕ → EscItem

@@ -1,5 +1,5 @@
 -- What the bytes of arguments stand for, by the name of the command in Epson's reference.
-use Rattle.std.specs.Prelude.{ℕ, ◌+◌, ◌/◌, ◌%◌, ◌^◌, ◌==◌, Bool, ◌&&◌, nat_le, ◌||◌, Option, Some, None}
+use Rattle.std.specs.Prelude.{ℕ, ◌+◌, ◌/◌, ◌%◌, ◌^◌, ◌==◌, Bool, false, ◌&&◌, nat_le, ◌||◌, Option, Some, None}
 use Rattle.std.specs.Prelude.{if◌then◌else◌}
 use Rattle.vp_esc.specs.declared.item.Spelled.{Spelled}
 use Rattle.vp_esc.specs.declared.item.CharacterFont.{CharacterFont}
@@ -13,16 +13,17 @@ use Rattle.vp_esc.specs.declared.item.PrintDirection.TheVariants.{LeftToRight, B
 use Rattle.vp_esc.specs.declared.item.PrintDirection.TheVariants.{TopToBottom}
 use Rattle.vp_esc.specs.declared.item.PrintMode.{PrintMode}
 use Rattle.vp_esc.specs.declared.item.Magnification.{Magnification}
-use Rattle.vp_esc.specs.declared.item.HriPosition.{HriPosition}
-use Rattle.vp_esc.specs.declared.item.HriPosition.TheVariants as positions
+use Rattle.vp_bar_code.specs.declared.HriPosition.{HriPosition}
+use Rattle.vp_bar_code.specs.declared.HriPosition.TheVariants as positions
 use Rattle.vp_esc.specs.declared.item.Cut.{Cut}
 use Rattle.vp_esc.specs.declared.item.Cut.TheVariants.{Full, Partial}
 use Rattle.vp_esc.specs.declared.item.ColumnMode.{ColumnMode}
 use Rattle.vp_esc.specs.declared.item.ColumnMode.TheVariants.{Single8, Double8, Single24, Double24}
 use Rattle.vp_esc.specs.declared.item.RasterScale.{RasterScale}
 use Rattle.vp_esc.specs.declared.item.RasterScale.TheVariants.{Normal, DoubleWidth, DoubleHeight, Quadruple}
-use Rattle.vp_esc.specs.declared.item.BarKind.{BarKind}
-use Rattle.vp_esc.specs.declared.item.BarKind.TheVariants.{Ean13, Code39, Code128}
+use Rattle.vp_bar_code.specs.declared.BarCode.{BarCode}
+use Rattle.vp_bar_code.specs.declared.BarCode.TheVariants.{Ean13, Code39, Code128}
+use Rattle.vp_bar_code.specs.declared.Code128Data.TheVariants.{Escapes}
 use Rattle.vp_esc.specs.declared.item.QrModel.{QrModel}
 use Rattle.vp_esc.specs.declared.item.QrModel.TheVariants as models
 use Rattle.vp_esc.specs.declared.item.QrLevel.{QrLevel}
@@ -134,11 +135,11 @@ abbrev pub is_kind_counted : ℕ → Bool
 is_kind_counted m = nat_le 65 m && nat_le m 73
 
 -- GS k: the kinds that are drawn
-abbrev pub bar_kind_of : ℕ → Option BarKind
-bar_kind_of m =
-    if m == 2 || m == 67 then Some Ean13
-    else if m == 4 || m == 69 then Some Code39
-    else if m == 73 then Some Code128
+abbrev pub bar_code_of : ℕ → Option BarCode
+bar_code_of m =
+    if m == 2 || m == 67 then Some (Ean13 false)
+    else if m == 4 || m == 69 then Some (Code39 false)
+    else if m == 73 then Some (Code128 Escapes)
     else None
 
 -- GS ( k, function 65

@@ -1,5 +1,6 @@
 //! What a receipt stream says, command by command.
 use arrayvec::ArrayVec;
+use vp_bar_code::{BarCode, HriPosition};
 use vp_glyph::Alignment;
 
 /// A byte as it was sent, and what it stands for.
@@ -54,15 +55,6 @@ pub struct Magnification {
     pub height: u8,
 }
 
-/// Where the text of a bar code stands (HRI, human-readable interpretation).
-#[derive(Clone, Copy)]
-pub enum HriPosition {
-    None,
-    Above,
-    Below,
-    Both,
-}
-
 /// How a cut leaves the paper.
 #[derive(Clone, Copy)]
 pub enum Cut {
@@ -90,14 +82,6 @@ pub enum RasterScale {
     DoubleWidth,
     DoubleHeight,
     Quadruple,
-}
-
-/// The bar codes that are drawn.
-#[derive(Clone, Copy)]
-pub enum BarKind {
-    Ean13,
-    Code39,
-    Code128,
 }
 
 /// QR code models.
@@ -147,7 +131,7 @@ pub enum EscItem {
     Position(u16),
     /// ESC \: dots from the position.
     MovePosition(i16),
-    /// ESC *: the head of so many columns.
+    /// ESC *: the head of `count` columns.
     Columns {
         mode: ColumnMode,
         count: u16,
@@ -224,12 +208,12 @@ pub enum EscItem {
     AreaWidth(u16),
     /// GS V 0, 48, 1 or 49.
     Cut(Spelled<Cut>),
-    /// GS V 65 or 66: feeds so many dots, and cuts.
+    /// GS V 65 or 66: feeds `dots` dots, and cuts.
     FeedAndCut {
         cut: Spelled<Cut>,
         dots: u8,
     },
-    /// GS v 0: the head of a raster of so many bytes a row and so many rows.
+    /// GS v 0: the head of a raster of `bytes` bytes a row and `rows` rows.
     /// Its bytes follow where the scale is accepted and neither number is 0; else it is ignored.
     Raster {
         scale: Spelled<Option<RasterScale>>,
@@ -241,7 +225,7 @@ pub enum EscItem {
     /// GS k: the data as far as they are kept, and whether there were more.
     /// The byte of the kind says whether a 0 ended them (up to 6) or their number was sent.
     Symbol {
-        kind: Spelled<Option<BarKind>>,
+        kind: Spelled<Option<BarCode>>,
         data: ArrayVec<u8, 255>,
         more: bool,
     },
@@ -251,7 +235,7 @@ pub enum EscItem {
     QrModule(u8),
     /// GS ( k, function 69.
     QrLevel(QrLevel),
-    /// GS ( k, function 80: the head of so many bytes that are to be stored.
+    /// GS ( k, function 80: the number of bytes that follow, to be stored.
     QrStore(u16),
     /// A byte that is stored.
     QrByte(u8),

@@ -19,7 +19,7 @@ use crate::command::{Command, unused};
 use crate::event::Event;
 use crate::item::{ColumnMode, EscItem, Lead, RasterScale};
 use crate::qr::{ignored, qr_given};
-use crate::value::{bar_kind_of, column_mode_of, is_kind_to_zero, scale_of, spelled, word};
+use crate::value::{bar_code_of, column_mode_of, is_kind_to_zero, scale_of, spelled, word};
 use arrayvec::ArrayVec;
 use vp_dots::Fault;
 
@@ -43,7 +43,7 @@ enum Phase {
     Arguments(Command),
     /// Among the tab stops, the last of which is this.
     Stops(u8),
-    /// Among data, so many bytes of which are left.
+    /// Among data, `left` bytes of which are left.
     Bytes { kind: Data, left: u32 },
     /// Among columns of 24 dots.
     TallColumns(u32),
@@ -334,7 +334,7 @@ impl EscReader {
         } }
     {
         self.item = EscItem::Symbol {
-            kind: spelled(kind, bar_kind_of(kind)),
+            kind: spelled(kind, bar_code_of(kind)),
             data: self.kept.take(),
             more,
         };
@@ -531,7 +531,7 @@ impl EscReader {
     }
 }
 
-/// The phase before so many bytes of data.
+/// The phase before `left` bytes of data.
 fn bytes_phase(kind: Data, left: u32) -> Phase
     ensures { result ≡ bytes_or_ground kind left }
 {
@@ -542,7 +542,7 @@ fn bytes_phase(kind: Data, left: u32) -> Phase
     }
 }
 
-/// The phase before so many bytes of columns of 24 dots.
+/// The phase before `left` bytes of columns of 24 dots.
 fn tall_phase(left: u32) -> Phase
     ensures { result ≡ tall_or_ground left }
 {
@@ -553,7 +553,7 @@ fn tall_phase(left: u32) -> Phase
     }
 }
 
-/// The phase before so many columns.
+/// The phase before `count` columns.
 fn columns_phase(mode: ColumnMode, count: u16) -> Phase
     ensures { result ≡ columns_or_ground mode count }
 {
@@ -563,7 +563,7 @@ fn columns_phase(mode: ColumnMode, count: u16) -> Phase
     }
 }
 
-/// The phase before so many bytes of GS ( k.
+/// The phase before the last `left` of the `count` bytes of GS ( k.
 fn qr_phase(count: u16, left: u16) -> Phase
     ensures { result ≡ qr_or_ground count left }
 {

@@ -4,9 +4,10 @@ ghost use Rattle.vp_esc.specs.Values as spec;
 ghost use Rattle.vp_esc.specs.Values.{spelled as spelled_as};
 
 use crate::item::{
-    BarKind, CharacterFont, ColumnMode, Cut, HriPosition, Magnification, PrintDirection, PrintMode,
-    QrLevel, QrModel, RasterScale, Spelled, Underline,
+    CharacterFont, ColumnMode, Cut, Magnification, PrintDirection, PrintMode, QrLevel, QrModel,
+    RasterScale, Spelled, Underline,
 };
+use vp_bar_code::{BarCode, Code128Data, HriPosition};
 use vp_glyph::Alignment;
 
 /// A byte, and what it stands for.
@@ -177,13 +178,15 @@ pub fn is_kind_counted(m: u8) -> bool
     65 <= m && m <= 73
 }
 
-pub fn bar_kind_of(m: u8) -> Option<BarKind>
-    ensures { result ≡ spec.bar_kind_of m }
+pub fn bar_code_of(m: u8) -> Option<BarCode>
+    ensures { result ≡ spec.bar_code_of m }
 {
     match m {
-        2 | 67 => Some(BarKind::Ean13),
-        4 | 69 => Some(BarKind::Code39),
-        73 => Some(BarKind::Code128),
+        2 | 67 => Some(BarCode::Ean13 { padded: false }),
+        4 | 69 => Some(BarCode::Code39 { check: false }),
+        73 => Some(BarCode::Code128 {
+            data: Code128Data::Escapes,
+        }),
         _ => None,
     }
 }

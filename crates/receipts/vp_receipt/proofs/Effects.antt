@@ -14,8 +14,8 @@ use Rattle.vp_receipt_settings.specs.declared.effect.Effect.TheVariants.{Nothing
 use Rattle.vp_receipt_settings.specs.declared.effect.NextLines.TheVariants.{At, Within}
 use Rattle.vp_receipt_settings.specs.declared.settings.Settings.{Settings}
 use Rattle.vp_receipt_settings.specs.declared.text.Text.{Text}
-use Rattle.vp_receipt_settings.specs.declared.page_mode.Mode.{Mode}
-use Rattle.vp_receipt_settings.specs.declared.page_mode.Mode.TheVariants.{Standard, Page}
+use Rattle.vp_receipt_settings.specs.declared.page_mode.PrinterMode.{PrinterMode}
+use Rattle.vp_receipt_settings.specs.declared.page_mode.PrinterMode.TheVariants.{Standard, Page}
 use Rattle.vp_receipt_settings.specs.Setup.{Setup}
 use Rattle.vp_receipt_settings.specs.Texts.{text_of}
 use Rattle.vp_receipt_settings.specs.Pages.{is_paged, is_area, area_cut, is_vertical_move, vertical_moved}
@@ -160,7 +160,7 @@ gathers_after setup before item sheets bitmap (Some code) placed h g =
     subst (λ (t : Text). placed ≡ record { at = 0; image = image_of sheets t code } ∷ []) (sym (h code refl)) g
 
 -- the page
-pub on_paper : (m : Mode) (layers : List Layer) (page : List (List ℕ)) → m ≡ Standard → HasPageIf m layers page
+pub on_paper : (m : PrinterMode) (layers : List Layer) (page : List (List ℕ)) → m ≡ Standard → HasPageIf m layers page
 on_paper Standard layers page e = tt
 on_paper Page layers page e = cc
 
@@ -183,7 +183,7 @@ begun setup before page true e m h = on_paper (mode setup (PageMode ∷ before))
 begun setup before page false e m h =
     let k : HasPage [] page = rw (m, e) at h in
     let none : layers setup (PageMode ∷ before) ≡ [] = rw (m, e) refl in
-    subst (λ (x : Mode). HasPageIf x (layers setup (PageMode ∷ before)) page) (sym (mode_begun (is_open (line setup before)) _ _ e refl))
+    subst (λ (x : PrinterMode). HasPageIf x (layers setup (PageMode ∷ before)) page) (sym (mode_begun (is_open (line setup before)) _ _ e refl))
     (subst (λ (l : List Layer). HasPage l page) (sym none) k)
 
 pub paper_after : (setup : Setup) (before : List EscItem) (item : EscItem) (page : List (List ℕ)) → mode setup before ≡ Standard
@@ -201,7 +201,7 @@ mode_stays : (setup : Setup) (before : List EscItem) (effect : Effect) → mode 
 mode_stays setup before BeginsPage m = refl
 mode_stays setup before _ m = m
 
-pub page_after : (setup : Setup) (before : List EscItem) (item : EscItem) (page : List (List ℕ)) (m : Mode) → mode setup before ≡ m
+pub page_after : (setup : Setup) (before : List EscItem) (item : EscItem) (page : List (List ℕ)) (m : PrinterMode) → mode setup before ≡ m
     → Does setup before item (effect_of (settings_of setup before) item)
     → HasPageIf (mode_by setup before (effect_of (settings_of setup before) item)) (layers_by setup before (effect_of (settings_of setup before) item)) page
     → HasPageIf (mode setup (item ∷ before)) (layers setup (item ∷ before)) page
@@ -209,7 +209,7 @@ page_after setup before item page Standard e d h = paper_after setup before item
 page_after setup before item page Page e d h =
     let effect = effect_of (settings_of setup before) item in
     page_kept setup before item page e (subst (λ (l : List Layer). HasPage l page) (sym (d.layers e))
-    (subst (λ (m : Mode). HasPageIf m (layers_by setup before effect) page) (mode_stays setup before effect e) h))
+    (subst (λ (m : PrinterMode). HasPageIf m (layers_by setup before effect) page) (mode_stays setup before effect e) h))
 
 pub paper_mode : (setup : Setup) (before : List EscItem) (effect : Effect) → (effect ≡ BeginsPage → ⊥) → mode setup before ≡ Standard → mode_by setup before effect ≡ Standard
 paper_mode setup before BeginsPage n m = absurd (n refl)

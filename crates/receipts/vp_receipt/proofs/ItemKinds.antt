@@ -4,11 +4,11 @@ use Rattle.vp_esc.specs.declared.item.EscItem.{EscItem}
 use Rattle.vp_esc.specs.declared.item.EscItem.TheVariants.{CarriageReturn, Control, QrIgnored, WithoutEffect, QrPrint, Symbol as SetSymbol}
 use Rattle.arrayvec.specs.ArrayVec.{ArrayVec}
 use Rattle.vp_esc.specs.declared.item.Spelled.{Spelled}
-use Rattle.vp_esc.specs.declared.item.BarKind.{BarKind}
+use Rattle.vp_bar_code.specs.declared.BarCode.{BarCode}
 use Rattle.vp_dots.specs.Images.{Image}
 use Rattle.vp_glyph.specs.declared.Sheets.{Sheets}
-use Rattle.vp_receipt_settings.specs.declared.page_mode.Mode.{Mode}
-use Rattle.vp_receipt_settings.specs.declared.page_mode.Mode.TheVariants.{Standard, Page}
+use Rattle.vp_receipt_settings.specs.declared.page_mode.PrinterMode.{PrinterMode}
+use Rattle.vp_receipt_settings.specs.declared.page_mode.PrinterMode.TheVariants.{Standard, Page}
 use Rattle.vp_receipt_settings.specs.Setup.{Setup}
 use Rattle.vp_receipt_settings.specs.Tabs.{tab_stops}
 use Rattle.vp_receipt_settings.specs.Symbols.{qr_data, symbol_image, image_rows}
@@ -69,7 +69,7 @@ data_kept before (SetSymbol kind bytes more) h = refl
 data_kept before QrPrint h = refl
 data_kept before _ h = cc
 
-no_page_of : (m : Mode) → false ≡ is_paged m && false
+no_page_of : (m : PrinterMode) → false ≡ is_paged m && false
 no_page_of Standard = refl
 no_page_of Page = refl
 
@@ -88,7 +88,7 @@ pub rows_drawn : (setup : Setup) (before : List EscItem) (item : EscItem) (symbo
 rows_drawn setup before item symbol h = rows_of setup.sheets symbol (symbol_image setup before item) h
 
 -- the symbols are bars and QR
-pub is_qr : (item : EscItem) → ((kind : Spelled (Option BarKind)) (bytes : ArrayVec ℕ) (more : Bool) → item ≡ SetSymbol kind bytes more → ⊥) → is_symbol item ≡ true → item ≡ QrPrint
+pub is_qr : (item : EscItem) → ((kind : Spelled (Option BarCode)) (bytes : ArrayVec ℕ) (more : Bool) → item ≡ SetSymbol kind bytes more → ⊥) → is_symbol item ≡ true → item ≡ QrPrint
 is_qr (SetSymbol kind bytes more) n h = absurd (n kind bytes more refl)
 is_qr QrPrint n h = refl
 is_qr _ n h = cc

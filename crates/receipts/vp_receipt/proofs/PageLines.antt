@@ -15,8 +15,8 @@ use Rattle.vp_receipt_settings.specs.declared.settings.Settings.{Settings}
 use Rattle.vp_receipt_settings.specs.Setup.{Setup, across}
 use Rattle.vp_strips.specs.declared.canvas.Canvas.{Canvas}
 use Rattle.vp_strips.specs.declared.strip.Dots.TheVariants.{Page as PageDots}
-use Rattle.vp_receipt_settings.specs.declared.page_mode.Mode.{Mode}
-use Rattle.vp_receipt_settings.specs.declared.page_mode.Mode.TheVariants.{Standard, Page}
+use Rattle.vp_receipt_settings.specs.declared.page_mode.PrinterMode.{PrinterMode}
+use Rattle.vp_receipt_settings.specs.declared.page_mode.PrinterMode.TheVariants.{Standard, Page}
 use Rattle.vp_strips.specs.Held.{whole}
 use Rattle.vp_receipt.specs.Standing.{HasPageIf, IsSettled}
 use Rattle.vp_receipt_settings.specs.Line.{Placed, height, line, is_open, mode}
@@ -71,7 +71,7 @@ page_strip paper layers canvas rows h has = elim (cases_eq rows 0) [
   | inr n ↦ rw (ne_eqb rows 0 n) (strip_shown paper layers canvas rows h has n ∙ rw (ne_eqb rows 0 n) refl)
 ]
 
-pub has_page : (m : Mode) (layers : List Layer) (page : List (List ℕ)) → HasPage layers page → HasPageIf m layers page
+pub has_page : (m : PrinterMode) (layers : List Layer) (page : List (List ℕ)) → HasPage layers page → HasPageIf m layers page
 has_page Standard layers page h = tt
 has_page Page layers page h = h
 
@@ -90,9 +90,9 @@ line_laid setup before s bitmap page layers e small o has laid =
     rw open_is (subst (λ (p : PageSettings). HasPage (Laid (mark_of p (line_dot (line setup before))) ∷ layers) page) (ap (λ (q : Settings). q.page) e)
     (laid (has_rows s (line setup before) bitmap (ap (λ (q : Settings). q.height) e) small (has open_is))))
 
-pub mode_is : (setup : Setup) (before : List EscItem) (s : Settings) (m : Mode) → s ≡ settings_of setup before → s.page.mode ≡ m → mode setup before ≡ m
+pub mode_is : (setup : Setup) (before : List EscItem) (s : Settings) (m : PrinterMode) → s ≡ settings_of setup before → s.page.mode ≡ m → mode setup before ≡ m
 mode_is setup before s m e is = sym (ap (λ (q : Settings). q.page.mode) e) ∙ is
 
 -- what is settled has its page in page mode
 pub page_held : (setup : Setup) (before : List EscItem) (s : Settings) (canvas : Canvas) → IsSettled setup before s canvas → s.page.mode ≡ Page → HasPage (layers setup before) canvas.page
-page_held setup before s canvas h is = subst (λ (m : Mode). HasPageIf m (layers setup before) canvas.page) (mode_is setup before s Page h.settings is) h.page
+page_held setup before s canvas h is = subst (λ (m : PrinterMode). HasPageIf m (layers setup before) canvas.page) (mode_is setup before s Page h.settings is) h.page

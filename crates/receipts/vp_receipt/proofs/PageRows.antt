@@ -27,7 +27,7 @@ use Rattle.vp_receipt_settings.specs.Rasters.{times_across, times_down, raster_s
 use Rattle.vp_receipt_settings.specs.Gathering.{IsGathering, IsPartRow, room_of, left_of}
 use Rattle.vp_receipt_settings.specs.Runs.{below}
 use Rattle.vp_receipt_settings.specs.declared.raster.Raster.{Raster}
-use Rattle.vp_receipt_settings.specs.declared.page_mode.Mode.TheVariants.{Page}
+use Rattle.vp_receipt_settings.specs.declared.page_mode.PrinterMode.TheVariants.{Page}
 use Rattle.vp_receipt_settings.specs.declared.settings.Settings.{Settings}
 use Rattle.vp_receipt_settings.proofs.Runs.{after_first, AreInside, settings_same, settings_stay, line_stays, run_inside, inside}
 use Rattle.vp_receipt_settings.proofs.WholeRows.{Lacks, at_end, not_end, goes, row_below, HaveRows, have_rows, fewer, are_whole, lacks_row, next_row, no_row, rows_below, after_both}

@@ -14,8 +14,8 @@ use Rattle.vp_esc.specs.declared.item.RasterScale.TheVariants.{Normal, DoubleWid
 use Rattle.vp_glyph.specs.declared.block.Alignment.{Alignment}
 use Rattle.vp_glyph.specs.declared.block.Alignment.TheVariants.{Left, Centre, Right}
 use Rattle.vp_glyph.specs.Blocks.{indent}
-use Rattle.vp_receipt_settings.specs.declared.page_mode.Mode.{Mode}
-use Rattle.vp_receipt_settings.specs.declared.page_mode.Mode.TheVariants.{Standard, Page}
+use Rattle.vp_receipt_settings.specs.declared.page_mode.PrinterMode.{PrinterMode}
+use Rattle.vp_receipt_settings.specs.declared.page_mode.PrinterMode.TheVariants.{Standard, Page}
 use Rattle.vp_receipt_settings.specs.declared.raster.Raster.{Raster}
 use Rattle.vp_receipt_settings.specs.declared.settings.Settings.{Settings}
 use Rattle.vp_receipt_settings.proofs.Widths.{dots_across, some_bytes}
@@ -149,7 +149,7 @@ pub record Told (s : Settings) (r : Raster) : Type 0 where
   pub free : min s.area_width (across s.paper - s.left_margin) ≡ across s.paper
   pub some : 0 < r.bytes
 
-on_paper : (m : Mode) → not (is_paged m) ≡ true → m ≡ Standard
+on_paper : (m : PrinterMode) → not (is_paged m) ≡ true → m ≡ Standard
 on_paper Standard e = refl
 on_paper Page e = cc
 
@@ -261,4 +261,4 @@ mode_stays setup (b ∷ bytes) before = ap (mode setup) (after_first b bytes bef
 pub no_page : (setup : Setup) (bytes : List ℕ) (before : List EscItem) (page : List (List ℕ)) → mode setup before ≡ Standard
     → HasPageIf (mode setup (bytes_after bytes before)) (layers setup (bytes_after bytes before)) page
 no_page setup bytes before page e =
-    subst (λ (m : Mode). HasPageIf m (layers setup (bytes_after bytes before)) page) (sym (mode_stays setup bytes before ∙ e)) tt
+    subst (λ (m : PrinterMode). HasPageIf m (layers setup (bytes_after bytes before)) page) (sym (mode_stays setup bytes before ∙ e)) tt

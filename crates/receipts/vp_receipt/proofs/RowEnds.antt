@@ -5,7 +5,7 @@ use Rattle.vp_esc.specs.declared.item.EscItem.TheVariants.{RasterByte}
 use Rattle.vp_page.specs.Layers.{Laid}
 use Rattle.vp_page.specs.Pages.{HasPage}
 use Rattle.vp_receipt_settings.specs.Setup.{Setup}
-use Rattle.vp_receipt_settings.specs.declared.page_mode.Mode.TheVariants.{Standard, Page}
+use Rattle.vp_receipt_settings.specs.declared.page_mode.PrinterMode.TheVariants.{Standard, Page}
 use Rattle.vp_receipt_settings.specs.Line.{mode}
 use Rattle.vp_receipt.specs.PageMarks.{layers, raster_mark}
 use Rattle.vp_receipt_settings.specs.Rasters.{is_row_end, row_so_far}

@@ -11,8 +11,8 @@ use Rattle.vp_receipt.specs.Strips.{printed, own_strips}
 use Rattle.vp_receipt_settings.specs.Pages.{is_paged}
 use Rattle.vp_receipt.specs.PageMarks.{layers}
 use Rattle.vp_page.specs.Layers.{Layer}
-use Rattle.vp_receipt_settings.specs.declared.page_mode.Mode.{Mode}
-use Rattle.vp_receipt_settings.specs.declared.page_mode.Mode.TheVariants.{Standard, Page}
+use Rattle.vp_receipt_settings.specs.declared.page_mode.PrinterMode.{PrinterMode}
+use Rattle.vp_receipt_settings.specs.declared.page_mode.PrinterMode.TheVariants.{Standard, Page}
 use Rattle.vp_receipt_settings.specs.Gathering.{IsGathering, room_of}
 use Rattle.vp_receipt.specs.Standing.{HasPageIf}
 use Rattle.vp_receipt_settings.proofs.Runs.{after_first, AreInside, goes_on, inside, has_room}
@@ -27,7 +27,7 @@ page_stays setup (b ∷ bytes) before page in_row h =
     subst (λ (items : List EscItem). HasPageIf (mode setup items) (layers setup items) page) (sym (after_first b bytes before))
     (page_stays setup bytes (RasterByte b ∷ before) page in_row.1 (subst (λ (l : List Layer). HasPageIf (mode setup before) l page) (sym (layers_same setup b before in_row.0)) h))
 
-pub nothing_by : (m : Mode) → ◌≡◌ {A = List ℕ} ((if is_paged m then [] else []) ++ (if is_paged m then [] else [])) []
+pub nothing_by : (m : PrinterMode) → ◌≡◌ {A = List ℕ} ((if is_paged m then [] else []) ++ (if is_paged m then [] else [])) []
 nothing_by Standard = refl
 nothing_by Page = refl
 

@@ -8,8 +8,8 @@ use Rattle.vp_receipt_settings.specs.declared.effect.Piece.{Piece}
 use Rattle.vp_receipt_settings.specs.declared.effect.Piece.TheVariants.{Character, Column8, Column24}
 use Rattle.vp_receipt_settings.specs.declared.effect.Effect.{Effect}
 use Rattle.vp_receipt_settings.specs.declared.effect.Effect.TheVariants.{Initializes, Puts, Breaks, Feeds, Cuts, BeginsRaster, Draws, BeginsPage, LeavesPage, Lays, Wipes, PrintsPage, EndsPage}
-use Rattle.vp_receipt_settings.specs.declared.page_mode.Mode.{Mode}
-use Rattle.vp_receipt_settings.specs.declared.page_mode.Mode.TheVariants.{Page}
+use Rattle.vp_receipt_settings.specs.declared.page_mode.PrinterMode.{PrinterMode}
+use Rattle.vp_receipt_settings.specs.declared.page_mode.PrinterMode.TheVariants.{Page}
 use Rattle.vp_receipt_settings.specs.Setup.{Setup, across}
 use Rattle.vp_receipt_settings.specs.Pages.{is_paged, area}
 use Rattle.vp_receipt_settings.specs.Line.{Placed, line, position, mode, character, column8, column24, ended_rows}
@@ -91,7 +91,7 @@ layers_by setup before EndsPage = printed_layers setup before
 layers_by setup before _ = layers setup before
 
 -- the mode in which the page has them
-abbrev pub mode_by : Setup → List EscItem → Effect → Mode
+abbrev pub mode_by : Setup → List EscItem → Effect → PrinterMode
 mode_by setup before BeginsPage = Page
 mode_by setup before _ = mode setup before
 

@@ -11,8 +11,8 @@ use Rattle.vp_receipt_settings.specs.Setup.{Setup}
 use Rattle.vp_receipt_settings.specs.Tabs.{tab_stops}
 use Rattle.vp_page.specs.Layers.{Layer}
 use Rattle.vp_page.specs.Pages.{HasPage}
-use Rattle.vp_receipt_settings.specs.declared.page_mode.Mode.{Mode}
-use Rattle.vp_receipt_settings.specs.declared.page_mode.Mode.TheVariants.{Standard, Page}
+use Rattle.vp_receipt_settings.specs.declared.page_mode.PrinterMode.{PrinterMode}
+use Rattle.vp_receipt_settings.specs.declared.page_mode.PrinterMode.TheVariants.{Standard, Page}
 use Rattle.vp_receipt.specs.PageMarks.{layers}
 use Rattle.vp_receipt_settings.specs.Line.{Placed, height, mode, line}
 use Rattle.vp_receipt_settings.specs.Settings.{settings_of, image_of}
@@ -46,7 +46,7 @@ Gathers sheets s bitmap None line = HasOpen line bitmap
 Gathers sheets s bitmap (Some code) line = line ≡ record { at = 0; image = image_of sheets s.text code } ∷ []
 
 -- in page mode the page has these layers
-abbrev pub HasPageIf : Mode → List Layer → List (List ℕ) → Type 0
+abbrev pub HasPageIf : PrinterMode → List Layer → List (List ℕ) → Type 0
 HasPageIf Standard layers page = Unit {0}
 HasPageIf Page layers page = HasPage layers page
 

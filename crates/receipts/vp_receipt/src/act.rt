@@ -23,7 +23,7 @@ ghost use Rattle.vp_receipt.specs.Effects.{line_by, own_by, strips_by, page_by, 
 ghost use Rattle.vp_receipt_settings.specs.Effects.{waits_of, is_page};
 ghost use Rattle.vp_receipt_settings.specs.Pages.{is_paged};
 ghost use Rattle.vp_receipt_settings.specs.declared.effect.Effect.{Effect};
-ghost use Rattle.vp_receipt_settings.specs.declared.page_mode.Mode.{Mode};
+ghost use Rattle.vp_receipt_settings.specs.declared.page_mode.PrinterMode.{PrinterMode};
 ghost use Rattle.vp_receipt_settings.specs.Symbols.{symbol_image};
 ghost use Rattle.vp_dots.specs.Images.{Image};
 ghost use Rattle.vp_strips.specs.SymbolInks.{symbol_width, symbol_height, IsSymbolOf, IsDrawn};
@@ -38,7 +38,7 @@ use vp_esc::item::Cut;
 use vp_glyph::Sheets;
 use vp_page::{Direction, PAPER_BYTES, Page};
 use vp_receipt_settings::{
-    Effect, LINE_ROWS, Mode, Piece, Raster, Settings, times_across, times_down,
+    Effect, LINE_ROWS, Piece, PrinterMode, Raster, Settings, times_across, times_down,
 };
 use vp_strips::{After, Bitmap, Canvas, Job, Strip, Symbol, write_raster_row};
 
@@ -107,7 +107,7 @@ pub fn put_text(s: &mut Settings, text: &[u8], sheets: &Sheets, bitmap: &mut Bit
     }
 }
 
-/// The line in a strip of so many rows.
+/// The line in a strip of `rows` rows.
 fn line_job(s: &Settings, rows: u32) -> Job
     requires { IsFit s.now }
     ensures job { (canvas : Canvas) (lines : Lines) → IsJob result canvas lines }
@@ -134,7 +134,7 @@ fn ended_job(s: &Settings, after: After) -> Job
     Job::of(Strip::of_line(s, s.ended_rows()), after)
 }
 
-/// The job of a cut, after so many white rows.
+/// The job of a cut, after `dots` white rows.
 fn cut_job(s: &Settings, dots: u8, cut: Cut) -> Job
     requires { IsFit s.now }
     ensures job { (canvas : Canvas) (lines : Lines) → IsJob result canvas lines }
@@ -235,7 +235,7 @@ fn lay_line(s: &Settings, bitmap: &Bitmap, page: &mut Page)
 /// Lays the line if it is open.
 fn lay_open(s: &Settings, canvas: &mut Canvas)
     requires fit { IsFit s.now }
-    requires mode { s.now.page.mode ≡ Mode.Page }
+    requires mode { s.now.page.mode ≡ PrinterMode.Page }
     ensures others { canvas.new ≡ record canvas.old { page = canvas.new.page } }
     ensures page { (setup : Setup) (before : List EscItem) → IsSettled setup before s.now canvas.old →
         HasPage (printed_layers setup before) canvas.new.page }
@@ -262,7 +262,7 @@ fn page_job(s: &Settings) -> Job
 /// What an effect lays on the page, and what is printed of it.
 fn laid(s: &Settings, effect: Effect, canvas: &mut Canvas) -> Option<Job>
     requires fit { IsFit s.now }
-    requires mode { s.now.page.mode ≡ Mode.Page }
+    requires mode { s.now.page.mode ≡ PrinterMode.Page }
     requires old { effect ≡ Effect.BeginsPage → ⊥ }
     ensures others { canvas.new ≡ record canvas.old { page = canvas.new.page } }
     ensures job { IfSome result (λ job. (lines : Lines) → IsJob job canvas.new lines) }
@@ -328,8 +328,8 @@ pub fn act(s: &Settings, effect: Effect, canvas: &mut Canvas) -> Option<Job>
             None
         }
         _ => match s.page.mode {
-            Mode::Standard => printed(s, effect),
-            Mode::Page => laid(s, effect, canvas),
+            PrinterMode::Standard => printed(s, effect),
+            PrinterMode::Page => laid(s, effect, canvas),
         },
     }
 }
@@ -341,7 +341,7 @@ pub fn prints_page(s: &Settings, effect: Effect) -> bool
     s.page.is_paged() && effect.is_page()
 }
 
-/// The line, if it is open, and then a symbol so wide and high.
+/// The line, if it is open, and then a symbol `wide` dots wide and `high` rows high.
 fn symbol_job(s: &Settings, wide: u32, high: u32) -> Job
     requires fit { IsFit s.now }
     requires some { 0 < high }
@@ -382,7 +382,7 @@ fn symbol_on_paper(s: &Settings, symbol: Symbol, canvas: &mut Canvas) -> Job
 /// Lays the line, and a symbol below it.
 fn symbol_on_page(s: &Settings, symbol: &Symbol, canvas: &mut Canvas)
     requires fit { IsFit s.now }
-    requires mode { s.now.page.mode ≡ Mode.Page }
+    requires mode { s.now.page.mode ≡ PrinterMode.Page }
     requires wide { symbol_width canvas.old.sheets symbol.now ≤ LINE_DOTS }
     ensures others { canvas.new ≡ record canvas.old { page = canvas.new.page } }
     ensures page { (setup : Setup) (before : List EscItem) (item : EscItem) →
@@ -423,8 +423,8 @@ pub fn draw(s: &Settings, symbol: Symbol, canvas: &mut Canvas) -> Job
         IsShowing result canvas.new (height (line setup before)) (length (own_part setup before item)) }
 {
     match s.page.mode {
-        Mode::Standard => symbol_on_paper(s, symbol, canvas),
-        Mode::Page => {
+        PrinterMode::Standard => symbol_on_paper(s, symbol, canvas),
+        PrinterMode::Page => {
             symbol_on_page(s, &symbol, canvas);
             Job::none()
         }
@@ -470,8 +470,8 @@ pub fn act_on_row(s: &Settings, raster: &Raster, canvas: &mut Canvas) -> Job
         (length (own_part setup before (EscItem.RasterByte byte))) }
 {
     match s.page.mode {
-        Mode::Standard => row_job(s, raster, &mut canvas.raster_row),
-        Mode::Page => {
+        PrinterMode::Standard => row_job(s, raster, &mut canvas.raster_row),
+        PrinterMode::Page => {
             lay_raster_row(s, raster, &mut canvas.page);
             Job::none()
         }

@@ -29,7 +29,7 @@ use vp_esc::item::EscItem;
 use vp_glyph::Sheets;
 use vp_page::{PAGE_ROWS, PAPER_BYTES, Page};
 use vp_receipt_settings::{
-    Effect, Mode, Raster, Settings, Stops, Stored, Width, first_stops, set_stops, times_down,
+    Effect, PrinterMode, Raster, Settings, Stops, Stored, Width, first_stops, set_stops, times_down,
 };
 use vp_strips::{Bitmap, Canvas, Job, Lines, Symbol};
 
@@ -256,8 +256,8 @@ impl Receipt {
             result ≡ raster_run (mode setup before) before }
     {
         match self.settings.page.mode {
-            Mode::Standard => usize::from(self.raster.room()),
-            Mode::Page => self.raster.left(),
+            PrinterMode::Standard => usize::from(self.raster.room()),
+            PrinterMode::Page => self.raster.left(),
         }
     }
 
@@ -272,8 +272,8 @@ impl Receipt {
         ensures pending { self.new.pending ≡ [] }
     {
         match self.settings.page.mode {
-            Mode::Standard => self.raster.take_all(bytes),
-            Mode::Page => {
+            PrinterMode::Standard => self.raster.take_all(bytes),
+            PrinterMode::Page => {
                 let page = &mut self.canvas.page;
                 take_run(&mut self.settings, &mut self.raster, bytes, page);
                 self.job = Job::none();
@@ -281,7 +281,7 @@ impl Receipt {
         }
     }
 
-    /// How many bytes of a raster are taken in one run where so many can be put out.
+    /// How many bytes of a raster are taken in one run where `output` bytes can be put out.
     pub fn rows_room(&self, output: usize) -> usize
         ensures { result ≡ rows_room self.now.settings self.now.raster output }
     {

@@ -8,8 +8,8 @@ use Rattle.vp_receipt_settings.specs.declared.effect.Effect.{Effect}
 use Rattle.vp_receipt_settings.specs.declared.effect.Effect.TheVariants.{Sets, Initializes, Puts, Breaks, BeginsRaster, BeginsPage, LeavesPage, Lays}
 use Rattle.vp_receipt_settings.specs.declared.effect.NextLines.TheVariants.{At, Within}
 use Rattle.vp_receipt_settings.specs.declared.effect.Piece.TheVariants.{Character as OneCharacter, Column8 as OneColumn8, Column24 as OneColumn24}
-use Rattle.vp_receipt_settings.specs.declared.page_mode.Mode.{Mode}
-use Rattle.vp_receipt_settings.specs.declared.page_mode.Mode.TheVariants.{Standard, Page}
+use Rattle.vp_receipt_settings.specs.declared.page_mode.PrinterMode.{PrinterMode}
+use Rattle.vp_receipt_settings.specs.declared.page_mode.PrinterMode.TheVariants.{Standard, Page}
 use Rattle.vp_receipt_settings.specs.declared.settings.Settings.{Settings}
 use Rattle.vp_receipt_settings.specs.Setup.{Setup}
 use Rattle.vp_receipt_settings.specs.Tabs.{tab_stops}
@@ -51,12 +51,12 @@ not_moved : (by : ℤ) (v : ℕ) → is_vertical_move by v ≡ false → vertica
 not_moved (pos n) v e = rw e refl
 not_moved (negsuc n) v e = rw e refl
 
-standard_of : (m : Mode) → is_paged m ≡ false → m ≡ Standard
+standard_of : (m : PrinterMode) → is_paged m ≡ false → m ≡ Standard
 standard_of Standard e = refl
 standard_of Page e = cc
 
 -- the frame where ESC L begins a page, and the mode where it doesn't
-not_open : (m : Mode) (opened : Bool) → (not (is_paged m) && not opened) ≡ true → opened ≡ false
+not_open : (m : PrinterMode) (opened : Bool) → (not (is_paged m) && not opened) ≡ true → opened ≡ false
 not_open Standard false e = refl
 not_open Standard true e = cc
 not_open Page opened e = cc
@@ -65,7 +65,7 @@ begun_frame : (opened : Bool) (f g : Frame) → opened ≡ false → (if opened 
 begun_frame false f g e = refl
 begun_frame true f g e = cc
 
-same_mode : (opened : Bool) (m : Mode) (f g : Frame) → f.mode ≡ m → g.mode ≡ Page → (not (is_paged m) && not opened) ≡ false → (if opened then f else g).mode ≡ f.mode
+same_mode : (opened : Bool) (m : PrinterMode) (f g : Frame) → f.mode ≡ m → g.mode ≡ Page → (not (is_paged m) && not opened) ≡ false → (if opened then f else g).mode ≡ f.mode
 same_mode true m f g e h c = refl
 same_mode false Page f g e h c = h ∙ sym e
 same_mode false Standard f g e h c = cc
@@ -78,7 +78,7 @@ begun_by setup before f =
       page = record (page_of setup (PageMode ∷ before)) { mode = f.mode };
     }
 
-abbrev begun_in : Setup → List EscItem → Mode → Settings
+abbrev begun_in : Setup → List EscItem → PrinterMode → Settings
 begun_in setup before m = record (settings_of setup (PageMode ∷ before)) { page = record (page_of setup (PageMode ∷ before)) { mode = m } }
 
 -- a margin and a width leave the mode

@@ -14,8 +14,8 @@ use Rattle.vp_receipt_settings.specs.declared.effect.Effect.{Effect}
 use Rattle.vp_receipt_settings.specs.declared.effect.Effect.TheVariants.{Sets, Puts, Breaks, BeginsRaster, BeginsPage, LeavesPage, Lays}
 use Rattle.vp_receipt_settings.specs.declared.effect.NextLines.TheVariants.{At, Within}
 use Rattle.vp_receipt_settings.specs.declared.effect.Piece.TheVariants.{Character as OneCharacter, Column8 as OneColumn8, Column24 as OneColumn24}
-use Rattle.vp_receipt_settings.specs.declared.page_mode.Mode.{Mode}
-use Rattle.vp_receipt_settings.specs.declared.page_mode.Mode.TheVariants.{Standard, Page}
+use Rattle.vp_receipt_settings.specs.declared.page_mode.PrinterMode.{PrinterMode}
+use Rattle.vp_receipt_settings.specs.declared.page_mode.PrinterMode.TheVariants.{Standard, Page}
 use Rattle.vp_receipt_settings.specs.declared.settings.Settings.{Settings}
 use Rattle.vp_receipt_settings.specs.declared.width.Width.{Width}
 use Rattle.vp_receipt_settings.specs.Setup.{across}
@@ -33,7 +33,7 @@ area_small a BottomToTop h k = omega arith
 area_small a RightToLeft h k = omega arith
 area_small a TopToBottom h k = omega arith
 
-length_small : (m : Mode) (a : PageArea) (d : PageDirection) (paper : Width) (margin width : ℕ) → a.x + a.dx ≤ PAPER_DOTS → a.y + a.dy ≤ PAGE_ROWS → length_in m a d paper margin width ≤ LINE_DOTS
+length_small : (m : PrinterMode) (a : PageArea) (d : PageDirection) (paper : Width) (margin width : ℕ) → a.x + a.dx ≤ PAPER_DOTS → a.y + a.dy ≤ PAGE_ROWS → length_in m a d paper margin width ≤ LINE_DOTS
 length_small Standard a d paper margin width h k = let s = few_dots paper in omega arith
 length_small Page a d paper margin width h k = area_small a d h k
 

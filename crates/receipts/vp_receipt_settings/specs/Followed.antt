@@ -18,7 +18,7 @@ use Rattle.vp_receipt_settings.specs.declared.effect.Effect.{Effect}
 use Rattle.vp_receipt_settings.specs.declared.effect.Effect.TheVariants.{Moves, Tabs, Puts, Breaks, Feeds, Cuts, BeginsRaster, Draws, BeginsPage, LeavesPage, Lays, Wipes, PrintsPage, EndsPage}
 use Rattle.vp_receipt_settings.specs.declared.effect.NextLines.{NextLines}
 use Rattle.vp_receipt_settings.specs.declared.effect.NextLines.TheVariants.{At, Within, Along}
-use Rattle.vp_receipt_settings.specs.declared.page_mode.Mode.TheVariants.{Standard, Page}
+use Rattle.vp_receipt_settings.specs.declared.page_mode.PrinterMode.TheVariants.{Standard, Page}
 use Rattle.vp_receipt_settings.specs.declared.page_mode.PageSettings.{PageSettings}
 use Rattle.vp_receipt_settings.specs.declared.settings.Settings.{Settings}
 
@@ -36,7 +36,7 @@ without_line_if ends s = if ends then without_line s else s
 abbrev pub closed_if : Bool → Settings → Settings
 closed_if ends s = if ends then closed s else s
 
--- a piece so wide and high in the line
+-- a piece `wide` dots wide and `high` rows high in the line
 abbrev pub with_piece : Settings → ℕ → ℕ → Settings
 with_piece s wide high = record s {
   position = min (s.position + wide) (length_of s);
@@ -89,7 +89,7 @@ page_going (At vertical) page = record page { vertical = vertical }
 page_going (Within a) page = record page { area = a; vertical = 0; used = raised true a page.used }
 page_going (Along d) page = record page { direction = d; vertical = 0 }
 
--- the page after it, with so many rows of a symbol, where the line and they are laid already
+-- the page after an effect, with `symbol` rows of a symbol, where the line and they are laid already
 abbrev pub page_next : Settings → Effect → ℕ → PageSettings → PageSettings
 page_next s (Breaks rows code) symbol page = record page { vertical = vertical_after page.vertical rows }
 page_next s (Feeds rows) symbol page = record page { vertical = vertical_after page.vertical rows }

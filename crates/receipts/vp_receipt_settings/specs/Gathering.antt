@@ -2,8 +2,8 @@
 use Rattle.std.specs.Prelude.{◌≡◌, ◌<◌, ℕ, ◌-◌, ◌*◌, ◌==◌, if◌then◌else◌, true, List, [], ◌∷◌, ◌++◌, length, take, min}
 use Rattle.vp_esc.specs.declared.item.EscItem.{EscItem}
 use Rattle.vp_page.specs.declared.line.TheConstants.{LINE_BYTES}
-use Rattle.vp_receipt_settings.specs.declared.page_mode.Mode.{Mode}
-use Rattle.vp_receipt_settings.specs.declared.page_mode.Mode.TheVariants.{Standard, Page}
+use Rattle.vp_receipt_settings.specs.declared.page_mode.PrinterMode.{PrinterMode}
+use Rattle.vp_receipt_settings.specs.declared.page_mode.PrinterMode.TheVariants.{Standard, Page}
 use Rattle.vp_receipt_settings.specs.declared.raster.Raster.{Raster}
 use Rattle.vp_receipt_settings.specs.Rasters.{raster_scale, raster_bytes, rows_to_come, row_so_far, is_row_end}
 
@@ -40,6 +40,6 @@ abbrev pub left_of : Raster → ℕ
 left_of r = r.rows * r.bytes - r.got
 
 -- how many come before one that prints: a row that is laid on a page prints nothing
-abbrev pub run_of : Mode → Raster → ℕ
+abbrev pub run_of : PrinterMode → Raster → ℕ
 run_of Standard r = room_of r
 run_of Page r = left_of r

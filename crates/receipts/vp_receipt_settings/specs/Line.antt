@@ -6,8 +6,8 @@ use Rattle.vp_receipt_settings.specs.declared.width.Width.{Width}
 use Rattle.vp_page.specs.declared.area.Area.{Area}
 use Rattle.vp_page.specs.declared.area.Direction.{Direction}
 use Rattle.vp_page.specs.Areas.{line_length as length_on_page}
-use Rattle.vp_receipt_settings.specs.declared.page_mode.Mode.{Mode}
-use Rattle.vp_receipt_settings.specs.declared.page_mode.Mode.TheVariants.{Standard, Page}
+use Rattle.vp_receipt_settings.specs.declared.page_mode.PrinterMode.{PrinterMode}
+use Rattle.vp_receipt_settings.specs.declared.page_mode.PrinterMode.TheVariants.{Standard, Page}
 use Rattle.vp_receipt_settings.specs.Setup.{Setup, across}
 use Rattle.vp_receipt_settings.specs.Pages.{is_paged, is_area, area, direction, is_vertical_move, vertical_moved, vertical_after}
 use Rattle.vp_dots.specs.Images.{Image}
@@ -61,7 +61,7 @@ abbrev pub position_after_column : ℕ → ℕ → ℕ → ℕ
 position_after_column position wide length =
     if nat_lt position length then min (position + wide) length else position
 
--- ESC $: the position, where the line reaches so far
+-- ESC $: position `n` where a line of `length` dots reaches it, else `position`
 abbrev pub position_at : ℕ → ℕ → ℕ → ℕ
 position_at n position length = if nat_le n length then n else position
 
@@ -100,22 +100,22 @@ abbrev pub height : List Placed → ℕ
 height [] = 0
 height (placed ∷ rest) = max placed.image.height (height rest)
 
--- ESC d: the rows of the strip of so many lines
+-- ESC d: the rows of the strip of `n` lines
 abbrev pub lines_rows : ℕ → ℕ → ℕ → ℕ
 lines_rows n height spacing = if n == 0 then height else max height spacing + (n - 1) * spacing
 
 -- the line length by mode: on a page that of its area
-abbrev pub length_in : Mode → Area → Direction → Width → ℕ → ℕ → ℕ
+abbrev pub length_in : PrinterMode → Area → Direction → Width → ℕ → ℕ → ℕ
 length_in Standard a d paper margin width = length_within paper margin width
 length_in Page a d paper margin width = length_on_page a d
 
 -- ESC L begins a page in standard mode, while no line is open
-abbrev pub begins_page : Mode → List Placed → Bool
+abbrev pub begins_page : PrinterMode → List Placed → Bool
 begins_page m line = not (is_paged m) && not (is_open line)
 
 -- what gives a line its length, beside the area and the direction
 pub record Frame : Type 0 where
-  pub mode : Mode
+  pub mode : PrinterMode
   pub left_margin : ℕ
   pub area_width : ℕ
 
@@ -144,7 +144,7 @@ rows_by line spacing broken (Symbol kind bytes more) = rows_if_open line spacing
 rows_by line spacing broken QrPrint = rows_if_open line spacing
 rows_by line spacing broken _ = 0
 
--- so many rows, if so
+-- `rows` rows if `some`, else none
 abbrev pub rows_if : Bool → ℕ → ℕ
 rows_if some rows = if some then rows else 0
 
@@ -193,7 +193,7 @@ moved_to position l = record l { position = position }
 abbrev pub down_at : ℕ → Layout → Layout
 down_at vertical l = record l { vertical = vertical }
 
--- so many rows further down
+-- `rows` rows further down
 abbrev pub further : ℕ → Layout → Layout
 further rows l = record l { vertical = vertical_after l.vertical rows }
 
@@ -201,7 +201,7 @@ further rows l = record l { vertical = vertical_after l.vertical rows }
 abbrev pub at_top_if : Bool → Layout → Layout
 at_top_if top l = record l { vertical = if top then 0 else l.vertical }
 
--- the line printed or laid in so many rows
+-- the line printed or laid in `rows` rows
 abbrev pub fed : ℕ → Layout → Layout
 fed rows l = record l { line = []; position = 0; vertical = vertical_after l.vertical rows }
 
@@ -224,7 +224,7 @@ cut_off l = record l {
 }
 
 -- another mode
-abbrev pub in_mode : Mode → Layout → Layout
+abbrev pub in_mode : PrinterMode → Layout → Layout
 in_mode m l = record l { frame = record l.frame { mode = m } }
 
 -- what an open line holds fast stays as it is
@@ -305,7 +305,7 @@ abbrev pub vertical : Setup → List EscItem → ℕ
 vertical setup before = (layout setup before).vertical
 
 -- the mode, the left margin and the width of the area
-abbrev pub mode : Setup → List EscItem → Mode
+abbrev pub mode : Setup → List EscItem → PrinterMode
 mode setup before = (frame setup before).mode
 
 abbrev pub left_margin : Setup → List EscItem → ℕ

@@ -3,8 +3,8 @@ use Rattle.std.specs.Prelude.{ℕ, ◌-◌, ◌/◌, nat_lt, List, ◌++◌, rev
 use Rattle.vp_esc.specs.declared.item.EscItem.{EscItem}
 use Rattle.vp_esc.specs.Reader.{text_items}
 use Rattle.vp_glyph.specs.Cells.{cell_width}
-use Rattle.vp_receipt_settings.specs.declared.page_mode.Mode.{Mode}
-use Rattle.vp_receipt_settings.specs.declared.page_mode.Mode.TheVariants.{Standard, Page}
+use Rattle.vp_receipt_settings.specs.declared.page_mode.PrinterMode.{PrinterMode}
+use Rattle.vp_receipt_settings.specs.declared.page_mode.PrinterMode.TheVariants.{Standard, Page}
 use Rattle.vp_receipt_settings.specs.declared.settings.Settings.{Settings}
 use Rattle.vp_receipt_settings.specs.Texts.{style_of}
 use Rattle.vp_receipt_settings.specs.Settings.{length_of}
@@ -20,11 +20,11 @@ abbrev pub text_room : Settings → ℕ
 text_room s = (length_of s - s.position) / cell_width s.text.font (style_of s.text)
 
 -- how many bytes of a raster come before one that prints: on paper the one that ends the row, on a page none
-abbrev pub raster_run : Mode → List EscItem → ℕ
+abbrev pub raster_run : PrinterMode → List EscItem → ℕ
 raster_run Standard before = bytes_within_row before
 raster_run Page before = bytes_to_come before
 
--- the settings after so many rows of a raster were printed or laid
+-- the settings after `rows` rows of a raster were printed or laid
 abbrev pub below : Settings → ℕ → Settings
 below s rows = record s {
   page = record s.page {

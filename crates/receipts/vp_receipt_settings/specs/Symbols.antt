@@ -1,10 +1,9 @@
 -- How symbols are drawn, by looking back over the items, and which are printed.
-use Rattle.std.specs.Prelude.{◌≡◌, ◌≤◌, ◌<◌, ℕ, ◌+◌, ◌*◌, ◌/◌, Bool, false, Result, Ok, Err, take, length as list_length, nat_lt, nat_le, ◌&&◌, if◌then◌else◌, List, [], ◌∷◌, ◌++◌, Option, Some, None}
+use Rattle.std.specs.Prelude.{◌≡◌, ◌≤◌, ◌<◌, ℕ, ◌+◌, ◌*◌, ◌/◌, Bool, Result, Ok, Err, take, length as list_length, nat_lt, nat_le, ◌&&◌, if◌then◌else◌, List, [], ◌∷◌, ◌++◌, Option, Some, None}
 use Rattle.std.specs.Option.{option_or}
 use Rattle.vp_esc.specs.declared.item.EscItem.{EscItem}
 use Rattle.vp_esc.specs.declared.item.EscItem.TheVariants.{HriPosition as SetHriPosition, HriFont as SetHriFont, BarHeight, BarModule, QrModel as SetQrModel, QrModule as SetQrModule, QrLevel as SetQrLevel, QrStore, QrByte, Initialize, QrPrint, Symbol as PrintSymbol}
-use Rattle.vp_esc.specs.declared.item.HriPosition.{HriPosition}
-use Rattle.vp_esc.specs.declared.item.HriPosition.TheVariants.{None as NoText, Above, Below, Both}
+use Rattle.vp_bar_code.specs.declared.HriPosition.{HriPosition}
 use Rattle.vp_esc.specs.declared.item.QrModel.{QrModel}
 use Rattle.vp_esc.specs.declared.item.QrModel.TheVariants.{Two}
 use Rattle.vp_esc.specs.declared.item.QrLevel.{QrLevel}
@@ -22,16 +21,12 @@ use Rattle.vp_qr.specs.declared.segment.Mode.TheVariants.{Auto}
 use Rattle.vp_qr.specs.Places.{size}
 use Rattle.vp_qr.specs.Encoding.{refusal as no_symbol, version_of, symbol_module}
 use Rattle.vp_qr.specs.Inks.{ScaledSymbol, side, ink_of}
-use Rattle.vp_esc.specs.declared.item.BarKind.{BarKind}
-use Rattle.vp_esc.specs.declared.item.BarKind.TheVariants.{Ean13, Code39, Code128}
+use Rattle.vp_bar_code.specs.declared.BarCode.{BarCode}
+use Rattle.vp_bars.specs.Symbologies.{symbol_of}
 use Rattle.vp_glyph.specs.declared.Sheets.{Sheets}
-use Rattle.vp_bars.specs.declared.bar_box.Place.{Place}
-use Rattle.vp_bars.specs.declared.bar_box.Place.TheVariants.{None as NoPlace, Above as PlaceAbove, Below as PlaceBelow, Both as PlaceBoth}
+use Rattle.vp_bar_code.specs.declared.HriPosition.TheVariants.{None as NoText}
 use Rattle.vp_bars.specs.Symbols.{Linear}
 use Rattle.vp_bars.specs.Boxes.{Boxed, box_width, box_height, box_dot}
-use Rattle.vp_bars.specs.Ean13.{ean13_of}
-use Rattle.vp_bars.specs.Code39.{code39_of}
-use Rattle.vp_bars.specs.Escapes.{code128_esc_of}
 use Rattle.vp_dots.specs.Images.{Image}
 use Rattle.vp_receipt_settings.specs.Setup.{Setup}
 use Rattle.vp_receipt_settings.specs.declared.bar_style.BarStyle.{BarStyle}
@@ -180,13 +175,6 @@ pub record IsQrImage (ink : ScaledSymbol) (image : Image) : Type 0 where
   pub height : side ink ≡ image.height
   pub dots : (x y : ℕ) → ink_of ink x y ≡ image.is_black x y
 
--- GS k: where the text stands
-abbrev pub place_of : HriPosition → Place
-place_of NoText = NoPlace
-place_of Above = PlaceAbove
-place_of Below = PlaceBelow
-place_of Both = PlaceBoth
-
 -- the bars in their box: a wide element is five halves of a narrow one
 abbrev pub boxed : Sheets → BarStyle → Linear → Boxed
 boxed sheets style bars = record {
@@ -196,22 +184,17 @@ boxed sheets style bars = record {
   height = style.height;
   sheets = sheets;
   font = style.hri_font;
-  place = place_of style.hri_position;
+  place = style.hri_position;
 }
 
 abbrev pub box_image : Boxed → Image
 box_image b = record { width = box_width b; height = box_height b; is_black = box_dot b }
 
--- GS k: the symbol of data, or why there is none: the kind isn't drawn, or more bytes were sent than are
+-- GS k: the symbol of data, or why there is none: the bar code isn't drawn, or more bytes were sent than are
 -- kept, or what its standard says
-abbrev pub bars_of_kind : BarKind → List ℕ → Result Linear Fault
-bars_of_kind Ean13 bytes = ean13_of bytes false
-bars_of_kind Code39 bytes = code39_of bytes false
-bars_of_kind Code128 bytes = code128_esc_of bytes
-
-abbrev pub bars_of : Option BarKind → List ℕ → Bool → Result Linear Fault
+abbrev pub bars_of : Option BarCode → List ℕ → Bool → Result Linear Fault
 bars_of None bytes more = Err (Symbol Unsupported)
-bars_of (Some kind) bytes more = if more then Err SymbolTooLong else bars_of_kind kind bytes
+bars_of (Some code) bytes more = if more then Err SymbolTooLong else symbol_of code bytes
 
 -- why none is printed
 abbrev pub bars_refusal : Sheets → BarStyle → ℕ → Result Linear Fault → Option Fault

@@ -4,7 +4,8 @@ ghost use Rattle.vp_esc.specs.declared.item.EscItem.{EscItem};
 ghost use Rattle.vp_receipt_settings.specs.Symbols.{bar_style_of, IsFitBars};
 
 use crate::text::font_named;
-use vp_esc::item::{EscItem, HriPosition};
+use vp_bar_code::HriPosition;
+use vp_esc::item::EscItem;
 use vp_glyph::Font;
 
 /// How bar codes are drawn.

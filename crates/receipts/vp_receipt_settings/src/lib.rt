@@ -21,7 +21,7 @@ mod width;
 pub use bar_style::BarStyle;
 pub use column::Column;
 pub use effect::{Effect, NextLines, Piece};
-pub use page_mode::{Mode, PageSettings};
+pub use page_mode::{PageSettings, PrinterMode};
 pub use qr_style::QrStyle;
 pub use raster::{Raster, times_across, times_down};
 pub use settings::{DEFAULT_LINE_SPACING, Settings};

@@ -22,7 +22,7 @@ use vp_page::{Area, Direction, PAGE_ROWS};
 
 /// Whether lines are printed on paper or laid on a page.
 #[derive(Clone, Copy, Debug, PartialEq, Eq)]
-pub enum Mode {
+pub enum PrinterMode {
     Standard,
     Page,
 }
@@ -30,7 +30,7 @@ pub enum Mode {
 /// What is in force on the page.
 #[derive(Clone, Copy)]
 pub struct PageSettings {
-    pub mode: Mode,
+    pub mode: PrinterMode,
     pub area: Area,
     pub direction: Direction,
     /// Where the next line is laid, from the area's top as its lines run.
@@ -121,7 +121,7 @@ impl PageSettings {
         ensures fit { IsFitPage result }
     {
         PageSettings {
-            mode: Mode::Standard,
+            mode: PrinterMode::Standard,
             area: Area {
                 x: 0,
                 y: 0,
@@ -139,8 +139,8 @@ impl PageSettings {
         ensures { result ≡ is_paged self.mode }
     {
         match self.mode {
-            Mode::Standard => false,
-            Mode::Page => true,
+            PrinterMode::Standard => false,
+            PrinterMode::Page => true,
         }
     }
 
@@ -209,8 +209,8 @@ impl Settings {
         vertical_after(self.page.vertical, self.ended_rows())
     }
 
-    /// The settings after a byte that ends a row of a raster, which was laid or printed so often; or after so
-    /// many rows.
+    /// The settings after a byte that ends a row of a raster, which was laid or printed `times` times; or
+    /// after `times` rows.
     pub fn after_row(self, times: u32) -> Settings
         requires { IsFit self }
         ensures value { result ≡ below self times }
@@ -246,19 +246,19 @@ impl Settings {
         ensures { result ≡ (not (is_paged self.page.mode) && not self.is_open) }
     {
         match self.page.mode {
-            Mode::Standard => !self.is_open,
-            Mode::Page => false,
+            PrinterMode::Standard => !self.is_open,
+            PrinterMode::Page => false,
         }
     }
 
-    /// Whether rows are laid in the area by an effect, with so many rows of a symbol.
+    /// Whether rows are laid in the area by an effect, with `symbol_rows` rows of a symbol.
     fn lays_rows(self, effect: Effect, symbol_rows: u32) -> bool
         ensures { result ≡ lays_rows_by self effect symbol_rows }
     {
         self.rows_of(effect) > 0 || symbol_rows > 0 || (effect.lays() && self.is_open)
     }
 
-    /// What is in force on the page after an effect, with so many rows of a symbol.
+    /// What is in force on the page after an effect, with `symbol_rows` rows of a symbol.
     pub(crate) fn page_after(self, effect: Effect, symbol_rows: u32) -> PageSettings
         requires fit { IsFit self }
         requires within { IsWithin effect }
@@ -281,13 +281,13 @@ impl Settings {
             Effect::Lays(next) => page.going(next),
             Effect::Wipes => page.at(0),
             Effect::BeginsPage => PageSettings {
-                mode: Mode::Page,
+                mode: PrinterMode::Page,
                 vertical: 0,
                 used: 0,
                 ..page
             },
             Effect::LeavesPage | Effect::EndsPage => PageSettings {
-                mode: Mode::Standard,
+                mode: PrinterMode::Standard,
                 ..page
             },
             Effect::Nothing

@@ -21,7 +21,7 @@ ghost use Rattle.vp_glyph.specs.Cells.{cell_width};
 use crate::bar_style::BarStyle;
 use crate::column::Column;
 use crate::effect::{Effect, NextLines, Piece};
-use crate::page_mode::{Mode, PageSettings};
+use crate::page_mode::{PageSettings, PrinterMode};
 use crate::qr_style::QrStyle;
 use crate::text::{LINE_ROWS, Text, WIDEST};
 use crate::width::Width;
@@ -95,7 +95,7 @@ pub(crate) fn moved(by: i16, position: u16, length: u16) -> u16
     position
 }
 
-/// The position, where the line reaches so far.
+/// Position `n` where a line of `length` dots reaches it, else `position`.
 pub(crate) fn placed(n: u16, position: u16, length: u16) -> u16
     ensures value { result ≡ position_at n position length }
     ensures small { result ≤ max position length }
@@ -154,12 +154,12 @@ impl Settings {
         ensures most { result ≤ LINE_DOTS }
     {
         match self.page.mode {
-            Mode::Standard => self.paper_length(),
-            Mode::Page => self.page.line_length(),
+            PrinterMode::Standard => self.paper_length(),
+            PrinterMode::Page => self.page.line_length(),
         }
     }
 
-    /// Where something so wide is printed.
+    /// Where something `wide` dots wide is printed.
     pub fn printed_at(self, wide: u32) -> u16
         ensures { (setup : Setup) (before : List EscItem) → self ≡ settings_of setup before →
             result ≡ printed_at setup before wide }
@@ -241,7 +241,7 @@ impl Settings {
         if ends { self.closed() } else { self }
     }
 
-    /// The settings with a piece so wide and high in the line.
+    /// The settings with a piece `wide` dots wide and `high` rows high in the line.
     fn with_piece(self, wide: u16, high: u16) -> Settings
         requires fit { IsFit self }
         requires wide { wide ≤ WIDEST }
@@ -310,7 +310,7 @@ impl Settings {
         self.position < self.line_length()
     }
 
-    /// A column of dots, each of them so high.
+    /// A column of dots, each of them `high` rows high.
     pub fn column<const N: usize>(self, bytes: [u8; N], high: u8) -> Column<N>
         requires { 0 < high }
         ensures bytes { result.bytes ≡ bytes.entry }
@@ -331,7 +331,7 @@ impl Settings {
         Settings { position, ..self }
     }
 
-    /// The settings with dots of columns so wide.
+    /// The settings with the dots of columns `column_width` dots wide.
     fn dotted(self, column_width: u8) -> Settings
         ensures { result ≡ record self { column_width = column_width } }
     {
@@ -367,7 +367,7 @@ impl Settings {
         self
     }
 
-    /// The settings with an area so wide, if it has a dot, and the line isn't open.
+    /// The settings with an area `area_width` dots wide, if it has a dot, and the line isn't open.
     fn as_wide(self, area_width: u16) -> Settings
         ensures { result ≡ record self {
           area_width = (if self.is_open then self.area_width else width_or area_width self.area_width);
@@ -445,8 +445,8 @@ impl Settings {
         }
     }
 
-    /// The settings after an item that is no byte of a raster, with these tab stops, and so many rows of a
-    /// symbol.
+    /// The settings after an item that is no byte of a raster, with these tab stops, and `symbol_rows` rows
+    /// of a symbol.
     pub fn after(self, item: &EscItem, effect: Effect, stops: &[u32], symbol_rows: u32) -> Settings
         requires fit { IsFit self }
         requires item { (byte : ℕ) → item.now ≡ EscItem.RasterByte byte → ⊥ }

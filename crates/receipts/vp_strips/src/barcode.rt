@@ -3,11 +3,10 @@ ghost use Rattle.std.specs.Prelude.{◌≡◌, ◌≤◌, ◌<◌, ◌-◌, ℕ,
 ghost use Rattle.vp_glyph.specs.declared.Sheets.{Sheets};
 ghost use Rattle.vp_bars.specs.Boxes.{box_width, box_height, box_dot};
 ghost use Rattle.vp_strips.specs.SymbolInks.{box_of};
-ghost use Rattle.vp_receipt_settings.specs.Symbols.{IsFitBars, place_of, bars_of_kind, bars_of, bars_refusal, bars_image, box_image};
+ghost use Rattle.vp_receipt_settings.specs.Symbols.{IsFitBars, bars_of, bars_refusal, bars_image, box_image};
 
-use vp_bars::{BarBox, Bars, Place, code39, code128_esc, ean13, rows_repeat};
+use vp_bars::{BarBox, BarCode, Bars, HriPosition, linear, rows_repeat};
 use vp_dots::{Fault, Ink, Why};
-use vp_esc::item::{BarKind, HriPosition};
 use vp_glyph::{Font, Sheets};
 use vp_receipt_settings::BarStyle;
 
@@ -19,11 +18,11 @@ pub struct BarSymbol {
     pub wide: u16,
     pub height: u16,
     pub font: Font,
-    pub place: Place,
+    pub place: HriPosition,
 }
 
 impl BarSymbol {
-    /// Them in their box.
+    /// The bars in their box.
     pub fn boxed<'a>(&'a self, sheets: &'a Sheets) -> BarBox<'a>
         ensures { record {
           bars = result.bars.now;
@@ -63,66 +62,43 @@ impl BarSymbol {
     }
 }
 
-/// Where a command puts the text.
-fn place_named(place: HriPosition) -> Place
-    ensures { result ≡ place_of place }
-{
-    match place {
-        HriPosition::None => Place::None,
-        HriPosition::Above => Place::Above,
-        HriPosition::Below => Place::Below,
-        HriPosition::Both => Place::Both,
-    }
-}
-
-/// The bars of data of a kind.
-fn bars_of_kind(kind: BarKind, bytes: &[u8]) -> Result<Bars, Fault>
-    ensures { result ≡ bars_of_kind kind bytes.now }
-{
-    match kind {
-        BarKind::Ean13 => ean13(bytes, false),
-        BarKind::Code39 => code39(bytes, false),
-        BarKind::Code128 => code128_esc(bytes),
-    }
-}
-
 /// The bars of a command, or why it has none.
-fn bars_of(kind: Option<BarKind>, bytes: &[u8], more: bool) -> Result<Bars, Fault>
-    ensures { result ≡ bars_of kind bytes.now more }
+fn bars_of(code: Option<BarCode>, bytes: &[u8], more: bool) -> Result<Bars, Fault>
+    ensures { result ≡ bars_of code bytes.now more }
 {
-    let Some(kind) = kind else {
+    let Some(code) = code else {
         return Err(Fault::Symbol(Why::Unsupported));
     };
     if more {
         return Err(Fault::SymbolTooLong);
     }
-    bars_of_kind(kind, bytes)
+    linear(code, bytes)
 }
 
 /// The bars of a command as they are drawn, if the line has room for them.
 ///
-/// Refused are, in this order: a kind that isn't drawn (`Symbol(Unsupported)`), no bytes (`Symbol(Empty)`),
-/// more than are kept (`SymbolTooLong`), what the symbol's standard refuses, and a box wider than the line
-/// (`SymbolTooWide`).
+/// Refused are, in this order: a bar code that isn't drawn (`Symbol(Unsupported)`), no bytes
+/// (`Symbol(Empty)`), more than are kept (`SymbolTooLong`), what the symbol's standard refuses, and a box
+/// wider than the line (`SymbolTooWide`).
 pub fn bar_symbol(
     style: BarStyle,
-    kind: Option<BarKind>,
+    code: Option<BarCode>,
     bytes: &[u8],
     more: bool,
     length: u16,
     sheets: &Sheets,
 ) -> Result<BarSymbol, Fault>
     requires { IsFitBars style }
-    ensures accepted { OnOk result (bars_refusal sheets.now style length (bars_of kind bytes.now more) ≡
+    ensures accepted { OnOk result (bars_refusal sheets.now style length (bars_of code bytes.now more) ≡
         None) }
     ensures refused { IfErr result
-        (λ fault. bars_refusal sheets.now style length (bars_of kind bytes.now more) ≡ Some fault) }
-    ensures image { IfOk result (λ b. bars_image sheets.now style (bars_of kind bytes.now more) ≡
+        (λ fault. bars_refusal sheets.now style length (bars_of code bytes.now more) ≡ Some fault) }
+    ensures image { IfOk result (λ b. bars_image sheets.now style (bars_of code bytes.now more) ≡
         Some (box_image (box_of sheets.now b))) }
     ensures some { IfOk result (λ b. 0 < box_height (box_of sheets.now b)) }
     ensures fits { IfOk result (λ b. box_width (box_of sheets.now b) ≤ length) }
 {
-    let bars = match bars_of(kind, bytes, more) {
+    let bars = match bars_of(code, bytes, more) {
         Ok(bars) => bars,
         Err(fault) => return Err(fault),
     };
@@ -132,7 +108,7 @@ pub fn bar_symbol(
         wide: (5 * u16::from(style.module_dots) + 1) / 2,
         height: u16::from(style.height),
         font: style.hri_font,
-        place: place_named(style.hri_position),
+        place: style.hri_position,
     };
     let (wide, _) = symbol.size(sheets);
     if wide > u32::from(length) {

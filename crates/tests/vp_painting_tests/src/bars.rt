@@ -3,7 +3,7 @@ use crate::checks::same;
 use crate::sheet::stairs;
 use std::process::Abort;
 use std::test::Fail;
-use vp_bars::{Bars, Place, code39, code128_esc, code128_zpl, ean13};
+use vp_bars::{Bars, HriPosition, code39, code128_esc, code128_zpl, ean13};
 use vp_dots::{Fault, Ink, Op, Why};
 use vp_glyph::{Font, Sheets};
 
@@ -283,7 +283,7 @@ static DRAWN: [Drawn; 4] = [
 fn bars_of(how: Made, src: &[u8], narrow: u16, wide: u16, sheets: &Sheets) -> [u8; 16] {
     let mut row = [0; 16];
     if let Ok(bars) = symbol_of(how, src) {
-        bars.boxed(narrow, wide, 1, sheets, Font::A, Place::None)
+        bars.boxed(narrow, wide, 1, sheets, Font::A, HriPosition::None)
             .paint_row(0, Op::Black, 0, &mut row);
     }
     row
@@ -307,12 +307,30 @@ fn bars_to_the_dot(rt: HostRuntime) {
 }
 
 /// A symbol's box: which text it has, in which font, and its size.
-type Sized = (Made, &'static [u8], u16, u16, u16, Font, Place, (u32, u32));
+type Sized = (
+    Made,
+    &'static [u8],
+    u16,
+    u16,
+    u16,
+    Font,
+    HriPosition,
+    (u32, u32),
+);
 
 static SIZED: [Sized; 5] = [
-    (Code39, b"3", 2, 5, 1, Font::A, Place::Below, (85, 25)),
-    (Code39, b"3", 2, 5, 1, Font::B, Place::Both, (85, 35)),
-    (Receipt, b"{C\x0c", 1, 1, 5, Font::A, Place::Above, (46, 29)),
+    (Code39, b"3", 2, 5, 1, Font::A, HriPosition::Below, (85, 25)),
+    (Code39, b"3", 2, 5, 1, Font::B, HriPosition::Both, (85, 35)),
+    (
+        Receipt,
+        b"{C\x0c",
+        1,
+        1,
+        5,
+        Font::A,
+        HriPosition::Above,
+        (46, 29),
+    ),
     (
         LabelPacked,
         b"1234567890",
@@ -320,7 +338,7 @@ static SIZED: [Sized; 5] = [
         1,
         5,
         Font::A,
-        Place::Above,
+        HriPosition::Above,
         (120, 29),
     ),
     (
@@ -330,7 +348,7 @@ static SIZED: [Sized; 5] = [
         1,
         5,
         Font::A,
-        Place::None,
+        HriPosition::None,
         (90, 5),
     ),
 ];
@@ -377,7 +395,7 @@ fn has_bars_and_text<I: Ink>(rt: &impl Abort, below: &I) {
 
 fn shows_a_three(rt: &impl Abort, sheets: &Sheets) {
     let bars = code39(b"3", false).expect(rt, "no symbol");
-    let below = bars.boxed(2, 5, 1, sheets, Font::A, Place::Below);
+    let below = bars.boxed(2, 5, 1, sheets, Font::A, HriPosition::Below);
     has_bars_and_text(rt, &below);
 }
 

@@ -1,10 +1,10 @@
 //! Bars.
 use super::{ONE, closes};
 use std::test::Fail;
-use vp_bars::Place;
-use vp_format::{BarCode, BarSymbol, Content};
+use vp_bars::{BarCode, Code128Data, HriPosition};
+use vp_format::{BarSymbol, Content};
 
-fn bars(code: BarCode, narrow: u16, wide: u16, height: u16, place: Place) -> Option<Content> {
+fn bars(code: BarCode, narrow: u16, wide: u16, height: u16, place: HriPosition) -> Option<Content> {
     Some(Content::Bars(BarSymbol {
         bytes: ONE,
         code,
@@ -18,49 +18,67 @@ fn bars(code: BarCode, narrow: u16, wide: u16, height: u16, place: Place) -> Opt
 const UNCHECKED: BarCode = BarCode::Code39 { check: false };
 
 /// Streams that close bars, their kind, their narrow and wide ones, their height and where their text stands.
-static BARS: [(&[u8], BarCode, u16, u16, u16, Place); 10] = [
-    (b"^XA^B3^FD1^FS", UNCHECKED, 2, 6, 10, Place::Below),
+static BARS: [(&[u8], BarCode, u16, u16, u16, HriPosition); 10] = [
+    (b"^XA^B3^FD1^FS", UNCHECKED, 2, 6, 10, HriPosition::Below),
     (
         b"^XA^B3,Y,,N,Y^FD1^FS",
         BarCode::Code39 { check: true },
         2,
         6,
         10,
-        Place::None,
+        HriPosition::None,
     ),
     (
         b"^XA^BE,50,Y,Y^FD1^FS",
-        BarCode::Ean13,
+        BarCode::Ean13 { padded: true },
         2,
         6,
         50,
-        Place::Above,
+        HriPosition::Above,
     ),
     (
         b"^XA^BC,9000,,,,A^FD1^FS",
-        BarCode::Code128 { auto: true },
+        BarCode::Code128 {
+            data: Code128Data::Packed,
+        },
         2,
         6,
         8000,
-        Place::Below,
+        HriPosition::Below,
     ),
     (
         b"^XA^BC,0,,,,N^FD1^FS",
-        BarCode::Code128 { auto: false },
+        BarCode::Code128 {
+            data: Code128Data::Invocations,
+        },
         2,
         6,
         1,
-        Place::Below,
+        HriPosition::Below,
     ),
-    (b"^XA^BY1,2.0,7^B3^FD1^FS", UNCHECKED, 1, 2, 7, Place::Below),
-    (b"^XA^BY3,2.5^B3^FD1^FS", UNCHECKED, 3, 7, 10, Place::Below),
+    (
+        b"^XA^BY1,2.0,7^B3^FD1^FS",
+        UNCHECKED,
+        1,
+        2,
+        7,
+        HriPosition::Below,
+    ),
+    (
+        b"^XA^BY3,2.5^B3^FD1^FS",
+        UNCHECKED,
+        3,
+        7,
+        10,
+        HriPosition::Below,
+    ),
     (
         b"^XA^BY20,9.9^B3^FD1^FS",
         UNCHECKED,
         10,
         30,
         10,
-        Place::Below,
+        HriPosition::Below,
     ),
     (
         b"^XA^B3^FD1^BY4,1.0,30^FS",
@@ -68,7 +86,7 @@ static BARS: [(&[u8], BarCode, u16, u16, u16, Place); 10] = [
         4,
         8,
         30,
-        Place::Below,
+        HriPosition::Below,
     ),
     (
         b"^XA^BY4,2.0,30^BY5^B3^FD1^FS",
@@ -76,7 +94,7 @@ static BARS: [(&[u8], BarCode, u16, u16, u16, Place); 10] = [
         5,
         15,
         10,
-        Place::Below,
+        HriPosition::Below,
     ),
 ];
 

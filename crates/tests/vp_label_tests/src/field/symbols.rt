@@ -7,10 +7,10 @@ use crate::checks::same;
 use crate::sheets::NONE;
 use std::alloc::Global;
 use std::test::Fail;
-use vp_bars::Place;
+use vp_bars::{BarCode, HriPosition};
 use vp_dots::{Fault, Op};
 use vp_field::content_size;
-use vp_format::{BarCode, BarSymbol, Content, Field, QrSymbol};
+use vp_format::{BarSymbol, Content, Field, QrSymbol};
 use vp_qr::{Level, Mode, encode};
 use vp_zpl::item::Orientation;
 
@@ -30,7 +30,7 @@ fn bars_of(orientation: Orientation, stored: &[u8]) -> Field
             narrow: 2,
             wide: 4,
             height: 1,
-            place: Place::None,
+            place: HriPosition::None,
         }),
     }
 }

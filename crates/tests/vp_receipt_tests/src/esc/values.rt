@@ -2,9 +2,10 @@
 use super::last_item;
 use crate::checks::same;
 use std::process::Abort;
+use vp_bar_code::{BarCode, Code128Data, HriPosition};
 use vp_esc::item::{
-    BarKind, CharacterFont, ColumnMode, Cut, HriPosition, Magnification, PrintDirection, QrLevel,
-    QrModel, RasterScale, Spelled, Underline,
+    CharacterFont, ColumnMode, Cut, Magnification, PrintDirection, QrLevel, QrModel, RasterScale,
+    Spelled, Underline,
 };
 use vp_esc::{EscItem, EscReader};
 use vp_glyph::Alignment;
@@ -191,19 +192,23 @@ fn symbol_in_words(item: &EscItem) -> &'static str {
     }
 }
 
-fn bar_code_in_words(kind: &Spelled<Option<BarKind>>) -> &'static str {
+fn bar_code_in_words(kind: &Spelled<Option<BarCode>>) -> &'static str {
     match kind {
         Spelled {
             byte: 2,
-            value: Some(BarKind::Ean13),
+            value: Some(BarCode::Ean13 { padded: false }),
         } => "2 for EAN-13",
         Spelled {
             byte: 69,
-            value: Some(BarKind::Code39),
+            value: Some(BarCode::Code39 { check: false }),
         } => "69 for Code 39",
         Spelled {
             byte: 73,
-            value: Some(BarKind::Code128),
+            value: Some(
+                BarCode::Code128 {
+                    data: Code128Data::Escapes,
+                },
+            ),
         } => "73 for Code 128",
         Spelled {
             byte: 65,

@@ -1,7 +1,7 @@
 use Rattle.std.proofs.Common.{◌≡◌, ℕ, List, [], ◌∷◌, ◌++◌, sym, ap, ◌∙◌, Ok}
 use Rattle.vp_bars.specs.Ean13.{check_of, with_check}
 use Rattle.vp_bars.specs.Symbols.{Linear}
-use Rattle.vp_bars.specs.declared.bars.Symbology.TheVariants.{Ean13}
+use Rattle.vp_bars.specs.declared.symbology.Symbology.TheVariants.{Ean13}
 use Rattle.vp_bars.proofs.Digits.{ean13_twelve}
 use Rattle.vp_bars.proofs.ean_13.ean13.Goals as goal
 

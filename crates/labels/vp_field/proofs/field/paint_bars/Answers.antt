@@ -4,7 +4,8 @@ use Rattle.vp_dots.specs.declared.fault.Fault.{Fault}
 use Rattle.vp_bars.specs.Symbols.{Linear}
 use Rattle.vp_glyph.specs.declared.Sheets.{Sheets}
 use Rattle.vp_format.specs.declared.field.BarSymbol.{BarSymbol}
-use Rattle.vp_field.specs.Contents.{bytes_of, symbol_of, bars_width, bars_height, bars_dot}
+use Rattle.vp_field.specs.Contents.{bytes_of, bars_width, bars_height, bars_dot}
+use Rattle.vp_bars.specs.Symbologies.{symbol_of}
 use Rattle.vp_field.specs.Standing.{standing}
 use Rattle.vp_field.specs.Views.{seen_x, seen_y}
 use Rattle.vp_field.specs.declared.standing.Standing.{Standing}

@@ -1,7 +1,7 @@
 use Rattle.std.proofs.Common.{List, ℕ, ◌∙◌, subst, length, refl}
 use Rattle.vp_receipt_settings.specs.Setup.{Setup}
 use Rattle.vp_esc.specs.declared.item.EscItem.{EscItem}
-use Rattle.vp_receipt_settings.specs.declared.page_mode.Mode.TheVariants.{Standard}
+use Rattle.vp_receipt_settings.specs.declared.page_mode.PrinterMode.TheVariants.{Standard}
 use Rattle.vp_receipt_settings.specs.Line.{height, line}
 use Rattle.vp_strips.specs.declared.canvas.Canvas.{Canvas}
 use Rattle.vp_strips.specs.declared.lines.Lines.{Lines}

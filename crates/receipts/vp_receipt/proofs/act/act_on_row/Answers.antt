@@ -1,6 +1,6 @@
 use Rattle.std.proofs.Common.{[], ◌∷◌, ◌++◌, refl, sym, ◌∙◌, subst, List, ℕ, length}
-use Rattle.vp_receipt_settings.specs.declared.page_mode.Mode.{Mode}
-use Rattle.vp_receipt_settings.specs.declared.page_mode.Mode.TheVariants.{Standard, Page}
+use Rattle.vp_receipt_settings.specs.declared.page_mode.PrinterMode.{PrinterMode}
+use Rattle.vp_receipt_settings.specs.declared.page_mode.PrinterMode.TheVariants.{Standard, Page}
 use Rattle.vp_esc.specs.declared.item.EscItem.TheVariants.{RasterByte}
 use Rattle.vp_receipt_settings.specs.Line.{line, height}
 use Rattle.vp_receipt.specs.PageMarks.{layers}
@@ -18,7 +18,7 @@ returns-in-Standard-clause-job c = c.row_job.ensures.job _
 
 pub returns-in-Standard-clause-page : goal.returns-in-Standard-clause-page
 returns-in-Standard-clause-page c = λ setup before byte e row page.
-    subst (λ (m : Mode). HasPageIf m (layers setup (RasterByte byte ∷ before)) c.args.canvas.now.page) (sym (mode_is setup before c.args.s.now Standard e c.in-Standard.is)) tt
+    subst (λ (m : PrinterMode). HasPageIf m (layers setup (RasterByte byte ∷ before)) c.args.canvas.now.page) (sym (mode_is setup before c.args.s.now Standard e c.in-Standard.is)) tt
 
 pub returns-in-Standard-clause-text : goal.returns-in-Standard-clause-text
 returns-in-Standard-clause-text c = λ setup before byte e row.
@@ -41,7 +41,7 @@ returns-in-Page-clause-page c = λ setup before byte e row page.
     let is = mode_is setup before c.args.s.now Page e c.in-Page.is in
     row_laid setup before byte _ row.ends
     (c.lay_raster_row.ensures setup before (row_so_far before ++ byte ∷ []) (layers setup before) e row.scale row.row
-    (subst (λ (m : Mode). HasPageIf m (layers setup before) c.args.canvas.now.page) is page))
+    (subst (λ (m : PrinterMode). HasPageIf m (layers setup before) c.args.canvas.now.page) is page))
 
 pub returns-in-Page-clause-text : goal.returns-in-Page-clause-text
 returns-in-Page-clause-text c = λ setup before byte e row.

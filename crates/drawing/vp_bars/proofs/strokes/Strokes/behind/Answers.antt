@@ -1,4 +1,4 @@
-use Rattle.vp_bars.specs.Widths.{size_of}
+use Rattle.vp_bars.specs.Symbologies.{size_of}
 use Rattle.vp_bars.proofs.WordBars.{turned_by}
 use Rattle.vp_bars.proofs.strokes.Strokes.behind.Goals as goal
 

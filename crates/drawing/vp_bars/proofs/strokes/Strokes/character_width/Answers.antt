@@ -1,5 +1,6 @@
 use Rattle.std.proofs.Common.{◌*◌, ap, sym, ◌∙◌}
-use Rattle.vp_bars.specs.Widths.{sized, pattern_of, total}
+use Rattle.vp_bars.specs.Symbologies.{pattern_of}
+use Rattle.vp_bars.specs.Widths.{sized, total}
 use Rattle.vp_bars.proofs.Bounds.{eleven_modules}
 use Rattle.vp_bars.proofs.strokes.Strokes.character_width.Goals as goal
 

@@ -1,6 +1,7 @@
 use Rattle.std.proofs.Common.{ap, arith}
 use Rattle.std.specs.List.{flat_map}
-use Rattle.vp_bars.specs.Widths.{sized, pattern_of, next_widths, widths_of, total}
+use Rattle.vp_bars.specs.Symbologies.{pattern_of}
+use Rattle.vp_bars.specs.Widths.{sized, next_widths, widths_of, total}
 use Rattle.vp_bars.proofs.Draws.{total-append}
 use Rattle.vp_bars.proofs.strokes.Strokes.characters_width.Goals as goal
 

@@ -1,7 +1,8 @@
 use Rattle.std.proofs.Common.{◌++◌, ap, ◌∙◌, sym, arith, w64}
 use Rattle.std.proofs.lemmas.Int.{to_z-of_z}
 use Rattle.std.specs.List.{flat_map}
-use Rattle.vp_bars.specs.Widths.{sized, pattern_of, next_widths, widths_of, total}
+use Rattle.vp_bars.specs.Symbologies.{pattern_of}
+use Rattle.vp_bars.specs.Widths.{sized, next_widths, widths_of, total}
 use Rattle.vp_bars.proofs.Draws.{total-append, draws_same, draws_then}
 use Rattle.vp_bars.proofs.strokes.Strokes.draw_characters.Goals as goal
 

@@ -1,7 +1,7 @@
 use Rattle.std.proofs.Common.{sym, arith, w64}
 use Rattle.std.proofs.lemmas.Int.{to_z-of_z}
 use Rattle.std.proofs.lemmas.List.{take_all}
-use Rattle.vp_bars.specs.Widths.{size_of}
+use Rattle.vp_bars.specs.Symbologies.{size_of}
 use Rattle.vp_bars.proofs.Draws.{draws_same, draws_then, map_more, map_room}
 use Rattle.vp_bars.proofs.strokes.Strokes.draw_each.Goals as goal
 

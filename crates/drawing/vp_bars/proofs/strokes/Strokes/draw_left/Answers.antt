@@ -1,7 +1,8 @@
 use Rattle.std.proofs.Common.{◌∙◌, ◌++◌, ap, sym, take, get_or, arith, w64}
 use Rattle.std.proofs.lemmas.Int.{to_z-of_z}
 use Rattle.vp_bars.specs.Elements.{left_elements, left_elements_of}
-use Rattle.vp_bars.specs.Widths.{sized, size_of}
+use Rattle.vp_bars.specs.Symbologies.{size_of}
+use Rattle.vp_bars.specs.Widths.{sized}
 use Rattle.vp_bars.proofs.Draws.{draws_same, draws_then, map_append}
 use Rattle.vp_bars.proofs.Halves.{left_more, left_room, left_all}
 use Rattle.vp_bars.proofs.strokes.Strokes.draw_left.Goals as goal

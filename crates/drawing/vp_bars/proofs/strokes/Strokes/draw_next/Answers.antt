@@ -1,7 +1,8 @@
 use Rattle.std.proofs.Common.{◌≡◌, ℕ, ◌++◌, List, ap, ◌∙◌, sym, get_or, arith, w64}
 use Rattle.std.proofs.lemmas.Int.{to_z-of_z}
 use Rattle.std.proofs.lemmas.List.{take_all}
-use Rattle.vp_bars.specs.Widths.{sized, gap_of, pattern_of, next_widths}
+use Rattle.vp_bars.specs.Symbologies.{gap_of, pattern_of}
+use Rattle.vp_bars.specs.Widths.{sized, next_widths}
 use Rattle.vp_bars.proofs.Draws.{total-append, draws_same, draws_then, flat_more, flat_room}
 use Rattle.vp_bars.proofs.strokes.Strokes.draw_next.Goals as goal
 

@@ -1,7 +1,8 @@
 use Rattle.std.proofs.Common.{ap, ◌∙◌, get_or, take, arith}
 use Rattle.std.proofs.lemmas.List.{take_all}
 use Rattle.std.specs.List.{flat_map}
-use Rattle.vp_bars.specs.Widths.{sized, gap_of, pattern_of, next_widths, total}
+use Rattle.vp_bars.specs.Symbologies.{gap_of, pattern_of}
+use Rattle.vp_bars.specs.Widths.{sized, next_widths, total}
 use Rattle.vp_bars.proofs.Draws.{total-append, flat_more, flat_room}
 use Rattle.vp_bars.proofs.strokes.Strokes.next_width.Goals as goal
 

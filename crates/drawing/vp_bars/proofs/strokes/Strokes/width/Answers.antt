@@ -1,6 +1,7 @@
 use Rattle.std.proofs.Common.{◌∷◌, [], ap, ◌∙◌, take, get_or, arith}
 use Rattle.std.proofs.lemmas.List.{take_all}
-use Rattle.vp_bars.specs.Widths.{size_of, sized, total}
+use Rattle.vp_bars.specs.Symbologies.{size_of}
+use Rattle.vp_bars.specs.Widths.{sized, total}
 use Rattle.vp_bars.proofs.Draws.{total-append, map_more, map_room}
 use Rattle.vp_bars.proofs.strokes.Strokes.width.Goals as goal
 

@@ -1,6 +1,6 @@
 use Rattle.std.proofs.Common.{arith}
 use Rattle.std.proofs.lemmas.List.{take_all}
-use Rattle.vp_bars.specs.Widths.{size_of}
+use Rattle.vp_bars.specs.Symbologies.{size_of}
 use Rattle.vp_bars.proofs.Draws.{map_more, map_room}
 use Rattle.vp_bars.proofs.WordBars.{marked_none, marked_more, marked_same}
 use Rattle.vp_bars.proofs.strokes.Strokes.word.Goals as goal

@@ -15,4 +15,4 @@ returns-in-Across-clause-across c o x v l m e =
     let line = c.first_line-in-Across in
     let fits : SFits w64 line.result = search (rules, line.ensures.low, line.ensures.high) in
     let place : 0 + x ≡ x = omega arith in
-    c.clamped-in-Across.ensures.above v (rw (to_z-of_z w64 line.result fits) (line.ensures.from x v l (ap (λ n. dot_on c.args.self.columns (pos n)) place ∙ e)))
+    c.clamped-in-Across.ensures.above v (rw (to_z-of_z w64 line.result fits) (line.ensures.from x v (rw c.from.ensures l) (ap (λ n. dot_on c.args.self.columns (pos n)) place ∙ e)))

@@ -3,7 +3,7 @@ use Rattle.vp_esc.specs.declared.item.EscItem.{EscItem}
 use Rattle.vp_esc.specs.declared.item.EscItem.TheVariants.{RasterByte}
 use Rattle.vp_page.specs.Layers.{Layer}
 use Rattle.vp_receipt_settings.specs.declared.effect.Effect.{Effect}
-use Rattle.vp_receipt_settings.specs.declared.page_mode.Mode.{Mode}
+use Rattle.vp_receipt_settings.specs.declared.page_mode.PrinterMode.{PrinterMode}
 use Rattle.vp_receipt_settings.specs.Effects.{effect_of}
 use Rattle.vp_receipt_settings.specs.Symbols.{IsStored}
 use Rattle.vp_receipt_settings.specs.Line.{mode, Placed}
@@ -30,7 +30,7 @@ returns-in-Nothing-clause-stands c = λ setup before h.
       stored = subst (IsStored r.stored) (sym same.stored) was.stored;
       line = subst (λ (placed : List Placed). Gathers r.canvas.sheets r.settings r.canvas.bitmap r.waiting placed) (sym same.line) was.line;
       page = subst (λ (l : List Layer). HasPageIf (mode setup (c.args.item.now ∷ before)) l r.canvas.page) (sym same.layers)
-          (subst (λ (m : Mode). HasPageIf m (layers setup before) r.canvas.page) (sym same.mode) was.page);
+          (subst (λ (m : PrinterMode). HasPageIf m (layers setup before) r.canvas.page) (sym same.mode) was.page);
       shows = shows_nothing setup _ _ before (c.args.item.now ∷ before) none was.shows;
       of_page = λ some. absurd (omega (arith, some, ap length none));
     }

@@ -9,8 +9,8 @@ use Rattle.vp_receipt.specs.Standing.{Printing, Gathers, ShowsLine, HasPageIf, S
 use Rattle.vp_receipt_settings.specs.Gathering.{IsGathering, run_of}
 use Rattle.vp_receipt_settings.specs.declared.raster.Raster.{Raster}
 use Rattle.vp_page.specs.Pages.{HasPage}
-use Rattle.vp_receipt_settings.specs.declared.page_mode.Mode.{Mode}
-use Rattle.vp_receipt_settings.specs.declared.page_mode.Mode.TheVariants.{Standard, Page}
+use Rattle.vp_receipt_settings.specs.declared.page_mode.PrinterMode.{PrinterMode}
+use Rattle.vp_receipt_settings.specs.declared.page_mode.PrinterMode.TheVariants.{Standard, Page}
 use Rattle.vp_receipt_settings.proofs.Runs.{run_inside, settings_stay, line_stays, stops_stay, data_stay}
 use Rattle.vp_receipt.proofs.PageLines.{mode_is, has_page}
 use Rattle.vp_receipt.proofs.PageRows.{nothing_printed, gathers_still}
@@ -21,8 +21,8 @@ use Rattle.vp_receipt.proofs.receipt.Receipt.apply_raster.Goals as goal
 pub invariant_of-self-in-Page : goal.invariant_of-self-in-Page
 invariant_of-self-in-Page c = record { fit = c.take_run.ensures.fit; raster = c.take_run.ensures.part; job = c.none-self-inside.ensures.job _ _; turned = c.none-self-inside.ensures.turned }
 
-few_in : (m n : Mode) (r : Raster) (long : ℕ) → m ≡ n → long ≤ run_of m r → long ≤ run_of n r
-few_in m n r long e h = subst (λ (k : Mode). long ≤ run_of k r) e h
+few_in : (m n : PrinterMode) (r : Raster) (long : ℕ) → m ≡ n → long ≤ run_of m r → long ≤ run_of n r
+few_in m n r long e h = subst (λ (k : PrinterMode). long ≤ run_of k r) e h
 
 pub returns-in-Standard-clause-prints : goal.returns-in-Standard-clause-prints
 returns-in-Standard-clause-prints c = λ setup before h. paper_stays setup c.args.self.now.raster c.args.bytes.now before (few_in _ Standard c.args.self.now.raster _ (ap (λ (p : Printing). p.settings.page.mode) (sym c.self.view_is) ∙ c.in-Standard.is) c.requires.few) h.raster
@@ -57,7 +57,7 @@ returns-in-Page-clause-stands c = λ setup before h.
     let after = bytes_after bytes before in
     let r = c.self.inside in
     let is = mode_is setup before r.settings Page was.settings c.in-Page.is in
-    let page : HasPage (layers setup before) r.canvas.page = subst (λ (m : Mode). HasPageIf m (layers setup before) r.canvas.page) is was.page in
+    let page : HasPage (layers setup before) r.canvas.page = subst (λ (m : PrinterMode). HasPageIf m (layers setup before) r.canvas.page) is was.page in
     let on : IsOnPage setup before r.settings r.raster r.canvas.page = record { settings = was.settings; raster = was.raster; page = page } in
     let now = c.take_run.ensures.on_page setup before on in
     let none = c.none-self-inside.ensures.text (record r.canvas { page = c.take_run.new.page }) in

@@ -1,7 +1,7 @@
 use Rattle.std.proofs.Common.{◌≡◌, ◌<◌, length, List, [], ap, sym, ◌∙◌, subst, arith}
 use Rattle.std.proofs.lemmas.Bool.Decides.{nat_tests}
 use Rattle.vp_page.specs.Layers.{Layer}
-use Rattle.vp_receipt_settings.specs.declared.page_mode.Mode.{Mode}
+use Rattle.vp_receipt_settings.specs.declared.page_mode.PrinterMode.{PrinterMode}
 use Rattle.vp_receipt_settings.specs.Symbols.{IsStored}
 use Rattle.vp_receipt_settings.specs.Line.{line, mode}
 use Rattle.vp_receipt_settings.specs.Runs.{text_after}
@@ -43,7 +43,7 @@ returns-clause-stands c = λ setup before h.
       stored = subst (IsStored r.stored) (sym alone.stored) was.stored;
       line = c.put_text.ensures.line setup before was.settings was.sheets (c.settle.ensures (line setup before) was.line);
       page = subst (λ (l : List Layer). HasPageIf (mode setup (text_after text before)) l r.canvas.page) (sym alone.layers)
-          (subst (λ (m : Mode). HasPageIf m (layers setup before) r.canvas.page) (sym alone.mode) was.page);
+          (subst (λ (m : PrinterMode). HasPageIf m (layers setup before) r.canvas.page) (sym alone.mode) was.page);
       shows = nothing_shown setup _ _ (text_after text before) (λ high others. shows_done r.job _ high others place c.self.invariant.turned);
       of_page = λ left. absurd (omega (arith, left, ap length none));
     }

@@ -4,8 +4,8 @@ use Rattle.vp_page.specs.Layers.{Layer}
 use Rattle.vp_glyph.specs.declared.Sheets.{Sheets}
 use Rattle.vp_receipt_settings.specs.declared.settings.Settings.{Settings}
 use Rattle.vp_receipt_settings.specs.Symbols.{IsStored, qr_data}
-use Rattle.vp_receipt_settings.specs.declared.page_mode.Mode.{Mode}
-use Rattle.vp_receipt_settings.specs.declared.page_mode.Mode.TheVariants.{Standard, Page}
+use Rattle.vp_receipt_settings.specs.declared.page_mode.PrinterMode.{PrinterMode}
+use Rattle.vp_receipt_settings.specs.declared.page_mode.PrinterMode.TheVariants.{Standard, Page}
 use Rattle.vp_receipt_settings.specs.Pages.{is_paged}
 use Rattle.vp_strips.specs.declared.canvas.Canvas.{Canvas}
 use Rattle.vp_receipt_settings.specs.declared.text.Text.{Text}
@@ -23,7 +23,7 @@ use Rattle.vp_receipt.proofs.receipt.Receipt.fill.Goals as goal
 pub invariant_of-self : goal.invariant_of-self
 invariant_of-self c = record { fit = c.after_row-self-inside.ensures.fit; raster = c.take.ensures.part; job = c.act_on_row-self-inside.ensures.job _; turned = c.act_on_row-self-inside.ensures.turned }
 
-row_of_no_page : (m : Mode) → false ≡ is_paged m && false
+row_of_no_page : (m : PrinterMode) → false ≡ is_paged m && false
 row_of_no_page Standard = refl
 row_of_no_page Page = refl
 

@@ -2,7 +2,7 @@ use Rattle.std.proofs.Common.{◌≤◌, length, ap, sym, ◌∙◌, subst, arit
 use Rattle.std.proofs.lemmas.List.{append-nil}
 use Rattle.vp_receipt_settings.specs.Symbols.{IsStored}
 use Rattle.vp_receipt_settings.specs.Rasters.{bytes_after}
-use Rattle.vp_receipt_settings.specs.declared.page_mode.Mode.TheVariants.{Standard}
+use Rattle.vp_receipt_settings.specs.declared.page_mode.PrinterMode.TheVariants.{Standard}
 use Rattle.vp_receipt_settings.proofs.Runs.{stops_stay, data_stay}
 use Rattle.vp_receipt.specs.Plain.{is_plain, rows_room, rows_put}
 use Rattle.vp_receipt.specs.Printer.{printing_of}

@@ -1,0 +1,37 @@
+//! The bar codes that a command may ask for, and where their text stands.
+//!
+//! Who reads commands and who draws symbols know no more of each other than this.
+#![tactic(auto)]
+
+/// A linear bar code, and how its data are read.
+#[derive(Clone, Copy, Debug, PartialEq, Eq)]
+pub enum BarCode {
+    /// Code 39 (ISO/IEC 16388), with its check character or without.
+    Code39 { check: bool },
+    /// EAN-13 (ISO/IEC 15420), of 12 or 13 digits, or padded to 12 with zeros on the left.
+    Ean13 { padded: bool },
+    /// Code 128 (ISO/IEC 15417).
+    Code128 { data: Code128Data },
+}
+
+/// How data name the code sets of Code 128.
+#[derive(Clone, Copy, Debug, PartialEq, Eq)]
+pub enum Code128Data {
+    /// By `{` and a letter, as in GS k.
+    Escapes,
+    /// By `>` and a byte, as in ^BC.
+    Invocations,
+    /// They don't: runs of digits are packed, as in ^BC's mode A.
+    Packed,
+}
+
+/// Where the text of a symbol stands (HRI, human-readable interpretation).
+#[derive(Clone, Copy, Debug, PartialEq, Eq)]
+pub enum HriPosition {
+    /// There is no text.
+    None,
+    Above,
+    Below,
+    /// Above and below.
+    Both,
+}

@@ -1,0 +1,50 @@
+-- What differs from one kind of symbol to another: which data have one, its elements, and its text.
+use Rattle.std.specs.Prelude.{ℕ, ◌*◌, ◌==◌, true, false, List, [], ◌∷◌, Result, if◌then◌else◌}
+use Rattle.vp_dots.specs.declared.fault.Fault.{Fault}
+use Rattle.vp_bars.specs.declared.symbology.Symbology.{Symbology}
+use Rattle.vp_bars.specs.declared.symbology.Symbology.TheVariants.{Code39, Ean13, Code128}
+use Rattle.vp_bar_code.specs.declared.BarCode.{BarCode}
+use Rattle.vp_bar_code.specs.declared.BarCode.TheVariants as codes
+use Rattle.vp_bar_code.specs.declared.Code128Data.TheVariants.{Escapes, Invocations, Packed}
+use Rattle.vp_bars.specs.Symbols.{Linear}
+use Rattle.vp_bars.specs.Code39.{code39_of}
+use Rattle.vp_bars.specs.Ean13.{ean13_of}
+use Rattle.vp_bars.specs.Escapes.{code128_esc_of}
+use Rattle.vp_bars.specs.Packing.{code128_zpl_of}
+use Rattle.vp_bars.specs.Texts.{characters, shown_by}
+use Rattle.vp_bars.specs.Patterns.{code39_pattern, code128_pattern}
+use Rattle.vp_bars.specs.Elements.{set_a_elements}
+
+-- the symbol of the data of a bar code, or why there is none
+abbrev pub symbol_of : BarCode → List ℕ → Result Linear Fault
+symbol_of (codes.Code39 check) bytes = code39_of bytes check
+symbol_of (codes.Ean13 padded) bytes = ean13_of bytes padded
+symbol_of (codes.Code128 Escapes) bytes = code128_esc_of bytes
+symbol_of (codes.Code128 Invocations) bytes = code128_zpl_of bytes false
+symbol_of (codes.Code128 Packed) bytes = code128_zpl_of bytes true
+
+-- the elements of a character
+abbrev pub pattern_of : Symbology → ℕ → List ℕ
+pattern_of Code39 v = code39_pattern v
+pattern_of Ean13 v = set_a_elements v
+pattern_of Code128 v = code128_pattern v
+
+-- the elements between two characters: a narrow gap in Code 39
+abbrev pub gap_of : Symbology → List ℕ
+gap_of Code39 = 0 ∷ []
+gap_of _ = []
+
+-- how wide an element is in dots: Code 39 has narrow and wide ones, Code 128 and EAN-13 have them of one to
+-- four modules
+abbrev pub size_of : Symbology → ℕ → ℕ → ℕ → ℕ
+size_of Code39 narrow wide e = if e == 1 then wide else narrow
+size_of _ narrow wide e = e * narrow
+
+abbrev pub text_of_values : Symbology → List ℕ → List ℕ
+text_of_values Code39 vs = characters vs
+text_of_values Ean13 vs = characters vs
+text_of_values Code128 vs = shown_by vs
+
+-- the text of a symbol: data and check of Code 39, thirteen digits, or what the data of Code 128 show
+unfoldable pub text_of : Linear → List ℕ
+text_of bars = text_of_values bars.symbology bars.values

@@ -1,0 +1,90 @@
+//! The kinds of symbols, and all in which one is drawn otherwise than another.
+
+ghost use Rattle.std.specs.Prelude.{◌≡◌, ◌≤◌, length};
+ghost use Rattle.vp_bars.specs.Symbologies.{symbol_of, pattern_of as pattern_for, gap_of as gap_for, size_of as size_for, text_of_values};
+
+use crate::bars::Bars;
+use crate::code_39::code39;
+use crate::ean_13::ean13;
+use crate::escapes::code128_esc;
+use crate::packing::code128_zpl;
+use crate::patterns::{code39_pattern, code128_pattern, set_a};
+use crate::text::{characters, shown_data};
+use arrayvec::ArrayVec;
+use vp_bar_code::{BarCode, Code128Data};
+use vp_dots::Fault;
+
+/// The kinds of linear symbols.
+#[derive(Clone, Copy, Debug, PartialEq, Eq)]
+pub enum Symbology {
+    /// ISO/IEC 16388.
+    Code39,
+    /// ISO/IEC 15420.
+    Ean13,
+    /// ISO/IEC 15417.
+    Code128,
+}
+
+/// The symbol of the data of a bar code, or why there is none, as `code39`, `ean13`, `code128_esc` and
+/// `code128_zpl` say.
+pub fn linear(code: BarCode, bytes: &[u8]) -> Result<Bars, Fault>
+    ensures { result ≡ symbol_of code bytes.now }
+{
+    match code {
+        BarCode::Code39 { check } => code39(bytes, check),
+        BarCode::Ean13 { padded } => ean13(bytes, padded),
+        BarCode::Code128 {
+            data: Code128Data::Escapes,
+        } => code128_esc(bytes),
+        BarCode::Code128 {
+            data: Code128Data::Invocations,
+        } => code128_zpl(bytes, false),
+        BarCode::Code128 {
+            data: Code128Data::Packed,
+        } => code128_zpl(bytes, true),
+    }
+}
+
+/// The elements of a character.
+pub(crate) fn pattern_of(symbology: Symbology, v: u8) -> &'static [u8]
+    ensures { result.now ≡ pattern_for symbology v }
+{
+    match symbology {
+        Symbology::Code39 => code39_pattern(v),
+        Symbology::Ean13 => set_a(v),
+        Symbology::Code128 => code128_pattern(v),
+    }
+}
+
+/// The elements between two characters.
+pub(crate) fn gap_of(symbology: Symbology) -> &'static [u8]
+    ensures { result.now ≡ gap_for symbology }
+{
+    match symbology {
+        Symbology::Code39 => &[0],
+        _ => &[],
+    }
+}
+
+/// How wide an element is.
+#[inline(always)]
+pub(crate) fn size_of(symbology: Symbology, narrow: u16, wide: u16, element: u8) -> u32
+    ensures { result ≡ size_for symbology narrow wide element }
+{
+    match symbology {
+        Symbology::Code39 if element == 1 => u32::from(wide),
+        Symbology::Code39 => u32::from(narrow),
+        Symbology::Ean13 | Symbology::Code128 => u32::from(element) * u32::from(narrow),
+    }
+}
+
+/// What values show.
+pub(crate) fn text_of(symbology: Symbology, values: &[u8]) -> ArrayVec<u8, 512>
+    requires { length values.now ≤ 258 }
+    ensures { result.items ≡ text_of_values symbology values.now }
+{
+    match symbology {
+        Symbology::Code39 | Symbology::Ean13 => characters(values),
+        Symbology::Code128 => shown_data(values),
+    }
+}
