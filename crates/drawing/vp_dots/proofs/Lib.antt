@@ -17,3 +17,4 @@ pub mod Swaps
 pub mod Heights
 pub mod Columns
 pub mod Squares
+pub mod EndForEnd

@@ -18,13 +18,13 @@ row_from (suc n) f at = packed 8 f at ∷ row_from n f (at + 8)
 abbrev pub row_of : ℕ → (ℕ → Bool) → List ℕ
 row_of n f = row_from n f 0
 
--- an image: so many dots wide and high, and which of its places are black
+-- an image: `width` dots wide and `height` rows high, and which of its places are black
 pub record Image : Type 0 where
   pub width : ℕ
   pub height : ℕ
   pub is_black : ℕ → ℕ → Bool
 
--- how many bytes hold a row of so many dots
+-- how many bytes hold a row of `width` dots
 abbrev pub row_bytes : ℕ → ℕ
 row_bytes width = (width + 7) / 8
 

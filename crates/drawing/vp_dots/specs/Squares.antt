@@ -2,7 +2,7 @@
 use Rattle.std.specs.Prelude.{ℕ, ◌+◌, ◌-◌, ◌*◌, ◌/◌, ◌%◌, Bool, if◌then◌else◌}
 
 -- In a step of a turn two rows become two, 32 apart before and side by side after it: the left parts of both,
--- and the right parts of both, a part being so many dots wide.
+-- and the right parts of both, a part being `wide` dots wide.
 
 -- the row from which a dot of row y comes, by whether it is in a left part
 abbrev pub row_from : Bool → ℕ → ℕ

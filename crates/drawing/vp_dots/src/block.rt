@@ -49,8 +49,8 @@ fn block_at<const N: usize>(lines: &[[u8; N]; 8], j: usize) -> u64
     ])
 }
 
-/// Paints so many rows of a block, from row `skip` of it on, with their left at
-/// a column and the first on row `top`.
+/// Paints `rows` rows of a block, from row `skip` of it on, with their left at column `left` and the first on
+/// row `top`.
 #[inline(always)]
 fn lay_block_rows<const B: usize, const H: usize>(
     op: Op,

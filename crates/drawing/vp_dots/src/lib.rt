@@ -7,7 +7,7 @@
 //!
 //! - `single`: one dot, and rows painted dot by dot, which is how the faster painters are tested.
 //! - `span`: all dots from one to another.
-//! - `kernel`: the dots of one row on another, moved by any offset.
+//! - `kernel`: the dots of one row on another, moved by any offset. `reversed`: a row turned end for end.
 //! - `word`: 64 dots at once, cut out of a row and painted on one.
 //! - `block`: eight by eight dots in a word, and eight lines laid across the rows of a band.
 //! - `square`: 64 by 64 dots in 64 words, rows and columns exchanged.
@@ -30,6 +30,7 @@ mod image;
 mod kernel;
 mod listing;
 mod place;
+mod reversed;
 mod single;
 mod span;
 mod square;
@@ -44,6 +45,7 @@ pub use image::{dots_decide, header, image_law, row_law};
 pub use kernel::{clear_into, or_into, paint_into, painted_law, shift_law, xor_into};
 pub use listing::{list, spell};
 pub use place::{paint_at, paint_words};
+pub use reversed::reverse;
 pub use single::{dot_of, paint_bits, paint_dot};
 pub use span::{fill_dots, fill_moved};
 pub use square::{SIDE, turned_square};

@@ -60,7 +60,7 @@ fn paint_lines<I: Ink, const B: usize, const H: usize>(
     }
 }
 
-/// The row on which so many lines begin, where the band has a row for each.
+/// Row `top`, on which `h` lines begin, where the `rows` rows of the band have one for each.
 fn row_for(top: i64, h: u32, rows: usize) -> Option<usize>
     ensures { MatchOption result (Unit {0}) (λ row. (top ≡ pos row) × (row + h ≤ rows)) }
 {
@@ -69,7 +69,7 @@ fn row_for(top: i64, h: u32, rows: usize) -> Option<usize>
     if below <= rows { Some(row) } else { None }
 }
 
-/// Paints so many words, one on each row from `top` on.
+/// Paints the first `h` words, one on each row from `top` on.
 #[inline(always)]
 fn paint_words_by<const B: usize, const H: usize>(
     op: Op,

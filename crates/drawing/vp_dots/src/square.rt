@@ -6,7 +6,7 @@ ghost use Rattle.vp_dots.specs.Squares.{row_from, column_from};
 /// The rows of a square, and its columns.
 pub const SIDE: usize = 64;
 
-/// The left parts of two rows, so many dots wide: those of the lower row on the right of the upper one's.
+/// The left parts of two rows, `wide` dots wide: those of the lower row on the right of the upper one's.
 #[inline(always)]
 fn left_parts(upper: u64, lower: u64, wide: u32, left: u64) -> u64
     requires wide { wide < 64 }

@@ -11,7 +11,7 @@ use crate::single::painted_byte;
 use crate::span::paint_masked;
 use std::simd::u8x8;
 
-/// Eight bytes have room for a row of so many dots wherever it begins.
+/// The most dots of a row for which eight bytes have room wherever it begins.
 pub const NARROW: u32 = 57;
 
 /// The word with the operation applied where the ink is black.

@@ -1,6 +1,5 @@
 pub mod Places
 pub mod Turns
-pub mod Bytes
 pub mod OnWhite
 pub mod Columns
 pub mod Alike

@@ -1,31 +1,14 @@
--- Lines of dots, drawn on white and turned end for end.
-use Rattle.std.proofs.Common.{inl, inr, ◌≡◌, ℕ, ◌+◌, ◌-◌, ◌*◌, ◌/◌, ◌%◌, ◌<◌, Bool, true, false, cond, eqb, ltb, ◌&&◌, refl, ap, ◌∙◌, arith, List, length, get_or, replicate, reverse, ℤ, pos, neg_ℤ, ◌-ℤ◌}
-use Rattle.std.specs.Int.{reverse_bits_onto}
+-- Lines of dots, drawn on white.
+use Rattle.std.proofs.Common.{◌≡◌, ℕ, ◌+◌, ◌-◌, ◌*◌, ◌/◌, ◌%◌, ◌<◌, Bool, true, false, cond, eqb, ltb, ◌&&◌, refl, ap, ◌∙◌, arith, List, length, get_or, replicate, ℤ, pos, neg_ℤ, ◌-ℤ◌}
 use Rattle.std.proofs.lemmas.Int.{ints}
-use Rattle.std.proofs.lemmas.List.{get_or-reverse, get_or-replicate, length-replicate}
+use Rattle.std.proofs.lemmas.List.{get_or-replicate, length-replicate}
 use Rattle.std.proofs.lemmas.Nat.Bits.{bit_at-zero}
-use Rattle.std.proofs.lemmas.Bool.{cases_lt, lt-ltb, le-ltb}
+use Rattle.std.proofs.lemmas.Bool.{lt-ltb}
 use Rattle.vp_dots.specs.Dots.{bit, dot, shifted}
 use Rattle.vp_dots.specs.Painting.{Painted}
 use Rattle.vp_dots.specs.declared.Op.TheVariants.{Black}
-use Rattle.vp_dots.proofs.Rows.{dot_past}
 use Rattle.vp_field.specs.Places.{at_place}
-use Rattle.vp_field.proofs.Bytes.{bit_reversed}
 use Rattle.vp_field.proofs.Places.{shifted_at}
-
--- bytes in the other order, each reversed
-pub turned : (old new : List ℕ) → length new ≡ length old → ((i : ℕ) → i < length old → get_or new i 0 ≡ reverse_bits_onto 8 (get_or (reverse old) i 0) 0)
-    → (d : ℕ) → dot new d ≡ (ltb d (8 * length old) && dot old (8 * length old - 1 - d))
-unfolding dot
-turned old new e h d = elim (cases_lt d (8 * length old)) [
-  | inl l ↦
-      let i : d / 8 < length old = omega arith in
-      let q : (8 * length old - 1 - d) / 8 ≡ length old - 1 - d / 8 = omega arith in
-      let r : 7 - (8 * length old - 1 - d) % 8 ≡ 7 - (7 - d % 8) = omega arith in
-      rw (lt-ltb d (8 * length old) l, q, r) (ap (λ n. bit n (7 - d % 8)) (h (d / 8) i) ∙ bit_reversed (get_or (reverse old) (d / 8) 0) (7 - d % 8) (omega arith)
-      ∙ ap (λ n. bit n (7 - (7 - d % 8))) (get_or-reverse old (d / 8) 0 i))
-  | inr g ↦ rw (le-ltb d (8 * length old) g) (dot_past new d (omega arith))
-]
 
 pub dot_white : (n x : ℕ) → x / 8 < n → dot (replicate n 0) x ≡ false
 unfolding dot bit

@@ -1,24 +1,12 @@
 //! One line of ink, drawn along the places of a row or a column, and painted on a row.
-ghost use Rattle.std.specs.Prelude.{◌≡◌, ℕ, ◌+◌, ◌-◌, ◌*◌, ◌^◌, ◌<◌, ◌≤◌, ◌&&◌, ℤ, pos, ◌-ℤ◌, neg_ℤ, ◌≤ℤ◌, nat_lt, length};
-ghost use Rattle.vp_dots.specs.Dots.{dot, dots};
+ghost use Rattle.std.specs.Prelude.{◌≡◌, ℕ, ◌+◌, ◌-◌, ◌*◌, ◌^◌, ◌<◌, ◌≤◌, ℤ, pos, ◌-ℤ◌, neg_ℤ, ◌≤ℤ◌, length};
+ghost use Rattle.vp_dots.specs.Dots.{dot};
 ghost use Rattle.vp_dots.specs.Painting.{Painted};
 ghost use Rattle.vp_field.specs.Places.{at_place};
 ghost use Rattle.vp_field.specs.Axes.{dot_on, IsWithin};
 
 use crate::axis::Axis;
-use vp_dots::{Ink, Op, paint_into};
-
-/// Turns a row of dots end for end.
-fn reverse(line: &mut [u8])
-    ensures len { length line.new ≡ length line.old }
-    ensures turned { (d : ℕ) → dot line.new d ≡ (nat_lt d (dots line.old)
-        && dot line.old (dots line.old - 1 - d)) }
-{
-    line.reverse();
-    for byte in line.iter_mut() {
-        *byte = byte.reverse_bits();
-    }
-}
+use vp_dots::{Ink, Op, paint_into, reverse};
 
 /// The offset of a line that begins at a place, on a row that begins at another.
 fn offset(at: i64, from: u32) -> i64
@@ -40,7 +28,7 @@ fn offset_from_end(at: i64, from: u32, bytes: usize) -> i64
     i64::from(from) - 1 - at + 8 * bytes as i64
 }
 
-/// The offset by which a line that lies so is drawn on the places of so many bytes from one on.
+/// The offset at which a line on `axis` is drawn on the places of `bytes` bytes from place `from` on.
 pub fn drawn_at(axis: Axis, from: u32, bytes: usize) -> i64
     requires near { IsWithin (2 ^ 41) axis }
     requires few { bytes ≤ 156 }

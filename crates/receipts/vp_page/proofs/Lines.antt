@@ -1,8 +1,7 @@
 -- Lines of dots that are cut and turned.
-use Rattle.std.proofs.Common.{inl, inr, ◌≡◌, ℕ, ◌+◌, ◌-◌, ◌*◌, ◌/◌, ◌%◌, ◌<◌, ◌≤◌, Bool, true, false, cond, eqb, ltb, leb, ◌&&◌, ◌||◌, refl, sym, ap, ◌∙◌, arith, List, [], ◌∷◌, length, get_or, set, replicate, reverse, ℤ, pos, ◌+ℤ◌}
-use Rattle.std.specs.Int.{reverse_bits_onto}
+use Rattle.std.proofs.Common.{inl, inr, ◌≡◌, ℕ, ◌+◌, ◌-◌, ◌*◌, ◌/◌, ◌%◌, ◌<◌, ◌≤◌, Bool, true, false, cond, eqb, ltb, leb, ◌&&◌, ◌||◌, refl, sym, ap, ◌∙◌, arith, List, [], ◌∷◌, length, get_or, set, replicate, ℤ, pos, ◌+ℤ◌}
 use Rattle.std.proofs.lemmas.Int.{ints}
-use Rattle.std.proofs.lemmas.List.{get_or-reverse, length-replicate}
+use Rattle.std.proofs.lemmas.List.{length-replicate}
 use Rattle.std.proofs.lemmas.Bool.{cases_lt, false_from_ne_true, lt-ltb, le-ltb, lt-leb, le-leb}
 use Rattle.std.proofs.lemmas.Bool.Decides.{nat_tests}
 use Rattle.vp_dots.specs.Dots.{bit, dot, shifted, span}
@@ -12,7 +11,6 @@ use Rattle.vp_dots.specs.declared.Op.TheVariants.{Black, White}
 use Rattle.vp_dots.proofs.Paints.{painted_same}
 use Rattle.vp_dots.proofs.Placing.{rows_more}
 use Rattle.vp_page.proofs.Blank.{dot_white}
-use Rattle.vp_page.proofs.Bytes.{bit_reversed}
 use Rattle.vp_page.proofs.Rows.{dot_past, dot_zero, met, rows_same}
 
 white_past : (end n d : ℕ) (b : Bool) → d < n → cond (leb end d && ltb d n) false b ≡ (ltb d end && b)
@@ -28,20 +26,6 @@ pub clipped : (row new : List ℕ) (end : ℕ) → Painted White (span end (8 * 
 clipped row new end p d = elim (cases_lt d (8 * length row)) [
   | inl l ↦ p.dots_are d l ∙ white_past end (8 * length row) d (dot row d) l
   | inr g ↦ dot_past new d (let e = p.length_is in omega arith) ∙ none_and (ltb d end) (dot row d) (dot_past row d (omega arith))
-]
-
--- bytes in the other order, each reversed
-pub turned : (old new : List ℕ) → length new ≡ length old → ((i : ℕ) → i < length old → get_or new i 0 ≡ reverse_bits_onto 8 (get_or (reverse old) i 0) 0)
-    → (d : ℕ) → dot new d ≡ (ltb d (8 * length old) && dot old (8 * length old - 1 - d))
-unfolding dot
-turned old new e h d = elim (cases_lt d (8 * length old)) [
-  | inl l ↦
-      let i : d / 8 < length old = omega arith in
-      let q : (8 * length old - 1 - d) / 8 ≡ length old - 1 - d / 8 = omega arith in
-      let r : 7 - (8 * length old - 1 - d) % 8 ≡ 7 - (7 - d % 8) = omega arith in
-      rw (lt-ltb d (8 * length old) l, q, r) (ap (λ n. bit n (7 - d % 8)) (h (d / 8) i) ∙ bit_reversed (get_or (reverse old) (d / 8) 0) (7 - d % 8) (omega arith)
-      ∙ ap (λ n. bit n (7 - (7 - d % 8))) (get_or-reverse old (d / 8) 0 i))
-  | inr g ↦ rw (le-ltb d (8 * length old) g) (dot_past new d (omega arith))
 ]
 
 -- a row of n dots, turned, that ends before a place

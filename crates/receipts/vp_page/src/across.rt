@@ -17,7 +17,7 @@ use vp_dots::{SIDE, eight_at, turned_square, word_at};
 /// How many lines are laid at once.
 pub const AT_ONCE: usize = SIDE;
 
-/// So many lines, each as long as the longest one.
+/// `AT_ONCE` lines, each as long as the longest one.
 pub(crate) type Lines = [[u8; LINE_BYTES]; AT_ONCE];
 
 /// The 64 dots of a line from one on, which mostly are whole bytes of it.

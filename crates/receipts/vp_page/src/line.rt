@@ -11,7 +11,7 @@ ghost use Rattle.vp_page.specs.Areas.{holds};
 use crate::Area;
 use crate::page::{PAGE_ROWS, PageBand};
 use crate::words::or_line;
-use vp_dots::{Ink, Op, fill_dots, lay_eight};
+use vp_dots::{Ink, Op, fill_dots, lay_eight, reverse};
 
 /// The bytes of the longest line of a page: one across its rows.
 pub const LINE_BYTES: usize = 208;
@@ -27,18 +27,6 @@ pub(crate) fn draw<I: Ink>(ink: &I, y: u32, row: &mut [u8])
 {
     row.fill(0);
     ink.paint_row(y, Op::Black, 0, row);
-}
-
-/// Turns a row of dots end for end.
-fn reverse(line: &mut [u8])
-    ensures len { length line.new ≡ length line.old }
-    ensures turned { (d : ℕ) → dot line.new d ≡
-        (nat_lt d (dots line.old) && dot line.old (dots line.old - 1 - d)) }
-{
-    line.reverse();
-    for byte in line.iter_mut() {
-        *byte = byte.reverse_bits();
-    }
 }
 
 /// Copies the dots of a row that stand before a place; the others become white.
@@ -65,7 +53,7 @@ fn clip_reversed(row: &[u8], end: u16, line: &mut [u8])
     reverse(line);
 }
 
-/// Where a line of so many bytes begins that ends before a place.
+/// Where a line of `bytes` bytes begins that ends before place `end`.
 pub(crate) fn start_of(end: u32, bytes: usize) -> i64
     requires { bytes ≤ LINE_BYTES }
     ensures { result +ℤ pos (8 * bytes) ≡ pos end }
@@ -120,7 +108,7 @@ fn lay_dot(byte: u8, n: usize, x: usize, row: &mut [u8])
     }
 }
 
-/// Blackens column x of so many rows of the page where the byte, its dot `skip` on row `top`, is black.
+/// Blackens column `x` of `rows` rows of the page where the byte, its dot `skip` on row `top`, is black.
 #[inline(always)]
 fn lay_rows(byte: u8, skip: usize, top: usize, rows: usize, x: usize, band: &mut PageBand)
     requires dots { rows ≤ 8 - skip }
