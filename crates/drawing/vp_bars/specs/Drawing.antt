@@ -11,7 +11,7 @@ pub record Drawn (op : Op) (at : ℤ) (f : ℕ → Bool) (old new : List ℕ) (x
   pub done : Painted op (shifted at (λ i. nat_lt i x && f i)) old new
   pub left : (i : ℕ) → x ≤ i → f i ≡ g (i - x)
 
--- whether a bar comes behind so many bars and spaces in turn, the first one being a bar or not
+-- whether a bar comes behind bars and spaces in turn, one for each width, the first one being a bar or not
 abbrev pub turned : Bool → List ℕ → Bool
 turned bar [] = bar
 turned bar (w ∷ ws) = turned (not bar) ws

@@ -68,13 +68,13 @@ StandIn cells (line ∷ rest) = (behind : List ℕ) × ((cells ≡ line ++ behin
 unfoldable pub block_lines : ℕ → List ℕ → List (List ℕ)
 block_lines n text = flat_map (lines n) (paragraphs (pieces text))
 
--- the rows from the top of a line to that of the next, with so many rows between the lines, or fewer than
--- none
+-- the rows from the top of a line of `h` rows to that of the next, with this number of rows between them, or
+-- fewer than none
 abbrev pub pitch : ℕ → ℤ → ℕ
 pitch h (pos c) = h + c
 pitch h (negsuc c) = h - (c + 1)
 
--- how far a line is moved to the right in a block that has so much room beside it
+-- how far a line is moved to the right in a block that has `room` dots beside it
 abbrev pub indent : Alignment → ℕ → ℕ
 indent Left room = 0
 indent Centre room = room / 2
@@ -87,7 +87,7 @@ block_width a w = max a w
 abbrev pub block_height : ℕ → ℕ → ℕ → ℕ
 block_height h b s = h + (b - 1) * s
 
--- dot (x, y) of a line that stands so many lines below the first, in a block of a dots
+-- dot (x, y) of a line that stands `place` lines below the first, in a block of a dots
 abbrev pub line_dot : Option Glyphs → ℕ → ℕ → ℕ → ℕ → Alignment → ℕ → List ℕ → ℕ → ℕ → Bool
 line_dot sheet w h a s d place line x y =
     let left = indent d (a - w * length line) in

@@ -8,7 +8,7 @@ pub record IsInked (rows : List ℕ) (inked : Inked) : Type 0 where
   pub inside : inked.below ≤ length rows
   pub white : (y : ℕ) → (nat_le inked.first y && nat_lt y inked.below) ≡ false → slice_index rows y ≡ 0
 
--- of each of the cells, which are so high and stand one after the other
+-- which rows of each cell have ink, of cells `high` rows high that stand one after the other
 pub record AreInked (high : ℕ) (rows : List ℕ) (cells : List Inked) : Type 0 where
   pub count : length cells ≡ 256
   pub each : (c : ℕ) → c < 256 →

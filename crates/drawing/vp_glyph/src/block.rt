@@ -22,7 +22,7 @@ pub enum Alignment {
 }
 
 impl Alignment {
-    /// How far a line moves to the right that has so much room beside it.
+    /// How far a line moves to the right that has `room` dots beside it.
     fn indent(self, room: u32) -> u32
         ensures { result ≡ indent self room }
     {
@@ -141,7 +141,7 @@ fn paint_line(
 }
 
 impl Block<'_> {
-    /// A dot of a line that stands so many lines below the first.
+    /// Dot (x, y) of a line that stands `place` lines below the first.
     fn dot_of_line(&self, line: Line<'_>, place: u32, x: u32, y: u32) -> bool
         requires cells { line.cells ≤ length (first (pieces line.text.now)) }
         requires most { line.cells ≤ self.now.wide / self.now.w }
@@ -178,8 +178,8 @@ impl<'a> Block<'a> {
         (passed, rest)
     }
 
-    /// The same block, whose rows from y on are found without the lines that end above row y. So a painter
-    /// of rows from the top to the bottom looks at each line once.
+    /// This block, whose rows from y on are found without the lines that end above row y. So a painter of
+    /// rows from the top to the bottom looks at each line once.
     pub fn from_row(self, y: u32) -> Self
         ensures sheet { result.sheet.now ≡ self.entry.sheet.now }
         ensures text { result.text.now ≡ self.entry.text.now }
@@ -228,7 +228,7 @@ impl Block<'_> {
         }
     }
 
-    /// Paints row y of a line that stands so many lines below the first.
+    /// Paints row y of a line that stands `place` lines below the first.
     pub(crate) fn paint_line(
         &self,
         line: Line<'_>,

@@ -8,7 +8,7 @@ use crate::block::Block;
 use crate::lines::{Line, next_line};
 use vp_dots::{Op, word_of};
 
-/// The first of the rows of a cell, drawn so high, that show row s of 24.
+/// The first of the rows of a cell, drawn `high` rows high, that show row s of 24.
 fn first_row(s: u32, high: u32) -> u32
     requires { s ≤ 24 }
     ensures row { result ≡ (s * high + 23) / 24 }
@@ -38,7 +38,7 @@ fn blacken<const N: usize>(ink: u64, from: usize, to: usize, words: &mut [u64; N
 }
 
 impl Block<'_> {
-    /// The first 64 dots of a row on which row y of a line stands, so many lines below the first.
+    /// The first 64 dots of a row on which row y of a line stands, `place` lines below the first.
     fn front_of_line(&self, line: Line<'_>, place: u32, y: u32, at: i64) -> u64
         requires cells { line.cells ≤ length (first (pieces line.text.now)) }
         requires most { line.cells ≤ self.now.wide / self.now.w }
@@ -53,7 +53,7 @@ impl Block<'_> {
         word_of(&bytes)
     }
 
-    /// Adds a line to the fronts of N rows, which stands so many lines below the first.
+    /// Adds a line that stands `place` lines below the first to the fronts of `N` rows.
     fn add_line<const N: usize>(
         &self,
         line: Line<'_>,

@@ -34,7 +34,8 @@ fn cell_of_piece(text: &[u8]) -> Option<(u8, &[u8])>
     }
 }
 
-/// The same, found at once where the text doesn't begin with a backslash.
+/// The cell of the piece at the front of a text, unless its paragraph ends there, and what stands behind it:
+/// found at once where the text doesn't begin with a backslash.
 #[inline(always)]
 pub fn next_cell(text: &[u8]) -> Option<(u8, &[u8])>
     ensures { MatchOption result (first (pieces text.now) ≡ []) (λ r. pieces text.now
@@ -56,7 +57,7 @@ struct Measured<'a> {
     behind: &'a [u8],
 }
 
-/// The front of a paragraph, in lines of at most so many cells.
+/// The front of a paragraph, in lines of at most `most` cells.
 #[tactic(auto, using(crate::proofs::Breaking::last_blank_within))]
 fn measure(text: &[u8], most: usize) -> Measured<'_>
     requires { most < 2 ^ 32 }
@@ -131,14 +132,14 @@ fn next_paragraph(text: &[u8]) -> Option<&[u8]>
     }
 }
 
-/// So many cells at the front of a text.
+/// `cells` cells at the front of a text.
 #[derive(Clone, Copy)]
 pub struct Line<'a> {
     pub text: &'a [u8],
     pub cells: usize,
 }
 
-/// The first line of a text, in lines of at most so many cells, and the text of the others.
+/// The first line of a text, in lines of at most `most` cells, and the text of the others.
 pub fn next_line(text: &[u8], most: usize) -> (Line<'_>, Option<&[u8]>)
     requires some { 0 < most }
     requires most { most < 2 ^ 32 }

@@ -9,7 +9,7 @@ use vp_dots::{Op, fill_moved, first_dots, paint_word};
 /// Offsets from here on lie far past any row.
 pub const FAR: i64 = 1 << 40;
 
-/// The offset of what begins so many dots behind another.
+/// The offset of what begins `dots` dots behind offset `at`.
 pub fn moved(at: i64, dots: u32) -> i64
     requires near { at <ℤ pos (2 ^ 40) }
     ensures { result ≡ at +ℤ pos dots }
@@ -18,7 +18,7 @@ pub fn moved(at: i64, dots: u32) -> i64
 }
 
 #[tactic(auto, using(crate::proofs::Spread::edge_within))]
-/// Where dot s begins, of N that are drawn so wide in all.
+/// Where dot s begins, of `N` dots that are drawn `width` dots wide in all.
 pub fn edge<const N: u32>(s: u32, width: u32) -> u32
     requires some { 0 < N }
     requires few { N ≤ 16 }
@@ -37,7 +37,7 @@ pub fn dot_in_word(word: u64, x: u32) -> bool
     word >> (63 - x) & 1 == 1
 }
 
-/// Paints the first N dots of a word, drawn so wide in all, from a place on.
+/// Paints the first `N` dots of a word, drawn `width` dots wide in all, from place `left` on.
 pub fn paint_scaled<const N: u32>(op: Op, at: i64, word: u64, left: u32, width: u32, row: &mut [u8])
     requires some { 0 < N }
     requires few { N ≤ 16 }
@@ -91,7 +91,7 @@ pub fn picked(word: u64, s: u32, mask: u64) -> u64
     if dot_in_word(word, s) { mask } else { 0 }
 }
 
-/// The dots of a mask that a word has there or so far on the left.
+/// The dots of a mask that a word has there or `far` dots to the left.
 #[inline(always)]
 fn spread(word: u64, far: u32, mask: u64) -> u64
     requires { far < 64 }
@@ -114,7 +114,7 @@ pub fn doubled(word: u64) -> u64
     spread(ones, 1, u64::MAX)
 }
 
-/// The first N dots of a word, each drawn so many dots wide.
+/// The first `N` dots of a word, each drawn `wm` dots wide.
 #[inline(always)]
 fn widened<const N: u32>(word: u64, wm: u32) -> u64
     requires few { N ≤ 12 }
@@ -131,7 +131,7 @@ fn widened<const N: u32>(word: u64, wm: u32) -> u64
     wide
 }
 
-/// The first twelve dots of a word, each drawn so many dots wide.
+/// The first twelve dots of a word, each drawn `wm` dots wide.
 #[inline(always)]
 pub fn magnified(word: u64, wm: u32) -> u64
     requires { 12 * wm ≤ 64 }
@@ -143,7 +143,7 @@ pub fn magnified(word: u64, wm: u32) -> u64
     widened::<12>(word, wm)
 }
 
-/// Paints the first twelve dots of a word, each drawn so many dots wide: six and six.
+/// Paints the first twelve dots of a word, each drawn `wm` dots wide: six and six.
 pub fn paint_halves(op: Op, at: i64, word: u64, wm: u32, row: &mut [u8])
     requires near { at <ℤ pos (2 ^ 40) }
     requires narrow { 6 * wm ≤ 64 }

@@ -22,7 +22,7 @@ pub struct Sampled<'a> {
     pub h: u32,
 }
 
-/// How far a place is in `cell` dots, where it is so far in `size`.
+/// Which of `cell` dots is shown at place `place`, where they are drawn as `size` dots.
 fn sampled_place(place: u32, cell: u32, size: u32) -> u32
     requires place { place < size }
     requires cell { cell < 2 ^ 8 }
@@ -71,7 +71,7 @@ pub fn cell_front(
     stretch.front(word, at, left)
 }
 
-/// Which row of a cell is shown in row y of a character that is drawn so high.
+/// Which row of a cell is shown in row y of a character that is drawn `high` rows high.
 pub fn source_row(y: u32, high: u32) -> usize
     requires { y < high }
     ensures { result ≡ y * 24 / high }
@@ -79,7 +79,7 @@ pub fn source_row(y: u32, high: u32) -> usize
     sampled_place(y, 24, high) as usize
 }
 
-/// How far a place lies behind the first of so many, none before it and all behind the last.
+/// How far `place` lies behind `left`: 0 before it, and `places` at most.
 fn within(place: u128, left: u32, places: u32) -> u32
     ensures { result ≡ min (place - left) places }
 {
@@ -88,7 +88,7 @@ fn within(place: u128, left: u32, places: u32) -> u32
         .min(u128::from(places)) as u32
 }
 
-/// How many cells of w dots end within so many dots.
+/// How many cells of `w` dots end within `dots` dots.
 pub fn whole_cells(dots: u32, w: u32) -> u32
     requires some { 0 < w }
     ensures { result ≡ dots / w }
@@ -96,7 +96,7 @@ pub fn whole_cells(dots: u32, w: u32) -> u32
     if dots < w { 0 } else { dots / w }
 }
 
-/// How many of the cells of w dots, of which there are so many, begin within so many dots.
+/// How many of `cells` cells of `w` dots begin within `dots` dots.
 fn begun_cells(dots: u32, w: u32, cells: usize) -> usize
     requires some { 0 < w }
     requires within { dots ≤ w * cells }
@@ -109,8 +109,8 @@ fn begun_cells(dots: u32, w: u32, cells: usize) -> usize
     dots.div_ceil(w) as usize
 }
 
-/// Of so many dots from a place on, the first that can be seen on a row of so many bytes, and the one behind
-/// the last.
+/// Of `dots` dots from place `left` on, the first that can be seen on a row of `bytes` bytes, and the one
+/// behind the last.
 pub fn seen_dots(at: i64, left: u32, dots: u32, bytes: usize) -> (u32, u32)
     requires fits { left + dots < 2 ^ 32 }
     ensures before { (x d : ℕ) → left ≤ x → x < left + result.0 → pos d ≡ at +ℤ pos x → d < 0 }
@@ -129,8 +129,8 @@ pub fn seen_dots(at: i64, left: u32, dots: u32, bytes: usize) -> (u32, u32)
     (within(from, left, dots), within(to, left, dots))
 }
 
-/// Of so many cells of w dots side by side, which begin at a place, the first that can be seen on a row of so
-/// many bytes, and the one behind the last.
+/// Of `cells` cells of `w` dots side by side from place `left` on, the first that can be seen on a row of
+/// `bytes` bytes, and the one behind the last.
 pub fn seen(at: i64, left: u32, w: u32, cells: usize, bytes: usize) -> (usize, usize)
     requires some { 0 < w }
     requires fits { left + w * cells < 2 ^ 32 }

@@ -148,7 +148,7 @@ impl Sheet {
         &self.rows[first..first + high]
     }
 
-    /// The lines of cell c, unless cells are larger than so many dots.
+    /// The lines of cell c, unless cells are larger than `w` by `h` dots.
     pub(crate) fn ready(&self, c: u8, w: u32, h: u32) -> Option<Ready<'_>>
         ensures { MatchOption result (Unit {0}) (λ ready.
             IsReady h ready.above ready.words.now (glyph_dot self.now c)
@@ -183,7 +183,7 @@ fn inked_rows(rows: &[u64]) -> Inked
     Inked { first, below }
 }
 
-/// Which rows of each cell have ink, of cells so high.
+/// Which rows of each cell have ink, of cells `high` rows high.
 fn inked_cells(alloc: Global, rows: &[u64], high: usize) -> Result<Vec<Inked>, AllocError>
     requires high { high ≤ 64 }
     requires whole { length rows.now ≡ 256 * high }
@@ -259,7 +259,7 @@ pub fn dot_in(sheet: &Option<Sheet>, c: u8, x: u32, y: u32) -> bool
     }
 }
 
-/// The lines of a cell of a sheet, unless cells are larger than so many dots, or there is no sheet.
+/// The lines of a cell of a sheet, unless cells are larger than `w` by `h` dots, or there is no sheet.
 pub fn ready_in(sheet: &Option<Sheet>, c: u8, w: u32, h: u32) -> Option<Ready<'_>>
     ensures { MatchOption result (Unit {0}) (λ ready.
         IsReady h ready.above ready.words.now (sheet_dot sheet.now c)

@@ -11,10 +11,10 @@ use vp_dots::{Op, first_dots, paint_word, word_of};
 /// The dots of a row of a cell.
 const CELL: u32 = 12;
 
-/// So many dots are a word.
+/// The dots of a word.
 const WORD: u32 = 64;
 
-/// Twelve dots drawn so wide in all.
+/// Twelve dots drawn `width` dots wide in all.
 #[derive(Clone, Copy)]
 pub struct Stretch {
     pub width: u32,
@@ -32,7 +32,7 @@ fn mask(from: u32, to: u32) -> u64
     shared(inverted(first_dots(from)), first_dots(to))
 }
 
-/// On which dots of a word each of twelve falls, that are drawn so wide in all.
+/// On which dots of a word each of twelve dots falls that are drawn `width` dots wide in all.
 fn masks(width: u32) -> [u64; 12]
     requires { width ≤ 64 }
     ensures { StretchedBy width result }
@@ -44,7 +44,7 @@ fn masks(width: u32) -> [u64; 12]
     masks
 }
 
-/// A word moved so many dots to the right.
+/// A word moved `far` dots to the right.
 fn moved_right(word: u64, far: u64) -> u64
     ensures { (x : ℕ) → x < 64 → word_dot result x ≡ (nat_le far x && word_dot word (x - far)) }
 {
@@ -54,7 +54,7 @@ fn moved_right(word: u64, far: u64) -> u64
     word >> far
 }
 
-/// A word moved so many dots to the left.
+/// A word moved `far` dots to the left.
 fn moved_left(word: u64, far: u64) -> u64
     ensures { (x : ℕ) → x < 64 → word_dot result x ≡ word_dot word (x + far) }
 {
@@ -86,8 +86,8 @@ fn paint_moved(op: Op, word: u64, at: i64, row: &mut [u8])
     }
 }
 
-/// The first 64 dots of a row on which the first twelve dots of a word, drawn so wide in all, stand from a
-/// place on.
+/// The first 64 dots of a row on which the first twelve dots of a word, drawn `width` dots wide in all, stand
+/// from place `left` on.
 #[inline(never)]
 fn scaled_front(word: u64, at: i64, left: u32, width: u32) -> u64
     requires fits { left + width < 2 ^ 32 }
@@ -100,7 +100,7 @@ fn scaled_front(word: u64, at: i64, left: u32, width: u32) -> u64
 }
 
 impl Stretch {
-    /// Twelve dots drawn so wide.
+    /// Twelve dots drawn `width` dots wide in all.
     pub fn new(width: u32) -> Stretch
         ensures { result.width ≡ width }
     {
@@ -116,7 +116,7 @@ impl Stretch {
         }
     }
 
-    /// The first twelve dots of a word, drawn so wide.
+    /// The first twelve dots of a word, drawn `width` dots wide in all.
     fn of(&self, word: u64) -> u64
         requires { self.now.width ≤ 64 }
         ensures { (x : ℕ) → word_dot result x ≡ (nat_lt x self.now.width

@@ -4,7 +4,7 @@ use Rattle.std.specs.List.{range_with_len}
 use Rattle.vp_output.specs.declared.place.Line.{Line}
 use Rattle.vp_output.specs.declared.place.Line.TheVariants.{Head, Row}
 
--- a header, and so many rows, each with its bytes
+-- a header, and `rows` rows, each with its bytes
 pub record Lined : Type 0 where
   pub head : List ℕ
   pub rows : ℕ
@@ -24,7 +24,7 @@ row_after (Row y) = y + 1
 abbrev pub rows_from : Lined → ℕ → List ℕ
 rows_from t y = flat_map t.row (range_with_len y (t.rows - y))
 
--- a row is one of so many
+-- a line is the header, or one of `rows` rows
 abbrev pub IsLineOf : ℕ → Line → Type 0
 IsLineOf rows Head = Unit {0}
 IsLineOf rows (Row y) = y < rows

@@ -24,7 +24,7 @@ fn copy_from(line: &[u8], byte: usize, out: &mut [u8]) -> usize
     n
 }
 
-/// Puts out the next bytes of the place's line, as many as there are and room is for, in an image of so many
+/// Puts out the next bytes of the place's line, as many as there are and room is for, in an image of `rows`
 /// rows. Whatever image has the line, they are its.
 pub fn put_part(place: Place, line: &[u8], rows: u32, out: &mut [u8]) -> Output
     requires line { IsLineOf rows place.line }

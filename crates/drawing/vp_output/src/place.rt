@@ -30,7 +30,7 @@ impl Place {
         }
     }
 
-    /// The place behind the line, in an image of so many rows.
+    /// The place behind the line, in an image of `rows` rows.
     fn behind_line(self, rows: u32) -> Option<Place>
         requires { IsLineOf rows self.line }
         ensures { result ≡ behind_line rows self.line }
@@ -49,7 +49,7 @@ impl Place {
         }
     }
 
-    /// The place `n` bytes further on, in a line of `len` bytes of an image of so many rows.
+    /// The place `n` bytes further on, in a line of `len` bytes of an image of `rows` rows.
     pub fn advanced(self, n: usize, len: usize, rows: u32) -> Option<Place>
         requires line { IsLineOf rows self.line }
         requires within { self.byte + n ≤ len }

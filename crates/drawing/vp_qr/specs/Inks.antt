@@ -4,7 +4,7 @@ use Rattle.std.proofs.lemmas.Bool.{and_parts, ltb-true}
 use Rattle.vp_qr.specs.Walk.{dark}
 use Rattle.vp_qr.specs.Penalty.{is_set}
 
--- a symbol of so many modules a row, each a square of so many dots a row
+-- a symbol of `size` modules a row, each a square of `scale` dots a row
 pub record ScaledSymbol : Type 0 where
   pub size : ℕ
   pub scale : ℕ

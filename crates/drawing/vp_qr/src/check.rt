@@ -28,7 +28,7 @@ pub fn check_is_zero_at_roots(src: &[u8], n: usize)
     ensures { (i : ℕ) → i < n → value_at (power i) (src.now ++ check_of src.now n) ≡ 0 }
 {}
 
-/// The same check codewords, by the multiples of the generator.
+/// The `n` check codewords of a block, by the multiples of the generator.
 pub fn check_by(rows: &[[u8; 32]; 256], src: &[u8], n: usize) -> ArrayVec<u8, 30>
     requires rows { AreMultiples n rows.now }
     requires most { n ≤ 30 }

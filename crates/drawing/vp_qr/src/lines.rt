@@ -32,7 +32,7 @@ fn near_line(centre: usize) -> u64
     span(centre - 2, centre + 3)
 }
 
-/// The finders with their separators, or with the format beside them: so many modules wide and high.
+/// Row `row` of the finders with their separators, `wide` 8, or with the format beside them too, `wide` 9.
 pub fn corners(size: usize, wide: usize, row: usize) -> u64
     requires low { 21 ≤ size }
     requires high { size ≤ 57 }

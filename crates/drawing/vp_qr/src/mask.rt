@@ -186,7 +186,7 @@ fn dark_modules(rows: &[u64; 57], size: usize) -> u32
     total
 }
 
-/// The penalty of a symbol whose dark modules are so many among all.
+/// The penalty of a symbol of which `dark` modules among `all` are dark.
 fn balance_penalty(dark: u32, all: u32) -> u32
     requires dark { dark ≤ 3249 }
     requires some { 0 < all }

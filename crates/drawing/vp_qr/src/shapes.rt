@@ -24,7 +24,7 @@ fn finder_centre(size: usize, at: usize) -> usize
     if at < 8 { 3 } else { size - 4 }
 }
 
-/// A row of a finder, so far from its centre: a square of three modules, and the third ring round it.
+/// A row of a finder `away` rows from its centre: a square of three modules, and the third ring round it.
 fn finder_row(away: usize) -> u64
     ensures { (j : ℕ) → j < 64 → is_set result j
         ≡ (nat_lt (max away (apart 3 j)) 2 || max away (apart 3 j) == 3) }
@@ -73,7 +73,7 @@ fn alignment_centre(version: usize, at: usize) -> usize
     10 + 4 * version
 }
 
-/// A row of an alignment pattern, so far from its centre: all but the first ring.
+/// A row of an alignment pattern `away` rows from its centre: all but the first ring.
 fn alignment_row(away: usize) -> u64
     ensures { (j : ℕ) → j < 64 → is_set result j ≡ (nat_lt j 5 && not (max away (apart 2 j) == 1)) }
 {

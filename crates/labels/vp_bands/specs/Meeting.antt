@@ -12,7 +12,7 @@ use Rattle.vp_field.specs.Views.{seen_y}
 abbrev pub is_among : ℤ → ℕ → ℤ → Bool
 is_among from n p = int_le from p && int_lt p (from +ℤ pos n)
 
--- row y of the label as it is put out shows one of so many rows of the label from row `top` on
+-- row y of the label as it is put out shows one of `rows` rows of the label from row `top` on
 abbrev pub shows_row : View → ℤ → ℕ → ℕ → Bool
 shows_row view top rows y = nat_lt y view.height && is_among top rows (seen_y view (pos y))
 

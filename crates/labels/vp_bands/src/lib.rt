@@ -3,8 +3,8 @@
 //! A label is put out in bands of 32 rows. When its format ends, each field gets an entry with the bands that
 //! its box has a row in, and the entries are threaded: from each band the fields that begin there, and from
 //! band to band those that reach on. So a band is painted from the fields that meet it alone, in the order of
-//! closing. Each reading of an entry or of a link is a look, and looks are counted from a copy's start on. So is
-//! the work of painting: the bytes of pictures' codes that are read, and the rows that are passed or painted.
+//! closing. Each reading of an entry or of a link is a look, and looks are counted from a copy's start on. So
+//! is the work of painting: the bytes of pictures' codes that are read, and the rows passed or painted.
 //!
 //! - `meeting`: which bands a box meets.
 //! - `table`: the entries of the fields of a format.

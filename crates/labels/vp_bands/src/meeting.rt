@@ -8,7 +8,7 @@ use vp_field::View;
 /// The most bands of a label, each of 32 rows.
 pub const BANDS: usize = 250;
 
-/// The row of a label of so many rows, counted from the last, from which on a box of so many rows stands.
+/// Where a box of `rows` rows from `top` on begins in a label of `height` rows, counted from its last.
 fn from_end(height: u32, top: i64, rows: u32) -> i64
     requires low { neg_ℤ (pos (2 ^ 32)) ≤ℤ top }
     requires high { top ≤ℤ pos (2 ^ 32) }
@@ -19,7 +19,7 @@ fn from_end(height: u32, top: i64, rows: u32) -> i64
     i64::from(height) - top - i64::from(rows)
 }
 
-/// The row of the label as it is put out from which on a box of so many rows stands.
+/// The first row, in the label as it is put out, of a box of `rows` rows from row `top` of the label on.
 fn seen_top(view: View, top: i64, rows: u32) -> i64
     requires low { neg_ℤ (pos (2 ^ 32)) ≤ℤ top }
     requires high { top ≤ℤ pos (2 ^ 32) }
@@ -34,7 +34,7 @@ fn seen_top(view: View, top: i64, rows: u32) -> i64
     }
 }
 
-/// The row behind so many from one on.
+/// The row behind `rows` rows from `top` on.
 fn behind(top: i64, rows: u32) -> i64
     requires low { neg_ℤ (pos (2 ^ 40)) ≤ℤ top }
     requires high { top ≤ℤ pos (2 ^ 40) }
@@ -58,8 +58,8 @@ fn clamped(place: i64, size: u32) -> u32
     }
 }
 
-/// The rows of the label as it is put out on which a box of so many rows has one: from the first row, to the
-/// second.
+/// The rows of the label as it is put out that show one of a box's `rows` rows from `top` on: from the first
+/// result on, to before the second.
 fn rows_shown(view: View, top: i64, rows: u32) -> (u32, u32)
     requires low { neg_ℤ (pos (2 ^ 32)) ≤ℤ top }
     requires high { top ≤ℤ pos (2 ^ 32) }
@@ -73,7 +73,7 @@ fn rows_shown(view: View, top: i64, rows: u32) -> (u32, u32)
     )
 }
 
-/// The first and the last band that a box of so many rows meets, the topmost of which is row `top` of its
+/// The first and the last band that a box of `rows` rows meets, the topmost of which is row `top` of its
 /// label; the last comes before the first where it meets none.
 pub fn span(view: View, top: i64, rows: u32) -> (usize, usize)
     requires low { neg_ℤ (pos (2 ^ 32)) ≤ℤ top }

@@ -17,12 +17,12 @@ pub record Place : Type 0 where
   pub line : Line
   pub byte : ℕ
 
--- the text of so many copies: that of the image, so often
+-- the text of this number of copies of an image, one behind the other
 abbrev pub copies_text : Image → ℕ → List ℕ
 copies_text i zero = []
 copies_text i (suc copies) = pbm i ++ copies_text i copies
 
--- how many bytes of a copy, so wide and high, stand before a line
+-- how many bytes of a copy `width` dots wide and `height` rows high stand before a line
 abbrev pub bytes_above : ℕ → ℕ → Line → ℕ
 bytes_above width height Head = 0
 bytes_above width height (Row y) = length (header_of width height) + y * row_bytes width
@@ -40,7 +40,7 @@ abbrev pub line_bytes : ℕ → ℕ → Line → ℕ
 line_bytes width height Head = length (header_of width height)
 line_bytes width height (Row y) = row_bytes width
 
--- a place in the first of so many copies
+-- a place in the first of `copies` copies
 abbrev pub at : ℕ → InImage → Place
 at copies p = record { copies = copies; line = p.line; byte = p.byte }
 
@@ -49,7 +49,7 @@ abbrev pub behind : ℕ → Option InImage → Place
 behind copies None = record { copies = copies - 1; line = Head; byte = 0 }
 behind copies (Some p) = at copies p
 
--- the place so many bytes further on in its line, or behind it
+-- the place `n` bytes further on in its line, or behind it
 abbrev pub advanced : ℕ → ℕ → ℕ → Place → Place
 advanced width height n p =
     behind p.copies
@@ -64,7 +64,7 @@ ahead_of (Row y) = if y % BAND_ROWS == 0 then Band (y / BAND_ROWS) else Nothing
 abbrev pub ahead : Place → Ahead
 ahead p = if p.copies == 0 || nat_lt 0 p.byte then Nothing else ahead_of p.line
 
--- how many rows of an image so high are in the band of a line, none for the header
+-- how many rows of an image `height` rows high are in the band of a line, none for the header
 abbrev pub band_rows : ℕ → Line → ℕ
 band_rows height Head = 0
 band_rows height (Row y) = min BAND_ROWS (height - BAND_ROWS * (y / BAND_ROWS))

@@ -20,7 +20,7 @@ pub record Progress : Type 0 where
 abbrev pub image_of : Progress → (ℕ → ℕ → Bool) → Image
 image_of p dots = record { width = p.width; height = p.height; is_black = dots }
 
--- a byte of a line of an image so wide and high is left
+-- a byte of a line of an image `width` dots wide and `height` rows high is left
 pub record IsPlaceOf (width height : ℕ) (p : Place) : Type 0 where
   pub line : IsLineOf height p.line
   pub byte : p.byte < line_bytes width height p.line

@@ -39,7 +39,7 @@ impl Model for Copies {
     ghost invariant = { IsCopies };
 }
 
-/// The bytes of a row of the band, for an image so wide.
+/// The bytes of the band's row for row y of an image `width` dots wide.
 fn row_of_band(band: &LabelBand, y: usize, width: u16) -> &[u8]
     requires narrow { width ≤ WIDEST }
     ensures count { length result.now ≡ line_bytes width 0 (Line.Row y) }
@@ -52,7 +52,7 @@ fn row_of_band(band: &LabelBand, y: usize, width: u16) -> &[u8]
 }
 
 impl Copies {
-    /// So many copies of an image, of 1 to 1,248 dots across and a row or more; none, and nothing is pending.
+    /// `copies` copies of an image, 1 to 1,248 dots across and a row or more; of none, nothing is pending.
     pub fn new(width: u16, height: u16, copies: u32) -> Copies
         requires wide { 0 < width }
         requires narrow { width ≤ WIDEST }

@@ -4,7 +4,7 @@ ghost use Rattle.vp_dots.specs.Images.{Image, pbm};
 ghost use Rattle.vp_copies.specs.Copies.{bytes_above, copies_text, pending, Place};
 ghost use Rattle.vp_copies.specs.Progress.{IsPlaceOf};
 
-/// A law: the text of copies is that of one image so often, and copies put out one after the other are all of
+/// A law: the text of copies is that of one image as often, and copies put out one after the other are all of
 /// them.
 pub fn copies_law()
     ensures one { (i : Image) → copies_text i 1 ≡ pbm i }
@@ -19,7 +19,7 @@ pub fn pending_law()
         (0 < p.copies) ↔ (0 < length (pending i p)) }
 {}
 
-/// A law: how far a copy is put out follows from how many bytes are left of so many copies.
+/// A law: how far a copy is put out follows from how many bytes of `copies` copies are left.
 pub fn place_law()
     ensures { (i : Image) (p : Place) (copies : ℕ) → 0 < i.height → IsPlaceOf i.width i.height p →
         0 < p.copies →

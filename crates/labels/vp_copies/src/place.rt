@@ -16,7 +16,7 @@ pub enum Ahead {
     Band(usize),
 }
 
-/// What has to be ready before the next byte of so many copies is put out.
+/// What has to be ready before the next byte of `copies` copies is put out.
 pub fn wanted(copies: u32, place: Place) -> Ahead
     ensures { result ≡ ahead (at copies place) }
 {

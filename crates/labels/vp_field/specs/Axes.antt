@@ -13,7 +13,7 @@ abbrev pub dot_on : Axis → ℤ → ℤ
 dot_on (Forward at) p = p -ℤ at
 dot_on (Back at) p = at -ℤ p
 
--- a line begins no farther than so many places from the first
+-- a line begins no farther than `n` places from the first
 abbrev pub IsWithin : ℕ → Axis → Type 0
 IsWithin n (Forward at) = (neg_ℤ (pos n) ≤ℤ at) × (at ≤ℤ pos n)
 IsWithin n (Back at) = (neg_ℤ (pos n) ≤ℤ at) × (at ≤ℤ pos n)

@@ -21,7 +21,7 @@ pub enum Lines {
     Across,
 }
 
-/// The place that is as far from the last of so many as this one is from the first.
+/// The place that is as far from the last of `size` places as place `at` is from the first.
 fn from_end(at: i64, size: u32) -> i64
     requires low { neg_ℤ (pos (2 ^ 41)) ≤ℤ at }
     requires high { at ≤ℤ pos (2 ^ 41) }
@@ -39,7 +39,7 @@ pub fn clamped(rows: i64, most: u32) -> u32
     rows.clamp(0, i64::from(most)) as u32
 }
 
-/// The place before which so many stand behind another.
+/// How far place `at` is behind the last of `places` places from `from` on.
 fn last_before(at: i64, from: u32, places: u32) -> i64
     requires low { neg_ℤ (pos (2 ^ 41)) ≤ℤ at }
     requires high { at ≤ℤ pos (2 ^ 41) }
@@ -133,8 +133,8 @@ impl Axis {
         }
     }
 
-    /// The dot on the first of so many places from one on, or on the last, whichever comes first, on a line
-    /// that goes on to either side.
+    /// The dot on the first of `places` places from `from` on, or on the last, whichever comes first, on a
+    /// line that goes on to either side.
     pub fn first_line(self, from: u32, places: u32) -> i64
         requires { IsWithin (2 ^ 41) self }
         ensures low { neg_ℤ (pos (2 ^ 42)) ≤ℤ result }

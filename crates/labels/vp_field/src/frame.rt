@@ -15,13 +15,13 @@ pub struct Frame {
     pub t: u32,
 }
 
-/// So many dots are a word.
+/// The dots of a word.
 const WORD: u32 = 64;
 
 /// Offsets from here on lie far past any row.
 const FAR: i64 = 1 << 40;
 
-/// The offset of what begins so many dots behind another.
+/// The offset of what begins `dots` dots behind offset `at`.
 fn moved(at: i64, dots: u32) -> i64
     requires near { at <ℤ pos (2 ^ 40) }
     ensures { result ≡ at +ℤ pos dots }
@@ -29,7 +29,7 @@ fn moved(at: i64, dots: u32) -> i64
     at + i64::from(dots)
 }
 
-/// Paints so many dots from one on: as a word, where they are few.
+/// Paints `dots` dots from dot `from` on: as a word, where they are few.
 fn paint_side(op: Op, at: i64, from: u32, dots: u32, row: &mut [u8])
     requires fits { from + dots < 2 ^ 32 }
     ensures { Painted op (shifted at (span from (from + dots))) row.old row.new }

@@ -30,7 +30,7 @@ use vp_zpl::item::Orientation;
 /// The most bytes of a row.
 const ROW: usize = 1024;
 
-/// The bytes of row y of a picture of so many rows.
+/// The bytes of row `y` of a picture of `rows` rows.
 pub struct PictureRow<'a> {
     pub bytes: &'a [u8],
     pub y: u32,
@@ -76,7 +76,7 @@ impl Ink for PictureRow<'_> {
     }
 }
 
-/// The first of so many lines of ink that falls on a band, and the one behind the last.
+/// The first of `height` lines of ink on the band from row `first` on, and the one behind the last.
 fn lines_on(rows: Axis, height: u32, first: u32) -> (u32, u32)
     requires { IsWithin (2 ^ 41) rows }
     ensures within { result.1 ≤ height }

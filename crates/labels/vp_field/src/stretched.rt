@@ -5,7 +5,7 @@ ghost use Rattle.vp_field.specs.Axes.{dot_on};
 
 use crate::axis::Axis;
 
-/// The first line that shows row s of 24, which are drawn so high.
+/// The first line that shows row s of 24, which are drawn `high` lines high in all.
 fn first_of(s: u64, high: u32) -> u64
     requires { s ≤ 24 }
     ensures { result ≡ (s * high + 23) / 24 }

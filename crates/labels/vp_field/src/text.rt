@@ -24,7 +24,7 @@ impl Clone for Cells<'_> {
     }
 }
 
-/// Whether row y of a character that is drawn so high shows the row of the sheet that the row above shows.
+/// Whether row y of a character drawn `high` rows high shows the row of the sheet that the row above shows.
 pub fn shows_row_above(y: u32, high: u32) -> bool
     requires some { 0 < y }
     requires inside { y < high }

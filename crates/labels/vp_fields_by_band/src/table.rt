@@ -118,7 +118,7 @@ impl Model for Threads {
 }
 
 impl Threads {
-    /// No fields, with room for 1,024 and for so many bands: the only call that takes memory.
+    /// No fields, with room for 1,024 and for `bands` bands: the only call that takes memory.
     pub fn new(alloc: Global, bands: usize) -> Result<Self, AllocError>
         ensures none { IfOk result (λ threads. threads.entries ≡ []) }
         ensures bands { IfOk result (λ threads. length threads.heads ≡ bands) }

@@ -83,7 +83,7 @@ IsWhole Binary s = (s.left ≡ 0) × (s.digit ≡ 0)
 abbrev pub symbols_at : Coding → List ℕ → Spot → List Spelled
 symbols_at coding codes s = spelled (Digits s.left s.digit) 0 ∷ symbols coding (drop s.at codes)
 
--- the spot so many rows later, where no code is read
+-- the spot `k` rows of `width` places later, where no code is read
 abbrev pub spot_behind : ℕ → Spot → ℕ → Spot
 spot_behind width s k = record { left = s.left - width * k; digit = s.digit; at = s.at }
 

@@ -26,7 +26,7 @@ shows width start (ToEnd v) = Value v
 shows width start Again = if start % width == 0 then AsAbove else Nothing
 shows width start Refused = Nothing
 
--- what a place shows, in rows of so many places, where the first of the symbols starts at a place: the
+-- what a place shows, in rows of `width` places, where the first of the symbols starts at place `start`: the
 -- symbols stand one after the other, and a place that none covers is 0
 abbrev pub shown : ℕ → ℕ → List Spelled → ℕ → Shown
 shown width start [] place = Value 0
@@ -111,12 +111,12 @@ abbrev pub unless_fault : Result Bool Fault → Result (Unit {0}) Fault → Resu
 unless_fault (Err why) later = Err why
 unless_fault (Ok read) later = later
 
--- what so many readings answer from row y on: the first fault that one of them does
+-- what this number of readings answers from row y on: the first fault that one of them does
 unfoldable pub passing : Picture → ℕ → ℕ → Result (Unit {0}) Fault
 passing p y zero = Ok tt
 passing p y (suc n) = unless_fault (answer p y) (passing p (row_after p y) n)
 
--- the row to be read after so many readings
+-- the row to be read after this number of readings from row y on
 unfoldable pub rows_after : Picture → ℕ → ℕ → ℕ
 rows_after p y zero = y
 rows_after p y (suc n) = rows_after p (row_after p y) n

@@ -22,9 +22,9 @@ goes_on (Digit v) = true
 goes_on (Count n) = true
 goes_on _ = false
 
--- accepted codes, in rows of so many places, and the place behind them: a digit takes one place or as
--- many as the counts before it say, `,` and `!` take the rest of the row, or a whole one at its
--- start, and `:` takes a row, at its start alone
+-- accepted codes, in rows of `width` places, and the place behind them: a digit takes one place or as many as
+-- the counts before it say, `,` and `!` take the rest of the row, or a whole one at its start, and `:` takes
+-- a row, at its start alone
 pub data ReadTo (width : ℕ) : List ℕ → ℕ → Type 0 where
   start : ReadTo width [] 0
   run : (front counts : List ℕ) (n b v place : ℕ) → ReadTo width front place → AreCounts counts n →

@@ -20,7 +20,7 @@ pub enum Code {
 /// Codes with the counts joined to their digit.
 #[derive(Clone, Copy)]
 pub enum Symbol {
-    /// A digit, so often.
+    /// How often a digit stands, and the digit.
     Digits(u128, u8),
     /// A digit up to the row's end.
     ToEnd(u8),

@@ -51,8 +51,8 @@ fn put_values(bytes: &[u8], at: usize, x: usize, places: &mut [u8])
     ((codes & u8x16::splat(15)) + letters * u8x16::splat(9)).copy_to_slice(&mut places[x..]);
 }
 
-/// Reads digits from a place of a row of so many places on, as far as they go, and gives the place behind
-/// them and that of the next code. Of the codes' last bytes none may be read.
+/// Reads digits from place `from` of a row of `width` places on, as far as they go, and gives the place
+/// behind them and that of the next code. Of the codes' last bytes none may be read.
 pub fn digits(
     bytes: &[u8],
     first: usize,
@@ -87,7 +87,7 @@ pub fn digits(
     (x, at)
 }
 
-/// Whether so many bytes from a place on are there, and digits; fewer than sixteen are not looked at.
+/// Whether `n` bytes from `at` on are there, and digits; fewer than sixteen are not looked at.
 fn are_digits(bytes: &[u8], at: usize, n: usize) -> bool
     requires { at ≤ length bytes.now }
     ensures inside { result ≡ true → at + n ≤ length bytes.now }

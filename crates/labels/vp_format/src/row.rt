@@ -46,7 +46,7 @@ fn repeated() -> RowEnd
     }
 }
 
-/// Where a run ends in a row of so many places.
+/// Where a run of `count` places from `x` on ends in a row of `places` places.
 fn end_of_run(x: usize, count: u128, places: usize) -> usize
     requires { x ≤ places }
     ensures { result ≡ min (x + count) places }
@@ -58,8 +58,8 @@ fn end_of_run(x: usize, count: u128, places: usize) -> usize
     }
 }
 
-/// Reads digits and short runs from a place of a row of so many places on, and gives the place behind them,
-/// and the byte of the codes that comes next, if the row goes on and there is one.
+/// Reads digits and short runs from place `from` of a row of `width` places on, and gives the place behind
+/// them, and the byte of the codes that comes next, if the row goes on and there is one.
 fn read_short(
     codes: &mut Codes,
     from: usize,

@@ -33,15 +33,15 @@ pub struct Spot {
 }
 
 impl Spot {
-    /// Whether white is all that comes: no code is left of so many bytes, and no run but a white one.
+    /// Whether white is all that comes: none of `codes` bytes of codes is left, and no run but a white one.
     fn is_white(self, codes: usize) -> bool
         ensures { result ≡ is_white codes self }
     {
         self.at == codes && (self.left == 0 || self.digit == 0)
     }
 
-    /// How many rows of so many bytes from a spot on, of the most that are asked for, are one digit that no
-    /// code spells, and the digit: rows that a run covers whole, and those where white is all that comes.
+    /// How many rows of `row_bytes` bytes from the spot on, `most` at most, are one digit that no code
+    /// spells, and the digit: rows that a run covers whole, and those where white is all that comes.
     fn even_rows(self, row_bytes: usize, codes: usize, most: u32) -> (u32, u8)
         requires some { 0 < row_bytes }
         requires short { row_bytes ≤ 1024 }
@@ -65,7 +65,7 @@ impl Spot {
         }
     }
 
-    /// The spot behind so many rows of so many bytes that no code spells.
+    /// The spot behind `rows` rows of `row_bytes` bytes that no code spells.
     fn behind(self, row_bytes: usize, rows: u32) -> Spot
         requires short { row_bytes ≤ 1024 }
         ensures { result ≡ spot_behind (2 * row_bytes) self rows }
@@ -91,7 +91,7 @@ pub struct RunMark {
 }
 
 impl RunMark {
-    /// The mark before the first row of codes of so many bytes.
+    /// The mark before the first row of `len` bytes of codes.
     pub fn first(len: usize) -> RunMark
         ensures { result ≡ record {
           next = 0;
@@ -136,7 +136,7 @@ impl RunMark {
         }
     }
 
-    /// The mark behind so many rows of so many bytes that no code spells.
+    /// The mark behind `rows` rows of `row_bytes` bytes that no code spells.
     fn behind_even(self, row_bytes: usize, rows: u32) -> RunMark
         requires short { row_bytes ≤ 1024 }
         requires some { 0 < rows }
@@ -184,7 +184,7 @@ impl<'a> Model for RunRows<'a> {
 }
 
 impl<'a> RunRows<'a> {
-    /// A cursor before the first of so many rows of 1 to 1,024 bytes.
+    /// A cursor before the first of `rows` rows of `row_bytes` bytes, 1 to 1,024.
     pub fn new(codes: &'a [u8], coding: Coding, row_bytes: usize, rows: u32) -> Self
         requires some { 0 < row_bytes }
         requires short { row_bytes ≤ 1024 }
@@ -250,7 +250,7 @@ impl<'a> RunRows<'a> {
         }
     }
 
-    /// Passes rows, so many at most: at once those that no code spells, else one by its codes, which is
+    /// Passes rows, `most` at most: at once those that no code spells, else one by its codes, which is
     /// counted.
     fn pass(&mut self, most: u32) -> Result<u32, Fault>
         requires some { 0 < most }
@@ -291,7 +291,7 @@ impl<'a> RunRows<'a> {
         Ok(1)
     }
 
-    /// Goes on as so many calls of `next_row` would, and answers the first fault that one of them would. Rows
+    /// Goes on as `rows` calls of `next_row` would, and answers the first fault that one of them would. Rows
     /// that no code spells are passed at once.
     pub fn skip(&mut self, rows: u32) -> Result<(), Fault>
         ensures answer { result ≡ passing self.old.picture self.old.next rows }

@@ -53,8 +53,8 @@ pub fn run_at(bytes: &[u8], at: usize) -> Run
     }
 }
 
-/// Reads digits and runs of at most `SHORT` places from a place of a row of so many places on, as long as
-/// they end within it, and gives the place behind them and that of the next code that isn't read.
+/// Reads digits and runs of at most `SHORT` places from place `from` of a row of `width` places on, as long
+/// as they end within it, and gives the place behind them and that of the next code that isn't read.
 // Each fills as many places, so that nothing hangs on how long it is.
 pub fn short_runs(
     bytes: &[u8],

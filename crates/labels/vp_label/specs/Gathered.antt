@@ -46,7 +46,7 @@ IsGathered sheets g = (before : List Item) × Gathers sheets g before
 abbrev pub data_room : Gathered → ℕ
 data_room g = if g.in_force.is_open then STORED - length g.format.stored else STORED
 
--- so many copies of an image with the fields of the format that has ended
+-- `copies` copies of an image with the fields of the format that has ended
 abbrev pub to_print : Sheets → Gathered → ℕ → List ℕ
 to_print sheets g copies =
     copies_text (label_image sheets (view_of g.in_force.settings) g.format.stored g.format.fields) copies

@@ -33,13 +33,13 @@ pub struct Gathered {
 /// What a command does.
 #[derive(Clone, Copy)]
 pub enum Effect {
-    /// It sets what is in force, or nothing.
+    /// The command sets what is in force, or nothing.
     Sets,
-    /// It begins a format (^XA).
+    /// The command begins a format (^XA).
     Begins,
-    /// It closes a field (^FS).
+    /// The command closes a field (^FS).
     Closes,
-    /// It closes a field and prints the format (^XZ).
+    /// The command closes a field and prints the format (^XZ).
     Prints,
 }
 

@@ -42,7 +42,7 @@ abbrev pub headed : Option Coding → ℕ → ℕ → Option PictureHead
 headed None bytes row = None
 headed (Some coding) bytes row = Some (record { coding = coding; row_bytes = row; rows = bytes / row })
 
--- the head of a picture of so many bytes in rows of so many, or none
+-- the head of a picture of `bytes` bytes in rows of `row` bytes, or none
 abbrev pub picture_head : Option GraphicFormat → Option ℕ → Option ℕ → Option ℕ → Option PictureHead
 picture_head format sent (Some bytes) (Some row) =
     if has_rows bytes row then headed (picture_coding format sent bytes) bytes row else None

@@ -84,7 +84,7 @@ IsContent stored (Data start) = start ≤ stored
 IsContent stored (Frame b colour) = IsFrame b
 IsContent stored (Picture head start) = IsPicture head × (start ≤ stored)
 
--- the parts of a field are in their ranges, where so many bytes are stored
+-- the parts of a field are in their ranges, where `stored` bytes are stored
 pub record AreParts (stored : ℕ) (p : FieldParts) : Type 0 where
   pub origin : IsOrigin p.origin
   pub symbol : IsSymbolIf p.symbol

@@ -29,7 +29,7 @@ pub struct PictureHead {
     pub rows: u32,
 }
 
-/// Whether so many bytes are rows of so many.
+/// Whether a row may have `row_bytes` bytes, 1 to 1,024, and `picture_bytes` bytes hold one.
 fn has_rows(picture_bytes: u32, row_bytes: u32) -> bool
     ensures { result ≡ has_rows picture_bytes row_bytes }
 {

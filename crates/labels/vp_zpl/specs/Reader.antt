@@ -165,7 +165,7 @@ Closes Within event old new =
 abbrev pub behind_head : List Kept → Phase
 behind_head head = if is_b head then Binary (count_of head) else Codes
 
--- so many bytes of binary data are still wanted
+-- how many bytes of binary data are still wanted
 abbrev pub left_of : Phase → ℕ
 left_of (Binary left) = left
 left_of _ = 0
@@ -192,7 +192,7 @@ front_by Codes indicated input = prefix_len is_kept_code input
 front_by (Binary left) indicated input = min (length input) left
 front_by _ indicated input = 0
 
--- the phase behind so many of them
+-- the phase behind `n` bytes that are data by themselves there
 abbrev pub phase_after : Phase → ℕ → Phase
 phase_after (Binary left) n = Binary (left - n)
 phase_after q n = q

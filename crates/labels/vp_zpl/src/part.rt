@@ -57,7 +57,7 @@ pub(crate) fn hex_byte(high: u8, low: u8) -> Option<u8>
 pub struct Part {
     /// Its first 16 bytes.
     pub bytes: ArrayVec<u8, 16>,
-    /// It is longer, and so unreadable.
+    /// Whether the parameter is longer, and so unreadable.
     pub is_long: bool,
 }
 

@@ -34,7 +34,7 @@ enum Phase {
     AfterDigit(u8, u8),
     /// Among the data of ^GF A.
     Codes,
-    /// Among those of ^GF B, so many of which are left, or behind them.
+    /// Among the data of ^GF B, or behind them: how many of their bytes are left.
     Binary(u32),
 }
 
@@ -400,7 +400,7 @@ impl Phase {
         }
     }
 
-    /// The phase behind so many of them.
+    /// The phase behind `n` bytes that are data by themselves there.
     fn after(self, n: usize) -> Phase
         ensures { result ≡ phase_after self n }
     {

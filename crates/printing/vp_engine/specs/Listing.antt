@@ -17,7 +17,7 @@ module _ {Item : Type 0} (rules : Rules Item) (line : Item → List ℕ) where
   abbrev pub lines : List ℕ → List ℕ
   lines bytes = flat_map line (rules.reading.items bytes)
 
-  -- each item of r has its line in w, and so many they are
+  -- each item of r has its line in w, and there are `n` of them
   pub record IsListed (n : ℕ) (r w : List ℕ) (end : Type 0) : Type 0 where
     pub whole : IsWhole rules r w end
     pub lines_of : w ≡ lines r

@@ -21,7 +21,7 @@ pending_of (LabelLines reader lines) = lines.pending
 pending_of (ReceiptOffsets reader lines taken) = lines.pending
 pending_of (LabelOffsets reader lines taken) = lines.pending
 
--- so many lines there were, and so many bytes were taken
+-- there were as many lines as items, and `taken` bytes were taken
 pub record AreLines {Item : Type 0} (lines : Listed) (taken : ℕ) (bytes : List ℕ) (before : List Item)
     : Type 0 where
   pub count : lines.count ≡ counted (length before)

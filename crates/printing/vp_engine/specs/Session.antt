@@ -62,7 +62,7 @@ pub record IsSettled (s : Desk) : Type 0 where
   pub pending : s.printer.pending ≡ []
   pub unread : s.printer.stopped ≡ None → s.unread ≡ []
 
--- the printer stopped by a fault after so many bytes, and all its paper is written
+-- the printer stopped by a fault after `after` bytes, and all its paper is written
 pub record HasEnded (s : Desk) (f : Fault) (after : ℕ) : Type 0 where
   pub stopped : s.printer.stopped ≡ Some f
   pub drained : IsDrained s

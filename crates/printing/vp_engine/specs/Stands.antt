@@ -29,7 +29,7 @@ pub record Stands (setup : Setup) (p : Engine) (t o : List ℕ) : Type 0 where
   -- there was no fault before the last byte
   pub last : fault (rules_of setup) (without_last t) ≡ None
 
--- It took and put out nothing.
+-- The printer took and put out nothing.
 abbrev pub IsFresh : Engine → Type 0
 IsFresh p = (setup : Setup) × Stands setup p [] []
 

@@ -42,7 +42,7 @@ impl Lines {
         }
     }
 
-    /// Begins so many lines, where those before them are put out.
+    /// Begins `count` lines, where those before them are put out.
     pub fn begin(&mut self, lines: &[u8], count: usize)
         requires idle { self.old.pending ≡ [] }
         requires room { length lines.now ≤ 821 }
@@ -88,7 +88,7 @@ impl Lines {
         self.count = self.count.saturating_add(bytes.len() as u64);
     }
 
-    /// Puts out the whole lines of bytes of data behind their places, where so many bytes are taken before
+    /// Puts out the whole lines of bytes of data behind their places, where `taken` bytes are taken before
     /// them, nothing is pending and there is room for the longest lines, and gives how long they are.
     pub fn put_bytes_after(&mut self, taken: u64, bytes: &[u8], output: &mut [u8]) -> usize
         requires idle { self.old.pending ≡ [] }

@@ -51,7 +51,7 @@ fn append(text: &mut ArrayVec<u8, 821>, offset: u64, line: &[u8])
     let _ = text.try_extend_from_slice(line);
 }
 
-/// The digits of a place but its last, which ten places have in common: so many of these, from the first on.
+/// The digits of a place but its last, which ten places have in common: the first `count` of `digits`.
 #[derive(Drop)]
 struct Leading {
     tens: u64,
@@ -74,7 +74,7 @@ impl Model for Leading {
 }
 
 impl Leading {
-    /// The digits but the last of a place of so many tens.
+    /// The digits but the last of a place of `tens` tens.
     fn of(tens: u64) -> Self
         requires { length (leading tens) ≤ MOST_LEADING }
         ensures { result ≡ tens }
@@ -94,7 +94,7 @@ impl Leading {
         }
     }
 
-    /// Goes to a place of so many tens.
+    /// Goes to a place of `tens` tens.
     fn go_to(&mut self, tens: u64)
         requires { length (leading tens) ≤ MOST_LEADING }
         ensures { self.new ≡ tens }
@@ -167,7 +167,7 @@ fn alike_from(offset: u64) -> usize
     1 + (9 - offset % 10).min(u64::MAX - offset) as usize
 }
 
-/// Writes the lines of bytes of data to the front of the output, each behind its place, where so many bytes
+/// Writes the lines of bytes of data to the front of the output, each behind its place, where `taken` bytes
 /// are taken before them, and gives how long they are.
 pub fn put_byte_lines_after(taken: u64, bytes: &[u8], output: &mut [u8]) -> usize
     requires { LONGEST_BYTE_LINE * length bytes.now ≤ length output.old }

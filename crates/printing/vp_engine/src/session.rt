@@ -28,7 +28,7 @@ pub struct Report {
 /// Why a run ended before its input was printed.
 #[derive(Clone, Copy, Debug, PartialEq, Eq)]
 pub enum RunFault {
-    /// A fault after so many bytes.
+    /// A fault after `after` bytes.
     Print { fault: Fault, after: u64 },
     /// A read failed.
     Read,

@@ -15,7 +15,7 @@ fn cleared(byte: u8, mask: u8) -> u8
     byte & !mask
 }
 
-/// Clears the padding in bytes of rows of so many dots, behind which so many were given.
+/// Clears the padding in bytes of rows of `width` dots, before which `given` bytes were given.
 pub fn clear_padding(width: u32, given: u64, rows: &mut [u8])
     requires { width ≡ 0 → rows.old ≡ [] }
     ensures { Painted Op.White (λ d. is_padding width (8 * given + d)) rows.old rows.new }

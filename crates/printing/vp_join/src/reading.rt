@@ -23,16 +23,16 @@ enum Phase {
     Between,
     AfterP,
     After4,
-    /// More of the width, of which so much is read.
+    /// More of the width, of which this is read.
     InWidth(u32),
     /// More of the height, behind this width.
     InHeight { width: u32, read: u32 },
-    /// A byte of the rows, with so many behind it.
+    /// A byte of the rows, with `behind` bytes behind it.
     InRows { behind: u64 },
     Stopped(Offence),
 }
 
-/// What is taken at once: a byte of a header, or so many bytes of rows.
+/// What is taken at once: a byte of a header, or a number of bytes of rows.
 #[derive(Clone, Copy)]
 pub enum Piece {
     Head,
@@ -62,7 +62,7 @@ fn continued(n: u32, b: u8) -> Option<u32>
     Some(m as u32)
 }
 
-/// How many bytes hold a row of so many dots.
+/// How many bytes hold a row of `width` dots.
 pub fn bytes_of_row(width: u32) -> u64
     ensures { result ≡ row_bytes width }
 {
@@ -209,7 +209,7 @@ impl Reading {
         }
     }
 
-    /// Takes n bytes of rows, of which so many are behind the next one.
+    /// Takes `n` bytes of rows, where `behind` bytes stand behind the next one.
     fn take_rows(&mut self, behind: u64, n: u64)
         requires rows { self.old.phase ≡ Phase.InRows behind }
         requires some { 0 < n }

@@ -27,7 +27,7 @@ pub struct Stream<'a> {
 /// What is done with what is read.
 #[derive(Clone, Copy)]
 pub enum Task<'a> {
-    /// It is printed, with the sheets of these files.
+    /// What is read is printed, with the sheets of these files.
     Print(Fonts<'a>),
     /// Its items are listed.
     List,

@@ -7,7 +7,7 @@ use Rattle.vp_esc.specs.declared.item.QrModel.{QrModel}
 use Rattle.vp_esc.specs.declared.item.QrLevel.{QrLevel}
 use Rattle.vp_esc.specs.Values.{qr_model_of, qr_level_of}
 
--- cn 49 and these functions, of so many bytes
+-- `cn` is 49, and `function` one of these, of `count` bytes
 abbrev pub is_qr_function : ℕ → ℕ → ℕ → Bool
 is_qr_function cn function count =
     cn == 49 && (function == 65 && count == 4 || function == 67 && count == 3 || function == 69 && count == 3
@@ -53,7 +53,7 @@ value_items count cn function n more =
     else if function == 80 then store_items count cn n more
     else print_item count cn n ∷ []
 
--- of so many bytes: cn, fn, and the values
+-- what the bytes give that have come of `count`: cn, fn, and the values
 unfoldable pub qr_items : ℕ → List ℕ → List EscItem
 qr_items count [] = if count == 0 then ignored count [] ∷ [] else []
 qr_items count (cn ∷ []) = if count == 1 then ignored count (cn ∷ []) ∷ [] else []

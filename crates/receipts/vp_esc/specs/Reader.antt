@@ -40,7 +40,7 @@ pub record Begun (lead : Lead) (name : ℕ) (command : Command) (args rest : Lis
   pub bytes : rest ≡ lead_byte lead ∷ name ∷ args
   pub listed : is_listed command args ≡ true
 
--- so many bytes of data are left
+-- `left` bytes of data are left
 pub record HasLeft (command : Command) (args : List ℕ) (left : ℕ) : Type 0 where
   pub head : head_len command args ≤ length args
   pub some_left : 0 < left
@@ -79,7 +79,7 @@ abbrev pub give_nothing : Data → Bool
 give_nothing kinds.Skipped = true
 give_nothing _ = false
 
--- the phase before so many bytes of data
+-- the phase before `left` bytes of data
 abbrev pub bytes_or_ground : Data → ℕ → Phase
 bytes_or_ground kind left = if left == 0 then Ground else Bytes kind left
 

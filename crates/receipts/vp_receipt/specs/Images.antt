@@ -47,7 +47,7 @@ drawn_dot setup before x y =
     raster_dot setup before (times_across scale) (raster_bytes before)
     (slice_index_or (rows_come before) (y / times_down scale) []) x
 
--- the raster, so high as the rows that have come
+-- the raster, as high as the rows that have come
 abbrev pub raster_image : Setup → List EscItem → List Image
 raster_image setup before =
     strip setup.width (times_down (raster_scale before) * length (rows_come before)) (drawn_dot setup before)
@@ -100,10 +100,10 @@ begun setup before =
     (times_down (raster_scale before) * (length (rows_come before) + rows_to_come before))
     ++ flat_map (raster_row_text setup before) (rows_come before)
 
--- an image so wide, of a row or more
+-- an image `width` dots wide, of a row or more
 abbrev pub IsAcross : ℕ → Image → Type 0
 IsAcross width image = (image.width ≡ width) × (0 < image.height)
 
--- images one below the other, all of them so wide
+-- images one below the other, all of them `width` dots wide and of a row or more
 abbrev pub AreAcross : ℕ → List Image → Type 0
 AreAcross width images = AllByRecursion (IsAcross width) images

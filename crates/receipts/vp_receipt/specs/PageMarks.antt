@@ -56,7 +56,7 @@ raster_mark setup before row =
     mark_of (page_of setup before)
     (λ u w. nat_lt w (times_down (raster_scale before)) && dot row (u / times_across (raster_scale before)))
 
--- dot (u, w) of so many of its rows, one below the other
+-- dot (u, w) of `rows` rows of a raster, one below the other
 abbrev pub rows_dot : RasterScale → ℕ → ℕ → List ℕ → ℕ → ℕ → Bool
 rows_dot scale wide rows bytes u w =
     nat_lt w (rows * times_down scale)

@@ -29,14 +29,14 @@ is_plain s r =
     && ((r.bytes == row_bytes s.paper)
     && (length_within s.paper s.left_margin s.area_width == across s.paper))))
 
--- how many bytes are taken in one run where so many can be put out: of plain rows as many as are put out
--- whole, and then all of one row but its end
+-- how many bytes are taken in one run where `output` bytes can be put out: of plain rows as many as are put
+-- out whole, and then all of one row but its end
 abbrev pub rows_room : Settings → Raster → ℕ → ℕ
 rows_room s r output =
     if is_plain s r then min (left_of r) (output / r.bytes * r.bytes + (r.bytes - 1))
     else run_of s.page.mode r
 
--- how many of so many bytes are put out in that run: those of whole plain rows
+-- how many of `bytes` bytes that are taken in one run are put out: those of whole plain rows
 abbrev pub rows_put : Settings → Raster → ℕ → ℕ
 rows_put s r bytes = if is_plain s r then bytes / r.bytes * r.bytes else 0
 

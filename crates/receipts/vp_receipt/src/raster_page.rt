@@ -19,7 +19,7 @@ use vp_page::{AT_ONCE, Direction, LINE_BYTES, Page};
 use vp_receipt_settings::{PageSettings, Raster, Settings, times_across, times_down};
 use vp_strips::doubled;
 
-/// Lays a row so often, one below the other, from so far below the vertical position on.
+/// Lays a row `times` times, one below the other, from `at` rows below the vertical position on.
 fn lay_times(p: PageSettings, row: &[u8], at: u32, times: u32, page: &mut Page)
     requires fit { IsFitPage p }
     requires long { length row.now ≤ LINE_BYTES }
@@ -36,7 +36,7 @@ fn lay_times(p: PageSettings, row: &[u8], at: u32, times: u32, page: &mut Page)
     }
 }
 
-/// Lays a row as often as a scale says, from so far below the vertical position on.
+/// Lays a row as often as a scale says, from `at` rows below the vertical position on.
 fn lay_scaled(p: PageSettings, scale: RasterScale, row: &[u8], at: u32, page: &mut Page)
     requires fit { IsFitPage p }
     requires long { length row.now ≤ LINE_BYTES }
@@ -93,8 +93,8 @@ fn lengthened(row: &[u8]) -> [u8; LINE_BYTES]
     line
 }
 
-/// As many rows as are laid at once, from one on, as they stand in bytes of which so many make a row: white
-/// ones past the last.
+/// As many rows as are laid at once, from row `from` on, of `rows` rows that stand in bytes of which `wide`
+/// make a row: white ones past the last.
 fn rows_from(bytes: &[u8], wide: usize, from: usize, rows: usize) -> [[u8; LINE_BYTES]; AT_ONCE]
     requires begins { from ≤ rows }
     requires few { rows ≤ 65535 }

@@ -30,7 +30,7 @@ pub fn is_plain(s: &Settings, raster: &Raster) -> bool
         && s.paper_length() == s.paper.across()
 }
 
-/// How many bytes of such rows are taken in one run where so many can be put out.
+/// How many bytes of plain rows are taken in one run where `output` bytes can be put out.
 pub fn plain_room(raster: &Raster, output: usize) -> usize
     requires part { IsPartRow raster.now }
     requires some { 0 < raster.now.bytes }
@@ -42,7 +42,7 @@ pub fn plain_room(raster: &Raster, output: usize) -> usize
     raster.left().min(most)
 }
 
-/// Takes bytes of such rows: whole rows are put out, and what is left is kept. Answers how many bytes were
+/// Takes bytes of plain rows: whole rows are put out, and what is left is kept. Answers how many bytes were
 /// put out.
 pub fn put_plain(s: &mut Settings, raster: &mut Raster, bytes: &[u8], output: &mut [u8]) -> usize
     requires fit { IsFit s.old }

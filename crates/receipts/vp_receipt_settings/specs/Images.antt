@@ -16,7 +16,7 @@ cell_image sheets font style c = record {
   is_black = cell_dot sheets font style c;
 }
 
--- ESC *: a column of dots, each of them so many dots wide and high, the top dot first
+-- ESC *: a column of dots, each of them `wide` dots wide and `high` rows high, the top dot first
 abbrev pub column_dot : ℕ → ℕ → List ℕ → ℕ → ℕ → Bool
 column_dot wide high bytes x y = nat_lt x wide && nat_lt y 24 && dot bytes (y / high)
 

@@ -46,7 +46,7 @@ raster_bytes (_ ∷ before) = 0
 abbrev pub bytes_after : List ℕ → List EscItem → List EscItem
 bytes_after bytes before = reverse (map (λ b. RasterByte b) bytes) ++ before
 
--- a byte ends a row that has so many, of which these have come
+-- a byte ends a row of `bytes` bytes, of which those of `row` have come
 abbrev pub ends_row : ℕ → List ℕ → Bool
 ends_row bytes row = length row + 1 == bytes
 
@@ -82,6 +82,6 @@ bytes_within_row before =
 abbrev pub bytes_to_come : List EscItem → ℕ
 bytes_to_come before = rows_to_come before * raster_bytes before - length (row_so_far before)
 
--- row i of bytes of which so many make a row
+-- row i of bytes of which `wide` make a row
 abbrev pub row_at : List ℕ → ℕ → ℕ → List ℕ
 row_at bytes wide i = take wide (drop (i * wide) bytes)

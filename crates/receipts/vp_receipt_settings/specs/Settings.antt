@@ -39,7 +39,7 @@ justification setup (_ ∷ before) = justification setup before
 abbrev pub paper_length : Setup → List EscItem → ℕ
 paper_length setup before = length_within setup.width (left_margin setup before) (area_width setup before)
 
--- where something so wide is printed, shifted like a line in what is left of the line length
+-- where something `wide` dots wide is printed, shifted like a line in what is left of the line length
 abbrev pub printed_at : Setup → List EscItem → ℕ → ℕ
 printed_at setup before wide =
     let length = paper_length setup before in
@@ -94,7 +94,7 @@ pub record IsFitText (t : Text) : Type 0 where
   pub high_most : t.high ≤ 8
   pub underline_most : t.underline ≤ 2
 
--- the area lies on the page, and the vertical position goes so far
+-- the area lies on the page, and the vertical position and the lower edge in use are in their ranges
 pub record IsFitPage (p : PageSettings) : Type 0 where
   pub across : p.area.x + p.area.dx ≤ PAPER_DOTS
   pub down : p.area.y + p.area.dy ≤ PAGE_ROWS

@@ -10,7 +10,7 @@ use Rattle.vp_receipt_settings.specs.Texts.{font, text_of, style_of}
 abbrev pub first_tab_stops : List ℕ
 first_tab_stops = map (λ k. 96 * (k + 1)) (range_with_len 0 32)
 
--- ESC D: so many characters as wide as they are then
+-- ESC D: each stop stands behind its number of characters, as wide as they are then
 abbrev pub tab_stops : List EscItem → List ℕ
 tab_stops [] = first_tab_stops
 tab_stops (TabStops stops end ∷ before) =
@@ -18,7 +18,7 @@ tab_stops (TabStops stops end ∷ before) =
 tab_stops (Initialize ∷ before) = first_tab_stops
 tab_stops (_ ∷ before) = tab_stops before
 
--- HT: the position after it, that of the first stop past the position if the line reaches so far
+-- HT: `stop`, the first one past `position`, where a line of `length` dots reaches it, else `position`
 abbrev pub at_stop : Option ℕ → ℕ → ℕ → ℕ
 at_stop None position length = position
 at_stop (Some stop) position length = if nat_le stop length then stop else position

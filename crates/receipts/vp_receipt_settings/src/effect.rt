@@ -23,7 +23,7 @@ pub enum Piece {
 /// Where the next lines of a page are laid.
 #[derive(Clone, Copy)]
 pub enum NextLines {
-    /// So far from the area's top as lines run.
+    /// This many dots from the area's top as lines run.
     At(u16),
     /// From the top of an area.
     Within(Area),
@@ -36,31 +36,31 @@ pub enum NextLines {
 pub enum Effect {
     /// Nothing.
     Nothing,
-    /// It sets what is in force of characters, symbols, spacing, margins and justification, if anything.
+    /// The item sets what is in force of characters, symbols, spacing, margins and justification, if any.
     Sets,
-    /// It puts the position here.
+    /// The item puts the position here.
     Moves(u16),
-    /// It moves the position to the next tab stop.
+    /// The item moves the position to the next tab stop.
     Tabs,
-    /// It gives up the line, and puts back all that is in force.
+    /// The item gives up the line, and puts back all that is in force.
     Initializes,
-    /// It puts a piece into the line.
+    /// The item puts a piece into the line.
     Puts(Piece),
-    /// A character that the line has no room for ends it in so many rows, and begins the next one.
+    /// A character that the line has no room for ends it in `rows` rows, and begins the next one.
     Breaks { rows: u32, code: u8 },
-    /// It ends the line in so many rows.
+    /// The item ends the line, in this number of rows.
     Feeds(u32),
-    /// On paper it ends the line if it is open, and cuts after so many white rows.
+    /// On paper the item ends the line if that is open, and cuts after `dots` white rows.
     Cuts { dots: u8, cut: Cut },
-    /// It ends the line if it is open, and begins a raster of so many rows.
+    /// The item ends the line if that is open, and begins a raster of this number of rows.
     BeginsRaster(u32),
-    /// It is a byte of a raster.
+    /// The item is a byte of a raster.
     Fills(u8),
-    /// It ends the line if it is open, and draws a symbol.
+    /// The item ends the line if that is open, and draws a symbol.
     Draws,
-    /// It begins a white page.
+    /// The item begins a white page.
     BeginsPage,
-    /// It gives up the line and the page.
+    /// The item gives up the line and the page.
     LeavesPage,
     /// On a page it ends the line where it is, if it is open. In either mode it sets where the next lines go.
     Lays(NextLines),
@@ -80,7 +80,7 @@ impl Effect {
         if done { self } else { Effect::Sets }
     }
 
-    /// That of a direction that ESC T names, if it names one.
+    /// The effect of a direction that ESC T names, if it names one.
     fn runs(direction: Option<PrintDirection>) -> Effect
         ensures { result ≡ runs_along direction }
     {
@@ -90,7 +90,7 @@ impl Effect {
         }
     }
 
-    /// That of a cut, after so many white rows.
+    /// The effect of a cut, after `dots` white rows.
     fn cuts(dots: u8, cut: Cut) -> Effect
         ensures { result ≡ Effect.Cuts dots cut }
     {

@@ -23,7 +23,7 @@ pub fn first_stops() -> Stops
     stops
 }
 
-/// Stops after so many characters.
+/// A stop behind each number of `characters`, which are `advance` dots wide.
 fn stops_of(characters: &ArrayVec<u8, 32>, advance: u16) -> Stops
     ensures { result.items ≡ map (λ n. n * advance) characters.now.items }
 {

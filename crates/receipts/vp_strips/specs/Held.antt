@@ -27,7 +27,7 @@ abbrev pub whole_if : Option Strip → Canvas → List ℕ
 whole_if None canvas = []
 whole_if (Some s) canvas = whole s canvas
 
--- a strip that shows a line so high
+-- a strip that shows a line `high` rows high
 abbrev pub IsHighDots : Dots → ℕ → Type 0
 IsHighDots (Line height left length) high = height ≡ high
 IsHighDots White high = ⊥
@@ -146,7 +146,7 @@ shown_in (Drawn left length) place others = None
 abbrev pub showing_of : Job → Canvas → Option Showing
 showing_of j canvas = shown_in j.strip.dots j.place (length (after_text j.after canvas))
 
--- a line so high is shown while more is pending than what comes after it
+-- a line `high` rows high is shown while more is pending than what comes after it
 abbrev pub Shows : Option Showing → ℕ → ℕ → ℕ → Type 0
 Shows None pending high others = pending ≤ others
 Shows (Some shown) pending high others = (shown.height ≡ high) × (shown.others ≡ others) × (others < pending)

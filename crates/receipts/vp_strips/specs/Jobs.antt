@@ -53,7 +53,7 @@ lines_of s canvas = record { head = head_text s; rows = s.rows; row = row_text s
 abbrev pub text : Strip → Canvas → Option Place → List ℕ
 text s canvas place = pending_if (lines_of s canvas) place
 
--- a row is one of so many
+-- the place, where there is one, is in the header, or in one of `rows` rows
 abbrev pub IsPlace : ℕ → Option Place → Type 0
 IsPlace rows None = Unit {0}
 IsPlace rows (Some p) = IsLineOf rows p.line

@@ -5,12 +5,12 @@ use Rattle.vp_receipt_settings.specs.declared.text.TheConstants.{LINE_ROWS}
 use Rattle.vp_dots.specs.Dots.{dot}
 use Rattle.vp_receipt_settings.specs.Line.{Placed, is_open}
 
--- ink so wide and high that is put at a position
+-- ink `width` dots wide and `height` rows high that is put at position `at`
 abbrev pub ink_placed : ℕ → ℕ → ℕ → (ℕ → ℕ → Bool) → Placed
 ink_placed at width height dots =
     record { at = at; image = record { width = width; height = height; is_black = dots } }
 
--- whether the item blackens dot (x, y) of a line that is so high: the items share their bottom row
+-- whether the item blackens dot (x, y) of a line `high` rows high: the items share their bottom row
 abbrev pub item_dot : Placed → ℕ → ℕ → ℕ → Bool
 item_dot placed high x y =
     nat_le placed.at x && nat_le (high - placed.image.height) y
@@ -27,7 +27,7 @@ pub record HasDots (line : List Placed) (bitmap : List (List ℕ)) : Type 0 wher
   pub dots_are : (x y : ℕ) → x < LINE_DOTS → y < LINE_ROWS →
       dot (slice_index_or bitmap y []) x ≡ any_dot line LINE_ROWS x y
 
--- a bitmap is white but for so many of its lowest rows
+-- a bitmap is white but for the lowest `used` of its rows
 pub record IsWhiteAbove (used : ℕ) (bitmap : List (List ℕ)) : Type 0 where
   pub few : used ≤ LINE_ROWS
   pub rows_are : (y : ℕ) → y < LINE_ROWS → length (slice_index_or bitmap y []) ≡ LINE_BYTES

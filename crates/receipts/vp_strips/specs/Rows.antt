@@ -12,7 +12,7 @@ use Rattle.vp_receipt_settings.specs.Line.{line, height, right_edge}
 use Rattle.vp_receipt_settings.specs.Settings.{paper_length, printed_at}
 use Rattle.vp_strips.specs.LineDots.{any_dot}
 
--- dots so far from the left, of which so many are seen
+-- dots that begin `left` dots from the left, of which `length` are seen
 abbrev pub clipped : ℕ → ℕ → (ℕ → Bool) → ℕ → Bool
 clipped left length f x = nat_le left x && nat_lt (x - left) length && f (x - left)
 
@@ -43,11 +43,11 @@ paper_row paper f = row_of (row_bytes paper) f
 abbrev pub rows_text : Width → (ℕ → ℕ → Bool) → ℕ → ℕ → List ℕ
 rows_text paper f y n = flat_map (λ y. paper_row paper (λ x. f x y)) (range_with_len y n)
 
--- a strip of so many rows across the paper: an image
+-- a strip of `rows` rows across the paper: an image
 abbrev pub strip_text : Width → ℕ → (ℕ → ℕ → Bool) → List ℕ
 strip_text paper rows f = pbm (record { width = across paper; height = rows; is_black = f })
 
--- the line, in a strip of so many rows
+-- the line, in a strip of `rows` rows
 abbrev pub line_text : Setup → List EscItem → ℕ → List ℕ
 line_text setup before rows = strip_text setup.width rows (printed_dot setup before)
 

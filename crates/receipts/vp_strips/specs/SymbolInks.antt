@@ -43,7 +43,7 @@ pub record IsSymbol (sheets : Sheets) (symbol : Symbol) (image : Image) : Type 0
   pub height : symbol_height sheets symbol ≡ image.height
   pub dots : (x y : ℕ) → symbol_dot sheets symbol x y ≡ image.is_black x y
 
--- a symbol so wide and high has the dots of the image
+-- a symbol `wide` dots wide and `high` rows high has the dots of the image
 pub record IsDrawn (sheets : Sheets) (symbol : Symbol) (wide high : ℕ) (image : Image) : Type 0 where
   pub width : wide ≡ image.width
   pub height : high ≡ image.height

@@ -35,7 +35,7 @@ impl Model for Bitmap {
     ghost invariant = { λ s. IsWhiteAbove s.used s.band };
 }
 
-/// Paints so many words of few dots, one on each row from `top` on.
+/// Paints the first `high` words, each of few dots, one on each row from `top` on.
 #[inline(always)]
 fn paint_words(
     words: &[u64],

@@ -27,14 +27,14 @@ use vp_receipt_settings::{LINE_ROWS, Settings, Width};
 /// What the rows of a strip show.
 #[derive(Clone, Copy)]
 pub enum Dots {
-    /// The lowest rows of the line's bitmap, so far from the left, and clipped; then white ones.
+    /// The lowest `height` rows of the line's bitmap, from dot `left` on, clipped after `length`; then white.
     Line { height: u16, left: u16, length: u16 },
     White,
     /// A cut.
     Across(Cut),
     /// The row of a raster.
     Raster,
-    /// The symbol, so far from the left, and clipped.
+    /// The symbol, `left` dots from the left, and clipped after `length` dots.
     Drawn { left: u16, length: u16 },
     /// The page.
     Page,
@@ -46,12 +46,12 @@ pub struct Strip {
     pub paper: Width,
     /// The rows of the image.
     pub tall: u32,
-    /// Those that follow its header.
+    /// The rows that follow the image's header.
     pub rows: u32,
     pub dots: Dots,
 }
 
-/// Writes a row with these dots, so far from the left, and clipped after so many.
+/// Writes a row with these dots, `left` dots from the left, and clipped after `length` dots.
 pub fn write_clipped(source: &[u8], left: u16, length: u16, row: &mut [u8; PAPER_BYTES])
     ensures { row.new ≡ row_of PAPER_BYTES (clipped left length (dot source.now)) }
 {
@@ -96,7 +96,7 @@ fn write_page_row(y: u32, page: &Page, row: &mut [u8; PAPER_BYTES])
     dots_decide(row);
 }
 
-/// Writes a row with this line of ink, so far from the left, and clipped after so many dots.
+/// Writes a row with line y of ink, `left` dots from the left, and clipped after `length` dots.
 pub fn write_ink<I: Ink>(ink: &I, y: u32, left: u16, length: u16, row: &mut [u8; PAPER_BYTES])
     ensures { row.new ≡ row_of PAPER_BYTES (clipped left length (λ x. I.ink_at ink.now x y)) }
 {
@@ -171,7 +171,7 @@ impl Dots {
 }
 
 impl Strip {
-    /// The line of the settings in an image of so many rows, unless these are none.
+    /// The line of the settings in an image of `rows` rows, unless these are none.
     pub fn of_line(s: &Settings, rows: u32) -> Option<Strip>
         requires { IsFit s.now }
         ensures low { IsLowIf result }
@@ -221,7 +221,7 @@ impl Strip {
         }
     }
 
-    /// The header of a raster of so many rows.
+    /// The header of a raster of `rows` rows.
     pub fn raster_head(paper: Width, rows: u32) -> Strip
         ensures own { IsOwn result }
         ensures text { (canvas : Canvas) → whole result canvas ≡ header_of (across paper) rows }
@@ -234,7 +234,7 @@ impl Strip {
         }
     }
 
-    /// A symbol so wide and high.
+    /// A symbol `wide` dots wide and `high` rows high.
     pub fn drawn(s: &Settings, wide: u32, high: u32) -> Strip
         requires { 0 < high }
         ensures own { IsOwn result }
@@ -265,7 +265,7 @@ impl Strip {
         }
     }
 
-    /// A row of a raster, so often.
+    /// A row of a raster, `times` times.
     pub fn raster_rows(paper: Width, times: u32) -> Strip
         ensures { result ≡ record { paper = paper; tall = 0; rows = times; dots = Dots.Raster } }
     {

@@ -37,7 +37,7 @@ impl Symbol {
         }
     }
 
-    /// Writes a row of it, so far from the left and clipped after so many dots.
+    /// Writes row y of the symbol, `left` dots from the left and clipped after `length` dots.
     pub fn write_row(
         &self,
         sheets: &Sheets,

@@ -86,7 +86,7 @@ fn qr_codes(rt: HostRuntime) -> Result<(), Fail> {
 
 const GRAPHIC: Option<Fault> = Some(Fault::Graphic);
 
-/// Pictures of codes: a first row, a row's end, behind the row, a count in two rows and behind one, many rows.
+/// Pictures of codes: first row, a row's end, behind the row, a count in two rows and behind one, many rows.
 static PICTURES: [(&[u8], &[u8], Option<Fault>); 6] = [
     (b"^XA^GFA,,2,1,", b":Z64:x", GRAPHIC),
     (b"^XA^GFA,,4,2,", b"FFFF8:", GRAPHIC),
