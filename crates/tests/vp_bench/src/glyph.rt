@@ -59,7 +59,7 @@ const STYLES: [(&str, Style); 5] = [
 
 const SAMPLED: [(&str, u32, u32); 2] = [("sampled 12 by 24", 12, 24), ("sampled 30 by 60", 30, 60)];
 
-/// The same ink, painted dot by dot.
+/// The ink of `inner`, painted dot by dot.
 #[derive(Drop)]
 struct Slow<'a, I> {
     inner: &'a I,

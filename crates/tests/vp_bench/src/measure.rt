@@ -8,7 +8,7 @@ use std::num::nearest_usize_to_f64;
 use std::rt::Clock;
 use std::time::{Duration, Instant};
 
-/// How long a round of the work takes, in nanoseconds: the least of five times, each of so many rounds.
+/// How long a round of `work` takes, in nanoseconds: the least of five times, each of `rounds` rounds.
 pub fn least<W: FnMut()>(rt: &impl Clock, rounds: u32, mut work: W) -> io::Result<f64>
     requires { W.IsAlwaysCallable work }
 {
@@ -47,7 +47,7 @@ pub fn copying(rt: &impl Clock, input: &[u8]) -> io::Result<f64> {
     Ok(copied / nearest_usize_to_f64(input.len()))
 }
 
-/// So many bytes: 0 to 250, again and again.
+/// `n` bytes: 0 to 250, again and again.
 pub fn some_bytes(alloc: Global, n: usize) -> Result<Vec<u8>, AllocError>
     ensures { IfOk result (λ bytes. bytes.items ≡ map (λ i. i % 251) (range_with_len 0 n)) }
 {

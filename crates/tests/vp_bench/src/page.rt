@@ -56,7 +56,7 @@ fn lay_rows(area: Area, direction: Direction, bytes: &[u8; 4096], page: &mut Pag
     }
 }
 
-/// Megabytes in a second, of pages that take so many nanoseconds.
+/// Megabytes in a second, of pages that take `page` nanoseconds.
 fn rate(page: f64) -> f64 {
     BYTES * 1e3 / page
 }

@@ -28,7 +28,7 @@ fn label(height: u16, inverted: bool) -> View
     }
 }
 
-/// A box that is all ink, of so many dots by so many rows from a row on.
+/// A box that is all ink, of `width` dots by `height` rows from row `top` on.
 fn boxed(top: u16, width: u16, height: u16, op: Op) -> Field
     ensures { (stored : List ℕ) → IsKept stored result }
 {
@@ -145,14 +145,14 @@ fn copies(
     Ok(both(&mut painter, &format, view, from, &mut band))
 }
 
-/// Each copy shows these five rows, and so many of all rows have a dot at the left edge.
+/// Each copy shows the five rows `rows`, and `black` of all rows have a dot at the left edge.
 fn each_shows(rt: &impl Abort, copies: &[Copied; 2], rows: [u8; 5], black: u64) {
     for copied in copies {
         assert_eq!(rt; (copied.rows, copied.black), (rows, black));
     }
 }
 
-/// Each copy took so many looks, at least and at most.
+/// Each copy took at least `least` and at most `most` looks.
 fn each_took(rt: &impl Abort, copies: &[Copied; 2], least: u64, most: u64) {
     for copied in copies {
         let looks = copied.looks;

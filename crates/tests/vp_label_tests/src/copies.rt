@@ -13,7 +13,7 @@ fn paint(number: usize, band: &mut LabelBand) {
     }
 }
 
-/// Puts out copies behind a text, where there is room for so many bytes at once.
+/// Puts out `copies` behind `text`, where there is room for `room` bytes at once.
 fn put_out(
     copies: &mut Copies,
     band: &mut LabelBand,
@@ -34,7 +34,7 @@ fn put_out(
     Ok(())
 }
 
-/// Copies are put out as this text, where there is room for so many bytes at once.
+/// `copies` are put out as `want`, where there is room for `room` bytes at once.
 fn prints(
     rt: &impl Abort,
     alloc: Global,

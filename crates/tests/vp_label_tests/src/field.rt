@@ -77,7 +77,7 @@ impl Painter {
     }
 }
 
-/// Rows of a band from the top, so many that begin alike and go on white; below them it is white.
+/// Rows of a band from the top: how many are alike, and their first six bytes; below them it is white.
 type Rows = &'static [(usize, [u8; 6])];
 
 /// All rows of such a band; none where they are more than its 32.

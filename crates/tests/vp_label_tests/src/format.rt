@@ -157,7 +157,7 @@ fn bytes_as_they_are(rt: HostRuntime) {
     same(&rt, &cursor.read(), &3);
 }
 
-/// A format holds so many fields, and these bytes.
+/// `format` holds `fields` fields, and the bytes `stored`.
 fn holds(rt: &impl Abort, format: &Format, fields: usize, stored: &[u8]) {
     same(rt, &format.len(), &fields);
     same(rt, &format.stored(), &stored);

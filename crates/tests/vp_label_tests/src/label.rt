@@ -31,7 +31,7 @@ fn behind(alloc: Global, stream: &[u8]) -> Result<(Label, usize, Option<Fault>),
     Ok((label, taken, fault))
 }
 
-/// Puts out what is pending behind a text, where there is room for so many bytes at once.
+/// Puts out what is pending behind `text`, where there is room for `room` bytes at once.
 fn put_behind(label: &mut Label, room: usize, text: &mut Vec<u8>) -> Result<(), AllocError> {
     let mut out = [0u8; 64];
     for _ in 0..200 {
@@ -41,7 +41,7 @@ fn put_behind(label: &mut Label, room: usize, text: &mut Vec<u8>) -> Result<(), 
     Ok(())
 }
 
-/// The bytes that a stream prints at its end where there is room for so many at once, and why it is refused.
+/// The bytes that `stream` prints at its end where there is room for `room` at once, and why it is refused.
 fn printed(
     alloc: Global,
     stream: &[u8],
@@ -53,7 +53,7 @@ fn printed(
     Ok((text, fault))
 }
 
-/// Whether a stream prints these bytes where there is room for so many at once.
+/// Whether `stream` prints `want` and isn't refused where there is room for `room` bytes at once.
 fn prints(alloc: Global, stream: &[u8], room: usize, want: &[u8]) -> Result<bool, AllocError> {
     let (text, fault) = printed(alloc, stream, room)?;
     Ok(text.as_slice() == want && fault == None)
@@ -118,7 +118,7 @@ fn rows_above_the_label(rt: HostRuntime) -> Result<(), Fail> {
     Ok(())
 }
 
-/// Puts out so many more bytes, one at a time.
+/// Puts out `bytes` more bytes, one at a time.
 fn put_out(label: &mut Label, bytes: usize) {
     let mut out = [0u8; 1];
     for _ in 0..bytes {
@@ -162,7 +162,7 @@ fn counts(rt: HostRuntime) -> Result<(), Fail> {
     Ok(())
 }
 
-/// A copy took so many looks so far, at least and at most.
+/// A copy took at least `least` and at most `most` looks so far.
 fn took(rt: &impl Abort, label: &Label, least: u64, most: u64) {
     let looks = label.visits();
     assert!(rt; looks >= least && looks <= most, "{looks} looks");
@@ -212,7 +212,7 @@ fn looks_of_many_bands(rt: HostRuntime) -> Result<(), Fail> {
     Ok(())
 }
 
-/// The bytes of a head, and others behind it so many times.
+/// `head`, and behind it `bytes` `times` times.
 fn repeated(alloc: Global, head: &[u8], bytes: &[u8], times: usize) -> Result<Vec<u8>, AllocError> {
     let mut stream = Vec::new(alloc);
     stream.extend_from_slice(head)?;
@@ -222,7 +222,7 @@ fn repeated(alloc: Global, head: &[u8], bytes: &[u8], times: usize) -> Result<Ve
     Ok(stream)
 }
 
-/// A stream is refused at its last byte; so much is then held, and there is room for so many bytes more.
+/// `stream` is refused at its last byte; `holds` is then held, and there is room for `room` bytes more.
 fn fills(
     rt: &impl Abort,
     alloc: Global,

@@ -237,7 +237,7 @@ fn listing_by_run(
 /// Bytes, their front that is taken one by one, what stands behind it, and how long its run is.
 type Run = (&'static [u8], &'static [u8], &'static [u8], usize);
 
-/// Whether a run is so long, and its items and rest are those of single bytes.
+/// Whether a run has `run` bytes, and its items and rest are those of single bytes.
 fn is_run(alloc: Global, (whole, head, input, run): Run) -> Result<bool, AllocError> {
     let (lines, rests) = listing(alloc, whole)?;
     let (found, n, found_rests) = listing_by_run(alloc, head, input)?;

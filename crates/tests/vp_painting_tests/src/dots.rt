@@ -121,7 +121,7 @@ fn kernel_agrees(rt: &impl Abort, op: Op, source: &[u8], at: i64, length: usize)
     same(rt, &fast, &slow);
 }
 
-/// It does so at this place, whatever the lengths of the source and of the row.
+/// The kernel paints at `at` as the slow reference does, with sources and rows of 0 to 70 bytes.
 fn kernel_agrees_at(rt: &impl Abort, op: Op, at: i64) {
     let source = mixed(1);
     for n in 0..71usize {

@@ -149,7 +149,7 @@ fn a_line_breaks_at_a_blank(rt: HostRuntime) -> Result<(), Fail> {
     Ok(())
 }
 
-/// A text in at most so many lines of 24 dots, in cells of 12 by 24.
+/// `text` in at most `most` lines of 24 dots, in cells of 12 by 24.
 #[derive(Clone, Copy)]
 struct Lines {
     text: &'static [u8],

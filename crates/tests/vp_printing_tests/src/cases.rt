@@ -30,7 +30,7 @@ pub struct Case {
     pub fault: Option<Fault>,
 }
 
-/// Adds a row of so many bytes that begins like this.
+/// Adds a row of `width` bytes that begins with `front`.
 fn add_row(paper: &mut Vec<u8>, front: &[u8], width: usize) -> Result<(), AllocError> {
     paper.extend_from_slice(front)?;
     repeat(paper, b"\0", width.saturating_sub(front.len()))
@@ -79,7 +79,7 @@ fn add_dots(paper: &mut Vec<u8>, width: usize, left: usize, dots: &[u8]) -> Resu
     Ok(())
 }
 
-/// Adds so many rows of a label that are alike.
+/// Adds `count` rows of a label that are alike.
 fn add_alike(
     paper: &mut Vec<u8>,
     width: usize,

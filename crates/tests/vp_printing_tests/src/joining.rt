@@ -1,5 +1,5 @@
-//! Images joined to one, between readers and a writer that give and take so many bytes a call, where one call
-//! fails, and where the second reader gives other bytes than the first.
+//! Images joined to one, between readers and a writer that give and take few or many bytes a call, where one
+//! call fails, and where the second reader gives other bytes than the first.
 use crate::checks::{same, same_at};
 use crate::pieces::{reader, writer};
 use crate::sheet::joined;
@@ -31,7 +31,7 @@ struct Ran {
     written: Vec<u8>,
 }
 
-/// Joins where at most so many bytes are read and written a call.
+/// Joins `first` and `second` where at most `most` bytes are read or written a call.
 fn run(alloc: Global, first: &[u8], second: &[u8], most: usize, fails: Fails) -> Ran {
     let mut a = reader(first, most, fails.first);
     let mut b = reader(second, most, fails.second);
@@ -200,12 +200,12 @@ fn each_size_is_joined(rt: HostRuntime) -> Result<(), Fail> {
     Ok(())
 }
 
-/// The answer where a call fails, of so many that are made.
+/// The answer where call `call` is to fail, of `calls` that are made.
 fn failing(call: usize, calls: usize, fault: JoinFault) -> Result<u64, JoinFault> {
     if call <= calls { Err(fault) } else { Ok(4) }
 }
 
-/// A run ended so, and where that is a fault so many bytes are written.
+/// A run ended with `answer`, and where that is a fault the first `written` bytes are written.
 fn failed(
     rt: &impl Abort,
     ran: &Ran,

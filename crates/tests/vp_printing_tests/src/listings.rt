@@ -30,7 +30,7 @@ struct Listing {
     languages: &'static [Language],
     bytes: &'static [u8],
     lines: &'static [u8],
-    /// The same lines behind their places.
+    /// The lines of `lines`, each behind its place.
     placed: &'static [u8],
     answer: Result<u64, RunFault>,
 }
@@ -182,7 +182,7 @@ impl Outcome {
     }
 }
 
-/// Lists, with so many bytes a call.
+/// Lists `bytes`, with at most `most` bytes a call.
 fn listed(
     alloc: Global,
     (language, form): (Language, Form),
@@ -205,7 +205,7 @@ fn listed(
     }
 }
 
-/// These bytes are listed in these lines, with this answer, with so many bytes a call.
+/// `bytes` are listed in the lines and with the answer of `want`, with at most `most` bytes a call.
 fn lists(
     rt: &impl Abort,
     alloc: Global,
@@ -224,7 +224,7 @@ fn lists(
     );
 }
 
-/// A listing in a language comes to its lines and its answer, with so many bytes a call.
+/// A listing in a language comes to its lines and its answer, with at most `most` bytes a call.
 fn is_listed(
     rt: &impl Abort,
     alloc: Global,
@@ -268,7 +268,7 @@ fn ends_in(rt: &impl Abort, text: &[u8], cut: &Outcome, (fault, call): (RunFault
     same_at(rt, "call", call, &found, &(Err(fault), front, call));
 }
 
-/// A read or a write of at most so many bytes fails.
+/// A read or a write of at most `most` bytes fails.
 fn fail_at(
     rt: &impl Abort,
     alloc: Global,
@@ -285,7 +285,7 @@ fn fail_at(
     ends_in(rt, listing.text(form), &cut, (fault, call));
 }
 
-/// How often a listing that doesn't fail reads, or else writes, with so many bytes a call.
+/// How often a listing that doesn't fail reads, or else writes, with at most `most` bytes a call.
 fn calls(
     alloc: Global,
     listing: &Listing,
@@ -296,7 +296,7 @@ fn calls(
     listed(alloc, (language, form), listing.bytes, most, (NEVER, NEVER)).calls(fault)
 }
 
-/// Each read, or each write, of at most so many bytes fails.
+/// Each read, or each write, of at most `most` bytes fails.
 fn fail_each(
     rt: &impl Abort,
     alloc: Global,
@@ -350,7 +350,7 @@ fn a_long_raster_is_listed(rt: HostRuntime) -> Result<(), Fail> {
     Ok(())
 }
 
-/// The lines of a raster of so many bytes A5, behind their places; its head has eight bytes.
+/// The lines of a raster of `times` bytes A5, behind their places; its head has eight bytes.
 fn placed_lines(alloc: Global, times: u64) -> Result<Vec<u8>, AllocError> {
     let mut lines = repeated(alloc, b"8 gs 76 30 00 10 27 01 00\n", b"", 0)?;
     for n in 0..times {

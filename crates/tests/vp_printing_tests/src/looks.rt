@@ -29,7 +29,7 @@ fn printing(alloc: Global, stream: &[u8]) -> Result<Label, AllocError> {
     Ok(label)
 }
 
-/// Puts out so many bytes, one a call, and says how many there were.
+/// Puts out up to `bytes` bytes, one a call, and says how many there were.
 fn put_bytes(label: &mut Label, bytes: usize) -> usize {
     let mut put: usize = 0;
     for _ in 0..bytes {
@@ -38,7 +38,7 @@ fn put_bytes(label: &mut Label, bytes: usize) -> usize {
     put
 }
 
-/// A copy is pending, has so many bytes, and takes so many looks, at least and at most.
+/// A copy is pending, puts out `bytes` bytes, and takes at least `least` and at most `most` looks.
 fn a_copy_takes(rt: &impl Abort, label: &mut Label, bytes: usize, (least, most): (u64, u64)) {
     let pending = label.pending();
     let put = put_bytes(label, bytes);
@@ -52,7 +52,7 @@ fn a_copy_takes(rt: &impl Abort, label: &mut Label, bytes: usize, (least, most):
     );
 }
 
-/// Each copy takes so many looks, and nothing is pending behind the last.
+/// Each of `copies` copies takes from `looks.0` to `looks.1` looks, and nothing is pending behind the last.
 fn copies_take(
     rt: &impl Abort,
     label: &mut Label,
@@ -65,7 +65,7 @@ fn copies_take(
     same(rt, "pending", &label.pending(), &false);
 }
 
-/// Each copy of so many bytes takes so many looks, at least and at most.
+/// Each of the `copies.0` copies of `copies.1` bytes takes from `looks.0` to `looks.1` looks.
 fn takes(
     rt: &impl Abort,
     alloc: Global,

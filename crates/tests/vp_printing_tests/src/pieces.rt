@@ -1,4 +1,4 @@
-//! A reader and a writer over memory that give and take at most so many bytes a call, and fail at one call.
+//! A reader and a writer over memory that move at most `most` bytes a call, and fail at call `fails_at`.
 use crate::checks::same;
 use std::alloc::Global;
 use std::io;
@@ -55,7 +55,7 @@ impl Write for Sips {
     }
 }
 
-/// Gives the bytes, so many a call.
+/// Gives `bytes`, at most `most` a call.
 pub fn reader(bytes: &[u8], most: usize, fails_at: usize) -> Counted<Pieces<'_>> {
     Counted::new(Pieces {
         rest: bytes,
@@ -65,7 +65,7 @@ pub fn reader(bytes: &[u8], most: usize, fails_at: usize) -> Counted<Pieces<'_>>
     })
 }
 
-/// Takes so many bytes a call.
+/// Takes at most `most` bytes a call.
 pub fn writer(alloc: Global, most: usize, fails_at: usize) -> Counted<Sips> {
     Counted::new(Sips {
         bytes: Vec::new(alloc),

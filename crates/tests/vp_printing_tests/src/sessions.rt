@@ -72,7 +72,7 @@ fn goes_on_at_the_ninth(rt: &impl Abort, alloc: Global, session: &mut Session, s
     has_sipped(rt, &writer.into_inner(), stream.written);
 }
 
-/// The same, of a new session.
+/// A new session goes on where its writer, which takes one byte a call, fails at the ninth.
 fn goes_on_writing(
     rt: &impl Abort,
     alloc: Global,
@@ -94,7 +94,7 @@ fn goes_on_behind_the_byte_that_was_written_last(rt: HostRuntime) -> Result<(), 
 }
 
 /// A stream that ends early, what it comes to then, and what the rest of it comes to: the paper of both, in
-/// parts that come so many times.
+/// parts, each with how often it comes.
 struct GoneOn {
     language: Language,
     front: &'static [u8],
@@ -150,7 +150,7 @@ fn goes_on(rt: &impl Abort, alloc: Global, session: &mut Session, stream: &GoneO
     same(rt, "paper", &written.as_slice(), &paper);
 }
 
-/// The same, of a new session.
+/// A new session prints the front of a stream, which ends early, and goes on with its back.
 fn goes_on_printing(rt: &impl Abort, alloc: Global, stream: &GoneOn) -> Result<(), Fail> {
     let paper = joined(alloc, stream.paper)?;
     let mut session = Session::new(alloc, stream.language, NO_SHEETS)?;
@@ -277,7 +277,7 @@ fn the_widest_raster(rt: HostRuntime) -> Result<(), Fail> {
     prints(&rt, rt.alloc(), Language::Receipt, &bytes, (&black, None))
 }
 
-/// So many copies that no output holds them: each call puts out the next one.
+/// 99,999,999 copies, more than an output holds: each call puts out the next one.
 static COPIES: [Stage; 4] = [
     (
         b"^XA^PW8^LL1^PQ99999999^GB8,1,1^FS^XZ",
@@ -297,7 +297,7 @@ fn copies_come_as_there_is_room(rt: HostRuntime) -> Result<(), Fail> {
     Ok(())
 }
 
-/// A session prints this paper of a label and stops at this fault, behind so many bytes.
+/// A session prints `paper` of a label and stops at `fault`, behind `after` bytes.
 fn is_refused(
     rt: &impl Abort,
     alloc: Global,
@@ -355,7 +355,7 @@ fn one_byte_more_than_is_held(rt: HostRuntime) -> Result<(), Fail> {
     one_more_is_refused(&rt, rt.alloc(), &mut bytes)
 }
 
-/// Data of so many digits behind their front come to this fault.
+/// Data of `digits` digits behind `head` come to `fault`.
 fn refuses(
     rt: &impl Abort,
     alloc: Global,

@@ -35,7 +35,7 @@ pub fn sheets(alloc: Global, image: &[u8]) -> Sheets {
     }
 }
 
-/// Adds a part so many times.
+/// Adds `part` `times` times.
 pub fn repeat(bytes: &mut Vec<u8>, part: &[u8], times: usize) -> Result<(), AllocError> {
     for _ in 0..times {
         bytes.extend_from_slice(part)?;
@@ -43,7 +43,7 @@ pub fn repeat(bytes: &mut Vec<u8>, part: &[u8], times: usize) -> Result<(), Allo
     Ok(())
 }
 
-/// A front, and behind it a part so many times.
+/// `front`, and behind it `part` `times` times.
 pub fn repeated(
     alloc: Global,
     front: &[u8],
@@ -56,7 +56,7 @@ pub fn repeated(
     Ok(bytes)
 }
 
-/// These parts, one after the other, each so many times.
+/// These parts, one after the other, each as often as the number beside it says.
 pub fn joined(alloc: Global, parts: &[(&[u8], usize)]) -> Result<Vec<u8>, AllocError> {
     let mut bytes = Vec::new(alloc);
     for (part, times) in parts {

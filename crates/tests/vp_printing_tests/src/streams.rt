@@ -2,7 +2,7 @@
 use vp_dots::{Fault, Why};
 use vp_engine::Language;
 
-/// An image: its header, and its rows, so many that begin alike and go on white.
+/// An image: its header, and in `rows` how many rows are alike and how they begin; they go on white.
 pub struct Image {
     pub head: &'static [u8],
     pub rows: &'static [(usize, &'static [u8])],

@@ -21,8 +21,8 @@ pub enum Way {
     InBytes,
     /// Each of its fronts through a session.
     ByFronts,
-    /// Through sessions in which a read or a write fails once; at most so many bytes are written a call,
-    /// or a thirtieth of all.
+    /// Through sessions in which a read or a write fails once. Where a write fails, a call moves at most this
+    /// number of bytes, or a thirtieth of the paper where that is more.
     Failing(usize),
 }
 
@@ -102,7 +102,7 @@ pub struct Pumped {
     writes: usize,
 }
 
-/// Reads and writes so many bytes a call, and once more after a failed read or write.
+/// Pumps `session` with at most `most` bytes a call, and once more after a failed read or write.
 fn pump_with(
     session: &mut Session,
     alloc: Global,
@@ -127,7 +127,7 @@ fn pump_with(
     }
 }
 
-/// A new session that reads and writes so many bytes a call, and once more after a failed read or write.
+/// Pumps a new session with at most `most` bytes a call, and once more after a failed read or write.
 pub fn pump(
     alloc: Global,
     image: &[u8],
@@ -266,7 +266,7 @@ fn calm(
     Ok((pumped.first, calls))
 }
 
-/// Each read, or each write, of at most so many bytes fails once.
+/// Each read, or each write, of at most `most` bytes fails once.
 fn fail_each(
     rt: &impl Abort,
     alloc: Global,

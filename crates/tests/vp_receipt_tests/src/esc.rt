@@ -85,7 +85,7 @@ fn faults(rt: HostRuntime) -> Result<(), Fail> {
     Ok(())
 }
 
-/// Appends a symbol of so many bytes that end at a 0.
+/// Appends a symbol of `count` bytes that end at a 0.
 fn push_symbol(bytes: &mut Vec<u8>, count: usize) -> Result<(), AllocError> {
     bytes.extend_from_slice(b"\x1D\x6B\x04")?;
     for _ in 0..count {

@@ -46,7 +46,7 @@ fn new_receipt(alloc: Global, width: Width) -> Result<Receipt, Fail> {
     Ok(Receipt::new(alloc, stairs(alloc)?, width)?)
 }
 
-/// What is printed of parts that are sent, each of whole commands, put out by so many bytes at a time.
+/// What is printed of `parts` that are sent, each of whole commands, put out by `room` bytes at a time.
 fn printed(alloc: Global, width: Width, parts: &[&[u8]], room: usize) -> Result<Vec<u8>, Fail> {
     let mut receipt = new_receipt(alloc, width)?;
     let mut paper = Vec::new(alloc);
@@ -56,7 +56,7 @@ fn printed(alloc: Global, width: Width, parts: &[&[u8]], room: usize) -> Result<
     Ok(paper)
 }
 
-/// Goes on with whole commands, putting out so many bytes at a time, and answers the fault of the last item.
+/// Goes on with whole commands, putting out `room` bytes at a time, and answers the fault of the last item.
 fn print_on(
     receipt: &mut Receipt,
     sent: &[u8],
@@ -94,7 +94,7 @@ fn put_all(receipt: &mut Receipt, room: usize, paper: &mut Vec<u8>) -> Result<()
     Ok(())
 }
 
-/// Appends so many rows that begin with the bytes and go on white.
+/// Appends `count` rows of `width` bytes that begin with `bytes` and go on white.
 fn rows(paper: &mut Vec<u8>, count: usize, bytes: &[u8], width: usize) -> Result<(), AllocError> {
     for _ in 0..count {
         for x in 0..width {
@@ -104,7 +104,7 @@ fn rows(paper: &mut Vec<u8>, count: usize, bytes: &[u8], width: usize) -> Result
     Ok(())
 }
 
-/// A strip as it is wanted: its header's text, and rows that are so often there and begin so.
+/// A strip as it is wanted: its header's text, and in `rows` how many rows are alike and how they begin.
 struct Strip {
     head: &'static [u8],
     rows: &'static [(usize, &'static [u8])],
@@ -130,7 +130,7 @@ fn wanted(alloc: Global, width: Width, strips: &[Strip]) -> Result<Vec<u8>, Allo
     Ok(paper)
 }
 
-/// Whether the strips are printed where so many bytes are put out at a time.
+/// Whether `sent` prints `strips` where `room` bytes are put out at a time.
 fn prints(
     alloc: Global,
     width: Width,

@@ -78,7 +78,7 @@ static DOWN: Rows = &[
     (4, [0x80, 0, 0, 0, 0, 0]),
 ];
 
-/// A band of a label of so many dots and rows with a field.
+/// The first band of a label of `width` dots and `height` rows, with `field`.
 fn painted(
     alloc: Global,
     width: u16,

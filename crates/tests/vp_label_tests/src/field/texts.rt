@@ -52,7 +52,7 @@ fn block(orientation: Orientation, stored: &[u8], lines: u8, alignment: Alignmen
     }
 }
 
-/// A text in each orientation, by its left edge, on a label of so many dots and rows.
+/// A text in `orientation`, with its left edge at `left`, on `label`, and the rows that the band shows.
 struct TextRow {
     letters: &'static [u8],
     orientation: Orientation,

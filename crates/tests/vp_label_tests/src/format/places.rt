@@ -32,7 +32,7 @@ fn told(b: u8) -> Told
     }
 }
 
-/// The value of a place in rows of so many places, where the place above has another, by the codes from the
+/// The value of `place` in rows of `width` places, where the place above has `above`, by `codes` from the
 /// first on; none where its symbol is refused.
 fn value_of_place(codes: &[u8], width: u128, place: u128, above: u8) -> Option<u8>
     requires some { 0 < width }

@@ -6,7 +6,7 @@ use std::test::Fail;
 use vp_esc::EscItem;
 use vp_receipt::{Receipt, Width};
 
-/// Takes bytes of a raster in runs of at most so many; one by one where there is none.
+/// Takes `bytes` of a raster in runs of at most `run` bytes; one by one where there is no room for a run.
 fn take_in_runs(receipt: &mut Receipt, bytes: &[u8], run: usize) {
     let mut rest = bytes;
     for _ in 0..bytes.len() {

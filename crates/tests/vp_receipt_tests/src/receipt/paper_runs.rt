@@ -7,8 +7,8 @@ use std::test::Fail;
 use vp_esc::EscItem;
 use vp_receipt::{Receipt, Width};
 
-/// Takes bytes of a raster in runs of at most so many, with so much room for what each run prints; one by one
-/// where there is none.
+/// Takes `bytes` of a raster in runs of at most `run` bytes, with `room` bytes for what each run prints; one
+/// by one where there is no room for a run.
 fn take_in_runs(
     receipt: &mut Receipt,
     bytes: &[u8],

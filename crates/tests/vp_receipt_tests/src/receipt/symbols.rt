@@ -61,7 +61,7 @@ fn refused_symbols(rt: HostRuntime) -> Result<(), Fail> {
     all_are_refused(&rt, rt.alloc(), &REFUSED_QR)
 }
 
-/// The bytes with so many of one kind between them.
+/// `front` and `back`, with `byte` `count` times between them.
 fn filled(
     alloc: Global,
     front: &[u8],
