@@ -12,6 +12,7 @@ use Rattle.vp_dots.proofs.Words.{word_row}
 use Rattle.vp_glyph.specs.Sheets.{Glyphs}
 use Rattle.vp_glyph.specs.Texts.{sampled_dot, text_dot}
 use Rattle.vp_glyph.specs.Blocks.{indent, line_dot, lines_dot, block_lines, block_height, block_dot}
+use Rattle.vp_glyph.proofs.Layouts.{layout}
 use Rattle.vp_glyph.specs.declared.block.Alignment.{Alignment}
 use Rattle.vp_glyph.proofs.Looks.{or_dot, white_dot}
 use Rattle.vp_glyph.proofs.Overlaid.{Overlaid, overlaid_none, overlaid_all, zero_at, zero_dots}
@@ -45,7 +46,7 @@ and_false false = refl
 
 module _ (sheet : Option Glyphs) (w h a b s : ℕ) (d : Alignment) (place : ℕ) (line : List ℕ) where
   -- a line that begins below the row
-  line_below : (x y : ℕ) → y < place * s → line_dot sheet w h a s d place line x y ≡ false
+  line_below : (x y : ℕ) → y < place * s → line_dot (layout sheet w h a b s d) place line x y ≡ false
   line_below x y l =
       let left : ℕ = indent d (a - w * length line) in
       ap (λ t. leb left x && t && text_dot sheet line w h (x - left) (y - place * s)) (lt-leb (place * s) y l)
@@ -53,7 +54,7 @@ module _ (sheet : Option Glyphs) (w h a b s : ℕ) (d : Alignment) (place : ℕ)
 
   -- rows of it that show the same row of the sheet
   line_alike : (r y z x : ℕ) → r < 24 → place * s + edge_at 24 h r ≤ y → y < place * s + edge_at 24 h (r + 1) → place * s + edge_at 24 h r ≤ z → z < place * s + edge_at 24 h (r + 1)
-      → line_dot sheet w h a s d place line x y ≡ line_dot sheet w h a s d place line x z
+      → line_dot (layout sheet w h a b s d) place line x y ≡ line_dot (layout sheet w h a b s d) place line x z
   line_alike r y z x k l m n o =
       let left : ℕ = indent d (a - w * length line) in
       let p = row_shown h r (y - place * s) k (omega arith) (omega arith) in
@@ -65,7 +66,7 @@ module _ (sheet : Option Glyphs) (w h a b s : ℕ) (d : Alignment) (place : ℕ)
   module _ (at : ℤ) (n top : ℕ) where
     -- the front of a row of it
     abbrev pub front : ℕ → ℕ → Bool
-    front y x = shifted at (λ x. line_dot sheet w h a s d place line x y) x
+    front y x = shifted at (λ x. line_dot (layout sheet w h a b s d) place line x y) x
 
     -- the rows that show the rows before r of the sheet are added to the fronts
     abbrev pub Added : ℕ → List ℕ → List ℕ → Type 0
@@ -75,7 +76,7 @@ module _ (sheet : Option Glyphs) (w h a b s : ℕ) (d : Alignment) (place : ℕ)
     added_none old i x l m =
         let e = edge_first 24 h (omega arith) in
         let none : (ltb (top + i) (place * s + edge_at 24 h 0) && front (top + i) x) ≡ false = elim (cases_lt (top + i) (place * s)) [
-          | inl k ↦ ap (λ t. ltb (top + i) (place * s + edge_at 24 h 0) && t) (shifted_none at (λ x. line_dot sheet w h a s d place line x (top + i)) x (λ u. line_below u (top + i) k)) ∙ and_false _
+          | inl k ↦ ap (λ t. ltb (top + i) (place * s + edge_at 24 h 0) && t) (shifted_none at (λ x. line_dot (layout sheet w h a b s d) place line x (top + i)) x (λ u. line_below u (top + i) k)) ∙ and_false _
           | inr g ↦ rw (le-ltb (top + i) (place * s + edge_at 24 h 0) (omega arith)) refl
         ] in
         or_false _ ∙ ap (λ t. word_dot (get_or old i 0) x || t) (sym none)
@@ -107,7 +108,7 @@ module _ (sheet : Option Glyphs) (w h a b s : ℕ) (d : Alignment) (place : ℕ)
         | inr y ↦ elim (cases_lt i to) [
           | inl z ↦
               q i x y z ∙ ap (λ t. t || word_dot ink x) (o i x l m ∙ ap (λ t. word_dot (get_or old i 0) x || t && front (top + i) x) (le-ltb (top + i) (place * s + edge_at 24 h r) (omega arith)) ∙ sym (or_false _))
-              ∙ ap (λ t. word_dot (get_or old i 0) x || t) (p x m ∙ shifted_same at (λ x. line_dot sheet w h a s d place line x (top + from)) (λ x. line_dot sheet w h a s d place line x (top + i)) x
+              ∙ ap (λ t. word_dot (get_or old i 0) x || t) (p x m ∙ shifted_same at (λ x. line_dot (layout sheet w h a b s d) place line x (top + from)) (λ x. line_dot (layout sheet w h a b s d) place line x (top + i)) x
               (λ v _. line_alike r (top + from) (top + i) v k (omega arith) (omega arith) (omega arith) (omega arith)))
               ∙ ap (λ t. word_dot (get_or old i 0) x || t && front (top + i) x) (sym (lt-ltb (top + i) (place * s + edge_at 24 h (r + 1)) (omega arith)))
           | inr z ↦ outside (rw (le-leb from i y, le-ltb i to z) refl)
@@ -124,7 +125,7 @@ module _ (sheet : Option Glyphs) (w h a b s : ℕ) (d : Alignment) (place : ℕ)
         o i x l m ∙ ap (λ t. word_dot (get_or old i 0) x || t) (elim (cases_lt (top + i) (place * s + edge_at 24 h r)) [
           | inl k ↦ rw (lt-ltb (top + i) (place * s + edge_at 24 h r) k) refl
           | inr g ↦
-              let none : front (top + i) x ≡ false = shifted_none at (λ x. line_dot sheet w h a s d place line x (top + i)) x (λ u. line_above sheet w h a b s d u (top + i) place line (let f = ap (edge_at 24 h) z in omega (arith, f))) in
+              let none : front (top + i) x ≡ false = shifted_none at (λ x. line_dot (layout sheet w h a b s d) place line x (top + i)) x (λ u. line_above sheet w h a b s d u (top + i) place line (let f = ap (edge_at 24 h) z in omega (arith, f))) in
               rw none (and_false _)
         ])
 
@@ -172,19 +173,19 @@ blackened_more ink from i old mid l m b = record {
 
 module _ (sheet : Option Glyphs) (text : List ℕ) (w h a b s : ℕ) (d : Alignment) (y : ℕ) (at : ℤ) where
   -- a block less wide than a cell
-  pub narrow_front : (n i x : ℕ) → a < w → word_dot (get_or (replicate {A = ℕ} n 0) i 0) x ≡ shifted at (λ v. block_dot sheet text w h a b s d v y) x
-  narrow_front n i x l = ap (λ k. word_dot k x) (zero_at n i) ∙ white_dot x ∙ sym (shifted_none at (λ v. block_dot sheet text w h a b s d v y) x (λ v. sym (block_narrow sheet text w h a b s d v y l)))
+  pub narrow_front : (n i x : ℕ) → a < w → word_dot (get_or (replicate {A = ℕ} n 0) i 0) x ≡ shifted at (λ v. block_dot (layout sheet w h a b s d) text v y) x
+  narrow_front n i x l = ap (λ k. word_dot k x) (zero_at n i) ∙ white_dot x ∙ sym (shifted_none at (λ v. block_dot (layout sheet w h a b s d) text v y) x (λ v. sym (block_narrow sheet text w h a b s d v y l)))
 
   -- the front of a row behind all lines that have a dot in it
   pub whole_front : (place x word : ℕ) (left : Option (Bor (List ℕ))) → x < 64 → w ≤ a → y < block_height h b s
-      → ((x : ℕ) → lines_dot sheet w h a b s d place (lines_left (a / w) left) x y ≡ false)
+      → ((x : ℕ) → lines_dot (layout sheet w h a b s d) place (lines_left (a / w) left) x y ≡ false)
       → Overlaid sheet w h a b s d y Black at (a / w) (block_lines (a / w) text) place left (to_be_bytes w64 0) (to_be_bytes w64 word)
-      → word_dot word x ≡ shifted at (λ v. block_dot sheet text w h a b s d v y) x
-  whole_front place x word left l m k e o = row_front at (λ v. block_dot sheet text w h a b s d v y) word x l
+      → word_dot word x ≡ shifted at (λ v. block_dot (layout sheet w h a b s d) text v y) x
+  whole_front place x word left l m k e o = row_front at (λ v. block_dot (layout sheet w h a b s d) text v y) word x l
       (overlaid_all sheet w h a b s d y Black at (a / w) text place left (to_be_bytes w64 0) (to_be_bytes w64 word) refl m k e o)
 
 -- no line yet
 pub no_line : (sheet : Option Glyphs) (w h a b s : ℕ) (d : Alignment) (y : ℕ) (at : ℤ) (n : ℕ) (all : List (List ℕ)) (place word : ℕ) (text : Bor (List ℕ)) → word ≡ 0
-    → ((x : ℕ) → lines_dot sheet w h a b s d 0 all x y ≡ lines_dot sheet w h a b s d place (block_lines n text.now) x y)
+    → ((x : ℕ) → lines_dot (layout sheet w h a b s d) 0 all x y ≡ lines_dot (layout sheet w h a b s d) place (block_lines n text.now) x y)
     → Overlaid sheet w h a b s d y Black at n all place (Some text) (to_be_bytes w64 0) (to_be_bytes w64 word)
 no_line sheet w h a b s d y at n all place word text z e = rw z (overlaid_none sheet w h a b s d y Black at n all place text (to_be_bytes w64 0) e)

@@ -4,6 +4,7 @@ pub mod Drawn
 pub mod Formed
 pub mod Gathered
 pub mod Forms
+pub mod Layouts
 pub mod Looks
 pub mod Magnified
 pub mod Numbers

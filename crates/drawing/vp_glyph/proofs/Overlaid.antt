@@ -15,6 +15,7 @@ use Rattle.vp_dots.proofs.Shifts.{shifted_or}
 use Rattle.vp_glyph.specs.Sheets.{Glyphs}
 use Rattle.vp_glyph.specs.Texts.{text_dot, text_inside}
 use Rattle.vp_glyph.specs.Blocks.{pieces, first, indent, block_lines, line_dot, lines_dot, block_width, block_height, block_dot, block_inside}
+use Rattle.vp_glyph.proofs.Layouts.{layout}
 use Rattle.vp_glyph.specs.declared.block.Alignment.{Alignment}
 use Rattle.vp_glyph.specs.declared.block.Alignment.TheVariants.{Left, Centre, Right}
 use Rattle.vp_glyph.proofs.Drawn.{moved_none}
@@ -62,7 +63,7 @@ or_true false b e = inr e
 
 module _ (sheet : Option Glyphs) (w h a b s : ℕ) (d : Alignment) (y : ℕ) where
   -- a line stands within the block
-  line_inside : (place k x : ℕ) (cells : List ℕ) → k ≤ length cells → k ≤ a / w → line_dot sheet w h a s d place (take k cells) x y ≡ true → x < a
+  line_inside : (place k x : ℕ) (cells : List ℕ) → k ≤ length cells → k ≤ a / w → line_dot (layout sheet w h a b s d) place (take k cells) x y ≡ true → x < a
   line_inside place k x cells l m e =
       let n : length (take k cells) ≡ k = length-take-le k cells l in
       let move : ℕ = indent d (a - w * length (take k cells)) in
@@ -80,11 +81,11 @@ module _ (sheet : Option Glyphs) (w h a b s : ℕ) (d : Alignment) (y : ℕ) whe
   pub record Overlaid (op : Op) (at : ℤ) (n : ℕ) (all : List (List ℕ)) (place : ℕ) (left : Option (Bor (List ℕ))) (old new : List ℕ) : Type 0 where
     pub done : ℕ → Bool
     pub painted : Painted op (shifted at done) old new
-    pub rest_is : (x : ℕ) → lines_dot sheet w h a b s d 0 all x y ≡ (done x || lines_dot sheet w h a b s d place (lines_left n left) x y)
+    pub rest_is : (x : ℕ) → lines_dot (layout sheet w h a b s d) 0 all x y ≡ (done x || lines_dot (layout sheet w h a b s d) place (lines_left n left) x y)
     pub inside : (x : ℕ) → done x ≡ true → x < a
 
   pub overlaid_none : (op : Op) (at : ℤ) (n : ℕ) (all : List (List ℕ)) (place : ℕ) (text : Bor (List ℕ)) (row : List ℕ)
-      → ((x : ℕ) → lines_dot sheet w h a b s d 0 all x y ≡ lines_dot sheet w h a b s d place (block_lines n text.now) x y)
+      → ((x : ℕ) → lines_dot (layout sheet w h a b s d) 0 all x y ≡ lines_dot (layout sheet w h a b s d) place (block_lines n text.now) x y)
       → Overlaid op at n all place (Some text) row row
   overlaid_none op at n all place text row e =
       record { done = λ x. false; painted = moved_none op at (λ x. false) row (λ x. refl); rest_is = λ x. e x; inside = λ x e. cc }
@@ -92,17 +93,17 @@ module _ (sheet : Option Glyphs) (w h a b s : ℕ) (d : Alignment) (y : ℕ) whe
   pub overlaid_more : (op : Op) (at : ℤ) (n : ℕ) (all : List (List ℕ)) (place k to : ℕ) (left next : Option (Bor (List ℕ))) (text : Bor (List ℕ)) (lent old row new : List ℕ) → op ≢ Flip → n ≡ a / w
       → Overlaid op at n all place left old row → left ≡ Some text → lent ≡ text.now → k ≤ length (first (pieces text.now)) → k ≤ n
       → MatchOption next (block_lines n text.now ≡ take k (first (pieces text.now)) ∷ []) (λ q. block_lines n text.now ≡ take k (first (pieces text.now)) ∷ block_lines n q.now)
-      → Painted op (shifted at (λ x. line_dot sheet w h a s d place (take k (first (pieces lent))) x y)) row new → to ≡ min (place + 1) (b - 1) → Overlaid op at n all to next old new
+      → Painted op (shifted at (λ x. line_dot (layout sheet w h a b s d) place (take k (first (pieces lent))) x y)) row new → to ≡ min (place + 1) (b - 1) → Overlaid op at n all to next old new
   overlaid_more op at n all place k to left next text lent old row new f z o e m l u r p t =
       let line : List ℕ = take k (first (pieces text.now)) in
       let front : lines_left n left ≡ line ∷ lines_left n next = ap (lines_left n) e ∙ lines_are n text.now line next r in
       record {
-        done = λ x. o.done x || line_dot sheet w h a s d place line x y;
-        painted = painted_over op at o.done (λ x. line_dot sheet w h a s d place line x y) (λ x. o.done x || line_dot sheet w h a s d place line x y) old row new f (λ x. refl) o.painted (rw m at p);
-        rest_is = λ x. o.rest_is x ∙ ap (λ (ls : List (List ℕ)). o.done x || lines_dot sheet w h a b s d place ls x y) front
-            ∙ or_assoc (o.done x) (line_dot sheet w h a s d place line x y) (lines_dot sheet w h a b s d (min (place + 1) (b - 1)) (lines_left n next) x y)
-            ∙ ap (λ j. o.done x || line_dot sheet w h a s d place line x y || lines_dot sheet w h a b s d j (lines_left n next) x y) (sym t);
-        inside = λ x i. elim (or_true (o.done x) (line_dot sheet w h a s d place line x y) i) [
+        done = λ x. o.done x || line_dot (layout sheet w h a b s d) place line x y;
+        painted = painted_over op at o.done (λ x. line_dot (layout sheet w h a b s d) place line x y) (λ x. o.done x || line_dot (layout sheet w h a b s d) place line x y) old row new f (λ x. refl) o.painted (rw m at p);
+        rest_is = λ x. o.rest_is x ∙ ap (λ (ls : List (List ℕ)). o.done x || lines_dot (layout sheet w h a b s d) place ls x y) front
+            ∙ or_assoc (o.done x) (line_dot (layout sheet w h a b s d) place line x y) (lines_dot (layout sheet w h a b s d) (min (place + 1) (b - 1)) (lines_left n next) x y)
+            ∙ ap (λ j. o.done x || line_dot (layout sheet w h a b s d) place line x y || lines_dot (layout sheet w h a b s d) j (lines_left n next) x y) (sym t);
+        inside = λ x i. elim (or_true (o.done x) (line_dot (layout sheet w h a b s d) place line x y) i) [
           | inl v ↦ o.inside x v
           | inr v ↦ line_inside place k x (first (pieces text.now)) l (rw z at u) v
         ];
@@ -110,19 +111,19 @@ module _ (sheet : Option Glyphs) (w h a b s : ℕ) (d : Alignment) (y : ℕ) whe
 
   -- what is left has no dot in the row
   pub overlaid_all : (op : Op) (at : ℤ) (n : ℕ) (text : List ℕ) (place : ℕ) (left : Option (Bor (List ℕ))) (old new : List ℕ) → n ≡ a / w → w ≤ a → y < block_height h b s
-      → ((x : ℕ) → lines_dot sheet w h a b s d place (lines_left n left) x y ≡ false)
-      → Overlaid op at n (block_lines n text) place left old new → Painted op (shifted at (λ x. block_dot sheet text w h a b s d x y)) old new
-  overlaid_all op at n text place left old new z m l e o = moved_same op at o.done (λ x. block_dot sheet text w h a b s d x y) old new
+      → ((x : ℕ) → lines_dot (layout sheet w h a b s d) place (lines_left n left) x y ≡ false)
+      → Overlaid op at n (block_lines n text) place left old new → Painted op (shifted at (λ x. block_dot (layout sheet w h a b s d) text x y)) old new
+  overlaid_all op at n text place left old new z m l e o = moved_same op at o.done (λ x. block_dot (layout sheet w h a b s d) text x y) old new
       (λ x.
-      let total : o.done x ≡ lines_dot sheet w h a b s d 0 (block_lines n text) x y = or_false (o.done x) ∙ sym (o.rest_is x ∙ ap (λ q. o.done x || q) (e x)) in
+      let total : o.done x ≡ lines_dot (layout sheet w h a b s d) 0 (block_lines n text) x y = or_false (o.done x) ∙ sym (o.rest_is x ∙ ap (λ q. o.done x || q) (e x)) in
       elim (cases_lt x (block_width a w)) [
-        | inl k ↦ total ∙ ap (λ c. lines_dot sheet w h a b s d 0 (block_lines c text) x y) z ∙ block_within sheet text w h a b s d x y k l m
+        | inl k ↦ total ∙ ap (λ c. lines_dot (layout sheet w h a b s d) 0 (block_lines c text) x y) z ∙ block_within sheet text w h a b s d x y k l m
         | inr g ↦ false_from_ne_true (o.done x) (λ t. absurd (let i = o.inside x t in omega arith)) ∙ block_past sheet text w h a b s d x y g
       ]) o.painted
 
   -- nor has a line that ends above it
-  pub above_none : (op : Op) (at : ℤ) (place : ℕ) (line row : List ℕ) → place * s + h ≤ y → Painted op (shifted at (λ x. line_dot sheet w h a s d place line x y)) row row
-  above_none op at place line row l = moved_none op at (λ x. line_dot sheet w h a s d place line x y) row (λ x. line_above sheet w h a b s d x y place line l)
+  pub above_none : (op : Op) (at : ℤ) (place : ℕ) (line row : List ℕ) → place * s + h ≤ y → Painted op (shifted at (λ x. line_dot (layout sheet w h a b s d) place line x y)) row row
+  above_none op at place line row l = moved_none op at (λ x. line_dot (layout sheet w h a b s d) place line x y) row (λ x. line_above sheet w h a b s d x y place line l)
 
 -- a white row
 pub zero_at : (n i : ℕ) → get_or (replicate {A = ℕ} n 0) i 0 ≡ 0
@@ -147,6 +148,6 @@ from_white n wide f row o l p x =
 
 -- a block reversed by way of a white row
 pub flipped : (at : ℤ) (n : ℕ) (sheet : Option Glyphs) (text : List ℕ) (w h a b s : ℕ) (d : Alignment) (y : ℕ) (dots old new : List ℕ) → w ≤ a → a ≤ 8 * n
-    → Painted Black (shifted (pos 0) (λ x. block_dot sheet text w h a b s d x y)) (replicate {A = ℕ} n 0) dots → Painted Flip (shifted at (dot dots)) old new → Painted Flip (shifted at (λ x. block_dot sheet text w h a b s d x y)) old new
-flipped at n sheet text w h a b s d y dots old new m l p q = moved_same Flip at (dot dots) (λ x. block_dot sheet text w h a b s d x y) old new
-    (λ x. from_white n a (λ x. block_dot sheet text w h a b s d x y) dots (λ x e. let i = (block_inside sheet text w h a b s d x y e).0 in omega arith) l p x) q
+    → Painted Black (shifted (pos 0) (λ x. block_dot (layout sheet w h a b s d) text x y)) (replicate {A = ℕ} n 0) dots → Painted Flip (shifted at (dot dots)) old new → Painted Flip (shifted at (λ x. block_dot (layout sheet w h a b s d) text x y)) old new
+flipped at n sheet text w h a b s d y dots old new m l p q = moved_same Flip at (dot dots) (λ x. block_dot (layout sheet w h a b s d) text x y) old new
+    (λ x. from_white n a (λ x. block_dot (layout sheet w h a b s d) text x y) dots (λ x e. let i = (block_inside (layout sheet w h a b s d) text x y e).0 in omega arith) l p x) q

@@ -87,29 +87,41 @@ block_width a w = max a w
 abbrev pub block_height : ℕ → ℕ → ℕ → ℕ
 block_height h b s = h + (b - 1) * s
 
--- dot (x, y) of a line that stands `place` lines below the first, in a block of a dots
-abbrev pub line_dot : Option Glyphs → ℕ → ℕ → ℕ → ℕ → Alignment → ℕ → List ℕ → ℕ → ℕ → Bool
-line_dot sheet w h a s d place line x y =
-    let left = indent d (a - w * length line) in
-    nat_le left x && nat_le (place * s) y && text_dot sheet line w h (x - left) (y - place * s)
+-- how a text is laid in a block of lines: the sheet of its cells and their width and height, the width of a
+-- line and how many lines there are, from the top of one to that of the next, and where they stand in it
+pub record BlockLayout : Type 0 where
+  pub sheet : Option Glyphs
+  pub w : ℕ
+  pub h : ℕ
+  pub wide : ℕ
+  pub rows : ℕ
+  pub pitch : ℕ
+  pub alignment : Alignment
 
--- dot (x, y) of some lines one below the other; those past the last of b stand over it
-abbrev pub lines_dot : Option Glyphs → ℕ → ℕ → ℕ → ℕ → ℕ → Alignment → ℕ → List (List ℕ) → ℕ → ℕ → Bool
-lines_dot sheet w h a b s d place [] x y = false
-lines_dot sheet w h a b s d place (line ∷ rest) x y =
-    line_dot sheet w h a s d place line x y || lines_dot sheet w h a b s d (min (place + 1) (b - 1)) rest x y
+-- dot (x, y) of a line that stands `place` lines below the first
+abbrev pub line_dot : BlockLayout → ℕ → List ℕ → ℕ → ℕ → Bool
+line_dot b place line x y =
+    let left = indent b.alignment (b.wide - b.w * length line) in
+    nat_le left x && nat_le (place * b.pitch) y
+    && text_dot b.sheet line b.w b.h (x - left) (y - place * b.pitch)
 
--- dot (x, y) of a block whose lines stand s rows apart; a block less wide than a cell has none
-unfoldable pub block_dot : Option Glyphs → List ℕ → ℕ → ℕ → ℕ → ℕ → ℕ → Alignment → ℕ → ℕ → Bool
-block_dot sheet text w h a b s d x y = nat_lt x (block_width a w) && nat_lt y (block_height h b s)
-    && nat_le w a && lines_dot sheet w h a b s d 0 (block_lines (a / w) text) x y
+-- dot (x, y) of some lines one below the other; those past the last of the block stand over it
+abbrev pub lines_dot : BlockLayout → ℕ → List (List ℕ) → ℕ → ℕ → Bool
+lines_dot b place [] x y = false
+lines_dot b place (line ∷ rest) x y =
+    line_dot b place line x y || lines_dot b (min (place + 1) (b.rows - 1)) rest x y
+
+-- dot (x, y) of a block; one that is less wide than a cell has none
+unfoldable pub block_dot : BlockLayout → List ℕ → ℕ → ℕ → Bool
+block_dot b text x y = nat_lt x (block_width b.wide b.w) && nat_lt y (block_height b.h b.rows b.pitch)
+    && nat_le b.w b.wide && lines_dot b 0 (block_lines (b.wide / b.w) text) x y
 
 -- there is no ink outside
-pub block_inside : (sheet : Option Glyphs) (text : List ℕ) (w h a b s : ℕ) (d : Alignment) (x y : ℕ)
-    → block_dot sheet text w h a b s d x y ≡ true → (x < block_width a w) × (y < block_height h b s)
+pub block_inside : (b : BlockLayout) (text : List ℕ) (x y : ℕ) → block_dot b text x y ≡ true
+    → (x < block_width b.wide b.w) × (y < block_height b.h b.rows b.pitch)
 unfolding block_dot
-block_inside sheet text w h a b s d x y e =
+block_inside b text x y e =
     let p = and_parts _ _ e in
     let o = and_parts _ _ p.0 in
     let q = and_parts _ _ o.0 in
-    (ltb-true x (block_width a w) q.0, ltb-true y (block_height h b s) q.1)
+    (ltb-true x (block_width b.wide b.w) q.0, ltb-true y (block_height b.h b.rows b.pitch) q.1)

@@ -5,5 +5,6 @@ pub mod Reading
 pub mod Cells
 pub mod Texts
 pub mod Blocks
+pub mod Layouts
 pub mod Inked
 pub mod Stretches

@@ -141,13 +141,15 @@ fn paint_line(
 }
 
 impl Block<'_> {
+    ghost use Rattle.vp_glyph.specs.Layouts.{layout_of};
+
     /// Dot (x, y) of a line that stands `place` lines below the first.
     fn dot_of_line(&self, line: Line<'_>, place: u32, x: u32, y: u32) -> bool
         requires cells { line.cells ≤ length (first (pieces line.text.now)) }
         requires most { line.cells ≤ self.now.wide / self.now.w }
         requires place { place ≤ self.now.rows - 1 }
-        ensures { result ≡ line_dot self.now.sheet.now self.now.w self.now.h self.now.wide self.now.pitch
-            self.now.alignment place (take line.entry.cells (first (pieces line.entry.text.now))) x y }
+        ensures { result ≡ line_dot (layout_of self.now) place
+            (take line.entry.cells (first (pieces line.entry.text.now))) x y }
     {
         let left = self
             .alignment
@@ -158,6 +160,8 @@ impl Block<'_> {
 }
 
 impl<'a> Block<'a> {
+    ghost use Rattle.vp_glyph.specs.Layouts.{layout_of};
+
     /// The lines that end above row y, as far as they stand apart, are passed: how many, and the text behind.
     fn passed_at(&self, y: u32) -> (u32, &'a [u8])
         requires { self.now.w ≤ self.now.wide }
@@ -211,15 +215,16 @@ impl<'a> Block<'a> {
 }
 
 impl Block<'_> {
+    ghost use Rattle.vp_glyph.specs.Layouts.{layout_of};
+
     /// The first line that may have a dot in row y, or in one below it: how many lines stand above, and the
     /// text from it on.
     pub(crate) fn first_line(&self, y: u32) -> (u32, &[u8])
         ensures above { result.0 ≤ self.now.rows - 1 }
-        ensures lines { (x z : ℕ) → y ≤ z → lines_dot self.now.sheet.now self.now.w self.now.h self.now.wide
-            self.now.rows self.now.pitch self.now.alignment 0
+        ensures lines { (x z : ℕ) → y ≤ z → lines_dot (layout_of self.now) 0
             (block_lines (self.now.wide / self.now.w) self.now.text.now) x z
-            ≡ lines_dot self.now.sheet.now self.now.w self.now.h self.now.wide self.now.rows self.now.pitch
-            self.now.alignment result.0 (block_lines (self.now.wide / self.now.w) result.1.now) x z }
+            ≡ lines_dot (layout_of self.now) result.0
+            (block_lines (self.now.wide / self.now.w) result.1.now) x z }
     {
         if y >= self.passed.saturating_sub(1) * self.pitch + self.h {
             (self.passed, self.rest)
@@ -242,8 +247,7 @@ impl Block<'_> {
         requires most { line.cells ≤ self.now.wide / self.now.w }
         requires place { place ≤ self.now.rows - 1 }
         requires top { place * self.now.pitch ≤ y }
-        ensures { Painted op (shifted at (λ x. line_dot self.now.sheet.now self.now.w self.now.h
-            self.now.wide self.now.pitch self.now.alignment place
+        ensures { Painted op (shifted at (λ x. line_dot (layout_of self.now) place
             (take line.entry.cells (first (pieces line.entry.text.now))) x y)) row.old row.new }
     {
         let top = place * self.pitch;
@@ -271,8 +275,8 @@ impl Block<'_> {
         requires op { op ≢ Op.Flip }
         requires y { y < block_height self.now.h self.now.rows self.now.pitch }
         requires wide { self.now.w ≤ self.now.wide }
-        ensures { Painted op (shifted at (λ x. block_dot self.now.sheet.now self.now.text.now self.now.w
-            self.now.h self.now.wide self.now.rows self.now.pitch self.now.alignment x y)) row.old row.new }
+        ensures { Painted op (shifted at (λ x. block_dot (layout_of self.now) self.now.text.now x y))
+            row.old row.new }
     {
         let most = (self.wide / self.w) as usize;
         let (above, text) = self.first_line(y);
@@ -295,8 +299,7 @@ impl Block<'_> {
         requires wide { self.now.w ≤ self.now.wide }
         requires room { self.now.wide ≤ 8 * N }
         requires few { N ≤ 4000 }
-        ensures { Painted Op.Flip (shifted at (λ x. block_dot self.now.sheet.now self.now.text.now
-            self.now.w self.now.h self.now.wide self.now.rows self.now.pitch self.now.alignment x y))
+        ensures { Painted Op.Flip (shifted at (λ x. block_dot (layout_of self.now) self.now.text.now x y))
             row.old row.new }
     {
         let mut dots = [0u8; N];
@@ -306,15 +309,15 @@ impl Block<'_> {
 }
 
 impl Ink for Block<'_> {
+    ghost use Rattle.vp_glyph.specs.Layouts.{layout_of};
+
     ghost width = { λ s. block_width s.wide s.w };
 
     ghost height = { λ s. block_height s.h s.rows s.pitch };
 
-    ghost ink_at = { λ s x y. block_dot s.sheet.now s.text.now s.w s.h s.wide s.rows s.pitch
-        s.alignment x y };
+    ghost ink_at = { λ s x y. block_dot (layout_of s) s.text.now x y };
 
-    ghost outside = { λ s x y h. block_inside s.sheet.now s.text.now s.w s.h s.wide s.rows s.pitch
-        s.alignment x y h };
+    ghost outside = { λ s x y h. block_inside (layout_of s) s.text.now x y h };
 
     fn size(&self) -> (u32, u32) {
         (

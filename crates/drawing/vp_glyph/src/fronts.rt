@@ -3,6 +3,7 @@ ghost use Rattle.std.specs.Prelude.{◌≡◌, ℕ, ◌+◌, ◌-◌, ◌*◌, �
 ghost use Rattle.vp_dots.specs.Dots.{shifted, span};
 ghost use Rattle.vp_dots.specs.Words.{word_dot};
 ghost use Rattle.vp_glyph.specs.Blocks.{pieces, first, line_dot, block_height, block_dot};
+ghost use Rattle.vp_glyph.specs.Layouts.{layout_of};
 
 use crate::block::Block;
 use crate::lines::{Line, next_line};
@@ -44,8 +45,7 @@ impl Block<'_> {
         requires most { line.cells ≤ self.now.wide / self.now.w }
         requires place { place ≤ self.now.rows - 1 }
         requires top { place * self.now.pitch ≤ y }
-        ensures { (x : ℕ) → x < 64 → word_dot result x ≡ shifted at (λ x. line_dot self.now.sheet.now
-            self.now.w self.now.h self.now.wide self.now.pitch self.now.alignment place
+        ensures { (x : ℕ) → x < 64 → word_dot result x ≡ shifted at (λ x. line_dot (layout_of self.now) place
             (take line.entry.cells (first (pieces line.entry.text.now))) x y) x }
     {
         let mut bytes = [0u8; 8];
@@ -66,8 +66,7 @@ impl Block<'_> {
         requires most { line.cells ≤ self.now.wide / self.now.w }
         requires place { place ≤ self.now.rows - 1 }
         ensures { (i x : ℕ) → i < N → x < 64 → word_dot (slice_index fronts.new i) x
-            ≡ (word_dot (slice_index fronts.old i) x || shifted at (λ x. line_dot self.now.sheet.now
-            self.now.w self.now.h self.now.wide self.now.pitch self.now.alignment place
+            ≡ (word_dot (slice_index fronts.old i) x || shifted at (λ x. line_dot (layout_of self.now) place
             (take line.entry.cells (first (pieces line.entry.text.now))) x (top + i)) x) }
     {
         let above = place * self.pitch;
@@ -85,9 +84,8 @@ impl Block<'_> {
     pub fn fronts<const N: usize>(&self, top: u32, at: i64) -> [u64; N]
         requires { N < 2 ^ 32 }
         ensures { (i x : ℕ) → i < N → x < 64 → top + i < block_height self.now.h self.now.rows self.now.pitch
-            → word_dot (slice_index result i) x ≡ shifted at (λ x. block_dot self.now.sheet.now
-            self.now.text.now self.now.w self.now.h self.now.wide self.now.rows self.now.pitch
-            self.now.alignment x (top + i)) x }
+            → word_dot (slice_index result i) x
+            ≡ shifted at (λ x. block_dot (layout_of self.now) self.now.text.now x (top + i)) x }
     {
         let mut fronts = [0u64; N];
         if self.wide < self.w {

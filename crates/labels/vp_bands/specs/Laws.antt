@@ -5,12 +5,13 @@ use Rattle.vp_field.specs.declared.view.View.{View}
 use Rattle.vp_field.specs.Views.{seen_y}
 use Rattle.vp_bands.specs.Meeting.{box_meets, pairs, copy_work, bands_of}
 use Rattle.vp_bands.specs.Standing.{Threaded, fields_of, IsBefore}
+use Rattle.vp_label_size.specs.declared.TheConstants.{BAND_ROWS}
 
 -- a box meets band b exactly where a row of the band lies on the label and shows one of the box's; it meets
 -- none behind the label's last band
 pub record BandsMet : Type 0 where
   pub rows : (view : View) (top : ℤ) (rows b : ℕ) → (box_meets view top rows b ≡ true)
-      ↔ ((y : ℕ) × (y / 32 ≡ b) × (y < view.height) × (top ≤ℤ seen_y view (pos y))
+      ↔ ((y : ℕ) × (y / BAND_ROWS ≡ b) × (y < view.height) × (top ≤ℤ seen_y view (pos y))
       × (seen_y view (pos y) <ℤ (top +ℤ pos rows)))
   pub behind : (view : View) (top : ℤ) (rows b : ℕ) → bands_of view ≤ b → box_meets view top rows b ≡ false
 

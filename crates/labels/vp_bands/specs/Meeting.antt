@@ -1,5 +1,5 @@
 -- Which bands of a label a field meets, and how many do.
-use Rattle.std.specs.Prelude.{ℕ, ◌+◌, ◌*◌, ◌/◌, ℤ, pos, ◌+ℤ◌, int_le, int_lt, nat_lt, Bool, ◌&&◌, List, count_by, filter, sum_by}
+use Rattle.std.specs.Prelude.{ℕ, ◌+◌, ◌-◌, ◌*◌, ◌/◌, ℤ, pos, ◌+ℤ◌, int_le, int_lt, nat_lt, Bool, ◌&&◌, List, count_by, filter, sum_by}
 use Rattle.std.specs.List.{list_any, range_with_len}
 use Rattle.vp_glyph.specs.declared.Sheets.{Sheets}
 use Rattle.vp_format.specs.declared.field.Field.{Field}
@@ -7,6 +7,7 @@ use Rattle.vp_field.specs.Contents.{content_width, content_height, orientation_o
 use Rattle.vp_field.specs.Turning.{turned_height}
 use Rattle.vp_field.specs.declared.view.View.{View}
 use Rattle.vp_field.specs.Views.{seen_y}
+use Rattle.vp_label_size.specs.declared.TheConstants.{BAND_ROWS}
 
 -- place p is one of the n places from a place on
 abbrev pub is_among : ℤ → ℕ → ℤ → Bool
@@ -18,7 +19,7 @@ shows_row view top rows y = nat_lt y view.height && is_among top rows (seen_y vi
 
 -- the rows of band b
 abbrev pub rows_of : ℕ → List ℕ
-rows_of b = range_with_len (32 * b) 32
+rows_of b = range_with_len (BAND_ROWS * b) BAND_ROWS
 
 -- a row of band b shows one of them
 unfoldable pub box_meets : View → ℤ → ℕ → ℕ → Bool
@@ -53,4 +54,4 @@ copy_work sheets stored view fields n = sum_by (band_work sheets stored view fie
 
 -- how many bands a label has
 abbrev pub bands_of : View → ℕ
-bands_of view = (view.height + 31) / 32
+bands_of view = (view.height + (BAND_ROWS - 1)) / BAND_ROWS

@@ -2,10 +2,15 @@
 ghost use Rattle.std.specs.Prelude.{◌≡◌, ℕ, ◌*◌, ◌^◌, ◌<◌, ◌≤◌, ◌&&◌, nat_le, nat_lt, ℤ, pos, neg_ℤ, ◌-ℤ◌, ◌≤ℤ◌, int_le, int_lt};
 ghost use Rattle.vp_field.specs.Views.{seen_y};
 ghost use Rattle.vp_bands.specs.Meeting.{is_among, shows_row, box_meets};
+ghost use Rattle.vp_label_size.specs.declared.TheConstants.{BAND_ROWS};
 
 use vp_field::View;
+use vp_label_size::BAND_ROWS;
 
-/// The most bands of a label, each of 32 rows.
+/// The rows of a band.
+const BAND: u32 = BAND_ROWS as u32;
+
+/// The most bands of a label, each of `BAND_ROWS` rows.
 pub const BANDS: usize = 250;
 
 /// Where a box of `rows` rows from `top` on begins in a label of `height` rows, counted from its last.
@@ -79,11 +84,11 @@ pub fn span(view: View, top: i64, rows: u32) -> (usize, usize)
     requires low { neg_ℤ (pos (2 ^ 32)) ≤ℤ top }
     requires high { top ≤ℤ pos (2 ^ 32) }
     ensures bands { (b : ℕ) → (nat_le result.0 b && nat_le b result.1) ≡ box_meets view top rows b }
-    ensures placed { view.height ≤ 32 * BANDS → result.0 ≤ result.1 → result.0 < BANDS }
+    ensures placed { view.height ≤ BAND_ROWS * BANDS → result.0 ≤ result.1 → result.0 < BANDS }
 {
     let (from, to) = rows_shown(view, top, rows);
     if from < to {
-        ((from / 32) as usize, ((to - 1) / 32) as usize)
+        ((from / BAND) as usize, ((to - 1) / BAND) as usize)
     } else {
         (1, 0)
     }

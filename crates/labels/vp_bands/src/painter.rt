@@ -8,7 +8,7 @@ ghost use Rattle.vp_field.specs.Strokes.{image_dot};
 ghost use Rattle.vp_field.specs.declared.view.View.{View as Seen};
 ghost use Rattle.vp_bands.specs.Meeting.{meeting, band_work};
 ghost use Rattle.vp_bands.specs.Standing.{fields_of, IsBefore};
-ghost use Rattle.vp_label_size.specs.declared.TheConstants.{WIDEST};
+ghost use Rattle.vp_label_size.specs.declared.TheConstants.{WIDEST, BAND_ROWS};
 
 use crate::meeting::BANDS;
 use crate::table::thread_fields;
@@ -57,7 +57,7 @@ impl BandPainter {
     /// Takes on the fields of a format, whose label is put out as `view` says, before its first band.
     pub fn thread(&mut self, sheets: &Sheets, format: &Format, view: View)
         requires kept { All (IsKept format.now.stored) format.now.fields }
-        requires low { view.height ≤ 32 * BANDS }
+        requires low { view.height ≤ BAND_ROWS * BANDS }
         ensures fields { fields_of self.new.entries ≡ format.now.fields }
         ensures before { IsBefore sheets.now format.now.stored view 0 self.new }
         ensures looks { self.new.looks ≡ 0 }
@@ -93,7 +93,7 @@ impl BandPainter {
         requires before { IsBefore sheets.now stored.now view b self.old }
         requires narrow { view.width ≤ WIDEST }
         requires low { b < BANDS }
-        ensures dots { (x k : ℕ) → k < 32 → dot (slice_index_or band.new k []) x
+        ensures dots { (x k : ℕ) → k < BAND_ROWS → dot (slice_index_or band.new k []) x
             ≡ image_dot view (map (stroke_of sheets.now stored.now) (fields_of self.old.entries)) x
             (32 * b + k) }
         ensures fields { self.new.entries ≡ self.old.entries }

@@ -5,6 +5,7 @@ ghost use Rattle.vp_field.specs.Fields.{IsKept};
 ghost use Rattle.vp_field.specs.Turning.{turned_height};
 ghost use Rattle.vp_fields_by_band.specs.Threads.{entry_at, IsPlaced};
 ghost use Rattle.vp_bands.specs.Standing.{fields_of, IsSpanned, IsThreadedFor};
+ghost use Rattle.vp_label_size.specs.declared.TheConstants.{BAND_ROWS};
 
 use crate::meeting::{BANDS, span};
 use vp_field::{View, content_size, orientation_of};
@@ -28,7 +29,7 @@ fn entry_for(sheets: &Sheets, stored: &[u8], view: View, field: Field) -> Entry
     requires kept { IsKept stored.now field }
     ensures field { result.field ≡ field }
     ensures spanned { IsSpanned sheets.now stored.now view result }
-    ensures placed { view.height ≤ 32 * BANDS → IsPlaced result BANDS }
+    ensures placed { view.height ≤ BAND_ROWS * BANDS → IsPlaced result BANDS }
 {
     let (w, h) = content_size(sheets, stored, &field.content);
     let orientation = orientation_of(field.orientation, &field.content);
@@ -45,7 +46,7 @@ fn entry_for(sheets: &Sheets, stored: &[u8], view: View, field: Field) -> Entry
 /// Sets the entries of the fields of a format, in the order of closing.
 fn fill(threads: &mut Threads, sheets: &Sheets, format: &Format, view: View)
     requires kept { All (IsKept format.now.stored) format.now.fields }
-    requires low { view.height ≤ 32 * BANDS }
+    requires low { view.height ≤ BAND_ROWS * BANDS }
     ensures few { length threads.new.entries ≤ FIELDS }
     ensures fields { fields_of threads.new.entries ≡ format.now.fields }
     ensures spanned { All (IsSpanned sheets.now format.now.stored view) threads.new.entries }
@@ -64,7 +65,7 @@ fn fill(threads: &mut Threads, sheets: &Sheets, format: &Format, view: View)
 pub fn thread_fields(threads: &mut Threads, sheets: &Sheets, format: &Format, view: View)
     requires bands { length threads.old.heads ≡ BANDS }
     requires kept { All (IsKept format.now.stored) format.now.fields }
-    requires low { view.height ≤ 32 * BANDS }
+    requires low { view.height ≤ BAND_ROWS * BANDS }
     ensures few { length threads.new.entries ≤ FIELDS }
     ensures heads { length threads.new.heads ≡ length threads.old.heads }
     ensures links { threads.new.links ≡ threads.old.links }

@@ -7,14 +7,14 @@ ghost use Rattle.vp_field.specs.Strokes.{Stroke, image_dot};
 ghost use Rattle.vp_fields_by_band.specs.Held.{Stays};
 ghost use Rattle.vp_fields_by_band.specs.Threads.{IsThreaded};
 ghost use Rattle.vp_bands.specs.Standing.{entry_work, fields_of, met, AreMarked, IsThreadedFor};
-ghost use Rattle.vp_label_size.specs.declared.TheConstants.{WIDEST};
+ghost use Rattle.vp_label_size.specs.declared.TheConstants.{WIDEST, BAND_ROWS};
 
 use crate::meeting::BANDS;
 use vp_field::{Marks, View, clear, cut, paint_field};
 use vp_fields_by_band::{Entry, Threads, Walk, next_of};
 use vp_format::FIELDS;
 use vp_glyph::Sheets;
-use vp_label_size::LabelBand;
+use vp_label_size::{BAND_ROWS, LabelBand};
 
 /// Drops the marks of another copy or label: those before the first band of a field.
 fn drop_others(entry: &Entry, b: usize, marks: &mut Marks)
@@ -71,7 +71,7 @@ pub fn paint_band(
     requires label { IsThreadedFor sheets.now stored.now view threads.old.entries threads.old.heads }
     requires carried { IsThreaded threads.old.entries threads.old.links b threads.old.carried }
     requires marked { AreMarked stored.now threads.old.entries marks.old b 0 (length threads.old.entries) }
-    ensures dots { (x k : ℕ) → k < 32 → dot (slice_index_or band.new k []) x
+    ensures dots { (x k : ℕ) → k < BAND_ROWS → dot (slice_index_or band.new k []) x
         ≡ image_dot view (map (stroke_of sheets.now stored.now) (fields_of threads.old.entries))
         x (32 * b + k) }
     ensures stays { Stays threads.old threads.new }
@@ -85,7 +85,7 @@ pub fn paint_band(
     ensures countable { result ≤ 2 ^ 30 }
 {
     clear(band);
-    let first = 32 * b as u32;
+    let first = BAND_ROWS as u32 * b as u32;
     let mut work = 0;
     let mut walk = Walk::start(b, threads);
     while let Some(n) = next_of(walk.carried, walk.begins) {

@@ -5,6 +5,7 @@ use Rattle.std.proofs.lemmas.Bool.{cases_lt, le-ltb, lt-ltb, le-leb, lt-leb}
 use Rattle.vp_glyph.specs.Sheets.{Glyphs}
 use Rattle.vp_glyph.specs.Texts.{text_dot, sampled_dot}
 use Rattle.vp_glyph.specs.Blocks.{indent, line_dot, lines_dot, block_dot, block_lines, block_height}
+use Rattle.vp_glyph.proofs.Layouts.{layout}
 use Rattle.vp_glyph.specs.declared.block.Alignment.{Alignment}
 use Rattle.vp_field.specs.Alone.{IsAlone}
 use Rattle.vp_glyph.proofs.Gathered.{text_alike}
@@ -55,7 +56,7 @@ unfolding text_dot sampled_dot
 text_below sheet text w h x y l = rw (le-ltb y h l) (and_none (ltb x (w * length text)) (ltb (x % w) w) _)
 
 module _ (sheet : Option Glyphs) (w h a b s y row : ℕ) (d : Alignment) (alone : IsAlone h b s y row) (some : 0 < row) (inside : row < h) (same : row * 24 / h ≡ (row - 1) * 24 / h) where
-  line_alike : (p : ℕ) → p ≤ b - 1 → (line : List ℕ) (x : ℕ) → line_dot sheet w h a s d p line x y ≡ line_dot sheet w h a s d p line x (y - 1)
+  line_alike : (p : ℕ) → p ≤ b - 1 → (line : List ℕ) (x : ℕ) → line_dot (layout sheet w h a b s d) p line x y ≡ line_dot (layout sheet w h a b s d) p line x (y - 1)
   line_alike p l line x = elim (alone.others some p l) [
     | inl e ↦
         let u : p * s ≤ y = omega (arith, alone.below) in
@@ -69,10 +70,10 @@ module _ (sheet : Option Glyphs) (w h a b s y row : ℕ) (d : Alignment) (alone 
     ]
   ]
 
-  pub lines_alike : (place : ℕ) → place ≤ b - 1 → (lines : List (List ℕ)) (x : ℕ) → lines_dot sheet w h a b s d place lines x y ≡ lines_dot sheet w h a b s d place lines x (y - 1)
+  pub lines_alike : (place : ℕ) → place ≤ b - 1 → (lines : List (List ℕ)) (x : ℕ) → lines_dot (layout sheet w h a b s d) place lines x y ≡ lines_dot (layout sheet w h a b s d) place lines x (y - 1)
   lines_alike place l [] x = refl
   lines_alike place l (line ∷ rest) x = rw (line_alike place l line x, lines_alike (min (place + 1) (b - 1)) (omega arith) rest x) refl
 
-  pub block_alike : (text : List ℕ) → y < block_height h b s → (x : ℕ) → block_dot sheet text w h a b s d x y ≡ block_dot sheet text w h a b s d x (y - 1)
+  pub block_alike : (text : List ℕ) → y < block_height h b s → (x : ℕ) → block_dot (layout sheet w h a b s d) text x y ≡ block_dot (layout sheet w h a b s d) text x (y - 1)
   unfolding block_dot
   block_alike text l x = rw (lt-ltb y (block_height h b s) l, lt-ltb (y - 1) (block_height h b s) (omega arith), lines_alike 0 (omega arith) (block_lines (a / w) text) x) refl

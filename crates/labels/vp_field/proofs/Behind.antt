@@ -5,6 +5,7 @@ use Rattle.vp_dots.specs.declared.Op.{Op}
 use Rattle.vp_glyph.specs.declared.Sheets.{Sheets}
 use Rattle.vp_glyph.specs.Texts.{text_dot}
 use Rattle.vp_glyph.specs.Blocks.{block_width, block_height, block_dot, pitch}
+use Rattle.vp_glyph.proofs.Layouts.{layout}
 use Rattle.vp_zpl.specs.declared.item.Orientation.{Orientation}
 use Rattle.vp_zpl.specs.declared.item.Orientation.TheVariants.{Normal}
 use Rattle.vp_format.specs.declared.field.Content.{Content}
@@ -62,7 +63,7 @@ ink_behind sheets left top o (Text t) stored more h =
     ap (λ (b : List ℕ). standing left top o (t.width * length b) t.height (λ x y. text_dot sheets.a b t.width t.height x y)) (bytes_behind stored more t.bytes h.bytes)
 ink_behind sheets left top o (Block b) stored more h =
     let p = pitch b.text.height b.gap in
-    ap (λ (t : List ℕ). standing left top o (block_width b.width b.text.width) (block_height b.text.height b.lines p) (λ x y. block_dot sheets.a t b.text.width b.text.height b.width b.lines p b.alignment x y))
+    ap (λ (t : List ℕ). standing left top o (block_width b.width b.text.width) (block_height b.text.height b.lines p) (λ x y. block_dot (layout sheets.a b.text.width b.text.height b.width b.lines p b.alignment) t x y))
     (bytes_behind stored more b.text.bytes h.text.bytes)
 ink_behind sheets left top o (Box b) stored more h = refl
 ink_behind sheets left top o (Picture p) stored more h =

@@ -7,6 +7,7 @@ use Rattle.vp_dots.specs.declared.fault.Fault.{Fault}
 use Rattle.vp_glyph.specs.declared.Sheets.{Sheets}
 use Rattle.vp_glyph.specs.Texts.{text_inside}
 use Rattle.vp_glyph.specs.Blocks.{pitch, block_inside}
+use Rattle.vp_glyph.proofs.Layouts.{layout}
 use Rattle.vp_bar_code.specs.declared.HriPosition.{HriPosition}
 use Rattle.vp_bars.specs.Symbols.{Linear}
 use Rattle.vp_bars.specs.Boxes.{box_inside}
@@ -42,7 +43,7 @@ picture_inside p x y e =
 
 contents : (sheets : Sheets) (stored : List ℕ) (c : Content) (u v : ℕ) → content_dot sheets stored c u v ≡ true → (u < content_width sheets stored c) × (v < content_height sheets stored c)
 contents sheets stored (Text t) u v e = text_inside sheets.a (bytes_of stored t.bytes) t.width t.height u v e
-contents sheets stored (Block b) u v e = block_inside sheets.a (bytes_of stored b.text.bytes) b.text.width b.text.height b.width b.lines (pitch b.text.height b.gap) b.alignment u v e
+contents sheets stored (Block b) u v e = block_inside (layout sheets.a b.text.width b.text.height b.width b.lines (pitch b.text.height b.gap) b.alignment) (bytes_of stored b.text.bytes) u v e
 contents sheets stored (Box b) u v e = frame_inside b.width b.height b.thickness u v e
 contents sheets stored (Picture p) u v e = picture_inside (picture_of stored p) u v e
 contents sheets stored (Bars b) u v e = bars_inside sheets b.narrow b.wide b.height b.place (symbol_of b.code (bytes_of stored b.bytes)) u v e

@@ -1,13 +1,13 @@
 -- What a band of a label shows.
 use Rattle.std.specs.Prelude.{◌≡◌, ◌<◌, ℕ, ◌+◌, pos, List, [], length, map, slice_index_or}
 use Rattle.vp_dots.specs.Dots.{dot}
-use Rattle.vp_label_size.specs.declared.TheConstants.{WIDEST}
+use Rattle.vp_label_size.specs.declared.TheConstants.{WIDEST, BAND_BYTES, BAND_ROWS}
 use Rattle.vp_field.specs.Strokes.{Stroke, viewed, label_dot}
 use Rattle.vp_field.specs.declared.view.View.{View}
 
 -- the band that begins with a row of the label as it is put out shows the dots of these strokes, on the
 -- label and off it
 pub record Shows (view : View) (first : ℕ) (strokes : List Stroke) (band : List (List ℕ)) : Type 0 where
-  pub rows_are : (k : ℕ) → k < 32 → length (slice_index_or band k []) ≡ 156
-  pub dots_are : (x k : ℕ) → x < WIDEST → k < 32 → dot (slice_index_or band k []) x
+  pub rows_are : (k : ℕ) → k < BAND_ROWS → length (slice_index_or band k []) ≡ BAND_BYTES
+  pub dots_are : (x k : ℕ) → x < WIDEST → k < BAND_ROWS → dot (slice_index_or band k []) x
       ≡ label_dot (map (viewed view) strokes) (pos x) (pos (first + k))

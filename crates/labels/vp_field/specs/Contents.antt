@@ -5,7 +5,7 @@ use Rattle.vp_dots.specs.declared.fault.Fault.{Fault}
 use Rattle.vp_glyph.specs.declared.Sheets.{Sheets}
 use Rattle.vp_glyph.specs.declared.cell.Font.TheVariants.{A}
 use Rattle.vp_glyph.specs.Texts.{text_dot}
-use Rattle.vp_glyph.specs.Blocks.{block_width, block_height, block_dot, pitch}
+use Rattle.vp_glyph.specs.Blocks.{BlockLayout, block_width, block_height, block_dot, pitch}
 use Rattle.vp_bar_code.specs.declared.HriPosition.{HriPosition}
 use Rattle.vp_bars.specs.Symbols.{Linear}
 use Rattle.vp_bars.specs.Symbologies.{symbol_of}
@@ -30,6 +30,7 @@ use Rattle.vp_field.specs.Frames.{frame_dot}
 use Rattle.vp_field.specs.Axes.{lines_of}
 use Rattle.vp_field.specs.declared.axis.Lines.{Lines}
 use Rattle.vp_field.specs.declared.axis.Lines.TheVariants.{Along, Across}
+use Rattle.vp_label_size.specs.declared.TheConstants.{BAND_ROWS}
 
 -- the bytes that a span names among the stored ones
 abbrev pub bytes_of : List ℕ → Span → List ℕ
@@ -74,6 +75,18 @@ qr_dot level mode bytes scale x y =
     nat_lt x (qr_side level mode bytes scale) && nat_lt y (qr_side level mode bytes scale)
     && symbol_module level mode bytes (y / scale) (x / scale)
 
+-- how the lines of a block are laid
+abbrev pub block_layout : Sheets → TextBlock → BlockLayout
+block_layout sheets b = record {
+  sheet = sheets.a;
+  w = b.text.width;
+  h = b.text.height;
+  wide = b.width;
+  rows = b.lines;
+  pitch = pitch b.text.height b.gap;
+  alignment = b.alignment;
+}
+
 -- the picture whose codes are stored
 abbrev pub picture_of : List ℕ → Picture → pictures.Picture
 picture_of stored p =
@@ -108,8 +121,7 @@ abbrev pub content_dot : Sheets → List ℕ → Content → ℕ → ℕ → Boo
 content_dot sheets stored (contents.Text t) x y =
     text_dot sheets.a (bytes_of stored t.bytes) t.width t.height x y
 content_dot sheets stored (contents.Block b) x y =
-    block_dot sheets.a (bytes_of stored b.text.bytes) b.text.width b.text.height b.width b.lines
-    (pitch b.text.height b.gap) b.alignment x y
+    block_dot (block_layout sheets b) (bytes_of stored b.text.bytes) x y
 content_dot sheets stored (contents.Box b) x y = frame_dot b.width b.height b.thickness x y
 content_dot sheets stored (contents.Picture p) x y = picture_dot (picture_of stored p) x y
 content_dot sheets stored (contents.Bars b) x y =
@@ -173,12 +185,12 @@ IsStored stored (contents.Qr q) = IsSymbol stored q
 -- how many lines of ink are drawn on a band at most: one a row of the band where they lie along its rows;
 -- where they lie across, one a column of the widest label, and eight
 abbrev pub most_lines : Lines → ℕ
-most_lines Along = 32
+most_lines Along = BAND_ROWS
 most_lines Across = 1256
 
 -- a block that lies across is drawn at once on all columns, and then laid on them
 abbrev pub most_block_lines : Lines → ℕ
-most_block_lines Along = 32
+most_block_lines Along = BAND_ROWS
 most_block_lines Across = 2504
 
 -- what painting a content that is turned so takes on a band at most. Of a picture each byte of its codes is

@@ -11,6 +11,7 @@ use Rattle.vp_field.specs.Bands.{Shows}
 use Rattle.vp_format.specs.declared.field.Content.{Content}
 use Rattle.vp_format.specs.declared.field.Field.{Field}
 use Rattle.vp_field.specs.declared.view.View.{View}
+use Rattle.vp_label_size.specs.declared.TheConstants.{BAND_ROWS}
 
 -- the dots can be painted one stroke after the other: without a stroke all are white, and one more does
 -- what its operation does
@@ -57,7 +58,7 @@ pub record InTheBox : Type 0 where
       → (f.top ≤ℤ y) × (y <ℤ (f.top +ℤ pos (turned_height (orientation_of f.orientation f.content)
       (content_width sheets stored f.content) (content_height sheets stored f.content))))
   -- a band shows a stroke that has no ink in its rows without painting it
-  pub skipped : (view : View) (first : ℕ) (s : Stroke) (band : List (List ℕ)) → ((x k : ℕ) → k < 32
+  pub skipped : (view : View) (first : ℕ) (s : Stroke) (band : List (List ℕ)) → ((x k : ℕ) → k < BAND_ROWS
       → s.ink (seen_x view (pos x)) (seen_y view (pos (first + k))) ≡ false)
       → (strokes : List Stroke) → Shows view first strokes band → Shows view first (strokes ++ s ∷ []) band
 

@@ -3,6 +3,9 @@ ghost use Rattle.std.specs.Prelude.{◌≡◌, ℕ, ◌+◌, ◌^◌, ◌<◌, �
 ghost use Rattle.vp_field.specs.Places.{at_place};
 ghost use Rattle.vp_field.specs.Views.{counted};
 ghost use Rattle.vp_field.specs.Axes.{dot_on, IsWithin};
+ghost use Rattle.vp_label_size.specs.declared.TheConstants.{BAND_ROWS};
+
+use vp_label_size::BAND_ROWS;
 
 /// Where a line of dots lies on a line of places: its first dot on a place, and the others behind it or
 /// before it.
@@ -103,12 +106,12 @@ impl Axis {
     /// The row of a band on which a dot lies, if it lies on one, where the band's first row is a place.
     pub fn row_of(self, dot: u32, first: u32) -> Option<usize>
         requires { IsWithin (2 ^ 41) self }
-        ensures high { IfSome result (λ k. k < 32) }
+        ensures high { IfSome result (λ k. k < BAND_ROWS) }
         ensures on { IfSome result (λ k. dot_on self (pos (first + k)) ≡ pos dot) }
-        ensures only { (k : ℕ) → k < 32 → dot_on self (pos (first + k)) ≡ pos dot → result ≡ Some k }
+        ensures only { (k : ℕ) → k < BAND_ROWS → dot_on self (pos (first + k)) ≡ pos dot → result ≡ Some k }
     {
         let k = self.place_of(dot) - i64::from(first);
-        if k < 0 || k >= 32 {
+        if k < 0 || k >= BAND_ROWS as i64 {
             return None;
         }
         Some(k as usize)

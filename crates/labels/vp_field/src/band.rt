@@ -3,7 +3,7 @@ ghost use Rattle.std.specs.Prelude.{◌≡◌, ℕ, ◌+◌, ◌<◌, ◌≤◌,
 ghost use Rattle.vp_dots.specs.Dots.{dot};
 ghost use Rattle.vp_dots.specs.Places.{RowsPainted};
 ghost use Rattle.vp_field.specs.Strokes.{Stroke, viewed, image_dot};
-ghost use Rattle.vp_label_size.specs.declared.TheConstants.{WIDEST};
+ghost use Rattle.vp_label_size.specs.declared.TheConstants.{WIDEST, BAND_BYTES, BAND_ROWS};
 ghost use Rattle.vp_field.specs.Bands.{Shows};
 ghost use Rattle.vp_field.specs.declared.view.View.{View};
 
@@ -31,7 +31,7 @@ fn edge(view: View, y: u64) -> u64
 
 /// Makes the dots of row y that lie off the label white.
 fn cut_row(view: View, y: u64, row: &mut [u8])
-    requires { length row.old ≡ 156 }
+    requires { length row.old ≡ BAND_BYTES }
     ensures { (x : ℕ) → dot row.new x ≡ (nat_lt x view.width && nat_lt y view.height && dot row.old x) }
 {
     fill_dots(Op::White, edge(view, y), u64::from(WIDEST), row);
@@ -40,7 +40,7 @@ fn cut_row(view: View, y: u64, row: &mut [u8])
 /// Makes the dots off the label white.
 pub fn cut(view: View, first: u32, band: &mut LabelBand)
     requires { view.width ≤ WIDEST }
-    ensures { (strokes : List Stroke) → Shows view first strokes band.old → (x k : ℕ) → k < 32
+    ensures { (strokes : List Stroke) → Shows view first strokes band.old → (x k : ℕ) → k < BAND_ROWS
         → dot (slice_index_or band.new k []) x ≡ image_dot view strokes x (first + k) }
 {
     for k in 0..32u8 {

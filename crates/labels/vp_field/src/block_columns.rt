@@ -3,6 +3,7 @@ ghost use Rattle.std.specs.Prelude.{◌≡◌, ℕ, ◌+◌, ◌<◌, slice_inde
 ghost use Rattle.vp_dots.specs.Dots.{shifted};
 ghost use Rattle.vp_dots.specs.Words.{word_dot};
 ghost use Rattle.vp_glyph.specs.Blocks.{block_width, block_height, block_dot, block_inside};
+ghost use Rattle.vp_glyph.specs.Layouts.{layout_of};
 ghost use Rattle.vp_field.specs.declared.block_columns.TheConstants.{COLUMNS};
 
 use crate::lines::BlockRows;
@@ -21,9 +22,8 @@ pub struct BlockColumns<'a> {
     fronts: [u64; COLUMNS],
     ghost drawn: { (i x : ℕ) → i < COLUMNS → x < 64
         → top + i < block_height rows.block.h rows.block.rows rows.block.pitch
-        → word_dot (slice_index fronts i) x ≡ shifted at (λ x. block_dot rows.block.sheet.now
-        rows.block.text.now rows.block.w rows.block.h rows.block.wide rows.block.rows rows.block.pitch
-        rows.block.alignment x (top + i)) x },
+        → word_dot (slice_index fronts i) x
+        ≡ shifted at (λ x. block_dot (layout_of rows.block) rows.block.text.now x (top + i)) x },
 }
 
 impl<'a> BlockColumns<'a> {
@@ -45,11 +45,9 @@ impl Ink for BlockColumns<'_> {
 
     ghost height = { λ s. block_height s.rows.block.h s.rows.block.rows s.rows.block.pitch };
 
-    ghost ink_at = { λ s x y. block_dot s.rows.block.sheet.now s.rows.block.text.now s.rows.block.w
-        s.rows.block.h s.rows.block.wide s.rows.block.rows s.rows.block.pitch s.rows.block.alignment x y };
+    ghost ink_at = { λ s x y. block_dot (layout_of s.rows.block) s.rows.block.text.now x y };
 
-    ghost outside = { λ s x y h. block_inside s.rows.block.sheet.now s.rows.block.text.now s.rows.block.w
-        s.rows.block.h s.rows.block.wide s.rows.block.rows s.rows.block.pitch s.rows.block.alignment x y h };
+    ghost outside = { λ s x y h. block_inside (layout_of s.rows.block) s.rows.block.text.now x y h };
 
     fn size(&self) -> (u32, u32) {
         self.rows.size()

@@ -11,6 +11,7 @@ ghost use Rattle.vp_field.specs.Strokes.{Stroke};
 ghost use Rattle.vp_field.specs.Views.{seen_x, seen_y};
 ghost use Rattle.vp_field.specs.Bands.{Shows};
 ghost use Rattle.vp_field.specs.Drawn.{drawn};
+ghost use Rattle.vp_label_size.specs.declared.TheConstants.{BAND_ROWS};
 
 use crate::axis::Lines;
 use crate::block_columns::BlockColumns;
@@ -40,7 +41,7 @@ fn paint_text(
 ) -> u64
     requires text { IsText stored.now text }
     requires near { IsNear on.left on.top }
-    ensures dots { RowsPainted 32 on.op (drawn sheets.now stored.now (contents.Text text) on first)
+    ensures dots { RowsPainted BAND_ROWS on.op (drawn sheets.now stored.now (contents.Text text) on first)
         band.old band.new }
     ensures lines { result ≤ most_work on.orientation (contents.Text text) }
 {
@@ -59,7 +60,7 @@ fn paint_block(
 ) -> u64
     requires block { IsBlock stored.now block }
     requires near { IsNear on.left on.top }
-    ensures dots { RowsPainted 32 on.op (drawn sheets.now stored.now (contents.Block block) on first)
+    ensures dots { RowsPainted BAND_ROWS on.op (drawn sheets.now stored.now (contents.Block block) on first)
         band.old band.new }
     ensures lines { result ≤ most_work on.orientation (contents.Block block) }
 {
@@ -90,7 +91,7 @@ fn paint_bars(
 ) -> u64
     requires bytes { LiesIn stored.now bars.bytes }
     requires near { IsNear on.left on.top }
-    ensures dots { RowsPainted 32 on.op (drawn sheets.now stored.now (contents.Bars bars) on first)
+    ensures dots { RowsPainted BAND_ROWS on.op (drawn sheets.now stored.now (contents.Bars bars) on first)
         band.old band.new }
     ensures lines { result ≤ most_work on.orientation (contents.Bars bars) }
 {
@@ -114,7 +115,7 @@ fn paint_bars(
 fn paint_qr(stored: &[u8], symbol: QrSymbol, on: Standing, first: u32, band: &mut LabelBand) -> u64
     requires symbol { IsSymbol stored.now symbol }
     requires near { IsNear on.left on.top }
-    ensures dots { (sheets : Sheets) → RowsPainted 32 on.op
+    ensures dots { (sheets : Sheets) → RowsPainted BAND_ROWS on.op
         (drawn sheets stored.now (contents.Qr symbol) on first) band.old band.new }
     ensures lines { result ≤ most_lines (lines_of on.orientation) }
 {
@@ -141,7 +142,7 @@ fn paint_content(
 ) -> u64
     requires kept { IsKept stored.now field.now }
     requires marks { AreMarksOf stored.now field.now.content marks.old }
-    ensures dots { RowsPainted 32 field.now.op (λ x k.
+    ensures dots { RowsPainted BAND_ROWS field.now.op (λ x k.
         field_ink sheets.now stored.now field.now (seen_x view (pos x))
         (seen_y view (pos (first + k)))) band.old band.new }
     ensures marks { AreMarksOf stored.now field.now.content marks.new }
@@ -183,7 +184,7 @@ pub fn paint_field(
 ) -> u64
     requires kept { IsKept stored.now field.now }
     requires marks { AreMarksOf stored.now field.now.content marks.old }
-    ensures dots { RowsPainted 32 field.now.op (λ x k.
+    ensures dots { RowsPainted BAND_ROWS field.now.op (λ x k.
         field_ink sheets.now stored.now field.now (seen_x view (pos x))
         (seen_y view (pos (first + k)))) band.old band.new }
     ensures shows { (strokes : List Stroke) → Shows view first strokes band.old

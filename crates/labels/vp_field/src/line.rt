@@ -4,9 +4,11 @@ ghost use Rattle.vp_dots.specs.Dots.{dot};
 ghost use Rattle.vp_dots.specs.Painting.{Painted};
 ghost use Rattle.vp_field.specs.Places.{at_place};
 ghost use Rattle.vp_field.specs.Axes.{dot_on, IsWithin};
+ghost use Rattle.vp_label_size.specs.declared.TheConstants.{BAND_BYTES};
 
 use crate::axis::Axis;
 use vp_dots::{Ink, Op, paint_into, reverse};
+use vp_label_size::BAND_BYTES;
 
 /// The offset of a line that begins at a place, on a row that begins at another.
 fn offset(at: i64, from: u32) -> i64
@@ -22,7 +24,7 @@ fn offset(at: i64, from: u32) -> i64
 fn offset_from_end(at: i64, from: u32, bytes: usize) -> i64
     requires low { neg_ℤ (pos (2 ^ 41)) ≤ℤ at }
     requires high { at ≤ℤ pos (2 ^ 41) }
-    requires few { bytes ≤ 156 }
+    requires few { bytes ≤ BAND_BYTES }
     ensures { result ≡ pos from -ℤ pos 1 -ℤ at -ℤ (neg_ℤ (pos (8 * bytes))) }
 {
     i64::from(from) - 1 - at + 8 * bytes as i64
@@ -31,7 +33,7 @@ fn offset_from_end(at: i64, from: u32, bytes: usize) -> i64
 /// The offset at which a line on `axis` is drawn on the places of `bytes` bytes from place `from` on.
 pub fn drawn_at(axis: Axis, from: u32, bytes: usize) -> i64
     requires near { IsWithin (2 ^ 41) axis }
-    requires few { bytes ≤ 156 }
+    requires few { bytes ≤ BAND_BYTES }
 {
     match axis {
         Axis::Forward(at) => offset(at, from),
@@ -42,7 +44,7 @@ pub fn drawn_at(axis: Axis, from: u32, bytes: usize) -> i64
 /// What line v of the ink has on the places of N bytes, the first of which is `from`.
 pub fn drawn<I: Ink, const N: usize>(ink: &I, v: u32, axis: Axis, from: u32) -> [u8; N]
     requires near { IsWithin (2 ^ 41) axis }
-    requires few { N ≤ 156 }
+    requires few { N ≤ BAND_BYTES }
     ensures { (p : ℕ) → p < 8 * N → dot result p ≡ at_place (λ u. I.ink_at ink.now u v)
         (dot_on axis (pos (from + p))) }
 {
@@ -68,13 +70,13 @@ pub fn paint_over(op: Op, line: &[u8], row: &mut [u8])
 /// Applies the operation to the dots of a row of a label on which line v of the ink has ink.
 pub fn paint_line<I: Ink>(ink: &I, v: u32, op: Op, axis: Axis, row: &mut [u8])
     requires near { IsWithin (2 ^ 41) axis }
-    requires row { length row.old ≡ 156 }
+    requires row { length row.old ≡ BAND_BYTES }
     ensures { Painted op (λ p. at_place (λ u. I.ink_at ink.now u v) (dot_on axis (pos p))) row.old row.new }
 {
     match axis {
         Axis::Forward(at) => ink.paint_row(v, op, at, row),
         Axis::Back(_) => {
-            let line = drawn::<I, 156>(ink, v, axis, 0);
+            let line = drawn::<I, BAND_BYTES>(ink, v, axis, 0);
             paint_over(op, &line, row);
         }
     }

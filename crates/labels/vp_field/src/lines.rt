@@ -1,6 +1,7 @@
 //! Blocks of lines, and which of their rows are alike.
 ghost use Rattle.std.specs.Prelude.{MatchOption};
 ghost use Rattle.vp_glyph.specs.Blocks.{block_width, block_height, block_dot, block_inside};
+ghost use Rattle.vp_glyph.specs.Layouts.{layout_of};
 ghost use Rattle.vp_field.specs.Alone.{IsAlone};
 
 use crate::text::shows_row_above;
@@ -44,11 +45,9 @@ impl Ink for BlockRows<'_> {
 
     ghost height = { λ s. block_height s.block.h s.block.rows s.block.pitch };
 
-    ghost ink_at = { λ s x y. block_dot s.block.sheet.now s.block.text.now s.block.w s.block.h s.block.wide
-        s.block.rows s.block.pitch s.block.alignment x y };
+    ghost ink_at = { λ s x y. block_dot (layout_of s.block) s.block.text.now x y };
 
-    ghost outside = { λ s x y h. block_inside s.block.sheet.now s.block.text.now s.block.w s.block.h
-        s.block.wide s.block.rows s.block.pitch s.block.alignment x y h };
+    ghost outside = { λ s x y h. block_inside (layout_of s.block) s.block.text.now x y h };
 
     fn size(&self) -> (u32, u32) {
         self.block.size()

@@ -8,12 +8,13 @@ ghost use Rattle.vp_field.specs.Axes.{IsWithin, dot_on, laid};
 ghost use Rattle.vp_field.specs.Contents.{most_lines};
 ghost use Rattle.vp_field.specs.Stretched.{AreStretched};
 ghost use Rattle.vp_field.specs.declared.axis.Lines.TheVariants.{Along, Across};
+ghost use Rattle.vp_label_size.specs.declared.TheConstants.{BAND_BYTES, BAND_ROWS};
 
 use crate::axis::{Axis, Lines};
 use crate::line::{drawn, paint_line, paint_over};
 use crate::stretched::alike_dots;
 use vp_dots::{Ink, Op, dot_of, fill_dots, lay_eight};
-use vp_label_size::{LabelBand, WIDEST};
+use vp_label_size::{BAND_BYTES, BAND_ROWS, LabelBand, WIDEST};
 
 /// The dots of a row of a band.
 const WIDTH: u64 = WIDEST as u64;
@@ -21,9 +22,9 @@ const WIDTH: u64 = WIDEST as u64;
 /// As many columns that are known to be alike are painted row by row.
 const RUN: u64 = 8;
 
-/// Each row of a band has 156 bytes.
+/// Each row of a band has `BAND_BYTES` bytes.
 fn row_lengths(band: &LabelBand)
-    ensures { (k : ℕ) → k < 32 → length (slice_index_or band.now k []) ≡ 156 }
+    ensures { (k : ℕ) → k < BAND_ROWS → length (slice_index_or band.now k []) ≡ BAND_BYTES }
 {
     for k in 0..32usize {
         let _row = band.row(k);
@@ -86,15 +87,15 @@ fn paint_alike<I: Ink>(
     band: &mut LabelBand,
 )
     requires columns { IsWithin (2 ^ 41) columns }
-    requires inside { k + rows ≤ 32 }
-    ensures { RowsPainted 32 op (λ x r. span k (k + rows) r
+    requires inside { k + rows ≤ BAND_ROWS }
+    ensures { RowsPainted BAND_ROWS op (λ x r. span k (k + rows) r
         && at_place (λ u. I.ink_at ink.now u v) (dot_on columns (pos x))) band.old band.new }
 {
     if rows == 1 {
         paint_line(ink, v, op, columns, band.row_mut(k));
         return;
     }
-    let line = drawn::<I, 156>(ink, v, columns, 0);
+    let line = drawn::<I, BAND_BYTES>(ink, v, columns, 0);
     for i in 0..rows {
         paint_over(op, &line, band.row_mut(k + i));
     }
@@ -112,7 +113,7 @@ fn paint_along<I: Ink>(
 ) -> u64
     requires stretched { AreStretched stretched (I.ink_at ink.now) }
     requires near { IsWithin (2 ^ 41) columns }
-    ensures dots { RowsPainted 32 op (λ x k. laid Along columns rows (I.ink_at ink.now) (pos x)
+    ensures dots { RowsPainted BAND_ROWS op (λ x k. laid Along columns rows (I.ink_at ink.now) (pos x)
         (pos (first + k))) band.old band.new }
     ensures lines { result ≤ most_lines Along }
 {
@@ -120,7 +121,7 @@ fn paint_along<I: Ink>(
     let (from, to) = rows.span(h);
     let first = u64::from(first);
     let mut k = from.saturating_sub(first);
-    let end = to.saturating_sub(first).min(32);
+    let end = to.saturating_sub(first).min(BAND_ROWS as u64);
     let mut lines = 0;
     while k < end {
         let alike = alike_places(ink, stretched, rows, first + k, first + end);
@@ -133,11 +134,11 @@ fn paint_along<I: Ink>(
     lines
 }
 
-/// The ink on a column of the label, on 32 rows from one on.
+/// The ink on a column of the label, on the rows of a band from one on.
 fn column_of<I: Ink>(ink: &I, columns: Axis, rows: Axis, x: u64, first: u32) -> [u8; 4]
     requires low { I.height ink.now < 2 ^ 32 }
     requires near { IsWithin (2 ^ 41) rows }
-    ensures { (k : ℕ) → k < 32 → dot result k ≡ laid Across columns rows (I.ink_at ink.now) (pos x)
+    ensures { (k : ℕ) → k < BAND_ROWS → dot result k ≡ laid Across columns rows (I.ink_at ink.now) (pos x)
         (pos (first + k)) }
 {
     match columns.dot_on(x) {
@@ -159,9 +160,9 @@ fn column_after<I: Ink>(
     requires low { I.height ink.now < 2 ^ 32 }
     requires near { IsWithin (2 ^ 41) rows }
     requires after { 0 < x }
-    requires before { (k : ℕ) → k < 32 → dot before k ≡ laid Across columns rows (I.ink_at ink.now)
+    requires before { (k : ℕ) → k < BAND_ROWS → dot before k ≡ laid Across columns rows (I.ink_at ink.now)
         (pos (x - 1)) (pos (first + k)) }
-    ensures { (k : ℕ) → k < 32 → dot result k ≡ laid Across columns rows (I.ink_at ink.now) (pos x)
+    ensures { (k : ℕ) → k < BAND_ROWS → dot result k ≡ laid Across columns rows (I.ink_at ink.now) (pos x)
         (pos (first + k)) }
 {
     if repeats_above(ink, columns, x) {
@@ -183,9 +184,9 @@ fn eight_columns<I: Ink>(
     requires low { I.height ink.now < 2 ^ 32 }
     requires near { IsWithin (2 ^ 41) rows }
     requires x { x < 2 ^ 32 }
-    requires line { (k : ℕ) → k < 32 → dot line k ≡ laid Across columns rows (I.ink_at ink.now) (pos x)
+    requires line { (k : ℕ) → k < BAND_ROWS → dot line k ≡ laid Across columns rows (I.ink_at ink.now) (pos x)
         (pos (first + k)) }
-    ensures { (i k : ℕ) → i < 8 → k < 32 → dot (slice_index_or result i []) k
+    ensures { (i k : ℕ) → i < 8 → k < BAND_ROWS → dot (slice_index_or result i []) k
         ≡ laid Across columns rows (I.ink_at ink.now) (pos (x + i)) (pos (first + k)) }
 {
     let mut lines = [line; 8];
@@ -206,7 +207,7 @@ fn paint_dots(op: Op, ink: bool, from: u64, to: u64, row: &mut [u8])
 
 /// Paints columns of the band from one to another, each of which shows the same line.
 fn paint_run(op: Op, line: [u8; 4], from: u64, to: u64, band: &mut LabelBand)
-    ensures { RowsPainted 32 op (λ d k. span from to d && dot line k) band.old band.new }
+    ensures { RowsPainted BAND_ROWS op (λ d k. span from to d && dot line k) band.old band.new }
 {
     for k in 0..32usize {
         paint_dots(op, dot_of(&line, k as u128), from, to, band.row_mut(k));
@@ -233,14 +234,14 @@ fn paint_columns<I: Ink>(
     requires near { IsWithin (2 ^ 41) rows }
     requires x { x < end }
     requires end { end ≤ WIDTH }
-    requires line { (k : ℕ) → k < 32 → dot line k ≡ laid Across columns rows (I.ink_at ink.now) (pos x)
+    requires line { (k : ℕ) → k < BAND_ROWS → dot line k ≡ laid Across columns rows (I.ink_at ink.now) (pos x)
         (pos (first + k)) }
     ensures some { 0 < result.0 }
     ensures most { result.0 ≤ WIDTH }
     ensures near { x + result.0 ≤ end + 7 }
-    ensures painted { RowsPainted 32 op (λ d k. span x (x + result.0) d
+    ensures painted { RowsPainted BAND_ROWS op (λ d k. span x (x + result.0) d
         && laid Across columns rows (I.ink_at ink.now) (pos d) (pos (first + k))) band.old band.new }
-    ensures line { (k : ℕ) → k < 32 → dot result.1 k ≡ laid Across columns rows (I.ink_at ink.now)
+    ensures line { (k : ℕ) → k < BAND_ROWS → dot result.1 k ≡ laid Across columns rows (I.ink_at ink.now)
         (pos (x + result.0)) (pos (first + k)) }
     ensures lines { result.2 ≤ result.0 }
 {
@@ -268,7 +269,7 @@ fn paint_across<I: Ink>(
 ) -> u64
     requires stretched { AreStretched stretched (I.ink_at ink.now) }
     requires near { IsWithin (2 ^ 41) rows }
-    ensures dots { RowsPainted 32 op (λ x k. laid Across columns rows (I.ink_at ink.now) (pos x)
+    ensures dots { RowsPainted BAND_ROWS op (λ x k. laid Across columns rows (I.ink_at ink.now) (pos x)
         (pos (first + k))) band.old band.new }
     ensures lines { result ≤ most_lines Across }
 {
@@ -306,7 +307,7 @@ pub fn paint_laid<I: Ink>(
     requires stretched { AreStretched stretched (I.ink_at ink.now) }
     requires columns { IsWithin (2 ^ 41) columns }
     requires rows { IsWithin (2 ^ 41) rows }
-    ensures dots { RowsPainted 32 op (λ x k. laid lines columns rows (I.ink_at ink.now) (pos x)
+    ensures dots { RowsPainted BAND_ROWS op (λ x k. laid lines columns rows (I.ink_at ink.now) (pos x)
         (pos (first + k))) band.old band.new }
     ensures lines { result ≤ most_lines lines }
 {

@@ -14,6 +14,7 @@ ghost use Rattle.vp_field.specs.Standing.{standing, IsNear};
 ghost use Rattle.vp_field.specs.Views.{seen_x, seen_y};
 ghost use Rattle.vp_zpl.specs.declared.item.Orientation.TheVariants.{Normal};
 ghost use Rattle.vp_field.specs.declared.axis.Lines.TheVariants.{Along};
+ghost use Rattle.vp_label_size.specs.declared.TheConstants.{BAND_ROWS};
 
 use crate::axis::{Axis, clamped};
 use crate::content::bytes_of;
@@ -24,7 +25,7 @@ use crate::standing::Standing;
 use std::alloc::AllocError;
 use vp_dots::{Ink, Op, clear_into, dot_of, or_into, xor_into};
 use vp_format::{Picture, RunMark, RunRows};
-use vp_label_size::LabelBand;
+use vp_label_size::{BAND_ROWS, LabelBand};
 use vp_zpl::item::Orientation;
 
 /// The most bytes of a row.
@@ -80,12 +81,17 @@ impl Ink for PictureRow<'_> {
 fn lines_on(rows: Axis, height: u32, first: u32) -> (u32, u32)
     requires { IsWithin (2 ^ 41) rows }
     ensures within { result.1 ≤ height }
-    ensures few { result.1 ≤ result.0 + 32 }
-    ensures from { (k v : ℕ) → k < 32 → v < height → dot_on rows (pos (first + k)) ≡ pos v → result.0 ≤ v }
-    ensures to { (k v : ℕ) → k < 32 → v < height → dot_on rows (pos (first + k)) ≡ pos v → v < result.1 }
+    ensures few { result.1 ≤ result.0 + BAND_ROWS }
+    ensures from { (k v : ℕ) → k < BAND_ROWS → v < height
+        → dot_on rows (pos (first + k)) ≡ pos v → result.0 ≤ v }
+    ensures to { (k v : ℕ) → k < BAND_ROWS → v < height
+        → dot_on rows (pos (first + k)) ≡ pos v → v < result.1 }
 {
-    let line = rows.first_line(first, 32);
-    (clamped(line, height), clamped(line + 32, height))
+    let line = rows.first_line(first, BAND_ROWS as u32);
+    (
+        clamped(line, height),
+        clamped(line + BAND_ROWS as i64, height),
+    )
 }
 
 /// A cursor at a mark of a picture, or before its first row where there is none.
@@ -174,7 +180,7 @@ fn go_to(
 fn paint_row_of(row: &PictureRow<'_>, op: Op, at: Laid, first: u32, band: &mut LabelBand)
     requires columns { IsWithin (2 ^ 41) at.columns }
     requires rows { IsWithin (2 ^ 41) at.rows }
-    ensures { RowsPainted 32 op (λ x k. laid Along at.columns at.rows
+    ensures { RowsPainted BAND_ROWS op (λ x k. laid Along at.columns at.rows
         (row_dot row.now.bytes.now row.now.y) (pos x) (pos (first + k))) band.old band.new }
 {
     if let Some(k) = at.rows.row_of(row.y, first) {
@@ -203,7 +209,7 @@ fn paint_rows(
     requires columns { IsWithin (2 ^ 41) at.columns }
     requires axis { IsWithin (2 ^ 41) at.rows }
     ensures picture { rows.new.picture ≡ rows.old.picture }
-    ensures painted { RowsPainted 32 op (λ x k. laid Along at.columns at.rows
+    ensures painted { RowsPainted BAND_ROWS op (λ x k. laid Along at.columns at.rows
         (part from to (picture_dot rows.old.picture)) (pos x) (pos (first + k))) band.old band.new }
 {
     for y in from..to {
@@ -245,7 +251,7 @@ pub fn paint_picture(
     requires marks { AreMarksOf stored.now (contents.Picture picture) marks.old }
     requires near { IsNear on.left on.top }
     requires normal { on.orientation ≡ Normal }
-    ensures dots { (sheets : Sheets) → RowsPainted 32 on.op
+    ensures dots { (sheets : Sheets) → RowsPainted BAND_ROWS on.op
         (drawn sheets stored.now (contents.Picture picture) on first) band.old band.new }
     ensures marks { AreMarksOf stored.now (contents.Picture picture) marks.new }
     ensures work { result ≤ most_work Normal (contents.Picture picture) }

@@ -6,6 +6,7 @@ ghost use Rattle.vp_field.specs.Contents.{most_lines};
 ghost use Rattle.vp_field.specs.Standing.{standing, IsNear};
 ghost use Rattle.vp_field.specs.Stretched.{AreStretched};
 ghost use Rattle.vp_field.specs.Views.{seen_x, seen_y};
+ghost use Rattle.vp_label_size.specs.declared.TheConstants.{BAND_ROWS};
 
 use crate::laid::Laid;
 use crate::paint::paint_laid;
@@ -53,8 +54,8 @@ pub fn paint_standing<I: Ink>(
 ) -> u64
     requires stretched { AreStretched stretched (I.ink_at ink.now) }
     requires near { IsNear on.left on.top }
-    ensures dots { RowsPainted 32 on.op (λ x k. standing on.left on.top on.orientation (I.width ink.now)
-        (I.height ink.now) (I.ink_at ink.now) (seen_x on.view (pos x))
+    ensures dots { RowsPainted BAND_ROWS on.op (λ x k. standing on.left on.top on.orientation
+        (I.width ink.now) (I.height ink.now) (I.ink_at ink.now) (seen_x on.view (pos x))
         (seen_y on.view (pos (first + k)))) band.old band.new }
     ensures lines { result ≤ most_lines (lines_of on.orientation) }
 {

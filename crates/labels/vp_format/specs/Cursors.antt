@@ -96,7 +96,8 @@ abbrev pub white_rest : ℕ → Spot → ℕ
 white_rest codes s = if is_white codes s then 1 else 0
 
 -- rows from a spot on show one value, no code spells them, and the row behind them starts at another spot
-pub record Even (width : ℕ) (coding : Coding) (codes : List ℕ) (s : Spot) (k v : ℕ) (after : Spot) : Type 0 where
+pub record Even (width : ℕ) (coding : Coding) (codes : List ℕ) (s : Spot) (k v : ℕ) (after : Spot)
+    : Type 0 where
   pub spot : IsSpot codes after
   pub whole : IsWhole coding after
   pub at : after.at ≡ s.at

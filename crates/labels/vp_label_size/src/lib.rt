@@ -15,5 +15,8 @@ pub const LONGEST: u16 = 8000;
 /// The rows of a band.
 pub const BAND_ROWS: usize = 32;
 
-/// A band of a label: `BAND_ROWS` rows, each of the 156 bytes that `WIDEST` dots take.
-pub type LabelBand = Band<156, 32>;
+/// The bytes of a row of a band: as many as `WIDEST` dots take.
+pub const BAND_BYTES: usize = 156;
+
+/// A band of a label: `BAND_ROWS` rows of `BAND_BYTES` bytes.
+pub type LabelBand = Band<BAND_BYTES, BAND_ROWS>;

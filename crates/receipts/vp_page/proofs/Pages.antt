@@ -2,6 +2,7 @@
 use Rattle.std.proofs.Common.{inl, inr, ◌≡◌, ℕ, ◌+◌, ◌-◌, ◌<◌, Bool, true, false, not, cond, ltb, leb, eqb, ◌&&◌, ◌||◌, refl, sym, ap, ◌∙◌, arith, List, [], ◌∷◌, get_or}
 use Rattle.std.proofs.lemmas.Bool.{cases_eq}
 use Rattle.std.proofs.lemmas.Bool.Decides.{nat_tests}
+use Rattle.vp_page.specs.declared.page.TheConstants.{PAGE_ROWS, PAPER_DOTS}
 use Rattle.vp_dots.specs.Dots.{dot}
 use Rattle.vp_dots.specs.Places.{RowsPainted}
 use Rattle.vp_dots.specs.declared.Op.TheVariants.{Black, White}
@@ -21,7 +22,7 @@ white_and true o = refl
 white_and false o = refl
 
 module _ (layers : List Layer) (ink : ℕ → ℕ → Bool) (old new : List (List ℕ)) (page : HasPage layers old) where
-  pub laid : (m : Mark) → ((x y : ℕ) → x < 576 → y < 1664 → ink x y ≡ mark_dot m x y) → RowsPainted 1664 Black ink old new → HasPage (Laid m ∷ layers) new
+  pub laid : (m : Mark) → ((x y : ℕ) → x < PAPER_DOTS → y < PAGE_ROWS → ink x y ≡ mark_dot m x y) → RowsPainted PAGE_ROWS Black ink old new → HasPage (Laid m ∷ layers) new
   laid m e p = record {
     rows_are = λ y h. (p.rows_are y h).length_is ∙ page.rows_are y h;
     dots_are = λ x y k h.
@@ -29,7 +30,7 @@ module _ (layers : List Layer) (ink : ℕ → ℕ → Bool) (old new : List (Lis
         ∙ black_or (ink x y) (dot (get_or old y []) x) ∙ ap (λ i. i || dot (get_or old y []) x) (e x y k h) ∙ ap (λ o. mark_dot m x y || o) (page.dots_are x y k h);
   }
 
-  pub wiped : (a : Area) → ((x y : ℕ) → x < 576 → y < 1664 → ink x y ≡ holds a x y) → RowsPainted 1664 White ink old new → HasPage (Wiped a ∷ layers) new
+  pub wiped : (a : Area) → ((x y : ℕ) → x < PAPER_DOTS → y < PAGE_ROWS → ink x y ≡ holds a x y) → RowsPainted PAGE_ROWS White ink old new → HasPage (Wiped a ∷ layers) new
   wiped a e p = record {
     rows_are = λ y h. (p.rows_are y h).length_is ∙ page.rows_are y h;
     dots_are = λ x y k h.

@@ -2,6 +2,7 @@ use Rattle.std.proofs.Common.{ℕ, ◌+◌, take, sym, refl, arith, w64, to_z, o
 use Rattle.std.specs.Int.{to_be_bytes}
 use Rattle.std.proofs.lemmas.Int.{to_z-of_z}
 use Rattle.vp_glyph.specs.Blocks.{pieces, first, line_dot}
+use Rattle.vp_glyph.specs.Layouts.{layout_of}
 use Rattle.vp_dots.specs.declared.Op.TheVariants.{Black}
 use Rattle.vp_glyph.proofs.Stacks.{lines_below}
 use Rattle.vp_glyph.proofs.Overlaid.{overlaid_more, zero_at}
@@ -31,7 +32,7 @@ loop-left-preserved g c =
       overlaid = λ i l. overlaid_more b.sheet.now b.w b.h b.wide b.rows b.pitch b.alignment (c.args.top + i) Black at _ _ c.loop-left.place c.next_line.result.0.cells _ c.loop-left.left c.next_line.result.1 c.in-Some.text c.next_line.result.0.text.now
           _ (to_be_bytes w64 (get_or c.loop-left.fronts i 0)) _ (λ e. cc) refl
           (c.loop-left.invariant.overlaid i l) c.in-Some.is c.next_line.ensures.text c.next_line.ensures.cells c.next_line.ensures.most c.next_line.ensures.lines
-          (added_row at (λ x. line_dot b.sheet.now b.w b.h b.wide b.pitch b.alignment c.loop-left.place line x (c.args.top + i)) _ _ (λ x m. c.add_line.ensures i x l m)) (omega arith);
+          (added_row at (λ x. line_dot (layout_of b) c.loop-left.place line x (c.args.top + i)) _ _ (λ x m. c.add_line.ensures i x l m)) (omega arith);
     }
 
 pub returns-then-from : goal.returns-then-from

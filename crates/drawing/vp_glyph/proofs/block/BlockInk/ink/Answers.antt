@@ -1,5 +1,6 @@
 use Rattle.std.proofs.Common.{sym, ◌∙◌, ◌/◌, ap, arith}
 use Rattle.vp_glyph.specs.Blocks.{lines_dot}
+use Rattle.vp_glyph.specs.Layouts.{layout_of}
 use Rattle.vp_glyph.proofs.Stacks.{lines_left, front_found, block_past, block_below, block_narrow, block_within}
 use Rattle.vp_glyph.proofs.block.BlockInk.ink.Goals as goal
 use Rattle.vp_glyph.proofs.block.BlockInk.ink.Goals.{then-x-width-via-then-x-width, then-x-width-via-else-x-width+then-y-height, then-x-width-via-else-x-width+else-y-height+then-self}
@@ -20,6 +21,6 @@ returns-then-dot_of_line c =
 
 pub returns : goal.returns
 returns c =
-    ap (λ o. lines_dot c.args.self.now.sheet.now c.args.self.now.w c.args.self.now.h c.args.self.now.wide c.args.self.now.rows c.args.self.now.pitch c.args.self.now.alignment c.loop-left.place
+    ap (λ o. lines_dot (layout_of c.args.self.now) c.loop-left.place
     (lines_left (c.args.self.now.wide / c.args.self.now.w) o) c.args.x c.args.y) (sym c.in_default.is)
     ∙ c.loop-left.invariant.rest_is ∙ block_within _ _ _ _ _ _ _ _ _ _ (omega arith) (omega arith) (omega arith)

@@ -1,4 +1,5 @@
 use Rattle.std.proofs.Common.{◌≡◌, ℕ, arith, ap, ◌∙◌, take, List, [], get_or}
+use Rattle.vp_page.specs.declared.page.TheConstants.{PAPER_BYTES}
 use Rattle.vp_dots.specs.Dots.{dot}
 use Rattle.vp_dots.specs.Images.{row_of}
 use Rattle.vp_page.specs.Layers.{Layer, page_dot}
@@ -8,12 +9,12 @@ use Rattle.vp_page.proofs.page.Page.row.Goals as goal
 
 pub returns : goal.returns
 returns c =
-    let whole : (layers : List Layer) → HasPage layers c.args.self.now → c.row-row.result.now ≡ row_of 72 (λ x. page_dot layers x c.args.y) = λ layers page.
-    c.dots_decide.ensures.row 72 (λ x. page_dot layers x c.args.y) c.row-row.ensures.len
+    let whole : (layers : List Layer) → HasPage layers c.args.self.now → c.row-row.result.now ≡ row_of PAPER_BYTES (λ x. page_dot layers x c.args.y) = λ layers page.
+    c.dots_decide.ensures.row PAPER_BYTES (λ x. page_dot layers x c.args.y) c.row-row.ensures.len
     (λ d h. ap (λ row. dot row d) (c.row-row.ensures.value ∙ ap (λ (p : List (List ℕ)). get_or p c.args.y []) c.self.view_is) ∙ page.dots_are d c.args.y (omega arith) c.requires)
     in record {
       value = c.row-row.ensures.value ∙ ap (λ (p : List (List ℕ)). get_or p c.args.y []) c.self.view_is;
       len = c.row-row.ensures.len;
       bytes = whole;
-      left = λ layers n page h. ap (take n) (whole layers page) ∙ take-row_of n 72 (λ x. page_dot layers x c.args.y) h;
+      left = λ layers n page h. ap (take n) (whole layers page) ∙ take-row_of n PAPER_BYTES (λ x. page_dot layers x c.args.y) h;
     }
