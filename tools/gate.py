@@ -23,8 +23,9 @@ TOOLS = os.path.dirname(os.path.realpath(__file__))
 FUNCTION = re.compile(r"( *)(?:pub(?:\([^)]*\))? )?(?:const )?fn (\w+)")
 # What has methods: a trait, or a type, maybe with the trait that it is given there.
 OWNER = re.compile(r"(?:pub )?trait (?P<of>\w+)|impl(?:<.*?>)? (?:(?P<trait>\w+)(?:<.*?>)? for &?)?(?P<type>\w+)")
-# What of rt the rounds stand on.
-NEEDED = "add_edits", "must_fail", "checked", "read_edit", "unread", "need", "rtlib", "REFUSED", "SETTLED"
+# What of rt the rounds stand on: of every rt, and of one that adds an edit's task itself or else tries a crate's edits in one.
+NEEDED = "must_fail", "checked", "read_edit", "unread", "rtlib"
+WITH_TASKS, WITH_ALL = ("add_edits", "need", "REFUSED", "SETTLED"), ("must_fail_all",)
 # Faults that the prover finds: by a place of the source, or in a file that answers a function's goals.
 IN_SOURCE = re.compile(r"note: (?:\./)?src/(\S+)\.rt:(\d+):\d+: it is not proved ")
 IN_PROOF = re.compile(r"(?:\./)?proofs/(\S+)/\w+\.antt:\d+:\d+: error: ")
@@ -164,16 +165,17 @@ def tried_by_rounds(rt, crate, edits, flags, kept):
 def must_fail_all(rt, crate, files, flags):
     """Tries the edits of a crate that is proved: by rounds, and alone what no round refused. What isn't refused so either is
     tried once more from nothing, and so is what was tried alone where the crate itself isn't proved over what was kept.
-    Returns what each comes to, and what to say of it."""
+    Returns what each comes to, in rt's words (or, of an rt that has none, whether it is refused), and what to say of it."""
+    refused, settled = getattr(rt, "REFUSED", True), getattr(rt, "SETTLED", (True,))
     readable = [it for it in files if not rt.read_edit(it, crate.folder)[1]]
     together = [it for it in (Edit(crate, file) for file in readable) if it.is_of_bodies()]
     with tempfile.TemporaryDirectory(prefix="rt-edits-") as kept:
         found = tried_by_rounds(rt, crate, together, flags, kept)
         label = f"must-fail {crate.name}/%s: refused, as it must be: %s"
-        tried = {it: (rt.REFUSED, label % (os.path.basename(it), fault[:160])) for it, fault in found.items()}
+        tried = {it: (refused, label % (os.path.basename(it), fault[:160])) for it, fault in found.items()}
         alone = {it: rt.must_fail(crate, it, flags, kept) for it in files if it not in tried}
         if alone and not rt.checked(crate, {}, flags, kept).returncode:
-            tried |= {it: said for it, said in alone.items() if said[0] in rt.SETTLED}
+            tried |= {it: said for it, said in alone.items() if said[0] in settled}
     return [tried[it] if it in tried else rt.must_fail(crate, it, flags) for it in files]
 
 
@@ -223,13 +225,21 @@ def tell_made_from(program):
         subprocess.run([f"{TOOLS}/made-from", program], stdout=it, check=True)
 
 
+def by_rounds(rt):
+    """Has rt try edits by rounds, or says what it lacks for that."""
+    lacking = {way: [it for it in (*NEEDED, *way) if not hasattr(rt, it)] for way in (WITH_TASKS, WITH_ALL)}
+    if not lacking[WITH_TASKS]:
+        rt.add_edits = lambda *of, **named: add_edits(rt, *of, **named)
+    elif not lacking[WITH_ALL]:
+        rt.must_fail_all = lambda *of: must_fail_all(rt, *of)
+    else:
+        names = " or ".join(", ".join(it) for it in lacking.values())
+        print(f"gate: this rt has no {names}: it tries each edit in a check of its own, which takes longer")
+
+
 def main():
     rt = kit()
-    lacking = [it for it in NEEDED if not hasattr(rt, it)]
-    if lacking:
-        print(f"gate: this rt has no {', '.join(lacking)}: it tries each edit in a check of its own, which takes longer")
-    else:
-        rt.add_edits = lambda *of, **named: add_edits(rt, *of, **named)
+    by_rounds(rt)
     root = os.getcwd()
     with tempfile.TemporaryDirectory(prefix="vp-gate-") as room:
         before = sources(root)
