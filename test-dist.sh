@@ -286,15 +286,27 @@ if [ -e "$root/dist/made-from" ]; then
         fail 'README.md names another toolchain than dist/made-from'
 fi
 
-# another toolchain can't tell
+# another toolchain can't tell before it built, nor where it makes other bytes
 is 0 'a build' build "$with"
 echo 'made-up-kit 2' >"$kit/KIT-ID"
-is 0 'another toolchain' check
-says "it can't be told .* made by made-up-kit 1, and on the path is made-up-kit 2"
-export CI=true
-is 1 'another toolchain, in CI' check
-says "it can't be told"
-unset CI
+untold() {
+    is 0 "$1" check
+    says "it can't be told .* made by made-up-kit 1, and on the path is made-up-kit 2"
+    export CI=true
+    is 1 "$1, in CI" check
+    says "it can't be told"
+    unset CI
+}
+untold 'another toolchain'
 is 0 'another toolchain' vp "$with"
 silent 'another toolchain'
+is 0 'a build by another toolchain' build "$with"
+export CI=true
+is 0 'another toolchain that makes the same, in CI' check
+says 'byte for byte the program that these sources make, by made-up-kit 2 as by made-up-kit 1$'
+unset CI
+echo "echo more >>\"\$to\"" >>"$kit/bin/rattle"
+rm -r "$tree/out" "$tree/crates/program/vp_cli/out" "$tree/crates/drawing/vp_dots/out"
+is 0 'a build by another toolchain that makes other bytes' build "$with"
+untold 'another toolchain that makes other bytes'
 echo 'another toolchain: ok'
