@@ -80,7 +80,7 @@ impl Painter {
 /// Rows of a band from the top: how many are alike, and their first six bytes; below them it is white.
 type Rows = &'static [(usize, [u8; 6])];
 
-/// All rows of such a band; none where they are more than its 32.
+/// All 32 rows of a band; none where `want` counts more.
 fn all_rows(want: Rows) -> Option<[[u8; 6]; 32]> {
     let mut rows = [[0; 6]; 32];
     let mut next = 0;

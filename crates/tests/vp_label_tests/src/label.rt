@@ -24,7 +24,7 @@ fn fed(label: &mut Label, reader: &mut ZplReader, stream: &[u8]) -> (usize, Opti
     (stream.len(), None)
 }
 
-/// A printer behind the bytes of a stream up to such an item.
+/// A printer behind the bytes of a stream up to the first item that prints something or is refused.
 fn behind(alloc: Global, stream: &[u8]) -> Result<(Label, usize, Option<Fault>), AllocError> {
     let mut label = Label::new(alloc, NONE)?;
     let (taken, fault) = fed(&mut label, &mut ZplReader::new(), stream);

@@ -95,7 +95,7 @@ fn push_symbol(bytes: &mut Vec<u8>, count: usize) -> Result<(), AllocError> {
     Ok(())
 }
 
-/// How many bytes of such a symbol are kept, and whether there are more.
+/// How many bytes of a symbol of `count` bytes that end at a 0 are kept, and whether there are more.
 fn long_symbol(alloc: Global, count: usize) -> Result<(usize, bool), AllocError> {
     let mut bytes = Vec::new(alloc);
     push_symbol(&mut bytes, count)?;

@@ -185,7 +185,7 @@ fn a_raster_as_long_as_the_page(rt: HostRuntime) -> Result<(), Fail> {
     Ok(())
 }
 
-/// Whether the same is printed on paper and on a page that begins so.
+/// Whether `sent` prints on paper what it prints on a page that begins with `head`.
 fn same_on_a_page(alloc: Global, head: &[u8], sent: &[u8]) -> Result<bool, Fail> {
     let paper = printed(alloc, Width::W576, &[sent], 4096)?;
     let page = printed(alloc, Width::W576, &[head, sent, b"\x0C"], 4096)?;

@@ -38,7 +38,7 @@ fn print_in_runs(
     put_all(receipt, 4096, paper)
 }
 
-/// What such a page prints.
+/// What a page that begins with `head` prints, with a raster's bytes in runs of at most `run` behind it.
 fn page_in_runs(alloc: Global, head: &[u8], bytes: &[u8], run: usize) -> Result<Vec<u8>, Fail> {
     let mut receipt = new_receipt(alloc, Width::W576)?;
     let mut paper = Vec::new(alloc);

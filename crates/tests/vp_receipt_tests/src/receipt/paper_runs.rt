@@ -36,7 +36,7 @@ fn take_in_runs(
     Ok(())
 }
 
-/// What such a head prints with a raster's bytes in runs behind it.
+/// What `head` prints with a raster's bytes in runs of at most `run` behind it.
 fn paper_in_runs(
     alloc: Global,
     width: Width,
