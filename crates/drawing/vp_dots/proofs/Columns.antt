@@ -1,8 +1,9 @@
 -- Blocks of eight by eight dots, and eight lines laid as eight columns.
-use Rattle.std.proofs.Common.{inl, inr, zero, suc, ◌≡◌, ℕ, ◌+◌, ◌-◌, ◌*◌, ◌/◌, ◌%◌, ◌^◌, ◌<◌, ◌≤◌, Bool, true, false, eqb, ltb, leb, ◌&&◌, ◌||◌, refl, sym, ap, ◌∙◌, arith, eq-eqb, List, [], ◌∷◌, get_or, bit_and}
+use Rattle.std.proofs.Common.{inl, inr, zero, suc, ◌≡◌, ℕ, ◌+◌, ◌-◌, ◌*◌, ◌/◌, ◌%◌, ◌^◌, ◌<◌, ◌≤◌, Bool, true, false, eqb, ltb, leb, ◌&&◌, ◌||◌, refl, sym, ap, ◌∙◌, arith, eq-eqb, List, [], ◌∷◌, get_or, bit_and, bit_or, cond}
 use Rattle.std.proofs.lemmas.Nat.Bits.{bit_at-zero}
 use Rattle.std.proofs.lemmas.Bool.{cases_eq, cases_lt, ne_eqb, lt-ltb, le-ltb, lt-leb, le-leb}
 use Rattle.vp_dots.specs.Dots.{bit, dot}
+use Rattle.vp_dots.proofs.Bits.{bit_of_or}
 use Rattle.vp_dots.proofs.Spans.{bit_of_and, bit_of_all}
 use Rattle.vp_dots.specs.Words.{word_dot}
 use Rattle.vp_dots.specs.Blocks.{block_dot, columns_dot}
@@ -164,7 +165,8 @@ pub columns_apart_from : (lines : List (List ℕ)) (turn j skip left top shift c
     → (columns_dot lines (8 * j) skip left top x k && block_dot turn cut left (top + shift) x k) ≡ false
 columns_apart_from lines turn j skip left top shift cut x k s t = columns_apart left x _ _ (line_apart j top skip shift cut k s t _ _)
 
-white_dot : (x : ℕ) → word_dot 0 x ≡ false
+-- a dot of no dots
+pub white_dot : (x : ℕ) → word_dot 0 x ≡ false
 unfolding bit
 white_dot x = elim (cases_lt x 64) [
   | inl l ↦ rw (lt-ltb x 64 l) (ap (λ b. eqb b 1) (bit_at-zero (63 - x)))
@@ -186,3 +188,29 @@ columns_skip lines j skip left top x k b =
         each true true false d = refl
         each true false c d = refl
         each false b c d = refl
+
+-- white dots of eight lines, up to a place
+pub columns_white : (lines : List (List ℕ)) (from to skip left top x k : ℕ) → from ≤ to → ((x u : ℕ) → x < 8 → u < to - from → dot (get_or lines x []) (from + u) ≡ false)
+    → columns_dot lines from skip left top x k ≡ columns_dot lines to skip left top x k
+columns_white lines from to skip left top x k h white = ap (λ b. leb left x && b) (elim (cases_lt (x - left) 8) [
+  | inr g ↦ rw (le-ltb (x - left) 8 g) refl
+  | inl l ↦ ap (λ b. ltb (x - left) 8 && (leb top k && b)) (elim (cases_lt (k - top + skip) from) [
+    | inl m ↦ rw (lt-ltb (k - top + skip) from m, lt-ltb (k - top + skip) to (omega arith)) refl
+    | inr n ↦ elim (cases_lt (k - top + skip) to) [
+      | inl m ↦ rw (le-ltb (k - top + skip) from n, lt-ltb (k - top + skip) to m)
+          (sym (white (x - left) (k - top + skip - from) l (omega arith)) ∙ ap (dot (get_or lines (x - left) [])) (let e : from + (k - top + skip - from) ≡ k - top + skip = omega arith in e))
+      | inr o ↦ rw (le-ltb (k - top + skip) from n, le-ltb (k - top + skip) to o) refl
+    ]
+  ])
+])
+
+-- the dots of two words
+pub either_dot : (a b u : ℕ) → word_dot (bit_or a b) u ≡ (word_dot a u || word_dot b u)
+either_dot a b u = ap (λ t. ltb u 64 && t) (bit_of_or a b (63 - u)) ∙ split (ltb u 64) (bit a (63 - u)) (bit b (63 - u))
+  where
+    split : (l p q : Bool) → (l && cond q true p) ≡ ((l && p) || (l && q))
+    split true true true = refl
+    split true true false = refl
+    split true false true = refl
+    split true false false = refl
+    split false p q = refl

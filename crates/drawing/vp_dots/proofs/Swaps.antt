@@ -78,7 +78,7 @@ every_at (suc n) f e i h = let p = and_parts (f n) (every n f) e in elim (cases_
 ]
 
 -- the three exchanges of a turn: the mask of each doesn't meet itself
-apart_all : (mask s : ℕ) → every 64 (λ i. not (bit mask i && (leb s i && bit mask (i - s)))) ≡ true → (i : ℕ) → i < 64 → (bit mask i && (leb s i && bit mask (i - s))) ≡ false
+pub apart_all : (mask s : ℕ) → every 64 (λ i. not (bit mask i && (leb s i && bit mask (i - s)))) ≡ true → (i : ℕ) → i < 64 → (bit mask i && (leb s i && bit mask (i - s))) ≡ false
 apart_all mask s e i h = not_true _ (every_at 64 (λ j. not (bit mask j && (leb s j && bit mask (j - s)))) e i h)
   where
     not_true : (b : Bool) → not b ≡ true → b ≡ false

@@ -1,17 +1,17 @@
 //! Blocks of eight by eight dots, a word each: eight lines laid across the rows of a band.
-ghost use Rattle.std.specs.Prelude.{◌≡◌, ℕ, ◌+◌, ◌-◌, ◌*◌, ◌<◌, ◌≤◌, ◌^◌, [], nat_lt, nat_le, ◌&&◌, false, slice_index_or};
+ghost use Rattle.std.specs.Prelude.{◌≡◌, ℕ, ◌+◌, ◌-◌, ◌*◌, ◌<◌, ◌≤◌, ◌^◌, List, [], nat_lt, nat_le, ◌&&◌, true, false, slice_index_or};
 ghost use Rattle.vp_dots.specs.Dots.{bit, dot};
 ghost use Rattle.vp_dots.specs.Places.{RowsPainted};
 ghost use Rattle.vp_dots.specs.Words.{word_dot};
 ghost use Rattle.vp_dots.specs.Blocks.{swap_place, block_dot, columns_dot, across_dot};
 
 use crate::span::paint_masked;
-use crate::word::{paint_few, word_of};
+use crate::word::{eight_at, paint_few, word_of};
 use crate::{Band, Op};
 
 /// Exchanges the bits of the mask with those s places above them.
 #[inline(always)]
-fn swapped(block: u64, s: u32, mask: u64) -> u64
+pub(crate) fn swapped(block: u64, s: u32, mask: u64) -> u64
     requires s { s < 64 }
     requires apart { (i : ℕ) → i < 64 → (bit mask i && (nat_le s i && bit mask (i - s))) ≡ false }
     ensures { (i : ℕ) → i < 64 → bit result i ≡ bit block (swap_place mask s i) }
@@ -135,7 +135,49 @@ fn lay_block<const B: usize, const H: usize>(
     }
 }
 
+/// Whether eight bytes of each of eight lines, from byte j on, are white.
+#[inline(always)]
+fn are_white<const N: usize>(lines: &[[u8; N]; 8], j: usize) -> bool
+    requires { j + 8 ≤ N }
+    ensures { result ≡ true → (x u : ℕ) → x < 8 → u < 64
+        → dot (slice_index_or lines.now x []) (8 * j + u) ≡ false }
+{
+    let mut black = 0;
+    for i in 0..8usize {
+        black |= eight_at(&lines[i], j);
+    }
+    black == 0
+}
+
+/// Paints what byte j of each of eight lines blackens, where the bytes before it are painted.
+#[inline(always)]
+fn lay_next<const N: usize, const B: usize, const H: usize>(
+    op: Op,
+    lines: &[[u8; N]; 8],
+    j: usize,
+    skip: usize,
+    left: usize,
+    top: usize,
+    band: &mut Band<B, H>,
+)
+    requires j { j < N }
+    requires left { left < 2 ^ 63 }
+    requires top { top ≤ 2 ^ 63 }
+    requires few { N ≤ 2 ^ 28 }
+    ensures { (white : List (List ℕ)) →
+        RowsPainted H op (columns_dot lines.now (8 * j) skip left top) white band.old →
+        RowsPainted H op (columns_dot lines.now (8 * (j + 1)) skip left top) white band.new }
+{
+    let block = block_at(lines, j);
+    if block != 0 {
+        let shift = (8 * j).saturating_sub(skip);
+        let cut = skip.saturating_sub(8 * j);
+        lay_block(op, turned(block), cut, left, top + shift, band);
+    }
+}
+
 /// Paints eight columns, the first at `left`, where eight lines are black, their dots `skip` on row `top`.
+/// Where they are white they are passed eight bytes at once.
 fn lay_from<const N: usize, const B: usize, const H: usize>(
     op: Op,
     lines: &[[u8; N]; 8],
@@ -149,12 +191,13 @@ fn lay_from<const N: usize, const B: usize, const H: usize>(
     requires few { N ≤ 2 ^ 28 }
     ensures { RowsPainted H op (columns_dot lines.now (8 * N) skip left top) band.old band.new }
 {
-    for j in 0..N {
-        let block = block_at(lines, j);
-        if block != 0 {
-            let shift = (8 * j).saturating_sub(skip);
-            let cut = skip.saturating_sub(8 * j);
-            lay_block(op, turned(block), cut, left, top + shift, band);
+    let mut j = 0;
+    'bytes: while j < N {
+        if j % 8 == 0 && N - j >= 8 && are_white(lines, j) {
+            j += 8;
+        } else {
+            lay_next(op, lines, j, skip, left, top, band);
+            j += 1;
         }
     }
 }

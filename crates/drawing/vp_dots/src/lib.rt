@@ -45,7 +45,7 @@ pub use image::{dots_decide, header, image_law, row_law};
 pub use kernel::{clear_into, or_into, paint_into, painted_law, shift_law, xor_into};
 pub use listing::{list, spell};
 pub use place::{paint_at, paint_words};
-pub use reversed::reverse;
+pub use reversed::{copy_reversed, reversed_at};
 pub use single::{dot_of, paint_bits, paint_dot};
 pub use span::{fill_dots, fill_moved};
 pub use square::{SIDE, turned_square};

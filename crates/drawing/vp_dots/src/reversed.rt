@@ -1,6 +1,11 @@
-//! A row of dots turned end for end.
-ghost use Rattle.std.specs.Prelude.{◌≡◌, ℕ, ◌-◌, ◌<◌, ◌&&◌, nat_lt, length};
+//! A row of dots turned end for end, and eight bytes of one.
+ghost use Rattle.std.specs.Prelude.{◌≡◌, ℕ, ◌+◌, ◌-◌, ◌*◌, ◌<◌, ◌≤◌, ◌&&◌, nat_lt, length, slice_index};
 ghost use Rattle.vp_dots.specs.Dots.{bit, dot, dots};
+ghost use Rattle.vp_dots.specs.Words.{word_dot};
+
+use crate::block::swapped;
+use crate::word::word_of;
+use std::simd::{u8x8, u64x1};
 
 /// A byte with its dots in the other order: its halves change places, then their halves, then theirs.
 #[inline(always)]
@@ -12,14 +17,44 @@ fn mirrored(byte: u8) -> u8
     ((pairs & 0x55) << 1) | ((pairs & 0xaa) >> 1)
 }
 
-/// Turns a row of dots end for end: its last dot becomes its first.
-pub fn reverse(line: &mut [u8])
-    ensures len { length line.new ≡ length line.old }
-    ensures turned { (d : ℕ) → dot line.new d ≡
-        (nat_lt d (dots line.old) && dot line.old (dots line.old - 1 - d)) }
+/// Eight bytes of the row, from byte i on, turned end for end.
+#[inline(always)]
+pub fn reversed_at(row: &[u8], i: usize) -> u64
+    requires { i + 8 ≤ length row.now }
+    ensures { (x : ℕ) → x < 64 → word_dot result x ≡ dot row.now (8 * i + (63 - x)) }
 {
-    line.reverse();
-    for byte in line.iter_mut() {
-        *byte = mirrored(*byte);
+    let bytes = word_of(&u8x8::from_slice(&row[i..]).reverse().to_array());
+    let halves = swapped(bytes, 4, 0x0f0f_0f0f_0f0f_0f0f);
+    let pairs = swapped(halves, 2, 0x3333_3333_3333_3333);
+    swapped(pairs, 1, 0x5555_5555_5555_5555)
+}
+
+/// Writes eight bytes of the line, from byte i on.
+// By lanes, so that the bytes are written at once.
+#[inline(always)]
+fn write_eight(word: u64, i: usize, line: &mut [u8])
+    requires { i + 8 ≤ length line.old }
+    ensures len { length line.new ≡ length line.old }
+    ensures written { (j k : ℕ) → j < 8 → k < 8 →
+        bit (slice_index line.new (i + j)) k ≡ word_dot word (8 * j + (7 - k)) }
+    ensures below { (j : ℕ) → j < i → slice_index line.new j ≡ slice_index line.old j }
+{
+    let bytes = u64x1::from_array([word]).to_le_bytes().reverse();
+    bytes.copy_to_slice(&mut line[i..]);
+}
+
+/// Copies a row of dots turned end for end: its last dot becomes the first of the line.
+pub fn copy_reversed(row: &[u8], line: &mut [u8])
+    requires { length line.old ≡ length row.now }
+    ensures len { length line.new ≡ length row.now }
+    ensures turned { (d : ℕ) → dot line.new d ≡
+        (nat_lt d (dots row.now) && dot row.now (dots row.now - 1 - d)) }
+{
+    let bytes = row.len();
+    for k in 0..bytes / 8 {
+        write_eight(reversed_at(row, bytes - 8 * (k + 1)), 8 * k, line);
+    }
+    for j in 0..bytes % 8 {
+        line[bytes - 1 - j] = mirrored(row[j]);
     }
 }

@@ -31,7 +31,8 @@ module _ (t : Lined) (p : Place) where
   pending_behind : (n : ℕ) → p.byte + n ≡ length (line_text t p.line) → rows_from t (row_after p.line) ≡ drop n (pending t p)
   pending_behind n e = sym (drop_at (drop p.byte (line_text t p.line)) (rows_from t (row_after p.line)) n (omega (arith, length-drop p.byte (line_text t p.line))))
 
-  rows_begin : (y : ℕ) → y < t.rows → t.row y ++ rows_from t (y + 1) ≡ rows_from t y
+  -- row y, and those after it
+  pub rows_begin : (y : ℕ) → y < t.rows → t.row y ++ rows_from t (y + 1) ≡ rows_from t y
   rows_begin y h = sym (ap (λ n. flat_map t.row (range_with_len y n)) (let e : t.rows - y ≡ suc (t.rows - (y + 1)) = omega arith in e))
 
   no_rows : (y : ℕ) → t.rows ≤ y → [] ≡ rows_from t y

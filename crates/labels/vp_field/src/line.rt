@@ -7,7 +7,7 @@ ghost use Rattle.vp_field.specs.Axes.{dot_on, IsWithin};
 ghost use Rattle.vp_label_size.specs.declared.TheConstants.{BAND_BYTES};
 
 use crate::axis::Axis;
-use vp_dots::{Ink, Op, paint_into, reverse};
+use vp_dots::{Ink, Op, copy_reversed, paint_into};
 use vp_label_size::BAND_BYTES;
 
 /// The offset of a line that begins at a place, on a row that begins at another.
@@ -53,8 +53,9 @@ pub fn drawn<I: Ink, const N: usize>(ink: &I, v: u32, axis: Axis, from: u32) -> 
         Axis::Forward(at) => ink.paint_row(v, Op::Black, offset(at, from), &mut line),
         Axis::Back(at) => {
             let at = offset_from_end(at, from, N);
-            ink.paint_row(v, Op::Black, at, &mut line);
-            reverse(&mut line);
+            let mut back = [0u8; N];
+            ink.paint_row(v, Op::Black, at, &mut back);
+            copy_reversed(&back, &mut line);
         }
     }
     line

@@ -7,5 +7,7 @@ pub mod Eights
 pub mod Marks
 pub mod Pages
 pub mod Squares
+pub mod RowMarks
 pub mod Rows
+pub mod Whites
 pub mod Wipes

@@ -28,6 +28,18 @@ clipped row new end p d = elim (cases_lt d (8 * length row)) [
   | inr g ↦ dot_past new d (let e = p.length_is in omega arith) ∙ none_and (ltb d end) (dot row d) (dot_past row d (omega arith))
 ]
 
+white_before : (past n end d : ℕ) (b : Bool) → past ≡ n - end → d < n → cond (leb 0 d && ltb d past) false b ≡ (ltb (n - 1 - d) end && b)
+white_before past n end d true e h = grind (arith, nat_tests)
+white_before past n end d false e h = grind (arith, nat_tests)
+
+-- the dots past a place made white, in a row that is turned
+pub clipped_back : (row line new : List ℕ) (end past : ℕ) → past ≡ 8 * length row - end → length line ≡ length row → ((d : ℕ) → dot line d ≡ (ltb d (8 * length row) && dot row (8 * length row - 1 - d)))
+    → Painted White (span 0 past) line new → (d : ℕ) → dot new d ≡ (ltb d (8 * length row) && (ltb (8 * length row - 1 - d) end && dot row (8 * length row - 1 - d)))
+clipped_back row line new end past e long t p d = elim (cases_lt d (8 * length row)) [
+  | inl l ↦ p.dots_are d (omega (arith, long)) ∙ ap (λ b. cond (span 0 past d) false b) (t d) ∙ rw (lt-ltb d (8 * length row) l) (white_before past (8 * length row) end d (dot row (8 * length row - 1 - d)) e l)
+  | inr g ↦ dot_past new d (let e = p.length_is in omega arith) ∙ rw (le-ltb d (8 * length row) g) refl
+]
+
 -- a row of n dots, turned, that ends before a place
 pub backward : (end n long x : ℕ) (at : ℤ) (f r : ℕ → Bool) → at +ℤ pos n ≡ pos end → ((d : ℕ) → r d ≡ (ltb d n && (ltb (n - 1 - d) long && f (n - 1 - d))))
     → ((d : ℕ) → n ≤ d → f d ≡ false) → shifted at r x ≡ (ltb x end && (ltb (end - 1 - x) long && f (end - 1 - x)))
@@ -42,6 +54,13 @@ backward end n long x at f r s t p = elim (met at x) [
     | inl b ↦ rw (p (end - 1 - x) (omega arith), lt-ltb x end (omega arith)) (none_and (ltb (end - 1 - x) long) false refl)
     | inr g ↦ absurd (m.0 (x + n - end) (omega (arith, ints)))
   ])
+]
+
+-- dots of a row of n dots, no more than its line has
+pub short_of : (n long d : ℕ) (b : Bool) → n ≤ long → (ltb d n && b) ≡ (ltb d n && (ltb (n - 1 - d) long && b))
+short_of n long d b h = elim (cases_lt d n) [
+  | inl l ↦ rw (lt-ltb d n l, lt-ltb (n - 1 - d) long (omega arith)) refl
+  | inr g ↦ rw (le-ltb d n g) refl
 ]
 
 dot_first : (byte u : ℕ) → u < 8 → dot (byte ∷ []) u ≡ bit byte (7 - u)

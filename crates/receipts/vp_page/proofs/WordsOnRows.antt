@@ -100,17 +100,39 @@ module _ (line : List ℕ) (q k d : ℕ) where
     ])
   ]
 
-  pub words_apart : (b : Bool) → (ltb d (8 * q + 64 * k) && (leb (8 * q) d && dot line (d - 8 * q)) && (leb (8 * (q + 8 * k)) d && b)) ≡ false
-  words_apart b = elim (cases_lt d (8 * q + 64 * k)) [
-    | inl l ↦ rw (lt-leb (8 * (q + 8 * k)) d (omega arith)) (and_false _)
-    | inr g ↦ rw (le-ltb d (8 * q + 64 * k) g) refl
-  ]
-
   -- after the last ones
   pub words_all : length line ≤ 8 * k → (ltb d (8 * q + 64 * k) && (leb (8 * q) d && dot line (d - 8 * q))) ≡ (leb (8 * q) d && dot line (d - 8 * q))
   words_all all = elim (cases_lt d (8 * q + 64 * k)) [
     | inl l ↦ rw (lt-ltb d (8 * q + 64 * k) l) refl
     | inr g ↦ rw (le-ltb d (8 * q + 64 * k) g, dot_past line (d - 8 * q) (omega arith)) (sym (and_false _))
+  ]
+
+-- a word behind the ones before it
+pub words_apart : (q k d : ℕ) (m b : Bool) → (ltb d (8 * q + 64 * k) && m && (leb (8 * (q + 8 * k)) d && b)) ≡ false
+words_apart q k d m b = elim (cases_lt d (8 * q + 64 * k)) [
+  | inl l ↦ rw (lt-leb (8 * (q + 8 * k)) d (omega arith)) (and_false _)
+  | inr g ↦ rw (le-ltb d (8 * q + 64 * k) g) refl
+]
+
+module _ (q n k d : ℕ) where
+  -- eight more bytes of a line that is turned end for end
+  pub reversed_more : (line : List ℕ) (word : ℕ) → 8 * (k + 1) ≤ n → ((x : ℕ) → x < 64 → word_dot word x ≡ dot line (8 * (n - 8 * (k + 1)) + (63 - x)))
+      → (ltb d (8 * q + 64 * (k + 1)) && (leb (8 * q) d && (ltb (d - 8 * q) (8 * n) && dot line (8 * n - 1 - (d - 8 * q)))))
+      ≡ (ltb d (8 * q + 64 * k) && (leb (8 * q) d && (ltb (d - 8 * q) (8 * n) && dot line (8 * n - 1 - (d - 8 * q)))) || leb (8 * (q + 8 * k)) d && word_dot word (d - 8 * (q + 8 * k)))
+  reversed_more line word h w = elim (cases_lt d (8 * q + 64 * k)) [
+    | inl l ↦ rw (lt-ltb d (8 * q + 64 * k) l, lt-ltb d (8 * q + 64 * (k + 1)) (omega arith), lt-leb (8 * (q + 8 * k)) d (omega arith)) (or_false _)
+    | inr g ↦ rw (le-ltb d (8 * q + 64 * k) g, le-leb (8 * (q + 8 * k)) d (omega arith)) (elim (cases_lt d (8 * q + 64 * (k + 1))) [
+      | inl m ↦ rw (lt-ltb d (8 * q + 64 * (k + 1)) m, le-leb (8 * q) d (omega arith), lt-ltb (d - 8 * q) (8 * n) (omega arith))
+          (ap (dot line) (let e : 8 * n - 1 - (d - 8 * q) ≡ 8 * (n - 8 * (k + 1)) + (63 - (d - 8 * (q + 8 * k))) = omega arith in e) ∙ sym (w (d - 8 * (q + 8 * k)) (omega arith)))
+      | inr o ↦ rw (le-ltb d (8 * q + 64 * (k + 1)) o, le-ltb (d - 8 * (q + 8 * k)) 64 (omega arith)) refl
+    ])
+  ]
+
+  -- after the last ones
+  pub reversed_all : (b : Bool) → n ≤ 8 * k → (ltb d (8 * q + 64 * k) && (leb (8 * q) d && (ltb (d - 8 * q) (8 * n) && b))) ≡ (leb (8 * q) d && (ltb (d - 8 * q) (8 * n) && b))
+  reversed_all b all = elim (cases_lt d (8 * q + 64 * k)) [
+    | inl l ↦ rw (lt-ltb d (8 * q + 64 * k) l) refl
+    | inr g ↦ rw (le-ltb d (8 * q + 64 * k) g, le-ltb (d - 8 * q) (8 * n) (omega arith)) (sym (and_false _))
   ]
 
 -- before the first ones

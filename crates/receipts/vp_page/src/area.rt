@@ -1,5 +1,5 @@
 //! Areas of the page, and where lines run in them.
-ghost use Rattle.std.specs.Prelude.{◌≡◌};
+ghost use Rattle.std.specs.Prelude.{◌≡◌, ℕ, true};
 
 /// ESC T: where lines begin and which way they run; the next line lies to their right, as one reads them.
 #[derive(Clone, Copy, Debug, PartialEq, Eq)]
@@ -20,7 +20,18 @@ pub struct Area {
 }
 
 impl Area {
-    ghost use Rattle.vp_page.specs.Areas.{line_length, depth};
+    ghost use Rattle.vp_page.specs.Areas.{line_length, depth, holds};
+
+    /// Whether another area lies in this one.
+    pub(crate) fn covers(self, other: Area) -> bool
+        ensures { result ≡ true → (x y : ℕ) → holds other x y ≡ true → holds self x y ≡ true }
+    {
+        let end = |from: u16, long: u16| u32::from(from) + u32::from(long);
+        self.x <= other.x
+            && self.y <= other.y
+            && end(other.x, other.dx) <= end(self.x, self.dx)
+            && end(other.y, other.dy) <= end(self.y, self.dy)
+    }
 
     /// How many dots a line holds.
     pub fn line_length(self, direction: Direction) -> u16

@@ -6,6 +6,7 @@ mod area;
 mod laws;
 mod line;
 mod page;
+mod white;
 mod words;
 
 pub use across::AT_ONCE;

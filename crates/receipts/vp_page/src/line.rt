@@ -1,17 +1,18 @@
 //! One row of dots, laid along a row of a page or across its rows, and a box made white.
-ghost use Rattle.std.specs.Prelude.{◌≡◌, ℕ, ◌+◌, ◌-◌, ◌*◌, ◌≤◌, ◌^◌, ◌&&◌, nat_eq, nat_lt, nat_le, ◌<◌, [], ◌∷◌, length, slice_index_or, pos, ◌+ℤ◌};
+ghost use Rattle.std.specs.Prelude.{◌≡◌, ℕ, ◌+◌, ◌-◌, ◌*◌, ◌≤◌, ◌^◌, ◌&&◌, nat_eq, nat_lt, nat_le, ◌<◌, ◌%◌, [], ◌∷◌, length, slice_index_or, pos, ◌+ℤ◌};
 ghost use Rattle.vp_page.specs.declared.line.TheConstants.{LINE_BYTES, LINE_DOTS};
-ghost use Rattle.vp_page.specs.declared.page.TheConstants.{PAGE_ROWS};
-ghost use Rattle.vp_dots.specs.Dots.{bit, dot, dots, shifted};
+ghost use Rattle.vp_page.specs.declared.page.TheConstants.{PAGE_ROWS, PAPER_BYTES};
+ghost use Rattle.vp_dots.specs.Dots.{bit, dot, dots, shifted, span};
 ghost use Rattle.vp_dots.specs.Painting.{Painted};
 ghost use Rattle.vp_dots.specs.Places.{RowsPainted};
 ghost use Rattle.vp_dots.specs.declared.Op.TheVariants.{Black, White};
 ghost use Rattle.vp_page.specs.Areas.{holds};
 
 use crate::Area;
-use crate::page::{PAGE_ROWS, PageBand};
-use crate::words::or_line;
-use vp_dots::{Ink, Op, fill_dots, lay_eight, reverse};
+use crate::page::{PAGE_ROWS, PAPER_BYTES, PageBand};
+use crate::white::Rows;
+use crate::words::{or_line, or_reversed};
+use vp_dots::{Ink, Op, copy_reversed, fill_dots, lay_eight};
 
 /// The bytes of the longest line of a page: one across its rows.
 pub const LINE_BYTES: usize = 208;
@@ -49,8 +50,9 @@ fn clip_reversed(row: &[u8], end: u16, line: &mut [u8])
     ensures cut { (d : ℕ) → dot line.new d ≡ (nat_lt d (dots row.now)
         && (nat_lt (dots row.now - 1 - d) end && dot row.now (dots row.now - 1 - d))) }
 {
-    clip(row, end, line);
-    reverse(line);
+    copy_reversed(row, line);
+    let past = (8 * row.len() as u64).saturating_sub(u64::from(end));
+    fill_dots(Op::White, 0, past, line);
 }
 
 /// Where a line of `bytes` bytes begins that ends before place `end`.
@@ -185,7 +187,22 @@ pub(crate) fn lay_right(row: &[u8], area: Area, y: usize, band: &mut PageBand)
     lay_along(line, i64::from(area.x), y, band);
 }
 
-/// Blackens row y of the page where the row, from the area's right edge to the left, is black.
+/// Blackens row y of the page where the row, turned end for end and its last byte on byte q, is black.
+fn lay_back(row: &[u8], q: usize, y: usize, band: &mut PageBand)
+    requires whole { length row.now % 8 ≡ 0 }
+    requires room { q + length row.now ≤ PAPER_BYTES }
+    ensures { RowsPainted PAGE_ROWS Black
+        (λ x k. nat_eq k y && (nat_le (8 * q) x && (nat_lt (x - 8 * q) (dots row.now)
+        && dot row.now (dots row.now - 1 - (x - 8 * q)))))
+        band.old band.new }
+{
+    if y < PAGE_ROWS {
+        or_reversed(row, q, band.row_mut(y));
+    }
+}
+
+/// Blackens row y of the page where the row, from the area's right edge to the left, is black. Mostly it
+/// stands on whole words, and is no longer than its line.
 pub(crate) fn lay_left(row: &[u8], area: Area, y: usize, band: &mut PageBand)
     requires { length row.now ≤ LINE_BYTES }
     ensures { RowsPainted PAGE_ROWS Black
@@ -193,11 +210,19 @@ pub(crate) fn lay_left(row: &[u8], area: Area, y: usize, band: &mut PageBand)
         && (nat_lt (area.x + area.dx - 1 - x) area.dx && dot row.now (area.x + area.dx - 1 - x))))
         band.old band.new }
 {
+    let right = area.x as usize + area.dx as usize;
+    if 8 * row.len() <= area.dx as usize
+        && row.len() % 8 == 0
+        && right % 8 == 0
+        && right <= 8 * PAPER_BYTES
+    {
+        lay_back(row, right / 8 - row.len(), y, band);
+        return;
+    }
     let mut room = [0; LINE_BYTES];
     let line = &mut room[..row.len()];
     clip_reversed(row, area.dx, line);
-    let right = u32::from(area.x) + u32::from(area.dx);
-    lay_along(line, start_of(right, row.len()), y, band);
+    lay_along(line, start_of(right as u32, row.len()), y, band);
 }
 
 /// Blackens column x of the page where the row, from the area's top down, is black.
@@ -307,14 +332,17 @@ pub(crate) fn lay_eight_up(
     lay_eight(Op::Black, &cut, left, start_of(below, LINE_BYTES), band);
 }
 
-/// Makes the places of an area white.
-pub(crate) fn whiten(area: Area, band: &mut PageBand)
-    ensures { RowsPainted PAGE_ROWS White (holds area) band.old band.new }
+/// Makes the places of an area white that lie on some rows.
+pub(crate) fn whiten(area: Area, rows: Rows, band: &mut PageBand)
+    requires { rows.to ≤ PAGE_ROWS }
+    ensures { RowsPainted PAGE_ROWS White (λ x k. span rows.from rows.to k && holds area x k)
+        band.old band.new }
 {
     let left = u64::from(area.x);
     let right = left + u64::from(area.dx);
-    let top = area.y as usize;
-    for i in 0..PAGE_ROWS.saturating_sub(top).min(area.dy as usize) {
+    let top = rows.from.max(area.y as usize);
+    let below = rows.to.min(area.y as usize + area.dy as usize);
+    for i in 0..below.saturating_sub(top) {
         fill_dots(Op::White, left, right, band.row_mut(top + i));
     }
 }

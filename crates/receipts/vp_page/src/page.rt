@@ -1,14 +1,17 @@
 //! The page.
-ghost use Rattle.std.specs.Prelude.{◌≡◌, ℕ, ◌<◌, ◌≤◌, List, [], ◌∷◌, IfOk, length, slice_index_or, take};
-ghost use Rattle.vp_dots.specs.Dots.{dot};
+ghost use Rattle.std.specs.Prelude.{◌≡◌, ℕ, ◌<◌, ◌≤◌, Bool, true, false, List, [], ◌∷◌, IfOk, length, slice_index_or, take};
+ghost use Rattle.vp_dots.specs.Dots.{dot, span};
 ghost use Rattle.vp_dots.specs.Images.{row_of};
+ghost use Rattle.vp_page.specs.Areas.{depth, holds};
+ghost use Rattle.vp_page.specs.Layers.{mark_dot, row_mark};
 ghost use Rattle.vp_page.specs.declared.line.TheConstants.{LINE_BYTES, LINE_DOTS};
-ghost use Rattle.vp_page.specs.declared.page.TheConstants.{PAPER_BYTES, PAGE_ROWS};
+ghost use Rattle.vp_page.specs.declared.page.TheConstants.{PAPER_BYTES, PAPER_DOTS, PAGE_ROWS};
 
 use crate::across::{AT_ONCE, lay_lines_down, lay_lines_up};
 use crate::line::{
     LINE_BYTES, draw, lay_down, lay_eight_down, lay_eight_up, lay_left, lay_right, lay_up, whiten,
 };
+use crate::white::Rows;
 use crate::{Area, Direction};
 use std::alloc::{AllocError, Global};
 use std::marker::Model;
@@ -23,13 +26,41 @@ pub const PAPER_BYTES: usize = 72;
 /// The rows of the page.
 pub const PAGE_ROWS: usize = 1664;
 
+/// The rows on which a row of dots can fall that is laid at a depth of an area.
+fn fallen(area: Area, direction: Direction, v: usize) -> Rows
+    requires { v < depth area direction }
+    ensures { (row : ℕ → Bool) (x y : ℕ) → mark_dot (row_mark area direction v row) x y ≡ true →
+        span result.from result.to y ≡ true }
+{
+    let row = match direction {
+        Direction::LeftToRight => area.y as usize + v,
+        Direction::RightToLeft => area.y as usize + area.dy as usize - 1 - v,
+        Direction::BottomToTop | Direction::TopToBottom => return Rows::of(area),
+    };
+    Rows {
+        from: row,
+        to: row + 1,
+    }
+}
+
 /// Rows of dots, as many as the page has.
 pub(crate) type PageBand = Band<PAPER_BYTES, PAGE_ROWS>;
+
+/// All of the page.
+const WHOLE: Area = Area {
+    x: 0,
+    y: 0,
+    dx: PAPER_DOTS,
+    dy: PAGE_ROWS as u16,
+};
 
 /// The dots of a page.
 #[derive(Drop)]
 pub struct Page {
     band: PageBand,
+    /// What is white, but for the rows that were laid on since: so what is white already isn't wiped again.
+    white: Area,
+    laid: Rows,
 }
 
 impl Model for Page {
@@ -37,11 +68,15 @@ impl Model for Page {
 
     ghost Value = { List (List ℕ) };
 
+    ghost use Rattle.vp_page.specs.Pages.{IsWhiteBut};
+
     ghost view = { λ s. s.band };
+
+    ghost invariant = { λ s. IsWhiteBut s.white s.laid s.band };
 }
 
 impl Page {
-    ghost use Rattle.vp_page.specs.Layers.{Layer, Laid, Wiped, row_mark, eight_mark, lines_mark, page_dot};
+    ghost use Rattle.vp_page.specs.Layers.{Layer, Laid, Wiped, eight_mark, lines_mark, page_dot};
     ghost use Rattle.vp_page.specs.Pages.{HasPage};
 
     /// A white page.
@@ -49,14 +84,33 @@ impl Page {
         ensures { IfOk result (λ page. HasPage [] page) }
     {
         let band = Band::new(alloc)?;
-        Ok(Page { band })
+        Ok(Page {
+            band,
+            white: WHOLE,
+            laid: Rows::none(),
+        })
     }
 
     /// ESC L: makes the page white.
     pub fn clear(&mut self)
         ensures { HasPage [] self.new }
     {
-        self.band.clear();
+        let rows = self.unknown_in(WHOLE);
+        self.band.clear_rows(rows.from, rows.to);
+        self.white = WHOLE;
+        self.laid = Rows::none();
+    }
+
+    /// Rows of the page outside of which an area is known to be white.
+    fn unknown_in(&self, area: Area) -> Rows
+        ensures within { result.to ≤ PAGE_ROWS }
+        ensures white { (x y : ℕ) → x < PAPER_DOTS → y < PAGE_ROWS → holds area x y ≡ true →
+            span result.from result.to y ≡ false → dot (slice_index_or self.now y []) x ≡ false }
+    {
+        if self.white.covers(area) {
+            return self.laid;
+        }
+        Rows::all()
     }
 
     /// Lays a row of dots at the depth v of an area. Dots past the line length, and a row past the
@@ -70,6 +124,7 @@ impl Page {
             return;
         }
         let v = v as usize;
+        self.laid = self.laid.with(fallen(area, direction, v));
         let right = area.x as usize + area.dx as usize;
         let below = area.y as usize + area.dy as usize;
         match direction {
@@ -99,10 +154,12 @@ impl Page {
         let room = depth - v >= 8;
         match direction {
             Direction::BottomToTop if room => {
+                self.laid = self.laid.with(Rows::of(area));
                 lay_eight_up(rows, area, area.x as usize + v as usize, &mut self.band)
             }
             Direction::TopToBottom if room => {
                 let left = area.x as usize + (depth - v) as usize - 8;
+                self.laid = self.laid.with(Rows::of(area));
                 lay_eight_down(rows, area, left, &mut self.band)
             }
             _ => {
@@ -132,9 +189,13 @@ impl Page {
         let room = (depth - v) as usize;
         let left = u32::from(area.x);
         match direction {
-            Direction::BottomToTop => { lay_lines_up(lines, room, area, left + v, &mut self.band) }
+            Direction::BottomToTop => {
+                self.laid = self.laid.with(Rows::of(area));
+                lay_lines_up(lines, room, area, left + v, &mut self.band)
+            }
             Direction::TopToBottom => {
                 let right = left + depth - v;
+                self.laid = self.laid.with(Rows::of(area));
                 lay_lines_down(lines, room, area, right, &mut self.band)
             }
             _ => {
@@ -168,7 +229,9 @@ impl Page {
         ensures { (layers : List Layer) → HasPage layers self.old →
             HasPage (Wiped area ∷ layers) self.new }
     {
-        whiten(area, &mut self.band);
+        whiten(area, self.unknown_in(area), &mut self.band);
+        self.white = area;
+        self.laid = Rows::none();
     }
 
     /// The bytes of a row.

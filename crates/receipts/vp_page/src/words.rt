@@ -1,7 +1,7 @@
 //! Rows of the page blackened 64 dots at once: by a word at any place, and by a line that stands on whole
 //! bytes.
 ghost use Rattle.std.specs.Prelude.{◌≡◌, ℕ, ◌+◌, ◌-◌, ◌*◌, ◌/◌, ◌%◌, ◌<◌, ◌≤◌, ◌==◌, ◌&&◌, nat_lt, nat_le, length};
-ghost use Rattle.vp_dots.specs.Dots.{bit, dot, shifted};
+ghost use Rattle.vp_dots.specs.Dots.{bit, dot, dots, shifted};
 ghost use Rattle.vp_dots.specs.Words.{word_dot};
 ghost use Rattle.vp_dots.specs.Painting.{Painted};
 ghost use Rattle.vp_dots.specs.Places.{words_dot, RowsPainted};
@@ -10,7 +10,7 @@ ghost use Rattle.vp_page.specs.declared.page.TheConstants.{PAPER_BYTES, PAGE_ROW
 
 use crate::page::{PAPER_BYTES, PageBand};
 use std::simd::{u8x8, u64x1};
-use vp_dots::or_into;
+use vp_dots::{or_into, reversed_at};
 
 /// Where the last eight bytes of a row of the page begin.
 const LAST: usize = PAPER_BYTES - 8;
@@ -145,5 +145,18 @@ pub(crate) fn or_line(line: &[u8], at: i64, row: &mut [u8])
         or_words(line, q, row);
     } else {
         or_into(line, at, row);
+    }
+}
+
+/// Blackens the row where the line, turned end for end and its last byte on byte q, is black.
+pub(crate) fn or_reversed(line: &[u8], q: usize, row: &mut [u8])
+    requires whole { length line.now % 8 ≡ 0 }
+    requires room { q + length line.now ≤ length row.old }
+    ensures { Painted Black (λ d. nat_le (8 * q) d && (nat_lt (d - 8 * q) (dots line.now)
+        && dot line.now (dots line.now - 1 - (d - 8 * q)))) row.old row.new }
+{
+    let bytes = line.len();
+    for k in 0..bytes / 8 {
+        or_eight(reversed_at(line, bytes - 8 * (k + 1)), q + 8 * k, row);
     }
 }

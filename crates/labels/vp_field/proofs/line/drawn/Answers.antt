@@ -18,4 +18,4 @@ returns-in-Back g c = λ p h.
     let fits : SFits w64 c.offset_from_end-at.result = search rules in
     let near = rw c.in-Back.is at c.requires.near in
     let small : SFits w64 c.in-Back.at = search (rules, near) in
-    rw c.in-Back.is (backwards g.row.N c.args.from _ _ line _ _ (rw (to_z-of_z w64 c.offset_from_end-at.result fits) (c.offset_from_end-at.ensures ∙ ap (λ z. pos c.args.from -ℤ pos 1 -ℤ z -ℤ neg_ℤ (pos (8 * g.row.N))) (to_z-of_z w64 c.in-Back.at small))) c.paint_row-in-Back.ensures c.reverse.ensures.turned p h)
+    rw c.in-Back.is (backwards g.row.N c.args.from _ _ line _ _ (rw (to_z-of_z w64 c.offset_from_end-at.result fits) (c.offset_from_end-at.ensures ∙ ap (λ z. pos c.args.from -ℤ pos 1 -ℤ z -ℤ neg_ℤ (pos (8 * g.row.N))) (to_z-of_z w64 c.in-Back.at small))) c.paint_row-in-Back.ensures c.copy_reversed.ensures.turned p h)

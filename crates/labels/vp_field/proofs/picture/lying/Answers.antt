@@ -1,4 +1,4 @@
-use Rattle.std.proofs.Common.{rules, ◌∙◌, ap, sym, refl, w64}
+use Rattle.std.proofs.Common.{rules, ◌∙◌, ap, sym, w64}
 use mir.Val.{SFits}
 use Rattle.std.proofs.lemmas.Int.{to_z-of_z}
 use Rattle.vp_field.specs.Axes.{laid}

@@ -9,7 +9,7 @@ loop-k-init c = painted_none _ _ _ (λ d l. words_none c.args.q d _)
 pub loop-k-preserved : goal.loop-k-preserved
 loop-k-preserved c = painted_then _ _ _ _ _ _ _ c.loop-k.invariant c.or_bytes.ensures
     (λ d l. words_more c.args.line.now c.args.q c.loop-k.k d)
-    (λ d l. words_apart c.args.line.now c.args.q c.loop-k.k d _)
+    (λ d l. words_apart c.args.q c.loop-k.k d _ _)
 
 pub returns : goal.returns
 returns c = painted_same _ _ _ _ _ (λ d l. words_all c.args.line.now c.args.q c.loop-k.k d (omega (arith, c.requires.whole))) c.loop-k.invariant

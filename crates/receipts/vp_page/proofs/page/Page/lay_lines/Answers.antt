@@ -6,6 +6,7 @@ use Rattle.vp_page.specs.Areas.{depth}
 use Rattle.vp_page.specs.Layers.{lines_mark}
 use Rattle.vp_page.specs.Pages.{HasPage}
 use Rattle.vp_page.specs.declared.area.Direction.TheVariants.{BottomToTop, TopToBottom}
+use Rattle.vp_page.proofs.Whites.{laid_on, up_rows, down_rows}
 use Rattle.vp_page.proofs.page.Page.lay_lines.Goals as goal
 
 pub loop-i-preserved : goal.loop-i-preserved
@@ -34,3 +35,11 @@ returns-in-TopToBottom c = λ layers page.
     rw c.in-TopToBottom.is (laid layers _ _ _ (subst (HasPage layers) (sym c.self-in-TopToBottom.view_is) page) (lines_mark a TopToBottom v lines)
     (λ x y h k. down_mark a v lines (first_dot lines (a.dx - v)) x y deep (λ i d l. no_first lines (a.dx - v) i d c.told-lines l) (λ i d l. refl))
     (rw (c.from-left.ensures, room) at c.lay_lines_down.ensures))
+
+pub invariant_of-self : goal.invariant_of-self
+invariant_of-self c = laid_on _ c.self.inside.laid _ _ c.self.inside.band _ c.self.invariant c.lay_lines_up.ensures c.with-self-inside.ensures.within c.with-self-inside.ensures.these
+    (λ x y h e. c.with-self-inside.ensures.others y h (rw c.of.ensures (up_rows c.args.area.y c.args.area.dy y _ e)))
+
+pub invariant_of-self-in-TopToBottom : goal.invariant_of-self-in-TopToBottom
+invariant_of-self-in-TopToBottom c = laid_on _ c.self-in-TopToBottom.inside.laid _ _ c.self-in-TopToBottom.inside.band _ c.self-in-TopToBottom.invariant c.lay_lines_down.ensures c.with-self-inside-in-TopToBottom.ensures.within c.with-self-inside-in-TopToBottom.ensures.these
+    (λ x y h e. c.with-self-inside-in-TopToBottom.ensures.others y h (rw c.of-in-TopToBottom.ensures (down_rows c.args.area.y c.args.area.dy y _ e)))

@@ -1,0 +1,78 @@
+-- What is known to be white.
+use Rattle.std.proofs.Common.{inl, inr, ◌≡◌, ℕ, ◌+◌, ◌<◌, ◌≤◌, Bool, true, false, cond, ltb, leb, ◌-◌, ◌&&◌, refl, sym, ap, ◌∙◌, arith, List, [], length, get_or, replicate, if◌then◌else◌}
+use Rattle.std.proofs.lemmas.Bool.{cases_lt, lt-leb, le-ltb, true≢false, false_from_ne_true}
+use Rattle.std.proofs.lemmas.Bool.Decides.{nat_tests}
+use Rattle.std.proofs.lemmas.List.{length-replicate}
+use Rattle.vp_dots.specs.Dots.{dot, span}
+use Rattle.vp_dots.specs.Places.{RowsPainted}
+use Rattle.vp_dots.specs.declared.Op.TheVariants.{Black}
+use Rattle.vp_page.specs.declared.area.Area.{Area}
+use Rattle.vp_page.specs.declared.page.TheConstants.{PAGE_ROWS, PAPER_BYTES, PAPER_DOTS}
+use Rattle.vp_page.specs.declared.white.Rows.{Rows}
+use Rattle.vp_page.specs.Areas.{holds}
+use Rattle.vp_page.specs.Pages.{HasPage, IsWhiteBut}
+use Rattle.vp_page.proofs.Blank.{dot_white}
+
+and_no : (b : Bool) → (b && false) ≡ false
+and_no true = refl
+and_no false = refl
+
+module _ (a : Area) (from to x k : ℕ) where
+  -- above the rows that are wiped
+  pub none_above : (top : ℕ) → (from ≤ k → a.y ≤ k → top ≤ k) → k < top → (span from to k && holds a x k) ≡ false
+  none_above top e h = elim (cases_lt k from) [
+    | inl l ↦ rw (lt-leb from k l) refl
+    | inr g ↦ elim (cases_lt k a.y) [
+      | inl l ↦ rw (lt-leb a.y k l, and_no (leb a.x x && ltb x (a.x + a.dx))) (and_no (span from to k))
+      | inr m ↦ absurd (let n = e g m in omega arith)
+    ]
+  ]
+
+  -- below them
+  pub none_below : (end : ℕ) → (k < to → k < a.y + a.dy → k < end) → end ≤ k → (span from to k && holds a x k) ≡ false
+  none_below end e h = elim (cases_lt k to) [
+    | inl l ↦ elim (cases_lt k (a.y + a.dy)) [
+      | inl m ↦ absurd (let n = e l m in omega arith)
+      | inr g ↦ rw (le-ltb k (a.y + a.dy) g, and_no (leb a.y k), and_no (leb a.x x && ltb x (a.x + a.dx))) (and_no (span from to k))
+    ]
+    | inr g ↦ rw (le-ltb k to g, and_no (leb from k)) refl
+  ]
+
+-- the area stays white but for rows among which all are that something is laid on
+pub laid_on : (area : Area) (was is : Rows) (ink : ℕ → ℕ → Bool) (old new : List (List ℕ)) → IsWhiteBut area was old → RowsPainted PAGE_ROWS Black ink old new
+    → is.to ≤ PAGE_ROWS → ((y : ℕ) → span was.from was.to y ≡ true → span is.from is.to y ≡ true)
+    → ((x y : ℕ) → y < PAGE_ROWS → ink x y ≡ true → span is.from is.to y ≡ true) → IsWhiteBut area is new
+laid_on area was is ink old new w p few these others = record {
+  within = few;
+  rows_are = λ y h. (p.rows_are y h).length_is ∙ w.rows_are y h;
+  white = λ x y k h t f.
+      let none : ink x y ≡ false = false_from_ne_true _ (λ e. true≢false (sym (others x y h e) ∙ f)) in
+      let before : span was.from was.to y ≡ false = false_from_ne_true _ (λ e. true≢false (sym (these y e) ∙ f)) in
+      (p.rows_are y h).dots_are x (let n = w.rows_are y h in omega arith) ∙ ap (λ i. cond i true (dot (get_or old y []) x)) none ∙ w.white x y k h t before;
+}
+
+-- the rows of an area on which a line falls that runs up or down
+pub up_rows : (top high y : ℕ) (b : Bool) → (ltb y (top + high) && (ltb (top + high - 1 - y) high && b)) ≡ true → span top (top + high) y ≡ true
+up_rows top high y true e = grind (arith, nat_tests)
+up_rows top high y false e = grind (arith, nat_tests)
+
+pub down_rows : (top high y : ℕ) (b : Bool) → (leb top y && (ltb (y - top) high && b)) ≡ true → span top (top + high) y ≡ true
+down_rows top high y true e = grind (arith, nat_tests)
+down_rows top high y false e = grind (arith, nat_tests)
+
+-- a white page
+pub all_white : (area : Area) (rows : Rows) (page : List (List ℕ)) → rows.to ≤ PAGE_ROWS → HasPage [] page → IsWhiteBut area rows page
+all_white area rows page few h = record { within = few; rows_are = h.rows_are; white = λ x y k l t f. h.dots_are x y k l }
+
+-- rows outside of which the page is white made white
+pub cleared : (rows : Rows) (old new : List (List ℕ)) → ((y : ℕ) → y < PAGE_ROWS → length (get_or old y []) ≡ PAPER_BYTES)
+    → ((x y : ℕ) → x < PAPER_DOTS → y < PAGE_ROWS → span rows.from rows.to y ≡ false → dot (get_or old y []) x ≡ false)
+    → ((y : ℕ) → get_or new y [] ≡ (if span rows.from rows.to y then replicate PAPER_BYTES 0 else get_or old y [])) → HasPage [] new
+cleared rows old new long white is = record {
+  rows_are = λ y h. ap length (is y) ∙ either (λ row. length row ≡ PAPER_BYTES) (span rows.from rows.to y) _ _ (length-replicate {A = ℕ} PAPER_BYTES 0) (λ f. long y h);
+  dots_are = λ x y k h. ap (λ row. dot row x) (is y) ∙ either (λ row. dot row x ≡ false) (span rows.from rows.to y) _ _ (dot_white PAPER_BYTES x (omega arith)) (λ f. white x y k h f);
+}
+  where
+    either : (P : List ℕ → Type 0) (b : Bool) (p q : List ℕ) → P p → (b ≡ false → P q) → P (if b then p else q)
+    either P true p q h k = h
+    either P false p q h k = k refl

@@ -1,0 +1,70 @@
+use Rattle.std.proofs.Common.{◌<◌, ◌∙◌, ap, sym, subst, arith}
+use Rattle.vp_dots.specs.Dots.{dot}
+use Rattle.vp_page.specs.Areas.{depth}
+use Rattle.vp_page.specs.Layers.{row_mark}
+use Rattle.vp_page.specs.Pages.{HasPage}
+use Rattle.vp_page.specs.declared.area.Direction.TheVariants.{LeftToRight, BottomToTop, RightToLeft, TopToBottom}
+use Rattle.vp_page.proofs.Pages.{laid}
+use Rattle.vp_page.proofs.RowMarks.{right_same, up_same, left_same, down_same}
+use Rattle.vp_page.proofs.Whites.{laid_on}
+use Rattle.vp_page.proofs.page.Page.lay_row.Goals as goal
+
+pub invariant_of-self : goal.invariant_of-self
+invariant_of-self c =
+    let a = c.args.area in
+    let row = dot c.args.row.now in
+    let deep : c.args.v < a.dy = omega (arith, c.if-v-from.false, c.from.ensures ∙ c.depth.ensures ∙ ap (depth a) c.in-LeftToRight.is) in
+    laid_on _ c.self.inside.laid _ _ c.self.inside.band _ c.self.invariant c.lay_right.ensures c.with-self-inside.ensures.within c.with-self-inside.ensures.these
+    (λ x y h e. c.with-self-inside.ensures.others y h (rw c.in-LeftToRight.is at c.fallen.ensures row x y (sym (right_same a c.args.v row deep x y) ∙ e)))
+
+pub returns-in-LeftToRight : goal.returns-in-LeftToRight
+returns-in-LeftToRight c = λ layers page.
+    let a = c.args.area in
+    let row = dot c.args.row.now in
+    let deep : c.args.v < a.dy = omega (arith, c.if-v-from.false, c.from.ensures ∙ c.depth.ensures ∙ ap (depth a) c.in-LeftToRight.is) in
+    rw c.in-LeftToRight.is (laid layers _ _ _ (subst (HasPage layers) (sym c.self.view_is) page) (row_mark a LeftToRight c.args.v row) (λ x y h k. right_same a c.args.v row deep x y) c.lay_right.ensures)
+
+pub invariant_of-self-in-BottomToTop : goal.invariant_of-self-in-BottomToTop
+invariant_of-self-in-BottomToTop c =
+    let a = c.args.area in
+    let row = dot c.args.row.now in
+    let deep : c.args.v < a.dx = omega (arith, c.if-v-from.false, c.from.ensures ∙ c.depth.ensures ∙ ap (depth a) c.in-BottomToTop.is) in
+    laid_on _ c.self.inside.laid _ _ c.self.inside.band _ c.self.invariant c.lay_up.ensures c.with-self-inside.ensures.within c.with-self-inside.ensures.these
+    (λ x y h e. c.with-self-inside.ensures.others y h (rw c.in-BottomToTop.is at c.fallen.ensures row x y (sym (up_same a c.args.v row deep x y) ∙ e)))
+
+pub returns-in-BottomToTop : goal.returns-in-BottomToTop
+returns-in-BottomToTop c = λ layers page.
+    let a = c.args.area in
+    let row = dot c.args.row.now in
+    let deep : c.args.v < a.dx = omega (arith, c.if-v-from.false, c.from.ensures ∙ c.depth.ensures ∙ ap (depth a) c.in-BottomToTop.is) in
+    rw c.in-BottomToTop.is (laid layers _ _ _ (subst (HasPage layers) (sym c.self.view_is) page) (row_mark a BottomToTop c.args.v row) (λ x y h k. up_same a c.args.v row deep x y) c.lay_up.ensures)
+
+pub invariant_of-self-in-RightToLeft : goal.invariant_of-self-in-RightToLeft
+invariant_of-self-in-RightToLeft c =
+    let a = c.args.area in
+    let row = dot c.args.row.now in
+    let deep : c.args.v < a.dy = omega (arith, c.if-v-from.false, c.from.ensures ∙ c.depth.ensures ∙ ap (depth a) c.in-RightToLeft.is) in
+    laid_on _ c.self.inside.laid _ _ c.self.inside.band _ c.self.invariant c.lay_left.ensures c.with-self-inside.ensures.within c.with-self-inside.ensures.these
+    (λ x y h e. c.with-self-inside.ensures.others y h (rw c.in-RightToLeft.is at c.fallen.ensures row x y (sym (left_same a c.args.v row deep x y) ∙ e)))
+
+pub returns-in-RightToLeft : goal.returns-in-RightToLeft
+returns-in-RightToLeft c = λ layers page.
+    let a = c.args.area in
+    let row = dot c.args.row.now in
+    let deep : c.args.v < a.dy = omega (arith, c.if-v-from.false, c.from.ensures ∙ c.depth.ensures ∙ ap (depth a) c.in-RightToLeft.is) in
+    rw c.in-RightToLeft.is (laid layers _ _ _ (subst (HasPage layers) (sym c.self.view_is) page) (row_mark a RightToLeft c.args.v row) (λ x y h k. left_same a c.args.v row deep x y) c.lay_left.ensures)
+
+pub invariant_of-self-in-TopToBottom : goal.invariant_of-self-in-TopToBottom
+invariant_of-self-in-TopToBottom c =
+    let a = c.args.area in
+    let row = dot c.args.row.now in
+    let deep : c.args.v < a.dx = omega (arith, c.if-v-from.false, c.from.ensures ∙ c.depth.ensures ∙ ap (depth a) c.in-TopToBottom.is) in
+    laid_on _ c.self.inside.laid _ _ c.self.inside.band _ c.self.invariant c.lay_down.ensures c.with-self-inside.ensures.within c.with-self-inside.ensures.these
+    (λ x y h e. c.with-self-inside.ensures.others y h (rw c.in-TopToBottom.is at c.fallen.ensures row x y (sym (down_same a c.args.v row deep x y) ∙ e)))
+
+pub returns-in-TopToBottom : goal.returns-in-TopToBottom
+returns-in-TopToBottom c = λ layers page.
+    let a = c.args.area in
+    let row = dot c.args.row.now in
+    let deep : c.args.v < a.dx = omega (arith, c.if-v-from.false, c.from.ensures ∙ c.depth.ensures ∙ ap (depth a) c.in-TopToBottom.is) in
+    rw c.in-TopToBottom.is (laid layers _ _ _ (subst (HasPage layers) (sym c.self.view_is) page) (row_mark a TopToBottom c.args.v row) (λ x y h k. down_same a c.args.v row deep x y) c.lay_down.ensures)
