@@ -1,5 +1,6 @@
 pub mod Bitmaps
 pub mod Rows
+pub mod PageRows
 pub mod Jobs
 pub mod Strips
 pub mod LineTexts

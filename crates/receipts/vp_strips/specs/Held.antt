@@ -117,6 +117,11 @@ abbrev pub SomeLeft : Strip → Option Place → Type 0
 SomeLeft s None = Unit {0}
 SomeLeft s (Some p) = p.byte < line_bytes s p.line
 
+-- row y of a page comes next, from its first byte on
+pub record IsAtPageRow (j : Job) (y : ℕ) : Type 0 where
+  pub page : j.strip.dots ≡ Page
+  pub place : j.place ≡ Some (record { line = Row y; byte = 0 })
+
 -- what is put out, with the bytes of the line that is begun
 pub record IsJob (j : Job) (canvas : Canvas) (lines : Lines) : Type 0 where
   pub low : IsLow j.strip

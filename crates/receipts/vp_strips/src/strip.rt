@@ -1,5 +1,5 @@
 //! The rows of a strip: a line, white rows, a cut, a row of a raster, a symbol, or a page.
-ghost use Rattle.std.specs.Prelude.{◌≡◌, ℕ, ◌+◌, ◌-◌, ◌*◌, ◌<◌, ◌≤◌, List, true, false, take, length};
+ghost use Rattle.std.specs.Prelude.{◌≡◌, ℕ, ◌+◌, ◌-◌, ◌*◌, ◌<◌, ◌≤◌, ◌++◌, List, true, false, take, drop, length};
 ghost use Rattle.vp_dots.specs.Dots.{dot};
 ghost use Rattle.vp_dots.specs.Images.{row_of};
 ghost use Rattle.vp_esc.specs.declared.item.EscItem.{EscItem};
@@ -7,13 +7,13 @@ ghost use Rattle.vp_dots.specs.Headers.{header_of};
 ghost use Rattle.vp_strips.specs.declared.canvas.Canvas.{Canvas};
 ghost use Rattle.vp_dots.specs.Images.{Image};
 ghost use Rattle.vp_strips.specs.SymbolInks.{IsDrawn};
-ghost use Rattle.vp_page.specs.declared.page.TheConstants.{PAPER_BYTES};
+ghost use Rattle.vp_page.specs.declared.page.TheConstants.{PAPER_BYTES, PAGE_ROWS};
 ghost use Rattle.vp_receipt_settings.specs.declared.text.TheConstants.{LINE_ROWS};
 ghost use Rattle.vp_receipt_settings.specs.Setup.{across, row_bytes, Setup};
 ghost use Rattle.vp_receipt_settings.specs.Line.{line};
 ghost use Rattle.vp_receipt_settings.specs.Settings.{settings_of, IsFit};
 ghost use Rattle.vp_strips.specs.LineDots.{HasOpen};
-ghost use Rattle.vp_strips.specs.Rows.{clipped, image_text, line_text, cut_text, white_text, cut_dot};
+ghost use Rattle.vp_strips.specs.Rows.{paper_row, rows_text, clipped, image_text, line_text, cut_text, white_text, cut_dot};
 ghost use Rattle.vp_strips.specs.Jobs.{row_text, line_dot_of, page_dot_of, dot_in};
 ghost use Rattle.vp_strips.specs.Held.{IsLow, IsLowIf, IsLowDots, IsHigh, IsOwn, whole, whole_if};
 
@@ -94,6 +94,37 @@ fn write_page_row(y: u32, page: &Page, row: &mut [u8; PAPER_BYTES])
     }
     *row = [0; PAPER_BYTES];
     dots_decide(row);
+}
+
+/// The bytes of a row of the page, as far as the paper goes.
+fn page_row(paper: Width, y: usize, page: &Page) -> &[u8]
+    requires { y < PAGE_ROWS }
+    ensures { result.now ≡ paper_row paper (λ x. page_dot_of page.now x y) }
+{
+    let row = page.row(y);
+    dots_decide(row);
+    &row[..paper.row_bytes()]
+}
+
+/// Copies a row to the front of a room.
+fn copy_row(row: &[u8], room: &mut [u8])
+    requires { length row.now ≤ length room.old }
+    ensures { room.new ≡ row.now ++ drop (length row.now) room.old }
+{
+    room[..row.len()].copy_from_slice(row);
+}
+
+/// Copies rows of the page, from row y on, as far as the paper goes.
+pub fn copy_page_rows(paper: Width, y: usize, rows: usize, page: &Page, room: &mut [u8])
+    requires inside { y + rows ≤ PAGE_ROWS }
+    requires fits { rows * row_bytes paper ≤ length room.old }
+    ensures { room.new ≡ rows_text paper (page_dot_of page.now) y rows
+        ++ drop (rows * row_bytes paper) room.old }
+{
+    let bytes = paper.row_bytes();
+    for k in 0..rows {
+        copy_row(page_row(paper, y + k, page), &mut room[k * bytes..]);
+    }
 }
 
 /// Writes a row with line y of ink, `left` dots from the left, and clipped after `length` dots.

@@ -1,18 +1,11 @@
-use Rattle.std.proofs.Common.{◌≡◌, ℕ, ◌-◌, ◌<◌, ◌&&◌, nat_lt, List, length, ap, arith, refl, ◌∙◌, get_or, []}
-use Rattle.std.proofs.lemmas.Bool.{lt-ltb, le-ltb, le-leb}
+use Rattle.std.proofs.Common.{◌≡◌, ℕ, length, ap, arith, ◌∙◌, get_or, []}
+use Rattle.std.proofs.lemmas.Bool.{le-ltb}
 use Rattle.std.proofs.lemmas.List.{length-replicate}
-use Rattle.vp_page.specs.declared.page.TheConstants.{PAGE_ROWS, PAPER_BYTES, PAPER_DOTS}
-use Rattle.vp_dots.specs.Dots.{dot}
-use Rattle.vp_strips.specs.Rows.{clipped}
+use Rattle.vp_page.specs.declared.page.TheConstants.{PAGE_ROWS, PAPER_BYTES}
 use Rattle.vp_strips.specs.Jobs.{page_dot_of}
 use Rattle.vp_strips.proofs.Bitmaps.{dot_white}
+use Rattle.vp_strips.proofs.PageRows.{whole_row}
 use Rattle.vp_strips.proofs.strip.write_page_row.Goals as goal
-
--- a dot of a row that is as long as the paper
-whole_row : (row page_row : List ℕ) (d y : ℕ) → row ≡ page_row → d < PAPER_DOTS → y < PAGE_ROWS → dot row d ≡ (nat_lt y PAGE_ROWS && clipped 0 PAPER_DOTS (dot page_row) d)
-whole_row row page_row d y same h k =
-    let here : d - 0 ≡ d = omega arith in
-    rw (same, lt-ltb y PAGE_ROWS k, le-leb 0 d (omega arith), here, lt-ltb d PAPER_DOTS h) refl
 
 pub returns-then-y-lt-PAGE_ROWS : goal.returns-then-y-lt-PAGE_ROWS
 returns-then-y-lt-PAGE_ROWS c =

@@ -6,12 +6,12 @@ pub returns-clause-some : goal.returns-clause-some
 returns-clause-some c =
     let s = c.args.self.now.strip in
     let canvas = c.args.canvas.now in
-    let left = rw c.in-Some.is at c.requires.job.left in
+    let left = rw c.in-Some-place.is at c.requires.job.left in
     omega (
       arith,
       left,
       c.put_part-output.ensures.count,
       c.requires.room,
       ap length (c.at-line.ensures s canvas refl c.make.ensures),
-      length-line s canvas c.in-Some.place.line,
+      length-line s canvas c.in-Some-place.place.line,
     )
