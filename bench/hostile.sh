@@ -1,11 +1,10 @@
 #!/bin/sh
-# How long labels take that are made to hold the program up, beside 1,024 boxes over a whole label:
-# bench/hostile.sh [VP [SECONDS]], with the program that `rt run` in crates/program/vp_cli built, and the most
-# seconds that a stream may take. The times are those of the machine it runs on; the ratios are what to look
-# at.
+# How long labels and receipts take that are made to hold the program up, beside 1,024 boxes over a whole label, which
+# are 24 kB, or by the byte: bench/hostile.sh [VP [SECONDS]], with the program that ./vp runs, and the most seconds that
+# a stream may take. The times are those of the machine it runs on; the ratios are what to look at.
 set -eu
 top=$(cd "$(dirname "$0")/.." && pwd)
-vp=${1:-$top/crates/program/vp_cli/out/vp_cli}
+vp=${1:-$("$top/tools/program")}
 limit=${2:-60}
 font=$top/examples/font-a.pbm
 # what is printed stays in memory
@@ -17,11 +16,11 @@ repeated() {
     printf '%s\n' "$2" | awk -v number="$1" '{ for (i = 0; i < number; i++) printf "%s", $0 }'
 }
 
-# took: the milliseconds for the format in the file, the least of three runs, or nothing if one ends too late
+# took [LANGUAGE]: the milliseconds for what is in the file, the least of three runs, or nothing if one ends too late
 took() {
     for _ in 1 2 3; do
         start=$(date +%s%N)
-        timeout "$limit" "$vp" label --font-a "$font" "$scratch/format" > "$scratch/paper" \
+        timeout "$limit" "$vp" "${1:-label}" --font-a "$font" "$scratch/format" > "$scratch/paper" \
             || { [ $? != 124 ] || return 0; echo "refused" >&2; }
         end=$(date +%s%N)
         echo $(((end - start) / 1000000))
@@ -86,3 +85,21 @@ digits=$(repeated 238 7)
 measure '1,020 turned Code 128 symbols of 238 bytes' '^PW1248' 1020 "^BY1^BCR,1248,N^FD>:$digits^FS"
 measure '1,000 Code 128 symbols of 8,000 rows' '^PW1248' 1000 "^BY1^BCN,8000,N^FD>:$(repeated 234 A)^FS"
 measure '1,024 QR symbols of 250 bytes' '^PW1248' 1024 "^BQN,2,10^FDLA,$(repeated 250 a)^FS"
+
+# page NAME KIND: a million bytes of a receipt that prints nothing
+page() {
+    "$top/bench/receipts.py" "$2" 1000000 > "$scratch/format"
+    now=$(took receipt)
+    if [ -z "$now" ]; then
+        echo "$1: more than $limit s"
+    else
+        echo "$1: $now ms for 1,000,000 bytes"
+    fi
+}
+page 'a page wiped over and over' wipes
+page 'two areas of it wiped in turn' wiped-areas
+page 'each of its characters wiped' wiped-characters
+page 'pages begun and left' pages-begun
+page 'the largest characters over each other' largest-characters
+page 'the largest characters over each other, upward' largest-upward
+page 'a QR symbol of 250 bytes over itself' codes

@@ -1,6 +1,8 @@
 #!/usr/bin/env python3
 """Writes receipts that all differ, for bench/program.sh: receipts.py text|symbols|journal NUMBER, or pages in a
-direction of 0 to 3: receipts.py rasters|pages NUMBER DIRECTION. The same words give the same bytes."""
+direction of 0 to 3: receipts.py rasters|pages NUMBER DIRECTION. And for bench/hostile.sh a page on which a few bytes that
+have much done stand again and again, and which prints nothing: receipts.py KIND NUMBER, a KIND of AGAIN, of about so many
+bytes. The same words give the same bytes."""
 import random
 import sys
 
@@ -33,10 +35,18 @@ def bars():
     ))
 
 
+def stored(data):
+    """Data of a QR symbol, kept for it to be drawn."""
+    return b"\x1d(k" + (len(data) + 3).to_bytes(2, "little") + b"1P0" + data
+
+
+DRAWN = b"\x1d(k\x03\x001Q0"
+
+
 def square():
     """A QR symbol of up to 250 bytes, so of versions 1 to 10."""
     data = "".join(CHOICE.choices("abcdefghijklmnopqrstuvwxyz0123456789:/.", k=CHOICE.randrange(1, 251))).encode()
-    return b"\x1d(k" + (len(data) + 3).to_bytes(2, "little") + b"1P0" + data + b"\x1d(k\x03\x001Q0"
+    return stored(data) + DRAWN
 
 
 def logo():
@@ -74,7 +84,29 @@ def pages(direction):
     return paged(direction, b"\x1b3\x18" + b"".join(line(columns) for _ in range(lines)))
 
 
+LARGEST, TO_TOP = b"\x1d!\x77", b"\x1d$\0\0"
+# What stands once, and what stands again and again.
+AGAIN = {
+    "wipes": (b"", b"\x18"),
+    "wiped-areas": (b"", b"\x1bW\0\0\0\0\x3f\x02\x80\x06\x18\x1bW\0\0\0\0\x3e\x02\x80\x06\x18"),
+    "wiped-characters": (b"", b"A\x18"),
+    "pages-begun": (b"", b"\x1bS\x1bL"),
+    "largest-characters": (LARGEST, 6 * b"A" + TO_TOP),
+    "largest-upward": (b"\x1bT\x01" + LARGEST, b"A" + TO_TOP),
+    "codes": (stored(bytes(range(5, 255))), DRAWN + TO_TOP),
+}
+
+
+def again(kind, number):
+    """A page that is left without being printed."""
+    once, unit = AGAIN[kind]
+    return b"\x1bL" + once + unit * (number // len(unit)) + b"\x1bS"
+
+
 def main(kind, number, *direction):
+    if kind in AGAIN:
+        sys.stdout.buffer.write(again(kind, int(number)))
+        return
     kinds = {"text": text, "symbols": symbols, "journal": journal, "rasters": rasters, "pages": pages}
     for _ in range(int(number)):
         sys.stdout.buffer.write(kinds[kind](*direction))
