@@ -87,14 +87,14 @@ fn manual(level: Level, rest: &[u8]) -> Result<QrFront, Fault>
 }
 
 /// The front of data that aren't of model 1.
-fn front_in(data: &[u8]) -> Result<QrFront, Fault>
-    ensures value { result ≡ front_in data.now }
-    ensures within { IfOk result (λ front. front.length ≤ length data.now) }
+fn front_in(bytes: &[u8]) -> Result<QrFront, Fault>
+    ensures value { result ≡ front_in bytes.now }
+    ensures within { IfOk result (λ front. front.length ≤ length bytes.now) }
 {
-    if data.is_empty() {
+    if bytes.is_empty() {
         return Err(Fault::Symbol(Why::Empty));
     }
-    let [letter, how, comma, rest @ ..] = data else {
+    let [letter, how, comma, rest @ ..] = bytes else {
         return Err(NO_FRONT);
     };
     let Some(level) = level_of(*letter) else {
@@ -119,12 +119,12 @@ fn front_in(data: &[u8]) -> Result<QrFront, Fault>
 /// is refused as not supported whatever the data, then no data as empty; behind `M,B` all else than four
 /// digits and as many bytes by their length, Kanji (`M,K`) as not supported, and any other front by its code
 /// set.
-pub fn qr_front(model: u16, data: &[u8]) -> Result<QrFront, Fault>
-    ensures value { result ≡ front_of model data.now }
-    ensures within { IfOk result (λ front. front.length ≤ length data.now) }
+pub fn qr_front(model: u16, bytes: &[u8]) -> Result<QrFront, Fault>
+    ensures value { result ≡ front_of model bytes.now }
+    ensures within { IfOk result (λ front. front.length ≤ length bytes.now) }
 {
     if model == 1 {
         return Err(Fault::Symbol(Why::Unsupported));
     }
-    front_in(data)
+    front_in(bytes)
 }

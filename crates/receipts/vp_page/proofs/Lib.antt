@@ -2,6 +2,7 @@ pub mod Blank
 pub mod Bytes
 pub mod WordsOnRows
 pub mod Falling
+pub mod Lanes
 pub mod Lines
 pub mod Eights
 pub mod Marks

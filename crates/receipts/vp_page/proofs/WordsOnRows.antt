@@ -114,25 +114,60 @@ words_apart q k d m b = elim (cases_lt d (8 * q + 64 * k)) [
   | inr g ↦ rw (le-ltb d (8 * q + 64 * k) g) refl
 ]
 
-module _ (q n k d : ℕ) where
-  -- eight more bytes of a line that is turned end for end
-  pub reversed_more : (line : List ℕ) (word : ℕ) → 8 * (k + 1) ≤ n → ((x : ℕ) → x < 64 → word_dot word x ≡ dot line (8 * (n - 8 * (k + 1)) + (63 - x)))
-      → (ltb d (8 * q + 64 * (k + 1)) && (leb (8 * q) d && (ltb (d - 8 * q) (8 * n) && dot line (8 * n - 1 - (d - 8 * q)))))
-      ≡ (ltb d (8 * q + 64 * k) && (leb (8 * q) d && (ltb (d - 8 * q) (8 * n) && dot line (8 * n - 1 - (d - 8 * q)))) || leb (8 * (q + 8 * k)) d && word_dot word (d - 8 * (q + 8 * k)))
-  reversed_more line word h w = elim (cases_lt d (8 * q + 64 * k)) [
-    | inl l ↦ rw (lt-ltb d (8 * q + 64 * k) l, lt-ltb d (8 * q + 64 * (k + 1)) (omega arith), lt-leb (8 * (q + 8 * k)) d (omega arith)) (or_false _)
-    | inr g ↦ rw (le-ltb d (8 * q + 64 * k) g, le-leb (8 * (q + 8 * k)) d (omega arith)) (elim (cases_lt d (8 * q + 64 * (k + 1))) [
-      | inl m ↦ rw (lt-ltb d (8 * q + 64 * (k + 1)) m, le-leb (8 * q) d (omega arith), lt-ltb (d - 8 * q) (8 * n) (omega arith))
-          (ap (dot line) (let e : 8 * n - 1 - (d - 8 * q) ≡ 8 * (n - 8 * (k + 1)) + (63 - (d - 8 * (q + 8 * k))) = omega arith in e) ∙ sym (w (d - 8 * (q + 8 * k)) (omega arith)))
-      | inr o ↦ rw (le-ltb d (8 * q + 64 * (k + 1)) o, le-ltb (d - 8 * (q + 8 * k)) 64 (omega arith)) refl
+module _ (line lanes : List ℕ) (j i : ℕ) (row : List ℕ) (there : j + 16 ≤ length line) (room : i + 16 ≤ length row) (sixteen : length lanes ≡ 16)
+    (turned : (n k : ℕ) → n < 16 → k < 8 → bit (get_or lanes n 0) k ≡ bit (get_or line (j + (15 - n)) 0) (7 - k)) where
+  turned_ink : ℕ → Bool
+  turned_ink d = leb (8 * i) d && (ltb (d - 8 * i) 128 && dot line (8 * j + (127 - (d - 8 * i))))
+
+  turned_lane : (n k : ℕ) → n < 16 → k < 8 → bit (get_or (zip2 bit_or (chunk i 16 row) lanes) n 0) k ≡ cond (turned_ink (8 * (i + n) + (7 - k))) true (bit (get_or row (i + n) 0) k)
+  unfolding turned_ink
+  turned_lane n k p h =
+      let place : 8 * (i + n) + (7 - k) - 8 * i ≡ 8 * n + (7 - k) = omega arith in
+      let here : 8 * (j + (15 - n)) + (7 - (7 - k)) ≡ 8 * j + (127 - (8 * n + (7 - k))) = omega arith in
+      let ink : (leb (8 * i) (8 * (i + n) + (7 - k)) && (ltb (8 * (i + n) + (7 - k) - 8 * i) 128 && dot line (8 * j + (127 - (8 * (i + n) + (7 - k) - 8 * i))))) ≡ dot line (8 * j + (127 - (8 * n + (7 - k)))) =
+      rw (le-leb (8 * i) (8 * (i + n) + (7 - k)) (omega arith), place, lt-ltb (8 * n + (7 - k)) 128 (omega arith)) refl in
+      ap (λ x. bit x k) (get_or-zip2 bit_or (chunk i 16 row) lanes n 0 0 0 (omega (arith, length-chunk i 16 row room)) (omega (arith, sixteen)) ∙ ap (λ x. bit_or x (get_or lanes n 0)) (get_or-chunk i 16 row n 0 p))
+      ∙ bit_of_or (get_or row (i + n) 0) (get_or lanes n 0) k
+      ∙ ap (λ b. cond b true (bit (get_or row (i + n) 0) k)) (turned n k p h ∙ sym (dot_at line (j + (15 - n)) (7 - k) (omega arith)) ∙ ap (dot line) here ∙ sym ink)
+
+  turned_spanned : (d : ℕ) (b : Bool) → (span i (i + 16) (d / 8) && (leb (8 * i) d && (ltb (d - 8 * i) 128 && b))) ≡ (leb (8 * i) d && (ltb (d - 8 * i) 128 && b))
+  turned_spanned d b = grind (arith, nat_tests)
+
+  turned_long : length (zip2 bit_or (chunk i 16 row) lanes) ≡ 16
+  turned_long = length-zip2 bit_or (chunk i 16 row) lanes (length-chunk i 16 row room ∙ sym sixteen) ∙ length-chunk i 16 row room
+
+  -- sixteen bytes with sixteen bytes of a line on them, turned end for end
+  pub turned_painted : Painted Black (λ d. leb (8 * i) d && (ltb (d - 8 * i) 128 && dot line (8 * j + (127 - (d - 8 * i))))) row (put_chunk i row (zip2 bit_or (chunk i 16 row) lanes))
+  unfolding turned_ink
+  turned_painted = painted_same Black _ _ _ _ (λ d l. turned_spanned d (dot line (8 * j + (127 - (d - 8 * i)))))
+      (painted_block Black turned_ink i 16 row _ turned_long room (λ n l k m. turned_lane n k l m))
+
+-- bytes of a line that is turned end for end: those before a place, and more
+module _ (q n d : ℕ) (line : List ℕ) where
+  abbrev reversed : ℕ → Bool
+  reversed e = leb (8 * q) e && (ltb (e - 8 * q) (8 * n) && dot line (8 * n - 1 - (e - 8 * q)))
+
+  pub reversed_more : (k m next : ℕ) (b : Bool) → next ≡ k + m → next ≤ n → (8 * (q + k) ≤ d → d < 8 * (q + k) + 8 * m → b ≡ dot line (8 * n - 1 - (d - 8 * q)))
+      → (ltb d (8 * q + 8 * next) && reversed d) ≡ (ltb d (8 * q + 8 * k) && reversed d || leb (8 * (q + k)) d && (ltb (d - 8 * (q + k)) (8 * m) && b))
+  reversed_more k m next b e h w = elim (cases_lt d (8 * q + 8 * k)) [
+    | inl l ↦ rw (lt-ltb d (8 * q + 8 * k) l, lt-ltb d (8 * q + 8 * next) (omega arith), lt-leb (8 * (q + k)) d (omega arith)) (or_false _)
+    | inr g ↦ rw (le-ltb d (8 * q + 8 * k) g, le-leb (8 * (q + k)) d (omega arith)) (elim (cases_lt d (8 * q + 8 * next)) [
+      | inl s ↦ rw (lt-ltb d (8 * q + 8 * next) s, le-leb (8 * q) d (omega arith), lt-ltb (d - 8 * q) (8 * n) (omega arith), lt-ltb (d - 8 * (q + k)) (8 * m) (omega arith)) (sym (w (omega arith) (omega arith)))
+      | inr o ↦ rw (le-ltb d (8 * q + 8 * next) o, le-ltb (d - 8 * (q + k)) (8 * m) (omega arith)) refl
     ])
   ]
 
+  pub reversed_apart : (k : ℕ) (b : Bool) → (ltb d (8 * q + 8 * k) && reversed d && (leb (8 * (q + k)) d && b)) ≡ false
+  reversed_apart k b = elim (cases_lt d (8 * q + 8 * k)) [
+    | inl l ↦ rw (lt-leb (8 * (q + k)) d (omega arith)) (and_false _)
+    | inr g ↦ rw (le-ltb d (8 * q + 8 * k) g) refl
+  ]
+
   -- after the last ones
-  pub reversed_all : (b : Bool) → n ≤ 8 * k → (ltb d (8 * q + 64 * k) && (leb (8 * q) d && (ltb (d - 8 * q) (8 * n) && b))) ≡ (leb (8 * q) d && (ltb (d - 8 * q) (8 * n) && b))
-  reversed_all b all = elim (cases_lt d (8 * q + 64 * k)) [
-    | inl l ↦ rw (lt-ltb d (8 * q + 64 * k) l) refl
-    | inr g ↦ rw (le-ltb d (8 * q + 64 * k) g, le-ltb (d - 8 * q) (8 * n) (omega arith)) (sym (and_false _))
+  pub reversed_all : (k : ℕ) → n ≤ k → (ltb d (8 * q + 8 * k) && reversed d) ≡ reversed d
+  reversed_all k all = elim (cases_lt d (8 * q + 8 * k)) [
+    | inl l ↦ rw (lt-ltb d (8 * q + 8 * k) l) refl
+    | inr g ↦ rw (le-ltb d (8 * q + 8 * k) g, le-ltb (d - 8 * q) (8 * n) (omega arith)) (sym (and_false _))
   ]
 
 -- before the first ones

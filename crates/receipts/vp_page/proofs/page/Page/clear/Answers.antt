@@ -2,13 +2,14 @@ use Rattle.std.proofs.Common.{ℕ, ap, ◌∙◌, List, [], get_or}
 use Rattle.std.proofs.Common.{arith}
 use Rattle.vp_dots.specs.Dots.{dot}
 use Rattle.vp_page.specs.declared.area.Area.{Area}
+use Rattle.vp_page.specs.declared.page.TheConstants.{PAPER_DOTS, PAGE_ROWS}
 use Rattle.vp_page.specs.Pages.{HasPage}
 use Rattle.vp_page.proofs.Falling.{held}
 use Rattle.vp_page.proofs.Whites.{all_white, cleared}
 use Rattle.vp_page.proofs.page.Page.clear.Goals as goal
 
 abbrev whole : Area
-whole = record { x = 0; y = 0; dx = 576; dy = 1664 }
+whole = record { x = 0; y = 0; dx = PAPER_DOTS; dy = PAGE_ROWS }
 
 white : (c : goal.After-self-2-1) → HasPage [] c.clear_rows.new.self
 white c = cleared c.unknown_in-rows.result c.self.inside.band _ c.self.invariant.rows_are
