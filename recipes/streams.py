@@ -4,14 +4,12 @@
 A place is a number of bytes: of an item of a listing those that are taken when it is given, of a remark those
 before the first byte that it is about. Where vp lists no places, it is None.
 """
-import io
 import os
 import pathlib
 import re
 import shutil
 import subprocess
 import sys
-from paper import images
 
 HERE = pathlib.Path(__file__).resolve().parent
 LANGUAGES = 'receipt', 'label'
@@ -21,6 +19,8 @@ BLANKS = 0x20, 0xA0
 # of theirs is, and the cell's frame: left, right, top, bottom.
 DIGITS = ('75557 26227 71747 71717 55711 74717 74757 71222 75757 75717 25755 65656 34443 65556 74647 74644').split()
 FRAMES = {(12, 24): (((2, 6), (6, 6)), 2, (0, 10, 2, 19)), (9, 17): (((3, 3), (3, 9)), 1, (1, 7, 1, 15))}
+# What stands between the parts of a sheet's head.
+GAP = rb'(?:\s|#[^\n]*\n)+'
 
 
 class Fault(Exception):
@@ -162,13 +162,13 @@ def lacking(name, size):
     """The bytes that a sheet has no character for: its cell is white, or shows the byte in a frame."""
     width, height = size
     data = read(name)
-    try:
-        found, rows = next((it[:2], list(it[2])) for it in images(io.BytesIO(data)))
-    except (StopIteration, ValueError):
-        raise Fault(f'{name}: not a glyph sheet') from None
-    if found != (16 * width, 16 * height):
+    head = re.match(rb'P4%s(\d+)%s(\d+)\s' % (GAP, GAP), data)
+    if not head:
+        raise Fault(f'{name}: not a glyph sheet')
+    start, stride = head.end(), 2 * width
+    if (int(head[1]), int(head[2])) != (16 * width, 16 * height) or len(data) < start + 16 * height * stride:
         raise Fault(f'{name}: not a glyph sheet of cells of {width} by {height}')
-    rows = [int.from_bytes(row, 'big') for row in rows]
+    rows = [int.from_bytes(data[start + stride * y:][:stride], 'big') for y in range(16 * height)]
     lacks = set()
     for byte in set(range(256)).difference(BLANKS):
         shift = width * (15 - byte % 16)
@@ -320,6 +320,8 @@ def off_edges(items, sheet, vp=None):
 
 # Remarks
 
+# The byte by which GS ( k names QR, in a listing.
+QR = '31'
 # The bytes that ESC R draws as characters of a country.
 COUNTRY = b'#$@[\\]^`{|}~'
 
@@ -332,7 +334,9 @@ def skipped(items, language):
             if text.endswith(' skipped'):
                 yield n, text[:-len(' skipped')]
             continue
-        words = text.split(' ', 3)
+        words = text.split(' ')
+        if words[:3] == ['gs', '28', '6b'] and words[5:6] == [QR]:
+            continue
         for command in ' '.join(words[:3]), ' '.join(words[:2]):
             if (language, command) in known:
                 yield n, command
@@ -348,8 +352,10 @@ def first_byte(data, place, text):
     if lead:
         return max(0, data.rfind(bytes([lead, *(int(it, 16) for it in rest)]), 0, place))
     if text[:1] in ('^', '~'):
-        return max(0, data.rfind(b'^', 0, place), data.rfind(b'~', 0, place))
-    return place - 1
+        # the last byte that was taken may be the lead of the next
+        return max(0, data.rfind(b'^', 0, place - 1), data.rfind(b'~', 0, place - 1))
+    # a byte that isn't itself is the end of an indicator and two digits, behind ^FH
+    return place - 1 if kind != 'byte' or data[place - 1] == int(rest[0], 16) else place - 3
 
 
 def named(command, text):

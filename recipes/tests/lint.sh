@@ -11,6 +11,7 @@ for stream in examples/*.bin examples/*.zpl; do
     [ ! -s "$room/said" ] || fail "lint says something of $stream"
 done
 cd "$room"
+printf 'plain\n' >plain.bin
 {
     printf '^XA^PW400^LL200^MMT^CI28\r\n^FO10,20^A0N,40^FDCaf\303\251^FS^FO300,20^BY3^BKN,N,100^FD123^FS'
     printf '^FO9,9^BXN,4^FD1^FS^FO9,9^B7N^FD1^FS^FO350,100^GC50^FS^GD9,9^FS^SN1,1,Y^FS^XFR:A^FS^F0^FN1\r\n'
@@ -30,28 +31,38 @@ done
 ! grep -q '\^MM' said || fail 'lint speaks of what no paper shows'
 [ "$(grep -c 'FO390,0' said)" -eq 1 ] || fail 'a box that just fits passes the edge'
 if [ "$has_places" ]; then
-    for line in '19 ^CI' '65 ^BK'; do
-        grep -q "^label.zpl: byte ${line% *}: \\${line#* } " said || { cat said >&2; fail "no $line"; }
+    for line in '19: ^CI' '65: ^BK' '176: the field of ^FO10,150' '215: the field of ^FT10,10'; do
+        grep -qF "label.zpl: byte $line " said || { cat said >&2; fail "no $line"; }
     done
 fi
 {
     printf '\033@\033t\020Caf\351\n\033M\001\351\n\034p\001\000\035(L\006\0000E\040\040\001\001'
-    printf '\0358L\001\000\000\000x\033{\001Hi\n\033\177rest'
+    printf '\0358L\001\000\000\000x\033{\001Hi\n\035(k\003\0000A\002\035(k\003\0001C\004\033\177rest'
 } >receipt.bin
 is 1 'a receipt' "$lint" receipt.bin
 for line in 'ESC t 10 chooses a code table' 'FS p 01 00 prints a picture that is kept in the printer' 'GS ( L' 'GS 8 L' \
-    'ESC { 01 prints upside down' 'byte E9 has no character in the sheet of font A: once' \
+    'ESC { 01 prints upside down' 'GS ( k 03 00 30 41 stores or prints a symbol other than QR' 'byte E9 has no character in the sheet of font A: once' \
     'byte E9 has no character in the sheet of font B: once'; do
     says "^receipt.bin: $place$line"
 done
-says '^receipt.bin: byte 44: F1 unknown command 1B 7F: nothing behind it is printed$'
+says '^receipt.bin: byte 60: F1 unknown command 1B 7F: nothing behind it is printed$'
 if [ "$has_places" ]; then
     for line in '2: ESC t' '15: FS p' '19: GS ( L'; do says "^receipt.bin: byte $line"; done
 fi
+grep -q '03 00 31' said && fail 'lint speaks of what is printed'
+# a byte that ^FH's digits say begins at the indicator
+printf '^XA^FO9,9^A0N,24^FH^FDCaf_C3_A9^FS^XZ' >hex.zpl
+is 1 'a byte in digits' "$lint" hex.zpl
+[ -z "$has_places" ] || says '^hex.zpl: byte 25: byte C3 has no character'
+# a sheet's head may be one line, and have comments
+sed '1,2d' "$root/examples/font-a.pbm" >rows
+{ printf 'P4 192#wide\n384 ' && cat rows; } >one-line.pbm
+is 0 'a sheet with a head of its own' "$lint" --font-a one-line.pbm --font-b "$root/examples/font-b.pbm" plain.bin
+head -c 9000 one-line.pbm >cut.pbm
+is 3 'a sheet that is cut short' "$lint" --font-a cut.pbm plain.bin
 # a code table that no byte asks for is nothing
 printf '\033@\033t\020plain\n\033p\000\001\002' | "$lint" >said || fail 'lint of a plain receipt'
 [ ! -s said ] || fail 'lint speaks of a code table that no byte asks for'
-printf 'plain\n' >plain.bin
 is 3 'no file' "$lint" none.bin
 says '^lint: cannot read none.bin'
 is 2 'wrong words' "$lint" --lang french plain.bin

@@ -75,6 +75,25 @@ is 0 'receipts without words' env VP="$vp" recipes/many "$room/receipts" "$room/
 cmp "$room/printed/receipt.bin.pbm" "$room/receipt.pbm"
 [ "$(cat "$room/printed/faults.txt" | wc -l)" -eq 0 ] || fail 'a fault of none'
 
+# nothing of an earlier run is taken for this one's
+is 0 'receipts again' env VP="$vp" recipes/many "$room/receipts" "$room/printed" "$vp" receipt
+cmp -s "$room/printed/receipt.bin.pbm" "$room/receipt.pbm" && fail 'the image of an earlier run stays'
+is 3 'a run that breaks off' env VP="$vp" recipes/many "$room/receipts" "$room/printed" \
+    sh -c '[ ! -s /dev/stdin ] || kill -9 $PPID'
+[ ! -e "$room/printed/receipt.bin.pbm" ] || fail 'an earlier image stays for --resume to count'
+
+# a clone's program is the one that its ./vp runs, wherever that is
+mkdir -p "$room/clone/tools" "$room/clone/examples"
+cp -r recipes vp "$room/clone"
+cp examples/*.pbm "$room/clone/examples"
+touch "$room/clone/crates.txt"
+printf '#!/bin/sh\necho "$VP_THERE"\n' >"$room/clone/tools/program"
+chmod +x "$room/clone/tools/program"
+is 0 "a clone's receipts" env -u VP VP_THERE="$vp" "$room/clone/recipes/many" "$room/receipts" "$room/printed"
+cmp "$room/printed/receipt.bin.pbm" "$room/receipt.pbm"
+rm "$room/clone/tools/program"
+is 125 'a clone without a program' env -u VP "$room/clone/recipes/many" "$room/receipts" "$room/printed"
+
 # wrong words and files
 is 3 "a folder that isn't there" recipes/many "$room/no such" "$room/printed" "$@"
 [ "$(cat "$room/said")" = "many: no folder $room/no such" ] || fail 'more than a line is said'
@@ -87,6 +106,10 @@ is 2 'one word' recipes/many "$many"
 is 2 'a wrong option' recipes/many --wrong "$many" "$room/printed"
 is 2 'a wrong language' recipes/many --lang klingon "$many" "$room/printed"
 is 2 'a program that is none' recipes/many "$many" "$room/printed" "$room/no-vp"
+for count in 0 -1 many; do
+    is 2 'a wrong count of jobs' env JOBS=$count recipes/many "$many" "$room/printed" "$@"
+    is 2 'a wrong count of a batch' env BATCH=$count recipes/many "$many" "$room/printed" "$@"
+done
 is 2 'wrong words of vp' recipes/many "$many" "$room/printed" "$vp" receipt --wrong
 is 3 'a sheet that is none' recipes/many "$many" "$room/printed" "$vp" receipt --font-a "$room/none"
 says '^vp: cannot open '

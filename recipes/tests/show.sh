@@ -26,6 +26,15 @@ says '/receipt.bin: label: nothing is printed$'
 mkdir out
 is 0 'another folder' "$show" --to out "$root/examples/ticket.bin"
 [ -e out/ticket.png ] || fail 'no PNG in the folder'
+# no PNG takes another's place
+cp two.zpl order.zpl
+printf 'two\n' >order-2.bin
+is 0 'names that clash' "$show" --to out order.zpl order-2.bin
+says ' out/order.zpl-1.png to out/order.zpl-2.png$'
+says ' out/order-2.bin.png$'
+cp order-2.bin out/order-2.bin
+is 2 'files of one name' "$show" order-2.bin out/order-2.bin
+says '^show: the PNGs of order-2.bin and out/order-2.bin have one name'
 # its status is vp's, and each fault a line
 printf 'Hi\n\033\177more\n' >bad.bin
 is 1 'a fault' "$show" bad.bin
@@ -64,6 +73,9 @@ echo 'recipes of a prefix: ok'
 is 0 'the text of a receipt' "$root/recipes/text" "$root/examples/receipt.bin"
 says '^2 x Milk 1 l  *2\.58$'
 says '^TOTAL EUR  *8\.08$'
+printf 'raster\035v0\000\001\000\001\000\377bars\035k\0041\000dropped\033@kept\033S\033La\035\044\100\000b\030c\f' >ends.bin
+"$root/recipes/text" ends.bin >said
+printf '%s\n' raster bars kept a b c | cmp - said
 is 0 'the text of a label' "$root/recipes/text" two.zpl
 says '^Café$'
 is 1 'the text before a fault' "$root/recipes/text" bad.bin
