@@ -41,7 +41,8 @@ fi
 } >receipt.bin
 is 1 'a receipt' "$lint" receipt.bin
 for line in 'ESC t 10 chooses a code table' 'FS p 01 00 prints a picture that is kept in the printer' 'GS ( L' 'GS 8 L' \
-    'ESC { 01 prints upside down' 'GS ( k 03 00 30 41 stores or prints a symbol other than QR' 'byte E9 has no character in the sheet of font A: once' \
+    'ESC { 01 prints upside down' 'GS ( k 03 00 30 41 stores or prints a symbol other than QR' \
+    'byte E9 has no character in the sheet of font A: once' \
     'byte E9 has no character in the sheet of font B: once'; do
     says "^receipt.bin: $place$line"
 done

@@ -73,9 +73,14 @@ echo 'recipes of a prefix: ok'
 is 0 'the text of a receipt' "$root/recipes/text" "$root/examples/receipt.bin"
 says '^2 x Milk 1 l  *2\.58$'
 says '^TOTAL EUR  *8\.08$'
-printf 'raster\035v0\000\001\000\001\000\377bars\035k\0041\000dropped\033@kept\033S\033La\035\044\100\000b\030c\f' >ends.bin
-"$root/recipes/text" ends.bin >said
-printf '%s\n' raster bars kept a b c | cmp - said
+# a line ends where the paper has what follows at another height: of these on a page alone, GS $, CAN, ESC T and FF
+{
+    printf 'raster\035v0\000\001\000\001\000\377bars\035k\0041\000dropped\033@'
+    printf 'one\035\044\100\000 \030\014line\035v0\007\001\000\001\000\377, still\033m'
+    printf '\033La\035\044\100\000b\030c\033T\000d\033me\014of\035\044\100\000 old\n'
+} >ends.bin
+is 0 'ends of lines' "$root/recipes/text" ends.bin
+printf '%s\n' raster bars 'one line, still' a b c de 'of old' | cmp - said
 is 0 'the text of a label' "$root/recipes/text" two.zpl
 says '^Café$'
 is 1 'the text before a fault' "$root/recipes/text" bad.bin
