@@ -108,9 +108,13 @@ class Chromium:
                      modifiers=modifiers)
 
     def click(self, script):
-        """Clicks the middle of the element that a script gives."""
-        x, y = self.value(f'(() => {{ const box = ({script}).getBoundingClientRect();'
-                          ' return [box.x + box.width / 2, box.y + box.height / 2]; })()')
+        """Clicks the middle of the element that a script gives, once that stands still."""
+        last, place = None, []
+        while place != last:
+            last, place = place, self.value(f'(() => {{ const box = ({script}).getBoundingClientRect();'
+                                            ' return [box.x + box.width / 2, box.y + box.height / 2]; })()')
+            time.sleep(0.1)
+        x, y = place
         for kind in 'mousePressed', 'mouseReleased':
             self.ask('Input.dispatchMouseEvent', type=kind, x=x, y=y, button='left', clickCount=1)
 
