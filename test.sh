@@ -15,19 +15,19 @@ timed() {
     "$@"
     echo "$*: $(($(date +%s) - started)) s"
 }
-timed ./test-evidence.py
-tools/minutes.py out/gate.log tools/gate.py || {
+timed ./checks/evidence.py
+tools/gate/minutes.py out/gate.log tools/gate/gate.py || {
     # behind the table of minutes, once more what failed
     sed -n 's/^ *[0-9.]* | \(rt: FAILED.*\)/\1/p' out/gate.log
     exit 1
 }
-timed tools/check-dist
-timed ./test-dist.sh
-timed ./test-install.sh
-timed ./test-gate.sh
-timed ./test-library.sh
-timed ./test-program.py
-timed ./test-examples.sh
-timed ./test-recipes.sh
-timed ./test-memory.sh
-tools/left-out
+timed tools/dist/check
+timed ./checks/dist.sh
+timed ./checks/install.sh
+timed ./checks/gate.sh
+timed ./checks/library.sh
+timed ./checks/program.py
+timed ./checks/examples.sh
+timed ./checks/recipes.sh
+timed ./checks/memory.sh
+tools/gate/left-out

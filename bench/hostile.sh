@@ -4,7 +4,7 @@
 # a stream may take. The times are those of the machine it runs on; the ratios are what to look at.
 set -eu
 top=$(cd "$(dirname "$0")/.." && pwd)
-vp=${1:-$("$top/tools/program")}
+vp=${1:-$("$top/tools/dist/program")}
 limit=${2:-60}
 font=$top/examples/font-a.pbm
 # what is printed stays in memory

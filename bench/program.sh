@@ -3,7 +3,7 @@
 # program that ./vp runs. The times are those of the machine it runs on; the ratios are what to look at.
 set -eu
 top=$(cd "$(dirname "$0")/.." && pwd)
-vp=${1:-$("$top/tools/program")}
+vp=${1:-$("$top/tools/dist/program")}
 # what is printed stays in memory
 scratch=$(mktemp -d -p /dev/shm)
 trap 'rm -rf "$scratch"' EXIT

@@ -12,7 +12,7 @@ import sys
 HERE = os.path.dirname(os.path.abspath(__file__))
 sys.path.insert(0, os.path.join(HERE, '../recipes'))
 sys.dont_write_bytecode = True
-from streams import framed  # noqa: E402
+from vp_recipes.sheets import framed  # noqa: E402
 
 STROKES = {
     '!': '20 24; 26', '"': '10 12; 30 32', '#': '10 16; 30 36; 02 42; 04 44',

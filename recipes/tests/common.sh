@@ -42,6 +42,6 @@ testing() { python3 "$root/recipes/tests/testing.py" "$@"; }
 vp=${VP:-}
 if [ -z "$vp" ]; then
     vp=$root/crates/program/vp_cli/out/vp_cli
-    [ -x "$vp" ] || vp=$(tools/program)
+    [ -x "$vp" ] || vp=$(tools/dist/program)
 fi
 [ -x "$vp" ] || fail "no program $vp"

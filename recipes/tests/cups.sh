@@ -3,7 +3,7 @@
 . "$(dirname "$0")/common.sh"
 set -- "$vp" receipt --font-a "$root/examples/font-a.pbm" --font-b "$root/examples/font-b.pbm"
 label="$vp label --font-a $root/examples/font-a.pbm"
-"$@" examples/receipt.bin | recipes/paper.py "$room/receipt.png"
+"$@" examples/receipt.bin | recipes/paper "$room/receipt.png"
 printf 'before\n\033\176after\n' >"$room/fault.bin"
 export VP_JOB="$root/recipes/job" VP_PRINT="$*" DEVICE_URI="vp:$room/queue"
 is 0 'what the backend offers' recipes/cups/vp

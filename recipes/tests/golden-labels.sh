@@ -1,7 +1,7 @@
 #!/bin/sh
 # Golden images of labels, whose words stand behind --.
 . "$(dirname "$0")/common.sh"
-golden=$root/recipes/golden.py report=$room/report
+golden=$root/recipes/golden report=$room/report
 labels=$room/labels
 mkdir "$labels"
 cp examples/*.zpl "$labels"

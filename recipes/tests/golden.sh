@@ -2,7 +2,7 @@
 # Golden images: what is accepted, changed, lost, and the page that shows it.
 . "$(dirname "$0")/common.sh"
 set -- "$vp" receipt --font-a "$root/examples/font-a.pbm" --font-b "$root/examples/font-b.pbm"
-golden=$root/recipes/golden.py streams=$room/streams golds=$room/golds report=$room/report
+golden=$root/recipes/golden streams=$room/streams golds=$room/golds report=$room/report
 mkdir "$streams"
 cp examples/*.bin "$streams"
 printf 'before\n\033\177after\n' >"$streams/fault.bin"
@@ -96,7 +96,7 @@ says '^8 streams print what is expected$'
 is 0 'accept without a sheet' "$golden" accept "$streams" "$room/blind" receipt.bin -- "$vp" receipt
 says '^receipt.bin: accepted; no sheet is named, so its characters are white$'
 is 2 'no folder' "$golden" check "$room/none" "$golds"
-says '^golden.py: .*/none: no streams$'
+says '^golden: .*/none: no streams$'
 [ "$(wc -l <"$room/said")" -eq 1 ] || fail 'a folder that is not there has more than a line'
 
 # the fixture of golden.md, by pytest

@@ -77,7 +77,7 @@ python3 - <<'END' || fail 'commands.tsv has a command that is read otherwise'
 import sys
 sys.path.insert(0, 'recipes')
 sys.dont_write_bytecode = True
-import streams
+from vp_recipes import program, streams
 known = streams.table()
 labels = [command for language, command in known if language == 'label']
 items, fault = streams.listing(''.join(labels).encode(), 'label')
@@ -88,6 +88,6 @@ for command in (command for language, command in known if language == 'receipt')
     data = leads[kind] + bytes(int(it, 16) for it in rest) + (b'3\0' if command == 'esc 63' else b'\1\0\0\0\0')
     items, _ = streams.listing(data, 'receipt')
     assert [it for _, it in streams.skipped(items, 'receipt')] == [command], command
-    assert streams.run(['receipt'], data)[0] == b'', command
+    assert program.run(['receipt'], data)[0] == b'', command
 END
 echo 'lint: ok'

@@ -83,15 +83,15 @@ is 3 'a run that breaks off' env VP="$vp" recipes/many "$room/receipts" "$room/p
 [ ! -e "$room/printed/receipt.bin.pbm" ] || fail 'an earlier image stays for --resume to count'
 
 # a clone's program is the one that its ./vp runs, wherever that is
-mkdir -p "$room/clone/tools" "$room/clone/examples"
+mkdir -p "$room/clone/tools/dist" "$room/clone/examples"
 cp -r recipes vp "$room/clone"
 cp examples/*.pbm "$room/clone/examples"
 touch "$room/clone/crates.txt"
-printf '#!/bin/sh\necho "$VP_THERE"\n' >"$room/clone/tools/program"
-chmod +x "$room/clone/tools/program"
+printf '#!/bin/sh\necho "$VP_THERE"\n' >"$room/clone/tools/dist/program"
+chmod +x "$room/clone/tools/dist/program"
 is 0 "a clone's receipts" env -u VP VP_THERE="$vp" "$room/clone/recipes/many" "$room/receipts" "$room/printed"
 cmp "$room/printed/receipt.bin.pbm" "$room/receipt.pbm"
-rm "$room/clone/tools/program"
+rm "$room/clone/tools/dist/program"
 is 125 'a clone without a program' env -u VP "$room/clone/recipes/many" "$room/receipts" "$room/printed"
 
 # wrong words and files

@@ -3,7 +3,7 @@
 . "$(dirname "$0")/common.sh"
 set -- "$vp" receipt --font-a "$root/examples/font-a.pbm" --font-b "$root/examples/font-b.pbm"
 "$@" examples/receipt.bin >"$room/receipt.pbm"
-recipes/paper.py "$room/receipt.png" <"$room/receipt.pbm"
+recipes/paper "$room/receipt.png" <"$room/receipt.pbm"
 testing same "$room/receipt.png" "$room/receipt.pbm"
 if needs pnmsplit pnmcat pngtopnm pgmtopbm; then
     (cd "$room" && pnmsplit -quiet receipt.pbm strip%d.pbm && pnmcat -tb $(ls strip*.pbm | sort -V) >whole.pbm)
@@ -12,7 +12,7 @@ fi
 echo 'a PNG: ok'
 
 # a PNG for each image, in its true size, and none where nothing is printed
-paper=$root/recipes/paper.py
+paper=$root/recipes/paper
 cd "$room"
 printf '^XA^PW200^LL100^FO9,9^GB20,20,3^FS^PQ3^XZ' | "$vp" label >labels.pbm
 "$paper" --each --dpmm 8 label.png <labels.pbm

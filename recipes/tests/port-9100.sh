@@ -3,7 +3,7 @@
 . "$(dirname "$0")/common.sh"
 set -- "$vp" receipt --font-a "$root/examples/font-a.pbm" --font-b "$root/examples/font-b.pbm"
 "$@" examples/receipt.bin >"$room/receipt.pbm"
-recipes/paper.py "$room/receipt.png" <"$room/receipt.pbm"
+recipes/paper "$room/receipt.png" <"$room/receipt.pbm"
 serve=$root/recipes/port-9100/serve
 
 # begins NAME OPTION..: a printer of this test's words on a free port, to a folder of this name

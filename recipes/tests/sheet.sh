@@ -4,7 +4,7 @@
 testing fonts "$room"
 printf 'A\n' >"$room/a.bin"
 for end in bdf psf1.psf psf2.psf pcf hex; do
-    recipes/sheet.py --table latin1 "$room/font.$end" >"$room/$end.pbm" 2>"$room/said"
+    recipes/sheet --table latin1 "$room/font.$end" >"$room/$end.pbm" 2>"$room/said"
     testing sheet "$room/$end.pbm"
     says '^missing 43 U+0043 LATIN CAPITAL LETTER C$'
     says '^font A, latin1: 3 of 189 characters$'
@@ -12,7 +12,7 @@ for end in bdf psf1.psf psf2.psf pcf hex; do
         od -An -v -tx1 | tr -d ' \n' >"$room/dots"
     grep -q '^0*3fc0*2040' "$room/dots" || fail "vp draws another A than font.$end has"
 done
-recipes/sheet.py --blank --table latin1 "$room/font.bdf" 2>/dev/null >"$room/blank.pbm"
+recipes/sheet --blank --table latin1 "$room/font.bdf" 2>/dev/null >"$room/blank.pbm"
 testing sheet "$room/blank.pbm" blank
 # of a byte without a character the shipped sheets show its two digits: no two cells look alike
 for font in a b; do
@@ -20,7 +20,7 @@ for font in a b; do
 import sys
 sys.path.insert(0, 'recipes')
 sys.dont_write_bytecode = True
-from streams import CELLS, framed, lacking
+from vp_recipes.sheets import CELLS, framed, lacking
 font = sys.argv[1]
 drawn = set(range(0x21, 0x7F))
 assert lacking(f'examples/font-{font}.pbm', CELLS[font]) == set(range(256)) - drawn - {0x20, 0xA0}
@@ -29,16 +29,16 @@ assert len(frames) == 254 and not any(framed(0x20, CELLS[font])) and not any(fra
 END
 done
 gzip <"$room/font.bdf" >"$room/font.bdf.gz"
-recipes/sheet.py --table latin1 "$room/font.bdf.gz" 2>/dev/null | cmp - "$room/bdf.pbm"
-recipes/sheet.py --font b --table latin1 "$room/font.bdf" >"$room/b.pbm" 2>/dev/null
+recipes/sheet --table latin1 "$room/font.bdf.gz" 2>/dev/null | cmp - "$room/bdf.pbm"
+recipes/sheet --font b --table latin1 "$room/font.bdf" >"$room/b.pbm" 2>/dev/null
 "$vp" receipt --font-b "$room/b.pbm" "$room/a.bin" >"$room/said"
-is 1 'a font that is none' recipes/sheet.py examples/receipt.bin
+is 1 'a font that is none' recipes/sheet examples/receipt.bin
 
 # the system's fonts, with the packages that bring them
 while read -r package font; do
     [ -e "$font" ] || { left_out "$package" && continue; }
     for letter in a b; do
-        recipes/sheet.py --font "$letter" --table latin1 "$font" >"$room/real.pbm" 2>"$room/said"
+        recipes/sheet --font "$letter" --table latin1 "$font" >"$room/real.pbm" 2>"$room/said"
         says '189 of 189 characters$'
         "$vp" receipt "--font-$letter" "$room/real.pbm" examples/receipt.bin >"$room/real"
     done

@@ -61,7 +61,6 @@ echo 'show: ok'
 # beside an installed vp: its program and its sheets are found by where the recipe stands
 cd "$root"
 VP_PROGRAM=$vp ./install "$room/prefix" >/dev/null
-install -D -t "$room/prefix/lib/vp" recipes/show recipes/print recipes/paper.py recipes/streams.py recipes/commands.tsv
 cd "$room"
 (unset VP && is 0 'show of a prefix' prefix/lib/vp/show --to out "$root/examples/receipt.bin")
 testing same out/receipt.png receipt.pbm

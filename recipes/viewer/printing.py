@@ -13,7 +13,7 @@ import threading
 import time
 
 sys.path.insert(0, os.path.dirname(os.path.dirname(os.path.realpath(__file__))))
-from streams import run  # noqa: E402
+from vp_recipes.program import run  # noqa: E402
 
 MOST_STREAM = 4 << 20
 MOST_IMAGES = 64

@@ -8,7 +8,7 @@ import os
 import sys
 
 sys.path.insert(0, os.path.dirname(os.path.dirname(os.path.realpath(__file__))))
-from streams import remarks  # noqa: E402
+from vp_recipes.remarks import remarks  # noqa: E402
 
 language, sheets, vp = json.loads(sys.argv[1])
 json.dump([list(it) for it in remarks(sys.stdin.buffer.read(), language, sheets, vp)], sys.stdout)

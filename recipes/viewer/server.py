@@ -11,7 +11,7 @@ import time
 import urllib.parse
 
 sys.path.insert(0, os.path.dirname(os.path.dirname(os.path.realpath(__file__))))
-from streams import guess  # noqa: E402
+from vp_recipes.streams import guess  # noqa: E402
 from printing import MOST_STREAM, Gone  # noqa: E402
 
 HERE = os.path.dirname(os.path.realpath(__file__))

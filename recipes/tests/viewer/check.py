@@ -215,8 +215,7 @@ def test_prefix(room):
     """Copied under a prefix it finds vp, the sheets and the examples there."""
     lib, share = room / 'prefix/lib/vp', room / 'prefix/share/vp'
     shutil.copytree(VIEWER.parent, lib / 'viewer', ignore=shutil.ignore_patterns('__pycache__'))
-    for name in 'streams.py', 'paper.py', 'commands.tsv':
-        shutil.copy(ROOT / 'recipes' / name, lib)
+    shutil.copytree(ROOT / 'recipes/vp_recipes', lib / 'vp_recipes', ignore=shutil.ignore_patterns('__pycache__'))
     share.mkdir(parents=True)
     for name in FONT_A, FONT_B, SHELF:
         shutil.copy(name, share)

@@ -35,7 +35,7 @@ def fault_of(file):
 
 
 def main():
-    os.chdir(os.path.dirname(os.path.abspath(__file__)))
+    os.chdir(os.path.dirname(os.path.dirname(os.path.abspath(__file__))))
     files = sorted(glob.glob("crates/*/*/must-fail/*.edit"))
     faults = [f"{file}: {fault}" for file, fault in ((file, fault_of(file)) for file in files) if fault]
     there = {f"{it.split('/')[2]}/{os.path.basename(it)[: -len('.edit')]}" for it in files}
@@ -48,7 +48,7 @@ def main():
     if not files or not named:
         faults.append("no edits were found")
     for fault in faults:
-        print(f"test-evidence: {fault}", file=sys.stderr)
+        print(f"checks/evidence: {fault}", file=sys.stderr)
     if faults:
         return 1
     print(f"{len(files)} edits can be applied, and the {len(named)} that {PAGE} names are there: ok")

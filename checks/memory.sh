@@ -3,7 +3,7 @@
 # each call must answer that memory was refused, and nothing else. As many are refused at once as there are
 # processors, each in a copy of the sources, since rt does one thing at a time in a folder.
 set -eu
-cd "$(dirname "$0")"
+cd "$(dirname "$0")/.."
 tools=$PWD/tools
 lanes=$(nproc)
 rooms=$(mktemp -d)
@@ -20,7 +20,7 @@ done
 # refuse LANE NTH: runs the tests in the lane's room, with their nth allocation refused
 refuse() {
     cd "$rooms/$1/crates/tests/vp_memory_tests"
-    "$tools/try.py" --test --fail-alloc "$2" >"$rooms/$1/log" 2>&1 || true
+    "$tools/gate/try.py" --test --fail-alloc "$2" >"$rooms/$1/log" 2>&1 || true
 }
 
 # is_last LANE NTH: whether nothing was left to be refused; ends the test where a call answered otherwise

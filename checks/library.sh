@@ -1,15 +1,15 @@
 #!/bin/sh
-# Takes the example and what it stands on into an empty folder by tools/take, and compares docs/library.md with the
-# example's files. ./test-library.sh check proves the example there too, which builds all libraries below it.
+# Takes the example and what it stands on into an empty folder by tools/vendoring/take, and compares docs/library.md with the
+# example's files. ./checks/library.sh check proves the example there too, which builds all libraries below it.
 set -eu
 export LC_ALL=C
-root=$(dirname "$(realpath "$0")")
+root=$(dirname "$(dirname "$(realpath "$0")")")
 room=$(mktemp -d)
 trap 'rm -rf "$room"' EXIT
 example=examples/vp_print_stream
 
 fail() {
-    echo "test-library: $1" >&2
+    echo "checks/library: $1" >&2
     exit 1
 }
 # is EXPECTED COMMAND..: whether a command ends with this status
@@ -21,7 +21,7 @@ is() {
 }
 
 mkdir "$room/ours"
-is 0 "$root/tools/take" "$room/ours" "$example"
+is 0 "$root/tools/vendoring/take" "$room/ours" "$example"
 [ "$(tail -n 1 "$room/printed")" = "$example" ] || fail 'the example is not the last crate that is taken'
 (cd "$room/ours" && find . -type f | sort) >"$room/files"
 ! grep -q '/out/' "$room/files" || fail 'what rt keeps is taken'
@@ -40,21 +40,21 @@ cmp "$root/NOTICE" "$room/ours/licences/vp/NOTICE"
 mkdir "$room/theirs"
 echo 'own:' >"$room/theirs/crates.txt"
 echo 'Handles allowed: Wait.' >"$room/theirs/HANDLES"
-is 0 "$root/tools/take" "$room/theirs"
+is 0 "$root/tools/vendoring/take" "$room/theirs"
 [ "$(head -n 1 "$room/theirs/crates.txt")" = own: ] || fail 'a line of theirs is gone'
 grep -q '^printing/vp_engine: ' "$room/theirs/crates.txt" || fail 'vp_engine is not taken where no crate is named'
 grep -q Wait "$room/theirs/HANDLES" || fail 'their HANDLES is another'
 
 # what is there stays
 (cd "$room/theirs" && find . -type f -exec sha256sum {} + | sort) >"$room/before"
-is 3 "$root/tools/take" "$room/theirs"
+is 3 "$root/tools/vendoring/take" "$room/theirs"
 (cd "$room/theirs" && find . -type f -exec sha256sum {} + | sort) >"$room/after"
 cmp "$room/before" "$room/after"
-is 2 "$root/tools/take"
-is 2 "$root/tools/take" "$room/none" printing/vp_none
+is 2 "$root/tools/vendoring/take"
+is 2 "$root/tools/vendoring/take" "$room/none" printing/vp_none
 [ ! -e "$room/none" ] || fail 'a folder is made for a crate that is none'
 touch "$room/file"
-is 3 "$root/tools/take" "$room/file"
+is 3 "$root/tools/vendoring/take" "$room/file"
 
 # each block of the page behind a line that names a file is that file
 for file in specs/Printed.antt src/print.rt src/main.rt proofs/print/print/Invariants.antt; do
@@ -69,4 +69,4 @@ done
 if [ "${1:-}" = check ]; then
     (cd "$room/ours/crates/$example" && rt check)
 fi
-echo 'tools/take, and the example of docs/library.md: ok'
+echo 'tools/vendoring/take, and the example of docs/library.md: ok'

@@ -14,9 +14,10 @@ import tarfile
 import tempfile
 
 sys.dont_write_bytecode = True
-import needs
+sys.path.insert(0, os.path.join(os.path.dirname(os.path.realpath(__file__)), "..", "dist"))
+import needs  # noqa: E402
 
-ROOT = os.path.dirname(os.path.dirname(os.path.realpath(__file__)))
+ROOT = os.path.dirname(os.path.dirname(os.path.dirname(os.path.realpath(__file__))))
 MAINTAINER = "Vuzaremo maintainers <maintainers@users.noreply.vuzaremo.example>"
 # Where Debian has a place of its own.
 PLACES = {"usr/share/zsh/site-functions/_vp": "usr/share/zsh/vendor-completions/_vp"}

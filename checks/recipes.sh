@@ -2,10 +2,10 @@
 # Runs each test of recipes/tests, or those whose names are given, with the program that ./vp builds, or VP. At the end
 # it says how many checks were left out for want of which tool.
 set -eu
-cd "$(dirname "$0")"
+cd "$(dirname "$0")/.."
 if [ -z "${VP:-}" ]; then
     VP=$PWD/crates/program/vp_cli/out/vp_cli
-    [ -x "$VP" ] || VP=$(tools/program)
+    [ -x "$VP" ] || VP=$(tools/dist/program)
 fi
 export VP
 own=
@@ -20,7 +20,7 @@ for test in recipes/tests/*.sh recipes/tests/*.py; do
     ran=$((ran + 1))
     "$test" || failed="$failed $name"
 done
-[ -z "$failed" ] || { echo "test-recipes: failed:$failed" >&2; exit 1; }
-[ "$ran" -gt 0 ] || { echo "test-recipes: no such test: $*" >&2; exit 1; }
+[ -z "$failed" ] || { echo "checks/recipes: failed:$failed" >&2; exit 1; }
+[ "$ran" -gt 0 ] || { echo "checks/recipes: no such test: $*" >&2; exit 1; }
 echo "the tests of $ran recipes: ok"
-[ -z "$own" ] || tools/left-out
+[ -z "$own" ] || tools/gate/left-out

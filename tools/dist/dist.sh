@@ -158,7 +158,7 @@ find_program() {
     fi
     run=$built
     if ! is_built "$now"; then
-        python3 "$root/tools/build.py" "$why" || return 125
+        python3 "$root/tools/dist/build.py" "$why" || return 125
         look
         is_built "$(sources)" || return 0
     fi

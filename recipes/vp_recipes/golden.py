@@ -1,8 +1,7 @@
-#!/usr/bin/env python3
 """Golden images: whether each stream of a folder still prints what it printed when its image was accepted.
 
-  golden.py check STREAMS EXPECTED [--report FOLDER] [--junit FILE] [--ignore PATTERN] [-- COMMAND..]
-  golden.py accept STREAMS EXPECTED [NAME..] [--ignore PATTERN] [-- COMMAND..]
+  golden check STREAMS EXPECTED [--report FOLDER] [--junit FILE] [--ignore PATTERN] [-- COMMAND..]
+  golden accept STREAMS EXPECTED [NAME..] [--ignore PATTERN] [-- COMMAND..]
 
 check has status 0 where all are as expected, 1 where not, 2 where it couldn't run; accept takes over what is printed
 now. COMMAND prints standard input as vp does; without it, it is vp in the language that the stream is in, with the
@@ -22,9 +21,11 @@ import subprocess
 import sys
 from concurrent.futures import ThreadPoolExecutor
 from itertools import accumulate
-sys.dont_write_bytecode = True
-import streams  # noqa: E402
-from paper import Png, images  # noqa: E402
+
+from .images import Png, images
+from .program import Fault, find_vp, run, times
+from .sheets import sheet_words, shipped, without_cell
+from .streams import LANGUAGES, guess, listing
 
 # What a picture shows: (255, 255, 255) and so on by the names' places.
 PALETTE = {'white': (255, 255, 255), 'black': (0, 0, 0), 'outside': (214, 218, 224), 'same': (150, 150, 150),
@@ -227,8 +228,8 @@ def compare(expected, got, file):
 
 def command_of(data):
     """The words that print a stream where none were given: vp in its language, with the shipped sheets."""
-    language = streams.guess(data)
-    return [*streams.find_vp(), language, *streams.sheets(language)]
+    language = guess(data)
+    return [*find_vp(), language, *shipped(language)]
 
 
 def unseen(command, stream, image, fault):
@@ -241,16 +242,16 @@ def unseen(command, stream, image, fault):
         said.append('its paper is all white')
     elif not dots.rows:
         said.append('nothing is printed')
-    at = next((n for n, word in enumerate(command) if word in streams.LANGUAGES), None)
+    at = next((n for n, word in enumerate(command) if word in LANGUAGES), None)
     if at:
-        sheet, found = streams.sheet_words(command), {}
-        items, _ = streams.listing(stream.read_bytes(), command[at], command[:at], dots=False)
-        for (_, byte), (count, _) in streams.without_cell(items, command[at], command).items():
+        sheet, found = sheet_words(command), {}
+        items, _ = listing(stream.read_bytes(), command[at], command[:at], dots=False)
+        for (_, byte), (count, _) in without_cell(items, command[at], command).items():
             found[byte] = found.get(byte, 0) + count
         if found and not sheet:
             said.append('no sheet is named, so its characters are white')
         elif found:
-            bytes_said = ', '.join(f'{byte:02X} {streams.times(count)}' for byte, count in sorted(found.items()))
+            bytes_said = ', '.join(f'{byte:02X} {times(count)}' for byte, count in sorted(found.items()))
             said.append(f'the sheet has no character for {bytes_said}')
     return '; '.join(said)
 
@@ -261,7 +262,7 @@ def printed(command, stream):
         ran = subprocess.run(command, stdin=file, stdout=subprocess.PIPE, stderr=subprocess.PIPE)
     line = ran.stderr.decode(errors='replace')
     if ran.returncode not in (0, 1):
-        raise streams.Fault(f'{stream}: {command[0]} ended with status {ran.returncode}: {line.strip()}', 2)
+        raise Fault(f'{stream}: {command[0]} ended with status {ran.returncode}: {line.strip()}', 2)
     return ran.stdout, line if ran.returncode else ''
 
 
@@ -310,7 +311,7 @@ def verify(stream, name, folder, command=(), accept=False, report='golden-report
     nothing does, with a picture in the report's folder. With accept it takes it over."""
     folder, report = pathlib.Path(folder), pathlib.Path(report)
     command = list(command) or command_of(stream)
-    image, line, _ = streams.run(command[1:], stream, command[:1])
+    image, line, _ = run(command[1:], stream, command[:1])
     known, now = expected(folder, name), (image, line + '\n' if line else '')
     if known == now:
         return ''
@@ -423,7 +424,7 @@ def main():
             known = {str(it.relative_to(given.expected))[:-len('.pbm')] for it in given.expected.rglob('*.pbm')}
             gone = sorted(known.difference(names))
         if not names:
-            raise streams.Fault(f'{given.streams}: no streams', 2)
+            raise Fault(f'{given.streams}: no streams', 2)
         with ThreadPoolExecutor(os.cpu_count()) as pool:
             answers = list(pool.map(changed, names))
         found = [it for it, _ in answers if it]
@@ -431,8 +432,4 @@ def main():
             return accept(names, found, gone, given.expected, dict(zip(names, (it for _, it in answers))))
         return check(names, found, gone, given.report, given.junit)
     except OSError as error:
-        raise streams.Fault(f'{error.filename}: {error.strerror}', 2) from None
-
-
-if __name__ == '__main__':
-    sys.exit(streams.ended(main))
+        raise Fault(f'{error.filename}: {error.strerror}', 2) from None

@@ -3,7 +3,7 @@
 # shells are, and makes the Debian package, which is unpacked into an empty root.
 set -eu
 export LC_ALL=C
-root=$(dirname "$(realpath "$0")")
+root=$(dirname "$(dirname "$(realpath "$0")")")
 program=$root/crates/program/vp_cli/out/vp_cli
 [ -x "$program" ] || program=$root/dist/vp
 if ! "$program" --version >/dev/null 2>&1; then
@@ -15,7 +15,7 @@ trap 'rm -rf "$room"' EXIT
 export VP_PROGRAM="$program"
 
 fail() {
-    echo "test-install: $1" >&2
+    echo "checks/install: $1" >&2
     [ ! -s "$room/said" ] || cat "$room/said" >&2
     exit 1
 }
@@ -39,14 +39,14 @@ for dest in '' "$room/a root"; do
     is 0 'install' "$root/install" "$prefix"
     grep -qx "$dest$prefix/bin/vp" "$room/printed" || fail 'install names no program'
     (cd "$dest$prefix" && find . -type f | LC_ALL=C sort) >"$room/files"
-    for file in bin/vp share/man/man1/vp.1 share/vp/font-a.pbm share/vp/font-b.pbm lib/vp/job lib/vp/paper.py \
+    for file in bin/vp share/man/man1/vp.1 share/vp/font-a.pbm share/vp/font-b.pbm lib/vp/job lib/vp/paper \
         share/doc/vp/LICENSE-MIT share/doc/vp/LICENSE-APACHE share/doc/vp/NOTICE share/doc/vp/CHANGELOG.md; do
         grep -qx "./$file" "$room/files" || fail "$file isn't installed"
     done
     ! grep '/tests/\|testing\|\.new$' "$room/files" || fail 'what only serves tests is installed'
     (cd "$dest$prefix/share/vp" && env -i ../../bin/vp receipt --font-a font-a.pbm --font-b font-b.pbm) \
         <"$root/examples/receipt.bin" >"$room/receipt.pbm"
-    (cd "$room" && env -i PATH="$PATH" "$dest$prefix/lib/vp/paper.py" receipt.png) <"$room/receipt.pbm"
+    (cd "$room" && env -i PATH="$PATH" "$dest$prefix/lib/vp/paper" receipt.png) <"$room/receipt.pbm"
     cmp "$room/receipt.png" "$root/docs/receipt.png"
     # a file of an earlier version goes with the next install
     echo old >"$dest$prefix/lib/vp/old"
@@ -143,15 +143,15 @@ done
 
 # the Debian package
 mkdir deb again
-is 0 'the package' "$root/tools/deb.py" deb
-is 0 'the package once more' "$root/tools/deb.py" again
+is 0 'the package' "$root/tools/packages/deb.py" deb
+is 0 'the package once more' "$root/tools/packages/deb.py" again
 deb=$(ls deb/*.deb)
 cmp "$deb" "again/${deb#deb/}" || fail 'the package is made of other bytes'
 [ "$deb" = "deb/vp_$("$program" --version | cut -d ' ' -f 2)_amd64.deb" ] || fail "the package is $deb"
 version=$("$program" --version | cut -d ' ' -f 2)
 grep -q "^## $version," "$root/CHANGELOG.md" || fail "CHANGELOG.md lacks $version"
-is 2 'two folders' "$root/tools/deb.py" deb again
-is 3 'a folder that is a file' "$root/tools/deb.py" order.bin
+is 2 'two folders' "$root/tools/packages/deb.py" deb again
+is 3 'a folder that is a file' "$root/tools/packages/deb.py" order.bin
 if has dpkg-deb 'what the package holds'; then
     # into an empty root, run there, and taken away
     mkdir empty
@@ -160,7 +160,7 @@ if has dpkg-deb 'what the package holds'; then
         "$root/examples/receipt.bin" | cmp - receipt.pbm
     dpkg-deb -e "$deb" head
     (cd empty && md5sum --quiet -c ../head/md5sums) || fail 'a sum of the package is wrong'
-    needed=$("$root/tools/needs.py" "$program")
+    needed=$("$root/tools/dist/needs.py" "$program")
     grep -q "^Depends: libc6 (>= $needed)" head/control || fail 'the package needs another libc6'
     echo 'what the package holds: ok'
 fi

@@ -3,7 +3,7 @@
 # toolchain that proves nothing and makes of other sources another program. Nothing is proved.
 set -eu
 export LC_ALL=C
-root=$(dirname "$(realpath "$0")")
+root=$(dirname "$(dirname "$(realpath "$0")")")
 program=$root/crates/program/vp_cli/out/vp_cli
 [ -x "$program" ] || program=$root/dist/vp
 if ! "$program" --version >/dev/null 2>&1; then
@@ -15,7 +15,7 @@ trap 'rm -rf "$room"' EXIT
 unset CI
 
 fail() {
-    echo "test-dist: $1" >&2
+    echo "checks/dist: $1" >&2
     [ ! -s "$room/said" ] || cat "$room/said" >&2
     exit 1
 }
@@ -74,9 +74,7 @@ tree=$room/tree
 mkdir -p "$tree/tools" "$tree/crates/drawing/vp_dots/src" "$tree/crates/drawing/vp_dots/proofs/dot" \
     "$tree/crates/program/vp_cli/src" "$tree/crates/tests/vp_tests/src"
 cp "$root/vp" "$root/build" "$tree"
-for tool in dist.sh build.py gate.py needs.py made-from check-dist; do
-    cp "$root/tools/$tool" "$tree/tools"
-done
+cp -R "$root/tools/dist" "$root/tools/gate" "$tree/tools"
 cat >"$tree/crates.txt" <<'END'
 # drawing
 drawing/vp_dots: hex
@@ -91,8 +89,8 @@ dots=$tree/crates/drawing/vp_dots/src/lib.rt
 cd "$room"
 vp() { PATH=$1 "$tree/vp" --version; }
 build() { path=$1 && shift && PATH=$path "$tree/build" "$@"; }
-gate() { (cd "$tree" && PATH=$with python3 tools/gate.py); }
-check() { PATH=$with "$tree/tools/check-dist" >&2; }
+gate() { (cd "$tree" && PATH=$with python3 tools/gate/gate.py); }
+check() { PATH=$with "$tree/tools/dist/check" >&2; }
 
 is 0 'the gate on a tree without dist/' check
 says 'no program is kept there'

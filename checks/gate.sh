@@ -3,7 +3,7 @@
 # breaks nothing isn't taken for refused where it is tried beside one of the function that it calls. Edits are tried by
 # rounds: an rt that lacks what these stand on, with which each would be tried alone, is told.
 set -eu
-gate=$(dirname "$(realpath "$0")")/tools/gate.py
+gate=$(dirname "$(dirname "$(realpath "$0")")")/tools/gate/gate.py
 room=$(mktemp -d)
 trap 'rm -rf "$room"' EXIT
 mkdir -p "$room/crates/one/src" "$room/crates/one/must-fail"
@@ -42,7 +42,7 @@ status=0
 "$gate" >said 2>&1 || status=$?
 says() {
     grep -q "$1" said || {
-        echo "test-gate: nothing said of: $1" >&2
+        echo "checks/gate: nothing said of: $1" >&2
         cat said >&2
         exit 1
     }

@@ -1,5 +1,4 @@
-#!/usr/bin/env python3
-"""Makes a glyph sheet for vp of a bitmap font: sheet.py FONT [--font a|b] [--table CODEC] [--blank] > sheet.pbm
+"""Makes a glyph sheet for vp of a bitmap font: sheet FONT [--font a|b] [--table CODEC] [--blank] > sheet.pbm
 
 FONT is BDF, PCF, PSF or Unifont's .hex, as it is or packed by gzip. CODEC is the table that says which character a
 byte is, by Python's name for it: cp437 (the default), cp850, cp858, cp1252, latin1, iso8859-15, koi8-r and so on.
@@ -13,8 +12,8 @@ import struct
 import sys
 import unicodedata
 from collections import namedtuple
-sys.dont_write_bytecode = True
-from streams import BLANKS, CELLS, framed  # noqa: E402
+
+from .sheets import BLANKS, CELLS, framed
 
 # A bitmap of `width` dots a row, the leftmost highest, that begins `left` of the pen and `top` below the line's top.
 Glyph = namedtuple('Glyph', 'advance left top width rows')
@@ -192,7 +191,7 @@ def main():
     try:
         font, chars = read(given.font_file), list(wanted(given.table))
     except (OSError, ValueError, KeyError, IndexError, LookupError, struct.error) as error:
-        sys.exit(f'sheet.py: {given.font_file}: {getattr(error, "strerror", None) or error}')
+        sys.exit(f'sheet: {given.font_file}: {getattr(error, "strerror", None) or error}')
     say = lambda text: print(text, file=sys.stderr)
     size = CELLS[given.font]
     by_number = not any(isinstance(it, str) for it in font.glyphs)
@@ -220,7 +219,3 @@ def main():
                 row = row << size[0] | cells.get(16 * line + column, [0] * size[1])[y]
             out += row.to_bytes(2 * size[0], 'big')
     sys.stdout.buffer.write(out)
-
-
-if __name__ == '__main__':
-    main()

@@ -1,9 +1,9 @@
 #!/usr/bin/env python3
 """How long each crate's proof, tests and must-fail edits take.
 
-  tools/minutes.py LOG COMMAND..      runs a command of rt (as: rt must-fail vp_page), or the gate (tools/gate.py), and
+  tools/gate/minutes.py LOG COMMAND..      runs a command of rt (as: rt must-fail vp_page), or the gate (tools/gate/gate.py), and
                                       keeps what it says in LOG; then the table
-  tools/minutes.py LOG                the table of a log that was kept
+  tools/gate/minutes.py LOG                the table of a log that was kept
 
 rt says no times. So the run is watched: each line is stamped with the seconds since the start, and each check that
 ends is noted with its crate, its kind, and its seconds by the clock and of the processors. Linux only (/proc).

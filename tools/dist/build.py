@@ -15,7 +15,7 @@ import subprocess
 import sys
 import time
 
-ROOT = os.path.dirname(os.path.dirname(os.path.realpath(__file__)))
+ROOT = os.path.dirname(os.path.dirname(os.path.dirname(os.path.realpath(__file__))))
 PROGRAM = "program/vp_cli"
 OUT = f"{ROOT}/out"
 PARTS = ("src", "specs", "proofs")
@@ -291,7 +291,7 @@ class Build:
 def tell_made_from(program):
     """Writes beside the program what it was made from, and returns 0."""
     built = program.built()[0]
-    told = subprocess.run([f"{ROOT}/tools/made-from", built], capture_output=True, check=True).stdout
+    told = subprocess.run([f"{ROOT}/tools/dist/made-from", built], capture_output=True, check=True).stdout
     with open(f"{os.path.dirname(built)}/made-from", "wb") as it:
         it.write(told)
     return 0

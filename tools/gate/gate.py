@@ -19,7 +19,7 @@ import sys
 import tempfile
 
 PROGRAM = "crates/program/vp_cli/out/vp_cli"
-TOOLS = os.path.dirname(os.path.realpath(__file__))
+TOOLS = os.path.dirname(os.path.dirname(os.path.realpath(__file__)))
 FUNCTION = re.compile(r"( *)(?:pub(?:\([^)]*\))? )?(?:const )?fn (\w+)")
 # What has methods: a trait, or a type, maybe with the trait that it is given there.
 OWNER = re.compile(r"(?:pub )?trait (?P<of>\w+)|impl(?:<.*?>)? (?:(?P<trait>\w+)(?:<.*?>)? for &?)?(?P<type>\w+)")
@@ -209,7 +209,7 @@ def side_by_side(root, room):
 
 def sources(root):
     """Returns the sum of what the program is made from, as the repository stands."""
-    told = ["sh", "-c", 'root=$1 && . "$2/dist.sh" && sources', "sh", root, TOOLS]
+    told = ["sh", "-c", 'root=$1 && . "$2/dist/dist.sh" && sources', "sh", root, TOOLS]
     return subprocess.run(told, capture_output=True, check=True).stdout
 
 
@@ -222,7 +222,7 @@ def bring_back(made, to):
 def tell_made_from(program):
     """Writes beside the program what it was made from."""
     with open(f"{os.path.dirname(program)}/made-from", "wb") as it:
-        subprocess.run([f"{TOOLS}/made-from", program], stdout=it, check=True)
+        subprocess.run([f"{TOOLS}/dist/made-from", program], stdout=it, check=True)
 
 
 def by_rounds(rt):

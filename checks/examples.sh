@@ -1,17 +1,17 @@
 #!/bin/sh
 # Prints each stream of examples/ and compares all bytes with those that were accepted: examples/SHA256SUMS has the
-# sums of the images, docs/ has pictures of them. After a change that is meant, ./test-examples.sh accept writes both
+# sums of the images, docs/ has pictures of them. After a change that is meant, ./checks/examples.sh accept writes both
 # anew: look at the pictures.
 set -eu
 export LC_ALL=C
-cd "$(dirname "$0")"
+cd "$(dirname "$0")/.."
 vp=${VP:-$PWD/crates/program/vp_cli/out/vp_cli}
-[ -x "$vp" ] || vp=$(tools/program)
+[ -x "$vp" ] || vp=$(tools/dist/program)
 scratch=$(mktemp -d)
 trap 'rm -rf "$scratch"' EXIT
 
 fail() {
-    echo "test-examples: $1" >&2
+    echo "checks/examples: $1" >&2
     exit 1
 }
 
@@ -39,7 +39,7 @@ for picture in docs/*.png; do
     [ "$picture" != docs/viewer.png ] || continue
     name=${picture#docs/}
     printed=$(ls "$scratch/printed/${name%.png}".*.pbm)
-    if [ "${1:-}" = accept ]; then recipes/paper.py "$picture" <"$printed"; fi
+    if [ "${1:-}" = accept ]; then recipes/paper "$picture" <"$printed"; fi
     python3 recipes/tests/testing.py same "$picture" "$printed"
 done
 echo 'examples: ok'

@@ -1,0 +1,121 @@
+"""Prints each stream to PNGs, and says what its paper doesn't show: show [--open] FILE..
+
+Of a receipt FILE.bin it writes FILE.png into this folder (--to another), of labels FILE-1.png, FILE-2.png and so on.
+It says the language, which it guesses, the fault, what was skipped, and which bytes have no character in the sheets.
+"""
+import argparse
+import os
+import pathlib
+import re
+import shutil
+import subprocess
+import sys
+import tempfile
+
+from .images import write
+from .program import Fault, find_vp, read, times
+from .sheets import chosen, without_cell
+from .streams import LANGUAGES, guess, listing, named, skipped, table
+
+MOST = 100
+
+
+def printed(data, words, name, each):
+    """Prints a stream to PNGs: their names, whether these are all, vp's line and status."""
+    with tempfile.TemporaryFile() as stream, tempfile.TemporaryFile() as said:
+        stream.write(data)
+        stream.seek(0)
+        try:
+            vp = subprocess.Popen([*find_vp(), *words], stdin=stream, stdout=subprocess.PIPE, stderr=said)
+        except OSError as error:
+            raise Fault(f'cannot run {find_vp()[0]}: {error.strerror}', 2) from None
+        with vp:
+            try:
+                made, is_all = write(vp.stdout, name, each, 8, MOST)
+            finally:
+                vp.stdout.close()
+            status = vp.wait() if is_all else 0
+        said.seek(0)
+        return made, is_all, said.read().decode(errors='replace').strip() if is_all else '', status
+
+
+def show(file, stem, given):
+    data = read(file)
+    language = given.lang or guess(data)
+    sheet = chosen(language, given.font_a, given.font_b)
+    say = lambda text: print(f'{file}: {text}')
+    made, is_all, line, status = printed(data, [language, *sheet], str(given.to / f'{stem}.png'), language == 'label')
+    names = f'{made[0]} to {made[-1]}' if len(made) > 1 else made[0] if made else 'nothing is printed'
+    say(f'{language}{"" if given.lang else " (guessed)"}: {names}')
+    if not is_all:
+        say(f'only the first {MOST} images are shown')
+    if line:
+        say(line)
+    if status < 2:
+        items, _ = listing(data, language, dots=False)
+        known, counts = table(), {}
+        for n, command in skipped(items, language):
+            counts[command] = counts.get(command, 0) + 1
+        for command, count in counts.items():
+            shows, what = known.get((language, command), (True, 'is no command that is known'))
+            say(f'skipped {times(count)}: {named(command, command)} {what}')
+        lacks = without_cell(items, language, sheet)
+        if lacks and not sheet:
+            say('there is no glyph sheet: characters are white')
+        elif lacks:
+            counts = {}
+            for (_, byte), (count, _) in lacks.items():
+                counts[byte] = counts.get(byte, 0) + count
+            found = ', '.join(f'{byte:02X} {times(count)}' for byte, count in sorted(counts.items()))
+            say(f'bytes without a character in the sheet: {found}')
+    return made, status
+
+
+def clashes(names):
+    """Those of the names whose PNGs may be called as another's, as order-2's and the second of order."""
+    numbered = {it: re.sub(r'-\d+$', '', it) for it in names}
+    return {it for n, it in enumerate(names) for other in names[:n] + names[n + 1:]
+            if it in (other, numbered[other]) or other == numbered[it]}
+
+
+def stems(files):
+    """What the PNGs of each file are called: its name without its end, with it where two would clash."""
+    names = [os.path.basename(it) if it != '-' else 'stdin' for it in files]
+    short = [os.path.splitext(it)[0] for it in names]
+    clashing = clashes(short)
+    found = [name if stem in clashing else stem for name, stem in zip(names, short)]
+    clashing = clashes(found)
+    if clashing:
+        both = [file for file, it in zip(files, found) if it in clashing]
+        raise Fault(f'the PNGs of {both[0]} and {both[1]} have one name: show them into two folders', 2)
+    return found
+
+
+def main():
+    words = argparse.ArgumentParser(description=__doc__, formatter_class=argparse.RawDescriptionHelpFormatter)
+    words.add_argument('files', metavar='FILE', nargs='*', default=['-'], help='a stream; without one, standard input')
+    words.add_argument('--lang', choices=LANGUAGES, help='the language, not guessed')
+    words.add_argument('--font-a', metavar='SHEET', help='the sheet of font A, in place of the shipped one')
+    words.add_argument('--font-b', metavar='SHEET', help='the sheet of font B')
+    words.add_argument('--to', type=pathlib.Path, default=pathlib.Path(), metavar='FOLDER', help='where the PNGs go')
+    words.add_argument('--open', action='store_true', help='shows them, by xdg-open')
+    given = words.parse_args()
+    last, made = 0, []
+    for file, stem in zip(given.files, stems(given.files)):
+        try:
+            names, status = show(file, stem, given)
+            made += names
+        except Fault as fault:
+            print(f'show: {fault}', file=sys.stderr)
+            status = fault.status
+        except OSError as error:
+            print(f'show: {error.filename or file}: {error.strerror}', file=sys.stderr)
+            status = 3
+        last = max(last, status)
+    if given.open and made:
+        if shutil.which('xdg-open'):
+            for name in made:
+                subprocess.run(['xdg-open', name], check=False)
+        else:
+            print('show: xdg-open is not installed', file=sys.stderr)
+    return last

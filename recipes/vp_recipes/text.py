@@ -1,0 +1,77 @@
+"""Says the text of streams: text [--lang LANGUAGE] [--table CODEC] FILE..
+
+Of a receipt its lines of characters, of labels the data of each field on a line of its own, with an empty line between
+labels. CODEC is the table that says which character a byte is, by Python's name for it: cp437 is the default of
+receipts, utf-8 that of labels.
+"""
+import argparse
+import codecs
+import re
+import sys
+
+from .labels import labels
+from .program import Fault, read
+from .streams import LANGUAGES, guess, listing
+
+# What puts what follows at another height: anywhere, in standard mode, on a page.
+ANYWHERE = re.compile(r'LF|esc (4a|64)|gs 6b|gs 28 6b 03 00 31 51 30|gs 76 30 [03][0-3] (?!00 00).. .. (?!00 00)')
+STANDARD = re.compile('esc (69|6d)|gs 56')
+PAGE = re.compile('FF|CAN|esc (0c|53|54|57)|gs (24|5c)')
+
+
+def receipt(items):
+    """The lines of a receipt's characters. A tab is one; a line that is open at the end counts, one that ESC @ drops
+    doesn't."""
+    line, on_page = bytearray(), False
+    for _, text in items:
+        if text.startswith('char '):
+            line.append(int(text[5:], 16))
+        elif text == 'HT':
+            line += b'\t'
+        elif text == 'esc 40':
+            line.clear()
+        elif ANYWHERE.match(text) or (PAGE if on_page else STANDARD).match(text):
+            if line or text == 'LF':
+                yield bytes(line)
+            line.clear()
+        on_page = text not in ('esc 40', 'esc 53', 'FF') and (on_page or text == 'esc 4c' and not line)
+    if line:
+        yield bytes(line)
+
+
+def label(items):
+    """The data of the fields of labels, a line each, and an empty line between two labels."""
+    for n, (_, closed) in enumerate(labels(items)):
+        if n:
+            yield b''
+        for field in closed:
+            if field['content'] == '^FD':
+                yield bytes(byte for _, byte in field['bytes'])
+
+
+def main():
+    words = argparse.ArgumentParser(description=__doc__, formatter_class=argparse.RawDescriptionHelpFormatter)
+    words.add_argument('files', metavar='FILE', nargs='*', default=['-'], help='a stream; without one, standard input')
+    words.add_argument('--lang', choices=LANGUAGES, help='the language, not guessed')
+    words.add_argument('--table', metavar='CODEC', help='which character a byte is')
+    given = words.parse_args()
+    last = 0
+    sys.stdout.reconfigure(encoding='utf-8')
+    for file in given.files:
+        try:
+            data = read(file)
+            language = given.lang or guess(data)
+            items, fault = listing(data, language, dots=False)
+            table = given.table or {'receipt': 'cp437', 'label': 'utf-8'}[language]
+            for line in {'receipt': receipt, 'label': label}[language](items):
+                print(codecs.decode(line, table, 'replace'))
+            if fault:
+                print(fault, file=sys.stderr)
+                last = max(last, 1)
+        except Fault as fault:
+            print(f'text: {fault}', file=sys.stderr)
+            last = max(last, fault.status)
+        except LookupError as error:
+            print(f'text: {error}', file=sys.stderr)
+            return 2
+    return last
