@@ -16,6 +16,7 @@ timed() {
     echo "$*: $(($(date +%s) - started)) s"
 }
 timed ./checks/evidence.py
+timed ./checks/pages.py
 tools/gate/minutes.py out/gate.log tools/gate/gate.py || {
     # behind the table of minutes, once more what failed
     sed -n 's/^ *[0-9.]* | \(rt: FAILED.*\)/\1/p' out/gate.log
