@@ -21,7 +21,7 @@ is() {
 }
 
 mkdir "$room/ours"
-is 0 "$root/tools/vendoring/take" "$room/ours" "$example"
+is 0 "$root/tools/vendoring/take" --edits "$room/ours" "$example"
 [ "$(tail -n 1 "$room/printed")" = "$example" ] || fail 'the example is not the last crate that is taken'
 (cd "$room/ours" && find . -type f | sort) >"$room/files"
 ! grep -q '/out/' "$room/files" || fail 'what rt keeps is taken'
@@ -44,6 +44,7 @@ is 0 "$root/tools/vendoring/take" "$room/theirs"
 [ "$(head -n 1 "$room/theirs/crates.txt")" = own: ] || fail 'a line of theirs is gone'
 grep -q '^printing/vp_engine: ' "$room/theirs/crates.txt" || fail 'vp_engine is not taken where no crate is named'
 grep -q Wait "$room/theirs/HANDLES" || fail 'their HANDLES is another'
+[ -z "$(find "$room/theirs" -name '*.edit')" ] || fail 'edits are taken that nobody asked for'
 
 # what is there stays
 (cd "$room/theirs" && find . -type f -exec sha256sum {} + | sort) >"$room/before"
@@ -51,6 +52,7 @@ is 3 "$root/tools/vendoring/take" "$room/theirs"
 (cd "$room/theirs" && find . -type f -exec sha256sum {} + | sort) >"$room/after"
 cmp "$room/before" "$room/after"
 is 2 "$root/tools/vendoring/take"
+is 2 "$root/tools/vendoring/take" --edits
 is 2 "$root/tools/vendoring/take" "$room/none" printing/vp_none
 [ ! -e "$room/none" ] || fail 'a folder is made for a crate that is none'
 touch "$room/file"
