@@ -13,6 +13,8 @@ fi
 room=$(mktemp -d)
 trap 'rm -rf "$room"' EXIT
 unset CI
+# (another user is to reach it)
+chmod 755 "$room"
 
 fail() {
     echo "checks/dist: $1" >&2
@@ -63,7 +65,7 @@ def main(words):
 END
 chmod +x "$kit/bin"/*
 for tool in sh env find sort xargs sha256sum cut sed awk cat dirname basename readlink wc head od tr mkdir \
-    rm mv cp cmp chmod stat tail ls grep sleep date id uname; do
+    rm mv cp cmp chmod stat tail ls grep sleep date id uname mktemp; do
     ln -s "$(command -v "$tool")" "$bin/$tool"
 done
 ln -s "$(python3 -c 'import sys; print(sys.executable)')" "$bin/python3"
@@ -144,6 +146,130 @@ done
 is 0 'an install of the program that is kept' env PATH="$alone" "$tree/install" "$room/prefix"
 cmp "$room/prefix/bin/vp" "$kept/vp"
 echo 'a clone without a toolchain: ok'
+
+# called by many at once, by another user, through a link, from a folder of any name
+one() {
+    is 0 "$1" vp "$alone"
+    prints "$1"
+    silent "$1"
+}
+# many WHAT: 24 calls at once, of which each prints the version and says nothing
+many() {
+    mkdir "$room/many"
+    for nth in $(seq 24); do
+        { vp "$alone" >"$room/many/$nth" 2>&1 || echo "status $?" >>"$room/many/$nth"; } &
+    done
+    wait
+    for nth in $(seq 24); do
+        "$program" --version | cmp -s - "$room/many/$nth" || { cat "$room/many/$nth" >&2; fail "$1"; }
+    done
+    rm -r "$room/many"
+}
+for nth in 1 2 3; do
+    rm -rf "$tree/out"
+    many "24 first calls at once, $nth"
+    [ "$(ls "$tree/out")" = "$(printf 'seen\nseen.list')" ] || fail "calls leave other files: $(ls "$tree/out")"
+done
+mkdir "$tree/out/look.other"
+touch "$dots"
+one 'beside the look of another'
+[ -d "$tree/out/look.other" ] || fail "the look of another is taken away"
+rm -r "$tree/out/look.other"
+
+# as another user where root tries this, and else as one who may not write
+setpriv=$(command -v setpriv) || setpriv=
+if [ "$(id -u)" != 0 ]; then
+    other() { "$@"; }
+elif [ -n "$setpriv" ]; then
+    other() { "$setpriv" --reuid 65534 --regid 65534 --clear-groups "$@"; }
+else
+    other=
+fi
+if [ -n "${other-other}" ]; then
+    as_other() { other env PATH="$1" "$tree/vp" --version; }
+    # (root's own Python may be closed to others)
+    runs_python() { other env PATH="$alone" sh -c 'python3 -c ""' 2>/dev/null; }
+    runs_python || ln -sf /usr/bin/python3 "$bin/python3"
+    no_build() {
+        runs_python || return 0
+        is 125 "$1" as_other "$with"
+        says "^vp: no build would help: $2"
+    }
+    touch "$dots"
+    chmod a-w "$tree/out"
+    is 0 'where out/ is old and cannot be written' as_other "$alone"
+    prints 'where out/ is old and cannot be written'
+    silent 'where out/ is old and cannot be written'
+    echo squares >"$dots"
+    no_build 'other sources, and no right to write' "$tree/out can't be written: Permission denied"
+    chmod u+w "$tree/out"
+    chmod a+w "$tree/out"
+    chmod 0 "$dots"
+    no_build 'a source that cannot be read' "$dots can't be read"
+    chmod 644 "$dots"
+    echo dots >"$dots"
+    rm -rf "$tree/out"
+    (umask 077 && vp "$alone" >/dev/null)
+    is 0 "where another's out/ is closed" as_other "$alone"
+    prints "where another's out/ is closed"
+    silent "where another's out/ is closed"
+    rm -rf "$tree/out"
+fi
+
+# a disk that is full, that can't be written, that has no exec rights
+full() (ulimit -f 0 && { vp "$alone" 2>&1 || echo "status $?"; } | cat)
+full | cmp - "$room/printed" || fail 'where nothing can be written'
+[ -z "$(ls "$tree/out")" ] || fail 'what is no whole file stays'
+mkdir "$room/disk"
+apart=
+for way in 'unshare -m' 'unshare -rm'; do
+    # shellcheck disable=SC2086
+    if $way mount -t tmpfs none "$room/disk" 2>/dev/null; then apart=$way; fi
+done
+# on_disk EXPECTED WHAT COMMANDS: what ./vp does on a disk of its own that these have changed
+on_disk() {
+    # shellcheck disable=SC2016,SC2086
+    is "$1" "$2" $apart sh -euc 'mount -t tmpfs -o size=16m none "$1" && cp -R "$2/." "$1" && cd "$1"
+        eval "$3" && PATH=$4 && exec sh ./vp --version' sh "$room/disk" "$tree" "$3" "$with"
+}
+if [ -n "$apart" ]; then
+    on_disk 0 'a full disk' 'cat /dev/zero 2>/dev/null >fill || true'
+    prints 'a full disk'
+    silent 'a full disk'
+    on_disk 0 'a disk that cannot be written' 'mkdir -p out && : >out/seen && mount -o remount,ro none .'
+    prints 'a disk that cannot be written'
+    silent 'a disk that cannot be written'
+    on_disk 125 'a disk without exec rights' 'mount -o remount,noexec none .'
+    says "^vp: no build would help: no program may be run in $room/disk\$"
+else
+    echo 'not tested: ./vp on a full disk and the like: nothing may be mounted here'
+fi
+
+ln -s ../tree/vp "$bin/linked"
+ln -s "$bin/linked" "$room/a link"
+(PATH=$alone && linked --version && "$room/a link" --version && cd "$room" && sh 'a link' --version) \
+    >"$room/printed"
+[ "$(sort -u "$room/printed")" = "$("$program" --version)" ] && [ "$(wc -l <"$room/printed")" = 3 ] ||
+    fail 'through a link'
+rm "$bin/linked"
+tree_was=$tree
+cd "$room"
+for name in 'a blank' -dash "quo'te\"s" '$(touch pwned)' 'back\slash' 'a=b' '*' '%s' "$(printf 'line\nend')" \
+    "$(printf 'end\n.')"; do
+    tree=$room/${name%.}
+    mv "$tree_was" "$tree"
+    one "in a folder whose name is '$name'"
+    (cd "$tree" && PATH=$alone sh vp --version >/dev/null) || fail "sh vp in '$name'"
+    mv "$tree" "$tree_was"
+done
+[ ! -e "$room/pwned" ] && [ ! -e "$tree_was/pwned" ] || fail 'a name was run'
+tree=$room/$(printf 'caf\351')
+mv "$tree_was" "$tree"
+is 125 "in a folder whose name isn't UTF-8" vp "$with"
+says "^vp: no build would help: the name of this folder isn't UTF-8"
+mv "$tree" "$tree_was"
+tree=$tree_was
+echo 'calls beside others, and from anywhere: ok'
 
 # a source that changed is never missed
 was="$room/was"

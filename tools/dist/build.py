@@ -13,6 +13,7 @@ import shutil
 import signal
 import subprocess
 import sys
+import tempfile
 import time
 
 ROOT = os.path.dirname(os.path.dirname(os.path.dirname(os.path.realpath(__file__))))
@@ -301,10 +302,36 @@ def stop(signum, frame):
     raise KeyboardInterrupt
 
 
+def no_help():
+    """Returns why no program that is built here could be run, if there is a reason."""
+    try:
+        os.fsencode(ROOT).decode()
+        os.makedirs(OUT, exist_ok=True)
+        with tempfile.NamedTemporaryFile(dir=OUT) as it:
+            it.write(b"#!/bin/sh\n")
+            it.flush()
+            os.chmod(it.name, 0o755)
+            if not os.access(it.name, os.X_OK):
+                return f"no program may be run in {ROOT}"
+        for at, folders, files in os.walk(f"{ROOT}/crates"):
+            for name in [*folders, *files]:
+                if not os.access(f"{at}/{name}", os.R_OK):
+                    return f"{at}/{name} can't be read"
+        return None
+    except UnicodeDecodeError:
+        return "the name of this folder isn't UTF-8, and the program takes no other"
+    except OSError as fault:
+        return f"{OUT} can't be written: {fault.strerror}"
+
+
 def main():
     rt = shutil.which("rt")
     if sys.argv[1:] and sys.argv[1]:
         print(f"vp: {sys.argv[1]}", file=sys.stderr, flush=True)
+    why = no_help()
+    if why:
+        print(f"vp: no build would help: {why}", file=sys.stderr, flush=True)
+        return 1
     if not rt:
         print("vp: the Rattle toolchain's command rt is not on the path", file=sys.stderr)
         return 1
@@ -335,4 +362,7 @@ if __name__ == "__main__":
         sys.exit(main())
     except KeyboardInterrupt:
         print("vp: the build was broken off; the next one goes on from there", file=sys.stderr)
+        sys.exit(1)
+    except OSError as fault:
+        print(f"vp: {fault.filename or fault}: {fault.strerror}", file=sys.stderr)
         sys.exit(1)

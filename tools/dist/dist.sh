@@ -88,64 +88,90 @@ is_built() {
     [ -z "$here" ] || [ "$here" = "$(told toolchain "$made")" ]
 }
 
-# seen: in what a change shows, of each file and folder of out/seen.list: when it was last changed, its place
-# on the disk and its size
-seen() (cd "$root" && xargs -0 stat -c '%.9Z %i %s %n' <"${1:-out/seen.list}" 2>/dev/null)
+# seen [LIST]: in what a change shows, of each file and folder of out/seen.list, or of another list: when it was
+# last changed, its place on the disk and its size
+seen() (
+    export LC_ALL=C
+    { cd "$root" && xargs -0 stat -c '%.9Z %i %s %n' <"${1:-out/seen.list}"; } 2>/dev/null
+)
 
 # look, keep WORD: what is seen of all that sums are taken of, before they are, and kept, with the word for
-# the program that they showed to be current. It is kept only where all was last changed before the look
-# began, by the clock of this file system: a later change has another time, and in a folder so has what comes
-# and goes. What a link leads to isn't seen.
+# the program that they showed to be current, and where that is. It is kept only where all was last changed
+# before the look began, by the clock of this file system: a later change has another time, and in a folder so
+# has what comes and goes. What a link leads to isn't seen. Each look has a folder of its own, which drop takes
+# away; where it can't be written or kept nothing is said, and the next call takes the sums again.
+at=
 look() {
-    at=$root/out/look.$$
-    rm -f "$root"/out/look.*
-    { mkdir -p "$root/out" && : >"$at"; } 2>/dev/null || return 0
-    (
-        cd "$root" || exit
-        for place in $(lines | sed 's/:.*//'); do
-            printf '%s\0' "crates/$place"
-            for part in src specs proofs; do
-                [ ! -e "crates/$place/$part" ] || find "crates/$place/$part" -print0
-            done
-        done
-        find crates.txt dist "${built#"$root"/}" "${built%/*}/made-from" -print0 2>/dev/null
-        readlink -z -f -- "$(command -v rt)" || true
-    ) >"$at.list"
-    seen "$at.list" >"$at.seen" || rm -f "$at" "$at".*
+    at=$({ mkdir -p "$root/out" && mktemp -d "$root/out/look.XXXXXX"; } 2>/dev/null) || at=
+    [ -n "$at" ] || return 0
+    # (a limit on files' size ends the shell that writes, and another says so)
+    ( (echo >"$at/began" && listed >"$at/list" && seen "$at/list" >"$at/seen") || exit) 2>/dev/null || drop
 }
+# listed: the names of all that is looked at
+listed() (
+    cd "$root" && places=$(lines | sed 's/:.*//') && [ -n "$places" ] || exit
+    for place in $places; do
+        printf '%s\0' "crates/$place" || exit
+        for part in src specs proofs; do
+            [ ! -e "crates/$place/$part" ] || find "crates/$place/$part" -print0 || exit
+        done
+    done
+    folder=${built%/*}
+    for file in crates.txt dist "${built#"$root"/}" "${folder#"$root"/}/made-from"; do
+        [ ! -e "$file" ] || find "$file" -print0 || exit
+    done
+    rt=$(command -v rt) || exit 0
+    readlink -z -f -- "$rt"
+)
 keep() {
-    at=$root/out/look.$$
-    [ -s "$at.seen" ] || return 0
-    # when the last change was, what kinds of files there are, and on which disks but for the toolchain's
-    last=$(cut -d ' ' -f 1 "$at.seen" | LC_ALL=C sort | tail -n 1)
-    kinds=$(cd "$root" && grep -zv '^/' "$at.list" | xargs -0 stat -c '%d %F' | sort -u)
-    began=$(stat -c '%.9Z' "$at")
-    first=$(printf '%s\n' "$last" "$began" | LC_ALL=C sort | head -n 1)
-    if [ "$last" != "$began" ] && [ "$first" = "$last" ] && ! echo "$kinds" | grep -q ' symbolic' &&
-        [ "$(echo "$kinds" | cut -d ' ' -f 1 | sort -u | wc -l)" = 1 ]; then
-        { echo "$1 $(command -v rt)"; cat "$at.seen"; } >"$at"
-        mv -f "$at.list" "$root/out/seen.list" && mv -f "$at" "$root/out/seen"
-    fi
-    rm -f "$at" "$at".*
+    [ -n "$at" ] || return 0
+    ( (was_before && printf '%s\n' "$1 $(command -v rt)" "$root" | cat - "$at/seen" >"$at/new" &&
+        mv -fT "$at/list" "$root/out/seen.list" &&
+        mv -fT "$at/new" "$root/out/seen") || exit) 2>/dev/null || true
+    drop
+}
+# was_before: whether all that is seen was last changed before the look began, on one disk, and none is a link
+was_before() (
+    export LC_ALL=C
+    cd "$root" || exit
+    last=$(cut -d ' ' -f 1 "$at/seen" | sort | tail -n 1)
+    # what kinds of files there are, and on which disks, but for the toolchain's
+    kinds=$({ grep -zv '^/' "$at/list" && printf '%s\0' "$at/began"; } | xargs -0 stat -c '%d %F') || exit
+    began=$(stat -c '%.9Z' "$at/began")
+    first=$(printf '%s\n' "$last" "$began" | sort | head -n 1)
+    [ "$last" != "$began" ] && [ "$first" = "$last" ] && ! echo "$kinds" | grep -q ' symbolic' &&
+        [ "$(echo "$kinds" | cut -d ' ' -f 1 | sort -u | wc -l)" = 1 ]
+)
+drop() {
+    [ -z "$at" ] || rm -rf "$at" 2>/dev/null || true
+    at=
 }
 
 # is_seen: whether nothing changed since a program was shown to be current; sets run to it
 is_seen() {
-    { [ -r "$root/out/seen" ] && read -r word with <"$root/out/seen"; } || return 1
+    { [ -r "$root/out/seen" ] && read -r word with <"$root/out/seen"; } 2>/dev/null || return 1
     case $word in
     dist) run=$dist/vp ;;
     built) run=$built && [ "$with" = "$(command -v rt)" ] || return 1 ;;
     *) return 1 ;;
     esac
-    { echo "$word $with" && seen; } | cmp -s - "$root/out/seen"
+    [ -x "$run" ] && { printf '%s\n' "$word $with" "$root" && seen; } | cmp -s - "$root/out/seen" 2>/dev/null
 }
 
 # find_program: sets run to the program of the sources as they stand: that of dist/, or the one that was
 # built, or else it is built now; status 125 where that doesn't go well
 find_program() {
     is_seen && return 0
+    trap 'drop; exit 130' HUP INT TERM
+    find_anew
+    found=$?
+    drop
+    trap - HUP INT TERM
+    return "$found"
+}
+find_anew() {
     look
-    now=$(sources) why=
+    now=$(sources 2>/dev/null) why=
     if [ -e "$dist/vp" ] || [ -e "$dist/made-from" ]; then
         why=$(fault)
         [ -n "$why" ] || [ "$now" = "$(told sources)" ] || why='dist/vp is made from other sources than these'
@@ -158,6 +184,7 @@ find_program() {
     fi
     run=$built
     if ! is_built "$now"; then
+        drop
         python3 "$root/tools/dist/build.py" "$why" || return 125
         look
         is_built "$(sources)" || return 0
