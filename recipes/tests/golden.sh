@@ -42,13 +42,13 @@ is 2 'check without the program' "$golden" check "$streams" "$golds" -- "$room/n
 streams=$room/own golds=$room/own-golds
 mkdir "$streams"
 cp examples/*.bin examples/*.zpl "$streams"
-printf 'Caf\351\n' >"$streams/cafe.bin"
+printf 'Caf\177\n' >"$streams/cafe.bin"
 printf '   \n' >"$streams/white.bin"
 printf 'before\n\033\177after\n' >"$streams/fault.bin"
 touch "$streams/.gitkeep" "$streams/README.md"
 echo note >"$streams/notes.txt"
 is 0 'accept without words' "$golden" accept "$streams" "$golds" --ignore '*.txt'
-says '^cafe.bin: accepted; the sheet has no character for E9 once$'
+says '^cafe.bin: accepted; the sheet has no character for 7F once$'
 says '^white.bin: accepted; its paper is all white$'
 says '^fault.bin: accepted; it ends in a fault, vp: F1 after 9 bytes: unknown command 1B 7F$'
 says '^shelf.zpl: accepted$'

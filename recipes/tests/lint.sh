@@ -13,7 +13,7 @@ done
 cd "$room"
 printf 'plain\n' >plain.bin
 {
-    printf '^XA^PW400^LL200^MMT^CI28\r\n^FO10,20^A0N,40^FDCaf\303\251^FS^FO300,20^BY3^BKN,N,100^FD123^FS'
+    printf '^XA^PW400^LL200^MMT^CI28\r\n^FO10,20^A0N,40^FDCa\177\303\251^FS^FO300,20^BY3^BKN,N,100^FD123^FS'
     printf '^FO9,9^BXN,4^FD1^FS^FO9,9^B7N^FD1^FS^FO350,100^GC50^FS^GD9,9^FS^SN1,1,Y^FS^XFR:A^FS^F0^FN1\r\n'
     printf '^FO10,150^A0,40,40^FDtoo long for it^FS^FT10,10^A0,40^FDtop^FS^FO390,0^GB11,9,2^FS^FO390,0^GB10,9,2^FS'
     printf '^LH20,0^FT380,90^BY1^B3R^FD1^FS^LH0,0^FO380,180^BQN,2,2^FDQA,1^FS^XZ'
@@ -22,7 +22,7 @@ is 1 'a label' "$lint" label.zpl
 for line in '^BK prints a Codabar bar code: it is read past' '^BX prints a Data Matrix symbol' '^B7 prints a PDF417' \
     '^GC prints a circle' '^GD prints a diagonal' '^SN prints a serial number' '^XF prints a stored format' \
     '^CI chooses a code table' '^F0 is no command that is known' '^FN numbers a field' \
-    'byte C3 has no character in the sheet of font A: once' \
+    'byte 7F has no character in the sheet of font A: once' \
     "the field of ^FO10,150 passes the label's right edge" "the field of ^FT10,10 passes the label's upper edge" \
     "the field of ^FO390,0 passes the label's right edge" \
     "the field of ^FO380,180 passes the label's right and the lower edge"; do
@@ -36,14 +36,14 @@ if [ "$has_places" ]; then
     done
 fi
 {
-    printf '\033@\033t\020Caf\351\n\033M\001\351\n\034p\001\000\035(L\006\0000E\040\040\001\001'
+    printf '\033@\033t\020Ca\351\177\n\033M\001\177\n\034p\001\000\035(L\006\0000E\040\040\001\001'
     printf '\0358L\001\000\000\000x\033{\001Hi\n\035(k\003\0000A\002\035(k\003\0001C\004\033\177rest'
 } >receipt.bin
 is 1 'a receipt' "$lint" receipt.bin
 for line in 'ESC t 10 chooses a code table' 'FS p 01 00 prints a picture that is kept in the printer' 'GS ( L' 'GS 8 L' \
     'ESC { 01 prints upside down' 'GS ( k 03 00 30 41 stores or prints a symbol other than QR' \
-    'byte E9 has no character in the sheet of font A: once' \
-    'byte E9 has no character in the sheet of font B: once'; do
+    'byte 7F has no character in the sheet of font A: once' \
+    'byte 7F has no character in the sheet of font B: once'; do
     says "^receipt.bin: $place$line"
 done
 says '^receipt.bin: byte 60: F1 unknown command 1B 7F: nothing behind it is printed$'
@@ -52,9 +52,9 @@ if [ "$has_places" ]; then
 fi
 grep -q '03 00 31' said && fail 'lint speaks of what is printed'
 # a byte that ^FH's digits say begins at the indicator
-printf '^XA^FO9,9^A0N,24^FH^FDCaf_C3_A9^FS^XZ' >hex.zpl
+printf '^XA^FO9,9^A0N,24^FH^FDCaf_7F_A9^FS^XZ' >hex.zpl
 is 1 'a byte in digits' "$lint" hex.zpl
-[ -z "$has_places" ] || says '^hex.zpl: byte 25: byte C3 has no character'
+[ -z "$has_places" ] || says '^hex.zpl: byte 25: byte 7F has no character'
 # a sheet's head may be one line, and have comments
 sed '1,2d' "$root/examples/font-a.pbm" >rows
 { printf 'P4 192#wide\n384 ' && cat rows; } >one-line.pbm

@@ -1,7 +1,8 @@
-"""Makes a glyph sheet for vp of a bitmap font: sheet FONT [--font a|b] [--table CODEC] [--blank] > sheet.pbm
+"""Makes a glyph sheet for vp of a bitmap font: sheet [FONT] [--font a|b] [--table CODEC] [--blank] > sheet.pbm
 
-FONT is BDF, PCF, PSF or Unifont's .hex, as it is or packed by gzip. CODEC is the table that says which character a
-byte is, by Python's name for it: cp437 (the default), cp850, cp858, cp1252, latin1, iso8859-15, koi8-r and so on.
+FONT is BDF, PCF, PSF or Unifont's .hex, as it is or packed by gzip; without one the letters are drawn. CODEC is the
+table that says which character a byte is, by Python's name for it: cp437 (the default), cp850, cp858, cp1252, latin1,
+iso8859-15, koi8-r and so on.
 What the font lacks, and what loses dots, is listed on standard error. A byte without a character shows its two hex
 digits in a frame; with --blank its cell is white. docs/sheets.md says what a sheet is.
 """
@@ -13,7 +14,9 @@ import sys
 import unicodedata
 from collections import namedtuple
 
-from .sheets import BLANKS, CELLS, framed
+from .drawing import glyph
+from .sheets import CELLS, framed, sheet_of
+from .tables import shown, spaces
 
 # A bitmap of `width` dots a row, the leftmost highest, that begins `left` of the pen and `top` below the line's top.
 Glyph = namedtuple('Glyph', 'advance left top width rows')
@@ -148,17 +151,6 @@ def read(name):
     raise ValueError('not BDF, PCF, PSF or .hex')
 
 
-def wanted(table):
-    """The bytes that are drawn, and the character of each."""
-    for n in range(32, 256):
-        try:
-            char = codecs.decode(bytes([n]), table)
-        except UnicodeDecodeError:
-            continue
-        if unicodedata.category(char) not in ('Cc', 'Zs'):
-            yield n, char
-
-
 def black(rows):
     return sum(bin(row).count('1') for row in rows)
 
@@ -182,40 +174,49 @@ def best_move(glyphs, height, size):
 
 
 def main():
-    words = argparse.ArgumentParser(description='Makes a glyph sheet for vp of a bitmap font.')
-    words.add_argument('font_file', metavar='FONT', help='BDF, PCF, PSF or .hex, perhaps packed by gzip')
+    words = argparse.ArgumentParser(description='Makes a glyph sheet for vp of a bitmap font, or of letters that it draws.')
+    words.add_argument('font_file', metavar='FONT', nargs='?', help='BDF, PCF, PSF or .hex, perhaps packed by gzip')
     words.add_argument('--font', choices=CELLS, default='a', help='cells of 12 by 24 dots (a) or 9 by 17 (b)')
     words.add_argument('--table', default='cp437', metavar='CODEC', help="which character a byte is: a Python codec")
     words.add_argument('--blank', action='store_true', help='leave white what has no character')
     given = words.parse_args()
-    try:
-        font, chars = read(given.font_file), list(wanted(given.table))
-    except (OSError, ValueError, KeyError, IndexError, LookupError, struct.error) as error:
-        sys.exit(f'sheet: {given.font_file}: {getattr(error, "strerror", None) or error}')
+    size, chars = CELLS[given.font], shown(given.table)
     say = lambda text: print(text, file=sys.stderr)
-    size = CELLS[given.font]
+    cells = of_font(given.font_file, chars, size, say) if given.font_file else of_drawing(chars, size, say)
+    say(f'font {given.font.upper()}, {given.table}: {len(cells)} of {len(chars)} characters')
+    for n in set() if given.blank else set(range(256)).difference(cells, spaces(given.table), (0x20,)):
+        cells[n] = framed(n, size)
+    sys.stdout.buffer.write(sheet_of(cells, size))
+
+
+def of_drawing(chars, size, say):
+    """The cells of the characters that are drawn here."""
+    drawn = {n: glyph(char, size) for n, char in chars.items()}
+    for n, char in chars.items():
+        if not drawn[n]:
+            say(f'missing {named(n, char)}')
+    return {n: rows for n, rows in drawn.items() if rows}
+
+
+def of_font(name, chars, size, say):
+    """The cells of a font's characters."""
+    try:
+        font = read(name)
+    except (OSError, ValueError, KeyError, IndexError, LookupError, struct.error) as error:
+        sys.exit(f'sheet: {name}: {getattr(error, "strerror", None) or error}')
     by_number = not any(isinstance(it, str) for it in font.glyphs)
-    glyphs = {n: font.glyphs.get(n if by_number else char) for n, char in chars}
-    found = {n: glyph for n, glyph in glyphs.items() if glyph}
+    glyphs = {n: font.glyphs.get(n if by_number else char) for n, char in chars.items()}
+    found = {n: it for n, it in glyphs.items() if it}
     moved = best_move(found.values(), font.height, size)
-    cells = {n: cell(glyph, font.height, size, moved) for n, glyph in found.items()}
+    cells = {n: cell(it, font.height, size, moved) for n, it in found.items()}
     if by_number:
         say('the font does not say its characters: its glyph n is taken for byte n')
-    for n, char in chars:
+    for n, char in chars.items():
         kind = 'missing' if n not in found else 'cut' if black(cells[n]) < black(found[n].rows) else None
         if kind:
-            say(f'{kind} {n:02X} U+{ord(char):04X} {unicodedata.name(char, "")}')
-    say(f'font {given.font.upper()}, {given.table}: {len(found)} of {len(chars)} characters')
-    table = [codecs.decode(bytes([n]), given.table, 'replace')[:1] for n in range(256)]
-    spaces = {n for n, char in enumerate(table) if char and unicodedata.category(char) == 'Zs'}
-    for n in range(256) if not given.blank else ():
-        if n not in cells and n not in spaces.union(BLANKS):
-            cells[n] = framed(n, size)
-    out = b'P4\n%d %d\n' % (16 * size[0], 16 * size[1])
-    for line in range(16):
-        for y in range(size[1]):
-            row = 0
-            for column in range(16):
-                row = row << size[0] | cells.get(16 * line + column, [0] * size[1])[y]
-            out += row.to_bytes(2 * size[0], 'big')
-    sys.stdout.buffer.write(out)
+            say(f'{kind} {named(n, char)}')
+    return cells
+
+
+def named(n, char):
+    return f'{n:02X} U+{ord(char):04X} {unicodedata.name(char, "")}'

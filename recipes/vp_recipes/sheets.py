@@ -7,7 +7,8 @@ from .labels import labels
 from .program import HERE, Fault, find_vp, read
 
 CELLS = {'a': (12, 24), 'b': (9, 17)}
-BLANKS = 0x20, 0xA0
+# The bytes that are a space in some table: a white cell of theirs hides nothing.
+BLANKS = 0x20, 0xA0, 0xFF
 # Hex digits of 3 by 5 dots, each row a number of three bits; where the two of a byte stand in a cell, how high a row
 # of theirs is, and the cell's frame: left, right, top, bottom.
 DIGITS = ('75557 26227 71747 71717 55711 74717 74757 71222 75757 75717 25755 65656 34443 65556 74647 74644').split()
@@ -36,12 +37,10 @@ def chosen(language, font_a=None, font_b=None):
 
 
 def framed(byte, size):
-    """The rows of a cell that has no character: the byte's two hex digits in a frame. Blank for a space."""
+    """The rows of a cell that has no character: the byte's two hex digits in a frame."""
     width, height = size
     places, tall, (left, right, top, bottom) = FRAMES[size]
     rows = [0] * height
-    if byte in BLANKS:
-        return rows
     for y in range(top, bottom + 1):
         edge = range(left, right + 1) if y in (top, bottom) else (left, right)
         rows[y] = sum(1 << width - 1 - x for x in edge)
@@ -63,12 +62,25 @@ def lacking(name, size):
         raise Fault(f'{name}: not a glyph sheet of cells of {width} by {height}')
     rows = [int.from_bytes(data[start + stride * y:][:stride], 'big') for y in range(16 * height)]
     lacks = set()
-    for byte in set(range(256)).difference(BLANKS):
+    for byte in range(256):
         shift = width * (15 - byte % 16)
         cell = [row >> shift & (1 << width) - 1 for row in rows[byte // 16 * height:][:height]]
-        if not any(cell) or cell == framed(byte, size):
+        if not any(cell) and byte not in BLANKS or cell == framed(byte, size):
             lacks.add(byte)
     return lacks
+
+
+def sheet_of(cells, size):
+    """A sheet of the cells of bytes, each its rows; the others are white."""
+    width, height = size
+    out = b'P4\n%d %d\n' % (16 * width, 16 * height)
+    for line in range(16):
+        for y in range(height):
+            row = 0
+            for column in range(16):
+                row = row << width | cells.get(16 * line + column, [0] * height)[y]
+            out += row.to_bytes(2 * width, 'big')
+    return out
 
 
 def sheet_words(words):

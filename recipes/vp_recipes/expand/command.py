@@ -10,11 +10,11 @@ import os
 import sys
 
 from . import Options, expanded
-from .letters import known
 from .places import as_file, of_file, told
 from ..program import Fault, read
 from ..sheets import chosen
 from ..streams import LANGUAGES, guess
+from ..tables import characters
 
 
 def moment(text):
@@ -44,10 +44,11 @@ def main():
             sys.stdout.write(told(line, pieces))
         return 0
     data = read(given.file)
+    characters(given.table)
     if given.encoding:
         known_encoding(given.encoding)
     language = given.lang or guess(data)
-    options = Options(known(given.table), given.encoding, given.store, given.now, given.nearest, given.keep_sizes,
+    options = Options(given.table, given.encoding, given.store, given.now, given.nearest, given.keep_sizes,
                       tuple(chosen(language, given.font_a)))
     found = expanded(data, language, options)
     sys.stdout.buffer.write(found.data)

@@ -1,8 +1,7 @@
 """Letters: which a stream's bytes are, by the table that it chooses, and which cells of the sheet show them."""
-import codecs
 import unicodedata
 
-from ..program import Fault
+from ..tables import characters
 
 # The tables of ESC t, by Epson's numbers, as Python names them; those that it hasn't are left out.
 PAGES = {
@@ -27,39 +26,12 @@ NONE = 0x7F
 SPACES = {'\u00a0': ' ', '\u202f': ' ', '\u2009': ' ', '\u00ad': '-'}
 
 
-def known(table):
-    """The name of a table, if Python has one of one byte that it calls so."""
-    try:
-        cells_of(table)
-    except (LookupError, ValueError, TypeError, UnicodeError):
-        raise Fault(f'{table}: no table of one byte', 2) from None
-    return table
-
-
-def cells_of(table):
-    """The byte of each character of a table."""
-    coder = codecs.lookup(table)
-    if not getattr(coder, '_is_text_encoding', True):
-        raise LookupError(table)
-    found = {}
-    for byte in range(0x20, 0x100):
-        try:
-            char = coder.decode(bytes([byte]))[0]
-        except UnicodeDecodeError:
-            continue
-        if len(char) != 1:
-            raise LookupError(table)
-        found.setdefault(char, byte)
-    if any(found.get(chr(n)) != n for n in range(0x30, 0x3A)):
-        raise LookupError(table)
-    return found
-
-
 class Letters:
     """The cells of a sheet that shows a table; `nearest` takes a letter without its marks where it has none."""
 
     def __init__(self, table='cp858', nearest=False):
-        self.table, self.nearest, self.cells = table, nearest, cells_of(table)
+        self.table, self.nearest = table, nearest
+        self.cells = {char: byte for byte, char in reversed(characters(table).items())}
 
     def cell(self, char):
         """The byte whose cell shows a character, or None."""
