@@ -1,8 +1,10 @@
 #!/bin/sh
 # Refuses one allocation of the calls that take memory, the first, then the second, until none is left to be refused:
-# each call must answer that memory was refused, and nothing else. As many are refused at once as there are
-# processors, each in a copy of the sources, since rt does one thing at a time in a folder.
+# each call must answer that memory was refused, and nothing else, and each must do so as often as it takes memory. As
+# many are refused at once as there are processors, each in a copy of the sources, since rt does one thing at a time in a
+# folder.
 set -eu
+export LC_ALL=C
 cd "$(dirname "$0")/.."
 tools=$PWD/tools
 lanes=$(nproc)
@@ -21,6 +23,7 @@ done
 refuse() {
     cd "$rooms/$1/crates/tests/vp_memory_tests"
     "$tools/gate/try.py" --test --fail-alloc "$2" >"$rooms/$1/log" 2>&1 || true
+    cp "$rooms/$1/log" "$rooms/said.$2"
 }
 
 # is_last LANE NTH: whether nothing was left to be refused; ends the test where a call answered otherwise
@@ -35,6 +38,20 @@ is_last() {
     exit 1
 }
 
+# how often each test takes memory: so often it must end in a refusal, and then no more
+cat >"$rooms/wanted" <<'END'
+tests::bands_and_stores 2
+tests::formats 2
+tests::label_printers 7
+tests::label_sessions 7
+tests::labels 7
+tests::printers 5
+tests::receipts 5
+tests::sessions 5
+tests::sheets 3
+tests::whole_inputs 6
+tests::whole_labels 11
+END
 before=0
 while :; do
     for lane in $(seq "$lanes"); do
@@ -46,6 +63,13 @@ while :; do
     done
     before=$((before + lanes))
 done
+for nth in $(seq $((before + lane - 1))); do
+    sed -n 's/^test \(.*\) \.\.\. FAILED$/\1/p' "$rooms/said.$nth"
+done | sort | uniq -c | awk '{ print $2, $1 }' >"$rooms/found"
+diff "$rooms/wanted" "$rooms/found" >&2 || {
+    echo 'a test takes memory more or less often, or a refusal was swallowed' >&2
+    exit 1
+}
 most=$((before + lane - 1))
 if [ "$most" = 0 ]; then
     echo 'no call took memory' >&2

@@ -99,6 +99,7 @@ fn sessions(rt: HostRuntime) -> Result<(), Fail> {
     let mut reader = Counted::new(ROW);
     let mut writer = Counted::new(paper.as_mut_slice());
     assert!(rt; session.pump(&mut reader, &mut writer).is_ok());
+    assert!(rt; paper.starts_with(HEAD));
     Ok(())
 }
 

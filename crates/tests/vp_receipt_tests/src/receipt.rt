@@ -56,7 +56,7 @@ fn printed(alloc: Global, width: Width, parts: &[&[u8]], room: usize) -> Result<
     Ok(paper)
 }
 
-/// Goes on with whole commands, putting out `room` bytes at a time, and answers the fault of the last item.
+/// Goes on with whole commands, putting out `room` bytes at a time, and answers the first fault.
 fn print_on(
     receipt: &mut Receipt,
     sent: &[u8],
@@ -66,10 +66,13 @@ fn print_on(
     let mut reader = EscReader::new();
     let mut fault = None;
     for byte in sent {
-        if let Ok(Some(item)) = reader.take(*byte) {
-            fault = apply(receipt, item);
-            put_all(receipt, room, paper)?;
-        }
+        let refused = match reader.take(*byte) {
+            Ok(Some(item)) => apply(receipt, item),
+            Ok(None) => None,
+            Err(unknown) => Some(unknown),
+        };
+        put_all(receipt, room, paper)?;
+        fault = fault.or(refused);
     }
     Ok(fault)
 }
@@ -130,7 +133,7 @@ fn wanted(alloc: Global, width: Width, strips: &[Strip]) -> Result<Vec<u8>, Allo
     Ok(paper)
 }
 
-/// Whether `sent` prints `strips` where `room` bytes are put out at a time.
+/// Whether `sent` has no fault and prints `strips` where `room` bytes are put out at a time.
 fn prints(
     alloc: Global,
     width: Width,
@@ -138,9 +141,11 @@ fn prints(
     strips: &[Strip],
     room: usize,
 ) -> Result<bool, Fail> {
-    let paper = printed(alloc, width, &[sent], room)?;
+    let mut receipt = new_receipt(alloc, width)?;
+    let mut paper = Vec::new(alloc);
+    let fault = print_on(&mut receipt, sent, room, &mut paper)?;
     let want = wanted(alloc, width, strips)?;
-    Ok(paper.as_slice() == want.as_slice())
+    Ok(fault.is_none() && paper.as_slice() == want.as_slice())
 }
 
 /// What is sent, and the strips that are printed.

@@ -18,7 +18,7 @@ fn refused(alloc: Global, sent: &[u8]) -> Result<(Option<Fault>, usize), Fail> {
 /// What is sent, and why the last item is refused.
 type Refusal = (&'static [u8], Fault);
 
-/// The last item of what is sent is refused so, and nothing is printed.
+/// What is sent has this fault first, and nothing is printed.
 fn is_refused(rt: &impl Abort, alloc: Global, sent: &[u8], fault: Fault) -> Result<(), Fail> {
     let found = refused(alloc, sent)?;
     assert_eq!(rt; found, (Some(fault), 0));
@@ -82,6 +82,13 @@ fn filled(
 fn more_than_a_qr_symbol_holds(rt: HostRuntime) -> Result<(), Fail> {
     let front = b"\x1D(k\x90\x021P0";
     let sent = filled(rt.alloc(), front, b'1', 653, b"\x1D(k\x03\x001Q0")?;
+    is_refused(&rt, rt.alloc(), sent.as_slice(), Fault::SymbolTooLong)
+}
+
+#[test]
+fn as_much_qr_data_as_a_command_holds(rt: HostRuntime) -> Result<(), Fail> {
+    let front = b"\x1D(k\xFF\xFF1P0";
+    let sent = filled(rt.alloc(), front, b'1', 65532, b"\x1D(k\x03\x001Q0")?;
     is_refused(&rt, rt.alloc(), sent.as_slice(), Fault::SymbolTooLong)
 }
 
