@@ -9,12 +9,20 @@ GREATEST = 99_999_999
 
 class Command:
     """A command of bytes `start` to `end` of the stream: its sign and name, of ^A the font, and the bytes behind them.
-    `is_plain` where it stands there in the usual signs, so that its bytes may be kept."""
-    __slots__ = 'sign name font rest start end is_plain comma'.split()
+    `is_plain` where it stands there in the usual signs, so that its bytes may be kept; `is_exact` where the bytes are
+    data as they are meant, without digits or line ends to be taken out."""
+    __slots__ = 'sign name font rest start end is_plain comma is_exact'.split()
 
     def __init__(self, sign, name, rest=b'', start=0, end=0, is_plain=False, font='', comma=b','):
         self.sign, self.name, self.rest, self.start, self.end = sign, name, rest, start, end
-        self.is_plain, self.font, self.comma = is_plain, font, comma
+        self.is_plain, self.font, self.comma, self.is_exact = is_plain, font, comma, False
+
+    @classmethod
+    def with_data(cls, data, start, end):
+        """^FD of bytes as they are meant."""
+        found = cls('^', 'FD', data, start, end)
+        found.is_exact = True
+        return found
 
     def parameters(self):
         """What stands between commas, without blanks and line ends, as it came."""
@@ -33,7 +41,7 @@ class Command:
 
     def data(self):
         """The bytes of ^FD, line ends dropped."""
-        return self.rest.translate(None, b'\r\n')
+        return self.rest if self.is_exact else self.rest.translate(None, b'\r\n')
 
     def title(self):
         return self.sign + self.name + self.font

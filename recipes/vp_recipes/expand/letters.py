@@ -23,6 +23,8 @@ COUNTRIES = {
 LABEL_COUNTRIES = {2: 3, 4: 9, 5: 5, 6: 2, 7: 1, 8: 1, 9: 6, 10: 7, 12: 8}
 # The byte whose cell stands where the sheet has no letter: no table has one there.
 NONE = 0x7F
+# From here on a character stands for a cell by its number.
+ITSELF = 0xF700
 SPACES = {'\u00a0': ' ', '\u202f': ' ', '\u2009': ' ', '\u00ad': '-'}
 
 
@@ -31,10 +33,13 @@ class Letters:
 
     def __init__(self, table='cp858', nearest=False):
         self.table, self.nearest = table, nearest
-        self.cells = {char: byte for byte, char in reversed(characters(table).items())}
+        self.chars = characters(table)
+        self.cells = {char: byte for byte, char in reversed(list(self.chars.items()))}
 
     def cell(self, char):
         """The byte whose cell shows a character, or None."""
+        if ITSELF <= ord(char) < ITSELF + 256:
+            return ord(char) - ITSELF
         byte = self.cells.get(SPACES.get(char, char))
         if byte is None and self.nearest:
             plain = unicodedata.normalize('NFKD', char)[:1]
@@ -49,8 +54,8 @@ class Letters:
         return bytes(NONE if byte is None else byte for byte in found), lacks
 
     def text(self, data):
-        """What bytes are that are the cells themselves."""
-        return data.decode(self.table, 'replace')
+        """What bytes are that are the cells themselves; a byte without a letter stands for its cell."""
+        return ''.join(self.chars.get(byte) or chr(ITSELF + byte) for byte in data)
 
 
 def named(char):
