@@ -1,9 +1,7 @@
 // Text that stands for bytes, and back: as escapes, which keep every byte, or as the text that the bytes are.
 //
-// Escapes: 20 to 7E stand for themselves, but a backslash is \\, a line feed \n and every other byte \xNN.
-// Behind \n
-// the text breaks the line, and a break is no byte. Read back, \r and \t are bytes too, a backslash that
-// begins none of
+// Escapes: 20 to 7E stand for themselves, but a backslash is \\, a line feed \n and every other byte \xNN. Behind \n
+// the text breaks the line, and a break is no byte. Read back, \r and \t are bytes too, a backslash that begins none of
 // these is itself, and a character above 7E is its bytes in UTF-8.
 
 const encoder = new TextEncoder();
@@ -11,6 +9,7 @@ const HEX = Array.from({ length: 256 }, (_, byte) => byte.toString(16).padStart(
 const ESCAPED = Array.from({ length: 256 }, (_, byte) =>
   byte === 0x5c ? '\\\\' : byte === 0x0a ? '\\n\n' : byte >= 0x20 && byte < 0x7f ? String.fromCharCode(byte)
     : '\\x' + HEX[byte]);
+const PIECE = 1 << 16;
 const PLAIN = { n: 0x0a, r: 0x0d, t: 0x09, '\\': 0x5c };
 
 export function toEscapes(bytes) {
@@ -19,24 +18,39 @@ export function toEscapes(bytes) {
   return parts.join('');
 }
 
-// The text that these bytes are, with the bytes of its line ends; null where no text keeps them all.
-export function toText(bytes) {
-  let text;
+// The line ends of bytes that are a text with one kind of them; null where no text keeps all the bytes.
+export function endsOf(bytes) {
+  let [alone, both] = [0, 0];
+  for (let at = 0; at < bytes.length; at++) {
+    const byte = bytes[at];
+    if (byte >= 0x20 && byte !== 0x7f || byte === 0x09) continue;
+    if (byte === 0x0d && bytes[at + 1] === 0x0a) {
+      both++;
+      at++;
+    } else if (byte === 0x0a) {
+      alone++;
+    } else {
+      return null;
+    }
+  }
+  if (alone && both) return null;
+  const decoder = new TextDecoder('utf-8', { fatal: true });
   try {
-    text = new TextDecoder('utf-8', { fatal: true, ignoreBOM: true }).decode(bytes);
+    for (let at = 0; at < bytes.length; at += PIECE) decoder.decode(bytes.subarray(at, at + PIECE), { stream: true });
+    decoder.decode();
   } catch {
     return null;
   }
-  // eslint-disable-next-line no-control-regex
-  if (/[\x00-\x08\x0b\x0c\x0e-\x1f\x7f]/.test(text)) return null;
-  const end = text.includes('\r\n') ? '\r\n' : '\n';
-  const lines = text.split(end);
-  if (lines.some(line => line.includes('\r') || line.includes('\n'))) return null;
-  return { text: lines.join('\n'), end };
+  return both ? '\r\n' : '\n';
 }
 
-// The bytes that a text stands for, and for each place of the text how many of them come before it. `end` is
-// the line
+// Such a text, its lines broken by line feeds.
+export function toText(bytes, end) {
+  const text = new TextDecoder('utf-8', { ignoreBOM: true }).decode(bytes);
+  return end === '\n' ? text : text.replaceAll(end, '\n');
+}
+
+// The bytes that a text stands for, and for each place of the text how many of them come before it. `end` is the line
 // ends of a text, and null of escapes.
 export function toBytes(text, end) {
   const length = text.length;
@@ -109,5 +123,3 @@ export function pasted(text) {
   }
   return out;
 }
-
-export const hex = byte => HEX[byte];

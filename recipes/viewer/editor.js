@@ -33,6 +33,14 @@ export class Editor {
     this.measure();
   }
 
+  // Another text in its place, which stays scrolled as it is.
+  change(text) {
+    const { scrollTop, scrollLeft } = this.area;
+    this.area.value = text;
+    this.area.scrollTo(scrollLeft, scrollTop);
+    this.measure();
+  }
+
   // Finds the lines anew.
   measure() {
     const text = this.area.value;
@@ -51,7 +59,7 @@ export class Editor {
     return low;
   }
 
-  // Marks are {from, to, kind}; notes are {place, kind, text}, shown behind the line of their place.
+  // Marks are {from, to, kind}; notes are {place, kind, text}, shown at the line of their place.
   show(marks, notes) {
     this.marks = marks;
     this.notes = notes;
@@ -91,21 +99,22 @@ export class Editor {
       this.spans(line, text, from, to);
       for (const note of this.notes) {
         if (note.place < start || note.place > end) continue;
+        number.className = note.kind === 'fault' ? 'fault' : number.className || note.kind;
+        number.title = note.text;
+        if (note.kind !== 'fault') continue;
         const said = document.createElement('span');
-        said.className = `note ${note.kind}`;
+        said.className = 'note fault';
         said.textContent = note.text;
         line.append(said);
-        number.className = note.kind === 'fault' ? 'fault' : number.className || note.kind;
       }
       lines.push(line);
     }
     this.layer.replaceChildren(...lines);
     this.gutter.replaceChildren(...numbers);
-    // what is said of a long line stands over its end
-    const right = this.layer.getBoundingClientRect().right - 8;
+    // what is said of a fault stands behind its line, over no text: where there is no room it stands below alone
+    const { right } = this.layer.getBoundingClientRect();
     for (const said of this.layer.querySelectorAll('.note')) {
-      const over = said.getBoundingClientRect().right - right;
-      if (over > 0) said.style.transform = `translateX(${-over}px)`;
+      if (said.getBoundingClientRect().right > right) said.remove();
     }
   }
 

@@ -3,11 +3,13 @@
 const LINE = 20;
 
 export class Listing {
-  constructor(box, choose) {
+  // `named` tells a row's {code, words}, `choose` hears of a row that is chosen.
+  constructor(box, named, choose) {
     this.box = box;
     this.inside = box.querySelector('.inside');
     this.rows = [];
     this.current = -1;
+    this.named = named;
     this.choose = choose;
     box.addEventListener('scroll', () => this.draw());
     new ResizeObserver(() => this.draw()).observe(box);
@@ -21,8 +23,8 @@ export class Listing {
         End: this.rows.length, Enter: 0 };
       if (!(event.key in steps) || !this.rows.length) return;
       event.preventDefault();
-      this.pick(Math.max(0, Math.min(this.rows.length - 1, this.current + steps[event.key])), event.key ===
-          'Enter');
+      const row = Math.max(0, Math.min(this.rows.length - 1, this.current + steps[event.key]));
+      this.pick(row, event.key === 'Enter');
     });
   }
 
@@ -57,8 +59,7 @@ export class Listing {
 
   paint() {
     const first = Math.floor(this.box.scrollTop / LINE);
-    const last = Math.min(this.rows.length, Math.ceil((this.box.scrollTop + this.box.clientHeight) / LINE)
-        + 1);
+    const last = Math.min(this.rows.length, Math.ceil((this.box.scrollTop + this.box.clientHeight) / LINE) + 1);
     const lines = [];
     for (let n = first; n < last; n++) {
       const row = this.rows[n];
@@ -73,17 +74,21 @@ export class Listing {
       const place = document.createElement('span');
       place.className = 'place';
       place.textContent = row.place === null ? '' : row.place.toLocaleString('en');
+      const { code, words } = this.named(row);
       const text = document.createElement('span');
       text.className = 'text';
-      text.textContent = row.text;
-      line.append(place, text);
+      text.textContent = code;
+      const said = document.createElement('span');
+      said.className = 'words';
+      said.textContent = words;
+      line.append(place, text, said);
       if (row.count) {
         const count = document.createElement('span');
         count.className = 'count';
         count.textContent = `×${row.count.toLocaleString('en')}`;
         line.append(count);
       }
-      line.title = row.said ? `${row.text}: ${row.said.text}` : row.text;
+      line.title = [code, words, row.said?.text].filter(Boolean).join(': ');
       lines.push(line);
     }
     this.inside.replaceChildren(...lines);

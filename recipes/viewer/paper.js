@@ -1,6 +1,8 @@
 // The paper: sheets of dots, drawn as far as they are seen, each dot so many of the screen's own pixels.
 
-export const DOTS_A_MM = 8;
+import { rowOf } from './sheets.js';
+import { isInk } from './origins.js';
+
 const RULER = { left: 44, top: 22 };
 const MARGIN = 20;
 const CAPTION = 24;
@@ -9,87 +11,15 @@ const MOST_AT_ONCE = 6e6;
 const rgb = (r, g, b) => (255 << 24 | b << 16 | g << 8 | r) >>> 0;
 const WHITE = rgb(255, 255, 255);
 const BLACK = rgb(0, 0, 0);
-const COLOURS = { same: rgb(150, 150, 150), lost: rgb(214, 30, 50), added: rgb(0, 90, 220), near: rgb(255,
-    240, 170) };
-
-// Sheets of what vp printed: each image of a label is one, all strips of a receipt are one.
-export function sheetsOf(images, bytes, joined) {
-  const sheets = [];
-  for (const [width, height, start, rows] of images) {
-    const strip = { y: 0, start, rows, height };
-    const last = sheets[sheets.length - 1];
-    if (joined && last && last.width === width) {
-      strip.y = last.height;
-      last.height += height;
-      last.strips.push(strip);
-    } else {
-      sheets.push({ width, height, strips: [strip], bytes, stride: (width + 7) >> 3 });
-    }
-  }
-  return sheets;
-}
-
-// The images of a file as vp writes it; null where it is none.
-export function imagesOf(bytes) {
-  const images = [];
-  for (let at = 0; at < bytes.length;) {
-    const head = /^P4\n(\d{1,9}) (\d{1,9})\n/.exec(String.fromCharCode(...bytes.subarray(at, at + 24)));
-    if (!head) return null;
-    const [width, height] = [Number(head[1]), Number(head[2])];
-    const start = at + head[0].length;
-    const stride = (width + 7) >> 3;
-    images.push([width, height, start, Math.max(0, Math.min(height,
-        Math.floor((bytes.length - start) / stride)))]);
-    at = start + stride * height;
-  }
-  return images.length ? images : null;
-}
-
-// Where a row's bytes begin; -1 where it isn't there.
-export function rowOf(sheet, y) {
-  const { strips } = sheet;
-  let low = 0;
-  let high = strips.length - 1;
-  while (low < high) {
-    const middle = (low + high + 1) >> 1;
-    if (strips[middle].y <= y) low = middle; else high = middle - 1;
-  }
-  const strip = strips[low];
-  return strip && y >= 0 && y - strip.y < strip.rows ? strip.start + (y - strip.y) * sheet.stride : -1;
-}
-
-export function isBlack(sheet, x, y) {
-  const row = sheet && x >= 0 && x < sheet.width ? rowOf(sheet, y) : -1;
-  return row >= 0 && (sheet.bytes[row + (x >> 3)] >> (7 - (x & 7)) & 1) === 1;
-}
-
-const BITS = Uint8Array.from({ length: 256 }, (_, n) => n.toString(2).replaceAll('0', '').length);
-
-// How many dots differ between two lists of sheets, and where the first one is.
-export function difference(sheets, others) {
-  let count = 0;
-  let first = null;
-  for (let n = 0; n < Math.max(sheets.length, others.length); n++) {
-    const [one, other] = [sheets[n], others[n]];
-    const high = Math.max(one?.height ?? 0, other?.height ?? 0);
-    const stride = Math.max(one?.stride ?? 0, other?.stride ?? 0);
-    for (let y = 0; y < high; y++) {
-      const a = one ? rowOf(one, y) : -1;
-      const b = other ? rowOf(other, y) : -1;
-      for (let x = 0; x < stride; x++) {
-        const left = a >= 0 && x < one.stride ? one.bytes[a + x] : 0;
-        const right = b >= 0 && x < other.stride ? other.bytes[b + x] : 0;
-        if (left === right) continue;
-        count += BITS[left ^ right];
-        first ??= { sheet: n, x: 8 * x + Math.clz32(left ^ right) - 24, y };
-      }
-    }
-  }
-  return { count, first };
-}
+const COLOURS = { same: rgb(150, 150, 150), lost: rgb(214, 30, 50), added: rgb(0, 90, 220),
+  near: rgb(255, 240, 170) };
+// Dots of the paper that was printed before, and those that the cursor's bytes draw.
+const DIM = { black: rgb(150, 154, 160), white: rgb(226, 229, 233) };
+const MARKED = { black: rgb(0, 90, 220), white: rgb(205, 224, 255) };
 
 export class Paper {
-  constructor(root, told) {
+  // `told` hears of the dot under the pointer, `chosen` of the one that is clicked.
+  constructor(root, told, chosen) {
     this.canvas = root.querySelector('canvas');
     this.scroll = root.querySelector('.scroll');
     this.space = root.querySelector('.space');
@@ -97,25 +27,43 @@ export class Paper {
     this.piece = document.createElement('canvas');
     this.sheets = [];
     this.others = null;
+    this.ghosts = null;
+    this.mark = null;
+    this.dpmm = 8;
+    this.total = '';
     this.placed = [];
     this.zoom = 'fit';
     this.grid = true;
     this.cursor = null;
     this.told = told;
+    this.chosen = chosen;
     this.drawn = () => {};
     this.scroll.addEventListener('scroll', () => this.draw());
     this.scroll.addEventListener('pointermove', event => this.point(event));
     this.scroll.addEventListener('pointerleave', () => this.told(null));
+    this.scroll.addEventListener('click', event => {
+      const box = this.scroll.getBoundingClientRect();
+      const dot = this.at(event.clientX - box.left, event.clientY - box.top);
+      if (dot) this.chosen(dot);
+    });
     this.scroll.addEventListener('keydown', event => this.key(event));
     new ResizeObserver(() => this.lay()).observe(root);
     matchMedia('(prefers-color-scheme: dark)').addEventListener('change', () => this.draw());
   }
 
-  show(sheets, others = null) {
-    if (this.sheets === sheets && this.others === others) return;
-    this.sheets = sheets;
-    this.others = others;
+  // Sheets, those that they are compared with, and those of before that are shown dimmed where these have nothing. The
+  // total says how many there are, where not all are shown.
+  show(sheets, { others = null, ghosts = null, total = '' } = {}) {
+    if (this.sheets === sheets && this.others === others && this.ghosts === ghosts && this.total === total) return;
+    Object.assign(this, { sheets, others, ghosts, total, mark: null });
     this.lay();
+  }
+
+  // Marks dots: {sheet, x, y, width, height, bits, stride}.
+  setMark(mark) {
+    if (this.mark === mark) return;
+    this.mark = mark;
+    this.draw();
   }
 
   setZoom(zoom) {
@@ -131,10 +79,10 @@ export class Paper {
   lay() {
     const ratio = this.ratio = devicePixelRatio || 1;
     const { clientWidth: width, clientHeight: height } = this.scroll;
-    const count = Math.max(this.sheets.length, this.others?.length ?? 0);
-    const sizes = Array.from({ length: count }, (_, n) => [
-      Math.max(this.sheets[n]?.width ?? 0, this.others?.[n]?.width ?? 0),
-      Math.max(this.sheets[n]?.height ?? 0, this.others?.[n]?.height ?? 0)]);
+    const layers = [this.sheets, this.others ?? [], this.ghosts ?? []];
+    const count = Math.max(...layers.map(it => it.length));
+    const most = (n, side) => Math.max(...layers.map(it => it[n]?.[side] ?? 0));
+    const sizes = Array.from({ length: count }, (_, n) => [most(n, 'width'), most(n, 'height')]);
     const widest = Math.max(1, ...sizes.map(it => it[0]));
     const room = [width - RULER.left - 2 * MARGIN, height - RULER.top - CAPTION - MARGIN];
     if (this.zoom === 'fit') {
@@ -178,6 +126,7 @@ export class Paper {
   }
 
   key(event) {
+    if (event.key === 'Enter' && this.cursor) this.chosen(this.cursor);
     const step = event.shiftKey ? 8 : 1;
     const moves = { ArrowLeft: [-step, 0], ArrowRight: [step, 0], ArrowUp: [0, -step], ArrowDown: [0, step] };
     const move = moves[event.key];
@@ -263,8 +212,8 @@ export class Paper {
     context.font = `${12 * ratio}px system-ui, sans-serif`;
     context.textBaseline = 'alphabetic';
     context.textAlign = 'left';
-    const mm = value => (value / DOTS_A_MM).toFixed(1);
-    const name = this.placed.length > 1 ? `${n + 1} of ${this.placed.length}  ` : '';
+    const mm = value => (value / this.dpmm).toFixed(1);
+    const name = this.placed.length > 1 ? `${n + 1} of ${this.total || this.placed.length}  ` : '';
     const size = `${name}${place.wide} × ${place.high} dots, ${mm(place.wide)} × ${mm(place.high)} mm`;
     context.fillText(size, Math.max(x, RULER.left * ratio + 6), y - 8 * ratio);
     const x0 = Math.max(0, Math.floor(-x / dot));
@@ -284,7 +233,8 @@ export class Paper {
     const pixels = new Uint32Array(image.data.buffer);
     const outside = this.outside(colour);
     if (this.others) this.compare(pixels, n, x0, y0, ...size1, step, outside);
-    else this.plain(pixels, this.sheets[n], x0, y0, ...size1, step, outside);
+    else this.plain(pixels, n, x0, y0, ...size1, step, outside);
+    if (this.mark?.sheet === n && !this.others) this.tint(pixels, x0, y0, ...size1, step);
     to.putImageData(image, 0, 0);
     context.imageSmoothingEnabled = dot < 1;
     context.imageSmoothingQuality = dot < 0.5 ? 'medium' : 'low';
@@ -301,6 +251,14 @@ export class Paper {
         }
       }
     }
+    if (this.mark?.sheet === n) {
+      const { mark } = this;
+      const gap = 3 * ratio;
+      context.strokeStyle = colour('--accent');
+      context.lineWidth = 1.5 * ratio;
+      context.strokeRect(x + mark.x * dot - gap, y + mark.y * dot - gap, mark.width * dot + 2 * gap,
+        mark.height * dot + 2 * gap);
+    }
     if (this.cursor?.sheet === n) {
       context.strokeStyle = colour('--mark');
       context.lineWidth = 2 * ratio;
@@ -316,17 +274,34 @@ export class Paper {
     return rgb(r, g, b);
   }
 
-  plain(pixels, sheet, x0, y0, wide, high, step, outside) {
+  plain(pixels, n, x0, y0, wide, high, step, outside) {
+    const sheet = this.sheets[n];
+    const ghost = this.ghosts?.[n];
     let to = 0;
     for (let y = 0; y < high; y++) {
-      const row = rowOf(sheet, y0 + y * step);
+      const own = sheet ? rowOf(sheet, y0 + y * step) : -1;
+      const { bytes, width } = own < 0 ? ghost ?? {} : sheet;
+      const row = own < 0 && ghost ? rowOf(ghost, y0 + y * step) : own;
       if (row < 0) {
         pixels.fill(outside, to, to += wide);
         continue;
       }
-      const { bytes } = sheet;
+      const [black, white] = own < 0 ? [DIM.black, DIM.white] : [BLACK, WHITE];
       for (let x = 0, dot = x0; x < wide; x++, dot += step) {
-        pixels[to++] = bytes[row + (dot >> 3)] >> (7 - (dot & 7)) & 1 ? BLACK : WHITE;
+        pixels[to++] = dot >= width ? outside : bytes[row + (dot >> 3)] >> (7 - (dot & 7)) & 1 ? black : white;
+      }
+    }
+  }
+
+  // Colours the dots of the mark: all of its ink, or where that isn't known its black dots.
+  tint(pixels, x0, y0, wide, high, step) {
+    const { mark } = this;
+    for (let y = Math.max(0, Math.ceil((mark.y - y0) / step)); y < high && y0 + y * step < mark.y + mark.height; y++) {
+      for (let x = Math.max(0, Math.ceil((mark.x - x0) / step)); x < wide && x0 + x * step < mark.x + mark.width; x++) {
+        if (!isInk(mark, x0 + x * step, y0 + y * step)) continue;
+        const at = y * wide + x;
+        if (pixels[at] === BLACK) pixels[at] = MARKED.black;
+        else if (mark.bits && pixels[at] === WHITE) pixels[at] = MARKED.white;
       }
     }
   }
@@ -380,7 +355,7 @@ export class Paper {
     context.fillStyle = colour('--line');
     context.fillRect(0, top - ratio, wide, ratio);
     context.fillRect(left - ratio, 0, ratio, high);
-    const mm = DOTS_A_MM * dot;
+    const mm = this.dpmm * dot;
     const step = [1, 2, 5, 10, 20, 50, 100, 200, 500, 1000].find(it => it * mm >= 48 * ratio) ?? 2000;
     const minor = [step / 10, step / 5, step / 2, step].find(it => it * mm >= 5 * ratio && it % 1 ===
         0) ?? step;

@@ -1,9 +1,9 @@
-"""Runs vp on a stream under limits: of time, of images, of bytes. What passes one is ended and said."""
+"""Runs vp on a stream: what it puts out goes on as it comes, and what takes too long is ended."""
+import contextlib
 import hashlib
 import json
 import os
-import re
-import select
+import selectors
 import signal
 import socket
 import subprocess
@@ -12,52 +12,16 @@ import tempfile
 import threading
 import time
 
-sys.path.insert(0, os.path.dirname(os.path.dirname(os.path.realpath(__file__))))
-from vp_recipes.program import run  # noqa: E402
-
 MOST_STREAM = 4 << 20
-MOST_IMAGES = 64
-MOST_PAPER = 32 << 20
-MOST_LISTING = 96 << 20
-MOST_ROWS = 200_000
 SECONDS = 10
 AT_ONCE = 4
 MOST_SHEETS, MOST_SHEET = 32, 1 << 20
-# How many bytes of a run are shown, and in how many bytes of a stream remarks are looked for.
-SHOWN, REMARKED = 48, 1 << 20
-
-HEADER = re.compile(rb'P4\n(\d{1,9}) (\d{1,9})\n')
-RUN = re.compile(rb'(?:\d+ (?:char|byte) [0-9a-f]{2}\n){2,}|(?:\d+ column[0-9a-f ]+\n){2,}')
-FAULT = re.compile(r'vp: (F\d) after (\d+) bytes?: (.*)')
+# In how many bytes of a stream remarks are looked for, and how long they may be.
+REMARKED, MOST_REMARKS = 1 << 18, 1 << 20
 
 
 class Gone(Exception):
     """Nobody waits for the answer any more."""
-
-
-class Images:
-    """Where the images of a text begin, as far as it is there."""
-
-    def __init__(self, most):
-        self.most, self.found, self.next = most, [], 0
-
-    def read(self, data):
-        """Reads on; whether the text holds all the images that may be."""
-        while self.next < len(data):
-            header = HEADER.match(data, self.next)
-            if not header:
-                return False
-            if len(self.found) == self.most:
-                return True
-            width, height = map(int, header.groups())
-            self.found.append((width, height, header.end()))
-            self.next = header.end() + (width + 7) // 8 * height
-        return False
-
-    def shown(self, length):
-        """Each image: its width, its height, where its rows begin, and how many of them are there."""
-        for width, height, start in self.found:
-            yield width, height, start, max(0, min(height, (length - start) // ((width + 7) // 8)))
 
 
 class Program:
@@ -66,8 +30,6 @@ class Program:
         self.vp = [os.path.abspath(vp[0]) if os.sep in vp[0] else vp[0], *vp[1:]]
         self.room, self.sheets = room, {}
         self.turn, self.lock, self.running = threading.Semaphore(AT_ONCE), threading.Lock(), set()
-        helped, said, _ = run(['list', '--help'], b'', self.vp)
-        self.offsets = ['--offsets'] if b'--offsets' in helped + said.encode() else []
 
     def end(self):
         for ran in list(self.running):
@@ -86,116 +48,67 @@ class Program:
                 self.sheets[name] = path
         return name
 
-    def run(self, words, stream, most, caller, full=lambda data: False):
-        """Runs words on a stream. Gives what was put out, at most so many bytes and until it is full, the lines on
-        standard error, the status, and why it was ended, if it was."""
-        out, ended = bytearray(), None
+    def run(self, words, stream, caller):
+        """Runs words on a stream. Gives what is put out piece by piece, and at last how it ended: the line on standard
+        error, the status, and whether the time was over."""
         with self.turn, tempfile.TemporaryFile(dir=self.room) as given, \
-                tempfile.TemporaryFile(dir=self.room) as errors:
+                tempfile.TemporaryFile(dir=self.room) as errors, selectors.DefaultSelector() as ways:
             given.write(stream)
             given.seek(0)
-            until = time.monotonic() + SECONDS
-            ran = subprocess.Popen(words, stdin=given, stdout=subprocess.PIPE, stderr=errors, cwd=self.room,
-                                   start_new_session=True)
+            until, late = time.monotonic() + SECONDS, False
+            try:
+                ran = subprocess.Popen(words, stdin=given, stdout=subprocess.PIPE, stderr=errors, cwd=self.room,
+                                       start_new_session=True)
+            except OSError as error:
+                yield {'line': f'cannot run {words[0]}: {error.strerror}', 'status': 2, 'late': False}
+                return
             self.running.add(ran)
             try:
+                for it in ran.stdout, caller:
+                    ways.register(it, selectors.EVENT_READ)
                 while True:
                     left = until - time.monotonic()
-                    if left <= 0:
-                        ended = 'time'
-                        break
-                    ready, _, _ = select.select([ran.stdout, caller], [], [], left)
-                    if caller in ready and gone(caller):
-                        raise Gone
+                    ready = [key.fileobj for key, _ in ways.select(left)] if left > 0 else []
+                    if caller in ready:
+                        if gone(caller):
+                            raise Gone
+                        ways.unregister(caller)
                     if ran.stdout in ready:
-                        some = os.read(ran.stdout.fileno(), 1 << 20)
+                        some = os.read(ran.stdout.fileno(), 1 << 16)
                         if not some:
                             break
-                        out += some
-                        if full(out):
-                            ended = 'images'
-                            break
-                        if len(out) > most:
-                            ended = 'bytes'
-                            break
-                if ended is None:
+                        yield some
+                    elif left <= 0:
+                        late = True
+                        break
+                if not late:
                     try:
                         ran.wait(max(0.01, until - time.monotonic()))
                     except subprocess.TimeoutExpired:
-                        ended = 'time'
+                        late = True
             finally:
                 kill(ran)
                 self.running.discard(ran)
             errors.seek(0)
-            return bytes(out[:most]), errors.read(4096).decode(errors='replace').strip(), ran.returncode, ended
+            lines = errors.read(4096).decode(errors='replace').splitlines()
+            yield {'line': lines[0] if lines else '', 'status': ran.returncode, 'late': late and SECONDS}
 
-    def words(self, language, width, fonts):
-        words = [*self.vp, language]
-        if language == 'receipt':
-            words += ['--width', str(width)]
-        return words + sheet_words(fonts)
+    def print_words(self, language, width, fonts):
+        return [*self.vp, language, *(('--width', width) if language == 'receipt' else ()), *sheet_words(fonts)]
 
-    def printed(self, language, width, fonts, stream, caller):
-        """The images that a stream prints, and what is to be said of them."""
-        images = Images(MOST_IMAGES if language == 'label' else sys.maxsize)
-        words = self.words(language, width, fonts)
-        data, said, status, ended = self.run(words, stream, MOST_PAPER, caller, images.read)
-        shown = list(images.shown(len(data)))
-        fault = FAULT.match(said)
-        last = max((start + (width + 7) // 8 * rows for width, _, start, rows in shown), default=0)
-        return {
-            'images': shown,
-            'fault': fault and {'number': fault[1], 'place': int(fault[2]), 'text': fault[3]},
-            'error': None if fault or not said or ended else said.splitlines()[0],
-            'ended': {
-                'time': f'printing was ended after {SECONDS} seconds',
-                'images': f'the first {MOST_IMAGES} images are shown; it prints more',
-                'bytes': f'the first {MOST_PAPER >> 20} MB of the paper are shown; it prints more',
-                None: f'vp ended by signal {-status}' if status < 0 and not ended else None,
-            }[ended],
-        }, data[:last]
-
-    def listed(self, language, stream, runs, caller):
-        """The listing: rows of a place and a line, or for runs of data of both their places, their count and kind,
-        and their first bytes in hex."""
-        words = [*self.vp, 'list', '--lang', language, *self.offsets]
-        data, _, _, ended = self.run(words, stream, MOST_LISTING, caller)
-        data = data[:data.rfind(b'\n') + 1]
-        rows, at, cut = [], 0, ended is not None
-
-        def single(text):
-            for line in text.decode('ascii', 'replace').splitlines():
-                place, _, line = line.partition(' ') if self.offsets else ('', '', line)
-                if line.startswith('vp:'):
-                    continue
-                rows.append([int(place) if place else None, line])
-
-        for run in RUN.finditer(data) if runs and self.offsets else ():
-            single(data[at:run.start()])
-            at = run.end()
-            if len(rows) >= MOST_ROWS:
-                break
-            lines = data[run.start():min(run.end(), run.start() + 24 * SHOWN)].splitlines()[:SHOWN]
-            first, kind = lines[0].split(b' ')[:2]
-            last = data[data.rfind(b'\n', 0, run.end() - 1) + 1:run.end()].split(b' ')[0]
-            values = ''.join(line.partition(kind)[2].replace(b' ', b'').decode() for line in lines)
-            rows.append([int(first), int(last), data.count(b'\n', run.start(), run.end()), kind.decode(), values])
-        if len(rows) < MOST_ROWS:
-            # a listing without runs is cut before its lines are made
-            rest = data[at:at + 64 * MOST_ROWS]
-            cut = cut or len(rest) < len(data) - at
-            single(rest[:rest.rfind(b'\n') + 1])
-        cut = cut or len(rows) > MOST_ROWS
-        return {'rows': rows[:MOST_ROWS], 'cut': f'the listing goes on: its first {MOST_ROWS:,} lines are shown'
-                if len(rows) > MOST_ROWS else 'the listing goes on: its first part is shown' if cut else None}
+    def list_words(self, language):
+        return [*self.vp, 'list', '--lang', language, '--offsets']
 
     def remarks(self, language, fonts, stream, caller):
         """What lint says of a stream: places and texts, of its first part alone where it is long."""
         here = os.path.dirname(os.path.realpath(__file__))
         asked = json.dumps([language, sheet_words(fonts), self.vp])
-        words = [sys.executable, os.path.join(here, 'remarks.py'), asked]
+        words, said = [sys.executable, os.path.join(here, 'remarks.py'), asked], b''
+        with contextlib.closing(self.run(words, stream[:REMARKED], caller)) as pieces:
+            for piece in pieces:
+                said += piece if isinstance(piece, bytes) and len(said) < MOST_REMARKS else b''
         try:
-            found = json.loads(self.run(words, stream[:REMARKED], 1 << 20, caller)[0])
+            found = json.loads(said)
         except ValueError:
             return [[None, 'what a printer would print besides could not be told in time']]
         if len(stream) > REMARKED:

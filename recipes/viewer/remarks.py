@@ -5,10 +5,18 @@ ASKED is JSON: the language, the words that name the sheets, the words that run 
 """
 import json
 import os
+import resource
 import sys
 
 sys.path.insert(0, os.path.dirname(os.path.dirname(os.path.realpath(__file__))))
 from vp_recipes.remarks import remarks  # noqa: E402
 
+# So many remarks are told, and so much memory is taken at most.
+MOST, MOST_MEMORY = 2000, 1 << 30
+
+resource.setrlimit(resource.RLIMIT_AS, (MOST_MEMORY, resource.getrlimit(resource.RLIMIT_AS)[1]))
 language, sheets, vp = json.loads(sys.argv[1])
-json.dump([list(it) for it in remarks(sys.stdin.buffer.read(), language, sheets, vp)], sys.stdout)
+found = [list(it) for it in remarks(sys.stdin.buffer.read(), language, sheets, vp)]
+if len(found) > MOST:
+    found[MOST:] = [[None, f'{len(found) - MOST:,} remarks more']]
+json.dump(found, sys.stdout)

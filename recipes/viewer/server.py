@@ -1,33 +1,35 @@
 """The page over HTTP on 127.0.0.1. Only who knows the secret of its address is answered, and no other page can ask."""
+import contextlib
 import glob
 import hmac
 import http.server
+import io
 import json
 import os
 import secrets
 import struct
 import sys
+import threading
 import time
 import urllib.parse
 
 sys.path.insert(0, os.path.dirname(os.path.dirname(os.path.realpath(__file__))))
 from vp_recipes.streams import guess  # noqa: E402
-from printing import MOST_STREAM, Gone  # noqa: E402
+from gate import Gate  # noqa: E402
+from printing import MOST_STREAM, SECONDS, Gone  # noqa: E402
 
 HERE = os.path.dirname(os.path.realpath(__file__))
-PARTS = {'': ('page.html', 'text/html'), **{
-    name: (name, kind) for name, kind in (
-        ('page.css', 'text/css'), ('page.js', 'text/javascript'), ('bytes.js', 'text/javascript'),
-        ('editor.js', 'text/javascript'), ('listing.js', 'text/javascript'), ('paper.js', 'text/javascript'),
-        ('png.js', 'text/javascript'))}}
+KINDS = {'html': 'text/html', 'css': 'text/css', 'js': 'text/javascript'}
+PARTS = {name: KINDS[name.rpartition('.')[2]] for name in os.listdir(HERE) if name.rpartition('.')[2] in KINDS}
 HEADERS = {
     'Content-Security-Policy': "default-src 'none'; script-src 'self'; style-src 'self'; img-src blob: data:; "
                                "connect-src 'self'; base-uri 'none'; form-action 'none'; frame-ancestors 'none'",
     'X-Content-Type-Options': 'nosniff', 'Referrer-Policy': 'no-referrer', 'Cache-Control': 'no-store',
     'Cross-Origin-Resource-Policy': 'same-origin', 'Cross-Origin-Opener-Policy': 'same-origin',
 }
-# How long a question for changes waits, how often the files are looked at, and how long a quiet connection stays.
-WAIT, LOOK, QUIET = 20, 0.1, 120
+# How long a question for changes waits, how often the files are looked at, how long a quiet connection stays, and how
+# many that have shown the secret may at once.
+WAIT, LOOK, QUIET, MOST_INSIDE = 20, 0.1, 120, 64
 
 
 class Followed:
@@ -48,27 +50,48 @@ class Followed:
             return file.read(MOST_STREAM + 1)
 
 
-class Page(http.server.ThreadingHTTPServer):
-    daemon_threads = True
-    # a port that somebody listens on is taken
-    allow_reuse_address = True
-    request_queue_size = 32
-
+class Page:
     def __init__(self, port, program, fonts, files, language, width):
-        super().__init__(('127.0.0.1', port), Answer)
         self.program, self.fonts, self.language, self.width = program, fonts, language, width
         self.files = [Followed(name) for name in files]
         self.examples = examples(fonts)
-        self.secret, self.once = secrets.token_urlsafe(24), secrets.token_urlsafe(24)
-        self.hosts = [f'{name}:{self.server_port}' for name in ('127.0.0.1', 'localhost')]
+        self.secret, self.lock, self.once = secrets.token_urlsafe(24), threading.Lock(), None
+        self.inside = threading.Semaphore(MOST_INSIDE)
+        self.gate = Gate(port, self.knows, self.enter)
+        self.hosts = [f'{name}:{self.gate.port}' for name in ('127.0.0.1', 'localhost')]
         self.address = f'http://{self.hosts[0]}/{self.secret}/'
-        # other users of the machine see the browser's words: what stands there serves once
-        self.first_address = f'http://{self.hosts[0]}/{self.once}'
 
-    def handle_error(self, request, client_address):
-        """A browser that hangs up is no fault."""
-        if not isinstance(sys.exc_info()[1], OSError):
-            super().handle_error(request, client_address)
+    def lead(self, folder):
+        """A file of the user's own that leads a browser to the page, once: what stands in a browser's words is seen by
+        every user of the machine."""
+        once, path = secrets.token_urlsafe(24), os.path.join(folder, 'vp.html')
+        address = f'http://{self.hosts[0]}/{once}'
+        with os.fdopen(os.open(path, os.O_WRONLY | os.O_CREAT | os.O_EXCL, 0o600), 'wb') as file:
+            file.write(leading(address))
+        self.once = once, path
+        return path
+
+    def used(self, part):
+        """Whether this is the secret that serves once; it is none any more, and its file goes."""
+        with self.lock:
+            if not self.once or not same(part, self.once[0]):
+                return False
+            (_, path), self.once = self.once, None
+        with contextlib.suppress(OSError):
+            os.unlink(path)
+        return True
+
+    def knows(self, part):
+        once = self.once
+        return same(part, self.secret) or once is not None and same(part, once[0])
+
+    def enter(self, connection, first):
+        threading.Thread(target=self.answer, args=(connection, first), daemon=True).start()
+
+    def answer(self, connection, first):
+        # a browser that hangs up is no fault
+        with contextlib.suppress(OSError), connection, self.inside:
+            Answer(connection, first, self)
 
 
 def examples(fonts):
@@ -87,10 +110,35 @@ class Refused(Exception):
     pass
 
 
+class Began(io.RawIOBase):
+    """What was read of a connection already, and what comes behind it."""
+
+    def __init__(self, first, rest):
+        self.first, self.rest = first, rest
+
+    def readable(self):
+        return True
+
+    def readinto(self, room):
+        if not self.first:
+            return self.rest.readinto(room)
+        count = min(len(room), len(self.first))
+        room[:count], self.first = self.first[:count], self.first[count:]
+        return count
+
+
 class Answer(http.server.BaseHTTPRequestHandler):
     protocol_version = 'HTTP/1.1'
     server_version, sys_version = 'vp-viewer', ''
-    disable_nagle_algorithm, timeout = True, QUIET
+    disable_nagle_algorithm, timeout, rbufsize = True, QUIET, 0
+
+    def __init__(self, connection, first, page):
+        self.first = first
+        super().__init__(connection, connection.getpeername(), page)
+
+    def setup(self):
+        super().setup()
+        self.rfile = io.BufferedReader(Began(self.first, self.rfile))
 
     def log_message(self, *_):
         pass
@@ -104,36 +152,41 @@ class Answer(http.server.BaseHTTPRequestHandler):
 
     def answer(self, ways):
         try:
-            self.guard()
             path, _, query = self.path.partition('?')
-            if self.command == 'GET' and self.server.once and same(path, f'/{self.server.once}'):
-                self.server.once = None
-                return self.give(b'', 'text/plain', 303, {'Location': f'/{self.server.secret}/'})
             secret, _, name = path[1:].partition('/')
+            self.guard_host()
+            if self.command == 'GET' and not name and self.server.used(secret):
+                # the page that leads on is our own: where the browser came from is forgotten
+                return self.give(leading(f'/{self.server.secret}/'), 'text/html; charset=utf-8')
+            self.guard_page()
             if not same(secret, self.server.secret):
                 raise Refused(403, 'the address has no right secret')
             self.asked = dict(urllib.parse.parse_qsl(query))
-            if self.command == 'GET' and name in PARTS:
-                file, kind = PARTS[name]
-                with open(os.path.join(HERE, file), 'rb') as part:
-                    return self.give(part.read(), f'{kind}; charset=utf-8')
+            part = name or 'page.html'
+            if self.command == 'GET' and part in PARTS:
+                with open(os.path.join(HERE, part), 'rb') as file:
+                    return self.give(file.read(), f'{PARTS[part]}; charset=utf-8')
             if name not in ways:
                 raise Refused(404, 'there is no such part')
             self.body = self.read_body() if self.command == 'POST' else b''
             given = ways[name]()
             if isinstance(given, bytes):
-                return self.give(given, 'application/octet-stream')
-            return self.give(json.dumps(given, separators=(',', ':')).encode(), 'application/json')
+                self.give(given, 'application/octet-stream')
+            elif given is not None:
+                self.give(json.dumps(given, separators=(',', ':')).encode(), 'application/json')
         except Refused as refused:
             self.close_connection = True
             self.give(refused.args[1].encode() + b'\n', 'text/plain; charset=utf-8', refused.args[0])
         except Gone:
             self.close_connection = True
 
-    def guard(self):
-        """Only our own page asks: a name that leads here, as another page may have made one, is refused by Host."""
+    def guard_host(self):
+        """A name that leads here, as another page may have made one, is refused."""
         if self.headers.get_all('Host', []) not in ([it] for it in self.server.hosts):
             raise Refused(403, 'the host is another one')
+
+    def guard_page(self):
+        """Only our own page asks."""
         origins = [f'http://{it}' for it in self.server.hosts]
         if any(it not in origins for it in self.headers.get_all('Origin', [])):
             raise Refused(403, 'the origin is another one')
@@ -155,14 +208,33 @@ class Answer(http.server.BaseHTTPRequestHandler):
             raise Gone
         return body
 
-    def give(self, data, kind, status=200, more={}):
+    def head(self, status, kind, more):
         self.send_response(status)
-        for name, value in {**HEADERS, 'Content-Type': kind, 'Content-Length': str(len(data)), **more}.items():
+        for name, value in {**HEADERS, 'Content-Type': kind, **more}.items():
             self.send_header(name, value)
         if self.close_connection:
             self.send_header('Connection', 'close')
         self.end_headers()
+
+    def give(self, data, kind, status=200):
+        self.head(status, kind, {'Content-Length': str(len(data))})
         self.wfile.write(data)
+
+    def pass_on(self, words, more):
+        """Runs words on the stream and gives what they put out, as it comes: pieces with their lengths before them,
+        behind an empty one how it ended, in JSON."""
+        self.connection.settimeout(SECONDS)
+        with contextlib.closing(self.server.program.run(words, self.stream(), self.connection)) as pieces:
+            for n, piece in enumerate(pieces):
+                if n == 0:
+                    self.head(200, 'application/octet-stream', {'Transfer-Encoding': 'chunked'})
+                if isinstance(piece, dict):
+                    piece = bytes(4) + json.dumps({**piece, **more}, separators=(',', ':')).encode()
+                else:
+                    piece = struct.pack('<I', len(piece)) + piece
+                self.wfile.write(b'%x\r\n' % len(piece) + piece + b'\r\n')
+        self.wfile.write(b'0\r\n\r\n')
+        self.connection.settimeout(QUIET)
 
     # what is asked for
 
@@ -194,9 +266,9 @@ class Answer(http.server.BaseHTTPRequestHandler):
     def state(self):
         page = self.server
         return {
-            'files': [{'name': it.name, 'version': it.version()} for it in page.files],
+            'files': [{'name': it.name, 'path': it.path, 'version': it.version()} for it in page.files],
             'examples': [it.name for it in page.examples], 'width': page.width, 'language': page.language,
-            'offsets': bool(page.program.offsets), 'most': MOST_STREAM,
+            'most': MOST_STREAM,
             'fonts': {letter: os.path.basename(name) for letter, name in page.fonts['receipt'].items()},
         }
 
@@ -234,24 +306,29 @@ class Answer(http.server.BaseHTTPRequestHandler):
         except (OSError, ValueError) as error:
             raise Refused(413, str(error))
 
+    def stream(self):
+        """What is printed, listed and remarked upon of what the page sent: every stream passes here."""
+        return self.body
+
     def print(self):
         language = self.choose('lang', ('label', 'receipt'))
-        width = self.choose('width', ('576', '384'))
-        start = time.monotonic()
-        said, data = self.server.program.printed(language, width, self.fonts(language), self.body, self.connection)
-        said['ms'] = round(1000 * (time.monotonic() - start), 1)
-        said['guess'] = guess(self.body)
-        head = json.dumps(said, separators=(',', ':')).encode()
-        return struct.pack('<I', len(head)) + head + data
+        words = self.server.program.print_words(language, self.choose('width', ('576', '384')), self.fonts(language))
+        self.pass_on(words, {'guess': guess(self.body)})
 
     def list(self):
-        return self.server.program.listed(self.choose('lang', ('label', 'receipt')), self.body,
-                                          self.choose('runs', ('1', '0')) == '1', self.connection)
+        self.pass_on(self.server.program.list_words(self.choose('lang', ('label', 'receipt'))), {})
 
     def remarks(self):
         language = self.choose('lang', ('label', 'receipt'))
-        return self.server.program.remarks(language, self.fonts(language), self.body, self.connection)
+        return self.server.program.remarks(language, self.fonts(language), self.stream(), self.connection)
+
+
+def leading(address):
+    """A page that leads a browser on."""
+    return ('<!DOCTYPE html>\n<meta charset="utf-8">\n<meta name="referrer" content="no-referrer">\n'
+            f'<meta http-equiv="refresh" content="0; url={address}">\n<title>vp viewer</title>\n'
+            f'<a href="{address}">The viewer</a>\n').encode()
 
 
 def same(one, other):
-    return hmac.compare_digest(one.encode(), other.encode())
+    return hmac.compare_digest(*(it if isinstance(it, bytes) else it.encode() for it in (one, other)))

@@ -36,8 +36,9 @@ class Chromium:
                                     stdout=self.log, stderr=self.log, start_new_session=True)
         os.close(ours[0])
         os.close(theirs[1])
-        self.to, self.back, self.held, self.count, self.errors = ours[1], theirs[0], b'', 0, []
-        self.session = None
+        self.to, self.back, self.held, self.count, self.errors, self.dialogs = ours[1], theirs[0], b'', 0, [], []
+        # whether a page that asks is stayed on
+        self.session, self.stays = None, True
         page = next(it for it in self.ask('Target.getTargets')['targetInfos'] if it['type'] == 'page')
         self.session = self.ask('Target.attachToTarget', targetId=page['targetId'], flatten=True)['sessionId']
         self.ask('Page.enable')
@@ -50,12 +51,16 @@ class Chromium:
         self.ask('Emulation.setDeviceMetricsOverride', width=width, height=height, deviceScaleFactor=scale,
                  mobile=False)
 
-    def ask(self, method, **words):
+    def send(self, method, **words):
         self.count += 1
         message = {'id': self.count, 'method': method, 'params': words}
         if self.session:
             message['sessionId'] = self.session
         os.write(self.to, json.dumps(message).encode() + b'\0')
+        return self.count
+
+    def ask(self, method, **words):
+        number = self.send(method, **words)
         until = time.monotonic() + 60
         while True:
             while b'\0' not in self.held:
@@ -70,7 +75,10 @@ class Chromium:
             if told.get('method') == 'Runtime.exceptionThrown':
                 details = told['params']['exceptionDetails']
                 self.errors.append(details.get('exception', {}).get('description', details['text']))
-            if told.get('id') == self.count:
+            if told.get('method') == 'Page.javascriptDialogOpening':
+                self.dialogs.append(told['params']['type'])
+                self.send('Page.handleJavaScriptDialog', accept=not self.stays)
+            if told.get('id') == number:
                 if 'error' in told:
                     raise RuntimeError(f'{method}: {told["error"]["message"]}')
                 return told['result']

@@ -1,0 +1,30 @@
+// What the parts of the page share: the printer, the tabs and the one that is seen, what was chosen for all of them.
+
+import { Served } from './served.js';
+
+export const find = id => document.getElementById(id);
+export const number = n => n.toLocaleString('en');
+export const plural = (n, what) => `${number(n)} ${what}${n === 1 ? '' : 's'}`;
+
+export const desk = {
+  printer: new Served(), state: null, tabs: [], tab: null,
+  // the sheets that are chosen for fonts, and the files' names of those that the printer keeps
+  fonts: { a: '', b: '' }, sheetNames: new Map(),
+  // what the paper is compared with
+  other: null,
+  // dots a millimetre of paper
+  dpmm: 8,
+};
+
+export function setChoices(box, choices, value) {
+  box.replaceChildren(...choices.map(([it, text]) => new Option(text, it)));
+  box.value = value;
+}
+
+export function save(data, name) {
+  const link = document.createElement('a');
+  link.href = URL.createObjectURL(data instanceof Blob ? data : new Blob([data]));
+  link.download = name;
+  link.click();
+  setTimeout(() => URL.revokeObjectURL(link.href), 1000);
+}

@@ -1,0 +1,82 @@
+// What was changed in a stream: taken back and done again, whatever was shown between.
+
+const MOST = 64 << 20;
+// Keys that come so quickly one after the other are taken back together, in milliseconds.
+const TOGETHER = 1000;
+
+// The one change from some bytes to others, as {at, old, now}; null where there is none.
+export function changeOf(before, after) {
+  const less = Math.min(before.length, after.length);
+  let at = 0;
+  while (at < less && before[at] === after[at]) at++;
+  let same = 0;
+  while (same < less - at && before[before.length - 1 - same] === after[after.length - 1 - same]) same++;
+  if (at + same === before.length && before.length === after.length) return null;
+  return { at, old: before.slice(at, before.length - same), now: after.slice(at, after.length - same) };
+}
+
+export function changed(bytes, { at, old, now }) {
+  const made = new Uint8Array(bytes.length - old.length + now.length);
+  made.set(bytes.subarray(0, at));
+  made.set(now, at);
+  made.set(bytes.subarray(at + old.length), at + now.length);
+  return made;
+}
+
+const inverse = ({ at, old, now }) => ({ at, old: now, now: old });
+
+function both(first, second) {
+  const made = new Uint8Array(first.length + second.length);
+  made.set(first);
+  made.set(second, first.length);
+  return made;
+}
+
+// Two changes of which each only puts in, or only takes out, and that touch.
+function joined(one, next) {
+  const into = next.at - one.at;
+  if (!one.old.length && !next.old.length && into >= 0 && into <= one.now.length) {
+    return { ...one, now: both(both(one.now.subarray(0, into), next.now), one.now.subarray(into)) };
+  }
+  if (!one.now.length && !next.now.length && into === 0) return { ...one, old: both(one.old, next.old) };
+  if (!one.now.length && !next.now.length && next.at + next.old.length === one.at) {
+    return { ...next, old: both(next.old, one.old) };
+  }
+  return null;
+}
+
+export class History {
+  constructor() {
+    Object.assign(this, { done: [], undone: [], size: 0 });
+  }
+
+  // Keeps a change; `typed` says that it is a key's, which may be joined to the last one's.
+  keep(change, typed) {
+    const time = typed ? performance.now() : -Infinity;
+    const last = this.done[this.done.length - 1];
+    const whole = last && time - last.time < TOGETHER ? joined(last, change) : null;
+    if (whole) this.done.pop();
+    this.done.push({ ...(whole ?? change), time });
+    this.undone = [];
+    this.size += change.old.length + change.now.length;
+    while (this.size > MOST && this.done.length > 1) {
+      const { old, now } = this.done.shift();
+      this.size -= old.length + now.length;
+    }
+  }
+
+  // The change that takes the last one back, or does again what was taken back; null where there is none.
+  back() {
+    const last = this.done.pop();
+    if (!last) return null;
+    this.undone.push(last);
+    return inverse(last);
+  }
+
+  again() {
+    const next = this.undone.pop();
+    if (!next) return null;
+    this.done.push({ ...next, time: -Infinity });
+    return next;
+  }
+}

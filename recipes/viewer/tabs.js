@@ -1,0 +1,122 @@
+// Tabs: streams, each with what is known of it.
+
+import { History } from './history.js';
+import { desk, find, save } from './desk.js';
+
+let count = 0;
+
+export class Tab {
+  // `kept` are the bytes that a file has, or null where none does; a followed file is named by its number and path.
+  constructor(name, bytes, language, { kept = bytes, followed = null, path = name } = {}) {
+    Object.assign(this, { id: count++, name, bytes, language, kept, followed, path, width: String(desk.state.width) });
+    // a label's size in millimetres, where it isn't the stream's own
+    Object.assign(this, { wide: 0, high: 0, history: new History(), asBytes: false });
+    // what the file has now, where that changed under what was written here
+    this.onDisk = null;
+    // the part that is in the editor, its line ends, and how many bytes come before each place of its text
+    Object.assign(this, { from: 0, to: 0, end: null, before: new Uint32Array(1), chosen: null });
+    // which edition of the bytes is printed and listed, what of it was, and what the last one without a fault was
+    Object.assign(this, { edits: 0, drawn: -1, listed: -1, last: 0, rows: [], remarks: [], sheets: [], good: null });
+    Object.assign(this, { said: null, fault: null, paper: new Uint8Array(0), cut: '', error: '' });
+  }
+
+  get isUnsaved() {
+    return !same(this.bytes, this.kept ?? new Uint8Array(0));
+  }
+
+  // What is printed before a label, so that it has the size that was chosen.
+  get lead() {
+    if (this.language !== 'label') return '';
+    const dots = mm => Math.max(1, Math.round(mm * desk.dpmm));
+    return (this.wide ? `^PW${dots(this.wide)}` : '') + (this.high ? `^LL${dots(this.high)}` : '');
+  }
+
+  get words() {
+    const { a, b } = desk.fonts;
+    return { lang: this.language, width: this.width, ...(a && { a }), ...(b && { b }) };
+  }
+
+  // What is known of the paper that was is of no use any more.
+  printAnew() {
+    Object.assign(this, { edits: this.edits + 1, good: null });
+  }
+}
+
+export function same(one, other) {
+  if (one === other) return true;
+  if (one.length !== other.length) return false;
+  for (let at = 0; at < one.length; at++) if (one[at] !== other[at]) return false;
+  return true;
+}
+
+// A name that no other tab has: of files of one name as much of the path as tells them apart, else a number.
+export function nameFor(name, path = name) {
+  const taken = new Set(desk.tabs.map(it => it.name));
+  const parts = path.split('/');
+  for (let count = 1; count <= parts.length; count++) {
+    const found = parts.slice(-count).join('/');
+    if (found && !taken.has(found)) return found;
+  }
+  const [, stem, end] = /^(.*?)(\.[^.]*)?$/.exec(name);
+  for (let n = 2; ; n++) if (!taken.has(`${stem}-${n}${end ?? ''}`)) return `${stem}-${n}${end ?? ''}`;
+}
+
+export const fileName = tab => tab.name.replaceAll('/', '-');
+
+export function saveStream(tab) {
+  save(tab.bytes, fileName(tab));
+  if (tab.followed === null) tab.kept = tab.bytes;
+  drawTabs();
+}
+
+// What is to be done when a tab is chosen or closed is the page's.
+export const act = { choose() {}, close() {} };
+
+export function drawTabs() {
+  const { tabs, tab } = desk;
+  find('tabs').replaceChildren(...tabs.map((it, n) => {
+    const box = document.createElement('div');
+    box.className = 'tab';
+    box.setAttribute('role', 'presentation');
+    if (it === tab) box.dataset.on = '';
+    const name = document.createElement('button');
+    name.className = 'name';
+    name.setAttribute('role', 'tab');
+    name.setAttribute('aria-selected', it === tab);
+    name.tabIndex = it === tab ? 0 : -1;
+    name.textContent = it.name;
+    const unsaved = it.isUnsaved;
+    if (unsaved) name.dataset.unsaved = '';
+    name.title = [it.path, it.followed !== null && 'followed on disk', unsaved && 'not saved',
+      it.onDisk && 'changed on disk'].filter(Boolean).join(', ');
+    name.setAttribute('aria-label', unsaved ? `${it.name}, not saved` : it.name);
+    name.onclick = () => act.choose(it);
+    name.onkeydown = event => {
+      const step = { ArrowRight: 1, ArrowLeft: -1 }[event.key];
+      if (step) {
+        act.choose(tabs[(n + step + tabs.length) % tabs.length]);
+        find('tabs').querySelector('[aria-selected="true"]').focus();
+      } else if (event.key === 'Delete' && it.followed === null) {
+        act.close(it);
+      }
+    };
+    box.append(name);
+    if (it.followed === null && tabs.length > 1) {
+      const shut = document.createElement('button');
+      shut.className = 'close';
+      shut.textContent = '×';
+      shut.setAttribute('aria-label', `Close ${it.name}`);
+      shut.onclick = () => act.close(it);
+      box.append(shut);
+    }
+    return box;
+  }));
+  find('tabs').querySelector('[data-on]')?.scrollIntoView({ block: 'nearest', inline: 'nearest' });
+  act.drawn?.();
+}
+
+addEventListener('beforeunload', event => {
+  if (!desk.tabs.some(it => it.isUnsaved)) return;
+  event.preventDefault();
+  event.returnValue = '';
+});
