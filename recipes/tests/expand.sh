@@ -11,7 +11,7 @@ python3 recipes/tests/expand/grammar.py "$vp"
 # each symbol that is written is read back from what vp prints, in all turns
 if needs zint ZXingReader zbarimg dmtxread; then
     mkdir "$room/symbols"
-    python3 recipes/tests/expand/readback.py "$vp" "$room/symbols" '^'
+    python3 recipes/tests/expand/readback.py "$vp" "$room/symbols"
 fi
 is 2 'a table that is none' recipes/expand --table nothing examples/first.bin
 says '^expand: nothing: no table of one byte$'

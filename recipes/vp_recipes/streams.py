@@ -42,11 +42,21 @@ def listing(data, language, vp=None, dots=True):
     return [(None, text) for text in texts], line
 
 
-def table():
-    """The commands that aren't printed: by language and command whether the paper shows them, and what they do."""
+def rows():
+    """The lines of the table of commands: language, command, whether the paper shows it, what becomes of it, what it does."""
     lines = pathlib.Path(__file__).with_name('commands.tsv').read_text(encoding='utf-8').splitlines()
-    found = (line.split('\t') for line in lines if line and not line.startswith('#'))
-    return {(language, command): (shows == 'yes', what) for language, command, shows, what in found}
+    return [line.split('\t') for line in lines if line and not line.startswith('#')]
+
+
+def table():
+    """The commands that are read past: by language and command whether the paper shows them, and what they do."""
+    return {(language, command): (shows == 'yes', what) for language, command, shows, _, what in rows()
+            if shows in ('yes', 'no')}
+
+
+def becomes():
+    """What recipes/expand makes of each command: by language and command printed, expanded, left out or said."""
+    return {(language, command): word for language, command, _, word, _ in rows()}
 
 
 def skipped(items, language):

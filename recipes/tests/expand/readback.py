@@ -87,7 +87,8 @@ RECEIPTS = [
     (till(b'Aztec of a till', 53, (67, 4)), 'Aztec of a till', 'x'),
     (till(b'Data Matrix of a till', 54, (67, 5)), 'Data Matrix of a till', 'xd'),
     (till(b'MaxiCode of a till', 50, (65, 52)), 'MaxiCode of a till', 'm'),
-    (till(b'H0950110153000', 51, (67, 3)), '0109501101530003', 'x'),
+    (till(b'H0950110153000', 51, (67, 3)), '09501101530003', 'x'),
+    (till(b'L(01)90012345678908(3103)001750', 51, (67, 3)), '0190012345678908' '3103001750', 'x'),
     (till(b'x' * 400, 49, (67, 3), (69, 48)), 'x' * 400, 'xz'),
     (SIZES + bars(73, b'{B' + b'own bars'), 'own bars', 'xz'),
 ]

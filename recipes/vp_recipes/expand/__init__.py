@@ -17,4 +17,5 @@ def expanded(data, language, options=Options()):
     """A stream anew, of which each piece says where it comes from."""
     written, remarks = Written(data), Remarks()
     (label_stream if language == 'label' else receipt_stream).write(data, options, written, remarks)
+    written.whole()
     return Expanded(bytes(written.bytes), written.pieces, remarks.lines())

@@ -9,14 +9,10 @@ from .pictures import Bad, of_image, read
 from .store import Store, named
 from .units import in_dots
 from ..program import run
+from ..streams import rows
 
 # What is written into the fields, or kept by the store, and stands in no new stream.
 WRITTEN = {'CI', 'CC', 'CD', 'CT', 'MU', 'LS', 'LT', 'FN', 'FV', 'DF', 'XF', 'SN', 'SF', 'FC', 'FE', 'IS', 'IL', 'ID', 'EG'}
-# What can't be written, by its name and why.
-SAID = {'JM': 'prints at half the dots a millimetre', 'CW': 'gives a stored font a letter', 'SE': 'chooses a stored table',
-        'MC': 'keeps the dots of this label for the next', 'FM': 'prints a symbol in parts', 'PA': 'orders letters',
-        'FL': 'looks up letters in another font'}
-
 
 def write(data, options, written, remarks):
     Writer(data, options, written, remarks).all()
@@ -27,6 +23,7 @@ class Writer:
         self.data, self.options, self.stream, self.remarks = data, options, stream, remarks
         self.letters, self.store = Letters(options.table, options.nearest), Store(options.store)
         self.sheet, self.settings = Cells(options.sheet), Settings()
+        self.said = {command: what for language, command, _, word, what in rows() if language == 'label' and word == 'said'}
         # up to where the old stream is written, and where the next field without a place begins
         self.at, self.after = 0, (0, 0)
         # a stream of ASCII alone has no letter that a table changes
@@ -133,6 +130,7 @@ class Writer:
         quantity = next((it for it in reversed(found) if it.sign == '^' and it.name == 'PQ'), None)
         count = quantity.number(0, 1, 1) if quantity else 1
         is_counted = any(it.sign == '^' and it.name in ('SN', 'SF') for it in found)
+        self.stream.whole()
         begin = len(self.stream.bytes)
         if not is_counted:
             self.fields(found)
@@ -205,15 +203,15 @@ class Writer:
             self.at = command.end
 
     def setting(self, command):
-        name = command.name
-        if command.sign == '~' or name not in WRITTEN | set(SAID):
+        name, title = command.name, command.sign + command.name
+        if title in self.said:
+            self.keep(command)
+            if not (name == 'JM' and command.letter(0, 'AB', 'A') == 'A' or name == 'MC' and command.letter(0, 'YN', 'Y') == 'Y'):
+                self.remarks.not_written(command.start, f'{title} {self.said[title]}: it is read past')
+        elif name not in WRITTEN:
             self.keep(command)
         elif name in ('CC', 'CD', 'CT'):
             self.signs(command)
-        elif name in SAID:
-            self.keep(command)
-            if not (name == 'JM' and command.letter(0, 'AB', 'A') == 'A' or name == 'MC' and command.letter(0, 'YN', 'Y') == 'Y'):
-                self.remarks.not_written(command.start, f'^{name} {SAID[name]}: it is left out')
         elif name == 'IL':
             self.loaded(command)
         elif name in ('ID', 'EG'):
@@ -246,6 +244,7 @@ class Writer:
     def saved(self, command, begin):
         """The label of the new stream from a byte on, as vp prints it; it is not printed where the command says so."""
         name = named(command.parameters()[0], 'GRF')
+        self.stream.whole()
         out, _, _ = run(['label', *self.options.sheet], bytes(self.stream.bytes))
         found = last_image(out) if name else None
         if not found:

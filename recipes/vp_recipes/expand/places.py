@@ -17,22 +17,29 @@ class Written:
     """A new stream as it is written: its bytes and their pieces."""
 
     def __init__(self, old):
-        self.old, self.bytes, self.pieces = old, bytearray(), []
+        # old bytes from `start` to `end` are kept, and not written yet
+        self.old, self.bytes, self.pieces, self.start, self.end = old, bytearray(), [], 0, 0
 
     def keep(self, start, end):
         """Old bytes as they came."""
-        if start == end:
-            return
-        at, last = len(self.bytes), self.pieces[-1] if self.pieces else None
-        self.bytes += self.old[start:end]
-        if last and last.same and last.old_end == start:
-            self.pieces[-1] = last._replace(end=len(self.bytes), old_end=end)
-        else:
-            self.pieces.append(Piece(at, len(self.bytes), start, end, True))
+        if start == self.end and self.start < self.end:
+            self.end = end
+        elif start < end:
+            self.whole()
+            self.start, self.end = start, end
+
+    def whole(self):
+        """Writes what is kept: the bytes and their pieces stand."""
+        if self.start < self.end:
+            at = len(self.bytes)
+            self.bytes += self.old[self.start:self.end]
+            self.pieces.append(Piece(at, len(self.bytes), self.start, self.end, True))
+            self.start = self.end
 
     def anew(self, data, start, end):
         """Other bytes in place of old ones."""
         if data:
+            self.whole()
             at = len(self.bytes)
             self.bytes += data
             self.pieces.append(Piece(at, len(self.bytes), start, end, False))

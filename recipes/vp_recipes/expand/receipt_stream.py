@@ -1,17 +1,438 @@
 """A receipt's stream anew, unit by unit: what vp prints is kept, what moves no paper is left out."""
-from .receipts import units
+import re
 
-# Commands that vp doesn't know and that print nothing.
-LEFT_OUT = {'dle 14', 'esc 42', 'esc 6c', 'esc 75', 'esc 76', 'gs 45', 'gs 6a', 'gs 05', 'gs 7a'}
+from . import symbols, zint
+from .cells import Cells
+from .letters import COUNTRIES, NONE, PAGES, SIGNS, Letters, decoded, named
+from .lines import Lines
+from .receipt_symbols import BARS, NAMES, Planes, is_beyond
+from .receipts import units
+from .till_pictures import Kept, magnified
+from ..streams import rows
+
+# What is told of letters.
+CELLS = "letters are written as the sheet's cells"
+# The paper's width, where no other is said.
+WIDTH = 576
+
+
+class Lacking(set):
+    """Bytes of a table that a sheet has no cell for, and their characters."""
+
+    def __init__(self):
+        super().__init__()
+        self.chars = {}
 
 
 def write(data, options, written, remarks):
-    at = 0
-    for unit in units(data):
-        at = unit.end
-        if unit.kind == 'command' and unit.name in LEFT_OUT:
-            continue
-        if unit.kind == 'unknown':
-            remarks.not_written(unit.start, f'{unit.name} is no command that is known: nothing behind it is printed')
-        written.keep(unit.start, unit.end)
-    written.keep(at, len(data))
+    Writer(data, options, written, remarks).all()
+
+
+class Writer:
+    def __init__(self, data, options, stream, remarks):
+        self.data, self.options, self.stream, self.remarks = data, options, stream, remarks
+        self.letters, self.kept, self.planes = Letters(options.table, options.nearest), Kept(), Planes()
+        self.lines, self.known = Lines(options, stream), {}
+        self.table = {command: (stops, word, what) for language, command, stops, word, what in rows() if language == 'receipt'}
+        self.reset()
+
+    def reset(self):
+        """ESC @."""
+        self.code, self.country, self.is_two_byte, self.is_own = None, 0, False, False
+        self.bars, self.module, self.shown, self.shown_font = 162, 3, 0, 'a'
+        self.left, self.area, self.is_page, self.turned = 0, WIDTH, False, 0
+        self.own = {}
+        self.lines.reset()
+
+    def all(self):
+        at = 0
+        found = list(units(self.data))
+        # a stream whose text is ASCII alone has no letter that a table changes
+        self.has_others = any(it.kind == 'text' and not self.data[it.start:it.end].isascii() for it in found)
+        for unit in found:
+            at = unit.end
+            if unit.kind == 'text':
+                self.text(unit)
+            elif unit.kind == 'control':
+                self.control(unit)
+            elif unit.kind == 'command':
+                self.command(unit)
+            else:
+                if unit.kind == 'unknown':
+                    whose = "one of Star's" if unit.name in ('esc 1d', 'esc 1e', 'esc 07') else 'no command that is known'
+                    self.remarks.not_written(unit.start, f'{shown(unit.name)} is {whose}: nothing behind it is printed')
+                self.lines.end()
+                self.stream.keep(unit.start, unit.end)
+        self.lines.end()
+        self.stream.keep(at, len(self.data))
+
+    def keep(self, unit):
+        self.lines.keep(unit)
+
+    def anew(self, unit, data, text):
+        self.remarks.anew(unit.start, text)
+        self.lines.anew(data, unit.start, unit.end)
+
+    def refused(self, unit, text):
+        self.remarks.not_written(unit.start, text)
+
+    def control(self, unit):
+        self.keep(unit)
+        if unit.name == '0c':
+            self.is_page = False
+
+    # ---- letters
+
+    def text(self, unit):
+        data = self.data[unit.start:unit.end]
+        if self.is_own and self.own or self.turned & 1:
+            self.by_letter(unit, data)
+        elif self.is_two_byte and not data.isascii():
+            self.two_byte(unit, data)
+        elif self.options.encoding:
+            self.of_encoding(unit, data)
+        elif self.code or self.country:
+            self.of_table(unit, data)
+        else:
+            self.keep(unit)
+
+    def characters(self, data):
+        """The letters of bytes by what is in force."""
+        if self.options.encoding:
+            return decoded(data, self.options.encoding)
+        return decoded(data, self.code or self.options.table, self.country) if self.code or self.country else self.letters.text(data)
+
+    def of_encoding(self, unit, data):
+        """Text in an encoding of any length, run by run of what isn't ASCII."""
+        if data.isascii():
+            return self.keep(unit)
+        name = self.options.encoding.lower().replace('_', '-')
+        if name in ('utf-8', 'utf8') or name.startswith(('iso', 'latin', 'cp', 'koi')):
+            at = 0
+            for match in re.finditer(rb'[\x80-\xff]+', data):
+                self.lines.keep_bytes(unit.start + at, unit.start + match.start())
+                self.letters_of(unit.start + match.start(), unit.start + match.end(), decoded(match[0], self.options.encoding))
+                at = match.end()
+            self.lines.keep_bytes(unit.start + at, unit.end)
+        else:
+            self.letters_of(unit.start, unit.end, decoded(data, self.options.encoding))
+
+    def of_table(self, unit, data):
+        pattern, cells, lacking = self.changes()
+        at, start = 0, unit.start
+        for match in pattern.finditer(data) if pattern else ():
+            first, end, found = match.start(), match.end(), match[0]
+            self.lines.keep_bytes(start + at, start + first)
+            for byte in lacking.intersection(found):
+                self.remarks.not_written(start + first, f'the sheet has no {named(lacking.chars[byte])}')
+            self.remarks.anew(start + first, CELLS)
+            self.lines.anew(found.translate(cells), start + first, start + end)
+            at = end
+        self.lines.keep_bytes(start + at, unit.end)
+
+    def changes(self):
+        """A pattern of the bytes whose cell is another in the sheet, what they become, and those that it lacks."""
+        key = self.code, self.country
+        if key not in self.known:
+            source = self.code or self.options.table
+            bytes_of = bytes(range(0x20, 0x100))
+            chars = [decoded(bytes([it]), source, self.country) for it in bytes_of]
+            if not self.code:
+                chars = [char if chr(it) in SIGNS else self.letters.text(bytes([it])) for it, char in zip(bytes_of, chars)]
+            others = [it for it, char in zip(bytes_of, chars) if self.letters.cell(char) != it]
+            pattern = re.compile(b'[' + b''.join(re.escape(bytes([it])) for it in others) + b']+') if others else None
+            cells, lacking = bytearray(range(256)), Lacking()
+            for byte, char in zip(bytes_of, chars):
+                cell = self.letters.cell(char)
+                cells[byte] = NONE if cell is None else cell
+                if cell is None:
+                    lacking.add(byte)
+                    lacking.chars[byte] = char
+            self.known[key] = pattern, bytes(cells), lacking
+        return self.known[key]
+
+    def letters_of(self, start, end, text):
+        data, lacks = self.letters.written(text)
+        for char in sorted(lacks):
+            self.remarks.not_written(start, f'the sheet has no {named(char)}')
+        if data == self.data[start:end]:
+            self.lines.keep_bytes(start, end)
+        else:
+            self.remarks.anew(start, CELLS)
+            self.lines.anew(data, start, end)
+
+    def two_byte(self, unit, data):
+        at = 0
+        for match in re.finditer(rb'(?:[\x80-\xff][\x20-\xff])+', data):
+            self.lines.keep_bytes(unit.start + at, unit.start + match.start())
+            self.remarks.not_written(unit.start + match.start(), 'characters of two bytes (FS &): the sheet has none')
+            self.lines.anew(bytes([NONE]) * len(match[0]), unit.start + match.start(), unit.start + match.end())
+            at = match.end()
+        self.lines.keep_bytes(unit.start + at, unit.end)
+
+    def by_letter(self, unit, data):
+        """Letters that the till defined, and letters that are turned, as columns in the line."""
+        across, down = self.lines.size()
+        font = self.lines.font()
+        for n, byte in enumerate(data):
+            start = unit.start + n
+            columns = self.own.get((font, byte)) if self.is_own else None
+            if self.turned & 1:
+                columns = self.turned_columns(byte, font)
+            if columns is None:
+                self.text(unit._replace(start=start, end=start + 1)) if not (self.is_own and self.own) else self.plain(start)
+                continue
+            if down > 1:
+                self.refused(unit, 'letters that the till defined, or that are turned, are written once as high')
+            body = b''.join(it * across for it in columns)
+            what = 'letters are turned' if self.turned & 1 else 'letters that the till defined are written as columns'
+            self.remarks.anew(start, what)
+            self.lines.anew(b'\x1b*\x21' + (len(body) // 3).to_bytes(2, 'little') + body, start, start + 1)
+
+    def plain(self, start):
+        """One byte as a letter of its table."""
+        if self.options.encoding or not (self.code or self.country):
+            self.lines.keep_bytes(start, start + 1)
+        else:
+            self.letters_of(start, start + 1, self.characters(self.data[start:start + 1]))
+
+    def turned_columns(self, byte, font):
+        """A cell turned by a quarter, as columns of 24 dots of which the lower ones are its own."""
+        cells = self.lines.cells(font)
+        data, _ = self.letters.written(self.characters(bytes([byte])))
+        picture = cells.line(data).turned('R')
+        return [int(it, 2).to_bytes(3, 'big') for it in
+                (''.join(it).rjust(24, '0')[-24:] for it in zip(*picture.texts()))]
+
+    # ---- commands
+
+    def command(self, unit):
+        name, arguments = unit.name, unit.arguments
+        handler = self.HANDLERS.get(name)
+        if handler:
+            handler(self, unit, arguments)
+        elif name in self.table and self.table[name][0] == 'stops':
+            _, word, what = self.table[name]
+            if word == 'said':
+                self.refused(unit, f'{shown(name)} {what}: it is left out')
+        else:
+            self.keep(unit)
+            self.said(unit)
+
+    def said(self, unit):
+        """What vp reads past and a printer would show."""
+        _, word, what = self.table.get(unit.name, ('', '', ''))
+        last = unit.arguments[-1] if unit.arguments else 0
+        is_usual = unit.name in ('esc 72', 'gs 62') and last in (0, 48) or unit.name[:2] == 'fs' and not self.is_two_byte
+        if word == 'said' and not is_usual:
+            self.refused(unit, f'{shown(unit.name)} {what}: it is read past')
+
+    def paper(self, unit, arguments):
+        """ESC c: vp doesn't know those that choose the paper."""
+        if arguments[0] not in b'01':
+            self.keep(unit)
+
+    def start(self, unit, arguments):
+        self.reset()
+        self.keep(unit)
+
+    def set_page(self, unit, arguments):
+        self.is_page = unit.name == 'esc 4c'
+        self.keep(unit)
+
+    def number(self, unit, arguments):
+        n = arguments[0]
+        if unit.name == 'gs 68' and n:
+            self.bars = n
+        elif unit.name == 'gs 77' and 2 <= n <= 6:
+            self.module = n
+        elif unit.name == 'gs 48' and n % 48 < 4 and n < 52:
+            self.shown = n % 48
+        elif unit.name == 'gs 66' and n in (0, 1, 48, 49):
+            self.shown_font = 'ab'[n & 1]
+        elif unit.name == 'gs 4c' and int.from_bytes(arguments, 'little') < WIDTH:
+            self.left = int.from_bytes(arguments, 'little')
+        elif unit.name == 'gs 57' and any(arguments):
+            self.area = int.from_bytes(arguments, 'little')
+        self.keep(unit)
+
+    def code_table(self, unit, arguments):
+        n = arguments[0]
+        found = PAGES.get(n)
+        self.code = found
+        if not found and self.has_others:
+            self.refused(unit, f'{shown(unit.name)} {n:02x}: a code table that is not known')
+        if not self.has_others or found == self.options.table:
+            self.keep(unit)
+
+    def set_country(self, unit, arguments):
+        n = arguments[0]
+        self.country = n if n in COUNTRIES else 0
+        if n and not self.country:
+            self.refused(unit, f'{shown(unit.name)} {n:02x}: a country that is not known')
+        elif not n:
+            self.keep(unit)
+
+    def set_two_byte(self, unit, arguments):
+        self.is_two_byte = unit.name == 'fs 26'
+        self.keep(unit)
+
+    def define(self, unit, arguments):
+        """ESC &."""
+        height, first, last, at = arguments[0], arguments[1], arguments[2], 3
+        font, tall = self.lines.font(), {'a': 24, 'b': 17}[self.lines.font()]
+        for byte in range(first, last + 1):
+            count = arguments[at]
+            columns = [arguments[at + 1 + n * height:at + 1 + (n + 1) * height] for n in range(count)]
+            at += 1 + count * height
+            wide = {'a': 12, 'b': 9}[font]
+            columns = [it.ljust(3, b'\0')[:3] for it in columns] + [bytes(3)] * max(0, wide - count)
+            self.own[font, byte] = [(int.from_bytes(it, 'big') >> 24 - tall).to_bytes(3, 'big') for it in columns]
+
+    def choose_own(self, unit, arguments):
+        self.is_own = bool(arguments[0] & 1)
+        if not self.own:
+            self.keep(unit)
+
+    def forget_own(self, unit, arguments):
+        self.own.pop((self.lines.font(), arguments[0]), None)
+        self.keep(unit)
+
+    def turn(self, unit, arguments):
+        n = arguments[0] % 48 if arguments[0] >= 48 else arguments[0]
+        self.turned = 1 if n in (1, 2) else 0
+        if self.is_page and self.turned:
+            self.refused(unit, 'ESC V turns letters on a page: it is read past')
+            self.turned = 0
+
+    def upside_down(self, unit, arguments):
+        if self.is_page and arguments[0] & 1:
+            self.refused(unit, 'ESC { prints upside down on a page: it is read past')
+            return
+        if arguments[0] & 1:
+            self.remarks.anew(unit.start, 'lines that are upside down are written as pictures')
+        self.lines.upside_down(bool(arguments[0] & 1), self.left, self.area)
+
+    def motion(self, unit, arguments):
+        if any(it not in (0, 203) for it in arguments):
+            self.refused(unit, f'GS P {arguments[0]} {arguments[1]}: lengths stay in dots of an eighth of a millimetre')
+        self.keep(unit)
+
+    def cut(self, unit, arguments):
+        if arguments[0] in b'abgh':
+            kind = b'A' if arguments[0] in b'ag' else b'B'
+            self.anew(unit, b'\x1dV' + kind + arguments[1:2], 'GS V: a cut at a set place is written as one behind a feed')
+        else:
+            self.keep(unit)
+
+    # ---- pictures
+
+    def picture(self, unit, found, text):
+        if not found.rows or not found.width:
+            return
+        self.anew(unit, found.as_raster(), text)
+
+    def graphics(self, unit, arguments):
+        body = arguments[3:] if unit.name == 'gs 28 4c' else arguments[5:]
+        found = self.kept.graphics(body)
+        if isinstance(found, str):
+            self.refused(unit, f'{shown(unit.name)}: {found}')
+        elif found is not True:
+            self.picture(unit, found, f'{shown(unit.name)}: a stored picture is written as a raster')
+
+    def load(self, unit, arguments):
+        self.kept.load(arguments)
+
+    def print_loaded(self, unit, arguments):
+        if not self.kept.last or arguments[0] % 48 > 3 or arguments[0] > 51:
+            self.refused(unit, 'GS / prints a picture that is not stored')
+        else:
+            self.picture(unit, magnified(self.kept.last, arguments[0] & 3), 'GS /: a stored picture is written as a raster')
+
+    def define_kept(self, unit, arguments):
+        self.kept.define(arguments)
+
+    def print_kept(self, unit, arguments):
+        found = self.kept.numbered.get(arguments[0])
+        if not found:
+            self.refused(unit, f'FS p {arguments[0]:02x} {arguments[1]:02x} prints a picture that is not stored in this stream')
+            return
+        self.picture(unit, magnified(found, arguments[1] & 3), 'FS p: a stored picture is written as a raster')
+
+    def columns(self, unit, arguments):
+        """GS Q 0: a picture in columns."""
+        from .till_pictures import of_columns
+        width, height = (int.from_bytes(arguments[n:n + 2], 'little') for n in (2, 4))
+        found = of_columns(arguments[6:], width, 8 * height)
+        self.picture(unit, magnified(found, arguments[1] & 3), 'GS Q: a picture in columns is written as a raster')
+
+    # ---- symbols
+
+    def bar_code(self, unit, arguments):
+        kind = arguments[0]
+        if kind not in BARS:
+            self.keep(unit)
+            return
+        data = arguments[1:-1] if kind < 7 else arguments[2:]
+        from .receipt_symbols import of_bars
+        self.symbol(unit, f'GS k {kind}', BARS[kind], lambda: (of_bars(kind, data), self.module, self.bars), data)
+
+    def plane(self, unit, arguments):
+        """GS ( k."""
+        body = arguments[3:]
+        if len(body) < 2:
+            return self.keep(unit)
+        cn, fn = body[0], body[1]
+        prints = self.planes.take(cn, fn, body[2:])
+        if cn == 49:
+            data, level = self.planes.data.get(49, b''), self.planes.number(49, 69, 0, 48, 48, 51)
+            is_micro = self.planes.settings.get((49, 65), b'2')[:1] == b'3'
+            if not prints or not data or not (is_micro or is_beyond(data, level)):
+                return self.keep(unit)
+        elif cn not in NAMES:
+            return self.keep(unit)
+        if prints:
+            self.symbol(unit, f'GS ( k {cn}', NAMES[cn], lambda: self.planes.symbol(cn), self.planes.data.get(cn, b''))
+
+    def symbol(self, unit, title, name, make, data):
+        try:
+            symbol, narrow, height = make()
+            if not symbol.data:
+                raise zint.Refused('there are no data')
+        except zint.Refused as why:
+            self.refused(unit, f'{title}: {name}: {why}')
+            return
+        wide = symbols.wide_of_receipt(narrow)
+        if symbol.name == 'DataBar' and symbol.form == 'fixed':
+            height = max(height, 13 * narrow)
+        drawing = symbols.Drawing(narrow, wide, height, self.shown in (1, 3), self.shown in (2, 3), self.lines.cells(self.shown_font))
+        try:
+            found = symbols.picture(symbol, drawing)
+        except zint.Refused as why:
+            self.refused(unit, f'{title}: {name}: {why}')
+            return
+        except FileNotFoundError:
+            self.refused(unit, f'{title}: {name} needs zint: a frame stands in its place')
+            found = symbols.frame(symbol, drawing)
+            self.lines.anew(found.as_raster(), unit.start, unit.end)
+            return
+        room = min(self.area, WIDTH - self.left)
+        if found.width > room and not self.is_page:
+            self.refused(unit, f'{title}: {name} is {found.width} dots wide, and the line {room}: it is not printed')
+            return
+        self.picture(unit, found, f'{title}: {name} is written as a picture')
+
+    HANDLERS = {
+        'esc 40': start, 'esc 4c': set_page, 'esc 53': set_page, 'gs 68': number, 'gs 77': number, 'gs 48': number,
+        'gs 66': number, 'gs 4c': number, 'gs 57': number, 'esc 74': code_table, 'esc 52': set_country,
+        'esc 63': paper, 'fs 26': set_two_byte, 'fs 2e': set_two_byte, 'esc 26': define, 'esc 25': choose_own, 'esc 3f': forget_own,
+        'esc 56': turn, 'esc 7b': upside_down, 'gs 50': motion, 'gs 56': cut, 'gs 28 4c': graphics, 'gs 38 4c': graphics,
+        'gs 2a': load, 'gs 2f': print_loaded, 'fs 71': define_kept, 'fs 70': print_kept, 'gs 51': columns, 'gs 6b': bar_code,
+        'gs 28 6b': plane,
+    }
+
+
+def shown(name):
+    """A command as its manual names it."""
+    lead, *rest = name.split(' ')
+    return ' '.join([lead.upper(), *[chr(int(it, 16)) if 0x21 <= int(it, 16) < 0x7F else it for it in rest]])

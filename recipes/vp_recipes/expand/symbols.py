@@ -6,7 +6,7 @@ from . import zint
 from .pictures import Picture
 
 # A symbol: how it is called, zint's number of its kind, its data, words for zint, its form, its text or None, and of
-# stacked rows how high each is, in modules, where that is the kind's own.
+# stacked rows how high each is in turn, in modules, where that is the kind's own.
 #   fixed   bars that are whole modules          two     bars of two widths
 #   stacked rows of bars, all as high            matrix  squares
 #   postal  bars of several heights              maxi    hexagons, in one size
@@ -54,7 +54,7 @@ def picture(symbol, drawing):
     if symbol.form == 'matrix':
         return Picture.of_texts(rows).magnified(narrow, narrow)
     if symbol.form == 'stacked':
-        heights = [it * narrow for it in symbol.rows] if symbol.rows else [height] * len(rows)
+        heights = [symbol.rows[n % len(symbol.rows)] * narrow if symbol.rows else height for n in range(len(rows))]
         texts = [bars(row, narrow, drawing.wide, 'fixed') for row, count in zip(rows, heights) for _ in range(count)]
         return lettered(Picture.of_texts(texts), symbol.text, drawing)
     if symbol.form == 'postal':

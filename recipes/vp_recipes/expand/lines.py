@@ -1,0 +1,144 @@
+"""The lines of a receipt as they are written: what is set in them, and lines upside down as pictures of what vp prints."""
+from .cells import Cells
+from .pictures import Picture
+from ..program import run
+
+# What sets how the next letters stand, and is said again before a line that vp prints on its own.
+STYLES = {'esc 20', 'esc 21', 'esc 2d', 'esc 45', 'esc 47', 'esc 4d', 'esc 61', 'esc 44', 'gs 21', 'gs 42', 'gs 4c', 'gs 57'}
+WIDTH = 576
+
+
+class Lines:
+    def __init__(self, options, stream):
+        self.options, self.stream, self.sheets = options, stream, {}
+        self.reset()
+
+    def reset(self):
+        self.styles, self.spacing, self.is_upside_down, self.line = {}, 34, False, None
+        self.left, self.area = 0, WIDTH
+        self.letter, self.times = 'a', (1, 1)
+
+    def font(self):
+        return self.letter
+
+    def size(self):
+        return self.times
+
+    def cells(self, letter):
+        if letter not in self.sheets:
+            words = self.options.sheet
+            self.sheets[letter] = Cells(words, letter if f'--font-{letter}' in words else 'a')
+        return self.sheets[letter]
+
+    # ---- what comes
+
+    def keep(self, unit):
+        """A unit as it came."""
+        if unit.kind == 'command':
+            self.styled(unit)
+        ends = unit.kind == 'control' and unit.name == '0a' or unit.kind == 'command' and unit.name in ('esc 4a', 'esc 64')
+        if self.is_upside_down and ends:
+            self.turned_line(unit)
+        elif self.is_upside_down and unit.kind != 'command':
+            self.gather(unit.start, unit.end, self.stream.old[unit.start:unit.end])
+        elif self.is_upside_down and self.line and unit.name in STYLES | {'esc 24', 'esc 5c', 'esc 2a'}:
+            self.gather(unit.start, unit.end, self.stream.old[unit.start:unit.end])
+        else:
+            self.end()
+            self.stream.keep(unit.start, unit.end)
+
+    def keep_bytes(self, start, end):
+        if start == end:
+            return
+        if self.is_upside_down:
+            self.gather(start, end, self.stream.old[start:end])
+        else:
+            self.stream.keep(start, end)
+
+    def anew(self, data, start, end):
+        if self.is_upside_down and not data.startswith(b'\x1d'):
+            self.gather(start, end, data)
+        else:
+            self.end()
+            self.stream.anew(data, start, end)
+
+    def styled(self, unit):
+        name, arguments = unit.name, unit.arguments
+        if name in STYLES and not (self.is_upside_down and self.line):
+            self.styles.pop(name, None)
+            self.styles[name] = self.stream.old[unit.start:unit.end]
+        if name == 'esc 32':
+            self.spacing = 34
+        elif name == 'esc 33':
+            self.spacing = arguments[0]
+        elif name == 'esc 21':
+            self.letter = 'ab'[arguments[0] & 1]
+            self.times = 1 + (arguments[0] >> 5 & 1), 1 + (arguments[0] >> 4 & 1)
+        elif name == 'esc 4d' and arguments[0] in (0, 1, 48, 49):
+            self.letter = 'ab'[arguments[0] & 1]
+        elif name == 'gs 21' and not arguments[0] & 0x88:
+            self.times = 1 + (arguments[0] >> 4), 1 + (arguments[0] & 7)
+
+    # ---- lines upside down
+
+    def upside_down(self, is_so, left, area):
+        if is_so != self.is_upside_down and not (self.line and is_so is False):
+            self.end()
+        elif self.line:
+            self.end()
+        self.is_upside_down, self.left, self.area = is_so, left, area
+
+    def gather(self, start, end, data):
+        old = self.line or (start, end, b'')
+        self.line = old[0], end, old[2] + data
+
+    def end(self):
+        """What stands in a line that nothing ended, as it came."""
+        if self.line:
+            start, end, data = self.line
+            self.line = None
+            self.stream.anew(data, start, end)
+
+    def turned_line(self, unit):
+        """The line that a unit ends: a picture of it, turned about, and the feed."""
+        start, end, data = self.line or (unit.start, unit.end, b'')
+        self.line = None
+        found = [Picture(0, [])]
+        if data:
+            found = self.printed(data)
+        feed = {'0a': self.spacing, 'esc 4a': 0, 'esc 64': 0}[unit.name]
+        count = unit.arguments[0] if unit.arguments else 0
+        feed = count if unit.name == 'esc 4a' else self.spacing * count if unit.name == 'esc 64' else feed
+        out = b''
+        for n, it in enumerate(found):
+            if it.rows:
+                out += it.turned('I').as_raster()
+            left = (feed if n + 1 == len(found) else self.spacing) - it.height
+            while left > 0:
+                out += b'\x1bJ' + bytes([min(left, 255)])
+                left -= 255
+        for name, data in self.later(data):
+            self.styles[name] = data
+        self.stream.anew(out, start, unit.end)
+
+    def later(self, data):
+        """The styles that a line set, which hold behind it."""
+        from .receipts import units
+        for it in units(data):
+            if it.kind == 'command' and it.name in STYLES:
+                yield it.name, data[it.start:it.end]
+
+    def printed(self, data):
+        """The strips that vp prints of a line, each as wide as the line."""
+        stream = b''.join(self.styles.values()) + b'\x1b3\0' + data + b'\n'
+        out, _, _ = run(['receipt', *self.options.sheet], stream)
+        room, at, found = min(self.area, WIDTH - self.left), 0, []
+        while at < len(out):
+            stop = out.index(b'\n', at + 3)
+            width, height = map(int, out[at + 3:stop].split())
+            stride = (width + 7) // 8
+            whole = Picture.of_bytes(out[stop + 1:stop + 1 + stride * height], stride, height)
+            at = stop + 1 + stride * height
+            mask = (1 << room) - 1
+            found.append(Picture(room, [row >> width - self.left - room & mask for row in whole.rows]))
+        return found or [Picture(0, [])]
