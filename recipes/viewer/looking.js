@@ -158,6 +158,7 @@ function messages() {
     }
     made.push(line);
   };
+  if (tab.fileError) put('fault', tab.fileError);
   if (tab.error) put('fault', tab.error);
   if (said?.error) put('fault', withNames(said.error));
   if (fault) {
@@ -306,7 +307,8 @@ async function dotsOf(byte) {
 // A click on the paper goes to what drew it.
 async function chooseDot(dot) {
   const { tab } = desk;
-  if (!isKnown(tab) || dot.sheet >= tab.sheets.length) return;
+  const sheet = tab.sheets[dot.sheet];
+  if (!isKnown(tab) || !sheet || rowOf(sheet, dot.y) < 0) return;
   dotsAsked.abort();
   dotsAsked = new AbortController();
   const { signal } = dotsAsked;

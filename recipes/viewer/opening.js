@@ -3,7 +3,7 @@
 import { pasted, toBytes } from './bytes.js';
 import { compareWith } from './comparing.js';
 import { desk, find } from './desk.js';
-import { say } from './looking.js';
+import { say, show } from './looking.js';
 import { act, drawTabs, nameFor, same, Tab } from './tabs.js';
 import { editor, replace } from './writing.js';
 
@@ -89,7 +89,7 @@ export async function openFollowed() {
       tab.bytes = tab.kept = await desk.printer.file(n);
       tab.language = language ?? await desk.printer.guess(tab.bytes);
     } catch (error) {
-      tab.error = error.message;
+      tab.fileError = error.message;
     }
   }
 }
@@ -113,12 +113,12 @@ async function changedOnDisk(n) {
   let bytes;
   try {
     bytes = await desk.printer.file(n);
+    tab.fileError = '';
   } catch (error) {
-    tab.error = error.message;
-    if (tab === desk.tab) say(error.message);
-    return;
+    tab.fileError = error.message;
   }
-  tab.error = '';
+  if (tab === desk.tab) show();
+  if (tab.fileError) return;
   if (tab.kept && same(tab.kept, bytes) && !tab.onDisk) return;
   const isFree = !tab.isUnsaved || same(tab.bytes, bytes);
   tab.onDisk = isFree ? null : bytes;

@@ -32,21 +32,27 @@ HEADERS = {
 WAIT, LOOK, QUIET, MOST_INSIDE = 20, 0.1, 120, 64
 
 
+def shown(name):
+    """A file's name as it is told to users: any name is one line of text."""
+    return ' '.join(os.fsencode(name).decode('utf-8', 'replace').splitlines())
+
+
 class Followed:
     """A file of the command line. Its version changes with it."""
 
     def __init__(self, path):
-        self.path, self.name = os.path.abspath(path), os.path.basename(path)
+        self.file = os.path.abspath(path)
+        self.path, self.name = shown(self.file), shown(os.path.basename(path))
 
     def version(self):
         try:
-            it = os.stat(self.path)
+            it = os.stat(self.file)
         except OSError:
             return ''
         return f'{it.st_mtime_ns}-{it.st_size}-{it.st_ino}'
 
     def read(self):
-        with open(self.path, 'rb') as file:
+        with open(self.file, 'rb') as file:
             return file.read(MOST_STREAM + 1)
 
 

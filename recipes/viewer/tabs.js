@@ -17,7 +17,9 @@ export class Tab {
     Object.assign(this, { from: 0, to: 0, end: null, before: new Uint32Array(1), chosen: null });
     // which edition of the bytes is printed and listed, what of it was, and what the last one without a fault was
     Object.assign(this, { edits: 0, drawn: -1, listed: -1, last: 0, rows: [], remarks: [], sheets: [], good: null });
-    Object.assign(this, { said: null, fault: null, paper: new Uint8Array(0), cut: '', error: '' });
+    Object.assign(this, { said: null, fault: null, paper: new Uint8Array(0), cut: '' });
+    // why it isn't printed, and why its file can't be read
+    Object.assign(this, { error: '', fileError: '' });
   }
 
   get isUnsaved() {
@@ -70,10 +72,17 @@ export function saveStream(tab) {
 }
 
 // What is to be done when a tab is chosen or closed is the page's.
-export const act = { choose() {}, close() {} };
+export const act = { choose() {}, close() {}, drawn() {} };
+
+let drawn = '';
 
 export function drawTabs() {
   const { tabs, tab } = desk;
+  act.drawn();
+  const now = JSON.stringify([tabs.indexOf(tab), tabs.map(it => [it.id, it.name, it.isUnsaved, !!it.onDisk])]);
+  if (now === drawn) return;
+  drawn = now;
+  const hadFocus = find('tabs').contains(document.activeElement);
   find('tabs').replaceChildren(...tabs.map((it, n) => {
     const box = document.createElement('div');
     box.className = 'tab';
@@ -95,7 +104,6 @@ export function drawTabs() {
       const step = { ArrowRight: 1, ArrowLeft: -1 }[event.key];
       if (step) {
         act.choose(tabs[(n + step + tabs.length) % tabs.length]);
-        find('tabs').querySelector('[aria-selected="true"]').focus();
       } else if (event.key === 'Delete' && it.followed === null) {
         act.close(it);
       }
@@ -112,7 +120,7 @@ export function drawTabs() {
     return box;
   }));
   find('tabs').querySelector('[data-on]')?.scrollIntoView({ block: 'nearest', inline: 'nearest' });
-  act.drawn?.();
+  if (hadFocus) find('tabs').querySelector('[aria-selected="true"]')?.focus();
 }
 
 addEventListener('beforeunload', event => {

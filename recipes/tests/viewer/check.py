@@ -189,6 +189,28 @@ def test_follows(room):
         same([status, said], [404, b'shelf.zpl: No such file or directory\n'])
 
 
+def test_odd(room):
+    """Files of any name and size, and an end by a signal, which leaves nothing behind."""
+    names = [os.fsencode(room) + it for it in (b'/\xff.zpl', b'/two\nlines', b'/$(touch x) "\'.zpl', b'/-o', b'/empty')]
+    for name in names:
+        with open(name, 'wb') as file:
+            file.write(b'' if name.endswith(b'empty') else b'^XA^XZ')
+    large = room / 'large.zpl'
+    large.write_bytes(b'^' * ((4 << 20) + 1))
+    (room / 'temporary').mkdir()
+    with Viewer('--', *names, large, cwd=room, TMPDIR=str(room / 'temporary')) as page:
+        files = json.loads(page.good('state'))['files']
+        same([it['name'] for it in files], ['\ufffd.zpl', 'two lines', '$(touch x) "\'.zpl', '-o', 'empty', 'large.zpl'])
+        same([page.good(f'file?n={n}') for n in range(5)], [b'^XA^XZ'] * 4 + [b''])
+        same(page.ask('file?n=5')[:2], (413, b'large.zpl: a stream has at most 4 MB\n'))
+        os.unlink(names[0])
+        same(page.ask('file?n=0')[:2], (404, '\ufffd.zpl: No such file or directory\n'.encode()))
+        assert os.listdir(room / 'temporary') and not (room / 'x').exists()
+        page.ran.send_signal(signal.SIGTERM)
+        same(page.ran.wait(60), 0)
+        same([os.listdir(room / 'temporary'), page.ran.stderr.read()], [[], ''])
+
+
 def test_prefix(room):
     """Copied under a prefix it finds vp, the sheets and the examples there."""
     lib, share = room / 'prefix/lib/vp', room / 'prefix/share/vp'
@@ -211,6 +233,10 @@ def test_words(room):
         assert ran.returncode == status and text in ran.stderr and ran.stderr.count('\n') == 1, ran
 
     says(2, 'viewer: ', '--port', 'x')
+    os.mkfifo(room / 'pipe')
+    says(3, 'not a file', str(room / 'pipe'))
+    says(3, 'not a file', str(room))
+    says(3, 'No such file', f'{room}/no\nsuch')
     says(2, 'viewer: ', '--port', '70000')
     says(3, 'No such file', str(room / 'nothing'))
     says(3, 'No such file', '--font-a', str(room / 'nothing'))
@@ -253,18 +279,20 @@ def test_open(room):
 OTHER = r"""
 import glob, http.client, re, sys
 host, file = sys.argv[1:]
-words = b' '.join(open(it, 'rb').read().replace(b'\0', b' ') for it in glob.glob('/proc/[0-9]*/cmdline'))
-try:
-    words += open(file, 'rb').read()
-    sys.exit('it read the file')
-except OSError:
-    pass
-for path in {'/', *('/' + it.decode() for it in re.findall(rb'[A-Za-z0-9_-]{20,}', words))}:
+words = []
+for name in file, *glob.glob('/proc/[0-9]*/cmdline'):
+    try:
+        words.append(open(name, 'rb').read())
+    except OSError:
+        continue
+    if name == file:
+        sys.exit('it read the file')
+for path in {'', *(it.decode() for it in re.findall(rb'[A-Za-z0-9_-]{20,}', b' '.join(words)))}:
     for name in '', '/', '/state', '/file?n=0':
         line = http.client.HTTPConnection(host, timeout=40)
-        line.request('GET', path + name)
+        line.request('GET', f'/{path}{name}')
         if line.getresponse().status != 403:
-            sys.exit(f'it was answered: {path + name}')
+            sys.exit(f'it was answered: {path}{name}')
 """
 
 
@@ -281,7 +309,7 @@ def over_http(room):
         for test in test_prints, test_faults, test_listing, test_remarks, test_sheets, test_limits, test_safe:
             test(page)
         test_idle(page)
-    for test in test_follows, test_prefix, test_words, test_open, test_endless:
+    for test in test_follows, test_odd, test_prefix, test_words, test_open, test_endless:
         test(room)
 
 

@@ -23,9 +23,9 @@ def vp(language, data):
 
 
 class Viewer:
-    def __init__(self, *words, program=VIEWER, **environment):
+    def __init__(self, *words, program=VIEWER, cwd=None, **environment):
         self.ran = subprocess.Popen([program, *words], stdout=subprocess.PIPE, stderr=subprocess.PIPE, text=True,
-                                    env={**os.environ, **environment})
+                                    cwd=cwd, env={**os.environ, **environment})
         self.address = self.ran.stdout.readline().strip()
         assert self.address, self.ran.stderr.read()
         at = urllib.parse.urlsplit(self.address)
