@@ -30,5 +30,5 @@ is 0 'two labels' recipes/cups/vp 13 user title 1 '' "$room/two.zpl"
 [ -e "$room/queue/000008-1.png" ] && [ -e "$room/queue/000008-2.png" ] || fail 'not a PNG for each label'
 DEVICE_URI=vp:/dev/null/none
 is 5 'a folder that cannot be' recipes/cups/vp 14 user title 1 '' <examples/receipt.bin
-says '^ERROR: job: cannot write to /dev/null/none$'
+says '^ERROR: job: cannot write to /dev/null/none: Not a directory$'
 echo 'a CUPS backend: ok'

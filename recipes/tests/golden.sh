@@ -99,6 +99,81 @@ is 2 'no folder' "$golden" check "$room/none" "$golds"
 says '^golden: .*/none: no streams$'
 [ "$(wc -l <"$room/said")" -eq 1 ] || fail 'a folder that is not there has more than a line'
 
+# what is skipped is said, kept with the image, and a difference where it changes
+export VP="$vp"
+streams=$room/skips golds=$room/skips-golds
+mkdir "$streams"
+printf '^XA^PW300^LL100^FO9,9^GB20,20,3^FS^FO9,40^FVNAME JOHN^FS^FVx^FS^MMT^CI28^XZ' >"$streams/name.zpl"
+printf '^XA^DFR:A^FO9,9^FN1^FS^XZ^XA^XFR:A^FN1^FDJohn^FS^XZ' >"$streams/form.zpl"
+printf 'a\n\035(L\006\0000E\040\040\001\001' >"$streams/logo.bin"
+is 0 'accept of what is skipped' "$golden" accept "$streams" "$golds"
+says '^name.zpl: accepted; it skips ^FV 2 times$'
+says '^form.zpl: accepted; it skips ^DF once, ^FN 2 times, ^XF once$'
+says '^logo.bin: accepted; it skips GS ( L once$'
+printf '%s\n' '^FVNAME JOHN' '^FVx' | cmp - "$golds/name.zpl.skipped"
+is 0 'check of what is skipped' "$golden" check "$streams" "$golds"
+says '^name.zpl: as expected; it skips ^FV 2 times$'
+sed -i 's/JOHN/MARY/; s/MMT/MMP/' "$streams/name.zpl"
+is 1 'check of skipped data that changed' "$golden" check "$streams" "$golds" --report "$room/skips-report"
+says '^name.zpl: the images are the same; what is skipped is to be ^FVNAME JOHN and is ^FVNAME MARY$'
+grep -q 'FVNAME MARY' "$room/skips-report/index.html" || fail 'the page says nothing of what is skipped'
+printf 'a\n' >"$streams/logo.bin"
+is 1 'check of what is not skipped any more' "$golden" check "$streams" "$golds" --report "$room/skips-report"
+says '^logo.bin: the images are the same; what is skipped is to be .* and is nothing$'
+is 0 'accept of it' "$golden" accept "$streams" "$golds"
+[ ! -e "$golds/logo.bin.skipped" ] || fail 'what is not skipped any more stays'
+
+# files that nobody here wrote stay
+mkdir "$room/others"
+for file in 001-mine.png index.html; do echo mine >"$room/others/$file"; done
+sed -i 's/MARY/ANNE/' "$streams/name.zpl"
+is 3 'a page of somebody else' "$golden" check "$streams" "$golds" --report "$room/others"
+says '^golden: .*/others/index.html is there already, and was made of something else$'
+rm "$room/others/index.html"
+is 1 'a report beside other files' "$golden" check "$streams" "$golds" --report "$room/others"
+is 0 'accept' "$golden" accept "$streams" "$golds"
+cp examples/font-a.pbm "$golds"
+is 1 'check beside a sheet' "$golden" check "$streams" "$golds" --report "$room/others"
+is 0 'accept beside a sheet' "$golden" accept "$streams" "$golds"
+says '^font-a: there is no such stream; its image stays, since it was not written here$'
+cmp examples/font-a.pbm "$golds/font-a.pbm"
+rm "$golds/font-a.pbm"
+is 0 'check' "$golden" check "$streams" "$golds" --report "$room/others"
+[ "$(ls -A "$room/others")" = 001-mine.png ] || fail 'the report leaves files, or takes those of others'
+
+# an image is whole or as it was; a command that is killed, or isn't vp's, is told
+is 5 'a command that is killed' "$golden" check "$streams" "$golds" -- sh -c 'kill -9 $$'
+says '^golden: .*/form.zpl: sh was ended by SIGKILL$'
+is 5 'a status that is not vp' "$golden" check "$streams" "$golds" -- sh -c 'exit 77'
+is 5 'images that are none' "$golden" accept "$streams" "$golds" -- cat
+is 3 'a sheet that is none' "$golden" check "$streams" "$golds" -- "$vp" label --font-a "$room/none"
+printf '^XA^PW800^LL1200^FO9,9^GB700,900,3^FS^XZ' >"$streams/name.zpl"
+cp "$golds/name.zpl.pbm" "$room/was.pbm"
+(ulimit -f 16 && is 3 'an image that cannot grow' "$golden" accept "$streams" "$golds") || exit
+says 'name.zpl.pbm: File too large$'
+cmp "$golds/name.zpl.pbm" "$room/was.pbm"
+[ -z "$(ls -A "$golds" | grep '^\.vp-[^m]')" ] || fail 'something half done stays'
+
+# of any name
+streams=$room/names golds=$room/names-golds
+mkdir "$streams"
+for name in -dash.bin "quo'te\"s.bin" '$(touch pwned).bin' '<b>&.bin' "$(printf 'a\nb.bin')" "$(printf 'caf\351.bin')"; do
+    echo "a line" >"$streams/$name"
+done
+: >"$streams/empty.bin"
+head -c 300000 /dev/zero >"$streams/huge.bin"
+is 0 'accept of any names' "$golden" accept "$streams" "$golds"
+for name in "$streams"/*.bin; do echo 'another' >"$name"; done
+is 1 'check of any names' "$golden" check "$streams" "$golds" --report "$room/names-report" --junit "$room/names.xml"
+says '^8 of 8 streams print otherwise'
+python3 -c 'import sys, xml.etree.ElementTree as tree
+assert len(tree.parse(sys.argv[1]).getroot()) == 8' "$room/names.xml"
+grep -q '&lt;b&gt;&amp;.bin' "$room/names-report/index.html" || fail 'a name is taken for marks of the page'
+is 0 'accept of any names' "$golden" accept "$streams" "$golds"
+is 0 'check of any names' "$golden" check "$streams" "$golds" --report "$room/names-report"
+[ -z "$(ls -A "$room/names-report")" ] || fail 'pictures of any names stay'
+[ ! -e pwned ] || fail 'a name was run'
+
 # the fixture of golden.md, by pytest
 if needs pytest; then
     mkdir "$room/suite"

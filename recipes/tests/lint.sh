@@ -23,7 +23,7 @@ for line in '^BK prints a Codabar bar code: it is read past' '^BX prints a Data 
     '^GC prints a circle' '^GD prints a diagonal' '^SN prints a serial number' '^XF prints a stored format' \
     '^CI chooses a code table' '^F0 is no command that is known' '^FN numbers a field' \
     'byte 7F has no character in the sheet of font A: once' \
-    "the field of ^FO10,150 passes the label's right edge" "the field of ^FT10,10 passes the label's upper edge" \
+    '^A0,40,40 has narrower letters on a printer than the cells of 40 dots here' "the field of ^FT10,10 passes the label's upper edge" \
     "the field of ^FO390,0 passes the label's right edge" \
     "the field of ^FO380,180 passes the label's right and the lower edge"; do
     says "^label.zpl: $place$(printf %s "$line" | sed 's/\^/\\^/g')"
@@ -31,7 +31,7 @@ done
 ! grep -q '\^MM' said || fail 'lint speaks of what no paper shows'
 [ "$(grep -c 'FO390,0' said)" -eq 1 ] || fail 'a box that just fits passes the edge'
 if [ "$has_places" ]; then
-    for line in '19: ^CI' '65: ^BK' '176: the field of ^FO10,150' '215: the field of ^FT10,10'; do
+    for line in '19: ^CI' '65: ^BK' '185: ^A0,40,40' '215: the field of ^FT10,10'; do
         grep -qF "label.zpl: byte $line " said || { cat said >&2; fail "no $line"; }
     done
 fi
@@ -70,6 +70,76 @@ is 2 'wrong words' "$lint" --lang french plain.bin
 is 3 'no sheet' "$lint" --font-a plain.bin plain.bin
 says '^lint: plain.bin: not a glyph sheet$'
 "$lint" label.zpl label.zpl 2>&1 >/dev/full | grep -q Traceback && fail 'a traceback'
+
+if [ "$has_places" ]; then
+    # what sets what is so at the start is nothing, as the head of a label designer
+    {
+        printf 'CT~~CD,~CC^~CT~\r\n^XA~TA000~JSN^LT0^MNW^MTT^PON^PMN^LH0,0^JMA^PR4,4~SD15^JUS^LRN^CI0^XZ\r\n'
+        printf '^XA\r\n^MMT\r\n^PW812^LL1218^LS0^FO10,20^A0N,28^FDCaf\303\251^FS^MUD^FPH^MCY^CVN^PA0,0,0,0^PQ1,0,1,Y^XZ'
+    } >head.zpl
+    is 0 'the head of a label designer' "$lint" head.zpl
+    printf '^XA^LT5^JMB^LS-3^CI28^MUM^FPV,2^MCN^CVY~CD;^FO9,9^A0N,28^FDCaf\303\251^FS^XZ~CC+' >other.zpl
+    is 1 'other values' "$lint" other.zpl
+    for line in LT JM LS CI MU FP MC CV; do says "\^$line .*: it is read past\$"; done
+    says '~CD takes another'
+    says '~CC takes another'
+    printf 'a\035P\000\000\035(K\002\0001\000\035(N\002\00001\033t\000\033{\000\034!\000\034S\000\000b\201\n' >start.bin
+    is 0 'values of a receipt at the start' "$lint" start.bin
+    printf 'a\035P\313\313\035(K\002\0001\003\035(N\002\00002b\n' | "$lint" >said && fail 'other values of a receipt'
+    for line in 'GS P cb cb' 'GS ( K 02 00' 'GS ( N 02 00'; do says "$line "; done
+fi
+# parameters that vp doesn't look at
+{
+    printf '^XA^PW400^LL400^FO380,20,1^A0N,30^FDat its end^FS^FO9,9^GB90,90,2,B,3^FS^FO9,9^GB90,90,2,B,0^FS'
+    printf '^FO9,99^FB300,2,0,J,20^A0N,20^FDblock^FS^FO9,200^BY1^BCN,40,N,N,Y^FD12345678^FS^FO9,300^A@N,20,,E:A.TTF^FDa^FS'
+    printf '^FO10,150^A0,40,40^FDtoo long for it^FS^FO10,150^A0,40,40^FDmuch much too long for it^FS'
+    printf '^FO10,350^A0,40^FDtoo long for it, that it is^FS^XZ'
+} >parameters.zpl
+is 1 'parameters' "$lint" parameters.zpl
+for line in '^FO380,20,1 has fields end at their place on a printer, and begin there here' \
+    '^GB90,90,2,B,3 has round corners on a printer, and square ones here' \
+    '^FB300,2,0,J,20 makes lines of one width on a printer, and has them begin at the left here' \
+    '^BCN,40,N,N,Y adds a check digit on a printer, and not here' \
+    '^A@N,20,,E:A.TTF takes a font of the printer, and the sheet here' \
+    '^A0,40,40 has narrower letters on a printer than the cells of 40 dots here: 2 times' \
+    "the field of ^FO10,150 passes the label's right edge" "the field of ^FO10,350 passes the label's right edge"; do
+    says "^parameters.zpl: $place$(printf %s "$line" | sed 's/\^/\\^/g')\$"
+done
+[ "$(wc -l <said)" -eq 8 ] || { cat said >&2; fail 'lint says more of parameters'; }
+printf '^XA^FO9,9^GFA,80,24,1,:Z64:eJxjYGBgAAAABAAB:1234^FS^XZ' >packed.zpl
+is 1 'a picture that is packed' "$lint" packed.zpl
+says 'F7 bad graphic: a picture that begins with :Z64: or :B64: is packed'
+
+# lines that are known, as often as they are
+is 1 'a label before it is known' "$lint" label.zpl parameters.zpl
+cp said before
+is 0 'what is known' "$lint" --known known --write-known label.zpl parameters.zpl
+says "^$(wc -l <before) lines are known\$"
+sed 's/: byte [0-9]*: /: /' before | cmp - known
+is 0 'a label that is known' "$lint" --known known label.zpl parameters.zpl
+[ ! -s said ] || fail 'what is known is said'
+sed 's/\^XZ/^GC9^FS^GC50^FS^XZ/' label.zpl >more.zpl
+mv more.zpl label.zpl
+sed -i '/GD prints/d; 1i# a comment' known
+is 1 'a label with more' "$lint" --known known label.zpl parameters.zpl
+[ "$(grep -c 'GC prints a circle' said)" -eq 2 ] && [ "$(grep -c 'GD prints' said)" -eq 1 ] && [ "$(wc -l <said)" -eq 3 ] ||
+    { cat said >&2; fail 'what is new is not said'; }
+is 2 'a list without its name' "$lint" --write-known label.zpl
+is 3 'a list that is none' "$lint" --known none label.zpl
+(ulimit -f 0 && "$lint" --known known --write-known label.zpl >/dev/null 2>&1 | cat) && grep -q '# a comment' known ||
+    fail 'a list that cannot be written whole is lost'
+# of any name, and cut anywhere
+for name in -dash.zpl "quo'te\".zpl" '$(touch pwned).zpl' "$(printf 'a\nb.zpl')" "$(printf 'caf\351.zpl')"; do
+    cp -- packed.zpl "$name"
+    is 1 "a stream named $name" "$lint" -- "$name"
+    [ "$(wc -l <said)" -eq 1 ] || fail 'a name with a line end is said in two lines'
+done
+[ ! -e pwned ] || fail 'a name was run'
+for n in 0 1 20 31 100 250; do
+    for stream in receipt.bin parameters.zpl; do
+        head -c "$n" "$stream" | "$lint" >said 2>&1 || [ $? -eq 1 ] || { cat said >&2; fail "$stream cut at $n"; }
+    done
+done
 
 # the table is true: labels skip each of its commands, and receipts read each past
 cd "$root"

@@ -23,11 +23,60 @@ data = open("label-1.png", "rb").read()
 at = data.index(b"pHYs") + 4
 assert data[at:at + 9] == (8000).to_bytes(4, "big") * 2 + b"\1", data[at:at + 9]'
 "$paper" label.png <labels.pbm
-[ -e label.png ] && [ -e label-1.png ] || fail 'one PNG of all takes those of each away'
+[ "$(echo label*.png)" = label.png ] || fail 'PNGs of an earlier run stay'
+"$paper" --each label.png <labels.pbm
+[ "$(echo label*.png)" = 'label-1.png label-2.png label-3.png label.png' ] || fail 'what the user named is taken away'
+head -c 2511 labels.pbm | "$paper" --each label.png
+[ "$(echo label*.png)" = label.png ] || fail 'one label has a number'
+"$paper" label.png <labels.pbm
 : | "$paper" label.png
 [ ! -e label.png ] || fail 'the PNG of an earlier run stays where nothing is printed'
 : | "$paper" --each label.png
 [ "$(echo label*.png)" = 'label*.png' ] || fail 'the PNGs of an earlier run stay where nothing is printed'
+[ ! -e .vp-made ] || fail 'a list of nothing stays'
+
+# what nobody here wrote stays, also where an earlier run had files of such names
+"$paper" --each label.png <labels.pbm
+for n in 1 2 3 4; do echo mine >trip-$n.png; done
+echo mine >trip.png
+echo mine >label-4.png
+echo mine >label-2.png
+"$paper" trip.png <receipt.pbm
+[ "$(cat trip-1.png trip-2.png trip-3.png trip-4.png | grep -c mine)" -eq 4 ] || fail 'files of others are taken away'
+echo mine >trip.png
+is 3 'a numbered file of others' "$paper" --each trip.png <labels.pbm
+says '^paper: trip-1.png is there already, and was made of something else$'
+[ "$(cat trip*.png | grep -c mine)" -eq 5 ] || fail 'files of others are written over'
+"$paper" label.png <labels.pbm
+[ "$(echo label*.png)" = 'label-2.png label-4.png label.png' ] || fail 'what was changed or not written goes'
+rm trip* label*.png
+
+# a PNG is whole or not there: of cut images, of what is none, on a full disk
+head -c 1000 receipt.pbm >cut.pbm
+echo before >cut.png
+is 1 'an image that is cut' "$paper" cut.png <cut.pbm
+says '^paper: its last image is cut short$'
+printf 'P4\n576 5000000\n' >rows.pbm
+is 1 'rows that are missing' "$paper" cut.png <rows.pbm
+for head in '-1 8' '8 -1' '0 8' '8 0' '8' '8 8 8' 'x y' ' 8 8' '99999999999 1' '8 99999999999' '999999999 1'; do
+    printf 'P4\n%s\n\377' "$head" >wrong.pbm
+    is 1 "the head $head" "$paper" cut.png <wrong.pbm
+    says '^paper: it is not what vp prints$'
+done
+head -c 100000 /dev/zero >wrong.pbm
+is 1 'a long line' "$paper" cut.png <wrong.pbm
+[ "$(cat cut.png)" = before ] || fail 'a PNG of half an image takes the place of one that was'
+(ulimit -f 1 && is 3 'a file that cannot grow' "$paper" cut.png <receipt.pbm) || exit
+says '^paper: cut.png: File too large$'
+is 3 'a full device' "$paper" /dev/full <receipt.pbm
+[ "$(cat cut.png)" = before ] && [ -z "$(ls -A | grep '^\.vp')" ] || fail 'something half done stays'
+# of any name
+for name in '-dash.png' "quo'te\".png" '$(touch pwned).png' "$(printf 'a\nb.png')" "$(printf 'caf\351.png')"; do
+    is 0 "the name $name" "$paper" --each -- "$name" <labels.pbm
+    [ -e "${name%.png}-3.png" ] || fail "no PNG of the name $name"
+    is 0 "the name $name again" "$paper" --each -- "$name" </dev/null
+done
+[ ! -e pwned ] && [ ! -e .vp-made ] || fail 'a name was run, or is not known again'
 "$paper" - <receipt.pbm | cmp - receipt.png
 "$paper" /dev/stdout <receipt.pbm | cmp - receipt.png
 for where in - /dev/stdout; do

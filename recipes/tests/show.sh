@@ -6,7 +6,11 @@ show=$root/recipes/show
 cd "$room"
 # each label a PNG of its own, the receipt one, and standard input
 printf '^XA^PW200^LL100^FO9,9^BY2^BKN,N,40^FD123^FS^CI28^FO9,60^A0,24^FDCaf\303\251\177^FS^PQ2^XZ' >two.zpl
-printf 'stale' >two-3.png
+sed 's/PQ2/PQ3/' two.zpl >three.zpl
+mv two.zpl other.zpl && mv three.zpl two.zpl
+is 0 'three labels' "$show" two.zpl
+mv other.zpl two.zpl
+printf 'mine' >two-4.png
 is 0 'two labels' "$show" "$root/examples/receipt.bin" two.zpl
 says '/receipt.bin: receipt (guessed): receipt.png$'
 says '^two.zpl: label (guessed): two-1.png to two-2.png$'
@@ -14,12 +18,13 @@ says '^two.zpl: skipped once: ^BK prints a Codabar bar code$'
 says '^two.zpl: skipped once: ^CI chooses a code table'
 says '^two.zpl: bytes without a character in the sheet: 7F once$'
 [ ! -e two-3.png ] || fail 'the PNG of an earlier run stays'
+[ "$(cat two-4.png)" = mine ] || fail 'what nobody here wrote is taken away'
 "$vp" receipt --font-a "$root/examples/font-a.pbm" --font-b "$root/examples/font-b.pbm" "$root/examples/receipt.bin" \
     >receipt.pbm
 testing same receipt.png receipt.pbm
 cmp two-1.png two-2.png
 is 0 'standard input' "$show" <"$root/examples/shelf.zpl"
-says '^-: label (guessed): stdin-1.png$'
+says '^-: label (guessed): stdin.png$'
 is 0 'another language' "$show" --lang label "$root/examples/receipt.bin"
 says '/receipt.bin: label: nothing is printed$'
 [ ! -e receipt.png ] || fail 'the PNG of an earlier run stays where nothing is printed'
@@ -35,6 +40,38 @@ says ' out/order-2.bin.png$'
 cp order-2.bin out/order-2.bin
 is 2 'files of one name' "$show" order-2.bin out/order-2.bin
 says '^show: the PNGs of order-2.bin and out/order-2.bin have one name'
+# also not that of another run, or one that nobody here made
+cp two.zpl order.bin
+is 0 'the PNG of another run' "$show" --to out order-2.bin
+is 0 'names that clash with those of another run' "$show" --to out order.bin
+says ' out/order.bin-1.png to out/order.bin-2.png$'
+[ -e out/order-2.png ] || fail 'the PNG of another run is lost'
+echo mine >out/total.png
+printf 'total\n' >total.bin
+is 0 'a PNG of others' "$show" --to out total.bin
+says ' out/total.bin.png$'
+echo mine >out/total.bin.png
+is 3 'two PNGs of others' "$show" --to out total.bin
+says '^show: out/total.bin.png is there already, and was made of something else$'
+[ "$(cat out/total.png out/total.bin.png | grep -c mine)" -eq 2 ] || fail 'a PNG of others is lost'
+# of any name
+mkdir names
+for name in -dash.bin "quo'te\".bin" '$(touch pwned).bin' "$(printf 'a\nb.bin')" "$(printf 'caf\351.bin')"; do
+    cp total.bin "names/$name"
+    (cd names && is 0 "a stream named $name" "$show" -- "$name" && [ -e "${name%.bin}.png" ]) || exit
+    [ "$(wc -l <said)" -eq 1 ] || fail "a name with a line end is said in two lines"
+done
+[ ! -e names/pwned ] || fail 'a name was run'
+: >names/empty.bin
+is 0 'an empty stream' "$show" --to names names/empty.bin
+says 'nothing is printed$'
+(ulimit -f 2 && is 3 'a PNG that cannot grow' "$show" --to names "$root/examples/receipt.bin") || exit
+says '^show: names/receipt.png: File too large$'
+VP=$room/killed
+printf '#!/bin/sh\nkill -9 $$\n' >killed && chmod +x killed
+is 5 'a program that is killed' "$show" total.bin
+says '^show: .*/killed was ended by SIGKILL$'
+VP=$vp
 # its status is vp's, and each fault a line
 printf 'Hi\n\033\177more\n' >bad.bin
 is 1 'a fault' "$show" bad.bin
@@ -48,7 +85,7 @@ VP=$room/none is 2 'no program' "$show" bad.bin
 says '^show: cannot run '
 printf '^XA^FO1,1^GB9,9,9^FS^PQ99999999^XZ' | "$show" >said
 says 'only the first 100 images are shown$'
-rm stdin-*.png
+rm stdin*.png
 # --open hands each PNG to xdg-open
 mkdir bin
 printf '#!/bin/sh\necho "opened $1"\n' >bin/xdg-open

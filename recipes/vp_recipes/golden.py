@@ -3,15 +3,18 @@
   golden check STREAMS EXPECTED [--report FOLDER] [--junit FILE] [--ignore PATTERN] [-- COMMAND..]
   golden accept STREAMS EXPECTED [NAME..] [--ignore PATTERN] [-- COMMAND..]
 
-check has status 0 where all are as expected, 1 where not, 2 where it couldn't run; accept takes over what is printed
-now. COMMAND prints standard input as vp does; without it, it is vp in the language that the stream is in, with the
-shipped sheets. The stream STREAMS/NAME has its images in EXPECTED/NAME.pbm and, where it ends in a fault, the fault's
-line in EXPECTED/NAME.fault. README files, hidden files, PATTERNs and these outputs are no streams.
+check has status 0 where all are as expected, 1 where not; accept takes over what is printed now. 2 is for wrong words, 3
+for files, 5 where COMMAND was killed or didn't end as vp does. COMMAND prints standard input as vp does; without it, it
+is vp in the language that the stream is in, with the shipped sheets. The stream STREAMS/NAME has its images in
+EXPECTED/NAME.pbm, the line of the fault that it ends in in EXPECTED/NAME.fault, and in EXPECTED/NAME.skipped what vp
+skips of it and a printer would print. README files, hidden files, PATTERNs and these outputs are no streams.
 """
 import argparse
 import base64
+import contextlib
 import difflib
 import fnmatch
+import hashlib
 import html
 import io
 import os
@@ -19,13 +22,17 @@ import pathlib
 import re
 import subprocess
 import sys
+import urllib.parse
+from collections import Counter, namedtuple
 from concurrent.futures import ThreadPoolExecutor
 from itertools import accumulate
 
-from .images import Png, images
-from .program import Fault, find_vp, run, times
+from .files import Made, is_other, keep, whole
+from .images import Png, Taken, images
+from .program import Fault, cannot_run, direct, find_vp, shown, text_of, times, told
+from .remarks import passed
 from .sheets import sheet_words, shipped, without_cell
-from .streams import LANGUAGES, guess, listing
+from .streams import LANGUAGES, guess, items_of, lines_of, listing, may_skip, named
 
 # What a picture shows: (255, 255, 255) and so on by the names' places.
 PALETTE = {'white': (255, 255, 255), 'black': (0, 0, 0), 'outside': (214, 218, 224), 'same': (150, 150, 150),
@@ -37,6 +44,9 @@ MOST_COMPARED = 1000000
 # The first difference is shown so many times as large, with so many dots and rows beside it.
 TIMES, BESIDE, ABOVE = 6, 48, 16
 MOST_SHOWN = 100
+# What a file of skipped commands shows of one, beyond which it is a sum; and how long a name of a picture may be.
+MOST_SAID, MOST_NAME = 200, 200
+ENDS = '.pbm', '.fault', '.skipped'
 
 PAGE = '''<!DOCTYPE html>
 <html lang="en"><meta charset="utf-8"><meta name="viewport" content="width=device-width">
@@ -161,8 +171,9 @@ def pixels(width, layers, colours):
     return total.to_bytes(width, 'big').translate(bytes(map(COLOURS.index, colours)).ljust(256, b'\0'))
 
 
-def compare(expected, got, file):
-    """Writes the picture of two papers and what differs. Gives that in words, and the page's part that shows it."""
+def compare(expected, got, file, name):
+    """Writes the picture of two papers and what differs. Gives that in words, and the page's part that shows it, of this
+    name."""
     width = max(expected.widths | got.widths, default=8)
     both, places, added, lost, changed = [], [], [], [], []
     at = dots = 0
@@ -214,7 +225,7 @@ def compare(expected, got, file):
         said.append(f'{max(expected.widths)} dots of width are expected and {max(got.widths)} printed')
     if last - first < len(both):
         said.append(f'rows {places[first]:,} to {places[last - 1]:,} are shown')
-    shown = WHOLE % (png.width, last - first, html.escape(os.path.basename(file.name)))
+    shown = WHOLE % (png.width, last - first, urllib.parse.quote(os.fsencode(name)))
     if any(differs) and expected.rows:
         y = next(n for n, it in enumerate(differs) if it)
         x = 2 * (width + GAP) + width - differs[y].bit_length() + HALO
@@ -226,26 +237,61 @@ def compare(expected, got, file):
     return '; '.join(said), shown
 
 
+class Result(namedtuple('Result', 'image fault skipped')):
+    """What is kept of a stream: its images, the line of its fault, what is skipped of it, a line each."""
+
+
 def command_of(data):
     """The words that print a stream where none were given: vp in its language, with the shipped sheets."""
     language = guess(data)
     return [*find_vp(), language, *shipped(language)]
 
 
-def unseen(command, stream, image, fault):
+def language_of(command):
+    """Where words that run vp name the language, if they do."""
+    return next((n for n, word in enumerate(command) if n and word in LANGUAGES), None)
+
+
+def written(code):
+    """The bytes of a command, to be read; of many the first, and a sum."""
+    text = ''.join(chr(it) if 0x20 <= it < 0x7F and it != 0x5C else f'\\x{it:02X}' for it in code[:MOST_SAID])
+    if len(code) <= MOST_SAID:
+        return text
+    return f'{text} .. of {len(code)} bytes with the SHA-256 {hashlib.sha256(code).hexdigest()}'
+
+
+def skips(command, data):
+    """The commands of a stream that vp skips and a printer would print, each with its data, and how often each is."""
+    at = language_of(command)
+    if at is None:
+        return '', Counter()
+    out, has_places, _ = lines_of(data, command[at], command[:at], dots=False)
+    lines, counts = [], Counter()
+    items = items_of(out, has_places) if may_skip(out, command[at]) else []
+    for n, name, code in passed(data, items, command[at]):
+        lines.append((items[n][1] if code is None else written(code.rstrip(b'\r\n'))) + '\n')
+        counts[named(name, name)] += 1
+    return ''.join(lines), counts
+
+
+def skipped_in(counts):
+    return 'it skips ' + ', '.join(f'{name} {times(count)}' for name, count in counts.items())
+
+
+def unseen(command, data, now):
     """What an image of a stream can't show, in words."""
     said = []
-    if fault:
-        said.append(f'it ends in a fault, {fault.strip()}')
-    dots = Paper(image)
+    if now.fault:
+        said.append(f'it ends in a fault, {now.fault.strip()}')
+    dots = Paper(now.image)
     if dots.rows and not any(row for _, row in dots.rows):
         said.append('its paper is all white')
     elif not dots.rows:
         said.append('nothing is printed')
-    at = next((n for n, word in enumerate(command) if word in LANGUAGES), None)
+    at = language_of(command)
     if at:
         sheet, found = sheet_words(command), {}
-        items, _ = listing(stream.read_bytes(), command[at], command[:at], dots=False)
+        items, _ = listing(data, command[at], command[:at], dots=False)
         for (_, byte), (count, _) in without_cell(items, command[at], command).items():
             found[byte] = found.get(byte, 0) + count
         if found and not sheet:
@@ -256,126 +302,179 @@ def unseen(command, stream, image, fault):
     return '; '.join(said)
 
 
-def printed(command, stream):
-    """What the command prints of a stream, and the line of the fault that it ends in."""
-    with open(stream, 'rb') as file:
-        ran = subprocess.run(command, stdin=file, stdout=subprocess.PIPE, stderr=subprocess.PIPE)
-    line = ran.stderr.decode(errors='replace')
-    if ran.returncode not in (0, 1):
-        raise Fault(f'{stream}: {command[0]} ended with status {ran.returncode}: {line.strip()}', 2)
-    return ran.stdout, line if ran.returncode else ''
+def printed(command, data):
+    """What the command prints of a stream, how often which command is skipped, and the words that ran it."""
+    command = direct(command)
+    try:
+        ran = subprocess.run(command, input=data, stdout=subprocess.PIPE, stderr=subprocess.PIPE)
+    except (OSError, ValueError) as error:
+        raise cannot_run(command, error) from None
+    line = told(command, ran.returncode, text_of(ran.stderr))
+    try:
+        Paper(ran.stdout)
+    except ValueError as error:
+        raise Fault(f'{shown(command[0])} printed no images as vp does: {error}', 5) from None
+    skipped, counts = skips(command, data)
+    return Result(ran.stdout, line + '\n' if ran.returncode else '', skipped), counts
 
 
 def expected(folder, name):
-    image, fault = folder / f'{name}.pbm', folder / f'{name}.fault'
+    image, fault, skipped = (folder / (name + end) for end in ENDS)
     if not image.is_file():
         return None
-    return image.read_bytes(), fault.read_text() if fault.is_file() else ''
+    texts = [it.read_bytes().decode('utf-8', 'surrogateescape') if it.is_file() else '' for it in (fault, skipped)]
+    return Result(image.read_bytes(), *texts)
 
 
-def keep(folder, name, now):
+def take_over(made, name, now):
     """Takes over what is printed of a stream."""
-    at, line = folder / f'{name}.pbm', folder / f'{name}.fault'
-    at.parent.mkdir(parents=True, exist_ok=True)
-    at.write_bytes(now[0])
-    if now[1]:
-        line.write_text(now[1])
-    elif line.exists():
-        line.unlink()
+    for end, data in zip(ENDS, now):
+        at = pathlib.Path(made.folder, name + end)
+        if data or end == '.pbm':
+            at.parent.mkdir(parents=True, exist_ok=True)
+            keep(at, data)
+            made.add(name + end, 'golden')
+        elif at.exists():
+            at.unlink()
+            made.files.pop(name + end, None)
+
+
+def other_lines(was, now):
+    """What differs of what is skipped."""
+    old, new = Counter(was.splitlines()), Counter(now.splitlines())
+    parts = [('is to be', old - new), ('is', new - old)]
+    return ' and '.join(f'{what} {next(iter(it), "nothing")}' for what, it in parts)
 
 
 def difference(name, known, now, report, number):
-    """What differs of a stream in a line, and its part of the page."""
-    (was, was_fault), (image, fault) = known or (b'', ''), now
-    said, shown = 'the images are the same', ''
-    if was != image and number <= MOST_SHOWN:
+    """What differs of a stream in a line, its part of the page, and the name of its picture."""
+    was, said, parts, picture = known or Result(b'', '', ''), 'the images are the same', '', ''
+    if was.image != now.image and number <= MOST_SHOWN:
+        end = name.replace(os.sep, '-')
+        while len(os.fsencode(end)) > MOST_NAME:
+            end = end[:-1]
+        picture = f'{number:03}-{end}.png'
         report.mkdir(parents=True, exist_ok=True)
-        picture = report / f'{number:03}-{name.replace(os.sep, "-")}.png'
-        said, shown = compare(Paper(was), Paper(image), open(picture, 'wb'))
-        data = base64.b64encode(picture.read_bytes()).decode()
-        shown = f'<div style="--picture: url(data:image/png;base64,{data})">{shown}</div>'
-    elif was != image:
+        if number and os.path.lexists(report / picture):
+            raise Taken(report / picture)
+        with whole(report / picture) as file:
+            said, parts = compare(Paper(was.image), Paper(now.image), file, picture)
+        data = base64.b64encode((report / picture).read_bytes()).decode()
+        parts = f'<div style="--picture: url(data:image/png;base64,{data})">{parts}</div>'
+    elif was.image != now.image:
         said = f'other dots or images (the first {MOST_SHOWN} differences alone are drawn)'
     if not known:
         said = 'no image was accepted yet'
-    part = f'<h2>{html.escape(name)}</h2><p>{said}</p>'
-    if fault != was_fault:
-        faults = [it.strip() or 'none' for it in (was_fault, fault)]
+    part = f'<h2>{quoted(name)}</h2><p>{said}</p>'
+    if now.fault != was.fault:
+        faults = [it.strip() or 'none' for it in (was.fault, now.fault)]
         said += '; the fault is to be {} and is {}'.format(*faults)
-        part += '<p>Fault expected, and fault now:</p><pre>{}</pre><pre>{}</pre>'.format(*map(html.escape, faults))
-    return said, part + shown
+        part += '<p>Fault expected, and fault now:</p><pre>{}</pre><pre>{}</pre>'.format(*map(quoted, faults))
+    if known and now.skipped != was.skipped:
+        said += f'; what is skipped {other_lines(was.skipped, now.skipped)}'
+        skipped = [it.rstrip('\n') or 'nothing' for it in (was.skipped, now.skipped)]
+        part += '<p>Skipped as expected, and skipped now:</p><pre>{}</pre><pre>{}</pre>'.format(*map(quoted, skipped))
+    return said, part + parts, picture
+
+
+def quoted(text):
+    """A text for a page or a report: signs that can't stand there, and bytes that are no text, as question marks."""
+    return html.escape(re.sub('[^\t\n -\uD7FF\uE000-\uFFFD\U00010000-\U0010FFFF]', '?', text))
 
 
 def verify(stream, name, folder, command=(), accept=False, report='golden-report'):
     """For tests: compares what a stream's bytes print with folder/NAME.pbm. Gives what differs in a line, '' where
     nothing does, with a picture in the report's folder. With accept it takes it over."""
     folder, report = pathlib.Path(folder), pathlib.Path(report)
-    command = list(command) or command_of(stream)
-    image, line, _ = run(command[1:], stream, command[:1])
-    known, now = expected(folder, name), (image, line + '\n' if line else '')
+    now, _ = printed(list(command) or command_of(stream), stream)
+    known = expected(folder, name)
     if known == now:
         return ''
     if accept:
-        keep(folder, name, now)
+        folder.mkdir(parents=True, exist_ok=True)
+        with Made(folder) as made:
+            take_over(made, name, now)
         return ''
     return f'{name}: {difference(name, known, now, report, 0)[0]}; see {report}'
 
 
 def junit(names, said, file):
     """A report as CI systems read it: a test case for each stream."""
-    def quoted(text):
-        return html.escape(re.sub('[^\t -\uFFFD]', '?', text))
     lines = [f'<testsuite name="golden" tests="{len(names)}" failures="{len(said)}" errors="0" skipped="0">']
     for name in names:
         failure = f'<failure message="{quoted(said[name])}"/>' if name in said else ''
         lines.append(f'<testcase classname="golden" name="{quoted(name)}">{failure}</testcase>')
-    text = '\n'.join(['<?xml version="1.0" encoding="UTF-8"?>', *lines, '</testsuite>', ''])
     file.parent.mkdir(parents=True, exist_ok=True)
-    file.write_text(text, encoding='utf-8')
+    keep(file, '\n'.join(['<?xml version="1.0" encoding="UTF-8"?>', *lines, '</testsuite>', '']))
 
 
-def check(names, found, gone, report, to):
-    for old in [*report.glob('[0-9][0-9][0-9]-*.png'), *report.glob('index.html')]:
-        old.unlink()
-    said, parts = {}, []
+@contextlib.contextmanager
+def reporting(report):
+    """The list of what an earlier report left, which goes; None where there is no such folder, and no need of one."""
+    if not report.is_dir():
+        yield None
+        return
+    with Made(report) as made:
+        made.take_away('golden')
+        yield made
+
+
+def check(names, answers, gone, report, to):
+    said, parts, pictures = {}, [], []
     for name in gone:
         said[name] = 'an image is expected, but there is no such stream'
-        parts.append(f'<h2>{html.escape(name)}</h2><p>{said[name]}</p>')
-    for name, known, now in found:
-        said[name], part = difference(name, known, now, report, len(parts) + 1)
-        parts.append(part)
+        parts.append(f'<h2>{quoted(name)}</h2><p>{said[name]}</p>')
+    found = [(name, *differs) for name, (differs, _, _) in zip(names, answers) if differs]
+    if found or gone:
+        report.mkdir(parents=True, exist_ok=True)
+    with reporting(report) as made:
+        for it in ['index.html'] if found or gone else []:
+            if os.path.lexists(report / it):
+                raise Taken(report / it)
+        for name, known, now in found:
+            said[name], part, picture = difference(name, known, now, report, len(parts) + 1)
+            parts.append(part)
+            pictures += [picture] if picture else []
+        total = len(names) + len(gone)
+        title = f'{len(said)} of {total} streams print otherwise than expected'
+        if said:
+            keep(report / 'index.html', PAGE % {'title': title, 'parts': '\n'.join(parts)})
+            for it in [*pictures, 'index.html']:
+                made.add(it, 'golden')
     for name, line in said.items():
-        print(f'{name}: {line}')
-    names = sorted([*names, *gone])
+        print(f'{shown(name)}: {shown(line)}')
+    for name, (_, counts, _) in zip(names, answers):
+        if counts and name not in said:
+            print(f'{shown(name)}: as expected; {skipped_in(counts)}')
     if to:
-        junit(names, said, to)
+        junit(sorted([*names, *gone]), said, to)
     if not said:
-        print(f'{len(names)} streams print what is expected')
+        print(f'{total} streams print what is expected')
         return 0
-    title = f'{len(said)} of {len(names)} streams print otherwise than expected'
-    report.mkdir(parents=True, exist_ok=True)
-    page = report / 'index.html'
-    page.write_text(PAGE % {'title': title, 'parts': '\n'.join(parts)}, encoding='utf-8')
-    print(f'{title}: see {page}')
+    print(f'{title}: see {shown(report / "index.html")}')
     return 1
 
 
-def accept(names, found, gone, folder, remarks):
-    taken = set()
-    for name, _, now in found:
-        keep(folder, name, now)
-        taken.add(name)
-    for name in names:
-        if name in taken or remarks[name]:
-            kept = 'accepted' if name in taken else 'as before'
-            print(f'{name}: {kept}; {remarks[name]}' if remarks[name] else f'{name}: {kept}')
-    for name in gone:
-        (folder / f'{name}.pbm').unlink()
-        fault = folder / f'{name}.fault'
-        if fault.exists():
-            fault.unlink()
-        print(f'{name}: there is no such stream, so its image is taken away')
-    print(f'{len(found) + len(gone)} of {len(names) + len(gone)} streams taken over')
+def accept(names, answers, gone, folder):
+    folder.mkdir(parents=True, exist_ok=True)
+    taken = 0
+    with Made(str(folder)) as made:
+        for name, (differs, counts, hidden) in zip(names, answers):
+            remarks = '; '.join(filter(None, [hidden, skipped_in(counts) if counts else '']))
+            if differs:
+                take_over(made, name, differs[1])
+                taken += 1
+            if differs or remarks:
+                kept = 'accepted' if differs else 'as before'
+                print(f'{shown(name)}: {kept}; {shown(remarks)}' if remarks else f'{shown(name)}: {kept}')
+        for name in gone:
+            ours = [made.take_one(it) for it in (name + end for end in ENDS) if it in made.files]
+            if any(ours) and not (folder / f'{name}.pbm').exists():
+                print(f'{shown(name)}: there is no such stream, so its image is taken away')
+                taken += 1
+            else:
+                print(f'{shown(name)}: there is no such stream; its image stays, since it was not written here')
+    print(f'{taken} of {len(names) + len(gone)} streams taken over')
     return 0
 
 
@@ -387,7 +486,7 @@ def is_stream(path, given):
     inside = [folder.resolve() for folder in (given.report, given.expected)]
     if any(folder in path.resolve().parents and folder != given.streams.resolve() for folder in inside):
         return False
-    if given.expected.resolve() == given.streams.resolve() and name.suffix in ('.pbm', '.fault'):
+    if given.expected.resolve() == given.streams.resolve() and name.suffix in ENDS:
         return False
     return not any(fnmatch.fnmatch(it, pattern) for pattern in given.ignore for it in (str(name), name.name))
 
@@ -406,30 +505,31 @@ def main():
     parser.add_argument('--ignore', action='append', default=[], metavar='PATTERN')
     given = parser.parse_args(words[:at])
 
-    def changed(name):
-        """What is expected of a stream and printed, where these differ, and, to be accepted, what the image hides."""
-        stream = given.streams / name
-        own = command or command_of(stream.read_bytes())
-        known, now = expected(given.expected, name), printed(own, stream)
-        hidden = unseen(own, stream, *now) if given.what == 'accept' else ''
-        return (None if known == now else (name, known, now)), hidden
+    def looked_at(name):
+        """What is expected of a stream and printed, where these differ, what is skipped, and, to be accepted, what the
+        image hides."""
+        data = (given.streams / name).read_bytes()
+        own = command or command_of(data)
+        try:
+            now, counts = printed(own, data)
+        except Fault as fault:
+            raise Fault(f'{shown(given.streams / name)}: {fault}', fault.status) from None
+        hidden = unseen(direct(own), data, now) if given.what == 'accept' else ''
+        known = expected(given.expected, name)
+        return None if known == now else (known, now), counts, hidden
 
     names, gone = given.names, []
-    try:
-        if given.junit and given.junit.exists():
-            given.junit.unlink()
-        if not names and given.streams.is_dir():
-            files = [it for it in given.streams.rglob('*') if is_stream(it, given)]
-            names = sorted(str(it.relative_to(given.streams)) for it in files)
-            known = {str(it.relative_to(given.expected))[:-len('.pbm')] for it in given.expected.rglob('*.pbm')}
-            gone = sorted(known.difference(names))
-        if not names:
-            raise Fault(f'{given.streams}: no streams', 2)
-        with ThreadPoolExecutor(os.cpu_count()) as pool:
-            answers = list(pool.map(changed, names))
-        found = [it for it, _ in answers if it]
-        if given.what == 'accept':
-            return accept(names, found, gone, given.expected, dict(zip(names, (it for _, it in answers))))
-        return check(names, found, gone, given.report, given.junit)
-    except OSError as error:
-        raise Fault(f'{error.filename}: {error.strerror}', 2) from None
+    if given.junit and given.junit.exists() and not is_other(given.junit):
+        given.junit.unlink()
+    if not names and given.streams.is_dir():
+        files = [it for it in given.streams.rglob('*') if is_stream(it, given)]
+        names = sorted(str(it.relative_to(given.streams)) for it in files)
+        known = {str(it.relative_to(given.expected))[:-len('.pbm')] for it in given.expected.rglob('*.pbm')}
+        gone = sorted(known.difference(names))
+    if not names:
+        raise Fault(f'{shown(given.streams)}: no streams', 2)
+    with ThreadPoolExecutor(os.cpu_count()) as pool:
+        answers = list(pool.map(looked_at, names))
+    if given.what == 'accept':
+        return accept(names, answers, gone, given.expected)
+    return check(names, answers, gone, given.report, given.junit)

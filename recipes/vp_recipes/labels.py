@@ -1,5 +1,6 @@
 """A label's fields by its items, and where a field's dots lie."""
 from .program import run
+from .values import is_wide, narrowed
 
 # What is in force before a label says otherwise.
 SETTINGS = {'^PW': '^PW832', '^LL': '^LL1218', '^LH': '^LH0,0', '^FW': '^FWN', '^CF': '^CFA,9,5', '^BY': '^BY2,3.0,10'}
@@ -77,20 +78,33 @@ def ink(out):
 
 
 def off_edges(items, sheet, vp=None):
-    """The fields of labels with dots off their label: the number of the item, and a line."""
+    """The fields of labels with dots off their label: the number of the item, and a line. A text in wide cells is taken
+    as narrow as a printer's letters are about; a field that ends at its place on a printer isn't looked at."""
     seen = {}
+
+    def box(field, size):
+        """Where a field's dots lie, from the label's corner; None where it has none."""
+        stream, x, y = alone(field, *size)
+        if stream not in seen:
+            out, line, _ = run(['label', *sheet], stream, vp)
+            seen[stream] = next(ink(out), None) if not line else None
+        it = seen[stream]
+        return it and (x + it[0], y + it[1], x + it[2], y + it[3])
+
     for said, closed in labels(items):
         wide, high = number(said['^PW'], 0, 832, 1, 1248), number(said['^LL'], 0, 1218, 1, 8000)
         for field in closed:
-            size = (1248, 8000) if field['at'].startswith('^FT') else (1248, min(high + 1, 8000))
-            stream, x, y = alone(field, *size)
-            if stream not in seen:
-                out, line, _ = run(['label', *sheet], stream, vp)
-                seen[stream] = next(ink(out), None) if not line else None
-            if not seen[stream]:
+            if [*field['at'].split(','), '', ''][2] == '1':
                 continue
-            left, top, right, bottom = seen[stream]
-            off = {'left': x + left < 0, 'upper': y + top < 0, 'right': x + right > wide, 'lower': y + bottom > high}
+            font = field['^A'] or field['^CF']
+            if field['content'] == '^FD' and not field['symbol'] and is_wide(font):
+                field = {**field, ('^A' if field['^A'] else '^CF'): narrowed(font)}
+            size = (1248, 8000) if field['at'].startswith('^FT') else (1248, min(high + 1, 8000))
+            found = box(field, size)
+            if not found:
+                continue
+            left, top, right, bottom = found
+            off = {'left': left < 0, 'upper': top < 0, 'right': right > wide, 'lower': bottom > high}
             edges = ' and the '.join(name for name, is_off in off.items() if is_off)
             if edges:
                 yield field['item'], f'the field of {field["at"]} passes the label\'s {edges} edge'

@@ -1,15 +1,25 @@
-"""Says what streams say that vp doesn't print and a printer would: lint [--lang LANGUAGE] FILE..
+"""Says what a printer would print otherwise than vp does, as far as it is known: lint [--lang LANGUAGE] FILE..
 
-A line for each: skipped commands and what they do, characters that the sheets lack, fields off a label's edges, the
-fault. The number is that of its first byte, counted from 0. Status 1 where there is one.
+A line for each: commands that are skipped and what they do, unless they set what is so at the start; parameters that
+vp doesn't look at; characters that the sheets lack; fields off a label's edges; the fault. The number is that of its
+first byte, counted from 0. Status 1 where there is one. --known KNOWN takes the lines of that file for known: they
+aren't said, as often as they stand there; with --write-known all lines of now are written there.
 """
 import argparse
 import sys
+from collections import Counter
 
-from .program import Fault, read
+from .files import keep
+from .program import Fault, read, shown
 from .remarks import remarks
 from .sheets import chosen
 from .streams import LANGUAGES, guess
+
+
+def known_lines(name):
+    """How often each line is known. Empty lines and those that begin with # are none."""
+    lines = read(name).decode('utf-8', 'surrogateescape').splitlines()
+    return Counter(it for it in lines if it and not it.startswith('#'))
 
 
 def main():
@@ -18,8 +28,13 @@ def main():
     words.add_argument('--lang', choices=LANGUAGES, help='the language, not guessed')
     words.add_argument('--font-a', metavar='SHEET', help='the sheet of font A, in place of the shipped one')
     words.add_argument('--font-b', metavar='SHEET', help='the sheet of font B')
+    words.add_argument('--known', metavar='KNOWN', help="a file of lines that aren't said")
+    words.add_argument('--write-known', action='store_true', help='writes the lines of now into that file')
     given = words.parse_args()
-    last = 0
+    if given.write_known and not given.known:
+        words.error('--write-known needs --known KNOWN')
+    known = known_lines(given.known) if given.known and not given.write_known else Counter()
+    last, said = 0, []
     for file in given.files:
         try:
             data = read(file)
@@ -29,7 +44,15 @@ def main():
             print(f'lint: {fault}', file=sys.stderr)
             last = max(last, fault.status)
             continue
-        for place, line in found:
-            print(f'{file}: {"" if place is None else f"byte {place}: "}{line}')
-        last = max(last, 1 if found else 0)
+        for place, text in found:
+            line = f'{shown(file)}: {text}'
+            said.append(line)
+            if known[line]:
+                known[line] -= 1
+            elif not given.write_known:
+                print(f'{shown(file)}: {"" if place is None else f"byte {place}: "}{text}')
+                last = max(last, 1)
+    if given.write_known:
+        keep(given.known, ''.join(f'{it}\n' for it in said))
+        print(f'{len(said)} lines are known')
     return last

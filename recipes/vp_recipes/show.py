@@ -1,6 +1,7 @@
 """Prints each stream to PNGs, and says what its paper doesn't show: show [--open] FILE..
 
-Of a receipt FILE.bin it writes FILE.png into this folder (--to another), of labels FILE-1.png, FILE-2.png and so on.
+Of a receipt or a label FILE.bin it writes FILE.png into this folder (--to another), of several labels FILE-1.png,
+FILE-2.png and so on. A PNG that was made of something else stays: then FILE.bin.png is written.
 It says the language, which it guesses, the fault, what was skipped, and which bytes have no character in the sheets.
 """
 import argparse
@@ -12,42 +13,35 @@ import subprocess
 import sys
 import tempfile
 
-from .images import write
-from .program import Fault, find_vp, read, times
+from .images import Files, Taken
+from .papers import paper
+from .program import Fault, find_vp, read, shown, times
 from .sheets import chosen, without_cell
 from .streams import LANGUAGES, guess, listing, named, skipped, table
 
 MOST = 100
 
 
-def printed(data, words, name, each):
-    """Prints a stream to PNGs: their names, whether these are all, vp's line and status."""
-    with tempfile.TemporaryFile() as stream, tempfile.TemporaryFile() as said:
-        stream.write(data)
-        stream.seek(0)
-        try:
-            vp = subprocess.Popen([*find_vp(), *words], stdin=stream, stdout=subprocess.PIPE, stderr=said)
-        except OSError as error:
-            raise Fault(f'cannot run {find_vp()[0]}: {error.strerror}', 2) from None
-        with vp:
-            try:
-                made, is_all = write(vp.stdout, name, each, 8, MOST)
-            finally:
-                vp.stdout.close()
-            status = vp.wait() if is_all else 0
-        said.seek(0)
-        return made, is_all, said.read().decode(errors='replace').strip() if is_all else '', status
-
-
-def show(file, stem, given):
+def show(file, names, given):
+    """Shows a stream by PNGs of the first of these names that is free."""
     data = read(file)
     language = given.lang or guess(data)
     sheet = chosen(language, given.font_a, given.font_b)
-    say = lambda text: print(f'{file}: {text}')
-    made, is_all, line, status = printed(data, [language, *sheet], str(given.to / f'{stem}.png'), language == 'label')
-    names = f'{made[0]} to {made[-1]}' if len(made) > 1 else made[0] if made else 'nothing is printed'
-    say(f'{language}{"" if given.lang else " (guessed)"}: {names}')
-    if not is_all:
+    say = lambda text: print(f'{shown(file)}: {text}')
+    of = os.path.relpath(file, given.to) if file != '-' else 'standard input'
+    with tempfile.TemporaryFile() as stream, Files(str(given.to / names[0]), language == 'label', of) as files:
+        stream.write(data)
+        stream.seek(0)
+        ran = paper([*find_vp(), language, *sheet], stream, files, 8, MOST)
+        line, status = ran.line(), ran.status
+        try:
+            made = files.settle()
+        except Taken:
+            made = files.settle(str(given.to / names[-1]))
+    said = list(map(shown, made))
+    said = f'{said[0]} to {said[-1]}' if len(made) > 1 else said[0] if made else 'nothing is printed'
+    say(f'{language}{"" if given.lang else " (guessed)"}: {said}')
+    if not ran.is_all:
         say(f'only the first {MOST} images are shown')
     if line:
         say(line)
@@ -87,7 +81,7 @@ def stems(files):
     clashing = clashes(found)
     if clashing:
         both = [file for file, it in zip(files, found) if it in clashing]
-        raise Fault(f'the PNGs of {both[0]} and {both[1]} have one name: show them into two folders', 2)
+        raise Fault(f'the PNGs of {shown(both[0])} and {shown(both[1])} have one name: show them into two folders', 2)
     return found
 
 
@@ -103,19 +97,20 @@ def main():
     last, made = 0, []
     for file, stem in zip(given.files, stems(given.files)):
         try:
-            names, status = show(file, stem, given)
+            whole_name = os.path.basename(file) if file != '-' else stem
+            names, status = show(file, [f'{stem}.png', f'{whole_name}.png'], given)
             made += names
         except Fault as fault:
             print(f'show: {fault}', file=sys.stderr)
             status = fault.status
         except OSError as error:
-            print(f'show: {error.filename or file}: {error.strerror}', file=sys.stderr)
+            print(f'show: {shown(error.filename or file)}: {error.strerror}', file=sys.stderr)
             status = 3
         last = max(last, status)
     if given.open and made:
         if shutil.which('xdg-open'):
             for name in made:
-                subprocess.run(['xdg-open', name], check=False)
+                subprocess.run(['xdg-open', os.path.join('.', name) if name.startswith('-') else name], check=False)
         else:
             print('show: xdg-open is not installed', file=sys.stderr)
     return last
