@@ -7,7 +7,7 @@ import { Tab } from './tabs.js';
 
 export function drawChoices() {
   const { tab, tabs, other } = desk;
-  const others = tabs.flatMap((it, n) => (it === tab ? [] : [[`tab ${n}`, it.name]]));
+  const others = tabs.filter(it => it !== tab).map(it => [`tab ${it.id}`, it.name]);
   const disk = tab?.onDisk ? [['disk', `${tab.name} on disk`]] : [];
   const first = ['', other ? 'Compare no more' : 'Compare…'];
   setChoices(find('compare'), [first, ...disk, ...others, ['file', 'a file…']], '');
@@ -30,7 +30,7 @@ export async function compareWith(choice, file) {
     const stream = Object.assign(new Tab(name, tab.onDisk, language), { width, wide, high });
     desk.other = { choice, name: `${name} on disk`, stream };
   } else if (choice.startsWith('tab ')) {
-    const stream = tabs[Number(choice.slice(4))];
+    const stream = tabs.find(it => choice === `tab ${it.id}`);
     desk.other = { choice, name: stream.name, stream };
   }
   if (desk.other) await compareAgain();

@@ -75,47 +75,48 @@ export class Editor {
   }
 
   paint() {
-    const { scrollTop: top, scrollLeft: left, clientHeight: high, clientWidth: width } = this.area;
-    const text = this.area.value;
+    const { scrollTop: top, clientHeight: high } = this.area;
     const first = Math.floor(top / LINE);
     const last = Math.min(this.starts.length, Math.ceil((top + high) / LINE) + 1);
-    const lines = [];
-    const numbers = [];
-    for (let n = first; n < last; n++) {
-      const start = this.starts[n];
-      const end = n + 1 < this.starts.length ? this.starts[n + 1] - 1 : text.length;
-      const number = document.createElement('div');
-      number.textContent = n + 1;
-      number.style.top = `${n * LINE - top}px`;
-      numbers.push(number);
-      const line = document.createElement('div');
-      line.className = 'line';
-      line.style.top = `${n * LINE - top}px`;
-      // of a long line only what is seen; all its characters are as wide
-      const skip = end - start > WIDE ? Math.max(0, Math.floor(left / this.wide) - 2) : 0;
-      const from = Math.min(end, start + skip);
-      const to = end - start > WIDE ? Math.min(end, from + Math.ceil(width / this.wide) + 4) : end;
-      line.style.left = `${skip * this.wide - left}px`;
-      this.spans(line, text, from, to);
-      for (const note of this.notes) {
-        if (note.place < start || note.place > end) continue;
-        number.className = note.kind === 'fault' ? 'fault' : number.className || note.kind;
-        number.title = note.text;
-        if (note.kind !== 'fault') continue;
-        const said = document.createElement('span');
-        said.className = 'note fault';
-        said.textContent = note.text;
-        line.append(said);
-      }
-      lines.push(line);
-    }
-    this.layer.replaceChildren(...lines);
-    this.gutter.replaceChildren(...numbers);
+    const drawn = [];
+    for (let n = first; n < last; n++) drawn.push(this.line(n));
+    this.gutter.replaceChildren(...drawn.map(it => it[0]));
+    this.layer.replaceChildren(...drawn.map(it => it[1]));
     // what is said of a fault stands behind its line, over no text: where there is no room it stands below alone
     const { right } = this.layer.getBoundingClientRect();
     for (const said of this.layer.querySelectorAll('.note')) {
       if (said.getBoundingClientRect().right > right) said.remove();
     }
+  }
+
+  // A line's number and its text.
+  line(n) {
+    const { scrollTop: top, scrollLeft: left, clientWidth: width } = this.area;
+    const text = this.area.value;
+    const start = this.starts[n];
+    const end = n + 1 < this.starts.length ? this.starts[n + 1] - 1 : text.length;
+    const number = document.createElement('div');
+    number.textContent = n + 1;
+    const line = document.createElement('div');
+    line.className = 'line';
+    number.style.top = line.style.top = `${n * LINE - top}px`;
+    // of a long line only what is seen; all its characters are as wide
+    const skip = end - start > WIDE ? Math.max(0, Math.floor(left / this.wide) - 2) : 0;
+    const from = Math.min(end, start + skip);
+    const to = end - start > WIDE ? Math.min(end, from + Math.ceil(width / this.wide) + 4) : end;
+    line.style.left = `${skip * this.wide - left}px`;
+    this.spans(line, text, from, to);
+    for (const note of this.notes) {
+      if (note.place < start || note.place > end) continue;
+      number.className = note.kind === 'fault' ? 'fault' : number.className || note.kind;
+      number.title = note.text;
+      if (note.kind !== 'fault') continue;
+      const said = document.createElement('span');
+      said.className = 'note fault';
+      said.textContent = note.text;
+      line.append(said);
+    }
+    return [number, line];
   }
 
   spans(line, text, from, to) {

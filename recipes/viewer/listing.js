@@ -60,42 +60,35 @@ export class Listing {
   paint() {
     const first = Math.floor(this.box.scrollTop / LINE);
     const last = Math.min(this.rows.length, Math.ceil((this.box.scrollTop + this.box.clientHeight) / LINE) + 1);
-    const lines = [];
-    for (let n = first; n < last; n++) {
-      const row = this.rows[n];
-      const line = document.createElement('div');
-      line.id = `row-${n}`;
-      line.setAttribute('role', 'option');
-      line.setAttribute('aria-posinset', n + 1);
-      line.setAttribute('aria-setsize', this.rows.length);
-      line.setAttribute('aria-selected', n === this.current);
-      line.className = `row ${row.kind}${row.said ? ` said ${row.said.kind}` : ''}`;
-      line.style.top = `${n * LINE}px`;
-      const place = document.createElement('span');
-      place.className = 'place';
-      place.textContent = row.place === null ? '' : row.place.toLocaleString('en');
-      const { code, words } = this.named(row);
-      const text = document.createElement('span');
-      text.className = 'text';
-      text.textContent = code;
-      const said = document.createElement('span');
-      said.className = 'words';
-      said.textContent = words;
-      line.append(place, text, said);
-      if (row.count) {
-        const count = document.createElement('span');
-        count.className = 'count';
-        count.textContent = `×${row.count.toLocaleString('en')}`;
-        line.append(count);
-      }
-      line.title = [code, words, row.said?.text].filter(Boolean).join(': ');
-      lines.push(line);
-    }
-    this.inside.replaceChildren(...lines);
+    this.inside.replaceChildren(...this.rows.slice(first, last).map((row, n) => this.line(row, first + n)));
     if (this.current >= first && this.current < last) {
       this.box.setAttribute('aria-activedescendant', `row-${this.current}`);
     } else {
       this.box.removeAttribute('aria-activedescendant');
     }
+  }
+
+  line(row, n) {
+    const line = document.createElement('div');
+    line.id = `row-${n}`;
+    line.setAttribute('role', 'option');
+    line.setAttribute('aria-posinset', n + 1);
+    line.setAttribute('aria-setsize', this.rows.length);
+    line.setAttribute('aria-selected', n === this.current);
+    line.className = `row ${row.kind}${row.said ? ` said ${row.said.kind}` : ''}`;
+    line.style.top = `${n * LINE}px`;
+    const { code, words } = this.named(row);
+    const put = (name, text) => {
+      const part = document.createElement('span');
+      part.className = name;
+      part.textContent = text;
+      line.append(part);
+    };
+    put('place', row.place === null ? '' : row.place.toLocaleString('en'));
+    put('text', code);
+    put('words', words);
+    if (row.count) put('count', `×${row.count.toLocaleString('en')}`);
+    line.title = [code, words, row.said?.text].filter(Boolean).join(': ');
+    return line;
   }
 }

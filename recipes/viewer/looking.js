@@ -16,6 +16,7 @@ const PAUSE = 250;
 // The cursor's dots are looked for once it has stood so long, in streams and papers of up to so many bytes.
 const STANDS = 120;
 const SMALL = { stream: 1 << 18, paper: 4 << 20 };
+export const ENDED = 'the viewer was ended: save what you wrote, and start it again';
 const FAULT = /^vp: (F\d) after (\d+) bytes?: (.*)$/;
 
 export const listing = new Listing(find('listing'), row => named(row, desk.tab.language), choose);
@@ -90,7 +91,7 @@ async function printed(one, signal) {
     if (!one.bytes.length) one.good = null;
   } catch (error) {
     if (error.name === 'AbortError') return;
-    one.error = error instanceof TypeError ? 'the viewer was ended: start it again' : error.message;
+    one.error = error instanceof TypeError ? ENDED : error.message;
   }
   if (one !== desk.tab) return;
   paper.drawn = () => {
@@ -315,9 +316,8 @@ async function chooseDot(dot) {
   const { edits } = tab;
   find('dot').textContent = 'looking for what drew it…';
   const drew = await quietly(() => origins.drew(looked(), dot));
-  if (signal.aborted || tab !== desk.tab || edits !== tab.edits) return;
-  tellDot(dot);
-  if (!drew) return;
+  if (tab === desk.tab) tellDot(dot);
+  if (!drew || signal.aborted || tab !== desk.tab || edits !== tab.edits) return;
   tab.chosen = drew;
   goTo(drew.from, drew.to, true);
   dotsOf(drew.from);

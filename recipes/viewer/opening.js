@@ -3,7 +3,7 @@
 import { pasted, toBytes } from './bytes.js';
 import { compareWith } from './comparing.js';
 import { desk, find } from './desk.js';
-import { say, show } from './looking.js';
+import { ENDED, say, show } from './looking.js';
 import { act, drawTabs, nameFor, same, Tab } from './tabs.js';
 import { editor, replace } from './writing.js';
 
@@ -102,7 +102,7 @@ export async function follow() {
       for (let n = 0; n < now.length; n++) if (now[n] !== known[n]) await changedOnDisk(n);
       known = now;
     } catch {
-      say('the viewer was ended: what you write stays here as long as this page does');
+      say(ENDED);
       await new Promise(done => setTimeout(done, 2000));
     }
   }

@@ -30,7 +30,7 @@ const joined = parts => {
 };
 
 // The formats of a label: how many images each prints, and its fields with what was set before each.
-export function formatsOf(rows) {
+function formatsOf(rows) {
   const formats = [];
   let set = new Map();
   let open = null;

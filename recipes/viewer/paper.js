@@ -207,7 +207,23 @@ export class Paper {
 
   paintSheet(n, place, x, y, wide, high, colour) {
     const { context, dot, ratio } = this;
-    const full = { w: Math.round(place.wide * dot), h: Math.round(place.high * dot) };
+    this.caption(n, place, x, y, colour);
+    // the dots that are seen
+    const x0 = Math.max(0, Math.floor(-x / dot));
+    const x1 = Math.min(place.wide, Math.ceil((wide - x) / dot));
+    const y0 = Math.max(0, Math.floor(-y / dot));
+    const y1 = Math.min(place.high, Math.ceil((high - y) / dot));
+    if (x1 <= x0 || y1 <= y0) return;
+    context.fillStyle = colour('--edge');
+    context.fillRect(x - ratio, y - ratio, Math.round(place.wide * dot) + 2 * ratio,
+      Math.round(place.high * dot) + 2 * ratio);
+    this.dots(n, x, y, [x0, x1, y0, y1], colour);
+    if (this.grid && dot >= 4 * ratio) this.lines(x, y, [x0, x1, y0, y1], colour);
+    this.frames(n, x, y, colour);
+  }
+
+  caption(n, place, x, y, colour) {
+    const { context, ratio } = this;
     context.fillStyle = colour('--ink');
     context.font = `${12 * ratio}px system-ui, sans-serif`;
     context.textBaseline = 'alphabetic';
@@ -216,56 +232,55 @@ export class Paper {
     const name = this.placed.length > 1 ? `${n + 1} of ${this.total || this.placed.length}  ` : '';
     const size = `${name}${place.wide} × ${place.high} dots, ${mm(place.wide)} × ${mm(place.high)} mm`;
     context.fillText(size, Math.max(x, RULER.left * ratio + 6), y - 8 * ratio);
-    const x0 = Math.max(0, Math.floor(-x / dot));
-    const x1 = Math.min(place.wide, Math.ceil((wide - x) / dot));
-    const y0 = Math.max(0, Math.floor(-y / dot));
-    const y1 = Math.min(place.high, Math.ceil((high - y) / dot));
-    if (x1 <= x0 || y1 <= y0) return;
-    context.fillStyle = colour('--edge');
-    context.fillRect(x - ratio, y - ratio, full.w + 2 * ratio, full.h + 2 * ratio);
+  }
+
+  dots(n, x, y, [x0, x1, y0, y1], colour) {
+    const { context, dot } = this;
     // of far too many dots only each so many one
     const step = Math.ceil(Math.sqrt((x1 - x0) * (y1 - y0) / MOST_AT_ONCE));
-    const size1 = [Math.ceil((x1 - x0) / step), Math.ceil((y1 - y0) / step)];
-    if (this.piece.width < size1[0] || this.piece.height < size1[1]) [this.piece.width, this.piece.height] =
-        size1;
+    const [wide, high] = [Math.ceil((x1 - x0) / step), Math.ceil((y1 - y0) / step)];
+    if (this.piece.width < wide || this.piece.height < high) Object.assign(this.piece, { width: wide, height: high });
     const to = this.piece.getContext('2d');
-    const image = to.createImageData(...size1);
+    const image = to.createImageData(wide, high);
     const pixels = new Uint32Array(image.data.buffer);
     const outside = this.outside(colour);
-    if (this.others) this.compare(pixels, n, x0, y0, ...size1, step, outside);
-    else this.plain(pixels, n, x0, y0, ...size1, step, outside);
-    if (this.mark?.sheet === n && !this.others) this.tint(pixels, x0, y0, ...size1, step);
+    if (this.others) this.compare(pixels, n, x0, y0, wide, high, step, outside);
+    else this.plain(pixels, n, x0, y0, wide, high, step, outside);
+    if (this.mark?.sheet === n && !this.others) this.tint(pixels, x0, y0, wide, high, step);
     to.putImageData(image, 0, 0);
     context.imageSmoothingEnabled = dot < 1;
     context.imageSmoothingQuality = dot < 0.5 ? 'medium' : 'low';
-    context.drawImage(this.piece, 0, 0, ...size1, x + x0 * dot, y + y0 * dot, size1[0] * step * dot,
-      size1[1] * step * dot);
-    if (this.grid && dot >= 4 * ratio) {
-      for (const [each, name] of dot >= 8 * ratio ? [[1, '--fine'], [8, '--grid']] : [[8, '--grid']]) {
-        context.fillStyle = colour(name);
-        for (let at = Math.ceil(x0 / each) * each; at <= x1; at += each) {
-          context.fillRect(x + at * dot, y + y0 * dot, ratio, (y1 - y0) * dot);
-        }
-        for (let at = Math.ceil(y0 / each) * each; at <= y1; at += each) {
-          context.fillRect(x + x0 * dot, y + at * dot, (x1 - x0) * dot, ratio);
-        }
+    context.drawImage(this.piece, 0, 0, wide, high, x + x0 * dot, y + y0 * dot, wide * step * dot, high * step * dot);
+  }
+
+  lines(x, y, [x0, x1, y0, y1], colour) {
+    const { context, dot, ratio } = this;
+    for (const [each, name] of dot >= 8 * ratio ? [[1, '--fine'], [8, '--grid']] : [[8, '--grid']]) {
+      context.fillStyle = colour(name);
+      for (let at = Math.ceil(x0 / each) * each; at <= x1; at += each) {
+        context.fillRect(x + at * dot, y + y0 * dot, ratio, (y1 - y0) * dot);
+      }
+      for (let at = Math.ceil(y0 / each) * each; at <= y1; at += each) {
+        context.fillRect(x + x0 * dot, y + at * dot, (x1 - x0) * dot, ratio);
       }
     }
-    if (this.mark?.sheet === n) {
-      const { mark } = this;
+  }
+
+  // Frames around the dots that are marked, and around the one that the arrows move.
+  frames(n, x, y, colour) {
+    const { context, dot, ratio, mark, cursor } = this;
+    if (mark?.sheet === n) {
       const gap = 3 * ratio;
       context.strokeStyle = colour('--accent');
       context.lineWidth = 1.5 * ratio;
       context.strokeRect(x + mark.x * dot - gap, y + mark.y * dot - gap, mark.width * dot + 2 * gap,
         mark.height * dot + 2 * gap);
     }
-    if (this.cursor?.sheet === n) {
+    if (cursor?.sheet === n) {
       context.strokeStyle = colour('--mark');
       context.lineWidth = 2 * ratio;
       const grown = Math.max(dot, 6 * ratio);
-      context.strokeRect(x + (this.cursor.x + 0.5) * dot - grown / 2, y + (this.cursor.y
-          + 0.5) * dot - grown / 2,
-        grown, grown);
+      context.strokeRect(x + (cursor.x + 0.5) * dot - grown / 2, y + (cursor.y + 0.5) * dot - grown / 2, grown, grown);
     }
   }
 
@@ -347,7 +362,7 @@ export class Paper {
   }
 
   rulers(seen, wide, high, colour) {
-    const { context, dot, ratio } = this;
+    const { context, ratio } = this;
     const [left, top] = [RULER.left * ratio, RULER.top * ratio];
     context.fillStyle = colour('--panel');
     context.fillRect(0, 0, wide, top);
@@ -355,33 +370,21 @@ export class Paper {
     context.fillStyle = colour('--line');
     context.fillRect(0, top - ratio, wide, ratio);
     context.fillRect(left - ratio, 0, ratio, high);
-    const mm = this.dpmm * dot;
-    const step = [1, 2, 5, 10, 20, 50, 100, 200, 500, 1000].find(it => it * mm >= 48 * ratio) ?? 2000;
-    const minor = [step / 10, step / 5, step / 2, step].find(it => it * mm >= 5 * ratio && it % 1 ===
-        0) ?? step;
     context.font = `${10.5 * ratio}px system-ui, sans-serif`;
-    const ticks = (from, length, start, end, tick) => {
-      const first = Math.max(0, Math.ceil((start - from) / mm / minor));
-      for (let n = first; n * minor * mm <= length * dot + 0.5; n++) {
-        const at = from + n * minor * mm;
-        if (at > end) break;
-        tick(Math.round(at), n * minor % step === 0, n * minor);
-      }
-    };
     context.fillStyle = colour('--quiet');
     if (seen[0]) {
       context.textAlign = 'left';
-      ticks(seen[0].x, seen[0].place.wide, left, wide, (at, large, value) => {
-        context.fillRect(at, top - (large ? 9 : 4) * ratio, ratio, (large ? 9 : 4) * ratio);
-        if (large) context.fillText(value, at + 3 * ratio, top - 8 * ratio);
+      this.ticks(seen[0].x, seen[0].place.wide, left, wide, (at, long, value) => {
+        context.fillRect(at, top - long, ratio, long);
+        if (value !== null) context.fillText(value, at + 3 * ratio, top - 8 * ratio);
       });
     }
     context.textAlign = 'right';
     for (const { place, y, n } of seen) {
-      ticks(y, place.high, top, high, (at, large, value) => {
+      this.ticks(y, place.high, top, high, (at, long, value) => {
         if (at < top) return;
-        context.fillRect(left - (large ? 9 : 4) * ratio, at, (large ? 9 : 4) * ratio, ratio);
-        if (large) context.fillText(value, left - 11 * ratio, at + 4 * ratio);
+        context.fillRect(left - long, at, long, ratio);
+        if (value !== null) context.fillText(value, left - 11 * ratio, at + 4 * ratio);
       });
       this.edges(this.sheets[n], y, top, high, left, colour);
       context.fillStyle = colour('--quiet');
@@ -391,6 +394,20 @@ export class Paper {
     context.fillStyle = colour('--quiet');
     context.textAlign = 'center';
     context.fillText('mm', left / 2, top - 7 * ratio);
+  }
+
+  // The ticks of a ruler: where each stands, how long it is, and its millimetres where they are written.
+  ticks(from, length, start, end, tick) {
+    const { dot, ratio } = this;
+    const mm = this.dpmm * dot;
+    const step = [1, 2, 5, 10, 20, 50, 100, 200, 500, 1000].find(it => it * mm >= 48 * ratio) ?? 2000;
+    const minor = [step / 10, step / 5, step / 2, step].find(it => it * mm >= 5 * ratio && it % 1 === 0) ?? step;
+    for (let n = Math.max(0, Math.ceil((start - from) / mm / minor)); n * minor * mm <= length * dot + 0.5; n++) {
+      const at = from + n * minor * mm;
+      if (at > end) break;
+      const isWritten = n * minor % step === 0;
+      tick(Math.round(at), (isWritten ? 9 : 4) * ratio, isWritten ? n * minor : null);
+    }
   }
 
   // Where one strip of a receipt ends and the next begins.

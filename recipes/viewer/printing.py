@@ -52,10 +52,9 @@ class Program:
         """Runs words on a stream. Gives what is put out piece by piece, and at last how it ended: the line on standard
         error, the status, and whether the time was over."""
         with self.turn, tempfile.TemporaryFile(dir=self.room) as given, \
-                tempfile.TemporaryFile(dir=self.room) as errors, selectors.DefaultSelector() as ways:
+                tempfile.TemporaryFile(dir=self.room) as errors:
             given.write(stream)
             given.seek(0)
-            until, late = time.monotonic() + SECONDS, False
             try:
                 ran = subprocess.Popen(words, stdin=given, stdout=subprocess.PIPE, stderr=errors, cwd=self.room,
                                        start_new_session=True)
@@ -64,28 +63,7 @@ class Program:
                 return
             self.running.add(ran)
             try:
-                for it in ran.stdout, caller:
-                    ways.register(it, selectors.EVENT_READ)
-                while True:
-                    left = until - time.monotonic()
-                    ready = [key.fileobj for key, _ in ways.select(left)] if left > 0 else []
-                    if caller in ready:
-                        if gone(caller):
-                            raise Gone
-                        ways.unregister(caller)
-                    if ran.stdout in ready:
-                        some = os.read(ran.stdout.fileno(), 1 << 16)
-                        if not some:
-                            break
-                        yield some
-                    elif left <= 0:
-                        late = True
-                        break
-                if not late:
-                    try:
-                        ran.wait(max(0.01, until - time.monotonic()))
-                    except subprocess.TimeoutExpired:
-                        late = True
+                late = yield from pieces(ran, caller, time.monotonic() + SECONDS)
             finally:
                 kill(ran)
                 self.running.discard(ran)
@@ -115,6 +93,32 @@ class Program:
             found = [it for it in found if not it[1].startswith('F8')]
             found.insert(0, [None, f'remarks are on the first {REMARKED:,} bytes'])
         return found
+
+
+def pieces(ran, caller, until):
+    """What a program puts out, while somebody waits for it; and whether the time was over before it ended."""
+    with selectors.DefaultSelector() as ways:
+        for it in ran.stdout, caller:
+            ways.register(it, selectors.EVENT_READ)
+        while True:
+            left = until - time.monotonic()
+            ready = [key.fileobj for key, _ in ways.select(left)] if left > 0 else []
+            if caller in ready:
+                if gone(caller):
+                    raise Gone
+                ways.unregister(caller)
+            if ran.stdout in ready:
+                some = os.read(ran.stdout.fileno(), 1 << 16)
+                if not some:
+                    break
+                yield some
+            elif left <= 0:
+                return True
+    try:
+        ran.wait(max(0.01, until - time.monotonic()))
+    except subprocess.TimeoutExpired:
+        return True
+    return False
 
 
 def sheet_words(fonts):

@@ -27,9 +27,10 @@ export class Images {
         continue;
       }
       if (!this.head && this.count === this.most) this.end = this.at;
-      this.head += String.fromCharCode(piece[at++]);
+      const byte = piece[at++];
       this.at++;
-      const head = HEAD.exec(this.head);
+      this.head += String.fromCharCode(byte);
+      const head = byte === 0x0a ? HEAD.exec(this.head) : null;
       if (head) this.begin(Number(head[1]), Number(head[2]));
       else if (this.head.length >= LONGEST_HEAD) this.broken = true;
     }

@@ -83,44 +83,45 @@ export function drawTabs() {
   if (now === drawn) return;
   drawn = now;
   const hadFocus = find('tabs').contains(document.activeElement);
-  find('tabs').replaceChildren(...tabs.map((it, n) => {
-    const box = document.createElement('div');
-    box.className = 'tab';
-    box.setAttribute('role', 'presentation');
-    if (it === tab) box.dataset.on = '';
-    const name = document.createElement('button');
-    name.className = 'name';
-    name.setAttribute('role', 'tab');
-    name.setAttribute('aria-selected', it === tab);
-    name.tabIndex = it === tab ? 0 : -1;
-    name.textContent = it.name;
-    const unsaved = it.isUnsaved;
-    if (unsaved) name.dataset.unsaved = '';
-    name.title = [it.path, it.followed !== null && 'followed on disk', unsaved && 'not saved',
-      it.onDisk && 'changed on disk'].filter(Boolean).join(', ');
-    name.setAttribute('aria-label', unsaved ? `${it.name}, not saved` : it.name);
-    name.onclick = () => act.choose(it);
-    name.onkeydown = event => {
-      const step = { ArrowRight: 1, ArrowLeft: -1 }[event.key];
-      if (step) {
-        act.choose(tabs[(n + step + tabs.length) % tabs.length]);
-      } else if (event.key === 'Delete' && it.followed === null) {
-        act.close(it);
-      }
-    };
-    box.append(name);
-    if (it.followed === null && tabs.length > 1) {
-      const shut = document.createElement('button');
-      shut.className = 'close';
-      shut.textContent = '×';
-      shut.setAttribute('aria-label', `Close ${it.name}`);
-      shut.onclick = () => act.close(it);
-      box.append(shut);
-    }
-    return box;
-  }));
+  find('tabs').replaceChildren(...tabs.map(boxOf));
   find('tabs').querySelector('[data-on]')?.scrollIntoView({ block: 'nearest', inline: 'nearest' });
   if (hadFocus) find('tabs').querySelector('[aria-selected="true"]')?.focus();
+}
+
+function boxOf(it, n) {
+  const { tabs, tab } = desk;
+  const box = document.createElement('div');
+  box.className = 'tab';
+  box.setAttribute('role', 'presentation');
+  if (it === tab) box.dataset.on = '';
+  const name = document.createElement('button');
+  name.className = 'name';
+  name.setAttribute('role', 'tab');
+  name.setAttribute('aria-selected', it === tab);
+  name.tabIndex = it === tab ? 0 : -1;
+  name.textContent = it.name;
+  const unsaved = it.isUnsaved;
+  if (unsaved) name.dataset.unsaved = '';
+  const isFollowed = it.followed !== null;
+  name.title = [it.path, isFollowed && 'followed on disk', unsaved && 'not saved', it.onDisk && 'changed on disk']
+    .filter(Boolean).join(', ');
+  name.setAttribute('aria-label', unsaved ? `${it.name}, not saved` : it.name);
+  name.onclick = () => act.choose(it);
+  name.onkeydown = event => {
+    const step = { ArrowRight: 1, ArrowLeft: -1 }[event.key];
+    if (step) act.choose(tabs[(n + step + tabs.length) % tabs.length]);
+    else if (event.key === 'Delete' && !isFollowed) act.close(it);
+  };
+  box.append(name);
+  if (!isFollowed && tabs.length > 1) {
+    const shut = document.createElement('button');
+    shut.className = 'close';
+    shut.textContent = '×';
+    shut.setAttribute('aria-label', `Close ${it.name}`);
+    shut.onclick = () => act.close(it);
+    box.append(shut);
+  }
+  return box;
 }
 
 addEventListener('beforeunload', event => {

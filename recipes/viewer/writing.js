@@ -102,8 +102,8 @@ function step(change) {
   print();
 }
 
-export const undo = () => step(desk.tab.history.back());
-export const redo = () => step(desk.tab.history.again());
+const undo = () => step(desk.tab.history.back());
+const redo = () => step(desk.tab.history.again());
 
 function insert(text) {
   document.execCommand('insertText', false, text);

@@ -93,7 +93,7 @@ class Chromium:
             raise RuntimeError(said['exceptionDetails'].get('exception', {}).get('description', script))
         return said['result'].get('value')
 
-    def wait(self, script, what, seconds=20):
+    def wait(self, script, what, seconds=60):
         until = time.monotonic() + seconds
         while time.monotonic() < until:
             try:

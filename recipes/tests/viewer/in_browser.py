@@ -233,7 +233,12 @@ def test_changed(browser, file):
         same(bytes_now(browser), expected)
     control(browser, 'z', 90)
     same(bytes_now(browser), mine)
-    # undo goes on when another tab was looked at; what is kept stays
+
+
+def test_kept(browser, file):
+    """What was written stays where it is kept in place of the file's; undo goes on; leaving asks."""
+    first, second = (b'^XA^PW80^LL40^FO8,8^GB%d,8,8^FS^XZ\n' % n for n in (8, 16))
+    mine = bytes_now(browser)
     file.write_bytes(first)
     browser.wait("!document.getElementById('changed').hidden", 'the question')
     shown(browser, 'shipping.zpl')
@@ -562,6 +567,7 @@ def in_browser(room):
             browser.size(2200, 1700)
             same(drawn(browser), printed('label', SHIPPING.read_bytes()))
             test_changed(browser, followed)
+            test_kept(browser, followed)
             for test in (test_mark, test_typing, test_speed, test_fault, test_drop, test_compare, test_escapes,
                          test_closing, test_remarks_line, test_dimmed, test_origins, test_names, test_sizes, test_count,
                          test_long, test_large, test_tabs):

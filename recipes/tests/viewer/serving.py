@@ -36,7 +36,7 @@ class Viewer:
 
     def __exit__(self, *_):
         self.ran.send_signal(signal.SIGINT)
-        self.ran.wait(10)
+        self.ran.wait(60)
 
     def ask(self, name='', body=None, path=None, **headers):
         line = http.client.HTTPConnection(self.host, timeout=40)
