@@ -100,7 +100,8 @@ def receipts_agree(vp):
             assert place <= end, f'{data}: {name} ends at {end}, its item is given at {place}'
 
 
-random.seed(54)
-labels_agree(sys.argv[1])
-receipts_agree(sys.argv[1])
-print(f'the parsers agree with vp on {2 * COUNT} streams')
+if __name__ == '__main__':
+    random.seed(54)
+    labels_agree(sys.argv[1])
+    receipts_agree(sys.argv[1])
+    print(f'the parsers agree with vp on {2 * COUNT} streams')

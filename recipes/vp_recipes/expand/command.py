@@ -6,11 +6,11 @@ such a line the status is 1. --tell MAP tells lines of vp (its fault, its listin
 """
 import argparse
 import datetime
-import os
 import sys
 
 from . import Options, expanded
 from .places import as_file, of_file, told
+from ..files import keep
 from ..program import Fault, read
 from ..sheets import chosen
 from ..streams import LANGUAGES, guess
@@ -54,7 +54,7 @@ def main():
     sys.stdout.buffer.write(found.data)
     sys.stdout.flush()
     if given.map:
-        write_map(given.map, as_file(found.pieces))
+        keep(given.map, as_file(found.pieces))
     for it in found.remarks:
         print(f'byte {it.place}: {it.text}', file=sys.stderr)
     return 0 if all(it.is_done for it in found.remarks) else 1
@@ -67,13 +67,3 @@ def known_encoding(name):
     except (LookupError, UnicodeError, ValueError):
         raise Fault(f'{name}: no table of letters', 2) from None
 
-
-def write_map(name, text):
-    """A file that is whole or not there."""
-    part = f'{name}.part'
-    try:
-        with open(part, 'w', encoding='ascii') as file:
-            file.write(text)
-        os.replace(part, name)
-    except OSError as error:
-        raise Fault(f'cannot write {name}: {error.strerror}') from None

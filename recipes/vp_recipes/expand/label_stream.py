@@ -90,13 +90,13 @@ class Writer:
         self.drop(command)
         title, heads = command.title(), 3 if command.name == 'DG' else 5
         parts = command.rest.split(command.comma, heads)
-        words = [it.translate(None, b'\r\n ').decode('latin-1') for it in parts[:heads]]
-        name = named(words[0], 'GRF')
+        words = [it.translate(None, b'\r\n ').decode('latin-1') for it in parts[:heads]] + [''] * heads
+        kind, form = ('A', 'G') if command.name == 'DG' else (words[1].upper(), words[2].upper())
+        name = named(words[0], 'PNG' if form == 'P' else 'GRF')
         if len(parts) <= heads or not name:
             self.remarks.not_written(command.start, f'{title} has no name or no data')
             return
-        kind, form = ('A', 'G') if command.name == 'DG' else (words[1].upper(), words[2].upper())
-        numbers = [int(it) if it.isascii() and it.isdigit() and len(it) < 9 else 0 for it in words[-2:]]
+        numbers = [int(it) if it.isascii() and it.isdigit() and len(it) < 9 else 0 for it in words[heads - 2:heads]]
         try:
             if form == 'P' or kind == 'P':
                 body = bytes.fromhex(parts[heads].decode('latin-1')) if kind == 'A' and parts[heads][:1] != b'\x89' else parts[heads]
@@ -138,7 +138,7 @@ class Writer:
             self.counted(found, count, max(1, quantity.number(2, 0, 0, 9999)) if quantity else 1)
         saves = [it for it in found if it.sign == '^' and it.name == 'IS']
         if saves:
-            self.saved(saves[-1], begin)
+            self.saved(saves[-1], begin, found)
 
     def kept_format(self, found):
         command = next(it for it in found if it.sign == '^' and it.name == 'DF')
@@ -241,16 +241,16 @@ class Writer:
         self.remarks.anew(command.start, f'^IL: the label {name} is written out')
         self.stream.anew(out, command.start, command.end)
 
-    def saved(self, command, begin):
+    def saved(self, command, begin, found):
         """The label of the new stream from a byte on, as vp prints it; it is not printed where the command says so."""
         name = named(command.parameters()[0], 'GRF')
         self.stream.whole()
         out, _, _ = run(['label', *self.options.sheet], bytes(self.stream.bytes))
-        found = last_image(out) if name else None
-        if not found:
+        picture = last_image(out) if name else None
+        if not picture:
             self.remarks.not_written(command.start, '^IS: there is no label to be stored')
             return
-        self.store.keep(name, found)
+        self.store.keep(name, picture)
         self.remarks.anew(command.start, f'^IS: the label is kept as {name}')
         if command.letter(1, 'YN', 'Y') == 'N':
             del self.stream.bytes[begin:]
@@ -259,6 +259,9 @@ class Writer:
                 cut = pieces[-1].end - begin
                 pieces[-1] = pieces[-1]._replace(end=begin, old_end=pieces[-1].old_end - cut * pieces[-1].same)
             self.stream.pieces[:] = pieces
+            # what it set stays in force
+            own = [it for it in found if it.sign == '^' and it.name not in PARTS and it.name not in WRITTEN]
+            self.stream.anew(b''.join(it.written() for it in own), found[0].start, found[-1].end)
 
 
 def last_image(out):

@@ -88,7 +88,7 @@ def commands(data):
         for match in found.finditer(data, at):
             sign, first, second, rest = match.groups()
             sign = '^' if sign == caret else '~'
-            name, font = (first + second).decode('latin-1').upper(), ''
+            name, font = (first + second).upper().decode('latin-1'), ''
             if sign == '^' and name[0] == 'A':
                 name, font = 'A', second.decode('latin-1')
             is_plain = caret == b'^' and tilde == b'~' and comma == b','

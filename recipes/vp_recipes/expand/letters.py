@@ -40,7 +40,7 @@ class Letters:
         """The byte whose cell shows a character, or None."""
         if ITSELF <= ord(char) < ITSELF + 256:
             return ord(char) - ITSELF
-        byte = self.cells.get(SPACES.get(char, char))
+        byte = self.cells.get(char, self.cells.get(SPACES.get(char)))
         if byte is None and self.nearest:
             plain = unicodedata.normalize('NFKD', char)[:1]
             byte = self.cells.get({'ł': 'l', 'Ł': 'L', 'đ': 'd', 'Đ': 'D', '’': "'", '‘': "'", '“': '"', '”': '"',

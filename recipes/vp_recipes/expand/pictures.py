@@ -156,7 +156,9 @@ def unpacked(text, most):
         why = 'its packed data have no sum'
     elif int(said, 16) != binascii.crc_hqx(packed, 0):
         why = f'its packed data have the sum {binascii.crc_hqx(packed, 0):04X}, and say {said.decode().upper()}'
-    data = base64.b64decode(packed[:len(packed) // 4 * 4] if b'=' not in packed else packed + b'==')
+    letters = packed.rstrip(b'=')
+    letters = letters[:-1] if len(letters) % 4 == 1 else letters
+    data = base64.b64decode(letters + b'=' * (-len(letters) % 4))
     if kind.upper() == b'Z64':
         return inflated(data, most, why)
     return data[:most], why
