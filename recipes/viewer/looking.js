@@ -39,6 +39,7 @@ export const measured = { took: [] };
 export function print(now = false) {
   clearTimeout(timer);
   asked.abort();
+  dotsAsked.abort();
   asked = new AbortController();
   const one = desk.tab;
   if (!now) typed = performance.now();
@@ -196,6 +197,7 @@ function summed(found) {
   const kinds = [
     [/has no character|characters are white/, n => `${plural(n, 'byte')} without a character`],
     [/ edge/, n => `${plural(n, 'field')} past an edge`],
+    [/on a printer/, n => `${plural(n, 'command')} otherwise on a printer`],
     [/read past|no command/, n => `${plural(n, 'command')} read past`],
     [/(?:)/, n => plural(n, 'remark')],
   ];

@@ -14,6 +14,7 @@ import time
 import urllib.parse
 
 sys.path.insert(0, os.path.dirname(os.path.dirname(os.path.realpath(__file__))))
+from vp_recipes.program import shown  # noqa: E402
 from vp_recipes.streams import guess  # noqa: E402
 from gate import Gate  # noqa: E402
 from printing import MOST_STREAM, SECONDS, Gone  # noqa: E402
@@ -32,17 +33,13 @@ HEADERS = {
 WAIT, LOOK, QUIET, MOST_INSIDE = 20, 0.1, 120, 64
 
 
-def shown(name):
-    """A file's name as it is told to users: any name is one line of text."""
-    return ' '.join(os.fsencode(name).decode('utf-8', 'replace').splitlines())
-
-
 class Followed:
     """A file of the command line. Its version changes with it."""
 
     def __init__(self, path):
         self.file = os.path.abspath(path)
-        self.path, self.name = shown(self.file), shown(os.path.basename(path))
+        self.path = shown(os.fsencode(self.file).decode('utf-8', 'replace'))
+        self.name = os.path.basename(self.path)
 
     def version(self):
         try:

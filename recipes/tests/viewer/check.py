@@ -201,7 +201,7 @@ def test_odd(room):
     with Viewer('--', *names, large, cwd=room, TMPDIR=str(room / 'temporary')) as page:
         files = json.loads(page.good('state'))['files']
         same([it['name'] for it in files],
-             ['\ufffd.zpl', 'two lines', '$(touch x) "\'.zpl', '-o', 'empty', 'large.zpl'])
+             ['\ufffd.zpl', r'two\x0alines', '$(touch x) "\'.zpl', '-o', 'empty', 'large.zpl'])
         same([page.good(f'file?n={n}') for n in range(5)], [b'^XA^XZ'] * 4 + [b''])
         same(page.ask('file?n=5')[:2], (413, b'large.zpl: a stream has at most 4 MB\n'))
         os.unlink(names[0])

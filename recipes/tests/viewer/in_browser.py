@@ -255,6 +255,30 @@ def test_kept(browser, file):
     same(bytes_now(browser), second)
 
 
+def test_parts(browser):
+    """Of a long stream one part is in the editor: what is written in it, and taken back, leaves all other bytes."""
+    for name, text in ('letters.zpl', 'é' * 50000), ('lines.zpl', 'abcdefgh\r\n' * 10000):
+        stream = '^FX' + text
+        data = stream.encode()
+        drop(browser, name, json.dumps(stream))
+        browser.wait(f"viewer.tab().name === '{name}' && {READY}", name)
+        same(browser.value("document.getElementById('view').value"), 'text')
+        browser.value("document.getElementById('part-after').click()")
+        at, end = browser.value('[viewer.tab().from, viewer.tab().to]')
+        assert 0 < at < end < len(data) or end == len(data), (at, end)
+        browser.value("""(() => { const area = document.getElementById('text'); area.focus();
+          area.setSelectionRange(1, 2); })()""")
+        browser.ask('Input.insertText', text='ü')
+        one = len(stream.encode()[at:].decode()[0].encode())
+        cut = len('\r\n') if data[at:at + 2] == b'\r\n' else one
+        lost = len('\r\n') if data[at + cut:at + cut + 2] == b'\r\n' else one
+        changed = data[:at + cut] + 'ü'.encode() + data[at + cut + lost:]
+        same(bytes_now(browser) == changed, True)
+        browser.value("document.getElementById('part-before').click(), document.getElementById('text').focus()")
+        control(browser, 'z', 90)
+        same([bytes_now(browser) == data, browser.value('viewer.tab().isUnsaved')], [True, False])
+
+
 def test_closing(browser):
     new_stream(browser, 'label')
     type_at(browser, 'Hello', 'x')
@@ -569,8 +593,8 @@ def in_browser(room):
             test_changed(browser, followed)
             test_kept(browser, followed)
             for test in (test_mark, test_typing, test_speed, test_fault, test_drop, test_compare, test_escapes,
-                         test_closing, test_remarks_line, test_dimmed, test_origins, test_names, test_sizes, test_count,
-                         test_long, test_large, test_tabs):
+                         test_parts, test_closing, test_remarks_line, test_dimmed, test_origins, test_names, test_sizes,
+                         test_count, test_long, test_large, test_tabs):
                 test(browser)
             same(browser.errors, [])
             test_opened(browser, room)
