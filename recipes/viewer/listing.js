@@ -87,7 +87,7 @@ export class Listing {
     put('place', row.place === null ? '' : row.place.toLocaleString('en'));
     put('text', code);
     put('words', words);
-    if (row.count) put('count', `×${row.count.toLocaleString('en')}`);
+    if (row.count > 1) put('count', `×${row.count.toLocaleString('en')}`);
     line.title = [code, words, row.said?.text].filter(Boolean).join(': ');
     return line;
   }
