@@ -65,7 +65,7 @@ def main(words):
 END
 chmod +x "$kit/bin"/*
 for tool in sh env find sort xargs sha256sum cut sed awk cat dirname basename readlink wc head od tr mkdir \
-    rm mv cp cmp chmod stat tail ls grep sleep date id uname mktemp; do
+    rm mv cp cmp chmod stat tail ls grep sleep date id uname mktemp ln; do
     ln -s "$(command -v "$tool")" "$bin/$tool"
 done
 ln -s "$(python3 -c 'import sys; print(sys.executable)')" "$bin/python3"
@@ -138,7 +138,7 @@ silent 'where nothing can be kept'
 rm "$tree/out"
 mv "$room/away" "$tree/out"
 mkdir "$tree/docs" "$tree/examples"
-cp "$root/docs/vp.1" "$tree/docs"
+cp "$root/docs/vp.1" "$root"/docs/*.md "$tree/docs"
 cp "$root"/examples/*.pbm "$tree/examples"
 for part in install completions recipes LICENSE-MIT LICENSE-APACHE NOTICE CHANGELOG.md; do
     cp -R "$root/$part" "$tree"

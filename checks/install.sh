@@ -43,7 +43,28 @@ for dest in '' "$room/a root"; do
         share/doc/vp/LICENSE-MIT share/doc/vp/LICENSE-APACHE share/doc/vp/NOTICE share/doc/vp/CHANGELOG.md; do
         grep -qx "./$file" "$room/files" || fail "$file isn't installed"
     done
-    ! grep '/tests/\|testing\|\.new$' "$room/files" || fail 'what only serves tests is installed'
+    ! grep '/tests/\|testing\|\.new$\|/\.vp-' "$room/files" || fail 'what only serves tests is installed'
+    # what names a place names this one, and what a page links to is there
+    ! grep -rn '/usr/local' "$dest$prefix/lib" "$dest$prefix/share/man" || fail 'an installed file names another place'
+    for file in port-9100/vp-printer.service port-9100/inetd.conf cups/vp; do
+        grep -qF "$prefix/lib/vp/" "$dest$prefix/lib/vp/$file" || fail "$file doesn't name its place"
+    done
+    grep -qF "$prefix/share/vp/font-a.pbm" "$dest$prefix/share/man/man1/vp.1" || fail "the man page doesn't name its place"
+    (cd "$dest$prefix" && grep -ro --include '*.md' '](\.*[A-Za-z0-9_./-]*[)#]' lib/vp share/doc/vp) |
+        grep -v '](https\{0,1\}:\|CHANGELOG' >"$room/links"
+    while IFS= read -r link; do
+        file=${link%%:*} to=${link#*](}
+        to=${to%?}
+        [ -z "$to" ] || [ -e "$dest$prefix/${file%/*}/$to" ] || fail "$file links to $to, which isn't installed"
+    done <"$room/links"
+    [ "$(wc -l <"$room/links")" -ge 12 ] || fail 'no links are found'
+    # recipes on the path
+    for tool in show lint golden paper; do
+        is 0 "vp-$tool" env -i PATH="$PATH" "$dest$prefix/bin/vp-$tool" --help
+        [ -e "$dest$prefix/share/bash-completion/completions/vp-$tool" ] || fail "no completions of vp-$tool"
+    done
+    (cd "$room" && is 0 'vp-show' env -i PATH="$PATH" "$dest$prefix/bin/vp-show" "$root/examples/shelf.zpl")
+    [ -e "$room/shelf.png" ] || fail 'vp-show makes no PNG'
     (cd "$dest$prefix/share/vp" && env -i ../../bin/vp receipt --font-a font-a.pbm --font-b font-b.pbm) \
         <"$root/examples/receipt.bin" >"$room/receipt.pbm"
     (cd "$room" && env -i PATH="$PATH" "$dest$prefix/lib/vp/paper" receipt.png) <"$room/receipt.pbm"
@@ -53,15 +74,43 @@ for dest in '' "$room/a root"; do
     echo lib/vp/old >>"$dest$prefix/lib/vp/installed"
     is 0 'install over an install' "$root/install" "$prefix"
     [ ! -e "$dest$prefix/lib/vp/old" ] || fail 'a file of an earlier version stays'
-    mkdir "$dest$prefix/lib/vp/__pycache__"
-    touch "$dest$prefix/lib/vp/__pycache__/paper.pyc"
+    for folder in vp_recipes own; do
+        mkdir -p "$dest$prefix/lib/vp/$folder/__pycache__"
+        touch "$dest$prefix/lib/vp/$folder/__pycache__/paper.cpython-39.pyc"
+    done
     is 0 'uninstall' "$root/install" --uninstall "$prefix"
     left=$(cd "$dest$prefix" && find . -type f | LC_ALL=C sort | tr '\n' ' ')
-    [ "$left" = './lib/vp/own/kept ./share/doc/other/kept ' ] || fail "other files are left: $left"
+    [ "$left" = './lib/vp/own/__pycache__/paper.cpython-39.pyc ./lib/vp/own/kept ./share/doc/other/kept ' ] || fail "other files are left: $left"
     [ ! -e "$dest$prefix/share/vp" ] || fail 'an empty folder is left'
     is 3 'uninstall where nothing is' "$root/install" --uninstall "$prefix"
 done
 unset DESTDIR
+
+# files that no install put there stay, and no link leads it elsewhere
+prefix=$room/others
+mkdir -p "$prefix/bin" "$prefix/share/vp"
+echo mine >"$prefix/share/vp/font-a.pbm"
+echo mine >"$room/mine"
+ln -s "$room/mine" "$prefix/bin/vp.new"
+is 3 'install over files of others' "$root/install" "$prefix"
+grep -q "font-a.pbm is there already, and no install put it there" "$room/said" || fail 'it names no file'
+[ ! -e "$prefix/bin/vp" ] && [ "$(cat "$prefix/share/vp/font-a.pbm")" = mine ] || fail 'files of others are written over'
+rm "$prefix/share/vp/font-a.pbm"
+ln -s "$room/mine" "$prefix/bin/vp"
+is 3 'install over a link of others' "$root/install" "$prefix"
+rm "$prefix/bin/vp"
+is 0 'install beside a link' "$root/install" "$prefix"
+[ "$(cat "$room/mine")" = mine ] || fail 'install writes through a link'
+# one that breaks off is known to the next
+rm "$prefix/bin/vp"
+mkdir "$prefix/bin/vp"
+is 1 'an install that breaks off' "$root/install" "$prefix"
+[ -z "$(find "$prefix" -name '.vp-*')" ] || fail 'something half done stays'
+rmdir "$prefix/bin/vp"
+is 0 'an install behind one that broke off' "$root/install" "$prefix"
+is 0 'uninstall' "$root/install" --uninstall "$prefix"
+[ "$(cd "$prefix" && find . ! -type d)" = ./bin/vp.new ] || fail 'other files are left, or taken away'
+is 3 'a name that no file can name' "$root/install" "$room/a'b"
 is 2 'install without a place' "$root/install"
 is 2 'install with a wrong word' "$root/install" --prefix "$room"
 is 2 'uninstall without a place' "$root/install" --uninstall
@@ -76,13 +125,15 @@ offers() {
     [ "$found" = "$wanted" ] || fail "$shell offers behind '$words': $found"
 }
 in_bash() {
+    case $1 in vp-*) name=vp-tools asked=_vp_tools ;; *) name=vp asked=_vp ;; esac
     bash --norc -c '. "$1"; read -ra COMP_WORDS <<<"$2"; case $2 in *" ") COMP_WORDS+=("") ;; esac
-        COMP_CWORD=$((${#COMP_WORDS[@]} - 1)); _vp; printf "%s\n" "${COMPREPLY[@]}"' \
-        bash "$root/completions/vp.bash" "$1" 2>/dev/null
+        COMP_CWORD=$((${#COMP_WORDS[@]} - 1)); "$3"; printf "%s\n" "${COMPREPLY[@]}"' \
+        bash "$root/completions/$name.bash" "$1" "$asked" 2>/dev/null
 }
 in_fish() {
     HOME=$room XDG_CONFIG_HOME=$room XDG_DATA_HOME=$room \
-        fish -c "source $root/completions/vp.fish; complete -C '$1'" 2>/dev/null | cut -f 1
+        fish -c "source $root/completions/vp.fish; source $root/completions/vp-tools.fish; complete -C '$1'" \
+        2>/dev/null | cut -f 1
 }
 # (zsh completes only on a terminal: one is made for it, and what is added to its list is kept)
 in_zsh() {
@@ -137,6 +188,12 @@ for shell in bash fish zsh; do
         offers "$shell" 'vp receipt ord' order.bin
         offers "$shell" 'vp label --font-a ord' order.bin
         offers "$shell" 'vp join ord' order.bin
+        offers "$shell" 'vp-show --lang ' label receipt
+        offers "$shell" 'vp-show --o' --open
+        offers "$shell" 'vp-show ord' order.bin
+        offers "$shell" 'vp-lint --known ord' order.bin
+        offers "$shell" 'vp-golden che' check
+        offers "$shell" 'vp-sheet --font ' a b
         echo "completions of $shell: ok"
     fi
 done
@@ -156,6 +213,8 @@ if has dpkg-deb 'what the package holds'; then
     # into an empty root, run there, and taken away
     mkdir empty
     dpkg-deb -x "$deb" empty
+    ! grep -rn '/usr/local' empty || fail 'a file of the package names another place'
+    is 0 'vp-lint of the package' env -i PATH="$PATH" empty/usr/bin/vp-lint "$root/examples/shelf.zpl"
     empty/usr/bin/vp receipt --font-a empty/usr/share/vp/font-a.pbm --font-b empty/usr/share/vp/font-b.pbm \
         "$root/examples/receipt.bin" | cmp - receipt.pbm
     dpkg-deb -e "$deb" head

@@ -28,6 +28,20 @@ cmp "$room/queue/000007.png" docs/shipping.png
 printf '^XA^PW200^LL100^FO9,9^GB20,20,3^FS^PQ2^XZ' >"$room/two.zpl"
 is 0 'two labels' recipes/cups/vp 13 user title 1 '' "$room/two.zpl"
 [ -e "$room/queue/000008-1.png" ] && [ -e "$room/queue/000008-2.png" ] || fail 'not a PNG for each label'
+for copies in x 0 '' -1 '1 2' 99999 "\$(touch $room/pwned)"; do
+    is 5 "copies '$copies'" recipes/cups/vp 14 user title "$copies" '' examples/receipt.bin
+    says '^ERROR: copies are a number from 1 to 9999, and not '
+done
+[ ! -e "$room/pwned" ] || fail 'copies were run'
+is 5 'a file that is none' recipes/cups/vp 14 user title 1 '' "$room/none"
+says '^ERROR: cannot read .*/none$'
+[ ! -e "$room/queue/000009.bin" ] || fail 'a job of nothing is kept'
+is 5 'a queue without a folder' env DEVICE_URI=vp: recipes/cups/vp 14 user title 1 '' <examples/receipt.bin
+VP_PRINT="sh -c kill\${IFS}-9\${IFS}\$\$"
+export VP_PRINT
+is 5 'a command that is killed' recipes/cups/vp 14 user title 1 '' <examples/receipt.bin
+says '^ERROR: 000009 sh was ended by SIGKILL$'
+unset VP_PRINT
 DEVICE_URI=vp:/dev/null/none
 is 5 'a folder that cannot be' recipes/cups/vp 14 user title 1 '' <examples/receipt.bin
 says '^ERROR: job: cannot write to /dev/null/none: Not a directory$'

@@ -26,7 +26,7 @@ papers() {
     all "$@"
     cmp "$room/out/a shop/50.bin.pbm" "$room/receipt.pbm"
     [ "$(find "$room/out" -name '*.pbm' | wc -l)" -eq 52 ] || fail 'not an image file for each stream'
-    [ -z "$(find "$room/out" -name '*.part')" ] || fail 'something half done stays'
+    [ -z "$(find "$room/out" -name '.vp-*' ! -name .vp-many)" ] || fail 'something half done stays'
     # what is missing is printed again, and nothing else
     rm "$room/out/a shop/7.bin.pbm"
     echo kept >"$room/out/a shop/8.bin.pbm"
@@ -65,7 +65,7 @@ if needs parallel; then
     echo 'many by GNU parallel: ok'
 fi
 
-# the shipped sheets, in the language of the first stream
+# the shipped sheets, in the language of each stream
 mkdir "$room/labels" "$room/receipts"
 cp examples/*.zpl "$room/labels"
 cp examples/receipt.bin "$room/receipts"
@@ -81,6 +81,50 @@ cmp -s "$room/printed/receipt.bin.pbm" "$room/receipt.pbm" && fail 'the image of
 is 3 'a run that breaks off' env VP="$vp" recipes/many "$room/receipts" "$room/printed" \
     sh -c '[ ! -s /dev/stdin ] || kill -9 $PPID'
 [ ! -e "$room/printed/receipt.bin.pbm" ] || fail 'an earlier image stays for --resume to count'
+
+# each stream of a mixed folder in its own language
+mkdir "$room/mixed"
+cp "$room"/labels/* "$room"/receipts/* "$room/mixed"
+is 0 'a mixed folder' env VP="$vp" recipes/many "$room/mixed" "$room/mixed-out"
+cmp "$room/mixed-out/receipt.bin.pbm" "$room/receipt.pbm"
+cmp "$room/mixed-out/shelf.zpl.pbm" "$room/printed/shelf.zpl.pbm" 2>/dev/null ||
+    "$vp" label --font-a examples/font-a.pbm examples/shelf.zpl | cmp - "$room/mixed-out/shelf.zpl.pbm"
+is 0 'a mixed folder as receipts' env VP="$vp" recipes/many --lang receipt --sums "$room/receipts" "$room/mixed-sums"
+
+# what no run made stays, and is in the way; what one made goes
+mkdir -p "$room/mixed-out/sub"
+for file in note.fault sub/mine.fault other.pbm; do echo mine >"$room/mixed-out/$file"; done
+cp "$room/mixed/receipt.bin" "$room/mixed/other"
+is 3 'an image that no run made' env VP="$vp" recipes/many "$room/mixed" "$room/mixed-out"
+says '^many: .*/mixed-out/other.pbm is there already, and no run of many made it$'
+is 3 'an image that no run made, and --resume' env VP="$vp" recipes/many --resume "$room/mixed" "$room/mixed-out"
+rm "$room/mixed/other" "$room/mixed/shelf.zpl"
+is 0 'beside files of others' env VP="$vp" recipes/many "$room/mixed" "$room/mixed-out"
+[ "$(cd "$room/mixed-out" && cat note.fault sub/mine.fault other.pbm | grep -c mine)" -eq 3 ] || fail 'files of others are lost'
+[ ! -e "$room/mixed-out/shelf.zpl.pbm" ] || fail 'the image of an earlier run stays'
+
+# an image is whole or not there; a command that is killed, or isn't vp's, is told
+is 5 'a command that is killed' recipes/many "$room/receipts" "$room/killed" sh -c '[ ! -s /dev/stdin ] || kill -9 $$'
+says '^many: receipt.bin: status 137, and nothing was said$'
+says '^many: not all streams were printed; --resume goes on$'
+is 5 'a status that is not vp' recipes/many "$room/receipts" "$room/killed" sh -c '[ ! -s /dev/stdin ] || exit 77'
+(trap '' XFSZ && ulimit -f 16 && is 3 'a disk that is full' recipes/many "$room/receipts" "$room/killed" "$@") || exit
+says '^many: receipt.bin: vp: write failed$'
+[ -z "$(find "$room/killed" -name '*.pbm' -o -name '.vp-part*')" ] || fail 'a part of an image is kept'
+is 0 'what is left, behind it' recipes/many --resume "$room/receipts" "$room/killed" "$@"
+cmp "$room/killed/receipt.bin.pbm" "$room/receipt.pbm"
+# of any name, and through a link
+mkdir "$room/names"
+for name in -dash.bin "quo'te\".bin" '$(touch pwned).bin' "$(printf 'caf\351.bin')"; do
+    cp examples/receipt.bin "$room/names/$name"
+done
+: >"$room/names/empty"
+ln -s "$root/recipes/many" "$room/linked"
+is 0 'any names' env VP="$vp" "$room/linked" "$room/names" "$room/names-out"
+[ "$(find "$room/names-out" -name '*.pbm' | wc -l)" -eq 5 ] && [ ! -e pwned ] || fail 'not an image for each name'
+is 0 'any names again' env VP="$vp" "$room/linked" "$room/names" "$room/names-out"
+touch "$room/names/$(printf 'a\nb')"
+is 3 'a name with a line end' env VP="$vp" recipes/many "$room/names" "$room/names-out"
 
 # a clone's program is the one that its ./vp runs, wherever that is
 mkdir -p "$room/clone/tools/dist" "$room/clone/examples"

@@ -19,10 +19,7 @@ from .images import Files
 from .papers import paper
 from .program import Fault, find_vp, given_input, shown
 from .sheets import shipped
-from .streams import LANGUAGES, guess
-
-# Of so many bytes of a stream its language is guessed.
-GUESSED = 1 << 20
+from .streams import GUESSED, LANGUAGES, guess
 
 
 def next_number(folder):

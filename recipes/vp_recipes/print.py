@@ -1,32 +1,48 @@
 """Prints a stream by vp in the language that it is in, with the shipped sheets: print < STREAM > IMAGES
 
 print --guess < STREAM says the language, and prints nothing; print --words LANGUAGE says the words that run vp, one a
-line.
+line; print --languages < NAMES says the language of each file, before its name, a line each.
 """
 import os
 import shutil
 import sys
 import tempfile
 
-from .program import Fault, find_vp
+from .program import Fault, find_vp, given_input, shown
 from .sheets import shipped
-from .streams import LANGUAGES, guess
+from .streams import GUESSED, LANGUAGES, guess
+
+
+def languages(names):
+    """Says the language of each of the files whose names are given."""
+    for line in names:
+        name = line.rstrip(b'\n')
+        try:
+            with open(name, 'rb') as file:
+                language = guess(file.read(GUESSED))
+        except OSError as error:
+            raise Fault(f'cannot read {shown(os.fsdecode(name))}: {error.strerror}') from None
+        sys.stdout.buffer.write(language.encode() + b' ' + line)
+    return 0
 
 
 def main():
     if sys.argv[1:2] == ['--words'] and len(sys.argv) == 3 and sys.argv[2] in LANGUAGES:
         print('\n'.join([*find_vp(), sys.argv[2], *shipped(sys.argv[2])]))
         return 0
+    if sys.argv[1:] == ['--languages']:
+        return languages(given_input())
     if sys.argv[1:] not in ([], ['--guess']):
-        print(f'usage: print [--guess] < STREAM; print --words {"|".join(LANGUAGES)}', file=sys.stderr)
+        print(f'usage: print [--guess] < STREAM; print --words {"|".join(LANGUAGES)}; print --languages < NAMES',
+              file=sys.stderr)
         return 2
-    if sys.stdin.buffer.seekable():
+    if given_input().seekable():
         stream, start = sys.stdin.buffer, sys.stdin.buffer.tell()
     else:
         stream, start = tempfile.TemporaryFile(), 0
         shutil.copyfileobj(sys.stdin.buffer, stream)
         stream.seek(0)
-    language = guess(stream.read(1 << 20))
+    language = guess(stream.read(GUESSED))
     if sys.argv[1:]:
         print(language)
         return 0

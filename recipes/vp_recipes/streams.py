@@ -10,6 +10,8 @@ import re
 from .program import Fault, run
 
 LANGUAGES = 'receipt', 'label'
+# Of so many bytes of a stream its language is guessed, where it isn't read whole.
+GUESSED = 1 << 20
 # The byte by which GS ( k names QR, in a listing.
 QR = '31'
 

@@ -20,7 +20,9 @@ import needs  # noqa: E402
 ROOT = os.path.dirname(os.path.dirname(os.path.dirname(os.path.realpath(__file__))))
 MAINTAINER = "Vuzaremo maintainers <maintainers@users.noreply.vuzaremo.example>"
 # Where Debian has a place of its own.
-PLACES = {"usr/share/zsh/site-functions/_vp": "usr/share/zsh/vendor-completions/_vp"}
+PLACES = {
+    f"usr/share/zsh/site-functions/{name}": f"usr/share/zsh/vendor-completions/{name}" for name in ("_vp", "_vp-tools")
+}
 # What stands in the package's copyright, or only serves ./install.
 LEFT_OUT = ("usr/lib/vp/installed", "usr/share/doc/vp/LICENSE-MIT", "usr/share/doc/vp/LICENSE-APACHE")
 DESCRIPTION = """virtual receipt and label printer
@@ -45,7 +47,8 @@ def packed(data):
 
 
 def installed(program):
-    """Returns what ./install puts below /usr: each file's path, with its mode and bytes."""
+    """Returns what ./install puts below /usr: each file's path, with its mode and bytes; a link's without a mode, and
+    with what it leads to."""
     with tempfile.TemporaryDirectory() as room:
         env = {**os.environ, "DESTDIR": room, **({"VP_PROGRAM": program} if program else {})}
         ran = subprocess.run([f"{ROOT}/install", "/usr"], env=env, stdout=subprocess.DEVNULL, check=False)
@@ -55,6 +58,9 @@ def installed(program):
         for at, _, files in os.walk(room):
             for file in files:
                 path = os.path.relpath(f"{at}/{file}", room)
+                if os.path.islink(f"{at}/{file}"):
+                    found[path] = (None, os.readlink(f"{at}/{file}").encode())
+                    continue
                 found[path] = (0o755 if os.access(f"{at}/{file}", os.X_OK) else 0o644, read(f"{at}/{file}"))
         return found
 
@@ -109,9 +115,9 @@ def tar(files, when):
     room = io.BytesIO()
     with tarfile.open(fileobj=room, mode="w", format=tarfile.GNU_FORMAT) as it:
 
-        def add(name, kind, mode, data=b""):
+        def add(name, kind, mode, data=b"", to=""):
             one = tarfile.TarInfo(name)
-            one.type, one.mode, one.size, one.mtime = kind, mode, len(data), when
+            one.type, one.mode, one.size, one.mtime, one.linkname = kind, mode, len(data), when, to
             one.uname = one.gname = "root"
             it.addfile(one, io.BytesIO(data))
 
@@ -124,7 +130,10 @@ def tar(files, when):
                 add(f"{name}/", tarfile.DIRTYPE, 0o755)
             else:
                 mode, data = files[name[2:]]
-                add(name, tarfile.REGTYPE, mode, data)
+                if mode is None:
+                    add(name, tarfile.SYMTYPE, 0o777, to=data.decode())
+                else:
+                    add(name, tarfile.REGTYPE, mode, data)
     return room.getvalue()
 
 
@@ -139,7 +148,8 @@ def ar(members, when):
 
 def package(version, when, program):
     files = files_of(version, when, program)
-    sums = "".join(f"{hashlib.md5(files[path][1]).hexdigest()}  {path}\n" for path in sorted(files))
+    kept = [path for path in sorted(files) if files[path][0] is not None]
+    sums = "".join(f"{hashlib.md5(files[path][1]).hexdigest()}  {path}\n" for path in kept)
     head = {"control": (0o644, control(version, files)), "md5sums": (0o644, sums.encode())}
     members = [("debian-binary", b"2.0\n"), ("control.tar.gz", packed(tar(head, when)))]
     return ar([*members, ("data.tar.gz", packed(tar(files, when)))], when)
