@@ -1,8 +1,9 @@
 // What was changed in a stream: taken back and done again, whatever was shown between.
 
 const MOST = 64 << 20;
-// Keys that come so quickly one after the other are taken back together, in milliseconds.
+// Keys that come so quickly one after the other are taken back together, in milliseconds, up to so many bytes.
 const TOGETHER = 1000;
+const MOST_TOGETHER = 40;
 
 // The one change from some bytes to others, as {at, old, now}; null where there is none.
 export function changeOf(before, after) {
@@ -23,6 +24,7 @@ export function changed(bytes, { at, old, now }) {
   return made;
 }
 
+const sizeOf = ({ old, now }) => old.length + now.length;
 const inverse = ({ at, old, now }) => ({ at, old: now, now: old });
 
 function both(first, second) {
@@ -54,15 +56,12 @@ export class History {
   keep(change, typed) {
     const time = typed ? performance.now() : -Infinity;
     const last = this.done[this.done.length - 1];
-    const whole = last && time - last.time < TOGETHER ? joined(last, change) : null;
+    const whole = last && time - last.time < TOGETHER && sizeOf(last) < MOST_TOGETHER ? joined(last, change) : null;
     if (whole) this.done.pop();
     this.done.push({ ...(whole ?? change), time });
+    this.size += sizeOf(change) - this.undone.reduce((sum, it) => sum + sizeOf(it), 0);
     this.undone = [];
-    this.size += change.old.length + change.now.length;
-    while (this.size > MOST && this.done.length > 1) {
-      const { old, now } = this.done.shift();
-      this.size -= old.length + now.length;
-    }
+    while (this.size > MOST && this.done.length > 1) this.size -= sizeOf(this.done.shift());
   }
 
   // The change that takes the last one back, or does again what was taken back; null where there is none.

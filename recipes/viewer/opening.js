@@ -120,7 +120,7 @@ async function changedOnDisk(n) {
   if (tab === desk.tab) show();
   if (tab.fileError) return;
   if (tab.kept && same(tab.kept, bytes) && !tab.onDisk) return;
-  const isFree = !tab.isUnsaved || same(tab.bytes, bytes);
+  const isFree = !tab.isChanged || same(tab.bytes, bytes);
   tab.onDisk = isFree ? null : bytes;
   if (isFree) take(tab, bytes);
   else ask();
@@ -128,14 +128,9 @@ async function changedOnDisk(n) {
 
 // The file's bytes in place of those that are here: that can be taken back.
 function take(tab, bytes) {
-  tab.onDisk = null;
-  tab.kept = bytes;
-  if (tab === desk.tab) {
-    if (desk.other?.choice === 'disk') compareWith('');
-    replace(bytes);
-  } else {
-    tab.waiting = bytes;
-  }
+  Object.assign(tab, { kept: bytes, onDisk: null });
+  if (tab === desk.tab && desk.other?.choice === 'disk') compareWith('');
+  replace(tab, bytes);
   drawTabs();
   ask();
 }
@@ -143,23 +138,21 @@ function take(tab, bytes) {
 // Asks about a file that changed under what was written, where that is so of the tab that is seen.
 export function ask() {
   const { tab } = desk;
-  if (tab.waiting) {
-    const { waiting } = tab;
-    tab.waiting = null;
-    replace(waiting);
-    drawTabs();
-  }
   find('changed').hidden = !tab.onDisk;
   find('changed').querySelector('span').textContent = 'Changed on disk.';
   if (desk.other?.choice === 'disk' && tab.onDisk) compareWith('disk').catch(error => say(error.message));
 }
 
-find('take').onclick = () => take(desk.tab, desk.tab.onDisk);
+find('take').onclick = () => {
+  take(desk.tab, desk.tab.onDisk);
+  editor.area.focus();
+};
 find('keep').onclick = () => {
   const { tab } = desk;
   Object.assign(tab, { kept: tab.onDisk, onDisk: null });
   if (desk.other?.choice === 'disk') compareWith('');
   drawTabs();
   ask();
+  editor.area.focus();
 };
 find('compare-file').onclick = () => compareWith('disk').catch(error => say(error.message));

@@ -6,13 +6,13 @@ import { desk, find, save } from './desk.js';
 let count = 0;
 
 export class Tab {
-  // `kept` are the bytes that a file has, or null where none does; a followed file is named by its number and path.
+  // `kept` are the bytes that its file has, or null where it has none; a followed file is named by its number and path.
   constructor(name, bytes, language, { kept = bytes, followed = null, path = name } = {}) {
     Object.assign(this, { id: count++, name, bytes, language, kept, followed, path, width: String(desk.state.width) });
     // a label's size in millimetres, where it isn't the stream's own
     Object.assign(this, { wide: 0, high: 0, history: new History(), asBytes: false });
-    // what the file has now, where that changed under what was written here
-    this.onDisk = null;
+    // what the file has now, where that changed under what was written here; what was saved last
+    Object.assign(this, { onDisk: null, saved: null });
     // the part that is in the editor, its line ends, and how many bytes come before each place of its text
     Object.assign(this, { from: 0, to: 0, end: null, before: new Uint32Array(1), chosen: null });
     // which edition of the bytes is printed and listed, what of it was, and what the last one without a fault was
@@ -22,8 +22,13 @@ export class Tab {
     Object.assign(this, { error: '', fileError: '' });
   }
 
-  get isUnsaved() {
+  // Whether something was written here that the file hasn't, and whether that was saved to no other.
+  get isChanged() {
     return !same(this.bytes, this.kept ?? new Uint8Array(0));
+  }
+
+  get isUnsaved() {
+    return this.isChanged && !(this.saved && same(this.bytes, this.saved));
   }
 
   // What is printed before a label, so that it has the size that was chosen.
@@ -67,7 +72,7 @@ export const fileName = tab => tab.name.replaceAll('/', '-');
 
 export function saveStream(tab) {
   save(tab.bytes, fileName(tab));
-  if (tab.followed === null) tab.kept = tab.bytes;
+  tab.saved = tab.bytes;
   drawTabs();
 }
 

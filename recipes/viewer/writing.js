@@ -49,9 +49,8 @@ function part(bytes, from) {
   }
 }
 
-// Another stream stands in the tab's place: by a change that can be taken back.
-function put(change, isTyped) {
-  const { tab } = desk;
+// Another stream stands in a tab's place: by a change that can be taken back, of a key or not.
+function put(tab, change, isTyped) {
   const grown = change.now.length - change.old.length;
   const end = change.at + change.old.length;
   tab.bytes = changed(tab.bytes, change);
@@ -73,27 +72,26 @@ function edited() {
   tab.before = before;
   if (change) {
     tab.to += change.now.length - change.old.length;
-    put({ ...change, at: tab.from + change.at }, true);
+    put(tab, { ...change, at: tab.from + change.at }, true);
     print();
   }
   editor.measure();
   mark();
 }
 
-// Puts bytes in place of the tab's, as one change.
-export function replace(bytes) {
-  const change = changeOf(desk.tab.bytes, bytes);
-  if (change) {
-    put(change, false);
-    fill(desk.tab.from, true);
-  }
+// Puts bytes in place of a tab's, as one change.
+export function replace(tab, bytes) {
+  const change = changeOf(tab.bytes, bytes);
+  if (change) put(tab, change, false);
+  if (tab !== desk.tab) return;
+  fill(tab.from, true);
   print(true);
 }
 
 function step(change) {
   if (!change) return;
-  put(change, null);
   const { tab } = desk;
+  put(tab, change, null);
   const end = change.at + change.now.length;
   fill(change.at >= tab.from && end <= tab.from + PART ? tab.from : change.at, true);
   const place = placeOf(tab.before, Math.min(end, tab.to) - tab.from);

@@ -219,7 +219,6 @@ def test_changed(browser, file):
     browser.wait(f"viewer.tab().bytes.length === {len(third)}", "the file's bytes")
     same([bytes_now(browser), browser.value("document.getElementById('changed').hidden")], [third, True])
     for expected in mine, second, first:
-        browser.value("document.getElementById('text').focus()")
         control(browser, 'z', 90)
         browser.wait(f'viewer.tab().bytes.length === {len(expected)}', 'what was taken back')
         same(bytes_now(browser), expected)
@@ -243,10 +242,23 @@ def test_kept(browser, file):
     browser.click("document.getElementById('keep')")
     browser.wait("document.getElementById('changed').hidden", 'no question')
     same(bytes_now(browser), mine)
-    # leaving asks, and so does closing
+    # leaving asks, as long as it isn't saved
     browser.ask('Page.reload')
     wait(lambda: browser.value('1') and browser.dialogs == ['beforeunload'])
     same(bytes_now(browser), mine)
+    same(saved(browser, 'save-stream'), mine)
+    same(browser.value('viewer.tab().isUnsaved'), False)
+    control(browser, 'z', 90)
+    same(bytes_now(browser), second)
+    # a tab that isn't seen takes the file's bytes, too
+    file.write_bytes(second)
+    browser.wait('viewer.tab().kept.length === viewer.tab().bytes.length', "the file's bytes")
+    shown(browser, 'shipping.zpl')
+    file.write_bytes(first)
+    browser.wait(f"viewer.desk.tabs.find(it => it.name === 'followed.zpl').bytes.length === {len(first)}", 'the change')
+    shown(browser, 'followed.zpl')
+    same([bytes_now(browser), browser.value("document.getElementById('changed').hidden")], [first, True])
+    browser.value("document.getElementById('text').focus()")
     control(browser, 'z', 90)
     same(bytes_now(browser), second)
 
