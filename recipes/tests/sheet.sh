@@ -31,7 +31,81 @@ gzip <"$room/font.bdf" >"$room/font.bdf.gz"
 recipes/sheet --table latin1 "$room/font.bdf.gz" 2>/dev/null | cmp - "$room/bdf.pbm"
 recipes/sheet --font b --table latin1 "$room/font.bdf" >"$room/b.pbm" 2>/dev/null
 "$vp" receipt --font-b "$room/b.pbm" "$room/a.bin" >"$room/said"
-is 1 'a font that is none' recipes/sheet examples/receipt.bin
+is 3 'a font that is none' recipes/sheet examples/receipt.bin
+
+# what is no table and no font is a line, at once
+for table in utf-8 zlib rot13 idna base64 utf-7 utf-16 hex bz2 punycode undefined klingon '' "$(printf 'a\nb')"; do
+    is 2 "the table $table" recipes/sheet --table "$table" "$room/font.bdf"
+    ! grep -q Traceback "$room/said" || fail "a traceback of the table $table"
+done
+python3 - "$room" <<'END'
+import gzip
+import pathlib
+import random
+import struct
+import sys
+room = pathlib.Path(sys.argv[1])
+broken = room / 'broken'
+broken.mkdir()
+fonts = {it.name: it.read_bytes() for it in sorted(room.glob('font.*')) if it.suffix != '.gz'}
+made = {f'{n}-{name}': data[:n] for name, data in fonts.items() for n in (0, 1, 4, 9, 30, len(data) // 2, len(data) - 9)}
+bdf = fonts['font.bdf']
+for n, (old, new) in enumerate([
+        (b'DWIDTH 8', b'DWIDTH 99999999999'), (b'DWIDTH 8', b'DWIDTH -99999999999'), (b'BBX 8 16', b'BBX 99999999999 16'),
+        (b'BBX 8 16', b'BBX 8 99999999999'), (b'BBX 8 16 0 -4', b'BBX 8 16 0 -99999999999'), (b'BBX 8 16 0', b'BBX'),
+        (b'ASCENT 12', b'ASCENT 99999999999'), (b'ENCODING 65', b'ENCODING 99999999999'), (b'ENCODING 65', b'ENCODING x'),
+        (b'BITMAP', b'BITMAP\nxyz'), (b'BITMAP\n', b'BITMAP\n' + b'FF\n' * 100000), (b'FONTBOUNDINGBOX', b'NONE'),
+        (b'ISO10646', b'zlib'), (b'"ISO10646"\nCHARSET_ENCODING "1"', b'"idna"\nCHARSET_ENCODING "base64"')]):
+    assert old in bdf
+    made[f'bdf-{n}'] = bdf.replace(old, new)
+for n, sizes in enumerate([(0, 0xFFFFFFFF, 16, 16, 8), (0, 3, 16, 16, 0xFFFFFFFF), (0, 3, 16, 0xFFFFFFFF, 8),
+                           (0, 3, 0xFFFFFFFF, 16, 8), (0, 3, 0, 0, 0), (1, 3, 16, 16, 8)]):
+    made[f'psf-{n}'] = struct.pack('<8I', 0x864AB572, 0, 32, *sizes) + bytes(48)
+packed = gzip.compress(bdf)
+made.update(cut=packed[:len(packed) // 2], torn=packed[:40] + b'torn' + packed[44:], bomb=gzip.compress(bytes(1 << 27)))
+random.seed(7)
+for n in range(60):
+    name = random.choice(sorted(fonts))
+    data = bytearray(fonts[name])
+    for _ in range(random.randrange(1, 6)):
+        data[random.randrange(len(data))] = random.choice([0, 0x7F, 0xFF, random.randrange(256)])
+    made[f'random-{n}-{name}'] = bytes(data)
+for name, data in made.items():
+    (broken / name).write_bytes(data)
+END
+python3 - "$room/broken" <<'END' || fail 'a broken font'
+import contextlib
+import io
+import pathlib
+import sys
+sys.path.insert(0, 'recipes')
+sys.dont_write_bytecode = True
+from vp_recipes import program, sheet
+class Out:
+    buffer = io.BytesIO()
+    flush = lambda self: None
+kept, refused = sys.stdout, 0
+for font in sorted(pathlib.Path(sys.argv[1]).iterdir()):
+    sys.argv, sys.stdout = ['sheet', str(font)], Out()
+    try:
+        with contextlib.redirect_stderr(io.StringIO()):
+            sheet.main()
+    except program.Fault as fault:
+        assert fault.status == 3 and '\n' not in str(fault), (font, fault)
+        refused += 1
+    finally:
+        sys.stdout = kept
+assert refused > 40, refused
+END
+for font in bdf-0 psf-1 bomb cut torn; do
+    is 3 "the font $font" recipes/sheet "$room/broken/$font"
+    [ "$(wc -l <"$room/said")" -eq 1 ] || fail "more than a line of $font"
+done
+for name in -dash "quo'te" "$(printf 'a\nb')" "$(printf 'caf\351')"; do
+    cp "$room/font.bdf" "$room/$name"
+    (cd "$room" && is 0 "a font named $name" "$root/recipes/sheet" --table latin1 -- "$name") || exit
+done
+is 3 'a full device' sh -c 'recipes/sheet --table latin1 "$1" >/dev/full' sh "$room/font.bdf"
 
 # the system's fonts, with the packages that bring them
 while read -r package font; do

@@ -123,7 +123,18 @@ is 1 'the text before a fault' "$root/recipes/text" bad.bin
 says '^Hi$'
 says '^vp: F1 after 5 bytes'
 is 2 'a table that is none' "$root/recipes/text" --table klingon two.zpl
-says '^text: unknown encoding: klingon$'
+says '^text: klingon: no table of letters$'
+for table in zlib rot13 base64 hex bz2 idna utf-7 utf-16 punycode undefined raw_unicode_escape '' "$(printf 'a\nb')"; do
+    "$root/recipes/text" --table "$table" "$root/examples/receipt.bin" two.zpl >said 2>&1 || [ $? -eq 2 ] ||
+        fail "the table $table"
+    ! grep -q Traceback said || fail "a traceback of the table $table"
+done
+for name in -dash.bin "quo'te\".bin" '$(touch pwned).bin' "$(printf 'a\nb.bin')" "$(printf 'caf\351.bin')"; do
+    (cd names && is 0 "a text named $name" "$root/recipes/text" -- "$name") || exit
+    says '^total$'
+done
+is 3 'a text that is none' "$root/recipes/text" "$(printf 'caf\351')"
+says "^text: cannot read $(printf 'caf\351'): No such file"
 echo 'text: ok'
 
 printf 'Hi\n\033\177more\n\035\001last\n' >worse.bin
@@ -135,4 +146,20 @@ says '^cut out at byte 10: 1D 01$'
 "$root/recipes/past" "$vp" receipt --width 384 <worse.bin 2>/dev/null | head -c 9 | grep -q '^384 ' ||
     fail 'other words'
 "$root/recipes/past" <"$root/examples/receipt.bin" | cmp - receipt.pbm
+# also behind refused symbols; unknown commands one behind the other are read once
+printf 'Hi\n\035kA\01312345678901more\n\035k\00012\000\033\177\035(k\003\0001Q0last\n' >symbols.bin
+is 1 'past refused symbols' "$root/recipes/past" "$vp" receipt <symbols.bin
+says '^cut out at byte 29: 1B 7F$'
+says '^cut out at byte 3: GS k 41: F2 symbol: unsupported$'
+says '^cut out at byte 23: GS k 00: F2 symbol: unsupported$'
+says '^cut out at byte 31: GS ( k 03 00 31 51 30: F2 symbol: empty$'
+"$root/recipes/past" <symbols.bin 2>/dev/null >symbols.pbm || true
+"$root/recipes/print" <good.bin | cmp - symbols.pbm
+python3 -c 'import sys
+sys.stdout.buffer.write(b"a\n" + b"\x1b\x7f" * 2000 + b"b\n" + b"\x1d\x01" * 2000)' >many.bin
+"$root/recipes/past" <many.bin 2>said >past.pbm || [ $? -eq 1 ]
+[ "$(wc -l <said)" -eq 4000 ] || fail 'not each is cut out'
+printf 'a\nb\n' | "$root/recipes/print" | cmp - past.pbm
+: | "$root/recipes/past" | cmp - /dev/null
+is 5 'past a program that is killed' "$root/recipes/past" sh -c 'kill -9 $$' <worse.bin
 echo 'past: ok'

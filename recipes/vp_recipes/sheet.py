@@ -9,12 +9,15 @@ digits in a frame; with --blank its cell is white. docs/sheets.md says what a sh
 import argparse
 import codecs
 import gzip
+import io
 import struct
 import sys
 import unicodedata
+import zlib
 from collections import namedtuple
 
 from .drawing import glyph
+from .program import Fault, shown as shown_name
 from .sheets import CELLS, framed, sheet_of
 from .tables import shown, spaces
 
@@ -22,6 +25,14 @@ from .tables import shown, spaces
 Glyph = namedtuple('Glyph', 'advance left top width rows')
 # Glyphs by character, or by number where the font doesn't say its characters; lines are so many rows high.
 Font = namedtuple('Font', 'height glyphs')
+# What is taken for a font: its bytes, unpacked, its glyphs, their sides in dots, and by how many a glyph is off its pen.
+MOST_BYTES, MOST_GLYPHS, MOST_SIDE, MOST_OFF = 1 << 26, 1 << 17, 256, 1024
+
+
+def bounded(count, width, height):
+    """Refuses what no font for cells has, before it is worked on."""
+    if not 0 <= count <= MOST_GLYPHS or not 0 <= width <= MOST_SIDE or not 0 <= height <= MOST_SIDE:
+        raise ValueError(f'{count} glyphs of {width} by {height} dots: not a font for cells')
 
 
 def key_of(registry, encoding):
@@ -31,8 +42,10 @@ def key_of(registry, encoding):
     for name in f'{registry}-{encoding}', encoding:
         try:
             decode = codecs.lookup(name).decode
-            return lambda n: decode(bytes([n]), 'replace')[0] if n < 256 else n
-        except LookupError:
+            if decode(b'A')[0] == 'A':
+                return lambda n: decode(bytes([n]), 'replace')[0] if n < 256 else n
+        # what isn't a table of text raises whatever its module does
+        except Exception:  # noqa: BLE001
             pass
     return lambda n: n
 
@@ -44,7 +57,7 @@ def bdf(data):
         if word == 'BITMAP':
             rows = []
         elif word == 'ENDCHAR':
-            found.append((said.copy(), rows))
+            found.append((said.copy(), rows or []))
             rows = None
         elif rows is not None:
             rows.append(int(word, 16) >> 4 * len(word) - int(said['BBX'].split()[0]))
@@ -56,6 +69,7 @@ def bdf(data):
     key, glyphs = key_of(said.get('CHARSET_REGISTRY', ''), said.get('CHARSET_ENCODING', '')), {}
     for of, rows in found:
         code, (width, height, left, low) = int(of['ENCODING'].split()[0]), map(int, of['BBX'].split())
+        bounded(len(found), width, max(height, len(rows)))
         if code >= 0:
             advance = int(of['DWIDTH'].split()[0])
             glyphs[key(code)] = Glyph(advance, left, ascent - low - height, width, rows)
@@ -78,6 +92,8 @@ def pcf(data):
         count, = numbers(4, 'I')
         flat = numbers(4, f'{6 * count}h', 4)
         metrics = [flat[n:n + 5] for n in range(0, 6 * count, 6)]
+    for left, right, _, up, down in metrics:
+        bounded(count, right - left, up + down)
     form, at = tables[8]
     pad, unit = 1 << (form & 3), 1 << (form >> 4 & 3)
     starts, bits = numbers(8, f'{count}I', 4), data[at + 24 + 4 * count:]
@@ -97,6 +113,8 @@ def pcf(data):
     said = {name(n): value for n, is_name, value in (numbers(1, 'IBi', 4 + 9 * k) for k in range(count)) if is_name}
     key = key_of(*(name(said[it]) if it in said else '' for it in ('CHARSET_REGISTRY', 'CHARSET_ENCODING')))
     low, high, first, last, _ = numbers(32, '5h')
+    if not 0 <= low <= high < 256 or not 0 <= first <= last < 256:
+        raise ValueError('codes that are none')
     codes = [256 * page + n for page in range(first, last + 1) for n in range(low, high + 1)]
     places = zip(codes, numbers(32, f'{len(codes)}H', 10))
     return Font(ascent + descent, {key(code): made[place] for code, place in places if place != 0xFFFF})
@@ -109,6 +127,9 @@ def psf(data):
     else:
         start, has_table, count, size, height, width = struct.unpack_from('<6I', data, 8)
     stride, glyphs = (width + 7) // 8, {}
+    bounded(count, width, height)
+    if start + count * size > len(data) or size < stride * height:
+        raise ValueError('cut short')
     for n in range(count):
         first = start + n * size
         rows = [data[at:at + stride] for at in range(first, first + height * stride, stride or 1)]
@@ -137,9 +158,23 @@ def unifont(data):
 
 def read(name):
     with open(name, 'rb') as file:
-        data = file.read()
+        data = file.read(MOST_BYTES + 1)
     if data[:2] == b'\x1f\x8b':
-        data = gzip.decompress(data)
+        with gzip.open(io.BytesIO(data)) as file:
+            data = file.read(MOST_BYTES + 1)
+    if len(data) > MOST_BYTES:
+        raise ValueError('too large for a font')
+    font = parsed(data)
+    for it in font.glyphs.values():
+        bounded(len(font.glyphs), it.width, len(it.rows))
+    if any(abs(it) > MOST_OFF for glyph in font.glyphs.values() for it in (glyph.advance, glyph.left, glyph.top)):
+        raise ValueError('a glyph is too far off its pen')
+    if abs(font.height) > MOST_OFF:
+        raise ValueError(f'lines of {font.height} rows')
+    return font
+
+
+def parsed(data):
     if data.startswith(b'STARTFONT'):
         return bdf(data)
     if data.startswith(b'\x01fcp'):
@@ -202,8 +237,10 @@ def of_font(name, chars, size, say):
     """The cells of a font's characters."""
     try:
         font = read(name)
-    except (OSError, ValueError, KeyError, IndexError, LookupError, struct.error) as error:
-        sys.exit(f'sheet: {name}: {getattr(error, "strerror", None) or error}')
+    except KeyError as error:
+        raise Fault(f'{shown_name(name)}: it has no {error.args[0]}') from None
+    except (OSError, EOFError, ValueError, IndexError, LookupError, OverflowError, struct.error, zlib.error) as error:
+        raise Fault(f'{shown_name(name)}: {getattr(error, "strerror", None) or error}') from None
     by_number = not any(isinstance(it, str) for it in font.glyphs)
     glyphs = {n: font.glyphs.get(n if by_number else char) for n, char in chars.items()}
     found = {n: it for n, it in glyphs.items() if it}

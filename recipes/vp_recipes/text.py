@@ -10,7 +10,7 @@ import re
 import sys
 
 from .labels import labels
-from .program import Fault, read
+from .program import Fault, read, shown
 from .streams import LANGUAGES, guess, listing
 
 # What puts what follows at another height: anywhere, in standard mode, on a page.
@@ -49,29 +49,38 @@ def label(items):
                 yield bytes(byte for _, byte in field['bytes'])
 
 
+def decoder(table):
+    """What makes a text of bytes, by a table of letters."""
+    def decoded(line):
+        # what is no table of letters raises whatever its module does
+        try:
+            text = codecs.lookup(table).decode(line, 'replace')[0]
+            return text.encode('utf-8', 'replace').decode()
+        except Exception:  # noqa: BLE001
+            raise Fault(f'{shown(table)}: no table of letters', 2) from None
+    decoded(b'A ')
+    return decoded
+
+
 def main():
     words = argparse.ArgumentParser(description=__doc__, formatter_class=argparse.RawDescriptionHelpFormatter)
     words.add_argument('files', metavar='FILE', nargs='*', default=['-'], help='a stream; without one, standard input')
     words.add_argument('--lang', choices=LANGUAGES, help='the language, not guessed')
     words.add_argument('--table', metavar='CODEC', help='which character a byte is')
     given = words.parse_args()
-    last = 0
-    sys.stdout.reconfigure(encoding='utf-8')
+    last, own = 0, given.table and decoder(given.table)
     for file in given.files:
         try:
             data = read(file)
             language = given.lang or guess(data)
             items, fault = listing(data, language, dots=False)
-            table = given.table or {'receipt': 'cp437', 'label': 'utf-8'}[language]
+            decoded = own or decoder({'receipt': 'cp437', 'label': 'utf-8'}[language])
             for line in {'receipt': receipt, 'label': label}[language](items):
-                print(codecs.decode(line, table, 'replace'))
+                print(decoded(line))
             if fault:
                 print(fault, file=sys.stderr)
                 last = max(last, 1)
         except Fault as fault:
             print(f'text: {fault}', file=sys.stderr)
             last = max(last, fault.status)
-        except LookupError as error:
-            print(f'text: {error}', file=sys.stderr)
-            return 2
     return last
