@@ -12,7 +12,7 @@ sys.path.insert(0, os.path.dirname(os.path.dirname(os.path.realpath(__file__))))
 from vp_recipes.remarks import remarks  # noqa: E402
 
 # So many remarks are told, and so much memory is taken at most.
-MOST, MOST_MEMORY = 2000, 1 << 30
+MOST, MOST_MEMORY = 2000, 1 << 29
 
 resource.setrlimit(resource.RLIMIT_AS, (MOST_MEMORY, resource.getrlimit(resource.RLIMIT_AS)[1]))
 language, sheets, vp = json.loads(sys.argv[1])

@@ -92,11 +92,12 @@ def direct(words):
     return [program_of(script), *words[1:]] if is_clone else list(words)
 
 
-def run(words, data, vp=None):
-    """What vp does with a stream: its output, its line, its status. Wrong words and the like are a Fault."""
+def run(words, data, vp=None, output=subprocess.PIPE):
+    """What vp does with a stream: its output, where that isn't to go elsewhere, its line, its status. Wrong words and the
+    like are a Fault."""
     words = direct([*(vp or find_vp()), *words])
     try:
-        ran = subprocess.run(words, input=data, stdout=subprocess.PIPE, stderr=subprocess.PIPE)
+        ran = subprocess.run(words, input=data, stdout=output, stderr=subprocess.PIPE)
     except (OSError, ValueError) as error:
         raise cannot_run(words, error) from None
     return ran.stdout, told(words, ran.returncode, text_of(ran.stderr)), ran.returncode

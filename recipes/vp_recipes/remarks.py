@@ -1,5 +1,6 @@
 """What a printer prints and vp doesn't, or not so."""
 import re
+import subprocess
 
 from .labels import off_edges
 from .program import run, times
@@ -79,7 +80,8 @@ def remarks(data, language, sheet, vp=None):
         found += off_reading(items)
         found += off_edges(items, sheet, vp)
     found = [(first_byte(data, *items[n]), line) for n, line in sorted(found)]
-    _, line, _ = run([language, *sheet], data, vp)
+    # paper of any length is of no use here
+    _, line, _ = run([language, *sheet], data, vp, subprocess.DEVNULL)
     fault = re.match(r'vp: (F\d+) after (\d+) bytes: (.*)', line)
     if fault:
         place, text = int(fault[2]), fault[3]

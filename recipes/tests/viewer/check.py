@@ -310,6 +310,8 @@ def over_http(room):
         for test in test_prints, test_faults, test_listing, test_remarks, test_sheets, test_limits, test_safe:
             test(page)
         test_idle(page)
+    took = resource.getrusage(resource.RUSAGE_CHILDREN).ru_maxrss >> 10
+    assert took < 200, f'one of the programs that the viewer ran took {took} MB'
     for test in test_follows, test_odd, test_prefix, test_words, test_open, test_endless:
         test(room)
 
