@@ -123,3 +123,15 @@ export function pasted(text) {
   }
   return out;
 }
+
+// Bytes, and texts by their bytes in UTF-8, one behind the other.
+export function joined(...parts) {
+  const bytes = parts.map(it => (typeof it === 'string' ? encoder.encode(it) : it));
+  const all = new Uint8Array(bytes.reduce((sum, it) => sum + it.length, 0));
+  let at = 0;
+  for (const it of bytes) {
+    all.set(it, at);
+    at += it.length;
+  }
+  return all;
+}

@@ -1,5 +1,7 @@
 // What was changed in a stream: taken back and done again, whatever was shown between.
 
+import { joined } from './bytes.js';
+
 const MOST = 64 << 20;
 // Keys that come so quickly one after the other are taken back together, in milliseconds, up to so many bytes.
 const TOGETHER = 1000;
@@ -16,33 +18,20 @@ export function changeOf(before, after) {
   return { at, old: before.slice(at, before.length - same), now: after.slice(at, after.length - same) };
 }
 
-export function changed(bytes, { at, old, now }) {
-  const made = new Uint8Array(bytes.length - old.length + now.length);
-  made.set(bytes.subarray(0, at));
-  made.set(now, at);
-  made.set(bytes.subarray(at + old.length), at + now.length);
-  return made;
-}
+export const changed = (bytes, { at, old, now }) => joined(bytes.subarray(0, at), now, bytes.subarray(at + old.length));
 
 const sizeOf = ({ old, now }) => old.length + now.length;
 const inverse = ({ at, old, now }) => ({ at, old: now, now: old });
 
-function both(first, second) {
-  const made = new Uint8Array(first.length + second.length);
-  made.set(first);
-  made.set(second, first.length);
-  return made;
-}
-
 // Two changes of which each only puts in, or only takes out, and that touch.
-function joined(one, next) {
+function together(one, next) {
   const into = next.at - one.at;
   if (!one.old.length && !next.old.length && into >= 0 && into <= one.now.length) {
-    return { ...one, now: both(both(one.now.subarray(0, into), next.now), one.now.subarray(into)) };
+    return { ...one, now: joined(one.now.subarray(0, into), next.now, one.now.subarray(into)) };
   }
-  if (!one.now.length && !next.now.length && into === 0) return { ...one, old: both(one.old, next.old) };
+  if (!one.now.length && !next.now.length && into === 0) return { ...one, old: joined(one.old, next.old) };
   if (!one.now.length && !next.now.length && next.at + next.old.length === one.at) {
-    return { ...next, old: both(next.old, one.old) };
+    return { ...next, old: joined(next.old, one.old) };
   }
   return null;
 }
@@ -56,7 +45,7 @@ export class History {
   keep(change, typed) {
     const time = typed ? performance.now() : -Infinity;
     const last = this.done[this.done.length - 1];
-    const whole = last && time - last.time < TOGETHER && sizeOf(last) < MOST_TOGETHER ? joined(last, change) : null;
+    const whole = last && time - last.time < TOGETHER && sizeOf(last) < MOST_TOGETHER ? together(last, change) : null;
     if (whole) this.done.pop();
     this.done.push({ ...(whole ?? change), time });
     this.size += sizeOf(change) - this.undone.reduce((sum, it) => sum + sizeOf(it), 0);

@@ -1,5 +1,6 @@
 // Looking: what is printed and listed of the tab that is seen, its fault, and what a printer would print besides.
 
+import { joined } from './bytes.js';
 import { compareAgain } from './comparing.js';
 import { desk, find, number, plural } from './desk.js';
 import { Listing } from './listing.js';
@@ -48,12 +49,8 @@ export function print(now = false) {
 
 // The stream that is printed of a tab, and how many bytes stand in it before the tab's own.
 function sent({ bytes, lead }) {
-  if (!lead) return { stream: bytes, before: 0 };
-  const first = new TextEncoder().encode(`^XA${lead}^XZ`);
-  const stream = new Uint8Array(first.length + bytes.length);
-  stream.set(first);
-  stream.set(bytes, first.length);
-  return { stream, before: first.length };
+  const first = lead && `^XA${lead}^XZ`;
+  return { stream: first ? joined(first, bytes) : bytes, before: first.length };
 }
 
 // What a tab prints: its paper, its sheets, and what is said of it.

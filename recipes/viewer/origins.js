@@ -6,6 +6,7 @@
 //
 // Bytes are {from, to}; dots are {sheet, x, y, width, height}, and of a label also `bits` in rows of `stride` bytes.
 
+import { joined } from './bytes.js';
 import { MOST_PAPER, isBlack, rowOf, sheetsOf, stripOf } from './sheets.js';
 import { rowAt } from './rows.js';
 
@@ -20,14 +21,6 @@ const NEAR = 12;
 const FRONTS = 4;
 const MOST_INK = 192 << 20;
 const FORM_FEED = 0x0c;
-
-const joined = parts => {
-  const bytes = parts.map(it => (typeof it === 'string' ? new TextEncoder().encode(it) : it));
-  const all = new Uint8Array(bytes.reduce((sum, it) => sum + it.length, 0));
-  let at = 0;
-  for (const it of bytes) { all.set(it, at); at += it.length; }
-  return all;
-};
 
 // The formats of a label: how many images each prints, and its fields with what was set before each.
 function formatsOf(rows) {
@@ -140,7 +133,7 @@ export class Origins {
     const each = Math.max(1, Math.floor(MOST_PAPER / 2 / size));
     for (let at = 0; at < missing.length; at += each) {
       const some = missing.slice(at, at + each);
-      const { bytes, images } = await this.print(joined(some.flatMap(field => alone(it, format, field))), it);
+      const { bytes, images } = await this.print(joined(...some.flatMap(field => alone(it, format, field))), it);
       some.forEach((field, n) => {
         const over = images[2 * n + 1] && [images[2 * n], images[2 * n + 1]];
         this.inks.set(field, over ? inkOf(bytes, ...over) : null);
@@ -207,7 +200,7 @@ export class Origins {
     const unit = n < 0 || it.rows[n].text === 'char' ? null : unitOf(it.rows, n);
     const count = unit && unit.to > front ? unit.from : front;
     const before = await this.rows(it, count);
-    const { bytes, images } = await this.print(joined([it.bytes.subarray(0, count), Uint8Array.of(FORM_FEED)]), it);
+    const { bytes, images } = await this.print(joined(it.bytes.subarray(0, count), Uint8Array.of(FORM_FEED)), it);
     let rows = 0;
     const page = images.filter(image => (rows += image[3]) > before);
     return page.length ? sheetsOf(page, bytes, true)[0] : null;

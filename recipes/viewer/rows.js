@@ -4,6 +4,8 @@
 // what it is (data, cmd, skip, ctl, comment); of a run of data how many, and the first of their bytes; its bytes, and
 // how many of them are the command's name.
 
+import { joined } from './bytes.js';
+
 const MOST_ROWS = 200_000;
 const SHOWN = 48;
 const RUNS = ['char', 'byte', 'column'];
@@ -22,12 +24,7 @@ export class Rows {
 
   // Reads a piece; answers whether there is room for more.
   take(piece) {
-    let data = piece;
-    if (this.held.length) {
-      data = new Uint8Array(this.held.length + piece.length);
-      data.set(this.held);
-      data.set(piece, this.held.length);
-    }
+    const data = this.held.length ? joined(this.held, piece) : piece;
     let at = 0;
     for (let end = data.indexOf(0x0a); end >= 0; at = end + 1, end = data.indexOf(0x0a, at)) {
       this.line(data, at, end);

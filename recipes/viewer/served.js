@@ -12,6 +12,8 @@
 //   changes(versions)                     waits until a followed file has another version, and tells all of them
 // Words are {lang, width, a, b}: the language, a receipt's paper in dots, sheets by their names.
 
+import { joined } from './bytes.js';
+
 async function ask(path, { body, signal, form = 'json' } = {}) {
   const answer = await fetch(path, { method: body ? 'POST' : 'GET', body, signal });
   if (!answer.ok) throw new Error((await answer.text()).trim());
@@ -28,14 +30,7 @@ async function pieces(body, take) {
   for (;;) {
     const { done, value } = await reader.read();
     if (done) throw new Error('the answer broke off');
-    if (held.length) {
-      const both = new Uint8Array(held.length + value.length);
-      both.set(held);
-      both.set(value, held.length);
-      held = both;
-    } else {
-      held = value;
-    }
+    held = held.length ? joined(held, value) : value;
     let at = 0;
     for (;;) {
       const rest = held.length - at;
