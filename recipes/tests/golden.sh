@@ -174,6 +174,22 @@ is 0 'check of any names' "$golden" check "$streams" "$golds" --report "$room/na
 [ -z "$(ls -A "$room/names-report")" ] || fail 'pictures of any names stay'
 [ ! -e pwned ] || fail 'a name was run'
 
+# with --expand a stream is written anew first, which its image keeps beside it: other data are a difference
+mkdir "$room/anew"
+printf '^XA^PW300^LL60^FO9,9^AZN,24,12^FVNAME JOHN^FS^FO200,9^GC40,3^FS^XZ' >"$room/anew/name.zpl"
+printf 'Caf\303\251 \020\024\001\000\005x\n' >"$room/anew/till.bin"
+is 0 'accept of streams anew' "$golden" accept --expand "$room/anew" "$room/anew-golds"
+says '^name.zpl: accepted$'
+says '^till.bin: accepted$'
+echo 'byte 53: ^GC is written as a picture' | cmp - "$room/anew-golds/name.zpl.anew"
+[ ! -e "$room/anew-golds/till.bin.anew" ] || fail 'something is told of what is left out'
+is 0 'check of streams anew' "$golden" check --expand "$room/anew" "$room/anew-golds"
+sed -i 's/JOHN/MARY/' "$room/anew/name.zpl"
+is 1 'another name' "$golden" check --expand "$room/anew" "$room/anew-golds" --report "$room/anew-report"
+says '^name.zpl: [0-9]* dots differ'
+is 1 'streams as they came' "$golden" check "$room/anew" "$room/anew-golds" --report "$room/anew-report"
+says 'what is written anew is to be byte [0-9]*: ^GC is written as a picture and is nothing'
+
 # the fixture of golden.md, by pytest
 if needs pytest; then
     mkdir "$room/suite"

@@ -79,7 +79,12 @@ for name in 'a blank' "quo'te\"" '$(touch pwned)' "$(printf 'a\nb')" "$(printf '
     [ -e "./$name/000001.png" ] || fail "no PNG in $name"
 done
 [ ! -e pwned ] || fail 'a name was run'
+printf 'Caf\351\n\020\024\001\000\005x\n' >anew.bin
+is 0 'a stream that is written anew' "$job" --expand anew-jobs <anew.bin
+says '^000001 printed$'
+cmp anew.bin anew-jobs/000001.bin
+is 1 'the same as it came' "$job" anew-jobs <anew.bin
 is 2 'no folder' "$job"
 is 2 'an option' "$job" --help
-says '^usage: job FOLDER'
+says '^usage: job \[--expand\] FOLDER'
 echo 'jobs that cannot be kept: ok'

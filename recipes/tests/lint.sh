@@ -80,7 +80,7 @@ if [ "$has_places" ]; then
     is 0 'the head of a label designer' "$lint" head.zpl
     printf '^XA^LT5^JMB^LS-3^CI28^MUM^FPV,2^MCN^CVY~CD;^FO9,9^A0N,28^FDCaf\303\251^FS^XZ~CC+' >other.zpl
     is 1 'other values' "$lint" other.zpl
-    for line in LT JM LS CI MU FP MC CV; do says "\^$line .*: it is read past\$"; done
+    for line in LT JM LS CI MU FP MC CV; do says "\^$line .*: it is read past"; done
     says '~CD takes another'
     says '~CC takes another'
     printf 'a\035P\000\000\035(K\002\0001\000\035(N\002\00001\033t\000\033{\000\034!\000\034S\000\000b\201\n' >start.bin
@@ -96,12 +96,12 @@ fi
     printf '^FO10,350^A0,40^FDtoo long for it, that it is^FS^XZ'
 } >parameters.zpl
 is 1 'parameters' "$lint" parameters.zpl
-for line in '^FO380,20,1 has fields end at their place on a printer, and begin there here' \
-    '^GB90,90,2,B,3 has round corners on a printer, and square ones here' \
-    '^FB300,2,0,J,20 makes lines of one width on a printer, and has them begin at the left here' \
+for line in '^FO380,20,1 has fields end at their place on a printer, and begin there here, unless recipes/expand writes it anew' \
+    '^GB90,90,2,B,3 has round corners on a printer, and square ones here, unless recipes/expand writes it anew' \
+    '^FB300,2,0,J,20 makes lines of one width on a printer, and has them begin at the left here, unless recipes/expand writes it anew' \
     '^BCN,40,N,N,Y adds a check digit on a printer, and not here' \
-    '^A@N,20,,E:A.TTF takes a font of the printer, and the sheet here' \
-    '^A0,40,40 has narrower letters on a printer than the cells of 40 dots here: 2 times' \
+    '^A@N,20,,E:A.TTF takes a font of the printer, and the sheet here, unless recipes/expand writes it anew' \
+    '^A0,40,40 has narrower letters on a printer than the cells of 40 dots here, unless recipes/expand writes it anew: 2 times' \
     "the field of ^FO10,150 passes the label's right edge" "the field of ^FO10,350 passes the label's right edge"; do
     says "^parameters.zpl: $place$(printf %s "$line" | sed 's/\^/\\^/g')\$"
 done

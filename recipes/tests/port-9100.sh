@@ -87,7 +87,7 @@ is 2 'a port that is none' "$serve" --port 70000 "$room/wrong" "$@"
 is 2 'a program that is none' "$serve" "$room/wrong" "$room/no-vp"
 says '^serve: no program '
 is 2 'an option of job' recipes/job --help
-says '^usage: job FOLDER'
+says '^usage: job \[--expand\] FOLDER'
 is 3 'a folder that can be none' "$serve" "$vp/wrong" "$@"
 says '^serve: .*: Not a directory$'
 

@@ -11,7 +11,7 @@ mv two.zpl other.zpl && mv three.zpl two.zpl
 is 0 'three labels' "$show" two.zpl
 mv other.zpl two.zpl
 printf 'mine' >two-4.png
-is 0 'two labels' "$show" "$root/examples/receipt.bin" two.zpl
+is 0 'two labels' "$show" --as-it-came "$root/examples/receipt.bin" two.zpl
 says '/receipt.bin: receipt (guessed): receipt.png$'
 says '^two.zpl: label (guessed): two-1.png to two-2.png$'
 says '^two.zpl: skipped once: ^BK prints a Codabar bar code$'
@@ -28,6 +28,15 @@ says '^-: label (guessed): stdin.png$'
 is 0 'another language' "$show" --lang label "$root/examples/receipt.bin"
 says '/receipt.bin: label: nothing is printed$'
 [ ! -e receipt.png ] || fail 'the PNG of an earlier run stays where nothing is printed'
+# what vp doesn't draw is written anew, and said with its byte in the stream that came; so is a fault's
+printf '^XA^PW200^LL100^FO9,9^GC40,3^FS^CI28^FO60,9^AZN,24,12^FDCaf\303\251^FS^XZ' >anew.zpl
+is 0 'written anew' "$show" anew.zpl
+says '^anew.zpl: byte 21: ^GC is written as a picture$'
+says "^anew.zpl: byte 36: letters are written as the sheet's cells\$"
+if grep -q 'skipped\|without a character' said; then fail 'what is written anew is said to be skipped'; fi
+printf 'Caf\303\251\n\033\177' >utf.bin
+is 1 'a fault behind letters' "$show" --from utf-8 utf.bin
+says '^utf.bin: vp: F1 after 8 bytes: unknown command 1B 7F$'
 mkdir out
 is 0 'another folder' "$show" --to out "$root/examples/ticket.bin"
 [ -e out/ticket.png ] || fail 'no PNG in the folder'

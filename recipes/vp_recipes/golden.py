@@ -1,13 +1,14 @@
 """Golden images: whether each stream of a folder still prints what it printed when its image was accepted.
 
-  golden check STREAMS EXPECTED [--report FOLDER] [--junit FILE] [--ignore PATTERN] [-- COMMAND..]
-  golden accept STREAMS EXPECTED [NAME..] [--ignore PATTERN] [-- COMMAND..]
+  golden check STREAMS EXPECTED [--expand] [--report FOLDER] [--junit FILE] [--ignore PATTERN] [-- COMMAND..]
+  golden accept STREAMS EXPECTED [NAME..] [--expand] [--ignore PATTERN] [-- COMMAND..]
 
 check has status 0 where all are as expected, 1 where not; accept takes over what is printed now. 2 is for wrong words, 3
 for files, 5 where COMMAND was killed or didn't end as vp does. COMMAND prints standard input as vp does; without it, it
 is vp in the language that the stream is in, with the shipped sheets. The stream STREAMS/NAME has its images in
 EXPECTED/NAME.pbm, the line of the fault that it ends in in EXPECTED/NAME.fault, and in EXPECTED/NAME.skipped what vp
-skips of it and a printer would print. README files, hidden files, PATTERNs and these outputs are no streams.
+skips of it and a printer would print. With --expand each stream is written anew first (recipes/expand), and what was so
+is in EXPECTED/NAME.anew. README files, hidden files, PATTERNs and these outputs are no streams.
 """
 import argparse
 import base64
@@ -27,6 +28,8 @@ from collections import Counter, namedtuple
 from concurrent.futures import ThreadPoolExecutor
 from itertools import accumulate
 
+from .expand import Options, expanded
+from .expand.places import told as told_anew
 from .files import Made, is_other, keep, whole
 from .images import Png, Taken, images
 from .program import Fault, cannot_run, direct, find_vp, shown, text_of, times, told
@@ -46,7 +49,7 @@ TIMES, BESIDE, ABOVE = 6, 48, 16
 MOST_SHOWN = 100
 # What a file of skipped commands shows of one, beyond which it is a sum; and how long a name of a picture may be.
 MOST_SAID, MOST_NAME = 200, 200
-ENDS = '.pbm', '.fault', '.skipped'
+ENDS = '.pbm', '.fault', '.skipped', '.anew'
 
 PAGE = '''<!DOCTYPE html>
 <html lang="en"><meta charset="utf-8"><meta name="viewport" content="width=device-width">
@@ -237,8 +240,9 @@ def compare(expected, got, file, name):
     return '; '.join(said), shown
 
 
-class Result(namedtuple('Result', 'image fault skipped')):
-    """What is kept of a stream: its images, the line of its fault, what is skipped of it, a line each."""
+class Result(namedtuple('Result', 'image fault skipped anew', defaults=('',))):
+    """What is kept of a stream: its images, the line of its fault, what is skipped of it and what was written anew, a line
+    each."""
 
 
 def command_of(data):
@@ -302,27 +306,39 @@ def unseen(command, data, now):
     return '; '.join(said)
 
 
-def printed(command, data):
-    """What the command prints of a stream, how often which command is skipped, and the words that ran it."""
-    command = direct(command)
+def written_anew(command, data):
+    """A stream as recipes/expand writes it for a command."""
+    language = next((it for it in LANGUAGES if it in command), None) or guess(data)
+    sheets = [it for letter, name in sheet_words(command).items() for it in (f'--font-{letter}', name)]
+    return expanded(data, language, Options(sheet=tuple(sheets)))
+
+
+def printed(command, data, expands=False):
+    """What the command prints of a stream, and how often which command is skipped. `expands` writes it anew first."""
+    command, anew, pieces = direct(command), '', None
+    if expands:
+        found = written_anew(command, data)
+        data, pieces = found.data, found.pieces
+        anew = ''.join(f'byte {it.place}: {it.text}\n' for it in found.remarks)
     try:
         ran = subprocess.run(command, input=data, stdout=subprocess.PIPE, stderr=subprocess.PIPE)
     except (OSError, ValueError) as error:
         raise cannot_run(command, error) from None
     line = told(command, ran.returncode, text_of(ran.stderr))
+    line = told_anew(line, pieces) if pieces is not None else line
     try:
         Paper(ran.stdout)
     except ValueError as error:
         raise Fault(f'{shown(command[0])} printed no images as vp does: {error}', 5) from None
     skipped, counts = skips(command, data)
-    return Result(ran.stdout, line + '\n' if ran.returncode else '', skipped), counts
+    return Result(ran.stdout, line + '\n' if ran.returncode else '', skipped, anew), counts
 
 
 def expected(folder, name):
-    image, fault, skipped = (folder / (name + end) for end in ENDS)
+    image, *others = (folder / (name + end) for end in ENDS)
     if not image.is_file():
         return None
-    texts = [it.read_bytes().decode('utf-8', 'surrogateescape') if it.is_file() else '' for it in (fault, skipped)]
+    texts = [it.read_bytes().decode('utf-8', 'surrogateescape') if it.is_file() else '' for it in others]
     return Result(image.read_bytes(), *texts)
 
 
@@ -374,6 +390,10 @@ def difference(name, known, now, report, number):
         said += f'; what is skipped {other_lines(was.skipped, now.skipped)}'
         skipped = [it.rstrip('\n') or 'nothing' for it in (was.skipped, now.skipped)]
         part += '<p>Skipped as expected, and skipped now:</p><pre>{}</pre><pre>{}</pre>'.format(*map(quoted, skipped))
+    if known and now.anew != was.anew:
+        said += f'; what is written anew {other_lines(was.anew, now.anew)}'
+        anew = [it.rstrip('\n') or 'nothing' for it in (was.anew, now.anew)]
+        part += '<p>Written anew as expected, and now:</p><pre>{}</pre><pre>{}</pre>'.format(*map(quoted, anew))
     return said, part + parts, picture
 
 
@@ -382,11 +402,12 @@ def quoted(text):
     return html.escape(re.sub('[^\t\n -\uD7FF\uE000-\uFFFD\U00010000-\U0010FFFF]', '?', text))
 
 
-def verify(stream, name, folder, command=(), accept=False, report='golden-report'):
+def verify(stream, name, folder, command=(), accept=False, report='golden-report', expand=False):
     """For tests: compares what a stream's bytes print with folder/NAME.pbm. Gives what differs in a line, '' where
-    nothing does, with a picture in the report's folder. With accept it takes it over."""
+    nothing does, with a picture in the report's folder. With accept it takes it over; with expand the stream is written
+    anew first."""
     folder, report = pathlib.Path(folder), pathlib.Path(report)
-    now, _ = printed(list(command) or command_of(stream), stream)
+    now, _ = printed(list(command) or command_of(stream), stream, expand)
     known = expected(folder, name)
     if known == now:
         return ''
@@ -503,6 +524,7 @@ def main():
     parser.add_argument('--report', type=pathlib.Path, default=pathlib.Path('golden-report'))
     parser.add_argument('--junit', type=pathlib.Path, metavar='FILE')
     parser.add_argument('--ignore', action='append', default=[], metavar='PATTERN')
+    parser.add_argument('--expand', action='store_true')
     given = parser.parse_args(words[:at])
 
     def looked_at(name):
@@ -511,9 +533,11 @@ def main():
         data = (given.streams / name).read_bytes()
         own = command or command_of(data)
         try:
-            now, counts = printed(own, data)
+            now, counts = printed(own, data, given.expand)
         except Fault as fault:
             raise Fault(f'{shown(given.streams / name)}: {fault}', fault.status) from None
+        if given.what == 'accept' and given.expand:
+            data = written_anew(direct(own), data).data
         hidden = unseen(direct(own), data, now) if given.what == 'accept' else ''
         known = expected(given.expected, name)
         return None if known == now else (known, now), counts, hidden

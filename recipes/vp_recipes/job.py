@@ -1,8 +1,9 @@
-"""One job of a printer: job FOLDER [COMMAND..] < STREAM
+"""One job of a printer: job [--expand] FOLDER [COMMAND..] < STREAM
 
 Takes the next number in FOLDER (or VP_JOB_NUMBER, which its caller took by making NUMBER.bin), keeps the stream as
 NUMBER.bin and what COMMAND prints of it as NUMBER.png, of several labels as NUMBER-1.png and so on. Without COMMAND it
-is vp in the stream's language, with the shipped sheets. What COMMAND says is kept as NUMBER.txt. What became of the job
+is vp in the stream's language, with the shipped sheets. --expand writes the stream anew before it is printed
+(recipes/expand); NUMBER.bin is the one that came. What COMMAND says is kept as NUMBER.txt. What became of the job
 is a line of FOLDER/log, and of standard error where that is no socket. Each file is there once it is whole.
 
 Status 0; 1 where the stream has a fault; 2 to 4 and 125 as vp's, 3 also where FOLDER can't be written, as on a full
@@ -17,7 +18,7 @@ import sys
 from .files import keep, whole
 from .images import Files
 from .papers import paper
-from .program import Fault, find_vp, given_input, shown
+from .program import HERE, Fault, find_vp, given_input, shown
 from .sheets import shipped
 from .streams import GUESSED, LANGUAGES, guess
 
@@ -60,12 +61,13 @@ def store(name):
         raise
 
 
-def printed(job, command):
+def printed(job, command, expands=False):
     """Prints the stream that was kept, and says what becomes of it, in a line and a status."""
     with open(f'{job}.bin', 'rb') as stream:
         language = next((it for it in LANGUAGES if it in command), None) or guess(stream.read(GUESSED))
         stream.seek(0)
         command = command or [*find_vp(), language, *shipped(language)]
+        command = [sys.executable, str(HERE / 'print'), '--expand', *command] if expands else command
         with Files(f'{job}.png', language == 'label', is_new=True) as files:
             made = paper(command, stream, files)
             if made.said:
@@ -90,10 +92,12 @@ def say(folder, line):
 
 
 def main():
-    if not sys.argv[1:] or sys.argv[1].startswith('-'):
-        print('usage: job FOLDER [COMMAND..] < STREAM', file=sys.stderr)
+    expands = sys.argv[1:2] == ['--expand']
+    words = sys.argv[1 + expands:]
+    if not words or words[0].startswith('-'):
+        print('usage: job [--expand] FOLDER [COMMAND..] < STREAM', file=sys.stderr)
         return 2
-    folder, command = sys.argv[1], sys.argv[2:]
+    folder, command = words[0], words[1:]
     try:
         os.makedirs(folder, exist_ok=True)
         number = os.environ.get('VP_JOB_NUMBER') or next_number(folder)
@@ -102,7 +106,7 @@ def main():
     job = f'{folder}/{number}'
     try:
         store(f'{job}.bin')
-        what, status = printed(job, command)
+        what, status = printed(job, command, expands)
     except Fault as fault:
         what, status = str(fault), fault.status
     except OSError as error:

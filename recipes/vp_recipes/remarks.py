@@ -5,11 +5,16 @@ import subprocess
 from .labels import off_edges
 from .program import run, times
 from .sheets import drawn, sheet_words, without_cell
-from .streams import code_of, first_byte, listing, named, raw, skipped, table
+from .streams import becomes, code_of, first_byte, listing, named, raw, skipped, table
 from .values import BITS, FIGURES, is_start, unread
 
 # The bytes that ESC R draws as characters of a country.
 COUNTRY = b'#$@[\\]^`{|}~'
+# What recipes/expand does of a command, by what the table of commands says.
+BY_EXPAND = {'expanded': ', and written anew by recipes/expand', 'said': '', 'left out': ', and left out by recipes/expand'}
+# Commands of labels whose parameters it looks at.
+LOOKED_AT = '^FO', '^FT', '^GB', '^FB', '^CF', '^A'
+LEADS = {'10': 'dle', '1B': 'esc', '1C': 'fs', '1D': 'gs'}
 # What begins the data of a picture that is packed.
 PACKED = re.compile(rb':[ZB]64:', re.IGNORECASE)
 
@@ -47,13 +52,19 @@ def off_reading(items):
         if what:
             found.setdefault((text, what), [n, 0])[1] += 1
     for (text, what), (n, count) in found.items():
-        yield n, f'{text} {what}' + (f': {times(count)}' if count > 1 else '')
+        by_expand = ', unless recipes/expand writes it anew' if text.startswith(LOOKED_AT) else ''
+        yield n, f'{text} {what}{by_expand}' + (f': {times(count)}' if count > 1 else '')
 
 
 def fault_line(number, text, data):
     """What a fault means for what stands behind it."""
     if number == 'F7' and PACKED.search(data.translate(None, b'\r\n')):
         text += ': a picture that begins with :Z64: or :B64: is packed, and read by recipes/expand'
+    if number == 'F1':
+        lead, byte = text.split(' ')[-2:]
+        text += BY_EXPAND.get(becomes().get(('receipt', f'{LEADS.get(lead)} {byte.lower()}')), '')
+    if number == 'F2' and text.endswith('unsupported'):
+        text += ', and perhaps written anew by recipes/expand'
     return f'{number} {text}: nothing behind it is printed'
 
 
@@ -65,7 +76,8 @@ def remarks(data, language, sheet, vp=None):
     for n, command, _ in passed(data, items, language):
         what = known.get((language, command), (True, ''))[1]
         name = named(command, items[n][1])
-        found.append((n, f'{name} {what}: it is read past' if what else f'{name} is no command that is known'))
+        by_expand = BY_EXPAND.get(becomes().get((language, command)), '')
+        found.append((n, f'{name} {what}: it is read past{by_expand}' if what else f'{name} is no command that is known'))
     given = sheet_words(sheet)
     white = {}
     for (font, byte), (count, n) in without_cell(items, language, sheet).items():

@@ -2,7 +2,8 @@
 
 Of a receipt or a label FILE.bin it writes FILE.png into this folder (--to another), of several labels FILE-1.png,
 FILE-2.png and so on. A PNG that was made of something else stays: then FILE.bin.png is written.
-It says the language, which it guesses, the fault, what was skipped, and which bytes have no character in the sheets.
+It says the language, which it guesses, what was written anew (recipes/expand), the fault, what was skipped, and which
+bytes have no character in the sheets. --as-it-came prints the stream as it came.
 """
 import argparse
 import os
@@ -13,6 +14,8 @@ import subprocess
 import sys
 import tempfile
 
+from .expand import Options, expanded
+from .expand.places import told
 from .images import Files, Taken
 from .papers import paper
 from .program import Fault, find_vp, read, shown, times
@@ -28,6 +31,9 @@ def show(file, names, given):
     language = given.lang or guess(data)
     sheet = chosen(language, given.font_a, given.font_b)
     say = lambda text: print(f'{shown(file)}: {text}')
+    anew, pieces = [], None
+    if not given.as_it_came:
+        data, pieces, anew = expanded(data, language, Options(given.table, given.encoding, sheet=tuple(sheet)))
     of = os.path.relpath(file, given.to) if file != '-' else 'standard input'
     with tempfile.TemporaryFile() as stream, Files(str(given.to / names[0]), language == 'label', of) as files:
         stream.write(data)
@@ -43,8 +49,10 @@ def show(file, names, given):
     say(f'{language}{"" if given.lang else " (guessed)"}: {said}')
     if not ran.is_all:
         say(f'only the first {MOST} images are shown')
+    for it in anew:
+        say(f'byte {it.place}: {it.text}')
     if line:
-        say(line)
+        say(line if pieces is None else told(line, pieces))
     if status < 2:
         items, _ = listing(data, language, dots=False)
         known, counts = table(), {}
@@ -92,6 +100,9 @@ def main():
     words.add_argument('--font-a', metavar='SHEET', help='the sheet of font A, in place of the shipped one')
     words.add_argument('--font-b', metavar='SHEET', help='the sheet of font B')
     words.add_argument('--to', type=pathlib.Path, default=pathlib.Path(), metavar='FOLDER', help='where the PNGs go')
+    words.add_argument('--as-it-came', action='store_true', help='writes nothing anew')
+    words.add_argument('--table', default='cp858', metavar='CODEC', help='the table that the sheet shows; cp858')
+    words.add_argument('--from', dest='encoding', metavar='CODEC', help="what a receipt's text is in, as utf-8")
     words.add_argument('--open', action='store_true', help='shows them, by xdg-open')
     given = words.parse_args()
     last, made = 0, []

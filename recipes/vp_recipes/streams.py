@@ -78,6 +78,7 @@ def table():
             if shows in ('yes', 'no')}
 
 
+@functools.lru_cache(None)
 def becomes():
     """What recipes/expand makes of each command: by language and command printed, expanded, left out or said."""
     return {(language, command): word for language, command, _, word, _ in rows()}

@@ -10,6 +10,7 @@ from .store import Store, named
 from .units import in_dots
 from ..program import run
 from ..streams import rows
+from ..values import is_start
 
 # What is written into the fields, or kept by the store, and stands in no new stream.
 WRITTEN = {'CI', 'CC', 'CD', 'CT', 'MU', 'LS', 'LT', 'FN', 'FV', 'DF', 'XF', 'SN', 'SF', 'FC', 'FE', 'IS', 'IL', 'ID', 'EG'}
@@ -206,7 +207,7 @@ class Writer:
         name, title = command.name, command.sign + command.name
         if title in self.said:
             self.keep(command)
-            if not (name == 'JM' and command.letter(0, 'AB', 'A') == 'A' or name == 'MC' and command.letter(0, 'YN', 'Y') == 'Y'):
+            if not is_start(title, command.written()):
                 self.remarks.not_written(command.start, f'{title} {self.said[title]}: it is read past')
         elif name not in WRITTEN:
             self.keep(command)

@@ -9,6 +9,7 @@ from .receipt_symbols import BARS, NAMES, Planes, is_beyond
 from .receipts import units
 from .till_pictures import Kept, magnified
 from ..streams import rows
+from ..values import is_start
 
 # What is told of letters.
 CELLS = "letters are written as the sheet's cells"
@@ -222,9 +223,7 @@ class Writer:
     def said(self, unit):
         """What vp reads past and a printer would show."""
         _, word, what = self.table.get(unit.name, ('', '', ''))
-        last = unit.arguments[-1] if unit.arguments else 0
-        is_usual = unit.name in ('esc 72', 'gs 62') and last in (0, 48) or unit.name[:2] == 'fs' and not self.is_two_byte
-        if word == 'said' and not is_usual:
+        if word == 'said' and not is_start(unit.name, self.data[unit.start:unit.end]):
             self.refused(unit, f'{shown(unit.name)} {what}: it is read past')
 
     def paper(self, unit, arguments):
