@@ -4,7 +4,7 @@
 # a stream may take. The times are those of the machine it runs on; the ratios are what to look at.
 set -eu
 top=$(cd "$(dirname "$0")/.." && pwd)
-vp=${1:-$("$top/tools/dist/program")}
+vp=${1:-$("$top/tools/program")}
 limit=${2:-60}
 font=$top/examples/font-a.pbm
 # what is printed stays in memory
@@ -33,9 +33,9 @@ measure() {
     compare "$1"
 }
 
-# compare NAME: the format in the file, beside the boxes
+# compare NAME [LANGUAGE]: what is in the file, beside the boxes
 compare() {
-    now=$(took)
+    now=$(took "${2:-label}")
     if [ -z "$now" ]; then
         echo "$1: more than $limit s"
     else
@@ -103,3 +103,18 @@ page 'pages begun and left' pages-begun
 page 'the largest characters over each other' largest-characters
 page 'the largest characters over each other, upward' largest-upward
 page 'a QR symbol of 250 bytes over itself' codes
+
+# laid NAME KIND: 300,000 bytes of a receipt that lay lines and symbols over a whole page, beside the boxes
+laid() {
+    "$top/bench/receipts.py" "$2" 300000 > "$scratch/format"
+    compare "$1" receipt
+}
+laid 'three of the widest lines and a wipe' widest-right
+laid 'the same, upward' widest-up
+laid 'the same, from the right' widest-left
+laid 'the same, downward' widest-down
+laid 'the widest lines alone, upward' widest-alone
+laid 'four of font B and a wipe, upward' widest-of-font-b
+laid 'a QR symbol of 912 dots and a wipe, upward' large-codes-up
+laid 'the same, downward' large-codes-down
+laid 'two bar codes of 255 rows and a wipe, downward' tall-bars-down

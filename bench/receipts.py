@@ -84,7 +84,18 @@ def pages(direction):
     return paged(direction, b"\x1b3\x18" + b"".join(line(columns) for _ in range(lines)))
 
 
-LARGEST, TO_TOP = b"\x1d!\x77", b"\x1d$\0\0"
+LARGEST, TO_TOP, CANCEL = b"\x1d!\x77", b"\x1d$\0\0", b"\x18"
+
+
+def widest(direction):
+    """An area as large as a page that stands on no whole byte, and characters of which one makes a whole line of it black:
+    eight by eight times as large, spaced by 255 times eight dots, and white on black."""
+    area = b"\x1bW\1\0\1\0\x3f\x02\x7f\x06"
+    return area + b"\x1bT" + bytes([direction]) + LARGEST + b"\x1b \xff" + b"\x1dB\1"
+
+
+LARGE_CODE = b"\x1d(k\3\x001C\x10" + stored(271 * b"a")
+TALL_BARS = b"\x1dh\xff\x1dw\5\x1dH\3"
 # What stands once, and what stands again and again.
 AGAIN = {
     "wipes": (b"", b"\x18"),
@@ -94,6 +105,15 @@ AGAIN = {
     "largest-characters": (LARGEST, 6 * b"A" + TO_TOP),
     "largest-upward": (b"\x1bT\x01" + LARGEST, b"A" + TO_TOP),
     "codes": (stored(bytes(range(5, 255))), DRAWN + TO_TOP),
+    "widest-right": (widest(0), 3 * b"A" + CANCEL),
+    "widest-up": (widest(1), 3 * b"A" + CANCEL),
+    "widest-left": (widest(2), 3 * b"A" + CANCEL),
+    "widest-down": (widest(3), 3 * b"A" + CANCEL),
+    "widest-alone": (widest(1), b"A"),
+    "widest-of-font-b": (widest(1) + b"\x1bM\1", 4 * b"A" + CANCEL),
+    "large-codes-up": (widest(1) + LARGE_CODE, DRAWN + CANCEL),
+    "large-codes-down": (widest(3) + LARGE_CODE, DRAWN + CANCEL),
+    "tall-bars-down": (widest(3) + TALL_BARS, 2 * (b"\x1dkE\x10" + b"ABCDEFGHIJKLMNOP") + CANCEL),
 }
 
 
