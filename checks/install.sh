@@ -49,7 +49,8 @@ for dest in '' "$room/a root"; do
     for file in port-9100/vp-printer.service port-9100/inetd.conf cups/vp; do
         grep -qF "$prefix/lib/vp/" "$dest$prefix/lib/vp/$file" || fail "$file doesn't name its place"
     done
-    grep -qF "$prefix/share/vp/font-a.pbm" "$dest$prefix/share/man/man1/vp.1" || fail "the man page doesn't name its place"
+    grep -qF "$prefix/share/vp/font-a.pbm" "$dest$prefix/share/man/man1/vp.1" ||
+        fail "the man page doesn't name its place"
     (cd "$dest$prefix" && grep -ro --include '*.md' '](\.*[A-Za-z0-9_./-]*[)#]' lib/vp share/doc/vp) |
         grep -v '](https\{0,1\}:\|CHANGELOG' >"$room/links"
     while IFS= read -r link; do
@@ -80,7 +81,8 @@ for dest in '' "$room/a root"; do
     done
     is 0 'uninstall' "$root/install" --uninstall "$prefix"
     left=$(cd "$dest$prefix" && find . -type f | LC_ALL=C sort | tr '\n' ' ')
-    [ "$left" = './lib/vp/own/__pycache__/paper.cpython-39.pyc ./lib/vp/own/kept ./share/doc/other/kept ' ] || fail "other files are left: $left"
+    [ "$left" = './lib/vp/own/__pycache__/paper.cpython-39.pyc ./lib/vp/own/kept ./share/doc/other/kept ' ] ||
+        fail "other files are left: $left"
     [ ! -e "$dest$prefix/share/vp" ] || fail 'an empty folder is left'
     is 3 'uninstall where nothing is' "$root/install" --uninstall "$prefix"
 done
@@ -94,7 +96,8 @@ echo mine >"$room/mine"
 ln -s "$room/mine" "$prefix/bin/vp.new"
 is 3 'install over files of others' "$root/install" "$prefix"
 grep -q "font-a.pbm is there already, and no install put it there" "$room/said" || fail 'it names no file'
-[ ! -e "$prefix/bin/vp" ] && [ "$(cat "$prefix/share/vp/font-a.pbm")" = mine ] || fail 'files of others are written over'
+[ ! -e "$prefix/bin/vp" ] && [ "$(cat "$prefix/share/vp/font-a.pbm")" = mine ] ||
+    fail 'files of others are written over'
 rm "$prefix/share/vp/font-a.pbm"
 ln -s "$room/mine" "$prefix/bin/vp"
 is 3 'install over a link of others' "$root/install" "$prefix"

@@ -105,8 +105,13 @@ says '^many: .*/mixed-out/other.pbm is there already, and no run of many made it
 is 3 'an image that no run made, and --resume' env VP="$vp" recipes/many --resume "$room/mixed" "$room/mixed-out"
 rm "$room/mixed/other" "$room/mixed/shelf.zpl"
 is 0 'beside files of others' env VP="$vp" recipes/many "$room/mixed" "$room/mixed-out"
-[ "$(cd "$room/mixed-out" && cat note.fault sub/mine.fault other.pbm | grep -c mine)" -eq 3 ] || fail 'files of others are lost'
+[ "$(cd "$room/mixed-out" && cat note.fault sub/mine.fault other.pbm | grep -c mine)" -eq 3 ] ||
+    fail 'files of others are lost'
 [ ! -e "$room/mixed-out/shelf.zpl.pbm" ] || fail 'the image of an earlier run stays'
+echo mine >"$room/outside"
+printf '%s\n' ../outside sub/../../outside "$room/outside" >>"$room/mixed-out/.vp-many"
+is 0 'a list from elsewhere' env VP="$vp" recipes/many "$room/mixed" "$room/mixed-out"
+[ -e "$room/outside" ] || fail 'a list leads out of its folder'
 
 # an image is whole or not there; a command that is killed, or isn't vp's, is told
 is 5 'a command that is killed' recipes/many "$room/receipts" "$room/killed" sh -c '[ ! -s /dev/stdin ] || kill -9 $$'

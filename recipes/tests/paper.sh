@@ -50,6 +50,17 @@ says '^paper: trip-1.png is there already, and was made of something else$'
 "$paper" label.png <labels.pbm
 [ "$(echo label*.png)" = 'label-2.png label-4.png label.png' ] || fail 'what was changed or not written goes'
 rm trip* label*.png
+# a list from elsewhere leads nowhere else
+mkdir list
+echo mine >outside.png
+"$paper" --each list/label.png <labels.pbm
+sum=$(sha256sum <outside.png)
+printf '["../outside.png", "label.png", "%s"]\n[1]\n' "${sum%% *}" >list/.vp-made
+is 3 'a list that is none' "$paper" --each list/label.png <labels.pbm
+printf '["../outside.png", "label.png", "%s"]\n' "${sum%% *}" >list/.vp-made
+"$paper" list/label.png <labels.pbm
+[ "$(cat outside.png)" = mine ] || fail 'a list leads out of its folder'
+rm -r list outside.png
 
 # a PNG is whole or not there: of cut images, of what is none, on a full disk
 head -c 1000 receipt.pbm >cut.pbm

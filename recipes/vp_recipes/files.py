@@ -70,7 +70,9 @@ class Made:
     def __enter__(self):
         self.lock = os.open(self.folder or '.', os.O_RDONLY | os.O_DIRECTORY)
         try:
-            fcntl.flock(self.lock, fcntl.LOCK_EX)
+            # (not every file system has locks)
+            with contextlib.suppress(OSError):
+                fcntl.flock(self.lock, fcntl.LOCK_EX)
             self.was = self.read()
             self.files = dict(self.was)
             return self
@@ -81,8 +83,10 @@ class Made:
     def read(self):
         try:
             with open(self.path, encoding='utf-8') as file:
-                return {name: (of, made) for name, of, made in map(json.loads, file)}
-        except (FileNotFoundError, ValueError, TypeError):
+                found = {name: (of, made) for name, of, made in map(json.loads, file)}
+            # (a list that came from elsewhere can't lead out of its folder)
+            return {it: found[it] for it in found if not os.path.isabs(it) and '..' not in it.split(os.sep)}
+        except (FileNotFoundError, ValueError, TypeError, AttributeError):
             return {}
 
     def __exit__(self, *error):

@@ -3,9 +3,9 @@
   golden check STREAMS EXPECTED [--expand] [--report FOLDER] [--junit FILE] [--ignore PATTERN] [-- COMMAND..]
   golden accept STREAMS EXPECTED [NAME..] [--expand] [--ignore PATTERN] [-- COMMAND..]
 
-check has status 0 where all are as expected, 1 where not; accept takes over what is printed now. 2 is for wrong words, 3
-for files, 5 where COMMAND was killed or didn't end as vp does. COMMAND prints standard input as vp does; without it, it
-is vp in the language that the stream is in, with the shipped sheets. The stream STREAMS/NAME has its images in
+check has status 0 where all are as expected, 1 where not; accept takes over what is printed now. 2 is for wrong words,
+3 for files, 5 where COMMAND was killed or didn't end as vp does. COMMAND prints standard input as vp does; without it,
+it is vp in the language that the stream is in, with the shipped sheets. The stream STREAMS/NAME has its images in
 EXPECTED/NAME.pbm, the line of the fault that it ends in in EXPECTED/NAME.fault, and in EXPECTED/NAME.skipped what vp
 skips of it and a printer would print. With --expand each stream is written anew first (recipes/expand), and what was so
 is in EXPECTED/NAME.anew. README files, hidden files, PATTERNs and these outputs are no streams.
@@ -175,8 +175,8 @@ def pixels(width, layers, colours):
 
 
 def compare(expected, got, file, name):
-    """Writes the picture of two papers and what differs. Gives that in words, and the page's part that shows it, of this
-    name."""
+    """Writes the picture of two papers and what differs, which has this name. Gives that in words, and the page's part
+    that shows it."""
     width = max(expected.widths | got.widths, default=8)
     both, places, added, lost, changed = [], [], [], [], []
     at = dots = 0
@@ -512,6 +512,14 @@ def is_stream(path, given):
     return not any(fnmatch.fnmatch(it, pattern) for pattern in given.ignore for it in (str(name), name.name))
 
 
+def streams_of(given):
+    """The names of all streams, and of the images that have none."""
+    files = [it for it in given.streams.rglob('*') if is_stream(it, given)] if given.streams.is_dir() else []
+    names = sorted(str(it.relative_to(given.streams)) for it in files)
+    known = {str(it.relative_to(given.expected))[:-len('.pbm')] for it in given.expected.rglob('*.pbm')}
+    return names, sorted(known.difference(names))
+
+
 def main():
     words = sys.argv[1:]
     at = words.index('--') if '--' in words else len(words)
@@ -542,14 +550,9 @@ def main():
         known = expected(given.expected, name)
         return None if known == now else (known, now), counts, hidden
 
-    names, gone = given.names, []
     if given.junit and given.junit.exists() and not is_other(given.junit):
         given.junit.unlink()
-    if not names and given.streams.is_dir():
-        files = [it for it in given.streams.rglob('*') if is_stream(it, given)]
-        names = sorted(str(it.relative_to(given.streams)) for it in files)
-        known = {str(it.relative_to(given.expected))[:-len('.pbm')] for it in given.expected.rglob('*.pbm')}
-        gone = sorted(known.difference(names))
+    names, gone = (given.names, []) if given.names else streams_of(given)
     if not names:
         raise Fault(f'{shown(given.streams)}: no streams', 2)
     with ThreadPoolExecutor(os.cpu_count()) as pool:

@@ -88,8 +88,8 @@ class Files:
     """PNGs that are written beside their names, and take them once all are whole: NAME.png where there is one, else
     NAME.png, NAME-2.png and so on, or with `each` NAME-1.png, NAME-2.png. What an earlier run made of the same and this
     one doesn't is taken away; a file that was made of something else, or that nobody here made, stays, and is a Fault.
-    Without `of`, what the PNGs are made of, the user named NAME.png, and it may be written over. Where `is_new` none can
-    be of an earlier run, and no list is kept."""
+    Without `of`, what the PNGs are made of, the user named NAME.png, and it may be written over. Where `is_new` none
+    can be of an earlier run, and no list is kept."""
 
     def __init__(self, name, each=False, of=None, is_new=False):
         self.name, self.each, self.of, self.is_new = name, each, of, is_new

@@ -8,8 +8,7 @@ from .program import NOT_OF_VP, Fault, cannot_run, shown, text_of, told
 
 
 class Paper(namedtuple('Paper', 'command is_all odd status said')):
-    """What a command ended with: whether all of its images were taken, what was odd in them, its status and what it said.
-    """
+    """What a command ended with: whether all of its images were taken, what was odd in them, its status, its words."""
 
     def line(self):
         """What it said, in one line. What isn't vp's is a Fault."""

@@ -49,8 +49,8 @@ def ran(words, file, at, output):
 
 
 def unknown(data, vp):
-    """The places of the bytes that begin no known command, by reading on behind each. Behind one the reader stands as at
-    the start, so two bytes that are known to be none are none there too."""
+    """The places of the bytes that begin no known command, by reading on behind each. Behind one the reader stands as
+    at the start, so two bytes that are known to be none are none there too."""
     with tempfile.TemporaryFile() as file:
         file.write(data)
         at, none = 0, set()

@@ -112,12 +112,12 @@ def times(count):
 
 
 def begins():
-    """Has names of any bytes written as they are, and a script that is ended from outside put away what is half done."""
+    """Has names of any bytes written as they are, and a script that is ended put away what is half done."""
     for stream in filter(None, (sys.stdout, sys.stderr)):
         stream.reconfigure(encoding='utf-8', errors='surrogateescape')
     for number in signal.SIGTERM, signal.SIGHUP:
         if signal.getsignal(number) is signal.SIG_DFL:
-            signal.signal(number, lambda *_: sys.exit(128 + number))
+            signal.signal(number, lambda got, _: sys.exit(128 + got))
 
 
 def ended(main):

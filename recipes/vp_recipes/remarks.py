@@ -56,10 +56,17 @@ def off_reading(items):
         yield n, f'{text} {what}{by_expand}' + (f': {times(count)}' if count > 1 else '')
 
 
+def packed(number, data):
+    """Why a fault of a picture is one, where some picture of the stream is packed."""
+    if number == 'F7' and PACKED.search(data.translate(None, b'\r\n')):
+        return 'a picture that begins with :Z64: or :B64: is packed, which recipes/expand reads'
+    return None
+
+
 def fault_line(number, text, data):
     """What a fault means for what stands behind it."""
-    if number == 'F7' and PACKED.search(data.translate(None, b'\r\n')):
-        text += ': a picture that begins with :Z64: or :B64: is packed, and read by recipes/expand'
+    why = packed(number, data)
+    text += f': {why}' if why else ''
     if number == 'F1':
         lead, byte = text.split(' ')[-2:]
         text += BY_EXPAND.get(becomes().get(('receipt', f'{LEADS.get(lead)} {byte.lower()}')), '')

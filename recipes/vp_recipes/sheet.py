@@ -25,7 +25,7 @@ from .tables import shown, spaces
 Glyph = namedtuple('Glyph', 'advance left top width rows')
 # Glyphs by character, or by number where the font doesn't say its characters; lines are so many rows high.
 Font = namedtuple('Font', 'height glyphs')
-# What is taken for a font: its bytes, unpacked, its glyphs, their sides in dots, and by how many a glyph is off its pen.
+# What is taken for a font: its bytes, unpacked, its glyphs, their sides in dots, and how far a glyph is off its pen.
 MOST_BYTES, MOST_GLYPHS, MOST_SIDE, MOST_OFF = 1 << 26, 1 << 17, 256, 1024
 
 

@@ -19,6 +19,7 @@ from .expand.places import told
 from .images import Files, Taken
 from .papers import paper
 from .program import Fault, find_vp, read, shown, times
+from .remarks import packed
 from .sheets import chosen, without_cell
 from .streams import LANGUAGES, guess, listing, named, skipped, table
 
@@ -53,24 +54,32 @@ def show(file, names, given):
         say(f'byte {it.place}: {it.text}')
     if line:
         say(line if pieces is None else told(line, pieces))
+        why = packed(line.split(' ')[1], data) if line.startswith('vp: F') else None
+        if why:
+            say(why)
     if status < 2:
-        items, _ = listing(data, language, dots=False)
-        known, counts = table(), {}
-        for n, command in skipped(items, language):
-            counts[command] = counts.get(command, 0) + 1
-        for command, count in counts.items():
-            shows, what = known.get((language, command), (True, 'is no command that is known'))
-            say(f'skipped {times(count)}: {named(command, command)} {what}')
-        lacks = without_cell(items, language, sheet)
-        if lacks and not sheet:
-            say('there is no glyph sheet: characters are white')
-        elif lacks:
-            counts = {}
-            for (_, byte), (count, _) in lacks.items():
-                counts[byte] = counts.get(byte, 0) + count
-            found = ', '.join(f'{byte:02X} {times(count)}' for byte, count in sorted(counts.items()))
-            say(f'bytes without a character in the sheet: {found}')
+        tell_unseen(data, language, sheet, say)
     return made, status
+
+
+def tell_unseen(data, language, sheet, say):
+    """Says what the paper doesn't show: what is skipped, and which bytes have no character."""
+    items, _ = listing(data, language, dots=False)
+    known, counts = table(), {}
+    for n, command in skipped(items, language):
+        counts[command] = counts.get(command, 0) + 1
+    for command, count in counts.items():
+        shows, what = known.get((language, command), (True, 'is no command that is known'))
+        say(f'skipped {times(count)}: {named(command, command)} {what}')
+    lacks = without_cell(items, language, sheet)
+    if lacks and not sheet:
+        say('there is no glyph sheet: characters are white')
+    elif lacks:
+        counts = {}
+        for (_, byte), (count, _) in lacks.items():
+            counts[byte] = counts.get(byte, 0) + count
+        found = ', '.join(f'{byte:02X} {times(count)}' for byte, count in sorted(counts.items()))
+        say(f'bytes without a character in the sheet: {found}')
 
 
 def clashes(names):

@@ -27,8 +27,8 @@ def guess(data):
 
 
 def lines_of(data, language, vp=None, dots=True):
-    """What vp lists of a stream, whether with places, and the line of the fault that reading ends in, or ''. Without dots
-    the bytes of a receipt's pictures and symbols are left out."""
+    """What vp lists of a stream, whether with places, and the line of the fault that reading ends in, or ''. Without
+    dots the bytes of a receipt's pictures and symbols are left out."""
     words, has_places = ['list', '--lang', language], True
     try:
         out, line, _ = run([*words, '--offsets'], data, vp)
@@ -123,7 +123,8 @@ def first_byte(data, place, text):
 
 
 def raw(data, items, n):
-    """The bytes of the n-th command, up to the next one: its data too, where these have no item. None without places."""
+    """The bytes of the n-th command, up to the next one: its data too, where these have no item. None without places.
+    """
     if items[n][0] is None:
         return None
     start = first_byte(data, *items[n])

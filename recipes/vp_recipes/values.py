@@ -7,7 +7,8 @@ LABEL_DEFAULTS = {'^LT': '0', '^LS': '0', '^JM': 'A', '^MC': 'Y', '^CV': 'N', '^
 SIGNS = {'CC': '^', 'CD': ',', 'CT': '~'}
 # Commands of receipts that are read past, by the bytes behind them that a printer begins with.
 RECEIPT_DEFAULTS = {'esc 74': '00', 'gs 50': '00 00', 'fs 53': '00 00', 'fs 21': '00',
-                    'gs 28 4b': '02 00 (30|31|32) (00|30)', 'gs 28 4e': '02 00 30 31|02 00 31 30|03 00 32 31 (00|30)'}
+                    'gs 28 4b': '02 00 (30|31|32) (00|30)',
+                    'gs 28 4e': '02 00 30 31|02 00 31 30|03 00 32 31 (00|30)'}
 # Switches that are off where the last bit is 0, and settings that are so at 0 and at the figure 0.
 BITS, FIGURES = ('esc 25', 'esc 7b', 'gs 62'), ('esc 52', 'esc 56', 'esc 72', 'fs 2d', 'fs 43', 'fs 57')
 # A printer's letters of font 0 are about so wide in a cell of a hundred, and narrower than such cells for a height of 4.

@@ -177,8 +177,15 @@ def main():
         made = package(version, when, os.environ.get("VP_PROGRAM"))
         os.makedirs(folder, exist_ok=True)
         name = f"{folder}/vp_{version}_amd64.deb"
-        with open(name, "wb") as it:
-            it.write(made)
+        with tempfile.NamedTemporaryFile(dir=folder, prefix=".vp-", delete=False) as it:
+            try:
+                it.write(made)
+                it.flush()
+                os.chmod(it.name, 0o644)
+                os.replace(it.name, name)
+            except OSError:
+                os.unlink(it.name)
+                raise
     except (OSError, ValueError) as fault:
         print(f"deb.py: {fault}", file=sys.stderr)
         return 3
