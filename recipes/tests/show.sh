@@ -86,7 +86,7 @@ printf 'Hi\n\033\177more\n' >bad.bin
 is 1 'a fault' "$show" bad.bin
 says '^bad.bin: vp: F1 after 5 bytes: unknown command 1B 7F$'
 printf '^XA^FO9,9^GFA,80,24,1,:Z64:eJxjYGBgAAAABAAB:1234^FS^XZ' >packed.zpl
-is 1 'a picture that is packed' "$show" packed.zpl
+is 1 'a picture that is packed' "$show" --as-it-came packed.zpl
 says '^packed.zpl: a picture that begins with :Z64: or :B64: is packed, which recipes/expand reads$'
 is 3 'no file' "$show" none.bin
 says '^show: cannot read none.bin: No such file'
