@@ -5,7 +5,7 @@ from .labels import Command, commands
 from .store import named
 
 # How deep formats recall formats, how many commands come of it, and how many serial numbers are counted.
-DEPTH, MANY, COPIES = 4, 100_000, 1000
+DEPTH, MANY, COPIES = 4, 20_000, 1000
 HEX = re.compile(rb'[0-9A-Fa-f]{2}')
 ENDS = ('FS', 'XZ')
 

@@ -1,11 +1,10 @@
 """A stream of labels anew, format by format: settings stay, fields are written anew that vp would print otherwise."""
-from . import fields as of_fields
 from .cells import Cells
 from .fields import PARTS, Field, Settings, changed
-from .formats import COPIES, copied, counted, fields, recalled
+from .formats import COPIES, MANY, copied, counted, fields, recalled
 from .labels import Command, commands
 from .letters import Letters
-from .pictures import Bad, of_image, read
+from .pictures import Bad, Picture, of_image, read
 from .store import Store, named
 from .units import in_dots
 from ..program import run
@@ -26,7 +25,7 @@ class Writer:
         self.sheet, self.settings = Cells(options.sheet), Settings()
         self.said = {command: what for language, command, _, word, what in rows() if language == 'label' and word == 'said'}
         # up to where the old stream is written, and where the next field without a place begins
-        self.at, self.after = 0, (0, 0)
+        self.at, self.after, self.dots = 0, (0, 0), 0
         # a stream of ASCII alone has no letter that a table changes
         self.is_plain = data.isascii() and b'^FH' not in data.upper()
 
@@ -160,9 +159,10 @@ class Writer:
         numbers = -(-count // each)
         first = next(it for it in found if it.sign == '^' and it.name in ('SN', 'SF'))
         self.remarks.anew(first.start, f'^{first.name}: a label is written for each number')
-        if numbers > COPIES:
-            self.remarks.not_written(first.start, f'^{first.name}: only the first {COPIES:,} of {numbers:,} numbers are written')
         for n in range(min(numbers, COPIES)):
+            if self.stream.is_full() or n * len(found) > 5 * MANY:
+                self.remarks.not_written(first.start, f'^{first.name}: only the first {n:,} of {numbers:,} numbers are written')
+                return
             own = found if n == 0 else [copied(it) for it in found]
             out = []
             for field in fields(own):
@@ -171,6 +171,8 @@ class Writer:
                         it = Command('^', 'PQ', b'%d' % min(each, count - n * each), it.start, it.end)
                     out.append(it)
             self.fields(out)
+        if numbers > COPIES:
+            self.remarks.not_written(first.start, f'^{first.name}: only the first {COPIES:,} of {numbers:,} numbers are written')
 
     def fields(self, found):
         for field in fields(found):
@@ -267,7 +269,6 @@ class Writer:
 
 def last_image(out):
     """The last image that vp put out."""
-    from .pictures import Picture
     at, found = 0, None
     while at < len(out):
         end = out.index(b'\n', at + 3)

@@ -1,22 +1,28 @@
 """The lines of a receipt as they are written: what is set in them, and lines upside down as pictures of what vp prints."""
 from .cells import Cells
 from .pictures import Picture
+from .receipts import units
 from ..program import run
 
 # What sets how the next letters stand, and is said again before a line that vp prints on its own.
 STYLES = {'esc 20', 'esc 21', 'esc 2d', 'esc 45', 'esc 47', 'esc 4d', 'esc 61', 'esc 44', 'gs 21', 'gs 42', 'gs 4c', 'gs 57'}
 WIDTH = 576
+# So many lines upside down are printed; those beyond stay upright.
+MOST = 500
 
 
 class Lines:
     def __init__(self, options, stream):
-        self.options, self.stream, self.sheets = options, stream, {}
+        self.options, self.stream, self.sheets, self.count = options, stream, {}, 0
         self.reset()
 
     def reset(self):
         self.styles, self.spacing, self.is_upside_down, self.line = {}, 34, False, None
         self.left, self.area = 0, WIDTH
         self.letter, self.times = 'a', (1, 1)
+
+    def is_full(self):
+        return self.count >= MOST
 
     def font(self):
         return self.letter
@@ -86,7 +92,7 @@ class Lines:
             self.end()
         elif self.line:
             self.end()
-        self.is_upside_down, self.left, self.area = is_so, left, area
+        self.is_upside_down, self.left, self.area = is_so and self.count < MOST, left, area
 
     def gather(self, start, end, data):
         old = self.line or (start, end, b'')
@@ -104,6 +110,8 @@ class Lines:
         start, end, data = self.line or (unit.start, unit.end, b'')
         self.line = None
         found = [Picture(0, [])]
+        self.count += 1
+        self.is_upside_down = self.count < MOST
         if data:
             found = self.printed(data)
         feed = {'0a': self.spacing, 'esc 4a': 0, 'esc 64': 0}[unit.name]
@@ -123,7 +131,6 @@ class Lines:
 
     def later(self, data):
         """The styles that a line set, which hold behind it."""
-        from .receipts import units
         for it in units(data):
             if it.kind == 'command' and it.name in STYLES:
                 yield it.name, data[it.start:it.end]

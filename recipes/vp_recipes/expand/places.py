@@ -12,6 +12,9 @@ from ..program import Fault
 # Bytes of the new stream and the old ones that they come from; `same` where they are those again.
 Piece = namedtuple('Piece', 'start end old_start old_end same')
 
+# So many bytes are written anew at most.
+MOST = 16 << 20
+
 
 class Written:
     """A new stream as it is written: its bytes and their pieces."""
@@ -19,6 +22,9 @@ class Written:
     def __init__(self, old):
         # old bytes from `start` to `end` are kept, and not written yet
         self.old, self.bytes, self.pieces, self.start, self.end = old, bytearray(), [], 0, 0
+
+    def is_full(self):
+        return len(self.bytes) > MOST
 
     def keep(self, start, end):
         """Old bytes as they came."""

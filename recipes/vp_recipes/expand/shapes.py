@@ -3,6 +3,9 @@ import math
 
 from .pictures import Picture
 
+# A sign that is larger is drawn in this size and magnified.
+LARGE = 240
+
 
 def spans(width, height, t):
     """An ellipse's ring: of each row the dots of its outer and of its inner edge, or None."""
@@ -73,6 +76,11 @@ def sign(letter, width, height):
     }.get(letter)
     if not strokes:
         return None
+    if side > LARGE:
+        small = sign(letter, LARGE, LARGE).texts()
+        places = [n * LARGE // side for n in range(side)]
+        rows = [''.join(row[n] for n in places) for row in small]
+        return Picture.of_texts([rows[n] for n in places])
     pen = max(1.0, side / 14)
     rows = [0] * side if letter == 'C' else list(ring.rows)
     for ax, ay, bx, by in strokes:

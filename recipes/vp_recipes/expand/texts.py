@@ -80,23 +80,35 @@ def words_of(text):
 Line = namedtuple('Line', 'text last first')
 
 
+def pieces(word, of, room, first):
+    """A word that is wider than a line, in parts that fit; the first one has less room."""
+    part, size, left = '', 0, first
+    for letter in word:
+        wide = measured(letter, of)
+        if part and size + wide > left:
+            yield part
+            part, size, left = '', 0, room
+        part, size = part + letter, size + wide
+    yield part
+
+
 def broken(text, of, width, indent):
     """The lines of a block's text, each as long as fits."""
     for paragraph in words_of(text):
-        parts = re.findall(r'[^ \u00ad]+[\u00ad]?| ', paragraph)
-        lines, line = [], ''
-        for part in parts:
-            room = width - (indent if lines else 0)
-            if line and measured((line + part).rstrip(' ').rstrip('\u00ad'), of) > room:
+        lines, line, size, room = [], '', 0, width
+        for part in re.findall(r'[^ \u00ad]+\u00ad?| ', paragraph):
+            wide = measured(part.rstrip('\u00ad'), of)
+            if part != ' ' and line.strip(' ') and size + wide > room:
                 lines.append(line)
-                line, room = '', width - indent
-                if part == ' ':
-                    continue
-            line += part
-            while measured(line.rstrip('\u00ad'), of) > room and len(line) > 1:
-                fits = max(1, max((n for n in range(1, len(line)) if measured(line[:n], of) <= room), default=1))
-                lines.append(line[:fits])
-                line, room = line[fits:], width - indent
+                line, size, room = '', 0, width - indent
+            if part != ' ' and size + wide > room:
+                *whole, part = pieces(part, of, width - indent, room - size)
+                for it in whole:
+                    lines.append(line + it)
+                    line, size, room = '', 0, width - indent
+                wide = measured(part.rstrip('\u00ad'), of)
+            if line or part != ' ' or not lines:
+                line, size = line + part, size + wide
         lines.append(line)
         shown = [it[:-1].replace('\u00ad', '') + it[-1:].replace('\u00ad', '-') if n + 1 < len(lines)
                  else it.replace('\u00ad', '') for n, it in enumerate(lines)]
