@@ -10,14 +10,14 @@ _vp_tools() {
     *)
         # a file, unless an option is begun
         case $tool:$word in
-        vp-show:-*) options='--lang --font-a --font-b --to --open --help' ;;
+        vp-show:-*) options='--lang --font-a --font-b --table --from --as-it-came --to --open --help' ;;
         vp-lint:-*) options='--lang --font-a --font-b --known --write-known --help' ;;
-        vp-golden:-*) options='--report --junit --ignore --help' ;;
+        vp-golden:-*) options='--report --junit --ignore --expand --help' ;;
         vp-text:-*) options='--lang --table --help' ;;
         vp-paper:-*) options='--each --dpmm --help' ;;
-        vp-print:-*) options='--guess --words' ;;
+        vp-print:-*) options='--guess --words --languages --expand' ;;
         vp-sheet:-*) options='--font --table --blank --help' ;;
-        vp-many:-*) options='--resume --sums --on --lang' ;;
+        vp-many:-*) options='--resume --sums --on --lang --expand' ;;
         vp-expand:-*)
             options='--lang --table --from --nearest --keep-sizes --map --store --now --font-a --tell --help'
             ;;

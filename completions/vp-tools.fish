@@ -12,7 +12,13 @@ for tool in vp-show vp-viewer
 end
 complete -c vp-viewer -l width -x -a '576 384' -d 'Width of the paper'
 complete -c vp-viewer -l port -x -d 'The port'
-complete -c vp-expand -l from -x -d 'What the text is in'
+for tool in vp-expand vp-show
+    complete -c $tool -l from -x -d 'What the text is in'
+end
+complete -c vp-show -l as-it-came -d 'Does not write it anew'
+for tool in vp-golden vp-many vp-print
+    complete -c $tool -l expand -d 'Writes streams anew first'
+end
 complete -c vp-expand -l nearest -d 'Takes the nearest letter'
 complete -c vp-expand -l keep-sizes -d 'Leaves the sizes of texts'
 complete -c vp-expand -l map -r -F -d 'Which bytes each piece comes from'
@@ -26,7 +32,7 @@ complete -c vp-golden -n 'not __fish_seen_subcommand_from check accept' -f -a 'c
 complete -c vp-golden -l report -r -F -d 'Where what differs is shown'
 complete -c vp-golden -l junit -r -F -d 'What CI systems read'
 complete -c vp-golden -l ignore -x -d 'Names that are no streams'
-for tool in vp-text vp-sheet vp-expand
+for tool in vp-text vp-sheet vp-expand vp-show
     complete -c $tool -l table -x -d 'Which character a byte is'
 end
 complete -c vp-paper -l each -d 'A PNG for each image'
