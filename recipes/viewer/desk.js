@@ -12,6 +12,8 @@ export const desk = {
   fonts: { a: '', b: '' }, sheetNames: new Map(),
   // what the paper is compared with
   other: null,
+  // whether what vp leaves out is written anew
+  anew: true,
   // dots a millimetre of paper
   dpmm: 8,
 };

@@ -114,6 +114,11 @@ find('grid').onchange = event => {
   paper.grid = event.target.checked;
   paper.draw();
 };
+find('anew').onchange = event => {
+  desk.anew = event.target.checked;
+  for (const it of desk.tabs) it.printAnew();
+  print(true);
+};
 find('dpmm').onchange = event => {
   desk.dpmm = paper.dpmm = Number(event.target.value);
   paper.draw();
@@ -188,7 +193,8 @@ find('sheet-file').onchange = async event => {
 
 async function start() {
   desk.state = await desk.printer.state();
-  const { examples } = desk.state;
+  const { anew, examples } = desk.state;
+  desk.anew = find('anew').checked = anew;
   setChoices(find('examples'), [['', 'Examples'], ...examples.map((it, n) => [n, it])], '');
   find('examples').hidden = !examples.length;
   await openFollowed();

@@ -3,6 +3,7 @@ import contextlib
 import hashlib
 import json
 import os
+import re
 import selectors
 import signal
 import socket
@@ -12,12 +13,16 @@ import tempfile
 import threading
 import time
 
+from vp_recipes.expand import Options, expanded
+
 MOST_STREAM = 4 << 20
 SECONDS = 10
 AT_ONCE = 4
 MOST_SHEETS, MOST_SHEET = 32, 1 << 20
 # In how many bytes of a stream remarks are looked for, and how long they may be.
 REMARKED, MOST_REMARKS = 1 << 18, 1 << 20
+# A stream with more commands of symbols than this is printed as it came.
+MOST_ANEW, SYMBOLS = 200, re.compile(rb'\^[Bb]|\x1d\(?k')
 
 
 class Gone(Exception):
@@ -76,6 +81,13 @@ class Program:
 
     def list_words(self, language):
         return [*self.vp, 'list', '--lang', language, '--offsets']
+
+    def anew(self, language, fonts, stream):
+        """A stream as recipes/expand writes it; None where it is long, or has very many symbols, and stays."""
+        if len(stream) > REMARKED or len(SYMBOLS.findall(stream)) > MOST_ANEW:
+            return None
+        with self.turn:
+            return expanded(stream, language, Options(sheet=tuple(sheet_words(fonts))))
 
     def remarks(self, language, fonts, stream, caller):
         """What lint says of a stream: places and texts, of its first part alone where it is long."""

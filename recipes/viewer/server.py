@@ -14,6 +14,7 @@ import time
 import urllib.parse
 
 sys.path.insert(0, os.path.dirname(os.path.dirname(os.path.realpath(__file__))))
+from vp_recipes.expand.places import told  # noqa: E402
 from vp_recipes.program import shown  # noqa: E402
 from vp_recipes.streams import guess  # noqa: E402
 from gate import Gate  # noqa: E402
@@ -54,7 +55,8 @@ class Followed:
 
 
 class Page:
-    def __init__(self, port, program, fonts, files, language, width):
+    def __init__(self, port, program, fonts, files, language, width, anew=False):
+        self.anew = anew
         self.program, self.fonts, self.language, self.width = program, fonts, language, width
         self.files = [Followed(name) for name in files]
         self.examples = examples(fonts)
@@ -223,14 +225,17 @@ class Answer(http.server.BaseHTTPRequestHandler):
         self.head(status, kind, {'Content-Length': str(len(data))})
         self.wfile.write(data)
 
-    def pass_on(self, words, more):
+    def pass_on(self, words, more, anew=None):
         """Runs words on the stream and gives what they put out, as it comes: pieces with their lengths before them,
-        behind an empty one how it ended, in JSON."""
+        behind an empty one how it ended, in JSON. A stream that is written anew has its places told in its own bytes."""
         self.connection.settimeout(SECONDS)
-        with contextlib.closing(self.server.program.run(words, self.stream(), self.connection)) as pieces:
+        stream = self.stream() if anew is None else anew.data
+        with contextlib.closing(self.server.program.run(words, stream, self.connection)) as pieces:
             for n, piece in enumerate(pieces):
                 if n == 0:
                     self.head(200, 'application/octet-stream', {'Transfer-Encoding': 'chunked'})
+                if isinstance(piece, dict) and anew is not None:
+                    piece = {**piece, 'line': told(piece['line'], anew.pieces)}
                 if isinstance(piece, dict):
                     piece = bytes(4) + json.dumps({**piece, **more}, separators=(',', ':')).encode()
                 else:
@@ -271,7 +276,7 @@ class Answer(http.server.BaseHTTPRequestHandler):
         return {
             'files': [{'name': it.name, 'path': it.path, 'version': it.version()} for it in page.files],
             'examples': [it.name for it in page.examples], 'width': page.width, 'language': page.language,
-            'most': MOST_STREAM,
+            'most': MOST_STREAM, 'anew': page.anew,
             'fonts': {letter: os.path.basename(name) for letter, name in page.fonts['receipt'].items()},
         }
 
@@ -316,14 +321,22 @@ class Answer(http.server.BaseHTTPRequestHandler):
     def print(self):
         language = self.choose('lang', ('label', 'receipt'))
         words = self.server.program.print_words(language, self.choose('width', ('576', '384')), self.fonts(language))
-        self.pass_on(words, {'guess': guess(self.body)})
+        anew = None
+        if self.choose('anew', ('0', '1')) == '1':
+            anew = self.server.program.anew(language, self.fonts(language), self.stream())
+        self.pass_on(words, {'guess': guess(self.body)}, anew)
 
     def list(self):
         self.pass_on(self.server.program.list_words(self.choose('lang', ('label', 'receipt'))), {})
 
     def remarks(self):
         language = self.choose('lang', ('label', 'receipt'))
-        return self.server.program.remarks(language, self.fonts(language), self.stream(), self.connection)
+        fonts, stream = self.fonts(language), self.stream()
+        found = self.server.program.remarks(language, fonts, stream, self.connection)
+        if self.choose('anew', ('0', '1')) == '1':
+            anew = self.server.program.anew(language, fonts, stream)
+            found += [[it.place, it.text] for it in (anew.remarks if anew else ())]
+        return found
 
 
 def leading(address):

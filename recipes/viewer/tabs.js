@@ -40,7 +40,7 @@ export class Tab {
 
   get words() {
     const { a, b } = desk.fonts;
-    return { lang: this.language, width: this.width, ...(a && { a }), ...(b && { b }) };
+    return { lang: this.language, width: this.width, anew: desk.anew ? '1' : '0', ...(a && { a }), ...(b && { b }) };
   }
 
   // What is known of the paper that was is of no use any more.

@@ -25,6 +25,12 @@ def test_prints(page):
         same(told, {'line': '', 'status': 0, 'late': False, 'guess': language})
     assert page.print(b'Hi\n', 'receipt', '&width=384')[0].startswith(b'P4\n384 34\n')
     same(page.print(RECEIPT.read_bytes())[1]['guess'], 'receipt')
+    # what vp leaves out is written anew where the page asks for it, and a fault's byte is that of the stream that came
+    circle = b'^XA^PW80^LL40^FO8,8^GC20,3^FS^XZ'
+    assert not any(page.print(circle)[0][9:]) and any(page.print(circle, more='&anew=1')[0][9:])
+    assert [19, '^GC is written as a picture'] in json.loads(page.good('remarks?lang=label&anew=1', circle))
+    same(page.print(b'a\x10\x14\x01\x00\x05\x1b\x7f', 'receipt', '&anew=1')[1]['line'],
+         'vp: F1 after 8 bytes: unknown command 1B 7F')
 
 
 def test_faults(page):

@@ -591,7 +591,7 @@ def test_opened(browser, room):
 def in_browser(room):
     followed = room / 'followed.zpl'
     followed.write_bytes(b'^XA^PW80^LL40^FO8,8^GB8,8,8^FS^XZ\n')
-    with Viewer(str(SHIPPING), str(followed), str(RECEIPT)) as page:
+    with Viewer('--as-it-came', str(SHIPPING), str(followed), str(RECEIPT)) as page:
         browser = Chromium(str(room))
         try:
             browser.open(page.address)
