@@ -21,7 +21,7 @@ _vp_tools() {
         vp-expand:-*)
             options='--lang --table --from --nearest --keep-sizes --map --store --now --font-a --tell --help'
             ;;
-        vp-viewer:-*) options='--lang --width --font-a --font-b --port --open --help' ;;
+        vp-viewer:-*) options='--lang --width --font-a --font-b --port --as-it-came --open --help' ;;
         esac
         ;;
     esac

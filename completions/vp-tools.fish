@@ -15,7 +15,9 @@ complete -c vp-viewer -l port -x -d 'The port'
 for tool in vp-expand vp-show
     complete -c $tool -l from -x -d 'What the text is in'
 end
-complete -c vp-show -l as-it-came -d 'Does not write it anew'
+for tool in vp-show vp-viewer
+    complete -c $tool -l as-it-came -d 'Does not write it anew'
+end
 for tool in vp-golden vp-many vp-print
     complete -c $tool -l expand -d 'Writes streams anew first'
 end
