@@ -1,6 +1,6 @@
 """Golden images: whether each stream of a folder still prints what it printed when its image was accepted.
 
-  golden check STREAMS EXPECTED [--expand] [--report FOLDER] [--junit FILE] [--ignore PATTERN] [-- COMMAND..]
+  golden check STREAMS EXPECTED [NAME..] [--expand] [--report FOLDER] [--junit FILE] [--ignore PATTERN] [-- COMMAND..]
   golden accept STREAMS EXPECTED [NAME..] [--expand] [--ignore PATTERN] [-- COMMAND..]
 
 check has status 0 where all are as expected, 1 where not; accept takes over what is printed now. 2 is for wrong words,
