@@ -108,13 +108,3 @@ all_bits x = elim (cases_lt x 64) [
   | inl l ↦ rw (lt-ltb x 64 l) (ones (63 - x) (omega arith))
   | inr g ↦ rw (le-ltb x 64 g) refl
 ]
-
--- a word that begins before a row
-pub first_eight : (word far d : ℕ) → (leb 0 d && word_dot (word * 2 ^ far % 2 ^ 64) (d - 0)) ≡ word_dot word (d + far)
-first_eight word far d = rw (le-leb 0 d (omega arith), (let e : d - 0 ≡ d = omega arith in e)) (elim (cases_lt d 64) [
-  | inl l ↦ rw (lt-ltb d 64 l) (bit_low64 (word * 2 ^ far) (63 - d) (omega arith) ∙ bit_shl word far (63 - d) ∙ elim (cases_lt (d + far) 64) [
-    | inl m ↦ rw (le-leb far (63 - d) (omega arith), lt-ltb (d + far) 64 m) (ap (bit word) (omega arith))
-    | inr g ↦ rw (lt-leb far (63 - d) (omega arith), le-ltb (d + far) 64 g) refl
-  ])
-  | inr g ↦ rw (le-ltb d 64 g, le-ltb (d + far) 64 (omega arith)) refl
-])

@@ -11,7 +11,6 @@ pub mod ImageRows
 pub mod ImageLaws
 pub mod Placing
 pub mod Words
-pub mod WordRows
 pub mod Eights
 pub mod Cuts
 pub mod Swaps

@@ -66,7 +66,7 @@ words_placed left top row h words ink t e o x y = rw t (ap (λ b. leb row y && b
   | inr g ↦ rw (le-ltb (y - row) h g) (sym (shifted_none left (λ u. ink u (y - row)) x (λ u. false_from_ne_true (ink u (y - row)) (λ t. absurd (let k = o u (y - row) t in omega arith)))))
 ]))
 
-pub white_word : (x : ℕ) → word_dot 0 x ≡ false
+white_word : (x : ℕ) → word_dot 0 x ≡ false
 unfolding bit
 white_word x = elim (cases_lt x 64) [
   | inl l ↦ rw (lt-ltb x 64 l) (ap (λ b. eqb b 1) (bit_at-zero (63 - x)))

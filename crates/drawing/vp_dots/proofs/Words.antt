@@ -151,14 +151,3 @@ narrow_bytes word at d fits few = elim (cases_lt (d / 8) (at / 8 + 8)) [
   | inl l ↦ front word at d fits l
   | inr g ↦ rw (le-ltb (d - 8 * (at / 8)) 64 (omega arith), few (d - at) (omega arith)) (and_false (leb (8 * (at / 8)) d) ∙ sym (and_false (leb at d)))
 ]
-
--- a word that begins in the last eight bytes of a row
-pub last_eight : (word at far d : ℕ) → word < 2 ^ 64 → at ≤ far → d < at + 64
-    → (leb at d && word_dot (word / 2 ^ (far - at)) (d - at)) ≡ (leb far d && word_dot word (d - far))
-last_eight word at far d fits from h = elim (cases_lt d at) [
-  | inl l ↦ rw (lt-leb at d l, lt-leb far d (omega arith)) refl
-  | inr g ↦ rw (le-leb at d g, lt-ltb (d - at) 64 (omega arith)) (word_shr word (far - at) (d - at) fits (omega arith) ∙ elim (cases_lt d far) [
-    | inl b ↦ rw (lt-leb (far - at) (d - at) (omega arith), lt-leb far d b) refl
-    | inr a ↦ rw (le-leb (far - at) (d - at) (omega arith), le-leb far d a, lt-ltb (d - far) 64 (omega arith)) (ap (bit word) (omega arith))
-  ])
-]

@@ -11,7 +11,6 @@
 //! - `word`: 64 dots at once, cut out of a row and painted on one.
 //! - `block`: eight by eight dots in a word, and eight lines laid across the rows of a band.
 //! - `square`: 64 by 64 dots in 64 words, rows and columns exchanged.
-//! - `across`: words painted across the rows of a band, as those of a square are.
 //! - `place`: an ink at a place of a band.
 //! - `band`, `store`: rows of dots and bytes on the heap.
 //! - `image`: the header of an image, and the laws from the bytes of its rows to its dots and back.
@@ -24,7 +23,6 @@ ghost use Rattle.vp_dots.specs.Dots.{shifted};
 ghost use Rattle.vp_dots.specs.Painting.{Painted};
 ghost use Rattle.vp_dots.specs.Words.{word_dot, IsReady};
 
-mod across;
 mod band;
 mod block;
 mod fault;
@@ -40,7 +38,6 @@ mod store;
 mod word;
 
 use crate::single::paint_moved_dot;
-pub use across::paint_square;
 pub use band::Band;
 pub use block::{lay_eight, turned};
 pub use fault::{Fault, Why};

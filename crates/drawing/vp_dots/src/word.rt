@@ -60,52 +60,15 @@ fn paint_inside(op: Op, word: u64, far: u64, row: &mut [u8])
     paint_masked(op, lost(word, s), far / 8 + 8, row);
 }
 
-/// Applies the operation to the dots d of the row where dot d - far of the word is black.
-#[inline(always)]
-fn paint_right(op: Op, word: u64, far: u64, row: &mut [u8])
-    requires { far < 2 ^ 63 }
-    ensures { Painted op (λ d. nat_le far d && word_dot word (d - far)) row.old row.new }
-{
-    if far / 8 + 9 <= row.len() as u64 {
-        paint_inside(op, word, far, row);
-        return;
-    }
-    if row.len() < 8 {
-        paint_into(op, &word.to_be_bytes(), far as i64, row);
-        return;
-    }
-    let last = row.len() - 8;
-    let over = far - 8 * last as u64;
-    if over < 64 {
-        paint_eight(op, word >> over, last, row);
-    }
-}
-
-/// Applies the operation to the dots d of the row where dot d + far of the word is black.
-#[inline(always)]
-fn paint_left(op: Op, word: u64, far: u64, row: &mut [u8])
-    requires { far ≤ 2 ^ 63 }
-    ensures { Painted op (λ d. word_dot word (d + far)) row.old row.new }
-{
-    if far >= 64 {
-        return;
-    }
-    if row.len() < 8 {
-        paint_into(op, &word.to_be_bytes(), -(far as i64), row);
-    } else {
-        paint_eight(op, word << far, 0, row);
-    }
-}
-
 /// Applies the operation to the dots d of the row where dot d - at of the word is black.
 #[inline(always)]
 pub fn paint_word(op: Op, word: u64, at: i64, row: &mut [u8])
     ensures { Painted op (shifted at (word_dot word)) row.old row.new }
 {
-    if at >= 0 {
-        paint_right(op, word, at.unsigned_abs(), row);
+    if at >= 0 && at.unsigned_abs() / 8 + 9 <= row.len() as u64 {
+        paint_inside(op, word, at.unsigned_abs(), row);
     } else {
-        paint_left(op, word, at.unsigned_abs(), row);
+        paint_into(op, &word.to_be_bytes(), at, row);
     }
 }
 

@@ -7,8 +7,7 @@ use std::process::Abort;
 use std::test::Fail;
 use vp_dots::{
     Band, Fault, Full, Ink, Op, Store, Why, clear_into, fill_dots, fill_moved, first_dots, header,
-    lay_eight, or_into, paint_at, paint_bits, paint_dot, paint_square, paint_word, turned, word_at,
-    xor_into,
+    lay_eight, or_into, paint_at, paint_bits, paint_dot, paint_word, turned, word_at, xor_into,
 };
 
 /// Stairs down to the right: line y has ink at its first y + 1 places.
@@ -360,23 +359,6 @@ fn lays_the_diagonal(rt: &impl Abort, band: &mut Band<3, 12>) {
 fn across(rt: HostRuntime) -> Result<(), Fail> {
     let mut band: Band<3, 12> = Band::new(rt.alloc())?;
     lays_the_diagonal(&rt, &mut band);
-    Ok(())
-}
-
-/// Two words on the last rows of a band, and a third that falls below; then the same, one row further up and
-/// out at the left.
-#[test]
-fn squares(rt: HostRuntime) -> Result<(), Fail> {
-    let words = [1 << 63, 3 << 62, u64::MAX];
-    let mut band: Band<3, 12> = Band::new(rt.alloc())?;
-    paint_square(Op::Black, &words, 5, 10, &mut band);
-    same(
-        &rt,
-        &[band.row(9)[0], band.row(10)[0], band.row(11)[0]],
-        &[0, 0x04, 0x06],
-    );
-    paint_square(Op::Flip, &words, -1, -2, &mut band);
-    same(&rt, &[band.row(0)[2], band.row(1)[0]], &[0xff, 0]);
     Ok(())
 }
 
