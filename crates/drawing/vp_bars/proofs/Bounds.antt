@@ -1,5 +1,5 @@
 -- How wide symbols can be, and how many bytes have one.
-use Rattle.std.proofs.Common.{◌≡◌, ◌≢◌, ℕ, ◌+◌, ◌*◌, ◌^◌, ◌<◌, ◌≤◌, Bool, true, false, cond, eqb, leb, List, [], ◌∷◌, ◌++◌, length, take, drop, map, reverse, Result, Err, refl, sym, ap, ◌∙◌, arith}
+use Rattle.std.proofs.Common.{inl, inr, ◌⊎◌, ◌≡◌, ℕ, ◌+◌, ◌*◌, ◌^◌, ◌<◌, ◌≤◌, Bool, true, false, cond, eqb, leb, List, [], ◌∷◌, ◌++◌, length, take, drop, map, reverse, Result, Err, refl, sym, ap, ◌∙◌, arith}
 use Rattle.std.specs.List.{flat_map}
 use Rattle.std.proofs.Math.Nat.{mul-le-mul_left}
 use Rattle.std.proofs.lemmas.Bool.{leb-true, eqb-true, lt-ltb}
@@ -110,7 +110,7 @@ eleven v h =
     ap total (sym (get_or-take 106 code128_table v [] h))
     ∙ eqb-true _ _ (list_all_get (λ es. eqb (total es) 11) (take 106 code128_table) v [] h refl)
 
-by_modules : (n : ℕ) (es : List ℕ) → total (map (λ e. e * n) es) ≡ total es * n
+pub by_modules : (n : ℕ) (es : List ℕ) → total (map (λ e. e * n) es) ≡ total es * n
 by_modules n [] = omega arith
 by_modules n (e ∷ es) = omega (arith, by_modules n es)
 
@@ -127,11 +127,10 @@ black_is Code39 n w vs x = refl
 black_is Ean13 n w vs x = ean13_bars n vs x
 black_is Code128 n w vs x = refl
 
--- the bars of the symbologies that aren't EAN-13
-pub characters_are : (s : Symbology) (n w : ℕ) (vs : List ℕ) → s ≢ Ean13 → bar_widths s n w vs ≡ widths_of s n w vs
-characters_are Code39 n w vs other = refl
-characters_are Ean13 n w vs other = absurd (other refl)
-characters_are Code128 n w vs other = refl
+-- the bars of the symbologies of characters
+pub characters_are : (s : Symbology) (n w : ℕ) (vs : List ℕ) → (s ≡ Code39) ⊎ (s ≡ Code128) → bar_widths s n w vs ≡ widths_of s n w vs
+characters_are s n w vs (inl e) = rw e refl
+characters_are s n w vs (inr e) = rw e refl
 
 none-within : (symbol : Result Linear Fault) (bytes : List ℕ) → length bytes ≡ 0 → within_length bytes symbol ≡ Err (Symbol Empty)
 none-within symbol [] none = refl

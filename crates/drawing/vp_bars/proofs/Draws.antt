@@ -43,7 +43,7 @@ module _ (s : ℕ → ℕ) where
 
 -- the same where an element has a list of widths
 module _ (g : ℕ → List ℕ) where
-  flat_append : (us vs : List ℕ) → flat_map g (us ++ vs) ≡ flat_map g us ++ flat_map g vs
+  pub flat_append : (us vs : List ℕ) → flat_map g (us ++ vs) ≡ flat_map g us ++ flat_map g vs
   flat_append [] vs = refl
   flat_append (u ∷ us) vs = ap (λ ws. g u ++ ws) (flat_append us vs) ∙ sym (append_assoc (g u) (flat_map g us) (flat_map g vs))
 

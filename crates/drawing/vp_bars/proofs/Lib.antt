@@ -15,6 +15,7 @@ pub mod WordBars
 pub mod Halves
 pub mod Modules
 pub mod Bounds
+pub mod Regular
 pub mod Shown
 pub mod BoxRows
 pub mod TextLines

@@ -1,6 +1,7 @@
 -- Lines of text cell by cell.
-use Rattle.std.proofs.Common.{inl, inr, ◌≡◌, ℕ, suc, ◌+◌, ◌-◌, ◌*◌, ◌/◌, ◌%◌, ◌<◌, ◌≤◌, Bool, true, false, ltb, leb, ◌&&◌, ℤ, List, [], ◌∷◌, length, get_or, drop, refl, sym, ap, ◌∙◌, arith}
-use Rattle.std.proofs.lemmas.Bool.{cases_lt, lt-ltb, le-ltb, false_from_ne_true}
+use Rattle.std.proofs.Common.{inl, inr, ◌≡◌, ℕ, zero, suc, subst, pos, ◌+ℤ◌, ◌+◌, ◌-◌, ◌*◌, ◌/◌, ◌%◌, ◌<◌, ◌≤◌, Bool, true, false, ltb, leb, ◌&&◌, ℤ, List, ◌∷◌, length, get_or, drop, refl, sym, ap, ◌∙◌, arith}
+use Rattle.std.proofs.Math.Nat.{mul-le-mul_left}
+use Rattle.std.proofs.lemmas.Bool.{cases_lt, lt-ltb, le-ltb, lt-leb, le-leb, false_from_ne_true}
 use Rattle.std.proofs.lemmas.List.{drop_more}
 use Rattle.vp_glyph.specs.declared.Sheets.{Sheets}
 use Rattle.vp_glyph.specs.declared.cell.Font.{Font}
@@ -10,6 +11,8 @@ use Rattle.vp_glyph.specs.Cells.{font_width, cell_width, cell_dot, cell_inside}
 use Rattle.vp_dots.specs.Dots.{shifted}
 use Rattle.vp_dots.specs.Painting.{Painted}
 use Rattle.vp_dots.specs.declared.Op.{Op}
+use Rattle.vp_dots.proofs.Paints.{painted_none, painted_same}
+use Rattle.vp_dots.proofs.Shifts.{shifted_none, shifted_same}
 use Rattle.vp_bars.specs.Drawing.{Drawn}
 use Rattle.vp_bars.specs.Boxes.{plain, line_dot}
 use Rattle.vp_bars.proofs.Paints.{drawn_more}
@@ -51,9 +54,18 @@ module _ (sheets : Sheets) (font : Font) (y : ℕ) where
   pub line_after : (text : List ℕ) (i j : ℕ) → i < length text → line_dot sheets font (drop i text) (font_width font + j) y ≡ line_dot sheets font (drop (i + 1) text) j y
   line_after text i j h = ap (λ cs. line_dot sheets font cs (font_width font + j) y) (drop_more text i 0 h) ∙ cons_after (get_or text i 0) (drop (i + 1) text) j
 
-  pub line_none : (j : ℕ) → line_dot sheets font [] j y ≡ false
+  -- the cells from i on
+  pub line_from : (text : List ℕ) (i j : ℕ) → i ≤ length text → line_dot sheets font text (font_width font * i + j) y ≡ line_dot sheets font (drop i text) j y
+  line_from text zero j h = ap (λ n. line_dot sheets font text n y) (let e : font_width font * 0 + j ≡ j = omega arith in e)
+  line_from text (suc i) j h =
+      let e : font_width font * suc i + j ≡ font_width font * i + (font_width font + j) = omega arith in
+      let k : i + 1 ≡ suc i = omega arith in
+      ap (λ n. line_dot sheets font text n y) e ∙ line_from text i (font_width font + j) (omega arith) ∙ line_after text i j (omega arith)
+      ∙ ap (λ n. line_dot sheets font (drop n text) j y) k
+
+  pub line_past : (text : List ℕ) (j : ℕ) → font_width font * length text ≤ j → line_dot sheets font text j y ≡ false
   unfolding line_dot
-  line_none j = let z : font_width font * 0 ≡ 0 = omega arith in rw (z, le-ltb j 0 (omega arith)) refl
+  line_past text j h = rw (le-ltb j (font_width font * length text) h) refl
 
 -- one more cell is painted
 pub line_more : (op : Op) (at : ℤ) (f : ℕ → Bool) (old row new : List ℕ) (sheets cs : Sheets) (font cf : Font) (ct : Style) (text : List ℕ) (c y i x w : ℕ)
@@ -67,3 +79,57 @@ line_more op at f old row new sheets cs font cf ct text c y i x w h v s e t k d 
     (λ j l. line_here sheets font y text i j h (omega arith) ∙ sym (same j))
     (λ j l. same j ∙ cell_past sheets font plain (get_or text i 0) j y (omega arith))
     (λ j. ap (λ n. line_dot sheets font (drop i text) (n + j) y) v ∙ line_after sheets font y text i j h)
+
+module _ (op : Op) (at : ℤ) (sheets : Sheets) (font : Font) (text : List ℕ) (y left : ℕ) where
+  -- a line that stands so many dots to the right
+  abbrev pub placed : ℕ → Bool
+  placed i = leb left i && line_dot sheets font text (i - left) y
+
+  -- the line's cells from i on are left, and those before are painted
+  abbrev pub LeftFrom : List ℕ → List ℕ → ℕ → Type 0
+  LeftFrom old row i = Drawn op at placed old row (left + font_width font * i) (λ j. line_dot sheets font (drop i text) j y)
+
+  and_false : (b : Bool) → (b && false) ≡ false
+  and_false true = refl
+  and_false false = refl
+
+  -- the first cells can't be seen
+  pub line_begun : (i : ℕ) (row : List ℕ) → i ≤ length text → ((x d : ℕ) → left ≤ x → x < left + font_width font * i → pos d ≡ at +ℤ pos x → d < 0)
+      → LeftFrom row row i
+  line_begun i row h none = record {
+    done = painted_none op (shifted at (λ u. ltb u (left + font_width font * i) && placed u)) row
+        (λ d l. shifted_same at (λ u. ltb u (left + font_width font * i) && placed u) (λ u. false) d (λ x q. elim (cases_lt x left) [
+          | inl m ↦ rw (lt-leb left x m) (and_false (ltb x (left + font_width font * i)))
+          | inr g ↦ elim (cases_lt x (left + font_width font * i)) [
+            | inl m ↦ absurd (let z = none x d g m q in omega arith)
+            | inr k ↦ rw (le-ltb x (left + font_width font * i) k) refl
+          ]
+        ]) ∙ shifted_none at (λ u. false) d (λ u. refl));
+    left = λ u k. let e : u - left ≡ font_width font * i + (u - (left + font_width font * i)) = omega arith in
+        rw (le-leb left u (omega arith)) (ap (λ n. line_dot sheets font text n y) e ∙ line_from sheets font y text i (u - (left + font_width font * i)) h);
+  }
+
+  -- one more cell
+  pub line_next : (old row new : List ℕ) (cs : Sheets) (cf : Font) (ct : Style) (c i place : ℕ)
+      → i < length text → place ≡ left + font_width font * i → cs ≡ sheets → cf ≡ font → ct ≡ plain → c ≡ get_or text i 0
+      → LeftFrom old row i → Painted op (shifted at (λ k. leb place k && cell_dot cs cf ct c (k - place) y)) row new → LeftFrom old new (i + 1)
+  line_next old row new cs cf ct c i place h p s e t k d q =
+      let here : left + font_width font * i + font_width font ≡ left + font_width font * (i + 1) = omega arith in
+      subst (λ n. Drawn op at placed old new n (λ j. line_dot sheets font (drop (i + 1) text) j y)) here
+      (line_more op at placed old row new sheets cs font cf ct text c y i (left + font_width font * i) (font_width font) h refl s e t k d
+      (subst (λ n. Painted op (shifted at (λ u. leb n u && cell_dot cs cf ct c (u - n) y)) row new) p q))
+
+  -- nor can those behind
+  pub line_ended : (i to : ℕ) (old row : List ℕ) → to ≤ i
+      → ((x d : ℕ) → left + font_width font * to ≤ x → x < left + font_width font * length text → pos d ≡ at +ℤ pos x → 8 * length old ≤ d)
+      → LeftFrom old row i → Painted op (shifted at placed) old row
+  line_ended i to old row h none d =
+      let more = mul-le-mul_left {m = to} {n = i} (font_width font) h in
+      painted_same op (shifted at (λ u. ltb u (left + font_width font * i) && placed u)) (shifted at placed) old row
+      (λ e l. shifted_same at (λ u. ltb u (left + font_width font * i) && placed u) placed e (λ x q. elim (cases_lt x (left + font_width font * i)) [
+        | inl m ↦ rw (lt-ltb x (left + font_width font * i) m) refl
+        | inr g ↦ rw (le-ltb x (left + font_width font * i) g) (elim (cases_lt x (left + font_width font * length text)) [
+          | inl m ↦ absurd (let z = none x e (omega arith) m q in omega arith)
+          | inr k ↦ sym (rw (line_past sheets font y text (x - left) (omega arith)) (and_false (leb left x)))
+        ])
+      ])) d.done

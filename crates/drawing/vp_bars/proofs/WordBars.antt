@@ -144,7 +144,7 @@ draws_past op at place row pen next ws e t h none =
     draws_at_once op at place row row pen next ws e t h (record { length_is = refl; dots_are = λ d l. ap (λ i. paint op i (dot row d)) (sym (none (in_bar pen.bar ws) d l)) })
 
 -- so many elements turn the pen
-turned_odd : (s : ℕ → ℕ) (bar : Bool) (es : List ℕ) → turned bar (map s es) ≡ cond (eqb (length es % 2) 1) (not bar) bar
+pub turned_odd : (s : ℕ → ℕ) (bar : Bool) (es : List ℕ) → turned bar (map s es) ≡ cond (eqb (length es % 2) 1) (not bar) bar
 turned_odd s bar [] = refl
 turned_odd s bar (e ∷ []) = refl
 turned_odd s bar (e ∷ d ∷ es) =

@@ -1,5 +1,5 @@
 -- A symbol with its text above or below.
-use Rattle.std.specs.Prelude.{◌≡◌, ℕ, ◌+◌, ◌-◌, ◌*◌, ◌/◌, ◌%◌, ◌<◌, Bool, true, false, nat_lt, nat_le, ◌&&◌, max, List, length, slice_index, if◌then◌else◌}
+use Rattle.std.specs.Prelude.{◌≡◌, ℕ, ◌+◌, ◌-◌, ◌*◌, ◌/◌, ◌%◌, ◌<◌, Bool, true, false, nat_lt, nat_le, ◌&&◌, max, List, [], length, slice_index, if◌then◌else◌}
 use Rattle.std.proofs.lemmas.Bool.{and_parts, ltb-true}
 use Rattle.vp_glyph.specs.declared.Sheets.{Sheets}
 use Rattle.vp_glyph.specs.declared.cell.Font.{Font}
@@ -48,9 +48,14 @@ line_dot sheets font text x y = nat_lt x (line_width font text)
     && cell_dot sheets font plain (slice_index text (x / font_width font)) (x % font_width font) y
 
 -- no text asked for is no text
+abbrev pub text_at : HriPosition → List ℕ → List ℕ
+text_at None text = []
+text_at Above text = text
+text_at Below text = text
+text_at Both text = text
+
 abbrev pub text_width : Font → HriPosition → List ℕ → ℕ
-text_width font None text = 0
-text_width font _ text = line_width font text
+text_width font place text = line_width font (text_at place text)
 
 -- the box is as wide as the wider of bars and text, and as high as the bars and the texts
 abbrev pub box_width : Boxed → ℕ

@@ -10,6 +10,7 @@ pub mod Patterns
 pub mod Elements
 pub mod Symbologies
 pub mod Widths
+pub mod Regular
 pub mod Drawing
 pub mod Boxes
 pub mod InBox

@@ -32,13 +32,15 @@ pattern_of Code128 v = code128_pattern v
 -- the elements between two characters: a narrow gap in Code 39
 abbrev pub gap_of : Symbology → List ℕ
 gap_of Code39 = 0 ∷ []
-gap_of _ = []
+gap_of Ean13 = []
+gap_of Code128 = []
 
 -- how wide an element is in dots: Code 39 has narrow and wide ones, Code 128 and EAN-13 have them of one to
 -- four modules
 abbrev pub size_of : Symbology → ℕ → ℕ → ℕ → ℕ
 size_of Code39 narrow wide e = if e == 1 then wide else narrow
-size_of _ narrow wide e = e * narrow
+size_of Ean13 narrow wide e = e * narrow
+size_of Code128 narrow wide e = e * narrow
 
 abbrev pub text_of_values : Symbology → List ℕ → List ℕ
 text_of_values Code39 vs = characters vs

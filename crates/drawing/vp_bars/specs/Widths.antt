@@ -2,7 +2,7 @@
 use Rattle.std.specs.Prelude.{ℕ, ◌+◌, ◌-◌, ◌*◌, ◌==◌, Bool, true, false, not, List, [], ◌∷◌, ◌++◌, map, length, take, drop, nat_lt, if◌then◌else◌}
 use Rattle.std.specs.List.{flat_map}
 use Rattle.vp_bars.specs.declared.symbology.Symbology.{Symbology}
-use Rattle.vp_bars.specs.declared.symbology.Symbology.TheVariants.{Ean13}
+use Rattle.vp_bars.specs.declared.symbology.Symbology.TheVariants.{Code39, Ean13, Code128}
 use Rattle.vp_bars.specs.Symbols.{Linear}
 use Rattle.vp_bars.specs.Elements.{ean13_elements}
 use Rattle.vp_bars.specs.Patterns.{set_a, set_b, set_c, parity}
@@ -53,8 +53,9 @@ in_module module_width (m ∷ ms) x = if nat_lt x module_width then m == 1
 
 -- the widths of the bars and spaces of any symbol, a bar first
 abbrev pub bar_widths : Symbology → ℕ → ℕ → List ℕ → List ℕ
+bar_widths Code39 narrow wide vs = widths_of Code39 narrow wide vs
 bar_widths Ean13 narrow wide vs = sized Ean13 narrow wide (ean13_elements vs)
-bar_widths symbology narrow wide vs = widths_of symbology narrow wide vs
+bar_widths Code128 narrow wide vs = widths_of Code128 narrow wide vs
 
 -- widths together
 abbrev pub total : List ℕ → ℕ
@@ -63,13 +64,15 @@ total (w ∷ ws) = w + total ws
 
 -- how wide the bars of a symbol are
 abbrev pub width_of : Symbology → ℕ → ℕ → List ℕ → ℕ
+width_of Code39 narrow wide vs = total (widths_of Code39 narrow wide vs)
 width_of Ean13 narrow wide vs = length (ean13_modules vs) * narrow
-width_of symbology narrow wide vs = total (widths_of symbology narrow wide vs)
+width_of Code128 narrow wide vs = total (widths_of Code128 narrow wide vs)
 
 -- whether place x of a symbol is black
 abbrev pub black_of : Symbology → ℕ → ℕ → List ℕ → ℕ → Bool
+black_of Code39 narrow wide vs x = in_bar true (widths_of Code39 narrow wide vs) x
 black_of Ean13 narrow wide vs x = in_module narrow (ean13_modules vs) x
-black_of symbology narrow wide vs x = in_bar true (widths_of symbology narrow wide vs) x
+black_of Code128 narrow wide vs x = in_bar true (widths_of Code128 narrow wide vs) x
 
 abbrev pub bars_width : Linear → ℕ → ℕ → ℕ
 bars_width bars narrow wide = width_of bars.symbology narrow wide bars.values

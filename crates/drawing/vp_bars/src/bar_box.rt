@@ -5,16 +5,16 @@ ghost use Rattle.std.specs.Int.{w64};
 ghost use Rattle.vp_dots.specs.Dots.{shifted};
 ghost use Rattle.vp_dots.specs.Painting.{Painted};
 ghost use Rattle.vp_glyph.specs.Cells.{font_width, font_height, cell_dot, cell_width};
-ghost use Rattle.vp_bars.specs.Boxes.{Boxed, texts_above, texts_below, line_dot, line_width, text_width as width_of_text, box_width, box_height, text_row, bars_row, box_dot, box_inside};
+ghost use Rattle.vp_bars.specs.Boxes.{Boxed, texts_above, texts_below, text_at as text_of_place, line_dot, line_width, text_width as width_of_text, box_width, box_height, text_row, bars_row, box_dot, box_inside};
 ghost use Rattle.vp_bars.specs.Symbologies.{text_of};
 ghost use Rattle.vp_bars.specs.Widths.{bars_width as width_of_bars};
 
 use crate::Bars;
 use crate::pen::Pen;
-use crate::strokes::{Strokes, bars_width};
+use arrayvec::ArrayVec;
 use vp_bar_code::HriPosition;
 use vp_dots::{Ink, Op, dot_of, fill_moved};
-use vp_glyph::{Cell, Font, Sheets, Style};
+use vp_glyph::{Cell, Font, Sheets, Style, seen};
 
 /// The texts above the bars.
 fn above(place: HriPosition) -> u32
@@ -76,7 +76,7 @@ fn paint_cell(cell: &Cell<'_>, y: u32, left: u32, op: Op, at: i64, row: &mut [u8
     }
 }
 
-/// Paints row y of a text that stands `left` dots to the right.
+/// Paints row y of a text that stands `left` dots to the right: the cells that can be seen on the row.
 fn paint_line(
     sheets: &Sheets,
     font: Font,
@@ -91,10 +91,11 @@ fn paint_line(
     ensures { Painted op (shifted at (λ i. nat_le left i && line_dot sheets.now font text.now (i - left) y))
         row.old row.new }
 {
-    let mut x = left;
-    for c in text {
-        paint_cell(&sheets.cell(*c, font, PLAIN), y, x, op, at, row);
-        x += font.width();
+    let width = font.width();
+    let (from, to) = seen(at, left, width, text.len(), row.len());
+    for k in from..to {
+        let cell = sheets.cell(text[k], font, PLAIN);
+        paint_cell(&cell, y, left + width * k as u32, op, at, row);
     }
 }
 
@@ -107,7 +108,7 @@ fn back(x: u32) -> i64
 }
 
 /// A symbol with its text above or below.
-#[derive(Clone, Copy)]
+#[derive(Drop)]
 pub struct BarBox<'a> {
     /// The symbol, which has the text too.
     pub bars: &'a Bars,
@@ -123,23 +124,22 @@ pub struct BarBox<'a> {
     pub place: HriPosition,
     /// The dots of a row of the bars.
     pub bars_width: u32,
-    /// The dots of a row of the text, where one stands.
-    pub text_width: u32,
+    /// The text, where one stands.
+    pub text: ArrayVec<u8, 512>,
     ghost bars_are: { bars_width ≡ width_of_bars bars.now narrow wide },
     ghost bars_fit: { bars_width < 2 ^ 30 },
-    ghost text_is: { text_width ≡ width_of_text font place (text_of bars.now) },
-    ghost text_fits: { text_width < 2 ^ 30 },
+    ghost text_is: { text.items ≡ text_of_place place (text_of bars.now) },
+    ghost text_fits: { length text.items ≤ 512 },
 }
 
-/// How wide the text of a symbol is, where one stands.
-fn text_width(bars: &Bars, font: Font, place: HriPosition) -> u32
-    ensures width { result ≡ width_of_text font place (text_of bars.now) }
-    ensures small { result < 2 ^ 30 }
+/// The text of a symbol, where one stands.
+fn text_at(bars: &Bars, place: HriPosition) -> ArrayVec<u8, 512>
+    ensures text { result.items ≡ text_of_place place (text_of bars.now) }
+    ensures few { length result.items ≤ 512 }
 {
     match place {
-        HriPosition::None => 0,
-        HriPosition::Above | HriPosition::Below | HriPosition::Both => font.width()
-            * bars.text().len() as u32,
+        HriPosition::None => ArrayVec::new(),
+        HriPosition::Above | HriPosition::Below | HriPosition::Both => bars.text(),
     }
 }
 
@@ -168,8 +168,8 @@ impl Bars {
         ensures font { result.font ≡ font }
         ensures place { result.place ≡ place }
     {
-        let bars_width = bars_width(self.symbology(), self.symbols(), narrow, wide);
-        let text_width = text_width(self, font, place);
+        let bars_width = self.width(narrow, wide);
+        let text = text_at(self, place);
         BarBox {
             bars: self,
             narrow,
@@ -179,7 +179,7 @@ impl Bars {
             font,
             place,
             bars_width,
-            text_width,
+            text,
         }
     }
 }
@@ -197,18 +197,21 @@ pub fn rows_repeat(place: HriPosition, font: Font, height: u16, y: u32) -> bool
 impl BarBox<'_> {
     ghost use Rattle.vp_bars.specs.InBox.{boxed};
 
+    /// The dots of a row of the text, where one stands.
+    fn text_width(&self) -> u32
+        ensures width { result ≡ width_of_text self.now.font self.now.place (text_of self.now.bars.now) }
+        ensures small { result < 2 ^ 30 }
+    {
+        self.font.width() * self.text.len() as u32
+    }
+
     /// The dots of a row of the box.
     fn width(&self) -> u32
         ensures width { result ≡ box_width (boxed self.now) }
         ensures small { result < 2 ^ 30 }
         ensures bars { self.now.bars_width ≤ result }
     {
-        match self.place {
-            HriPosition::None => self.bars_width,
-            HriPosition::Above => self.bars_width.max(self.text_width),
-            HriPosition::Below => self.bars_width.max(self.text_width),
-            HriPosition::Both => self.bars_width.max(self.text_width),
-        }
+        self.bars_width.max(self.text_width())
     }
 
     /// The rows above the bars.
@@ -224,13 +227,8 @@ impl BarBox<'_> {
     fn paint_bars(&self, op: Op, at: i64, row: &mut [u8])
         ensures { Painted op (shifted at (bars_row (boxed self.now))) row.old row.new }
     {
-        let strokes = Strokes {
-            symbology: self.bars.symbology(),
-            values: self.bars.symbols(),
-            narrow: self.narrow,
-            wide: self.wide,
-        };
         let x = (self.width() - self.bars_width) / 2;
+        let strokes = self.bars.strokes(self.narrow, self.wide);
         strokes.draw_bars(Pen { x, bar: true }, op, at, row);
     }
 
@@ -239,12 +237,11 @@ impl BarBox<'_> {
         requires { 0 < texts_above self.now.place + texts_below self.now.place }
         ensures { Painted op (shifted at (text_row (boxed self.now) y)) row.old row.new }
     {
-        let text = self.bars.text();
-        let left = self.width().saturating_sub(self.text_width) / 2;
+        let left = self.width().saturating_sub(self.text_width()) / 2;
         paint_line(
             self.sheets,
             self.font,
-            text.as_slice(),
+            self.text.as_slice(),
             y,
             left,
             op,

@@ -1,37 +1,49 @@
 //! A symbol: the values of its characters.
 
-ghost use Rattle.std.specs.Prelude.{◌≡◌, ◌+◌, ◌≤◌, ◌++◌, length, Result, OnOk, IfErr};
+ghost use Rattle.std.specs.Prelude.{◌≡◌, ◌+◌, ◌≤◌, ◌<◌, ◌^◌, ◌++◌, length, Result, OnOk, IfErr};
 ghost use Rattle.vp_dots.specs.declared.fault.Fault.{Fault};
 ghost use Rattle.vp_bars.specs.Symbols.{Linear, within_length};
 
-use crate::symbology::{Symbology, text_of as text_in};
+use crate::pen::Pen;
+use crate::strokes::Strokes;
+use crate::symbology::{Symbology, regular, text_of as text_in};
 use arrayvec::ArrayVec;
 use std::marker::Model;
-use vp_dots::{Fault, Why};
+use vp_dots::{Fault, Op, Why};
 
 /// A linear symbol: the values of its characters, at most 258, of 0 to 106.
 #[derive(Drop)]
 pub struct Bars {
     symbology: Symbology,
     values: ArrayVec<u8, 258>,
+    regular: usize,
 }
 
 impl Model for Bars {
+    ghost use Rattle.vp_bars.specs.Regular.{AreRegular};
     ghost use Rattle.vp_bars.specs.Symbols.{Linear};
 
     ghost Value = { Linear };
 
     ghost view = { λ b. record { symbology = b.symbology; values = b.values.items } };
+
+    ghost invariant = { λ b. AreRegular b.symbology b.regular b.values.items };
 }
 
 impl Bars {
     ghost use Rattle.vp_bars.specs.Symbologies.{text_of};
+    ghost use Rattle.vp_bars.specs.Widths.{bars_width};
 
     /// The symbol of these values.
     pub(crate) fn new(symbology: Symbology, values: ArrayVec<u8, 258>) -> Self
         ensures { result ≡ record { symbology = symbology; values = values.items } }
     {
-        Bars { symbology, values }
+        let regular = regular(symbology, values.as_slice());
+        Bars {
+            symbology,
+            values,
+            regular,
+        }
     }
 
     /// The kind of symbol.
@@ -48,6 +60,38 @@ impl Bars {
         ensures most { length result.now ≤ 258 }
     {
         self.values.as_slice()
+    }
+
+    /// Its bars, with narrow and wide elements of so many dots.
+    pub(crate) fn strokes(&self, narrow: u16, wide: u16) -> Strokes<'_>
+        ensures symbology { result.symbology ≡ self.now.symbology }
+        ensures values { result.values.now ≡ self.now.values }
+        ensures few { length self.now.values ≤ 258 }
+        ensures narrow { result.narrow ≡ narrow }
+        ensures wide { result.wide ≡ wide }
+    {
+        Strokes {
+            symbology: self.symbology,
+            values: self.values.as_slice(),
+            regular: self.regular,
+            narrow,
+            wide,
+        }
+    }
+
+    /// How wide its bars are.
+    pub(crate) fn width(&self, narrow: u16, wide: u16) -> u32
+        ensures width { result ≡ bars_width self.now narrow wide }
+        ensures small { result < 2 ^ 30 }
+    {
+        let strokes = self.strokes(narrow, wide);
+        match self.symbology {
+            Symbology::Ean13 => {
+                let pen = Pen { x: 0, bar: true };
+                strokes.draw_bars(pen, Op::Black, 0, &mut []).x
+            }
+            Symbology::Code39 | Symbology::Code128 => strokes.characters_width(),
+        }
     }
 
     /// Its text, a byte a character: data and check of Code 39 without the stars, the thirteen digits of

@@ -3,6 +3,8 @@
 ghost use Rattle.std.specs.Prelude.{◌≡◌, ℕ, ◌+◌, ◌<◌, ◌≤◌, ◌^◌, ◌++◌, Bool, true, false, List, length, take, flat_map};
 ghost use Rattle.vp_bars.specs.Symbologies.{pattern_of as pattern_for, size_of as size_for};
 ghost use Rattle.vp_bars.specs.Widths.{sized, next_widths, widths_of, bar_widths, width_of, total, in_bar};
+ghost use Rattle.std.specs.List.{All};
+ghost use Rattle.vp_bars.specs.Regular.{IsRegular, AreRegular, step_of};
 ghost use Rattle.vp_bars.specs.Elements.{left_elements, ean13_elements};
 ghost use Rattle.vp_bars.specs.declared.symbology.Symbology.TheVariants.{Ean13};
 ghost use Rattle.vp_bars.specs.Drawing.{Draws, turned};
@@ -11,8 +13,9 @@ ghost use Rattle.vp_dots.specs.Words.{word_dot};
 
 use crate::patterns::{left_digit, parity};
 use crate::pen::Pen;
-use crate::symbology::{Symbology, gap_of, pattern_of, size_of};
+use crate::symbology::{Symbology, gap_of, is_regular, pattern_of, regular_width, size_of};
 use vp_dots::{Op, paint_word};
+use vp_glyph::seen;
 
 /// The guards of EAN-13, in modules.
 static GUARD: [u8; 3] = [1, 1, 1];
@@ -25,8 +28,12 @@ static CENTRE: [u8; 5] = [1, 1, 1, 1, 1];
 pub(crate) struct Strokes<'a> {
     pub symbology: Symbology,
     pub values: &'a [u8],
+    /// How many of them are regular, from the first on.
+    pub regular: usize,
     pub narrow: u16,
     pub wide: u16,
+    ghost regular_are: { AreRegular symbology regular values.now },
+    ghost few: { length values.now ≤ 258 },
 }
 
 /// Whether a row ends before a place.
@@ -56,17 +63,29 @@ impl Strokes<'_> {
         width
     }
 
-    /// How wide a character is: of Code 128 all but the stop have eleven modules.
+    /// How wide a regular character is with the gap before it.
+    fn step(&self) -> u32
+        ensures step { result ≡ step_of self.now.symbology self.now.narrow self.now.wide }
+        ensures small { result < 2 ^ 21 }
+    {
+        let gap = match self.symbology {
+            Symbology::Code39 => u32::from(self.narrow),
+            Symbology::Ean13 | Symbology::Code128 => 0,
+        };
+        gap + regular_width(self.symbology, self.narrow, self.wide)
+    }
+
+    /// How wide a character is.
     fn character_width(&self, v: u8) -> u32
         requires { total (sized self.now.symbology self.now.narrow self.now.wide
             (pattern_for self.now.symbology v)) < 2 ^ 32 }
         ensures { result ≡ total (sized self.now.symbology self.now.narrow self.now.wide
             (pattern_for self.now.symbology v)) }
     {
-        match self.symbology {
-            Symbology::Code128 if v < 106 => 11 * u32::from(self.narrow),
-            _ => self.width(pattern_of(self.symbology, v)),
+        if is_regular(self.symbology, v) {
+            return regular_width(self.symbology, self.narrow, self.wide);
         }
+        self.width(pattern_of(self.symbology, v))
     }
 
     /// How wide characters are, each behind another.
@@ -85,7 +104,7 @@ impl Strokes<'_> {
     }
 
     /// How wide the values are, one after the other.
-    fn characters_width(&self) -> u32
+    pub fn characters_width(&self) -> u32
         requires { total (widths_of self.now.symbology self.now.narrow self.now.wide self.now.values.now)
             < 2 ^ 32 }
         ensures { result ≡ total (widths_of self.now.symbology self.now.narrow self.now.wide
@@ -94,7 +113,8 @@ impl Strokes<'_> {
         let Some((first, others)) = self.values.split_first() else {
             return 0;
         };
-        self.character_width(*first) + self.next_width(others)
+        let (regular, last) = others.split_at(self.regular.saturating_sub(1));
+        self.character_width(*first) + self.step() * regular.len() as u32 + self.next_width(last)
     }
 
     /// The pen behind elements.
@@ -194,6 +214,32 @@ impl Strokes<'_> {
         pen
     }
 
+    /// Draws regular characters, each behind another: those that can be seen on the row. It gives the pen
+    /// behind them all.
+    fn draw_regular(&self, values: &[u8], pen: Pen, op: Op, at: i64, row: &mut [u8]) -> Pen
+        requires regular { All (IsRegular self.now.symbology) values.now }
+        requires room { pen.x + total (flat_map
+            (next_widths self.now.symbology self.now.narrow self.now.wide) values.now) < 2 ^ 32 }
+        ensures { Draws op at row.old row.new pen result
+            (flat_map (next_widths self.now.symbology self.now.narrow self.now.wide) values.now) }
+    {
+        let step = self.step();
+        if step == 0 {
+            return self.draw_next(values, pen, op, at, row);
+        }
+        let (from, to) = seen(at, pen.x, step, values.len(), row.len());
+        let to = to.max(from);
+        let first = Pen {
+            x: pen.x + step * from as u32,
+            bar: pen.bar,
+        };
+        let last = self.draw_next(&values[from..to], first, op, at, row);
+        Pen {
+            x: pen.x + step * values.len() as u32,
+            bar: last.bar,
+        }
+    }
+
     /// Draws the values one after the other, and gives the pen behind them.
     fn draw_characters(&self, pen: Pen, op: Op, at: i64, row: &mut [u8]) -> Pen
         requires { pen.x + total (widths_of self.now.symbology self.now.narrow self.now.wide
@@ -204,8 +250,10 @@ impl Strokes<'_> {
         let Some((first, others)) = self.values.split_first() else {
             return pen;
         };
+        let (regular, last) = others.split_at(self.regular.saturating_sub(1));
         let first = self.draw(pattern_of(self.symbology, *first), pen, op, at, row);
-        self.draw_next(others, first, op, at, row)
+        let next = self.draw_regular(regular, first, op, at, row);
+        self.draw_next(last, next, op, at, row)
     }
 
     /// Draws the left digits of EAN-13 in their sets, and gives the pen behind them.
@@ -258,29 +306,7 @@ impl Strokes<'_> {
     {
         match self.symbology {
             Symbology::Ean13 => self.draw_digits(pen, op, at, row),
-            _ => self.draw_characters(pen, op, at, row),
+            Symbology::Code39 | Symbology::Code128 => self.draw_characters(pen, op, at, row),
         }
-    }
-}
-
-/// How wide the bars of a symbol are.
-#[tactic(auto, using(crate::proofs::Bounds::narrow_bars, crate::proofs::Bounds::width_is))]
-pub(crate) fn bars_width(symbology: Symbology, values: &[u8], narrow: u16, wide: u16) -> u32
-    requires { length values.now ≤ 258 }
-    ensures width { result ≡ width_of symbology narrow wide values.now }
-    ensures small { result < 2 ^ 30 }
-{
-    let strokes = Strokes {
-        symbology,
-        values,
-        narrow,
-        wide,
-    };
-    match symbology {
-        Symbology::Ean13 => {
-            let pen = Pen { x: 0, bar: true };
-            strokes.draw_bars(pen, Op::Black, 0, &mut []).x
-        }
-        _ => strokes.characters_width(),
     }
 }

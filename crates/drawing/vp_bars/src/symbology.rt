@@ -1,6 +1,7 @@
 //! The kinds of symbols, and all in which one is drawn otherwise than another.
 
-ghost use Rattle.std.specs.Prelude.{◌≡◌, ◌≤◌, length};
+ghost use Rattle.std.specs.Prelude.{◌≡◌, ◌≤◌, ◌^◌, ◌<◌, length};
+ghost use Rattle.vp_bars.specs.Regular.{is_regular as is_regular_in, regular_width as width_of_regular, AreRegular};
 ghost use Rattle.vp_bars.specs.Symbologies.{symbol_of, pattern_of as pattern_for, gap_of as gap_for, size_of as size_for, text_of_values};
 
 use crate::bars::Bars;
@@ -62,7 +63,7 @@ pub(crate) fn gap_of(symbology: Symbology) -> &'static [u8]
 {
     match symbology {
         Symbology::Code39 => &[0],
-        _ => &[],
+        Symbology::Ean13 | Symbology::Code128 => &[],
     }
 }
 
@@ -75,6 +76,42 @@ pub(crate) fn size_of(symbology: Symbology, narrow: u16, wide: u16, element: u8)
         Symbology::Code39 if element == 1 => u32::from(wide),
         Symbology::Code39 => u32::from(narrow),
         Symbology::Ean13 | Symbology::Code128 => u32::from(element) * u32::from(narrow),
+    }
+}
+
+/// Whether a character is as wide as all that its symbology has, but for the stop of Code 128.
+pub(crate) fn is_regular(symbology: Symbology, v: u8) -> bool
+    ensures { result ≡ is_regular_in symbology v }
+{
+    match symbology {
+        Symbology::Code39 => v < 44,
+        Symbology::Ean13 => v < 10,
+        Symbology::Code128 => v < 106,
+    }
+}
+
+/// How many characters are so, from the first on.
+pub(crate) fn regular(symbology: Symbology, values: &[u8]) -> usize
+    ensures { AreRegular symbology result values.now }
+{
+    for (i, v) in values.iter().enumerate() {
+        if !is_regular(symbology, *v) {
+            return i;
+        }
+    }
+    values.len()
+}
+
+/// How wide each of them is.
+pub(crate) fn regular_width(symbology: Symbology, narrow: u16, wide: u16) -> u32
+    ensures width { result ≡ width_of_regular symbology narrow wide }
+    ensures small { result < 2 ^ 20 }
+{
+    let (narrow, wide) = (u32::from(narrow), u32::from(wide));
+    match symbology {
+        Symbology::Code39 => 6 * narrow + 3 * wide,
+        Symbology::Ean13 => 7 * narrow,
+        Symbology::Code128 => 11 * narrow,
     }
 }
 

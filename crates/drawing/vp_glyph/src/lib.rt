@@ -7,7 +7,8 @@
 //!
 //! - `header`, `sheet`: the file and its refusals, and the dots of its cells.
 //! - `cell`, `look`: a character in a font and a style, dot by dot and as the words of its rows.
-//! - `sampled`, `stretch`: a character at any size, and the dots of its rows as a word.
+//! - `sampled`, `stretch`: a character at any size, which of several side by side can be seen on a row, and
+//!   the dots of its rows as a word.
 //! - `text`: characters side by side.
 //! - `lines`, `block`, `fronts`: a text broken into lines, the lines below each other, and many of their rows
 //!   at once.
@@ -31,7 +32,7 @@ pub use block::{Alignment, Block};
 pub use cell::{Cell, Font, Style};
 pub use header::header_law;
 pub use lines::lines_law;
-pub use sampled::Sampled;
+pub use sampled::{Sampled, seen};
 pub use sheet::{Sheet, SheetError};
 pub use stretch::Stretch;
 pub use text::paint_text;

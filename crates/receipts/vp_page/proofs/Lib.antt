@@ -4,7 +4,6 @@ pub mod WordsOnRows
 pub mod Falling
 pub mod Lanes
 pub mod Lines
-pub mod Eights
 pub mod Marks
 pub mod Pages
 pub mod Squares

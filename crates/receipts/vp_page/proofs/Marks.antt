@@ -1,13 +1,15 @@
 -- Lines laid across an area, as a mark.
-use Rattle.std.proofs.Common.{inl, inr, ◌≡◌, ℕ, ◌+◌, ◌-◌, ◌<◌, ◌≤◌, Bool, false, ltb, leb, ◌&&◌, refl, sym, ap, ◌∙◌, arith, List, [], length, get_or}
-use Rattle.std.proofs.lemmas.Bool.{cases_lt, lt-ltb, le-ltb, lt-leb, le-leb}
+use Rattle.std.proofs.Common.{inl, inr, ◌≡◌, ℕ, ◌+◌, ◌-◌, ◌<◌, ◌≤◌, Bool, true, false, min, ltb, leb, ◌&&◌, refl, sym, ap, ◌∙◌, arith, List, [], length, get_or, take}
+use Rattle.std.proofs.lemmas.Bool.{cases_lt, lt-ltb, le-ltb, lt-leb, le-leb, true≢false, false_from_ne_true}
 use Rattle.vp_dots.specs.Dots.{dot}
 use Rattle.vp_page.specs.declared.area.Area.{Area}
 use Rattle.vp_page.specs.declared.area.Direction.TheVariants.{BottomToTop, TopToBottom}
 use Rattle.vp_page.specs.Areas.{holds}
 use Rattle.vp_page.specs.Layers.{mark_dot, lines_mark}
 use Rattle.vp_page.proofs.Rows.{dot_past}
-use Rattle.vp_page.proofs.Squares.{and_false}
+use Rattle.vp_page.proofs.Squares.{and_false, no_line}
+use Rattle.vp_page.specs.Lines.{line_dot}
+use Rattle.std.proofs.lemmas.List.{get_or-take, length-take}
 
 pub past_line : (line : List ℕ) (u : ℕ) → length line ≤ 208 → dot line u ≡ (ltb u 1664 && dot line u)
 past_line line u short = elim (cases_lt u 1664) [
@@ -18,6 +20,51 @@ past_line line u short = elim (cases_lt u 1664) [
 -- one of the lines
 pub line_in_mark : (lines : List (List ℕ)) (i u : ℕ) → i < 64 → length (get_or lines i []) ≤ 208 → dot (get_or lines i []) u ≡ (ltb i 64 && (ltb u 1664 && dot (get_or lines i []) u))
 line_in_mark lines i u h short = rw (lt-ltb i 64 h) (past_line (get_or lines i []) u short)
+
+-- the first lines
+pub shown_line : (lines : List (List ℕ)) (n i u : ℕ) → line_dot (take n lines) i u ≡ (ltb i n && line_dot lines i u)
+shown_line lines n i u = elim (cases_lt i n) [
+  | inl l ↦ rw (lt-ltb i n l) (ap (λ (r : List ℕ). ltb u 1664 && dot r u) (get_or-take n lines i [] l))
+  | inr g ↦ rw (le-ltb i n g) (no_line (take n lines) i u (omega (arith, length-take n lines)))
+]
+
+-- as many lines as there are and have room
+pub shown_lines : (lines : List (List ℕ)) (n room i u : ℕ) → n ≡ min (length lines) room → line_dot (take n lines) i u ≡ (ltb i room && line_dot lines i u)
+shown_lines lines n room i u e = shown_line lines n i u ∙ elim (cases_lt i (length lines)) [
+  | inl l ↦ elim (cases_lt i room) [
+    | inl m ↦ rw (lt-ltb i n (omega arith), lt-ltb i room m) refl
+    | inr g ↦ rw (le-ltb i n (omega arith), le-ltb i room g) refl
+  ]
+  | inr g ↦ rw (no_line lines i u g, and_false (ltb i n)) (sym (and_false (ltb i room)))
+]
+
+pub shown_white : (lines : List (List ℕ)) (n i u : ℕ) → line_dot lines i u ≡ false → line_dot (take n lines) i u ≡ false
+shown_white lines n i u e = shown_line lines n i u ∙ ap (λ b. ltb i n && b) e ∙ and_false (ltb i n)
+
+-- a dot is on one of the lines
+pub line_there : (lines : List (List ℕ)) (i u n : ℕ) → length lines ≤ n → (ltb i 64 && line_dot lines i u) ≡ true → i < n
+line_there lines i u n h e = elim (cases_lt i n) [
+  | inl l ↦ l
+  | inr g ↦ absurd (true≢false (sym e ∙ ap (λ b. ltb i 64 && b) (no_line lines i u (omega arith)) ∙ and_false (ltb i 64)))
+]
+
+-- lines of ink
+module _ (lines : List (List ℕ)) (ink : ℕ → ℕ → Bool) (from width i u : ℕ) (dots : (k x : ℕ) → k < length lines → dot (get_or lines k []) x ≡ ink x (from + k))
+    (outside : (x y : ℕ) → ink x y ≡ true → x < width) where
+  none_past : width ≤ u → (y : ℕ) → ink u y ≡ false
+  none_past h y = false_from_ne_true (ink u y) (λ t. absurd (let l = outside u y t in omega arith))
+
+  pub ink_white : width ≤ u → line_dot lines i u ≡ false
+  ink_white h = elim (cases_lt i (length lines)) [
+    | inl l ↦ ap (λ b. ltb u 1664 && b) (dots i u l ∙ none_past h (from + i)) ∙ and_false (ltb u 1664)
+    | inr g ↦ no_line lines i u g
+  ]
+
+  pub ink_line : width ≤ 1664 → i < length lines → line_dot lines i u ≡ ink u (from + i)
+  ink_line h l = elim (cases_lt u 1664) [
+    | inl m ↦ rw (lt-ltb u 1664 m) (dots i u l)
+    | inr g ↦ rw (le-ltb u 1664 g) (sym (none_past (omega arith) (from + i)))
+  ]
 
 nowhere : (p q : Bool) → (p && (q && false)) ≡ false
 nowhere p q = ap (λ b. p && b) (and_false q) ∙ and_false p

@@ -1,17 +1,19 @@
 -- Layers, and what is painted for them.
-use Rattle.std.proofs.Common.{inl, inr, ◌≡◌, ℕ, ◌+◌, ◌-◌, ◌<◌, Bool, true, false, not, cond, ltb, leb, eqb, ◌&&◌, ◌||◌, refl, sym, ap, ◌∙◌, arith, List, [], ◌∷◌, get_or}
-use Rattle.std.proofs.lemmas.Bool.{cases_eq}
+use Rattle.std.proofs.Common.{inl, inr, ◌≡◌, ℕ, ◌+◌, ◌-◌, ◌<◌, ◌≤◌, Bool, true, false, not, cond, ltb, leb, eqb, ◌&&◌, ◌||◌, refl, sym, ap, ◌∙◌, arith, List, [], ◌∷◌, length, get_or}
+use Rattle.std.proofs.lemmas.Bool.{cases_eq, cases_lt}
 use Rattle.std.proofs.lemmas.Bool.Decides.{nat_tests}
 use Rattle.vp_page.specs.declared.page.TheConstants.{PAGE_ROWS, PAPER_DOTS}
 use Rattle.vp_dots.specs.Dots.{dot}
 use Rattle.vp_dots.specs.Places.{RowsPainted}
 use Rattle.vp_dots.specs.declared.Op.TheVariants.{Black, White}
 use Rattle.vp_page.specs.declared.area.Area.{Area}
-use Rattle.vp_page.specs.Areas.{holds, depth, along, down}
-use Rattle.vp_page.specs.Layers.{Layer, Laid, Wiped, Mark, mark_dot, page_dot, first_rows}
+use Rattle.vp_page.specs.Areas.{holds, line_length, depth, along, down}
+use Rattle.vp_page.specs.Layers.{Layer, Laid, Wiped, Mark, mark_dot, page_dot, first_rows, lines_mark}
+use Rattle.vp_page.specs.Lines.{line_dot}
 use Rattle.vp_page.specs.Pages.{HasPage}
 use Rattle.vp_page.specs.Laws.{RowsMakeAnImage}
 use Rattle.vp_page.proofs.Falling.{lies, within}
+use Rattle.vp_page.proofs.Squares.{no_line}
 
 black_or : (i o : Bool) → cond i true o ≡ (i || o)
 black_or true o = refl
@@ -68,3 +70,27 @@ rows_make_an_image = record {
   all = λ m n layers page e h. same_page _ _ page (λ x y. ap (λ b. b || page_dot layers x y) (enough (holds m.area x y) (down m.area m.direction x y) m.top n (depth m.area m.direction) (m.dot (along m.area m.direction x y) (down m.area m.direction x y - m.top))
       (λ t. (lies m.area m.direction x y (within m.area x y t)).in_depth) (e (along m.area m.direction x y) (down m.area m.direction x y - m.top)))) h;
 }
+
+more_rows : (h q b p : Bool) (w top k n : ℕ) → n ≤ 64 → (h ≡ true → top + k ≤ w → w - (top + k) < n → q ≡ b) → (n ≤ w - (top + k) → q ≡ false)
+    → (h && (leb (top + k) w && (ltb (w - (top + k)) 64 && q)) || (h && (leb top w && (ltb (w - top) k && b)) || p))
+    ≡ (h && (leb top w && (ltb (w - top) (k + n) && b)) || p)
+more_rows false q b p w top k n few same none = refl
+more_rows true q b p w top k n few same none = elim (cases_lt w (top + k)) [
+  | inl l ↦ grind (arith, nat_tests)
+  | inr g ↦ elim (cases_lt (w - (top + k)) n) [
+    | inl m ↦ (let e : q ≡ b = same refl g m in grind (arith, nat_tests))
+    | inr o ↦ (let e : q ≡ false = none o in grind (arith, nat_tests))
+  ]
+]
+
+-- lines that are laid at once below the first k rows of a mark
+pub lines_more : (m : Mark) (k n : ℕ) (lines : List (List ℕ)) (layers : List Layer) (page : List (List ℕ)) → n ≤ 64 → length lines ≤ n
+    → ((u w : ℕ) → u < line_length m.area m.direction → w < n → line_dot lines w u ≡ m.dot u (k + w))
+    → HasPage (Laid (lines_mark m.area m.direction (m.top + k) lines) ∷ Laid (first_rows k m) ∷ layers) page
+    → HasPage (Laid (first_rows (k + n) m) ∷ layers) page
+lines_more m k n lines layers page few short same has = same_page _ _ page (λ x y.
+    let u = along m.area m.direction x y in
+    let w = down m.area m.direction x y in
+    more_rows (holds m.area x y) (line_dot lines (w - (m.top + k)) u) (m.dot u (w - m.top)) (page_dot layers x y) w m.top k n few
+    (λ t g l. same u (w - (m.top + k)) (lies m.area m.direction x y (within m.area x y t)).in_line l ∙ ap (m.dot u) (omega arith))
+    (λ g. no_line lines (w - (m.top + k)) u (omega arith))) has

@@ -1,6 +1,5 @@
 -- Words painted on rows of the page.
-use Rattle.std.proofs.Common.{inl, inr, ◌≡◌, ℕ, ◌+◌, ◌-◌, ◌*◌, ◌/◌, ◌%◌, ◌^◌, ◌<◌, ◌≤◌, Bool, true, false, cond, eqb, ltb, leb, ◌&&◌, ◌||◌, refl, sym, ap, ◌∙◌, arith, List, bit_or, length, get_or, set}
-use Rattle.std.specs.Int.{to_be_bytes, w64}
+use Rattle.std.proofs.Common.{inl, inr, ◌≡◌, ℕ, ◌+◌, ◌-◌, ◌*◌, ◌/◌, ◌%◌, ◌^◌, ◌<◌, ◌≤◌, Bool, true, false, cond, eqb, ltb, leb, ◌&&◌, ◌||◌, refl, sym, ap, ◌∙◌, arith, List, bit_and, bit_or, length, get_or, set}
 use lib.Lanes.{zip2, chunk, put_chunk}
 use Rattle.std.proofs.lemmas.Simd.{get_or-zip2, get_or-chunk, length-zip2, length-chunk}
 use Rattle.std.proofs.lemmas.Bool.{cases_lt, lt-ltb, le-ltb, lt-leb, le-leb}
@@ -12,33 +11,14 @@ use Rattle.vp_dots.specs.declared.Op.TheVariants.{Black}
 use Rattle.vp_dots.proofs.Bits.{bit_of_or}
 use Rattle.vp_dots.proofs.Blocks.{painted_block}
 use Rattle.vp_dots.proofs.Paints.{painted_same, painted_byte_at}
-use Rattle.vp_dots.proofs.Words.{or_false, and_false, bit_shl, word_byte, word_shr}
+use Rattle.vp_dots.proofs.Words.{or_false, and_false, and_true, bit_shl, word_shr}
+use Rattle.vp_dots.proofs.Spans.{bit_of_and}
 use Rattle.vp_dots.proofs.Cuts.{bit_low64}
 use Rattle.vp_dots.proofs.Rows.{dot_at}
 use Rattle.vp_page.proofs.Rows.{dot_past}
 
-module _ (word i : ℕ) (row : List ℕ) (room : i + 8 ≤ length row) where
-  lane : (j k : ℕ) → j < 8 → k < 8
-      → bit (get_or (zip2 bit_or (chunk i 8 row) (to_be_bytes w64 word)) j 0) k ≡ cond (leb (8 * i) (8 * (i + j) + (7 - k)) && word_dot word (8 * (i + j) + (7 - k) - 8 * i)) true (bit (get_or row (i + j) 0) k)
-  lane j k p h =
-      let place : 8 * (i + j) + (7 - k) - 8 * i ≡ 8 * j + (7 - k) = omega arith in
-      let ink : (leb (8 * i) (8 * (i + j) + (7 - k)) && word_dot word (8 * (i + j) + (7 - k) - 8 * i)) ≡ bit word (63 - (8 * j + (7 - k))) =
-      rw (le-leb (8 * i) (8 * (i + j) + (7 - k)) (omega arith), place, lt-ltb (8 * j + (7 - k)) 64 (omega arith)) refl in
-      ap (λ x. bit x k) (get_or-zip2 bit_or (chunk i 8 row) (to_be_bytes w64 word) j 0 0 0 (omega (arith, length-chunk i 8 row room)) p
-      ∙ ap (λ x. bit_or x (get_or (to_be_bytes w64 word) j 0)) (get_or-chunk i 8 row j 0 p))
-      ∙ bit_of_or (get_or row (i + j) 0) (get_or (to_be_bytes w64 word) j 0) k
-      ∙ ap (λ b. cond b true (bit (get_or row (i + j) 0) k)) (word_byte word j k p h ∙ sym ink)
-
-  spanned : (d : ℕ) (b : Bool) → (span i (i + 8) (d / 8) && (leb (8 * i) d && (ltb (d - 8 * i) 64 && b))) ≡ (leb (8 * i) d && (ltb (d - 8 * i) 64 && b))
-  spanned d b = grind (arith, nat_tests)
-
-  long : length (zip2 bit_or (chunk i 8 row) (to_be_bytes w64 word)) ≡ 8
-  long = length-zip2 bit_or (chunk i 8 row) (to_be_bytes w64 word) (length-chunk i 8 row room) ∙ length-chunk i 8 row room
-
-  -- eight bytes with a word on them
-  pub eight_painted : (bytes : List ℕ) → bytes ≡ to_be_bytes w64 word → Painted Black (λ d. leb (8 * i) d && word_dot word (d - 8 * i)) row (put_chunk i row (zip2 bit_or (chunk i 8 row) bytes))
-  eight_painted bytes e = rw e (painted_same Black _ _ _ _ (λ d l. spanned d (bit word (63 - (d - 8 * i))))
-      (painted_block Black (λ d. leb (8 * i) d && word_dot word (d - 8 * i)) i 8 row _ long room (λ j l k m. lane j k l m)))
+spanned : (i d : ℕ) (b : Bool) → (span i (i + 8) (d / 8) && (leb (8 * i) d && (ltb (d - 8 * i) 64 && b))) ≡ (leb (8 * i) d && (ltb (d - 8 * i) 64 && b))
+spanned i d b = grind (arith, nat_tests)
 
 -- a byte with a mask on it
 pub byte_painted : (mask i : ℕ) (row : List ℕ) → i < length row → Painted Black (λ d. eqb (d / 8) i && bit mask (7 - d % 8)) row (set row i (bit_or (get_or row i 0) mask))
@@ -66,6 +46,25 @@ first_eight word far d = rw (le-leb 0 d (omega arith), (let e : d - 0 ≡ d = om
   | inr g ↦ rw (le-ltb d 64 g, le-ltb (d + far) 64 (omega arith)) refl
 ])
 
+-- half a word, from one of its dots on
+pub half_dot : (word mask skip x : ℕ) → ((d : ℕ) → word_dot mask d ≡ ltb d 32) → word_dot (bit_and (word * 2 ^ skip % 2 ^ 64) mask) x ≡ (ltb x 32 && word_dot word (x + skip))
+half_dot word mask skip x left = elim (cases_lt x 64) [
+  | inl l ↦ rw (lt-ltb x 64 l) (bit_of_and (word * 2 ^ skip % 2 ^ 64) mask (63 - x) ∙ elim (cases_lt x 32) [
+    | inl m ↦ rw (lt-ltb x 32 m) (ap (λ b. bit (word * 2 ^ skip % 2 ^ 64) (63 - x) && b) (masked m) ∙ and_true _ ∙ moved l)
+    | inr g ↦ rw (le-ltb x 32 g) (ap (λ b. bit (word * 2 ^ skip % 2 ^ 64) (63 - x) && b) (unmasked g l) ∙ and_false _)
+  ])
+  | inr g ↦ rw (le-ltb x 64 g, le-ltb x 32 (omega arith)) refl
+]
+  where
+    masked : x < 32 → bit mask (63 - x) ≡ true
+    masked m = rw (lt-ltb x 64 (omega arith), lt-ltb x 32 m) at (left x)
+
+    unmasked : 32 ≤ x → x < 64 → bit mask (63 - x) ≡ false
+    unmasked g l = rw (lt-ltb x 64 l, le-ltb x 32 g) at (left x)
+
+    moved : x < 64 → bit (word * 2 ^ skip % 2 ^ 64) (63 - x) ≡ word_dot word (x + skip)
+    moved l = rw (le-leb 0 x (omega arith), (let e : x - 0 ≡ x = omega arith in e), lt-ltb x 64 l) at (first_eight word skip x)
+
 module _ (line : List ℕ) (j i : ℕ) (row : List ℕ) (there : j + 8 ≤ length line) (room : i + 8 ≤ length row) where
   byte_lane : (n k : ℕ) → n < 8 → k < 8
       → bit (get_or (zip2 bit_or (chunk i 8 row) (chunk j 8 line)) n 0) k ≡ cond (leb (8 * i) (8 * (i + n) + (7 - k)) && (ltb (8 * (i + n) + (7 - k) - 8 * i) 64 && dot line (8 * j + (8 * (i + n) + (7 - k) - 8 * i)))) true (bit (get_or row (i + n) 0) k)
@@ -84,7 +83,7 @@ module _ (line : List ℕ) (j i : ℕ) (row : List ℕ) (there : j + 8 ≤ lengt
 
   -- eight bytes with eight bytes of a line on them
   pub bytes_painted : Painted Black (λ d. leb (8 * i) d && (ltb (d - 8 * i) 64 && dot line (8 * j + (d - 8 * i)))) row (put_chunk i row (zip2 bit_or (chunk i 8 row) (chunk j 8 line)))
-  bytes_painted = painted_same Black _ _ _ _ (λ d l. spanned 0 i row room d (dot line (8 * j + (d - 8 * i))))
+  bytes_painted = painted_same Black _ _ _ _ (λ d l. spanned i d (dot line (8 * j + (d - 8 * i))))
       (painted_block Black (λ d. leb (8 * i) d && (ltb (d - 8 * i) 64 && dot line (8 * j + (d - 8 * i)))) i 8 row _ bytes_long room (λ n l k m. byte_lane n k l m))
 
 module _ (line : List ℕ) (q k d : ℕ) where

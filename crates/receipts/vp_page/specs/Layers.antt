@@ -36,15 +36,6 @@ page_dot (Wiped a ∷ before) x y = not (holds a x y) && page_dot before x y
 abbrev pub row_mark : Area → Direction → ℕ → (ℕ → Bool) → Mark
 row_mark a d v row = record { area = a; direction = d; top = v; dot = λ u w. nat_eq w 0 && row u }
 
--- eight rows no longer than the longest line, laid one below the other from a depth of the area on
-abbrev pub eight_mark : Area → Direction → ℕ → List (List ℕ) → Mark
-eight_mark a d v rows = record {
-  area = a;
-  direction = d;
-  top = v;
-  dot = λ u w. nat_lt w 8 && (nat_lt u LINE_DOTS && dot (slice_index_or rows w []) u);
-}
-
 -- as many rows as are laid at once, no longer than the longest line, one below the other from a depth of the
 -- area on
 abbrev pub lines_mark : Area → Direction → ℕ → List (List ℕ) → Mark

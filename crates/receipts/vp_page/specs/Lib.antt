@@ -1,4 +1,5 @@
 pub mod Areas
+pub mod Lines
 pub mod Layers
 pub mod Pages
 pub mod Laws

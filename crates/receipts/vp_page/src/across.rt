@@ -1,24 +1,25 @@
-//! Lines laid across the rows of a page, as many at once as a word has dots, and so by squares.
-ghost use Rattle.std.specs.Prelude.{◌≡◌, ℕ, ◌+◌, ◌-◌, ◌<◌, ◌≤◌, ◌^◌, ◌&&◌, nat_lt, nat_le, slice_index, slice_index_or, []};
+//! Lines laid across the rows of a page, by squares of as many lines as a word has dots.
+ghost use Rattle.std.specs.Prelude.{◌≡◌, ℕ, ◌+◌, ◌-◌, ◌*◌, ◌/◌, ◌%◌, ◌<◌, ◌≤◌, ◌^◌, ◌&&◌, false, true, nat_lt, nat_le, length, slice_index, slice_index_or, []};
 ghost use Rattle.vp_dots.specs.Dots.{dot};
 ghost use Rattle.vp_dots.specs.Words.{word_dot};
 ghost use Rattle.vp_dots.specs.Places.{RowsPainted};
 ghost use Rattle.vp_dots.specs.declared.Op.TheVariants.{Black};
-ghost use Rattle.vp_page.specs.declared.across.TheConstants.{AT_ONCE};
+ghost use Rattle.vp_page.specs.Lines.{line_dot};
+ghost use Rattle.vp_page.specs.declared.across.TheConstants.{AT_ONCE, FEW};
 ghost use Rattle.vp_page.specs.declared.line.TheConstants.{LINE_DOTS};
 ghost use Rattle.vp_page.specs.declared.page.TheConstants.{PAGE_ROWS};
 
 use crate::Area;
 use crate::line::{LINE_BYTES, start_of};
 use crate::page::{PAGE_ROWS, PageBand};
-use crate::words::lay_words;
+use crate::words::{lay_halves, lay_words};
 use vp_dots::{SIDE, eight_at, turned_square, word_at};
 
 /// How many lines are laid at once.
 pub const AT_ONCE: usize = SIDE;
 
-/// `AT_ONCE` lines, each as long as the longest one.
-pub(crate) type Lines = [[u8; LINE_BYTES]; AT_ONCE];
+/// How many lines are few: of so many, two squares are turned as one, the dots of the second below the first's.
+const FEW: usize = SIDE / 2;
 
 /// The 64 dots of a line from one on, which mostly are whole bytes of it.
 #[inline(always)]
@@ -34,15 +35,16 @@ fn dots_from(line: &[u8; LINE_BYTES], from: usize) -> u64
     }
 }
 
-/// A square of the dots of the first lines, from one on: the other lines are white.
+/// A square of the lines' dots, from one on. Where there is no line it is white.
 #[inline(always)]
-fn square_from(lines: &Lines, count: usize, from: usize) -> [u64; SIDE]
-    requires { from < 2 ^ 63 }
-    ensures { (x y : ℕ) → x < 64 → y < 64 → word_dot (slice_index result y) x ≡ (nat_lt y count
-        && (nat_lt (from + x) LINE_DOTS && dot (slice_index_or lines.now y []) (from + x))) }
+fn square_from(lines: &[[u8; LINE_BYTES]], from: usize) -> [u64; SIDE]
+    requires few { length lines.now ≤ AT_ONCE }
+    requires near { from < 2 ^ 62 }
+    ensures { (x y : ℕ) → x < 64 → y < 64 →
+        word_dot (slice_index result y) x ≡ line_dot lines.now y (from + x) }
 {
     let mut square = [0; SIDE];
-    for i in 0..count.min(SIDE) {
+    for i in 0..lines.len() {
         square[i] = dots_from(&lines[i], from);
     }
     square
@@ -50,58 +52,279 @@ fn square_from(lines: &Lines, count: usize, from: usize) -> [u64; SIDE]
 
 /// A square of the lines' dots, from one on, the last line first.
 #[inline(always)]
-fn square_back(lines: &Lines, count: usize, from: usize) -> [u64; SIDE]
-    requires { from < 2 ^ 63 }
-    ensures { (x y : ℕ) → x < 64 → y < 64 → word_dot (slice_index result y) x ≡ (nat_lt (63 - y) count
-        && (nat_lt (from + x) LINE_DOTS && dot (slice_index_or lines.now (63 - y) []) (from + x))) }
+fn square_back(lines: &[[u8; LINE_BYTES]], from: usize) -> [u64; SIDE]
+    requires few { length lines.now ≤ AT_ONCE }
+    requires near { from < 2 ^ 62 }
+    ensures { (x y : ℕ) → x < 64 → y < 64 →
+        word_dot (slice_index result y) x ≡ line_dot lines.now (63 - y) (from + x) }
 {
     let mut square = [0; SIDE];
-    for i in 0..count.min(SIDE) {
+    for i in 0..lines.len() {
         square[SIDE - 1 - i] = dots_from(&lines[i], from);
     }
     square
 }
 
-/// Blackens the columns of the page where the first lines, from the area's top down, are black: the first
-/// one on the column before `right`, and each on the right of the next.
-pub(crate) fn lay_lines_down(
-    lines: &Lines,
-    count: usize,
+/// Two squares of few lines' dots, from one on and from the 64th behind it: the second lies below the first.
+#[inline(always)]
+fn two_from(lines: &[[u8; LINE_BYTES]], from: usize) -> [u64; SIDE]
+    requires few { length lines.now ≤ FEW }
+    requires near { from < 2 ^ 62 }
+    ensures { (x y : ℕ) → x < 64 → y < 64 → word_dot (slice_index result y) x
+        ≡ line_dot lines.now (y % 32) (from + 64 * (y / 32) + x) }
+{
+    let mut squares = [0; SIDE];
+    for i in 0..lines.len() {
+        squares[i] = dots_from(&lines[i], from);
+        squares[FEW + i] = dots_from(&lines[i], from + SIDE);
+    }
+    squares
+}
+
+/// Two squares as those of `two_from`, the last line of each first.
+#[inline(always)]
+fn two_back(lines: &[[u8; LINE_BYTES]], from: usize) -> [u64; SIDE]
+    requires few { length lines.now ≤ FEW }
+    requires near { from < 2 ^ 62 }
+    ensures { (x y : ℕ) → x < 64 → y < 64 → word_dot (slice_index result y) x
+        ≡ line_dot lines.now (31 - y % 32) (from + 64 * (y / 32) + x) }
+{
+    let mut squares = [0; SIDE];
+    for i in 0..lines.len() {
+        squares[FEW - 1 - i] = dots_from(&lines[i], from);
+        squares[SIDE - 1 - i] = dots_from(&lines[i], from + SIDE);
+    }
+    squares
+}
+
+/// Whether a square is white.
+#[inline(always)]
+fn is_white(square: &[u64; SIDE]) -> bool
+    ensures { result ≡ true → (x y : ℕ) → x < 64 → y < 64 → word_dot (slice_index square.now y) x ≡ false }
+{
+    let mut black = 0;
+    for i in 0..SIDE {
+        black |= square[i];
+    }
+    black == 0
+}
+
+/// Blackens rows of the page, from `top` down, where the lines are black from one of their dots on: the first
+/// line on the column before `right`, and each on the right of the next.
+#[inline(always)]
+fn lay_square_down(
+    lines: &[[u8; LINE_BYTES]],
+    from: usize,
+    rows: usize,
+    right: u32,
+    top: usize,
+    band: &mut PageBand,
+)
+    requires lines { length lines.now ≤ AT_ONCE }
+    requires near { from < 2 ^ 62 }
+    requires few { rows ≤ 64 }
+    requires room { top + rows ≤ PAGE_ROWS }
+    ensures { RowsPainted PAGE_ROWS Black (λ x y. nat_le top y && (nat_lt (y - top) rows && (nat_lt x right
+        && line_dot lines.now (right - 1 - x) (from + (y - top))))) band.old band.new }
+{
+    let square = turned_square(&square_back(lines, from));
+    lay_words(&square, rows, start_of(right, 8), top, band);
+}
+
+/// Lays two squares of few lines as `lay_square_down` lays one. Mostly both are white.
+#[inline(always)]
+fn lay_two_down(
+    lines: &[[u8; LINE_BYTES]],
+    from: usize,
+    rows: usize,
+    right: u32,
+    top: usize,
+    band: &mut PageBand,
+)
+    requires lines { length lines.now ≤ FEW }
+    requires near { from < 2 ^ 62 }
+    requires few { rows ≤ 128 }
+    requires room { top + rows ≤ PAGE_ROWS }
+    ensures { RowsPainted PAGE_ROWS Black (λ x y. nat_le top y && (nat_lt (y - top) rows && (nat_lt x right
+        && line_dot lines.now (right - 1 - x) (from + (y - top))))) band.old band.new }
+{
+    let squares = two_back(lines, from);
+    if is_white(&squares) {
+        return;
+    }
+    let turned = turned_square(&squares);
+    let left = start_of(right, 4);
+    let first = rows.min(SIDE);
+    lay_halves(&turned, 0, first, left, top, band);
+    lay_halves(&turned, 32, rows - first, left, top + first, band);
+}
+
+/// Blackens rows of the page, from the one above `below` up, where the lines are black from one of their dots
+/// on: the first line at `left`.
+#[inline(always)]
+fn lay_square_up(
+    lines: &[[u8; LINE_BYTES]],
+    from: usize,
+    rows: usize,
+    left: u32,
+    below: usize,
+    band: &mut PageBand,
+)
+    requires lines { length lines.now ≤ AT_ONCE }
+    requires near { from < 2 ^ 62 }
+    requires few { rows ≤ 64 }
+    requires room { rows ≤ below }
+    requires page { below ≤ PAGE_ROWS }
+    ensures { RowsPainted PAGE_ROWS Black (λ x y. nat_lt y below && (nat_lt (below - 1 - y) rows && (nat_le left x
+        && line_dot lines.now (x - left) (from + (below - 1 - y))))) band.old band.new }
+{
+    let mut square = turned_square(&square_from(lines, from));
+    square.reverse();
+    lay_words(
+        &square[SIDE - rows..],
+        rows,
+        i64::from(left),
+        below - rows,
+        band,
+    );
+}
+
+/// Lays two squares of few lines as `lay_square_up` lays one. Mostly both are white.
+#[inline(always)]
+fn lay_two_up(
+    lines: &[[u8; LINE_BYTES]],
+    from: usize,
+    rows: usize,
+    left: u32,
+    below: usize,
+    band: &mut PageBand,
+)
+    requires lines { length lines.now ≤ FEW }
+    requires near { from < 2 ^ 62 }
+    requires few { rows ≤ 128 }
+    requires room { rows ≤ below }
+    requires page { below ≤ PAGE_ROWS }
+    ensures { RowsPainted PAGE_ROWS Black (λ x y. nat_lt y below && (nat_lt (below - 1 - y) rows && (nat_le left x
+        && line_dot lines.now (x - left) (from + (below - 1 - y))))) band.old band.new }
+{
+    let squares = two_from(lines, from);
+    if is_white(&squares) {
+        return;
+    }
+    let mut turned = turned_square(&squares);
+    turned.reverse();
+    let left = i64::from(left);
+    let first = rows.min(SIDE);
+    let second = rows - first;
+    lay_halves(&turned[SIDE - first..], 0, first, left, below - first, band);
+    lay_halves(
+        &turned[SIDE - second..],
+        32,
+        second,
+        left,
+        below - rows,
+        band,
+    );
+}
+
+/// Lays lines as `lay_lines_down` does, two squares at once.
+#[inline(never)]
+fn lay_few_down(
+    lines: &[[u8; LINE_BYTES]],
+    long: usize,
     area: Area,
     right: u32,
     band: &mut PageBand,
 )
+    requires few { length lines.now ≤ FEW }
+    requires white { (i u : ℕ) → long ≤ u → line_dot lines.now i u ≡ false }
     ensures { RowsPainted PAGE_ROWS Black (λ x y. nat_le area.y y && (nat_lt (y - area.y) area.dy
-        && (nat_lt x right && (nat_lt (right - 1 - x) count && (nat_lt (y - area.y) LINE_DOTS
-        && dot (slice_index_or lines.now (right - 1 - x) []) (y - area.y)))))) band.old band.new }
+        && (nat_lt x right && line_dot lines.now (right - 1 - x) (y - area.y)))) band.old band.new }
 {
     let top = area.y as usize;
-    let end = PAGE_ROWS.saturating_sub(top).min(area.dy as usize);
-    for k in 0..end.div_ceil(SIDE) {
-        let from = SIDE * k;
-        let square = turned_square(&square_back(lines, count, from));
-        let rows = (end - from).min(SIDE);
-        lay_words(&square, rows, start_of(right, 8), top + from, band);
+    let end = PAGE_ROWS
+        .saturating_sub(top)
+        .min((area.dy as usize).min(long));
+    for k in 0..end.div_ceil(2 * SIDE) {
+        let from = 2 * SIDE * k;
+        let rows = (end - from).min(2 * SIDE);
+        lay_two_down(lines, from, rows, right, top + from, band);
     }
 }
 
-/// Blackens the columns of the page where the first lines, from the area's lower edge up, are black: the
-/// first one at `left`.
-pub(crate) fn lay_lines_up(lines: &Lines, count: usize, area: Area, left: u32, band: &mut PageBand)
+/// Lays lines as `lay_lines_up` does, two squares at once.
+#[inline(never)]
+fn lay_few_up(lines: &[[u8; LINE_BYTES]], long: usize, area: Area, left: u32, band: &mut PageBand)
+    requires few { length lines.now ≤ FEW }
+    requires white { (i u : ℕ) → long ≤ u → line_dot lines.now i u ≡ false }
     ensures { RowsPainted PAGE_ROWS Black (λ x y. nat_lt y (area.y + area.dy)
-        && (nat_lt (area.y + area.dy - 1 - y) area.dy && (nat_le left x && (nat_lt (x - left) count
-        && (nat_lt (area.y + area.dy - 1 - y) LINE_DOTS
-        && dot (slice_index_or lines.now (x - left) []) (area.y + area.dy - 1 - y)))))) band.old band.new }
+        && (nat_lt (area.y + area.dy - 1 - y) area.dy && (nat_le left x
+        && line_dot lines.now (x - left) (area.y + area.dy - 1 - y)))) band.old band.new }
 {
     let below = area.y as usize + area.dy as usize;
     let first = below.saturating_sub(PAGE_ROWS);
-    let high = (area.dy as usize).saturating_sub(first);
+    let high = (area.dy as usize).min(long).saturating_sub(first);
+    for k in 0..high.div_ceil(2 * SIDE) {
+        let from = first + 2 * SIDE * k;
+        let rows = (high - 2 * SIDE * k).min(2 * SIDE);
+        lay_two_up(lines, from, rows, left, below - from, band);
+    }
+}
+
+/// Blackens the columns of the page where lines, from the area's top down, are black: the first one on the
+/// column before `right`, and each on the right of the next. They are white from dot `long` on.
+pub(crate) fn lay_lines_down(
+    lines: &[[u8; LINE_BYTES]],
+    long: usize,
+    area: Area,
+    right: u32,
+    band: &mut PageBand,
+)
+    requires few { length lines.now ≤ AT_ONCE }
+    requires white { (i u : ℕ) → long ≤ u → line_dot lines.now i u ≡ false }
+    ensures { RowsPainted PAGE_ROWS Black (λ x y. nat_le area.y y && (nat_lt (y - area.y) area.dy
+        && (nat_lt x right && line_dot lines.now (right - 1 - x) (y - area.y)))) band.old band.new }
+{
+    if lines.len() <= FEW {
+        lay_few_down(lines, long, area, right, band);
+        return;
+    }
+    let top = area.y as usize;
+    let end = PAGE_ROWS
+        .saturating_sub(top)
+        .min((area.dy as usize).min(long));
+    for k in 0..end.div_ceil(SIDE) {
+        let from = SIDE * k;
+        let rows = (end - from).min(SIDE);
+        lay_square_down(lines, from, rows, right, top + from, band);
+    }
+}
+
+/// Blackens the columns of the page where lines, from the area's lower edge up, are black: the first one at
+/// `left`. They are white from dot `long` on.
+pub(crate) fn lay_lines_up(
+    lines: &[[u8; LINE_BYTES]],
+    long: usize,
+    area: Area,
+    left: u32,
+    band: &mut PageBand,
+)
+    requires few { length lines.now ≤ AT_ONCE }
+    requires white { (i u : ℕ) → long ≤ u → line_dot lines.now i u ≡ false }
+    ensures { RowsPainted PAGE_ROWS Black (λ x y. nat_lt y (area.y + area.dy)
+        && (nat_lt (area.y + area.dy - 1 - y) area.dy && (nat_le left x
+        && line_dot lines.now (x - left) (area.y + area.dy - 1 - y)))) band.old band.new }
+{
+    if lines.len() <= FEW {
+        lay_few_up(lines, long, area, left, band);
+        return;
+    }
+    let below = area.y as usize + area.dy as usize;
+    let first = below.saturating_sub(PAGE_ROWS);
+    let high = (area.dy as usize).min(long).saturating_sub(first);
     for k in 0..high.div_ceil(SIDE) {
         let from = first + SIDE * k;
-        let mut square = turned_square(&square_from(lines, count, from));
-        square.reverse();
         let rows = (high - SIDE * k).min(SIDE);
-        let words = &square[SIDE - rows..];
-        lay_words(words, rows, i64::from(left), below - from - rows, band);
+        lay_square_up(lines, from, rows, left, below - from, band);
     }
 }

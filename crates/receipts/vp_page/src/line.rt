@@ -12,7 +12,7 @@ use crate::Area;
 use crate::page::{PAGE_ROWS, PAPER_BYTES, PageBand};
 use crate::white::Rows;
 use crate::words::{or_line, or_reversed};
-use vp_dots::{Ink, Op, copy_reversed, fill_dots, lay_eight};
+use vp_dots::{Ink, Op, copy_reversed, fill_dots};
 
 /// The bytes of the longest line of a page: one across its rows.
 pub const LINE_BYTES: usize = 208;
@@ -28,6 +28,34 @@ pub(crate) fn draw<I: Ink>(ink: &I, y: u32, row: &mut [u8])
 {
     row.fill(0);
     ink.paint_row(y, Op::Black, 0, row);
+}
+
+/// A line of an image, as long as the longest one.
+fn drawn<I: Ink>(ink: &I, y: u32) -> [u8; LINE_BYTES]
+    requires { I.width ink.now ≤ LINE_DOTS }
+    ensures { (x : ℕ) → dot result x ≡ I.ink_at ink.now x y }
+{
+    let mut line = [0; LINE_BYTES];
+    ink.paint_row(y, Op::Black, 0, &mut line);
+    line
+}
+
+/// Writes lines of an image, the first one line `from` of it. One that is known to be as the one above is copied.
+pub(crate) fn draw_lines<I: Ink>(ink: &I, from: u32, lines: &mut [[u8; LINE_BYTES]])
+    requires wide { I.width ink.now ≤ LINE_DOTS }
+    requires there { from + length lines.old < 2 ^ 32 }
+    ensures len { length lines.new ≡ length lines.old }
+    ensures lines { (i x : ℕ) → i < length lines.new →
+        dot (slice_index_or lines.new i []) x ≡ I.ink_at ink.now x (from + i) }
+{
+    for i in 0..lines.len() {
+        let y = from + i as u32;
+        lines[i] = if i > 0 && ink.repeats(y) {
+            lines[i - 1]
+        } else {
+            drawn(ink, y)
+        };
+    }
 }
 
 /// Copies the dots of a row that stand before a place; the others become white.
@@ -251,85 +279,6 @@ pub(crate) fn lay_up(row: &[u8], area: Area, x: usize, band: &mut PageBand)
     clip_reversed(row, area.dy, line);
     let below = u32::from(area.y) + u32::from(area.dy);
     lay_across(line, start_of(below, row.len()), x, band);
-}
-
-/// The dots of a line that stand before a place.
-fn clipped(row: &[u8; LINE_BYTES], end: u16) -> [u8; LINE_BYTES]
-    ensures { (d : ℕ) → dot result d ≡ (nat_lt d end && dot row.now d) }
-{
-    let mut line = [0; LINE_BYTES];
-    clip(row, end, &mut line);
-    line
-}
-
-/// The dots of a line that stand before a place, from the last dot to the first.
-fn clipped_reversed(row: &[u8; LINE_BYTES], end: u16) -> [u8; LINE_BYTES]
-    ensures { (d : ℕ) → dot result d ≡ (nat_lt d LINE_DOTS
-        && (nat_lt (LINE_DOTS - 1 - d) end && dot row.now (LINE_DOTS - 1 - d))) }
-{
-    let mut line = [0; LINE_BYTES];
-    clip_reversed(row, end, &mut line);
-    line
-}
-
-/// Eight lines, the last one first, as far as a place.
-fn clip_upward(lines: &[[u8; LINE_BYTES]; 8], end: u16) -> [[u8; LINE_BYTES]; 8]
-    ensures { (i d : ℕ) → i < 8
-        → dot (slice_index_or result i []) d ≡ (nat_lt d end && dot (slice_index_or lines.now (7 - i) []) d) }
-{
-    let mut cut = [[0; LINE_BYTES]; 8];
-    for i in 0..8usize {
-        cut[i] = clipped(&lines[7 - i], end);
-    }
-    cut
-}
-
-/// Eight lines as far as a place, each from the last dot to the first.
-fn clip_eight_reversed(lines: &[[u8; LINE_BYTES]; 8], end: u16) -> [[u8; LINE_BYTES]; 8]
-    ensures { (i d : ℕ) → i < 8 → dot (slice_index_or result i []) d ≡ (nat_lt d LINE_DOTS
-        && (nat_lt (LINE_DOTS - 1 - d) end && dot (slice_index_or lines.now i []) (LINE_DOTS - 1 - d))) }
-{
-    let mut cut = [[0; LINE_BYTES]; 8];
-    for i in 0..8usize {
-        cut[i] = clipped_reversed(&lines[i], end);
-    }
-    cut
-}
-
-/// Blackens eight columns of the page where eight lines, from the area's top down, are black: the last line
-/// at `left`, and each on the right of the next.
-pub(crate) fn lay_eight_down(
-    lines: &[[u8; LINE_BYTES]; 8],
-    area: Area,
-    left: usize,
-    band: &mut PageBand,
-)
-    requires { left < 2 ^ 63 }
-    ensures { RowsPainted PAGE_ROWS Black (λ x k. nat_le left x && (nat_lt (x - left) 8 && (nat_le area.y k
-        && (nat_lt (k - area.y) area.dy && dot (slice_index_or lines.now (7 - (x - left)) []) (k - area.y)))))
-        band.old band.new }
-{
-    let cut = clip_upward(lines, area.dy);
-    lay_eight(Op::Black, &cut, left, i64::from(area.y), band);
-}
-
-/// Blackens eight columns of the page where eight lines, from the area's lower edge up, are black: the first
-/// line at `left`.
-pub(crate) fn lay_eight_up(
-    lines: &[[u8; LINE_BYTES]; 8],
-    area: Area,
-    left: usize,
-    band: &mut PageBand,
-)
-    requires { left < 2 ^ 63 }
-    ensures { RowsPainted PAGE_ROWS Black (λ x k. nat_le left x && (nat_lt (x - left) 8
-        && (nat_lt k (area.y + area.dy) && (nat_lt (area.y + area.dy - 1 - k) area.dy
-        && (nat_lt (area.y + area.dy - 1 - k) LINE_DOTS
-        && dot (slice_index_or lines.now (x - left) []) (area.y + area.dy - 1 - k)))))) band.old band.new }
-{
-    let cut = clip_eight_reversed(lines, area.dy);
-    let below = u32::from(area.y) + u32::from(area.dy);
-    lay_eight(Op::Black, &cut, left, start_of(below, LINE_BYTES), band);
 }
 
 /// Makes the places of an area white that lie on some rows.

@@ -9,7 +9,7 @@ ghost use Rattle.vp_page.specs.declared.page.TheConstants.{PAPER_BYTES, PAPER_DO
 
 use crate::across::{AT_ONCE, lay_lines_down, lay_lines_up};
 use crate::line::{
-    LINE_BYTES, draw, lay_down, lay_eight_down, lay_eight_up, lay_left, lay_right, lay_up, whiten,
+    LINE_BYTES, LINE_DOTS, draw, draw_lines, lay_down, lay_left, lay_right, lay_up, whiten,
 };
 use crate::white::Rows;
 use crate::{Area, Direction};
@@ -76,8 +76,10 @@ impl Model for Page {
 }
 
 impl Page {
-    ghost use Rattle.vp_page.specs.Layers.{Layer, Laid, Wiped, eight_mark, lines_mark, page_dot};
+    ghost use Rattle.vp_page.specs.Layers.{Layer, Laid, Wiped, lines_mark, page_dot};
+    ghost use Rattle.vp_page.specs.Lines.{line_dot};
     ghost use Rattle.vp_page.specs.Pages.{HasPage};
+    ghost use Rattle.vp_page.specs.declared.across.TheConstants.{AT_ONCE};
 
     /// A white page.
     pub fn new(alloc: Global) -> Result<Page, AllocError>
@@ -135,50 +137,33 @@ impl Page {
         }
     }
 
-    /// Lays eight rows of dots, one below the other, the first at the depth v of an area, as `lay_row` lays
-    /// each.
-    pub fn lay_eight(
-        &mut self,
-        area: Area,
-        direction: Direction,
-        v: u32,
-        rows: &[[u8; LINE_BYTES]; 8],
-    )
-        ensures { (layers : List Layer) → HasPage layers self.old →
-            HasPage (Laid (eight_mark area direction v rows.now) ∷ layers) self.new }
-    {
-        let depth = u32::from(area.depth(direction));
-        if v >= depth {
-            return;
-        }
-        let room = depth - v >= 8;
-        match direction {
-            Direction::BottomToTop if room => {
-                self.laid = self.laid.with(Rows::of(area));
-                lay_eight_up(rows, area, area.x as usize + v as usize, &mut self.band)
-            }
-            Direction::TopToBottom if room => {
-                let left = area.x as usize + (depth - v) as usize - 8;
-                self.laid = self.laid.with(Rows::of(area));
-                lay_eight_down(rows, area, left, &mut self.band)
-            }
-            _ => {
-                for i in 0..8u32 {
-                    self.lay_row(area, direction, v + i, &rows[i as usize]);
-                }
-            }
-        }
-    }
-
-    /// Lays as many rows of dots as are laid at once, one below the other, the first at the depth v of an
-    /// area, as `lay_row` lays each.
+    /// Lays at most as many rows of dots as are laid at once, one below the other, the first at the depth v of
+    /// an area, as `lay_row` lays each.
     pub fn lay_lines(
         &mut self,
         area: Area,
         direction: Direction,
         v: u32,
-        lines: &[[u8; LINE_BYTES]; AT_ONCE],
+        lines: &[[u8; LINE_BYTES]],
     )
+        requires { length lines.now ≤ AT_ONCE }
+        ensures { (layers : List Layer) → HasPage layers self.old →
+            HasPage (Laid (lines_mark area direction v lines.now) ∷ layers) self.new }
+    {
+        self.lay_long(area, direction, v, lines, LINE_DOTS);
+    }
+
+    /// Lays rows as `lay_lines` does, which are white from dot `long` on.
+    fn lay_long(
+        &mut self,
+        area: Area,
+        direction: Direction,
+        v: u32,
+        lines: &[[u8; LINE_BYTES]],
+        long: usize,
+    )
+        requires few { length lines.now ≤ AT_ONCE }
+        requires white { (i u : ℕ) → long ≤ u → line_dot lines.now i u ≡ false }
         ensures { (layers : List Layer) → HasPage layers self.old →
             HasPage (Laid (lines_mark area direction v lines.now) ∷ layers) self.new }
     {
@@ -191,15 +176,17 @@ impl Page {
         match direction {
             Direction::BottomToTop => {
                 self.laid = self.laid.with(Rows::of(area));
-                lay_lines_up(lines, room, area, left + v, &mut self.band)
+                let shown = &lines[..lines.len().min(room)];
+                lay_lines_up(shown, long, area, left + v, &mut self.band)
             }
             Direction::TopToBottom => {
-                let right = left + depth - v;
                 self.laid = self.laid.with(Rows::of(area));
-                lay_lines_down(lines, room, area, right, &mut self.band)
+                let right = left + depth - v;
+                let shown = &lines[..lines.len().min(room)];
+                lay_lines_down(shown, long, area, right, &mut self.band)
             }
             _ => {
-                for i in 0..AT_ONCE {
+                for i in 0..lines.len() {
                     self.lay_row(area, direction, v + i as u32, &lines[i]);
                 }
             }
@@ -214,6 +201,23 @@ impl Page {
             HasPage (Laid (record { area = area; direction = direction; top = top; dot = I.ink_at ink.now })
             ∷ layers) self.new }
     {
+        match direction {
+            Direction::LeftToRight | Direction::RightToLeft => {
+                self.lay_along(ink, area, direction, top)
+            }
+            Direction::BottomToTop | Direction::TopToBottom => {
+                self.lay_across(ink, area, direction, top)
+            }
+        }
+    }
+
+    /// Lays an image row by row.
+    fn lay_along<I: Ink>(&mut self, ink: &I, area: Area, direction: Direction, top: u32)
+        requires { I.width ink.now ≤ LINE_DOTS }
+        ensures { (layers : List Layer) → HasPage layers self.old →
+            HasPage (Laid (record { area = area; direction = direction; top = top; dot = I.ink_at ink.now })
+            ∷ layers) self.new }
+    {
         let (width, height) = ink.size();
         let mut room = [0; LINE_BYTES];
         let row = &mut room[..width.div_ceil(8) as usize];
@@ -221,6 +225,25 @@ impl Page {
         for line in 0..height.min(below) {
             draw(ink, line, row);
             self.lay_row(area, direction, top + line, row);
+        }
+    }
+
+    /// Lays an image as many rows at once as go.
+    fn lay_across<I: Ink>(&mut self, ink: &I, area: Area, direction: Direction, top: u32)
+        requires { I.width ink.now ≤ LINE_DOTS }
+        ensures { (layers : List Layer) → HasPage layers self.old →
+            HasPage (Laid (record { area = area; direction = direction; top = top; dot = I.ink_at ink.now })
+            ∷ layers) self.new }
+    {
+        let (width, height) = ink.size();
+        let below = u32::from(area.depth(direction)).saturating_sub(top);
+        let high = height.min(below) as usize;
+        let mut room = [[0; LINE_BYTES]; AT_ONCE];
+        for k in 0..high.div_ceil(AT_ONCE) {
+            let from = AT_ONCE * k;
+            let lines = &mut room[..(high - from).min(AT_ONCE)];
+            draw_lines(ink, from as u32, lines);
+            self.lay_long(area, direction, top + from as u32, lines, width as usize);
         }
     }
 

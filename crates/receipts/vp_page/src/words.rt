@@ -1,30 +1,32 @@
 //! Rows of the page blackened 64 dots at once: by a word at any place, and by a line that stands on whole
 //! bytes, as it is or turned end for end.
-ghost use Rattle.std.specs.Prelude.{◌≡◌, ℕ, ◌+◌, ◌-◌, ◌*◌, ◌/◌, ◌%◌, ◌<◌, ◌≤◌, ◌==◌, ◌&&◌, ◌^◌, nat_lt, nat_le, length, slice_index, bit_and, bit_or};
+ghost use Rattle.std.specs.Prelude.{◌≡◌, ℕ, ◌+◌, ◌-◌, ◌*◌, ◌/◌, ◌%◌, ◌<◌, ◌≤◌, ◌==◌, ◌&&◌, ◌^◌, false, nat_lt, nat_le, length, slice_index, bit_and, bit_or};
 ghost use Rattle.vp_dots.specs.Dots.{bit, dot, dots, shifted};
 ghost use Rattle.vp_dots.specs.Words.{word_dot};
 ghost use Rattle.vp_dots.specs.Painting.{Painted};
 ghost use Rattle.vp_dots.specs.Places.{words_dot, RowsPainted};
+ghost use Rattle.vp_page.specs.Lines.{halves_dot};
 ghost use Rattle.vp_dots.specs.declared.Op.TheVariants.{Black};
 ghost use Rattle.vp_page.specs.declared.page.TheConstants.{PAPER_BYTES, PAGE_ROWS};
 
 use crate::page::{PAPER_BYTES, PageBand};
-use std::simd::{u8x8, u8x16, u64x1};
-use vp_dots::{or_into, reversed_at};
+use std::simd::{u8x8, u8x16};
+use vp_dots::{eight_at, first_dots, or_into, reversed_at};
 
 /// Where the last eight bytes of a row of the page begin.
 const LAST: usize = PAPER_BYTES - 8;
 
 /// Blackens eight bytes of the row, from byte i on, where the word is black.
-// By lanes, so that the bytes are written at once.
+// The compiler joins the eight bytes that are written to one word.
 #[inline(always)]
 fn or_eight(word: u64, i: usize, row: &mut [u8])
     requires { i + 8 ≤ length row.old }
     ensures { Painted Black (λ d. nat_le (8 * i) d && word_dot word (d - 8 * i)) row.old row.new }
 {
-    let bytes = u64x1::from_array([word]).to_le_bytes().reverse();
-    let new = u8x8::from_slice(&row[i..]) | bytes;
-    new.copy_to_slice(&mut row[i..]);
+    let new = eight_at(row, i) | word;
+    for j in 0..8usize {
+        row[i + j] = (new >> (56 - 8 * j) & 255) as u8;
+    }
 }
 
 /// Blackens byte i of the row where the mask is black.
@@ -57,17 +59,30 @@ fn or_inside(word: u64, far: u64, row: &mut [u8])
     or_byte(lost(word, s), i + 8, row);
 }
 
+/// Blackens the dots d of a row of the page where dot d - far of the word is black, of which the first falls on
+/// the row's last eight bytes or past them.
+#[inline(always)]
+fn or_last(word: u64, far: u64, row: &mut [u8])
+    requires row { length row.old ≡ PAPER_BYTES }
+    requires end { 8 * (PAPER_BYTES - 8) ≤ far }
+    ensures { Painted Black (λ d. nat_le far d && word_dot word (d - far)) row.old row.new }
+{
+    let past = far - 8 * LAST as u64;
+    if past < 64 {
+        or_eight(word >> past, LAST, row);
+    }
+}
+
 /// Blackens the dots d of a row of the page where dot d - far of the word is black.
 #[inline(always)]
 fn or_right(word: u64, far: u64, row: &mut [u8])
     requires { length row.old ≡ PAPER_BYTES }
     ensures { Painted Black (λ d. nat_le far d && word_dot word (d - far)) row.old row.new }
 {
-    let last = 8 * LAST as u64;
-    if far < last {
+    if far < 8 * LAST as u64 {
         or_inside(word, far, row);
-    } else if far - last < 64 {
-        or_eight(word >> (far - last), LAST, row);
+    } else {
+        or_last(word, far, row);
     }
 }
 
@@ -103,6 +118,76 @@ pub(crate) fn lay_words(words: &[u64], h: usize, left: i64, top: usize, band: &m
 {
     for i in 0..h {
         or_word(words[i], left, band.row_mut(top + i));
+    }
+}
+
+/// The dots of a word from one on that half a word has room for.
+#[inline(always)]
+fn half_from(word: u64, skip: u32) -> u64
+    requires { skip < 64 }
+    ensures { (x : ℕ) → word_dot result x ≡ (nat_lt x 32 && word_dot word (x + skip)) }
+{
+    (word << skip) & first_dots(32)
+}
+
+/// Blackens the dots d of a row of the page where dot d - far of the word is black, of which the left half has
+/// all black dots: eight bytes have room for them wherever the first one falls.
+#[inline(always)]
+fn or_half_right(word: u64, far: u64, row: &mut [u8])
+    requires row { length row.old ≡ PAPER_BYTES }
+    requires half { (x : ℕ) → 32 ≤ x → word_dot word x ≡ false }
+    ensures { Painted Black (λ d. nat_le far d && word_dot word (d - far)) row.old row.new }
+{
+    if far < 8 * LAST as u64 {
+        or_eight(word >> (far % 8), (far / 8) as usize, row);
+    } else {
+        or_last(word, far, row);
+    }
+}
+
+/// Blackens the dots d of a row of the page where dot d - left of the word is black, of which the left half has
+/// all black dots.
+#[inline(always)]
+fn or_half(word: u64, left: i64, row: &mut [u8])
+    requires row { length row.old ≡ PAPER_BYTES }
+    requires half { (x : ℕ) → 32 ≤ x → word_dot word x ≡ false }
+    ensures { Painted Black (shifted left (word_dot word)) row.old row.new }
+{
+    if left >= 0 {
+        or_half_right(word, left.unsigned_abs(), row);
+    } else {
+        or_left(word, left.unsigned_abs(), row);
+    }
+}
+
+/// Blackens the dots d of a row of the page where, of the dots of a word from one on that half a word has room
+/// for, dot d - left is black.
+#[inline(always)]
+fn or_half_from(word: u64, skip: u32, left: i64, row: &mut [u8])
+    requires row { length row.old ≡ PAPER_BYTES }
+    requires skip { skip < 64 }
+    ensures { Painted Black (shifted left (λ s. nat_lt s 32 && word_dot word (s + skip))) row.old row.new }
+{
+    or_half(half_from(word, skip), left, row);
+}
+
+/// Blackens rows of the page, from one on, where 32 dots of the first h words, from one on and moved by an
+/// offset, are black.
+pub(crate) fn lay_halves(
+    words: &[u64],
+    skip: u32,
+    h: usize,
+    left: i64,
+    top: usize,
+    band: &mut PageBand,
+)
+    requires skip { skip < 64 }
+    requires few { h ≤ length words.now }
+    requires room { top + h ≤ PAGE_ROWS }
+    ensures { RowsPainted PAGE_ROWS Black (halves_dot words.now skip left top h) band.old band.new }
+{
+    for i in 0..h {
+        or_half_from(words[i], skip, left, band.row_mut(top + i));
     }
 }
 

@@ -1,6 +1,4 @@
 pub mod PageLines
-pub mod EightRows
-pub mod LinesAtOnce
 pub mod PageSymbols
 pub mod RasterRows
 pub mod Showing

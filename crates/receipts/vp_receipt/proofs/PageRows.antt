@@ -1,11 +1,11 @@
 -- Whole rows of a raster, laid on the page one below the other.
-use Rattle.std.proofs.Common.{inl, inr, ◌≡◌, ℕ, zero, suc, ◌+◌, ◌-◌, ◌*◌, ◌/◌, ◌<◌, ◌≤◌, Bool, true, false, ltb, leb, eqb, cond, nat_lt, ◌&&◌, ◌||◌, List, [], ◌∷◌, ◌++◌, length, take, drop, min, refl, sym, ap, subst, ◌∙◌, append_assoc, arith, Option, Some, None}
+use Rattle.std.proofs.Common.{inl, inr, ◌≡◌, ℕ, zero, suc, ◌+◌, ◌-◌, ◌*◌, ◌/◌, ◌%◌, ◌<◌, ◌≤◌, Bool, true, false, ltb, leb, eqb, cond, nat_lt, ◌&&◌, ◌||◌, List, [], ◌∷◌, ◌++◌, length, take, drop, min, refl, sym, ap, subst, ◌∙◌, append_assoc, arith, Option, Some, None}
 use Rattle.std.proofs.Math.Nat.{suc-mul, mul_comm, mul-le-mul_right, div-le_self, div-le_of_le-mul, div-mul-le_self, lt-div-mul-add, le_trans}
 use Rattle.std.proofs.lemmas.Bool.{cases_lt, lt-ltb}
 use Rattle.std.proofs.lemmas.Bool.Decides.{nat_tests}
-use Rattle.std.proofs.lemmas.List.{append-nil, take-append-drop, take-take, take_all, length-take, length-drop}
+use Rattle.std.proofs.lemmas.List.{append-nil, take-append-drop, take-take, take_all, get_or-take, length-take, length-drop}
 use Rattle.std.proofs.lemmas.Nat.{div-mul-add}
-use Rattle.vp_dots.specs.Dots.{dot}
+use Rattle.vp_dots.specs.Dots.{dot, bit}
 use Rattle.vp_esc.specs.declared.item.EscItem.{EscItem}
 use Rattle.vp_esc.specs.declared.item.EscItem.TheVariants.{RasterByte}
 use Rattle.vp_esc.specs.declared.item.RasterScale.{RasterScale}
@@ -35,10 +35,14 @@ use Rattle.vp_receipt.specs.PageMarks.{mark_of, raster_mark, rows_dot, layers}
 use Rattle.vp_receipt.specs.Strips.{printed, prints}
 use Rattle.vp_strips.specs.LineDots.{HasOpen}
 use Rattle.vp_receipt.specs.Standing.{Gathers, IsOnPage}
-use Rattle.vp_receipt.proofs.EightRows.{first_dots_of}
 use Rattle.vp_receipt.proofs.Runs.{layers_same}
 use Rattle.vp_page.specs.declared.page.TheConstants.{PAGE_ROWS, PAPER_DOTS}
 use Rattle.vp_page.specs.declared.line.TheConstants.{LINE_BYTES, LINE_DOTS}
+
+-- the first bytes of a row have its first dots
+pub first_dots_of : (row : List ℕ) (n u : ℕ) → u / 8 < n → dot (take n row) u ≡ dot row u
+unfolding dot
+first_dots_of row n u h = ap (λ b. bit b (7 - u % 8)) (get_or-take n row (u / 8) 0 h)
 
 -- on a page a raster's bytes print nothing
 pub nothing_printed : (setup : Setup) (bytes : List ℕ) (before : List EscItem) → mode setup before ≡ Page → printed setup (bytes_after bytes before) ≡ printed setup before

@@ -4,7 +4,9 @@ ghost use Rattle.vp_esc.specs.Reader.{is_text};
 ghost use Rattle.vp_receipt_settings.specs.Runs.{text_room, text_after};
 ghost use Rattle.std.specs.Prelude.{◌≡◌, ◌≤◌, ◌<◌, ◌+◌, ◌-◌, ◌*◌, ◌∷◌, ◌++◌, List, ℕ, Bool, ◌&&◌, length, true, None, Some, IfSome, take};
 ghost use Rattle.vp_esc.specs.declared.item.EscItem.{EscItem};
+ghost use Rattle.vp_glyph.specs.Cells.{cell_width, cell_height, cell_dot};
 ghost use Rattle.vp_glyph.specs.declared.Sheets.{Sheets};
+ghost use Rattle.vp_receipt_settings.specs.declared.text.TheConstants.{LINE_ROWS};
 ghost use Rattle.vp_strips.specs.declared.canvas.Canvas.{Canvas};
 ghost use Rattle.vp_page.specs.declared.line.TheConstants.{LINE_BYTES, LINE_DOTS};
 ghost use Rattle.vp_strips.specs.declared.job.After.{After};
@@ -35,8 +37,8 @@ ghost use Rattle.vp_strips.specs.Held.{text_of, after_text, IsJob, IsTurned, Are
 use crate::raster_page::lay_raster_row;
 use vp_dots::Ink;
 use vp_esc::item::Cut;
-use vp_glyph::Sheets;
-use vp_page::{Direction, PAPER_BYTES, Page};
+use vp_glyph::{Cell, Sheets};
+use vp_page::{AT_ONCE, Direction, LINE_BYTES, PAPER_BYTES, Page};
 use vp_receipt_settings::{
     Effect, LINE_ROWS, Piece, PrinterMode, Raster, Settings, times_across, times_down,
 };
@@ -50,7 +52,7 @@ pub fn settle(s: &Settings, waiting: Option<u8>, sheets: &Sheets, bitmap: &mut B
 {
     if let Some(code) = waiting {
         bitmap.begin_line();
-        bitmap.put_ink(&s.text.cell(sheets, code), 0);
+        bitmap.put_cell(&s.text.cell(sheets, code), 0);
     }
 }
 
@@ -67,6 +69,21 @@ fn put_next<I: Ink>(s: &Settings, ink: &I, bitmap: &mut Bitmap)
     bitmap.put_ink(ink, s.position);
 }
 
+/// Puts a character into the line at its position.
+#[inline(always)]
+fn put_character(s: &Settings, cell: &Cell<'_>, bitmap: &mut Bitmap)
+    requires { cell_height cell.now.font cell.now.style ≤ LINE_ROWS }
+    ensures { (placed : List Placed) → s.now.is_open ≡ is_open placed → HasOpen placed bitmap.old →
+        HasDots (ink_placed s.now.position (cell_width cell.now.font cell.now.style)
+        (cell_height cell.now.font cell.now.style)
+        (cell_dot cell.now.sheets.now cell.now.font cell.now.style cell.now.character) ∷ placed) bitmap.new }
+{
+    if !s.is_open {
+        bitmap.begin_line();
+    }
+    bitmap.put_cell(cell, s.position);
+}
+
 /// Puts a piece into the line at its position.
 fn put(s: &Settings, piece: Piece, canvas: &mut Canvas)
     requires { IsFit s.now }
@@ -77,7 +94,7 @@ fn put(s: &Settings, piece: Piece, canvas: &mut Canvas)
     match piece {
         Piece::Character(code) => {
             let cell = s.text.cell(&canvas.sheets, code);
-            put_next(s, &cell, &mut canvas.bitmap);
+            put_character(s, &cell, &mut canvas.bitmap);
         }
         Piece::Column8(byte) => put_next(s, &s.column([byte], 3), &mut canvas.bitmap),
         Piece::Column24(bytes) => put_next(s, &s.column(bytes, 1), &mut canvas.bitmap),
@@ -98,13 +115,15 @@ pub fn put_text(s: &mut Settings, text: &[u8], sheets: &Sheets, bitmap: &mut Bit
     ensures others { (setup : Setup) (before : List EscItem) → s.old ≡ settings_of setup before →
         LeavesAlone setup (text_after text.now before) before }
 {
+    let mut now = *s;
     for code in text {
         if *code >= 0x20 {
-            let cell = s.text.cell(sheets, *code);
-            put_next(s, &cell, bitmap);
-            *s = s.with_character();
+            let cell = now.text.cell(sheets, *code);
+            put_character(&now, &cell, bitmap);
+            now = now.with_character();
         }
     }
+    *s = now;
 }
 
 /// The line in a strip of `rows` rows.
@@ -206,17 +225,20 @@ fn lay_rows(s: &Settings, bitmap: &Bitmap, page: &mut Page)
     }
 }
 
-/// Lays the line eight rows at a time, with its top at the vertical position.
-fn lay_eights(s: &Settings, bitmap: &Bitmap, page: &mut Page)
+/// Lays the line as many rows at once as go, with its top at the vertical position.
+fn lay_at_once(s: &Settings, bitmap: &Bitmap, page: &mut Page)
     requires { IsFit s.now }
     ensures { (dots : ℕ → ℕ → Bool) (layers : List Layer) → HasRows s.now bitmap.now dots →
         HasPage layers page.old → HasPage (Laid (mark_of s.now.page dots) ∷ layers) page.new }
 {
     let top = s.page.vertical as u32;
     let height = usize::from(s.height);
-    for k in 0..height.div_ceil(8) {
-        let rows = bitmap.eight_rows(LINE_ROWS - height + 8 * k);
-        page.lay_eight(s.page.area, s.page.direction, top + 8 * k as u32, &rows);
+    let mut room = [[0; LINE_BYTES]; AT_ONCE];
+    for k in 0..height.div_ceil(AT_ONCE) {
+        let from = AT_ONCE * k;
+        let rows = &mut room[..(height - from).min(AT_ONCE)];
+        bitmap.copy_rows(LINE_ROWS - height + from, rows);
+        page.lay_lines(s.page.area, s.page.direction, top + from as u32, rows);
     }
 }
 
@@ -228,7 +250,7 @@ fn lay_line(s: &Settings, bitmap: &Bitmap, page: &mut Page)
 {
     match s.page.direction {
         Direction::LeftToRight | Direction::RightToLeft => lay_rows(s, bitmap, page),
-        Direction::BottomToTop | Direction::TopToBottom => lay_eights(s, bitmap, page),
+        Direction::BottomToTop | Direction::TopToBottom => lay_at_once(s, bitmap, page),
     }
 }
 

@@ -1,8 +1,9 @@
 pub mod Bitmaps
 pub mod Rows
-pub mod PageRows
+pub mod ManyRows
 pub mod Jobs
 pub mod Strips
 pub mod LineTexts
 pub mod QrImages
 pub mod Doubling
+pub mod Magnified

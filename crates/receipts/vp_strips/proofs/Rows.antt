@@ -1,9 +1,10 @@
 -- The rows of a strip.
-use Rattle.std.proofs.Common.{◌≡◌, ℕ, ◌+◌, ◌-◌, ◌*◌, ◌^◌, ◌<◌, ◌≤◌, Bool, true, false, nat_lt, nat_le, ◌&&◌, refl, ap, ◌∙◌, arith, List, ◌∷◌, length as list_length, replicate, cond, pos, zero, suc, subst, ℤ, take}
-use Rattle.std.proofs.lemmas.List.{length-replicate}
+use Rattle.std.proofs.Common.{◌≡◌, ℕ, ◌+◌, ◌-◌, ◌*◌, ◌/◌, ◌%◌, ◌^◌, ◌<◌, ◌≤◌, Bool, true, false, nat_lt, nat_le, ◌&&◌, refl, ap, ◌∙◌, arith, List, ◌∷◌, length as list_length, replicate, cond, pos, zero, suc, subst, ℤ, take}
+use Rattle.std.proofs.lemmas.List.{length-replicate, get_or-take}
+use Rattle.std.proofs.lemmas.Bool.{le-leb}
 use Rattle.std.proofs.lemmas.Bool.Decides.{nat_tests}
 use Rattle.vp_page.specs.declared.page.TheConstants.{PAPER_DOTS, PAPER_BYTES}
-use Rattle.vp_dots.specs.Dots.{dot, shifted, span}
+use Rattle.vp_dots.specs.Dots.{bit, dot, shifted, span}
 use Rattle.vp_dots.specs.Painting.{Painted, paint}
 use Rattle.vp_dots.specs.Images.{row_of, row_from, packed}
 use Rattle.vp_dots.specs.declared.Op.TheVariants.{Black, White}
@@ -14,25 +15,31 @@ use Rattle.vp_receipt_settings.specs.Setup.{row_bytes}
 use Rattle.vp_receipt_settings.proofs.Widths.{few_bytes}
 use Rattle.vp_strips.proofs.Bitmaps.{dot_white}
 
--- a dot of a row that was white, blackened where a source is black and whitened from an end on
+-- a dot of a source that is moved to the right, and whitened from an end on
 over : (left length d : ℕ) (b : Bool) → d < PAPER_DOTS →
-    cond (nat_le (left + length) d && nat_lt d PAPER_DOTS) false (cond (nat_le left d && b) true false) ≡ (nat_le left d && nat_lt (d - left) length && b)
+    cond (nat_le (left + length) d && nat_lt d PAPER_DOTS) false (nat_le left d && b) ≡ (nat_le left d && nat_lt (d - left) length && b)
 over left length d true h = grind (arith, nat_tests)
 over left length d false h = grind (arith, nat_tests)
 
-pub row_dot : (left length d : ℕ) (f : ℕ → Bool) (row a b : List ℕ) → row ≡ replicate PAPER_BYTES 0 → Painted Black (shifted (pos left) f) row a → Painted White (span (left + length) PAPER_DOTS) a b → d < PAPER_DOTS →
-    dot b d ≡ clipped left length f d
-row_dot left length d f row a b e p q h =
-    let long : list_length row ≡ PAPER_BYTES = ap list_length e ∙ length-replicate {A = ℕ} PAPER_BYTES 0 in
-    q.dots_are d (let l : list_length a ≡ list_length row = p.length_is in omega arith)
-    ∙ ap (paint White (span (left + length) PAPER_DOTS d)) (p.dots_are d (omega arith) ∙ ap (paint Black (shifted (pos left) f d)) (ap (λ r. dot r d) e ∙ dot_white PAPER_BYTES d (omega arith)))
-    ∙ over left length d (f (d - left)) h
+-- a row that was white has the dots of a source, moved to the right
+pub moved_dot : (n left : ℕ) (at : ℤ) (f : ℕ → Bool) (row a : List ℕ) → row ≡ replicate n 0 → at ≡ pos left → Painted Black (shifted at f) row a
+    → (d : ℕ) → d < 8 * n → dot a d ≡ (nat_le left d && f (d - left))
+moved_dot n left at f row a e at_is p d h =
+    let long : list_length row ≡ n = ap list_length e ∙ length-replicate {A = ℕ} n 0 in
+    let q = subst (λ z. Painted Black (shifted z f) row a) at_is p in
+    q.dots_are d (omega arith) ∙ ap (paint Black (shifted (pos left) f d)) (ap (λ r. dot r d) e ∙ dot_white n d (omega arith)) ∙ black (nat_le left d) (f (d - left))
+  where
+    black : (b c : Bool) → cond (b && c) true false ≡ (b && c)
+    black true true = refl
+    black true false = refl
+    black false c = refl
 
--- the same with its parts in other words
-pub row_clipped : (left length end : ℕ) (at : ℤ) (f : ℕ → Bool) (row a b : List ℕ) → row ≡ replicate PAPER_BYTES 0 → at ≡ pos left → end ≡ left + length →
-    Painted Black (shifted at f) row a → Painted White (span end PAPER_DOTS) a b → (d : ℕ) → d < PAPER_DOTS → dot b d ≡ clipped left length f d
-row_clipped left length end at f row a b e at_is end_is p q d h =
-    row_dot left length d f row a b e (subst (λ z. Painted Black (shifted z f) row a) at_is p) (subst (λ k. Painted White (span k PAPER_DOTS) a b) end_is q) h
+-- and is clipped where it is whitened from an end on
+pub row_clipped : (left length end : ℕ) (f : ℕ → Bool) (a b : List ℕ) → end ≡ left + length → list_length a ≡ PAPER_BYTES → ((d : ℕ) → d < PAPER_DOTS → dot a d ≡ (nat_le left d && f (d - left)))
+    → Painted White (span end PAPER_DOTS) a b → (d : ℕ) → d < PAPER_DOTS → dot b d ≡ clipped left length f d
+row_clipped left length end f a b end_is long moved p d h =
+    let q = subst (λ k. Painted White (span k PAPER_DOTS) a b) end_is p in
+    q.dots_are d (omega arith) ∙ ap (paint White (span (left + length) PAPER_DOTS d)) (moved d h) ∙ over left length d (f (d - left)) h
 
 -- rows with the same dots have the same bytes
 packed_same : (n : ℕ) (f g : ℕ → Bool) (at most : ℕ) → at + n ≤ most → ((d : ℕ) → d < most → f d ≡ g d) → packed n f at ≡ packed n g at
@@ -53,6 +60,17 @@ length-paper_row paper f = length-row_from (row_bytes paper) f 0
 pub paper_row_same : (paper : Width) (f g : ℕ → Bool) → ((d : ℕ) → d < PAPER_DOTS → f d ≡ g d) → paper_row paper f ≡ paper_row paper g
 unfolding paper_row
 paper_row_same paper f g h = row_of_same (row_bytes paper) f g (λ d l. h d (let n = few_bytes paper in omega arith))
+
+-- a dot of a row's first bytes
+pub dot-take : (n : ℕ) (row : List ℕ) (d : ℕ) → d < 8 * n → dot (take n row) d ≡ dot row d
+unfolding dot
+dot-take n row d h = ap (λ b. bit b (7 - d % 8)) (get_or-take n row (d / 8) 0 (omega arith))
+
+-- where it isn't moved, a row as long as the paper has the dots of its source
+pub straight_dot : (left : ℕ) (source row : List ℕ) (d : ℕ) → left ≡ 0 → row ≡ take PAPER_BYTES source → d < PAPER_DOTS → dot row d ≡ (nat_le left d && dot source (d - left))
+straight_dot left source row d none e h =
+    let here : d - 0 ≡ d = omega arith in
+    rw (e, none, here, le-leb 0 d (omega arith)) (dot-take PAPER_BYTES source d (omega arith))
 
 -- narrower paper has the front of the row
 take_row_from : (n m : ℕ) (f : ℕ → Bool) (at : ℕ) → n ≤ m → take n (row_from m f at) ≡ row_from n f at

@@ -1,6 +1,7 @@
 -- What a job keeps.
-use Rattle.std.specs.Prelude.{◌≡◌, ◌≤◌, ◌<◌, ◌-◌, ℕ, List, [], ◌++◌, length, take, Option, Some, None}
+use Rattle.std.specs.Prelude.{false, ◌≡◌, ◌≤◌, ◌<◌, ℕ, List, [], ◌++◌, length, take, Option, Some, None}
 use Rattle.vp_receipt_settings.specs.declared.text.TheConstants.{LINE_ROWS}
+use Rattle.vp_glyph.specs.declared.cell.Style.{Style}
 use Rattle.vp_strips.specs.declared.canvas.Canvas.{Canvas}
 use Rattle.vp_strips.specs.declared.job.Job.{Job}
 use Rattle.vp_strips.specs.declared.lines.Lines.{Lines}
@@ -97,11 +98,9 @@ abbrev pub HasLine : Strip → Canvas → Lines → LineOf → Type 0
 HasLine s canvas lines Head = lines.head.items ≡ head_text s
 HasLine s canvas lines (Row y) = HasRow s canvas lines y
 
--- they are there once the first of them is put out, and before that those of the row above
+-- they are there once the first of them is put out
 abbrev pub IsLineBegun : Strip → Canvas → Lines → LineOf → ℕ → Type 0
-IsLineBegun s canvas lines Head byte = 0 < byte → lines.head.items ≡ head_text s
-IsLineBegun s canvas lines (Row y) byte =
-    (0 < byte → HasRow s canvas lines y) × (byte ≡ 0 → 0 < y → HasRow s canvas lines (y - 1))
+IsLineBegun s canvas lines l byte = 0 < byte → HasLine s canvas lines l
 
 abbrev pub IsBegun : Strip → Canvas → Lines → Option Place → Type 0
 IsBegun s canvas lines None = Unit {0}
@@ -117,10 +116,9 @@ abbrev pub SomeLeft : Strip → Option Place → Type 0
 SomeLeft s None = Unit {0}
 SomeLeft s (Some p) = p.byte < line_bytes s p.line
 
--- row y of a page comes next, from its first byte on
-pub record IsAtPageRow (j : Job) (y : ℕ) : Type 0 where
-  pub page : j.strip.dots ≡ Page
-  pub place : j.place ≡ Some (record { line = Row y; byte = 0 })
+-- row y comes next, from its first byte on
+abbrev pub IsAtRow : Job → ℕ → Type 0
+IsAtRow j y = j.place ≡ Some (record { line = Row y; byte = 0 })
 
 -- what is put out, with the bytes of the line that is begun
 pub record IsJob (j : Job) (canvas : Canvas) (lines : Lines) : Type 0 where
@@ -158,3 +156,9 @@ Shows (Some shown) pending high others = (shown.height ≡ high) × (shown.other
 
 abbrev pub IsShowing : Job → Canvas → ℕ → ℕ → Type 0
 IsShowing j canvas high others = Shows (showing_of j canvas) (length (text_of j canvas)) high others
+
+-- a style whose rows are those of another one, in which each is printed `hm` times
+pub record IsSource (source style : Style) : Type 0 where
+  pub is : source ≡ record style { hm = 1 }
+  pub some : 0 < style.hm
+  pub plain : style.inverse ≡ false → style.underline ≡ 0

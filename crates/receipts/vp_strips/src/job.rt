@@ -4,17 +4,16 @@ ghost use Rattle.vp_strips.specs.declared.canvas.Canvas.{Canvas};
 ghost use Rattle.vp_strips.specs.declared.lines.Lines.{Lines};
 ghost use Rattle.vp_strips.specs.declared.strip.Strip.{Strip};
 ghost use Rattle.vp_strips.specs.Rows.{rows_text};
-ghost use Rattle.vp_strips.specs.Jobs.{strip_dot};
-ghost use Rattle.vp_page.specs.declared.page.TheConstants.{PAGE_ROWS};
+ghost use Rattle.vp_strips.specs.Jobs.{strip_dot, IsPlace};
 ghost use Rattle.vp_receipt_settings.specs.Setup.{row_bytes};
-ghost use Rattle.vp_strips.specs.Held.{IsAtPageRow, text_of, part_of, SomeLeft, whole, whole_if, after_text, IsJob, IsTurned, IsLowIf, IsOwn, AreOwn, IsShowing, showing_of, IsHigh};
+ghost use Rattle.vp_strips.specs.Held.{IsAtRow, text_of, part_of, SomeLeft, whole, whole_if, after_text, IsJob, IsTurned, IsLow, IsLowIf, IsOwn, AreOwn, IsShowing, showing_of, IsHigh};
 ghost use Rattle.std.specs.Option.{option_map};
 
 use crate::canvas::Canvas;
 use crate::lines::Lines;
-use crate::strip::{Dots, Strip, copy_page_rows};
+use crate::many_rows::copy_rows;
+use crate::strip::{Dots, Strip};
 use vp_output::{Line, Place, put_part};
-use vp_page::PAGE_ROWS;
 use vp_receipt_settings::Width;
 
 /// The strips that come after one.
@@ -113,30 +112,27 @@ impl Job {
         }
     }
 
-    /// The row of a page that comes next, where it is whole and there is room for it.
-    fn next_page_row(&self, room: usize) -> Option<u32>
-        ensures { MatchOption result Unit (λ y. IsAtPageRow self.now y × (y < PAGE_ROWS)
+    /// The row that comes next, where none of it is put out and there is room for all of it.
+    fn next_row(&self, room: usize) -> Option<u32>
+        ensures { MatchOption result Unit (λ y. IsAtRow self.now y
             × (row_bytes self.now.strip.paper ≤ room)) }
     {
         let place = self.place?;
-        match (self.strip.dots, place.line) {
-            (Dots::Page, Line::Row(y))
-                if place.byte == 0
-                    && (y as usize) < PAGE_ROWS
-                    && self.strip.paper.row_bytes() <= room => { Some(y) }
+        match place.line {
+            Line::Row(y) if place.byte == 0 && self.strip.paper.row_bytes() <= room => Some(y),
             _ => None,
         }
     }
 
-    /// Puts out rows of a page, from row y on, as many as there are and room is for.
-    fn put_page_rows(&mut self, y: u32, canvas: &Canvas, lines: &mut Lines, out: &mut [u8]) -> usize
-        requires at { IsAtPageRow self.old y }
-        requires page { y < PAGE_ROWS }
+    /// Puts out rows, from row y on, as many as there are and room is for.
+    fn put_rows(&mut self, y: u32, canvas: &Canvas, out: &mut [u8]) -> usize
+        requires at { IsAtRow self.old y }
         requires room { row_bytes self.old.strip.paper ≤ length out.old }
-        requires job { IsJob self.old canvas.now lines.old }
+        requires low { IsLow self.old.strip }
+        requires place { IsPlace self.old.strip.rows self.old.place }
         ensures strip { self.new.strip ≡ self.old.strip }
         ensures after { self.new.after ≡ self.old.after }
-        ensures job { IsJob self.new canvas.now lines.new }
+        ensures job { (lines : Lines) → IsJob self.old canvas.now lines → IsJob self.new canvas.now lines }
         ensures some { 0 < result }
         ensures fits { result ≤ length out.old }
         ensures within { result ≤ length (part_of self.old canvas.now) }
@@ -144,20 +140,18 @@ impl Job {
         ensures rest { part_of self.new canvas.now ≡ drop result (part_of self.old canvas.now) }
     {
         let bytes = self.strip.paper.row_bytes();
-        let left = (self.strip.rows - y).min(PAGE_ROWS as u32 - y);
-        let rows = (out.len() / bytes).min(left as usize);
-        copy_page_rows(self.strip.paper, y as usize, rows, &canvas.page, out);
-        let last = y + (rows as u32 - 1);
-        self.strip.write_row(last, canvas, &mut lines.row);
+        let all = self.strip.rows();
+        let rows = (out.len() / bytes).min((all - y) as usize);
+        copy_rows(self.strip, y, rows as u32, canvas, out);
         let place = Place {
-            line: Line::Row(last),
+            line: Line::Row(y + (rows as u32 - 1)),
             byte: 0,
         };
-        self.place = place.advanced(bytes, bytes, self.strip.rows);
+        self.place = place.advanced(bytes, bytes, all);
         rows * bytes
     }
 
-    /// Puts out bytes of one line, or rows of a page.
+    /// Puts out bytes of one line, or rows.
     fn put_line(&mut self, canvas: &Canvas, lines: &mut Lines, out: &mut [u8]) -> usize
         requires job { IsJob self.old canvas.now lines.old }
         requires pending { 0 < length (part_of self.old canvas.now) }
@@ -171,8 +165,8 @@ impl Job {
         ensures bytes { out.new ≡ take result (part_of self.old canvas.now) ++ drop result out.old }
         ensures rest { part_of self.new canvas.now ≡ drop result (part_of self.old canvas.now) }
     {
-        if let Some(y) = self.next_page_row(out.len()) {
-            return self.put_page_rows(y, canvas, lines, out);
+        if let Some(y) = self.next_row(out.len()) {
+            return self.put_rows(y, canvas, out);
         }
         let Some(place) = self.place else {
             return 0;
@@ -205,7 +199,7 @@ impl Job {
         }
     }
 
-    /// Puts out bytes of one line, or rows of a page, and begins the next strip where one ends.
+    /// Puts out bytes of one line, or rows, and begins the next strip where one ends.
     // Where nothing is pending, its room isn't paid for.
     #[inline(never)]
     fn put_some(&mut self, canvas: &Canvas, lines: &mut Lines, out: &mut [u8]) -> usize

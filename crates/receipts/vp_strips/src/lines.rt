@@ -30,8 +30,7 @@ impl Lines {
         }
     }
 
-    /// Makes the bytes of the place's line where the first of them comes next, unless they are those of the
-    /// row above it.
+    /// Makes the bytes of the place's line where the first of them comes next.
     pub fn make(&mut self, strip: Strip, place: Place, canvas: &Canvas)
         requires low { IsLow strip }
         requires begun { IsLineBegun strip canvas.now self.old place.line place.byte }
@@ -42,10 +41,7 @@ impl Lines {
         }
         match place.line {
             Line::Head => self.head = header(u32::from(strip.paper.across()), strip.tall),
-            Line::Row(y) if y == 0 || !strip.repeats(y, canvas) => {
-                strip.write_row(y, canvas, &mut self.row)
-            }
-            Line::Row(_) => {}
+            Line::Row(y) => strip.write_row(y, canvas, &mut self.row),
         }
     }
 

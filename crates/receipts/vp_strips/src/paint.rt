@@ -1,6 +1,7 @@
 //! The bitmap of a line: how many of its lowest rows are in use, and so have to be cleared for the next line.
-ghost use Rattle.std.specs.Prelude.{◌≡◌, ℕ, ◌+◌, ◌-◌, ◌*◌, ◌<◌, ◌≤◌, ◌^◌, ◌∷◌, [], List, pos, ℤ, IfOk, length, false, slice_index, slice_index_or, nat_lt, ◌&&◌};
-ghost use Rattle.vp_dots.specs.Dots.{dot};
+ghost use Rattle.std.specs.Prelude.{◌≡◌, ℕ, ◌+◌, ◌-◌, ◌*◌, ◌<◌, ◌≤◌, ◌^◌, ◌∷◌, [], List, MatchOption, ◌/◌, nat_le, pos, ℤ, IfOk, length, false, slice_index, slice_index_or, nat_lt, ◌&&◌};
+ghost use Rattle.vp_dots.specs.Dots.{dot, shifted, span};
+ghost use Rattle.vp_glyph.specs.Cells.{cell_width, cell_height, cell_dot};
 ghost use Rattle.vp_dots.specs.Words.{word_dot};
 ghost use Rattle.vp_dots.specs.Places.{placed, words_dot, RowsPainted};
 ghost use Rattle.vp_dots.specs.declared.Op.TheVariants.{Black};
@@ -9,10 +10,12 @@ ghost use Rattle.vp_receipt_settings.specs.declared.text.TheConstants.{LINE_ROWS
 ghost use Rattle.vp_dots.specs.declared.word.TheConstants.{NARROW};
 ghost use Rattle.vp_receipt_settings.specs.Line.{Placed};
 ghost use Rattle.vp_strips.specs.LineDots.{HasDots, ink_placed};
+ghost use Rattle.vp_strips.specs.Held.{IsSource};
 
 use std::alloc::{AllocError, Global};
 use std::marker::Model;
-use vp_dots::{Band, Ink, NARROW, Op, Ready, WORDS, paint_at, paint_narrow};
+use vp_dots::{Band, Ink, NARROW, Op, Ready, WORDS, eight_at, paint_at, paint_narrow};
+use vp_glyph::{Cell, Style};
 use vp_page::LINE_BYTES;
 use vp_receipt_settings::LINE_ROWS;
 
@@ -55,7 +58,96 @@ fn paint_words(
     }
 }
 
-/// Paints ink at a place: by its words where they are of few dots, as those of a character.
+/// A line of ink that is no wider than a word.
+fn line_of<I: Ink>(ink: &I, y: u32) -> u64
+    requires { I.width ink.now ≤ 64 }
+    ensures { (x : ℕ) → word_dot result x ≡ I.ink_at ink.now x y }
+{
+    let mut row = [0; 16];
+    ink.paint_row(y, Op::Black, 0, &mut row);
+    eight_at(&row, 0)
+}
+
+/// Paints a word of few dots on each of `times` rows, from `top` on.
+fn paint_alike(
+    word: u64,
+    times: usize,
+    at: usize,
+    top: usize,
+    band: &mut Band<LINE_BYTES, LINE_ROWS>,
+)
+    requires room { top + times ≤ LINE_ROWS }
+    requires at { at < 2 ^ 63 }
+    requires narrow { (x : ℕ) → NARROW ≤ x → word_dot word x ≡ false }
+    ensures { RowsPainted LINE_ROWS Black
+        (λ x k. span top (top + times) k && shifted (pos at) (word_dot word) x) band.old band.new }
+{
+    for i in 0..times {
+        paint_narrow(Op::Black, word, at, band.row_mut(top + i));
+    }
+}
+
+/// Paints the lines of narrow ink, each on `times` rows, from `top` on.
+fn paint_lines<I: Ink>(
+    ink: &I,
+    times: usize,
+    at: usize,
+    top: usize,
+    band: &mut Band<LINE_BYTES, LINE_ROWS>,
+)
+    requires narrow { I.width ink.now ≤ NARROW }
+    requires some { 0 < times }
+    requires room { top + I.height ink.now * times ≤ LINE_ROWS }
+    requires at { at < 2 ^ 63 }
+    ensures { RowsPainted LINE_ROWS Black (λ x k. nat_le top k
+        && shifted (pos at) (λ u. I.ink_at ink.now u ((k - top) / times)) x) band.old band.new }
+{
+    let (_, high) = ink.size();
+    for v in 0..high {
+        let word = line_of(ink, v);
+        paint_alike(word, times, at, top + v as usize * times, band);
+    }
+}
+
+/// The character whose rows are printed `hm` times each for this one, where that is more than once: an
+/// underline isn't magnified.
+fn source_of<'a>(cell: &Cell<'a>) -> Option<Cell<'a>>
+    ensures { MatchOption result (Unit {0}) (λ source.
+        (source.sheets.now ≡ cell.now.sheets.now) × (source.character ≡ cell.now.character)
+        × (source.font ≡ cell.now.font) × IsSource source.style cell.now.style) }
+{
+    let style = cell.style;
+    if style.hm < 2 || (style.underline > 0 && !style.inverse) {
+        return None;
+    }
+    Some(Cell {
+        style: Style { hm: 1, ..style },
+        ..*cell
+    })
+}
+
+/// Paints ink at a place: by its words where they are of few dots, as those of a character in a style.
+#[inline(never)]
+fn paint_drawn<I: Ink>(ink: &I, left: i64, top: i64, band: &mut Band<LINE_BYTES, LINE_ROWS>)
+    ensures { RowsPainted LINE_ROWS Black (placed left top (I.ink_at ink.now)) band.old band.new }
+{
+    let (wide, high) = ink.size();
+    let high = high as usize;
+    if let (Ok(at), Ok(row)) = (usize::try_from(left), usize::try_from(top)) {
+        if wide <= NARROW && high <= WORDS && row <= LINE_ROWS - high {
+            let mut words = [0; WORDS];
+            if ink.words(&mut words) {
+                paint_words(&words, high, at, row, band);
+                return;
+            }
+        }
+    }
+    paint_at(ink, Op::Black, left, top, band);
+}
+
+/// Paints ink at a place: as it stands ready where that is of few dots, as a character of a sheet.
+// Inlined, so that a run of characters looks once at how they are printed.
+#[inline(always)]
 fn paint_ink<I: Ink>(ink: &I, left: i64, top: i64, band: &mut Band<LINE_BYTES, LINE_ROWS>)
     ensures { RowsPainted LINE_ROWS Black (placed left top (I.ink_at ink.now)) band.old band.new }
 {
@@ -67,14 +159,27 @@ fn paint_ink<I: Ink>(ink: &I, left: i64, top: i64, band: &mut Band<LINE_BYTES, L
                 paint_words(words, words.len(), at, row + above, band);
                 return;
             }
-            let mut words = [0; WORDS];
-            if high <= WORDS && ink.words(&mut words) {
-                paint_words(&words, high, at, row, band);
-                return;
-            }
         }
     }
-    paint_at(ink, Op::Black, left, top, band);
+    paint_drawn(ink, left, top, band);
+}
+
+/// Paints a character at a place: each of its rows is drawn once, however often it is printed.
+#[inline(always)]
+fn paint_cell(cell: &Cell<'_>, at: u16, top: usize, band: &mut Band<LINE_BYTES, LINE_ROWS>)
+    requires { top + cell_height cell.now.font cell.now.style ≤ LINE_ROWS }
+    ensures { RowsPainted LINE_ROWS Black (placed (pos at) (pos top)
+        (cell_dot cell.now.sheets.now cell.now.font cell.now.style cell.now.character)) band.old band.new }
+{
+    let (wide, _) = cell.size();
+    if wide <= NARROW {
+        if let Some(source) = source_of(cell) {
+            let times = usize::from(cell.style.hm);
+            paint_lines(&source, times, usize::from(at), top, band);
+            return;
+        }
+    }
+    paint_ink(cell, i64::from(at), top as i64, band);
 }
 
 impl Bitmap {
@@ -106,6 +211,21 @@ impl Bitmap {
         self.used = self.used.max(high as usize);
     }
 
+    /// Puts a character into the line at a position, on its lowest rows.
+    #[inline(always)]
+    pub fn put_cell(&mut self, cell: &Cell<'_>, at: u16)
+        requires { cell_height cell.now.font cell.now.style ≤ LINE_ROWS }
+        ensures { (line : List Placed) → HasDots line self.old →
+            HasDots (ink_placed at (cell_width cell.now.font cell.now.style)
+            (cell_height cell.now.font cell.now.style)
+            (cell_dot cell.now.sheets.now cell.now.font cell.now.style cell.now.character) ∷ line) self.new }
+    {
+        let (_, high) = cell.size();
+        let high = high as usize;
+        paint_cell(cell, at, LINE_ROWS - high, &mut self.band);
+        self.used = self.used.max(high);
+    }
+
     /// The bytes of a row.
     pub fn row(&self, y: usize) -> &[u8]
         requires { y < LINE_ROWS }
@@ -115,16 +235,15 @@ impl Bitmap {
         self.band.row(y)
     }
 
-    /// Eight rows, one below the other, from one on: white ones past the lowest.
-    pub fn eight_rows(&self, top: usize) -> [[u8; LINE_BYTES]; 8]
-        requires { top < LINE_ROWS }
-        ensures { (i u : ℕ) → i < 8 → u < LINE_DOTS → dot (slice_index_or result i []) u ≡
-            (nat_lt (top + i) LINE_ROWS && dot (slice_index_or self.now (top + i) []) u) }
+    /// Copies rows that lie below one another, from one on.
+    pub fn copy_rows(&self, top: usize, rows: &mut [[u8; LINE_BYTES]])
+        requires { top + length rows.old ≤ LINE_ROWS }
+        ensures len { length rows.new ≡ length rows.old }
+        ensures rows { (i u : ℕ) → i < length rows.new →
+            dot (slice_index_or rows.new i []) u ≡ dot (slice_index_or self.now (top + i) []) u }
     {
-        let mut rows = [[0; LINE_BYTES]; 8];
-        for i in 0..(LINE_ROWS - top).min(8) {
+        for i in 0..rows.len() {
             rows[i].copy_from_slice(self.row(top + i));
         }
-        rows
     }
 }

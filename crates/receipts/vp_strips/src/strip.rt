@@ -1,5 +1,5 @@
 //! The rows of a strip: a line, white rows, a cut, a row of a raster, a symbol, or a page.
-ghost use Rattle.std.specs.Prelude.{◌≡◌, ℕ, ◌+◌, ◌-◌, ◌*◌, ◌<◌, ◌≤◌, ◌++◌, List, true, false, take, drop, length};
+ghost use Rattle.std.specs.Prelude.{◌≡◌, ℕ, ◌+◌, ◌-◌, ◌*◌, ◌<◌, ◌≤◌, List, true, false, take, nat_le, ◌&&◌};
 ghost use Rattle.vp_dots.specs.Dots.{dot};
 ghost use Rattle.vp_dots.specs.Images.{row_of};
 ghost use Rattle.vp_esc.specs.declared.item.EscItem.{EscItem};
@@ -7,13 +7,13 @@ ghost use Rattle.vp_dots.specs.Headers.{header_of};
 ghost use Rattle.vp_strips.specs.declared.canvas.Canvas.{Canvas};
 ghost use Rattle.vp_dots.specs.Images.{Image};
 ghost use Rattle.vp_strips.specs.SymbolInks.{IsDrawn};
-ghost use Rattle.vp_page.specs.declared.page.TheConstants.{PAPER_BYTES, PAGE_ROWS};
+ghost use Rattle.vp_page.specs.declared.page.TheConstants.{PAPER_BYTES, PAPER_DOTS, PAGE_ROWS};
 ghost use Rattle.vp_receipt_settings.specs.declared.text.TheConstants.{LINE_ROWS};
 ghost use Rattle.vp_receipt_settings.specs.Setup.{across, row_bytes, Setup};
 ghost use Rattle.vp_receipt_settings.specs.Line.{line};
 ghost use Rattle.vp_receipt_settings.specs.Settings.{settings_of, IsFit};
 ghost use Rattle.vp_strips.specs.LineDots.{HasOpen};
-ghost use Rattle.vp_strips.specs.Rows.{paper_row, rows_text, clipped, image_text, line_text, cut_text, white_text, cut_dot};
+ghost use Rattle.vp_strips.specs.Rows.{clipped, image_text, line_text, cut_text, white_text, cut_dot};
 ghost use Rattle.vp_strips.specs.Jobs.{row_text, line_dot_of, page_dot_of, dot_in};
 ghost use Rattle.vp_strips.specs.Held.{IsLow, IsLowIf, IsLowDots, IsHigh, IsOwn, whole, whole_if};
 
@@ -51,12 +51,23 @@ pub struct Strip {
     pub dots: Dots,
 }
 
+/// Writes a row with these dots, `left` dots from the left.
+fn write_moved(source: &[u8], left: u16, row: &mut [u8; PAPER_BYTES])
+    ensures { (d : ℕ) → d < PAPER_DOTS → dot row.new d ≡ (nat_le left d && dot source.now (d - left)) }
+{
+    if left == 0 && source.len() >= PAPER_BYTES {
+        row.copy_from_slice(&source[..PAPER_BYTES]);
+        return;
+    }
+    *row = [0; PAPER_BYTES];
+    or_into(source, i64::from(left), row);
+}
+
 /// Writes a row with these dots, `left` dots from the left, and clipped after `length` dots.
 pub fn write_clipped(source: &[u8], left: u16, length: u16, row: &mut [u8; PAPER_BYTES])
     ensures { row.new ≡ row_of PAPER_BYTES (clipped left length (dot source.now)) }
 {
-    *row = [0; PAPER_BYTES];
-    or_into(source, i64::from(left), row);
+    write_moved(source, left, row);
     let end = u64::from(left) + u64::from(length);
     fill_dots(Op::White, end, PAPER_DOTS as u64, row);
     dots_decide(row);
@@ -96,37 +107,6 @@ fn write_page_row(y: u32, page: &Page, row: &mut [u8; PAPER_BYTES])
     dots_decide(row);
 }
 
-/// The bytes of a row of the page, as far as the paper goes.
-fn page_row(paper: Width, y: usize, page: &Page) -> &[u8]
-    requires { y < PAGE_ROWS }
-    ensures { result.now ≡ paper_row paper (λ x. page_dot_of page.now x y) }
-{
-    let row = page.row(y);
-    dots_decide(row);
-    &row[..paper.row_bytes()]
-}
-
-/// Copies a row to the front of a room.
-fn copy_row(row: &[u8], room: &mut [u8])
-    requires { length row.now ≤ length room.old }
-    ensures { room.new ≡ row.now ++ drop (length row.now) room.old }
-{
-    room[..row.len()].copy_from_slice(row);
-}
-
-/// Copies rows of the page, from row y on, as far as the paper goes.
-pub fn copy_page_rows(paper: Width, y: usize, rows: usize, page: &Page, room: &mut [u8])
-    requires inside { y + rows ≤ PAGE_ROWS }
-    requires fits { rows * row_bytes paper ≤ length room.old }
-    ensures { room.new ≡ rows_text paper (page_dot_of page.now) y rows
-        ++ drop (rows * row_bytes paper) room.old }
-{
-    let bytes = paper.row_bytes();
-    for k in 0..rows {
-        copy_row(page_row(paper, y + k, page), &mut room[k * bytes..]);
-    }
-}
-
 /// Writes a row with line y of ink, `left` dots from the left, and clipped after `length` dots.
 pub fn write_ink<I: Ink>(ink: &I, y: u32, left: u16, length: u16, row: &mut [u8; PAPER_BYTES])
     ensures { row.new ≡ row_of PAPER_BYTES (clipped left length (λ x. I.ink_at ink.now x y)) }
@@ -155,7 +135,7 @@ fn cut_row(cut: Cut) -> [u8; PAPER_BYTES]
 
 impl Dots {
     /// Writes the bytes of a row.
-    fn write_row(self, y: u32, canvas: &Canvas, row: &mut [u8; PAPER_BYTES])
+    pub fn write_row(self, y: u32, canvas: &Canvas, row: &mut [u8; PAPER_BYTES])
         requires { IsLowDots self }
         ensures { row.new ≡ row_of PAPER_BYTES (λ x. dot_in self canvas.now x y) }
     {
@@ -189,14 +169,27 @@ impl Dots {
     }
 
     /// Whether row y is known to have the dots of the row above it.
-    fn repeats(self, y: u32, canvas: &Canvas) -> bool
+    pub fn repeats(self, y: u32, canvas: &Canvas) -> bool
         ensures { result ≡ true → (x : ℕ) → dot_in self canvas.now x y ≡ dot_in self canvas.now x (y - 1) }
     {
         match self {
-            Dots::Line { height, .. } => y > u32::from(height),
             Dots::White | Dots::Across(_) | Dots::Raster => true,
             Dots::Drawn { .. } => canvas.symbol.repeats(&canvas.sheets, y),
+            Dots::Line { .. } => false,
             Dots::Page => false,
+        }
+    }
+
+    /// How many of `rows` rows, from the top, may have a black dot.
+    pub fn inked(self, rows: u32) -> u32
+        ensures white { (canvas : Canvas) (x y : ℕ) → result ≤ y → y < rows → dot_in self canvas x y ≡ false }
+        ensures page { self ≡ Dots.Page → result ≡ PAGE_ROWS }
+    {
+        match self {
+            Dots::Line { height, .. } => u32::from(height),
+            Dots::White => 0,
+            Dots::Page => PAGE_ROWS as u32,
+            Dots::Across(_) | Dots::Raster | Dots::Drawn { .. } => rows,
         }
     }
 }
@@ -308,18 +301,18 @@ impl Strip {
         }
     }
 
+    /// How many rows follow the header.
+    pub fn rows(self) -> u32
+        ensures { result ≡ self.rows }
+    {
+        self.rows
+    }
+
     /// Writes the bytes of a row.
     pub fn write_row(self, y: u32, canvas: &Canvas, row: &mut [u8; PAPER_BYTES])
         requires { IsLow self }
         ensures { take (row_bytes self.paper) row.new ≡ row_text self canvas.now y }
     {
         self.dots.write_row(y, canvas, row);
-    }
-
-    /// Whether the bytes of row y are known to be those of the row above it.
-    pub fn repeats(self, y: u32, canvas: &Canvas) -> bool
-        ensures { result ≡ true → row_text self canvas.now y ≡ row_text self canvas.now (y - 1) }
-    {
-        self.dots.repeats(y, canvas)
     }
 }

@@ -1,18 +1,20 @@
-use Rattle.std.proofs.Common.{ap, ◌∙◌, sym, arith, w64}
+use Rattle.std.proofs.Common.{◌≡◌, ◌+◌, ◌*◌, ap, sym, arith, w64}
 use Rattle.std.proofs.lemmas.Int.{to_z-of_z}
-use Rattle.std.proofs.lemmas.List.{drop_all}
-use Rattle.vp_bars.specs.Boxes.{line_dot}
-use Rattle.vp_bars.proofs.Paints.{drawn_all}
-use Rattle.vp_bars.proofs.TextLines.{line_more, line_none}
+use Rattle.vp_glyph.specs.Cells.{font_width}
+use Rattle.vp_bars.proofs.TextLines.{line_begun, line_next, line_ended}
 use Rattle.vp_bars.proofs.bar_box.paint_line.Goals as goal
 
-pub loop-c-preserved : goal.loop-c-preserved
-loop-c-preserved c = record {
-  at = omega (arith, c.loop-c.invariant.at, c.width-x.ensures);
-  drawn = line_more _ _ _ _ _ _ _ _ _ _ _ _ _ _ _ _ _ c.loop-c-test.true c.width-x.ensures c.cell.ensures.sheets c.cell.ensures.font c.cell.ensures.style c.cell.ensures.character c.loop-c.invariant.drawn c.paint_cell.ensures;
-}
+pub loop-k-init : goal.loop-k-init
+loop-k-init c = line_begun _ _ c.args.sheets.now c.args.font c.args.text.now c.args.y c.args.left c.seen-from.result.0 _ c.seen-from.ensures.first
+    (rw c.width-width.ensures at c.seen-from.ensures.before)
+
+pub loop-k-preserved : goal.loop-k-preserved
+loop-k-preserved c =
+    let place : c.args.left + c.width-width.result * c.loop-k.k ≡ c.args.left + font_width c.args.font * c.loop-k.k = ap (λ w. c.args.left + w * c.loop-k.k) c.width-width.ensures in
+    line_next _ _ c.args.sheets.now c.args.font c.args.text.now c.args.y c.args.left _ _ _ _ _ _ _ c.loop-k.k _ (omega (arith, c.seen-from.ensures.last)) place
+    c.cell-cell.ensures.sheets c.cell-cell.ensures.font c.cell-cell.ensures.style c.cell-cell.ensures.character c.loop-k.invariant c.paint_cell.ensures
 
 pub returns : goal.returns
-returns c =
-    rw (sym (to_z-of_z w64 c.args.at c.ranges.at)) (drawn_all _ _ _ _ _ _ _ c.loop-c.invariant.drawn
-    (λ j. ap (λ cs. line_dot c.args.sheets.now c.args.font cs j c.args.y) (drop_all c.loop-c.c-index c.args.text.now c.loop-c-test.false) ∙ line_none c.args.sheets.now c.args.font c.args.y j))
+returns c = rw (sym (to_z-of_z w64 c.args.at c.ranges.at))
+    (line_ended _ _ c.args.sheets.now c.args.font c.args.text.now c.args.y c.args.left c.loop-k.k c.seen-from.result.1 _ _ (omega arith)
+    (rw c.width-width.ensures at c.seen-from.ensures.behind) c.loop-k.invariant)

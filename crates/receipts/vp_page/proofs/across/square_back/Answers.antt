@@ -1,11 +1,11 @@
-use Rattle.std.proofs.Common.{inl, inr, ◌≡◌, ◌+◌, ◌-◌, ◌∙◌, ap, refl, arith, length, length-set, get_or, [], get_or-set_same, get_or-set_other, ◌&&◌, ltb}
-use Rattle.std.proofs.lemmas.Bool.{cases_eq, cases_lt, lt-ltb, le-ltb}
-use Rattle.vp_dots.specs.Dots.{dot}
-use Rattle.vp_page.proofs.Squares.{white_words}
+use Rattle.std.proofs.Common.{inl, inr, ◌≡◌, ◌+◌, ◌-◌, ◌∙◌, ap, refl, sym, arith, length, length-set, get_or-set_same, get_or-set_other}
+use Rattle.std.proofs.lemmas.Bool.{cases_eq, lt-ltb, le-ltb}
+use Rattle.vp_page.specs.Lines.{line_dot}
+use Rattle.vp_page.proofs.Squares.{white_words, other_rows, all_rows}
 use Rattle.vp_page.proofs.across.square_back.Goals as goal
 
 pub loop-i-init : goal.loop-i-init
-loop-i-init c = record { count = refl; dots = λ x y h m k. absurd (omega arith); white = λ x y h k. white_words y x h }
+loop-i-init c = record { count = refl; dots = λ x y h l. rw (le-ltb (63 - y) 0 (omega arith)) (white_words y x l) }
 
 pub loop-i-preserved : goal.loop-i-preserved
 loop-i-preserved c =
@@ -16,17 +16,12 @@ loop-i-preserved c =
     let room : length sq ≡ 64 = c.loop-i.invariant.count in
     record {
       count = length-set sq (64 - 1 - k) _ ∙ room;
-      dots = λ x y h m l. elim (cases_eq y (64 - 1 - k)) [
-        | inl e ↦ (let line : k ≡ 63 - y = omega (arith, e) in
-            rw (e, get_or-set_same sq (64 - 1 - k) word 0 (omega (arith, room))) (c.dots_from.ensures x h
-            ∙ ap (λ i. ltb (c.args.from + x) 1664 && dot (get_or lines i []) (c.args.from + x)) (let f : k ≡ 63 - (64 - 1 - k) = omega (arith, line) in f)))
-        | inr n ↦ rw (get_or-set_other sq (64 - 1 - k) y word 0 n) (c.loop-i.invariant.dots x y h m (omega (arith, n)))
+      dots = λ x y h l. elim (cases_eq y (64 - 1 - k)) [
+        | inl e ↦ (let line : 63 - y ≡ k = omega (arith, e) in
+            rw (line, e, get_or-set_same sq (64 - 1 - k) word 0 (omega (arith, room)), lt-ltb k (k + 1) (omega arith)) (c.dots_from.ensures x h))
+        | inr n ↦ rw (get_or-set_other sq (64 - 1 - k) y word 0 n) (c.loop-i.invariant.dots x y h l ∙ other_rows (63 - y) k _ (λ e. n (omega (arith, e))))
       ];
-      white = λ x y h l. rw (get_or-set_other sq (64 - 1 - k) y word 0 (λ e. absurd (omega arith))) (c.loop-i.invariant.white x y h (omega arith));
     }
 
 pub returns : goal.returns
-returns c = λ x y h l. elim (cases_lt (63 - y) c.args.count) [
-  | inl m ↦ rw (lt-ltb (63 - y) c.args.count m) (c.loop-i.invariant.dots x y h l (omega arith))
-  | inr g ↦ rw (le-ltb (63 - y) c.args.count g) (c.loop-i.invariant.white x y l (omega arith))
-]
+returns c = λ x y h l. c.loop-i.invariant.dots x y h l ∙ all_rows c.args.lines.now (63 - y) c.loop-i.i (c.args.from + x) (omega arith)

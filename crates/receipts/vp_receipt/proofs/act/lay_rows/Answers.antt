@@ -2,7 +2,7 @@ use Rattle.std.proofs.Common.{ℕ, List, ◌∙◌, ap, arith}
 use Rattle.vp_dots.specs.Dots.{dot}
 use Rattle.vp_page.proofs.Pages.{rows_make_an_image}
 use Rattle.vp_receipt.specs.PageMarks.{mark_of}
-use Rattle.vp_receipt.proofs.EightRows.{first_dots_of}
+use Rattle.vp_receipt.proofs.PageRows.{first_dots_of}
 use Rattle.vp_receipt.proofs.PageLines.{length_small}
 use Rattle.vp_receipt.proofs.act.lay_rows.Goals as goal
 

@@ -19,33 +19,33 @@ loop-code-preserved c =
     let sheets = c.args.sheets.now in
     let more : take (k + 1) text ≡ take k text ++ b ∷ [] = take_more text k 0 c.loop-code-test.true in
     let some : length text - k ≡ suc left = omega (arith, c.loop-code-test.true) in
-    let was : Put old sheets c.args.bitmap.now (take k text) (suc left) c.loop-code.s c.loop-code.bitmap =
-    subst (λ n. Put old sheets c.args.bitmap.now (take k text) n c.loop-code.s c.loop-code.bitmap) some c.loop-code.invariant in
-    subst (λ xs. Put old sheets c.args.bitmap.now xs left c.if-code-ge32.s c.if-code-ge32.bitmap) (sym more) (elim c.if-code-ge32.branch [
-      | then-code-ge32 w ↦ rw (w.s-is, w.bitmap-is) (character_put old sheets c.args.bitmap.now (take k text) left c.loop-code.s w.with_character.result c.loop-code.bitmap w.put_next.new.bitmap b w.if-code-ge32.true was
-          w.with_character.ensures.settings w.with_character.ensures.position w.with_character.ensures.fit
-          (rw (w.cell-cell.ensures.sheets, w.cell-cell.ensures.character, w.cell-cell.ensures.font, w.cell-cell.ensures.style) at w.put_next.ensures))
-      | else-code-ge32 w ↦ rw (w.s-is, w.bitmap-is) (control_put old sheets c.args.bitmap.now (take k text) left c.loop-code.s c.loop-code.bitmap b w.if-code-ge32.false
+    let was : Put old sheets c.args.bitmap.now (take k text) (suc left) c.loop-code.now c.loop-code.bitmap =
+    subst (λ n. Put old sheets c.args.bitmap.now (take k text) n c.loop-code.now c.loop-code.bitmap) some c.loop-code.invariant in
+    subst (λ xs. Put old sheets c.args.bitmap.now xs left c.if-code-ge32.now c.if-code-ge32.bitmap) (sym more) (elim c.if-code-ge32.branch [
+      | then-code-ge32 w ↦ rw (w.now-is, w.bitmap-is) (character_put old sheets c.args.bitmap.now (take k text) left c.loop-code.now w.with_character-now.result c.loop-code.bitmap w.put_character.new.bitmap b w.if-code-ge32.true was
+          w.with_character-now.ensures.settings w.with_character-now.ensures.position w.with_character-now.ensures.fit
+          (rw (w.cell-cell.ensures.sheets, w.cell-cell.ensures.character, w.cell-cell.ensures.font, w.cell-cell.ensures.style) at w.put_character.ensures))
+      | else-code-ge32 w ↦ rw (w.now-is, w.bitmap-is) (control_put old sheets c.args.bitmap.now (take k text) left c.loop-code.now c.loop-code.bitmap b w.if-code-ge32.false
           (All-from_recursion (λ b. is_text b ≡ true) text c.requires.text k 0 c.loop-code-test.true) was)
     ])
 
-pub with_character-requires-clause-fit : goal.with_character-requires-clause-fit
-with_character-requires-clause-fit c = c.loop-code.invariant.fit
+pub with_character-now-requires-clause-fit : goal.with_character-now-requires-clause-fit
+with_character-now-requires-clause-fit c = c.loop-code.invariant.fit
 
-pub with_character-requires-clause-room : goal.with_character-requires-clause-room
-with_character-requires-clause-room c =
+pub with_character-now-requires-clause-room : goal.with_character-now-requires-clause-room
+with_character-now-requires-clause-room c =
     let text = c.args.text.now in
     let k = c.loop-code.code-index in
     let left = length text - (k + 1) in
     let some : length text - k ≡ suc left = omega (arith, c.loop-code-test.true) in
-    has_room c.args.s.now c.args.sheets.now c.args.bitmap.now (take k text) left c.loop-code.s c.loop-code.bitmap
-    (subst (λ n. Put c.args.s.now c.args.sheets.now c.args.bitmap.now (take k text) n c.loop-code.s c.loop-code.bitmap) some c.loop-code.invariant)
+    has_room c.args.s.now c.args.sheets.now c.args.bitmap.now (take k text) left c.loop-code.now c.loop-code.bitmap
+    (subst (λ n. Put c.args.s.now c.args.sheets.now c.args.bitmap.now (take k text) n c.loop-code.now c.loop-code.bitmap) some c.loop-code.invariant)
 
 pub returns : goal.returns
 returns c =
     let text = c.args.text.now in
     let k = c.loop-code.code-index in
     let all : take k text ≡ text = take_all k text c.loop-code-test.false in
-    let done : Put c.args.s.now c.args.sheets.now c.args.bitmap.now text (length text - k) c.loop-code.s c.loop-code.bitmap =
-    subst (λ xs. Put c.args.s.now c.args.sheets.now c.args.bitmap.now xs (length text - k) c.loop-code.s c.loop-code.bitmap) all c.loop-code.invariant in
+    let done : Put c.args.s.now c.args.sheets.now c.args.bitmap.now text (length text - k) c.loop-code.now c.loop-code.bitmap =
+    subst (λ xs. Put c.args.s.now c.args.sheets.now c.args.bitmap.now xs (length text - k) c.loop-code.now c.loop-code.bitmap) all c.loop-code.invariant in
     record { fit = done.fit; settings = done.settings; line = done.line; others = done.others }

@@ -1,13 +1,13 @@
-use Rattle.std.proofs.Common.{◌≡◌, ◌+◌, ◌*◌, ◌&&◌, ◌∷◌, ltb, ap, ◌∙◌, subst, arith}
-use Rattle.std.proofs.lemmas.Bool.{ltb-true, and_parts}
+use Rattle.std.proofs.Common.{◌≡◌, ◌+◌, ◌*◌, ◌<◌, ◌&&◌, ◌∷◌, ltb, ap, ◌∙◌, subst, length, arith, rules}
+use Rattle.std.proofs.lemmas.Bool.{ltb-true, lt-ltb, and_parts}
 use Rattle.vp_dots.specs.Dots.{dot}
 use Rattle.vp_esc.specs.declared.item.RasterScale.{RasterScale}
 use Rattle.vp_page.specs.Layers.{Laid, first_rows}
 use Rattle.vp_page.specs.Pages.{HasPage}
-use Rattle.vp_page.proofs.Pages.{rows_make_an_image}
+use Rattle.vp_page.specs.declared.line.TheConstants.{LINE_DOTS}
+use Rattle.vp_page.proofs.Pages.{lines_more, rows_make_an_image}
 use Rattle.vp_receipt_settings.specs.Rasters.{times_down, row_at}
 use Rattle.vp_receipt.specs.PageMarks.{mark_of, rows_dot}
-use Rattle.vp_receipt.proofs.LinesAtOnce.{lines_more}
 use Rattle.vp_receipt.proofs.RasterLines.{once_dots}
 use Rattle.vp_receipt.proofs.PageLines.{length_small}
 use Rattle.vp_receipt.proofs.raster_page.lay_across.Goals as goal
@@ -23,12 +23,13 @@ loop-k-preserved c = λ layers page.
     let m = mark_of p (rows_dot r.scale r.bytes c.args.rows bytes) in
     let k = c.loop-k.k in
     let short = length_small p.area p.direction c.requires.fit.across c.requires.fit.down in
+    let whole : length c.rows_from-lines.result ≡ 64 = search rules in
     let next : 64 * k + 64 ≡ 64 * (k + 1) = omega arith in
     subst (λ n. HasPage (Laid (first_rows n m) ∷ layers) c.lay_lines.new.self) next
-    (lines_more m (64 * k) c.rows_from-lines.result layers c.lay_lines.new.self short
-    (λ u w h l. c.rows_from-lines.ensures w u l h
+    (lines_more m (64 * k) 64 c.rows_from-lines.result layers c.lay_lines.new.self (omega arith) (omega (arith, whole))
+    (λ u w h l. let shown : u < LINE_DOTS = omega (arith, h, short) in rw (lt-ltb u LINE_DOTS shown) (c.rows_from-lines.ensures w u l shown
     ∙ ap (λ x. ltb (64 * k + w) c.args.rows && dot (row_at bytes x (64 * k + w)) u) c.from-wide.ensures
-    ∙ once_dots r.scale r.bytes c.args.rows bytes (64 * k + w) u c.requires.once)
+    ∙ once_dots r.scale r.bytes c.args.rows bytes (64 * k + w) u c.requires.once))
     (c.lay_lines.ensures _ (c.loop-k.invariant layers page)))
 
 pub returns : goal.returns

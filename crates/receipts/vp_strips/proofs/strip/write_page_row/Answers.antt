@@ -4,7 +4,7 @@ use Rattle.std.proofs.lemmas.List.{length-replicate}
 use Rattle.vp_page.specs.declared.page.TheConstants.{PAGE_ROWS, PAPER_BYTES}
 use Rattle.vp_strips.specs.Jobs.{page_dot_of}
 use Rattle.vp_strips.proofs.Bitmaps.{dot_white}
-use Rattle.vp_strips.proofs.PageRows.{whole_row}
+use Rattle.vp_strips.proofs.ManyRows.{whole_row}
 use Rattle.vp_strips.proofs.strip.write_page_row.Goals as goal
 
 pub returns-then-y-lt-PAGE_ROWS : goal.returns-then-y-lt-PAGE_ROWS

@@ -10,4 +10,4 @@ returns c =
     let s = c.args.self.now in
     let b : Boxed = boxed s in
     let left = ap (λ w. (w - s.bars_width) / 2) c.width.ensures.width ∙ ap (λ w. (box_width b - w) / 2) s.bars_are in
-    rw (sym (to_z-of_z w64 c.args.at c.ranges.at)) (bars_painted _ _ b _ _ _ _ _ _ c.symbology.ensures c.symbols.ensures.values left c.draw_bars.ensures)
+    rw (sym (to_z-of_z w64 c.args.at c.ranges.at)) (bars_painted _ _ b _ _ _ _ _ _ c.strokes-strokes.ensures.symbology c.strokes-strokes.ensures.values left (rw (c.strokes-strokes.ensures.narrow, c.strokes-strokes.ensures.wide) at c.draw_bars.ensures))

@@ -1,34 +1,56 @@
-use Rattle.std.proofs.Common.{ap, arith}
-use Rattle.std.specs.List.{flat_map}
-use Rattle.vp_bars.specs.Symbologies.{pattern_of}
-use Rattle.vp_bars.specs.Widths.{sized, next_widths, widths_of, total}
-use Rattle.vp_bars.proofs.Draws.{total-append}
+use Rattle.std.proofs.Common.{◌<◌, ◌*◌, ap, arith, length}
+use Rattle.vp_bars.proofs.Regular.{parts_of}
 use Rattle.vp_bars.proofs.strokes.Strokes.characters_width.Goals as goal
 
 pub character_width-requires : goal.character_width-requires
 character_width-requires c =
     let s = c.args.self.now in
-    let split = ap total (ap (widths_of s.symbology s.narrow s.wide) c.in-Some.ensures.cases.0) in
-    let both = total-append (sized s.symbology s.narrow s.wide (pattern_of s.symbology c.in-Some.first.now)) (flat_map (next_widths s.symbology s.narrow s.wide) c.in-Some.others.now) in
-    omega (arith, split, both, c.requires)
+    let p = parts_of s.symbology s.narrow s.wide s.regular c.saturating_sub.result c.in-Some.first.now s.values.now c.in-Some.others.now c.split_at.result.0.now c.split_at.result.1.now
+    s.regular_are c.in-Some.ensures.cases.0 c.saturating_sub.ensures c.split_at.ensures.front c.split_at.ensures.back in
+    omega (arith, p.total_is, c.requires)
 
-pub next_width-requires : goal.next_width-requires
-next_width-requires c =
+pub overflow_cast-result : goal.overflow_cast-result
+overflow_cast-result c =
     let s = c.args.self.now in
-    let split = ap total (ap (widths_of s.symbology s.narrow s.wide) c.in-Some.ensures.cases.0) in
-    let both = total-append (sized s.symbology s.narrow s.wide (pattern_of s.symbology c.in-Some.first.now)) (flat_map (next_widths s.symbology s.narrow s.wide) c.in-Some.others.now) in
-    omega (arith, split, both, c.requires)
+    let few : length c.in-Some.others.now < length s.values.now = omega (arith, ap length c.in-Some.ensures.cases.0) in
+    omega (arith, few, s.few, c.split_at.ensures.front_len)
+
+pub overflow_mul-result : goal.overflow_mul-result
+overflow_mul-result c =
+    let s = c.args.self.now in
+    let p = parts_of s.symbology s.narrow s.wide s.regular c.saturating_sub.result c.in-Some.first.now s.values.now c.in-Some.others.now c.split_at.result.0.now c.split_at.result.1.now
+    s.regular_are c.in-Some.ensures.cases.0 c.saturating_sub.ensures c.split_at.ensures.front c.split_at.ensures.back in
+    let step = ap (λ k. k * length c.split_at.result.0.now) c.step.ensures.step in
+    omega (arith, p.total_is, step, c.requires)
 
 pub overflow_add-result : goal.overflow_add-result
 overflow_add-result c =
     let s = c.args.self.now in
-    let split = ap total (ap (widths_of s.symbology s.narrow s.wide) c.in-Some.ensures.cases.0) in
-    let both = total-append (sized s.symbology s.narrow s.wide (pattern_of s.symbology c.in-Some.first.now)) (flat_map (next_widths s.symbology s.narrow s.wide) c.in-Some.others.now) in
-    omega (arith, split, both, c.requires, c.character_width.ensures, c.next_width.ensures)
+    let p = parts_of s.symbology s.narrow s.wide s.regular c.saturating_sub.result c.in-Some.first.now s.values.now c.in-Some.others.now c.split_at.result.0.now c.split_at.result.1.now
+    s.regular_are c.in-Some.ensures.cases.0 c.saturating_sub.ensures c.split_at.ensures.front c.split_at.ensures.back in
+    let step = ap (λ k. k * length c.split_at.result.0.now) c.step.ensures.step in
+    omega (arith, p.total_is, step, c.character_width.ensures, c.requires)
+
+pub next_width-requires : goal.next_width-requires
+next_width-requires c =
+    let s = c.args.self.now in
+    let p = parts_of s.symbology s.narrow s.wide s.regular c.saturating_sub.result c.in-Some.first.now s.values.now c.in-Some.others.now c.split_at.result.0.now c.split_at.result.1.now
+    s.regular_are c.in-Some.ensures.cases.0 c.saturating_sub.ensures c.split_at.ensures.front c.split_at.ensures.back in
+    let step = ap (λ k. k * length c.split_at.result.0.now) c.step.ensures.step in
+    omega (arith, p.total_is, step, c.requires)
+
+pub overflow_add-result-2 : goal.overflow_add-result-2
+overflow_add-result-2 c =
+    let s = c.args.self.now in
+    let p = parts_of s.symbology s.narrow s.wide s.regular c.saturating_sub.result c.in-Some.first.now s.values.now c.in-Some.others.now c.split_at.result.0.now c.split_at.result.1.now
+    s.regular_are c.in-Some.ensures.cases.0 c.saturating_sub.ensures c.split_at.ensures.front c.split_at.ensures.back in
+    let step = ap (λ k. k * length c.split_at.result.0.now) c.step.ensures.step in
+    omega (arith, p.total_is, step, c.character_width.ensures, c.next_width.ensures, c.requires)
 
 pub returns : goal.returns
 returns c =
     let s = c.args.self.now in
-    let split = ap total (ap (widths_of s.symbology s.narrow s.wide) c.in-Some.ensures.cases.0) in
-    let both = total-append (sized s.symbology s.narrow s.wide (pattern_of s.symbology c.in-Some.first.now)) (flat_map (next_widths s.symbology s.narrow s.wide) c.in-Some.others.now) in
-    omega (arith, split, both, c.character_width.ensures, c.next_width.ensures)
+    let p = parts_of s.symbology s.narrow s.wide s.regular c.saturating_sub.result c.in-Some.first.now s.values.now c.in-Some.others.now c.split_at.result.0.now c.split_at.result.1.now
+    s.regular_are c.in-Some.ensures.cases.0 c.saturating_sub.ensures c.split_at.ensures.front c.split_at.ensures.back in
+    let step = ap (λ k. k * length c.split_at.result.0.now) c.step.ensures.step in
+    omega (arith, p.total_is, step, c.character_width.ensures, c.next_width.ensures)

@@ -15,3 +15,6 @@ returns-clause-some c =
       ap length (c.at-line.ensures s canvas refl c.make.ensures),
       length-line s canvas c.in-Some-place.place.line,
     )
+
+pub returns-in-Some-clause-job : goal.returns-in-Some-clause-job
+returns-in-Some-clause-job c = c.put_rows.ensures.job c.args.lines.now c.requires.job

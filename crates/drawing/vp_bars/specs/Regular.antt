@@ -1,0 +1,32 @@
+-- Characters that are alike wide: all that a symbology has, but for the stop of Code 128.
+use Rattle.std.specs.Prelude.{◌≡◌, ℕ, ◌+◌, ◌*◌, ◌≤◌, Bool, true, nat_lt, List, length, take}
+use Rattle.std.specs.List.{All}
+use Rattle.vp_bars.specs.declared.symbology.Symbology.{Symbology}
+use Rattle.vp_bars.specs.declared.symbology.Symbology.TheVariants.{Code39, Ean13, Code128}
+use Rattle.vp_bars.specs.Symbologies.{gap_of}
+use Rattle.vp_bars.specs.Widths.{sized, total}
+
+-- whether a value has one of them
+abbrev pub is_regular : Symbology → ℕ → Bool
+is_regular Code39 v = nat_lt v 44
+is_regular Ean13 v = nat_lt v 10
+is_regular Code128 v = nat_lt v 106
+
+abbrev pub IsRegular : Symbology → ℕ → Type 0
+IsRegular symbology v = is_regular symbology v ≡ true
+
+-- so many values, from the first on, have one each
+pub record AreRegular (symbology : Symbology) (count : ℕ) (values : List ℕ) : Type 0 where
+  pub within : count ≤ length values
+  pub each : All (IsRegular symbology) (take count values)
+
+-- how wide each of them is: nine elements, of which three are wide, seven modules, or eleven
+abbrev pub regular_width : Symbology → ℕ → ℕ → ℕ
+regular_width Code39 narrow wide = 6 * narrow + 3 * wide
+regular_width Ean13 narrow wide = 7 * narrow
+regular_width Code128 narrow wide = 11 * narrow
+
+-- and with the gap before it
+abbrev pub step_of : Symbology → ℕ → ℕ → ℕ
+step_of symbology narrow wide = total (sized symbology narrow wide (gap_of symbology))
+    + regular_width symbology narrow wide

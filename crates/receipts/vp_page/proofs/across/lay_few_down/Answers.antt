@@ -1,0 +1,26 @@
+use Rattle.std.proofs.Common.{◌≡◌, ℕ, ◌≤◌, ◌+◌, ◌-◌, ◌*◌, ◌&&◌, ◌∙◌, min, ltb, ap, refl, arith}
+use Rattle.vp_dots.specs.declared.Op.TheVariants.{Black}
+use Rattle.vp_page.specs.Lines.{line_dot}
+use Rattle.vp_page.proofs.Rows.{rows_same, rows_then}
+use Rattle.vp_page.proofs.Squares.{and_false, nothing_painted, down_none, more_down, down_all}
+use Rattle.vp_page.proofs.across.lay_few_down.Goals as goal
+
+pub loop-k-init : goal.loop-k-init
+loop-k-init c = nothing_painted _ c.args.band.now (λ x y h. down_none c.args.area.y _ y _ (omega arith))
+
+pub loop-k-preserved : goal.loop-k-preserved
+loop-k-preserved c =
+    let top = c.args.area.y in
+    let from = 128 * c.loop-k.k in
+    let n = c.min-rows.result in
+    let end = c.min-end.result in
+    let inside : from + 1 ≤ end = omega arith in
+    let here : min (128 * c.loop-k.k) end ≡ from = omega arith in
+    let next : min (128 * (c.loop-k.k + 1)) end ≡ from + n = omega arith in
+    let dots = λ (x k : ℕ). ltb x c.args.right && line_dot c.args.lines.now (c.args.right - 1 - x) k in
+    rw next (rows_then _ _ _ _ _ _ (λ x y. more_down (dots x) (dots x) (λ k. dots x (from + k)) top from n y (λ k h. refl) (λ k h. refl))
+    (rw here at c.loop-k.invariant) c.lay_two_down.ensures)
+
+pub returns : goal.returns
+returns c = rows_same Black _ _ _ _ (λ x y h. down_all c.args.area.y c.args.area.dy c.args.long _ y _ (omega arith) h
+    (λ far. ap (λ b. ltb x c.args.right && b) (c.requires.white (c.args.right - 1 - x) (y - c.args.area.y) far) ∙ and_false (ltb x c.args.right))) c.loop-k.invariant

@@ -1,0 +1,8 @@
+use Rattle.std.proofs.Common.{refl, lit≤}
+use Rattle.vp_page.proofs.Lines.{drawn}
+use Rattle.vp_page.proofs.line.drawn.Goals as goal
+
+pub returns : goal.returns
+returns g c =
+    drawn 208 (g.I.Ink.width c.args.ink.now) (λ x. g.I.Ink.ink_at c.args.ink.now x c.args.y) _ c.paint_row.new.row
+    refl c.requires (λ x t. (g.met.I.Ink.outside c.args.ink.now x c.args.y t).0) c.paint_row.ensures

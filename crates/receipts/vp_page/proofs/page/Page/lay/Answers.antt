@@ -1,8 +1,0 @@
-use Rattle.vp_page.proofs.Pages.{rows_make_an_image}
-use Rattle.vp_page.specs.Layers.{Mark}
-use Rattle.vp_page.proofs.page.Page.lay.Goals as goal
-
-pub loop-line-preserved : goal.loop-line-preserved
-loop-line-preserved g c = λ layers page.
-    let m : Mark = record { area = c.args.area; direction = c.args.direction; top = c.args.top; dot = g.I.Ink.ink_at c.args.ink.now } in
-    rows_make_an_image.more m c.loop-line.line _ layers c.lay_row.new.self (λ u h. c.draw.ensures.line u) (c.lay_row.ensures _ (c.loop-line.invariant layers page))

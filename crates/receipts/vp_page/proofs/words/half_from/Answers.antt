@@ -1,0 +1,7 @@
+use Rattle.std.proofs.Common.{inl, inr, ◌≡◌, ◌+◌, ◌-◌, ◌*◌, ◌^◌, ◌%◌, ◌&&◌, ◌∙◌, ap, refl, arith, ltb, bit_and}
+use Rattle.vp_dots.specs.Words.{word_dot}
+use Rattle.vp_page.proofs.WordsOnRows.{half_dot}
+use Rattle.vp_page.proofs.words.half_from.Goals as goal
+
+pub returns : goal.returns
+returns c = λ x. half_dot c.args.word c.first_dots.result c.args.skip x c.first_dots.ensures

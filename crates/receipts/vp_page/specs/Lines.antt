@@ -1,0 +1,16 @@
+-- Lines of dots that are laid at once.
+use Rattle.std.specs.Prelude.{ℕ, ◌+◌, ◌-◌, nat_le, nat_lt, Bool, ◌&&◌, List, [], ℤ, slice_index, slice_index_or}
+use Rattle.vp_dots.specs.Dots.{dot, shifted}
+use Rattle.vp_dots.specs.Words.{word_dot}
+use Rattle.vp_page.specs.declared.line.TheConstants.{LINE_DOTS}
+
+-- dot u of line i, none of which is longer than the longest line
+abbrev pub line_dot : List (List ℕ) → ℕ → ℕ → Bool
+line_dot lines i u = nat_lt u LINE_DOTS && dot (slice_index_or lines i []) u
+
+-- dot (x, y) of 32 dots of the first h words, from dot `skip` on, one word on each row from `top` on, each moved
+-- by an offset
+abbrev pub halves_dot : List ℕ → ℕ → ℤ → ℕ → ℕ → ℕ → ℕ → Bool
+halves_dot words skip left top h x y =
+    nat_le top y && (nat_lt (y - top) h
+    && shifted left (λ s. nat_lt s 32 && word_dot (slice_index words (y - top)) (s + skip)) x)

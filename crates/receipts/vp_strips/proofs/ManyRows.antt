@@ -1,0 +1,164 @@
+-- Many rows of a strip, as the paper shows them.
+use Rattle.std.proofs.Common.{◌≡◌, ℕ, zero, suc, ◌+◌, ◌-◌, ◌*◌, ◌/◌, ◌<◌, ◌≤◌, Bool, ◌&&◌, nat_lt, min, Some, refl, sym, ap, ◌∙◌, arith, List, ◌∷◌, ◌++◌, length, replicate, take, drop, append_assoc, false}
+use Rattle.std.specs.List.{range_with_len, flat_map}
+use Rattle.std.proofs.Math.Nat.{suc-mul, mul-sub, mul_comm, mul-le-mul_right, le-div_iff_mul-le}
+use borrow.Rule.Slice.PartMut.{put_mid}
+use Rattle.std.proofs.lemmas.Bool.{lt-ltb, le-leb}
+use Rattle.std.proofs.lemmas.List.{take_at, drop_at, drop-drop, replicate-append-replicate}
+use Rattle.vp_page.specs.declared.page.TheConstants.{PAGE_ROWS, PAPER_DOTS}
+use Rattle.vp_dots.specs.Dots.{dot}
+use Rattle.vp_dots.specs.Images.{row_from, packed}
+use Rattle.vp_dots.proofs.ImageLaws.{length-pieces}
+use Rattle.vp_receipt_settings.specs.declared.width.Width.{Width}
+use Rattle.vp_receipt_settings.specs.Setup.{row_bytes}
+use Rattle.vp_receipt_settings.proofs.Widths.{some_bytes}
+use Rattle.vp_output.specs.declared.place.Line.TheVariants.{Row}
+use Rattle.vp_output.specs.declared.place.Place.{Place}
+use Rattle.vp_output.specs.Places.{advanced}
+use Rattle.vp_strips.specs.declared.canvas.Canvas.{Canvas}
+use Rattle.vp_strips.specs.declared.strip.Strip.{Strip}
+use Rattle.vp_strips.specs.Jobs.{strip_dot, lines_of, text}
+use Rattle.vp_strips.specs.Rows.{clipped, paper_row, rows_text}
+use Rattle.vp_output.proofs.Cut.{put_more}
+use Rattle.vp_output.proofs.Parts.{rows_begin, pending_on}
+use Rattle.vp_strips.proofs.Rows.{length-paper_row}
+
+-- a dot of a row that is as long as the paper
+pub whole_row : (row page_row : List ℕ) (d y : ℕ) → row ≡ page_row → d < PAPER_DOTS → y < PAGE_ROWS → dot row d ≡ (nat_lt y PAGE_ROWS && clipped 0 PAPER_DOTS (dot page_row) d)
+whole_row row page_row d y same h k =
+    let here : d - 0 ≡ d = omega arith in
+    rw (same, lt-ltb y PAGE_ROWS k, le-leb 0 d (omega arith), here, lt-ltb d PAPER_DOTS h) refl
+
+module _ (row : ℕ → List ℕ) where
+  -- the first of some rows, and the others
+  pub rows_cut : (y k n : ℕ) → flat_map row (range_with_len y (k + n)) ≡ flat_map row (range_with_len y k) ++ flat_map row (range_with_len (y + k) n)
+  rows_cut y zero n = ap (λ m. flat_map row (range_with_len y m)) (let e : zero + n ≡ n = omega arith in e) ∙ ap (λ a. flat_map row (range_with_len a n)) (let e : y ≡ y + zero = omega arith in e)
+  rows_cut y (suc k) n =
+      ap (λ m. flat_map row (range_with_len y m)) (let e : suc k + n ≡ suc (k + n) = omega arith in e)
+      ∙ ap (λ xs. row y ++ xs) (rows_cut (y + 1) k n ∙ ap (λ a. flat_map row (range_with_len (y + 1) k) ++ flat_map row (range_with_len a n)) (let e : y + 1 + k ≡ y + suc k = omega arith in e))
+      ∙ sym (append_assoc (row y) (flat_map row (range_with_len (y + 1) k)) (flat_map row (range_with_len (y + suc k) n)))
+
+module _ (paper : Width) (f : ℕ → ℕ → Bool) where
+  abbrev row : ℕ → List ℕ
+  row y = paper_row paper (λ x. f x y)
+
+  pub length-row : (y : ℕ) → length (row y) ≡ row_bytes paper
+  length-row y = length-paper_row paper (λ x. f x y)
+
+  pub length-rows : (y n : ℕ) → length (rows_text paper f y n) ≡ n * row_bytes paper
+  length-rows = length-pieces row (row_bytes paper) length-row
+
+  -- some rows are the first k, and the others
+  cut_at : (y k n : ℕ) → k ≤ n → rows_text paper f y n ≡ rows_text paper f y k ++ rows_text paper f (y + k) (n - k)
+  cut_at y k n h = ap (rows_text paper f y) (let e : n ≡ k + (n - k) = omega arith in e) ∙ rows_cut row y k (n - k)
+
+  pub first_rows : (y k n : ℕ) → k ≤ n → take (k * row_bytes paper) (rows_text paper f y n) ≡ rows_text paper f y k
+  first_rows y k n h = ap (take (k * row_bytes paper)) (cut_at y k n h) ∙ take_at (rows_text paper f y k) (rows_text paper f (y + k) (n - k)) (k * row_bytes paper) (length-rows y k)
+
+  pub other_rows : (y k n : ℕ) → k ≤ n → drop (k * row_bytes paper) (rows_text paper f y n) ≡ rows_text paper f (y + k) (n - k)
+  other_rows y k n h = ap (drop (k * row_bytes paper)) (cut_at y k n h) ∙ drop_at (rows_text paper f y k) (rows_text paper f (y + k) (n - k)) (k * row_bytes paper) (length-rows y k)
+
+  -- row k of some rows
+  pub row_in : (y k n : ℕ) → k < n → take (row_bytes paper) (drop (k * row_bytes paper) (rows_text paper f y n)) ≡ row (y + k)
+  row_in y k n h =
+      ap (take (row_bytes paper)) (other_rows y k n (omega arith) ∙ ap (rows_text paper f (y + k)) (let e : n - k ≡ suc (n - k - 1) = omega arith in e))
+      ∙ take_at (row (y + k)) (rows_text paper f (y + k + 1) (n - k - 1)) (row_bytes paper) (length-row (y + k))
+
+  -- one more row is copied behind k others
+  pub row_copied : (y k n bytes : ℕ) (old room part : List ℕ) → bytes ≡ row_bytes paper → k < n → n * row_bytes paper ≤ length old
+      → room ≡ take (k * row_bytes paper) (rows_text paper f y n) ++ drop (k * row_bytes paper) old
+      → part ≡ row (y + k) ++ drop (length (row (y + k))) (take (length room - k * bytes) (drop (k * bytes) room))
+      → put_mid (k * bytes) (length room - k * bytes) room part ≡ take ((k + 1) * row_bytes paper) (rows_text paper f y n) ++ drop ((k + 1) * row_bytes paper) old
+  row_copied y k n bytes old room part e h fits before new =
+      let b = row_bytes paper in
+      let next : k * b + b ≡ (k + 1) * b = sym (suc-mul k b) ∙ ap (λ m. m * b) (let e : suc k ≡ k + 1 = omega arith in e) in
+      let all = mul-le-mul_right b (let l : k + 1 ≤ n = omega arith in l) in
+      rw (e, ← next) (put_more (rows_text paper f y n) old room part (k * b) b (omega (arith, next, all, length-rows y n)) (omega (arith, next, all)) before
+      ((rw e at new) ∙ ap (λ m. row (y + k) ++ drop m (take (length room - k * b) (drop (k * b) room))) (length-row (y + k)) ∙ ap (λ xs. xs ++ drop b (take (length room - k * b) (drop (k * b) room))) (sym (row_in y k n h))))
+
+  -- a row fits behind k others
+  pub row_fits : (k n bytes : ℕ) (old : List ℕ) → bytes ≡ row_bytes paper → k < n → n * row_bytes paper ≤ length old → k * bytes + row_bytes paper ≤ length old
+  row_fits k n bytes old e h fits =
+      let b = row_bytes paper in
+      let next : (k + 1) * b ≡ k * b + b = ap (λ m. m * b) (let e : k + 1 ≡ suc k = omega arith in e) ∙ suc-mul k b in
+      let all = mul-le-mul_right b (let l : k + 1 ≤ n = omega arith in l) in
+      rw e (omega (arith, next, all))
+
+  -- all are copied
+  pub rows_copied : (y n : ℕ) (old : List ℕ) → take (n * row_bytes paper) (rows_text paper f y n) ++ drop (n * row_bytes paper) old ≡ rows_text paper f y n ++ drop (n * row_bytes paper) old
+  rows_copied y n old = ap (λ xs. xs ++ drop (n * row_bytes paper) old) (first_rows y n n (omega arith))
+
+-- as many rows as there is room for
+pub some_rows : (paper : Width) (room left rows : ℕ) → row_bytes paper ≤ room → 0 < left → rows ≡ min (room / row_bytes paper) left → 0 < rows
+some_rows paper room left rows h l e = let one = (le-div_iff_mul-le (some_bytes paper)).1 (let m : 1 * row_bytes paper ≤ room = omega arith in m) in omega arith
+
+-- rows without a dot
+packed_white : (n : ℕ) (f : ℕ → Bool) (at most : ℕ) → at + n ≤ most → ((d : ℕ) → d < most → f d ≡ false) → packed n f at ≡ 0
+packed_white zero f at most l h = refl
+packed_white (suc n) f at most l h = rw (h at (omega arith)) (omega (arith, packed_white n f (at + 1) most (omega arith) h))
+
+row_white : (n : ℕ) (f : ℕ → Bool) (at most : ℕ) → at + 8 * n ≤ most → ((d : ℕ) → d < most → f d ≡ false) → row_from n f at ≡ replicate n 0
+row_white zero f at most l h = refl
+row_white (suc n) f at most l h = ap (λ b. b ∷ row_from n f (at + 8)) (packed_white 8 f at most (omega arith) h) ∙ ap (λ r. 0 ∷ r) (row_white n f (at + 8) most (omega arith) h)
+
+paper_row_white : (paper : Width) (f : ℕ → Bool) → ((d : ℕ) → f d ≡ false) → paper_row paper f ≡ replicate (row_bytes paper) 0
+unfolding paper_row
+paper_row_white paper f h = row_white (row_bytes paper) f 0 (8 * row_bytes paper) (omega arith) (λ d l. h d)
+
+white_rows : (paper : Width) (f : ℕ → ℕ → Bool) (y n : ℕ) → ((x k : ℕ) → y ≤ k → k < y + n → f x k ≡ false) → rows_text paper f y n ≡ replicate (n * row_bytes paper) 0
+white_rows paper f y zero h = ap (λ m. replicate {A = ℕ} m 0) (let e : 0 ≡ zero * row_bytes paper = omega arith in e)
+white_rows paper f y (suc n) h =
+    let b = row_bytes paper in
+    ap (λ r. r ++ rows_text paper f (y + 1) n) (paper_row_white paper (λ x. f x y) (λ x. h x y (omega arith) (omega arith)))
+    ∙ ap (λ r. replicate b 0 ++ r) (white_rows paper f (y + 1) n (λ x k l m. h x k (omega arith) (omega arith)))
+    ∙ replicate-append-replicate {A = ℕ} b (n * b) 0 ∙ ap (λ m. replicate {A = ℕ} m 0) (let e : b + n * b ≡ suc n * b = omega (arith, suc-mul n b) in e)
+
+drop_further : (xs : List ℕ) (i n : ℕ) → i ≤ n → drop (n - i) (drop i xs) ≡ drop n xs
+drop_further xs i n h = drop-drop (n - i) i xs ∙ ap (λ m. drop m xs) (let e : i + (n - i) ≡ n = omega arith in e)
+
+-- the bytes of a part, in the room that it is a part of
+pub part_white : (from to : ℕ) (room part : List ℕ) → from ≤ to → part ≡ replicate (to - from) 0
+    → put_mid from (to - from) room part ≡ take from room ++ (replicate (to - from) 0 ++ drop to room)
+part_white from to room part h e = rw (e, drop_further room from to h) refl
+
+-- rows of which the last are white
+pub then_white : (paper : Width) (f : ℕ → ℕ → Bool) (y inked rows : ℕ) (old room new : List ℕ) → inked ≤ rows → rows * row_bytes paper ≤ length old
+    → ((x k : ℕ) → y + inked ≤ k → k < y + rows → f x k ≡ false)
+    → room ≡ rows_text paper f y inked ++ drop (inked * row_bytes paper) old
+    → new ≡ take (inked * row_bytes paper) room ++ (replicate (rows * row_bytes paper - inked * row_bytes paper) 0 ++ drop (rows * row_bytes paper) room)
+    → new ≡ rows_text paper f y rows ++ drop (rows * row_bytes paper) old
+then_white paper f y inked rows old room new few fits white is e =
+    let b = row_bytes paper in
+    let front = rows_text paper f y inked in
+    let long : length front ≡ inked * b = length-rows paper f y inked in
+    let within = mul-le-mul_right b few in
+    let more : rows * b - inked * b ≡ (rows - inked) * b = omega (arith, mul-sub b rows inked, mul_comm b (rows - inked), mul_comm b rows, mul_comm b inked) in
+    let first : take (inked * b) room ≡ front = ap (take (inked * b)) is ∙ take_at front (drop (inked * b) old) (inked * b) long in
+    let behind : drop (inked * b) room ≡ drop (inked * b) old = ap (drop (inked * b)) is ∙ drop_at front (drop (inked * b) old) (inked * b) long in
+    let last : drop (rows * b) room ≡ drop (rows * b) old = sym (drop_further room (inked * b) (rows * b) within) ∙ ap (drop (rows * b - inked * b)) behind ∙ drop_further old (inked * b) (rows * b) within in
+    let all : rows_text paper f y rows ≡ front ++ replicate (rows * b - inked * b) 0 = cut_at paper f y inked rows few
+    ∙ ap (λ r. front ++ r) (white_rows paper f (y + inked) (rows - inked) (λ x k l m. white x k l (omega arith)) ∙ ap (λ n. replicate {A = ℕ} n 0) (sym more)) in
+    e ∙ rw (first, last, all, append_assoc) refl
+
+module _ (s : Strip) (canvas : Canvas) where
+  abbrev at : ℕ → Place
+  at y = record { line = Row y; byte = 0 }
+
+  abbrev from : ℕ → ℕ → List ℕ
+  from y n = rows_text s.paper (strip_dot s canvas) y n
+
+  -- what is left of a strip from a row on
+  pub rows_left : (y : ℕ) → y < s.rows → text s canvas (Some (at y)) ≡ from y (s.rows - y)
+  rows_left y h = rows_begin (lines_of s canvas) (at y) y h
+
+  -- what is left behind some rows
+  pub left_behind : (y n last : ℕ) → 0 < n → y + n ≤ s.rows → last ≡ y + (n - 1)
+      → text s canvas (advanced s.rows (row_bytes s.paper) (row_bytes s.paper) (at last)) ≡ drop (n * row_bytes s.paper) (from y (s.rows - y))
+  left_behind y n last some few e =
+      let b = row_bytes s.paper in
+      let f = strip_dot s canvas in
+      pending_on (lines_of s canvas) (at last) b b (sym (length-paper_row s.paper (λ x. strip_dot s canvas x last))) (omega arith)
+      ∙ ap (drop b) (rows_left last (omega arith)) ∙ ap (λ m. drop m (from last (s.rows - last))) (let u : b ≡ 1 * b = omega arith in u)
+      ∙ other_rows s.paper f last 1 (s.rows - last) (omega arith)
+      ∙ ap (λ a. from a (s.rows - last - 1)) (let u : last + 1 ≡ y + n = omega arith in u) ∙ ap (from (y + n)) (let u : s.rows - last - 1 ≡ s.rows - y - n = omega arith in u)
+      ∙ sym (other_rows s.paper f y n (s.rows - y) (omega arith))

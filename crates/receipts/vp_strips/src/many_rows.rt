@@ -1,0 +1,117 @@
+//! Rows of a strip, many at a call.
+ghost use Rattle.std.specs.Prelude.{◌≡◌, ℕ, ◌+◌, ◌-◌, ◌*◌, ◌<◌, ◌≤◌, ◌^◌, ◌++◌, replicate, take, drop, length};
+ghost use Rattle.vp_page.specs.declared.page.TheConstants.{PAGE_ROWS, PAPER_BYTES};
+ghost use Rattle.vp_receipt_settings.specs.Setup.{row_bytes};
+ghost use Rattle.vp_dots.specs.Images.{row_of};
+ghost use Rattle.vp_strips.specs.Rows.{paper_row, rows_text};
+ghost use Rattle.vp_strips.specs.Jobs.{page_dot_of, dot_in, strip_dot};
+ghost use Rattle.vp_strips.specs.Held.{IsLow, IsLowDots};
+ghost use Rattle.vp_strips.specs.declared.strip.Dots.{Dots};
+
+use crate::canvas::Canvas;
+use crate::strip::{Dots, Strip};
+use vp_dots::dots_decide;
+use vp_page::{PAGE_ROWS, PAPER_BYTES, Page};
+use vp_receipt_settings::Width;
+
+/// The bytes of a row of the page, as far as the paper goes.
+fn page_row(paper: Width, y: usize, page: &Page) -> &[u8]
+    requires { y < PAGE_ROWS }
+    ensures { result.now ≡ paper_row paper (λ x. page_dot_of page.now x y) }
+{
+    let row = page.row(y);
+    dots_decide(row);
+    &row[..paper.row_bytes()]
+}
+
+/// Copies a row to the front of a room.
+fn copy_row(row: &[u8], room: &mut [u8])
+    requires { length row.now ≤ length room.old }
+    ensures { room.new ≡ row.now ++ drop (length row.now) room.old }
+{
+    room[..row.len()].copy_from_slice(row);
+}
+
+/// Copies rows of the page, from row y on, as far as the paper goes.
+fn copy_page_rows(paper: Width, y: usize, rows: usize, page: &Page, room: &mut [u8])
+    requires inside { 0 < rows → y + rows ≤ PAGE_ROWS }
+    requires fits { rows * row_bytes paper ≤ length room.old }
+    ensures { room.new ≡ rows_text paper (page_dot_of page.now) y rows
+        ++ drop (rows * row_bytes paper) room.old }
+{
+    let bytes = paper.row_bytes();
+    for k in 0..rows {
+        copy_row(page_row(paper, y + k, page), &mut room[k * bytes..]);
+    }
+}
+
+/// Writes row y + k: it stands there already where it is known to be as the row above it, which was written
+/// before unless k is 0.
+fn write_next(dots: Dots, y: u32, k: u32, canvas: &Canvas, row: &mut [u8; PAPER_BYTES])
+    requires low { IsLowDots dots }
+    requires inside { y + k < 2 ^ 32 }
+    requires above { 0 < k → row.old ≡ row_of PAPER_BYTES (λ x. dot_in dots canvas.now x (y + k - 1)) }
+    ensures { row.new ≡ row_of PAPER_BYTES (λ x. dot_in dots canvas.now x (y + k)) }
+{
+    if k > 0 && dots.repeats(y + k, canvas) {
+        return;
+    }
+    dots.write_row(y + k, canvas, row);
+}
+
+/// Copies rows that are written one by one, from row y on, as far as the paper goes.
+fn copy_written_rows(dots: Dots, paper: Width, y: u32, rows: u32, canvas: &Canvas, room: &mut [u8])
+    requires low { IsLowDots dots }
+    requires inside { y + rows < 2 ^ 32 }
+    requires fits { rows * row_bytes paper ≤ length room.old }
+    ensures { room.new ≡ rows_text paper (dot_in dots canvas.now) y rows
+        ++ drop (rows * row_bytes paper) room.old }
+{
+    let bytes = paper.row_bytes();
+    let mut row = [0; PAPER_BYTES];
+    for k in 0..rows {
+        write_next(dots, y, k, canvas, &mut row);
+        copy_row(&row[..bytes], &mut room[k as usize * bytes..]);
+    }
+}
+
+/// Makes the bytes from <= i < to of a room those of white dots.
+fn whiten(from: usize, to: usize, room: &mut [u8])
+    requires some { from ≤ to }
+    requires within { to ≤ length room.old }
+    ensures { room.new ≡ take from room.old ++ (replicate (to - from) 0 ++ drop to room.old) }
+{
+    room[from..to].fill(0);
+}
+
+/// Copies rows that may have black dots, from row y on.
+fn copy_inked(strip: Strip, y: u32, rows: u32, canvas: &Canvas, room: &mut [u8])
+    requires low { IsLow strip }
+    requires inside { y + rows < 2 ^ 32 }
+    requires page { strip.dots ≡ Dots.Page → 0 < rows → y + rows ≤ PAGE_ROWS }
+    requires fits { rows * row_bytes strip.paper ≤ length room.old }
+    ensures { room.new ≡ rows_text strip.paper (strip_dot strip canvas.now) y rows
+        ++ drop (rows * row_bytes strip.paper) room.old }
+{
+    match strip.dots {
+        Dots::Page => {
+            let page = &canvas.page;
+            copy_page_rows(strip.paper, y as usize, rows as usize, page, room)
+        }
+        _ => copy_written_rows(strip.dots, strip.paper, y, rows, canvas, room),
+    }
+}
+
+/// Copies rows of a strip, from row y on, to the front of a room.
+pub fn copy_rows(strip: Strip, y: u32, rows: u32, canvas: &Canvas, room: &mut [u8])
+    requires low { IsLow strip }
+    requires inside { y + rows < 2 ^ 32 }
+    requires fits { rows * row_bytes strip.paper ≤ length room.old }
+    ensures { room.new ≡ rows_text strip.paper (strip_dot strip canvas.now) y rows
+        ++ drop (rows * row_bytes strip.paper) room.old }
+{
+    let bytes = strip.paper.row_bytes();
+    let inked = strip.dots.inked(y + rows).saturating_sub(y).min(rows);
+    copy_inked(strip, y, inked, canvas, room);
+    whiten(inked as usize * bytes, rows as usize * bytes, room);
+}
