@@ -72,14 +72,14 @@ impl Printer {
     }
 
     /// One that prints a line for each item of a language, and took and put out nothing.
-    pub(crate) fn listing(language: Language) -> Self
+    pub fn listing(language: Language) -> Self
         ensures { Stands (Listing language) result [] [] }
     {
         Printer::over(Machine::listing(language))
     }
 
     /// One that prints a line for each item of a language, behind its place, and took and put out nothing.
-    pub(crate) fn listing_with_offsets(language: Language) -> Self
+    pub fn listing_with_offsets(language: Language) -> Self
         ensures { Stands (ListingWithOffsets language) result [] [] }
     {
         Printer::over(Machine::listing_with_offsets(language))

@@ -3,7 +3,7 @@ use clap::{Arg, ArgAction, Command};
 use std::alloc::{AllocError, Global};
 
 /// The program's version. Its first number is raised where a stream prints other bytes than before.
-const VERSION: &str = "1.1.0";
+pub const VERSION: &str = "1.1.0";
 
 /// The widths of paper, in dots.
 const WIDTHS: [&str; 2] = ["576", "384"];

@@ -8,4 +8,5 @@ mod grammar;
 mod order;
 mod reading;
 
+pub use grammar::VERSION;
 pub use order::{Fonts, Order, Stream, Task};

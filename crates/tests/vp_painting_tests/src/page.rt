@@ -160,17 +160,6 @@ fn wiped(rt: HostRuntime) -> Result<(), Fail> {
     Ok(())
 }
 
-/// Eight rows with dots all over.
-fn eight_rows() -> [[u8; LINE_BYTES]; 8] {
-    let mut rows = [[0; LINE_BYTES]; 8];
-    for i in 0..8u8 {
-        for j in 0..208u8 {
-            rows[usize::from(i)][usize::from(j)] = (j ^ (i << 5)) & 0xb7;
-        }
-    }
-    rows
-}
-
 /// How many rows of two pages differ.
 fn differences(one: &Page, other: &Page) -> u32 {
     let mut count = 0u32;
@@ -180,37 +169,6 @@ fn differences(one: &Page, other: &Page) -> u32 {
         }
     }
     count
-}
-
-/// Lays the same eight rows at once and one by one.
-fn lay_both_ways(
-    at_once: &mut Page,
-    one_by_one: &mut Page,
-    area: Area,
-    direction: Direction,
-    v: u32,
-) {
-    let rows = eight_rows();
-    at_once.lay_eight(area, direction, v, &rows);
-    for i in 0..8u8 {
-        let row = &rows[usize::from(i)];
-        one_by_one.lay_row(area, direction, v.saturating_add(u32::from(i)), row);
-    }
-}
-
-/// The page is the same where eight rows are laid at once and where they are laid one by one.
-fn lays_eight(
-    rt: &impl Abort,
-    alloc: Global,
-    area: Area,
-    direction: Direction,
-    v: u32,
-) -> Result<(), Fail> {
-    let mut at_once = Page::new(alloc)?;
-    let mut one_by_one = Page::new(alloc)?;
-    lay_both_ways(&mut at_once, &mut one_by_one, area, direction, v);
-    same(rt, &differences(&at_once, &one_by_one), &0);
-    Ok(())
 }
 
 /// An area inside the page, and one past its edges.
@@ -238,18 +196,6 @@ static DIRECTIONS: [Direction; 4] = [
 
 static DEPTHS: [u32; 5] = [0, 5, 32, 33, 52];
 
-#[test]
-fn eight_at_once(rt: HostRuntime) -> Result<(), Fail> {
-    for area in &AREAS {
-        for direction in &DIRECTIONS {
-            for v in &DEPTHS {
-                lays_eight(&rt, rt.alloc(), *area, *direction, *v)?;
-            }
-        }
-    }
-    Ok(())
-}
-
 /// As many rows as are laid at once, with dots all over.
 fn many_rows() -> [[u8; LINE_BYTES]; AT_ONCE] {
     let mut rows = [[0; LINE_BYTES]; AT_ONCE];
@@ -261,43 +207,45 @@ fn many_rows() -> [[u8; LINE_BYTES]; AT_ONCE] {
     rows
 }
 
-/// Lays the same rows at once and one by one.
-fn lay_many_both_ways(
+/// Lays the first of the same rows at once and one by one.
+fn lay_both_ways(
     at_once: &mut Page,
     one_by_one: &mut Page,
     area: Area,
     direction: Direction,
     v: u32,
+    count: usize,
 ) {
     let rows = many_rows();
-    at_once.lay_lines(area, direction, v, &rows);
-    for i in 0..64u8 {
-        let row = &rows[usize::from(i)];
-        one_by_one.lay_row(area, direction, v.saturating_add(u32::from(i)), row);
+    let first = &rows[..count.min(AT_ONCE)];
+    at_once.lay_lines(area, direction, v, first);
+    for i in 0..first.len() {
+        one_by_one.lay_row(area, direction, v.saturating_add(i as u32), &first[i]);
     }
 }
 
-/// The page is the same where as many rows as go are laid at once and where they are laid one by one.
-fn lays_many(
+/// The page is the same where rows are laid at once and where they are laid one by one.
+fn lays_lines(
     rt: &impl Abort,
     alloc: Global,
     area: Area,
     direction: Direction,
     v: u32,
+    count: usize,
 ) -> Result<(), Fail> {
     let mut at_once = Page::new(alloc)?;
     let mut one_by_one = Page::new(alloc)?;
-    lay_many_both_ways(&mut at_once, &mut one_by_one, area, direction, v);
+    lay_both_ways(&mut at_once, &mut one_by_one, area, direction, v, count);
     same(rt, &differences(&at_once, &one_by_one), &0);
     Ok(())
 }
 
-#[test]
-fn many_at_once(rt: HostRuntime) -> Result<(), Fail> {
+/// So many rows at once in all places and directions.
+fn lays_everywhere(rt: &impl Abort, alloc: Global, count: usize) -> Result<(), Fail> {
     for area in &AREAS {
         for direction in &DIRECTIONS {
             for v in &DEPTHS {
-                lays_many(&rt, rt.alloc(), *area, *direction, *v)?;
+                lays_lines(rt, alloc, *area, *direction, *v, count)?;
             }
         }
     }
@@ -305,17 +253,36 @@ fn many_at_once(rt: HostRuntime) -> Result<(), Fail> {
 }
 
 #[test]
-fn many_blacken(rt: HostRuntime) -> Result<(), Fail> {
-    let mut page = Page::new(rt.alloc())?;
-    page.lay_lines(BOX, Direction::TopToBottom, 1, &many_rows());
-    same(&rt, &(page.row(0)[1] != 0), &true);
+fn one_line(rt: HostRuntime) -> Result<(), Fail> {
+    lays_everywhere(&rt, rt.alloc(), 1)
+}
+
+#[test]
+fn few_lines(rt: HostRuntime) -> Result<(), Fail> {
+    lays_everywhere(&rt, rt.alloc(), 32)
+}
+
+#[test]
+fn more_lines_than_few(rt: HostRuntime) -> Result<(), Fail> {
+    lays_everywhere(&rt, rt.alloc(), 33)
+}
+
+#[test]
+fn as_many_lines_as_go(rt: HostRuntime) -> Result<(), Fail> {
+    lays_everywhere(&rt, rt.alloc(), AT_ONCE)
+}
+
+/// So many rows blacken the page.
+fn blackens(rt: &impl Abort, alloc: Global, count: usize) -> Result<(), Fail> {
+    let mut page = Page::new(alloc)?;
+    let rows = many_rows();
+    page.lay_lines(BOX, Direction::TopToBottom, 1, &rows[..count.min(AT_ONCE)]);
+    same(rt, &(page.row(0)[1] != 0), &true);
     Ok(())
 }
 
 #[test]
-fn eight_blacken(rt: HostRuntime) -> Result<(), Fail> {
-    let mut page = Page::new(rt.alloc())?;
-    page.lay_eight(BOX, Direction::TopToBottom, 1, &eight_rows());
-    same(&rt, &(page.row(0)[1] != 0), &true);
-    Ok(())
+fn lines_blacken(rt: HostRuntime) -> Result<(), Fail> {
+    blackens(&rt, rt.alloc(), 24)?;
+    blackens(&rt, rt.alloc(), AT_ONCE)
 }

@@ -1,6 +1,7 @@
 //! What a printer holds while it prints: the rows of its line, its page and its band, and the bytes and
 //! fields of a format.
 use crate::checks::{same, same_at};
+use crate::sessions::ending;
 use crate::sheet::repeated;
 use std::alloc::Global;
 use std::process::Abort;
@@ -124,19 +125,17 @@ fn a_page_is_held_to_its_last_byte(rt: HostRuntime) -> Result<(), Fail> {
     Ok(())
 }
 
-/// A printer whose page isn't printed has not finished.
-fn is_unprinted(rt: &impl Abort, printer: &Printer) {
-    if !printer.pending() {
-        same(rt, "finish", &printer.finish(), &Err(Fault::Unprinted));
-    }
-}
-
 #[test]
 fn a_page_is_unprinted(rt: HostRuntime) -> Result<(), Fail> {
     let mut printer = Printer::new(rt.alloc(), Language::Receipt, NO_SHEETS)?;
     let begun = (b"\x1BL".as_slice(), 0, State::More, (0, 1664));
     holds(&rt, &mut printer, &mut [], 0, &begun);
-    is_unprinted(&rt, &printer);
+    same(
+        &rt,
+        "finish",
+        &ending(&printer),
+        &Some(Err(Fault::Unprinted)),
+    );
     Ok(())
 }
 

@@ -407,7 +407,7 @@ static ENDED_LABELS: &[Label] = &[
     },
     Label {
         name: "a label, and then a picture of rows longer than it",
-        bytes: b"^XA^PW8^LL1^GB8,1,1^FS^XZ^XA^GFA,1,1,2,FF^FS^XZ",
+        bytes: b"^XA^PW8^LL1^GB8,1,1^FS^XZ^XA^GFA,1,1,2,",
         prints: &[Printed {
             width: 8,
             height: 1,

@@ -1,24 +1,26 @@
 //! What stands from one call to the next: a session behind a failed write and behind the end of the
 //! input, a printer without room, and the faults of a format that is full.
 use crate::checks::{same, same_at};
-use crate::pieces::{Sips, writer};
+use crate::pieces::{Sips, reader, writer};
 use crate::sheet::{joined, repeat, repeated, sheet, sheets};
 use crate::ways::pump;
 use std::alloc::Global;
 use std::process::Abort;
 use std::test::Fail;
 use vp_dots::Fault;
-use vp_engine::{Counted, Language, Printer, Report, RunFault, Session, Sink, State, print_all};
+use vp_engine::{
+    Counted, Language, Printer, Report, RunFault, Session, Sink, Source, State, print_all,
+};
 use vp_glyph::Sheets;
 
 /// No font is drawn.
 const NO_SHEETS: Sheets = Sheets { a: None, b: None };
 
 /// A session comes to this between a reader and a writer.
-fn pumps<K: Sink>(
+fn pumps<S: Source, K: Sink>(
     rt: &impl Abort,
     session: &mut Session,
-    reader: &mut Counted<&[u8]>,
+    reader: &mut S,
     writer: &mut K,
     want: Result<Report, RunFault>,
 ) {
@@ -166,25 +168,27 @@ fn goes_on_in_the_next_input(rt: HostRuntime) -> Result<(), Fail> {
     Ok(())
 }
 
-/// A feed, and a command that isn't known: the fault is answered again.
-fn answers_again(rt: &impl Abort, alloc: Global, session: &mut Session) {
-    let mut reader = Counted::new(b"\x1BJ\x02\x1B\x7F\x0A".as_slice());
-    let mut writer = Counted::new(Vec::new(alloc));
+/// A feed, and a command that isn't known: the fault is answered again, and nothing is read or written.
+fn answers_again(rt: &impl Abort, alloc: Global, session: &mut Session, paper: &[u8]) {
+    let mut first = reader(b"\x1BJ\x02\x1B\x7F\x0A", 6, 0);
+    let mut writer = writer(alloc, 4096, 0);
     let fault = RunFault::Print {
         fault: UNKNOWN,
         after: 5,
     };
-    for _ in 0..2 {
-        pumps(rt, session, &mut reader, &mut writer, Err(fault));
-    }
-    let written: Vec<u8> = writer.into_inner();
-    same(rt, "bytes", &written.len(), &153);
+    pumps(rt, session, &mut first, &mut writer, Err(fault));
+    let mut second = reader(b"M\x0A", 2, 0);
+    pumps(rt, session, &mut second, &mut writer, Err(fault));
+    let (sips, calls) = (writer.into_inner(), second.into_inner().calls);
+    let found = (sips.bytes.as_slice(), sips.calls, calls);
+    same(rt, "paper, writes, reads", &found, &(paper, 1, 0));
 }
 
 #[test]
 fn stays_at_its_fault(rt: HostRuntime) -> Result<(), Fail> {
+    let paper = repeated(rt.alloc(), b"P4\n576 2\n", b"\0", 144)?;
     let mut session = Session::new(rt.alloc(), Language::Receipt, NO_SHEETS)?;
-    answers_again(&rt, rt.alloc(), &mut session);
+    answers_again(&rt, rt.alloc(), &mut session, &paper);
     Ok(())
 }
 
@@ -236,18 +240,19 @@ static STOPPED: [Stage; 2] = [
     (b"\x0A", 16, (0, 0, State::Stopped(UNKNOWN)), b""),
 ];
 
-/// A printer that has stopped ends in its fault.
-fn ends_in(rt: &impl Abort, printer: &Printer, fault: Fault) {
-    if !printer.pending() {
-        same(rt, "finish", &printer.finish(), &Err(fault));
+/// What a printer ends in; nothing where anything is pending.
+pub fn ending(printer: &Printer) -> Option<Result<(), Fault>> {
+    if printer.pending() {
+        return None;
     }
+    Some(printer.finish())
 }
 
 #[test]
 fn stays_stopped(rt: HostRuntime) -> Result<(), Fail> {
     let mut printer = Printer::new(rt.alloc(), Language::Receipt, NO_SHEETS)?;
     each_steps(&rt, &mut printer, &STOPPED);
-    ends_in(&rt, &printer, UNKNOWN);
+    same(&rt, "finish", &ending(&printer), &Some(Err(UNKNOWN)));
     Ok(())
 }
 

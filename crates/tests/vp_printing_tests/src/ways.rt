@@ -140,22 +140,22 @@ pub fn pump(
     Ok(pump_with(&mut session, alloc, bytes, most, fails))
 }
 
-/// Where the first refused front ends: what ends too early isn't refused.
-fn refused(before: Option<usize>, n: usize, fault: Option<Fault>) -> Option<usize> {
-    match (before, fault) {
-        (None, None | Some(Fault::Truncated | Fault::Unprinted)) => None,
-        (None, _) => Some(n),
-        _ => before,
+/// How many bytes of a case are taken, up to its fault: that of an unknown command comes with its second byte,
+/// every other one with the last byte of its stream.
+fn taken(case: &Case) -> usize {
+    let Some(Fault::Unknown(lead, byte)) = case.fault else {
+        return case.bytes.len();
+    };
+    for i in 1..case.bytes.len() {
+        if case.bytes[i - 1] == lead && case.bytes[i] == byte {
+            return i + 1;
+        }
     }
+    case.bytes.len()
 }
 
-/// What a session answers to a front.
-fn answer(
-    n: usize,
-    refused: Option<usize>,
-    written: usize,
-    fault: Option<Fault>,
-) -> Result<Report, RunFault> {
+/// What a session answers to the first n bytes of a case.
+fn answer(case: &Case, n: usize, written: usize, fault: Option<Fault>) -> Result<Report, RunFault> {
     match fault {
         None => Ok(Report {
             taken: n as u64,
@@ -163,9 +163,17 @@ fn answer(
         }),
         Some(fault) => Err(RunFault::Print {
             fault,
-            after: refused.unwrap_or(n) as u64,
+            after: n.min(taken(case)) as u64,
         }),
     }
+}
+
+/// Whether the first n bytes of a case may have this fault: before its own comes, that of ending there.
+fn is_fault_of(case: &Case, n: usize, fault: Option<Fault>) -> bool {
+    if n >= taken(case) {
+        return fault == case.fault;
+    }
+    matches!(fault, None | Some(Fault::Truncated | Fault::Unprinted))
 }
 
 /// A new session comes to this paper and this answer of a front.
@@ -183,35 +191,41 @@ fn comes_to(
     Ok(())
 }
 
-/// A front prints alike through a session; where it is refused, then at the last byte of the first such
-/// front, which may be this one.
+/// What a front must print, if it prints so many bytes: the beginning of the paper, and all of it where it is
+/// the whole stream.
+fn begun(case: &Case, n: usize, printed: usize) -> &[u8] {
+    if n >= case.bytes.len() {
+        return case.paper.as_slice();
+    }
+    &case.paper.as_slice()[..printed.min(case.paper.len())]
+}
+
+/// A front prints the beginning of the paper, and so it does through a session.
 fn pump_a_front(
     rt: &impl Abort,
     alloc: Global,
     image: &[u8],
     case: &Case,
     n: usize,
-    before: Option<usize>,
-) -> Result<Option<usize>, Fail> {
+) -> Result<(), Fail> {
     let front = &case.bytes[..n.min(case.bytes.len())];
     let (paper, fault) = print_all(alloc, case.language, sheets(alloc, image), front)?;
-    let refused = refused(before, n, fault);
-    let answer = answer(n, refused, paper.len(), fault);
-    comes_to(rt, alloc, image, case, front, (&paper, answer))?;
-    Ok(refused)
+    let want = begun(case, n, paper.len());
+    let found = (paper.as_slice(), is_fault_of(case, n, fault));
+    same_at(rt, case.name, n, &found, &(want, true));
+    let answer = answer(case, n, want.len(), fault);
+    comes_to(rt, alloc, image, case, front, (want, answer))
 }
 
-/// Each front prints alike through a session; where it is refused, then at the last byte of the shortest
-/// such one.
+/// Each front prints the beginning of the paper.
 fn pump_its_fronts(rt: &impl Abort, alloc: Global, image: &[u8], case: &Case) -> Result<(), Fail> {
-    let mut refused = None;
     for n in 0..case.bytes.len() + 1 {
-        refused = pump_a_front(rt, alloc, image, case, n, refused)?;
+        pump_a_front(rt, alloc, image, case, n)?;
     }
     Ok(())
 }
 
-/// A session failed in this way at its call, and went on to what one that didn't fail came to.
+/// A session failed in this way at its call, and went on to what one that doesn't fail comes to.
 fn went_on(
     rt: &impl Abort,
     case: &Case,
@@ -243,14 +257,14 @@ fn fail_at(
     Ok(())
 }
 
-/// What a session that doesn't fail comes to, and how often it reads, or else writes.
-fn calm(
+/// How often a session that doesn't fail reads, or else writes.
+fn calls(
     alloc: Global,
     image: &[u8],
     case: &Case,
     most: usize,
     fault: RunFault,
-) -> Result<(Result<Report, RunFault>, usize), Fail> {
+) -> Result<usize, Fail> {
     let pumped = pump(
         alloc,
         image,
@@ -259,11 +273,10 @@ fn calm(
         most,
         (NEVER, NEVER),
     )?;
-    let calls = match fault {
+    Ok(match fault {
         RunFault::Read => pumped.reads,
         _ => pumped.writes,
-    };
-    Ok((pumped.first, calls))
+    })
 }
 
 /// Each read, or each write, of at most `most` bytes fails once.
@@ -275,7 +288,8 @@ fn fail_each(
     most: usize,
     fault: RunFault,
 ) -> Result<(), Fail> {
-    let (calm, calls) = calm(alloc, image, case, most, fault)?;
+    let calm = answer(case, case.bytes.len(), case.paper.len(), case.fault);
+    let calls = calls(alloc, image, case, most, fault)?;
     for call in 1..calls.saturating_add(1) {
         fail_at(rt, alloc, image, case, most, (fault, call), calm)?;
     }

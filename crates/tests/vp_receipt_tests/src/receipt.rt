@@ -5,6 +5,7 @@ mod page;
 mod page_images;
 mod page_runs;
 mod paper_runs;
+mod plain;
 mod symbols;
 
 use std::alloc::{AllocError, Global};

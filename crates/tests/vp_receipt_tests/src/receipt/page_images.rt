@@ -185,11 +185,13 @@ fn a_raster_as_long_as_the_page(rt: HostRuntime) -> Result<(), Fail> {
     Ok(())
 }
 
-/// Whether `sent` prints on paper what it prints on a page that begins with `head`.
-fn same_on_a_page(alloc: Global, head: &[u8], sent: &[u8]) -> Result<bool, Fail> {
+/// Whether `sent` prints an image with this header on paper, black in its first row, and the same on a page
+/// that begins with `head`.
+fn same_on_a_page(alloc: Global, head: &[u8], sent: &[u8], header: &[u8]) -> Result<bool, Fail> {
     let paper = printed(alloc, Width::W576, &[sent], 4096)?;
     let page = printed(alloc, Width::W576, &[head, sent, b"\x0C"], 4096)?;
-    Ok(page.as_slice() == paper.as_slice())
+    let begins = paper.as_slice().starts_with(header);
+    Ok(begins && page.as_slice() == paper.as_slice())
 }
 
 #[test]
@@ -197,8 +199,18 @@ fn symbols_are_the_same_on_a_page(rt: HostRuntime) -> Result<(), Fail> {
     let bars = b"\x1Dh\x28\x1DH\x02\x1Dk\x04A1\0";
     let qr = b"\x1D(k\x0E\x001P0HELLO WORLD\x1D(k\x03\x001Q0";
     let agree = [
-        same_on_a_page(rt.alloc(), b"\x1BL\x1BW\0\0\0\0\x40\x02\x40\0", bars)?,
-        same_on_a_page(rt.alloc(), b"\x1BL\x1BW\0\0\0\0\x40\x02\x3F\0", qr)?,
+        same_on_a_page(
+            rt.alloc(),
+            b"\x1BL\x1BW\0\0\0\0\x40\x02\x40\0",
+            bars,
+            b"P4\n576 64\n\xE0\x1C\x7F",
+        )?,
+        same_on_a_page(
+            rt.alloc(),
+            b"\x1BL\x1BW\0\0\0\0\x40\x02\x3F\0",
+            qr,
+            b"P4\n576 63\n\xFF\xFF\xF8",
+        )?,
     ];
     all_hold(&rt, &agree);
     Ok(())

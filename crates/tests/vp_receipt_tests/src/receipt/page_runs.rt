@@ -1,4 +1,5 @@
-//! Rasters on a page in runs of bytes: what they print is what they print byte by byte.
+//! Rasters on a page, in runs of bytes and byte by byte: what they print is painted dot by dot.
+use super::plain::{Dots, Ground, cut, image};
 use super::{Strip, new_receipt, print_on, put_all, wanted};
 use crate::checks::all_hold;
 use std::alloc::{AllocError, Global};
@@ -100,14 +101,33 @@ fn head(alloc: Global, raster: &OnPage, direction: u8) -> Result<Vec<u8>, AllocE
     Ok(sent)
 }
 
-static RUNS: [usize; 5] = [1, 2, 10, 61, 10000];
+/// What the page shows, down to the lower edge of the area.
+fn page(alloc: Global, raster: &OnPage, direction: u8, came: &[u8]) -> Result<Vec<u8>, Fail> {
+    let dots = Dots {
+        bytes: came,
+        row: usize::from(raster.bytes),
+        scale: raster.scale,
+    };
+    let [_, y, _, high] = cut(raster.area);
+    let area = raster.area;
+    image(
+        alloc,
+        576,
+        y.wrapping_add(high),
+        &dots,
+        Ground::Page { area, direction },
+    )
+}
 
-/// Whether the raster prints the same in any runs as byte by byte.
-fn same_in_direction(alloc: Global, raster: &OnPage, direction: u8) -> Result<bool, Fail> {
+/// A run of none is byte by byte.
+static RUNS: [usize; 6] = [0, 1, 2, 10, 61, 10000];
+
+/// Whether the raster prints what it must in any runs.
+fn right_in_direction(alloc: Global, raster: &OnPage, direction: u8) -> Result<bool, Fail> {
     let head = head(alloc, raster, direction)?;
     let count = u32::from(raster.bytes).wrapping_mul(u32::from(raster.rows));
     let came = some_bytes(alloc, count)?;
-    let want = page_in_runs(alloc, head.as_slice(), came.as_slice(), 0)?;
+    let want = page(alloc, raster, direction, came.as_slice())?;
     prints_in_runs(
         alloc,
         head.as_slice(),
@@ -118,9 +138,9 @@ fn same_in_direction(alloc: Global, raster: &OnPage, direction: u8) -> Result<bo
 }
 
 /// Whether it does in each direction.
-fn same_in_runs(alloc: Global, raster: &OnPage) -> Result<bool, Fail> {
+fn right_in_runs(alloc: Global, raster: &OnPage) -> Result<bool, Fail> {
     for direction in 0..4u8 {
-        if !same_in_direction(alloc, raster, direction)? {
+        if !right_in_direction(alloc, raster, direction)? {
             return Ok(false);
         }
     }
@@ -128,7 +148,7 @@ fn same_in_runs(alloc: Global, raster: &OnPage) -> Result<bool, Fail> {
 }
 
 /// Whether it does in each scale.
-fn same_in_scales(alloc: Global, area: [u16; 4], bytes: u16, rows: u16) -> Result<bool, Fail> {
+fn right_in_scales(alloc: Global, area: [u16; 4], bytes: u16, rows: u16) -> Result<bool, Fail> {
     for scale in 0..4u8 {
         let raster = OnPage {
             area,
@@ -136,7 +156,7 @@ fn same_in_scales(alloc: Global, area: [u16; 4], bytes: u16, rows: u16) -> Resul
             bytes,
             rows,
         };
-        if !same_in_runs(alloc, &raster)? {
+        if !right_in_runs(alloc, &raster)? {
             return Ok(false);
         }
     }
@@ -145,7 +165,7 @@ fn same_in_scales(alloc: Global, area: [u16; 4], bytes: u16, rows: u16) -> Resul
 
 #[test]
 fn rasters_in_runs_on_a_page(rt: HostRuntime) -> Result<(), Fail> {
-    let agree = same_in_scales(rt.alloc(), [9, 5, 60, 61], 3, 21)?;
+    let agree = right_in_scales(rt.alloc(), [9, 5, 60, 61], 3, 21)?;
     all_hold(&rt, &[agree]);
     Ok(())
 }
@@ -153,8 +173,8 @@ fn rasters_in_runs_on_a_page(rt: HostRuntime) -> Result<(), Fail> {
 #[test]
 fn rasters_in_runs_past_their_area(rt: HostRuntime) -> Result<(), Fail> {
     let agree = [
-        same_in_scales(rt.alloc(), [3, 0, 19, 12], 3, 30)?,
-        same_in_scales(rt.alloc(), [560, 1650, 100, 100], 2, 26)?,
+        right_in_scales(rt.alloc(), [3, 0, 19, 12], 3, 30)?,
+        right_in_scales(rt.alloc(), [560, 1650, 100, 100], 2, 26)?,
     ];
     all_hold(&rt, &agree);
     Ok(())
@@ -168,7 +188,7 @@ fn rows_as_long_as_a_page_in_runs(rt: HostRuntime) -> Result<(), Fail> {
         bytes: 210,
         rows: 17,
     };
-    let agree = same_in_runs(rt.alloc(), &raster)?;
+    let agree = right_in_runs(rt.alloc(), &raster)?;
     all_hold(&rt, &[agree]);
     Ok(())
 }

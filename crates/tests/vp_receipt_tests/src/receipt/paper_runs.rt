@@ -1,5 +1,6 @@
-//! Rasters on paper in runs of bytes: what they print is what they print byte by byte.
+//! Rasters on paper, in runs of bytes and byte by byte: what they print is painted dot by dot.
 use super::page_runs::{push_words, some_bytes};
+use super::plain::{Dots, Ground, image};
 use super::{new_receipt, print_on, put_all};
 use crate::checks::all_hold;
 use std::alloc::{AllocError, Global};
@@ -52,8 +53,9 @@ fn paper_in_runs(
     Ok(paper)
 }
 
-/// A run, and the room for what it prints.
-static RUNS: [(usize, usize); 6] = [
+/// A run, and the room for what it prints; a run of none is byte by byte.
+static RUNS: [(usize, usize); 7] = [
+    (0, 4096),
     (1, 4096),
     (71, 72),
     (10000, 71),
@@ -62,22 +64,100 @@ static RUNS: [(usize, usize); 6] = [
     (10000, 4096),
 ];
 
-/// Whether a raster of 21 rows prints the same in any runs as byte by byte.
-fn same_in_runs(
-    alloc: Global,
+/// A raster of 21 rows: what is set before it, its scale and the bytes of a row, and where it is printed: how
+/// many dots from the left, and after how many it is cut.
+#[derive(Clone, Copy)]
+struct OnPaper {
     width: Width,
-    before: &[u8],
+    before: &'static [u8],
     scale: u8,
     bytes: u16,
-) -> Result<bool, Fail> {
+    left: usize,
+    length: usize,
+}
+
+/// As wide as the paper.
+const WHOLE: OnPaper = OnPaper {
+    width: Width::W576,
+    before: b"",
+    scale: 0,
+    bytes: 72,
+    left: 0,
+    length: 576,
+};
+
+static RASTERS: [OnPaper; 7] = [
+    WHOLE,
+    // at the right of narrow paper
+    OnPaper {
+        width: Width::W384,
+        before: b"\x1Ba\x02",
+        bytes: 48,
+        length: 384,
+        ..WHOLE
+    },
+    OnPaper { scale: 1, ..WHOLE },
+    OnPaper { scale: 2, ..WHOLE },
+    // 568 dots at the right
+    OnPaper {
+        before: b"\x1Ba\x02",
+        bytes: 71,
+        left: 8,
+        ..WHOLE
+    },
+    // a margin of a dot, which the line is shorter by
+    OnPaper {
+        before: b"\x1DL\x01\x00",
+        left: 1,
+        length: 575,
+        ..WHOLE
+    },
+    // an area of 575 dots
+    OnPaper {
+        before: b"\x1DW\x3F\x02",
+        length: 575,
+        ..WHOLE
+    },
+];
+
+/// The head of the raster, and what is set before it.
+fn head(alloc: Global, raster: &OnPaper) -> Result<Vec<u8>, AllocError> {
     let mut head = Vec::new(alloc);
-    head.extend_from_slice(before)?;
-    head.extend_from_slice(&[0x1D, b'v', b'0', scale])?;
-    push_words(&mut head, &[bytes, 21])?;
-    let came = some_bytes(alloc, u32::from(bytes).wrapping_mul(21))?;
-    let want = paper_in_runs(alloc, width, head.as_slice(), came.as_slice(), 0, 4096)?;
+    head.extend_from_slice(raster.before)?;
+    head.extend_from_slice(&[0x1D, b'v', b'0', raster.scale])?;
+    push_words(&mut head, &[raster.bytes, 21])?;
+    Ok(head)
+}
+
+/// The image that it prints.
+fn strip(alloc: Global, raster: &OnPaper, came: &[u8]) -> Result<Vec<u8>, Fail> {
+    let width = match raster.width {
+        Width::W576 => 576,
+        Width::W384 => 384,
+    };
+    let dots = Dots {
+        bytes: came,
+        row: usize::from(raster.bytes),
+        scale: raster.scale,
+    };
+    let (left, length) = (raster.left, raster.length);
+    image(
+        alloc,
+        width,
+        dots.high(),
+        &dots,
+        Ground::Paper { left, length },
+    )
+}
+
+/// Whether it prints what it must in any runs.
+fn right_in_runs(alloc: Global, raster: &OnPaper) -> Result<bool, Fail> {
+    let head = head(alloc, raster)?;
+    let came = some_bytes(alloc, u32::from(raster.bytes).wrapping_mul(21))?;
+    let want = strip(alloc, raster, came.as_slice())?;
     for (run, room) in RUNS {
-        let paper = paper_in_runs(alloc, width, head.as_slice(), came.as_slice(), run, room)?;
+        let (sent, width) = (head.as_slice(), raster.width);
+        let paper = paper_in_runs(alloc, width, sent, came.as_slice(), run, room)?;
         if paper.as_slice() != want.as_slice() {
             return Ok(false);
         }
@@ -87,15 +167,10 @@ fn same_in_runs(
 
 #[test]
 fn rasters_in_runs_on_paper(rt: HostRuntime) -> Result<(), Fail> {
-    let agree = [
-        same_in_runs(rt.alloc(), Width::W576, b"", 0, 72)?,
-        same_in_runs(rt.alloc(), Width::W384, b"\x1Ba\x02", 0, 48)?,
-        same_in_runs(rt.alloc(), Width::W576, b"", 1, 72)?,
-        same_in_runs(rt.alloc(), Width::W576, b"", 2, 72)?,
-        same_in_runs(rt.alloc(), Width::W576, b"\x1Ba\x02", 0, 71)?,
-        same_in_runs(rt.alloc(), Width::W576, b"\x1DL\x01\x00", 0, 72)?,
-        same_in_runs(rt.alloc(), Width::W576, b"\x1DW\x3F\x02", 0, 72)?,
-    ];
+    let mut agree = [false; 7];
+    for n in 0..7usize {
+        agree[n] = right_in_runs(rt.alloc(), &RASTERS[n])?;
+    }
     all_hold(&rt, &agree);
     Ok(())
 }

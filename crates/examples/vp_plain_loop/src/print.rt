@@ -1,0 +1,36 @@
+//! Bytes in memory, printed by a loop of which it is proved that it is safe and ends.
+ghost use Rattle.std.specs.Prelude.{◌≡◌, [], OnOk};
+
+use std::alloc::AllocError;
+use vp_dots::Fault;
+use vp_engine::Printer;
+
+/// Puts out all that is pending.
+fn drain(printer: &mut Printer, paper: &mut Vec<u8>) -> Result<(), AllocError>
+    ensures { OnOk result (printer.new.pending ≡ []) }
+{
+    let mut output = [0; 4096];
+    'rooms: while printer.pending() {
+        let step = printer.step(&[], &mut output);
+        paper.extend_from_slice(&output[..step.put])?;
+    }
+    Ok(())
+}
+
+/// Prints bytes up to their end or their first fault, and answers that fault or the one of ending there.
+pub fn print(
+    printer: &mut Printer,
+    bytes: &[u8],
+    paper: &mut Vec<u8>,
+) -> Result<Option<Fault>, AllocError> {
+    drain(printer, paper)?;
+    let mut output = [0; 4096];
+    let mut left = bytes;
+    'steps: while !left.is_empty() && printer.stopped().is_none() {
+        let step = printer.step(left, &mut output);
+        paper.extend_from_slice(&output[..step.put])?;
+        left = &left[step.taken..];
+        drain(printer, paper)?;
+    }
+    Ok(printer.finish().err())
+}

@@ -1,0 +1,2 @@
+-- The rules: what is written of what is read.
+pub mod Written
