@@ -1,7 +1,8 @@
 #!/usr/bin/env python3
 """build.py [WHY]: builds the printer, which proves it, and says on standard error why, and how far it is. Where the built
 program stands for the sources as they are, by their content, nothing is built. Beside the program made-from tells what it
-was made from, as dist/made-from does.
+was made from, as dist/made-from does; NAME.bc is the module that LLVM made it of. build.py --library builds the library
+for C in the same way.
 
 Crates that don't stand on one another are proved side by side, each from nothing, by the toolchain's rattle itself: its
 command rt would lock all that a crate stands on. A crate's library, with statements and not their proofs, stands in
@@ -16,8 +17,12 @@ import sys
 import tempfile
 import time
 
+sys.dont_write_bytecode = True
+import library  # noqa: E402
+from keeping import keeping  # noqa: E402
+
 ROOT = os.path.dirname(os.path.dirname(os.path.dirname(os.path.realpath(__file__))))
-PROGRAM = "program/vp_cli"
+PROGRAM, LIBRARY = "program/vp_cli", "program/vp_c"
 OUT = f"{ROOT}/out"
 PARTS = ("src", "specs", "proofs")
 # What a check is likely to take, in bytes, with one job and for each further one.
@@ -43,7 +48,8 @@ def text_of(file):
 def listed():
     """Returns what each crate of crates.txt stands on, by its place below crates/."""
     lines = [line.partition("#")[0].partition(":") for line in (text_of(f"{ROOT}/crates.txt") or "").split("\n")]
-    return {name.strip(): deps.split() for name, _, deps in lines if name.strip()}
+    # (behind a name may stand what is made of the crate)
+    return {name.split()[0]: deps.split() for name, _, deps in lines if name.strip()}
 
 
 def free():
@@ -108,19 +114,46 @@ class Program(Crate):
 
     def commands(self, jobs):
         program, made = self.built()[0], f"{OUT}/{self.name}.o"
-        tools = ["--toolchain", f"{self.kit}/toolchain"]
+        kept = keeping(f"{self.kit}/toolchain", f"{OUT}/toolchain/{self.name}", f"{program}.bc")
+        tools = ["--toolchain", kept]
         link = [f"{self.kit}/bin/rattle-link", "--target", "x86_64-unknown-linux-gnu", *tools, "-o", program, made]
         link += [f"{self.kit}/c/libos_c.a", f"{self.kit}/c/liblibc_c.a"]
         return [[*self.command("src/main.rt", made), *tools, "--jobs", str(jobs)], link]
 
 
+    def finish(self):
+        """Tells beside the program what it was made from."""
+        program = self.built()[0]
+        told = subprocess.run([f"{ROOT}/tools/dist/made-from", program], capture_output=True, check=True).stdout
+        with open(f"{os.path.dirname(program)}/made-from", "wb") as it:
+            it.write(told)
+
+
+class Archive(Crate):
+    """The crate whose exports are the library for C."""
+
+    def built(self):
+        return f"{self.folder}/out/lib{self.name}.a", f"{OUT}/library"
+
+    def commands(self, jobs):
+        archive = self.built()[0]
+        kept = keeping(f"{self.kit}/toolchain", f"{OUT}/toolchain/{self.name}", f"{self.folder}/out/{self.name}.bc")
+        words = [*self.command("src/lib.rt", archive), "--crate-type", "staticlib"]
+        return [[*words, "--toolchain", kept, "--jobs", str(jobs)]]
+
+    def finish(self):
+        """Links the library."""
+        archive = self.built()[0]
+        library.make(archive, os.path.dirname(archive))
+
+
 def crates_below(name, stands_on, kit):
-    """Returns the program's crates, each after those that it stands on."""
-    made = {}
+    """Returns the crates of the program or the library, each after those that it stands on."""
+    made, tops = {}, {PROGRAM: Program, LIBRARY: Archive}
 
     def make(it):
         if it in stands_on and it not in made:
-            made[it] = (Program if it == name else Crate)(it, [*map(make, stands_on[it])], kit)
+            made[it] = tops.get(it, Crate)(it, [*map(make, stands_on[it])], kit)
         return made.get(it, it)
 
     make(name)
@@ -289,15 +322,6 @@ class Build:
                 run.close()
 
 
-def tell_made_from(program):
-    """Writes beside the program what it was made from, and returns 0."""
-    built = program.built()[0]
-    told = subprocess.run([f"{ROOT}/tools/dist/made-from", built], capture_output=True, check=True).stdout
-    with open(f"{os.path.dirname(built)}/made-from", "wb") as it:
-        it.write(told)
-    return 0
-
-
 def stop(signum, frame):
     raise KeyboardInterrupt
 
@@ -326,8 +350,11 @@ def no_help():
 
 def main():
     rt = shutil.which("rt")
-    if sys.argv[1:] and sys.argv[1]:
-        print(f"vp: {sys.argv[1]}", file=sys.stderr, flush=True)
+    words = sys.argv[1:]
+    top = LIBRARY if words[:1] == ["--library"] else PROGRAM
+    what = "library for C" if top == LIBRARY else "printer"
+    if top == PROGRAM and words and words[0]:
+        print(f"vp: {words[0]}", file=sys.stderr, flush=True)
     why = no_help()
     if why:
         print(f"vp: no build would help: {why}", file=sys.stderr, flush=True)
@@ -335,10 +362,11 @@ def main():
     if not rt:
         print("vp: the Rattle toolchain's command rt is not on the path", file=sys.stderr)
         return 1
-    crates = crates_below(PROGRAM, listed(), os.path.dirname(os.path.dirname(os.path.realpath(rt))))
-    program = crates[-1]
-    if program.is_built():
-        return tell_made_from(program)
+    crates = crates_below(top, listed(), os.path.dirname(os.path.dirname(os.path.realpath(rt))))
+    last = crates[-1]
+    if last.is_built():
+        last.finish()
+        return 0
     signal.signal(signal.SIGTERM, stop)
     os.makedirs(OUT, exist_ok=True)
     with open(f"{OUT}/lock", "w", encoding="utf-8") as lock:
@@ -347,14 +375,16 @@ def main():
         except BlockingIOError:
             print("vp: another vp is building the printer: waiting for it", file=sys.stderr, flush=True)
             fcntl.flock(lock, fcntl.LOCK_EX)
-        if program.is_built():
-            return tell_made_from(program)
-        print(f"vp: building the printer, which proves its {len(crates)} crates: some minutes", file=sys.stderr, flush=True)
+        if last.is_built():
+            last.finish()
+            return 0
+        print(f"vp: building the {what}, which proves its {len(crates)} crates: some minutes", file=sys.stderr, flush=True)
         started = time.time()
         if not Build(crates, lock).run():
             return 1
         print(f"vp: built in {minutes(time.time() - started)}", file=sys.stderr, flush=True)
-        return tell_made_from(program)
+        last.finish()
+        return 0
 
 
 if __name__ == "__main__":
@@ -362,6 +392,9 @@ if __name__ == "__main__":
         sys.exit(main())
     except KeyboardInterrupt:
         print("vp: the build was broken off; the next one goes on from there", file=sys.stderr)
+        sys.exit(1)
+    except subprocess.CalledProcessError as fault:
+        print(f"vp: {fault.cmd[0]} ended with {fault.returncode}", file=sys.stderr)
         sys.exit(1)
     except OSError as fault:
         print(f"vp: {fault.filename or fault}: {fault.strerror}", file=sys.stderr)

@@ -1,22 +1,23 @@
 # shellcheck shell=sh
 # What dist/ is held to: functions for scripts that have set root to the repository's folder.
 # shellcheck disable=SC2034,SC2154,SC2164
-dist=$root/dist built=$root/crates/program/vp_cli/out/vp_cli
+dist=$root/dist built=$root/crates/program/vp_cli/out/vp_cli library=$root/crates/program/vp_c/out
 
-# lines: those of crates.txt of the crates that the program stands on
+# lines [CRATE]: those of crates.txt of the crates that the program stands on, or that another crate does
 lines() {
-    awk '
+    awk -v top="${1:-program/vp_cli}" '
         { sub(/#.*/, "") }
         at = index($0, ":") {
             name = substr($0, 1, at - 1)
-            gsub(/[ \t]/, "", name)
+            # (behind a name may stand what is made of the crate)
+            gsub(/^[ \t]+|[ \t].*$/, "", name)
             $0 = substr($0, at + 1)
             $1 = $1
             stands_on[name] = $0
             order[++count] = name
         }
         END {
-            needed["program/vp_cli"] = more = 1
+            needed[top] = more = 1
             while (more) {
                 more = 0
                 for (name in stands_on)
@@ -31,19 +32,20 @@ lines() {
         }' "$root/crates.txt"
 }
 
-# sources: the sum of what the program is made from: these lines, and by name the sums of all files of the
-# crates' src, specs and proofs
+# sources [CRATE]: the sum of what the program, or another crate, is made from: these lines, and by name the sums
+# of all files of the crates' src, specs and proofs
 sources() (
     export LC_ALL=C
     cd "$root" || exit
+    top=${1:-program/vp_cli}
     set --
-    for place in $(lines | sed 's/:.*//'); do
+    for place in $(lines "$top" | sed 's/:.*//'); do
         for part in src specs proofs; do
             [ ! -e "crates/$place/$part" ] || set -- "$@" "crates/$place/$part"
         done
     done
     {
-        lines
+        lines "$top"
         [ $# -eq 0 ] || find -L "$@" -type f -print0 | sort -z | xargs -0 sha256sum
     } | sha256sum | cut -c 1-64
 )
@@ -86,6 +88,38 @@ is_built() {
         [ "$(sum_of "$built")" = "$(sum_told "$made")" ] || return 1
     here=$(toolchain)
     [ -z "$here" ] || [ "$here" = "$(told toolchain "$made")" ]
+}
+
+# has_library: whether the tree has the crate that the library for C is made of
+has_library() { [ -d "$root/crates/program/vp_c" ]; }
+
+# library_sources: the sum of what the library for C is made from
+library_sources() (
+    cd "$root" && {
+        sources program/vp_c
+        sha256sum include/vp.h
+    } | sha256sum | cut -c 1-64
+)
+
+# library_is_built SOURCES: whether the library that the gate or a build left is made from sources of this sum
+library_is_built() {
+    made=$library/made-from
+    [ -e "$made" ] && [ "$(told sources "$made")" = "$1" ] &&
+        (cd "$library" && sha256sum --quiet -c made-from >/dev/null 2>&1) || return 1
+    here=$(toolchain)
+    [ -z "$here" ] || [ "$here" = "$(told toolchain "$made")" ]
+}
+
+# find_library: sets library to the folder with the library of the sources as they stand: dist/, or where it was
+# built, or else it is built now; status 125 where that doesn't go well
+find_library() {
+    now=$(library_sources)
+    if [ "$(told sources "$dist/library-made-from")" = "$now" ] &&
+        (cd "$dist" && sha256sum --quiet -c library-made-from >/dev/null 2>&1); then
+        library=$dist
+    elif ! library_is_built "$now"; then
+        python3 "$root/tools/dist/build.py" --library || return 125
+    fi
 }
 
 # seen [LIST]: in what a change shows, of each file and folder of out/seen.list, or of another list: when it was

@@ -1,6 +1,7 @@
 #!/usr/bin/env python3
-"""deb.py [FOLDER]: makes the Debian package vp_VERSION_amd64.deb in a folder, else in out/, of dist/vp and of what
-./install puts beside it. The same sources give the same bytes, packed by the same zlib. It needs no tool of Debian's.
+"""deb.py [FOLDER]: makes the Debian packages vp, libvp1 and libvp-dev (NAME_VERSION_amd64.deb) in a folder, else in out/,
+of dist/vp, the library for C and what ./install puts beside them. The same sources give the same bytes, packed by the same
+zlib. It needs no tool of Debian's.
 
 Status 0; 2 for wrong words, 3 where a file can't be read or written, 125 where the program couldn't be built."""
 import gzip
@@ -25,12 +26,49 @@ PLACES = {
 }
 # What stands in the package's copyright, or only serves ./install.
 LEFT_OUT = ("usr/lib/vp/installed", "usr/share/doc/vp/LICENSE-MIT", "usr/share/doc/vp/LICENSE-APACHE")
-DESCRIPTION = """virtual receipt and label printer
- vp reads what software sends to a printer, receipts in ESC/POS or labels in
- ZPL II, and prints it as PBM images, the exact dots on the paper, or names the
- fault where the stream is wrong. Its functions are proved to meet their
- contracts. Scripts for tests, print queues and a network port are in
- /usr/lib/vp."""
+# What the library's packages have; all else is vp's.
+LIBRARY = ("usr/lib/libvp.so.1",)
+FOR_C = ("usr/include/vp.h", "usr/lib/libvp.so", "usr/lib/libvp.a", "usr/lib/pkgconfig/vp.pc")
+
+
+class Package:
+    """A package: its name, its section, what it is in a line and in some, and what of the files is its own."""
+
+    def __init__(self, name, section, summary, text, has):
+        self.name, self.section, self.has = name, section, has
+        self.description = "\n ".join([summary, *text.split("\n")])
+
+
+PACKAGES = (
+    Package(
+        "vp",
+        "utils",
+        "virtual receipt and label printer",
+        """vp reads what software sends to a printer, receipts in ESC/POS or labels in
+ZPL II, and prints it as PBM images, the exact dots on the paper, or names the
+fault where the stream is wrong. Its functions are proved to meet their
+contracts. Scripts for tests, print queues and a network port are in
+/usr/lib/vp.""",
+        lambda path: path not in (*LIBRARY, *FOR_C),
+    ),
+    Package(
+        "libvp1",
+        "libs",
+        "virtual receipt and label printers, as a library",
+        """The printers of vp for programs in C, and in any language that calls C: bytes
+go in and PBM images come out, both cut at any place. Its functions are proved
+to meet their contracts.""",
+        LIBRARY.__contains__,
+    ),
+    Package(
+        "libvp-dev",
+        "libdevel",
+        "virtual receipt and label printers, for programs in C",
+        """The header, the archive and what pkg-config needs to build programs with
+libvp1.""",
+        FOR_C.__contains__,
+    ),
+)
 
 
 def read(path):
@@ -71,41 +109,58 @@ def copyright_file():
     return "\n".join([*parts, apache]).encode()
 
 
-def changelog(version, when):
+def changelog(name, version, when):
     day = subprocess.run(
         ["date", "-u", "-R", "-d", f"@{when}"], env={**os.environ, "LC_ALL": "C"}, capture_output=True, check=True
     ).stdout.decode()
-    text = "See /usr/share/doc/vp/CHANGELOG.md.gz."
-    return f"vp ({version}) unstable; urgency=medium\n\n  * {text}\n\n -- {MAINTAINER}  {day}".encode()
+    text = "See /usr/share/doc/vp/CHANGELOG.md.gz of vp."
+    return f"{name} ({version}) unstable; urgency=medium\n\n  * {text}\n\n -- {MAINTAINER}  {day}".encode()
 
 
-def files_of(version, when, program):
-    """Returns the package's files, by their paths."""
+def documented(name, version, when, files):
+    """Returns a package's files with those that each package has."""
+    own = {
+        "copyright": copyright_file(),
+        "changelog.gz": packed(changelog(name, version, when)),
+    }
+    return {**files, **{f"usr/share/doc/{name}/{file}": (0o644, data) for file, data in own.items()}}
+
+
+def files_of(program):
+    """Returns all files of the packages, by their paths."""
     files = {PLACES.get(path, path): it for path, it in installed(program).items() if path not in LEFT_OUT}
     for path in ("usr/share/man/man1/vp.1", "usr/share/doc/vp/CHANGELOG.md"):
         files[f"{path}.gz"] = (0o644, packed(files.pop(path)[1]))
-    files["usr/share/doc/vp/copyright"] = (0o644, copyright_file())
-    files["usr/share/doc/vp/changelog.gz"] = (0o644, packed(changelog(version, when)))
     # dist/vp is taken byte for byte, as it was proved and compared
     override = b"vp: unstripped-binary-or-object\n"
     files["usr/share/lintian/overrides/vp"] = (0o644, b"# the bytes are those that were built and compared\n" + override)
     return files
 
 
-def control(version, files):
-    size = sum((len(data) + 1023) // 1024 for _, data in files.values())
+def needed(package, version, files):
+    """Returns what a package asks for, by the control file's words."""
+    if package.name == "libvp-dev":
+        return {"Depends": f"libvp1 (= {version})"}
+    binary = files["usr/bin/vp" if package.name == "vp" else LIBRARY[0]][1]
+    libc = f"libc6 (>= {needs.glibc(binary)})"
+    if package.name != "vp":
+        return {"Depends": libc}
     uses_python = any(data.startswith(b"#!/usr/bin/env python3") for _, data in files.values())
-    depends = [f"libc6 (>= {needs.glibc(files['usr/bin/vp'][1])})", *(["python3 (>= 3.9)"] if uses_python else [])]
+    return {"Depends": ", ".join([libc, *(["python3 (>= 3.9)"] if uses_python else [])]), "Recommends": f"libvp1 (= {version})"}
+
+
+def control(package, version, files):
+    size = sum((len(data) + 1023) // 1024 for _, data in files.values())
     fields = {
-        "Package": "vp",
+        "Package": package.name,
         "Version": version,
         "Architecture": "amd64",
         "Maintainer": MAINTAINER,
         "Installed-Size": str(size),
-        "Depends": ", ".join(depends),
-        "Section": "utils",
+        **needed(package, version, files),
+        "Section": package.section,
         "Priority": "optional",
-        "Description": DESCRIPTION,
+        "Description": package.description,
     }
     return "".join(f"{name}: {value}\n" for name, value in fields.items()).encode()
 
@@ -146,11 +201,16 @@ def ar(members, when):
     return made
 
 
-def package(version, when, program):
-    files = files_of(version, when, program)
+def made(package, version, when, all_files):
+    """Returns the bytes of a package."""
+    own = {path: it for path, it in all_files.items() if package.has(path)}
+    files = documented(package.name, version, when, own)
     kept = [path for path in sorted(files) if files[path][0] is not None]
     sums = "".join(f"{hashlib.md5(files[path][1]).hexdigest()}  {path}\n" for path in kept)
-    head = {"control": (0o644, control(version, files)), "md5sums": (0o644, sums.encode())}
+    head = {"control": (0o644, control(package, version, files)), "md5sums": (0o644, sums.encode())}
+    if package.name == "libvp1":
+        head["triggers"] = (0o644, b"activate-noawait ldconfig\n")
+        head["shlibs"] = (0o644, f"libvp 1 libvp1 (>= {version})\n".encode())
     members = [("debian-binary", b"2.0\n"), ("control.tar.gz", packed(tar(head, when)))]
     return ar([*members, ("data.tar.gz", packed(tar(files, when)))], when)
 
@@ -167,6 +227,19 @@ def version_and_time():
     return version, int(subprocess.run(words, capture_output=True, check=True).stdout)
 
 
+def write(name, data):
+    """Writes a file whole or not at all."""
+    with tempfile.NamedTemporaryFile(dir=os.path.dirname(name), prefix=".vp-", delete=False) as it:
+        try:
+            it.write(data)
+            it.flush()
+            os.chmod(it.name, 0o644)
+            os.replace(it.name, name)
+        except OSError:
+            os.unlink(it.name)
+            raise
+
+
 def main():
     if len(sys.argv) > 2 or (sys.argv[1:] and sys.argv[1].startswith("-")):
         print("usage: deb.py [FOLDER]", file=sys.stderr)
@@ -174,22 +247,15 @@ def main():
     folder = sys.argv[1] if sys.argv[1:] else f"{ROOT}/out"
     try:
         version, when = version_and_time()
-        made = package(version, when, os.environ.get("VP_PROGRAM"))
+        files = files_of(os.environ.get("VP_PROGRAM"))
         os.makedirs(folder, exist_ok=True)
-        name = f"{folder}/vp_{version}_amd64.deb"
-        with tempfile.NamedTemporaryFile(dir=folder, prefix=".vp-", delete=False) as it:
-            try:
-                it.write(made)
-                it.flush()
-                os.chmod(it.name, 0o644)
-                os.replace(it.name, name)
-            except OSError:
-                os.unlink(it.name)
-                raise
+        for package in PACKAGES:
+            name = f"{folder}/{package.name}_{version}_amd64.deb"
+            write(name, made(package, version, when, files))
+            print(name)
     except (OSError, ValueError) as fault:
         print(f"deb.py: {fault}", file=sys.stderr)
         return 3
-    print(name)
     return 0
 
 

@@ -1,0 +1,262 @@
+/* Calls the library as its header says, for checks/in-process.sh:
+ *
+ *   in-process print LANGUAGE FONT_A FONT_B STREAM SEED   prints a file, its input and output cut at random, and says its
+ *                                                         fault as the program does; - is no sheet
+ *   in-process bad                                        what no program should do, and what is answered
+ *   in-process threads FONT_A FONT_B STREAM COUNT         8 threads, each of which prints the file so often
+ *   in-process time FONT_A FONT_B STREAM COUNT            the microseconds of a print, and of its vp_new
+ *
+ * Where it is linked with wrapped malloc (COUNTED), it ends with 9 if memory is taken between vp_new and vp_free, or
+ * isn't given back. */
+#define _POSIX_C_SOURCE 200809L
+#include "../include/vp.h"
+#include <pthread.h>
+#include <stdio.h>
+#include <stdlib.h>
+#include <string.h>
+#include <time.h>
+
+#define FILLED 0xA5
+#define MOST_ROOM 5000
+enum { THREADS = 8 };
+
+#ifdef COUNTED
+static long taken, given;
+void *__real_malloc(size_t size);
+void *__real_realloc(void *at, size_t size);
+void __real_free(void *at);
+void *__wrap_malloc(size_t size) { taken++; return __real_malloc(size); }
+void *__wrap_realloc(void *at, size_t size) { taken += at == NULL; return __real_realloc(at, size); }
+void __wrap_free(void *at) { given += at != NULL; __real_free(at); }
+#else
+static long taken = 0, given = 0;
+#endif
+
+typedef struct bytes {
+    uint8_t *at;
+    size_t length;
+} bytes;
+
+static void stop(int status, const char *why) {
+    fprintf(stderr, "in-process: %s\n", why);
+    exit(status);
+}
+
+static bytes read_file(const char *name) {
+    bytes it = {NULL, 0};
+    if (strcmp(name, "-") == 0) return it;
+    FILE *file = fopen(name, "rb");
+    if (file == NULL || fseek(file, 0, SEEK_END) != 0) stop(8, name);
+    it.length = (size_t)ftell(file);
+    rewind(file);
+    it.at = malloc(it.length + 1);
+    if (it.at == NULL || fread(it.at, 1, it.length, file) != it.length) stop(8, name);
+    fclose(file);
+    return it;
+}
+
+static void free_all(bytes a, bytes b, bytes stream) {
+    free(a.at);
+    free(b.at);
+    free(stream.at);
+}
+
+static uint32_t made(const char *language, bytes a, bytes b, vp *printer) {
+    if (strcmp(language, "receipt") == 0) return vp_new(VP_RECEIPT, a.at, a.length, b.at, b.length, printer);
+    if (strcmp(language, "receipt58") == 0) return vp_new(VP_RECEIPT_58, a.at, a.length, b.at, b.length, printer);
+    if (strcmp(language, "label") == 0) return vp_new(VP_LABEL, a.at, a.length, b.at, b.length, printer);
+    uint32_t kind = strstr(language, "label") ? VP_LABEL : VP_RECEIPT;
+    return vp_new_listing(kind, strncmp(language, "offsets", 7) == 0, printer);
+}
+
+static uint64_t state;
+static size_t any(size_t below) {
+    state = state * 6364136223846793005u + 1442695040888963407u;
+    return (size_t)(state >> 33) % below;
+}
+
+/* One step, whose output is held to what the header says of it. */
+static vp_progress stepped(vp *printer, const uint8_t *input, size_t length, uint8_t *output, size_t room) {
+    vp_progress done;
+    memset(output, FILLED, MOST_ROOM);
+    if (vp_step(printer, input, length, output, room, &done) != VP_OK) stop(7, "vp_step");
+    if (done.taken > length || done.put > room) stop(7, "more is taken or put than there is");
+    for (size_t at = done.put; at < MOST_ROOM; at++)
+        if (output[at] != FILLED) stop(7, "the output is written behind what was put");
+    if ((done.state == VP_STOPPED) != (done.fault.number != 0)) stop(7, "a stop without a fault, or a fault without");
+    if ((done.state == VP_ROOM) != (vp_pending(printer) == VP_PENDING)) stop(7, "vp_pending");
+    vp_held_now held;
+    if (vp_held(printer, &held) != VP_OK || held.line_rows > 192 || held.page_rows > 1664 || held.band_rows > 32 ||
+        held.fields > 1024 || held.stored > 262144)
+        stop(7, "vp_held");
+    return done;
+}
+
+static int print(char **words) {
+    bytes a = read_file(words[1]), b = read_file(words[2]), stream = read_file(words[3]);
+    state = strtoull(words[4], NULL, 10);
+    static uint8_t output[MOST_ROOM];
+    long before = taken - given;
+    vp printer = {0};
+    uint32_t answer = made(words[0], a, b, &printer);
+    long ours = taken;
+    if (answer != VP_OK) {
+        char text[VP_LINE];
+        vp_answer_text(answer, text, sizeof text);
+        fprintf(stderr, "vp: %s: %s\n", answer < VP_SHEET_B_S1 ? words[1] : words[2], text);
+        if (printer.printer != NULL || taken - given != before) stop(9, "something is left of a printer that isn't made");
+        free_all(a, b, stream);
+        return 3;
+    }
+    vp_fault fault = {0, 0, 0, 0};
+    size_t at = 0;
+    for (;;) {
+        size_t length = any(4) == 0 ? any(4) : any(2000), room = any(4) == 0 ? any(3) : any(MOST_ROOM);
+        if (length > stream.length - at) length = stream.length - at;
+        vp_progress done = stepped(&printer, stream.at + at, length, output, room);
+        at += done.taken;
+        fwrite(output, 1, done.put, stdout);
+        fault = done.fault;
+        if (done.state == VP_STOPPED) break;
+        if (at == stream.length && done.state == VP_MORE) {
+            if (vp_finish(&printer, &fault) != VP_OK) stop(7, "vp_finish");
+            break;
+        }
+    }
+    if (taken != ours) stop(9, "memory is taken behind vp_new");
+    vp_free(&printer);
+    vp_free(&printer);
+    if (taken - given != before) stop(9, "memory isn't given back");
+    free_all(a, b, stream);
+    if (fault.number == 0) return 0;
+    char line[VP_LINE];
+    vp_fault_line(&fault, at, line, sizeof line);
+    fprintf(stderr, "%s\n", line);
+    return 1;
+}
+
+static void expect(int holds, const char *what) {
+    if (!holds) stop(7, what);
+}
+
+static int bad(void) {
+    vp none = {0}, printer = {0};
+    vp_progress done;
+    vp_fault fault = {9, 9, 9, 9};
+    vp_held_now held = {9, 9, 9, 9, 9};
+    uint8_t output[64];
+    expect(vp_step(&none, NULL, 0, output, 0, &done) == VP_NO_PRINTER && done.taken == 0 && done.put == 0, "a step of none");
+    expect(vp_finish(&none, &fault) == VP_NO_PRINTER && fault.number == 0 && fault.byte == 0, "finish of none");
+    expect(vp_pending(&none) == VP_NO_PRINTER, "pending of none");
+    expect(vp_held(&none, &held) == VP_NO_PRINTER && held.stored == 0 && held.band_rows == 0, "held of none");
+    vp_free(&none);
+    expect(vp_new(3, NULL, 0, NULL, 0, &printer) == VP_NO_LANGUAGE && printer.printer == NULL, "no such language");
+    expect(vp_new_listing(9, 0, &printer) == VP_NO_LANGUAGE && printer.printer == NULL, "a listing of none");
+    const uint8_t p4[] = "P4\n192 384\n", p5[] = "P5\n";
+    expect(vp_new(VP_RECEIPT, p5, 3, NULL, 0, &printer) == VP_SHEET_A_S1, "S1 of font A");
+    expect(vp_new(VP_RECEIPT, NULL, 0, p4, 3, &printer) == VP_SHEET_B_S2, "S2 of font B");
+    expect(vp_new(VP_LABEL, NULL, 0, p4, sizeof p4 - 1, &printer) == VP_SHEET_B_S3, "S3 of font B");
+    expect(vp_new(VP_LABEL, p4, sizeof p4 - 1, NULL, 0, &printer) == VP_SHEET_A_S4, "S4 of font A");
+    expect(vp_new(VP_RECEIPT, NULL, 0, NULL, 0, &printer) == VP_OK, "no sheets");
+    expect(vp_step(&printer, (const uint8_t *)"a\n", 2, NULL, 0, &done) == VP_OK && done.state == VP_ROOM, "no room");
+    expect(vp_finish(&printer, &fault) == VP_PENDING && fault.number == 0, "finish while paper is pending");
+    while (vp_step(&printer, NULL, 0, output, sizeof output, &done), done.state == VP_ROOM) {}
+    expect(vp_step(&printer, (const uint8_t *)"\033\177b", 3, output, 64, &done) == VP_OK && done.taken == 2, "a fault");
+    expect(done.state == VP_STOPPED && done.fault.number == 1 && done.fault.lead == 27 && done.fault.byte == 127, "its bytes");
+    expect(vp_step(&printer, (const uint8_t *)"b", 1, output, 64, &done) == VP_OK && done.taken == 0 && done.put == 0 &&
+               done.state == VP_STOPPED && done.fault.byte == 127, "a step after a stop");
+    char line[VP_LINE], cut[8] = "1234567";
+    const char *whole = "vp: F1 after 4 bytes: unknown command 1B 7F";
+    expect(vp_fault_line(&done.fault, 4, line, sizeof line) == strlen(whole) && strcmp(line, whole) == 0, "its line");
+    expect(vp_fault_line(&done.fault, 4, cut, 5) == 4 && strcmp(cut, "vp: ") == 0 && cut[5] == '6', "a line without room");
+    expect(vp_fault_line(&done.fault, 4, cut, 0) == 0, "a line into no room");
+    fault.number = 77;
+    expect(vp_fault_line(&fault, 4, line, sizeof line) == 0 && line[0] == 0, "the line of no fault");
+    vp_free(&printer);
+    vp_free(&printer);
+    expect(printer.printer == NULL && vp_pending(&printer) == VP_NO_PRINTER, "a printer that was freed");
+    return 0;
+}
+
+typedef struct work {
+    bytes a, b, stream;
+    long count;
+    uint64_t sum;
+} work;
+
+/* Prints a stream in one piece, into little room, and returns a sum of its paper. */
+static uint64_t printed(const work *it) {
+    vp printer = {0};
+    if (vp_new(VP_RECEIPT, it->a.at, it->a.length, it->b.at, it->b.length, &printer) != VP_OK) stop(7, "vp_new");
+    uint8_t output[4096];
+    vp_progress done;
+    uint64_t sum = 0;
+    size_t at = 0;
+    do {
+        vp_step(&printer, it->stream.at + at, it->stream.length - at, output, sizeof output, &done);
+        at += done.taken;
+        for (size_t nth = 0; nth < done.put; nth += 64) sum = sum * 31 + output[nth];
+    } while (done.state == VP_ROOM);
+    vp_free(&printer);
+    return sum;
+}
+
+static void *in_thread(void *given_work) {
+    work *it = given_work;
+    it->sum = printed(it);
+    for (long nth = 1; nth < it->count; nth++)
+        if (printed(it) != it->sum) stop(7, "a thread prints something else");
+    return NULL;
+}
+
+static int threads(char **words) {
+    work first = {read_file(words[0]), read_file(words[1]), read_file(words[2]), strtol(words[3], NULL, 10), 0};
+    work all[THREADS];
+    pthread_t ids[THREADS];
+    for (int nth = 0; nth < THREADS; nth++) {
+        all[nth] = first;
+        if (pthread_create(&ids[nth], NULL, in_thread, &all[nth]) != 0) stop(8, "pthread_create");
+    }
+    first.sum = printed(&first);
+    for (int nth = 0; nth < THREADS; nth++) {
+        pthread_join(ids[nth], NULL);
+        if (all[nth].sum != first.sum) stop(7, "threads print other paper");
+    }
+    free_all(first.a, first.b, first.stream);
+    return 0;
+}
+
+static double now(void) {
+    struct timespec it;
+    clock_gettime(CLOCK_MONOTONIC, &it);
+    return (double)it.tv_sec * 1e6 + (double)it.tv_nsec / 1e3;
+}
+
+static int timed(char **words) {
+    work it = {read_file(words[0]), read_file(words[1]), read_file(words[2]), strtol(words[3], NULL, 10), 0};
+    double best = 1e9, best_new = 1e9;
+    for (long nth = 0; nth < it.count; nth++) {
+        double start = now();
+        it.sum += printed(&it);
+        double end = now();
+        vp printer = {0};
+        vp_new(VP_RECEIPT, it.a.at, it.a.length, it.b.at, it.b.length, &printer);
+        vp_free(&printer);
+        double last = now();
+        if (end - start < best) best = end - start;
+        if (last - end < best_new) best_new = last - end;
+    }
+    printf("%.0f %.0f\n", best, best_new);
+    free_all(it.a, it.b, it.stream);
+    return it.sum == 0;
+}
+
+int main(int count, char **words) {
+    const char *mode = count > 1 ? words[1] : "";
+    if (strcmp(mode, "print") == 0 && count == 7) return print(words + 2);
+    if (strcmp(mode, "bad") == 0) return bad();
+    if (strcmp(mode, "threads") == 0 && count == 6) return threads(words + 2);
+    if (strcmp(mode, "time") == 0 && count == 6) return timed(words + 2);
+    fputs("usage: in-process print|bad|threads|time ..\n", stderr);
+    return 2;
+}

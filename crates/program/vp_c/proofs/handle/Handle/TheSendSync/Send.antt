@@ -1,0 +1,29 @@
+-- A handle may go to another thread, as its printer and the heap's blocks may.
+use mir.Raw.{raw as bare}
+use base.Shift.{Keyless}
+use denote.Builtin.{RawPtr}
+use denote.Memory.{lone}
+use denote.Param.Send.{IsSend, owning_send, struct_send, sendable}
+use denote.RawPtr.{Ptr, block_ptr, null_ptr}
+use denote.Struct.Owning.{Owning, shape, fields, to}
+use denote.Struct.Struct.{exits_of}
+use Rattle.std.specs.Prelude.{Option, None, Some}
+use Rattle.std.specs.contracts.impls.GlobalAllocator.TheImpl.{ghosts}
+use Rattle.std.below.std_heap.proofs.GlobalAllocator.TheSendSync.{the_frees}
+use Rattle.std_alloc.proofs.SendSync.{quiet, lies}
+use Rattle.vp_engine.proofs.printer.Printer.TheSendSync.{the_send}
+use Rattle.vp_c.specs.Handles.{holds}
+use Rattle.vp_c.specs.contracts.handle.Handle.{the_row, the_type}
+use Rattle.vp_c.proofs.Handles.{P}
+
+held : (p : Ptr) (x : Option P.Denot) → Keyless (holds p x)
+held null_ptr None = tt
+held null_ptr (Some x) = tt
+held (block_ptr b o) None = tt
+held (block_ptr b o) (Some x) = (lies P the_send (block_ptr b o) x, the_frees.frees (record { memory = record { seal = tt } }) (bare (lone P.mir)) (block_ptr b o))
+
+pub send : IsSend the_row
+send =
+    let O : Owning = the_type in
+    let ps : IsSend RawPtr = search sendable in
+    owning_send O (ps, tt) (λ h. held h.at h.printer) (λ k. quiet (to O) (exits_of k (fields O)) ((struct_send (shape O) (ps, tt)).leaving k))

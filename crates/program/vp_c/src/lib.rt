@@ -1,0 +1,16 @@
+//! The library for C: `include/vp.h` declares what is exported here.
+//!
+//! `printing` makes printers, steps them, asks and frees them, and `texts` writes what is said of them. A
+//! printer stands behind a `handle`; `answer`, `fault`, `progress` and `held` are what C is told, as numbers.
+#![tactic(auto)]
+
+mod answer;
+mod fault;
+mod handle;
+mod held;
+mod listing;
+mod making;
+mod printing;
+mod progress;
+mod text;
+mod texts;

@@ -1,0 +1,98 @@
+//! Printers are stepped and asked.
+ghost use Rattle.std.specs.Prelude.{◌≡◌};
+ghost use Rattle.vp_c.specs.Printing.{IsEnd, IsFinished, IsPendingAnswer, IsHeld};
+ghost use Rattle.vp_c.specs.Steps.{IsStep, IsStepOf};
+
+use crate::answer::{NO_PRINTER, OK, PENDING};
+use crate::fault::{FaultOfC, NO_FAULT};
+use crate::handle::Handle;
+use crate::held::{HeldNow, NOTHING_HELD};
+use crate::progress::{NOTHING, Progress};
+use std::alloc::Global;
+use vp_engine::Printer;
+
+/// One step of a printer.
+fn step(printer: &mut Printer, input: &[u8], output: &mut [u8]) -> Progress
+    ensures { IsStep printer.old printer.new input.now output.old output.new result }
+{
+    Progress::of(printer.step(input, output))
+}
+
+/// Takes input and puts out paper, until the input ends, the output is full or a fault comes.
+#[unsafe(no_mangle)]
+pub extern "C" fn vp_step(
+    alloc: Global,
+    printer: &mut Handle,
+    input: &[u8],
+    output: &mut [u8],
+    done: &mut Progress,
+) -> u32
+    ensures { IsStepOf printer.old.printer printer.new.printer input.now output.old output.new done.new
+        result }
+{
+    let Some(mut it) = printer.take(alloc) else {
+        *done = NOTHING;
+        return NO_PRINTER;
+    };
+    *done = step(&mut it, input, output);
+    *printer = Handle::of(it);
+    OK
+}
+
+/// Whether paper is still to be put out, and, where none is, the fault of ending here.
+fn ending(printer: &Printer) -> (u32, FaultOfC)
+    ensures { IsEnd printer.now result.1 result.0 }
+{
+    if printer.pending() {
+        return (PENDING, NO_FAULT);
+    }
+    match printer.finish() {
+        Ok(()) => (OK, NO_FAULT),
+        Err(fault) => (OK, FaultOfC::of(fault)),
+    }
+}
+
+/// Tells the fault that stopped a printer, or that of ending here, where nothing is pending.
+#[unsafe(no_mangle)]
+pub extern "C" fn vp_finish(alloc: Global, printer: &mut Handle, fault: &mut FaultOfC) -> u32
+    ensures same { printer.new.printer ≡ printer.old.printer }
+    ensures told { IsFinished printer.old.printer fault.new result }
+{
+    let Some(it) = printer.take(alloc) else {
+        *fault = NO_FAULT;
+        return NO_PRINTER;
+    };
+    let (answer, told) = ending(&it);
+    *fault = told;
+    *printer = Handle::of(it);
+    answer
+}
+
+/// Tells whether paper is still to be put out.
+#[unsafe(no_mangle)]
+pub extern "C" fn vp_pending(alloc: Global, printer: &mut Handle) -> u32
+    ensures same { printer.new.printer ≡ printer.old.printer }
+    ensures told { IsPendingAnswer printer.old.printer result }
+{
+    let Some(it) = printer.take(alloc) else {
+        return NO_PRINTER;
+    };
+    let answer = if it.pending() { PENDING } else { OK };
+    *printer = Handle::of(it);
+    answer
+}
+
+/// Tells what a printer holds.
+#[unsafe(no_mangle)]
+pub extern "C" fn vp_held(alloc: Global, printer: &mut Handle, held: &mut HeldNow) -> u32
+    ensures same { printer.new.printer ≡ printer.old.printer }
+    ensures told { IsHeld printer.old.printer held.new result }
+{
+    let Some(it) = printer.take(alloc) else {
+        *held = NOTHING_HELD;
+        return NO_PRINTER;
+    };
+    *held = HeldNow::of(it.held());
+    *printer = Handle::of(it);
+    OK
+}

@@ -1,0 +1,148 @@
+/* vp.h: a printer of receipts (ESC/POS) or labels (ZPL II) inside your program.
+ *
+ * Bytes go in and images (raw PBM, one after the other) come out, both cut at any place: what comes out is
+ * the paper that the program vp prints of the same bytes. All memory is taken by vp_new; no call waits,
+ * opens a file, prints a message or ends the program.
+ *
+ *     vp printer = {0};
+ *     if (vp_new(VP_RECEIPT, font_a, font_a_length, NULL, 0, &printer) != VP_OK) ..
+ *
+ *     uint8_t paper[4096];
+ *     vp_progress done;
+ *     size_t at = 0;
+ *     do {                                          // all of a stream in memory
+ *         vp_step(&printer, stream + at, length - at, paper, sizeof paper, &done);
+ *         at += done.taken;
+ *         fwrite(paper, 1, done.put, images);
+ *     } while (done.state == VP_ROOM);
+ *
+ *     if (done.state == VP_MORE)                    // does the stream end too early?
+ *         vp_finish(&printer, &done.fault);
+ *     if (done.fault.number != 0) {
+ *         char line[VP_LINE];
+ *         vp_fault_line(&done.fault, at, line, sizeof line);
+ *         puts(line);                               // vp: F1 after 4 bytes: unknown command 1B 7F
+ *     }
+ *     vp_free(&printer);
+ *
+ * What you keep, and no call can check:
+ *   - a vp is {0}, or what a call of this library left in it. It isn't copied: pass its address.
+ *   - one thread at a time uses a printer. Printers know nothing of each other: a thread may have its own.
+ *   - bytes lie where a pointer and a length say, and what a call writes lies apart from all else that it is
+ *     given. Where a length is 0 its pointer isn't followed, and may be NULL; no other pointer may.
+ *   - no call comes from a signal handler, or from a forked child of a process with threads.
+ *   - malloc, realloc and free are one allocator's, which aligns as C wants it.
+ *
+ * Link with -lvp, or with libvp.a. */
+#ifndef VP_H
+#define VP_H
+
+#include <stddef.h>
+#include <stdint.h>
+
+#ifdef __cplusplus
+extern "C" {
+#endif
+
+/* A printer's handle. {0} has no printer: calls that need one answer VP_NO_PRINTER. */
+typedef struct vp {
+    void *printer;
+} vp;
+
+/* What a stream is written in, and on which paper it is printed. */
+#define VP_RECEIPT 0u    /* ESC/POS, paper of 576 dots */
+#define VP_RECEIPT_58 1u /* ESC/POS, paper of 384 dots */
+#define VP_LABEL 2u      /* ZPL II, labels as wide and as long as they say */
+
+/* Answers. Of a sheet that is none, which one it is and its first offence. */
+#define VP_OK 0u
+#define VP_NO_MEMORY 1u
+#define VP_NO_LANGUAGE 2u
+#define VP_NO_PRINTER 3u
+#define VP_PENDING 4u     /* paper is still to be put out */
+#define VP_SHEET_A_S1 11u /* S1: not P4 */
+#define VP_SHEET_A_S2 12u /* S2: bad header */
+#define VP_SHEET_A_S3 13u /* S3: wrong size */
+#define VP_SHEET_A_S4 14u /* S4: too short */
+#define VP_SHEET_B_S1 21u
+#define VP_SHEET_B_S2 22u
+#define VP_SHEET_B_S3 23u
+#define VP_SHEET_B_S4 24u
+
+/* Why a stream is wrong: F1 to F9, as the program numbers them. */
+typedef struct vp_fault {
+    uint8_t number; /* 1 to 9; 0 where there is no fault, and then all is 0 */
+    uint8_t why;    /* of F2: 1 empty, 2 character, 3 length, 4 set, 5 unsupported; else 0 */
+    uint8_t lead;   /* of F1: the two bytes that begin no command; else 0 */
+    uint8_t byte;
+} vp_fault;
+
+/* What a step has come to. */
+#define VP_MORE 0u    /* all input is taken, and all its paper is put out */
+#define VP_ROOM 1u    /* the output is full, and there is more paper: call again, with the rest of the input */
+#define VP_STOPPED 2u /* the last byte taken makes the fault, the paper before it is put out; no more comes */
+
+typedef struct vp_progress {
+    size_t taken; /* bytes taken from the front of the input */
+    size_t put;   /* bytes put to the front of the output */
+    uint32_t state;
+    vp_fault fault; /* where the state is VP_STOPPED */
+} vp_progress;
+
+/* What a printer holds of what isn't printed yet. None of it ever is more than is said here. */
+typedef struct vp_held_now {
+    uint32_t stored;    /* bytes of a label's format: 262,144 */
+    uint16_t fields;    /* fields of a label's format: 1,024 */
+    uint16_t line_rows; /* rows of a receipt's line: 192 */
+    uint16_t page_rows; /* rows of a receipt's page: 1,664 */
+    uint16_t band_rows; /* rows of a label's band: 32 */
+} vp_held_now;
+
+/* Makes a printer, with the bytes of a sheet of font A (12 by 24 dots) and one of font B (9 by 17), which
+ * are copied. No sheet is a length of 0: its characters are white. Where the answer isn't VP_OK, *made is
+ * {0}. What *made held before isn't freed. */
+uint32_t vp_new(uint32_t language, const uint8_t *font_a, size_t font_a_length, const uint8_t *font_b,
+                size_t font_b_length, vp *made);
+
+/* Makes one that prints a line of text for each command of a stream, as vp list does; where with_offsets
+ * isn't 0, behind its place in the stream. */
+uint32_t vp_new_listing(uint32_t language, uint32_t with_offsets, vp *made);
+
+/* Takes input and puts out paper, until the input ends, the output is full or a fault comes. A step without
+ * input puts out what is pending; after a stop each step does nothing and tells the fault again. VP_OK, or
+ * VP_NO_PRINTER, with nothing taken or put. What lies in the output behind the bytes put isn't touched. */
+uint32_t vp_step(vp *printer, const uint8_t *input, size_t length, uint8_t *output, size_t room,
+                 vp_progress *done);
+
+/* Tells the fault that stopped the printer, else that of a stream that ends here: F8 inside a command, F9
+ * before all is printed. They aren't the printer's end: more bytes may follow. VP_PENDING where a step still
+ * has paper to put out, VP_NO_PRINTER; in both *fault is none. */
+uint32_t vp_finish(vp *printer, vp_fault *fault);
+
+/* VP_PENDING where paper is still to be put out, else VP_OK; or VP_NO_PRINTER. */
+uint32_t vp_pending(vp *printer);
+
+/* Tells what the printer holds. VP_OK, or VP_NO_PRINTER, with zeros. */
+uint32_t vp_held(vp *printer, vp_held_now *held);
+
+/* Frees the printer, where there is one, and leaves {0}: a second call does nothing. */
+void vp_free(vp *printer);
+
+/* Room for any text of the calls below. */
+#define VP_LINE 96
+
+/* Writes the line that the program prints of a fault, after so many bytes of the stream: those that all
+ * steps took. No line end, a 0 behind it, both as far as there is room; answers the bytes before the 0. */
+size_t vp_fault_line(const vp_fault *fault, uint64_t after, char *line, size_t room);
+
+/* Writes what an answer of vp_new means, in the same way: "out of memory", "S1 not P4". */
+size_t vp_answer_text(uint32_t answer, char *text, size_t room);
+
+/* Writes the version of the library, in the same way. */
+size_t vp_version(char *text, size_t room);
+
+#ifdef __cplusplus
+}
+#endif
+
+#endif
