@@ -1,13 +1,13 @@
 // What the parts of the page share: the printer, the tabs and the one that is seen, what was chosen for all of them.
 
-import { Served } from './served.js';
+import { Printer } from './served.js';
 
 export const find = id => document.getElementById(id);
 export const number = n => n.toLocaleString('en');
 export const plural = (n, what) => `${number(n)} ${what}${n === 1 ? '' : 's'}`;
 
 export const desk = {
-  printer: new Served(), state: null, tabs: [], tab: null,
+  printer: new Printer(), state: null, tabs: [], tab: null,
   // the sheets that are chosen for fonts, and the files' names of those that the printer keeps
   fonts: { a: '', b: '' }, sheetNames: new Map(),
   // what the paper is compared with

@@ -47,7 +47,10 @@ find('examples').onchange = event => {
   event.target.value = '';
   if (n !== '') openExample(n).catch(error => say(error.message));
 };
-find('open-file').onclick = () => find('file').click();
+find('open-file').onclick = () => {
+  if (desk.printer.pick) pickFiles().catch(error => { if (error.name !== 'AbortError') say(error.message); });
+  else find('file').click();
+};
 find('file').onchange = event => {
   openFiles([...event.target.files]);
   event.target.value = '';
@@ -80,18 +83,31 @@ addEventListener('paste', event => {
 // Files that are followed. What is written here stays until you say that the file's own may take its place.
 
 export async function openFollowed() {
+  for (let n = 0; n < desk.state.files.length; n++) await openOne(n);
+}
+
+async function openOne(n) {
   const { files, language } = desk.state;
-  for (let n = 0; n < files.length; n++) {
-    const { name, path } = files[n];
-    const tab = new Tab(nameFor(name, path), new Uint8Array(0), language ?? 'label', { followed: n, path });
-    desk.tabs.push(tab);
-    try {
-      tab.bytes = tab.kept = await desk.printer.file(n);
-      tab.language = language ?? await desk.printer.guess(tab.bytes);
-    } catch (error) {
-      tab.fileError = error.message;
-    }
+  const { name, path } = files[n];
+  const tab = new Tab(nameFor(name, path), new Uint8Array(0), language ?? 'label', { followed: n, path });
+  desk.tabs.push(tab);
+  try {
+    tab.bytes = tab.kept = await desk.printer.file(n);
+    tab.language = language ?? await desk.printer.guess(tab.bytes);
+  } catch (error) {
+    tab.fileError = error.message;
   }
+  return tab;
+}
+
+// Files that the printer may read again are followed once they are chosen.
+async function pickFiles() {
+  const { files } = desk.state;
+  const isFirst = !files.length;
+  let tab = null;
+  for (const it of await desk.printer.pick()) tab = await openOne(files.push(it) - 1);
+  if (tab) act.choose(tab);
+  if (tab && isFirst) follow();
 }
 
 export async function follow() {
@@ -110,6 +126,7 @@ export async function follow() {
 
 async function changedOnDisk(n) {
   const tab = desk.tabs.find(one => one.followed === n);
+  if (!tab) return;
   let bytes;
   try {
     bytes = await desk.printer.file(n);

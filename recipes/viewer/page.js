@@ -194,7 +194,8 @@ find('sheet-file').onchange = async event => {
 async function start() {
   desk.state = await desk.printer.state();
   const { anew, examples } = desk.state;
-  desk.anew = find('anew').checked = anew;
+  desk.anew = find('anew').checked = Boolean(anew);
+  find('anew').closest('label').hidden = anew === null;
   setChoices(find('examples'), [['', 'Examples'], ...examples.map((it, n) => [n, it])], '');
   find('examples').hidden = !examples.length;
   await openFollowed();

@@ -1,7 +1,8 @@
 // The printer that the viewer's server is: it prints, lists and remarks on streams by vp, on this machine.
 //
-// The page knows a printer by these calls alone, so that one within the page, without a server, can stand in its place:
-//   state()                               what it offers: sheets, examples, files to follow, the longest stream
+// The page knows a printer by these calls alone, so that the one within the page (within.js) can stand in its place:
+//   state()                               what it offers: sheets, examples, files to follow, the longest stream,
+//                                         whether streams are written anew at first, null where they never are
 //   print(stream, words, take, signal)    gives the paper's bytes to `take` as they come, while that answers true
 //   list(stream, words, take, signal)     gives the listing's bytes so
 //                                         both then tell {line, status, late}, or {stopped}; print the guess, too
@@ -9,6 +10,8 @@
 //   guess(stream)                         its language
 //   keepSheet(bytes)                      keeps a glyph sheet; the name that it answers stands in words
 //   example(n), file(n)                   their bytes
+//   pick()                                asks for files that it may follow, which come behind the others; a printer
+//                                         that can't has none
 //   changes(versions)                     waits until a followed file has another version, and tells all of them
 // Words are {lang, width, a, b}: the language, a receipt's paper in dots, sheets by their names.
 
@@ -57,7 +60,7 @@ async function tail(reader, first) {
   }
 }
 
-export class Served {
+export class Printer {
   state() { return ask('state'); }
 
   async print(stream, words, take, signal) {

@@ -21,7 +21,6 @@ import io
 import os
 import pathlib
 import re
-import subprocess
 import sys
 import urllib.parse
 from collections import Counter, namedtuple
@@ -32,7 +31,7 @@ from .expand import Options, expanded
 from .expand.places import told as told_anew
 from .files import Made, is_other, keep, whole
 from .images import Png, Taken, images
-from .program import Fault, cannot_run, direct, find_vp, shown, text_of, times, told
+from .program import Fault, direct, find_vp, ran, shown, times, told
 from .remarks import passed
 from .sheets import sheet_words, shipped, without_cell
 from .streams import LANGUAGES, guess, items_of, lines_of, listing, may_skip, named
@@ -320,18 +319,16 @@ def printed(command, data, expands=False):
         found = written_anew(command, data)
         data, pieces = found.data, found.pieces
         anew = ''.join(f'byte {it.place}: {it.text}\n' for it in found.remarks)
-    try:
-        ran = subprocess.run(command, input=data, stdout=subprocess.PIPE, stderr=subprocess.PIPE)
-    except (OSError, ValueError) as error:
-        raise cannot_run(command, error) from None
-    line = told(command, ran.returncode, text_of(ran.stderr))
+    image, said, status = ran(command, data)
+    line = told(command, status, said)
     line = told_anew(line, pieces) if pieces is not None else line
     try:
-        Paper(ran.stdout)
+        for _ in images(io.BytesIO(image)):
+            pass
     except ValueError as error:
         raise Fault(f'{shown(command[0])} printed no images as vp does: {error}', 5) from None
     skipped, counts = skips(command, data)
-    return Result(ran.stdout, line + '\n' if ran.returncode else '', skipped, anew), counts
+    return Result(image, line + '\n' if status else '', skipped, anew), counts
 
 
 def expected(folder, name):

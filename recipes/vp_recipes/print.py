@@ -3,19 +3,18 @@
 print --guess < STREAM says the language, and prints nothing; print --words LANGUAGE says the words that run vp, one a
 line; print --languages < NAMES says the language of each file, before its name, a line each. print --expand
 [--table CODEC] [--from CODEC] [COMMAND..] < STREAM writes the stream anew first (recipes/expand) and prints it by
-COMMAND, in place of vp; a fault is told in the bytes that came.
+COMMAND, in place of vp; a fault is told in the bytes that came. `many` asks by print --in-process COMMAND.. whether one
+process does as well for all streams, and then has it print them by print --batch [SUMS] COMMAND.. -- STREAMS OUT NAME..
 """
-import argparse
 import os
 import shutil
-import subprocess
 import sys
 import tempfile
 
-from .expand import Options, expanded
-from .expand.places import told
-from .program import Fault, cannot_run, direct, find_vp, given_input, shown
-from .sheets import sheet_words, shipped
+from . import in_process
+from .batch import batch
+from .program import Fault, find_vp, given_input, shown
+from .sheets import shipped
 from .streams import GUESSED, LANGUAGES, guess
 
 
@@ -32,29 +31,16 @@ def languages(names):
     return 0
 
 
-def anew(words):
-    """Prints a stream that is written anew first."""
-    parser = argparse.ArgumentParser(prog='print --expand')
-    parser.add_argument('--table', default='cp858')
-    parser.add_argument('--from', dest='encoding')
-    parser.add_argument('command', nargs=argparse.REMAINDER)
-    given, data = parser.parse_args(words), given_input().read()
-    language = next((it for it in LANGUAGES if it in given.command), None) or guess(data)
-    command = direct(given.command or [*find_vp(), language, *shipped(language)])
-    sheets = [it for letter, name in sheet_words(command).items() for it in (f'--font-{letter}', name)]
-    found = expanded(data, language, Options(given.table, given.encoding, sheet=tuple(sheets)))
-    try:
-        ran = subprocess.run(command, input=found.data, stderr=subprocess.PIPE)
-    except (OSError, ValueError) as error:
-        raise cannot_run(command, error) from None
-    sys.stderr.write(told(ran.stderr.decode('utf-8', 'surrogateescape'), found.pieces))
-    if ran.returncode < 0:
-        os.kill(os.getpid(), -ran.returncode)
-    return ran.returncode
-
-
 def main():
+    if sys.argv[1:2] == ['--in-process']:
+        return 0 if in_process.package(sys.argv[2:]) else 1
+    if sys.argv[1:2] == ['--batch']:
+        end = sys.argv.index('--')
+        streams, out, *names = sys.argv[end + 1:]
+        return batch(sys.argv[3:end], streams, out, sys.argv[2] != '', names)
     if sys.argv[1:2] == ['--expand']:
+        # (loaded only here: it takes longer than to print some hundred receipts)
+        from .anew import anew
         return anew(sys.argv[2:])
     if sys.argv[1:2] == ['--words'] and len(sys.argv) == 3 and sys.argv[2] in LANGUAGES:
         print('\n'.join([*find_vp(), sys.argv[2], *shipped(sys.argv[2])]))

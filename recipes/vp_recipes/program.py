@@ -7,6 +7,8 @@ import signal
 import subprocess
 import sys
 
+from . import in_process
+
 # The folder of the commands.
 HERE = pathlib.Path(__file__).resolve().parent.parent
 # The statuses of vp beside 0 and 1, whose line says why; and what a command ends with that ran something which was
@@ -92,15 +94,25 @@ def direct(words):
     return [program_of(script), *words[1:]] if is_clone else list(words)
 
 
+def ran(words, data, output=subprocess.PIPE):
+    """What words that run vp, as `direct` has them, do with a stream: its output, where that isn't to go elsewhere, what
+    is said, its status."""
+    found = in_process.done(words, data) if output == subprocess.PIPE else None
+    if found:
+        return found
+    try:
+        it = subprocess.run(words, input=data, stdout=output, stderr=subprocess.PIPE)
+    except (OSError, ValueError) as error:
+        raise cannot_run(words, error) from None
+    return it.stdout, text_of(it.stderr), it.returncode
+
+
 def run(words, data, vp=None, output=subprocess.PIPE):
     """What vp does with a stream: its output, where that isn't to go elsewhere, its line, its status. Wrong words and the
     like are a Fault."""
     words = direct([*(vp or find_vp()), *words])
-    try:
-        ran = subprocess.run(words, input=data, stdout=output, stderr=subprocess.PIPE)
-    except (OSError, ValueError) as error:
-        raise cannot_run(words, error) from None
-    return ran.stdout, told(words, ran.returncode, text_of(ran.stderr)), ran.returncode
+    out, said, status = ran(words, data, output)
+    return out, told(words, status, said), status
 
 
 def cannot_run(words, error):

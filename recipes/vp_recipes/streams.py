@@ -87,10 +87,13 @@ def becomes():
 def skipped(items, language):
     """What is read and not printed: the number of the item and the command, as the table has it."""
     known = table()
+    leads = {command.partition(' ')[0] for of, command in known if of == language}
     for n, (_, text) in enumerate(items):
         if language == 'label':
             if text.endswith(' skipped'):
                 yield n, text[:-len(' skipped')]
+            continue
+        if text.partition(' ')[0] not in leads:
             continue
         words = text.split(' ')
         if words[:3] == ['gs', '28', '6b'] and words[5:6] == [QR]:

@@ -54,6 +54,12 @@ def printed(language, data):
     return rows.hex()
 
 
+def part(name):
+    """A script that gives a part of the page: served beside it, or within it."""
+    return f"""(() => {{ const served = document.querySelector('script[src$="page.js"]');
+      return import(served ? served.src.replace('page.js', '{name}') : 'viewer/{name}'); }})()"""
+
+
 def new_stream(browser, kind):
     browser.click(f"document.getElementById('new-{kind}')")
     browser.wait(f"viewer.tab().name.startsWith('new') && viewer.tab().language === '{kind}'", 'a new stream')
@@ -412,8 +418,8 @@ def test_names(browser):
         assert any(it[1:3] == named for it in rows), (named, rows)
     read = commands()
     assert len(read) > 300, read
-    missing = browser.value("""import(document.querySelector('script').src.replace('page.js', 'names.js')).then(it =>
-        %s.filter(text => !it.named({ text, count: 0 }, 'receipt').words))""" % json.dumps(read))
+    missing = browser.value(f"""{part('names.js')}.then(it =>
+        {json.dumps(read)}.filter(text => !it.named({{ text, count: 0 }}, 'receipt').words))""")
     same(missing, [])
 
 
@@ -533,15 +539,15 @@ def test_escapes(browser):
     random.seed(1)
     for size in 1, 7, 300, 5000:
         data = random.randbytes(size)
-        same(browser.value('''import(document.querySelector('script').src.replace('page.js', 'bytes.js')).then(it =>
+        same(browser.value(part('bytes.js') + '''.then(it =>
             [...it.toBytes(it.toEscapes(Uint8Array.from(%s)), null).bytes])''' % list(data)), list(data))
     for text in 'a\\\\\n', '^XA\r\nü\r\n', 'x\n\ny', '':
         data = list(text.encode())
-        same(browser.value('''import(document.querySelector('script').src.replace('page.js', 'bytes.js')).then(it => {
+        same(browser.value(part('bytes.js') + '''.then(it => {
             const bytes = Uint8Array.from(%s), end = it.endsOf(bytes);
             return [...it.toBytes(it.toText(bytes, end), end).bytes]; })''' % data), data)
     for data in b'a\rb\n', b'a\r\nb\n', b'\xff', b'\x1b@':
-        same(browser.value('''import(document.querySelector('script').src.replace('page.js', 'bytes.js')).then(it =>
+        same(browser.value(part('bytes.js') + '''.then(it =>
             it.endsOf(Uint8Array.from(%s)))''' % list(data)), None)
 
 
@@ -588,6 +594,11 @@ def test_opened(browser, room):
         assert not pathlib.Path(file[len('file://'):]).exists()
 
 
+# What holds of the page whether a server prints or the page itself.
+ON_BOTH = (test_mark, test_typing, test_speed, test_fault, test_drop, test_compare, test_escapes, test_parts,
+           test_closing, test_dimmed, test_origins, test_names, test_sizes, test_count, test_long, test_tabs)
+
+
 def in_browser(room):
     followed = room / 'followed.zpl'
     followed.write_bytes(b'^XA^PW80^LL40^FO8,8^GB8,8,8^FS^XZ\n')
@@ -599,9 +610,7 @@ def in_browser(room):
             same(drawn(browser), printed('label', SHIPPING.read_bytes()))
             test_changed(browser, followed)
             test_kept(browser, followed)
-            for test in (test_mark, test_typing, test_speed, test_fault, test_drop, test_compare, test_escapes,
-                         test_parts, test_closing, test_remarks_line, test_dimmed, test_origins, test_names, test_sizes,
-                         test_count, test_long, test_large, test_tabs):
+            for test in (test_remarks_line, *ON_BOTH, test_large):
                 test(browser)
             same(browser.errors, [])
             test_opened(browser, room)

@@ -1,0 +1,79 @@
+"""Listings: a line for each command of a stream."""
+from __future__ import annotations
+
+from typing import Iterator, List, NamedTuple, Optional, Sequence, Union, overload
+
+from .faults import BadArgument, Fault, TooMuchPaper
+from .handle import Handle
+from .library import LABEL, RECEIPT
+from .printers import MOST_BYTES, Stream, bytes_of
+
+LANGUAGES = {'receipt': RECEIPT, 'label': LABEL}
+
+
+class Item(NamedTuple):
+    """A line of a listing, and how many bytes are read when it is known, where that was asked for."""
+
+    text: str
+    place: Optional[int]
+
+    def __str__(self) -> str:
+        return self.text if self.place is None else f'{self.place} {self.text}'
+
+
+class Listing(Sequence[Item]):
+    """The lines of a stream, and the fault that ended it."""
+
+    def __init__(self, data: bytes, offsets: bool, fault: Optional[Fault]) -> None:
+        self._lines, self._offsets, self.fault = data.decode('latin-1').split('\n')[:-1], offsets, fault
+
+    def __len__(self) -> int:
+        return len(self._lines)
+
+    @overload
+    def __getitem__(self, at: int) -> Item: ...
+
+    @overload
+    def __getitem__(self, at: slice) -> List[Item]: ...
+
+    def __getitem__(self, at: Union[int, slice]) -> Union[Item, List[Item]]:
+        if isinstance(at, slice):
+            return [self._item(it) for it in self._lines[at]]
+        return self._item(self._lines[at])
+
+    def __iter__(self) -> Iterator[Item]:
+        return map(self._item, self._lines)
+
+    def _item(self, line: str) -> Item:
+        if not self._offsets:
+            return Item(line, None)
+        place, _, text = line.partition(' ')
+        return Item(text, int(place))
+
+    def text(self) -> str:
+        """All lines, as `vp list` prints them; a byte above 7F is the character of its number."""
+        return '\n'.join([*self._lines, ''])
+
+    def __repr__(self) -> str:
+        lines = '1 line' if len(self) == 1 else f'{len(self)} lines'
+        return f'<vp.Listing of {lines}{f", {self.fault}" if self.fault else ""}>'
+
+
+def list_stream(stream: Stream, lang: str, offsets: bool = False, most_bytes: Optional[int] = MOST_BYTES) -> Listing:
+    """Lists a stream, 'receipt' or 'label', as `vp list` does."""
+    if lang not in LANGUAGES:
+        raise BadArgument(f'vp: a language is receipt or label, and not {lang}')
+    lines = bytearray()
+
+    def put(part: memoryview) -> None:
+        nonlocal lines
+        lines += part
+        if most_bytes is not None and len(lines) > most_bytes:
+            raise TooMuchPaper(f'vp: more than {most_bytes:,} bytes are listed')
+
+    handle = Handle.listing(LANGUAGES[lang], offsets)
+    try:
+        handle.feed(bytes_of(stream), put)
+        return Listing(bytes(lines), offsets, handle.finish())
+    finally:
+        handle.close()

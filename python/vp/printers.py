@@ -1,0 +1,126 @@
+"""Printers of receipts and labels."""
+from __future__ import annotations
+
+import threading
+from typing import List, Optional, Tuple, Union
+
+from .faults import BadArgument, Fault
+from .handle import Handle
+from .images import Image
+from .library import LABEL, RECEIPT, RECEIPT_58, Held
+from .paper import Bounds, Cutter, Paper
+from .sheets import SHIPPED, Sheet, read
+
+Stream = Union[bytes, bytearray, memoryview]
+# What a stream, or what is fed at once, prints at most where no other bound is given: 125 metres of rows in 8 dots a
+# millimetre, and 64 MiB.
+MOST_ROWS, MOST_BYTES = 1_000_000, 1 << 26
+# Papers by their dots.
+PAPERS = {576: RECEIPT, 384: RECEIPT_58}
+
+
+def bytes_of(stream: Stream) -> bytes:
+    return stream if isinstance(stream, bytes) else memoryview(stream).tobytes()
+
+
+class _Printers:
+    """Printers of a language with sheets, each as it was when it was switched on."""
+
+    def __init__(self, language: int, sheets: Tuple[Tuple[bytes, str], Tuple[bytes, str]], bounds: Bounds) -> None:
+        if any(it is not None and it < 0 for it in bounds):
+            raise BadArgument('vp: a bound is 0 or more, or None')
+        (font_a, name_a), (font_b, name_b) = sheets
+        self._language, self._bounds = language, bounds
+        self._sheets, self._names = (font_a, font_b), (name_a, name_b)
+        self._handle().close()
+
+    def _handle(self) -> Handle:
+        return Handle.printing(self._language, self._sheets, self._names)
+
+    def print(self, stream: Stream) -> Paper:
+        """The paper of a whole stream, by a printer that was just switched on."""
+        handle, cutter = self._handle(), Cutter(self._bounds)
+        try:
+            handle.feed(bytes_of(stream), cutter.add)
+            return cutter.paper(handle.finish())
+        finally:
+            handle.close()
+
+    def start(self) -> Printer:
+        """A printer that was just switched on, to be fed in pieces."""
+        return Printer(self._handle(), self._bounds)
+
+
+class Receipt(_Printers):
+    """Printers of receipts, ESC/POS, on paper of 576 or 384 dots.
+
+    A sheet is a file's name or its bytes, and None is no sheet, whose characters are white; where none is given it is
+    the shipped two. A stream that prints more rows or bytes than it may is TooMuchPaper; None is no bound.
+    """
+
+    def __init__(self, font_a: Sheet = SHIPPED, font_b: Sheet = SHIPPED, width: int = 576,
+                 most_rows: Optional[int] = MOST_ROWS, most_bytes: Optional[int] = MOST_BYTES) -> None:
+        if width not in PAPERS:
+            raise BadArgument(f'vp: paper is 576 or 384 dots wide, and not {width}')
+        if font_a is not SHIPPED or font_b is not SHIPPED:
+            font_a, font_b = (None if it is SHIPPED else it for it in (font_a, font_b))
+        super().__init__(PAPERS[width], (read(font_a, 'font_a'), read(font_b, 'font_b')), Bounds(most_rows, most_bytes))
+
+
+class Label(_Printers):
+    """Printers of labels, ZPL II. All is as with receipts; every font is of font A's sheet."""
+
+    def __init__(self, font_a: Sheet = SHIPPED, most_rows: Optional[int] = MOST_ROWS,
+                 most_bytes: Optional[int] = MOST_BYTES) -> None:
+        super().__init__(LABEL, (read(font_a, 'font_a'), (b'', 'font_b')), Bounds(most_rows, most_bytes))
+
+
+class Printer:
+    """A printer that is fed as bytes come, and gives each image once it is whole."""
+
+    def __init__(self, handle: Handle, bounds: Bounds) -> None:
+        self._handle, self._cutter = handle, Cutter(bounds)
+        self._lock = threading.Lock()
+
+    def feed(self, data: Stream) -> List[Image]:
+        """Takes bytes, and gives the images that they complete. Behind a fault nothing is printed any more."""
+        part = bytes_of(data)
+        with self._lock:
+            try:
+                self._handle.feed(part, self._cutter.add)
+                return self._cutter.images()
+            except BaseException:
+                self._handle.close()
+                raise
+
+    def finish(self) -> Optional[Fault]:
+        """Ends the stream: gives the fault that it ends in, and closes the printer."""
+        fault = self._handle.finish()
+        self._handle.close()
+        return fault
+
+    @property
+    def fault(self) -> Optional[Fault]:
+        """The fault that stopped the printer, or that its stream ended in."""
+        return self._handle.fault
+
+    @property
+    def held(self) -> Held:
+        """What the printer holds of what isn't printed yet."""
+        return self._handle.held()
+
+    @property
+    def unfinished(self) -> bytes:
+        """What came of an image whose last row isn't printed."""
+        with self._lock:
+            return bytes(self._cutter.data)
+
+    def close(self) -> None:
+        """Gives the printer's memory back. It prints no more."""
+        self._handle.close()
+
+    def __enter__(self) -> Printer:
+        return self
+
+    def __exit__(self, *error: object) -> None:
+        self.close()

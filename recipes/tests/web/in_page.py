@@ -1,0 +1,132 @@
+#!/usr/bin/env python3
+"""The viewer as one page, in Chromium: in_page.py test PAGE PRINTED; in_page.py picture PAGE FILE [dark] draws it."""
+import base64
+import json
+import pathlib
+import sys
+import tempfile
+import time
+
+HERE = pathlib.Path(__file__).resolve().parent
+sys.path.insert(0, str(HERE.parent / 'viewer'))
+from chromium import Chromium  # noqa: E402
+from in_browser import ON_BOTH, READY, bytes_now, drawn, new_stream, printed, shown, type_at  # noqa: E402
+from serving import RECEIPT, SHIPPING, same  # noqa: E402
+
+WITHIN = 'Array.from(document.scripts).find(it => it.id === "given").textContent'
+
+
+def script(file):
+    return json.dumps(f'data:text/javascript;base64,{base64.b64encode(file.read_bytes()).decode()}')
+
+
+def test_same(browser, streams):
+    """What the page's own module prints, in the page, is what vp prints."""
+    browser.value(f"""(async () => {{
+      window.printer = await import({script(HERE.parents[1] / 'web/vp.js')});
+      const {{ module }} = JSON.parse({WITHIN});
+      await printer.load(Uint8Array.from(atob(module), it => it.charCodeAt(0)));
+      window.same = (await import({script(HERE / 'same.js')})).same; }})()""")
+    asked = json.loads(streams.read_text())
+    count = 0
+    for at in range(0, len(asked['streams']), 100):
+        part = {**asked, 'streams': asked['streams'][at:at + 100]}
+        count += browser.value(f'same(printer, {json.dumps(part)})')
+    print(f'Chromium: {count} streams are printed as vp prints them')
+
+
+def test_limits(browser):
+    """A print that doesn't end is ended by the page, which goes on."""
+    new_stream(browser, 'label')
+    browser.value("document.getElementById('text').select()")
+    text = '^XA^PW1248^LL8000' + '^BY10^BCR,1248^FDaaaaaaaaaaaaaaaaaaaaaaaa^FS' * 40 + '^PQ99999999^XZ'
+    browser.ask('Input.insertText', text=text)
+    browser.wait(f"viewer.tab().said?.ended && {READY}", 'its end', 40)
+    new_stream(browser, 'label')
+    assert b'P4' in bytes(browser.value('[...viewer.tab().paper.subarray(0, 2)]'))
+
+
+def test_alone(browser):
+    """Nothing is asked of any other place, and what the page lacks isn't offered."""
+    asked = "performance.getEntriesByType('resource').map(it => it.name)"
+    same([it for it in browser.value(asked) if not it.startswith(('data:', 'blob:'))], [])
+    same(browser.value("document.getElementById('anew').closest('label').hidden"), True)
+
+
+def test_followed(browser):
+    """A file that the browser lets the page read again is followed."""
+    first, second, third = (b'^XA^PW80^LL40^FO8,8^GB%d,8,8^FS^XZ\n' % n for n in (8, 16, 24))
+
+    def put(data):
+        browser.value(f'disk = {{ time: Date.now() + {len(data)}, data: Uint8Array.from({list(data)}) }}')
+        browser.wait(f'String(viewer.tab().onDisk ?? viewer.tab().bytes) === String({list(data)})', "the file's bytes")
+
+    browser.value("""var disk, handle = { name: 'disk.zpl',
+      getFile: async () => new File([disk.data], 'disk.zpl', { lastModified: disk.time }) };
+      window.showOpenFilePicker = async () => [handle];
+      viewer.desk.printer.pick ??= () => viewer.desk.printer.picked();""")
+    browser.value(f'disk = {{ time: 1, data: Uint8Array.from({list(first)}) }}')
+    browser.click("document.getElementById('open-file')")
+    browser.wait("viewer.tab().name === 'disk.zpl'", 'the file')
+    same(bytes_now(browser), first)
+    put(second)
+    same(drawn(browser), printed('label', second))
+    type_at(browser, '^FS')
+    browser.ask('Input.insertText', text='^FR')
+    put(third)
+    browser.wait("!document.getElementById('changed').hidden", 'the question')
+    same(bytes_now(browser), second.replace(b'^FS', b'^FR^FS'))
+    browser.click("document.getElementById('take')")
+    same(bytes_now(browser), third)
+
+
+def opened(browser, page):
+    start = time.monotonic()
+    browser.open(page.as_uri())
+    browser.wait(READY, 'the paper')
+    return time.monotonic() - start
+
+
+def test(room, page, streams):
+    browser = Chromium(room)
+    try:
+        opened(browser, page)
+        took = opened(browser, page)
+        print(f'the page is loaded, and has printed, in {1000 * took:.0f} ms')
+        browser.size(2200, 1700)
+        same(browser.value('viewer.tab().name'), 'shipping.zpl')
+        same(drawn(browser), printed('label', SHIPPING.read_bytes()))
+        browser.value("(() => { const box = document.getElementById('examples'); box.value = [...box.options]"
+                      ".find(it => it.text === 'receipt.bin').value; box.dispatchEvent(new Event('change')); })()")
+        browser.wait("viewer.tab().name === 'receipt.bin'", 'the example')
+        same(drawn(browser), printed('receipt', RECEIPT.read_bytes()))
+        shown(browser, 'shipping.zpl')
+        for it in ON_BOTH:
+            it(browser)
+        test_alone(browser)
+        test_followed(browser)
+        test_limits(browser)
+        test_same(browser, streams)
+        same(browser.errors, [])
+    finally:
+        browser.close()
+
+
+def picture(room, page, name, dark):
+    browser = Chromium(room, dark, 1440, 880)
+    try:
+        opened(browser, page)
+        browser.wait("document.querySelectorAll('#listing .row').length > 10", 'the listing')
+        time.sleep(0.5)
+        browser.picture(name)
+    finally:
+        browser.close()
+
+
+if __name__ == '__main__':
+    what, place, *more = sys.argv[1:]
+    with tempfile.TemporaryDirectory() as at:
+        if what == 'picture':
+            picture(at, pathlib.Path(place).resolve(), more[0], more[1:] == ['dark'])
+        else:
+            test(at, pathlib.Path(place).resolve(), pathlib.Path(more[0]))

@@ -1,0 +1,214 @@
+// A printer of receipts (ESC/POS) or labels (ZPL II) in a browser, in node or in deno: bytes go in, paper comes out.
+//
+//   import { Printer, load } from './vp.js';
+//   await load();                                         // vp.wasm beside this file; or where it is, or its bytes
+//   const { images, fault } = new Printer('label', { fontA }).print(stream);
+//   if (fault) console.log(String(fault));                // vp: F7 after 20 bytes: bad graphic data
+//   canvas.getContext('2d').putImageData(images[0].toImageData(), 0, 0);
+//
+// Each printer has a memory of its own, takes all that it needs when it is made, and goes when nothing names it.
+
+const LANGUAGES = { receipt: { 576: 0, 384: 1 }, label: { 576: 2 } };
+const [MORE, ROOM, STOPPED] = [0, 1, 2];
+// What goes in and out in one step, and where the answers of calls lie: the handle, a step's progress, a line of text.
+const PIECE = 1 << 16;
+const PROGRESS = 8;
+const LINE = 32;
+const MOST_LINE = 96;
+
+// Whose the offence is that an answer tells, by its tens.
+const WHOSE = { 1: 'fontA: ', 2: 'fontB: ' };
+
+let compiled = null;
+
+async function bytesOf(source) {
+  if (source instanceof ArrayBuffer || ArrayBuffer.isView(source)) return source;
+  const address = new URL(source);
+  if (address.protocol === 'file:' && globalThis.process?.versions?.node) {
+    const { readFile } = await import('node:fs/promises');
+    return readFile(address);
+  }
+  const answer = await fetch(address);
+  if (!answer.ok) throw new Error(`${address}: ${answer.status} ${answer.statusText}`);
+  return answer.arrayBuffer();
+}
+
+// Takes the module, once, before the first printer is made: from an address, as bytes, or compiled.
+export async function load(source = new URL('vp.wasm', import.meta.url)) {
+  const isModule = source instanceof WebAssembly.Module;
+  compiled = isModule ? source : await WebAssembly.compile(await bytesOf(source));
+  return compiled;
+}
+
+// Why a stream is wrong: its number (F1 to F9), how many bytes of the stream were taken when it was known, its text.
+export class Fault {
+  constructor(line) {
+    [, this.number, this.after, this.text] = /^vp: (F\d) after (\d+) bytes?: (.*)$/.exec(line);
+    this.after = Number(this.after);
+    this.line = line;
+  }
+
+  toString() { return this.line; }
+}
+
+// What takes a stream in any pieces, and puts bytes out: a printer, or a listing.
+class Machine {
+  #calls;
+  #at;
+  #input;
+  #output;
+
+  // `make` calls what makes it, and answers as that does.
+  constructor(sheets, make) {
+    if (!compiled) throw new Error('load() comes first');
+    const calls = new WebAssembly.Instance(compiled, {}).exports;
+    const room = length => {
+      const at = calls.malloc(length);
+      if (!at) throw new RangeError('out of memory');
+      return at;
+    };
+    this.#calls = calls;
+    this.#at = room(LINE + MOST_LINE);
+    this.#input = room(PIECE);
+    this.#output = room(PIECE);
+    const kept = sheets.map(sheet => {
+      const at = room(sheet.length || 1);
+      this.#bytes(at, sheet.length).set(sheet);
+      return [at, BigInt(sheet.length)];
+    });
+    const answer = make(calls, kept.flat(), this.#at);
+    if (answer) {
+      const why = this.#text(calls.vp_answer_text(answer, this.#at + LINE, BigInt(MOST_LINE)));
+      throw new Error((WHOSE[Math.floor(answer / 10)] ?? '') + why);
+    }
+    // how many bytes of the stream were taken
+    this.taken = 0;
+    // the fault that stopped it, else null
+    this.fault = null;
+  }
+
+  #bytes(at, length) { return new Uint8Array(this.#calls.memory.buffer, at, length); }
+
+  #text(length) { return String.fromCharCode(...this.#bytes(this.#at + LINE, Number(length))); }
+
+  #faultAt(at) {
+    const calls = this.#calls;
+    return new Fault(this.#text(calls.vp_fault_line(at, BigInt(this.taken), this.#at + LINE, BigInt(MOST_LINE))));
+  }
+
+  // Takes what it can of the input's front, and gives how much that is, the bytes that come out (at most 65,536), and
+  // whether more come without further input.
+  step(input) {
+    const some = input.subarray(0, PIECE);
+    this.#bytes(this.#input, some.length).set(some);
+    const done = this.#at + PROGRESS;
+    this.#calls.vp_step(this.#at, this.#input, BigInt(some.length), this.#output, BigInt(PIECE), done);
+    const view = new DataView(this.#calls.memory.buffer);
+    const [taken, put] = [view.getUint32(done, true), view.getUint32(done + 8, true)];
+    const state = view.getUint32(done + 16, true);
+    this.taken += taken;
+    if (state === STOPPED) this.fault ??= this.#faultAt(done + 20);
+    return { taken, out: this.#bytes(this.#output, put).slice(), isFull: state === ROOM };
+  }
+
+  // Takes a piece of the stream, and gives all bytes that come out. Behind a fault nothing comes.
+  feed(input) {
+    const pieces = [];
+    for (let rest = input; ;) {
+      const { taken, out, isFull } = this.step(rest);
+      rest = rest.subarray(taken);
+      if (out.length) pieces.push(out);
+      if (!isFull && (this.fault || !rest.length)) return joined(pieces);
+    }
+  }
+
+  // Gives the fault of a stream that ends here, else null.
+  end() {
+    const at = this.#at + PROGRESS;
+    this.#calls.vp_finish(this.#at, at);
+    return this.#bytes(at, 1)[0] ? this.#faultAt(at) : null;
+  }
+
+  // How often memory was taken.
+  get allocations() { return this.#calls.vp_taken(); }
+}
+
+// Prints 'receipt' or 'label', with the bytes of glyph sheets; a receipt on paper of 576 or 384 dots.
+export class Printer extends Machine {
+  constructor(language, { fontA = new Uint8Array(0), fontB = new Uint8Array(0), width = 576 } = {}) {
+    super([fontA, fontB], (calls, [a, lengthA, b, lengthB], made) =>
+      calls.vp_new(known(language, width), a, lengthA, b, lengthB, made));
+  }
+
+  // Prints a whole stream: its images, and its fault or null.
+  print(stream) {
+    const paper = this.feed(stream);
+    return { images: images(paper), fault: this.end() };
+  }
+}
+
+// Lists a stream's commands, a line of text each; with offsets, behind its place.
+export class Listing extends Machine {
+  constructor(language, { offsets = false } = {}) {
+    super([], (calls, _, made) => calls.vp_new_listing(known(language, 576), Number(offsets), made));
+  }
+}
+
+function known(language, width) {
+  const found = LANGUAGES[language]?.[width];
+  if (found === undefined) throw new Error(`there is no ${language} of ${width} dots`);
+  return found;
+}
+
+// An image: black and white dots. A row is whole bytes, the first dot the highest bit, 1 is black.
+export class Picture {
+  constructor(width, height, rows) {
+    Object.assign(this, { width, height, rows });
+  }
+
+  isBlack(x, y) { return (this.rows[y * Math.ceil(this.width / 8) + (x >> 3)] >> (7 - (x & 7)) & 1) === 1; }
+
+  toPBM() { return joined([new TextEncoder().encode(`P4\n${this.width} ${this.height}\n`), this.rows]); }
+
+  // Four bytes a dot, as a canvas takes them.
+  toRGBA() {
+    const dots = new Uint32Array(this.width * this.height).fill(0xffffffff);
+    for (let y = 0, at = 0; y < this.height; y++) {
+      for (let x = 0; x < this.width; x++, at++) if (this.isBlack(x, y)) dots[at] = BLACK;
+    }
+    return new Uint8ClampedArray(dots.buffer);
+  }
+
+  toImageData() { return new ImageData(this.toRGBA(), this.width, this.height); }
+}
+
+const BLACK = new Uint32Array(new Uint8Array([0, 0, 0, 255]).buffer)[0];
+
+// The images that paper holds: of one that is broken off, the rows that came.
+export function images(paper) {
+  const found = [];
+  for (let at = 0; at < paper.length;) {
+    const head = /^P4\n(\d+) (\d+)\n/.exec(String.fromCharCode(...paper.subarray(at, at + 24)));
+    if (!head) break;
+    const [width, height] = [Number(head[1]), Number(head[2])];
+    const stride = Math.ceil(width / 8);
+    const from = at + head[0].length;
+    const rows = Math.min(height, Math.floor((paper.length - from) / stride));
+    found.push(new Picture(width, rows, paper.slice(from, from + rows * stride)));
+    at = from + height * stride;
+  }
+  return found;
+}
+
+// One image of several of one width, as a receipt's strips are.
+export function join(strips) {
+  const height = strips.reduce((sum, it) => sum + it.height, 0);
+  return new Picture(strips[0]?.width ?? 0, height, joined(strips.map(it => it.rows)));
+}
+
+function joined(pieces) {
+  if (pieces.length === 1) return pieces[0];
+  const all = new Uint8Array(pieces.reduce((sum, it) => sum + it.length, 0));
+  pieces.reduce((at, it) => { all.set(it, at); return at + it.length; }, 0);
+  return all;
+}
