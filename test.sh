@@ -23,12 +23,19 @@ tools/gate/minutes.py out/gate.log tools/gate/gate.py || {
     exit 1
 }
 timed tools/dist/check
+timed tools/dist/check-library
+timed tools/systems/check
 timed ./checks/dist.sh
+timed ./checks/systems.sh
 timed ./checks/install.sh
+timed ./checks/in-process.sh
 timed ./checks/gate.sh
 timed ./checks/library.sh
 timed ./checks/program.py
 timed ./checks/examples.sh
 timed ./checks/recipes.sh
+timed ./checks/python.sh
 timed ./checks/memory.sh
+# (where an edit is refused first hangs on which others were tried beside it, so a difference is told and fails nothing)
+timed ./checks/evidence.py out/gate.log || echo './checks/evidence.py --write out/gate.log renews docs/evidence.md'
 tools/gate/left-out

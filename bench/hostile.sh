@@ -4,7 +4,7 @@
 # a stream may take. The times are those of the machine it runs on; the ratios are what to look at.
 set -eu
 top=$(cd "$(dirname "$0")/.." && pwd)
-vp=${1:-$("$top/tools/program")}
+vp=${1:-$("$top/tools/dist/program")}
 limit=${2:-60}
 font=$top/examples/font-a.pbm
 # what is printed stays in memory
@@ -78,6 +78,7 @@ measure 'a turned block of 262,000 cells on a column' '^PW1' 1 \
     "^FB32000,1^A0R,1500,1^FD$(repeated 262000 A)^FS"
 measure '1,024 turned texts of 254 cells' '^PW1248' 1024 "^A0R,1500,30^FD$cells^FS"
 measure '1,024 blocks of lines over each other' '^PW1248' 1024 "^FB1,9999,-9999^A0N,1500,1^FD$cells^FS"
+measure '1,024 turned blocks of an empty paragraph' '^PW1248' 1024 '^A0B,31,1500^FB8000,33,-1,C^FD\&^FS'
 measure 'a block of 87,000 paragraphs' '^PW1248' 1 \
     "^FB32000,9999,-9999^A0N,1500,1^FD$(repeated 87000 'A\&')^FS"
 

@@ -34,7 +34,7 @@ silent() { [ ! -s "$room/said" ] || fail "$1: something is said"; }
 
 # a toolchain, and a path without one
 kit=$room/kit bin=$room/bin
-mkdir -p "$kit/bin" "$kit/rlibs" "$bin"
+mkdir -p "$kit/bin" "$kit/rlibs" "$kit/toolchain/bin" "$bin"
 echo 'made-up-kit 1' >"$kit/KIT-ID"
 cat >"$kit/bin/rattle" <<'END'
 #!/bin/sh
@@ -140,7 +140,7 @@ mv "$room/away" "$tree/out"
 mkdir "$tree/docs" "$tree/examples"
 cp "$root/docs/vp.1" "$root"/docs/*.md "$tree/docs"
 cp "$root"/examples/*.pbm "$tree/examples"
-for part in install completions recipes LICENSE-MIT LICENSE-APACHE NOTICE CHANGELOG.md; do
+for part in install completions python recipes LICENSE-MIT LICENSE-APACHE NOTICE CHANGELOG.md; do
     cp -R "$root/$part" "$tree"
 done
 is 0 'an install of the program that is kept' env PATH="$alone" "$tree/install" "$room/prefix"

@@ -1,11 +1,20 @@
 #!/usr/bin/env python3
-"""Checks that the must-fail edits can be applied, and that those which docs/evidence.md names are there."""
+"""Checks that the must-fail edits can be applied, and that those which docs/evidence.md names are there, each with the
+clause at which it is refused: checks/evidence.py [[--write] LOG]. With a log of the gate it compares these clauses with
+those of the log, and with --write it writes them into the page."""
 import glob
 import os
 import re
 import sys
 
+ROOT = os.path.dirname(os.path.dirname(os.path.abspath(__file__)))
+sys.dont_write_bytecode = True
+sys.path.insert(0, f"{ROOT}/tools/gate")
+from refused import refusals  # noqa: E402
+
 PAGE = "docs/evidence.md"
+NAME = re.compile(r"`(vp_\w+/\w+)`")
+CLAUSE = re.compile(r"`[^`]+`(?: \(answer\))?")
 
 
 def fault_of(file):
@@ -34,24 +43,71 @@ def fault_of(file):
     return "" if pairs else "it has no old: and new:"
 
 
+class Row:
+    """A row of the page: the edits that it names, and the clause at which each is refused."""
+
+    def __init__(self, line):
+        *self.cells, where = [*map(str.strip, line.strip().strip("|").split("|")), ""][:4]
+        self.edits, self.clauses = NAME.findall(self.cells[2]), CLAUSE.findall(where)
+
+    def line(self):
+        return f"| {' | '.join([*self.cells, ', '.join(self.clauses)])} |\n"
+
+    def faults(self, there):
+        """Returns what the row lacks, of the edits that are there."""
+        if not self.edits:
+            return [f"no edit is named: {self.cells[0]}"]
+        if self.clauses and len(self.edits) != len(self.clauses):
+            return [f"not each edit has its clause: {self.cells[0]}"]
+        return [f"there is no edit {it}" for it in self.edits if it not in there]
+
+    def others(self, found):
+        """Returns which edits were refused at other clauses than the row's, or weren't tried."""
+        pairs = zip(self.edits, self.clauses or [""] * len(self.edits))
+        return [(edit, found.get(edit, [])) for edit, clause in pairs if clause not in found.get(edit, [])]
+
+    def renew(self, found):
+        """Puts the clause that was told first in the place of one that wasn't told."""
+        olds = [*self.clauses, *[""] * len(self.edits)]
+        news = [found.get(edit, [old]) for edit, old in zip(self.edits, olds)]
+        told = [old if old in new else new[0] for old, new in zip(olds, news)]
+        self.clauses = told if all(told) else self.clauses
+
+
+def rows_of(lines):
+    """Returns the rows of the page that are on wrong bodies, by their places in it."""
+    heads = re.compile(r"\|(---|\s*\*\*|\s*Wrong body)")
+    return {n: Row(line) for n, line in enumerate(lines) if line.startswith("|") and not heads.match(line)}
+
+
 def main():
-    os.chdir(os.path.dirname(os.path.dirname(os.path.abspath(__file__))))
+    os.chdir(ROOT)
+    log = sys.argv[-1] if len(sys.argv) > 1 else None
     files = sorted(glob.glob("crates/*/*/must-fail/*.edit"))
     faults = [f"{file}: {fault}" for file, fault in ((file, fault_of(file)) for file in files) if fault]
     there = {f"{it.split('/')[2]}/{os.path.basename(it)[: -len('.edit')]}" for it in files}
     with open(PAGE, encoding="utf-8") as it:
-        rows = [line for line in it if line.startswith("|")]
-    named = [name for row in rows for name in re.findall(r"`(vp_\w+/\w+)`", row)]
-    faults += [f"{PAGE}: there is no edit {name}" for name in named if name not in there]
-    bodies = [row for row in rows if not re.match(r"\|(---|\s*\*\*|\s*Wrong body)", row)]
-    faults += [f"{PAGE}: no edit is named: {row.strip()[:80]}" for row in bodies if not re.search(r"`vp_\w+/\w+`", row)]
+        lines = it.readlines()
+    rows = rows_of(lines)
+    found = refusals(log) if log else {}
+    if "--write" in sys.argv:
+        for n, row in rows.items():
+            row.renew(found)
+            lines[n] = row.line()
+        with open(PAGE, "w", encoding="utf-8") as it:
+            it.writelines(lines)
+    faults += [f"{PAGE}: {it}" for row in rows.values() for it in row.faults(there)]
+    others = [it for row in rows.values() if log for it in row.others(found)]
+    faults += [f"{PAGE}: {edit} is refused at {', '.join(it) or 'nothing that the log tells'}" for edit, it in others]
+    named = sum(len(row.edits) for row in rows.values())
     if not files or not named:
         faults.append("no edits were found")
     for fault in faults:
         print(f"checks/evidence: {fault}", file=sys.stderr)
     if faults:
         return 1
-    print(f"{len(files)} edits can be applied, and the {len(named)} that {PAGE} names are there: ok")
+    where = f", each refused where the page says, by {log}" if log else ""
+    print(f"{len(files)} edits can be applied, and the {named} that {PAGE} names are there{where}: ok")
     return 0
 
 

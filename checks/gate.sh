@@ -14,11 +14,12 @@ cat >crates/one/src/lib.rt <<'END'
 //! Two functions, of which one calls the other.
 #![tactic(auto)]
 
-ghost use Rattle.std.specs.Prelude.{◌≡◌, ◌/◌};
+ghost use Rattle.std.specs.Prelude.{◌≡◌, ◌/◌, ◌≤◌};
 
 /// Half of a number.
 pub fn half(a: u8) -> u8
-    ensures { result ≡ a / 2 }
+    ensures value { result ≡ a / 2 }
+    ensures most { result ≤ 127 }
 {
     a / 2
 }
@@ -30,6 +31,15 @@ pub fn quarter(a: u8) -> u8
     let it = half(a);
     half(it)
 }
+END
+# the second has an answer that was written by hand
+mkdir -p crates/one/proofs/quarter
+cat >crates/one/proofs/quarter/Answers.antt <<'END'
+use Rattle.std.proofs.Common.{rules}
+use Rattle.one.proofs.quarter.Goals as goal
+
+pub returns : goal.returns
+returns c = search rules
 END
 
 # edit NAME OLD NEW
@@ -48,9 +58,15 @@ says() {
     }
 }
 says 'must-fail one/half_is_a_third.edit: refused, as it must be: note: src/lib.rt:7:1: it is not proved'
-says 'must-fail one/quarter_is_a_half.edit: refused, as it must be: note: src/lib.rt:14:1: it is not proved'
+says 'must-fail one/quarter_is_a_half.edit: refused, as it must be: ./proofs/quarter/Answers.antt:5:13: error: `returns`'
 says 'must-fail one/quarter_with_a_type.edit: NOT REFUSED'
 says '^3 passed, 1 failed$'
+# and at which clauses
+cat >wanted <<'END'
+one/half_is_a_third: `half: value`
+one/quarter_is_a_half: `quarter` (answer)
+END
+"$(dirname "$gate")/refused.py" said | diff wanted - >&2
 if grep '^gate: this rt has no' said >&2; then exit 1; fi
 [ "$status" = 1 ]
 echo 'the gate refuses what it must, and nothing else: ok'

@@ -1,6 +1,6 @@
 #!/bin/sh
 # Installs the program below a folder and takes it away again, asks the completions for words where their
-# shells are, and makes the Debian package, which is unpacked into an empty root.
+# shells are, and makes the Debian packages, which are unpacked into an empty root.
 set -eu
 export LC_ALL=C
 root=$(dirname "$(dirname "$(realpath "$0")")")
@@ -39,7 +39,7 @@ for dest in '' "$room/a root"; do
     is 0 'install' "$root/install" "$prefix"
     grep -qx "$dest$prefix/bin/vp" "$room/printed" || fail 'install names no program'
     (cd "$dest$prefix" && find . -type f | LC_ALL=C sort) >"$room/files"
-    for file in bin/vp share/man/man1/vp.1 share/vp/font-a.pbm share/vp/font-b.pbm lib/vp/job lib/vp/paper \
+    for file in bin/vp include/vp.h lib/libvp.so.1 lib/libvp.a lib/pkgconfig/vp.pc share/man/man1/vp.1 share/vp/font-a.pbm share/vp/font-b.pbm lib/vp/job lib/vp/paper \
         share/doc/vp/LICENSE-MIT share/doc/vp/LICENSE-APACHE share/doc/vp/NOTICE share/doc/vp/CHANGELOG.md; do
         grep -qx "./$file" "$room/files" || fail "$file isn't installed"
     done
@@ -201,12 +201,12 @@ for shell in bash fish zsh; do
     fi
 done
 
-# the Debian package
+# the Debian packages
 mkdir deb again
-is 0 'the package' "$root/tools/packages/deb.py" deb
-is 0 'the package once more' "$root/tools/packages/deb.py" again
-deb=$(ls deb/*.deb)
-cmp "$deb" "again/${deb#deb/}" || fail 'the package is made of other bytes'
+is 0 'the packages' "$root/tools/packages/deb.py" deb
+is 0 'the packages once more' "$root/tools/packages/deb.py" again
+for deb in deb/*.deb; do cmp "$deb" "again/${deb#deb/}" || fail 'a package is made of other bytes'; done
+deb=$(ls deb/vp_*.deb) library_deb=$(ls deb/libvp1_*.deb) dev_deb=$(ls deb/libvp-dev_*.deb)
 [ "$deb" = "deb/vp_$("$program" --version | cut -d ' ' -f 2)_amd64.deb" ] || fail "the package is $deb"
 version=$("$program" --version | cut -d ' ' -f 2)
 grep -q "^## $version," "$root/CHANGELOG.md" || fail "CHANGELOG.md lacks $version"
@@ -224,7 +224,21 @@ if has dpkg-deb 'what the package holds'; then
     (cd empty && md5sum --quiet -c ../head/md5sums) || fail 'a sum of the package is wrong'
     needed=$("$root/tools/dist/needs.py" "$program")
     grep -q "^Depends: libc6 (>= $needed)" head/control || fail 'the package needs another libc6'
-    echo 'what the package holds: ok'
+    # what is built with the library's packages runs by them
+    dpkg-deb -x "$library_deb" for-c
+    dpkg-deb -x "$dev_deb" for-c
+    dpkg-deb -f "$library_deb" Depends | grep -q "^libc6 (>= $("$root/tools/dist/needs.py" for-c/usr/lib/libvp.so.1))" ||
+        fail 'the library needs another libc6'
+    if has cc 'a program in C by the packages'; then
+        cc -Ifor-c/usr/include "$root/examples/c/print.c" -Lfor-c/usr/lib -lvp -o print
+        LD_LIBRARY_PATH=for-c/usr/lib ./print receipt "$root/examples/receipt.bin" \
+            "$root/examples/font-a.pbm" "$root/examples/font-b.pbm" | cmp - receipt.pbm
+        if has pkg-config 'what pkg-config says'; then
+            words=$(PKG_CONFIG_PATH=for-c/usr/lib/pkgconfig pkg-config --define-variable=prefix=here --cflags --libs vp)
+            [ "$(echo "$words" | tr -s ' ' | sed 's/ $//')" = '-Ihere/include -Lhere/lib -lvp' ] || fail "pkg-config says $words"
+        fi
+    fi
+    echo 'what the packages hold: ok'
 fi
 if [ "$(id -u)" != 0 ]; then
     echo 'not tested: the package, installed and removed: only root can'
@@ -232,14 +246,14 @@ elif has dpkg 'the package, installed and removed'; then
     mkdir -p place/var/lib/dpkg/updates place/var/lib/dpkg/info
     : >place/var/lib/dpkg/status
     dpkg_in() { PATH=$PATH:/usr/sbin:/sbin dpkg --root="$room/place" --force-depends --log=/dev/null "$@"; }
-    is 0 'installed by dpkg' dpkg_in -i "$deb"
+    is 0 'installed by dpkg' dpkg_in -i "$deb" "$library_deb" "$dev_deb"
     place/usr/bin/vp --version >/dev/null
-    is 0 'removed by dpkg' dpkg_in --purge vp
+    is 0 'removed by dpkg' dpkg_in --purge vp libvp-dev libvp1
     left=$(cd place && find . -path ./var -prune -o -type f -print)
     [ -z "$left" ] || fail "dpkg left: $left"
     echo 'the package, installed and removed: ok'
 fi
 if has lintian 'the package by lintian'; then
-    lintian --allow-root --fail-on error "$deb" >said 2>&1 || fail 'lintian finds an error'
+    lintian --allow-root --fail-on error "$deb" "$library_deb" "$dev_deb" >said 2>&1 || fail 'lintian finds an error'
     echo 'the package by lintian: ok'
 fi

@@ -1,6 +1,6 @@
 #!/bin/sh
-# Takes the example and what it stands on into an empty folder by tools/vendoring/take, and compares docs/library.md with the
-# example's files. ./checks/library.sh check proves the example there too, which builds all libraries below it.
+# Takes an example and what it stands on into an empty folder by tools/vendoring/take, and compares docs/library.md with the
+# examples' files. ./checks/library.sh check proves the example there too, which builds all libraries below it.
 set -eu
 export LC_ALL=C
 root=$(dirname "$(dirname "$(realpath "$0")")")
@@ -58,17 +58,22 @@ is 2 "$root/tools/vendoring/take" "$room/none" printing/vp_none
 touch "$room/file"
 is 3 "$root/tools/vendoring/take" "$room/file"
 
-# each block of the page behind a line that names a file is that file
-for file in specs/Printed.antt src/print.rt src/main.rt proofs/print/print/Invariants.antt; do
+# each block of the page behind a line that names a file of an example is that file
+shown=$(sed -n "s/^[\`]\(vp_.*\)[\`]:\$/\1/p" "$root/docs/library.md")
+for file in $shown; do
     awk -v name="\`$file\`:" '
         inside && /^```$/ { exit }
         inside { print }
         named && /^```/ { inside = 1 }
         NF { named = $0 == name }' "$root/docs/library.md" >"$room/block"
-    cmp "$room/block" "$root/crates/$example/$file"
+    cmp "$room/block" "$root/crates/examples/$file"
+done
+for folder in "$root"/crates/examples/*/; do
+    name=$(basename "$folder")
+    echo "$shown" | grep -q "^$name/src/print.rt$" || fail "the page doesn't show $name"
 done
 
 if [ "${1:-}" = check ]; then
     (cd "$room/ours/crates/$example" && rt check)
 fi
-echo 'tools/vendoring/take, and the example of docs/library.md: ok'
+echo 'tools/vendoring/take, and the examples of docs/library.md: ok'

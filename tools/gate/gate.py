@@ -7,8 +7,9 @@ tried in one check, and each is refused there where the prover finds fault with 
 and an edit that changes more than bodies, is tried alone by rt itself, as rt must-fail does it.
 
 rt ci wants all crates side by side. So it runs on a copy of the repository in which each crate of crates/FOLDER/NAME
-stands in crates/NAME, and what it made of the program is brought back. Where all went well and no source changed
-meanwhile, made-from beside the program tells what it was made from."""
+stands in crates/NAME, and what it made of the program is brought back, with the module that LLVM made it of. Where all
+went well and no source changed meanwhile, made-from beside the program tells what it was made from, and the library for C
+is made too, of its crate's archive."""
 import importlib.machinery
 import importlib.util
 import os
@@ -18,8 +19,14 @@ import subprocess
 import sys
 import tempfile
 
-PROGRAM = "crates/program/vp_cli/out/vp_cli"
+PROGRAM, LIBRARY = "crates/program/vp_cli/out/vp_cli", "crates/program/vp_c"
 TOOLS = os.path.dirname(os.path.dirname(os.path.realpath(__file__)))
+sys.dont_write_bytecode = True
+sys.path.insert(0, f"{TOOLS}/dist")
+import library  # noqa: E402
+from keeping import keeping  # noqa: E402
+from refused import told  # noqa: E402
+
 FUNCTION = re.compile(r"( *)(?:pub(?:\([^)]*\))? )?(?:const )?fn (\w+)")
 # What has methods: a trait, or a type, maybe with the trait that it is given there.
 OWNER = re.compile(r"(?:pub )?trait (?P<of>\w+)|impl(?:<.*?>)? (?:(?P<trait>\w+)(?:<.*?>)? for &?)?(?P<type>\w+)")
@@ -35,7 +42,6 @@ OF_ANOTHER = re.compile(r"has no field|is not in scope|has no `|was not admitted
 
 def kit():
     """Returns the command rt as a module."""
-    sys.dont_write_bytecode = True
     loader = importlib.machinery.SourceFileLoader("rt", os.path.realpath(shutil.which("rt")))
     made = importlib.util.module_from_spec(importlib.util.spec_from_loader("rt", loader))
     loader.exec_module(made)
@@ -109,9 +115,9 @@ class Edit:
     def keys(self):
         return {it.proof for it in self.functions}
 
-    def fault(self, lines):
-        """Returns the first line that tells a fault of a function that the edit changes."""
-        return next((line for line in lines for it in self.functions if it.is_at_fault(line)), None)
+    def faults(self, lines):
+        """Returns the lines that tell a fault of a function that the edit changes."""
+        return [line for line in lines if any(it.is_at_fault(line) for it in self.functions)]
 
 
 def one_for_each_function(edits):
@@ -146,8 +152,8 @@ def tried_together(rt, crate, edits, flags, kept):
     is_refused = ran.returncode == 1 and lines[-1].startswith("only=")
     if not is_refused or rt.rtlib.STALE.search(ran.stdout) or any(rt.unread(it, texts) for it in lines):
         return {}
-    found = {it.file: it.fault(lines) for it in edits}
-    return {file: fault for file, fault in found.items() if fault}
+    found = {it.file: it.faults(lines) for it in edits}
+    return {file: told(faults) for file, faults in found.items() if faults}
 
 
 def tried_by_rounds(rt, crate, edits, flags, kept):
@@ -172,7 +178,7 @@ def must_fail_all(rt, crate, files, flags):
     with tempfile.TemporaryDirectory(prefix="rt-edits-") as kept:
         found = tried_by_rounds(rt, crate, together, flags, kept)
         label = f"must-fail {crate.name}/%s: refused, as it must be: %s"
-        tried = {it: (refused, label % (os.path.basename(it), fault[:160])) for it, fault in found.items()}
+        tried = {it: (refused, label % (os.path.basename(it), said)) for it, said in found.items()}
         alone = {it: rt.must_fail(crate, it, flags, kept) for it in files if it not in tried}
         if alone and not rt.checked(crate, {}, flags, kept).returncode:
             tried |= {it: said for it, said in alone.items() if said[0] in settled}
@@ -237,6 +243,44 @@ def by_rounds(rt):
         print(f"gate: this rt has no {names}: it tries each edit in a check of its own, which takes longer")
 
 
+def built(rt, room, crate, to):
+    """Compiles a crate, and what it stands on, which were proved in the room, and leaves there the module that LLVM made it
+    of. Returns whether that went well."""
+    name = os.path.basename(crate)
+    folder = f"{room}/crates/{name}"
+    words = rt.Crate(folder, room, {}).words(["--jobs", "2"])
+    kept = keeping(f"{rt.KIT}/toolchain", f"{folder}/out/toolchain", f"{folder}/out/{name}.bc")
+    words = [rt.rtlib.RATTLE, "build", *words, "--backend", "llvm", "--toolchain", kept, "-o", to]
+    return not subprocess.run(words, cwd=folder, check=False).returncode
+
+
+def make_module(rt, room, root):
+    """Leaves beside the program the module that LLVM makes it of, for tools/systems, and returns whether that went well. (rt
+    may have taken the program from an earlier run, so that nothing was compiled.)"""
+    name = os.path.basename(PROGRAM)
+    print(f"gate: the module for other systems is made of {name}", flush=True)
+    with tempfile.TemporaryDirectory() as to:
+        if not built(rt, room, name, f"{to}/{name}.o"):
+            return False
+    bring_back(f"{room}/crates/{name}/out/{name}.bc", f"{root}/{PROGRAM}.bc")
+    return True
+
+
+def make_library(rt, room, root):
+    """Makes the library for C, of the crates that were proved in the room, and returns whether that went well."""
+    name, to = os.path.basename(LIBRARY), f"{root}/{LIBRARY}/out"
+    folder = f"{room}/crates/{name}"
+    if not os.path.isdir(folder):
+        return True
+    print(f"gate: the library for C is made of {name}", flush=True)
+    if not built(rt, room, name, f"out/lib{name}.a"):
+        return False
+    for made in (f"lib{name}.a", f"{name}.bc"):
+        bring_back(f"{folder}/out/{made}", f"{to}/{made}")
+    library.make(f"{to}/lib{name}.a", to)
+    return True
+
+
 def main():
     rt = kit()
     by_rounds(rt)
@@ -252,6 +296,7 @@ def main():
         program = f"{root}/{PROGRAM}"
         if not status and program in programs.values() and sources(root) == before:
             tell_made_from(program)
+            status = int(not (make_module(rt, f"{room}/all", root) and make_library(rt, f"{room}/all", root)))
         return status
 
 
