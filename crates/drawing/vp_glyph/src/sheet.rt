@@ -218,8 +218,10 @@ fn cut(alloc: Global, raster: &[u8], w: u32, h: u32) -> Result<Vec<u64>, AllocEr
     ensures { IfOk result (λ rows. IsCut (record { wide = w; high = h; raster = raster.now }) rows.items) }
 {
     let mut rows = vec![in alloc; 0; 256 * h as usize]?;
-    for i in 0..256 * h {
-        rows[i as usize] = cut_row(raster, w, h, i / h, i % h);
+    for c in 0..256u32 {
+        for y in 0..h {
+            rows[(h * c + y) as usize] = cut_row(raster, w, h, c, y);
+        }
     }
     Ok(rows)
 }

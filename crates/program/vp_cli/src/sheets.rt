@@ -12,6 +12,9 @@ use vp_glyph::{Sheet, Sheets};
 /// Of a sheet's file no more bytes than these are read.
 const MOST: u64 = 1_048_576;
 
+/// As many bytes are read at once: a sheet of font A with its header, and that the file ends there.
+const AT_ONCE: usize = 16_384;
+
 /// Opens, reads and checks the sheets, font A's first.
 pub fn read<'a, R: Files>(rt: &R, alloc: Global, fonts: Fonts<'a>) -> Result<Sheets, Stop<'a>> {
     let a = sheet(rt, alloc, fonts.a, 12, 24)?;
@@ -43,7 +46,9 @@ fn sheet<'a, R: Files>(
 /// The bytes of a sheet's file.
 fn bytes_of<'a, R: Files>(rt: &R, alloc: Global, name: &'a str) -> Result<Vec<u8>, Stop<'a>> {
     let file = open(rt, name)?;
-    let mut bytes = Vec::new(alloc);
+    let Ok(mut bytes) = Vec::with_capacity(alloc, AT_ONCE) else {
+        return Err(Stop::Memory);
+    };
     match file.take(MOST).read_to_end(&mut bytes) {
         Ok(_) => Ok(bytes),
         Err(error) => Err(Stop::of_read(&error)),

@@ -1,11 +1,19 @@
-use Rattle.std.proofs.Common.{◌≡◌, ℕ, ◌<◌, ◌*◌, ◌/◌, ◌%◌, length, get_or}
+use Rattle.std.proofs.Common.{◌≡◌, ℕ, ◌<◌, ◌≤◌, ◌*◌, ◌+◌, ◌/◌, ◌%◌, length, get_or}
 use Rattle.vp_dots.specs.Words.{word_dot}
 use Rattle.vp_glyph.specs.Sheets.{glyph_dot}
 use Rattle.vp_glyph.proofs.sheet.cut.Given as goal
 
--- the rows before i are cut
-abbrev pub invariant-loop-i : goal.invariant-loop-i
-invariant-loop-i l = record {
+-- the rows of the cells before c are cut
+abbrev pub invariant-loop-c : goal.invariant-loop-c
+invariant-loop-c l = record {
   count : length l.rows.items ≡ 256 * l.h;
-  dots : (k x : ℕ) → k < l.i → word_dot (get_or l.rows.items k 0) x ≡ glyph_dot (record { wide = l.w; high = l.h; raster = l.raster }) (k / l.h) x (k % l.h);
+  dots : (k x : ℕ) → k < l.h * l.c → word_dot (get_or l.rows.items k 0) x ≡ glyph_dot (record { wide = l.w; high = l.h; raster = l.raster }) (k / l.h) x (k % l.h);
+}
+
+-- and those of cell c before y
+abbrev pub invariant-loop-y : goal.invariant-loop-y
+invariant-loop-y l = record {
+  cell : l.c < 256;
+  count : length l.rows.items ≡ 256 * l.h;
+  dots : (k x : ℕ) → k < l.h * l.c + l.y → word_dot (get_or l.rows.items k 0) x ≡ glyph_dot (record { wide = l.w; high = l.h; raster = l.raster }) (k / l.h) x (k % l.h);
 }
