@@ -10,8 +10,8 @@ use Rattle.vp_engine.specs.declared.session.RunFault.{RunFault}
 
 -- A reader gave some bytes, and a writer took the beginning of their paper, whatever failed. Where the answer
 -- is Ok these are all bytes that the reader had, they have no fault, and all of their paper is written.
-pub record IsWritten (before after held holds : Option (List ℕ)) (setup : Setup) (answer : Result Report RunFault)
-    : Type 0 where
+pub record IsWritten (before after held holds : Option (List ℕ)) (setup : Setup)
+    (answer : Result Report RunFault) : Type 0 where
   pub read : List ℕ
   pub written : List ℕ
   pub consumed : Consumes before after read

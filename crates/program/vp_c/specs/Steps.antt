@@ -25,7 +25,12 @@ fault_of Room = no_fault
 fault_of (Stopped f) = in_c f
 
 abbrev pub progress_of : Step → Progress
-progress_of step = record { taken = step.taken; put = step.put; state = state_of step.state; fault = fault_of step.state }
+progress_of step = record {
+  taken = step.taken;
+  put = step.put;
+  state = state_of step.state;
+  fault = fault_of step.state;
+}
 
 abbrev pub nothing_done : Progress
 nothing_done = record { taken = 0; put = 0; state = MORE; fault = no_fault }

@@ -2,8 +2,8 @@
 ghost use Rattle.std.specs.Prelude.{◌≡◌};
 ghost use Rattle.vp_c.specs.Texts.{IsText};
 
-/// Copies the front of a text to the front of some room, with a 0 behind it, both as far as there is room, and
-/// tells how many bytes stand before the 0.
+/// Copies the front of a text to the front of some room, with a 0 behind it, both as far as there is room,
+/// and tells how many bytes stand before the 0.
 pub fn put(text: &[u8], room: &mut [u8]) -> usize
     ensures { IsText text.now room.old room.new result }
 {
