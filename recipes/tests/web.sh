@@ -1,7 +1,7 @@
 #!/bin/sh
 # The module, vp.js and viewer.html: in node the same bytes as vp on the examples and on COUNT random streams of each
 # language (150 where it isn't said), cut at random, beside vp's time; in Chromium these and the viewer's own tests, on the
-# page as a file. `web.sh picture FILE [dark]` draws the page.
+# page as a file; in Firefox the page's first picture and these. `web.sh picture FILE [dark]` draws the page.
 # shellcheck source=recipes/tests/common.sh
 . "$(dirname "$0")/common.sh"
 export VP="$vp" TMPDIR="$room"
@@ -21,6 +21,10 @@ if needs node; then
     echo 'the package for npm: ok'
 fi
 if needs chromium; then
-    python3 recipes/tests/web/in_page.py test "$page" "$room/streams.json"
+    python3 recipes/tests/web/in_page.py chromium "$page" "$room/streams.json"
     echo 'viewer.html in Chromium: ok'
+fi
+if needs firefox-esr; then
+    python3 recipes/tests/web/in_page.py firefox "$page" "$room/streams.json"
+    echo 'viewer.html in Firefox: ok'
 fi

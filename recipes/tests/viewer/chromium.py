@@ -17,6 +17,8 @@ def installed():
 class Chromium:
     """One page. What is asked and isn't answered in time is an error."""
 
+    name = 'Chromium'
+
     def __init__(self, folder, dark=False, width=1440, height=900):
         ours, theirs = os.pipe(), os.pipe()
 

@@ -1,5 +1,6 @@
 #!/usr/bin/env python3
-"""The viewer as one page, in Chromium: in_page.py test PAGE PRINTED; in_page.py picture PAGE FILE [dark] draws it."""
+"""The viewer as one page: in_page.py chromium PAGE PRINTED and in_page.py firefox PAGE PRINTED test it in a browser;
+in_page.py picture PAGE FILE [dark] draws it."""
 import base64
 import json
 import pathlib
@@ -10,6 +11,7 @@ import time
 HERE = pathlib.Path(__file__).resolve().parent
 sys.path.insert(0, str(HERE.parent / 'viewer'))
 from chromium import Chromium  # noqa: E402
+from firefox import Firefox  # noqa: E402
 from in_browser import ON_BOTH, READY, bytes_now, drawn, new_stream, printed, shown, type_at  # noqa: E402
 from serving import RECEIPT, SHIPPING, same  # noqa: E402
 
@@ -32,7 +34,7 @@ def test_same(browser, streams):
     for at in range(0, len(asked['streams']), 100):
         part = {**asked, 'streams': asked['streams'][at:at + 100]}
         count += browser.value(f'same(printer, {json.dumps(part)})')
-    print(f'Chromium: {count} streams are printed as vp prints them')
+    print(f'{browser.name}: {count} streams are printed as vp prints them')
 
 
 def test_limits(browser):
@@ -87,7 +89,19 @@ def opened(browser, page):
     return time.monotonic() - start
 
 
-def test(room, page, streams):
+def test_in_firefox(room, page, streams):
+    browser = Firefox(room)
+    try:
+        browser.size(2200, 1900)
+        opened(browser, page)
+        same(drawn(browser), printed('label', SHIPPING.read_bytes()))
+        test_alone(browser)
+        test_same(browser, streams)
+    finally:
+        browser.close()
+
+
+def test_in_chromium(room, page, streams):
     browser = Chromium(room)
     try:
         opened(browser, page)
@@ -129,4 +143,5 @@ if __name__ == '__main__':
         if what == 'picture':
             picture(at, pathlib.Path(place).resolve(), more[0], more[1:] == ['dark'])
         else:
+            test = {'chromium': test_in_chromium, 'firefox': test_in_firefox}[what]
             test(at, pathlib.Path(place).resolve(), pathlib.Path(more[0]))
