@@ -16,17 +16,25 @@ use vp_dots::{eight_at, first_dots, or_into, reversed_at};
 /// Where the last eight bytes of a row of the page begin.
 const LAST: usize = PAPER_BYTES - 8;
 
+/// Blackens eight bytes of the row, from byte i on, where eight bytes of the line, from byte j on, are black.
+#[inline(always)]
+fn or_bytes(line: &[u8], j: usize, i: usize, row: &mut [u8])
+    requires line { j + 8 ≤ length line.now }
+    requires row { i + 8 ≤ length row.old }
+    ensures { Painted Black (λ d. nat_le (8 * i) d && (nat_lt (d - 8 * i) 64
+        && dot line.now (8 * j + (d - 8 * i)))) row.old row.new }
+{
+    let new = u8x8::from_slice(&row[i..]) | u8x8::from_slice(&line[j..]);
+    new.copy_to_slice(&mut row[i..]);
+}
+
 /// Blackens eight bytes of the row, from byte i on, where the word is black.
-// The compiler joins the eight bytes that are written to one word.
 #[inline(always)]
 fn or_eight(word: u64, i: usize, row: &mut [u8])
     requires { i + 8 ≤ length row.old }
     ensures { Painted Black (λ d. nat_le (8 * i) d && word_dot word (d - 8 * i)) row.old row.new }
 {
-    let new = eight_at(row, i) | word;
-    for j in 0..8usize {
-        row[i + j] = (new >> (56 - 8 * j) & 255) as u8;
-    }
+    or_bytes(&word.to_be_bytes(), 0, i, row);
 }
 
 /// Blackens byte i of the row where the mask is black.
@@ -189,18 +197,6 @@ pub(crate) fn lay_halves(
     for i in 0..h {
         or_half_from(words[i], skip, left, band.row_mut(top + i));
     }
-}
-
-/// Blackens eight bytes of the row, from byte i on, where eight bytes of the line, from byte j on, are black.
-#[inline(always)]
-fn or_bytes(line: &[u8], j: usize, i: usize, row: &mut [u8])
-    requires line { j + 8 ≤ length line.now }
-    requires row { i + 8 ≤ length row.old }
-    ensures { Painted Black (λ d. nat_le (8 * i) d && (nat_lt (d - 8 * i) 64
-        && dot line.now (8 * j + (d - 8 * i)))) row.old row.new }
-{
-    let new = u8x8::from_slice(&row[i..]) | u8x8::from_slice(&line[j..]);
-    new.copy_to_slice(&mut row[i..]);
 }
 
 /// Blackens the row where the line, its first byte on byte q, is black.
