@@ -67,8 +67,8 @@ fn or_inside(word: u64, far: u64, row: &mut [u8])
     or_byte(lost(word, s), i + 8, row);
 }
 
-/// Blackens the dots d of a row of the page where dot d - far of the word is black, of which the first falls on
-/// the row's last eight bytes or past them.
+/// Blackens the dots d of a row of the page where dot d - far of the word is black, of which the first falls
+/// on the row's last eight bytes or past them.
 #[inline(always)]
 fn or_last(word: u64, far: u64, row: &mut [u8])
     requires row { length row.old ≡ PAPER_BYTES }
@@ -138,8 +138,8 @@ fn half_from(word: u64, skip: u32) -> u64
     (word << skip) & first_dots(32)
 }
 
-/// Blackens the dots d of a row of the page where dot d - far of the word is black, of which the left half has
-/// all black dots: eight bytes have room for them wherever the first one falls.
+/// Blackens the dots d of a row of the page where dot d - far of the word is black, of which the left half
+/// has all black dots: eight bytes have room for them wherever the first one falls.
 #[inline(always)]
 fn or_half_right(word: u64, far: u64, row: &mut [u8])
     requires row { length row.old ≡ PAPER_BYTES }
@@ -153,8 +153,8 @@ fn or_half_right(word: u64, far: u64, row: &mut [u8])
     }
 }
 
-/// Blackens the dots d of a row of the page where dot d - left of the word is black, of which the left half has
-/// all black dots.
+/// Blackens the dots d of a row of the page where dot d - left of the word is black, of which the left half
+/// has all black dots.
 #[inline(always)]
 fn or_half(word: u64, left: i64, row: &mut [u8])
     requires row { length row.old ≡ PAPER_BYTES }
@@ -168,8 +168,8 @@ fn or_half(word: u64, left: i64, row: &mut [u8])
     }
 }
 
-/// Blackens the dots d of a row of the page where, of the dots of a word from one on that half a word has room
-/// for, dot d - left is black.
+/// Blackens the dots d of a row of the page where, of the dots of a word from one on that half a word has
+/// room for, dot d - left is black.
 #[inline(always)]
 fn or_half_from(word: u64, skip: u32, left: i64, row: &mut [u8])
     requires row { length row.old ≡ PAPER_BYTES }
