@@ -1,6 +1,7 @@
 -- Words painted on rows of the page.
 use Rattle.std.proofs.Common.{inl, inr, ◌≡◌, ℕ, ◌+◌, ◌-◌, ◌*◌, ◌/◌, ◌%◌, ◌^◌, ◌<◌, ◌≤◌, Bool, true, false, cond, eqb, ltb, leb, ◌&&◌, ◌||◌, refl, sym, ap, ◌∙◌, arith, List, bit_and, bit_or, length, get_or, set}
 use lib.Lanes.{zip2, chunk, put_chunk}
+use Rattle.std.specs.Int.{to_be_bytes, w64}
 use Rattle.std.proofs.lemmas.Simd.{get_or-zip2, get_or-chunk, length-zip2, length-chunk}
 use Rattle.std.proofs.lemmas.Bool.{cases_lt, lt-ltb, le-ltb, lt-leb, le-leb}
 use Rattle.std.proofs.lemmas.Bool.Decides.{nat_tests}
@@ -11,7 +12,7 @@ use Rattle.vp_dots.specs.declared.Op.TheVariants.{Black}
 use Rattle.vp_dots.proofs.Bits.{bit_of_or}
 use Rattle.vp_dots.proofs.Blocks.{painted_block}
 use Rattle.vp_dots.proofs.Paints.{painted_same, painted_byte_at}
-use Rattle.vp_dots.proofs.Words.{or_false, and_false, and_true, bit_shl, word_shr}
+use Rattle.vp_dots.proofs.Words.{or_false, and_false, and_true, bit_shl, word_shr, word_row}
 use Rattle.vp_dots.proofs.Spans.{bit_of_and}
 use Rattle.vp_dots.proofs.Cuts.{bit_low64}
 use Rattle.vp_dots.proofs.Rows.{dot_at}
@@ -85,6 +86,15 @@ module _ (line : List ℕ) (j i : ℕ) (row : List ℕ) (there : j + 8 ≤ lengt
   pub bytes_painted : Painted Black (λ d. leb (8 * i) d && (ltb (d - 8 * i) 64 && dot line (8 * j + (d - 8 * i)))) row (put_chunk i row (zip2 bit_or (chunk i 8 row) (chunk j 8 line)))
   bytes_painted = painted_same Black _ _ _ _ (λ d l. spanned i d (dot line (8 * j + (d - 8 * i))))
       (painted_block Black (λ d. leb (8 * i) d && (ltb (d - 8 * i) 64 && dot line (8 * j + (d - 8 * i)))) i 8 row _ bytes_long room (λ n l k m. byte_lane n k l m))
+
+-- the bytes of a word, eight of a row
+pub word_bytes : (word x : ℕ) (bytes : List ℕ) → bytes ≡ to_be_bytes w64 word → (ltb x 64 && dot bytes (8 * 0 + x)) ≡ word_dot word x
+word_bytes word x bytes e = ap (λ b. ltb x 64 && dot b (8 * 0 + x)) e ∙ ap (λ n. ltb x 64 && dot (to_be_bytes w64 word) n) (let z : 8 * 0 + x ≡ x = omega arith in z)
+    ∙ ap (λ b. ltb x 64 && b) (word_row word x) ∙ twice (ltb x 64) (bit word (63 - x))
+  where
+    twice : (a b : Bool) → (a && (a && b)) ≡ (a && b)
+    twice true b = refl
+    twice false b = refl
 
 module _ (line : List ℕ) (q k d : ℕ) where
   -- eight more bytes of a line

@@ -8,8 +8,8 @@ use Rattle.vp_page.specs.declared.line.TheConstants.{LINE_DOTS}
 abbrev pub line_dot : List (List ℕ) → ℕ → ℕ → Bool
 line_dot lines i u = nat_lt u LINE_DOTS && dot (slice_index_or lines i []) u
 
--- dot (x, y) of 32 dots of the first h words, from dot `skip` on, one word on each row from `top` on, each moved
--- by an offset
+-- dot (x, y) of 32 dots of the first h words, from dot `skip` on, one word on each row from `top` on, each
+-- moved by an offset
 abbrev pub halves_dot : List ℕ → ℕ → ℤ → ℕ → ℕ → ℕ → ℕ → Bool
 halves_dot words skip left top h x y =
     nat_le top y && (nat_lt (y - top) h

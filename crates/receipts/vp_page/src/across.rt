@@ -18,7 +18,8 @@ use vp_dots::{SIDE, eight_at, turned_square, word_at};
 /// How many lines are laid at once.
 pub const AT_ONCE: usize = SIDE;
 
-/// How many lines are few: of so many, two squares are turned as one, the dots of the second below the first's.
+/// How many lines are few: of so many, two squares are turned as one, the dots of the second below those of
+/// the first.
 const FEW: usize = SIDE / 2;
 
 /// The 64 dots of a line from one on, which mostly are whole bytes of it.
@@ -175,8 +176,8 @@ fn lay_square_up(
     requires few { rows ≤ 64 }
     requires room { rows ≤ below }
     requires page { below ≤ PAGE_ROWS }
-    ensures { RowsPainted PAGE_ROWS Black (λ x y. nat_lt y below && (nat_lt (below - 1 - y) rows && (nat_le left x
-        && line_dot lines.now (x - left) (from + (below - 1 - y))))) band.old band.new }
+    ensures { RowsPainted PAGE_ROWS Black (λ x y. nat_lt y below && (nat_lt (below - 1 - y) rows
+        && (nat_le left x && line_dot lines.now (x - left) (from + (below - 1 - y))))) band.old band.new }
 {
     let mut square = turned_square(&square_from(lines, from));
     square.reverse();
@@ -204,8 +205,8 @@ fn lay_two_up(
     requires few { rows ≤ 128 }
     requires room { rows ≤ below }
     requires page { below ≤ PAGE_ROWS }
-    ensures { RowsPainted PAGE_ROWS Black (λ x y. nat_lt y below && (nat_lt (below - 1 - y) rows && (nat_le left x
-        && line_dot lines.now (x - left) (from + (below - 1 - y))))) band.old band.new }
+    ensures { RowsPainted PAGE_ROWS Black (λ x y. nat_lt y below && (nat_lt (below - 1 - y) rows
+        && (nat_le left x && line_dot lines.now (x - left) (from + (below - 1 - y))))) band.old band.new }
 {
     let squares = two_from(lines, from);
     if is_white(&squares) {

@@ -40,7 +40,8 @@ fn drawn<I: Ink>(ink: &I, y: u32) -> [u8; LINE_BYTES]
     line
 }
 
-/// Writes lines of an image, the first one line `from` of it. One that is known to be as the one above is copied.
+/// Writes lines of an image, the first one line `from` of it. One that is known to be as the one above is
+/// copied.
 pub(crate) fn draw_lines<I: Ink>(ink: &I, from: u32, lines: &mut [[u8; LINE_BYTES]])
     requires wide { I.width ink.now ≤ LINE_DOTS }
     requires there { from + length lines.old < 2 ^ 32 }

@@ -137,8 +137,8 @@ impl Page {
         }
     }
 
-    /// Lays at most as many rows of dots as are laid at once, one below the other, the first at the depth v of
-    /// an area, as `lay_row` lays each.
+    /// Lays at most as many rows of dots as are laid at once, one below the other, the first at the depth v
+    /// of an area, as `lay_row` lays each.
     pub fn lay_lines(
         &mut self,
         area: Area,

@@ -16,17 +16,25 @@ use vp_dots::{eight_at, first_dots, or_into, reversed_at};
 /// Where the last eight bytes of a row of the page begin.
 const LAST: usize = PAPER_BYTES - 8;
 
+/// Blackens eight bytes of the row, from byte i on, where eight bytes of the line, from byte j on, are black.
+#[inline(always)]
+fn or_bytes(line: &[u8], j: usize, i: usize, row: &mut [u8])
+    requires line { j + 8 ≤ length line.now }
+    requires row { i + 8 ≤ length row.old }
+    ensures { Painted Black (λ d. nat_le (8 * i) d && (nat_lt (d - 8 * i) 64
+        && dot line.now (8 * j + (d - 8 * i)))) row.old row.new }
+{
+    let new = u8x8::from_slice(&row[i..]) | u8x8::from_slice(&line[j..]);
+    new.copy_to_slice(&mut row[i..]);
+}
+
 /// Blackens eight bytes of the row, from byte i on, where the word is black.
-// The compiler joins the eight bytes that are written to one word.
 #[inline(always)]
 fn or_eight(word: u64, i: usize, row: &mut [u8])
     requires { i + 8 ≤ length row.old }
     ensures { Painted Black (λ d. nat_le (8 * i) d && word_dot word (d - 8 * i)) row.old row.new }
 {
-    let new = eight_at(row, i) | word;
-    for j in 0..8usize {
-        row[i + j] = (new >> (56 - 8 * j) & 255) as u8;
-    }
+    or_bytes(&word.to_be_bytes(), 0, i, row);
 }
 
 /// Blackens byte i of the row where the mask is black.
@@ -59,8 +67,8 @@ fn or_inside(word: u64, far: u64, row: &mut [u8])
     or_byte(lost(word, s), i + 8, row);
 }
 
-/// Blackens the dots d of a row of the page where dot d - far of the word is black, of which the first falls on
-/// the row's last eight bytes or past them.
+/// Blackens the dots d of a row of the page where dot d - far of the word is black, of which the first falls
+/// on the row's last eight bytes or past them.
 #[inline(always)]
 fn or_last(word: u64, far: u64, row: &mut [u8])
     requires row { length row.old ≡ PAPER_BYTES }
@@ -130,8 +138,8 @@ fn half_from(word: u64, skip: u32) -> u64
     (word << skip) & first_dots(32)
 }
 
-/// Blackens the dots d of a row of the page where dot d - far of the word is black, of which the left half has
-/// all black dots: eight bytes have room for them wherever the first one falls.
+/// Blackens the dots d of a row of the page where dot d - far of the word is black, of which the left half
+/// has all black dots: eight bytes have room for them wherever the first one falls.
 #[inline(always)]
 fn or_half_right(word: u64, far: u64, row: &mut [u8])
     requires row { length row.old ≡ PAPER_BYTES }
@@ -145,8 +153,8 @@ fn or_half_right(word: u64, far: u64, row: &mut [u8])
     }
 }
 
-/// Blackens the dots d of a row of the page where dot d - left of the word is black, of which the left half has
-/// all black dots.
+/// Blackens the dots d of a row of the page where dot d - left of the word is black, of which the left half
+/// has all black dots.
 #[inline(always)]
 fn or_half(word: u64, left: i64, row: &mut [u8])
     requires row { length row.old ≡ PAPER_BYTES }
@@ -160,8 +168,8 @@ fn or_half(word: u64, left: i64, row: &mut [u8])
     }
 }
 
-/// Blackens the dots d of a row of the page where, of the dots of a word from one on that half a word has room
-/// for, dot d - left is black.
+/// Blackens the dots d of a row of the page where, of the dots of a word from one on that half a word has
+/// room for, dot d - left is black.
 #[inline(always)]
 fn or_half_from(word: u64, skip: u32, left: i64, row: &mut [u8])
     requires row { length row.old ≡ PAPER_BYTES }
@@ -189,18 +197,6 @@ pub(crate) fn lay_halves(
     for i in 0..h {
         or_half_from(words[i], skip, left, band.row_mut(top + i));
     }
-}
-
-/// Blackens eight bytes of the row, from byte i on, where eight bytes of the line, from byte j on, are black.
-#[inline(always)]
-fn or_bytes(line: &[u8], j: usize, i: usize, row: &mut [u8])
-    requires line { j + 8 ≤ length line.now }
-    requires row { i + 8 ≤ length row.old }
-    ensures { Painted Black (λ d. nat_le (8 * i) d && (nat_lt (d - 8 * i) 64
-        && dot line.now (8 * j + (d - 8 * i)))) row.old row.new }
-{
-    let new = u8x8::from_slice(&row[i..]) | u8x8::from_slice(&line[j..]);
-    new.copy_to_slice(&mut row[i..]);
 }
 
 /// Blackens the row where the line, its first byte on byte q, is black.

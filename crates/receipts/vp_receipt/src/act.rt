@@ -14,7 +14,9 @@ ghost use Rattle.vp_strips.specs.declared.lines.Lines.{Lines};
 ghost use Rattle.vp_receipt_settings.specs.Setup.{Setup};
 ghost use Rattle.vp_receipt_settings.specs.Line.{height, is_open, line, mode, Placed};
 ghost use Rattle.vp_receipt_settings.specs.Settings.{settings_of, IsFit};
-ghost use Rattle.vp_page.specs.Layers.{Layer, Laid};
+ghost use Rattle.vp_page.specs.Layers.{Layer, Laid, first_rows};
+ghost use Rattle.vp_page.specs.declared.across.TheConstants.{AT_ONCE};
+ghost use Rattle.vp_dots.specs.declared.TheConstants.{WORDS};
 ghost use Rattle.vp_page.specs.Pages.{HasPage};
 ghost use Rattle.vp_receipt.specs.PageMarks.{HasRows, mark_of, layers_with, layers, printed_layers};
 ghost use Rattle.vp_strips.specs.LineDots.{HasDots, HasOpen, ink_placed};
@@ -35,7 +37,7 @@ ghost use Rattle.vp_receipt_settings.specs.Gathering.{EndsRow, kept_of};
 ghost use Rattle.vp_strips.specs.Held.{text_of, after_text, IsJob, IsTurned, AreOwn, IsShowing};
 
 use crate::raster_page::lay_raster_row;
-use vp_dots::Ink;
+use vp_dots::{Ink, WORDS};
 use vp_esc::item::Cut;
 use vp_glyph::{Cell, Sheets};
 use vp_page::{AT_ONCE, Direction, LINE_BYTES, PAPER_BYTES, Page};
@@ -225,20 +227,64 @@ fn lay_rows(s: &Settings, bitmap: &Bitmap, page: &mut Page)
     }
 }
 
+/// Lays as many rows of the line as there is room for, below the first ones, whose top is at the vertical
+/// position.
+fn lay_more(
+    s: &Settings,
+    from: usize,
+    bitmap: &Bitmap,
+    room: &mut [[u8; LINE_BYTES]],
+    page: &mut Page,
+)
+    requires fit { IsFit s.now }
+    requires few { length room.old ≤ AT_ONCE }
+    requires inside { from + length room.old ≤ s.now.height }
+    ensures { (dots : ℕ → ℕ → Bool) (layers : List Layer) → HasRows s.now bitmap.now dots →
+        HasPage (Laid (first_rows from (mark_of s.now.page dots)) ∷ layers) page.old →
+        HasPage (Laid (first_rows (from + length room.old) (mark_of s.now.page dots)) ∷ layers) page.new }
+{
+    bitmap.copy_rows(LINE_ROWS - usize::from(s.height) + from, room);
+    let top = s.page.vertical as u32 + from as u32;
+    page.lay_lines(s.page.area, s.page.direction, top, room);
+}
+
+/// Lays a line no higher than most characters at once, with its top at the vertical position.
+fn lay_low(s: &Settings, bitmap: &Bitmap, page: &mut Page)
+    requires fit { IsFit s.now }
+    requires low { s.now.height ≤ WORDS }
+    ensures { (dots : ℕ → ℕ → Bool) (layers : List Layer) → HasRows s.now bitmap.now dots →
+        HasPage layers page.old → HasPage (Laid (mark_of s.now.page dots) ∷ layers) page.new }
+{
+    let mut room = [[0; LINE_BYTES]; WORDS];
+    lay_more(s, 0, bitmap, &mut room[..usize::from(s.height)], page);
+}
+
 /// Lays the line as many rows at once as go, with its top at the vertical position.
+fn lay_high(s: &Settings, bitmap: &Bitmap, page: &mut Page)
+    requires { IsFit s.now }
+    ensures { (dots : ℕ → ℕ → Bool) (layers : List Layer) → HasRows s.now bitmap.now dots →
+        HasPage layers page.old → HasPage (Laid (mark_of s.now.page dots) ∷ layers) page.new }
+{
+    let height = usize::from(s.height);
+    let mut room = [[0; LINE_BYTES]; AT_ONCE];
+    for k in 0..height.div_ceil(AT_ONCE) {
+        let from = AT_ONCE * k;
+        let rows = (height - from).min(AT_ONCE);
+        lay_more(s, from, bitmap, &mut room[..rows], page);
+    }
+}
+
+/// Lays the line across the rows of the page, with its top at the vertical position. Mostly it is low, and
+/// then little room is made for it.
 fn lay_at_once(s: &Settings, bitmap: &Bitmap, page: &mut Page)
     requires { IsFit s.now }
     ensures { (dots : ℕ → ℕ → Bool) (layers : List Layer) → HasRows s.now bitmap.now dots →
         HasPage layers page.old → HasPage (Laid (mark_of s.now.page dots) ∷ layers) page.new }
 {
-    let top = s.page.vertical as u32;
-    let height = usize::from(s.height);
-    let mut room = [[0; LINE_BYTES]; AT_ONCE];
-    for k in 0..height.div_ceil(AT_ONCE) {
-        let from = AT_ONCE * k;
-        let rows = &mut room[..(height - from).min(AT_ONCE)];
-        bitmap.copy_rows(LINE_ROWS - height + from, rows);
-        page.lay_lines(s.page.area, s.page.direction, top + from as u32, rows);
+    if usize::from(s.height) <= WORDS {
+        lay_low(s, bitmap, page);
+    } else {
+        lay_high(s, bitmap, page);
     }
 }
 

@@ -1,5 +1,5 @@
 -- Many rows of a strip, as the paper shows them.
-use Rattle.std.proofs.Common.{◌≡◌, ℕ, zero, suc, ◌+◌, ◌-◌, ◌*◌, ◌/◌, ◌<◌, ◌≤◌, Bool, ◌&&◌, nat_lt, min, Some, refl, sym, ap, ◌∙◌, arith, List, ◌∷◌, ◌++◌, length, replicate, take, drop, append_assoc, false}
+use Rattle.std.proofs.Common.{[], get_or, ◌≡◌, ℕ, zero, suc, ◌+◌, ◌-◌, ◌*◌, ◌/◌, ◌<◌, ◌≤◌, Bool, ◌&&◌, nat_lt, min, Some, refl, sym, ap, ◌∙◌, arith, List, ◌∷◌, ◌++◌, length, replicate, take, drop, append_assoc, false}
 use Rattle.std.specs.List.{range_with_len, flat_map}
 use Rattle.std.proofs.Math.Nat.{suc-mul, mul-sub, mul_comm, mul-le-mul_right, le-div_iff_mul-le}
 use borrow.Rule.Slice.PartMut.{put_mid}
@@ -7,21 +7,22 @@ use Rattle.std.proofs.lemmas.Bool.{lt-ltb, le-leb}
 use Rattle.std.proofs.lemmas.List.{take_at, drop_at, drop-drop, replicate-append-replicate}
 use Rattle.vp_page.specs.declared.page.TheConstants.{PAGE_ROWS, PAPER_DOTS}
 use Rattle.vp_dots.specs.Dots.{dot}
-use Rattle.vp_dots.specs.Images.{row_from, packed}
+use Rattle.vp_dots.specs.Images.{row_of, row_from, packed}
 use Rattle.vp_dots.proofs.ImageLaws.{length-pieces}
 use Rattle.vp_receipt_settings.specs.declared.width.Width.{Width}
-use Rattle.vp_receipt_settings.specs.Setup.{row_bytes}
+use Rattle.vp_receipt_settings.specs.Setup.{across, row_bytes}
+use Rattle.vp_receipt_settings.specs.declared.text.TheConstants.{LINE_ROWS}
 use Rattle.vp_receipt_settings.proofs.Widths.{some_bytes}
 use Rattle.vp_output.specs.declared.place.Line.TheVariants.{Row}
 use Rattle.vp_output.specs.declared.place.Place.{Place}
 use Rattle.vp_output.specs.Places.{advanced}
 use Rattle.vp_strips.specs.declared.canvas.Canvas.{Canvas}
 use Rattle.vp_strips.specs.declared.strip.Strip.{Strip}
-use Rattle.vp_strips.specs.Jobs.{strip_dot, lines_of, text}
+use Rattle.vp_strips.specs.Jobs.{bitmap_dot, line_dot_of, strip_dot, lines_of, text}
 use Rattle.vp_strips.specs.Rows.{clipped, paper_row, rows_text}
 use Rattle.vp_output.proofs.Cut.{put_more}
 use Rattle.vp_output.proofs.Parts.{rows_begin, pending_on}
-use Rattle.vp_strips.proofs.Rows.{length-paper_row}
+use Rattle.vp_strips.proofs.Rows.{length-paper_row, paper_row_near}
 
 -- a dot of a row that is as long as the paper
 pub whole_row : (row page_row : List ℕ) (d y : ℕ) → row ≡ page_row → d < PAPER_DOTS → y < PAGE_ROWS → dot row d ≡ (nat_lt y PAGE_ROWS && clipped 0 PAPER_DOTS (dot page_row) d)
@@ -87,6 +88,28 @@ module _ (paper : Width) (f : ℕ → ℕ → Bool) where
   -- all are copied
   pub rows_copied : (y n : ℕ) (old : List ℕ) → take (n * row_bytes paper) (rows_text paper f y n) ++ drop (n * row_bytes paper) old ≡ rows_text paper f y n ++ drop (n * row_bytes paper) old
   rows_copied y n old = ap (λ xs. xs ++ drop (n * row_bytes paper) old) (first_rows y n n (omega arith))
+
+-- bytes with the dots of a row across the paper
+pub paper_row_is : (paper : Width) (f : ℕ → Bool) (row : List ℕ) → row ≡ row_of (row_bytes paper) f → row ≡ paper_row paper f
+unfolding paper_row
+paper_row_is paper f row e = e
+
+-- rows with the dots of others, which begin elsewhere
+rows_moved : (paper : Width) (f g : ℕ → ℕ → Bool) (y z n : ℕ) → ((x k : ℕ) → x < across paper → k < n → f x (y + k) ≡ g x (z + k)) → rows_text paper f y n ≡ rows_text paper g z n
+rows_moved paper f g y z zero h = refl
+rows_moved paper f g y z (suc n) h =
+    ap (λ r. r ++ rows_text paper f (y + 1) n) (paper_row_near paper (λ x. f x y) (λ x. g x z) (λ x l. ap (f x) (let e : y ≡ y + 0 = omega arith in e) ∙ h x 0 l (omega arith) ∙ ap (g x) (let e : z + 0 ≡ z = omega arith in e)))
+    ∙ ap (λ r. paper_row paper (λ x. g x z) ++ r) (rows_moved paper f g (y + 1) (z + 1) n
+    (λ x k l m. ap (f x) (let e : y + 1 + k ≡ y + (k + 1) = omega arith in e) ∙ h x (k + 1) l (omega arith) ∙ ap (g x) (let e : z + (k + 1) ≡ z + 1 + k = omega arith in e)))
+
+-- rows of a line that isn't moved, nor clipped on the paper
+pub line_rows : (paper : Width) (bitmap : List (List ℕ)) (height length top y rows : ℕ) → across paper ≤ length → top ≡ LINE_ROWS - height + y → (0 < rows → y + rows ≤ height)
+    → rows_text paper (bitmap_dot bitmap) top rows ≡ rows_text paper (line_dot_of height 0 length bitmap) y rows
+line_rows paper bitmap height length top y rows wide e inside = rows_moved paper (bitmap_dot bitmap) (line_dot_of height 0 length bitmap) top y rows (λ x k l m.
+    let low : y + k < height = let all = inside (omega arith) in omega arith in
+    let here : x - 0 ≡ x = omega arith in
+    let place : top + k ≡ LINE_ROWS - height + (y + k) = omega arith in
+    rw (lt-ltb (y + k) height low, le-leb 0 x (omega arith), here, lt-ltb x length (omega arith)) (ap (λ r. dot (get_or bitmap r []) x) place))
 
 -- as many rows as there is room for
 pub some_rows : (paper : Width) (room left rows : ℕ) → row_bytes paper ≤ room → 0 < left → rows ≡ min (room / row_bytes paper) left → 0 < rows

@@ -11,8 +11,8 @@ use Rattle.vp_dots.specs.declared.Op.TheVariants.{Black, White}
 use Rattle.vp_dots.proofs.ImageRows.{length-row_from}
 use Rattle.vp_strips.specs.Rows.{paper_row, clipped}
 use Rattle.vp_receipt_settings.specs.declared.width.Width.{Width}
-use Rattle.vp_receipt_settings.specs.Setup.{row_bytes}
-use Rattle.vp_receipt_settings.proofs.Widths.{few_bytes}
+use Rattle.vp_receipt_settings.specs.Setup.{across, row_bytes}
+use Rattle.vp_receipt_settings.proofs.Widths.{dots_across, few_bytes, few_dots}
 use Rattle.vp_strips.proofs.Bitmaps.{dot_white}
 
 -- a dot of a source that is moved to the right, and whitened from an end on
@@ -57,9 +57,12 @@ pub length-paper_row : (paper : Width) (f : ℕ → Bool) → list_length (paper
 unfolding paper_row
 length-paper_row paper f = length-row_from (row_bytes paper) f 0
 
-pub paper_row_same : (paper : Width) (f g : ℕ → Bool) → ((d : ℕ) → d < PAPER_DOTS → f d ≡ g d) → paper_row paper f ≡ paper_row paper g
+pub paper_row_near : (paper : Width) (f g : ℕ → Bool) → ((d : ℕ) → d < across paper → f d ≡ g d) → paper_row paper f ≡ paper_row paper g
 unfolding paper_row
-paper_row_same paper f g h = row_of_same (row_bytes paper) f g (λ d l. h d (let n = few_bytes paper in omega arith))
+paper_row_near paper f g h = row_of_same (row_bytes paper) f g (λ d l. h d (omega (arith, dots_across paper)))
+
+pub paper_row_same : (paper : Width) (f g : ℕ → Bool) → ((d : ℕ) → d < PAPER_DOTS → f d ≡ g d) → paper_row paper f ≡ paper_row paper g
+paper_row_same paper f g h = paper_row_near paper f g (λ d l. h d (omega (arith, few_dots paper)))
 
 -- a dot of a row's first bytes
 pub dot-take : (n : ℕ) (row : List ℕ) (d : ℕ) → d < 8 * n → dot (take n row) d ≡ dot row d

@@ -15,6 +15,10 @@ use Rattle.vp_strips.specs.SymbolInks.{symbol_dot}
 use Rattle.vp_receipt_settings.specs.Setup.{across}
 use Rattle.vp_strips.specs.Rows.{paper_row, clipped, cut_dot}
 
+-- dot (x, y) of a bitmap
+abbrev pub bitmap_dot : List (List ℕ) → ℕ → ℕ → Bool
+bitmap_dot bitmap x y = dot (slice_index_or bitmap y []) x
+
 -- dot (x, y) of the lowest rows of a bitmap, moved to the right and clipped
 abbrev pub line_dot_of : ℕ → ℕ → ℕ → List (List ℕ) → ℕ → ℕ → Bool
 line_dot_of height left length bitmap x y =

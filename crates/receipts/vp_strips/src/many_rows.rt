@@ -2,17 +2,19 @@
 ghost use Rattle.std.specs.Prelude.{◌≡◌, ℕ, ◌+◌, ◌-◌, ◌*◌, ◌<◌, ◌≤◌, ◌^◌, ◌++◌, replicate, take, drop, length};
 ghost use Rattle.vp_page.specs.declared.page.TheConstants.{PAGE_ROWS, PAPER_BYTES};
 ghost use Rattle.vp_receipt_settings.specs.Setup.{row_bytes};
+ghost use Rattle.vp_receipt_settings.specs.declared.text.TheConstants.{LINE_ROWS};
 ghost use Rattle.vp_dots.specs.Images.{row_of};
 ghost use Rattle.vp_strips.specs.Rows.{paper_row, rows_text};
-ghost use Rattle.vp_strips.specs.Jobs.{page_dot_of, dot_in, strip_dot};
+ghost use Rattle.vp_strips.specs.Jobs.{bitmap_dot, page_dot_of, dot_in, strip_dot};
 ghost use Rattle.vp_strips.specs.Held.{IsLow, IsLowDots};
 ghost use Rattle.vp_strips.specs.declared.strip.Dots.{Dots};
 
 use crate::canvas::Canvas;
+use crate::paint::Bitmap;
 use crate::strip::{Dots, Strip};
 use vp_dots::dots_decide;
 use vp_page::{PAGE_ROWS, PAPER_BYTES, Page};
-use vp_receipt_settings::Width;
+use vp_receipt_settings::{LINE_ROWS, Width};
 
 /// The bytes of a row of the page, as far as the paper goes.
 fn page_row(paper: Width, y: usize, page: &Page) -> &[u8]
@@ -42,6 +44,29 @@ fn copy_page_rows(paper: Width, y: usize, rows: usize, page: &Page, room: &mut [
     let bytes = paper.row_bytes();
     for k in 0..rows {
         copy_row(page_row(paper, y + k, page), &mut room[k * bytes..]);
+    }
+}
+
+/// The bytes of a row of the bitmap, as far as the paper goes.
+fn line_row(paper: Width, y: usize, bitmap: &Bitmap) -> &[u8]
+    requires { y < LINE_ROWS }
+    ensures { result.now ≡ paper_row paper (λ x. bitmap_dot bitmap.now x y) }
+{
+    let row = &bitmap.row(y)[..paper.row_bytes()];
+    dots_decide(row);
+    row
+}
+
+/// Copies rows of the bitmap, from row y on, as far as the paper goes.
+fn copy_line_rows(paper: Width, y: usize, rows: usize, bitmap: &Bitmap, room: &mut [u8])
+    requires inside { 0 < rows → y + rows ≤ LINE_ROWS }
+    requires fits { rows * row_bytes paper ≤ length room.old }
+    ensures { room.new ≡ rows_text paper (bitmap_dot bitmap.now) y rows
+        ++ drop (rows * row_bytes paper) room.old }
+{
+    let bytes = paper.row_bytes();
+    for k in 0..rows {
+        copy_row(line_row(paper, y + k, bitmap), &mut room[k * bytes..]);
     }
 }
 
@@ -89,6 +114,8 @@ fn copy_inked(strip: Strip, y: u32, rows: u32, canvas: &Canvas, room: &mut [u8])
     requires low { IsLow strip }
     requires inside { y + rows < 2 ^ 32 }
     requires page { strip.dots ≡ Dots.Page → 0 < rows → y + rows ≤ PAGE_ROWS }
+    requires line { (height left length : ℕ) → strip.dots ≡ Dots.Line height left length →
+        0 < rows → y + rows ≤ height }
     requires fits { rows * row_bytes strip.paper ≤ length room.old }
     ensures { room.new ≡ rows_text strip.paper (strip_dot strip canvas.now) y rows
         ++ drop (rows * row_bytes strip.paper) room.old }
@@ -97,6 +124,15 @@ fn copy_inked(strip: Strip, y: u32, rows: u32, canvas: &Canvas, room: &mut [u8])
         Dots::Page => {
             let page = &canvas.page;
             copy_page_rows(strip.paper, y as usize, rows as usize, page, room)
+        }
+        // Where the line isn't moved, and not clipped before the paper ends.
+        Dots::Line {
+            height,
+            left: 0,
+            length,
+        } if strip.paper.across() <= length => {
+            let top = LINE_ROWS - usize::from(height) + y as usize;
+            copy_line_rows(strip.paper, top, rows as usize, &canvas.bitmap, room)
         }
         _ => copy_written_rows(strip.dots, strip.paper, y, rows, canvas, room),
     }

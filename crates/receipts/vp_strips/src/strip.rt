@@ -184,6 +184,7 @@ impl Dots {
     pub fn inked(self, rows: u32) -> u32
         ensures white { (canvas : Canvas) (x y : ℕ) → result ≤ y → y < rows → dot_in self canvas x y ≡ false }
         ensures page { self ≡ Dots.Page → result ≡ PAGE_ROWS }
+        ensures line { (height left length : ℕ) → self ≡ Dots.Line height left length → result ≡ height }
     {
         match self {
             Dots::Line { height, .. } => u32::from(height),

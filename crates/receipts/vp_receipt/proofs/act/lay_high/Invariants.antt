@@ -2,7 +2,7 @@ use Rattle.std.proofs.Common.{ℕ, ◌*◌, min, Bool, List, ◌∷◌}
 use Rattle.vp_page.specs.Layers.{Layer, Laid, first_rows}
 use Rattle.vp_page.specs.Pages.{HasPage}
 use Rattle.vp_receipt.specs.PageMarks.{HasRows, mark_of}
-use Rattle.vp_receipt.proofs.act.lay_at_once.Given as goal
+use Rattle.vp_receipt.proofs.act.lay_high.Given as goal
 
 -- the rows above these are laid
 abbrev pub invariant-loop-k : goal.invariant-loop-k
