@@ -1,5 +1,5 @@
 /* What bench/peers.sh times inside one process, so many times over: a receipt through the library of vp, or each line of
- * a file through an outside library. Made with one of -DVP, -DQRENCODE, -DZINT: peers FILE ROUNDS, and behind them for
+ * a file through an outside library. Made with one of -DVP, -DQRENCODE, -DZINT: peers ROUNDS FILE, and behind them for
  * zint the symbology, and whether the symbol is drawn. It prints how many bytes, modules or dots there were. */
 #include <stdio.h>
 #include <stdlib.h>
@@ -94,12 +94,12 @@ int main(int count, char **words)
 {
     static char data[1 << 20];
     size_t put = 0, length;
-    FILE *file = count < 3 ? NULL : fopen(words[1], "rb");
+    FILE *file = count < 3 ? NULL : fopen(words[2], "rb");
     if (file == NULL)
         return 1;
     length = fread(data, 1, sizeof data, file);
     fclose(file);
-    for (int left = atoi(words[2]); left > 0; left--)
+    for (int left = atoi(words[1]); left > 0; left--)
         put += work(data, length, words + 3);
     printf("%zu\n", put);
     return 0;

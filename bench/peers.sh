@@ -2,7 +2,8 @@
 # How long we take beside what Debian has for the same work: bench/peers.sh [VP], with the program that ./vp runs and the
 # library beside it. QR symbols beside qrencode and libqrencode, bars beside zint, libzint and barcode, and images that are
 # joined beside netpbm's pnmcat. Ours and theirs are timed by turns, and the least of seven counts. What isn't installed is
-# said. The times are those of the machine it runs on; the ratios are what to look at.
+# said. The times are those of the machine it runs on; the ratios are what to look at. Where valgrind is, the instructions of
+# libraries are counted too, which don't hang on the machine's load.
 set -eu
 top=$(cd "$(dirname "$0")/.." && pwd)
 vp=$(realpath "${1:-$("$top/tools/dist/program")}")
@@ -70,6 +71,22 @@ made() {
     cc -std=c11 -O2 "$@" -o "$name" 2> made.log || { echo "left out: no lib$name for C" && return 1; }
 }
 
+# collected COMMAND: its instructions
+collected() {
+    # shellcheck disable=SC2086
+    valgrind --tool=callgrind --callgrind-out-file=/dev/null $1 2>&1 > out | sed -n 's/^==[0-9]*== Collected : //p'
+}
+
+# inside NAME ROUNDS RECEIPT PEER CALLER WORDS: the symbols of 200 texts, so many times over, by us and by the caller of a
+# library, and where valgrind is their instructions, but for those of a caller that makes none
+inside() {
+    beside "$1" $((200 * $2)) "./vp $2 $3" "$4" "./$5 $2 $6"
+    command -v valgrind > /dev/null || return 0
+    echo "$(collected "./vp 1 $3") $(collected "./vp 0 $3") $(collected "./$5 1 $6") $(collected "./$5 0 $6")" |
+        awk '{ ours = ($1 - $2) / 200; theirs = ($3 - $4) / 200 }
+            END { printf "    %d instructions each, %d: %.2f times as few\n", ours, theirs, theirs / ours }'
+}
+
 echo 'many symbols in one process'
 library=$(dirname "$vp")/libvp.so
 [ -e "$library" ] || library=$top/dist/libvp.so
@@ -77,17 +94,17 @@ ln -s "$library" libvp.so.1
 export LD_LIBRARY_PATH="$scratch"
 if has cc && made vp -DVP -I"$top/include" "$top/bench/peers.c" "$library"; then
     if made qrencode -DQRENCODE "$top/bench/peers.c" -lqrencode; then
-        beside 'QR symbol' 2000 './vp qr.bin 10' libqrencode './qrencode qr.txt 10'
+        inside 'QR symbol' 10 qr.bin libqrencode qrencode qr.txt
     fi
     if made zint -DZINT "$top/bench/peers.c" -lzint; then
-        beside 'Code 128, a hundred rows' 20000 './vp code128.bin 100' 'libzint, drawn,' './zint code128.txt 100 20 1'
-        beside 'EAN-13, a hundred rows' 20000 './vp ean13.bin 100' 'libzint, drawn,' './zint ean13.txt 100 13 1'
-        beside 'Code 128, a row' 20000 './vp code128-row.bin 100' 'libzint, encoded alone,' './zint code128.txt 100 20 0'
-        beside 'EAN-13, a row' 20000 './vp ean13-row.bin 100' 'libzint, encoded alone,' './zint ean13.txt 100 13 0'
+        inside 'Code 128, a hundred rows' 100 code128.bin 'libzint, drawn,' zint 'code128.txt 20 1'
+        inside 'EAN-13, a hundred rows' 100 ean13.bin 'libzint, drawn,' zint 'ean13.txt 13 1'
+        inside 'Code 128, a row' 100 code128-row.bin 'libzint, encoded alone,' zint 'code128.txt 20 0'
+        inside 'EAN-13, a row' 100 ean13-row.bin 'libzint, encoded alone,' zint 'ean13.txt 13 0'
     fi
     if has barcode; then
-        beside 'EAN-13' 200 './vp ean13.bin 1' 'barcode -i' 'barcode -E -n -e ean -i ean13.txt'
-        beside 'Code 128' 200 './vp code128.bin 1' 'barcode -i' 'barcode -E -n -e 128 -i code128.txt'
+        beside 'EAN-13' 200 './vp 1 ean13.bin' 'barcode -i' 'barcode -E -n -e ean -i ean13.txt'
+        beside 'Code 128' 200 './vp 1 code128.bin' 'barcode -i' 'barcode -E -n -e 128 -i code128.txt'
     fi
 fi
 
