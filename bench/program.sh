@@ -1,6 +1,7 @@
 #!/bin/sh
 # How long the program takes, beside cat of what it prints and od of what it lists: bench/program.sh [VP], with the
-# program that ./vp runs. The times are those of the machine it runs on; the ratios are what to look at.
+# program that ./vp runs. The times are those of the machine it runs on; the ratios are what to look at. Where valgrind is,
+# it counts the instructions too, of the first megabyte that each stream prints: these don't hang on the machine's load.
 set -eu
 top=$(cd "$(dirname "$0")/.." && pwd)
 vp=${1:-$("$top/tools/dist/program")}
@@ -20,6 +21,30 @@ seconds() {
     done | sort -n | head -1
 }
 
+# collected COMMAND..: the instructions of a command, of which a megabyte of output is kept, and no more is written
+collected() {
+    (
+        trap '' XFSZ
+        ulimit -f 2048
+        valgrind --tool=callgrind --callgrind-out-file=/dev/null "$@" > "$scratch/front" 2> "$scratch/said"
+    ) || :
+    sed -n 's/^==[0-9]*== Collected : //p' "$scratch/said"
+}
+
+# those of a run that prints nothing; none where valgrind isn't
+nothing=0
+if command -v valgrind > /dev/null; then nothing=$(collected "$vp" receipt /dev/null); fi
+
+# instructions FILE COMMAND..: how many a byte of the file, or where that is - of what is printed, or nothing
+instructions() {
+    [ "$nothing" -gt 0 ] || return 0
+    bytes=$1
+    shift
+    count=$(collected "$@")
+    [ "$bytes" != - ] || bytes=$scratch/front
+    echo "$count $nothing $(wc -c < "$bytes")" | awk '{ printf ", %.2f instructions a byte", ($1 - $2) / $3 }'
+}
+
 # measure LANGUAGE NAME FILE OPTION..: the program over a file, beside cat of its paper
 measure() {
     language=$1
@@ -29,14 +54,17 @@ measure() {
     print=$(seconds "$scratch/paper" "$vp" "$language" "$@" "$file")
     copy=$(seconds "$scratch/copy" cat "$scratch/paper")
     bytes=$(wc -c < "$scratch/paper")
-    echo "$print $copy $bytes" | awk -v name="$name" '{ printf "%s: %d bytes of paper, %.1f ms, cat %.1f ms, %.1f times cat, %.0f MB/s\n", name, $3, $1 / 1e6, $2 / 1e6, $1 / $2, $3 * 1000 / $1 }'
+    work=$(instructions - "$vp" "$language" "$@" "$file")
+    echo "$print $copy $bytes" | awk -v name="$name" -v work="$work" '{ printf "%s: %d bytes of paper, %.1f ms, cat %.1f ms, %.1f times cat, %.0f MB/s%s\n", name, $3, $1 / 1e6, $2 / 1e6, $1 / $2, $3 * 1000 / $1, work }'
 }
 
 # idle NAME FILE: bytes that print nothing
 idle() {
     took=$(seconds "$scratch/paper" "$vp" receipt "$2")
     bytes=$(wc -c < "$2")
-    echo "$took $bytes" | awk -v name="$1" '{ printf "%s: %d bytes, %.1f ms, %.2f ns each\n", name, $2, $1 / 1e6, $1 / $2 }'
+    head -c 1000000 "$2" > "$scratch/begun"
+    work=$(instructions "$scratch/begun" "$vp" receipt "$scratch/begun")
+    echo "$took $bytes" | awk -v name="$1" -v work="$work" '{ printf "%s: %d bytes, %.1f ms, %.2f ns each%s\n", name, $2, $1 / 1e6, $1 / $2, work }'
 }
 
 # listed NAME FILE: the lines of a file, beside od of its bytes
@@ -44,7 +72,8 @@ listed() {
     list=$(seconds "$scratch/lines" "$vp" list --lang receipt "$2")
     dump=$(seconds "$scratch/dump" od -An -v -tx1 "$2")
     bytes=$(wc -c < "$2")
-    echo "$list $dump $bytes" | awk -v name="$1" '{ printf "listing of %s: %d bytes, %.1f ms, od %.1f ms, %.2f times od\n", name, $3, $1 / 1e6, $2 / 1e6, $1 / $2 }'
+    work=$(instructions - "$vp" list --lang receipt "$2")
+    echo "$list $dump $bytes" | awk -v name="$1" -v work="$work" '{ printf "listing of %s: %d bytes, %.1f ms, od %.1f ms, %.2f times od%s\n", name, $3, $1 / 1e6, $2 / 1e6, $1 / $2, work }'
 }
 
 # placed NAME FILE: the lines of a file with their places, beside those without
@@ -52,7 +81,8 @@ placed() {
     list=$(seconds "$scratch/lines" "$vp" list --lang receipt "$2")
     with=$(seconds "$scratch/lines" "$vp" list --lang receipt --offsets "$2")
     bytes=$(wc -c < "$2")
-    echo "$with $list $bytes" | awk -v name="$1" '{ printf "listing of %s with places: %d bytes, %.1f ms, without %.1f ms, %.2f times that\n", name, $3, $1 / 1e6, $2 / 1e6, $1 / $2 }'
+    work=$(instructions - "$vp" list --lang receipt --offsets "$2")
+    echo "$with $list $bytes" | awk -v name="$1" -v work="$work" '{ printf "listing of %s with places: %d bytes, %.1f ms, without %.1f ms, %.2f times that%s\n", name, $3, $1 / 1e6, $2 / 1e6, $1 / $2, work }'
 }
 
 # repeated NUMBER FILE: the file so many times

@@ -27,8 +27,10 @@ def listed():
         for line in it:
             place, colon, below = line.partition("#")[0].partition(":")
             if colon:
-                name = os.path.basename(place.strip())
-                places[name] = place.strip()
+                # (behind its place a crate may have a word of how it is built)
+                place = place.split()[0]
+                name = os.path.basename(place)
+                places[name] = place
                 stands[name] = [os.path.basename(dep) for dep in below.split()]
     return stands, places
 

@@ -64,13 +64,15 @@ fn closed(
     Ok((count, Some(gathered.format.field(count - 1)), refused))
 }
 
-/// The last field that a stream closes.
+/// The last field that a stream closes, of which no item is refused.
 fn last(alloc: Global, stream: &[u8]) -> Result<Option<Field>, AllocError> {
-    let (_, field, _) = closed(alloc, stream)?;
-    Ok(field)
+    match closed(alloc, stream)? {
+        (_, field, None) => Ok(field),
+        _ => Ok(None),
+    }
 }
 
-/// A stream closes a field of this content last, or none where none is wanted.
+/// A stream closes a field of this content last.
 fn closes(
     rt: &impl Abort,
     alloc: Global,

@@ -119,11 +119,13 @@ fn rows_above_the_label(rt: HostRuntime) -> Result<(), Fail> {
 }
 
 /// Puts out `bytes` more bytes, one at a time.
-fn put_out(label: &mut Label, bytes: usize) {
+fn put_out(rt: &impl Abort, label: &mut Label, bytes: usize) {
     let mut out = [0u8; 1];
+    let mut put: usize = 0;
     for _ in 0..bytes {
-        label.put(&mut out);
+        put = put.saturating_add(label.put(&mut out));
     }
+    same(rt, &put, &bytes);
 }
 
 /// The rows of the band, the stored bytes and the fields that are held.
@@ -156,7 +158,7 @@ fn counts(rt: HostRuntime) -> Result<(), Fail> {
     same(&rt, &held(&label), &(0, 5, 1));
     fed(&mut label, &mut reader, TWO_BANDS);
     for (bytes, want) in &COUNTS {
-        put_out(&mut label, *bytes);
+        put_out(&rt, &mut label, *bytes);
         same(&rt, &held(&label), want);
     }
     Ok(())
@@ -177,7 +179,7 @@ fn looks(rt: HostRuntime) -> Result<(), Fail> {
     fed(&mut label, &mut reader, TWO_BANDS);
     took(&rt, &label, 0, 0);
     for _ in 0..2 {
-        put_out(&mut label, 42);
+        put_out(&rt, &mut label, 42);
         took(&rt, &label, 5, 12);
     }
     Ok(())
@@ -191,7 +193,7 @@ fn looks_in_the_first_band(rt: &impl Abort, label: &mut Label) {
         fed(label, &mut reader, b"^FO0,0^GB8,1,1^FS");
     }
     fed(label, &mut reader, b"^XZ");
-    put_out(label, 8010);
+    put_out(rt, label, 8010);
     same(rt, &label.pending(), &false);
     took(rt, label, 1000, 2250);
 }
@@ -200,7 +202,7 @@ fn looks_in_the_first_band(rt: &impl Abort, label: &mut Label) {
 fn looks_below(rt: &impl Abort, label: &mut Label) {
     let stream = b"^XA^PW8^LL34^FO0,100^GB8,1,1^FS^XZ";
     fed(label, &mut ZplReader::new(), stream);
-    put_out(label, 42);
+    put_out(rt, label, 42);
     took(rt, label, 0, 2);
 }
 

@@ -9,7 +9,7 @@ use vp_glyph::{Font, Sheets};
 
 /// Which symbol of some bytes.
 #[derive(Clone, Copy)]
-enum Made {
+pub enum Made {
     Code39,
     Code39Checked,
     Ean13,
@@ -21,7 +21,7 @@ enum Made {
 
 use Made::{Code39, Code39Checked, Ean13, Ean13Padded, Label, LabelPacked, Receipt};
 
-fn symbol_of(how: Made, src: &[u8]) -> Result<Bars, Fault> {
+pub fn symbol_of(how: Made, src: &[u8]) -> Result<Bars, Fault> {
     match how {
         Code39 => code39(src, false),
         Code39Checked => code39(src, true),
@@ -33,10 +33,10 @@ fn symbol_of(how: Made, src: &[u8]) -> Result<Bars, Fault> {
     }
 }
 
-type Worked = (Made, &'static [u8], &'static [u8], &'static [u8]);
+pub type Worked = (Made, &'static [u8], &'static [u8], &'static [u8]);
 
 /// Bytes, and the values and the text of their symbol.
-static SYMBOLS: [Worked; 22] = [
+pub static SYMBOLS: [Worked; 26] = [
     (Code39, b"A", &[43, 10, 43], b"A"),
     (Code39, b"*A*", &[43, 10, 43], b"A"),
     (Code39, b"*A-1 $*", &[43, 10, 36, 1, 38, 39, 43], b"A-1 $"),
@@ -95,6 +95,22 @@ static SYMBOLS: [Worked; 22] = [
         b"{BWikipedia",
         &[104, 55, 73, 75, 73, 80, 69, 68, 73, 65, 88, 106],
         b"Wikipedia",
+    ),
+    // changes from A to C and from C to A, and a byte of B in A
+    (Receipt, b"{AA{C\x0c", &[103, 33, 99, 12, 61, 106], b"A12"),
+    (
+        Receipt,
+        b"{C\x01{A\x01",
+        &[105, 1, 101, 65, 91, 106],
+        b"01\x01",
+    ),
+    (Receipt, b"{AA{Sa", &[103, 33, 98, 65, 12, 106], b"Aa"),
+    // FNC3, FNC2, and a change from B to A
+    (
+        Receipt,
+        b"{B{3{2a{A1",
+        &[104, 96, 97, 65, 101, 17, 48, 106],
+        b"a1",
     ),
     (
         Receipt,

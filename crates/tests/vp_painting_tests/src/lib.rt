@@ -9,6 +9,8 @@ mod checks;
 #[cfg(test)]
 mod dots;
 #[cfg(test)]
+mod elements;
+#[cfg(test)]
 mod glyph;
 #[cfg(test)]
 mod page;

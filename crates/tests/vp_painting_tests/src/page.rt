@@ -3,7 +3,7 @@ use crate::checks::same;
 use std::alloc::Global;
 use std::process::Abort;
 use std::test::Fail;
-use vp_dots::Ink;
+use vp_dots::{Ink, Op, paint_dot};
 use vp_page::{AT_ONCE, Area, Direction, LINE_BYTES, PAGE_ROWS, Page};
 
 /// A wedge: line y has ink at its first side - y places.
@@ -160,24 +160,19 @@ fn wiped(rt: HostRuntime) -> Result<(), Fail> {
     Ok(())
 }
 
-/// How many rows of two pages differ.
-fn differences(one: &Page, other: &Page) -> u32 {
-    let mut count = 0u32;
-    for y in 0..PAGE_ROWS {
-        if one.row(y) != other.row(y) {
-            count = count.saturating_add(1);
-        }
-    }
-    count
-}
-
-/// An area inside the page, and one past its edges.
-static AREAS: [Area; 2] = [
+/// An area inside the page, and two past its edges.
+static AREAS: [Area; 3] = [
     Area {
         x: 13,
         y: 21,
         dx: 40,
         dy: 99,
+    },
+    Area {
+        x: 530,
+        y: 1640,
+        dx: 60,
+        dy: 40,
     },
     Area {
         x: 560,
@@ -207,24 +202,94 @@ fn many_rows() -> [[u8; LINE_BYTES]; AT_ONCE] {
     rows
 }
 
-/// Lays the first of the same rows at once and one by one.
-fn lay_both_ways(
-    at_once: &mut Page,
-    one_by_one: &mut Page,
-    area: Area,
-    direction: Direction,
-    v: u32,
-    count: usize,
-) {
-    let rows = many_rows();
-    let first = &rows[..count.min(AT_ONCE)];
-    at_once.lay_lines(area, direction, v, first);
-    for i in 0..first.len() {
-        one_by_one.lay_row(area, direction, v.saturating_add(i as u32), &first[i]);
+/// How many dots a line of an area has, and how many lines there are.
+fn extent(area: Area, direction: Direction) -> (u32, u32) {
+    let (wide, high) = (u32::from(area.dx), u32::from(area.dy));
+    match direction {
+        Direction::LeftToRight | Direction::RightToLeft => (wide, high),
+        _ => (high, wide),
     }
 }
 
-/// The page is the same where rows are laid at once and where they are laid one by one.
+/// Where dot `u` of line `v` of an area falls on the page, if it does: a line runs to the right, up, to the left
+/// or down, and the next one lies below, to the right, above or to the left of it.
+fn place(area: Area, direction: Direction, u: u32, v: u32) -> Option<(u32, u32)> {
+    let (length, depth) = extent(area, direction);
+    if u >= length || v >= depth {
+        return None;
+    }
+    let back_u = length.wrapping_sub(1).wrapping_sub(u);
+    let back_v = depth.wrapping_sub(1).wrapping_sub(v);
+    let (across, down) = match direction {
+        Direction::LeftToRight => (u, v),
+        Direction::BottomToTop => (v, back_u),
+        Direction::RightToLeft => (back_u, back_v),
+        Direction::TopToBottom => (back_v, u),
+    };
+    let x = u32::from(area.x).wrapping_add(across);
+    let y = u32::from(area.y).wrapping_add(down);
+    (x < 576 && y < 1664).then_some((x, y))
+}
+
+/// Blackens a place of a page, if it is one.
+fn blacken(place: Option<(u32, u32)>, page: &mut [u8]) {
+    if let Some((x, y)) = place {
+        let dot = u128::from(y).wrapping_mul(576).wrapping_add(u128::from(x));
+        paint_dot(Op::Black, dot, page);
+    }
+}
+
+/// Paints a line at depth `v` of an area, dot by dot.
+fn paint_line(area: Area, direction: Direction, v: u32, line: &[u8], page: &mut [u8]) {
+    let (length, _) = extent(area, direction);
+    for u in 0..length.min(1664) {
+        if let Some(byte) = line.get(u as usize / 8) {
+            if *byte & (0x80 >> (u % 8)) != 0 {
+                blacken(place(area, direction, u, v), page);
+            }
+        }
+    }
+}
+
+/// A page with lines in an area from depth `v` on, painted dot by dot.
+fn painted(
+    alloc: Global,
+    area: Area,
+    direction: Direction,
+    v: u32,
+    lines: &[[u8; LINE_BYTES]],
+) -> Result<Vec<u8>, Fail> {
+    let mut page = vec![in alloc; 0u8; 119_808]?;
+    let mut depth = v;
+    for line in lines {
+        paint_line(area, direction, depth, line, &mut page);
+        depth = depth.saturating_add(1);
+    }
+    Ok(page)
+}
+
+/// How many rows of a page are others than those of 72 bytes each.
+fn differences(page: &Page, rows: &[u8]) -> u32 {
+    let mut count = 0u32;
+    for y in 0..PAGE_ROWS {
+        let from = y.wrapping_mul(72);
+        if rows.get(from..from.wrapping_add(72)) != Some(page.row(y)) {
+            count = count.saturating_add(1);
+        }
+    }
+    count
+}
+
+/// Lays lines one by one, from depth `v` on.
+fn lay_each(page: &mut Page, area: Area, direction: Direction, v: u32, lines: &[[u8; LINE_BYTES]]) {
+    let mut depth = v;
+    for line in lines {
+        page.lay_row(area, direction, depth, line);
+        depth = depth.saturating_add(1);
+    }
+}
+
+/// So many lines are laid as dot by dot, at once and one by one.
 fn lays_lines(
     rt: &impl Abort,
     alloc: Global,
@@ -233,10 +298,18 @@ fn lays_lines(
     v: u32,
     count: usize,
 ) -> Result<(), Fail> {
+    let rows = many_rows();
+    let lines = &rows[..count.min(AT_ONCE)];
+    let want = painted(alloc, area, direction, v, lines)?;
     let mut at_once = Page::new(alloc)?;
+    at_once.lay_lines(area, direction, v, lines);
     let mut one_by_one = Page::new(alloc)?;
-    lay_both_ways(&mut at_once, &mut one_by_one, area, direction, v, count);
-    same(rt, &differences(&at_once, &one_by_one), &0);
+    lay_each(&mut one_by_one, area, direction, v, lines);
+    let found = [
+        differences(&at_once, &want),
+        differences(&one_by_one, &want),
+    ];
+    same(rt, &found, &[0, 0]);
     Ok(())
 }
 
@@ -272,17 +345,38 @@ fn as_many_lines_as_go(rt: HostRuntime) -> Result<(), Fail> {
     lays_everywhere(&rt, rt.alloc(), AT_ONCE)
 }
 
-/// So many rows blacken the page.
-fn blackens(rt: &impl Abort, alloc: Global, count: usize) -> Result<(), Fail> {
-    let mut page = Page::new(alloc)?;
+/// A line of so many bytes is laid as dot by dot, from column `x` on.
+fn lays_a_line(
+    rt: &impl Abort,
+    alloc: Global,
+    x: u16,
+    direction: Direction,
+    bytes: usize,
+) -> Result<(), Fail> {
+    let area = Area {
+        x,
+        y: 8,
+        dx: 570,
+        dy: 1650,
+    };
     let rows = many_rows();
-    page.lay_lines(BOX, Direction::TopToBottom, 1, &rows[..count.min(AT_ONCE)]);
-    same(rt, &(page.row(0)[1] != 0), &true);
+    let line = &rows[5][..bytes.min(LINE_BYTES)];
+    let mut want = vec![in alloc; 0u8; 119_808]?;
+    paint_line(area, direction, 2, line, &mut want);
+    let mut page = Page::new(alloc)?;
+    page.lay_row(area, direction, 2, line);
+    same(rt, &differences(&page, &want), &0);
     Ok(())
 }
 
 #[test]
-fn lines_blacken(rt: HostRuntime) -> Result<(), Fail> {
-    blackens(&rt, rt.alloc(), 24)?;
-    blackens(&rt, rt.alloc(), AT_ONCE)
+fn lines_of_whole_words(rt: HostRuntime) -> Result<(), Fail> {
+    for direction in &DIRECTIONS {
+        for bytes in [8, 16, 64, 72] {
+            for x in [0, 3, 6, 8] {
+                lays_a_line(&rt, rt.alloc(), x, *direction, bytes)?;
+            }
+        }
+    }
+    Ok(())
 }

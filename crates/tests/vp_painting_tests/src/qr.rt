@@ -107,7 +107,7 @@ fn is_hello_world(rt: &impl Abort, ink: &QrInk) {
     }
     let mut row = [0; 4];
     ink.paint_row(0, Op::Black, 0, &mut row);
-    same(rt, &(row[0], row[2], row[3]), &(0xfe, 0xf8, 0));
+    same(rt, &row, &[0xfe, 0x2b, 0xf8, 0]);
 }
 
 #[test]
@@ -116,50 +116,142 @@ fn hello_world_to_the_module(rt: HostRuntime) {
     is_hello_world(&rt, &qr.scaled(1));
 }
 
+/// Adds a module to bits, behind them.
+fn with(bits: u32, ink: &QrInk, x: u32, y: u32) -> u32 {
+    bits.wrapping_mul(2) | u32::from(ink.ink(x, y))
+}
+
 /// The bits of the format beside the upper left finder: to the right below it, and then up on its right.
 fn format(ink: &QrInk) -> u32 {
-    let mut bits = 0u32;
-    for (x, y) in [
-        (0, 8),
-        (1, 8),
-        (2, 8),
-        (3, 8),
-        (4, 8),
-        (5, 8),
-        (7, 8),
-        (8, 8),
-        (8, 7),
-        (8, 5),
-        (8, 4),
-        (8, 3),
-        (8, 2),
-        (8, 1),
-        (8, 0),
-    ] {
-        bits = bits.wrapping_mul(2) | u32::from(ink.ink(x, y));
+    let mut bits = 0;
+    for x in [0, 1, 2, 3, 4, 5, 7, 8] {
+        bits = with(bits, ink, x, 8);
+    }
+    for y in [7, 5, 4, 3, 2, 1, 0] {
+        bits = with(bits, ink, 8, y);
     }
     bits
 }
 
-/// The bits of the version of a symbol of version 7: the six rows of three modules on the left of its upper
-/// right finder, from their lower right on.
-fn version(ink: &QrInk) -> u32 {
-    let mut bits = 0u32;
-    for y in 0..6u32 {
-        for x in 0..3u32 {
-            bits = bits.wrapping_mul(2) | u32::from(ink.ink(36 - x, 5 - y));
+/// The same bits beside the other finders of a symbol of version 1: up on the right of the lower left one, and
+/// to the right below the upper right one.
+fn format_again(ink: &QrInk) -> u32 {
+    let mut bits = 0;
+    for y in [20, 19, 18, 17, 16, 15, 14] {
+        bits = with(bits, ink, 8, y);
+    }
+    for x in [13, 14, 15, 16, 17, 18, 19, 20] {
+        bits = with(bits, ink, x, 8);
+    }
+    bits
+}
+
+/// Data of symbols of version 1 for each mask, from 0 on, and the bits of the format of this level and mask
+/// (ISO/IEC 18004, table C.1).
+type Formats = (Level, &'static [(&'static [u8], u32)]);
+
+static FORMATS: [Formats; 4] = [
+    (
+        Level::L,
+        &[
+            (b"MZG", 0x77c4),
+            (b"TNUAWREV", 0x72f3),
+            (b"YIH", 0x7daa),
+            (b"OPU", 0x789d),
+            (b"AMZ", 0x662f),
+            (b"AZH", 0x6318),
+            (b"PQM", 0x6c41),
+            (b"ESZ", 0x6976),
+        ],
+    ),
+    (
+        Level::M,
+        &[
+            (b"QVS", 0x5412),
+            (b"YNT", 0x5125),
+            (b"ATJ", 0x5e7c),
+            (b"IHG", 0x5b4b),
+            (b"OVE", 0x45f9),
+            (b"JZZ", 0x40ce),
+            (b"APG", 0x4f97),
+            (b"OBNUPOGS", 0x4aa0),
+        ],
+    ),
+    (
+        Level::Q,
+        &[
+            (b"UAP", 0x355f),
+            (b"OHI", 0x3068),
+            (b"MUT", 0x3f31),
+            (b"BJM", 0x3a06),
+            (b"RVW", 0x24b4),
+            (b"DGT", 0x2183),
+            (b"JAP", 0x2eda),
+            (b"MUB", 0x2bed),
+        ],
+    ),
+    (
+        Level::H,
+        &[
+            (b"NIQ", 0x1689),
+            (b"XDY", 0x13be),
+            (b"YBC", 0x1ce7),
+            (b"YDK", 0x19d0),
+            (b"IPT", 0x0762),
+            (b"EZC", 0x0255),
+            (b"IVV", 0x0d0c),
+            (b"ZER", 0x083b),
+        ],
+    ),
+];
+
+/// The mask of a symbol, and its bits of the format.
+fn masked(rt: &impl Abort, src: &[u8], level: Level) -> (usize, u32, u32) {
+    let qr = symbol(rt, src, level, Mode::Auto);
+    let ink = qr.scaled(1);
+    (qr.mask(), format(&ink), format_again(&ink))
+}
+
+#[test]
+fn formats(rt: HostRuntime) {
+    for (level, symbols) in &FORMATS {
+        for (mask, (src, bits)) in symbols.iter().enumerate() {
+            same(&rt, &masked(&rt, src, *level), &(mask, *bits, *bits));
+        }
+    }
+}
+
+/// The bits of the version of a symbol of so many modules a row: the six rows of three modules on the left of
+/// its upper right finder, from their lower right on, and the six columns of three above its lower left one.
+fn versions(ink: &QrInk, size: u32) -> [u32; 2] {
+    let mut bits = [0; 2];
+    for far in 0..6u32 {
+        for near in 9..12u32 {
+            let (along, across) = (size.wrapping_sub(near), 5u32.wrapping_sub(far));
+            bits = [
+                with(bits[0], ink, along, across),
+                with(bits[1], ink, across, along),
+            ];
         }
     }
     bits
 }
 
+/// How many bytes give a symbol of level L of versions 7 to 10, how many modules it has in a row, and the bits
+/// of its version (ISO/IEC 18004, table D.1).
+static VERSIONS: [(usize, u32, u32); 4] = [
+    (154, 45, 0x07c94),
+    (192, 49, 0x085bc),
+    (230, 53, 0x09a99),
+    (271, 57, 0x0a4d3),
+];
+
 #[test]
-fn format_and_version(rt: HostRuntime) {
-    let digits = sample_symbol(&rt, Mode::Digits, 64, Level::L);
-    same(&rt, &digits.mask(), &4);
-    same(&rt, &format(&digits.scaled(1)), &0b110011000101111);
-    let alnum = sample_symbol(&rt, Mode::Alnum, 178, Level::M);
-    same(&rt, &version(&alnum.scaled(1)), &0b000111110010010100);
+fn versions_in_symbols(rt: HostRuntime) {
+    for (n, size, bits) in &VERSIONS {
+        let qr = sample_symbol(&rt, Mode::Bytes, *n, Level::L);
+        same(&rt, &versions(&qr.scaled(1), *size), &[*bits; 2]);
+    }
 }
 
 /// Why bytes have no symbol.
@@ -261,27 +353,51 @@ fn capacities(rt: HostRuntime) {
     }
 }
 
-/// Samples with the version, the mask and the checksum of the rows that they give.
-static SYMBOLS: [(Mode, usize, Level, usize, usize, u64); 19] = [
+/// Samples of each version at each level, with the version, the mask and the checksum of the rows that they
+/// give.
+static SYMBOLS: [(Mode, usize, Level, usize, usize, u64); 42] = [
     (Mode::Digits, 41, Level::L, 1, 6, 885061506499725426),
     (Mode::Alnum, 20, Level::M, 1, 2, 8853321219724140617),
+    (Mode::Bytes, 11, Level::Q, 1, 0, 8140171652356610937),
+    (Mode::Alnum, 4, Level::H, 1, 5, 11681583600701038955),
+    (Mode::Digits, 7, Level::H, 1, 1, 8048749137363741816),
+    (Mode::Digits, 77, Level::L, 2, 3, 15187934712728799907),
+    (Mode::Alnum, 38, Level::M, 2, 0, 16665154609381878406),
     (Mode::Bytes, 20, Level::Q, 2, 0, 7924698432542904124),
+    (Mode::Bytes, 14, Level::H, 2, 4, 4176834384437916714),
+    (Mode::Digits, 127, Level::L, 3, 2, 13771097570406448524),
+    (Mode::Alnum, 61, Level::M, 3, 2, 9575372318225765699),
+    (Mode::Bytes, 32, Level::Q, 3, 2, 5872944132391729915),
     (Mode::Digits, 58, Level::H, 3, 4, 1089666235147253452),
+    (Mode::Digits, 187, Level::L, 4, 4, 9898622200787118774),
     (Mode::Bytes, 62, Level::M, 4, 2, 10621477148810131946),
-    (Mode::Alnum, 87, Level::Q, 5, 0, 5813238348046485764),
+    (Mode::Alnum, 67, Level::Q, 4, 4, 9905016592498883290),
+    (Mode::Bytes, 34, Level::H, 4, 3, 9557381100977690803),
     (Mode::Bytes, 106, Level::L, 5, 2, 14081563637946888618),
+    (Mode::Digits, 202, Level::M, 5, 7, 9895459262321595642),
+    (Mode::Alnum, 87, Level::Q, 5, 0, 5813238348046485764),
+    (Mode::Alnum, 64, Level::H, 5, 1, 7575754623938467783),
+    (Mode::Bytes, 134, Level::L, 6, 7, 1143989564852677055),
+    (Mode::Digits, 255, Level::M, 6, 4, 6999614135335378645),
+    (Mode::Alnum, 108, Level::Q, 6, 2, 5999592770790511805),
     (Mode::Digits, 139, Level::H, 6, 2, 12986685033864707472),
+    (Mode::Bytes, 154, Level::L, 7, 7, 7466712694949902229),
     (Mode::Alnum, 178, Level::M, 7, 0, 1110297228461666887),
+    (Mode::Digits, 207, Level::Q, 7, 6, 796791183924704889),
+    (Mode::Alnum, 93, Level::H, 7, 5, 2912025350202500333),
     (Mode::Bytes, 192, Level::L, 8, 7, 13120313123889634396),
+    (Mode::Bytes, 152, Level::M, 8, 2, 16322943985155479770),
+    (Mode::Digits, 259, Level::Q, 8, 6, 7129584391053860064),
+    (Mode::Alnum, 122, Level::H, 8, 0, 15739984026859876932),
+    (Mode::Bytes, 230, Level::L, 9, 1, 15711501660168692158),
+    (Mode::Digits, 432, Level::M, 9, 6, 12734168214769407116),
     (Mode::Digits, 312, Level::Q, 9, 0, 1200604923597109206),
     (Mode::Alnum, 143, Level::H, 9, 4, 8935368610759116994),
     (Mode::Bytes, 271, Level::L, 10, 3, 8391701922847712325),
     (Mode::Digits, 652, Level::L, 10, 6, 718976473595783743),
-    (Mode::Alnum, 174, Level::H, 10, 3, 13227549535668860470),
-    (Mode::Bytes, 150, Level::Q, 10, 7, 323455786406555968),
     (Mode::Digits, 513, Level::M, 10, 4, 7959983387593902926),
-    (Mode::Alnum, 4, Level::H, 1, 5, 11681583600701038955),
-    (Mode::Digits, 7, Level::H, 1, 1, 8048749137363741816),
+    (Mode::Bytes, 150, Level::Q, 10, 7, 323455786406555968),
+    (Mode::Alnum, 174, Level::H, 10, 3, 13227549535668860470),
 ];
 
 #[test]

@@ -296,6 +296,17 @@ fn calls(
     listed(alloc, (language, form), listing.bytes, most, (NEVER, NEVER)).calls(fault)
 }
 
+/// How often at least a listing reads up to its end or its fault, or else writes, with at most `most` bytes a
+/// call.
+fn fewest(listing: &Listing, form: Form, most: usize, fault: RunFault) -> usize {
+    let bytes = match (fault, listing.answer) {
+        (RunFault::Read, Err(RunFault::Print { after, .. })) => after as usize,
+        (RunFault::Read, _) => listing.bytes.len(),
+        _ => listing.text(form).len(),
+    };
+    bytes.div_ceil(most.max(1))
+}
+
 /// Each read, or each write, of at most `most` bytes fails.
 fn fail_each(
     rt: &impl Abort,
@@ -306,6 +317,8 @@ fn fail_each(
     fault: RunFault,
 ) {
     let calls = calls(alloc, listing, (language, form), most, fault);
+    let are_all = calls >= fewest(listing, form, most, fault);
+    same_at(rt, "calls", calls, &are_all, &true);
     for call in 1..calls.saturating_add(1) {
         fail_at(rt, alloc, listing, (language, form), most, (fault, call));
     }

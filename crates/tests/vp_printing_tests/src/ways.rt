@@ -279,6 +279,14 @@ fn calls(
     })
 }
 
+/// How often at least a session reads, or else writes, with at most `most` bytes a call.
+fn fewest(case: &Case, most: usize, fault: RunFault) -> usize {
+    match fault {
+        RunFault::Read => taken(case).div_ceil(most.max(1)).max(1),
+        _ => case.paper.len().div_ceil(most.max(1)),
+    }
+}
+
 /// Each read, or each write, of at most `most` bytes fails once.
 fn fail_each(
     rt: &impl Abort,
@@ -290,6 +298,8 @@ fn fail_each(
 ) -> Result<(), Fail> {
     let calm = answer(case, case.bytes.len(), case.paper.len(), case.fault);
     let calls = calls(alloc, image, case, most, fault)?;
+    let are_all = calls >= fewest(case, most, fault);
+    same_at(rt, case.name, calls, &are_all, &true);
     for call in 1..calls.saturating_add(1) {
         fail_at(rt, alloc, image, case, most, (fault, call), calm)?;
     }

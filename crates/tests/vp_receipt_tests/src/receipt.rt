@@ -33,13 +33,11 @@ fn stairs(alloc: Global) -> Result<Sheets, Fail> {
             bytes.push(byte)?;
         }
     }
-    match Sheet::read(alloc, bytes.as_slice(), 12, 24) {
-        Ok(sheet) => Ok(Sheets {
-            a: Some(sheet),
-            b: None,
-        }),
-        Err(_) => Ok(Sheets { a: None, b: None }),
-    }
+    let a = Sheet::read(alloc, bytes.as_slice(), 12, 24)?;
+    Ok(Sheets {
+        a: Some(a),
+        b: None,
+    })
 }
 
 /// A receipt on which nothing is printed yet.
@@ -52,9 +50,22 @@ fn printed(alloc: Global, width: Width, parts: &[&[u8]], room: usize) -> Result<
     let mut receipt = new_receipt(alloc, width)?;
     let mut paper = Vec::new(alloc);
     for part in parts {
-        let _ = print_on(&mut receipt, part, room, &mut paper)?;
+        print_whole(&mut receipt, part, room, &mut paper)?;
     }
     Ok(paper)
+}
+
+/// Goes on with whole commands, none of which is refused, putting out `room` bytes at a time.
+fn print_whole(
+    receipt: &mut Receipt,
+    sent: &[u8],
+    room: usize,
+    paper: &mut Vec<u8>,
+) -> Result<(), Fail> {
+    match print_on(receipt, sent, room, paper)? {
+        Some(fault) => Err(fault.into()),
+        None => Ok(()),
+    }
 }
 
 /// Goes on with whole commands, putting out `room` bytes at a time, and answers the first fault.

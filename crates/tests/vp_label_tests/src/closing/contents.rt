@@ -1,8 +1,8 @@
 //! What a field shows: boxes, pictures, QR symbols, or nothing.
-use super::{closes, last};
+use super::{closed, closes, last};
 use crate::checks::same;
 use std::test::Fail;
-use vp_dots::Op;
+use vp_dots::{Fault, Op};
 use vp_format::{Coding, Content, GraphicBox, Picture, QrSymbol, Span};
 use vp_qr::{Level, Mode};
 
@@ -24,16 +24,16 @@ static PICTURES: [(&[u8], Coding, u16, u32, u32); 4] = [
     (b"^XA^GFB,3,3,1,abc^FS", Coding::Binary, 1, 3, 3),
 ];
 
-/// Streams that close no field.
-static NO_FIELDS: [&[u8]; 8] = [
-    b"^XA^FO1,1^FR^FS",
-    b"^XA^GFB,2,3,1,ab^FS",
-    b"^XA^GFB,,3,1,^FS",
-    b"^XA^GFC,3,3,1,FFF^FS",
-    b"^XA^GFA,3,3,4,FFF^FS",
-    b"^XA^GFA,3,3,0,FFF^FS",
-    b"^XA^GFA,3,2000,1025,FFF^FS",
-    b"^XA^GFA,3,3,FFF^FS",
+/// Streams that close no field, and why the head of a picture in them is refused.
+static NO_FIELDS: [(&[u8], Option<Fault>); 8] = [
+    (b"^XA^FO1,1^FR^FS", None),
+    (b"^XA^GFB,2,3,1,ab^FS", Some(Fault::Graphic)),
+    (b"^XA^GFB,,3,1,^FS", Some(Fault::Graphic)),
+    (b"^XA^GFC,3,3,1,FFF^FS", Some(Fault::Graphic)),
+    (b"^XA^GFA,3,3,4,FFF^FS", Some(Fault::Graphic)),
+    (b"^XA^GFA,3,3,0,FFF^FS", Some(Fault::Graphic)),
+    (b"^XA^GFA,3,2000,1025,FFF^FS", Some(Fault::Graphic)),
+    (b"^XA^GFA,3,3,FFF^FS", Some(Fault::Graphic)),
 ];
 
 /// Streams that close a QR symbol of eleven bytes behind three, and the dots of its modules.
@@ -88,8 +88,9 @@ fn contents(rt: HostRuntime) -> Result<(), Fail> {
         let want = picture(*coding, *row_bytes, *rows, *length);
         closes(&rt, rt.alloc(), *stream, want)?;
     }
-    for stream in &NO_FIELDS {
-        closes(&rt, rt.alloc(), *stream, None)?;
+    for (stream, fault) in &NO_FIELDS {
+        let (count, _, refused) = closed(rt.alloc(), stream)?;
+        same(&rt, &(count, refused), &(0, *fault));
     }
     for (stream, module) in &QR_SYMBOLS {
         closes(&rt, rt.alloc(), *stream, qr(*module))?;

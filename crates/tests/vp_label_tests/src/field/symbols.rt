@@ -78,6 +78,31 @@ static DOWN: Rows = &[
     (4, [0x80, 0, 0, 0, 0, 0]),
 ];
 
+/// A symbol of 21 modules, each of one dot.
+static HELLO_WORLD: Rows = &[
+    (1, [0xfe, 0x2b, 0xf8, 0, 0, 0]),
+    (1, [0x82, 0xe2, 0x08, 0, 0, 0]),
+    (1, [0xba, 0x2a, 0xe8, 0, 0, 0]),
+    (1, [0xba, 0x2a, 0xe8, 0, 0, 0]),
+    (1, [0xba, 0xba, 0xe8, 0, 0, 0]),
+    (1, [0x82, 0x72, 0x08, 0, 0, 0]),
+    (1, [0xfe, 0xab, 0xf8, 0, 0, 0]),
+    (1, [0x00, 0x00, 0x00, 0, 0, 0]),
+    (1, [0xaa, 0x48, 0x90, 0, 0, 0]),
+    (1, [0x78, 0x90, 0x88, 0, 0, 0]),
+    (1, [0x1f, 0xd2, 0xc0, 0, 0, 0]),
+    (1, [0xf5, 0x9d, 0x70, 0, 0, 0]),
+    (1, [0x4f, 0x53, 0xa8, 0, 0, 0]),
+    (1, [0x00, 0xa2, 0x28, 0, 0, 0]),
+    (1, [0xfe, 0x09, 0x60, 0, 0, 0]),
+    (1, [0x82, 0x63, 0x40, 0, 0, 0]),
+    (1, [0xba, 0xcb, 0xf8, 0, 0, 0]),
+    (1, [0xba, 0x35, 0x10, 0, 0, 0]),
+    (1, [0xba, 0xf7, 0x48, 0, 0, 0]),
+    (1, [0x82, 0x1c, 0x58, 0, 0, 0]),
+    (1, [0xfe, 0xd7, 0x08, 0, 0, 0]),
+];
+
 /// The first band of a label of `width` dots and `height` rows, with `field`.
 fn painted(
     alloc: Global,
@@ -118,10 +143,8 @@ fn qr(rt: HostRuntime) -> Result<(), Fail> {
         Ok(field) => {
             let size = content_size(&NONE, b"HELLO WORLD", &field.content);
             same(&rt, &size, &(21, 21));
-            let rows = painted(rt.alloc(), 40, 40, b"HELLO WORLD", &field)?.rows();
-            let found = [rows[0][0], rows[0][2], rows[6][0], rows[20][0]];
-            same(&rt, &found, &[0xfe, 0xf8, 0xfe, 0xfe]);
-            same(&rt, &rows[21], &[0; 6]);
+            let painter = painted(rt.alloc(), 40, 40, b"HELLO WORLD", &field)?;
+            shows(&rt, painter, "a symbol", HELLO_WORLD);
         }
         Err(fault) => same(&rt, &Some(fault), &None),
     }

@@ -161,7 +161,7 @@ fn after_gs(rt: HostRuntime) -> Result<(), Fail> {
     right(&rt, rt.alloc(), &AFTER_GS)
 }
 
-static QR: [Row; 15] = [
+static QR: [Row; 16] = [
     (
         b"\x1D\x28\x6B\x04\x00\x31\x41\x31\x00",
         b"gs 28 6b 04 00 31 41 31 00\n",
@@ -185,6 +185,10 @@ static QR: [Row; 15] = [
     (
         b"\x1D\x28\x6B\x05\x00\x31\x50\x30\x48\x49\x0A",
         b"gs 28 6b 05 00 31 50 30\nbyte 48\nbyte 49\nLF\n",
+    ),
+    (
+        b"\x1D\x28\x6B\x04\x00\x31\x50\x30\x48\x0A",
+        b"gs 28 6b 04 00 31 50 30\nbyte 48\nLF\n",
     ),
     (b"\x1D\x28\x6B\x00\x00\x0A", b"gs 28 6b 00 00\nLF\n"),
     (b"\x1D\x28\x6B\x01\x00\x31\x0A", b"gs 28 6b 01 00 31\nLF\n"),

@@ -1,6 +1,6 @@
 //! Rasters on a page, in runs of bytes and byte by byte: what they print is painted dot by dot.
 use super::plain::{Dots, Ground, cut, image};
-use super::{Strip, new_receipt, print_on, put_all, wanted};
+use super::{Strip, new_receipt, print_whole, wanted};
 use crate::checks::all_hold;
 use std::alloc::{AllocError, Global};
 use std::test::Fail;
@@ -32,11 +32,10 @@ fn print_in_runs(
     bytes: &[u8],
     run: usize,
     paper: &mut Vec<u8>,
-) -> Result<(), AllocError> {
-    let _ = print_on(receipt, head, 4096, paper)?;
+) -> Result<(), Fail> {
+    print_whole(receipt, head, 4096, paper)?;
     take_in_runs(receipt, bytes, run);
-    let _ = print_on(receipt, b"\x0C", 4096, paper)?;
-    put_all(receipt, 4096, paper)
+    print_whole(receipt, b"\x0C", 4096, paper)
 }
 
 /// What a page that begins with `head` prints, with a raster's bytes in runs of at most `run` behind it.

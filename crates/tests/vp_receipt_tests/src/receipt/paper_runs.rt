@@ -1,7 +1,7 @@
 //! Rasters on paper, in runs of bytes and byte by byte: what they print is painted dot by dot.
 use super::page_runs::{push_words, some_bytes};
 use super::plain::{Dots, Ground, image};
-use super::{new_receipt, print_on, put_all};
+use super::{new_receipt, print_whole, put_all};
 use crate::checks::all_hold;
 use std::alloc::{AllocError, Global};
 use std::test::Fail;
@@ -48,7 +48,7 @@ fn paper_in_runs(
 ) -> Result<Vec<u8>, Fail> {
     let mut receipt = new_receipt(alloc, width)?;
     let mut paper = Vec::new(alloc);
-    let _ = print_on(&mut receipt, head, 4096, &mut paper)?;
+    print_whole(&mut receipt, head, 4096, &mut paper)?;
     take_in_runs(&mut receipt, bytes, run, room, &mut paper)?;
     Ok(paper)
 }

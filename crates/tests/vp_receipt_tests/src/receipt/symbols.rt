@@ -1,6 +1,5 @@
 //! Symbols on paper, and those that are refused.
-use super::{Case, M, Strip, new_receipt, print_on, printed, right};
-use crate::checks::same;
+use super::{Case, M, Strip, new_receipt, print_on, right};
 use std::alloc::{AllocError, Global};
 use std::process::Abort;
 use std::test::Fail;
@@ -33,19 +32,40 @@ fn all_are_refused(rt: &impl Abort, alloc: Global, cases: &[Refusal]) -> Result<
     Ok(())
 }
 
-/// The header and the first row of a symbol of 21 modules, each of one dot.
-static FIRST_ROW: &[u8] = b"P4\n576 21\n\xFE\x2B\xF8\
-    \0\0\0\0\0\0\0\0\0\0\0\0\0\0\0\0\0\0\0\0\0\0\0\0\0\0\0\0\0\0\0\0\0\0\
-    \0\0\0\0\0\0\0\0\0\0\0\0\0\0\0\0\0\0\0\0\0\0\0\0\0\0\0\0\0\0\0\0\0\0\0";
+/// A symbol of 21 modules, each of one dot.
+static QR: [Case; 1] = [(
+    b"\x1D(k\x03\x001E1\x1D(k\x03\x001C\x01\x1D(k\x0E\x001P0HELLO WORLD\x1D(k\x03\x001Q0",
+    &[Strip {
+        head: b"P4\n576 21\n",
+        rows: &[
+            (1, b"\xFE+\xF8"),
+            (1, b"\x82\xE2\x08"),
+            (1, b"\xBA*\xE8"),
+            (1, b"\xBA*\xE8"),
+            (1, b"\xBA\xBA\xE8"),
+            (1, b"\x82r\x08"),
+            (1, b"\xFE\xAB\xF8"),
+            (1, b"\x00\x00\x00"),
+            (1, b"\xAAH\x90"),
+            (1, b"x\x90\x88"),
+            (1, b"\x1F\xD2\xC0"),
+            (1, b"\xF5\x9Dp"),
+            (1, b"OS\xA8"),
+            (1, b"\x00\xA2("),
+            (1, b"\xFE\x09`"),
+            (1, b"\x82c@"),
+            (1, b"\xBA\xCB\xF8"),
+            (1, b"\xBA5\x10"),
+            (1, b"\xBA\xF7H"),
+            (1, b"\x82\x1CX"),
+            (1, b"\xFE\xD7\x08"),
+        ],
+    }],
+)];
 
 #[test]
 fn qr_symbols(rt: HostRuntime) -> Result<(), Fail> {
-    let sent =
-        b"\x1D(k\x03\x001E1\x1D(k\x03\x001C\x01\x1D(k\x0E\x001P0HELLO WORLD\x1D(k\x03\x001Q0";
-    let paper = printed(rt.alloc(), Width::W576, &[sent], 4096)?;
-    let begins = paper.as_slice().starts_with(FIRST_ROW);
-    same(&rt, &(paper.len(), begins), &(10 + 21 * 72, true));
-    Ok(())
+    right(&rt, rt.alloc(), Width::W576, &QR)
 }
 
 static REFUSED_QR: [Refusal; 2] = [

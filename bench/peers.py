@@ -1,0 +1,54 @@
+#!/usr/bin/env python3
+"""Writes the same data twice, for bench/peers.sh: a text a line for outside programs, and a receipt of a symbol of each
+text: peers.py KIND NUMBER TEXTS RECEIPT, a KIND of KINDS. The same words give the same bytes."""
+import random
+import sys
+
+CHOICE = random.Random(1)
+SMALL = "abcdefghijklmnopqrstuvwxyz0123456789:/."
+
+
+def letters(least, most):
+    return "".join(CHOICE.choices(SMALL, k=CHOICE.randrange(least, most))).encode()
+
+
+def digits(number):
+    return "".join(CHOICE.choices("0123456789", k=number)).encode()
+
+
+def qr(data):
+    """A QR symbol of level M, in modules of a dot."""
+    return b"\x1d(k" + (len(data) + 3).to_bytes(2, "little") + b"1P0" + data + b"\x1d(k\x03\x001Q0"
+
+
+def code128(data):
+    return b"\x1dkI" + bytes([len(data) + 2]) + b"{B" + data
+
+
+def ean13(data):
+    return b"\x1dk\x02" + data + b"\0"
+
+
+# What comes first: modules of two dots, a hundred rows or one.
+HIGH, LOW = b"\x1dw\x02\x1dh\x64", b"\x1dw\x02\x1dh\x01"
+# Its data, what comes first, and its symbol.
+KINDS = {
+    "qr": (lambda: letters(1, 210), b"\x1d(k\x03\x001E1\x1d(k\x03\x001C\x01", qr),
+    "code128": (lambda: letters(6, 20), HIGH, code128),
+    "code128-row": (lambda: letters(6, 20), LOW, code128),
+    "ean13": (lambda: digits(12), HIGH, ean13),
+    "ean13-row": (lambda: digits(12), LOW, ean13),
+}
+
+
+def main(kind, number, texts, receipt):
+    data, first, symbol = KINDS[kind]
+    found = [data() for _ in range(int(number))]
+    with open(texts, "wb") as it:
+        it.write(b"".join(text + b"\n" for text in found))
+    with open(receipt, "wb") as it:
+        it.write(first + b"".join(map(symbol, found)))
+
+
+if __name__ == "__main__":
+    main(*sys.argv[1:])
