@@ -155,3 +155,16 @@ lines_few n cells p = (upto_broken (length cells) n cells p (omega arith)).few
 
 pub lines_whole : (n : ℕ) (cells : List ℕ) → 0 < n → StandIn cells (lines n cells)
 lines_whole n cells p = (upto_broken (length cells) n cells p (omega arith)).whole
+
+-- at most n cells stand in a line of a text
+pub block_few : (n : ℕ) (text : List ℕ) → 0 < n → All (λ line. length line ≤ n) (block_lines n text)
+unfolding block_lines
+block_few n text p = all_few (first (pieces text) ∷ others (pieces text))
+  where
+    all_join : (xs ys : List (List ℕ)) → All (λ line. length line ≤ n) xs → All (λ line. length line ≤ n) ys → All (λ line. length line ≤ n) (xs ++ ys)
+    all_join [] ys f g = g
+    all_join (x ∷ xs) ys f g = all_cons (λ line. length line ≤ n) x (xs ++ ys) (f 0 [] (omega arith)) (all_join xs ys (λ k d l. f (suc k) d (omega arith)) g)
+
+    all_few : (all : List (List ℕ)) → All (λ line. length line ≤ n) (flat_map (lines n) all)
+    all_few [] = All-nil (λ line. length line ≤ n)
+    all_few (cells ∷ rest) = all_join (lines n cells) (flat_map (lines n) rest) (lines_few n cells p) (all_few rest)

@@ -7,17 +7,17 @@ use Rattle.vp_dots.specs.Dots.{dot, shifted, span}
 use Rattle.vp_dots.specs.Words.{word_dot}
 use Rattle.vp_dots.specs.Painting.{paint, Painted}
 use Rattle.vp_dots.specs.declared.Op.TheVariants.{Black}
-use Rattle.vp_dots.proofs.Shifts.{shifted_none, shifted_same}
+use Rattle.vp_dots.proofs.Shifts.{shifted_none}
 use Rattle.vp_dots.proofs.Words.{word_row}
 use Rattle.vp_glyph.specs.Sheets.{Glyphs}
 use Rattle.vp_glyph.specs.Texts.{sampled_dot, text_dot}
-use Rattle.vp_glyph.specs.Blocks.{indent, line_dot, lines_dot, block_lines, block_height, block_dot}
+use Rattle.vp_glyph.specs.Blocks.{lines_dot, block_lines, block_height, block_dot}
 use Rattle.vp_glyph.proofs.Layouts.{layout}
 use Rattle.vp_glyph.specs.declared.block.Alignment.{Alignment}
 use Rattle.vp_glyph.proofs.Looks.{or_dot, white_dot}
 use Rattle.vp_glyph.proofs.Overlaid.{Overlaid, overlaid_none, overlaid_all, zero_at, zero_dots}
 use Rattle.vp_glyph.proofs.Spread.{quotient, edge_at, from_edge, before_edge, edge_first, edge_more, edge_last, edge_within}
-use Rattle.vp_glyph.proofs.Stacks.{lines_left, line_above, block_narrow}
+use Rattle.vp_glyph.proofs.Stacks.{lines_left, block_narrow}
 
 -- lines that show the same row of the sheet
 pub text_alike : (sheet : Option Glyphs) (cells : List ℕ) (w h y z : ℕ) → y < h → z < h → y * 24 / h ≡ z * 24 / h → (x : ℕ) → text_dot sheet cells w h x y ≡ text_dot sheet cells w h x z
@@ -44,90 +44,117 @@ and_false : (b : Bool) → (b && false) ≡ false
 and_false true = refl
 and_false false = refl
 
-module _ (sheet : Option Glyphs) (w h a b s : ℕ) (d : Alignment) (place : ℕ) (line : List ℕ) where
-  -- a line that begins below the row
-  line_below : (x y : ℕ) → y < place * s → line_dot (layout sheet w h a b s d) place line x y ≡ false
-  line_below x y l =
-      let left : ℕ = indent d (a - w * length line) in
-      ap (λ t. leb left x && t && text_dot sheet line w h (x - left) (y - place * s)) (lt-leb (place * s) y l)
-      ∙ ap (λ t. t && text_dot sheet line w h (x - left) (y - place * s)) (and_false (leb left x))
+-- rows of the sheet, drawn h rows high in all from row `above` on
+-- dot x of row y
+abbrev pub shown : List ℕ → ℕ → ℕ → ℕ → ℕ → Bool
+shown rows above h y x = leb above y && ltb (y - above) h && word_dot (get_or rows ((y - above) * 24 / h) 0) x
 
-  -- rows of it that show the same row of the sheet
-  line_alike : (r y z x : ℕ) → r < 24 → place * s + edge_at 24 h r ≤ y → y < place * s + edge_at 24 h (r + 1) → place * s + edge_at 24 h r ≤ z → z < place * s + edge_at 24 h (r + 1)
-      → line_dot (layout sheet w h a b s d) place line x y ≡ line_dot (layout sheet w h a b s d) place line x z
-  line_alike r y z x k l m n o =
-      let left : ℕ = indent d (a - w * length line) in
-      let p = row_shown h r (y - place * s) k (omega arith) (omega arith) in
-      let q = row_shown h r (z - place * s) k (omega arith) (omega arith) in
-      ap (λ t. leb left x && t && text_dot sheet line w h (x - left) (y - place * s)) (le-leb (place * s) y (omega arith))
-      ∙ ap (λ t. leb left x && true && t) (text_alike sheet line w h (y - place * s) (z - place * s) p.0 q.0 (p.1 ∙ sym q.1) (x - left))
-      ∙ ap (λ t. leb left x && t && text_dot sheet line w h (x - left) (z - place * s)) (sym (le-leb (place * s) z (omega arith)))
+module _ (rows : List ℕ) (above h n top : ℕ) where
+  -- the rows before r are added to the fronts
+  abbrev pub Added : ℕ → List ℕ → List ℕ → Type 0
+  Added r old new = (i x : ℕ) → i < n → x < 64 → word_dot (get_or new i 0) x ≡ (word_dot (get_or old i 0) x || ltb (top + i) (above + edge_at 24 h r) && shown rows above h (top + i) x)
 
-  module _ (at : ℤ) (n top : ℕ) where
-    -- the front of a row of it
-    abbrev pub front : ℕ → ℕ → Bool
-    front y x = shifted at (λ x. line_dot (layout sheet w h a b s d) place line x y) x
+  shown_above : (y x : ℕ) → y < above → shown rows above h y x ≡ false
+  shown_above y x l = rw (lt-leb above y l) refl
 
-    -- the rows that show the rows before r of the sheet are added to the fronts
-    abbrev pub Added : ℕ → List ℕ → List ℕ → Type 0
-    Added r old new = (i x : ℕ) → i < n → x < 64 → word_dot (get_or new i 0) x ≡ (word_dot (get_or old i 0) x || ltb (top + i) (place * s + edge_at 24 h r) && front (top + i) x)
+  shown_below : (y x : ℕ) → above + h ≤ y → shown rows above h y x ≡ false
+  shown_below y x l = rw (le-ltb (y - above) h (omega arith)) (ap (λ t. t && word_dot (get_or rows ((y - above) * 24 / h) 0) x) (and_false (leb above y)))
 
-    pub added_none : (old : List ℕ) → Added 0 old old
-    added_none old i x l m =
-        let e = edge_first 24 h (omega arith) in
-        let none : (ltb (top + i) (place * s + edge_at 24 h 0) && front (top + i) x) ≡ false = elim (cases_lt (top + i) (place * s)) [
-          | inl k ↦ ap (λ t. ltb (top + i) (place * s + edge_at 24 h 0) && t) (shifted_none at (λ x. line_dot (layout sheet w h a b s d) place line x (top + i)) x (λ u. line_below u (top + i) k)) ∙ and_false _
-          | inr g ↦ rw (le-ltb (top + i) (place * s + edge_at 24 h 0) (omega arith)) refl
-        ] in
-        or_false _ ∙ ap (λ t. word_dot (get_or old i 0) x || t) (sym none)
+  -- a row on which row r is shown
+  shown_row : (r y x : ℕ) → r < 24 → above + edge_at 24 h r ≤ y → y < above + edge_at 24 h (r + 1) → shown rows above h y x ≡ word_dot (get_or rows r 0) x
+  shown_row r y x k l m =
+      let p = row_shown h r (y - above) k (omega arith) (omega arith) in
+      rw (le-leb above y (omega arith), lt-ltb (y - above) h p.0, p.1) refl
 
-    module _ (r from to : ℕ) (old mid : List ℕ) (k : r < 24) (e : from ≡ min (place * s + edge_at 24 h r - top) n) (f : to ≡ min (place * s + edge_at 24 h (r + 1) - top) n) (o : Added r old mid) where
-      -- no row shows row r
-      unchanged : (i : ℕ) → i < n → span from to i ≡ false → ltb (top + i) (place * s + edge_at 24 h r) ≡ ltb (top + i) (place * s + edge_at 24 h (r + 1))
-      unchanged i l g =
-          let more = edge_more 24 h r (omega arith) in
-          elim (cases_lt (top + i) (place * s + edge_at 24 h r)) [
-            | inl p ↦ rw (lt-ltb (top + i) (place * s + edge_at 24 h r) p, lt-ltb (top + i) (place * s + edge_at 24 h (r + 1)) (omega arith)) refl
-            | inr p ↦ elim (cases_lt (top + i) (place * s + edge_at 24 h (r + 1))) [
-              | inl q ↦ absurd (let t : span from to i ≡ true = rw (le-leb from i (omega arith), lt-ltb i to (omega arith)) refl in cc)
-              | inr q ↦ rw (le-ltb (top + i) (place * s + edge_at 24 h r) p, le-ltb (top + i) (place * s + edge_at 24 h (r + 1)) q) refl
-            ]
+  pub added_none : (old : List ℕ) → Added 0 old old
+  added_none old i x l m =
+      let e = edge_first 24 h (omega arith) in
+      let none : (ltb (top + i) (above + edge_at 24 h 0) && shown rows above h (top + i) x) ≡ false = elim (cases_lt (top + i) above) [
+        | inl k ↦ ap (λ t. ltb (top + i) (above + edge_at 24 h 0) && t) (shown_above (top + i) x k) ∙ and_false _
+        | inr g ↦ rw (le-ltb (top + i) (above + edge_at 24 h 0) (omega arith)) refl
+      ] in
+      or_false _ ∙ ap (λ t. word_dot (get_or old i 0) x || t) (sym none)
+
+  module _ (r : ℕ) (old mid : List ℕ) (k : r < 24) (o : Added r old mid) where
+    -- where row r isn't shown
+    unchanged : (i : ℕ) → (above + edge_at 24 h r ≤ top + i → top + i < above + edge_at 24 h (r + 1) → ⊥) → ltb (top + i) (above + edge_at 24 h r) ≡ ltb (top + i) (above + edge_at 24 h (r + 1))
+    unchanged i g =
+        let more = edge_more 24 h r (omega arith) in
+        elim (cases_lt (top + i) (above + edge_at 24 h r)) [
+          | inl p ↦ rw (lt-ltb (top + i) (above + edge_at 24 h r) p, lt-ltb (top + i) (above + edge_at 24 h (r + 1)) (omega arith)) refl
+          | inr p ↦ elim (cases_lt (top + i) (above + edge_at 24 h (r + 1))) [
+            | inl q ↦ absurd (g p q)
+            | inr q ↦ rw (le-ltb (top + i) (above + edge_at 24 h r) p, le-ltb (top + i) (above + edge_at 24 h (r + 1)) q) refl
           ]
-
-      pub added_same : to ≤ from → Added (r + 1) old mid
-      added_same g i x l m = o i x l m
-          ∙ ap (λ t. word_dot (get_or old i 0) x || t && front (top + i) x)
-          (unchanged i l (elim (cases_lt i from) [ inl p ↦ rw (lt-leb from i p) refl | inr p ↦ rw (le-leb from i p, le-ltb i to (omega arith)) refl ]))
-
-      -- some do
-      pub added_more : (ink : ℕ) (new : List ℕ) → from < to → ((x : ℕ) → x < 64 → word_dot ink x ≡ front (top + from) x)
-          → ((i x : ℕ) → from ≤ i → i < to → word_dot (get_or new i 0) x ≡ (word_dot (get_or mid i 0) x || word_dot ink x))
-          → ((i : ℕ) → span from to i ≡ false → get_or new i 0 ≡ get_or mid i 0) → Added (r + 1) old new
-      added_more ink new g p q u i x l m = elim (cases_lt i from) [
-        | inl y ↦ outside (rw (lt-leb from i y) refl)
-        | inr y ↦ elim (cases_lt i to) [
-          | inl z ↦
-              q i x y z ∙ ap (λ t. t || word_dot ink x) (o i x l m ∙ ap (λ t. word_dot (get_or old i 0) x || t && front (top + i) x) (le-ltb (top + i) (place * s + edge_at 24 h r) (omega arith)) ∙ sym (or_false _))
-              ∙ ap (λ t. word_dot (get_or old i 0) x || t) (p x m ∙ shifted_same at (λ x. line_dot (layout sheet w h a b s d) place line x (top + from)) (λ x. line_dot (layout sheet w h a b s d) place line x (top + i)) x
-              (λ v _. line_alike r (top + from) (top + i) v k (omega arith) (omega arith) (omega arith) (omega arith)))
-              ∙ ap (λ t. word_dot (get_or old i 0) x || t && front (top + i) x) (sym (lt-ltb (top + i) (place * s + edge_at 24 h (r + 1)) (omega arith)))
-          | inr z ↦ outside (rw (le-leb from i y, le-ltb i to z) refl)
         ]
-      ]
-        where
-          outside : span from to i ≡ false → word_dot (get_or new i 0) x ≡ (word_dot (get_or old i 0) x || ltb (top + i) (place * s + edge_at 24 h (r + 1)) && front (top + i) x)
-          outside v = ap (λ c. word_dot c x) (u i v) ∙ o i x l m ∙ ap (λ t. word_dot (get_or old i 0) x || t && front (top + i) x) (unchanged i l v)
 
-    -- all rows
-    pub added_all : (r : ℕ) (old new : List ℕ) → r ≡ 24 → Added r old new → (i x : ℕ) → i < n → x < 64 → word_dot (get_or new i 0) x ≡ (word_dot (get_or old i 0) x || front (top + i) x)
-    added_all r old new z o i x l m =
-        let e = edge_last 24 h (omega arith) in
-        o i x l m ∙ ap (λ t. word_dot (get_or old i 0) x || t) (elim (cases_lt (top + i) (place * s + edge_at 24 h r)) [
-          | inl k ↦ rw (lt-ltb (top + i) (place * s + edge_at 24 h r) k) refl
-          | inr g ↦
-              let none : front (top + i) x ≡ false = shifted_none at (λ x. line_dot (layout sheet w h a b s d) place line x (top + i)) x (λ u. line_above sheet w h a b s d u (top + i) place line (let f = ap (edge_at 24 h) z in omega (arith, f))) in
-              rw none (and_false _)
-        ])
+    same : (i x : ℕ) → i < n → x < 64 → (above + edge_at 24 h r ≤ top + i → top + i < above + edge_at 24 h (r + 1) → ⊥)
+        → word_dot (get_or mid i 0) x ≡ (word_dot (get_or old i 0) x || ltb (top + i) (above + edge_at 24 h (r + 1)) && shown rows above h (top + i) x)
+    same i x l m g = o i x l m ∙ ap (λ t. word_dot (get_or old i 0) x || t && shown rows above h (top + i) x) (unchanged i g)
+
+    -- on one that shows it
+    within : (i x : ℕ) → i < n → x < 64 → above + edge_at 24 h r ≤ top + i → top + i < above + edge_at 24 h (r + 1)
+        → (word_dot (get_or mid i 0) x || word_dot (get_or rows r 0) x) ≡ (word_dot (get_or old i 0) x || ltb (top + i) (above + edge_at 24 h (r + 1)) && shown rows above h (top + i) x)
+    within i x l m y z =
+        ap (λ t. t || word_dot (get_or rows r 0) x) (o i x l m ∙ ap (λ t. word_dot (get_or old i 0) x || t && shown rows above h (top + i) x) (le-ltb (top + i) (above + edge_at 24 h r) y) ∙ sym (or_false _))
+        ∙ ap (λ t. word_dot (get_or old i 0) x || t) (sym (shown_row r (top + i) x k y z))
+        ∙ ap (λ t. word_dot (get_or old i 0) x || t && shown rows above h (top + i) x) (sym (lt-ltb (top + i) (above + edge_at 24 h (r + 1)) z))
+
+    -- a white row
+    pub added_white : get_or rows r 0 ≡ 0 → Added (r + 1) old mid
+    added_white e i x l m = elim (cases_lt (top + i) (above + edge_at 24 h r)) [
+      | inl y ↦ same i x l m (λ p q. absurd (omega arith))
+      | inr y ↦ elim (cases_lt (top + i) (above + edge_at 24 h (r + 1))) [
+        | inl z ↦ or_false _ ∙ ap (λ t. word_dot (get_or mid i 0) x || t) (sym (ap (λ v. word_dot v x) e ∙ white_dot x)) ∙ within i x l m y z
+        | inr z ↦ same i x l m (λ p q. absurd (omega arith))
+      ]
+    ]
+
+    -- another one
+    pub added_more : (from to : ℕ) (new : List ℕ) → from ≡ min (above + edge_at 24 h r - top) n → to ≡ min (above + edge_at 24 h (r + 1) - top) n
+        → ((i x : ℕ) → from ≤ i → i < to → word_dot (get_or new i 0) x ≡ (word_dot (get_or mid i 0) x || word_dot (get_or rows r 0) x))
+        → ((i : ℕ) → span from to i ≡ false → get_or new i 0 ≡ get_or mid i 0) → Added (r + 1) old new
+    added_more from to new e f q u i x l m = elim (cases_lt i from) [
+      | inl y ↦ ap (λ c. word_dot c x) (u i (rw (lt-leb from i y) refl)) ∙ same i x l m (λ p v. absurd (omega arith))
+      | inr y ↦ elim (cases_lt i to) [
+        | inl z ↦ q i x y z ∙ within i x l m (omega arith) (omega arith)
+        | inr z ↦ ap (λ c. word_dot c x) (u i (rw (le-leb from i y, le-ltb i to z) refl)) ∙ same i x l m (λ p v. absurd (omega arith))
+      ]
+    ]
+
+  -- all rows
+  pub added_all : (r : ℕ) (old new : List ℕ) → r ≡ 24 → Added r old new → (i x : ℕ) → i < n → x < 64 → word_dot (get_or new i 0) x ≡ (word_dot (get_or old i 0) x || shown rows above h (top + i) x)
+  added_all r old new z o i x l m =
+      let e = edge_last 24 h (omega arith) in
+      o i x l m ∙ ap (λ t. word_dot (get_or old i 0) x || t) (elim (cases_lt (top + i) (above + edge_at 24 h r)) [
+        | inl k ↦ rw (lt-ltb (top + i) (above + edge_at 24 h r) k) refl
+        | inr g ↦
+            let none = shown_below (top + i) x (let f = ap (edge_at 24 h) z in omega (arith, f)) in
+            rw none (and_false _)
+      ])
+
+-- words to which dots are added, those before s
+module _ (f : ℕ → ℕ → Bool) where
+  abbrev pub Grown : ℕ → List ℕ → List ℕ → Type 0
+  Grown s old new = (r d : ℕ) → r < 24 → d < 64 → word_dot (get_or new r 0) d ≡ (word_dot (get_or old r 0) d || ltb r s && f r d)
+
+  pub grown_none : (old : List ℕ) → Grown 0 old old
+  grown_none old r d l m = or_false _ ∙ ap (λ t. word_dot (get_or old r 0) d || t) (sym (ap (λ t. t && f r d) (le-ltb r 0 (omega arith))))
+
+  pub grown_more : (s word : ℕ) (old mid : List ℕ) → s < length mid → ((d : ℕ) → d < 64 → word_dot word d ≡ f s d) → Grown s old mid → Grown (s + 1) old (set mid s (bit_or (get_or mid s 0) word))
+  grown_more s word old mid k h o r d l m = elim (cases_eq r s) [
+    | inl y ↦
+        let same : get_or (set mid s (bit_or (get_or mid s 0) word)) s 0 ≡ bit_or (get_or mid s 0) word = get_or-set_same mid s (bit_or (get_or mid s 0) word) 0 k in
+        let mine : word_dot (get_or mid s 0) d ≡ word_dot (get_or old s 0) d =
+        o s d (let z : s < 24 = rw y at l in z) m ∙ ap (λ t. word_dot (get_or old s 0) d || t && f s d) (le-ltb s s (omega arith)) ∙ sym (or_false _) in
+        rw (y, lt-ltb s (s + 1) (omega arith)) (ap (λ v. word_dot v d) same ∙ or_dot (get_or mid s 0) word d ∙ ap (λ t. t || word_dot word d) mine ∙ ap (λ t. word_dot (get_or old s 0) d || t) (h d m))
+    | inr n ↦
+        let less : ltb r s ≡ ltb r (s + 1) = elim (cases_lt r s) [ inl z ↦ lt-ltb r s z ∙ sym (lt-ltb r (s + 1) (omega arith)) | inr z ↦ le-ltb r s z ∙ sym (le-ltb r (s + 1) (omega arith)) ] in
+        ap (λ v. word_dot v d) (get_or-set_other mid s r (bit_or (get_or mid s 0) word) 0 n) ∙ o r d l m ∙ ap (λ t. word_dot (get_or old r 0) d || t && f r d) less
+  ]
+
+  pub grown_all : (s : ℕ) (old new : List ℕ) → s ≡ 24 → Grown s old new → (r d : ℕ) → r < 24 → d < 64 → word_dot (get_or new r 0) d ≡ (word_dot (get_or old r 0) d || f r d)
+  grown_all s old new e o r d l m = o r d l m ∙ ap (λ t. word_dot (get_or old r 0) d || t && f r d) (lt-ltb r s (omega arith))
 
 -- a word with more black dots, as a row
 pub added_row : (at : ℤ) (f : ℕ → Bool) (old new : ℕ) → ((x : ℕ) → x < 64 → word_dot new x ≡ (word_dot old x || shifted at f x)) → Painted Black (shifted at f) (to_be_bytes w64 old) (to_be_bytes w64 new)

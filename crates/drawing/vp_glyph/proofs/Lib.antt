@@ -4,6 +4,7 @@ pub mod Drawn
 pub mod Formed
 pub mod Gathered
 pub mod Forms
+pub mod Joining
 pub mod Layouts
 pub mod Looks
 pub mod Magnified
@@ -15,5 +16,6 @@ pub mod Sides
 pub mod Spread
 pub mod Stacks
 pub mod Styled
+pub mod Windows
 pub mod Masks
 pub mod Moved

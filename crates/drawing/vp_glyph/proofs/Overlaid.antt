@@ -63,7 +63,7 @@ or_true false b e = inr e
 
 module _ (sheet : Option Glyphs) (w h a b s : ℕ) (d : Alignment) (y : ℕ) where
   -- a line stands within the block
-  line_inside : (place k x : ℕ) (cells : List ℕ) → k ≤ length cells → k ≤ a / w → line_dot (layout sheet w h a b s d) place (take k cells) x y ≡ true → x < a
+  pub line_inside : (place k x : ℕ) (cells : List ℕ) → k ≤ length cells → k ≤ a / w → line_dot (layout sheet w h a b s d) place (take k cells) x y ≡ true → x < a
   line_inside place k x cells l m e =
       let n : length (take k cells) ≡ k = length-take-le k cells l in
       let move : ℕ = indent d (a - w * length (take k cells)) in

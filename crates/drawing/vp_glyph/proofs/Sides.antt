@@ -52,6 +52,10 @@ or_false : (b : Bool) → (b || false) ≡ b
 or_false true = refl
 or_false false = refl
 
+or_assoc : (a b c : Bool) → (a || b || c) ≡ (a || (b || c))
+or_assoc true b c = refl
+or_assoc false b c = refl
+
 true_and : (a s : Bool) → (a && true && s) ≡ (a && s)
 true_and true s = refl
 true_and false s = refl
@@ -84,7 +88,7 @@ module _ (op : Op) (at : ℤ) (sheet : Option Glyphs) (cells : List ℕ) (k w h 
     not_yet x j = rw (le-ltb (x - left) (w * i) (omega arith), and_false (leb left x)) refl
 
     -- one cell more
-    more : (x : ℕ) → so_far sheet (take k cells) w h left y (i + 1) x ≡ (so_far sheet (take k cells) w h left y i x || leb place x && sampled_dot sheet b w h (x - place) y)
+    pub more : (x : ℕ) → so_far sheet (take k cells) w h left y (i + 1) x ≡ (so_far sheet (take k cells) w h left y i x || leb place x && sampled_dot sheet b w h (x - place) y)
     more x = elim (cases_lt x place) [
       | inl j ↦ rw (lt-leb place x j) (before x j ∙ sym (or_false (so_far sheet (take k cells) w h left y i x)))
       | inr j ↦ from_cell x j ∙ sym (rw (le-leb place x j) (ap (λ v. v || sampled_dot sheet b w h (x - place) y) (not_yet x j)))
@@ -105,6 +109,13 @@ module _ (op : Op) (at : ℤ) (sheet : Option Glyphs) (cells : List ℕ) (k w h 
         ap (λ v. word_dot v d) n ∙ or_dot front cell d ∙ ap (λ v. v || word_dot cell d) p ∙ ap (λ v. shifted at (so_far sheet (take k cells) w h left y i) d || v) q
         ∙ sym (shifted_or at (so_far sheet (take k cells) w h left y i) (λ x. leb place x && sampled_dot sheet b w h (x - place) y) (so_far sheet (take k cells) w h left y (i + 1)) d more)
 
+    -- in a word that had dots before
+    pub dot_more : (old mid new : Bool) (d : ℕ) → mid ≡ (old || shifted at (so_far sheet (take k cells) w h left y i) d) → new ≡ (mid || shifted at (λ x. leb place x && sampled_dot sheet b w h (x - place) y) d)
+        → new ≡ (old || shifted at (so_far sheet (take k cells) w h left y (i + 1)) d)
+    dot_more old mid new d p q =
+        q ∙ ap (λ v. v || shifted at (λ x. leb place x && sampled_dot sheet b w h (x - place) y) d) p ∙ or_assoc old (shifted at (so_far sheet (take k cells) w h left y i) d) _
+        ∙ ap (λ v. old || v) (sym (shifted_or at (so_far sheet (take k cells) w h left y i) (λ x. leb place x && sampled_dot sheet b w h (x - place) y) (so_far sheet (take k cells) w h left y (i + 1)) d more))
+
   module _ (i : ℕ) (n : (x d : ℕ) → left ≤ x → x < left + w * i → pos d ≡ at +ℤ pos x → d < 0) where
     -- left of the row's first dot there is nothing
     none : (d : ℕ) → shifted at (so_far sheet (take k cells) w h left y i) d ≡ false
@@ -122,29 +133,37 @@ module _ (op : Op) (at : ℤ) (sheet : Option Glyphs) (cells : List ℕ) (k w h 
     pub side_none : (row : List ℕ) → Painted op (shifted at (so_far sheet (take k cells) w h left y i)) row row
     side_none row = painted_none op (shifted at (so_far sheet (take k cells) w h left y i)) row (λ d l. none d)
 
+    pub dot_none : (old : Bool) (d : ℕ) → old ≡ (old || shifted at (so_far sheet (take k cells) w h left y i) d)
+    dot_none old d = sym (ap (λ v. old || v) (none d) ∙ or_false old)
+
     pub front_none : (d : ℕ) → word_dot 0 d ≡ shifted at (so_far sheet (take k cells) w h left y i) d
     front_none d = white_dot d ∙ sym (none d)
 
   -- nor right of its last one
-  pub side_all : (i to : ℕ) (a b : List ℕ) → to ≤ i → ((x d : ℕ) → left + w * to ≤ x → x < left + w * k → pos d ≡ at +ℤ pos x → 8 * length a ≤ d)
-      → Painted op (shifted at (so_far sheet (take k cells) w h left y i)) a b → Painted op (shifted at (λ x. leb left x && text_dot sheet (take k cells) w h (x - left) y)) a b
-  side_all i to a b e n p =
+  pub dots_all : (i to n d : ℕ) → to ≤ i → ((x d : ℕ) → left + w * to ≤ x → x < left + w * k → pos d ≡ at +ℤ pos x → 8 * n ≤ d) → d < 8 * n
+      → shifted at (so_far sheet (take k cells) w h left y i) d ≡ shifted at (λ x. leb left x && text_dot sheet (take k cells) w h (x - left) y) d
+  dots_all i to n d e o m =
       let f = so_far sheet (take k cells) w h left y i in
       let g = λ (x : ℕ). leb left x && text_dot sheet (take k cells) w h (x - left) y in
       let more = mul-le-mul_left {m = to} {n = i} w e in
-      painted_same op (shifted at f) (shifted at g) a b (λ d m. elim (met at d) [
+      elim (met at d) [
         | inl q ↦ q.2 f ∙ elim (cases_lt (q.0 - left) (w * i)) [
           | inl u ↦ rw (lt-ltb (q.0 - left) (w * i) u) (true_and (leb left q.0) (text_dot sheet (take k cells) w h (q.0 - left) y))
           | inr u ↦ elim (cases_lt q.0 (left + w * k)) [
             | inl v ↦ elim (cases_lt q.0 left) [
               | inl j ↦ rw (lt-leb left q.0 j) refl
-              | inr j ↦ absurd (let z = n q.0 d (omega arith) v q.1 in omega arith)
+              | inr j ↦ absurd (let z = o q.0 d (omega arith) v q.1 in omega arith)
             ]
             | inr v ↦ rw (text_past sheet cells k w h (q.0 - left) y within (omega arith), and_false (leb left q.0 && ltb (q.0 - left) (w * i)), and_false (leb left q.0)) refl
           ]
         ] ∙ sym (q.2 g)
         | inr q ↦ q.1 f ∙ sym (q.1 g)
-      ]) p
+      ]
+
+  pub side_all : (i to : ℕ) (a b : List ℕ) → to ≤ i → ((x d : ℕ) → left + w * to ≤ x → x < left + w * k → pos d ≡ at +ℤ pos x → 8 * length a ≤ d)
+      → Painted op (shifted at (so_far sheet (take k cells) w h left y i)) a b → Painted op (shifted at (λ x. leb left x && text_dot sheet (take k cells) w h (x - left) y)) a b
+  side_all i to a b e n p = painted_same op (shifted at (so_far sheet (take k cells) w h left y i)) (shifted at (λ x. leb left x && text_dot sheet (take k cells) w h (x - left) y)) a b
+      (λ d m. dots_all i to (length a) d e n m) p
 
 module _ (op : Op) (at : ℤ) (sheet : Option Glyphs) (cells : List ℕ) (w h y : ℕ) where
   -- a row below the cells

@@ -12,3 +12,15 @@ layout_of b = record {
   pitch = b.pitch;
   alignment = b.alignment;
 }
+
+-- its lines over each other, as many rows high as a cell of the sheet
+abbrev pub sheet_rows : BlockLayout → BlockLayout
+sheet_rows b = record {
+  sheet = b.sheet;
+  w = b.w;
+  h = 24;
+  wide = b.wide;
+  rows = 1;
+  pitch = 0;
+  alignment = b.alignment;
+}

@@ -23,7 +23,7 @@ pub enum Alignment {
 
 impl Alignment {
     /// How far a line moves to the right that has `room` dots beside it.
-    fn indent(self, room: u32) -> u32
+    pub(crate) fn indent(self, room: u32) -> u32
         ensures { result ≡ indent self room }
     {
         match self {

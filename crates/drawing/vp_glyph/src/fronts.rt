@@ -1,5 +1,5 @@
 //! The first dots of many rows of a block, for which each of its lines is looked at once.
-ghost use Rattle.std.specs.Prelude.{◌≡◌, ℕ, ◌+◌, ◌-◌, ◌*◌, ◌/◌, ◌<◌, ◌≤◌, ◌^◌, ◌||◌, false, min, length, take, slice_index};
+ghost use Rattle.std.specs.Prelude.{◌≡◌, ℕ, ◌+◌, ◌-◌, ◌*◌, ◌/◌, ◌<◌, ◌≤◌, ◌^◌, ◌||◌, ◌&&◌, nat_le, nat_lt, false, min, length, take, slice_index};
 ghost use Rattle.vp_dots.specs.Dots.{shifted, span};
 ghost use Rattle.vp_dots.specs.Words.{word_dot};
 ghost use Rattle.vp_glyph.specs.Blocks.{pieces, first, line_dot, block_height, block_dot};
@@ -38,21 +38,25 @@ fn blacken<const N: usize>(ink: u64, from: usize, to: usize, words: &mut [u64; N
     }
 }
 
-impl Block<'_> {
-    /// The first 64 dots of a row on which row y of a line stands, `place` lines below the first.
-    fn front_of_line(&self, line: Line<'_>, place: u32, y: u32, at: i64) -> u64
-        requires cells { line.cells ≤ length (first (pieces line.text.now)) }
-        requires most { line.cells ≤ self.now.wide / self.now.w }
-        requires place { place ≤ self.now.rows - 1 }
-        requires top { place * self.now.pitch ≤ y }
-        ensures { (x : ℕ) → x < 64 → word_dot result x ≡ shifted at (λ x. line_dot (layout_of self.now) place
-            (take line.entry.cells (first (pieces line.entry.text.now))) x y) x }
-    {
-        let mut bytes = [0u8; 8];
-        self.paint_line(line, place, y, Op::Black, at, &mut bytes);
-        word_of(&bytes)
+/// Adds to the fronts of `N` rows, the first of which is row `top`, the rows of the sheet that are drawn
+/// `high` rows high in all from row `above` on.
+fn spread<const N: usize>(rows: &[u64; 24], above: u32, high: u32, top: u32, fronts: &mut [u64; N])
+    requires { above + high < 2 ^ 32 }
+    ensures { (i x : ℕ) → i < N → x < 64 → word_dot (slice_index fronts.new i) x
+        ≡ (word_dot (slice_index fronts.old i) x || nat_le above (top + i) && nat_lt (top + i - above) high
+        && word_dot (slice_index rows.now ((top + i - above) * 24 / high)) x) }
+{
+    for s in 0..24u32 {
+        let ink = rows[s as usize];
+        if ink != 0 {
+            let from = rows_above::<N>(above + first_row(s, high), top);
+            let to = rows_above::<N>(above + first_row(s + 1, high), top);
+            blacken(ink, from, to, fronts);
+        }
     }
+}
 
+impl Block<'_> {
     /// Adds a line that stands `place` lines below the first to the fronts of `N` rows.
     fn add_line<const N: usize>(
         &self,
@@ -69,15 +73,9 @@ impl Block<'_> {
             ≡ (word_dot (slice_index fronts.old i) x || shifted at (λ x. line_dot (layout_of self.now) place
             (take line.entry.cells (first (pieces line.entry.text.now))) x (top + i)) x) }
     {
-        let above = place * self.pitch;
-        for s in 0..24u32 {
-            let from = rows_above::<N>(above + first_row(s, self.h), top);
-            let to = rows_above::<N>(above + first_row(s + 1, self.h), top);
-            if from < to {
-                let ink = self.front_of_line(line, place, top + from as u32, at);
-                blacken(ink, from, to, fronts);
-            }
-        }
+        let mut rows = [0u64; 24];
+        self.add_rows(line, at, &mut rows);
+        spread(&rows, place * self.pitch, self.h, top, fronts);
     }
 
     /// The first 64 dots of N rows, each moved by an offset and black where row top, top + 1, .. has ink.
@@ -97,6 +95,11 @@ impl Block<'_> {
         let mut left = Some(text);
         while let Some(text) = left {
             if u64::from(top) + N as u64 <= u64::from(place * self.pitch) {
+                return fronts;
+            }
+            if self.pitch == 0 || place + 1 >= self.rows {
+                let rows = self.joined(text, at);
+                spread(&rows, place * self.pitch, self.h, top, &mut fronts);
                 return fronts;
             }
             let (line, rest) = next_line(text, most);

@@ -10,8 +10,8 @@
 //! - `sampled`, `stretch`: a character at any size, which of several side by side can be seen on a row, and
 //!   the dots of its rows as a word.
 //! - `text`: characters side by side.
-//! - `lines`, `block`, `fronts`: a text broken into lines, the lines below each other, and many of their rows
-//!   at once.
+//! - `lines`, `block`, `fronts`, `joined`: a text broken into lines, the lines below each other, many of their
+//!   rows at once, and lines over each other.
 #![tactic(auto)]
 
 ghost use Rattle.std.specs.Prelude.{◌≡◌, ◌<◌, ◌≤◌, ◌≤ℤ◌, pos};
@@ -21,6 +21,7 @@ mod block;
 mod cell;
 mod fronts;
 mod header;
+mod joined;
 mod lines;
 mod look;
 mod sampled;

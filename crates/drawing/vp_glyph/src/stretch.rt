@@ -1,11 +1,12 @@
 //! The dots of a row of a character, each drawn at another width.
-ghost use Rattle.std.specs.Prelude.{◌≡◌, ℕ, ◌+◌, ◌-◌, ◌*◌, ◌/◌, ◌<◌, ◌≤◌, ◌^◌, nat_lt, nat_le, ◌&&◌};
+ghost use Rattle.std.specs.Prelude.{◌≡◌, ℕ, ◌+◌, ◌-◌, ◌*◌, ◌/◌, ◌<◌, ◌≤◌, ◌^◌, nat_lt, nat_le, ◌&&◌, ◌||◌, pos, ◌+ℤ◌, ◌<ℤ◌, ◌≤ℤ◌, slice_index};
 ghost use Rattle.vp_dots.specs.Dots.{shifted, span};
 ghost use Rattle.vp_dots.specs.Painting.{Painted};
 ghost use Rattle.vp_dots.specs.Words.{word_dot};
 ghost use Rattle.vp_glyph.specs.Stretches.{StretchedBy};
 
 use crate::look::{FAR, doubled, edge, inverted, moved, paint_scaled, picked, shared};
+use crate::sheet::row_at;
 use vp_dots::{Op, first_dots, paint_word, word_of};
 
 /// The dots of a row of a cell.
@@ -83,6 +84,33 @@ fn paint_moved(op: Op, word: u64, at: i64, row: &mut [u8])
         paint_word(op, moved_word(word, at), 0, row);
     } else {
         paint_word(op, word, at, row);
+    }
+}
+
+/// Where a place of what stands at an offset falls on the first 64 dots of a row, or the end of them that is
+/// nearer.
+fn in_word(at: i64, place: u32) -> u32
+    ensures within { result ≤ 64 }
+    ensures below { (d : ℕ) → d < 64 → pos d <ℤ (at +ℤ pos place) → d < result }
+    ensures above { (d : ℕ) → d < 64 → (at +ℤ pos place) ≤ℤ pos d → result ≤ d }
+{
+    if at >= 64 {
+        return 64;
+    }
+    (at + i64::from(place)).clamp(0, 64) as u32
+}
+
+/// Adds the dots of a mask to each of 24 words, where the row of a cell has dot s.
+fn add_dot(cell: &[u64], s: u32, mask: u64, rows: &mut [u64; 24])
+    requires { s < 64 }
+    ensures { (r d : ℕ) → r < 24 → d < 64 → word_dot (slice_index rows.new r) d
+        ≡ (word_dot (slice_index rows.old r) d || word_dot (slice_index cell.now r) s && word_dot mask d) }
+{
+    if mask == 0 {
+        return;
+    }
+    for r in 0..24usize {
+        rows[r] |= picked(row_at(cell, r), s, mask);
     }
 }
 
@@ -164,6 +192,39 @@ impl Stretch {
             return moved_word(self.twice(word), moved(at, left));
         }
         self.front_by_masks(word, at, left)
+    }
+
+    /// What `add_rows` adds, dot by dot of the cell.
+    fn add_wide(&self, cell: &[u64], at: i64, left: u32, rows: &mut [u64; 24])
+        requires fits { left + self.now.width < 2 ^ 32 }
+        ensures { (s d : ℕ) → s < 24 → d < 64 → word_dot (slice_index rows.new s) d
+            ≡ (word_dot (slice_index rows.old s) d || shifted at (λ x. nat_le left x
+            && nat_lt (x - left) self.now.width
+            && word_dot (slice_index cell.now s) ((x - left) * 12 / self.now.width)) d) }
+    {
+        let mut from = in_word(at, left);
+        for s in 0..CELL {
+            let to = in_word(at, left + edge::<12>(s + 1, self.width));
+            add_dot(cell, s, mask(from, to), rows);
+            from = to;
+        }
+    }
+
+    /// Adds to 24 words what `front` gives for each row of a cell.
+    pub fn add_rows(&self, cell: &[u64], at: i64, left: u32, rows: &mut [u64; 24])
+        requires fits { left + self.now.width < 2 ^ 32 }
+        ensures { (s d : ℕ) → s < 24 → d < 64 → word_dot (slice_index rows.new s) d
+            ≡ (word_dot (slice_index rows.old s) d || shifted at (λ x. nat_le left x
+            && nat_lt (x - left) self.now.width
+            && word_dot (slice_index cell.now s) ((x - left) * 12 / self.now.width)) d) }
+    {
+        if self.width > WORD {
+            self.add_wide(cell, at, left, rows);
+            return;
+        }
+        for s in 0..24usize {
+            rows[s] |= self.front(row_at(cell, s), at, left);
+        }
     }
 
     /// What `paint` paints, by the masks where all dots fall on a word.

@@ -1,0 +1,214 @@
+-- Lines over each other, as rows of the sheet.
+use Rattle.std.proofs.Common.{inl, inr, ◌≡◌, ℕ, suc, ◌+◌, ◌-◌, ◌*◌, ◌/◌, ◌%◌, ◌<◌, ◌≤◌, min, Bool, true, false, ltb, leb, ◌&&◌, ◌||◌, ◌⊎◌, get_or, length, take, replicate, refl, sym, ap, ◌∙◌, arith, List, [], ◌∷◌, Option, None, Some, MatchOption, Bor, ℤ}
+use Rattle.std.specs.Int.{to_be_bytes, w64}
+use Rattle.std.specs.List.{All}
+use Rattle.std.proofs.Math.Nat.{div-lt_iff_lt-mul, le-div_iff_mul-le}
+use Rattle.std.proofs.Math.Seq.{take-length}
+use Rattle.std.proofs.lemmas.List.{length-take-le}
+use Rattle.std.proofs.lemmas.Bool.{cases_lt, lt-ltb, le-ltb, le-leb, false_from_ne_true}
+use Rattle.vp_dots.specs.Dots.{shifted}
+use Rattle.vp_dots.specs.Words.{word_dot}
+use Rattle.vp_dots.specs.declared.Op.TheVariants.{Black}
+use Rattle.vp_dots.proofs.Shifts.{shifted_none, shifted_same, shifted_or}
+use Rattle.vp_glyph.specs.Sheets.{Glyphs, sheet_dot}
+use Rattle.vp_glyph.specs.Texts.{sampled_dot, text_dot}
+use Rattle.vp_glyph.specs.Blocks.{pieces, first, indent, line_dot, lines_dot, block_lines, block_width, block_height, block_dot}
+use Rattle.vp_glyph.specs.declared.block.Alignment.{Alignment}
+use Rattle.vp_glyph.proofs.Breaking.{block_few}
+use Rattle.vp_glyph.proofs.Gathered.{row_front, shown}
+use Rattle.vp_glyph.proofs.Layouts.{layout}
+use Rattle.vp_glyph.proofs.Looks.{white_dot}
+use Rattle.vp_glyph.proofs.Overlaid.{Overlaid, line_inside, zero_at}
+use Rattle.vp_glyph.proofs.Stacks.{lines_left, lines_are, block_within, block_past}
+
+and_false : (b : Bool) → (b && false) ≡ false
+and_false true = refl
+and_false false = refl
+
+none_and : (a b c : Bool) → (a && (b && false && c)) ≡ false
+none_and true true c = refl
+none_and true false c = refl
+none_and false b c = refl
+
+into : (a b c d : Bool) → (a && b && (c && d)) ≡ (b && c && (a && d))
+into true true true d = refl
+into true true false d = refl
+into true false c d = refl
+into false true true d = refl
+into false true false d = refl
+into false false c d = refl
+
+plain : (a b : Bool) → (a && b) ≡ (a && true && b)
+plain true b = refl
+plain false b = refl
+
+or_assoc : (a b c : Bool) → (a || (b || c)) ≡ (a || b || c)
+or_assoc true b c = refl
+or_assoc false b c = refl
+
+or_false : (a : Bool) → (a || false) ≡ a
+or_false true = refl
+or_false false = refl
+
+shared_or : (a b c : Bool) → ((a && b) || (a && c)) ≡ (a && (b || c))
+shared_or true b c = refl
+shared_or false b c = refl
+
+-- a dot that falls only on some rows
+shifted_if : (at : ℤ) (a : Bool) (f : ℕ → Bool) (d : ℕ) → shifted at (λ x. a && f x) d ≡ (a && shifted at f d)
+shifted_if at true f d = refl
+shifted_if at false f d = shifted_none at (λ x. false && f x) d (λ x. refl)
+
+module _ (sheet : Option Glyphs) (w h a b s : ℕ) (d : Alignment) where
+  -- a row of a text shows one of the sheet
+  text_rows : (cells : List ℕ) (u v : ℕ) → text_dot sheet cells w h u v ≡ (ltb v h && text_dot sheet cells w 24 u (v * 24 / h))
+  unfolding text_dot sampled_dot
+  text_rows cells u v = elim (cases_lt v h) [
+    | inl l ↦
+        let q : v * 24 / h < 24 = (div-lt_iff_lt-mul {k = h} {x = v * 24} {y = 24} (omega arith)).1 (omega arith) in
+        let t : v * 24 / h * 24 / 24 ≡ v * 24 / h = omega arith in
+        rw (lt-ltb v h l, lt-ltb (v * 24 / h) 24 q, t) refl
+    | inr g ↦ rw (le-ltb v h g) (none_and (ltb u (w * length cells)) (ltb (u % w) w) _)
+  ]
+
+  first_rows : (line : List ℕ) (x r : ℕ) → (leb (indent d (a - w * length line)) x && text_dot sheet line w 24 (x - indent d (a - w * length line)) r) ≡ line_dot (layout sheet w 24 a 1 0 d) 0 line x r
+  first_rows line x r =
+      let z : r - 0 ≡ r = omega arith in
+      let g : leb 0 r ≡ true = le-leb 0 r (omega arith) in
+      rw (g, z) (plain (leb (indent d (a - w * length line)) x) (text_dot sheet line w 24 (x - indent d (a - w * length line)) r))
+
+  -- and so does a row of a line
+  pub line_rows : (place : ℕ) (line : List ℕ) (x y : ℕ) → line_dot (layout sheet w h a b s d) place line x y
+      ≡ (leb (place * s) y && ltb (y - place * s) h && line_dot (layout sheet w 24 a 1 0 d) 0 line x ((y - place * s) * 24 / h))
+  line_rows place line x y =
+      let left : ℕ = indent d (a - w * length line) in
+      ap (λ t. leb left x && leb (place * s) y && t) (text_rows line (x - left) (y - place * s))
+      ∙ into (leb left x) (leb (place * s) y) (ltb (y - place * s) h) (text_dot sheet line w 24 (x - left) ((y - place * s) * 24 / h))
+      ∙ ap (λ t. leb (place * s) y && ltb (y - place * s) h && t) (first_rows line x ((y - place * s) * 24 / h))
+
+  line_top : (place t : ℕ) (line : List ℕ) (x y : ℕ) → place * s ≡ t → line_dot (layout sheet w h a b s d) place line x y
+      ≡ (leb t y && ltb (y - t) h && line_dot (layout sheet w 24 a 1 0 d) 0 line x ((y - t) * 24 / h))
+  line_top place t line x y e = rw (← e) (line_rows place line x y)
+
+  -- and of lines with one top
+  pub lines_rows : (place t : ℕ) (all : List (List ℕ)) (x y : ℕ) → (s ≡ 0) ⊎ (place ≡ b - 1) → place * s ≡ t → lines_dot (layout sheet w h a b s d) place all x y
+      ≡ (leb t y && ltb (y - t) h && lines_dot (layout sheet w 24 a 1 0 d) 0 all x ((y - t) * 24 / h))
+  lines_rows place t [] x y o e = sym (and_false _)
+  lines_rows place t (line ∷ rest) x y o e =
+      let next : ((s ≡ 0) ⊎ (min (place + 1) (b - 1) ≡ b - 1)) × (min (place + 1) (b - 1) * s ≡ t) = elim o [
+        | inl z ↦ (inl z, ap (λ n. min (place + 1) (b - 1) * n) z ∙ omega arith ∙ sym (ap (λ n. place * n) z) ∙ e)
+        | inr z ↦ (let m : min (place + 1) (b - 1) ≡ place = omega arith in (inr (m ∙ z), ap (λ n. n * s) m ∙ e))
+      ] in
+      ap (λ v. v || lines_dot (layout sheet w h a b s d) (min (place + 1) (b - 1)) rest x y) (line_top place t line x y e)
+      ∙ ap (λ v. (leb t y && ltb (y - t) h && line_dot (layout sheet w 24 a 1 0 d) 0 line x ((y - t) * 24 / h)) || v) (lines_rows (min (place + 1) (b - 1)) t rest x y next.0 next.1)
+      ∙ shared_or (leb t y && ltb (y - t) h) (line_dot (layout sheet w 24 a 1 0 d) 0 line x ((y - t) * 24 / h)) (lines_dot (layout sheet w 24 a 1 0 d) 0 rest x ((y - t) * 24 / h))
+
+  -- the fronts of rows on which words are spread that have the rows of the sheet
+  pub shown_as : (at : ℤ) (rows : List ℕ) (t y x : ℕ) (f : ℕ → ℕ → Bool) → x < 64 → ((r x : ℕ) → r < 24 → x < 64 → word_dot (get_or rows r 0) x ≡ shifted at (λ v. f v r) x)
+      → shown rows t h y x ≡ shifted at (λ v. leb t y && ltb (y - t) h && f v ((y - t) * 24 / h)) x
+  shown_as at rows t y x f l e = elim (cases_lt (y - t) h) [
+    | inl k ↦
+        let q : (y - t) * 24 / h < 24 = (div-lt_iff_lt-mul {k = h} {x = (y - t) * 24} {y = 24} (omega arith)).1 (omega arith) in
+        ap (λ v. leb t y && ltb (y - t) h && v) (e ((y - t) * 24 / h) x q l) ∙ sym (shifted_if at (leb t y && ltb (y - t) h) (λ v. f v ((y - t) * 24 / h)) x)
+    | inr g ↦
+        let none : (leb t y && ltb (y - t) h) ≡ false = ap (λ v. leb t y && v) (le-ltb (y - t) h g) ∙ and_false (leb t y) in
+        ap (λ v. v && word_dot (get_or rows ((y - t) * 24 / h) 0) x) none ∙ sym (shifted_none at (λ v. leb t y && ltb (y - t) h && f v ((y - t) * 24 / h)) x (λ v. ap (λ u. u && f v ((y - t) * 24 / h)) none))
+  ]
+
+  module _ (at : ℤ) (x y : ℕ) where
+    -- the front of a row that a line is added to
+    pub line_added : (place old new : ℕ) (line rows : List ℕ) → x < 64 → word_dot new x ≡ (word_dot old x || shown rows (place * s) h y x)
+        → ((r x : ℕ) → r < 24 → x < 64 → word_dot (get_or rows r 0) x ≡ shifted at (λ v. line_dot (layout sheet w 24 a 1 0 d) 0 line v r) x)
+        → word_dot new x ≡ (word_dot old x || shifted at (λ v. line_dot (layout sheet w h a b s d) place line v y) x)
+    line_added place old new line rows l e f = e ∙ ap (λ t. word_dot old x || t) (shown_as at rows (place * s) y x (line_dot (layout sheet w 24 a 1 0 d) 0 line) l f
+        ∙ shifted_same at (λ v. leb (place * s) y && ltb (y - place * s) h && line_dot (layout sheet w 24 a 1 0 d) 0 line v ((y - place * s) * 24 / h)) (λ v. line_dot (layout sheet w h a b s d) place line v y) x
+        (λ v _. sym (line_rows place line v y)))
+
+    -- all lines stand in the block
+    lines_inside : (place : ℕ) (all : List (List ℕ)) → All (λ line. length line ≤ a / w) all → lines_dot (layout sheet w h a b s d) place all x y ≡ true → x < a
+    lines_inside place [] m e = absurd (cc)
+    lines_inside place (line ∷ rest) m e = elim (or_true (line_dot (layout sheet w h a b s d) place line x y) (lines_dot (layout sheet w h a b s d) (min (place + 1) (b - 1)) rest x y) e) [
+      | inl v ↦
+          let t : take (length line) line ≡ line = take-length line in
+          line_inside sheet w h a b s d y place (length line) x line (omega arith) (m 0 [] (omega arith)) (rw t v)
+      | inr v ↦ lines_inside (min (place + 1) (b - 1)) rest (λ k z l. m (suc k) z (omega arith)) v
+    ]
+      where
+        or_true : (p q : Bool) → (p || q) ≡ true → (p ≡ true) ⊎ (q ≡ true)
+        or_true true q i = inl refl
+        or_true false q i = inr i
+
+  -- the cells of a line are its rows
+  pub line_first : (at : ℤ) (k left width r x : ℕ) (cells : List ℕ) (old new : Bool) → k ≤ length cells → left ≡ indent d (a - w * k) → width ≡ w
+      → new ≡ (old || shifted at (λ v. leb left v && text_dot sheet (take k cells) width 24 (v - left) r) x) → new ≡ (old || shifted at (λ v. line_dot (layout sheet w 24 a 1 0 d) 0 (take k cells) v r) x)
+  line_first at k left width r x cells old new l e f p =
+      let n : length (take k cells) ≡ k = length-take-le k cells l in
+      let m : left ≡ indent d (a - w * length (take k cells)) = e ∙ ap (λ j. indent d (a - w * j)) (sym n) in
+      p ∙ ap (λ t. old || t) (shifted_same at (λ v. leb left v && text_dot sheet (take k cells) width 24 (v - left) r) (λ v. line_dot (layout sheet w 24 a 1 0 d) 0 (take k cells) v r) x
+      (λ v _. ap (λ j. leb j v && text_dot sheet (take k cells) width 24 (v - j) r) m
+      ∙ ap (λ j. leb (indent d (a - w * length (take k cells))) v && text_dot sheet (take k cells) j 24 (v - indent d (a - w * length (take k cells))) r) f
+      ∙ first_rows (take k cells) v r))
+
+  -- one line more
+  pub joined_more : (at : ℤ) (n k r x old new : ℕ) (left next : Option (Bor (List ℕ))) (text : Bor (List ℕ)) (lent : List ℕ) (all : Bool)
+      → all ≡ (word_dot old x || shifted at (λ v. lines_dot (layout sheet w 24 a 1 0 d) 0 (lines_left n left) v r) x) → left ≡ Some text → lent ≡ text.now
+      → MatchOption next (block_lines n text.now ≡ take k (first (pieces text.now)) ∷ []) (λ q. block_lines n text.now ≡ take k (first (pieces text.now)) ∷ block_lines n q.now)
+      → word_dot new x ≡ (word_dot old x || shifted at (λ v. line_dot (layout sheet w 24 a 1 0 d) 0 (take k (first (pieces lent))) v r) x)
+      → all ≡ (word_dot new x || shifted at (λ v. lines_dot (layout sheet w 24 a 1 0 d) 0 (lines_left n next) v r) x)
+  joined_more at n k r x old new left next text lent all p e m o q =
+      let line : List ℕ = take k (first (pieces text.now)) in
+      let front : lines_left n left ≡ line ∷ lines_left n next = ap (lines_left n) e ∙ lines_are n text.now line next o in
+      let now : word_dot new x ≡ (word_dot old x || shifted at (λ v. line_dot (layout sheet w 24 a 1 0 d) 0 line v r) x) = rw m at q in
+      p ∙ ap (λ (ls : List (List ℕ)). word_dot old x || shifted at (λ v. lines_dot (layout sheet w 24 a 1 0 d) 0 ls v r) x) front
+      ∙ ap (λ t. word_dot old x || t) (shifted_or at (λ v. line_dot (layout sheet w 24 a 1 0 d) 0 line v r) (λ v. lines_dot (layout sheet w 24 a 1 0 d) 0 (lines_left n next) v r)
+      (λ v. lines_dot (layout sheet w 24 a 1 0 d) 0 (line ∷ lines_left n next) v r) x (λ v. refl))
+      ∙ or_assoc (word_dot old x) (shifted at (λ v. line_dot (layout sheet w 24 a 1 0 d) 0 line v r) x) _
+      ∙ ap (λ t. t || shifted at (λ v. lines_dot (layout sheet w 24 a 1 0 d) 0 (lines_left n next) v r) x) (sym now)
+
+  -- no line yet
+  pub joined_none : (r x : ℕ) (all : Bool) → all ≡ (word_dot (get_or (replicate {A = ℕ} 24 0) r 0) x || all)
+  joined_none r x all = sym (ap (λ t. t || all) (ap (λ v. word_dot v x) (zero_at 24 r) ∙ white_dot x))
+
+  -- all lines
+  pub joined_all : (at : ℤ) (n r x word : ℕ) (left : Option (Bor (List ℕ))) (all : Bool) → all ≡ (word_dot word x || shifted at (λ v. lines_dot (layout sheet w 24 a 1 0 d) 0 (lines_left n left) v r) x)
+      → left ≡ None → word_dot word x ≡ all
+  joined_all at n r x word left all p e =
+      sym (p ∙ ap (λ t. word_dot word x || t) (ap (λ l. shifted at (λ v. lines_dot (layout sheet w 24 a 1 0 d) 0 (lines_left n l) v r) x) e ∙ shifted_none at (λ v. false) x (λ v. refl)) ∙ or_false (word_dot word x))
+
+  -- the front of a row to which all lines that are left are added
+  pub joined_front : (at : ℤ) (x y place old new : ℕ) (text : List ℕ) (left : Option (Bor (List ℕ))) (rows : List ℕ) → x < 64 → 0 < w → w ≤ a → y < block_height h b s → (s ≡ 0) ⊎ (place ≡ b - 1)
+      → Overlaid sheet w h a b s d y Black at (a / w) (block_lines (a / w) text) place left (to_be_bytes w64 0) (to_be_bytes w64 old)
+      → word_dot new x ≡ (word_dot old x || shown rows (place * s) h y x)
+      → ((r x : ℕ) → r < 24 → x < 64 → word_dot (get_or rows r 0) x ≡ shifted at (λ v. lines_dot (layout sheet w 24 a 1 0 d) 0 (lines_left (a / w) left) v r) x)
+      → word_dot new x ≡ shifted at (λ v. block_dot (layout sheet w h a b s d) text v y) x
+  joined_front at x y place old new text left rows l p m k c o e f =
+      let rest = λ (v : ℕ). lines_dot (layout sheet w h a b s d) place (lines_left (a / w) left) v y in
+      let all = λ (v : ℕ). lines_dot (layout sheet w h a b s d) 0 (block_lines (a / w) text) v y in
+      e ∙ ap (λ t. t || shown rows (place * s) h y x) (row_front at o.done old x l o.painted)
+      ∙ ap (λ t. shifted at o.done x || t) (shown_as at rows (place * s) y x (lines_dot (layout sheet w 24 a 1 0 d) 0 (lines_left (a / w) left)) l f
+      ∙ shifted_same at (λ v. leb (place * s) y && ltb (y - place * s) h && lines_dot (layout sheet w 24 a 1 0 d) 0 (lines_left (a / w) left) v ((y - place * s) * 24 / h)) rest x
+      (λ v _. sym (lines_rows place (place * s) (lines_left (a / w) left) v y c refl)))
+      ∙ sym (shifted_or at o.done rest all x o.rest_is)
+      ∙ shifted_same at all (λ v. block_dot (layout sheet w h a b s d) text v y) x (λ v _. elim (cases_lt v (block_width a w)) [
+        | inl j ↦ block_within sheet text w h a b s d v y j k m
+        | inr g ↦ false_from_ne_true (all v) (λ t. absurd (let i = lines_inside at v y 0 (block_lines (a / w) text) (block_few (a / w) text (div_some w a p m)) t in omega arith)) ∙ block_past sheet text w h a b s d v y g
+      ])
+    where
+      div_some : (w a : ℕ) → 0 < w → w ≤ a → 0 < a / w
+      div_some w a p m = (le-div_iff_mul-le {k = w} {x = 1} {y = a} p).1 (omega arith)
+
+-- a row of a cell as high as the sheet's
+pub cell_row : (sheet : Option Glyphs) (c w place s : ℕ) (at : ℤ) (d : ℕ) (row : ℕ) → s < 24 → ((u : ℕ) → word_dot row u ≡ sheet_dot sheet c u s)
+    → shifted at (λ x. leb place x && ltb (x - place) w && word_dot row ((x - place) * 12 / w)) d ≡ shifted at (λ x. leb place x && sampled_dot sheet c w 24 (x - place) s) d
+unfolding sampled_dot
+cell_row sheet c w place s at d row l h = shifted_same at (λ x. leb place x && ltb (x - place) w && word_dot row ((x - place) * 12 / w)) (λ x. leb place x && sampled_dot sheet c w 24 (x - place) s) d
+    (λ x _. let t : s * 24 / 24 ≡ s = omega arith in rw (lt-ltb s 24 l, t, h ((x - place) * 12 / w)) (order (leb place x) (ltb (x - place) w) (sheet_dot sheet c ((x - place) * 12 / w) s)))
+  where
+    order : (a b c : Bool) → (a && b && c) ≡ (a && (b && true && c))
+    order true true c = refl
+    order true false c = refl
+    order false b c = refl
+
+-- words that were white
+pub rows_white : (r x : ℕ) (f new : Bool) → new ≡ (word_dot (get_or (replicate {A = ℕ} 24 0) r 0) x || f) → new ≡ f
+rows_white r x f new e = e ∙ ap (λ t. t || f) (ap (λ v. word_dot v x) (zero_at 24 r) ∙ white_dot x)

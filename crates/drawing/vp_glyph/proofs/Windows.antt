@@ -1,0 +1,123 @@
+-- Dots of cells on the first dots of a row.
+use Rattle.std.proofs.Common.{inl, inr, ◌≡◌, ℕ, ◌+◌, ◌-◌, ◌*◌, ◌/◌, ◌<◌, ◌≤◌, Bool, true, false, eqb, ltb, leb, ◌&&◌, ◌||◌, refl, sym, ap, ◌∙◌, arith, ℤ, pos, negsuc, ◌+ℤ◌, ◌<ℤ◌, ◌≤ℤ◌}
+use Rattle.std.proofs.Math.Nat.{div-lt_iff_lt-mul}
+use Rattle.std.proofs.lemmas.Int.{ints}
+use Rattle.std.proofs.lemmas.Bool.{cases_lt, cases_eq, lt-ltb, le-ltb, lt-leb, le-leb}
+use Rattle.std.proofs.lemmas.Bool.Decides.{nat_tests}
+use Rattle.vp_dots.specs.Dots.{shifted, span}
+use Rattle.vp_dots.proofs.Shifts.{met, shifted_same, shifted_or, shifted_none}
+use Rattle.vp_dots.specs.Words.{word_dot}
+use Rattle.vp_glyph.proofs.Looks.{white_dot}
+use Rattle.vp_glyph.proofs.Masks.{edges_are}
+use Rattle.vp_glyph.proofs.Spread.{edge_at, ink}
+
+-- a place of what was moved, found on the row
+pub place_meets : (at : ℤ) (place r d : ℕ) → d < 64 → ((d : ℕ) → d < 64 → pos d <ℤ (at +ℤ pos place) → d < r) → ((d : ℕ) → d < 64 → (at +ℤ pos place) ≤ℤ pos d → r ≤ d)
+    → leb r d ≡ shifted at (leb place) d
+place_meets (pos a) place r d l below above = elim (cases_lt d a) [
+  | inl n ↦ lt-leb r d (below d l (omega (arith, ints))) ∙ sym (rw (lt-leb a d n) refl)
+  | inr g ↦ elim (cases_lt (d - a) place) [
+    | inl n ↦ lt-leb r d (below d l (omega (arith, ints))) ∙ sym (rw (le-leb a d g, lt-leb place (d - a) n) refl)
+    | inr m ↦ le-leb r d (above d l (omega (arith, ints))) ∙ sym (rw (le-leb a d g, le-leb place (d - a) m) refl)
+  ]
+]
+place_meets (negsuc a) place r d l below above = elim (cases_lt (d + (a + 1)) place) [
+  | inl n ↦ lt-leb r d (below d l (omega (arith, ints))) ∙ sym (lt-leb place (d + (a + 1)) n)
+  | inr m ↦ le-leb r d (above d l (omega (arith, ints))) ∙ sym (le-leb place (d + (a + 1)) m)
+]
+
+-- and what lies between two of them
+span_meets : (at : ℤ) (p q r s d : ℕ) → leb r d ≡ shifted at (leb p) d → leb s d ≡ shifted at (leb q) d → span r s d ≡ shifted at (span p q) d
+span_meets at p q r s d e f = elim (met at d) [
+  | inl m ↦
+      let low : leb r d ≡ leb p m.0 = e ∙ m.2 (leb p) in
+      let high : ltb d s ≡ ltb m.0 q = turned s d q m.0 (f ∙ m.2 (leb q)) in
+      ap (λ t. t && ltb d s) low ∙ ap (λ t. leb p m.0 && t) high ∙ sym (m.2 (span p q))
+  | inr n ↦ ap (λ t. t && ltb d s) (e ∙ n.1 (leb p)) ∙ sym (n.1 (span p q))
+]
+  where
+    turned : (s d q x : ℕ) → leb s d ≡ leb q x → ltb d s ≡ ltb x q
+    turned s d q x e = elim (cases_lt d s) [
+      | inl l ↦ elim (cases_lt x q) [
+        | inl m ↦ lt-ltb d s l ∙ sym (lt-ltb x q m)
+        | inr m ↦ absurd (let a = lt-leb s d l in let b = le-leb q x m in cc)
+      ]
+      | inr l ↦ elim (cases_lt x q) [
+        | inl m ↦ absurd (let a = le-leb s d l in let b = lt-leb q x m in cc)
+        | inr m ↦ le-ltb d s l ∙ sym (le-ltb x q m)
+      ]
+    ]
+
+module _ (at : ℤ) (left w : ℕ) (g : ℕ → Bool) where
+  -- the dots before s of a cell
+  abbrev pub before : ℕ → ℕ → Bool
+  before s x = leb left x && ltb (x - left) w && (ltb ((x - left) * 12 / w) s && g ((x - left) * 12 / w))
+
+  -- where one of them falls
+  only_is : (s x : ℕ) → s < 12 → span (left + edge_at 12 w s) (left + edge_at 12 w (s + 1)) x ≡ (leb left x && ltb (x - left) w && eqb ((x - left) * 12 / w) s)
+  only_is s x k = elim (cases_lt x left) [
+    | inl l ↦ rw (lt-leb left x l, lt-leb (left + edge_at 12 w s) x (omega arith)) refl
+    | inr o ↦ sym (moved (edge_at 12 w s) (edge_at 12 w (s + 1)) o) ∙ edges_are 12 w s (x - left) (omega arith) k ∙ sym (rw (le-leb left x o) refl)
+  ]
+    where
+      moved : (a b : ℕ) → left ≤ x → span a b (x - left) ≡ span (left + a) (left + b) x
+      moved a b o = grind (arith, nat_tests, o)
+
+  one_more : (s x : ℕ) → before (s + 1) x ≡ (before s x || g s && (leb left x && ltb (x - left) w && eqb ((x - left) * 12 / w) s))
+  one_more s x = elim (cases_eq ((x - left) * 12 / w) s) [
+    | inl y ↦ (let t : g ((x - left) * 12 / w) ≡ g s = ap g y in rw t (grind (arith, nat_tests)))
+    | inr n ↦ grind (arith, nat_tests)
+  ]
+
+  shifted_if : (a : Bool) (f : ℕ → Bool) (d : ℕ) → shifted at (λ x. a && f x) d ≡ (a && shifted at f d)
+  shifted_if true f d = refl
+  shifted_if false f d = shifted_none at (λ x. false && f x) d (λ x. refl)
+
+  or_assoc : (a b c : Bool) → (a || b || c) ≡ (a || (b || c))
+  or_assoc true b c = refl
+  or_assoc false b c = refl
+
+  or_false : (a : Bool) → a ≡ (a || false)
+  or_false true = refl
+  or_false false = refl
+
+  pub wide_none : (old : Bool) (d : ℕ) → old ≡ (old || shifted at (before 0) d)
+  wide_none old d = or_false old ∙ ap (λ t. old || t) (sym (shifted_none at (before 0) d (λ x. rw (le-ltb ((x - left) * 12 / w) 0 (omega arith)) (nothing (leb left x && ltb (x - left) w)))))
+    where
+      nothing : (a : Bool) → (a && false) ≡ false
+      nothing true = refl
+      nothing false = refl
+
+  -- one dot more
+  pub wide_more : (s from to d : ℕ) (old mid new : Bool) → s < 12 → leb from d ≡ shifted at (leb (left + edge_at 12 w s)) d → leb to d ≡ shifted at (leb (left + edge_at 12 w (s + 1))) d
+      → mid ≡ (old || shifted at (before s) d) → new ≡ (mid || g s && span from to d) → new ≡ (old || shifted at (before (s + 1)) d)
+  wide_more s from to d old mid new k e f p q =
+      let mine = λ (x : ℕ). leb left x && ltb (x - left) w && eqb ((x - left) * 12 / w) s in
+      q ∙ ap (λ t. t || g s && span from to d) p
+      ∙ ap (λ t. old || shifted at (before s) d || g s && t) (span_meets at (left + edge_at 12 w s) (left + edge_at 12 w (s + 1)) from to d e f
+      ∙ shifted_same at (span (left + edge_at 12 w s) (left + edge_at 12 w (s + 1))) mine d (λ x _. only_is s x k))
+      ∙ ap (λ t. old || shifted at (before s) d || t) (sym (shifted_if (g s) mine d))
+      ∙ or_assoc old (shifted at (before s) d) (shifted at (λ x. g s && mine x) d)
+      ∙ ap (λ t. old || t) (sym (shifted_or at (before s) (λ x. g s && mine x) (before (s + 1)) d (one_more s)))
+
+  -- all twelve
+  pub wide_all : (s d : ℕ) → s ≡ 12 → shifted at (before s) d ≡ shifted at (ink 12 g left w) d
+  wide_all s d e = shifted_same at (before s) (ink 12 g left w) d (λ x _. elim (cases_lt (x - left) w) [
+    | inl l ↦
+        let low : (x - left) * 12 / w < 12 = (div-lt_iff_lt-mul {k = w} {x = (x - left) * 12} {y = 12} (omega arith)).1 (omega arith) in
+        rw (lt-ltb ((x - left) * 12 / w) s (omega arith)) refl
+    | inr m ↦ rw (le-ltb (x - left) w m) (none (leb left x) _ _)
+  ])
+    where
+      none : (a b c : Bool) → (a && false && b) ≡ (a && false && c)
+      none true b c = refl
+      none false b c = refl
+
+-- a mask without a dot
+pub no_mask : (old a : Bool) (mask d : ℕ) → mask ≡ 0 → old ≡ (old || a && word_dot mask d)
+no_mask old a mask d e = sym (ap (λ v. old || a && word_dot v d) e ∙ ap (λ t. old || a && t) (white_dot d) ∙ nothing old a)
+  where
+    nothing : (old a : Bool) → (old || a && false) ≡ old
+    nothing true a = refl
+    nothing false true = refl
+    nothing false false = refl
