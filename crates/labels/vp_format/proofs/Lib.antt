@@ -7,6 +7,7 @@ pub mod Nibbles
 pub mod Places
 pub mod Quick
 pub mod Reached
+pub mod Runs
 pub mod Skipped
 pub mod Passed
 pub mod PassedRows
