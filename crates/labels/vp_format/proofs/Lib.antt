@@ -6,6 +6,7 @@ pub mod Marks
 pub mod Nibbles
 pub mod Places
 pub mod Quick
+pub mod Put
 pub mod Reached
 pub mod Runs
 pub mod Skipped

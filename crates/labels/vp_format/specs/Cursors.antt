@@ -39,7 +39,7 @@ abbrev pub places_of : Code → ℕ
 places_of c = if nat_lt (digit_value c) 16 then 1 else count_value c - 1
 
 -- the places that n codes from a place on add
-abbrev pub added : List ℕ → ℕ → ℕ → ℕ
+unfoldable pub added : List ℕ → ℕ → ℕ → ℕ
 added codes at zero = 0
 added codes at (suc n) = added codes at n + places_of (code_of (slice_index codes (at + n)))
 
@@ -143,6 +143,20 @@ pub record Reached (width : ℕ) (all : List Spelled) (from : ℕ) (places : Lis
   pub small : AreSmall x places
   pub ahead : (j : ℕ) → x ≤ j → shown width 0 all j ≡ shown width x left j
   pub bytes : (j : ℕ) → x ≤ j → from + bytes_before width 0 all j ≡ at + bytes_before width x left j
+
+-- what n codes from one on leave in the row from a place on: the symbols behind them are left, or, behind a
+-- count, from that count on, and its places but one have the value of the digit behind it
+unfoldable pub Put : ℕ → List Spelled → ℕ → List ℕ → ℕ → List ℕ → ℕ → ℕ → Type 0
+Put width all start places from codes at zero =
+    Reached width all start places from (symbols_from codes at) at
+Put width all start places from codes at (suc n) =
+    (digit_value (code_of (slice_index codes (at + n))) < 16 →
+    Reached width all start places (from + added codes at (suc n)) (symbols_from codes (at + suc n))
+    (at + suc n))
+    × (16 ≤ digit_value (code_of (slice_index codes (at + n))) →
+    Reached width all start places (from + added codes at n) (symbols_from codes (at + n)) (at + n)
+    × ((i : ℕ) → from + added codes at n ≤ i → i < from + added codes at (suc n) →
+    slice_index places i ≡ digit_value (code_of (slice_index codes (at + suc n)))))
 
 -- none of the symbols that start before a place is refused, and the places from there on show what those show
 -- that are left

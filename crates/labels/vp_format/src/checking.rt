@@ -60,7 +60,7 @@ fn pass_runs(bytes: &[u8], first: usize, from: u64, end: u64) -> (u64, usize)
             single = at + LANES;
         }
         let run = run_at(bytes, at);
-        if run.digit >= 16 || run.places >= OTHER {
+        if run.places >= OTHER {
             break;
         }
         x += run.places as u64;
