@@ -1,10 +1,10 @@
 -- What vectors of sixteen bytes hold at each lane.
-use Rattle.std.proofs.Common.{◌≡◌, ℕ, ◌+◌, ◌-◌, ◌*◌, ◌%◌, ◌^◌, ◌<◌, ◌≤◌, true, false, not, Bool, cond, eqb, ltb, ◌||◌, List, ◌++◌, length, get_or, map, subst, sym, ap, ◌∙◌, arith}
+use Rattle.std.proofs.Common.{◌≡◌, ℕ, ◌+◌, ◌-◌, ◌*◌, ◌%◌, ◌^◌, ◌<◌, ◌≤◌, true, false, not, Bool, cond, eqb, ltb, leb, ◌||◌, bit_and, bit_or, List, ◌++◌, length, get_or, map, replicate, subst, sym, ap, ◌∙◌, arith}
 use Rattle.std.proofs.lemmas.Bool.{agree_below, agree_below_at, ltb-true, lt-ltb, eqb-true}
-use Rattle.std.proofs.lemmas.Simd.{map-map, mask_l-mod, length-chunk, get_or-chunk, get_or-put_chunk_at, first_set_mask_l, run_in_chunk_le, run_in_chunk_fails}
+use Rattle.std.proofs.lemmas.Simd.{map-map, mask_l-mod, zip2_splat, zip2_of_maps, splat_is_map, length-chunk, get_or-chunk, get_or-put_chunk_at, first_set_mask_l, run_in_chunk_le, run_in_chunk_fails}
 use Rattle.std.proofs.lemmas.List.{get_or-map, get_or_append_left, length-map}
 use Rattle.std.proofs.lemmas.List.FromFn.{get_or-map-range_with_len}
-use Rattle.std.specs.Simd.Lanes.{chunk, put_chunk, mask_l, top}
+use Rattle.std.specs.Simd.Lanes.{chunk, put_chunk, mask_l, top, zip2}
 use Rattle.std.specs.List.{prefix_len, range_with_len}
 use Rattle.vp_format.specs.Codes.{code_of}
 use Rattle.vp_format.specs.Cursors.{digit_value, first_set}
@@ -74,3 +74,25 @@ module _ (f : ℕ → ℕ) (bytes lanes : List ℕ) (at r : ℕ) (room : at + 16
 
   pub run_goes_on : (k : ℕ) → k < r → stops (get_or bytes (at + k) 0) ≡ false
   run_goes_on k l = run_in_chunk_fails stops bytes at 16 r 0 room counted (at + k) (omega arith) (omega (arith, l))
+
+-- a lane of a difference, and of a test
+abbrev pub less : ℕ → ℕ → ℕ
+less a b = (a + (256 - b)) % 256
+
+abbrev pub up_to : ℕ → ℕ → ℕ
+up_to a b = cond (leb a b) 255 0
+
+-- the test at each lane: no digit up to 9 and no letter up to f
+abbrev pub other : ℕ → ℕ
+other b = bit_and (up_to 10 (less b 48)) (up_to 6 (less (bit_or b 32) 97))
+
+pub others : (bytes : List ℕ) (at : ℕ) → at + 16 ≤ length bytes
+    → zip2 bit_and (zip2 up_to (replicate 16 10) (zip2 less (chunk at 16 bytes) (replicate 16 48))) (zip2 up_to (replicate 16 6) (zip2 less (zip2 bit_or (chunk at 16 bytes) (replicate 16 32)) (replicate 16 97)))
+    ≡ map other (chunk at 16 bytes)
+others bytes at room =
+    let v = chunk at 16 bytes in
+    let long = length-chunk at 16 bytes room in
+    zip2_of_maps {X = ℕ} {Y = ℕ} bit_and (λ b. up_to 10 (less b 48)) (λ b. up_to 6 (less (bit_or b 32) 97)) v
+    (zip2_of_maps {X = ℕ} {Y = ℕ} up_to (λ _. 10) (λ b. less b 48) v (splat_is_map v 16 10 long) (zip2_splat {Y = ℕ} less v 16 48 long))
+    (zip2_of_maps {X = ℕ} {Y = ℕ} up_to (λ _. 6) (λ b. less (bit_or b 32) 97) v (splat_is_map v 16 6 long)
+    (zip2_of_maps {X = ℕ} {Y = ℕ} less (λ b. bit_or b 32) (λ _. 97) v (zip2_splat {Y = ℕ} bit_or v 16 32 long) (splat_is_map v 16 97 long)))

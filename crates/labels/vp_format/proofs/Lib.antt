@@ -6,7 +6,9 @@ pub mod Marks
 pub mod Nibbles
 pub mod Places
 pub mod Quick
+pub mod Put
 pub mod Reached
+pub mod Runs
 pub mod Skipped
 pub mod Passed
 pub mod PassedRows

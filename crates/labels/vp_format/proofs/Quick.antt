@@ -86,7 +86,7 @@ count_is (Fill v) s h l = absurd (omega (arith, l))
 count_is Above s h l = absurd (omega (arith, l))
 count_is Other s h l = absurd (omega (arith, l))
 
-digit_adds : (c : Code) → digit_value c < 16 → count_value c ≡ 0
+pub digit_adds : (c : Code) → digit_value c < 16 → count_value c ≡ 0
 digit_adds c h = ap count_value (digit_is c (digit_value c) refl h)
 
 -- one more count

@@ -1,5 +1,5 @@
 -- What a cursor keeps of the codes.
-use Rattle.std.specs.Prelude.{◌≡◌, ℕ, zero, suc, Bool, true, false, ◌&&◌, ◌||◌, ◌*◌, ◌+◌, ◌-◌, ◌≤◌, ◌<◌, ◌==◌, if◌then◌else◌, List, ◌∷◌, drop, length, slice_index, Option, None, Some}
+use Rattle.std.specs.Prelude.{◌≡◌, ℕ, zero, suc, nat_lt, Bool, true, false, ◌&&◌, ◌||◌, ◌*◌, ◌+◌, ◌-◌, ◌≤◌, ◌<◌, ◌==◌, if◌then◌else◌, List, ◌∷◌, drop, length, slice_index, Option, None, Some}
 use Rattle.std.specs.Int.{w64, trailing_zeros}
 use Rattle.vp_format.specs.declared.codes.Code.{Code}
 use Rattle.vp_format.specs.declared.codes.Code.TheVariants.{Digit, Count, Fill}
@@ -12,7 +12,7 @@ use Rattle.vp_format.specs.declared.rows.RunMark.{RunMark}
 use Rattle.vp_format.specs.declared.rows.RunRows.TheInside.{Inside}
 use Rattle.vp_format.specs.declared.codes.Symbol.{Symbol}
 use Rattle.vp_format.specs.declared.codes.Symbol.TheVariants.{Digits, ToEnd}
-use Rattle.vp_format.specs.Codes.{Spelled, spelled, symbols}
+use Rattle.vp_format.specs.Codes.{Spelled, spelled, code_of, symbols}
 use Rattle.vp_format.specs.Pictures.{Value, AsAbove, shown, is_nothing, bytes_before, value_of, Picture, width_of, value, is_refused, start_above, bound_of, start_of, nibble, Cursor}
 
 -- the value of a digit, and 16 of another code
@@ -25,6 +25,23 @@ abbrev pub count_value : Code → ℕ
 count_value (Digit v) = 0
 count_value (Count n) = n
 count_value _ = 1000
+
+-- a count of one letter up to `Y`
+abbrev pub IsShortCount : Code → Type 0
+IsShortCount c = (0 < count_value c) × (count_value c < 20)
+
+-- a digit, or such a count before a digit
+abbrev pub IsRun : Code → Code → Type 0
+IsRun c next = 16 ≤ digit_value c → IsShortCount c × (digit_value next < 16)
+
+-- the places that a code adds: a digit one, a count what it says but the one of its digit
+abbrev pub places_of : Code → ℕ
+places_of c = if nat_lt (digit_value c) 16 then 1 else count_value c - 1
+
+-- the places that n codes from a place on add
+unfoldable pub added : List ℕ → ℕ → ℕ → ℕ
+added codes at zero = 0
+added codes at (suc n) = added codes at n + places_of (code_of (slice_index codes (at + n)))
 
 -- the first bit of a mask that is set, and 16 where none is
 abbrev pub first_set : ℕ → ℕ
@@ -126,6 +143,20 @@ pub record Reached (width : ℕ) (all : List Spelled) (from : ℕ) (places : Lis
   pub small : AreSmall x places
   pub ahead : (j : ℕ) → x ≤ j → shown width 0 all j ≡ shown width x left j
   pub bytes : (j : ℕ) → x ≤ j → from + bytes_before width 0 all j ≡ at + bytes_before width x left j
+
+-- what n codes from one on leave in the row from a place on: the symbols behind them are left, or, behind a
+-- count, from that count on, and its places but one have the value of the digit behind it
+unfoldable pub Put : ℕ → List Spelled → ℕ → List ℕ → ℕ → List ℕ → ℕ → ℕ → Type 0
+Put width all start places from codes at zero =
+    Reached width all start places from (symbols_from codes at) at
+Put width all start places from codes at (suc n) =
+    (digit_value (code_of (slice_index codes (at + n))) < 16 →
+    Reached width all start places (from + added codes at (suc n)) (symbols_from codes (at + suc n))
+    (at + suc n))
+    × (16 ≤ digit_value (code_of (slice_index codes (at + n))) →
+    Reached width all start places (from + added codes at n) (symbols_from codes (at + n)) (at + n)
+    × ((i : ℕ) → from + added codes at n ≤ i → i < from + added codes at (suc n) →
+    slice_index places i ≡ digit_value (code_of (slice_index codes (at + suc n)))))
 
 -- none of the symbols that start before a place is refused, and the places from there on show what those show
 -- that are left

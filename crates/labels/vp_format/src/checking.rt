@@ -5,6 +5,7 @@ ghost use Rattle.vp_format.specs.Pictures.{passing};
 ghost use Rattle.vp_format.specs.Cursors.{symbols_from, Passed};
 
 use crate::codes::Symbol;
+use crate::counted::counted;
 use crate::digits::{LANES, digits_in};
 use crate::law::binary_law;
 use crate::reading::Codes;
@@ -36,7 +37,8 @@ fn pass_digits(bytes: &[u8], first: usize, from: u64, end: u64) -> (u64, usize)
     (x, at)
 }
 
-/// Passes digits, and those behind counts, in the same way.
+/// Passes digits, and those behind counts, in the same way. Sixteen codes that aren't all such are passed one
+/// by one.
 fn pass_runs(bytes: &[u8], first: usize, from: u64, end: u64) -> (u64, usize)
     requires first { first ≤ length bytes.now }
     requires end { end < 2 ^ 44 }
@@ -46,9 +48,19 @@ fn pass_runs(bytes: &[u8], first: usize, from: u64, end: u64) -> (u64, usize)
         Passed width all result.0 (symbols_from bytes.now result.1) }
 {
     let (mut x, mut at) = pass_digits(bytes, first, from, end);
+    let mut single = at;
     while x < end && bytes.len() - at > 1 {
+        if at > single && bytes.len() - at > LANES {
+            let (places, behind) = counted(bytes, at);
+            if behind > at {
+                x += places as u64;
+                at = behind;
+                continue;
+            }
+            single = at + LANES;
+        }
         let run = run_at(bytes, at);
-        if run.digit >= 16 || run.places >= OTHER {
+        if run.places >= OTHER {
             break;
         }
         x += run.places as u64;

@@ -2,7 +2,7 @@
 //!
 //! - `codes`: what a byte of run-length codes is.
 //! - `reading`: the bytes of codes, handed out one after the other, and counted.
-//! - `digits`, `short_runs`: the codes that most pictures are made of, read in a quick way.
+//! - `digits`, `counted`, `short_runs`: the codes that most pictures are made of, read in a quick way.
 //! - `packing`: the places of a row, and its bytes.
 //! - `row`: the row that starts at a place of the codes.
 //! - `rows`: the rows, one after the other. `checking`: whether any is refused.
@@ -12,6 +12,7 @@
 
 mod checking;
 mod codes;
+mod counted;
 mod digits;
 mod field;
 mod format;

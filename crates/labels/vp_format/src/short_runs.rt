@@ -5,32 +5,44 @@ ghost use Rattle.vp_format.specs.Cursors.{symbols_from, Reached};
 ghost use Rattle.vp_format.specs.declared.codes.Symbol.TheVariants.{Digits};
 
 use crate::codes::{count_value, digit_value};
+use crate::counted::put_counted;
+use crate::digits::LANES;
 use crate::packing::{SHORT, fill_short};
 
 /// More than two counts add.
 pub const OTHER: usize = 1000;
 
-/// A digit, and how many places it takes.
+/// A digit, and how many places it takes: `OTHER` or more where another code stands there.
 #[derive(Clone, Copy)]
 pub struct Run {
     pub places: usize,
-    /// 16 or more: another code stands there.
     pub digit: u8,
     /// The byte behind it.
     pub behind: usize,
 }
 
-/// The digit from a byte on, which may stand behind two counts; where it has `OTHER` places or more, another
-/// code stands before it.
+/// Another code before a byte.
+fn other(behind: usize) -> Run
+    ensures { result ≡ record { places = OTHER; digit = 0; behind = behind } }
+{
+    Run {
+        places: OTHER,
+        digit: 0,
+        behind,
+    }
+}
+
+/// The digit from a byte on, which may stand behind two counts.
 // Whether a count stands before it is added up, not asked, since no processor guesses it.
 #[inline(always)]
 pub fn run_at(bytes: &[u8], at: usize) -> Run
     requires { at + 1 < length bytes.now }
     ensures some { 0 < result.places }
     ensures few { result.places ≤ 2000 }
+    ensures digit { result.digit < 16 }
     ensures behind { at < result.behind }
     ensures inside { result.behind ≤ length bytes.now }
-    ensures symbol { result.places < OTHER → result.digit < 16 → symbols_from bytes.now at
+    ensures symbol { result.places < OTHER → symbols_from bytes.now at
         ≡ spelled (Digits result.places result.digit) (result.behind - at)
         ∷ symbols_from bytes.now result.behind }
 {
@@ -38,23 +50,31 @@ pub fn run_at(bytes: &[u8], at: usize) -> Run
     // of digits and counts, these are the counts
     let next = at + usize::from(bytes[at] | 0x20 > b'f');
     let digit = digit_value(bytes[next]);
-    if digit < 16 || bytes.len() - next == 1 {
+    if digit < 16 {
         return Run {
             places: count.max(1),
             digit,
             behind: next + 1,
         };
     }
+    if bytes.len() - next == 1 {
+        return other(next + 1);
+    }
     let sum = count + usize::from(count_value(bytes[next]));
+    let last = digit_value(bytes[next + 1]);
+    if last >= 16 {
+        return other(next + 2);
+    }
     Run {
         places: sum.max(1),
-        digit: digit_value(bytes[next + 1]),
+        digit: last,
         behind: next + 2,
     }
 }
 
 /// Reads digits and runs of at most `SHORT` places from place `from` of a row of `width` places on, as long
-/// as they end within it, and gives the place behind them and that of the next code that isn't read.
+/// as they end within it, and gives the place behind them and that of the next code that isn't read. Sixteen
+/// codes that can't be read at once are read one by one.
 // Each fills as many places, so that nothing hangs on how long it is.
 pub fn short_runs(
     bytes: &[u8],
@@ -78,13 +98,20 @@ pub fn short_runs(
 {
     let mut x = from;
     let mut at = first;
-    while bytes.len() - at > 1 {
+    let mut single = first;
+    while at + 1 < bytes.len() {
+        if at > single && bytes.len() - at > LANES {
+            single = at + (LANES - 1);
+            (x, at) = put_counted(bytes, at, x, width, places);
+            continue;
+        }
         let run = run_at(bytes, at);
-        if run.digit >= 16 || run.places > SHORT || run.places >= width - x {
+        let to = x + run.places;
+        if run.places > SHORT || to >= width {
             break;
         }
         fill_short(x, run.digit, places);
-        x += run.places;
+        x = to;
         at = run.behind;
     }
     (x, at)

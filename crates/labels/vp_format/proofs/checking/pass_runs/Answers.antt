@@ -10,6 +10,6 @@ loop-x-preserved c =
       behind = omega arith;
       inside = omega arith;
       passed = λ width all r.
-          let next = passed_at width all l.x l.x _ _ refl (run.ensures.symbol (omega arith) (omega arith)) (l.invariant.passed width all r) in
+          let next = passed_at width all l.x l.x _ _ refl (run.ensures.symbol (omega arith)) (l.invariant.passed width all r) in
           digits_passed width all l.x run.result.places _ _ _ next;
     }

@@ -1,4 +1,4 @@
-use Rattle.std.proofs.Common.{◌≡◌, ℕ, ◌-◌, ◌≤◌, List, length}
+use Rattle.std.proofs.Common.{◌≡◌, ℕ, ◌+◌, ◌-◌, ◌*◌, ◌≤◌, min, List, length}
 use Rattle.vp_format.specs.Codes.{Spelled}
 use Rattle.vp_format.specs.Cursors.{symbols_from, Reached}
 use Rattle.vp_format.proofs.short_runs.short_runs.Given as goal
@@ -15,4 +15,4 @@ invariant-loop-at l = record {
 }
 
 abbrev pub decreases-loop-at : goal.decreases-loop-at
-decreases-loop-at l = length l.bytes - l.at
+decreases-loop-at l = 2 * (length l.bytes - l.at) + min 1 (l.at - l.single)

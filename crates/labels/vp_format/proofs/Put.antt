@@ -1,0 +1,123 @@
+-- Places that are filled code by code.
+use Rattle.std.proofs.Common.{inl, inr, ◌≡◌, ℕ, zero, suc, ◌+◌, ◌-◌, ◌<◌, ◌≤◌, max, ltb, bit_or, List, length, get_or, subst, sym, ap, ◌∙◌, refl, arith}
+use Rattle.std.proofs.lemmas.Bool.{cases_lt}
+use mir.Val.{bool_byte}
+use Rattle.vp_format.specs.Codes.{code_of, Spelled}
+use Rattle.vp_format.specs.Cursors.{count_value, digit_value, places_of, added, symbols_from, Filled, IsRun, IsShortCount, Put, Reached}
+use Rattle.vp_format.proofs.Quick.{plain_symbol, run_symbol, run_taken, reached_same, digit_adds, behind_count}
+use Rattle.vp_format.proofs.Reached.{reached_at, run_reached, run_done}
+use Rattle.vp_format.proofs.Runs.{one_place, count_places}
+
+-- fewer codes add no more
+pub added_most : (codes : List ℕ) (at k n : ℕ) → k ≤ n → added codes at k ≤ added codes at n
+unfolding added
+added_most codes at k zero l = let e : 0 ≡ k = omega (arith, l) in subst (λ j. added codes at j ≤ added codes at 0) e (omega arith)
+added_most codes at k (suc n) l = elim (cases_lt k (suc n)) [
+  | inl b ↦ omega (arith, added_most codes at k n (omega (arith, b)))
+  | inr g ↦ (let e : suc n ≡ k = omega (arith, l, g) in subst (λ j. added codes at j ≤ added codes at (suc n)) e (omega arith))
+]
+
+module _ (w : ℕ) (all : List Spelled) (start : ℕ) (old new : List ℕ) (from : ℕ) (codes : List ℕ) (at : ℕ) where
+  -- a digit
+  digit_put : (k v : ℕ) → at + k < length codes → digit_value (code_of (get_or codes (at + k) 0)) < 16 → v ≡ digit_value (code_of (get_or codes (at + k) 0)) → Filled (from + added codes at k) (from + added codes at k + 32) v old new
+      → Reached w all start old (from + added codes at k) (symbols_from codes (at + k)) (at + k) → Reached w all start new (from + added codes at (suc k)) (symbols_from codes (at + suc k)) (at + suc k)
+  unfolding added
+  digit_put k v inside digit is f r =
+      let x = from + added codes at k in
+      let u = digit_value (code_of (get_or codes (at + k) 0)) in
+      let e : added codes at (suc k) ≡ added codes at k + 1 = ap (λ p. added codes at k + p) (one_place (code_of (get_or codes (at + k) 0)) digit) in
+      let there : at + k + 1 ≡ at + suc k = omega arith in
+      let filled = subst (λ q. Filled x (x + 32) q old new) is f in
+      let symbol = reached_at w all start old x x _ _ (at + k) (at + k) refl (plain_symbol codes (at + k) inside digit) refl r in
+      reached_at w all start new (x + 1) _ _ _ (at + k + 1) _ (omega (arith, e)) (ap (symbols_from codes) there) there
+      (run_taken w all start old new x 1 u _ (symbols_from codes (at + k + 1)) (at + k) (at + k + 1) (omega arith) (omega arith) digit (omega arith) refl filled symbol)
+
+  -- a count, whose places but one are filled
+  count_put : (k v : ℕ) → 16 ≤ digit_value (code_of (get_or codes (at + k) 0)) → IsShortCount (code_of (get_or codes (at + k) 0)) → v ≡ digit_value (code_of (get_or codes (at + suc k) 0)) → Filled (from + added codes at k) (from + added codes at k + 32) v old new
+      → Reached w all start old (from + added codes at k) (symbols_from codes (at + k)) (at + k)
+      → Reached w all start new (from + added codes at k) (symbols_from codes (at + k)) (at + k) × ((i : ℕ) → from + added codes at k ≤ i → i < from + added codes at (suc k) → get_or new i 0 ≡ digit_value (code_of (get_or codes (at + suc k) 0)))
+  unfolding added
+  count_put k v big short is f r =
+      let e : added codes at (suc k) ≡ added codes at k + (count_value (code_of (get_or codes (at + k) 0)) - 1) = ap (λ p. added codes at k + p) (count_places (code_of (get_or codes (at + k) 0)) big) in
+      (reached_same w all start old new (from + added codes at k) _ (at + k) f.kept r, λ i l m. f.filled i l (omega (arith, e, short.1, m)) ∙ is)
+
+  -- the digit behind it
+  pair_put : (j v : ℕ) → at + suc j < length codes → get_or codes (at + j) 0 < 256 → 16 ≤ digit_value (code_of (get_or codes (at + j) 0)) → IsShortCount (code_of (get_or codes (at + j) 0)) → digit_value (code_of (get_or codes (at + suc j) 0)) < 16
+      → v ≡ digit_value (code_of (get_or codes (at + suc j) 0)) → Filled (from + added codes at (suc j)) (from + added codes at (suc j) + 32) v old new → Reached w all start old (from + added codes at j) (symbols_from codes (at + j)) (at + j)
+      → ((i : ℕ) → from + added codes at j ≤ i → i < from + added codes at (suc j) → get_or old i 0 ≡ digit_value (code_of (get_or codes (at + suc j) 0))) → Reached w all start new (from + added codes at (suc (suc j))) (symbols_from codes (at + suc (suc j))) (at + suc (suc j))
+  unfolding added
+  pair_put j v inside byte big short digit is f r before =
+      let n = count_value (code_of (get_or codes (at + j) 0)) in
+      let u = digit_value (code_of (get_or codes (at + suc j) 0)) in
+      let y = from + added codes at j in
+      let to = from + added codes at (suc (suc j)) in
+      let behind = at + suc (suc j) in
+      let e : added codes at (suc j) ≡ added codes at j + (n - 1) = ap (λ p. added codes at j + p) (count_places (code_of (get_or codes (at + j) 0)) big) in
+      let g : added codes at (suc (suc j)) ≡ added codes at (suc j) + 1 = ap (λ p. added codes at (suc j) + p) (one_place (code_of (get_or codes (at + suc j) 0)) digit) in
+      let symbol = run_symbol codes (at + j) n (at + suc j) u (max n 1) behind inside (omega arith) byte refl (omega (arith, short.1)) (λ _. omega arith) (λ z. absurd (omega (arith, z, short.0))) refl digit refl (omega arith) in
+      let filled : Filled y to u old new = record {
+        kept = λ i l. f.kept i (omega (arith, l, e));
+        filled = λ i l m. elim (cases_lt i (from + added codes at (suc j))) [ inl b ↦ f.kept i b ∙ before i l b | inr b ↦ f.filled i b (omega (arith, m, g)) ∙ is ];
+      } in
+      let run = run_reached w all start old new y to (max n 1) u (behind - (at + j)) (symbols_from codes behind) (at + j) (omega (arith, e, g)) (omega (arith, e, g, short.0)) digit (reached_at w all start old y y _ _ (at + j) (at + j) refl symbol refl r) filled in
+      reached_at w all start new to to _ _ (at + j + (behind - (at + j))) behind refl refl (omega arith) (run_done w all start new to _ u (symbols_from codes behind) _ (omega (arith, e, g, short.0)) run)
+
+  next_digit : (k : ℕ) → digit_value (code_of (get_or codes (at + 1 + k) 0)) < 16 → digit_value (code_of (get_or codes (at + suc k) 0)) < 16
+  next_digit k h = let e : at + 1 + k ≡ at + suc k = omega arith in subst (λ i. digit_value (code_of (get_or codes i 0)) < 16) e h
+
+  next_value : (k v : ℕ) → v ≡ digit_value (code_of (get_or codes (at + 1 + k) 0)) → v ≡ digit_value (code_of (get_or codes (at + suc k) 0))
+  next_value k v h = let e : at + 1 + k ≡ at + suc k = omega arith in h ∙ ap (λ i. digit_value (code_of (get_or codes i 0))) e
+
+  -- one more code
+  pub put_step : (k v : ℕ) → at + suc k < length codes → ((i : ℕ) → get_or codes i 0 < 256) → ((i : ℕ) → i < suc k → IsRun (code_of (get_or codes (at + i) 0)) (code_of (get_or codes (at + 1 + i) 0)))
+      → (digit_value (code_of (get_or codes (at + k) 0)) < 16 → v ≡ digit_value (code_of (get_or codes (at + k) 0))) → (16 ≤ digit_value (code_of (get_or codes (at + k) 0)) → v ≡ digit_value (code_of (get_or codes (at + 1 + k) 0)))
+      → Filled (from + added codes at k) (from + added codes at k + 32) v old new → Put w all start old from codes at k → Put w all start new from codes at (suc k)
+  unfolding added Put
+  put_step zero v inside few runs own next f p =
+      let e : from ≡ from + added codes at 0 = omega arith in
+      let there : at ≡ at + 0 = omega arith in
+      let r = reached_at w all start old from _ _ _ at _ e (ap (symbols_from codes) there) there p in
+      (λ d. digit_put 0 v (omega (arith, inside)) d (own d) f r, λ big. count_put 0 v big (runs 0 (omega arith) big).0 (next_value 0 v (next big)) f r)
+  put_step (suc j) v inside few runs own next f p = (
+    λ d. elim (cases_lt (digit_value (code_of (get_or codes (at + j) 0))) 16) [
+      | inl b ↦ digit_put (suc j) v (omega (arith, inside)) d (own d) f (p.0 b)
+      | inr g ↦ pair_put j v (omega (arith, inside)) (few (at + j)) g (runs j (omega arith) g).0 d (own d) f (p.1 g).0 (p.1 g).1
+    ],
+    λ big. count_put (suc j) v big (runs (suc j) (omega arith) big).0 (next_value (suc j) v (next big)) f (p.0 (elim (cases_lt (digit_value (code_of (get_or codes (at + j) 0))) 16) [
+      | inl b ↦ b
+      | inr g ↦ absurd (omega (arith, next_digit j (runs j (omega arith) g).1, big))
+    ])),
+  )
+
+  -- sixteen codes, and the digit behind the last of them where that is a count
+  pub put_all : (n more v : ℕ) → at + 16 < length codes → ((i : ℕ) → get_or codes i 0 < 256) → ((i : ℕ) → i < 16 → IsRun (code_of (get_or codes (at + i) 0)) (code_of (get_or codes (at + 1 + i) 0)))
+      → v ≡ digit_value (code_of (get_or codes (at + 16) 0)) → n ≡ from + added codes at 16 → more ≡ bool_byte (ltb 102 (bit_or (get_or codes (at + 15) 0) 32)) → Filled n (n + 32) v old new
+      → Put w all start old from codes at 16 → Reached w all start new (n + more) (symbols_from codes (at + 16 + more)) (at + 16 + more)
+  unfolding added Put
+  put_all n more v inside few runs is place asked f p =
+      let c = code_of (get_or codes (at + 15) 0) in
+      let filled = subst (λ q. Filled q (q + 32) v old new) place f in
+      elim (cases_lt (digit_value c) 16) [
+        | inl d ↦ (let none : at + 15 + more ≡ at + 15 = (behind_count (get_or codes (at + 15) 0) 0 more (at + 15) (few (at + 15)) (sym (digit_adds c d)) (omega arith) asked).1 refl in
+            let there : at + 16 ≡ at + 16 + more = omega (arith, none) in
+            reached_at w all start new (from + added codes at 16) _ _ _ (at + 16) _ (omega (arith, place, none)) (ap (symbols_from codes) there) there (reached_same w all start old new (from + added codes at 16) _ (at + 16) filled.kept (p.0 d)))
+        | inr g ↦ (let last = runs 15 (omega arith) g in
+            let one : at + 15 + more ≡ at + 15 + 1 = (behind_count (get_or codes (at + 15) 0) (count_value c) more (at + 15) (few (at + 15)) refl (omega (arith, last.0.1)) asked).0 last.0.0 in
+            let there : at + 17 ≡ at + 16 + more = omega (arith, one) in
+            let digit = next_digit 15 last.1 in
+            let e : added codes at 17 ≡ added codes at 16 + 1 = ap (λ q. added codes at 16 + q) (one_place (code_of (get_or codes (at + 16) 0)) digit) in
+            reached_at w all start new (from + added codes at 17) _ _ _ (at + 17) _ (omega (arith, place, one, e)) (ap (symbols_from codes) there) there (pair_put 15 v inside (few (at + 15)) g last.0 digit is filled (p.1 g).0 (p.1 g).1))
+      ]
+
+-- before the first code
+pub put_none : (w : ℕ) (all : List Spelled) (start : ℕ) (places : List ℕ) (from : ℕ) (codes : List ℕ) (at : ℕ) → Reached w all start places from (symbols_from codes at) at → Put w all start places from codes at 0
+unfolding Put
+put_none w all start places from codes at r = r
+
+pub added_none : (codes : List ℕ) (at : ℕ) → added codes at 0 ≡ 0
+unfolding added
+added_none codes at = refl
+
+pub added_more : (codes : List ℕ) (at k : ℕ) → added codes at (k + 1) ≡ added codes at k + places_of (code_of (get_or codes (at + k) 0))
+unfolding added
+added_more codes at k = let e : k + 1 ≡ suc k = omega arith in ap (added codes at) e
