@@ -1,5 +1,6 @@
 pub mod Cuts
 pub mod Faults
+pub mod OfBytes
 pub mod Escs
 pub mod Steps
 pub mod Runs

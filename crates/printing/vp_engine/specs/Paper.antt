@@ -1,8 +1,9 @@
 -- A language as data, and what is said of every language.
-use Rattle.std.specs.Prelude.{◌≡◌, ℕ, Bool, true, if◌then◌else◌, List, [], ◌∷◌, ◌++◌, length, drop, reverse, Option, Some, None, is_some}
+use Rattle.std.specs.Prelude.{◌≡◌, ◌≤◌, ◌<◌, ℕ, Bool, true, if◌then◌else◌, List, [], ◌∷◌, ◌++◌, length, drop, reverse, Option, Some, None, is_some}
 use Rattle.std.specs.Option.{option_or}
 use Rattle.vp_dots.specs.declared.fault.Fault.{Fault}
 use Rattle.vp_dots.specs.declared.fault.Fault.TheVariants.{Truncated, Unprinted}
+use Rattle.vp_dots.specs.Faults.{number_of}
 use Rattle.vp_engine.specs.declared.held.Held.{Held}
 use Rattle.vp_engine.specs.Bytes.{IsPrefix}
 
@@ -43,6 +44,14 @@ pub record Reads {Item : Type 0} (reading : Reading Item) : Type 0 where
   pub grows : (bytes more : List ℕ) → IsPrefix (reading.items bytes) (reading.items (bytes ++ more))
   pub stays : (bytes more : List ℕ) (f : Fault)
       → reading.fault_of bytes ≡ Some f → reading.fault_of (bytes ++ more) ≡ Some f
+
+-- F1 to F7, which a byte makes
+abbrev pub IsOfByte : Fault → Type 0
+IsOfByte f = number_of f ≤ 7
+
+-- F8 and F9, which are what is missing where bytes end
+abbrev pub IsOfEnd : Fault → Type 0
+IsOfEnd f = 7 < number_of f
 
 -- where bytes end: a command's end, or what would print what is gathered
 abbrev pub missing : Bool → Bool → Option Fault

@@ -14,7 +14,7 @@ ghost use Rattle.vp_engine.specs.Bytes.{IsPrefix};
 ghost use Rattle.vp_engine.specs.Images.{receipts, IsPrinted, images_of, begun_of, labels, images_of_labels};
 ghost use Rattle.vp_engine.specs.Listing.{lines};
 ghost use Rattle.vp_engine.specs.Offsets.{offset_of, placed_line};
-ghost use Rattle.vp_engine.specs.Paper.{Reads, before_fault, fault, paper};
+ghost use Rattle.vp_engine.specs.Paper.{Reads, IsOfByte, IsOfEnd, before_fault, ending, fault, paper};
 ghost use Rattle.vp_engine.specs.Setups.{Setup, reading, rules_of};
 ghost use Rattle.vp_engine.specs.Setups.{line, Listing, ListingWithOffsets};
 
@@ -46,6 +46,15 @@ pub fn nothing_follows_a_fault()
     ensures paper { (setup : Setup) (bytes more : List ℕ) (f : Fault) →
         fault (rules_of setup) bytes ≡ Some f →
         paper (rules_of setup) (bytes ++ more) ≡ paper (rules_of setup) bytes }
+{}
+
+/// A byte makes a fault of F1 to F7, in each language and in its listings; what is missing where bytes end is
+/// F8 or F9. So the fault alone tells whether more bytes may follow.
+pub fn the_fault_tells_the_end()
+    ensures byte { (setup : Setup) (bytes : List ℕ) (f : Fault) →
+        fault (rules_of setup) bytes ≡ Some f → IsOfByte f }
+    ensures end { (setup : Setup) (bytes : List ℕ) (f : Fault) →
+        ending (rules_of setup) bytes ≡ Some f → IsOfEnd f }
 {}
 
 /// The paper of a listing is the lines of the items before the first fault, with their places or without.

@@ -1,15 +1,15 @@
 //! The printer: a machine, over bytes that come and go in any pieces.
-ghost use Rattle.std.specs.Prelude.{◌≡◌, ◌≤◌, ◌<◌, ◌+◌, ◌∷◌, ◌++◌, ◌↔◌, List, [], ℕ, IsTrue, IsSome, IfOk, Some, None, Option, MatchResult, length, min, take, drop};
+ghost use Rattle.std.specs.Prelude.{◌≡◌, ◌≤◌, ◌<◌, ◌+◌, ◌∷◌, ◌++◌, ◌↔◌, List, [], ℕ, IsTrue, IsSome, IfOk, Some, None, Option, MatchOption, MatchResult, length, min, take, drop};
 ghost use Rattle.vp_dots.specs.declared.fault.Fault.{Fault};
 ghost use Rattle.vp_engine.specs.Answers.{IsMore, IsRoom, IsStopped, IsStill, IsBounded};
 ghost use Rattle.vp_engine.specs.Machines.{MachineStands, TookNothing};
-ghost use Rattle.vp_engine.specs.Paper.{history, before_fault, fault, fault_at_end, held_after};
+ghost use Rattle.vp_engine.specs.Paper.{IsOfByte, history, before_fault, fault, fault_at_end, held_after};
 ghost use Rattle.vp_engine.specs.Setups.{Setup, setup_of, rules_of, lines_of};
 ghost use Rattle.vp_engine.specs.Setups.{Listing, ListingWithOffsets};
 ghost use Rattle.vp_engine.specs.Stands.{Stands};
 
 use crate::held::Held;
-use crate::laws::items_grow;
+use crate::laws::{items_grow, the_fault_tells_the_end};
 use crate::machine::{Machine, Moved};
 use std::alloc::{AllocError, Global};
 use std::marker::Model;
@@ -174,7 +174,9 @@ impl Printer {
     pub fn stopped(&self) -> Option<Fault>
         ensures value { result ≡ self.now.stopped }
         ensures idle { IsSome result → self.now.pending ≡ [] }
+        ensures byte { MatchOption result Unit IsOfByte }
     {
+        the_fault_tells_the_end();
         self.stopped
     }
 
@@ -205,6 +207,9 @@ impl Printer {
             result.state ≡ State.Stopped f →
             IsStopped setup f (t ++ take result.taken input.now) (o ++ take result.put output.new) }
         ensures nothing_after { (f : Fault) → self.old.stopped ≡ Some f → IsStill f result }
+        ensures idle { result.state ≡ State.More → self.new.pending ≡ [] }
+        ensures waits { result.state ≡ State.Room → 0 < length self.new.pending }
+        ensures byte { (f : Fault) → result.state ≡ State.Stopped f → IsOfByte f }
     {
         let mut put = self.put(output);
         let mut taken = 0;

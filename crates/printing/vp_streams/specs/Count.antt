@@ -16,3 +16,13 @@ one_more_if b count = if b then grown count 1 else count
 abbrev pub has_failed_to_write : {E : Type 0} → Result ℕ E → Bool
 has_failed_to_write (Ok n) = n == 0
 has_failed_to_write (Err e) = true
+
+-- a reader or a writer, how often it was called, and how many of the calls failed
+pub record Tally (T : Type 0) : Type 0 where
+  pub inner : T
+  pub calls : ℕ
+  pub failed : ℕ
+
+-- no call is counted yet
+abbrev pub uncounted : {T : Type 0} → T → Tally T
+uncounted inner = record { inner = inner; calls = 0; failed = 0 }

@@ -2,10 +2,11 @@
 ghost use Rattle.std.specs.Prelude.{◌≡◌, ◌≤◌, ℕ, List, Option, Ok, Err, is_err, length, take};
 ghost use Rattle.std.specs.Io.{ReadsAtMost, WritesAtMost};
 ghost use Rattle.std.specs.Io.KnownBytes.{ReadConsumes, WriteAppends};
-ghost use Rattle.vp_streams.specs.Count.{grown, one_more_if, has_failed_to_write};
+ghost use Rattle.vp_streams.specs.Count.{grown, one_more_if, has_failed_to_write, uncounted};
 
 use std::io;
 use std::io::{Read, Write};
+use std::marker::Model;
 
 /// A reader that counts its calls, and apart those that failed.
 pub trait Source {
@@ -54,10 +55,18 @@ pub struct Counted<T> {
     failed: u64,
 }
 
+impl<T> Model for Counted<T> {
+    ghost use Rattle.vp_streams.specs.Count.{Tally};
+
+    ghost Value = { Tally T };
+
+    ghost view = { λ c. record { inner = c.inner; calls = c.calls; failed = c.failed } };
+}
+
 impl<T> Counted<T> {
     /// Nothing is counted yet.
     pub fn new(inner: T) -> Self
-        ensures { result ≡ record { inner = inner; calls = 0; failed = 0 } }
+        ensures { result ≡ uncounted inner }
     {
         Counted {
             inner,

@@ -1,7 +1,8 @@
-use Rattle.std.proofs.Common.{rules, arith, ◌≡◌, ◌≤◌, ◌+◌, ◌-◌, ◌++◌, [], is_some, true, false, Some, None, length, take, drop, length-drop, length-append, refl, sym, ap, subst₂, append_assoc, ◌∙◌}
+use Rattle.std.proofs.Common.{rules, arith, ◌≡◌, ◌≤◌, ◌+◌, ◌-◌, ◌++◌, [], is_some, true, false, Some, None, length, take, drop, length-drop, length-append, refl, sym, ap, subst, subst₂, append_assoc, ◌∙◌}
 use Rattle.std.proofs.lemmas.List.{append-nil}
 use Rattle.vp_engine.proofs.Cuts.{front_more, cut_length, cut_take, cut_drop, part_is, rest_same, empty_unless, none_is_not_some}
 use borrow.Rule.Slice.PartMut.{put_mid}
+use Rattle.vp_engine.specs.Paper.{IsOfByte}
 use Rattle.vp_engine.specs.Stands.{Stands}
 use Rattle.vp_engine.proofs.printer.Printer.step.Goals as goal
 use Rattle.vp_engine.proofs.printer.Printer.step.Goals.{then-loop-taken-test+then-is_none+else-not-pending, then-loop-taken-test+else-is_none, else-loop-taken-test}
@@ -113,3 +114,32 @@ returns-in-None-clause-room c e setup t o s =
       full = c.loop-taken.invariant.full some;
       more = omega (arith, some, ap length now.pending, length-append (o ++ take c.loop-taken.put c.loop-taken.output) c.loop-taken.self.pending);
     }
+
+pub returns-in-None-2-clause-idle : goal.returns-in-None-2-clause-idle
+returns-in-None-2-clause-idle c e = empty_unless _ c.if-pending.ensures.1
+
+pub returns-in-None-clause-waits : goal.returns-in-None-clause-waits
+returns-in-None-clause-waits c e = c.if-pending.ensures.0 refl
+
+pub returns-in-Some-clause-idle : goal.returns-in-Some-clause-idle
+returns-in-Some-clause-idle c e = cc
+
+pub returns-in-Some-clause-waits : goal.returns-in-Some-clause-waits
+returns-in-Some-clause-waits c e = cc
+
+pub returns-in-Some-clause-byte : goal.returns-in-Some-clause-byte
+returns-in-Some-clause-byte c f e =
+    let same : c.in-Some.fault ≡ f = cc in
+    subst IsOfByte same c.in-Some.ensures.byte
+
+pub returns-in-None-clause-idle : goal.returns-in-None-clause-idle
+returns-in-None-clause-idle c e = cc
+
+pub returns-in-None-clause-byte : goal.returns-in-None-clause-byte
+returns-in-None-clause-byte c f e = cc
+
+pub returns-in-None-2-clause-waits : goal.returns-in-None-2-clause-waits
+returns-in-None-2-clause-waits c e = cc
+
+pub returns-in-None-2-clause-byte : goal.returns-in-None-2-clause-byte
+returns-in-None-2-clause-byte c f e = cc
