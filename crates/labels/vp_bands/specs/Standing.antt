@@ -1,5 +1,5 @@
 -- What is kept of the fields of a label while it is put out.
-use Rattle.std.specs.Prelude.{◌≡◌, ℕ, ◌+◌, ◌*◌, ◌^◌, ◌<◌, ◌≤◌, true, List, map, filter, length, Option, slice_index_or}
+use Rattle.std.specs.Prelude.{◌≡◌, ℕ, ◌+◌, ◌*◌, ◌^◌, ◌<◌, ◌≤◌, true, List, map, filter, length, vec_capacity, Option, slice_index_or}
 use Rattle.std.specs.List.{All}
 use Rattle.vp_glyph.specs.declared.Sheets.{Sheets}
 use Rattle.vp_format.specs.declared.field.Field.{Field}
@@ -14,7 +14,8 @@ use Rattle.vp_bands.specs.declared.painter.BandPainter.TheInside.{Inside}
 
 -- the entries of the fields, in the order of closing; the first that begins in each band; of each entry that
 -- is carried over the next such one; the marks of the pictures; the first entry that is carried to the next
--- band; how often an entry or a link was read since the copy's start, and what painting took
+-- band; how often an entry or a link was read since the copy's start, and what painting took; for how many
+-- fields the marks have room
 pub record Threaded : Type 0 where
   pub entries : List Entry
   pub heads : List (Option ℕ)
@@ -23,6 +24,7 @@ pub record Threaded : Type 0 where
   pub carried : Option ℕ
   pub looks : ℕ
   pub work : ℕ
+  pub room : ℕ
 
 abbrev pub threaded_by : Inside → Threaded
 threaded_by p =
@@ -34,14 +36,16 @@ threaded_by p =
       carried = p.threads.carried;
       looks = p.threads.looks;
       work = p.work;
+      room = vec_capacity p.marks;
     }
 
--- there is room for 1,024 fields and 250 bands
+-- there is room for 1,024 fields and 250 bands, and each field has marks
 pub record HasRoom (p : Inside) : Type 0 where
   pub entries : length p.threads.entries ≤ 1024
   pub heads : length p.threads.heads ≡ 250
   pub links : length p.threads.links ≡ 1024
-  pub marks : length p.marks.items ≡ 1024
+  pub marks : length p.threads.entries ≤ length p.marks.items
+  pub room : vec_capacity p.marks ≡ 1024
 
 abbrev pub entry_work : Entry → ℕ
 entry_work e = most_work e.field.orientation e.field.content

@@ -1,5 +1,5 @@
 //! All bands of a label, copy after copy.
-ghost use Rattle.std.specs.Prelude.{◌≡◌, ℕ, ◌+◌, ◌*◌, ◌<◌, ◌≤◌, List, [], map, slice_index_or, IfOk};
+ghost use Rattle.std.specs.Prelude.{◌≡◌, ℕ, ◌+◌, ◌*◌, ◌<◌, ◌≤◌, List, [], length, map, slice_index_or, vec_capacity, IfOk};
 ghost use Rattle.std.specs.List.{All};
 ghost use Rattle.vp_dots.specs.Dots.{dot};
 ghost use Rattle.vp_glyph.specs.declared.Sheets.{Sheets as Given};
@@ -40,16 +40,28 @@ impl Model for BandPainter {
     ghost invariant = { HasRoom };
 }
 
+/// Makes a place for the marks of each of `fields` fields, in room that was taken before.
+fn hold_marks(marks: &mut Vec<Marks>, fields: usize)
+    requires { fields ≤ vec_capacity marks.old }
+    ensures held { fields ≤ length marks.new.items }
+    ensures room { vec_capacity marks.new ≡ vec_capacity marks.old }
+{
+    while marks.len() < fields {
+        marks.push_reserved(Marks::none());
+    }
+}
+
 impl BandPainter {
     /// A painter of a label without fields: the only call that takes memory.
     pub fn new(alloc: Global) -> Result<Self, AllocError>
         ensures none { IfOk result (λ painter. painter.entries ≡ []) }
         ensures looks { IfOk result (λ painter. painter.looks ≡ 0) }
         ensures work { IfOk result (λ painter. painter.work ≡ 0) }
+        ensures room { IfOk result (λ painter. painter.room ≡ FIELDS) }
     {
         Ok(BandPainter {
             threads: Threads::new(alloc, BANDS)?,
-            marks: vec![in alloc; Marks::none(); FIELDS]?,
+            marks: Vec::with_capacity(alloc, FIELDS)?,
             work: 0,
         })
     }
@@ -62,7 +74,9 @@ impl BandPainter {
         ensures before { IsBefore sheets.now format.now.stored view 0 self.new }
         ensures looks { self.new.looks ≡ 0 }
         ensures work { self.new.work ≡ 0 }
+        ensures room { self.new.room ≡ self.old.room }
     {
+        hold_marks(&mut self.marks, format.len());
         thread_fields(&mut self.threads, sheets, format, view);
         self.threads.start();
         self.work = 0;

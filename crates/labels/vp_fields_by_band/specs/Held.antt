@@ -1,33 +1,35 @@
 -- What is held of the fields of a label, and how often it was read.
-use Rattle.std.specs.Prelude.{◌≡◌, ℕ, ◌+◌, ◌≤◌, List, length, take, Option}
+use Rattle.std.specs.Prelude.{◌≡◌, ℕ, ◌+◌, ◌≤◌, List, length, vec_capacity, Option}
 use Rattle.vp_fields_by_band.specs.declared.table.Entry.{Entry}
 use Rattle.vp_fields_by_band.specs.declared.table.Threads.TheInside.{Inside}
 
 -- the entries of the fields, in the order of closing; the first that begins in each band; of each entry that
 -- is carried over the next such one; the first entry that is carried to the next band; how often an entry,
--- the first of a band or a link was read since the copy's start
+-- the first of a band or a link was read since the copy's start; for how many entries there is room
 pub record Table : Type 0 where
   pub entries : List Entry
   pub heads : List (Option ℕ)
   pub links : List (Option ℕ)
   pub carried : Option ℕ
   pub looks : ℕ
+  pub room : ℕ
 
 abbrev pub table_by : Inside → Table
 table_by t =
     record {
-      entries = take t.len t.entries.items;
+      entries = t.entries.items;
       heads = t.heads.items;
       links = t.links.items;
       carried = t.carried;
       looks = t.looks;
+      room = vec_capacity t.entries;
     }
 
 -- there is room for 1,024 entries and their links
 pub record HasRoom (t : Inside) : Type 0 where
-  pub entries : length t.entries.items ≡ 1024
+  pub entries : length t.entries.items ≤ 1024
   pub links : length t.links.items ≡ 1024
-  pub filled : t.len ≤ 1024
+  pub room : vec_capacity t.entries ≡ 1024
 
 -- the table after one more look
 abbrev pub looked : Table → Table

@@ -1,14 +1,12 @@
 //! The table: which bands each field meets, and which field comes next in its band. It is read
 //! by calls alone, each of which is counted.
-ghost use Rattle.std.specs.Prelude.{◌≡◌, ℕ, ◌+◌, ◌^◌, ◌<◌, ◌≤◌, [], ◌∷◌, ◌++◌, Option, None, length, slice_set, take, IfOk};
+ghost use Rattle.std.specs.Prelude.{◌≡◌, ℕ, ◌+◌, ◌^◌, ◌<◌, ◌≤◌, [], ◌∷◌, ◌++◌, Option, None, length, slice_set, IfOk};
 ghost use Rattle.vp_fields_by_band.specs.Threads.{entry_at, link_at, IsPlaced, KeepsSpans, ThreadedFrom};
 ghost use Rattle.vp_fields_by_band.specs.Held.{looked};
 
 use std::alloc::{AllocError, Global};
 use std::marker::Model;
-use vp_dots::Op;
-use vp_format::{Content, FIELDS, Field, GraphicBox};
-use vp_zpl::item::Orientation;
+use vp_format::{FIELDS, Field};
 
 /// A field, the bands that it begins and ends in, and the next field that begins in the same band.
 /// One that ends before it begins meets none.
@@ -19,24 +17,6 @@ pub struct Entry {
     pub last: usize,
     pub next: Option<usize>,
 }
-
-/// What stands in the table where no entry is held: it meets no band.
-const NO_ENTRY: Entry = Entry {
-    field: Field {
-        left: 0,
-        top: 0,
-        orientation: Orientation::Normal,
-        op: Op::Black,
-        content: Content::Box(GraphicBox {
-            width: 1,
-            height: 1,
-            thickness: 1,
-        }),
-    },
-    first: 1,
-    last: 0,
-    next: None,
-};
 
 /// Puts entry `k` before those of its band.
 fn thread_one(entries: &mut [Entry], k: usize, heads: &mut [Option<usize>])
@@ -82,25 +62,11 @@ fn thread_all(entries: &mut [Entry], heads: &mut [Option<usize>])
     }
 }
 
-/// Threads the first of the entries, whatever began in the bands before.
-fn thread_first(entries: &mut [Entry], len: usize, heads: &mut [Option<usize>])
-    requires within { len ≤ length entries.old }
-    requires placed { (k : ℕ) → k < length (take len entries.old)
-        → IsPlaced (entry_at (take len entries.old) k) (length heads.old) }
-    ensures spans { KeepsSpans (take len entries.old) (take len entries.new) }
-    ensures table { ThreadedFrom (take len entries.new) heads.new 0 }
-    ensures lengths { (length entries.new ≡ length entries.old) × (length heads.new ≡ length heads.old) }
-{
-    clear_heads(heads);
-    thread_all(&mut entries[..len], heads);
-}
-
 /// At most 1,024 fields, threaded by the bands that they begin in, and from band to band. An entry, the first
 /// of a band and a link are read by calls alone, each of which counts a look.
 #[derive(Drop)]
 pub struct Threads {
     entries: Vec<Entry>,
-    len: usize,
     heads: Vec<Option<usize>>,
     links: Vec<Option<usize>>,
     carried: Option<usize>,
@@ -125,10 +91,10 @@ impl Threads {
         ensures links { IfOk result (λ threads. length threads.links ≡ FIELDS) }
         ensures carried { IfOk result (λ threads. threads.carried ≡ None) }
         ensures looks { IfOk result (λ threads. threads.looks ≡ 0) }
+        ensures room { IfOk result (λ threads. threads.room ≡ FIELDS) }
     {
         Ok(Threads {
-            entries: vec![in alloc; NO_ENTRY; FIELDS]?,
-            len: 0,
+            entries: Vec::with_capacity(alloc, FIELDS)?,
             heads: vec![in alloc; None; bands]?,
             links: vec![in alloc; None; FIELDS]?,
             carried: None,
@@ -140,7 +106,7 @@ impl Threads {
     pub fn clear(&mut self)
         ensures { self.new ≡ record self.old { entries = [] } }
     {
-        self.len = 0;
+        self.entries.clear();
     }
 
     /// Adds an entry behind those that are held.
@@ -148,8 +114,7 @@ impl Threads {
         requires { length self.old.entries < FIELDS }
         ensures { self.new ≡ record self.old { entries = self.old.entries ++ entry ∷ [] } }
     {
-        self.entries[self.len] = entry;
-        self.len += 1;
+        self.entries.push_reserved(entry);
     }
 
     /// Threads the entries by the band that they begin in.
@@ -162,8 +127,10 @@ impl Threads {
         ensures heads { length self.new.heads ≡ length self.old.heads }
         ensures links { self.new.links ≡ self.old.links }
         ensures looks { self.new.looks ≡ self.old.looks }
+        ensures room { self.new.room ≡ self.old.room }
     {
-        thread_first(&mut self.entries, self.len, &mut self.heads);
+        clear_heads(&mut self.heads);
+        thread_all(&mut self.entries, &mut self.heads);
     }
 
     /// Goes back before the first band, where nothing is carried over and nothing was read.
