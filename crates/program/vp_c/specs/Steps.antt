@@ -2,7 +2,7 @@
 use Rattle.std.specs.Prelude.{◌≢◌, ◌≡◌, ◌<◌, ◌≤◌, ◌++◌, ◌↔◌, ℕ, List, [], length, take, drop, Option, Some, None}
 use Rattle.vp_dots.specs.declared.fault.Fault.{Fault}
 use Rattle.vp_engine.specs.Answers.{IsMore, IsRoom, IsStopped}
-use Rattle.vp_engine.specs.Paper.{fault}
+use Rattle.vp_engine.specs.Paper.{IsOfByte, fault}
 use Rattle.vp_engine.specs.Setups.{Setup, rules_of}
 use Rattle.vp_engine.specs.Stands.{Engine, Stands}
 use Rattle.vp_engine.specs.declared.printer.State.{State}
@@ -62,6 +62,9 @@ pub record IsStep (old new : Engine) (input before after : List ℕ) (done : Pro
   pub no_fault_else : done.state ≢ STOPPED → done.fault ≡ no_fault
   pub nothing_after : (f : Fault) → old.stopped ≡ Some f
       → (done.taken ≡ 0) × (done.put ≡ 0) × Stops f done
+  pub idle : done.state ≡ MORE → new.pending ≡ []
+  pub waits : done.state ≡ ROOM → 0 < length new.pending
+  pub byte : (f : Fault) → Stops f done → IsOfByte f
 
 -- behind a handle: nothing is done where there is no printer
 abbrev pub IsStepOf : Option Engine → Option Engine → List ℕ → List ℕ → List ℕ → Progress → ℕ → Type 0

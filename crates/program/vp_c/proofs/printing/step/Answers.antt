@@ -25,4 +25,7 @@ returns c =
       stopped_at = λ f setup t o stands h. e.stopped_at f setup t o stands (is_stopped s f h);
       no_fault_else = λ h. no_fault_unless s.state h;
       nothing_after = λ f h. let still = e.nothing_after f h in (still.taken, still.put, stops s f still.state);
+      idle = λ h. e.idle (is_more s.state h);
+      waits = λ h. e.waits (is_room s.state h);
+      byte = λ f h. e.byte f (is_stopped s f h);
     })
