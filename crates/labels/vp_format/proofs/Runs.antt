@@ -7,7 +7,6 @@ use Rattle.std.proofs.lemmas.Simd.{map-map, mask_l-mod, none_from_empty_mask, zi
 use Rattle.std.specs.Simd.Lanes.{chunk, mask_l, top, zip2, sel_l, fold_l, sum_l, products, dots}
 use mir.Val.{bool_byte}
 use Rattle.vp_format.specs.declared.codes.Code.{Code}
-use Rattle.vp_format.specs.declared.codes.Symbol.TheVariants.{Digits}
 use Rattle.vp_format.specs.Codes.{code_of, Spelled}
 use Rattle.vp_format.specs.Cursors.{count_value, digit_value, places_of, added, symbols_from, IsRun, IsShortCount, Passed}
 use Rattle.vp_format.proofs.Lanes.{less, up_to, other, value_by}

@@ -37,8 +37,8 @@ fn pass_digits(bytes: &[u8], first: usize, from: u64, end: u64) -> (u64, usize)
     (x, at)
 }
 
-/// Passes digits, and those behind counts, in the same way. Sixteen codes that aren't all such are passed one
-/// by one.
+/// Passes digits, and those behind counts, in the same way. Sixteen codes that can't be passed at once are
+/// passed one by one.
 fn pass_runs(bytes: &[u8], first: usize, from: u64, end: u64) -> (u64, usize)
     requires first { first ≤ length bytes.now }
     requires end { end < 2 ^ 44 }
@@ -50,14 +50,12 @@ fn pass_runs(bytes: &[u8], first: usize, from: u64, end: u64) -> (u64, usize)
     let (mut x, mut at) = pass_digits(bytes, first, from, end);
     let mut single = at;
     while x < end && bytes.len() - at > 1 {
-        if at > single && bytes.len() - at > LANES {
+        if at > single {
+            single = at + (LANES - 1);
             let (places, behind) = counted(bytes, at);
-            if behind > at {
-                x += places as u64;
-                at = behind;
-                continue;
-            }
-            single = at + LANES;
+            x += places as u64;
+            at = behind;
+            continue;
         }
         let run = run_at(bytes, at);
         if run.places >= OTHER {

@@ -43,9 +43,10 @@ fn places_added(bytes: &[u8], at: usize) -> u32
 }
 
 /// How many places sixteen codes from a byte on take, with the digit behind the last of them where that is a
-/// count, and the byte behind; none where one isn't a digit, or a count up to 19 with a digit behind it.
+/// count, and the byte behind; none where one isn't a digit, or a count up to 19 with a digit behind it, and
+/// where none comes behind the sixteen.
 pub fn counted(bytes: &[u8], at: usize) -> (usize, usize)
-    requires { at + LANES < length bytes.now }
+    requires { at ≤ length bytes.now }
     ensures few { result.0 ≤ 4081 }
     ensures behind { at ≤ result.1 }
     ensures inside { result.1 ≤ length bytes.now }
@@ -53,6 +54,9 @@ pub fn counted(bytes: &[u8], at: usize) -> (usize, usize)
         Passed width all x (symbols_from bytes.now at) →
         Passed width all (x + result.0) (symbols_from bytes.now result.1) }
 {
+    if bytes.len() - at <= LANES {
+        return (0, at);
+    }
     if !are_runs(bytes, at) {
         return (0, at);
     }
@@ -135,7 +139,7 @@ pub fn put_counted(
     width: usize,
     places: &mut [u8],
 ) -> (usize, usize)
-    requires bytes { at + LANES < length bytes.now }
+    requires at { at ≤ length bytes.now }
     requires from { from ≤ width }
     requires short { width ≤ 2048 }
     requires room { width + SHORT ≤ length places.old }
@@ -148,6 +152,9 @@ pub fn put_counted(
         Reached width all start places.old from (symbols_from bytes.now at) at
         → Reached width all start places.new result.0 (symbols_from bytes.now result.1) result.1 }
 {
+    if bytes.len() - at <= LANES {
+        return (from, at);
+    }
     if !are_runs(bytes, at) {
         return (from, at);
     }

@@ -100,7 +100,7 @@ pub fn short_runs(
     let mut at = first;
     let mut single = first;
     while at + 1 < bytes.len() {
-        if at > single && bytes.len() - at > LANES {
+        if at > single {
             single = at + (LANES - 1);
             (x, at) = put_counted(bytes, at, x, width, places);
             continue;

@@ -1,4 +1,4 @@
-use Rattle.std.proofs.Common.{ℕ, ◌-◌, ◌≤◌, List, length}
+use Rattle.std.proofs.Common.{ℕ, ◌+◌, ◌-◌, ◌*◌, ◌≤◌, min, List, length}
 use Rattle.vp_format.specs.Codes.{Spelled}
 use Rattle.vp_format.specs.Cursors.{Passed, symbols_from}
 use Rattle.vp_format.proofs.checking.pass_runs.Given as goal
@@ -11,4 +11,4 @@ invariant-loop-x l = record {
 }
 
 abbrev pub decreases-loop-x : goal.decreases-loop-x
-decreases-loop-x l = length l.bytes - l.at
+decreases-loop-x l = 2 * (length l.bytes - l.at) + min 1 (l.at - l.single)

@@ -17,5 +17,5 @@ returns-clause-place c = omega (arith, c.places_added.ensures.added (c.if-not-ar
 pub returns-clause-reached : goal.returns-clause-reached
 returns-clause-reached c all start r =
     let runs = c.if-not-are_runs.ensures refl in
-    put_all c.args.width all start c.fill_sixteen-x.new.places c.fill_short.new.places c.args.from c.args.bytes.now c.args.at c.fill_sixteen-x.result c.from-more.result _ c.requires.bytes (λ i. (c.type_inv.bytes i).fits) runs c.digit_value.ensures c.fill_sixteen-x.ensures.place c.from-more.ensures
+    put_all c.args.width all start c.fill_sixteen-x.new.places c.fill_short.new.places c.args.from c.args.bytes.now c.args.at c.fill_sixteen-x.result c.from-more.result _ (omega arith) (λ i. (c.type_inv.bytes i).fits) runs c.digit_value.ensures c.fill_sixteen-x.ensures.place c.from-more.ensures
     c.fill_short.ensures.filled (c.fill_sixteen-x.ensures.put c.args.width all start r)

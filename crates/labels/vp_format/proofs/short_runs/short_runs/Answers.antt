@@ -19,8 +19,8 @@ loop-at-preserved c =
           (reached_at c.args.width all start l.places l.x l.x _ _ l.at l.at refl (run.ensures.symbol (omega arith)) refl (inv.reached all start r));
     }
 
-pub loop-at-preserved-then-bytes-at-gt-LANES : goal.loop-at-preserved-then-bytes-at-gt-LANES
-loop-at-preserved-then-bytes-at-gt-LANES c =
+pub loop-at-preserved-then-at-single : goal.loop-at-preserved-then-at-single
+loop-at-preserved-then-at-single c =
     let inv = c.loop-at.invariant in
     let put = c.put_counted.ensures in
     record {
