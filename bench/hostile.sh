@@ -81,6 +81,23 @@ measure '1,024 blocks of lines over each other' '^PW1248' 1024 "^FB1,9999,-9999^
 measure '1,024 turned blocks of an empty paragraph' '^PW1248' 1024 '^A0B,31,1500^FB8000,33,-1,C^FD\&^FS'
 measure 'a block of 87,000 paragraphs' '^PW1248' 1 \
     "^FB32000,9999,-9999^A0N,1500,1^FD$(repeated 87000 'A\&')^FS"
+measure '1,024 turned blocks of 100 empty paragraphs' '^PW1248' 1024 \
+    "^A0B,31,1500^FB8000,9999,0,L^FD$(repeated 100 '\&')^FS"
+measure '1,024 turned blocks of 33 lines' '^PW1248' 1024 \
+    "^A0B,31,1500^FB8000,9999,0,L^FD$(repeated 33 'AAAAA\&')^FS"
+words=$(repeated 200 A)
+measure 'a turned block of lines of three cells over each other' '^PW1248' 1 \
+    "^A0R,1500,1500^FB5000,10,0,R^FD$(repeated 1300 "$words ")^FS"
+measure 'a turned block of 131,000 empty paragraphs' '^PW1248' 1 \
+    "^A0R,1500,1^FB8000,9999,-9999^FD$(repeated 131000 '\&')^FS"
+measure 'a turned block of 87,000 paragraphs' '^PW1248' 1 \
+    "^A0R,1500,1^FB32000,9999,-9999^FD$(repeated 87000 'A\&')^FS"
+measure 'the same, lines a dot apart' '^PW1248' 1 \
+    "^A0R,1500,1^FB32000,9999,-1499^FD$(repeated 87000 'A\&')^FS"
+measure 'a block of 262,000 lines, two of them a dot apart' '^PW1248' 1 \
+    "^A0N,1500,1^FB1,2,-1499^FD$(repeated 262000 A)^FS"
+measure 'a block of 87,000 paragraphs, two lines a dot apart' '^PW1248' 1 \
+    "^A0N,1500,1^FB32000,2,-1499^FD$(repeated 87000 'A\&')^FS"
 
 digits=$(repeated 238 7)
 measure '1,020 turned Code 128 symbols of 238 bytes' '^PW1248' 1020 "^BY1^BCR,1248,N^FD>:$digits^FS"

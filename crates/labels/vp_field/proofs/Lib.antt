@@ -12,3 +12,4 @@ pub mod Shown
 pub mod Boxed
 pub mod Behind
 pub mod Pictured
+pub mod Windowed

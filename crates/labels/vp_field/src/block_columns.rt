@@ -1,5 +1,5 @@
 //! Blocks of lines whose rows fall on columns: many of them drawn at once.
-ghost use Rattle.std.specs.Prelude.{◌≡◌, ℕ, ◌+◌, ◌<◌, slice_index};
+ghost use Rattle.std.specs.Prelude.{◌≡◌, ℕ, ◌+◌, ◌<◌, true, false, slice_index};
 ghost use Rattle.vp_dots.specs.Dots.{shifted};
 ghost use Rattle.vp_dots.specs.Words.{word_dot};
 ghost use Rattle.vp_glyph.specs.Blocks.{block_width, block_height, block_dot, block_inside};
@@ -17,8 +17,10 @@ const COLUMNS: usize = WIDEST as usize;
 #[derive(Drop)]
 pub struct BlockColumns<'a> {
     pub rows: BlockRows<'a>,
-    top: u32,
-    at: i64,
+    /// The first of the rows.
+    pub top: u32,
+    /// The offset.
+    pub at: i64,
     fronts: [u64; COLUMNS],
     ghost drawn: { (i x : ℕ) → i < COLUMNS → x < 64
         → top + i < block_height rows.block.h rows.block.rows rows.block.pitch
@@ -29,7 +31,9 @@ pub struct BlockColumns<'a> {
 impl<'a> BlockColumns<'a> {
     /// A block, its rows from `top` on drawn at the offset `at`.
     pub fn new(rows: BlockRows<'a>, top: u32, at: i64) -> Self
-        ensures { result.rows ≡ rows.entry }
+        ensures rows { result.rows ≡ rows.entry }
+        ensures top { result.top ≡ top }
+        ensures at { result.at ≡ at }
     {
         BlockColumns {
             rows,
@@ -37,6 +41,21 @@ impl<'a> BlockColumns<'a> {
             at,
             fronts: rows.block.fronts::<COLUMNS>(top, at),
         }
+    }
+
+    /// Whether none of the rows has ink there.
+    pub fn is_white(&self) -> bool
+        ensures { result ≡ true → (i x : ℕ) → i < COLUMNS → x < 64
+            → self.now.top + i < block_height self.now.rows.block.h self.now.rows.block.rows
+            self.now.rows.block.pitch → shifted self.now.at (λ x. block_dot (layout_of self.now.rows.block)
+            self.now.rows.block.text.now x (self.now.top + i)) x ≡ false }
+    {
+        for i in 0..COLUMNS {
+            if self.fronts[i] != 0 {
+                return false;
+            }
+        }
+        true
     }
 }
 

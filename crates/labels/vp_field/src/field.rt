@@ -20,6 +20,7 @@ use crate::frame::Frame;
 use crate::line::drawn_at;
 use crate::lines::BlockRows;
 use crate::marks::Marks;
+use crate::paint::row_lengths;
 use crate::picture::paint_picture;
 use crate::standing::{Standing, paint_standing};
 use crate::view::View;
@@ -75,6 +76,10 @@ fn paint_block(
         Lines::Along => paint_standing(&rows, None, on, first, band),
         Lines::Across => {
             let columns = BlockColumns::new(rows, line, drawn_at(laid.rows, first, 4));
+            if columns.is_white() {
+                row_lengths(band);
+                return u64::from(WIDEST);
+            }
             u64::from(WIDEST) + paint_standing(&columns, None, on, first, band)
         }
     }

@@ -88,6 +88,8 @@ impl Laid {
             → dot_on self.rows (pos (first + k)) ≡ pos v → result ≤ v }
         ensures across { self.lines ≡ Across → (x v : ℕ) → x < WIDEST → v < lines
             → dot_on self.columns (pos x) ≡ pos v → result ≤ v }
+        ensures within { self.lines ≡ Across → (x v : ℕ) → x < WIDEST → v < lines
+            → dot_on self.columns (pos x) ≡ pos v → v < result + WIDEST }
     {
         match self.lines {
             Lines::Along => clamped(self.rows.first_line(first, BAND_ROWS as u32), lines),

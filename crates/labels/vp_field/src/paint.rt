@@ -23,7 +23,7 @@ const WIDTH: u64 = WIDEST as u64;
 const RUN: u64 = 8;
 
 /// Each row of a band has `BAND_BYTES` bytes.
-fn row_lengths(band: &LabelBand)
+pub fn row_lengths(band: &LabelBand)
     ensures { (k : ℕ) → k < BAND_ROWS → length (slice_index_or band.now k []) ≡ BAND_BYTES }
 {
     for k in 0..32usize {

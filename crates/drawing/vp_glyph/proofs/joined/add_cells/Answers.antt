@@ -1,4 +1,4 @@
-use Rattle.std.proofs.Common.{arith, length, ◌≡◌, ◌∙◌, ap, ℕ, ◌<◌, ◌||◌, get_or, refl, sym, w64, to_z, of_z}
+use Rattle.std.proofs.Common.{arith, length, ◌≡◌, ◌∙◌, ap, ◌||◌, get_or, sym, w64}
 use Rattle.std.proofs.lemmas.Int.{to_z-of_z}
 use Rattle.vp_dots.specs.Words.{word_dot}
 use Rattle.vp_dots.specs.declared.Op.TheVariants.{Black}

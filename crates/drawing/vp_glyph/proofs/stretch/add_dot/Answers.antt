@@ -1,4 +1,4 @@
-use Rattle.std.proofs.Common.{arith, ◌∙◌, ap, ◌&&◌, length}
+use Rattle.std.proofs.Common.{arith, ◌∙◌, ap, ◌&&◌}
 use Rattle.std.proofs.lemmas.List.{length-set}
 use Rattle.vp_dots.specs.Words.{word_dot}
 use Rattle.vp_glyph.proofs.Gathered.{grown_more, grown_all}

@@ -1,4 +1,4 @@
-use Rattle.std.proofs.Common.{ap, arith, sym, w64}
+use Rattle.std.proofs.Common.{sym, w64}
 use Rattle.std.proofs.lemmas.Int.{to_z-of_z}
 use Rattle.vp_glyph.proofs.Joining.{line_first}
 use Rattle.vp_glyph.proofs.block.Block.add_rows.Goals as goal

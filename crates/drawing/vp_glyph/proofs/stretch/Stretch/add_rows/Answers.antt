@@ -1,9 +1,9 @@
-use Rattle.std.proofs.Common.{arith, ◌∙◌, sym, ap, get_or, w64, to_z, of_z, length}
+use Rattle.std.proofs.Common.{arith, ◌∙◌, sym, ap, w64, to_z, of_z}
 use Rattle.std.proofs.lemmas.Int.{to_z-of_z}
 use Rattle.std.proofs.lemmas.List.{length-set}
 use Rattle.vp_dots.specs.Dots.{shifted}
 use Rattle.vp_dots.specs.Words.{word_dot}
-use Rattle.vp_glyph.proofs.Gathered.{grown_none, grown_more, grown_all}
+use Rattle.vp_glyph.proofs.Gathered.{grown_more, grown_all}
 use Rattle.vp_glyph.proofs.Spread.{ink}
 use Rattle.vp_glyph.proofs.stretch.Stretch.add_rows.Goals as goal
 
