@@ -1,12 +1,12 @@
 -- How far down a page is used, and when its line is laid.
 use Rattle.std.specs.Prelude.{ℕ, nat_lt, Bool, true, false, is_some, ◌&&◌, ◌||◌, if◌then◌else◌, List, [], ◌∷◌}
 use Rattle.vp_esc.specs.declared.item.EscItem.{EscItem}
-use Rattle.vp_esc.specs.declared.item.EscItem.TheVariants.{LineFeed, Character, Initialize, FeedDots, FeedLines, Raster, RasterByte, Symbol, QrPrint, PageMode, VerticalPosition, MoveVerticalPosition, FormFeed, Cancel, PrintPage, Area as SetArea, Direction as SetDirection}
+use Rattle.vp_esc.specs.declared.item.EscItem.TheVariants.{LineFeed, Character, Initialize, FeedDots, FeedLines, Raster, RasterByte, Symbol, QrPrint, PageMode, StandardMode, VerticalPosition, MoveVerticalPosition, FormFeed, Cancel, PrintPage, Area as SetArea, Direction as SetDirection}
 use Rattle.vp_receipt_settings.specs.Setup.{Setup}
 use Rattle.vp_receipt_settings.specs.Pages.{is_area, area, area_cut, is_vertical_move, raised, extent_of}
 use Rattle.vp_receipt_settings.specs.Symbols.{symbol_image, image_rows}
 use Rattle.vp_receipt_settings.specs.Rasters.{draws, is_row_end, raster_scale, times_down}
-use Rattle.vp_receipt_settings.specs.Line.{begins_page, is_full, is_open, line, mode, strip_rows, vertical}
+use Rattle.vp_receipt_settings.specs.Line.{Placed, character, begins_page, is_full, is_open, line, mode, strip_rows, vertical}
 
 -- the rows of a raster or of a symbol that it lays
 abbrev pub own_rows_laid : Setup → List EscItem → EscItem → ℕ
@@ -56,6 +56,17 @@ ends_line setup before (Raster scale bytes rows) = draws scale.value bytes rows
 ends_line setup before (Symbol kind bytes more) = true
 ends_line setup before QrPrint = true
 ends_line setup before item = lays_line setup before item
+
+-- ESC S and ESC @ give up an open line of a page
+abbrev pub gives_up : EscItem → Bool
+gives_up StandardMode = true
+gives_up Initialize = true
+gives_up _ = false
+
+-- the line behind one that an item ended: the character that had no room in it
+abbrev pub begun : Setup → List EscItem → EscItem → List Placed
+begun setup before (Character c) = record { at = 0; image = character setup before c } ∷ []
+begun setup before item = []
 
 -- how many rows of the page ESC FF and FF print
 abbrev pub printed_rows : Setup → List EscItem → ℕ

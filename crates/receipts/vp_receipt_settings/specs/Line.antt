@@ -1,5 +1,5 @@
 -- The line and what places it, by looking back over the items, of which the newest comes first.
-use Rattle.std.specs.Prelude.{ℕ, ◌+◌, ◌-◌, nat_lt, nat_le, Bool, true, false, not, ◌&&◌, ◌*◌, ◌==◌, is_some, if◌then◌else◌, List, [], ◌∷◌, min, max, ℤ, pos, negsuc}
+use Rattle.std.specs.Prelude.{ℕ, ◌+◌, ◌-◌, nat_lt, nat_le, Bool, true, false, not, ◌&&◌, ◌*◌, ◌==◌, is_some, if◌then◌else◌, List, [], ◌∷◌, min, max, ℤ, pos, negsuc, Option, Some, None, unwrap_or}
 use Rattle.vp_esc.specs.declared.item.EscItem.{EscItem}
 use Rattle.vp_esc.specs.declared.item.EscItem.TheVariants.{LineFeed, Tab, Character, Position, MovePosition, Column8, Column24, Initialize, FeedDots, FeedLines, CutLeavingOnePoint, CutLeavingThreePoints, LeftMargin, AreaWidth, Cut, FeedAndCut, Raster, RasterByte, Symbol, QrPrint, PageMode, StandardMode, FormFeed, Cancel, PrintPage, VerticalPosition, MoveVerticalPosition, Area as SetArea, Direction as SetDirection}
 use Rattle.vp_receipt_settings.specs.declared.width.Width.{Width}
@@ -342,3 +342,29 @@ symbol_top setup before = vertical_after (vertical setup before) (ended_rows set
 abbrev pub right_edge : List Placed → ℕ
 right_edge [] = 0
 right_edge (placed ∷ rest) = max (placed.at + placed.image.width) (right_edge rest)
+
+-- what an item sets of the frame: GS L and GS W within their ranges, while no line is open; ESC L where it
+-- begins a page, ESC S and FF the mode; and ESC @ all of it
+abbrev pub margin_set : Setup → List EscItem → EscItem → Option ℕ
+margin_set setup before (LeftMargin n) =
+    if not (is_open (line setup before)) && nat_lt n (across setup.width) then Some n else None
+margin_set setup before Initialize = Some 0
+margin_set setup before _ = None
+
+abbrev pub width_set : Setup → List EscItem → EscItem → Option ℕ
+width_set setup before (AreaWidth n) =
+    if not (is_open (line setup before)) && nat_lt 0 n then Some n else None
+width_set setup before Initialize = Some (across setup.width)
+width_set setup before _ = None
+
+abbrev pub mode_set : Setup → List EscItem → EscItem → Option PrinterMode
+mode_set setup before PageMode = if not (is_open (line setup before)) then Some Page else None
+mode_set setup before StandardMode = Some Standard
+mode_set setup before FormFeed = Some Standard
+mode_set setup before Initialize = Some Standard
+mode_set setup before _ = None
+
+-- what was set last, by looking back
+abbrev pub set_last : {A : Type 0} → A → (List EscItem → EscItem → Option A) → List EscItem → A
+set_last first set [] = first
+set_last first set (item ∷ before) = unwrap_or (set before item) (set_last first set before)

@@ -3,12 +3,13 @@
 //! `width` knows the paper, `text` how characters are drawn, `tabs` the tab stops, `column` an image of dots;
 //! `bar_style` and `qr_style` know how symbols are drawn, `stored` the bytes of a QR symbol, and `raster` a
 //! raster whose bytes come. `page_mode` knows what is in force on a page, `effect` what an item does, and
-//! `settings` all that is in force.
+//! `settings` all that is in force. `laws` says what looking back shows of the line.
 #![tactic(auto)]
 
 mod bar_style;
 mod column;
 mod effect;
+pub mod laws;
 mod page_mode;
 mod qr_style;
 mod raster;
