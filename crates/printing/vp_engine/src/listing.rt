@@ -1,7 +1,10 @@
 //! Listings: a line for each item.
-ghost use Rattle.std.specs.Prelude.{◌≡◌, ◌≤◌, ◌+◌, Err};
+ghost use Rattle.std.specs.Prelude.{◌≡◌, ◌≤◌, ◌+◌, ℕ, Err};
+ghost use Rattle.std.specs.Io.KnownBytes.{IsAtEnd};
+ghost use Rattle.vp_dots.specs.declared.fault.Fault.{Fault};
 ghost use Rattle.vp_streams.specs.Count.{grown, one_more_if};
 ghost use Rattle.vp_engine.specs.Listing.{Lists};
+ghost use Rattle.vp_engine.specs.Paper.{IsOfEnd};
 ghost use Rattle.vp_engine.specs.Session.{is_read_fault, is_write_fault};
 
 use crate::laws::{a_listing_is_its_lines, paper_grows};
@@ -20,6 +23,8 @@ pub fn list<S: Source, K: Sink>(
 ) -> Result<u64, RunFault>
     ensures lists { Lists language (S.remaining reader.old) (S.remaining reader.new)
         (K.contents writer.old) (K.contents writer.new) result }
+    ensures at_end { (f : Fault) (after : ℕ) → result ≡ Err (RunFault.Print f after) → IsOfEnd f →
+        IsAtEnd (S.remaining reader.new) }
     ensures failed_reads { S.failed_reads reader.new ≡
         one_more_if (is_read_fault result) (S.failed_reads reader.old) }
     ensures failed_writes { K.failed_writes writer.new ≡

@@ -3,7 +3,7 @@ ghost use Rattle.std.specs.Prelude.{◌≡◌, ◌≤◌, ◌<◌, ◌+◌, ◌+
 ghost use Rattle.std.specs.Io.KnownBytes.{Consumes, Appends, IsAtEnd};
 ghost use Rattle.vp_dots.specs.declared.fault.Fault.{Fault};
 ghost use Rattle.vp_streams.specs.Count.{grown, one_more_if};
-ghost use Rattle.vp_engine.specs.Paper.{history, before_fault, fault_at_end};
+ghost use Rattle.vp_engine.specs.Paper.{IsOfByte, IsOfEnd, history, before_fault, fault_at_end};
 ghost use Rattle.vp_engine.specs.Session.{IsAt, Accepts, SameDesk, IsDrained, IsSettled, HasEnded, Reads, SamePrinter, Pumps, IsAgain, is_read_fault, is_write_fault};
 ghost use Rattle.vp_engine.specs.Setups.{Setup, setup_of, rules_of, lines_of};
 ghost use Rattle.vp_engine.specs.Setups.{Listing, ListingWithOffsets};
@@ -160,7 +160,8 @@ impl Session {
     }
 
     fn stopped(&self) -> Option<Fault>
-        ensures { result ≡ self.now.printer.stopped }
+        ensures value { result ≡ self.now.printer.stopped }
+        ensures byte { MatchOption result Unit IsOfByte }
     {
         self.printer.stopped()
     }
@@ -272,6 +273,7 @@ impl Session {
     fn ended(&self) -> Option<Fault>
         ensures ended { (f : Fault) (after : ℕ) → HasEnded self.now f after → result ≡ Some f }
         ensures answer { MatchOption result Unit (λ f. HasEnded self.now f self.now.taken) }
+        ensures byte { MatchOption result Unit IsOfByte }
     {
         if self.has_output() {
             return None;
@@ -288,6 +290,8 @@ impl Session {
         ensures pumps { (setup : Setup) (r w : List ℕ) → IsAt setup self.old r w →
             Pumps (S.remaining reader.old) (S.remaining reader.new) (K.contents writer.old)
             (K.contents writer.new) setup self.new r w result }
+        ensures at_end { (f : Fault) (after : ℕ) → result ≡ Err (RunFault.Print f after) → IsOfEnd f →
+            IsAtEnd (S.remaining reader.new) }
         ensures failed_reads { S.failed_reads reader.new ≡
             one_more_if (is_read_fault result) (S.failed_reads reader.old) }
         ensures failed_writes { K.failed_writes writer.new ≡
@@ -332,6 +336,8 @@ impl Session {
             (K.contents writer.new) setup self.new r w result }
         ensures again { (f : Fault) (after : ℕ) → HasEnded self.old f after →
             IsAgain f after result self.old self.new × (reader.new ≡ reader.old) × (writer.new ≡ writer.old) }
+        ensures at_end { (f : Fault) (after : ℕ) → result ≡ Err (RunFault.Print f after) → IsOfEnd f →
+            IsAtEnd (S.remaining reader.new) }
         ensures failed_reads { S.failed_reads reader.new ≡
             one_more_if (is_read_fault result) (S.failed_reads reader.old) }
         ensures failed_writes { K.failed_writes writer.new ≡

@@ -1,5 +1,6 @@
-use Rattle.std.proofs.Common.{[]}
+use Rattle.std.proofs.Common.{◌≡◌, [], Err, ap}
 use Rattle.vp_engine.specs.Setups.{Listing, line}
+use Rattle.vp_engine.specs.declared.session.RunFault.TheVariants.{Print}
 use Rattle.vp_engine.proofs.Listings.{lists_all, lists_some}
 use Rattle.vp_engine.proofs.listing.list.Goals as goal
 
@@ -16,3 +17,11 @@ pub returns-clause-lists : goal.returns-clause-lists
 returns-clause-lists g c =
     let setup = Listing c.args.language in
     lists_some setup (line c.args.language) _ _ _ _ _ (c.paper_grows.ensures setup) c.in-Err.fault (c.in-Err.ensures.pumps setup [] [] c.listing-session.ensures)
+
+pub returns-clause-at_end : goal.returns-clause-at_end
+returns-clause-at_end g c f after e end =
+    let same : c.in-Err.fault ≡ Print f after = cc in
+    c.in-Err.ensures.at_end f after (ap Err same) end
+
+pub returns-in-Ok-clause-at_end : goal.returns-in-Ok-clause-at_end
+returns-in-Ok-clause-at_end g c f after e end = cc

@@ -1,6 +1,7 @@
-use Rattle.std.proofs.Common.{[]}
+use Rattle.std.proofs.Common.{◌≡◌, [], Err, ap}
 use Rattle.vp_engine.specs.Offsets.{placed_line}
 use Rattle.vp_engine.specs.Setups.{ListingWithOffsets, line}
+use Rattle.vp_engine.specs.declared.session.RunFault.TheVariants.{Print}
 use Rattle.vp_engine.proofs.Listings.{lists_all, lists_some}
 use Rattle.vp_engine.proofs.listing_with_offsets.list_with_offsets.Goals as goal
 
@@ -17,3 +18,11 @@ pub returns-clause-lists : goal.returns-clause-lists
 returns-clause-lists g c =
     let setup = ListingWithOffsets c.args.language in
     lists_some setup (placed_line (line c.args.language)) _ _ _ _ _ (c.paper_grows.ensures setup) c.in-Err.fault (c.in-Err.ensures.pumps setup [] [] c.listing_with_offsets-session.ensures)
+
+pub returns-clause-at_end : goal.returns-clause-at_end
+returns-clause-at_end g c f after e end =
+    let same : c.in-Err.fault ≡ Print f after = cc in
+    c.in-Err.ensures.at_end f after (ap Err same) end
+
+pub returns-in-Ok-clause-at_end : goal.returns-in-Ok-clause-at_end
+returns-in-Ok-clause-at_end g c f after e end = cc

@@ -1,7 +1,12 @@
-use Rattle.std.proofs.Common.{◌≡◌, None, refl, sym, ap, ◌∙◌, arith}
+use Rattle.std.proofs.Common.{◌≡◌, ℕ, Result, Err, None, refl, subst, sym, ap, ◌∙◌, arith}
 use Rattle.std.proofs.lemmas.Result.{err_from_is_err_and}
 use Rattle.vp_streams.specs.Count.{grown}
+use Rattle.vp_engine.specs.Paper.{IsOfByte}
 use Rattle.vp_engine.specs.Session.{IsDrained}
+use Rattle.vp_dots.specs.declared.fault.Fault.{Fault}
+use Rattle.vp_engine.specs.declared.session.Report.{Report}
+use Rattle.vp_engine.specs.declared.session.RunFault.{RunFault}
+use Rattle.vp_engine.specs.declared.session.RunFault.TheVariants.{Print, Read, Write}
 use Rattle.vp_engine.specs.Stands.{Engine}
 use Rattle.vp_engine.proofs.Desks.{reaches_start, reaches_accepts, reaches_takes, stop_answer, whole_answer, end_answer, none_of, reads_more}
 use Rattle.vp_engine.proofs.session.Session.run.Goals as goal
@@ -29,7 +34,7 @@ returns-in-Some-clause-pumps g c setup r w a =
     let d = c.in_ok-settle.ensures.ok.0 in
     record {
       reaches = k;
-      answer = stop_answer setup c.settle.new.self _ _ c.in-Some.fault _ _ k.at (record { unwritten = d.unwritten; pending = d.pending }) (sym c.in-Some.ensures) c.report-report.ensures.taken;
+      answer = stop_answer setup c.settle.new.self _ _ c.in-Some.fault _ _ k.at (record { unwritten = d.unwritten; pending = d.pending }) (sym c.in-Some.ensures.value) c.report-report.ensures.taken;
     }
 
 pub returns-in_err-n-clause-pumps : goal.returns-in_err-n-clause-pumps
@@ -62,11 +67,44 @@ returns-in-Err-clause-pumps g c setup r w a =
     let s = c.fill.ensures.same in
     let z = c.in_ok-n.ensures.end c.if-n-eq0.true in
     let dr : IsDrained c.fill.new.self = record { unwritten = s.unwritten ∙ d.unwritten; pending = ap (λ (p : Engine). p.pending) s.printer ∙ d.pending } in
-    let run : c.fill.new.self.printer.stopped ≡ None = ap (λ (p : Engine). p.stopped) s.printer ∙ sym c.stopped.ensures ∙ none_of c.stopped.result c.in_default.not-Some in
+    let run : c.fill.new.self.printer.stopped ≡ None = ap (λ (p : Engine). p.stopped) s.printer ∙ sym c.stopped.ensures.value ∙ none_of c.stopped.result c.in_default.not-Some in
     record {
       reaches = k;
       answer = end_answer setup c.fill.new.self _ _ c.in-Err.fault _ _ k.at dr z.0 run (c.in-Err.ensures setup) (c.report-report.ensures.taken ∙ sym s.taken) z.1;
     }
+
+-- what is no fault of the stream
+read_no_print : (f : Fault) (after : ℕ) (answer : Result Report RunFault) → answer ≡ Err Read → answer ≡ Err (Print f after) → ⊥
+read_no_print f after answer e h = let no : Err Read ≡ Err (Print f after) = sym e ∙ h in cc
+
+write_no_print : (f : Fault) (after : ℕ) (answer : Result Report RunFault) → answer ≡ Err Write → answer ≡ Err (Print f after) → ⊥
+write_no_print f after answer e h = let no : Err Write ≡ Err (Print f after) = sym e ∙ h in cc
+
+pub returns-in_err-settle-clause-at_end : goal.returns-in_err-settle-clause-at_end
+returns-in_err-settle-clause-at_end g c f after e end =
+    let p = err_from_is_err_and c.from_residual.result c.from_residual.ensures.1 in
+    absurd (write_no_print f after _ (p.1 ∙ ap Err (p.2 ∙ c.in_err-settle.ensures.err.0)) e)
+
+pub returns-in_err-n-clause-at_end : goal.returns-in_err-n-clause-at_end
+returns-in_err-n-clause-at_end g c f after e end =
+    let p = err_from_is_err_and c.from_residual-in_err-n.result c.from_residual-in_err-n.ensures.1 in
+    absurd (read_no_print f after _ (p.1 ∙ ap Err (p.2 ∙ c.in_err-n.ensures.err.0)) e)
+
+-- the printer stops by a fault of a byte
+pub returns-in-Some-clause-at_end : goal.returns-in-Some-clause-at_end
+returns-in-Some-clause-at_end g c f after e end =
+    let same : c.in-Some.fault ≡ f = cc in
+    let byte : IsOfByte f = subst IsOfByte same c.in-Some.ensures.byte in
+    absurd (omega (arith, byte, end))
+
+pub returns-in-Ok-clause-at_end : goal.returns-in-Ok-clause-at_end
+returns-in-Ok-clause-at_end g c f after e end = cc
+
+pub returns-in-Err-clause-at_end : goal.returns-in-Err-clause-at_end
+returns-in-Err-clause-at_end g c f after e end = (c.in_ok-n.ensures.end c.if-n-eq0.true).1
+
+pub returns-clause-at_end : goal.returns-clause-at_end
+returns-clause-at_end g c f after e end = cc
 
 pub turns-preserved : goal.turns-preserved
 turns-preserved g c = record {
