@@ -4,9 +4,8 @@ clause at which it is refused: checks/evidence.py [[--write] LOG]. With a log of
 those of the log, and with --write it writes them into the page.
 
 The gate tries edits of several functions in one check. Where a function is refused, goals of those that call it can be left
-untried: so which of its own clauses an edit breaks first, or whether the page's is among them, can hang on what was tried
-beside it. But an edit is refused in a function that it changes, whatever stands beside it. So another function is a fault,
-and another clause of the same function is only told."""
+untried: so which clause an edit breaks first, or whether the page's is among them, can hang on what was tried beside it. So an
+edit of the page that the log doesn't tell as refused is a fault, and another clause than the page's is only told."""
 import glob
 import os
 import re
@@ -67,9 +66,9 @@ class Row:
         return [f"there is no edit {it}" for it in self.edits if it not in there]
 
     def others(self, found):
-        """Returns which edits weren't refused at the row's clauses, each with its clause and those that were told."""
+        """Returns which edits weren't refused at the row's clauses, each with those that were told."""
         pairs = zip(self.edits, self.clauses or [""] * len(self.edits))
-        return [(edit, clause, found.get(edit, [])) for edit, clause in pairs if clause not in found.get(edit, [])]
+        return [(edit, found.get(edit, [])) for edit, clause in pairs if clause not in found.get(edit, [])]
 
     def renew(self, found):
         """Puts the clause that was told first in the place of one that wasn't told."""
@@ -77,11 +76,6 @@ class Row:
         news = [found.get(edit, [old]) for edit, old in zip(self.edits, olds)]
         told = [old if old in new else new[0] for old, new in zip(olds, news)]
         self.clauses = told if all(told) else self.clauses
-
-
-def function_of(clause):
-    """Returns the function that a clause is of, as the page writes it."""
-    return clause.partition("`")[2].partition("`")[0].partition(": ")[0]
 
 
 def rows_of(lines):
@@ -108,12 +102,11 @@ def main():
             it.writelines(lines)
     faults += [f"{PAGE}: {it}" for row in rows.values() for it in row.faults(there)]
     others = [it for row in rows.values() if log for it in row.others(found)]
-    for edit, clause, told in others:
-        said = f"{PAGE}: {edit} is refused at {', '.join(told) or 'nothing that the log tells'}"
-        if told and (not clause or function_of(clause) in map(function_of, told)):
-            print(f"checks/evidence: (told) {said}")
+    for edit, told in others:
+        if told:
+            print(f"checks/evidence: (told) {edit} is refused at {', '.join(told)}")
         else:
-            faults.append(said)
+            faults.append(f"{PAGE}: the log doesn't tell that {edit} is refused")
     named = sum(len(row.edits) for row in rows.values())
     if not files or not named:
         faults.append("no edits were found")
@@ -121,7 +114,7 @@ def main():
         print(f"checks/evidence: {fault}", file=sys.stderr)
     if faults:
         return 1
-    where = f", each refused where the page says, by {log}" if log else ""
+    where = f", each refused, by {log}" if log else ""
     print(f"{len(files)} edits can be applied, and the {named} that {PAGE} names are there{where}: ok")
     return 0
 
