@@ -1,7 +1,8 @@
 #!/bin/sh
-# How long labels and receipts take that are made to hold the program up, beside 1,024 boxes over a whole label, which
-# are 24 kB, or by the byte: bench/hostile.sh [VP [SECONDS]], with the program that ./vp runs, and the most seconds that
-# a stream may take. The times are those of the machine it runs on; the ratios are what to look at.
+# How long labels and receipts take that are made to hold the program up: bench/hostile.sh [VP [SECONDS]], with the program
+# that ./vp runs, and the most seconds that a stream may take (60). Labels, and receipts that lay large things, are timed
+# beside 1,024 boxes over a whole label, which are 24 kB; receipts that print nothing by the million bytes. The times are
+# those of the machine it runs on; the ratios are what to look at.
 set -eu
 top=$(cd "$(dirname "$0")/.." && pwd)
 vp=${1:-$("$top/tools/dist/program")}

@@ -1,5 +1,5 @@
 #!/bin/sh
-# Builds the bench programs and runs one: bench/run.sh NAME. With no name it says which there are.
+# Builds the program of benches (vp_bench) and runs one of them: bench/run.sh NAME. With no name it says which there are.
 # The times are those of the machine it runs on; the ratios are what to look at.
 set -eu
 cd "$(dirname "$0")/../crates/tests/vp_bench"

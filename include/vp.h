@@ -86,7 +86,7 @@ typedef struct vp_progress {
     size_t taken; /* bytes taken from the front of the input */
     size_t put;   /* bytes put to the front of the output */
     uint32_t state;
-    vp_fault fault; /* where the state is VP_STOPPED */
+    vp_fault fault; /* where the state is VP_STOPPED: F1 to F7, which a byte makes */
 } vp_progress;
 
 /* What a printer holds of what isn't printed yet. None of it ever is more than is said here. */
@@ -115,8 +115,8 @@ uint32_t vp_step(vp *printer, const uint8_t *input, size_t length, uint8_t *outp
                  vp_progress *done);
 
 /* Tells the fault that stopped the printer, else that of a stream that ends here: F8 inside a command, F9
- * before all is printed. They aren't the printer's end: more bytes may follow. VP_PENDING where a step still
- * has paper to put out, VP_NO_PRINTER; in both *fault is none. */
+ * before all is printed. F8 and F9 aren't the printer's end: more bytes may follow. VP_PENDING where a step
+ * still has paper to put out, VP_NO_PRINTER; in both *fault is none. */
 uint32_t vp_finish(vp *printer, vp_fault *fault);
 
 /* VP_PENDING where paper is still to be put out, else VP_OK; or VP_NO_PRINTER. */
