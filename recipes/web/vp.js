@@ -3,7 +3,7 @@
 //   import { Printer, load } from './vp.js';
 //   await load();                                         // vp.wasm beside this file; or where it is, or its bytes
 //   const { images, fault } = new Printer('label', { fontA }).print(stream);
-//   if (fault) console.log(String(fault));                // vp: F7 after 20 bytes: bad graphic data
+//   if (fault) console.log(String(fault));                // vp: F7 after 20 bytes: bad graphic
 //   canvas.getContext('2d').putImageData(images[0].toImageData(), 0, 0);
 //
 // Each printer has a memory of its own, takes all that it needs when it is made, and goes when nothing names it.
