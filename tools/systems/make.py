@@ -154,7 +154,7 @@ def sources():
     made = hashlib.sha256()
     for crate in sorted({it.crate for it in SYSTEMS.values()}):
         made.update(crates_below(crate, listed(), "")[-1].content().encode())
-    beside = [it for end in ("py", "c", "h") for it in glob.glob(f"{HERE}/*.{end}")]
+    beside = [it for end in ("py", "c", "h", "ll") for it in glob.glob(f"{HERE}/*.{end}")]
     for file in sorted([*beside, f"{ROOT}/include/vp.h"]):
         made.update(repr((os.path.relpath(file, ROOT), sum_of(file))).encode())
     return made.hexdigest()
