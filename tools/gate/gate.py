@@ -257,6 +257,9 @@ def built(rt, room, crate, to):
 def make_module(rt, room, root):
     """Leaves beside the program the module that LLVM makes it of, for tools/systems, and returns whether that went well. (rt
     may have taken the program from an earlier run, so that nothing was compiled.)"""
+    if not hasattr(rt, "Crate"):
+        print("gate: this rt has no Crate: it leaves no module for other systems")
+        return True
     name = os.path.basename(PROGRAM)
     print(f"gate: the module for other systems is made of {name}", flush=True)
     with tempfile.TemporaryDirectory() as to:
