@@ -24,8 +24,10 @@ def vp(language, data):
 
 class Viewer:
     def __init__(self, *words, program=VIEWER, cwd=None, **environment):
+        # (a shell starts what runs behind it with SIGINT ignored)
         self.ran = subprocess.Popen([program, *words], stdout=subprocess.PIPE, stderr=subprocess.PIPE, text=True,
-                                    cwd=cwd, env={**os.environ, **environment})
+                                    cwd=cwd, env={**os.environ, **environment},
+                                    preexec_fn=lambda: signal.signal(signal.SIGINT, signal.SIG_DFL))
         self.address = self.ran.stdout.readline().strip()
         assert self.address, self.ran.stderr.read()
         at = urllib.parse.urlsplit(self.address)
