@@ -29,8 +29,12 @@ once() {
     echo $((end - start))
 }
 
-# beside NAME NUMBER OURS PEER THEIRS: so many symbols or images by us and by a peer
+# beside NAME NUMBER OURS PEER THEIRS: so many symbols or images by us and by a peer; what fails is told, and not timed
 beside() {
+    for words in "$3" "$5"; do
+        # shellcheck disable=SC2086
+        $words > out || { echo "$1: $words: status $?" >&2 && exit 1; }
+    done
     for _ in 1 2 3 4 5 6 7; do
         echo "$(once "$3") $(once "$5")"
     done | awk -v name="$1" -v number="$2" -v peer="$4" '
