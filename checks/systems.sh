@@ -2,7 +2,8 @@
 # Runs the programs of dist/ for other systems: they do what the program must do (checks/program.py), print the examples,
 # need no file of the system, and vp-static does so in as little memory (checks/examples.sh). vp-aarch64 runs by
 # qemu-aarch64, where that is installed. Our C below them is tried by itself: copies and numbers beside the compiler's
-# (systems.c), and the heap (heap.c).
+# (systems.c), and the heap (heap.c). What is written out for other machines is tried beside the processor's own (pairs.c),
+# where the toolchain is, whose language it is in.
 set -eu
 cd "$(dirname "$0")/.."
 room=$(mktemp -d)
@@ -19,11 +20,21 @@ left_out() {
 # tried PROGRAM CHECK: whether a check of the program passes with this one
 tried() { VP=$1 "$2" >"$room/said" 2>&1 || { cat "$room/said" >&2; fail "${1##*/}: $2"; }; }
 if command -v cc >/dev/null && [ "$(uname -m)" = x86_64 ]; then
-    cc -O1 -Wall -Wextra -Werror checks/systems.c -o "$room/systems" && "$room/systems"
+    cc -O1 -Wall -Wextra -Werror checks/systems.c -o "$room/systems"
+    "$room/systems"
     cc -O1 -Wall -Wextra -Werror -static -nostdlib -ffreestanding -fno-builtin -fno-stack-protector \
         checks/heap.c tools/systems/linux.c tools/systems/bytes.c -o "$room/heap"
     "$room/heap" || fail "the heap: status $?"
     echo 'the heap: ok'
+    if command -v rt >/dev/null; then
+        kit=$(dirname "$(dirname "$(readlink -f "$(command -v rt)")")")
+        sed 's/^define internal/define/' tools/systems/pairs.ll >"$room/pairs.ll"
+        "$kit/toolchain/bin/clang" -O2 -march=x86-64 -Wno-override-module -c "$room/pairs.ll" -o "$room/pairs.o"
+        cc -O1 -Wall -Wextra -Werror -mssse3 checks/pairs.c "$room/pairs.o" -o "$room/pairs"
+        "$room/pairs"
+    else
+        left_out rt
+    fi
 else
     left_out cc
 fi
