@@ -1,7 +1,8 @@
 #!/usr/bin/env python3
-"""Checks that the must-fail edits can be applied, and that those which docs/evidence.md names are there, each with the
-clause at which it is refused: checks/evidence.py [[--write] LOG]. With a log of the gate it compares these clauses with
-those of the log, and with --write it writes them into the page.
+"""Checks that the must-fail and must-pass edits can be applied, and that those which docs/evidence.md names are there, each
+with the clause at which it is refused; where that is an answer by hand, that a must-pass edit gives the same function a right
+body in another form: checks/evidence.py [[--write] LOG]. With a log of the gate it compares these clauses with those of the
+log, and with --write it writes them into the page.
 
 The gate tries edits of several functions in one check. Where a function is refused, goals of those that call it can be left
 untried: so which clause an edit breaks first, or whether the page's is among them, can hang on what was tried beside it. So an
@@ -10,11 +11,13 @@ import glob
 import os
 import re
 import sys
+import types
 
 ROOT = os.path.dirname(os.path.dirname(os.path.abspath(__file__)))
 sys.dont_write_bytecode = True
 sys.path.insert(0, f"{ROOT}/tools/gate")
-from refused import refusals  # noqa: E402
+from edits import Edit  # noqa: E402
+from refused import ANSWER, refusals  # noqa: E402
 
 PAGE = "docs/evidence.md"
 NAME = re.compile(r"`(vp_\w+/\w+)`")
@@ -78,6 +81,20 @@ class Row:
         self.clauses = told if all(told) else self.clauses
 
 
+def functions_of(file):
+    """Returns the functions whose bodies an edit changes, each by where its proof stands."""
+    return Edit(types.SimpleNamespace(folder=os.path.dirname(os.path.dirname(file))), file).keys()
+
+
+def without_right_body(rows, there):
+    """Returns the edits that an answer by hand refuses where no must-pass edit is of the same functions."""
+    pairs = [(edit, clause) for row in rows for edit, clause in zip(row.edits, row.clauses)]
+    by_answer = [edit for edit, clause in pairs if clause.endswith(ANSWER) and edit in there]
+    right = {file: functions_of(file) for file in glob.glob("crates/*/*/must-pass/*.edit")}
+    beside = lambda edit: set().union(*(it for file, it in right.items() if file.split("/")[2] == edit.split("/")[0]))
+    return [edit for edit in by_answer if not functions_of(there[edit]) <= beside(edit)]
+
+
 def rows_of(lines):
     """Returns the rows of the page that are on wrong bodies, by their places in it."""
     heads = re.compile(r"\|(---|\s*\*\*|\s*Wrong body)")
@@ -87,9 +104,10 @@ def rows_of(lines):
 def main():
     os.chdir(ROOT)
     log = sys.argv[-1] if len(sys.argv) > 1 else None
-    files = sorted(glob.glob("crates/*/*/must-fail/*.edit"))
+    files = sorted(glob.glob("crates/*/*/must-*/*.edit"))
     faults = [f"{file}: {fault}" for file, fault in ((file, fault_of(file)) for file in files) if fault]
-    there = {f"{it.split('/')[2]}/{os.path.basename(it)[: -len('.edit')]}" for it in files}
+    wrong = [it for it in files if "/must-fail/" in it]
+    there = {f"{it.split('/')[2]}/{os.path.basename(it)[: -len('.edit')]}": it for it in wrong}
     with open(PAGE, encoding="utf-8") as it:
         lines = it.readlines()
     rows = rows_of(lines)
@@ -101,6 +119,7 @@ def main():
         with open(PAGE, "w", encoding="utf-8") as it:
             it.writelines(lines)
     faults += [f"{PAGE}: {it}" for row in rows.values() for it in row.faults(there)]
+    faults += [f"no must-pass edit is of the function of {it}" for it in without_right_body(rows.values(), there)]
     others = [it for row in rows.values() if log for it in row.others(found)]
     for edit, told in others:
         if told:

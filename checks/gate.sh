@@ -1,7 +1,8 @@
 #!/bin/sh
 # Runs the gate on a crate of two functions, one of which calls the other. What must be refused is, and an edit that
 # breaks nothing isn't taken for refused where it is tried beside one of the function that it calls. Edits are tried by
-# rounds: an rt that lacks what these stand on, with which each would be tried alone, is told.
+# rounds: an rt that lacks what these stand on, with which each would be tried alone, is told. A right body in another form
+# is taken, and a wrong one isn't.
 set -eu
 gate=$(dirname "$(dirname "$(realpath "$0")")")/tools/gate/gate.py
 room=$(mktemp -d)
@@ -43,13 +44,15 @@ returns c = search rules
 END
 
 # edit NAME OLD NEW
-edit() { printf 'file: src/lib.rt\nold: %s\nnew: %s\n' "$2" "$3" >"crates/one/must-fail/$1.edit"; }
-edit half_is_a_third '    a / 2' '    a / 3'
-edit quarter_is_a_half '    half(it)' '    it'
-edit quarter_with_a_type 'let it = half(a);' 'let it: u8 = half(a);'
+edit() { printf 'file: src/lib.rt\nold: %s\nnew: %s\n' "$3" "$4" >"crates/one/$1/$2.edit"; }
+edit must-fail half_is_a_third '    a / 2' '    a / 3'
+edit must-fail quarter_is_a_half '    half(it)' '    it'
+edit must-fail quarter_with_a_type 'let it = half(a);' 'let it: u8 = half(a);'
 
-status=0
-"$gate" >said 2>&1 || status=$?
+gate() {
+    status=0
+    "$gate" >said 2>&1 || status=$?
+}
 says() {
     grep -q "$1" said || {
         echo "checks/gate: nothing said of: $1" >&2
@@ -57,6 +60,7 @@ says() {
         exit 1
     }
 }
+gate
 says 'must-fail one/half_is_a_third.edit: refused, as it must be: note: src/lib.rt:7:1: it is not proved'
 says 'must-fail one/quarter_is_a_half.edit: refused, as it must be: ./proofs/quarter/Answers.antt:5:13: error: `returns`'
 says 'must-fail one/quarter_with_a_type.edit: NOT REFUSED'
@@ -69,4 +73,18 @@ END
 "$(dirname "$gate")/refused.py" said | diff wanted - >&2
 if grep '^gate: this rt has no' said >&2; then exit 1; fi
 [ "$status" = 1 ]
-echo 'the gate refuses what it must, and nothing else: ok'
+
+mkdir crates/one/must-pass
+mv crates/one/must-fail/quarter_with_a_type.edit crates/one/must-pass
+edit must-pass half_by_a_shift '    a / 2' '    a.wrapping_div(2)'
+gate
+says '^3 passed, 0 failed$'
+says '^must-pass one/quarter_with_a_type.edit: taken'
+says '^must-pass one/half_by_a_shift.edit: taken'
+[ "$status" = 0 ]
+edit must-pass half_by_a_shift '    a / 2' '    a / 4'
+gate
+says '^must-pass one/quarter_with_a_type.edit: taken'
+says '^must-pass one/half_by_a_shift.edit: NOT TAKEN'
+[ "$status" = 1 ]
+echo 'the gate refuses what it must, takes what it must, and nothing else: ok'

@@ -1,0 +1,105 @@
+"""An edit of a crate (must-fail/*.edit, must-pass/*.edit), and the functions whose bodies it changes."""
+import re
+
+FUNCTION = re.compile(r"( *)(?:pub(?:\([^)]*\))? )?(?:const )?fn (\w+)")
+# What has methods: a trait, or a type, maybe with the trait that it is given there.
+OWNER = re.compile(r"(?:pub )?trait (?P<of>\w+)|impl(?:<.*?>)? (?:(?P<trait>\w+)(?:<.*?>)? for &?)?(?P<type>\w+)")
+# Faults that the prover finds: by a place of the source, or in a file that answers a function's goals.
+IN_SOURCE = re.compile(r"note: (?:\./)?src/(\S+)\.rt:(\d+):\d+: it is not proved ")
+IN_PROOF = re.compile(r"(?:\./)?proofs/(\S+)/\w+\.antt:\d+:\d+: error: ")
+# What says only that a proof names what the edit took away, or cites what was refused.
+OF_ANOTHER = re.compile(r"has no field|is not in scope|has no `|was not admitted|depends on ")
+
+
+class Function:
+    """A function of a file of src, by its lines there, of which the first is 1, by where its proof stands, and by its name
+    for rattle, or as much of its end as says which it is."""
+
+    def __init__(self, path, first, last, owner, name):
+        self.module, self.first, self.last = path.removeprefix("src/").removesuffix(".rt"), first, last
+        under = "" if self.module == "lib" else f"{self.module}/"
+        self.proof = rf"([a-z]\w*/)*{owner}/{name}" if owner else f"{under}{name}"
+        self.path = f"{owner}::{name}" if owner else f"{under}{name}".replace("/", "::")
+
+    def is_at_fault(self, line):
+        """Returns whether a line of the prover's tells a fault of this function."""
+        at = IN_SOURCE.match(line)
+        if at:
+            return at[1] == self.module and self.first <= int(at[2]) <= self.last
+        at = IN_PROOF.match(line)
+        return bool(at and re.fullmatch(self.proof, at[1]) and not OF_ANOTHER.search(line))
+
+
+def function_around(path, text, place):
+    """Returns the function whose body a place of a file is in, if it is in one, of a text as rt fmt lays it out."""
+    lines, at = text.split("\n"), text.count("\n", 0, place)
+    for named in range(at, -1, -1):
+        found = FUNCTION.match(lines[named])
+        last = found and next((it for it in range(named, len(lines)) if lines[it] == f"{found[1]}}}"), None)
+        if last and at < last:
+            opens = re.compile(rf"{found[1]}(\{{|(pub|const|fn|\)).* \{{)")
+            body = next((it for it in range(named, last) if opens.fullmatch(lines[it])), last)
+            # its attributes are lines of it
+            first = next(it for it in range(named, 0, -1) if not lines[it - 1] or lines[it - 1].endswith(("{", "}", ";")))
+            owners = filter(None, map(OWNER.match, reversed(lines[:first]))) if found[1] else ()
+            owner = next(("".join(filter(None, it.group("of", "type", "trait"))) for it in owners), "")
+            return Function(path, first + 1, last + 1, owner, found[2]) if body < at else None
+    return None
+
+
+class Edit:
+    """An edit: its texts, each in place of another, and the functions whose bodies those places are in, where they are in one."""
+
+    def __init__(self, crate, file):
+        self.file, self.cuts, self.functions = file, [], []
+        with open(file, encoding="utf-8", errors="replace") as it:
+            lines = it.read().split("\n")
+        path = old = ""
+        for line in lines:
+            word, _, text = line.partition(":")
+            text = text.removeprefix(" ")
+            if word == "file":
+                path = text.strip()
+            elif word == "old":
+                old = text
+            elif word == "new":
+                self.cut(crate, path, old, text)
+
+    def cut(self, crate, path, old, new):
+        with open(f"{crate.folder}/{path}", encoding="utf-8") as it:
+            text = it.read()
+        place = text.find(old)
+        self.cuts.append((path, place, old, new))
+        self.functions.append(function_around(path, text, place) if place >= 0 else None)
+
+    def is_of_bodies(self):
+        return all(self.functions)
+
+    def keys(self):
+        return {it.proof for it in self.functions if it}
+
+    def faults(self, lines):
+        """Returns the lines that tell a fault of a function that the edit changes."""
+        return [line for line in lines if any(it.is_at_fault(line) for it in self.functions)]
+
+
+def one_for_each_function(edits):
+    """Returns the first edits of which none changes a function that another changes."""
+    taken, keys = [], set()
+    for edit in edits:
+        if not keys & edit.keys():
+            taken.append(edit)
+            keys |= edit.keys()
+    return taken
+
+
+def with_all(crate, edits):
+    """Returns the texts of the files that the edits change."""
+    texts = {}
+    for path in {path for edit in edits for path, *_ in edit.cuts}:
+        with open(f"{crate.folder}/{path}", encoding="utf-8") as it:
+            text = it.read()
+        for at, old, new in sorted((it[1:] for edit in edits for it in edit.cuts if it[0] == path), reverse=True):
+            text = text[:at] + new + text[at + len(old) :]
+        texts[path] = text
+    return texts
