@@ -21,7 +21,7 @@ returns-then-are_white-clause-dots c =
     band_left c.args.op shown shown c.args.band.now c.row_lengths.ensures (λ x k. refl)
     (white_across l.columns l.rows ink (block_height b.h b.rows b.pitch) c.first_line-top.result c.args.first c.drawn_at-at.result (λ u v e. (block_inside (layout_of b) b.text.now u v e).1)
     (λ x v m h e. f.across c.requires.lines x v m (omega (arith, c.size-height.ensures.height)) e) (λ x v m h e. f.within c.requires.lines x v m (omega (arith, c.size-height.ensures.height)) e)
-    (λ line n k h. c.drawn_at-at.ensures line (λ d. false) (λ d l. sym (n d l)) k h)
+    (λ line n k h. c.drawn_at-at.ensures.dots line (λ d. false) (λ d l. sym (n d l)) k h)
     (λ i x l m n. sym (fronts i x l m n) ∙ c.are_white.ensures c.if-are_white.true i x l))
 
 pub invariant_of-drawn : goal.invariant_of-drawn
@@ -30,7 +30,7 @@ invariant_of-drawn c =
     let fits : SFits w64 c.drawn_at-at.result = search rules in
     record {
       drawn = c.fronts-fronts.ensures;
-      falls = λ line dots n p h. c.drawn_at-at.ensures line dots (λ d l. n d l ∙ ap (λ z. shifted z line d) (to_z-of_z w64 c.drawn_at-at.result fits)) p h;
+      falls = λ line dots n p h. c.drawn_at-at.ensures.dots line dots (λ d l. n d l ∙ ap (λ z. shifted z line d) (to_z-of_z w64 c.drawn_at-at.result fits)) p h;
       from = λ x v m h e. f.across c.requires.lines x v m (omega (arith, c.size-height.ensures.height)) e;
       to = λ x v m h e. f.within c.requires.lines x v m (omega (arith, c.size-height.ensures.height)) e;
     }

@@ -8,11 +8,17 @@ use Rattle.vp_field.specs.declared.axis.Lines.TheVariants.{Across}
 use Rattle.vp_field.proofs.Shown.{rows_same}
 use Rattle.vp_field.proofs.field.paint_block.Goals as goal
 
-pub returns-in-Along-clause-dots : goal.returns-in-Along-clause-dots
-returns-in-Along-clause-dots c =
+pub returns-then-not-lines_meet-clause-dots : goal.returns-then-not-lines_meet-clause-dots
+returns-then-not-lines_meet-clause-dots c =
     let b = c.block_of-ink.ensures in
     let r = c.from_row-block.ensures in
     rw (r.sheet ∙ b.sheet, r.text ∙ b.text, r.w ∙ b.w, r.h ∙ b.h, r.wide ∙ b.wide, r.rows ∙ b.rows, r.pitch ∙ b.pitch, r.alignment ∙ b.alignment) at c.paint_standing.ensures.dots
+
+pub returns-clause-dots : goal.returns-clause-dots
+returns-clause-dots c =
+    let b = c.block_of-ink.ensures in
+    let r = c.from_row-block.ensures in
+    rw (c.new-drawn.ensures, r.sheet ∙ b.sheet, r.text ∙ b.text, r.w ∙ b.w, r.h ∙ b.h, r.wide ∙ b.wide, r.rows ∙ b.rows, r.pitch ∙ b.pitch, r.alignment ∙ b.alignment) at c.paint_standing-2.ensures.dots
 
 pub returns-in-Across-clause-dots : goal.returns-in-Across-clause-dots
 returns-in-Across-clause-dots c =
