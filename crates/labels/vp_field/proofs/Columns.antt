@@ -1,6 +1,6 @@
 -- Columns painted one after the other.
-use Rattle.std.proofs.Common.{inl, inr, ◌≡◌, ℕ, ◌+◌, ◌-◌, ◌<◌, ◌≤◌, Bool, false, ltb, ◌&&◌, ap, ◌∙◌, arith, List, [], get_or, pos}
-use Rattle.std.proofs.lemmas.Bool.{cases_lt}
+use Rattle.std.proofs.Common.{inl, inr, ◌≡◌, ℕ, ◌+◌, ◌-◌, ◌<◌, ◌≤◌, Bool, false, ltb, ◌&&◌, refl, ap, ◌∙◌, arith, List, [], get_or, pos}
+use Rattle.std.proofs.lemmas.Bool.{cases_lt, lt-leb, le-leb, le-ltb}
 use Rattle.std.proofs.lemmas.Bool.Decides.{nat_tests}
 use Rattle.vp_dots.specs.Blocks.{across_dot}
 use Rattle.vp_dots.specs.Dots.{dot, dots, span}
@@ -45,6 +45,19 @@ columns_alike op f line x n a b e p = rows_same 32 op _ _ _ _
       ]
     ]) p
 
+-- columns, as far as the rows go
+pub columns_within : (op : Op) (f g : ℕ → ℕ → Bool) (x n : ℕ) (a b : List (List ℕ)) → ((d k : ℕ) → k < 32 → x ≤ d → d < x + n → d < dots (get_or a k []) → g d k ≡ f d k)
+    → RowsPainted 32 op (λ d k. span x (x + n) d && g d k) a b → RowsPainted 32 op (λ d k. span x (x + n) d && f d k) a b
+columns_within op f g x n a b e p = record {
+  rows_are = λ k h. painted_same op (λ d. span x (x + n) d && g d k) (λ d. span x (x + n) d && f d k) _ _ (λ d l. elim (cases_lt d x) [
+    | inl o ↦ rw (lt-leb x d o) refl
+    | inr m ↦ elim (cases_lt d (x + n)) [
+      | inl i ↦ ap (λ t. span x (x + n) d && t) (e d k h m i l)
+      | inr o ↦ rw (le-leb x d m, le-ltb d (x + n) o) refl
+    ]
+  ]) (p.rows_are k h);
+}
+
 -- eight columns
 pub columns_eight : (op : Op) (f : ℕ → ℕ → Bool) (x : ℕ) (lines a b : List (List ℕ)) → ((i k : ℕ) → i < 8 → k < 32 → dot (get_or lines i []) k ≡ f (x + i) k)
     → RowsPainted 32 op (across_dot lines 32 x (pos 0)) a b → RowsPainted 32 op (λ d k. span x (x + 8) d && f d k) a b
@@ -59,3 +72,9 @@ columns_eight op f x lines a b e p = rows_same 32 op _ _ _ _
   where
     at : (d k : ℕ) → x ≤ d → d < x + 8 → k < 32 → dot (get_or lines (d - x) []) k ≡ f d k
     at d k g i h = let m : x + (d - x) ≡ d = omega arith in e (d - x) k (omega arith) h ∙ ap (λ n. f n k) m
+
+pub columns_eight_within : (op : Op) (f : ℕ → ℕ → Bool) (x : ℕ) (lines a b : List (List ℕ)) → ((i k : ℕ) → i < 8 → k < 32 → x + i < dots (get_or a k []) → dot (get_or lines i []) k ≡ f (x + i) k)
+    → RowsPainted 32 op (across_dot lines 32 x (pos 0)) a b → RowsPainted 32 op (λ d k. span x (x + 8) d && f d k) a b
+columns_eight_within op f x lines a b e p = columns_within op f (λ d k. dot (get_or lines (d - x) []) k) x 8 a b
+    (λ d k h g i l. let m : x + (d - x) ≡ d = omega arith in e (d - x) k (omega arith) h (rw m l) ∙ ap (λ n. f n k) m)
+    (columns_eight op (λ d k. dot (get_or lines (d - x) []) k) x lines a b (λ i k l h. ap (λ j. dot (get_or lines j []) k) (let m : i ≡ x + i - x = omega arith in m)) p)

@@ -13,3 +13,4 @@ pub mod Boxed
 pub mod Behind
 pub mod Pictured
 pub mod Windowed
+pub mod Fronts

@@ -1,4 +1,4 @@
--- Ink that lies across a band and has none there.
+-- Ink that lies across a band.
 use Rattle.std.proofs.Common.{◌≡◌, ℕ, ◌+◌, ◌-◌, ◌*◌, ◌<◌, ◌≤◌, Bool, true, false, get_or, length, sym, ap, ◌∙◌, arith, List, [], ℤ, pos, neg_ℤ, ◌-ℤ◌}
 use Rattle.std.proofs.lemmas.Int.{ints}
 use Rattle.std.proofs.lemmas.Bool.{true≢false, false_from_ne_true}
@@ -13,14 +13,14 @@ use Rattle.vp_field.specs.Places.{at_place}
 use Rattle.vp_field.proofs.Places.{at_true, line_inside, shifted_at}
 
 -- places that are read forwards
-pub white_forwards : (n from : ℕ) (at off : ℤ) (f : ℕ → Bool) → off ≡ at -ℤ pos from → ((d : ℕ) → d < 8 * n → shifted off f d ≡ false) → (p : ℕ) → p < 8 * n → at_place f (pos (from + p) -ℤ at) ≡ false
-white_forwards n from at off f e q p h = ap (at_place f) (let s : pos (from + p) -ℤ at ≡ pos p -ℤ off = omega (arith, ints) in s) ∙ sym (shifted_at off f p) ∙ q p h
+pub read_forwards : (n from : ℕ) (at off : ℤ) (f g : ℕ → Bool) → off ≡ at -ℤ pos from → ((d : ℕ) → d < 8 * n → g d ≡ shifted off f d) → (p : ℕ) → p < 8 * n → at_place f (pos (from + p) -ℤ at) ≡ g p
+read_forwards n from at off f g e q p h = ap (at_place f) (let s : pos (from + p) -ℤ at ≡ pos p -ℤ off = omega (arith, ints) in s) ∙ sym (shifted_at off f p) ∙ sym (q p h)
 
 -- and backwards
-pub white_backwards : (n from : ℕ) (at off : ℤ) (f : ℕ → Bool) → off ≡ pos from -ℤ pos 1 -ℤ at -ℤ neg_ℤ (pos (8 * n)) → ((d : ℕ) → d < 8 * n → shifted off f d ≡ false) → (p : ℕ) → p < 8 * n
-    → at_place f (at -ℤ pos (from + p)) ≡ false
-white_backwards n from at off f e q p h =
-    ap (at_place f) (let s : at -ℤ pos (from + p) ≡ pos (8 * n - 1 - p) -ℤ off = omega (arith, ints) in s) ∙ sym (shifted_at off f (8 * n - 1 - p)) ∙ q (8 * n - 1 - p) (omega arith)
+pub read_backwards : (n from : ℕ) (at off : ℤ) (f g : ℕ → Bool) → off ≡ pos from -ℤ pos 1 -ℤ at -ℤ neg_ℤ (pos (8 * n)) → ((d : ℕ) → d < 8 * n → g d ≡ shifted off f d) → (p : ℕ) → p < 8 * n
+    → at_place f (at -ℤ pos (from + p)) ≡ g (8 * n - 1 - p)
+read_backwards n from at off f g e q p h =
+    ap (at_place f) (let s : at -ℤ pos (from + p) ≡ pos (8 * n - 1 - p) -ℤ off = omega (arith, ints) in s) ∙ sym (shifted_at off f (8 * n - 1 - p)) ∙ sym (q (8 * n - 1 - p) (omega arith))
 
 -- lines that have no dot on the places of a band
 pub white_across : (columns rows : Axis) (ink : ℕ → ℕ → Bool) (h top first : ℕ) (at : ℤ) → ((u v : ℕ) → ink u v ≡ true → v < h)

@@ -1,5 +1,5 @@
 -- Lines of dots on lines of places.
-use Rattle.std.specs.Prelude.{ℕ, ℤ, pos, neg_ℤ, ◌-ℤ◌, ◌≤ℤ◌, Bool}
+use Rattle.std.specs.Prelude.{ℕ, ◌-◌, ℤ, pos, neg_ℤ, ◌-ℤ◌, ◌≤ℤ◌, Bool}
 use Rattle.vp_field.specs.declared.axis.Axis.{Axis}
 use Rattle.vp_field.specs.declared.axis.Axis.TheVariants.{Forward, Back}
 use Rattle.vp_field.specs.declared.axis.Lines.{Lines}
@@ -12,6 +12,11 @@ use Rattle.vp_zpl.specs.declared.item.Orientation.TheVariants.{Normal, Rotated, 
 abbrev pub dot_on : Axis → ℤ → ℤ
 dot_on (Forward at) p = p -ℤ at
 dot_on (Back at) p = at -ℤ p
+
+-- which of n dots in a row lies on the p-th of as many places
+abbrev pub read_at : Axis → ℕ → ℕ → ℕ
+read_at (Forward at) n p = p
+read_at (Back at) n p = n - 1 - p
 
 -- a line begins no farther than `n` places from the first
 abbrev pub IsWithin : ℕ → Axis → Type 0

@@ -14,13 +14,13 @@ ghost use Rattle.vp_field.specs.Drawn.{drawn};
 ghost use Rattle.vp_label_size.specs.declared.TheConstants.{BAND_ROWS};
 
 use crate::axis::Lines;
-use crate::block_columns::BlockColumns;
+use crate::block_band::BlockBand;
+use crate::block_columns::paint_block_across;
 use crate::content::{block_of, bytes_of, cells};
 use crate::frame::Frame;
 use crate::line::drawn_at;
 use crate::lines::BlockRows;
 use crate::marks::Marks;
-use crate::paint::row_lengths;
 use crate::picture::paint_picture;
 use crate::standing::{Standing, paint_standing};
 use crate::view::View;
@@ -28,7 +28,7 @@ use vp_bars::linear;
 use vp_dots::Ink;
 use vp_format::{BarSymbol, Content, Field, QrSymbol, Text, TextBlock};
 use vp_glyph::{Font, Sheets};
-use vp_label_size::{LabelBand, WIDEST};
+use vp_label_size::{BAND_BYTES, LabelBand};
 use vp_zpl::item::Orientation;
 
 /// Paints a text: how many lines of ink it drew.
@@ -69,20 +69,16 @@ fn paint_block(
     let (_, height) = ink.size();
     let laid = on.laid(&ink);
     let line = laid.first_line(height, first);
-    let rows = BlockRows {
-        block: ink.from_row(line),
-    };
-    match laid.lines {
-        Lines::Along => paint_standing(&rows, None, on, first, band),
-        Lines::Across => {
-            let columns = BlockColumns::new(rows, line, drawn_at(laid.rows, first, 4));
-            if columns.is_white() {
-                row_lengths(band);
-                return u64::from(WIDEST);
-            }
-            u64::from(WIDEST) + paint_standing(&columns, None, on, first, band)
-        }
+    let block = ink.from_row(line);
+    if let Lines::Across = laid.lines {
+        return paint_block_across(&block, on.op, laid, first, band);
     }
+    let rows = BlockRows { block };
+    if !rows.lines_meet() {
+        return paint_standing(&rows, None, on, first, band);
+    }
+    let drawn = BlockBand::new(rows, line, drawn_at(laid.columns, 0, BAND_BYTES));
+    paint_standing(&drawn, None, on, first, band)
 }
 
 /// Paints a linear symbol and its text, nothing where the data have none: how many lines of ink it drew.

@@ -9,7 +9,8 @@
 //!
 //! - `turning`: how boxes are turned.
 //! - `frame`, `text`, `lines`, `picture`: boxes, texts, blocks of lines and pictures.
-//! - `block_columns`: blocks of lines, many of whose rows are drawn at once.
+//! - `block_columns`, `block_band`: blocks of lines, many of whose rows are drawn at once: those that fall on
+//!   columns, and those of lines that meet.
 //! - `marks`: the marks of a picture that earlier bands left.
 //! - `content`, `field`: what fields show, and how they are painted.
 //! - `view`: how a label is put out.
@@ -22,6 +23,7 @@
 
 mod axis;
 mod band;
+mod block_band;
 mod block_columns;
 mod content;
 mod field;

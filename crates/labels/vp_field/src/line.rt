@@ -1,9 +1,9 @@
 //! One line of ink, drawn along the places of a row or a column, and painted on a row.
-ghost use Rattle.std.specs.Prelude.{◌≡◌, ℕ, ◌+◌, ◌-◌, ◌*◌, ◌^◌, ◌<◌, ◌≤◌, Bool, false, ℤ, pos, ◌-ℤ◌, neg_ℤ, ◌≤ℤ◌, length};
+ghost use Rattle.std.specs.Prelude.{◌≡◌, ℕ, ◌+◌, ◌-◌, ◌*◌, ◌^◌, ◌<◌, ◌≤◌, Bool, ℤ, pos, ◌-ℤ◌, neg_ℤ, ◌≤ℤ◌, length};
 ghost use Rattle.vp_dots.specs.Dots.{dot, shifted};
 ghost use Rattle.vp_dots.specs.Painting.{Painted};
 ghost use Rattle.vp_field.specs.Places.{at_place};
-ghost use Rattle.vp_field.specs.Axes.{dot_on, IsWithin};
+ghost use Rattle.vp_field.specs.Axes.{dot_on, read_at, IsWithin};
 ghost use Rattle.vp_label_size.specs.declared.TheConstants.{BAND_BYTES};
 
 use crate::axis::Axis;
@@ -34,8 +34,10 @@ fn offset_from_end(at: i64, from: u32, bytes: usize) -> i64
 pub fn drawn_at(axis: Axis, from: u32, bytes: usize) -> i64
     requires near { IsWithin (2 ^ 41) axis }
     requires few { bytes ≤ BAND_BYTES }
-    ensures { (line : ℕ → Bool) → ((d : ℕ) → d < 8 * bytes → shifted result line d ≡ false) → (p : ℕ)
-        → p < 8 * bytes → at_place line (dot_on axis (pos (from + p))) ≡ false }
+    ensures low { neg_ℤ (pos (2 ^ 42)) ≤ℤ result }
+    ensures high { result ≤ℤ pos (2 ^ 42) }
+    ensures dots { (line dots : ℕ → Bool) → ((d : ℕ) → d < 8 * bytes → dots d ≡ shifted result line d) → (p : ℕ)
+        → p < 8 * bytes → at_place line (dot_on axis (pos (from + p))) ≡ dots (read_at axis (8 * bytes) p) }
 {
     match axis {
         Axis::Forward(at) => offset(at, from),

@@ -23,6 +23,12 @@ impl Clone for BlockRows<'_> {
 }
 
 impl BlockRows<'_> {
+    /// Whether lines that don't begin together meet.
+    pub fn lines_meet(&self) -> bool
+    {
+        self.block.rows > 1 && self.block.pitch != 0 && self.block.pitch < self.block.h
+    }
+
     /// Which row of a line row y is, where lines that don't begin together don't meet there.
     fn row_of_line(&self, y: u32) -> Option<u32>
         ensures { MatchOption result (Unit {0}) (λ row.

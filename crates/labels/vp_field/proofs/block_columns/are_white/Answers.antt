@@ -1,8 +1,8 @@
-use Rattle.std.proofs.Common.{◌∙◌, ap, sym, arith, inl, inr}
+use Rattle.std.proofs.Common.{◌∙◌, ap, arith, inl, inr}
 use Rattle.std.proofs.lemmas.Bool.{cases_eq}
 use Rattle.vp_dots.specs.Words.{word_dot}
 use Rattle.vp_glyph.proofs.Looks.{white_dot}
-use Rattle.vp_field.proofs.block_columns.BlockColumns.is_white.Goals as goal
+use Rattle.vp_field.proofs.block_columns.are_white.Goals as goal
 
 pub loop-i-preserved : goal.loop-i-preserved
 loop-i-preserved c = λ j l. elim (cases_eq j c.loop-i.i) [
@@ -11,4 +11,4 @@ loop-i-preserved c = λ j l. elim (cases_eq j c.loop-i.i) [
 ]
 
 pub returns : goal.returns
-returns c = λ e i x l m k. sym (c.args.self.now.drawn i x l m k) ∙ ap (λ v. word_dot v x) (c.loop-i.invariant i (omega arith)) ∙ white_dot x
+returns c = λ e i x l. ap (λ v. word_dot v x) (c.loop-i.invariant i (omega arith)) ∙ white_dot x

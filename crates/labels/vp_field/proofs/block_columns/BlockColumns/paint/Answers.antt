@@ -1,0 +1,41 @@
+use Rattle.std.proofs.Common.{◌≡◌, ℕ, ◌+◌, ◌<◌, ◌*◌, [], true, arith, pos, length, get_or}
+use Rattle.vp_glyph.specs.Blocks.{block_dot, block_inside}
+use Rattle.vp_glyph.specs.Layouts.{layout_of}
+use Rattle.vp_field.specs.Axes.{dot_on, laid}
+use Rattle.vp_field.specs.declared.axis.Lines.TheVariants.{Across}
+use Rattle.vp_field.proofs.Places.{line_inside}
+use Rattle.vp_field.proofs.Columns.{columns_init, columns_more, columns_eight_within, columns_all}
+use Rattle.vp_field.proofs.block_columns.BlockColumns.paint.Goals as goal
+
+pub loop-x-init : goal.loop-x-init
+loop-x-init c =
+    let s = c.args.self.now in
+    let b = s.block.now in
+    let ink = λ (u v : ℕ). block_dot (layout_of b) b.text.now u v in
+    let lines : (u v : ℕ) → ink u v ≡ true → v < c.size-height.result.1 = λ u v e. rw c.size-height.ensures.height (block_inside (layout_of b) b.text.now u v e).1 in
+    record {
+      painted = columns_init _ _ (λ x k. laid Across s.columns s.rows ink (pos x) (pos (s.first + k))) _ _
+          (λ x k l. c.span-from.ensures.before _ (line_inside ink c.size-height.result.1 lines (dot_on s.rows (pos (s.first + k)))) x (omega arith));
+      laid = omega (arith, c.min-end.ensures);
+    }
+
+pub loop-x-preserved : goal.loop-x-preserved
+loop-x-preserved c =
+    let s = c.args.self.now in
+    let b = s.block.now in
+    let shown = λ (x k : ℕ). laid Across s.columns s.rows (λ u v. block_dot (layout_of b) b.text.now u v) (pos x) (pos (s.first + k)) in
+    record {
+      painted = columns_more c.args.op shown c.loop-x.x 8 _ _ _ c.loop-x.invariant.painted
+          (columns_eight_within c.args.op shown c.loop-x.x c.eight.result _ _
+          (λ i k l h m. c.eight.ensures i k l (let w = c.row_lengths.ensures k h in let p = (c.loop-x.invariant.painted.rows_are k h).length_is in omega arith) h) c.lay_eight.ensures);
+      laid = omega (arith, c.loop-x.invariant.laid);
+    }
+
+pub returns-clause-dots : goal.returns-clause-dots
+returns-clause-dots c =
+    let s = c.args.self.now in
+    let b = s.block.now in
+    let ink = λ (u v : ℕ). block_dot (layout_of b) b.text.now u v in
+    let lines : (u v : ℕ) → ink u v ≡ true → v < c.size-height.result.1 = λ u v e. rw c.size-height.ensures.height (block_inside (layout_of b) b.text.now u v e).1 in
+    columns_all _ _ (λ x k. laid Across s.columns s.rows ink (pos x) (pos (s.first + k))) _ _ _
+    (λ x k a h m. c.span-from.ensures.behind _ (line_inside ink c.size-height.result.1 lines (dot_on s.rows (pos (s.first + k)))) x (let w = c.row_lengths.ensures k h in omega (arith, c.min-end.ensures))) c.loop-x.invariant.painted
