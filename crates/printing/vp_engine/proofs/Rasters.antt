@@ -40,11 +40,3 @@ printed_lines reading line [] before = sym (append-nil (printed (listing reading
 printed_lines reading line (i ∷ added) before =
     ap (printed (listing reading line)) (ap (λ x. x ++ before) (reverse-append (i ∷ []) added) ∙ append_assoc (reverse added) (i ∷ []) before)
     ∙ printed_lines reading line added (i ∷ before) ∙ append_assoc (printed (listing reading line) before) (line i) (flat_map line added)
-
-pub raster_length : (xs : List ℕ) → length (raster_items xs) ≡ length xs
-raster_length [] = refl
-raster_length (b ∷ xs) = omega (arith, raster_length xs)
-
-pub lines_of_bytes : (xs : List ℕ) → flat_map line_of (raster_items xs) ≡ byte_lines xs
-lines_of_bytes [] = refl
-lines_of_bytes (b ∷ xs) = ap (λ x. line_of (RasterByte b) ++ x) (lines_of_bytes xs)
