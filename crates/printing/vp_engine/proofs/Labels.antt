@@ -1,5 +1,5 @@
 -- The items of a label's bytes: what a label printer and a listing do with them.
-use Rattle.std.proofs.Common.{◌≡◌, ℕ, List, [], ◌∷◌, ◌++◌, length, flat_map, reverse, append_assoc, Option, Some, None, Result, Ok, Err, OnOk, OnErr, MatchResult, arith, refl, sym, ap, subst, ◌∙◌}
+use Rattle.std.proofs.Common.{◌≡◌, ℕ, List, [], ◌∷◌, ◌++◌, flat_map, reverse, append_assoc, Option, Some, None, Result, Ok, Err, OnOk, OnErr, MatchResult, refl, sym, ap, subst, ◌∙◌}
 use Rattle.std.specs.Option.{option_or}
 use Rattle.std.proofs.lemmas.List.{reverse-append, reverse-reverse, append-nil, map-append}
 use Rattle.vp_dots.specs.declared.fault.Fault.{Fault}

@@ -1,16 +1,14 @@
 -- The items of a raster's bytes: what a receipt and a listing do with them.
-use Rattle.std.proofs.Common.{◌≡◌, ℕ, List, [], ◌∷◌, ◌++◌, reverse, append_assoc, flat_map, length, zero, suc, take, ◌<◌, None, arith, refl, sym, ap, ◌∙◌}
+use Rattle.std.proofs.Common.{◌≡◌, ℕ, List, [], ◌∷◌, ◌++◌, reverse, append_assoc, flat_map, zero, suc, take, ◌<◌, None, arith, refl, sym, ap, ◌∙◌}
 use Rattle.std.proofs.lemmas.List.{reverse-append, append-nil}
 use Rattle.vp_esc.specs.declared.item.EscItem.{EscItem}
 use Rattle.vp_esc.specs.declared.item.EscItem.TheVariants.{RasterByte}
-use Rattle.vp_esc.specs.Lines.{line_of}
 use Rattle.vp_esc.specs.Split.{fault_of}
 use Rattle.vp_esc.specs.Reader.{raster_items}
 use Rattle.vp_receipt_settings.specs.Setup.{Setup as ReceiptSetup}
 use Rattle.vp_receipt.specs.Strips.{prints, printed as printed_receipt}
 use Rattle.vp_engine.specs.Paper.{Reading, listing, printed}
 use Rattle.vp_engine.specs.Setups.{rules_of}
-use Rattle.vp_engine.specs.Lines.{byte_lines}
 use Rattle.vp_engine.specs.Setups.{Receipts}
 use Rattle.vp_engine.specs.Takes.{AreAccepted}
 

@@ -1,4 +1,4 @@
-use Rattle.std.proofs.Common.{[], ◌≡◌, ◌≤◌, ◌++◌, ℕ, List, take, drop, length, reverse, refl, sym, ap, subst, ◌∙◌, arith}
+use Rattle.std.proofs.Common.{[], ◌≡◌, ◌≤◌, ◌++◌, ℕ, List, take, drop, length, reverse, sym, ap, subst, ◌∙◌, arith}
 use Rattle.std.proofs.lemmas.List.{take-take, length-take-le, take_at, drop_at, append-nil}
 use Rattle.vp_esc.specs.Reader.{Stands as EscStands, raster_items, text_items}
 use Rattle.vp_esc.specs.declared.reader.EscReader.{EscReader}

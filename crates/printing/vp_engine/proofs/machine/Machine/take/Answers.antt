@@ -1,4 +1,4 @@
-use Rattle.std.proofs.Common.{◌≡◌, List, flat_map, refl, sym, ap, subst, ◌∙◌, ◌++◌, length, Ok, Err, [], ◌∷◌, false}
+use Rattle.std.proofs.Common.{flat_map, refl, sym, ap, subst, ◌∙◌, ◌++◌, length, Ok, Err, [], ◌∷◌, false}
 use Rattle.std.proofs.lemmas.List.{append-nil}
 use Rattle.vp_esc.specs.Lines.{line_of}
 use Rattle.vp_esc.specs.Reader.{Stands as EscStands}
