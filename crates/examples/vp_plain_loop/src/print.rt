@@ -3,7 +3,7 @@ ghost use Rattle.std.specs.Prelude.{◌≡◌, [], OnOk};
 
 use std::alloc::AllocError;
 use vp_dots::Fault;
-use vp_engine::Printer;
+use vp_engine::{Printer, State};
 
 /// Puts out all that is pending.
 fn drain(printer: &mut Printer, paper: &mut Vec<u8>) -> Result<(), AllocError>
@@ -23,14 +23,16 @@ pub fn print(
     bytes: &[u8],
     paper: &mut Vec<u8>,
 ) -> Result<Option<Fault>, AllocError> {
-    drain(printer, paper)?;
     let mut output = [0; 4096];
     let mut left = bytes;
-    'steps: while !left.is_empty() && printer.stopped().is_none() {
+    'steps: loop {
         let step = printer.step(left, &mut output);
         paper.extend_from_slice(&output[..step.put])?;
         left = &left[step.taken..];
-        drain(printer, paper)?;
+        match step.state {
+            State::More => return Ok(printer.finish().err()),
+            State::Room => drain(printer, paper)?,
+            State::Stopped(fault) => return Ok(Some(fault)),
+        }
     }
-    Ok(printer.finish().err())
 }

@@ -1,7 +1,7 @@
 -- A list of which the part from a on was written anew.
 use Rattle.vp_dots.specs.declared.fault.Fault.{Fault}
 use Rattle.std.proofs.Common.{Option, None, is_some, ◌<◌, ◌∷◌, true, false, ◌≡◌, ◌≤◌, ℕ, ◌+◌, ◌-◌, List, [], ◌++◌, length, take, drop, refl, sym, ap, ◌∙◌, arith, length-append, length-drop}
-use Rattle.std.proofs.lemmas.List.{append-nil, length-take-le, length-take, drop-take, drop-drop}
+use Rattle.std.proofs.lemmas.List.{append-nil, length-take-le, length-take, take_at, drop_at, drop-take, drop-drop}
 use Rattle.std.proofs.lemmas.Grind.{common_steps}
 use Rattle.std.proofs.Math.Seq.{take-length, take-add, take-append-add, drop-append-add}
 use borrow.Rule.Slice.PartMut.{put_mid}
@@ -58,3 +58,10 @@ range_less xs from to n h =
 
 pub length_range : (xs : List ℕ) (from to : ℕ) → length (take (to - from) (drop from xs)) ≤ to - from
 length_range xs from to = omega (arith, length-take (to - from) (drop from xs))
+
+-- what was written to the front, and what was left
+pub take_written : (put : ℕ) (text old new : List ℕ) → put ≡ length text → new ≡ text ++ drop put old → take put new ≡ text
+take_written put text old new long e = ap (take put) e ∙ take_at text (drop put old) put (sym long)
+
+pub drop_written : (put : ℕ) (text old new : List ℕ) → put ≡ length text → new ≡ text ++ drop put old → drop put new ≡ drop put old
+drop_written put text old new long e = ap (drop put) e ∙ drop_at text (drop put old) put (sym long)

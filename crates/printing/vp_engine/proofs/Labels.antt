@@ -1,9 +1,11 @@
 -- The items of a label's bytes: what a label printer and a listing do with them.
-use Rattle.std.proofs.Common.{◌≡◌, ℕ, List, [], ◌∷◌, ◌++◌, length, flat_map, reverse, append_assoc, Option, Some, None, Result, Ok, Err, OnOk, OnErr, MatchResult, arith, refl, sym, ap, subst, ◌∙◌}
+use Rattle.std.proofs.Common.{◌≡◌, ℕ, List, [], ◌∷◌, ◌++◌, flat_map, reverse, append_assoc, Option, Some, None, Result, Ok, Err, OnOk, OnErr, MatchResult, refl, sym, ap, subst, ◌∙◌}
 use Rattle.std.specs.Option.{option_or}
 use Rattle.std.proofs.lemmas.List.{reverse-append, reverse-reverse, append-nil, map-append}
 use Rattle.vp_dots.specs.declared.fault.Fault.{Fault}
 use Rattle.vp_glyph.specs.declared.Sheets.{Sheets}
+use Rattle.vp_esc.specs.declared.item.EscItem.TheVariants.{RasterByte}
+use Rattle.vp_esc.specs.Lines.{line_of as raster_line}
 use Rattle.vp_zpl.specs.Commands.{cut}
 use Rattle.vp_zpl.specs.declared.item.ZplItem.{ZplItem}
 use Rattle.vp_zpl.specs.declared.item.ZplItem.TheVariants as lent
@@ -15,7 +17,7 @@ use Rattle.vp_label_settings.specs.Formats.{followed_by}
 use Rattle.vp_label.specs.Prints.{all_print, prints, printed as printed_label}
 use Rattle.vp_label.specs.Refusals.{first_refusal, refusal}
 use Rattle.vp_label.specs.Standing.{Printing, Stands as LabelStands}
-use Rattle.vp_engine.specs.Lines.{byte_lines}
+use Rattle.vp_engine.specs.Lines.{listed_line}
 use Rattle.vp_engine.specs.Paper.{Rules, printed, newest_refusal}
 use Rattle.vp_engine.specs.Setups.{rules_of}
 use Rattle.vp_engine.specs.Setups.{Labels}
@@ -26,13 +28,10 @@ pub items_none : items [] ≡ []
 unfolding items cut given all_ended
 items_none = refl
 
-pub data_length : (xs : List ℕ) → length (data_items xs) ≡ length xs
-data_length [] = refl
-data_length (b ∷ xs) = omega (arith, data_length xs)
-
-pub lines_of_data : (xs : List ℕ) → flat_map line_of (data_items xs) ≡ byte_lines xs
-lines_of_data [] = refl
-lines_of_data (b ∷ xs) = ap (λ x. line_of (Data b) ++ x) (lines_of_data xs)
+-- the lines of bytes of data, all behind one place or without
+pub data_lines : (place : Option ℕ) (bytes : List ℕ) → flat_map (λ b. listed_line place (raster_line (RasterByte b))) bytes ≡ flat_map (λ i. listed_line place (line_of i)) (data_items bytes)
+data_lines place [] = refl
+data_lines place (b ∷ bytes) = ap (λ x. listed_line place (raster_line (RasterByte b)) ++ x) (data_lines place bytes)
 
 module _ (sheets : Sheets) where
   abbrev rules : Rules Item

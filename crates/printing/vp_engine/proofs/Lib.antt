@@ -11,7 +11,7 @@ pub mod ByteLines
 pub mod Labels
 pub mod Offsets
 pub mod OffsetLines
-pub mod OffsetRuns
+pub mod Lists
 pub mod Listings
 pub mod Whole
 pub mod Desks

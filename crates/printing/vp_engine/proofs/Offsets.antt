@@ -2,13 +2,9 @@
 use Rattle.std.proofs.Common.{◌≡◌, Bool, true, false, ℕ, suc, ◌+◌, ◌<◌, ◌≤◌, List, [], ◌∷◌, ◌++◌, length, take, map, flat_map, decimal, nat_lt, cond, append_assoc, refl, sym, ap, ◌∙◌, arith, length-append, subst, zero-add, eqb}
 use Rattle.std.proofs.lemmas.Bool.{lt-ltb, le-ltb, ltb-true, ltb-false, eqb-true, eqb-false}
 use Rattle.std.proofs.lemmas.List.{append-nil, take_at}
-use Rattle.vp_esc.specs.declared.item.EscItem.TheVariants.{RasterByte}
-use Rattle.vp_esc.specs.Lines.{line_of}
-use Rattle.vp_zpl.specs.Items.{data_items}
-use Rattle.vp_zpl.specs.Lines.{line_of as label_line_of}
-use Rattle.vp_streams.specs.Count.{counted, grown}
+use Rattle.vp_streams.specs.Count.{counted}
 use Rattle.vp_engine.specs.Bytes.{IsPrefix}
-use Rattle.vp_engine.specs.Offsets.{Placed, offset_from, offset_of, placed_from, with_offsets, offset_line, placed_line}
+use Rattle.vp_engine.specs.Offsets.{Placed, offset_from, offset_of, placed_from, listed_items, listed_by, offset_line, placed_line}
 use Rattle.vp_engine.specs.Paper.{Reading, Reads}
 
 -- an item at a place
@@ -143,19 +139,24 @@ module _ {Item : Type 0} (reading : Reading Item) where
 
   -- more bytes give more items behind those that there are
   pub placed_more : (bytes more : List ℕ) (added : List Item) → reading.items (bytes ++ more) ≡ reading.items bytes ++ added →
-      (with_offsets reading).items (bytes ++ more) ≡ (with_offsets reading).items bytes ++ placed_from reading (bytes ++ more) (length (reading.items bytes)) added
+      listed_items true reading (bytes ++ more) ≡ listed_items true reading bytes ++ placed_from reading (bytes ++ more) (length (reading.items bytes)) added
   placed_more bytes more added e =
       ap (placed_from reading (bytes ++ more) 0) e ∙ placed_append (bytes ++ more) 0 (reading.items bytes) added
       ∙ ap (λ n. placed_from reading (bytes ++ more) 0 (reading.items bytes) ++ placed_from reading (bytes ++ more) n added) (zero-add (length (reading.items bytes)))
       ∙ ap (λ x. x ++ placed_from reading (bytes ++ more) (length (reading.items bytes)) added) (placed_stays bytes more 0 (reading.items bytes) (omega arith))
 
-  pub places_read : Reads reading → Reads (with_offsets reading)
+  places_read : Reads reading → Reads (listed_by true reading)
   places_read reads = record {
     nothing = ap (placed_from reading [] 0) reads.nothing;
     no_fault = reads.no_fault;
     grows = λ bytes more. let p = reads.grows bytes more in (placed_from reading (bytes ++ more) (length (reading.items bytes)) p.0, sym (placed_more bytes more p.0 (sym p.1)));
     stays = reads.stays;
   }
+
+  -- with places or without
+  pub listed_reads : (w : Bool) → Reads reading → Reads (listed_by w reading)
+  listed_reads false reads = record { nothing = reads.nothing; no_fault = reads.no_fault; grows = reads.grows; stays = reads.stays }
+  listed_reads true reads = places_read reads
 
   module _ (grows : (bytes more : List ℕ) → IsPrefix (reading.items bytes) (reading.items (bytes ++ more))) where
     no_fewer : (bytes more : List ℕ) → length (reading.items bytes) ≤ length (reading.items (bytes ++ more))
@@ -178,16 +179,9 @@ module _ {Item : Type 0} (reading : Reading Item) where
 
     -- the items that a byte gives have its place
     pub placed_byte : (t : List ℕ) (b : ℕ) (added : List Item) → reading.items (t ++ b ∷ []) ≡ reading.items t ++ added →
-        (with_offsets reading).items (t ++ b ∷ []) ≡ (with_offsets reading).items t ++ map (at_place (suc (length t))) added
+        listed_items true reading (t ++ b ∷ []) ≡ listed_items true reading t ++ map (at_place (suc (length t))) added
     placed_byte t b added e =
-        placed_more t (b ∷ []) added e ∙ ap (λ x. (with_offsets reading).items t ++ x) (placed_last t b (length (reading.items t)) added (omega arith))
-
--- a count of bytes that stops, by one more
-pub taken_more : (old new : ℕ) (t : List ℕ) (b : ℕ) → old ≡ counted (length t) → new ≡ grown old 1 → new ≡ counted (length (t ++ b ∷ []))
-taken_more old new t b e f = omega (arith, e, f, length-append t (b ∷ []))
-
-pub taken_is : (old new : ℕ) (t : List ℕ) → old ≡ counted (length t) → new ≡ grown old 1 → counted new ≡ counted (suc (length t))
-taken_is old new t e f = omega (arith, e, f)
+        placed_more t (b ∷ []) added e ∙ ap (λ x. listed_items true reading t ++ x) (placed_last t b (length (reading.items t)) added (omega arith))
 
 -- the line at a place that a count gives
 pub line_at : (n taken : ℕ) (line : List ℕ) → counted taken ≡ counted n → offset_line taken line ≡ offset_line n line
@@ -201,8 +195,3 @@ lines_at line n taken (i ∷ items) e = ap (λ x. x ++ flat_map (λ i. offset_li
 pub placed_count : {Item : Type 0} (n : ℕ) (items : List Item) → length (map (at_place n) items) ≡ length items
 placed_count n [] = refl
 placed_count n (i ∷ items) = ap suc (placed_count n items)
-
--- the lines of bytes of data are those of a label's
-pub data_lines_at : (n : ℕ) (bytes : List ℕ) → flat_map (λ b. offset_line n (line_of (RasterByte b))) bytes ≡ flat_map (λ i. offset_line n (label_line_of i)) (data_items bytes)
-data_lines_at n [] = refl
-data_lines_at n (b ∷ bytes) = ap (λ x. offset_line n (line_of (RasterByte b)) ++ x) (data_lines_at n bytes)

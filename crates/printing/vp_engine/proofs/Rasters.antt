@@ -1,16 +1,14 @@
 -- The items of a raster's bytes: what a receipt and a listing do with them.
-use Rattle.std.proofs.Common.{◌≡◌, ℕ, List, [], ◌∷◌, ◌++◌, reverse, append_assoc, flat_map, length, zero, suc, take, ◌<◌, None, arith, refl, sym, ap, ◌∙◌}
+use Rattle.std.proofs.Common.{◌≡◌, ℕ, List, [], ◌∷◌, ◌++◌, reverse, append_assoc, flat_map, zero, suc, take, ◌<◌, None, arith, refl, sym, ap, ◌∙◌}
 use Rattle.std.proofs.lemmas.List.{reverse-append, append-nil}
 use Rattle.vp_esc.specs.declared.item.EscItem.{EscItem}
 use Rattle.vp_esc.specs.declared.item.EscItem.TheVariants.{RasterByte}
-use Rattle.vp_esc.specs.Lines.{line_of}
 use Rattle.vp_esc.specs.Split.{fault_of}
 use Rattle.vp_esc.specs.Reader.{raster_items}
 use Rattle.vp_receipt_settings.specs.Setup.{Setup as ReceiptSetup}
 use Rattle.vp_receipt.specs.Strips.{prints, printed as printed_receipt}
 use Rattle.vp_engine.specs.Paper.{Reading, listing, printed}
 use Rattle.vp_engine.specs.Setups.{rules_of}
-use Rattle.vp_engine.specs.Lines.{byte_lines}
 use Rattle.vp_engine.specs.Setups.{Receipts}
 use Rattle.vp_engine.specs.Takes.{AreAccepted}
 
@@ -40,11 +38,3 @@ printed_lines reading line [] before = sym (append-nil (printed (listing reading
 printed_lines reading line (i ∷ added) before =
     ap (printed (listing reading line)) (ap (λ x. x ++ before) (reverse-append (i ∷ []) added) ∙ append_assoc (reverse added) (i ∷ []) before)
     ∙ printed_lines reading line added (i ∷ before) ∙ append_assoc (printed (listing reading line) before) (line i) (flat_map line added)
-
-pub raster_length : (xs : List ℕ) → length (raster_items xs) ≡ length xs
-raster_length [] = refl
-raster_length (b ∷ xs) = omega (arith, raster_length xs)
-
-pub lines_of_bytes : (xs : List ℕ) → flat_map line_of (raster_items xs) ≡ byte_lines xs
-lines_of_bytes [] = refl
-lines_of_bytes (b ∷ xs) = ap (λ x. line_of (RasterByte b) ++ x) (lines_of_bytes xs)

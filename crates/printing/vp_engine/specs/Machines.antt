@@ -1,16 +1,15 @@
 -- The machines by cases: each a reader and what it drives.
-use Rattle.std.specs.Prelude.{◌≡◌, ℕ, List, [], length}
+use Rattle.std.specs.Prelude.{◌≡◌, ℕ, Bool, List, [], length}
 use Rattle.vp_esc.specs.Reader.{Stands as EscStands}
 use Rattle.vp_receipt.specs.Standing.{Stands as ReceiptStands}
 use Rattle.vp_zpl.specs.Reader.{Stands as ZplStands}
 use Rattle.vp_label.specs.Standing.{Stands as LabelStands}
 use Rattle.vp_engine.specs.declared.machine.Machine.{Machine}
 use Rattle.vp_engine.specs.declared.machine.Machine.TheVariants.{Receipt, ReceiptLines, Label, LabelLines}
-use Rattle.vp_engine.specs.declared.machine.Machine.TheVariants.{ReceiptOffsets, LabelOffsets}
 use Rattle.vp_streams.specs.Count.{counted}
-use Rattle.vp_engine.specs.Lines.{Listed}
+use Rattle.vp_engine.specs.Lines.{Listed, taken_of}
 use Rattle.vp_engine.specs.Setups.{EscPos, Zpl}
-use Rattle.vp_engine.specs.Setups.{Setup, Receipts, Labels, ListingIn, ListingWithOffsetsIn, Item}
+use Rattle.vp_engine.specs.Setups.{Setup, Receipts, Labels, ListingIn, Item}
 
 -- what is still to be put out
 abbrev pub pending_of : Machine → List ℕ
@@ -18,29 +17,23 @@ pending_of (Receipt reader receipt) = receipt.pending
 pending_of (ReceiptLines reader lines) = lines.pending
 pending_of (Label reader label) = label.pending
 pending_of (LabelLines reader lines) = lines.pending
-pending_of (ReceiptOffsets reader lines taken) = lines.pending
-pending_of (LabelOffsets reader lines taken) = lines.pending
 
--- there were as many lines as items, and `taken` bytes were taken
-pub record AreLines {Item : Type 0} (lines : Listed) (taken : ℕ) (bytes : List ℕ) (before : List Item)
-    : Type 0 where
+-- there were as many lines as items, behind their places or without
+pub record AreLines (with_offsets : Bool) {Item : Type 0} (lines : Listed) (bytes : List ℕ)
+    (before : List Item) : Type 0 where
   pub count : lines.count ≡ counted (length before)
-  pub taken_is : taken ≡ counted (length bytes)
+  pub taken : lines.taken ≡ taken_of with_offsets bytes
 
 -- the reader stands after these bytes, and what it drives after these items
 abbrev pub MachineStands : Machine → (setup : Setup) → List ℕ → List (Item setup) → Type 0
 MachineStands (Receipt reader receipt) (Receipts setup) bytes before =
     EscStands reader bytes × ReceiptStands setup receipt before
-MachineStands (ReceiptLines reader lines) (ListingIn EscPos) bytes before =
-    EscStands reader bytes × (lines.count ≡ counted (length before))
+MachineStands (ReceiptLines reader lines) (ListingIn with_offsets EscPos) bytes before =
+    EscStands reader bytes × AreLines with_offsets lines bytes before
 MachineStands (Label reader label) (Labels sheets) bytes before =
     ZplStands reader bytes × LabelStands sheets label before
-MachineStands (LabelLines reader lines) (ListingIn Zpl) bytes before =
-    ZplStands reader bytes × (lines.count ≡ counted (length before))
-MachineStands (ReceiptOffsets reader lines taken) (ListingWithOffsetsIn EscPos) bytes before =
-    EscStands reader bytes × AreLines lines taken bytes before
-MachineStands (LabelOffsets reader lines taken) (ListingWithOffsetsIn Zpl) bytes before =
-    ZplStands reader bytes × AreLines lines taken bytes before
+MachineStands (LabelLines reader lines) (ListingIn with_offsets Zpl) bytes before =
+    ZplStands reader bytes × AreLines with_offsets lines bytes before
 MachineStands machine setup bytes before = ⊥
 
 -- A machine took nothing.

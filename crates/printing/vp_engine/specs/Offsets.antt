@@ -1,5 +1,5 @@
 -- Where the items of a stream are: how many bytes are taken when each is given.
-use Rattle.std.specs.Prelude.{ℕ, suc, List, [], ◌∷◌, ◌++◌, length, nat_lt, decimal, if◌then◌else◌}
+use Rattle.std.specs.Prelude.{ℕ, suc, Bool, true, false, List, [], ◌∷◌, ◌++◌, length, nat_lt, decimal, if◌then◌else◌}
 use Rattle.vp_streams.specs.Count.{counted}
 use Rattle.vp_engine.specs.Paper.{Reading}
 
@@ -26,10 +26,19 @@ module _ {Item : Type 0} (reading : Reading Item) where
   placed_from bytes k (item ∷ items) =
       record { offset = offset_of bytes k; item = item } ∷ placed_from bytes (suc k) items
 
--- what bytes say, where each item has its place
-abbrev pub with_offsets : {Item : Type 0} → Reading Item → Reading (Placed Item)
-with_offsets reading = record {
-  items = λ bytes. placed_from reading bytes 0 (reading.items bytes);
+-- an item with its place or without
+abbrev pub ListedItem : Bool → Type 0 → Type 0
+ListedItem false Item = Item
+ListedItem true Item = Placed Item
+
+abbrev pub listed_items : (with_offsets : Bool) → {Item : Type 0} → Reading Item → List ℕ → List (ListedItem with_offsets Item)
+listed_items false reading bytes = reading.items bytes
+listed_items true reading bytes = placed_from reading bytes 0 (reading.items bytes)
+
+-- what bytes say, where each item has its place or none has
+abbrev pub listed_by : (with_offsets : Bool) → {Item : Type 0} → Reading Item → Reading (ListedItem with_offsets Item)
+listed_by with_offsets reading = record {
+  items = listed_items with_offsets reading;
   fault_of = reading.fault_of;
   is_between = reading.is_between;
 }
@@ -40,3 +49,8 @@ offset_line offset line = decimal (counted offset) ++ 0x20 ∷ line
 
 abbrev pub placed_line : {Item : Type 0} → (Item → List ℕ) → Placed Item → List ℕ
 placed_line line placed = offset_line placed.offset (line placed.item)
+
+-- the line of an item with its place or without
+abbrev pub line_by : (with_offsets : Bool) → {Item : Type 0} → (Item → List ℕ) → ListedItem with_offsets Item → List ℕ
+line_by false line = line
+line_by true line = placed_line line

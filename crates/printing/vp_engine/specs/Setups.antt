@@ -15,7 +15,7 @@ use Rattle.vp_label.specs.Held.{band_rows_after, stored_after, fields_after}
 use Rattle.vp_language.specs.declared.language.Language.{Language}
 use Rattle.vp_language.specs.declared.language.Language.TheVariants as languages
 use Rattle.vp_streams.specs.Count.{counted}
-use Rattle.vp_engine.specs.Offsets.{Placed, with_offsets, placed_line}
+use Rattle.vp_engine.specs.Offsets.{ListedItem, listed_by, line_by}
 use Rattle.vp_engine.specs.Paper.{Reading, Rules, listing, nothing_held}
 
 -- what a stream's bytes are, whatever they are printed on
@@ -67,15 +67,14 @@ line language = line_in (commands_of language)
 pub data Setup : Type 0 where
   Receipts : ReceiptSetup → Setup
   Labels : Sheets → Setup
-  ListingIn : Commands → Setup
-  ListingWithOffsetsIn : Commands → Setup
+  ListingIn : (with_offsets : Bool) → Commands → Setup
 
 -- the listing of a language, whatever its paper
 abbrev pub Listing : Language → Setup
-Listing language = ListingIn (commands_of language)
+Listing language = ListingIn false (commands_of language)
 
 abbrev pub ListingWithOffsets : Language → Setup
-ListingWithOffsets language = ListingWithOffsetsIn (commands_of language)
+ListingWithOffsets language = ListingIn true (commands_of language)
 
 -- the printer of a language with these sheets
 abbrev pub setup_of : Language → Sheets → Setup
@@ -86,8 +85,7 @@ setup_of languages.Label sheets = Labels sheets
 abbrev pub Item : Setup → Type 0
 Item (Receipts receipt) = EscItem
 Item (Labels sheets) = zpl.Item
-Item (ListingIn commands) = ItemIn commands
-Item (ListingWithOffsetsIn commands) = Placed (ItemIn commands)
+Item (ListingIn with_offsets commands) = ListedItem with_offsets (ItemIn commands)
 
 abbrev pub rules_of : (setup : Setup) → Rules (Item setup)
 rules_of (Receipts receipt) = record {
@@ -111,13 +109,11 @@ rules_of (Labels sheets) = record {
     fields = fields_after sheets before pending;
   };
 }
-rules_of (ListingIn commands) = listing (reading_in commands) (line_in commands)
-rules_of (ListingWithOffsetsIn commands) =
-    listing (with_offsets (reading_in commands)) (placed_line (line_in commands))
+rules_of (ListingIn with_offsets commands) =
+    listing (listed_by with_offsets (reading_in commands)) (line_by with_offsets (line_in commands))
 
 -- how many lines of a listing these items are
 abbrev pub lines_of : (setup : Setup) → List (Item setup) → ℕ
 lines_of (Receipts receipt) before = 0
 lines_of (Labels sheets) before = 0
-lines_of (ListingIn commands) before = counted (length before)
-lines_of (ListingWithOffsetsIn commands) before = counted (length before)
+lines_of (ListingIn with_offsets commands) before = counted (length before)

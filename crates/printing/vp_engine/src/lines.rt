@@ -1,22 +1,23 @@
-//! The lines of a listing: each is put out before the next begins.
-ghost use Rattle.std.specs.Prelude.{◌≡◌, ◌≤◌, ◌<◌, ◌+◌, ◌*◌, ◌++◌, ◌↔◌, [], IsTrue, length, min, take, drop};
+//! The lines of a listing: each is put out before the next begins, and stands behind its place or without it.
+ghost use Rattle.std.specs.Prelude.{◌≡◌, ◌≤◌, ◌<◌, ◌+◌, ◌*◌, ◌++◌, ◌↔◌, [], IsTrue, flat_map, length, min, take, drop};
+ghost use Rattle.arrayvec.specs.ArrayVec.{array_vec_len};
 ghost use Rattle.vp_streams.specs.Count.{grown};
-ghost use Rattle.vp_engine.specs.Lines.{byte_lines, byte_lines_after};
-ghost use Rattle.vp_engine.specs.declared.offset.TheConstants.{LONGEST_BYTE_LINE};
+ghost use Rattle.vp_engine.specs.Lines.{listed_line, byte_lines, listed_bytes, longest_line, more_taken, no_lines};
 ghost use Rattle.vp_esc.specs.Lines.{line_of};
 ghost use Rattle.vp_esc.specs.declared.item.EscItem.TheVariants.{RasterByte};
 
-use crate::offset::put_byte_lines_after;
+use crate::offset::{LONGEST_BYTE_LINE, append_behind, put_byte_lines_after};
 use arrayvec::ArrayVec;
 use std::marker::Model;
 
-/// The last lines that were begun, where in them the next byte is, and how many lines there were; that count
-/// stops at the greatest u64.
+/// The last lines that were begun, where in them the next byte is, how many lines there were, and how many
+/// bytes were taken, where lines stand behind their places. Both counts stop at the greatest u64.
 #[derive(Drop)]
 pub struct Lines {
-    line: ArrayVec<u8, 821>,
+    text: ArrayVec<u8, 821>,
     at: usize,
     count: u64,
+    taken: Option<u64>,
 }
 
 impl Model for Lines {
@@ -25,41 +26,67 @@ impl Model for Lines {
 
     ghost Value = { Listed };
 
-    ghost view = { λ l. record { pending = drop l.at l.line.items; count = l.count } };
+    ghost view = { λ l. record { pending = drop l.at l.text.items; count = l.count; taken = l.taken } };
 
-    ghost invariant = { λ l. l.at ≤ length l.line.items };
+    ghost invariant = { λ l. l.at ≤ length l.text.items };
 }
 
 impl Lines {
-    /// No line.
-    pub fn new() -> Self
-        ensures { result ≡ record { pending = []; count = 0 } }
+    /// No line, of those behind their places or of those without.
+    pub fn new(with_offsets: bool) -> Self
+        ensures { result ≡ no_lines with_offsets }
     {
         Lines {
-            line: ArrayVec::new(),
+            text: ArrayVec::new(),
             at: 0,
             count: 0,
+            taken: with_offsets.then_some(0),
         }
     }
 
-    /// Begins `count` lines, where those before them are put out.
-    pub fn begin(&mut self, lines: &[u8], count: usize)
-        requires idle { self.old.pending ≡ [] }
-        requires room { length lines.now ≤ 821 }
-        ensures pending { self.new.pending ≡ lines.now }
-        ensures count { self.new.count ≡ grown self.old.count count }
+    /// So many bytes more were taken.
+    pub fn advance(&mut self, n: usize)
+        ensures { self.new ≡ record self.old { taken = more_taken self.old.taken n } }
     {
-        self.line.clear();
-        let _fits = self.line.try_extend_from_slice(lines);
+        if let Some(taken) = self.taken {
+            self.taken = Some(taken.saturating_add(n as u64));
+        }
+    }
+
+    /// Begins a line, where those before it are put out.
+    pub fn begin(&mut self, line: &[u8])
+        requires idle { self.old.pending ≡ [] }
+        requires room { length line.now ≤ 800 }
+        ensures pending { self.new.pending ≡ listed_line self.old.taken line.now }
+        ensures count { self.new.count ≡ grown self.old.count 1 }
+        ensures taken { self.new.taken ≡ self.old.taken }
+    {
+        self.text.clear();
         self.at = 0;
-        self.count = self.count.saturating_add(count as u64);
+        self.count = self.count.saturating_add(1);
+        append(&mut self.text, self.taken, line);
+    }
+
+    /// Begins the lines of up to three bytes of data that are given at once.
+    pub fn begin_bytes(&mut self, bytes: &[u8])
+        requires idle { self.old.pending ≡ [] }
+        requires room { length bytes.now ≤ 3 }
+        ensures pending { self.new.pending
+            ≡ flat_map (λ b. listed_line self.old.taken (line_of (RasterByte b))) bytes.now }
+        ensures count { self.new.count ≡ grown self.old.count (length bytes.now) }
+        ensures taken { self.new.taken ≡ self.old.taken }
+    {
+        self.text.clear();
+        self.at = 0;
+        self.count = self.count.saturating_add(bytes.len() as u64);
+        append_bytes(&mut self.text, self.taken, bytes);
     }
 
     /// Whether anything is still to be put out.
     pub fn pending(&self) -> bool
         ensures { IsTrue result ↔ (0 < length self.now.pending) }
     {
-        self.at < self.line.len()
+        self.at < self.text.len()
     }
 
     /// Puts out what is pending, as far as there is room.
@@ -68,38 +95,40 @@ impl Lines {
         ensures bytes { output.new ≡ take result self.old.pending ++ drop result output.old }
         ensures rest { self.new.pending ≡ drop result self.old.pending }
         ensures count { self.new.count ≡ self.old.count }
+        ensures taken { self.new.taken ≡ self.old.taken }
     {
-        let rest = &self.line.as_slice()[self.at..];
+        let rest = &self.text.as_slice()[self.at..];
         let n = rest.len().min(output.len());
         output[..n].copy_from_slice(&rest[..n]);
         self.at += n;
         n
     }
 
-    /// Puts out the whole lines of bytes of data, where nothing is pending and there is room for them.
-    pub fn put_bytes(&mut self, bytes: &[u8], output: &mut [u8])
-        requires idle { self.old.pending ≡ [] }
-        requires room { 8 * length bytes.now ≤ length output.old }
-        ensures bytes { output.new ≡ byte_lines bytes.now ++ drop (8 * length bytes.now) output.old }
-        ensures pending { self.new.pending ≡ [] }
-        ensures count { self.new.count ≡ grown self.old.count (length bytes.now) }
+    /// For how many bytes of data there is room in so long an output, however long their lines are.
+    pub fn room(&self, output: usize) -> usize
+        ensures { longest_line self.now.taken * result ≤ output }
     {
-        put_byte_lines(bytes, output);
-        self.count = self.count.saturating_add(bytes.len() as u64);
+        match self.taken {
+            None => output / 8,
+            Some(_) => output / LONGEST_BYTE_LINE,
+        }
     }
 
-    /// Puts out the whole lines of bytes of data behind their places, where `taken` bytes are taken before
-    /// them, nothing is pending and there is room for the longest lines, and gives how long they are.
-    pub fn put_bytes_after(&mut self, taken: u64, bytes: &[u8], output: &mut [u8]) -> usize
+    /// Takes bytes of data and puts out their whole lines, where nothing is pending and there is room for
+    /// them, and gives how long they are.
+    pub fn put_bytes(&mut self, bytes: &[u8], output: &mut [u8]) -> usize
         requires idle { self.old.pending ≡ [] }
-        requires room { LONGEST_BYTE_LINE * length bytes.now ≤ length output.old }
-        ensures put { result ≡ length (byte_lines_after taken bytes.now) }
-        ensures bytes { output.new ≡ byte_lines_after taken bytes.now ++ drop result output.old }
+        requires room { longest_line self.old.taken * length bytes.now ≤ length output.old }
+        ensures put { result ≡ length (listed_bytes self.old.taken bytes.now) }
+        ensures bytes { output.new ≡ listed_bytes self.old.taken bytes.now ++ drop result output.old }
         ensures pending { self.new.pending ≡ [] }
         ensures count { self.new.count ≡ grown self.old.count (length bytes.now) }
+        ensures taken { self.new.taken ≡ more_taken self.old.taken (length bytes.now) }
     {
+        let put = put_listed_bytes(self.taken, bytes, output);
         self.count = self.count.saturating_add(bytes.len() as u64);
-        put_byte_lines_after(taken, bytes, output)
+        self.advance(bytes.len());
+        put
     }
 
     /// How many lines there were.
@@ -107,6 +136,31 @@ impl Lines {
         ensures { result ≡ self.now.count }
     {
         self.count
+    }
+}
+
+/// Adds a line, behind its place where it has one.
+fn append(text: &mut ArrayVec<u8, 821>, place: Option<u64>, line: &[u8])
+    requires { array_vec_len text.old + length line.now ≤ 800 }
+    ensures line { text.new.items ≡ text.old.items ++ listed_line place line.now }
+    ensures room { array_vec_len text.new ≤ array_vec_len text.old + length line.now + 21 }
+{
+    match place {
+        None => {
+            let _ = text.try_extend_from_slice(line);
+        }
+        Some(offset) => append_behind(text, offset, line),
+    }
+}
+
+/// Adds the lines of up to three bytes of data, each behind the same place where they have one.
+fn append_bytes(text: &mut ArrayVec<u8, 821>, place: Option<u64>, bytes: &[u8])
+    requires empty { text.old.items ≡ [] }
+    requires room { length bytes.now ≤ 3 }
+    ensures { text.new.items ≡ flat_map (λ b. listed_line place (line_of (RasterByte b))) bytes.now }
+{
+    for byte in bytes {
+        append(text, place, byte_line(*byte));
     }
 }
 
@@ -162,7 +216,23 @@ pub fn byte_line(byte: u8) -> &'static [u8]
     line_among(&BYTE_LINES, byte)
 }
 
-/// Writes the lines of bytes of data to the front of the output.
+/// Writes the lines of bytes of data to the front of the output, behind places where `taken` bytes are taken
+/// before them, and gives how long they are.
+fn put_listed_bytes(taken: Option<u64>, bytes: &[u8], output: &mut [u8]) -> usize
+    requires { longest_line taken * length bytes.now ≤ length output.old }
+    ensures put { result ≡ length (listed_bytes taken bytes.now) }
+    ensures bytes { output.new ≡ listed_bytes taken bytes.now ++ drop result output.old }
+{
+    match taken {
+        None => {
+            put_byte_lines(bytes, output);
+            8 * bytes.len()
+        }
+        Some(taken) => put_byte_lines_after(taken, bytes, output),
+    }
+}
+
+/// Writes the lines of bytes of data to the front of the output, without places.
 fn put_byte_lines(bytes: &[u8], output: &mut [u8])
     requires { 8 * length bytes.now ≤ length output.old }
     ensures { output.new ≡ byte_lines bytes.now ++ drop (8 * length bytes.now) output.old }

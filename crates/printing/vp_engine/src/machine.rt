@@ -1,23 +1,23 @@
 //! The machines: each a reader and what it drives. Only here has each language an arm.
-ghost use Rattle.std.specs.Prelude.{◌≡◌, ◌<◌, ◌≤◌, ◌++◌, ◌↔◌, List, [], ℕ, IsTrue, IfOk, None, flat_map, length, min, take, drop};
+ghost use Rattle.std.specs.Prelude.{◌≡◌, ◌<◌, ◌≤◌, ◌↔◌, ◌++◌, List, [], ℕ, IsTrue, IfOk, None, flat_map, length, min, take, drop};
 ghost use Rattle.vp_engine.specs.Answers.{IsBounded};
-ghost use Rattle.vp_streams.specs.Count.{grown};
+ghost use Rattle.vp_engine.specs.Lines.{listed_line};
 ghost use Rattle.vp_engine.specs.Machines.{pending_of, MachineStands};
 ghost use Rattle.vp_engine.specs.Paper.{missing};
-ghost use Rattle.vp_engine.specs.Setups.{Setup, Item, setup_of, rules_of, lines_of};
-ghost use Rattle.vp_engine.specs.Offsets.{offset_line};
-ghost use Rattle.vp_engine.specs.Setups.{EscPos, Zpl, Receipts, Labels};
-ghost use Rattle.vp_engine.specs.Setups.{Listing, ListingWithOffsets, ListingIn, ListingWithOffsetsIn};
+ghost use Rattle.vp_engine.specs.Setups.{Setup, Item, EscPos, Zpl, Receipts, Labels, ListingIn, commands_of, setup_of, rules_of, lines_of};
 ghost use Rattle.vp_engine.specs.Takes.{Takes, TakesRun};
 ghost use Rattle.vp_esc.specs.Lines.{line_of};
-ghost use Rattle.vp_zpl.specs.Lines.{line_of as label_line_of, lines_of as label_lines_of};
+ghost use Rattle.vp_esc.specs.Reader.{Stands as EscStands};
+ghost use Rattle.vp_esc.specs.Split.{fault_of};
+ghost use Rattle.vp_receipt.specs.Standing.{Stands as ReceiptStands};
+ghost use Rattle.vp_receipt_settings.specs.Setup.{Setup as ReceiptSetup};
+ghost use Rattle.vp_streams.specs.Count.{grown};
+ghost use Rattle.vp_zpl.specs.Lines.{line_of as label_line_of};
 ghost use Rattle.vp_zpl.specs.Shown.{shown_item};
 
 use crate::held::{Held, NOTHING};
 use crate::laws::items_grow;
 use crate::lines::Lines;
-use crate::offset::{LONGEST_BYTE_LINE, offset_byte_lines, offset_line};
-use arrayvec::ArrayVec;
 use std::alloc::{AllocError, Global};
 use vp_dots::Fault;
 use vp_esc::{EscItem, EscReader};
@@ -53,20 +53,11 @@ fn missing(is_between: bool, at_rest: bool) -> Option<Fault>
 #[inline(never)]
 fn begin_line(lines: &mut Lines, item: &EscItem)
     requires { lines.old.pending ≡ [] }
-    ensures pending { lines.new.pending ≡ line_of item.now }
+    ensures pending { lines.new.pending ≡ listed_line lines.old.taken (line_of item.now) }
     ensures count { lines.new.count ≡ grown lines.old.count 1 }
+    ensures taken { lines.new.taken ≡ lines.old.taken }
 {
-    lines.begin(item.line().as_slice(), 1);
-}
-
-/// How many items a byte of a label gave.
-fn items_in(item: &ZplItem<'_>) -> usize
-    ensures { result ≡ length (shown_item item.now) }
-{
-    match item {
-        ZplItem::Command(_) => 1,
-        ZplItem::Data(bytes) => bytes.as_slice().len(),
-    }
+    lines.begin(item.line().as_slice());
 }
 
 /// Begins the lines of a label's items.
@@ -74,73 +65,64 @@ fn items_in(item: &ZplItem<'_>) -> usize
 #[inline(never)]
 fn begin_label_lines(lines: &mut Lines, item: &ZplItem<'_>)
     requires { lines.old.pending ≡ [] }
-    ensures pending { lines.new.pending ≡ label_lines_of (shown_item item.now) }
+    ensures pending { lines.new.pending
+        ≡ flat_map (λ i. listed_line lines.old.taken (label_line_of i)) (shown_item item.now) }
     ensures count { lines.new.count ≡ grown lines.old.count (length (shown_item item.now)) }
-{
-    lines.begin(item.line().as_slice(), items_in(item));
-}
-
-/// Begins the line of a receipt's item behind its place.
-// What prints doesn't pay for the room of a line, so this stands in no other function.
-#[inline(never)]
-fn begin_offset_line(lines: &mut Lines, offset: u64, item: &EscItem)
-    requires { lines.old.pending ≡ [] }
-    ensures pending { lines.new.pending ≡ offset_line offset (line_of item.now) }
-    ensures count { lines.new.count ≡ grown lines.old.count 1 }
-{
-    lines.begin(offset_line(offset, item.line().as_slice()).as_slice(), 1);
-}
-
-/// The lines of a label's items, all behind one place.
-fn label_offset_lines(offset: u64, item: &ZplItem<'_>) -> ArrayVec<u8, 821>
-    ensures { result.items ≡ flat_map (λ i. offset_line offset (label_line_of i)) (shown_item item.now) }
+    ensures taken { lines.new.taken ≡ lines.old.taken }
 {
     match item {
-        ZplItem::Command(_) => offset_line(offset, item.line().as_slice()),
-        ZplItem::Data(bytes) => offset_byte_lines(offset, bytes.as_slice()),
+        ZplItem::Command(_) => lines.begin(item.line().as_slice()),
+        ZplItem::Data(bytes) => lines.begin_bytes(bytes.as_slice()),
     }
 }
 
-/// Begins the lines of a label's items behind their place.
-// What prints doesn't pay for the room of a line, so this stands in no other function.
-#[inline(never)]
-fn begin_label_offset_lines(lines: &mut Lines, offset: u64, item: &ZplItem<'_>)
-    requires { lines.old.pending ≡ [] }
-    ensures pending { lines.new.pending
-        ≡ flat_map (λ i. offset_line offset (label_line_of i)) (shown_item item.now) }
-    ensures count { lines.new.count ≡ grown lines.old.count (length (shown_item item.now)) }
+/// Takes bytes of a receipt, and puts out all that they print: those that are skipped, or text, or bytes of a
+/// raster.
+fn receipt_run(
+    reader: &mut EscReader,
+    receipt: &mut Receipt,
+    input: &[u8],
+    output: &mut [u8],
+) -> Moved
+    requires { receipt.old.pending ≡ [] }
+    ensures taken { result.taken ≤ length input.now }
+    ensures put { result.put ≤ length output.old }
+    ensures rest { drop result.put output.new ≡ drop result.put output.old }
+    ensures pending { receipt.new.pending ≡ [] }
+    ensures takes { (setup : ReceiptSetup) (t : List ℕ) (before : List EscItem) →
+        EscStands reader.old t → ReceiptStands setup receipt.old before → fault_of t ≡ None →
+        TakesRun (rules_of (Receipts setup))
+        (λ t before. EscStands reader.new t × ReceiptStands setup receipt.new before) t before
+        (take result.taken input.now) (take result.put output.new) }
 {
-    lines.begin(label_offset_lines(offset, item).as_slice(), items_in(item));
+    let skipped = reader.take_skipped(input);
+    if skipped > 0 {
+        return Moved {
+            taken: skipped,
+            put: 0,
+        };
+    }
+    let room = receipt.text_room().min(input.len());
+    let text = reader.take_text(&input[..room]);
+    if text > 0 {
+        receipt.apply_text(&input[..text]);
+        return Moved {
+            taken: text,
+            put: 0,
+        };
+    }
+    let room = receipt.rows_room(output.len()).min(input.len());
+    let n = reader.take_raster(&input[..room]);
+    let put = receipt.put_rows(&input[..n], output);
+    Moved { taken: n, put }
 }
 
 #[derive(Drop)]
 pub enum Machine {
-    Receipt {
-        reader: EscReader,
-        receipt: Receipt,
-    },
-    ReceiptLines {
-        reader: EscReader,
-        lines: Lines,
-    },
-    Label {
-        reader: ZplReader,
-        label: Label,
-    },
-    LabelLines {
-        reader: ZplReader,
-        lines: Lines,
-    },
-    ReceiptOffsets {
-        reader: EscReader,
-        lines: Lines,
-        taken: u64,
-    },
-    LabelOffsets {
-        reader: ZplReader,
-        lines: Lines,
-        taken: u64,
-    },
+    Receipt { reader: EscReader, receipt: Receipt },
+    ReceiptLines { reader: EscReader, lines: Lines },
+    Label { reader: ZplReader, label: Label },
+    LabelLines { reader: ZplReader, lines: Lines },
 }
 
 impl Machine {
@@ -179,69 +161,35 @@ impl Machine {
         })
     }
 
-    /// One that lists a language, and took nothing.
-    pub fn listing(language: Language) -> Self
-        ensures stands { MachineStands result (Listing language) [] [] }
+    /// One that lists a language, with the places of its items or without, and took nothing.
+    pub fn listing(language: Language, with_offsets: bool) -> Self
+        ensures stands { MachineStands result (ListingIn with_offsets (commands_of language)) [] [] }
         ensures pending { pending_of result ≡ [] }
     {
         match language {
-            Language::Receipt => Machine::receipt_lines(),
-            Language::Receipt58 => Machine::receipt_lines(),
-            Language::Label => Machine::label_lines(),
+            Language::Receipt => Machine::receipt_lines(with_offsets),
+            Language::Receipt58 => Machine::receipt_lines(with_offsets),
+            Language::Label => Machine::label_lines(with_offsets),
         }
     }
 
-    /// One that lists a language with the places of its items, and took nothing.
-    pub fn listing_with_offsets(language: Language) -> Self
-        ensures stands { MachineStands result (ListingWithOffsets language) [] [] }
-        ensures pending { pending_of result ≡ [] }
-    {
-        match language {
-            Language::Receipt => Machine::receipt_offsets(),
-            Language::Receipt58 => Machine::receipt_offsets(),
-            Language::Label => Machine::label_offsets(),
-        }
-    }
-
-    fn receipt_offsets() -> Self
-        ensures stands { MachineStands result (ListingWithOffsetsIn EscPos) [] [] }
-        ensures pending { pending_of result ≡ [] }
-    {
-        Machine::ReceiptOffsets {
-            reader: EscReader::new(),
-            lines: Lines::new(),
-            taken: 0,
-        }
-    }
-
-    fn label_offsets() -> Self
-        ensures stands { MachineStands result (ListingWithOffsetsIn Zpl) [] [] }
-        ensures pending { pending_of result ≡ [] }
-    {
-        Machine::LabelOffsets {
-            reader: ZplReader::new(),
-            lines: Lines::new(),
-            taken: 0,
-        }
-    }
-
-    fn receipt_lines() -> Self
-        ensures stands { MachineStands result (ListingIn EscPos) [] [] }
+    fn receipt_lines(with_offsets: bool) -> Self
+        ensures stands { MachineStands result (ListingIn with_offsets EscPos) [] [] }
         ensures pending { pending_of result ≡ [] }
     {
         Machine::ReceiptLines {
             reader: EscReader::new(),
-            lines: Lines::new(),
+            lines: Lines::new(with_offsets),
         }
     }
 
-    fn label_lines() -> Self
-        ensures stands { MachineStands result (ListingIn Zpl) [] [] }
+    fn label_lines(with_offsets: bool) -> Self
+        ensures stands { MachineStands result (ListingIn with_offsets Zpl) [] [] }
         ensures pending { pending_of result ≡ [] }
     {
         Machine::LabelLines {
             reader: ZplReader::new(),
-            lines: Lines::new(),
+            lines: Lines::new(with_offsets),
         }
     }
 
@@ -258,14 +206,18 @@ impl Machine {
                 Ok(None) => Ok(()),
                 Err(fault) => Err(fault),
             },
-            Machine::ReceiptLines { reader, lines } => match reader.take(byte) {
-                Ok(Some(item)) => {
-                    begin_line(lines, item);
-                    Ok(())
+            Machine::ReceiptLines { reader, lines } => {
+                items_grow();
+                lines.advance(1);
+                match reader.take(byte) {
+                    Ok(Some(item)) => {
+                        begin_line(lines, item);
+                        Ok(())
+                    }
+                    Ok(None) => Ok(()),
+                    Err(fault) => Err(fault),
                 }
-                Ok(None) => Ok(()),
-                Err(fault) => Err(fault),
-            },
+            }
             Machine::Label { reader, label } => {
                 in_turn();
                 data_in_turn();
@@ -275,36 +227,10 @@ impl Machine {
                 }
             }
             Machine::LabelLines { reader, lines } => {
+                items_grow();
+                lines.advance(1);
                 if let Some(item) = reader.take(byte) {
                     begin_label_lines(lines, &item);
-                }
-                Ok(())
-            }
-            Machine::ReceiptOffsets {
-                reader,
-                lines,
-                taken,
-            } => {
-                items_grow();
-                *taken = taken.saturating_add(1);
-                match reader.take(byte) {
-                    Ok(Some(item)) => {
-                        begin_offset_line(lines, *taken, item);
-                        Ok(())
-                    }
-                    Ok(None) => Ok(()),
-                    Err(fault) => Err(fault),
-                }
-            }
-            Machine::LabelOffsets {
-                reader,
-                lines,
-                taken,
-            } => {
-                items_grow();
-                *taken = taken.saturating_add(1);
-                if let Some(item) = reader.take(byte) {
-                    begin_label_offset_lines(lines, *taken, &item);
                 }
                 Ok(())
             }
@@ -325,33 +251,12 @@ impl Machine {
             (take result.taken input.now) (take result.put output.new) }
     {
         match self {
-            Machine::Receipt { reader, receipt } => {
-                let skipped = reader.take_skipped(input);
-                if skipped > 0 {
-                    return Moved {
-                        taken: skipped,
-                        put: 0,
-                    };
-                }
-                let room = receipt.text_room().min(input.len());
-                let text = reader.take_text(&input[..room]);
-                if text > 0 {
-                    receipt.apply_text(&input[..text]);
-                    return Moved {
-                        taken: text,
-                        put: 0,
-                    };
-                }
-                let room = receipt.rows_room(output.len()).min(input.len());
-                let n = reader.take_raster(&input[..room]);
-                let put = receipt.put_rows(&input[..n], output);
-                Moved { taken: n, put }
-            }
+            Machine::Receipt { reader, receipt } => receipt_run(reader, receipt, input, output),
             Machine::ReceiptLines { reader, lines } => {
-                let room = input.len().min(output.len() / 8);
+                items_grow();
+                let room = lines.room(output.len()).min(input.len());
                 let n = reader.take_raster(&input[..room]);
-                lines.put_bytes(&input[..n], output);
-                let put = 8 * n;
+                let put = lines.put_bytes(&input[..n], output);
                 Moved { taken: n, put }
             }
             Machine::Label { reader, label } => {
@@ -363,34 +268,10 @@ impl Machine {
                 Moved { taken: n, put: 0 }
             }
             Machine::LabelLines { reader, lines } => {
-                let room = input.len().min(output.len() / 8);
-                let n = reader.take_data(&input[..room]);
-                lines.put_bytes(&input[..n], output);
-                let put = 8 * n;
-                Moved { taken: n, put }
-            }
-            Machine::ReceiptOffsets {
-                reader,
-                lines,
-                taken,
-            } => {
                 items_grow();
-                let room = input.len().min(output.len() / LONGEST_BYTE_LINE);
-                let n = reader.take_raster(&input[..room]);
-                let put = lines.put_bytes_after(*taken, &input[..n], output);
-                *taken = taken.saturating_add(n as u64);
-                Moved { taken: n, put }
-            }
-            Machine::LabelOffsets {
-                reader,
-                lines,
-                taken,
-            } => {
-                items_grow();
-                let room = input.len().min(output.len() / LONGEST_BYTE_LINE);
+                let room = lines.room(output.len()).min(input.len());
                 let n = reader.take_data(&input[..room]);
-                let put = lines.put_bytes_after(*taken, &input[..n], output);
-                *taken = taken.saturating_add(n as u64);
+                let put = lines.put_bytes(&input[..n], output);
                 Moved { taken: n, put }
             }
         }
@@ -405,8 +286,6 @@ impl Machine {
             Machine::ReceiptLines { lines, .. } => lines.pending(),
             Machine::Label { label, .. } => label.pending(),
             Machine::LabelLines { lines, .. } => lines.pending(),
-            Machine::ReceiptOffsets { lines, .. } => lines.pending(),
-            Machine::LabelOffsets { lines, .. } => lines.pending(),
         }
     }
 
@@ -424,8 +303,6 @@ impl Machine {
             Machine::ReceiptLines { lines, .. } => lines.put(output),
             Machine::Label { label, .. } => label.put(output),
             Machine::LabelLines { lines, .. } => lines.put(output),
-            Machine::ReceiptOffsets { lines, .. } => lines.put(output),
-            Machine::LabelOffsets { lines, .. } => lines.put(output),
         }
     }
 
@@ -441,8 +318,6 @@ impl Machine {
             Machine::ReceiptLines { reader, .. } => missing(reader.at_rest(), true),
             Machine::Label { reader, label } => missing(reader.at_rest(), label.at_rest()),
             Machine::LabelLines { reader, .. } => missing(reader.at_rest(), true),
-            Machine::ReceiptOffsets { reader, .. } => missing(reader.at_rest(), true),
-            Machine::LabelOffsets { reader, .. } => missing(reader.at_rest(), true),
         }
     }
 
@@ -467,8 +342,6 @@ impl Machine {
                 ..NOTHING
             },
             Machine::LabelLines { .. } => NOTHING,
-            Machine::ReceiptOffsets { .. } => NOTHING,
-            Machine::LabelOffsets { .. } => NOTHING,
         }
     }
 
@@ -483,8 +356,6 @@ impl Machine {
             Machine::ReceiptLines { lines, .. } => lines.count(),
             Machine::Label { .. } => 0,
             Machine::LabelLines { lines, .. } => lines.count(),
-            Machine::ReceiptOffsets { lines, .. } => lines.count(),
-            Machine::LabelOffsets { lines, .. } => lines.count(),
         }
     }
 }

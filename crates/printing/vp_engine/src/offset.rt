@@ -18,30 +18,8 @@ const MOST_LEADING: usize = 19;
 /// The most bytes of the line of a byte of data behind its place.
 pub const LONGEST_BYTE_LINE: usize = 29;
 
-/// A line behind a place.
-pub fn offset_line(offset: u64, line: &[u8]) -> ArrayVec<u8, 821>
-    requires { length line.now ≤ 800 }
-    ensures { result.items ≡ offset_line offset line.now }
-{
-    let mut text = ArrayVec::new();
-    append(&mut text, offset, line);
-    text
-}
-
-/// The lines of up to three bytes of data that are given at once.
-pub fn offset_byte_lines(offset: u64, bytes: &[u8]) -> ArrayVec<u8, 821>
-    requires { length bytes.now ≤ 3 }
-    ensures { result.items ≡ flat_map (λ b. offset_line offset (line_of (RasterByte b))) bytes.now }
-{
-    let mut text = ArrayVec::new();
-    for byte in bytes {
-        append(&mut text, offset, byte_line(*byte));
-    }
-    text
-}
-
-/// One line more.
-fn append(text: &mut ArrayVec<u8, 821>, offset: u64, line: &[u8])
+/// Adds a line behind its place.
+pub fn append_behind(text: &mut ArrayVec<u8, 821>, offset: u64, line: &[u8])
     requires { array_vec_len text.old + length line.now ≤ 800 }
     ensures line { text.new.items ≡ text.old.items ++ offset_line offset line.now }
     ensures room { array_vec_len text.new ≤ array_vec_len text.old + length line.now + 21 }
@@ -169,6 +147,8 @@ fn alike_from(offset: u64) -> usize
 
 /// Writes the lines of bytes of data to the front of the output, each behind its place, where `taken` bytes
 /// are taken before them, and gives how long they are.
+// Lines without places don't pay for the room of digits, so this stands in no other function.
+#[inline(never)]
 pub fn put_byte_lines_after(taken: u64, bytes: &[u8], output: &mut [u8]) -> usize
     requires { LONGEST_BYTE_LINE * length bytes.now ≤ length output.old }
     ensures put { result ≡ length (byte_lines_after taken bytes.now) }

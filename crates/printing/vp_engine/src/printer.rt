@@ -75,14 +75,14 @@ impl Printer {
     pub fn listing(language: Language) -> Self
         ensures { Stands (Listing language) result [] [] }
     {
-        Printer::over(Machine::listing(language))
+        Printer::over(Machine::listing(language, false))
     }
 
     /// One that prints a line for each item of a language, behind its place, and took and put out nothing.
     pub fn listing_with_offsets(language: Language) -> Self
         ensures { Stands (ListingWithOffsets language) result [] [] }
     {
-        Printer::over(Machine::listing_with_offsets(language))
+        Printer::over(Machine::listing(language, true))
     }
 
     /// One over a machine that took nothing.

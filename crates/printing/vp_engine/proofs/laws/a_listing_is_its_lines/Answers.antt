@@ -1,6 +1,6 @@
-use Rattle.std.proofs.Common.{◌≡◌, ℕ, List, [], sym, ap, ◌∙◌, flat_map}
+use Rattle.std.proofs.Common.{◌≡◌, ℕ, true, false, List, [], sym, ap, ◌∙◌, flat_map}
 use Rattle.std.proofs.lemmas.List.{append-nil}
-use Rattle.vp_engine.specs.Offsets.{with_offsets, placed_line}
+use Rattle.vp_engine.specs.Offsets.{listed_by, placed_line}
 use Rattle.vp_engine.specs.Paper.{Reading, listing, history, before_fault, printed, paper}
 use Rattle.vp_engine.specs.Setups.{reading, line}
 use Rattle.vp_engine.proofs.Faults.{paper_is}
@@ -15,7 +15,7 @@ lines_are reading line bytes =
     ∙ printed_lines reading line (reading.items sound) []
 
 pub returns-clause-alone : goal.returns-clause-alone
-returns-clause-alone c language bytes = lines_are (reading language) (line language) bytes
+returns-clause-alone c language bytes = lines_are (listed_by false (reading language)) (line language) bytes
 
 pub returns-clause-with_offsets : goal.returns-clause-with_offsets
-returns-clause-with_offsets c language bytes = lines_are (with_offsets (reading language)) (placed_line (line language)) bytes
+returns-clause-with_offsets c language bytes = lines_are (listed_by true (reading language)) (placed_line (line language)) bytes

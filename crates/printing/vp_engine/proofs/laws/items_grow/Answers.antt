@@ -1,11 +1,11 @@
 use Rattle.vp_engine.specs.Paper.{Reads}
 use Rattle.vp_engine.specs.Setups.{esc_reading, zpl_reading}
 use Rattle.vp_engine.specs.Setups.{EscPos, Zpl}
-use Rattle.vp_engine.specs.Setups.{Receipts, Labels, ListingIn, ListingWithOffsetsIn}
+use Rattle.vp_engine.specs.Setups.{Receipts, Labels, ListingIn}
 use Rattle.std.proofs.Common.{refl, sym}
 use Rattle.vp_engine.proofs.Escs.{items_none, fault_none}
 use Rattle.vp_engine.proofs.Labels.{items_none as labels_none}
-use Rattle.vp_engine.proofs.Offsets.{places_read}
+use Rattle.vp_engine.proofs.Offsets.{listed_reads}
 use Rattle.vp_engine.proofs.laws.items_grow.Goals as goal
 
 escs : (c : goal.After-only_more-2) → Reads esc_reading
@@ -27,7 +27,5 @@ zpls c = record {
 pub returns : goal.returns
 returns c (Receipts receipt) = escs c
 returns c (Labels sheets) = zpls c
-returns c (ListingIn EscPos) = escs c
-returns c (ListingIn Zpl) = zpls c
-returns c (ListingWithOffsetsIn EscPos) = places_read esc_reading (escs c)
-returns c (ListingWithOffsetsIn Zpl) = places_read zpl_reading (zpls c)
+returns c (ListingIn w EscPos) = listed_reads esc_reading w (escs c)
+returns c (ListingIn w Zpl) = listed_reads zpl_reading w (zpls c)

@@ -3,17 +3,15 @@ use Rattle.vp_dots.specs.declared.fault.Fault.{Fault}
 use Rattle.vp_dots.specs.declared.fault.Fault.TheVariants.{Truncated, Unprinted}
 use Rattle.vp_engine.specs.Paper.{Rules, IsOfEnd, history, missing, ending, fault}
 use Rattle.vp_engine.specs.Setups.{Setup, rules_of}
-use Rattle.vp_engine.specs.Setups.{Receipts, Labels, ListingIn, ListingWithOffsetsIn, EscPos, Zpl}
+use Rattle.vp_engine.specs.Setups.{Receipts, Labels, ListingIn, EscPos, Zpl}
 use Rattle.vp_engine.proofs.OfBytes.{SomeOfByte, some_is, fault_of_byte, esc_of_byte, receipts_of_byte, labels_of_byte}
 use Rattle.vp_engine.proofs.laws.the_fault_tells_the_end.Goals as goal
 
 of_byte : (setup : Setup) (bytes : List ℕ) → SomeOfByte (fault (rules_of setup) bytes)
 of_byte (Receipts receipt) = fault_of_byte (rules_of (Receipts receipt)) esc_of_byte (receipts_of_byte receipt)
 of_byte (Labels sheets) = fault_of_byte (rules_of (Labels sheets)) (λ bytes. tt) (labels_of_byte sheets)
-of_byte (ListingIn EscPos) = fault_of_byte (rules_of (ListingIn EscPos)) esc_of_byte (λ before item. tt)
-of_byte (ListingIn Zpl) = fault_of_byte (rules_of (ListingIn Zpl)) (λ bytes. tt) (λ before item. tt)
-of_byte (ListingWithOffsetsIn EscPos) = fault_of_byte (rules_of (ListingWithOffsetsIn EscPos)) esc_of_byte (λ before item. tt)
-of_byte (ListingWithOffsetsIn Zpl) = fault_of_byte (rules_of (ListingWithOffsetsIn Zpl)) (λ bytes. tt) (λ before item. tt)
+of_byte (ListingIn w EscPos) = fault_of_byte (rules_of (ListingIn w EscPos)) esc_of_byte (λ before item. tt)
+of_byte (ListingIn w Zpl) = fault_of_byte (rules_of (ListingIn w Zpl)) (λ bytes. tt) (λ before item. tt)
 
 of_end : (is_between at_rest : Bool) (f : Fault) → missing is_between at_rest ≡ Some f → IsOfEnd f
 of_end true true f e = cc

@@ -5,5 +5,5 @@ use Rattle.vp_engine.proofs.lines.Lines.put.Goals as goal
 
 pub returns-clause-rest : goal.returns-clause-rest
 returns-clause-rest c =
-    sym (drop-drop c.min-n.result c.self.inside.at c.self.inside.line.items)
+    sym (drop-drop c.min-n.result c.self.inside.at c.self.inside.text.items)
     ∙ ap (λ (l : Listed). drop c.min-n.result l.pending) c.self.view_is

@@ -1,5 +1,5 @@
 use Rattle.std.proofs.Common.{true, ◌∙◌}
-use Rattle.vp_engine.proofs.Arms.{at_receipt, at_lines, at_label, at_label_lines, at_offsets, at_label_offsets}
+use Rattle.vp_engine.proofs.Arms.{at_receipt, at_lines, at_label, at_label_lines}
 use Rattle.vp_engine.proofs.Comes.{missing_is, missing_where}
 use Rattle.vp_engine.proofs.machine.Machine.ending.Goals as goal
 
@@ -8,7 +8,7 @@ returns-in-Receipt c = at_receipt _ _ _ _ c.in-Receipt.is (λ s t before at none
 
 pub returns-in-ReceiptLines : goal.returns-in-ReceiptLines
 returns-in-ReceiptLines c = at_lines _ _ _ _ c.in-ReceiptLines.is
-    (λ t before at none. c.missing-in-ReceiptLines.ensures ∙ missing_is _ true true _ _ none (c.at_rest-in-ReceiptLines.ensures t at.0) (λ e. e, λ e. e))
+    (λ w t before at none. c.missing-in-ReceiptLines.ensures ∙ missing_is _ true true _ _ none (c.at_rest-in-ReceiptLines.ensures t at.0) (λ e. e, λ e. e))
 
 pub returns-in-Label : goal.returns-in-Label
 returns-in-Label c = at_label _ _ _ _ c.in-Label.is (λ s t before at none.
@@ -16,12 +16,4 @@ returns-in-Label c = at_label _ _ _ _ c.in-Label.is (λ s t before at none.
 
 pub returns-in-LabelLines : goal.returns-in-LabelLines
 returns-in-LabelLines c = at_label_lines _ _ _ _ c.in-LabelLines.is
-    (λ t before at none. c.missing-in-LabelLines.ensures ∙ missing_where _ true _ true (c.at_rest-in-LabelLines.ensures t at.0) (λ e. e, λ e. e))
-
-pub returns-in-ReceiptOffsets : goal.returns-in-ReceiptOffsets
-returns-in-ReceiptOffsets c = at_offsets _ _ _ _ _ c.in-ReceiptOffsets.is
-    (λ t before at none. c.missing-in-ReceiptOffsets.ensures ∙ missing_is _ true true _ _ none (c.at_rest-in-ReceiptOffsets.ensures t at.0) (λ e. e, λ e. e))
-
-pub returns-in-LabelOffsets : goal.returns-in-LabelOffsets
-returns-in-LabelOffsets c = at_label_offsets _ _ _ _ _ c.in-LabelOffsets.is
-    (λ t before at none. c.missing-in-LabelOffsets.ensures ∙ missing_where _ true _ true (c.at_rest-in-LabelOffsets.ensures t at.0) (λ e. e, λ e. e))
+    (λ w t before at none. c.missing-in-LabelLines.ensures ∙ missing_where _ true _ true (c.at_rest-in-LabelLines.ensures t at.0) (λ e. e, λ e. e))

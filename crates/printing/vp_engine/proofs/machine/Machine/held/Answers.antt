@@ -4,7 +4,7 @@ use Rattle.vp_label.specs.Held.{band_rows_after, stored_after}
 use Rattle.vp_engine.specs.Machines.{pending_of}
 use Rattle.vp_engine.specs.Paper.{nothing_held}
 use Rattle.vp_engine.specs.Setups.{Labels, rules_of}
-use Rattle.vp_engine.proofs.Arms.{at_receipt, at_lines, at_label, at_label_lines, at_offsets, at_label_offsets}
+use Rattle.vp_engine.proofs.Arms.{at_receipt, at_lines, at_label, at_label_lines}
 use Rattle.vp_engine.proofs.machine.Machine.held.Goals as goal
 
 pub returns-in-Receipt-clause-value : goal.returns-in-Receipt-clause-value
@@ -21,13 +21,7 @@ returns-in-Label-clause-value c = at_label _ _ _ _ c.in-Label.is (λ s t before 
     ∙ ap (λ m. (rules_of (Labels s)).held before (pending_of m)) (sym c.in-Label.is))
 
 pub returns-in-ReceiptLines-clause-value : goal.returns-in-ReceiptLines-clause-value
-returns-in-ReceiptLines-clause-value c = at_lines _ _ _ _ c.in-ReceiptLines.is (λ t before at. refl)
+returns-in-ReceiptLines-clause-value c = at_lines _ _ _ _ c.in-ReceiptLines.is (λ w t before at. refl)
 
 pub returns-in-LabelLines-clause-value : goal.returns-in-LabelLines-clause-value
-returns-in-LabelLines-clause-value c = at_label_lines _ _ _ _ c.in-LabelLines.is (λ t before at. refl)
-
-pub returns-in-ReceiptOffsets-clause-value : goal.returns-in-ReceiptOffsets-clause-value
-returns-in-ReceiptOffsets-clause-value c = at_offsets _ _ _ _ _ c.in-ReceiptOffsets.is (λ t before at. refl)
-
-pub returns-in-LabelOffsets-clause-value : goal.returns-in-LabelOffsets-clause-value
-returns-in-LabelOffsets-clause-value c = at_label_offsets _ _ _ _ _ c.in-LabelOffsets.is (λ t before at. refl)
+returns-in-LabelLines-clause-value c = at_label_lines _ _ _ _ c.in-LabelLines.is (λ w t before at. refl)
