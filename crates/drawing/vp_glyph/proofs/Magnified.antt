@@ -1,7 +1,7 @@
 -- Words whose dots are drawn several times as wide.
 use Rattle.std.proofs.Common.{inl, inr, ◌≡◌, ℕ, ◌+◌, ◌-◌, ◌*◌, ◌/◌, ◌%◌, ◌^◌, ◌<◌, ◌≤◌, Bool, true, false, cond, eqb, ltb, leb, ◌&&◌, ◌||◌, eq-eqb, refl, sym, ap, ◌∙◌, arith, List, ℤ, pos, ◌+ℤ◌, bit_and, bit_or}
 use Rattle.std.proofs.Math.Nat.{div-lt_iff_lt-mul, div-mul-le_self, mul-le-mul_right}
-use Rattle.std.proofs.lemmas.Bool.{cases_Bool, cases_eq, cases_lt, and_parts, eqb-true, ne_eqb, lt-ltb, le-ltb, lt-leb, le-leb}
+use Rattle.std.proofs.lemmas.Bool.{cases_Bool, cases_eq, cases_lt, and_parts, eqb-true, ne_eqb, lt-ltb, le-ltb, lt-leb, le-leb, false_from_ne_true}
 use Rattle.std.proofs.lemmas.Bool.Decides.{nat_tests}
 use Rattle.vp_dots.specs.Dots.{bit, shifted, span}
 use Rattle.vp_dots.specs.Words.{word_dot}
@@ -161,7 +161,7 @@ font_few A = omega arith
 font_few B = omega arith
 
 -- dots past a character of a font are white
-same_few : (font : Font) (word wm x : ℕ) → ((y : ℕ) → word_dot word y ≡ true → y < font_width font) → (ltb x (12 * wm) && word_dot word (x / wm)) ≡ (ltb x (font_width font * wm) && word_dot word (x / wm))
+pub same_few : (font : Font) (word wm x : ℕ) → ((y : ℕ) → word_dot word y ≡ true → y < font_width font) → (ltb x (12 * wm) && word_dot word (x / wm)) ≡ (ltb x (font_width font * wm) && word_dot word (x / wm))
 same_few font word wm x h =
     let most : font_width font * wm ≤ 12 * wm = mul-le-mul_right wm (font_few font) in
     elim (cases_Bool (word_dot word (x / wm))) [
@@ -171,6 +171,21 @@ same_few font word wm x h =
       ]
       | inr f ↦ rw f (and_false _ ∙ sym (and_false _))
     ]
+
+-- dots that are drawn once each
+pub same_once : (font : Font) (word wm x : ℕ) → wm ≡ 1 → ((y : ℕ) → word_dot word y ≡ true → y < font_width font) → word_dot word x ≡ (ltb x (font_width font * wm) && word_dot word (x / wm))
+same_once font word wm x e h =
+    let wide : font_width font * 1 ≡ font_width font = omega arith in
+    let place : x / 1 ≡ x = omega arith in
+    rw (e, wide, place) (elim (cases_lt x (font_width font)) [
+      | inl l ↦ rw (lt-ltb x (font_width font) l) refl
+      | inr g ↦ rw (le-ltb x (font_width font) g) (false_from_ne_true (word_dot word x) (λ t. absurd (omega (arith, h x t))))
+    ])
+
+-- a character of more than five dots each, no wider than a word, is of font B
+pub nine_wide : (font : Font) (wm : ℕ) → font_width font * wm ≤ 64 → 64 < 12 * wm → font_width font ≡ 9
+nine_wide A wm l g = absurd (omega arith)
+nine_wide B wm l g = refl
 
 pub few_painted : (op : Op) (at : ℤ) (font : Font) (word wm : ℕ) (a b : List ℕ) → ((y : ℕ) → word_dot word y ≡ true → y < font_width font)
     → Painted op (shifted at (λ x. ltb x (12 * wm) && word_dot word (x / wm))) a b → Painted op (shifted at (λ x. ltb x (font_width font * wm) && word_dot word (x / wm))) a b

@@ -1,7 +1,7 @@
--- Rows of characters that aren't magnified.
-use Rattle.std.proofs.Common.{inl, inr, ◌≡◌, ℕ, ◌+◌, ◌-◌, ◌*◌, ◌/◌, ◌<◌, ◌≤◌, Bool, true, false, not, cond, ltb, ◌&&◌, ◌||◌, refl, sym, ap, ◌∙◌, arith, List, get_or, replicate}
+-- Rows of characters that are printed once each.
+use Rattle.std.proofs.Common.{inl, inr, ◌≡◌, ℕ, ◌+◌, ◌-◌, ◌*◌, ◌/◌, ◌<◌, ◌≤◌, Bool, true, false, not, cond, ltb, ◌&&◌, ◌||◌, refl, sym, ap, ◌∙◌, arith, List, get_or, replicate, length, set, get_or-set_same, get_or-set_other}
 use Rattle.std.proofs.lemmas.List.{get_or-replicate, get_or_past, length-replicate}
-use Rattle.std.proofs.lemmas.Bool.{cases_lt, false_from_ne_true, lt-ltb, le-ltb, lt-leb, le-leb}
+use Rattle.std.proofs.lemmas.Bool.{cases_eq, cases_lt, false_from_ne_true, lt-ltb, le-ltb, lt-leb, le-leb}
 use Rattle.std.specs.Prelude.{Option, None, Some, MatchOption}
 use Rattle.vp_dots.specs.Words.{word_dot, IsReady}
 use Rattle.vp_glyph.specs.Cells.{font_width, font_height, font_dot, bold_dot, cell_width, cell_height, underlined, cell_dot}
@@ -9,6 +9,7 @@ use Rattle.vp_glyph.specs.declared.cell.Font.{Font}
 use Rattle.vp_glyph.specs.declared.cell.Style.{Style}
 use Rattle.vp_glyph.specs.declared.Sheets.{Sheets}
 use Rattle.vp_glyph.proofs.Looks.{white_dot}
+use Rattle.vp_glyph.proofs.Styled.{body_place, past_all}
 
 and_false : (b : Bool) → (b && false) ≡ false
 and_false true = refl
@@ -22,50 +23,58 @@ or_false : (b : Bool) → (b || false) ≡ b
 or_false true = refl
 or_false false = refl
 
-module _ (sheets : Sheets) (font : Font) (style : Style) (c y : ℕ) (w : style.wm ≡ 1) (h : style.hm ≡ 1) (low : y < font_height font) where
+and_true : (b : Bool) → (b && true) ≡ b
+and_true true = refl
+and_true false = refl
+
+module _ (sheets : Sheets) (font : Font) (style : Style) (c y : ℕ) (h : style.hm ≡ 1) (low : y < font_height font) where
   -- the dots of the character itself
   abbrev body : ℕ → Bool
-  body x = ltb x (font_width font) && bold_dot style.bold (font_dot sheets c font) x y
+  body x = ltb (x / style.wm) (font_width font) && bold_dot style.bold (font_dot sheets c font) (x / style.wm) y
 
-  plain_dot : (x : ℕ) → cell_dot sheets font style c x y ≡ (ltb x (cell_width font style) && cond style.inverse (not (body x)) (body x || underlined font style y))
+  printed_dot : (x : ℕ) → cell_dot sheets font style c x y ≡ (ltb x (cell_width font style) && cond style.inverse (not (body x)) (body x || underlined font style y))
   unfolding cell_dot
-  plain_dot x =
-      let across : x / 1 ≡ x = omega arith in
+  printed_dot x =
       let down : y / 1 ≡ y = omega arith in
       let high : font_height font * 1 ≡ font_height font = omega arith in
-      rw (w, h, across, down, high, lt-ltb y (font_height font) low) (same (ltb x ((font_width font + style.spacing) * 1)) _)
+      rw (h, down, high, lt-ltb y (font_height font) low) (same (ltb x ((font_width font + style.spacing) * style.wm)) _)
     where
       same : (a b : Bool) → (a && true && b) ≡ (a && b)
       same true b = refl
       same false b = refl
 
-  pub printed_inverse : (dots other whole word x : ℕ) → cell_width font style ≤ 64 → style.inverse ≡ true → word_dot dots x ≡ body x → (x < 64 → word_dot other x ≡ not (word_dot dots x))
-      → word_dot whole x ≡ ltb x (cell_width font style) → word_dot word x ≡ (word_dot other x && word_dot whole x) → word_dot word x ≡ cell_dot sheets font style c x y
-  printed_inverse dots other whole word x narrow i d o k e = e ∙ ap (λ b. word_dot other x && b) k ∙ sym (plain_dot x ∙ elim (cases_lt x (cell_width font style)) [
-    | inl l ↦ rw (lt-ltb x (cell_width font style) l, i) (sym (and_true _ ∙ o (omega arith) ∙ ap not d))
+  -- the character stands in its cell
+  within : (x : ℕ) → x < cell_width font style → (ltb x (font_width font * style.wm) && body x) ≡ body x
+  within x l = ap (λ b. b && body x) (body_place x (font_width font) style.spacing style.wm l) ∙ twice (ltb (x / style.wm) (font_width font)) _
+    where
+      twice : (a b : Bool) → (a && (a && b)) ≡ (a && b)
+      twice true b = refl
+      twice false b = refl
+
+  -- its dots in a row that is drawn so wide
+  pub printed_wide : (dots wide wm x : ℕ) → wm ≡ style.wm → ((u : ℕ) → word_dot dots u ≡ (ltb u (font_width font) && bold_dot style.bold (font_dot sheets c font) u y))
+      → word_dot wide x ≡ (ltb x (font_width font * wm) && word_dot dots (x / wm)) → word_dot wide x ≡ (ltb x (font_width font * style.wm) && body x)
+  printed_wide dots wide wm x e d p = rw e at p ∙ ap (λ b. ltb x (font_width font * style.wm) && b) (d (x / style.wm))
+
+  pub printed_inverse : (wide other whole word x : ℕ) → cell_width font style ≤ 64 → style.inverse ≡ true → word_dot wide x ≡ (ltb x (font_width font * style.wm) && body x)
+      → (x < 64 → word_dot other x ≡ not (word_dot wide x)) → word_dot whole x ≡ ltb x (cell_width font style) → word_dot word x ≡ (word_dot other x && word_dot whole x)
+      → word_dot word x ≡ cell_dot sheets font style c x y
+  printed_inverse wide other whole word x narrow i d o k e = e ∙ ap (λ b. word_dot other x && b) k ∙ sym (printed_dot x ∙ elim (cases_lt x (cell_width font style)) [
+    | inl l ↦ rw (lt-ltb x (cell_width font style) l, i) (sym (and_true _ ∙ o (omega arith) ∙ ap not (d ∙ within x l)))
     | inr g ↦ rw (le-ltb x (cell_width font style) g) (sym (and_false (word_dot other x)))
   ])
-    where
-      and_true : (b : Bool) → (b && true) ≡ b
-      and_true true = refl
-      and_true false = refl
 
   pub printed_underline : (whole x : ℕ) → style.inverse ≡ false → font_height font - style.underline ≤ y → word_dot whole x ≡ ltb x (cell_width font style) → word_dot whole x ≡ cell_dot sheets font style c x y
   printed_underline whole x i u k =
       let under : underlined font style y ≡ true = le-leb _ y (let high : font_height font * style.hm ≡ font_height font = ap (λ n. font_height font * n) h ∙ omega arith in rw high u) in
-      k ∙ sym (plain_dot x ∙ rw (i, under, or_true (body x)) (and_true (ltb x (cell_width font style))))
-    where
-      and_true : (b : Bool) → (b && true) ≡ b
-      and_true true = refl
-      and_true false = refl
+      k ∙ sym (printed_dot x ∙ rw (i, under, or_true (body x)) (and_true (ltb x (cell_width font style))))
 
-  pub printed_upright : (dots x : ℕ) → style.inverse ≡ false → y < font_height font - style.underline → word_dot dots x ≡ body x → word_dot dots x ≡ cell_dot sheets font style c x y
-  printed_upright dots x i u d =
+  pub printed_upright : (wide x : ℕ) → style.inverse ≡ false → y < font_height font - style.underline → word_dot wide x ≡ (ltb x (font_width font * style.wm) && body x) → word_dot wide x ≡ cell_dot sheets font style c x y
+  printed_upright wide x i u d =
       let above : underlined font style y ≡ false = lt-leb _ y (let high : font_height font * style.hm ≡ font_height font = ap (λ n. font_height font * n) h ∙ omega arith in rw high u) in
-      d ∙ sym (plain_dot x ∙ rw (i, above, or_false (body x)) (elim (cases_lt x (font_width font)) [
-        | inl l ↦ (let wide : cell_width font style ≡ font_width font + style.spacing = ap (λ n. (font_width font + style.spacing) * n) w ∙ omega arith in
-            let inside : x < cell_width font style = omega (arith, wide) in rw (lt-ltb x (font_width font) l, lt-ltb x (cell_width font style) inside) refl)
-        | inr g ↦ rw (le-ltb x (font_width font) g) (and_false (ltb x (cell_width font style)))
+      d ∙ sym (printed_dot x ∙ rw (i, above, or_false (body x)) (elim (cases_lt x (cell_width font style)) [
+        | inl l ↦ rw (lt-ltb x (cell_width font style) l) (sym (within x l))
+        | inr g ↦ rw (le-ltb x (cell_width font style) g, past_all x (font_width font) style.spacing style.wm g) refl
       ]))
 
 -- below the character there is nothing
@@ -83,11 +92,21 @@ printed_rows sheets font style c x y n h l =
     nowhere false b = refl
 
 -- words that are written from the first one on
-pub words_none : (f : ℕ → ℕ → Bool) (k x : ℕ) → word_dot (get_or (replicate {A = ℕ} 24 0) k 0) x ≡ (ltb k 0 && f x k)
-words_none f k x = ap (λ w. word_dot w x) (elim (cases_lt k 24) as (λ _. get_or (replicate {A = ℕ} 24 0) k 0 ≡ 0) [
-  | inl l ↦ get_or-replicate 24 k 0 0 l
-  | inr g ↦ get_or_past (replicate {A = ℕ} 24 0) k 0 (omega (arith, length-replicate {A = ℕ} 24 0))
+pub words_none : (n : ℕ) (f : ℕ → ℕ → Bool) (k x : ℕ) → word_dot (get_or (replicate {A = ℕ} n 0) k 0) x ≡ (ltb k 0 && f x k)
+words_none n f k x = ap (λ w. word_dot w x) (elim (cases_lt k n) as (λ _. get_or (replicate {A = ℕ} n 0) k 0 ≡ 0) [
+  | inl l ↦ get_or-replicate n k 0 0 l
+  | inr g ↦ get_or_past (replicate {A = ℕ} n 0) k 0 (omega (arith, length-replicate {A = ℕ} n 0))
 ]) ∙ white_dot x ∙ rw (le-ltb k 0 (omega arith)) refl
+
+pub words_more : (words : List ℕ) (f : ℕ → ℕ → Bool) (y w : ℕ) → y < length words → ((k x : ℕ) → word_dot (get_or words k 0) x ≡ (ltb k y && f x k))
+    → ((x : ℕ) → word_dot w x ≡ f x y) → (k x : ℕ) → word_dot (get_or (set words y w) k 0) x ≡ (ltb k (y + 1) && f x k)
+words_more words f y w l p q k x = elim (cases_eq k y) [
+  | inl s ↦ rw (s, get_or-set_same words y w 0 l, lt-ltb y (y + 1) (omega arith)) (q x)
+  | inr n ↦ rw (get_or-set_other words y k w 0 n) (p k x ∙ ap (λ b. b && f x k) (elim (cases_lt k y) [
+    | inl m ↦ lt-ltb k y m ∙ sym (lt-ltb k (y + 1) (omega arith))
+    | inr g ↦ le-ltb k y g ∙ sym (le-ltb k (y + 1) (omega arith))
+  ]))
+]
 
 -- a character that is printed just as it stands in its sheet
 pub ready_cell : (sheets : Sheets) (font : Font) (style : Style) (c : ℕ) → (style.wm ≡ 1) × (style.hm ≡ 1) × (style.bold ≡ false) × (style.underline ≡ 0) × (style.inverse ≡ false)

@@ -18,13 +18,13 @@ some_width x n zero l = absurd (omega arith)
 some_width x n (suc w) l = omega arith
 
 -- a place of the character itself, not of its spacing
-body_place : (x n k w : ℕ) → x < (n + k) * w → ltb x (n * w) ≡ ltb (x / w) n
+pub body_place : (x n k w : ℕ) → x < (n + k) * w → ltb x (n * w) ≡ ltb (x / w) n
 body_place x n k w l = let p = some_width x (n + k) w l in elim (cases_lt x (n * w)) [
   | inl y ↦ (let q : x / w < n = (div-lt_iff_lt-mul {k = w} {x = x} {y = n} p).1 y in lt-ltb x (n * w) y ∙ sym (lt-ltb (x / w) n q))
   | inr g ↦ (let q : n ≤ x / w = (le-div_iff_mul-le {k = w} {x = n} {y = x} p).1 g in le-ltb x (n * w) g ∙ sym (le-ltb (x / w) n q))
 ]
 
-past_all : (x n k w : ℕ) → (n + k) * w ≤ x → ltb x (n * w) ≡ false
+pub past_all : (x n k w : ℕ) → (n + k) * w ≤ x → ltb x (n * w) ≡ false
 past_all x n k w l = let j : n ≤ n + k = omega arith in let m : n * w ≤ (n + k) * w = mul-le-mul_right w j in le-ltb x (n * w) (omega arith)
 
 -- a row that an underline fills

@@ -8,7 +8,8 @@ ghost use Rattle.vp_glyph.specs.Cells.{font_width, font_height, font_dot, bold_d
 
 use crate::Sheets;
 use crate::look::{
-    FAR, emphasized, inverted, magnified, nine_of, paint_halves, paint_scaled, shared,
+    FAR, doubled, emphasized, inverted, magnified, nine_of, paint_halves, paint_scaled, shared,
+    widened,
 };
 use crate::sheet::{dot_in, ready_in, row_at, rows_in};
 use vp_dots::{Ink, Op, Ready, WORDS, fill_moved, first_dots, paint_word};
@@ -143,10 +144,29 @@ fn body_row(word: u64, font: Font, bold: bool) -> u64
     shared(thick, first_dots(font.width()))
 }
 
-/// A row as it is printed, of a character that isn't magnified and is no wider than a word.
+/// A row of a character of a font, each dot `wm` dots wide, where it is no wider than a word.
 #[inline(always)]
-fn printed_row(word: u64, font: Font, style: Style, y: u32) -> u64
-    requires wide { style.wm ≡ 1 }
+fn widened_row(word: u64, font: Font, wm: u32) -> u64
+    requires narrow { font_width font * wm ≤ 64 }
+    requires dots { (x : ℕ) → word_dot word x ≡ true → x < font_width font }
+    ensures { (x : ℕ) → word_dot result x ≡ (nat_lt x (font_width font * wm) && word_dot word (x / wm)) }
+{
+    if wm == 1 {
+        return word;
+    }
+    if wm == 2 {
+        return doubled(word);
+    }
+    if 12 * wm <= 64 {
+        return widened::<12>(word, wm);
+    }
+    widened::<9>(word, wm)
+}
+
+/// A row as it is printed, of a character no wider than a word whose rows are printed once each.
+#[inline(always)]
+fn printed_row(word: u64, font: Font, style: Style, wm: u32, y: u32) -> u64
+    requires wide { wm ≡ style.wm }
     requires high { style.hm ≡ 1 }
     requires narrow { cell_width font style ≤ 64 }
     requires y { y < font_height font }
@@ -155,14 +175,27 @@ fn printed_row(word: u64, font: Font, style: Style, y: u32) -> u64
         → (x : ℕ) → word_dot result x ≡ cell_dot sheets font style c x y }
 {
     let body = body_row(word, font, style.bold);
+    let wide = widened_row(body, font, wm);
     let whole = first_dots(width_of(font, style));
     if style.inverse {
-        return shared(inverted(body), whole);
+        return shared(inverted(wide), whole);
     }
     if y >= font.height().saturating_sub(u32::from(style.underline)) {
         return whole;
     }
-    body
+    wide
+}
+
+/// The rows of a character of 9 by 17 dots, drawn from one of 12 by 24.
+fn nine_rows(rows: &[u64]) -> [u64; 17]
+    ensures { (x y : ℕ) → y < 17 → word_dot (slice_index result y) x
+        ≡ (nat_lt x 9 && word_dot (slice_index rows.now (y * 24 / 17)) (x * 12 / 9)) }
+{
+    let mut nine = [0; 17];
+    for y in 0..17usize {
+        nine[y] = nine_of(row_at(rows, y * 24 / 17));
+    }
+    nine
 }
 
 impl Cell<'_> {
@@ -238,6 +271,42 @@ impl Cell<'_> {
 }
 
 impl Cell<'_> {
+    /// The rows as they are printed, of rows of the character in its font.
+    #[inline(always)]
+    fn print_rows(&self, rows: &[u64], wm: u32, words: &mut [u64; WORDS])
+        requires wide { wm ≡ self.now.style.wm }
+        requires high { self.now.style.hm ≡ 1 }
+        requires narrow { cell_width self.now.font self.now.style ≤ 64 }
+        requires rows { (x y : ℕ) → x < font_width self.now.font → y < font_height self.now.font
+            → word_dot (slice_index rows.now y) x
+            ≡ font_dot self.now.sheets.now self.now.character self.now.font x y }
+        ensures { (x y : ℕ) → word_dot (slice_index words.new y) x
+            ≡ cell_dot self.now.sheets.now self.now.font self.now.style self.now.character x y }
+    {
+        let (font, style) = (self.font, self.style);
+        *words = [0; WORDS];
+        for y in 0..font.height() {
+            words[y as usize] = printed_row(row_at(rows, y as usize), font, style, wm, y);
+        }
+    }
+
+    /// The same, where the compiler knows of two widths.
+    fn print(&self, rows: &[u64], words: &mut [u64; WORDS])
+        requires high { self.now.style.hm ≡ 1 }
+        requires narrow { cell_width self.now.font self.now.style ≤ 64 }
+        requires rows { (x y : ℕ) → x < font_width self.now.font → y < font_height self.now.font
+            → word_dot (slice_index rows.now y) x
+            ≡ font_dot self.now.sheets.now self.now.character self.now.font x y }
+        ensures { (x y : ℕ) → word_dot (slice_index words.new y) x
+            ≡ cell_dot self.now.sheets.now self.now.font self.now.style self.now.character x y }
+    {
+        match self.style.wm {
+            1 => self.print_rows(rows, 1, words),
+            2 => self.print_rows(rows, 2, words),
+            wm => self.print_rows(rows, u32::from(wm), words),
+        }
+    }
+
     /// Paints a row of an inverse character: its white dots, and its spacing.
     fn paint_inverse(&self, y: u32, op: Op, at: i64, row: &mut [u8])
         requires y { y < cell_height self.now.font self.now.style }
@@ -304,16 +373,12 @@ impl Ink for Cell<'_> {
     }
 
     fn words(&self, words: &mut [u64; WORDS]) -> bool {
-        let (font, style) = (self.font, self.style);
-        if style.wm != 1 || style.hm != 1 || width_of(font, style) > 64 {
+        if self.style.hm != 1 || width_of(self.font, self.style) > 64 {
             return false;
         }
-        let Some(rows) = self.own_rows() else {
-            return false;
-        };
-        *words = [0; WORDS];
-        for y in 0..font.height() {
-            words[y as usize] = printed_row(row_at(rows, y as usize), font, style, y);
+        match self.own_rows() {
+            Some(rows) => self.print(rows, words),
+            None => self.print(&nine_rows(rows_in(&self.sheets.a, self.character)), words),
         }
         true
     }

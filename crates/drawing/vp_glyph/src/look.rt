@@ -116,7 +116,7 @@ pub fn doubled(word: u64) -> u64
 
 /// The first `N` dots of a word, each drawn `wm` dots wide.
 #[inline(always)]
-fn widened<const N: u32>(word: u64, wm: u32) -> u64
+pub fn widened<const N: u32>(word: u64, wm: u32) -> u64
     requires few { N ≤ 12 }
     requires narrow { N * wm ≤ 64 }
     requires wm { wm ≤ 10 }

@@ -1,6 +1,6 @@
 -- Polynomials in rows of 32 coefficients, zeros behind their last, and their multiples.
 use Rattle.std.proofs.Common.{◌≡◌, ℕ, zero, suc, ◌+◌, ◌-◌, ◌*◌, ◌/◌, ◌%◌, ◌<◌, ◌≤◌, List, [], ◌∷◌, ◌++◌, length, replicate, drop, take, refl, sym, ap, ◌∙◌, subst, arith, bit_xor, get_or, set, get_or-set_same, get_or-set_other, cond, eqb, inl, inr, length-append, append_assoc, length-set}
-use Rattle.std.proofs.lemmas.List.{length-replicate, get_or-drop, drop_all, length-drop, ext_get_or, get_or-replicate, drop-append-le, replicate-append-replicate}
+use Rattle.std.proofs.lemmas.List.{length-replicate, get_or-drop, drop_all, length-drop, ext_get_or, drop-append-le, replicate-append-replicate}
 use Rattle.std.proofs.lemmas.Bool.{cases_lt, cases_eq}
 use Rattle.std.proofs.Math.Seq.{take-append_seam}
 use Rattle.std.specs.Int.Bits.{xor_zero_l, xor_zero_r}
@@ -139,11 +139,8 @@ multiple_none n h = by_term (low_row n) 32 (length_row n h)
     by_term (x ∷ xs) zero e = absurd (omega arith)
     by_term (x ∷ xs) (suc m) e = ap (λ (k : List ℕ). 0 ∷ k) (by_term xs m (omega arith)) ∙ ap (λ (k : ℕ). k ∷ scaled 0 xs) (sym (zero_times x))
 
-pub multiples_none : (n : ℕ) (low : List ℕ) → n ≤ 32 → low ≡ low_row n → (f : ℕ) → f < 1 → get_or (replicate 256 (replicate {A = ℕ} 32 0)) f [] ≡ scaled f low
-multiples_none n low h is f lt =
-    let e : 0 ≡ f = omega arith in
-    let none : get_or (replicate 256 (replicate {A = ℕ} 32 0)) 0 [] ≡ replicate 32 0 = get_or-replicate 256 0 (replicate {A = ℕ} 32 0) [] (omega arith) in
-    subst (λ (k : ℕ). get_or (replicate 256 (replicate {A = ℕ} 32 0)) k [] ≡ scaled k low) e (none ∙ multiple_none n h ∙ ap (scaled 0) (sym is))
+pub multiples_none : (n : ℕ) (low : List ℕ) (rows : List (List ℕ)) → n ≤ 32 → low ≡ low_row n → 0 < length rows → get_or (set rows 0 (replicate {A = ℕ} 32 0)) 0 [] ≡ scaled 0 low
+multiples_none n low rows h is some = get_or-set_same rows 0 (replicate {A = ℕ} 32 0) [] some ∙ multiple_none n h ∙ ap (scaled 0) (sym is)
 
 byte_at : (xs : List ℕ) → Bytes xs → (k : ℕ) → get_or xs k 0 < 256
 byte_at [] h k = omega arith

@@ -20,7 +20,9 @@ pub fn rs(src: &[u8], n: usize) -> ArrayVec<u8, 30>
     ensures remainder { result.items ≡ check_of src.now n }
     ensures count { array_vec_len result ≡ n }
 {
-    check_by(&multiples(n), src, n)
+    let mut rows = [[0; 32]; 256];
+    multiples(n, &mut rows);
+    check_by(&rows, src, n)
 }
 
 /// A law: a block's data followed by its check, as a polynomial, is zero at each root of the generator.
@@ -52,18 +54,18 @@ fn row_of(rows: &[[u8; 32]; 256], element: u8) -> &[u8; 32]
 
 /// The multiples of the generator, a row for each element: its coefficients below the highest, which is 1,
 /// times the element.
-pub fn multiples(n: usize) -> [[u8; 32]; 256]
+// They are written where they are kept: 8 KB that are handed back would be cleared and copied twice.
+pub fn multiples(n: usize, rows: &mut [[u8; 32]; 256])
     requires { n ≤ 30 }
-    ensures { AreMultiples n result }
+    ensures { AreMultiples n rows.new }
 {
     let low = generator_low(n);
-    let mut rows = [[0; 32]; 256];
+    rows[0] = [0; 32];
     for half in 0..128usize {
         let even = doubled_row(&rows[half]);
         rows[2 * half] = even;
         rows[2 * half + 1] = sum(&even, &low);
     }
-    rows
 }
 
 /// Each coefficient of a row times x.

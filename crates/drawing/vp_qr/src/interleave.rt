@@ -111,7 +111,8 @@ fn check_words(words: &[u8], blocks: Blocks) -> ArrayVec<u8, 240>
         (data_blocks blocks words.now) }
     ensures count { array_vec_len result ≡ (blocks.short + blocks.long) * blocks.check }
 {
-    let rows = multiples(blocks.check);
+    let mut rows = [[0; 32]; 256];
+    multiples(blocks.check, &mut rows);
     let mut checks = ArrayVec::new();
     for block in 0..blocks.short + blocks.long {
         let check = check_block(&rows, words, blocks, block);

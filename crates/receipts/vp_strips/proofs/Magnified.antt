@@ -1,10 +1,11 @@
 -- Characters each of whose rows is printed more than once.
-use Rattle.std.proofs.Common.{inl, inr, ◌≡◌, ℕ, suc, ◌+◌, ◌-◌, ◌*◌, ◌/◌, ◌<◌, ◌≤◌, Bool, true, false, not, ltb, leb, ◌&&◌, ◌||◌, refl, sym, ap, ◌∙◌, arith, List, ℤ, pos}
+use Rattle.std.proofs.Common.{inl, inr, ◌≡◌, ℕ, suc, ◌+◌, ◌-◌, ◌*◌, ◌/◌, ◌<◌, ◌≤◌, Bool, true, false, not, ltb, leb, ◌&&◌, ◌||◌, refl, sym, ap, ◌∙◌, arith, List, ℤ, pos, get_or}
 use Rattle.std.proofs.Math.Nat.{div-lt_iff_lt-mul, le-div_iff_mul-le, suc-mul}
-use Rattle.std.proofs.lemmas.Bool.{cases_lt, cases_Bool, lt-ltb, le-ltb, lt-leb, le-leb}
+use Rattle.std.proofs.lemmas.Bool.{cases_lt, cases_Bool, lt-ltb, le-ltb, lt-leb, le-leb, false_from_ne_true}
 use Rattle.std.proofs.lemmas.Bool.Decides.{nat_tests}
 use Rattle.vp_dots.specs.Dots.{shifted, span}
 use Rattle.vp_dots.specs.Places.{placed, RowsPainted}
+use Rattle.vp_dots.specs.Words.{word_dot}
 use Rattle.vp_dots.specs.declared.Op.{Op}
 use Rattle.vp_dots.proofs.Heights.{rows_then}
 use Rattle.vp_glyph.specs.Cells.{font_width, font_height, cell_width, cell_height, body_dot, underlined, cell_dot}
@@ -47,6 +48,18 @@ line_on w v t p from to =
 
 pub past_lines : (w n t : ℕ) → 0 < t → n * t ≤ w → n ≤ w / t
 past_lines w n t p from = (le-div_iff_mul-le {k = t} {x = n} {y = w} p).1 from
+
+-- rows that show words are those that show the lines of ink
+pub lines_shown : (at top times high : ℕ) (words : List ℕ) (ink : ℕ → ℕ → Bool) → ((x y : ℕ) → word_dot (get_or words y 0) x ≡ ink x y) → ((u v : ℕ) → ink u v ≡ true → v < high)
+    → (x k : ℕ) → (leb top k && (ltb ((k - top) / times) high && shifted (pos at) (word_dot (get_or words ((k - top) / times) 0)) x)) ≡ (leb top k && shifted (pos at) (λ u. ink u ((k - top) / times)) x)
+lines_shown at top times high words ink e o x k = ap (λ b. leb top k && b) (elim (cases_lt ((k - top) / times) high) [
+  | inl l ↦ rw (lt-ltb ((k - top) / times) high l) (ap (λ b. leb at x && b) (e (x - at) ((k - top) / times)))
+  | inr g ↦ rw (le-ltb ((k - top) / times) high g, false_from_ne_true (ink (x - at) ((k - top) / times)) (λ t. absurd (omega (arith, o (x - at) ((k - top) / times) t)))) (white (leb at x))
+])
+  where
+    white : (b : Bool) → false ≡ (b && false)
+    white true = refl
+    white false = refl
 
 -- as many rows more, that show one line
 module _ (high : ℕ) (op : Op) (f : ℕ → ℕ → Bool) (line : ℕ → Bool) (from times : ℕ) where

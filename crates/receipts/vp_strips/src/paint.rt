@@ -1,5 +1,5 @@
 //! The bitmap of a line: how many of its lowest rows are in use, and so have to be cleared for the next line.
-ghost use Rattle.std.specs.Prelude.{◌≡◌, ℕ, ◌+◌, ◌-◌, ◌*◌, ◌<◌, ◌≤◌, ◌^◌, ◌∷◌, [], List, MatchOption, ◌/◌, nat_le, pos, ℤ, IfOk, length, false, slice_index, slice_index_or, nat_lt, ◌&&◌};
+ghost use Rattle.std.specs.Prelude.{◌≡◌, ℕ, ◌+◌, ◌-◌, ◌*◌, ◌<◌, ◌≤◌, ◌^◌, ◌∷◌, [], List, MatchOption, ◌/◌, true, nat_le, pos, ℤ, IfOk, length, false, slice_index, slice_index_or, nat_lt, ◌&&◌};
 ghost use Rattle.vp_dots.specs.Dots.{dot, shifted, span};
 ghost use Rattle.vp_glyph.specs.Cells.{cell_width, cell_height, cell_dot};
 ghost use Rattle.vp_dots.specs.Words.{word_dot};
@@ -14,7 +14,7 @@ ghost use Rattle.vp_strips.specs.Held.{IsSource};
 
 use std::alloc::{AllocError, Global};
 use std::marker::Model;
-use vp_dots::{Band, Ink, NARROW, Op, Ready, WORDS, eight_at, paint_at, paint_narrow};
+use vp_dots::{Band, Ink, NARROW, Op, Ready, WORDS, paint_at, paint_narrow};
 use vp_glyph::{Cell, Style};
 use vp_page::LINE_BYTES;
 use vp_receipt_settings::LINE_ROWS;
@@ -58,16 +58,6 @@ fn paint_words(
     }
 }
 
-/// A line of ink that is no wider than a word.
-fn line_of<I: Ink>(ink: &I, y: u32) -> u64
-    requires { I.width ink.now ≤ 64 }
-    ensures { (x : ℕ) → word_dot result x ≡ I.ink_at ink.now x y }
-{
-    let mut row = [0; 16];
-    ink.paint_row(y, Op::Black, 0, &mut row);
-    eight_at(&row, 0)
-}
-
 /// Paints a word of few dots on each of `times` rows, from `top` on.
 fn paint_alike(
     word: u64,
@@ -82,31 +72,61 @@ fn paint_alike(
     ensures { RowsPainted LINE_ROWS Black
         (λ x k. span top (top + times) k && shifted (pos at) (word_dot word) x) band.old band.new }
 {
+    if word == 0 {
+        return;
+    }
     for i in 0..times {
         paint_narrow(Op::Black, word, at, band.row_mut(top + i));
     }
 }
 
-/// Paints the lines of narrow ink, each on `times` rows, from `top` on.
-fn paint_lines<I: Ink>(
-    ink: &I,
+/// Paints the first `high` words, each of few dots, each on `times` rows, from `top` on.
+fn paint_lines(
+    words: &[u64; WORDS],
+    high: usize,
     times: usize,
     at: usize,
     top: usize,
     band: &mut Band<LINE_BYTES, LINE_ROWS>,
 )
-    requires narrow { I.width ink.now ≤ NARROW }
+    requires few { high ≤ WORDS }
+    requires some { 0 < times }
+    requires room { top + high * times ≤ LINE_ROWS }
+    requires at { at < 2 ^ 63 }
+    requires narrow { (x y : ℕ) → NARROW ≤ x → word_dot (slice_index words.now y) x ≡ false }
+    ensures { RowsPainted LINE_ROWS Black (λ x k. nat_le top k && (nat_lt ((k - top) / times) high
+        && shifted (pos at) (word_dot (slice_index words.now ((k - top) / times))) x)) band.old band.new }
+{
+    for v in 0..high {
+        paint_alike(words[v], times, at, top + v * times, band);
+    }
+}
+
+/// Paints the lines of ink, each on `times` rows, from `top` on, and tells whether it did: where they are words
+/// of few dots.
+#[inline(never)]
+fn paint_magnified<I: Ink>(
+    ink: &I,
+    times: usize,
+    at: usize,
+    top: usize,
+    band: &mut Band<LINE_BYTES, LINE_ROWS>,
+) -> bool
     requires some { 0 < times }
     requires room { top + I.height ink.now * times ≤ LINE_ROWS }
     requires at { at < 2 ^ 63 }
-    ensures { RowsPainted LINE_ROWS Black (λ x k. nat_le top k
+    ensures painted { result ≡ true → RowsPainted LINE_ROWS Black (λ x k. nat_le top k
         && shifted (pos at) (λ u. I.ink_at ink.now u ((k - top) / times)) x) band.old band.new }
+    ensures kept { result ≡ false → band.new ≡ band.old }
 {
-    let (_, high) = ink.size();
-    for v in 0..high {
-        let word = line_of(ink, v);
-        paint_alike(word, times, at, top + v as usize * times, band);
+    let (wide, high) = ink.size();
+    let high = high as usize;
+    let mut words = [0; WORDS];
+    if wide > NARROW || high > WORDS || !ink.words(&mut words) {
+        return false;
     }
+    paint_lines(&words, high, times, at, top, band);
+    true
 }
 
 /// The character whose rows are printed `hm` times each for this one, where that is more than once: an
@@ -171,11 +191,9 @@ fn paint_cell(cell: &Cell<'_>, at: u16, top: usize, band: &mut Band<LINE_BYTES, 
     ensures { RowsPainted LINE_ROWS Black (placed (pos at) (pos top)
         (cell_dot cell.now.sheets.now cell.now.font cell.now.style cell.now.character)) band.old band.new }
 {
-    let (wide, _) = cell.size();
-    if wide <= NARROW {
-        if let Some(source) = source_of(cell) {
-            let times = usize::from(cell.style.hm);
-            paint_lines(&source, times, usize::from(at), top, band);
+    if let Some(source) = source_of(cell) {
+        let times = usize::from(cell.style.hm);
+        if paint_magnified(&source, times, usize::from(at), top, band) {
             return;
         }
     }

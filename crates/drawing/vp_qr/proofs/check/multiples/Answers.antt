@@ -1,12 +1,12 @@
-use Rattle.std.proofs.Common.{ℕ, ◌*◌, ◌+◌, ◌<◌, set, length, get_or, arith, ap, sym, ◌∙◌, length-set, refl, subst}
+use Rattle.std.proofs.Common.{ℕ, ◌*◌, ◌+◌, ◌<◌, set, length, get_or, arith, ap, sym, ◌∙◌, length-set, replicate, subst}
 use Rattle.vp_qr.specs.Polynomial.{scaled}
 use Rattle.vp_qr.proofs.Multiples.{multiples_none, two_multiples, length_row, row_byte}
 use Rattle.vp_qr.proofs.check.multiples.Goals as goal
 
 pub loop-half-init : goal.loop-half-init
 loop-half-init c = record {
-  long = refl;
-  none = multiples_none c.args.n c.generator_low-low.result (omega (arith, c.requires)) c.generator_low-low.ensures 0 (omega arith);
+  long = length-set c.args.rows.now 0 (replicate {A = ℕ} 32 0) ∙ omega arith;
+  none = multiples_none c.args.n c.generator_low-low.result c.args.rows.now (omega (arith, c.requires)) c.generator_low-low.ensures (omega arith);
   made = λ g h. absurd (omega arith);
 }
 

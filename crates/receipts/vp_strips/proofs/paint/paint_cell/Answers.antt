@@ -4,11 +4,11 @@ use Rattle.vp_dots.proofs.Heights.{rows_same}
 use Rattle.vp_strips.proofs.Magnified.{source_dot}
 use Rattle.vp_strips.proofs.paint.paint_cell.Goals as goal
 
-pub returns-in-Some : goal.returns-in-Some
-returns-in-Some c =
+pub returns-then-paint_magnified : goal.returns-then-paint_magnified
+returns-then-paint_magnified c =
     let cell = c.args.cell.now in
     let (sheets, character, font, is) = c.in-Some.ensures in
     rows_same 192 Black _ _ _ _
     (λ x k _. rw (c.from.ensures, c.from-times.ensures, sheets, character, font)
     (ap (λ b. leb c.args.top k && (leb c.args.at x && b)) (source_dot cell.sheets.now cell.font cell.style c.in-Some.source.style cell.character is (x - c.args.at) (k - c.args.top))))
-    c.paint_lines.ensures
+    (c.paint_magnified.ensures.painted c.if-paint_magnified.true)

@@ -1,7 +1,7 @@
 use Rattle.std.proofs.Common.{◌≡◌, ℕ, ◌&&◌, ltb, get_or}
 use Rattle.vp_dots.specs.Words.{word_dot}
 use Rattle.vp_glyph.specs.Cells.{cell_dot}
-use Rattle.vp_glyph.proofs.cell.CellInk.words.Given as goal
+use Rattle.vp_glyph.proofs.cell.Cell.print_rows.Given as goal
 
 -- the rows above y are written
 abbrev pub invariant-loop-y : goal.invariant-loop-y
