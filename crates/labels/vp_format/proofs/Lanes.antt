@@ -1,11 +1,10 @@
 -- What vectors of sixteen bytes hold at each lane.
-use Rattle.std.proofs.Common.{◌≡◌, ℕ, ◌+◌, ◌-◌, ◌*◌, ◌%◌, ◌^◌, ◌<◌, ◌≤◌, true, false, not, Bool, cond, eqb, ltb, leb, ◌||◌, bit_and, bit_or, List, ◌++◌, length, get_or, map, replicate, subst, sym, ap, ◌∙◌, arith}
+use Rattle.std.proofs.Common.{◌≡◌, ℕ, ◌+◌, ◌-◌, ◌%◌, ◌^◌, ◌<◌, ◌≤◌, true, false, not, Bool, cond, eqb, ltb, leb, ◌||◌, bit_and, bit_or, List, [], ◌∷◌, ◌++◌, refl, length, get_or, map, replicate, sym, ap, ◌∙◌, arith}
 use Rattle.std.proofs.lemmas.Bool.{agree_below, agree_below_at, ltb-true, lt-ltb, eqb-true}
 use Rattle.std.proofs.lemmas.Simd.{map-map, mask_l-mod, zip2_splat, zip2_of_maps, splat_is_map, length-chunk, get_or-chunk, get_or-put_chunk_at, first_set_mask_l, run_in_chunk_le, run_in_chunk_fails}
 use Rattle.std.proofs.lemmas.List.{get_or-map, get_or_append_left, length-map}
-use Rattle.std.proofs.lemmas.List.FromFn.{get_or-map-range_with_len}
-use Rattle.std.specs.Simd.Lanes.{chunk, put_chunk, mask_l, top, zip2}
-use Rattle.std.specs.List.{prefix_len, range_with_len}
+use Rattle.std.specs.Simd.Lanes.{chunk, put_chunk, mask_l, top, zip2, sel_l}
+use Rattle.std.specs.List.{prefix_len}
 use Rattle.vp_format.specs.Codes.{code_of}
 use Rattle.vp_format.specs.Cursors.{digit_value, first_set}
 
@@ -29,33 +28,10 @@ pub twice_lane : (places : List ℕ) (at k : ℕ) → at + 16 ≤ length places 
 twice_lane places at k room h =
     get_or_append_left (chunk at 16 places) (chunk at 16 places) 0 k (omega (arith, length-chunk at 16 places room)) ∙ get_or-chunk at 16 places k 0 h
 
--- two lanes of digits put into a byte
-pub paired_lanes : (f : ℕ → ℕ) (bytes row lanes : List ℕ) (at i k : ℕ) → at + 16 ≤ length bytes → i + 8 ≤ length row → k < 8 → lanes ≡ map f (chunk at 16 bytes)
-    → ((j : ℕ) → j < 16 → f (get_or bytes (at + j) 0) ≡ digit_value (code_of (get_or bytes (at + j) 0))) → ((j : ℕ) → j < 16 → digit_value (code_of (get_or bytes (at + j) 0)) < 16)
-    → get_or (put_chunk i row (map (λ j. (get_or (lanes ++ lanes) (2 * j) 0 * 16 % 256 + get_or (lanes ++ lanes) (2 * j + 1) 0) % 256) (range_with_len 0 8))) (i + k) 0
-    ≡ digit_value (code_of (get_or bytes (at + 2 * k) 0)) * 16 + digit_value (code_of (get_or bytes (at + (2 * k + 1)) 0))
-paired_lanes f bytes row lanes at i k room inside h is values few =
-    let v = chunk at 16 bytes in
-    let long = length-chunk at 16 bytes room in
-    let many : length lanes ≡ 16 = ap length is ∙ length-map v f ∙ long in
-    let lane : (j : ℕ) → j < 16 → get_or (lanes ++ lanes) j 0 ≡ digit_value (code_of (get_or bytes (at + j) 0)) = λ j l. get_or_append_left lanes lanes 0 j (omega (arith, many)) ∙ ap (λ l. get_or l j 0) is ∙ get_or-map f v j 0 0 (omega (arith, long)) ∙ ap f (get_or-chunk at 16 bytes j 0 l) ∙ values j l in
-    let g = λ (j : ℕ). (get_or (lanes ++ lanes) (2 * j) 0 * 16 % 256 + get_or (lanes ++ lanes) (2 * j + 1) 0) % 256 in
-    get_or-put_chunk_at i row (map g (range_with_len 0 8)) k 0 (omega arith) inside ∙ get_or-map-range_with_len g 0 8 k k 0 (omega arith) (omega arith)
-    ∙ omega (arith, lane (2 * k) (omega arith), lane (2 * k + 1) (omega arith), few (2 * k) (omega arith), few (2 * k + 1) (omega arith))
-
--- digits from a place further on
-pub digits_behind : (bytes : List ℕ) (at m n : ℕ) → ((k : ℕ) → k < n → digit_value (code_of (get_or bytes (at + k) 0)) < 16) → m + 16 ≤ n → (k : ℕ) → k < 16 → digit_value (code_of (get_or bytes (at + m + k) 0)) < 16
-digits_behind bytes at m n digits inside k l = let e : at + (m + k) ≡ at + m + k = omega arith in subst (λ i. digit_value (code_of (get_or bytes i 0)) < 16) e (digits (m + k) (omega arith))
-
--- a byte of two of them, by its place in the row
-pub byte_behind : (bytes row : List ℕ) (at i k : ℕ) → i ≤ k → get_or row (i + (k - i)) 0 ≡ digit_value (code_of (get_or bytes (at + 2 * i + 2 * (k - i)) 0)) * 16 + digit_value (code_of (get_or bytes (at + 2 * i + (2 * (k - i) + 1)) 0))
-    → get_or row k 0 ≡ digit_value (code_of (get_or bytes (at + 2 * k) 0)) * 16 + digit_value (code_of (get_or bytes (at + (2 * k + 1)) 0))
-byte_behind bytes row at i k order h =
-    let here : i + (k - i) ≡ k = omega arith in
-    let high : at + 2 * i + 2 * (k - i) ≡ at + 2 * k = omega arith in
-    let low : at + 2 * i + (2 * (k - i) + 1) ≡ at + (2 * k + 1) = omega arith in
-    sym (ap (λ j. get_or row j 0) here) ∙ h ∙ ap (λ j. digit_value (code_of (get_or bytes j 0)) * 16 + digit_value (code_of (get_or bytes (at + 2 * i + (2 * (k - i) + 1)) 0))) high
-    ∙ ap (λ j. digit_value (code_of (get_or bytes (at + 2 * k) 0)) * 16 + digit_value (code_of (get_or bytes j 0))) low
+-- lanes that are chosen by a test of each
+pub sel_maps : (p : ℕ → Bool) (f g : ℕ → ℕ) (vs : List ℕ) → sel_l (map p vs) (map f vs) (map g vs) ≡ map (λ v. cond (p v) (f v) (g v)) vs
+sel_maps p f g [] = refl
+sel_maps p f g (v ∷ vs) = ap (λ l. cond (p v) (f v) (g v) ∷ l) (sel_maps p f g vs)
 
 -- how many bytes come before the first at whose lane the top bit is set
 module _ (f : ℕ → ℕ) (bytes lanes : List ℕ) (at r : ℕ) (room : at + 16 ≤ length bytes) (is : lanes ≡ map f (chunk at 16 bytes)) (found : r ≡ first_set (mask_l (map (top 7) lanes) % 2 ^ 64)) where

@@ -5,6 +5,7 @@ pub mod Lanes
 pub mod Marks
 pub mod Nibbles
 pub mod Places
+pub mod Plain
 pub mod Quick
 pub mod Put
 pub mod Reached

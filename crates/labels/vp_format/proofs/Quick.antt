@@ -4,15 +4,16 @@ use Rattle.std.proofs.lemmas.List.{drop_more, get_or-map}
 use Rattle.std.proofs.lemmas.Simd.{length-chunk, get_or-chunk}
 use Rattle.vp_format.specs.declared.rows.Spot.{Spot}
 use Rattle.vp_format.specs.declared.rows.Coding.TheVariants.{RunLength}
-use Rattle.std.proofs.lemmas.Bool.{cases_lt, lt-ltb, ltb-true, agree_below_at}
+use Rattle.std.proofs.lemmas.Bool.{cases_lt, lt-ltb, ltb-true, agree_below_at, true≢false}
 use mir.Val.{bool_byte}
 use Rattle.vp_format.specs.declared.codes.Code.{Code}
 use Rattle.vp_format.specs.declared.codes.Code.TheVariants.{Digit, Count, Fill, Above, Other}
 use Rattle.vp_format.specs.declared.codes.Symbol.TheVariants.{Digits}
 use Rattle.vp_format.specs.Codes.{code_of, Spelled, spelled, joined, symbols_behind}
-use Rattle.vp_format.specs.Pictures.{Value}
-use Rattle.vp_format.specs.Cursors.{count_value, digit_value, symbols_from, symbols_at, Filled, Reached}
-use Rattle.vp_format.proofs.Reached.{run_reached, run_done, reached_at, start_reached, digit_is, digit_in_hand}
+use Rattle.vp_format.specs.Pictures.{Value, shown, value_of, is_above, nibble}
+use Rattle.vp_format.specs.declared.row.RowEnd.{RowEnd}
+use Rattle.vp_format.specs.Cursors.{count_value, digit_value, symbols_from, symbols_at, Filled, Reached, Decoded}
+use Rattle.vp_format.proofs.Reached.{run_over, run_reached, run_done, reached_at, start_reached, digit_is, digit_in_hand}
 
 -- places from x on may be overwritten
 pub reached_same : (w : ℕ) (all : List Spelled) (from : ℕ) (old new : List ℕ) (x : ℕ) (left : List Spelled) (at : ℕ) → ((j : ℕ) → j < x → get_or new j 0 ≡ get_or old j 0)
@@ -161,3 +162,25 @@ behind_count b n r at h is few e =
 pub one_most : (r : ℕ) (b : Bool) → r ≡ bool_byte b → r ≤ 1
 one_most r true e = omega (arith, e)
 one_most r false e = omega (arith, e)
+
+-- what the first place of a row shows that begins with a digit
+shown_first : (w : ℕ) (codes : List ℕ) (s : Spot) → s.left ≡ 0 → s.at < length codes → digit_value (code_of (get_or codes s.at 0)) < 16 → shown w 0 (symbols_at RunLength codes s) 0 ≡ Value (digit_value (code_of (get_or codes s.at 0)))
+shown_first w codes s none inside digit =
+    ap (λ n. shown w 0 (spelled (Digits n s.digit) 0 ∷ symbols_from codes s.at) 0) none ∙ run_over w 0 s.digit 0 (symbols_from codes s.at) 0 (omega arith) ∙ ap (λ ss. shown w 0 ss 0) (plain_symbol codes s.at inside digit)
+
+row_anew : (w : ℕ) (codes old before new : List ℕ) (s after : Spot) (end : RowEnd) (v j : ℕ) (again : Bool) → end.repeats ≡ again → shown w 0 (symbols_at RunLength codes s) 0 ≡ Value v → Decoded w RunLength codes s end after old new → j < w
+    → nibble new j ≡ value_of (shown w 0 (symbols_at RunLength codes s) j) (nibble before j)
+row_anew w codes old before new s after end v j true is first d l = absurd (true≢false (sym (ap is_above (d.again is 0 (omega (arith, l)))) ∙ ap is_above first))
+row_anew w codes old before new s after end v j false is first d l = sym (ap (λ t. value_of t (nibble before j)) (d.own is j l))
+
+-- such a row is the same whichever stood before
+pub decoded_anew : (w : ℕ) (codes old before new : List ℕ) (s after : Spot) (end : RowEnd) → s.left ≡ 0 → s.at < length codes → digit_value (code_of (get_or codes s.at 0)) < 16 → Decoded w RunLength codes s end after old new → Decoded w RunLength codes s end after before new
+decoded_anew w codes old before new s after end none inside digit d = record {
+  spot = d.spot;
+  whole = d.whole;
+  row = λ j l. row_anew w codes old before new s after end _ j end.repeats refl (shown_first w codes s none inside digit) d l;
+  own = d.own;
+  again = d.again;
+  next = d.next;
+  bytes = d.bytes;
+}

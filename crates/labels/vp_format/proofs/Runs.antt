@@ -9,7 +9,7 @@ use mir.Val.{bool_byte}
 use Rattle.vp_format.specs.declared.codes.Code.{Code}
 use Rattle.vp_format.specs.Codes.{code_of, Spelled}
 use Rattle.vp_format.specs.Cursors.{count_value, digit_value, places_of, added, symbols_from, IsRun, IsShortCount, Passed}
-use Rattle.vp_format.proofs.Lanes.{less, up_to, other, value_by}
+use Rattle.vp_format.proofs.Lanes.{less, up_to, other, value_by, sel_maps}
 use Rattle.vp_format.proofs.Passed.{passed_at, digits_passed}
 use Rattle.vp_format.proofs.Quick.{plain_symbol, run_symbol, digit_adds, behind_count}
 
@@ -102,10 +102,6 @@ run_known b c run =
       | inl d ↦ ap (λ t. cond t true (is_short b)) (lt-ltb v 16 d)
       | inr g ↦ (let short = (run g).0 in ap (λ t. cond t true (is_short b)) (le-ltb v 16 g) ∙ ap (λ t. t && ltb n 20) (lt-ltb 0 n short.0) ∙ lt-ltb n 20 short.1)
     ]
-
-sel_maps : (p : ℕ → Bool) (f g : ℕ → ℕ) (vs : List ℕ) → sel_l (map p vs) (map f vs) (map g vs) ≡ map (λ v. cond (p v) (f v) (g v)) vs
-sel_maps p f g [] = refl
-sel_maps p f g (v ∷ vs) = ap (λ l. cond (p v) (f v) (g v) ∷ l) (sel_maps p f g vs)
 
 sum_push : (f : ℕ → ℕ) (xs : List ℕ) (y : ℕ) → sum_l (map f (xs ++ y ∷ [])) ≡ sum_l (map f xs) + f y
 sum_push f [] y = omega arith

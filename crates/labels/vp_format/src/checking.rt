@@ -6,13 +6,31 @@ ghost use Rattle.vp_format.specs.Cursors.{symbols_from, Passed};
 
 use crate::codes::Symbol;
 use crate::counted::counted;
-use crate::digits::{LANES, digits_in};
+use crate::digits::{LANES, WIDE, are_digits, digits_in};
 use crate::law::binary_law;
 use crate::reading::Codes;
 use crate::row::symbol_of;
 use crate::rows::Coding;
 use crate::short_runs::{OTHER, run_at};
 use vp_dots::Fault;
+
+/// Passes digits as `pass_digits` does, as far as they come `WIDE` at a time.
+fn pass_wide(bytes: &[u8], first: usize, from: u64, end: u64) -> (u64, usize)
+    requires first { first ≤ length bytes.now }
+    requires end { end < 2 ^ 44 }
+    ensures behind { first ≤ result.1 }
+    ensures inside { result.1 ≤ length bytes.now }
+    ensures passed { (width : ℕ) (all : List Spelled) → Passed width all from (symbols_from bytes.now first) →
+        Passed width all result.0 (symbols_from bytes.now result.1) }
+{
+    let mut x = from;
+    let mut at = first;
+    while x < end && bytes.len() - at >= WIDE && are_digits(bytes, at) {
+        x += WIDE as u64;
+        at += WIDE;
+    }
+    (x, at)
+}
 
 /// Passes digits from a byte on, where a symbol starts at a place, as far as they go, but none that starts
 /// at an end: gives the place and the byte of the next symbol. Of the last bytes none may be passed.
@@ -24,8 +42,7 @@ fn pass_digits(bytes: &[u8], first: usize, from: u64, end: u64) -> (u64, usize)
     ensures passed { (width : ℕ) (all : List Spelled) → Passed width all from (symbols_from bytes.now first) →
         Passed width all result.0 (symbols_from bytes.now result.1) }
 {
-    let mut x = from;
-    let mut at = first;
+    let (mut x, mut at) = pass_wide(bytes, first, from, end);
     while x < end && bytes.len() - at >= LANES {
         let count = digits_in(bytes, at);
         if count < LANES {

@@ -1,5 +1,5 @@
-//! Plain digits, sixteen at a time.
-ghost use Rattle.std.specs.Prelude.{◌≡◌, ℕ, ◌+◌, ◌*◌, ◌<◌, ◌≤◌, true, false, List, length, slice_index};
+//! Plain digits, sixteen at a time, or 64.
+ghost use Rattle.std.specs.Prelude.{◌≡◌, ℕ, ◌+◌, ◌*◌, ◌<◌, ◌≤◌, ◌⊎◌, true, false, List, length, slice_index};
 ghost use Rattle.vp_format.specs.Codes.{Spelled, code_of};
 ghost use Rattle.vp_format.specs.Pictures.{nibble};
 ghost use Rattle.vp_format.specs.Cursors.{digit_value, first_set, symbols_from, Reached};
@@ -9,6 +9,23 @@ use std::simd::prelude::*;
 
 /// How many bytes are looked at at once.
 pub const LANES: usize = 16;
+
+/// How many bytes are asked at once whether all of them are digits.
+pub const WIDE: usize = 64;
+
+/// Whether `WIDE` bytes from a place on are digits.
+#[inline(always)]
+pub fn are_digits(bytes: &[u8], at: usize) -> bool
+    requires { at + WIDE ≤ length bytes.now }
+    ensures { result ≡ true → (k : ℕ) → k < WIDE →
+        digit_value (code_of (slice_index bytes.now (at + k))) < 16 }
+{
+    let codes = u8x64::from_slice(&bytes[at..]);
+    let from_0 = codes - u8x64::splat(b'0');
+    let from_a = (codes | u8x64::splat(0x20)) - u8x64::splat(b'a');
+    let least = from_0.saturating_sub(u8x64::splat(4)).simd_min(from_a);
+    least.simd_ge(u8x64::splat(6)).to_bitmask() == 0
+}
 
 /// How many of the bytes from a place on are digits, of the next sixteen.
 #[inline(always)]
@@ -87,48 +104,66 @@ pub fn digits(
     (x, at)
 }
 
-/// Whether `n` bytes from `at` on are there, and digits; fewer than sixteen are not looked at.
-fn are_digits(bytes: &[u8], at: usize, n: usize) -> bool
-    requires { at ≤ length bytes.now }
-    ensures inside { result ≡ true → at + n ≤ length bytes.now }
-    ensures digits { result ≡ true → (k : ℕ) → k < n →
-        digit_value (code_of (slice_index bytes.now (at + k))) < 16 }
-{
-    if n < LANES || bytes.len() - at < n {
-        return false;
-    }
-    let mut k = 0;
-    while n - k >= LANES {
-        if digits_in(bytes, at + k) < LANES {
-            return false;
-        }
-        k += LANES;
-    }
-    digits_in(bytes, at + (n - LANES)) == LANES
-}
-
-/// Puts sixteen digits into eight bytes of a row, from byte i on.
+/// Puts sixteen digits into eight bytes of a row, from byte i on, if all are digits: whether they are.
 #[inline(always)]
-fn pack_digits(bytes: &[u8], at: usize, i: usize, row: &mut [u8])
+fn pack_digits(bytes: &[u8], at: usize, i: usize, row: &mut [u8]) -> bool
     requires bytes { at + LANES ≤ length bytes.now }
     requires room { i + 8 ≤ length row.old }
     ensures len { length row.new ≡ length row.old }
     ensures kept { (k : ℕ) → k < i → slice_index row.new k ≡ slice_index row.old k }
-    ensures packed { ((k : ℕ) → k < LANES → digit_value (code_of (slice_index bytes.now (at + k))) < 16) →
-        (k : ℕ) → k < 8 → slice_index row.new (i + k)
+    ensures digits { result ≡ true → (k : ℕ) → k < LANES →
+        digit_value (code_of (slice_index bytes.now (at + k))) < 16 }
+    ensures packed { result ≡ true → (k : ℕ) → k < 8 → slice_index row.new (i + k)
         ≡ digit_value (code_of (slice_index bytes.now (at + 2 * k))) * 16
         + digit_value (code_of (slice_index bytes.now (at + (2 * k + 1)))) }
+    ensures same { result ≡ false → row.new ≡ row.old }
 {
     let codes = u8x16::from_slice(&bytes[at..]);
-    let letters = codes >> u8x16::splat(6);
-    let values = (codes & u8x16::splat(15)) + letters * u8x16::splat(9);
+    let from_0 = codes - u8x16::splat(b'0');
+    let from_a = (codes | u8x16::splat(0x20)) - u8x16::splat(b'a');
+    let least = from_0.saturating_sub(u8x16::splat(4)).simd_min(from_a);
+    if least.simd_ge(u8x16::splat(6)).to_bitmask() != 0 {
+        return false;
+    }
+    let values = from_0.simd_min(from_a + u8x16::splat(10));
     let (high, low) = values.deinterleave(values);
     (high * u8x16::splat(16) + low)
         .extract::<0, 8>()
         .copy_to_slice(&mut row[i..]);
+    true
 }
 
-/// Reads a row from a place of the codes on, if digits alone spell it: whether they do.
+/// Puts `WIDE` digits into 32 bytes of a row in the same way.
+#[inline(always)]
+fn pack_wide(bytes: &[u8], at: usize, i: usize, row: &mut [u8]) -> bool
+    requires bytes { at + WIDE ≤ length bytes.now }
+    requires room { i + 32 ≤ length row.old }
+    ensures len { length row.new ≡ length row.old }
+    ensures kept { (k : ℕ) → k < i → slice_index row.new k ≡ slice_index row.old k }
+    ensures digits { result ≡ true → (k : ℕ) → k < WIDE →
+        digit_value (code_of (slice_index bytes.now (at + k))) < 16 }
+    ensures packed { result ≡ true → (k : ℕ) → k < 32 → slice_index row.new (i + k)
+        ≡ digit_value (code_of (slice_index bytes.now (at + 2 * k))) * 16
+        + digit_value (code_of (slice_index bytes.now (at + (2 * k + 1)))) }
+    ensures same { result ≡ false → row.new ≡ row.old }
+{
+    let codes = u8x64::from_slice(&bytes[at..]);
+    let from_0 = codes - u8x64::splat(b'0');
+    let from_a = (codes | u8x64::splat(0x20)) - u8x64::splat(b'a');
+    let least = from_0.saturating_sub(u8x64::splat(4)).simd_min(from_a);
+    if least.simd_ge(u8x64::splat(6)).to_bitmask() != 0 {
+        return false;
+    }
+    let values = from_0.simd_min(from_a + u8x64::splat(10));
+    let (high, low) = values.deinterleave(values);
+    (high * u8x64::splat(16) + low)
+        .extract::<0, 32>()
+        .copy_to_slice(&mut row[i..]);
+    true
+}
+
+/// Reads a row from a place of the codes on, if digits alone spell it: whether they do. Where a digit comes
+/// first, a row that isn't read may be written all the same.
 pub fn plain_row(bytes: &[u8], at: usize, row: &mut [u8]) -> bool
     requires at { at ≤ length bytes.now }
     requires short { length row.old ≤ 1024 }
@@ -138,17 +173,28 @@ pub fn plain_row(bytes: &[u8], at: usize, row: &mut [u8]) -> bool
         digit_value (code_of (slice_index bytes.now (at + k))) < 16 }
     ensures packed { result ≡ true → (j : ℕ) → j < 2 * length row.old →
         nibble row.new j ≡ digit_value (code_of (slice_index bytes.now (at + j))) }
-    ensures kept { result ≡ false → row.new ≡ row.old }
+    ensures kept { result ≡ false → (row.new ≡ row.old)
+        ⊎ ((at < length bytes.now) × (digit_value (code_of (slice_index bytes.now at)) < 16)) }
 {
     let n = row.len();
-    if n < 8 || !are_digits(bytes, at, 2 * n) {
+    if n < 8 || bytes.len() - at < 2 * n {
         return false;
     }
     let mut i = 0;
+    while n - i >= 32 {
+        if !pack_wide(bytes, at + 2 * i, i, row) {
+            return false;
+        }
+        i += 32;
+    }
     while n - i >= 8 {
-        pack_digits(bytes, at + 2 * i, i, row);
+        if !pack_digits(bytes, at + 2 * i, i, row) {
+            return false;
+        }
         i += 8;
     }
-    pack_digits(bytes, at + 2 * (n - 8), n - 8, row);
-    true
+    if i == n {
+        return true;
+    }
+    pack_digits(bytes, at + 2 * (n - 8), n - 8, row)
 }

@@ -1,5 +1,5 @@
-//! How many bytes at the front are data by themselves: codes are looked at sixteen at a time.
-ghost use Rattle.std.specs.Prelude.{◌≡◌, ◌+◌, ◌≤◌, ◌==◌, if◌then◌else◌, length, take, drop};
+//! How many bytes at the front are data by themselves: codes are looked at sixteen at a time, or 64.
+ghost use Rattle.std.specs.Prelude.{◌≡◌, ◌+◌, ◌≤◌, ◌==◌, true, if◌then◌else◌, length, take, drop};
 ghost use Rattle.std.specs.Int.{w64, trailing_zeros};
 ghost use Rattle.std.specs.List.{prefix_len};
 ghost use Rattle.vp_zpl.specs.Spelling.{is_sign, is_line_end};
@@ -9,6 +9,9 @@ use std::simd::prelude::*;
 
 /// How many bytes are looked at at once.
 const LANES: usize = 16;
+
+/// How many bytes are looked at at once where most are data.
+const WIDE: usize = 64;
 
 /// How many bytes at the front are data of ^FD that are themselves.
 pub fn text_front(indicator: Option<u8>, input: &[u8]) -> usize
@@ -27,7 +30,7 @@ pub fn text_front(indicator: Option<u8>, input: &[u8]) -> usize
 pub fn code_front(input: &[u8]) -> usize
     ensures { result ≡ prefix_len is_kept_code input.now }
 {
-    let mut at = 0;
+    let mut at = wide_front(input);
     while input.len() - at >= LANES {
         let count = codes_in(input, at);
         if count < LANES {
@@ -42,6 +45,32 @@ pub fn code_front(input: &[u8]) -> usize
         }
     }
     input.len()
+}
+
+/// How many bytes at the front are data of ^GF A, as far as they can be told `WIDE` at a time.
+fn wide_front(input: &[u8]) -> usize
+    ensures inside { result ≤ length input.now }
+    ensures front { prefix_len is_kept_code input.now
+        ≡ result + prefix_len is_kept_code (drop result input.now) }
+{
+    let mut at = 0;
+    while input.len() - at >= WIDE && are_codes(input, at) {
+        at += WIDE;
+    }
+    at
+}
+
+/// Whether the next `WIDE` bytes are data of ^GF A; where a control character stands among them it isn't told.
+#[inline(always)]
+fn are_codes(bytes: &[u8], at: usize) -> bool
+    requires { at + WIDE ≤ length bytes.now }
+    ensures { result ≡ true → prefix_len is_kept_code (take WIDE (drop at bytes.now)) ≡ WIDE }
+{
+    let codes = u8x64::from_slice(&bytes[at..]);
+    let blanks = codes.simd_le(u8x64::splat(b' '));
+    // ^ and ~ differ in one bit
+    let signs = (codes | u8x64::splat(0x20)).simd_eq(u8x64::splat(b'~'));
+    (blanks | signs).to_bitmask() == 0
 }
 
 /// How many of the next sixteen bytes come before the first that is no data of ^GF A.

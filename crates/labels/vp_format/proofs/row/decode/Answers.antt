@@ -1,4 +1,5 @@
-use Rattle.std.proofs.Common.{◌≡◌, ℕ, ◌+◌, ◌-◌, ◌*◌, ◌<◌, ◌≤◌, List, ◌∷◌, IfOk, is_err, get_or, refl, arith, ap, sym, ◌∙◌, subst, length}
+use Rattle.std.proofs.Common.{inl, inr, ◌≡◌, ℕ, ◌+◌, ◌-◌, ◌*◌, ◌<◌, ◌≤◌, List, ◌∷◌, IfOk, is_err, get_or, refl, arith, ap, sym, ◌∙◌, subst, length}
+use Rattle.std.proofs.lemmas.Result.{IfOk-weaker}
 use Rattle.vp_format.specs.declared.codes.Symbol.TheVariants.{Digits}
 use Rattle.vp_format.specs.declared.rows.Coding.TheVariants.{RunLength}
 use Rattle.vp_format.specs.declared.rows.Spot.{Spot}
@@ -6,7 +7,7 @@ use Rattle.vp_format.specs.declared.row.RowEnd.{RowEnd}
 use Rattle.vp_format.specs.Codes.{code_of, spelled}
 use Rattle.vp_format.specs.Pictures.{shown, is_nothing, nibble}
 use Rattle.vp_format.specs.Cursors.{digit_value, symbols_at, symbols_from, Decoded}
-use Rattle.vp_format.proofs.Quick.{values_from, value_from, plain_reached}
+use Rattle.vp_format.proofs.Quick.{values_from, value_from, plain_reached, decoded_anew}
 use Rattle.vp_format.proofs.Reached.{reached_at, start_reached, run_done, run_before, run_reached, all_shown, ended_decoded}
 use Rattle.vp_format.proofs.row.decode.Goals as goal
 
@@ -15,18 +16,23 @@ returns-then-left-eq0-clause-answer c =
     let codes = c.args.codes.now.bytes.now in
     let s : Spot = record { left = c.args.left; digit = c.args.digit; at = c.args.codes.now.at } in
     let all = symbols_at RunLength codes s in
-    let same : c.plain_row.new.row ≡ c.args.row.now = c.if-plain_row.ensures.kept refl in
-    subst (λ (r : List ℕ). is_err c.read_on.result ≡ is_nothing (shown (2 * length r) 0 all (2 * length r - 1))) same
+    subst (λ (n : ℕ). is_err c.read_on.result ≡ is_nothing (shown (2 * n) 0 all (2 * n - 1))) c.plain_row.ensures.len
     (c.read_on.ensures.answer all s.at (run_done _ all s.at _ 0 _ s.digit (symbols_from codes s.at) s.at c.if-left-eq0.true (start_reached _ all s.at c.args.places.now)))
 
 pub returns-then-left-eq0-clause-decoded : goal.returns-then-left-eq0-clause-decoded
 returns-then-left-eq0-clause-decoded c =
     let codes = c.args.codes.now.bytes.now in
+    let w = 2 * length c.args.row.now in
     let s : Spot = record { left = c.args.left; digit = c.args.digit; at = c.args.codes.now.at } in
     let all = symbols_at RunLength codes s in
-    let same : c.plain_row.new.row ≡ c.args.row.now = c.if-plain_row.ensures.kept refl in
-    subst (λ (r : List ℕ). IfOk c.read_on.result (λ (end : RowEnd). Decoded (2 * length r) RunLength codes s end (record { left = end.left; digit = end.digit; at = c.read_on.new.codes.at }) r c.read_on.new.row)) same
-    (c.read_on.ensures.decoded s (run_done _ all s.at _ 0 _ s.digit (symbols_from codes s.at) s.at c.if-left-eq0.true (start_reached _ all s.at c.args.places.now)))
+    let read = subst (λ (n : ℕ). IfOk c.read_on.result (λ (end : RowEnd). Decoded (2 * n) RunLength codes s end (record { left = end.left; digit = end.digit; at = c.read_on.new.codes.at }) c.plain_row.new.row c.read_on.new.row)) c.plain_row.ensures.len
+    (c.read_on.ensures.decoded s (run_done _ all s.at _ 0 _ s.digit (symbols_from codes s.at) s.at c.if-left-eq0.true (start_reached _ all s.at c.args.places.now))) in
+    elim (c.if-plain_row.ensures.kept refl) [
+      | inl same ↦ subst (λ (r : List ℕ). IfOk c.read_on.result (λ (end : RowEnd). Decoded w RunLength codes s end (record { left = end.left; digit = end.digit; at = c.read_on.new.codes.at }) r c.read_on.new.row)) same read
+      | inr begun ↦ (let here : (s.at < length codes) × (digit_value (code_of (get_or codes s.at 0)) < 16) = subst (λ (bs : List ℕ). (s.at < length bs) × (digit_value (code_of (get_or bs s.at 0)) < 16)) c.bytes.ensures
+          (subst (λ (a : ℕ). (a < length c.bytes.result.now) × (digit_value (code_of (get_or c.bytes.result.now a 0)) < 16)) c.at-at.ensures begun) in
+          IfOk-weaker c.read_on.result _ _ (λ end d. decoded_anew w codes c.plain_row.new.row c.args.row.now c.read_on.new.row s _ end c.if-left-eq0.true here.0 here.1 d) read)
+    ]
 
 pub returns-then-to-width-clause-decoded : goal.returns-then-to-width-clause-decoded
 returns-then-to-width-clause-decoded c =
