@@ -10,4 +10,5 @@ pub mod Squares
 pub mod RowMarks
 pub mod Rows
 pub mod Whites
+pub mod Whole
 pub mod Wipes

@@ -6,6 +6,7 @@ use Rattle.vp_page.specs.declared.across.TheConstants.{AT_ONCE}
 use Rattle.vp_page.specs.declared.area.Area.{Area}
 use Rattle.vp_page.specs.declared.area.Direction.{Direction}
 use Rattle.vp_page.specs.Areas.{holds, along, down}
+use Rattle.vp_page.specs.Lines.{row_in}
 
 -- an image that is laid with its left at the start of the lines, and its top at a vertical position of the
 -- area
@@ -45,6 +46,11 @@ lines_mark a d v lines = record {
   top = v;
   dot = λ u w. nat_lt w AT_ONCE && (nat_lt u LINE_DOTS && dot (slice_index_or lines w []) u);
 }
+
+-- rows of `wide` bytes, one behind the other in bytes and laid one below the other from a depth of the area on
+abbrev pub rows_mark : Area → Direction → ℕ → ℕ → ℕ → List ℕ → Mark
+rows_mark a d v wide rows bytes =
+    record { area = a; direction = d; top = v; dot = λ u w. nat_lt w rows && dot (row_in bytes wide w) u }
 
 -- the first n rows of what a mark lays
 abbrev pub first_rows : ℕ → Mark → Mark

@@ -1,9 +1,10 @@
 //! The page.
-ghost use Rattle.std.specs.Prelude.{◌≡◌, ℕ, ◌<◌, ◌≤◌, Bool, true, false, List, [], ◌∷◌, IfOk, length, slice_index_or, take};
+ghost use Rattle.std.specs.Prelude.{◌≡◌, ℕ, ◌+◌, ◌*◌, ◌%◌, ◌^◌, ◌<◌, ◌≤◌, Bool, true, false, List, [], ◌∷◌, IfOk, length, slice_index_or, take};
 ghost use Rattle.vp_dots.specs.Dots.{dot, span};
 ghost use Rattle.vp_dots.specs.Images.{row_of};
 ghost use Rattle.vp_page.specs.Areas.{depth, holds};
-ghost use Rattle.vp_page.specs.Layers.{mark_dot, row_mark};
+ghost use Rattle.vp_page.specs.Lines.{AreWhole};
+ghost use Rattle.vp_page.specs.Layers.{mark_dot, row_mark, rows_mark};
 ghost use Rattle.vp_page.specs.declared.line.TheConstants.{LINE_BYTES, LINE_DOTS};
 ghost use Rattle.vp_page.specs.declared.page.TheConstants.{PAPER_BYTES, PAPER_DOTS, PAGE_ROWS};
 
@@ -12,6 +13,7 @@ use crate::line::{
     LINE_BYTES, LINE_DOTS, draw, draw_lines, lay_down, lay_left, lay_right, lay_up, whiten,
 };
 use crate::white::Rows;
+use crate::words::{lay_whole, lay_whole_back};
 use crate::{Area, Direction};
 use std::alloc::{AllocError, Global};
 use std::marker::Model;
@@ -41,6 +43,19 @@ fn fallen(area: Area, direction: Direction, v: usize) -> Rows
         from: row,
         to: row + 1,
     }
+}
+
+/// Whether rows of so many bytes stand on whole words of the page, where their lines begin at a place, and are
+/// no longer than these, which end on the page.
+fn are_whole(area: Area, begin: usize, wide: usize) -> bool
+    requires { wide ≤ LINE_BYTES }
+    ensures { result ≡ true → AreWhole area begin wide }
+{
+    wide % 8 == 0
+        && begin % 8 == 0
+        && 8 * wide <= area.dx as usize
+        && area.x as usize + area.dx as usize <= 8 * PAPER_BYTES
+        && area.y as usize + area.dy as usize <= PAGE_ROWS
 }
 
 /// Rows of dots, as many as the page has.
@@ -134,6 +149,74 @@ impl Page {
             Direction::BottomToTop => lay_up(row, area, area.x as usize + v, &mut self.band),
             Direction::RightToLeft => lay_left(row, area, below - 1 - v, &mut self.band),
             Direction::TopToBottom => lay_down(row, area, right - 1 - v, &mut self.band),
+        }
+    }
+
+    /// Lays rows of `wide` bytes, one behind the other in bytes, as `lay_row` lays each: the first at the depth
+    /// v of an area.
+    fn lay_each(
+        &mut self,
+        area: Area,
+        direction: Direction,
+        v: u32,
+        wide: usize,
+        rows: usize,
+        bytes: &[u8],
+    )
+        requires short { wide ≤ LINE_BYTES }
+        requires near { v + rows < 2 ^ 32 }
+        requires long { rows * wide ≤ length bytes.now }
+        ensures { (layers : List Layer) → HasPage layers self.old →
+            HasPage (Laid (rows_mark area direction v wide rows bytes.now) ∷ layers) self.new }
+    {
+        for k in 0..rows {
+            let at = k * wide;
+            self.lay_row(area, direction, v + k as u32, &bytes[at..at + wide]);
+        }
+    }
+
+    /// Lays rows of `wide` bytes, one behind the other in bytes, as `lay_row` lays each: the first at the depth
+    /// v of an area. Mostly they run along the page, and stand on whole words.
+    pub fn lay_rows(
+        &mut self,
+        area: Area,
+        direction: Direction,
+        v: u32,
+        wide: usize,
+        rows: usize,
+        bytes: &[u8],
+    )
+        requires short { wide ≤ LINE_BYTES }
+        requires near { v + rows < 2 ^ 32 }
+        requires long { rows * wide ≤ length bytes.now }
+        ensures { (layers : List Layer) → HasPage layers self.old →
+            HasPage (Laid (rows_mark area direction v wide rows bytes.now) ∷ layers) self.new }
+    {
+        let depth = u32::from(area.depth(direction));
+        if v >= depth {
+            return;
+        }
+        let shown = rows.min((depth - v) as usize);
+        let down = v as usize;
+        let right = area.x as usize + area.dx as usize;
+        match direction {
+            Direction::LeftToRight if are_whole(area, area.x as usize, wide) => {
+                let top = area.y as usize + down;
+                self.laid = self.laid.with(Rows {
+                    from: top,
+                    to: top + shown,
+                });
+                lay_whole(bytes, wide, shown, area.x as usize / 8, top, &mut self.band)
+            }
+            Direction::RightToLeft if are_whole(area, right, wide) => {
+                let top = area.y as usize + (area.dy as usize - down - shown);
+                self.laid = self.laid.with(Rows {
+                    from: top,
+                    to: top + shown,
+                });
+                lay_whole_back(bytes, wide, shown, right / 8 - wide, top, &mut self.band)
+            }
+            _ => self.lay_each(area, direction, v, wide, rows, bytes),
         }
     }
 

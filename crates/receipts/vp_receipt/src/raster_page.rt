@@ -140,8 +140,12 @@ fn lay_rows(p: PageSettings, raster: &Raster, bytes: &[u8], rows: usize, page: &
         ∷ layers) page.new }
 {
     let across = matches!(p.direction, Direction::BottomToTop | Direction::TopToBottom);
+    let wide = usize::from(raster.bytes);
     match raster.scale {
         RasterScale::Normal if across => lay_across(p, raster, bytes, rows, page),
+        RasterScale::Normal if wide <= LINE_BYTES => {
+            page.lay_rows(p.area, p.direction, p.vertical as u32, wide, rows, bytes)
+        }
         _ => lay_each(p, raster, bytes, rows, page),
     }
 }
