@@ -12,3 +12,4 @@ pub mod Rows
 pub mod Whites
 pub mod Whole
 pub mod Wipes
+pub mod Wiping
