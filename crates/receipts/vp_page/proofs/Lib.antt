@@ -10,4 +10,6 @@ pub mod Squares
 pub mod RowMarks
 pub mod Rows
 pub mod Whites
+pub mod Whole
 pub mod Wipes
+pub mod Wiping

@@ -1,52 +1,88 @@
 -- Layers, and what is painted for them.
-use Rattle.std.proofs.Common.{inl, inr, ◌≡◌, ℕ, ◌+◌, ◌-◌, ◌<◌, ◌≤◌, Bool, true, false, not, cond, ltb, leb, eqb, ◌&&◌, ◌||◌, refl, sym, ap, ◌∙◌, arith, List, [], ◌∷◌, length, get_or}
-use Rattle.std.proofs.lemmas.Bool.{cases_eq, cases_lt}
+use Rattle.std.proofs.Common.{inl, inr, ◌≡◌, ℕ, ◌+◌, ◌-◌, ◌<◌, ◌≤◌, Bool, true, false, not, min, max, cond, ltb, leb, eqb, ◌&&◌, ◌||◌, refl, sym, ap, ◌∙◌, arith, List, [], ◌∷◌, length, get_or}
+use Rattle.std.proofs.lemmas.Bool.{cases_Bool, cases_eq, cases_lt, and_parts, false_from_ne_true, true≢false, le-leb, lt-ltb, leb-true, ltb-true}
 use Rattle.std.proofs.lemmas.Bool.Decides.{nat_tests}
 use Rattle.vp_page.specs.declared.page.TheConstants.{PAGE_ROWS, PAPER_DOTS}
-use Rattle.vp_dots.specs.Dots.{dot}
+use Rattle.vp_dots.specs.Dots.{dot, span}
 use Rattle.vp_dots.specs.Places.{RowsPainted}
 use Rattle.vp_dots.specs.declared.Op.TheVariants.{Black, White}
 use Rattle.vp_page.specs.declared.area.Area.{Area}
 use Rattle.vp_page.specs.Areas.{holds, line_length, depth, along, down}
 use Rattle.vp_page.specs.Layers.{Layer, Laid, Wiped, Mark, mark_dot, page_dot, first_rows, lines_mark}
 use Rattle.vp_page.specs.Lines.{line_dot}
-use Rattle.vp_page.specs.Pages.{HasPage}
+use Rattle.vp_page.specs.Pages.{HasPage, Paged}
+use Rattle.vp_page.specs.Work.{IsCounted, rows_laid, laid_rows, most_wiped, least_wiped, black_rows, area_rows, MOST}
 use Rattle.vp_page.specs.Laws.{RowsMakeAnImage}
 use Rattle.vp_page.proofs.Falling.{lies, within}
 use Rattle.vp_page.proofs.Squares.{no_line}
+use Rattle.vp_page.proofs.Wiping.{few_black}
 
 black_or : (i o : Bool) → cond i true o ≡ (i || o)
 black_or true o = refl
 black_or false o = refl
 
-white_and : (i o : Bool) → cond i false o ≡ (not i && o)
-white_and true o = refl
-white_and false o = refl
-
-module _ (layers : List Layer) (ink : ℕ → ℕ → Bool) (old new : List (List ℕ)) (page : HasPage layers old) where
-  pub laid : (m : Mark) → ((x y : ℕ) → x < PAPER_DOTS → y < PAGE_ROWS → ink x y ≡ mark_dot m x y) → RowsPainted PAGE_ROWS Black ink old new → HasPage (Laid m ∷ layers) new
-  laid m e p = record {
+module _ (layers : List Layer) (ink : ℕ → ℕ → Bool) (old new : Paged) (page : HasPage layers old) where
+  pub laid : (m : Mark) → ((x y : ℕ) → x < PAPER_DOTS → y < PAGE_ROWS → ink x y ≡ mark_dot m x y) → RowsPainted PAGE_ROWS Black ink old.rows new.rows
+      → new.laid ≡ min (old.laid + rows_laid m) MOST → new.wiped ≡ old.wiped → HasPage (Laid m ∷ layers) new
+  laid m e p n w = record {
     rows_are = λ y h. (p.rows_are y h).length_is ∙ page.rows_are y h;
     dots_are = λ x y k h.
         (p.rows_are y h).dots_are x (let n = page.rows_are y h in omega arith)
-        ∙ black_or (ink x y) (dot (get_or old y []) x) ∙ ap (λ i. i || dot (get_or old y []) x) (e x y k h) ∙ ap (λ o. mark_dot m x y || o) (page.dots_are x y k h);
+        ∙ black_or (ink x y) (dot (get_or old.rows y []) x) ∙ ap (λ i. i || dot (get_or old.rows y []) x) (e x y k h) ∙ ap (λ o. mark_dot m x y || o) (page.dots_are x y k h);
+    work = record { laid_is = omega (arith, n, page.work.laid_is); at_most = omega (arith, w, page.work.at_most); at_least = omega (arith, w, page.work.at_least) };
   }
 
-  pub wiped : (a : Area) → ((x y : ℕ) → x < PAPER_DOTS → y < PAGE_ROWS → ink x y ≡ holds a x y) → RowsPainted PAGE_ROWS White ink old new → HasPage (Wiped a ∷ layers) new
-  wiped a e p = record {
+-- an area made white on the rows on which it may not be
+module _ (layers : List Layer) (a : Area) (from to : ℕ) (old new : Paged) (page : HasPage layers old)
+    (white : (x y : ℕ) → x < PAPER_DOTS → y < PAGE_ROWS → holds a x y ≡ true → span from to y ≡ false → dot (get_or old.rows y []) x ≡ false) where
+  white_but : (s h o : Bool) → (h ≡ true → s ≡ false → o ≡ false) → cond (s && h) false o ≡ (not h && o)
+  white_but true true o e = refl
+  white_but true false o e = refl
+  white_but false true o e = e refl refl
+  white_but false false o e = refl
+
+  outside : (y : ℕ) → a.y ≤ y → y < a.y + a.dy → span (max from a.y) (min to (a.y + a.dy)) y ≡ false → span from to y ≡ false
+  outside y h k f = false_from_ne_true (span from to y) (λ e.
+      let p = and_parts (leb from y) (ltb y to) e in
+      let i = leb-true from y p.0 in
+      let j = ltb-true y to p.1 in
+      let t : span (max from a.y) (min to (a.y + a.dy)) y ≡ true = rw (le-leb (max from a.y) y (omega arith), lt-ltb y (min to (a.y + a.dy)) (omega arith)) refl in
+      true≢false (sym t ∙ f))
+
+  no_black : (x y : ℕ) → x < PAPER_DOTS → y < PAGE_ROWS → span (max from a.y) (min to (a.y + a.dy)) y ≡ false → (holds a x y && page_dot layers x y) ≡ false
+  no_black x y k h f = elim (cases_Bool (holds a x y)) [
+    | inl t ↦ (let held = within a x y t in
+        ap (λ b. b && page_dot layers x y) t ∙ sym (page.dots_are x y k h) ∙ white x y k h t (outside y held.above held.below f))
+    | inr n ↦ ap (λ b. b && page_dot layers x y) n
+  ]
+
+  pub wiped : RowsPainted PAGE_ROWS White (λ x k. span from to k && holds a x k) old.rows new.rows → to ≤ PAGE_ROWS
+      → new.wiped ≡ min (old.wiped + (min to (a.y + a.dy) - max from a.y)) MOST → new.laid ≡ old.laid → HasPage (Wiped a ∷ layers) new
+  wiped p small w same = let some = few_black layers a (max from a.y) (min to (a.y + a.dy)) PAGE_ROWS (omega arith) no_black in record {
     rows_are = λ y h. (p.rows_are y h).length_is ∙ page.rows_are y h;
     dots_are = λ x y k h.
         (p.rows_are y h).dots_are x (let n = page.rows_are y h in omega arith)
-        ∙ white_and (ink x y) (dot (get_or old y []) x) ∙ ap (λ i. not i && dot (get_or old y []) x) (e x y k h) ∙ ap (λ o. not (holds a x y) && o) (page.dots_are x y k h);
+        ∙ white_but (span from to y) (holds a x y) (dot (get_or old.rows y []) x) (white x y k h) ∙ ap (λ o. not (holds a x y) && o) (page.dots_are x y k h);
+    work = record { laid_is = omega (arith, same, page.work.laid_is); at_most = omega (arith, w, small, page.work.at_most); at_least = omega (arith, w, some, page.work.at_least) };
   }
+
+-- layers that take as much
+pub record TakeAsMuch (before after : List Layer) : Type 0 where
+  pub laid : laid_rows before ≡ laid_rows after
+  pub most : most_wiped before ≡ most_wiped after
+  pub least : least_wiped before ≡ least_wiped after
 
 -- layers with the same dots
-pub same_page : (before after : List Layer) (page : List (List ℕ)) → ((x y : ℕ) → page_dot before x y ≡ page_dot after x y) → HasPage before page → HasPage after page
-same_page before after page e h = record { rows_are = h.rows_are; dots_are = λ x y k l. h.dots_are x y k l ∙ e x y }
+pub same_page : (before after : List Layer) (page : Paged) → ((x y : ℕ) → page_dot before x y ≡ page_dot after x y) → TakeAsMuch before after → HasPage before page → HasPage after page
+same_page before after page e t h = record {
+  rows_are = h.rows_are;
+  dots_are = λ x y k l. h.dots_are x y k l ∙ e x y;
+  work = record { laid_is = omega (arith, t.laid, h.work.laid_is); at_most = omega (arith, t.most, h.work.at_most); at_least = omega (arith, t.least, h.work.at_least) };
+}
 
 -- a mark with no dot that falls on the page
-pub nothing_laid : (m : Mark) (layers : List Layer) (page : List (List ℕ)) → ((x y : ℕ) → mark_dot m x y ≡ false) → HasPage layers page → HasPage (Laid m ∷ layers) page
-nothing_laid m layers page e h = same_page layers (Laid m ∷ layers) page (λ x y. sym (ap (λ b. b || page_dot layers x y) (e x y))) h
+pub nothing_laid : (m : Mark) (layers : List Layer) (page : Paged) → ((x y : ℕ) → mark_dot m x y ≡ false) → rows_laid m ≡ 0 → HasPage layers page → HasPage (Laid m ∷ layers) page
+nothing_laid m layers page e n h = same_page layers (Laid m ∷ layers) page (λ x y. sym (ap (λ b. b || page_dot layers x y) (e x y))) (record { laid = omega (arith, n); most = refl; least = refl }) h
 
 no_row : (h t : Bool) (w : ℕ) (b : Bool) → (h && (t && (ltb w 0 && b))) ≡ false
 no_row h t w b = grind (arith, nat_tests)
@@ -64,11 +100,12 @@ enough h w top n long false i e = grind (arith, nat_tests)
 
 pub rows_make_an_image : RowsMakeAnImage
 rows_make_an_image = record {
-  none = λ m layers page h. nothing_laid (first_rows 0 m) layers page (λ x y. no_row (holds m.area x y) (leb m.top (down m.area m.direction x y)) (down m.area m.direction x y - m.top) _) h;
+  none = λ m layers page h. nothing_laid (first_rows 0 m) layers page (λ x y. no_row (holds m.area x y) (leb m.top (down m.area m.direction x y)) (down m.area m.direction x y - m.top) _) (omega arith) h;
   more = λ m k row layers page e h. same_page _ _ page (λ x y. one_more (holds m.area x y) (row (along m.area m.direction x y)) (page_dot layers x y) (down m.area m.direction x y) m.top k (m.dot (along m.area m.direction x y))
-      (λ t. e (along m.area m.direction x y) (lies m.area m.direction x y (within m.area x y t)).in_line)) h;
-  all = λ m n layers page e h. same_page _ _ page (λ x y. ap (λ b. b || page_dot layers x y) (enough (holds m.area x y) (down m.area m.direction x y) m.top n (depth m.area m.direction) (m.dot (along m.area m.direction x y) (down m.area m.direction x y - m.top))
-      (λ t. (lies m.area m.direction x y (within m.area x y t)).in_depth) (e (along m.area m.direction x y) (down m.area m.direction x y - m.top)))) h;
+      (λ t. e (along m.area m.direction x y) (lies m.area m.direction x y (within m.area x y t)).in_line))
+      (record { laid = omega arith; most = refl; least = refl }) h;
+  all = λ m n layers page e r h. same_page _ _ page (λ x y. ap (λ b. b || page_dot layers x y) (enough (holds m.area x y) (down m.area m.direction x y) m.top n (depth m.area m.direction) (m.dot (along m.area m.direction x y) (down m.area m.direction x y - m.top))
+      (λ t. (lies m.area m.direction x y (within m.area x y t)).in_depth) (e (along m.area m.direction x y) (down m.area m.direction x y - m.top)))) (record { laid = omega (arith, r); most = refl; least = refl }) h;
 }
 
 more_rows : (h q b p : Bool) (w top k n : ℕ) → n ≤ 64 → (h ≡ true → top + k ≤ w → w - (top + k) < n → q ≡ b) → (n ≤ w - (top + k) → q ≡ false)
@@ -84,7 +121,7 @@ more_rows true q b p w top k n few same none = elim (cases_lt w (top + k)) [
 ]
 
 -- lines that are laid at once below the first k rows of a mark
-pub lines_more : (m : Mark) (k n : ℕ) (lines : List (List ℕ)) (layers : List Layer) (page : List (List ℕ)) → n ≤ 64 → length lines ≤ n
+pub lines_more : (m : Mark) (k n : ℕ) (lines : List (List ℕ)) (layers : List Layer) (page : Paged) → n ≤ 64 → length lines ≡ n
     → ((u w : ℕ) → u < line_length m.area m.direction → w < n → line_dot lines w u ≡ m.dot u (k + w))
     → HasPage (Laid (lines_mark m.area m.direction (m.top + k) lines) ∷ Laid (first_rows k m) ∷ layers) page
     → HasPage (Laid (first_rows (k + n) m) ∷ layers) page
@@ -93,4 +130,4 @@ lines_more m k n lines layers page few short same has = same_page _ _ page (λ x
     let w = down m.area m.direction x y in
     more_rows (holds m.area x y) (line_dot lines (w - (m.top + k)) u) (m.dot u (w - m.top)) (page_dot layers x y) w m.top k n few
     (λ t g l. same u (w - (m.top + k)) (lies m.area m.direction x y (within m.area x y t)).in_line l ∙ ap (m.dot u) (omega arith))
-    (λ g. no_line lines (w - (m.top + k)) u (omega arith))) has
+    (λ g. no_line lines (w - (m.top + k)) u (omega arith))) (record { laid = omega arith; most = refl; least = refl }) has

@@ -10,7 +10,8 @@ use Rattle.vp_page.specs.declared.area.Area.{Area}
 use Rattle.vp_page.specs.declared.page.TheConstants.{PAGE_ROWS, PAPER_BYTES, PAPER_DOTS}
 use Rattle.vp_page.specs.declared.white.Rows.{Rows}
 use Rattle.vp_page.specs.Areas.{holds}
-use Rattle.vp_page.specs.Pages.{HasPage, IsWhiteBut}
+use Rattle.vp_page.specs.Pages.{HasPage, IsWhiteBut, Paged}
+use Rattle.vp_page.specs.Work.{MOST}
 use Rattle.vp_page.proofs.Blank.{dot_white}
 
 and_no : (b : Bool) → (b && false) ≡ false
@@ -61,16 +62,17 @@ down_rows top high y true e = grind (arith, nat_tests)
 down_rows top high y false e = grind (arith, nat_tests)
 
 -- a white page
-pub all_white : (area : Area) (rows : Rows) (page : List (List ℕ)) → rows.to ≤ PAGE_ROWS → HasPage [] page → IsWhiteBut area rows page
+pub all_white : (area : Area) (rows : Rows) (page : Paged) → rows.to ≤ PAGE_ROWS → HasPage [] page → IsWhiteBut area rows page.rows
 all_white area rows page few h = record { within = few; rows_are = h.rows_are; white = λ x y k l t f. h.dots_are x y k l }
 
 -- rows outside of which the page is white made white
-pub cleared : (rows : Rows) (old new : List (List ℕ)) → ((y : ℕ) → y < PAGE_ROWS → length (get_or old y []) ≡ PAPER_BYTES)
+pub cleared : (rows : Rows) (old new : List (List ℕ)) (n : ℕ) → n ≤ PAGE_ROWS → ((y : ℕ) → y < PAGE_ROWS → length (get_or old y []) ≡ PAPER_BYTES)
     → ((x y : ℕ) → x < PAPER_DOTS → y < PAGE_ROWS → span rows.from rows.to y ≡ false → dot (get_or old y []) x ≡ false)
-    → ((y : ℕ) → get_or new y [] ≡ (if span rows.from rows.to y then replicate PAPER_BYTES 0 else get_or old y [])) → HasPage [] new
-cleared rows old new long white is = record {
+    → ((y : ℕ) → get_or new y [] ≡ (if span rows.from rows.to y then replicate PAPER_BYTES 0 else get_or old y [])) → HasPage [] (record { rows = new; laid = 0; wiped = n })
+cleared rows old new n few long white is = record {
   rows_are = λ y h. ap length (is y) ∙ either (λ row. length row ≡ PAPER_BYTES) (span rows.from rows.to y) _ _ (length-replicate {A = ℕ} PAPER_BYTES 0) (λ f. long y h);
   dots_are = λ x y k h. ap (λ row. dot row x) (is y) ∙ either (λ row. dot row x ≡ false) (span rows.from rows.to y) _ _ (dot_white PAPER_BYTES x (omega arith)) (λ f. white x y k h f);
+  work = record { laid_is = omega arith; at_most = omega (arith, few); at_least = omega arith };
 }
   where
     either : (P : List ℕ → Type 0) (b : Bool) (p q : List ℕ) → P p → (b ≡ false → P q) → P (if b then p else q)

@@ -2,7 +2,8 @@
 use Rattle.std.specs.Prelude.{◌≡◌, ◌<◌, ℕ, ◌+◌, Bool, true, false, List, [], ◌∷◌, ◌++◌, ◌↔◌}
 use Rattle.vp_page.specs.Areas.{holds, line_length, depth, falls_x, falls_y}
 use Rattle.vp_page.specs.Layers.{Layer, Laid, Wiped, Mark, mark_dot, page_dot, row_mark, first_rows}
-use Rattle.vp_page.specs.Pages.{HasPage}
+use Rattle.vp_page.specs.Pages.{HasPage, Paged}
+use Rattle.vp_page.specs.Work.{rows_laid}
 
 -- dot (u, w) of the mark is inside the line length and the depth, and falls on the place (x, y)
 pub record FallsOn (m : Mark) (u w x y : ℕ) : Type 0 where
@@ -42,14 +43,15 @@ MarksAndWipes = (layers : List Layer) (x y : ℕ) → (page_dot layers x y ≡ t
 -- rows laid one below the other are one mark
 pub record RowsMakeAnImage : Type 0 where
   -- before the first row
-  pub none : (m : Mark) (layers : List Layer) (page : List (List ℕ)) → HasPage layers page →
+  pub none : (m : Mark) (layers : List Layer) (page : Paged) → HasPage layers page →
       HasPage (Laid (first_rows 0 m) ∷ layers) page
   -- row k, laid k below the top
-  pub more : (m : Mark) (k : ℕ) (row : ℕ → Bool) (layers : List Layer) (page : List (List ℕ)) →
+  pub more : (m : Mark) (k : ℕ) (row : ℕ → Bool) (layers : List Layer) (page : Paged) →
       ((u : ℕ) → u < line_length m.area m.direction → row u ≡ m.dot u k) →
       HasPage (Laid (row_mark m.area m.direction (m.top + k) row) ∷ Laid (first_rows k m) ∷ layers) page →
       HasPage (Laid (first_rows (k + 1) m) ∷ layers) page
   -- after the last one that has ink or is not past the depth
-  pub all : (m : Mark) (n : ℕ) (layers : List Layer) (page : List (List ℕ)) →
+  pub all : (m : Mark) (n : ℕ) (layers : List Layer) (page : Paged) →
       ((u w : ℕ) → m.dot u w ≡ true → m.top + w < depth m.area m.direction → w < n) →
+      rows_laid (first_rows n m) ≡ rows_laid m →
       HasPage (Laid (first_rows n m) ∷ layers) page → HasPage (Laid m ∷ layers) page

@@ -1,11 +1,12 @@
 -- What is laid on a page, and the dots that this makes.
-use Rattle.std.specs.Prelude.{ℕ, ◌-◌, slice_index_or, nat_eq, nat_lt, nat_le, Bool, false, not, ◌&&◌, ◌||◌, List, [], ◌∷◌}
+use Rattle.std.specs.Prelude.{ℕ, ◌-◌, slice_index_or, nat_eq, nat_lt, nat_le, Bool, false, not, ◌&&◌, ◌||◌, List, [], ◌∷◌, length}
 use Rattle.vp_dots.specs.Dots.{dot}
 use Rattle.vp_page.specs.declared.line.TheConstants.{LINE_DOTS}
 use Rattle.vp_page.specs.declared.across.TheConstants.{AT_ONCE}
 use Rattle.vp_page.specs.declared.area.Area.{Area}
 use Rattle.vp_page.specs.declared.area.Direction.{Direction}
 use Rattle.vp_page.specs.Areas.{holds, along, down}
+use Rattle.vp_page.specs.Lines.{row_in}
 
 -- an image that is laid with its left at the start of the lines, and its top at a vertical position of the
 -- area
@@ -13,6 +14,8 @@ pub record Mark : Type 0 where
   pub area : Area
   pub direction : Direction
   pub top : ℕ
+  -- how many rows it has
+  pub high : ℕ
   pub dot : ℕ → ℕ → Bool
 
 -- since ESC L: images laid, and areas made white by CAN
@@ -34,7 +37,7 @@ page_dot (Wiped a ∷ before) x y = not (holds a x y) && page_dot before x y
 
 -- one row of dots, laid at a depth of the area
 abbrev pub row_mark : Area → Direction → ℕ → (ℕ → Bool) → Mark
-row_mark a d v row = record { area = a; direction = d; top = v; dot = λ u w. nat_eq w 0 && row u }
+row_mark a d v row = record { area = a; direction = d; top = v; high = 1; dot = λ u w. nat_eq w 0 && row u }
 
 -- as many rows as are laid at once, no longer than the longest line, one below the other from a depth of the
 -- area on
@@ -43,10 +46,26 @@ lines_mark a d v lines = record {
   area = a;
   direction = d;
   top = v;
+  high = length lines;
   dot = λ u w. nat_lt w AT_ONCE && (nat_lt u LINE_DOTS && dot (slice_index_or lines w []) u);
+}
+
+-- rows of `wide` bytes, one behind the other in bytes and laid one below the other from a depth of the area on
+abbrev pub rows_mark : Area → Direction → ℕ → ℕ → ℕ → List ℕ → Mark
+rows_mark a d v wide rows bytes = record {
+  area = a;
+  direction = d;
+  top = v;
+  high = rows;
+  dot = λ u w. nat_lt w rows && dot (row_in bytes wide w) u;
 }
 
 -- the first n rows of what a mark lays
 abbrev pub first_rows : ℕ → Mark → Mark
-first_rows n m =
-    record { area = m.area; direction = m.direction; top = m.top; dot = λ u w. nat_lt w n && m.dot u w }
+first_rows n m = record {
+  area = m.area;
+  direction = m.direction;
+  top = m.top;
+  high = n;
+  dot = λ u w. nat_lt w n && m.dot u w;
+}

@@ -1,5 +1,6 @@
 pub mod Areas
 pub mod Lines
 pub mod Layers
+pub mod Work
 pub mod Pages
 pub mod Laws

@@ -1,12 +1,18 @@
 -- Lines of dots that are laid at once.
-use Rattle.std.specs.Prelude.{ℕ, ◌+◌, ◌-◌, nat_le, nat_lt, Bool, ◌&&◌, List, [], ℤ, slice_index, slice_index_or}
+use Rattle.std.specs.Prelude.{◌≡◌, ◌≤◌, ◌%◌, ℕ, ◌+◌, ◌-◌, nat_le, nat_lt, Bool, ◌&&◌, List, [], ℤ, ◌*◌, take, drop, slice_index, slice_index_or}
 use Rattle.vp_dots.specs.Dots.{dot, shifted}
 use Rattle.vp_dots.specs.Words.{word_dot}
 use Rattle.vp_page.specs.declared.line.TheConstants.{LINE_DOTS}
+use Rattle.vp_page.specs.declared.page.TheConstants.{PAGE_ROWS, PAPER_BYTES}
+use Rattle.vp_page.specs.declared.area.Area.{Area}
 
 -- dot u of line i, none of which is longer than the longest line
 abbrev pub line_dot : List (List ℕ) → ℕ → ℕ → Bool
 line_dot lines i u = nat_lt u LINE_DOTS && dot (slice_index_or lines i []) u
+
+-- row i of bytes of which `wide` make a row
+abbrev pub row_in : List ℕ → ℕ → ℕ → List ℕ
+row_in bytes wide i = take wide (drop (i * wide) bytes)
 
 -- dot (x, y) of 32 dots of the first h words, from dot `skip` on, one word on each row from `top` on, each
 -- moved by an offset
@@ -14,3 +20,12 @@ abbrev pub halves_dot : List ℕ → ℕ → ℤ → ℕ → ℕ → ℕ → ℕ
 halves_dot words skip left top h x y =
     nat_le top y && (nat_lt (y - top) h
     && shifted left (λ s. nat_lt s 32 && word_dot (slice_index words (y - top)) (s + skip)) x)
+
+-- rows of so many bytes stand on whole words of the page, their lines beginning at a place, and are no longer
+-- than these, which end on the page
+pub record AreWhole (area : Area) (begin wide : ℕ) : Type 0 where
+  pub words : wide % 8 ≡ 0
+  pub begins : begin % 8 ≡ 0
+  pub short : 8 * wide ≤ area.dx
+  pub across : area.x + area.dx ≤ 8 * PAPER_BYTES
+  pub below : area.y + area.dy ≤ PAGE_ROWS

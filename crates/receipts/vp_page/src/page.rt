@@ -1,9 +1,10 @@
 //! The page.
-ghost use Rattle.std.specs.Prelude.{◌≡◌, ℕ, ◌<◌, ◌≤◌, Bool, true, false, List, [], ◌∷◌, IfOk, length, slice_index_or, take};
+ghost use Rattle.std.specs.Prelude.{◌≡◌, ℕ, ◌+◌, ◌*◌, ◌%◌, ◌^◌, ◌<◌, ◌≤◌, Bool, true, false, List, [], ◌∷◌, IfOk, length, slice_index_or, take};
 ghost use Rattle.vp_dots.specs.Dots.{dot, span};
 ghost use Rattle.vp_dots.specs.Images.{row_of};
 ghost use Rattle.vp_page.specs.Areas.{depth, holds};
-ghost use Rattle.vp_page.specs.Layers.{mark_dot, row_mark};
+ghost use Rattle.vp_page.specs.Lines.{AreWhole};
+ghost use Rattle.vp_page.specs.Layers.{mark_dot, row_mark, rows_mark};
 ghost use Rattle.vp_page.specs.declared.line.TheConstants.{LINE_BYTES, LINE_DOTS};
 ghost use Rattle.vp_page.specs.declared.page.TheConstants.{PAPER_BYTES, PAPER_DOTS, PAGE_ROWS};
 
@@ -12,6 +13,7 @@ use crate::line::{
     LINE_BYTES, LINE_DOTS, draw, draw_lines, lay_down, lay_left, lay_right, lay_up, whiten,
 };
 use crate::white::Rows;
+use crate::words::{lay_whole, lay_whole_back};
 use crate::{Area, Direction};
 use std::alloc::{AllocError, Global};
 use std::marker::Model;
@@ -43,6 +45,19 @@ fn fallen(area: Area, direction: Direction, v: usize) -> Rows
     }
 }
 
+/// Whether rows of so many bytes stand on whole words of the page, where their lines begin at a place, and are
+/// no longer than these, which end on the page.
+fn are_whole(area: Area, begin: usize, wide: usize) -> bool
+    requires { wide ≤ LINE_BYTES }
+    ensures { result ≡ true → AreWhole area begin wide }
+{
+    wide % 8 == 0
+        && begin % 8 == 0
+        && 8 * wide <= area.dx as usize
+        && area.x as usize + area.dx as usize <= 8 * PAPER_BYTES
+        && area.y as usize + area.dy as usize <= PAGE_ROWS
+}
+
 /// Rows of dots, as many as the page has.
 pub(crate) type PageBand = Band<PAPER_BYTES, PAGE_ROWS>;
 
@@ -61,16 +76,17 @@ pub struct Page {
     /// What is white, but for the rows that were laid on since: so what is white already isn't wiped again.
     white: Area,
     laid: Rows,
+    /// How many rows were laid, and made white, since ESC L.
+    rows_laid: u64,
+    rows_wiped: u64,
 }
 
 impl Model for Page {
-    ghost use Rattle.std.specs.Prelude.{ℕ, List};
+    ghost use Rattle.vp_page.specs.Pages.{IsWhiteBut, Paged};
 
-    ghost Value = { List (List ℕ) };
+    ghost Value = { Paged };
 
-    ghost use Rattle.vp_page.specs.Pages.{IsWhiteBut};
-
-    ghost view = { λ s. s.band };
+    ghost view = { λ s. record { rows = s.band; laid = s.rows_laid; wiped = s.rows_wiped } };
 
     ghost invariant = { λ s. IsWhiteBut s.white s.laid s.band };
 }
@@ -90,6 +106,8 @@ impl Page {
             band,
             white: WHOLE,
             laid: Rows::none(),
+            rows_laid: 0,
+            rows_wiped: 0,
         })
     }
 
@@ -101,13 +119,15 @@ impl Page {
         self.band.clear_rows(rows.from, rows.to);
         self.white = WHOLE;
         self.laid = Rows::none();
+        self.rows_laid = 0;
+        self.rows_wiped = rows.count();
     }
 
     /// Rows of the page outside of which an area is known to be white.
     fn unknown_in(&self, area: Area) -> Rows
         ensures within { result.to ≤ PAGE_ROWS }
         ensures white { (x y : ℕ) → x < PAPER_DOTS → y < PAGE_ROWS → holds area x y ≡ true →
-            span result.from result.to y ≡ false → dot (slice_index_or self.now y []) x ≡ false }
+            span result.from result.to y ≡ false → dot (slice_index_or self.now.rows y []) x ≡ false }
     {
         if self.white.covers(area) {
             return self.laid;
@@ -127,6 +147,7 @@ impl Page {
         }
         let v = v as usize;
         self.laid = self.laid.with(fallen(area, direction, v));
+        self.rows_laid = self.rows_laid.saturating_add(1);
         let right = area.x as usize + area.dx as usize;
         let below = area.y as usize + area.dy as usize;
         match direction {
@@ -134,6 +155,77 @@ impl Page {
             Direction::BottomToTop => lay_up(row, area, area.x as usize + v, &mut self.band),
             Direction::RightToLeft => lay_left(row, area, below - 1 - v, &mut self.band),
             Direction::TopToBottom => lay_down(row, area, right - 1 - v, &mut self.band),
+        }
+    }
+
+    /// Lays rows of `wide` bytes, one behind the other in bytes, as `lay_row` lays each: the first at the depth
+    /// v of an area.
+    fn lay_each(
+        &mut self,
+        area: Area,
+        direction: Direction,
+        v: u32,
+        wide: usize,
+        rows: usize,
+        bytes: &[u8],
+    )
+        requires short { wide ≤ LINE_BYTES }
+        requires near { v + rows < 2 ^ 32 }
+        requires long { rows * wide ≤ length bytes.now }
+        ensures { (layers : List Layer) → HasPage layers self.old →
+            HasPage (Laid (rows_mark area direction v wide rows bytes.now) ∷ layers) self.new }
+    {
+        for k in 0..rows {
+            let at = k * wide;
+            self.lay_row(area, direction, v + k as u32, &bytes[at..at + wide]);
+        }
+    }
+
+    /// Lays rows of `wide` bytes, one behind the other in bytes, as `lay_row` lays each: the first at the depth
+    /// v of an area. Mostly they run along the page, and stand on whole words.
+    pub fn lay_rows(
+        &mut self,
+        area: Area,
+        direction: Direction,
+        v: u32,
+        wide: usize,
+        rows: usize,
+        bytes: &[u8],
+    )
+        requires short { wide ≤ LINE_BYTES }
+        requires near { v + rows < 2 ^ 32 }
+        requires long { rows * wide ≤ length bytes.now }
+        ensures { (layers : List Layer) → HasPage layers self.old →
+            HasPage (Laid (rows_mark area direction v wide rows bytes.now) ∷ layers) self.new }
+    {
+        let depth = u32::from(area.depth(direction));
+        if v >= depth {
+            return;
+        }
+        let shown = rows.min((depth - v) as usize);
+        let down = v as usize;
+        let right = area.x as usize + area.dx as usize;
+        let count = self.rows_laid.saturating_add(shown as u64);
+        match direction {
+            Direction::LeftToRight if are_whole(area, area.x as usize, wide) => {
+                let top = area.y as usize + down;
+                self.laid = self.laid.with(Rows {
+                    from: top,
+                    to: top + shown,
+                });
+                self.rows_laid = count;
+                lay_whole(bytes, wide, shown, area.x as usize / 8, top, &mut self.band)
+            }
+            Direction::RightToLeft if are_whole(area, right, wide) => {
+                let top = area.y as usize + (area.dy as usize - down - shown);
+                self.laid = self.laid.with(Rows {
+                    from: top,
+                    to: top + shown,
+                });
+                self.rows_laid = count;
+                lay_whole_back(bytes, wide, shown, right / 8 - wide, top, &mut self.band)
+            }
+            _ => self.lay_each(area, direction, v, wide, rows, bytes),
         }
     }
 
@@ -172,17 +264,21 @@ impl Page {
             return;
         }
         let room = (depth - v) as usize;
+        let shown = lines.len().min(room);
+        let count = self.rows_laid.saturating_add(shown as u64);
         let left = u32::from(area.x);
         match direction {
             Direction::BottomToTop => {
                 self.laid = self.laid.with(Rows::of(area));
-                let shown = &lines[..lines.len().min(room)];
+                self.rows_laid = count;
+                let shown = &lines[..shown];
                 lay_lines_up(shown, long, area, left + v, &mut self.band)
             }
             Direction::TopToBottom => {
                 self.laid = self.laid.with(Rows::of(area));
                 let right = left + depth - v;
-                let shown = &lines[..lines.len().min(room)];
+                self.rows_laid = count;
+                let shown = &lines[..shown];
                 lay_lines_down(shown, long, area, right, &mut self.band)
             }
             _ => {
@@ -198,8 +294,13 @@ impl Page {
     pub fn lay<I: Ink>(&mut self, ink: &I, area: Area, direction: Direction, top: u32)
         requires { I.width ink.now ≤ LINE_DOTS }
         ensures { (layers : List Layer) → HasPage layers self.old →
-            HasPage (Laid (record { area = area; direction = direction; top = top; dot = I.ink_at ink.now })
-            ∷ layers) self.new }
+            HasPage (Laid (record {
+                area = area;
+                direction = direction;
+                top = top;
+                high = I.height ink.now;
+                dot = I.ink_at ink.now;
+            }) ∷ layers) self.new }
     {
         match direction {
             Direction::LeftToRight | Direction::RightToLeft => {
@@ -215,8 +316,13 @@ impl Page {
     fn lay_along<I: Ink>(&mut self, ink: &I, area: Area, direction: Direction, top: u32)
         requires { I.width ink.now ≤ LINE_DOTS }
         ensures { (layers : List Layer) → HasPage layers self.old →
-            HasPage (Laid (record { area = area; direction = direction; top = top; dot = I.ink_at ink.now })
-            ∷ layers) self.new }
+            HasPage (Laid (record {
+                area = area;
+                direction = direction;
+                top = top;
+                high = I.height ink.now;
+                dot = I.ink_at ink.now;
+            }) ∷ layers) self.new }
     {
         let (width, height) = ink.size();
         let mut room = [0; LINE_BYTES];
@@ -232,8 +338,13 @@ impl Page {
     fn lay_across<I: Ink>(&mut self, ink: &I, area: Area, direction: Direction, top: u32)
         requires { I.width ink.now ≤ LINE_DOTS }
         ensures { (layers : List Layer) → HasPage layers self.old →
-            HasPage (Laid (record { area = area; direction = direction; top = top; dot = I.ink_at ink.now })
-            ∷ layers) self.new }
+            HasPage (Laid (record {
+                area = area;
+                direction = direction;
+                top = top;
+                high = I.height ink.now;
+                dot = I.ink_at ink.now;
+            }) ∷ layers) self.new }
     {
         let (width, height) = ink.size();
         let below = u32::from(area.depth(direction)).saturating_sub(top);
@@ -252,15 +363,31 @@ impl Page {
         ensures { (layers : List Layer) → HasPage layers self.old →
             HasPage (Wiped area ∷ layers) self.new }
     {
-        whiten(area, self.unknown_in(area), &mut self.band);
+        let rows = self.unknown_in(area);
+        whiten(area, rows, &mut self.band);
         self.white = area;
         self.laid = Rows::none();
+        self.rows_wiped = self.rows_wiped.saturating_add(rows.inside(area).count());
+    }
+
+    /// How many rows were laid since ESC L.
+    pub fn rows_laid(&self) -> u64
+        ensures value { result ≡ self.now.laid }
+    {
+        self.rows_laid
+    }
+
+    /// How many rows were made white since then, and by ESC L itself.
+    pub fn rows_wiped(&self) -> u64
+        ensures value { result ≡ self.now.wiped }
+    {
+        self.rows_wiped
     }
 
     /// The bytes of a row.
     pub fn row(&self, y: usize) -> &[u8]
         requires { y < PAGE_ROWS }
-        ensures value { result.now ≡ slice_index_or self.now y [] }
+        ensures value { result.now ≡ slice_index_or self.now.rows y [] }
         ensures len { length result.now ≡ PAPER_BYTES }
         ensures bytes { (layers : List Layer) → HasPage layers self.now →
             result.now ≡ row_of PAPER_BYTES (λ x. page_dot layers x y) }

@@ -1,5 +1,5 @@
 //! Rows of the page that were laid on since an area was white: all else of that area is white still.
-ghost use Rattle.std.specs.Prelude.{◌≡◌, ℕ, ◌+◌, ◌<◌, ◌≤◌, true, false};
+ghost use Rattle.std.specs.Prelude.{◌≡◌, ℕ, ◌+◌, ◌-◌, max, min, ◌<◌, ◌≤◌, true, false};
 ghost use Rattle.vp_dots.specs.Dots.{span};
 ghost use Rattle.vp_page.specs.declared.page.TheConstants.{PAGE_ROWS};
 
@@ -40,6 +40,23 @@ impl Rows {
             from: area.y as usize,
             to: area.y as usize + area.dy as usize,
         }
+    }
+
+    /// The rows among these that an area has.
+    pub fn inside(self, area: Area) -> Rows
+        ensures { result ≡ record { from = max self.from area.y; to = min self.to (area.y + area.dy) } }
+    {
+        Rows {
+            from: self.from.max(area.y as usize),
+            to: self.to.min(area.y as usize + area.dy as usize),
+        }
+    }
+
+    /// How many they are.
+    pub fn count(self) -> u64
+        ensures { result ≡ self.to - self.from }
+    {
+        self.to.saturating_sub(self.from) as u64
     }
 
     /// These rows, those of `other` that the page has, and what stands between them.

@@ -5,7 +5,7 @@ ghost use Rattle.vp_dots.specs.Dots.{bit, dot, dots, shifted};
 ghost use Rattle.vp_dots.specs.Words.{word_dot};
 ghost use Rattle.vp_dots.specs.Painting.{Painted};
 ghost use Rattle.vp_dots.specs.Places.{words_dot, RowsPainted};
-ghost use Rattle.vp_page.specs.Lines.{halves_dot};
+ghost use Rattle.vp_page.specs.Lines.{halves_dot, row_in};
 ghost use Rattle.vp_dots.specs.declared.Op.TheVariants.{Black};
 ghost use Rattle.vp_page.specs.declared.page.TheConstants.{PAPER_BYTES, PAGE_ROWS};
 
@@ -270,6 +270,7 @@ fn or_sixteen_reversed(line: &[u8], j: usize, i: usize, row: &mut [u8])
 }
 
 /// Blackens the row where the line, turned end for end and its last byte on byte q, is black.
+#[inline(always)]
 pub(crate) fn or_reversed(line: &[u8], q: usize, row: &mut [u8])
     requires whole { length line.now % 8 ≡ 0 }
     requires room { q + length line.now ≤ length row.old }
@@ -282,5 +283,52 @@ pub(crate) fn or_reversed(line: &[u8], q: usize, row: &mut [u8])
     }
     if bytes % 16 != 0 {
         or_eight(reversed_at(line, 0), q + bytes - 8, row);
+    }
+}
+
+/// Blackens rows of the page, from one on, where rows of `wide` bytes, one behind the other in bytes and the
+/// first byte of each on byte q, are black.
+pub(crate) fn lay_whole(
+    bytes: &[u8],
+    wide: usize,
+    rows: usize,
+    q: usize,
+    top: usize,
+    band: &mut PageBand,
+)
+    requires whole { wide % 8 ≡ 0 }
+    requires long { rows * wide ≤ length bytes.now }
+    requires across { q + wide ≤ PAPER_BYTES }
+    requires room { top + rows ≤ PAGE_ROWS }
+    ensures { RowsPainted PAGE_ROWS Black (λ x y. nat_le top y && (nat_lt (y - top) rows && (nat_le (8 * q) x
+        && dot (row_in bytes.now wide (y - top)) (x - 8 * q)))) band.old band.new }
+{
+    for i in 0..rows {
+        let at = i * wide;
+        or_words(&bytes[at..at + wide], q, band.row_mut(top + i));
+    }
+}
+
+/// Blackens rows of the page as `lay_whole` does, turned end for end and the last one first.
+pub(crate) fn lay_whole_back(
+    bytes: &[u8],
+    wide: usize,
+    rows: usize,
+    q: usize,
+    top: usize,
+    band: &mut PageBand,
+)
+    requires whole { wide % 8 ≡ 0 }
+    requires long { rows * wide ≤ length bytes.now }
+    requires across { q + wide ≤ PAPER_BYTES }
+    requires room { top + rows ≤ PAGE_ROWS }
+    ensures { RowsPainted PAGE_ROWS Black (λ x y. nat_le top y && (nat_lt (y - top) rows && (nat_le (8 * q) x
+        && (nat_lt (x - 8 * q) (8 * wide)
+        && dot (row_in bytes.now wide (rows - 1 - (y - top))) (8 * wide - 1 - (x - 8 * q))))))
+        band.old band.new }
+{
+    for i in 0..rows {
+        let at = (rows - 1 - i) * wide;
+        or_reversed(&bytes[at..at + wide], q, band.row_mut(top + i));
     }
 }

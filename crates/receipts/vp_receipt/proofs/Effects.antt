@@ -6,7 +6,7 @@ use Rattle.vp_esc.specs.declared.item.PrintDirection.{PrintDirection}
 use Rattle.vp_esc.specs.declared.item.Spelled.{Spelled}
 use Rattle.vp_glyph.specs.declared.Sheets.{Sheets}
 use Rattle.vp_page.specs.Layers.{Layer}
-use Rattle.vp_page.specs.Pages.{HasPage}
+use Rattle.vp_page.specs.Pages.{HasPage, Paged}
 use Rattle.vp_receipt_settings.specs.declared.effect.Piece.{Piece}
 use Rattle.vp_receipt_settings.specs.declared.effect.Piece.TheVariants.{Character as OneCharacter, Column8 as OneColumn8, Column24 as OneColumn24}
 use Rattle.vp_receipt_settings.specs.declared.effect.Effect.{Effect}
@@ -160,7 +160,7 @@ gathers_after setup before item sheets bitmap (Some code) placed h g =
     subst (λ (t : Text). placed ≡ record { at = 0; image = image_of sheets t code } ∷ []) (sym (h code refl)) g
 
 -- the page
-pub on_paper : (m : PrinterMode) (layers : List Layer) (page : List (List ℕ)) → m ≡ Standard → HasPageIf m layers page
+pub on_paper : (m : PrinterMode) (layers : List Layer) (page : Paged) → m ≡ Standard → HasPageIf m layers page
 on_paper Standard layers page e = tt
 on_paper Page layers page e = cc
 
@@ -176,7 +176,7 @@ mode_held : (o : Bool) (f g : Frame) → o ≡ true → f.mode ≡ Standard → 
 mode_held true f g e h = h
 mode_held false f g e h = cc
 
-begun : (setup : Setup) (before : List EscItem) (page : List (List ℕ)) (o : Bool) → is_open (line setup before) ≡ o → mode setup before ≡ Standard
+begun : (setup : Setup) (before : List EscItem) (page : Paged) (o : Bool) → is_open (line setup before) ≡ o → mode setup before ≡ Standard
     → HasPageIf (mode_by setup before (effect_of (settings_of setup before) PageMode)) (layers_by setup before (effect_of (settings_of setup before) PageMode)) page
     → HasPageIf (mode setup (PageMode ∷ before)) (layers setup (PageMode ∷ before)) page
 begun setup before page true e m h = on_paper (mode setup (PageMode ∷ before)) _ page (mode_held (is_open (line setup before)) _ _ e m)
@@ -186,7 +186,7 @@ begun setup before page false e m h =
     subst (λ (x : PrinterMode). HasPageIf x (layers setup (PageMode ∷ before)) page) (sym (mode_begun (is_open (line setup before)) _ _ e refl))
     (subst (λ (l : List Layer). HasPage l page) (sym none) k)
 
-pub paper_after : (setup : Setup) (before : List EscItem) (item : EscItem) (page : List (List ℕ)) → mode setup before ≡ Standard
+pub paper_after : (setup : Setup) (before : List EscItem) (item : EscItem) (page : Paged) → mode setup before ≡ Standard
     → HasPageIf (mode_by setup before (effect_of (settings_of setup before) item)) (layers_by setup before (effect_of (settings_of setup before) item)) page
     → HasPageIf (mode setup (item ∷ before)) (layers setup (item ∷ before)) page
 paper_after setup before PageMode page m h = begun setup before page (is_open (line setup before)) refl m h
@@ -201,7 +201,7 @@ mode_stays : (setup : Setup) (before : List EscItem) (effect : Effect) → mode 
 mode_stays setup before BeginsPage m = refl
 mode_stays setup before _ m = m
 
-pub page_after : (setup : Setup) (before : List EscItem) (item : EscItem) (page : List (List ℕ)) (m : PrinterMode) → mode setup before ≡ m
+pub page_after : (setup : Setup) (before : List EscItem) (item : EscItem) (page : Paged) (m : PrinterMode) → mode setup before ≡ m
     → Does setup before item (effect_of (settings_of setup before) item)
     → HasPageIf (mode_by setup before (effect_of (settings_of setup before) item)) (layers_by setup before (effect_of (settings_of setup before) item)) page
     → HasPageIf (mode setup (item ∷ before)) (layers setup (item ∷ before)) page

@@ -15,6 +15,7 @@ pub mod Across
 pub mod Begun
 pub mod Orderly
 pub mod Texts
+pub mod Work
 pub mod PageRows
 pub mod RasterLines
 pub mod PlainRows

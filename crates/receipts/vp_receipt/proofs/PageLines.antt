@@ -9,7 +9,7 @@ use Rattle.vp_page.specs.declared.area.Direction.{Direction}
 use Rattle.vp_page.specs.declared.area.Direction.TheVariants.{LeftToRight, BottomToTop, RightToLeft, TopToBottom}
 use Rattle.vp_page.specs.Areas.{line_length as length_on_page}
 use Rattle.vp_page.specs.Layers.{Layer, Laid, page_dot}
-use Rattle.vp_page.specs.Pages.{HasPage}
+use Rattle.vp_page.specs.Pages.{HasPage, Paged}
 use Rattle.vp_receipt_settings.specs.declared.width.Width.{Width}
 use Rattle.vp_receipt_settings.specs.declared.settings.Settings.{Settings}
 use Rattle.vp_receipt_settings.specs.Setup.{Setup, across}
@@ -53,14 +53,14 @@ rows_up_to paper f g y zero l h = refl
 rows_up_to paper f g y (suc n) l h = ap (λ r. r ++ rows_text paper f (y + 1) n) (paper_row_same paper (λ x. f x y) (λ x. g x y) (λ x k. h x y k (omega arith))) ∙ ap (λ r. paper_row paper (λ x. g x y) ++ r) (rows_up_to paper f g (y + 1) n (omega arith) h)
 
 -- a row of the page is that of its layers
-page_shown : (layers : List Layer) (page : List (List ℕ)) → HasPage layers page → (x y : ℕ) → x < PAPER_DOTS → y < PAGE_ROWS → page_dot_of page x y ≡ page_dot layers x y
+page_shown : (layers : List Layer) (page : Paged) → HasPage layers page → (x y : ℕ) → x < PAPER_DOTS → y < PAGE_ROWS → page_dot_of page.rows x y ≡ page_dot layers x y
 page_shown layers page has x y h k = let e : x - 0 ≡ x = omega arith in rw (lt-ltb y PAGE_ROWS k, le-leb 0 x (omega arith), e, lt-ltb x PAPER_DOTS h) (has.dots_are x y h k)
 
 strip_shown : (paper : Width) (layers : List Layer) (canvas : Canvas) (rows : ℕ) → rows ≤ PAGE_ROWS → HasPage layers canvas.page → (rows ≡ 0 → ⊥)
     → whole (record { paper = paper; tall = rows; rows = rows; dots = PageDots }) canvas ≡ strip_text paper rows (page_dot layers)
 strip_shown paper layers canvas rows h has some =
-    ap (λ k. header_of (across paper) rows ++ rows_text paper (page_dot_of canvas.page) 0 k) (let z : rows - 0 ≡ rows = omega arith in z)
-    ∙ ap (λ r. header_of (across paper) rows ++ r) (rows_up_to paper (page_dot_of canvas.page) (page_dot layers) 0 rows (omega arith) (page_shown layers canvas.page has))
+    ap (λ k. header_of (across paper) rows ++ rows_text paper (page_dot_of canvas.page.rows) 0 k) (let z : rows - 0 ≡ rows = omega arith in z)
+    ∙ ap (λ r. header_of (across paper) rows ++ r) (rows_up_to paper (page_dot_of canvas.page.rows) (page_dot layers) 0 rows (omega arith) (page_shown layers canvas.page has))
     ∙ text_of_rows paper rows (page_dot layers) some
 
 -- the strip of the page
@@ -71,23 +71,23 @@ page_strip paper layers canvas rows h has = elim (cases_eq rows 0) [
   | inr n ↦ rw (ne_eqb rows 0 n) (strip_shown paper layers canvas rows h has n ∙ rw (ne_eqb rows 0 n) refl)
 ]
 
-pub has_page : (m : PrinterMode) (layers : List Layer) (page : List (List ℕ)) → HasPage layers page → HasPageIf m layers page
+pub has_page : (m : PrinterMode) (layers : List Layer) (page : Paged) → HasPage layers page → HasPageIf m layers page
 has_page Standard layers page h = tt
 has_page Page layers page h = h
 
 -- the page after an item in page mode
-pub page_kept : (setup : Setup) (before : List EscItem) (item : EscItem) (page : List (List ℕ)) → mode setup before ≡ Page → HasPage (layers_with setup before item (layers setup before)) page → HasPageIf (mode setup (item ∷ before)) (layers setup (item ∷ before)) page
+pub page_kept : (setup : Setup) (before : List EscItem) (item : EscItem) (page : Paged) → mode setup before ≡ Page → HasPage (layers_with setup before item (layers setup before)) page → HasPageIf (mode setup (item ∷ before)) (layers setup (item ∷ before)) page
 page_kept setup before PageMode page e h = has_page (mode setup (PageMode ∷ before)) (layers setup (PageMode ∷ before)) page (rw e h)
 page_kept setup before item page e h = has_page (mode setup (item ∷ before)) (layers setup (item ∷ before)) page h
 
 -- the line that is laid
-pub line_laid : (setup : Setup) (before : List EscItem) (s : Settings) (bitmap page : List (List ℕ)) (layers : List Layer) → s ≡ settings_of setup before → s.height ≤ LINE_ROWS → s.is_open ≡ true
+pub line_laid : (setup : Setup) (before : List EscItem) (s : Settings) (bitmap : List (List ℕ)) (page : Paged) (layers : List Layer) → s ≡ settings_of setup before → s.height ≤ LINE_ROWS → s.is_open ≡ true
     → (is_open (line setup before) ≡ true → HasDots (line setup before) bitmap)
-    → (HasRows s bitmap (line_dot (line setup before)) → HasPage (Laid (mark_of s.page (line_dot (line setup before))) ∷ layers) page)
+    → (HasRows s bitmap (line_dot (line setup before)) → HasPage (Laid (mark_of s.page s.height (line_dot (line setup before))) ∷ layers) page)
     → HasPage (laid_if (is_open (line setup before)) (line_mark setup before) layers) page
 line_laid setup before s bitmap page layers e small o has laid =
     let open_is : is_open (line setup before) ≡ true = sym (ap (λ (q : Settings). q.is_open) e) ∙ o in
-    rw open_is (subst (λ (p : PageSettings). HasPage (Laid (mark_of p (line_dot (line setup before))) ∷ layers) page) (ap (λ (q : Settings). q.page) e)
+    rw open_is (subst (λ (q : Settings). HasPage (Laid (mark_of q.page q.height (line_dot (line setup before))) ∷ layers) page) e
     (laid (has_rows s (line setup before) bitmap (ap (λ (q : Settings). q.height) e) small (has open_is))))
 
 pub mode_is : (setup : Setup) (before : List EscItem) (s : Settings) (m : PrinterMode) → s ≡ settings_of setup before → s.page.mode ≡ m → mode setup before ≡ m

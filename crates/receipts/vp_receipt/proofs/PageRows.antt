@@ -11,12 +11,12 @@ use Rattle.vp_esc.specs.declared.item.EscItem.TheVariants.{RasterByte}
 use Rattle.vp_esc.specs.declared.item.RasterScale.{RasterScale}
 use Rattle.vp_page.specs.Areas.{holds, along, down, depth}
 use Rattle.vp_page.specs.Layers.{Layer, Laid, Mark, mark_dot, page_dot, first_rows}
-use Rattle.vp_page.specs.Pages.{HasPage}
+use Rattle.vp_page.specs.Pages.{HasPage, Paged}
 use Rattle.vp_page.specs.declared.area.Area.{Area}
 use Rattle.vp_page.specs.declared.area.Direction.{Direction}
 use Rattle.vp_page.specs.declared.area.Direction.TheVariants.{LeftToRight, BottomToTop, RightToLeft, TopToBottom}
 use Rattle.vp_page.proofs.Falling.{lies, within}
-use Rattle.vp_page.proofs.Pages.{same_page}
+use Rattle.vp_page.proofs.Pages.{same_page, TakeAsMuch}
 use Rattle.vp_glyph.specs.declared.Sheets.{Sheets}
 use Rattle.vp_receipt_settings.specs.Setup.{Setup}
 use Rattle.vp_receipt_settings.specs.Line.{mode, line, Placed}
@@ -62,7 +62,7 @@ abbrev row_dot : RasterScale → List ℕ → ℕ → ℕ → Bool
 row_dot scale row u w = nat_lt w (times_down scale) && dot row (u / times_across scale)
 
 mark_same : (setup : Setup) (b : ℕ) (before : List EscItem) (row : List ℕ) → is_row_end before ≡ false → raster_mark setup (RasterByte b ∷ before) row ≡ raster_mark setup before row
-mark_same setup b before row e = ap (λ (s : Settings). mark_of s.page (row_dot (raster_scale before) row)) (settings_same setup b before e)
+mark_same setup b before row e = ap (λ (s : Settings). mark_of s.page (times_down (raster_scale before)) (row_dot (raster_scale before) row)) (settings_same setup b before e)
 
 -- bytes that end the row lay it
 pub row_laid_by : (setup : Setup) (bytes : List ℕ) (before : List EscItem) → Lacks bytes before
@@ -127,19 +127,19 @@ row_shown scale wide n bytes k u w at few is l h =
 
 -- the mark of rows at the vertical position
 abbrev rows_mark : Setup → List ℕ → ℕ → List EscItem → Mark
-rows_mark setup bytes n before = mark_of (page_of setup before) (rows_dot (raster_scale before) (raster_bytes before) n bytes)
+rows_mark setup bytes n before = mark_of (page_of setup before) (n * times_down (raster_scale before)) (rows_dot (raster_scale before) (raster_bytes before) n bytes)
 
 -- the mark of the row below so many
 mark_below : (setup : Setup) (bytes : List ℕ) (k : ℕ) (before : List EscItem) → (settings_of setup before).page.vertical ≤ 65535 → HaveRows bytes k before
     → raster_mark setup (bytes_after (take (k * raster_bytes before) bytes) before) (row_so_far (bytes_after (take (k * raster_bytes before) bytes) before) ++ row_at bytes (raster_bytes before) k)
-    ≡ mark_of (below (settings_of setup before) (k * times_down (raster_scale before))).page (row_dot (raster_scale before) (row_at bytes (raster_bytes before) k))
+    ≡ mark_of (below (settings_of setup before) (k * times_down (raster_scale before))).page (times_down (raster_scale before)) (row_dot (raster_scale before) (row_at bytes (raster_bytes before) k))
 mark_below setup bytes k before small h =
     let here = bytes_after (take (k * raster_bytes before) bytes) before in
     let row = row_at bytes (raster_bytes before) k in
     let above = are_whole bytes k before h in
     ap (λ (xs : List ℕ). raster_mark setup here (xs ++ row)) above.row
-    ∙ ap (λ (t : RasterScale). mark_of (page_of setup here) (row_dot t row)) above.scale
-    ∙ ap (λ (s : Settings). mark_of s.page (row_dot (raster_scale before) row)) (rows_below setup bytes k before small h)
+    ∙ ap (λ (t : RasterScale). mark_of (page_of setup here) (times_down t) (row_dot t row)) above.scale
+    ∙ ap (λ (s : Settings). mark_of s.page (times_down (raster_scale before)) (row_dot (raster_scale before) row)) (rows_below setup bytes k before small h)
 
 module _ (setup : Setup) (bytes : List ℕ) (n : ℕ) (before : List EscItem) (small : (settings_of setup before).page.vertical ≤ 65535) (fit : IsFitPage (page_of setup before)) where
   abbrev m : Mark
@@ -171,11 +171,28 @@ module _ (setup : Setup) (bytes : List ℕ) (n : ℕ) (before : List EscItem) (s
       ap (λ (items : List EscItem). page_dot (layers setup items) x y) (next_row bytes (raster_bytes before) k before)
       ∙ ap (λ (l : List Layer). page_dot l x y) (row_laid_by setup row here (lacks_row bytes k before h))
       ∙ ap (λ (l : Mark). mark_dot l x y || page_dot (layers setup here) x y) (mark_below setup bytes k before small less)
-      ∙ ap (λ b. mark_dot (mark_of (below (settings_of setup before) (k * d)).page (row_dot (raster_scale before) row)) x y || b) (first_laid k (omega arith) less x y)
+      ∙ ap (λ b. mark_dot (mark_of (below (settings_of setup before) (k * d)).page d (row_dot (raster_scale before) row)) x y || b) (first_laid k (omega arith) less x y)
       ∙ row_more (holds m.area x y) (dot row (u / times_across (raster_scale before))) (m.dot u (w - m.top)) p w m.top (k * d) d
       (λ t. let i = on_page x y t in omega (arith, i))
       (λ t g l. sym (row_is (raster_scale before) (raster_bytes before) n bytes k u (w - (m.top + k * d)) (w - m.top) (omega arith) (omega arith) l))
       ∙ ap (λ q. mark_dot (first_rows q m) x y || p) (sym (suc-mul k d))
+
+  -- and take as much
+  much : (k : ℕ) → k ≤ n → HaveRows bytes k before → TakeAsMuch (layers setup (bytes_after (take (k * raster_bytes before) bytes) before)) (Laid (first_rows (k * d) m) ∷ layers setup before)
+  much zero few h =
+      subst (λ (items : List EscItem). TakeAsMuch (layers setup items) (Laid (first_rows (0 * d) m) ∷ layers setup before)) (sym (no_row bytes (raster_bytes before) before))
+      (record { laid = (let none : 0 * d ≡ 0 = omega arith in omega (arith, none)); most = refl; least = refl })
+  much (suc k) few h =
+      let here = bytes_after (take (k * raster_bytes before) bytes) before in
+      let row = row_at bytes (raster_bytes before) k in
+      let less = fewer bytes k before h in
+      let above = much k (omega arith) less in
+      let deep = depth_small m.area m.direction fit.across fit.down in
+      let is : layers setup (bytes_after (take (suc k * raster_bytes before) bytes) before) ≡ Laid (mark_of (below (settings_of setup before) (k * d)).page d (row_dot (raster_scale before) row)) ∷ layers setup here =
+      ap (layers setup) (next_row bytes (raster_bytes before) k before) ∙ row_laid_by setup row here (lacks_row bytes k before h)
+      ∙ ap (λ (l : Mark). Laid l ∷ layers setup here) (mark_below setup bytes k before small less) in
+      subst (λ (l : List Layer). TakeAsMuch l (Laid (first_rows (suc k * d) m) ∷ layers setup before)) (sym is)
+      (record { laid = omega (arith, above.laid, suc-mul k d, deep); most = above.most; least = above.least })
 
   all_shown : (x y : ℕ) → page_dot (Laid m ∷ layers setup before) x y ≡ page_dot (Laid (first_rows (n * d) m) ∷ layers setup before) x y
   all_shown x y = ap (λ b. b || page_dot (layers setup before) x y)
@@ -186,12 +203,13 @@ module _ (setup : Setup) (bytes : List ℕ) (n : ℕ) (before : List EscItem) (s
       twice h t false b = refl
 
   -- rows that are laid as one mark are laid one by one
-  pub rows_laid : (page : List (List ℕ)) → HaveRows bytes n before → HasPage (Laid m ∷ layers setup before) page
+  pub rows_laid : (page : Paged) → HaveRows bytes n before → HasPage (Laid m ∷ layers setup before) page
       → HasPage (layers setup (bytes_after (take (n * raster_bytes before) bytes) before)) page
-  rows_laid page h has = same_page _ _ page (λ x y. all_shown x y ∙ sym (first_laid n (omega arith) h x y)) has
+  rows_laid page h has = let as_much = much n (omega arith) h in same_page _ _ page (λ x y. all_shown x y ∙ sym (first_laid n (omega arith) h x y))
+      (record { laid = sym as_much.laid; most = sym as_much.most; least = sym as_much.least }) has
 
 -- bytes within the row are kept, and leave the page as it is
-pub inside_on_page : (setup : Setup) (before : List EscItem) (s : Settings) (r now : Raster) (bytes : List ℕ) (page : List (List ℕ)) → length bytes ≤ room_of r → IsOnPage setup before s r page
+pub inside_on_page : (setup : Setup) (before : List EscItem) (s : Settings) (r now : Raster) (bytes : List ℕ) (page : Paged) → length bytes ≤ room_of r → IsOnPage setup before s r page
     → IsGathering now (bytes_after bytes before) → IsOnPage setup (bytes_after bytes before) s now page
 inside_on_page setup before s r now bytes page room h g =
     let in_row = run_inside r bytes before room h.raster in
@@ -202,7 +220,7 @@ inside_on_page setup before s r now bytes page room h g =
     }
 
 -- bytes that end the row lay it
-pub row_on_page : (setup : Setup) (before : List EscItem) (s t : Settings) (r now : Raster) (bytes : List ℕ) (page new : List (List ℕ)) → Lacks bytes before → IsOnPage setup before s r page
+pub row_on_page : (setup : Setup) (before : List EscItem) (s t : Settings) (r now : Raster) (bytes : List ℕ) (page new : Paged) → Lacks bytes before → IsOnPage setup before s r page
     → t ≡ below s (times_down r.scale) → IsGathering now (bytes_after bytes before) → HasPage (Laid (raster_mark setup before (row_so_far before ++ bytes)) ∷ layers setup before) new
     → IsOnPage setup (bytes_after bytes before) t now new
 row_on_page setup before s t r now bytes page new lacks h e g laid = record {
@@ -213,18 +231,18 @@ row_on_page setup before s t r now bytes page new lacks h e g laid = record {
 }
 
 -- whole rows are laid
-pub rows_on_page : (setup : Setup) (before : List EscItem) (s t : Settings) (r now : Raster) (bytes : List ℕ) (n : ℕ) (page new : List (List ℕ)) → s.page.vertical ≤ 65535 → IsFitPage s.page
+pub rows_on_page : (setup : Setup) (before : List EscItem) (s t : Settings) (r now : Raster) (bytes : List ℕ) (n : ℕ) (page new : Paged) → s.page.vertical ≤ 65535 → IsFitPage s.page
     → IsPartRow r → r.got ≡ 0 → n ≤ r.rows → n * r.bytes ≤ length bytes → IsOnPage setup before s r page → t ≡ below s (n * times_down r.scale)
     → IsGathering now (bytes_after (take (n * r.bytes) bytes) before)
-    → HasPage (Laid (mark_of s.page (rows_dot r.scale r.bytes n bytes)) ∷ layers setup before) new
+    → HasPage (Laid (mark_of s.page (n * times_down r.scale) (rows_dot r.scale r.bytes n bytes)) ∷ layers setup before) new
     → IsOnPage setup (bytes_after (take (n * r.bytes) bytes) before) t now new
 rows_on_page setup before s t r now bytes n page new small fit part begins few long h e g laid =
     let have = have_rows r n bytes before part begins few h.raster long in
     let low = subst (λ (q : Settings). q.page.vertical ≤ 65535) h.settings small in
-    let mark : mark_of s.page (rows_dot r.scale r.bytes n bytes) ≡ rows_mark setup bytes n before =
-    ap (λ (q : Settings). mark_of q.page (rows_dot r.scale r.bytes n bytes)) h.settings
-    ∙ ap (λ (k : RasterScale). mark_of (page_of setup before) (rows_dot k r.bytes n bytes)) h.raster.scale
-    ∙ ap (λ w. mark_of (page_of setup before) (rows_dot (raster_scale before) w n bytes)) h.raster.bytes in
+    let mark : mark_of s.page (n * times_down r.scale) (rows_dot r.scale r.bytes n bytes) ≡ rows_mark setup bytes n before =
+    ap (λ (q : Settings). mark_of q.page (n * times_down r.scale) (rows_dot r.scale r.bytes n bytes)) h.settings
+    ∙ ap (λ (k : RasterScale). mark_of (page_of setup before) (n * times_down k) (rows_dot k r.bytes n bytes)) h.raster.scale
+    ∙ ap (λ w. mark_of (page_of setup before) (n * times_down (raster_scale before)) (rows_dot (raster_scale before) w n bytes)) h.raster.bytes in
     record {
       settings = e ∙ ap (λ (q : Settings). below q (n * times_down r.scale)) h.settings ∙ ap (λ (k : RasterScale). below (settings_of setup before) (n * times_down k)) h.raster.scale
           ∙ sym (rows_below setup bytes n before low have) ∙ ap (λ w. settings_of setup (bytes_after (take (n * w) bytes) before)) (sym h.raster.bytes);
@@ -238,7 +256,7 @@ pub rest_whole : (bytes : List ℕ) (n : ℕ) → take (length bytes - n) (drop 
 rest_whole bytes n = take_all (length bytes - n) (drop n bytes) (omega (arith, length-drop n bytes))
 
 -- the bytes behind others
-pub rest_on_page : (setup : Setup) (before : List EscItem) (s : Settings) (r : Raster) (bytes : List ℕ) (n : ℕ) (page : List (List ℕ))
+pub rest_on_page : (setup : Setup) (before : List EscItem) (s : Settings) (r : Raster) (bytes : List ℕ) (n : ℕ) (page : Paged)
     → IsOnPage setup (bytes_after (take (length bytes - n) (drop n bytes)) (bytes_after (take n bytes) before)) s r page → IsOnPage setup (bytes_after bytes before) s r page
 rest_on_page setup before s r bytes n page h =
     subst (λ (items : List EscItem). IsOnPage setup items s r page)

@@ -1,5 +1,6 @@
 -- Rows of a raster that are printed as they come.
 use Rattle.std.proofs.Common.{inl, inr, ◌≡◌, ℕ, zero, suc, ◌+◌, ◌-◌, ◌*◌, ◌/◌, ◌<◌, ◌≤◌, ◌^◌, Bool, true, false, not, eqb, cond, nat_lt, nat_le, ◌&&◌, List, [], ◌∷◌, ◌++◌, length, take, drop, min, refl, sym, ap, subst, ◌∙◌, append_assoc, arith, get_or}
+use Rattle.vp_page.specs.Pages.{Paged}
 use Rattle.std.proofs.Math.Nat.{suc-mul, mul_comm, div-le_of_le-mul, div-mul-le_self, lt-div-mul-add, div-lt_iff_lt-mul, mul-le-mul_right, le_trans}
 use Rattle.std.proofs.Math.Seq.{take-add}
 use Rattle.std.proofs.lemmas.Bool.{cases_lt, and_parts, eqb-true}
@@ -258,7 +259,7 @@ mode_stays setup [] before = refl
 mode_stays setup (b ∷ bytes) before = ap (mode setup) (after_first b bytes before) ∙ mode_stays setup bytes (RasterByte b ∷ before)
 
 -- on paper no page is asked for
-pub no_page : (setup : Setup) (bytes : List ℕ) (before : List EscItem) (page : List (List ℕ)) → mode setup before ≡ Standard
+pub no_page : (setup : Setup) (bytes : List ℕ) (before : List EscItem) (page : Paged) → mode setup before ≡ Standard
     → HasPageIf (mode setup (bytes_after bytes before)) (layers setup (bytes_after bytes before)) page
 no_page setup bytes before page e =
     subst (λ (m : PrinterMode). HasPageIf m (layers setup (bytes_after bytes before)) page) (sym (mode_stays setup bytes before ∙ e)) tt

@@ -14,7 +14,7 @@ use Rattle.vp_strips.specs.Rows.{clipped, raster_dot, rows_text}
 use Rattle.vp_strips.proofs.Strips.{rows_same}
 use Rattle.vp_esc.specs.declared.item.RasterScale.{RasterScale}
 use Rattle.vp_page.specs.Layers.{Layer, Laid}
-use Rattle.vp_page.specs.Pages.{HasPage}
+use Rattle.vp_page.specs.Pages.{HasPage, Paged}
 use Rattle.vp_receipt_settings.specs.declared.page_mode.PageSettings.{PageSettings}
 use Rattle.vp_receipt.specs.PageMarks.{mark_of, raster_mark}
 use Rattle.vp_receipt_settings.specs.Rasters.{times_across, times_down, raster_scale}
@@ -42,11 +42,11 @@ laid_dots came kept across down k u w h l =
     ap (λ (xs : List ℕ). dot xs (u / across)) k ∙ dot_kept came (u / across) (let le = div-le_self u across in omega arith)
     ∙ sym (rw (lt-ltb w down l) refl)
 
-pub laid_row : (setup : Setup) (before : List EscItem) (s : Settings) (scale : RasterScale) (came kept : List ℕ) (layers : List Layer) (page : List (List ℕ)) → s ≡ settings_of setup before → scale ≡ raster_scale before
+pub laid_row : (setup : Setup) (before : List EscItem) (s : Settings) (scale : RasterScale) (came kept : List ℕ) (layers : List Layer) (page : Paged) → s ≡ settings_of setup before → scale ≡ raster_scale before
     → kept ≡ take LINE_BYTES came
-    → ((dots : ℕ → ℕ → Bool) → ((u w : ℕ) → u < LINE_DOTS → w < times_down scale → dot kept (u / times_across scale) ≡ dots u w) → ((u w : ℕ) → dots u w ≡ true → w < times_down scale) → HasPage (Laid (mark_of s.page dots) ∷ layers) page)
+    → ((dots : ℕ → ℕ → Bool) → ((u w : ℕ) → u < LINE_DOTS → w < times_down scale → dot kept (u / times_across scale) ≡ dots u w) → ((u w : ℕ) → dots u w ≡ true → w < times_down scale) → HasPage (Laid (mark_of s.page (times_down scale) dots) ∷ layers) page)
     → HasPage (Laid (raster_mark setup before came) ∷ layers) page
 laid_row setup before s scale came kept layers page e scale_is kept_is laid =
-    subst (λ (k : RasterScale). HasPage (Laid (mark_of (page_of setup before) (λ u w. nat_lt w (times_down k) && dot came (u / times_across k))) ∷ layers) page) scale_is
-    (subst (λ (p : PageSettings). HasPage (Laid (mark_of p (λ u w. nat_lt w (times_down scale) && dot came (u / times_across scale))) ∷ layers) page) (ap (λ (q : Settings). q.page) e)
+    subst (λ (k : RasterScale). HasPage (Laid (mark_of (page_of setup before) (times_down k) (λ u w. nat_lt w (times_down k) && dot came (u / times_across k))) ∷ layers) page) scale_is
+    (subst (λ (p : PageSettings). HasPage (Laid (mark_of p (times_down scale) (λ u w. nat_lt w (times_down scale) && dot came (u / times_across scale))) ∷ layers) page) (ap (λ (q : Settings). q.page) e)
     (laid (λ u w. nat_lt w (times_down scale) && dot came (u / times_across scale)) (laid_dots came kept (times_across scale) (times_down scale) kept_is) (λ u w h. ltb-true w (times_down scale) (and_parts _ _ h).0)))

@@ -3,7 +3,7 @@ use Rattle.std.proofs.Common.{◌≡◌, ℕ, true, refl, List, [], ◌∷◌, �
 use Rattle.vp_esc.specs.declared.item.EscItem.{EscItem}
 use Rattle.vp_esc.specs.declared.item.EscItem.TheVariants.{RasterByte}
 use Rattle.vp_page.specs.Layers.{Laid}
-use Rattle.vp_page.specs.Pages.{HasPage}
+use Rattle.vp_page.specs.Pages.{HasPage, Paged}
 use Rattle.vp_receipt_settings.specs.Setup.{Setup}
 use Rattle.vp_receipt_settings.specs.declared.page_mode.PrinterMode.TheVariants.{Standard, Page}
 use Rattle.vp_receipt_settings.specs.Line.{mode}
@@ -24,6 +24,6 @@ row_printed setup before byte e = rw e refl
 pub page_printed : (setup : Setup) (before : List EscItem) (byte : ℕ) → mode setup before ≡ Page → [] ≡ prints setup before (RasterByte byte)
 page_printed setup before byte e = rw e refl
 
-pub row_laid : (setup : Setup) (before : List EscItem) (byte : ℕ) (page : List (List ℕ)) → is_row_end before ≡ true → HasPage (Laid (raster_mark setup before (row_so_far before ++ byte ∷ [])) ∷ layers setup before) page
+pub row_laid : (setup : Setup) (before : List EscItem) (byte : ℕ) (page : Paged) → is_row_end before ≡ true → HasPage (Laid (raster_mark setup before (row_so_far before ++ byte ∷ [])) ∷ layers setup before) page
     → HasPageIf (mode setup (RasterByte byte ∷ before)) (layers setup (RasterByte byte ∷ before)) page
 row_laid setup before byte page ends h = has_page (mode setup (RasterByte byte ∷ before)) (layers setup (RasterByte byte ∷ before)) page (rw ends h)

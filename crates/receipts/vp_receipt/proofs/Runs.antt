@@ -1,5 +1,6 @@
 -- What bytes of a raster that don't end its row leave alone: the page, and what is printed.
 use Rattle.std.proofs.Common.{◌≡◌, ℕ, ◌+◌, ◌<◌, ◌≤◌, eqb, false, List, [], ◌∷◌, ◌++◌, length, refl, sym, ap, ◌∙◌, arith, length-append, subst, if◌then◌else◌}
+use Rattle.vp_page.specs.Pages.{Paged}
 use Rattle.std.proofs.lemmas.List.{append-nil}
 use Rattle.vp_esc.specs.declared.item.EscItem.{EscItem}
 use Rattle.vp_esc.specs.declared.item.EscItem.TheVariants.{RasterByte}
@@ -20,7 +21,7 @@ use Rattle.vp_receipt_settings.proofs.Runs.{after_first, AreInside, goes_on, ins
 pub layers_same : (setup : Setup) (b : ℕ) (before : List EscItem) → is_row_end before ≡ false → layers setup (RasterByte b ∷ before) ≡ layers setup before
 layers_same setup b before e = rw e refl
 
-pub page_stays : (setup : Setup) (bytes : List ℕ) (before : List EscItem) (page : List (List ℕ)) → AreInside bytes before → HasPageIf (mode setup before) (layers setup before) page
+pub page_stays : (setup : Setup) (bytes : List ℕ) (before : List EscItem) (page : Paged) → AreInside bytes before → HasPageIf (mode setup before) (layers setup before) page
     → HasPageIf (mode setup (bytes_after bytes before)) (layers setup (bytes_after bytes before)) page
 page_stays setup [] before page in_row h = h
 page_stays setup (b ∷ bytes) before page in_row h =

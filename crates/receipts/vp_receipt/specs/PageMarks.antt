@@ -20,9 +20,9 @@ use Rattle.vp_receipt_settings.specs.Symbols.{symbol_image}
 use Rattle.vp_esc.specs.declared.item.RasterScale.{RasterScale}
 use Rattle.vp_receipt_settings.specs.Rasters.{times_across, times_down, raster_scale, is_row_end, row_so_far, row_at}
 
--- dots with their top at the vertical position
-abbrev pub mark_of : PageSettings → (ℕ → ℕ → Bool) → Mark
-mark_of p dots = record { area = p.area; direction = p.direction; top = p.vertical; dot = dots }
+-- so many rows of dots with their top at the vertical position
+abbrev pub mark_of : PageSettings → ℕ → (ℕ → ℕ → Bool) → Mark
+mark_of p rows dots = record { area = p.area; direction = p.direction; top = p.vertical; high = rows; dot = dots }
 
 -- dot (u, w) of the line
 abbrev pub line_dot : List Placed → ℕ → ℕ → Bool
@@ -30,7 +30,7 @@ line_dot placed u w = nat_lt w (height placed) && any_dot placed (height placed)
 
 -- the line on a page: no margin, and no justification
 abbrev pub line_mark : Setup → List EscItem → Mark
-line_mark setup before = mark_of (page_of setup before) (line_dot (line setup before))
+line_mark setup before = mark_of (page_of setup before) (height (line setup before)) (line_dot (line setup before))
 
 -- a bitmap has these dots on the rows of the line
 pub record HasRows (s : Settings) (bitmap : List (List ℕ)) (dots : ℕ → ℕ → Bool) : Type 0 where
@@ -53,7 +53,7 @@ wiped_if wipes a layers = if wipes then Wiped a ∷ layers else layers
 -- GS v 0: a row of a raster, as often as its scale says, with its left at the start of the lines
 abbrev pub raster_mark : Setup → List EscItem → List ℕ → Mark
 raster_mark setup before row =
-    mark_of (page_of setup before)
+    mark_of (page_of setup before) (times_down (raster_scale before))
     (λ u w. nat_lt w (times_down (raster_scale before)) && dot row (u / times_across (raster_scale before)))
 
 -- dot (u, w) of `rows` rows of a raster, one below the other
@@ -63,17 +63,18 @@ rows_dot scale wide rows bytes u w =
     && dot (row_at bytes wide (w / times_down scale)) (u / times_across scale)
 
 -- GS k, GS ( k: a symbol, below the line that it ends
-abbrev pub symbol_mark : Setup → List EscItem → (ℕ → ℕ → Bool) → Mark
-symbol_mark setup before dots = record {
+abbrev pub symbol_mark : Setup → List EscItem → Image → Mark
+symbol_mark setup before image = record {
   area = area setup before;
   direction = direction before;
   top = symbol_top setup before;
-  dot = dots;
+  high = image.height;
+  dot = image.is_black;
 }
 
 abbrev pub symbol_mark_of : Setup → List EscItem → Option Image → Option Mark
 symbol_mark_of setup before None = None
-symbol_mark_of setup before (Some image) = Some (symbol_mark setup before image.is_black)
+symbol_mark_of setup before (Some image) = Some (symbol_mark setup before image)
 
 -- what an item lays that is no line
 abbrev pub own_mark : Setup → List EscItem → EscItem → Option Mark

@@ -10,7 +10,7 @@ use Rattle.vp_receipt_settings.specs.Symbols.{IsStored, qr_data}
 use Rattle.vp_receipt_settings.specs.Setup.{Setup}
 use Rattle.vp_receipt_settings.specs.Tabs.{tab_stops}
 use Rattle.vp_page.specs.Layers.{Layer}
-use Rattle.vp_page.specs.Pages.{HasPage}
+use Rattle.vp_page.specs.Pages.{HasPage, Paged}
 use Rattle.vp_receipt_settings.specs.declared.page_mode.PrinterMode.{PrinterMode}
 use Rattle.vp_receipt_settings.specs.declared.page_mode.PrinterMode.TheVariants.{Standard, Page}
 use Rattle.vp_receipt.specs.PageMarks.{layers}
@@ -34,7 +34,7 @@ pub record Printing : Type 0 where
   pub raster : Raster
   pub stored : Stored
   pub bitmap : List (List ℕ)
-  pub page : List (List ℕ)
+  pub page : Paged
   pub waiting : Option ℕ
   pub pending : List ℕ
   pub showing : Option Showing
@@ -46,7 +46,7 @@ Gathers sheets s bitmap None line = HasOpen line bitmap
 Gathers sheets s bitmap (Some code) line = line ≡ record { at = 0; image = image_of sheets s.text code } ∷ []
 
 -- in page mode the page has these layers
-abbrev pub HasPageIf : PrinterMode → List Layer → List (List ℕ) → Type 0
+abbrev pub HasPageIf : PrinterMode → List Layer → Paged → Type 0
 HasPageIf Standard layers page = Unit {0}
 HasPageIf Page layers page = HasPage layers page
 
@@ -65,11 +65,11 @@ pub record IsSettled (setup : Setup) (before : List EscItem) (s : Settings) (can
   pub page : HasPageIf (mode setup before) (layers setup before) canvas.page
 
 -- the settings, the raster that comes and the page are those after these items
-pub record IsOnPage (setup : Setup) (before : List EscItem) (s : Settings) (r : Raster) (rows : List (List ℕ))
+pub record IsOnPage (setup : Setup) (before : List EscItem) (s : Settings) (r : Raster) (paged : Paged)
     : Type 0 where
   pub settings : s ≡ settings_of setup before
   pub raster : IsGathering r before
-  pub page : HasPage (layers setup before) rows
+  pub page : HasPage (layers setup before) paged
 
 -- an item that is no byte of a raster, and draws no symbol
 pub record IsActing (item : EscItem) : Type 0 where

@@ -216,7 +216,7 @@ fn printed(s: &Settings, effect: Effect) -> Option<Job>
 fn lay_rows(s: &Settings, bitmap: &Bitmap, page: &mut Page)
     requires { IsFit s.now }
     ensures { (dots : ℕ → ℕ → Bool) (layers : List Layer) → HasRows s.now bitmap.now dots →
-        HasPage layers page.old → HasPage (Laid (mark_of s.now.page dots) ∷ layers) page.new }
+        HasPage layers page.old → HasPage (Laid (mark_of s.now.page s.now.height dots) ∷ layers) page.new }
 {
     let (area, direction) = (s.page.area, s.page.direction);
     let top = s.page.vertical as u32;
@@ -240,8 +240,8 @@ fn lay_more(
     requires few { length room.old ≤ AT_ONCE }
     requires inside { from + length room.old ≤ s.now.height }
     ensures { (dots : ℕ → ℕ → Bool) (layers : List Layer) → HasRows s.now bitmap.now dots →
-        HasPage (Laid (first_rows from (mark_of s.now.page dots)) ∷ layers) page.old →
-        HasPage (Laid (first_rows (from + length room.old) (mark_of s.now.page dots)) ∷ layers) page.new }
+        HasPage (Laid (first_rows from (mark_of s.now.page s.now.height dots)) ∷ layers) page.old →
+        HasPage (Laid (first_rows (from + length room.old) (mark_of s.now.page s.now.height dots)) ∷ layers) page.new }
 {
     bitmap.copy_rows(LINE_ROWS - usize::from(s.height) + from, room);
     let top = s.page.vertical as u32 + from as u32;
@@ -253,7 +253,7 @@ fn lay_low(s: &Settings, bitmap: &Bitmap, page: &mut Page)
     requires fit { IsFit s.now }
     requires low { s.now.height ≤ WORDS }
     ensures { (dots : ℕ → ℕ → Bool) (layers : List Layer) → HasRows s.now bitmap.now dots →
-        HasPage layers page.old → HasPage (Laid (mark_of s.now.page dots) ∷ layers) page.new }
+        HasPage layers page.old → HasPage (Laid (mark_of s.now.page s.now.height dots) ∷ layers) page.new }
 {
     let mut room = [[0; LINE_BYTES]; WORDS];
     lay_more(s, 0, bitmap, &mut room[..usize::from(s.height)], page);
@@ -263,7 +263,7 @@ fn lay_low(s: &Settings, bitmap: &Bitmap, page: &mut Page)
 fn lay_high(s: &Settings, bitmap: &Bitmap, page: &mut Page)
     requires { IsFit s.now }
     ensures { (dots : ℕ → ℕ → Bool) (layers : List Layer) → HasRows s.now bitmap.now dots →
-        HasPage layers page.old → HasPage (Laid (mark_of s.now.page dots) ∷ layers) page.new }
+        HasPage layers page.old → HasPage (Laid (mark_of s.now.page s.now.height dots) ∷ layers) page.new }
 {
     let height = usize::from(s.height);
     let mut room = [[0; LINE_BYTES]; AT_ONCE];
@@ -279,7 +279,7 @@ fn lay_high(s: &Settings, bitmap: &Bitmap, page: &mut Page)
 fn lay_at_once(s: &Settings, bitmap: &Bitmap, page: &mut Page)
     requires { IsFit s.now }
     ensures { (dots : ℕ → ℕ → Bool) (layers : List Layer) → HasRows s.now bitmap.now dots →
-        HasPage layers page.old → HasPage (Laid (mark_of s.now.page dots) ∷ layers) page.new }
+        HasPage layers page.old → HasPage (Laid (mark_of s.now.page s.now.height dots) ∷ layers) page.new }
 {
     if usize::from(s.height) <= WORDS {
         lay_low(s, bitmap, page);
@@ -292,7 +292,7 @@ fn lay_at_once(s: &Settings, bitmap: &Bitmap, page: &mut Page)
 fn lay_line(s: &Settings, bitmap: &Bitmap, page: &mut Page)
     requires { IsFit s.now }
     ensures { (dots : ℕ → ℕ → Bool) (layers : List Layer) → HasRows s.now bitmap.now dots →
-        HasPage layers page.old → HasPage (Laid (mark_of s.now.page dots) ∷ layers) page.new }
+        HasPage layers page.old → HasPage (Laid (mark_of s.now.page s.now.height dots) ∷ layers) page.new }
 {
     match s.page.direction {
         Direction::LeftToRight | Direction::RightToLeft => lay_rows(s, bitmap, page),

@@ -7,6 +7,7 @@ ghost use Rattle.vp_receipt_settings.specs.Setup.{Setup, across};
 ghost use Rattle.vp_receipt_settings.specs.Rasters.{raster_bytes, rows_to_come, row_so_far, bytes_after};
 ghost use Rattle.vp_receipt.specs.Images.{images, begun, AreAcross};
 ghost use Rattle.vp_receipt.specs.Strips.{own_strips, printed, raster_row_text};
+ghost use Rattle.vp_receipt.specs.Work.{AddsAtMost};
 
 use vp_esc::laws::one_reading;
 
@@ -26,6 +27,12 @@ pub fn a_row_is_its_bytes()
     ensures fewer { (before : List EscItem) (row : List ℕ) (byte : ℕ) → row_so_far before ≡ [] →
         0 < rows_to_come before → length row + 1 ≡ raster_bytes before →
         rows_to_come (EscItem.RasterByte byte ∷ bytes_after row before) + 1 ≡ rows_to_come before }
+{}
+
+/// A law: what an item adds to the work of a page is at most the rows of the line that it ends, of its own
+/// symbol or row of a raster, and for CAN of the area.
+pub fn an_item_adds_at_most()
+    ensures { AddsAtMost }
 {}
 
 /// A law: what the items of bytes print is images, one after the other, each as wide as the paper and of a

@@ -12,6 +12,6 @@ mod raster_page;
 mod raster_paper;
 mod receipt;
 
-pub use laws::{a_row_is_its_bytes, what_is_printed_is_images};
+pub use laws::{a_row_is_its_bytes, an_item_adds_at_most, what_is_printed_is_images};
 pub use receipt::Receipt;
 pub use vp_receipt_settings::Width;

@@ -27,8 +27,8 @@ fn lay_times(p: PageSettings, row: &[u8], at: u32, times: u32, page: &mut Page)
     requires few { times ≤ 2 }
     ensures { (dots : ℕ → ℕ → Bool) (layers : List Layer) →
         ((u w : ℕ) → u < LINE_DOTS → w < times → dot row.now u ≡ dots u (at + w)) →
-        HasPage (Laid (first_rows at (mark_of p dots)) ∷ layers) page.old →
-        HasPage (Laid (first_rows (at + times) (mark_of p dots)) ∷ layers) page.new }
+        HasPage (Laid (first_rows at (mark_of p 0 dots)) ∷ layers) page.old →
+        HasPage (Laid (first_rows (at + times) (mark_of p 0 dots)) ∷ layers) page.new }
 {
     let top = p.vertical as u32 + at;
     for y in 0..times {
@@ -43,8 +43,8 @@ fn lay_scaled(p: PageSettings, scale: RasterScale, row: &[u8], at: u32, page: &m
     requires near { at ≤ 131070 }
     ensures { (dots : ℕ → ℕ → Bool) (layers : List Layer) → ((u w : ℕ) → u < LINE_DOTS →
         w < times_down scale → dot row.now (u / times_across scale) ≡ dots u (at + w)) →
-        HasPage (Laid (first_rows at (mark_of p dots)) ∷ layers) page.old →
-        HasPage (Laid (first_rows (at + times_down scale) (mark_of p dots)) ∷ layers) page.new }
+        HasPage (Laid (first_rows at (mark_of p 0 dots)) ∷ layers) page.old →
+        HasPage (Laid (first_rows (at + times_down scale) (mark_of p 0 dots)) ∷ layers) page.new }
 {
     let times = times_down(scale);
     if times_across(scale) == 1 {
@@ -71,7 +71,7 @@ fn lay_each(p: PageSettings, raster: &Raster, bytes: &[u8], rows: usize, page: &
     requires few { rows ≤ 65535 }
     requires long { rows * raster.now.bytes ≤ length bytes.now }
     ensures { (layers : List Layer) → HasPage layers page.old →
-        HasPage (Laid (mark_of p (rows_dot raster.now.scale raster.now.bytes rows bytes.now))
+        HasPage (Laid (mark_of p (rows * times_down raster.now.scale) (rows_dot raster.now.scale raster.now.bytes rows bytes.now))
         ∷ layers) page.new }
 {
     let wide = usize::from(raster.bytes);
@@ -118,7 +118,7 @@ fn lay_across(p: PageSettings, raster: &Raster, bytes: &[u8], rows: usize, page:
     requires few { rows ≤ 65535 }
     requires long { rows * raster.now.bytes ≤ length bytes.now }
     ensures { (layers : List Layer) → HasPage layers page.old →
-        HasPage (Laid (mark_of p (rows_dot raster.now.scale raster.now.bytes rows bytes.now))
+        HasPage (Laid (mark_of p (rows * times_down raster.now.scale) (rows_dot raster.now.scale raster.now.bytes rows bytes.now))
         ∷ layers) page.new }
 {
     let wide = usize::from(raster.bytes);
@@ -126,7 +126,8 @@ fn lay_across(p: PageSettings, raster: &Raster, bytes: &[u8], rows: usize, page:
     for k in 0..rows.div_ceil(AT_ONCE) {
         let lines = rows_from(bytes, wide, AT_ONCE * k, rows);
         let v = top + (AT_ONCE * k) as u32;
-        page.lay_lines(p.area, p.direction, v, &lines);
+        let few = (rows - AT_ONCE * k).min(AT_ONCE);
+        page.lay_lines(p.area, p.direction, v, &lines[..few]);
     }
 }
 
@@ -136,12 +137,16 @@ fn lay_rows(p: PageSettings, raster: &Raster, bytes: &[u8], rows: usize, page: &
     requires few { rows ≤ 65535 }
     requires long { rows * raster.now.bytes ≤ length bytes.now }
     ensures { (layers : List Layer) → HasPage layers page.old →
-        HasPage (Laid (mark_of p (rows_dot raster.now.scale raster.now.bytes rows bytes.now))
+        HasPage (Laid (mark_of p (rows * times_down raster.now.scale) (rows_dot raster.now.scale raster.now.bytes rows bytes.now))
         ∷ layers) page.new }
 {
     let across = matches!(p.direction, Direction::BottomToTop | Direction::TopToBottom);
+    let wide = usize::from(raster.bytes);
     match raster.scale {
         RasterScale::Normal if across => lay_across(p, raster, bytes, rows, page),
+        RasterScale::Normal if wide <= LINE_BYTES => {
+            page.lay_rows(p.area, p.direction, p.vertical as u32, wide, rows, bytes)
+        }
         _ => lay_each(p, raster, bytes, rows, page),
     }
 }

@@ -14,6 +14,9 @@ ghost use Rattle.vp_page.specs.declared.page.TheConstants.{PAGE_ROWS};
 ghost use Rattle.vp_receipt_settings.specs.declared.text.TheConstants.{LINE_ROWS};
 ghost use Rattle.vp_receipt.specs.Strips.{prints, printed, refusal, is_at_rest, line_rows_after, page_rows_after};
 ghost use Rattle.vp_receipt.specs.Standing.{Stands, IsActing};
+ghost use Rattle.vp_receipt.specs.Work.{most_work, least_work};
+ghost use Rattle.vp_page.specs.Work.{MOST};
+ghost use Rattle.vp_receipt_settings.specs.declared.page_mode.PrinterMode.{PrinterMode};
 ghost use Rattle.vp_receipt.specs.Plain.{rows_room, rows_put};
 ghost use Rattle.vp_receipt_settings.specs.Effects.{effect_of};
 ghost use Rattle.vp_receipt_settings.specs.Gathering.{run_of};
@@ -348,6 +351,18 @@ impl Receipt {
         ensures most { result ≤ LINE_ROWS }
     {
         self.job.line_rows().unwrap_or(self.settings.height)
+    }
+
+    /// How many rows of dots were laid on the page, and made white, since ESC L began it.
+    pub fn work(&self) -> u64
+        ensures value { result ≡ min (self.now.page.laid + self.now.page.wiped) MOST }
+        ensures at_most { (setup : Setup) (before : List EscItem) → Stands setup self.now before →
+            mode setup before ≡ PrinterMode.Page → result ≤ most_work setup before }
+        ensures at_least { (setup : Setup) (before : List EscItem) → Stands setup self.now before →
+            mode setup before ≡ PrinterMode.Page → min (least_work setup before) MOST ≤ result }
+    {
+        let page = &self.canvas.page;
+        page.rows_laid().saturating_add(page.rows_wiped())
     }
 
     /// The rows of the page that is held: all of them in page mode and while bytes of a page are still to be

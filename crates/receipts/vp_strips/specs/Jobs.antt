@@ -34,7 +34,7 @@ dot_in (Line height left length) canvas x y = line_dot_of height left length can
 dot_in White canvas x y = false
 dot_in (Across cut) canvas x y = cut_dot cut x
 dot_in Raster canvas x y = dot canvas.raster_row x
-dot_in Page canvas x y = page_dot_of canvas.page x y
+dot_in Page canvas x y = page_dot_of canvas.page.rows x y
 dot_in (Drawn left length) canvas x y =
     clipped left length (λ u. symbol_dot canvas.sheets canvas.symbol u y) x
 

@@ -19,7 +19,7 @@ use vp_receipt_settings::{LINE_ROWS, Width};
 /// The bytes of a row of the page, as far as the paper goes.
 fn page_row(paper: Width, y: usize, page: &Page) -> &[u8]
     requires { y < PAGE_ROWS }
-    ensures { result.now ≡ paper_row paper (λ x. page_dot_of page.now x y) }
+    ensures { result.now ≡ paper_row paper (λ x. page_dot_of page.now.rows x y) }
 {
     let row = page.row(y);
     dots_decide(row);
@@ -38,7 +38,7 @@ fn copy_row(row: &[u8], room: &mut [u8])
 fn copy_page_rows(paper: Width, y: usize, rows: usize, page: &Page, room: &mut [u8])
     requires inside { 0 < rows → y + rows ≤ PAGE_ROWS }
     requires fits { rows * row_bytes paper ≤ length room.old }
-    ensures { room.new ≡ rows_text paper (page_dot_of page.now) y rows
+    ensures { room.new ≡ rows_text paper (page_dot_of page.now.rows) y rows
         ++ drop (rows * row_bytes paper) room.old }
 {
     let bytes = paper.row_bytes();

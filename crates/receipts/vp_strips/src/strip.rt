@@ -96,7 +96,7 @@ fn write_line_row(
 
 /// Writes a row of the page, or a white one past them.
 fn write_page_row(y: u32, page: &Page, row: &mut [u8; PAPER_BYTES])
-    ensures { row.new ≡ row_of PAPER_BYTES (λ x. page_dot_of page.now x y) }
+    ensures { row.new ≡ row_of PAPER_BYTES (λ x. page_dot_of page.now.rows x y) }
 {
     if (y as usize) < PAGE_ROWS {
         row.copy_from_slice(page.row(y as usize));

@@ -75,9 +75,13 @@ impl Symbol {
     pub fn lay(&self, sheets: &Sheets, area: Area, direction: Direction, top: u16, page: &mut Page)
         requires { symbol_width sheets.now self.now ≤ LINE_DOTS }
         ensures { (layers : List Layer) → HasPage layers page.old →
-            HasPage (Laid
-            (record { area = area; direction = direction; top = top; dot = symbol_dot sheets.now self.now })
-            ∷ layers) page.new }
+            HasPage (Laid (record {
+                area = area;
+                direction = direction;
+                top = top;
+                high = symbol_height sheets.now self.now;
+                dot = symbol_dot sheets.now self.now;
+            }) ∷ layers) page.new }
     {
         let top = u32::from(top);
         match self {

@@ -17,5 +17,5 @@ loop-k-preserved c = λ dots layers rows page.
 
 pub returns : goal.returns
 returns c = λ dots layers rows page.
-    rows_make_an_image.all (mark_of c.args.s.now.page dots) (min (64 * c.loop-k.k) c.from-height.result) layers _
-    (λ u w e k. let h = rows.high u w e in omega (arith, h, c.from-height.ensures)) (c.loop-k.invariant dots layers rows page)
+    rows_make_an_image.all (mark_of c.args.s.now.page c.args.s.now.height dots) (min (64 * c.loop-k.k) c.from-height.result) layers _
+    (λ u w e k. let h = rows.high u w e in omega (arith, h, c.from-height.ensures)) (omega (arith, c.from-height.ensures)) (c.loop-k.invariant dots layers rows page)

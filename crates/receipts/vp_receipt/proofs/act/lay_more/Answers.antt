@@ -13,7 +13,7 @@ returns c = λ dots layers rows page.
     let s = c.args.s.now in
     let lines = c.copy_rows.new.rows in
     let short = length_small s.page.area s.page.direction c.requires.fit.page.across c.requires.fit.page.down in
-    lines_more (mark_of s.page dots) c.args.from (length c.args.room.now) lines layers c.lay_lines.new.self c.requires.few (omega (arith, c.copy_rows.ensures.len))
+    lines_more (mark_of s.page s.height dots) c.args.from (length c.args.room.now) lines layers c.lay_lines.new.self c.requires.few (omega (arith, c.copy_rows.ensures.len))
     (λ u w h l.
     let shown : u < LINE_DOTS = omega (arith, h, short) in
     let place : LINE_ROWS - c.from.result + c.args.from + w ≡ LINE_ROWS - s.height + (c.args.from + w) = omega (arith, c.from.ensures) in

@@ -1,4 +1,6 @@
-use Rattle.std.proofs.Common.{◌≡◌, ◌+◌, ◌*◌, ◌<◌, ◌&&◌, ◌∷◌, ltb, ap, ◌∙◌, subst, length, arith, rules}
+use Rattle.std.proofs.Common.{◌≡◌, ◌+◌, ◌*◌, ◌<◌, ◌&&◌, ◌∷◌, ltb, min, take, ap, ◌∙◌, subst, length, arith, rules}
+use Rattle.std.proofs.lemmas.List.{length-take}
+use Rattle.vp_page.proofs.Marks.{shown_line}
 use Rattle.std.proofs.lemmas.Bool.{ltb-true, lt-ltb, and_parts}
 use Rattle.vp_dots.specs.Dots.{dot}
 use Rattle.vp_esc.specs.declared.item.RasterScale.{RasterScale}
@@ -13,30 +15,38 @@ use Rattle.vp_receipt.proofs.PageLines.{length_small}
 use Rattle.vp_receipt.proofs.raster_page.lay_across.Goals as goal
 
 pub loop-k-init : goal.loop-k-init
-loop-k-init c = λ layers page. rows_make_an_image.none _ layers _ page
+loop-k-init c = λ layers page.
+    let r = c.args.raster.now in
+    let m = mark_of c.args.p (c.args.rows * times_down r.scale) (rows_dot r.scale r.bytes c.args.rows c.args.bytes.now) in
+    let none : 0 ≡ min (64 * 0) c.args.rows = omega arith in
+    subst (λ n. HasPage (Laid (first_rows n m) ∷ layers) c.args.page.now) none (rows_make_an_image.none m layers _ page)
 
 pub loop-k-preserved : goal.loop-k-preserved
 loop-k-preserved c = λ layers page.
     let r = c.args.raster.now in
     let p = c.args.p in
     let bytes = c.args.bytes.now in
-    let m = mark_of p (rows_dot r.scale r.bytes c.args.rows bytes) in
+    let m = mark_of p (c.args.rows * times_down r.scale) (rows_dot r.scale r.bytes c.args.rows bytes) in
     let k = c.loop-k.k in
+    let n = c.min-few.result in
+    let lines = c.rows_from-lines.result in
     let short = length_small p.area p.direction c.requires.fit.across c.requires.fit.down in
-    let whole : length c.rows_from-lines.result ≡ 64 = search rules in
-    let next : 64 * k + 64 ≡ 64 * (k + 1) = omega arith in
+    let whole : length lines ≡ 64 = search rules in
+    let long : length (take n lines) ≡ n = omega (arith, length-take n lines, whole) in
+    let here : min (64 * k) c.args.rows ≡ 64 * k = omega arith in
+    let next : 64 * k + n ≡ min (64 * (k + 1)) c.args.rows = omega arith in
     subst (λ n. HasPage (Laid (first_rows n m) ∷ layers) c.lay_lines.new.self) next
-    (lines_more m (64 * k) 64 c.rows_from-lines.result layers c.lay_lines.new.self (omega arith) (omega (arith, whole))
-    (λ u w h l. let shown : u < LINE_DOTS = omega (arith, h, short) in rw (lt-ltb u LINE_DOTS shown) (c.rows_from-lines.ensures w u l shown
+    (lines_more m (64 * k) n (take n lines) layers c.lay_lines.new.self (omega arith) long
+    (λ u w h l. let shown : u < LINE_DOTS = omega (arith, h, short) in shown_line lines n w u ∙ rw (lt-ltb w n l, lt-ltb u LINE_DOTS shown) (c.rows_from-lines.ensures w u (omega (arith, l)) shown
     ∙ ap (λ x. ltb (64 * k + w) c.args.rows && dot (row_at bytes x (64 * k + w)) u) c.from-wide.ensures
     ∙ once_dots r.scale r.bytes c.args.rows bytes (64 * k + w) u c.requires.once))
-    (c.lay_lines.ensures _ (c.loop-k.invariant layers page)))
+    (c.lay_lines.ensures _ (subst (λ n. HasPage (Laid (first_rows n m) ∷ layers) c.loop-k.page) here (c.loop-k.invariant layers page))))
 
 pub returns : goal.returns
 returns c = λ layers page.
     let r = c.args.raster.now in
-    let m = mark_of c.args.p (rows_dot r.scale r.bytes c.args.rows c.args.bytes.now) in
+    let m = mark_of c.args.p (c.args.rows * times_down r.scale) (rows_dot r.scale r.bytes c.args.rows c.args.bytes.now) in
     let once : c.args.rows * times_down r.scale ≡ c.args.rows * 1 = ap (λ (k : RasterScale). c.args.rows * times_down k) c.requires.once in
-    rows_make_an_image.all m (64 * c.loop-k.k) layers _ (λ u w e k.
+    rows_make_an_image.all m (min (64 * c.loop-k.k) c.args.rows) layers _ (λ u w e k.
     let above = ltb-true w (c.args.rows * times_down r.scale) (and_parts _ _ e).0 in
-    omega (arith, above, once)) (c.loop-k.invariant layers page)
+    omega (arith, above, once)) (omega (arith, once)) (c.loop-k.invariant layers page)

@@ -1,4 +1,4 @@
-use Rattle.std.proofs.Common.{◌*◌, List, ◌∷◌}
+use Rattle.std.proofs.Common.{◌*◌, min, List, ◌∷◌}
 use Rattle.vp_page.specs.Layers.{Layer, Laid, first_rows}
 use Rattle.vp_page.specs.Pages.{HasPage}
 use Rattle.vp_receipt.specs.PageMarks.{mark_of, rows_dot}
@@ -7,5 +7,5 @@ use Rattle.vp_receipt.proofs.raster_page.lay_across.Given as goal
 -- the rows above these are laid
 abbrev pub invariant-loop-k : goal.invariant-loop-k
 invariant-loop-k l =
-    let m = mark_of l.fn.p (rows_dot l.fn.raster.scale l.fn.raster.bytes l.fn.rows l.fn.bytes) in
-    (layers : List Layer) → HasPage layers l.fn.page → HasPage (Laid (first_rows (64 * l.k) m) ∷ layers) l.page
+    let m = mark_of l.fn.p (l.fn.rows * times_down l.fn.raster.scale) (rows_dot l.fn.raster.scale l.fn.raster.bytes l.fn.rows l.fn.bytes) in
+    (layers : List Layer) → HasPage layers l.fn.page → HasPage (Laid (first_rows (min (64 * l.k) l.fn.rows) m) ∷ layers) l.page

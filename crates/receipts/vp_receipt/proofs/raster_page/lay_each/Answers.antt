@@ -14,7 +14,7 @@ use Rattle.vp_receipt.proofs.raster_page.lay_each.Goals as goal
 pub loop-k-init : goal.loop-k-init
 loop-k-init c = λ layers page.
     let r = c.args.raster.now in
-    let m = mark_of c.args.p (rows_dot r.scale r.bytes c.args.rows c.args.bytes.now) in
+    let m = mark_of c.args.p (c.args.rows * times_down r.scale) (rows_dot r.scale r.bytes c.args.rows c.args.bytes.now) in
     let none : 0 ≡ 0 * times_down r.scale = omega arith in
     subst (λ n. HasPage (Laid (first_rows n m) ∷ layers) c.args.page.now) none (rows_make_an_image.none m layers _ page)
 
@@ -22,7 +22,7 @@ pub loop-k-preserved : goal.loop-k-preserved
 loop-k-preserved c = λ layers page.
     let r = c.args.raster.now in
     let dots = rows_dot r.scale r.bytes c.args.rows c.args.bytes.now in
-    let m = mark_of c.args.p dots in
+    let m = mark_of c.args.p (c.args.rows * times_down r.scale) dots in
     let k = c.loop-k.k in
     let d = times_down r.scale in
     let at : k * c.times_down-times.result ≡ k * d = ap (λ t. k * t) c.times_down-times.ensures.value in
@@ -41,8 +41,9 @@ pub returns : goal.returns
 returns c = λ layers page.
     let r = c.args.raster.now in
     let dots = rows_dot r.scale r.bytes c.args.rows c.args.bytes.now in
-    let m = mark_of c.args.p dots in
+    let m = mark_of c.args.p (c.args.rows * times_down r.scale) dots in
+    let same : c.loop-k.k * times_down r.scale ≡ c.args.rows * times_down r.scale = ap (λ n. n * times_down r.scale) (omega arith) in
     rows_make_an_image.all m (c.loop-k.k * times_down r.scale) layers _ (λ u w e k.
     let above = ltb-true w (c.args.rows * times_down r.scale) (and_parts _ _ e).0 in
     let all = mul-le-mul_right (times_down r.scale) c.loop-k-test.false in
-    omega (arith, above, all)) (c.loop-k.invariant layers page)
+    omega (arith, above, all)) (omega (arith, same)) (c.loop-k.invariant layers page)

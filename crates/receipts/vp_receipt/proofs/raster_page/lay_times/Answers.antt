@@ -10,12 +10,12 @@ use Rattle.vp_receipt.proofs.raster_page.lay_times.Goals as goal
 pub loop-y-init : goal.loop-y-init
 loop-y-init c = λ dots layers same page.
     let none : c.args.at ≡ c.args.at + 0 = omega arith in
-    subst (λ n. HasPage (Laid (first_rows n (mark_of c.args.p dots)) ∷ layers) c.args.page.now) none page
+    subst (λ n. HasPage (Laid (first_rows n (mark_of c.args.p 0 dots)) ∷ layers) c.args.page.now) none page
 
 pub loop-y-preserved : goal.loop-y-preserved
 loop-y-preserved c = λ dots layers same page.
     let p = c.args.p in
-    let m = mark_of p dots in
+    let m = mark_of p 0 dots in
     let y = c.loop-y.y in
     let long = length_small p.area p.direction c.requires.fit.across c.requires.fit.down in
     let below : p.vertical + c.args.at + y ≡ p.vertical + (c.args.at + y) = omega arith in

@@ -6,4 +6,4 @@ use Rattle.vp_page.proofs.page.Page.lay_along.Given as goal
 -- the lines above this one are laid
 abbrev pub invariant-loop-line : goal.invariant-loop-line
 invariant-loop-line g l = (layers : List Layer) → HasPage layers l.fn.self
-    → HasPage (Laid (first_rows l.line (record { area = l.fn.area; direction = l.fn.direction; top = l.fn.top; dot = g.I.Ink.ink_at l.fn.ink })) ∷ layers) l.self
+    → HasPage (Laid (first_rows l.line (record { area = l.fn.area; direction = l.fn.direction; top = l.fn.top; high = g.I.Ink.height l.fn.ink; dot = g.I.Ink.ink_at l.fn.ink })) ∷ layers) l.self

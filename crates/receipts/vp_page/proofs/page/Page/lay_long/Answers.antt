@@ -23,8 +23,8 @@ returns-in-BottomToTop c = λ layers page.
     let room : c.from-depth.result ≡ a.dx = c.from-depth.ensures ∙ c.depth.ensures ∙ ap (depth a) c.in-BottomToTop.is in
     let deep : v < a.dx = omega (arith, c.if-v-depth.false, room) in
     rw c.in-BottomToTop.is (laid layers _ _ _ (subst (HasPage layers) (sym c.self.view_is) page) (lines_mark a BottomToTop v lines)
-    (λ x y h k. up_mark a v lines (line_dot (take c.min.result lines)) x y deep (λ i d l. shown_line lines c.min.result i d ∙ rw (le-ltb i c.min.result (omega (arith, c.min.ensures, l))) refl) (λ i d l. shown_lines lines c.min.result (a.dx - v) i d (omega (arith, c.min.ensures, room))))
-    (rw c.from-left.ensures at c.lay_lines_up.ensures))
+    (λ x y h k. up_mark a v lines (line_dot (take c.min-shown.result lines)) x y deep (λ i d l. shown_line lines c.min-shown.result i d ∙ rw (le-ltb i c.min-shown.result (omega (arith, c.min-shown.ensures, l))) refl) (λ i d l. shown_lines lines c.min-shown.result (a.dx - v) i d (omega (arith, c.min-shown.ensures, room))))
+    (rw c.from-left.ensures at c.lay_lines_up.ensures) (omega (arith, c.saturating_add-count.ensures, c.min-shown.ensures, room)) refl)
 
 pub returns-in-TopToBottom : goal.returns-in-TopToBottom
 returns-in-TopToBottom c = λ layers page.
@@ -33,16 +33,16 @@ returns-in-TopToBottom c = λ layers page.
     let lines = c.args.lines.now in
     let room : c.from-depth.result ≡ a.dx = c.from-depth.ensures ∙ c.depth.ensures ∙ ap (depth a) c.in-TopToBottom.is in
     let deep : v < a.dx = omega (arith, c.if-v-depth.false, room) in
-    rw c.in-TopToBottom.is (laid layers _ _ _ (subst (HasPage layers) (sym c.self-in-TopToBottom.view_is) page) (lines_mark a TopToBottom v lines)
-    (λ x y h k. down_mark a v lines (line_dot (take c.min-in-TopToBottom.result lines)) x y deep (λ i d l. shown_line lines c.min-in-TopToBottom.result i d ∙ rw (le-ltb i c.min-in-TopToBottom.result (omega (arith, c.min-in-TopToBottom.ensures, l))) refl) (λ i d l. shown_lines lines c.min-in-TopToBottom.result (a.dx - v) i d (omega (arith, c.min-in-TopToBottom.ensures, room))))
-    (rw (c.from-left.ensures, room) at c.lay_lines_down.ensures))
+    rw c.in-TopToBottom.is (laid layers _ _ _ (subst (HasPage layers) (sym c.self.view_is) page) (lines_mark a TopToBottom v lines)
+    (λ x y h k. down_mark a v lines (line_dot (take c.min-shown.result lines)) x y deep (λ i d l. shown_line lines c.min-shown.result i d ∙ rw (le-ltb i c.min-shown.result (omega (arith, c.min-shown.ensures, l))) refl) (λ i d l. shown_lines lines c.min-shown.result (a.dx - v) i d (omega (arith, c.min-shown.ensures, room))))
+    (rw (c.from-left.ensures, room) at c.lay_lines_down.ensures) (omega (arith, c.saturating_add-count.ensures, c.min-shown.ensures, room)) refl)
 
 pub invariant_of-self : goal.invariant_of-self
 invariant_of-self c = laid_on _ c.self.inside.laid _ _ c.self.inside.band _ c.self.invariant c.lay_lines_up.ensures c.with-self-inside.ensures.within c.with-self-inside.ensures.these
     (λ x y h e. c.with-self-inside.ensures.others y h (rw c.of.ensures (up_rows c.args.area.y c.args.area.dy y _ e)))
 
 pub invariant_of-self-in-TopToBottom : goal.invariant_of-self-in-TopToBottom
-invariant_of-self-in-TopToBottom c = laid_on _ c.self-in-TopToBottom.inside.laid _ _ c.self-in-TopToBottom.inside.band _ c.self-in-TopToBottom.invariant c.lay_lines_down.ensures c.with-self-inside-in-TopToBottom.ensures.within c.with-self-inside-in-TopToBottom.ensures.these
+invariant_of-self-in-TopToBottom c = laid_on _ c.self.inside.laid _ _ c.self.inside.band _ c.self.invariant c.lay_lines_down.ensures c.with-self-inside-in-TopToBottom.ensures.within c.with-self-inside-in-TopToBottom.ensures.these
     (λ x y h e. c.with-self-inside-in-TopToBottom.ensures.others y h (rw c.of-in-TopToBottom.ensures (down_rows c.args.area.y c.args.area.dy y _ e)))
 
 pub lay_lines_up-requires-clause-white : goal.lay_lines_up-requires-clause-white
@@ -54,4 +54,4 @@ lay_lines_down-requires-clause-white c = λ i u h. shown_white c.args.lines.now 
 pub returns-after-loop-i : goal.returns-after-loop-i
 returns-after-loop-i c = λ layers page.
     rows_make_an_image.all (lines_mark c.args.area c.args.direction c.args.v c.args.lines.now) c.loop-i.i layers _
-    (λ u w e k. line_there c.args.lines.now w u c.loop-i.i (omega arith) e) (c.loop-i.invariant layers page)
+    (λ u w e k. line_there c.args.lines.now w u c.loop-i.i (omega arith) e) (omega arith) (c.loop-i.invariant layers page)

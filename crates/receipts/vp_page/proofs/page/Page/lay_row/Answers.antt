@@ -1,4 +1,4 @@
-use Rattle.std.proofs.Common.{◌<◌, ◌∙◌, ap, sym, subst, arith}
+use Rattle.std.proofs.Common.{◌<◌, ◌∙◌, ap, refl, sym, subst, arith}
 use Rattle.vp_dots.specs.Dots.{dot}
 use Rattle.vp_page.specs.Areas.{depth}
 use Rattle.vp_page.specs.Layers.{row_mark}
@@ -22,7 +22,7 @@ returns-in-LeftToRight c = λ layers page.
     let a = c.args.area in
     let row = dot c.args.row.now in
     let deep : c.args.v < a.dy = omega (arith, c.if-v-from.false, c.from.ensures ∙ c.depth.ensures ∙ ap (depth a) c.in-LeftToRight.is) in
-    rw c.in-LeftToRight.is (laid layers _ _ _ (subst (HasPage layers) (sym c.self.view_is) page) (row_mark a LeftToRight c.args.v row) (λ x y h k. right_same a c.args.v row deep x y) c.lay_right.ensures)
+    rw c.in-LeftToRight.is (laid layers _ _ _ (subst (HasPage layers) (sym c.self.view_is) page) (row_mark a LeftToRight c.args.v row) (λ x y h k. right_same a c.args.v row deep x y) c.lay_right.ensures (omega (arith, deep, c.saturating_add-self-inside.ensures)) refl)
 
 pub invariant_of-self-in-BottomToTop : goal.invariant_of-self-in-BottomToTop
 invariant_of-self-in-BottomToTop c =
@@ -37,7 +37,7 @@ returns-in-BottomToTop c = λ layers page.
     let a = c.args.area in
     let row = dot c.args.row.now in
     let deep : c.args.v < a.dx = omega (arith, c.if-v-from.false, c.from.ensures ∙ c.depth.ensures ∙ ap (depth a) c.in-BottomToTop.is) in
-    rw c.in-BottomToTop.is (laid layers _ _ _ (subst (HasPage layers) (sym c.self.view_is) page) (row_mark a BottomToTop c.args.v row) (λ x y h k. up_same a c.args.v row deep x y) c.lay_up.ensures)
+    rw c.in-BottomToTop.is (laid layers _ _ _ (subst (HasPage layers) (sym c.self.view_is) page) (row_mark a BottomToTop c.args.v row) (λ x y h k. up_same a c.args.v row deep x y) c.lay_up.ensures (omega (arith, deep, c.saturating_add-self-inside.ensures)) refl)
 
 pub invariant_of-self-in-RightToLeft : goal.invariant_of-self-in-RightToLeft
 invariant_of-self-in-RightToLeft c =
@@ -52,7 +52,7 @@ returns-in-RightToLeft c = λ layers page.
     let a = c.args.area in
     let row = dot c.args.row.now in
     let deep : c.args.v < a.dy = omega (arith, c.if-v-from.false, c.from.ensures ∙ c.depth.ensures ∙ ap (depth a) c.in-RightToLeft.is) in
-    rw c.in-RightToLeft.is (laid layers _ _ _ (subst (HasPage layers) (sym c.self.view_is) page) (row_mark a RightToLeft c.args.v row) (λ x y h k. left_same a c.args.v row deep x y) c.lay_left.ensures)
+    rw c.in-RightToLeft.is (laid layers _ _ _ (subst (HasPage layers) (sym c.self.view_is) page) (row_mark a RightToLeft c.args.v row) (λ x y h k. left_same a c.args.v row deep x y) c.lay_left.ensures (omega (arith, deep, c.saturating_add-self-inside.ensures)) refl)
 
 pub invariant_of-self-in-TopToBottom : goal.invariant_of-self-in-TopToBottom
 invariant_of-self-in-TopToBottom c =
@@ -67,4 +67,4 @@ returns-in-TopToBottom c = λ layers page.
     let a = c.args.area in
     let row = dot c.args.row.now in
     let deep : c.args.v < a.dx = omega (arith, c.if-v-from.false, c.from.ensures ∙ c.depth.ensures ∙ ap (depth a) c.in-TopToBottom.is) in
-    rw c.in-TopToBottom.is (laid layers _ _ _ (subst (HasPage layers) (sym c.self.view_is) page) (row_mark a TopToBottom c.args.v row) (λ x y h k. down_same a c.args.v row deep x y) c.lay_down.ensures)
+    rw c.in-TopToBottom.is (laid layers _ _ _ (subst (HasPage layers) (sym c.self.view_is) page) (row_mark a TopToBottom c.args.v row) (λ x y h k. down_same a c.args.v row deep x y) c.lay_down.ensures (omega (arith, deep, c.saturating_add-self-inside.ensures)) refl)

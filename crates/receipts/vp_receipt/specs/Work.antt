@@ -1,0 +1,36 @@
+-- What a page costs, in rows of dots: those laid on it, and those made white, since ESC L.
+use Rattle.std.specs.Prelude.{◌≡◌, ◌≤◌, ℕ, ◌+◌, Bool, ◌&&◌, if◌then◌else◌, List, ◌∷◌, Option, Some, None}
+use Rattle.vp_esc.specs.declared.item.EscItem.{EscItem}
+use Rattle.vp_page.specs.Layers.{Mark}
+use Rattle.vp_page.specs.Work.{laid_rows, most_wiped, least_wiped, rows_laid, area_rows}
+use Rattle.vp_receipt_settings.specs.Setup.{Setup}
+use Rattle.vp_receipt_settings.specs.Pages.{area}
+use Rattle.vp_receipt_settings.specs.Line.{line, height, is_open, mode}
+use Rattle.vp_receipt_settings.specs.Extent.{ends_line}
+use Rattle.vp_receipt_settings.specs.declared.page_mode.PrinterMode.TheVariants.{Page}
+use Rattle.vp_receipt.specs.PageMarks.{layers, own_mark, wipes}
+
+-- at most the rows of what was laid, those of the page that ESC L makes white, and of the areas of CAN
+abbrev pub most_work : Setup → List EscItem → ℕ
+most_work setup before = laid_rows (layers setup before) + most_wiped (layers setup before)
+
+-- and at least the rows of what was laid, and those in which CAN found a black dot
+abbrev pub least_work : Setup → List EscItem → ℕ
+least_work setup before = laid_rows (layers setup before) + least_wiped (layers setup before)
+
+abbrev pub rows_of : Option Mark → ℕ
+rows_of None = 0
+rows_of (Some mark) = mark.high
+
+-- what an item lays and wipes on a page at most: the line that it ends, a row of a raster or a symbol of its
+-- own, and for CAN the rows of the area
+abbrev pub most_by : Setup → List EscItem → EscItem → ℕ
+most_by setup before item =
+    (if ends_line setup before item && is_open (line setup before) then height (line setup before) else 0)
+    + rows_of (own_mark setup before item) + (if wipes item then area_rows (area setup before) else 0)
+
+-- on a page each item adds at most that
+abbrev pub AddsAtMost : Type 0
+AddsAtMost =
+    (setup : Setup) (before : List EscItem) (item : EscItem) → mode setup before ≡ Page →
+    most_work setup (item ∷ before) ≤ most_work setup before + most_by setup before item
