@@ -1,5 +1,5 @@
 //! The page.
-ghost use Rattle.std.specs.Prelude.{◌≡◌, ℕ, ◌<◌, ◌≤◌, Bool, true, false, List, [], ◌∷◌, IfOk, length, slice_index_or, take};
+ghost use Rattle.std.specs.Prelude.{◌≡◌, ℕ, ◌*◌, ◌<◌, ◌≤◌, Bool, true, false, List, [], ◌∷◌, IfOk, length, slice_index_or, take};
 ghost use Rattle.vp_dots.specs.Dots.{dot, span};
 ghost use Rattle.vp_dots.specs.Images.{row_of};
 ghost use Rattle.vp_page.specs.Areas.{depth, holds};
@@ -270,5 +270,12 @@ impl Page {
         let row = self.band.row(y);
         dots_decide(row);
         row
+    }
+
+    /// The bytes of memory that it holds, on the heap.
+    pub fn memory(&self) -> usize
+        ensures { result ≡ PAGE_ROWS * PAPER_BYTES }
+    {
+        self.band.memory()
     }
 }

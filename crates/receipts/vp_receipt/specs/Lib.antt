@@ -2,6 +2,7 @@
 pub mod PageMarks
 pub mod Strips
 pub mod Images
+pub mod Memory
 -- What the code keeps.
 pub mod Standing
 pub mod Effects

@@ -14,6 +14,7 @@ ghost use Rattle.vp_page.specs.declared.page.TheConstants.{PAGE_ROWS};
 ghost use Rattle.vp_receipt_settings.specs.declared.text.TheConstants.{LINE_ROWS};
 ghost use Rattle.vp_receipt.specs.Strips.{prints, printed, refusal, is_at_rest, line_rows_after, page_rows_after};
 ghost use Rattle.vp_receipt.specs.Standing.{Stands, IsActing};
+ghost use Rattle.vp_receipt.specs.Memory.{receipt_memory};
 ghost use Rattle.vp_receipt.specs.Plain.{rows_room, rows_put};
 ghost use Rattle.vp_receipt_settings.specs.Effects.{effect_of};
 ghost use Rattle.vp_receipt_settings.specs.Gathering.{run_of};
@@ -362,5 +363,18 @@ impl Receipt {
         } else {
             0
         }
+    }
+
+    /// The bytes of memory that it holds, on the heap.
+    pub fn memory(&self) -> usize
+        ensures { result ≡ receipt_memory self.now.sheets }
+    {
+        let Canvas {
+            sheets,
+            bitmap,
+            page,
+            ..
+        } = &self.canvas;
+        bitmap.memory() + page.memory() + sheets.memory()
     }
 }
