@@ -4,6 +4,7 @@ ghost use Rattle.std.specs.Borrow.{Lends, sem, Array, u8 as byte};
 ghost use Rattle.vp_dots.specs.Dots.{dot, span};
 ghost use Rattle.vp_dots.specs.contracts.band.Band.{the_row};
 
+use crate::room::filled;
 use std::alloc::{AllocError, Global};
 use std::marker::Model;
 
@@ -14,13 +15,17 @@ pub struct Band<const B: usize, const H: usize> {
 }
 
 impl<const B: usize, const H: usize> Model for Band<B, H> {
-    ghost use Rattle.std.specs.Prelude.{ℕ, List, ◌≡◌, ◌*◌, ◌≤◌, ◌^◌, length};
+    ghost use Rattle.std.specs.Prelude.{ℕ, List, ◌≡◌, ◌*◌, ◌≤◌, ◌^◌, length, vec_capacity};
 
     ghost Value = { List (List ℕ) };
 
     ghost view = { λ s. s.rows.items };
 
-    ghost invariant = { λ s. record { count : length s.rows.items ≡ H; small : B * H ≤ 2 ^ 28 } };
+    ghost invariant = { λ s. record {
+      count : length s.rows.items ≡ H;
+      small : B * H ≤ 2 ^ 28;
+      room : vec_capacity s.rows ≡ H;
+    } };
 }
 
 impl<const B: usize, const H: usize> Band<B, H> {
@@ -32,7 +37,7 @@ impl<const B: usize, const H: usize> Band<B, H> {
         let rows = if H == 0 {
             Vec::new(alloc)
         } else {
-            vec![in alloc; [0; B]; H]?
+            filled(alloc, H, [0; B])?
         };
         Ok(Band { rows })
     }
@@ -95,5 +100,12 @@ impl<const B: usize, const H: usize> Band<B, H> {
     {
         let _row = self.row(y);
         self.rows[y].as_mut_slice()
+    }
+
+    /// The bytes of memory that it holds, on the heap.
+    pub fn memory(&self) -> usize
+        ensures { result ≡ H * B }
+    {
+        self.rows.capacity() * B
     }
 }

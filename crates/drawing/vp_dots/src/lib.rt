@@ -12,7 +12,7 @@
 //! - `block`: eight by eight dots in a word, and eight lines laid across the rows of a band.
 //! - `square`: 64 by 64 dots in 64 words, rows and columns exchanged.
 //! - `place`: an ink at a place of a band.
-//! - `band`, `store`: rows of dots and bytes on the heap.
+//! - `band`, `store`: rows of dots and bytes on the heap. `room`: as much of it as is asked for.
 //! - `image`: the header of an image, and the laws from the bytes of its rows to its dots and back.
 //! - `listing`: the lines of a listing.
 //! - `fault`: why a stream is refused.
@@ -31,6 +31,7 @@ mod kernel;
 mod listing;
 mod place;
 mod reversed;
+mod room;
 mod single;
 mod span;
 mod square;
@@ -46,6 +47,7 @@ pub use kernel::{clear_into, or_into, paint_into, painted_law, shift_law, xor_in
 pub use listing::{list, spell};
 pub use place::{paint_at, paint_words};
 pub use reversed::{copy_reversed, reversed_at};
+pub use room::{copied, filled};
 pub use single::{dot_of, paint_bits, paint_dot};
 pub use span::{fill_dots, fill_moved};
 pub use square::{SIDE, turned_square};

@@ -1,6 +1,7 @@
 //! Bytes in room that is taken once.
-ghost use Rattle.std.specs.Prelude.{◌≡◌, ℕ, ◌+◌, ◌<◌, ◌≤◌, ◌^◌, ◌↔◌, List, [], ◌∷◌, ◌++◌, length, IfOk, IsOk, OnOk, OnErr};
+ghost use Rattle.std.specs.Prelude.{◌≡◌, ℕ, ◌+◌, ◌<◌, ◌≤◌, ◌↔◌, List, [], ◌∷◌, ◌++◌, length, IfOk, IsOk, OnOk, OnErr};
 
+use crate::room::append_reserved;
 use std::alloc::{AllocError, Global};
 use std::marker::Model;
 use thiserror::Error;
@@ -13,29 +14,26 @@ pub struct Full;
 /// At most N bytes.
 #[derive(Drop)]
 pub struct Store<const N: usize> {
-    room: Vec<u8>,
-    len: usize,
+    bytes: Vec<u8>,
 }
 
 impl<const N: usize> Model for Store<N> {
-    ghost use Rattle.std.specs.Prelude.{ℕ, List, ◌≡◌, ◌≤◌, length, take};
+    ghost use Rattle.std.specs.Prelude.{ℕ, List, ◌≡◌, ◌≤◌, length, vec_capacity};
 
     ghost Value = { List ℕ };
 
-    ghost view = { λ s. take s.len s.room.items };
+    ghost view = { λ s. s.bytes.items };
 
-    ghost invariant = { λ s. record { room : length s.room.items ≡ N; filled : s.len ≤ N } };
+    ghost invariant = { λ s. record { filled : length s.bytes.items ≤ N; room : vec_capacity s.bytes ≡ N } };
 }
 
 impl<const N: usize> Store<N> {
-    /// An empty store, with room for N bytes, at most 2^28: the only call that takes memory.
+    /// An empty store, with room for N bytes: the only call that takes memory.
     pub fn new(alloc: Global) -> Result<Self, AllocError>
-        requires { N ≤ 2 ^ 28 }
         ensures { IfOk result (λ store. store ≡ []) }
     {
         Ok(Store {
-            room: vec![in alloc; 0; N]?,
-            len: 0,
+            bytes: Vec::with_capacity(alloc, N)?,
         })
     }
 
@@ -45,11 +43,10 @@ impl<const N: usize> Store<N> {
         ensures ok { OnOk result (self.new ≡ self.old ++ byte ∷ []) }
         ensures err { OnErr result (self.new ≡ self.old) }
     {
-        if self.len == N {
+        if self.bytes.len() == N {
             return Err(Full);
         }
-        self.room[self.len] = byte;
-        self.len += 1;
+        self.bytes.push_reserved(byte);
         Ok(())
     }
 
@@ -59,12 +56,10 @@ impl<const N: usize> Store<N> {
         ensures ok { OnOk result (self.new ≡ self.old ++ bytes.now) }
         ensures err { OnErr result (self.new ≡ self.old) }
     {
-        if bytes.len() > N - self.len {
+        if bytes.len() > N - self.bytes.len() {
             return Err(Full);
         }
-        let end = self.len + bytes.len();
-        self.room[self.len..end].copy_from_slice(bytes);
-        self.len = end;
+        append_reserved(&mut self.bytes, bytes);
         Ok(())
     }
 
@@ -73,13 +68,20 @@ impl<const N: usize> Store<N> {
         ensures bytes { result.now ≡ self.now }
         ensures filled { length self.now ≤ N }
     {
-        &self.room[..self.len]
+        &self.bytes
     }
 
     /// Drops all bytes.
     pub fn clear(&mut self)
         ensures { self.new ≡ [] }
     {
-        self.len = 0;
+        self.bytes.clear();
+    }
+
+    /// The bytes of memory that it holds, on the heap.
+    pub fn memory(&self) -> usize
+        ensures { result ≡ N }
+    {
+        self.bytes.capacity()
     }
 }

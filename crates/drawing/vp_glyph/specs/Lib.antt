@@ -8,3 +8,4 @@ pub mod Blocks
 pub mod Layouts
 pub mod Inked
 pub mod Stretches
+pub mod Memory

@@ -14,8 +14,9 @@
 //!   rows at once, and lines over each other.
 #![tactic(auto)]
 
-ghost use Rattle.std.specs.Prelude.{◌≡◌, ◌<◌, ◌≤◌, ◌≤ℤ◌, pos};
+ghost use Rattle.std.specs.Prelude.{◌≡◌, ◌<◌, ◌≤◌, ◌^◌, ◌≤ℤ◌, pos};
 ghost use Rattle.vp_glyph.specs.Blocks.{pitch};
+ghost use Rattle.vp_glyph.specs.Memory.{sheets_memory};
 
 mod block;
 mod cell;
@@ -29,6 +30,7 @@ mod sheet;
 mod stretch;
 mod text;
 
+use crate::sheet::memory_in;
 pub use block::{Alignment, Block};
 pub use cell::{Cell, Font, Style};
 pub use header::header_law;
@@ -48,6 +50,14 @@ pub struct Sheets {
 }
 
 impl Sheets {
+    /// The bytes of memory that the sheets hold, on the heap.
+    pub fn memory(&self) -> usize
+        ensures value { result ≡ sheets_memory self.now }
+        ensures most { result ≤ 2 ^ 20 }
+    {
+        memory_in(&self.a) + memory_in(&self.b)
+    }
+
     /// A character of a font in a style, from the font's sheet: (width + spacing) * wm dots wide and height
     /// * hm high. Without a sheet its dots are white, but an underline and what is inverse are drawn.
     pub fn cell(&self, character: u8, font: Font, style: Style) -> Cell<'_>

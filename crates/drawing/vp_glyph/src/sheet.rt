@@ -1,16 +1,18 @@
 //! A glyph sheet: an image of 16 by 16 cells.
-ghost use Rattle.std.specs.Prelude.{◌≡◌, ℕ, ◌<◌, ◌+◌, ◌≤◌, ◌*◌, ◌⊎◌, length, slice_index, IfOk, Ok, Err, IsOk, MatchResult, MatchOption, true, alloc_error};
+ghost use Rattle.std.specs.Prelude.{◌≡◌, ℕ, ◌<◌, ◌+◌, ◌≤◌, ◌*◌, ◌^◌, ◌⊎◌, length, slice_index, IfOk, Ok, Err, IsOk, MatchResult, MatchOption, true, alloc_error, vec_capacity};
 ghost use Rattle.vp_dots.specs.Words.{word_dot, IsReady};
 ghost use Rattle.vp_glyph.specs.Inked.{IsInked, AreInked};
 ghost use Rattle.vp_glyph.specs.Sheets.{IsCut, glyph_dot, sheet_dot};
+ghost use Rattle.vp_glyph.specs.Memory.{sheet_memory, memory_of};
 ghost use Rattle.vp_glyph.specs.Reading.{sheet_of, number_of};
 
 use crate::header::header_behind;
 use crate::look::shared;
 use std::alloc::{AllocError, Global};
 use std::marker::Model;
+use std::mem::size_of;
 use thiserror::Error;
-use vp_dots::{Ready, dot_of, first_dots, word_at};
+use vp_dots::{Ready, copied, dot_of, filled, first_dots, word_at};
 
 /// Why a text is no sheet, in the order in which it is looked at.
 #[derive(Debug, Drop, PartialEq, Eq, Error)]
@@ -67,8 +69,11 @@ struct Inked {
     below: usize,
 }
 
+/// The bytes of one of these.
+const INKED_BYTES: usize = size_of::<Inked>();
+
 impl Model for Sheet {
-    ghost use Rattle.std.specs.Prelude.{ℕ, ◌≡◌, ◌*◌, ◌≤◌, length};
+    ghost use Rattle.std.specs.Prelude.{ℕ, ◌≡◌, ◌*◌, ◌≤◌, length, vec_capacity};
     ghost use Rattle.vp_glyph.specs.Sheets.{Glyphs, IsCut};
     ghost use Rattle.vp_glyph.specs.Inked.{AreInked};
 
@@ -82,6 +87,9 @@ impl Model for Sheet {
       whole : length s.raster.items ≡ 32 * s.wide * s.high;
       cut : IsCut (record { wide = s.wide; high = s.high; raster = s.raster.items }) s.rows.items;
       inked : AreInked s.high s.rows.items s.inked.items;
+      raster_room : vec_capacity s.raster ≡ 32 * s.wide * s.high;
+      rows_room : vec_capacity s.rows ≡ 256 * s.high;
+      inked_room : vec_capacity s.inked ≡ 256;
     } };
 }
 
@@ -113,7 +121,7 @@ impl Sheet {
     {
         let rows = cut(alloc, raster, w, h)?;
         let inked = inked_cells(alloc, &rows, h as usize)?;
-        let raster = Vec::from_slice(alloc, raster)?;
+        let raster = copied(alloc, raster)?;
         Ok(Sheet {
             wide: w,
             high: h,
@@ -166,6 +174,14 @@ impl Sheet {
             words: &rows[first..below],
         })
     }
+
+    /// The bytes of memory that it holds, on the heap.
+    pub fn memory(&self) -> usize
+        ensures value { result ≡ sheet_memory self.now }
+        ensures most { result ≤ 2 ^ 19 }
+    {
+        self.raster.capacity() + 8 * self.rows.capacity() + INKED_BYTES * self.inked.capacity()
+    }
 }
 
 /// Which rows have ink.
@@ -187,10 +203,11 @@ fn inked_rows(rows: &[u64]) -> Inked
 fn inked_cells(alloc: Global, rows: &[u64], high: usize) -> Result<Vec<Inked>, AllocError>
     requires high { high ≤ 64 }
     requires whole { length rows.now ≡ 256 * high }
-    ensures { IfOk result (λ inked. AreInked high rows.now inked.items) }
+    ensures inked { IfOk result (λ inked. AreInked high rows.now inked.items) }
+    ensures room { IfOk result (λ inked. vec_capacity inked ≡ 256) }
 {
     let none = Inked { first: 0, below: 0 };
-    let mut cells = vec![in alloc; none; 256]?;
+    let mut cells = filled(alloc, 256, none)?;
     for c in 0..256usize {
         cells[c] = inked_rows(&rows[high * c..high * c + high]);
     }
@@ -215,9 +232,10 @@ fn cut_row(raster: &[u8], w: u32, h: u32, c: u32, y: u32) -> u64
 fn cut(alloc: Global, raster: &[u8], w: u32, h: u32) -> Result<Vec<u64>, AllocError>
     requires w { w ≤ 64 }
     requires h { h ≤ 64 }
-    ensures { IfOk result (λ rows. IsCut (record { wide = w; high = h; raster = raster.now }) rows.items) }
+    ensures cut { IfOk result (λ rows. IsCut (record { wide = w; high = h; raster = raster.now }) rows.items) }
+    ensures room { IfOk result (λ rows. vec_capacity rows ≡ 256 * h) }
 {
-    let mut rows = vec![in alloc; 0; 256 * h as usize]?;
+    let mut rows = filled(alloc, 256 * h as usize, 0)?;
     for c in 0..256u32 {
         for y in 0..h {
             rows[(h * c + y) as usize] = cut_row(raster, w, h, c, y);
@@ -249,6 +267,17 @@ fn raster_of(src: &[u8], w: u32, h: u32) -> Result<&[u8], SheetError>
         return Err(SheetError::Short);
     }
     Ok(&header.raster[..size])
+}
+
+/// The bytes of memory of a sheet, none without a sheet.
+pub(crate) fn memory_in(sheet: &Option<Sheet>) -> usize
+    ensures value { result ≡ memory_of sheet.now }
+    ensures most { result ≤ 2 ^ 19 }
+{
+    match sheet {
+        Some(sheet) => sheet.memory(),
+        None => 0,
+    }
 }
 
 /// The dot of a cell of a sheet, white without a sheet.

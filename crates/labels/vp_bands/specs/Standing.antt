@@ -3,19 +3,22 @@ use Rattle.std.specs.Prelude.{◌≡◌, ℕ, ◌+◌, ◌*◌, ◌^◌, ◌<◌
 use Rattle.std.specs.List.{All}
 use Rattle.vp_glyph.specs.declared.Sheets.{Sheets}
 use Rattle.vp_format.specs.declared.field.Field.{Field}
+use Rattle.vp_format.specs.declared.format.TheConstants.{FIELDS}
 use Rattle.vp_fields_by_band.specs.declared.table.Entry.{Entry}
+use Rattle.vp_fields_by_band.specs.Held.{table_memory}
 use Rattle.vp_fields_by_band.specs.Threads.{entry_at, link_at, meets, begins_at, carried_at, IsNext, IsTable, IsThreaded}
 use Rattle.vp_field.specs.declared.marks.Marks.{Marks}
 use Rattle.vp_field.specs.declared.view.View.{View}
 use Rattle.vp_field.specs.Contents.{most_work}
 use Rattle.vp_field.specs.Fields.{no_marks, IsKept, AreMarksOf}
 use Rattle.vp_bands.specs.Meeting.{field_meets, pairs, copy_work}
+use Rattle.vp_bands.specs.declared.meeting.TheConstants.{BANDS}
+use Rattle.vp_bands.specs.declared.painter.TheConstants.{MARKS_BYTES}
 use Rattle.vp_bands.specs.declared.painter.BandPainter.TheInside.{Inside}
 
 -- the entries of the fields, in the order of closing; the first that begins in each band; of each entry that
 -- is carried over the next such one; the marks of the pictures; the first entry that is carried to the next
--- band; how often an entry or a link was read since the copy's start, and what painting took; for how many
--- fields the marks have room
+-- band; how often an entry or a link was read since the copy's start, and what painting took
 pub record Threaded : Type 0 where
   pub entries : List Entry
   pub heads : List (Option ℕ)
@@ -24,7 +27,6 @@ pub record Threaded : Type 0 where
   pub carried : Option ℕ
   pub looks : ℕ
   pub work : ℕ
-  pub room : ℕ
 
 abbrev pub threaded_by : Inside → Threaded
 threaded_by p =
@@ -36,7 +38,6 @@ threaded_by p =
       carried = p.threads.carried;
       looks = p.threads.looks;
       work = p.work;
-      room = vec_capacity p.marks;
     }
 
 -- there is room for 1,024 fields and 250 bands, and each field has marks
@@ -46,6 +47,10 @@ pub record HasRoom (p : Inside) : Type 0 where
   pub links : length p.threads.links ≡ 1024
   pub marks : length p.threads.entries ≤ length p.marks.items
   pub room : vec_capacity p.marks ≡ 1024
+
+-- the bytes of memory of a painter
+abbrev pub painter_memory : ℕ
+painter_memory = table_memory BANDS + MARKS_BYTES * FIELDS
 
 abbrev pub entry_work : Entry → ℕ
 entry_work e = most_work e.field.orientation e.field.content

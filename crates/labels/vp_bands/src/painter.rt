@@ -7,7 +7,7 @@ ghost use Rattle.vp_field.specs.Fields.{stroke_of, IsKept};
 ghost use Rattle.vp_field.specs.Strokes.{image_dot};
 ghost use Rattle.vp_field.specs.declared.view.View.{View as Seen};
 ghost use Rattle.vp_bands.specs.Meeting.{meeting, band_work};
-ghost use Rattle.vp_bands.specs.Standing.{fields_of, IsBefore};
+ghost use Rattle.vp_bands.specs.Standing.{fields_of, painter_memory, IsBefore};
 ghost use Rattle.vp_label_size.specs.declared.TheConstants.{WIDEST, BAND_ROWS};
 
 use crate::meeting::BANDS;
@@ -15,11 +15,15 @@ use crate::table::thread_fields;
 use crate::walk::paint_band;
 use std::alloc::{AllocError, Global};
 use std::marker::Model;
+use std::mem::size_of;
 use vp_field::{Marks, View};
 use vp_fields_by_band::Threads;
 use vp_format::{FIELDS, Format};
 use vp_glyph::Sheets;
 use vp_label_size::LabelBand;
+
+/// The bytes of a field's marks.
+const MARKS_BYTES: usize = size_of::<Marks>();
 
 /// Paints the bands of a label of at most 1,248 by 8,000 dots and 1,024 fields, one after the other, in each
 /// of its copies.
@@ -57,7 +61,6 @@ impl BandPainter {
         ensures none { IfOk result (λ painter. painter.entries ≡ []) }
         ensures looks { IfOk result (λ painter. painter.looks ≡ 0) }
         ensures work { IfOk result (λ painter. painter.work ≡ 0) }
-        ensures room { IfOk result (λ painter. painter.room ≡ FIELDS) }
     {
         Ok(BandPainter {
             threads: Threads::new(alloc, BANDS)?,
@@ -74,7 +77,6 @@ impl BandPainter {
         ensures before { IsBefore sheets.now format.now.stored view 0 self.new }
         ensures looks { self.new.looks ≡ 0 }
         ensures work { self.new.work ≡ 0 }
-        ensures room { self.new.room ≡ self.old.room }
     {
         hold_marks(&mut self.marks, format.len());
         thread_fields(&mut self.threads, sheets, format, view);
@@ -128,6 +130,13 @@ impl BandPainter {
             view,
             band,
         );
+    }
+
+    /// The bytes of memory that it holds, on the heap.
+    pub fn memory(&self) -> usize
+        ensures { result ≡ painter_memory }
+    {
+        self.threads.memory() + MARKS_BYTES * self.marks.capacity()
     }
 
     /// How often an entry or a link was read since the copy's start.

@@ -1,18 +1,19 @@
 -- What is held of the fields of a label, and how often it was read.
-use Rattle.std.specs.Prelude.{◌≡◌, ℕ, ◌+◌, ◌≤◌, List, length, vec_capacity, Option}
+use Rattle.std.specs.Prelude.{◌≡◌, ℕ, ◌+◌, ◌*◌, ◌≤◌, List, length, vec_capacity, Option}
+use Rattle.vp_format.specs.declared.format.TheConstants.{FIELDS}
 use Rattle.vp_fields_by_band.specs.declared.table.Entry.{Entry}
+use Rattle.vp_fields_by_band.specs.declared.table.TheConstants.{ENTRY_BYTES, LINK_BYTES}
 use Rattle.vp_fields_by_band.specs.declared.table.Threads.TheInside.{Inside}
 
 -- the entries of the fields, in the order of closing; the first that begins in each band; of each entry that
 -- is carried over the next such one; the first entry that is carried to the next band; how often an entry,
--- the first of a band or a link was read since the copy's start; for how many entries there is room
+-- the first of a band or a link was read since the copy's start
 pub record Table : Type 0 where
   pub entries : List Entry
   pub heads : List (Option ℕ)
   pub links : List (Option ℕ)
   pub carried : Option ℕ
   pub looks : ℕ
-  pub room : ℕ
 
 abbrev pub table_by : Inside → Table
 table_by t =
@@ -22,14 +23,19 @@ table_by t =
       links = t.links.items;
       carried = t.carried;
       looks = t.looks;
-      room = vec_capacity t.entries;
     }
 
--- there is room for 1,024 entries and their links
+-- there is room for 1,024 entries and their links, and for the first of each band
 pub record HasRoom (t : Inside) : Type 0 where
   pub entries : length t.entries.items ≤ 1024
   pub links : length t.links.items ≡ 1024
   pub room : vec_capacity t.entries ≡ 1024
+  pub links_room : vec_capacity t.links ≡ 1024
+  pub heads_room : vec_capacity t.heads ≡ length t.heads.items
+
+-- the bytes of memory of a table of so many bands
+abbrev pub table_memory : ℕ → ℕ
+table_memory bands = ENTRY_BYTES * FIELDS + LINK_BYTES * (FIELDS + bands)
 
 -- the table after one more look
 abbrev pub looked : Table → Table

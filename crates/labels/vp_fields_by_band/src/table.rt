@@ -2,10 +2,12 @@
 //! by calls alone, each of which is counted.
 ghost use Rattle.std.specs.Prelude.{◌≡◌, ℕ, ◌+◌, ◌^◌, ◌<◌, ◌≤◌, [], ◌∷◌, ◌++◌, Option, None, length, slice_set, IfOk};
 ghost use Rattle.vp_fields_by_band.specs.Threads.{entry_at, link_at, IsPlaced, KeepsSpans, ThreadedFrom};
-ghost use Rattle.vp_fields_by_band.specs.Held.{looked};
+ghost use Rattle.vp_fields_by_band.specs.Held.{looked, table_memory};
 
 use std::alloc::{AllocError, Global};
 use std::marker::Model;
+use std::mem::size_of;
+use vp_dots::filled;
 use vp_format::{FIELDS, Field};
 
 /// A field, the bands that it begins and ends in, and the next field that begins in the same band.
@@ -17,6 +19,12 @@ pub struct Entry {
     pub last: usize,
     pub next: Option<usize>,
 }
+
+/// The bytes of an entry.
+const ENTRY_BYTES: usize = size_of::<Entry>();
+
+/// The bytes of a link to an entry.
+const LINK_BYTES: usize = size_of::<Option<usize>>();
 
 /// Puts entry `k` before those of its band.
 fn thread_one(entries: &mut [Entry], k: usize, heads: &mut [Option<usize>])
@@ -91,12 +99,11 @@ impl Threads {
         ensures links { IfOk result (λ threads. length threads.links ≡ FIELDS) }
         ensures carried { IfOk result (λ threads. threads.carried ≡ None) }
         ensures looks { IfOk result (λ threads. threads.looks ≡ 0) }
-        ensures room { IfOk result (λ threads. threads.room ≡ FIELDS) }
     {
         Ok(Threads {
             entries: Vec::with_capacity(alloc, FIELDS)?,
-            heads: vec![in alloc; None; bands]?,
-            links: vec![in alloc; None; FIELDS]?,
+            heads: filled(alloc, bands, None)?,
+            links: filled(alloc, FIELDS, None)?,
             carried: None,
             looks: 0,
         })
@@ -127,7 +134,6 @@ impl Threads {
         ensures heads { length self.new.heads ≡ length self.old.heads }
         ensures links { self.new.links ≡ self.old.links }
         ensures looks { self.new.looks ≡ self.old.looks }
-        ensures room { self.new.room ≡ self.old.room }
     {
         clear_heads(&mut self.heads);
         thread_all(&mut self.entries, &mut self.heads);
@@ -194,6 +200,15 @@ impl Threads {
         ensures { self.new ≡ record self.old { carried = first } }
     {
         self.carried = first;
+    }
+
+    /// The bytes of memory that it holds, on the heap.
+    pub fn memory(&self) -> usize
+        requires { length self.now.heads ≤ 2 ^ 16 }
+        ensures { result ≡ table_memory (length self.now.heads) }
+    {
+        ENTRY_BYTES * self.entries.capacity()
+            + LINK_BYTES * (self.links.capacity() + self.heads.capacity())
     }
 
     /// How often an entry, the first of a band or a link was read since the copy's start.

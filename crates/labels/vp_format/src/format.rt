@@ -1,11 +1,12 @@
 //! The format of a label: its closed fields and the bytes that they name, in room that is taken once.
 ghost use Rattle.std.specs.Prelude.{◌≡◌, ℕ, ◌+◌, ◌<◌, ◌≤◌, ◌↔◌, List, [], ◌∷◌, ◌++◌, length, IfOk, IsOk, OnOk, OnErr, Some, slice_get};
+ghost use Rattle.vp_format.specs.Formats.{format_memory};
 
-use crate::field::{Content, Field, GraphicBox};
+use crate::field::Field;
 use std::alloc::{AllocError, Global};
 use std::marker::Model;
-use vp_dots::{Full, Op, Store};
-use vp_zpl::item::Orientation;
+use std::mem::size_of;
+use vp_dots::{Full, Store};
 
 /// The most fields of a format.
 pub const FIELDS: usize = 1024;
@@ -13,24 +14,13 @@ pub const FIELDS: usize = 1024;
 /// The most stored bytes of a format.
 pub const STORED: usize = 262144;
 
-/// What stands in the table where no field is held.
-const NO_FIELD: Field = Field {
-    left: 0,
-    top: 0,
-    orientation: Orientation::Normal,
-    op: Op::Black,
-    content: Content::Box(GraphicBox {
-        width: 1,
-        height: 1,
-        thickness: 1,
-    }),
-};
+/// The bytes of a field.
+const FIELD_BYTES: usize = size_of::<Field>();
 
 /// At most 1,024 fields and 262,144 stored bytes.
 #[derive(Drop)]
 pub struct Format {
     fields: Vec<Field>,
-    len: usize,
     stored: Store<STORED>,
 }
 
@@ -50,8 +40,7 @@ impl Format {
         ensures { IfOk result (λ format. format ≡ record { fields = []; stored = [] }) }
     {
         Ok(Format {
-            fields: vec![in alloc; NO_FIELD; FIELDS]?,
-            len: 0,
+            fields: Vec::with_capacity(alloc, FIELDS)?,
             stored: Store::new(alloc)?,
         })
     }
@@ -72,11 +61,10 @@ impl Format {
         ensures ok { OnOk result (self.new ≡ record self.old { fields = self.old.fields ++ field ∷ [] }) }
         ensures err { OnErr result (self.new ≡ self.old) }
     {
-        if self.len == FIELDS {
+        if self.fields.len() == FIELDS {
             return Err(Full);
         }
-        self.fields[self.len] = field;
-        self.len += 1;
+        self.fields.push_reserved(field);
         Ok(())
     }
 
@@ -85,7 +73,7 @@ impl Format {
         ensures len { result ≡ length self.now.fields }
         ensures few { result ≤ FIELDS }
     {
-        self.len
+        self.fields.len()
     }
 
     /// A field, by its number from 0 in the order of closing.
@@ -108,7 +96,14 @@ impl Format {
     pub fn clear(&mut self)
         ensures { self.new ≡ record { fields = []; stored = [] } }
     {
-        self.len = 0;
+        self.fields.clear();
         self.stored.clear();
+    }
+
+    /// The bytes of memory that it holds, on the heap.
+    pub fn memory(&self) -> usize
+        ensures { result ≡ format_memory }
+    {
+        FIELD_BYTES * self.fields.capacity() + self.stored.memory()
     }
 }

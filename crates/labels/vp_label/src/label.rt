@@ -7,6 +7,7 @@ ghost use Rattle.vp_zpl.specs.Shown.{shown_item};
 ghost use Rattle.vp_zpl.specs.Spelling.{Kept};
 ghost use Rattle.vp_zpl.specs.declared.name.Name.{Name};
 ghost use Rattle.vp_label_settings.specs.Formats.{followed_by};
+ghost use Rattle.vp_label.specs.Memory.{label_memory};
 ghost use Rattle.vp_label.specs.Held.{band_rows_after, fields_after, stored_after};
 ghost use Rattle.vp_label_size.specs.declared.TheConstants.{BAND_ROWS};
 ghost use Rattle.vp_format.specs.declared.format.TheConstants.{FIELDS, STORED};
@@ -294,5 +295,13 @@ impl Label {
         ensures { result ≡ self.now.press.painter.work }
     {
         self.press.painter.work()
+    }
+
+    /// The bytes of memory that it holds, on the heap.
+    pub fn memory(&self) -> usize
+        ensures { result ≡ label_memory self.now.sheets }
+    {
+        let Press { painter, band, .. } = &self.press;
+        self.gathered.format.memory() + painter.memory() + band.memory() + self.sheets.memory()
     }
 }

@@ -16,3 +16,4 @@ pub mod Listings
 pub mod Whole
 pub mod Desks
 pub mod Texts
+pub mod Memories

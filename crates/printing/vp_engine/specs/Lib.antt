@@ -7,6 +7,7 @@ pub mod Images
 -- what a printer, a session and a listing do
 pub mod Stands
 pub mod Answers
+pub mod Memory
 pub mod Session
 pub mod Listing
 -- what the code keeps

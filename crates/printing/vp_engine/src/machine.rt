@@ -2,6 +2,8 @@
 ghost use Rattle.std.specs.Prelude.{◌≡◌, ◌<◌, ◌≤◌, ◌↔◌, ◌++◌, List, [], ℕ, IsTrue, IfOk, None, flat_map, length, min, take, drop};
 ghost use Rattle.vp_engine.specs.Answers.{IsBounded};
 ghost use Rattle.vp_engine.specs.Lines.{listed_line};
+ghost use Rattle.vp_streams.specs.Count.{grown};
+ghost use Rattle.vp_engine.specs.Memory.{machine_memory};
 ghost use Rattle.vp_engine.specs.Machines.{pending_of, MachineStands};
 ghost use Rattle.vp_engine.specs.Paper.{missing};
 ghost use Rattle.vp_engine.specs.Setups.{Setup, Item, EscPos, Zpl, Receipts, Labels, ListingIn, commands_of, setup_of, rules_of, lines_of};
@@ -342,6 +344,20 @@ impl Machine {
                 ..NOTHING
             },
             Machine::LabelLines { .. } => NOTHING,
+        }
+    }
+
+    /// The bytes of memory that it holds, on the heap.
+    pub fn memory(&self) -> usize
+        ensures { result ≡ machine_memory self.now }
+    {
+        match self {
+            Machine::Receipt { receipt, .. } => receipt.memory(),
+            Machine::ReceiptLines { .. } => 0,
+            Machine::Label { label, .. } => label.memory(),
+            Machine::LabelLines { .. } => 0,
+            Machine::ReceiptOffsets { .. } => 0,
+            Machine::LabelOffsets { .. } => 0,
         }
     }
 

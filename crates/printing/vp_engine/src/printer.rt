@@ -3,6 +3,7 @@ ghost use Rattle.std.specs.Prelude.{◌≡◌, ◌≤◌, ◌<◌, ◌+◌, ◌�
 ghost use Rattle.vp_dots.specs.declared.fault.Fault.{Fault};
 ghost use Rattle.vp_engine.specs.Answers.{IsMore, IsRoom, IsStopped, IsStill, IsBounded};
 ghost use Rattle.vp_engine.specs.Machines.{MachineStands, TookNothing};
+ghost use Rattle.vp_engine.specs.Memory.{memory_held, memory_of};
 ghost use Rattle.vp_engine.specs.Paper.{IsOfByte, history, before_fault, fault, fault_at_end, held_after};
 ghost use Rattle.vp_engine.specs.Setups.{Setup, setup_of, rules_of, lines_of};
 ghost use Rattle.vp_engine.specs.Setups.{Listing, ListingWithOffsets};
@@ -103,6 +104,7 @@ impl Printer {
         requires running { self.old.stopped ≡ None }
         ensures stands { (setup : Setup) (t o : List ℕ) → Stands setup self.old t o →
             Stands setup self.new (t ++ byte ∷ []) o }
+        ensures memory { memory_held self.new ≡ memory_held self.old }
     {
         items_grow();
         self.stopped = self.machine.take(byte).err();
@@ -119,6 +121,7 @@ impl Printer {
             Stands setup self.new (t ++ take result.taken input.now) (o ++ take result.put output.new) }
         ensures idle { self.new.pending ≡ [] }
         ensures running { self.new.stopped ≡ None }
+        ensures memory { memory_held self.new ≡ memory_held self.old }
     {
         items_grow();
         self.machine.take_run(input, output)
@@ -136,6 +139,7 @@ impl Printer {
         ensures full { 0 < length self.new.pending → result.put ≡ length output.old }
         ensures stands { (setup : Setup) (t o : List ℕ) → Stands setup self.old t o →
             Stands setup self.new (t ++ take result.taken input.now) (o ++ take result.put output.new) }
+        ensures memory { memory_held self.new ≡ memory_held self.old }
     {
         let run = self.take_run(input, output);
         if run.taken == input.len() {
@@ -159,6 +163,7 @@ impl Printer {
         ensures stopped { self.new.stopped ≡ self.old.stopped }
         ensures none { IsSome self.old.stopped → result ≡ 0 }
         ensures text { self.old.pending ≡ take result output.new ++ self.new.pending }
+        ensures memory { memory_held self.new ≡ memory_held self.old }
     {
         self.machine.put(output)
     }
@@ -210,6 +215,7 @@ impl Printer {
         ensures idle { result.state ≡ State.More → self.new.pending ≡ [] }
         ensures waits { result.state ≡ State.Room → 0 < length self.new.pending }
         ensures byte { (f : Fault) → result.state ≡ State.Stopped f → IsOfByte f }
+        ensures memory { memory_held self.new ≡ memory_held self.old }
     {
         let mut put = self.put(output);
         let mut taken = 0;
@@ -250,6 +256,15 @@ impl Printer {
         ensures most { IsBounded result }
     {
         self.machine.held()
+    }
+
+    /// The bytes of memory that the printer holds, on the heap: those that it was made with.
+    pub fn memory(&self) -> usize
+        ensures value { result ≡ memory_held self.now }
+        ensures made_with { (setup : Setup) (t o : List ℕ) → Stands setup self.now t o →
+            result ≡ memory_of setup }
+    {
+        self.machine.memory()
     }
 
     /// How many lines of a listing there were; 0 where it prints no listing.

@@ -3,8 +3,9 @@ ghost use Rattle.std.specs.Prelude.{◌≡◌, ◌≤◌, ◌<◌, ◌+◌, ◌+
 ghost use Rattle.std.specs.Io.KnownBytes.{Consumes, Appends, IsAtEnd};
 ghost use Rattle.vp_dots.specs.declared.fault.Fault.{Fault};
 ghost use Rattle.vp_streams.specs.Count.{grown, one_more_if};
+ghost use Rattle.vp_engine.specs.Memory.{memory_held};
 ghost use Rattle.vp_engine.specs.Paper.{IsOfByte, IsOfEnd, history, before_fault, fault_at_end};
-ghost use Rattle.vp_engine.specs.Session.{IsAt, Accepts, SameDesk, IsDrained, IsSettled, HasEnded, Reads, SamePrinter, Pumps, IsAgain, is_read_fault, is_write_fault};
+ghost use Rattle.vp_engine.specs.Session.{IsAt, Accepts, SameDesk, IsSomewhere, IsDrained, IsSettled, HasEnded, Reads, SamePrinter, Pumps, IsAgain, is_read_fault, is_write_fault};
 ghost use Rattle.vp_engine.specs.Setups.{Setup, setup_of, rules_of, lines_of};
 ghost use Rattle.vp_engine.specs.Setups.{Listing, ListingWithOffsets};
 ghost use Rattle.vp_engine.specs.Stands.{Stands, IsFresh};
@@ -269,6 +270,13 @@ impl Session {
         self.printer.finish()
     }
 
+    /// It has read and written something.
+    fn somewhere(&self)
+        ensures { IsSomewhere self.now }
+    {
+        let _taken = self.taken;
+    }
+
     /// The fault of a printer that has stopped, once all its paper is written.
     fn ended(&self) -> Option<Fault>
         ensures ended { (f : Fault) (after : ℕ) → HasEnded self.now f after → result ≡ Some f }
@@ -326,6 +334,7 @@ impl Session {
     /// Prints what a reader gives, up to its end or a fault, and writes what is printed. It reads at most
     /// 1,000,000,000 times. After a fault of a read or a write, or of an input that ended too early, a
     /// further call goes on where this one stood; after a fault of the stream it answers the same again.
+    /// It takes no memory.
     pub fn pump<S: Source, K: Sink>(
         &mut self,
         reader: &mut S,
@@ -345,7 +354,9 @@ impl Session {
         ensures reads { S.reads reader.new ≤ S.reads reader.old + 1000000000 }
         ensures turns { result ≡ Err RunFault.TooManyTurns →
             S.reads reader.new ≡ grown (S.reads reader.old) 1000000000 }
+        ensures memory { memory_held self.new.printer ≡ memory_held self.old.printer }
     {
+        self.somewhere();
         if let Some(fault) = self.ended() {
             return Err(RunFault::Print {
                 fault,

@@ -2,6 +2,7 @@
 use Rattle.std.specs.Prelude.{◌≢◌, ◌≡◌, ◌<◌, ◌≤◌, ◌++◌, ◌↔◌, ℕ, List, [], length, take, drop, Option, Some, None}
 use Rattle.vp_dots.specs.declared.fault.Fault.{Fault}
 use Rattle.vp_engine.specs.Answers.{IsMore, IsRoom, IsStopped}
+use Rattle.vp_engine.specs.Memory.{memory_held}
 use Rattle.vp_engine.specs.Paper.{IsOfByte, fault}
 use Rattle.vp_engine.specs.Setups.{Setup, rules_of}
 use Rattle.vp_engine.specs.Stands.{Engine, Stands}
@@ -65,6 +66,7 @@ pub record IsStep (old new : Engine) (input before after : List ℕ) (done : Pro
   pub idle : done.state ≡ MORE → new.pending ≡ []
   pub waits : done.state ≡ ROOM → 0 < length new.pending
   pub byte : (f : Fault) → Stops f done → IsOfByte f
+  pub memory : memory_held new ≡ memory_held old
 
 -- behind a handle: nothing is done where there is no printer
 abbrev pub IsStepOf : Option Engine → Option Engine → List ℕ → List ℕ → List ℕ → Progress → ℕ → Type 0

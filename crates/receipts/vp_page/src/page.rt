@@ -398,4 +398,11 @@ impl Page {
         dots_decide(row);
         row
     }
+
+    /// The bytes of memory that it holds, on the heap.
+    pub fn memory(&self) -> usize
+        ensures { result ≡ PAGE_ROWS * PAPER_BYTES }
+    {
+        self.band.memory()
+    }
 }

@@ -17,6 +17,7 @@ ghost use Rattle.vp_receipt.specs.Standing.{Stands, IsActing};
 ghost use Rattle.vp_receipt.specs.Work.{most_work, least_work};
 ghost use Rattle.vp_page.specs.Work.{MOST};
 ghost use Rattle.vp_receipt_settings.specs.declared.page_mode.PrinterMode.{PrinterMode};
+ghost use Rattle.vp_receipt.specs.Memory.{receipt_memory};
 ghost use Rattle.vp_receipt.specs.Plain.{rows_room, rows_put};
 ghost use Rattle.vp_receipt_settings.specs.Effects.{effect_of};
 ghost use Rattle.vp_receipt_settings.specs.Gathering.{run_of};
@@ -377,5 +378,18 @@ impl Receipt {
         } else {
             0
         }
+    }
+
+    /// The bytes of memory that it holds, on the heap.
+    pub fn memory(&self) -> usize
+        ensures { result ≡ receipt_memory self.now.sheets }
+    {
+        let Canvas {
+            sheets,
+            bitmap,
+            page,
+            ..
+        } = &self.canvas;
+        bitmap.memory() + page.memory() + sheets.memory()
     }
 }

@@ -264,4 +264,11 @@ impl Bitmap {
             rows[i].copy_from_slice(self.row(top + i));
         }
     }
+
+    /// The bytes of memory that it holds, on the heap.
+    pub fn memory(&self) -> usize
+        ensures { result ≡ LINE_ROWS * LINE_BYTES }
+    {
+        self.band.memory()
+    }
 }

@@ -22,6 +22,7 @@ loop-y-preserved c =
     record {
       cell = c.loop-y.invariant.cell;
       count = length-set rows at c.cut_row.result ∙ c.loop-y.invariant.count;
+      room = c.loop-y.invariant.room;
       dots = λ k x l. elim (cases_eq k at) [
         | inl e ↦ rw (e, get_or-set_same rows at c.cut_row.result _ (omega (arith, c.loop-y.invariant.count, mul-add-lt cell h y 256 c.loop-y.invariant.cell below)))
             (c.cut_row.ensures x ∙ ap (λ i. glyph_dot sheet i x y) (sym across) ∙ ap (glyph_dot sheet (at / h) x) (sym down))

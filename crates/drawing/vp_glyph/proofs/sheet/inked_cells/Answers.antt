@@ -9,6 +9,7 @@ loop-c-preserved c =
     let all : c.args.high * c.loop-c.c + c.args.high - c.args.high * c.loop-c.c ≡ c.args.high = omega arith in
     record {
       count = length-set cells c.loop-c.c c.inked_rows.result ∙ c.loop-c.invariant.count;
+      room = c.loop-c.invariant.room;
       each = λ k h. elim (cases_eq k c.loop-c.c) [
         | inl e ↦ rw (e, get_or-set_same cells c.loop-c.c c.inked_rows.result _ (omega (arith, c.loop-c.invariant.count))) (rw all at c.inked_rows.ensures)
         | inr n ↦ rw (get_or-set_other cells c.loop-c.c k c.inked_rows.result _ n) (c.loop-c.invariant.each k (omega arith))

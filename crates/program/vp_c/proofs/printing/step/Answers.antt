@@ -28,4 +28,5 @@ returns c =
       idle = λ h. e.idle (is_more s.state h);
       waits = λ h. e.waits (is_room s.state h);
       byte = λ f h. e.byte f (is_stopped s f h);
+      memory = e.memory;
     })

@@ -3,6 +3,8 @@ use Rattle.vp_engine.specs.Setups.{Setup}
 use Rattle.vp_engine.specs.Machines.{pending_of}
 use Rattle.vp_engine.specs.Stands.{Engine, Stands, printer_of}
 use Rattle.vp_engine.proofs.Steps.{stands_put, stopped_idle, put_text, put_rest, put_full}
+use Rattle.vp_engine.specs.Memory.{memory_held}
+use Rattle.vp_engine.proofs.Memories.{memory_stays}
 use Rattle.vp_engine.proofs.printer.Printer.put.Goals as goal
 
 text : (c : goal.After-slice_known-2-1) → pending_of c.self.inside.machine ≡ take c.put.result c.put.new.output ++ pending_of c.put.new.self
@@ -32,3 +34,8 @@ returns-clause-none c h =
     let i = c.self.invariant in
     let none : pending_of c.self.inside.machine ≡ [] = stopped_idle i.0 _ i.1 i.2 i.3 (subst (λ (p : Engine). IsSome p.stopped) (sym c.self.view_is) h) in
     omega (arith, c.put.ensures.count, ap length none)
+
+pub returns-clause-memory : goal.returns-clause-memory
+returns-clause-memory c =
+    let i = c.self.invariant in
+    memory_stays i.0 _ _ i.1 i.2 _ _ i.3 (stands c i.0 i.1 i.2 i.3) ∙ ap memory_held c.self.view_is

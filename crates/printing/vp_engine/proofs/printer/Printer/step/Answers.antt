@@ -15,6 +15,7 @@ loop-taken-init c = record {
   stands = λ setup t o s. rw (append-nil t) (c.put-put.ensures.stands setup t o s);
   full = λ h. c.put-put.ensures.full h ∙ sym c.put-put.auto.output;
   still = λ h. (c.put-put.ensures.stopped, refl, c.put-put.ensures.none h);
+  memory = c.put-put.ensures.memory;
   zero = λ h. (c.put-put.ensures.text, c.put-put.ensures.stopped);
 }
 
@@ -44,6 +45,7 @@ loop-taken-preserved c =
       still = λ h.
           let no : false ≡ true = sym c.if-is_none.ensures ∙ ap is_some (c.stopped.ensures.value ∙ (c.loop-taken.invariant.still h).0) ∙ h in
           cc;
+      memory = e.memory ∙ c.loop-taken.invariant.memory;
       zero = λ h. absurd (omega arith);
     }
 

@@ -1,5 +1,6 @@
 use Rattle.std.proofs.Common.{◌≡◌, ◌≤◌, ◌<◌, ℕ, ◌-◌, ◌++◌, List, length, take, drop, IsSome}
 use Rattle.vp_engine.specs.Setups.{Setup}
+use Rattle.vp_engine.specs.Memory.{memory_held}
 use Rattle.vp_engine.specs.Stands.{Stands}
 use Rattle.vp_engine.proofs.printer.Printer.step.Given as goal
 
@@ -11,6 +12,7 @@ invariant-loop-taken l = record {
   stands : (setup : Setup) (t o : List ℕ) → Stands setup l.fn.self t o → Stands setup l.self (t ++ take l.taken l.input) (o ++ take l.put l.output);
   full : 0 < length l.self.pending → l.put ≡ length l.output;
   still : IsSome l.fn.self.stopped → (l.self.stopped ≡ l.fn.self.stopped) × (l.taken ≡ 0) × (l.put ≡ 0);
+  memory : memory_held l.self ≡ memory_held l.fn.self;
   zero : l.taken ≡ 0 → (l.fn.self.pending ≡ take l.put l.output ++ l.self.pending) × (l.self.stopped ≡ l.fn.self.stopped);
 }
 

@@ -1,6 +1,8 @@
 use Rattle.std.proofs.Common.{◌∷◌, ◌++◌, List, [], ℕ, sym, ap, subst, ◌∙◌}
 use Rattle.vp_engine.specs.Setups.{Setup}
 use Rattle.vp_engine.specs.Stands.{Engine, Stands, printer_of}
+use Rattle.vp_engine.specs.Memory.{memory_held}
+use Rattle.vp_engine.proofs.Memories.{memory_stays}
 use Rattle.vp_engine.proofs.Steps.{stands_more}
 use Rattle.vp_engine.proofs.printer.Printer.take.Goals as goal
 
@@ -15,4 +17,9 @@ pub invariant_of-self : goal.invariant_of-self
 invariant_of-self c = let i = c.self.invariant in (i.0, i.1 ++ c.args.byte ∷ [], i.2, stands c i.0 i.1 i.2 i.3)
 
 pub returns : goal.returns
-returns c = record { stands = λ setup t o s. stands c setup t o (subst (λ (p : Engine). Stands setup p t o) (sym c.self.view_is) s) }
+returns c =
+    let i = c.self.invariant in
+    record {
+      stands = λ setup t o s. stands c setup t o (subst (λ (p : Engine). Stands setup p t o) (sym c.self.view_is) s);
+      memory = memory_stays i.0 _ _ i.1 i.2 _ _ i.3 (stands c i.0 i.1 i.2 i.3) ∙ ap memory_held c.self.view_is;
+    }

@@ -1,6 +1,8 @@
 use Rattle.std.proofs.Common.{◌++◌, List, ℕ, take, sym, ap, subst, ◌∙◌}
 use Rattle.vp_engine.specs.Setups.{Setup}
 use Rattle.vp_engine.specs.Stands.{Engine, Stands, printer_of}
+use Rattle.vp_engine.specs.Memory.{memory_held}
+use Rattle.vp_engine.proofs.Memories.{memory_stays}
 use Rattle.vp_engine.proofs.Runs.{stands_run}
 use Rattle.vp_engine.proofs.printer.Printer.take_run.Goals as goal
 
@@ -18,3 +20,8 @@ invariant_of-self c =
 
 pub returns-clause-stands : goal.returns-clause-stands
 returns-clause-stands c setup t o s = stands c setup t o (subst (λ (p : Engine). Stands setup p t o) (sym c.self.view_is) s)
+
+pub returns-clause-memory : goal.returns-clause-memory
+returns-clause-memory c =
+    let i = c.self.invariant in
+    memory_stays i.0 _ _ i.1 i.2 _ _ i.3 (stands c i.0 i.1 i.2 i.3) ∙ ap memory_held c.self.view_is

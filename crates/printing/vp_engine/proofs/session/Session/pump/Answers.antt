@@ -2,6 +2,7 @@ use Rattle.std.proofs.Common.{◌≡◌, ap, subst, arith}
 use Rattle.vp_engine.specs.Paper.{IsOfByte}
 use Rattle.vp_engine.specs.Session.{Desk}
 use Rattle.vp_engine.proofs.Desks.{reaches_start, stop_answer}
+use Rattle.vp_engine.proofs.Memories.{memory_stays}
 use Rattle.vp_engine.proofs.session.Session.pump.Goals as goal
 
 pub returns-in-Some-clause-pumps : goal.returns-in-Some-clause-pumps
@@ -19,3 +20,10 @@ returns-in-Some-clause-at_end g c f after e end =
 
 pub returns-clause-at_end : goal.returns-clause-at_end
 returns-clause-at_end g c f after e end = c.run.ensures.at_end f after e end
+
+pub returns-clause-memory : goal.returns-clause-memory
+returns-clause-memory g c =
+    let i = c.somewhere.ensures in
+    let before = i.3 in
+    let after = (c.run.ensures.pumps i.0 i.1 i.2 before).reaches.at in
+    memory_stays i.0 _ _ before.t before.o after.t after.o before.stands after.stands
