@@ -356,8 +356,6 @@ impl Machine {
             Machine::ReceiptLines { .. } => 0,
             Machine::Label { label, .. } => label.memory(),
             Machine::LabelLines { .. } => 0,
-            Machine::ReceiptOffsets { .. } => 0,
-            Machine::LabelOffsets { .. } => 0,
         }
     }
 
