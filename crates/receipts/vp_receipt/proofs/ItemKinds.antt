@@ -1,7 +1,7 @@
 -- What items of some kinds leave alone.
 use Rattle.std.proofs.Common.{◌≡◌, ℕ, Bool, true, false, ◌&&◌, refl, List, [], ◌∷◌, Option, Some, None}
 use Rattle.vp_esc.specs.declared.item.EscItem.{EscItem}
-use Rattle.vp_esc.specs.declared.item.EscItem.TheVariants.{CarriageReturn, Control, QrIgnored, WithoutEffect, QrPrint, Symbol as SetSymbol}
+use Rattle.vp_esc.specs.declared.item.EscItem.TheVariants.{CarriageReturn, Control, QrIgnored, WithoutEffect, QrPrint, Symbol as SetSymbol, QrByte}
 use Rattle.arrayvec.specs.ArrayVec.{ArrayVec}
 use Rattle.vp_esc.specs.declared.item.Spelled.{Spelled}
 use Rattle.vp_bar_code.specs.declared.BarCode.{BarCode}
@@ -46,6 +46,19 @@ does_nothing setup before (Control byte) h = record { settings = refl; line = re
 does_nothing setup before (QrIgnored bytes) h = record { settings = refl; line = refl; stops = refl; stored = refl; mode = refl; layers = refl; refusal = refl; prints = nothing_by (mode setup before) }
 does_nothing setup before (WithoutEffect lead bytes) h = record { settings = refl; line = refl; stops = refl; stored = refl; mode = refl; layers = refl; refusal = refl; prints = nothing_by (mode setup before) }
 does_nothing setup before _ h = cc
+
+-- a byte that is stored for a QR symbol leaves all else alone
+pub record Stores (setup : Setup) (before : List EscItem) (item : EscItem) : Type 0 where
+  pub settings : settings_of setup (item ∷ before) ≡ settings_of setup before
+  pub line : line setup (item ∷ before) ≡ line setup before
+  pub stops : tab_stops (item ∷ before) ≡ tab_stops before
+  pub mode : mode setup (item ∷ before) ≡ mode setup before
+  pub layers : layers setup (item ∷ before) ≡ layers setup before
+  pub refusal : refusal setup before item ≡ None
+  pub prints : prints setup before item ≡ []
+
+pub stores : (setup : Setup) (before : List EscItem) (byte : ℕ) → Stores setup before (QrByte byte)
+stores setup before byte = record { settings = refl; line = refl; stops = refl; mode = refl; layers = refl; refusal = refl; prints = nothing_by (mode setup before) }
 
 -- one that prints no symbol
 pub no_image : (setup : Setup) (before : List EscItem) (item : EscItem) → is_symbol item ≡ false → symbol_image setup before item ≡ None

@@ -132,6 +132,10 @@ impl Receipt {
             Stands setup self.old before → self.new.pending ≡ prints setup before item.now) }
         ensures err { OnErr result (self.new ≡ self.old) }
     {
+        if let EscItem::QrByte(byte) = item {
+            self.store(*byte);
+            return Ok(());
+        }
         let effect = self.settings.effect(item);
         match effect {
             Effect::Nothing => {
@@ -148,6 +152,19 @@ impl Receipt {
                 Ok(())
             }
         }
+    }
+
+    /// Stores a byte for a QR symbol: all else stays as it was, but for a raster, which ends.
+    #[inline(always)]
+    fn store(&mut self, byte: u8)
+        requires { self.old.pending ≡ [] }
+        ensures stands { (setup : Setup) (before : List EscItem) → Stands setup self.old before →
+            Stands setup self.new (EscItem.QrByte byte ∷ before) }
+        ensures pending { self.new.pending ≡ [] }
+    {
+        let item = EscItem::QrByte(byte);
+        self.raster.begin(&item);
+        self.stored.take(&item);
     }
 
     /// Takes a byte of a raster. One that ends a row prints it, or lays it on the page.

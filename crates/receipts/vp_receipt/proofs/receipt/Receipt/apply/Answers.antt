@@ -1,6 +1,6 @@
 use Rattle.std.proofs.Common.{List, ◌∷◌, length, ap, sym, ◌∙◌, subst, arith, ◌≡◌}
 use Rattle.vp_esc.specs.declared.item.EscItem.{EscItem}
-use Rattle.vp_esc.specs.declared.item.EscItem.TheVariants.{RasterByte}
+use Rattle.vp_esc.specs.declared.item.EscItem.TheVariants.{RasterByte, QrByte}
 use Rattle.vp_page.specs.Layers.{Layer}
 use Rattle.vp_receipt_settings.specs.declared.effect.Effect.{Effect}
 use Rattle.vp_receipt_settings.specs.declared.page_mode.PrinterMode.{PrinterMode}
@@ -12,7 +12,7 @@ use Rattle.vp_receipt.specs.Printer.{printing_of}
 use Rattle.vp_receipt.specs.Standing.{Printing, Gathers, HasPageIf, Stands}
 use Rattle.vp_receipt.specs.Strips.{prints, refusal}
 use Rattle.vp_receipt.proofs.Effects.{IsKind, kind_is, is_acting}
-use Rattle.vp_receipt.proofs.ItemKinds.{does_nothing, no_refusal}
+use Rattle.vp_receipt.proofs.ItemKinds.{does_nothing, no_refusal, stores}
 use Rattle.vp_receipt.proofs.Showing.{shows_nothing}
 use Rattle.vp_receipt.proofs.receipt.Receipt.apply.Goals as goal
 
@@ -35,6 +35,17 @@ returns-in-Nothing-clause-stands c = λ setup before h.
       of_page = λ some. absurd (omega (arith, some, ap length none));
     }
 
+pub returns-in-QrByte-clause-refusal : goal.returns-in-QrByte-clause-refusal
+returns-in-QrByte-clause-refusal c = λ setup before h. ap (refusal setup before) c.in-QrByte.is ∙ (stores setup before c.in-QrByte.byte).refusal
+
+pub returns-in-QrByte-clause-stands : goal.returns-in-QrByte-clause-stands
+returns-in-QrByte-clause-stands c = λ setup before h.
+    subst (λ (i : EscItem). Stands setup c.store.new.self (i ∷ before)) (sym c.in-QrByte.is) (c.store.ensures.stands setup before h)
+
+pub returns-in-QrByte-clause-pending : goal.returns-in-QrByte-clause-pending
+returns-in-QrByte-clause-pending c = λ setup before h.
+    c.store.ensures.pending ∙ sym (ap (prints setup before) c.in-QrByte.is ∙ (stores setup before c.in-QrByte.byte).prints)
+
 pub returns-in-Fills-clause-stands : goal.returns-in-Fills-clause-stands
 returns-in-Fills-clause-stands c = λ setup before h.
     let byte : c.args.item.now ≡ RasterByte c.in-Fills.byte = subst (λ (e : Effect). IsKind c.args.item.now e) (sym c.effect-effect.ensures ∙ c.in-Fills.is) (kind_is c.self.inside.settings c.args.item.now) in
@@ -45,10 +56,10 @@ returns-in-Fills-clause-pending c = λ setup before h.
     let byte : c.args.item.now ≡ RasterByte c.in-Fills.byte = subst (λ (e : Effect). IsKind c.args.item.now e) (sym c.effect-effect.ensures ∙ c.in-Fills.is) (kind_is c.self.inside.settings c.args.item.now) in
     c.fill.ensures.pending setup before h ∙ ap (prints setup before) (sym byte)
 
-pub returns-in_default : goal.returns-in_default
-returns-in_default c =
+pub returns-in_default-effect : goal.returns-in_default-effect
+returns-in_default-effect c =
     let item = c.args.item.now in
-    let acting = is_acting item c.effect-effect.result c.in_default.not-Nothing c.in_default.not-Fills c.in_default.not-Draws
+    let acting = is_acting item c.effect-effect.result c.in_default-effect.not-Nothing c.in_default-effect.not-Fills c.in_default-effect.not-Draws
     (subst (λ (e : Effect). IsKind item e) (sym c.effect-effect.ensures) (kind_is c.self.inside.settings item)) in
     record { refusal = λ setup before h. no_refusal setup before item acting.symbol; stands = c.act.ensures.stands; pending = c.act.ensures.pending; err = tt }
 
@@ -76,6 +87,6 @@ act-requires c =
     record {
       pending = c.requires;
       effect = c.effect-effect.ensures ∙ ap (λ (p : Printing). effect_of p.settings item) c.self.view_is;
-      acts = is_acting item c.effect-effect.result c.in_default.not-Nothing c.in_default.not-Fills c.in_default.not-Draws
+      acts = is_acting item c.effect-effect.result c.in_default-effect.not-Nothing c.in_default-effect.not-Fills c.in_default-effect.not-Draws
           (subst (λ (e : Effect). IsKind item e) (sym c.effect-effect.ensures) (kind_is c.self.inside.settings item));
     }

@@ -1,0 +1,37 @@
+use Rattle.std.proofs.Common.{◌≡◌, [], List, ◌∷◌, length, ap, sym, ◌∙◌, subst, arith}
+use Rattle.vp_esc.specs.declared.item.EscItem.TheVariants.{QrByte}
+use Rattle.vp_page.specs.Layers.{Layer}
+use Rattle.vp_receipt_settings.specs.declared.page_mode.PrinterMode.{PrinterMode}
+use Rattle.vp_receipt_settings.specs.Line.{mode, Placed}
+use Rattle.vp_strips.specs.Held.{text_of}
+use Rattle.vp_receipt.specs.PageMarks.{layers}
+use Rattle.vp_receipt.specs.Printer.{printing_of}
+use Rattle.vp_receipt.specs.Standing.{Printing, Gathers, HasPageIf, Stands}
+use Rattle.vp_receipt.proofs.ItemKinds.{stores}
+use Rattle.vp_receipt.proofs.Showing.{shows_nothing}
+use Rattle.vp_receipt.proofs.receipt.Receipt.store.Goals as goal
+
+pub invariant_of-self : goal.invariant_of-self
+invariant_of-self c = record { fit = c.self.invariant.fit; raster = c.begin.ensures.part; job = c.self.invariant.job; turned = c.self.invariant.turned }
+
+pub returns-clause-pending : goal.returns-clause-pending
+returns-clause-pending c = ap (λ (p : Printing). p.pending) c.self.view_is ∙ c.requires
+
+pub returns-clause-stands : goal.returns-clause-stands
+returns-clause-stands c = λ setup before h.
+    let was : Stands setup (printing_of c.self.inside) before = subst (λ (p : Printing). Stands setup p before) (sym c.self.view_is) h in
+    let same = stores setup before c.args.byte in
+    let r = c.self.inside in
+    let none : text_of r.job r.canvas ≡ [] = ap (λ (p : Printing). p.pending) c.self.view_is ∙ c.requires in
+    record {
+      sheets = was.sheets;
+      settings = was.settings ∙ sym same.settings;
+      stops = was.stops ∙ sym same.stops;
+      raster = c.begin.ensures.gathers before;
+      stored = c.take.ensures before was.stored;
+      line = subst (λ (placed : List Placed). Gathers r.canvas.sheets r.settings r.canvas.bitmap r.waiting placed) (sym same.line) was.line;
+      page = subst (λ (l : List Layer). HasPageIf (mode setup (QrByte c.args.byte ∷ before)) l r.canvas.page) (sym same.layers)
+          (subst (λ (m : PrinterMode). HasPageIf m (layers setup before) r.canvas.page) (sym same.mode) was.page);
+      shows = shows_nothing setup _ _ before (QrByte c.args.byte ∷ before) none was.shows;
+      of_page = λ some. absurd (omega (arith, some, ap length none));
+    }
