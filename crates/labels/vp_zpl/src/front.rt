@@ -60,7 +60,7 @@ fn wide_front(input: &[u8]) -> usize
     at
 }
 
-/// Whether the next `WIDE` bytes are data of ^GF A; where a control character stands among them it isn't told.
+/// Whether the next `WIDE` bytes are data of ^GF A. Where a control character is among them it isn't told.
 #[inline(always)]
 fn are_codes(bytes: &[u8], at: usize) -> bool
     requires { at + WIDE ≤ length bytes.now }
