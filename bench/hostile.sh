@@ -99,6 +99,8 @@ measure 'a block of 262,000 lines, two of them a dot apart' '^PW1248' 1 \
     "^A0N,1500,1^FB1,2,-1499^FD$(repeated 262000 A)^FS"
 measure 'a block of 87,000 paragraphs, two lines a dot apart' '^PW1248' 1 \
     "^A0N,1500,1^FB32000,2,-1499^FD$(repeated 87000 'A\&')^FS"
+measure '1,024 blocks of 250 wide lines a dot apart' '^PW1248' 1024 \
+    "^A0N,1500,1248^FB1248,9999,-1499^FD$(repeated 250 A)^FS"
 
 digits=$(repeated 238 7)
 measure '1,020 turned Code 128 symbols of 238 bytes' '^PW1248' 1020 "^BY1^BCR,1248,N^FD>:$digits^FS"

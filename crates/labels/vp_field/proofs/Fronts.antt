@@ -1,5 +1,5 @@
 -- Words read along an axis, and side by side.
-use Rattle.std.proofs.Common.{inl, inr, ◌≡◌, ℕ, zero, suc, ◌+◌, ◌-◌, ◌*◌, ◌/◌, ◌%◌, ◌<◌, Bool, true, false, ltb, leb, ◌&&◌, ◌||◌, ◌⊎◌, get_or, refl, sym, ap, ◌∙◌, arith, List, [], ◌∷◌, ℤ, pos, ◌-ℤ◌, ◌+ℤ◌, ◌≤ℤ◌}
+use Rattle.std.proofs.Common.{inl, inr, ◌≡◌, ℕ, zero, suc, ◌+◌, ◌-◌, ◌*◌, ◌/◌, ◌%◌, ◌<◌, Bool, true, false, ltb, ◌&&◌, ◌||◌, ◌⊎◌, get_or, refl, sym, ap, ◌∙◌, arith, List, [], ◌∷◌, ℤ, pos, ◌-ℤ◌, ◌+ℤ◌, ◌≤ℤ◌}
 use Rattle.std.proofs.lemmas.Bool.{cases_lt, lt-ltb, le-ltb, lt-leb, le-leb, false_from_ne_true}
 use Rattle.std.proofs.lemmas.Int.{ints}
 use Rattle.vp_dots.specs.Dots.{bit, dot, shifted}

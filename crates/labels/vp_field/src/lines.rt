@@ -24,8 +24,7 @@ impl Clone for BlockRows<'_> {
 
 impl BlockRows<'_> {
     /// Whether lines that don't begin together meet.
-    pub fn lines_meet(&self) -> bool
-    {
+    pub fn lines_meet(&self) -> bool {
         self.block.rows > 1 && self.block.pitch != 0 && self.block.pitch < self.block.h
     }
 

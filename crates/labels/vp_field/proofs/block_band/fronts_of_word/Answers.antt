@@ -1,7 +1,6 @@
-use Rattle.std.proofs.Common.{ℕ, ◌+◌, ◌*◌, ◌∙◌, ap, sym, arith, rules, w64}
+use Rattle.std.proofs.Common.{◌+◌, ◌*◌, ◌∙◌, ap, sym, rules, w64}
 use mir.Val.{SFits}
 use Rattle.std.proofs.lemmas.Int.{to_z-of_z}
-use Rattle.vp_dots.specs.Dots.{shifted}
 use Rattle.vp_dots.specs.Words.{word_dot}
 use Rattle.vp_glyph.specs.Blocks.{block_dot, block_inside}
 use Rattle.vp_glyph.specs.Layouts.{layout_of}

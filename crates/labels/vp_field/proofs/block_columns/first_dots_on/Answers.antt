@@ -1,6 +1,5 @@
 use Rattle.std.proofs.Common.{◌+◌, ◌-◌, ◌*◌, ap, ◌∙◌, arith, ◌≡◌}
 use Rattle.vp_dots.specs.Dots.{dot}
-use Rattle.vp_dots.specs.Words.{word_dot}
 use Rattle.vp_dots.proofs.Words.{word_row}
 use Rattle.vp_field.proofs.Fronts.{four_bytes}
 use Rattle.vp_field.proofs.block_columns.first_dots_on.Goals as goal

@@ -1,8 +1,8 @@
-use Rattle.std.proofs.Common.{◌≡◌, ℕ, ◌+◌, ◌*◌, ◌/◌, ◌%◌, ◌<◌, ltb, ◌&&◌, length, sym, ap, ◌∙◌, arith, rules, w64, to_z}
+use Rattle.std.proofs.Common.{◌≡◌, ◌+◌, ◌*◌, ◌/◌, ◌%◌, ◌<◌, ltb, ◌&&◌, sym, ap, ◌∙◌, arith, rules, w64, to_z}
 use mir.Val.{SFits}
 use Rattle.std.proofs.lemmas.Int.{to_z-of_z}
 use Rattle.std.proofs.lemmas.Bool.{lt-ltb}
-use Rattle.vp_dots.specs.Dots.{shifted, dots}
+use Rattle.vp_dots.specs.Dots.{shifted}
 use Rattle.vp_dots.proofs.Paints.{painted_same}
 use Rattle.vp_glyph.specs.Blocks.{block_dot}
 use Rattle.vp_glyph.specs.Layouts.{layout_of}

@@ -1,6 +1,6 @@
-use Rattle.std.proofs.Common.{inl, inr, ◌≡◌, ℕ, ◌+◌, ◌-◌, ◌<◌, ◌≤◌, ◌^◌, Bool, true, false, arith, sym, ap, ◌∙◌, pos, get_or}
+use Rattle.std.proofs.Common.{◌≡◌, ℕ, ◌+◌, ◌<◌, true, false, arith, sym, ap, ◌∙◌, pos, get_or}
 use Rattle.std.specs.Prelude.{unwrap_or, option_map}
-use Rattle.std.proofs.lemmas.Bool.{cases_lt, false_from_ne_true}
+use Rattle.std.proofs.lemmas.Bool.{false_from_ne_true}
 use Rattle.vp_dots.specs.Dots.{shifted}
 use Rattle.vp_dots.specs.Words.{word_dot}
 use Rattle.vp_glyph.specs.Blocks.{block_dot, block_height, block_inside}

@@ -1,4 +1,4 @@
-use Rattle.std.proofs.Common.{◌≡◌, ℕ, ◌+◌, ◌-◌, ◌<◌, ◌≤◌, ◌&&◌, ltb, pos}
+use Rattle.std.proofs.Common.{◌+◌, ◌-◌, ◌≤◌, ◌&&◌, ltb, pos}
 use Rattle.vp_dots.specs.Places.{RowsPainted}
 use Rattle.vp_glyph.specs.Blocks.{block_dot}
 use Rattle.vp_glyph.specs.Layouts.{layout_of}
