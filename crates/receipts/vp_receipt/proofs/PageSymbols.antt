@@ -1,5 +1,5 @@
 -- What an item with a symbol lays on the page, and what lays nothing but the line.
-use Rattle.std.proofs.Common.{◌≡◌, ℕ, ◌-◌, Bool, ◌&&◌, ◌||◌, nat_le, refl, ap, sym, subst, ◌∙◌, List, [], ◌∷◌, Option, Some, None}
+use Rattle.std.proofs.Common.{◌≡◌, ℕ, ◌-◌, Bool, ◌&&◌, ◌||◌, nat_le, arith, refl, ap, sym, subst, ◌∙◌, List, [], ◌∷◌, Option, Some, None}
 use Rattle.vp_esc.specs.declared.item.EscItem.{EscItem}
 use Rattle.vp_esc.specs.declared.item.EscItem.TheVariants.{QrPrint, Symbol as SetSymbol}
 use Rattle.vp_page.specs.declared.area.Area.{Area}

@@ -32,9 +32,9 @@ item_adds setup before item l =
     let ends = ends_line setup before item && is_open (line setup before) in
     let lined = laid_if ends (line_mark setup before) l in
     let first = line_adds ends (line_mark setup before) l in
-    let then = wipe_adds (wipes item) (area setup before) lined in
+    let second = wipe_adds (wipes item) (area setup before) lined in
     let last = own_adds (own_mark setup before item) (wiped_if (wipes item) (area setup before) lined) in
-    omega (arith, first, then, last)
+    omega (arith, first, second, last)
 
 pub adds_at_most : AddsAtMost
 adds_at_most setup before PageMode m =

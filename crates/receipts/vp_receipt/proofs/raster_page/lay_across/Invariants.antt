@@ -1,6 +1,7 @@
 use Rattle.std.proofs.Common.{◌*◌, min, List, ◌∷◌}
 use Rattle.vp_page.specs.Layers.{Layer, Laid, first_rows}
 use Rattle.vp_page.specs.Pages.{HasPage}
+use Rattle.vp_receipt_settings.specs.Rasters.{times_down}
 use Rattle.vp_receipt.specs.PageMarks.{mark_of, rows_dot}
 use Rattle.vp_receipt.proofs.raster_page.lay_across.Given as goal
 

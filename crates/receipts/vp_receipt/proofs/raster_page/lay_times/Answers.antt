@@ -26,3 +26,8 @@ loop-y-preserved c = λ dots layers same page.
     (λ u h. same u y (omega arith) (omega arith))
     (subst (λ v. HasPage (Laid (row_mark p.area p.direction v (dot c.args.row.now)) ∷ Laid (first_rows (c.args.at + y) m) ∷ layers) c.lay_row.new.self) below
     (c.lay_row.ensures _ above)))
+
+pub returns : goal.returns
+returns c = λ dots layers same page.
+    let all : c.loop-y.y ≡ c.args.times = omega arith in
+    subst (λ n. HasPage (Laid (first_rows (c.args.at + n) (mark_of c.args.p 0 dots)) ∷ layers) c.loop-y.page) all (c.loop-y.invariant dots layers same page)
