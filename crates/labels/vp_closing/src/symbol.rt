@@ -30,7 +30,7 @@ fn bars(defaults: BarDefaults, choice: BarChoice, bytes: Span) -> BarSymbol
         code: choice.code,
         narrow: u16::from(defaults.module_dots),
         wide: wide_bar(defaults),
-        height: ranged(choice.height, 1, 8000, defaults.height),
+        height: ranged(1, 8000, defaults.height, choice.height),
         place: choice.place,
     }
 }

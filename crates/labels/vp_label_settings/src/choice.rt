@@ -103,8 +103,8 @@ impl SymbolChoice {
         ensures { result ≡ qr_choice model module_dots }
     {
         SymbolChoice::Qr {
-            model: ranged(model, 1, 2, 2),
-            module_dots: ranged(module_dots, 1, 10, 2),
+            model: ranged(1, 2, 2, model),
+            module_dots: ranged(1, 10, 2, module_dots),
         }
     }
 }
@@ -142,8 +142,8 @@ impl FieldBlock {
         ensures { result ≡ block_of width lines space justification }
     {
         FieldBlock {
-            width: ranged(width, 0, 32_000, 0),
-            lines: ranged(lines, 1, 9999, 1),
+            width: ranged(0, 32_000, 0, width),
+            lines: ranged(1, 9999, 1, lines),
             space: line_space(space),
             alignment: alignment_of(justification),
         }

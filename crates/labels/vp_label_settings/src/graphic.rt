@@ -11,10 +11,10 @@ use vp_zpl::item::GraphicFormat;
 pub fn box_of(width: Option<u32>, height: Option<u32>, thickness: Option<u32>) -> GraphicBox
     ensures { result ≡ box_of width height thickness }
 {
-    let thickness = ranged(thickness, 1, 32_000, 1);
+    let thickness = ranged(1, 32_000, 1, thickness);
     GraphicBox {
-        width: ranged(width, 1, 32_000, thickness).max(thickness),
-        height: ranged(height, 1, 32_000, thickness).max(thickness),
+        width: ranged(1, 32_000, thickness, width).max(thickness),
+        height: ranged(1, 32_000, thickness, height).max(thickness),
         thickness,
     }
 }

@@ -47,7 +47,7 @@ pub struct FieldParts {
 fn coordinate(argument: Option<u32>) -> u16
     ensures { result ≡ coordinate argument }
 {
-    ranged(argument, 0, 32_000, 0)
+    ranged(0, 32_000, 0, argument)
 }
 
 impl FieldParts {

@@ -4,7 +4,7 @@ ghost use Rattle.vp_label_settings.specs.Ranges.{ranged};
 
 /// An argument brought into its range, which goes from `low` to `high`; where it
 /// is missing or can't be read, its default.
-pub fn ranged(argument: Option<u32>, low: u16, high: u16, default: u16) -> u16
+pub fn ranged(low: u16, high: u16, default: u16, argument: Option<u32>) -> u16
     ensures value { result ≡ ranged low high default argument }
     ensures most { result ≤ max default (max low high) }
 {

@@ -61,8 +61,8 @@ impl Home {
         ensures { result ≡ record { x = in_range 0 32000 0 x; y = in_range 0 32000 0 y } }
     {
         Home {
-            x: ranged(x, 0, 32_000, 0),
-            y: ranged(y, 0, 32_000, 0),
+            x: ranged(0, 32_000, 0, x),
+            y: ranged(0, 32_000, 0, y),
         }
     }
 }
@@ -77,9 +77,9 @@ impl BarDefaults {
         } }
     {
         BarDefaults {
-            module_dots: ranged(narrow, 1, 10, 2) as u8,
-            ratio_tenths: ranged(ratio_tenths, 20, 30, 30) as u8,
-            height: ranged(height, 1, 8000, 10),
+            module_dots: ranged(1, 10, 2, narrow) as u8,
+            ratio_tenths: ranged(20, 30, 30, ratio_tenths) as u8,
+            height: ranged(1, 8000, 10, height),
         }
     }
 }
@@ -135,11 +135,11 @@ impl Settings {
                 ..self
             },
             Command::PrintWidth { dots } => Settings {
-                print_width: ranged(dots, 1, WIDEST, 832),
+                print_width: ranged(1, WIDEST, 832, dots),
                 ..self
             },
             Command::LabelLength { dots } => Settings {
-                label_length: ranged(dots, 1, LONGEST, 1218),
+                label_length: ranged(1, LONGEST, 1218, dots),
                 ..self
             },
             Command::PrintOrientation { inverted } => Settings {

@@ -31,12 +31,14 @@ abbrev pub ListedItem : Bool → Type 0 → Type 0
 ListedItem false Item = Item
 ListedItem true Item = Placed Item
 
-abbrev pub listed_items : (with_offsets : Bool) → {Item : Type 0} → Reading Item → List ℕ → List (ListedItem with_offsets Item)
+abbrev pub listed_items
+    : (with_offsets : Bool) → {Item : Type 0} → Reading Item → List ℕ → List (ListedItem with_offsets Item)
 listed_items false reading bytes = reading.items bytes
 listed_items true reading bytes = placed_from reading bytes 0 (reading.items bytes)
 
 -- what bytes say, where each item has its place or none has
-abbrev pub listed_by : (with_offsets : Bool) → {Item : Type 0} → Reading Item → Reading (ListedItem with_offsets Item)
+abbrev pub listed_by
+    : (with_offsets : Bool) → {Item : Type 0} → Reading Item → Reading (ListedItem with_offsets Item)
 listed_by with_offsets reading = record {
   items = listed_items with_offsets reading;
   fault_of = reading.fault_of;
@@ -51,6 +53,7 @@ abbrev pub placed_line : {Item : Type 0} → (Item → List ℕ) → Placed Item
 placed_line line placed = offset_line placed.offset (line placed.item)
 
 -- the line of an item with its place or without
-abbrev pub line_by : (with_offsets : Bool) → {Item : Type 0} → (Item → List ℕ) → ListedItem with_offsets Item → List ℕ
+abbrev pub line_by
+    : (with_offsets : Bool) → {Item : Type 0} → (Item → List ℕ) → ListedItem with_offsets Item → List ℕ
 line_by false line = line
 line_by true line = placed_line line

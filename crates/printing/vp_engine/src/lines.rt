@@ -140,6 +140,7 @@ impl Lines {
 }
 
 /// Adds a line, behind its place where it has one.
+#[inline(always)]
 fn append(text: &mut ArrayVec<u8, 821>, place: Option<u64>, line: &[u8])
     requires { array_vec_len text.old + length line.now ≤ 800 }
     ensures line { text.new.items ≡ text.old.items ++ listed_line place line.now }

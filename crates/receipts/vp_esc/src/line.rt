@@ -12,6 +12,8 @@ use vp_dots::spell;
 
 impl EscItem {
     /// The item's line of the listing, up to and with its LF: a word, and the bytes of the command in hex.
+    // Where it stands in another function, its room is copied once more.
+    #[inline(never)]
     pub fn line(&self) -> ArrayVec<u8, 800>
         ensures { result.items ≡ line_of self.now }
     {
