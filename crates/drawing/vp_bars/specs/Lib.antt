@@ -1,3 +1,4 @@
+-- The rules.
 pub mod Symbols
 pub mod Code39
 pub mod Ean13
@@ -10,8 +11,9 @@ pub mod Patterns
 pub mod Elements
 pub mod Symbologies
 pub mod Widths
+pub mod Boxes
+pub mod Laws
+-- What the code keeps.
 pub mod Regular
 pub mod Drawing
-pub mod Boxes
 pub mod InBox
-pub mod Laws

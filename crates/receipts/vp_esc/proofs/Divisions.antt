@@ -3,15 +3,15 @@ use Rattle.std.proofs.Common.{◌≡◌, ◌≢◌, ℕ, Bool, true, false, List
 use Rattle.std.proofs.lemmas.List.Concat.{flat_map-append}
 use Rattle.std.specs.List.{AllByRecursion}
 use Rattle.std.proofs.lemmas.List.{append-nil}
-use Rattle.vp_esc.specs.Units.{is_open}
+use Rattle.vp_esc.specs.Units.{is_unfinished}
 use Rattle.vp_esc.specs.Split.{Split, with_rest, with_byte, split_on, split}
-use Rattle.vp_esc.specs.Laws.{IsUnit, IsRest, HasOpenFronts, Splits, all_bytes}
+use Rattle.vp_esc.specs.Laws.{IsUnit, IsRest, HasUnfinishedFronts, Splits, all_bytes}
 
 empty : Split
 empty = record { units = []; rest = [] }
 
-pub open_nil : is_open [] ≡ true
-unfolding is_open
+pub open_nil : is_unfinished [] ≡ true
+unfolding is_unfinished
 open_nil = refl
 
 pub split_on-append : (s : Split) (xs ys : List ℕ) → split_on s (xs ++ ys) ≡ split_on (split_on s xs) ys
@@ -21,13 +21,13 @@ split_on-append s (x ∷ xs) ys = split_on-append (with_byte s x) xs ys
 
 -- along bytes whose fronts are open
 along : (us : List (List ℕ)) (r : List ℕ) (x : ℕ) (xs : List ℕ)
-    → ((a b : List ℕ) → x ∷ xs ≡ a ++ b → a ≢ [] → b ≢ [] → is_open (r ++ a) ≡ true)
-    → split_on (record { units = us; rest = r }) (x ∷ xs) ≡ with_rest us (r ++ x ∷ xs) (is_open (r ++ x ∷ xs))
+    → ((a b : List ℕ) → x ∷ xs ≡ a ++ b → a ≢ [] → b ≢ [] → is_unfinished (r ++ a) ≡ true)
+    → split_on (record { units = us; rest = r }) (x ∷ xs) ≡ with_rest us (r ++ x ∷ xs) (is_unfinished (r ++ x ∷ xs))
 unfolding split_on
 along us r x [] each = refl
 along us r x (y ∷ ys) each =
-    let here : is_open (r ++ x ∷ []) ≡ true = each (x ∷ []) (y ∷ ys) refl (λ e. cc e) (λ e. cc e) in
-    let on : (a b : List ℕ) → y ∷ ys ≡ a ++ b → a ≢ [] → b ≢ [] → is_open ((r ++ x ∷ []) ++ a) ≡ true =
+    let here : is_unfinished (r ++ x ∷ []) ≡ true = each (x ∷ []) (y ∷ ys) refl (λ e. cc e) (λ e. cc e) in
+    let on : (a b : List ℕ) → y ∷ ys ≡ a ++ b → a ≢ [] → b ≢ [] → is_unfinished ((r ++ x ∷ []) ++ a) ≡ true =
     λ a b e na nb. rw append_assoc (each (x ∷ a) b (ap (λ z. x ∷ z) e) (λ e. cc e) nb) in
     rw here (along us (r ++ x ∷ []) y ys on ∙ rw append_assoc refl)
 
@@ -46,14 +46,14 @@ shift : (us vs : List (List ℕ)) (r : List ℕ) (bytes : List ℕ)
 unfolding split_on shifted
 shift us vs r [] = refl
 shift us vs r (b ∷ bytes) =
-    elim (is_open (r ++ b ∷ [])) as (λ o. split_on (with_rest (us ++ vs) (r ++ b ∷ []) o) bytes ≡ shifted us (split_on (with_rest vs (r ++ b ∷ []) o) bytes)) [
+    elim (is_unfinished (r ++ b ∷ [])) as (λ o. split_on (with_rest (us ++ vs) (r ++ b ∷ []) o) bytes ≡ shifted us (split_on (with_rest vs (r ++ b ∷ []) o) bytes)) [
       | true ↦ shift us vs (r ++ b ∷ []) bytes
       | false ↦ rw append_assoc (shift us (vs ++ (r ++ b ∷ []) ∷ []) [] bytes)
     ]
 
 read_unit : (unit : List ℕ) → IsUnit unit → split_on empty unit ≡ record { units = unit ∷ []; rest = [] }
 unfolding empty
-read_unit [] u = let o : is_open [] ≡ true = open_nil in let w : is_open [] ≡ false = u.whole in cc
+read_unit [] u = let o : is_unfinished [] ≡ true = open_nil in let w : is_unfinished [] ≡ false = u.whole in cc
 read_unit (x ∷ xs) u = along [] [] x xs (λ a b e na nb. u.shortest a b e nb) ∙ rw u.whole refl
 
 read_rest : (rest : List ℕ) → IsRest rest → split_on empty rest ≡ record { units = []; rest = rest }
@@ -86,11 +86,11 @@ front_of_push (r ∷ rest) (f ∷ front) more x e n =
     let w : (z : List ℕ) × (rest ≡ front ++ z) = front_of_push rest front more x t n in
     (w.0, cons_eq h w.1)
 
-pub fronts_push : (rest : List ℕ) (x : ℕ) → IsRest rest → HasOpenFronts (rest ++ x ∷ [])
+pub fronts_push : (rest : List ℕ) (x : ℕ) → IsRest rest → HasUnfinishedFronts (rest ++ x ∷ [])
 fronts_push rest x r front more e n =
     let w : (z : List ℕ) × (rest ≡ front ++ z) = front_of_push rest front more x e n in by_end w.0 w.1
   where
-    by_end : (z : List ℕ) → rest ≡ front ++ z → is_open front ≡ true
+    by_end : (z : List ℕ) → rest ≡ front ++ z → is_unfinished front ≡ true
     by_end [] q = let p : rest ≡ front = q ∙ append-nil front in rw p at r.opens
     by_end (y ∷ z) q = r.shortest front (y ∷ z) q (λ e. cc e)
 
@@ -104,11 +104,11 @@ bytes_push units unit = flat_map-append (λ u. u) units (unit ∷ []) ∙ ap (λ
 rest_nil : IsRest []
 rest_nil = record { opens = open_nil; shortest = λ front more e n. by_front front more e n }
   where
-    by_front : (front more : List ℕ) → [] ≡ front ++ more → more ≢ [] → is_open front ≡ true
+    by_front : (front more : List ℕ) → [] ≡ front ++ more → more ≢ [] → is_unfinished front ≡ true
     by_front [] more e n = open_nil
     by_front (f ∷ front) more e n = cc
 
-splits_by : (units : List (List ℕ)) (rest bytes : List ℕ) (x : ℕ) (o : Bool) → Splits bytes units rest → is_open (rest ++ x ∷ []) ≡ o
+splits_by : (units : List (List ℕ)) (rest bytes : List ℕ) (x : ℕ) (o : Bool) → Splits bytes units rest → is_unfinished (rest ++ x ∷ []) ≡ o
     → Splits (bytes ++ x ∷ []) (with_rest units (rest ++ x ∷ []) o).units (with_rest units (rest ++ x ∷ []) o).rest
 splits_by units rest bytes x true s o =
     record {
@@ -130,7 +130,7 @@ unfolding split_on
 splits_on s bytes [] h = rw append-nil h
 splits_on s bytes (x ∷ xs) h =
     let t : Splits ((bytes ++ x ∷ []) ++ xs) (split_on (with_byte s x) xs).units (split_on (with_byte s x) xs).rest =
-    splits_on (with_byte s x) (bytes ++ x ∷ []) xs (splits_by s.units s.rest bytes x (is_open (s.rest ++ x ∷ [])) h refl) in
+    splits_on (with_byte s x) (bytes ++ x ∷ []) xs (splits_by s.units s.rest bytes x (is_unfinished (s.rest ++ x ∷ [])) h refl) in
     rw append_assoc at t
 
 -- the reading is one

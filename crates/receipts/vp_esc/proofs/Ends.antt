@@ -15,7 +15,7 @@ use Rattle.vp_esc.specs.declared.command.Plain.{Plain as PlainCommand}
 use Rattle.vp_esc.specs.declared.command.Plain.TheVariants.{Alone, OfByte, OfWord, Area, Cut, Sensor, RealTime, Unused}
 use Rattle.vp_esc.specs.Values.{is_kind_to_zero}
 use Rattle.vp_esc.specs.Command.{lead_of, command_of, head_len, is_listed}
-use Rattle.vp_esc.specs.Units.{is_open, fault_in, needs_more, is_counted, data_len, rises_from, is_open_after, is_open_named, fault_after}
+use Rattle.vp_esc.specs.Units.{is_unfinished, fault_in, needs_more, is_counted, data_len, rises_from, is_unfinished_after, is_unfinished_named, fault_after}
 use Rattle.vp_esc.specs.Reader.{last_or}
 use Rattle.vp_esc.specs.Split.{split, fault_of}
 use Rattle.vp_esc.specs.Laws.{IsUnit, IsRest, Splits}
@@ -123,10 +123,10 @@ can_end k (a ∷ args) l = end_begun k a args l
 -- bytes that make a front whole
 record CanClose (front : List ℕ) : Type 0 where
   pub more : List ℕ
-  pub whole : is_open (front ++ more) ≡ false
+  pub whole : is_unfinished (front ++ more) ≡ false
 
 close_lead : (lead : Lead) (b : ℕ) → lead_of b ≡ Some lead → CanClose (b ∷ [])
-unfolding is_open command_of needs_more
+unfolding is_unfinished command_of needs_more
 close_lead Esc b e = record { more = 0x40 ∷ []; whole = rw e refl }
 close_lead Gs b e = record { more = 0x61 ∷ 0 ∷ []; whole = rw e refl }
 close_lead Fs b e = record { more = 0x2E ∷ []; whole = rw e refl }
@@ -137,39 +137,39 @@ listed_of true x e = refl
 listed_of false x e = cc
 
 named_open : (k : Command) (args more : List ℕ) → is_listed k (args ++ more) ≡ true → needs_more k (args ++ more) ≡ false
-    → is_open_named (Some k) (args ++ more) ≡ false
+    → is_unfinished_named (Some k) (args ++ more) ≡ false
 named_open k args more l n = rw l n
 
 close_named : (lead : Lead) (b name : ℕ) (args : List ℕ) (o : Option Command) → lead_of b ≡ Some lead → command_of lead name ≡ o
     → fault_after (Some lead) b (name ∷ args) ≡ None → CanClose (b ∷ name ∷ args)
-unfolding is_open
+unfolding is_unfinished
 close_named lead b name args None e f g = let u : Some (Unknown b name) ≡ None = rw f at g in cc
 close_named lead b name args (Some k) e f g =
     let l : is_listed k args ≡ true = listed_of (is_listed k args) (Unknown b name) (rw f at g) in
     let c : CanEnd k args = can_end k args l in
     record { more = c.more; whole = rw e (rw f (rw c.listed c.whole)) }
 
-close_after : (o : Option Lead) (b : ℕ) (bytes : List ℕ) → lead_of b ≡ o → is_open_after o bytes ≡ true → fault_after o b bytes ≡ None
+close_after : (o : Option Lead) (b : ℕ) (bytes : List ℕ) → lead_of b ≡ o → is_unfinished_after o bytes ≡ true → fault_after o b bytes ≡ None
     → CanClose (b ∷ bytes)
 close_after None b bytes e f g = cc
 close_after (Some lead) b [] e f g = close_lead lead b e
 close_after (Some lead) b (name ∷ args) e f g = close_named lead b name args (command_of lead name) e refl g
 
-can_close : (front : List ℕ) → is_open front ≡ true → fault_in front ≡ None → CanClose front
-unfolding is_open fault_in
+can_close : (front : List ℕ) → is_unfinished front ≡ true → fault_in front ≡ None → CanClose front
+unfolding is_unfinished fault_in
 can_close [] o f = record { more = 0x0A ∷ []; whole = refl }
 can_close (b ∷ bytes) o f = close_after (lead_of b) b bytes refl o f
 
 -- the first whole one of the fronts that go on from a rest is a unit
-unit_within : (more rest : List ℕ) → IsRest rest → is_open (rest ++ more) ≡ false → (end : List ℕ) × IsUnit (rest ++ end)
-unit_within [] rest r e = let o : is_open rest ≡ false = rw append-nil at e in let p : is_open rest ≡ true = r.opens in cc
+unit_within : (more rest : List ℕ) → IsRest rest → is_unfinished (rest ++ more) ≡ false → (end : List ℕ) × IsUnit (rest ++ end)
+unit_within [] rest r e = let o : is_unfinished rest ≡ false = rw append-nil at e in let p : is_unfinished rest ≡ true = r.opens in cc
 unit_within (x ∷ more) rest r e = ⊎_elim
-    (λ (o : is_open (rest ++ x ∷ []) ≡ true).
+    (λ (o : is_unfinished (rest ++ x ∷ []) ≡ true).
     let next : IsRest (rest ++ x ∷ []) = record { opens = o; shortest = fronts_push rest x r } in
     let w : (end : List ℕ) × IsUnit ((rest ++ x ∷ []) ++ end) = unit_within more (rest ++ x ∷ []) next (rw append_assoc e) in
     (x ∷ w.0, rw append_assoc at w.1))
-    (λ (o : is_open (rest ++ x ∷ []) ≡ false). (x ∷ [], record { whole = o; shortest = fronts_push rest x r }))
-    (cases_Bool (is_open (rest ++ x ∷ [])))
+    (λ (o : is_unfinished (rest ++ x ∷ []) ≡ false). (x ∷ [], record { whole = o; shortest = fronts_push rest x r }))
+    (cases_Bool (is_unfinished (rest ++ x ∷ [])))
 
 pub completes_lem : (bytes : List ℕ) → fault_of bytes ≡ None → (end : List ℕ) × IsUnit ((split bytes).rest ++ end)
 unfolding fault_of

@@ -3,32 +3,32 @@ use Rattle.std.proofs.Common.{◌≡◌, ℕ, true, false, List, [], ◌∷◌, 
 use Rattle.std.proofs.lemmas.Bool.{cases_Bool}
 use Rattle.std.proofs.lemmas.List.{append-nil}
 use Rattle.vp_dots.specs.declared.fault.Fault.{Fault}
-use Rattle.vp_esc.specs.Units.{is_open, fault_in}
+use Rattle.vp_esc.specs.Units.{is_unfinished, fault_in}
 use Rattle.vp_esc.specs.Split.{Split, split, split_on, with_rest, with_byte, fault_of}
 use Rattle.vp_esc.specs.Table.{IsRow}
 use Rattle.vp_esc.proofs.Divisions.{split_on-append}
 use Rattle.vp_esc.proofs.Fronts.{closed_sound, stuck}
 use Rattle.vp_esc.proofs.Rows.{row_is_unit}
 
-stays_open : (front : List ℕ) (f : Fault) → fault_in front ≡ Some f → is_open front ≡ true
-stays_open front f e = elim (cases_Bool (is_open front)) [
+stays_open : (front : List ℕ) (f : Fault) → fault_in front ≡ Some f → is_unfinished front ≡ true
+stays_open front f e = elim (cases_Bool (is_unfinished front)) [
   | inl o ↦ o
   | inr c ↦ let none : fault_in front ≡ None = closed_sound front c in cc
 ]
 
 -- whatever follows
-stuck_along : (front more : List ℕ) (f : Fault) → fault_in front ≡ Some f → is_open (front ++ more) ≡ true
-stuck_along front [] f e = ap is_open (append-nil front) ∙ stays_open front f e
+stuck_along : (front more : List ℕ) (f : Fault) → fault_in front ≡ Some f → is_unfinished (front ++ more) ≡ true
+stuck_along front [] f e = ap is_unfinished (append-nil front) ∙ stays_open front f e
 stuck_along front (c ∷ more) f e =
     let on = stuck front c f e in
-    let h : is_open ((front ++ c ∷ []) ++ more) ≡ true = stuck_along (front ++ c ∷ []) more f on.1 in
+    let h : is_unfinished ((front ++ c ∷ []) ++ more) ≡ true = stuck_along (front ++ c ∷ []) more f on.1 in
     rw append_assoc at h
 
 pub no_row : (bytes more : List ℕ) (f : Fault) → fault_of bytes ≡ Some f → IsRow ((split bytes).rest ++ more) → ⊥
 unfolding fault_of
 no_row bytes more f e r =
-    let open_still : is_open ((split bytes).rest ++ more) ≡ true = stuck_along (split bytes).rest more f e in
-    let whole : is_open ((split bytes).rest ++ more) ≡ false = (row_is_unit ((split bytes).rest ++ more) r).whole in
+    let open_still : is_unfinished ((split bytes).rest ++ more) ≡ true = stuck_along (split bytes).rest more f e in
+    let whole : is_unfinished ((split bytes).rest ++ more) ≡ false = (row_is_unit ((split bytes).rest ++ more) r).whole in
     cc
 
 byte_stays : (s : Split) (c : ℕ) (f : Fault) → fault_in s.rest ≡ Some f → fault_in (with_byte s c).rest ≡ Some f

@@ -11,7 +11,7 @@ use Rattle.vp_esc.specs.declared.command.Command.{Command}
 use Rattle.vp_esc.specs.declared.reader.EscReader.{EscReader}
 use Rattle.vp_esc.specs.declared.reader.Phase.TheVariants.{Stopped, Ground, AfterLead}
 use Rattle.vp_esc.specs.Command.{lead_of, lead_byte, command_of, is_listed}
-use Rattle.vp_esc.specs.Units.{is_open, given, fault_in, needs_more, given_by, single_item, is_open_after, fault_after, is_open_named, is_listed_name}
+use Rattle.vp_esc.specs.Units.{is_unfinished, given, fault_in, needs_more, given_by, single_item, is_unfinished_after, fault_after, is_unfinished_named, is_listed_name}
 use Rattle.vp_esc.specs.Reader.{Begun, Advances, StandsIn, Lands}
 
 -- a lead's byte is the lead's
@@ -29,13 +29,13 @@ lead_byte-of b Dle e = grind (arith, nat_tests)
 
 -- a front that is a command with these arguments
 pub record Front (front : List ℕ) (lead : Lead) (name : ℕ) (command : Command) (args : List ℕ) : Type 0 where
-  pub opens : is_open front ≡ cond (is_listed command args) (needs_more command args) true
+  pub opens : is_unfinished front ≡ cond (is_listed command args) (needs_more command args) true
   pub gives : given front ≡ cond (is_listed command args) (given_by lead name command args) []
   pub fault : fault_in front ≡ cond (is_listed command args) None (Some (Unknown (lead_byte lead) name))
 
 pub front_is : (lead : Lead) (name : ℕ) (command : Command) (args rest : List ℕ) → command_of lead name ≡ Some command
     → rest ≡ lead_byte lead ∷ name ∷ args → Front rest lead name command args
-unfolding is_open given fault_in
+unfolding is_unfinished given fault_in
 front_is lead name command args rest named bytes =
     record {
       opens = rw bytes (rw lead_of-lead_byte (rw named refl));
@@ -93,12 +93,12 @@ refuses {lead} {name} {command} {args} {rest} c new b l p =
 -- a byte that is a lead
 pub leads : (b : ℕ) (lead : Lead) (new : EscReader) → lead_of b ≡ Some lead → new.phase ≡ AfterLead → new.lead ≡ lead
     → Advances (Ok None) [] b new
-unfolding is_open given fault_in
+unfolding is_unfinished given fault_in
 leads b lead new e p q = record { gives = (rw e refl, rw e refl); stands = rw e (rw p (rw q (ap (λ x. x ∷ []) (sym (lead_byte-of b lead e))))) }
 
 -- a byte alone
 pub alone : (b : ℕ) (new : EscReader) → lead_of b ≡ None → new.phase ≡ Ground → Advances (Ok (Some (single_item b))) [] b new
-unfolding is_open given fault_in
+unfolding is_unfinished given fault_in
 alone b new e p = record { gives = (rw e refl, rw e refl); stands = rw e (rw p refl) }
 
 -- the same for a reader between units
@@ -151,7 +151,7 @@ given_lead Dle = refl
 -- the table has no command of these two bytes
 pub unnamed : (lead : Lead) (c : ℕ) (new : EscReader) → command_of lead c ≡ None → new.phase ≡ Stopped (Unknown (lead_byte lead) c)
     → Advances (Err (Unknown (lead_byte lead) c)) (lead_byte lead ∷ []) c new
-unfolding is_open fault_in
+unfolding is_unfinished fault_in
 unnamed Esc c new e p = let f : fault_in (27 ∷ c ∷ []) ≡ Some (Unknown 27 c) = rw e refl in record { gives = f; stands = rw e (rw p f) }
 unnamed Gs c new e p = let f : fault_in (29 ∷ c ∷ []) ≡ Some (Unknown 29 c) = rw e refl in record { gives = f; stands = rw e (rw p f) }
 unnamed Fs c new e p = let f : fault_in (28 ∷ c ∷ []) ≡ Some (Unknown 28 c) = rw e refl in record { gives = f; stands = rw e (rw p f) }
@@ -161,26 +161,26 @@ by_bool : (l n : Bool) (x : Fault) → cond l n true ≡ false → cond l None (
 by_bool true n x e = refl
 by_bool false n x e = cc
 
-closed_named : (o : Option Command) (b c : ℕ) (args : List ℕ) → is_open_named o args ≡ false
+closed_named : (o : Option Command) (b c : ℕ) (args : List ℕ) → is_unfinished_named o args ≡ false
     → cond (is_listed_name o args) None (Some (Unknown b c)) ≡ None
 closed_named None b c args e = cc
 closed_named (Some k) b c args e = by_bool (is_listed k args) (needs_more k args) (Unknown b c) e
 
-closed_after : (o : Option Lead) (b : ℕ) (bytes : List ℕ) → is_open_after o bytes ≡ false → fault_after o b bytes ≡ None
+closed_after : (o : Option Lead) (b : ℕ) (bytes : List ℕ) → is_unfinished_after o bytes ≡ false → fault_after o b bytes ≡ None
 closed_after None b bytes e = refl
 closed_after (Some lead) b [] e = refl
 closed_after (Some lead) b (c ∷ args) e = closed_named (command_of lead c) b c args e
 
 -- a whole unit has no fault
-pub closed_sound : (front : List ℕ) → is_open front ≡ false → fault_in front ≡ None
-unfolding is_open fault_in
+pub closed_sound : (front : List ℕ) → is_unfinished front ≡ false → fault_in front ≡ None
+unfolding is_unfinished fault_in
 closed_sound [] e = refl
 closed_sound (b ∷ bytes) e = closed_after (lead_of b) b bytes e
 
 -- A front with a fault keeps it, and stays open.
 stuck_named : (o : Option Command) (b c : ℕ) (args : List ℕ) (d : ℕ) (f : Fault)
     → cond (is_listed_name o args) None (Some (Unknown b c)) ≡ Some f
-    → (is_open_named o (args ++ d ∷ []) ≡ true) × (cond (is_listed_name o (args ++ d ∷ [])) None (Some (Unknown b c)) ≡ Some f)
+    → (is_unfinished_named o (args ++ d ∷ []) ≡ true) × (cond (is_listed_name o (args ++ d ∷ [])) None (Some (Unknown b c)) ≡ Some f)
 stuck_named None b c args d f e = (refl, e)
 stuck_named (Some k) b c [] d f e = cc
 stuck_named (Some k) b c (a ∷ args) d f e = stuck_by _ _ _ _ e
@@ -190,14 +190,14 @@ stuck_named (Some k) b c (a ∷ args) d f e = stuck_by _ _ _ _ e
     stuck_by false n x f e = (refl, e)
 
 stuck_after : (o : Option Lead) (b : ℕ) (bytes : List ℕ) (d : ℕ) (f : Fault) → fault_after o b bytes ≡ Some f
-    → (is_open_after o (bytes ++ d ∷ []) ≡ true) × (fault_after o b (bytes ++ d ∷ []) ≡ Some f)
+    → (is_unfinished_after o (bytes ++ d ∷ []) ≡ true) × (fault_after o b (bytes ++ d ∷ []) ≡ Some f)
 stuck_after None b bytes d f e = cc
 stuck_after (Some lead) b [] d f e = cc
 stuck_after (Some lead) b (c ∷ args) d f e = stuck_named (command_of lead c) b c args d f e
 
 pub stuck : (front : List ℕ) (d : ℕ) (f : Fault) → fault_in front ≡ Some f
-    → (is_open (front ++ d ∷ []) ≡ true) × (fault_in (front ++ d ∷ []) ≡ Some f)
-unfolding is_open fault_in
+    → (is_unfinished (front ++ d ∷ []) ≡ true) × (fault_in (front ++ d ∷ []) ≡ Some f)
+unfolding is_unfinished fault_in
 stuck [] d f e = cc
 stuck (b ∷ bytes) d f e = stuck_after (lead_of b) b bytes d f e
 
@@ -205,5 +205,5 @@ stuck (b ∷ bytes) d f e = stuck_after (lead_of b) b bytes d f e
 pub stopped : (rest : List ℕ) (c : ℕ) (f : Fault) (new : EscReader) → fault_in rest ≡ Some f → new.phase ≡ Stopped f
     → Advances (Err f) rest c new
 stopped rest c f new e p =
-    let on : (is_open (rest ++ c ∷ []) ≡ true) × (fault_in (rest ++ c ∷ []) ≡ Some f) = stuck rest c f e in
+    let on : (is_unfinished (rest ++ c ∷ []) ≡ true) × (fault_in (rest ++ c ∷ []) ≡ Some f) = stuck rest c f e in
     record { gives = on.1; stands = rw (on.0) (rw p (on.1)) }

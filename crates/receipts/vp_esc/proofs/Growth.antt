@@ -16,7 +16,7 @@ use Rattle.vp_esc.specs.declared.command.Command.TheVariants.{Plain, TabStops, C
 use Rattle.vp_esc.specs.Values.{scale_of, column_mode_of, qr_model_of}
 use Rattle.vp_esc.specs.Command.{lead_of, command_of, head_len, plain_len, is_listed}
 use Rattle.vp_esc.specs.Qr.{qr_items, value_items, model_items, is_qr_function}
-use Rattle.vp_esc.specs.Units.{is_open, given, needs_more, given_by, given_behind, is_open_named, is_open_after, given_named, given_after, raster_bytes, columns, tall_columns, at_last}
+use Rattle.vp_esc.specs.Units.{is_unfinished, given, needs_more, given_by, given_behind, is_unfinished_named, is_unfinished_after, given_named, given_after, raster_bytes, columns, tall_columns, at_last}
 use Rattle.vp_esc.specs.Split.{split, items as items_of}
 use Rattle.vp_esc.specs.Laws.{Splits}
 use Rattle.vp_esc.proofs.Splits.{items-push, items-is}
@@ -156,7 +156,7 @@ by_listed true true n xs ys p o q z = p refl refl o
 by_listed true false n xs ys p o q z = from_nil xs [] (z refl refl)
 by_listed false m n xs ys p o q z = from_nil [] (cond m ys []) refl
 
-by_named : (lead : Lead) (name : ℕ) (o : Option Command) (args : List ℕ) (c : ℕ) → is_open_named o args ≡ true
+by_named : (lead : Lead) (name : ℕ) (o : Option Command) (args : List ℕ) (c : ℕ) → is_unfinished_named o args ≡ true
     → IsFrontOf (given_named lead name o args) (given_named lead name o (args ++ c ∷ []))
 by_named lead name None args c e = ([], refl)
 by_named lead name (Some k) [] c e =
@@ -164,13 +164,13 @@ by_named lead name (Some k) [] c e =
 by_named lead name (Some k) (a ∷ args) c e =
     by_listed (is_listed k (a ∷ args)) (is_listed k (a ∷ args)) (needs_more k (a ∷ args)) _ _ (λ _ _ n. by_command lead name k (a ∷ args) c n) e (λ f. f) (λ f g. cc)
 
-by_after : (o : Option Lead) (b : ℕ) (bytes : List ℕ) (c : ℕ) → is_open_after o bytes ≡ true → IsFrontOf (given_after o b bytes) (given_after o b (bytes ++ c ∷ []))
+by_after : (o : Option Lead) (b : ℕ) (bytes : List ℕ) (c : ℕ) → is_unfinished_after o bytes ≡ true → IsFrontOf (given_after o b bytes) (given_after o b (bytes ++ c ∷ []))
 by_after None b bytes c e = cc
 by_after (Some lead) b [] c e = from_nil _ _ refl
 by_after (Some lead) b (n ∷ args) c e = by_named lead n (command_of lead n) args c e
 
-given_grows : (front : List ℕ) (c : ℕ) → is_open front ≡ true → IsFrontOf (given front) (given (front ++ c ∷ []))
-unfolding is_open given
+given_grows : (front : List ℕ) (c : ℕ) → is_unfinished front ≡ true → IsFrontOf (given front) (given (front ++ c ∷ []))
+unfolding is_unfinished given
 given_grows [] c e = from_nil _ _ refl
 given_grows (b ∷ bytes) c e = by_after (lead_of b) b bytes c e
 

@@ -11,7 +11,7 @@ use Rattle.vp_esc.specs.declared.command.Plain.{Plain as PlainCommand}
 use Rattle.vp_esc.specs.declared.command.Plain.TheVariants.{Alone, OfByte, OfWord, Area, Cut, Sensor, RealTime, Unused}
 use Rattle.vp_esc.specs.Values.{is_kind_to_zero, is_kind_counted, is_cut, is_feed_cut}
 use Rattle.vp_esc.specs.Command.{lead_of, command_of, head_len, is_listed, has_second}
-use Rattle.vp_esc.specs.Units.{is_open, needs_more, is_counted, is_short, data_len, rises_from}
+use Rattle.vp_esc.specs.Units.{is_unfinished, needs_more, is_counted, is_short, data_len, rises_from}
 use Rattle.vp_esc.specs.Reader.{last_or}
 use Rattle.vp_esc.specs.Laws.{IsUnit}
 use Rattle.vp_esc.specs.Table.{IsPlain, IsArea, IsColumns, IsRaster, IsFunction, IsGraphics, IsStops, IsToZero, IsCountedSymbol, IsArguments, IsRow}
@@ -285,7 +285,7 @@ listed_front k (a ∷ front) x l = l
 
 unit_named : (lead : Lead) (b name : ℕ) (args : List ℕ) (o : Option Command) → lead_of b ≡ Some lead → command_of lead name ≡ o
     → IsUnit (b ∷ name ∷ args) → IsRow (b ∷ name ∷ args)
-unfolding is_open
+unfolding is_unfinished
 unit_named lead b name args None e f u = let d : true ≡ false = rw (e, f) at u.whole in cc
 unit_named lead b name args (Some k) e f u =
     let d : cond (is_listed k args) (needs_more k args) true ≡ false = rw (e, f) at u.whole in
@@ -300,7 +300,7 @@ unit_named lead b name args (Some k) e f u =
         listed = l.0;
         whole = l.1;
         fronts = λ front x p.
-            let o : is_open (b ∷ name ∷ front) ≡ true = u.shortest (b ∷ name ∷ front) (x ∷ []) (ap (λ y. b ∷ name ∷ y) p) (λ q. cc q) in
+            let o : is_unfinished (b ∷ name ∷ front) ≡ true = u.shortest (b ∷ name ∷ front) (x ∷ []) (ap (λ y. b ∷ name ∷ y) p) (λ q. cc q) in
             let n : cond (is_listed k front) (needs_more k front) true ≡ true = rw (e, f) at o in
             needs_of (is_listed k front) (needs_more k front) (listed_front k front x (rw p at l.0)) n;
       });
@@ -308,14 +308,14 @@ unit_named lead b name args (Some k) e f u =
     })
 
 unit_after : (o : Option Lead) (b : ℕ) (bytes : List ℕ) → lead_of b ≡ o → IsUnit (b ∷ bytes) → IsRow (b ∷ bytes)
-unfolding is_open
+unfolding is_unfinished
 unit_after None b [] e u = inl (record { byte = b; bytes_are = refl; no_lead = e })
 unit_after None b (x ∷ bytes) e u =
-    let o : is_open (b ∷ []) ≡ true = u.shortest (b ∷ []) (x ∷ bytes) refl (λ q. cc q) in let d : false ≡ true = rw e at o in cc
+    let o : is_unfinished (b ∷ []) ≡ true = u.shortest (b ∷ []) (x ∷ bytes) refl (λ q. cc q) in let d : false ≡ true = rw e at o in cc
 unit_after (Some lead) b [] e u = let d : true ≡ false = rw e at u.whole in cc
 unit_after (Some lead) b (name ∷ args) e u = unit_named lead b name args (command_of lead name) e refl u
 
 pub only_rows_lem : (bytes : List ℕ) → IsUnit bytes → IsRow bytes
-unfolding is_open
+unfolding is_unfinished
 only_rows_lem [] u = let d : true ≡ false = u.whole in cc
 only_rows_lem (b ∷ bytes) u = unit_after (lead_of b) b bytes refl u

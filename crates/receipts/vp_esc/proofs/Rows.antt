@@ -13,7 +13,7 @@ use Rattle.vp_esc.specs.declared.command.Plain.{Plain as PlainCommand}
 use Rattle.vp_esc.specs.declared.command.Plain.TheVariants.{Alone, OfByte, OfWord, Area, Cut, Sensor, RealTime, Unused}
 use Rattle.vp_esc.specs.Values.{is_kind_to_zero, is_cut, is_feed_cut}
 use Rattle.vp_esc.specs.Command.{lead_byte, command_of, head_len, is_listed, has_second}
-use Rattle.vp_esc.specs.Units.{is_open, needs_more, is_counted, data_len, rises_from}
+use Rattle.vp_esc.specs.Units.{is_unfinished, needs_more, is_counted, data_len, rises_from}
 use Rattle.vp_esc.specs.Reader.{last_or}
 use Rattle.vp_esc.specs.Laws.{IsUnit}
 use Rattle.vp_esc.specs.Table.{IsPlain, IsOne, IsTwo, IsColumns, IsRaster, IsFunction, IsGraphics, IsStops, IsToZero, IsCountedSymbol, IsArguments, IsCommand, IsAlone, IsRow}
@@ -223,8 +223,8 @@ arguments_done Function args a = sized_done Function args (sized_function args a
 arguments_done Graphics args a = sized_done Graphics args (sized_graphics args a)
 
 row_fronts : (lead : Lead) (name : ℕ) (k : Command) (args : List ℕ) → command_of lead name ≡ Some k → IsArguments k args
-    → (front more : List ℕ) → lead_byte lead ∷ name ∷ args ≡ front ++ more → more ≢ [] → is_open front ≡ true
-unfolding is_open
+    → (front more : List ℕ) → lead_byte lead ∷ name ∷ args ≡ front ++ more → more ≢ [] → is_unfinished front ≡ true
+unfolding is_unfinished
 row_fronts lead name k args named a [] more e n = refl
 row_fronts lead name k args named a (x ∷ []) more e n =
     let h : x ≡ lead_byte lead = cc in rw h (rw lead_of-lead_byte refl)
@@ -245,14 +245,14 @@ command_is_unit bytes r =
     }
 
 alone_is_unit : (bytes : List ℕ) → IsAlone bytes → IsUnit bytes
-unfolding is_open
+unfolding is_unfinished
 alone_is_unit bytes a =
     record {
       whole = rw a.bytes_are (rw a.no_lead refl);
       shortest = λ front more e n. no_front front more (sym a.bytes_are ∙ e) n;
     }
   where
-    no_front : (front more : List ℕ) → a.byte ∷ [] ≡ front ++ more → more ≢ [] → is_open front ≡ true
+    no_front : (front more : List ℕ) → a.byte ∷ [] ≡ front ++ more → more ≢ [] → is_unfinished front ≡ true
     no_front [] more e n = refl
     no_front (x ∷ front) more e n = let t : [] ≡ front ++ more = cc in absurd (n (nil_end front more (sym t)))
       where

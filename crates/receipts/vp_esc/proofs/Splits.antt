@@ -7,7 +7,7 @@ use Rattle.std.proofs.lemmas.List.Concat.{flat_map-append}
 use Rattle.vp_esc.specs.declared.item.EscItem.{EscItem}
 use Rattle.vp_dots.specs.declared.fault.Fault.{Fault}
 use Rattle.vp_esc.specs.declared.reader.EscReader.{EscReader}
-use Rattle.vp_esc.specs.Units.{is_open, given, fault_in}
+use Rattle.vp_esc.specs.Units.{is_unfinished, given, fault_in}
 use Rattle.vp_esc.specs.Split.{Split, with_rest, with_byte, split_on, split, items, fault_of}
 use Rattle.vp_esc.specs.Reader.{Advances, Stands, Gives, rest_of}
 use Rattle.vp_esc.proofs.Fronts.{closed_sound, stuck}
@@ -26,7 +26,7 @@ rest_by units front true = refl
 rest_by units front false = refl
 
 pub rest-push : (bytes : List ℕ) (c : ℕ) → (split (bytes ++ c ∷ [])).rest ≡ rest_of ((split bytes).rest ++ c ∷ [])
-rest-push bytes c = ap (λ (s : Split). s.rest) (split-push bytes c) ∙ rest_by (split bytes).units ((split bytes).rest ++ c ∷ []) (is_open ((split bytes).rest ++ c ∷ []))
+rest-push bytes c = ap (λ (s : Split). s.rest) (split-push bytes c) ∙ rest_by (split bytes).units ((split bytes).rest ++ c ∷ []) (is_unfinished ((split bytes).rest ++ c ∷ []))
 
 given_by_units : (units : List (List ℕ)) (front : List ℕ) (b : Bool)
     → flat_map given (with_rest units front b).units ++ given (with_rest units front b).rest ≡ flat_map given units ++ given front
@@ -44,16 +44,16 @@ pub items-push : (bytes : List ℕ) (c : ℕ)
 unfolding items
 items-push bytes c =
     ap (λ (s : Split). flat_map given s.units ++ given s.rest) (split-push bytes c)
-    ∙ given_by_units (split bytes).units ((split bytes).rest ++ c ∷ []) (is_open ((split bytes).rest ++ c ∷ []))
+    ∙ given_by_units (split bytes).units ((split bytes).rest ++ c ∷ []) (is_unfinished ((split bytes).rest ++ c ∷ []))
 
-fault_by : (front : List ℕ) (b : Bool) → is_open front ≡ b → fault_in (cond b front []) ≡ fault_in front
+fault_by : (front : List ℕ) (b : Bool) → is_unfinished front ≡ b → fault_in (cond b front []) ≡ fault_in front
 unfolding fault_in
 fault_by front true e = refl
 fault_by front false e = sym (closed_sound front e)
 
 pub fault-push : (bytes : List ℕ) (c : ℕ) → fault_of (bytes ++ c ∷ []) ≡ fault_in ((split bytes).rest ++ c ∷ [])
 unfolding fault_of
-fault-push bytes c = ap fault_in (rest-push bytes c) ∙ fault_by ((split bytes).rest ++ c ∷ []) (is_open ((split bytes).rest ++ c ∷ [])) refl
+fault-push bytes c = ap fault_in (rest-push bytes c) ∙ fault_by ((split bytes).rest ++ c ∷ []) (is_unfinished ((split bytes).rest ++ c ∷ [])) refl
 
 gives_by : (result : Result (Option EscItem) Fault) (units before after whole : List EscItem) (fault fault' : Option Fault)
     → whole ≡ units ++ after → fault' ≡ fault → Gives result before after fault → Gives result (units ++ before) whole fault'

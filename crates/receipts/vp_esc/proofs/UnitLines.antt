@@ -11,7 +11,7 @@ use Rattle.vp_esc.specs.declared.item.Lead.TheVariants.{Esc, Gs}
 use Rattle.vp_esc.specs.declared.command.Command.{Command}
 use Rattle.vp_esc.specs.declared.command.Command.TheVariants.{Plain, TabStops, Columns, Raster, Symbol, Function, Graphics}
 use Rattle.vp_esc.specs.Command.{lead_of, lead_byte, command_of, head_len, is_listed}
-use Rattle.vp_esc.specs.Units.{is_open, needs_more, plain_item, stops_item, given_by, given_behind, single_item, given}
+use Rattle.vp_esc.specs.Units.{is_unfinished, needs_more, plain_item, stops_item, given_by, given_behind, single_item, given}
 use Rattle.vp_esc.specs.Laws.{IsUnit}
 use Rattle.vp_esc.specs.Lines.{line_of}
 use Rattle.vp_esc.specs.Listings.{line_of_byte, is_long_symbol, Lists}
@@ -63,7 +63,7 @@ record IsWhole (lead : Lead) (name : ℕ) (k : Command) (args front : List ℕ) 
   needs : needs_more k args ≡ false
 
 whole_is : (lead : Lead) (name : ℕ) (k : Command) (args front : List ℕ) → command_of lead name ≡ Some k → front ≡ lead_byte lead ∷ name ∷ args
-    → is_open front ≡ false → IsWhole lead name k args front
+    → is_unfinished front ≡ false → IsWhole lead name k args front
 whole_is lead name k args front e b w =
     let f : Front front lead name k args = front_is lead name k args front e b in
     let parts = closed (is_listed k args) (needs_more k args) (sym f.opens ∙ w) in

@@ -1,21 +1,21 @@
 -- The division of a stream into units, by their fronts alone.
 use Rattle.std.specs.Prelude.{◌≡◌, ◌≢◌, ℕ, true, false, List, [], ◌++◌}
 use Rattle.std.specs.List.{flat_map, AllByRecursion}
-use Rattle.vp_esc.specs.Units.{is_open}
+use Rattle.vp_esc.specs.Units.{is_unfinished}
 
 -- Each proper front is open: no whole unit ends before.
-abbrev pub HasOpenFronts : List ℕ → Type 0
-HasOpenFronts bytes = (front more : List ℕ) → bytes ≡ front ++ more → more ≢ [] → is_open front ≡ true
+abbrev pub HasUnfinishedFronts : List ℕ → Type 0
+HasUnfinishedFronts bytes = (front more : List ℕ) → bytes ≡ front ++ more → more ≢ [] → is_unfinished front ≡ true
 
 -- a unit: the shortest front that isn't open
 pub record IsUnit (bytes : List ℕ) : Type 0 where
-  pub whole : is_open bytes ≡ false
-  pub shortest : HasOpenFronts bytes
+  pub whole : is_unfinished bytes ≡ false
+  pub shortest : HasUnfinishedFronts bytes
 
 -- a rest: no front of it is a whole unit, nor is it one
 pub record IsRest (bytes : List ℕ) : Type 0 where
-  pub opens : is_open bytes ≡ true
-  pub shortest : HasOpenFronts bytes
+  pub opens : is_unfinished bytes ≡ true
+  pub shortest : HasUnfinishedFronts bytes
 
 abbrev pub all_bytes : List (List ℕ) → List ℕ
 all_bytes units = flat_map (λ unit. unit) units

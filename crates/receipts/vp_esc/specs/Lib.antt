@@ -1,3 +1,4 @@
+-- The rules.
 pub mod Values
 pub mod Command
 pub mod Table
@@ -7,6 +8,7 @@ pub mod Split
 pub mod Laws
 pub mod Lines
 pub mod Listings
+-- What the reader keeps, and what it shows.
 pub mod Shown
 pub mod Reader
 pub mod Runs

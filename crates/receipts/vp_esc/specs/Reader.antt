@@ -20,7 +20,7 @@ use Rattle.vp_esc.specs.declared.reader.Phase.TheVariants.{Ground, AfterLead, Ar
 use Rattle.vp_esc.specs.declared.reader.Phase.TheVariants.{TallColumns, SymbolToZero, SymbolData, Qr, Stopped}
 use Rattle.vp_esc.specs.Values.{is_kind_to_zero, column_mode_of, column_bytes}
 use Rattle.vp_esc.specs.Command.{lead_of, lead_byte, command_of, head_len, is_listed}
-use Rattle.vp_esc.specs.Units.{is_open, given, fault_in, rises_from, data_len, given_by, word_at, is_counted}
+use Rattle.vp_esc.specs.Units.{is_unfinished, given, fault_in, rises_from, data_len, given_by, word_at, is_counted}
 use Rattle.vp_esc.specs.Units.{single_item, prints_rows, is_skipped}
 use Rattle.vp_esc.specs.Split.{split}
 
@@ -178,7 +178,7 @@ Gives (Ok item) before after fault = (fault ≡ None) × (after ≡ before ++ op
 Gives (Err f) before after fault = fault ≡ Some f
 
 abbrev pub rest_of : List ℕ → List ℕ
-rest_of front = if is_open front then front else []
+rest_of front = if is_unfinished front then front else []
 
 -- from this rest, by this byte, to new
 pub record Advances (result : Result (Option EscItem) Fault) (rest : List ℕ) (c : ℕ) (new : EscReader)

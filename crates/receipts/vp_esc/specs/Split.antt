@@ -2,7 +2,7 @@
 use Rattle.std.specs.Prelude.{ℕ, Bool, true, false, Option, List, [], ◌∷◌, ◌++◌, flat_map}
 use Rattle.vp_esc.specs.declared.item.EscItem.{EscItem}
 use Rattle.vp_dots.specs.declared.fault.Fault.{Fault}
-use Rattle.vp_esc.specs.Units.{is_open, given, fault_in}
+use Rattle.vp_esc.specs.Units.{is_unfinished, given, fault_in}
 
 pub record Split : Type 0 where
   pub units : List (List ℕ)
@@ -14,7 +14,7 @@ with_rest units rest false = record { units = units ++ rest ∷ []; rest = [] }
 
 -- one more byte: the rest with it, a unit where that is whole
 abbrev pub with_byte : Split → ℕ → Split
-with_byte s c = with_rest s.units (s.rest ++ c ∷ []) (is_open (s.rest ++ c ∷ []))
+with_byte s c = with_rest s.units (s.rest ++ c ∷ []) (is_unfinished (s.rest ++ c ∷ []))
 
 unfoldable pub split_on : Split → List ℕ → Split
 split_on s [] = s

@@ -215,19 +215,19 @@ single_item b =
     else if nat_lt b 0x20 then items.Control b
     else items.Character b
 
-abbrev pub is_open_named : Option Command → List ℕ → Bool
-is_open_named None args = true
-is_open_named (Some command) args = if is_listed command args then needs_more command args else true
+abbrev pub is_unfinished_named : Option Command → List ℕ → Bool
+is_unfinished_named None args = true
+is_unfinished_named (Some command) args = if is_listed command args then needs_more command args else true
 
-abbrev pub is_open_after : Option Lead → List ℕ → Bool
-is_open_after None bytes = false
-is_open_after (Some lead) [] = true
-is_open_after (Some lead) (b ∷ args) = is_open_named (command_of lead b) args
+abbrev pub is_unfinished_after : Option Lead → List ℕ → Bool
+is_unfinished_after None bytes = false
+is_unfinished_after (Some lead) [] = true
+is_unfinished_after (Some lead) (b ∷ args) = is_unfinished_named (command_of lead b) args
 
 -- The bytes, a front of a unit, are no whole unit. A unit is the shortest front that isn't open.
-unfoldable pub is_open : List ℕ → Bool
-is_open [] = true
-is_open (b ∷ bytes) = is_open_after (lead_of b) bytes
+unfoldable pub is_unfinished : List ℕ → Bool
+is_unfinished [] = true
+is_unfinished (b ∷ bytes) = is_unfinished_after (lead_of b) bytes
 
 abbrev pub given_named : Lead → ℕ → Option Command → List ℕ → List EscItem
 given_named lead name None args = []

@@ -2,10 +2,10 @@
 use Rattle.std.specs.Prelude.{ℕ, ◌+◌, ◌/◌, ◌%◌, ◌^◌, ◌==◌, Bool, false, ◌&&◌, nat_le, ◌||◌, Option, Some, None}
 use Rattle.std.specs.Prelude.{if◌then◌else◌}
 use Rattle.vp_esc.specs.declared.item.Spelled.{Spelled}
-use Rattle.vp_esc.specs.declared.item.CharacterFont.{CharacterFont}
-use Rattle.vp_esc.specs.declared.item.CharacterFont.TheVariants.{A, B}
 use Rattle.vp_esc.specs.declared.item.Underline.{Underline}
 use Rattle.vp_esc.specs.declared.item.Underline.TheVariants.{Off, OneRow, TwoRows}
+use Rattle.vp_glyph.specs.declared.cell.Font.{Font}
+use Rattle.vp_glyph.specs.declared.cell.Font.TheVariants.{A, B}
 use Rattle.vp_glyph.specs.declared.block.Alignment.{Alignment}
 use Rattle.vp_glyph.specs.declared.block.Alignment.TheVariants.{Left, Centre, Right}
 use Rattle.vp_esc.specs.declared.item.PrintDirection.{PrintDirection}
@@ -46,7 +46,7 @@ underline_of n =
     else None
 
 -- ESC M, GS f
-abbrev pub font_of : ℕ → Option CharacterFont
+abbrev pub font_of : ℕ → Option Font
 font_of n = if n == 0 || n == 48 then Some A else if n == 1 || n == 49 then Some B else None
 
 -- ESC a

@@ -1,20 +1,13 @@
 //! What a receipt stream says, command by command.
 use arrayvec::ArrayVec;
 use vp_bar_code::{BarCode, HriPosition};
-use vp_glyph::Alignment;
+use vp_glyph::{Alignment, Font};
 
 /// A byte as it was sent, and what it stands for.
 #[derive(Clone, Copy)]
 pub struct Spelled<T> {
     pub byte: u8,
     pub value: T,
-}
-
-/// The two fonts.
-#[derive(Clone, Copy)]
-pub enum CharacterFont {
-    A,
-    B,
 }
 
 /// How many rows an underline has.
@@ -41,7 +34,7 @@ pub enum PrintDirection {
 /// What ESC ! sets at once.
 #[derive(Clone, Copy)]
 pub struct PrintMode {
-    pub font: CharacterFont,
+    pub font: Font,
     pub emphasized: bool,
     pub double_height: bool,
     pub double_width: bool,
@@ -169,7 +162,7 @@ pub enum EscItem {
     /// ESC FF
     PrintPage,
     /// ESC M
-    Font(Spelled<Option<CharacterFont>>),
+    Font(Spelled<Option<Font>>),
     /// ESC T
     Direction(Spelled<Option<PrintDirection>>),
     /// ESC W: dots.
@@ -197,7 +190,7 @@ pub enum EscItem {
     /// GS H
     HriPosition(Spelled<Option<HriPosition>>),
     /// GS f
-    HriFont(Spelled<Option<CharacterFont>>),
+    HriFont(Spelled<Option<Font>>),
     /// GS h: dots; 0 is ignored.
     BarHeight(u8),
     /// GS w: dots of a module, accepted from 2 to 6.

@@ -4,11 +4,11 @@ ghost use Rattle.vp_esc.specs.Values as spec;
 ghost use Rattle.vp_esc.specs.Values.{spelled as spelled_as};
 
 use crate::item::{
-    CharacterFont, ColumnMode, Cut, Magnification, PrintDirection, PrintMode, QrLevel, QrModel,
-    RasterScale, Spelled, Underline,
+    ColumnMode, Cut, Magnification, PrintDirection, PrintMode, QrLevel, QrModel, RasterScale,
+    Spelled, Underline,
 };
 use vp_bar_code::{BarCode, Code128Data, HriPosition};
-use vp_glyph::Alignment;
+use vp_glyph::{Alignment, Font};
 
 /// A byte, and what it stands for.
 pub fn spelled<T>(byte: u8, value: T) -> Spelled<T>
@@ -43,12 +43,12 @@ pub fn underline_of(n: u8) -> Option<Underline>
     }
 }
 
-pub fn font_of(n: u8) -> Option<CharacterFont>
+pub fn font_of(n: u8) -> Option<Font>
     ensures { result ≡ spec.font_of n }
 {
     match n {
-        0 | 48 => Some(CharacterFont::A),
-        1 | 49 => Some(CharacterFont::B),
+        0 | 48 => Some(Font::A),
+        1 | 49 => Some(Font::B),
         _ => None,
     }
 }
@@ -80,11 +80,7 @@ pub fn print_mode_of(n: u8) -> PrintMode
     ensures { result ≡ spec.print_mode_of n }
 {
     PrintMode {
-        font: if bit(n, 0) {
-            CharacterFont::B
-        } else {
-            CharacterFont::A
-        },
+        font: if bit(n, 0) { Font::B } else { Font::A },
         emphasized: bit(n, 3),
         double_height: bit(n, 4),
         double_width: bit(n, 5),

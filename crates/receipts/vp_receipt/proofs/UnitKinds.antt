@@ -23,7 +23,7 @@ use Rattle.vp_esc.specs.declared.item.RasterScale.{RasterScale}
 use Rattle.vp_esc.specs.declared.item.Spelled.{Spelled}
 use Rattle.vp_esc.specs.Command.{lead_of, command_of, head_len, is_listed}
 use Rattle.vp_esc.specs.Qr.{qr_items, value_items, model_items, level_item, is_qr_function}
-use Rattle.vp_esc.specs.Units.{is_open, data_len, rises_from, symbol_of, symbol_data, given, needs_more, given_by, given_behind, is_open_named, is_open_after, given_named, given_after, word_at, raster_bytes, columns, tall_columns, at_last, single_item, alone_item, of_byte_item, of_word_item, plain_item, stops_item}
+use Rattle.vp_esc.specs.Units.{is_unfinished, data_len, rises_from, symbol_of, symbol_data, given, needs_more, given_by, given_behind, is_unfinished_named, is_unfinished_after, given_named, given_after, word_at, raster_bytes, columns, tall_columns, at_last, single_item, alone_item, of_byte_item, of_word_item, plain_item, stops_item}
 use Rattle.vp_esc.specs.Values.{spelled, is_feed_cut, column_mode_of, scale_of, qr_model_of, qr_level_of}
 use Rattle.vp_receipt.proofs.Images.{is_raster}
 
@@ -174,19 +174,19 @@ by_list : (listed part : Bool) (xs : List EscItem) → Kind xs part → Kind (co
 by_list true part xs k = k
 by_list false part xs k = none_given true
 
-by_name : (lead : Lead) (name : ℕ) (command : Option Command) (args : List ℕ) → Kind (given_named lead name command args) (is_open_named command args)
+by_name : (lead : Lead) (name : ℕ) (command : Option Command) (args : List ℕ) → Kind (given_named lead name command args) (is_unfinished_named command args)
 unfolding given_by
 by_name lead name None args = none_given true
 by_name lead name (Some command) args =
     by_list (is_listed command args) (needs_more command args) (given_by lead name command args)
     (by_head (nat_lt (length args) (head_len command args)) (needs_more command args) (given_behind lead name command args) (behind lead name command args))
 
-by_lead : (lead : Option Lead) (b : ℕ) (bytes : List ℕ) → Kind (given_after lead b bytes) (is_open_after lead bytes)
+by_lead : (lead : Option Lead) (b : ℕ) (bytes : List ℕ) → Kind (given_after lead b bytes) (is_unfinished_after lead bytes)
 by_lead None b bytes = inl (one (single b))
 by_lead (Some lead) b [] = none_given true
 by_lead (Some lead) b (c ∷ args) = by_name lead c (command_of lead c) args
 
-pub kinds : (bytes : List ℕ) → Kind (given bytes) (is_open bytes)
-unfolding given is_open
+pub kinds : (bytes : List ℕ) → Kind (given bytes) (is_unfinished bytes)
+unfolding given is_unfinished
 kinds [] = none_given true
 kinds (b ∷ bytes) = by_lead (lead_of b) b bytes

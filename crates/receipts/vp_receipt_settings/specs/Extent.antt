@@ -33,8 +33,8 @@ lays_rows setup before item =
     || (nat_lt 0 (own_rows_laid setup before item)
     || (lays_line setup before item && is_open (line setup before)))
 
--- the greatest lower edge of the areas that ESC W set on the page, or in which a row was laid;
--- 0 where there is none
+-- the greatest lower edge of the areas that ESC W set, or in which a row was laid; 0 where there is none. In
+-- standard mode it is kept as on a page, and nothing reads it: ESC L begins it anew.
 abbrev pub used : Setup → List EscItem → ℕ
 used setup [] = 0
 used setup (PageMode ∷ before) =

@@ -5,25 +5,19 @@ use Rattle.vp_esc.specs.declared.item.EscItem.TheVariants.{RightSpacing, PrintMo
 use Rattle.vp_esc.specs.declared.item.Underline.{Underline as Rule}
 use Rattle.vp_esc.specs.declared.item.Underline.TheVariants.{Off, OneRow, TwoRows}
 use Rattle.vp_esc.specs.declared.item.Magnification.{Magnification}
-use Rattle.vp_esc.specs.declared.item.CharacterFont.TheVariants.{A as EscA, B as EscB}
-use Rattle.vp_esc.specs.declared.item.CharacterFont.{CharacterFont}
 use Rattle.vp_glyph.specs.declared.cell.Font.{Font}
 use Rattle.vp_glyph.specs.declared.cell.Font.TheVariants.{A, B}
 use Rattle.vp_glyph.specs.declared.cell.Style.{Style}
 use Rattle.vp_receipt_settings.specs.declared.text.Text.{Text}
 
 -- ESC M, ESC !: the font
-abbrev pub font_of : CharacterFont → Font
-font_of EscA = A
-font_of EscB = B
-
-abbrev pub font_or : Option CharacterFont → Font → Font
-font_or (Some f) old = font_of f
+abbrev pub font_or : Option Font → Font → Font
+font_or (Some font) old = font
 font_or None old = old
 
 abbrev pub font : List EscItem → Font
 font [] = A
-font (PrintMode mode ∷ before) = font_of mode.value.font
+font (PrintMode mode ∷ before) = mode.value.font
 font (SetFont s ∷ before) = font_or s.value (font before)
 font (Initialize ∷ before) = A
 font (_ ∷ before) = font before

@@ -3,7 +3,6 @@ ghost use Rattle.std.specs.Prelude.{◌≡◌, ◌<◌, ◌∷◌, List};
 ghost use Rattle.vp_esc.specs.declared.item.EscItem.{EscItem};
 ghost use Rattle.vp_receipt_settings.specs.Symbols.{bar_style_of, IsFitBars};
 
-use crate::text::font_named;
 use vp_bar_code::HriPosition;
 use vp_esc::item::EscItem;
 use vp_glyph::Font;
@@ -51,7 +50,7 @@ impl BarStyle {
             },
             EscItem::HriFont(font) => match font.value {
                 Some(font) => BarStyle {
-                    hri_font: font_named(font),
+                    hri_font: font,
                     ..self
                 },
                 None => self,

@@ -1,12 +1,12 @@
 //! How characters are drawn.
 ghost use Rattle.std.specs.Prelude.{◌≡◌, ◌+◌, ◌*◌, ◌≤◌, ◌<◌, if◌then◌else◌, List, ◌∷◌};
 ghost use Rattle.vp_esc.specs.declared.item.EscItem.{EscItem};
-ghost use Rattle.vp_receipt_settings.specs.Texts.{font_of, rows_of, is_magnification, text_of, style_of};
+ghost use Rattle.vp_receipt_settings.specs.Texts.{rows_of, is_magnification, text_of, style_of};
 ghost use Rattle.vp_receipt_settings.specs.Settings.{IsFitText};
 ghost use Rattle.vp_glyph.specs.Cells.{cell_width, cell_height};
 ghost use Rattle.vp_receipt_settings.specs.declared.text.TheConstants.{LINE_ROWS, WIDEST};
 
-use vp_esc::item::{CharacterFont, EscItem, Magnification, PrintMode, Underline};
+use vp_esc::item::{EscItem, Magnification, PrintMode, Underline};
 use vp_glyph::{Cell, Font, Sheets, Style};
 
 /// The most rows of a line: eight times those of a character.
@@ -27,16 +27,6 @@ pub struct Text {
     pub wide: u8,
     pub high: u8,
     pub right_spacing: u8,
-}
-
-/// The font that a command names.
-pub fn font_named(font: CharacterFont) -> Font
-    ensures { result ≡ font_of font }
-{
-    match font {
-        CharacterFont::A => Font::A,
-        CharacterFont::B => Font::B,
-    }
 }
 
 /// How many rows an underline has.
@@ -120,7 +110,7 @@ impl Text {
 
     fn after_mode(self, mode: PrintMode) -> Text
         ensures { result ≡ record self {
-          font = font_of mode.font;
+          font = mode.font;
           emphasized = mode.emphasized;
           underline = (if mode.underlined then 1 else 0);
           wide = (if mode.double_width then 2 else 1);
@@ -128,7 +118,7 @@ impl Text {
         } }
     {
         Text {
-            font: font_named(mode.font),
+            font: mode.font,
             emphasized: mode.emphasized,
             underline: if mode.underlined { 1 } else { 0 },
             wide: if mode.double_width { 2 } else { 1 },
@@ -186,10 +176,7 @@ impl Text {
                 ..self
             },
             EscItem::Font(font) => match font.value {
-                Some(font) => Text {
-                    font: font_named(font),
-                    ..self
-                },
+                Some(font) => Text { font, ..self },
                 None => self,
             },
             EscItem::Magnify(m) => match m.value {

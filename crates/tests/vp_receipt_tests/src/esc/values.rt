@@ -4,17 +4,17 @@ use crate::checks::same;
 use std::process::Abort;
 use vp_bar_code::{BarCode, Code128Data, HriPosition};
 use vp_esc::item::{
-    CharacterFont, ColumnMode, Cut, Magnification, PrintDirection, QrLevel, QrModel, RasterScale,
-    Spelled, Underline,
+    ColumnMode, Cut, Magnification, PrintDirection, QrLevel, QrModel, RasterScale, Spelled,
+    Underline,
 };
 use vp_esc::{EscItem, EscReader};
-use vp_glyph::Alignment;
+use vp_glyph::{Alignment, Font};
 
 /// What ESC ! sets: whether font B, emphasized, of double height, of double width, and underlined.
 fn print_mode(bytes: &[u8]) -> Option<[bool; 5]> {
     match last_item(&mut EscReader::new(), bytes) {
         Some(EscItem::PrintMode(n)) => Some([
-            matches!(n.value.font, CharacterFont::B),
+            matches!(n.value.font, Font::B),
             n.value.emphasized,
             n.value.double_height,
             n.value.double_width,
@@ -92,7 +92,7 @@ fn in_words(item: &EscItem) -> &'static str {
         EscItem::Inverse(Spelled { value: false, .. }) => "not inverse",
         EscItem::Font(
             Spelled {
-                value: Some(CharacterFont::B),
+                value: Some(Font::B),
                 ..
             },
         ) => "font B",
