@@ -11,7 +11,7 @@ use Rattle.vp_dots.specs.declared.fault.Why.TheVariants.{Char}
 use Rattle.vp_bars.specs.declared.symbology.Symbology.TheVariants.{Ean13}
 use Rattle.vp_bars.specs.Symbols.{Linear}
 use Rattle.vp_bars.specs.Code39.{alphabet}
-use Rattle.vp_bars.specs.Ean13.{check_of, padded, with_check, is_count, symbol_of, digits_of, ean13_for, ean13_of}
+use Rattle.vp_bars.specs.Ean13.{ean13_check, padded, with_check, is_count, ean13_symbol, digits_of, ean13_for, ean13_of}
 use Rattle.vp_bars.specs.Symbologies.{text_of}
 use Rattle.vp_bars.specs.Texts.{character_of, characters}
 use Rattle.vp_bars.proofs.Digits.{digit_range, ean13_twelve, ean13_none}
@@ -71,30 +71,30 @@ twelve_padded src =
     ∙ ap (λ (ds : List ℕ). take 12 ds) (sym (digits_behind_zeros (12 - length src) src))
     ∙ take-map (λ c. c - 48) 12 (replicate (12 - length src) 48 ++ src)
 
-checked_shown : (ds : List ℕ) → characters (with_check ds) ≡ characters ds ++ (check_of ds + 48) ∷ []
+checked_shown : (ds : List ℕ) → characters (with_check ds) ≡ characters ds ++ (ean13_check ds + 48) ∷ []
 checked_shown ds =
-    let small : check_of ds < 10 = omega arith in
-    flat_map-append character_of ds (check_of ds ∷ [])
-    ∙ ap (λ (t : List ℕ). characters ds ++ t) (append-nil (character_of (check_of ds)) ∙ digit_character (check_of ds) small)
+    let small : ean13_check ds < 10 = omega arith in
+    flat_map-append character_of ds (ean13_check ds ∷ [])
+    ∙ ap (λ (t : List ℕ). characters ds ++ t) (append-nil (character_of (ean13_check ds)) ∙ digit_character (ean13_check ds) small)
 
 module _ (src : List ℕ) (pad : Bool) (bars : Linear) where
   twelve_shown : list_all is_ascii_digit src ≡ true → ◌≡◌ {A = Result Linear Fault} (Ok (record { symbology = Ean13; values = with_check (padded true (digits_of src)) })) (Ok bars)
-      → text_of bars ≡ twelve src ++ (check_of (digits_of (twelve src)) + 48) ∷ []
+      → text_of bars ≡ twelve src ++ (ean13_check (digits_of (twelve src)) + 48) ∷ []
   unfolding text_of
   twelve_shown digits e =
       rw (sym (ok_same e)) (
       checked_shown (padded true (digits_of src))
-      ∙ ap (λ ds. characters ds ++ (check_of ds + 48) ∷ []) (twelve_padded src)
-      ∙ ap (λ (t : List ℕ). t ++ (check_of (digits_of (twelve src)) + 48) ∷ []) (digits_shown (twelve src) (all_taken 12 (replicate (12 - length src) 48 ++ src) (all_behind_zeros (12 - length src) src digits))))
+      ∙ ap (λ ds. characters ds ++ (ean13_check ds + 48) ∷ []) (twelve_padded src)
+      ∙ ap (λ (t : List ℕ). t ++ (ean13_check (digits_of (twelve src)) + 48) ∷ []) (digits_shown (twelve src) (all_taken 12 (replicate (12 - length src) 48 ++ src) (all_behind_zeros (12 - length src) src digits))))
     where
       ok_same : {x y : Linear} → ◌≡◌ {A = Result Linear Fault} (Ok x) (Ok y) → x ≡ y
       ok_same h = cc
 
   made : (d c : Bool) → list_all is_ascii_digit src ≡ d → is_count (length src) pad ≡ c → ean13_for src pad ≡ Ok bars
-      → text_of bars ≡ twelve src ++ (check_of (digits_of (twelve src)) + 48) ∷ []
+      → text_of bars ≡ twelve src ++ (ean13_check (digits_of (twelve src)) + 48) ∷ []
   made true true d c e = twelve_shown d (sym (ean13_twelve src pad d c) ∙ e)
   made true false d c e = let none = sym (ean13_none src pad d c) ∙ e in cc
-  made false c d f e = let none : ◌≡◌ {A = Result Linear Fault} (Err (Symbol Char)) (Ok bars) = ap (λ b. cond b (symbol_of (padded pad (digits_of src))) (Err (Symbol Char))) (sym d) ∙ e in cc
+  made false c d f e = let none : ◌≡◌ {A = Result Linear Fault} (Err (Symbol Char)) (Ok bars) = ap (λ b. cond b (ean13_symbol (padded pad (digits_of src))) (Err (Symbol Char))) (sym d) ∙ e in cc
 
-  pub ean13_text : ean13_of src pad ≡ Ok bars → text_of bars ≡ twelve src ++ (check_of (digits_of (twelve src)) + 48) ∷ []
+  pub ean13_text : ean13_of src pad ≡ Ok bars → text_of bars ≡ twelve src ++ (ean13_check (digits_of (twelve src)) + 48) ∷ []
   ean13_text e = made (list_all is_ascii_digit src) (is_count (length src) pad) refl refl (within_ok src (ean13_for src pad) bars e)

@@ -8,7 +8,7 @@ use Rattle.std.proofs.lemmas.List.{drop_more, take_all, take-map, length-map, le
 use Rattle.vp_dots.specs.declared.fault.Fault.TheVariants.{Symbol}
 use Rattle.vp_dots.specs.declared.fault.Why.TheVariants.{Length}
 use Rattle.vp_bars.specs.declared.symbology.Symbology.TheVariants.{Ean13}
-use Rattle.vp_bars.specs.Ean13.{weighted, with_check, is_count, symbol_of, padded, digits_of, ean13_for}
+use Rattle.vp_bars.specs.Ean13.{weighted, with_check, is_count, ean13_symbol, padded, digits_of, ean13_for}
 
 -- one more digit of the sum
 pub weighted_more : (ds : List ℕ) (i sum weight : ℕ) → i < length ds → weighted 1 ds ≡ sum + weighted weight (drop i ds)
@@ -53,14 +53,14 @@ length-padded ds = length-take-le 12 (replicate (12 - length ds) 0 ++ ds) (omega
 padded_long : (ds : List ℕ) → 12 ≤ length ds → padded true ds ≡ take 12 ds
 padded_long ds h = let z : 12 - length ds ≡ 0 = omega arith in ap (λ j. take 12 (replicate j 0 ++ ds)) z
 
-symbol_twelve : (ds : List ℕ) (pad : Bool) → is_count (length ds) pad ≡ true → symbol_of (padded pad ds) ≡ Ok (record { symbology = Ean13; values = with_check (padded true ds) })
+symbol_twelve : (ds : List ℕ) (pad : Bool) → is_count (length ds) pad ≡ true → ean13_symbol (padded pad ds) ≡ Ok (record { symbology = Ean13; values = with_check (padded true ds) })
 symbol_twelve ds true e = rw (length-padded ds) (ap (λ xs. Ok (record { symbology = Ean13; values = with_check xs })) (take_all 12 (padded true ds) (omega (arith, length-padded ds))))
 symbol_twelve ds false e = rw e (ap (λ xs. Ok (record { symbology = Ean13; values = with_check xs })) (sym (padded_long ds (long ds e))))
   where
     long : (ds : List ℕ) → is_count (length ds) false ≡ true → 12 ≤ length ds
     long ds e = grind (arith, nat_tests)
 
-symbol_none : (ds : List ℕ) (pad : Bool) → is_count (length ds) pad ≡ false → symbol_of (padded pad ds) ≡ Err (Symbol Length)
+symbol_none : (ds : List ℕ) (pad : Bool) → is_count (length ds) pad ≡ false → ean13_symbol (padded pad ds) ≡ Err (Symbol Length)
 symbol_none ds true e = cc
 symbol_none ds false e = rw e refl
 

@@ -10,7 +10,7 @@ use Rattle.vp_bars.specs.declared.symbology.Symbology.TheVariants as symbologies
 use Rattle.vp_bars.specs.declared.code_128.CodeSet.{CodeSet}
 use Rattle.vp_bars.specs.declared.code_128.CodeSet.TheVariants.{A, B, C}
 use Rattle.vp_bars.specs.Symbols.{Linear}
-use Rattle.vp_bars.specs.CodeSets.{start_of, value_in, onto, plain, check_of, stop, values_with, symbol_from}
+use Rattle.vp_bars.specs.CodeSets.{start_of, value_in, onto, plain, code_128_check, stop, values_with, symbol_from}
 use Rattle.vp_bars.specs.Invocations.{pair_of}
 use Rattle.vp_bars.specs.Packing.{two_digits, begins_run, packed, first_set, packed_symbol, code128_zpl_of}
 use Rattle.vp_bars.specs.Symbologies.{text_of}
@@ -148,7 +148,7 @@ first_is src = elim (cases_Bool (begins_run src)) [
 -- a symbol shows its values between start and check
 data_is : (start : ℕ) (vs : List ℕ) → data_of (values_with start vs) ≡ vs
 data_is start vs =
-    let tail : List ℕ = check_of start vs ∷ stop ∷ [] in
+    let tail : List ℕ = code_128_check start vs ∷ stop ∷ [] in
     let count : length (start ∷ vs ++ tail) - 3 ≡ length vs = omega (arith, length-append vs tail) in
     ap (λ n. take n (vs ++ tail)) count ∙ take-append-le (length vs) vs tail (omega arith) ∙ take_all (length vs) vs (omega arith)
 

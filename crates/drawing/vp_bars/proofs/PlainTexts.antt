@@ -12,7 +12,7 @@ use Rattle.vp_bars.specs.declared.symbology.Symbology.TheVariants as symbologies
 use Rattle.vp_bars.specs.declared.code_128.CodeSet.TheVariants.{B}
 use Rattle.vp_bars.specs.declared.code_128.Token.TheVariants.{Byte}
 use Rattle.vp_bars.specs.Symbols.{Linear, within_length}
-use Rattle.vp_bars.specs.Code39.{alphabet, value_of, with_value, values_of, check_of, checked, star, unstarred, symbol_of, symbol_for, code39_of}
+use Rattle.vp_bars.specs.Code39.{alphabet, value_of, with_value, values_of, code39_check, checked, star, unstarred, code39_symbol, symbol_for, code39_of}
 use Rattle.vp_bars.specs.CodeSets.{tokens}
 use Rattle.vp_bars.specs.Escapes.{brace, escaped, code128_esc_of}
 use Rattle.vp_bars.specs.Invocations.{greater, invoked, invoked_from, started_symbol, started}
@@ -60,7 +60,7 @@ symbol_shown : (check : Bool) (chars vs : List ℕ) (bars : Linear) → symbol_f
 unfolding text_of
 symbol_shown check [] vs bars e f = cc
 symbol_shown check (c ∷ cs) vs bars e f =
-    let same : ◌≡◌ {A = Result Linear Fault} (Ok (record { symbology = symbologies.Code39; values = star ∷ checked check vs ++ star ∷ [] })) (Ok bars) = ap (symbol_of check) (sym f) ∙ e in
+    let same : ◌≡◌ {A = Result Linear Fault} (Ok (record { symbology = symbologies.Code39; values = star ∷ checked check vs ++ star ∷ [] })) (Ok bars) = ap (code39_symbol check) (sym f) ∙ e in
     rw (sym (ok_same same)) (between_stars (checked check vs))
   where
     ok_same : {x y : Linear} → ◌≡◌ {A = Result Linear Fault} (Ok x) (Ok y) → x ≡ y
@@ -71,7 +71,7 @@ has_values check [] bars e = cc
 has_values check (c ∷ cs) bars e = by_values (values_of (c ∷ cs)) refl
   where
     by_values : (o : Option (List ℕ)) → values_of (c ∷ cs) ≡ o → (vs : List ℕ) × (values_of (c ∷ cs) ≡ Some vs)
-    by_values None a = let none : symbol_of check None ≡ Ok bars = ap (symbol_of check) (sym a) ∙ e in cc
+    by_values None a = let none : code39_symbol check None ≡ Ok bars = ap (code39_symbol check) (sym a) ∙ e in cc
     by_values (Some vs) a = (vs, a)
 
 pub code39_text : (src : List ℕ) (bars : Linear) → code39_of src false ≡ Ok bars → text_of bars ≡ unstarred src
@@ -81,15 +81,15 @@ code39_text src bars e =
     symbol_shown false (unstarred src) values.0 bars made values.1 ∙ values_shown (unstarred src) values.0 values.1
 
 pub code39_checked : (src vs : List ℕ) (bars : Linear) → code39_of src true ≡ Ok bars → values_of (unstarred src) ≡ Some vs
-    → text_of bars ≡ unstarred src ++ get_or alphabet (check_of vs) 0 ∷ []
+    → text_of bars ≡ unstarred src ++ get_or alphabet (code39_check vs) 0 ∷ []
 code39_checked src vs bars e f =
     let made = within_ok src (symbol_for true (unstarred src)) bars e in
-    let small : check_of vs < 43 = omega arith in
-    let check : character_of (check_of vs) ≡ get_or alphabet (check_of vs) 0 ∷ [] = rw (lt-ltb (check_of vs) 43 small) refl in
+    let small : code39_check vs < 43 = omega arith in
+    let check : character_of (code39_check vs) ≡ get_or alphabet (code39_check vs) 0 ∷ [] = rw (lt-ltb (code39_check vs) 43 small) refl in
     symbol_shown true (unstarred src) vs bars made f
-    ∙ flat_map-append character_of vs (check_of vs ∷ [])
-    ∙ ap (λ (t : List ℕ). characters vs ++ t) (append-nil (character_of (check_of vs)) ∙ check)
-    ∙ ap (λ (t : List ℕ). t ++ get_or alphabet (check_of vs) 0 ∷ []) (values_shown (unstarred src) vs f)
+    ∙ flat_map-append character_of vs (code39_check vs ∷ [])
+    ∙ ap (λ (t : List ℕ). characters vs ++ t) (append-nil (character_of (code39_check vs)) ∙ check)
+    ∙ ap (λ (t : List ℕ). t ++ get_or alphabet (code39_check vs) 0 ∷ []) (values_shown (unstarred src) vs f)
 
 -- data without the lead of codes are bytes alone
 alone : (lead : ℕ) (src : List ℕ) → list_any (λ b. eqb b lead) src ≡ false → tokens lead src ≡ map (λ b. Byte b) src

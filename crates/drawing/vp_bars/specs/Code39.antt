@@ -26,12 +26,12 @@ values_of [] = Some []
 values_of (c ∷ cs) = with_value (value_of c) (values_of cs)
 
 -- the check character is the sum of the values modulo 43 (annex A)
-abbrev pub check_of : List ℕ → ℕ
-check_of vs = sum vs % 43
+abbrev pub code39_check : List ℕ → ℕ
+code39_check vs = sum vs % 43
 
 abbrev pub checked : Bool → List ℕ → List ℕ
 checked false vs = vs
-checked true vs = vs ++ check_of vs ∷ []
+checked true vs = vs ++ code39_check vs ∷ []
 
 -- the value of *, which starts and stops a symbol
 abbrev pub star : ℕ
@@ -43,16 +43,16 @@ unstarred src = if nat_le 2 (length src) && slice_index src 0 == 42
     && slice_index src (length src - 1) == 42 then take (length src - 2) (drop 1 src) else src
 
 -- the values of a symbol: start, data, check if there is one, stop
-abbrev pub symbol_of : Bool → Option (List ℕ) → Result Linear Fault
-symbol_of check None = Err (Symbol Char)
-symbol_of check (Some vs) = Ok (record {
+abbrev pub code39_symbol : Bool → Option (List ℕ) → Result Linear Fault
+code39_symbol check None = Err (Symbol Char)
+code39_symbol check (Some vs) = Ok (record {
   symbology = symbologies.Code39;
   values = star ∷ checked check vs ++ star ∷ [];
 })
 
 abbrev pub symbol_for : Bool → List ℕ → Result Linear Fault
 symbol_for check [] = Err (Symbol Empty)
-symbol_for check (c ∷ cs) = symbol_of check (values_of (c ∷ cs))
+symbol_for check (c ∷ cs) = code39_symbol check (values_of (c ∷ cs))
 
 -- the symbol for these bytes, or why there is none
 abbrev pub code39_of : List ℕ → Bool → Result Linear Fault

@@ -66,14 +66,14 @@ placed place (v ∷ vs) = place * v + placed (place + 1) vs
 
 -- the check character: the start and the sum of each value times its place, counted from 1, modulo 103
 -- (annex A)
-abbrev pub check_of : ℕ → List ℕ → ℕ
-check_of start vs = (start + placed 1 vs) % 103
+abbrev pub code_128_check : ℕ → List ℕ → ℕ
+code_128_check start vs = (start + placed 1 vs) % 103
 
 abbrev pub stop : ℕ
 stop = 106
 
 abbrev pub values_with : ℕ → List ℕ → List ℕ
-values_with start vs = start ∷ vs ++ check_of start vs ∷ stop ∷ []
+values_with start vs = start ∷ vs ++ code_128_check start vs ∷ stop ∷ []
 
 -- the symbol of these values, read from a start set: start, values, check, stop
 abbrev pub symbol_from : CodeSet → Result (List ℕ) Why → Result Linear Fault

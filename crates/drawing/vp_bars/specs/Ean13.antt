@@ -15,8 +15,8 @@ weighted weight (d ∷ ds) = weight * d + weighted (4 - weight) ds
 
 -- the check digit of 12 digits: what their sum, weighted 1 and 3 in turn from the left, lacks to a multiple
 -- of 10
-abbrev pub check_of : List ℕ → ℕ
-check_of ds = (10 - weighted 1 ds % 10) % 10
+abbrev pub ean13_check : List ℕ → ℕ
+ean13_check ds = (10 - weighted 1 ds % 10) % 10
 
 -- padded, fewer than 12 digits get zeros on the left, and of more the first 12 stand
 abbrev pub padded : Bool → List ℕ → List ℕ
@@ -24,22 +24,22 @@ padded false ds = ds
 padded true ds = take 12 (replicate (12 - length ds) 0 ++ ds)
 
 abbrev pub with_check : List ℕ → List ℕ
-with_check ds = ds ++ check_of ds ∷ []
+with_check ds = ds ++ ean13_check ds ∷ []
 
 -- 12 digits, or 13, or any count that is padded
 abbrev pub is_count : ℕ → Bool → Bool
 is_count count pad = pad || (count == 12 || count == 13)
 
 -- 12 digits and their check digit; a thirteenth that came is not looked at
-abbrev pub symbol_of : List ℕ → Result Linear Fault
-symbol_of ds = if is_count (length ds) false then Ok
+abbrev pub ean13_symbol : List ℕ → Result Linear Fault
+ean13_symbol ds = if is_count (length ds) false then Ok
     (record { symbology = symbologies.Ean13; values = with_check (take 12 ds) }) else Err (Symbol Length)
 
 abbrev pub digits_of : List ℕ → List ℕ
 digits_of src = map (λ c. c - 48) src
 
 abbrev pub ean13_for : List ℕ → Bool → Result Linear Fault
-ean13_for src pad = if list_all is_ascii_digit src then symbol_of (padded pad (digits_of src))
+ean13_for src pad = if list_all is_ascii_digit src then ean13_symbol (padded pad (digits_of src))
     else Err (Symbol Char)
 
 -- the symbol for these bytes, or why there is none

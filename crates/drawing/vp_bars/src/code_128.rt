@@ -2,7 +2,7 @@
 
 ghost use Rattle.std.specs.Prelude.{◌≡◌, ℕ, ◌+◌, ◌*◌, ◌≤◌, ◌++◌, ◌∷◌, [], List, length, Result, Ok, Err, OnOk, IfErr, MatchOption};
 ghost use Rattle.vp_dots.specs.declared.fault.Why.{Why};
-ghost use Rattle.vp_bars.specs.CodeSets.{start_of, selector_of, other_of, value_in, onto, plain, tokens, size_of, check_of, symbol_from};
+ghost use Rattle.vp_bars.specs.CodeSets.{start_of, selector_of, other_of, value_in, onto, plain, tokens, size_of, code_128_check, symbol_from};
 
 use crate::bars::{Bars, extend};
 use crate::symbology::Symbology;
@@ -128,7 +128,7 @@ pub(crate) fn push_value(value: u8, values: &mut ArrayVec<u8, 258>)
 #[tactic(auto, using(crate::proofs::Tokens::placed_more))]
 fn check_character(start: u8, values: &[u8]) -> u8
     requires { length values.now ≤ 258 }
-    ensures { result ≡ check_of start values.now }
+    ensures { result ≡ code_128_check start values.now }
 {
     let mut sum = u32::from(start);
     let mut place = 1;

@@ -2,7 +2,7 @@
 
 ghost use Rattle.std.specs.Prelude.{◌≡◌, ℕ, ◌<◌, ◌≤◌, ◌∷◌, ◌++◌, List, Option, length, IfSome};
 ghost use Rattle.std.specs.Option.{option_map};
-ghost use Rattle.vp_bars.specs.Code39.{value_of, values_of, check_of, unstarred, code39_of};
+ghost use Rattle.vp_bars.specs.Code39.{value_of, values_of, code39_check, unstarred, code39_of};
 
 use crate::bars::{Bars, check_length, extend};
 use crate::symbology::Symbology;
@@ -66,7 +66,7 @@ fn values_of_chars(chars: &[u8]) -> Option<ArrayVec<u8, 258>>
 /// The check character of these values.
 fn check_character(values: &[u8]) -> u8
     requires { length values.now ≤ 258 }
-    ensures { result ≡ check_of values.now }
+    ensures { result ≡ code39_check values.now }
 {
     let mut sum = 0u32;
     for v in values {

@@ -3,7 +3,7 @@
 ghost use Rattle.std.specs.Prelude.{◌≡◌, ℕ, ◌≤◌, ◌∷◌, ◌++◌, List, length, true, IsTrue, Ok, Err};
 ghost use Rattle.std.specs.Char.{is_ascii_digit};
 ghost use Rattle.std.specs.List.{list_all};
-ghost use Rattle.vp_bars.specs.Ean13.{check_of, is_count as has_count, padded, digits_of, ean13_of};
+ghost use Rattle.vp_bars.specs.Ean13.{ean13_check, is_count as has_count, padded, digits_of, ean13_of};
 
 use crate::bars::{Bars, check_length};
 use crate::symbology::Symbology;
@@ -14,7 +14,7 @@ use vp_dots::{Fault, Why};
 #[tactic(auto, using(crate::proofs::Digits::weighted_more))]
 fn check_digit(digits: &[u8]) -> u8
     requires { length digits.now ≤ 258 }
-    ensures { result ≡ check_of digits.now }
+    ensures { result ≡ ean13_check digits.now }
 {
     let mut sum = 0u32;
     let mut weight = 1;

@@ -3,8 +3,8 @@
 
 ghost use Rattle.std.specs.Prelude.{◌≡◌, ℕ, ◌+◌, ◌-◌, ◌<◌, Bool, true, false, ◌==◌, length, replicate, List, [], ◌∷◌, ◌++◌, Ok, Err, Some, IsTrue, take, drop, slice_index};
 ghost use Rattle.vp_bars.specs.Symbols.{Linear};
-ghost use Rattle.vp_bars.specs.Code39.{alphabet, values_of, check_of, unstarred, code39_of};
-ghost use Rattle.vp_bars.specs.Ean13.{check_of as check_digit_of, digits_of, ean13_of};
+ghost use Rattle.vp_bars.specs.Code39.{alphabet, values_of, code39_check, unstarred, code39_of};
+ghost use Rattle.vp_bars.specs.Ean13.{ean13_check as check_digit_of, digits_of, ean13_of};
 ghost use Rattle.vp_bars.specs.Escapes.{brace, code128_esc_of};
 ghost use Rattle.vp_bars.specs.Invocations.{greater};
 ghost use Rattle.vp_bars.specs.Packing.{code128_zpl_of};
@@ -48,7 +48,7 @@ pub fn code39_text_law()
         → text_of bars ≡ unstarred src }
     ensures with_check { (src vs : List ℕ) (bars : Linear) → code39_of src true ≡ Ok bars
         → values_of (unstarred src) ≡ Some vs
-        → text_of bars ≡ unstarred src ++ slice_index alphabet (check_of vs) ∷ [] }
+        → text_of bars ≡ unstarred src ++ slice_index alphabet (code39_check vs) ∷ [] }
 {}
 
 /// A law: the text of an EAN-13 symbol is twelve digits, with zeros on the left where fewer came, and their

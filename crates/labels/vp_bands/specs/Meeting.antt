@@ -18,12 +18,12 @@ abbrev pub shows_row : View → ℤ → ℕ → ℕ → Bool
 shows_row view top rows y = nat_lt y view.height && is_among top rows (seen_y view (pos y))
 
 -- the rows of band b
-abbrev pub rows_of : ℕ → List ℕ
-rows_of b = range_with_len (BAND_ROWS * b) BAND_ROWS
+abbrev pub band_rows : ℕ → List ℕ
+band_rows b = range_with_len (BAND_ROWS * b) BAND_ROWS
 
 -- a row of band b shows one of them
 unfoldable pub box_meets : View → ℤ → ℕ → ℕ → Bool
-box_meets view top rows b = list_any (shows_row view top rows) (rows_of b)
+box_meets view top rows b = list_any (shows_row view top rows) (band_rows b)
 
 -- how many rows the box of a field has, turned, whatever its width
 abbrev pub box_rows : Sheets → List ℕ → Field → ℕ

@@ -6,7 +6,7 @@ use Rattle.std.proofs.lemmas.Bool.Decides.{nat_tests}
 use Rattle.std.proofs.Math.Nat.{mul_comm}
 use Rattle.vp_dots.specs.Headers.{header_of}
 use Rattle.vp_dots.specs.Images.{row_bytes}
-use Rattle.vp_join.specs.Strips.{greatest, Strip, AreStrips, height_of, rows_of, text_of, BeginsWith, HasHeader, IsNoHeader, IsTooTall, IsShort, IsCause, IsOffence}
+use Rattle.vp_join.specs.Strips.{greatest, Strip, AreStrips, height_of, strips_rows, strips_text, BeginsWith, HasHeader, IsNoHeader, IsTooTall, IsShort, IsCause, IsOffence}
 use Rattle.vp_join.specs.Told.{Seen, Told, told, whole, stops, images, rows, nothing, is_other, with_header}
 use Rattle.vp_join.specs.declared.fault.Offence.{Offence}
 use Rattle.vp_join.specs.declared.fault.Offence.TheVariants.{Header, Width, TooTall, Short}
@@ -49,26 +49,26 @@ some_rows w zero p q = absurd (omega (arith, q))
 
 -- strips are read
 pub read_strips : (width : ℕ) (strips : List Strip) (so : Seen) (rest : List ℕ) → AreStrips width strips → Before so width → so.height + height_of strips ≤ greatest
-    → images so (text_of strips ++ rest) ≡ images (after so strips) rest
+    → images so (strips_text strips ++ rest) ≡ images (after so strips) rest
 read_strips width [] so rest are b l = refl
 read_strips width (s ∷ strips) so rest are b l =
     let k = are.0 in
     let n = row_bytes s.width * s.height in
     let some : 0 < n = some_rows s.width s.height k.width_fits.least k.height_fits.least in
     let long : suc (n - 1) ≡ length s.rows = omega (arith, some, k.length_is, mul_comm (row_bytes s.width) s.height) in
-    ap (images so) (append_assoc (header_of s.width s.height ++ s.rows) (text_of strips) rest ∙ append_assoc (header_of s.width s.height) s.rows (text_of strips ++ rest))
-    ∙ read_header so s.width s.height (s.rows ++ (text_of strips ++ rest)) _ (record { width_fits = k.width_fits; height_fits = k.height_fits; text_is = refl })
-    ∙ begun_fits so s.width s.height (s.rows ++ (text_of strips ++ rest)) (rw k.width_is b) (omega (arith, l))
-    ∙ rows_end s.width (so.height + s.height) so.rows s.rows (text_of strips ++ rest) (n - 1) long
+    ap (images so) (append_assoc (header_of s.width s.height ++ s.rows) (strips_text strips) rest ∙ append_assoc (header_of s.width s.height) s.rows (strips_text strips ++ rest))
+    ∙ read_header so s.width s.height (s.rows ++ (strips_text strips ++ rest)) _ (record { width_fits = k.width_fits; height_fits = k.height_fits; text_is = refl })
+    ∙ begun_fits so s.width s.height (s.rows ++ (strips_text strips ++ rest)) (rw k.width_is b) (omega (arith, l))
+    ∙ rows_end s.width (so.height + s.height) so.rows s.rows (strips_text strips ++ rest) (n - 1) long
     ∙ read_strips width strips (seen s.width (so.height + s.height) (so.rows ++ s.rows)) rest are.1 (inr k.width_is) (omega (arith, l))
 
 pub after-height : (so : Seen) (strips : List Strip) → (after so strips).height ≡ so.height + height_of strips
 after-height so [] = omega arith
 after-height so (s ∷ strips) = after-height (seen s.width (so.height + s.height) (so.rows ++ s.rows)) strips ∙ omega arith
 
-pub after-rows : (so : Seen) (strips : List Strip) → (after so strips).rows ≡ so.rows ++ rows_of strips
+pub after-rows : (so : Seen) (strips : List Strip) → (after so strips).rows ≡ so.rows ++ strips_rows strips
 after-rows so [] = sym (append-nil so.rows)
-after-rows so (s ∷ strips) = after-rows (seen s.width (so.height + s.height) (so.rows ++ s.rows)) strips ∙ append_assoc so.rows s.rows (rows_of strips)
+after-rows so (s ∷ strips) = after-rows (seen s.width (so.height + s.height) (so.rows ++ s.rows)) strips ∙ append_assoc so.rows s.rows (strips_rows strips)
 
 after-same : (width : ℕ) (so : Seen) (strips : List Strip) → AreStrips width strips → so.width ≡ width → (after so strips).width ≡ width
 after-same width so [] are e = e
@@ -138,7 +138,7 @@ pub record Decided (so : Seen) (text : List ℕ) : Type 0 where
   pub are : AreStrips width strips
   pub before : Before so width
   pub fits : so.height + height_of strips ≤ greatest
-  pub text_is : text ≡ text_of strips ++ rest
+  pub text_is : text ≡ strips_text strips ++ rest
   pub rest_is : IsRest end so width strips rest
 
 -- it ends here, or stops
@@ -173,7 +173,7 @@ decided_more so text rest w h k b l d =
       before = rw v at b;
       fits = omega (arith, d.fits);
       text_is = k.text_is ∙ ap (λ x. header_of w h ++ x) (sym (take-append-drop n rest) ∙ ap (λ x. take n rest ++ x) d.text_is)
-          ∙ sym (append_assoc (header_of w h ++ take n rest) (text_of d.strips) d.rest ∙ append_assoc (header_of w h) (take n rest) (text_of d.strips ++ d.rest));
+          ∙ sym (append_assoc (header_of w h ++ take n rest) (strips_text d.strips) d.rest ∙ append_assoc (header_of w h) (take n rest) (strips_text d.strips ++ d.rest));
       rest_is = rest_more d.end so s d.width d.strips d.rest d.rest_is;
     }
 
@@ -244,11 +244,11 @@ each_text text = let d = decide (length text) nothing text (omega arith) (omega 
     from d (Some Short) e = let r = rw e at d.rest_is in inr (Short, record { width = d.width; strips = d.strips; rest = d.rest; begins = begins d; cause = record { high = r.high; rest = r.rest; header = r.header; fits = omega (arith, r.fits); shorter = r.shorter } })
 
 -- the bytes of the rows of strips
-pub length-rows_of : (width : ℕ) (strips : List Strip) → AreStrips width strips → length (rows_of strips) ≡ height_of strips * row_bytes width
+pub length-rows_of : (width : ℕ) (strips : List Strip) → AreStrips width strips → length (strips_rows strips) ≡ height_of strips * row_bytes width
 length-rows_of width [] are = omega arith
 length-rows_of width (s ∷ strips) are =
     let k : length s.rows ≡ s.height * row_bytes width = rw are.0.width_is at are.0.length_is in
-    omega (arith, length-append s.rows (rows_of strips), k, length-rows_of width strips are.1)
+    omega (arith, length-append s.rows (strips_rows strips), k, length-rows_of width strips are.1)
 
 -- a text with an offence is no images
 pub never_both : (text : List ℕ) (width : ℕ) (strips : List Strip) (o : Offence) → BeginsWith width strips [] text → IsOffence text o → ⊥

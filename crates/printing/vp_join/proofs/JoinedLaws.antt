@@ -6,7 +6,7 @@ use Rattle.vp_dots.specs.Dots.{dot}
 use Rattle.vp_dots.specs.Headers.{header_of}
 use Rattle.vp_dots.specs.Images.{Image, row_bytes, image_rows, pbm}
 use Rattle.vp_dots.proofs.ImageLaws.{length-image_rows}
-use Rattle.vp_join.specs.Strips.{Strip, IsNumber, AreStrips, IsJoined, IsOffence, IsDecided, height_of, rows_of, without_padding}
+use Rattle.vp_join.specs.Strips.{Strip, IsNumber, AreStrips, IsJoined, IsOffence, IsDecided, height_of, strips_rows, without_padding}
 use Rattle.vp_join.specs.Told.{Told, told, nothing}
 use Rattle.vp_join.specs.Passes.{IsExact, IsOfCalls}
 use Rattle.vp_join.specs.declared.fault.JoinFault.{JoinFault}
@@ -25,13 +25,13 @@ pub joined_told : (text : List ℕ) (image : Image) → IsJoined text image → 
 joined_told text image j = ap (λ (t : Told). t.offence) (told_images text image.width j.strips j.begins)
 
 -- the text of the joined image
-joined_text : (text : List ℕ) (image : Image) → (j : IsJoined text image) → pbm image ≡ cond (eqb image.height 0) [] (header_of image.width image.height) ++ without_padding image.width (rows_of j.strips)
-joined_text text image j = pbm_is image (rows_of j.strips) (length-rows_of image.width j.strips j.begins.are ∙ ap (λ h. h * row_bytes image.width) (sym j.height_is)) j.dots_are
+joined_text : (text : List ℕ) (image : Image) → (j : IsJoined text image) → pbm image ≡ cond (eqb image.height 0) [] (header_of image.width image.height) ++ without_padding image.width (strips_rows j.strips)
+joined_text text image j = pbm_is image (strips_rows j.strips) (length-rows_of image.width j.strips j.begins.are ∙ ap (λ h. h * row_bytes image.width) (sym j.height_is)) j.dots_are
 
 -- images with these strips
 of_images : (text : List ℕ) → Images text → (image : Image) × IsJoined text image
 of_images text i =
-    let raw = rows_of i.strips in
+    let raw = strips_rows i.strips in
     let image : Image = record { width = i.width; height = height_of i.strips; is_black = λ x y. dot raw (8 * (y * row_bytes i.width) + x) } in
     (image, record { strips = i.strips; begins = i.begins; height_is = refl; dots_are = λ x y l k. refl })
 
@@ -59,12 +59,12 @@ same_pbm text one other j k =
     let e = sym (told_images text one.width j.strips j.begins) ∙ told_images text other.width k.strips k.begins in
     let hs : height_of j.strips ≡ height_of k.strips = omega (arith, ap (λ (t : Told). t.so.height) e, after-height nothing j.strips, after-height nothing k.strips) in
     let h : one.height ≡ other.height = j.height_is ∙ hs ∙ sym k.height_is in
-    let r : rows_of j.strips ≡ rows_of k.strips = sym (after-rows nothing j.strips) ∙ ap (λ (t : Told). t.so.rows) e ∙ after-rows nothing k.strips in
+    let r : strips_rows j.strips ≡ strips_rows k.strips = sym (after-rows nothing j.strips) ∙ ap (λ (t : Told). t.so.rows) e ∙ after-rows nothing k.strips in
     elim (cases_eq one.height 0) [
       | inl z ↦ no_text one z ∙ sym (no_text other (sym h ∙ z))
       | inr n ↦
           let w : one.width ≡ other.width = same_wide one.width other.width j.strips k.strips j.begins.are k.begins.are (ap (λ (t : Told). t.so.width) e) (λ z. n (j.height_is ∙ z)) hs in
-          joined_text text one j ∙ ap (λ v. text_of_size v one.height (rows_of j.strips)) w ∙ ap (λ v. text_of_size other.width v (rows_of j.strips)) h
+          joined_text text one j ∙ ap (λ v. text_of_size v one.height (strips_rows j.strips)) w ∙ ap (λ v. text_of_size other.width v (strips_rows j.strips)) h
           ∙ ap (text_of_size other.width other.height) r ∙ sym (joined_text text other k)
     ]
 
@@ -83,7 +83,7 @@ twice text image j = elim (cases_eq image.height 0) [
   }
   | inr n ↦
       let s : Strip = record { width = image.width; height = image.height; rows = image_rows image } in
-      let raw = rows_of j.strips in
+      let raw = strips_rows j.strips in
       let long : length raw ≡ image.height * row_bytes image.width = length-rows_of image.width j.strips j.begins.are ∙ ap (λ h. h * row_bytes image.width) (sym j.height_is) in
       record {
         strips = s ∷ [];

@@ -4,7 +4,7 @@ use Rattle.std.specs.Prelude.{Result, ⊤, ◌||◌}
 use Rattle.std.proofs.lemmas.List.{append-nil, length-append}
 use Rattle.std.proofs.KnownBytes.{Consumes-nil, Appends-nil, Appends-trans}
 use Rattle.std.specs.Io.KnownBytes.{Appends, Consumes, IsAtEnd}
-use Rattle.vp_join.specs.Strips.{IsOffence, without_padding, rows_of}
+use Rattle.vp_join.specs.Strips.{IsOffence, without_padding, strips_rows}
 use Rattle.vp_join.specs.Told.{rows_told}
 use Rattle.vp_join.specs.Passes.{Tells, HasSize, IsMeasure, IsFound, IsCopy, Copies, Joins, IsEnding, IsRefused, IsWhole, IsExact, MayFollow, head_of, is_late, is_read_fault, is_write_fault}
 use Rattle.vp_join.specs.declared.fault.JoinFault.{JoinFault}
@@ -128,7 +128,7 @@ whole second head taken rest size end h t s z e =
     let m = measured second size t in
     record {
       height_is = refl;
-      image = image_of size (rows_of m.strips);
+      image = image_of size (strips_rows m.strips);
       joined = joined_of second size m;
       width_is = refl;
       image_height_is = refl;

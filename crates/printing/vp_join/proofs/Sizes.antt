@@ -2,7 +2,7 @@
 use Rattle.std.proofs.Common.{◌≡◌, ◌+◌, ◌*◌, ℕ, List, [], ◌∷◌, ◌++◌, refl, sym, ap, ◌∙◌, arith}
 use Rattle.vp_dots.specs.Dots.{dot}
 use Rattle.vp_dots.specs.Images.{Image, row_bytes, pbm}
-use Rattle.vp_join.specs.Strips.{Strip, AreStrips, BeginsWith, IsJoined, height_of, rows_of, without_padding}
+use Rattle.vp_join.specs.Strips.{Strip, AreStrips, BeginsWith, IsJoined, height_of, strips_rows, without_padding}
 use Rattle.vp_join.specs.Told.{Told, told, whole, nothing, rows_told}
 use Rattle.vp_join.specs.Passes.{Tells, HasSize, head_of}
 use Rattle.vp_join.specs.declared.reading.Size.{Size}
@@ -14,7 +14,7 @@ pub record Measured (text : List ℕ) (size : Size) : Type 0 where
   pub strips : List Strip
   pub begins : BeginsWith size.width strips [] text
   pub height_is : size.height ≡ height_of strips
-  pub rows_is : rows_told text ≡ rows_of strips
+  pub rows_is : rows_told text ≡ strips_rows strips
 
 told_whole : (text : List ℕ) (size : Size) → Tells text size → (i : Images text) → whole (after nothing i.strips) ≡ told text
 told_whole text size t i = sym (told_images text i.width i.strips i.begins)
@@ -40,16 +40,16 @@ measured text size t =
 abbrev pub image_of : Size → List ℕ → Image
 image_of size raw = record { width = size.width; height = size.height; is_black = λ x y. dot raw (8 * (y * row_bytes size.width) + x) }
 
-pub joined_of : (text : List ℕ) (size : Size) → (m : Measured text size) → IsJoined text (image_of size (rows_of m.strips))
+pub joined_of : (text : List ℕ) (size : Size) → (m : Measured text size) → IsJoined text (image_of size (strips_rows m.strips))
 joined_of text size m = record { strips = m.strips; begins = m.begins; height_is = m.height_is; dots_are = λ x y l k. refl }
 
 pub has_size : (text : List ℕ) (size : Size) → Tells text size → HasSize text size
-has_size text size t = let m = measured text size t in record { image = image_of size (rows_of m.strips); joined = joined_of text size m; width_is = refl; height_is = refl }
+has_size text size t = let m = measured text size t in record { image = image_of size (strips_rows m.strips); joined = joined_of text size m; width_is = refl; height_is = refl }
 
 -- the text of the joined image
-pub pbm_told : (text : List ℕ) (size : Size) → (m : Measured text size) → pbm (image_of size (rows_of m.strips)) ≡ head_of size ++ without_padding size.width (rows_told text)
+pub pbm_told : (text : List ℕ) (size : Size) → (m : Measured text size) → pbm (image_of size (strips_rows m.strips)) ≡ head_of size ++ without_padding size.width (rows_told text)
 pbm_told text size m =
-    pbm_is (image_of size (rows_of m.strips)) (rows_of m.strips) (length-rows_of size.width m.strips m.begins.are ∙ ap (λ h. h * row_bytes size.width) (sym m.height_is)) (λ x y l k. refl)
+    pbm_is (image_of size (strips_rows m.strips)) (strips_rows m.strips) (length-rows_of size.width m.strips m.begins.are ∙ ap (λ h. h * row_bytes size.width) (sym m.height_is)) (λ x y l k. refl)
     ∙ ap (λ r. head_of size ++ without_padding size.width r) (sym m.rows_is)
 
 -- there is no width where there is no image

@@ -6,7 +6,7 @@ use Rattle.vp_dots.specs.Dots.{dot}
 use Rattle.vp_dots.specs.Headers.{header_of}
 use Rattle.vp_dots.specs.Images.{Image, row_bytes, image_rows, pbm}
 use Rattle.vp_dots.proofs.ImageLaws.{length-image_rows}
-use Rattle.vp_join.specs.Strips.{greatest, Strip, IsNumber, AreStrips, height_of, rows_of, text_of, IsJoined, AreImages, height_together}
+use Rattle.vp_join.specs.Strips.{greatest, Strip, IsNumber, AreStrips, height_of, strips_rows, strips_text, IsJoined, AreImages, height_together}
 
 -- the strip of an image
 abbrev strip_of : Image → Strip
@@ -33,7 +33,7 @@ module _ (width : ℕ) (fits : IsNumber width) where
     are_strips images are.1 (omega (arith, most)),
   )
 
-  texts : (images : List Image) → AreImages width images → flat_map pbm images ≡ text_of (strips_of images)
+  texts : (images : List Image) → AreImages width images → flat_map pbm images ≡ strips_text (strips_of images)
   texts [] are = refl
   texts (image ∷ images) are =
       let some : image.height ≡ 0 → ⊥ = λ z. let least = are.0.1 in absurd (omega (arith, least, z)) in
@@ -45,10 +45,10 @@ module _ (width : ℕ) (fits : IsNumber width) where
   together images are most =
       let strips = strips_of images in
       let high = heights images in (
-        record { width = width; height = height_of strips; is_black = λ x y. dot (rows_of strips) (8 * (y * row_bytes width) + x) },
+        record { width = width; height = height_of strips; is_black = λ x y. dot (strips_rows strips) (8 * (y * row_bytes width) + x) },
         record {
           strips = strips;
-          begins = record { are = are_strips images are most; height_fits = omega (arith, high, most); text_is = texts images are ∙ sym (append-nil (text_of strips)) };
+          begins = record { are = are_strips images are most; height_fits = omega (arith, high, most); text_is = texts images are ∙ sym (append-nil (strips_text strips)) };
           height_is = refl;
           dots_are = λ x y l k. refl;
         },

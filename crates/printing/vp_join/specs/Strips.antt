@@ -41,18 +41,18 @@ height_of [] = 0
 height_of (s ∷ strips) = s.height + height_of strips
 
 -- the bytes of all their rows, in order
-abbrev pub rows_of : List Strip → List ℕ
-rows_of strips = flat_map (λ s. s.rows) strips
+abbrev pub strips_rows : List Strip → List ℕ
+strips_rows strips = flat_map (λ s. s.rows) strips
 
 -- their text
-abbrev pub text_of : List Strip → List ℕ
-text_of strips = flat_map (λ s. header_of s.width s.height ++ s.rows) strips
+abbrev pub strips_text : List Strip → List ℕ
+strips_text strips = flat_map (λ s. header_of s.width s.height ++ s.rows) strips
 
 -- a text begins with strips of one width, whose heights add up to no more than the greatest
 pub record BeginsWith (width : ℕ) (strips : List Strip) (rest text : List ℕ) : Type 0 where
   pub are : AreStrips width strips
   pub height_fits : height_of strips ≤ greatest
-  pub text_is : text ≡ text_of strips ++ rest
+  pub text_is : text ≡ strips_text strips ++ rest
 
 -- the text is strips, and this is the one image with all their rows in order: dot x of row y is that of the
 -- bytes
@@ -61,7 +61,7 @@ pub record IsJoined (text : List ℕ) (image : Image) : Type 0 where
   pub begins : BeginsWith image.width strips [] text
   pub height_is : image.height ≡ height_of strips
   pub dots_are : (x y : ℕ) → x < image.width → y < image.height
-      → image.is_black x y ≡ dot (rows_of strips) (8 * (y * row_bytes image.width) + x)
+      → image.is_black x y ≡ dot (strips_rows strips) (8 * (y * row_bytes image.width) + x)
 
 -- images of one width, of a row or more each
 abbrev pub AreImages : ℕ → List Image → Type 0

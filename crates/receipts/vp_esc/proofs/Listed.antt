@@ -26,7 +26,7 @@ use Rattle.vp_esc.specs.declared.command.OfByte.TheVariants as of_byte
 use Rattle.vp_esc.specs.declared.command.OfWord.{OfWord as OfWordCommand}
 use Rattle.vp_esc.specs.declared.command.OfWord.TheVariants as of_word
 use Rattle.vp_esc.specs.Values.{spelled, is_cut, is_feed_cut, is_column_mode, column_mode_of, column_bytes, scale_of, is_kind_to_zero}
-use Rattle.vp_esc.specs.Units.{needs_more, rises_from, alone_item, of_byte_item, of_word_item, plain_item, stops_item, tall_columns, columns, raster_bytes, symbol_data, symbol_of, given_behind}
+use Rattle.vp_esc.specs.Units.{needs_more, rises_from, alone_item, of_byte_item, of_word_item, plain_item, stops_item, tall_columns, columns, raster_bytes, symbol_data, symbol_unit, given_behind}
 use Rattle.vp_esc.specs.Laws.{all_bytes}
 use Rattle.vp_esc.specs.Lines.{lead_word, two_bytes, column_byte, symbol_bytes, line_of}
 use Rattle.vp_esc.specs.Listings.{may_skip, Lists}
@@ -278,7 +278,7 @@ graphics_list args h =
     (items.WithoutEffect Gs (record { items = 0x38 ∷ 0x4C ∷ h.p1 ∷ h.p2 ∷ h.p3 ∷ h.p4 ∷ [] })) refl refl refl)
 
 -- up to 255 bytes of data are kept
-symbol_line : (kind : ℕ) (bytes : List ℕ) → length bytes ≤ 255 → line_of (symbol_of kind bytes) ≡ listed (codes "gs") (symbol_bytes kind bytes)
+symbol_line : (kind : ℕ) (bytes : List ℕ) → length bytes ≤ 255 → line_of (symbol_unit kind bytes) ≡ listed (codes "gs") (symbol_bytes kind bytes)
 symbol_line kind bytes l = ap (λ (t : List ℕ). listed (codes "gs") (symbol_bytes kind t)) (take_all 255 bytes l)
 
 -- the item of these arguments
@@ -286,10 +286,10 @@ symbol_item : (args cs : List ℕ) (kind : ℕ) → get_or args 0 0 ≡ kind →
     → symbol_bytes kind cs ≡ 0x6B ∷ args → Lists Gs (0x6B ∷ args) (map line_of (given_behind Gs 0x6B Symbol args))
 unfolding given_behind
 symbol_item args cs kind k d l n b =
-    let line : line_of (symbol_of (get_or args 0 0) (symbol_data args)) ≡ listed (codes "gs") (0x6B ∷ args) =
-    ap (λ m. line_of (symbol_of m (symbol_data args))) k ∙ ap (λ (t : List ℕ). line_of (symbol_of kind t)) d
+    let line : line_of (symbol_unit (get_or args 0 0) (symbol_data args)) ≡ listed (codes "gs") (0x6B ∷ args) =
+    ap (λ m. line_of (symbol_unit m (symbol_data args))) k ∙ ap (λ (t : List ℕ). line_of (symbol_unit kind t)) d
     ∙ symbol_line kind cs l ∙ ap (λ (t : List ℕ). listed (codes "gs") t) b in
-    rw n (one_line Gs (0x6B ∷ args) (symbol_of (get_or args 0 0) (symbol_data args)) line)
+    rw n (one_line Gs (0x6B ∷ args) (symbol_unit (get_or args 0 0) (symbol_data args)) line)
 
 pub to_zero_list : (args : List ℕ) → IsToZero args → length args ≤ 257 → needs_more Symbol args ≡ false → Lists Gs (0x6B ∷ args) (map line_of (given_behind Gs 0x6B Symbol args))
 to_zero_list args h l n =

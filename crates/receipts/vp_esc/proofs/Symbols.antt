@@ -13,7 +13,7 @@ use Rattle.vp_esc.specs.declared.reader.EscReader.{EscReader}
 use Rattle.vp_esc.specs.declared.reader.Phase.TheVariants as phases
 use Rattle.vp_esc.specs.Values.{is_kind_to_zero}
 use Rattle.vp_esc.specs.Command.{head_len}
-use Rattle.vp_esc.specs.Units.{needs_more, given_by, given_behind, symbol_data, symbol_of, symbol_with, at_last}
+use Rattle.vp_esc.specs.Units.{needs_more, given_by, given_behind, symbol_data, symbol_unit, symbol_with, at_last}
 use Rattle.vp_esc.specs.declared.item.Lead.{Lead}
 use Rattle.vp_esc.specs.Reader.{Begun, Advances, Lands, InSymbolToZero, InSymbolData}
 use Rattle.vp_esc.proofs.Fronts.{lands_open, lands_whole, continues, completes, begun_longer}
@@ -41,14 +41,14 @@ beyond_push : (codes : List ℕ) (c : ℕ) (more full : Bool) → more ≡ ltb 2
 beyond_push codes c more full m f = grind (arith, nat_tests, length-take 255 codes, length_push codes c)
 
 symbol_given : (lead : Lead) (name m : ℕ) (args : List ℕ) → head_len Symbol (m ∷ args) ≤ length (m ∷ args)
-    → given_by lead name Symbol (m ∷ args) ≡ at_last (needs_more Symbol (m ∷ args)) (symbol_of m (symbol_data (m ∷ args)))
+    → given_by lead name Symbol (m ∷ args) ≡ at_last (needs_more Symbol (m ∷ args)) (symbol_unit m (symbol_data (m ∷ args)))
 unfolding given_behind
 symbol_given lead name m args h = given_is lead name Symbol (m ∷ args) h
 
 -- nothing was given before
 symbol_pushed : (lead : Lead) (name m : ℕ) (args : List ℕ) (c : ℕ) (item : Option EscItem) → head_len Symbol (m ∷ args) ≤ length (m ∷ args)
     → needs_more Symbol (m ∷ args) ≡ true
-    → at_last (needs_more Symbol (m ∷ args ++ c ∷ [])) (symbol_of m (symbol_data (m ∷ args ++ c ∷ []))) ≡ option_to_list item
+    → at_last (needs_more Symbol (m ∷ args ++ c ∷ [])) (symbol_unit m (symbol_data (m ∷ args ++ c ∷ []))) ≡ option_to_list item
     → given_by lead name Symbol (m ∷ args ++ c ∷ []) ≡ given_by lead name Symbol (m ∷ args) ++ option_to_list item
 symbol_pushed lead name m args c item h n e =
     let l : head_len Symbol (m ∷ args ++ c ∷ []) ≤ length (m ∷ args ++ c ∷ []) = omega (arith, length_push args c) in
@@ -97,7 +97,7 @@ symbol_ends r kind c more rest final hand zero =
     let len : length (kind ∷ hand.codes ++ c ∷ []) - 2 ≡ length hand.codes = omega (arith, length_push hand.codes c) in
     let d : symbol_data (kind ∷ hand.codes ++ c ∷ []) ≡ hand.codes =
     rw hand.to_zero (rw len (take_at hand.codes (c ∷ []) (length hand.codes) refl)) in
-    let i : symbol_of kind (symbol_data (kind ∷ hand.codes ++ c ∷ [])) ≡ symbol_with kind r.kept.items more = rw (d, hand.kept, hand.beyond) refl in
+    let i : symbol_unit kind (symbol_data (kind ∷ hand.codes ++ c ∷ [])) ≡ symbol_with kind r.kept.items more = rw (d, hand.kept, hand.beyond) refl in
     completes c (Some (symbol_with kind r.kept.items more)) (record r { phase = phases.Ground; kept = final }) hand.begun hand.begun.listed n
     (symbol_pushed r.lead r.name kind hand.codes c (Some (symbol_with kind r.kept.items more)) l n' (rw n (ap (λ x. x ∷ []) i))) refl
 
@@ -131,7 +131,7 @@ symbol_last r kind left c rest kept final hand some k =
     let n' : needs_more Symbol (kind ∷ hand.count ∷ r.kept.items) ≡ true = rw hand.counted (grind (arith, nat_tests, hand.sum, hand.some_left)) in
     let d : symbol_data (kind ∷ hand.count ∷ r.kept.items ++ c ∷ []) ≡ r.kept.items ++ c ∷ [] = rw hand.counted refl in
     let m : ltb 255 (length (r.kept.items ++ c ∷ [])) ≡ false = rw len (grind (arith, nat_tests, hand.sum, hand.some_left, hand.fits)) in
-    let i : symbol_of kind (symbol_data (kind ∷ hand.count ∷ r.kept.items ++ c ∷ [])) ≡ symbol_with kind kept.items false = rw (d, k, m) refl in
+    let i : symbol_unit kind (symbol_data (kind ∷ hand.count ∷ r.kept.items ++ c ∷ [])) ≡ symbol_with kind kept.items false = rw (d, k, m) refl in
     completes c (Some (symbol_with kind kept.items false)) (record r { phase = phases.Ground; kept = final }) hand.begun hand.begun.listed n
     (symbol_pushed r.lead r.name kind (hand.count ∷ r.kept.items) c (Some (symbol_with kind kept.items false)) (two_at_least (is_kind_to_zero kind) kind hand.count r.kept.items) n' (rw n (ap (λ x. x ∷ []) i))) refl
 
@@ -184,4 +184,4 @@ symbol_empty r kind left rest kept b z none =
     let n : needs_more Symbol (kind ∷ 0 ∷ []) ≡ false = rw z refl in
     let d : symbol_data (kind ∷ 0 ∷ []) ≡ [] = rw z refl in
     lands_whole (Some (symbol_with kind [] false)) (record r { phase = phases.Ground; kept = kept }) b' n
-    (symbol_given r.lead r.name kind (0 ∷ []) (two_at_least (is_kind_to_zero kind) kind 0 []) ∙ rw n (ap (λ (d : List ℕ). symbol_of kind d ∷ []) d)) refl
+    (symbol_given r.lead r.name kind (0 ∷ []) (two_at_least (is_kind_to_zero kind) kind 0 []) ∙ rw n (ap (λ (d : List ℕ). symbol_unit kind d ∷ []) d)) refl

@@ -145,8 +145,8 @@ abbrev pub symbol_with : ℕ → List ℕ → Bool → EscItem
 symbol_with m kept more = items.Symbol (spelled m (Values.bar_code_of m)) (record { items = kept }) more
 
 -- the first 255 bytes, and whether there are more
-abbrev pub symbol_of : ℕ → List ℕ → EscItem
-symbol_of m bytes = symbol_with m (take 255 bytes) (nat_lt 255 (length bytes))
+abbrev pub symbol_unit : ℕ → List ℕ → EscItem
+symbol_unit m bytes = symbol_with m (take 255 bytes) (nat_lt 255 (length bytes))
 
 -- each three bytes are a column of 24 dots
 abbrev pub tall_columns : List ℕ → List EscItem
@@ -193,7 +193,7 @@ given_behind lead name Raster args =
     (word_at args 2) (word_at args 4)
     ∷ raster_bytes (scale_of (slice_index args 1)) (drop 6 args)
 given_behind lead name Symbol args =
-    at_last (needs_more Symbol args) (symbol_of (slice_index args 0) (symbol_data args))
+    at_last (needs_more Symbol args) (symbol_unit (slice_index args 0) (symbol_data args))
 given_behind lead name Function args =
     if slice_index args 0 == 0x6B then qr_items (word_at args 1) (drop 3 args)
     else unused lead name (take 3 args) ∷ []

@@ -17,7 +17,7 @@ use Rattle.vp_receipt_settings.specs.declared.text.Text.{Text}
 use Rattle.vp_receipt_settings.specs.declared.page_mode.PrinterMode.{PrinterMode}
 use Rattle.vp_receipt_settings.specs.declared.page_mode.PrinterMode.TheVariants.{Standard, Page}
 use Rattle.vp_receipt_settings.specs.Setup.{Setup}
-use Rattle.vp_receipt_settings.specs.Texts.{text_of}
+use Rattle.vp_receipt_settings.specs.Texts.{text_in_force}
 use Rattle.vp_receipt_settings.specs.Pages.{is_paged, is_area, area_cut, is_vertical_move, vertical_moved}
 use Rattle.vp_receipt_settings.specs.Rasters.{draws, scale_or, times_down}
 use Rattle.vp_receipt_settings.specs.Line.{Placed, Frame, line, mode, is_open, character}
@@ -77,7 +77,7 @@ is_acting item _ n f d h = h
 -- how an item goes with its effect
 pub record Does (setup : Setup) (before : List EscItem) (item : EscItem) (effect : Effect) : Type 0 where
   pub line : line setup (item ∷ before) ≡ line_by setup before effect
-  pub text : (code : ℕ) → waits_of effect ≡ Some code → text_of (item ∷ before) ≡ text_of before
+  pub text : (code : ℕ) → waits_of effect ≡ Some code → text_in_force (item ∷ before) ≡ text_in_force before
   pub rows : line_strip_rows setup before item ≡ line_rows_by setup before effect
   pub own : own_strips setup before item ≡ own_by setup effect
   pub layers : mode setup before ≡ Page → layers_with setup before item (layers setup before) ≡ layers_by setup before effect
@@ -153,7 +153,7 @@ part_done setup before item effect d = rw (← d.own, ← d.page) refl
 
 -- a character waits in the style in which it came
 pub gathers_after : (setup : Setup) (before : List EscItem) (item : EscItem) (sheets : Sheets) (bitmap : List (List ℕ)) (waiting : Option ℕ) (placed : List Placed)
-    → ((code : ℕ) → waiting ≡ Some code → text_of (item ∷ before) ≡ text_of before)
+    → ((code : ℕ) → waiting ≡ Some code → text_in_force (item ∷ before) ≡ text_in_force before)
     → Gathers sheets (settings_of setup before) bitmap waiting placed → Gathers sheets (settings_of setup (item ∷ before)) bitmap waiting placed
 gathers_after setup before item sheets bitmap None placed h g = g
 gathers_after setup before item sheets bitmap (Some code) placed h g =
@@ -228,7 +228,7 @@ pub line_stays : (setup : Setup) (before : List EscItem) (effect : Effect) (s : 
     → s ≡ settings_of setup before → sheets ≡ setup.sheets → HasOpen (line setup before) bitmap → Gathers sheets s bitmap (waits_of effect) (line_by setup before effect)
 line_stays setup before (Puts piece) s sheets bitmap n e k h = absurd (n piece refl)
 line_stays setup before (Breaks rows code) s sheets bitmap n e k h =
-    let z : image_of sheets s.text code ≡ character setup before code = ap (λ (t : Settings). image_of sheets t.text code) e ∙ ap (λ (x : Sheets). image_of x (text_of before) code) k in
+    let z : image_of sheets s.text code ≡ character setup before code = ap (λ (t : Settings). image_of sheets t.text code) e ∙ ap (λ (x : Sheets). image_of x (text_in_force before) code) k in
     sym (ap (λ (i : Image). record { at = 0; image = i } ∷ []) z)
 line_stays setup before Initializes s sheets bitmap n e k h = λ o. cc
 line_stays setup before LeavesPage s sheets bitmap n e k h = λ o. cc

@@ -21,7 +21,7 @@ use Rattle.vp_glyph.specs.declared.Sheets.{Sheets}
 use Rattle.vp_receipt_settings.specs.Setup.{Setup}
 use Rattle.vp_receipt_settings.specs.Line.{mode, line, Placed}
 use Rattle.vp_receipt_settings.specs.Settings.{settings_of, page_of, image_of, IsFitPage}
-use Rattle.vp_receipt_settings.specs.Texts.{text_of}
+use Rattle.vp_receipt_settings.specs.Texts.{text_in_force}
 use Rattle.vp_receipt_settings.specs.declared.text.Text.{Text}
 use Rattle.vp_receipt_settings.specs.Rasters.{times_across, times_down, raster_scale, raster_bytes, row_so_far, is_row_end, bytes_after, row_at}
 use Rattle.vp_receipt_settings.specs.Gathering.{IsGathering, IsPartRow, room_of, left_of}
@@ -313,9 +313,9 @@ pub row_whole : (r : Raster) → IsPartRow r → (r.got ≡ 0 → ⊥) → r.got
 row_whole r part begun = whole_by r (eqb r.rows 0) refl part begun
 
 -- the line stays where it is gathered
-text_stays : (bytes : List ℕ) (before : List EscItem) → text_of (bytes_after bytes before) ≡ text_of before
+text_stays : (bytes : List ℕ) (before : List EscItem) → text_in_force (bytes_after bytes before) ≡ text_in_force before
 text_stays [] before = refl
-text_stays (b ∷ bytes) before = ap text_of (after_first b bytes before) ∙ text_stays bytes (RasterByte b ∷ before)
+text_stays (b ∷ bytes) before = ap text_in_force (after_first b bytes before) ∙ text_stays bytes (RasterByte b ∷ before)
 
 pub gathers_still : (setup : Setup) (bytes : List ℕ) (before : List EscItem) (sheets : Sheets) (s t : Settings) (bitmap : List (List ℕ)) (waiting : Option ℕ) → s ≡ settings_of setup before
     → t ≡ settings_of setup (bytes_after bytes before) → Gathers sheets s bitmap waiting (line setup before) → Gathers sheets t bitmap waiting (line setup (bytes_after bytes before))

@@ -16,7 +16,7 @@ use Rattle.vp_strips.specs.declared.strip.Dots.{Dots}
 use Rattle.vp_strips.specs.declared.strip.Dots.TheVariants.{Line, White, Across, Raster, Drawn, Page}
 use Rattle.vp_strips.specs.Jobs.{text}
 use Rattle.vp_strips.proofs.Jobs.{some_left}
-use Rattle.vp_strips.specs.Held.{Showing, Shows, IsShowing, showing_of, shown_in, text_of, SomeLeft, IsJob, IsTurned}
+use Rattle.vp_strips.specs.Held.{Showing, Shows, IsShowing, showing_of, shown_in, job_text, SomeLeft, IsJob, IsTurned}
 use Rattle.vp_receipt.specs.Effects.{text_if}
 use Rattle.vp_receipt.specs.Standing.{ShowsLine}
 
@@ -36,7 +36,7 @@ shows_nothing setup (Some s) pending (item ∷ before) after e h = absurd (omega
 
 -- bytes that are put out leave shown what is
 pub shows_put : (setup : Setup) (j k : Job) (canvas : Canvas) (before : List EscItem) → ((high others : ℕ) → IsShowing j canvas high others → IsShowing k canvas high others)
-    → ShowsLine setup (showing_of j canvas) (text_of j canvas) before → ShowsLine setup (showing_of k canvas) (text_of k canvas) before
+    → ShowsLine setup (showing_of j canvas) (job_text j canvas) before → ShowsLine setup (showing_of k canvas) (job_text k canvas) before
 shows_put setup j k canvas [] further h = further 0 0 h
 shows_put setup j k canvas (item ∷ before) further h = further _ _ h
 
@@ -53,7 +53,7 @@ front_none : (a b : List ℕ) → a ++ b ≡ [] → a ≡ []
 front_none [] b e = refl
 front_none (x ∷ a) b e = cc
 
-pub is_done : (j : Job) (canvas : Canvas) (lines : Lines) → IsJob j canvas lines → text_of j canvas ≡ [] → j.place ≡ None
+pub is_done : (j : Job) (canvas : Canvas) (lines : Lines) → IsJob j canvas lines → job_text j canvas ≡ [] → j.place ≡ None
 is_done j canvas lines job e = done j canvas j.place job.left (front_none _ _ e)
 
 no_line : (d : Dots) (others : ℕ) → shown_in d None others ≡ None
@@ -68,17 +68,17 @@ no_after : (p : Option Place) (after : After) → p ≡ None → IsTurned p afte
 no_after None after e h = h
 no_after (Some p) after e h = cc
 
-pub text_done : (j : Job) (canvas : Canvas) → j.place ≡ None → IsTurned j.place j.after → text_of j canvas ≡ []
+pub text_done : (j : Job) (canvas : Canvas) → j.place ≡ None → IsTurned j.place j.after → job_text j canvas ≡ []
 text_done j canvas e t = rw (e, no_after j.place j.after e t) refl
 
-pub job_done : (j : Job) (old canvas : Canvas) (lines : Lines) → IsJob j old lines → text_of j old ≡ [] → IsJob j canvas lines
+pub job_done : (j : Job) (old canvas : Canvas) (lines : Lines) → IsJob j old lines → job_text j old ≡ [] → IsJob j canvas lines
 job_done j old canvas lines was none =
     let e = is_done j old lines was none in
     record { low = was.low; after = was.after; place = was.place; left = was.left; line = rw e tt }
 
 -- what is printed stands in its place
 pub job_replaced : (printed : Option Job) (j : Job) (old canvas : Canvas) (lines : Lines) → IfSome printed (λ job. (lines : Lines) → IsJob job canvas lines)
-    → IsJob j old lines → text_of j old ≡ [] → IsJob (unwrap_or printed j) canvas lines
+    → IsJob j old lines → job_text j old ≡ [] → IsJob (unwrap_or printed j) canvas lines
 job_replaced (Some job) j old canvas lines h was none = h lines
 job_replaced None j old canvas lines h was none = job_done j old canvas lines was none
 
@@ -86,7 +86,7 @@ pub turned_replaced : (printed : Option Job) (j : Job) → IfSome printed (λ jo
 turned_replaced (Some job) j h was = h
 turned_replaced None j h was = was
 
-pub text_replaced : (printed : Option Job) (j : Job) (old canvas : Canvas) (lines : Lines) → IsJob j old lines → IsTurned j.place j.after → text_of j old ≡ [] → text_of (unwrap_or printed j) canvas ≡ text_if printed canvas
+pub text_replaced : (printed : Option Job) (j : Job) (old canvas : Canvas) (lines : Lines) → IsJob j old lines → IsTurned j.place j.after → job_text j old ≡ [] → job_text (unwrap_or printed j) canvas ≡ text_if printed canvas
 text_replaced (Some job) j old canvas lines was turned none = refl
 text_replaced None j old canvas lines was turned none = text_done j canvas (is_done j old lines was none) turned
 
@@ -94,6 +94,6 @@ pub shows_done : (j : Job) (canvas : Canvas) (high others : ℕ) → j.place ≡
 shows_done j canvas high others e t = rw (e, no_line, no_after j.place j.after e t) (omega arith)
 
 pub shows_replaced : (printed : Option Job) (j : Job) (old canvas : Canvas) (lines : Lines) (high others : ℕ) → IfSome printed (λ job. IsShowing job canvas high others)
-    → IsJob j old lines → IsTurned j.place j.after → text_of j old ≡ [] → IsShowing (unwrap_or printed j) canvas high others
+    → IsJob j old lines → IsTurned j.place j.after → job_text j old ≡ [] → IsShowing (unwrap_or printed j) canvas high others
 shows_replaced (Some job) j old canvas lines high others h was turned none = h
 shows_replaced None j old canvas lines high others h was turned none = shows_done j canvas high others (is_done j old lines was none) turned

@@ -23,7 +23,7 @@ use Rattle.vp_esc.specs.declared.item.RasterScale.{RasterScale}
 use Rattle.vp_esc.specs.declared.item.Spelled.{Spelled}
 use Rattle.vp_esc.specs.Command.{lead_of, command_of, head_len, is_listed}
 use Rattle.vp_esc.specs.Qr.{qr_items, value_items, model_items, level_item, is_qr_function}
-use Rattle.vp_esc.specs.Units.{is_unfinished, data_len, rises_from, symbol_of, symbol_data, given, needs_more, given_by, given_behind, is_unfinished_named, is_unfinished_after, given_named, given_after, word_at, raster_bytes, columns, tall_columns, at_last, single_item, alone_item, of_byte_item, of_word_item, plain_item, stops_item}
+use Rattle.vp_esc.specs.Units.{is_unfinished, data_len, rises_from, symbol_unit, symbol_data, given, needs_more, given_by, given_behind, is_unfinished_named, is_unfinished_after, given_named, given_after, word_at, raster_bytes, columns, tall_columns, at_last, single_item, alone_item, of_byte_item, of_word_item, plain_item, stops_item}
 use Rattle.vp_esc.specs.Values.{spelled, is_feed_cut, column_mode_of, scale_of, qr_model_of, qr_level_of}
 use Rattle.vp_receipt.proofs.Images.{is_raster}
 
@@ -159,7 +159,7 @@ behind lead name Raster args h = inr (record {
       let whole = ltb-false (length args) (head_len Raster args + data_len Raster args) e in
       omega (arith, head, whole, length-drop 6 args);
 })
-behind lead name Symbol args h = inl (last_other (needs_more Symbol args) (symbol_of (slice_index args 0) (symbol_data args)) (other refl))
+behind lead name Symbol args h = inl (last_other (needs_more Symbol args) (symbol_unit (slice_index args 0) (symbol_data args)) (other refl))
 behind lead name Function args h = inl (alls (slice_index args 0 == 0x6B) (qr_other (word_at args 1) (drop 3 args)) (one (other refl)))
 behind lead name Graphics args h = inl (one (other refl))
 

@@ -10,7 +10,7 @@ use Rattle.vp_receipt_settings.specs.Pages.{area}
 use Rattle.vp_receipt_settings.specs.Line.{line, is_open}
 use Rattle.vp_receipt_settings.specs.Extent.{ends_line}
 use Rattle.vp_receipt.specs.PageMarks.{layers, layers_with, laid_if, wiped_if, laid_own, line_mark, own_mark, wipes}
-use Rattle.vp_receipt.specs.Work.{AddsAtMost, most_work, most_by, rows_of}
+use Rattle.vp_receipt.specs.Work.{AddsAtMost, most_work, most_by, mark_rows}
 
 abbrev work : List Layer → ℕ
 work l = laid_rows l + most_wiped l
@@ -23,7 +23,7 @@ wipe_adds : (b : Bool) (a : Area) (l : List Layer) → work (wiped_if b a l) ≤
 wipe_adds true a l = omega arith
 wipe_adds false a l = omega arith
 
-own_adds : (o : Option Mark) (l : List Layer) → work (laid_own o l) ≤ work l + rows_of o
+own_adds : (o : Option Mark) (l : List Layer) → work (laid_own o l) ≤ work l + mark_rows o
 own_adds None l = omega arith
 own_adds (Some m) l = omega arith
 

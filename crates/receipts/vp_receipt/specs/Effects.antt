@@ -16,7 +16,7 @@ use Rattle.vp_receipt_settings.specs.Line.{Placed, line, position, mode, charact
 use Rattle.vp_strips.specs.Rows.{cut_text, white_text, line_text}
 use Rattle.vp_strips.specs.declared.canvas.Canvas.{Canvas}
 use Rattle.vp_strips.specs.declared.job.Job.{Job}
-use Rattle.vp_strips.specs.Held.{text_of}
+use Rattle.vp_strips.specs.Held.{job_text}
 use Rattle.vp_receipt.specs.PageMarks.{layers, printed_layers}
 use Rattle.vp_receipt.specs.Strips.{page_text}
 
@@ -98,4 +98,4 @@ mode_by setup before _ = mode setup before
 -- what a job puts out, if there is one
 abbrev pub text_if : Option Job → Canvas → List ℕ
 text_if None canvas = []
-text_if (Some job) canvas = text_of job canvas
+text_if (Some job) canvas = job_text job canvas

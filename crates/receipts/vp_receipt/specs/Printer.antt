@@ -1,7 +1,7 @@
 -- What a receipt printer keeps.
 use Rattle.vp_receipt.specs.declared.receipt.Receipt.TheInside.{Inside}
 use Rattle.vp_receipt_settings.specs.Settings.{IsFit}
-use Rattle.vp_strips.specs.Held.{text_of, showing_of, IsJob, IsTurned}
+use Rattle.vp_strips.specs.Held.{job_text, showing_of, IsJob, IsTurned}
 use Rattle.vp_receipt.specs.Standing.{Printing}
 use Rattle.vp_receipt_settings.specs.Gathering.{IsPartRow}
 
@@ -15,7 +15,7 @@ printing_of r = record {
   bitmap = r.canvas.bitmap;
   page = r.canvas.page;
   waiting = r.waiting;
-  pending = text_of r.job r.canvas;
+  pending = job_text r.job r.canvas;
   showing = showing_of r.job r.canvas;
   of_page = r.of_page;
 }

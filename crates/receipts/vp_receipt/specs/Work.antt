@@ -18,16 +18,16 @@ most_work setup before = laid_rows (layers setup before) + most_wiped (layers se
 abbrev pub least_work : Setup → List EscItem → ℕ
 least_work setup before = laid_rows (layers setup before) + least_wiped (layers setup before)
 
-abbrev pub rows_of : Option Mark → ℕ
-rows_of None = 0
-rows_of (Some mark) = mark.high
+abbrev pub mark_rows : Option Mark → ℕ
+mark_rows None = 0
+mark_rows (Some mark) = mark.high
 
 -- what an item lays and wipes on a page at most: the line that it ends, a row of a raster or a symbol of its
 -- own, and for CAN the rows of the area
 abbrev pub most_by : Setup → List EscItem → EscItem → ℕ
 most_by setup before item =
     (if ends_line setup before item && is_open (line setup before) then height (line setup before) else 0)
-    + rows_of (own_mark setup before item) + (if wipes item then area_rows (area setup before) else 0)
+    + mark_rows (own_mark setup before item) + (if wipes item then area_rows (area setup before) else 0)
 
 -- on a page each item adds at most that
 abbrev pub AddsAtMost : Type 0

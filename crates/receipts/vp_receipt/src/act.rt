@@ -34,7 +34,7 @@ ghost use Rattle.vp_strips.specs.SymbolInks.{symbol_width, symbol_height, IsSymb
 ghost use Rattle.vp_receipt_settings.specs.Pages.{area};
 ghost use Rattle.vp_receipt.specs.Standing.{Gathers, HasPageIf, IsSettled, LeavesAlone};
 ghost use Rattle.vp_receipt_settings.specs.Gathering.{EndsRow, kept_of};
-ghost use Rattle.vp_strips.specs.Held.{text_of, after_text, IsJob, IsTurned, AreOwn, IsShowing};
+ghost use Rattle.vp_strips.specs.Held.{job_text, after_text, IsJob, IsTurned, AreOwn, IsShowing};
 
 use crate::raster_page::lay_raster_row;
 use vp_dots::{Ink, WORDS};
@@ -134,7 +134,7 @@ fn line_job(s: &Settings, rows: u32) -> Job
     ensures job { (canvas : Canvas) (lines : Lines) → IsJob result canvas lines }
     ensures turned { IsTurned result.place result.after }
     ensures text { (setup : Setup) (before : List EscItem) (canvas : Canvas) →
-        IsSettled setup before s.now canvas → text_of result canvas ≡ line_text setup before rows }
+        IsSettled setup before s.now canvas → job_text result canvas ≡ line_text setup before rows }
     ensures shows { (canvas : Canvas) → IsShowing result canvas s.now.height 0 }
 {
     Job::of(Strip::of_line(s, rows), After::End)
@@ -148,7 +148,7 @@ fn ended_job(s: &Settings, after: After) -> Job
     ensures turned { IsTurned result.place result.after }
     ensures text { (setup : Setup) (before : List EscItem) (canvas : Canvas) →
         IsSettled setup before s.now canvas →
-        text_of result canvas ≡ ended setup before ++ after_text after canvas }
+        job_text result canvas ≡ ended setup before ++ after_text after canvas }
     ensures shows { (canvas : Canvas) →
         IsShowing result canvas s.now.height (length (after_text after canvas)) }
 {
@@ -162,7 +162,7 @@ fn cut_job(s: &Settings, dots: u8, cut: Cut) -> Job
     ensures turned { IsTurned result.place result.after }
     ensures text { (setup : Setup) (before : List EscItem) (canvas : Canvas) →
         IsSettled setup before s.now canvas →
-        text_of result canvas ≡
+        job_text result canvas ≡
         ended setup before ++ (white_text setup.width dots ++ cut_text setup.width cut) }
     ensures shows { (setup : Setup) (before : List EscItem) (canvas : Canvas) →
         IsSettled setup before s.now canvas →
@@ -320,9 +320,9 @@ fn page_job(s: &Settings) -> Job
     ensures turned { IsTurned result.place result.after }
     ensures text { (setup : Setup) (before : List EscItem) (canvas : Canvas) →
         s.now ≡ settings_of setup before → HasPage (printed_layers setup before) canvas.page →
-        text_of result canvas ≡ page_text setup before }
+        job_text result canvas ≡ page_text setup before }
     ensures shows { (canvas : Canvas) (high : ℕ) →
-        IsShowing result canvas high (length (text_of result canvas)) }
+        IsShowing result canvas high (length (job_text result canvas)) }
 {
     Job::alone(Strip::page(s.paper, s.printed_rows()))
 }
@@ -340,7 +340,7 @@ fn laid(s: &Settings, effect: Effect, canvas: &mut Canvas) -> Option<Job>
     ensures text { (setup : Setup) (before : List EscItem) → IsSettled setup before s.now canvas.old →
         text_if result canvas.new ≡ page_by setup before effect }
     ensures shows { IfSome result (λ job. (high : ℕ) →
-        IsShowing job canvas.new high (length (text_of job canvas.new))) }
+        IsShowing job canvas.new high (length (job_text job canvas.new))) }
 {
     match effect {
         Effect::Breaks { .. } | Effect::Feeds(_) | Effect::BeginsRaster(_) | Effect::Lays(_) => {
@@ -418,7 +418,7 @@ fn symbol_job(s: &Settings, wide: u32, high: u32) -> Job
     ensures text { (setup : Setup) (before : List EscItem) (canvas : Canvas) (image : Image) →
         IsSettled setup before s.now canvas →
         IsDrawn canvas.sheets canvas.symbol wide high image →
-        text_of result canvas ≡ ended setup before ++ image_text setup before (Some image) }
+        job_text result canvas ≡ ended setup before ++ image_text setup before (Some image) }
     ensures shows { (setup : Setup) (before : List EscItem) (canvas : Canvas) (image : Image) →
         IsSettled setup before s.now canvas → IsDrawn canvas.sheets canvas.symbol wide high image →
         IsShowing result canvas (height (line setup before)) (length (image_text setup before (Some image))) }
@@ -436,7 +436,7 @@ fn symbol_on_paper(s: &Settings, symbol: Symbol, canvas: &mut Canvas) -> Job
     ensures text { (setup : Setup) (before : List EscItem) (item : EscItem) →
         IsSettled setup before s.now canvas.old →
         IsSymbolOf setup.sheets (Some symbol) (symbol_image setup before item) →
-        text_of result canvas.new ≡ strips setup before item }
+        job_text result canvas.new ≡ strips setup before item }
     ensures shows { (setup : Setup) (before : List EscItem) (item : EscItem) →
         IsSettled setup before s.now canvas.old →
         IsSymbolOf setup.sheets (Some symbol) (symbol_image setup before item) →
@@ -484,7 +484,7 @@ pub fn draw(s: &Settings, symbol: Symbol, canvas: &mut Canvas) -> Job
     ensures text { (setup : Setup) (before : List EscItem) (item : EscItem) →
         IsSettled setup before s.now canvas.old →
         IsSymbolOf setup.sheets (Some symbol) (symbol_image setup before item) →
-        text_of result canvas.new ≡ prints setup before item }
+        job_text result canvas.new ≡ prints setup before item }
     ensures shows { (setup : Setup) (before : List EscItem) (item : EscItem) →
         IsSettled setup before s.now canvas.old →
         IsSymbolOf setup.sheets (Some symbol) (symbol_image setup before item) →
@@ -508,9 +508,9 @@ fn row_job(s: &Settings, raster: &Raster, row: &mut [u8; PAPER_BYTES]) -> Job
         s.now ≡ settings_of setup before → raster.now.scale ≡ raster_scale before →
         raster.now.bytes ≡ raster_bytes before →
         kept_of raster.now ≡ take LINE_BYTES came → canvas.raster_row ≡ row.new →
-        text_of result canvas ≡ raster_row_text setup before came }
+        job_text result canvas ≡ raster_row_text setup before came }
     ensures shows { (canvas : Canvas) (high : ℕ) →
-        IsShowing result canvas high (length (text_of result canvas)) }
+        IsShowing result canvas high (length (job_text result canvas)) }
 {
     let wide = 8 * u32::from(raster.bytes) * times_across(raster.scale);
     write_raster_row(raster, s.printed_at(wide), s.paper_length(), row);
@@ -531,7 +531,7 @@ pub fn act_on_row(s: &Settings, raster: &Raster, canvas: &mut Canvas) -> Job
         (layers setup (EscItem.RasterByte byte ∷ before)) canvas.new.page }
     ensures text { (setup : Setup) (before : List EscItem) (byte : ℕ) → s.now ≡ settings_of setup before →
         EndsRow raster.now before byte →
-        text_of result canvas.new ≡ prints setup before (EscItem.RasterByte byte) }
+        job_text result canvas.new ≡ prints setup before (EscItem.RasterByte byte) }
     ensures shows { (setup : Setup) (before : List EscItem) (byte : ℕ) →
         s.now ≡ settings_of setup before → EndsRow raster.now before byte →
         IsShowing result canvas.new (height (line setup before))

@@ -76,12 +76,12 @@ effect_of s QrPrint = Draws
 effect_of s item = page_effect_of s item
 
 -- the rows of the strip in which it ends the line
-abbrev pub rows_of : Settings → Effect → ℕ
-rows_of s (Breaks rows code) = rows
-rows_of s (Feeds rows) = rows
-rows_of s (BeginsRaster rows) = if s.is_open then feed_of s else 0
-rows_of s Draws = if s.is_open then feed_of s else 0
-rows_of s _ = 0
+abbrev pub effect_rows : Settings → Effect → ℕ
+effect_rows s (Breaks rows code) = rows
+effect_rows s (Feeds rows) = rows
+effect_rows s (BeginsRaster rows) = if s.is_open then feed_of s else 0
+effect_rows s Draws = if s.is_open then feed_of s else 0
+effect_rows s _ = 0
 
 -- whether it lays the line of a page where it is
 abbrev pub lays_line_by : Effect → Bool

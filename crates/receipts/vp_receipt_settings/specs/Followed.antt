@@ -5,14 +5,14 @@ use Rattle.vp_glyph.specs.Cells.{cell_width, cell_height}
 use Rattle.vp_page.specs.declared.page.TheConstants.{PAPER_DOTS, PAGE_ROWS}
 use Rattle.vp_page.specs.declared.line.TheConstants.{LINE_DOTS}
 use Rattle.vp_receipt_settings.specs.Setup.{Setup}
-use Rattle.vp_receipt_settings.specs.Texts.{text_of, style_of}
+use Rattle.vp_receipt_settings.specs.Texts.{text_in_force, style_of}
 use Rattle.vp_receipt_settings.specs.Tabs.{tabbed}
 use Rattle.vp_receipt_settings.specs.Symbols.{bar_style_of, qr_style_of}
 use Rattle.vp_receipt_settings.specs.Pages.{is_paged, vertical_after, raised}
 use Rattle.vp_receipt_settings.specs.Spacing.{line_spacing, column_width}
 use Rattle.vp_receipt_settings.specs.Line.{left_margin, area_width}
 use Rattle.vp_receipt_settings.specs.Settings.{length_of, justification}
-use Rattle.vp_receipt_settings.specs.Effects.{rows_of, lays_line_by}
+use Rattle.vp_receipt_settings.specs.Effects.{effect_rows, lays_line_by}
 use Rattle.vp_receipt_settings.specs.declared.effect.Piece.TheVariants.{Character}
 use Rattle.vp_receipt_settings.specs.declared.effect.Effect.{Effect}
 use Rattle.vp_receipt_settings.specs.declared.effect.Effect.TheVariants.{Moves, Tabs, Puts, Breaks, Feeds, Cuts, BeginsRaster, Draws, BeginsPage, LeavesPage, Lays, Wipes, PrintsPage, EndsPage}
@@ -73,7 +73,7 @@ line_after s _ stops = s
 -- the settings with what an item sets that has to do neither with the line nor with the page
 abbrev pub with_set : Setup → List EscItem → EscItem → Settings → Settings
 with_set setup before item s = record s {
-  text = text_of (item ∷ before);
+  text = text_in_force (item ∷ before);
   bars = bar_style_of (item ∷ before);
   qr = qr_style_of (item ∷ before);
   line_spacing = line_spacing (item ∷ before);
@@ -94,9 +94,9 @@ abbrev pub page_next : Settings → Effect → ℕ → PageSettings → PageSett
 page_next s (Breaks rows code) symbol page = record page { vertical = vertical_after page.vertical rows }
 page_next s (Feeds rows) symbol page = record page { vertical = vertical_after page.vertical rows }
 page_next s (BeginsRaster rows) symbol page =
-    record page { vertical = vertical_after page.vertical (rows_of s (BeginsRaster rows)) }
+    record page { vertical = vertical_after page.vertical (effect_rows s (BeginsRaster rows)) }
 page_next s Draws symbol page =
-    record page { vertical = vertical_after (vertical_after page.vertical (rows_of s Draws)) symbol }
+    record page { vertical = vertical_after (vertical_after page.vertical (effect_rows s Draws)) symbol }
 page_next s BeginsPage symbol page = record page { mode = Page; vertical = 0; used = 0 }
 page_next s LeavesPage symbol page = record page { mode = Standard }
 page_next s (Lays next) symbol page = page_going next page
@@ -107,7 +107,7 @@ page_next s _ symbol page = page
 -- whether rows are laid in the area
 abbrev pub lays_rows_by : Settings → Effect → ℕ → Bool
 lays_rows_by s effect symbol =
-    nat_lt 0 (rows_of s effect) || (nat_lt 0 symbol || (lays_line_by effect && s.is_open))
+    nat_lt 0 (effect_rows s effect) || (nat_lt 0 symbol || (lays_line_by effect && s.is_open))
 
 abbrev pub page_after : Settings → Effect → ℕ → PageSettings
 page_after s effect symbol =

@@ -13,7 +13,7 @@ use Rattle.vp_receipt_settings.specs.Pages.{is_paged, is_area, area, direction, 
 use Rattle.vp_dots.specs.Images.{Image}
 use Rattle.vp_receipt_settings.specs.Images.{cell_image, column_image}
 use Rattle.vp_glyph.specs.Cells.{cell_width}
-use Rattle.vp_receipt_settings.specs.Texts.{font, text_of, style_of}
+use Rattle.vp_receipt_settings.specs.Texts.{font, text_in_force, style_of}
 use Rattle.vp_receipt_settings.specs.Symbols.{symbol_image, image_rows}
 use Rattle.vp_receipt_settings.specs.Rasters.{draws, is_row_end, raster_scale, times_down}
 use Rattle.vp_receipt_settings.specs.Tabs.{tab_stops, tabbed}
@@ -81,11 +81,11 @@ width_or n old = if nat_lt 0 n then n else old
 
 -- the image of a character
 abbrev pub character : Setup → List EscItem → ℕ → Image
-character setup before code = cell_image setup.sheets (font before) (style_of (text_of before)) code
+character setup before code = cell_image setup.sheets (font before) (style_of (text_in_force before)) code
 
 -- how wide it is
 abbrev pub character_width : List EscItem → ℕ
-character_width before = cell_width (font before) (style_of (text_of before))
+character_width before = cell_width (font before) (style_of (text_in_force before))
 
 -- the image of a column of eight dots, each three rows high
 abbrev pub column8 : List EscItem → ℕ → Image

@@ -16,7 +16,7 @@ use Rattle.vp_receipt_settings.specs.Setup.{Setup}
 use Rattle.vp_receipt_settings.specs.Pages.{area, direction}
 use Rattle.vp_dots.specs.Images.{Image}
 use Rattle.vp_receipt_settings.specs.Images.{cell_image}
-use Rattle.vp_receipt_settings.specs.Texts.{text_of, style_of}
+use Rattle.vp_receipt_settings.specs.Texts.{text_in_force, style_of}
 use Rattle.vp_receipt_settings.specs.Symbols.{bar_style_of, qr_style_of, IsFitBars, IsFitQr}
 use Rattle.vp_receipt_settings.specs.Spacing.{column_width, line_spacing}
 use Rattle.vp_receipt_settings.specs.Line.{area_width, height, is_open, left_margin, length_in, length_within, line, mode, position, right_edge, vertical}
@@ -60,7 +60,7 @@ abbrev pub line_settings_of : Setup → PageSettings → List EscItem → Settin
 line_settings_of setup page before = record {
   paper = setup.width;
   page = page;
-  text = text_of before;
+  text = text_in_force before;
   bars = bar_style_of before;
   qr = qr_style_of before;
   line_spacing = line_spacing before;

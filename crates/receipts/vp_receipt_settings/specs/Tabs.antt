@@ -4,7 +4,7 @@ use Rattle.std.specs.List.{range_with_len}
 use Rattle.vp_esc.specs.declared.item.EscItem.{EscItem}
 use Rattle.vp_esc.specs.declared.item.EscItem.TheVariants.{TabStops, Initialize}
 use Rattle.vp_glyph.specs.Cells.{cell_width}
-use Rattle.vp_receipt_settings.specs.Texts.{font, text_of, style_of}
+use Rattle.vp_receipt_settings.specs.Texts.{font, text_in_force, style_of}
 
 -- 32 stops, one every 96 dots
 abbrev pub first_tab_stops : List ℕ
@@ -14,7 +14,7 @@ first_tab_stops = map (λ k. 96 * (k + 1)) (range_with_len 0 32)
 abbrev pub tab_stops : List EscItem → List ℕ
 tab_stops [] = first_tab_stops
 tab_stops (TabStops stops end ∷ before) =
-    map (λ n. n * cell_width (font before) (style_of (text_of before))) stops.items
+    map (λ n. n * cell_width (font before) (style_of (text_in_force before))) stops.items
 tab_stops (Initialize ∷ before) = first_tab_stops
 tab_stops (_ ∷ before) = tab_stops before
 

@@ -38,13 +38,13 @@ double_strike (Initialize ∷ before) = false
 double_strike (_ ∷ before) = double_strike before
 
 -- ESC -, ESC !: how many rows the underline has
-abbrev pub rows_of : Rule → ℕ
-rows_of Off = 0
-rows_of OneRow = 1
-rows_of TwoRows = 2
+abbrev pub rule_rows : Rule → ℕ
+rule_rows Off = 0
+rule_rows OneRow = 1
+rule_rows TwoRows = 2
 
 abbrev pub rows_or : Option Rule → ℕ → ℕ
-rows_or (Some rule) old = rows_of rule
+rows_or (Some rule) old = rule_rows rule
 rows_or None old = old
 
 abbrev pub underline : List EscItem → ℕ
@@ -97,8 +97,8 @@ right_spacing (Initialize ∷ before) = 0
 right_spacing (_ ∷ before) = right_spacing before
 
 -- all of these
-abbrev pub text_of : List EscItem → Text
-text_of before = record {
+abbrev pub text_in_force : List EscItem → Text
+text_in_force before = record {
   font = font before;
   emphasized = emphasized before;
   double_strike = double_strike before;

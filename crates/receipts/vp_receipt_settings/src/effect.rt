@@ -2,7 +2,7 @@
 ghost use Rattle.std.specs.Prelude.{◌≡◌, ℕ};
 ghost use Rattle.vp_esc.specs.declared.item.EscItem.{EscItem};
 ghost use Rattle.vp_receipt_settings.specs.Settings.{IsFit};
-ghost use Rattle.vp_receipt_settings.specs.Effects.{effect_of, page_effect_of, if_done, runs_along, rows_of, lays_line_by, is_page, waits_of};
+ghost use Rattle.vp_receipt_settings.specs.Effects.{effect_of, page_effect_of, if_done, runs_along, effect_rows, lays_line_by, is_page, waits_of};
 
 use crate::page_mode::{area_cut, direction_of, is_area, is_vertical_move, vertical_moved};
 use crate::raster::{draws, scale_named, times_down};
@@ -210,7 +210,7 @@ impl Settings {
 
     /// The rows of the strip in which an effect ends the line.
     pub(crate) fn rows_of(self, effect: Effect) -> u32
-        ensures { result ≡ rows_of self effect }
+        ensures { result ≡ effect_rows self effect }
     {
         match effect {
             Effect::Breaks { rows, .. } => rows,

@@ -1,7 +1,7 @@
 //! The tab stops.
 ghost use Rattle.std.specs.Prelude.{◌≡◌, ◌*◌, ◌∷◌, List, map};
 ghost use Rattle.vp_esc.specs.declared.item.EscItem.{EscItem};
-ghost use Rattle.vp_receipt_settings.specs.Texts.{text_of};
+ghost use Rattle.vp_receipt_settings.specs.Texts.{text_in_force};
 ghost use Rattle.vp_receipt_settings.specs.Settings.{IsFitText};
 ghost use Rattle.vp_receipt_settings.specs.Tabs.{tab_stops, first_tab_stops};
 
@@ -37,7 +37,7 @@ fn stops_of(characters: &ArrayVec<u8, 32>, advance: u16) -> Stops
 /// The stops after an item, where characters are drawn so.
 pub fn set_stops(stops: &mut Stops, item: &EscItem, text: Text)
     requires { IsFitText text }
-    ensures { (before : List EscItem) → text ≡ text_of before → stops.old.items ≡ tab_stops before →
+    ensures { (before : List EscItem) → text ≡ text_in_force before → stops.old.items ≡ tab_stops before →
         stops.new.items ≡ tab_stops (item.now ∷ before) }
 {
     match item {

@@ -1,7 +1,7 @@
 //! How characters are drawn.
 ghost use Rattle.std.specs.Prelude.{◌≡◌, ◌+◌, ◌*◌, ◌≤◌, ◌<◌, if◌then◌else◌, List, ◌∷◌};
 ghost use Rattle.vp_esc.specs.declared.item.EscItem.{EscItem};
-ghost use Rattle.vp_receipt_settings.specs.Texts.{rows_of, is_magnification, text_of, style_of};
+ghost use Rattle.vp_receipt_settings.specs.Texts.{rule_rows, is_magnification, text_in_force, style_of};
 ghost use Rattle.vp_receipt_settings.specs.Settings.{IsFitText};
 ghost use Rattle.vp_glyph.specs.Cells.{cell_width, cell_height};
 ghost use Rattle.vp_receipt_settings.specs.declared.text.TheConstants.{LINE_ROWS, WIDEST};
@@ -31,7 +31,7 @@ pub struct Text {
 
 /// How many rows an underline has.
 fn rows_named(underline: Underline) -> u8
-    ensures { result ≡ rows_of underline }
+    ensures { result ≡ rule_rows underline }
 {
     match underline {
         Underline::Off => 0,
@@ -149,8 +149,8 @@ impl Text {
     /// What is in force after an item.
     pub fn after(self, item: &EscItem) -> Text
         requires { IsFitText self }
-        ensures text { (before : List EscItem) → self ≡ text_of before →
-            result ≡ text_of (item.now ∷ before) }
+        ensures text { (before : List EscItem) → self ≡ text_in_force before →
+            result ≡ text_in_force (item.now ∷ before) }
         ensures fit { IsFitText result }
     {
         match item {

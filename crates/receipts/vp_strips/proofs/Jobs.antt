@@ -13,7 +13,7 @@ use Rattle.vp_output.specs.declared.place.Place.{Place}
 use Rattle.vp_output.specs.Lines.{line_text}
 use Rattle.vp_output.proofs.Parts.{pending_long}
 use Rattle.vp_strips.specs.Jobs.{lines_of, text, strip_dot}
-use Rattle.vp_strips.specs.Held.{line_bytes, SomeLeft, IsTurned, after_text, part_of, text_of, IsLowDots, IsOwnDots, Shows, shown_in, IsShowing}
+use Rattle.vp_strips.specs.Held.{line_bytes, SomeLeft, IsTurned, after_text, part_of, job_text, IsLowDots, IsOwnDots, Shows, shown_in, IsShowing}
 use Rattle.vp_strips.proofs.Rows.{length-paper_row}
 
 -- a line has so many bytes
@@ -69,13 +69,13 @@ shows_further Page p q after now then high others n l e g h = let k : now ≤ ot
 pub shows_on : (j k : Job) (canvas : Canvas) (n high others : ℕ) → k.strip ≡ j.strip → k.after ≡ j.after → part_of k canvas ≡ drop n (part_of j canvas) → 0 < length (part_of j canvas) → SomeLeft k.strip k.place
     → IsShowing j canvas high others → IsShowing k canvas high others
 shows_on j k canvas n high others strip after rest some left h =
-    let h1 = subst (λ (s : Strip). Shows (shown_in s.dots j.place (length (after_text j.after canvas))) (length (text_of j canvas)) high others) (sym strip) h in
-    let h2 = subst (λ (a : After). Shows (shown_in k.strip.dots j.place (length (after_text a canvas))) (length (text_of j canvas)) high others) (sym after) h1 in
+    let h1 = subst (λ (s : Strip). Shows (shown_in s.dots j.place (length (after_text j.after canvas))) (length (job_text j canvas)) high others) (sym strip) h in
+    let h2 = subst (λ (a : After). Shows (shown_in k.strip.dots j.place (length (after_text a canvas))) (length (job_text j canvas)) high others) (sym after) h1 in
     let was = length-append (part_of j canvas) (after_text j.after canvas) in
     let is = length-append (part_of k canvas) (after_text k.after canvas) in
     let same : length (after_text k.after canvas) ≡ length (after_text j.after canvas) = ap (λ (a : After). length (after_text a canvas)) after in
     let fewer : length (part_of k canvas) ≡ length (part_of j canvas) - n = ap length rest ∙ length-drop n (part_of j canvas) in
-    shows_further k.strip.dots j.place k.place (length (after_text k.after canvas)) (length (text_of j canvas)) (length (text_of k canvas)) high others
+    shows_further k.strip.dots j.place k.place (length (after_text k.after canvas)) (length (job_text j canvas)) (length (job_text k canvas)) high others
     (λ e. absurd (let z : length (part_of j canvas) ≡ 0 = ap (λ p. length (text j.strip canvas p)) e in omega arith))
     (omega arith)
     (λ e. let z : length (part_of k canvas) ≡ 0 = ap (λ p. length (text k.strip canvas p)) e in omega arith)

@@ -48,8 +48,8 @@ after_text (One s) canvas = whole s canvas
 after_text (Two s t) canvas = whole s canvas ++ whole t canvas
 
 -- what is still to be put out
-abbrev pub text_of : Job → Canvas → List ℕ
-text_of j canvas = part_of j canvas ++ after_text j.after canvas
+abbrev pub job_text : Job → Canvas → List ℕ
+job_text j canvas = part_of j canvas ++ after_text j.after canvas
 
 -- a strip's rows are in the bitmap
 abbrev pub IsLowDots : Dots → Type 0
@@ -155,7 +155,7 @@ Shows None pending high others = pending ≤ others
 Shows (Some shown) pending high others = (shown.height ≡ high) × (shown.others ≡ others) × (others < pending)
 
 abbrev pub IsShowing : Job → Canvas → ℕ → ℕ → Type 0
-IsShowing j canvas high others = Shows (showing_of j canvas) (length (text_of j canvas)) high others
+IsShowing j canvas high others = Shows (showing_of j canvas) (length (job_text j canvas)) high others
 
 -- a style whose rows are those of another one, in which each is printed `hm` times
 pub record IsSource (source style : Style) : Type 0 where

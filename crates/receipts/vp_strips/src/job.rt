@@ -6,7 +6,7 @@ ghost use Rattle.vp_strips.specs.declared.strip.Strip.{Strip};
 ghost use Rattle.vp_strips.specs.Rows.{rows_text};
 ghost use Rattle.vp_strips.specs.Jobs.{strip_dot, IsPlace};
 ghost use Rattle.vp_receipt_settings.specs.Setup.{row_bytes};
-ghost use Rattle.vp_strips.specs.Held.{IsAtRow, text_of, part_of, SomeLeft, whole, whole_if, after_text, IsJob, IsTurned, IsLow, IsLowIf, IsOwn, AreOwn, IsShowing, showing_of, IsHigh};
+ghost use Rattle.vp_strips.specs.Held.{IsAtRow, job_text, part_of, SomeLeft, whole, whole_if, after_text, IsJob, IsTurned, IsLow, IsLowIf, IsOwn, AreOwn, IsShowing, showing_of, IsHigh};
 ghost use Rattle.std.specs.Option.{option_map};
 
 use crate::canvas::Canvas;
@@ -38,7 +38,7 @@ impl Job {
     pub fn none() -> Job
         ensures job { (canvas : Canvas) (lines : Lines) → IsJob result canvas lines }
         ensures turned { IsTurned result.place result.after }
-        ensures text { (canvas : Canvas) → text_of result canvas ≡ [] }
+        ensures text { (canvas : Canvas) → job_text result canvas ≡ [] }
         ensures shows { (canvas : Canvas) (high others : ℕ) → IsShowing result canvas high others }
     {
         Job {
@@ -55,7 +55,7 @@ impl Job {
         ensures job { (canvas : Canvas) (lines : Lines) → IsJob result canvas lines }
         ensures turned { IsTurned result.place result.after }
         ensures text { (canvas : Canvas) →
-            text_of result canvas ≡ whole_if first canvas ++ after_text after canvas }
+            job_text result canvas ≡ whole_if first canvas ++ after_text after canvas }
         ensures shows { (canvas : Canvas) (high : ℕ) → IsHigh first high →
             IsShowing result canvas high (length (after_text after canvas)) }
     {
@@ -81,9 +81,9 @@ impl Job {
         ensures job { (canvas : Canvas) (lines : Lines) → IsJob result canvas lines }
         ensures turned { IsTurned result.place result.after }
         ensures text { (canvas : Canvas) →
-            text_of result canvas ≡ (if strip.rows == 0 then [] else whole strip canvas) }
+            job_text result canvas ≡ (if strip.rows == 0 then [] else whole strip canvas) }
         ensures shows { (canvas : Canvas) (high : ℕ) →
-            IsShowing result canvas high (length (text_of result canvas)) }
+            IsShowing result canvas high (length (job_text result canvas)) }
     {
         if strip.rows == 0 {
             return Job::none();
@@ -98,9 +98,9 @@ impl Job {
         ensures job { (canvas : Canvas) (lines : Lines) → IsJob result canvas lines }
         ensures turned { IsTurned result.place result.after }
         ensures text { (canvas : Canvas) →
-            text_of result canvas ≡ rows_text strip.paper (strip_dot strip canvas) 0 strip.rows }
+            job_text result canvas ≡ rows_text strip.paper (strip_dot strip canvas) 0 strip.rows }
         ensures shows { (canvas : Canvas) (high : ℕ) →
-            IsShowing result canvas high (length (text_of result canvas)) }
+            IsShowing result canvas high (length (job_text result canvas)) }
     {
         Job {
             strip,
@@ -180,7 +180,7 @@ impl Job {
 
     /// Begins the next strip where one ended.
     fn turn(&mut self)
-        ensures text { (canvas : Canvas) → text_of self.new canvas ≡ text_of self.old canvas }
+        ensures text { (canvas : Canvas) → job_text self.new canvas ≡ job_text self.old canvas }
         ensures job { (canvas : Canvas) (lines : Lines) → IsJob self.old canvas lines →
             IsJob self.new canvas lines }
         ensures turned { IsTurned self.new.place self.new.after }
@@ -205,15 +205,15 @@ impl Job {
     fn put_some(&mut self, canvas: &Canvas, lines: &mut Lines, out: &mut [u8]) -> usize
         requires job { IsJob self.old canvas.now lines.old }
         requires turned { IsTurned self.old.place self.old.after }
-        requires pending { 0 < length (text_of self.old canvas.now) }
+        requires pending { 0 < length (job_text self.old canvas.now) }
         requires room { 0 < length out.old }
         ensures job { IsJob self.new canvas.now lines.new }
         ensures turned { IsTurned self.new.place self.new.after }
         ensures some { 0 < result }
         ensures fits { result ≤ length out.old }
-        ensures within { result ≤ length (text_of self.old canvas.now) }
-        ensures bytes { out.new ≡ take result (text_of self.old canvas.now) ++ drop result out.old }
-        ensures rest { text_of self.new canvas.now ≡ drop result (text_of self.old canvas.now) }
+        ensures within { result ≤ length (job_text self.old canvas.now) }
+        ensures bytes { out.new ≡ take result (job_text self.old canvas.now) ++ drop result out.old }
+        ensures rest { job_text self.new canvas.now ≡ drop result (job_text self.old canvas.now) }
         ensures shows { (high others : ℕ) → IsShowing self.old canvas.now high others →
             IsShowing self.new canvas.now high others }
     {
@@ -238,7 +238,7 @@ impl Job {
     pub fn is_pending(&self) -> bool
         ensures { (canvas : Canvas) → SomeLeft self.now.strip self.now.place →
             IsTurned self.now.place self.now.after →
-            IsTrue result ↔ (0 < length (text_of self.now canvas)) }
+            IsTrue result ↔ (0 < length (job_text self.now canvas)) }
     {
         self.place.is_some()
     }
@@ -249,9 +249,9 @@ impl Job {
         requires turned { IsTurned self.old.place self.old.after }
         ensures job { IsJob self.new canvas.now lines.new }
         ensures turned { IsTurned self.new.place self.new.after }
-        ensures count { result ≡ min (length (text_of self.old canvas.now)) (length out.old) }
-        ensures bytes { out.new ≡ take result (text_of self.old canvas.now) ++ drop result out.old }
-        ensures rest { text_of self.new canvas.now ≡ drop result (text_of self.old canvas.now) }
+        ensures count { result ≡ min (length (job_text self.old canvas.now)) (length out.old) }
+        ensures bytes { out.new ≡ take result (job_text self.old canvas.now) ++ drop result out.old }
+        ensures rest { job_text self.new canvas.now ≡ drop result (job_text self.old canvas.now) }
         ensures shows { (high others : ℕ) → IsShowing self.old canvas.now high others →
             IsShowing self.new canvas.now high others }
     {

@@ -1,12 +1,12 @@
 use Rattle.std.proofs.Common.{◌≡◌, ℕ, List, [], ◌∷◌, ◌++◌, sym, ap, ◌∙◌, Ok}
-use Rattle.vp_bars.specs.Ean13.{check_of, with_check}
+use Rattle.vp_bars.specs.Ean13.{ean13_check, with_check}
 use Rattle.vp_bars.specs.Symbols.{Linear}
 use Rattle.vp_bars.specs.declared.symbology.Symbology.TheVariants.{Ean13}
 use Rattle.vp_bars.proofs.Digits.{ean13_twelve}
 use Rattle.vp_bars.proofs.ean_13.ean13.Goals as goal
 
-checked : (ds items slice all : List ℕ) (check : ℕ) → items ≡ ds → slice ≡ items → check ≡ check_of slice → all ≡ items ++ check ∷ [] → all ≡ with_check ds
-checked ds items slice all check p q r e = e ∙ ap (λ c. items ++ c ∷ []) (r ∙ ap check_of q) ∙ ap with_check p
+checked : (ds items slice all : List ℕ) (check : ℕ) → items ≡ ds → slice ≡ items → check ≡ ean13_check slice → all ≡ items ++ check ∷ [] → all ≡ with_check ds
+checked ds items slice all check p q r e = e ∙ ap (λ c. items ++ c ∷ []) (r ∙ ap ean13_check q) ∙ ap with_check p
 
 pub returns : goal.returns
 returns c =

@@ -2,7 +2,7 @@ use Rattle.std.proofs.Common.{ap, ◌∙◌, length}
 use Rattle.vp_glyph.specs.declared.Sheets.{Sheets}
 use Rattle.vp_receipt_settings.specs.Line.{height, line}
 use Rattle.vp_strips.specs.declared.canvas.Canvas.{Canvas}
-use Rattle.vp_strips.specs.Held.{text_of, IsShowing}
+use Rattle.vp_strips.specs.Held.{job_text, IsShowing}
 use Rattle.vp_strips.specs.SymbolInks.{symbol_width, symbol_height, symbol_dot}
 use Rattle.vp_receipt.proofs.SymbolTexts.{text_shown, own_shown}
 use Rattle.vp_receipt.proofs.act.symbol_on_paper.Goals as goal
@@ -10,7 +10,7 @@ use Rattle.vp_receipt.proofs.act.symbol_on_paper.Goals as goal
 pub returns-clause-text : goal.returns-clause-text
 returns-clause-text c = λ setup before item h is.
     let canvas : Canvas = record c.args.canvas.now { symbol = c.args.symbol } in
-    text_shown setup before item c.args.symbol (text_of c.symbol_job.result canvas) is
+    text_shown setup before item c.args.symbol (job_text c.symbol_job.result canvas) is
     (λ image i. c.symbol_job.ensures.text setup before canvas image (record { settings = h.settings; sheets = h.sheets; line = h.line; page = h.page })
     (record {
       width = c.size-wide.ensures.width ∙ ap (λ (k : Sheets). symbol_width k c.args.symbol) h.sheets ∙ i.width;

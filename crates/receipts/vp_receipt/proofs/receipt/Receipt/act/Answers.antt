@@ -10,7 +10,7 @@ use Rattle.vp_receipt_settings.specs.Effects.{effect_of, is_page, waits_of}
 use Rattle.vp_receipt_settings.specs.Line.{line, mode, height}
 use Rattle.vp_receipt_settings.specs.Settings.{settings_of}
 use Rattle.vp_strips.specs.declared.job.Job.{Job}
-use Rattle.vp_strips.specs.Held.{text_of, showing_of, IsShowing}
+use Rattle.vp_strips.specs.Held.{job_text, showing_of, IsShowing}
 use Rattle.vp_receipt.specs.Strips.{own_part}
 use Rattle.vp_receipt.specs.Effects.{line_by, part_by, layers_by, mode_by}
 use Rattle.vp_receipt.specs.Printer.{printing_of}
@@ -23,7 +23,7 @@ use Rattle.vp_receipt.proofs.receipt.Receipt.act.Goals as goal
 pub invariant_of-self : goal.invariant_of-self
 invariant_of-self c =
     let r = c.self.inside in
-    let none : text_of r.job r.canvas ≡ [] = ap (λ (p : Printing). p.pending) c.self.view_is ∙ c.requires.pending in
+    let none : job_text r.job r.canvas ≡ [] = ap (λ (p : Printing). p.pending) c.self.view_is ∙ c.requires.pending in
     record {
       fit = c.after-self-inside.ensures.fit;
       raster = c.begin.ensures.part;
@@ -35,11 +35,11 @@ pub returns-clause-pending : goal.returns-clause-pending
 returns-clause-pending c = λ setup before h.
     let was : Stands setup (printing_of c.self.inside) before = subst (λ (p : Printing). Stands setup p before) (sym c.self.view_is) h in
     let r = c.self.inside in
-    let none : text_of r.job r.canvas ≡ [] = ap (λ (p : Printing). p.pending) c.self.view_is ∙ c.requires.pending in
+    let none : job_text r.job r.canvas ≡ [] = ap (λ (p : Printing). p.pending) c.self.view_is ∙ c.requires.pending in
     let settled : IsSettled setup before r.settings (record r.canvas { bitmap = c.settle.new.bitmap }) = record { settings = was.settings; sheets = was.sheets; line = c.settle.ensures (line setup before) was.line; page = was.page } in
     let is : c.args.effect ≡ effect_of (settings_of setup before) c.args.item.now = c.requires.effect ∙ ap (λ (p : Printing). effect_of p.settings c.args.item.now) (sym c.self.view_is) ∙ ap (λ (s : Settings). effect_of s c.args.item.now) was.settings in
     let d : Does setup before c.args.item.now c.args.effect = subst (λ (e : Effect). Does setup before c.args.item.now e) (sym is) (does setup before c.args.item.now c.requires.acts) in
-    ap (λ (j : Job). text_of j c.act-job.new.canvas) c.replace.ensures
+    ap (λ (j : Job). job_text j c.act-job.new.canvas) c.replace.ensures
     ∙ text_replaced c.act-job.result r.job r.canvas c.act-job.new.canvas r.lines c.self.invariant.job c.self.invariant.turned none
     ∙ c.act-job.ensures.text setup before settled ∙ prints_done setup before c.args.item.now c.args.effect d
 
@@ -50,7 +50,7 @@ returns-clause-stands c = λ setup before h.
     let item = c.args.item.now in
     let effect = c.args.effect in
     let canvas = c.act-job.new.canvas in
-    let none : text_of r.job r.canvas ≡ [] = ap (λ (p : Printing). p.pending) c.self.view_is ∙ c.requires.pending in
+    let none : job_text r.job r.canvas ≡ [] = ap (λ (p : Printing). p.pending) c.self.view_is ∙ c.requires.pending in
     let settled : IsSettled setup before r.settings (record r.canvas { bitmap = c.settle.new.bitmap }) = record { settings = was.settings; sheets = was.sheets; line = c.settle.ensures (line setup before) was.line; page = was.page } in
     let is : effect ≡ effect_of (settings_of setup before) item = c.requires.effect ∙ ap (λ (p : Printing). effect_of p.settings c.args.item.now) (sym c.self.view_is) ∙ ap (λ (s : Settings). effect_of s c.args.item.now) was.settings in
     let d : Does setup before item effect = subst (λ (e : Effect). Does setup before item e) (sym is) (does setup before item c.requires.acts) in
@@ -80,6 +80,6 @@ returns-clause-stands c = λ setup before h.
           (subst (λ (k : Sheets). Gathers k (settings_of setup (item ∷ before)) canvas.bitmap (waits_of effect) (line setup (item ∷ before))) (sym c.act-job.ensures.sheets) after));
       page = page_after setup before item canvas.page (mode setup before) refl (does setup before item c.requires.acts)
           (subst (λ (e : Effect). HasPageIf (mode_by setup before e) (layers_by setup before e) canvas.page) is (c.act-job.ensures.page setup before settled));
-      shows = subst (λ (j : Job). ShowsLine setup (showing_of j canvas) (text_of j canvas) (item ∷ before)) (sym c.replace.ensures) shown;
+      shows = subst (λ (j : Job). ShowsLine setup (showing_of j canvas) (job_text j canvas) (item ∷ before)) (sym c.replace.ensures) shown;
       of_page = λ some. c.prints_page-self-inside.ensures ∙ ap (λ (s : Settings). is_paged s.page.mode && is_page effect) was.settings ∙ ap (λ (b : Bool). is_paged (mode setup before) && b) d.is_page;
     }

@@ -5,7 +5,7 @@ use Rattle.vp_receipt_settings.specs.declared.page_mode.PrinterMode.{PrinterMode
 use Rattle.vp_receipt_settings.specs.Symbols.{IsStored}
 use Rattle.vp_receipt_settings.specs.Line.{line, mode}
 use Rattle.vp_receipt_settings.specs.Runs.{text_after}
-use Rattle.vp_strips.specs.Held.{text_of}
+use Rattle.vp_strips.specs.Held.{job_text}
 use Rattle.vp_receipt.specs.PageMarks.{layers}
 use Rattle.vp_receipt.specs.Printer.{printing_of}
 use Rattle.vp_receipt.specs.Standing.{Printing, Stands, HasPageIf}
@@ -16,13 +16,13 @@ use Rattle.vp_receipt.proofs.receipt.Receipt.apply_text.Goals as goal
 pub invariant_of-self : goal.invariant_of-self
 invariant_of-self c =
     let r = c.self.inside in
-    let none : text_of r.job r.canvas ≡ [] = ap (λ (p : Printing). p.pending) c.self.view_is ∙ c.requires.pending in
+    let none : job_text r.job r.canvas ≡ [] = ap (λ (p : Printing). p.pending) c.self.view_is ∙ c.requires.pending in
     record { fit = c.put_text.ensures.fit; raster = c.end.ensures.part; job = job_done r.job r.canvas _ r.lines c.self.invariant.job none; turned = c.self.invariant.turned }
 
 pub returns-clause-pending : goal.returns-clause-pending
 returns-clause-pending c =
     let r = c.self.inside in
-    let none : text_of r.job r.canvas ≡ [] = ap (λ (p : Printing). p.pending) c.self.view_is ∙ c.requires.pending in
+    let none : job_text r.job r.canvas ≡ [] = ap (λ (p : Printing). p.pending) c.self.view_is ∙ c.requires.pending in
     text_done r.job _ (is_done r.job r.canvas r.lines c.self.invariant.job none) c.self.invariant.turned
 
 pub returns-clause-stands : goal.returns-clause-stands
@@ -32,9 +32,9 @@ returns-clause-stands c = λ setup before h.
     let some : 0 < length text = grind (arith, nat_tests, c.is_empty.ensures, c.if-is_empty.false) in
     let r = c.self.inside in
     let alone = c.put_text.ensures.others setup before was.settings in
-    let empty : text_of r.job r.canvas ≡ [] = ap (λ (p : Printing). p.pending) c.self.view_is ∙ c.requires.pending in
+    let empty : job_text r.job r.canvas ≡ [] = ap (λ (p : Printing). p.pending) c.self.view_is ∙ c.requires.pending in
     let place = is_done r.job r.canvas r.lines c.self.invariant.job empty in
-    let none : text_of r.job (record r.canvas { bitmap = c.put_text.new.bitmap }) ≡ [] = text_done r.job _ place c.self.invariant.turned in
+    let none : job_text r.job (record r.canvas { bitmap = c.put_text.new.bitmap }) ≡ [] = text_done r.job _ place c.self.invariant.turned in
     record {
       sheets = was.sheets;
       settings = c.put_text.ensures.settings setup before was.settings;

@@ -1,5 +1,5 @@
 use Rattle.std.proofs.Common.{length, sym, subst, ap, arith, length-drop}
-use Rattle.vp_strips.specs.Held.{text_of}
+use Rattle.vp_strips.specs.Held.{job_text}
 use Rattle.vp_receipt.specs.Printer.{printing_of}
 use Rattle.vp_receipt.specs.Standing.{Printing, Stands}
 use Rattle.vp_receipt.proofs.Showing.{shows_put}
@@ -17,5 +17,5 @@ returns-clause-stands c = λ setup before h.
       line = was.line;
       page = was.page;
       shows = shows_put setup c.self.inside.job c.put.new.self c.self.inside.canvas before c.put.ensures.shows was.shows;
-      of_page = λ some. was.of_page (omega (arith, some, ap length c.put.ensures.rest, length-drop c.put.result (text_of c.self.inside.job c.self.inside.canvas)));
+      of_page = λ some. was.of_page (omega (arith, some, ap length c.put.ensures.rest, length-drop c.put.result (job_text c.self.inside.job c.self.inside.canvas)));
     }

@@ -3,7 +3,7 @@ use Rattle.vp_esc.specs.declared.item.EscItem.TheVariants.{QrByte}
 use Rattle.vp_page.specs.Layers.{Layer}
 use Rattle.vp_receipt_settings.specs.declared.page_mode.PrinterMode.{PrinterMode}
 use Rattle.vp_receipt_settings.specs.Line.{mode, Placed}
-use Rattle.vp_strips.specs.Held.{text_of}
+use Rattle.vp_strips.specs.Held.{job_text}
 use Rattle.vp_receipt.specs.PageMarks.{layers}
 use Rattle.vp_receipt.specs.Printer.{printing_of}
 use Rattle.vp_receipt.specs.Standing.{Printing, Gathers, HasPageIf, Stands}
@@ -22,7 +22,7 @@ returns-clause-stands c = λ setup before h.
     let was : Stands setup (printing_of c.self.inside) before = subst (λ (p : Printing). Stands setup p before) (sym c.self.view_is) h in
     let same = stores setup before c.args.byte in
     let r = c.self.inside in
-    let none : text_of r.job r.canvas ≡ [] = ap (λ (p : Printing). p.pending) c.self.view_is ∙ c.requires in
+    let none : job_text r.job r.canvas ≡ [] = ap (λ (p : Printing). p.pending) c.self.view_is ∙ c.requires in
     record {
       sheets = was.sheets;
       settings = was.settings ∙ sym same.settings;
