@@ -10,7 +10,7 @@ use Rattle.vp_field.specs.Contents.{IsStored, IsText}
 use Rattle.vp_label_settings.specs.declared.size.CharacterSize.{CharacterSize}
 use Rattle.vp_label_settings.specs.declared.choice.FieldBlock.{FieldBlock}
 use Rattle.vp_label_settings.specs.Laws.{IsBlockIf, IsSize, IsSpace}
-use Rattle.vp_closing.specs.Texts.{gap_of, text_content, text_of}
+use Rattle.vp_closing.specs.Texts.{gap_of, text_content, text_drawn}
 
 gap_low : (space : LineSpace) → IsSpace space → neg_ℤ (pos 9999) ≤ℤ gap_of space
 gap_low (Added dots) fits = omega (arith, ints, fits)
@@ -20,7 +20,7 @@ gap_high : (space : LineSpace) → IsSpace space → gap_of space ≤ℤ pos 999
 gap_high (Added dots) fits = omega (arith, ints, fits)
 gap_high (Deleted dots) fits = omega (arith, ints, fits)
 
-text_fits : (stored : List ℕ) (size : CharacterSize) (bytes : Span) → IsSize size → bytes.start + bytes.len ≤ length stored → length stored ≤ STORED → IsText stored (text_of size bytes)
+text_fits : (stored : List ℕ) (size : CharacterSize) (bytes : Span) → IsSize size → bytes.start + bytes.len ≤ length stored → length stored ≤ STORED → IsText stored (text_drawn size bytes)
 text_fits stored size bytes fits among few = record {
   bytes = record { inside = among; few = omega (arith, among, few) };
   some = omega (arith, fits.width.least);
@@ -29,7 +29,7 @@ text_fits stored size bytes fits among few = record {
 }
 
 pub text_stored : (stored : List ℕ) (size : CharacterSize) (bytes : Span) (block : Option FieldBlock) → IsSize size → IsBlockIf block → bytes.start + bytes.len ≤ length stored → length stored ≤ STORED →
-    IsStored stored (text_content (text_of size bytes) block)
+    IsStored stored (text_content (text_drawn size bytes) block)
 text_stored stored size bytes None fits block_fits among few = text_fits stored size bytes fits among few
 text_stored stored size bytes (Some b) fits block_fits among few = record {
   text = text_fits stored size bytes fits among few;

@@ -15,7 +15,7 @@ use Rattle.vp_label_settings.specs.declared.graphic.PictureHead.{PictureHead}
 use Rattle.vp_label_settings.specs.declared.parts.OpenContent.{OpenContent}
 use Rattle.vp_label_settings.specs.declared.parts.OpenContent.TheVariants.{Data, Frame, Picture}
 use Rattle.vp_label_settings.specs.declared.parts.FieldParts.{FieldParts}
-use Rattle.vp_closing.specs.Texts.{text_size, text_of, text_content}
+use Rattle.vp_closing.specs.Texts.{text_size, text_drawn, text_content}
 use Rattle.vp_closing.specs.Graphics.{headed, has_refused, picture_unless}
 use Rattle.vp_closing.specs.Symbols.{bars, bars_of, qr_of}
 
@@ -26,7 +26,7 @@ bytes_from stored start = record { start = start; len = length stored - start }
 -- ^FD: data are drawn as the symbol that was asked for, or as a text
 abbrev pub data_content : List ℕ → Settings → FieldParts → Option SymbolChoice → Span →
     Result Content Fault
-data_content stored s p None bytes = Ok (text_content (text_of (text_size s p.font) bytes) p.block)
+data_content stored s p None bytes = Ok (text_content (text_drawn (text_size s p.font) bytes) p.block)
 data_content stored s p (Some (Bars b)) bytes = bars_of stored (bars s.bar_defaults b bytes)
 data_content stored s p (Some NotDrawn) bytes = Err (faults.Symbol Unsupported)
 data_content stored s p (Some (Qr model dots)) bytes =

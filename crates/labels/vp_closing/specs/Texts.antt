@@ -24,8 +24,8 @@ text_size s None = s.default_font
 text_size s (Some font) = size_given font.height font.width s.default_font
 
 -- a text in one line
-abbrev pub text_of : CharacterSize → Span → Text
-text_of size bytes = record { bytes = bytes; width = size.width; height = size.height }
+abbrev pub text_drawn : CharacterSize → Span → Text
+text_drawn size bytes = record { bytes = bytes; width = size.width; height = size.height }
 
 -- ^FB: the dots between its lines; deleted ones bring them nearer
 abbrev pub gap_of : LineSpace → ℤ

@@ -1,7 +1,7 @@
 //! Texts, and blocks of them.
 ghost use Rattle.std.specs.Prelude.{◌≡◌};
 ghost use Rattle.vp_label_settings.specs.Laws.{IsSize, IsSpace, IsBlock, IsBlockIf};
-ghost use Rattle.vp_closing.specs.Texts.{text_orientation, text_size, text_of, gap_of, block_of, text_content};
+ghost use Rattle.vp_closing.specs.Texts.{text_orientation, text_size, text_drawn, gap_of, block_of, text_content};
 
 use vp_format::{Content, Span, Text, TextBlock};
 use vp_label_settings::{CharacterSize, FieldBlock, FontChoice, Settings};
@@ -31,7 +31,7 @@ pub fn text_size(settings: &Settings, font: Option<FontChoice>) -> CharacterSize
 
 /// A text in one line.
 pub fn text_of(size: CharacterSize, bytes: Span) -> Text
-    ensures { result ≡ text_of size bytes }
+    ensures { result ≡ text_drawn size bytes }
 {
     Text {
         bytes,

@@ -33,8 +33,8 @@ closed s = record s { position = 0; is_open = false; height = 0; right_edge = 0 
 abbrev pub without_line_if : Bool → Settings → Settings
 without_line_if ends s = if ends then without_line s else s
 
-abbrev pub closed_if : Bool → Settings → Settings
-closed_if ends s = if ends then closed s else s
+abbrev pub line_closed_if : Bool → Settings → Settings
+line_closed_if ends s = if ends then closed s else s
 
 -- a piece `wide` dots wide and `high` rows high in the line
 abbrev pub with_piece : Settings → ℕ → ℕ → Settings
@@ -58,16 +58,16 @@ line_after s (Puts (Character code)) stops = with_cell s
 line_after s (Puts column) stops = with_piece s s.column_width 24
 line_after s (Breaks rows code) stops = with_cell (closed s)
 line_after s (Feeds rows) stops = closed s
-line_after s (Cuts dots cut) stops = closed_if (not (is_paged s.page.mode)) s
+line_after s (Cuts dots cut) stops = line_closed_if (not (is_paged s.page.mode)) s
 line_after s (BeginsRaster rows) stops = closed s
 line_after s Draws stops = closed s
 line_after s BeginsPage stops = record s { position = 0 }
 line_after s LeavesPage stops = closed s
 line_after s (Lays (At vertical)) stops = without_line_if (is_paged s.page.mode) s
-line_after s (Lays next) stops = closed_if (is_paged s.page.mode) s
-line_after s Wipes stops = closed_if (is_paged s.page.mode) s
+line_after s (Lays next) stops = line_closed_if (is_paged s.page.mode) s
+line_after s Wipes stops = line_closed_if (is_paged s.page.mode) s
 line_after s PrintsPage stops = without_line_if (is_paged s.page.mode) s
-line_after s EndsPage stops = closed_if (is_paged s.page.mode) s
+line_after s EndsPage stops = line_closed_if (is_paged s.page.mode) s
 line_after s _ stops = s
 
 -- the settings with what an item sets that has to do neither with the line nor with the page

@@ -210,8 +210,8 @@ abbrev pub ended : ℕ → Layout → Layout
 ended spacing l = fed (rows_if_open l.line spacing) l
 
 -- the line given up or laid where it is, if so: the next one is at its start, or at the same position
-abbrev pub closed_if : Bool → Layout → Layout
-closed_if ends l = record l { line = if ends then [] else l.line; position = if ends then 0 else l.position }
+abbrev pub frame_closed_if : Bool → Layout → Layout
+frame_closed_if ends l = record l { line = if ends then [] else l.line; position = if ends then 0 else l.position }
 
 abbrev pub emptied_if : Bool → Layout → Layout
 emptied_if ends l = record l { line = if ends then [] else l.line }
@@ -256,7 +256,7 @@ layout_by setup before QrPrint l =
     further (image_rows (symbol_image setup before QrPrint)) (ended (line_spacing before) l)
 layout_by setup before (Raster scale bytes rows) l =
     let drawn = draws scale.value bytes rows in
-    further (rows_if drawn (rows_if_open l.line (line_spacing before))) (closed_if drawn l)
+    further (rows_if drawn (rows_if_open l.line (line_spacing before))) (frame_closed_if drawn l)
 layout_by setup before (RasterByte byte) l = record l {
   vertical =
       (if is_row_end before then vertical_after l.vertical (times_down (raster_scale before))
@@ -268,18 +268,18 @@ layout_by setup before PageMode l =
     let begins = begins_page l.frame.mode l.line in
     unless_open (record l.frame { mode = Page })
     (record l { position = if begins then 0 else l.position; vertical = if begins then 0 else l.vertical })
-layout_by setup before StandardMode l = in_mode Standard (closed_if (on_page l) l)
+layout_by setup before StandardMode l = in_mode Standard (frame_closed_if (on_page l) l)
 -- what lays the line of a page where it is
 layout_by setup before (VerticalPosition n) l = down_at n (emptied_if (on_page l) l)
 layout_by setup before (MoveVerticalPosition n) l =
     down_at (vertical_moved n l.vertical) (emptied_if (is_vertical_move n l.vertical && on_page l) l)
 layout_by setup before (SetArea x y wide high) l =
-    let begins = is_area setup.width x y wide high in at_top_if begins (closed_if (begins && on_page l) l)
+    let begins = is_area setup.width x y wide high in at_top_if begins (frame_closed_if (begins && on_page l) l)
 layout_by setup before (SetDirection s) l =
-    at_top_if (is_some s.value) (closed_if (is_some s.value && on_page l) l)
+    at_top_if (is_some s.value) (frame_closed_if (is_some s.value && on_page l) l)
 layout_by setup before PrintPage l = emptied_if (on_page l) l
-layout_by setup before FormFeed l = in_mode Standard (closed_if (on_page l) l)
-layout_by setup before Cancel l = down_at 0 (closed_if (on_page l) l)
+layout_by setup before FormFeed l = in_mode Standard (frame_closed_if (on_page l) l)
+layout_by setup before Cancel l = down_at 0 (frame_closed_if (on_page l) l)
 -- GS L, GS W
 layout_by setup before (LeftMargin n) l =
     unless_open (record l.frame { left_margin = margin_or n setup.width l.frame.left_margin }) l

@@ -13,7 +13,7 @@ ghost use Rattle.vp_receipt_settings.specs.Symbols.{symbol_image, image_rows};
 ghost use Rattle.vp_receipt_settings.specs.Texts.{style_of};
 ghost use Rattle.vp_receipt_settings.specs.Runs.{text_room};
 ghost use Rattle.vp_receipt_settings.specs.Effects.{effect_of, feed_of};
-ghost use Rattle.vp_receipt_settings.specs.Followed.{IsWithin, closed, closed_if, without_line, without_line_if, with_piece, with_cell, with_set, line_after};
+ghost use Rattle.vp_receipt_settings.specs.Followed.{IsWithin, closed, line_closed_if, without_line, without_line_if, with_piece, with_cell, with_set, line_after};
 ghost use Rattle.vp_receipt_settings.specs.declared.text.TheConstants.{LINE_ROWS, WIDEST};
 ghost use Rattle.vp_glyph.specs.Blocks.{indent};
 ghost use Rattle.vp_glyph.specs.Cells.{cell_width};
@@ -236,7 +236,7 @@ impl Settings {
 
     /// The settings with no line, if it is ended.
     fn closed_if(self, ends: bool) -> Settings
-        ensures { result ≡ closed_if ends self }
+        ensures { result ≡ line_closed_if ends self }
     {
         if ends { self.closed() } else { self }
     }
