@@ -295,11 +295,11 @@ impl Page {
         requires { I.width ink.now ≤ LINE_DOTS }
         ensures { (layers : List Layer) → HasPage layers self.old →
             HasPage (Laid (record {
-                area = area;
-                direction = direction;
-                top = top;
-                high = I.height ink.now;
-                dot = I.ink_at ink.now;
+              area = area;
+              direction = direction;
+              top = top;
+              high = I.height ink.now;
+              dot = I.ink_at ink.now;
             }) ∷ layers) self.new }
     {
         match direction {
@@ -317,11 +317,11 @@ impl Page {
         requires { I.width ink.now ≤ LINE_DOTS }
         ensures { (layers : List Layer) → HasPage layers self.old →
             HasPage (Laid (record {
-                area = area;
-                direction = direction;
-                top = top;
-                high = I.height ink.now;
-                dot = I.ink_at ink.now;
+              area = area;
+              direction = direction;
+              top = top;
+              high = I.height ink.now;
+              dot = I.ink_at ink.now;
             }) ∷ layers) self.new }
     {
         let (width, height) = ink.size();
@@ -339,11 +339,11 @@ impl Page {
         requires { I.width ink.now ≤ LINE_DOTS }
         ensures { (layers : List Layer) → HasPage layers self.old →
             HasPage (Laid (record {
-                area = area;
-                direction = direction;
-                top = top;
-                high = I.height ink.now;
-                dot = I.ink_at ink.now;
+              area = area;
+              direction = direction;
+              top = top;
+              high = I.height ink.now;
+              dot = I.ink_at ink.now;
             }) ∷ layers) self.new }
     {
         let (width, height) = ink.size();

@@ -76,11 +76,11 @@ impl Symbol {
         requires { symbol_width sheets.now self.now ≤ LINE_DOTS }
         ensures { (layers : List Layer) → HasPage layers page.old →
             HasPage (Laid (record {
-                area = area;
-                direction = direction;
-                top = top;
-                high = symbol_height sheets.now self.now;
-                dot = symbol_dot sheets.now self.now;
+              area = area;
+              direction = direction;
+              top = top;
+              high = symbol_height sheets.now self.now;
+              dot = symbol_dot sheets.now self.now;
             }) ∷ layers) page.new }
     {
         let top = u32::from(top);
