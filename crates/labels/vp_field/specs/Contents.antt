@@ -164,7 +164,7 @@ pub record IsPicture (stored : List ℕ) (p : Picture) : Type 0 where
   pub short : p.row_bytes ≤ 1024
   pub read : (y : ℕ) → y < p.rows → is_refused (picture_of stored p) y ≡ false
 
--- a QR symbol has modules of 1 to 16 dots, and keeps the version and the mask of its data (^BQ)
+-- a QR symbol has modules of some dots (^BQ: 1 to 10), and keeps the version and the mask of its data
 pub record IsSymbol (stored : List ℕ) (q : QrSymbol) : Type 0 where
   pub bytes : LiesIn stored q.bytes
   pub some : 0 < q.module

@@ -1,5 +1,4 @@
 pub mod Bytes
-pub mod Ends
 pub mod Even
 pub mod Lanes
 pub mod Marks

@@ -189,8 +189,8 @@ above p (suc y) j = value p y j
 abbrev pub marked_row : RunMark → ℕ
 marked_row m = m.next
 
--- a mark of a cursor in a picture: the symbols at its place are those of its row, and the row that starts at
--- the place before, which is read up to its own place at most, is the row above
+-- what the call `mark` of a cursor in a picture gives: the symbols at its place are those of its row, and the row
+-- that starts at the place before, which is read up to its own place at most, is the row above
 pub record IsMark (p : Picture) (m : RunMark) : Type 0 where
   pub here : IsSpot p.codes m.here
   pub whole : IsWhole p.coding m.here

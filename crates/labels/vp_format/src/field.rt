@@ -61,7 +61,7 @@ pub struct BarSymbol {
     pub place: HriPosition,
 }
 
-/// A QR symbol (^BQ): its data, a module's side in dots, 1 to 16, and the
+/// A QR symbol (^BQ): its data, a module's side in dots, 1 to 10, and the
 /// version and mask that were chosen for it.
 #[derive(Clone, Copy, Debug, PartialEq, Eq)]
 pub struct QrSymbol {

@@ -92,7 +92,7 @@ pub struct RunMark {
 
 impl RunMark {
     /// The mark before the first row of `len` bytes of codes.
-    pub fn first(len: usize) -> RunMark
+    fn first(len: usize) -> RunMark
         ensures { result ≡ record {
           next = 0;
           here = record { left = 0; digit = 0; at = 0 };
@@ -314,15 +314,6 @@ impl<'a> RunRows<'a> {
         ensures row { marked_row result ≡ self.now.next }
     {
         self.mark
-    }
-
-    /// Whether no code is left for the rows to come: then none of them is refused.
-    pub fn is_at_end(&self) -> bool
-        ensures later { result ≡ true → (y : ℕ) → self.now.next ≤ y → is_refused self.now.picture y ≡ false }
-        ensures ended { start_of self.now.picture self.now.next ≡ length self.now.picture.codes →
-            result ≡ true }
-    {
-        self.mark.here.at == self.codes.len()
     }
 
     /// A cursor that goes on where one over the same codes and rows was marked.
