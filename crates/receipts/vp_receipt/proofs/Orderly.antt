@@ -9,7 +9,7 @@ use Rattle.vp_esc.specs.declared.item.EscItem.TheVariants.{Raster, RasterByte}
 use Rattle.vp_esc.specs.declared.item.RasterScale.{RasterScale}
 use Rattle.vp_esc.specs.Laws.{IsUnit, Splits}
 use Rattle.vp_esc.specs.Split.{split, items}
-use Rattle.vp_esc.specs.Units.{is_open, given, raster_bytes as given_bytes}
+use Rattle.vp_esc.specs.Units.{is_unfinished, given, raster_bytes as given_bytes}
 use Rattle.vp_receipt_settings.specs.Rasters.{draws, raster_bytes, rows_to_come, row_so_far}
 use Rattle.vp_receipt.proofs.Begun.{IsOrderly, by_bool}
 use Rattle.vp_receipt.proofs.Images.{is_raster}
@@ -140,7 +140,7 @@ units_next : (units : List (List ℕ)) (before : List EscItem) → AllByRecursio
 units_next [] before each b = b
 units_next (unit ∷ units) before each b =
     subst IsBetween (sym (onto_more (given unit) (flat_map given units) before))
-    (units_next units (onto (given unit) before) each.1 (unit_next (given unit) before (is_open unit) (kinds unit) each.0.whole b))
+    (units_next units (onto (given unit) before) each.1 (unit_next (given unit) before (is_unfinished unit) (kinds unit) each.0.whole b))
 
 module _ (bytes : List ℕ) (s : Splits bytes (split bytes).units (split bytes).rest) where
   units_between : IsBetween (onto (flat_map given (split bytes).units) [])
@@ -155,7 +155,7 @@ module _ (bytes : List ℕ) (s : Splits bytes (split bytes).units (split bytes).
   pub items_orderly : IsOrderly (reverse (items bytes))
   items_orderly =
       subst IsOrderly (sym history_is)
-      (rest_next (given (split bytes).rest) (onto (flat_map given (split bytes).units) []) (is_open (split bytes).rest) (kinds (split bytes).rest) units_between)
+      (rest_next (given (split bytes).rest) (onto (flat_map given (split bytes).units) []) (is_unfinished (split bytes).rest) (kinds (split bytes).rest) units_between)
 
   -- and where they end with a whole command, all rows have come
   pub items_whole : (split bytes).rest ≡ [] → rows_to_come (reverse (items bytes)) ≡ 0
