@@ -4,21 +4,18 @@ use Rattle.vp_receipt.specs.Memory.{receipt_memory}
 use Rattle.vp_label.specs.Memory.{label_memory}
 use Rattle.vp_engine.specs.declared.machine.Machine.{Machine}
 use Rattle.vp_engine.specs.declared.machine.Machine.TheVariants.{Receipt, ReceiptLines, Label, LabelLines}
-use Rattle.vp_engine.specs.declared.machine.Machine.TheVariants.{ReceiptOffsets, LabelOffsets}
 use Rattle.vp_engine.specs.Machines.{MachineStands}
 use Rattle.vp_engine.specs.Memory.{machine_memory, memory_held, memory_of}
 use Rattle.vp_engine.specs.Setups.{EscPos, Zpl}
-use Rattle.vp_engine.specs.Setups.{Setup, Receipts, Labels, ListingIn, ListingWithOffsetsIn, Item}
+use Rattle.vp_engine.specs.Setups.{Setup, Receipts, Labels, ListingIn, Item}
 use Rattle.vp_engine.specs.Stands.{Engine, Stands}
 
 machine_made : (machine : Machine) (setup : Setup) (t : List ℕ) (before : List (Item setup)) → MachineStands machine setup t before →
     machine_memory machine ≡ memory_of setup
 machine_made (Receipt reader receipt) (Receipts setup) t before at = ap receipt_memory at.1.sheets
-machine_made (ReceiptLines reader lines) (ListingIn EscPos) t before at = refl
+machine_made (ReceiptLines reader lines) (ListingIn with_offsets EscPos) t before at = refl
 machine_made (Label reader label) (Labels sheets) t before at = ap label_memory at.1.sheets_are
-machine_made (LabelLines reader lines) (ListingIn Zpl) t before at = refl
-machine_made (ReceiptOffsets reader lines taken) (ListingWithOffsetsIn EscPos) t before at = refl
-machine_made (LabelOffsets reader lines taken) (ListingWithOffsetsIn Zpl) t before at = refl
+machine_made (LabelLines reader lines) (ListingIn with_offsets Zpl) t before at = refl
 machine_made machine setup t before at = absurd at
 
 pub made_with : (setup : Setup) (p : Engine) (t o : List ℕ) → Stands setup p t o → memory_held p ≡ memory_of setup

@@ -138,7 +138,7 @@ from_of_byte set (Err why) = symbol_of_byte why
 from_of_byte set (Ok []) = omega arith
 from_of_byte set (Ok (v ∷ vs)) = tt
 
-code39_by : (check : Bool) (values : Option (List ℕ)) → ErrOfByte (code39.symbol_of check values)
+code39_by : (check : Bool) (values : Option (List ℕ)) → ErrOfByte (code39.code39_symbol check values)
 code39_by check None = omega arith
 code39_by check (Some values) = tt
 
@@ -146,13 +146,13 @@ code39_for : (check : Bool) (bytes : List ℕ) → ErrOfByte (code39.symbol_for 
 code39_for check [] = omega arith
 code39_for check (c ∷ cs) = code39_by check (code39.values_of (c ∷ cs))
 
-ean13_by : (digits : List ℕ) → ErrOfByte (ean13.symbol_of digits)
+ean13_by : (digits : List ℕ) → ErrOfByte (ean13.ean13_symbol digits)
 ean13_by digits = err_if (ean13.is_count (length digits) false) _ _ tt (symbol_of_byte Length)
 
 ean13_for_bytes : (bytes : List ℕ) (pad : Bool) → ErrOfByte (ean13.ean13_for bytes pad)
 ean13_for_bytes bytes pad =
     let digits = ean13.padded pad (ean13.digits_of bytes) in
-    err_if (list_all is_ascii_digit bytes) (ean13.symbol_of digits) (Err (Symbol Char)) (ean13_by digits) (symbol_of_byte Char)
+    err_if (list_all is_ascii_digit bytes) (ean13.ean13_symbol digits) (Err (Symbol Char)) (ean13_by digits) (symbol_of_byte Char)
 
 escaped_from : (set : Option CodeSet) (bytes : List ℕ) → ErrOfByte (escapes.from_set set bytes)
 escaped_from None bytes = omega arith

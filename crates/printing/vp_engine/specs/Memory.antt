@@ -4,16 +4,14 @@ use Rattle.vp_receipt.specs.Memory.{receipt_memory}
 use Rattle.vp_label.specs.Memory.{label_memory}
 use Rattle.vp_engine.specs.declared.machine.Machine.{Machine}
 use Rattle.vp_engine.specs.declared.machine.Machine.TheVariants.{Receipt, ReceiptLines, Label, LabelLines}
-use Rattle.vp_engine.specs.declared.machine.Machine.TheVariants.{ReceiptOffsets, LabelOffsets}
-use Rattle.vp_engine.specs.Setups.{Setup, Receipts, Labels, ListingIn, ListingWithOffsetsIn}
+use Rattle.vp_engine.specs.Setups.{Setup, Receipts, Labels, ListingIn}
 use Rattle.vp_engine.specs.Stands.{Engine}
 
 -- the bytes of memory that a printer is made with: a listing takes none
 abbrev pub memory_of : Setup → ℕ
 memory_of (Receipts setup) = receipt_memory setup.sheets
 memory_of (Labels sheets) = label_memory sheets
-memory_of (ListingIn commands) = 0
-memory_of (ListingWithOffsetsIn commands) = 0
+memory_of (ListingIn with_offsets commands) = 0
 
 -- those that a machine holds
 abbrev pub machine_memory : Machine → ℕ
@@ -21,8 +19,6 @@ machine_memory (Receipt reader receipt) = receipt_memory receipt.sheets
 machine_memory (ReceiptLines reader lines) = 0
 machine_memory (Label reader label) = label_memory label.sheets
 machine_memory (LabelLines reader lines) = 0
-machine_memory (ReceiptOffsets reader lines taken) = 0
-machine_memory (LabelOffsets reader lines taken) = 0
 
 -- and a printer
 abbrev pub memory_held : Engine → ℕ
