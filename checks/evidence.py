@@ -46,6 +46,8 @@ def fault_of(file):
             count = texts[path].count(old) if old else 0
             if count != 1:
                 return f"an old: text stands in {path} {count} times, and not once"
+            if old == rest:
+                return f"a new: text is as the old: one in {path}"
             texts[path], old, pairs = texts[path].replace(old, rest), "", pairs + 1
     return "" if pairs else "it has no old: and new:"
 
@@ -87,12 +89,13 @@ def functions_of(file):
 
 
 def without_right_body(rows, there):
-    """Returns the edits that an answer by hand refuses where no must-pass edit is of the same functions."""
+    """Returns the edits that an answer by hand refuses and that change no function, or one of which no must-pass edit is."""
     pairs = [(edit, clause) for row in rows for edit, clause in zip(row.edits, row.clauses)]
     by_answer = [edit for edit, clause in pairs if clause.endswith(ANSWER) and edit in there]
     right = {file: functions_of(file) for file in glob.glob("crates/*/*/must-pass/*.edit")}
     beside = lambda edit: set().union(*(it for file, it in right.items() if file.split("/")[2] == edit.split("/")[0]))
-    return [edit for edit in by_answer if not functions_of(there[edit]) <= beside(edit)]
+    is_shown = lambda functions, right: bool(functions) and functions <= right
+    return [edit for edit in by_answer if not is_shown(functions_of(there[edit]), beside(edit))]
 
 
 def rows_of(lines):

@@ -1,5 +1,5 @@
-"""Right bodies in another form (must-pass/*.edit), each named as the must-fail edit that it stands beside: the prover must take
-them, with what they change of the answers. So what it says against the wrong body isn't said against every other body."""
+"""Right bodies in another form (must-pass/*.edit), each named by its function and by what is other: the prover must take them,
+with what they change of the answers. So what it says against a wrong body of the function isn't said against every other."""
 import concurrent.futures
 import glob
 import os
