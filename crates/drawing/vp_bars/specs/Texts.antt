@@ -14,10 +14,10 @@ abbrev pub characters : List ℕ → List ℕ
 characters vs = flat_map character_of vs
 
 -- what a value shows in a code set: a byte of A or B, two digits of C, and nothing for a function character
-abbrev pub shown : CodeSet → ℕ → List ℕ
-shown A v = if nat_lt v 64 then (v + 32) ∷ [] else if nat_lt v 96 then (v - 64) ∷ [] else []
-shown B v = if nat_lt v 96 then (v + 32) ∷ [] else []
-shown C v = if nat_lt v 100 then (v / 10 + 48) ∷ (v % 10 + 48) ∷ [] else []
+abbrev pub text_in_set : CodeSet → ℕ → List ℕ
+text_in_set A v = if nat_lt v 64 then (v + 32) ∷ [] else if nat_lt v 96 then (v - 64) ∷ [] else []
+text_in_set B v = if nat_lt v 96 then (v + 32) ∷ [] else []
+text_in_set C v = if nat_lt v 100 then (v / 10 + 48) ∷ (v % 10 + 48) ∷ [] else []
 
 -- the set in force behind a value
 abbrev pub set_behind : CodeSet → ℕ → CodeSet
@@ -37,7 +37,7 @@ next_set set v = if shifts set v then other_of set else set_behind set v
 -- what values show, where a code set is in force and the first of them is read in the set `now`
 abbrev pub shown_from : CodeSet → CodeSet → List ℕ → List ℕ
 shown_from set now [] = []
-shown_from set now (v ∷ vs) = shown now v ++ shown_from (set_behind set v) (next_set set v) vs
+shown_from set now (v ∷ vs) = text_in_set now v ++ shown_from (set_behind set v) (next_set set v) vs
 
 -- the set that a start character starts
 abbrev pub set_of_start : ℕ → CodeSet

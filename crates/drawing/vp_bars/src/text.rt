@@ -1,7 +1,7 @@
 //! The text of a symbol.
 
 ghost use Rattle.std.specs.Prelude.{◌≡◌, ◌+◌, ◌-◌, ◌≤◌, ◌++◌, length};
-ghost use Rattle.vp_bars.specs.Texts.{character_of, characters as characters_of, shown, set_behind as set_after, next_set as set_of_next, set_of_start as started_set, data_of as data_between, shown_from, shown_by};
+ghost use Rattle.vp_bars.specs.Texts.{character_of, characters as characters_of, text_in_set, set_behind as set_after, next_set as set_of_next, set_of_start as started_set, data_of as data_between, shown_from, shown_by};
 
 use crate::code_39::ALPHABET;
 use crate::code_128::CodeSet;
@@ -34,7 +34,7 @@ pub(crate) fn characters(values: &[u8]) -> ArrayVec<u8, 512>
 /// Appends what a value shows in a code set.
 fn push_shown(set: CodeSet, v: u8, text: &mut ArrayVec<u8, 512>)
     requires { length text.old.items ≤ 510 }
-    ensures items { text.new.items ≡ text.old.items ++ shown set v }
+    ensures items { text.new.items ≡ text.old.items ++ text_in_set set v }
     ensures len { length text.new.items ≤ length text.old.items + 2 }
 {
     match set {

@@ -13,8 +13,8 @@ abbrev pub pieces : List ℕ → List Piece
 pieces [] = []
 pieces (b ∷ []) = Cell b ∷ []
 pieces (b ∷ next ∷ text) =
-    if b == 92 && next == 38 then ParagraphEnd ∷ pieces text
-    else (if b == 92 && next == 92 then Cell 92 ∷ pieces text
+    if b == 0x5C && next == 0x26 then ParagraphEnd ∷ pieces text
+    else (if b == 0x5C && next == 0x5C then Cell 0x5C ∷ pieces text
     else Cell b ∷ pieces (next ∷ text))
 
 -- the cells of the first paragraph
@@ -36,7 +36,7 @@ paragraphs text = first text ∷ others text
 -- the greatest q of 1 to n where cell q, counted from 0, is a blank, or 0
 abbrev pub last_blank : ℕ → List ℕ → ℕ
 last_blank zero cells = 0
-last_blank (suc q) cells = if slice_index cells (suc q) == 32 then suc q else last_blank q cells
+last_blank (suc q) cells = if slice_index cells (suc q) == 0x20 then suc q else last_blank q cells
 
 -- how many of more than n cells stand in a line: those before the last blank, or n
 abbrev pub line_length : ℕ → List ℕ → ℕ

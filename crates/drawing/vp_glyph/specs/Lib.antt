@@ -1,10 +1,12 @@
-pub mod Sheets
+-- The rules.
 pub mod Headers
 pub mod Grammar
 pub mod Reading
+pub mod Sheets
 pub mod Cells
 pub mod Texts
 pub mod Blocks
+-- What the code keeps.
 pub mod Layouts
 pub mod Inked
 pub mod Stretches

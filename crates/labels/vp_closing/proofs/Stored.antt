@@ -9,7 +9,7 @@ use Rattle.vp_format.specs.declared.format.TheConstants.{STORED}
 use Rattle.vp_field.specs.Contents.{IsStored, IsText}
 use Rattle.vp_label_settings.specs.declared.size.CharacterSize.{CharacterSize}
 use Rattle.vp_label_settings.specs.declared.choice.FieldBlock.{FieldBlock}
-use Rattle.vp_label_settings.specs.Laws.{IsBlockIf, IsSize, IsSpace}
+use Rattle.vp_label_settings.specs.Laws.{IsFieldBlockIf, IsSize, IsSpace}
 use Rattle.vp_closing.specs.Texts.{gap_of, text_content, text_drawn}
 
 gap_low : (space : LineSpace) → IsSpace space → neg_ℤ (pos 9999) ≤ℤ gap_of space
@@ -28,7 +28,7 @@ text_fits stored size bytes fits among few = record {
   height = fits.height.most;
 }
 
-pub text_stored : (stored : List ℕ) (size : CharacterSize) (bytes : Span) (block : Option FieldBlock) → IsSize size → IsBlockIf block → bytes.start + bytes.len ≤ length stored → length stored ≤ STORED →
+pub text_stored : (stored : List ℕ) (size : CharacterSize) (bytes : Span) (block : Option FieldBlock) → IsSize size → IsFieldBlockIf block → bytes.start + bytes.len ≤ length stored → length stored ≤ STORED →
     IsStored stored (text_content (text_drawn size bytes) block)
 text_stored stored size bytes None fits block_fits among few = text_fits stored size bytes fits among few
 text_stored stored size bytes (Some b) fits block_fits among few = record {

@@ -16,7 +16,7 @@ use Rattle.vp_label_settings.specs.declared.parts.OpenContent.{OpenContent}
 use Rattle.vp_label_settings.specs.declared.parts.OpenContent.TheVariants.{Data, Frame, Picture}
 use Rattle.vp_label_settings.specs.declared.parts.FieldParts.{FieldParts}
 use Rattle.vp_closing.specs.Texts.{text_size, text_drawn, text_content}
-use Rattle.vp_closing.specs.Graphics.{headed, has_refused, picture_unless}
+use Rattle.vp_closing.specs.Graphics.{picture_with, has_refused, picture_unless}
 use Rattle.vp_closing.specs.Symbols.{bars, bars_of, qr_of}
 
 -- the stored bytes from a place on
@@ -35,7 +35,7 @@ data_content stored s p (Some (Qr model dots)) bytes =
 -- a picture, unless a code of its rows is refused
 abbrev pub picture_content : List ℕ → PictureHead → Span → Result Content Fault
 picture_content stored head bytes =
-    picture_unless (has_refused (picture_of stored (headed head bytes))) (headed head bytes)
+    picture_unless (has_refused (picture_of stored (picture_with head bytes))) (picture_with head bytes)
 
 -- what a field shows; its bytes go from its start to the end of the stored ones
 abbrev pub content_of : List ℕ → Settings → FieldParts → OpenContent → Result Content Fault

@@ -11,8 +11,8 @@ use Rattle.vp_label_settings.specs.declared.graphic.PictureHead.{PictureHead}
 use Rattle.vp_format.specs.declared.field.Span.{Span}
 
 -- the picture that a head and codes behind it give
-abbrev pub headed : PictureHead → Span → Picture
-headed head codes =
+abbrev pub picture_with : PictureHead → Span → Picture
+picture_with head codes =
     record {
       codes = codes;
       coding = head.coding;

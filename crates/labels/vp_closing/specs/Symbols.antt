@@ -38,9 +38,9 @@ bars_if (Ok symbol) bars = Ok (contents.Bars bars)
 abbrev pub bars_of : List ℕ → BarSymbol → Result Content Fault
 bars_of stored bars = bars_if (symbol_of bars.code (bytes_of stored bars.bytes)) bars
 
--- the bytes behind what the data say before them
-abbrev pub behind : QrFront → Span → Span
-behind front bytes = record { start = bytes.start + front.length; len = bytes.len - front.length }
+-- the bytes behind_front what the data say before them
+abbrev pub behind_front : QrFront → Span → Span
+behind_front front bytes = record { start = bytes.start + front.length; len = bytes.len - front.length }
 
 -- a QR symbol of bytes, with the version and the mask that they choose
 abbrev pub qr_symbol : List ℕ → ℕ → QrFront → Span → QrSymbol
@@ -57,9 +57,9 @@ abbrev pub qr_unless : Option Fault → QrSymbol → Result Content Fault
 qr_unless (Some why) symbol = Err why
 qr_unless None symbol = Ok (contents.Qr symbol)
 
--- ^BQ: what the data say first is looked at first, then the bytes behind it
+-- ^BQ: what the data say first is looked at first, then the bytes behind_front it
 abbrev pub qr_of : List ℕ → ℕ → Span → Result QrFront Fault → Result Content Fault
 qr_of stored dots bytes (Err why) = Err why
 qr_of stored dots bytes (Ok front) =
-    qr_unless (refusal front.level front.mode (bytes_of stored (behind front bytes)))
-    (qr_symbol stored dots front (behind front bytes))
+    qr_unless (refusal front.level front.mode (bytes_of stored (behind_front front bytes)))
+    (qr_symbol stored dots front (behind_front front bytes))

@@ -32,8 +32,8 @@ abbrev pub gap_of : LineSpace → ℤ
 gap_of (Added dots) = pos dots
 gap_of (Deleted dots) = neg_ℤ (pos dots)
 
-abbrev pub block_of : Text → FieldBlock → TextBlock
-block_of text b = record {
+abbrev pub text_block : Text → FieldBlock → TextBlock
+text_block text b = record {
   text = text;
   width = b.width;
   lines = b.lines;
@@ -44,4 +44,4 @@ block_of text b = record {
 -- a text, in a block where ^FB asks for one
 abbrev pub text_content : Text → Option FieldBlock → Content
 text_content text None = contents.Text text
-text_content text (Some b) = contents.Block (block_of text b)
+text_content text (Some b) = contents.Block (text_block text b)

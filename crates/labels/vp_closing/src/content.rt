@@ -1,6 +1,6 @@
 //! What a field shows, as the format keeps it.
 ghost use Rattle.std.specs.Prelude.{◌≡◌, ◌+◌, ◌≤◌, length, IfOk};
-ghost use Rattle.vp_label_settings.specs.Laws.{AreInRange, IsBlockIf, IsContent, IsSymbolIf};
+ghost use Rattle.vp_label_settings.specs.Laws.{AreInRange, IsFieldBlockIf, IsContent, IsSymbolIf};
 ghost use Rattle.vp_field.specs.Contents.{IsStored};
 ghost use Rattle.vp_closing.specs.Contents.{bytes_from, data_content, content_of};
 
@@ -33,7 +33,7 @@ fn data_content(
 ) -> Result<Content, Fault>
     requires settings { AreInRange settings.now }
     requires symbol { IsSymbolIf parts.now.symbol }
-    requires block { IsBlockIf parts.now.block }
+    requires block { IsFieldBlockIf parts.now.block }
     requires among { bytes.start + bytes.len ≤ length stored.now }
     requires few { length stored.now ≤ STORED }
     ensures value { result ≡ data_content stored.now settings.now parts.now parts.now.symbol bytes }
@@ -63,7 +63,7 @@ pub fn content_of(
 ) -> Result<Content, Fault>
     requires settings { AreInRange settings.now }
     requires symbol { IsSymbolIf parts.now.symbol }
-    requires block { IsBlockIf parts.now.block }
+    requires block { IsFieldBlockIf parts.now.block }
     requires content { IsContent (length stored.now) content }
     requires few { length stored.now ≤ STORED }
     ensures value { result ≡ content_of stored.now settings.now parts.now content }

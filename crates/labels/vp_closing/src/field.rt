@@ -1,6 +1,6 @@
 //! A field that is closed, as the format keeps it.
 ghost use Rattle.std.specs.Prelude.{◌≡◌, ◌≤◌, length, IfOk, IfSome};
-ghost use Rattle.vp_label_settings.specs.Laws.{AreInRange, AreParts, IsBlockIf, IsContent, IsSymbolIf};
+ghost use Rattle.vp_label_settings.specs.Laws.{AreInRange, AreParts, IsFieldBlockIf, IsContent, IsSymbolIf};
 ghost use Rattle.vp_field.specs.Fields.{IsKept};
 ghost use Rattle.vp_closing.specs.Closing.{asked_orientation, closed, colour_of, field_of, operation, paint_of};
 
@@ -59,7 +59,7 @@ fn field_of(
 ) -> Result<Field, Fault>
     requires settings { AreInRange settings.now }
     requires symbol { IsSymbolIf parts.now.symbol }
-    requires block { IsBlockIf parts.now.block }
+    requires block { IsFieldBlockIf parts.now.block }
     requires content { IsContent (length stored.now) asked }
     requires few { length stored.now ≤ STORED }
     ensures value { result ≡ field_of sheets.now stored.now settings.now parts.now asked }

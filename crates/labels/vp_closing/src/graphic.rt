@@ -1,7 +1,7 @@
 //! Pictures whose codes are read.
 ghost use Rattle.std.specs.Prelude.{◌≡◌, ◌<◌, ◌≤◌, ◌+◌, length, false, true, MatchResult, IfOk};
-ghost use Rattle.vp_label_settings.specs.Laws.{IsPicture};
-ghost use Rattle.vp_closing.specs.Graphics.{headed, picture_unless, has_refused};
+ghost use Rattle.vp_label_settings.specs.Laws.{IsPictureHead};
+ghost use Rattle.vp_closing.specs.Graphics.{picture_with, picture_unless, has_refused};
 ghost use Rattle.vp_field.specs.Contents.{picture_of, LiesIn, IsStored};
 
 use vp_dots::Fault;
@@ -10,7 +10,7 @@ use vp_format::{Content, Picture, STORED, Span, check};
 use vp_label_settings::PictureHead;
 
 fn headed(head: PictureHead, codes: Span) -> Picture
-    ensures { result ≡ headed head codes }
+    ensures { result ≡ picture_with head codes }
 {
     Picture {
         codes,
@@ -35,11 +35,11 @@ fn read(stored: &[u8], picture: Picture) -> Result<(), Fault>
 
 /// A picture, unless its codes are refused.
 pub fn picture_content(stored: &[u8], head: PictureHead, codes: Span) -> Result<Content, Fault>
-    requires picture { IsPicture head }
+    requires picture { IsPictureHead head }
     requires among { codes.start + codes.len ≤ length stored.now }
     requires few { length stored.now ≤ STORED }
     ensures value { result
-        ≡ picture_unless (has_refused (picture_of stored.now (headed head codes))) (headed head codes) }
+        ≡ picture_unless (has_refused (picture_of stored.now (picture_with head codes))) (picture_with head codes) }
     ensures stored { IfOk result (IsStored stored.now) }
 {
     let picture = headed(head, codes);

@@ -13,7 +13,7 @@ ghost use Rattle.vp_label_settings.specs.declared.settings.Settings.{Settings};
 ghost use Rattle.vp_label_settings.specs.declared.choice.BarChoice.{BarChoice};
 ghost use Rattle.vp_label_settings.specs.declared.choice.SymbolChoice.TheVariants.{Bars, Qr};
 ghost use Rattle.vp_label_settings.specs.Choices.{code128_choice};
-ghost use Rattle.vp_closing.specs.Graphics.{headed};
+ghost use Rattle.vp_closing.specs.Graphics.{picture_with};
 ghost use Rattle.vp_field.specs.Contents.{bytes_of, picture_of};
 ghost use Rattle.vp_closing.specs.Contents.{data_content, picture_content};
 
@@ -23,11 +23,11 @@ use vp_bars::data_are_counted;
 /// stands behind its last row.
 pub fn pictures_are_read()
     ensures refused { (stored : List ℕ) (head : PictureHead) (bytes : Span) (y : ℕ) → y < head.rows
-        → is_refused (picture_of stored (headed head bytes)) y ≡ true
+        → is_refused (picture_of stored (picture_with head bytes)) y ≡ true
         → picture_content stored head bytes ≡ Err Graphic }
     ensures kept { (stored : List ℕ) (head : PictureHead) (bytes : Span)
-        → ((y : ℕ) → y < head.rows → is_refused (picture_of stored (headed head bytes)) y ≡ false)
-        → picture_content stored head bytes ≡ Ok (kept.Picture (headed head bytes)) }
+        → ((y : ℕ) → y < head.rows → is_refused (picture_of stored (picture_with head bytes)) y ≡ false)
+        → picture_content stored head bytes ≡ Ok (kept.Picture (picture_with head bytes)) }
 {}
 
 /// Bars of ^BC's modes U and D and QR symbols of model 1 aren't drawn, whatever their data.

@@ -1,7 +1,7 @@
 //! Texts, and blocks of them.
 ghost use Rattle.std.specs.Prelude.{◌≡◌};
-ghost use Rattle.vp_label_settings.specs.Laws.{IsSize, IsSpace, IsBlock, IsBlockIf};
-ghost use Rattle.vp_closing.specs.Texts.{text_orientation, text_size, text_drawn, gap_of, block_of, text_content};
+ghost use Rattle.vp_label_settings.specs.Laws.{IsSize, IsSpace, IsFieldBlock, IsFieldBlockIf};
+ghost use Rattle.vp_closing.specs.Texts.{text_orientation, text_size, text_drawn, gap_of, text_block, text_content};
 
 use vp_format::{Content, Span, Text, TextBlock};
 use vp_label_settings::{CharacterSize, FieldBlock, FontChoice, Settings};
@@ -52,8 +52,8 @@ fn gap_of(space: LineSpace) -> i16
 }
 
 fn block_of(text: Text, block: FieldBlock) -> TextBlock
-    requires { IsBlock block }
-    ensures { result ≡ block_of text block }
+    requires { IsFieldBlock block }
+    ensures { result ≡ text_block text block }
 {
     TextBlock {
         text,
@@ -66,7 +66,7 @@ fn block_of(text: Text, block: FieldBlock) -> TextBlock
 
 /// A text, in a block where ^FB asks for one.
 pub fn text_content(text: Text, block: Option<FieldBlock>) -> Content
-    requires { IsBlockIf block }
+    requires { IsFieldBlockIf block }
     ensures { result ≡ text_content text block }
 {
     match block {

@@ -6,7 +6,7 @@ use Rattle.vp_output.specs.declared.place.Place.{Place as InImage}
 use Rattle.vp_output.specs.Lines.{line_text, IsLineOf}
 use Rattle.vp_output.specs.Places.{advanced as advanced_in, pending as pending_in, pending_if}
 use Rattle.vp_output.proofs.Parts.{each_place, pending_long}
-use Rattle.vp_copies.specs.Copies.{at, behind, bytes_above, line_bytes, lines_of, copies_text, pending}
+use Rattle.vp_copies.specs.Copies.{at, place_after, bytes_above, line_bytes, lines_of, copies_text, pending}
 use Rattle.vp_copies.proofs.Texts.{rows_behind, text_from, length-line}
 
 module _ (i : Image) (some : 0 < i.height) where
@@ -32,7 +32,7 @@ module _ (i : Image) (some : 0 < i.height) where
       ∙ sym (append_assoc (drop p.byte line) (rows_behind i p.line) rest)
       ∙ ap (λ k. pending_in (lines_of i) p ++ copies_text i k) one
 
-  -- the place behind bytes of a copy is one of its bytes too, unless it is none
+  -- the place place_after bytes of a copy is one of its bytes too, unless it is none
   abbrev pub IsNext : Option InImage → Type 0
   IsNext None = Unit {0}
   IsNext (Some p) = IsPlaceIn p
@@ -44,7 +44,7 @@ module _ (i : Image) (some : 0 < i.height) where
       (λ end more. record { line = more; byte = omega arith })
       (λ end last. tt)
 
-  pub pending_behind : (copies : ℕ) (q : Option InImage) → 0 < copies → IsNext q → pending i (behind copies q) ≡ pending_if (lines_of i) q ++ copies_text i (copies - 1)
+  pub pending_behind : (copies : ℕ) (q : Option InImage) → 0 < copies → IsNext q → pending i (place_after copies q) ≡ pending_if (lines_of i) q ++ copies_text i (copies - 1)
   pending_behind copies None c b = refl
   pending_behind copies (Some p) c b = pending_is copies p c b
 
@@ -66,7 +66,7 @@ module _ (i : Image) (some : 0 < i.height) where
   pending_front copies p n c b h = sym (ap (take n) (pending_is copies p c b) ∙ take-append-le n (pending_in (lines_of i) p) (copies_text i (copies - 1)) h)
 
   pub pending_on : (copies : ℕ) (p : InImage) (q : Option InImage) (n : ℕ) → 0 < copies → IsPlaceIn p → IsNext q → n ≤ length (pending_in (lines_of i) p) → pending_if (lines_of i) q ≡ drop n (pending_in (lines_of i) p) →
-      pending i (behind copies q) ≡ drop n (pending i (at copies p))
+      pending i (place_after copies q) ≡ drop n (pending i (at copies p))
   pending_on copies p q n c b d h e =
       pending_behind copies q c d ∙ ap (λ t. t ++ copies_text i (copies - 1)) e
       ∙ sym (drop-append-le n (pending_in (lines_of i) p) (copies_text i (copies - 1)) h) ∙ ap (drop n) (sym (pending_is copies p c b))

@@ -1,6 +1,6 @@
 //! What has to be ready for the next byte, and where it is behind bytes of a copy.
 ghost use Rattle.std.specs.Prelude.{◌≡◌, ◌<◌};
-ghost use Rattle.vp_copies.specs.Copies.{ahead, at, behind};
+ghost use Rattle.vp_copies.specs.Copies.{ahead, at, place_after};
 
 use vp_label_size::BAND_ROWS;
 use vp_output::{Line, Place};
@@ -39,7 +39,7 @@ pub fn wanted(copies: u32, place: Place) -> Ahead
 /// How many copies are left behind bytes of one, and the place in the first of them.
 pub fn behind(copies: u32, next: Option<Place>) -> (u32, Place)
     requires { 0 < copies }
-    ensures { at result.0 result.1 ≡ behind copies next }
+    ensures { at result.0 result.1 ≡ place_after copies next }
 {
     match next {
         Some(place) => (copies, place),

@@ -9,7 +9,7 @@ use Rattle.vp_dots.specs.declared.Op.{Op}
 use Rattle.vp_dots.specs.declared.Op.TheVariants.{Black, White, Flip}
 use Rattle.vp_dots.specs.Painting.{paint}
 use Rattle.vp_field.specs.Strokes.{Stroke, is_reversing, is_black, covers, reverses, last_where, after_last_where, colour, reversed, label_dot, viewed, image_dot}
-use Rattle.vp_field.specs.Views.{counted, seen_x, seen_y}
+use Rattle.vp_field.specs.Views.{counted_back, seen_x, seen_y}
 use Rattle.vp_field.specs.Laws.{StrokeAfterStroke, DotsMove, TurnedAndMirrored, upright, unmirrored}
 use Rattle.vp_field.specs.declared.view.View.{View}
 
@@ -124,12 +124,12 @@ module _ (view : View) (x y : ℤ) where
 pub dots_move : DotsMove
 dots_move view strokes x y = moved_dot view x y strokes
 
--- places counted back
-counted_twice : (b : Bool) (n : ℕ) (p : ℤ) → counted b n (counted b n p) ≡ p
+-- places counted_back back
+counted_twice : (b : Bool) (n : ℕ) (p : ℤ) → counted_back b n (counted_back b n p) ≡ p
 counted_twice true n p = omega (arith, ints)
 counted_twice false n p = refl
 
-counted_other : (b c : Bool) (n : ℕ) (p : ℤ) → counted b n (counted c n p) ≡ counted c n (counted b n p)
+counted_other : (b c : Bool) (n : ℕ) (p : ℤ) → counted_back b n (counted_back c n p) ≡ counted_back c n (counted_back b n p)
 counted_other true true n p = refl
 counted_other true false n p = refl
 counted_other false true n p = refl
@@ -140,7 +140,7 @@ seen_twice_x view x =
     let i = view.inverted in
     let m = view.mirrored in
     let n = view.width in
-    ap (λ p. counted i n p) (counted_other m i n (counted m n x)) ∙ counted_twice i n (counted m n (counted m n x)) ∙ counted_twice m n x
+    ap (λ p. counted_back i n p) (counted_other m i n (counted_back m n x)) ∙ counted_twice i n (counted_back m n (counted_back m n x)) ∙ counted_twice m n x
 
 far_end : (n x : ℕ) → x < n → pos (n - 1 - x) ≡ pos n -ℤ pos 1 -ℤ pos x
 far_end n x h = omega (arith, ints)
@@ -150,7 +150,7 @@ inverted_dot : (view : View) (strokes : List Stroke) (x y : ℕ) → view.invert
 inverted_dot view strokes x y e l h =
     let w = view.width in
     let s : seen_x view (pos x) ≡ seen_x (upright view) (pos (w - 1 - x)) =
-    rw e (counted_other true view.mirrored w (pos x) ∙ ap (λ p. counted view.mirrored w p) (sym (far_end w x l))) in
+    rw e (counted_other true view.mirrored w (pos x) ∙ ap (λ p. counted_back view.mirrored w p) (sym (far_end w x l))) in
     let t : seen_y view (pos y) ≡ seen_y (upright view) (pos (view.height - 1 - y)) = rw e (sym (far_end view.height y h)) in
     rw (lt-ltb x w l, lt-ltb y view.height h, lt-ltb (w - 1 - x) w (omega arith), lt-ltb (view.height - 1 - y) view.height (omega arith))
     (moved_dot view (pos x) (pos y) strokes ∙ rw (s, t) refl ∙ sym (moved_dot (upright view) (pos (w - 1 - x)) (pos (view.height - 1 - y)) strokes))
@@ -159,7 +159,7 @@ mirrored_dot : (view : View) (strokes : List Stroke) (x y : ℕ) → view.mirror
     → image_dot view strokes x y ≡ image_dot (unmirrored view) strokes (view.width - 1 - x) y
 mirrored_dot view strokes x y e l h =
     let w = view.width in
-    let s : seen_x view (pos x) ≡ seen_x (unmirrored view) (pos (w - 1 - x)) = rw e (ap (λ p. counted view.inverted w p) (sym (far_end w x l))) in
+    let s : seen_x view (pos x) ≡ seen_x (unmirrored view) (pos (w - 1 - x)) = rw e (ap (λ p. counted_back view.inverted w p) (sym (far_end w x l))) in
     rw (lt-ltb x w l, lt-ltb y view.height h, lt-ltb (w - 1 - x) w (omega arith))
     (moved_dot view (pos x) (pos y) strokes ∙ rw s refl ∙ sym (moved_dot (unmirrored view) (pos (w - 1 - x)) (pos y) strokes))
 

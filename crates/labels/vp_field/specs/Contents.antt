@@ -30,7 +30,7 @@ use Rattle.vp_field.specs.Frames.{frame_dot}
 use Rattle.vp_field.specs.Axes.{lines_of}
 use Rattle.vp_field.specs.declared.axis.Lines.{Lines}
 use Rattle.vp_field.specs.declared.axis.Lines.TheVariants.{Along, Across}
-use Rattle.vp_label_size.specs.declared.TheConstants.{BAND_ROWS}
+use Rattle.vp_label_size.specs.declared.TheConstants.{BAND_ROWS, WIDEST}
 
 -- the bytes that a span names among the stored ones
 abbrev pub bytes_of : List ℕ → Span → List ℕ
@@ -150,7 +150,7 @@ pub record IsText (stored : List ℕ) (t : Text) : Type 0 where
   pub height : t.height ≤ 1500
 
 -- and of a block of lines (^FB)
-pub record IsBlock (stored : List ℕ) (b : TextBlock) : Type 0 where
+pub record IsTextBlock (stored : List ℕ) (b : TextBlock) : Type 0 where
   pub text : IsText stored b.text
   pub width : b.width ≤ 32000
   pub lines : b.lines ≤ 9999
@@ -176,7 +176,7 @@ pub record IsSymbol (stored : List ℕ) (q : QrSymbol) : Type 0 where
 -- a content whose parameters are in their ranges, and whose bytes are stored
 abbrev pub IsStored : List ℕ → Content → Type 0
 IsStored stored (contents.Text t) = IsText stored t
-IsStored stored (contents.Block b) = IsBlock stored b
+IsStored stored (contents.Block b) = IsTextBlock stored b
 IsStored stored (contents.Box b) = Unit {0}
 IsStored stored (contents.Picture p) = IsPicture stored p
 IsStored stored (contents.Bars b) = LiesIn stored b.bytes
@@ -186,12 +186,12 @@ IsStored stored (contents.Qr q) = IsSymbol stored q
 -- where they lie across, one a column of the widest label, and eight
 abbrev pub most_lines : Lines → ℕ
 most_lines Along = BAND_ROWS
-most_lines Across = 1256
+most_lines Across = WIDEST + 8
 
 -- a block that lies across is drawn at once on all columns, and then laid on them
 abbrev pub most_block_lines : Lines → ℕ
 most_block_lines Along = BAND_ROWS
-most_block_lines Across = 2504
+most_block_lines Across = 2 * WIDEST + 8
 
 -- what painting a content that is turned so takes on a band at most. Of a picture each byte of its codes is
 -- read once, no more rows than these bytes and two are passed, and 32 rows fall on the band; of other
@@ -200,6 +200,6 @@ abbrev pub most_work : Orientation → Content → ℕ
 most_work o (contents.Text t) = most_lines (lines_of o)
 most_work o (contents.Block b) = most_block_lines (lines_of o)
 most_work o (contents.Box b) = most_lines Along
-most_work o (contents.Picture p) = 2 * p.codes.len + 34
+most_work o (contents.Picture p) = 2 * p.codes.len + (BAND_ROWS + 2)
 most_work o (contents.Bars b) = most_lines (lines_of o)
 most_work o (contents.Qr q) = most_lines Along

@@ -2,14 +2,14 @@
 use Rattle.std.specs.Prelude.{ℕ, ℤ, pos, ◌-ℤ◌, Bool, if◌then◌else◌}
 use Rattle.vp_field.specs.declared.view.View.{View}
 
--- a place of n, counted from the last one where it is counted back
-abbrev pub counted : Bool → ℕ → ℤ → ℤ
-counted back n p = if back then pos n -ℤ pos 1 -ℤ p else p
+-- a place of n, counted_back from the last one where it is counted_back back
+abbrev pub counted_back : Bool → ℕ → ℤ → ℤ
+counted_back back n p = if back then pos n -ℤ pos 1 -ℤ p else p
 
 -- the place of the label that comes to column x and row y: ^PM mirrors left and right, ^PO I turns by 180
 -- degrees
 abbrev pub seen_x : View → ℤ → ℤ
-seen_x view x = counted view.inverted view.width (counted view.mirrored view.width x)
+seen_x view x = counted_back view.inverted view.width (counted_back view.mirrored view.width x)
 
 abbrev pub seen_y : View → ℤ → ℤ
-seen_y view y = counted view.inverted view.height y
+seen_y view y = counted_back view.inverted view.height y

@@ -1,7 +1,7 @@
 //! Where a line of dots lies on a line of places.
 ghost use Rattle.std.specs.Prelude.{◌≡◌, ℕ, ◌+◌, ◌^◌, ◌<◌, ◌≤◌, Bool, true, false, ℤ, pos, neg_ℤ, ◌-ℤ◌, ◌+ℤ◌, ◌≤ℤ◌, ◌<ℤ◌, option_map, unwrap_or, Some, IfSome};
 ghost use Rattle.vp_field.specs.Places.{at_place};
-ghost use Rattle.vp_field.specs.Views.{counted};
+ghost use Rattle.vp_field.specs.Views.{counted_back};
 ghost use Rattle.vp_field.specs.Axes.{dot_on, IsWithin};
 ghost use Rattle.vp_label_size.specs.declared.TheConstants.{BAND_ROWS};
 
@@ -68,7 +68,7 @@ impl Axis {
     /// This line, its places counted back where `back` asks for it.
     pub fn counted(self, back: bool, size: u32) -> Axis
         requires { IsWithin (2 ^ 41) self }
-        ensures dots { (p : ℤ) → dot_on result p ≡ dot_on self (counted back size p) }
+        ensures dots { (p : ℤ) → dot_on result p ≡ dot_on self (counted_back back size p) }
         ensures near { IsWithin (2 ^ 40) self → IsWithin (2 ^ 40 + 2 ^ 32) result }
         ensures far { IsWithin (2 ^ 40 + 2 ^ 32) self → IsWithin (2 ^ 41) result }
     {

@@ -3,7 +3,7 @@ ghost use Rattle.std.specs.Prelude.{◌≡◌, ◌*◌, ◌≤◌};
 ghost use Rattle.vp_qr.specs.Places.{size};
 ghost use Rattle.vp_format.specs.declared.field.Content.TheVariants as contents;
 ghost use Rattle.vp_glyph.specs.Blocks.{pitch};
-ghost use Rattle.vp_field.specs.Contents.{bytes_of, content_width, content_height, orientation_of, LiesIn, IsText, IsBlock, IsStored};
+ghost use Rattle.vp_field.specs.Contents.{bytes_of, content_width, content_height, orientation_of, LiesIn, IsText, IsTextBlock, IsStored};
 
 use crate::frame::Frame;
 use crate::text::Cells;
@@ -40,7 +40,7 @@ pub fn cells<'a>(sheets: &'a Sheets, stored: &'a [u8], text: Text) -> Cells<'a>
 
 /// A block of lines as ink.
 pub fn block_of<'a>(sheets: &'a Sheets, stored: &'a [u8], block: TextBlock) -> Block<'a>
-    requires { IsBlock stored.now block }
+    requires { IsTextBlock stored.now block }
     ensures sheet { result.sheet.now ≡ sheets.now.a }
     ensures text { result.text.now ≡ bytes_of stored.now block.text.bytes }
     ensures w { result.w ≡ block.text.width }

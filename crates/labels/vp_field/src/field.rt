@@ -4,7 +4,7 @@ ghost use Rattle.vp_dots.specs.Places.{RowsPainted};
 ghost use Rattle.vp_glyph.specs.declared.Sheets.{Sheets};
 ghost use Rattle.vp_format.specs.declared.field.Content.TheVariants as contents;
 ghost use Rattle.vp_field.specs.Axes.{lines_of};
-ghost use Rattle.vp_field.specs.Contents.{most_lines, most_work, LiesIn, IsText, IsBlock, IsSymbol};
+ghost use Rattle.vp_field.specs.Contents.{most_lines, most_work, LiesIn, IsText, IsTextBlock, IsSymbol};
 ghost use Rattle.vp_field.specs.Standing.{IsNear};
 ghost use Rattle.vp_field.specs.Fields.{field_ink, stroke_of, IsKept, AreMarksOf};
 ghost use Rattle.vp_field.specs.Strokes.{Stroke};
@@ -59,7 +59,7 @@ fn paint_block(
     first: u32,
     band: &mut LabelBand,
 ) -> u64
-    requires block { IsBlock stored.now block }
+    requires block { IsTextBlock stored.now block }
     requires near { IsNear on.left on.top }
     ensures dots { RowsPainted BAND_ROWS on.op (drawn sheets.now stored.now (contents.Block block) on first)
         band.old band.new }

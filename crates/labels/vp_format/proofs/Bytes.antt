@@ -8,7 +8,7 @@ use Rattle.vp_format.specs.declared.codes.Symbol.TheVariants.{Digits}
 use Rattle.vp_format.specs.declared.rows.Coding.TheVariants.{Binary}
 use Rattle.vp_format.specs.declared.row.RowEnd.{RowEnd}
 use Rattle.vp_format.specs.Codes.{spelled, binary_symbols}
-use Rattle.vp_format.specs.Pictures.{Value, shown, bytes_before, value_of, nibble}
+use Rattle.vp_format.specs.Pictures.{Value, shown_at, bytes_before, value_of, nibble}
 use Rattle.vp_format.specs.Cursors.{symbols_at, Decoded}
 use Rattle.vp_format.proofs.Reached.{shown_in, shown_past, bytes_past, bytes_none, run_over, bytes_over}
 
@@ -37,14 +37,14 @@ unfolding nibble
 nibble_none j = elim (cases_Bool (eqb (j % 2) 0)) [ inl e ↦ rw e refl | inr e ↦ rw e refl ]
 
 -- what a place shows is its byte's
-pub bytes_shown : (w p : ℕ) (codes : List ℕ) (j : ℕ) → shown w p (binary_symbols codes) (p + j) ≡ Value (nibble codes j)
+pub bytes_shown : (w p : ℕ) (codes : List ℕ) (j : ℕ) → shown_at w p (binary_symbols codes) (p + j) ≡ Value (nibble codes j)
 bytes_shown w p [] j = ap Value (sym (nibble_none j))
 bytes_shown w p (b ∷ codes) j = elim (cases_lt j 1) [
   | inl l ↦ (let first : j ≡ 0 = omega arith in shown_in w p (spelled (Digits 1 (b / 16)) 1) (spelled (Digits 1 (b % 16)) 0 ∷ binary_symbols codes) (p + j) (omega arith) ∙ ap Value (sym (ap (nibble (b ∷ codes)) first ∙ nibble_high b codes)))
   | inr g ↦ shown_past w p (spelled (Digits 1 (b / 16)) 1) (spelled (Digits 1 (b % 16)) 0 ∷ binary_symbols codes) (p + j) (omega arith) ∙ (elim (cases_lt j 2) [
     | inl l ↦ (let second : j ≡ 1 = omega arith in shown_in w (p + 1) (spelled (Digits 1 (b % 16)) 0) (binary_symbols codes) (p + j) (omega arith) ∙ ap Value (sym (ap (nibble (b ∷ codes)) second ∙ nibble_low b codes)))
     | inr h ↦ (let there : p + j ≡ p + 1 + 1 + (j - 2) = omega arith in let later : j ≡ j - 2 + 2 = omega arith in
-        shown_past w (p + 1) (spelled (Digits 1 (b % 16)) 0) (binary_symbols codes) (p + j) (omega arith) ∙ ap (λ q. shown w (p + 1 + 1) (binary_symbols codes) q) there ∙ bytes_shown w (p + 1 + 1) codes (j - 2)
+        shown_past w (p + 1) (spelled (Digits 1 (b % 16)) 0) (binary_symbols codes) (p + j) (omega arith) ∙ ap (λ q. shown_at w (p + 1 + 1) (binary_symbols codes) q) there ∙ bytes_shown w (p + 1 + 1) codes (j - 2)
         ∙ ap Value (sym (ap (nibble (b ∷ codes)) later ∙ nibble_later b codes (j - 2))))
   ])
 ]
@@ -62,8 +62,8 @@ bytes_spelled w p (b ∷ codes) j = elim (cases_lt 0 j) [
 ]
 
 -- the same from a place of the codes on
-pub place_shown : (w : ℕ) (codes : List ℕ) (at j : ℕ) → shown w 0 (symbols_at Binary codes (record { left = 0; digit = 0; at = at })) j ≡ Value (nibble (drop at codes) j)
-place_shown w codes at j = let e : j ≡ 0 + j = omega arith in run_over w 0 0 0 (binary_symbols (drop at codes)) j (omega arith) ∙ ap (λ q. shown w 0 (binary_symbols (drop at codes)) q) e ∙ bytes_shown w 0 (drop at codes) j
+pub place_shown : (w : ℕ) (codes : List ℕ) (at j : ℕ) → shown_at w 0 (symbols_at Binary codes (record { left = 0; digit = 0; at = at })) j ≡ Value (nibble (drop at codes) j)
+place_shown w codes at j = let e : j ≡ 0 + j = omega arith in run_over w 0 0 0 (binary_symbols (drop at codes)) j (omega arith) ∙ ap (λ q. shown_at w 0 (binary_symbols (drop at codes)) q) e ∙ bytes_shown w 0 (drop at codes) j
 
 place_spelled : (w : ℕ) (codes : List ℕ) (at j : ℕ) → bytes_before w 0 (symbols_at Binary codes (record { left = 0; digit = 0; at = at })) j ≡ min (length codes - at) ((j + 1) / 2)
 place_spelled w codes at j = let e : j ≡ 0 + j = omega arith in

@@ -11,19 +11,19 @@ use Rattle.vp_format.specs.declared.rows.Spot.{Spot}
 use Rattle.vp_format.specs.declared.rows.RunMark.{RunMark}
 use Rattle.vp_format.specs.declared.rows.RunRows.TheInside.{Inside}
 use Rattle.vp_format.specs.Codes.{Spelled, spelled, symbols}
-use Rattle.vp_format.specs.Pictures.{Value, shown, bytes_before, value_of, is_above, is_nothing, Picture, width_of, place_of, is_refused, is_repeat, start_of, start_above, bound_of, nibble}
+use Rattle.vp_format.specs.Pictures.{Value, shown_at, bytes_before, value_of, is_above, is_unreadable, Picture, width_of, place_of, is_refused, is_repeat, start_of, above_from, bound_of, nibble}
 use Rattle.vp_format.specs.Cursors.{symbols_at, above, picture_of, is_white, white_rest, IsReading, IsSpot, IsWhole, IsMark, IsCursor, Even, spot_behind}
 use Rattle.vp_format.proofs.Nibbles.{nibble_twice}
 use Rattle.vp_format.proofs.Reached.{shown_in, shown_past, bytes_run, bytes_none, shown_later, bytes_later}
 use Rattle.vp_format.proofs.Marks.{symbols_none, value-at}
 
 -- rows further on, the symbols show the same
-rows_later : (w k p : ℕ) (ss : List Spelled) (j : ℕ) → 0 < w → shown w (w * k + p) ss (w * k + j) ≡ shown w p ss j
+rows_later : (w k p : ℕ) (ss : List Spelled) (j : ℕ) → 0 < w → shown_at w (w * k + p) ss (w * k + j) ≡ shown_at w p ss j
 rows_later w zero p ss j h = let e : w * 0 + p ≡ p = omega arith in let f : w * 0 + j ≡ j = omega arith in rw (e, f) refl
 rows_later w (suc k) p ss j h =
     let e : w * suc k + p ≡ w + (w * k + p) = omega arith in
     let f : w * suc k + j ≡ w + (w * k + j) = omega arith in
-    ap (λ q. shown w q ss (w * suc k + j)) e ∙ ap (λ q. shown w (w + (w * k + p)) ss q) f ∙ shown_later w (w * k + p) ss (w * k + j) h ∙ rows_later w k p ss j h
+    ap (λ q. shown_at w q ss (w * suc k + j)) e ∙ ap (λ q. shown_at w (w + (w * k + p)) ss q) f ∙ shown_later w (w * k + p) ss (w * k + j) h ∙ rows_later w k p ss j h
 
 rows_spelled : (w k p : ℕ) (ss : List Spelled) (j : ℕ) → 0 < w → bytes_before w (w * k + p) ss (w * k + j) ≡ bytes_before w p ss j
 rows_spelled w zero p ss j h = let e : w * 0 + p ≡ p = omega arith in let f : w * 0 + j ≡ j = omega arith in rw (e, f) refl
@@ -52,15 +52,15 @@ run_even w coding codes s k some spot whole h =
       none = λ j l. bytes_run w 0 s.left v ss j (omega arith) ∙ bytes_none w (0 + s.left) ss j (omega arith);
       next = λ j. elim (cases_lt j n) [
         | inl l ↦ shown_in w 0 (spelled (Digits s.left v) 0) ss (w * k + j) (omega arith) ∙ sym (shown_in w 0 (spelled (Digits n v) 0) ss j (omega arith))
-        | inr g ↦ shown_past w 0 (spelled (Digits s.left v) 0) ss (w * k + j) (omega arith) ∙ ap (λ q. shown w q ss (w * k + j)) (omega arith) ∙ rows_later w k n ss j some
-            ∙ sym (shown_past w 0 (spelled (Digits n v) 0) ss j (omega arith) ∙ ap (λ q. shown w q ss j) (omega arith))
+        | inr g ↦ shown_past w 0 (spelled (Digits s.left v) 0) ss (w * k + j) (omega arith) ∙ ap (λ q. shown_at w q ss (w * k + j)) (omega arith) ∙ rows_later w k n ss j some
+            ∙ sym (shown_past w 0 (spelled (Digits n v) 0) ss j (omega arith) ∙ ap (λ q. shown_at w q ss j) (omega arith))
       ];
       bytes = λ j. bytes_run w 0 s.left v ss (w * k + j) (omega arith) ∙ ap (λ q. bytes_before w q ss (w * k + j)) (omega arith) ∙ rows_spelled w k n ss j some
           ∙ sym (bytes_run w 0 n v ss j (omega arith) ∙ ap (λ q. bytes_before w q ss j) (omega arith));
     }
 
 -- where no code is left
-nothing_from : (coding : Coding) (w p j : ℕ) → shown w p (symbols coding []) j ≡ Value 0
+nothing_from : (coding : Coding) (w p j : ℕ) → shown_at w p (symbols coding []) j ≡ Value 0
 nothing_from RunLength w p j = refl
 nothing_from Binary w p j = refl
 
@@ -73,7 +73,7 @@ abbrev pub IsWhite : ℕ → Spot → Type 0
 IsWhite codes s = (s.at ≡ codes) × ((s.left ≡ 0) ⊎ (s.digit ≡ 0))
 
 -- behind the last code white comes, once the run has ended
-pub ends_white : (w : ℕ) (coding : Coding) (codes : List ℕ) (s : Spot) (j : ℕ) → s.at ≡ length codes → ((s.left ≤ j) ⊎ (s.digit ≡ 0)) → shown w 0 (symbols_at coding codes s) j ≡ Value 0
+pub ends_white : (w : ℕ) (coding : Coding) (codes : List ℕ) (s : Spot) (j : ℕ) → s.at ≡ length codes → ((s.left ≤ j) ⊎ (s.digit ≡ 0)) → shown_at w 0 (symbols_at coding codes s) j ≡ Value 0
 ends_white w coding codes s j ends rest =
     let ss = symbols coding (drop s.at codes) in
     let none : ss ≡ symbols coding [] = ap (λ (a : ℕ). symbols coding (drop a codes)) ends ∙ symbols_none coding codes in
@@ -82,10 +82,10 @@ ends_white w coding codes s j ends rest =
         | inl short ↦ absurd (omega arith)
         | inr digit ↦ shown_in w 0 (spelled (Digits s.left s.digit) 0) ss j (omega arith) ∙ ap Value digit
       ])
-      | inr g ↦ shown_past w 0 (spelled (Digits s.left s.digit) 0) ss j (omega arith) ∙ ap (λ us. shown w (0 + s.left) us j) none ∙ nothing_from coding w (0 + s.left) j
+      | inr g ↦ shown_past w 0 (spelled (Digits s.left s.digit) 0) ss j (omega arith) ∙ ap (λ us. shown_at w (0 + s.left) us j) none ∙ nothing_from coding w (0 + s.left) j
     ]
 
-white_shown : (w : ℕ) (coding : Coding) (codes : List ℕ) (s : Spot) (j : ℕ) → IsWhite (length codes) s → shown w 0 (symbols_at coding codes s) j ≡ Value 0
+white_shown : (w : ℕ) (coding : Coding) (codes : List ℕ) (s : Spot) (j : ℕ) → IsWhite (length codes) s → shown_at w 0 (symbols_at coding codes s) j ≡ Value 0
 white_shown w coding codes s j white = ends_white w coding codes s j white.0 (elim white.1 [ inl none ↦ inl (omega (arith, none)) | inr digit ↦ inr digit ])
 
 white_spelled : (w : ℕ) (coding : Coding) (codes : List ℕ) (s : Spot) (j : ℕ) → s.at ≡ length codes → bytes_before w 0 (symbols_at coding codes s) j ≡ 0
@@ -136,7 +136,7 @@ even_taken p m k v after y some mark even from to =
     let below : i + 1 ≤ k = omega arith in
     let room : w * (i + 1) ≤ w * k = mul-le-mul_left w below in
     let place : w * y + (w - 1) ≡ w * m.next + (w * i + (w - 1)) = ap (λ q. w * q + (w - 1)) split ∙ omega arith in
-    ap is_nothing (ap (shown w 0 (symbols p.coding p.codes)) place ∙ mark.shown_is (w * i + (w - 1)) ∙ even.shows (w * i + (w - 1)) (omega (arith, room)))
+    ap is_unreadable (ap (shown_at w 0 (symbols p.coding p.codes)) place ∙ mark.shown_is (w * i + (w - 1)) ∙ even.shows (w * i + (w - 1)) (omega (arith, room)))
 
 -- the last of some rows
 last_row : (w k : ℕ) → 0 < k → w * (k - 1) + w ≡ w * k
@@ -144,11 +144,11 @@ last_row w k h = let f : k ≡ (k - 1) + 1 = omega arith in sym (ap (λ q. w * q
 
 -- the mark behind them
 pub even_mark : (p : Picture) (m n : RunMark) (k v : ℕ) → 0 < p.row_bytes → 0 < k → IsMark p m → Even (width_of p) p.coding p.codes m.here (k - 1) v n.before → Even (width_of p) p.coding p.codes m.here k v n.here → n.next ≡ m.next + k → IsMark p n
-unfolding place_of start_above is_repeat start_of
+unfolding place_of above_from is_repeat start_of
 even_mark p m n k v some rows h b e next = record {
   here = e.spot;
   whole = e.whole;
-  shown_is = λ j. ap (shown w 0 (symbols p.coding p.codes)) (ap (λ y. w * y + j) next ∙ omega arith) ∙ h.shown_is (w * k + j) ∙ e.next j;
+  shown_is = λ j. ap (shown_at w 0 (symbols p.coding p.codes)) (ap (λ y. w * y + j) next ∙ omega arith) ∙ h.shown_is (w * k + j) ∙ e.next j;
   bytes_is = λ j. ap (bytes_before w 0 (symbols p.coding p.codes)) (ap (λ y. w * y + j) next ∙ omega arith) ∙ h.bytes_is (w * k + j) ∙ ap (λ q. m.here.at + q) (e.bytes j)
       ∙ ap (λ q. q + bytes_before w 0 (symbols_at p.coding p.codes n.here) j) (sym e.at);
   before = b.spot;
@@ -171,10 +171,10 @@ even_mark p m n k v some rows h b e next = record {
     behind = omega arith
 
     place : (j : ℕ) → j < w → place_of p y j ≡ Value v
-    place j l = ap (shown w 0 (symbols p.coding p.codes)) (omega arith) ∙ h.shown_is (w * (k - 1) + j) ∙ e.shows (w * (k - 1) + j) (omega (arith, last))
+    place j l = ap (shown_at w 0 (symbols p.coding p.codes)) (omega arith) ∙ h.shown_is (w * (k - 1) + j) ∙ e.shows (w * (k - 1) + j) (omega (arith, last))
 
-    start : start_above p n.next ≡ m.here.at
-    start = ap (start_above p) behind ∙ ap (λ b. cond b (start_above p y) (start_of p y)) (ap is_above (place 0 (omega arith)))
+    start : above_from p n.next ≡ m.here.at
+    start = ap (above_from p) behind ∙ ap (λ b. cond b (above_from p y) (start_of p y)) (ap is_above (place 0 (omega arith)))
         ∙ ap (bytes_before w 0 (symbols p.coding p.codes)) (let f : w * y ≡ w * m.next + w * (k - 1) = omega arith in f) ∙ h.bytes_is (w * (k - 1)) ∙ ap (λ q. m.here.at + q) (e.none (w * (k - 1)) (omega (arith, last))) ∙ omega arith
 
 -- the cursor behind them

@@ -11,7 +11,7 @@ use Rattle.vp_format.specs.declared.rows.Coding.TheVariants.{RunLength, Binary}
 use Rattle.vp_format.specs.declared.rows.Spot.{Spot}
 use Rattle.vp_format.specs.declared.rows.RunMark.{RunMark}
 use Rattle.vp_format.specs.Codes.{symbols}
-use Rattle.vp_format.specs.Pictures.{Value, shown, bytes_before, value_of, Picture, width_of, place_of, value, is_refused, is_repeat, is_above, is_nothing, start_of, start_above, bound_of, nibble, answer, row_after}
+use Rattle.vp_format.specs.Pictures.{Value, shown_at, bytes_before, value_of, Picture, width_of, place_of, value, is_refused, is_repeat, is_above, is_unreadable, start_of, above_from, bound_of, nibble, answer, row_after}
 use Rattle.vp_format.specs.declared.rows.RunRows.TheInside.{Inside}
 use Rattle.vp_format.specs.Cursors.{symbols_at, above, picture_of, white_rest, Advanced, IsSpot, IsWhole, IsMark, ArePassed, IsCursor, Decoded}
 use Rattle.vp_format.proofs.Nibbles.{nibble_append, nibble_front, nibble_zero}
@@ -30,7 +30,7 @@ front_decoded coding codes row new rest s after end n room long d =
     record {
       spot = f.spot;
       whole = f.whole;
-      row = λ j l. at_end j l ∙ f.row j l ∙ ap (value_of (shown (2 * n) 0 (symbols_at coding codes s) j)) (nibble_front row n j l);
+      row = λ j l. at_end j l ∙ f.row j l ∙ ap (value_of (shown_at (2 * n) 0 (symbols_at coding codes s) j)) (nibble_front row n j l);
       own = λ b j l. f.own b j l ∙ ap Value (sym (at_end j l));
       again = f.again;
       next = f.next;
@@ -55,13 +55,13 @@ value-at p zero j = refl
 value-at p (suc y) j = refl
 
 -- what a marked row shows
-pub marked_place : (p : Picture) (m : RunMark) (j : ℕ) → IsMark p m → place_of p m.next j ≡ shown (width_of p) 0 (symbols_at p.coding p.codes m.here) j
+pub marked_place : (p : Picture) (m : RunMark) (j : ℕ) → IsMark p m → place_of p m.next j ≡ shown_at (width_of p) 0 (symbols_at p.coding p.codes m.here) j
 unfolding place_of
 marked_place p m j h = h.shown_is j
 
-pub marked_refusal : (p : Picture) (m : RunMark) → IsMark p m → is_refused p m.next ≡ is_nothing (shown (width_of p) 0 (symbols_at p.coding p.codes m.here) (width_of p - 1))
+pub marked_refusal : (p : Picture) (m : RunMark) → IsMark p m → is_refused p m.next ≡ is_unreadable (shown_at (width_of p) 0 (symbols_at p.coding p.codes m.here) (width_of p - 1))
 unfolding is_refused
-marked_refusal p m h = ap is_nothing (marked_place p m (width_of p - 1) h)
+marked_refusal p m h = ap is_unreadable (marked_place p m (width_of p - 1) h)
 
 -- where a marked row starts
 pub marked_start : (p : Picture) (m : RunMark) → IsMark p m → start_of p m.next ≡ m.here.at
@@ -72,7 +72,7 @@ marked_start p m h =
     ap (bytes_before w 0 (symbols p.coding p.codes)) e ∙ h.bytes_is 0 ∙ ap (λ k. m.here.at + k) (bytes_none w 0 (symbols_at p.coding p.codes m.here) 0 (omega arith)) ∙ omega arith
 
 -- a row that repeats, and one that doesn't
-pub marked_repeat : (p : Picture) (m : RunMark) → IsMark p m → is_repeat p m.next ≡ is_above (shown (width_of p) 0 (symbols_at p.coding p.codes m.here) 0)
+pub marked_repeat : (p : Picture) (m : RunMark) → IsMark p m → is_repeat p m.next ≡ is_above (shown_at (width_of p) 0 (symbols_at p.coding p.codes m.here) 0)
 unfolding is_repeat
 marked_repeat p m h = ap is_above (marked_place p m 0 h)
 
@@ -80,7 +80,7 @@ marked_repeat p m h = ap is_above (marked_place p m 0 h)
 pub symbols_none : (coding : Coding) (codes : List ℕ) → symbols coding (drop (length codes) codes) ≡ symbols coding []
 symbols_none coding codes = ap (symbols coding) (drop-length codes)
 
-pub nothing_shown : (coding : Coding) (w j : ℕ) → shown w 0 (symbols coding []) j ≡ Value 0
+pub nothing_shown : (coding : Coding) (w j : ℕ) → shown_at w 0 (symbols coding []) j ≡ Value 0
 nothing_shown RunLength w j = refl
 nothing_shown Binary w j = refl
 
@@ -93,16 +93,16 @@ whole_start RunLength at = tt
 whole_start Binary at = (refl, refl)
 
 pub first_mark : (p : Picture) → IsMark p (record { next = 0; here = record { left = 0; digit = 0; at = 0 }; before = record { left = 0; digit = 0; at = length p.codes } })
-unfolding start_above
+unfolding above_from
 first_mark p = record {
   here = record { at = omega arith; digit = omega arith };
   whole = whole_start p.coding 0;
-  shown_is = λ j. ap (shown w 0 (symbols p.coding p.codes)) (omega arith) ∙ sym (run_over w 0 0 0 (symbols p.coding p.codes) j (omega arith));
+  shown_is = λ j. ap (shown_at w 0 (symbols p.coding p.codes)) (omega arith) ∙ sym (run_over w 0 0 0 (symbols p.coding p.codes) j (omega arith));
   bytes_is = λ j. ap (bytes_before w 0 (symbols p.coding p.codes)) (omega arith) ∙ sym (bytes_over w 0 0 (symbols p.coding p.codes) j (omega arith)) ∙ omega arith;
   before = record { at = omega arith; digit = omega arith };
   whole_before = whole_start p.coding (length p.codes);
   before_is = refl;
-  above_is = λ j l. run_over w 0 0 0 _ j (omega arith) ∙ ap (λ ss. shown w 0 ss j) (symbols_none p.coding p.codes) ∙ nothing_shown p.coding w j;
+  above_is = λ j l. run_over w 0 0 0 _ j (omega arith) ∙ ap (λ ss. shown_at w 0 ss j) (symbols_none p.coding p.codes) ∙ nothing_shown p.coding w j;
   above_bytes = let e = bytes_over w 0 0 (symbols p.coding (drop (length p.codes) p.codes)) w (omega arith) ∙ ap (λ ss. bytes_before w 0 ss w) (symbols_none p.coding p.codes) ∙ nothing_spelled p.coding w w in omega (arith, e);
 }
   where
@@ -111,16 +111,16 @@ first_mark p = record {
 
 -- the row that was read
 pub read_value : (p : Picture) (m : RunMark) (end : RowEnd) (after : Spot) (old new : List ℕ) (j : ℕ) → IsMark p m → Decoded (width_of p) p.coding p.codes m.here end after old new → j < width_of p → nibble old j ≡ above p m.next j → nibble new j ≡ value p m.next j
-read_value p m end after old new j h d l e = d.row j l ∙ ap (value_of (shown (width_of p) 0 (symbols_at p.coding p.codes m.here) j)) e ∙ ap (λ c. value_of c (above p m.next j)) (sym (marked_place p m j h)) ∙ sym (value-at p m.next j)
+read_value p m end after old new j h d l e = d.row j l ∙ ap (value_of (shown_at (width_of p) 0 (symbols_at p.coding p.codes m.here) j)) e ∙ ap (λ c. value_of c (above p m.next j)) (sym (marked_place p m j h)) ∙ sym (value-at p m.next j)
 
 -- it is above the next one
 pub above_next : (p : Picture) (m n : RunMark) (j : ℕ) → n.next ≡ m.next + 1 → above p n.next j ≡ value p m.next j
 above_next p m n j next = ap (λ y. above p y j) (next ∙ add-one m.next)
 
 -- where the last row starts that isn't a repeat
-pub start_next : (p : Picture) (y : ℕ) → start_above p (y + 1) ≡ cond (is_repeat p y) (start_above p y) (start_of p y)
-unfolding start_above
-start_next p y = ap (start_above p) (add-one y)
+pub start_next : (p : Picture) (y : ℕ) → above_from p (y + 1) ≡ cond (is_repeat p y) (above_from p y) (start_of p y)
+unfolding above_from
+start_next p y = ap (above_from p) (add-one y)
 
 -- the mark behind it
 pub next_mark : (p : Picture) (m n : RunMark) (end : RowEnd) (after : Spot) (old new : List ℕ) → 0 < p.row_bytes → IsMark p m → Decoded (width_of p) p.coding p.codes m.here end after old new → ((j : ℕ) → j < width_of p → nibble old j ≡ above p m.next j)
@@ -128,14 +128,14 @@ pub next_mark : (p : Picture) (m n : RunMark) (end : RowEnd) (after : Spot) (old
 next_mark p m n end after old new some h d kept next here before = record {
   here = subst (IsSpot p.codes) (sym here) d.spot;
   whole = subst (IsWhole p.coding) (sym here) d.whole;
-  shown_is = λ j. ap (shown w 0 (symbols p.coding p.codes)) (ap (λ y. w * y + j) next ∙ omega arith) ∙ h.shown_is (w + j) ∙ d.next j ∙ ap (λ s. shown w 0 (symbols_at p.coding p.codes s) j) (sym here);
+  shown_is = λ j. ap (shown_at w 0 (symbols p.coding p.codes)) (ap (λ y. w * y + j) next ∙ omega arith) ∙ h.shown_is (w + j) ∙ d.next j ∙ ap (λ s. shown_at w 0 (symbols_at p.coding p.codes s) j) (sym here);
   bytes_is = λ j. ap (bytes_before w 0 (symbols p.coding p.codes)) (ap (λ y. w * y + j) next ∙ omega arith) ∙ h.bytes_is (w + j) ∙ d.bytes j ∙ ap (λ s. s.at + bytes_before w 0 (symbols_at p.coding p.codes s) j) (sym here);
   before = by_end (λ s. IsSpot p.codes s) (λ _. h.before) (λ _. h.here);
   whole_before = by_end (λ s. IsWhole p.coding s) (λ _. h.whole_before) (λ _. h.whole);
-  before_is = by_end (λ s. s.at ≡ start_above p n.next)
-      (λ e. h.before_is ∙ sym (ap (start_above p) next ∙ start_next p m.next ∙ ap (λ b. cond b (start_above p m.next) (start_of p m.next)) (marked_repeat p m h ∙ ap is_above (d.again e 0 (omega arith)))))
-      (λ e. sym (marked_start p m h) ∙ sym (ap (start_above p) next ∙ start_next p m.next ∙ ap (λ b. cond b (start_above p m.next) (start_of p m.next)) (marked_repeat p m h ∙ ap is_above (d.own e 0 (omega arith)))));
-  above_is = λ j l. by_end (λ s. shown w 0 (symbols_at p.coding p.codes s) j ≡ Value (value p m.next j))
+  before_is = by_end (λ s. s.at ≡ above_from p n.next)
+      (λ e. h.before_is ∙ sym (ap (above_from p) next ∙ start_next p m.next ∙ ap (λ b. cond b (above_from p m.next) (start_of p m.next)) (marked_repeat p m h ∙ ap is_above (d.again e 0 (omega arith)))))
+      (λ e. sym (marked_start p m h) ∙ sym (ap (above_from p) next ∙ start_next p m.next ∙ ap (λ b. cond b (above_from p m.next) (start_of p m.next)) (marked_repeat p m h ∙ ap is_above (d.own e 0 (omega arith)))));
+  above_is = λ j l. by_end (λ s. shown_at w 0 (symbols_at p.coding p.codes s) j ≡ Value (value p m.next j))
       (λ e. h.above_is j l ∙ ap Value (sym (value-at p m.next j ∙ ap (λ c. value_of c (above p m.next j)) (marked_place p m j h ∙ d.again e j l))))
       (λ e. d.own e j l ∙ ap Value (read_value p m end after old new j h d l (kept j l))) ∙ ap Value (sym (above_next p m n j next));
   above_bytes = by_end (λ s. bytes_before w 0 (symbols_at p.coding p.codes s) w ≤ n.here.at - s.at)
@@ -166,28 +166,28 @@ pub answer_row : (p : Picture) (y : ℕ) → y < p.rows → is_refused p y ≡ f
 answer_row p y h e = rw (lt-ltb y p.rows h, e) (refl, refl)
 
 -- reading the row at the place before gives the row above
-pub above_read : (p : Picture) (m : RunMark) (r : Result RowEnd Fault) (at : RowEnd → Spot) (old new : List ℕ) (j : ℕ) → IsMark p m → is_err r ≡ is_nothing (shown (width_of p) 0 (symbols_at p.coding p.codes m.before) (width_of p - 1))
+pub above_read : (p : Picture) (m : RunMark) (r : Result RowEnd Fault) (at : RowEnd → Spot) (old new : List ℕ) (j : ℕ) → IsMark p m → is_err r ≡ is_unreadable (shown_at (width_of p) 0 (symbols_at p.coding p.codes m.before) (width_of p - 1))
     → IfOk r (λ end. Decoded (width_of p) p.coding p.codes m.before end (at end) old new) → j < width_of p → nibble new j ≡ above p m.next j
 above_read p m (Ok end) at old new j h e d l = d.row j l ∙ ap (λ c. value_of c (nibble old j)) (h.above_is j l)
-above_read p m (Err f) at old new j h e d l = absurd (true≢false (e ∙ ap is_nothing (h.above_is (width_of p - 1) (omega arith))))
+above_read p m (Err f) at old new j h e d l = absurd (true≢false (e ∙ ap is_unreadable (h.above_is (width_of p - 1) (omega arith))))
 
 -- no byte stands before the bound of the first row
 pub first_bound : (p : Picture) → bound_of p 0 ≡ 0
-unfolding bound_of start_above start_of
+unfolding bound_of above_from start_of
 first_bound p =
     let e : width_of p * 0 ≡ 0 = omega arith in
     let none = ap (bytes_before (width_of p) 0 (symbols p.coding p.codes)) e ∙ bytes_none (width_of p) 0 (symbols p.coding p.codes) 0 (omega arith) in
     omega (arith, none)
 
 -- and reads as many bytes as its symbols have
-pub above_reads : (p : Picture) (m : RunMark) (r : Result RowEnd Fault) (at : ℕ) (old new : List ℕ) → 0 < p.row_bytes → IsMark p m → is_err r ≡ is_nothing (shown (width_of p) 0 (symbols_at p.coding p.codes m.before) (width_of p - 1))
+pub above_reads : (p : Picture) (m : RunMark) (r : Result RowEnd Fault) (at : ℕ) (old new : List ℕ) → 0 < p.row_bytes → IsMark p m → is_err r ≡ is_unreadable (shown_at (width_of p) 0 (symbols_at p.coding p.codes m.before) (width_of p - 1))
     → IfOk r (λ end. Decoded (width_of p) p.coding p.codes m.before end (record { left = end.left; digit = end.digit; at = at }) old new) → m.before.at + bytes_before (width_of p) 0 (symbols_at p.coding p.codes m.before) (width_of p) ≡ at
 above_reads p m (Ok end) at old new some h e d =
     let w = width_of p in
     let far : w ≡ w + 0 = omega arith in
     let after : Spot = record { left = end.left; digit = end.digit; at = at } in
     ap (λ q. m.before.at + bytes_before w 0 (symbols_at p.coding p.codes m.before) q) far ∙ d.bytes 0 ∙ ap (λ k. at + k) (bytes_none w 0 (symbols_at p.coding p.codes after) 0 (omega arith)) ∙ omega arith
-above_reads p m (Err f) at old new some h e d = absurd (true≢false (e ∙ ap is_nothing (h.above_is (width_of p - 1) (omega arith))))
+above_reads p m (Err f) at old new some h e d = absurd (true≢false (e ∙ ap is_unreadable (h.above_is (width_of p - 1) (omega arith))))
 
 -- the bound of a marked row
 pub marked_bound : (p : Picture) (m : RunMark) → IsMark p m → bound_of p m.next ≡ min m.before.at m.here.at
@@ -222,13 +222,13 @@ first_cursor c some short at read first going white mark passed =
 -- a cursor that goes on at a mark, behind the row above
 pub resumed_cursor : (c : Inside) (bytes from : List ℕ) (r : Result RowEnd Fault) (at : ℕ) (old : List ℕ) → c.codes.bytes.now ≡ bytes → from ≡ bytes → 0 < c.row_bytes → c.row_bytes ≤ 1024
     → IsMark (record { coding = c.coding; codes = bytes; row_bytes = c.row_bytes; rows = c.rows }) c.mark
-    → is_err r ≡ is_nothing (shown (2 * c.row_bytes) 0 (symbols_at c.coding from c.mark.before) (2 * c.row_bytes - 1))
+    → is_err r ≡ is_unreadable (shown_at (2 * c.row_bytes) 0 (symbols_at c.coding from c.mark.before) (2 * c.row_bytes - 1))
     → IfOk r (λ end. Decoded (2 * c.row_bytes) c.coding from c.mark.before end (record { left = end.left; digit = end.digit; at = at }) old c.row)
     → c.codes.read + c.mark.before.at ≡ at → c.codes.at ≡ c.mark.here.at → c.first ≡ c.mark.next → c.refused ≡ false → c.passed ≡ 1 → IsCursor c
 resumed_cursor c bytes from r at old same also some short mark ans dec read here first going passed =
     let p = picture_of c in
     let m = subst (λ (b : List ℕ). IsMark (record { coding = c.coding; codes = b; row_bytes = c.row_bytes; rows = c.rows }) c.mark) (sym same) mark in
-    let answered = subst (λ (b : List ℕ). is_err r ≡ is_nothing (shown (2 * c.row_bytes) 0 (symbols_at c.coding b c.mark.before) (2 * c.row_bytes - 1))) (also ∙ sym same) ans in
+    let answered = subst (λ (b : List ℕ). is_err r ≡ is_unreadable (shown_at (2 * c.row_bytes) 0 (symbols_at c.coding b c.mark.before) (2 * c.row_bytes - 1))) (also ∙ sym same) ans in
     let decoded = subst (λ (b : List ℕ). IfOk r (λ end. Decoded (2 * c.row_bytes) c.coding b c.mark.before end (record { left = end.left; digit = end.digit; at = at }) old c.row)) (also ∙ sym same) dec in
     let taken = above_reads p c.mark r at old c.row some m answered decoded in
     let few = m.above_bytes in
@@ -276,7 +276,7 @@ next_cursor c n end i going goes a d coding row_bytes rows first next here befor
     }
 
 -- the cursor behind a refused row
-pub stopped_cursor : (c n : Inside) → IsCursor c → c.refused ≡ false → n.refused ≡ true → Advanced c.codes n.codes → is_nothing (shown (2 * c.row_bytes) 0 (symbols_at c.coding c.codes.bytes.now c.mark.here) (2 * c.row_bytes - 1)) ≡ true
+pub stopped_cursor : (c n : Inside) → IsCursor c → c.refused ≡ false → n.refused ≡ true → Advanced c.codes n.codes → is_unreadable (shown_at (2 * c.row_bytes) 0 (symbols_at c.coding c.codes.bytes.now c.mark.here) (2 * c.row_bytes - 1)) ≡ true
     → n.coding ≡ c.coding → n.row_bytes ≡ c.row_bytes → n.rows ≡ c.rows → n.first ≡ c.first → n.mark ≡ c.mark → n.passed ≡ c.passed → IsCursor n
 stopped_cursor c n i going stops a refused coding row_bytes rows first mark passed =
     let p = picture_of c in

@@ -8,7 +8,7 @@ use Rattle.vp_format.specs.declared.codes.Symbol.{Symbol}
 use Rattle.vp_format.specs.declared.codes.Symbol.TheVariants.{Digits, ToEnd, Again, Refused}
 use Rattle.vp_format.specs.declared.reading.Codes.{Codes}
 use Rattle.vp_format.specs.Codes.{code_of, Spelled, spelled, joined, symbols, symbols_behind}
-use Rattle.vp_format.specs.Pictures.{AsAbove, Nothing, shown, shows, end_of, is_nothing, Picture, width_of, place_of, is_refused, row_after, unless_fault, passing}
+use Rattle.vp_format.specs.Pictures.{AsAbove, Unreadable, shown_at, shows, end_of, is_unreadable, Picture, width_of, place_of, is_refused, row_after, unless_fault, passing}
 use Rattle.vp_format.specs.Cursors.{digit_value, symbols_from, InHand, IsReading, Passed}
 use Rattle.vp_format.proofs.Reached.{shown_in, shown_past, in_hand}
 use Rattle.vp_format.proofs.Quick.{plain_symbol}
@@ -23,9 +23,9 @@ pub passed_at : (w : ℕ) (all : List Spelled) (x y : ℕ) (ss left : List Spell
 passed_at w all x y ss left d e r = subst (λ q. Passed w all q left) d (subst (λ p. Passed w all x p) e r)
 
 -- a symbol that isn't refused
-symbol_passed : (w : ℕ) (all : List Spelled) (x k : ℕ) (s : Symbol) (left : List Spelled) → x ≤ end_of w x s → is_nothing (shows w x s) ≡ false → Passed w all x (spelled s k ∷ left) → Passed w all (end_of w x s) left
+symbol_passed : (w : ℕ) (all : List Spelled) (x k : ℕ) (s : Symbol) (left : List Spelled) → x ≤ end_of w x s → is_unreadable (shows w x s) ≡ false → Passed w all x (spelled s k ∷ left) → Passed w all (end_of w x s) left
 symbol_passed w all x k s left order taken r = record {
-  taken = λ j l. elim (cases_lt j x) [ inl b ↦ r.taken j b | inr b ↦ ap is_nothing (r.ahead j b ∙ shown_in w x (spelled s k) left j l) ∙ taken ];
+  taken = λ j l. elim (cases_lt j x) [ inl b ↦ r.taken j b | inr b ↦ ap is_unreadable (r.ahead j b ∙ shown_in w x (spelled s k) left j l) ∙ taken ];
   ahead = λ j l. r.ahead j (omega (arith, order, l)) ∙ shown_past w x (spelled s k) left j l;
 }
 
@@ -41,7 +41,7 @@ fill_passed w all x v k left some r = passed_at w all _ _ left left (row_end w x
 
 pub again_passed : (w : ℕ) (all : List Spelled) (x k : ℕ) (left : List Spelled) → 0 < w → x % w ≡ 0 → Passed w all x (spelled Again k ∷ left) → Passed w all (x - x % w + w) left
 again_passed w all x k left some begins r =
-    passed_at w all _ _ left left (row_end w x) refl (symbol_passed w all x k Again left (omega (arith, lt-div-mul-add {a = x} {b = w} some, row_end w x)) (ap (λ b. is_nothing (cond b AsAbove Nothing)) (eq-eqb (x % w) 0 begins)) r)
+    passed_at w all _ _ left left (row_end w x) refl (symbol_passed w all x k Again left (omega (arith, lt-div-mul-add {a = x} {b = w} some, row_end w x)) (ap (λ b. is_unreadable (cond b AsAbove Unreadable)) (eq-eqb (x % w) 0 begins)) r)
 
 -- so many plain digits
 pub plain_passed : (w : ℕ) (all : List Spelled) (x : ℕ) (codes : List ℕ) (at k : ℕ) → at + k ≤ length codes → ((i : ℕ) → i < k → digit_value (code_of (get_or codes (at + i) 0)) < 16)
@@ -72,10 +72,10 @@ codes_passed p x at some ends r = all_taken p (λ y l.
     let w = width_of p in
     let j = w * y + (w - 1) in
     let none : symbols_from p.codes at ≡ [] = ap (λ k. symbols_from p.codes k) ends ∙ ap (λ cs. symbols_behind cs 0 0) (drop-length p.codes) in
-    elim (cases_lt j x) [ inl b ↦ r.taken j b | inr b ↦ ap is_nothing (r.ahead j b ∙ ap (λ ss. shown w x ss j) none) ])
+    elim (cases_lt j x) [ inl b ↦ r.taken j b | inr b ↦ ap is_unreadable (r.ahead j b ∙ ap (λ ss. shown_at w x ss j) none) ])
 
 -- a refused symbol starts in one of the rows
-refused_passed : (p : Picture) (x k : ℕ) (s : Symbol) (left : List Spelled) → 0 < width_of p → x < width_of p * p.rows → end_of (width_of p) x s ≡ (x / width_of p + 1) * width_of p → shows (width_of p) x s ≡ Nothing
+refused_passed : (p : Picture) (x k : ℕ) (s : Symbol) (left : List Spelled) → 0 < width_of p → x < width_of p * p.rows → end_of (width_of p) x s ≡ (x / width_of p + 1) * width_of p → shows (width_of p) x s ≡ Unreadable
     → Passed (width_of p) (symbols p.coding p.codes) x (spelled s k ∷ left) → passing p 0 p.rows ≡ Err Graphic
 unfolding is_refused place_of
 refused_passed p x k s left some inside ends nothing r =
@@ -86,7 +86,7 @@ refused_passed p x k s left some inside ends nothing r =
     let below : y < p.rows = (div-lt_iff_lt-mul {k = w} some).1 (omega (arith, inside, mul_comm w p.rows)) in
     let from : x ≤ j = omega (arith, lt-div-mul-add {a = x} {b = w} some, turn, some) in
     let to : j < end_of w x s = omega (arith, ends, turn, some) in
-    let refused : is_refused p y ≡ true = ap is_nothing (r.ahead j from ∙ shown_in w x (spelled s k) left j to ∙ nothing) in
+    let refused : is_refused p y ≡ true = ap is_unreadable (r.ahead j from ∙ shown_in w x (spelled s k) left j to ∙ nothing) in
     let before : (z : ℕ) → 0 ≤ z → z < 0 + y → is_refused p z ≡ false = λ z _ l. r.taken (w * z + (w - 1)) (omega (arith, last_before w z y some (omega (arith, l)), turn, div-mul-le_self x w)) in
     let there : 0 + y ≡ y = omega arith in
     (rows_read p 0 p.rows y (omega (arith, below)) (omega (arith, below)) before).0 ∙ ap (λ z. passing p z (p.rows - y)) there ∙ (first_read p y (p.rows - y) (omega (arith, below))).0
@@ -98,7 +98,7 @@ other_passed p x k left some inside r = refused_passed p x k Refused left some i
 
 -- `:` inside a row
 pub inside_passed : (p : Picture) (x k : ℕ) (left : List Spelled) → 0 < width_of p → x < width_of p * p.rows → 0 < x % width_of p → Passed (width_of p) (symbols p.coding p.codes) x (spelled Again k ∷ left) → passing p 0 p.rows ≡ Err Graphic
-inside_passed p x k left some inside within r = refused_passed p x k Again left some inside refl (ap (λ b. cond b AsAbove Nothing) (ne_eqb (x % width_of p) 0 (λ e. omega (arith, e, within)))) r
+inside_passed p x k left some inside within r = refused_passed p x k Again left some inside refl (ap (λ b. cond b AsAbove Unreadable) (ne_eqb (x % width_of p) 0 (λ e. omega (arith, e, within)))) r
 
 -- what is passed of a reader's bytes
 pub step_passed : (w : ℕ) (all : List Spelled) (from to : ℕ) (codes bytes : List ℕ) (first at : ℕ) (old c : Codes) → bytes ≡ old.bytes.now → old.bytes.now ≡ codes → first ≡ old.at → c.at ≡ at

@@ -12,7 +12,7 @@ use Rattle.vp_format.specs.declared.rows.Coding.TheVariants.{RunLength, Binary}
 use Rattle.vp_format.specs.declared.rows.Spot.{Spot}
 use Rattle.vp_format.specs.declared.rows.RunRows.TheInside.{Inside}
 use Rattle.vp_format.specs.Codes.{code_of, spelled, alone, joined, symbols, symbols_behind, binary_symbols}
-use Rattle.vp_format.specs.Pictures.{Value, shown, bytes_before, start_of}
+use Rattle.vp_format.specs.Pictures.{Value, shown_at, bytes_before, start_of}
 use Rattle.vp_format.specs.Cursors.{symbols_at, picture_of, is_white, white_rest, Advanced, Decoded, ArePassed, IsCursor}
 use Rattle.vp_format.proofs.Even.{white_is, is_white_at, ends_white}
 use Rattle.vp_format.proofs.Reached.{shown_in, bytes_run, bytes_past, bytes_none}
@@ -63,7 +63,7 @@ module _ (w : ℕ) (coding : Coding) (codes : List ℕ) (s after : Spot) (end : 
   pub white_next : s.at ≡ length codes → ((s.left ≤ w) ⊎ (s.digit ≡ 0)) → is_white (length codes) after ≡ true
   white_next ends rest =
       let here : after.at ≡ length codes = omega (arith, next_start, ends, d.spot.at) in
-      let first : shown w 0 (symbols_at coding codes after) 0 ≡ Value 0 = sym (d.next 0) ∙ ends_white w coding codes s (w + 0) ends (elim rest [ inl short ↦ inl (omega (arith, short)) | inr digit ↦ inr digit ]) in
+      let first : shown_at w 0 (symbols_at coding codes after) 0 ≡ Value 0 = sym (d.next 0) ∙ ends_white w coding codes s (w + 0) ends (elim rest [ inl short ↦ inl (omega (arith, short)) | inr digit ↦ inr digit ]) in
       white_is (length codes) after (
         here,
         elim (cases_lt 0 after.left) [

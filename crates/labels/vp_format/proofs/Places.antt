@@ -6,7 +6,7 @@ use Rattle.vp_format.specs.declared.codes.Code.{Code}
 use Rattle.vp_format.specs.declared.codes.Code.TheVariants.{Digit, Count, Fill, Above, Other}
 use Rattle.vp_format.specs.declared.codes.Symbol.TheVariants.{Digits, ToEnd, Again, Refused}
 use Rattle.vp_format.specs.Codes.{code_of, Spelled, spelled, joined, symbols_behind}
-use Rattle.vp_format.specs.Pictures.{Value, AsAbove, Nothing, shown}
+use Rattle.vp_format.specs.Pictures.{Value, AsAbove, Unreadable, shown_at}
 use Rattle.vp_format.specs.Reads.{AreDigits, no_digit, digit, AreCounts, no_count, count, goes_on, ReadTo, start, run, row, again}
 use Rattle.vp_format.proofs.Reached.{shown_in, shown_past}
 
@@ -47,47 +47,47 @@ end_behind : (w q : ℕ) → 0 < w → q < (q / w + 1) * w
 end_behind w q h = let e : (q / w + 1) * w ≡ q / w * w + w = omega arith in rw e (lt-div-mul-add h)
 
 -- behind accepted codes the others begin at their place
-pub read_on : (width : ℕ) {front : List ℕ} {place : ℕ} (back : List ℕ) (j : ℕ) → 0 < width → ReadTo width front place → place ≤ j → shown width 0 (symbols (front ++ back)) j ≡ shown width place (symbols back) j
+pub read_on : (width : ℕ) {front : List ℕ} {place : ℕ} (back : List ℕ) (j : ℕ) → 0 < width → ReadTo width front place → place ≤ j → shown_at width 0 (symbols (front ++ back)) j ≡ shown_at width place (symbols back) j
 read_on width back j w start h = refl
 read_on width back j w (run front counts n b v q r g e) h =
-    ap (λ codes. shown width 0 (symbols codes) j) (append_assoc front (counts ++ b ∷ []) back ∙ ap (λ codes. front ++ codes) (append_assoc counts (b ∷ []) back))
-    ∙ read_on width (counts ++ b ∷ back) j w r (omega arith) ∙ ap (λ ss. shown width q ss j) (symbols_run back 0 0 n b v g e (omega arith)) ∙ shown_past width q (spelled (Digits (max n 1) v) (0 + length counts + 1)) (symbols back) j h
+    ap (λ codes. shown_at width 0 (symbols codes) j) (append_assoc front (counts ++ b ∷ []) back ∙ ap (λ codes. front ++ codes) (append_assoc counts (b ∷ []) back))
+    ∙ read_on width (counts ++ b ∷ back) j w r (omega arith) ∙ ap (λ ss. shown_at width q ss j) (symbols_run back 0 0 n b v g e (omega arith)) ∙ shown_past width q (spelled (Digits (max n 1) v) (0 + length counts + 1)) (symbols back) j h
 read_on width back j w (row front b v q r e) h =
-    ap (λ codes. shown width 0 (symbols codes) j) (append_assoc front (b ∷ []) back)
-    ∙ read_on width (b ∷ back) j w r (omega (arith, end_behind width q w)) ∙ ap (λ ss. shown width q ss j) (symbols_at_code b 0 0 (Fill v) back e) ∙ shown_past width q (spelled (ToEnd v) 1) (symbols back) j h
+    ap (λ codes. shown_at width 0 (symbols codes) j) (append_assoc front (b ∷ []) back)
+    ∙ read_on width (b ∷ back) j w r (omega (arith, end_behind width q w)) ∙ ap (λ ss. shown_at width q ss j) (symbols_at_code b 0 0 (Fill v) back e) ∙ shown_past width q (spelled (ToEnd v) 1) (symbols back) j h
 read_on width back j w (again front b q r e s) h =
-    ap (λ codes. shown width 0 (symbols codes) j) (append_assoc front (b ∷ []) back)
-    ∙ read_on width (b ∷ back) j w r (omega (arith, end_behind width q w)) ∙ ap (λ ss. shown width q ss j) (symbols_at_code b 0 0 Above back e) ∙ shown_past width q (spelled Again 1) (symbols back) j h
+    ap (λ codes. shown_at width 0 (symbols codes) j) (append_assoc front (b ∷ []) back)
+    ∙ read_on width (b ∷ back) j w r (omega (arith, end_behind width q w)) ∙ ap (λ ss. shown_at width q ss j) (symbols_at_code b 0 0 Above back e) ∙ shown_past width q (spelled Again 1) (symbols back) j h
 
 -- digits alone
-pub digits_shown : {codes values : List ℕ} (width at k : ℕ) → AreDigits codes values → shown width at (symbols codes) (at + k) ≡ Value (get_or values k 0)
+pub digits_shown : {codes values : List ℕ} (width at k : ℕ) → AreDigits codes values → shown_at width at (symbols codes) (at + k) ≡ Value (get_or values k 0)
 digits_shown width at k no_digit = refl
-digits_shown width at zero (digit b v codes values e h) = ap (λ ss. shown width at ss (at + 0)) (symbols_at_code b 0 0 (Digit v) codes e) ∙ shown_in width at (spelled (Digits 1 v) 1) (symbols codes) (at + 0) (omega arith)
-digits_shown width at (suc k) (digit b v codes values e h) = ap (λ ss. shown width at ss (at + suc k)) (symbols_at_code b 0 0 (Digit v) codes e) ∙ shown_past width at (spelled (Digits 1 v) 1) (symbols codes) (at + suc k) (omega arith)
-    ∙ ap (shown width (at + 1) (symbols codes)) (omega arith) ∙ digits_shown width (at + 1) k h
+digits_shown width at zero (digit b v codes values e h) = ap (λ ss. shown_at width at ss (at + 0)) (symbols_at_code b 0 0 (Digit v) codes e) ∙ shown_in width at (spelled (Digits 1 v) 1) (symbols codes) (at + 0) (omega arith)
+digits_shown width at (suc k) (digit b v codes values e h) = ap (λ ss. shown_at width at ss (at + suc k)) (symbols_at_code b 0 0 (Digit v) codes e) ∙ shown_past width at (spelled (Digits 1 v) 1) (symbols codes) (at + suc k) (omega arith)
+    ∙ ap (shown_at width (at + 1) (symbols codes)) (omega arith) ∙ digits_shown width (at + 1) k h
 
 -- what the codes behind accepted ones show
-pub run_read : (width : ℕ) (front counts back : List ℕ) (q n b v j : ℕ) → 0 < width → ReadTo width front q → AreCounts counts n → code_of b ≡ Digit v → q ≤ j → j < q + max n 1 → shown width 0 (symbols (front ++ (counts ++ b ∷ back))) j ≡ Value v
-run_read width front counts back q n b v j w r g e h l = read_on width (counts ++ b ∷ back) j w r h ∙ ap (λ ss. shown width q ss j) (symbols_run back 0 0 n b v g e (omega arith)) ∙ shown_in width q (spelled (Digits (max n 1) v) (0 + length counts + 1)) (symbols back) j l
+pub run_read : (width : ℕ) (front counts back : List ℕ) (q n b v j : ℕ) → 0 < width → ReadTo width front q → AreCounts counts n → code_of b ≡ Digit v → q ≤ j → j < q + max n 1 → shown_at width 0 (symbols (front ++ (counts ++ b ∷ back))) j ≡ Value v
+run_read width front counts back q n b v j w r g e h l = read_on width (counts ++ b ∷ back) j w r h ∙ ap (λ ss. shown_at width q ss j) (symbols_run back 0 0 n b v g e (omega arith)) ∙ shown_in width q (spelled (Digits (max n 1) v) (0 + length counts + 1)) (symbols back) j l
 
-pub code_read : (width : ℕ) (front back : List ℕ) (q b j : ℕ) (c : Code) → 0 < width → ReadTo width front q → code_of b ≡ c → q ≤ j → shown width 0 (symbols (front ++ b ∷ back)) j ≡ shown width q (joined c 0 0 (symbols_behind back)) j
-code_read width front back q b j c w r e h = read_on width (b ∷ back) j w r h ∙ ap (λ ss. shown width q ss j) (symbols_at_code b 0 0 c back e)
+pub code_read : (width : ℕ) (front back : List ℕ) (q b j : ℕ) (c : Code) → 0 < width → ReadTo width front q → code_of b ≡ c → q ≤ j → shown_at width 0 (symbols (front ++ b ∷ back)) j ≡ shown_at width q (joined c 0 0 (symbols_behind back)) j
+code_read width front back q b j c w r e h = read_on width (b ∷ back) j w r h ∙ ap (λ ss. shown_at width q ss j) (symbols_at_code b 0 0 c back e)
 
-pub end_read : (width : ℕ) (front : List ℕ) (q j : ℕ) → 0 < width → ReadTo width front q → q ≤ j → shown width 0 (symbols front) j ≡ Value 0
-end_read width front q j w r h = ap (λ codes. shown width 0 (symbols codes) j) (sym (append-nil front)) ∙ read_on width [] j w r h
+pub end_read : (width : ℕ) (front : List ℕ) (q j : ℕ) → 0 < width → ReadTo width front q → q ≤ j → shown_at width 0 (symbols front) j ≡ Value 0
+end_read width front q j w r h = ap (λ codes. shown_at width 0 (symbols codes) j) (sym (append-nil front)) ∙ read_on width [] j w r h
 
 -- a refused symbol shows nothing where it starts
-pub refused_at : (width q k : ℕ) (ss rest : List Spelled) → 0 < width → ss ≡ spelled Refused k ∷ rest → shown width q ss q ≡ Nothing
-refused_at width q k ss rest w e = ap (λ ts. shown width q ts q) e ∙ shown_in width q (spelled Refused k) rest q (end_behind width q w)
+pub refused_at : (width q k : ℕ) (ss rest : List Spelled) → 0 < width → ss ≡ spelled Refused k ∷ rest → shown_at width q ss q ≡ Unreadable
+refused_at width q k ss rest w e = ap (λ ts. shown_at width q ts q) e ∙ shown_in width q (spelled Refused k) rest q (end_behind width q w)
 
-pub counted_read : (width : ℕ) (front counts back : List ℕ) (q n b : ℕ) → 0 < width → ReadTo width front q → AreCounts counts n → 0 < n → goes_on (code_of b) ≡ false → shown width 0 (symbols (front ++ (counts ++ b ∷ back))) q ≡ Nothing
+pub counted_read : (width : ℕ) (front counts back : List ℕ) (q n b : ℕ) → 0 < width → ReadTo width front q → AreCounts counts n → 0 < n → goes_on (code_of b) ≡ false → shown_at width 0 (symbols (front ++ (counts ++ b ∷ back))) q ≡ Unreadable
 counted_read width front counts back q n b w r g h e = read_on width (counts ++ b ∷ back) q w r (omega arith) ∙ refused_at width q _ _ _ w (symbols_counted back 0 0 b g (omega arith) e)
 
-pub cut_read : (width : ℕ) (front counts : List ℕ) (q n : ℕ) → 0 < width → ReadTo width front q → AreCounts counts n → 0 < n → shown width 0 (symbols (front ++ counts)) q ≡ Nothing
+pub cut_read : (width : ℕ) (front counts : List ℕ) (q n : ℕ) → 0 < width → ReadTo width front q → AreCounts counts n → 0 < n → shown_at width 0 (symbols (front ++ counts)) q ≡ Unreadable
 cut_read width front counts q n w r g h = read_on width counts q w r (omega arith) ∙ refused_at width q _ _ _ w (symbols_cut 0 0 g (omega arith))
 
-pub inside_read : (width : ℕ) (q : ℕ) (rest : List Spelled) → 0 < width → q % width ≢ 0 → shown width q (spelled Again 1 ∷ rest) q ≡ Nothing
-inside_read width q rest w n = shown_in width q (spelled Again 1) rest q (end_behind width q w) ∙ ap (λ b. cond b AsAbove Nothing) (ne_eqb (q % width) 0 n)
+pub inside_read : (width : ℕ) (q : ℕ) (rest : List Spelled) → 0 < width → q % width ≢ 0 → shown_at width q (spelled Again 1 ∷ rest) q ≡ Unreadable
+inside_read width q rest w n = shown_in width q (spelled Again 1) rest q (end_behind width q w) ∙ ap (λ b. cond b AsAbove Unreadable) (ne_eqb (q % width) 0 n)
 
-pub again_read : (width q : ℕ) (rest : List Spelled) (j : ℕ) → q % width ≡ 0 → j < (q / width + 1) * width → shown width q (spelled Again 1 ∷ rest) j ≡ AsAbove
-again_read width q rest j s l = shown_in width q (spelled Again 1) rest j l ∙ ap (λ r. cond (eqb r 0) AsAbove Nothing) s
+pub again_read : (width q : ℕ) (rest : List Spelled) (j : ℕ) → q % width ≡ 0 → j < (q / width + 1) * width → shown_at width q (spelled Again 1 ∷ rest) j ≡ AsAbove
+again_read width q rest j s l = shown_in width q (spelled Again 1) rest j l ∙ ap (λ r. cond (eqb r 0) AsAbove Unreadable) s

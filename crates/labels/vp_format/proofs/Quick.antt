@@ -10,7 +10,7 @@ use Rattle.vp_format.specs.declared.codes.Code.{Code}
 use Rattle.vp_format.specs.declared.codes.Code.TheVariants.{Digit, Count, Fill, Above, Other}
 use Rattle.vp_format.specs.declared.codes.Symbol.TheVariants.{Digits}
 use Rattle.vp_format.specs.Codes.{code_of, Spelled, spelled, joined, symbols_behind}
-use Rattle.vp_format.specs.Pictures.{Value, shown, value_of, is_above, nibble}
+use Rattle.vp_format.specs.Pictures.{Value, shown_at, value_of, is_above, nibble}
 use Rattle.vp_format.specs.declared.row.RowEnd.{RowEnd}
 use Rattle.vp_format.specs.Cursors.{count_value, digit_value, symbols_from, symbols_at, Filled, Reached, Decoded}
 use Rattle.vp_format.proofs.Reached.{run_over, run_reached, run_done, reached_at, start_reached, digit_is, digit_in_hand}
@@ -164,12 +164,12 @@ one_most r true e = omega (arith, e)
 one_most r false e = omega (arith, e)
 
 -- what the first place of a row shows that begins with a digit
-shown_first : (w : ℕ) (codes : List ℕ) (s : Spot) → s.left ≡ 0 → s.at < length codes → digit_value (code_of (get_or codes s.at 0)) < 16 → shown w 0 (symbols_at RunLength codes s) 0 ≡ Value (digit_value (code_of (get_or codes s.at 0)))
+shown_first : (w : ℕ) (codes : List ℕ) (s : Spot) → s.left ≡ 0 → s.at < length codes → digit_value (code_of (get_or codes s.at 0)) < 16 → shown_at w 0 (symbols_at RunLength codes s) 0 ≡ Value (digit_value (code_of (get_or codes s.at 0)))
 shown_first w codes s none inside digit =
-    ap (λ n. shown w 0 (spelled (Digits n s.digit) 0 ∷ symbols_from codes s.at) 0) none ∙ run_over w 0 s.digit 0 (symbols_from codes s.at) 0 (omega arith) ∙ ap (λ ss. shown w 0 ss 0) (plain_symbol codes s.at inside digit)
+    ap (λ n. shown_at w 0 (spelled (Digits n s.digit) 0 ∷ symbols_from codes s.at) 0) none ∙ run_over w 0 s.digit 0 (symbols_from codes s.at) 0 (omega arith) ∙ ap (λ ss. shown_at w 0 ss 0) (plain_symbol codes s.at inside digit)
 
-row_anew : (w : ℕ) (codes old before new : List ℕ) (s after : Spot) (end : RowEnd) (v j : ℕ) (again : Bool) → end.repeats ≡ again → shown w 0 (symbols_at RunLength codes s) 0 ≡ Value v → Decoded w RunLength codes s end after old new → j < w
-    → nibble new j ≡ value_of (shown w 0 (symbols_at RunLength codes s) j) (nibble before j)
+row_anew : (w : ℕ) (codes old before new : List ℕ) (s after : Spot) (end : RowEnd) (v j : ℕ) (again : Bool) → end.repeats ≡ again → shown_at w 0 (symbols_at RunLength codes s) 0 ≡ Value v → Decoded w RunLength codes s end after old new → j < w
+    → nibble new j ≡ value_of (shown_at w 0 (symbols_at RunLength codes s) j) (nibble before j)
 row_anew w codes old before new s after end v j true is first d l = absurd (true≢false (sym (ap is_above (d.again is 0 (omega (arith, l)))) ∙ ap is_above first))
 row_anew w codes old before new s after end v j false is first d l = sym (ap (λ t. value_of t (nibble before j)) (d.own is j l))
 

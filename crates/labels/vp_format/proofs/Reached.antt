@@ -12,17 +12,17 @@ use Rattle.vp_format.specs.declared.row.RowEnd.{RowEnd}
 use Rattle.vp_format.specs.declared.codes.Symbol.{Symbol}
 use Rattle.vp_format.specs.declared.codes.Symbol.TheVariants.{Digits, ToEnd, Again, Refused}
 use Rattle.vp_format.specs.Codes.{code_of, Spelled, spelled, joined, symbols_behind}
-use Rattle.vp_format.specs.Pictures.{Value, AsAbove, Nothing, shown, shows, end_of, bytes_before, value_of, is_nothing, nibble}
+use Rattle.vp_format.specs.Pictures.{Value, AsAbove, Unreadable, shown_at, shows, end_of, bytes_before, value_of, is_unreadable, nibble}
 use Rattle.vp_format.specs.declared.reading.Codes.{Codes}
 use Rattle.vp_format.specs.Cursors.{digit_value, symbols_from, symbols_at, held, InHand, IsReading, Advanced, IsSpot, AreSmall, Filled, Decoded, Reached}
 
 -- a place that the first symbol covers
-pub shown_in : (w p : ℕ) (s : Spelled) (ss : List Spelled) (j : ℕ) → j < end_of w p s.symbol → shown w p (s ∷ ss) j ≡ shows w p s.symbol
-shown_in w p s ss j h = ap (λ b. cond b (shows w p s.symbol) (shown w (end_of w p s.symbol) ss j)) (lt-ltb j (end_of w p s.symbol) h)
+pub shown_in : (w p : ℕ) (s : Spelled) (ss : List Spelled) (j : ℕ) → j < end_of w p s.symbol → shown_at w p (s ∷ ss) j ≡ shows w p s.symbol
+shown_in w p s ss j h = ap (λ b. cond b (shows w p s.symbol) (shown_at w (end_of w p s.symbol) ss j)) (lt-ltb j (end_of w p s.symbol) h)
 
 -- a place behind it
-pub shown_past : (w p : ℕ) (s : Spelled) (ss : List Spelled) (j : ℕ) → end_of w p s.symbol ≤ j → shown w p (s ∷ ss) j ≡ shown w (end_of w p s.symbol) ss j
-shown_past w p s ss j h = ap (λ b. cond b (shows w p s.symbol) (shown w (end_of w p s.symbol) ss j)) (le-ltb j (end_of w p s.symbol) h)
+pub shown_past : (w p : ℕ) (s : Spelled) (ss : List Spelled) (j : ℕ) → end_of w p s.symbol ≤ j → shown_at w p (s ∷ ss) j ≡ shown_at w (end_of w p s.symbol) ss j
+shown_past w p s ss j h = ap (λ b. cond b (shows w p s.symbol) (shown_at w (end_of w p s.symbol) ss j)) (le-ltb j (end_of w p s.symbol) h)
 
 -- the bytes of the first symbol, and of those behind it
 pub bytes_past : (w p : ℕ) (s : Spelled) (ss : List Spelled) (j : ℕ) → p < j → bytes_before w p (s ∷ ss) j ≡ s.bytes + bytes_before w (end_of w p s.symbol) ss j
@@ -39,7 +39,7 @@ row_end w p h = ap (λ q. (q + 1) * w) (div-eq_of_lt h) ∙ omega arith
 
 -- a span that is filled with what its symbols show
 reached_more : (w : ℕ) (all : List Spelled) (from : ℕ) (old new : List ℕ) (x to v : ℕ) (ss left : List Spelled) (at k : ℕ) → x ≤ to → v < 16 → Reached w all from old x ss at → Filled x to v old new
-    → ((j : ℕ) → x ≤ j → j < to → shown w x ss j ≡ Value v) → ((j : ℕ) → to ≤ j → shown w x ss j ≡ shown w to left j)
+    → ((j : ℕ) → x ≤ j → j < to → shown_at w x ss j ≡ Value v) → ((j : ℕ) → to ≤ j → shown_at w x ss j ≡ shown_at w to left j)
     → ((j : ℕ) → to ≤ j → bytes_before w x ss j ≡ k + bytes_before w to left j) → Reached w all from new to left (at + k)
 reached_more w all from old new x to v ss left at k h few r f inside behind more = record {
   so_far = λ j l. elim (cases_lt j x) [
@@ -52,8 +52,8 @@ reached_more w all from old new x to v ss left at k h few r f inside behind more
 }
 
 -- a run of no places covers nothing
-pub run_over : (w p v k : ℕ) (ss : List Spelled) (j : ℕ) → p ≤ j → shown w p (spelled (Digits 0 v) k ∷ ss) j ≡ shown w p ss j
-run_over w p v k ss j h = shown_past w p (spelled (Digits 0 v) k) ss j (omega arith) ∙ ap (λ q. shown w q ss j) (omega arith)
+pub run_over : (w p v k : ℕ) (ss : List Spelled) (j : ℕ) → p ≤ j → shown_at w p (spelled (Digits 0 v) k ∷ ss) j ≡ shown_at w p ss j
+run_over w p v k ss j h = shown_past w p (spelled (Digits 0 v) k) ss j (omega arith) ∙ ap (λ q. shown_at w q ss j) (omega arith)
 
 -- a run that no bytes spell
 pub bytes_run : (w p n v : ℕ) (ss : List Spelled) (j : ℕ) → p ≤ j → bytes_before w p (spelled (Digits n v) 0 ∷ ss) j ≡ bytes_before w (p + n) ss j
@@ -70,14 +70,14 @@ pub run_reached : (w : ℕ) (all : List Spelled) (from : ℕ) (old new : List �
     → Filled x to v old new → Reached w all from new to (spelled (Digits (n - (to - x)) v) 0 ∷ left) (at + k)
 run_reached w all from old new x to n v k left at h e few r f = reached_more w all from old new x to v (spelled (Digits n v) k ∷ left) (spelled (Digits (n - (to - x)) v) 0 ∷ left) at k (omega arith) few r f
     (λ j l m. shown_in w x (spelled (Digits n v) k) left j (omega arith))
-    (λ j l. ap (λ q. cond (ltb j q) (Value v) (shown w q left j)) (omega arith))
+    (λ j l. ap (λ q. cond (ltb j q) (Value v) (shown_at w q left j)) (omega arith))
     (λ j l. bytes_past w x (spelled (Digits n v) k) left j (omega arith) ∙ ap (λ q. k + bytes_before w q left j) (omega arith) ∙ ap (λ b. k + b) (sym (bytes_run w to (n - (to - x)) v left j l)))
 
 pub run_done : (w : ℕ) (all : List Spelled) (from : ℕ) (row : List ℕ) (x n v : ℕ) (left : List Spelled) (at : ℕ) → n ≡ 0 → Reached w all from row x (spelled (Digits n v) 0 ∷ left) at → Reached w all from row x left at
 run_done w all from row x n v left at e r = record {
   so_far = r.so_far;
   small = r.small;
-  ahead = λ j l. r.ahead j l ∙ ap (λ m. shown w x (spelled (Digits m v) 0 ∷ left) j) e ∙ run_over w x v 0 left j l;
+  ahead = λ j l. r.ahead j l ∙ ap (λ m. shown_at w x (spelled (Digits m v) 0 ∷ left) j) e ∙ run_over w x v 0 left j l;
   bytes = λ j l. r.bytes j l ∙ ap (λ m. at + bytes_before w x (spelled (Digits m v) 0 ∷ left) j) e ∙ ap (λ b. at + b) (bytes_over w x v left j l);
 }
 
@@ -97,7 +97,7 @@ end_reached w all from old new x v k left at h few r f =
     let e = row_end w x h in
     reached_more w all from old new x w v (spelled (ToEnd v) k ∷ left) left at k (omega arith) few r f
     (λ j l m. shown_in w x (spelled (ToEnd v) k) left j (rw e m))
-    (λ j l. shown_past w x (spelled (ToEnd v) k) left j (rw e l) ∙ ap (λ q. shown w q left j) e)
+    (λ j l. shown_past w x (spelled (ToEnd v) k) left j (rw e l) ∙ ap (λ q. shown_at w q left j) e)
     (λ j l. bytes_past w x (spelled (ToEnd v) k) left j (omega arith) ∙ ap (λ q. k + bytes_before w q left j) e)
 
 -- no code is left for the rest of a row
@@ -105,38 +105,38 @@ pub white_reached : (w : ℕ) (all : List Spelled) (from : ℕ) (old new codes :
     → Reached w all from new w (symbols_from codes at) at
 white_reached w all from old new codes x at h none r f =
     let ended : x < w → symbols_from codes at ≡ [] = λ l. ap (λ k. symbols_from codes k) (none l) ∙ ap (λ cs. symbols_behind cs 0 0) (drop-length codes) in
-    let same : (j : ℕ) → w ≤ j → (shown w x (symbols_from codes at) j ≡ shown w w (symbols_from codes at) j) × (bytes_before w x (symbols_from codes at) j ≡ bytes_before w w (symbols_from codes at) j) = λ j l. elim (cases_lt x w) [
+    let same : (j : ℕ) → w ≤ j → (shown_at w x (symbols_from codes at) j ≡ shown_at w w (symbols_from codes at) j) × (bytes_before w x (symbols_from codes at) j ≡ bytes_before w w (symbols_from codes at) j) = λ j l. elim (cases_lt x w) [
       | inl m ↦ rw (ended m) (refl, refl)
       | inr m ↦ let e : x ≡ w = omega arith in rw e (refl, refl)
     ] in
     let plus : at + 0 ≡ at = omega arith in
     subst (λ k. Reached w all from new w (symbols_from codes at) k) plus (reached_more w all from old new x w 0 (symbols_from codes at) (symbols_from codes at) at 0 h (omega arith) r f
-    (λ j l m. ap (λ ss. shown w x ss j) (ended (omega arith)))
+    (λ j l m. ap (λ ss. shown_at w x ss j) (ended (omega arith)))
     (λ j l. (same j l).0)
     (λ j l. (same j l).1 ∙ omega arith))
 
 -- the row before once more
-pub again_shown : (w k : ℕ) (ss : List Spelled) (j : ℕ) → j < w → shown w 0 (spelled Again k ∷ ss) j ≡ AsAbove
-again_shown w k ss j h = shown_in w 0 (spelled Again k) ss j (rw (row_end w 0 (omega arith)) h) ∙ ap (λ r. cond (eqb r 0) AsAbove Nothing) (zero-mod w)
+pub again_shown : (w k : ℕ) (ss : List Spelled) (j : ℕ) → j < w → shown_at w 0 (spelled Again k ∷ ss) j ≡ AsAbove
+again_shown w k ss j h = shown_in w 0 (spelled Again k) ss j (rw (row_end w 0 (omega arith)) h) ∙ ap (λ r. cond (eqb r 0) AsAbove Unreadable) (zero-mod w)
 
-again_behind : (w k : ℕ) (ss : List Spelled) (j : ℕ) → 0 < w → w ≤ j → shown w 0 (spelled Again k ∷ ss) j ≡ shown w w ss j
-again_behind w k ss j h l = shown_past w 0 (spelled Again k) ss j (rw (row_end w 0 h) l) ∙ ap (λ q. shown w q ss j) (row_end w 0 h)
+again_behind : (w k : ℕ) (ss : List Spelled) (j : ℕ) → 0 < w → w ≤ j → shown_at w 0 (spelled Again k ∷ ss) j ≡ shown_at w w ss j
+again_behind w k ss j h l = shown_past w 0 (spelled Again k) ss j (rw (row_end w 0 h) l) ∙ ap (λ q. shown_at w q ss j) (row_end w 0 h)
 
 again_bytes : (w k : ℕ) (ss : List Spelled) (j : ℕ) → 0 < w → w ≤ j → bytes_before w 0 (spelled Again k ∷ ss) j ≡ k + bytes_before w w ss j
 again_bytes w k ss j h l = bytes_past w 0 (spelled Again k) ss j (omega arith) ∙ ap (λ q. k + bytes_before w q ss j) (row_end w 0 h)
 
 -- but not inside a row
-pub again_refused : (w x k : ℕ) (ss : List Spelled) → 0 < x → x < w → shown w x (spelled Again k ∷ ss) (w - 1) ≡ Nothing
-again_refused w x k ss some h = shown_in w x (spelled Again k) ss (w - 1) (rw (row_end w x h) (omega arith)) ∙ ap (λ r. cond (eqb r 0) AsAbove Nothing) (mod-eq_of_lt h)
-    ∙ ap (λ b. cond b AsAbove Nothing) (ne_eqb x 0 (omega arith))
+pub again_refused : (w x k : ℕ) (ss : List Spelled) → 0 < x → x < w → shown_at w x (spelled Again k ∷ ss) (w - 1) ≡ Unreadable
+again_refused w x k ss some h = shown_in w x (spelled Again k) ss (w - 1) (rw (row_end w x h) (omega arith)) ∙ ap (λ r. cond (eqb r 0) AsAbove Unreadable) (mod-eq_of_lt h)
+    ∙ ap (λ b. cond b AsAbove Unreadable) (ne_eqb x 0 (omega arith))
 
 -- a refused symbol
-pub refused_shown : (w x k : ℕ) (ss : List Spelled) → x < w → shown w x (spelled Refused k ∷ ss) (w - 1) ≡ Nothing
+pub refused_shown : (w x k : ℕ) (ss : List Spelled) → x < w → shown_at w x (spelled Refused k ∷ ss) (w - 1) ≡ Unreadable
 refused_shown w x k ss h = shown_in w x (spelled Refused k) ss (w - 1) (rw (row_end w x h) (omega arith))
 
 -- a row whose places are all reached shows something at its last one
-pub all_shown : (w : ℕ) (all : List Spelled) (from : ℕ) (places : List ℕ) (left : List Spelled) (at : ℕ) → 0 < w → Reached w all from places w left at → false ≡ is_nothing (shown w 0 all (w - 1))
-all_shown w all from places left at some r = sym (ap is_nothing (r.so_far (w - 1) (omega arith)))
+pub all_shown : (w : ℕ) (all : List Spelled) (from : ℕ) (places : List ℕ) (left : List Spelled) (at : ℕ) → 0 < w → Reached w all from places w left at → false ≡ is_unreadable (shown_at w 0 all (w - 1))
+all_shown w all from places left at some r = sym (ap is_unreadable (r.so_far (w - 1) (omega arith)))
 
 -- a row further on, the symbols show the same
 end_later : (w p : ℕ) (s : Symbol) → 0 < w → end_of w (w + p) s ≡ w + end_of w p s
@@ -148,14 +148,14 @@ end_later w p Refused h = ap (λ q. (q + 1) * w) (add-div_left p h) ∙ omega ar
 shows_later : (w p : ℕ) (s : Symbol) → shows w (w + p) s ≡ shows w p s
 shows_later w p (Digits n v) = refl
 shows_later w p (ToEnd v) = refl
-shows_later w p Again = ap (λ r. cond (eqb r 0) AsAbove Nothing) (add-mod_left w p)
+shows_later w p Again = ap (λ r. cond (eqb r 0) AsAbove Unreadable) (add-mod_left w p)
 shows_later w p Refused = refl
 
-pub shown_later : (w p : ℕ) (ss : List Spelled) (j : ℕ) → 0 < w → shown w (w + p) ss (w + j) ≡ shown w p ss j
+pub shown_later : (w p : ℕ) (ss : List Spelled) (j : ℕ) → 0 < w → shown_at w (w + p) ss (w + j) ≡ shown_at w p ss j
 shown_later w p [] j h = refl
 shown_later w p (s ∷ ss) j h = elim (cases_lt j (end_of w p s.symbol)) [
   | inl l ↦ shown_in w (w + p) s ss (w + j) (rw (end_later w p s.symbol h) (omega arith)) ∙ shows_later w p s.symbol ∙ sym (shown_in w p s ss j l)
-  | inr g ↦ shown_past w (w + p) s ss (w + j) (rw (end_later w p s.symbol h) (omega arith)) ∙ ap (λ q. shown w q ss (w + j)) (end_later w p s.symbol h)
+  | inr g ↦ shown_past w (w + p) s ss (w + j) (rw (end_later w p s.symbol h) (omega arith)) ∙ ap (λ q. shown_at w q ss (w + j)) (end_later w p s.symbol h)
       ∙ shown_later w (end_of w p s.symbol) ss j h ∙ sym (shown_past w p s ss j g)
 ]
 
@@ -168,8 +168,8 @@ bytes_later w p (s ∷ ss) j h = elim (cases_lt p j) [
 ]
 
 -- the symbols behind a row, from its end
-pub behind_row : (w : ℕ) (ss : List Spelled) (j : ℕ) → 0 < w → shown w w ss (w + j) ≡ shown w 0 ss j
-behind_row w ss j h = ap (λ q. shown w q ss (w + j)) (omega arith) ∙ shown_later w 0 ss j h
+pub behind_row : (w : ℕ) (ss : List Spelled) (j : ℕ) → 0 < w → shown_at w w ss (w + j) ≡ shown_at w 0 ss j
+behind_row w ss j h = ap (λ q. shown_at w q ss (w + j)) (omega arith) ∙ shown_later w 0 ss j h
 
 pub bytes_behind_row : (w : ℕ) (ss : List Spelled) (j : ℕ) → 0 < w → bytes_before w w ss (w + j) ≡ bytes_before w 0 ss j
 bytes_behind_row w ss j h = ap (λ q. bytes_before w q ss (w + j)) (omega arith) ∙ bytes_later w 0 ss j h

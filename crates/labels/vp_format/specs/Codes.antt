@@ -13,10 +13,10 @@ between low b high = nat_le low b && nat_le b high
 -- a hex digit in either case, a count G to Y of 1 to 19 or g to z of 20, 40, .. 400, or one of `,` `!` `:`
 unfoldable pub code_of : ℕ → Code
 code_of b =
-    if between 48 b 57 then Digit (b - 48) else if between 65 b 70 then Digit (b - 55)
-    else if between 97 b 102 then Digit (b - 87)
-    else if between 71 b 89 then Count (b - 70) else if between 103 b 122 then Count (20 * (b - 102))
-    else if b == 44 then Fill 0 else if b == 33 then Fill 15 else if b == 58 then Above else Other
+    if between 0x30 b 0x39 then Digit (b - 0x30) else if between 0x41 b 0x46 then Digit (b - 0x37)
+    else if between 0x61 b 0x66 then Digit (b - 0x57)
+    else if between 0x47 b 0x59 then Count (b - 0x46) else if between 0x67 b 0x7A then Count (20 * (b - 0x66))
+    else if b == 0x2C then Fill 0 else if b == 0x21 then Fill 15 else if b == 0x3A then Above else Other
 
 -- a symbol, and how many bytes of the codes spell it
 pub record Spelled : Type 0 where

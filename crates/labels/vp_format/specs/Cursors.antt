@@ -13,7 +13,7 @@ use Rattle.vp_format.specs.declared.rows.RunRows.TheInside.{Inside}
 use Rattle.vp_format.specs.declared.codes.Symbol.{Symbol}
 use Rattle.vp_format.specs.declared.codes.Symbol.TheVariants.{Digits, ToEnd}
 use Rattle.vp_format.specs.Codes.{Spelled, spelled, code_of, symbols}
-use Rattle.vp_format.specs.Pictures.{Value, AsAbove, shown, is_nothing, bytes_before, value_of, Picture, width_of, value, is_refused, start_above, bound_of, start_of, nibble, Cursor}
+use Rattle.vp_format.specs.Pictures.{Value, AsAbove, shown_at, is_unreadable, bytes_before, value_of, Picture, width_of, value, is_refused, above_from, bound_of, start_of, nibble, Cursor}
 
 -- the value of a digit, and 16 of another code
 abbrev pub digit_value : Code → ℕ
@@ -118,10 +118,10 @@ pub record Even (width : ℕ) (coding : Coding) (codes : List ℕ) (s : Spot) (k
   pub spot : IsSpot codes after
   pub whole : IsWhole coding after
   pub at : after.at ≡ s.at
-  pub shows : (j : ℕ) → j < width * k → shown width 0 (symbols_at coding codes s) j ≡ Value v
+  pub shows : (j : ℕ) → j < width * k → shown_at width 0 (symbols_at coding codes s) j ≡ Value v
   pub none : (j : ℕ) → j ≤ width * k → bytes_before width 0 (symbols_at coding codes s) j ≡ 0
-  pub next : (j : ℕ) → shown width 0 (symbols_at coding codes s) (width * k + j)
-      ≡ shown width 0 (symbols_at coding codes after) j
+  pub next : (j : ℕ) → shown_at width 0 (symbols_at coding codes s) (width * k + j)
+      ≡ shown_at width 0 (symbols_at coding codes after) j
   pub bytes : (j : ℕ) → bytes_before width 0 (symbols_at coding codes s) (width * k + j)
       ≡ bytes_before width 0 (symbols_at coding codes after) j
 
@@ -139,9 +139,9 @@ AreSmall x places = (j : ℕ) → j < x → slice_index places j < 16
 -- on
 pub record Reached (width : ℕ) (all : List Spelled) (from : ℕ) (places : List ℕ) (x : ℕ)
     (left : List Spelled) (at : ℕ) : Type 0 where
-  pub so_far : (j : ℕ) → j < x → shown width 0 all j ≡ Value (slice_index places j)
+  pub so_far : (j : ℕ) → j < x → shown_at width 0 all j ≡ Value (slice_index places j)
   pub small : AreSmall x places
-  pub ahead : (j : ℕ) → x ≤ j → shown width 0 all j ≡ shown width x left j
+  pub ahead : (j : ℕ) → x ≤ j → shown_at width 0 all j ≡ shown_at width x left j
   pub bytes : (j : ℕ) → x ≤ j → from + bytes_before width 0 all j ≡ at + bytes_before width x left j
 
 -- what n codes from one on leave in the row from a place on: the symbols behind them are left, or, behind a
@@ -161,8 +161,8 @@ Put width all start places from codes at (suc n) =
 -- none of the symbols that start before a place is refused, and the places from there on show what those show
 -- that are left
 pub record Passed (width : ℕ) (all : List Spelled) (x : ℕ) (left : List Spelled) : Type 0 where
-  pub taken : (j : ℕ) → j < x → is_nothing (shown width 0 all j) ≡ false
-  pub ahead : (j : ℕ) → x ≤ j → shown width 0 all j ≡ shown width x left j
+  pub taken : (j : ℕ) → j < x → is_unreadable (shown_at width 0 all j) ≡ false
+  pub ahead : (j : ℕ) → x ≤ j → shown_at width 0 all j ≡ shown_at width x left j
 
 -- the row that starts at a spot stands in the bytes, which were those of the row before; it is that one once
 -- more or not, and the next row starts at another spot
@@ -171,12 +171,12 @@ pub record Decoded (width : ℕ) (coding : Coding) (codes : List ℕ) (s : Spot)
   pub spot : IsSpot codes after
   pub whole : IsWhole coding after
   pub row : (j : ℕ) → j < width →
-      nibble new j ≡ value_of (shown width 0 (symbols_at coding codes s) j) (nibble old j)
+      nibble new j ≡ value_of (shown_at width 0 (symbols_at coding codes s) j) (nibble old j)
   pub own : end.repeats ≡ false → (j : ℕ) → j < width →
-      shown width 0 (symbols_at coding codes s) j ≡ Value (nibble new j)
-  pub again : end.repeats ≡ true → (j : ℕ) → j < width → shown width 0 (symbols_at coding codes s) j ≡ AsAbove
-  pub next : (j : ℕ) → shown width 0 (symbols_at coding codes s) (width + j)
-      ≡ shown width 0 (symbols_at coding codes after) j
+      shown_at width 0 (symbols_at coding codes s) j ≡ Value (nibble new j)
+  pub again : end.repeats ≡ true → (j : ℕ) → j < width → shown_at width 0 (symbols_at coding codes s) j ≡ AsAbove
+  pub next : (j : ℕ) → shown_at width 0 (symbols_at coding codes s) (width + j)
+      ≡ shown_at width 0 (symbols_at coding codes after) j
   pub bytes : (j : ℕ) → s.at + bytes_before width 0 (symbols_at coding codes s) (width + j)
       ≡ after.at + bytes_before width 0 (symbols_at coding codes after) j
 
@@ -194,15 +194,15 @@ marked_row m = m.next
 pub record IsMark (p : Picture) (m : RunMark) : Type 0 where
   pub here : IsSpot p.codes m.here
   pub whole : IsWhole p.coding m.here
-  pub shown_is : (j : ℕ) → shown (width_of p) 0 (symbols p.coding p.codes) (width_of p * m.next + j)
-      ≡ shown (width_of p) 0 (symbols_at p.coding p.codes m.here) j
+  pub shown_is : (j : ℕ) → shown_at (width_of p) 0 (symbols p.coding p.codes) (width_of p * m.next + j)
+      ≡ shown_at (width_of p) 0 (symbols_at p.coding p.codes m.here) j
   pub bytes_is : (j : ℕ) → bytes_before (width_of p) 0 (symbols p.coding p.codes) (width_of p * m.next + j)
       ≡ m.here.at + bytes_before (width_of p) 0 (symbols_at p.coding p.codes m.here) j
   pub before : IsSpot p.codes m.before
   pub whole_before : IsWhole p.coding m.before
-  pub before_is : m.before.at ≡ start_above p m.next
+  pub before_is : m.before.at ≡ above_from p m.next
   pub above_is : (j : ℕ) → j < width_of p →
-      shown (width_of p) 0 (symbols_at p.coding p.codes m.before) j ≡ Value (above p m.next j)
+      shown_at (width_of p) 0 (symbols_at p.coding p.codes m.before) j ≡ Value (above p m.next j)
   pub above_bytes : bytes_before (width_of p) 0 (symbols_at p.coding p.codes m.before) (width_of p)
       ≤ m.here.at - m.before.at
 

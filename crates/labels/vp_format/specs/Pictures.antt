@@ -8,11 +8,11 @@ use Rattle.vp_format.specs.declared.codes.Symbol.{Symbol}
 use Rattle.vp_format.specs.declared.codes.Symbol.TheVariants.{Digits, ToEnd, Again, Refused}
 use Rattle.vp_format.specs.Codes.{Spelled, symbols}
 
--- what a place shows: a value, what the place above shows, or nothing, since the symbol is refused
+-- what a place shows: a value, what the place above shows, or a symbol that is refused
 pub data Shown : Type 0 where
   Value : ℕ → Shown
   AsAbove : Shown
-  Nothing : Shown
+  Unreadable : Shown
 
 -- where a symbol that starts at a place ends: a digit's run after as many places, any other at the row's end
 abbrev pub end_of : ℕ → ℕ → Symbol → ℕ
@@ -23,16 +23,16 @@ end_of width start _ = (start / width + 1) * width
 abbrev pub shows : ℕ → ℕ → Symbol → Shown
 shows width start (Digits n v) = Value v
 shows width start (ToEnd v) = Value v
-shows width start Again = if start % width == 0 then AsAbove else Nothing
-shows width start Refused = Nothing
+shows width start Again = if start % width == 0 then AsAbove else Unreadable
+shows width start Refused = Unreadable
 
 -- what a place shows, in rows of `width` places, where the first of the symbols starts at place `start`: the
 -- symbols stand one after the other, and a place that none covers is 0
-abbrev pub shown : ℕ → ℕ → List Spelled → ℕ → Shown
-shown width start [] place = Value 0
-shown width start (s ∷ ss) place =
+abbrev pub shown_at : ℕ → ℕ → List Spelled → ℕ → Shown
+shown_at width start [] place = Value 0
+shown_at width start (s ∷ ss) place =
     if nat_lt place (end_of width start s.symbol) then shows width start s.symbol
-    else shown width (end_of width start s.symbol) ss place
+    else shown_at width (end_of width start s.symbol) ss place
 
 -- the bytes of the symbols that start before a place
 abbrev pub bytes_before : ℕ → ℕ → List Spelled → ℕ → ℕ
@@ -40,9 +40,9 @@ bytes_before width start [] place = 0
 bytes_before width start (s ∷ ss) place =
     if nat_lt start place then s.bytes + bytes_before width (end_of width start s.symbol) ss place else 0
 
-abbrev pub is_nothing : Shown → Bool
-is_nothing Nothing = true
-is_nothing _ = false
+abbrev pub is_unreadable : Shown → Bool
+is_unreadable Unreadable = true
+is_unreadable _ = false
 
 abbrev pub is_above : Shown → Bool
 is_above AsAbove = true
@@ -51,7 +51,7 @@ is_above _ = false
 abbrev pub value_of : Shown → ℕ → ℕ
 value_of (Value v) above = v
 value_of AsAbove above = above
-value_of Nothing above = 0
+value_of Unreadable above = 0
 
 -- codes, and the rows that they are read for
 pub record Picture : Type 0 where
@@ -65,7 +65,7 @@ width_of p = 2 * p.row_bytes
 
 -- what place x of row y shows
 unfoldable pub place_of : Picture → ℕ → ℕ → Shown
-place_of p y x = shown (width_of p) 0 (symbols p.coding p.codes) (width_of p * y + x)
+place_of p y x = shown_at (width_of p) 0 (symbols p.coding p.codes) (width_of p * y + x)
 
 -- the value of place x of row y: one row earlier where `:` covers it, and 0 above the first row
 unfoldable pub value : Picture → ℕ → ℕ → ℕ
@@ -74,7 +74,7 @@ value p (suc y) x = value_of (place_of p (suc y) x) (value p y x)
 
 -- a refused symbol starts in the row: it covers the row's last place
 unfoldable pub is_refused : Picture → ℕ → Bool
-is_refused p y = is_nothing (place_of p y (width_of p - 1))
+is_refused p y = is_unreadable (place_of p y (width_of p - 1))
 
 -- the row is `:`
 unfoldable pub is_repeat : Picture → ℕ → Bool
@@ -84,15 +84,15 @@ is_repeat p y = is_above (place_of p y 0)
 unfoldable pub start_of : Picture → ℕ → ℕ
 start_of p y = bytes_before (width_of p) 0 (symbols p.coding p.codes) (width_of p * y)
 
--- where the last row before row y that isn't `:` starts in the codes, and their end where there is none
-unfoldable pub start_above : Picture → ℕ → ℕ
-start_above p zero = length p.codes
-start_above p (suc y) = if is_repeat p y then start_above p y else start_of p y
+-- from where the row above row y is read: from the start of the last one that isn't `:`; above the first row
+-- all is white, as it is read from the codes' end
+unfoldable pub above_from : Picture → ℕ → ℕ
+above_from p zero = length p.codes
+above_from p (suc y) = if is_repeat p y then above_from p y else start_of p y
 
--- where reading may start for the rows from y on: at the last row before that
--- isn't `:`, or at row y where there is none
+-- where reading may start for the rows from y on: at the row above, or at row y where there is none
 unfoldable pub bound_of : Picture → ℕ → ℕ
-bound_of p y = min (start_above p y) (start_of p y)
+bound_of p y = min (above_from p y) (start_of p y)
 
 -- the value of a place of a row of bytes: two to a byte, the first one high
 unfoldable pub nibble : List ℕ → ℕ → ℕ

@@ -1,7 +1,7 @@
 //! One row of a picture.
 ghost use Rattle.std.specs.Prelude.{◌≡◌, ℕ, ◌+◌, ◌-◌, ◌*◌, ◌<◌, ◌≤◌, min, false, true, IfOk, IsOk, is_err, length, slice_index, drop, List, ◌∷◌, Err, Ok};
 ghost use Rattle.vp_format.specs.Codes.{Spelled, spelled, alone, joined, code_of, symbols_behind};
-ghost use Rattle.vp_format.specs.Pictures.{shown, is_nothing, nibble, Nothing};
+ghost use Rattle.vp_format.specs.Pictures.{shown_at, is_unreadable, nibble, Unreadable};
 ghost use Rattle.vp_format.specs.Cursors.{symbols_at, symbols_from, held, SmallSymbol, IsReading, IsSpot, IsWhole, Advanced, InHand, AreSmall, Reached, Decoded};
 ghost use Rattle.vp_format.specs.declared.rows.Spot.{Spot};
 ghost use Rattle.vp_format.specs.declared.rows.Coding.TheVariants.{RunLength, Binary};
@@ -141,7 +141,7 @@ fn read_on(
     ensures answer { (all : List Spelled) (start : ℕ) →
         Reached (2 * length row.old) all start places.old from
         (symbols_from codes.old.bytes.now codes.old.at) codes.old.at
-        → is_err result ≡ is_nothing (shown (2 * length row.old) 0 all (2 * length row.old - 1)) }
+        → is_err result ≡ is_unreadable (shown_at (2 * length row.old) 0 all (2 * length row.old - 1)) }
     ensures decoded { (s : Spot) →
         Reached (2 * length row.old) (symbols_at RunLength codes.old.bytes.now s) s.at places.old from
         (symbols_from codes.old.bytes.now codes.old.at) codes.old.at
@@ -195,7 +195,7 @@ fn decode(
     ensures len { length row.new ≡ length row.old }
     ensures places { length places.new ≡ length places.old }
     ensures advanced { Advanced codes.old codes.new }
-    ensures answer { is_err result ≡ is_nothing (shown (2 * length row.old) 0
+    ensures answer { is_err result ≡ is_unreadable (shown_at (2 * length row.old) 0
         (symbols_at RunLength codes.old.bytes.now (record { left = left; digit = digit; at = codes.old.at }))
         (2 * length row.old - 1)) }
     ensures decoded { IfOk result (λ end. Decoded (2 * length row.old) RunLength codes.old.bytes.now
@@ -229,7 +229,7 @@ fn copy(codes: &mut Codes, row: &mut [u8]) -> RowEnd
     ensures decoded { Decoded (2 * length row.old) Binary codes.old.bytes.now
         (record { left = 0; digit = 0; at = codes.old.at }) result
         (record { left = 0; digit = 0; at = codes.new.at }) row.old row.new }
-    ensures taken { (j : ℕ) → is_nothing (shown (2 * length row.old) 0
+    ensures taken { (j : ℕ) → is_unreadable (shown_at (2 * length row.old) 0
         (symbols_at Binary codes.old.bytes.now (record { left = 0; digit = 0; at = codes.old.at })) j)
         ≡ false }
 {
@@ -261,7 +261,7 @@ pub fn next_row(
     ensures places { length places.new ≡ length places.old }
     ensures advanced { Advanced codes.old codes.new }
     ensures answer { is_err result
-        ≡ is_nothing (shown (2 * n) 0 (symbols_at coding codes.old.bytes.now spot) (2 * n - 1)) }
+        ≡ is_unreadable (shown_at (2 * n) 0 (symbols_at coding codes.old.bytes.now spot) (2 * n - 1)) }
     ensures decoded { IfOk result (λ end. Decoded (2 * n) coding codes.old.bytes.now spot end
         (record { left = end.left; digit = end.digit; at = codes.new.at }) row.old row.new) }
 {

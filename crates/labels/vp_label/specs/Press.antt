@@ -35,13 +35,13 @@ pub record IsBetween (p : Place) : Type 0 where
   pub byte : p.byte ≡ 0
 
 -- the image of which copies are put out: that of the fields that are threaded
-abbrev pub shown : Sheets → List ℕ → View → Press → Image
-shown sheets stored view p =
+abbrev pub press_image : Sheets → List ℕ → View → Press → Image
+press_image sheets stored view p =
     image_of p.copies (image_dot view (map (stroke_of sheets stored) (fields_of p.painter.entries)))
 
 -- what is left of the copies
 abbrev pub left : Sheets → List ℕ → View → Press → List ℕ
-left sheets stored view p = pending (shown sheets stored view p) p.copies.place
+left sheets stored view p = pending (press_image sheets stored view p) p.copies.place
 
 -- copies are put out of a label that is seen like that
 pub record IsPress (sheets : Sheets) (stored : List ℕ) (view : View) (p : Press) : Type 0 where
@@ -55,4 +55,4 @@ pub record IsPress (sheets : Sheets) (stored : List ℕ) (view : View) (p : Pres
       IsNextBand (ahead p.copies.place) p.copies.place.line (bands_of view)
       (λ b. IsBefore sheets stored view b p.painter)
   pub over : p.copies.place.copies ≡ 0 → IsBefore sheets stored view (bands_of view) p.painter
-  pub ready : IsReady (shown sheets stored view p) p.copies.place p.band
+  pub ready : IsReady (press_image sheets stored view p) p.copies.place p.band

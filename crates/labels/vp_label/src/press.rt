@@ -7,7 +7,7 @@ ghost use Rattle.vp_label.specs.Gathered.{AreKept};
 ghost use Rattle.vp_label.specs.Prints.{label_image};
 ghost use Rattle.vp_bands.specs.Meeting.{bands_of};
 ghost use Rattle.vp_bands.specs.Standing.{fields_of, IsBefore};
-ghost use Rattle.vp_label.specs.Press.{bands_above, left, shown, IsBetween, IsPress};
+ghost use Rattle.vp_label.specs.Press.{bands_above, left, press_image, IsBetween, IsPress};
 
 use std::alloc::{AllocError, Global};
 use vp_bands::BandPainter;
@@ -66,7 +66,7 @@ impl Press {
         requires some { 0 < self.old.copies.place.copies }
         ensures copies { self.new.copies ≡ self.old.copies }
         ensures fields { self.new.painter.entries ≡ self.old.painter.entries }
-        ensures painted { IsPainted (shown sheets.now stored.now view self.new)
+        ensures painted { IsPainted (press_image sheets.now stored.now view self.new)
             self.new.copies.place.line self.new.band }
         ensures before { IsBefore sheets.now stored.now view
             (bands_above self.new.copies.place.line) self.new.painter }

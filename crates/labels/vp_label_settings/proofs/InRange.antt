@@ -8,7 +8,7 @@ use Rattle.vp_label_settings.specs.declared.size.CharacterSize.{CharacterSize}
 use Rattle.vp_label_settings.specs.declared.settings.Home.{Home}
 use Rattle.vp_label_settings.specs.declared.settings.BarDefaults.{BarDefaults}
 use Rattle.vp_label_size.specs.declared.TheConstants.{WIDEST, LONGEST}
-use Rattle.vp_label_settings.specs.Ranges.{ranged, nearest, counted, size_of, size_given}
+use Rattle.vp_label_settings.specs.Ranges.{ranged, nearest, side_given, size_of, size_given}
 use Rattle.vp_label_settings.specs.Formats.{is_open, acting}
 use Rattle.vp_label_settings.specs.Settings.{coordinate, home_by, home, print_width_by, print_width, label_length_by, label_length, default_font_by, default_font, first_font, bar_defaults_by, bar_defaults, quantity_by, quantity, settings_of}
 use Rattle.vp_label_settings.specs.Laws.{Within, IsSize, IsHome, AreBars, AreInRange}
@@ -64,7 +64,7 @@ counts-unless : (is_none : Bool) (n : ℕ) → CountsIf (if is_none then None el
 counts-unless true n = tt
 counts-unless false n = record { least = omega arith; most = omega arith }
 
-counted-counts : (n : Option ℕ) → CountsIf (counted n)
+counted-counts : (n : Option ℕ) → CountsIf (side_given n)
 counted-counts None = tt
 counted-counts (Some n) = counts-unless (n == 0) n
 
@@ -76,7 +76,7 @@ size_of-fits (Some h) None d h_fits w_fits fits =
 size_of-fits (Some h) (Some w) d h_fits w_fits fits = record { height = h_fits; width = w_fits }
 
 pub size_given-fits : (h w : Option ℕ) (d : CharacterSize) → IsSize d → IsSize (size_given h w d)
-size_given-fits h w d fits = size_of-fits (counted h) (counted w) d (counted-counts h) (counted-counts w) fits
+size_given-fits h w d fits = size_of-fits (side_given h) (side_given w) d (counted-counts h) (counted-counts w) fits
 
 first_font-fits : IsSize first_font
 first_font-fits = record {

@@ -18,9 +18,9 @@ use Rattle.vp_label_settings.specs.declared.parts.OpenContent.TheVariants as ope
 use Rattle.vp_label_settings.specs.Ranges.{ranged}
 use Rattle.vp_label_settings.specs.Formats.{is_open, stored}
 use Rattle.vp_label_settings.specs.Choices.{line_space, code128_choice}
-use Rattle.vp_label_settings.specs.Graphics.{side_of, box_with, has_rows, picture_coding, headed, picture_head}
+use Rattle.vp_label_settings.specs.Graphics.{side_of, box_with, has_rows, picture_coding, head_if_coded, picture_head}
 use Rattle.vp_label_settings.specs.Parts.{symbol_by, symbol, block_by, block, picture_behind, content_by, content}
-use Rattle.vp_label_settings.specs.Laws.{Within, IsSpace, IsSymbolIf, IsBlockIf, IsFrame, IsPicture}
+use Rattle.vp_label_settings.specs.Laws.{Within, IsSpace, IsSymbolIf, IsFieldBlockIf, IsFrame, IsPictureHead}
 use Rattle.vp_label_settings.proofs.InRange.{acting-keeps, ranged-within}
 
 code128-fits : (mode : Option Code128Mode) (o : Option Orientation) (h : Option ℕ) (t a : Option Bool) → IsSymbolIf (Some (code128_choice mode o h t a))
@@ -50,7 +50,7 @@ space-fits None = omega arith
 space-fits (Some (Added dots)) = omega arith
 space-fits (Some (Deleted dots)) = omega arith
 
-block-step : (command : Command) (old : Option FieldBlock) → IsBlockIf old → IsBlockIf (block_by command old)
+block-step : (command : Command) (old : Option FieldBlock) → IsFieldBlockIf old → IsFieldBlockIf (block_by command old)
 block-step (SetBlock w l s j) old fits = record {
   width = let r = ranged-within 0 32000 0 w (omega arith) (record { least = omega arith; most = omega arith }) in r.most;
   lines = ranged-within 1 9999 1 l (omega arith) (record { least = omega arith; most = omega arith });
@@ -60,15 +60,15 @@ block-step FieldSeparator old fits = tt
 block-step FormatEnd old fits = tt
 block-step _ old fits = fits
 
-pub block-fits : (before : List Item) → IsBlockIf (block before)
+pub block-fits : (before : List Item) → IsFieldBlockIf (block before)
 block-fits [] = tt
-block-fits (item ∷ before) = acting-keeps IsBlockIf block_by block-step (is_open before) item (block before) (block-fits before)
+block-fits (item ∷ before) = acting-keeps IsFieldBlockIf block_by block-step (is_open before) item (block before) (block-fits before)
 
 abbrev pub IsContentIf : Option OpenContent → Type 0
 IsContentIf None = Unit {0}
 IsContentIf (Some (opened.Data start)) = Unit {0}
 IsContentIf (Some (opened.Frame b colour)) = IsFrame b
-IsContentIf (Some (opened.Picture head start)) = IsPicture head
+IsContentIf (Some (opened.Picture head start)) = IsPictureHead head
 
 raised-within : (t n : ℕ) → Within 1 32000 t → Within 1 32000 n → Within t 32000 (max t n)
 raised-within t n t_fits n_fits = record { least = omega arith; most = omega (arith, t_fits.most, n_fits.most) }
@@ -86,7 +86,7 @@ rows-fit : (bytes row : ℕ) → has_rows bytes row ≡ true → 1 ≤ bytes / r
 rows-fit bytes row so = le-div 1 bytes row (grind (arith, so)) (grind (arith, so))
 
 headed-fits : (ok : Bool) (coding : Option Coding) (bytes row start : ℕ) → has_rows bytes row ≡ ok →
-    IsContentIf (option_map (picture_behind start) (if ok then headed coding bytes row else None))
+    IsContentIf (option_map (picture_behind start) (if ok then head_if_coded coding bytes row else None))
 headed-fits false coding bytes row start so = tt
 headed-fits true None bytes row start so = tt
 headed-fits true (Some coding) bytes row start so = record { row_bytes = row-fits bytes row so; rows = rows-fit bytes row so }

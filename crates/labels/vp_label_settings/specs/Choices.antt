@@ -61,8 +61,8 @@ alignment_of (Some sides.Centre) = aligned.Centre
 alignment_of (Some sides.Right) = aligned.Right
 alignment_of (Some sides.Justified) = aligned.Left
 
-abbrev pub block_of : Option ℕ → Option ℕ → Option LineSpace → Option Justification → FieldBlock
-block_of width lines space justification = record {
+abbrev pub field_block : Option ℕ → Option ℕ → Option LineSpace → Option Justification → FieldBlock
+field_block width lines space justification = record {
   width = ranged 0 32000 0 width;
   lines = ranged 1 9999 1 lines;
   space = line_space space;

@@ -38,12 +38,12 @@ picture_coding (Some formats.Ascii) sent bytes = Some codings.RunLength
 picture_coding (Some formats.Binary) sent bytes = binary_coding sent bytes
 picture_coding (Some formats.Other) sent bytes = None
 
-abbrev pub headed : Option Coding → ℕ → ℕ → Option PictureHead
-headed None bytes row = None
-headed (Some coding) bytes row = Some (record { coding = coding; row_bytes = row; rows = bytes / row })
+abbrev pub head_if_coded : Option Coding → ℕ → ℕ → Option PictureHead
+head_if_coded None bytes row = None
+head_if_coded (Some coding) bytes row = Some (record { coding = coding; row_bytes = row; rows = bytes / row })
 
 -- the head of a picture of `bytes` bytes in rows of `row` bytes, or none
 abbrev pub picture_head : Option GraphicFormat → Option ℕ → Option ℕ → Option ℕ → Option PictureHead
 picture_head format sent (Some bytes) (Some row) =
-    if has_rows bytes row then headed (picture_coding format sent bytes) bytes row else None
+    if has_rows bytes row then head_if_coded (picture_coding format sent bytes) bytes row else None
 picture_head format sent _ _ = None

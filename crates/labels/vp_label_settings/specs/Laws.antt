@@ -48,21 +48,21 @@ abbrev pub IsSpace : LineSpace → Type 0
 IsSpace (Added dots) = dots ≤ 9999
 IsSpace (Deleted dots) = dots ≤ 9999
 
-pub record IsBlock (b : FieldBlock) : Type 0 where
+pub record IsFieldBlock (b : FieldBlock) : Type 0 where
   pub width : b.width ≤ 32000
   pub lines : Within 1 9999 b.lines
   pub space : IsSpace b.space
 
-abbrev pub IsBlockIf : Option FieldBlock → Type 0
-IsBlockIf None = Unit {0}
-IsBlockIf (Some b) = IsBlock b
+abbrev pub IsFieldBlockIf : Option FieldBlock → Type 0
+IsFieldBlockIf None = Unit {0}
+IsFieldBlockIf (Some b) = IsFieldBlock b
 
 pub record IsFrame (b : GraphicBox) : Type 0 where
   pub thickness : Within 1 32000 b.thickness
   pub width : Within b.thickness 32000 b.width
   pub height : Within b.thickness 32000 b.height
 
-pub record IsPicture (p : PictureHead) : Type 0 where
+pub record IsPictureHead (p : PictureHead) : Type 0 where
   pub row_bytes : Within 1 1024 p.row_bytes
   pub rows : 1 ≤ p.rows
 
@@ -82,11 +82,11 @@ IsSymbolIf (Some (Qr model dots)) = Within 1 2 model × Within 1 10 dots
 abbrev pub IsContent : ℕ → OpenContent → Type 0
 IsContent stored (Data start) = start ≤ stored
 IsContent stored (Frame b colour) = IsFrame b
-IsContent stored (Picture head start) = IsPicture head × (start ≤ stored)
+IsContent stored (Picture head start) = IsPictureHead head × (start ≤ stored)
 
 -- the parts of a field are in their ranges, where `stored` bytes are stored
 pub record AreParts (stored : ℕ) (p : FieldParts) : Type 0 where
   pub origin : IsOrigin p.origin
   pub symbol : IsSymbolIf p.symbol
-  pub block : IsBlockIf p.block
+  pub block : IsFieldBlockIf p.block
   pub content : IfSome p.content (IsContent stored)

@@ -17,7 +17,7 @@ use Rattle.vp_label_settings.specs.declared.parts.OpenContent.TheVariants as con
 use Rattle.vp_label_settings.specs.declared.parts.FieldParts.{FieldParts}
 use Rattle.vp_label_settings.specs.Formats.{is_open, acting, stored}
 use Rattle.vp_label_settings.specs.Settings.{coordinate}
-use Rattle.vp_label_settings.specs.Choices.{bar_choice, code128_choice, qr_choice, block_of}
+use Rattle.vp_label_settings.specs.Choices.{bar_choice, code128_choice, qr_choice, field_block}
 use Rattle.vp_label_settings.specs.Graphics.{box_of, picture_head}
 
 -- ^FO, ^FT: where the field stands, counted from the home
@@ -74,7 +74,7 @@ is_reversed (item ∷ before) = acting is_reversed_by (is_open before) item (is_
 
 -- ^FB: the block that a text stands in
 abbrev pub block_by : Command → Option FieldBlock → Option FieldBlock
-block_by (SetBlock width lines space justification) old = Some (block_of width lines space justification)
+block_by (SetBlock width lines space justification) old = Some (field_block width lines space justification)
 block_by FieldSeparator old = None
 block_by FormatEnd old = None
 block_by _ old = old

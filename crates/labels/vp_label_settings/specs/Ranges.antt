@@ -11,9 +11,9 @@ ranged low high default None = default
 ranged low high default (Some n) = nearest low high n
 
 -- a height or width of characters, in dots: 0 counts as missing
-abbrev pub counted : Option ℕ → Option ℕ
-counted None = None
-counted (Some n) = if n == 0 then None else Some (nearest 1 1500 n)
+abbrev pub side_given : Option ℕ → Option ℕ
+side_given None = None
+side_given (Some n) = if n == 0 then None else Some (nearest 1 1500 n)
 
 -- of a height alone the width is the half; a width alone goes with the default's height
 abbrev pub size_of : Option ℕ → Option ℕ → CharacterSize → CharacterSize
@@ -24,4 +24,4 @@ size_of (Some h) (Some w) default = record { height = h; width = w }
 
 -- the size that a height and a width say
 abbrev pub size_given : Option ℕ → Option ℕ → CharacterSize → CharacterSize
-size_given height width default = size_of (counted height) (counted width) default
+size_given height width default = size_of (side_given height) (side_given width) default

@@ -1,6 +1,6 @@
 //! Fonts, symbols and blocks, as a field asks for them.
 ghost use Rattle.std.specs.Prelude.{◌≡◌};
-ghost use Rattle.vp_label_settings.specs.Choices.{bar_text, bar_choice, code128_choice, qr_choice, line_space, alignment_of, block_of};
+ghost use Rattle.vp_label_settings.specs.Choices.{bar_text, bar_choice, code128_choice, qr_choice, line_space, alignment_of, field_block};
 
 use crate::range::ranged;
 use vp_bars::{BarCode, Code128Data, HriPosition};
@@ -139,7 +139,7 @@ impl FieldBlock {
         space: Option<LineSpace>,
         justification: Option<Justification>,
     ) -> FieldBlock
-        ensures { result ≡ block_of width lines space justification }
+        ensures { result ≡ field_block width lines space justification }
     {
         FieldBlock {
             width: ranged(0, 32_000, 0, width),

@@ -1,7 +1,7 @@
 //! The size of characters.
 ghost use Rattle.std.specs.Prelude.{◌≡◌};
 ghost use Rattle.vp_label_settings.specs.Laws.{IsSize};
-ghost use Rattle.vp_label_settings.specs.Ranges.{counted, size_of, size_given};
+ghost use Rattle.vp_label_settings.specs.Ranges.{side_given, size_of, size_given};
 
 /// The size of characters, in dots.
 #[derive(Clone, Copy, PartialEq, Eq)]
@@ -12,7 +12,7 @@ pub struct CharacterSize {
 
 /// A height or width, at most 1,500; 0 counts as missing.
 fn counted(argument: Option<u32>) -> Option<u16>
-    ensures { result ≡ counted argument }
+    ensures { result ≡ side_given argument }
 {
     match argument {
         Some(n) if n > 0 => Some(n.min(1500) as u16),

@@ -36,11 +36,11 @@ abbrev pub number_of : ℕ → ℕ → ℕ → ℕ → ℕ
 number_of a b c d = 1000 * (a - 0x30) + 100 * (b - 0x30) + 10 * (c - 0x30) + (d - 0x30)
 
 -- B: four digits say how many bytes come, and as many come
-abbrev pub counted : Level → List ℕ → Result QrFront Fault
-counted level (a ∷ b ∷ c ∷ d ∷ bytes) =
+abbrev pub counted_front : Level → List ℕ → Result QrFront Fault
+counted_front level (a ∷ b ∷ c ∷ d ∷ bytes) =
     if are_digits a b c d && number_of a b c d == length bytes then front level Bytes 8
     else Err (Symbol Length)
-counted level _ = Err (Symbol Length)
+counted_front level _ = Err (Symbol Length)
 
 -- M and a comma: a letter says how the bytes are read; K, Kanji, isn't drawn
 abbrev pub manual : Level → List ℕ → Result QrFront Fault
@@ -48,7 +48,7 @@ manual level [] = no_front
 manual level (c ∷ rest) =
     if c == 0x4E then front level Digits 4
     else if c == 0x41 then front level Alnum 4
-    else if c == 0x42 then counted level rest
+    else if c == 0x42 then counted_front level rest
     else if c == 0x4B then Err (Symbol Unsupported)
     else no_front
 

@@ -1,6 +1,6 @@
 //! The level of error correction, how the bytes are read, and where they begin.
 ghost use Rattle.std.specs.Prelude.{◌≡◌, ◌+◌, ◌≤◌, length, IfOk};
-ghost use Rattle.vp_qr_field.specs.Fronts.{level_of, counted, manual, front_in, front_of, is_digit};
+ghost use Rattle.vp_qr_field.specs.Fronts.{level_of, counted_front, manual, front_in, front_of, is_digit};
 
 use vp_dots::{Fault, Why};
 use vp_qr::{Level, Mode};
@@ -44,7 +44,7 @@ fn is_digit(c: u8) -> bool
 
 /// Behind B: as many bytes as its four digits say.
 fn counted(level: Level, rest: &[u8]) -> Result<QrFront, Fault>
-    ensures value { result ≡ counted level rest.now }
+    ensures value { result ≡ counted_front level rest.now }
     ensures within { IfOk result (λ front. front.length ≤ length rest.now + 4) }
 {
     let [a, b, c, d, bytes @ ..] = rest else {

@@ -5,7 +5,7 @@ use Rattle.std.proofs.lemmas.List.{length_push}
 use Rattle.std.specs.List.{AllByRecursion}
 use Rattle.vp_zpl.specs.declared.name.Kind.{Kind}
 use Rattle.vp_zpl.specs.declared.name.Kind.TheVariants as kinds
-use Rattle.vp_zpl.specs.Spelling.{behind}
+use Rattle.vp_zpl.specs.Spelling.{behind_commas}
 use Rattle.vp_zpl.specs.Commands.{cut, with_byte, longer, wants_binary, wants_binary_named, kind, kind_of, kind_named, is_short, is_whole, is_b, head, count_of, in_format}
 use Rattle.vp_zpl.specs.Items.{at_rest, is_within_one, rests}
 use Rattle.vp_zpl.proofs.Cuts.{cut-push, with-byte}
@@ -13,7 +13,7 @@ use Rattle.vp_zpl.proofs.Heads.{still}
 
 -- how many bytes of binary data are wanted
 abbrev pub short_by : List ℕ → ℕ
-short_by (sign ∷ a ∷ b ∷ args) = count_of (head args) - length (behind 4 args)
+short_by (sign ∷ a ∷ b ∷ args) = count_of (head args) - length (behind_commas 4 args)
 short_by _ = 0
 
 all_true : (x y z : Bool) → (x && y && z) ≡ true → (x ≡ true) × (z ≡ true)
@@ -21,11 +21,11 @@ all_true false y z e = absurd (cc)
 all_true true false z e = absurd (cc)
 all_true true true z e = (refl, e)
 
-short_is : (args : List ℕ) → is_short args ≡ true → (is_whole args ≡ true) × (length (behind 4 args) < count_of (head args))
+short_is : (args : List ℕ) → is_short args ≡ true → (is_whole args ≡ true) × (length (behind_commas 4 args) < count_of (head args))
 unfolding is_short
 short_is args e =
-    let a = all_true (is_whole args) (is_b (head args)) (nat_lt (length (behind 4 args)) (count_of (head args))) e in
-    (a.0, few (length (behind 4 args)) (count_of (head args)) a.1)
+    let a = all_true (is_whole args) (is_b (head args)) (nat_lt (length (behind_commas 4 args)) (count_of (head args))) e in
+    (a.0, few (length (behind_commas 4 args)) (count_of (head args)) a.1)
   where
     few : (m n : ℕ) → nat_lt m n ≡ true → m < n
     few m n e = grind (arith, nat_tests)
@@ -50,7 +50,7 @@ less (s ∷ a ∷ b ∷ args) c n w h =
     let t = short_is args (named_short (kind_named s a b) args w) in
     let l = still args c t.0 in
     let e : count_of (head (args ++ c ∷ [])) ≡ count_of (head args) = ap count_of l.head_is in
-    let d : length (behind 4 (args ++ c ∷ [])) ≡ length (behind 4 args) + 1 = ap length l.data_is ∙ length_push (behind 4 args) c in
+    let d : length (behind_commas 4 (args ++ c ∷ [])) ≡ length (behind_commas 4 args) + 1 = ap length l.data_is ∙ length_push (behind_commas 4 args) c in
     omega (arith, h, t.1, e, d)
 
 none_left : (command : List ℕ) → wants_binary command ≡ true → short_by command ≤ 0 → true ≡ false

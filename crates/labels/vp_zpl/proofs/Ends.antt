@@ -9,7 +9,7 @@ use Rattle.vp_zpl.specs.declared.reader.Phase.TheVariants.{Outside, AfterSign, A
 use Rattle.vp_zpl.specs.Spelling.{ended, kept_of, Kept, parameters}
 use Rattle.vp_zpl.specs.Shown.{shown_part, shown_parts}
 use Rattle.vp_zpl.specs.Commands.{kind, is_whole, in_format, in_format_by, indicator, indicator_by, indicator_in}
-use Rattle.vp_zpl.specs.Items.{item_of, data_items, graphic, text_known, text_of, given, given_named, at_end, at_end_named, waiting}
+use Rattle.vp_zpl.specs.Items.{item_of, data_items, graphic, text_known, text_at_end, given, given_named, at_end, at_end_named, waiting}
 use Rattle.vp_zpl.specs.Reader.{StandsIn, Ends, in_phase, indicator_at, indicator_with, left_over, is_alone, has_parameters, InParameters, InText}
 use Rattle.vp_zpl.proofs.Named.{given-is, at_end-is, opened-is, indicator-is}
 use Rattle.vp_zpl.proofs.Phases.{carry, at_phase, at_indicator, nothing_more, data_split}
@@ -112,7 +112,7 @@ nothing_after : (xs : List ℕ) → xs ≡ xs ++ []
 nothing_after [] = refl
 nothing_after (x ∷ xs) = ap (λ y. x ∷ y) (nothing_after xs)
 
-pub text_ends : (o : Option ℕ) (args : List ℕ) → text_of o args ≡ text_known o args ++ waiting o args
+pub text_ends : (o : Option ℕ) (args : List ℕ) → text_at_end o args ≡ text_known o args ++ waiting o args
 text_ends None args = nothing_after args
 text_ends (Some x) args = at_the_end x args
 

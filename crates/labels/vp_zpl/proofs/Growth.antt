@@ -3,7 +3,7 @@ use Rattle.std.proofs.Common.{◌≡◌, ℕ, Bool, true, false, cond, zero, suc
 use Rattle.vp_zpl.specs.declared.name.Kind.{Kind}
 use Rattle.vp_zpl.specs.declared.name.Kind.TheVariants as kinds
 use Rattle.vp_zpl.specs.declared.name.Name.{Name}
-use Rattle.vp_zpl.specs.Spelling.{is_sign, is_line_end, behind, undecided}
+use Rattle.vp_zpl.specs.Spelling.{is_sign, is_line_end, behind_commas, undecided}
 use Rattle.vp_zpl.specs.Commands.{Cut, cut, longer, wants_binary, kind_named, is_whole, is_b, head, count_of, indicator}
 use Rattle.vp_zpl.specs.Items.{Item, items, items_in, item_of, data_items, graphic, picture, is_code, text_known, name_of, given, given_named, at_end, at_end_named, all_ended, waiting}
 use Rattle.vp_zpl.proofs.Cuts.{cut-push, items-is, with-byte}
@@ -30,7 +30,7 @@ take_grows (suc n) (x ∷ xs) y = let g = take_grows n xs y in (g.0, ap (λ l. x
 picture_by : (z : Bool) (args : List ℕ) (c : ℕ) → is_whole args ≡ true → is_b (head args) ≡ z → (added : List ℕ) × (picture (args ++ c ∷ []) ≡ picture args ++ added)
 unfolding picture
 picture_by true args c w b =
-    let s = still args c w in let g = take_grows (count_of (head args)) (behind 4 args) c in
+    let s = still args c w in let g = take_grows (count_of (head args)) (behind_commas 4 args) c in
     (g.0, rw (s.head_is, s.data_is, b) g.1)
 picture_by false args c w b = (cond (is_code c) (c ∷ []) [], code_more args c (cond (is_code c) (c ∷ []) []) w b refl)
 

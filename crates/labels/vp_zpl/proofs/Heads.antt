@@ -4,7 +4,7 @@ use Rattle.std.proofs.lemmas.Bool.Decides.{nat_tests}
 use Rattle.std.proofs.lemmas.List.{map-append, take-append-le, take_all, length_push}
 use Rattle.std.specs.Prelude.{filter}
 use Rattle.vp_zpl.specs.declared.name.Name.{Name}
-use Rattle.vp_zpl.specs.Spelling.{is_comma, is_blank, ended, last, behind, kept}
+use Rattle.vp_zpl.specs.Spelling.{is_comma, is_blank, ended, last, behind_commas, kept}
 use Rattle.vp_zpl.specs.Commands.{is_b, count_of, head, is_whole}
 use Rattle.vp_zpl.specs.Items.{picture, is_code}
 
@@ -27,11 +27,11 @@ pub ended-push : (p args : List ℕ) (c : ℕ) → ended p (args ++ c ∷ []) �
 ended-push p [] c = one_more (is_comma c) (is_blank c) p c
 ended-push p (a ∷ args) c = ended_step (is_comma a) (is_blank a) p args a c (λ q. ended-push q args c)
 
--- behind a whole head, a byte more is a byte of data more
+-- behind_commas a whole head, a byte more is a byte of data more
 behind_step : (x y : Bool) (n : ℕ) (p args : List ℕ) (a c : ℕ)
-    → ((m : ℕ) (q : List ℕ) → m ≤ length (ended q args) → behind m (args ++ c ∷ []) ≡ behind m args ++ c ∷ [])
+    → ((m : ℕ) (q : List ℕ) → m ≤ length (ended q args) → behind_commas m (args ++ c ∷ []) ≡ behind_commas m args ++ c ∷ [])
     → n ≤ length (cond x (p ∷ ended [] args) (cond y (ended p args) (ended (p ++ a ∷ []) args)))
-    → cond x (behind (n - 1) (args ++ c ∷ [])) (behind n (args ++ c ∷ [])) ≡ cond x (behind (n - 1) args) (behind n args) ++ c ∷ []
+    → cond x (behind_commas (n - 1) (args ++ c ∷ [])) (behind_commas n (args ++ c ∷ [])) ≡ cond x (behind_commas (n - 1) args) (behind_commas n args) ++ c ∷ []
 behind_step true y n p args a c ih h = ih (n - 1) [] (omega arith)
 behind_step false true n p args a c ih h = ih n p h
 behind_step false false n p args a c ih h = ih n (p ++ a ∷ []) h
@@ -43,10 +43,10 @@ append_if : (z : Bool) (xs ys : List ℕ) (c : ℕ) → cond z (xs ++ c ∷ []) 
 append_if true xs ys c = refl
 append_if false xs ys c = refl
 
-behind_none : (z : Bool) (n c : ℕ) → n ≤ 0 → behind n (c ∷ []) ≡ c ∷ []
+behind_none : (z : Bool) (n c : ℕ) → n ≤ 0 → behind_commas n (c ∷ []) ≡ c ∷ []
 behind_none z n c h = let e : n ≡ 0 = omega arith in rw e refl
 
-pub behind-push : (n : ℕ) (p args : List ℕ) (c : ℕ) → n ≤ length (ended p args) → behind n (args ++ c ∷ []) ≡ behind n args ++ c ∷ []
+pub behind-push : (n : ℕ) (p args : List ℕ) (c : ℕ) → n ≤ length (ended p args) → behind_commas n (args ++ c ∷ []) ≡ behind_commas n args ++ c ∷ []
 behind-push n p [] c h = behind_none true n c h
 behind-push n p (a ∷ args) c h =
     behind_if (n == 0) _ _ _ _ refl (behind_step (is_comma a) (is_blank a) n p args a c (λ m q g. behind-push m q args c g) h)
@@ -64,7 +64,7 @@ length_kept (p ∷ ps) = let e = length_kept ps in cc
 pub record Still (args : List ℕ) (c : ℕ) : Type 0 where
   pub whole : is_whole (args ++ c ∷ []) ≡ true
   pub head_is : head (args ++ c ∷ []) ≡ head args
-  pub data_is : behind 4 (args ++ c ∷ []) ≡ behind 4 args ++ c ∷ []
+  pub data_is : behind_commas 4 (args ++ c ∷ []) ≡ behind_commas 4 args ++ c ∷ []
 
 pub still : (args : List ℕ) (c : ℕ) → is_whole args ≡ true → Still args c
 unfolding is_whole head
@@ -77,21 +77,21 @@ still args c w =
       data_is = behind-push 4 [] args c l;
     }
 
-pub graphic_same : (name : Name) (args : List ℕ) (c : ℕ) → is_whole args ≡ true → is_b (head args) ≡ true → count_of (head args) ≤ length (behind 4 args)
+pub graphic_same : (name : Name) (args : List ℕ) (c : ℕ) → is_whole args ≡ true → is_b (head args) ≡ true → count_of (head args) ≤ length (behind_commas 4 args)
     → picture (args ++ c ∷ []) ≡ picture args
 unfolding picture
 graphic_same name args c w b full =
     let s = still args c w in
-    rw (s.head_is, s.data_is, b) (take-append-le (count_of (head args)) (behind 4 args) (c ∷ []) full)
+    rw (s.head_is, s.data_is, b) (take-append-le (count_of (head args)) (behind_commas 4 args) (c ∷ []) full)
 
-pub binary_more : (args : List ℕ) (c : ℕ) → is_whole args ≡ true → is_b (head args) ≡ true → length (behind 4 args) < count_of (head args)
+pub binary_more : (args : List ℕ) (c : ℕ) → is_whole args ≡ true → is_b (head args) ≡ true → length (behind_commas 4 args) < count_of (head args)
     → picture (args ++ c ∷ []) ≡ picture args ++ c ∷ []
 unfolding picture
 binary_more args c w b few =
     let s = still args c w in
     rw (s.head_is, s.data_is, b)
-    (take_all (count_of (head args)) (behind 4 args ++ c ∷ []) (omega (arith, length_push (behind 4 args) c))
-    ∙ ap (λ x. x ++ c ∷ []) (sym (take_all (count_of (head args)) (behind 4 args) (omega arith))))
+    (take_all (count_of (head args)) (behind_commas 4 args ++ c ∷ []) (omega (arith, length_push (behind_commas 4 args) c))
+    ∙ ap (λ x. x ++ c ∷ []) (sym (take_all (count_of (head args)) (behind_commas 4 args) (omega arith))))
 
 filter_if : (z : Bool) (x : ℕ) (xs ys zs : List ℕ) → xs ≡ ys ++ zs → cond z (x ∷ xs) xs ≡ cond z (x ∷ ys) ys ++ zs
 filter_if true x xs ys zs e = ap (λ y. x ∷ y) e
@@ -106,4 +106,4 @@ pub code_more : (args : List ℕ) (c : ℕ) (more : List ℕ) → is_whole args 
 unfolding picture
 code_more args c more w b e =
     let s = still args c w in
-    rw (s.head_is, s.data_is, b) (filter_push (behind 4 args) c ∙ ap (λ x. filter is_code (behind 4 args) ++ x) e)
+    rw (s.head_is, s.data_is, b) (filter_push (behind_commas 4 args) c ∙ ap (λ x. filter is_code (behind_commas 4 args) ++ x) e)

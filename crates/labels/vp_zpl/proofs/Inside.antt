@@ -7,7 +7,7 @@ use Rattle.vp_zpl.specs.declared.name.Kind.TheVariants as kinds
 use Rattle.vp_zpl.specs.declared.name.Name.{Name}
 use Rattle.vp_zpl.specs.declared.reader.ZplReader.{ZplReader}
 use Rattle.vp_zpl.specs.declared.reader.Phase.TheVariants.{Parameters, Codes, Binary}
-use Rattle.vp_zpl.specs.Spelling.{is_comma, is_blank, ended, last, behind, kept, kept_of, Kept}
+use Rattle.vp_zpl.specs.Spelling.{is_comma, is_blank, ended, last, behind_commas, kept, kept_of, Kept}
 use Rattle.vp_zpl.specs.Shown.{shown_part, shown_parts}
 use Rattle.vp_zpl.specs.Commands.{is_b, count_of, head, is_whole, longer, indicator}
 use Rattle.vp_zpl.specs.Items.{item_of, picture, is_code, given_named}
@@ -89,8 +89,8 @@ comma_goes r new before command kind stands p e ends few =
       part_is = ends.part ∙ ap Rattle.vp_zpl.specs.Spelling.kept (sym (comma_last args));
     })
 
--- the phase behind a whole head
-head_phase : (z : Bool) (new : ZplReader) (args command : List ℕ) → Named new kinds.Graphic args command → is_whole args ≡ true → behind 4 args ≡ [] → is_b (head args) ≡ z
+-- the phase behind_commas a whole head
+head_phase : (z : Bool) (new : ZplReader) (args command : List ℕ) → Named new kinds.Graphic args command → is_whole args ≡ true → behind_commas 4 args ≡ [] → is_b (head args) ≡ z
     → in_phase (cond z (Binary (count_of (head args))) Codes) new command
 head_phase true new args command n w d e = record { args = args; named = n; whole = w; binary = e; left_is = omega (arith, ap length d) }
 head_phase false new args command n w d e = record { args = args; named = n; whole = w; is_a = e }
@@ -103,7 +103,7 @@ no_picture : (z : Bool) (n : ℕ) (none : List ℕ) → none ≡ [] → cond z (
 no_picture true n none e = take-nil n
 no_picture false n none e = e
 
-picture_none : (args : List ℕ) → behind 4 args ≡ [] → picture args ≡ []
+picture_none : (args : List ℕ) → behind_commas 4 args ≡ [] → picture args ≡ []
 unfolding picture
 picture_none args d = rw d (no_picture (is_b (head args)) (count_of (head args)) (filter is_code []) refl)
 

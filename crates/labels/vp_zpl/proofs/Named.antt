@@ -6,7 +6,7 @@ use Rattle.vp_zpl.specs.declared.name.Kind.TheVariants as kinds
 use Rattle.vp_zpl.specs.declared.reader.ZplReader.{ZplReader}
 use Rattle.vp_zpl.specs.declared.reader.Phase.{Phase}
 use Rattle.vp_zpl.specs.declared.reader.Phase.TheVariants.{Outside, AfterSign, AfterFirst, Skipping, Parameters, Text, AfterIndicator, AfterDigit, Codes, Binary}
-use Rattle.vp_zpl.specs.Spelling.{behind}
+use Rattle.vp_zpl.specs.Spelling.{behind_commas}
 use Rattle.vp_zpl.specs.Commands.{kind, count_of, head, is_whole, is_short, longer, in_format, in_format_by, indicator, indicator_by, wants_binary, wants_binary_named}
 use Rattle.vp_zpl.specs.Items.{Item, given, given_named, at_end, at_end_named, name_of}
 use Rattle.vp_zpl.specs.Reader.{Named, Goes, in_phase, is_alone, indicator_at, left_of}
@@ -109,7 +109,7 @@ wants_in Text r o h = wants-is h.named
 wants_in (AfterIndicator x) r o h = wants-is h.1.named
 wants_in (AfterDigit x d) r o h = wants-is h.1.named
 wants_in Codes r o h = wants-is h.named ∙ rw (h.whole, h.is_a) refl
-wants_in (Binary left) r o h = wants-is h.named ∙ rw (h.whole, h.binary, h.left_is) (more_left (length (behind 4 h.args)) (count_of (head h.args)))
+wants_in (Binary left) r o h = wants-is h.named ∙ rw (h.whole, h.binary, h.left_is) (more_left (length (behind_commas 4 h.args)) (count_of (head h.args)))
 
 carry : {A : Type 0} (P : A → Type 0) (a b : A) → a ≡ b → P a → P b
 carry P a b e x = rw e at x

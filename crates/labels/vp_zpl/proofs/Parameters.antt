@@ -2,11 +2,11 @@
 use Rattle.std.proofs.Common.{◌≡◌, ℕ, ◌+◌, ◌-◌, ◌<◌, ◌≤◌, ◌==◌, Bool, true, false, cond, zero, suc, List, [], ◌∷◌, ◌++◌, length, take, map, refl, sym, ap, ◌∙◌, arith, nat_le}
 use Rattle.std.proofs.lemmas.Bool.Decides.{nat_tests}
 use Rattle.std.proofs.lemmas.List.{map_push, take_all, length_push, length-take}
-use Rattle.vp_zpl.specs.Spelling.{is_comma, is_blank, ended, last, behind, parameters, kept, kept_of, Kept}
+use Rattle.vp_zpl.specs.Spelling.{is_comma, is_blank, ended, last, behind_commas, parameters, kept, kept_of, Kept}
 use Rattle.vp_zpl.specs.Commands.{is_whole, head}
 use Rattle.vp_zpl.proofs.Heads.{ended-push}
 
--- the last parameter behind a byte more
+-- the last parameter behind_commas a byte more
 abbrev pub after : ℕ → List ℕ → List ℕ
 after c p = cond (is_comma c) [] (cond (is_blank c) p (p ++ c ∷ []))
 
@@ -21,7 +21,7 @@ pub last-push : (p args : List ℕ) (c : ℕ) → last p (args ++ c ∷ []) ≡ 
 last-push p [] c = refl
 last-push p (a ∷ args) c = last_step (is_comma a) (is_blank a) p args a c (λ q. last-push q args c)
 
--- the first n, with one more behind the first n
+-- the first n, with one more behind_commas the first n
 pub take_front : {X : Type 0} (n : ℕ) (xs : List X) (y : X) → take n (xs ++ y ∷ []) ≡ take n (take n xs ++ y ∷ [])
 take_front zero xs y = refl
 take_front (suc n) [] y = refl
@@ -54,26 +54,26 @@ pub comma_last : (args : List ℕ) → last [] (args ++ 0x2C ∷ []) ≡ []
 comma_last args = last-push [] args 0x2C
 
 behind_within : (x y : Bool) (n : ℕ) (p args : List ℕ) (a : ℕ)
-    → ((m : ℕ) (q : List ℕ) → length (ended q args) + 1 ≤ m → behind m (args ++ 0x2C ∷ []) ≡ [])
+    → ((m : ℕ) (q : List ℕ) → length (ended q args) + 1 ≤ m → behind_commas m (args ++ 0x2C ∷ []) ≡ [])
     → length (cond x (p ∷ ended [] args) (cond y (ended p args) (ended (p ++ a ∷ []) args))) + 1 ≤ n
-    → cond x (behind (n - 1) (args ++ 0x2C ∷ [])) (behind n (args ++ 0x2C ∷ [])) ≡ []
+    → cond x (behind_commas (n - 1) (args ++ 0x2C ∷ [])) (behind_commas n (args ++ 0x2C ∷ [])) ≡ []
 behind_within true y n p args a ih g = ih (n - 1) [] (omega arith)
 behind_within false true n p args a ih g = ih n p g
 behind_within false false n p args a ih g = ih n (p ++ a ∷ []) g
 
--- behind a comma that ends the n-th parameter there is nothing
-pub behind_last : (n : ℕ) (p args : List ℕ) → length (ended p args) + 1 ≤ n → behind n (args ++ 0x2C ∷ []) ≡ []
+-- behind_commas a comma that ends the n-th parameter there is nothing
+pub behind_last : (n : ℕ) (p args : List ℕ) → length (ended p args) + 1 ≤ n → behind_commas n (args ++ 0x2C ∷ []) ≡ []
 behind_last n p [] h = let e : (n == 0) ≡ false = grind (arith, nat_tests) in ap (λ z. cond z (0x2C ∷ []) []) e
 behind_last n p (a ∷ args) h =
     let e : (n == 0) ≡ false = grind (arith, nat_tests) in
-    ap (λ z. cond z (a ∷ args ++ 0x2C ∷ []) (cond (is_comma a) (behind (n - 1) (args ++ 0x2C ∷ [])) (behind n (args ++ 0x2C ∷ [])))) e
+    ap (λ z. cond z (a ∷ args ++ 0x2C ∷ []) (cond (is_comma a) (behind_commas (n - 1) (args ++ 0x2C ∷ [])) (behind_commas n (args ++ 0x2C ∷ [])))) e
     ∙ behind_within (is_comma a) (is_blank a) n p args a (λ m q g. behind_last m q args g) h
 
 -- a head is whole at its fourth comma
 pub record Completes (args : List ℕ) (sent : List Kept) : Type 0 where
   pub whole : is_whole (args ++ 0x2C ∷ []) ≡ true
   pub head_is : head (args ++ 0x2C ∷ []) ≡ sent
-  pub data_is : behind 4 (args ++ 0x2C ∷ []) ≡ []
+  pub data_is : behind_commas 4 (args ++ 0x2C ∷ []) ≡ []
 
 length_kept : (ps : List (List ℕ)) → length (map kept ps) ≡ length ps
 length_kept [] = refl

@@ -7,7 +7,7 @@ use Rattle.vp_zpl.specs.declared.name.Name.{Name}
 use Rattle.vp_zpl.specs.declared.reader.ZplReader.{ZplReader}
 use Rattle.vp_zpl.specs.declared.reader.Phase.{Phase}
 use Rattle.vp_zpl.specs.declared.reader.Phase.TheVariants.{Outside, AfterSign, AfterFirst, Skipping, Parameters, Text, AfterIndicator, AfterDigit, Codes, Binary}
-use Rattle.vp_zpl.specs.Spelling.{behind}
+use Rattle.vp_zpl.specs.Spelling.{behind_commas}
 use Rattle.vp_zpl.specs.Commands.{count_of, head, is_whole, indicator, wants_binary}
 use Rattle.vp_zpl.specs.Items.{data_items, item_of, graphic, picture, is_code}
 use Rattle.vp_zpl.specs.Reader.{StandsIn, Goes, InCodes, InBinary, left_of}
@@ -43,7 +43,7 @@ behind_goes r before command left c stands wants p =
     let i : r.indicator ≡ indicator (command ∷ before) = at_indicator r before command (Binary left) stands p in
     let none : nat_lt 0 left ≡ false = sym (wants_in (Binary left) r command h) ∙ wants in
     let zero : left ≡ 0 = grind (arith, nat_tests) in
-    let full : count_of (head h.args) ≤ length (behind 4 h.args) = omega (arith, h.left_is, zero) in
+    let full : count_of (head h.args) ≤ length (behind_commas 4 h.args) = omega (arith, h.left_is, zero) in
     let s = still h.args c h.whole in
     goes_named [] r before command c (Binary left) h.named stands.opened p (i ∙ indicator_longer before command c h.named refl)
     (given_graphic h.args r.sent.name [] c h.whole (graphic_same r.sent.name h.args c h.whole h.binary full ∙ none_more (picture h.args))) refl
@@ -52,7 +52,7 @@ behind_goes r before command left c stands wants p =
       named = named_longer h.named r c refl;
       whole = s.whole;
       binary = rw s.head_is h.binary;
-      left_is = rw (s.head_is, s.data_is) (omega (arith, zero, full, length_push (behind 4 h.args) c));
+      left_is = rw (s.head_is, s.data_is) (omega (arith, zero, full, length_push (behind_commas 4 h.args) c));
     })
 
 -- a byte of binary data
@@ -63,7 +63,7 @@ binary_goes r new before command left c stands l some name opened indicates phas
     let h : InBinary r left command = at_phase r before command (Binary left) stands p in
     let i : r.indicator ≡ indicator (command ∷ before) = at_indicator r before command (Binary left) stands p in
     let s = still h.args c h.whole in
-    let few : length (behind 4 h.args) < count_of (head h.args) = omega (arith, h.left_is) in
+    let few : length (behind_commas 4 h.args) < count_of (head h.args) = omega (arith, h.left_is) in
     goes_named (data_items (c ∷ [])) new before command c (Binary (left - 1)) h.named (opened ∙ stands.opened) phase (indicates ∙ i ∙ indicator_longer before command c h.named refl)
     (given_graphic h.args r.sent.name (c ∷ []) c h.whole (binary_more h.args c h.whole h.binary few)) name
     (record {
@@ -71,7 +71,7 @@ binary_goes r new before command left c stands l some name opened indicates phas
       named = named_longer h.named new c name;
       whole = s.whole;
       binary = rw s.head_is h.binary;
-      left_is = rw (s.head_is, s.data_is) (omega (arith, h.left_is, length_push (behind 4 h.args) c));
+      left_is = rw (s.head_is, s.data_is) (omega (arith, h.left_is, length_push (behind_commas 4 h.args) c));
     })
 
 -- a byte of ^GF A

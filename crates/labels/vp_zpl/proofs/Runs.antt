@@ -9,7 +9,7 @@ use Rattle.vp_zpl.specs.declared.name.Kind.TheVariants as kinds
 use Rattle.vp_zpl.specs.declared.reader.ZplReader.{ZplReader}
 use Rattle.vp_zpl.specs.declared.reader.Phase.{Phase}
 use Rattle.vp_zpl.specs.declared.reader.Phase.TheVariants.{Outside, AfterSign, AfterFirst, Skipping, Parameters, Text, AfterIndicator, AfterDigit, Codes, Binary}
-use Rattle.vp_zpl.specs.Spelling.{is_sign, is_line_end, behind}
+use Rattle.vp_zpl.specs.Spelling.{is_sign, is_line_end, behind_commas}
 use Rattle.vp_zpl.specs.Commands.{cut, is_whole, is_b, head, count_of, indicator}
 use Rattle.vp_zpl.specs.Items.{items, data_items, is_code, waiting}
 use Rattle.vp_zpl.specs.Runs.{ends_data, is_indicated, is_text, is_kept_code, text_front, front_named, front_in}
@@ -166,7 +166,7 @@ text_by r before command left input h i =
     front_of h.named before input ∙ ap (λ o. text_front (waiting o h.args) o input) (sym (i ∙ indicator-is h.named before)) ∙ ap (λ u. text_front u r.indicator input) h.waits
 
 whole_front : (o : Option ℕ) (args input : List ℕ) (z : Bool) → is_whole args ≡ true → is_b (head args) ≡ z
-    → front_named kinds.Graphic o args input ≡ cond z (min (length input) (count_of (head args) - length (behind 4 args))) (prefix_len is_kept_code input)
+    → front_named kinds.Graphic o args input ≡ cond z (min (length input) (count_of (head args) - length (behind_commas 4 args))) (prefix_len is_kept_code input)
 whole_front o args input z w e = rw (w, e) refl
 
 pub front_is : (q : Phase) (r : ZplReader) (before : List (List ℕ)) (command input : List ℕ) → in_phase q r command → r.indicator ≡ indicator_at q command before

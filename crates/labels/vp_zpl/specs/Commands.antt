@@ -4,7 +4,7 @@ use Rattle.std.specs.Prelude.{ℕ, ◌==◌, Bool, true, false, not, ◌&&◌, O
 use Rattle.vp_zpl.specs.declared.name.Kind.{Kind}
 use Rattle.vp_zpl.specs.declared.name.Kind.TheVariants as kinds
 use Rattle.vp_zpl.specs.declared.name.Plain.TheVariants as plain
-use Rattle.vp_zpl.specs.Spelling.{is_sign, is_line_end, capital, ended, parameters, kept, kept_of, Kept, number_of, behind}
+use Rattle.vp_zpl.specs.Spelling.{is_sign, is_line_end, capital, ended, parameters, kept, kept_of, Kept, number_of, behind_commas}
 
 -- ^X.
 abbrev pub format_command : ℕ → Kind
@@ -109,9 +109,9 @@ is_whole args = nat_le 4 (length (ended [] args))
 unfoldable pub head : List ℕ → List Kept
 head args = take 4 (map kept (ended [] args))
 
--- binary data is wanted: fewer than b bytes stand behind the fourth comma
+-- binary data is wanted: fewer than b bytes stand behind_commas the fourth comma
 unfoldable pub is_short : List ℕ → Bool
-is_short args = is_whole args && is_b (head args) && nat_lt (length (behind 4 args)) (count_of (head args))
+is_short args = is_whole args && is_b (head args) && nat_lt (length (behind_commas 4 args)) (count_of (head args))
 
 abbrev pub wants_binary_named : Kind → List ℕ → Bool
 wants_binary_named kinds.Graphic args = is_short args

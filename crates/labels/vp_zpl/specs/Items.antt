@@ -5,7 +5,7 @@ use Rattle.vp_zpl.specs.declared.name.Kind.TheVariants as kinds
 use Rattle.vp_zpl.specs.declared.name.Name.{Name}
 use Rattle.vp_zpl.specs.declared.item.Command.{Command}
 use Rattle.vp_zpl.specs.Arguments.{command_of}
-use Rattle.vp_zpl.specs.Spelling.{is_blank, capital, parameters, kept_of, Kept, behind, decoded, known, undecided}
+use Rattle.vp_zpl.specs.Spelling.{is_blank, capital, parameters, kept_of, Kept, behind_commas, decoded, known, undecided}
 use Rattle.vp_zpl.specs.Commands.{kind_named, kind, is_b, count_of, is_whole, head, is_short, Cut, cut, in_format, indicator, wants_binary}
 
 -- a command with its arguments, and its name and parameters as they were sent; a byte of data
@@ -31,9 +31,9 @@ abbrev pub text_known : Option ℕ → List ℕ → List ℕ
 text_known None bytes = bytes
 text_known (Some x) bytes = known x bytes
 
-abbrev pub text_of : Option ℕ → List ℕ → List ℕ
-text_of None bytes = bytes
-text_of (Some x) bytes = decoded x bytes
+abbrev pub text_at_end : Option ℕ → List ℕ → List ℕ
+text_at_end None bytes = bytes
+text_at_end (Some x) bytes = decoded x bytes
 
 -- what may yet be spelled as one byte
 abbrev pub waiting : Option ℕ → List ℕ → List ℕ
@@ -47,7 +47,7 @@ is_code c = not (is_blank c || c == 0x09)
 -- the data of ^GF: b bytes for B, else up to the next sign
 unfoldable pub picture : List ℕ → List ℕ
 picture args =
-    if is_b (head args) then take (count_of (head args)) (behind 4 args) else filter is_code (behind 4 args)
+    if is_b (head args) then take (count_of (head args)) (behind_commas 4 args) else filter is_code (behind_commas 4 args)
 
 abbrev pub graphic : Name → List ℕ → List Item
 graphic name args = item_of kinds.Graphic name (head args) ∷ data_items (picture args)
@@ -71,7 +71,7 @@ at_end_named (kinds.Plain k) before name args = item_of (kinds.Plain k) name (ke
 at_end_named kinds.Graphic before name args =
     if is_whole args then graphic name args else item_of kinds.Graphic name (kept_of (parameters args)) ∷ []
 at_end_named kinds.FieldData before name args =
-    item_of kinds.FieldData name [] ∷ data_items (text_of (indicator before) args)
+    item_of kinds.FieldData name [] ∷ data_items (text_at_end (indicator before) args)
 at_end_named kind before name args = item_of kind name [] ∷ []
 
 -- what it has given once a sign has ended it

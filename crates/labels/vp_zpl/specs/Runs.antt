@@ -1,9 +1,9 @@
--- How many bytes from the front of these are data by themselves, behind what was read.
+-- How many bytes from the front of these are data by themselves, behind_commas what was read.
 use Rattle.std.specs.Prelude.{ℕ, ◌-◌, ◌==◌, Bool, false, not, ◌&&◌, ◌||◌, Option, Some, None, List, [], ◌∷◌, length, min, if◌then◌else◌}
 use Rattle.std.specs.List.{prefix_len}
 use Rattle.vp_zpl.specs.declared.name.Kind.{Kind}
 use Rattle.vp_zpl.specs.declared.name.Kind.TheVariants as kinds
-use Rattle.vp_zpl.specs.Spelling.{is_sign, is_line_end, behind}
+use Rattle.vp_zpl.specs.Spelling.{is_sign, is_line_end, behind_commas}
 use Rattle.vp_zpl.specs.Commands.{kind_named, is_b, count_of, is_whole, head, Cut, indicator}
 use Rattle.vp_zpl.specs.Items.{is_code, waiting}
 
@@ -29,7 +29,7 @@ text_front (a ∷ undecided) indicated input = 0
 
 abbrev pub picture_front : List ℕ → List ℕ → ℕ
 picture_front args input =
-    if is_b (head args) then min (length input) (count_of (head args) - length (behind 4 args))
+    if is_b (head args) then min (length input) (count_of (head args) - length (behind_commas 4 args))
     else prefix_len is_kept_code input
 
 abbrev pub front_named : Kind → Option ℕ → List ℕ → List ℕ → ℕ

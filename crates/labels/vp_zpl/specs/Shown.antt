@@ -26,6 +26,6 @@ shown_item (lent.Command sent) =
     Given sent.now.command sent.now.name (shown_parts sent.now.parameters.items) ∷ []
 shown_item (lent.Data bytes) = data_items (data_bytes bytes.now)
 
-abbrev pub shown : Option ZplItem → List Item
-shown None = []
-shown (Some item) = shown_item item
+abbrev pub shown_items : Option ZplItem → List Item
+shown_items None = []
+shown_items (Some item) = shown_item item

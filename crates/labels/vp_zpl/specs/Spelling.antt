@@ -23,7 +23,7 @@ is_digit c = is_within 0x30 0x39 c
 
 -- a letter's capital
 unfoldable pub capital : ℕ → ℕ
-capital c = if is_within 0x61 0x7A c then c - 32 else c
+capital c = if is_within 0x61 0x7A c then c - 0x20 else c
 
 -- a hex digit's value, in either case
 unfoldable pub hex_of : ℕ → Option ℕ
@@ -39,7 +39,7 @@ ended p (c ∷ args) =
     if is_comma c then p ∷ ended [] args else if is_blank c then ended p args
     else ended (p ++ c ∷ []) args
 
--- the parameter behind the last comma
+-- the parameter behind_commas the last comma
 abbrev pub last : List ℕ → List ℕ → List ℕ
 last p [] = p
 last p (c ∷ args) =
@@ -76,10 +76,10 @@ number_in false (c ∷ digits) = number_on 0 (c ∷ digits)
 unfoldable pub number_of : Kept → Option ℕ
 number_of p = number_in p.is_long p.bytes
 
--- what stands behind the n-th comma
-abbrev pub behind : ℕ → List ℕ → List ℕ
-behind n [] = []
-behind n (c ∷ args) = if n == 0 then c ∷ args else if is_comma c then behind (n - 1) args else behind n args
+-- what stands behind_commas the n-th comma
+abbrev pub behind_commas : ℕ → List ℕ → List ℕ
+behind_commas n [] = []
+behind_commas n (c ∷ args) = if n == 0 then c ∷ args else if is_comma c then behind_commas (n - 1) args else behind_commas n args
 
 -- a byte of two hex digits, where they are
 abbrev pub hex_pair : Option ℕ → Option ℕ → Option ℕ

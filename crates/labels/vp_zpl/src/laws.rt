@@ -3,7 +3,7 @@ ghost use Rattle.std.specs.Prelude.{◌≡◌, ◌++◌, ◌∷◌, [], ℕ, Lis
 ghost use Rattle.std.specs.List.{AllByRecursion};
 ghost use Rattle.vp_zpl.specs.declared.name.Kind.TheVariants as kinds;
 ghost use Rattle.vp_zpl.specs.declared.name.Plain.TheVariants as plain;
-ghost use Rattle.vp_zpl.specs.Spelling.{is_line_end, capital, known, undecided, decoded, parameters, behind};
+ghost use Rattle.vp_zpl.specs.Spelling.{is_line_end, capital, known, undecided, decoded, parameters, behind_commas};
 ghost use Rattle.vp_zpl.specs.Commands.{cut, wants_binary, kind_named, is_whole, is_b, head, count_of};
 ghost use Rattle.vp_zpl.specs.Items.{Item, items, picture, at_rest};
 ghost use Rattle.vp_zpl.specs.Laws.{rows, kind_in, IsCommand, IsCut, cut_of};
@@ -39,7 +39,7 @@ pub fn blanks()
     ensures parameters { (args more : List ℕ) → parameters (args ++ 0x20 ∷ more) ≡ parameters (args ++ more) }
     ensures head { (args more : List ℕ) → is_whole args ≡ false →
         (head (args ++ 0x20 ∷ more) ≡ head (args ++ more))
-        × (behind 4 (args ++ 0x20 ∷ more) ≡ behind 4 (args ++ more)) }
+        × (behind_commas 4 (args ++ 0x20 ∷ more) ≡ behind_commas 4 (args ++ more)) }
 {}
 
 /// Data that are known stay known, and at the end what is undecided is itself.
@@ -53,7 +53,7 @@ pub fn hex_data()
 pub fn binary_data()
     ensures head { (args : List ℕ) (c : ℕ) → is_whole args ≡ true → head (args ++ c ∷ []) ≡ head args }
     ensures data_bytes { (args : List ℕ) (c : ℕ) → is_whole args ≡ true → is_b (head args) ≡ true →
-        length (behind 4 args) < count_of (head args) → picture (args ++ c ∷ []) ≡ picture args ++ c ∷ [] }
+        length (behind_commas 4 args) < count_of (head args) → picture (args ++ c ∷ []) ≡ picture args ++ c ∷ [] }
 {}
 
 /// Whatever was read, more bytes bring the reader to rest.

@@ -5,7 +5,7 @@ ghost use Rattle.vp_zpl.specs.Commands.{Cut, cut, wants_binary};
 ghost use Rattle.vp_zpl.specs.Spelling.{kept};
 ghost use Rattle.vp_zpl.specs.Arguments.{command_of as command_as};
 ghost use Rattle.vp_zpl.specs.Items.{items, data_items, at_rest};
-ghost use Rattle.vp_zpl.specs.Shown.{shown, shown_part, shown_parts};
+ghost use Rattle.vp_zpl.specs.Shown.{shown_items, shown_part, shown_parts};
 ghost use Rattle.vp_zpl.specs.Reader.{Stands, StandsIn, Goes, Ends, Advances, Continues, Closes, shown_event, behind_head, left_of, phase_behind as phase_is, at_name, indicator_with, left_over, rests_in, front_by, phase_after};
 ghost use Rattle.vp_zpl.specs.Runs.{data_front};
 
@@ -355,7 +355,7 @@ impl ZplReader {
         ensures* stands { sem 𝓛 (Leaves self.entry (λ new. (bytes : List ℕ) → Stands self.old bytes →
             Stands new (bytes ++ byte ∷ []))) }
         ensures gives { (bytes : List ℕ) → Stands self.old bytes →
-            items (bytes ++ byte ∷ []) ≡ items bytes ++ shown result }
+            items (bytes ++ byte ∷ []) ≡ items bytes ++ shown_items result }
     {
         match self.step(byte) {
             Event::Nothing => None,

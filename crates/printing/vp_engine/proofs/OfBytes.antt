@@ -69,7 +69,7 @@ use Rattle.vp_label_settings.specs.Settings.{settings_of}
 use Rattle.vp_label_settings.specs.Refusals.{unless_headed, head_refusal}
 use Rattle.vp_qr_field.specs.declared.front.QrFront.{QrFront}
 use Rattle.vp_qr_field.specs.Fronts as fronts
-use Rattle.vp_closing.specs.Graphics.{headed, has_refused, picture_unless}
+use Rattle.vp_closing.specs.Graphics.{picture_with, has_refused, picture_unless}
 use Rattle.vp_closing.specs.Symbols as closing
 use Rattle.vp_closing.specs.Contents.{bytes_from, data_content, content_of}
 use Rattle.vp_closing.specs.Closing.{field_with, field_of, operation, colour_of}
@@ -238,7 +238,7 @@ receipts_of_byte setup before QrPrint =
 receipts_of_byte setup before _ = tt
 
 -- what a label's field shows
-counted_by : (level : Level) (bytes : List ℕ) → ErrOfByte (fronts.counted level bytes)
+counted_by : (level : Level) (bytes : List ℕ) → ErrOfByte (fronts.counted_front level bytes)
 counted_by level (a ∷ b ∷ c ∷ d ∷ bytes) =
     err_if (fronts.are_digits a b c d && fronts.number_of a b c d == length bytes) (fronts.front level Bytes 8) (Err (Symbol Length)) tt (symbol_of_byte Length)
 counted_by level _ = omega arith
@@ -247,11 +247,11 @@ manual_by : (level : Level) (bytes : List ℕ) → ErrOfByte (fronts.manual leve
 manual_by level [] = omega arith
 manual_by level (c ∷ rest) =
     let no : Result QrFront Fault = cond (c == 0x4B) (Err (Symbol Unsupported)) fronts.no_front in
-    let bytes = cond (c == 0x42) (fronts.counted level rest) no in
+    let bytes = cond (c == 0x42) (fronts.counted_front level rest) no in
     let alnum = cond (c == 0x41) (fronts.front level Alnum 4) bytes in
     err_if (c == 0x4E) (fronts.front level Digits 4) alnum tt
     (err_if (c == 0x41) (fronts.front level Alnum 4) bytes tt
-    (err_if (c == 0x42) (fronts.counted level rest) no (counted_by level rest)
+    (err_if (c == 0x42) (fronts.counted_front level rest) no (counted_by level rest)
     (err_if (c == 0x4B) (Err (Symbol Unsupported)) fronts.no_front (symbol_of_byte Unsupported) (symbol_of_byte UnknownSet))))
 
 mode_by : (level : Level) (c : ℕ) (rest : List ℕ) → ErrOfByte (fronts.mode_of level c rest)
@@ -283,7 +283,7 @@ qr_unless None symbol h = tt
 qr_by : (stored : List ℕ) (dots : ℕ) (bytes : Span) (front : Result QrFront Fault) → ErrOfByte front → ErrOfByte (closing.qr_of stored dots bytes front)
 qr_by stored dots bytes (Err why) h = h
 qr_by stored dots bytes (Ok front) h =
-    let rest = closing.behind front bytes in
+    let rest = closing.behind_front front bytes in
     qr_unless (no_symbol front.level front.mode (bytes_of stored rest)) (closing.qr_symbol stored dots front rest) (qr_of_byte front.level front.mode (bytes_of stored rest))
 
 data_by : (stored : List ℕ) (s : Settings) (p : FieldParts) (choice : Option SymbolChoice) (bytes : Span) → ErrOfByte (data_content stored s p choice bytes)
@@ -299,7 +299,7 @@ picture_by false p = tt
 content_by : (stored : List ℕ) (s : Settings) (p : FieldParts) (content : OpenContent) → ErrOfByte (content_of stored s p content)
 content_by stored s p (FieldData start) = data_by stored s p p.symbol (bytes_from stored start)
 content_by stored s p (Frame b colour) = tt
-content_by stored s p (PictureContent head start) = picture_by (has_refused (picture_of stored (headed head (bytes_from stored start)))) (headed head (bytes_from stored start))
+content_by stored s p (PictureContent head start) = picture_by (has_refused (picture_of stored (picture_with head (bytes_from stored start)))) (picture_with head (bytes_from stored start))
 
 field_by : (sheets : Sheets) (stored : List ℕ) (s : Settings) (p : FieldParts) (op : Op) (content : Result Content Fault) → ErrOfByte content → ErrOfByte (field_with sheets stored s p op content)
 field_by sheets stored s p op (Err why) h = h

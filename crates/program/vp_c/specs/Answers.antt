@@ -6,13 +6,13 @@ use Rattle.vp_c.specs.declared.answer.Refusal.{Refusal}
 use Rattle.vp_c.specs.declared.answer.Refusal.TheVariants.{Memory, Language, SheetA, SheetB}
 use Rattle.vp_c.specs.declared.answer.TheConstants.{NO_MEMORY, NO_LANGUAGE, SHEET_A, SHEET_B}
 
--- an offence's number behind the first; want of memory has none
-abbrev pub behind : ℕ → Option ℕ → ℕ
-behind first (Some number) = first + number
-behind first None = NO_MEMORY
+-- an offence's number numbered_from the first; want of memory has none
+abbrev pub numbered_from : ℕ → Option ℕ → ℕ
+numbered_from first (Some number) = first + number
+numbered_from first None = NO_MEMORY
 
 abbrev pub number_of_sheet : ℕ → SheetError → ℕ
-number_of_sheet first error = behind first (glyph.number_of error)
+number_of_sheet first error = numbered_from first (glyph.number_of error)
 
 abbrev pub number_of : Refusal → ℕ
 number_of Memory = NO_MEMORY

@@ -1,6 +1,8 @@
+-- The rules.
 pub mod Areas
 pub mod Lines
 pub mod Layers
+pub mod Laws
+-- What the code keeps.
 pub mod Work
 pub mod Pages
-pub mod Laws

@@ -21,7 +21,7 @@ use Rattle.vp_receipt_settings.specs.Texts.{text_in_force}
 use Rattle.vp_receipt_settings.specs.Pages.{is_paged, is_area, area_cut, is_vertical_move, vertical_moved}
 use Rattle.vp_receipt_settings.specs.Rasters.{draws, scale_or, times_down}
 use Rattle.vp_receipt_settings.specs.Line.{Placed, Frame, line, mode, is_open, character}
-use Rattle.vp_receipt_settings.specs.Settings.{settings_of, length_of, image_of}
+use Rattle.vp_receipt_settings.specs.Settings.{settings_of, settings_length, image_of}
 use Rattle.vp_receipt_settings.specs.Effects.{effect_of, feed_of, is_full_of, is_page, waits_of, runs_along}
 use Rattle.vp_dots.specs.Images.{Image}
 use Rattle.vp_strips.specs.LineDots.{HasOpen}
@@ -58,8 +58,8 @@ kind_is s (RasterByte byte) = refl
 kind_is s (Symbol kind bytes more) = refl
 kind_is s QrPrint = refl
 kind_is s (Character c) = either (IsKind (Character c)) (is_full_of s) (Breaks (feed_of s) c) (Puts (OneCharacter c)) (record { byte = λ b e. cc; symbol = refl }) (record { byte = λ b e. cc; symbol = refl })
-kind_is s (Column8 byte) = either (IsKind (Column8 byte)) (nat_lt s.position (length_of s)) (Puts (OneColumn8 byte)) Sets (record { byte = λ b e. cc; symbol = refl }) (record { byte = λ b e. cc; symbol = refl })
-kind_is s (Column24 bytes) = either (IsKind (Column24 bytes)) (nat_lt s.position (length_of s)) (Puts (OneColumn24 bytes)) Sets (record { byte = λ b e. cc; symbol = refl }) (record { byte = λ b e. cc; symbol = refl })
+kind_is s (Column8 byte) = either (IsKind (Column8 byte)) (nat_lt s.position (settings_length s)) (Puts (OneColumn8 byte)) Sets (record { byte = λ b e. cc; symbol = refl }) (record { byte = λ b e. cc; symbol = refl })
+kind_is s (Column24 bytes) = either (IsKind (Column24 bytes)) (nat_lt s.position (settings_length s)) (Puts (OneColumn24 bytes)) Sets (record { byte = λ b e. cc; symbol = refl }) (record { byte = λ b e. cc; symbol = refl })
 kind_is s (Raster scale bytes rows) = either (IsKind (Raster scale bytes rows)) (draws scale.value bytes rows) (BeginsRaster (times_down (scale_or scale.value) * rows)) Sets (record { byte = λ b e. cc; symbol = refl }) (record { byte = λ b e. cc; symbol = refl })
 kind_is s PageMode = either (IsKind PageMode) (not (is_paged s.page.mode) && not s.is_open) BeginsPage Sets (record { byte = λ b e. cc; symbol = refl }) (record { byte = λ b e. cc; symbol = refl })
 kind_is s StandardMode = either (IsKind StandardMode) (is_paged s.page.mode) LeavesPage Sets (record { byte = λ b e. cc; symbol = refl }) (record { byte = λ b e. cc; symbol = refl })
@@ -103,12 +103,12 @@ does setup before (Character c) a =
     (λ e. record { line = rw e refl; text = λ code w. refl; rows = rw e refl; own = refl; layers = λ m. rw e refl; page = refl; is_page = refl })
 does setup before (Column8 byte) a =
     let s = settings_of setup before in
-    chosen (Does setup before (Column8 byte)) (nat_lt s.position (length_of s)) (Puts (OneColumn8 byte)) Sets
+    chosen (Does setup before (Column8 byte)) (nat_lt s.position (settings_length s)) (Puts (OneColumn8 byte)) Sets
     (λ e. record { line = rw e refl; text = λ code w. refl; rows = refl; own = refl; layers = λ m. refl; page = refl; is_page = refl })
     (λ e. record { line = rw e refl; text = λ code w. refl; rows = refl; own = refl; layers = λ m. refl; page = refl; is_page = refl })
 does setup before (Column24 bytes) a =
     let s = settings_of setup before in
-    chosen (Does setup before (Column24 bytes)) (nat_lt s.position (length_of s)) (Puts (OneColumn24 bytes)) Sets
+    chosen (Does setup before (Column24 bytes)) (nat_lt s.position (settings_length s)) (Puts (OneColumn24 bytes)) Sets
     (λ e. record { line = rw e refl; text = λ code w. refl; rows = refl; own = refl; layers = λ m. refl; page = refl; is_page = refl })
     (λ e. record { line = rw e refl; text = λ code w. refl; rows = refl; own = refl; layers = λ m. refl; page = refl; is_page = refl })
 does setup before (Raster scale bytes rows) a =

@@ -17,7 +17,7 @@ use Rattle.vp_receipt_settings.specs.Setup.{Setup}
 use Rattle.vp_receipt_settings.specs.Texts.{style_of}
 use Rattle.vp_receipt_settings.specs.declared.settings.Settings.{Settings}
 use Rattle.vp_receipt_settings.specs.Line.{is_full, is_open, mode, line, Placed, breaks}
-use Rattle.vp_receipt_settings.specs.Settings.{settings_of, length_of, image_of, IsFit}
+use Rattle.vp_receipt_settings.specs.Settings.{settings_of, settings_length, image_of, IsFit}
 use Rattle.vp_receipt_settings.specs.Gathering.{IsGathering}
 use Rattle.vp_receipt_settings.specs.declared.raster.Raster.{Raster}
 use Rattle.vp_receipt_settings.specs.Runs.{text_after}
@@ -88,7 +88,7 @@ control_is b h t =
 pub record Put (old : Settings) (sheets : Sheets) (empty : List (List ℕ)) (text : List ℕ) (left : ℕ) (s : Settings) (bitmap : List (List ℕ)) : Type 0 where
   pub fit : IsFit s
   pub same : s ≡ record old { position = s.position; is_open = s.is_open; height = s.height; right_edge = s.right_edge }
-  pub room : left * cell_width old.text.font (style_of old.text) ≤ length_of old - s.position
+  pub room : left * cell_width old.text.font (style_of old.text) ≤ settings_length old - s.position
   pub settings : (setup : Setup) (before : List EscItem) → old ≡ settings_of setup before → s ≡ settings_of setup (text_after text before)
   pub line : (setup : Setup) (before : List EscItem) → old ≡ settings_of setup before → sheets ≡ setup.sheets → HasOpen (line setup before) empty
       → HasOpen (line setup (text_after text before)) bitmap
@@ -107,7 +107,7 @@ wide_some : (font : Font) (spacing wm : ℕ) → 0 < wm → 0 < (font_width font
 wide_some A spacing wm h = mul-pos (let some : 0 < 12 + spacing = omega arith in some) h
 wide_some B spacing wm h = mul-pos (let some : 0 < 9 + spacing = omega arith in some) h
 
-pub none_put : (old : Settings) (sheets : Sheets) (bitmap : List (List ℕ)) (left : ℕ) → IsFit old → left ≤ (length_of old - old.position) / cell_width old.text.font (style_of old.text)
+pub none_put : (old : Settings) (sheets : Sheets) (bitmap : List (List ℕ)) (left : ℕ) → IsFit old → left ≤ (settings_length old - old.position) / cell_width old.text.font (style_of old.text)
     → Put old sheets bitmap [] left old bitmap
 none_put old sheets bitmap left fit room = record {
   fit = fit;
@@ -136,10 +136,10 @@ control_put old sheets empty text left s bitmap b small text_is p =
     }
 
 -- it doesn't break the line where there is room
-no_break : (s : Settings) (setup : Setup) (before : List EscItem) → s ≡ settings_of setup before → s.position + cell_width s.text.font (style_of s.text) ≤ length_of s → is_full setup before ≡ false
+no_break : (s : Settings) (setup : Setup) (before : List EscItem) → s ≡ settings_of setup before → s.position + cell_width s.text.font (style_of s.text) ≤ settings_length s → is_full setup before ≡ false
 no_break s setup before e h =
-    subst (λ (t : Settings). breaks t.position (cell_width t.text.font (style_of t.text)) (length_of t) ≡ false) e
-    (let free : ltb (length_of s) (s.position + cell_width s.text.font (style_of s.text)) ≡ false = le-ltb _ _ h in rw free refl)
+    subst (λ (t : Settings). breaks t.position (cell_width t.text.font (style_of t.text)) (settings_length t) ≡ false) e
+    (let free : ltb (settings_length s) (s.position + cell_width s.text.font (style_of s.text)) ≡ false = le-ltb _ _ h in rw free refl)
 
 placed_last : (setup : Setup) (before : List EscItem) (c : ℕ) (s : Settings) (sheets : Sheets) (bitmap : List (List ℕ)) → s ≡ settings_of setup before → sheets ≡ setup.sheets → is_full setup before ≡ false
     → HasDots (record { at = s.position; image = image_of sheets s.text c } ∷ line setup before) bitmap → HasDots (line setup (Character c ∷ before)) bitmap
@@ -156,12 +156,12 @@ same_on old s t n e f =
 
 -- a character goes into the line
 pub has_room : (old : Settings) (sheets : Sheets) (empty : List (List ℕ)) (text : List ℕ) (left : ℕ) (s : Settings) (bitmap : List (List ℕ)) → Put old sheets empty text (suc left) s bitmap
-    → s.position + cell_width s.text.font (style_of s.text) ≤ length_of s
+    → s.position + cell_width s.text.font (style_of s.text) ≤ settings_length s
 has_room old sheets empty text left s bitmap p =
     let wide : cell_width s.text.font (style_of s.text) ≡ cell_width old.text.font (style_of old.text) = ap (λ (q : Settings). cell_width q.text.font (style_of q.text)) p.same in
-    let long : length_of s ≡ length_of old = ap length_of p.same in
+    let long : settings_length s ≡ settings_length old = ap settings_length p.same in
     let some : 0 < cell_width old.text.font (style_of old.text) = subst (λ n. 0 < n) wide (wide_some s.text.font s.text.right_spacing s.text.wide p.fit.text.wide_some) in
-    let fits : s.position + cell_width old.text.font (style_of old.text) ≤ length_of old = room_one left _ _ s.position p.room some in
+    let fits : s.position + cell_width old.text.font (style_of old.text) ≤ settings_length old = room_one left _ _ s.position p.room some in
     omega (arith, wide, long)
 
 -- a character more

@@ -7,7 +7,7 @@ use Rattle.vp_receipt_settings.specs.declared.settings.Settings.{Settings}
 use Rattle.vp_esc.specs.declared.item.EscItem.{EscItem}
 use Rattle.vp_receipt.specs.Strips.{printed}
 use Rattle.vp_receipt_settings.specs.Gathering.{IsGathering, left_of, run_of}
-use Rattle.vp_receipt_settings.specs.Line.{length_within}
+use Rattle.vp_receipt_settings.specs.Line.{standard_length}
 use Rattle.vp_receipt_settings.specs.Settings.{settings_of}
 use Rattle.vp_receipt_settings.specs.Pages.{is_paged}
 use Rattle.vp_receipt_settings.specs.Rasters.{bytes_after}
@@ -27,7 +27,7 @@ is_plain s r =
     && (not (is_paged s.page.mode)
     && (is_once r.scale
     && ((r.bytes == row_bytes s.paper)
-    && (length_within s.paper s.left_margin s.area_width == across s.paper))))
+    && (standard_length s.paper s.left_margin s.area_width == across s.paper))))
 
 -- how many bytes are taken in one run where `output` bytes can be put out: of plain rows as many as are put
 -- out whole, and then all of one row but its end

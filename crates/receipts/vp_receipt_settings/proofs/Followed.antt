@@ -17,7 +17,7 @@ use Rattle.vp_receipt_settings.specs.Symbols.{symbol_image, image_rows}
 use Rattle.vp_receipt_settings.specs.Pages.{is_paged, is_area, area_cut, is_vertical_move, vertical_moved, vertical_after}
 use Rattle.vp_receipt_settings.specs.Rasters.{draws, scale_or, times_down}
 use Rattle.vp_receipt_settings.specs.Line.{line, is_open, vertical, Frame, frame, margin_or, width_or, mode}
-use Rattle.vp_receipt_settings.specs.Settings.{settings_of, page_of, length_of}
+use Rattle.vp_receipt_settings.specs.Settings.{settings_of, page_of, settings_length}
 use Rattle.vp_receipt_settings.specs.Effects.{effect_of, feed_of, is_full_of}
 use Rattle.vp_receipt_settings.specs.Followed.{with_set, line_after, page_after}
 
@@ -99,10 +99,10 @@ follows setup before (Character c) n h =
     (λ e. rw e refl) (λ e. rw (e, not_further (vertical setup before) h) refl)
 follows setup before (Column8 byte) n h =
     let s = settings_of setup before in
-    chosen (Follows setup before (Column8 byte)) (nat_lt s.position (length_of s)) (Puts (OneColumn8 byte)) Sets (λ e. rw e refl) (λ e. rw e refl)
+    chosen (Follows setup before (Column8 byte)) (nat_lt s.position (settings_length s)) (Puts (OneColumn8 byte)) Sets (λ e. rw e refl) (λ e. rw e refl)
 follows setup before (Column24 bytes) n h =
     let s = settings_of setup before in
-    chosen (Follows setup before (Column24 bytes)) (nat_lt s.position (length_of s)) (Puts (OneColumn24 bytes)) Sets (λ e. rw e refl) (λ e. rw e refl)
+    chosen (Follows setup before (Column24 bytes)) (nat_lt s.position (settings_length s)) (Puts (OneColumn24 bytes)) Sets (λ e. rw e refl) (λ e. rw e refl)
 follows setup before (Raster scale bytes rows) n h =
     chosen (Follows setup before (Raster scale bytes rows)) (draws scale.value bytes rows) (BeginsRaster (times_down (scale_or scale.value) * rows)) Sets
     (λ e. rw e refl) (λ e. rw (e, not_further (vertical setup before) h) refl)

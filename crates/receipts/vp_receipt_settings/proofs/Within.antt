@@ -22,8 +22,8 @@ use Rattle.vp_receipt_settings.specs.Setup.{across}
 use Rattle.vp_receipt_settings.proofs.Widths.{few_dots}
 use Rattle.vp_receipt_settings.specs.Pages.{is_paged, is_area, area_cut, is_vertical_move, vertical_moved}
 use Rattle.vp_receipt_settings.specs.Rasters.{draws, scale_or, times_down}
-use Rattle.vp_receipt_settings.specs.Line.{length_in, position_at, position_moved}
-use Rattle.vp_receipt_settings.specs.Settings.{IsFit, length_of}
+use Rattle.vp_receipt_settings.specs.Line.{mode_length, position_at, position_moved}
+use Rattle.vp_receipt_settings.specs.Settings.{IsFit, settings_length}
 use Rattle.vp_receipt_settings.specs.Effects.{effect_of, feed_of, is_full_of, runs_along}
 use Rattle.vp_receipt_settings.specs.Followed.{IsWithin}
 
@@ -33,7 +33,7 @@ area_small a BottomToTop h k = omega arith
 area_small a RightToLeft h k = omega arith
 area_small a TopToBottom h k = omega arith
 
-length_small : (m : PrinterMode) (a : PageArea) (d : PageDirection) (paper : Width) (margin width : ℕ) → a.x + a.dx ≤ PAPER_DOTS → a.y + a.dy ≤ PAGE_ROWS → length_in m a d paper margin width ≤ LINE_DOTS
+length_small : (m : PrinterMode) (a : PageArea) (d : PageDirection) (paper : Width) (margin width : ℕ) → a.x + a.dx ≤ PAPER_DOTS → a.y + a.dy ≤ PAGE_ROWS → mode_length m a d paper margin width ≤ LINE_DOTS
 length_small Standard a d paper margin width h k = let s = few_dots paper in omega arith
 length_small Page a d paper margin width h k = area_small a d h k
 
@@ -60,11 +60,11 @@ way_within (Some d) = tt
 way_within None = tt
 
 pub within : (s : Settings) (item : EscItem) → IsFit s → IsWithin (effect_of s item)
-within s (Position n) f = position_small n s.position (length_of s) f.position (length_small s.page.mode s.page.area s.page.direction s.paper s.left_margin s.area_width f.page.across f.page.down)
-within s (MovePosition by) f = moved_small by s.position (length_of s) f.position (length_small s.page.mode s.page.area s.page.direction s.paper s.left_margin s.area_width f.page.across f.page.down)
+within s (Position n) f = position_small n s.position (settings_length s) f.position (length_small s.page.mode s.page.area s.page.direction s.paper s.left_margin s.area_width f.page.across f.page.down)
+within s (MovePosition by) f = moved_small by s.position (settings_length s) f.position (length_small s.page.mode s.page.area s.page.direction s.paper s.left_margin s.area_width f.page.across f.page.down)
 within s (Character code) f = if_within (is_full_of s) (Breaks (feed_of s) code) (Puts (OneCharacter code)) (λ e. tt) tt
-within s (Column8 byte) f = if_within (nat_lt s.position (length_of s)) (Puts (OneColumn8 byte)) Sets (λ e. tt) tt
-within s (Column24 bytes) f = if_within (nat_lt s.position (length_of s)) (Puts (OneColumn24 bytes)) Sets (λ e. tt) tt
+within s (Column8 byte) f = if_within (nat_lt s.position (settings_length s)) (Puts (OneColumn8 byte)) Sets (λ e. tt) tt
+within s (Column24 bytes) f = if_within (nat_lt s.position (settings_length s)) (Puts (OneColumn24 bytes)) Sets (λ e. tt) tt
 within s (Raster scale bytes rows) f = if_within (draws scale.value bytes rows) (BeginsRaster (times_down (scale_or scale.value) * rows)) Sets (λ e. tt) tt
 within s PageMode f = if_within (not (is_paged s.page.mode) && not s.is_open) BeginsPage Sets (λ e. tt) tt
 within s StandardMode f = if_within (is_paged s.page.mode) LeavesPage Sets (λ e. tt) tt

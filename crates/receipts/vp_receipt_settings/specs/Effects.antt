@@ -14,7 +14,7 @@ use Rattle.vp_receipt_settings.specs.Texts.{style_of}
 use Rattle.vp_receipt_settings.specs.Pages.{is_paged, is_area, area_cut, direction_of, is_vertical_move, vertical_moved}
 use Rattle.vp_receipt_settings.specs.Rasters.{draws, scale_or, times_down}
 use Rattle.vp_receipt_settings.specs.Line.{breaks, lines_rows, position_at, position_moved}
-use Rattle.vp_receipt_settings.specs.Settings.{length_of}
+use Rattle.vp_receipt_settings.specs.Settings.{settings_length}
 
 -- the rows of the strip that LF prints
 abbrev pub feed_of : Settings → ℕ
@@ -22,7 +22,7 @@ feed_of s = max s.height s.line_spacing
 
 -- a character would pass the end of the line
 abbrev pub is_full_of : Settings → Bool
-is_full_of s = breaks s.position (cell_width s.text.font (style_of s.text)) (length_of s)
+is_full_of s = breaks s.position (cell_width s.text.font (style_of s.text)) (settings_length s)
 
 -- what is only set where it isn't done
 abbrev pub if_done : Bool → Effect → Effect
@@ -36,8 +36,8 @@ runs_along None = Sets
 -- what an item does that has to do with positions, with the page or with the modes, or only sets
 abbrev pub page_effect_of : Settings → EscItem → Effect
 page_effect_of s Tab = Tabs
-page_effect_of s (Position n) = Moves (position_at n s.position (length_of s))
-page_effect_of s (MovePosition by) = Moves (position_moved by s.position (length_of s))
+page_effect_of s (Position n) = Moves (position_at n s.position (settings_length s))
+page_effect_of s (MovePosition by) = Moves (position_moved by s.position (settings_length s))
 page_effect_of s Initialize = Initializes
 page_effect_of s PageMode = if_done (not (is_paged s.page.mode) && not s.is_open) BeginsPage
 page_effect_of s StandardMode = if_done (is_paged s.page.mode) LeavesPage
@@ -59,8 +59,8 @@ page_effect_of s _ = Sets
 -- what an item does under the settings
 abbrev pub effect_of : Settings → EscItem → Effect
 effect_of s (Character code) = if is_full_of s then Breaks (feed_of s) code else Puts (OneCharacter code)
-effect_of s (Column8 byte) = if_done (nat_lt s.position (length_of s)) (Puts (OneColumn8 byte))
-effect_of s (Column24 bytes) = if_done (nat_lt s.position (length_of s)) (Puts (OneColumn24 bytes))
+effect_of s (Column8 byte) = if_done (nat_lt s.position (settings_length s)) (Puts (OneColumn8 byte))
+effect_of s (Column24 bytes) = if_done (nat_lt s.position (settings_length s)) (Puts (OneColumn24 bytes))
 effect_of s LineFeed = Feeds (feed_of s)
 effect_of s (FeedDots n) = Feeds (max s.height n)
 effect_of s (FeedLines n) = Feeds (lines_rows n s.height s.line_spacing)

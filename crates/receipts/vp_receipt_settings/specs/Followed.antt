@@ -11,7 +11,7 @@ use Rattle.vp_receipt_settings.specs.Symbols.{bar_style_of, qr_style_of}
 use Rattle.vp_receipt_settings.specs.Pages.{is_paged, vertical_after, raised}
 use Rattle.vp_receipt_settings.specs.Spacing.{line_spacing, column_width}
 use Rattle.vp_receipt_settings.specs.Line.{left_margin, area_width}
-use Rattle.vp_receipt_settings.specs.Settings.{length_of, justification}
+use Rattle.vp_receipt_settings.specs.Settings.{settings_length, justification}
 use Rattle.vp_receipt_settings.specs.Effects.{effect_rows, lays_line_by}
 use Rattle.vp_receipt_settings.specs.declared.effect.Piece.TheVariants.{Character}
 use Rattle.vp_receipt_settings.specs.declared.effect.Effect.{Effect}
@@ -39,7 +39,7 @@ line_closed_if ends s = if ends then closed s else s
 -- a piece `wide` dots wide and `high` rows high in the line
 abbrev pub with_piece : Settings → ℕ → ℕ → Settings
 with_piece s wide high = record s {
-  position = min (s.position + wide) (length_of s);
+  position = min (s.position + wide) (settings_length s);
   is_open = true;
   height = max high s.height;
   right_edge = max (s.position + wide) s.right_edge;
@@ -53,7 +53,7 @@ with_cell s =
 -- the line after an effect that neither sets nor initializes, at these tab stops
 abbrev pub line_after : Settings → Effect → List ℕ → Settings
 line_after s (Moves to) stops = record s { position = to }
-line_after s Tabs stops = record s { position = tabbed stops s.position (length_of s) }
+line_after s Tabs stops = record s { position = tabbed stops s.position (settings_length s) }
 line_after s (Puts (Character code)) stops = with_cell s
 line_after s (Puts column) stops = with_piece s s.column_width 24
 line_after s (Breaks rows code) stops = with_cell (closed s)

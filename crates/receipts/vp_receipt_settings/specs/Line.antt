@@ -30,8 +30,8 @@ is_open [] = false
 is_open (placed ∷ rest) = true
 
 -- the line length: the area width, as far as the paper goes
-abbrev pub length_within : Width → ℕ → ℕ → ℕ
-length_within paper margin width = min width (across paper - margin)
+abbrev pub standard_length : Width → ℕ → ℕ → ℕ
+standard_length paper margin width = min width (across paper - margin)
 
 -- a character that would pass the line length breaks the line, but not at its start
 abbrev pub breaks : ℕ → ℕ → ℕ → Bool
@@ -105,9 +105,9 @@ abbrev pub lines_rows : ℕ → ℕ → ℕ → ℕ
 lines_rows n height spacing = if n == 0 then height else max height spacing + (n - 1) * spacing
 
 -- the line length by mode: on a page that of its area
-abbrev pub length_in : PrinterMode → Area → Direction → Width → ℕ → ℕ → ℕ
-length_in Standard a d paper margin width = length_within paper margin width
-length_in Page a d paper margin width = length_on_page a d
+abbrev pub mode_length : PrinterMode → Area → Direction → Width → ℕ → ℕ → ℕ
+mode_length Standard a d paper margin width = standard_length paper margin width
+mode_length Page a d paper margin width = length_on_page a d
 
 -- ESC L begins a page in standard mode, while no line is open
 abbrev pub begins_page : PrinterMode → List Placed → Bool
@@ -124,9 +124,9 @@ abbrev pub first_frame : Width → Frame
 first_frame paper = record { mode = Standard; left_margin = 0; area_width = across paper }
 
 -- the line length under it
-abbrev pub length_by : Setup → List EscItem → Frame → ℕ
-length_by setup before f =
-    length_in f.mode (area setup before) (direction before) setup.width f.left_margin f.area_width
+abbrev pub frame_length : Setup → List EscItem → Frame → ℕ
+frame_length setup before f =
+    mode_length f.mode (area setup before) (direction before) setup.width f.left_margin f.area_width
 
 -- the rows of the strip of a line that is ended, if it is open
 abbrev pub rows_if_open : List Placed → ℕ → ℕ
@@ -166,8 +166,8 @@ abbrev pub on_page : Layout → Bool
 on_page l = is_paged l.frame.mode
 
 -- how many dots the line holds
-abbrev pub length_for : Setup → List EscItem → Layout → ℕ
-length_for setup before l = length_by setup before l.frame
+abbrev pub layout_length : Setup → List EscItem → Layout → ℕ
+layout_length setup before l = frame_length setup before l.frame
 
 -- a character, in a new line where it breaks the one that stands
 abbrev pub with_character : Image → ℕ → ℕ → Layout → Layout
@@ -234,14 +234,14 @@ unless_open f l = record l { frame = if is_open l.line then l.frame else f }
 -- what an item leaves of it: characters, columns, and where the next one goes
 abbrev pub layout_by : Setup → List EscItem → EscItem → Layout → Layout
 layout_by setup before (Character c) l =
-    with_character (character setup before c) (length_for setup before l) (line_spacing before) l
-layout_by setup before (Column8 byte) l = with_column (column8 before byte) (length_for setup before l) l
-layout_by setup before (Column24 bytes) l = with_column (column24 before bytes) (length_for setup before l) l
+    with_character (character setup before c) (layout_length setup before l) (line_spacing before) l
+layout_by setup before (Column8 byte) l = with_column (column8 before byte) (layout_length setup before l) l
+layout_by setup before (Column24 bytes) l = with_column (column24 before bytes) (layout_length setup before l) l
 layout_by setup before Tab l =
-    moved_to (tabbed (tab_stops before) l.position (length_for setup before l)) l
-layout_by setup before (Position n) l = moved_to (position_at n l.position (length_for setup before l)) l
+    moved_to (tabbed (tab_stops before) l.position (layout_length setup before l)) l
+layout_by setup before (Position n) l = moved_to (position_at n l.position (layout_length setup before l)) l
 layout_by setup before (MovePosition n) l =
-    moved_to (position_moved n l.position (length_for setup before l)) l
+    moved_to (position_moved n l.position (layout_length setup before l)) l
 -- what ends the line
 layout_by setup before LineFeed l = fed (max (height l.line) (line_spacing before)) l
 layout_by setup before (FeedDots n) l = fed (max (height l.line) n) l
@@ -316,7 +316,7 @@ area_width setup before = (frame setup before).area_width
 
 -- how many dots the line holds
 abbrev pub line_length : Setup → List EscItem → ℕ
-line_length setup before = length_by setup before (frame setup before)
+line_length setup before = frame_length setup before (frame setup before)
 
 -- a character would pass the end of the line, and breaks it
 abbrev pub is_full : Setup → List EscItem → Bool

@@ -7,7 +7,7 @@ use Rattle.vp_receipt_settings.specs.declared.page_mode.PrinterMode.{PrinterMode
 use Rattle.vp_receipt_settings.specs.declared.page_mode.PrinterMode.TheVariants.{Standard, Page}
 use Rattle.vp_receipt_settings.specs.declared.settings.Settings.{Settings}
 use Rattle.vp_receipt_settings.specs.Texts.{style_of}
-use Rattle.vp_receipt_settings.specs.Settings.{length_of}
+use Rattle.vp_receipt_settings.specs.Settings.{settings_length}
 use Rattle.vp_receipt_settings.specs.Pages.{vertical_after, raised}
 use Rattle.vp_receipt_settings.specs.Rasters.{bytes_within_row, bytes_to_come}
 
@@ -17,7 +17,7 @@ text_after text before = reverse (text_items text) ++ before
 
 -- how many characters go into the line before one could break it
 abbrev pub text_room : Settings → ℕ
-text_room s = (length_of s - s.position) / cell_width s.text.font (style_of s.text)
+text_room s = (settings_length s - s.position) / cell_width s.text.font (style_of s.text)
 
 -- how many bytes of a raster come before one that prints: on paper the one that ends the row, on a page none
 abbrev pub raster_run : PrinterMode → List EscItem → ℕ

@@ -19,7 +19,7 @@ use Rattle.vp_receipt_settings.specs.Images.{cell_image}
 use Rattle.vp_receipt_settings.specs.Texts.{text_in_force, style_of}
 use Rattle.vp_receipt_settings.specs.Symbols.{bar_style_of, qr_style_of, IsFitBars, IsFitQr}
 use Rattle.vp_receipt_settings.specs.Spacing.{column_width, line_spacing}
-use Rattle.vp_receipt_settings.specs.Line.{area_width, height, is_open, left_margin, length_in, length_within, line, mode, position, right_edge, vertical}
+use Rattle.vp_receipt_settings.specs.Line.{area_width, height, is_open, left_margin, mode_length, standard_length, line, mode, position, right_edge, vertical}
 use Rattle.vp_receipt_settings.specs.Extent.{used}
 
 -- ESC a: the justification, not while the line is open
@@ -37,7 +37,7 @@ justification setup (_ ∷ before) = justification setup before
 
 -- the line length on paper
 abbrev pub paper_length : Setup → List EscItem → ℕ
-paper_length setup before = length_within setup.width (left_margin setup before) (area_width setup before)
+paper_length setup before = standard_length setup.width (left_margin setup before) (area_width setup before)
 
 -- where something `wide` dots wide is printed, shifted like a line in what is left of the line length
 abbrev pub printed_at : Setup → List EscItem → ℕ → ℕ
@@ -79,8 +79,8 @@ abbrev pub settings_of : Setup → List EscItem → Settings
 settings_of setup before = line_settings_of setup (page_of setup before) before
 
 -- how many dots the line holds under the settings
-abbrev pub length_of : Settings → ℕ
-length_of s = length_in s.page.mode s.page.area s.page.direction s.paper s.left_margin s.area_width
+abbrev pub settings_length : Settings → ℕ
+settings_length s = mode_length s.page.mode s.page.area s.page.direction s.paper s.left_margin s.area_width
 
 -- the image of a character under the settings
 abbrev pub image_of : Sheets → Text → ℕ → Image

@@ -6,8 +6,8 @@ ghost use Rattle.vp_page.specs.declared.line.TheConstants.{LINE_DOTS};
 ghost use Rattle.vp_receipt_settings.specs.Setup.{Setup};
 ghost use Rattle.vp_receipt_settings.specs.Pages.{is_paged};
 ghost use Rattle.vp_receipt_settings.specs.Spacing.{column_width_of, line_spacing, column_width};
-ghost use Rattle.vp_receipt_settings.specs.Line.{lines_rows, length_within, breaks, ended_rows, position_moved, position_at, margin_or, width_or, position, line_length, left_margin, area_width};
-ghost use Rattle.vp_receipt_settings.specs.Settings.{printed_at, settings_of, IsFit, length_of, justification_or, justification};
+ghost use Rattle.vp_receipt_settings.specs.Line.{lines_rows, standard_length, breaks, ended_rows, position_moved, position_at, margin_or, width_or, position, line_length, left_margin, area_width};
+ghost use Rattle.vp_receipt_settings.specs.Settings.{printed_at, settings_of, IsFit, settings_length, justification_or, justification};
 ghost use Rattle.vp_receipt_settings.specs.Tabs.{tab_stops, tabbed};
 ghost use Rattle.vp_receipt_settings.specs.Symbols.{symbol_image, image_rows};
 ghost use Rattle.vp_receipt_settings.specs.Texts.{style_of};
@@ -140,7 +140,7 @@ impl Settings {
 
     /// The line length on paper.
     pub fn paper_length(self) -> u16
-        ensures value { result ≡ length_within self.paper self.left_margin self.area_width }
+        ensures value { result ≡ standard_length self.paper self.left_margin self.area_width }
         ensures paper { result ≤ PAPER_DOTS }
     {
         self.area_width
@@ -150,7 +150,7 @@ impl Settings {
     /// The line length by mode.
     pub fn line_length(self) -> u16
         requires { IsFit self }
-        ensures value { result ≡ length_of self }
+        ensures value { result ≡ settings_length self }
         ensures most { result ≤ LINE_DOTS }
     {
         match self.page.mode {
@@ -199,7 +199,7 @@ impl Settings {
     pub fn breaks(self) -> bool
         requires { IsFit self }
         ensures { result ≡
-            breaks self.position (cell_width self.text.font (style_of self.text)) (length_of self) }
+            breaks self.position (cell_width self.text.font (style_of self.text)) (settings_length self) }
     {
         self.position > 0 && self.position + self.text.advance() > self.line_length()
     }
@@ -280,7 +280,7 @@ impl Settings {
     #[inline(always)]
     pub fn with_character(self) -> Settings
         requires fit { IsFit self }
-        requires room { self.position + cell_width self.text.font (style_of self.text) ≤ length_of self }
+        requires room { self.position + cell_width self.text.font (style_of self.text) ≤ settings_length self }
         ensures settings { (setup : Setup) (before : List EscItem) (code : ℕ) →
             self ≡ settings_of setup before →
             result ≡ settings_of setup (EscItem.Character code ∷ before) }
@@ -305,7 +305,7 @@ impl Settings {
     /// Whether a column is put into the line.
     pub fn takes_column(self) -> bool
         requires { IsFit self }
-        ensures { result ≡ nat_lt self.position (length_of self) }
+        ensures { result ≡ nat_lt self.position (settings_length self) }
     {
         self.position < self.line_length()
     }

@@ -11,7 +11,7 @@ use Rattle.vp_dots.specs.Images.{Image}
 use Rattle.vp_strips.specs.SymbolInks.{IsDrawn}
 use Rattle.vp_receipt_settings.specs.Setup.{Setup}
 use Rattle.vp_strips.specs.Held.{whole}
-use Rattle.vp_receipt_settings.specs.Line.{Placed, height, right_edge, line, is_open, length_within}
+use Rattle.vp_receipt_settings.specs.Line.{Placed, height, right_edge, line, is_open, standard_length}
 use Rattle.vp_receipt_settings.specs.Settings.{settings_of, paper_length, printed_at}
 use Rattle.vp_strips.specs.LineDots.{HasDots, HasOpen, any_dot, item_dot}
 use Rattle.vp_strips.specs.Rows.{printed_dot, strip_text, line_text, image_dot, image_text}
@@ -54,21 +54,21 @@ module _ (setup : Setup) (before : List EscItem) (bitmap : List (List ℕ)) (hig
 
 -- the strip that is made of the settings
 pub text_is : (setup : Setup) (before : List EscItem) (canvas : Canvas) (s : Settings) (high left length rows : ℕ) → s ≡ settings_of setup before → high ≡ s.height
-    → length ≡ length_within s.paper s.left_margin s.area_width → left ≡ printed_at setup before s.right_edge → high ≤ 192 → HasOpen (line setup before) canvas.bitmap → (rows ≡ 0 → ⊥)
+    → length ≡ standard_length s.paper s.left_margin s.area_width → left ≡ printed_at setup before s.right_edge → high ≤ 192 → HasOpen (line setup before) canvas.bitmap → (rows ≡ 0 → ⊥)
     → whole (record { paper = s.paper; tall = rows; rows = rows; dots = Line high left length }) canvas ≡ line_text setup before rows
 text_is setup before canvas s high left length rows e high_is long_is left_is small has some =
     whole_is (record { paper = s.paper; tall = rows; rows = rows; dots = Line high left length }) canvas (printed_dot setup before) refl some
-    (same_dot setup before canvas.bitmap high left length (high_is ∙ ap (λ (q : Settings). q.height) e) (long_is ∙ ap (λ (q : Settings). length_within q.paper q.left_margin q.area_width) e)
+    (same_dot setup before canvas.bitmap high left length (high_is ∙ ap (λ (q : Settings). q.height) e) (long_is ∙ ap (λ (q : Settings). standard_length q.paper q.left_margin q.area_width) e)
     (left_is ∙ ap (λ (q : Settings). printed_at setup before q.right_edge) e) small has)
     ∙ ap (λ (q : Settings). strip_text q.paper rows (printed_dot setup before)) e
 
 -- that of a symbol
 pub drawn_is : (setup : Setup) (before : List EscItem) (canvas : Canvas) (s : Settings) (image : Image) (wide high left length : ℕ) → s ≡ settings_of setup before
-    → IsDrawn canvas.sheets canvas.symbol wide high image → 0 < high → left ≡ printed_at setup before wide → length ≡ length_within s.paper s.left_margin s.area_width
+    → IsDrawn canvas.sheets canvas.symbol wide high image → 0 < high → left ≡ printed_at setup before wide → length ≡ standard_length s.paper s.left_margin s.area_width
     → whole (record { paper = s.paper; tall = high; rows = high; dots = Drawn left length }) canvas ≡ image_text setup before (Some image)
 drawn_is setup before canvas s image wide high left length e is some left_is long_is =
     let at : left ≡ printed_at setup before image.width = left_is ∙ ap (printed_at setup before) is.width in
-    let long : length ≡ paper_length setup before = long_is ∙ ap (λ (q : Settings). length_within q.paper q.left_margin q.area_width) e in
+    let long : length ≡ paper_length setup before = long_is ∙ ap (λ (q : Settings). standard_length q.paper q.left_margin q.area_width) e in
     whole_is (record { paper = s.paper; tall = high; rows = high; dots = Drawn left length }) canvas (image_dot setup before image) refl (λ z. absurd (omega arith))
     (λ x y h. ap (λ b. nat_le left x && nat_lt (x - left) length && b) (is.dots (x - left) y) ∙ rw (at, long) refl)
     ∙ ap (λ n. strip_text s.paper n (image_dot setup before image)) is.height

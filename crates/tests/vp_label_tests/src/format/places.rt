@@ -3,7 +3,7 @@ ghost use Rattle.std.specs.Prelude.{◌≡◌, ◌<◌, ◌≤◌, ◌^◌, leng
 ghost use Rattle.vp_format.specs.Codes.{code_of, symbols_behind};
 ghost use Rattle.vp_format.specs.Cursors.{IsMark};
 ghost use Rattle.vp_format.specs.declared.rows.Coding.TheVariants.{RunLength};
-ghost use Rattle.vp_format.specs.Pictures.{shown, is_nothing, value_of};
+ghost use Rattle.vp_format.specs.Pictures.{shown_at, is_unreadable, value_of};
 ghost use Rattle.vp_label_tests.specs.Codes.{told};
 
 use vp_dots::Fault;
@@ -39,8 +39,8 @@ fn value_of_place(codes: &[u8], width: u128, place: u128, above: u8) -> Option<u
     requires small { width < 2 ^ 32 }
     requires near { place < 2 ^ 32 }
     requires few { length codes.now < 2 ^ 32 }
-    ensures { result ≡ (if is_nothing (shown width 0 (symbols_behind codes.now 0 0) place) then None
-        else Some (value_of (shown width 0 (symbols_behind codes.now 0 0) place) above)) }
+    ensures { result ≡ (if is_unreadable (shown_at width 0 (symbols_behind codes.now 0 0) place) then None
+        else Some (value_of (shown_at width 0 (symbols_behind codes.now 0 0) place) above)) }
 {
     let mut start: u128 = 0;
     let mut count: u128 = 0;

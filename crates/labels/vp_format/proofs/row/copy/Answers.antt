@@ -1,5 +1,5 @@
 use Rattle.std.proofs.Common.{◌*◌, refl, ap, length}
-use Rattle.vp_format.specs.Pictures.{is_nothing}
+use Rattle.vp_format.specs.Pictures.{is_unreadable}
 use Rattle.vp_format.proofs.Bytes.{place_shown, bytes_decoded}
 use Rattle.vp_format.proofs.row.copy.Goals as goal
 
@@ -8,4 +8,4 @@ returns-clause-decoded c = bytes_decoded c.args.codes.now.bytes.now c.args.row.n
     refl c.requires.reading.at c.up_to-part.ensures.bytes c.copy_from_slice.ensures.after (c.fill.ensures.after (λ y h. h)) c.up_to-part.ensures.at c.ended.ensures
 
 pub returns-clause-taken : goal.returns-clause-taken
-returns-clause-taken c j = ap is_nothing (place_shown (2 * length c.args.row.now) c.args.codes.now.bytes.now c.args.codes.now.at j)
+returns-clause-taken c j = ap is_unreadable (place_shown (2 * length c.args.row.now) c.args.codes.now.bytes.now c.args.codes.now.at j)

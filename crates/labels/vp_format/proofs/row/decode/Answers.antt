@@ -5,7 +5,7 @@ use Rattle.vp_format.specs.declared.rows.Coding.TheVariants.{RunLength}
 use Rattle.vp_format.specs.declared.rows.Spot.{Spot}
 use Rattle.vp_format.specs.declared.row.RowEnd.{RowEnd}
 use Rattle.vp_format.specs.Codes.{code_of, spelled}
-use Rattle.vp_format.specs.Pictures.{shown, is_nothing, nibble}
+use Rattle.vp_format.specs.Pictures.{shown_at, is_unreadable, nibble}
 use Rattle.vp_format.specs.Cursors.{digit_value, symbols_at, symbols_from, Decoded}
 use Rattle.vp_format.proofs.Quick.{values_from, value_from, plain_reached, decoded_anew}
 use Rattle.vp_format.proofs.Reached.{reached_at, start_reached, run_done, run_before, run_reached, all_shown, ended_decoded}
@@ -16,7 +16,7 @@ returns-then-left-eq0-clause-answer c =
     let codes = c.args.codes.now.bytes.now in
     let s : Spot = record { left = c.args.left; digit = c.args.digit; at = c.args.codes.now.at } in
     let all = symbols_at RunLength codes s in
-    subst (λ (n : ℕ). is_err c.read_on.result ≡ is_nothing (shown (2 * n) 0 all (2 * n - 1))) c.plain_row.ensures.len
+    subst (λ (n : ℕ). is_err c.read_on.result ≡ is_unreadable (shown_at (2 * n) 0 all (2 * n - 1))) c.plain_row.ensures.len
     (c.read_on.ensures.answer all s.at (run_done _ all s.at _ 0 _ s.digit (symbols_from codes s.at) s.at c.if-left-eq0.true (start_reached _ all s.at c.args.places.now)))
 
 pub returns-then-left-eq0-clause-decoded : goal.returns-then-left-eq0-clause-decoded

@@ -1,7 +1,7 @@
 use Rattle.std.proofs.Common.{rules, ◌≡◌, ℕ, List, get_or, ◌+◌, ◌-◌, ◌*◌, ◌<◌, Option, None, Some, refl, arith, ap, sym, ◌∙◌, subst, length}
 use Rattle.vp_format.specs.declared.codes.Symbol.TheVariants.{Digits, ToEnd, Again, Refused}
 use Rattle.vp_format.specs.declared.rows.Coding.TheVariants.{RunLength}
-use Rattle.vp_format.specs.Pictures.{is_nothing, nibble}
+use Rattle.vp_format.specs.Pictures.{is_unreadable, nibble}
 use Rattle.vp_format.specs.Cursors.{symbols_at, symbols_from, held, InHand, AreSmall, Decoded}
 use Rattle.vp_format.proofs.Reached.{reached_at, run_before, run_done, white_reached, symbol_reached, run_reached, end_reached, again_shown, again_refused, refused_shown, all_shown, ended_decoded, again_decoded, hand_taken, nothing_taken}
 use Rattle.vp_format.proofs.row.read_on.Goals as goal
@@ -74,7 +74,7 @@ returns-in-Again-2-clause-answer c = λ all start r.
     let e = c.symbol_of.new.codes in
     let next = symbol_reached d.new.codes e c.in-Some.b _ Again w all start d.new.places d.result.0 hand d.ensures.advanced.reading c.in-Again.ensures.symbol taken in
     let inside : d.result.0 < w = omega (arith, one) in
-    sym (ap is_nothing (next.ahead (w - 1) (omega arith) ∙ again_refused w d.result.0 (1 + (e.at - d.new.codes.at)) (symbols_from e.bytes.now e.at) (omega arith) inside))
+    sym (ap is_unreadable (next.ahead (w - 1) (omega arith) ∙ again_refused w d.result.0 (1 + (e.at - d.new.codes.at)) (symbols_from e.bytes.now e.at) (omega arith) inside))
 
 pub returns-in_default-clause-answer : goal.returns-in_default-clause-answer
 returns-in_default-clause-answer c = λ all start r.
@@ -136,7 +136,7 @@ returns-in-Again-clause-answer c = λ all start r.
     let taken = hand_taken w all start _ _ _ _ c.loop-b.codes d.new.codes _ (Some c.in-Some.b) c.in-Some.is (d.ensures.reached all start) (c.loop-b.invariant.reached all start r) in
     let next = symbol_reached d.new.codes e c.in-Some.b _ Again w all start d.new.places d.result.0 hand d.ensures.advanced.reading c.in-Again.ensures.symbol taken in
     let begun = reached_at w all start _ d.result.0 0 _ _ _ _ (omega arith) refl refl next in
-    sym (ap is_nothing (begun.ahead (w - 1) (omega arith) ∙ again_shown w (1 + (e.at - d.new.codes.at)) (symbols_from e.bytes.now e.at) (w - 1) (omega arith)))
+    sym (ap is_unreadable (begun.ahead (w - 1) (omega arith) ∙ again_shown w (1 + (e.at - d.new.codes.at)) (symbols_from e.bytes.now e.at) (w - 1) (omega arith)))
 
 pub returns-in-Again-2-2-clause-answer : goal.returns-in-Again-2-2-clause-answer
 returns-in-Again-2-2-clause-answer c = λ all start r.
@@ -148,4 +148,4 @@ returns-in-Again-2-2-clause-answer c = λ all start r.
     let taken = hand_taken w all start _ _ _ _ c.loop-b.codes d.new.codes _ (Some c.in-Some.b) c.in-Some.is (d.ensures.reached all start) (c.loop-b.invariant.reached all start r) in
     let next = symbol_reached d.new.codes e c.in-Some.b _ Refused w all start d.new.places d.result.0 hand d.ensures.advanced.reading c.in-Again-2.ensures.symbol taken in
     let inside : d.result.0 < w = omega (arith, one) in
-    sym (ap is_nothing (next.ahead (w - 1) (omega arith) ∙ refused_shown w d.result.0 (1 + (e.at - d.new.codes.at)) (symbols_from e.bytes.now e.at) inside))
+    sym (ap is_unreadable (next.ahead (w - 1) (omega arith) ∙ refused_shown w d.result.0 (1 + (e.at - d.new.codes.at)) (symbols_from e.bytes.now e.at) inside))

@@ -3,7 +3,7 @@ use Rattle.vp_esc.specs.declared.item.EscItem.{EscItem}
 use Rattle.vp_receipt_settings.specs.declared.qr_style.QrStyle.{QrStyle}
 use Rattle.vp_receipt_settings.specs.declared.settings.Settings.{Settings}
 use Rattle.vp_receipt_settings.specs.Line.{line_length}
-use Rattle.vp_receipt_settings.specs.Settings.{length_of}
+use Rattle.vp_receipt_settings.specs.Settings.{settings_length}
 use Rattle.vp_receipt_settings.specs.Symbols.{qr_style_of, qr_data, qr_image, qr_refusal, symbol_image, IsQrImage}
 use Rattle.vp_strips.specs.declared.symbol.Symbol.TheVariants.{Qr}
 use Rattle.vp_strips.specs.SymbolInks.{IsSymbolOf}
@@ -17,7 +17,7 @@ returns-in-Ok-qr_symbol c =
     let e = is_qr c.args.item.now c.in_default.not-Symbol c.requires.symbol in
     record {
       accepted = λ setup before h.
-          let long : c.line_length-length.result ≡ line_length setup before = c.line_length-length.ensures.value ∙ ap length_of h.settings in
+          let long : c.line_length-length.result ≡ line_length setup before = c.line_length-length.ensures.value ∙ ap settings_length h.settings in
           ap (refusal setup before) e ∙ ap (λ (q : QrStyle). qr_refusal q (qr_data before) (line_length setup before)) (sym (ap (λ (t : Settings). t.qr) h.settings))
           ∙ ap (qr_refusal s.qr (qr_data before)) (sym long) ∙ c.in-Ok-qr_symbol.ensures.accepted (qr_data before) h.stored;
       refused = tt;

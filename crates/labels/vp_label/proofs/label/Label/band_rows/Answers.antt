@@ -7,7 +7,7 @@ use Rattle.vp_label_settings.specs.Formats.{stored}
 use Rattle.vp_label_settings.specs.Settings.{settings_of}
 use Rattle.vp_label.specs.Entries.{printed_entries}
 use Rattle.vp_label.specs.Gathered.{IsPrinted}
-use Rattle.vp_label.specs.Press.{shown}
+use Rattle.vp_label.specs.Press.{press_image}
 use Rattle.vp_label.specs.Prints.{view_of}
 use Rattle.vp_label.specs.Standing.{Printing}
 use Rattle.vp_label.proofs.Counts.{held_rows, same_image}
@@ -25,7 +25,7 @@ returns-clause-value c = λ sheets before st.
     let some : 0 < length now.pending = subst (λ (x : Printing). 0 < length x.pending) c.self.view_is
     ((c.if-not-is_pending.ensures.bytes (image_dot v (map (stroke_of j.sheets bytes) fields))).0 refl) in
     let high : 0 < j.press.copies.height = (let h = p.high in let e = p.height in omega arith) in
-    c.band_rows.ensures.value ∙ held_rows c.place_law.ensures sheets now.gathered before now.pending (shown j.sheets bytes v j.press) j.press.copies.place some (st.printing some)
+    c.band_rows.ensures.value ∙ held_rows c.place_law.ensures sheets now.gathered before now.pending (press_image j.sheets bytes v j.press) j.press.copies.place some (st.printing some)
     (λ earlier (printed : IsPrinted sheets now.gathered earlier). same_image j.sheets sheets bytes (stored earlier) v (view_of (settings_of earlier)) fields (printed_entries sheets earlier) j.press.copies.width j.press.copies.height
     (ap (λ (x : Printing). x.sheets) c.self.view_is ∙ st.sheets_are)
     (ap (λ (x : Printing). x.gathered.format.stored) c.self.view_is ∙ printed.stored)

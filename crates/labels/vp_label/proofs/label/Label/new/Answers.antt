@@ -1,5 +1,5 @@
 use Rattle.std.proofs.Common.{arith, refl, []}
-use Rattle.vp_label.specs.Press.{shown}
+use Rattle.vp_label.specs.Press.{press_image}
 use Rattle.vp_label.specs.Prints.{view_of}
 use Rattle.vp_label.proofs.Idle.{nothing_left}
 use Rattle.vp_label.proofs.Pending.{none_printing}
@@ -19,5 +19,5 @@ returns-clause-stands c =
     record {
       sheets_are = refl;
       gathered = c.in_ok-new.ensures c.args.sheets;
-      printing = λ some. none_printing c.args.sheets c.in_ok-new.field-0 [] _ (nothing_left (shown c.args.sheets g.format.stored (view_of g.in_force.settings) p) p.copies.place c.in_ok-new-2.ensures.none) some;
+      printing = λ some. none_printing c.args.sheets c.in_ok-new.field-0 [] _ (nothing_left (press_image c.args.sheets g.format.stored (view_of g.in_force.settings) p) p.copies.place c.in_ok-new-2.ensures.none) some;
     }

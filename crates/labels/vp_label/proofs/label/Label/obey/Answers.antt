@@ -7,7 +7,7 @@ use Rattle.vp_field.specs.declared.view.View.{View}
 use Rattle.vp_copies.specs.Copies.{copies_text}
 use Rattle.vp_label.specs.Gathered.{Gathers}
 use Rattle.vp_label.specs.Prints.{label_image, prints, view_of}
-use Rattle.vp_label.specs.Press.{left, shown}
+use Rattle.vp_label.specs.Press.{left, press_image}
 use Rattle.vp_label.specs.Refusals.{refusal}
 use Rattle.vp_label.specs.Standing.{Printing}
 use Rattle.vp_label.proofs.Idle.{no_copies, nothing_left}
@@ -33,8 +33,8 @@ returns-then-copies-eq0-clause-pending c =
     let j = c.self.inside in
     let now = c.obey.new.self in
     let view = view_of now.in_force.settings in
-    let is = shown j.sheets now.format.stored view j.press in
-    let was = shown j.sheets j.gathered.format.stored (view_of j.gathered.in_force.settings) j.press in
+    let is = press_image j.sheets now.format.stored view j.press in
+    let was = press_image j.sheets j.gathered.format.stored (view_of j.gathered.in_force.settings) j.press in
     let none = no_copies c.pending_law.ensures was j.press.copies.place (λ some. let p = c.self.invariant.press some in (let h = p.high in let e = p.height in omega arith, p.place)) (ap (λ (p : Printing). p.pending) c.self.view_is ∙ c.requires) in
     let P : Printing → Type 0 = λ p. (before : List Item) (name : Name) (sent : List Kept) → Gathers p.sheets p.gathered before →
     left j.sheets now.format.stored view j.press ≡ prints p.sheets before (Given c.args.command name sent) in
@@ -70,7 +70,7 @@ returns-clause-idle c = λ none.
     let now = c.obey.new.self in
     let q = c.begin.new.self in
     let p = c.begin.ensures.press in
-    let over = no_copies c.pending_law.ensures (shown j.sheets now.format.stored (view_of now.in_force.settings) q) q.copies.place (λ some. (let h = p.high in let e = p.height in omega arith, p.place)) none in
+    let over = no_copies c.pending_law.ensures (press_image j.sheets now.format.stored (view_of now.in_force.settings) q) q.copies.place (λ some. (let h = p.high in let e = p.height in omega arith, p.place)) none in
     absurd (omega (arith, over, c.begin.ensures.some))
 
 pub returns-clause-idle_work : goal.returns-clause-idle_work
@@ -79,5 +79,5 @@ returns-clause-idle_work c = λ none.
     let now = c.obey.new.self in
     let q = c.begin.new.self in
     let p = c.begin.ensures.press in
-    let over = no_copies c.pending_law.ensures (shown j.sheets now.format.stored (view_of now.in_force.settings) q) q.copies.place (λ some. (let h = p.high in let e = p.height in omega arith, p.place)) none in
+    let over = no_copies c.pending_law.ensures (press_image j.sheets now.format.stored (view_of now.in_force.settings) q) q.copies.place (λ some. (let h = p.high in let e = p.height in omega arith, p.place)) none in
     absurd (omega (arith, over, c.begin.ensures.some))

@@ -12,7 +12,7 @@ use Rattle.vp_label.specs.Standing.{bands, met, painting, IsPrinting, Printing}
 use Rattle.vp_label.specs.declared.gathered.Gathered.{Gathered}
 use Rattle.vp_label.specs.Gathered.{Gathers}
 use Rattle.vp_label.proofs.Pending.{still_printing}
-use Rattle.vp_label.specs.Press.{left, shown, IsPress}
+use Rattle.vp_label.specs.Press.{left, press_image, IsPress}
 use Rattle.vp_field.specs.declared.view.View.{View}
 use Rattle.vp_label.proofs.label.Label.put.Goals as goal
 
@@ -95,7 +95,7 @@ returns-clause-at_least c = λ out whole.
     let p = c.put.ensures.press in
     let some : 0 < j.press.copies.place.copies = search rules in
     let fields : fields_of q.painter.entries ≡ j.gathered.format.fields = ap fields_of c.put.ensures.fields ∙ c.self.invariant.fields some in
-    let shows : shown j.sheets bytes view q ≡ label_image c.args.self.now.sheets (view_of c.args.self.now.gathered.in_force.settings) c.args.self.now.gathered.format.stored c.args.self.now.gathered.format.fields =
+    let shows : press_image j.sheets bytes view q ≡ label_image c.args.self.now.sheets (view_of c.args.self.now.gathered.in_force.settings) c.args.self.now.gathered.format.stored c.args.self.now.gathered.format.fields =
     same_image j.sheets c.args.self.now.sheets bytes c.args.self.now.gathered.format.stored view (view_of c.args.self.now.gathered.in_force.settings) (fields_of q.painter.entries) c.args.self.now.gathered.format.fields q.copies.width q.copies.height
     (ap (λ (x : Printing). x.sheets) c.self.view_is)
     (c.stored.ensures.bytes ∙ ap (λ (x : Printing). x.gathered.format.stored) c.self.view_is)
@@ -104,10 +104,10 @@ returns-clause-at_least c = λ out whole.
     p.width p.height in
     let left_is : left j.sheets bytes view q ≡ left j.sheets j.gathered.format.stored (view_of j.gathered.in_force.settings) q =
     ap (λ s. left j.sheets s view q) c.stored.ensures.bytes ∙ ap (λ v. left j.sheets j.gathered.format.stored v q) c.view_of-view.ensures in
-    let count : length (left j.sheets bytes view q) ≡ length (copies_text (shown j.sheets bytes view q) whole.0) =
+    let count : length (left j.sheets bytes view q) ≡ length (copies_text (press_image j.sheets bytes view q) whole.0) =
     ap length left_is ∙ whole.1 ∙ ap (λ i. length (copies_text i whole.0)) (sym shows) in
     let before : IsBefore j.sheets bytes view (bands_of view) q.painter = elim (cases_lt 0 q.copies.place.copies) [
-      | inl more ↦ c.put.ensures.ended out (between_copies c.place_law.ensures (shown j.sheets bytes view q) q.copies.place whole.0 (omega (arith, p.high, p.height)) p.place more count)
+      | inl more ↦ c.put.ensures.ended out (between_copies c.place_law.ensures (press_image j.sheets bytes view q) q.copies.place whole.0 (omega (arith, p.high, p.height)) p.place more count)
       | inr none_left ↦ p.over (omega arith)
     ] in
     let bound = c.looks_bounded.ensures.at_least j.sheets bytes view q.painter before in
