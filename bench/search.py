@@ -1,7 +1,8 @@
 #!/usr/bin/env python3
 """Looks for streams that hold the program up: search.py [--minutes M] [--bytes N] [--lanes L] [--seed S] [--vp VP]
 [receipt|label]. It makes streams of all commands of both languages, changes those that took longest for a byte, and says
-the ten worst of each language.
+the ten worst of each language, each beside 1,024 boxes over a whole label. One that takes longer than these may (LIMITS)
+is told, and the status is 1.
 
 A stream has a name, as label:7.1.52: the number that it grew from, and those of the changes that were made to it. The name
 alone makes it again, whatever the machine: search.py --make NAME [--bytes N]. bench/found.txt keeps the names of the worst
@@ -21,6 +22,9 @@ FOUND = f"{ROOT}/bench/found.txt"
 # How many streams are kept to be changed, how many of them may have grown from one number, how many bytes of paper weigh
 # as much as a byte of the stream, and how many seconds a stream is given, and the program takes to start.
 KEPT, ALIKE, PAPER, LONGEST, START = 10, 2, 100, 60, 0.002
+# How many times the boxes' time a stream of 300,000 bytes may take.
+LIMITS = {"label": 10, "receipt": 15}
+BOXES = b"^XA^PW1248^LL8000" + b"^FR^GB1248,8000,8000^FS" * 1024 + b"^XZ"
 
 
 def byte(rng):
@@ -232,17 +236,22 @@ def measured(vp, name, most):
     prints."""
     stream = made(name)
     data = stream.bytes(most)
+    took, printed = ran(vp, stream.language, data)
+    return took * 1e6 / (max(1000, len(data)) + printed / PAPER), took, len(data), printed
+
+
+def ran(vp, language, data):
+    """Returns the seconds of a processor that a stream takes, and how many bytes it prints."""
     with tempfile.TemporaryFile(dir="/dev/shm") as given, tempfile.TemporaryFile(dir="/dev/shm") as paper:
         given.write(data)
         given.seek(0)
-        words = [vp, stream.language, "--font-a", f"{ROOT}/examples/font-a.pbm"]
+        words = [vp, language, "--font-a", f"{ROOT}/examples/font-a.pbm"]
         run = subprocess.Popen(words, stdin=given, stdout=paper, stderr=subprocess.DEVNULL)
         resource.prlimit(run.pid, resource.RLIMIT_CPU, (LONGEST, LONGEST))
         resource.prlimit(run.pid, resource.RLIMIT_FSIZE, (1 << 28, 1 << 28))
         _, run.returncode, used = os.wait4(run.pid, 0)
         printed = os.fstat(paper.fileno()).st_size
-    took = max(0.0, used.ru_utime - START)
-    return took * 1e6 / (max(1000, len(data)) + printed / PAPER), took, len(data), printed
+    return max(0.0, used.ru_utime - START), printed
 
 
 def known():
@@ -300,18 +309,24 @@ def main():
     given = words.parse_args()
     if given.make:
         sys.stdout.buffer.write(made(given.make).bytes(given.bytes))
-        return
+        return 0
     told = [f"{ROOT}/tools/dist/program"]
     given.vp = given.vp or subprocess.run(told, stdout=subprocess.PIPE, check=True).stdout.decode().strip()
     worst = [it for language in ("receipt", "label") if given.language in (None, language) for it in searched(given, language)]
+    boxes, status = min(ran(given.vp, "label", BOXES)[0] for _ in range(3)), 0
     for cost, seconds, size, printed, name in worst:
-        print(f"{cost:8.2f} us a byte, {seconds:5.2f} s, {size:7} bytes, {printed:9} of paper: {name}")
+        times = seconds / boxes
+        print(f"{cost:8.2f} us a byte, {times:5.1f} times the boxes, {size:7} bytes, {printed:9} of paper: {name}")
+        if times > LIMITS[name.partition(":")[0]]:
+            print("    above the limit")
+            status = 1
     if given.keep:
         others = [it for it in known() if given.language not in (None, it.partition(":")[0])]
         with open(FOUND, "w", encoding="utf-8") as it:
             it.write("# The worst streams that bench/search.py found, which it begins with.\n")
             it.writelines(f"{name}\n" for name in [*others, *(name for *_, name in worst)])
+    return status
 
 
 if __name__ == "__main__":
-    main()
+    sys.exit(main())
