@@ -1,8 +1,8 @@
 #!/usr/bin/env python3
 """Looks for streams that hold the program up: search.py [--minutes M] [--bytes N] [--lanes L] [--seed S] [--vp VP]
 [receipt|label]. It makes streams of all commands of both languages, changes those that took longest for a byte, and says
-the ten worst of each language, each beside 1,024 boxes over a whole label. One that takes longer than these may (LIMITS)
-is told, and the status is 1.
+the ten worst of each language, each beside 1,024 boxes over a whole label, in as many copies as have its bytes of paper.
+Where one takes longer than it may (LIMITS), that is said, and the status is 1.
 
 A stream has a name, as label:7.1.52: the number that it grew from, and those of the changes that were made to it. The name
 alone makes it again, whatever the machine: search.py --make NAME [--bytes N]. bench/found.txt keeps the names of the worst
@@ -313,9 +313,9 @@ def main():
     told = [f"{ROOT}/tools/dist/program"]
     given.vp = given.vp or subprocess.run(told, stdout=subprocess.PIPE, check=True).stdout.decode().strip()
     worst = [it for language in ("receipt", "label") if given.language in (None, language) for it in searched(given, language)]
-    boxes, status = min(ran(given.vp, "label", BOXES)[0] for _ in range(3)), 0
+    (boxes, paper), status = min(ran(given.vp, "label", BOXES) for _ in range(3)), 0
     for cost, seconds, size, printed, name in worst:
-        times = seconds / boxes
+        times = seconds / boxes / max(1, printed / paper)
         print(f"{cost:8.2f} us a byte, {times:5.1f} times the boxes, {size:7} bytes, {printed:9} of paper: {name}")
         if times > LIMITS[name.partition(":")[0]]:
             print("    above the limit")
