@@ -19,27 +19,15 @@ no_text (Some x) = refl
 
 name_gives : (k : Kind) (before : List (List ℕ)) (name : Name) → given_named k before name [] ≡ at_name k name
 unfolding is_whole
-name_gives kinds.FormatStart before name = refl
-name_gives kinds.FormatEnd before name = refl
-name_gives kinds.FieldSeparator before name = refl
-name_gives kinds.ReversePrint before name = refl
-name_gives kinds.FieldHex before name = refl
-name_gives (kinds.Plain j) before name = refl
 name_gives kinds.FieldData before name = ap (λ x. item_of kinds.FieldData name [] ∷ data_items x) (no_text (indicator before))
-name_gives kinds.Graphic before name = refl
-name_gives kinds.Skipped before name = refl
+name_gives _ before name = refl
 
 behind_indicates : (k : Kind) (command : List ℕ) (before : List (List ℕ)) → indicator (command ∷ before) ≡ indicator_by (Some k) command (in_format before) (indicator before)
     → indicator_behind k (indicator before) ≡ indicator_at (phase_behind k) command before
-behind_indicates kinds.FormatStart command before e = sym e
-behind_indicates kinds.FormatEnd command before e = sym e
-behind_indicates kinds.FieldSeparator command before e = sym e
-behind_indicates kinds.ReversePrint command before e = sym e
 behind_indicates kinds.FieldHex command before e = refl
 behind_indicates (kinds.Plain j) command before e = refl
-behind_indicates kinds.FieldData command before e = sym e
 behind_indicates kinds.Graphic command before e = refl
-behind_indicates kinds.Skipped command before e = sym e
+behind_indicates _ command before e = sym e
 
 behind_phase : (k : Kind) (new : ZplReader) (command : List ℕ) → Named new k [] command → shown_parts new.sent.parameters.items ≡ [] → shown_part new.part ≡ kept []
     → in_phase (phase_behind k) new command

@@ -115,7 +115,8 @@ head args = take 4 (map kept (ended [] args))
 
 -- binary data is wanted: fewer than b bytes stand behind_commas the fourth comma
 unfoldable pub is_short : List ℕ → Bool
-is_short args = is_whole args && is_b (head args) && nat_lt (length (behind_commas 4 args)) (count_of (head args))
+is_short args =
+    is_whole args && is_b (head args) && nat_lt (length (behind_commas 4 args)) (count_of (head args))
 
 abbrev pub wants_binary_named : Kind → List ℕ → Bool
 wants_binary_named kinds.Graphic args = is_short args
