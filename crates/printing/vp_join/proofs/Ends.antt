@@ -37,12 +37,7 @@ at_end s p b r e h = let k = h [] in grind (arith, common_steps, k, e)
 
 phase_rows : (p : Phase) (so : Seen) → (from_phase p so []).so.rows ≡ so.rows
 phase_rows Between so = refl
-phase_rows AfterP so = refl
-phase_rows After4 so = refl
-phase_rows (InWidth n) so = refl
-phase_rows (InHeight w n) so = refl
-phase_rows (InRows n) so = refl
-phase_rows (Stopped f) so = refl
+phase_rows _ so = refl
 
 -- what was given is the rows' bytes
 pub given_rows : (s : Reading) (b r : List ℕ) → Stands s b r → rows_told b ≡ r
