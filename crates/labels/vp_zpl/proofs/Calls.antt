@@ -8,7 +8,7 @@ use Rattle.vp_zpl.specs.declared.reader.Phase.TheVariants.{AfterFirst}
 use Rattle.vp_zpl.specs.Spelling.{kept, kept_of}
 use Rattle.vp_zpl.specs.Shown.{shown_part, shown_parts}
 use Rattle.vp_zpl.specs.Commands.{kind, kind_named, is_whole, in_format, in_format_by, indicator, indicator_by}
-use Rattle.vp_zpl.specs.Items.{Item, item_of, data_items, text_known, name_of, given, given_named}
+use Rattle.vp_zpl.specs.Items.{item_of, data_items, text_known, name_of, given, given_named}
 use Rattle.vp_zpl.specs.Reader.{Named, StandsIn, Goes, in_phase, indicator_at, at_name, phase_behind, indicator_behind}
 use Rattle.vp_zpl.proofs.Named.{opened-is, indicator-is}
 use Rattle.vp_zpl.proofs.Phases.{carry, at_indicator}

@@ -6,7 +6,7 @@ use Rattle.vp_zpl.specs.declared.name.Kind.TheVariants as kinds
 use Rattle.vp_zpl.specs.declared.name.Name.{Name}
 use Rattle.vp_zpl.specs.declared.reader.ZplReader.{ZplReader}
 use Rattle.vp_zpl.specs.declared.reader.Phase.{Phase}
-use Rattle.vp_zpl.specs.declared.reader.Phase.TheVariants.{Outside, AfterSign, AfterFirst, Skipping, Parameters, Text, AfterIndicator, AfterDigit, Codes, Binary}
+use Rattle.vp_zpl.specs.declared.reader.Phase.TheVariants.{Codes, Binary}
 use Rattle.vp_zpl.specs.Spelling.{behind_commas}
 use Rattle.vp_zpl.specs.Commands.{count_of, head, is_whole, indicator, wants_binary}
 use Rattle.vp_zpl.specs.Items.{data_items, item_of, graphic, picture, is_code}

@@ -7,7 +7,7 @@ use Rattle.vp_join.specs.Told.{told}
 use Rattle.vp_join.specs.Passes.{after_calls, fault_of, is_read_fault, IsFound, IsMeasure}
 use Rattle.vp_join.specs.declared.fault.JoinFault.TheVariants.{TooManyTurns}
 use Rattle.vp_join.specs.declared.fault.Offence.{Offence}
-use Rattle.vp_join.specs.declared.fault.Offence.TheVariants.{Header, Width, TooTall, Short}
+use Rattle.vp_join.specs.declared.fault.Offence.TheVariants.{Header}
 use Rattle.vp_join.specs.declared.passes.Measured.{Measured}
 
 some_calls : (start n : ℕ) → 0 < n → after_calls start n ≡ grown start n

@@ -5,7 +5,7 @@ use Rattle.std.proofs.lemmas.Grind.{common_steps}
 use Rattle.vp_join.specs.Told.{Seen, Told, told, rows_told, images, rows}
 use Rattle.vp_join.specs.Standing.{from_phase, so_far, Stands, HasRead}
 use Rattle.vp_join.specs.declared.reading.Phase.{Phase}
-use Rattle.vp_join.specs.declared.reading.Phase.TheVariants.{Between, AfterP, After4, InWidth, InHeight, InRows, Stopped}
+use Rattle.vp_join.specs.declared.reading.Phase.TheVariants.{Between}
 use Rattle.vp_join.specs.declared.reading.Reading.{Reading}
 
 abbrev pub seen : ℕ → ℕ → List ℕ → Seen

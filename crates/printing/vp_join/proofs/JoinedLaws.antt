@@ -10,7 +10,7 @@ use Rattle.vp_join.specs.Strips.{Strip, IsNumber, AreStrips, IsJoined, IsOffence
 use Rattle.vp_join.specs.Told.{Told, told, nothing}
 use Rattle.vp_join.specs.Passes.{IsExact, IsOfCalls}
 use Rattle.vp_join.specs.declared.fault.JoinFault.{JoinFault}
-use Rattle.vp_join.specs.declared.fault.JoinFault.TheVariants.{Header, Width, TooTall, Short, Differ, Read, Write, TooManyTurns}
+use Rattle.vp_join.specs.declared.fault.JoinFault.TheVariants.{Differ, Read, Write, TooManyTurns}
 use Rattle.vp_join.specs.declared.fault.Offence.{Offence}
 use Rattle.vp_join.proofs.Agree.{after, after-height, after-rows, after-width, told_images, told_offence, images_told, each_text, never_both, length-rows_of, Images}
 use Rattle.vp_join.proofs.Pictures.{pbm_is, dot_in_row}
