@@ -117,62 +117,33 @@ impl Settings {
         }
     }
 
-    /// These with another quantity.
-    fn with_quantity(self, quantity: u32) -> Settings
-        ensures { result ≡ record self { quantity = quantity } }
-    {
-        Settings { quantity, ..self }
-    }
-
     /// What a command of an open format leaves in force. What it leaves out
     /// takes its default, not what was in force.
-    pub fn after(self, command: Command) -> Settings
+    pub fn after(mut self, command: Command) -> Settings
         ensures { result ≡ settings_by command self }
     {
         match command {
-            Command::LabelHome { x, y } => Settings {
-                home: Home::given(x, y),
-                ..self
-            },
-            Command::PrintWidth { dots } => Settings {
-                print_width: ranged(1, WIDEST, 832, dots),
-                ..self
-            },
-            Command::LabelLength { dots } => Settings {
-                label_length: ranged(1, LONGEST, 1218, dots),
-                ..self
-            },
-            Command::PrintOrientation { inverted } => Settings {
-                is_inverted: inverted.unwrap_or(false),
-                ..self
-            },
-            Command::MirrorImage { mirrored } => Settings {
-                is_mirrored: mirrored.unwrap_or(false),
-                ..self
-            },
-            Command::LabelReverse { reversed } => Settings {
-                label_reverse: reversed.unwrap_or(false),
-                ..self
-            },
-            Command::FieldOrientation { orientation } => Settings {
-                field_orientation: orientation.unwrap_or(Orientation::Normal),
-                ..self
-            },
-            Command::DefaultFont { height, width } => Settings {
-                default_font: CharacterSize::given(height, width, FIRST_FONT),
-                ..self
-            },
+            Command::LabelHome { x, y } => self.home = Home::given(x, y),
+            Command::PrintWidth { dots } => self.print_width = ranged(1, WIDEST, 832, dots),
+            Command::LabelLength { dots } => self.label_length = ranged(1, LONGEST, 1218, dots),
+            Command::PrintOrientation { inverted } => self.is_inverted = inverted.unwrap_or(false),
+            Command::MirrorImage { mirrored } => self.is_mirrored = mirrored.unwrap_or(false),
+            Command::LabelReverse { reversed } => self.label_reverse = reversed.unwrap_or(false),
+            Command::FieldOrientation { orientation } => {
+                self.field_orientation = orientation.unwrap_or(Orientation::Normal);
+            }
+            Command::DefaultFont { height, width } => {
+                self.default_font = CharacterSize::given(height, width, FIRST_FONT);
+            }
             Command::BarDefaults {
                 module,
                 ratio_tenths,
                 height,
-            } => Settings {
-                bar_defaults: BarDefaults::given(module, ratio_tenths, height),
-                ..self
-            },
-            Command::PrintQuantity { copies } => self.with_quantity(quantity(copies)),
-            Command::FormatEnd => self.with_quantity(1),
-            _ => self,
+            } => self.bar_defaults = BarDefaults::given(module, ratio_tenths, height),
+            Command::PrintQuantity { copies } => self.quantity = quantity(copies),
+            Command::FormatEnd => self.quantity = 1,
+            _ => {}
         }
+        self
     }
 }

@@ -8,7 +8,7 @@ use Rattle.vp_zpl.specs.declared.reader.Phase.TheVariants.{AfterFirst}
 use Rattle.vp_zpl.specs.Spelling.{kept, kept_of}
 use Rattle.vp_zpl.specs.Shown.{shown_part, shown_parts}
 use Rattle.vp_zpl.specs.Commands.{kind, kind_named, is_whole, in_format, in_format_by, indicator, indicator_by}
-use Rattle.vp_zpl.specs.Items.{Item, item_of, data_items, text_known, name_of, given, given_named}
+use Rattle.vp_zpl.specs.Items.{item_of, data_items, text_known, name_of, given, given_named}
 use Rattle.vp_zpl.specs.Reader.{Named, StandsIn, Goes, in_phase, indicator_at, at_name, phase_behind, indicator_behind}
 use Rattle.vp_zpl.proofs.Named.{opened-is, indicator-is}
 use Rattle.vp_zpl.proofs.Phases.{carry, at_indicator}
@@ -19,27 +19,15 @@ no_text (Some x) = refl
 
 name_gives : (k : Kind) (before : List (List ℕ)) (name : Name) → given_named k before name [] ≡ at_name k name
 unfolding is_whole
-name_gives kinds.FormatStart before name = refl
-name_gives kinds.FormatEnd before name = refl
-name_gives kinds.FieldSeparator before name = refl
-name_gives kinds.ReversePrint before name = refl
-name_gives kinds.FieldHex before name = refl
-name_gives (kinds.Plain j) before name = refl
 name_gives kinds.FieldData before name = ap (λ x. item_of kinds.FieldData name [] ∷ data_items x) (no_text (indicator before))
-name_gives kinds.Graphic before name = refl
-name_gives kinds.Skipped before name = refl
+name_gives _ before name = refl
 
 behind_indicates : (k : Kind) (command : List ℕ) (before : List (List ℕ)) → indicator (command ∷ before) ≡ indicator_by (Some k) command (in_format before) (indicator before)
     → indicator_behind k (indicator before) ≡ indicator_at (phase_behind k) command before
-behind_indicates kinds.FormatStart command before e = sym e
-behind_indicates kinds.FormatEnd command before e = sym e
-behind_indicates kinds.FieldSeparator command before e = sym e
-behind_indicates kinds.ReversePrint command before e = sym e
 behind_indicates kinds.FieldHex command before e = refl
 behind_indicates (kinds.Plain j) command before e = refl
-behind_indicates kinds.FieldData command before e = sym e
 behind_indicates kinds.Graphic command before e = refl
-behind_indicates kinds.Skipped command before e = sym e
+behind_indicates _ command before e = sym e
 
 behind_phase : (k : Kind) (new : ZplReader) (command : List ℕ) → Named new k [] command → shown_parts new.sent.parameters.items ≡ [] → shown_part new.part ≡ kept []
     → in_phase (phase_behind k) new command

@@ -31,15 +31,8 @@ short_is args e =
     few m n e = grind (arith, nat_tests)
 
 named_short : (k : Kind) (args : List ℕ) → wants_binary_named k args ≡ true → is_short args ≡ true
-named_short kinds.FormatStart args e = absurd (cc)
-named_short kinds.FormatEnd args e = absurd (cc)
-named_short kinds.FieldSeparator args e = absurd (cc)
-named_short kinds.ReversePrint args e = absurd (cc)
-named_short kinds.FieldHex args e = absurd (cc)
-named_short (kinds.Plain j) args e = absurd (cc)
-named_short kinds.FieldData args e = absurd (cc)
 named_short kinds.Graphic args e = e
-named_short kinds.Skipped args e = absurd (cc)
+named_short _ args e = absurd (cc)
 
 less : (command : List ℕ) (c n : ℕ) → wants_binary command ≡ true → short_by command ≤ suc n → short_by (longer command c) ≤ n
 unfolding wants_binary

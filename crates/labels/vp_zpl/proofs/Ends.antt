@@ -35,15 +35,10 @@ sign_stands new before command sign opened indicates phase = record {
 
 ended_gives : (k : Kind) (before : List (List ℕ)) (name : Name) (args : List ℕ) → has_parameters k ≡ true → (k ≡ kinds.Graphic → is_whole args ≡ false)
     → at_end_named k before name args ≡ item_of k name (kept_of (parameters args)) ∷ []
-ended_gives kinds.FormatStart before name args t w = absurd (cc)
-ended_gives kinds.FormatEnd before name args t w = absurd (cc)
-ended_gives kinds.FieldSeparator before name args t w = absurd (cc)
-ended_gives kinds.ReversePrint before name args t w = absurd (cc)
 ended_gives kinds.FieldHex before name args t w = refl
 ended_gives (kinds.Plain j) before name args t w = refl
-ended_gives kinds.FieldData before name args t w = absurd (cc)
 ended_gives kinds.Graphic before name args t w = rw (w refl) refl
-ended_gives kinds.Skipped before name args t w = absurd (cc)
+ended_gives _ before name args t w = absurd (cc)
 
 hex_indicates : (command : List ℕ) (ps : List Kept) (opened : Bool) (was : Option ℕ) → ps ≡ kept_of (parameters (drop 3 command))
     → indicator_with kinds.FieldHex ps opened was ≡ indicator_by (Some kinds.FieldHex) command opened was
@@ -52,15 +47,10 @@ hex_indicates command ps false was e = refl
 
 with_indicates : (k : Kind) (command : List ℕ) (ps : List Kept) (opened : Bool) (was : Option ℕ) → has_parameters k ≡ true → ps ≡ kept_of (parameters (drop 3 command))
     → indicator_with k ps (in_format_by (Some k) opened) was ≡ indicator_by (Some k) command opened was
-with_indicates kinds.FormatStart command ps opened was t e = absurd (cc)
-with_indicates kinds.FormatEnd command ps opened was t e = absurd (cc)
-with_indicates kinds.FieldSeparator command ps opened was t e = absurd (cc)
-with_indicates kinds.ReversePrint command ps opened was t e = absurd (cc)
 with_indicates kinds.FieldHex command ps opened was t e = hex_indicates command ps opened was e
 with_indicates (kinds.Plain j) command ps opened was t e = refl
-with_indicates kinds.FieldData command ps opened was t e = absurd (cc)
 with_indicates kinds.Graphic command ps opened was t e = refl
-with_indicates kinds.Skipped command ps opened was t e = absurd (cc)
+with_indicates _ command ps opened was t e = absurd (cc)
 
 pub parameters_end : (r new : ZplReader) (before : List (List ℕ)) (command : List ℕ) (k : Kind) (sign : ℕ) → StandsIn r before command → r.phase ≡ Parameters k
     → Ended r new → new.in_format ≡ r.in_format → new.phase ≡ AfterSign sign
@@ -95,15 +85,11 @@ unfolding at_end given
 longer_ends before sign first = refl
 
 alone_ends : (k : Kind) (before : List (List ℕ)) (name : Name) (args : List ℕ) → is_alone k ≡ true → at_end_named k before name args ≡ given_named k before name args ++ []
-alone_ends kinds.FormatStart before name args e = refl
-alone_ends kinds.FormatEnd before name args e = refl
-alone_ends kinds.FieldSeparator before name args e = refl
-alone_ends kinds.ReversePrint before name args e = refl
 alone_ends kinds.FieldHex before name args e = absurd (cc)
 alone_ends (kinds.Plain j) before name args e = absurd (cc)
 alone_ends kinds.FieldData before name args e = absurd (cc)
 alone_ends kinds.Graphic before name args e = absurd (cc)
-alone_ends kinds.Skipped before name args e = refl
+alone_ends _ before name args e = refl
 
 whole_ends : (before : List (List ℕ)) (name : Name) (args : List ℕ) → is_whole args ≡ true → at_end_named kinds.Graphic before name args ≡ given_named kinds.Graphic before name args ++ []
 whole_ends before name args w = rw w (nothing_more (graphic name args))
@@ -148,16 +134,8 @@ gives_in (Binary n) r before command h not i =
     at_end-is h.named before ∙ whole_ends before r.sent.name h.args h.whole ∙ ap (λ x. x ++ []) (sym (given-is h.named before))
 
 behind_indicates : (q : Phase) (command : List ℕ) (before : List (List ℕ)) → ((k : Kind) → q ≡ Parameters k → ⊥) → indicator_at q command before ≡ indicator (command ∷ before)
-behind_indicates Outside command before not = refl
-behind_indicates (AfterSign s) command before not = refl
-behind_indicates (AfterFirst s a) command before not = refl
-behind_indicates Skipping command before not = refl
 behind_indicates (Parameters k) command before not = absurd (not k refl)
-behind_indicates Text command before not = refl
-behind_indicates (AfterIndicator x) command before not = refl
-behind_indicates (AfterDigit x d) command before not = refl
-behind_indicates Codes command before not = refl
-behind_indicates (Binary n) command before not = refl
+behind_indicates _ command before not = refl
 
 pub others_end : (q : Phase) (r new : ZplReader) (before : List (List ℕ)) (command : List ℕ) (sign : ℕ) → StandsIn r before command → r.phase ≡ q
     → ((k : Kind) → q ≡ Parameters k → ⊥) → new.in_format ≡ r.in_format → new.indicator ≡ r.indicator → new.phase ≡ AfterSign sign

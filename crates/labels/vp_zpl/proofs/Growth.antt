@@ -46,17 +46,11 @@ text_by None args c = (c ∷ [], refl)
 text_by (Some x) args c = (out x (undecided x args) c, (step x args c).makes)
 
 named_grows : (k : Kind) (before : List (List ℕ)) (name : Name) (args : List ℕ) (c : ℕ) → Grows (given_named k before name args) (given_named k before name (args ++ c ∷ []))
-named_grows kinds.FormatStart before name args c = same _ _ refl
-named_grows kinds.FormatEnd before name args c = same _ _ refl
-named_grows kinds.FieldSeparator before name args c = same _ _ refl
-named_grows kinds.ReversePrint before name args c = same _ _ refl
-named_grows kinds.FieldHex before name args c = same _ _ refl
-named_grows (kinds.Plain j) before name args c = same _ _ refl
 named_grows kinds.FieldData before name args c =
     let g = text_by (indicator before) args c in
     record { added = data_items g.0; is = ap (λ d. item_of kinds.FieldData name [] ∷ data_items d) g.1 ∙ ap (λ d. item_of kinds.FieldData name [] ∷ d) (data_split (text_known (indicator before) args) g.0) }
 named_grows kinds.Graphic before name args c = graphic_by (is_whole args) before name args c refl
-named_grows kinds.Skipped before name args c = same _ _ refl
+named_grows _ before name args c = same _ _ refl
 
 given_grows : (before : List (List ℕ)) (command : List ℕ) (c : ℕ) → Grows (given before command) (given before (longer command c))
 unfolding given
@@ -71,10 +65,6 @@ whole_by true before name args w = same _ _ (rw w refl)
 whole_by false before name args w = from_none _ _ (ap (λ z. cond z (graphic name args) []) w)
 
 named_ends : (k : Kind) (before : List (List ℕ)) (name : Name) (args : List ℕ) → Grows (given_named k before name args) (at_end_named k before name args)
-named_ends kinds.FormatStart before name args = same _ _ refl
-named_ends kinds.FormatEnd before name args = same _ _ refl
-named_ends kinds.FieldSeparator before name args = same _ _ refl
-named_ends kinds.ReversePrint before name args = same _ _ refl
 named_ends kinds.FieldHex before name args = from_none _ _ refl
 named_ends (kinds.Plain j) before name args = from_none _ _ refl
 named_ends kinds.FieldData before name args =
@@ -84,7 +74,7 @@ named_ends kinds.FieldData before name args =
           ∙ ap (λ d. item_of kinds.FieldData name [] ∷ d) (data_split (text_known (indicator before) args) (waiting (indicator before) args));
     }
 named_ends kinds.Graphic before name args = whole_by (is_whole args) before name args refl
-named_ends kinds.Skipped before name args = same _ _ refl
+named_ends _ before name args = same _ _ refl
 
 end_grows : (before : List (List ℕ)) (command : List ℕ) → Grows (given before command) (at_end before command)
 unfolding given at_end

@@ -19,15 +19,10 @@ use Rattle.vp_zpl.proofs.Parameters.{last-push, keeps, same_ended, same_whole, c
 -- before its head is whole, a command with parameters has given nothing
 pub none_given : (k : Kind) (before : List (List ℕ)) (name : Name) (args : List ℕ) → has_parameters k ≡ true → (k ≡ kinds.Graphic → is_whole args ≡ false)
     → given_named k before name args ≡ []
-none_given kinds.FormatStart before name args t w = absurd (cc)
-none_given kinds.FormatEnd before name args t w = absurd (cc)
-none_given kinds.FieldSeparator before name args t w = absurd (cc)
-none_given kinds.ReversePrint before name args t w = absurd (cc)
 none_given kinds.FieldHex before name args t w = refl
 none_given (kinds.Plain j) before name args t w = refl
-none_given kinds.FieldData before name args t w = absurd (cc)
 none_given kinds.Graphic before name args t w = rw (w refl) refl
-none_given kinds.Skipped before name args t w = absurd (cc)
+none_given _ before name args t w = absurd (cc)
 
 -- what the reader keeps of these parameters
 pub record Reads (r : ZplReader) (kind : Kind) (args : List ℕ) : Type 0 where

@@ -51,49 +51,21 @@ is_indicator kinds.FieldHex = true
 is_indicator _ = false
 
 pub same_by : (k : Kind) (a b : List ℕ) (opened : Bool) (was : Option ℕ) → is_indicator k ≡ false → indicator_by (Some k) a opened was ≡ indicator_by (Some k) b opened was
-same_by kinds.FormatStart a b opened was e = refl
-same_by kinds.FormatEnd a b opened was e = refl
-same_by kinds.FieldSeparator a b opened was e = refl
-same_by kinds.ReversePrint a b opened was e = refl
 same_by kinds.FieldHex a b opened was e = absurd (cc)
-same_by (kinds.Plain j) a b opened was e = refl
-same_by kinds.FieldData a b opened was e = refl
-same_by kinds.Graphic a b opened was e = refl
-same_by kinds.Skipped a b opened was e = refl
+same_by _ a b opened was e = refl
 
 alone_wants : (k : Kind) (args : List ℕ) → is_alone k ≡ true → wants_binary_named k args ≡ false
-alone_wants kinds.FormatStart args e = refl
-alone_wants kinds.FormatEnd args e = refl
-alone_wants kinds.FieldSeparator args e = refl
-alone_wants kinds.ReversePrint args e = refl
-alone_wants kinds.FieldHex args e = refl
-alone_wants (kinds.Plain j) args e = refl
-alone_wants kinds.FieldData args e = refl
 alone_wants kinds.Graphic args e = absurd (cc)
-alone_wants kinds.Skipped args e = refl
+alone_wants _ args e = refl
 
 pub alone_not : (k : Kind) → is_alone k ≡ true → is_indicator k ≡ false
-alone_not kinds.FormatStart e = refl
-alone_not kinds.FormatEnd e = refl
-alone_not kinds.FieldSeparator e = refl
-alone_not kinds.ReversePrint e = refl
 alone_not kinds.FieldHex e = absurd (cc)
-alone_not (kinds.Plain j) e = refl
-alone_not kinds.FieldData e = refl
-alone_not kinds.Graphic e = refl
-alone_not kinds.Skipped e = refl
+alone_not _ e = refl
 
 parameters_want : (k : Kind) (args : List ℕ) → (k ≡ kinds.Graphic → is_whole args ≡ false) → wants_binary_named k args ≡ false
 unfolding is_short
-parameters_want kinds.FormatStart args e = refl
-parameters_want kinds.FormatEnd args e = refl
-parameters_want kinds.FieldSeparator args e = refl
-parameters_want kinds.ReversePrint args e = refl
-parameters_want kinds.FieldHex args e = refl
-parameters_want (kinds.Plain j) args e = refl
-parameters_want kinds.FieldData args e = refl
 parameters_want kinds.Graphic args e = rw (e refl) refl
-parameters_want kinds.Skipped args e = refl
+parameters_want _ args e = refl
 
 more_left : (a b : ℕ) → nat_lt a b ≡ nat_lt 0 (b - a)
 more_left a b = grind (arith, nat_tests)

@@ -23,15 +23,11 @@ nothing_more [] = refl
 nothing_more (x ∷ xs) = ap (λ y. x ∷ y) (nothing_more xs)
 
 alone_gives : (k : Kind) (before : List (List ℕ)) (name : Name) (args more : List ℕ) → is_alone k ≡ true → given_named k before name more ≡ given_named k before name args ++ []
-alone_gives kinds.FormatStart before name args more e = refl
-alone_gives kinds.FormatEnd before name args more e = refl
-alone_gives kinds.FieldSeparator before name args more e = refl
-alone_gives kinds.ReversePrint before name args more e = refl
 alone_gives kinds.FieldHex before name args more e = absurd (cc)
 alone_gives (kinds.Plain j) before name args more e = absurd (cc)
 alone_gives kinds.FieldData before name args more e = absurd (cc)
 alone_gives kinds.Graphic before name args more e = absurd (cc)
-alone_gives kinds.Skipped before name args more e = refl
+alone_gives _ before name args more e = refl
 
 pub carry : {A : Type 0} (P : A → Type 0) (a b : A) → a ≡ b → P a → P b
 carry P a b e x = rw e at x

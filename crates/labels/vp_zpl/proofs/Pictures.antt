@@ -6,7 +6,7 @@ use Rattle.vp_zpl.specs.declared.name.Kind.TheVariants as kinds
 use Rattle.vp_zpl.specs.declared.name.Name.{Name}
 use Rattle.vp_zpl.specs.declared.reader.ZplReader.{ZplReader}
 use Rattle.vp_zpl.specs.declared.reader.Phase.{Phase}
-use Rattle.vp_zpl.specs.declared.reader.Phase.TheVariants.{Outside, AfterSign, AfterFirst, Skipping, Parameters, Text, AfterIndicator, AfterDigit, Codes, Binary}
+use Rattle.vp_zpl.specs.declared.reader.Phase.TheVariants.{Codes, Binary}
 use Rattle.vp_zpl.specs.Spelling.{behind_commas}
 use Rattle.vp_zpl.specs.Commands.{count_of, head, is_whole, indicator, wants_binary}
 use Rattle.vp_zpl.specs.Items.{data_items, item_of, graphic, picture, is_code}
@@ -21,15 +21,7 @@ none_more (x ∷ xs) = ap (λ y. x ∷ y) (none_more xs)
 
 binary_phase : (p : Phase) (left : ℕ) → left_of p ≡ left → 0 < left → p ≡ Binary left
 binary_phase (Binary n) left e s = ap (λ x. Binary x) e
-binary_phase Outside left e s = absurd (omega arith)
-binary_phase (AfterSign a) left e s = absurd (omega arith)
-binary_phase (AfterFirst a b) left e s = absurd (omega arith)
-binary_phase Skipping left e s = absurd (omega arith)
-binary_phase (Parameters k) left e s = absurd (omega arith)
-binary_phase Text left e s = absurd (omega arith)
-binary_phase (AfterIndicator x) left e s = absurd (omega arith)
-binary_phase (AfterDigit x d) left e s = absurd (omega arith)
-binary_phase Codes left e s = absurd (omega arith)
+binary_phase _ left e s = absurd (omega arith)
 
 given_graphic : (args : List ℕ) (name : Name) (more : List ℕ) (c : ℕ) → is_whole args ≡ true → picture (args ++ c ∷ []) ≡ picture args ++ more
     → (cond (is_whole (args ++ c ∷ [])) (graphic name (args ++ c ∷ [])) []) ≡ (cond (is_whole args) (graphic name args) []) ++ data_items more

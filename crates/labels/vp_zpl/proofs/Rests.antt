@@ -22,26 +22,17 @@ within_is {k = k} {args = args} n opened wants w =
     ∙ ap (λ x. x || (opened && goes_on_named here args)) w ∙ ap (λ x. wants || (opened && goes_on_named x args)) n.kind
 
 alone_stays : (k : Kind) (args : List ℕ) → is_alone k ≡ true → goes_on_named k args ≡ false
-alone_stays kinds.FormatStart args e = refl
-alone_stays kinds.FormatEnd args e = refl
-alone_stays kinds.FieldSeparator args e = refl
-alone_stays kinds.ReversePrint args e = refl
 alone_stays kinds.FieldHex args e = absurd (cc)
 alone_stays (kinds.Plain j) args e = absurd (cc)
 alone_stays kinds.FieldData args e = absurd (cc)
 alone_stays kinds.Graphic args e = absurd (cc)
-alone_stays kinds.Skipped args e = refl
+alone_stays _ args e = refl
 
 parameters_go_on : (k : Kind) (args : List ℕ) → has_parameters k ≡ true → (k ≡ kinds.Graphic → is_whole args ≡ false) → goes_on_named k args ≡ true
-parameters_go_on kinds.FormatStart args t w = absurd (cc)
-parameters_go_on kinds.FormatEnd args t w = absurd (cc)
-parameters_go_on kinds.FieldSeparator args t w = absurd (cc)
-parameters_go_on kinds.ReversePrint args t w = absurd (cc)
 parameters_go_on kinds.FieldHex args t w = refl
 parameters_go_on (kinds.Plain j) args t w = refl
-parameters_go_on kinds.FieldData args t w = absurd (cc)
 parameters_go_on kinds.Graphic args t w = rw (w refl) refl
-parameters_go_on kinds.Skipped args t w = absurd (cc)
+parameters_go_on _ args t w = absurd (cc)
 
 not_alone : (z : Bool) → not (false || (z && false)) ≡ true
 not_alone true = refl

@@ -139,26 +139,17 @@ unfolding front_in
 front_of {args = args} n before input = ap (λ x. front_in before x input) n.bytes ∙ ap (λ k. front_named k (indicator before) args input) n.kind
 
 alone_front : (k : Kind) (o : Option ℕ) (args input : List ℕ) → is_alone k ≡ true → front_named k o args input ≡ 0
-alone_front kinds.FormatStart o args input e = refl
-alone_front kinds.FormatEnd o args input e = refl
-alone_front kinds.FieldSeparator o args input e = refl
-alone_front kinds.ReversePrint o args input e = refl
 alone_front kinds.FieldHex o args input e = absurd (cc)
 alone_front (kinds.Plain j) o args input e = absurd (cc)
 alone_front kinds.FieldData o args input e = absurd (cc)
 alone_front kinds.Graphic o args input e = absurd (cc)
-alone_front kinds.Skipped o args input e = refl
+alone_front _ o args input e = refl
 
 parameters_front : (k : Kind) (o : Option ℕ) (args input : List ℕ) → has_parameters k ≡ true → (k ≡ kinds.Graphic → is_whole args ≡ false) → front_named k o args input ≡ 0
-parameters_front kinds.FormatStart o args input t w = absurd (cc)
-parameters_front kinds.FormatEnd o args input t w = absurd (cc)
-parameters_front kinds.FieldSeparator o args input t w = absurd (cc)
-parameters_front kinds.ReversePrint o args input t w = absurd (cc)
 parameters_front kinds.FieldHex o args input t w = refl
 parameters_front (kinds.Plain j) o args input t w = refl
-parameters_front kinds.FieldData o args input t w = absurd (cc)
 parameters_front kinds.Graphic o args input t w = rw (w refl) refl
-parameters_front kinds.Skipped o args input t w = absurd (cc)
+parameters_front _ o args input t w = absurd (cc)
 
 text_by : (r : ZplReader) (before : List (List ℕ)) (command left input : List ℕ) → InText r left command → r.indicator ≡ indicator (command ∷ before)
     → front_in before command input ≡ text_front left r.indicator input
@@ -186,16 +177,9 @@ front_is (Binary left) r before command input h i =
 
 -- by the phase
 fits_in : (q : Phase) (o : Option ℕ) (input : List ℕ) → front_by q o input ≤ length input
-fits_in Outside o input = omega arith
-fits_in (AfterSign s) o input = omega arith
-fits_in (AfterFirst s a) o input = omega arith
-fits_in Skipping o input = omega arith
-fits_in (Parameters k) o input = omega arith
 fits_in Text o input = prefix_len-le-length (is_text o) input
-fits_in (AfterIndicator x) o input = omega arith
-fits_in (AfterDigit x d) o input = omega arith
 fits_in Codes o input = prefix_len-le-length is_kept_code input
-fits_in (Binary left) o input = omega arith
+fits_in _ o input = omega arith
 
 pub fits : (q : Phase) (o : Option ℕ) (input : List ℕ) → front_by q o input ≤ length input
 fits q o input = fits_in q o input

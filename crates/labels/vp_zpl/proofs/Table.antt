@@ -14,46 +14,23 @@ listed a b = if a == 0x41 then kinds.Plain plain.Font else kind_in rows a b
 is_it : (a n : ℕ) → (a == n) ≡ true → a ≡ n
 is_it a n e = grind (arith, nat_tests)
 
-by_c : (t : Bool) (a b : ℕ) → (a == 0x43) ≡ t → (a == 0x58) ≡ false → (a == 0x46) ≡ false → (a == 0x4C) ≡ false → (a == 0x50) ≡ false → (a == 0x42) ≡ false → (a == 0x47) ≡ false → (a == 0x41) ≡ false
+-- the names that begin with n stand in the table, and so do those that don't
+either : (t : Bool) (n a b : ℕ) → (a == n) ≡ t → kind_of 0x5E n b ≡ listed n b
+    → ((a == n) ≡ false → kind_of 0x5E a b ≡ listed a b) → kind_of 0x5E a b ≡ listed a b
+either true n a b e here other = rw (is_it a n e) here
+either false n a b e here other = other e
+
+unnamed : (a b : ℕ) → (a == 0x58) ≡ false → (a == 0x46) ≡ false → (a == 0x4C) ≡ false → (a == 0x50) ≡ false → (a == 0x42) ≡ false → (a == 0x47) ≡ false → (a == 0x41) ≡ false → (a == 0x43) ≡ false
     → kind_of 0x5E a b ≡ listed a b
 unfolding kind_of
-by_c true a b e x f l p bb g aa = rw (is_it a 0x43 e) refl
-by_c false a b e x f l p bb g aa = rw (e, x, f, l, p, bb, g, aa) refl
+unnamed a b x f l p s g t c = rw (x, f, l, p, s, g, t, c) refl
 
-by_a : (t : Bool) (a b : ℕ) → (a == 0x41) ≡ t → (a == 0x58) ≡ false → (a == 0x46) ≡ false → (a == 0x4C) ≡ false → (a == 0x50) ≡ false → (a == 0x42) ≡ false → (a == 0x47) ≡ false → kind_of 0x5E a b ≡ listed a b
+by_first : (a b : ℕ) → kind_of 0x5E a b ≡ listed a b
 unfolding kind_of
-by_a true a b e x f l p bb g = rw (is_it a 0x41 e) refl
-by_a false a b e x f l p bb g = by_c (a == 0x43) a b refl x f l p bb g e
-
-by_g : (t : Bool) (a b : ℕ) → (a == 0x47) ≡ t → (a == 0x58) ≡ false → (a == 0x46) ≡ false → (a == 0x4C) ≡ false → (a == 0x50) ≡ false → (a == 0x42) ≡ false → kind_of 0x5E a b ≡ listed a b
-unfolding kind_of
-by_g true a b e x f l p bb = rw (is_it a 0x47 e) refl
-by_g false a b e x f l p bb = by_a (a == 0x41) a b refl x f l p bb e
-
-by_b : (t : Bool) (a b : ℕ) → (a == 0x42) ≡ t → (a == 0x58) ≡ false → (a == 0x46) ≡ false → (a == 0x4C) ≡ false → (a == 0x50) ≡ false → kind_of 0x5E a b ≡ listed a b
-unfolding kind_of
-by_b true a b e x f l p = rw (is_it a 0x42 e) refl
-by_b false a b e x f l p = by_g (a == 0x47) a b refl x f l p e
-
-by_p : (t : Bool) (a b : ℕ) → (a == 0x50) ≡ t → (a == 0x58) ≡ false → (a == 0x46) ≡ false → (a == 0x4C) ≡ false → kind_of 0x5E a b ≡ listed a b
-unfolding kind_of
-by_p true a b e x f l = rw (is_it a 0x50 e) refl
-by_p false a b e x f l = by_b (a == 0x42) a b refl x f l e
-
-by_l : (t : Bool) (a b : ℕ) → (a == 0x4C) ≡ t → (a == 0x58) ≡ false → (a == 0x46) ≡ false → kind_of 0x5E a b ≡ listed a b
-unfolding kind_of
-by_l true a b e x f = rw (is_it a 0x4C e) refl
-by_l false a b e x f = by_p (a == 0x50) a b refl x f e
-
-by_f : (t : Bool) (a b : ℕ) → (a == 0x46) ≡ t → (a == 0x58) ≡ false → kind_of 0x5E a b ≡ listed a b
-unfolding kind_of
-by_f true a b e x = rw (is_it a 0x46 e) refl
-by_f false a b e x = by_l (a == 0x4C) a b refl x e
-
-by_x : (t : Bool) (a b : ℕ) → (a == 0x58) ≡ t → kind_of 0x5E a b ≡ listed a b
-unfolding kind_of
-by_x true a b e = rw (is_it a 0x58 e) refl
-by_x false a b e = by_f (a == 0x46) a b refl e
+by_first a b =
+    either (a == 0x58) 0x58 a b refl refl (λ x. either (a == 0x46) 0x46 a b refl refl (λ f. either (a == 0x4C) 0x4C a b refl refl
+    (λ l. either (a == 0x50) 0x50 a b refl refl (λ p. either (a == 0x42) 0x42 a b refl refl (λ s. either (a == 0x47) 0x47 a b refl refl
+    (λ g. either (a == 0x41) 0x41 a b refl refl (λ t. either (a == 0x43) 0x43 a b refl refl (λ c. unnamed a b x f l p s g t c))))))))
 
 pub named_is : (a b : ℕ) → kind_named 0x5E a b ≡ listed (capital a) (capital b)
-named_is a b = by_x (capital a == 0x58) (capital a) (capital b) refl
+named_is a b = by_first (capital a) (capital b)

@@ -13,10 +13,6 @@ left_by x [] c = if c == x then c ∷ [] else []
 left_by x (a ∷ []) c = if is_hex (hex_of c) then a ∷ c ∷ [] else (if c == x then c ∷ [] else [])
 left_by x (a ∷ b ∷ more) c = or_later (hex_pair (hex_of b) (hex_of c)) [] (if c == x then c ∷ [] else [])
 
-hex_test : (o : Option ℕ) → is_hex o ≡ true → (n : ℕ) × (o ≡ Some n)
-hex_test None e = absurd (cc)
-hex_test (Some n) e = (n, refl)
-
 nothing_after : (xs : List ℕ) → xs ≡ xs ++ []
 nothing_after [] = refl
 nothing_after (x ∷ xs) = ap (λ y. x ∷ y) (nothing_after xs)

@@ -4,6 +4,14 @@ use Rattle.vp_zpl.specs.declared.name.Kind.{Kind}
 use Rattle.vp_zpl.specs.declared.name.Kind.TheVariants as kinds
 use Rattle.vp_zpl.specs.declared.name.Plain.{Plain}
 use Rattle.vp_zpl.specs.declared.name.Plain.TheVariants as plain
+use Rattle.vp_zpl.specs.declared.name.FieldCommand.{FieldCommand}
+use Rattle.vp_zpl.specs.declared.name.FieldCommand.TheVariants as fields
+use Rattle.vp_zpl.specs.declared.name.LabelCommand.{LabelCommand}
+use Rattle.vp_zpl.specs.declared.name.LabelCommand.TheVariants as labels
+use Rattle.vp_zpl.specs.declared.name.PrintCommand.{PrintCommand}
+use Rattle.vp_zpl.specs.declared.name.PrintCommand.TheVariants as prints
+use Rattle.vp_zpl.specs.declared.name.BarCommand.{BarCommand}
+use Rattle.vp_zpl.specs.declared.name.BarCommand.TheVariants as bars
 use Rattle.vp_zpl.specs.declared.item.Orientation.{Orientation}
 use Rattle.vp_zpl.specs.declared.item.Orientation.TheVariants as turns
 use Rattle.vp_zpl.specs.declared.item.Colour.{Colour}
@@ -148,35 +156,51 @@ abbrev pub tenths_if : Option Kept → Option ℕ
 tenths_if None = None
 tenths_if (Some p) = tenths_of p
 
-abbrev pub plain_command : Plain → List Kept → Command
-plain_command plain.FieldOrigin ps = commands.FieldOrigin (number_at 0 ps) (number_at 1 ps)
-plain_command plain.FieldTypeset ps = commands.FieldTypeset (number_at 0 ps) (number_at 1 ps)
-plain_command plain.LabelHome ps = commands.LabelHome (number_at 0 ps) (number_at 1 ps)
-plain_command plain.PrintWidth ps = commands.PrintWidth (number_at 0 ps)
-plain_command plain.LabelLength ps = commands.LabelLength (number_at 0 ps)
-plain_command plain.PrintQuantity ps = commands.PrintQuantity (number_at 0 ps)
-plain_command plain.PrintOrientation ps = commands.PrintOrientation (inverted_at 0 ps)
-plain_command plain.MirrorImage ps = commands.MirrorImage (yes_at 0 ps)
-plain_command plain.LabelReverse ps = commands.LabelReverse (yes_at 0 ps)
-plain_command plain.FieldOrientation ps = commands.FieldOrientation (orientation_at 0 ps)
-plain_command plain.DefaultFont ps = commands.DefaultFont (number_at 1 ps) (number_at 2 ps)
-plain_command plain.Font ps = commands.Font (orientation_at 0 ps) (number_at 1 ps) (number_at 2 ps)
-plain_command plain.BarDefaults ps =
-    commands.BarDefaults (number_at 0 ps) (tenths_if (slice_get ps 1)) (number_at 2 ps)
-plain_command plain.Code39 ps =
-    commands.Code39 (orientation_at 0 ps) (yes_at 1 ps) (number_at 2 ps) (yes_at 3 ps) (yes_at 4 ps)
-plain_command plain.Ean13 ps =
-    commands.Ean13 (orientation_at 0 ps) (number_at 1 ps) (yes_at 2 ps) (yes_at 3 ps)
-plain_command plain.Code128 ps =
-    commands.Code128 (orientation_at 0 ps) (number_at 1 ps) (yes_at 2 ps) (yes_at 3 ps)
-    (mode_of (letter_at 5 ps))
-plain_command plain.QrCode ps = commands.QrCode (number_at 1 ps) (number_at 2 ps)
-plain_command plain.GraphicBox ps =
-    commands.GraphicBox (number_at 0 ps) (number_at 1 ps) (number_at 2 ps) (colour_of (letter_at 3 ps))
-plain_command plain.Comment ps = commands.Comment
-plain_command plain.FieldBlock ps =
+-- ^F
+abbrev pub field_command_of : FieldCommand → List Kept → Command
+field_command_of fields.Origin ps = commands.FieldOrigin (number_at 0 ps) (number_at 1 ps)
+field_command_of fields.Typeset ps = commands.FieldTypeset (number_at 0 ps) (number_at 1 ps)
+field_command_of fields.Orientation ps = commands.FieldOrientation (orientation_at 0 ps)
+field_command_of fields.Block ps =
     commands.FieldBlock (number_at 0 ps) (number_at 1 ps) (space_if (slice_get ps 2))
     (justification_of (letter_at 3 ps))
+field_command_of fields.Comment ps = commands.Comment
+
+-- ^L
+abbrev pub label_command_of : LabelCommand → List Kept → Command
+label_command_of labels.Home ps = commands.LabelHome (number_at 0 ps) (number_at 1 ps)
+label_command_of labels.Length ps = commands.LabelLength (number_at 0 ps)
+label_command_of labels.Reverse ps = commands.LabelReverse (yes_at 0 ps)
+
+-- ^P
+abbrev pub print_command_of : PrintCommand → List Kept → Command
+print_command_of prints.Width ps = commands.PrintWidth (number_at 0 ps)
+print_command_of prints.Quantity ps = commands.PrintQuantity (number_at 0 ps)
+print_command_of prints.Orientation ps = commands.PrintOrientation (inverted_at 0 ps)
+print_command_of prints.Mirror ps = commands.MirrorImage (yes_at 0 ps)
+
+-- ^B
+abbrev pub bar_command_of : BarCommand → List Kept → Command
+bar_command_of bars.Defaults ps =
+    commands.BarDefaults (number_at 0 ps) (tenths_if (slice_get ps 1)) (number_at 2 ps)
+bar_command_of bars.Code39 ps =
+    commands.Code39 (orientation_at 0 ps) (yes_at 1 ps) (number_at 2 ps) (yes_at 3 ps) (yes_at 4 ps)
+bar_command_of bars.Ean13 ps =
+    commands.Ean13 (orientation_at 0 ps) (number_at 1 ps) (yes_at 2 ps) (yes_at 3 ps)
+bar_command_of bars.Code128 ps =
+    commands.Code128 (orientation_at 0 ps) (number_at 1 ps) (yes_at 2 ps) (yes_at 3 ps)
+    (mode_of (letter_at 5 ps))
+bar_command_of bars.QrCode ps = commands.QrCode (number_at 1 ps) (number_at 2 ps)
+
+abbrev pub plain_command : Plain → List Kept → Command
+plain_command (plain.Field k) ps = field_command_of k ps
+plain_command (plain.Label k) ps = label_command_of k ps
+plain_command (plain.Print k) ps = print_command_of k ps
+plain_command (plain.Bar k) ps = bar_command_of k ps
+plain_command plain.GraphicBox ps =
+    commands.GraphicBox (number_at 0 ps) (number_at 1 ps) (number_at 2 ps) (colour_of (letter_at 3 ps))
+plain_command plain.Font ps = commands.Font (orientation_at 0 ps) (number_at 1 ps) (number_at 2 ps)
+plain_command plain.DefaultFont ps = commands.DefaultFont (number_at 1 ps) (number_at 2 ps)
 
 -- the command of these parameters
 unfoldable pub command_of : Kind → List Kept → Command

@@ -4,6 +4,10 @@ use Rattle.std.specs.Prelude.{ℕ, ◌==◌, Bool, true, false, not, ◌&&◌, O
 use Rattle.vp_zpl.specs.declared.name.Kind.{Kind}
 use Rattle.vp_zpl.specs.declared.name.Kind.TheVariants as kinds
 use Rattle.vp_zpl.specs.declared.name.Plain.TheVariants as plain
+use Rattle.vp_zpl.specs.declared.name.FieldCommand.TheVariants as fields
+use Rattle.vp_zpl.specs.declared.name.LabelCommand.TheVariants as labels
+use Rattle.vp_zpl.specs.declared.name.PrintCommand.TheVariants as prints
+use Rattle.vp_zpl.specs.declared.name.BarCommand.TheVariants as bars
 use Rattle.vp_zpl.specs.Spelling.{is_sign, is_line_end, capital, ended, parameters, kept, kept_of, Kept, number_of, behind_commas}
 
 -- ^X.
@@ -18,40 +22,40 @@ abbrev pub field_command : ℕ → Kind
 field_command b =
     if b == 0x53 then kinds.FieldSeparator
     else if b == 0x52 then kinds.ReversePrint
-    else if b == 0x4F then kinds.Plain plain.FieldOrigin
-    else if b == 0x54 then kinds.Plain plain.FieldTypeset
-    else if b == 0x57 then kinds.Plain plain.FieldOrientation
-    else if b == 0x42 then kinds.Plain plain.FieldBlock
+    else if b == 0x4F then kinds.Plain (plain.Field fields.Origin)
+    else if b == 0x54 then kinds.Plain (plain.Field fields.Typeset)
+    else if b == 0x57 then kinds.Plain (plain.Field fields.Orientation)
+    else if b == 0x42 then kinds.Plain (plain.Field fields.Block)
     else if b == 0x48 then kinds.FieldHex
-    else if b == 0x58 then kinds.Plain plain.Comment
+    else if b == 0x58 then kinds.Plain (plain.Field fields.Comment)
     else if b == 0x44 then kinds.FieldData
     else kinds.Skipped
 
 -- ^L.
 abbrev pub label_command : ℕ → Kind
 label_command b =
-    if b == 0x48 then kinds.Plain plain.LabelHome
-    else if b == 0x4C then kinds.Plain plain.LabelLength
-    else if b == 0x52 then kinds.Plain plain.LabelReverse
+    if b == 0x48 then kinds.Plain (plain.Label labels.Home)
+    else if b == 0x4C then kinds.Plain (plain.Label labels.Length)
+    else if b == 0x52 then kinds.Plain (plain.Label labels.Reverse)
     else kinds.Skipped
 
 -- ^P.
 abbrev pub print_command : ℕ → Kind
 print_command b =
-    if b == 0x57 then kinds.Plain plain.PrintWidth
-    else if b == 0x51 then kinds.Plain plain.PrintQuantity
-    else if b == 0x4F then kinds.Plain plain.PrintOrientation
-    else if b == 0x4D then kinds.Plain plain.MirrorImage
+    if b == 0x57 then kinds.Plain (plain.Print prints.Width)
+    else if b == 0x51 then kinds.Plain (plain.Print prints.Quantity)
+    else if b == 0x4F then kinds.Plain (plain.Print prints.Orientation)
+    else if b == 0x4D then kinds.Plain (plain.Print prints.Mirror)
     else kinds.Skipped
 
 -- ^B.
 abbrev pub bar_command : ℕ → Kind
 bar_command b =
-    if b == 0x59 then kinds.Plain plain.BarDefaults
-    else if b == 0x33 then kinds.Plain plain.Code39
-    else if b == 0x45 then kinds.Plain plain.Ean13
-    else if b == 0x43 then kinds.Plain plain.Code128
-    else if b == 0x51 then kinds.Plain plain.QrCode
+    if b == 0x59 then kinds.Plain (plain.Bar bars.Defaults)
+    else if b == 0x33 then kinds.Plain (plain.Bar bars.Code39)
+    else if b == 0x45 then kinds.Plain (plain.Bar bars.Ean13)
+    else if b == 0x43 then kinds.Plain (plain.Bar bars.Code128)
+    else if b == 0x51 then kinds.Plain (plain.Bar bars.QrCode)
     else kinds.Skipped
 
 -- ^G.
@@ -111,7 +115,8 @@ head args = take 4 (map kept (ended [] args))
 
 -- binary data is wanted: fewer than b bytes stand behind_commas the fourth comma
 unfoldable pub is_short : List ℕ → Bool
-is_short args = is_whole args && is_b (head args) && nat_lt (length (behind_commas 4 args)) (count_of (head args))
+is_short args =
+    is_whole args && is_b (head args) && nat_lt (length (behind_commas 4 args)) (count_of (head args))
 
 abbrev pub wants_binary_named : Kind → List ℕ → Bool
 wants_binary_named kinds.Graphic args = is_short args

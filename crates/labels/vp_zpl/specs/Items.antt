@@ -47,7 +47,8 @@ is_code c = not (is_blank c || c == 0x09)
 -- the data of ^GF: b bytes for B, else up to the next sign
 unfoldable pub picture : List ℕ → List ℕ
 picture args =
-    if is_b (head args) then take (count_of (head args)) (behind_commas 4 args) else filter is_code (behind_commas 4 args)
+    if is_b (head args) then take (count_of (head args)) (behind_commas 4 args)
+    else filter is_code (behind_commas 4 args)
 
 abbrev pub graphic : Name → List ℕ → List Item
 graphic name args = item_of kinds.Graphic name (head args) ∷ data_items (picture args)

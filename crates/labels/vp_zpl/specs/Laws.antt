@@ -3,6 +3,10 @@ use Rattle.std.specs.Prelude.{◌≡◌, ℕ, ◌==◌, Bool, true, false, ◌&&
 use Rattle.vp_zpl.specs.declared.name.Kind.{Kind}
 use Rattle.vp_zpl.specs.declared.name.Kind.TheVariants as kinds
 use Rattle.vp_zpl.specs.declared.name.Plain.TheVariants as plain
+use Rattle.vp_zpl.specs.declared.name.FieldCommand.TheVariants as fields
+use Rattle.vp_zpl.specs.declared.name.LabelCommand.TheVariants as labels
+use Rattle.vp_zpl.specs.declared.name.PrintCommand.TheVariants as prints
+use Rattle.vp_zpl.specs.declared.name.BarCommand.TheVariants as bars
 use Rattle.vp_zpl.specs.Spelling.{is_sign, is_line_end}
 use Rattle.vp_zpl.specs.Commands.{Cut, wants_binary}
 
@@ -21,27 +25,27 @@ rows =
     ∷ row (codes "XZ") kinds.FormatEnd
     ∷ row (codes "FS") kinds.FieldSeparator
     ∷ row (codes "FR") kinds.ReversePrint
-    ∷ row (codes "FO") (kinds.Plain plain.FieldOrigin)
-    ∷ row (codes "FT") (kinds.Plain plain.FieldTypeset)
-    ∷ row (codes "LH") (kinds.Plain plain.LabelHome)
-    ∷ row (codes "PW") (kinds.Plain plain.PrintWidth)
-    ∷ row (codes "LL") (kinds.Plain plain.LabelLength)
-    ∷ row (codes "PQ") (kinds.Plain plain.PrintQuantity)
-    ∷ row (codes "PO") (kinds.Plain plain.PrintOrientation)
-    ∷ row (codes "PM") (kinds.Plain plain.MirrorImage)
-    ∷ row (codes "LR") (kinds.Plain plain.LabelReverse)
-    ∷ row (codes "FW") (kinds.Plain plain.FieldOrientation)
-    ∷ row (codes "FB") (kinds.Plain plain.FieldBlock)
+    ∷ row (codes "FO") (kinds.Plain (plain.Field fields.Origin))
+    ∷ row (codes "FT") (kinds.Plain (plain.Field fields.Typeset))
+    ∷ row (codes "LH") (kinds.Plain (plain.Label labels.Home))
+    ∷ row (codes "PW") (kinds.Plain (plain.Print prints.Width))
+    ∷ row (codes "LL") (kinds.Plain (plain.Label labels.Length))
+    ∷ row (codes "PQ") (kinds.Plain (plain.Print prints.Quantity))
+    ∷ row (codes "PO") (kinds.Plain (plain.Print prints.Orientation))
+    ∷ row (codes "PM") (kinds.Plain (plain.Print prints.Mirror))
+    ∷ row (codes "LR") (kinds.Plain (plain.Label labels.Reverse))
+    ∷ row (codes "FW") (kinds.Plain (plain.Field fields.Orientation))
+    ∷ row (codes "FB") (kinds.Plain (plain.Field fields.Block))
     ∷ row (codes "CF") (kinds.Plain plain.DefaultFont)
-    ∷ row (codes "BY") (kinds.Plain plain.BarDefaults)
-    ∷ row (codes "B3") (kinds.Plain plain.Code39)
-    ∷ row (codes "BE") (kinds.Plain plain.Ean13)
-    ∷ row (codes "BC") (kinds.Plain plain.Code128)
-    ∷ row (codes "BQ") (kinds.Plain plain.QrCode)
+    ∷ row (codes "BY") (kinds.Plain (plain.Bar bars.Defaults))
+    ∷ row (codes "B3") (kinds.Plain (plain.Bar bars.Code39))
+    ∷ row (codes "BE") (kinds.Plain (plain.Bar bars.Ean13))
+    ∷ row (codes "BC") (kinds.Plain (plain.Bar bars.Code128))
+    ∷ row (codes "BQ") (kinds.Plain (plain.Bar bars.QrCode))
     ∷ row (codes "GB") (kinds.Plain plain.GraphicBox)
     ∷ row (codes "GF") kinds.Graphic
     ∷ row (codes "FH") kinds.FieldHex
-    ∷ row (codes "FX") (kinds.Plain plain.Comment)
+    ∷ row (codes "FX") (kinds.Plain (plain.Field fields.Comment))
     ∷ row (codes "FD") kinds.FieldData
     ∷ []
 

@@ -79,7 +79,8 @@ number_of p = number_in p.is_long p.bytes
 -- what stands behind_commas the n-th comma
 abbrev pub behind_commas : ℕ → List ℕ → List ℕ
 behind_commas n [] = []
-behind_commas n (c ∷ args) = if n == 0 then c ∷ args else if is_comma c then behind_commas (n - 1) args else behind_commas n args
+behind_commas n (c ∷ args) =
+    if n == 0 then c ∷ args else if is_comma c then behind_commas (n - 1) args else behind_commas n args
 
 -- a byte of two hex digits, where they are
 abbrev pub hex_pair : Option ℕ → Option ℕ → Option ℕ

@@ -1,12 +1,12 @@
 //! What the parameters of a command mean.
 ghost use Rattle.std.specs.Prelude.{◌≡◌, ◌<◌, ℕ, Some, slice_get};
-ghost use Rattle.vp_zpl.specs.Arguments.{number_at as number_is, byte_at as byte_is, letter_at as letter_is, yes_at as yes_is, inverted_at as inverted_is, orientation_at as orientation_is, either_of, orientation_of as orientation_as, colour_of as colour_as, format_of as format_as, mode_of as mode_as, justification_of as justification_as, space_in, space_if, tenths_of as tenths_as, tenth_behind as tenth_as, tenths_if, plain_command as plain_is, command_of as command_is};
+ghost use Rattle.vp_zpl.specs.Arguments.{number_at as number_is, byte_at as byte_is, letter_at as letter_is, yes_at as yes_is, inverted_at as inverted_is, orientation_at as orientation_is, either_of, orientation_of as orientation_as, colour_of as colour_as, format_of as format_as, mode_of as mode_as, justification_of as justification_as, space_in, space_if, tenths_of as tenths_as, tenth_behind as tenth_as, tenths_if, field_command_of as field_is, label_command_of as label_is, print_command_of as print_is, bar_command_of as bar_is, plain_command as plain_is, command_of as command_is};
 ghost use Rattle.vp_zpl.specs.Shown.{shown_part, shown_parts};
 
 use crate::item::{
     Code128Mode, Colour, Command, GraphicFormat, Justification, LineSpace, Orientation,
 };
-use crate::name::{Kind, Plain};
+use crate::name::{BarCommand, FieldCommand, Kind, LabelCommand, Plain, PrintCommand};
 use crate::part::{Part, capital, is_digit, number_in};
 
 fn number_at(n: usize, parameters: &[Part]) -> Option<u32>
@@ -220,93 +220,129 @@ pub(crate) fn command_of(kind: Kind, sent: &[Part]) -> Command
     }
 }
 
-fn plain_command(plain: Plain, sent: &[Part]) -> Command
-    ensures { result ≡ plain_is plain (shown_parts sent.now) }
+/// ^F
+fn field_command_of(command: FieldCommand, sent: &[Part]) -> Command
+    ensures { result ≡ field_is command (shown_parts sent.now) }
 {
-    match plain {
-        Plain::FieldOrigin => Command::FieldOrigin {
+    match command {
+        FieldCommand::Origin => Command::FieldOrigin {
             x: number_at(0, sent),
             y: number_at(1, sent),
         },
-        Plain::FieldTypeset => Command::FieldTypeset {
+        FieldCommand::Typeset => Command::FieldTypeset {
             x: number_at(0, sent),
             y: number_at(1, sent),
         },
-        Plain::LabelHome => Command::LabelHome {
+        FieldCommand::Orientation => Command::FieldOrientation {
+            orientation: orientation_at(0, sent),
+        },
+        FieldCommand::Block => Command::FieldBlock {
+            width: number_at(0, sent),
+            lines: number_at(1, sent),
+            space: space_at(2, sent),
+            justification: justification_of(letter_at(3, sent)),
+        },
+        FieldCommand::Comment => Command::Comment,
+    }
+}
+
+/// ^L
+fn label_command_of(command: LabelCommand, sent: &[Part]) -> Command
+    ensures { result ≡ label_is command (shown_parts sent.now) }
+{
+    match command {
+        LabelCommand::Home => Command::LabelHome {
             x: number_at(0, sent),
             y: number_at(1, sent),
         },
-        Plain::PrintWidth => Command::PrintWidth {
+        LabelCommand::Length => Command::LabelLength {
             dots: number_at(0, sent),
         },
-        Plain::LabelLength => Command::LabelLength {
-            dots: number_at(0, sent),
-        },
-        Plain::PrintQuantity => Command::PrintQuantity {
-            copies: number_at(0, sent),
-        },
-        Plain::PrintOrientation => Command::PrintOrientation {
-            inverted: inverted_at(0, sent),
-        },
-        Plain::MirrorImage => Command::MirrorImage {
-            mirrored: yes_at(0, sent),
-        },
-        Plain::LabelReverse => Command::LabelReverse {
+        LabelCommand::Reverse => Command::LabelReverse {
             reversed: yes_at(0, sent),
         },
-        Plain::FieldOrientation => Command::FieldOrientation {
-            orientation: orientation_at(0, sent),
+    }
+}
+
+/// ^P
+fn print_command_of(command: PrintCommand, sent: &[Part]) -> Command
+    ensures { result ≡ print_is command (shown_parts sent.now) }
+{
+    match command {
+        PrintCommand::Width => Command::PrintWidth {
+            dots: number_at(0, sent),
         },
-        Plain::DefaultFont => Command::DefaultFont {
-            height: number_at(1, sent),
-            width: number_at(2, sent),
+        PrintCommand::Quantity => Command::PrintQuantity {
+            copies: number_at(0, sent),
         },
-        Plain::Font => Command::Font {
-            orientation: orientation_at(0, sent),
-            height: number_at(1, sent),
-            width: number_at(2, sent),
+        PrintCommand::Orientation => Command::PrintOrientation {
+            inverted: inverted_at(0, sent),
         },
-        Plain::BarDefaults => Command::BarDefaults {
+        PrintCommand::Mirror => Command::MirrorImage {
+            mirrored: yes_at(0, sent),
+        },
+    }
+}
+
+/// ^B
+fn bar_command_of(command: BarCommand, sent: &[Part]) -> Command
+    ensures { result ≡ bar_is command (shown_parts sent.now) }
+{
+    match command {
+        BarCommand::Defaults => Command::BarDefaults {
             module: number_at(0, sent),
             ratio_tenths: tenths_at(1, sent),
             height: number_at(2, sent),
         },
-        Plain::Code39 => Command::Code39 {
+        BarCommand::Code39 => Command::Code39 {
             orientation: orientation_at(0, sent),
             check: yes_at(1, sent),
             height: number_at(2, sent),
             text: yes_at(3, sent),
             above: yes_at(4, sent),
         },
-        Plain::Ean13 => Command::Ean13 {
+        BarCommand::Ean13 => Command::Ean13 {
             orientation: orientation_at(0, sent),
             height: number_at(1, sent),
             text: yes_at(2, sent),
             above: yes_at(3, sent),
         },
-        Plain::Code128 => Command::Code128 {
+        BarCommand::Code128 => Command::Code128 {
             orientation: orientation_at(0, sent),
             height: number_at(1, sent),
             text: yes_at(2, sent),
             above: yes_at(3, sent),
             mode: mode_of(letter_at(5, sent)),
         },
-        Plain::QrCode => Command::QrCode {
+        BarCommand::QrCode => Command::QrCode {
             model: number_at(1, sent),
             module: number_at(2, sent),
         },
+    }
+}
+
+fn plain_command(plain: Plain, sent: &[Part]) -> Command
+    ensures { result ≡ plain_is plain (shown_parts sent.now) }
+{
+    match plain {
+        Plain::Field(command) => field_command_of(command, sent),
+        Plain::Label(command) => label_command_of(command, sent),
+        Plain::Print(command) => print_command_of(command, sent),
+        Plain::Bar(command) => bar_command_of(command, sent),
         Plain::GraphicBox => Command::GraphicBox {
             width: number_at(0, sent),
             height: number_at(1, sent),
             thickness: number_at(2, sent),
             colour: colour_of(letter_at(3, sent)),
         },
-        Plain::Comment => Command::Comment,
-        Plain::FieldBlock => Command::FieldBlock {
-            width: number_at(0, sent),
-            lines: number_at(1, sent),
-            space: space_at(2, sent),
-            justification: justification_of(letter_at(3, sent)),
+        Plain::Font => Command::Font {
+            orientation: orientation_at(0, sent),
+            height: number_at(1, sent),
+            width: number_at(2, sent),
+        },
+        Plain::DefaultFont => Command::DefaultFont {
+            height: number_at(1, sent),
+            width: number_at(2, sent),
         },
     }
 }

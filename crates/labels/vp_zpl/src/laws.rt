@@ -53,7 +53,8 @@ pub fn hex_data()
 pub fn binary_data()
     ensures head { (args : List ℕ) (c : ℕ) → is_whole args ≡ true → head (args ++ c ∷ []) ≡ head args }
     ensures data_bytes { (args : List ℕ) (c : ℕ) → is_whole args ≡ true → is_b (head args) ≡ true →
-        length (behind_commas 4 args) < count_of (head args) → picture (args ++ c ∷ []) ≡ picture args ++ c ∷ [] }
+        length (behind_commas 4 args) < count_of (head args) →
+        picture (args ++ c ∷ []) ≡ picture args ++ c ∷ [] }
 {}
 
 /// Whatever was read, more bytes bring the reader to rest.

@@ -14,29 +14,56 @@ pub struct Name {
     pub second: u8,
 }
 
-/// The commands whose parameters end with the command.
+/// ^F: what a field says of itself.
 #[derive(Clone, Copy)]
-pub enum Plain {
-    FieldOrigin,
-    FieldTypeset,
-    LabelHome,
-    PrintWidth,
-    LabelLength,
-    PrintQuantity,
-    PrintOrientation,
-    MirrorImage,
-    LabelReverse,
-    FieldOrientation,
-    DefaultFont,
-    Font,
-    BarDefaults,
+pub enum FieldCommand {
+    Origin,
+    Typeset,
+    Orientation,
+    Block,
+    Comment,
+}
+
+/// ^L: the label.
+#[derive(Clone, Copy)]
+pub enum LabelCommand {
+    Home,
+    Length,
+    Reverse,
+}
+
+/// ^P: how it is printed.
+#[derive(Clone, Copy)]
+pub enum PrintCommand {
+    Width,
+    Quantity,
+    Orientation,
+    Mirror,
+}
+
+/// ^B: symbols, and what they say by default.
+#[derive(Clone, Copy)]
+pub enum BarCommand {
+    Defaults,
     Code39,
     Ean13,
     Code128,
     QrCode,
+}
+
+/// The commands whose parameters end with the command.
+#[derive(Clone, Copy)]
+pub enum Plain {
+    Field(FieldCommand),
+    Label(LabelCommand),
+    Print(PrintCommand),
+    Bar(BarCommand),
+    /// ^GB
     GraphicBox,
-    Comment,
-    FieldBlock,
+    /// ^A
+    Font,
+    /// ^CF
+    DefaultFont,
 }
 
 /// The commands, by how they go on behind their name.
@@ -79,12 +106,12 @@ fn field_command(b: u8) -> Kind
     match b {
         b'S' => Kind::FieldSeparator,
         b'R' => Kind::ReversePrint,
-        b'O' => Kind::Plain(Plain::FieldOrigin),
-        b'T' => Kind::Plain(Plain::FieldTypeset),
-        b'W' => Kind::Plain(Plain::FieldOrientation),
-        b'B' => Kind::Plain(Plain::FieldBlock),
+        b'O' => Kind::Plain(Plain::Field(FieldCommand::Origin)),
+        b'T' => Kind::Plain(Plain::Field(FieldCommand::Typeset)),
+        b'W' => Kind::Plain(Plain::Field(FieldCommand::Orientation)),
+        b'B' => Kind::Plain(Plain::Field(FieldCommand::Block)),
         b'H' => Kind::FieldHex,
-        b'X' => Kind::Plain(Plain::Comment),
+        b'X' => Kind::Plain(Plain::Field(FieldCommand::Comment)),
         b'D' => Kind::FieldData,
         _ => Kind::Skipped,
     }
@@ -95,9 +122,9 @@ fn label_command(b: u8) -> Kind
     ensures { result ≡ label_is b }
 {
     match b {
-        b'H' => Kind::Plain(Plain::LabelHome),
-        b'L' => Kind::Plain(Plain::LabelLength),
-        b'R' => Kind::Plain(Plain::LabelReverse),
+        b'H' => Kind::Plain(Plain::Label(LabelCommand::Home)),
+        b'L' => Kind::Plain(Plain::Label(LabelCommand::Length)),
+        b'R' => Kind::Plain(Plain::Label(LabelCommand::Reverse)),
         _ => Kind::Skipped,
     }
 }
@@ -107,10 +134,10 @@ fn print_command(b: u8) -> Kind
     ensures { result ≡ print_is b }
 {
     match b {
-        b'W' => Kind::Plain(Plain::PrintWidth),
-        b'Q' => Kind::Plain(Plain::PrintQuantity),
-        b'O' => Kind::Plain(Plain::PrintOrientation),
-        b'M' => Kind::Plain(Plain::MirrorImage),
+        b'W' => Kind::Plain(Plain::Print(PrintCommand::Width)),
+        b'Q' => Kind::Plain(Plain::Print(PrintCommand::Quantity)),
+        b'O' => Kind::Plain(Plain::Print(PrintCommand::Orientation)),
+        b'M' => Kind::Plain(Plain::Print(PrintCommand::Mirror)),
         _ => Kind::Skipped,
     }
 }
@@ -120,11 +147,11 @@ fn bar_command(b: u8) -> Kind
     ensures { result ≡ bar_is b }
 {
     match b {
-        b'Y' => Kind::Plain(Plain::BarDefaults),
-        b'3' => Kind::Plain(Plain::Code39),
-        b'E' => Kind::Plain(Plain::Ean13),
-        b'C' => Kind::Plain(Plain::Code128),
-        b'Q' => Kind::Plain(Plain::QrCode),
+        b'Y' => Kind::Plain(Plain::Bar(BarCommand::Defaults)),
+        b'3' => Kind::Plain(Plain::Bar(BarCommand::Code39)),
+        b'E' => Kind::Plain(Plain::Bar(BarCommand::Ean13)),
+        b'C' => Kind::Plain(Plain::Bar(BarCommand::Code128)),
+        b'Q' => Kind::Plain(Plain::Bar(BarCommand::QrCode)),
         _ => Kind::Skipped,
     }
 }

@@ -7,7 +7,7 @@ use Rattle.vp_join.specs.Told.{told}
 use Rattle.vp_join.specs.Passes.{after_calls, fault_of, is_read_fault, IsFound, IsMeasure}
 use Rattle.vp_join.specs.declared.fault.JoinFault.TheVariants.{TooManyTurns}
 use Rattle.vp_join.specs.declared.fault.Offence.{Offence}
-use Rattle.vp_join.specs.declared.fault.Offence.TheVariants.{Header, Width, TooTall, Short}
+use Rattle.vp_join.specs.declared.fault.Offence.TheVariants.{Header}
 use Rattle.vp_join.specs.declared.passes.Measured.{Measured}
 
 some_calls : (start n : ℕ) → 0 < n → after_calls start n ≡ grown start n
@@ -20,22 +20,16 @@ calls_more start now next (suc n) e f = omega (arith, f, e ∙ some_calls start 
 
 pub no_turns : (o : Offence) → fault_of o ≡ TooManyTurns → ⊥
 no_turns Header e = cc
-no_turns Width e = cc
-no_turns TooTall e = cc
-no_turns Short e = cc
+no_turns _ e = cc
 
 pub no_read_fault : (o : Offence) → is_read_fault {A = Measured} (Err (fault_of o)) ≡ false
 no_read_fault Header = refl
-no_read_fault Width = refl
-no_read_fault TooTall = refl
-no_read_fault Short = refl
+no_read_fault _ = refl
 
 -- an offence that was found is the answer
 pub found_is : (o : Offence) (bytes : List ℕ) (end : Type 0) → IsFound o bytes end → IsMeasure (Err (fault_of o)) bytes end
 found_is Header bytes end h = h
-found_is Width bytes end h = h
-found_is TooTall bytes end h = h
-found_is Short bytes end h = h
+found_is _ bytes end h = h
 
 pub found_at_end : (o : Offence) (bytes : List ℕ) (end : Type 0) → end → (told bytes).offence ≡ Some o → IsFound o bytes end
 found_at_end o bytes end e h = λ more f. rw (f e, append-nil bytes) h

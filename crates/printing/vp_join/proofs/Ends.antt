@@ -5,7 +5,7 @@ use Rattle.std.proofs.lemmas.Grind.{common_steps}
 use Rattle.vp_join.specs.Told.{Seen, Told, told, rows_told, images, rows}
 use Rattle.vp_join.specs.Standing.{from_phase, so_far, Stands, HasRead}
 use Rattle.vp_join.specs.declared.reading.Phase.{Phase}
-use Rattle.vp_join.specs.declared.reading.Phase.TheVariants.{Between, AfterP, After4, InWidth, InHeight, InRows, Stopped}
+use Rattle.vp_join.specs.declared.reading.Phase.TheVariants.{Between}
 use Rattle.vp_join.specs.declared.reading.Reading.{Reading}
 
 abbrev pub seen : ℕ → ℕ → List ℕ → Seen
@@ -37,12 +37,7 @@ at_end s p b r e h = let k = h [] in grind (arith, common_steps, k, e)
 
 phase_rows : (p : Phase) (so : Seen) → (from_phase p so []).so.rows ≡ so.rows
 phase_rows Between so = refl
-phase_rows AfterP so = refl
-phase_rows After4 so = refl
-phase_rows (InWidth n) so = refl
-phase_rows (InHeight w n) so = refl
-phase_rows (InRows n) so = refl
-phase_rows (Stopped f) so = refl
+phase_rows _ so = refl
 
 -- what was given is the rows' bytes
 pub given_rows : (s : Reading) (b r : List ℕ) → Stands s b r → rows_told b ≡ r

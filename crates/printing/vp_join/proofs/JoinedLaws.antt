@@ -10,7 +10,7 @@ use Rattle.vp_join.specs.Strips.{Strip, IsNumber, AreStrips, IsJoined, IsOffence
 use Rattle.vp_join.specs.Told.{Told, told, nothing}
 use Rattle.vp_join.specs.Passes.{IsExact, IsOfCalls}
 use Rattle.vp_join.specs.declared.fault.JoinFault.{JoinFault}
-use Rattle.vp_join.specs.declared.fault.JoinFault.TheVariants.{Header, Width, TooTall, Short, Differ, Read, Write, TooManyTurns}
+use Rattle.vp_join.specs.declared.fault.JoinFault.TheVariants.{Differ, Read, Write, TooManyTurns}
 use Rattle.vp_join.specs.declared.fault.Offence.{Offence}
 use Rattle.vp_join.proofs.Agree.{after, after-height, after-rows, after-width, told_images, told_offence, images_told, each_text, never_both, length-rows_of, Images}
 use Rattle.vp_join.proofs.Pictures.{pbm_is, dot_in_row}
@@ -109,11 +109,8 @@ twice text image j = elim (cases_eq image.height 0) [
 
 -- images are not refused
 pub only_calls : (text : List ℕ) (image : Image) (held holds : Option (List ℕ)) (fault : JoinFault) → IsJoined text image → IsExact text held holds (Err fault) → IsOfCalls fault
-only_calls text image held holds Header j e = not_both text image _ j e.0
-only_calls text image held holds Width j e = not_both text image _ j e.0
-only_calls text image held holds TooTall j e = not_both text image _ j e.0
-only_calls text image held holds Short j e = not_both text image _ j e.0
 only_calls text image held holds Differ j e = e
 only_calls text image held holds Read j e = tt
 only_calls text image held holds Write j e = tt
 only_calls text image held holds TooManyTurns j e = tt
+only_calls text image held holds _ j e = not_both text image _ j e.0

@@ -20,65 +20,34 @@ refused : (o : Offence) (first : List ℕ) (end : Type 0) → IsFound o first en
 refused o first end h = record { offence_of = λ more f. offence_told (first ++ more) o (h more f); unread = refl; unwritten = refl }
 
 first_ending : (f : JoinFault) (first : List ℕ) (size : Size) (end_first end_second : Type 0) → IsMeasure (Err f) first end_first → IsEnding (Err f) size first [] [] end_first end_second
-first_ending Header first size e d m = refused _ first e m
-first_ending Width first size e d m = refused _ first e m
-first_ending TooTall first size e d m = refused _ first e m
-first_ending Short first size e d m = refused _ first e m
 first_ending Differ first size e d m = absurd m
 first_ending Read first size e d m = tt
 first_ending Write first size e d m = absurd m
 first_ending TooManyTurns first size e d m = tt
+first_ending _ first size e d m = refused _ first e m
 
 early : (f : JoinFault) (first : List ℕ) (end : Type 0) → IsMeasure (Err f) first end → is_late (Err f) ≡ false
-early Header first e m = refl
-early Width first e m = refl
-early TooTall first e m = refl
-early Short first e m = refl
 early Differ first e m = absurd m
-early Read first e m = refl
 early Write first e m = absurd m
-early TooManyTurns first e m = refl
+early _ first e m = refl
 
 pub first_writes : (f : JoinFault) (first : List ℕ) (end : Type 0) → IsMeasure (Err f) first end → is_write_fault {A = ℕ} (Err f) ≡ false
-first_writes Header first e m = refl
-first_writes Width first e m = refl
-first_writes TooTall first e m = refl
-first_writes Short first e m = refl
 first_writes Differ first e m = absurd m
-first_writes Read first e m = refl
 first_writes Write first e m = absurd m
-first_writes TooManyTurns first e m = refl
+first_writes _ first e m = refl
 
 -- the same fault of a pass and of the call
 pub same_read : (f : JoinFault) → is_read_fault {A = ℕ} (Err f) ≡ (is_read_fault {A = Measured} (Err f) || false)
 same_read Header = refl
-same_read Width = refl
-same_read TooTall = refl
-same_read Short = refl
-same_read Differ = refl
-same_read Read = refl
-same_read Write = refl
-same_read TooManyTurns = refl
+same_read _ = refl
 
 pub copy_read : (f : JoinFault) → is_read_fault {A = ℕ} (Err f) ≡ is_read_fault {A = ⊤} (Err f)
 copy_read Header = refl
-copy_read Width = refl
-copy_read TooTall = refl
-copy_read Short = refl
-copy_read Differ = refl
-copy_read Read = refl
-copy_read Write = refl
-copy_read TooManyTurns = refl
+copy_read _ = refl
 
 pub copy_write : (f : JoinFault) → is_write_fault {A = ⊤} (Err f) ≡ is_write_fault {A = ℕ} (Err f)
 copy_write Header = refl
-copy_write Width = refl
-copy_write TooTall = refl
-copy_write Short = refl
-copy_write Differ = refl
-copy_write Read = refl
-copy_write Write = refl
-copy_write TooManyTurns = refl
+copy_write _ = refl
 
 pub not_both : (b : Bool) → (b && false) ≡ false
 not_both true = refl
@@ -137,14 +106,11 @@ whole second head taken rest size end h t s z e =
     }
 
 second_ending : (f : JoinFault) (first second rest written : List ℕ) (size : Size) (e d : Type 0) → Tells first size → IsCopy (Err f) size second rest d → IsEnding (Err f) size first second written e d
-second_ending Header first second rest written size e d t k = absurd k
-second_ending Width first second rest written size e d t k = absurd k
-second_ending TooTall first second rest written size e d t k = absurd k
-second_ending Short first second rest written size e d t k = absurd k
 second_ending Differ first second rest written size e d t k = λ more f h. k more f (tells (second ++ more) size (no_width first size t) h)
 second_ending Read first second rest written size e d t k = tt
 second_ending Write first second rest written size e d t k = tt
 second_ending TooManyTurns first second rest written size e d t k = tt
+second_ending _ first second rest written size e d t k = absurd k
 
 module _ (a b c d k0 k1 k2 : Option (List ℕ)) (first head0 rest0 head : List ℕ) (size : Size) (cf : Consumes a c first) (t : Tells first size) (e : IsAtEnd c) (h : head ≡ head_of size)
     (written_head : Appends k0 k1 head0) (s : head0 ++ rest0 ≡ head) (z : rest0 ≡ []) where

@@ -1,14 +1,14 @@
 -- Where the padding is, row by row.
-use Rattle.std.proofs.Common.{inl, inr, ◌≡◌, ℕ, ◌+◌, ◌-◌, ◌*◌, ◌/◌, ◌%◌, ◌<◌, ◌≤◌, Bool, true, false, eqb, ltb, leb, ◌&&◌, ◌||◌, List, [], length, get_or, set, refl, sym, ap, ◌∙◌, arith}
+use Rattle.std.proofs.Common.{inl, inr, ◌≡◌, ℕ, ◌+◌, ◌-◌, ◌*◌, ◌/◌, ◌%◌, ◌<◌, ◌≤◌, Bool, true, false, eqb, ltb, leb, ◌&&◌, ◌||◌, List, length, get_or, set, refl, sym, ap, ◌∙◌, arith}
 use Rattle.std.proofs.lemmas.Nat.{mod-mul-add, mod_below}
 use Rattle.std.proofs.Math.Nat.{div-add-mod}
-use Rattle.std.proofs.lemmas.Bool.{cases_lt, lt-leb, lt-ltb, le-ltb}
+use Rattle.std.proofs.lemmas.Bool.{cases_lt, lt-leb, le-ltb}
 use Rattle.std.proofs.lemmas.Bool.Decides.{nat_tests}
 use Rattle.vp_dots.specs.Dots.{bit}
 use Rattle.vp_dots.specs.Images.{row_bytes}
 use Rattle.vp_dots.specs.Painting.{paint, Painted}
 use Rattle.vp_dots.specs.declared.Op.TheVariants.{White}
-use Rattle.vp_dots.proofs.Paints.{painted_none, painted_same, painted_then, painted_byte_at}
+use Rattle.vp_dots.proofs.Paints.{painted_none, painted_then, painted_byte_at}
 use Rattle.vp_join.specs.Strips.{is_padding}
 
 -- dot e of a row, p rows below
@@ -65,17 +65,6 @@ module _ (w given : ℕ) where
     | inl b ↦ rw (first_row w given some d (rw e at b)) (and_false (ltb d (8 * (n - 1 - given % n))))
     | inr o ↦ rw (le-ltb d (8 * (n - 1 - given % n)) o) refl
   ])
-
-  -- with no padding in a row there is nothing to do
-  pub whole_bytes : (row : List ℕ) → (w ≡ 0 → row ≡ []) → w % 8 ≡ 0 → Painted White (λ d. is_padding w (8 * given + d)) row row
-  whole_bytes row none e = painted_none White (λ d. is_padding w (8 * given + d)) row (λ d l. elim (cases_lt 0 w) [
-    | inl s ↦ lt-leb w ((8 * given + d) % (8 * row_bytes w)) (let k : 8 * row_bytes w ≡ w = omega arith in let m = mod_below (8 * given + d) (8 * row_bytes w) (omega arith) in omega (arith, m, k))
-    | inr z ↦ absurd (omega (arith, l, ap length (none (omega arith))))
-  ])
-
-  -- all is done
-  pub all_done : (to : ℕ) (a b : List ℕ) → length a ≤ to → Painted White (done to) a b → Painted White (λ d. is_padding w (8 * given + d)) a b
-  all_done to a b h p = painted_same White (done to) (λ d. is_padding w (8 * given + d)) a b (λ d l. rw (lt-ltb d (8 * to) (omega arith)) refl) p
 
   -- one more row's last byte is done
   module _ (p last n mask v : ℕ) (a b : List ℕ) (some : 0 < w) (e : n ≡ row_bytes w) (at : given + last + 1 ≡ p * n + n) where

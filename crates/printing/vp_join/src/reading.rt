@@ -298,12 +298,11 @@ impl Reading {
                 width: self.width,
                 height: self.height,
             }),
-            Phase::InRows { behind: _ } => Err(Offence::Short),
+            Phase::InRows { .. } => Err(Offence::Short),
             Phase::Stopped(offence) => Err(offence),
-            Phase::AfterP => Err(Offence::Header),
-            Phase::After4 => Err(Offence::Header),
-            Phase::InWidth(_) => Err(Offence::Header),
-            Phase::InHeight { width: _, read: _ } => Err(Offence::Header),
+            Phase::AfterP | Phase::After4 | Phase::InWidth(_) | Phase::InHeight { .. } => {
+                Err(Offence::Header)
+            }
         }
     }
 

@@ -35,12 +35,6 @@ along us r x (y ∷ ys) each =
 shifted : List (List ℕ) → Split → Split
 shifted us s = record { units = us ++ s.units; rest = s.rest }
 
-shift_byte : (us vs : List (List ℕ)) (front : List ℕ) (b : Bool)
-    → with_rest (us ++ vs) front b ≡ shifted us (with_rest vs front b)
-unfolding shifted
-shift_byte us vs front true = refl
-shift_byte us vs front false = rw append_assoc refl
-
 shift : (us vs : List (List ℕ)) (r : List ℕ) (bytes : List ℕ)
     → split_on (record { units = us ++ vs; rest = r }) bytes ≡ shifted us (split_on (record { units = vs; rest = r }) bytes)
 unfolding split_on shifted

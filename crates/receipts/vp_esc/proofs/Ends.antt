@@ -10,12 +10,12 @@ use Rattle.vp_dots.specs.declared.fault.Fault.TheVariants.{Unknown}
 use Rattle.vp_esc.specs.declared.item.Lead.{Lead}
 use Rattle.vp_esc.specs.declared.item.Lead.TheVariants.{Esc, Gs, Fs, Dle}
 use Rattle.vp_esc.specs.declared.command.Command.{Command}
-use Rattle.vp_esc.specs.declared.command.Command.TheVariants.{Plain, TabStops, Columns, Raster, Symbol, Function, Graphics}
+use Rattle.vp_esc.specs.declared.command.Command.TheVariants.{Plain, TabStops, Raster, Symbol, Graphics}
 use Rattle.vp_esc.specs.declared.command.Plain.{Plain as PlainCommand}
-use Rattle.vp_esc.specs.declared.command.Plain.TheVariants.{Alone, OfByte, OfWord, Area, Cut, Sensor, RealTime, Unused}
+use Rattle.vp_esc.specs.declared.command.Plain.TheVariants.{Alone, Sensor}
 use Rattle.vp_esc.specs.Values.{is_kind_to_zero}
 use Rattle.vp_esc.specs.Command.{lead_of, command_of, head_len, is_listed}
-use Rattle.vp_esc.specs.Units.{is_unfinished, fault_in, needs_more, is_counted, data_len, rises_from, is_unfinished_after, is_unfinished_named, fault_after}
+use Rattle.vp_esc.specs.Units.{is_unfinished, fault_in, needs_more, is_counted, data_len, rises_from, is_unfinished_after, fault_after}
 use Rattle.vp_esc.specs.Reader.{last_or}
 use Rattle.vp_esc.specs.Split.{split, fault_of}
 use Rattle.vp_esc.specs.Laws.{IsUnit, IsRest, Splits}
@@ -39,32 +39,17 @@ first_of _ = 0
 plain_listed : (p : PlainCommand) → is_listed (Plain p) (first_of (Plain p) ∷ []) ≡ true
 unfolding first_of
 plain_listed (Alone a) = refl
-plain_listed (OfByte a) = refl
-plain_listed (OfWord a) = refl
-plain_listed Area = refl
-plain_listed Cut = refl
-plain_listed Sensor = refl
-plain_listed RealTime = refl
-plain_listed (Unused n) = refl
+plain_listed _ = refl
 
 first_listed : (k : Command) → is_listed k (first_of k ∷ []) ≡ true
 unfolding first_of
 first_listed (Plain p) = plain_listed p
-first_listed TabStops = refl
-first_listed Columns = refl
-first_listed Raster = refl
-first_listed Symbol = refl
-first_listed Function = refl
-first_listed Graphics = refl
+first_listed _ = refl
 
 counted_first : (k : Command) (a : ℕ) (xs ys : List ℕ) → is_counted k (a ∷ xs) ≡ true → is_counted k (a ∷ ys) ≡ true
-counted_first (Plain p) a xs ys e = refl
 counted_first TabStops a xs ys e = e
-counted_first Columns a xs ys e = refl
-counted_first Raster a xs ys e = refl
 counted_first Symbol a xs ys e = e
-counted_first Function a xs ys e = refl
-counted_first Graphics a xs ys e = refl
+counted_first _ a xs ys e = refl
 
 -- counted data, of zeros
 end_counted : (k : Command) (a : ℕ) (args : List ℕ) → is_listed k (a ∷ args) ≡ true → is_counted k (a ∷ args) ≡ true → CanEnd k (a ∷ args)
@@ -100,13 +85,9 @@ zero_ends false s codes e = cc
 
 zero_whole : (k : Command) (a : ℕ) (args : List ℕ) → is_counted k (a ∷ args) ≡ false → needs_more k (a ∷ args ++ 0 ∷ []) ≡ false
 unfolding needs_more
-zero_whole (Plain p) a args e = cc
 zero_whole TabStops a args e = stops_end (a ∷ args)
-zero_whole Columns a args e = cc
-zero_whole Raster a args e = cc
 zero_whole Symbol a args e = zero_ends (is_kind_to_zero a) _ args e
-zero_whole Function a args e = cc
-zero_whole Graphics a args e = cc
+zero_whole _ a args e = cc
 
 end_begun : (k : Command) (a : ℕ) (args : List ℕ) → is_listed k (a ∷ args) ≡ true → CanEnd k (a ∷ args)
 end_begun k a args l = ⊎_elim
@@ -135,10 +116,6 @@ close_lead Dle b e = record { more = 0x05 ∷ 0 ∷ []; whole = rw e refl }
 listed_of : (l : Bool) (x : Fault) → cond l None (Some x) ≡ None → l ≡ true
 listed_of true x e = refl
 listed_of false x e = cc
-
-named_open : (k : Command) (args more : List ℕ) → is_listed k (args ++ more) ≡ true → needs_more k (args ++ more) ≡ false
-    → is_unfinished_named (Some k) (args ++ more) ≡ false
-named_open k args more l n = rw l n
 
 close_named : (lead : Lead) (b name : ℕ) (args : List ℕ) (o : Option Command) → lead_of b ≡ Some lead → command_of lead name ≡ o
     → fault_after (Some lead) b (name ∷ args) ≡ None → CanClose (b ∷ name ∷ args)

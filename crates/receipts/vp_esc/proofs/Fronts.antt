@@ -17,15 +17,11 @@ use Rattle.vp_esc.specs.Reader.{Begun, Advances, StandsIn, Lands}
 -- a lead's byte is the lead's
 pub lead_of-lead_byte : (lead : Lead) → lead_of (lead_byte lead) ≡ Some lead
 lead_of-lead_byte Esc = refl
-lead_of-lead_byte Gs = refl
-lead_of-lead_byte Fs = refl
-lead_of-lead_byte Dle = refl
+lead_of-lead_byte _ = refl
 
 pub lead_byte-of : (b : ℕ) (lead : Lead) → lead_of b ≡ Some lead → lead_byte lead ≡ b
 lead_byte-of b Esc e = grind (arith, nat_tests)
-lead_byte-of b Gs e = grind (arith, nat_tests)
-lead_byte-of b Fs e = grind (arith, nat_tests)
-lead_byte-of b Dle e = grind (arith, nat_tests)
+lead_byte-of b _ e = grind (arith, nat_tests)
 
 -- a front that is a command with these arguments
 pub record Front (front : List ℕ) (lead : Lead) (name : ℕ) (command : Command) (args : List ℕ) : Type 0 where
@@ -144,9 +140,7 @@ given_begun {lead} {name} {command} {args} {rest} b none =
 pub given_lead : (lead : Lead) → given (lead_byte lead ∷ []) ≡ []
 unfolding given
 given_lead Esc = refl
-given_lead Gs = refl
-given_lead Fs = refl
-given_lead Dle = refl
+given_lead _ = refl
 
 -- the table has no command of these two bytes
 pub unnamed : (lead : Lead) (c : ℕ) (new : EscReader) → command_of lead c ≡ None → new.phase ≡ Stopped (Unknown (lead_byte lead) c)

@@ -133,12 +133,7 @@ head_stays k (a ∷ args) c h l =
 given_none : (lead : Lead) (name : ℕ) (k : Command) → needs_more k [] ≡ true → given_by lead name k [] ≡ []
 unfolding needs_more given_by given_behind
 given_none lead name (Plain p) n = let m : ltb 0 (plain_len p []) ≡ true = grind (arith, nat_tests) in rw m refl
-given_none lead name TabStops n = refl
-given_none lead name Columns n = refl
-given_none lead name Raster n = refl
-given_none lead name Symbol n = refl
-given_none lead name Function n = refl
-given_none lead name Graphics n = refl
+given_none lead name _ n = refl
 
 by_command : (lead : Lead) (name : ℕ) (k : Command) (args : List ℕ) (c : ℕ) → needs_more k args ≡ true
     → IsFrontOf (given_by lead name k args) (given_by lead name k (args ++ c ∷ []))

@@ -19,17 +19,13 @@ one_or_two true = (omega arith, omega arith)
 one_or_two false = (omega arith, omega arith)
 
 plain_small : (p : PlainCommand) (args : List ℕ) → plain_len p args ≤ 8
-plain_small (Alone a) args = omega arith
-plain_small (OfByte a) args = omega arith
-plain_small (OfWord a) args = omega arith
-plain_small Area args = omega arith
 plain_small Cut args = (one_or_two (is_feed_cut (get_or args 0 0))).1
-plain_small Sensor args = omega arith
 plain_small RealTime args = (one_or_two (has_second (get_or args 0 0))).1
 plain_small (Unused arguments.None) args = omega arith
 plain_small (Unused arguments.One) args = omega arith
 plain_small (Unused arguments.Two) args = omega arith
 plain_small (Unused arguments.Three) args = omega arith
+plain_small _ args = omega arith
 
 one_to_eight : (b : Bool) → cond b 1 2 ≤ 8
 one_to_eight true = omega arith
@@ -37,42 +33,23 @@ one_to_eight false = omega arith
 
 pub head_small : (k : Command) (args : List ℕ) → head_len k args ≤ 8
 head_small (Plain p) args = plain_small p args
-head_small TabStops args = omega arith
-head_small Columns args = omega arith
-head_small Raster args = omega arith
 head_small Symbol args = one_to_eight (is_kind_to_zero (get_or args 0 0))
-head_small Function args = omega arith
-head_small Graphics args = omega arith
+head_small _ args = omega arith
 
 -- the head is known by the first argument
 plain_first : (p : PlainCommand) (f : ℕ) (xs ys : List ℕ) → plain_len p (f ∷ xs) ≡ plain_len p (f ∷ ys)
 plain_first (Alone a) f xs ys = refl
-plain_first (OfByte a) f xs ys = refl
-plain_first (OfWord a) f xs ys = refl
-plain_first Area f xs ys = refl
-plain_first Cut f xs ys = refl
-plain_first Sensor f xs ys = refl
-plain_first RealTime f xs ys = refl
-plain_first (Unused n) f xs ys = refl
+plain_first _ f xs ys = refl
 
 pub head_first : (k : Command) (f : ℕ) (xs ys : List ℕ) → head_len k (f ∷ xs) ≡ head_len k (f ∷ ys)
 head_first (Plain p) f xs ys = plain_first p f xs ys
-head_first TabStops f xs ys = refl
-head_first Columns f xs ys = refl
-head_first Raster f xs ys = refl
-head_first Symbol f xs ys = refl
-head_first Function f xs ys = refl
-head_first Graphics f xs ys = refl
+head_first _ f xs ys = refl
 
 plain_begins : (p : PlainCommand) (c : ℕ) → 0 < plain_len p [] → 1 ≤ plain_len p (c ∷ [])
 plain_begins (Alone a) c h = absurd (omega arith)
-plain_begins (OfByte a) c h = omega arith
-plain_begins (OfWord a) c h = omega arith
-plain_begins Area c h = omega arith
 plain_begins Cut c h = (one_or_two (is_feed_cut c)).0
-plain_begins Sensor c h = omega arith
 plain_begins RealTime c h = (one_or_two (has_second c)).0
-plain_begins (Unused n) c h = omega arith
+plain_begins _ c h = omega arith
 
 symbol_begins : (b : Bool) → 1 ≤ cond b 1 2
 symbol_begins true = omega arith
@@ -81,11 +58,8 @@ symbol_begins false = omega arith
 head_begins : (k : Command) (c : ℕ) → 0 < head_len k [] → 1 ≤ head_len k (c ∷ [])
 head_begins (Plain p) c h = plain_begins p c h
 head_begins TabStops c h = absurd (omega arith)
-head_begins Columns c h = omega arith
-head_begins Raster c h = omega arith
 head_begins Symbol c h = symbol_begins (is_kind_to_zero c)
-head_begins Function c h = omega arith
-head_begins Graphics c h = omega arith
+head_begins _ c h = omega arith
 
 -- one more argument is still in the head
 pub head_push : (k : Command) (args : List ℕ) (c : ℕ) → length args < head_len k args → length args + 1 ≤ head_len k (args ++ c ∷ [])
@@ -150,13 +124,9 @@ symbol_counted false n s e = refl
 
 pub needs_counted : (k : Command) (args : List ℕ) → is_counted k args ≡ true → needs_more k args ≡ is_short k args
 unfolding needs_more
-needs_counted (Plain p) args e = refl
 needs_counted TabStops args e = cc
-needs_counted Columns args e = refl
-needs_counted Raster args e = refl
 needs_counted Symbol args e = symbol_counted (is_kind_to_zero (get_or args 0 0)) _ _ e
-needs_counted Function args e = refl
-needs_counted Graphics args e = refl
+needs_counted _ args e = refl
 
 -- Among the arguments before any data, more are needed, and nothing is given.
 pub record IsHead (lead : Lead) (name : ℕ) (k : Command) (args : List ℕ) : Type 0 where

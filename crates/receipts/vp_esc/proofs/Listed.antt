@@ -86,40 +86,17 @@ two_is l h p q =
 
 alone_listed : (lead : Lead) (name : ℕ) (c : AloneCommand) → IsNamed (Plain (Alone c)) lead name → line_of (alone_item c) ≡ listed (lead_word lead) (name ∷ [])
 alone_listed lead name alone.DefaultLineSpacing e = rw (e.0, e.1) refl
-alone_listed lead name alone.Initialize e = rw (e.0, e.1) refl
-alone_listed lead name alone.PageMode e = rw (e.0, e.1) refl
-alone_listed lead name alone.StandardMode e = rw (e.0, e.1) refl
-alone_listed lead name alone.PrintPage e = rw (e.0, e.1) refl
-alone_listed lead name alone.CutLeavingOnePoint e = rw (e.0, e.1) refl
-alone_listed lead name alone.CutLeavingThreePoints e = rw (e.0, e.1) refl
+alone_listed lead name _ e = rw (e.0, e.1) refl
 
 byte_listed : (lead : Lead) (name : ℕ) (c : OfByteCommand) (n : ℕ) → IsNamed (Plain (OfByte c)) lead name → line_of (of_byte_item c n) ≡ listed (lead_word lead) (name ∷ n ∷ [])
 byte_listed lead name of_byte.RightSpacing n e = rw (e.0, e.1) refl
-byte_listed lead name of_byte.PrintMode n e = rw (e.0, e.1) refl
-byte_listed lead name of_byte.Underline n e = rw (e.0, e.1) refl
-byte_listed lead name of_byte.LineSpacing n e = rw (e.0, e.1) refl
-byte_listed lead name of_byte.Emphasized n e = rw (e.0, e.1) refl
-byte_listed lead name of_byte.DoubleStrike n e = rw (e.0, e.1) refl
-byte_listed lead name of_byte.FeedDots n e = rw (e.0, e.1) refl
-byte_listed lead name of_byte.FeedLines n e = rw (e.0, e.1) refl
-byte_listed lead name of_byte.Font n e = rw (e.0, e.1) refl
-byte_listed lead name of_byte.Direction n e = rw (e.0, e.1) refl
-byte_listed lead name of_byte.Justify n e = rw (e.0, e.1) refl
-byte_listed lead name of_byte.Magnify n e = rw (e.0, e.1) refl
-byte_listed lead name of_byte.Inverse n e = rw (e.0, e.1) refl
-byte_listed lead name of_byte.HriPosition n e = rw (e.0, e.1) refl
-byte_listed lead name of_byte.HriFont n e = rw (e.0, e.1) refl
-byte_listed lead name of_byte.BarHeight n e = rw (e.0, e.1) refl
-byte_listed lead name of_byte.BarModule n e = rw (e.0, e.1) refl
+byte_listed lead name _ n e = rw (e.0, e.1) refl
 
 word_listed : (lead : Lead) (name : ℕ) (c : OfWordCommand) (n : ℕ) → n < 65536 → IsNamed (Plain (OfWord c)) lead name
     → line_of (of_word_item c n) ≡ listed (lead_word lead) (name ∷ two_bytes n)
-word_listed lead name of_word.Position n l e = rw (e.0, e.1) refl
 word_listed lead name of_word.MovePosition n l e = ap (λ m. listed (codes "esc") (0x5C ∷ two_bytes m)) (of_z-to_z w16 n l) ∙ rw (e.0, e.1) refl
-word_listed lead name of_word.VerticalPosition n l e = rw (e.0, e.1) refl
 word_listed lead name of_word.MoveVerticalPosition n l e = ap (λ m. listed (codes "gs") (0x5C ∷ two_bytes m)) (of_z-to_z w16 n l) ∙ rw (e.0, e.1) refl
-word_listed lead name of_word.LeftMargin n l e = rw (e.0, e.1) refl
-word_listed lead name of_word.AreaWidth n l e = rw (e.0, e.1) refl
+word_listed lead name _ n l e = rw (e.0, e.1) refl
 
 cut_only : (m : ℕ) → is_cut m ≡ true → is_feed_cut m ≡ false
 cut_only m e = grind (arith, nat_tests)

@@ -8,7 +8,7 @@ use Rattle.vp_esc.specs.declared.item.Lead.{Lead}
 use Rattle.vp_esc.specs.declared.command.Command.{Command}
 use Rattle.vp_esc.specs.declared.command.Command.TheVariants.{Plain, TabStops, Columns, Raster, Symbol, Function, Graphics}
 use Rattle.vp_esc.specs.declared.command.Plain.{Plain as PlainCommand}
-use Rattle.vp_esc.specs.declared.command.Plain.TheVariants.{Alone, OfByte, OfWord, Area, Cut, Sensor, RealTime, Unused}
+use Rattle.vp_esc.specs.declared.command.Plain.TheVariants.{Alone, Area, Cut, Sensor, RealTime}
 use Rattle.vp_esc.specs.Values.{is_kind_to_zero, is_kind_counted, is_cut, is_feed_cut}
 use Rattle.vp_esc.specs.Command.{lead_of, command_of, head_len, is_listed, has_second}
 use Rattle.vp_esc.specs.Units.{is_unfinished, needs_more, is_counted, is_short, data_len, rises_from}
@@ -130,13 +130,11 @@ real_time_row (m ∷ n ∷ x ∷ args) s = ⊎_elim
 
 plain_row : (p : PlainCommand) (args : List ℕ) → IsSized (Plain p) args → IsPlain p args
 plain_row (Alone a) args s = nil_of args s.len
-plain_row (OfByte a) args s = omega (arith, s.len)
-plain_row (OfWord a) args s = omega (arith, s.len)
 plain_row Area args s = area_row args (omega (arith, s.len))
 plain_row Cut args s = cut_row args s
 plain_row Sensor args s = sensor_row args s
 plain_row RealTime args s = real_time_row args s
-plain_row (Unused n) args s = omega (arith, s.len)
+plain_row _ args s = omega (arith, s.len)
 
 columns_row : (args : List ℕ) → IsSized Columns args → IsColumns args
 columns_row [] s = absurd (omega (arith, s.len))

@@ -10,14 +10,8 @@ resting : (p : Phase) (r : EscReader) (rest : List ℕ) → p ≢ phases.Ground 
 unfolding fault_in
 resting phases.Ground r rest n h e = n refl
 resting phases.AfterLead r rest n h e = cc
-resting (phases.Arguments command) r rest n h e = cc (h.begun.bytes)
-resting (phases.Stops last) r rest n h e = cc (h.begun.bytes)
-resting (phases.Bytes kind left) r rest n h e = cc (h.begun.bytes)
-resting (phases.TallColumns left) r rest n h e = cc (h.begun.bytes)
-resting (phases.SymbolToZero kind more) r rest n h e = cc (h.begun.bytes)
-resting (phases.SymbolData kind left) r rest n h e = cc (h.begun.bytes)
-resting (phases.Qr count left) r rest n h e = cc (h.begun.bytes)
 resting (phases.Stopped fault) r rest n h e = let f : fault_in [] ≡ Some fault = rw e at h in cc f
+resting _ r rest n h e = cc (h.begun.bytes)
 
 pub rests : (r : EscReader) (rest : List ℕ) → r.phase ≢ phases.Ground → StandsIn r rest → rest ≡ [] → ⊥
 rests r rest n h e = resting r.phase r rest n h e

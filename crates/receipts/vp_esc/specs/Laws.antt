@@ -5,7 +5,8 @@ use Rattle.vp_esc.specs.Units.{is_unfinished}
 
 -- Each proper front is open: no whole unit ends before.
 abbrev pub HasUnfinishedFronts : List ℕ → Type 0
-HasUnfinishedFronts bytes = (front more : List ℕ) → bytes ≡ front ++ more → more ≢ [] → is_unfinished front ≡ true
+HasUnfinishedFronts bytes =
+    (front more : List ℕ) → bytes ≡ front ++ more → more ≢ [] → is_unfinished front ≡ true
 
 -- a unit: the shortest front that isn't open
 pub record IsUnit (bytes : List ℕ) : Type 0 where

@@ -26,37 +26,22 @@ impl BarStyle {
     };
 
     /// What is in force after an item.
-    pub fn after(self, item: &EscItem) -> BarStyle
+    pub fn after(mut self, item: &EscItem) -> BarStyle
         requires { IsFitBars self }
         ensures style { (before : List EscItem) → self ≡ bar_style_of before →
             result ≡ bar_style_of (item.now ∷ before) }
         ensures fit { IsFitBars result }
     {
         match item {
-            EscItem::BarHeight(height) if *height > 0 => BarStyle {
-                height: *height,
-                ..self
-            },
-            EscItem::BarModule(module) if 2 <= *module && *module <= 6 => BarStyle {
-                module_dots: *module,
-                ..self
-            },
-            EscItem::HriPosition(position) => match position.value {
-                Some(hri_position) => BarStyle {
-                    hri_position,
-                    ..self
-                },
-                None => self,
-            },
-            EscItem::HriFont(font) => match font.value {
-                Some(font) => BarStyle {
-                    hri_font: font,
-                    ..self
-                },
-                None => self,
-            },
-            EscItem::Initialize => BarStyle::START,
-            _ => self,
+            EscItem::BarHeight(height) if *height > 0 => self.height = *height,
+            EscItem::BarModule(module) if 2 <= *module && *module <= 6 => {
+                self.module_dots = *module;
+            }
+            EscItem::HriPosition(s) => self.hri_position = s.value.unwrap_or(self.hri_position),
+            EscItem::HriFont(s) => self.hri_font = s.value.unwrap_or(self.hri_font),
+            EscItem::Initialize => return BarStyle::START,
+            _ => {}
         }
+        self
     }
 }

@@ -4,7 +4,7 @@ ghost use Rattle.vp_esc.specs.declared.item.EscItem.{EscItem};
 ghost use Rattle.vp_receipt_settings.specs.Settings.{IsFit};
 ghost use Rattle.vp_receipt_settings.specs.Effects.{effect_of, page_effect_of, if_done, runs_along, effect_rows, lays_line_by, is_page, waits_of};
 
-use crate::page_mode::{area_cut, direction_of, is_area, is_vertical_move, vertical_moved};
+use crate::page_mode::{area_of, direction_of, vertical_moved};
 use crate::raster::{draws, scale_named, times_down};
 use crate::settings::{Settings, moved, placed};
 use vp_esc::item::{Cut, EscItem, PrintDirection};
@@ -141,21 +141,19 @@ impl Settings {
             EscItem::PageMode => Effect::BeginsPage.if_done(self.begins_page()),
             EscItem::StandardMode => Effect::LeavesPage.if_done(self.page.is_paged()),
             EscItem::VerticalPosition(n) => Effect::Lays(NextLines::At(*n)),
-            EscItem::MoveVerticalPosition(by) => {
-                let at = NextLines::At(vertical_moved(*by, self.page.vertical));
-                Effect::Lays(at).if_done(is_vertical_move(*by, self.page.vertical))
-            }
+            EscItem::MoveVerticalPosition(by) => match vertical_moved(*by, self.page.vertical) {
+                Some(vertical) => Effect::Lays(NextLines::At(vertical)),
+                None => Effect::Sets,
+            },
             EscItem::Area {
                 x,
                 y,
                 width,
                 height,
-            } => {
-                let area = area_cut(self.paper, *x, *y, *width, *height);
-                Effect::Lays(NextLines::Within(area)).if_done(is_area(
-                    self.paper, *x, *y, *width, *height,
-                ))
-            }
+            } => match area_of(self.paper, *x, *y, *width, *height) {
+                Some(area) => Effect::Lays(NextLines::Within(area)),
+                None => Effect::Sets,
+            },
             EscItem::Direction(s) => Effect::runs(s.value),
             EscItem::Cancel => Effect::Wipes,
             EscItem::PrintPage => Effect::PrintsPage,

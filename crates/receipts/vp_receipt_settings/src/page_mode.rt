@@ -1,5 +1,5 @@
 //! What is in force on a page: its mode, its area, the direction of its lines, and how far down it is used.
-ghost use Rattle.std.specs.Prelude.{◌≡◌, ◌≤◌, ◌<◌, ◌+◌, ◌-◌, ◌∷◌, List, [], ℕ, nat_lt, not, true, ◌&&◌, ◌||◌, if◌then◌else◌};
+ghost use Rattle.std.specs.Prelude.{◌≡◌, ◌≤◌, ◌<◌, ◌+◌, ◌-◌, ◌∷◌, List, [], ℕ, nat_lt, not, true, ◌&&◌, ◌||◌, if◌then◌else◌, Some, None};
 ghost use Rattle.vp_esc.specs.declared.item.EscItem.{EscItem};
 ghost use Rattle.vp_page.specs.Areas.{line_length as length_on_page};
 ghost use Rattle.vp_page.specs.declared.page.TheConstants.{PAGE_ROWS};
@@ -52,50 +52,28 @@ pub(crate) fn direction_of(direction: PrintDirection) -> Direction
     }
 }
 
-/// Whether an area begins on the page, and has a dot.
-pub(crate) fn is_area(paper: Width, x: u16, y: u16, wide: u16, high: u16) -> bool
-    ensures { result ≡ is_area paper x y wide high }
+/// The area that ESC W sets, which ends at the page's edges; none where it doesn't begin on the page, or has
+/// no dot.
+pub(crate) fn area_of(paper: Width, x: u16, y: u16, wide: u16, high: u16) -> Option<Area>
+    ensures { result ≡
+        (if is_area paper x y wide high then Some (area_cut paper x y wide high) else None) }
 {
-    x < paper.across() && usize::from(y) < PAGE_ROWS && wide > 0 && high > 0
-}
-
-/// An area that ends at the page's edges.
-pub(crate) fn area_cut(paper: Width, x: u16, y: u16, wide: u16, high: u16) -> Area
-    ensures { result ≡ area_cut paper x y wide high }
-{
-    Area {
+    if x >= paper.across() || usize::from(y) >= PAGE_ROWS || wide == 0 || high == 0 {
+        return None;
+    }
+    Some(Area {
         x,
         y,
-        dx: wide.min(paper.across().saturating_sub(x)),
-        dy: high.min((PAGE_ROWS as u16).saturating_sub(y)),
-    }
+        dx: wide.min(paper.across() - x),
+        dy: high.min(PAGE_ROWS as u16 - y),
+    })
 }
 
-/// Whether a vertical position is moved to one.
-pub(crate) fn is_vertical_move(by: i16, vertical: u16) -> bool
-    ensures { result ≡ is_vertical_move by vertical }
+/// The vertical position moved, where it can be.
+pub(crate) fn vertical_moved(by: i16, vertical: u16) -> Option<u16>
+    ensures { result ≡ (if is_vertical_move by vertical then Some (vertical_moved by vertical) else None) }
 {
-    let far = by.unsigned_abs();
-    if by >= 0 {
-        u32::from(vertical) + u32::from(far) <= 65535
-    } else {
-        far <= vertical
-    }
-}
-
-/// The vertical position moved.
-pub(crate) fn vertical_moved(by: i16, vertical: u16) -> u16
-    ensures { result ≡ vertical_moved by vertical }
-{
-    let far = by.unsigned_abs();
-    if by >= 0 {
-        if u32::from(vertical) + u32::from(far) <= 65535 {
-            return vertical + far;
-        }
-    } else if far <= vertical {
-        return vertical - far;
-    }
-    vertical
+    vertical.checked_add_signed(by)
 }
 
 /// The vertical position after rows.

@@ -22,27 +22,21 @@ impl QrStyle {
     };
 
     /// What is in force after an item.
-    pub fn after(self, item: &EscItem) -> QrStyle
+    pub fn after(mut self, item: &EscItem) -> QrStyle
         requires { IsFitQr self }
         ensures style { (before : List EscItem) → self ≡ qr_style_of before →
             result ≡ qr_style_of (item.now ∷ before) }
         ensures fit { IsFitQr result }
     {
         match item {
-            EscItem::QrModel(model) => QrStyle {
-                model: *model,
-                ..self
-            },
-            EscItem::QrModule(module) if 1 <= *module && *module <= 16 => QrStyle {
-                module_dots: *module,
-                ..self
-            },
-            EscItem::QrLevel(level) => QrStyle {
-                level: *level,
-                ..self
-            },
-            EscItem::Initialize => QrStyle::START,
-            _ => self,
+            EscItem::QrModel(model) => self.model = *model,
+            EscItem::QrModule(module) if 1 <= *module && *module <= 16 => {
+                self.module_dots = *module;
+            }
+            EscItem::QrLevel(level) => self.level = *level,
+            EscItem::Initialize => return QrStyle::START,
+            _ => {}
         }
+        self
     }
 }

@@ -6,8 +6,8 @@ ghost use Rattle.vp_page.specs.declared.line.TheConstants.{LINE_DOTS};
 ghost use Rattle.vp_receipt_settings.specs.Setup.{Setup};
 ghost use Rattle.vp_receipt_settings.specs.Pages.{is_paged};
 ghost use Rattle.vp_receipt_settings.specs.Spacing.{column_width_of, line_spacing, column_width};
-ghost use Rattle.vp_receipt_settings.specs.Line.{lines_rows, standard_length, breaks, ended_rows, position_moved, position_at, margin_or, width_or, position, line_length, left_margin, area_width};
-ghost use Rattle.vp_receipt_settings.specs.Settings.{printed_at, settings_of, IsFit, settings_length, justification_or, justification};
+ghost use Rattle.vp_receipt_settings.specs.Line.{lines_rows, standard_length, breaks, ended_rows, position_moved, position_at, position, line_length, left_margin, area_width};
+ghost use Rattle.vp_receipt_settings.specs.Settings.{printed_at, settings_of, IsFit, settings_length, justification};
 ghost use Rattle.vp_receipt_settings.specs.Tabs.{tab_stops, tabbed};
 ghost use Rattle.vp_receipt_settings.specs.Symbols.{symbol_image, image_rows};
 ghost use Rattle.vp_receipt_settings.specs.Texts.{style_of};
@@ -84,15 +84,10 @@ pub(crate) fn moved(by: i16, position: u16, length: u16) -> u16
     ensures value { result ≡ position_moved by position length }
     ensures small { result ≤ max position length }
 {
-    let far = by.unsigned_abs();
-    if by >= 0 {
-        if u32::from(position) + u32::from(far) <= u32::from(length) {
-            return position + far;
-        }
-    } else if far <= position && position - far <= length {
-        return position - far;
+    match position.checked_add_signed(by) {
+        Some(to) if to <= length => to,
+        _ => position,
     }
-    position
 }
 
 /// Position `n` where a line of `length` dots reaches it, else `position`.
@@ -331,73 +326,8 @@ impl Settings {
         Settings { position, ..self }
     }
 
-    /// The settings with the dots of columns `column_width` dots wide.
-    fn dotted(self, column_width: u8) -> Settings
-        ensures { result ≡ record self { column_width = column_width } }
-    {
-        Settings {
-            column_width,
-            ..self
-        }
-    }
-
-    /// The settings with another line spacing.
-    fn spaced(self, line_spacing: u8) -> Settings
-        ensures { result ≡ record self { line_spacing = line_spacing } }
-    {
-        Settings {
-            line_spacing,
-            ..self
-        }
-    }
-
-    /// The settings with a left margin, if it leaves some of the paper, and the line isn't open.
-    fn indented(self, left_margin: u16) -> Settings
-        ensures { result ≡ record self {
-          left_margin =
-              (if self.is_open then self.left_margin else margin_or left_margin self.paper self.left_margin);
-        } }
-    {
-        if !self.is_open && left_margin < self.paper.across() {
-            return Settings {
-                left_margin,
-                ..self
-            };
-        }
-        self
-    }
-
-    /// The settings with an area `area_width` dots wide, if it has a dot, and the line isn't open.
-    fn as_wide(self, area_width: u16) -> Settings
-        ensures { result ≡ record self {
-          area_width = (if self.is_open then self.area_width else width_or area_width self.area_width);
-        } }
-    {
-        if !self.is_open && area_width > 0 {
-            return Settings { area_width, ..self };
-        }
-        self
-    }
-
-    /// The settings with a justification, if the line isn't open.
-    fn justified(self, justification: Option<Alignment>) -> Settings
-        ensures { result ≡ record self {
-          justification =
-              (if self.is_open then self.justification
-              else justification_or justification self.justification);
-        } }
-    {
-        match justification {
-            Some(justification) if !self.is_open => Settings {
-                justification,
-                ..self
-            },
-            _ => self,
-        }
-    }
-
     /// The settings with what an item sets that has to do neither with the line nor with the page.
-    fn set(self, item: &EscItem) -> Settings
+    fn set(mut self, item: &EscItem) -> Settings
         requires fit { IsFit self }
         requires item { item.now ≡ EscItem.Initialize → ⊥ }
         ensures settings { (setup : Setup) (before : List EscItem) → self ≡ settings_of setup before →
@@ -405,19 +335,31 @@ impl Settings {
         ensures fit { IsFit result }
     {
         match item {
-            EscItem::Columns { mode, .. } => self.dotted(dot_width(*mode)),
-            EscItem::DefaultLineSpacing => self.spaced(DEFAULT_LINE_SPACING),
-            EscItem::LineSpacing(n) => self.spaced(*n),
-            EscItem::LeftMargin(n) => self.indented(*n),
-            EscItem::AreaWidth(n) => self.as_wide(*n),
-            EscItem::Justify(s) => self.justified(s.value),
-            _ => Settings {
-                text: self.text.after(item),
-                bars: self.bars.after(item),
-                qr: self.qr.after(item),
-                ..self
-            },
+            EscItem::Columns { mode, .. } => self.column_width = dot_width(*mode),
+            EscItem::DefaultLineSpacing => self.line_spacing = DEFAULT_LINE_SPACING,
+            EscItem::LineSpacing(n) => self.line_spacing = *n,
+            EscItem::LeftMargin(n) => {
+                if !self.is_open && *n < self.paper.across() {
+                    self.left_margin = *n;
+                }
+            }
+            EscItem::AreaWidth(n) => {
+                if !self.is_open && *n > 0 {
+                    self.area_width = *n;
+                }
+            }
+            EscItem::Justify(s) => {
+                if !self.is_open {
+                    self.justification = s.value.unwrap_or(self.justification);
+                }
+            }
+            _ => {
+                self.text = self.text.after(item);
+                self.bars = self.bars.after(item);
+                self.qr = self.qr.after(item);
+            }
         }
+        self
     }
 
     /// The line after an effect that neither sets nor initializes, at these tab stops.

@@ -6,7 +6,7 @@ ghost use Rattle.vp_receipt_settings.specs.Settings.{IsFitText};
 ghost use Rattle.vp_glyph.specs.Cells.{cell_width, cell_height};
 ghost use Rattle.vp_receipt_settings.specs.declared.text.TheConstants.{LINE_ROWS, WIDEST};
 
-use vp_esc::item::{EscItem, Magnification, PrintMode, Underline};
+use vp_esc::item::{EscItem, Magnification, PrintMode, Spelled, Underline};
 use vp_glyph::{Cell, Font, Sheets, Style};
 
 /// The most rows of a line: eight times those of a character.
@@ -147,47 +147,28 @@ impl Text {
     }
 
     /// What is in force after an item.
-    pub fn after(self, item: &EscItem) -> Text
+    pub fn after(mut self, item: &EscItem) -> Text
         requires { IsFitText self }
         ensures text { (before : List EscItem) → self ≡ text_in_force before →
             result ≡ text_in_force (item.now ∷ before) }
         ensures fit { IsFitText result }
     {
         match item {
-            EscItem::RightSpacing(n) => Text {
-                right_spacing: *n,
-                ..self
-            },
-            EscItem::PrintMode(mode) => self.after_mode(mode.value),
-            EscItem::Underline(rule) => match rule.value {
-                Some(rule) => Text {
-                    underline: rows_named(rule),
-                    ..self
-                },
-                None => self,
-            },
-            EscItem::Initialize => Text::START,
-            EscItem::Emphasized(s) => Text {
-                emphasized: s.value,
-                ..self
-            },
-            EscItem::DoubleStrike(s) => Text {
-                double_strike: s.value,
-                ..self
-            },
-            EscItem::Font(font) => match font.value {
-                Some(font) => Text { font, ..self },
-                None => self,
-            },
-            EscItem::Magnify(m) => match m.value {
-                Some(m) => self.after_magnification(m),
-                None => self,
-            },
-            EscItem::Inverse(s) => Text {
-                inverse: s.value,
-                ..self
-            },
-            _ => self,
+            EscItem::RightSpacing(n) => self.right_spacing = *n,
+            EscItem::PrintMode(mode) => return self.after_mode(mode.value),
+            EscItem::Underline(s) => {
+                if let Some(rule) = s.value {
+                    self.underline = rows_named(rule);
+                }
+            }
+            EscItem::Initialize => return Text::START,
+            EscItem::Emphasized(s) => self.emphasized = s.value,
+            EscItem::DoubleStrike(s) => self.double_strike = s.value,
+            EscItem::Font(s) => self.font = s.value.unwrap_or(self.font),
+            EscItem::Magnify(Spelled { value: Some(m), .. }) => return self.after_magnification(*m),
+            EscItem::Inverse(s) => self.inverse = s.value,
+            _ => {}
         }
+        self
     }
 }
