@@ -4,7 +4,7 @@ use Rattle.std.proofs.lemmas.Bool.{cases_Bool, true≢false}
 use Rattle.std.proofs.Math.Bool.{or-true}
 use Rattle.vp_page.specs.declared.area.Area.{Area}
 use Rattle.vp_page.specs.Areas.{holds}
-use Rattle.vp_page.specs.Layers.{Layer, Laid, Wiped, Mark, mark_dot, page_dot}
+use Rattle.vp_page.specs.Layers.{Layer, Laid, Wiped, CountedAnew, Mark, mark_dot, page_dot}
 use Rattle.vp_page.proofs.Falling.{dots_fall}
 use Rattle.vp_page.specs.Laws.{IsUnwiped, IsBlack, MarksAndWipes}
 
@@ -13,6 +13,9 @@ later_mark m rest x y h = record { later = Laid m ∷ h.later; mark = h.mark; be
 
 later_wipe : (a : Area) (rest : List Layer) (x y : ℕ) → holds a x y ≡ false → IsBlack rest x y → IsBlack (Wiped a ∷ rest) x y
 later_wipe a rest x y f h = record { later = Wiped a ∷ h.later; mark = h.mark; before = h.before; split = ap (λ r. Wiped a ∷ r) h.split; along = h.along; down = h.down; falls = h.falls; black = h.black; unwiped = (f, h.unwiped) }
+
+later_count : (rest : List Layer) (x y : ℕ) → IsBlack rest x y → IsBlack (CountedAnew ∷ rest) x y
+later_count rest x y h = record { later = CountedAnew ∷ h.later; mark = h.mark; before = h.before; split = ap (λ r. CountedAnew ∷ r) h.split; along = h.along; down = h.down; falls = h.falls; black = h.black; unwiped = h.unwiped }
 
 black_if : (layers : List Layer) (x y : ℕ) → page_dot layers x y ≡ true → IsBlack layers x y
 black_if [] x y e = cc
@@ -24,11 +27,13 @@ black_if (Wiped a ∷ rest) x y e = elim (cases_Bool (holds a x y)) [
   | inl t ↦ absurd (true≢false (sym e ∙ ap (λ b. not b && page_dot rest x y) t))
   | inr f ↦ later_wipe a rest x y f (black_if rest x y (sym (ap (λ b. not b && page_dot rest x y) f) ∙ e))
 ]
+black_if (CountedAnew ∷ rest) x y e = later_count rest x y (black_if rest x y e)
 
 black_at : (later : List Layer) (m : Mark) (before : List Layer) (x y : ℕ) → mark_dot m x y ≡ true → IsUnwiped later x y → page_dot (later ++ Laid m ∷ before) x y ≡ true
 black_at [] m before x y t u = ap (λ b. b || page_dot before x y) t
 black_at (Laid n ∷ later) m before x y t u = ap (λ b. mark_dot n x y || b) (black_at later m before x y t u) ∙ or-true (mark_dot n x y)
 black_at (Wiped a ∷ later) m before x y t u = ap (λ b. not b && page_dot (later ++ Laid m ∷ before) x y) u.0 ∙ black_at later m before x y t u.1
+black_at (CountedAnew ∷ later) m before x y t u = black_at later m before x y t u
 
 pub marks_and_wipes : MarksAndWipes
 marks_and_wipes layers x y = (black_if layers x y, λ h. ap (λ l. page_dot l x y) h.split ∙ black_at h.later h.mark h.before x y ((dots_fall h.mark x y).1 (h.along, h.down, h.falls, h.black)) h.unwiped)

@@ -1,7 +1,7 @@
 -- What the dots of a page come to.
 use Rattle.std.specs.Prelude.{◌≡◌, ◌<◌, ℕ, ◌+◌, Bool, true, false, List, [], ◌∷◌, ◌++◌, ◌↔◌}
 use Rattle.vp_page.specs.Areas.{holds, line_length, depth, falls_x, falls_y}
-use Rattle.vp_page.specs.Layers.{Layer, Laid, Wiped, Mark, mark_dot, page_dot, row_mark, first_rows}
+use Rattle.vp_page.specs.Layers.{Layer, Laid, Wiped, CountedAnew, Mark, mark_dot, page_dot, row_mark, first_rows}
 use Rattle.vp_page.specs.Pages.{HasPage, Paged}
 use Rattle.vp_page.specs.Work.{rows_laid}
 
@@ -23,6 +23,7 @@ abbrev pub IsUnwiped : List Layer → ℕ → ℕ → Type 0
 IsUnwiped [] x y = Unit {0}
 IsUnwiped (Laid m ∷ rest) x y = IsUnwiped rest x y
 IsUnwiped (Wiped a ∷ rest) x y = (holds a x y ≡ false) × IsUnwiped rest x y
+IsUnwiped (CountedAnew ∷ rest) x y = IsUnwiped rest x y
 
 -- a black dot of some mark falls on the place, and no later wipe holds it
 pub record IsBlack (layers : List Layer) (x y : ℕ) : Type 0 where

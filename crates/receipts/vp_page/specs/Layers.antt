@@ -18,10 +18,11 @@ pub record Mark : Type 0 where
   pub high : ℕ
   pub dot : ℕ → ℕ → Bool
 
--- since ESC L: images laid, and areas made white by CAN
+-- since ESC L: images laid, areas made white by CAN, and where the rows of both were counted anew
 pub data Layer : Type 0 where
   Laid : (mark : Mark) → Layer
   Wiped : (area : Area) → Layer
+  CountedAnew : Layer
 
 -- whether a black dot of the mark falls on the place (x, y) of the page
 abbrev pub mark_dot : Mark → ℕ → ℕ → Bool
@@ -34,6 +35,7 @@ abbrev pub page_dot : List Layer → ℕ → ℕ → Bool
 page_dot [] x y = false
 page_dot (Laid m ∷ before) x y = mark_dot m x y || page_dot before x y
 page_dot (Wiped a ∷ before) x y = not (holds a x y) && page_dot before x y
+page_dot (CountedAnew ∷ before) x y = page_dot before x y
 
 -- one row of dots, laid at a depth of the area
 abbrev pub row_mark : Area → Direction → ℕ → (ℕ → Bool) → Mark

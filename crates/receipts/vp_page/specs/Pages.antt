@@ -8,7 +8,7 @@ use Rattle.vp_page.specs.declared.page.TheConstants.{PAPER_DOTS, PAPER_BYTES, PA
 use Rattle.vp_page.specs.Layers.{Layer, page_dot}
 use Rattle.vp_page.specs.Work.{IsCounted}
 
--- the rows of a page, and how many rows were laid on it and made white since ESC L
+-- the rows of a page, and how many rows were laid on it and made white since they were last counted anew
 pub record Paged : Type 0 where
   pub rows : List (List ℕ)
   pub laid : ℕ

@@ -1,9 +1,10 @@
--- What a page has taken since ESC L, in rows of dots: those laid on it, and those made white.
+-- What a page has taken since its rows were last counted anew, at the latest by ESC L: the rows of dots that
+-- were laid on it, and those that were made white.
 use Rattle.std.specs.Prelude.{◌≡◌, ◌≤◌, ℕ, zero, suc, ◌+◌, ◌-◌, ◌^◌, min, Bool, false, ◌&&◌, ◌||◌, if◌then◌else◌, List, [], ◌∷◌}
 use Rattle.vp_page.specs.declared.area.Area.{Area}
 use Rattle.vp_page.specs.declared.page.TheConstants.{PAGE_ROWS, PAPER_DOTS}
 use Rattle.vp_page.specs.Areas.{holds, depth}
-use Rattle.vp_page.specs.Layers.{Layer, Laid, Wiped, Mark, page_dot}
+use Rattle.vp_page.specs.Layers.{Layer, Laid, Wiped, CountedAnew, Mark, page_dot}
 
 -- how many rows of a mark are laid: those past the depth are dropped
 abbrev pub rows_laid : Mark → ℕ
@@ -14,6 +15,7 @@ abbrev pub laid_rows : List Layer → ℕ
 laid_rows [] = 0
 laid_rows (Laid m ∷ before) = rows_laid m + laid_rows before
 laid_rows (Wiped a ∷ before) = laid_rows before
+laid_rows (CountedAnew ∷ before) = 0
 
 -- how many rows of the page an area has
 abbrev pub area_rows : Area → ℕ
@@ -24,6 +26,7 @@ abbrev pub most_wiped : List Layer → ℕ
 most_wiped [] = PAGE_ROWS
 most_wiped (Laid m ∷ before) = most_wiped before
 most_wiped (Wiped a ∷ before) = area_rows a + most_wiped before
+most_wiped (CountedAnew ∷ before) = 0
 
 -- whether row y has a black dot in the area, among its first n
 unfoldable pub has_black : List Layer → Area → ℕ → ℕ → Bool
@@ -40,6 +43,7 @@ abbrev pub least_wiped : List Layer → ℕ
 least_wiped [] = 0
 least_wiped (Laid m ∷ before) = least_wiped before
 least_wiped (Wiped a ∷ before) = black_rows before a PAGE_ROWS + least_wiped before
+least_wiped (CountedAnew ∷ before) = 0
 
 -- the largest count
 abbrev pub MOST : ℕ

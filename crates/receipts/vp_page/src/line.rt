@@ -21,13 +21,25 @@ pub const LINE_BYTES: usize = 208;
 pub const LINE_DOTS: usize = 8 * LINE_BYTES;
 
 /// Writes a line of an image.
-pub(crate) fn draw<I: Ink>(ink: &I, y: u32, row: &mut [u8])
+fn draw<I: Ink>(ink: &I, y: u32, row: &mut [u8])
     requires { I.width ink.now ≤ 8 * length row.old }
     ensures len { length row.new ≡ length row.old }
     ensures line { (x : ℕ) → dot row.new x ≡ I.ink_at ink.now x y }
 {
     row.fill(0);
     ink.paint_row(y, Op::Black, 0, row);
+}
+
+/// Writes a line of an image over the one above it, which serves again where it is known to be alike.
+pub(crate) fn draw_next<I: Ink>(ink: &I, y: u32, row: &mut [u8])
+    requires wide { I.width ink.now ≤ 8 * length row.old }
+    requires above { 0 < y → (x : ℕ) → dot row.old x ≡ I.ink_at ink.now x (y - 1) }
+    ensures len { length row.new ≡ length row.old }
+    ensures line { (x : ℕ) → dot row.new x ≡ I.ink_at ink.now x y }
+{
+    if y == 0 || !ink.repeats(y) {
+        draw(ink, y, row);
+    }
 }
 
 /// A line of an image, as long as the longest one.

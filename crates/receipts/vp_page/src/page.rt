@@ -10,7 +10,7 @@ ghost use Rattle.vp_page.specs.declared.page.TheConstants.{PAPER_BYTES, PAPER_DO
 
 use crate::across::{AT_ONCE, lay_lines_down, lay_lines_up};
 use crate::line::{
-    LINE_BYTES, LINE_DOTS, draw, draw_lines, lay_down, lay_left, lay_right, lay_up, whiten,
+    LINE_BYTES, LINE_DOTS, draw_lines, draw_next, lay_down, lay_left, lay_right, lay_up, whiten,
 };
 use crate::white::Rows;
 use crate::words::{lay_whole, lay_whole_back};
@@ -76,7 +76,7 @@ pub struct Page {
     /// What is white, but for the rows that were laid on since: so what is white already isn't wiped again.
     white: Area,
     laid: Rows,
-    /// How many rows were laid, and made white, since ESC L.
+    /// How many rows were laid, and made white, since they were last counted anew.
     rows_laid: u64,
     rows_wiped: u64,
 }
@@ -92,7 +92,7 @@ impl Model for Page {
 }
 
 impl Page {
-    ghost use Rattle.vp_page.specs.Layers.{Layer, Laid, Wiped, lines_mark, page_dot};
+    ghost use Rattle.vp_page.specs.Layers.{Layer, Laid, Wiped, CountedAnew, lines_mark, page_dot};
     ghost use Rattle.vp_page.specs.Lines.{line_dot};
     ghost use Rattle.vp_page.specs.Pages.{HasPage};
     ghost use Rattle.vp_page.specs.declared.across.TheConstants.{AT_ONCE};
@@ -121,6 +121,15 @@ impl Page {
         self.laid = Rows::none();
         self.rows_laid = 0;
         self.rows_wiped = rows.count();
+    }
+
+    /// From here on the rows that are laid, and made white, are counted anew.
+    pub fn count_anew(&mut self)
+        ensures { (layers : List Layer) → HasPage layers self.old →
+            HasPage (CountedAnew ∷ layers) self.new }
+    {
+        self.rows_laid = 0;
+        self.rows_wiped = 0;
     }
 
     /// Rows of the page outside of which an area is known to be white.
@@ -329,7 +338,7 @@ impl Page {
         let row = &mut room[..width.div_ceil(8) as usize];
         let below = u32::from(area.depth(direction)).saturating_sub(top);
         for line in 0..height.min(below) {
-            draw(ink, line, row);
+            draw_next(ink, line, row);
             self.lay_row(area, direction, top + line, row);
         }
     }
@@ -370,14 +379,14 @@ impl Page {
         self.rows_wiped = self.rows_wiped.saturating_add(rows.inside(area).count());
     }
 
-    /// How many rows were laid since ESC L.
+    /// How many rows were laid since they were last counted anew.
     pub fn rows_laid(&self) -> u64
         ensures value { result ≡ self.now.laid }
     {
         self.rows_laid
     }
 
-    /// How many rows were made white since then, and by ESC L itself.
+    /// How many rows were made white since then, by ESC L too where that began the count.
     pub fn rows_wiped(&self) -> u64
         ensures value { result ≡ self.now.wiped }
     {

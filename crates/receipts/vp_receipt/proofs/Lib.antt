@@ -16,6 +16,7 @@ pub mod Begun
 pub mod Orderly
 pub mod Texts
 pub mod Work
+pub mod Costs
 pub mod PageRows
 pub mod RasterLines
 pub mod PlainRows

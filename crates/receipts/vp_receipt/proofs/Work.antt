@@ -4,7 +4,7 @@ use Rattle.vp_esc.specs.declared.item.EscItem.{EscItem}
 use Rattle.vp_esc.specs.declared.item.EscItem.TheVariants.{PageMode}
 use Rattle.vp_page.specs.declared.area.Area.{Area}
 use Rattle.vp_page.specs.Layers.{Layer, Mark}
-use Rattle.vp_page.specs.Work.{laid_rows, most_wiped, area_rows}
+use Rattle.vp_page.specs.Work.{laid_rows, most_wiped, area_rows, rows_laid}
 use Rattle.vp_receipt_settings.specs.Setup.{Setup}
 use Rattle.vp_receipt_settings.specs.Pages.{area}
 use Rattle.vp_receipt_settings.specs.Line.{line, is_open}
@@ -15,7 +15,7 @@ use Rattle.vp_receipt.specs.Work.{AddsAtMost, most_work, most_by, mark_rows}
 abbrev work : List Layer → ℕ
 work l = laid_rows l + most_wiped l
 
-line_adds : (b : Bool) (m : Mark) (l : List Layer) → work (laid_if b m l) ≤ work l + (if b then m.high else 0)
+line_adds : (b : Bool) (m : Mark) (l : List Layer) → work (laid_if b m l) ≤ work l + (if b then rows_laid m else 0)
 line_adds true m l = omega arith
 line_adds false m l = omega arith
 

@@ -1,14 +1,17 @@
 -- What a page costs, in rows of dots: those laid on it, and those made white, since ESC L.
 use Rattle.std.specs.Prelude.{◌≡◌, ◌≤◌, ℕ, ◌+◌, Bool, ◌&&◌, if◌then◌else◌, List, ◌∷◌, Option, Some, None}
 use Rattle.vp_esc.specs.declared.item.EscItem.{EscItem}
+use Rattle.vp_esc.specs.declared.item.EscItem.TheVariants.{RasterByte}
 use Rattle.vp_page.specs.Layers.{Mark}
+use Rattle.vp_page.specs.declared.page.TheConstants.{PAGE_ROWS}
 use Rattle.vp_page.specs.Work.{laid_rows, most_wiped, least_wiped, rows_laid, area_rows}
 use Rattle.vp_receipt_settings.specs.Setup.{Setup}
 use Rattle.vp_receipt_settings.specs.Pages.{area}
-use Rattle.vp_receipt_settings.specs.Line.{line, height, is_open, mode}
+use Rattle.vp_receipt_settings.specs.Line.{line, is_open, mode}
 use Rattle.vp_receipt_settings.specs.Extent.{ends_line}
 use Rattle.vp_receipt_settings.specs.declared.page_mode.PrinterMode.TheVariants.{Page}
-use Rattle.vp_receipt.specs.PageMarks.{layers, own_mark, wipes}
+use Rattle.vp_receipt_settings.specs.declared.text.TheConstants.{LINE_ROWS}
+use Rattle.vp_receipt.specs.PageMarks.{layers, line_mark, own_mark, wipes}
 
 -- at most the rows of what was laid, those of the page that ESC L makes white, and of the areas of CAN
 abbrev pub most_work : Setup → List EscItem → ℕ
@@ -20,13 +23,14 @@ least_work setup before = laid_rows (layers setup before) + least_wiped (layers 
 
 abbrev pub mark_rows : Option Mark → ℕ
 mark_rows None = 0
-mark_rows (Some mark) = mark.high
+mark_rows (Some mark) = rows_laid mark
 
--- what an item lays and wipes on a page at most: the line that it ends, a row of a raster or a symbol of its
--- own, and for CAN the rows of the area
+-- what an item lays and wipes on a page at most: of the line that it ends, and of a row of a raster or a
+-- symbol of its own, the rows that aren't past the depth, and for CAN the rows of the area
 abbrev pub most_by : Setup → List EscItem → EscItem → ℕ
 most_by setup before item =
-    (if ends_line setup before item && is_open (line setup before) then height (line setup before) else 0)
+    (if ends_line setup before item && is_open (line setup before) then rows_laid (line_mark setup before)
+    else 0)
     + mark_rows (own_mark setup before item) + (if wipes item then area_rows (area setup before) else 0)
 
 -- on a page each item adds at most that
@@ -34,3 +38,10 @@ abbrev pub AddsAtMost : Type 0
 AddsAtMost =
     (setup : Setup) (before : List EscItem) (item : EscItem) → mode setup before ≡ Page →
     most_work setup (item ∷ before) ≤ most_work setup before + most_by setup before item
+
+-- that is at most the rows of a line, and those of a page, which a symbol has or CAN makes white; for a byte
+-- of a raster it is two
+pub record CostsAtMost : Type 0 where
+  pub item : (setup : Setup) (before : List EscItem) (item : EscItem)
+      → most_by setup before item ≤ LINE_ROWS + PAGE_ROWS
+  pub row : (setup : Setup) (before : List EscItem) (byte : ℕ) → most_by setup before (RasterByte byte) ≤ 2

@@ -7,7 +7,7 @@ ghost use Rattle.vp_receipt_settings.specs.Setup.{Setup, across};
 ghost use Rattle.vp_receipt_settings.specs.Rasters.{raster_bytes, rows_to_come, row_so_far, bytes_after};
 ghost use Rattle.vp_receipt.specs.Images.{images, begun, AreAcross};
 ghost use Rattle.vp_receipt.specs.Strips.{own_strips, printed, raster_row_text};
-ghost use Rattle.vp_receipt.specs.Work.{AddsAtMost};
+ghost use Rattle.vp_receipt.specs.Work.{AddsAtMost, CostsAtMost};
 
 use vp_esc::laws::one_reading;
 
@@ -33,6 +33,12 @@ pub fn a_row_is_its_bytes()
 /// symbol or row of a raster, and for CAN of the area.
 pub fn an_item_adds_at_most()
     ensures { AddsAtMost }
+{}
+
+/// A law: that is at most a line of 192 rows, and one symbol or one wipe of the rows of a page; for a byte of
+/// a raster it is two rows.
+pub fn an_item_costs_at_most()
+    ensures { CostsAtMost }
 {}
 
 /// A law: what the items of bytes print is images, one after the other, each as wide as the paper and of a

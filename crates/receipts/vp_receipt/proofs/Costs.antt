@@ -1,0 +1,182 @@
+-- What an item lays on a page and wipes there at most.
+use Rattle.std.proofs.Common.{◌≡◌, ◌≤◌, ℕ, ◌+◌, ◌-◌, ◌*◌, min, max, Bool, true, false, ◌&&◌, if◌then◌else◌, List, [], ◌∷◌, ◌++◌, Option, Some, None, is_some, refl, arith, lit≤}
+use Rattle.std.proofs.lemmas.Bool.Decides.{nat_tests}
+use Rattle.std.proofs.lemmas.Nat.{mul-le}
+use Rattle.vp_dots.specs.Images.{Image}
+use Rattle.vp_esc.specs.declared.item.EscItem.{EscItem}
+use Rattle.vp_esc.specs.declared.item.EscItem.TheVariants.{PrintMode, Magnify, Initialize, Character, Column8, Column24, LineFeed, FeedDots, FeedLines, CutLeavingOnePoint, CutLeavingThreePoints, Cut, FeedAndCut, Symbol, QrPrint, Raster, RasterByte, StandardMode, VerticalPosition, MoveVerticalPosition, Area as SetArea, Direction as SetDirection, PrintPage, FormFeed, Cancel}
+use Rattle.vp_esc.specs.declared.item.Magnification.{Magnification}
+use Rattle.vp_esc.specs.declared.item.RasterScale.{RasterScale}
+use Rattle.vp_esc.specs.declared.item.RasterScale.TheVariants.{Normal, DoubleWidth, DoubleHeight, Quadruple}
+use Rattle.vp_glyph.specs.Cells.{font_height, cell_height}
+use Rattle.vp_glyph.specs.declared.cell.Font.{Font}
+use Rattle.vp_glyph.specs.declared.cell.Font.TheVariants.{A, B}
+use Rattle.vp_page.specs.declared.area.Area.{Area}
+use Rattle.vp_page.specs.declared.area.Direction.{Direction}
+use Rattle.vp_page.specs.declared.area.Direction.TheVariants.{LeftToRight, BottomToTop, RightToLeft, TopToBottom}
+use Rattle.vp_page.specs.declared.page.TheConstants.{PAGE_ROWS}
+use Rattle.vp_page.specs.Areas.{depth}
+use Rattle.vp_page.specs.Layers.{Mark}
+use Rattle.vp_page.specs.Work.{rows_laid, area_rows}
+use Rattle.vp_receipt_settings.specs.declared.text.TheConstants.{LINE_ROWS}
+use Rattle.vp_receipt_settings.specs.declared.width.Width.{Width}
+use Rattle.vp_receipt_settings.specs.declared.width.Width.TheVariants.{W576, W384}
+use Rattle.vp_receipt_settings.specs.Setup.{Setup, across}
+use Rattle.vp_receipt_settings.specs.Pages.{area, is_area, area_cut, is_vertical_move, direction, whole_page, is_paged}
+use Rattle.vp_receipt_settings.specs.Rasters.{draws, raster_scale, times_down, is_row_end, row_so_far}
+use Rattle.vp_receipt_settings.specs.Symbols.{symbol_image}
+use Rattle.vp_receipt_settings.specs.Texts.{high, font, height_or, is_magnification}
+use Rattle.vp_receipt_settings.specs.Line.{Placed, Layout, breaks, put_at, character, column8, column24, height, is_open, layout, layout_by, layout_length, line, line_with, line_with_column, on_page}
+use Rattle.vp_receipt_settings.specs.Extent.{ends_line}
+use Rattle.vp_receipt.specs.PageMarks.{line_mark, own_mark, raster_mark, symbol_mark, symbol_mark_of, wipes}
+use Rattle.vp_receipt.specs.Work.{CostsAtMost, most_by, mark_rows}
+
+magnified_few : (m : Option Magnification) (old : ℕ) → old ≤ 8 → height_or m old ≤ 8
+magnified_few None old h = h
+magnified_few (Some m) old h = grind (arith, nat_tests)
+
+if_few : (b : Bool) → (if b then 2 else 1) ≤ 8
+if_few true = lit≤ tt
+if_few false = lit≤ tt
+
+high_few : (before : List EscItem) → high before ≤ 8
+high_few [] = lit≤ tt
+high_few (PrintMode mode ∷ before) = if_few mode.value.double_height
+high_few (Magnify s ∷ before) = magnified_few s.value (high before) (high_few before)
+high_few (Initialize ∷ before) = lit≤ tt
+high_few (_ ∷ before) = high_few before
+
+font_low : (f : Font) → font_height f ≤ 24
+font_low A = lit≤ tt
+font_low B = lit≤ tt
+
+product_low : (a b : ℕ) → a ≤ 24 → b ≤ 8 → a * b ≤ LINE_ROWS
+product_low a b h k = mul-le a b 24 8 h k
+
+none_if : (b : Bool) (l : List Placed) → height l ≤ LINE_ROWS → height (if b then [] else l) ≤ LINE_ROWS
+none_if true l h = lit≤ tt
+none_if false l h = h
+
+kept_if : (b : Bool) (l : List Placed) → height l ≤ LINE_ROWS → height (if b then l else []) ≤ LINE_ROWS
+kept_if true l h = h
+kept_if false l h = lit≤ tt
+
+more_if : (b : Bool) (p : Placed) (l : List Placed) → p.image.height ≤ LINE_ROWS → height l ≤ LINE_ROWS → height (if b then p ∷ l else l) ≤ LINE_ROWS
+more_if true p l h k = omega arith
+more_if false p l h k = k
+
+-- a line is no higher than the highest character
+low_by : (setup : Setup) (before : List EscItem) (item : EscItem) (l : Layout) → height l.line ≤ LINE_ROWS → height (layout_by setup before item l).line ≤ LINE_ROWS
+low_by setup before (Character c) l h =
+    let cell : (character setup before c).height ≤ LINE_ROWS = product_low (font_height (font before)) (high before) (font_low (font before)) (high_few before) in
+    omega (arith, cell, none_if (breaks l.position (character setup before c).width (layout_length setup before l)) l.line h)
+low_by setup before (Column8 byte) l h = more_if _ _ l.line (lit≤ tt) h
+low_by setup before (Column24 bytes) l h = more_if _ _ l.line (lit≤ tt) h
+low_by setup before LineFeed l h = lit≤ tt
+low_by setup before (FeedDots n) l h = lit≤ tt
+low_by setup before (FeedLines n) l h = lit≤ tt
+low_by setup before CutLeavingOnePoint l h = kept_if (on_page l) l.line h
+low_by setup before CutLeavingThreePoints l h = kept_if (on_page l) l.line h
+low_by setup before (Cut cut) l h = kept_if (on_page l) l.line h
+low_by setup before (FeedAndCut cut dots) l h = kept_if (on_page l) l.line h
+low_by setup before (Symbol kind bytes more) l h = lit≤ tt
+low_by setup before QrPrint l h = lit≤ tt
+low_by setup before (Raster scale bytes rows) l h = none_if (draws scale.value bytes rows) l.line h
+low_by setup before Initialize l h = lit≤ tt
+low_by setup before StandardMode l h = none_if (on_page l) l.line h
+low_by setup before (VerticalPosition n) l h = none_if (on_page l) l.line h
+low_by setup before (MoveVerticalPosition n) l h = none_if (is_vertical_move n l.vertical && on_page l) l.line h
+low_by setup before (SetArea x y wide high) l h = none_if (is_area setup.width x y wide high && on_page l) l.line h
+low_by setup before (SetDirection s) l h = none_if (is_some s.value && on_page l) l.line h
+low_by setup before PrintPage l h = none_if (on_page l) l.line h
+low_by setup before FormFeed l h = none_if (on_page l) l.line h
+low_by setup before Cancel l h = none_if (on_page l) l.line h
+low_by setup before _ l h = h
+
+line_low : (setup : Setup) (before : List EscItem) → height (line setup before) ≤ LINE_ROWS
+line_low setup [] = lit≤ tt
+line_low setup (item ∷ before) = low_by setup before item (layout setup before) (line_low setup before)
+
+-- an area is no deeper than the page
+pub record IsOnPaper (a : Area) : Type 0 where
+  pub across : a.dx ≤ PAGE_ROWS
+  pub down : a.dy ≤ PAGE_ROWS
+
+narrow : (paper : Width) → across paper ≤ PAGE_ROWS
+narrow W576 = lit≤ tt
+narrow W384 = lit≤ tt
+
+cut_on_paper : (paper : Width) (x y wide high : ℕ) → IsOnPaper (area_cut paper x y wide high)
+cut_on_paper paper x y wide high = let few = narrow paper in record { across = omega arith; down = omega arith }
+
+whole_on_paper : (paper : Width) → IsOnPaper (whole_page paper)
+whole_on_paper paper = record { across = narrow paper; down = lit≤ tt }
+
+area_if : (b : Bool) (a c : Area) → IsOnPaper a → IsOnPaper c → IsOnPaper (if b then a else c)
+area_if true a c h k = h
+area_if false a c h k = k
+
+on_paper : (setup : Setup) (before : List EscItem) → IsOnPaper (area setup before)
+on_paper setup [] = whole_on_paper setup.width
+on_paper setup (SetArea x y wide high ∷ before) =
+    area_if (is_area setup.width x y wide high) (area_cut setup.width x y wide high) (area setup before)
+    (cut_on_paper setup.width x y wide high) (on_paper setup before)
+on_paper setup (Initialize ∷ before) = whole_on_paper setup.width
+on_paper setup (_ ∷ before) = on_paper setup before
+
+few_deep : (a : Area) (d : Direction) → IsOnPaper a → depth a d ≤ PAGE_ROWS
+few_deep a LeftToRight h = h.down
+few_deep a BottomToTop h = h.across
+few_deep a RightToLeft h = h.down
+few_deep a TopToBottom h = h.across
+
+mark_few : (m : Mark) → IsOnPaper m.area → rows_laid m ≤ PAGE_ROWS
+mark_few m h = let deep = few_deep m.area m.direction h in omega arith
+
+scaled_few : (s : RasterScale) → times_down s ≤ 2
+scaled_few Normal = lit≤ tt
+scaled_few DoubleWidth = lit≤ tt
+scaled_few DoubleHeight = lit≤ tt
+scaled_few Quadruple = lit≤ tt
+
+symbol_few : (setup : Setup) (before : List EscItem) (image : Option Image) → mark_rows (symbol_mark_of setup before image) ≤ PAGE_ROWS
+symbol_few setup before None = lit≤ tt
+symbol_few setup before (Some image) = mark_few (symbol_mark setup before image) (on_paper setup before)
+
+row_few : (setup : Setup) (before : List EscItem) (row : List ℕ) (ends : Bool) → mark_rows (if ends then Some (raster_mark setup before row) else None) ≤ 2
+row_few setup before row true = let few = scaled_few (raster_scale before) in omega arith
+row_few setup before row false = lit≤ tt
+
+lined : (b : Bool) (n : ℕ) → n ≤ LINE_ROWS → (if b then n else 0) ≤ LINE_ROWS
+lined true n h = h
+lined false n h = lit≤ tt
+
+wiped_few : (b : Bool) (a : Area) → (if b then area_rows a else 0) ≤ PAGE_ROWS
+wiped_few true a = omega arith
+wiped_few false a = lit≤ tt
+
+-- the line that an item ends
+line_few : (setup : Setup) (before : List EscItem) (b : Bool) → (if b then rows_laid (line_mark setup before) else 0) ≤ LINE_ROWS
+line_few setup before b = lined b (rows_laid (line_mark setup before)) (let low = line_low setup before in omega arith)
+
+ends : Setup → List EscItem → EscItem → Bool
+ends setup before item = ends_line setup before item && is_open (line setup before)
+
+item_few : (setup : Setup) (before : List EscItem) (item : EscItem) → most_by setup before item ≤ LINE_ROWS + PAGE_ROWS
+item_few setup before (Symbol kind bytes more) =
+    let own = symbol_few setup before (symbol_image setup before (Symbol kind bytes more)) in
+    omega (arith, own, line_few setup before (is_open (line setup before)))
+item_few setup before QrPrint =
+    let own = symbol_few setup before (symbol_image setup before QrPrint) in
+    omega (arith, own, line_few setup before (is_open (line setup before)))
+item_few setup before (RasterByte byte) =
+    let own = row_few setup before (row_so_far before ++ byte ∷ []) (is_row_end before) in omega (arith, own)
+item_few setup before Cancel =
+    let wiped = wiped_few true (area setup before) in omega (arith, wiped, line_few setup before (is_open (line setup before)))
+item_few setup before item = omega (arith, line_few setup before (ends_line setup before item && is_open (line setup before)))
+
+pub costs_at_most : CostsAtMost
+costs_at_most = record {
+  item = item_few;
+  row = λ setup before byte. let own = row_few setup before (row_so_far before ++ byte ∷ []) (is_row_end before) in omega (arith, own);
+}
