@@ -2,6 +2,7 @@
 ghost use Rattle.std.specs.Prelude.{◌≡◌, ℕ, ◌+◌, ◌*◌, ◌<◌, ◌≤◌, List, [], length, map, slice_index_or, vec_capacity, IfOk};
 ghost use Rattle.std.specs.List.{All};
 ghost use Rattle.vp_dots.specs.Dots.{dot};
+ghost use Rattle.vp_dots.specs.Images.{row_bytes};
 ghost use Rattle.vp_glyph.specs.declared.Sheets.{Sheets as Given};
 ghost use Rattle.vp_field.specs.Fields.{stroke_of, IsKept};
 ghost use Rattle.vp_field.specs.Strokes.{image_dot};
@@ -109,7 +110,8 @@ impl BandPainter {
         requires before { IsBefore sheets.now stored.now view b self.old }
         requires narrow { view.width ≤ WIDEST }
         requires low { b < BANDS }
-        ensures dots { (x k : ℕ) → k < BAND_ROWS → dot (slice_index_or band.new k []) x
+        ensures dots { (x k : ℕ) → x < 8 * row_bytes view.width → k < BAND_ROWS → 32 * b + k < view.height
+            → dot (slice_index_or band.new k []) x
             ≡ image_dot view (map (stroke_of sheets.now stored.now) (fields_of self.old.entries)) x
             (32 * b + k) }
         ensures fields { self.new.entries ≡ self.old.entries }

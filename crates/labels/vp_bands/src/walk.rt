@@ -1,6 +1,7 @@
 //! One band of a label, painted from the fields that meet it.
 ghost use Rattle.std.specs.Prelude.{◌≡◌, ℕ, ◌+◌, ◌*◌, ◌^◌, ◌<◌, ◌≤◌, List, [], ◌∷◌, ◌++◌, length, map, slice_index_or, sum_by};
 ghost use Rattle.vp_dots.specs.Dots.{dot};
+ghost use Rattle.vp_dots.specs.Images.{row_bytes};
 ghost use Rattle.vp_field.specs.Fields.{stroke_of, IsKept, AreMarksOf};
 ghost use Rattle.vp_field.specs.Bands.{Shows};
 ghost use Rattle.vp_field.specs.Strokes.{Stroke, image_dot};
@@ -71,7 +72,8 @@ pub fn paint_band(
     requires label { IsThreadedFor sheets.now stored.now view threads.old.entries threads.old.heads }
     requires carried { IsThreaded threads.old.entries threads.old.links b threads.old.carried }
     requires marked { AreMarked stored.now threads.old.entries marks.old b 0 (length threads.old.entries) }
-    ensures dots { (x k : ℕ) → k < BAND_ROWS → dot (slice_index_or band.new k []) x
+    ensures dots { (x k : ℕ) → x < 8 * row_bytes view.width → k < BAND_ROWS → 32 * b + k < view.height
+        → dot (slice_index_or band.new k []) x
         ≡ image_dot view (map (stroke_of sheets.now stored.now) (fields_of threads.old.entries))
         x (32 * b + k) }
     ensures stays { Stays threads.old threads.new }
@@ -84,8 +86,8 @@ pub fn paint_band(
     ensures work { result ≤ sum_by entry_work (met b threads.old.entries) }
     ensures countable { result ≤ 2 ^ 30 }
 {
-    clear(band);
     let first = BAND_ROWS as u32 * b as u32;
+    clear(view, first, band);
     let mut work = 0;
     let mut walk = Walk::start(b, threads);
     while let Some(n) = next_of(walk.carried, walk.begins) {

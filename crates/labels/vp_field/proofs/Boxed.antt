@@ -71,10 +71,10 @@ skipped : (view : View) (first : ℕ) (s : Stroke) (band : List (List ℕ)) → 
     → (strokes : List Stroke) → Shows view first strokes band → Shows view first (strokes ++ s ∷ []) band
 skipped view first s band n strokes q = record {
   rows_are = q.rows_are;
-  dots_are = λ x k l h.
+  dots_are = λ x k l wide h high.
       let x' = seen_x view (pos x) in
       let y' = seen_y view (pos (first + k)) in
-      q.dots_are x k l h ∙ moved_dot view (pos x) (pos (first + k)) strokes
+      q.dots_are x k l wide h high ∙ moved_dot view (pos x) (pos (first + k)) strokes
       ∙ sym (moved_dot view (pos x) (pos (first + k)) (strokes ++ s ∷ []) ∙ label_dot-push strokes s x' y' ∙ ap (λ i. paint s.op i (label_dot strokes x' y')) (n x k h));
 }
 

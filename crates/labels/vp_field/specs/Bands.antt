@@ -5,9 +5,9 @@ use Rattle.vp_label_size.specs.declared.TheConstants.{WIDEST, BAND_BYTES, BAND_R
 use Rattle.vp_field.specs.Strokes.{Stroke, viewed, label_dot}
 use Rattle.vp_field.specs.declared.view.View.{View}
 
--- the band that begins with a row of the label as it is put out shows the dots of these strokes, on the
--- label and off it
+-- the band that begins with a row of the label as it is put out shows the dots of these strokes on the label,
+-- as far as the band reaches
 pub record Shows (view : View) (first : ℕ) (strokes : List Stroke) (band : List (List ℕ)) : Type 0 where
   pub rows_are : (k : ℕ) → k < BAND_ROWS → length (slice_index_or band k []) ≡ BAND_BYTES
-  pub dots_are : (x k : ℕ) → x < WIDEST → k < BAND_ROWS → dot (slice_index_or band k []) x
-      ≡ label_dot (map (viewed view) strokes) (pos x) (pos (first + k))
+  pub dots_are : (x k : ℕ) → x < WIDEST → x < view.width → k < BAND_ROWS → first + k < view.height
+      → dot (slice_index_or band k []) x ≡ label_dot (map (viewed view) strokes) (pos x) (pos (first + k))

@@ -9,12 +9,14 @@ use Rattle.vp_output.specs.declared.place.Line.{Line}
 use Rattle.vp_output.specs.declared.place.Line.TheVariants.{Head, Row}
 use Rattle.vp_copies.specs.Copies.{advanced, ahead, ahead_of, line_bytes, pending, Place}
 use Rattle.vp_output.specs.Lines.{row_after, IsLineOf}
-use Rattle.vp_copies.specs.Progress.{Progress, image_of}
+use Rattle.vp_copies.specs.Progress.{Progress, image_of, IsPainted}
 use Rattle.vp_format.specs.declared.field.Field.{Field}
 use Rattle.vp_field.specs.Fields.{stroke_of}
 use Rattle.vp_field.specs.Strokes.{image_dot}
 use Rattle.vp_label.specs.declared.press.Press.{Press}
-use Rattle.std.proofs.Common.{List}
+use Rattle.std.proofs.Common.{List, [], get_or}
+use Rattle.vp_dots.specs.Dots.{dot}
+use Rattle.vp_dots.specs.Images.{Image, row_bytes}
 use Rattle.vp_glyph.specs.declared.Sheets.{Sheets}
 use Rattle.vp_field.specs.declared.view.View.{View}
 use Rattle.vp_bands.specs.Laws.{LooksBounded}
@@ -37,6 +39,20 @@ band_of false (Row y) b e = row_band (y % 32 == 0) y b e
 
 pub band_is : (copies : ℕ) (l : Line) (byte b : ℕ) → ahead (at copies l byte) ≡ Band b → b + 1 ≡ bands_above l
 band_is copies l byte b e = band_of (copies == 0 || nat_lt 0 byte) l b e
+
+-- a band that was wanted and is painted
+pub band_painted : (copies : ℕ) (l : Line) (byte b : ℕ) (i : Image) (band : List (List ℕ)) → ahead (at copies l byte) ≡ Band b
+    → ((x y : ℕ) → i.width ≤ x → i.is_black x y ≡ false)
+    → ((x k : ℕ) → x < 8 * row_bytes i.width → k < 32 → 32 * b + k < i.height → dot (get_or band k []) x ≡ i.is_black x (32 * b + k))
+    → IsPainted i l band
+band_painted copies Head byte b i band e out d = tt
+band_painted copies (Row y) byte b i band e out d =
+    let is : b ≡ y / 32 = (let n = band_is copies (Row y) byte b e in omega arith) in
+    let here : (k : ℕ) → 32 * b + k ≡ 32 * (y / 32) + k = λ k. ap (λ n. 32 * n + k) is in
+    record {
+      dots_are = λ x k wide low high. d x k (omega arith) low (omega (arith, here k)) ∙ ap (i.is_black x) (here k);
+      rest_is_white = λ x k past across low high. d x k across low (omega (arith, here k)) ∙ out x (32 * b + k) past;
+    }
 
 more_ahead : (copies : ℕ) (l : Line) (byte : ℕ) → 0 < byte → ahead (at copies l byte) ≡ Nothing
 more_ahead copies l byte h = let t : (copies == 0 || nat_lt 0 byte) ≡ true = grind (arith, nat_tests) in rw t refl

@@ -37,7 +37,7 @@ fn whole(stored: &[u8]) -> Span
     }
 }
 
-/// The first bytes of the rows of a band after fields are painted, one after the other.
+/// The first bytes of the label's rows in a band after fields are painted, one after the other.
 #[derive(Drop)]
 struct Painter {
     view: View,
@@ -48,7 +48,7 @@ struct Painter {
 impl Painter {
     fn new(alloc: Global, view: View, first: u32) -> Result<Painter, Fail> {
         let mut band = LabelBand::new(alloc)?;
-        clear(&mut band);
+        clear(view, first, &mut band);
         Ok(Painter { view, first, band })
     }
 
@@ -69,9 +69,11 @@ impl Painter {
     fn rows(mut self) -> [[u8; 6]; 32] {
         let width = self.view.width.min(1248);
         cut(View { width, ..self.view }, self.first, &mut self.band);
+        let bytes = ((width as usize + 7) / 8).min(6);
+        let high = self.view.height.saturating_sub(self.first).min(32);
         let mut rows = [[0; 6]; 32];
-        for y in 0..32 {
-            rows[y].copy_from_slice(&self.band.row(y)[..6]);
+        for y in 0..high as usize {
+            rows[y][..bytes].copy_from_slice(&self.band.row(y)[..bytes]);
         }
         rows
     }

@@ -57,7 +57,7 @@ fn over_bands(
     for b in 0..4u8 {
         let first = 32 * u32::from(b);
         let mut band = Band::new(alloc)?;
-        clear(&mut band);
+        clear(view, first, &mut band);
         let _ = paint_field(&NONE, stored, field, &mut marks, view, first, &mut band);
         marks = kept(keeps, marks);
         cut(view, first, &mut band);

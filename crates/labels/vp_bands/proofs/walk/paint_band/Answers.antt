@@ -81,7 +81,7 @@ loop-n-init c =
       walk = rw (is, look) (walk_started threads.entries threads.links c.args.b threads.carried (link_at threads.heads c.args.b) c.requires.carried (c.requires.label.begins c.args.b));
       stays = rw look (record { entries = refl; heads = refl; links = refl });
       lengths = refl;
-      shows = rw is (c.clear.ensures c.args.view (32 * c.args.b));
+      shows = rw is c.clear.ensures;
       ahead = rw is c.requires.marked;
       behind = rw is (λ k ge lt. absurd (omega arith));
       at_least = rw (is, look) (omega arith);
@@ -135,12 +135,12 @@ close-requires c =
     tail_in c.args.threads.now.entries c.loop-n.threads.links c.args.b c.loop-n.walk c.loop-n.invariant.walk (omega (arith, c.requires.links, c.loop-n.invariant.stays.links))
 
 pub returns-clause-dots : goal.returns-clause-dots
-returns-clause-dots c = λ x k low.
+returns-clause-dots c = λ x k across low high.
     let entries = c.args.threads.now.entries in
     let walk = c.loop-n.invariant.walk in
     let none = c.in_default.ensures entries c.args.b c.loop-n.walk.seen (length entries) walk.carried walk.begins in
     c.cut.ensures (strokes c.args.sheets.now c.args.stored.now (met c.args.b entries))
-    (subst (λ es. Shows c.args.view (32 * c.args.b) (strokes c.args.sheets.now c.args.stored.now es) c.loop-n.band) (met_all entries c.args.b c.loop-n.walk.seen walk.within none) c.loop-n.invariant.shows) x k low
+    (subst (λ es. Shows c.args.view (32 * c.args.b) (strokes c.args.sheets.now c.args.stored.now es) c.loop-n.band) (met_all entries c.args.b c.loop-n.walk.seen walk.within none) c.loop-n.invariant.shows) x k across low high
     ∙ met_image c.args.sheets.now c.args.stored.now c.args.view c.args.b entries x k c.requires.label.spanned low
 
 pub returns-clause-carried : goal.returns-clause-carried

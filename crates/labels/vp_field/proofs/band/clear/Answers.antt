@@ -1,6 +1,9 @@
-use Rattle.std.proofs.Common.{refl}
+use Rattle.std.proofs.Common.{arith}
 use Rattle.vp_field.proofs.White.{shows_none}
 use Rattle.vp_field.proofs.band.clear.Goals as goal
 
 pub returns : goal.returns
-returns c = λ view first. shows_none 32 156 view first c.clear.new.self refl refl c.clear.ensures
+returns c =
+    let bytes = c.bytes_on_label-bytes.ensures in
+    shows_none c.args.view c.args.first c.loop-k.k c.bytes_on_label-bytes.result c.args.band.now _ bytes.most c.row_lengths.ensures c.loop-k.invariant.done
+    c.loop-k.invariant.rest (λ k h high. let on = c.rows_on_label-k-end.ensures.rows k h high in omega arith) bytes.columns
