@@ -1,10 +1,10 @@
--- The items of a raster's bytes: what a receipt and a listing do with them.
+-- The items of a raster's bytes, and of those that are stored: what a receipt and a listing do with them.
 use Rattle.std.proofs.Common.{◌≡◌, ℕ, List, [], ◌∷◌, ◌++◌, reverse, append_assoc, flat_map, zero, suc, take, ◌<◌, None, arith, refl, sym, ap, ◌∙◌}
 use Rattle.std.proofs.lemmas.List.{reverse-append, append-nil}
 use Rattle.vp_esc.specs.declared.item.EscItem.{EscItem}
-use Rattle.vp_esc.specs.declared.item.EscItem.TheVariants.{RasterByte}
+use Rattle.vp_esc.specs.declared.item.EscItem.TheVariants.{RasterByte, QrByte}
 use Rattle.vp_esc.specs.Split.{fault_of}
-use Rattle.vp_esc.specs.Reader.{raster_items}
+use Rattle.vp_esc.specs.Reader.{raster_items, stored_items}
 use Rattle.vp_receipt_settings.specs.Setup.{Setup as ReceiptSetup}
 use Rattle.vp_receipt.specs.Strips.{prints, printed as printed_receipt}
 use Rattle.vp_engine.specs.Paper.{Reading, listing, printed}
@@ -17,10 +17,14 @@ pub known_run : (t ys run : List ℕ) (n : ℕ) → take n ys ≡ run → fault_
 known_run t ys run zero e none later = ap (λ x. fault_of (t ++ x)) (sym e) ∙ ap fault_of (append-nil t) ∙ none
 known_run t ys run (suc n) e none later = ap (λ x. fault_of (t ++ x)) (sym e) ∙ later (omega arith)
 
--- a byte of a raster is not refused
+-- a byte of a raster, and one that is stored, is not refused
 pub accepted_bytes : (setup : ReceiptSetup) (xs : List ℕ) (before : List EscItem) → AreAccepted (rules_of (Receipts setup)) before (raster_items xs)
 accepted_bytes setup [] before = tt
 accepted_bytes setup (b ∷ xs) before = (refl, accepted_bytes setup xs (RasterByte b ∷ before))
+
+pub accepted_stored : (setup : ReceiptSetup) (xs : List ℕ) (before : List EscItem) → AreAccepted (rules_of (Receipts setup)) before (stored_items xs)
+accepted_stored setup [] before = tt
+accepted_stored setup (b ∷ xs) before = (refl, accepted_stored setup xs (QrByte b ∷ before))
 
 pub printed_same : (setup : ReceiptSetup) (h : List EscItem) → printed (rules_of (Receipts setup)) h ≡ printed_receipt setup h
 printed_same setup [] = refl

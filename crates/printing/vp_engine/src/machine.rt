@@ -78,8 +78,8 @@ fn begin_label_lines(lines: &mut Lines, item: &ZplItem<'_>)
     }
 }
 
-/// Takes bytes of a receipt, and puts out all that they print: those that are skipped, or text, or bytes of a
-/// raster.
+/// Takes bytes of a receipt, and puts out all that they print: those that are skipped or stored, or text, or
+/// bytes of a raster.
 fn receipt_run(
     reader: &mut EscReader,
     receipt: &mut Receipt,
@@ -110,6 +110,14 @@ fn receipt_run(
         receipt.apply_text(&input[..text]);
         return Moved {
             taken: text,
+            put: 0,
+        };
+    }
+    let stored = reader.take_stored(input);
+    if stored > 0 {
+        receipt.apply_stored(&input[..stored]);
+        return Moved {
+            taken: stored,
             put: 0,
         };
     }

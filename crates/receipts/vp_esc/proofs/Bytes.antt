@@ -16,8 +16,8 @@ use Rattle.vp_esc.specs.declared.reader.Data.TheVariants as kinds
 use Rattle.vp_esc.specs.declared.reader.Phase.TheVariants as phases
 use Rattle.vp_esc.specs.Values.{spelled, scale_of}
 use Rattle.vp_esc.specs.Command.{head_len}
-use Rattle.vp_esc.specs.Units.{given_by, given_behind, is_counted, is_short, data_len, raster_bytes, unused, prints_rows, is_skipped}
-use Rattle.vp_esc.specs.Reader.{StandsIn, in_phase, Begun, Advances, Lands, InBytes, data_item, data_items, bytes_or_ground, raster_data, are_rows, give_nothing}
+use Rattle.vp_esc.specs.Units.{given_by, given_behind, is_counted, is_short, data_len, raster_bytes, unused, prints_rows, is_skipped, stores_bytes}
+use Rattle.vp_esc.specs.Reader.{StandsIn, in_phase, Begun, Advances, Lands, InBytes, data_item, data_items, bytes_or_ground, raster_data, are_rows, give_nothing, are_stored}
 use Rattle.vp_esc.proofs.Fronts.{lands_open, lands_whole, continues, completes, begun_longer}
 use Rattle.vp_esc.proofs.Heads.{given_is, needs_counted, IsPushed, pushed}
 
@@ -26,10 +26,11 @@ pub land_bytes : (r : EscReader) (command : Command) (kind : Data) (left : ℕ) 
     → Begun r.lead r.name command r.kept.items rest → length r.kept.items ≡ head_len command r.kept.items
     → is_counted command r.kept.items ≡ true → left ≡ data_len command r.kept.items
     → prints_rows command r.kept.items ≡ are_rows kind → is_skipped command r.kept.items ≡ give_nothing kind
+    → ((more : List ℕ) → stores_bytes command (r.kept.items ++ more) ≡ are_stored kind)
     → given_by r.lead r.name command r.kept.items ≡ item ∷ []
     → ((more : List ℕ) → given_by r.lead r.name command (r.kept.items ++ more) ≡ item ∷ data_items kind more)
     → Lands (Some item) rest (record r { phase = bytes_or_ground kind left; kept = final })
-land_bytes r command kind left rest item final b enough counted l rows skipped g behind = ⊎_elim
+land_bytes r command kind left rest item final b enough counted l rows skipped stored g behind = ⊎_elim
     (λ (h : left < 1).
     let z : eqb left 0 ≡ true = grind (arith, nat_tests) in
     let s : is_short command r.kept.items ≡ false = grind (arith, nat_tests) in
@@ -46,6 +47,7 @@ land_bytes r command kind left rest item final b enough counted l rows skipped g
       left_is = record { head = omega arith; some_left = omega arith; count = omega arith };
       rows = rows;
       skipped = skipped;
+      stored = stored;
       gives = λ more. behind more ∙ ap (λ xs. xs ++ data_items kind more) (sym g);
     })))
     (cases_lt left 1)
@@ -55,11 +57,13 @@ pub one_item : (kind : Data) (c : ℕ) → data_items kind (c ∷ []) ≡ option
 one_item kinds.Skipped c = refl
 one_item kinds.Raster c = refl
 one_item kinds.Columns c = refl
+one_item kinds.Stored c = refl
 
 pub next_item : (kind : Data) (c : ℕ) (more : List ℕ) → data_items kind (c ∷ more) ≡ data_items kind (c ∷ []) ++ data_items kind more
 next_item kinds.Skipped c more = refl
 next_item kinds.Raster c more = refl
 next_item kinds.Columns c more = refl
+next_item kinds.Stored c more = refl
 
 -- one byte of them
 pub bytes_step : (r : EscReader) (kind : Data) (left c : ℕ) (rest : List ℕ) → InBytes r kind left rest
@@ -86,6 +90,7 @@ bytes_step r kind left c rest hand =
       left_is = p.left_is (omega arith);
       rows = p.rows ∙ hand.rows;
       skipped = p.skipped ∙ hand.skipped;
+      stored = λ more. ap (stores_bytes hand.command) (append_assoc hand.args (c ∷ []) more) ∙ hand.stored (c ∷ more);
       gives = λ more.
           ap (λ xs. given_by r.lead r.name hand.command xs) (append_assoc hand.args (c ∷ []) more)
           ∙ hand.gives (c ∷ more)
@@ -131,6 +136,10 @@ skipped_are : (scale : Option RasterScale) → is_none scale ≡ give_nothing (r
 skipped_are None = refl
 skipped_are (Some scale) = refl
 
+none_stored : (scale : Option RasterScale) → false ≡ are_stored (raster_data scale)
+none_stored None = refl
+none_stored (Some scale) = refl
+
 no_bytes : (scale : Option RasterScale) → raster_bytes scale [] ≡ []
 no_bytes None = refl
 no_bytes (Some scale) = refl
@@ -142,7 +151,7 @@ pub land_raster : (r : EscReader) (z m xl xh yl yh left : ℕ) (rest : List ℕ)
 land_raster r z m xl xh yl yh left rest b k l =
     let item : EscItem = items.Raster (spelled m (scale_of m)) (xl + 256 * xh) (yl + 256 * yh) in
     let b' : Begun r.lead r.name Raster (z ∷ m ∷ xl ∷ xh ∷ yl ∷ yh ∷ []) rest = rw k at b in
-    land_bytes r Raster (raster_data (scale_of m)) left rest item r.kept b (rw k refl) refl (rw k l) (rw k (rows_are (scale_of m))) (rw k (skipped_are (scale_of m)))
+    land_bytes r Raster (raster_data (scale_of m)) left rest item r.kept b (rw k refl) refl (rw k l) (rw k (rows_are (scale_of m))) (rw k (skipped_are (scale_of m))) (λ more. none_stored (scale_of m))
     (rw k (raster_given r.lead r.name z m xl xh yl yh [] ∙ ap (λ xs. item ∷ xs) (no_bytes (scale_of m))))
     (λ more. rw k (raster_given r.lead r.name z m xl xh yl yh more ∙ ap (λ xs. item ∷ xs) (raster_items (scale_of m) more)))
 
@@ -173,7 +182,7 @@ pub land_function : (r : EscReader) (x pl ph left : ℕ) (rest : List ℕ) → B
     → r.kept.items ≡ x ∷ pl ∷ ph ∷ [] → left ≡ pl + 256 * ph → eqb x 107 ≡ false
     → Lands (Some (unused r.lead r.name r.kept.items)) rest (record r { phase = bytes_or_ground kinds.Skipped left })
 land_function r x pl ph left rest b k l e =
-    land_bytes r Function kinds.Skipped left rest (unused r.lead r.name r.kept.items) r.kept b (rw k refl) refl (rw k l) refl (rw k (rw e refl))
+    land_bytes r Function kinds.Skipped left rest (unused r.lead r.name r.kept.items) r.kept b (rw k refl) refl (rw k l) refl (rw k (rw e refl)) (λ more. rw k (rw e refl))
     (rw k (function_given r.lead r.name x pl ph [] e))
     (λ more. rw k (function_given r.lead r.name x pl ph more e))
 
@@ -186,6 +195,6 @@ pub land_graphics : (r : EscReader) (l p q s t left : ℕ) (rest : List ℕ) →
     → r.kept.items ≡ l ∷ p ∷ q ∷ s ∷ t ∷ [] → left ≡ p + 256 * q + 65536 * (s + 256 * t)
     → Lands (Some (unused r.lead r.name r.kept.items)) rest (record r { phase = bytes_or_ground kinds.Skipped left })
 land_graphics r l p q s t left rest b k e =
-    land_bytes r Graphics kinds.Skipped left rest (unused r.lead r.name r.kept.items) r.kept b (rw k refl) refl (rw k e) refl refl
+    land_bytes r Graphics kinds.Skipped left rest (unused r.lead r.name r.kept.items) r.kept b (rw k refl) refl (rw k e) refl refl (λ more. refl)
     (rw k (graphics_given r.lead r.name l p q s t []))
     (λ more. rw k (graphics_given r.lead r.name l p q s t more))

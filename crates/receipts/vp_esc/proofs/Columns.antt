@@ -35,7 +35,7 @@ land_short r m nl nh mode rest final b k e one behind =
     let g : (more : List ℕ) → given_by r.lead r.name Columns (m ∷ nl ∷ nh ∷ more) ≡ item ∷ data_items kinds.Columns more =
     λ more. columns_given r.lead r.name m nl nh more ∙ rw e (ap (λ xs. item ∷ xs) (behind more)) in
     let l : nl + 256 * nh ≡ column_bytes (column_mode_of m) * (nl + 256 * nh) = rw e (rw one (omega arith)) in
-    land_bytes r Columns kinds.Columns (nl + 256 * nh) rest item final b (rw k refl) refl (rw k l) refl refl (rw k (g [])) (λ more. rw k (g more))
+    land_bytes r Columns kinds.Columns (nl + 256 * nh) rest item final b (rw k refl) refl (rw k l) refl refl (λ more. refl) (rw k (g [])) (λ more. rw k (g more))
 
 land_tall : (r : EscReader) (m nl nh : ℕ) (mode : ColumnMode) (rest : List ℕ) (final : ArrayVec ℕ)
     → Begun r.lead r.name Columns r.kept.items rest → r.kept.items ≡ m ∷ nl ∷ nh ∷ [] → column_mode_of m ≡ mode

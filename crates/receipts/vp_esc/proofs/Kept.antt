@@ -33,6 +33,7 @@ stands_giving (phases.Bytes kind left) r item rest h = record {
   left_is = h.left_is;
   rows = h.rows;
   skipped = h.skipped;
+  stored = h.stored;
   gives = h.gives;
 }
 stands_giving (phases.TallColumns left) r item rest h =
@@ -60,6 +61,7 @@ stands_giving (phases.Qr count left) r item rest h = record {
   is_qr = h.is_qr;
   count_is = h.count_is;
   kept = h.kept;
+  not_stored = h.not_stored;
 }
 stands_giving (phases.Stopped fault) r item rest h = h
 

@@ -1,6 +1,7 @@
 -- What is left of the data that stand open, by the reader's phase.
-use Rattle.std.proofs.Common.{◌≡◌, ℕ, ◌-◌, Bool, true, false, cond, ltb, ◌&&◌, Option, Some, None, List, [], ◌∷◌, length, get_or, refl, ap, ◌∙◌, arith}
+use Rattle.std.proofs.Common.{◌≡◌, ℕ, ◌-◌, Bool, true, false, cond, ltb, ◌&&◌, Option, Some, None, List, [], ◌∷◌, length, refl, sym, ap, ◌∙◌, arith}
 use Rattle.std.proofs.lemmas.Bool.Decides.{nat_tests}
+use Rattle.std.proofs.lemmas.List.{append-nil}
 use Rattle.vp_dots.specs.declared.fault.Fault.{Fault}
 use Rattle.vp_dots.specs.declared.fault.Fault.TheVariants.{Unknown}
 use Rattle.vp_esc.specs.declared.item.Lead.{Lead}
@@ -11,8 +12,8 @@ use Rattle.vp_esc.specs.declared.reader.Data.{Data}
 use Rattle.vp_esc.specs.declared.reader.Phase.{Phase}
 use Rattle.vp_esc.specs.declared.reader.Phase.TheVariants as phases
 use Rattle.vp_esc.specs.Command.{lead_of, command_of, head_len, is_listed}
-use Rattle.vp_esc.specs.Units.{prints_rows, is_skipped, fault_in, fault_after, is_listed_name}
-use Rattle.vp_esc.specs.Reader.{in_phase, Begun, HasLeft, InArguments, InBytes, are_rows, give_nothing}
+use Rattle.vp_esc.specs.Units.{prints_rows, is_skipped, stores_bytes, fault_in, fault_after, is_listed_name}
+use Rattle.vp_esc.specs.Reader.{in_phase, Begun, HasLeft, InArguments, InBytes, InQr, are_rows, give_nothing, are_stored}
 use Rattle.vp_esc.specs.Runs.{left_in, left_after, left_named, left_before_last, text_in}
 use Rattle.vp_esc.proofs.Fronts.{lead_of-lead_byte}
 
@@ -26,7 +27,7 @@ record IsTied (is_meant : Command → List ℕ → Bool) (are : Data → Bool) :
   stops : (args : List ℕ) → is_meant TabStops args ≡ false
   columns : (args : List ℕ) → is_meant Columns args ≡ false
   symbol : (args : List ℕ) → is_meant Symbol args ≡ false
-  qr : (args : List ℕ) → get_or args 0 0 ≡ 107 → is_meant Function args ≡ false
+  qr : (r : EscReader) (count left : ℕ) (rest : List ℕ) (hand : InQr r count left rest) → is_meant Function hand.args ≡ false
   bytes : (r : EscReader) (kind : Data) (left : ℕ) (rest : List ℕ) (hand : InBytes r kind left rest) → is_meant hand.command hand.args ≡ are kind
 
 left_begun : (is_meant : Command → List ℕ → Bool) {lead : Lead} {name : ℕ} {command : Command} {args rest : List ℕ}
@@ -88,7 +89,7 @@ left_is is_meant are tied (phases.Bytes kind left) r rest h =
 left_is is_meant are tied (phases.TallColumns left) r rest h = none_other is_meant h.begun (tied.columns _)
 left_is is_meant are tied (phases.SymbolToZero kind more) r rest h = none_other is_meant h.begun (tied.symbol _)
 left_is is_meant are tied (phases.SymbolData kind left) r rest h = none_other is_meant h.begun (tied.symbol _)
-left_is is_meant are tied (phases.Qr count left) r rest h = none_other is_meant h.begun (tied.qr _ h.is_qr)
+left_is is_meant are tied (phases.Qr count left) r rest h = none_other is_meant h.begun (tied.qr r count left rest h)
 left_is is_meant are tied (phases.Stopped fault) r rest h = none_stopped is_meant rest fault h
 
 pub rows_left_is : (p : Phase) (r : EscReader) (rest : List ℕ) → in_phase p r rest → left_in prints_rows rest ≡ left_by are_rows p
@@ -96,7 +97,7 @@ rows_left_is p r rest h = left_is prints_rows are_rows (record {
   stops = λ args. refl;
   columns = λ args. refl;
   symbol = λ args. refl;
-  qr = λ args e. refl;
+  qr = λ r count left rest hand. refl;
   bytes = λ r kind left rest hand. hand.rows;
 }) p r rest h
 
@@ -105,8 +106,17 @@ skipped_left_is p r rest h = left_is is_skipped give_nothing (record {
   stops = λ args. refl;
   columns = λ args. refl;
   symbol = λ args. refl;
-  qr = λ args e. rw e refl;
+  qr = λ r count left rest hand. rw hand.is_qr refl;
   bytes = λ r kind left rest hand. hand.skipped;
+}) p r rest h
+
+pub stored_left_is : (p : Phase) (r : EscReader) (rest : List ℕ) → in_phase p r rest → left_in stores_bytes rest ≡ left_by are_stored p
+stored_left_is p r rest h = left_is stores_bytes are_stored (record {
+  stops = λ args. refl;
+  columns = λ args. refl;
+  symbol = λ args. refl;
+  qr = λ r count left rest hand. rw hand.is_qr (rw hand.not_stored refl);
+  bytes = λ r kind left rest hand. ap (stores_bytes hand.command) (sym (append-nil hand.args)) ∙ hand.stored [];
 }) p r rest h
 
 -- text in a command

@@ -1,9 +1,9 @@
 -- The bytes of GS ( k.
-use Rattle.std.proofs.Common.{◌≡◌, ◌≢◌, ℕ, ◌+◌, ◌-◌, ◌*◌, ◌<◌, ◌≤◌, Bool, true, false, cond, ltb, eqb, Option, Some, None, Ok, List, [], ◌∷◌, ◌++◌, length, take, drop, map, get_or, refl, sym, ap, ◌∙◌, arith, ⊎_elim}
+use Rattle.std.proofs.Common.{◌≡◌, ◌≢◌, ℕ, ◌+◌, ◌-◌, ◌*◌, ◌<◌, ◌≤◌, Bool, true, false, ◌&&◌, cond, ltb, leb, eqb, Option, Some, None, Ok, List, [], ◌∷◌, ◌++◌, length, take, drop, map, get_or, refl, sym, ap, subst, ◌∙◌, arith, ⊎_elim}
 use Rattle.std.specs.Prelude.{option_to_list}
 use Rattle.std.proofs.lemmas.Bool.Decides.{nat_tests}
 use Rattle.std.proofs.lemmas.Bool.{cases_lt}
-use Rattle.std.proofs.lemmas.List.{append_cancel_left, append-nil, map_push, length-take}
+use Rattle.std.proofs.lemmas.List.{append_cancel_left, append-nil, map_push, length-take, length_push}
 use Rattle.arrayvec.specs.ArrayVec.{ArrayVec}
 use Rattle.vp_esc.specs.declared.item.EscItem.{EscItem}
 use Rattle.vp_esc.specs.declared.item.EscItem.TheVariants as items
@@ -11,11 +11,13 @@ use Rattle.vp_esc.specs.declared.item.QrModel.{QrModel}
 use Rattle.vp_esc.specs.declared.item.Lead.{Lead}
 use Rattle.vp_esc.specs.declared.command.Command.TheVariants.{Function}
 use Rattle.vp_esc.specs.declared.reader.EscReader.{EscReader}
+use Rattle.vp_esc.specs.declared.reader.Phase.{Phase}
 use Rattle.vp_esc.specs.declared.reader.Phase.TheVariants as phases
 use Rattle.vp_esc.specs.Values.{qr_model_of}
-use Rattle.vp_esc.specs.Qr.{qr_items, value_items, model_items, is_qr_function, ignored}
+use Rattle.vp_esc.specs.Qr.{qr_items, value_items, model_items, is_qr_function, ignored, begins_store}
 use Rattle.vp_esc.specs.Units.{needs_more, given_by, given_behind}
-use Rattle.vp_esc.specs.Reader.{Begun, Advances, Lands, InQr, qr_or_ground}
+use Rattle.vp_esc.specs.declared.reader.Data.TheVariants as kinds
+use Rattle.vp_esc.specs.Reader.{Begun, Advances, Lands, InQr, qr_or_ground, behind_values, data_items}
 use Rattle.vp_esc.proofs.Fronts.{lands_open, lands_whole, continues, completes, begun_longer}
 use Rattle.vp_esc.proofs.Heads.{given_is, needs_counted, IsPushed, pushed}
 use Rattle.vp_esc.proofs.Symbols.{take_255_push}
@@ -106,6 +108,7 @@ land_qr r pl ph count rest final item b k e empty g =
       is_qr = refl;
       count_is = e;
       kept = rw empty refl;
+      not_stored = refl;
     })))
     (cases_lt count 1)
 
@@ -159,10 +162,39 @@ qr_given_next lead name count args c xs q h =
     ap (λ ys. given_by lead name Function (ys ++ c ∷ [])) q.bytes ∙ qr_given_is lead name q.pl q.ph (drop 3 args ++ c ∷ []) ∙ rw (← q.count_is) refl in
     b ∙ h ∙ ap (λ ys. ys ++ xs) (sym a)
 
+-- The first values tell whether those behind them are stored.
+store_front : (values : List ℕ) → begins_store (take 255 values) ≡ begins_store values
+store_front [] = refl
+store_front (a ∷ []) = refl
+store_front (a ∷ b ∷ []) = refl
+store_front (a ∷ b ∷ d ∷ values) = refl
+
+pub kept_not_stored : (r : EscReader) (count left : ℕ) (rest : List ℕ) → InQr r count left rest → begins_store r.kept.items ≡ false
+kept_not_stored r count left rest hand = ap begins_store hand.kept ∙ store_front (drop 3 hand.args) ∙ hand.not_stored
+
+is_48 : (a b c : ℕ) → eqb a 49 && eqb b 80 && eqb c 48 ≡ true → a ∷ b ∷ c ∷ [] ≡ 49 ∷ 80 ∷ 48 ∷ []
+is_48 a b c h =
+    let x : a ≡ 49 = grind (arith, nat_tests, h) in
+    let y : b ≡ 80 = grind (arith, nat_tests, h) in
+    let z : c ≡ 48 = grind (arith, nat_tests, h) in
+    rw (x, y, z) refl
+
+-- the third value begins them
+begins_here : (values : List ℕ) (c : ℕ) → begins_store values ≡ false → begins_store (values ++ c ∷ []) ≡ true → values ++ c ∷ [] ≡ 49 ∷ 80 ∷ 48 ∷ []
+begins_here [] c u h = cc
+begins_here (a ∷ []) c u h = cc
+begins_here (a ∷ b ∷ []) c u h = is_48 a b c h
+begins_here (a ∷ b ∷ d ∷ values) c u h = cc
+
+-- what the bytes behind them give
+stored_given : (count : ℕ) (more : List ℕ) → 4 ≤ count → qr_items count (49 ∷ 80 ∷ 48 ∷ more) ≡ items.QrStore (count - 3) ∷ map (λ b. items.QrByte b) more
+unfolding qr_items value_items
+stored_given count more h = let z : leb 4 count ≡ true = grind (arith, nat_tests) in rw z refl
+
 pub qr_step : (r : EscReader) (count left c : ℕ) (rest : List ℕ) (item : Option EscItem) (final : ArrayVec ℕ) → InQr r count left rest
-    → (length r.kept.items < count → qr_items count (r.kept.items ++ c ∷ []) ≡ qr_items count r.kept.items ++ option_to_list item)
+    → (length r.kept.items < count → begins_store r.kept.items ≡ false → qr_items count (r.kept.items ++ c ∷ []) ≡ qr_items count r.kept.items ++ option_to_list item)
     → final.items ≡ take 255 (r.kept.items ++ c ∷ [])
-    → Advances (Ok item) rest c (record r { phase = qr_or_ground count (left - 1); kept = final })
+    → Advances (Ok item) rest c (record r { phase = behind_values final.items count (left - 1); kept = final })
 qr_step r count left c rest item final hand given k =
     let enough : 3 ≤ length hand.args = hand.left_is.head in
     let q : IsQr hand.args count = is_qr_of hand.args count enough hand.is_qr hand.count_is in
@@ -170,24 +202,61 @@ qr_step r count left c rest item final hand given k =
     let len : length r.kept.items < count =
     rw hand.kept (omega (arith, length-take 255 (drop 3 hand.args), length_drop hand.args enough, hand.left_is.count, hand.left_is.some_left, hand.count_is)) in
     let h : qr_items count (take 255 (drop 3 hand.args) ++ c ∷ []) ≡ qr_items count (take 255 (drop 3 hand.args)) ++ option_to_list item =
-    rw (← hand.kept) (given len) in
+    rw (← hand.kept) (given len (kept_not_stored r count left rest hand)) in
     let g : given_by r.lead r.name Function (hand.args ++ c ∷ []) ≡ given_by r.lead r.name Function hand.args ++ option_to_list item =
     qr_given_next r.lead r.name count hand.args c (option_to_list item) q (qr_same count (drop 3 hand.args) c (option_to_list item) h) in
+    let all : final.items ≡ take 255 (drop 3 (hand.args ++ c ∷ [])) =
+    k ∙ rw hand.kept (take_255_push (drop 3 hand.args) c) ∙ ap (take 255) (sym (drop_push hand.args c enough)) in
+    let begins : begins_store final.items ≡ begins_store (drop 3 (hand.args ++ c ∷ [])) = ap begins_store all ∙ store_front (drop 3 (hand.args ++ c ∷ [])) in
     ⊎_elim
     (λ (l : left < 2).
     let z : eqb (left - 1) 0 ≡ true = grind (arith, nat_tests) in
     let s : ltb 1 left ≡ false = grind (arith, nat_tests) in
-    rw z (completes c item (record r { phase = phases.Ground; kept = final }) hand.begun p.listed (p.needs ∙ s) g refl))
+    let ends : Advances (Ok item) rest c (record r { phase = phases.Ground; kept = final }) =
+    completes c item (record r { phase = phases.Ground; kept = final }) hand.begun p.listed (p.needs ∙ s) g refl in
+    rw z (subst (λ (x : Phase). Advances (Ok item) rest c (record r { phase = x; kept = final })) (either_ground (begins_store final.items)) ends))
     (λ (l : 2 ≤ left).
     let z : eqb (left - 1) 0 ≡ false = grind (arith, nat_tests) in
     let s : ltb 1 left ≡ true = grind (arith, nat_tests) in
+    rw z (by_values (begins_store final.items)
+    (λ stored.
+    let values : drop 3 hand.args ++ c ∷ [] ≡ 49 ∷ 80 ∷ 48 ∷ [] =
+    begins_here (drop 3 hand.args) c hand.not_stored (ap begins_store (sym (drop_push hand.args c enough)) ∙ sym begins ∙ stored) in
+    let bytes : hand.args ++ c ∷ [] ≡ 107 ∷ q.pl ∷ q.ph ∷ 49 ∷ 80 ∷ 48 ∷ [] =
+    ap (λ xs. xs ++ c ∷ []) q.bytes ∙ ap (λ xs. 107 ∷ q.pl ∷ q.ph ∷ xs) values in
+    let many : 4 ≤ q.pl + 256 * q.ph = omega (arith, hand.left_is.count, l, hand.count_is, q.count_is, ap length bytes, length_push hand.args c) in
+    let new : EscReader = record r { phase = phases.Bytes kinds.Stored (left - 1); kept = final } in
+    continues c item new hand.begun p.listed (p.needs ∙ s) g (record {
+      command = Function;
+      args = hand.args ++ c ∷ [];
+      begun = begun_longer c hand.begun p.listed;
+      counted = refl;
+      left_is = p.left_is (omega arith);
+      rows = refl;
+      skipped = rw bytes refl;
+      stored = λ more. rw bytes refl;
+      gives = λ more. rw bytes (qr_given_is r.lead r.name q.pl q.ph (49 ∷ 80 ∷ 48 ∷ more) ∙ stored_given (q.pl + 256 * q.ph) more many
+          ∙ sym (ap (λ xs. xs ++ data_items kinds.Stored more) (qr_given_is r.lead r.name q.pl q.ph (49 ∷ 80 ∷ 48 ∷ []) ∙ stored_given (q.pl + 256 * q.ph) [] many)));
+    }))
+    (λ others.
     let new : EscReader = record r { phase = phases.Qr count (left - 1); kept = final } in
-    rw z (continues c item new hand.begun p.listed (p.needs ∙ s) g (record {
+    continues c item new hand.begun p.listed (p.needs ∙ s) g (record {
       args = hand.args ++ c ∷ [];
       begun = begun_longer c hand.begun p.listed;
       left_is = p.left_is (omega arith);
       is_qr = (front_push hand.args c enough).0 ∙ hand.is_qr;
       count_is = hand.count_is ∙ sym ((front_push hand.args c enough).1);
-      kept = k ∙ rw hand.kept (take_255_push (drop 3 hand.args) c) ∙ ap (take 255) (sym (drop_push hand.args c enough));
-    })))
+      kept = all;
+      not_stored = sym begins ∙ others;
+    }))))
     (cases_lt left 2)
+  where
+    either_ground : (b : Bool) → phases.Ground ≡ cond b phases.Ground phases.Ground
+    either_ground true = refl
+    either_ground false = refl
+
+    by_values : (b : Bool) → (b ≡ true → Advances (Ok item) rest c (record r { phase = phases.Bytes kinds.Stored (left - 1); kept = final }))
+        → (b ≡ false → Advances (Ok item) rest c (record r { phase = phases.Qr count (left - 1); kept = final }))
+        → Advances (Ok item) rest c (record r { phase = cond b (phases.Bytes kinds.Stored (left - 1)) (phases.Qr count (left - 1)); kept = final })
+    by_values true f g = f refl
+    by_values false f g = g refl

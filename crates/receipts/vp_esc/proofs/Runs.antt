@@ -53,6 +53,7 @@ no_items : (kind : Data) → data_items kind [] ≡ []
 no_items kinds.Skipped = refl
 no_items kinds.Raster = refl
 no_items kinds.Columns = refl
+no_items kinds.Stored = refl
 
 pub runs : (r : EscReader) (kind : Data) (left : ℕ) (bytes xs : List ℕ) → Stands (before_bytes r kind left) bytes → length xs ≤ left - 1
     → Runs r kind left bytes xs

@@ -1,5 +1,5 @@
 -- GS ( k: what the bytes behind the count have given.
-use Rattle.std.specs.Prelude.{ℕ, ◌-◌, ◌/◌, ◌%◌, ◌==◌, Bool, ◌&&◌, ◌||◌, Option, Some, None, List, [], ◌∷◌}
+use Rattle.std.specs.Prelude.{ℕ, ◌-◌, ◌/◌, ◌%◌, ◌==◌, Bool, false, ◌&&◌, ◌||◌, Option, Some, None, List, [], ◌∷◌}
 use Rattle.std.specs.Prelude.{map, nat_le, if◌then◌else◌}
 use Rattle.vp_esc.specs.declared.item.EscItem.{EscItem}
 use Rattle.vp_esc.specs.declared.item.EscItem.TheVariants as items
@@ -43,6 +43,11 @@ store_items count cn n more =
 -- function 81
 abbrev pub print_item : ℕ → ℕ → ℕ → EscItem
 print_item count cn n = if n == 48 then items.QrPrint else ignored count (cn ∷ 81 ∷ n ∷ [])
+
+-- cn 49, function 80 and 48: what comes behind is stored
+abbrev pub begins_store : List ℕ → Bool
+begins_store (cn ∷ function ∷ n ∷ more) = cn == 49 && function == 80 && n == 48
+begins_store values = false
 
 -- from the first value on
 unfoldable pub value_items : ℕ → ℕ → ℕ → ℕ → List ℕ → List EscItem

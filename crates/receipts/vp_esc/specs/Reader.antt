@@ -21,7 +21,8 @@ use Rattle.vp_esc.specs.declared.reader.Phase.TheVariants.{TallColumns, SymbolTo
 use Rattle.vp_esc.specs.Values.{is_kind_to_zero, column_mode_of, column_bytes}
 use Rattle.vp_esc.specs.Command.{lead_of, lead_byte, command_of, head_len, is_listed}
 use Rattle.vp_esc.specs.Units.{is_unfinished, given, fault_in, rises_from, data_len, given_by, word_at, is_counted}
-use Rattle.vp_esc.specs.Units.{single_item, prints_rows, is_skipped}
+use Rattle.vp_esc.specs.Units.{single_item, prints_rows, is_skipped, stores_bytes}
+use Rattle.vp_esc.specs.Qr.{begins_store}
 use Rattle.vp_esc.specs.Split.{split}
 
 -- the last number, or d
@@ -50,6 +51,10 @@ pub record HasLeft (command : Command) (args : List ℕ) (left : ℕ) : Type 0 w
 abbrev pub raster_items : List ℕ → List EscItem
 raster_items bytes = map (λ b. items.RasterByte b) bytes
 
+-- what bytes that are stored for a QR symbol give
+abbrev pub stored_items : List ℕ → List EscItem
+stored_items bytes = map (λ b. items.QrByte b) bytes
+
 -- a character, or a control that does nothing: no lead of a command, and no HT, LF, FF or CAN
 abbrev pub is_text : ℕ → Bool
 is_text b = is_none (lead_of b) && not (b == 0x09 || b == 0x0A || b == 0x0C || b == 0x18)
@@ -63,12 +68,14 @@ abbrev pub data_items : Data → List ℕ → List EscItem
 data_items kinds.Skipped bytes = []
 data_items kinds.Raster bytes = map (λ b. items.RasterByte b) bytes
 data_items kinds.Columns bytes = map (λ b. items.Column8 b) bytes
+data_items kinds.Stored bytes = map (λ b. items.QrByte b) bytes
 
 -- what a byte of data gives
 abbrev pub data_item : Data → ℕ → Option EscItem
 data_item kinds.Skipped b = None
 data_item kinds.Raster b = Some (items.RasterByte b)
 data_item kinds.Columns b = Some (items.Column8 b)
+data_item kinds.Stored b = Some (items.QrByte b)
 
 -- bytes of a raster that is printed
 abbrev pub are_rows : Data → Bool
@@ -78,6 +85,10 @@ are_rows _ = false
 abbrev pub give_nothing : Data → Bool
 give_nothing kinds.Skipped = true
 give_nothing _ = false
+
+abbrev pub are_stored : Data → Bool
+are_stored kinds.Stored = true
+are_stored _ = false
 
 -- the phase before `left` bytes of data
 abbrev pub bytes_or_ground : Data → ℕ → Phase
@@ -94,6 +105,11 @@ columns_or_ground Double24 count = tall_or_ground (3 * count)
 
 abbrev pub qr_or_ground : ℕ → ℕ → Phase
 qr_or_ground count left = if left == 0 then Ground else Qr count left
+
+-- behind these values of GS ( k
+abbrev pub behind_values : List ℕ → ℕ → ℕ → Phase
+behind_values values count left =
+    if begins_store values then bytes_or_ground kinds.Stored left else qr_or_ground count left
 
 -- what the bytes of a raster are
 abbrev pub raster_data : Option RasterScale → Data
@@ -118,6 +134,7 @@ pub record InBytes (r : EscReader) (kind : Data) (left : ℕ) (rest : List ℕ) 
   pub left_is : HasLeft command args left
   pub rows : prints_rows command args ≡ are_rows kind
   pub skipped : is_skipped command args ≡ give_nothing kind
+  pub stored : (more : List ℕ) → stores_bytes command (args ++ more) ≡ are_stored kind
   pub gives : (more : List ℕ) → given_by r.lead r.name command (args ++ more)
       ≡ given_by r.lead r.name command args ++ data_items kind more
 
@@ -151,6 +168,7 @@ pub record InQr (r : EscReader) (count left : ℕ) (rest : List ℕ) : Type 0 wh
   pub is_qr : slice_index args 0 ≡ 0x6B
   pub count_is : count ≡ word_at args 1
   pub kept : r.kept.items ≡ take 255 (drop 3 args)
+  pub not_stored : begins_store (drop 3 args) ≡ false
 
 -- the rest that a reader is in, by its phase
 abbrev pub in_phase : Phase → EscReader → List ℕ → Type 0

@@ -5,7 +5,7 @@ use Rattle.std.specs.List.{prefix_len}
 use Rattle.vp_esc.specs.declared.item.Lead.{Lead}
 use Rattle.vp_esc.specs.declared.command.Command.{Command}
 use Rattle.vp_esc.specs.Command.{lead_of, command_of, head_len, is_listed}
-use Rattle.vp_esc.specs.Units.{data_len, prints_rows, is_skipped}
+use Rattle.vp_esc.specs.Units.{data_len, prints_rows, is_skipped, stores_bytes}
 use Rattle.vp_esc.specs.Split.{split}
 use Rattle.vp_esc.specs.Reader.{is_text}
 
@@ -38,6 +38,10 @@ raster_left bytes = left_in prints_rows (split bytes).rest
 -- bytes of data that give nothing, before the last
 abbrev pub skipped_left : List ℕ → ℕ
 skipped_left bytes = left_in is_skipped (split bytes).rest
+
+-- bytes that are stored for a QR symbol, before the last
+abbrev pub stored_left : List ℕ → ℕ
+stored_left bytes = left_in stores_bytes (split bytes).rest
 
 abbrev pub text_in : List ℕ → List ℕ → ℕ
 text_in [] input = prefix_len is_text input

@@ -28,7 +28,7 @@ use Rattle.vp_esc.specs.Values
 use Rattle.vp_esc.specs.Values.{spelled, bit, is_feed_cut, is_kind_to_zero, column_mode_of, column_bytes}
 use Rattle.vp_esc.specs.Values.{scale_of}
 use Rattle.vp_esc.specs.Command.{lead_of, command_of, head_len, is_listed}
-use Rattle.vp_esc.specs.Qr.{qr_items}
+use Rattle.vp_esc.specs.Qr.{qr_items, begins_store}
 
 -- two bytes of a number, low byte first
 abbrev pub word_at : List ℕ → ℕ → ℕ
@@ -175,6 +175,11 @@ is_skipped Raster args = is_none (scale_of (slice_index args 1))
 is_skipped Function args = not (slice_index args 0 == 0x6B)
 is_skipped Graphics args = true
 is_skipped _ args = false
+
+-- a command of which the bytes behind its first three values are stored for a QR symbol
+abbrev pub stores_bytes : Command → List ℕ → Bool
+stores_bytes Function args = slice_index args 0 == 0x6B && begins_store (drop 3 args)
+stores_bytes _ args = false
 
 -- an item that is given once the command is whole
 abbrev pub at_last : Bool → EscItem → List EscItem

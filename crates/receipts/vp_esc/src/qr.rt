@@ -1,8 +1,8 @@
 //! GS ( k: what each byte gives, once the number of its bytes is known.
-ghost use Rattle.std.specs.Prelude.{◌≡◌, ◌≤◌, ◌<◌, ◌++◌, ◌∷◌, ◌/◌, ◌%◌, [], length, option_to_list, true};
+ghost use Rattle.std.specs.Prelude.{◌≡◌, ◌≤◌, ◌<◌, ◌++◌, ◌∷◌, ◌/◌, ◌%◌, [], length, option_to_list, true, false};
 ghost use Rattle.vp_esc.specs.Shown.{shown};
 ghost use Rattle.vp_esc.specs.Qr.{qr_items, value_items, is_qr_function as is_qr_function_as};
-ghost use Rattle.vp_esc.specs.Qr.{ignored as ignored_as};
+ghost use Rattle.vp_esc.specs.Qr.{ignored as ignored_as, begins_store as begins_store_as};
 
 use crate::event::Event;
 use crate::item::EscItem;
@@ -21,6 +21,13 @@ fn is_qr_function(cn: u8, function: u8, count: u16) -> bool
             || (function == 81 && count == 3))
 }
 
+/// Whether what comes behind these values is stored.
+pub fn begins_store(values: &[u8]) -> bool
+    ensures { result ≡ begins_store_as values.now }
+{
+    matches!(values, [49, 80, 48, ..])
+}
+
 /// One that is ignored is given, with the bytes behind the count.
 pub fn ignored(count: u16, bytes: &[u8], item: &mut EscItem) -> Event
     requires { length bytes.now ≤ 4 }
@@ -36,9 +43,10 @@ pub fn ignored(count: u16, bytes: &[u8], item: &mut EscItem) -> Event
 }
 
 #[tactic(auto, unfolding(crate::specs::Qr::qr_items, crate::specs::Qr::value_items))]
-/// What the byte after these values, which begin with cn, gives.
+/// What the byte after these values, which begin with cn, gives where it isn't stored.
 pub fn qr_given(count: u16, values: &[u8], byte: u8, item: &mut EscItem) -> Event
-    ensures { length values.now < count → qr_items count (values.now ++ byte ∷ [])
+    ensures { length values.now < count → begins_store_as values.now ≡ false →
+        qr_items count (values.now ++ byte ∷ [])
         ≡ qr_items count values.now ++ option_to_list (shown result item.new) }
 {
     match values {
@@ -60,12 +68,7 @@ pub fn qr_given(count: u16, values: &[u8], byte: u8, item: &mut EscItem) -> Even
             }
         }
         [cn, function, first, rest @ ..] => {
-            if !is_qr_function(*cn, *function, count) {
-                Event::Nothing
-            } else if *function == 80 && *first == 48 {
-                *item = EscItem::QrByte(byte);
-                Event::Given
-            } else if *function == 65 && rest.is_empty() {
+            if is_qr_function(*cn, *function, count) && *function == 65 && rest.is_empty() {
                 second_value(count, *cn, *first, byte, item)
             } else {
                 Event::Nothing

@@ -8,8 +8,8 @@ ghost use Rattle.vp_esc.specs.Shown.{shown, shown_answer, shown_loan};
 ghost use Rattle.vp_esc.specs.Reader.{Stands, StandsIn, Gives, Advances, Begun, Lands, InArguments, InStops};
 ghost use Rattle.vp_esc.specs.Reader.{InBytes, InTallColumns, InSymbolToZero, InSymbolData, InQr};
 ghost use Rattle.vp_esc.specs.Reader.{bytes_or_ground, tall_or_ground, columns_or_ground, qr_or_ground};
-ghost use Rattle.vp_esc.specs.Reader.{raster_data, raster_items, is_text, text_items};
-ghost use Rattle.vp_esc.specs.Runs.{raster_left, skipped_left, text_front};
+ghost use Rattle.vp_esc.specs.Reader.{behind_values, raster_data, raster_items, stored_items, is_text, text_items};
+ghost use Rattle.vp_esc.specs.Runs.{raster_left, skipped_left, stored_left, text_front};
 ghost use Rattle.vp_dots.specs.declared.fault.Fault.{Fault};
 ghost use Rattle.vp_esc.specs.Command.{lead_byte, head_len};
 ghost use Rattle.vp_esc.specs.Values.{is_kind_to_zero as is_to_zero};
@@ -18,7 +18,7 @@ ghost use Rattle.vp_esc.specs.Units.{single_item, symbol_with};
 use crate::command::{Command, unused};
 use crate::event::Event;
 use crate::item::{ColumnMode, EscItem, Lead, RasterScale};
-use crate::qr::{ignored, qr_given};
+use crate::qr::{begins_store, ignored, qr_given};
 use crate::value::{bar_code_of, column_mode_of, is_kind_to_zero, scale_of, spelled, word};
 use arrayvec::ArrayVec;
 use vp_dots::Fault;
@@ -31,6 +31,8 @@ enum Data {
     Raster,
     /// Columns of eight dots.
     Columns,
+    /// Bytes to be stored for a QR symbol.
+    Stored,
 }
 
 /// Where in a unit the reader is.
@@ -49,7 +51,7 @@ enum Phase {
     TallColumns(u32),
     SymbolToZero { kind: u8, more: bool },
     SymbolData { kind: u8, left: u8 },
-    /// Among the bytes of GS ( k behind its count.
+    /// Among the bytes of GS ( k behind its count, but for those that are stored.
     Qr { count: u16, left: u16 },
     Stopped(Fault),
 }
@@ -305,6 +307,7 @@ impl EscReader {
             Data::Skipped => return Event::Nothing,
             Data::Raster => self.item = EscItem::RasterByte(byte),
             Data::Columns => self.item = EscItem::Column8(byte),
+            Data::Stored => self.item = EscItem::QrByte(byte),
         }
         Event::Given
     }
@@ -377,7 +380,7 @@ impl EscReader {
     {
         let event = qr_given(count, self.kept.as_slice(), byte, &mut self.item);
         keep(&mut self.kept, byte);
-        self.phase = qr_phase(count, left.saturating_sub(1));
+        self.phase = phase_behind(self.kept.as_slice(), count, left.saturating_sub(1));
         event
     }
 
@@ -499,6 +502,33 @@ impl EscReader {
         }
     }
 
+    /// Takes bytes that are stored for a QR symbol, all but the last, and tells how many; none anywhere else.
+    pub fn take_stored(&mut self, input: &[u8]) -> usize
+        ensures count { (bytes : List ℕ) → Stands self.old bytes →
+            result ≡ min (length input.now) (stored_left bytes) }
+        ensures fits { result ≤ length input.now }
+        ensures gives { (bytes : List ℕ) (n : ℕ) → Stands self.old bytes → n ≤ result →
+            items (bytes ++ take n input.now) ≡ items bytes ++ stored_items (take n input.now) }
+        ensures known { (bytes : List ℕ) (n : ℕ) → Stands self.old bytes → 0 < n → n ≤ result →
+            fault_of (bytes ++ take n input.now) ≡ None }
+        ensures stands { (bytes : List ℕ) → Stands self.old bytes →
+            Stands self.new (bytes ++ take result input.now) }
+    {
+        let Phase::Bytes {
+            kind: Data::Stored,
+            left,
+        } = self.phase
+        else {
+            return 0;
+        };
+        let stored = input.len().min(left.saturating_sub(1) as usize);
+        self.phase = Phase::Bytes {
+            kind: Data::Stored,
+            left: left - stored as u32,
+        };
+        stored
+    }
+
     /// Takes the text at the front, characters and controls that do nothing, and tells how many bytes it has;
     /// none inside a command.
     pub fn take_text(&mut self, input: &[u8]) -> usize
@@ -571,6 +601,17 @@ fn qr_phase(count: u16, left: u16) -> Phase
         Phase::Ground
     } else {
         Phase::Qr { count, left }
+    }
+}
+
+/// The same behind these values.
+fn phase_behind(values: &[u8], count: u16, left: u16) -> Phase
+    ensures { result ≡ behind_values values.now count left }
+{
+    if begins_store(values) {
+        bytes_phase(Data::Stored, left as u32)
+    } else {
+        qr_phase(count, left)
     }
 }
 

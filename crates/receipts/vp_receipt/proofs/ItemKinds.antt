@@ -1,5 +1,6 @@
 -- What items of some kinds leave alone.
-use Rattle.std.proofs.Common.{◌≡◌, ℕ, Bool, true, false, ◌&&◌, refl, List, [], ◌∷◌, Option, Some, None}
+use Rattle.std.proofs.Common.{◌≡◌, ℕ, ◌<◌, Bool, true, false, ◌&&◌, refl, List, [], ◌∷◌, ◌++◌, length, Option, Some, None, sym, ap, subst, ◌∙◌, arith}
+use Rattle.std.proofs.lemmas.List.{append-nil}
 use Rattle.vp_esc.specs.declared.item.EscItem.{EscItem}
 use Rattle.vp_esc.specs.declared.item.EscItem.TheVariants.{CarriageReturn, Control, QrIgnored, WithoutEffect, QrPrint, Symbol as SetSymbol, QrByte}
 use Rattle.arrayvec.specs.ArrayVec.{ArrayVec}
@@ -12,13 +13,17 @@ use Rattle.vp_receipt_settings.specs.declared.page_mode.PrinterMode.TheVariants.
 use Rattle.vp_receipt_settings.specs.Setup.{Setup}
 use Rattle.vp_receipt_settings.specs.Tabs.{tab_stops}
 use Rattle.vp_receipt_settings.specs.Symbols.{qr_data, symbol_image, image_rows}
+use Rattle.vp_receipt_settings.specs.declared.raster.Raster.{Raster}
+use Rattle.vp_receipt_settings.specs.Gathering.{IsGathering}
+use Rattle.vp_receipt_settings.specs.Runs.{stored_after}
+use Rattle.vp_receipt_settings.proofs.Storing.{stored_first}
 use Rattle.vp_receipt_settings.specs.Pages.{is_paged}
 use Rattle.vp_receipt_settings.specs.Line.{line, mode}
 use Rattle.vp_receipt_settings.specs.Settings.{settings_of}
 use Rattle.vp_strips.specs.declared.symbol.Symbol.{Symbol}
 use Rattle.vp_strips.specs.SymbolInks.{is_symbol, symbol_height, IsSymbolOf}
 use Rattle.vp_receipt.specs.PageMarks.{layers}
-use Rattle.vp_receipt.specs.Strips.{prints, refusal, printed_page}
+use Rattle.vp_receipt.specs.Strips.{prints, refusal, printed, printed_page}
 use Rattle.vp_receipt.proofs.Runs.{nothing_by}
 
 -- commands that do nothing
@@ -59,6 +64,44 @@ pub record Stores (setup : Setup) (before : List EscItem) (item : EscItem) : Typ
 
 pub stores : (setup : Setup) (before : List EscItem) (byte : ℕ) → Stores setup before (QrByte byte)
 stores setup before byte = record { settings = refl; line = refl; stops = refl; mode = refl; layers = refl; refusal = refl; prints = nothing_by (mode setup before) }
+
+-- bytes that are stored leave all else alone
+pub record StoresAll (setup : Setup) (before after : List EscItem) : Type 0 where
+  pub settings : settings_of setup after ≡ settings_of setup before
+  pub line : line setup after ≡ line setup before
+  pub stops : tab_stops after ≡ tab_stops before
+  pub mode : mode setup after ≡ mode setup before
+  pub layers : layers setup after ≡ layers setup before
+  pub printed : printed setup after ≡ printed setup before
+
+pub stores_all : (setup : Setup) (bytes : List ℕ) (before : List EscItem) → StoresAll setup before (stored_after bytes before)
+stores_all setup [] before = record { settings = refl; line = refl; stops = refl; mode = refl; layers = refl; printed = refl }
+stores_all setup (b ∷ bytes) before =
+    let one = stores setup before b in
+    let none : printed setup (QrByte b ∷ before) ≡ printed setup before =
+    ap (λ x. printed setup before ++ x) one.prints ∙ append-nil (printed setup before) in
+    let more = stores_all setup bytes (QrByte b ∷ before) in
+    subst (λ (after : List EscItem). StoresAll setup before after) (sym (stored_first b bytes before)) (record {
+      settings = more.settings ∙ one.settings;
+      line = more.line ∙ one.line;
+      stops = more.stops ∙ one.stops;
+      mode = more.mode ∙ one.mode;
+      layers = more.layers ∙ one.layers;
+      printed = more.printed ∙ none;
+    })
+
+stored_ends : (r : Raster) (bytes : List ℕ) (before : List EscItem) → IsGathering r before → IsGathering r [] → IsGathering r (stored_after bytes before)
+stored_ends r [] before g none = g
+stored_ends r (b ∷ bytes) before g none =
+    subst (λ (after : List EscItem). IsGathering r after) (sym (stored_first b bytes before))
+    (stored_ends r bytes (QrByte b ∷ before) (record { scale = none.scale; bytes = none.bytes; rows = none.rows; got = none.got; row = none.row }) none)
+
+-- and end the raster that came
+pub raster_ends : (r : Raster) (bytes : List ℕ) (before : List EscItem) → 0 < length bytes → IsGathering r [] → IsGathering r (stored_after bytes before)
+raster_ends r [] before some none = absurd (omega arith)
+raster_ends r (b ∷ bytes) before some none =
+    subst (λ (after : List EscItem). IsGathering r after) (sym (stored_first b bytes before))
+    (stored_ends r bytes (QrByte b ∷ before) (record { scale = none.scale; bytes = none.bytes; rows = none.rows; got = none.got; row = none.row }) none)
 
 -- one that prints no symbol
 pub no_image : (setup : Setup) (before : List EscItem) (item : EscItem) → is_symbol item ≡ false → symbol_image setup before item ≡ None

@@ -1,7 +1,7 @@
 //! The printer: what it stands after, and what is still to be put out.
 ghost use Rattle.std.specs.List.{AllByRecursion};
 ghost use Rattle.vp_esc.specs.Reader.{is_text};
-ghost use Rattle.vp_receipt_settings.specs.Runs.{text_room, text_after, raster_run};
+ghost use Rattle.vp_receipt_settings.specs.Runs.{text_room, text_after, stored_after, raster_run};
 ghost use Rattle.vp_strips.specs.SymbolInks.{is_symbol};
 ghost use Rattle.std.specs.Prelude.{◌≡◌, ◌≤◌, ◌<◌, ◌+◌, ◌∷◌, ◌++◌, ◌↔◌, List, [], IsTrue, Some, None, IfOk, MatchResult, OnOk, OnErr, length, min, take, drop, true, unwrap_or};
 ghost use Rattle.vp_esc.specs.declared.item.EscItem.{EscItem};
@@ -267,6 +267,22 @@ impl Receipt {
         put_text(&mut self.settings, text, &self.canvas.sheets, bitmap);
         self.waiting = None;
         self.raster.end();
+    }
+
+    /// Takes bytes that are stored for a QR symbol: they print nothing.
+    pub fn apply_stored(&mut self, bytes: &[u8])
+        requires { self.old.pending ≡ [] }
+        ensures prints { (setup : Setup) (before : List EscItem) → Stands setup self.old before →
+            printed setup (stored_after bytes.now before) ≡ printed setup before }
+        ensures stands { (setup : Setup) (before : List EscItem) → Stands setup self.old before →
+            Stands setup self.new (stored_after bytes.now before) }
+        ensures pending { self.new.pending ≡ [] }
+    {
+        if bytes.is_empty() {
+            return;
+        }
+        self.raster.end();
+        self.stored.take_all(bytes);
     }
 
     /// How many bytes of a raster come before one that prints: in standard mode that is the one that ends the

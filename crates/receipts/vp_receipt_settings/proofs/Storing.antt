@@ -1,7 +1,14 @@
--- Bytes that are stored one by one, as many as there is room for.
-use Rattle.std.proofs.Common.{◌≡◌, ℕ, ◌<◌, ◌≤◌, true, nat_lt, List, [], ◌∷◌, ◌++◌, length, take, ap, sym, ◌∙◌, arith, length-append}
-use Rattle.std.proofs.lemmas.List.{take-append-le, take_all, length-take}
-use Rattle.std.proofs.lemmas.Bool.{lt-ltb, le-ltb}
+-- Bytes that are stored, one by one and in runs.
+use Rattle.std.proofs.Common.{◌≡◌, ℕ, ◌+◌, ◌-◌, ◌<◌, ◌≤◌, true, Bool, nat_lt, List, [], ◌∷◌, ◌++◌, length, take, reverse, min, ap, sym, ◌∙◌, append_assoc, arith, length-append, ⊎_elim}
+use Rattle.std.proofs.lemmas.List.{append-nil, reverse-append, take-append-le, take_all, take_min, length-take}
+use Rattle.std.proofs.lemmas.Bool.Decides.{nat_tests}
+use Rattle.std.proofs.lemmas.Bool.{lt-ltb, le-ltb, cases_lt}
+use Rattle.std.proofs.Math.Seq.{take-append-add}
+use Rattle.vp_esc.specs.declared.item.EscItem.{EscItem}
+use Rattle.vp_esc.specs.declared.item.EscItem.TheVariants.{QrByte}
+use Rattle.vp_esc.specs.Reader.{stored_items}
+use Rattle.vp_receipt_settings.specs.Runs.{stored_after}
+use Rattle.vp_receipt_settings.specs.Symbols.{qr_data}
 
 module _ (room : ℕ) (kept came : List ℕ) (byte : ℕ) (k : kept ≡ take room came) where
   pub kept_one : length kept < room → kept ++ byte ∷ [] ≡ take room (came ++ byte ∷ [])
@@ -19,3 +26,43 @@ module _ (room : ℕ) (kept came : List ℕ) (byte : ℕ) (k : kept ≡ take roo
 
   pub one_more : room ≤ length kept → true ≡ nat_lt room (length (came ++ byte ∷ []))
   one_more h = sym (lt-ltb room (length (came ++ byte ∷ [])) (omega (arith, length-append came (byte ∷ []), ap length k, length-take room came)))
+
+-- the oldest byte first
+pub stored_first : (b : ℕ) (bytes : List ℕ) (before : List EscItem) → stored_after (b ∷ bytes) before ≡ stored_after bytes (QrByte b ∷ before)
+stored_first b bytes before =
+    ap (λ (x : List EscItem). x ++ before) (reverse-append (QrByte b ∷ []) (stored_items bytes))
+    ∙ append_assoc (reverse (stored_items bytes)) (QrByte b ∷ []) before
+
+pub data_after : (bytes : List ℕ) (before : List EscItem) → qr_data (stored_after bytes before) ≡ qr_data before ++ bytes
+data_after [] before = sym (append-nil (qr_data before))
+data_after (b ∷ bytes) before =
+    ap qr_data (stored_first b bytes before) ∙ data_after bytes (QrByte b ∷ before) ∙ append_assoc (qr_data before) (b ∷ []) bytes
+
+module _ (kept came bytes : List ℕ) (k : kept ≡ take 652 came) where
+  room_is : (n : ℕ) → n ≡ min (652 - length kept) (length bytes) → take n bytes ≡ take (652 - length came) bytes
+  room_is n e =
+      let room : 652 - length kept ≡ 652 - length came = omega (arith, ap length k, length-take 652 came) in
+      ap (λ m. take m bytes) (e ∙ ap (λ m. min m (length bytes)) room) ∙ take_min (652 - length came) bytes
+
+  pub kept_run : (n : ℕ) → n ≡ min (652 - length kept) (length bytes) → kept ++ take n bytes ≡ take 652 (came ++ bytes)
+  kept_run n e = ⊎_elim
+      (λ (h : length came < 652).
+      let sum : length came + (652 - length came) ≡ 652 = omega (arith, h) in
+      ap (λ (xs : List ℕ). xs ++ take n bytes) (k ∙ take_all 652 came (omega (arith, h)))
+      ∙ ap (λ (xs : List ℕ). came ++ xs) (room_is n e) ∙ sym (take-append-add came bytes (652 - length came))
+      ∙ ap (λ m. take m (came ++ bytes)) sum)
+      (λ (h : 652 ≤ length came).
+      let none : 652 - length came ≡ 0 = omega (arith, h) in
+      ap (λ (xs : List ℕ). kept ++ xs) (room_is n e ∙ ap (λ m. take m bytes) none) ∙ append-nil kept ∙ k
+      ∙ sym (take-append-le 652 came bytes h))
+      (cases_lt (length came) 652)
+
+  -- all of them go in
+  pub all_fit : (n : ℕ) (more : Bool) → n ≡ min (652 - length kept) (length bytes) → n ≡ length bytes → more ≡ nat_lt 652 (length came)
+      → more ≡ nat_lt 652 (length (came ++ bytes))
+  all_fit n more e all m =
+      grind (arith, nat_tests, ap length k, length-take 652 came, length-append came bytes)
+
+  -- some do not
+  pub some_left : (n : ℕ) → n ≡ min (652 - length kept) (length bytes) → n < length bytes → true ≡ nat_lt 652 (length (came ++ bytes))
+  some_left n e some = sym (lt-ltb 652 (length (came ++ bytes)) (omega (arith, ap length k, length-take 652 came, length-append came bytes)))

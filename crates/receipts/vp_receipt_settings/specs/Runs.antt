@@ -1,7 +1,7 @@
--- What comes in a run: text, and bytes of a raster.
+-- What comes in a run: text, bytes that are stored, and bytes of a raster.
 use Rattle.std.specs.Prelude.{ℕ, ◌-◌, ◌/◌, nat_lt, List, ◌++◌, reverse}
 use Rattle.vp_esc.specs.declared.item.EscItem.{EscItem}
-use Rattle.vp_esc.specs.Reader.{text_items}
+use Rattle.vp_esc.specs.Reader.{text_items, stored_items}
 use Rattle.vp_glyph.specs.Cells.{cell_width}
 use Rattle.vp_receipt_settings.specs.declared.page_mode.PrinterMode.{PrinterMode}
 use Rattle.vp_receipt_settings.specs.declared.page_mode.PrinterMode.TheVariants.{Standard, Page}
@@ -14,6 +14,10 @@ use Rattle.vp_receipt_settings.specs.Rasters.{bytes_within_row, bytes_to_come}
 -- the items with those of this text after them
 abbrev pub text_after : List ℕ → List EscItem → List EscItem
 text_after text before = reverse (text_items text) ++ before
+
+-- the items with these bytes after them, which are stored for a QR symbol
+abbrev pub stored_after : List ℕ → List EscItem → List EscItem
+stored_after bytes before = reverse (stored_items bytes) ++ before
 
 -- how many characters go into the line before one could break it
 abbrev pub text_room : Settings → ℕ

@@ -1,6 +1,7 @@
 //! The bytes that are stored for a QR symbol.
-ghost use Rattle.std.specs.Prelude.{◌∷◌, ◌++◌, [], List, ℕ};
+ghost use Rattle.std.specs.Prelude.{◌≡◌, ◌+◌, ◌≤◌, ◌∷◌, ◌++◌, [], List, ℕ, length};
 ghost use Rattle.vp_esc.specs.declared.item.EscItem.{EscItem};
+ghost use Rattle.vp_receipt_settings.specs.Runs.{stored_after};
 ghost use Rattle.vp_receipt_settings.specs.Symbols.{qr_data, IsStored};
 
 use arrayvec::ArrayVec;
@@ -15,6 +16,14 @@ pub struct Stored {
     pub bytes: ArrayVec<u8, STORED_BYTES>,
     /// Whether there were more.
     pub more: bool,
+}
+
+/// Appends bytes that there is room for.
+fn append(kept: &mut ArrayVec<u8, STORED_BYTES>, bytes: &[u8])
+    requires { length kept.old.items + length bytes.now ≤ STORED_BYTES }
+    ensures { kept.new.items ≡ kept.old.items ++ bytes.now }
+{
+    let _fits = kept.try_extend_from_slice(bytes);
 }
 
 impl Stored {
@@ -35,6 +44,19 @@ impl Stored {
     {
         if self.bytes.len() < STORED_BYTES {
             self.bytes.push(byte);
+            return;
+        }
+        self.more = true;
+    }
+
+    /// Stores bytes as far as there is room, or marks that there are more.
+    pub fn take_all(&mut self, bytes: &[u8])
+        ensures { (before : List EscItem) → IsStored self.old (qr_data before) →
+            IsStored self.new (qr_data (stored_after bytes.now before)) }
+    {
+        let n = self.bytes.remaining_capacity().min(bytes.len());
+        append(&mut self.bytes, &bytes[..n]);
+        if n == bytes.len() {
             return;
         }
         self.more = true;

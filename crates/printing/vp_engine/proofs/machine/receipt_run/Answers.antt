@@ -1,12 +1,12 @@
 use Rattle.std.proofs.Common.{[], ◌≡◌, ◌≤◌, ◌++◌, ℕ, List, take, drop, length, reverse, sym, ap, subst, ◌∙◌, arith}
 use Rattle.std.proofs.lemmas.List.{take-take, length-take-le, take_at, drop_at, append-nil}
-use Rattle.vp_esc.specs.Reader.{Stands as EscStands, raster_items, text_items}
+use Rattle.vp_esc.specs.Reader.{Stands as EscStands, raster_items, stored_items, text_items}
 use Rattle.vp_esc.specs.declared.reader.EscReader.{EscReader}
-use Rattle.vp_receipt_settings.specs.Runs.{text_after}
+use Rattle.vp_receipt_settings.specs.Runs.{text_after, stored_after}
 use Rattle.vp_esc.specs.Split.{items}
 use Rattle.vp_engine.specs.Paper.{printed}
 use Rattle.vp_engine.specs.Setups.{Receipts, rules_of}
-use Rattle.vp_engine.proofs.Rasters.{known_run, accepted_bytes, printed_same}
+use Rattle.vp_engine.proofs.Rasters.{known_run, accepted_bytes, accepted_stored, printed_same}
 use Rattle.vp_engine.proofs.Texts.{accepted_text}
 use Rattle.vp_engine.proofs.machine.receipt_run.Goals as goal
 
@@ -50,6 +50,23 @@ returns-then-text-gt0-clause-takes c s t before reads at known =
       stands = (subst (λ x. EscStands c.take_text-text.new.self (t ++ x)) front (e.stands t still), a.stands s before at);
     }
 
+pub returns-then-stored-gt0-clause-takes : goal.returns-then-stored-gt0-clause-takes
+returns-then-stored-gt0-clause-takes c s t before reads at known =
+    let e = c.take_stored-stored.ensures in
+    let n = c.take_stored-stored.result in
+    let input = c.args.input.now in
+    let idle : EscStands c.take_skipped-skipped.new.self t = still_stands c.take_skipped-skipped.new.self t input c.take_skipped-skipped.result (omega (arith, c.if-skipped-gt0.false)) (c.take_skipped-skipped.ensures.stands t reads) in
+    let still : EscStands c.take_text-text.new.self t = still_stands c.take_text-text.new.self t (take c.min-room.result input) c.take_text-text.result (omega (arith, c.if-text-gt0.false)) (c.take_text-text.ensures.stands t idle) in
+    let a = c.apply_stored.ensures in
+    record {
+      added = stored_items (take n input);
+      gives = e.gives t n still (omega arith);
+      known = e.known t n still c.if-stored-gt0.true (omega arith);
+      accepted = accepted_stored s (take n input) before;
+      prints = printed_same s (stored_after (take n input) before) ∙ a.prints s before at ∙ sym (printed_same s before) ∙ sym (append-nil (printed (rules_of (Receipts s)) before));
+      stands = (e.stands t still, a.stands s before at);
+    }
+
 pub returns-clause-rest : goal.returns-clause-rest
 returns-clause-rest c =
     let put = c.put_rows-put.result in
@@ -67,7 +84,8 @@ returns-clause-takes c s t before reads at known =
     let long : length (take room input) ≡ room = length-take-le room input within in
     let less : n ≤ room = omega (arith, e.fits, long) in
     let idle : EscStands c.take_skipped-skipped.new.self t = still_stands c.take_skipped-skipped.new.self t input c.take_skipped-skipped.result (omega (arith, c.if-skipped-gt0.false)) (c.take_skipped-skipped.ensures.stands t reads) in
-    let still : EscStands c.take_text-text.new.self t = still_stands c.take_text-text.new.self t (take c.min-room.result input) c.take_text-text.result (omega (arith, c.if-text-gt0.false)) (c.take_text-text.ensures.stands t idle) in
+    let calm : EscStands c.take_text-text.new.self t = still_stands c.take_text-text.new.self t (take c.min-room.result input) c.take_text-text.result (omega (arith, c.if-text-gt0.false)) (c.take_text-text.ensures.stands t idle) in
+    let still : EscStands c.take_stored-stored.new.self t = still_stands c.take_stored-stored.new.self t input c.take_stored-stored.result (omega (arith, c.if-stored-gt0.false)) (c.take_stored-stored.ensures.stands t calm) in
     let front : take n (take room input) ≡ take n input = take-take n room input less in
     let a = c.put_rows-put.ensures in
     let put = c.put_rows-put.result in

@@ -17,3 +17,8 @@ pub returns-in-Columns : goal.returns-in-Columns
 returns-in-Columns c rest hand =
     rw (c.bytes_phase-self.ensures, c.saturating_sub.ensures, c.in-Columns.is)
     (advances_giving _ _ (bytes_step c.args.self.now kinds.Columns c.args.left c.args.byte rest (rw c.in-Columns.is at hand)))
+
+pub returns-in-Stored : goal.returns-in-Stored
+returns-in-Stored c rest hand =
+    rw (c.bytes_phase-self.ensures, c.saturating_sub.ensures, c.in-Stored.is)
+    (advances_giving _ _ (bytes_step c.args.self.now kinds.Stored c.args.left c.args.byte rest (rw c.in-Stored.is at hand)))
