@@ -5,16 +5,16 @@ ghost use Rattle.vp_dots.specs.Dots.{dot, span};
 ghost use Rattle.vp_dots.specs.contracts.band.Band.{the_row};
 
 use crate::room::filled;
-use std::alloc::{AllocError, Global};
+use std::alloc::{AllocError, Allocator, Global};
 use std::marker::Model;
 
 /// H rows of B bytes, each byte eight dots.
 #[derive(Drop)]
-pub struct Band<const B: usize, const H: usize> {
-    rows: Vec<[u8; B]>,
+pub struct Band<const B: usize, const H: usize, A: Allocator = Global> {
+    rows: Vec<[u8; B], A>,
 }
 
-impl<const B: usize, const H: usize> Model for Band<B, H> {
+impl<const B: usize, const H: usize, A: Allocator> Model for Band<B, H, A> {
     ghost use Rattle.std.specs.Prelude.{ℕ, List, ◌≡◌, ◌*◌, ◌≤◌, ◌^◌, length, vec_capacity};
 
     ghost Value = { List (List ℕ) };
@@ -28,9 +28,9 @@ impl<const B: usize, const H: usize> Model for Band<B, H> {
     } };
 }
 
-impl<const B: usize, const H: usize> Band<B, H> {
+impl<const B: usize, const H: usize, A: Allocator> Band<B, H, A> {
     /// A white band, of at most 2^28 bytes: the only call that takes memory.
-    pub fn new(alloc: Global) -> Result<Self, AllocError>
+    pub fn new(alloc: A) -> Result<Self, AllocError>
         requires { B * H ≤ 2 ^ 28 }
         ensures { IfOk result (λ band. band ≡ replicate H (replicate B 0)) }
     {
@@ -93,7 +93,7 @@ impl<const B: usize, const H: usize> Band<B, H> {
     pub fn row_mut(&mut self, y: usize) -> &mut [u8]
         requires { y < H }
         ensures* writes_back { sem 𝓛
-            (Lends (the_row B.row H.row) (Array byte 0) self.entry result (slice_set self.old y)) }
+            (Lends (the_row B.row H.row A.row A.Allocator) (Array byte 0) self.entry result (slice_set self.old y)) }
         ensures value { result.now ≡ slice_index_or self.old y [] }
         ensures len { length result.now ≡ B }
         ensures rows { length self.old ≡ H }

@@ -8,6 +8,7 @@ ghost use Rattle.vp_dots.specs.Blocks.{swap_place, block_dot, columns_dot, acros
 use crate::span::paint_masked;
 use crate::word::{eight_at, paint_few, word_of};
 use crate::{Band, Op};
+use std::alloc::Allocator;
 
 /// Exchanges the bits of the mask with those s places above them.
 #[inline(always)]
@@ -52,14 +53,14 @@ fn block_at<const N: usize>(lines: &[[u8; N]; 8], j: usize) -> u64
 /// Paints `rows` rows of a block, from row `skip` of it on, with their left at column `left` and the first on
 /// row `top`.
 #[inline(always)]
-fn lay_block_rows<const B: usize, const H: usize>(
+fn lay_block_rows<const B: usize, const H: usize, A: Allocator>(
     op: Op,
     block: u64,
     skip: usize,
     rows: usize,
     left: usize,
     top: usize,
-    band: &mut Band<B, H>,
+    band: &mut Band<B, H, A>,
 )
     requires dots { rows ≤ 8 - skip }
     requires inside { rows ≤ H - top }
@@ -76,13 +77,13 @@ fn lay_block_rows<const B: usize, const H: usize>(
 /// Paints the rows of a block from row `skip` of it on, as far as the band has rows for them.
 // Called where lines begin or end, and so kept out of the loop over their bytes.
 #[inline(never)]
-fn lay_part<const B: usize, const H: usize>(
+fn lay_part<const B: usize, const H: usize, A: Allocator>(
     op: Op,
     block: u64,
     skip: usize,
     left: usize,
     top: usize,
-    band: &mut Band<B, H>,
+    band: &mut Band<B, H, A>,
 )
     requires left { left < 2 ^ 63 }
     ensures { RowsPainted H op (block_dot block skip left top) band.old band.new }
@@ -94,12 +95,12 @@ fn lay_part<const B: usize, const H: usize>(
 /// Paints the rows of a block, each on one byte, and the first on row `top`.
 // A call for each block leaves the loop over blocks short.
 #[inline(never)]
-fn lay_bytes<const B: usize, const H: usize>(
+fn lay_bytes<const B: usize, const H: usize, A: Allocator>(
     op: Op,
     block: u64,
     column: usize,
     top: usize,
-    band: &mut Band<B, H>,
+    band: &mut Band<B, H, A>,
 )
     requires inside { top + 8 ≤ H }
     ensures { RowsPainted H op (block_dot block 0 (8 * column) top) band.old band.new }
@@ -113,13 +114,13 @@ fn lay_bytes<const B: usize, const H: usize>(
 /// Paints the rows of a block from row `skip` of it on, as far as the band has rows for them. Mostly it has
 /// all eight, and often each falls on one byte.
 #[inline(always)]
-fn lay_block<const B: usize, const H: usize>(
+fn lay_block<const B: usize, const H: usize, A: Allocator>(
     op: Op,
     block: u64,
     skip: usize,
     left: usize,
     top: usize,
-    band: &mut Band<B, H>,
+    band: &mut Band<B, H, A>,
 )
     requires left { left < 2 ^ 63 }
     ensures { RowsPainted H op (block_dot block skip left top) band.old band.new }
@@ -151,14 +152,14 @@ fn are_white<const N: usize>(lines: &[[u8; N]; 8], j: usize) -> bool
 
 /// Paints what byte j of each of eight lines blackens, where the bytes before it are painted.
 #[inline(always)]
-fn lay_next<const N: usize, const B: usize, const H: usize>(
+fn lay_next<const N: usize, const B: usize, const H: usize, A: Allocator>(
     op: Op,
     lines: &[[u8; N]; 8],
     j: usize,
     skip: usize,
     left: usize,
     top: usize,
-    band: &mut Band<B, H>,
+    band: &mut Band<B, H, A>,
 )
     requires j { j < N }
     requires left { left < 2 ^ 63 }
@@ -178,13 +179,13 @@ fn lay_next<const N: usize, const B: usize, const H: usize>(
 
 /// Paints eight columns, the first at `left`, where eight lines are black, their dots `skip` on row `top`.
 /// Where they are white they are passed eight bytes at once.
-fn lay_from<const N: usize, const B: usize, const H: usize>(
+fn lay_from<const N: usize, const B: usize, const H: usize, A: Allocator>(
     op: Op,
     lines: &[[u8; N]; 8],
     skip: usize,
     left: usize,
     top: usize,
-    band: &mut Band<B, H>,
+    band: &mut Band<B, H, A>,
 )
     requires left { left < 2 ^ 63 }
     requires top { top ≤ 2 ^ 63 }
@@ -203,12 +204,12 @@ fn lay_from<const N: usize, const B: usize, const H: usize>(
 }
 
 /// Paints eight columns, the first at `left`, where eight lines are black: their dots d on rows d + at.
-pub fn lay_eight<const N: usize, const B: usize, const H: usize>(
+pub fn lay_eight<const N: usize, const B: usize, const H: usize, A: Allocator>(
     op: Op,
     lines: &[[u8; N]; 8],
     left: usize,
     at: i64,
-    band: &mut Band<B, H>,
+    band: &mut Band<B, H, A>,
 )
     requires left { left < 2 ^ 63 }
     requires few { N ≤ 2 ^ 28 }

@@ -5,6 +5,7 @@ ghost use Rattle.vp_dots.specs.Places.{placed, words_dot, RowsPainted};
 
 use crate::word::paint_word;
 use crate::{Band, Ink, Op, WORDS};
+use std::alloc::Allocator;
 
 /// The first row that ink with its top at this row may meet.
 fn first_row(top: i64) -> u64
@@ -43,12 +44,12 @@ fn line_on(top: i64, y: u64) -> Option<u32>
 
 /// Applies the operation to the dots of the band where the ink, with its top left place at column
 /// `left` of row `top`, has ink: line by line.
-fn paint_lines<I: Ink, const B: usize, const H: usize>(
+fn paint_lines<I: Ink, const B: usize, const H: usize, A: Allocator>(
     ink: &I,
     op: Op,
     left: i64,
     top: i64,
-    band: &mut Band<B, H>,
+    band: &mut Band<B, H, A>,
 )
     ensures { RowsPainted H op (placed left top (I.ink_at ink.now)) band.old band.new }
 {
@@ -71,13 +72,13 @@ fn row_for(top: i64, h: u32, rows: usize) -> Option<usize>
 
 /// Paints the first `h` words, one on each row from `top` on.
 #[inline(always)]
-fn paint_words_by<const B: usize, const H: usize>(
+fn paint_words_by<const B: usize, const H: usize, A: Allocator>(
     op: Op,
     words: &[u64],
     h: usize,
     left: i64,
     top: usize,
-    band: &mut Band<B, H>,
+    band: &mut Band<B, H, A>,
 )
     requires few { h ≤ length words.now }
     requires room { top + h ≤ H }
@@ -89,13 +90,13 @@ fn paint_words_by<const B: usize, const H: usize>(
 }
 
 /// Paints the first h words, each as a row of a band, from a row on and moved by an offset.
-pub fn paint_words<const B: usize, const H: usize>(
+pub fn paint_words<const B: usize, const H: usize, A: Allocator>(
     op: Op,
     words: &[u64],
     h: usize,
     left: i64,
     top: usize,
-    band: &mut Band<B, H>,
+    band: &mut Band<B, H, A>,
 )
     requires few { h ≤ length words.now }
     requires room { top + h ≤ H }
@@ -110,12 +111,12 @@ pub fn paint_words<const B: usize, const H: usize>(
 
 /// Applies the operation to the dots of the band where the ink, with its top left
 /// place at column `left` of row `top`, has ink.
-pub fn paint_at<I: Ink, const B: usize, const H: usize>(
+pub fn paint_at<I: Ink, const B: usize, const H: usize, A: Allocator>(
     ink: &I,
     op: Op,
     left: i64,
     top: i64,
-    band: &mut Band<B, H>,
+    band: &mut Band<B, H, A>,
 )
     ensures { RowsPainted H op (placed left top (I.ink_at ink.now)) band.old band.new }
 {

@@ -2,7 +2,7 @@
 ghost use Rattle.std.specs.Prelude.{◌≡◌, ℕ, ◌+◌, ◌<◌, ◌≤◌, ◌↔◌, List, [], ◌∷◌, ◌++◌, length, IfOk, IsOk, OnOk, OnErr};
 
 use crate::room::append_reserved;
-use std::alloc::{AllocError, Global};
+use std::alloc::{AllocError, Allocator, Global};
 use std::marker::Model;
 use thiserror::Error;
 
@@ -13,11 +13,11 @@ pub struct Full;
 
 /// At most N bytes.
 #[derive(Drop)]
-pub struct Store<const N: usize> {
-    bytes: Vec<u8>,
+pub struct Store<const N: usize, A: Allocator = Global> {
+    bytes: Vec<u8, A>,
 }
 
-impl<const N: usize> Model for Store<N> {
+impl<const N: usize, A: Allocator> Model for Store<N, A> {
     ghost use Rattle.std.specs.Prelude.{ℕ, List, ◌≡◌, ◌≤◌, length, vec_capacity};
 
     ghost Value = { List ℕ };
@@ -27,9 +27,9 @@ impl<const N: usize> Model for Store<N> {
     ghost invariant = { λ s. record { filled : length s.bytes.items ≤ N; room : vec_capacity s.bytes ≡ N } };
 }
 
-impl<const N: usize> Store<N> {
+impl<const N: usize, A: Allocator> Store<N, A> {
     /// An empty store, with room for N bytes: the only call that takes memory.
-    pub fn new(alloc: Global) -> Result<Self, AllocError>
+    pub fn new(alloc: A) -> Result<Self, AllocError>
         ensures { IfOk result (λ store. store ≡ []) }
     {
         Ok(Store {

@@ -1,0 +1,8 @@
+use Rattle.std.proofs.Common.{◌≡◌, ◌++◌, take, vec_capacity}
+use Rattle.vp_dots.proofs.room.with_more.Given as goal
+
+abbrev pub invariant-loop-value : goal.invariant-loop-value
+invariant-loop-value g l = record {
+  items : l.values.items ≡ l.initial.values.items ++ take l.value-index l.more;
+  room : vec_capacity l.values ≡ vec_capacity l.initial.values;
+}
