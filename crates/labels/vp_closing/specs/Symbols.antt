@@ -38,7 +38,7 @@ bars_if (Ok symbol) bars = Ok (contents.Bars bars)
 abbrev pub bars_of : List ℕ → BarSymbol → Result Content Fault
 bars_of stored bars = bars_if (symbol_of bars.code (bytes_of stored bars.bytes)) bars
 
--- the bytes behind_front what the data say before them
+-- the bytes behind what the data say before them
 abbrev pub behind_front : QrFront → Span → Span
 behind_front front bytes = record { start = bytes.start + front.length; len = bytes.len - front.length }
 
@@ -57,7 +57,7 @@ abbrev pub qr_unless : Option Fault → QrSymbol → Result Content Fault
 qr_unless (Some why) symbol = Err why
 qr_unless None symbol = Ok (contents.Qr symbol)
 
--- ^BQ: what the data say first is looked at first, then the bytes behind_front it
+-- ^BQ: what the data say first is looked at first, then the bytes behind it
 abbrev pub qr_of : List ℕ → ℕ → Span → Result QrFront Fault → Result Content Fault
 qr_of stored dots bytes (Err why) = Err why
 qr_of stored dots bytes (Ok front) =

@@ -32,7 +32,7 @@ module _ (i : Image) (some : 0 < i.height) where
       ∙ sym (append_assoc (drop p.byte line) (rows_behind i p.line) rest)
       ∙ ap (λ k. pending_in (lines_of i) p ++ copies_text i k) one
 
-  -- the place place_after bytes of a copy is one of its bytes too, unless it is none
+  -- the place behind bytes of a copy is one of its bytes too, unless it is none
   abbrev pub IsNext : Option InImage → Type 0
   IsNext None = Unit {0}
   IsNext (Some p) = IsPlaceIn p

@@ -17,7 +17,7 @@ pub record Place : Type 0 where
   pub line : Line
   pub byte : ℕ
 
--- the text of this number of copies of an image, one place_after the other
+-- the text of this number of copies of an image, one behind the other
 abbrev pub copies_text : Image → ℕ → List ℕ
 copies_text i zero = []
 copies_text i (suc copies) = pbm i ++ copies_text i copies
@@ -27,7 +27,7 @@ abbrev pub bytes_above : ℕ → ℕ → Line → ℕ
 bytes_above width height Head = 0
 bytes_above width height (Row y) = length (header_of width height) + y * row_bytes width
 
--- what is still to be put out: of the copies that aren't put out whole, all that stands place_after the place
+-- what is still to be put out: of the copies that aren't put out whole, all that stands behind the place
 abbrev pub pending : Image → Place → List ℕ
 pending i p = drop (bytes_above i.width i.height p.line + p.byte) (copies_text i p.copies)
 
@@ -44,12 +44,12 @@ line_bytes width height (Row y) = row_bytes width
 abbrev pub at : ℕ → InImage → Place
 at copies p = record { copies = copies; line = p.line; byte = p.byte }
 
--- place_after the last row the next copy begins
+-- behind the last row the next copy begins
 abbrev pub place_after : ℕ → Option InImage → Place
 place_after copies None = record { copies = copies - 1; line = Head; byte = 0 }
 place_after copies (Some p) = at copies p
 
--- the place `n` bytes further on in its line, or place_after it
+-- the place `n` bytes further on in its line, or behind it
 abbrev pub advanced : ℕ → ℕ → ℕ → Place → Place
 advanced width height n p =
     place_after p.copies

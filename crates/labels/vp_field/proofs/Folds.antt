@@ -124,7 +124,7 @@ module _ (view : View) (x y : ℤ) where
 pub dots_move : DotsMove
 dots_move view strokes x y = moved_dot view x y strokes
 
--- places counted_back back
+-- places counted back
 counted_twice : (b : Bool) (n : ℕ) (p : ℤ) → counted_back b n (counted_back b n p) ≡ p
 counted_twice true n p = omega (arith, ints)
 counted_twice false n p = refl

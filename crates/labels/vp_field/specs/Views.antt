@@ -2,7 +2,7 @@
 use Rattle.std.specs.Prelude.{ℕ, ℤ, pos, ◌-ℤ◌, Bool, if◌then◌else◌}
 use Rattle.vp_field.specs.declared.view.View.{View}
 
--- a place of n, counted_back from the last one where it is counted_back back
+-- a place of n, counted from the last one where it is counted back
 abbrev pub counted_back : Bool → ℕ → ℤ → ℤ
 counted_back back n p = if back then pos n -ℤ pos 1 -ℤ p else p
 

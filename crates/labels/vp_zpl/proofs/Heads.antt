@@ -27,7 +27,7 @@ pub ended-push : (p args : List ℕ) (c : ℕ) → ended p (args ++ c ∷ []) �
 ended-push p [] c = one_more (is_comma c) (is_blank c) p c
 ended-push p (a ∷ args) c = ended_step (is_comma a) (is_blank a) p args a c (λ q. ended-push q args c)
 
--- behind_commas a whole head, a byte more is a byte of data more
+-- behind a whole head, a byte more is a byte of data more
 behind_step : (x y : Bool) (n : ℕ) (p args : List ℕ) (a c : ℕ)
     → ((m : ℕ) (q : List ℕ) → m ≤ length (ended q args) → behind_commas m (args ++ c ∷ []) ≡ behind_commas m args ++ c ∷ [])
     → n ≤ length (cond x (p ∷ ended [] args) (cond y (ended p args) (ended (p ++ a ∷ []) args)))

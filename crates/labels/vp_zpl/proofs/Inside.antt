@@ -84,7 +84,7 @@ comma_goes r new before command kind stands p e ends few =
       part_is = ends.part ∙ ap Rattle.vp_zpl.specs.Spelling.kept (sym (comma_last args));
     })
 
--- the phase behind_commas a whole head
+-- the phase behind a whole head
 head_phase : (z : Bool) (new : ZplReader) (args command : List ℕ) → Named new kinds.Graphic args command → is_whole args ≡ true → behind_commas 4 args ≡ [] → is_b (head args) ≡ z
     → in_phase (cond z (Binary (count_of (head args))) Codes) new command
 head_phase true new args command n w d e = record { args = args; named = n; whole = w; binary = e; left_is = omega (arith, ap length d) }

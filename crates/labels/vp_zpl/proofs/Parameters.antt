@@ -6,7 +6,7 @@ use Rattle.vp_zpl.specs.Spelling.{is_comma, is_blank, ended, last, behind_commas
 use Rattle.vp_zpl.specs.Commands.{is_whole, head}
 use Rattle.vp_zpl.proofs.Heads.{ended-push}
 
--- the last parameter behind_commas a byte more
+-- the last parameter behind a byte more
 abbrev pub after : ℕ → List ℕ → List ℕ
 after c p = cond (is_comma c) [] (cond (is_blank c) p (p ++ c ∷ []))
 
@@ -21,7 +21,7 @@ pub last-push : (p args : List ℕ) (c : ℕ) → last p (args ++ c ∷ []) ≡ 
 last-push p [] c = refl
 last-push p (a ∷ args) c = last_step (is_comma a) (is_blank a) p args a c (λ q. last-push q args c)
 
--- the first n, with one more behind_commas the first n
+-- the first n, with one more behind the first n
 pub take_front : {X : Type 0} (n : ℕ) (xs : List X) (y : X) → take n (xs ++ y ∷ []) ≡ take n (take n xs ++ y ∷ [])
 take_front zero xs y = refl
 take_front (suc n) [] y = refl
@@ -61,7 +61,7 @@ behind_within true y n p args a ih g = ih (n - 1) [] (omega arith)
 behind_within false true n p args a ih g = ih n p g
 behind_within false false n p args a ih g = ih n (p ++ a ∷ []) g
 
--- behind_commas a comma that ends the n-th parameter there is nothing
+-- behind a comma that ends the n-th parameter there is nothing
 pub behind_last : (n : ℕ) (p args : List ℕ) → length (ended p args) + 1 ≤ n → behind_commas n (args ++ 0x2C ∷ []) ≡ []
 behind_last n p [] h = let e : (n == 0) ≡ false = grind (arith, nat_tests) in ap (λ z. cond z (0x2C ∷ []) []) e
 behind_last n p (a ∷ args) h =

@@ -113,7 +113,7 @@ is_whole args = nat_le 4 (length (ended [] args))
 unfoldable pub head : List ℕ → List Kept
 head args = take 4 (map kept (ended [] args))
 
--- binary data is wanted: fewer than b bytes stand behind_commas the fourth comma
+-- binary data is wanted: fewer than b bytes stand behind the fourth comma
 unfoldable pub is_short : List ℕ → Bool
 is_short args =
     is_whole args && is_b (head args) && nat_lt (length (behind_commas 4 args)) (count_of (head args))

@@ -22,7 +22,7 @@ shown_event events.Nothing r = []
 shown_event events.Given r = Given r.sent.command r.sent.name (shown_parts r.sent.parameters.items) ∷ []
 shown_event events.Data r = data_items (data_bytes r.known)
 
--- the open command has this kind, name and these bytes behind_commas its name
+-- the open command has this kind, name and these bytes behind its name
 pub record Named (r : ZplReader) (k : Kind) (args : List ℕ) (command : List ℕ) : Type 0 where
   pub sign : ℕ
   pub first : ℕ
@@ -44,13 +44,13 @@ has_parameters (kinds.Plain k) = true
 has_parameters kinds.Graphic = true
 has_parameters _ = false
 
--- the indicator behind_commas a name
+-- the indicator behind a name
 abbrev pub indicator_behind : Kind → Option ℕ → Option ℕ
 indicator_behind kinds.FieldSeparator was = None
 indicator_behind kinds.FormatEnd was = None
 indicator_behind _ was = was
 
--- the indicator behind_commas a command with these parameters, in a format or not
+-- the indicator behind a command with these parameters, in a format or not
 abbrev pub indicator_with : Kind → List Kept → Bool → Option ℕ → Option ℕ
 indicator_with kinds.FieldHex ps opened was = if opened then Some (indicator_in ps) else was
 indicator_with _ ps opened was = was
@@ -62,7 +62,7 @@ at_name (kinds.Plain k) name = []
 at_name kinds.Graphic name = []
 at_name kind name = item_of kind name [] ∷ []
 
--- the phase behind_commas a name
+-- the phase behind a name
 abbrev pub phase_behind : Kind → Phase
 phase_behind kinds.FieldHex = Parameters kinds.FieldHex
 phase_behind (kinds.Plain k) = Parameters (kinds.Plain k)
@@ -161,7 +161,7 @@ Closes Within event old new =
     (before : List (List ℕ)) (command : List ℕ) (sign : ℕ) → StandsIn old before command → Within old.phase
     → Ends (shown_event event (at_sign new sign)) (at_sign new sign) before command sign
 
--- the phase behind_commas ^GF's head
+-- the phase behind ^GF's head
 abbrev pub behind_head : List Kept → Phase
 behind_head head = if is_b head then Binary (count_of head) else Codes
 
@@ -192,7 +192,7 @@ front_by Codes indicated input = prefix_len is_kept_code input
 front_by (Binary left) indicated input = min (length input) left
 front_by _ indicated input = 0
 
--- the phase behind_commas `n` bytes that are data by themselves there
+-- the phase behind `n` bytes that are data by themselves there
 abbrev pub phase_after : Phase → ℕ → Phase
 phase_after (Binary left) n = Binary (left - n)
 phase_after q n = q

@@ -1,4 +1,4 @@
--- How many bytes from the front of these are data by themselves, behind_commas what was read.
+-- How many bytes from the front of these are data by themselves, behind what was read.
 use Rattle.std.specs.Prelude.{ℕ, ◌-◌, ◌==◌, Bool, false, not, ◌&&◌, ◌||◌, Option, Some, None, List, [], ◌∷◌, length, min, if◌then◌else◌}
 use Rattle.std.specs.List.{prefix_len}
 use Rattle.vp_zpl.specs.declared.name.Kind.{Kind}

@@ -39,7 +39,7 @@ ended p (c ∷ args) =
     if is_comma c then p ∷ ended [] args else if is_blank c then ended p args
     else ended (p ++ c ∷ []) args
 
--- the parameter behind_commas the last comma
+-- the parameter behind the last comma
 abbrev pub last : List ℕ → List ℕ → List ℕ
 last p [] = p
 last p (c ∷ args) =
@@ -76,7 +76,7 @@ number_in false (c ∷ digits) = number_on 0 (c ∷ digits)
 unfoldable pub number_of : Kept → Option ℕ
 number_of p = number_in p.is_long p.bytes
 
--- what stands behind_commas the n-th comma
+-- what stands behind the n-th comma
 abbrev pub behind_commas : ℕ → List ℕ → List ℕ
 behind_commas n [] = []
 behind_commas n (c ∷ args) =

@@ -6,7 +6,7 @@ use Rattle.vp_c.specs.declared.answer.Refusal.{Refusal}
 use Rattle.vp_c.specs.declared.answer.Refusal.TheVariants.{Memory, Language, SheetA, SheetB}
 use Rattle.vp_c.specs.declared.answer.TheConstants.{NO_MEMORY, NO_LANGUAGE, SHEET_A, SHEET_B}
 
--- an offence's number numbered_from the first; want of memory has none
+-- an offence's number behind the first; want of memory has none
 abbrev pub numbered_from : ℕ → Option ℕ → ℕ
 numbered_from first (Some number) = first + number
 numbered_from first None = NO_MEMORY
