@@ -1,5 +1,6 @@
 -- Code 39 (ISO/IEC 16388).
 use Rattle.std.specs.Prelude.{ℕ, ◌-◌, ◌%◌, ◌==◌, Bool, true, false, ◌&&◌, List, [], ◌∷◌, ◌++◌, length, take, drop, sum, codes, nat_le, slice_index, Option, None, Some, Result, Ok, Err, position, if◌then◌else◌}
+use Prim.Native.Char.{code}
 use Rattle.vp_dots.specs.declared.fault.Fault.{Fault}
 use Rattle.vp_dots.specs.declared.fault.Fault.TheVariants.{Symbol}
 use Rattle.vp_dots.specs.declared.fault.Why.TheVariants.{Empty, Char}
@@ -39,8 +40,8 @@ star = 43
 
 -- data without a * at each end, which are the start and the stop already
 unfoldable pub unstarred : List ℕ → List ℕ
-unstarred src = if nat_le 2 (length src) && slice_index src 0 == 42
-    && slice_index src (length src - 1) == 42 then take (length src - 2) (drop 1 src) else src
+unstarred src = if nat_le 2 (length src) && slice_index src 0 == code "*"
+    && slice_index src (length src - 1) == code "*" then take (length src - 2) (drop 1 src) else src
 
 -- the values of a symbol: start, data, check if there is one, stop
 abbrev pub code39_symbol : Bool → Option (List ℕ) → Result Linear Fault

@@ -1,5 +1,6 @@
 -- Code 128 as Epson's GS k has it: { and a letter or digit select code sets and function characters.
 use Rattle.std.specs.Prelude.{ℕ, ◌==◌, Bool, false, List, [], ◌∷◌, Option, None, Some, Result, Ok, Err, if◌then◌else◌}
+use Prim.Native.Char.{code}
 use Rattle.vp_dots.specs.declared.fault.Fault.{Fault}
 use Rattle.vp_dots.specs.declared.fault.Fault.TheVariants.{Symbol}
 use Rattle.vp_dots.specs.declared.fault.Why.{Why}
@@ -13,16 +14,18 @@ use Rattle.vp_bars.specs.CodeSets.{selector_of, other_of, value_in, onto, plain,
 
 -- the lead of the codes: {
 abbrev pub brace : ℕ
-brace = 0x7B
+brace = code "{"
 
 -- {A {B {C select a set
 abbrev pub selected : ℕ → Option CodeSet
-selected c = if c == 0x41 then Some A else if c == 0x42 then Some B else if c == 0x43 then Some C else None
+selected c =
+    if c == code "A" then Some A else if c == code "B" then Some B else if c == code "C" then Some C else None
 
 -- in A and B {1 {2 {3 {4 are FNC1 to FNC4, and FNC4 is the set's own selector
 abbrev pub function_in : CodeSet → ℕ → Option ℕ
-function_in set c = if c == 0x31 then Some 102 else if c == 0x32 then Some 97 else if c == 0x33 then Some 96
-    else if c == 0x34 then Some (selector_of set) else None
+function_in set c =
+    if c == code "1" then Some 102 else if c == code "2" then Some 97 else if c == code "3" then Some 96
+    else if c == code "4" then Some (selector_of set) else None
 
 -- the set itself needs no selector
 abbrev pub selection : CodeSet → CodeSet → List ℕ
@@ -42,7 +45,7 @@ function (Some v) following = onto (v ∷ []) following
 
 -- a code that selects no set: in C there is FNC1 alone; {{ is the byte itself
 abbrev pub other_code : CodeSet → ℕ → Result (List ℕ) Why → Result (List ℕ) Why
-other_code C c following = if c == 0x31 then onto (102 ∷ []) following else refused
+other_code C c following = if c == code "1" then onto (102 ∷ []) following else refused
 other_code set c following = if c == brace then plain (value_in set brace) following
     else function (function_in set c) following
 
@@ -53,7 +56,7 @@ coded set c (Some next) following = onto (selection set next) (following next)
 
 abbrev pub is_shift : CodeSet → ℕ → Bool
 is_shift C c = false
-is_shift _ c = c == 0x53
+is_shift _ c = c == code "S"
 
 -- {S shifts the next byte of data into the other one of A and B
 abbrev pub shifted : CodeSet → ℕ → Result (List ℕ) Why → Result (List ℕ) Why

@@ -1,6 +1,7 @@
 -- Code 128 as ZPL's ^BC has it without automatic mode: > and a character invoke code sets and values.
 use Rattle.std.specs.Prelude.{ℕ, ◌+◌, ◌-◌, ◌*◌, ◌==◌, List, [], ◌∷◌, nat_lt, Option, None, Some, Result, Ok, Err, if◌then◌else◌}
 use Rattle.std.specs.Char.{is_ascii_digit}
+use Prim.Native.Char.{code}
 use Rattle.vp_dots.specs.declared.fault.Fault.{Fault}
 use Rattle.vp_dots.specs.declared.fault.Why.{Why}
 use Rattle.vp_dots.specs.declared.fault.Why.TheVariants as why
@@ -13,20 +14,24 @@ use Rattle.vp_bars.specs.CodeSets.{selector_of, value_in, onto, plain, tokens, s
 
 -- the lead of the codes: >
 abbrev pub greater : ℕ
-greater = 0x3E
+greater = code ">"
 
 -- >9 >: >; start in A, B, C
 abbrev pub started : ℕ → Option CodeSet
-started c = if c == 0x39 then Some A else if c == 0x3A then Some B else if c == 0x3B then Some C else None
+started c =
+    if c == code "9" then Some A else if c == code ":" then Some B else if c == code ";" then Some C else None
 
 -- >5 >6 >7 invoke C, B, A
 abbrev pub invoked_set : ℕ → Option CodeSet
-invoked_set c = if c == 0x35 then Some C else if c == 0x36 then Some B else if c == 0x37 then Some A else None
+invoked_set c =
+    if c == code "5" then Some C else if c == code "6" then Some B else if c == code "7" then Some A else None
 
 -- >1 >2 >3 are 95, 96, 97, and >0 >< >= the values of >, ^ and ~
 abbrev pub invoked_value : ℕ → Option ℕ
-invoked_value c = if c == 0x31 then Some 95 else if c == 0x32 then Some 96 else if c == 0x33 then Some 97
-    else if c == 0x30 then Some 30 else if c == 0x3C then Some 62 else if c == 0x3D then Some 94 else None
+invoked_value c =
+    if c == code "1" then Some 95 else if c == code "2" then Some 96 else if c == code "3" then Some 97
+    else if c == code "0" then Some 30 else if c == code "<" then Some 62 else if c == code "=" then Some 94
+    else None
 
 -- C in C gives nothing; B in B and A in A are FNC4
 abbrev pub invocation : CodeSet → CodeSet → List ℕ
@@ -44,7 +49,7 @@ valued set (Some v) following = onto (given set v) following
 
 -- a code that invokes no set; >8 is FNC1 in each
 abbrev pub other_code : CodeSet → ℕ → Result (List ℕ) Why → Result (List ℕ) Why
-other_code set c following = if c == 0x38 then onto (102 ∷ []) following
+other_code set c following = if c == code "8" then onto (102 ∷ []) following
     else valued set (invoked_value c) following
 
 -- a code before what follows it in each set

@@ -1,6 +1,7 @@
 -- Field blocks: a text broken into lines, as ^FB has it.
 use Rattle.std.specs.Prelude.{◌≡◌, ◌<◌, ℕ, zero, suc, ◌+◌, ◌-◌, ◌*◌, ◌/◌, ℤ, pos, negsuc, min, max, Bool, true, false, ◌==◌, nat_lt, nat_le, ◌&&◌, ◌||◌, List, [], ◌∷◌, ◌++◌, ◌⊎◌, length, take, drop, slice_index, flat_map, Option, if◌then◌else◌}
 use Rattle.std.proofs.lemmas.Bool.{and_parts, ltb-true}
+use Prim.Native.Char.{code}
 use Rattle.vp_glyph.specs.Sheets.{Glyphs}
 use Rattle.vp_glyph.specs.Texts.{text_dot}
 use Rattle.vp_glyph.specs.declared.lines.Piece.{Piece}
@@ -13,8 +14,8 @@ abbrev pub pieces : List ℕ → List Piece
 pieces [] = []
 pieces (b ∷ []) = Cell b ∷ []
 pieces (b ∷ next ∷ text) =
-    if b == 0x5C && next == 0x26 then ParagraphEnd ∷ pieces text
-    else (if b == 0x5C && next == 0x5C then Cell 0x5C ∷ pieces text
+    if b == code "\\" && next == code "&" then ParagraphEnd ∷ pieces text
+    else (if b == code "\\" && next == code "\\" then Cell (code "\\") ∷ pieces text
     else Cell b ∷ pieces (next ∷ text))
 
 -- the cells of the first paragraph

@@ -2,14 +2,15 @@
 use Rattle.std.specs.Prelude.{ℕ, Bool, false, ◌==◌, nat_le, nat_lt, ◌&&◌, ◌||◌, List, [], ◌∷◌, take, drop, Option, None, Some, if◌then◌else◌}
 use Rattle.std.specs.List.{prefix_len}
 use Rattle.std.specs.Str.Parse.{digits_value}
+use Prim.Native.Char.{code}
 
 -- a blank, TAB, CR or LF
 abbrev pub white : ℕ → Bool
-white b = b == 32 || b == 9 || b == 13 || b == 10
+white b = b == 0x20 || b == 0x09 || b == 0x0D || b == 0x0A
 
 -- CR or LF
 abbrev pub ends_line : ℕ → Bool
-ends_line b = b == 13 || b == 10
+ends_line b = b == 0x0D || b == 0x0A
 
 -- 0 to 9
 abbrev pub digit : ℕ → Bool
@@ -18,13 +19,14 @@ digit b = nat_le 48 b && nat_le b 57
 -- a gap begins with a white byte, or with # for a comment
 abbrev pub begins_gap : List ℕ → Bool
 begins_gap [] = false
-begins_gap (b ∷ text) = white b || b == 35
+begins_gap (b ∷ text) = white b || b == code "#"
 
 abbrev mutual
   -- what stands behind the white bytes and comments at the front of a text
   pub past_gap : List ℕ → List ℕ
   past_gap [] = []
-  past_gap (b ∷ text) = if white b then past_gap text else (if b == 35 then past_comment text else b ∷ text)
+  past_gap (b ∷ text) =
+      if white b then past_gap text else (if b == code "#" then past_comment text else b ∷ text)
 
   -- the same inside a comment, which ends with the next CR or LF
   pub past_comment : List ℕ → List ℕ

@@ -1,5 +1,6 @@
 -- What a text tells of a sheet.
 use Rattle.std.specs.Prelude.{ℕ, ◌*◌, ◌==◌, not, nat_lt, ◌&&◌, List, length, slice_index, take, drop, Option, None, Some, Result, Ok, Err, if◌then◌else◌}
+use Prim.Native.Char.{code}
 use Rattle.vp_glyph.specs.Sheets.{Glyphs}
 use Rattle.vp_glyph.specs.Headers.{Header, header_behind}
 use Rattle.vp_glyph.specs.declared.sheet.SheetError.{SheetError}
@@ -15,7 +16,7 @@ sized w h (Some header) =
 
 -- the sheet that a text tells, with cells of w by h, or the first offence
 unfoldable pub sheet_of : List ℕ → ℕ → ℕ → Result Glyphs SheetError
-sheet_of text w h = if slice_index text 0 == 80 && slice_index text 1 == 52
+sheet_of text w h = if slice_index text 0 == code "P" && slice_index text 1 == code "4"
     then sized w h (header_behind (drop 2 text)) else Err error.Magic
 
 -- the number by which an offence is reported

@@ -1,5 +1,6 @@
 -- The codes of a picture (ZPL II, ^GF), as a list of symbols.
 use Rattle.std.specs.Prelude.{ℕ, ◌+◌, ◌-◌, ◌*◌, ◌/◌, ◌%◌, max, nat_le, Bool, ◌==◌, ◌&&◌, List, [], ◌∷◌, if◌then◌else◌}
+use Prim.Native.Char.{code}
 use Rattle.vp_format.specs.declared.codes.Code.{Code}
 use Rattle.vp_format.specs.declared.codes.Code.TheVariants.{Digit, Count, Fill, Above, Other}
 use Rattle.vp_format.specs.declared.codes.Symbol.{Symbol}
@@ -13,10 +14,15 @@ between low b high = nat_le low b && nat_le b high
 -- a hex digit in either case, a count G to Y of 1 to 19 or g to z of 20, 40, .. 400, or one of `,` `!` `:`
 unfoldable pub code_of : ℕ → Code
 code_of b =
-    if between 0x30 b 0x39 then Digit (b - 0x30) else if between 0x41 b 0x46 then Digit (b - 0x37)
-    else if between 0x61 b 0x66 then Digit (b - 0x57)
-    else if between 0x47 b 0x59 then Count (b - 0x46) else if between 0x67 b 0x7A then Count (20 * (b - 0x66))
-    else if b == 0x2C then Fill 0 else if b == 0x21 then Fill 15 else if b == 0x3A then Above else Other
+    if between (code "0") b (code "9") then Digit (b - code "0")
+    else if between (code "A") b (code "F") then Digit (b - 0x37)
+    else if between (code "a") b (code "f") then Digit (b - 0x57)
+    else if between (code "G") b (code "Y") then Count (b - code "F")
+    else if between (code "g") b (code "z") then Count (20 * (b - code "f"))
+    else if b == code "," then Fill 0
+    else if b == code "!" then Fill 15
+    else if b == code ":" then Above
+    else Other
 
 -- a symbol, and how many bytes of the codes spell it
 pub record Spelled : Type 0 where

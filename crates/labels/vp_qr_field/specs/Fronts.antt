@@ -1,5 +1,6 @@
 -- What the data of ^BQ say before the bytes of the symbol (ZPL II, ^BQ, "^FD Field Data").
 use Rattle.std.specs.Prelude.{ℕ, ◌+◌, ◌-◌, ◌*◌, ◌==◌, nat_le, Bool, ◌&&◌, Option, Some, None, Result, Ok, Err, List, [], ◌∷◌, length, if◌then◌else◌}
+use Prim.Native.Char.{code}
 use Rattle.vp_dots.specs.declared.fault.Fault.{Fault}
 use Rattle.vp_dots.specs.declared.fault.Fault.TheVariants.{Symbol}
 use Rattle.vp_dots.specs.declared.fault.Why.TheVariants.{Empty, Length, CodeSet, Unsupported}
@@ -12,10 +13,10 @@ use Rattle.vp_qr_field.specs.declared.front.QrFront.{QrFront}
 -- the letter of a level of error correction
 abbrev pub level_of : ℕ → Option Level
 level_of c =
-    if c == 0x48 then Some H
-    else if c == 0x51 then Some Q
-    else if c == 0x4D then Some M
-    else if c == 0x4C then Some L
+    if c == code "H" then Some H
+    else if c == code "Q" then Some Q
+    else if c == code "M" then Some M
+    else if c == code "L" then Some L
     else None
 
 abbrev pub front : Level → Mode → ℕ → Result QrFront Fault
@@ -26,14 +27,14 @@ abbrev pub no_front : Result QrFront Fault
 no_front = Err (Symbol CodeSet)
 
 abbrev pub is_digit : ℕ → Bool
-is_digit c = nat_le 0x30 c && nat_le c 0x39
+is_digit c = nat_le (code "0") c && nat_le c (code "9")
 
 abbrev pub are_digits : ℕ → ℕ → ℕ → ℕ → Bool
 are_digits a b c d = is_digit a && is_digit b && is_digit c && is_digit d
 
 -- the number of four digits
 abbrev pub number_of : ℕ → ℕ → ℕ → ℕ → ℕ
-number_of a b c d = 1000 * (a - 0x30) + 100 * (b - 0x30) + 10 * (c - 0x30) + (d - 0x30)
+number_of a b c d = 1000 * (a - code "0") + 100 * (b - code "0") + 10 * (c - code "0") + (d - code "0")
 
 -- B: four digits say how many bytes come, and as many come
 abbrev pub counted_front : Level → List ℕ → Result QrFront Fault
@@ -46,20 +47,20 @@ counted_front level _ = Err (Symbol Length)
 abbrev pub manual : Level → List ℕ → Result QrFront Fault
 manual level [] = no_front
 manual level (c ∷ rest) =
-    if c == 0x4E then front level Digits 4
-    else if c == 0x41 then front level Alnum 4
-    else if c == 0x42 then counted_front level rest
-    else if c == 0x4B then Err (Symbol Unsupported)
+    if c == code "N" then front level Digits 4
+    else if c == code "A" then front level Alnum 4
+    else if c == code "B" then counted_front level rest
+    else if c == code "K" then Err (Symbol Unsupported)
     else no_front
 
 -- A and a comma: how they are read is chosen by the bytes
 abbrev pub mode_of : Level → ℕ → List ℕ → Result QrFront Fault
 mode_of level c rest =
-    if c == 0x41 then front level Auto 3 else if c == 0x4D then manual level rest else no_front
+    if c == code "A" then front level Auto 3 else if c == code "M" then manual level rest else no_front
 
 abbrev pub level_and_mode : Option Level → ℕ → ℕ → List ℕ → Result QrFront Fault
 level_and_mode None c comma rest = no_front
-level_and_mode (Some level) c comma rest = if comma == 0x2C then mode_of level c rest else no_front
+level_and_mode (Some level) c comma rest = if comma == code "," then mode_of level c rest else no_front
 
 abbrev pub front_in : List ℕ → Result QrFront Fault
 front_in [] = Err (Symbol Empty)

@@ -1,5 +1,6 @@
 -- What the parameters of a command mean.
 use Rattle.std.specs.Prelude.{ℕ, ◌+◌, ◌*◌, ◌-◌, ◌==◌, Bool, true, false, ◌&&◌, Option, Some, None, List, [], ◌∷◌, length, take, drop, slice_get, if◌then◌else◌}
+use Prim.Native.Char.{code}
 use Rattle.vp_zpl.specs.declared.name.Kind.{Kind}
 use Rattle.vp_zpl.specs.declared.name.Kind.TheVariants as kinds
 use Rattle.vp_zpl.specs.declared.name.Plain.{Plain}
@@ -60,10 +61,10 @@ letter_at n ps = capital_if (byte_at n ps)
 abbrev pub orientation_of : Option ℕ → Option Orientation
 orientation_of None = None
 orientation_of (Some c) =
-    if c == 0x4E then Some turns.Normal
-    else if c == 0x52 then Some turns.Rotated
-    else if c == 0x49 then Some turns.Inverted
-    else if c == 0x42 then Some turns.BottomUp
+    if c == code "N" then Some turns.Normal
+    else if c == code "R" then Some turns.Rotated
+    else if c == code "I" then Some turns.Inverted
+    else if c == code "B" then Some turns.BottomUp
     else None
 
 -- one of two letters, the first of which says yes
@@ -73,11 +74,11 @@ either_of a b (Some c) = if c == a then Some true else if c == b then Some false
 
 -- Y, N
 abbrev pub yes_at : ℕ → List Kept → Option Bool
-yes_at n ps = either_of 0x59 0x4E (letter_at n ps)
+yes_at n ps = either_of (code "Y") (code "N") (letter_at n ps)
 
 -- I, N
 abbrev pub inverted_at : ℕ → List Kept → Option Bool
-inverted_at n ps = either_of 0x49 0x4E (letter_at n ps)
+inverted_at n ps = either_of (code "I") (code "N") (letter_at n ps)
 
 abbrev pub orientation_at : ℕ → List Kept → Option Orientation
 orientation_at n ps = orientation_of (letter_at n ps)
@@ -85,12 +86,14 @@ orientation_at n ps = orientation_of (letter_at n ps)
 -- B, W
 abbrev pub colour_of : Option ℕ → Option Colour
 colour_of None = None
-colour_of (Some c) = if c == 0x42 then Some colours.Black else if c == 0x57 then Some colours.White else None
+colour_of (Some c) =
+    if c == code "B" then Some colours.Black else if c == code "W" then Some colours.White else None
 
 -- A, B; another that was sent is told apart from none
 abbrev pub format_by : Option ℕ → GraphicFormat
 format_by None = formats.Other
-format_by (Some c) = if c == 0x41 then formats.Ascii else if c == 0x42 then formats.Binary else formats.Other
+format_by (Some c) =
+    if c == code "A" then formats.Ascii else if c == code "B" then formats.Binary else formats.Other
 
 abbrev pub is_sent : Option Kept → Bool
 is_sent None = false
@@ -103,19 +106,19 @@ format_of ps = if is_sent (slice_get ps 0) then Some (format_by (letter_at 0 ps)
 abbrev pub mode_of : Option ℕ → Option Code128Mode
 mode_of None = None
 mode_of (Some c) =
-    if c == 0x55 then Some modes.UccCase
-    else if c == 0x41 then Some modes.Automatic
-    else if c == 0x44 then Some modes.UccEan
+    if c == code "U" then Some modes.UccCase
+    else if c == code "A" then Some modes.Automatic
+    else if c == code "D" then Some modes.UccEan
     else None
 
 -- L, C, R, J
 abbrev pub justification_of : Option ℕ → Option Justification
 justification_of None = None
 justification_of (Some c) =
-    if c == 0x4C then Some sides.Left
-    else if c == 0x43 then Some sides.Centre
-    else if c == 0x52 then Some sides.Right
-    else if c == 0x4A then Some sides.Justified
+    if c == code "L" then Some sides.Left
+    else if c == code "C" then Some sides.Centre
+    else if c == code "R" then Some sides.Right
+    else if c == code "J" then Some sides.Justified
     else None
 
 -- a number, perhaps with - before it
@@ -130,7 +133,7 @@ deleted (Some n) = Some (spaces.Deleted n)
 abbrev pub space_in : Bool → List ℕ → Option LineSpace
 space_in is_long [] = None
 space_in is_long (c ∷ digits) =
-    if c == 0x2D then deleted (number_in is_long digits) else added (number_in is_long (c ∷ digits))
+    if c == code "-" then deleted (number_in is_long digits) else added (number_in is_long (c ∷ digits))
 
 abbrev pub space_if : Option Kept → Option LineSpace
 space_if None = None
@@ -138,7 +141,7 @@ space_if (Some p) = space_in p.is_long p.bytes
 
 -- digits, perhaps a point and one digit: in tenths
 abbrev pub tenth_behind : List ℕ → Option ℕ
-tenth_behind (c ∷ d ∷ []) = if c == 0x2E && is_digit d then Some (d - 0x30) else None
+tenth_behind (c ∷ d ∷ []) = if c == code "." && is_digit d then Some (d - code "0") else None
 tenth_behind _ = None
 
 abbrev pub tenths : Option ℕ → ℕ → Option ℕ

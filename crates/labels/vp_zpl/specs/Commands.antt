@@ -1,6 +1,7 @@
 -- The stream as one list of commands with their data: what is dropped is dropped, the rest is cut at ^ and ~
 -- (ZPL II, "ZPL commands": each by its name).
 use Rattle.std.specs.Prelude.{ℕ, ◌==◌, Bool, true, false, not, ◌&&◌, Option, Some, None, List, [], ◌∷◌, ◌++◌, length, take, drop, map, nat_lt, nat_le, reverse, if◌then◌else◌}
+use Prim.Native.Char.{code}
 use Rattle.vp_zpl.specs.declared.name.Kind.{Kind}
 use Rattle.vp_zpl.specs.declared.name.Kind.TheVariants as kinds
 use Rattle.vp_zpl.specs.declared.name.Plain.TheVariants as plain
@@ -13,70 +14,70 @@ use Rattle.vp_zpl.specs.Spelling.{is_sign, is_line_end, capital, ended, paramete
 -- ^X.
 abbrev pub format_command : ℕ → Kind
 format_command b =
-    if b == 0x41 then kinds.FormatStart
-    else if b == 0x5A then kinds.FormatEnd
+    if b == code "A" then kinds.FormatStart
+    else if b == code "Z" then kinds.FormatEnd
     else kinds.Skipped
 
 -- ^F.
 abbrev pub field_command : ℕ → Kind
 field_command b =
-    if b == 0x53 then kinds.FieldSeparator
-    else if b == 0x52 then kinds.ReversePrint
-    else if b == 0x4F then kinds.Plain (plain.Field fields.Origin)
-    else if b == 0x54 then kinds.Plain (plain.Field fields.Typeset)
-    else if b == 0x57 then kinds.Plain (plain.Field fields.Orientation)
-    else if b == 0x42 then kinds.Plain (plain.Field fields.Block)
-    else if b == 0x48 then kinds.FieldHex
-    else if b == 0x58 then kinds.Plain (plain.Field fields.Comment)
-    else if b == 0x44 then kinds.FieldData
+    if b == code "S" then kinds.FieldSeparator
+    else if b == code "R" then kinds.ReversePrint
+    else if b == code "O" then kinds.Plain (plain.Field fields.Origin)
+    else if b == code "T" then kinds.Plain (plain.Field fields.Typeset)
+    else if b == code "W" then kinds.Plain (plain.Field fields.Orientation)
+    else if b == code "B" then kinds.Plain (plain.Field fields.Block)
+    else if b == code "H" then kinds.FieldHex
+    else if b == code "X" then kinds.Plain (plain.Field fields.Comment)
+    else if b == code "D" then kinds.FieldData
     else kinds.Skipped
 
 -- ^L.
 abbrev pub label_command : ℕ → Kind
 label_command b =
-    if b == 0x48 then kinds.Plain (plain.Label labels.Home)
-    else if b == 0x4C then kinds.Plain (plain.Label labels.Length)
-    else if b == 0x52 then kinds.Plain (plain.Label labels.Reverse)
+    if b == code "H" then kinds.Plain (plain.Label labels.Home)
+    else if b == code "L" then kinds.Plain (plain.Label labels.Length)
+    else if b == code "R" then kinds.Plain (plain.Label labels.Reverse)
     else kinds.Skipped
 
 -- ^P.
 abbrev pub print_command : ℕ → Kind
 print_command b =
-    if b == 0x57 then kinds.Plain (plain.Print prints.Width)
-    else if b == 0x51 then kinds.Plain (plain.Print prints.Quantity)
-    else if b == 0x4F then kinds.Plain (plain.Print prints.Orientation)
-    else if b == 0x4D then kinds.Plain (plain.Print prints.Mirror)
+    if b == code "W" then kinds.Plain (plain.Print prints.Width)
+    else if b == code "Q" then kinds.Plain (plain.Print prints.Quantity)
+    else if b == code "O" then kinds.Plain (plain.Print prints.Orientation)
+    else if b == code "M" then kinds.Plain (plain.Print prints.Mirror)
     else kinds.Skipped
 
 -- ^B.
 abbrev pub bar_command : ℕ → Kind
 bar_command b =
-    if b == 0x59 then kinds.Plain (plain.Bar bars.Defaults)
-    else if b == 0x33 then kinds.Plain (plain.Bar bars.Code39)
-    else if b == 0x45 then kinds.Plain (plain.Bar bars.Ean13)
-    else if b == 0x43 then kinds.Plain (plain.Bar bars.Code128)
-    else if b == 0x51 then kinds.Plain (plain.Bar bars.QrCode)
+    if b == code "Y" then kinds.Plain (plain.Bar bars.Defaults)
+    else if b == code "3" then kinds.Plain (plain.Bar bars.Code39)
+    else if b == code "E" then kinds.Plain (plain.Bar bars.Ean13)
+    else if b == code "C" then kinds.Plain (plain.Bar bars.Code128)
+    else if b == code "Q" then kinds.Plain (plain.Bar bars.QrCode)
     else kinds.Skipped
 
 -- ^G.
 abbrev pub graphic_command : ℕ → Kind
 graphic_command b =
-    if b == 0x42 then kinds.Plain plain.GraphicBox
-    else if b == 0x46 then kinds.Graphic
+    if b == code "B" then kinds.Plain plain.GraphicBox
+    else if b == code "F" then kinds.Graphic
     else kinds.Skipped
 
 -- the commands that are read, each by ^ and two capitals; ^A's second byte is its font, whatever it is
 unfoldable pub kind_of : ℕ → ℕ → ℕ → Kind
 kind_of sign a b =
-    if not (sign == 0x5E) then kinds.Skipped
-    else if a == 0x58 then format_command b
-    else if a == 0x46 then field_command b
-    else if a == 0x4C then label_command b
-    else if a == 0x50 then print_command b
-    else if a == 0x42 then bar_command b
-    else if a == 0x47 then graphic_command b
-    else if a == 0x41 then kinds.Plain plain.Font
-    else if a == 0x43 && b == 0x46 then kinds.Plain plain.DefaultFont
+    if not (sign == code "^") then kinds.Skipped
+    else if a == code "X" then format_command b
+    else if a == code "F" then field_command b
+    else if a == code "L" then label_command b
+    else if a == code "P" then print_command b
+    else if a == code "B" then bar_command b
+    else if a == code "G" then graphic_command b
+    else if a == code "A" then kinds.Plain plain.Font
+    else if a == code "C" && b == code "F" then kinds.Plain plain.DefaultFont
     else kinds.Skipped
 
 -- names are read in either case
@@ -90,7 +91,7 @@ kind _ = None
 
 -- ^GF's first parameter says B
 abbrev pub spells_b : List ℕ → Bool
-spells_b (c ∷ []) = capital c == 0x42
+spells_b (c ∷ []) = capital c == code "B"
 spells_b _ = false
 
 abbrev pub is_b : List Kept → Bool
@@ -165,10 +166,10 @@ in_format (command ∷ before) = in_format_by (kind command) (in_format before)
 -- ^FH's indicator: the one byte given, else _
 abbrev pub indicator_spelled : List ℕ → ℕ
 indicator_spelled (c ∷ []) = c
-indicator_spelled _ = 0x5F
+indicator_spelled _ = code "_"
 
 abbrev pub indicator_in : List Kept → ℕ
-indicator_in [] = 0x5F
+indicator_in [] = code "_"
 indicator_in (p ∷ more) = indicator_spelled p.bytes
 
 abbrev pub indicator_by : Option Kind → List ℕ → Bool → Option ℕ → Option ℕ

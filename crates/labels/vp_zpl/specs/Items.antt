@@ -1,5 +1,6 @@
 -- What each command gives, while it stands open and once it has ended.
 use Rattle.std.specs.Prelude.{ℕ, ◌==◌, Bool, true, false, not, ◌&&◌, ◌||◌, Option, Some, None, List, [], ◌∷◌, ◌++◌, take, map, filter, if◌then◌else◌}
+use Prim.Native.Char.{code}
 use Rattle.vp_zpl.specs.declared.name.Kind.{Kind}
 use Rattle.vp_zpl.specs.declared.name.Kind.TheVariants as kinds
 use Rattle.vp_zpl.specs.declared.name.Name.{Name}
@@ -21,7 +22,7 @@ data_items bytes = map Data bytes
 
 -- the font byte of ^A stands as it came
 abbrev pub second_of : ℕ → ℕ → ℕ → ℕ
-second_of sign a b = if sign == 0x5E && capital a == 0x41 then b else capital b
+second_of sign a b = if sign == code "^" && capital a == code "A" then b else capital b
 
 abbrev pub name_of : ℕ → ℕ → ℕ → Name
 name_of sign a b = record { sign = sign; first = capital a; second = second_of sign a b }

@@ -1,5 +1,6 @@
 -- The listing: a line for each item.
 use Rattle.std.specs.Prelude.{ℕ, ◌&&◌, nat_le, List, [], ◌∷◌, ◌++◌, map, flat_map, codes, if◌then◌else◌}
+use Prim.Native.Char.{code}
 use Rattle.vp_dots.specs.Listing.{listed}
 use Rattle.vp_zpl.specs.declared.item.Command.{Command}
 use Rattle.vp_zpl.specs.declared.item.Command.TheVariants as commands
@@ -9,14 +10,14 @@ use Rattle.vp_zpl.specs.Items.Item.{Given, Data}
 
 -- a byte outside 21 to 7E shows as a point
 unfoldable pub legible : ℕ → ℕ
-legible c = if nat_le 0x21 c && nat_le c 0x7E then c else 0x2E
+legible c = if nat_le (code "!") c && nat_le c (code "~") then c else code "."
 
 abbrev pub legible_bytes : List ℕ → List ℕ
 legible_bytes bytes = map legible bytes
 
 -- joined by commas
 abbrev pub more_joined : List Kept → List ℕ
-more_joined ps = flat_map (λ p. 0x2C ∷ legible_bytes p.bytes) ps
+more_joined ps = flat_map (λ p. code "," ∷ legible_bytes p.bytes) ps
 
 abbrev pub joined : List Kept → List ℕ
 joined [] = []

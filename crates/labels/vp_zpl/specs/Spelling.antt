@@ -1,13 +1,14 @@
 -- How a command spells its parameters and its data (ZPL II, "Basic ZPL
 -- exercises": format, control and parameter).
 use Rattle.std.specs.Prelude.{ℕ, ◌+◌, ◌*◌, ◌-◌, ◌==◌, Bool, true, false, ◌&&◌, ◌||◌, Option, Some, None, List, [], ◌∷◌, ◌++◌, length, take, map, nat_lt, nat_le, min, if◌then◌else◌}
+use Prim.Native.Char.{code}
 
 -- ^ and ~
 abbrev pub is_sign : ℕ → Bool
-is_sign c = c == 0x5E || c == 0x7E
+is_sign c = c == code "^" || c == code "~"
 
 abbrev pub is_comma : ℕ → Bool
-is_comma c = c == 0x2C
+is_comma c = c == code ","
 
 abbrev pub is_blank : ℕ → Bool
 is_blank c = c == 0x20
@@ -19,17 +20,17 @@ abbrev pub is_within : ℕ → ℕ → ℕ → Bool
 is_within low high c = nat_le low c && nat_le c high
 
 abbrev pub is_digit : ℕ → Bool
-is_digit c = is_within 0x30 0x39 c
+is_digit c = is_within (code "0") (code "9") c
 
 -- a letter's capital
 unfoldable pub capital : ℕ → ℕ
-capital c = if is_within 0x61 0x7A c then c - 0x20 else c
+capital c = if is_within (code "a") (code "z") c then c - 0x20 else c
 
 -- a hex digit's value, in either case
 unfoldable pub hex_of : ℕ → Option ℕ
 hex_of c =
-    if is_digit c then Some (c - 0x30)
-    else if is_within 0x41 0x46 (capital c) then Some (capital c - 0x37)
+    if is_digit c then Some (c - code "0")
+    else if is_within (code "A") (code "F") (capital c) then Some (capital c - 0x37)
     else None
 
 -- the parameters that a comma has ended; p is what is read of the first
@@ -65,7 +66,8 @@ kept_of ps = take 8 (map kept ps)
 -- digits read on from n: above 99,999,999 they count as that
 abbrev pub number_on : ℕ → List ℕ → Option ℕ
 number_on n [] = Some n
-number_on n (c ∷ digits) = if is_digit c then number_on (min 99999999 (10 * n + (c - 0x30))) digits else None
+number_on n (c ∷ digits) =
+    if is_digit c then number_on (min 99999999 (10 * n + (c - code "0"))) digits else None
 
 -- a number is digits, 16 at most
 abbrev pub number_in : Bool → List ℕ → Option ℕ
