@@ -8,6 +8,7 @@ pub mod Images
 pub mod Stands
 pub mod Answers
 pub mod Memory
+pub mod Work
 pub mod Session
 pub mod Listing
 -- what the code keeps

@@ -8,6 +8,7 @@ ghost use Rattle.vp_engine.specs.Machines.{pending_of, MachineStands};
 ghost use Rattle.vp_engine.specs.Paper.{missing};
 ghost use Rattle.vp_engine.specs.Setups.{Setup, Item, EscPos, Zpl, Receipts, Labels, ListingIn, commands_of, setup_of, rules_of, lines_of};
 ghost use Rattle.vp_engine.specs.Takes.{Takes, TakesRun};
+ghost use Rattle.vp_engine.specs.Work.{machine_work, IsWorkAfter};
 ghost use Rattle.vp_esc.specs.Lines.{line_of};
 ghost use Rattle.vp_esc.specs.Reader.{Stands as EscStands};
 ghost use Rattle.vp_esc.specs.Split.{fault_of};
@@ -363,6 +364,20 @@ impl Machine {
             Machine::Receipt { receipt, .. } => receipt.memory(),
             Machine::ReceiptLines { .. } => 0,
             Machine::Label { label, .. } => label.memory(),
+            Machine::LabelLines { .. } => 0,
+        }
+    }
+
+    /// What it tells of its work.
+    pub fn work(&self) -> u64
+        ensures value { result ≡ machine_work self.now }
+        ensures bounds { (setup : Setup) (t : List ℕ) (before : List (Item setup)) →
+            MachineStands self.now setup t before → IsWorkAfter setup before result }
+    {
+        match self {
+            Machine::Receipt { receipt, .. } => receipt.work(),
+            Machine::ReceiptLines { .. } => 0,
+            Machine::Label { label, .. } => label.work(),
             Machine::LabelLines { .. } => 0,
         }
     }

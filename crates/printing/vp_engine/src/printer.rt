@@ -8,6 +8,7 @@ ghost use Rattle.vp_engine.specs.Paper.{IsOfByte, history, before_fault, fault, 
 ghost use Rattle.vp_engine.specs.Setups.{Setup, setup_of, rules_of, lines_of};
 ghost use Rattle.vp_engine.specs.Setups.{Listing, ListingWithOffsets};
 ghost use Rattle.vp_engine.specs.Stands.{Stands};
+ghost use Rattle.vp_engine.specs.Work.{work_told, IsWorkAfter};
 
 use crate::held::Held;
 use crate::laws::{items_grow, the_fault_tells_the_end};
@@ -265,6 +266,16 @@ impl Printer {
             result ≡ memory_of setup }
     {
         self.machine.memory()
+    }
+
+    /// What it tells of its work: of a receipt's page the rows of dots that the last item that ended a line
+    /// laid and made white, of a label what painting took for the copy that is put out, of a listing 0.
+    pub fn work(&self) -> u64
+        ensures value { result ≡ work_told self.now }
+        ensures bounds { (setup : Setup) (t o : List ℕ) → Stands setup self.now t o →
+            IsWorkAfter setup (history (rules_of setup) (before_fault (rules_of setup) t)) result }
+    {
+        self.machine.work()
     }
 
     /// How many lines of a listing there were; 0 where it prints no listing.

@@ -1,5 +1,5 @@
 -- What an item lays on a page and wipes there at most.
-use Rattle.std.proofs.Common.{◌≡◌, ◌≤◌, ℕ, ◌+◌, ◌-◌, ◌*◌, min, max, Bool, true, false, ◌&&◌, if◌then◌else◌, List, [], ◌∷◌, ◌++◌, Option, Some, None, is_some, refl, arith, lit≤}
+use Rattle.std.proofs.Common.{◌≡◌, ◌≤◌, ℕ, ◌+◌, ◌*◌, Bool, true, false, ◌&&◌, if◌then◌else◌, List, [], ◌∷◌, ◌++◌, Option, Some, None, is_some, refl, arith, lit≤}
 use Rattle.std.proofs.lemmas.Bool.Decides.{nat_tests}
 use Rattle.std.proofs.lemmas.Nat.{mul-le}
 use Rattle.vp_dots.specs.Images.{Image}
@@ -8,7 +8,7 @@ use Rattle.vp_esc.specs.declared.item.EscItem.TheVariants.{PrintMode, Magnify, I
 use Rattle.vp_esc.specs.declared.item.Magnification.{Magnification}
 use Rattle.vp_esc.specs.declared.item.RasterScale.{RasterScale}
 use Rattle.vp_esc.specs.declared.item.RasterScale.TheVariants.{Normal, DoubleWidth, DoubleHeight, Quadruple}
-use Rattle.vp_glyph.specs.Cells.{font_height, cell_height}
+use Rattle.vp_glyph.specs.Cells.{font_height}
 use Rattle.vp_glyph.specs.declared.cell.Font.{Font}
 use Rattle.vp_glyph.specs.declared.cell.Font.TheVariants.{A, B}
 use Rattle.vp_page.specs.declared.area.Area.{Area}
@@ -22,14 +22,15 @@ use Rattle.vp_receipt_settings.specs.declared.text.TheConstants.{LINE_ROWS}
 use Rattle.vp_receipt_settings.specs.declared.width.Width.{Width}
 use Rattle.vp_receipt_settings.specs.declared.width.Width.TheVariants.{W576, W384}
 use Rattle.vp_receipt_settings.specs.Setup.{Setup, across}
-use Rattle.vp_receipt_settings.specs.Pages.{area, is_area, area_cut, is_vertical_move, direction, whole_page, is_paged}
+use Rattle.vp_receipt_settings.specs.Pages.{area, is_area, area_cut, is_vertical_move, whole_page}
 use Rattle.vp_receipt_settings.specs.Rasters.{draws, raster_scale, times_down, is_row_end, row_so_far}
 use Rattle.vp_receipt_settings.specs.Symbols.{symbol_image}
-use Rattle.vp_receipt_settings.specs.Texts.{high, font, height_or, is_magnification}
-use Rattle.vp_receipt_settings.specs.Line.{Placed, Layout, breaks, put_at, character, column8, column24, height, is_open, layout, layout_by, layout_length, line, line_with, line_with_column, on_page}
+use Rattle.vp_receipt_settings.specs.Texts.{high, font, height_or}
+use Rattle.vp_receipt_settings.specs.Line.{Placed, Layout, breaks, character, height, is_open, layout, layout_by, layout_length, line, on_page}
 use Rattle.vp_receipt_settings.specs.Extent.{ends_line}
-use Rattle.vp_receipt.specs.PageMarks.{line_mark, own_mark, raster_mark, symbol_mark, symbol_mark_of, wipes}
-use Rattle.vp_receipt.specs.Work.{CostsAtMost, most_by, mark_rows}
+use Rattle.vp_receipt.specs.PageMarks.{line_mark, raster_mark, symbol_mark, symbol_mark_of}
+use Rattle.vp_receipt.specs.Work.{CostsAtMost, counted_before, most_by, mark_rows}
+use Rattle.vp_receipt.proofs.Work.{adds_at_most}
 
 magnified_few : (m : Option Magnification) (old : ℕ) → old ≤ 8 → height_or m old ≤ 8
 magnified_few None old h = h
@@ -53,6 +54,9 @@ font_low B = lit≤ tt
 product_low : (a b : ℕ) → a ≤ 24 → b ≤ 8 → a * b ≤ LINE_ROWS
 product_low a b h k = mul-le a b 24 8 h k
 
+pub character_low : (setup : Setup) (before : List EscItem) (code : ℕ) → (character setup before code).height ≤ LINE_ROWS
+character_low setup before code = product_low (font_height (font before)) (high before) (font_low (font before)) (high_few before)
+
 none_if : (b : Bool) (l : List Placed) → height l ≤ LINE_ROWS → height (if b then [] else l) ≤ LINE_ROWS
 none_if true l h = lit≤ tt
 none_if false l h = h
@@ -68,8 +72,7 @@ more_if false p l h k = k
 -- a line is no higher than the highest character
 low_by : (setup : Setup) (before : List EscItem) (item : EscItem) (l : Layout) → height l.line ≤ LINE_ROWS → height (layout_by setup before item l).line ≤ LINE_ROWS
 low_by setup before (Character c) l h =
-    let cell : (character setup before c).height ≤ LINE_ROWS = product_low (font_height (font before)) (high before) (font_low (font before)) (high_few before) in
-    omega (arith, cell, none_if (breaks l.position (character setup before c).width (layout_length setup before l)) l.line h)
+    omega (arith, character_low setup before c, none_if (breaks l.position (character setup before c).width (layout_length setup before l)) l.line h)
 low_by setup before (Column8 byte) l h = more_if _ _ l.line (lit≤ tt) h
 low_by setup before (Column24 bytes) l h = more_if _ _ l.line (lit≤ tt) h
 low_by setup before LineFeed l h = lit≤ tt
@@ -159,9 +162,6 @@ wiped_few false a = lit≤ tt
 line_few : (setup : Setup) (before : List EscItem) (b : Bool) → (if b then rows_laid (line_mark setup before) else 0) ≤ LINE_ROWS
 line_few setup before b = lined b (rows_laid (line_mark setup before)) (let low = line_low setup before in omega arith)
 
-ends : Setup → List EscItem → EscItem → Bool
-ends setup before item = ends_line setup before item && is_open (line setup before)
-
 item_few : (setup : Setup) (before : List EscItem) (item : EscItem) → most_by setup before item ≤ LINE_ROWS + PAGE_ROWS
 item_few setup before (Symbol kind bytes more) =
     let own = symbol_few setup before (symbol_image setup before (Symbol kind bytes more)) in
@@ -179,4 +179,6 @@ pub costs_at_most : CostsAtMost
 costs_at_most = record {
   item = item_few;
   row = λ setup before byte. let own = row_few setup before (row_so_far before ++ byte ∷ []) (is_row_end before) in omega (arith, own);
+  ended = λ setup before item paged ends.
+      let anew : counted_before setup before item ≡ 0 = rw ends refl in omega (arith, anew, adds_at_most setup before item paged, item_few setup before item);
 }

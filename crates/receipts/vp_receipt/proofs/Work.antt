@@ -9,11 +9,15 @@ use Rattle.vp_receipt_settings.specs.Setup.{Setup}
 use Rattle.vp_receipt_settings.specs.Pages.{area}
 use Rattle.vp_receipt_settings.specs.Line.{line, is_open}
 use Rattle.vp_receipt_settings.specs.Extent.{ends_line}
-use Rattle.vp_receipt.specs.PageMarks.{layers, layers_with, laid_if, wiped_if, laid_own, line_mark, own_mark, wipes}
+use Rattle.vp_receipt.specs.PageMarks.{layers, layers_with, counted_if, laid_if, wiped_if, laid_own, line_mark, own_mark, wipes}
 use Rattle.vp_receipt.specs.Work.{AddsAtMost, most_work, most_by, mark_rows}
 
 abbrev work : List Layer → ℕ
 work l = laid_rows l + most_wiped l
+
+counted : (b : Bool) (l : List Layer) → work (counted_if b l) ≡ (if b then 0 else work l)
+counted true l = refl
+counted false l = refl
 
 line_adds : (b : Bool) (m : Mark) (l : List Layer) → work (laid_if b m l) ≤ work l + (if b then rows_laid m else 0)
 line_adds true m l = omega arith
@@ -27,14 +31,16 @@ own_adds : (o : Option Mark) (l : List Layer) → work (laid_own o l) ≤ work l
 own_adds None l = omega arith
 own_adds (Some m) l = omega arith
 
-item_adds : (setup : Setup) (before : List EscItem) (item : EscItem) (l : List Layer) → work (layers_with setup before item l) ≤ work l + most_by setup before item
+item_adds : (setup : Setup) (before : List EscItem) (item : EscItem) (l : List Layer) → work (layers_with setup before item l) ≤ (if ends_line setup before item then 0 else work l) + most_by setup before item
 item_adds setup before item l =
+    let anew = counted_if (ends_line setup before item) l in
     let ends = ends_line setup before item && is_open (line setup before) in
-    let lined = laid_if ends (line_mark setup before) l in
-    let first = line_adds ends (line_mark setup before) l in
+    let lined = laid_if ends (line_mark setup before) anew in
+    let start = counted (ends_line setup before item) l in
+    let first = line_adds ends (line_mark setup before) anew in
     let second = wipe_adds (wipes item) (area setup before) lined in
     let last = own_adds (own_mark setup before item) (wiped_if (wipes item) (area setup before) lined) in
-    omega (arith, first, second, last)
+    omega (arith, start, first, second, last)
 
 pub adds_at_most : AddsAtMost
 adds_at_most setup before PageMode m =

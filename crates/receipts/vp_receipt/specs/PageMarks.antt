@@ -4,7 +4,7 @@ use Rattle.vp_dots.specs.Dots.{dot}
 use Rattle.vp_esc.specs.declared.item.EscItem.{EscItem}
 use Rattle.vp_esc.specs.declared.item.EscItem.TheVariants.{RasterByte, Symbol, QrPrint, PageMode, Cancel}
 use Rattle.vp_page.specs.declared.area.Area.{Area}
-use Rattle.vp_page.specs.Layers.{Layer, Laid, Wiped, Mark}
+use Rattle.vp_page.specs.Layers.{Layer, Laid, Wiped, CountedAnew, Mark}
 use Rattle.vp_receipt_settings.specs.Setup.{Setup}
 use Rattle.vp_receipt_settings.specs.Pages.{area, direction}
 use Rattle.vp_receipt_settings.specs.Line.{Placed, line, begins_page, height, is_open, mode, symbol_top}
@@ -37,6 +37,10 @@ pub record HasRows (s : Settings) (bitmap : List (List ℕ)) (dots : ℕ → ℕ
   pub same : (u w : ℕ) → u < LINE_DOTS → w < s.height
       → dot (slice_index_or bitmap (LINE_ROWS - s.height + w) []) u ≡ dots u w
   pub high : (u w : ℕ) → dots u w ≡ true → w < s.height
+
+-- the rows are counted anew, or go on to be counted
+abbrev pub counted_if : Bool → List Layer → List Layer
+counted_if anew layers = if anew then CountedAnew ∷ layers else layers
 
 -- the layers, and the line over them where it is laid
 abbrev pub laid_if : Bool → Mark → List Layer → List Layer
@@ -89,12 +93,13 @@ abbrev pub laid_own : Option Mark → List Layer → List Layer
 laid_own None layers = layers
 laid_own (Some mark) layers = Laid mark ∷ layers
 
--- the layers after an item on the page
+-- the layers after an item on the page: one that ends the line, open or not, counts anew
 abbrev pub layers_with : Setup → List EscItem → EscItem → List Layer → List Layer
 layers_with setup before item layers =
-    let ends = ends_line setup before item && is_open (line setup before) in
+    let ends = ends_line setup before item in
     laid_own (own_mark setup before item)
-    (wiped_if (wipes item) (area setup before) (laid_if ends (line_mark setup before) layers))
+    (wiped_if (wipes item) (area setup before)
+    (laid_if (ends && is_open (line setup before)) (line_mark setup before) (counted_if ends layers)))
 
 -- what is laid on the page, and wiped, since ESC L
 abbrev pub layers : Setup → List EscItem → List Layer
@@ -103,7 +108,7 @@ layers setup (PageMode ∷ before) =
     if begins_page (mode setup before) (line setup before) then [] else layers setup before
 layers setup (item ∷ before) = layers_with setup before item (layers setup before)
 
--- what is laid on the page that ESC FF and FF print: an open line too
+-- what is laid on the page that ESC FF and FF print: an open line too, with which the count begins
 abbrev pub printed_layers : Setup → List EscItem → List Layer
 printed_layers setup before =
-    laid_if (is_open (line setup before)) (line_mark setup before) (layers setup before)
+    laid_if (is_open (line setup before)) (line_mark setup before) (CountedAnew ∷ layers setup before)

@@ -1,5 +1,5 @@
--- What a page costs, in rows of dots: those laid on it, and those made white, since ESC L.
-use Rattle.std.specs.Prelude.{◌≡◌, ◌≤◌, ℕ, ◌+◌, Bool, ◌&&◌, if◌then◌else◌, List, ◌∷◌, Option, Some, None}
+-- What an item costs a page, in rows of dots: those that it lays on it, and those that it makes white.
+use Rattle.std.specs.Prelude.{◌≡◌, ◌≤◌, ◌⊎◌, ℕ, ◌+◌, true, ◌&&◌, if◌then◌else◌, List, [], ◌∷◌, ◌++◌, length, Option, Some, None}
 use Rattle.vp_esc.specs.declared.item.EscItem.{EscItem}
 use Rattle.vp_esc.specs.declared.item.EscItem.TheVariants.{RasterByte}
 use Rattle.vp_page.specs.Layers.{Mark}
@@ -7,13 +7,14 @@ use Rattle.vp_page.specs.declared.page.TheConstants.{PAGE_ROWS}
 use Rattle.vp_page.specs.Work.{laid_rows, most_wiped, least_wiped, rows_laid, area_rows}
 use Rattle.vp_receipt_settings.specs.Setup.{Setup}
 use Rattle.vp_receipt_settings.specs.Pages.{area}
-use Rattle.vp_receipt_settings.specs.Line.{line, is_open, mode}
+use Rattle.vp_receipt_settings.specs.Line.{Placed, line, height, is_open, mode}
 use Rattle.vp_receipt_settings.specs.Extent.{ends_line}
 use Rattle.vp_receipt_settings.specs.declared.page_mode.PrinterMode.TheVariants.{Page}
 use Rattle.vp_receipt_settings.specs.declared.text.TheConstants.{LINE_ROWS}
 use Rattle.vp_receipt.specs.PageMarks.{layers, line_mark, own_mark, wipes}
 
--- at most the rows of what was laid, those of the page that ESC L makes white, and of the areas of CAN
+-- since the last item that ended the line, or the ESC L that began the page: at most the rows of what was
+-- laid, those of the page that ESC L makes white, or of the area of CAN
 abbrev pub most_work : Setup → List EscItem → ℕ
 most_work setup before = laid_rows (layers setup before) + most_wiped (layers setup before)
 
@@ -33,11 +34,15 @@ most_by setup before item =
     else 0)
     + mark_rows (own_mark setup before item) + (if wipes item then area_rows (area setup before) else 0)
 
--- on a page each item adds at most that
+-- what was counted before an item
+abbrev pub counted_before : Setup → List EscItem → EscItem → ℕ
+counted_before setup before item = if ends_line setup before item then 0 else most_work setup before
+
+-- on a page each item adds at most that, and one that ends the line to nothing
 abbrev pub AddsAtMost : Type 0
 AddsAtMost =
     (setup : Setup) (before : List EscItem) (item : EscItem) → mode setup before ≡ Page →
-    most_work setup (item ∷ before) ≤ most_work setup before + most_by setup before item
+    most_work setup (item ∷ before) ≤ counted_before setup before item + most_by setup before item
 
 -- that is at most the rows of a line, and those of a page, which a symbol has or CAN makes white; for a byte
 -- of a raster it is two
@@ -45,3 +50,21 @@ pub record CostsAtMost : Type 0 where
   pub item : (setup : Setup) (before : List EscItem) (item : EscItem)
       → most_by setup before item ≤ LINE_ROWS + PAGE_ROWS
   pub row : (setup : Setup) (before : List EscItem) (byte : ℕ) → most_by setup before (RasterByte byte) ≤ 2
+  -- so is all that is counted where an item ended the line
+  pub ended : (setup : Setup) (before : List EscItem) (item : EscItem) → mode setup before ≡ Page
+      → ends_line setup before item ≡ true → most_work setup (item ∷ before) ≤ LINE_ROWS + PAGE_ROWS
+
+-- of an item, in either mode: it puts at most one character or column into the line, no higher than the
+-- highest line, over all that stood in it or into one that it begins anew
+pub record DrawsInto (before after : List Placed) : Type 0 where
+  pub drawn : List Placed
+  pub kept : List Placed
+  pub split : after ≡ drawn ++ kept
+  pub one : length drawn ≤ 1
+  pub low : height drawn ≤ LINE_ROWS
+  pub whole : (kept ≡ before) ⊎ (kept ≡ [])
+
+abbrev pub DrawsAtMost : Type 0
+DrawsAtMost =
+    (setup : Setup) (before : List EscItem) (item : EscItem) →
+    DrawsInto (line setup before) (line setup (item ∷ before))

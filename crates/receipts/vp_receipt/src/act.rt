@@ -300,7 +300,7 @@ fn lay_line(s: &Settings, bitmap: &Bitmap, page: &mut Page)
     }
 }
 
-/// Lays the line if it is open.
+/// Lays the line if it is open. The rows that this item lays and wipes are counted anew.
 fn lay_open(s: &Settings, canvas: &mut Canvas)
     requires fit { IsFit s.now }
     requires mode { s.now.page.mode ≡ PrinterMode.Page }
@@ -308,6 +308,7 @@ fn lay_open(s: &Settings, canvas: &mut Canvas)
     ensures page { (setup : Setup) (before : List EscItem) → IsSettled setup before s.now canvas.old →
         HasPage (printed_layers setup before) canvas.new.page }
 {
+    canvas.page.count_anew();
     if s.is_open {
         lay_line(s, &canvas.bitmap, &mut canvas.page);
     }

@@ -7,7 +7,7 @@ ghost use Rattle.vp_receipt_settings.specs.Setup.{Setup, across};
 ghost use Rattle.vp_receipt_settings.specs.Rasters.{raster_bytes, rows_to_come, row_so_far, bytes_after};
 ghost use Rattle.vp_receipt.specs.Images.{images, begun, AreAcross};
 ghost use Rattle.vp_receipt.specs.Strips.{own_strips, printed, raster_row_text};
-ghost use Rattle.vp_receipt.specs.Work.{AddsAtMost, CostsAtMost};
+ghost use Rattle.vp_receipt.specs.Work.{AddsAtMost, CostsAtMost, DrawsAtMost};
 
 use vp_esc::laws::one_reading;
 
@@ -30,15 +30,21 @@ pub fn a_row_is_its_bytes()
 {}
 
 /// A law: what an item adds to the work of a page is at most the rows of the line that it ends, of its own
-/// symbol or row of a raster, and for CAN of the area.
+/// symbol or row of a raster, and for CAN of the area. One that ends the line adds to nothing.
 pub fn an_item_adds_at_most()
     ensures { AddsAtMost }
 {}
 
-/// A law: that is at most a line of 192 rows, and one symbol or one wipe of the rows of a page; for a byte of
-/// a raster it is two rows.
+/// A law: that is at most a line of 192 rows, and one symbol or one wipe of the rows of a page, and so is what
+/// is counted behind an item that ends the line; for a byte of a raster it is two rows.
 pub fn an_item_costs_at_most()
     ensures { CostsAtMost }
+{}
+
+/// A law: an item draws at most one character or column into the line, no higher than 192 rows, over what
+/// stands in it or into one that it begins anew.
+pub fn an_item_draws_at_most()
+    ensures { DrawsAtMost }
 {}
 
 /// A law: what the items of bytes print is images, one after the other, each as wide as the paper and of a

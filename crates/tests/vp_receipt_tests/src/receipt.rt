@@ -7,6 +7,7 @@ mod page_runs;
 mod paper_runs;
 mod plain;
 mod symbols;
+mod work;
 
 use std::alloc::{AllocError, Global};
 use std::process::Abort;

@@ -1,5 +1,5 @@
-use Rattle.std.proofs.Common.{◌≡◌, false, ap, sym, ◌∙◌}
-use Rattle.vp_page.specs.Pages.{HasPage}
+use Rattle.std.proofs.Common.{◌≡◌, ◌∷◌, false, ap, sym, ◌∙◌}
+use Rattle.vp_page.specs.Layers.{CountedAnew}
 use Rattle.vp_receipt_settings.specs.Line.{line, is_open}
 use Rattle.vp_receipt_settings.specs.declared.settings.Settings.{Settings}
 use Rattle.vp_receipt.specs.PageMarks.{layers, line_dot}
@@ -8,11 +8,11 @@ use Rattle.vp_receipt.proofs.act.lay_open.Goals as goal
 
 pub returns-then-s-clause-page : goal.returns-then-s-clause-page
 returns-then-s-clause-page c = λ setup before h.
-    let page : HasPage (layers setup before) c.args.canvas.now.page = page_held setup before c.args.s.now _ h c.requires.mode in
-    line_laid setup before c.args.s.now c.args.canvas.now.bitmap c.lay_line.new.page (layers setup before) h.settings c.requires.fit.height c.if-s.true h.line
-    (λ rows. c.lay_line.ensures (line_dot (line setup before)) (layers setup before) rows page)
+    let page = c.count_anew.ensures (layers setup before) (page_held setup before c.args.s.now _ h c.requires.mode) in
+    line_laid setup before c.args.s.now c.args.canvas.now.bitmap c.lay_line.new.page (CountedAnew ∷ layers setup before) h.settings c.requires.fit.height c.if-s.true h.line
+    (λ rows. c.lay_line.ensures (line_dot (line setup before)) (CountedAnew ∷ layers setup before) rows page)
 
 pub returns-else-s-clause-page : goal.returns-else-s-clause-page
 returns-else-s-clause-page c = λ setup before h.
     let shut : is_open (line setup before) ≡ false = sym (ap (λ (q : Settings). q.is_open) h.settings) ∙ c.if-s.false in
-    rw shut (page_held setup before c.args.s.now _ h c.requires.mode)
+    rw shut (c.count_anew.ensures (layers setup before) (page_held setup before c.args.s.now _ h c.requires.mode))
