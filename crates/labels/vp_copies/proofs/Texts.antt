@@ -14,7 +14,7 @@ use Rattle.vp_copies.specs.Copies.{bytes_above, copies_text, line_bytes, lines_o
 
 -- pieces of one length from one of them on
 module _ (piece : ℕ → List ℕ) (n : ℕ) (even : (k : ℕ) → length (piece k) ≡ n) where
-  drop-pieces : (a h k : ℕ) → k ≤ h → drop (k * n) (flat_map piece (range_with_len a h)) ≡ flat_map piece (range_with_len (a + k) (h - k))
+  pub drop-pieces : (a h k : ℕ) → k ≤ h → drop (k * n) (flat_map piece (range_with_len a h)) ≡ flat_map piece (range_with_len (a + k) (h - k))
   drop-pieces a h zero l =
       let none : zero * n ≡ zero = omega arith in
       let here : a ≡ a + zero = omega arith in

@@ -1,5 +1,5 @@
 -- How far copies are put out, and what has to be ready for the next byte.
-use Rattle.std.specs.Prelude.{◌≡◌, ℕ, ◌+◌, ◌*◌, ◌/◌, ◌<◌, ◌≤◌, Bool, false, List, [], slice_index_or}
+use Rattle.std.specs.Prelude.{◌≡◌, ℕ, ◌+◌, ◌*◌, ◌/◌, ◌%◌, ◌<◌, ◌≤◌, Bool, false, List, [], slice_index_or}
 use Rattle.vp_dots.specs.Dots.{dot}
 use Rattle.vp_dots.specs.Images.{Image, row_bytes}
 use Rattle.vp_output.specs.declared.place.Line.{Line}
@@ -47,3 +47,12 @@ IsReadyFor Nothing i line band = IsPainted i line band
 
 abbrev pub IsReady : Image → Place → List (List ℕ) → Type 0
 IsReady i p band = IsReadyFor (ahead p) i p.line band
+
+-- rows are put out, and the next one is of the same band, and not its first
+pub record IsRowsOn (old new : Progress) : Type 0 where
+  pub row : ℕ
+  pub rows : ℕ
+  pub from : old.place.line ≡ Row row
+  pub value : new ≡ record old { place = record { copies = old.place.copies; line = Row (row + rows); byte = 0 } }
+  pub same_band : (row + rows) / BAND_ROWS ≡ row / BAND_ROWS
+  pub inside : 0 < (row + rows) % BAND_ROWS

@@ -1,16 +1,17 @@
 //! Copies that are being put out, as far as there is room.
-ghost use Rattle.std.specs.Prelude.{◌≡◌, ℕ, ◌-◌, ◌<◌, ◌≤◌, ◌++◌, ◌↔◌, Bool, List, min, take, drop, length, IsTrue};
+ghost use Rattle.std.specs.Prelude.{◌≡◌, ℕ, ◌+◌, ◌-◌, ◌%◌, ◌<◌, ◌≤◌, ◌++◌, ◌↔◌, Bool, List, min, take, drop, length, IsTrue};
 ghost use Rattle.vp_dots.specs.Images.{Image};
 ghost use Rattle.vp_copies.specs.Copies.{advanced, ahead, band_rows, copies_text, line_bytes, lines_of, pending};
 ghost use Rattle.vp_output.specs.Lines.{line_text};
-ghost use Rattle.vp_copies.specs.Progress.{image_of, IsPainted, IsPlaceOf, IsReady};
+ghost use Rattle.vp_copies.specs.Progress.{image_of, IsPainted, IsPlaceOf, IsReady, IsRowsOn};
 ghost use Rattle.vp_output.specs.declared.place.Line.TheVariants.{Head};
-ghost use Rattle.vp_label_size.specs.declared.TheConstants.{WIDEST};
+ghost use Rattle.vp_label_size.specs.declared.TheConstants.{WIDEST, BAND_ROWS};
 
 use crate::place::{Ahead, behind, wanted};
+use crate::rows::{bytes_of_row, copy_rows, row_of_band};
 use arrayvec::ArrayVec;
 use std::marker::Model;
-use vp_dots::{dots_decide, header};
+use vp_dots::header;
 use vp_label_size::{BAND_ROWS, LabelBand};
 use vp_output::{Line, Place, put_part};
 
@@ -39,16 +40,15 @@ impl Model for Copies {
     ghost invariant = { IsCopies };
 }
 
-/// The bytes of the band's row for row y of an image `width` dots wide.
-fn row_of_band(band: &LabelBand, y: usize, width: u16) -> &[u8]
-    requires narrow { width ≤ WIDEST }
-    ensures count { length result.now ≡ line_bytes width 0 (Line.Row y) }
-    ensures text { (i : Image) → i.width ≡ width → y < i.height → IsPainted i (Line.Row y) band.now →
-        result.now ≡ line_text (lines_of i) (Line.Row y) }
+/// How many rows of an image, from row y on, there are in its band before the last.
+fn rows_before_last(y: u32, height: u16) -> usize
+    requires { y < height }
+    ensures inside { y % BAND_ROWS + result < BAND_ROWS }
+    ensures below { y + result < height }
 {
-    let row = &band.row(y % BAND_ROWS)[..(usize::from(width) + 7) / 8];
-    dots_decide(row);
-    row
+    let y = y as usize;
+    let last = y / BAND_ROWS * BAND_ROWS + (BAND_ROWS - 1);
+    last.min(usize::from(height) - 1) - y
 }
 
 impl Copies {
@@ -147,5 +147,37 @@ impl Copies {
         let output = put_part(self.place, line, u32::from(self.height), out);
         (self.copies, self.place) = behind(self.copies, output.next);
         output.count
+    }
+
+    /// Puts out whole rows of the place's band, as many as there is room for, but not its last one: where it
+    /// puts out any, others of the band come next.
+    pub fn put_rows(&mut self, band: &LabelBand, out: &mut [u8]) -> usize
+        requires { 0 < self.old.place.copies }
+        ensures on { 0 < result → IsRowsOn self.old self.new }
+        ensures none { result ≡ 0 → (self.new ≡ self.old) × (out.new ≡ out.old) }
+        ensures fits { result ≤ length out.old }
+        ensures within { (dots : ℕ → ℕ → Bool) →
+            result ≤ length (pending (image_of self.old dots) self.old.place) }
+        ensures bytes { (dots : ℕ → ℕ → Bool) →
+            IsPainted (image_of self.old dots) self.old.place.line band.now →
+            out.new ≡ take result (pending (image_of self.old dots) self.old.place) ++ drop result out.old }
+        ensures rest { (dots : ℕ → ℕ → Bool) → pending (image_of self.new dots) self.new.place
+            ≡ drop result (pending (image_of self.old dots) self.old.place) }
+        ensures place { IsPlaceOf self.new.width self.new.height self.new.place }
+    {
+        let Line::Row(y) = self.place.line else {
+            return 0;
+        };
+        let bytes = bytes_of_row(self.width);
+        let rows = rows_before_last(y, self.height).min(out.len() / bytes);
+        if self.place.byte > 0 || rows == 0 {
+            return 0;
+        }
+        copy_rows(band, y, rows, self.width, out);
+        self.place = Place {
+            line: Line::Row(y + rows as u32),
+            byte: 0,
+        };
+        rows * bytes
     }
 }

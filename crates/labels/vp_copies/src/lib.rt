@@ -4,6 +4,7 @@
 //! told when a copy begins and which band is wanted next; so nothing here hangs on what an image shows.
 //!
 //! - `place`: what has to be ready for the next byte, and where it is behind bytes of a copy.
+//! - `rows`: whole rows of a band, many at a call.
 //! - `copies`: copies that are being put out, as far as there is room.
 //! - `law`: the laws of their text.
 #![tactic(auto)]
@@ -11,6 +12,7 @@
 mod copies;
 mod law;
 mod place;
+mod rows;
 
 pub use copies::Copies;
 pub use law::{copies_law, pending_law, place_law};

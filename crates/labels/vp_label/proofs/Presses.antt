@@ -60,6 +60,10 @@ more_ahead copies l byte h = let t : (copies == 0 || nat_lt 0 byte) ≡ true = g
 first_ahead : (copies : ℕ) (l : Line) → 0 < copies → ahead (at copies l 0) ≡ ahead_of l
 first_ahead copies l h = let t : (copies == 0 || nat_lt 0 0) ≡ false = grind (arith, nat_tests) in rw t refl
 
+-- inside a band none is wanted
+pub inside_ahead : (copies y : ℕ) → 0 < copies → 0 < y % 32 → ahead (at copies (Row y) 0) ≡ Nothing
+inside_ahead copies y some inside = first_ahead copies (Row y) some ∙ (let f : (y % 32 == 0) ≡ false = grind (arith, nat_tests) in rw f refl)
+
 -- at no band are there more looks than that
 pub most : (sheets : Sheets) (bytes : List ℕ) (view : View) (t : Threaded) → LooksBounded → (b : ℕ) × (b ≤ bands_of view) × IsBefore sheets bytes view b t →
     t.looks ≤ bands_of view + 2 * pairs sheets bytes view (fields_of t.entries) (bands_of view)

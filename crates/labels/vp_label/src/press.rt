@@ -78,7 +78,7 @@ impl Press {
         }
     }
 
-    /// Puts out bytes of one line.
+    /// Puts out whole rows of a band or, where none come next or have room, bytes of one line.
     fn put_line(&mut self, sheets: &Sheets, stored: &[u8], view: View, out: &mut [u8]) -> usize
         requires press { IsPress sheets.now stored.now view self.old }
         requires some { 0 < self.old.copies.place.copies }
@@ -96,6 +96,10 @@ impl Press {
             IsBefore sheets.now stored.now view (bands_of view) self.new.painter }
     {
         self.prepare(sheets, stored, view);
+        let n = self.copies.put_rows(&self.band, out);
+        if n > 0 {
+            return n;
+        }
         self.copies.put_line(&self.band, out)
     }
 

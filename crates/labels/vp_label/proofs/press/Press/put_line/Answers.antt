@@ -1,17 +1,19 @@
-use Rattle.std.proofs.Common.{◌≡◌, ◌<◌, ◌≤◌, ◌++◌, ℕ, length, take, drop, ap, sym, subst, ◌∙◌, arith}
+use Rattle.std.proofs.Common.{◌≡◌, ◌+◌, ◌/◌, ◌<◌, ◌≤◌, ◌++◌, ℕ, length, take, drop, ap, sym, subst, ◌∙◌, arith}
 use Rattle.std.specs.Prelude.{map}
 use Rattle.vp_field.specs.Fields.{stroke_of}
 use Rattle.vp_field.specs.Strokes.{image_dot}
 use Rattle.vp_bands.specs.Meeting.{bands_of}
 use Rattle.vp_bands.specs.Standing.{fields_of, IsBefore}
-use Rattle.vp_copies.specs.Progress.{Progress}
+use Rattle.vp_copies.specs.Copies.{ahead, pending}
+use Rattle.vp_copies.specs.Progress.{Progress, image_of, IsPainted, IsReady}
 use Rattle.vp_output.specs.Lines.{IsLineOf}
-use Rattle.vp_label.specs.Press.{left}
-use Rattle.vp_label.proofs.Presses.{met_behind, same_left, IsMet}
+use Rattle.vp_output.specs.declared.place.Line.TheVariants.{Row}
+use Rattle.vp_label.specs.Press.{bands_above, left, IsNextBand}
+use Rattle.vp_label.proofs.Presses.{inside_ahead, met_behind, same_left, IsMet}
 use Rattle.vp_label.proofs.press.Press.put_line.Goals as goal
 
-pub returns : goal.returns
-returns c =
+pub returns-then-n-gt0 : goal.returns-then-n-gt0
+returns-then-n-gt0 c =
     let sheets = c.args.sheets.now in
     let bytes = c.args.stored.now in
     let view = c.args.view in
@@ -20,16 +22,61 @@ returns c =
     let next = (λ (b : ℕ). IsBefore sheets bytes view b now.painter) in
     let p = c.requires.press in
     let same = c.prepare.ensures.copies in
-    let part = c.put_line.ensures in
+    let part = c.put_rows-n.ensures in
     let dots = image_dot view (map (stroke_of sheets bytes) (fields_of now.painter.entries)) in
     let text : left sheets bytes view now ≡ left sheets bytes view old = same_left sheets bytes view old now same c.prepare.ensures.fields in
-    let out : 0 < c.put_line.result = part.some c.requires.room in
-    let height : now.copies.height ≡ view.height = ap (λ (x : Progress). x.height) same ∙ p.height in
-    let high : 0 < now.copies.height = (let h = p.high in omega arith) in
-    let line : IsLineOf now.copies.height now.copies.place.line = subst (λ (x : Progress). IsLineOf x.height x.place.line) (sym same) p.place.line in
     let some : 0 < now.copies.place.copies = subst (λ (x : Progress). 0 < x.place.copies) (sym same) c.requires.some in
+    let on = part.on c.if-n-gt0.true in
+    let inside = inside_ahead now.copies.place.copies (on.row + on.rows) some on.inside in
+    let before : next (on.row / 32 + 1) = rw on.from at c.prepare.ensures.before in
+    let painted : IsPainted (image_of now.copies dots) (Row on.row) now.band = rw on.from at c.prepare.ensures.painted in
+    record {
+      press = record {
+        width = ap (λ (x : Progress). x.width) on.value ∙ ap (λ (x : Progress). x.width) same ∙ p.width;
+        height = ap (λ (x : Progress). x.height) on.value ∙ ap (λ (x : Progress). x.height) same ∙ p.height;
+        narrow = p.narrow;
+        low = p.low;
+        high = p.high;
+        place = part.place;
+        next = λ more. subst (λ (x : Progress). IsNextBand (ahead x.place) x.place.line (bands_of view) next) (sym on.value) (rw (inside, on.same_band) before);
+        over = λ none. absurd (let e = ap (λ (x : Progress). x.place.copies) on.value in omega arith);
+        ready = subst (λ (x : Progress). IsReady (image_of x dots) x.place now.band) (sym on.value) (rw (inside, on.same_band) painted);
+      };
+      fields = c.prepare.ensures.fields;
+      some = c.if-n-gt0.true;
+      fits = part.fits;
+      within = subst (λ t. c.put_rows-n.result ≤ length t) text (part.within dots);
+      bytes = part.bytes dots c.prepare.ensures.painted ∙ ap (λ t. take c.put_rows-n.result t ++ drop c.put_rows-n.result c.args.out.now) text;
+      rest = part.rest dots ∙ ap (drop c.put_rows-n.result) text;
+      ended = λ between. absurd (let no = sym (ap (λ (x : Progress). x.place.line) on.value) ∙ between.line in cc);
+    }
+
+pub returns : goal.returns
+returns c =
+    let sheets = c.args.sheets.now in
+    let bytes = c.args.stored.now in
+    let view = c.args.view in
+    let old = c.args.self.now in
+    let now = c.prepare.new.self in
+    let copies = c.put_rows-n.new.self in
+    let next = (λ (b : ℕ). IsBefore sheets bytes view b now.painter) in
+    let p = c.requires.press in
+    let idle = c.put_rows-n.ensures.none (let n = c.if-n-gt0.false in omega arith) in
+    let same : copies ≡ old.copies = idle.0 ∙ c.prepare.ensures.copies in
+    let part = c.put_line.ensures in
+    let dots = image_dot view (map (stroke_of sheets bytes) (fields_of now.painter.entries)) in
+    let text : pending (image_of copies dots) copies.place ≡ left sheets bytes view old = ap (λ (x : Progress). pending (image_of x dots) x.place) idle.0
+    ∙ same_left sheets bytes view old now c.prepare.ensures.copies c.prepare.ensures.fields in
+    let painted : IsPainted (image_of copies dots) copies.place.line now.band =
+    subst (λ (x : Progress). IsPainted (image_of x dots) x.place.line now.band) (sym idle.0) c.prepare.ensures.painted in
+    let out : 0 < c.put_line.result = part.some (rw idle.1 c.requires.room) in
+    let height : copies.height ≡ view.height = ap (λ (x : Progress). x.height) same ∙ p.height in
+    let high : 0 < copies.height = (let h = p.high in omega arith) in
+    let line : IsLineOf copies.height copies.place.line = subst (λ (x : Progress). IsLineOf x.height x.place.line) (sym same) p.place.line in
+    let some : 0 < copies.place.copies = subst (λ (x : Progress). 0 < x.place.copies) (sym same) c.requires.some in
+    let before : next (bands_above copies.place.line) = subst (λ (x : Progress). next (bands_above x.place.line)) (sym idle.0) c.prepare.ensures.before in
     let met : IsMet (bands_of view) next c.put_line.new.self.place = subst (λ (x : Progress). IsMet (bands_of view) next x.place) (sym part.value)
-    (met_behind now.copies.width now.copies.height (bands_of view) next c.put_line.result now.copies.place (omega arith) high line some out c.prepare.ensures.before) in
+    (met_behind copies.width copies.height (bands_of view) next c.put_line.result copies.place (omega arith) high line some out before) in
     record {
       press = record {
         width = ap (λ (x : Progress). x.width) part.value ∙ ap (λ (x : Progress). x.width) same ∙ p.width;
@@ -40,13 +87,14 @@ returns c =
         place = part.place;
         next = met.pending;
         over = met.over;
-        ready = part.ready dots c.prepare.ensures.painted;
+        ready = part.ready dots painted;
       };
       fields = c.prepare.ensures.fields;
       some = out;
-      fits = omega (arith, part.count);
+      fits = omega (arith, part.count, ap length idle.1);
       within = subst (λ t. c.put_line.result ≤ length t) text (part.within dots);
-      bytes = part.bytes dots c.prepare.ensures.painted ∙ ap (λ t. take c.put_line.result t ++ drop c.put_line.result c.args.out.now) text;
+      bytes = part.bytes dots painted ∙ ap (λ t. take c.put_line.result t ++ drop c.put_line.result c.put_rows-n.new.out) text
+          ∙ ap (λ o. take c.put_line.result (left sheets bytes view old) ++ drop c.put_line.result o) idle.1;
       rest = part.rest dots ∙ ap (drop c.put_line.result) text;
       ended = met.between;
     }

@@ -4,14 +4,14 @@ use Rattle.std.proofs.lemmas.List.{length-take-le}
 use Rattle.vp_dots.specs.Dots.{dot}
 use Rattle.vp_dots.specs.Images.{row_bytes}
 use Rattle.vp_copies.proofs.Texts.{dot-take}
-use Rattle.vp_copies.proofs.copies.row_of_band.Goals as goal
+use Rattle.vp_copies.proofs.rows.row_of_band.Goals as goal
 
 pub returns-clause-text : goal.returns-clause-text
 returns-clause-text c = λ i w below painted.
     let row = c.row.result.now in
     let y = c.args.y in
-    let n = (c.from.result + 7) / 8 in
-    let wide : n ≡ row_bytes i.width = omega arith in
+    let n = c.bytes_of_row.result in
+    let wide : n ≡ row_bytes i.width = c.bytes_of_row.ensures ∙ ap row_bytes (sym w) in
     let fits : n ≤ length row = omega arith in
     let here : 32 * (y / 32) + y % 32 ≡ y = omega arith in
     c.dots_decide.ensures.row (row_bytes i.width) (λ x. ltb x i.width && i.is_black x y) (length-take-le n row fits ∙ wide)
