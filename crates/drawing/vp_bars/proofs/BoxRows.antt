@@ -98,9 +98,7 @@ has_below Both k t y h l = omega arith
 
 pub text_fits : (f : Font) (p : HriPosition) → 0 < texts_above p + texts_below p → (t : List ℕ) → text_width f p t ≡ line_width f t
 text_fits f None h t = absurd (omega arith)
-text_fits f Above h t = refl
-text_fits f Below h t = refl
-text_fits f Both h t = refl
+text_fits f _ h t = refl
 
 module _ (b : Boxed) (y x : ℕ) where
   text_inside : (v : ℕ) → 0 < texts_above b.place + texts_below b.place → text_row b v x ≡ true → x < box_width b

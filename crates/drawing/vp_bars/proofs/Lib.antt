@@ -9,7 +9,6 @@ pub mod Packed
 pub mod PackedTexts
 pub mod Tables
 pub mod Paints
-pub mod Spaces
 pub mod Draws
 pub mod WordBars
 pub mod Halves

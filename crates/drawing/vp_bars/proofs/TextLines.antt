@@ -14,7 +14,7 @@ use Rattle.vp_dots.specs.declared.Op.{Op}
 use Rattle.vp_dots.proofs.Paints.{painted_none, painted_same}
 use Rattle.vp_dots.proofs.Shifts.{shifted_none, shifted_same}
 use Rattle.vp_bars.specs.Drawing.{Drawn}
-use Rattle.vp_bars.specs.Boxes.{plain, line_dot}
+use Rattle.vp_bars.specs.Boxes.{plain_style, line_dot}
 use Rattle.vp_bars.proofs.Paints.{drawn_more}
 
 -- right of a cell there is no ink
@@ -38,7 +38,7 @@ wide A n j h = lt-ltb j (12 * suc n) (omega arith)
 wide B n j h = lt-ltb j (9 * suc n) (omega arith)
 
 module _ (sheets : Sheets) (font : Font) (y : ℕ) where
-  cons_here : (c : ℕ) (rest : List ℕ) (j : ℕ) → j < font_width font → line_dot sheets font (c ∷ rest) j y ≡ cell_dot sheets font plain c j y
+  cons_here : (c : ℕ) (rest : List ℕ) (j : ℕ) → j < font_width font → line_dot sheets font (c ∷ rest) j y ≡ cell_dot sheets font plain_style c j y
   unfolding line_dot
   cons_here c rest j h = let p = place_here font j h in rw (wide font (length rest) j h, p.0, p.1) refl
 
@@ -47,7 +47,7 @@ module _ (sheets : Sheets) (font : Font) (y : ℕ) where
   cons_after c rest j = let p = place_after font j in rw (room font (length rest) j, p.0, p.1) refl
 
   -- the first cell of those from i on
-  pub line_here : (text : List ℕ) (i j : ℕ) → i < length text → j < font_width font → line_dot sheets font (drop i text) j y ≡ cell_dot sheets font plain (get_or text i 0) j y
+  pub line_here : (text : List ℕ) (i j : ℕ) → i < length text → j < font_width font → line_dot sheets font (drop i text) j y ≡ cell_dot sheets font plain_style (get_or text i 0) j y
   line_here text i j h k = ap (λ cs. line_dot sheets font cs j y) (drop_more text i 0 h) ∙ cons_here (get_or text i 0) (drop (i + 1) text) j k
 
   -- and those behind it
@@ -69,15 +69,15 @@ module _ (sheets : Sheets) (font : Font) (y : ℕ) where
 
 -- one more cell is painted
 pub line_more : (op : Op) (at : ℤ) (f : ℕ → Bool) (old row new : List ℕ) (sheets cs : Sheets) (font cf : Font) (ct : Style) (text : List ℕ) (c y i x w : ℕ)
-    → i < length text → w ≡ font_width font → cs ≡ sheets → cf ≡ font → ct ≡ plain → c ≡ get_or text i 0
+    → i < length text → w ≡ font_width font → cs ≡ sheets → cf ≡ font → ct ≡ plain_style → c ≡ get_or text i 0
     → Drawn op at f old row x (λ j. line_dot sheets font (drop i text) j y) → Painted op (shifted at (λ k. leb x k && cell_dot cs cf ct c (k - x) y)) row new
     → Drawn op at f old new (x + w) (λ j. line_dot sheets font (drop (i + 1) text) j y)
 line_more op at f old row new sheets cs font cf ct text c y i x w h v s e t k d p =
-    let same : (u : ℕ) → cell_dot cs cf ct c u y ≡ cell_dot sheets font plain (get_or text i 0) u y = λ u.
-    ap (λ z. cell_dot z cf ct c u y) s ∙ ap (λ z. cell_dot sheets z ct c u y) e ∙ ap (λ z. cell_dot sheets font z c u y) t ∙ ap (λ z. cell_dot sheets font plain z u y) k in
+    let same : (u : ℕ) → cell_dot cs cf ct c u y ≡ cell_dot sheets font plain_style (get_or text i 0) u y = λ u.
+    ap (λ z. cell_dot z cf ct c u y) s ∙ ap (λ z. cell_dot sheets z ct c u y) e ∙ ap (λ z. cell_dot sheets font z c u y) t ∙ ap (λ z. cell_dot sheets font plain_style z u y) k in
     drawn_more op at f old row new x w (λ j. line_dot sheets font (drop i text) j y) (λ j. cell_dot cs cf ct c j y) (λ j. line_dot sheets font (drop (i + 1) text) j y) d p
     (λ j l. line_here sheets font y text i j h (omega arith) ∙ sym (same j))
-    (λ j l. same j ∙ cell_past sheets font plain (get_or text i 0) j y (omega arith))
+    (λ j l. same j ∙ cell_past sheets font plain_style (get_or text i 0) j y (omega arith))
     (λ j. ap (λ n. line_dot sheets font (drop i text) (n + j) y) v ∙ line_after sheets font y text i j h)
 
 module _ (op : Op) (at : ℤ) (sheets : Sheets) (font : Font) (text : List ℕ) (y left : ℕ) where
@@ -111,7 +111,7 @@ module _ (op : Op) (at : ℤ) (sheets : Sheets) (font : Font) (text : List ℕ) 
 
   -- one more cell
   pub line_next : (old row new : List ℕ) (cs : Sheets) (cf : Font) (ct : Style) (c i place : ℕ)
-      → i < length text → place ≡ left + font_width font * i → cs ≡ sheets → cf ≡ font → ct ≡ plain → c ≡ get_or text i 0
+      → i < length text → place ≡ left + font_width font * i → cs ≡ sheets → cf ≡ font → ct ≡ plain_style → c ≡ get_or text i 0
       → LeftFrom old row i → Painted op (shifted at (λ k. leb place k && cell_dot cs cf ct c (k - place) y)) row new → LeftFrom old new (i + 1)
   line_next old row new cs cf ct c i place h p s e t k d q =
       let here : left + font_width font * i + font_width font ≡ left + font_width font * (i + 1) = omega arith in

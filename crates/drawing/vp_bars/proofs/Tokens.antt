@@ -1,9 +1,9 @@
 -- Data of Code 128 token by token, and the values that they give one after another.
-use Rattle.std.proofs.Common.{◌≡◌, ℕ, ◌+◌, ◌*◌, ◌<◌, List, [], ◌∷◌, ◌++◌, length, get_or, drop, Result, Ok, Err, eqb, true, false, refl, sym, ap, ◌∙◌, append_assoc, arith}
+use Rattle.std.proofs.Common.{◌≡◌, ℕ, ◌+◌, ◌*◌, ◌<◌, List, [], ◌++◌, length, get_or, drop, Result, Ok, Err, refl, sym, ap, ◌∙◌, append_assoc, arith}
 use Rattle.std.proofs.lemmas.List.{drop_more}
 use Rattle.vp_dots.specs.declared.fault.Why.{Why}
-use Rattle.vp_bars.specs.declared.code_128.Token.TheVariants.{Byte, Code, Lead}
-use Rattle.vp_bars.specs.CodeSets.{onto, tokens, placed}
+use Rattle.vp_bars.specs.declared.code_128.Token.TheVariants.{Code}
+use Rattle.vp_bars.specs.CodeSets.{onto, placed}
 
 pub onto_none : (r : Result (List ℕ) Why) → onto [] r ≡ r
 onto_none (Ok vs) = refl
@@ -12,22 +12,6 @@ onto_none (Err why) = refl
 pub onto_more : (vs ws : List ℕ) (r : Result (List ℕ) Why) → onto vs (onto ws r) ≡ onto (vs ++ ws) r
 onto_more vs ws (Ok us) = ap (λ xs. Ok xs) (sym (append_assoc vs ws us))
 onto_more vs ws (Err why) = refl
-
-module _ (lead : ℕ) where
-  pub token_byte : (bytes : List ℕ) → 0 < length bytes → eqb (get_or bytes 0 0) lead ≡ false → tokens lead bytes ≡ Byte (get_or bytes 0 0) ∷ tokens lead (drop 1 bytes)
-  token_byte [] h e = absurd (omega arith)
-  token_byte (b ∷ []) h e = rw e refl
-  token_byte (b ∷ c ∷ bytes) h e = rw e refl
-
-  pub token_lead : (bytes : List ℕ) → length bytes ≡ 1 → eqb (get_or bytes 0 0) lead ≡ true → tokens lead bytes ≡ Lead ∷ tokens lead (drop 1 bytes)
-  token_lead [] h e = absurd (omega arith)
-  token_lead (b ∷ []) h e = rw e refl
-  token_lead (b ∷ c ∷ bytes) h e = absurd (omega arith)
-
-  pub token_code : (bytes : List ℕ) → 1 < length bytes → eqb (get_or bytes 0 0) lead ≡ true → tokens lead bytes ≡ Code (get_or bytes 1 0) ∷ tokens lead (drop 2 bytes)
-  token_code [] h e = absurd (omega arith)
-  token_code (b ∷ []) h e = absurd (omega arith)
-  token_code (b ∷ c ∷ bytes) h e = rw e refl
 
 -- one more value of the sum
 pub placed_more : (vs : List ℕ) (i sum place start : ℕ) → i < length vs → start + placed 1 vs ≡ sum + placed place (drop i vs)

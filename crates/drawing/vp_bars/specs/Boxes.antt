@@ -36,8 +36,8 @@ texts_below Below = 1
 texts_below Both = 1
 
 -- text is drawn in unmagnified cells
-abbrev pub plain : Style
-plain = record { wm = 1; hm = 1; spacing = 0; bold = false; underline = 0; inverse = false }
+abbrev pub plain_style : Style
+plain_style = record { wm = 1; hm = 1; spacing = 0; bold = false; underline = 0; inverse = false }
 
 abbrev pub line_width : Font → List ℕ → ℕ
 line_width font text = font_width font * length text
@@ -45,7 +45,7 @@ line_width font text = font_width font * length text
 -- dot (x, y) of cells side by side
 unfoldable pub line_dot : Sheets → Font → List ℕ → ℕ → ℕ → Bool
 line_dot sheets font text x y = nat_lt x (line_width font text)
-    && cell_dot sheets font plain (slice_index text (x / font_width font)) (x % font_width font) y
+    && cell_dot sheets font plain_style (slice_index text (x / font_width font)) (x % font_width font) y
 
 -- no text asked for is no text
 abbrev pub text_at : HriPosition → List ℕ → List ℕ

@@ -54,10 +54,10 @@ tokens lead (b ∷ c ∷ bytes) = if b == lead then Code c ∷ tokens lead bytes
     else Byte b ∷ tokens lead (c ∷ bytes)
 
 -- the bytes that a token is spelled with
-abbrev pub size_of : Token → ℕ
-size_of (Byte b) = 1
-size_of (Code c) = 2
-size_of Lead = 1
+abbrev pub token_size : Token → ℕ
+token_size (Byte b) = 1
+token_size (Code c) = 2
+token_size Lead = 1
 
 -- each value times its place, from this place on
 abbrev pub placed : ℕ → List ℕ → ℕ

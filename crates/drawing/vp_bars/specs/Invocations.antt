@@ -48,14 +48,14 @@ valued set None following = Err why.CodeSet
 valued set (Some v) following = onto (given set v) following
 
 -- a code that invokes no set; >8 is FNC1 in each
-abbrev pub other_code : CodeSet → ℕ → Result (List ℕ) Why → Result (List ℕ) Why
-other_code set c following = if c == code "8" then onto (102 ∷ []) following
+abbrev pub other_invocation : CodeSet → ℕ → Result (List ℕ) Why → Result (List ℕ) Why
+other_invocation set c following = if c == code "8" then onto (102 ∷ []) following
     else valued set (invoked_value c) following
 
 -- a code before what follows it in each set
-abbrev pub coded : CodeSet → ℕ → Option CodeSet → (CodeSet → Result (List ℕ) Why) → Result (List ℕ) Why
-coded set c None following = other_code set c (following set)
-coded set c (Some next) following = onto (invocation set next) (following next)
+abbrev pub invoked_code : CodeSet → ℕ → Option CodeSet → (CodeSet → Result (List ℕ) Why) → Result (List ℕ) Why
+invoked_code set c None following = other_invocation set c (following set)
+invoked_code set c (Some next) following = onto (invocation set next) (following next)
 
 -- the number of two digits
 abbrev pub pair_of : ℕ → ℕ → ℕ
@@ -71,7 +71,7 @@ pair_in _ v = v ∷ []
 abbrev pub invoked : CodeSet → List Token → Result (List ℕ) Why
 invoked set [] = Ok []
 invoked set (Lead ∷ ts) = Err why.CodeSet
-invoked set (Code c ∷ ts) = coded set c (invoked_set c) (λ next. invoked next ts)
+invoked set (Code c ∷ ts) = invoked_code set c (invoked_set c) (λ next. invoked next ts)
 invoked B (Byte b ∷ ts) = plain (value_in B b) (invoked B ts)
 invoked set (Byte d ∷ Byte e ∷ ts) = if is_ascii_digit d
     then onto (if is_ascii_digit e then pair_in set (pair_of d e) else []) (invoked set ts)

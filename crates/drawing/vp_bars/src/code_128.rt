@@ -2,7 +2,7 @@
 
 ghost use Rattle.std.specs.Prelude.{◌≡◌, ℕ, ◌+◌, ◌*◌, ◌≤◌, ◌++◌, ◌∷◌, [], List, length, Result, Ok, Err, OnOk, IfErr, MatchOption};
 ghost use Rattle.vp_dots.specs.declared.fault.Why.{Why};
-ghost use Rattle.vp_bars.specs.CodeSets.{start_of, selector_of, other_of, value_in, onto, plain, tokens, size_of, code_128_check, symbol_from};
+ghost use Rattle.vp_bars.specs.CodeSets.{start_of, selector_of, other_of, value_in, onto, plain, tokens, token_size, code_128_check, symbol_from};
 
 use crate::bars::{Bars, extend};
 use crate::symbology::Symbology;
@@ -85,7 +85,7 @@ pub(crate) fn first_token(lead: u8, bytes: &[u8]) -> Option<(Token, &[u8])>
     ensures token { MatchOption result (bytes.now ≡ []) (λ t. tokens lead bytes.now
         ≡ t.0 ∷ tokens lead t.1.now) }
     ensures size { MatchOption result (bytes.now ≡ []) (λ t. length bytes.now
-        ≡ size_of t.0 + length t.1.now) }
+        ≡ token_size t.0 + length t.1.now) }
 {
     let b = *bytes.first()?;
     if b != lead {

@@ -3,7 +3,7 @@
 ghost use Rattle.std.specs.Prelude.{◌≡◌, ℕ, ◌+◌, ◌≤◌, ◌<◌, ◌++◌, ◌∷◌, [], List, length, true, Result, Ok, Err, OnOk, IfOk, IfErr, IfSome, MatchOption, Some, None};
 ghost use Rattle.vp_dots.specs.declared.fault.Why.{Why};
 ghost use Rattle.vp_bars.specs.declared.code_128.CodeSet.{CodeSet};
-ghost use Rattle.vp_bars.specs.CodeSets.{onto, tokens, size_of};
+ghost use Rattle.vp_bars.specs.CodeSets.{onto, tokens, token_size};
 ghost use Rattle.vp_bars.specs.Escapes.{brace, selected as selected_by, function_in, other_code, coded, shifted, is_shift, escaped, after_shift, from_set, escaped_symbol, code128_esc_of};
 
 use crate::bars::{Bars, check_length};
@@ -115,13 +115,13 @@ fn read_token<'a>(
     bytes: &'a [u8],
     values: &mut ArrayVec<u8, 258>,
 ) -> Result<(CodeSet, &'a [u8]), Why>
-    requires { length values.old.items + size_of token + length bytes.now ≤ 258 }
+    requires { length values.old.items + token_size token + length bytes.now ≤ 258 }
     ensures value { IfOk result (λ next. onto values.old.items
         (escaped set (token ∷ tokens brace bytes.now))
         ≡ onto values.new.items (escaped next.0 (tokens brace next.1.now))) }
     ensures refused { IfErr result (λ why. escaped set (token ∷ tokens brace bytes.now) ≡ Err why) }
     ensures size { IfOk result (λ next. length values.new.items + length next.1.now ≤ length
-        values.old.items + size_of token + length bytes.now) }
+        values.old.items + token_size token + length bytes.now) }
     ensures shorter { IfOk result (λ next. length next.1.now ≤ length bytes.now) }
 {
     match token {

@@ -6,8 +6,8 @@ ghost use Rattle.vp_dots.specs.declared.fault.Why.{Why};
 ghost use Rattle.vp_bars.specs.declared.code_128.CodeSet.{CodeSet};
 ghost use Rattle.vp_bars.specs.declared.code_128.CodeSet.TheVariants.{B};
 ghost use Rattle.vp_bars.specs.declared.code_128.Token.TheVariants.{Byte};
-ghost use Rattle.vp_bars.specs.CodeSets.{onto, tokens, size_of};
-ghost use Rattle.vp_bars.specs.Invocations.{greater, started as started_by, invoked_set as set_invoked_by, invoked_value as value_invoked_by, valued, other_code, coded, pair_of as number_of, pair_in, invoked, invoked_from, invoked_symbol};
+ghost use Rattle.vp_bars.specs.CodeSets.{onto, tokens, token_size};
+ghost use Rattle.vp_bars.specs.Invocations.{greater, started as started_by, invoked_set as set_invoked_by, invoked_value as value_invoked_by, valued, other_invocation, invoked_code, pair_of as number_of, pair_in, invoked, invoked_from, invoked_symbol};
 
 use crate::bars::Bars;
 use crate::code_128::{CodeSet, FNC1, Token, first_token, push_byte, push_value, symbol};
@@ -60,8 +60,9 @@ fn invoked_value(code: u8) -> Option<u8>
 fn read_other(set: CodeSet, code: u8, values: &mut ArrayVec<u8, 258>) -> Result<(), Why>
     requires { length values.old.items ≤ 257 }
     ensures value { OnOk result ((r : Result (List ℕ) Why)
-        → onto values.old.items (other_code set code r) ≡ onto values.new.items r) }
-    ensures refused { IfErr result (λ why. (r : Result (List ℕ) Why) → other_code set code r ≡ Err why) }
+        → onto values.old.items (other_invocation set code r) ≡ onto values.new.items r) }
+    ensures refused { IfErr result (λ why. (r : Result (List ℕ) Why)
+        → other_invocation set code r ≡ Err why) }
     ensures len { OnOk result (length values.new.items ≤ length values.old.items + 1) }
 {
     if code == b'8' {
@@ -82,9 +83,10 @@ fn read_other(set: CodeSet, code: u8, values: &mut ArrayVec<u8, 258>) -> Result<
 fn read_code(set: CodeSet, code: u8, values: &mut ArrayVec<u8, 258>) -> Result<CodeSet, Why>
     requires { length values.old.items ≤ 257 }
     ensures value { IfOk result (λ next. (k : CodeSet → Result (List ℕ) Why)
-        → onto values.old.items (coded set code (set_invoked_by code) k) ≡ onto values.new.items (k next)) }
+        → onto values.old.items (invoked_code set code (set_invoked_by code) k)
+        ≡ onto values.new.items (k next)) }
     ensures refused { IfErr result (λ why. (k : CodeSet → Result (List ℕ) Why)
-        → coded set code (set_invoked_by code) k ≡ Err why) }
+        → invoked_code set code (set_invoked_by code) k ≡ Err why) }
     ensures len { OnOk result (length values.new.items ≤ length values.old.items + 1) }
 {
     match invoked_set(code) {
@@ -161,13 +163,13 @@ fn read_token<'a>(
     bytes: &'a [u8],
     values: &mut ArrayVec<u8, 258>,
 ) -> Result<(CodeSet, &'a [u8]), Why>
-    requires { length values.old.items + size_of token + length bytes.now ≤ 258 }
+    requires { length values.old.items + token_size token + length bytes.now ≤ 258 }
     ensures value { IfOk result (λ next. onto values.old.items
         (invoked set (token ∷ tokens greater bytes.now))
         ≡ onto values.new.items (invoked next.0 (tokens greater next.1.now))) }
     ensures refused { IfErr result (λ why. invoked set (token ∷ tokens greater bytes.now) ≡ Err why) }
     ensures size { IfOk result (λ next. length values.new.items + length next.1.now ≤ length
-        values.old.items + size_of token + length bytes.now) }
+        values.old.items + token_size token + length bytes.now) }
     ensures shorter { IfOk result (λ next. length next.1.now ≤ length bytes.now) }
 {
     match token {

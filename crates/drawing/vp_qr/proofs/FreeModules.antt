@@ -9,10 +9,6 @@ use Rattle.vp_qr.specs.Symbol.{finder, finder_dark, alignment_dark, format_bit, 
 use Rattle.vp_qr.specs.Walk.{dark}
 use Rattle.vp_qr.specs.Penalty.{is_set, same}
 
-or_parts : (a b : Bool) → (a || b) ≡ false → (a ≡ false) × (b ≡ false)
-or_parts true b h = cc
-or_parts false b h = (refl, h)
-
 small : (i : ℕ) → ltb i 9 ≡ false → ltb i 8 ≡ false
 small i h = le-ltb i 8 (elim (cases_lt i 9) [ inl lt ↦ absurd (true_is_not_false (sym (lt-ltb i 9 lt) ∙ h)) | inr le ↦ omega arith ])
   where

@@ -60,12 +60,6 @@ module _ (v : ℕ) (low : 1 ≤ v) (high : v ≤ 10) where
   pub place_row : (m : ℕ) → m < steps (size v) → (place (size v) m).row < size v
   place_row m lt = ltb-true _ _ (and_parts _ _ (and_parts _ _ (and_parts _ _ (and_parts _ _ (back m lt)).0).0).0).1
 
-  pub place_column : (m : ℕ) → m < steps (size v) → (place (size v) m).column < size v
-  place_column m lt = ltb-true _ _ (and_parts _ _ (and_parts _ _ (and_parts _ _ (back m lt)).0).0).1
-
-  pub place_pair : (m : ℕ) → m < steps (size v) → m / (2 * size v) < (size v - 1) / 2
-  place_pair m lt = ltb-true _ _ (and_parts _ _ (and_parts _ _ (back m lt)).0).1
-
   there : (i j : ℕ) → i < size v → j < size v → goes_there (size v) i j ≡ true
   there i j hi hj =
       passes_at (size v) (goes_there (size v) i)
@@ -215,6 +209,3 @@ module _ (v : ℕ) (low : 1 ≤ v) (high : v ≤ 10) (pair half : ℕ) (hp : pai
 
 pub steps_of_pairs : (v : ℕ) → 1 ≤ v → v ≤ 10 → steps (size v) ≤ 2 * size v * ((size v - 1) / 2)
 steps_of_pairs v low high = leb-true _ _ (for_version (λ n. leb (steps (size n)) (2 * size n * ((size n - 1) / 2))) refl v low high)
-
-pub pair_more : (s pair : ℕ) → 2 * s * pair + 2 * s ≡ 2 * s * (pair + 1)
-pair_more s pair = sym (mul-suc (2 * s) pair) ∙ ap (λ n. 2 * s * n) (let e : suc pair ≡ pair + 1 = omega arith in e)

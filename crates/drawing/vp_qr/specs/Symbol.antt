@@ -57,8 +57,8 @@ abbrev pub differ : Bool → Bool → Bool
 differ true b = not b
 differ false b = b
 
--- a module under mask m, with the bits of the codes of format and version (7.9 and 7.10) where they stand; the
--- data modules come unmasked
+-- a module under mask m, with the bits of the codes of format and version (7.9 and 7.10) where they stand;
+-- the data modules come unmasked
 unfoldable pub module_at : ℕ → ℕ → ℕ → ℕ → (ℕ → ℕ → Bool) → ℕ → ℕ → Bool
 module_at v format version_code m data_at i j =
     let s = size v in

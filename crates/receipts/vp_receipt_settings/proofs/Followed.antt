@@ -16,7 +16,7 @@ use Rattle.vp_receipt_settings.specs.Tabs.{tab_stops}
 use Rattle.vp_receipt_settings.specs.Symbols.{symbol_image, image_rows}
 use Rattle.vp_receipt_settings.specs.Pages.{is_paged, is_area, area_cut, is_vertical_move, vertical_moved, vertical_after}
 use Rattle.vp_receipt_settings.specs.Rasters.{draws, scale_or, times_down}
-use Rattle.vp_receipt_settings.specs.Line.{line, is_open, vertical, Frame, frame, margin_or, width_or, mode}
+use Rattle.vp_receipt_settings.specs.Line.{line, is_open, vertical, Frame, frame, margin_or, area_width_or, mode}
 use Rattle.vp_receipt_settings.specs.Settings.{settings_of, page_of, settings_length}
 use Rattle.vp_receipt_settings.specs.Effects.{effect_of, feed_of, is_full_of}
 use Rattle.vp_receipt_settings.specs.Followed.{with_set, line_after, page_after}
@@ -144,7 +144,7 @@ follows setup before (LeftMargin margin) n h =
     rw (mode_kept (is_open (line setup before)) f (record f { left_margin = margin_or margin setup.width f.left_margin }) refl) refl
 follows setup before (AreaWidth width) n h =
     let f = frame setup before in
-    rw (mode_kept (is_open (line setup before)) f (record f { area_width = width_or width f.area_width }) refl) refl
+    rw (mode_kept (is_open (line setup before)) f (record f { area_width = area_width_or width f.area_width }) refl) refl
 follows setup before _ n h = refl
 
 pub follows_from : (setup : Setup) (before : List EscItem) (item : EscItem) (s : Settings) (effect : Effect) → ((byte : ℕ) → item ≡ RasterByte byte → ⊥) → s.page.vertical ≤ 65535 → effect ≡ effect_of s item → s ≡ settings_of setup before

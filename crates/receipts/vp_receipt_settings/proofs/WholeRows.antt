@@ -7,7 +7,7 @@ use Rattle.std.proofs.lemmas.List.{length-take-le, length-drop}
 use Rattle.vp_esc.specs.declared.item.EscItem.{EscItem}
 use Rattle.vp_esc.specs.declared.item.EscItem.TheVariants.{RasterByte}
 use Rattle.vp_esc.specs.declared.item.RasterScale.{RasterScale}
-use Rattle.vp_esc.specs.declared.item.RasterScale.TheVariants.{Normal, DoubleWidth, DoubleHeight, Quadruple}
+use Rattle.vp_esc.specs.declared.item.RasterScale.TheVariants.{Normal}
 use Rattle.vp_page.specs.declared.area.Area.{Area}
 use Rattle.vp_receipt_settings.specs.Setup.{Setup}
 use Rattle.vp_receipt_settings.specs.Gathering.{IsGathering, IsPartRow}
@@ -88,9 +88,7 @@ row_ends (b ∷ c ∷ bytes) before h =
 
 some_down : (k : RasterScale) → 0 < times_down k
 some_down Normal = omega arith
-some_down DoubleWidth = omega arith
-some_down DoubleHeight = omega arith
-some_down Quadruple = omega arith
+some_down _ = omega arith
 
 -- the settings after it
 pub row_below : (setup : Setup) (bytes : List ℕ) (before : List EscItem) → Lacks bytes before

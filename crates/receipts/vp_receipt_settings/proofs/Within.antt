@@ -7,7 +7,7 @@ use Rattle.vp_esc.specs.declared.item.PrintDirection.{PrintDirection}
 use Rattle.vp_page.specs.declared.page.TheConstants.{PAPER_DOTS, PAGE_ROWS}
 use Rattle.vp_page.specs.declared.line.TheConstants.{LINE_DOTS}
 use Rattle.vp_page.specs.declared.area.Direction.{Direction as PageDirection}
-use Rattle.vp_page.specs.declared.area.Direction.TheVariants.{LeftToRight, BottomToTop, RightToLeft, TopToBottom}
+use Rattle.vp_page.specs.declared.area.Direction.TheVariants.{LeftToRight}
 use Rattle.vp_page.specs.declared.area.Area.{Area as PageArea}
 use Rattle.vp_page.specs.Areas.{line_length as length_on_page}
 use Rattle.vp_receipt_settings.specs.declared.effect.Effect.{Effect}
@@ -29,9 +29,7 @@ use Rattle.vp_receipt_settings.specs.Followed.{IsWithin}
 
 area_small : (a : PageArea) (d : PageDirection) → a.x + a.dx ≤ PAPER_DOTS → a.y + a.dy ≤ PAGE_ROWS → length_on_page a d ≤ LINE_DOTS
 area_small a LeftToRight h k = omega arith
-area_small a BottomToTop h k = omega arith
-area_small a RightToLeft h k = omega arith
-area_small a TopToBottom h k = omega arith
+area_small a _ h k = omega arith
 
 length_small : (m : PrinterMode) (a : PageArea) (d : PageDirection) (paper : Width) (margin width : ℕ) → a.x + a.dx ≤ PAPER_DOTS → a.y + a.dy ≤ PAGE_ROWS → mode_length m a d paper margin width ≤ LINE_DOTS
 length_small Standard a d paper margin width h k = let s = few_dots paper in omega arith

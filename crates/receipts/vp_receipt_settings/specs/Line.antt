@@ -76,8 +76,8 @@ abbrev pub margin_or : ℕ → Width → ℕ → ℕ
 margin_or n paper old = if nat_lt n (across paper) then n else old
 
 -- GS W: an area is at least a dot wide
-abbrev pub width_or : ℕ → ℕ → ℕ
-width_or n old = if nat_lt 0 n then n else old
+abbrev pub area_width_or : ℕ → ℕ → ℕ
+area_width_or n old = if nat_lt 0 n then n else old
 
 -- the image of a character
 abbrev pub character : Setup → List EscItem → ℕ → Image
@@ -211,7 +211,8 @@ ended spacing l = fed (rows_if_open l.line spacing) l
 
 -- the line given up or laid where it is, if so: the next one is at its start, or at the same position
 abbrev pub frame_closed_if : Bool → Layout → Layout
-frame_closed_if ends l = record l { line = if ends then [] else l.line; position = if ends then 0 else l.position }
+frame_closed_if ends l =
+    record l { line = if ends then [] else l.line; position = if ends then 0 else l.position }
 
 abbrev pub emptied_if : Bool → Layout → Layout
 emptied_if ends l = record l { line = if ends then [] else l.line }
@@ -236,7 +237,8 @@ abbrev pub layout_by : Setup → List EscItem → EscItem → Layout → Layout
 layout_by setup before (Character c) l =
     with_character (character setup before c) (layout_length setup before l) (line_spacing before) l
 layout_by setup before (Column8 byte) l = with_column (column8 before byte) (layout_length setup before l) l
-layout_by setup before (Column24 bytes) l = with_column (column24 before bytes) (layout_length setup before l) l
+layout_by setup before (Column24 bytes) l =
+    with_column (column24 before bytes) (layout_length setup before l) l
 layout_by setup before Tab l =
     moved_to (tabbed (tab_stops before) l.position (layout_length setup before l)) l
 layout_by setup before (Position n) l = moved_to (position_at n l.position (layout_length setup before l)) l
@@ -274,7 +276,8 @@ layout_by setup before (VerticalPosition n) l = down_at n (emptied_if (on_page l
 layout_by setup before (MoveVerticalPosition n) l =
     down_at (vertical_moved n l.vertical) (emptied_if (is_vertical_move n l.vertical && on_page l) l)
 layout_by setup before (SetArea x y wide high) l =
-    let begins = is_area setup.width x y wide high in at_top_if begins (frame_closed_if (begins && on_page l) l)
+    let begins = is_area setup.width x y wide high in
+    at_top_if begins (frame_closed_if (begins && on_page l) l)
 layout_by setup before (SetDirection s) l =
     at_top_if (is_some s.value) (frame_closed_if (is_some s.value && on_page l) l)
 layout_by setup before PrintPage l = emptied_if (on_page l) l
@@ -284,7 +287,7 @@ layout_by setup before Cancel l = down_at 0 (frame_closed_if (on_page l) l)
 layout_by setup before (LeftMargin n) l =
     unless_open (record l.frame { left_margin = margin_or n setup.width l.frame.left_margin }) l
 layout_by setup before (AreaWidth n) l =
-    unless_open (record l.frame { area_width = width_or n l.frame.area_width }) l
+    unless_open (record l.frame { area_width = area_width_or n l.frame.area_width }) l
 layout_by setup before _ l = l
 
 abbrev pub layout : Setup → List EscItem → Layout

@@ -275,7 +275,8 @@ impl Settings {
     #[inline(always)]
     pub fn with_character(self) -> Settings
         requires fit { IsFit self }
-        requires room { self.position + cell_width self.text.font (style_of self.text) ≤ settings_length self }
+        requires room { self.position + cell_width self.text.font (style_of self.text)
+            ≤ settings_length self }
         ensures settings { (setup : Setup) (before : List EscItem) (code : ℕ) →
             self ≡ settings_of setup before →
             result ≡ settings_of setup (EscItem.Character code ∷ before) }
