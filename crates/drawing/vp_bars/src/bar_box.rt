@@ -6,6 +6,7 @@ ghost use Rattle.vp_dots.specs.Dots.{shifted};
 ghost use Rattle.vp_dots.specs.Painting.{Painted};
 ghost use Rattle.vp_glyph.specs.Cells.{font_width, font_height, cell_dot, cell_width};
 ghost use Rattle.vp_bars.specs.Boxes.{Boxed, texts_above, texts_below, text_at as text_of_place, line_dot, line_width, text_width as width_of_text, box_width, box_height, text_row, bars_row, box_dot, box_inside};
+ghost use Rattle.vp_bars.specs.declared.bar_box.TheConstants.{PLAIN};
 ghost use Rattle.vp_bars.specs.Symbologies.{text_of};
 ghost use Rattle.vp_bars.specs.Widths.{bars_width as width_of_bars};
 
@@ -13,7 +14,7 @@ use crate::Bars;
 use crate::pen::Pen;
 use arrayvec::ArrayVec;
 use vp_bar_code::HriPosition;
-use vp_dots::{Ink, Op, dot_of, fill_moved};
+use vp_dots::{Ink, Op, dot_of, fill_moved, paint_word};
 use vp_glyph::{Cell, Font, Sheets, Style, seen};
 
 /// The texts above the bars.
@@ -63,15 +64,17 @@ fn paint_cell_dots(cell: &Cell<'_>, y: u32, left: u32, op: Op, at: i64, row: &mu
     }
 }
 
-/// Paints row y of a cell that stands `left` dots to the right.
+/// Paints row y of a cell of the text that stands `left` dots to the right.
+#[inline(always)]
 fn paint_cell(cell: &Cell<'_>, y: u32, left: u32, op: Op, at: i64, row: &mut [u8])
-    requires { left + cell_width cell.now.font cell.now.style < 2 ^ 32 }
+    requires plain { cell.now.style ≡ PLAIN }
+    requires left { left + cell_width cell.now.font cell.now.style < 2 ^ 32 }
     ensures { Painted op (shifted at (λ i. nat_le left i
         && cell_dot cell.now.sheets.now cell.now.font cell.now.style
         cell.now.character (i - left) y)) row.old row.new }
 {
     match at.checked_add(i64::from(left)) {
-        Some(place) => cell.paint_row(y, op, place, row),
+        Some(place) => paint_word(op, cell.plain_row(y), place, row),
         None => paint_cell_dots(cell, y, left, op, at, row),
     }
 }

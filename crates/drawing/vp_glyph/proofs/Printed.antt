@@ -4,7 +4,7 @@ use Rattle.std.proofs.lemmas.List.{get_or-replicate, get_or_past, length-replica
 use Rattle.std.proofs.lemmas.Bool.{cases_eq, cases_lt, false_from_ne_true, lt-ltb, le-ltb, lt-leb, le-leb}
 use Rattle.std.specs.Prelude.{Option, None, Some, MatchOption}
 use Rattle.vp_dots.specs.Words.{word_dot, IsReady}
-use Rattle.vp_glyph.specs.Cells.{font_width, font_height, font_dot, bold_dot, cell_width, cell_height, underlined, cell_dot}
+use Rattle.vp_glyph.specs.Cells.{font_width, font_height, font_dot, bold_dot, cell_width, cell_height, underlined, cell_dot, cell_inside}
 use Rattle.vp_glyph.specs.declared.cell.Font.{Font}
 use Rattle.vp_glyph.specs.declared.cell.Style.{Style}
 use Rattle.vp_glyph.specs.declared.Sheets.{Sheets}
@@ -76,6 +76,24 @@ module _ (sheets : Sheets) (font : Font) (style : Style) (c y : ℕ) (h : style.
         | inl l ↦ rw (lt-ltb x (cell_width font style) l) (sym (within x l))
         | inr g ↦ rw (le-ltb x (cell_width font style) g, past_all x (font_width font) style.spacing style.wm g) refl
       ]))
+
+  -- of a character that is printed just as it stands in its sheet
+  pub printed_plain : (word x : ℕ) → style.wm ≡ 1 → style.bold ≡ false → style.underline ≡ 0 → style.inverse ≡ false
+      → word_dot word x ≡ (ltb x (font_width font) && bold_dot false (font_dot sheets c font) x y) → word_dot word x ≡ cell_dot sheets font style c x y
+  printed_plain word x w b u i e =
+      let across : x / 1 ≡ x = omega arith in
+      let wide : font_width font * 1 ≡ font_width font = omega arith in
+      printed_upright word x i (rw u (omega arith)) (rw (w, b, across, wide) (e ∙ sym (twice (ltb x (font_width font)) (bold_dot false (font_dot sheets c font) x y))))
+    where
+      twice : (p q : Bool) → (p && (p && q)) ≡ (p && q)
+      twice true q = refl
+      twice false q = refl
+
+-- below it there is nothing
+pub printed_below : (sheets : Sheets) (font : Font) (style : Style) (c x y : ℕ) → style.hm ≡ 1 → font_height font ≤ y → word_dot 0 x ≡ cell_dot sheets font style c x y
+printed_below sheets font style c x y h l =
+    let high : font_height font * style.hm ≡ font_height font = ap (λ n. font_height font * n) h ∙ omega arith in
+    white_dot x ∙ sym (false_from_ne_true (cell_dot sheets font style c x y) (λ e. absurd (omega (arith, (cell_inside sheets font style c x y e).1, high))))
 
 -- below the character there is nothing
 pub printed_rows : (sheets : Sheets) (font : Font) (style : Style) (c x y n : ℕ) → style.hm ≡ 1 → font_height font ≤ n → (ltb y n && cell_dot sheets font style c x y) ≡ cell_dot sheets font style c x y

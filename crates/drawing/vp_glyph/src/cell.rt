@@ -3,6 +3,7 @@ ghost use Rattle.std.specs.Prelude.{◌≡◌, ℕ, ◌*◌, ◌/◌, ◌<◌, �
 ghost use Rattle.vp_glyph.specs.declared.Sheets.{Sheets};
 ghost use Rattle.vp_dots.specs.Dots.{shifted};
 ghost use Rattle.vp_dots.specs.Words.{word_dot};
+ghost use Rattle.vp_dots.specs.declared.TheConstants.{WORDS};
 ghost use Rattle.vp_dots.specs.Painting.{Painted};
 ghost use Rattle.vp_glyph.specs.Cells.{font_width, font_height, font_dot, bold_dot, cell_width, cell_height, cell_dot, cell_inside};
 
@@ -165,8 +166,9 @@ fn widened_row(word: u64, font: Font, wm: u32) -> u64
 
 /// A row as it is printed, of a character no wider than a word whose rows are printed once each.
 #[inline(always)]
-fn printed_row(word: u64, font: Font, style: Style, wm: u32, y: u32) -> u64
+fn printed_row(word: u64, font: Font, style: Style, wm: u32, inverse: bool, y: u32) -> u64
     requires wide { wm ≡ style.wm }
+    requires inverse { inverse ≡ style.inverse }
     requires high { style.hm ≡ 1 }
     requires narrow { cell_width font style ≤ 64 }
     requires y { y < font_height font }
@@ -177,7 +179,7 @@ fn printed_row(word: u64, font: Font, style: Style, wm: u32, y: u32) -> u64
     let body = body_row(word, font, style.bold);
     let wide = widened_row(body, font, wm);
     let whole = first_dots(width_of(font, style));
-    if style.inverse {
+    if inverse {
         return shared(inverted(wide), whole);
     }
     if y >= font.height().saturating_sub(u32::from(style.underline)) {
@@ -196,6 +198,16 @@ fn nine_rows(rows: &[u64]) -> [u64; 17]
         nine[y] = nine_of(row_at(rows, y * 24 / 17));
     }
     nine
+}
+
+/// The first rows of a character, white below it.
+fn first_rows(rows: &[u64]) -> [u64; WORDS]
+    ensures { (y : ℕ) → y < WORDS → slice_index result y ≡ slice_index rows.now y }
+{
+    let mut first = [0; WORDS];
+    let n = rows.len().min(WORDS);
+    first[..n].copy_from_slice(&rows[..n]);
+    first
 }
 
 impl Cell<'_> {
@@ -273,8 +285,9 @@ impl Cell<'_> {
 impl Cell<'_> {
     /// The rows as they are printed, of rows of the character in its font.
     #[inline(always)]
-    fn print_rows(&self, rows: &[u64], wm: u32, words: &mut [u64; WORDS])
+    fn print_rows(&self, rows: &[u64; WORDS], wm: u32, inverse: bool, words: &mut [u64; WORDS])
         requires wide { wm ≡ self.now.style.wm }
+        requires inverse { inverse ≡ self.now.style.inverse }
         requires high { self.now.style.hm ≡ 1 }
         requires narrow { cell_width self.now.font self.now.style ≤ 64 }
         requires rows { (x y : ℕ) → x < font_width self.now.font → y < font_height self.now.font
@@ -286,11 +299,11 @@ impl Cell<'_> {
         let (font, style) = (self.font, self.style);
         *words = [0; WORDS];
         for y in 0..font.height() {
-            words[y as usize] = printed_row(row_at(rows, y as usize), font, style, wm, y);
+            words[y as usize] = printed_row(rows[y as usize], font, style, wm, inverse, y);
         }
     }
 
-    /// The same, where the compiler knows of two widths.
+    /// The same, where the compiler knows of two widths, and whether black and white are exchanged.
     fn print(&self, rows: &[u64], words: &mut [u64; WORDS])
         requires high { self.now.style.hm ≡ 1 }
         requires narrow { cell_width self.now.font self.now.style ≤ 64 }
@@ -300,11 +313,28 @@ impl Cell<'_> {
         ensures { (x y : ℕ) → word_dot (slice_index words.new y) x
             ≡ cell_dot self.now.sheets.now self.now.font self.now.style self.now.character x y }
     {
-        match self.style.wm {
-            1 => self.print_rows(rows, 1, words),
-            2 => self.print_rows(rows, 2, words),
-            wm => self.print_rows(rows, u32::from(wm), words),
+        let first = first_rows(rows);
+        match (self.style.wm, self.style.inverse) {
+            (1, false) => self.print_rows(&first, 1, false, words),
+            (1, true) => self.print_rows(&first, 1, true, words),
+            (2, false) => self.print_rows(&first, 2, false, words),
+            (2, true) => self.print_rows(&first, 2, true, words),
+            (wm, inverse) => self.print_rows(&first, u32::from(wm), inverse, words),
         }
+    }
+
+    /// Row y of a character that is printed just as it stands in its sheet, white below it.
+    #[inline(always)]
+    pub fn plain_row(&self, y: u32) -> u64
+        requires { (self.now.style.wm ≡ 1) × (self.now.style.hm ≡ 1) × (self.now.style.bold ≡ false)
+            × (self.now.style.underline ≡ 0) × (self.now.style.inverse ≡ false) }
+        ensures { (x : ℕ) → word_dot result x
+            ≡ cell_dot self.now.sheets.now self.now.font self.now.style self.now.character x y }
+    {
+        if y >= self.font.height() {
+            return 0;
+        }
+        body_row(self.font_row(y), self.font, false)
     }
 
     /// Paints a row of an inverse character: its white dots, and its spacing.
