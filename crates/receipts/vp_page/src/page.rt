@@ -128,8 +128,13 @@ impl Page {
         ensures { (layers : List Layer) → HasPage layers self.old →
             HasPage (CountedAnew ∷ layers) self.new }
     {
-        self.rows_laid = 0;
-        self.rows_wiped = 0;
+        let Page {
+            rows_laid,
+            rows_wiped,
+            ..
+        } = self;
+        *rows_laid = 0;
+        *rows_wiped = 0;
     }
 
     /// Rows of the page outside of which an area is known to be white.
