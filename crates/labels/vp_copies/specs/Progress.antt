@@ -53,6 +53,7 @@ pub record IsRowsOn (old new : Progress) : Type 0 where
   pub row : ℕ
   pub rows : ℕ
   pub from : old.place.line ≡ Row row
-  pub value : new ≡ record old { place = record { copies = old.place.copies; line = Row (row + rows); byte = 0 } }
+  pub value : new
+      ≡ record old { place = record { copies = old.place.copies; line = Row (row + rows); byte = 0 } }
   pub same_band : (row + rows) / BAND_ROWS ≡ row / BAND_ROWS
   pub inside : 0 < (row + rows) % BAND_ROWS

@@ -37,7 +37,8 @@ fn copy_row(row: &[u8], room: &mut [u8])
     room[..row.len()].copy_from_slice(row);
 }
 
-/// Copies rows of an image `width` dots wide, from row y on, which are all on its band, to the front of a room.
+/// Copies rows of an image `width` dots wide, from row y on, all of which are on its band, to the front of
+/// a room.
 pub fn copy_rows(band: &LabelBand, y: u32, rows: usize, width: u16, room: &mut [u8])
     requires narrow { width ≤ WIDEST }
     requires inside { y % BAND_ROWS + rows ≤ BAND_ROWS }

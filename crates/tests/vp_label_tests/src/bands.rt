@@ -66,15 +66,18 @@ struct Copied {
     looks: u64,
 }
 
-/// Adds what a band shows, with five rows of the label from one on.
-fn add(copied: &mut Copied, b: usize, band: &LabelBand, from: usize)
+/// Adds what a band of a label of `height` rows shows, with five rows of the label from one on.
+fn add(copied: &mut Copied, b: usize, height: u32, band: &LabelBand, from: usize)
     requires low { b < BANDS }
     requires from { from ≤ 8000 }
 {
     for k in 0..32 {
+        let y = 32 * b + k;
+        if y >= height as usize {
+            return;
+        }
         let byte = band.row(k)[0];
         copied.black = copied.black.saturating_add(u64::from(byte != 0));
-        let y = 32 * b + k;
         if y >= from && y < from + 5 {
             copied.rows[y - from] = byte;
         }
@@ -102,7 +105,7 @@ fn copy(
     };
     for b in 0..view.height.div_ceil(32) as usize {
         painter.paint(b, &NONE, format.stored(), view, band);
-        add(&mut copied, b, band, from);
+        add(&mut copied, b, view.height, band, from);
     }
     copied.looks = painter.looks();
     painter.start();

@@ -1,4 +1,6 @@
 //! Copies in pieces of each length: the room may end at any byte.
+ghost use Rattle.std.specs.Prelude.{◌<◌, ◌≤◌, length};
+
 use crate::checks::same;
 use std::alloc::{AllocError, Global};
 use std::process::Abort;
@@ -11,6 +13,18 @@ fn paint(number: usize, band: &mut LabelBand) {
     for y in 0..32 {
         band.row_mut(y)[0] = ((32 * (number % 8) + y) % 256) as u8;
     }
+}
+
+/// Puts out whole rows of the band or, where none come next, bytes of a line.
+fn put_next(copies: &mut Copies, band: &LabelBand, out: &mut [u8]) -> usize
+    requires { 0 < copies.old.place.copies }
+    ensures { result ≤ length out.old }
+{
+    let n = copies.put_rows(band, out);
+    if n > 0 {
+        return n;
+    }
+    copies.put_line(band, out)
 }
 
 /// Puts out `copies` behind `text`, where there is room for `room` bytes at once.
@@ -28,7 +42,7 @@ fn put_out(
         if let Ahead::Band(number) = copies.ahead() {
             paint(number, band);
         }
-        let n = copies.put_line(band, &mut out[..room.min(64)]);
+        let n = put_next(copies, band, &mut out[..room.min(64)]);
         text.extend_from_slice(&out[..n])?;
     }
     Ok(())
