@@ -1,6 +1,7 @@
 use linked_list_allocator::LocalHeap;
 use std::test::Fail;
 use vp_dots::{Band, Full, Op, Store, fill_dots, lay_eight};
+use vp_page::{Area, Direction, Page};
 
 #[test]
 fn a_band_takes_its_rows_and_nothing_after(rt: HostRuntime) -> Result<(), Fail> {
@@ -41,10 +42,38 @@ fn a_store_takes_its_bytes_and_nothing_after(rt: HostRuntime) -> Result<(), Fail
 }
 
 #[test]
+fn a_page_takes_its_rows_and_nothing_after(rt: HostRuntime) -> Result<(), Fail> {
+    let heap = LocalHeap::new(rt.alloc(), 119_808)?;
+    let area = Area {
+        x: 8,
+        y: 0,
+        dx: 16,
+        dy: 16,
+    };
+    {
+        let mut page = Page::<&LocalHeap>::new(&heap)?;
+        assert_eq!(rt; page.memory(), 119_808);
+        assert_eq!(rt; heap.free(), 0);
+        page.lay_row(area, Direction::LeftToRight, 1, &[0xA0]);
+        page.lay_row(area, Direction::TopToBottom, 0, &[0xFF]);
+        assert_eq!(rt; page.row(1)[1], 0xA0);
+        assert_eq!(rt; page.row(1)[2], 0x01);
+        page.wipe(area);
+        assert_eq!(rt; page.row(1)[1], 0);
+        assert_eq!(rt; page.row(1)[2], 0);
+        page.clear();
+        assert_eq!(rt; heap.free(), 0);
+    }
+    assert_eq!(rt; heap.free(), 119_808);
+    Ok(())
+}
+
+#[test]
 fn a_heap_that_is_too_small_is_refused(rt: HostRuntime) -> Result<(), Fail> {
     let heap = LocalHeap::new(rt.alloc(), 128)?;
     assert!(rt; Band::<72, 2, &LocalHeap>::new(&heap).is_err());
     assert!(rt; Store::<129, &LocalHeap>::new(&heap).is_err());
+    assert!(rt; Page::<&LocalHeap>::new(&heap).is_err());
     assert_eq!(rt; heap.free(), 128);
     Ok(())
 }
