@@ -13,6 +13,7 @@
 //! - `square`: 64 by 64 dots in 64 words, rows and columns exchanged.
 //! - `place`: an ink at a place of a band.
 //! - `band`, `store`: rows of dots and bytes on the heap. `room`: as much of it as is asked for.
+//!   `small`: allocators that what stands on them may have.
 //! - `image`: the header of an image, and the laws from the bytes of its rows to its dots and back.
 //! - `listing`: the lines of a listing.
 //! - `fault`: why a stream is refused.
