@@ -18,3 +18,4 @@ pub mod Heights
 pub mod Columns
 pub mod Squares
 pub mod EndForEnd
+pub mod Handles

@@ -10,3 +10,4 @@ pub mod Listing
 -- What the code keeps.
 pub mod Blocks
 pub mod Squares
+pub mod Handles

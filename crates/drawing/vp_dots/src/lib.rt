@@ -13,6 +13,7 @@
 //! - `square`: 64 by 64 dots in 64 words, rows and columns exchanged.
 //! - `place`: an ink at a place of a band.
 //! - `band`, `store`: rows of dots and bytes on the heap. `room`: as much of it as is asked for.
+//!   `small`: allocators that what stands on them may have.
 //! - `image`: the header of an image, and the laws from the bytes of its rows to its dots and back.
 //! - `listing`: the lines of a listing.
 //! - `fault`: why a stream is refused.
@@ -33,6 +34,7 @@ mod place;
 mod reversed;
 mod room;
 mod single;
+mod small;
 mod span;
 mod square;
 mod store;
@@ -49,6 +51,7 @@ pub use place::{paint_at, paint_words};
 pub use reversed::{copy_reversed, reversed_at};
 pub use room::{copied, filled};
 pub use single::{dot_of, paint_bits, paint_dot};
+pub use small::Small;
 pub use span::{fill_dots, fill_moved};
 pub use square::{SIDE, turned_square};
 pub use store::{Full, Store};

@@ -13,7 +13,7 @@ use crate::Area;
 use crate::line::{LINE_BYTES, start_of};
 use crate::page::{PAGE_ROWS, PageBand};
 use crate::words::{lay_halves, lay_words};
-use vp_dots::{SIDE, eight_at, turned_square, word_at};
+use vp_dots::{SIDE, Small, eight_at, turned_square, word_at};
 
 /// How many lines are laid at once.
 pub const AT_ONCE: usize = SIDE;
@@ -113,13 +113,13 @@ fn is_white(square: &[u64; SIDE]) -> bool
 /// Blackens rows of the page, from `top` down, where the lines are black from one of their dots on: the first
 /// line on the column before `right`, and each on the right of the next.
 #[inline(always)]
-fn lay_square_down(
+fn lay_square_down<A: Small>(
     lines: &[[u8; LINE_BYTES]],
     from: usize,
     rows: usize,
     right: u32,
     top: usize,
-    band: &mut PageBand,
+    band: &mut PageBand<A>,
 )
     requires lines { length lines.now ≤ AT_ONCE }
     requires near { from < 2 ^ 62 }
@@ -134,13 +134,13 @@ fn lay_square_down(
 
 /// Lays two squares of few lines as `lay_square_down` lays one. Mostly both are white.
 #[inline(always)]
-fn lay_two_down(
+fn lay_two_down<A: Small>(
     lines: &[[u8; LINE_BYTES]],
     from: usize,
     rows: usize,
     right: u32,
     top: usize,
-    band: &mut PageBand,
+    band: &mut PageBand<A>,
 )
     requires lines { length lines.now ≤ FEW }
     requires near { from < 2 ^ 62 }
@@ -163,13 +163,13 @@ fn lay_two_down(
 /// Blackens rows of the page, from the one above `below` up, where the lines are black from one of their dots
 /// on: the first line at `left`.
 #[inline(always)]
-fn lay_square_up(
+fn lay_square_up<A: Small>(
     lines: &[[u8; LINE_BYTES]],
     from: usize,
     rows: usize,
     left: u32,
     below: usize,
-    band: &mut PageBand,
+    band: &mut PageBand<A>,
 )
     requires lines { length lines.now ≤ AT_ONCE }
     requires near { from < 2 ^ 62 }
@@ -192,13 +192,13 @@ fn lay_square_up(
 
 /// Lays two squares of few lines as `lay_square_up` lays one. Mostly both are white.
 #[inline(always)]
-fn lay_two_up(
+fn lay_two_up<A: Small>(
     lines: &[[u8; LINE_BYTES]],
     from: usize,
     rows: usize,
     left: u32,
     below: usize,
-    band: &mut PageBand,
+    band: &mut PageBand<A>,
 )
     requires lines { length lines.now ≤ FEW }
     requires near { from < 2 ^ 62 }
@@ -230,12 +230,12 @@ fn lay_two_up(
 
 /// Lays lines as `lay_lines_down` does, two squares at once.
 #[inline(never)]
-fn lay_few_down(
+fn lay_few_down<A: Small>(
     lines: &[[u8; LINE_BYTES]],
     long: usize,
     area: Area,
     right: u32,
-    band: &mut PageBand,
+    band: &mut PageBand<A>,
 )
     requires few { length lines.now ≤ FEW }
     requires white { (i u : ℕ) → long ≤ u → line_dot lines.now i u ≡ false }
@@ -255,7 +255,13 @@ fn lay_few_down(
 
 /// Lays lines as `lay_lines_up` does, two squares at once.
 #[inline(never)]
-fn lay_few_up(lines: &[[u8; LINE_BYTES]], long: usize, area: Area, left: u32, band: &mut PageBand)
+fn lay_few_up<A: Small>(
+    lines: &[[u8; LINE_BYTES]],
+    long: usize,
+    area: Area,
+    left: u32,
+    band: &mut PageBand<A>,
+)
     requires few { length lines.now ≤ FEW }
     requires white { (i u : ℕ) → long ≤ u → line_dot lines.now i u ≡ false }
     ensures { RowsPainted PAGE_ROWS Black (λ x y. nat_lt y (area.y + area.dy)
@@ -274,12 +280,12 @@ fn lay_few_up(lines: &[[u8; LINE_BYTES]], long: usize, area: Area, left: u32, ba
 
 /// Blackens the columns of the page where lines, from the area's top down, are black: the first one on the
 /// column before `right`, and each on the right of the next. They are white from dot `long` on.
-pub(crate) fn lay_lines_down(
+pub(crate) fn lay_lines_down<A: Small>(
     lines: &[[u8; LINE_BYTES]],
     long: usize,
     area: Area,
     right: u32,
-    band: &mut PageBand,
+    band: &mut PageBand<A>,
 )
     requires few { length lines.now ≤ AT_ONCE }
     requires white { (i u : ℕ) → long ≤ u → line_dot lines.now i u ≡ false }
@@ -303,12 +309,12 @@ pub(crate) fn lay_lines_down(
 
 /// Blackens the columns of the page where lines, from the area's lower edge up, are black: the first one at
 /// `left`. They are white from dot `long` on.
-pub(crate) fn lay_lines_up(
+pub(crate) fn lay_lines_up<A: Small>(
     lines: &[[u8; LINE_BYTES]],
     long: usize,
     area: Area,
     left: u32,
-    band: &mut PageBand,
+    band: &mut PageBand<A>,
 )
     requires few { length lines.now ≤ AT_ONCE }
     requires white { (i u : ℕ) → long ≤ u → line_dot lines.now i u ≡ false }

@@ -1,5 +1,5 @@
 //! The page of page mode: dots laid in four directions, and areas made white.
-#![tactic(auto)]
+#![tactic(auto, using(vp_dots::proofs::Handles::list_small))]
 
 mod across;
 mod area;

@@ -12,7 +12,7 @@ use crate::Area;
 use crate::page::{PAGE_ROWS, PAPER_BYTES, PageBand};
 use crate::white::Rows;
 use crate::words::{or_line, or_reversed};
-use vp_dots::{Ink, Op, copy_reversed, fill_dots};
+use vp_dots::{Ink, Op, Small, copy_reversed, fill_dots};
 
 /// The bytes of the longest line of a page: one across its rows.
 pub const LINE_BYTES: usize = 208;
@@ -105,7 +105,7 @@ pub(crate) fn start_of(end: u32, bytes: usize) -> i64
 }
 
 /// Blackens row y of the page where the line, moved by an offset, is black.
-fn lay_along(line: &[u8], at: i64, y: usize, band: &mut PageBand)
+fn lay_along<A: Small>(line: &[u8], at: i64, y: usize, band: &mut PageBand<A>)
     ensures { RowsPainted PAGE_ROWS Black
         (λ x k. nat_eq k y && shifted at (dot line.now) x)
         band.old band.new }
@@ -116,7 +116,7 @@ fn lay_along(line: &[u8], at: i64, y: usize, band: &mut PageBand)
 }
 
 /// Blackens column x of the page where the line, moved by an offset, is black.
-fn lay_across(line: &[u8], at: i64, x: usize, band: &mut PageBand)
+fn lay_across<A: Small>(line: &[u8], at: i64, x: usize, band: &mut PageBand<A>)
     requires { length line.now ≤ LINE_BYTES }
     ensures { RowsPainted PAGE_ROWS Black
         (λ d k. nat_eq d x && shifted at (dot line.now) k)
@@ -153,7 +153,14 @@ fn lay_dot(byte: u8, n: usize, x: usize, row: &mut [u8])
 
 /// Blackens column `x` of `rows` rows of the page where the byte, its dot `skip` on row `top`, is black.
 #[inline(always)]
-fn lay_rows(byte: u8, skip: usize, top: usize, rows: usize, x: usize, band: &mut PageBand)
+fn lay_rows<A: Small>(
+    byte: u8,
+    skip: usize,
+    top: usize,
+    rows: usize,
+    x: usize,
+    band: &mut PageBand<A>,
+)
     requires dots { rows ≤ 8 - skip }
     requires inside { rows ≤ PAGE_ROWS - top }
     ensures { RowsPainted PAGE_ROWS Black
@@ -168,7 +175,7 @@ fn lay_rows(byte: u8, skip: usize, top: usize, rows: usize, x: usize, band: &mut
 /// Blackens column x of the page where the byte, its dot `skip` on row `top`, is black.
 // Called where a line begins or ends, and so kept out of the loop over its bytes.
 #[inline(never)]
-fn lay_part(byte: u8, skip: usize, top: usize, x: usize, band: &mut PageBand)
+fn lay_part<A: Small>(byte: u8, skip: usize, top: usize, x: usize, band: &mut PageBand<A>)
     ensures { RowsPainted PAGE_ROWS Black
         (λ d k. nat_eq d x && (nat_le top k && dot (byte ∷ []) (k - top + skip)))
         band.old band.new }
@@ -182,7 +189,7 @@ fn lay_part(byte: u8, skip: usize, top: usize, x: usize, band: &mut PageBand)
 /// Blackens column x of the page where the byte, its dot `skip` on row `top`, is black. Mostly all eight dots
 /// of it are on the page.
 #[inline(always)]
-fn lay_byte(byte: u8, skip: usize, top: usize, x: usize, band: &mut PageBand)
+fn lay_byte<A: Small>(byte: u8, skip: usize, top: usize, x: usize, band: &mut PageBand<A>)
     ensures { RowsPainted PAGE_ROWS Black
         (λ d k. nat_eq d x && (nat_le top k && dot (byte ∷ []) (k - top + skip)))
         band.old band.new }
@@ -195,7 +202,7 @@ fn lay_byte(byte: u8, skip: usize, top: usize, x: usize, band: &mut PageBand)
 }
 
 /// Blackens column x of the page where the line, its dot `skip` on row `top`, is black.
-fn lay_from(line: &[u8], skip: usize, top: usize, x: usize, band: &mut PageBand)
+fn lay_from<A: Small>(line: &[u8], skip: usize, top: usize, x: usize, band: &mut PageBand<A>)
     requires short { length line.now ≤ LINE_BYTES }
     requires near { top ≤ 2 ^ 63 }
     ensures { RowsPainted PAGE_ROWS Black
@@ -212,7 +219,7 @@ fn lay_from(line: &[u8], skip: usize, top: usize, x: usize, band: &mut PageBand)
 }
 
 /// Blackens row y of the page where the row, from the area's left on, is black.
-pub(crate) fn lay_right(row: &[u8], area: Area, y: usize, band: &mut PageBand)
+pub(crate) fn lay_right<A: Small>(row: &[u8], area: Area, y: usize, band: &mut PageBand<A>)
     requires { length row.now ≤ LINE_BYTES }
     ensures { RowsPainted PAGE_ROWS Black
         (λ x k. nat_eq k y && (nat_le area.x x && (nat_lt (x - area.x) area.dx && dot row.now (x - area.x))))
@@ -229,7 +236,7 @@ pub(crate) fn lay_right(row: &[u8], area: Area, y: usize, band: &mut PageBand)
 }
 
 /// Blackens row y of the page where the row, turned end for end and its last byte on byte q, is black.
-fn lay_back(row: &[u8], q: usize, y: usize, band: &mut PageBand)
+fn lay_back<A: Small>(row: &[u8], q: usize, y: usize, band: &mut PageBand<A>)
     requires whole { length row.now % 8 ≡ 0 }
     requires room { q + length row.now ≤ PAPER_BYTES }
     ensures { RowsPainted PAGE_ROWS Black
@@ -244,7 +251,7 @@ fn lay_back(row: &[u8], q: usize, y: usize, band: &mut PageBand)
 
 /// Blackens row y of the page where the row, from the area's right edge to the left, is black. Mostly it
 /// stands on whole words, and is no longer than its line.
-pub(crate) fn lay_left(row: &[u8], area: Area, y: usize, band: &mut PageBand)
+pub(crate) fn lay_left<A: Small>(row: &[u8], area: Area, y: usize, band: &mut PageBand<A>)
     requires { length row.now ≤ LINE_BYTES }
     ensures { RowsPainted PAGE_ROWS Black
         (λ x k. nat_eq k y && (nat_lt x (area.x + area.dx)
@@ -267,7 +274,7 @@ pub(crate) fn lay_left(row: &[u8], area: Area, y: usize, band: &mut PageBand)
 }
 
 /// Blackens column x of the page where the row, from the area's top down, is black.
-pub(crate) fn lay_down(row: &[u8], area: Area, x: usize, band: &mut PageBand)
+pub(crate) fn lay_down<A: Small>(row: &[u8], area: Area, x: usize, band: &mut PageBand<A>)
     requires { length row.now ≤ LINE_BYTES }
     ensures { RowsPainted PAGE_ROWS Black
         (λ d k. nat_eq d x && (nat_le area.y k && (nat_lt (k - area.y) area.dy && dot row.now (k - area.y))))
@@ -280,7 +287,7 @@ pub(crate) fn lay_down(row: &[u8], area: Area, x: usize, band: &mut PageBand)
 }
 
 /// Blackens column x of the page where the row, from the area's lower edge up, is black.
-pub(crate) fn lay_up(row: &[u8], area: Area, x: usize, band: &mut PageBand)
+pub(crate) fn lay_up<A: Small>(row: &[u8], area: Area, x: usize, band: &mut PageBand<A>)
     requires { length row.now ≤ LINE_BYTES }
     ensures { RowsPainted PAGE_ROWS Black
         (λ d k. nat_eq d x && (nat_lt k (area.y + area.dy)
@@ -295,7 +302,7 @@ pub(crate) fn lay_up(row: &[u8], area: Area, x: usize, band: &mut PageBand)
 }
 
 /// Makes the places of an area white that lie on some rows.
-pub(crate) fn whiten(area: Area, rows: Rows, band: &mut PageBand)
+pub(crate) fn whiten<A: Small>(area: Area, rows: Rows, band: &mut PageBand<A>)
     requires { rows.to ≤ PAGE_ROWS }
     ensures { RowsPainted PAGE_ROWS White (λ x k. span rows.from rows.to k && holds area x k)
         band.old band.new }

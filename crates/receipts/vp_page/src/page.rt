@@ -17,7 +17,7 @@ use crate::words::{lay_whole, lay_whole_back};
 use crate::{Area, Direction};
 use std::alloc::{AllocError, Global};
 use std::marker::Model;
-use vp_dots::{Band, Ink, dots_decide};
+use vp_dots::{Band, Ink, Small, dots_decide};
 
 /// The dots of a row of the page, and of the wide paper.
 pub const PAPER_DOTS: u16 = 576;
@@ -59,7 +59,7 @@ fn are_whole(area: Area, begin: usize, wide: usize) -> bool
 }
 
 /// Rows of dots, as many as the page has.
-pub(crate) type PageBand = Band<PAPER_BYTES, PAGE_ROWS>;
+pub(crate) type PageBand<A> = Band<PAPER_BYTES, PAGE_ROWS, A>;
 
 /// All of the page.
 const WHOLE: Area = Area {
@@ -71,8 +71,8 @@ const WHOLE: Area = Area {
 
 /// The dots of a page.
 #[derive(Drop)]
-pub struct Page {
-    band: PageBand,
+pub struct Page<A: Small = Global> {
+    band: PageBand<A>,
     /// What is white, but for the rows that were laid on since: so what is white already isn't wiped again.
     white: Area,
     laid: Rows,
@@ -81,7 +81,7 @@ pub struct Page {
     rows_wiped: u64,
 }
 
-impl Model for Page {
+impl<A: Small> Model for Page<A> {
     ghost use Rattle.vp_page.specs.Pages.{IsWhiteBut, Paged};
 
     ghost Value = { Paged };
@@ -91,14 +91,14 @@ impl Model for Page {
     ghost invariant = { λ s. IsWhiteBut s.white s.laid s.band };
 }
 
-impl Page {
+impl<A: Small> Page<A> {
     ghost use Rattle.vp_page.specs.Layers.{Layer, Laid, Wiped, CountedAnew, lines_mark, page_dot};
     ghost use Rattle.vp_page.specs.Lines.{line_dot};
     ghost use Rattle.vp_page.specs.Pages.{HasPage};
     ghost use Rattle.vp_page.specs.declared.across.TheConstants.{AT_ONCE};
 
     /// A white page.
-    pub fn new(alloc: Global) -> Result<Page, AllocError>
+    pub fn new(alloc: A) -> Result<Self, AllocError>
         ensures { IfOk result (λ page. HasPage [] page) }
     {
         let band = Band::new(alloc)?;

@@ -11,7 +11,7 @@ ghost use Rattle.vp_page.specs.declared.page.TheConstants.{PAPER_BYTES, PAGE_ROW
 
 use crate::page::{PAPER_BYTES, PageBand};
 use std::simd::{u8x8, u8x16};
-use vp_dots::{eight_at, first_dots, or_into, reversed_at};
+use vp_dots::{Small, eight_at, first_dots, or_into, reversed_at};
 
 /// Where the last eight bytes of a row of the page begin.
 const LAST: usize = PAPER_BYTES - 8;
@@ -119,7 +119,13 @@ fn or_word(word: u64, left: i64, row: &mut [u8])
 }
 
 /// Blackens rows of the page, from one on, where the first h words, moved by an offset, are black.
-pub(crate) fn lay_words(words: &[u64], h: usize, left: i64, top: usize, band: &mut PageBand)
+pub(crate) fn lay_words<A: Small>(
+    words: &[u64],
+    h: usize,
+    left: i64,
+    top: usize,
+    band: &mut PageBand<A>,
+)
     requires few { h ≤ length words.now }
     requires room { top + h ≤ PAGE_ROWS }
     ensures { RowsPainted PAGE_ROWS Black (words_dot words.now left top h) band.old band.new }
@@ -181,13 +187,13 @@ fn or_half_from(word: u64, skip: u32, left: i64, row: &mut [u8])
 
 /// Blackens rows of the page, from one on, where 32 dots of the first h words, from one on and moved by an
 /// offset, are black.
-pub(crate) fn lay_halves(
+pub(crate) fn lay_halves<A: Small>(
     words: &[u64],
     skip: u32,
     h: usize,
     left: i64,
     top: usize,
-    band: &mut PageBand,
+    band: &mut PageBand<A>,
 )
     requires skip { skip < 64 }
     requires few { h ≤ length words.now }
@@ -288,13 +294,13 @@ pub(crate) fn or_reversed(line: &[u8], q: usize, row: &mut [u8])
 
 /// Blackens rows of the page, from one on, where rows of `wide` bytes, one behind the other in bytes and the
 /// first byte of each on byte q, are black.
-pub(crate) fn lay_whole(
+pub(crate) fn lay_whole<A: Small>(
     bytes: &[u8],
     wide: usize,
     rows: usize,
     q: usize,
     top: usize,
-    band: &mut PageBand,
+    band: &mut PageBand<A>,
 )
     requires whole { wide % 8 ≡ 0 }
     requires long { rows * wide ≤ length bytes.now }
@@ -310,13 +316,13 @@ pub(crate) fn lay_whole(
 }
 
 /// Blackens rows of the page as `lay_whole` does, turned end for end and the last one first.
-pub(crate) fn lay_whole_back(
+pub(crate) fn lay_whole_back<A: Small>(
     bytes: &[u8],
     wide: usize,
     rows: usize,
     q: usize,
     top: usize,
-    band: &mut PageBand,
+    band: &mut PageBand<A>,
 )
     requires whole { wide % 8 ≡ 0 }
     requires long { rows * wide ≤ length bytes.now }

@@ -6,10 +6,10 @@ use Rattle.vp_page.proofs.Squares.{and_false, nothing_painted, down_none, more_d
 use Rattle.vp_page.proofs.across.lay_few_down.Goals as goal
 
 pub loop-k-init : goal.loop-k-init
-loop-k-init c = nothing_painted _ c.args.band.now (λ x y h. down_none c.args.area.y _ y _ (omega arith))
+loop-k-init g c = nothing_painted _ c.args.band.now (λ x y h. down_none c.args.area.y _ y _ (omega arith))
 
 pub loop-k-preserved : goal.loop-k-preserved
-loop-k-preserved c =
+loop-k-preserved g c =
     let top = c.args.area.y in
     let from = 128 * c.loop-k.k in
     let n = c.min-rows.result in
@@ -22,5 +22,5 @@ loop-k-preserved c =
     (rw here at c.loop-k.invariant) c.lay_two_down.ensures)
 
 pub returns : goal.returns
-returns c = rows_same Black _ _ _ _ (λ x y h. down_all c.args.area.y c.args.area.dy c.args.long _ y _ (omega arith) h
+returns g c = rows_same Black _ _ _ _ (λ x y h. down_all c.args.area.y c.args.area.dy c.args.long _ y _ (omega arith) h
     (λ far. ap (λ b. ltb x c.args.right && b) (c.requires.white (c.args.right - 1 - x) (y - c.args.area.y) far) ∙ and_false (ltb x c.args.right))) c.loop-k.invariant

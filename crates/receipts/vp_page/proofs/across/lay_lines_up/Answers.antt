@@ -6,10 +6,10 @@ use Rattle.vp_page.proofs.Squares.{and_false, nothing_painted, up_none, more_up,
 use Rattle.vp_page.proofs.across.lay_lines_up.Goals as goal
 
 pub loop-k-init : goal.loop-k-init
-loop-k-init c = nothing_painted _ c.args.band.now (λ x y h. up_none (c.args.area.y + c.args.area.dy) _ y _ (omega arith) h)
+loop-k-init g c = nothing_painted _ c.args.band.now (λ x y h. up_none (c.args.area.y + c.args.area.dy) _ y _ (omega arith) h)
 
 pub loop-k-preserved : goal.loop-k-preserved
-loop-k-preserved c =
+loop-k-preserved g c =
     let below = c.args.area.y + c.args.area.dy in
     let first = c.saturating_sub-first.result in
     let high = c.saturating_sub-high.result in
@@ -23,5 +23,5 @@ loop-k-preserved c =
     (rw here at c.loop-k.invariant) c.lay_square_up.ensures)
 
 pub returns : goal.returns
-returns c = rows_same Black _ _ _ _ (λ x y h. up_all (c.args.area.y + c.args.area.dy) c.args.area.dy c.args.long c.saturating_sub-first.result _ y _ (omega arith) (omega arith) h
+returns g c = rows_same Black _ _ _ _ (λ x y h. up_all (c.args.area.y + c.args.area.dy) c.args.area.dy c.args.long c.saturating_sub-first.result _ y _ (omega arith) (omega arith) h
     (λ far. ap (λ b. leb c.args.left x && b) (c.requires.white (x - c.args.left) (c.args.area.y + c.args.area.dy - 1 - y) far) ∙ and_false (leb c.args.left x))) c.loop-k.invariant

@@ -10,7 +10,7 @@ use Rattle.vp_page.proofs.Squares.{no_line, down_row, in_rows}
 use Rattle.vp_page.proofs.across.lay_square_down.Goals as goal
 
 pub returns : goal.returns
-returns c =
+returns g c =
     let lines = c.args.lines.now in
     let square = c.turned_square-square.result in
     let fits : SFits w64 c.start_of.result = search rules in

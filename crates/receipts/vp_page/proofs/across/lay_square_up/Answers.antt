@@ -11,7 +11,7 @@ use Rattle.vp_page.proofs.Squares.{no_line, last_words, up_row, flipped}
 use Rattle.vp_page.proofs.across.lay_square_up.Goals as goal
 
 pub returns : goal.returns
-returns c =
+returns g c =
     let lines = c.args.lines.now in
     let n = c.args.rows in
     let square = c.turned_square-square.result in

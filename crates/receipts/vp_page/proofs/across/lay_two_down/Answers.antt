@@ -11,12 +11,12 @@ use Rattle.vp_page.proofs.Squares.{and_false, no_line, nothing_painted, down_row
 use Rattle.vp_page.proofs.across.lay_two_down.Goals as goal
 
 pub returns-then-is_white : goal.returns-then-is_white
-returns-then-is_white c = nothing_painted _ c.args.band.now (λ x y _. no_rows c.args.top c.args.rows y _ (λ h.
+returns-then-is_white g c = nothing_painted _ c.args.band.now (λ x y _. no_rows c.args.top c.args.rows y _ (λ h.
     ap (λ b. ltb x c.args.right && b) (two_white_back c.args.lines.now c.two_back-squares.result c.args.from (c.args.right - 1 - x) (y - c.args.top) c.requires.lines (omega (arith, c.requires.few, h)) c.two_back-squares.ensures (c.is_white.ensures c.if-is_white.true))
     ∙ and_false (ltb x c.args.right)))
 
 pub returns : goal.returns
-returns c =
+returns g c =
     let lines = c.args.lines.now in
     let top = c.args.top in
     let from = c.args.from in

@@ -11,12 +11,12 @@ use Rattle.vp_page.proofs.Squares.{and_false, no_line, nothing_painted, last_wor
 use Rattle.vp_page.proofs.across.lay_two_up.Goals as goal
 
 pub returns-then-is_white : goal.returns-then-is_white
-returns-then-is_white c = nothing_painted _ c.args.band.now (λ x y _. no_rows_up c.args.below c.args.rows y _ (λ h.
+returns-then-is_white g c = nothing_painted _ c.args.band.now (λ x y _. no_rows_up c.args.below c.args.rows y _ (λ h.
     ap (λ b. leb c.args.left x && b) (two_white_from c.args.lines.now c.two_from-squares.result c.args.from (x - c.args.left) (c.args.below - 1 - y) c.requires.lines (omega (arith, c.requires.few, h)) c.two_from-squares.ensures (c.is_white.ensures c.if-is_white.true))
     ∙ and_false (leb c.args.left x)))
 
 pub returns : goal.returns
-returns c =
+returns g c =
     let lines = c.args.lines.now in
     let below = c.args.below in
     let from = c.args.from in

@@ -6,7 +6,7 @@ use Rattle.vp_page.proofs.line.lay_from.Goals as goal
 use Rattle.vp_page.proofs.line.lay_from.Goals.{then-byte-ne0, else-byte-ne0}
 
 pub loop-j-preserved : goal.loop-j-preserved
-loop-j-preserved c =
+loop-j-preserved g c =
     let line = c.args.line.now in
     elim c.if-byte-ne0.branch [
       | then-byte-ne0 w ↦ rw w.band-is (rows_then _ _ _ _ _ _ (λ x k. byte_more line c.loop-j.j (get_or line c.loop-j.j 0) c.args.top c.args.skip _ _ (eqb x c.args.x) k refl w.saturating_sub.ensures w.saturating_sub-then-byte-ne0.ensures)
@@ -15,4 +15,4 @@ loop-j-preserved c =
     ]
 
 pub returns : goal.returns
-returns c = rows_same Black _ _ _ _ (λ x k _. all_bytes c.args.line.now c.loop-j.j (k - c.args.top + c.args.skip) (eqb x c.args.x) (leb c.args.top k) c.loop-j-test.false) c.loop-j.invariant
+returns g c = rows_same Black _ _ _ _ (λ x k _. all_bytes c.args.line.now c.loop-j.j (k - c.args.top + c.args.skip) (eqb x c.args.x) (leb c.args.top k) c.loop-j-test.false) c.loop-j.invariant

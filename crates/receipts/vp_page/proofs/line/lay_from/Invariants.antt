@@ -6,4 +6,4 @@ use Rattle.vp_page.proofs.line.lay_from.Given as goal
 
 -- the dots of the bytes before j are laid
 abbrev pub invariant-loop-j : goal.invariant-loop-j
-invariant-loop-j l = RowsPainted 1664 Black (λ d k. eqb d l.x && (leb l.top k && (ltb (k - l.top + l.skip) (8 * l.j) && dot l.line (k - l.top + l.skip)))) l.fn.band l.band
+invariant-loop-j g l = RowsPainted 1664 Black (λ d k. eqb d l.x && (leb l.top k && (ltb (k - l.top + l.skip) (8 * l.j) && dot l.line (k - l.top + l.skip)))) l.fn.band l.band

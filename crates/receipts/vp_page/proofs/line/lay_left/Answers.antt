@@ -8,7 +8,7 @@ use Rattle.vp_page.proofs.Rows.{dot_past, rows_same}
 use Rattle.vp_page.proofs.line.lay_left.Goals as goal
 
 pub returns-then-right : goal.returns-then-right
-returns-then-right c =
+returns-then-right g c =
     let a = c.args.area in
     let row = c.args.row.now in
     let n = 8 * length row in
@@ -16,7 +16,7 @@ returns-then-right c =
     (ap pos (omega arith)) (λ d. short_of n a.dx d (dot row (n - 1 - d)) (omega arith)) (λ d h. dot_past row d (omega arith)))) c.lay_back.ensures
 
 pub returns : goal.returns
-returns c =
+returns g c =
     let a = c.args.area in
     let fits : SFits w64 c.start_of.result = search rules in
     rows_same Black _ _ _ _ (λ x k _. ap (λ b. eqb k c.args.y && b) (backward (a.x + a.dx) (8 * length c.args.row.now) a.dx x _ (dot c.args.row.now) (dot c.clip_reversed.new.line)

@@ -8,7 +8,7 @@ use Rattle.vp_page.proofs.Rows.{dot_past, rows_same}
 use Rattle.vp_page.proofs.line.lay_up.Goals as goal
 
 pub returns : goal.returns
-returns c =
+returns g c =
     let a = c.args.area in
     let fits : SFits w64 c.start_of.result = search rules in
     rows_same Black _ _ _ _ (λ k y _. ap (λ b. eqb k c.args.x && b) (backward (a.y + a.dy) (8 * length c.args.row.now) a.dy y _ (dot c.args.row.now) (dot c.clip_reversed.new.line)

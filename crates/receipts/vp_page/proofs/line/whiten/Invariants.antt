@@ -7,4 +7,4 @@ use Rattle.vp_page.proofs.line.whiten.Given as goal
 
 -- the rows above top + i are done
 abbrev pub invariant-loop-i : goal.invariant-loop-i
-invariant-loop-i l = RowsPainted 1664 White (λ x k. ltb k (l.top + l.i) && (span l.fn.rows.from l.fn.rows.to k && holds l.fn.area x k)) l.fn.band l.band
+invariant-loop-i g l = RowsPainted 1664 White (λ x k. ltb k (l.top + l.i) && (span l.fn.rows.from l.fn.rows.to k && holds l.fn.area x k)) l.fn.band l.band

@@ -7,4 +7,4 @@ use Rattle.vp_page.proofs.words.lay_whole.Given as goal
 
 -- the rows above top + i are done
 abbrev pub invariant-loop-i : goal.invariant-loop-i
-invariant-loop-i l = RowsPainted 1664 Black (λ x k. ltb k (l.top + l.i) && (leb l.top k && (leb (8 * l.q) x && dot (row_in l.bytes l.wide (k - l.top)) (x - 8 * l.q)))) l.fn.band l.band
+invariant-loop-i g l = RowsPainted 1664 Black (λ x k. ltb k (l.top + l.i) && (leb l.top k && (leb (8 * l.q) x && dot (row_in l.bytes l.wide (k - l.top)) (x - 8 * l.q)))) l.fn.band l.band

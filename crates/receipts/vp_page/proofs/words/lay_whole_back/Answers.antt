@@ -3,7 +3,7 @@ use Rattle.vp_page.proofs.Whole.{back_more}
 use Rattle.vp_page.proofs.words.lay_whole_back.Goals as goal
 
 pub loop-i-preserved : goal.loop-i-preserved
-loop-i-preserved c =
+loop-i-preserved g c =
     let bytes = c.args.bytes.now in
     let wide = c.args.wide in
     let at = (c.args.rows - 1 - c.loop-i.i) * wide in

@@ -6,7 +6,7 @@ use Rattle.vp_page.proofs.Pages.{rows_make_an_image}
 use Rattle.vp_page.proofs.page.Page.lay_each.Goals as goal
 
 pub loop-k-preserved : goal.loop-k-preserved
-loop-k-preserved c = λ layers page.
+loop-k-preserved g c = λ layers page.
     let k = c.loop-k.k in
     let wide = c.args.wide in
     let bytes = c.args.bytes.now in

@@ -11,12 +11,12 @@ use Rattle.vp_page.proofs.Whites.{laid_on, up_rows, down_rows}
 use Rattle.vp_page.proofs.page.Page.lay_long.Goals as goal
 
 pub loop-i-preserved : goal.loop-i-preserved
-loop-i-preserved c = λ layers page.
+loop-i-preserved g c = λ layers page.
     let short : length (get_or c.args.lines.now c.loop-i.i []) ≤ 208 = search rules in
     rows_make_an_image.more (lines_mark c.args.area c.args.direction c.args.v c.args.lines.now) c.loop-i.i _ layers _ (λ u _. line_in_mark c.args.lines.now c.loop-i.i u (omega arith) short) (c.lay_row.ensures _ (c.loop-i.invariant layers page))
 
 pub returns-in-BottomToTop : goal.returns-in-BottomToTop
-returns-in-BottomToTop c = λ layers page.
+returns-in-BottomToTop g c = λ layers page.
     let a = c.args.area in
     let v = c.args.v in
     let lines = c.args.lines.now in
@@ -27,7 +27,7 @@ returns-in-BottomToTop c = λ layers page.
     (rw c.from-left.ensures at c.lay_lines_up.ensures) (omega (arith, c.saturating_add-count.ensures, c.min-shown.ensures, room)) refl)
 
 pub returns-in-TopToBottom : goal.returns-in-TopToBottom
-returns-in-TopToBottom c = λ layers page.
+returns-in-TopToBottom g c = λ layers page.
     let a = c.args.area in
     let v = c.args.v in
     let lines = c.args.lines.now in
@@ -38,20 +38,20 @@ returns-in-TopToBottom c = λ layers page.
     (rw (c.from-left.ensures, room) at c.lay_lines_down.ensures) (omega (arith, c.saturating_add-count.ensures, c.min-shown.ensures, room)) refl)
 
 pub invariant_of-self : goal.invariant_of-self
-invariant_of-self c = laid_on _ c.self.inside.laid _ _ c.self.inside.band _ c.self.invariant c.lay_lines_up.ensures c.with-self-inside.ensures.within c.with-self-inside.ensures.these
+invariant_of-self g c = laid_on _ c.self.inside.laid _ _ c.self.inside.band _ c.self.invariant c.lay_lines_up.ensures c.with-self-inside.ensures.within c.with-self-inside.ensures.these
     (λ x y h e. c.with-self-inside.ensures.others y h (rw c.of.ensures (up_rows c.args.area.y c.args.area.dy y _ e)))
 
 pub invariant_of-self-in-TopToBottom : goal.invariant_of-self-in-TopToBottom
-invariant_of-self-in-TopToBottom c = laid_on _ c.self.inside.laid _ _ c.self.inside.band _ c.self.invariant c.lay_lines_down.ensures c.with-self-inside-in-TopToBottom.ensures.within c.with-self-inside-in-TopToBottom.ensures.these
+invariant_of-self-in-TopToBottom g c = laid_on _ c.self.inside.laid _ _ c.self.inside.band _ c.self.invariant c.lay_lines_down.ensures c.with-self-inside-in-TopToBottom.ensures.within c.with-self-inside-in-TopToBottom.ensures.these
     (λ x y h e. c.with-self-inside-in-TopToBottom.ensures.others y h (rw c.of-in-TopToBottom.ensures (down_rows c.args.area.y c.args.area.dy y _ e)))
 
 pub lay_lines_up-requires-clause-white : goal.lay_lines_up-requires-clause-white
-lay_lines_up-requires-clause-white c = λ i u h. shown_white c.args.lines.now _ i u (c.requires.white i u h)
+lay_lines_up-requires-clause-white g c = λ i u h. shown_white c.args.lines.now _ i u (c.requires.white i u h)
 
 pub lay_lines_down-requires-clause-white : goal.lay_lines_down-requires-clause-white
-lay_lines_down-requires-clause-white c = λ i u h. shown_white c.args.lines.now _ i u (c.requires.white i u h)
+lay_lines_down-requires-clause-white g c = λ i u h. shown_white c.args.lines.now _ i u (c.requires.white i u h)
 
 pub returns-after-loop-i : goal.returns-after-loop-i
-returns-after-loop-i c = λ layers page.
+returns-after-loop-i g c = λ layers page.
     rows_make_an_image.all (lines_mark c.args.area c.args.direction c.args.v c.args.lines.now) c.loop-i.i layers _
     (λ u w e k. line_there c.args.lines.now w u c.loop-i.i (omega arith) e) (omega arith) (c.loop-i.invariant layers page)

@@ -10,7 +10,7 @@ use Rattle.vp_page.proofs.Whites.{laid_on}
 use Rattle.vp_page.proofs.page.Page.lay_row.Goals as goal
 
 pub invariant_of-self : goal.invariant_of-self
-invariant_of-self c =
+invariant_of-self g c =
     let a = c.args.area in
     let row = dot c.args.row.now in
     let deep : c.args.v < a.dy = omega (arith, c.if-v-from.false, c.from.ensures ∙ c.depth.ensures ∙ ap (depth a) c.in-LeftToRight.is) in
@@ -18,14 +18,14 @@ invariant_of-self c =
     (λ x y h e. c.with-self-inside.ensures.others y h (rw c.in-LeftToRight.is at c.fallen.ensures row x y (sym (right_same a c.args.v row deep x y) ∙ e)))
 
 pub returns-in-LeftToRight : goal.returns-in-LeftToRight
-returns-in-LeftToRight c = λ layers page.
+returns-in-LeftToRight g c = λ layers page.
     let a = c.args.area in
     let row = dot c.args.row.now in
     let deep : c.args.v < a.dy = omega (arith, c.if-v-from.false, c.from.ensures ∙ c.depth.ensures ∙ ap (depth a) c.in-LeftToRight.is) in
     rw c.in-LeftToRight.is (laid layers _ _ _ (subst (HasPage layers) (sym c.self.view_is) page) (row_mark a LeftToRight c.args.v row) (λ x y h k. right_same a c.args.v row deep x y) c.lay_right.ensures (omega (arith, deep, c.saturating_add-self-inside.ensures)) refl)
 
 pub invariant_of-self-in-BottomToTop : goal.invariant_of-self-in-BottomToTop
-invariant_of-self-in-BottomToTop c =
+invariant_of-self-in-BottomToTop g c =
     let a = c.args.area in
     let row = dot c.args.row.now in
     let deep : c.args.v < a.dx = omega (arith, c.if-v-from.false, c.from.ensures ∙ c.depth.ensures ∙ ap (depth a) c.in-BottomToTop.is) in
@@ -33,14 +33,14 @@ invariant_of-self-in-BottomToTop c =
     (λ x y h e. c.with-self-inside.ensures.others y h (rw c.in-BottomToTop.is at c.fallen.ensures row x y (sym (up_same a c.args.v row deep x y) ∙ e)))
 
 pub returns-in-BottomToTop : goal.returns-in-BottomToTop
-returns-in-BottomToTop c = λ layers page.
+returns-in-BottomToTop g c = λ layers page.
     let a = c.args.area in
     let row = dot c.args.row.now in
     let deep : c.args.v < a.dx = omega (arith, c.if-v-from.false, c.from.ensures ∙ c.depth.ensures ∙ ap (depth a) c.in-BottomToTop.is) in
     rw c.in-BottomToTop.is (laid layers _ _ _ (subst (HasPage layers) (sym c.self.view_is) page) (row_mark a BottomToTop c.args.v row) (λ x y h k. up_same a c.args.v row deep x y) c.lay_up.ensures (omega (arith, deep, c.saturating_add-self-inside.ensures)) refl)
 
 pub invariant_of-self-in-RightToLeft : goal.invariant_of-self-in-RightToLeft
-invariant_of-self-in-RightToLeft c =
+invariant_of-self-in-RightToLeft g c =
     let a = c.args.area in
     let row = dot c.args.row.now in
     let deep : c.args.v < a.dy = omega (arith, c.if-v-from.false, c.from.ensures ∙ c.depth.ensures ∙ ap (depth a) c.in-RightToLeft.is) in
@@ -48,14 +48,14 @@ invariant_of-self-in-RightToLeft c =
     (λ x y h e. c.with-self-inside.ensures.others y h (rw c.in-RightToLeft.is at c.fallen.ensures row x y (sym (left_same a c.args.v row deep x y) ∙ e)))
 
 pub returns-in-RightToLeft : goal.returns-in-RightToLeft
-returns-in-RightToLeft c = λ layers page.
+returns-in-RightToLeft g c = λ layers page.
     let a = c.args.area in
     let row = dot c.args.row.now in
     let deep : c.args.v < a.dy = omega (arith, c.if-v-from.false, c.from.ensures ∙ c.depth.ensures ∙ ap (depth a) c.in-RightToLeft.is) in
     rw c.in-RightToLeft.is (laid layers _ _ _ (subst (HasPage layers) (sym c.self.view_is) page) (row_mark a RightToLeft c.args.v row) (λ x y h k. left_same a c.args.v row deep x y) c.lay_left.ensures (omega (arith, deep, c.saturating_add-self-inside.ensures)) refl)
 
 pub invariant_of-self-in-TopToBottom : goal.invariant_of-self-in-TopToBottom
-invariant_of-self-in-TopToBottom c =
+invariant_of-self-in-TopToBottom g c =
     let a = c.args.area in
     let row = dot c.args.row.now in
     let deep : c.args.v < a.dx = omega (arith, c.if-v-from.false, c.from.ensures ∙ c.depth.ensures ∙ ap (depth a) c.in-TopToBottom.is) in
@@ -63,7 +63,7 @@ invariant_of-self-in-TopToBottom c =
     (λ x y h e. c.with-self-inside.ensures.others y h (rw c.in-TopToBottom.is at c.fallen.ensures row x y (sym (down_same a c.args.v row deep x y) ∙ e)))
 
 pub returns-in-TopToBottom : goal.returns-in-TopToBottom
-returns-in-TopToBottom c = λ layers page.
+returns-in-TopToBottom g c = λ layers page.
     let a = c.args.area in
     let row = dot c.args.row.now in
     let deep : c.args.v < a.dx = omega (arith, c.if-v-from.false, c.from.ensures ∙ c.depth.ensures ∙ ap (depth a) c.in-TopToBottom.is) in

@@ -5,7 +5,7 @@ use Rattle.vp_page.proofs.Whites.{all_white}
 use Rattle.vp_page.proofs.page.Page.new.Goals as goal
 
 pub invariant_of-result : goal.invariant_of-result
-invariant_of-result c = all_white _ _ _ c.none.ensures.within (blank PAGE_ROWS PAPER_BYTES _ refl refl c.in_ok-band.ensures)
+invariant_of-result g c = all_white _ _ _ c.none.ensures.within (blank PAGE_ROWS PAPER_BYTES _ refl refl c.in_ok-band.ensures)
 
 pub returns : goal.returns
-returns c = blank PAGE_ROWS PAPER_BYTES _ refl refl c.in_ok-band.ensures
+returns g c = blank PAGE_ROWS PAPER_BYTES _ refl refl c.in_ok-band.ensures

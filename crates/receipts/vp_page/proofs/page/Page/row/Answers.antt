@@ -8,7 +8,7 @@ use Rattle.vp_page.proofs.Rows.{take-row_of}
 use Rattle.vp_page.proofs.page.Page.row.Goals as goal
 
 pub returns : goal.returns
-returns c =
+returns g c =
     let whole : (layers : List Layer) → HasPage layers c.args.self.now → c.row-row.result.now ≡ row_of PAPER_BYTES (λ x. page_dot layers x c.args.y) = λ layers page.
     c.dots_decide.ensures.row PAPER_BYTES (λ x. page_dot layers x c.args.y) c.row-row.ensures.len
     (λ d h. ap (λ row. dot row d) (c.row-row.ensures.value ∙ ap (λ (p : Paged). get_or p.rows c.args.y []) c.self.view_is) ∙ page.dots_are d c.args.y (omega arith) c.requires)

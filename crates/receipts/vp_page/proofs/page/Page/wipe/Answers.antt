@@ -5,7 +5,7 @@ use Rattle.vp_page.proofs.Pages.{wiped}
 use Rattle.vp_page.proofs.page.Page.wipe.Goals as goal
 
 pub returns : goal.returns
-returns c = λ layers page.
+returns g c = λ layers page.
     let rows = c.unknown_in-rows.result in
     wiped layers c.args.area rows.from rows.to _ _ (subst (HasPage layers) (sym c.self.view_is) page)
     (λ x y k h t f. ap (λ (p : Paged). dot (get_or p.rows y []) x) c.self.view_is ∙ c.unknown_in-rows.ensures.white x y k h t f)
