@@ -25,7 +25,7 @@ unfolding text_dot sampled_dot
 text_alike sheet cells w h y z a b e x = rw (lt-ltb y h a, lt-ltb z h b, e) refl
 
 -- the row of 24 that is shown
-row_shown : (h s u : ℕ) → s < 24 → edge_at 24 h s ≤ u → u < edge_at 24 h (s + 1) → (u < h) × (u * 24 / h ≡ s)
+pub row_shown : (h s u : ℕ) → s < 24 → edge_at 24 h s ≤ u → u < edge_at 24 h (s + 1) → (u < h) × (u * 24 / h ≡ s)
 row_shown h s u k l m =
     let n = edge_within 24 h (s + 1) (omega arith) (omega arith) in
     (omega arith, quotient (u * 24) h s (omega arith) (from_edge 24 h s u (omega arith) l) (before_edge 24 h (s + 1) u (omega arith) m))

@@ -124,45 +124,36 @@ module _ (sheet : Option Glyphs) (w h a b s : ℕ) (d : Alignment) where
         ∙ shifted_same at (λ v. leb (place * s) y && ltb (y - place * s) h && line_dot (layout sheet w 24 a 1 0 d) 0 line v ((y - place * s) * 24 / h)) (λ v. line_dot (layout sheet w h a b s d) place line v y) x
         (λ v _. sym (line_rows place line v y)))
 
-    -- all lines stand in the block
-    lines_inside : (place : ℕ) (all : List (List ℕ)) → All (λ line. length line ≤ a / w) all → lines_dot (layout sheet w h a b s d) place all x y ≡ true → x < a
-    lines_inside place [] m e = absurd (cc)
-    lines_inside place (line ∷ rest) m e = elim (or_true (line_dot (layout sheet w h a b s d) place line x y) (lines_dot (layout sheet w h a b s d) (min (place + 1) (b - 1)) rest x y) e) [
-      | inl v ↦
-          let t : take (length line) line ≡ line = take-length line in
-          line_inside sheet w h a b s d y place (length line) x line (omega arith) (m 0 [] (omega arith)) (rw t v)
-      | inr v ↦ lines_inside (min (place + 1) (b - 1)) rest (λ k z l. m (suc k) z (omega arith)) v
-    ]
-      where
-        or_true : (p q : Bool) → (p || q) ≡ true → (p ≡ true) ⊎ (q ≡ true)
-        or_true true q i = inl refl
-        or_true false q i = inr i
-
   -- the cells of a line are its rows
+  pub line_sheet : (k left width r v : ℕ) (cells : List ℕ) → k ≤ length cells → left ≡ indent d (a - w * k) → width ≡ w
+      → (leb left v && text_dot sheet (take k cells) width 24 (v - left) r) ≡ line_dot (layout sheet w 24 a 1 0 d) 0 (take k cells) v r
+  line_sheet k left width r v cells l e f =
+      let n : length (take k cells) ≡ k = length-take-le k cells l in
+      let m : left ≡ indent d (a - w * length (take k cells)) = e ∙ ap (λ j. indent d (a - w * j)) (sym n) in
+      ap (λ j. leb j v && text_dot sheet (take k cells) width 24 (v - j) r) m
+      ∙ ap (λ j. leb (indent d (a - w * length (take k cells))) v && text_dot sheet (take k cells) j 24 (v - indent d (a - w * length (take k cells))) r) f
+      ∙ first_rows (take k cells) v r
+
   pub line_first : (at : ℤ) (k left width r x : ℕ) (cells : List ℕ) (old new : Bool) → k ≤ length cells → left ≡ indent d (a - w * k) → width ≡ w
       → new ≡ (old || shifted at (λ v. leb left v && text_dot sheet (take k cells) width 24 (v - left) r) x) → new ≡ (old || shifted at (λ v. line_dot (layout sheet w 24 a 1 0 d) 0 (take k cells) v r) x)
   line_first at k left width r x cells old new l e f p =
-      let n : length (take k cells) ≡ k = length-take-le k cells l in
-      let m : left ≡ indent d (a - w * length (take k cells)) = e ∙ ap (λ j. indent d (a - w * j)) (sym n) in
       p ∙ ap (λ t. old || t) (shifted_same at (λ v. leb left v && text_dot sheet (take k cells) width 24 (v - left) r) (λ v. line_dot (layout sheet w 24 a 1 0 d) 0 (take k cells) v r) x
-      (λ v _. ap (λ j. leb j v && text_dot sheet (take k cells) width 24 (v - j) r) m
-      ∙ ap (λ j. leb (indent d (a - w * length (take k cells))) v && text_dot sheet (take k cells) j 24 (v - indent d (a - w * length (take k cells))) r) f
-      ∙ first_rows (take k cells) v r))
+      (λ v _. line_sheet k left width r v cells l e f))
 
   -- one line more
-  pub joined_more : (at : ℤ) (n k r x old new : ℕ) (left next : Option (Bor (List ℕ))) (text : Bor (List ℕ)) (lent : List ℕ) (all : Bool)
-      → all ≡ (word_dot old x || shifted at (λ v. lines_dot (layout sheet w 24 a 1 0 d) 0 (lines_left n left) v r) x) → left ≡ Some text → lent ≡ text.now
+  pub joined_more : (at : ℤ) (n k r x : ℕ) (old new : Bool) (left next : Option (Bor (List ℕ))) (text : Bor (List ℕ)) (lent : List ℕ) (all : Bool)
+      → all ≡ (old || shifted at (λ v. lines_dot (layout sheet w 24 a 1 0 d) 0 (lines_left n left) v r) x) → left ≡ Some text → lent ≡ text.now
       → MatchOption next (block_lines n text.now ≡ take k (first (pieces text.now)) ∷ []) (λ q. block_lines n text.now ≡ take k (first (pieces text.now)) ∷ block_lines n q.now)
-      → word_dot new x ≡ (word_dot old x || shifted at (λ v. line_dot (layout sheet w 24 a 1 0 d) 0 (take k (first (pieces lent))) v r) x)
-      → all ≡ (word_dot new x || shifted at (λ v. lines_dot (layout sheet w 24 a 1 0 d) 0 (lines_left n next) v r) x)
+      → new ≡ (old || shifted at (λ v. line_dot (layout sheet w 24 a 1 0 d) 0 (take k (first (pieces lent))) v r) x)
+      → all ≡ (new || shifted at (λ v. lines_dot (layout sheet w 24 a 1 0 d) 0 (lines_left n next) v r) x)
   joined_more at n k r x old new left next text lent all p e m o q =
       let line : List ℕ = take k (first (pieces text.now)) in
       let front : lines_left n left ≡ line ∷ lines_left n next = ap (lines_left n) e ∙ lines_are n text.now line next o in
-      let now : word_dot new x ≡ (word_dot old x || shifted at (λ v. line_dot (layout sheet w 24 a 1 0 d) 0 line v r) x) = rw m at q in
-      p ∙ ap (λ (ls : List (List ℕ)). word_dot old x || shifted at (λ v. lines_dot (layout sheet w 24 a 1 0 d) 0 ls v r) x) front
-      ∙ ap (λ t. word_dot old x || t) (shifted_or at (λ v. line_dot (layout sheet w 24 a 1 0 d) 0 line v r) (λ v. lines_dot (layout sheet w 24 a 1 0 d) 0 (lines_left n next) v r)
+      let now : new ≡ (old || shifted at (λ v. line_dot (layout sheet w 24 a 1 0 d) 0 line v r) x) = rw m at q in
+      p ∙ ap (λ (ls : List (List ℕ)). old || shifted at (λ v. lines_dot (layout sheet w 24 a 1 0 d) 0 ls v r) x) front
+      ∙ ap (λ t. old || t) (shifted_or at (λ v. line_dot (layout sheet w 24 a 1 0 d) 0 line v r) (λ v. lines_dot (layout sheet w 24 a 1 0 d) 0 (lines_left n next) v r)
       (λ v. lines_dot (layout sheet w 24 a 1 0 d) 0 (line ∷ lines_left n next) v r) x (λ v. refl))
-      ∙ or_assoc (word_dot old x) (shifted at (λ v. line_dot (layout sheet w 24 a 1 0 d) 0 line v r) x) _
+      ∙ or_assoc (old) (shifted at (λ v. line_dot (layout sheet w 24 a 1 0 d) 0 line v r) x) _
       ∙ ap (λ t. t || shifted at (λ v. lines_dot (layout sheet w 24 a 1 0 d) 0 (lines_left n next) v r) x) (sym now)
 
   -- no line yet
@@ -170,10 +161,34 @@ module _ (sheet : Option Glyphs) (w h a b s : ℕ) (d : Alignment) where
   joined_none r x all = sym (ap (λ t. t || all) (ap (λ v. word_dot v x) (zero_at 24 r) ∙ white_dot x))
 
   -- all lines
-  pub joined_all : (at : ℤ) (n r x word : ℕ) (left : Option (Bor (List ℕ))) (all : Bool) → all ≡ (word_dot word x || shifted at (λ v. lines_dot (layout sheet w 24 a 1 0 d) 0 (lines_left n left) v r) x)
-      → left ≡ None → word_dot word x ≡ all
-  joined_all at n r x word left all p e =
-      sym (p ∙ ap (λ t. word_dot word x || t) (ap (λ l. shifted at (λ v. lines_dot (layout sheet w 24 a 1 0 d) 0 (lines_left n l) v r) x) e ∙ shifted_none at (λ v. false) x (λ v. refl)) ∙ or_false (word_dot word x))
+  pub joined_all : (at : ℤ) (n r x : ℕ) (new : Bool) (left : Option (Bor (List ℕ))) (all : Bool) → all ≡ (new || shifted at (λ v. lines_dot (layout sheet w 24 a 1 0 d) 0 (lines_left n left) v r) x)
+      → left ≡ None → new ≡ all
+  joined_all at n r x new left all p e =
+      sym (p ∙ ap (λ t. new || t) (ap (λ l. shifted at (λ v. lines_dot (layout sheet w 24 a 1 0 d) 0 (lines_left n l) v r) x) e ∙ shifted_none at (λ v. false) x (λ v. refl)) ∙ or_false (new))
+
+  -- all lines stand in the block
+  lines_inside : (x y place : ℕ) (all : List (List ℕ)) → All (λ line. length line ≤ a / w) all → lines_dot (layout sheet w h a b s d) place all x y ≡ true → x < a
+  lines_inside x y place [] m e = absurd (cc)
+  lines_inside x y place (line ∷ rest) m e = elim (or_true (line_dot (layout sheet w h a b s d) place line x y) (lines_dot (layout sheet w h a b s d) (min (place + 1) (b - 1)) rest x y) e) [
+    | inl v ↦
+        let t : take (length line) line ≡ line = take-length line in
+        line_inside sheet w h a b s d y place (length line) x line (omega arith) (m 0 [] (omega arith)) (rw t v)
+    | inr v ↦ lines_inside x y (min (place + 1) (b - 1)) rest (λ k z l. m (suc k) z (omega arith)) v
+  ]
+    where
+      or_true : (p q : Bool) → (p || q) ≡ true → (p ≡ true) ⊎ (q ≡ true)
+      or_true true q i = inl refl
+      or_true false q i = inr i
+
+  -- the lines of a block are its dots
+  pub lines_block : (text : List ℕ) (y v : ℕ) → 0 < w → w ≤ a → y < block_height h b s → lines_dot (layout sheet w h a b s d) 0 (block_lines (a / w) text) v y ≡ block_dot (layout sheet w h a b s d) text v y
+  lines_block text y v p m k = elim (cases_lt v (block_width a w)) [
+    | inl j ↦ block_within sheet text w h a b s d v y j k m
+    | inr g ↦
+        let some : 0 < a / w = (le-div_iff_mul-le {k = w} {x = 1} {y = a} p).1 (omega arith) in
+        let all = lines_dot (layout sheet w h a b s d) 0 (block_lines (a / w) text) v y in
+        false_from_ne_true all (λ t. absurd (let i = lines_inside v y 0 (block_lines (a / w) text) (block_few (a / w) text some) t in omega arith)) ∙ block_past sheet text w h a b s d v y g
+  ]
 
   -- the front of a row to which all lines that are left are added
   pub joined_front : (at : ℤ) (x y place old new : ℕ) (text : List ℕ) (left : Option (Bor (List ℕ))) (rows : List ℕ) → x < 64 → 0 < w → w ≤ a → y < block_height h b s → (s ≡ 0) ⊎ (place ≡ b - 1)
@@ -189,13 +204,7 @@ module _ (sheet : Option Glyphs) (w h a b s : ℕ) (d : Alignment) where
       ∙ shifted_same at (λ v. leb (place * s) y && ltb (y - place * s) h && lines_dot (layout sheet w 24 a 1 0 d) 0 (lines_left (a / w) left) v ((y - place * s) * 24 / h)) rest x
       (λ v _. sym (lines_rows place (place * s) (lines_left (a / w) left) v y c refl)))
       ∙ sym (shifted_or at o.done rest all x o.rest_is)
-      ∙ shifted_same at all (λ v. block_dot (layout sheet w h a b s d) text v y) x (λ v _. elim (cases_lt v (block_width a w)) [
-        | inl j ↦ block_within sheet text w h a b s d v y j k m
-        | inr g ↦ false_from_ne_true (all v) (λ t. absurd (let i = lines_inside at v y 0 (block_lines (a / w) text) (block_few (a / w) text (div_some w a p m)) t in omega arith)) ∙ block_past sheet text w h a b s d v y g
-      ])
-    where
-      div_some : (w a : ℕ) → 0 < w → w ≤ a → 0 < a / w
-      div_some w a p m = (le-div_iff_mul-le {k = w} {x = 1} {y = a} p).1 (omega arith)
+      ∙ shifted_same at all (λ v. block_dot (layout sheet w h a b s d) text v y) x (λ v _. lines_block text y v p m k)
 
 -- a row of a cell as high as the sheet's
 pub cell_row : (sheet : Option Glyphs) (c w place s : ℕ) (at : ℤ) (d : ℕ) (row : ℕ) → s < 24 → ((u : ℕ) → word_dot row u ≡ sheet_dot sheet c u s)

@@ -10,8 +10,10 @@ pub mod Looks
 pub mod Magnified
 pub mod Numbers
 pub mod Overlaid
+pub mod Passed
 pub mod Pieces
 pub mod Printed
+pub mod Sheeted
 pub mod Sides
 pub mod Spread
 pub mod Stacks

@@ -11,3 +11,4 @@ pub mod Layouts
 pub mod Inked
 pub mod Stretches
 pub mod Memory
+pub mod Runs

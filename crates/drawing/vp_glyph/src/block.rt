@@ -106,7 +106,7 @@ fn dot_of_line(line: Line<'_>, sheet: &Option<Sheet>, w: u32, h: u32, x: u32, y:
 }
 
 /// Paints row y of a line, from its left and top on: the cells that can be seen on the row.
-fn paint_line(
+pub(crate) fn paint_line(
     line: Line<'_>,
     sheet: &Option<Sheet>,
     stretch: &Stretch,

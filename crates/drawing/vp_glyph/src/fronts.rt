@@ -10,7 +10,7 @@ use crate::lines::{Line, next_line};
 use vp_dots::{Op, word_of};
 
 /// The first of the rows of a cell, drawn `high` rows high, that show row s of 24.
-fn first_row(s: u32, high: u32) -> u32
+pub fn first_row(s: u32, high: u32) -> u32
     requires { s ≤ 24 }
     ensures row { result ≡ (s * high + 23) / 24 }
     ensures within { result ≤ high }
@@ -19,7 +19,7 @@ fn first_row(s: u32, high: u32) -> u32
 }
 
 /// How many of N rows from one on stand above another.
-fn rows_above<const N: usize>(row: u32, first: u32) -> usize
+pub fn rows_above<const N: usize>(row: u32, first: u32) -> usize
     ensures { result ≡ min (row - first) N }
 {
     (row.saturating_sub(first) as usize).min(N)

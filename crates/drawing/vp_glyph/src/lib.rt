@@ -10,8 +10,9 @@
 //! - `sampled`, `stretch`: a character at any size, which of several side by side can be seen on a row, and
 //!   the dots of its rows as a word.
 //! - `text`: characters side by side.
-//! - `lines`, `block`, `fronts`, `joined`: a text broken into lines, the lines below each other, many of their
-//!   rows at once, and lines over each other.
+//! - `lines`, `block`: a text broken into lines, and the lines below each other.
+//! - `fronts`, `joined`: the first dots of many of their rows at once, and lines over each other.
+//! - `rows`, `runs`: all dots of the rows of a band, what many of them have alike kept once.
 #![tactic(auto)]
 
 ghost use Rattle.std.specs.Prelude.{◌≡◌, ◌<◌, ◌≤◌, ◌^◌, ◌≤ℤ◌, pos};
@@ -25,6 +26,8 @@ mod header;
 mod joined;
 mod lines;
 mod look;
+mod rows;
+mod runs;
 mod sampled;
 mod sheet;
 mod stretch;
@@ -35,6 +38,7 @@ pub use block::{Alignment, Block};
 pub use cell::{Cell, Font, Style};
 pub use header::header_law;
 pub use lines::lines_law;
+pub use runs::{BYTES, ROWS};
 pub use sampled::{Sampled, seen};
 pub use sheet::{Sheet, SheetError};
 pub use stretch::Stretch;

@@ -22,19 +22,11 @@ impl Clone for BlockRows<'_> {
     }
 }
 
-/// Of more lines that meet, and in a wider block, each is found sooner row by row than word by word.
-const FEW: u32 = 33;
-
-const NARROW: u32 = 512;
-
 impl BlockRows<'_> {
-    /// Whether lines that don't begin together meet, few of them or in a narrow block.
+    /// Whether lines that don't begin together meet.
     pub fn lines_meet(&self) -> bool {
         let block = &self.block;
-        block.rows > 1
-            && block.pitch != 0
-            && block.pitch < block.h
-            && (block.rows <= FEW || block.wide <= NARROW)
+        block.rows > 1 && block.pitch != 0 && block.pitch < block.h
     }
 
     /// Which row of a line row y is, where lines that don't begin together don't meet there.

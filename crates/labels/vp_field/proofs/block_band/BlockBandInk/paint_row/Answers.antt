@@ -1,28 +1,24 @@
-use Rattle.std.proofs.Common.{◌≡◌, ◌+◌, ◌*◌, ◌/◌, ◌%◌, ◌<◌, ltb, ◌&&◌, sym, ap, ◌∙◌, arith, rules, w64, to_z}
+use Rattle.std.proofs.Common.{◌≡◌, ◌+◌, ◌*◌, ◌<◌, [], get_or, sym, ap, ◌∙◌, arith, rules, w64, to_z}
 use mir.Val.{SFits}
 use Rattle.std.proofs.lemmas.Int.{to_z-of_z}
-use Rattle.std.proofs.lemmas.Bool.{lt-ltb}
-use Rattle.vp_dots.specs.Dots.{shifted}
+use Rattle.vp_dots.specs.Dots.{dot, shifted}
 use Rattle.vp_dots.proofs.Paints.{painted_same}
 use Rattle.vp_glyph.specs.Blocks.{block_dot}
 use Rattle.vp_glyph.specs.Layouts.{layout_of}
-use Rattle.vp_field.proofs.Fronts.{word_row_dot}
 use Rattle.vp_field.proofs.block_band.BlockBandInk.paint_row.Goals as goal
 
-pub returns-then-row-le-BAND_BYTES : goal.returns-then-row-le-BAND_BYTES
-returns-then-row-le-BAND_BYTES c =
+pub returns-then-row-le-BYTES : goal.returns-then-row-le-BYTES
+returns-then-row-le-BYTES c =
     let s = c.args.self.now in
     let b = s.rows.block in
     let place = c.saturating_sub-place.result in
     let fits : SFits w64 s.at = search rules in
     let at : s.at ≡ c.args.at = sym (to_z-of_z w64 s.at fits) ∙ ap (to_z w64) (sym c.if-at-self.true) ∙ to_z-of_z w64 c.args.at c.ranges.at in
     let row : s.top + place ≡ c.args.y = omega (arith, c.saturating_sub-place.ensures) in
-    painted_same c.args.op (λ d. ltb d (64 * 20) && word_row_dot s.fronts place d) (shifted c.args.at (λ v. block_dot (layout_of b) b.text.now v c.args.y)) _ _
+    painted_same c.args.op (dot (get_or s.drawn place [])) (shifted c.args.at (λ v. block_dot (layout_of b) b.text.now v c.args.y)) _ _
     (λ d m.
-    let here : 64 * (d / 64) + d % 64 ≡ d = omega arith in
-    let short : d < 64 * 20 = omega arith in
-    rw (lt-ltb d (64 * 20) short) (s.drawn (d / 64) place (d % 64) (omega arith) (omega arith) (omega arith) (omega (arith, c.size-height.ensures.height))
-    ∙ ap (λ z. shifted z (λ v. block_dot (layout_of b) b.text.now v (s.top + place)) (64 * (d / 64) + d % 64)) at
-    ∙ ap (λ n. shifted c.args.at (λ v. block_dot (layout_of b) b.text.now v n) (64 * (d / 64) + d % 64)) row
-    ∙ ap (shifted c.args.at (λ v. block_dot (layout_of b) b.text.now v c.args.y)) here))
+    let short : d < 8 * 160 = omega arith in
+    s.drawn_are place d (omega arith) short (omega (arith, c.size-height.ensures.height))
+    ∙ ap (λ z. shifted z (λ v. block_dot (layout_of b) b.text.now v (s.top + place)) d) at
+    ∙ ap (λ n. shifted c.args.at (λ v. block_dot (layout_of b) b.text.now v n) d) row)
     c.paint_drawn.ensures

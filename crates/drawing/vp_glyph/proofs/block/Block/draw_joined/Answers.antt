@@ -1,0 +1,58 @@
+use Rattle.std.proofs.Common.{◌/◌, ◌+◌, ◌-◌, ◌*◌, ◌∙◌, min, ap, arith, refl, sym, w64}
+use Rattle.std.proofs.lemmas.Int.{to_z-of_z}
+use Rattle.vp_glyph.specs.Blocks.{lines_dot, block_lines}
+use Rattle.vp_dots.specs.Dots.{dot}
+use Rattle.vp_glyph.specs.Layouts.{layout_of, sheet_rows}
+use Rattle.vp_glyph.proofs.Joining.{lines_rows}
+use Rattle.vp_glyph.proofs.Sheeted.{rows_more, shown_none, shown_more, shown_all}
+use Rattle.vp_glyph.proofs.block.Block.draw_joined.Goals as goal
+
+pub loop-k-init : goal.loop-k-init
+loop-k-init c =
+    let b = c.args.self.now in
+    let line = (block_lines (b.wide / b.w) c.args.text.now) in
+    record {
+      begun = omega (arith, c.rows_above-k.ensures);
+      shown = shown_none 32 160 c.args.top (c.args.place * b.pitch) b.h _ (λ v y. lines_dot (layout_of b) c.args.place line v y) (λ v y. lines_dot (sheet_rows (layout_of b)) 0 line v y)
+          (λ v y. lines_rows b.sheet.now b.w b.h b.wide b.rows b.pitch b.alignment c.args.place (c.args.place * b.pitch) line v y c.requires.joined refl) _ _ c.rows_above-k.ensures;
+    }
+
+pub loop-k-preserved : goal.loop-k-preserved
+loop-k-preserved c =
+    let b = c.args.self.now in
+    let line = (block_lines (b.wide / b.w) c.args.text.now) in
+    let begun = c.loop-k.invariant.begun in
+    let end = c.rows_above-end.ensures in
+    let to = c.rows_above-to.ensures ∙ ap (λ e. min (c.args.place * b.pitch + e - c.args.top) 32) c.first_row.ensures.row in
+    let more = rows_more 32 c.args.top (c.args.place * b.pitch) b.h c.loop-k.k _ _ (omega (arith, end)) (omega (arith, begun, end)) (omega (arith, begun, end)) c.source_row-s.ensures to in
+    record {
+      begun = omega (arith, begun, more);
+      shown = shown_more 32 160 c.args.top (c.args.place * b.pitch) b.h _ (λ v y. lines_dot (layout_of b) c.args.place line v y) (λ v y. lines_dot (sheet_rows (layout_of b)) 0 line v y)
+          (λ v y. lines_rows b.sheet.now b.w b.h b.wide b.rows b.pitch b.alignment c.args.place (c.args.place * b.pitch) line v y c.requires.joined refl) c.loop-k.k _ _ _ _ _ (dot c.joined_row.result) c.loop-k.invariant.shown (omega (arith, begun, end)) (omega (arith, begun, end)) c.source_row-s.ensures to c.blacken.ensures c.joined_row.ensures;
+    }
+
+pub blacken-requires : goal.blacken-requires
+blacken-requires c =
+    let b = c.args.self.now in
+    let begun = c.loop-k.invariant.begun in
+    let end = c.rows_above-end.ensures in
+    let to = c.rows_above-to.ensures ∙ ap (λ e. min (c.args.place * b.pitch + e - c.args.top) 32) c.first_row.ensures.row in
+    let more = rows_more 32 c.args.top (c.args.place * b.pitch) b.h c.loop-k.k _ _ (omega (arith, end)) (omega (arith, begun, end)) (omega (arith, begun, end)) c.source_row-s.ensures to in
+    record { some = more; to = omega (arith, to) }
+
+pub loop-k-smaller : goal.loop-k-smaller
+loop-k-smaller c =
+    let b = c.args.self.now in
+    let begun = c.loop-k.invariant.begun in
+    let end = c.rows_above-end.ensures in
+    let to = c.rows_above-to.ensures ∙ ap (λ e. min (c.args.place * b.pitch + e - c.args.top) 32) c.first_row.ensures.row in
+    let more = rows_more 32 c.args.top (c.args.place * b.pitch) b.h c.loop-k.k _ _ (omega (arith, end)) (omega (arith, begun, end)) (omega (arith, begun, end)) c.source_row-s.ensures to in
+    omega (arith, more)
+
+pub returns : goal.returns
+returns c =
+    let b = c.args.self.now in
+    let line = (block_lines (b.wide / b.w) c.args.text.now) in
+    rw (sym (to_z-of_z w64 c.args.at c.ranges.at))
+    (shown_all 32 160 c.args.top (c.args.place * b.pitch) b.h _ (λ v y. lines_dot (layout_of b) c.args.place line v y) (λ v y. lines_dot (sheet_rows (layout_of b)) 0 line v y)
+    (λ v y. lines_rows b.sheet.now b.w b.h b.wide b.rows b.pitch b.alignment c.args.place (c.args.place * b.pitch) line v y c.requires.joined refl) c.loop-k.k _ _ (omega (arith, c.rows_above-end.ensures)) c.loop-k.invariant.shown)

@@ -1,0 +1,54 @@
+use Rattle.std.proofs.Common.{ℕ, ◌+◌, ◌∙◌, sym, refl, arith, w64, to_z, of_z}
+use Rattle.std.proofs.lemmas.Int.{to_z-of_z}
+use Rattle.vp_glyph.proofs.Sheeted.{drawn_none, drawn_more, drawn_all, drawn_joined, drawn_narrow}
+use Rattle.vp_glyph.proofs.Stacks.{lines_below}
+use Rattle.vp_glyph.proofs.block.Block.drawn_rows.Goals as goal
+
+pub loop-left-init : goal.loop-left-init
+loop-left-init c =
+    let b = c.args.self.now in
+    record {
+      place_within = omega arith;
+      drawn = λ k l. drawn_none b.sheet.now b.w b.h b.wide b.rows b.pitch b.alignment (c.args.top + k) _ 160 _ _ _ _ _ (λ x. c.new-rows.ensures k x) (λ x. c.first_line-above.ensures.lines x (c.args.top + k) (omega arith));
+    }
+
+pub loop-left-preserved : goal.loop-left-preserved
+loop-left-preserved c =
+    let b = c.args.self.now in
+    record {
+      place_within = omega arith;
+      drawn = λ k l. drawn_more b.sheet.now b.w b.h b.wide b.rows b.pitch b.alignment (c.args.top + k) _ 160 _ _ c.loop-left.place c.next_line.result.0.cells _ c.loop-left.left c.next_line.result.1 c.in-Some.text c.next_line.result.0.text.now _ _
+          (c.loop-left.invariant.drawn k l) c.in-Some.is c.next_line.ensures.text c.next_line.ensures.lines (λ x m. c.draw_line.ensures k x l m) (omega arith);
+    }
+
+pub returns-then-self : goal.returns-then-self
+returns-then-self c =
+    let b = c.args.self.now in
+    λ k x l m n. drawn_narrow b.sheet.now b.w b.h b.wide b.rows b.pitch b.alignment (c.args.top + k) c.args.at 160 b.text.now _ x c.if-self.true (c.rows.ensures k x l m ∙ c.new-rows.ensures k x)
+
+pub returns-then-from : goal.returns-then-from
+returns-then-from c =
+    let b = c.args.self.now in
+    λ k x l m n. rw (sym (to_z-of_z w64 c.args.at c.ranges.at))
+    (c.rows-then-from.ensures k x l m
+    ∙ drawn_all b.sheet.now b.w b.h b.wide b.rows b.pitch b.alignment (c.args.top + k) (to_z w64 (of_z w64 c.args.at)) 160 b.text.now c.loop-left.place c.loop-left.left _ b.some (omega arith) n
+    (λ (v : ℕ). lines_below b.sheet.now b.w b.h b.wide b.rows b.pitch b.alignment v (c.args.top + k) c.loop-left.place _ c.loop-left.invariant.place_within (omega arith))
+    (c.loop-left.invariant.drawn k l) x m)
+
+pub returns : goal.returns
+returns c =
+    let b = c.args.self.now in
+    λ k x l m n. rw (sym (to_z-of_z w64 c.args.at c.ranges.at))
+    (c.rows-2.ensures k x l m
+    ∙ drawn_all b.sheet.now b.w b.h b.wide b.rows b.pitch b.alignment (c.args.top + k) (to_z w64 (of_z w64 c.args.at)) 160 b.text.now c.loop-left.place c.loop-left.left _ b.some (omega arith) n
+    (λ (v : ℕ). rw c.in_default.is refl)
+    (c.loop-left.invariant.drawn k l) x m)
+
+pub returns-then-self-eq0 : goal.returns-then-self-eq0
+returns-then-self-eq0 c =
+    let b = c.args.self.now in
+    let at = to_z w64 (of_z w64 c.args.at) in
+    λ k x l m n. rw (sym (to_z-of_z w64 c.args.at c.ranges.at))
+    (c.rows-then-self-eq0.ensures k x l m
+    ∙ drawn_joined b.sheet.now b.w b.h b.wide b.rows b.pitch b.alignment (c.args.top + k) at 160 b.text.now c.loop-left.place c.loop-left.left c.in-Some.text _ _ b.some (omega arith) n c.in-Some.is (λ x m. c.draw_joined.ensures k x l m)
+    (c.loop-left.invariant.drawn k l) x m)

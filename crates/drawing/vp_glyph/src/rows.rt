@@ -1,0 +1,150 @@
+//! Many rows of a block, for which each of its lines is looked at once: a row of the sheet is drawn once for
+//! all rows that show it.
+ghost use Rattle.std.specs.Prelude.{◌≡◌, ℕ, ◌+◌, ◌-◌, ◌*◌, ◌/◌, ◌<◌, ◌≤◌, ◌^◌, ◌⊎◌, ◌||◌, [], length, take, slice_index_or};
+ghost use Rattle.vp_dots.specs.Dots.{dot, shifted};
+ghost use Rattle.vp_dots.specs.Painting.{Painted};
+ghost use Rattle.vp_glyph.specs.Blocks.{pieces, first, line_dot, lines_dot, block_lines, block_height, block_dot};
+ghost use Rattle.vp_glyph.specs.Layouts.{layout_of, sheet_rows};
+ghost use Rattle.vp_glyph.specs.Runs.{run_dot};
+ghost use Rattle.vp_glyph.specs.declared.runs.TheConstants.{ROWS, BYTES};
+
+use crate::block::{Block, paint_line};
+use crate::fronts::{first_row, rows_above};
+use crate::lines::{Line, next_line};
+use crate::runs::{BYTES, ROWS, Runs};
+use crate::sampled::source_row;
+use vp_dots::Op;
+
+impl Block<'_> {
+    /// Blackens a row of the sheet on which a line stands.
+    fn add_sheet_row(&self, line: Line<'_>, s: u32, at: i64, row: &mut [u8])
+        requires cells { line.cells ≤ length (first (pieces line.text.now)) }
+        requires most { line.cells ≤ self.now.wide / self.now.w }
+        requires s { s < 24 }
+        ensures { Painted Op.Black (shifted at (λ x. line_dot (sheet_rows (layout_of self.now)) 0
+            (take line.entry.cells (first (pieces line.entry.text.now))) x s)) row.old row.new }
+    {
+        let left = self
+            .alignment
+            .indent(self.wide - self.w * line.cells as u32);
+        paint_line(
+            line,
+            self.sheet,
+            &self.stretch,
+            24,
+            s,
+            Op::Black,
+            at,
+            left,
+            row,
+        );
+    }
+
+    /// A row of the sheet on which a line stands.
+    fn sheet_row<const B: usize>(&self, line: Line<'_>, s: u32, at: i64) -> [u8; B]
+        requires cells { line.cells ≤ length (first (pieces line.text.now)) }
+        requires most { line.cells ≤ self.now.wide / self.now.w }
+        requires s { s < 24 }
+        ensures { (x : ℕ) → x < 8 * B → dot result x ≡ shifted at (λ x. line_dot
+            (sheet_rows (layout_of self.now)) 0 (take line.entry.cells (first (pieces line.entry.text.now)))
+            x s) x }
+    {
+        let mut row = [0u8; B];
+        self.add_sheet_row(line, s, at, &mut row);
+        row
+    }
+
+    /// A row of the sheet on which the lines of a text stand over each other.
+    fn joined_row<const B: usize>(&self, text: &[u8], s: u32, at: i64) -> [u8; B]
+        requires wide { self.now.w ≤ self.now.wide }
+        requires s { s < 24 }
+        ensures { (x : ℕ) → x < 8 * B → dot result x ≡ shifted at (λ x. lines_dot
+            (sheet_rows (layout_of self.now)) 0 (block_lines (self.now.wide / self.now.w) text.now) x s) x }
+    {
+        let most = (self.wide / self.w) as usize;
+        let mut row = [0u8; B];
+        let mut left = Some(text);
+        while let Some(text) = left {
+            let (line, rest) = next_line(text, most);
+            self.add_sheet_row(line, s, at, &mut row);
+            left = rest;
+        }
+        row
+    }
+
+    /// Adds a line that stands `place` lines below the first to rows, the first of which is row `top`.
+    fn draw_line(&self, line: Line<'_>, place: u32, top: u32, at: i64, rows: &mut Runs)
+        requires cells { line.cells ≤ length (first (pieces line.text.now)) }
+        requires most { line.cells ≤ self.now.wide / self.now.w }
+        requires place { place ≤ self.now.rows - 1 }
+        ensures { (k x : ℕ) → k < ROWS → x < 8 * BYTES
+            → run_dot rows.new.alone rows.new.down rows.new.up ROWS k x
+            ≡ (run_dot rows.old.alone rows.old.down rows.old.up ROWS k x
+            || shifted at (λ x. line_dot (layout_of self.now) place
+            (take line.entry.cells (first (pieces line.entry.text.now))) x (top + k)) x) }
+    {
+        let above = place * self.pitch;
+        let end = rows_above::<ROWS>(above + self.h, top);
+        let mut k = rows_above::<ROWS>(above, top);
+        while k < end {
+            let s = source_row(top + k as u32 - above, self.h) as u32;
+            let to = rows_above::<ROWS>(above + first_row(s + 1, self.h), top);
+            rows.blacken(&self.sheet_row(line, s, at), k, to);
+            k = to;
+        }
+    }
+
+    /// Adds the lines of a text, which stand over each other `place` lines below the first, to rows, the
+    /// first of which is row `top`.
+    fn draw_joined(&self, text: &[u8], place: u32, top: u32, at: i64, rows: &mut Runs)
+        requires wide { self.now.w ≤ self.now.wide }
+        requires place { place ≤ self.now.rows - 1 }
+        requires joined { (self.now.pitch ≡ 0) ⊎ (place ≡ self.now.rows - 1) }
+        ensures { (k x : ℕ) → k < ROWS → x < 8 * BYTES
+            → run_dot rows.new.alone rows.new.down rows.new.up ROWS k x
+            ≡ (run_dot rows.old.alone rows.old.down rows.old.up ROWS k x
+            || shifted at (λ x. lines_dot (layout_of self.now) place
+            (block_lines (self.now.wide / self.now.w) text.now) x (top + k)) x) }
+    {
+        let above = place * self.pitch;
+        let end = rows_above::<ROWS>(above + self.h, top);
+        let mut k = rows_above::<ROWS>(above, top);
+        while k < end {
+            let s = source_row(top + k as u32 - above, self.h) as u32;
+            let to = rows_above::<ROWS>(above + first_row(s + 1, self.h), top);
+            rows.blacken(&self.joined_row(text, s, at), k, to);
+            k = to;
+        }
+    }
+
+    /// Rows of dots, each moved by an offset and black where row top, top + 1, .. has ink.
+    pub fn drawn_rows(&self, top: u32, at: i64) -> [[u8; BYTES]; ROWS]
+        ensures { (k x : ℕ) → k < ROWS → x < 8 * BYTES
+            → top + k < block_height self.now.h self.now.rows self.now.pitch
+            → dot (slice_index_or result k []) x
+            ≡ shifted at (λ x. block_dot (layout_of self.now) self.now.text.now x (top + k)) x }
+    {
+        let mut rows = Runs::new();
+        if self.wide < self.w {
+            return rows.rows();
+        }
+        let most = (self.wide / self.w) as usize;
+        let (above, text) = self.first_line(top);
+        let mut place = above;
+        let mut left = Some(text);
+        while let Some(text) = left {
+            if u64::from(top) + ROWS as u64 <= u64::from(place * self.pitch) {
+                return rows.rows();
+            }
+            if self.pitch == 0 || place + 1 >= self.rows {
+                self.draw_joined(text, place, top, at, &mut rows);
+                return rows.rows();
+            }
+            let (line, rest) = next_line(text, most);
+            self.draw_line(line, place, top, at, &mut rows);
+            place = (place + 1).min(self.rows.saturating_sub(1));
+            left = rest;
+        }
+        rows.rows()
+    }
+}
