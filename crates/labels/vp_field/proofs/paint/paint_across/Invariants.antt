@@ -2,6 +2,7 @@ use Rattle.std.proofs.Common.{◌≡◌, ℕ, ◌+◌, ◌-◌, ◌<◌, ◌≤�
 use Rattle.vp_dots.specs.Dots.{dot}
 use Rattle.vp_dots.specs.Places.{RowsPainted}
 use Rattle.vp_field.specs.Axes.{laid}
+use Rattle.vp_label_size.specs.declared.TheConstants.{WIDEST}
 use Rattle.vp_field.specs.declared.axis.Lines.TheVariants.{Across}
 use Rattle.vp_field.proofs.paint.paint_across.Given as goal
 
