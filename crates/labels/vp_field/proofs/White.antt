@@ -61,13 +61,6 @@ cut_dot : (from to d : ℕ) (b : Bool) → from ≤ d → d < to → cond (span 
 cut_dot from to d true g h = grind (arith, nat_tests)
 cut_dot from to d false g h = grind (arith, nat_tests)
 
--- a dot on the label
-pub on_label : (view : View) (first : ℕ) (a : List (List ℕ)) → view.width ≤ 1248
-    → (strokes : List Stroke) → Shows view first strokes a → (x k : ℕ) → x < view.width → k < 32 → first + k < view.height
-    → dot (get_or a k []) x ≡ image_dot view strokes x (first + k)
-on_label view first a w strokes q x k near h high =
-    q.dots_are x k (omega arith) near h high ∙ rw (lt-ltb x view.width near, lt-ltb (first + k) view.height high) refl
-
 -- the bytes of the label's rows, cut at its edge
 pub shows_cut : (view : View) (first n to : ℕ) (a b : List (List ℕ)) → view.width ≤ 1248 → to ≡ 8 * row_bytes view.width
     → ((k : ℕ) → k < n → Painted White (span view.width to) (get_or a k []) (get_or b k []))
@@ -77,6 +70,7 @@ pub shows_cut : (view : View) (first n to : ℕ) (a b : List (List ℕ)) → vie
 shows_cut view first n to a b w e done on strokes q x k l h high =
     let long = q.rows_are k h in
     (done k (on k h high)).dots_are x (omega arith) ∙ elim (cases_lt x view.width) [
-      | inl near ↦ kept_dot view.width to x (dot (get_or a k []) x) near ∙ on_label view first a w strokes q x k near h high
+      | inl near ↦ kept_dot view.width to x (dot (get_or a k []) x) near ∙ q.dots_are x k (omega arith) near h high
+          ∙ rw (lt-ltb x view.width near, lt-ltb (first + k) view.height high) refl
       | inr far ↦ cut_dot view.width to x (dot (get_or a k []) x) far (omega arith) ∙ rw (le-ltb x view.width far) refl
     ]

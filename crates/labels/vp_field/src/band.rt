@@ -54,11 +54,7 @@ pub fn cut(view: View, first: u32, band: &mut LabelBand)
         → dot (slice_index_or band.new k []) x ≡ image_dot view strokes x (first + k) }
 {
     let edge = u64::from(view.width);
-    let end = (edge + 7) / 8 * 8;
-    if edge == end {
-        return;
-    }
     for k in 0..rows_on_label(view, first) {
-        fill_dots(Op::White, edge, end, band.row_mut(k));
+        fill_dots(Op::White, edge, (edge + 7) / 8 * 8, band.row_mut(k));
     }
 }
