@@ -1,10 +1,12 @@
 //! Symbols on paper, and those that are refused.
-use super::{Case, M, Strip, new_receipt, print_on, right};
+use super::{Case, M, Strip, apply, new_receipt, print_on, put_all, right, wanted};
+use crate::checks::same;
 use std::alloc::{AllocError, Global};
 use std::process::Abort;
 use std::test::Fail;
 use vp_dots::{Fault, Why};
-use vp_receipt::Width;
+use vp_esc::EscReader;
+use vp_receipt::{Receipt, Width};
 
 /// The fault of the last item, and how many bytes all of them print.
 fn refused(alloc: Global, sent: &[u8]) -> Result<(Option<Fault>, usize), Fail> {
@@ -66,6 +68,47 @@ static QR: [Case; 1] = [(
 #[test]
 fn qr_symbols(rt: HostRuntime) -> Result<(), Fail> {
     right(&rt, rt.alloc(), Width::W576, &QR)
+}
+
+/// Takes the bytes that are stored in runs of at most `run`, and all others one by one.
+fn print_in_runs(
+    receipt: &mut Receipt,
+    sent: &[u8],
+    run: usize,
+    paper: &mut Vec<u8>,
+) -> Result<(), AllocError> {
+    let mut reader = EscReader::new();
+    let mut rest = sent;
+    for _ in 0..sent.len() {
+        if receipt.pending() || rest.is_empty() {
+            return Ok(());
+        }
+        let stored = reader.take_stored(&rest[..run.min(rest.len())]);
+        if stored > 0 {
+            receipt.apply_stored(&rest[..stored.min(rest.len())]);
+            rest = &rest[stored.min(rest.len())..];
+        } else {
+            if let Ok(Some(item)) = reader.take(rest[0]) {
+                let _ = apply(receipt, item);
+            }
+            rest = &rest[1..];
+            put_all(receipt, 4096, paper)?;
+        }
+    }
+    Ok(())
+}
+
+#[test]
+fn qr_data_stored_in_runs(rt: HostRuntime) -> Result<(), Fail> {
+    let (sent, strips) = QR[0];
+    let want = wanted(rt.alloc(), Width::W576, strips)?;
+    for run in [0, 1, 3, 10, 4096] {
+        let mut receipt = new_receipt(rt.alloc(), Width::W576)?;
+        let mut paper = Vec::new(rt.alloc());
+        print_in_runs(&mut receipt, sent, run, &mut paper)?;
+        same(&rt, &(paper.as_slice() == want.as_slice()), &true);
+    }
+    Ok(())
 }
 
 static REFUSED_QR: [Refusal; 2] = [
