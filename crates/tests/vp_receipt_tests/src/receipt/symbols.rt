@@ -70,23 +70,26 @@ fn qr_symbols(rt: HostRuntime) -> Result<(), Fail> {
     right(&rt, rt.alloc(), Width::W576, &QR)
 }
 
-/// Takes the bytes that are stored in runs of at most `run`, and all others one by one.
+/// Takes the bytes that are stored in runs of at most `run`, and all others one by one. How many came in
+/// runs comes back.
 fn print_in_runs(
     receipt: &mut Receipt,
     sent: &[u8],
     run: usize,
     paper: &mut Vec<u8>,
-) -> Result<(), AllocError> {
+) -> Result<usize, AllocError> {
     let mut reader = EscReader::new();
     let mut rest = sent;
+    let mut in_runs = 0usize;
     for _ in 0..sent.len() {
         if receipt.pending() || rest.is_empty() {
-            return Ok(());
+            return Ok(in_runs);
         }
         let stored = reader.take_stored(&rest[..run.min(rest.len())]);
         if stored > 0 {
             receipt.apply_stored(&rest[..stored.min(rest.len())]);
             rest = &rest[stored.min(rest.len())..];
+            in_runs = in_runs.saturating_add(stored);
         } else {
             if let Ok(Some(item)) = reader.take(rest[0]) {
                 let _ = apply(receipt, item);
@@ -95,17 +98,19 @@ fn print_in_runs(
             put_all(receipt, 4096, paper)?;
         }
     }
-    Ok(())
+    Ok(in_runs)
 }
 
 #[test]
 fn qr_data_stored_in_runs(rt: HostRuntime) -> Result<(), Fail> {
     let (sent, strips) = QR[0];
     let want = wanted(rt.alloc(), Width::W576, strips)?;
-    for run in [0, 1, 3, 10, 4096] {
+    // of eleven bytes the last one comes alone
+    for (run, in_runs) in [(0, 0), (1, 10), (3, 10), (10, 10), (4096, 10)] {
         let mut receipt = new_receipt(rt.alloc(), Width::W576)?;
         let mut paper = Vec::new(rt.alloc());
-        print_in_runs(&mut receipt, sent, run, &mut paper)?;
+        let came = print_in_runs(&mut receipt, sent, run, &mut paper)?;
+        same(&rt, &came, &in_runs);
         same(&rt, &(paper.as_slice() == want.as_slice()), &true);
     }
     Ok(())
