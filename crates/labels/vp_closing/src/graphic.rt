@@ -38,8 +38,8 @@ pub fn picture_content(stored: &[u8], head: PictureHead, codes: Span) -> Result<
     requires picture { IsPictureHead head }
     requires among { codes.start + codes.len ≤ length stored.now }
     requires few { length stored.now ≤ STORED }
-    ensures value { result
-        ≡ picture_unless (has_refused (picture_of stored.now (picture_with head codes))) (picture_with head codes) }
+    ensures value { result ≡ picture_unless (has_refused (picture_of stored.now (picture_with head codes)))
+        (picture_with head codes) }
     ensures stored { IfOk result (IsStored stored.now) }
 {
     let picture = headed(head, codes);

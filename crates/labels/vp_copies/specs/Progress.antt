@@ -1,5 +1,5 @@
 -- How far copies are put out, and what has to be ready for the next byte.
-use Rattle.std.specs.Prelude.{◌≡◌, ℕ, ◌+◌, ◌*◌, ◌/◌, ◌%◌, ◌<◌, ◌≤◌, Bool, false, List, [], slice_index_or}
+use Rattle.std.specs.Prelude.{◌≡◌, ℕ, ◌+◌, ◌-◌, ◌*◌, ◌/◌, ◌%◌, min, ◌<◌, ◌≤◌, Bool, false, List, [], slice_index_or}
 use Rattle.vp_dots.specs.Dots.{dot}
 use Rattle.vp_dots.specs.Images.{Image, row_bytes}
 use Rattle.vp_output.specs.declared.place.Line.{Line}
@@ -57,3 +57,9 @@ pub record IsRowsOn (old new : Progress) : Type 0 where
       ≡ record old { place = record { copies = old.place.copies; line = Row (row + rows); byte = 0 } }
   pub same_band : (row + rows) / BAND_ROWS ≡ row / BAND_ROWS
   pub inside : 0 < (row + rows) % BAND_ROWS
+
+-- how many rows from row y on are put out together: those before the last of their band and of the image, as far
+-- as there is room
+abbrev pub rows_at_once : ℕ → ℕ → ℕ → ℕ → ℕ
+rows_at_once width height y room =
+    min (min (BAND_ROWS - 1 - y % BAND_ROWS) (height - 1 - y)) (room / row_bytes width)

@@ -1,10 +1,10 @@
 //! Copies that are being put out, as far as there is room.
-ghost use Rattle.std.specs.Prelude.{◌≡◌, ℕ, ◌+◌, ◌-◌, ◌%◌, ◌<◌, ◌≤◌, ◌++◌, ◌↔◌, Bool, List, min, take, drop, length, IsTrue};
-ghost use Rattle.vp_dots.specs.Images.{Image};
+ghost use Rattle.std.specs.Prelude.{◌≡◌, ℕ, ◌+◌, ◌-◌, ◌*◌, ◌%◌, ◌<◌, ◌≤◌, ◌++◌, ◌↔◌, Bool, List, min, take, drop, length, IsTrue};
+ghost use Rattle.vp_dots.specs.Images.{Image, row_bytes};
 ghost use Rattle.vp_copies.specs.Copies.{advanced, ahead, band_rows, copies_text, line_bytes, lines_of, pending};
 ghost use Rattle.vp_output.specs.Lines.{line_text};
-ghost use Rattle.vp_copies.specs.Progress.{image_of, IsPainted, IsPlaceOf, IsReady, IsRowsOn};
-ghost use Rattle.vp_output.specs.declared.place.Line.TheVariants.{Head};
+ghost use Rattle.vp_copies.specs.Progress.{image_of, IsPainted, IsPlaceOf, IsReady, IsRowsOn, rows_at_once};
+ghost use Rattle.vp_output.specs.declared.place.Line.TheVariants.{Head, Row};
 ghost use Rattle.vp_label_size.specs.declared.TheConstants.{WIDEST, BAND_ROWS};
 
 use crate::place::{Ahead, behind, wanted};
@@ -45,6 +45,7 @@ fn rows_before_last(y: u32, height: u16) -> usize
     requires { y < height }
     ensures inside { y % BAND_ROWS + result < BAND_ROWS }
     ensures below { y + result < height }
+    ensures value { result ≡ min (BAND_ROWS - 1 - y % BAND_ROWS) (height - 1 - y) }
 {
     let y = y as usize;
     let last = y / BAND_ROWS * BAND_ROWS + (BAND_ROWS - 1);
@@ -156,6 +157,8 @@ impl Copies {
         ensures on { 0 < result → IsRowsOn self.old self.new }
         ensures none { result ≡ 0 → (self.new ≡ self.old) × (out.new ≡ out.old) }
         ensures fits { result ≤ length out.old }
+        ensures count { (y : ℕ) → self.old.place.line ≡ Row y → self.old.place.byte ≡ 0 →
+            result ≡ rows_at_once self.old.width self.old.height y (length out.old) * row_bytes self.old.width }
         ensures within { (dots : ℕ → ℕ → Bool) →
             result ≤ length (pending (image_of self.old dots) self.old.place) }
         ensures bytes { (dots : ℕ → ℕ → Bool) →
