@@ -1,7 +1,9 @@
 //! Boxes.
-ghost use Rattle.std.specs.Prelude.{◌≡◌, ℕ, ◌+◌, ◌-◌, ◌^◌, ◌<◌, ◌||◌, true, false, pos, ◌+ℤ◌, ◌<ℤ◌};
+ghost use Rattle.std.specs.Prelude.{◌≡◌, ℕ, ◌+◌, ◌-◌, ◌^◌, ◌<◌, ◌≤◌, ◌||◌, true, false, pos, ◌+ℤ◌, ◌<ℤ◌};
 ghost use Rattle.vp_dots.specs.Dots.{shifted, span};
 ghost use Rattle.vp_dots.specs.Painting.{Painted};
+ghost use Rattle.vp_dots.specs.Words.{word_dot};
+ghost use Rattle.vp_field.specs.declared.frame.TheConstants.{WORD};
 ghost use Rattle.vp_field.specs.Frames.{frame_dot, frame_inside};
 
 use vp_dots::{Ink, Op, fill_moved, first_dots, paint_word};
@@ -41,6 +43,16 @@ fn paint_side(op: Op, at: i64, from: u32, dots: u32, row: &mut [u8])
     paint_word(op, first_dots(dots), moved(at, from), row);
 }
 
+/// The dots of a line of w dots that lie before dot t or from dot r on.
+fn side_dots(t: u32, r: u32, w: u32) -> u64
+    requires apart { t < r }
+    requires within { r ≤ w }
+    requires few { w ≤ WORD }
+    ensures { (x : ℕ) → word_dot result x ≡ (span 0 t x || span r w x) }
+{
+    first_dots(t) ^ first_dots(r) ^ first_dots(w)
+}
+
 impl Frame {
     /// The box of a field.
     pub fn of(shape: GraphicBox) -> Frame
@@ -65,6 +77,18 @@ impl Frame {
         ensures apart { result ≡ false → self.now.t < self.now.w - self.now.t }
     {
         y < self.t || y >= self.h.saturating_sub(self.t) || self.w.saturating_sub(self.t) <= self.t
+    }
+
+    /// Line y, which is one of the box's, of a box no wider than a word.
+    fn narrow_line(&self, y: u32) -> u64
+        requires line { y < self.now.h }
+        requires narrow { self.now.w ≤ WORD }
+        ensures { (x : ℕ) → word_dot result x ≡ frame_dot self.now.w self.now.h self.now.t x y }
+    {
+        if self.is_solid(y) {
+            return first_dots(self.w);
+        }
+        side_dots(self.t, self.w - self.t, self.w)
     }
 }
 
@@ -93,6 +117,10 @@ impl Ink for Frame {
 
     fn paint_row(&self, y: u32, op: Op, at: i64, row: &mut [u8]) {
         if y >= self.h {
+            return;
+        }
+        if self.w <= WORD {
+            paint_word(op, self.narrow_line(y), at, row);
             return;
         }
         if self.is_solid(y) {

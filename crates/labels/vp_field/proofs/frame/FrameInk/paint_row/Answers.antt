@@ -5,13 +5,18 @@ use Rattle.vp_dots.proofs.Paints.{painted_none}
 use Rattle.vp_dots.proofs.Moves.{moved_then, moved_same}
 use Rattle.vp_dots.proofs.Shifts.{shifted_none}
 use Rattle.vp_field.specs.Frames.{frame_dot}
-use Rattle.vp_field.proofs.Framed.{below_frame, sides_apart}
+use Rattle.vp_field.proofs.Framed.{below_frame, line_painted, sides_apart}
 use Rattle.vp_field.proofs.frame.FrameInk.paint_row.Goals as goal
 
 pub returns-then-y-self : goal.returns-then-y-self
 returns-then-y-self c =
     let s = c.args.self.now in
     painted_none _ _ _ (λ d l. shifted_none _ _ d (λ x. below_frame s.w s.h s.t x c.args.y c.if-y-self.true))
+
+pub returns-then-self-le-WORD : goal.returns-then-self-le-WORD
+returns-then-self-le-WORD c =
+    let s = c.args.self.now in
+    rw (sym (to_z-of_z w64 c.args.at c.ranges.at)) (line_painted _ _ _ (λ x. frame_dot s.w s.h s.t x c.args.y) _ _ c.narrow_line.ensures c.paint_word.ensures)
 
 pub returns-then-is_solid : goal.returns-then-is_solid
 returns-then-is_solid c =
