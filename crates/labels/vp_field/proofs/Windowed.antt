@@ -28,6 +28,11 @@ pub read_within : (axis : Axis) (n p : ℕ) → p < n → read_at axis n p < n
 read_within (Forward at) n p h = h
 read_within (Back at) n p h = omega arith
 
+-- dots on places side by side, from the first of them on, which lies on the first place or on the last
+pub dots_along : (axis : Axis) (n x v i : ℕ) → i < n → dot_on axis (pos (x + read_at axis n 0)) ≡ pos v → dot_on axis (pos (x + i)) ≡ pos (v + read_at axis n i)
+dots_along (Forward at) n x v i l e = omega (arith, ints, e)
+dots_along (Back at) n x v i l e = omega (arith, ints, e)
+
 -- lines that have no dot on the places of a band
 pub white_across : (columns rows : Axis) (ink : ℕ → ℕ → Bool) (h top first : ℕ) (at : ℤ) → ((u v : ℕ) → ink u v ≡ true → v < h)
     → ((x v : ℕ) → x < 1248 → v < h → dot_on columns (pos x) ≡ pos v → top ≤ v) → ((x v : ℕ) → x < 1248 → v < h → dot_on columns (pos x) ≡ pos v → v < top + 1248)

@@ -117,15 +117,15 @@ impl Axis {
         Some(k as usize)
     }
 
-    /// Which of 32 dots in a row lies on the p-th of as many places.
-    pub fn read_at(self, p: usize) -> usize
-        requires { p < BAND_ROWS }
-        ensures read { result ≡ read_at self BAND_ROWS p }
-        ensures within { result < BAND_ROWS }
+    /// Which of so many dots in a row lies on the p-th of as many places.
+    pub fn read_at(self, dots: usize, p: usize) -> usize
+        requires { p < dots }
+        ensures read { result ≡ read_at self dots p }
+        ensures within { result < dots }
     {
         match self {
             Axis::Forward(_) => p,
-            Axis::Back(_) => BAND_ROWS - 1 - p,
+            Axis::Back(_) => dots - 1 - p,
         }
     }
 

@@ -1,5 +1,5 @@
 //! Blocks of lines whose rows fall on columns: many of them drawn at once, and laid 64 by 64.
-ghost use Rattle.std.specs.Prelude.{◌≡◌, ℕ, ◌+◌, ◌<◌, ◌≤◌, ◌^◌, ◌&&◌, Bool, true, false, pos, slice_index, slice_index_or, []};
+ghost use Rattle.std.specs.Prelude.{◌≡◌, ℕ, ◌+◌, ◌<◌, ◌≤◌, ◌^◌, ◌&&◌, Bool, true, false, pos, slice_index, slice_index_or, [], MatchOption};
 ghost use Rattle.vp_dots.specs.Dots.{dots, shifted, span};
 ghost use Rattle.vp_dots.specs.declared.square.TheConstants.{SIDE};
 ghost use Rattle.vp_dots.specs.Places.{RowsPainted};
@@ -50,15 +50,16 @@ struct BlockColumns<'a> {
         → dot_on columns (pos x) ≡ pos v → v < top + WIDEST },
 }
 
-/// The first rows of a square, as many as a band has, read along an axis.
-fn rows_along(square: &[u64; SIDE], axis: Axis) -> [u64; BAND_ROWS]
-    ensures { (k : ℕ) → k < BAND_ROWS → slice_index result k ≡ slice_index square.now (read_at axis 32 k) }
+/// M words from one on, read along an axis.
+fn words_along<const N: usize, const M: usize>(words: &[u64; N], from: usize, axis: Axis) -> [u64; M]
+    requires { from + M ≤ N }
+    ensures { (i : ℕ) → i < M → slice_index result i ≡ slice_index words.now (from + read_at axis M i) }
 {
-    let mut rows = [0u64; BAND_ROWS];
-    for k in 0..BAND_ROWS {
-        rows[k] = square[axis.read_at(k)];
+    let mut along = [0u64; M];
+    for i in 0..M {
+        along[i] = words[from + axis.read_at(M, i)];
     }
-    rows
+    along
 }
 
 /// Whether all words are white.
@@ -92,6 +93,24 @@ impl BlockColumns<'_> {
         self.fronts[place]
     }
 
+    /// Where the rows that fall on 64 columns of the label, the first of which is x, begin among those that
+    /// were drawn, if all of them were.
+    fn first_drawn(&self, x: u64) -> Option<usize>
+        requires { x < 2 ^ 32 }
+        ensures { MatchOption result (Unit {0}) (λ place. (place + SIDE ≤ COLUMNS) × ((i : ℕ) → i < SIDE
+            → let v = self.now.top + (place + read_at self.now.columns SIDE i)
+            in (v < block_height self.now.block.now.h self.now.block.now.rows self.now.block.now.pitch)
+            × (dot_on self.now.columns (pos (x + i)) ≡ pos v))) }
+    {
+        let v = self.columns.dot_on(x + self.columns.read_at(SIDE, 0) as u64)?;
+        let place = v.checked_sub(self.top)? as usize;
+        let (_, height) = self.block.size();
+        if place + SIDE > COLUMNS || height.saturating_sub(v) < SIDE as u32 {
+            return None;
+        }
+        Some(place)
+    }
+
     /// The rows that fall on 64 columns of the label, the first of which is x.
     fn square(&self, x: u64) -> [u64; SIDE]
         requires { x < 2 ^ 32 }
@@ -100,6 +119,9 @@ impl BlockColumns<'_> {
             self.now.rows (λ u v. block_dot (layout_of self.now.block.now) self.now.block.now.text.now u v)
             (pos (x + i)) (pos (self.now.first + k)) }
     {
+        if let Some(place) = self.first_drawn(x) {
+            return words_along(self.fronts, place, self.columns);
+        }
         let mut square = [0u64; SIDE];
         for i in 0..SIDE {
             square[i] = self.column(x + i as u64);
@@ -120,7 +142,7 @@ impl BlockColumns<'_> {
         if are_white(&square) {
             return;
         }
-        let rows = rows_along(&turned_square(&square), self.rows);
+        let rows = words_along::<SIDE, BAND_ROWS>(&turned_square(&square), 0, self.rows);
         paint_words(op, &rows, BAND_ROWS, x as i64, 0, band);
     }
 
