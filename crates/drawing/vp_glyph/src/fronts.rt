@@ -46,13 +46,14 @@ fn spread<const N: usize>(rows: &[u64; 24], above: u32, high: u32, top: u32, fro
         ≡ (word_dot (slice_index fronts.old i) x || nat_le above (top + i) && nat_lt (top + i - above) high
         && word_dot (slice_index rows.now ((top + i - above) * 24 / high)) x) }
 {
+    let mut from = rows_above::<N>(above, top);
     for s in 0..24u32 {
+        let to = rows_above::<N>(above + first_row(s + 1, high), top);
         let ink = rows[s as usize];
         if ink != 0 {
-            let from = rows_above::<N>(above + first_row(s, high), top);
-            let to = rows_above::<N>(above + first_row(s + 1, high), top);
             blacken(ink, from, to, fronts);
         }
+        from = to;
     }
 }
 
