@@ -51,7 +51,11 @@ struct BlockColumns<'a> {
 }
 
 /// M words from one on, read along an axis.
-fn words_along<const N: usize, const M: usize>(words: &[u64; N], from: usize, axis: Axis) -> [u64; M]
+fn words_along<const N: usize, const M: usize>(
+    words: &[u64; N],
+    from: usize,
+    axis: Axis,
+) -> [u64; M]
     requires { from + M ≤ N }
     ensures { (i : ℕ) → i < M → slice_index result i ≡ slice_index words.now (from + read_at axis M i) }
 {
@@ -102,7 +106,9 @@ impl BlockColumns<'_> {
             in (v < block_height self.now.block.now.h self.now.block.now.rows self.now.block.now.pitch)
             × (dot_on self.now.columns (pos (x + i)) ≡ pos v))) }
     {
-        let v = self.columns.dot_on(x + self.columns.read_at(SIDE, 0) as u64)?;
+        let v = self
+            .columns
+            .dot_on(x + self.columns.read_at(SIDE, 0) as u64)?;
         let place = v.checked_sub(self.top)? as usize;
         let (_, height) = self.block.size();
         if place + SIDE > COLUMNS || height.saturating_sub(v) < SIDE as u32 {
