@@ -127,9 +127,9 @@ impl Block<'_> {
             (layout_of self.now) place (take line.entry.cells (first (pieces line.entry.text.now)))
             x (top + i)) x) }
     {
-        let mut rows = [0u64; 24];
-        self.add_rows(line, at, &mut rows);
-        spread(&rows, place * self.pitch, self.h, top, alone, eights);
+        let mut shown = [0u64; 24];
+        self.add_rows(line, at, &mut shown);
+        spread(&shown, place * self.pitch, self.h, top, alone, eights);
     }
 
     /// Adds the lines of the block to the fronts of `N` white rows.
