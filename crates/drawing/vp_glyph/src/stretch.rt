@@ -30,6 +30,9 @@ fn mask(from: u32, to: u32) -> u64
     requires to { to ≤ 64 }
     ensures { (x : ℕ) → word_dot result x ≡ span from to x }
 {
+    if to <= from {
+        return 0;
+    }
     shared(inverted(first_dots(from)), first_dots(to))
 }
 

@@ -1,10 +1,11 @@
 -- Columns painted one after the other.
-use Rattle.std.proofs.Common.{inl, inr, ◌≡◌, ℕ, ◌+◌, ◌-◌, ◌<◌, ◌≤◌, Bool, false, ltb, ◌&&◌, refl, ap, ◌∙◌, arith, List, [], get_or, pos}
-use Rattle.std.proofs.lemmas.Bool.{cases_lt, lt-leb, le-leb, le-ltb}
+use Rattle.std.proofs.Common.{inl, inr, ◌≡◌, ℕ, ◌+◌, ◌-◌, ◌<◌, ◌≤◌, Bool, false, ltb, ◌&&◌, refl, ap, sym, ◌∙◌, arith, List, [], get_or, ℤ, pos}
+use Rattle.std.proofs.lemmas.Bool.{cases_lt, lt-leb, lt-ltb, le-leb, le-ltb}
 use Rattle.std.proofs.lemmas.Bool.Decides.{nat_tests}
 use Rattle.vp_dots.specs.Blocks.{across_dot}
 use Rattle.vp_dots.specs.Dots.{dot, dots, span}
-use Rattle.vp_dots.specs.Places.{RowsPainted}
+use Rattle.vp_dots.specs.Places.{RowsPainted, words_dot}
+use Rattle.vp_dots.specs.Words.{word_dot}
 use Rattle.vp_dots.specs.declared.Op.{Op}
 use Rattle.vp_dots.proofs.Heights.{rows_same, rows_then}
 use Rattle.vp_dots.proofs.Paints.{painted_none, painted_same}
@@ -73,8 +74,36 @@ columns_eight op f x lines a b e p = rows_same 32 op _ _ _ _
     at : (d k : ℕ) → x ≤ d → d < x + 8 → k < 32 → dot (get_or lines (d - x) []) k ≡ f d k
     at d k g i h = let m : x + (d - x) ≡ d = omega arith in e (d - x) k (omega arith) h ∙ ap (λ n. f n k) m
 
-pub columns_eight_within : (op : Op) (f : ℕ → ℕ → Bool) (x : ℕ) (lines a b : List (List ℕ)) → ((i k : ℕ) → i < 8 → k < 32 → x + i < dots (get_or a k []) → dot (get_or lines i []) k ≡ f (x + i) k)
-    → RowsPainted 32 op (across_dot lines 32 x (pos 0)) a b → RowsPainted 32 op (λ d k. span x (x + 8) d && f d k) a b
-columns_eight_within op f x lines a b e p = columns_within op f (λ d k. dot (get_or lines (d - x) []) k) x 8 a b
+-- columns that are white, as far as the rows go
+pub columns_white : (op : Op) (f : ℕ → ℕ → Bool) (x n : ℕ) (a : List (List ℕ)) → ((i k : ℕ) → i < n → k < 32 → x + i < dots (get_or a k []) → f (x + i) k ≡ false)
+    → RowsPainted 32 op (λ d k. span x (x + n) d && f d k) a a
+columns_white op f x n a e = record {
+  rows_are = λ k h. painted_none op (λ d. span x (x + n) d && f d k) (get_or a k []) (λ d l. elim (cases_lt d x) [
+    | inl o ↦ rw (lt-leb x d o) refl
+    | inr m ↦ elim (cases_lt d (x + n)) [
+      | inl i ↦ (let z : f d k ≡ false = at d k m i h l in grind (arith, nat_tests))
+      | inr o ↦ rw (le-leb x d m, le-ltb d (x + n) o) refl
+    ]
+  ]);
+}
+  where
+    at : (d k : ℕ) → x ≤ d → d < x + n → k < 32 → d < dots (get_or a k []) → f d k ≡ false
+    at d k m i h l = let w : x + (d - x) ≡ d = omega arith in rw (sym w) (e (d - x) k (omega arith) h (rw w l))
+
+-- 64 columns, of which each row is a word
+pub columns_words : (op : Op) (f : ℕ → ℕ → Bool) (x : ℕ) (left : ℤ) (words : List ℕ) (a b : List (List ℕ)) → left ≡ pos x → ((i k : ℕ) → i < 64 → k < 32 → x + i < dots (get_or a k []) → word_dot (get_or words k 0) i ≡ f (x + i) k)
+    → RowsPainted 32 op (words_dot words left 0 32) a b → RowsPainted 32 op (λ d k. span x (x + 64) d && f d k) a b
+columns_words op f x left words a b there e p = columns_within op f (λ d k. word_dot (get_or words k 0) (d - x)) x 64 a b
     (λ d k h g i l. let m : x + (d - x) ≡ d = omega arith in e (d - x) k (omega arith) h (rw m l) ∙ ap (λ n. f n k) m)
-    (columns_eight op (λ d k. dot (get_or lines (d - x) []) k) x lines a b (λ i k l h. ap (λ j. dot (get_or lines j []) k) (let m : i ≡ x + i - x = omega arith in m)) p)
+    (rows_same 32 op _ _ _ _ here p)
+  where
+    here : (d k : ℕ) → k < 32 → words_dot words left 0 32 d k ≡ (span x (x + 64) d && word_dot (get_or words k 0) (d - x))
+    here d k h =
+        let e : k - 0 ≡ k = omega arith in
+        rw (there, le-leb 0 k (omega arith), e, lt-ltb k 32 h) (elim (cases_lt d x) [
+          | inl o ↦ rw (lt-leb x d o) refl
+          | inr g ↦ elim (cases_lt d (x + 64)) [
+            | inl i ↦ rw (le-leb x d g, lt-ltb (d - x) 64 (omega arith), lt-ltb d (x + 64) i) refl
+            | inr o ↦ rw (le-leb x d g, le-ltb (d - x) 64 (omega arith), le-ltb d (x + 64) o) refl
+          ]
+        ])

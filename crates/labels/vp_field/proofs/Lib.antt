@@ -13,4 +13,3 @@ pub mod Boxed
 pub mod Behind
 pub mod Pictured
 pub mod Windowed
-pub mod Fronts

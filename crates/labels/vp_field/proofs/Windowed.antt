@@ -6,8 +6,9 @@ use Rattle.vp_dots.specs.Dots.{shifted}
 use Rattle.vp_dots.specs.Places.{RowsPainted}
 use Rattle.vp_dots.specs.declared.Op.{Op}
 use Rattle.vp_dots.proofs.Paints.{painted_none}
-use Rattle.vp_field.specs.Axes.{laid, dot_on}
+use Rattle.vp_field.specs.Axes.{laid, dot_on, read_at}
 use Rattle.vp_field.specs.declared.axis.Axis.{Axis}
+use Rattle.vp_field.specs.declared.axis.Axis.TheVariants.{Forward, Back}
 use Rattle.vp_field.specs.declared.axis.Lines.TheVariants.{Across}
 use Rattle.vp_field.specs.Places.{at_place}
 use Rattle.vp_field.proofs.Places.{at_true, line_inside, shifted_at}
@@ -21,6 +22,16 @@ pub read_backwards : (n from : ℕ) (at off : ℤ) (f g : ℕ → Bool) → off 
     → at_place f (at -ℤ pos (from + p)) ≡ g (8 * n - 1 - p)
 read_backwards n from at off f g e q p h =
     ap (at_place f) (let s : at -ℤ pos (from + p) ≡ pos (8 * n - 1 - p) -ℤ off = omega (arith, ints) in s) ∙ sym (shifted_at off f (8 * n - 1 - p)) ∙ sym (q (8 * n - 1 - p) (omega arith))
+
+-- a place that is read is one of as many
+pub read_within : (axis : Axis) (n p : ℕ) → p < n → read_at axis n p < n
+read_within (Forward at) n p h = h
+read_within (Back at) n p h = omega arith
+
+-- dots on places side by side, from the first of them on, which lies on the first place or on the last
+pub dots_along : (axis : Axis) (n x v i : ℕ) → i < n → dot_on axis (pos (x + read_at axis n 0)) ≡ pos v → dot_on axis (pos (x + i)) ≡ pos (v + read_at axis n i)
+dots_along (Forward at) n x v i l e = omega (arith, ints, e)
+dots_along (Back at) n x v i l e = omega (arith, ints, e)
 
 -- lines that have no dot on the places of a band
 pub white_across : (columns rows : Axis) (ink : ℕ → ℕ → Bool) (h top first : ℕ) (at : ℤ) → ((u v : ℕ) → ink u v ≡ true → v < h)

@@ -2,7 +2,7 @@
 ghost use Rattle.std.specs.Prelude.{◌≡◌, ℕ, ◌+◌, ◌^◌, ◌<◌, ◌≤◌, Bool, true, false, ℤ, pos, neg_ℤ, ◌-ℤ◌, ◌+ℤ◌, ◌≤ℤ◌, ◌<ℤ◌, option_map, unwrap_or, Some, IfSome};
 ghost use Rattle.vp_field.specs.Places.{at_place};
 ghost use Rattle.vp_field.specs.Views.{counted_back};
-ghost use Rattle.vp_field.specs.Axes.{dot_on, IsWithin};
+ghost use Rattle.vp_field.specs.Axes.{dot_on, read_at, IsWithin};
 ghost use Rattle.vp_label_size.specs.declared.TheConstants.{BAND_ROWS};
 
 use vp_label_size::BAND_ROWS;
@@ -115,6 +115,18 @@ impl Axis {
             return None;
         }
         Some(k as usize)
+    }
+
+    /// Which of so many dots in a row lies on the p-th of as many places.
+    pub fn read_at(self, dots: usize, p: usize) -> usize
+        requires { p < dots }
+        ensures read { result ≡ read_at self dots p }
+        ensures within { result < dots }
+    {
+        match self {
+            Axis::Forward(_) => p,
+            Axis::Back(_) => dots - 1 - p,
+        }
     }
 
     /// The first place on which one of the first `size` dots lies, and the one behind the last.

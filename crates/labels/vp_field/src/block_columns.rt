@@ -1,6 +1,7 @@
-//! Blocks of lines whose rows fall on columns: many of them drawn at once, and laid eight by eight.
-ghost use Rattle.std.specs.Prelude.{◌≡◌, ℕ, ◌+◌, ◌<◌, ◌≤◌, ◌^◌, Bool, true, false, pos, slice_index, slice_index_or, []};
-ghost use Rattle.vp_dots.specs.Dots.{dot, shifted};
+//! Blocks of lines whose rows fall on columns: many of them drawn at once, and laid 64 by 64.
+ghost use Rattle.std.specs.Prelude.{◌≡◌, ℕ, ◌+◌, ◌<◌, ◌≤◌, ◌^◌, ◌&&◌, Bool, true, false, pos, slice_index, slice_index_or, [], MatchOption};
+ghost use Rattle.vp_dots.specs.Dots.{dots, shifted, span};
+ghost use Rattle.vp_dots.specs.declared.square.TheConstants.{SIDE};
 ghost use Rattle.vp_dots.specs.Places.{RowsPainted};
 ghost use Rattle.vp_dots.specs.Words.{word_dot};
 ghost use Rattle.vp_glyph.specs.Blocks.{block_height, block_dot};
@@ -16,9 +17,9 @@ use crate::axis::Axis;
 use crate::laid::Laid;
 use crate::line::drawn_at;
 use crate::paint::row_lengths;
-use vp_dots::{Ink, Op, lay_eight, reversed_at};
+use vp_dots::{Ink, Op, SIDE, paint_words, turned_square};
 use vp_glyph::Block;
-use vp_label_size::{LabelBand, WIDEST};
+use vp_label_size::{BAND_ROWS, LabelBand, WIDEST};
 
 /// As many rows are drawn at once as a band has columns.
 const COLUMNS: usize = WIDEST as usize;
@@ -49,25 +50,27 @@ struct BlockColumns<'a> {
         → dot_on columns (pos x) ≡ pos v → v < top + WIDEST },
 }
 
-/// The first 32 dots of a word, read along an axis.
-fn first_dots_on(word: u64, axis: Axis) -> [u8; 4]
-    ensures { (p : ℕ) → p < 32 → dot result p ≡ word_dot word (read_at axis 32 p) }
+/// M words from one on, read along an axis.
+fn words_along<const N: usize, const M: usize>(
+    words: &[u64; N],
+    from: usize,
+    axis: Axis,
+) -> [u64; M]
+    requires { from + M ≤ N }
+    ensures { (i : ℕ) → i < M → slice_index result i ≡ slice_index words.now (from + read_at axis M i) }
 {
-    let bytes = word.to_be_bytes();
-    match axis {
-        Axis::Forward(_) => [bytes[0], bytes[1], bytes[2], bytes[3]],
-        Axis::Back(_) => {
-            let back = reversed_at(&bytes, 0).to_be_bytes();
-            [back[4], back[5], back[6], back[7]]
-        }
+    let mut along = [0u64; M];
+    for i in 0..M {
+        along[i] = words[from + axis.read_at(M, i)];
     }
+    along
 }
 
 /// Whether all words are white.
-fn are_white(words: &[u64; COLUMNS]) -> bool
-    ensures { result ≡ true → (i x : ℕ) → i < COLUMNS → word_dot (slice_index words.now i) x ≡ false }
+fn are_white<const N: usize>(words: &[u64; N]) -> bool
+    ensures { result ≡ true → (i x : ℕ) → i < N → word_dot (slice_index words.now i) x ≡ false }
 {
-    for i in 0..COLUMNS {
+    for i in 0..N {
         if words[i] != 0 {
             return false;
         }
@@ -76,36 +79,77 @@ fn are_white(words: &[u64; COLUMNS]) -> bool
 }
 
 impl BlockColumns<'_> {
-    /// The ink on a column of the label.
-    fn column(&self, x: u64) -> [u8; 4]
-        ensures { x < WIDEST → (k : ℕ) → k < BAND_ROWS → dot result k ≡ laid Across self.now.columns
-            self.now.rows (λ u v. block_dot (layout_of self.now.block.now) self.now.block.now.text.now u v)
+    /// The row that falls on a column of the label, as it was drawn: white where none does.
+    fn column(&self, x: u64) -> u64
+        ensures { x < WIDEST → (k : ℕ) → k < BAND_ROWS → word_dot result (read_at self.now.rows 32 k)
+            ≡ laid Across self.now.columns self.now.rows
+            (λ u v. block_dot (layout_of self.now.block.now) self.now.block.now.text.now u v)
             (pos x) (pos (self.now.first + k)) }
     {
         let Some(v) = self.columns.dot_on(x) else {
-            return [0; 4];
+            return 0;
         };
         let (_, height) = self.block.size();
         let place = v.saturating_sub(self.top) as usize;
         if v >= height || place >= COLUMNS {
-            return [0; 4];
+            return 0;
         }
-        first_dots_on(self.fronts[place], self.rows)
+        self.fronts[place]
     }
 
-    /// The ink on eight columns of the label, the first of which is x.
-    fn eight(&self, x: u64) -> [[u8; 4]; 8]
+    /// Where the rows that fall on 64 columns of the label, the first of which is x, begin among those that
+    /// were drawn, if all of them were.
+    fn first_drawn(&self, x: u64) -> Option<usize>
         requires { x < 2 ^ 32 }
-        ensures { (i k : ℕ) → i < 8 → x + i < WIDEST → k < BAND_ROWS
-            → dot (slice_index_or result i []) k ≡ laid Across self.now.columns self.now.rows
-            (λ u v. block_dot (layout_of self.now.block.now) self.now.block.now.text.now u v) (pos (x + i))
-            (pos (self.now.first + k)) }
+        ensures { MatchOption result (Unit {0}) (λ place. (place + SIDE ≤ COLUMNS) × ((i : ℕ) → i < SIDE
+            → let v = self.now.top + (place + read_at self.now.columns SIDE i)
+            in (v < block_height self.now.block.now.h self.now.block.now.rows self.now.block.now.pitch)
+            × (dot_on self.now.columns (pos (x + i)) ≡ pos v))) }
     {
-        let mut lines = [[0u8; 4]; 8];
-        for i in 0..8usize {
-            lines[i] = self.column(x + i as u64);
+        let v = self
+            .columns
+            .dot_on(x + self.columns.read_at(SIDE, 0) as u64)?;
+        let place = v.checked_sub(self.top)? as usize;
+        let (_, height) = self.block.size();
+        if place + SIDE > COLUMNS || height.saturating_sub(v) < SIDE as u32 {
+            return None;
         }
-        lines
+        Some(place)
+    }
+
+    /// The rows that fall on 64 columns of the label, the first of which is x.
+    fn square(&self, x: u64) -> [u64; SIDE]
+        requires { x < 2 ^ 32 }
+        ensures { (i k : ℕ) → i < SIDE → x + i < WIDEST → k < BAND_ROWS
+            → word_dot (slice_index result i) (read_at self.now.rows 32 k) ≡ laid Across self.now.columns
+            self.now.rows (λ u v. block_dot (layout_of self.now.block.now) self.now.block.now.text.now u v)
+            (pos (x + i)) (pos (self.now.first + k)) }
+    {
+        if let Some(place) = self.first_drawn(x) {
+            return words_along(self.fronts, place, self.columns);
+        }
+        let mut square = [0u64; SIDE];
+        for i in 0..SIDE {
+            square[i] = self.column(x + i as u64);
+        }
+        square
+    }
+
+    /// Paints 64 columns, the first of which is x.
+    fn paint_square(&self, op: Op, x: u64, band: &mut LabelBand)
+        requires x { x < 2 ^ 32 }
+        requires wide { (k : ℕ) → k < BAND_ROWS → dots (slice_index_or band.old k []) ≤ WIDEST }
+        ensures { RowsPainted BAND_ROWS op (λ d k. span x (x + SIDE) d
+            && laid Across self.now.columns self.now.rows
+            (λ u v. block_dot (layout_of self.now.block.now) self.now.block.now.text.now u v) (pos d)
+            (pos (self.now.first + k))) band.old band.new }
+    {
+        let square = self.square(x);
+        if are_white(&square) {
+            return;
+        }
+        let rows = words_along::<SIDE, BAND_ROWS>(&turned_square(&square), 0, self.rows);
+        paint_words(op, &rows, BAND_ROWS, x as i64, 0, band);
     }
 
     /// Paints the columns: how many were laid.
@@ -113,7 +157,7 @@ impl BlockColumns<'_> {
         ensures dots { RowsPainted BAND_ROWS op (λ x k. laid Across self.now.columns self.now.rows
             (λ u v. block_dot (layout_of self.now.block.now) self.now.block.now.text.now u v) (pos x)
             (pos (self.now.first + k))) band.old band.new }
-        ensures columns { result < WIDEST + 8 }
+        ensures columns { result ≤ WIDEST }
     {
         let (_, height) = self.block.size();
         let (from, to) = self.columns.span(height);
@@ -122,9 +166,9 @@ impl BlockColumns<'_> {
         let mut laid = 0;
         let mut x = from;
         while x < end {
-            lay_eight(op, &self.eight(x), x as usize, 0, band);
-            x += 8;
-            laid += 8;
+            self.paint_square(op, x, band);
+            laid += (end - x).min(SIDE as u64);
+            x += SIDE as u64;
         }
         laid
     }

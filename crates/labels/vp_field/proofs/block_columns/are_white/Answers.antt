@@ -5,10 +5,10 @@ use Rattle.vp_glyph.proofs.Looks.{white_dot}
 use Rattle.vp_field.proofs.block_columns.are_white.Goals as goal
 
 pub loop-i-preserved : goal.loop-i-preserved
-loop-i-preserved c = λ j l. elim (cases_eq j c.loop-i.i) [
+loop-i-preserved g c = λ j l. elim (cases_eq j c.loop-i.i) [
   | inl y ↦ rw y (omega arith)
   | inr n ↦ c.loop-i.invariant j (omega arith)
 ]
 
 pub returns : goal.returns
-returns c = λ e i x l. ap (λ v. word_dot v x) (c.loop-i.invariant i (omega arith)) ∙ white_dot x
+returns g c = λ e i x l. ap (λ v. word_dot v x) (c.loop-i.invariant i (omega arith)) ∙ white_dot x

@@ -3,4 +3,4 @@ use Rattle.vp_field.proofs.block_columns.are_white.Given as goal
 
 -- the words so far are white
 abbrev pub invariant-loop-i : goal.invariant-loop-i
-invariant-loop-i l = (j : ℕ) → j < l.i → get_or l.words j 0 ≡ 0
+invariant-loop-i g l = (j : ℕ) → j < l.i → get_or l.words j 0 ≡ 0

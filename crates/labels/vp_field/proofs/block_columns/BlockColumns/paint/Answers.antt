@@ -4,7 +4,7 @@ use Rattle.vp_glyph.specs.Layouts.{layout_of}
 use Rattle.vp_field.specs.Axes.{dot_on, laid}
 use Rattle.vp_field.specs.declared.axis.Lines.TheVariants.{Across}
 use Rattle.vp_field.proofs.Places.{line_inside}
-use Rattle.vp_field.proofs.Columns.{columns_init, columns_more, columns_eight_within, columns_all}
+use Rattle.vp_field.proofs.Columns.{columns_init, columns_more, columns_all}
 use Rattle.vp_field.proofs.block_columns.BlockColumns.paint.Goals as goal
 
 pub loop-x-init : goal.loop-x-init
@@ -25,10 +25,8 @@ loop-x-preserved c =
     let b = s.block.now in
     let shown = λ (x k : ℕ). laid Across s.columns s.rows (λ u v. block_dot (layout_of b) b.text.now u v) (pos x) (pos (s.first + k)) in
     record {
-      painted = columns_more c.args.op shown c.loop-x.x 8 _ _ _ c.loop-x.invariant.painted
-          (columns_eight_within c.args.op shown c.loop-x.x c.eight.result _ _
-          (λ i k l h m. c.eight.ensures i k l (let w = c.row_lengths.ensures k h in let p = (c.loop-x.invariant.painted.rows_are k h).length_is in omega arith) h) c.lay_eight.ensures);
-      laid = omega (arith, c.loop-x.invariant.laid);
+      painted = columns_more c.args.op shown c.loop-x.x 64 _ _ _ c.loop-x.invariant.painted c.paint_square.ensures;
+      laid = omega (arith, c.loop-x.invariant.laid, c.min-laid.ensures);
     }
 
 pub returns-clause-dots : goal.returns-clause-dots

@@ -1,0 +1,35 @@
+use Rattle.std.proofs.Common.{inl, inr, ◌≡◌, ℕ, ◌+◌, sym, ap, ◌∙◌, arith, length, length-set, get_or, get_or-set_same, get_or-set_other, pos}
+use Rattle.std.proofs.lemmas.Bool.{cases_eq}
+use Rattle.vp_dots.specs.Words.{word_dot}
+use Rattle.vp_glyph.specs.Blocks.{block_dot}
+use Rattle.vp_glyph.specs.Layouts.{layout_of}
+use Rattle.vp_field.specs.Axes.{dot_on, read_at}
+use Rattle.vp_field.specs.Places.{at_place}
+use Rattle.vp_field.proofs.Windowed.{read_within}
+use Rattle.vp_field.proofs.block_columns.BlockColumns.square.Goals as goal
+
+pub loop-i-preserved : goal.loop-i-preserved
+loop-i-preserved c =
+    let n = c.loop-i.i in
+    let sq = c.loop-i.square in
+    let room : length sq ≡ 64 = c.loop-i.invariant.count in
+    record {
+      count = length-set sq n _ ∙ room;
+      rows = λ j k l m h. elim (cases_eq j n) [
+        | inl e ↦ rw (e, get_or-set_same sq n c.column.result 0 (omega (arith, room))) (c.column.ensures (omega (arith, m, e)) k h)
+        | inr o ↦ rw (get_or-set_other sq n j c.column.result 0 o) (c.loop-i.invariant.rows j k (omega (arith, o, l)) m h)
+      ];
+    }
+
+pub returns-in-Some : goal.returns-in-Some
+returns-in-Some c = λ i k l m h.
+    let s = c.args.self.now in
+    let b = s.block.now in
+    let ink = λ (u v : ℕ). block_dot (layout_of b) b.text.now u v in
+    let line = λ (v : ℕ). at_place (λ u. ink u v) (dot_on s.rows (pos (s.first + k))) in
+    let place = c.in-Some.place + read_at s.columns 64 i in
+    let found = c.in-Some.ensures in
+    let near = read_within s.columns 64 i l in
+    ap (λ w. word_dot w (read_at s.rows 32 k)) (c.words_along.ensures i l)
+    ∙ sym (s.falls (λ u. ink u (s.top + place)) (word_dot (get_or s.fronts.now place 0)) (λ d o. s.drawn place d (omega (arith, found.0, near)) (omega arith) (found.1 i l).0) k h)
+    ∙ sym (ap (at_place line) (found.1 i l).1)
