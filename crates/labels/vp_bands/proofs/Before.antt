@@ -8,9 +8,10 @@ use Rattle.vp_field.specs.declared.marks.Marks.{Marks}
 use Rattle.vp_field.specs.declared.view.View.{View}
 use Rattle.vp_fields_by_band.specs.declared.table.Entry.{Entry}
 use Rattle.vp_fields_by_band.specs.Threads.{entry_at, is_carried, carried_at, IsThreaded}
-use Rattle.vp_bands.specs.Standing.{Threaded, entry_work, fields_of, met, AreMarked, IsThreadedFor, IsBefore}
+use Rattle.vp_bands.specs.Standing.{Threaded, entry_work, fields_of, met, seen_of, AreMarked, IsThreadedFor, IsBefore}
 use Rattle.vp_bands.proofs.Painted.{met_count, no_pairs, pairs_more}
 use Rattle.vp_bands.proofs.Work.{copy_more, work_count}
+use Rattle.vp_bands.proofs.Seen.{none_shown, seen_count, shown_more}
 
 -- nothing is carried to the first band
 first_band : (e : Entry) → is_carried 0 e ≡ false
@@ -31,6 +32,7 @@ begun sheets stored view t label none unread idle = record {
   at_least = omega (arith, no_pairs sheets stored view (fields_of t.entries));
   at_most = omega arith;
   work = omega arith;
+  shown = omega (arith, none_shown sheets stored view (fields_of t.entries));
   countable = omega arith;
 }
 
@@ -41,9 +43,9 @@ started sheets stored view b t before = begun sheets stored view (record t { car
 -- one more band of it is painted
 pub painted_on : (sheets : Sheets) (stored : List ℕ) (view : View) (b : ℕ) (t : Threaded) (links : List (Option ℕ)) (marks : List Marks) (carried : Option ℕ) (looks work : ℕ) → IsBefore sheets stored view b t
     → IsThreaded t.entries links (b + 1) carried → AreMarked stored t.entries marks (b + 1) 0 (length t.entries) → t.looks + length (met b t.entries) ≤ looks → looks ≤ t.looks + 1 + 2 * length (met b t.entries)
-    → work ≤ t.work + sum_by entry_work (met b t.entries) → work ≤ t.work + 2 ^ 30
+    → work ≤ t.work + sum_by entry_work (met b t.entries) → t.work + length (seen_of sheets stored view b (met b t.entries)) ≤ work → work ≤ t.work + 2 ^ 30
     → IsBefore sheets stored view (b + 1) (record t { links = links; marks = marks; carried = carried; looks = looks; work = work })
-painted_on sheets stored view b t links marks carried looks work before threaded marked least most took few =
+painted_on sheets stored view b t links marks carried looks work before threaded marked least most took shown few =
     let more = pairs_more sheets stored view (fields_of t.entries) b in
     let count = met_count sheets stored view b t.entries before.label.spanned in
     record {
@@ -53,5 +55,6 @@ painted_on sheets stored view b t links marks carried looks work before threaded
       at_least = rw more (omega (arith, before.at_least, least, count));
       at_most = rw more (omega (arith, before.at_most, most, count));
       work = omega (arith, before.work, took, copy_more sheets stored view (fields_of t.entries) b, work_count sheets stored view b t.entries before.label.spanned);
+      shown = omega (arith, before.shown, shown, shown_more sheets stored view (fields_of t.entries) b, seen_count sheets stored view b t.entries before.label.spanned);
       countable = omega (arith, before.countable, few);
     }

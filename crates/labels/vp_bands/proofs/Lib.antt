@@ -1,6 +1,8 @@
 pub mod Spans
 pub mod Painted
 pub mod Work
+pub mod Seen
+pub mod Costs
 pub mod Before
 pub mod Entries
 pub mod Marked

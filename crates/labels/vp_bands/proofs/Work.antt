@@ -82,4 +82,5 @@ work_bounded = record {
   at_most = λ sheets stored view b t before le.
       let more = copy_grows sheets stored view (fields_of t.entries) b (bands_of view - b) in
       omega (arith, before.work, more, ap (copy_work sheets stored view (fields_of t.entries)) (let e : b + (bands_of view - b) ≡ bands_of view = omega arith in e));
+  at_least = λ sheets stored view t before. before.shown;
 }

@@ -1,11 +1,20 @@
 -- Which bands are met, and what a copy takes.
-use Rattle.std.specs.Prelude.{◌≡◌, ◌↔◌, ◌<◌, ◌≤◌, ℕ, ◌+◌, ◌*◌, ◌/◌, ℤ, pos, ◌+ℤ◌, ◌≤ℤ◌, ◌<ℤ◌, true, false, List}
+use Rattle.std.specs.Prelude.{◌≡◌, ◌↔◌, ◌<◌, ◌≤◌, ℕ, ◌+◌, ◌*◌, ◌/◌, ℤ, pos, ◌+ℤ◌, ◌≤ℤ◌, ◌<ℤ◌, true, false, List, sum_by}
 use Rattle.vp_glyph.specs.declared.Sheets.{Sheets}
+use Rattle.vp_format.specs.declared.field.Content.{Content}
+use Rattle.vp_format.specs.declared.field.Content.TheVariants.{Picture}
+use Rattle.vp_format.specs.declared.field.Field.{Field}
+use Rattle.vp_format.specs.declared.format.TheConstants.{STORED}
+use Rattle.vp_field.specs.Axes.{lines_of}
+use Rattle.vp_field.specs.Contents.{most_work, orientation_of}
+use Rattle.vp_field.specs.Fields.{IsKept}
+use Rattle.vp_field.specs.declared.axis.Lines.TheVariants.{Along}
 use Rattle.vp_field.specs.declared.view.View.{View}
 use Rattle.vp_field.specs.Views.{seen_y}
-use Rattle.vp_bands.specs.Meeting.{box_meets, pairs, copy_work, bands_of}
+use Rattle.vp_bands.specs.Meeting.{box_meets, pairs, copy_work, shown_pairs, bands_of}
 use Rattle.vp_bands.specs.Standing.{Threaded, fields_of, IsBefore}
-use Rattle.vp_label_size.specs.declared.TheConstants.{BAND_ROWS}
+use Rattle.vp_label_size.specs.declared.TheConstants.{BAND_ROWS, WIDEST}
+use Rattle.vp_zpl.specs.declared.item.Orientation.{Orientation}
 
 -- a box meets band b exactly where a row of the band lies on the label and shows one of the box's; it meets
 -- none behind the label's last band
@@ -25,8 +34,29 @@ pub record LooksBounded : Type 0 where
       → IsBefore sheets stored view (bands_of view) t
       → pairs sheets stored view (fields_of t.entries) (bands_of view) ≤ t.looks
 
--- at each band of a copy painting took at most the work of the pairs of a field and a band that it meets
+-- at each band of a copy painting took at most the work of the pairs of a field and a band that it meets, and
+-- behind the last band at least one for each pair where the field has ink on a dot of the label in the band
 pub record WorkBounded : Type 0 where
   pub at_most : (sheets : Sheets) (stored : List ℕ) (view : View) (b : ℕ) (t : Threaded)
       → IsBefore sheets stored view b t → b ≤ bands_of view
       → t.work ≤ copy_work sheets stored view (fields_of t.entries) (bands_of view)
+  pub at_least : (sheets : Sheets) (stored : List ℕ) (view : View) (t : Threaded)
+      → IsBefore sheets stored view (bands_of view) t
+      → shown_pairs sheets stored view (fields_of t.entries) (bands_of view) ≤ t.work
+
+-- the bytes of a picture's codes: other contents have none
+abbrev pub code_bytes : Content → ℕ
+code_bytes (Picture p) = p.codes.len
+code_bytes _ = 0
+
+-- in a band a field takes at most 34, or 2,504 where its lines lie across the rows, and twice the bytes of its
+-- codes, which are no more than a format has room for; so a copy takes at most 2,504 for each pair of a field
+-- and a band that it meets, and in each band twice the bytes of all codes
+pub record CostsAtMost : Type 0 where
+  pub along : (o : Orientation) (c : Content) → lines_of (orientation_of o c) ≡ Along
+      → most_work o c ≤ BAND_ROWS + 2 + 2 * code_bytes c
+  pub field : (o : Orientation) (c : Content) → most_work o c ≤ 2 * WIDEST + 8 + 2 * code_bytes c
+  pub codes : (stored : List ℕ) (f : Field) → IsKept stored f → code_bytes f.content ≤ STORED
+  pub copy : (sheets : Sheets) (stored : List ℕ) (view : View) (fields : List Field) (n : ℕ)
+      → copy_work sheets stored view fields n ≤ (2 * WIDEST + 8) * pairs sheets stored view fields n
+      + 2 * (n * sum_by (λ f. code_bytes f.content) fields)

@@ -3,10 +3,11 @@ use Rattle.std.specs.Prelude.{ℕ, ◌+◌, ◌-◌, ◌*◌, ◌/◌, ℤ, pos,
 use Rattle.std.specs.List.{list_any, range_with_len}
 use Rattle.vp_glyph.specs.declared.Sheets.{Sheets}
 use Rattle.vp_format.specs.declared.field.Field.{Field}
+use Rattle.vp_field.specs.Fields.{field_ink}
 use Rattle.vp_field.specs.Contents.{content_width, content_height, orientation_of, most_work}
 use Rattle.vp_field.specs.Turning.{turned_height}
 use Rattle.vp_field.specs.declared.view.View.{View}
-use Rattle.vp_field.specs.Views.{seen_y}
+use Rattle.vp_field.specs.Views.{seen_x, seen_y}
 use Rattle.vp_label_size.specs.declared.TheConstants.{BAND_ROWS}
 
 -- place p is one of the n places from a place on
@@ -51,6 +52,23 @@ band_work sheets stored view fields b =
 -- and in the first n bands: the sum over the pairs of a field and one of these bands that the field meets
 unfoldable pub copy_work : Sheets → List ℕ → View → List Field → ℕ → ℕ
 copy_work sheets stored view fields n = sum_by (band_work sheets stored view fields) (range_with_len 0 n)
+
+-- the field has ink on a dot of the label in band b
+unfoldable pub field_shows : Sheets → List ℕ → View → ℕ → Field → Bool
+field_shows sheets stored view b f =
+    list_any (λ y. nat_lt y view.height
+    && list_any (λ x. field_ink sheets stored f (seen_x view (pos x)) (seen_y view (pos y)))
+    (range_with_len 0 view.width)) (band_rows b)
+
+-- how many of the fields have
+abbrev pub showing : Sheets → List ℕ → View → List Field → ℕ → ℕ
+showing sheets stored view fields b = count_by (field_shows sheets stored view b) fields
+
+-- how many pairs of a field and one of the first n bands there are where the field has ink on a dot of the
+-- label in the band
+unfoldable pub shown_pairs : Sheets → List ℕ → View → List Field → ℕ → ℕ
+shown_pairs sheets stored view fields n =
+    sum_by (showing sheets stored view fields) (range_with_len 0 n)
 
 -- how many bands a label has
 abbrev pub bands_of : View → ℕ

@@ -11,7 +11,7 @@ use Rattle.vp_field.specs.declared.marks.Marks.{Marks}
 use Rattle.vp_field.specs.declared.view.View.{View}
 use Rattle.vp_field.specs.Contents.{most_work}
 use Rattle.vp_field.specs.Fields.{no_marks, IsKept, AreMarksOf}
-use Rattle.vp_bands.specs.Meeting.{field_meets, pairs, copy_work}
+use Rattle.vp_bands.specs.Meeting.{field_meets, field_shows, pairs, copy_work, shown_pairs}
 use Rattle.vp_bands.specs.declared.meeting.TheConstants.{BANDS}
 use Rattle.vp_bands.specs.declared.painter.TheConstants.{MARKS_BYTES}
 use Rattle.vp_bands.specs.declared.painter.BandPainter.TheInside.{Inside}
@@ -62,6 +62,10 @@ fields_of entries = map (λ e. e.field) entries
 abbrev pub met : ℕ → List Entry → List Entry
 met b entries = filter (meets b) entries
 
+-- those whose fields have ink on a dot of the label in band b
+abbrev pub seen_of : Sheets → List ℕ → View → ℕ → List Entry → List Entry
+seen_of sheets stored view b entries = filter (λ e. field_shows sheets stored view b e.field) entries
+
 -- from the entry's first band to its last are the bands that its field meets
 abbrev pub IsSpanned : Sheets → List ℕ → View → Entry → Type 0
 IsSpanned sheets stored view e = (b : ℕ) → meets b e ≡ field_meets sheets stored view b e.field
@@ -85,7 +89,7 @@ pub record IsThreadedFor (sheets : Sheets) (stored : List ℕ) (view : View) (en
 
 -- band b of a copy is the next one: the entries that reach on from the bands before are threaded, and each
 -- of these bands took at most one look, and each pair of one and a field that meets it one or two, and at
--- most the work of its field
+-- most the work of its field, and something where the field has ink there
 pub record IsBefore (sheets : Sheets) (stored : List ℕ) (view : View) (b : ℕ) (t : Threaded) : Type 0 where
   pub label : IsThreadedFor sheets stored view t.entries t.heads
   pub carried : IsThreaded t.entries t.links b t.carried
@@ -93,4 +97,5 @@ pub record IsBefore (sheets : Sheets) (stored : List ℕ) (view : View) (b : ℕ
   pub at_least : pairs sheets stored view (fields_of t.entries) b ≤ t.looks
   pub at_most : t.looks ≤ b + 2 * pairs sheets stored view (fields_of t.entries) b
   pub work : t.work ≤ copy_work sheets stored view (fields_of t.entries) b
+  pub shown : shown_pairs sheets stored view (fields_of t.entries) b ≤ t.work
   pub countable : t.work ≤ 2 ^ 30 * b

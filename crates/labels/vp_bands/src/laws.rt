@@ -1,5 +1,5 @@
 //! Which bands a box meets, and what a copy takes.
-ghost use Rattle.vp_bands.specs.Laws.{BandsMet, LooksBounded, WorkBounded};
+ghost use Rattle.vp_bands.specs.Laws.{BandsMet, CostsAtMost, LooksBounded, WorkBounded};
 
 /// A box meets a band where one of its rows is shown on a row of it, and no band behind the label's last row.
 pub fn bands_met()
@@ -12,7 +12,15 @@ pub fn looks_bounded()
     ensures { LooksBounded }
 {}
 
-/// Painting a copy takes at most the work of each pair of a field and a band that it meets.
+/// Painting a copy takes at most the work of each pair of a field and a band that it meets, and at least one
+/// for each pair of a field and a band on which it has ink.
 pub fn work_bounded()
     ensures { WorkBounded }
+{}
+
+/// In a band a field takes at most 34, or 2,504 where its lines lie across the rows, and twice the bytes of its
+/// codes. So a copy takes at most 2,504 for each pair of a field and a band that it meets, and in each band
+/// twice the bytes of all codes.
+pub fn a_field_costs_at_most()
+    ensures { CostsAtMost }
 {}

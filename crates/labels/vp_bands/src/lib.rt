@@ -19,6 +19,6 @@ mod painter;
 mod table;
 mod walk;
 
-pub use laws::{bands_met, looks_bounded, work_bounded};
+pub use laws::{a_field_costs_at_most, bands_met, looks_bounded, work_bounded};
 pub use meeting::BANDS;
 pub use painter::BandPainter;

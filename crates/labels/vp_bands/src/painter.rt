@@ -7,7 +7,7 @@ ghost use Rattle.vp_glyph.specs.declared.Sheets.{Sheets as Given};
 ghost use Rattle.vp_field.specs.Fields.{stroke_of, IsKept};
 ghost use Rattle.vp_field.specs.Strokes.{image_dot};
 ghost use Rattle.vp_field.specs.declared.view.View.{View as Seen};
-ghost use Rattle.vp_bands.specs.Meeting.{meeting, band_work};
+ghost use Rattle.vp_bands.specs.Meeting.{meeting, band_work, showing};
 ghost use Rattle.vp_bands.specs.Standing.{fields_of, painter_memory, IsBefore};
 ghost use Rattle.vp_label_size.specs.declared.TheConstants.{WIDEST, BAND_ROWS};
 
@@ -122,6 +122,8 @@ impl BandPainter {
             + 2 * meeting sheets.now stored.now view (fields_of self.old.entries) b }
         ensures work { self.new.work ≤ self.old.work
             + band_work sheets.now stored.now view (fields_of self.old.entries) b }
+        ensures shown { self.old.work
+            + showing sheets.now stored.now view (fields_of self.old.entries) b ≤ self.new.work }
     {
         self.work += paint_band(
             &mut self.threads,

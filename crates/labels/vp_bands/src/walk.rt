@@ -1,13 +1,14 @@
 //! One band of a label, painted from the fields that meet it.
-ghost use Rattle.std.specs.Prelude.{◌≡◌, ℕ, ◌+◌, ◌*◌, ◌^◌, ◌<◌, ◌≤◌, List, [], ◌∷◌, ◌++◌, length, map, slice_index_or, sum_by};
+ghost use Rattle.std.specs.Prelude.{◌≡◌, ℕ, ◌+◌, ◌*◌, ◌^◌, ◌<◌, ◌≤◌, pos, List, [], ◌∷◌, ◌++◌, length, map, slice_index_or, sum_by};
 ghost use Rattle.vp_dots.specs.Dots.{dot};
 ghost use Rattle.vp_dots.specs.Images.{row_bytes};
-ghost use Rattle.vp_field.specs.Fields.{stroke_of, IsKept, AreMarksOf};
-ghost use Rattle.vp_field.specs.Bands.{Shows};
+ghost use Rattle.vp_field.specs.Fields.{field_ink, stroke_of, IsKept, AreMarksOf};
+ghost use Rattle.vp_field.specs.Bands.{Shows, IsCounted};
+ghost use Rattle.vp_field.specs.Views.{seen_x, seen_y};
 ghost use Rattle.vp_field.specs.Strokes.{Stroke, image_dot};
 ghost use Rattle.vp_fields_by_band.specs.Held.{Stays};
 ghost use Rattle.vp_fields_by_band.specs.Threads.{IsThreaded};
-ghost use Rattle.vp_bands.specs.Standing.{entry_work, fields_of, met, AreMarked, IsThreadedFor};
+ghost use Rattle.vp_bands.specs.Standing.{entry_work, fields_of, met, seen_of, AreMarked, IsThreadedFor};
 ghost use Rattle.vp_label_size.specs.declared.TheConstants.{WIDEST, BAND_ROWS};
 
 use crate::meeting::BANDS;
@@ -45,6 +46,8 @@ fn paint_entry(
         → Shows view first (strokes ++ stroke_of sheets.now stored.now entry.now.field ∷ []) band.new }
     ensures marked { AreMarksOf stored.now entry.now.field.content marks.new }
     ensures work { result ≤ entry_work entry.now }
+    ensures counted { IsCounted (λ x k. field_ink sheets.now stored.now entry.now.field (seen_x view (pos x))
+        (seen_y view (pos (first + k)))) result }
     ensures countable { result ≤ 2 ^ 20 }
 {
     drop_others(entry, b, marks);
@@ -84,6 +87,7 @@ pub fn paint_band(
     ensures at_least { threads.old.looks + length (met b threads.old.entries) ≤ threads.new.looks }
     ensures at_most { threads.new.looks ≤ threads.old.looks + 1 + 2 * length (met b threads.old.entries) }
     ensures work { result ≤ sum_by entry_work (met b threads.old.entries) }
+    ensures shown { length (seen_of sheets.now stored.now view b (met b threads.old.entries)) ≤ result }
     ensures countable { result ≤ 2 ^ 30 }
 {
     let first = BAND_ROWS as u32 * b as u32;

@@ -1,5 +1,5 @@
 -- What a band of a label shows.
-use Rattle.std.specs.Prelude.{◌≡◌, ◌<◌, ℕ, ◌+◌, pos, List, [], length, map, slice_index_or}
+use Rattle.std.specs.Prelude.{◌≡◌, ◌<◌, ℕ, ◌+◌, pos, Bool, true, List, [], length, map, slice_index_or}
 use Rattle.vp_dots.specs.Dots.{dot}
 use Rattle.vp_label_size.specs.declared.TheConstants.{WIDEST, BAND_BYTES, BAND_ROWS}
 use Rattle.vp_field.specs.Strokes.{Stroke, viewed, label_dot}
@@ -11,3 +11,7 @@ pub record Shows (view : View) (first : ℕ) (strokes : List Stroke) (band : Lis
   pub rows_are : (k : ℕ) → k < BAND_ROWS → length (slice_index_or band k []) ≡ BAND_BYTES
   pub dots_are : (x k : ℕ) → x < WIDEST → x < view.width → k < BAND_ROWS → first + k < view.height
       → dot (slice_index_or band k []) x ≡ label_dot (map (viewed view) strokes) (pos x) (pos (first + k))
+
+-- ink on a dot of a band is counted: painting it took something
+abbrev pub IsCounted : (ℕ → ℕ → Bool) → ℕ → Type 0
+IsCounted ink work = (x k : ℕ) → k < BAND_ROWS → ink x k ≡ true → 0 < work

@@ -190,6 +190,7 @@ pub fn paint_block_across(
         (λ u v. block_dot (layout_of block.now) block.now.text.now u v) (pos x) (pos (first + k))) band.old
         band.new }
     ensures lines { result ≤ most_block_lines Across }
+    ensures counted { 0 < result }
 {
     let (_, height) = block.size();
     let top = lying.first_line(height, first);

@@ -9,7 +9,7 @@ ghost use Rattle.vp_field.specs.Standing.{IsNear};
 ghost use Rattle.vp_field.specs.Fields.{field_ink, stroke_of, IsKept, AreMarksOf};
 ghost use Rattle.vp_field.specs.Strokes.{Stroke};
 ghost use Rattle.vp_field.specs.Views.{seen_x, seen_y};
-ghost use Rattle.vp_field.specs.Bands.{Shows};
+ghost use Rattle.vp_field.specs.Bands.{Shows, IsCounted};
 ghost use Rattle.vp_field.specs.Drawn.{drawn};
 ghost use Rattle.vp_label_size.specs.declared.TheConstants.{BAND_ROWS};
 
@@ -45,6 +45,7 @@ fn paint_text(
     ensures dots { RowsPainted BAND_ROWS on.op (drawn sheets.now stored.now (contents.Text text) on first)
         band.old band.new }
     ensures lines { result ≤ most_work on.orientation (contents.Text text) }
+    ensures counted { IsCounted (drawn sheets.now stored.now (contents.Text text) on first) result }
 {
     let ink = cells(sheets, stored, text);
     paint_standing(&ink, Some(ink.h), on, first, band)
@@ -64,6 +65,7 @@ fn paint_block(
     ensures dots { RowsPainted BAND_ROWS on.op (drawn sheets.now stored.now (contents.Block block) on first)
         band.old band.new }
     ensures lines { result ≤ most_work on.orientation (contents.Block block) }
+    ensures counted { IsCounted (drawn sheets.now stored.now (contents.Block block) on first) result }
 {
     let ink = block_of(sheets, stored, block);
     let (_, height) = ink.size();
@@ -95,6 +97,7 @@ fn paint_bars(
     ensures dots { RowsPainted BAND_ROWS on.op (drawn sheets.now stored.now (contents.Bars bars) on first)
         band.old band.new }
     ensures lines { result ≤ most_work on.orientation (contents.Bars bars) }
+    ensures counted { IsCounted (drawn sheets.now stored.now (contents.Bars bars) on first) result }
 {
     match linear(bars.code, bytes_of(stored, bars.bytes)) {
         Ok(symbol) => {
@@ -119,6 +122,8 @@ fn paint_qr(stored: &[u8], symbol: QrSymbol, on: Standing, first: u32, band: &mu
     ensures dots { (sheets : Sheets) → RowsPainted BAND_ROWS on.op
         (drawn sheets stored.now (contents.Qr symbol) on first) band.old band.new }
     ensures lines { result ≤ most_lines (lines_of on.orientation) }
+    ensures counted { (sheets : Sheets) →
+        IsCounted (drawn sheets stored.now (contents.Qr symbol) on first) result }
 {
     let qr = vp_qr::drawn(
         bytes_of(stored, symbol.bytes),
@@ -148,6 +153,8 @@ fn paint_content(
         (seen_y view (pos (first + k)))) band.old band.new }
     ensures marks { AreMarksOf stored.now field.now.content marks.new }
     ensures work { result ≤ most_work field.now.orientation field.now.content }
+    ensures counted { IsCounted (λ x k. field_ink sheets.now stored.now field.now (seen_x view (pos x))
+        (seen_y view (pos (first + k)))) result }
 {
     let turned = Standing {
         op: field.op,
@@ -192,6 +199,8 @@ pub fn paint_field(
         → Shows view first (strokes ++ stroke_of sheets.now stored.now field.now ∷ []) band.new }
     ensures marks { AreMarksOf stored.now field.now.content marks.new }
     ensures work { result ≤ most_work field.now.orientation field.now.content }
+    ensures counted { IsCounted (λ x k. field_ink sheets.now stored.now field.now (seen_x view (pos x))
+        (seen_y view (pos (first + k)))) result }
 {
     paint_content(sheets, stored, field, marks, view, first, band)
 }

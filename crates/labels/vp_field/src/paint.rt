@@ -5,6 +5,7 @@ ghost use Rattle.vp_dots.specs.Painting.{Painted};
 ghost use Rattle.vp_dots.specs.Places.{RowsPainted};
 ghost use Rattle.vp_field.specs.Places.{at_place};
 ghost use Rattle.vp_field.specs.Axes.{IsWithin, dot_on, laid};
+ghost use Rattle.vp_field.specs.Bands.{IsCounted};
 ghost use Rattle.vp_field.specs.Contents.{most_lines};
 ghost use Rattle.vp_field.specs.Stretched.{AreStretched};
 ghost use Rattle.vp_field.specs.declared.axis.Lines.TheVariants.{Along, Across};
@@ -116,6 +117,8 @@ fn paint_along<I: Ink>(
     ensures dots { RowsPainted BAND_ROWS op (λ x k. laid Along columns rows (I.ink_at ink.now) (pos x)
         (pos (first + k))) band.old band.new }
     ensures lines { result ≤ most_lines Along }
+    ensures counted { IsCounted (λ x k. laid Along columns rows (I.ink_at ink.now) (pos x) (pos (first + k)))
+        result }
 {
     let (_, h) = ink.size();
     let (from, to) = rows.span(h);
@@ -272,6 +275,7 @@ fn paint_across<I: Ink>(
     ensures dots { RowsPainted BAND_ROWS op (λ x k. laid Across columns rows (I.ink_at ink.now) (pos x)
         (pos (first + k))) band.old band.new }
     ensures lines { result ≤ most_lines Across }
+    ensures counted { 0 < result }
 {
     let (_, h) = ink.size();
     let (from, to) = columns.span(h);
@@ -310,6 +314,8 @@ pub fn paint_laid<I: Ink>(
     ensures dots { RowsPainted BAND_ROWS op (λ x k. laid lines columns rows (I.ink_at ink.now) (pos x)
         (pos (first + k))) band.old band.new }
     ensures lines { result ≤ most_lines lines }
+    ensures counted { IsCounted (λ x k. laid lines columns rows (I.ink_at ink.now) (pos x) (pos (first + k)))
+        result }
 {
     match lines {
         Lines::Along => paint_along(ink, stretched, op, columns, rows, first, band),

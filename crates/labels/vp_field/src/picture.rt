@@ -6,6 +6,7 @@ ghost use Rattle.vp_glyph.specs.declared.Sheets.{Sheets};
 ghost use Rattle.vp_format.specs.Pictures.{is_refused};
 ghost use Rattle.vp_format.specs.declared.field.Content.TheVariants as contents;
 ghost use Rattle.vp_field.specs.Axes.{dot_on, laid, IsWithin};
+ghost use Rattle.vp_field.specs.Bands.{IsCounted};
 ghost use Rattle.vp_field.specs.Contents.{picture_of, picture_dot, most_work, IsPicture};
 ghost use Rattle.vp_field.specs.Drawn.{drawn, part};
 ghost use Rattle.vp_field.specs.Fields.{row_at, AreMarksOf, IsMarkOf};
@@ -255,6 +256,8 @@ pub fn paint_picture(
         (drawn sheets stored.now (contents.Picture picture) on first) band.old band.new }
     ensures marks { AreMarksOf stored.now (contents.Picture picture) marks.new }
     ensures work { result ≤ most_work Normal (contents.Picture picture) }
+    ensures counted { (sheets : Sheets) →
+        IsCounted (drawn sheets stored.now (contents.Picture picture) on first) result }
 {
     let at = lying(picture, on);
     let (from, to) = lines_on(at.rows, picture.rows, first);

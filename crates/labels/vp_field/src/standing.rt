@@ -2,6 +2,7 @@
 ghost use Rattle.std.specs.Prelude.{◌≡◌, ℕ, ◌+◌, ◌^◌, ◌≤◌, Bool, ℤ, pos};
 ghost use Rattle.vp_dots.specs.Places.{RowsPainted};
 ghost use Rattle.vp_field.specs.Axes.{laid, lines_of, IsWithin};
+ghost use Rattle.vp_field.specs.Bands.{IsCounted};
 ghost use Rattle.vp_field.specs.Contents.{most_lines};
 ghost use Rattle.vp_field.specs.Standing.{standing, IsNear};
 ghost use Rattle.vp_field.specs.Stretched.{AreStretched};
@@ -58,6 +59,9 @@ pub fn paint_standing<I: Ink>(
         (I.width ink.now) (I.height ink.now) (I.ink_at ink.now) (seen_x on.view (pos x))
         (seen_y on.view (pos (first + k)))) band.old band.new }
     ensures lines { result ≤ most_lines (lines_of on.orientation) }
+    ensures counted { IsCounted (λ x k. standing on.left on.top on.orientation (I.width ink.now)
+        (I.height ink.now) (I.ink_at ink.now) (seen_x on.view (pos x)) (seen_y on.view (pos (first + k))))
+        result }
 {
     let laid = on.laid(ink);
     paint_laid(

@@ -3,5 +3,6 @@ pub mod Effects
 pub mod Presses
 pub mod Idle
 pub mod Pending
+pub mod Work
 pub mod Counts
 pub mod Images

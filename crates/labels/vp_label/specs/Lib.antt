@@ -4,6 +4,7 @@ pub mod Refusals
 pub mod Prints
 pub mod Images
 pub mod Held
+pub mod Work
 pub mod Memory
 -- What the code keeps.
 pub mod Effects

@@ -1,12 +1,13 @@
 -- What a label printer stands after.
-use Rattle.std.specs.Prelude.{◌≡◌, ◌<◌, ℕ, List, [], ◌∷◌, drop, length}
+use Rattle.std.specs.Prelude.{◌≡◌, ◌<◌, ◌≤◌, ℕ, List, [], ◌∷◌, drop, length}
 use Rattle.vp_glyph.specs.declared.Sheets.{Sheets}
 use Rattle.vp_zpl.specs.Items.{Item}
 use Rattle.vp_label.specs.declared.gathered.Gathered.{Gathered}
 use Rattle.vp_label.specs.declared.press.Press.{Press}
-use Rattle.vp_bands.specs.Meeting.{bands_of, copy_work, pairs}
+use Rattle.vp_bands.specs.Meeting.{bands_of, copy_work, pairs, shown_pairs}
 use Rattle.vp_label.specs.Gathered.{Gathers, IsPrinted, to_print}
 use Rattle.vp_label.specs.Prints.{prints, view_of}
+use Rattle.vp_label.specs.Work.{most_work, least_work}
 
 -- a label printer: its sheets, what is gathered of a format, what is put out of one that has ended, and what
 -- is left of it
@@ -32,6 +33,12 @@ painting p =
     let view = view_of p.gathered.in_force.settings in
     copy_work p.sheets p.gathered.format.stored view p.gathered.format.fields (bands_of view)
 
+-- how many pairs there are of a band of the label and a field that has ink on a dot of the label there
+abbrev pub shown : Printing → ℕ
+shown p =
+    let view = view_of p.gathered.in_force.settings in
+    shown_pairs p.sheets p.gathered.format.stored view p.gathered.format.fields (bands_of view)
+
 -- as many bytes as whole copies of the format that is held have: none of no copies
 abbrev pub AreCopies : Printing → List ℕ → Type 0
 AreCopies p bytes = (copies : ℕ) × (length bytes ≡ length (to_print p.sheets p.gathered copies))
@@ -51,8 +58,10 @@ abbrev pub IsPrinting : Sheets → Gathered → List ℕ → List Item → Type 
 IsPrinting sheets g pending [] = ⊥
 IsPrinting sheets g pending (item ∷ before) = IsPrintingOf sheets g pending item before
 
--- it stands after these items
+-- it stands after these items; once all is put out, all that is seen was painted
 pub record Stands (sheets : Sheets) (p : Printing) (before : List Item) : Type 0 where
   pub sheets_are : p.sheets ≡ sheets
   pub gathered : Gathers sheets p.gathered before
   pub printing : 0 < length p.pending → IsPrinting sheets p.gathered p.pending before
+  pub at_most : p.press.painter.work ≤ most_work sheets before
+  pub at_least : p.pending ≡ [] → least_work sheets before ≤ p.press.painter.work

@@ -14,7 +14,8 @@ ghost use Rattle.vp_format.specs.declared.format.TheConstants.{FIELDS, STORED};
 ghost use Rattle.vp_label.specs.Gathered.{Gathers, IsPrinted, data_room};
 ghost use Rattle.vp_label.specs.Prints.{all_print, is_at_rest, prints, view_of as seen};
 ghost use Rattle.vp_label.specs.Refusals.{first_refusal, refusal};
-ghost use Rattle.vp_label.specs.Standing.{bands, met, painting, AreCopies, Stands};
+ghost use Rattle.vp_label.specs.Standing.{bands, met, painting, shown, AreCopies, Stands};
+ghost use Rattle.vp_label.specs.Work.{most_work, least_work};
 
 use crate::gathered::Gathered;
 use crate::press::Press;
@@ -214,6 +215,8 @@ impl Label {
         ensures at_least { 0 < result → AreCopies self.old self.new.pending →
             met self.old ≤ self.new.press.painter.looks }
         ensures work { 0 < length self.old.pending → self.new.press.painter.work ≤ painting self.old }
+        ensures shown { 0 < result → AreCopies self.old self.new.pending →
+            shown self.old ≤ self.new.press.painter.work }
         ensures idle { result ≡ 0 → self.new.press ≡ self.old.press }
     {
         if !self.press.copies.is_pending() {
@@ -292,7 +295,11 @@ impl Label {
     /// What painting took for the copy that is put out: how many bytes of pictures' codes were read, how many
     /// of their rows passed or painted, and how many lines of ink drawn for all other fields.
     pub fn work(&self) -> u64
-        ensures { result ≡ self.now.press.painter.work }
+        ensures value { result ≡ self.now.press.painter.work }
+        ensures at_most { (sheets : Given_sheets) (before : List Item) → Stands sheets self.now before →
+            result ≤ most_work sheets before }
+        ensures at_least { (sheets : Given_sheets) (before : List Item) → Stands sheets self.now before →
+            self.now.pending ≡ [] → least_work sheets before ≤ result }
     {
         self.press.painter.work()
     }

@@ -1,6 +1,7 @@
 -- What a printer tells of its work.
-use Rattle.std.specs.Prelude.{◌≡◌, ◌≤◌, ℕ, ◌+◌, min, List}
+use Rattle.std.specs.Prelude.{◌≡◌, ◌≤◌, ℕ, ◌+◌, min, List, []}
 use Rattle.vp_page.specs.Work.{MOST}
+use Rattle.vp_label.specs.Work.{most_work as most_painting, least_work as least_painting}
 use Rattle.vp_receipt.specs.Work.{most_work, least_work}
 use Rattle.vp_receipt_settings.specs.Line.{mode}
 use Rattle.vp_receipt_settings.specs.declared.page_mode.PrinterMode.TheVariants.{Page}
@@ -22,10 +23,12 @@ abbrev pub work_told : Engine → ℕ
 work_told p = machine_work p.machine
 
 -- on a receipt's page the work after these items is at least what is seen of it, and at most that of what
--- was laid and wiped
-abbrev pub IsWorkAfter : (setup : Setup) → List (Item setup) → ℕ → Type 0
-IsWorkAfter (Receipts receipt) before work =
+-- was laid and wiped. Of a label it is at most that of a copy of the one that was printed last, and at least
+-- that of what is seen of it, once all is put out
+abbrev pub IsWorkAfter : (setup : Setup) → List (Item setup) → List ℕ → ℕ → Type 0
+IsWorkAfter (Receipts receipt) before pending work =
     mode receipt before ≡ Page →
     (min (least_work receipt before) MOST ≤ work) × (work ≤ most_work receipt before)
-IsWorkAfter (Labels sheets) before work = Unit {0}
-IsWorkAfter (ListingIn with_offsets commands) before work = work ≡ 0
+IsWorkAfter (Labels sheets) before pending work =
+    (work ≤ most_painting sheets before) × (pending ≡ [] → least_painting sheets before ≤ work)
+IsWorkAfter (ListingIn with_offsets commands) before pending work = work ≡ 0

@@ -372,7 +372,8 @@ impl Machine {
     pub fn work(&self) -> u64
         ensures value { result ≡ machine_work self.now }
         ensures bounds { (setup : Setup) (t : List ℕ) (before : List (Item setup)) →
-            MachineStands self.now setup t before → IsWorkAfter setup before result }
+            MachineStands self.now setup t before →
+            IsWorkAfter setup before (pending_of self.now) result }
     {
         match self {
             Machine::Receipt { receipt, .. } => receipt.work(),

@@ -273,7 +273,8 @@ impl Printer {
     pub fn work(&self) -> u64
         ensures value { result ≡ work_told self.now }
         ensures bounds { (setup : Setup) (t o : List ℕ) → Stands setup self.now t o →
-            IsWorkAfter setup (history (rules_of setup) (before_fault (rules_of setup) t)) result }
+            IsWorkAfter setup (history (rules_of setup) (before_fault (rules_of setup) t)) self.now.pending
+            result }
     {
         self.machine.work()
     }

@@ -1,13 +1,15 @@
-use Rattle.std.proofs.Common.{◌≡◌, ◌+◌, ◌*◌, ◌<◌, ◌≤◌, length, take, ap, ◌∙◌, refl, subst, arith}
+use Rattle.std.proofs.Common.{◌≡◌, ◌+◌, ◌*◌, ◌<◌, ◌≤◌, pos, length, take, ap, ◌∙◌, refl, subst, arith}
 use Rattle.std.specs.List.{sum_by}
 use Rattle.std.proofs.lemmas.List.{length-set, get_or-map, length-map}
-use Rattle.vp_field.specs.Bands.{Shows}
-use Rattle.vp_field.specs.Fields.{AreMarksOf}
+use Rattle.vp_field.specs.Bands.{Shows, IsCounted}
+use Rattle.vp_field.specs.Fields.{field_ink, AreMarksOf}
+use Rattle.vp_field.specs.Views.{seen_x, seen_y}
 use Rattle.vp_fields_by_band.specs.declared.table.Entry.{Entry}
 use Rattle.vp_fields_by_band.specs.Threads.{no_entry, entry_at, link_at}
 use Rattle.vp_fields_by_band.proofs.Next.{walk_started, walk_ended, tail_in}
-use Rattle.vp_bands.specs.Standing.{entry_work, met}
+use Rattle.vp_bands.specs.Standing.{entry_work, met, seen_of}
 use Rattle.vp_bands.proofs.Painted.{strokes, painted_next, met_more, met_all, met_image, few_met}
+use Rattle.vp_bands.proofs.Seen.{seen_more, seen_took}
 use Rattle.vp_bands.proofs.Work.{work_more}
 use Rattle.vp_bands.proofs.Marked.{carried_here, marked_ahead, marked_behind, marked_all}
 use Rattle.vp_bands.proofs.walk.paint_band.Goals as goal
@@ -87,6 +89,7 @@ loop-n-init c =
       at_least = rw (is, look) (omega arith);
       at_most = rw (is, look) (omega arith);
       work = omega arith;
+      shown = rw is (omega arith);
       countable = omega arith;
     }
 
@@ -116,6 +119,7 @@ loop-n-preserved c =
     let count = met_more entries b w.seen n next in
     let new = c.paint_entry-work.new.marks in
     let marked : AreMarksOf stored (entry_at entries n).field.content new = subst (λ (x : Entry). AreMarksOf stored x.field.content new) is c.paint_entry-work.ensures.marked in
+    let seen = subst (λ (x : Entry). IsCounted (λ d k. field_ink sheets stored x.field (seen_x c.args.view (pos d)) (seen_y c.args.view (pos (32 * b + k)))) c.paint_entry-work.result) is c.paint_entry-work.ensures.counted in
     let took : c.paint_entry-work.result ≤ entry_work (entry_at entries n) = subst (λ (x : Entry). c.paint_entry-work.result ≤ entry_work x) is c.paint_entry-work.ensures.work in
     record {
       walk = after.walk entries c.requires.label.table (rw look done.walk) next is;
@@ -127,6 +131,7 @@ loop-n-preserved c =
       at_least = rw (after.seen, count) (omega (arith, one, after.looks, done.at_least));
       at_most = rw (after.seen, count) (omega (arith, one, after.looks, done.at_most));
       work = rw (after.seen, work_more entries b w.seen n next) (omega (arith, done.work, took));
+      shown = rw after.seen (omega (arith, done.shown, seen_more sheets stored c.args.view entries b w.seen n c.paint_entry-work.result next (seen_took sheets stored c.args.view b c.paint_entry-work.result (entry_at entries n).field seen)));
       countable = rw (after.seen, count) (omega (arith, done.countable, c.paint_entry-work.ensures.countable));
     }
 
@@ -185,3 +190,10 @@ returns-clause-work c =
 pub returns-clause-countable : goal.returns-clause-countable
 returns-clause-countable c =
     omega (arith, c.loop-n.invariant.countable, few_met c.args.threads.now.entries c.args.b c.loop-n.walk.seen c.requires.few)
+
+pub returns-clause-shown : goal.returns-clause-shown
+returns-clause-shown c =
+    let entries = c.args.threads.now.entries in
+    let walk = c.loop-n.invariant.walk in
+    let none = c.in_default.ensures entries c.args.b c.loop-n.walk.seen (length entries) walk.carried walk.begins in
+    omega (arith, ap (λ es. length (seen_of c.args.sheets.now c.args.stored.now c.args.view c.args.b es)) (met_all entries c.args.b c.loop-n.walk.seen walk.within none), c.loop-n.invariant.shown)

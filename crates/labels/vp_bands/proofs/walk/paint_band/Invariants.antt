@@ -3,12 +3,12 @@ use Rattle.std.specs.List.{sum_by}
 use Rattle.vp_field.specs.Bands.{Shows}
 use Rattle.vp_fields_by_band.specs.Held.{Stays}
 use Rattle.vp_fields_by_band.specs.Threads.{IsWalk}
-use Rattle.vp_bands.specs.Standing.{entry_work, met, AreMarked}
+use Rattle.vp_bands.specs.Standing.{entry_work, met, seen_of, AreMarked}
 use Rattle.vp_bands.proofs.Painted.{strokes}
 use Rattle.vp_bands.proofs.walk.paint_band.Given as goal
 
 -- of the fields seen those that meet the band are painted, and each of these took one look or two, and no more
--- than its work
+-- than its work, and something where its field has ink there
 abbrev pub invariant-loop-n : goal.invariant-loop-n
 invariant-loop-n l = record {
   walk : IsWalk l.fn.threads.entries l.threads.links l.b l.walk;
@@ -20,6 +20,7 @@ invariant-loop-n l = record {
   at_least : l.fn.threads.looks + length (met l.b (take l.walk.seen l.fn.threads.entries)) ≤ l.threads.looks;
   at_most : l.threads.looks ≤ l.fn.threads.looks + 1 + 2 * length (met l.b (take l.walk.seen l.fn.threads.entries));
   work : l.work ≤ sum_by entry_work (met l.b (take l.walk.seen l.fn.threads.entries));
+  shown : length (seen_of l.sheets l.stored l.view l.b (met l.b (take l.walk.seen l.fn.threads.entries))) ≤ l.work;
   countable : l.work ≤ 2 ^ 20 * length (met l.b (take l.walk.seen l.fn.threads.entries));
 }
 

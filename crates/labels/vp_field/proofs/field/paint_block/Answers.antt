@@ -33,3 +33,18 @@ returns-in-Across-clause-dots c =
     (λ x y. standing on.left on.top on.orientation (block_width k.wide k.w) (block_height k.h k.rows k.pitch) ink (seen_x on.view (pos x)) (seen_y on.view (pos (c.args.first + y)))) c.args.band.now _
     (λ x y. (let e = c.laid-laid.ensures.ink ink (pos x) (pos (c.args.first + y)) in rw c.in-Across.is at e)) dots in
     rw (b.sheet, b.text, b.w, b.h, b.wide, b.rows, b.pitch, b.alignment) at same
+
+pub returns-then-not-lines_meet-clause-counted : goal.returns-then-not-lines_meet-clause-counted
+returns-then-not-lines_meet-clause-counted c =
+    let b = c.block_of-ink.ensures in
+    let r = c.from_row-block.ensures in
+    rw (r.sheet ∙ b.sheet, r.text ∙ b.text, r.w ∙ b.w, r.h ∙ b.h, r.wide ∙ b.wide, r.rows ∙ b.rows, r.pitch ∙ b.pitch, r.alignment ∙ b.alignment) at c.paint_standing.ensures.counted
+
+pub returns-clause-counted : goal.returns-clause-counted
+returns-clause-counted c =
+    let b = c.block_of-ink.ensures in
+    let r = c.from_row-block.ensures in
+    rw (c.new-drawn.ensures, r.sheet ∙ b.sheet, r.text ∙ b.text, r.w ∙ b.w, r.h ∙ b.h, r.wide ∙ b.wide, r.rows ∙ b.rows, r.pitch ∙ b.pitch, r.alignment ∙ b.alignment) at c.paint_standing-2.ensures.counted
+
+pub returns-in-Across-clause-counted : goal.returns-in-Across-clause-counted
+returns-in-Across-clause-counted c = λ x k low e. c.paint_block_across.ensures.counted

@@ -50,3 +50,51 @@ returns-in-Picture-clause-dots c =
     let left : SFits w64 f.left = search (rules, n.left_low, n.left_high) in
     let top : SFits w64 f.top = search (rules, n.top_low, n.top_high) in
     rw c.in-Picture.is (rw (to_z-of_z w64 f.left left, to_z-of_z w64 f.top top, to_z-of_z w64 f.left left, to_z-of_z w64 f.top top) at (c.paint_picture.ensures.dots c.args.sheets.now))
+
+pub returns-in-Text-clause-counted : goal.returns-in-Text-clause-counted
+returns-in-Text-clause-counted c =
+    let f = c.args.field.now in
+    let n = c.requires.kept.near in
+    let left : SFits w64 f.left = search (rules, n.left_low, n.left_high) in
+    let top : SFits w64 f.top = search (rules, n.top_low, n.top_high) in
+    rw c.in-Text.is (rw (to_z-of_z w64 f.left left, to_z-of_z w64 f.top top) at c.paint_text.ensures.counted)
+
+pub returns-in-Block-clause-counted : goal.returns-in-Block-clause-counted
+returns-in-Block-clause-counted c =
+    let f = c.args.field.now in
+    let n = c.requires.kept.near in
+    let left : SFits w64 f.left = search (rules, n.left_low, n.left_high) in
+    let top : SFits w64 f.top = search (rules, n.top_low, n.top_high) in
+    rw c.in-Block.is (rw (to_z-of_z w64 f.left left, to_z-of_z w64 f.top top) at c.paint_block.ensures.counted)
+
+pub returns-in-Box-clause-counted : goal.returns-in-Box-clause-counted
+returns-in-Box-clause-counted c =
+    let f = c.args.field.now in
+    let n = c.requires.kept.near in
+    let left : SFits w64 f.left = search (rules, n.left_low, n.left_high) in
+    let top : SFits w64 f.top = search (rules, n.top_low, n.top_high) in
+    rw c.in-Box.is (rw (to_z-of_z w64 f.left left, to_z-of_z w64 f.top top, to_z-of_z w64 f.left left, to_z-of_z w64 f.top top) at (rw c.of.ensures at c.paint_standing.ensures.counted))
+
+pub returns-in-Bars-clause-counted : goal.returns-in-Bars-clause-counted
+returns-in-Bars-clause-counted c =
+    let f = c.args.field.now in
+    let n = c.requires.kept.near in
+    let left : SFits w64 f.left = search (rules, n.left_low, n.left_high) in
+    let top : SFits w64 f.top = search (rules, n.top_low, n.top_high) in
+    rw c.in-Bars.is (rw (to_z-of_z w64 f.left left, to_z-of_z w64 f.top top) at c.paint_bars.ensures.counted)
+
+pub returns-in-Qr-clause-counted : goal.returns-in-Qr-clause-counted
+returns-in-Qr-clause-counted c =
+    let f = c.args.field.now in
+    let n = c.requires.kept.near in
+    let left : SFits w64 f.left = search (rules, n.left_low, n.left_high) in
+    let top : SFits w64 f.top = search (rules, n.top_low, n.top_high) in
+    rw c.in-Qr.is (rw (to_z-of_z w64 f.left left, to_z-of_z w64 f.top top, to_z-of_z w64 f.left left, to_z-of_z w64 f.top top) at (c.paint_qr.ensures.counted c.args.sheets.now))
+
+pub returns-in-Picture-clause-counted : goal.returns-in-Picture-clause-counted
+returns-in-Picture-clause-counted c =
+    let f = c.args.field.now in
+    let n = c.requires.kept.near in
+    let left : SFits w64 f.left = search (rules, n.left_low, n.left_high) in
+    let top : SFits w64 f.top = search (rules, n.top_low, n.top_high) in
+    rw c.in-Picture.is (rw (to_z-of_z w64 f.left left, to_z-of_z w64 f.top top, to_z-of_z w64 f.left left, to_z-of_z w64 f.top top) at (c.paint_picture.ensures.counted c.args.sheets.now))

@@ -8,3 +8,8 @@ pub returns-clause-dots : goal.returns-clause-dots
 returns-clause-dots c =
     let t = c.cells-ink.ensures in
     rw (t.sheet, t.text, t.w, t.h) at c.paint_standing.ensures.dots
+
+pub returns-clause-counted : goal.returns-clause-counted
+returns-clause-counted c =
+    let t = c.cells-ink.ensures in
+    rw (t.sheet, t.text, t.w, t.h) at c.paint_standing.ensures.counted

@@ -14,6 +14,7 @@ loop-x-init g c =
           (λ x k l. c.span-from.ensures.before _ (line_inside ink c.size-h.result.1 lines (dot_on c.args.rows (pos (c.args.first + k)))) x (omega arith));
       line = c.column_of-line.ensures;
       lines = omega (arith, c.min-end.ensures);
+      some = omega arith;
     }
 
 pub loop-x-preserved : goal.loop-x-preserved
@@ -21,6 +22,7 @@ loop-x-preserved g c = record {
   painted = columns_more c.args.op (λ x k. laid Across c.args.columns c.args.rows (λ u v. g.I.Ink.ink_at c.args.ink.now u v) (pos x) (pos (c.args.first + k))) c.loop-x.x c.paint_columns-painted.result.0 _ _ _ c.loop-x.invariant.painted c.paint_columns-painted.ensures.painted;
   line = c.paint_columns-painted.ensures.line;
   lines = omega (arith, c.loop-x.invariant.lines, c.paint_columns-painted.ensures.lines, c.paint_columns-painted.ensures.near);
+  some = omega (arith, c.loop-x.invariant.some);
 }
 
 pub returns-clause-dots : goal.returns-clause-dots
@@ -32,3 +34,6 @@ returns-clause-dots g c =
 
 pub returns-clause-lines : goal.returns-clause-lines
 returns-clause-lines g c = omega (arith, c.loop-x.invariant.lines)
+
+pub returns-clause-counted : goal.returns-clause-counted
+returns-clause-counted g c = c.loop-x.invariant.some

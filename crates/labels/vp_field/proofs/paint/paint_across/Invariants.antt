@@ -12,6 +12,7 @@ invariant-loop-x g l = record {
   painted : RowsPainted 32 l.op (λ d k. ltb d l.x && laid Across l.columns l.rows (g.I.Ink.ink_at l.ink) (pos d) (pos (l.first + k))) l.fn.band l.band;
   line : (k : ℕ) → k < 32 → dot l.line k ≡ laid Across l.columns l.rows (g.I.Ink.ink_at l.ink) (pos l.x) (pos (l.first + k));
   lines : l.lines + (l.end + 7 - l.x) ≤ WIDEST + 8;
+  some : 0 < l.lines;
 }
 
 abbrev pub decreases-loop-x : goal.decreases-loop-x

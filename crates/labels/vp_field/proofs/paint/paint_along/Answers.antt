@@ -1,5 +1,6 @@
-use Rattle.std.proofs.Common.{◌≡◌, ℕ, ◌+◌, ◌-◌, ◌<◌, ◌≤◌, true, false, arith, sym, ap, ◌∙◌, pos}
+use Rattle.std.proofs.Common.{inl, inr, ◌≡◌, ℕ, ◌+◌, ◌-◌, ◌<◌, ◌≤◌, true, false, arith, sym, ap, ◌∙◌, pos}
 use Rattle.std.specs.Prelude.{unwrap_or, option_map}
+use Rattle.std.proofs.lemmas.Bool.{both_ways, cases_lt}
 use Rattle.vp_dots.proofs.Placing.{rows_init, rows_all}
 use Rattle.vp_field.specs.Places.{at_place}
 use Rattle.vp_field.specs.Axes.{dot_on, laid}
@@ -17,6 +18,7 @@ loop-k-init g c =
       painted = rows_init _ _ (λ x k. laid Along c.args.columns c.args.rows ink (pos x) (pos (c.args.first + k))) _ _
           (λ x k l. c.span-from.ensures.before _ (line_inside ink c.size-h.result.1 lines (dot_on c.args.columns (pos x))) (c.args.first + k) (omega (arith, c.from-first.ensures, c.saturating_sub-k.ensures)));
       lines = omega (arith, c.min-end.ensures);
+      none = λ _. omega (arith, c.from-first.ensures, c.saturating_sub-k.ensures);
     }
 
 pub loop-k-preserved : goal.loop-k-preserved
@@ -40,6 +42,7 @@ loop-k-preserved g c =
             (λ x. falls x ∙ ap (λ o. unwrap_or (option_map (line x) o) false) w.in_default.is) c.loop-k.invariant.painted)
       ];
       lines = omega (arith, c.loop-k.invariant.lines, c.alike_places-alike.ensures.some, c.alike_places-alike.ensures.within);
+      none = λ e. absurd (omega (arith, e));
     }
 
 pub returns-clause-dots : goal.returns-clause-dots
@@ -51,3 +54,17 @@ returns-clause-dots g c =
 
 pub returns-clause-lines : goal.returns-clause-lines
 returns-clause-lines g c = omega (arith, c.loop-k.invariant.lines)
+
+pub returns-clause-counted : goal.returns-clause-counted
+returns-clause-counted g c = λ x k low e.
+    let ink = λ (u v : ℕ). g.I.Ink.ink_at c.args.ink.now u v in
+    let lines : (u v : ℕ) → ink u v ≡ true → v < c.size-h.result.1 = λ u v e. rw c.size-h.ensures.height (g.met.I.Ink.outside c.args.ink.now u v e).1 in
+    let inside = line_inside ink c.size-h.result.1 lines (dot_on c.args.columns (pos x)) in
+    let shown = laid Along c.args.columns c.args.rows ink (pos x) (pos (c.args.first + k)) in
+    elim (cases_lt 0 c.loop-k.lines) [
+      | inl some ↦ some
+      | inr none ↦ absurd (elim (cases_lt (c.args.first + k) c.span-from.result.0) [
+        | inl above ↦ both_ways shown (c.span-from.ensures.before _ inside (c.args.first + k) above) e
+        | inr at ↦ both_ways shown (c.span-from.ensures.behind _ inside (c.args.first + k) (let start = c.loop-k.invariant.none (omega arith) in omega (arith, c.from-first.ensures, start))) e
+      ])
+    ]

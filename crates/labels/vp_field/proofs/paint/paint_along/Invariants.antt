@@ -1,14 +1,15 @@
-use Rattle.std.proofs.Common.{◌+◌, ◌-◌, ◌≤◌, ◌&&◌, ltb, pos}
+use Rattle.std.proofs.Common.{◌≡◌, ◌+◌, ◌-◌, ◌≤◌, ◌&&◌, ltb, pos}
 use Rattle.vp_dots.specs.Places.{RowsPainted}
 use Rattle.vp_field.specs.Axes.{laid}
 use Rattle.vp_field.specs.declared.axis.Lines.TheVariants.{Along}
 use Rattle.vp_field.proofs.paint.paint_along.Given as goal
 
--- the rows above k are done, and no row took two lines
+-- the rows above k are done, and no row took two lines; without a line it is the first one
 abbrev pub invariant-loop-k : goal.invariant-loop-k
 invariant-loop-k g l = record {
   painted : RowsPainted 32 l.op (λ x k. ltb k l.k && laid Along l.columns l.rows (g.I.Ink.ink_at l.ink) (pos x) (pos (l.fn.first + k))) l.fn.band l.band;
   lines : l.lines + (l.end - l.k) ≤ 32;
+  none : l.lines ≡ 0 → l.k ≡ l.from - l.fn.first;
 }
 
 abbrev pub decreases-loop-k : goal.decreases-loop-k

@@ -6,6 +6,9 @@ use Rattle.vp_field.specs.Contents.{picture_of, picture_dot}
 use Rattle.vp_field.specs.Drawn.{drawn}
 use Rattle.vp_field.proofs.Boxed.{picture_inside}
 use Rattle.vp_field.proofs.Pictured.{lines_init, lines_all}
+use Rattle.vp_field.proofs.Places.{at_true, line_inside}
+use Rattle.vp_field.specs.Axes.{dot_on}
+use Rattle.vp_field.specs.Places.{at_place}
 use Rattle.vp_field.proofs.picture.paint_picture.Goals as goal
 
 pub returns-then-from-to-clause-dots : goal.returns-then-from-to-clause-dots
@@ -36,3 +39,18 @@ returns-clause-work c =
     let is : c.paint_rows.new.rows.picture ≡ p = c.paint_rows.ensures.picture ∙ ap (λ (v : Cursor). v.picture) c.go_to.ensures.rows ∙ c.cursor-rows.ensures.picture in
     let codes = ap (λ (q : Picture). length q.codes) is in
     omega (arith, c.read.ensures.at_most, c.passed.ensures.at_most, codes, few, c.lines_on-from.ensures.few)
+
+pub returns-then-from-to-clause-counted : goal.returns-then-from-to-clause-counted
+returns-then-from-to-clause-counted c sheets = λ x k low e.
+    let a = c.args in
+    let p = picture_of a.stored.now a.picture in
+    let at = c.lying-at in
+    let on = c.lines_on-from in
+    let across = dot_on at.result.columns (pos x) in
+    let seen = rw c.requires.normal (at.ensures.ink (picture_dot p) (pos x) (pos (a.first + k))) ∙ e in
+    let line = at_true (λ v. at_place (λ u. picture_dot p u v) across) (dot_on at.result.rows (pos (a.first + k))) seen in
+    let inside = line_inside (picture_dot p) a.picture.rows (λ m n e. (picture_inside p m n e).1) across line.0 line.1 in
+    absurd (omega (arith, on.ensures.from k line.0 low inside line.2, on.ensures.to k line.0 low inside line.2))
+
+pub returns-clause-counted : goal.returns-clause-counted
+returns-clause-counted c sheets = λ x k low e. omega arith

@@ -3,6 +3,7 @@ use Rattle.std.proofs.lemmas.List.{length-map, with_items_is}
 use Rattle.vp_bands.specs.Standing.{fields_of}
 use Rattle.vp_bands.proofs.Before.{painted_on}
 use Rattle.vp_bands.proofs.Painted.{met_count, few_pairs}
+use Rattle.vp_bands.proofs.Seen.{seen_count}
 use Rattle.vp_bands.proofs.Work.{work_count}
 use Rattle.vp_bands.proofs.painter.BandPainter.paint.Goals as goal
 
@@ -20,7 +21,7 @@ returns-clause-before c =
     let threads = c.paint_band.new.threads in
     let marks = c.paint_band.new.marks in
     rw (painted.stays.entries, painted.stays.heads, with_items_is c.self.inside.marks marks (omega (arith, painted.lengths, c.deref_mut.ensures.len)))
-    (painted_on c.args.sheets.now c.args.stored.now c.args.view c.args.b _ threads.links marks threads.carried threads.looks _ before painted.carried painted.marked painted.at_least painted.at_most (omega (arith, painted.work)) (omega (arith, painted.countable)))
+    (painted_on c.args.sheets.now c.args.stored.now c.args.view c.args.b _ threads.links marks threads.carried threads.looks _ before painted.carried painted.marked painted.at_least painted.at_most (omega (arith, painted.work)) (omega (arith, painted.shown)) (omega (arith, painted.countable)))
 
 pub returns-clause-at_least : goal.returns-clause-at_least
 returns-clause-at_least c =
@@ -41,3 +42,8 @@ pub returns-clause-work : goal.returns-clause-work
 returns-clause-work c =
     let before = rw (← c.self.view_is) at c.requires.before in
     rw (← c.self.view_is) (omega (arith, c.paint_band.ensures.work, work_count c.args.sheets.now c.args.stored.now c.args.view c.args.b c.self.inside.threads.entries before.label.spanned))
+
+pub returns-clause-shown : goal.returns-clause-shown
+returns-clause-shown c =
+    let before = rw (← c.self.view_is) at c.requires.before in
+    rw (← c.self.view_is) (omega (arith, c.paint_band.ensures.shown, seen_count c.args.sheets.now c.args.stored.now c.args.view c.args.b c.self.inside.threads.entries before.label.spanned))

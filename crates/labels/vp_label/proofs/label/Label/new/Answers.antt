@@ -20,4 +20,6 @@ returns-clause-stands c =
       sheets_are = refl;
       gathered = c.in_ok-new.ensures c.args.sheets;
       printing = λ some. none_printing c.args.sheets c.in_ok-new.field-0 [] _ (nothing_left (press_image c.args.sheets g.format.stored (view_of g.in_force.settings) p) p.copies.place c.in_ok-new-2.ensures.none) some;
+      at_most = omega (arith, c.in_ok-new-2.ensures.work);
+      at_least = λ none. omega arith;
     }

@@ -1,18 +1,20 @@
 use Rattle.std.proofs.Common.{◌≡◌, ◌<◌, ◌++◌, rules, ℕ, List, subst, ap, sym, ◌∙◌, length, take, drop, min}
-use Rattle.std.proofs.Common.{◌≤◌, arith, refl, inl, inr}
+use Rattle.std.proofs.Common.{◌≤◌, arith, refl, inl, inr, length-drop}
 use Rattle.std.proofs.lemmas.Bool.{cases_lt}
-use Rattle.vp_bands.specs.Meeting.{bands_of, copy_work, pairs}
+use Rattle.vp_bands.specs.Meeting.{bands_of, copy_work, pairs, shown_pairs}
 use Rattle.vp_bands.specs.Standing.{fields_of, IsBefore}
 use Rattle.vp_output.specs.Lines.{IsLineOf}
 use Rattle.vp_copies.specs.Copies.{copies_text}
 use Rattle.vp_label.proofs.Counts.{between_copies, same_image}
 use Rattle.vp_label.proofs.Presses.{is_within, most}
 use Rattle.vp_label.specs.Prints.{label_image, view_of}
-use Rattle.vp_label.specs.Standing.{bands, met, painting, IsPrinting, Printing}
+use Rattle.vp_label.specs.Standing.{bands, met, painting, shown, IsPrinting, Printing}
 use Rattle.vp_label.specs.declared.gathered.Gathered.{Gathered}
 use Rattle.vp_label.specs.Gathered.{Gathers}
 use Rattle.vp_label.proofs.Pending.{still_printing}
+use Rattle.vp_label.proofs.Work.{none_left, printing_most, printing_least}
 use Rattle.vp_label.specs.Press.{left, press_image, IsPress}
+use Rattle.vp_label.specs.declared.press.Press.{Press}
 use Rattle.vp_field.specs.declared.view.View.{View}
 use Rattle.vp_label.proofs.label.Label.put.Goals as goal
 
@@ -117,10 +119,58 @@ returns-clause-at_least c = λ out whole.
     ∙ ap met c.self.view_is in
     omega (arith, bound, e)
 
+pub returns-clause-shown : goal.returns-clause-shown
+returns-clause-shown c = λ out whole.
+    let j = c.self.inside in
+    let q = c.put.new.self in
+    let view = c.view_of-view.result in
+    let bytes = c.stored.result.now in
+    let p = c.put.ensures.press in
+    let some : 0 < j.press.copies.place.copies = search rules in
+    let fields : fields_of q.painter.entries ≡ j.gathered.format.fields = ap fields_of c.put.ensures.fields ∙ c.self.invariant.fields some in
+    let shows : press_image j.sheets bytes view q ≡ label_image c.args.self.now.sheets (view_of c.args.self.now.gathered.in_force.settings) c.args.self.now.gathered.format.stored c.args.self.now.gathered.format.fields =
+    same_image j.sheets c.args.self.now.sheets bytes c.args.self.now.gathered.format.stored view (view_of c.args.self.now.gathered.in_force.settings) (fields_of q.painter.entries) c.args.self.now.gathered.format.fields q.copies.width q.copies.height
+    (ap (λ (x : Printing). x.sheets) c.self.view_is)
+    (c.stored.ensures.bytes ∙ ap (λ (x : Printing). x.gathered.format.stored) c.self.view_is)
+    (c.view_of-view.ensures ∙ ap (λ (x : Printing). view_of x.gathered.in_force.settings) c.self.view_is)
+    (fields ∙ ap (λ (x : Printing). x.gathered.format.fields) c.self.view_is)
+    p.width p.height in
+    let left_is : left j.sheets bytes view q ≡ left j.sheets j.gathered.format.stored (view_of j.gathered.in_force.settings) q =
+    ap (λ s. left j.sheets s view q) c.stored.ensures.bytes ∙ ap (λ v. left j.sheets j.gathered.format.stored v q) c.view_of-view.ensures in
+    let count : length (left j.sheets bytes view q) ≡ length (copies_text (press_image j.sheets bytes view q) whole.0) =
+    ap length left_is ∙ whole.1 ∙ ap (λ i. length (copies_text i whole.0)) (sym shows) in
+    let before : IsBefore j.sheets bytes view (bands_of view) q.painter = elim (cases_lt 0 q.copies.place.copies) [
+      | inl more ↦ c.put.ensures.ended out (between_copies c.place_law.ensures (press_image j.sheets bytes view q) q.copies.place whole.0 (omega (arith, p.high, p.height)) p.place more count)
+      | inr none_left ↦ p.over (omega arith)
+    ] in
+    let bound = c.work_bounded.ensures.at_least j.sheets bytes view q.painter before in
+    let e : shown_pairs j.sheets bytes view (fields_of q.painter.entries) (bands_of view) ≡ shown c.args.self.now =
+    ap (λ xs. shown_pairs j.sheets bytes view (fields_of xs) (bands_of view)) c.put.ensures.fields ∙ ap (λ xs. shown_pairs j.sheets bytes view xs (bands_of view)) (c.self.invariant.fields some)
+    ∙ ap (λ s. shown_pairs j.sheets s view j.gathered.format.fields (bands_of view)) c.stored.ensures.bytes ∙ ap (λ (v : View). shown_pairs j.sheets j.gathered.format.stored v j.gathered.format.fields (bands_of v)) c.view_of-view.ensures
+    ∙ ap shown c.self.view_is in
+    omega (arith, bound, e)
+
 pub returns-clause-stands : goal.returns-clause-stands
 returns-clause-stands c = λ sheets before st. record {
   sheets_are = ap (λ (p : Printing). p.sheets) c.self.view_is ∙ st.sheets_are;
   gathered = subst (λ (g : Gathered). Gathers sheets g before) (sym (ap (λ (p : Printing). p.gathered) c.self.view_is)) st.gathered;
   printing = still_printing sheets c.self.inside.gathered before c.args.self.now.pending _ c.put.result (returns-clause-rest c)
       (subst (λ (g : Gathered). 0 < length c.args.self.now.pending → IsPrinting sheets g c.args.self.now.pending before) (sym (ap (λ (p : Printing). p.gathered) c.self.view_is)) st.printing);
+  at_most = elim (cases_lt 0 (length c.args.self.now.pending)) [
+    | inl some ↦ omega (arith, returns-clause-work c some, printing_most sheets c.args.self.now before st.sheets_are (st.printing some) some)
+    | inr none ↦ omega (arith, ap (λ (p : Press). p.painter.work) (c.put.ensures.idle (omega (arith, returns-clause-count c, none))), ap (λ (p : Printing). p.press.painter.work) c.self.view_is, st.at_most)
+  ];
+  at_least = λ gone. elim (cases_lt 0 (length c.args.self.now.pending)) [
+    | inl some ↦ omega (
+      arith,
+      returns-clause-shown c (omega (arith, ap length gone, ap length (returns-clause-rest c), length-drop c.put.result c.args.self.now.pending)) (0, ap length gone),
+      printing_least sheets c.args.self.now before st.sheets_are (st.printing some) some,
+    )
+    | inr none ↦ omega (
+      arith,
+      ap (λ (p : Press). p.painter.work) (c.put.ensures.idle (omega (arith, returns-clause-count c, none))),
+      ap (λ (p : Printing). p.press.painter.work) c.self.view_is,
+      st.at_least (none_left c.args.self.now.pending none),
+    )
+  ];
 }

@@ -1,4 +1,5 @@
-use Rattle.std.proofs.Common.{refl}
+use Rattle.std.proofs.Common.{refl, sym, ap, ◌∙◌}
+use Rattle.vp_engine.specs.Machines.{pending_of}
 use Rattle.vp_engine.proofs.Arms.{at_receipt, at_lines, at_label, at_label_lines}
 use Rattle.vp_engine.proofs.machine.Machine.work.Goals as goal
 
@@ -7,7 +8,8 @@ returns-in-Receipt-clause-bounds c = at_receipt _ _ _ _ c.in-Receipt.is (λ s t 
     (c.work.ensures.at_least s before at.1 paged, c.work.ensures.at_most s before at.1 paged))
 
 pub returns-in-Label-clause-bounds : goal.returns-in-Label-clause-bounds
-returns-in-Label-clause-bounds c = at_label _ _ _ _ c.in-Label.is (λ s t before at. tt)
+returns-in-Label-clause-bounds c = at_label _ _ _ _ c.in-Label.is (λ s t before at.
+    (c.work-in-Label.ensures.at_most s before at.1, λ none. c.work-in-Label.ensures.at_least s before at.1 (ap pending_of (sym c.in-Label.is) ∙ none)))
 
 pub returns-in-ReceiptLines-clause-bounds : goal.returns-in-ReceiptLines-clause-bounds
 returns-in-ReceiptLines-clause-bounds c = at_lines _ _ _ _ c.in-ReceiptLines.is (λ w t before at. refl)
