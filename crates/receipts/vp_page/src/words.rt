@@ -39,7 +39,7 @@ fn or_eight(word: u64, i: usize, row: &mut [u8])
 
 /// Blackens byte i of the row where the mask is black.
 #[inline(always)]
-fn or_byte(mask: u8, i: usize, row: &mut [u8])
+pub(crate) fn or_byte(mask: u8, i: usize, row: &mut [u8])
     requires { i < length row.old }
     ensures { Painted Black (λ d. d / 8 == i && bit mask (7 - d % 8)) row.old row.new }
 {
@@ -132,6 +132,17 @@ pub(crate) fn lay_words<A: Small>(
 {
     for i in 0..h {
         or_word(words[i], left, band.row_mut(top + i));
+    }
+}
+
+/// Blackens rows of the page, from one on, where the word, moved by an offset, is black.
+pub(crate) fn lay_word<A: Small>(word: u64, h: usize, left: i64, top: usize, band: &mut PageBand<A>)
+    requires { top + h ≤ PAGE_ROWS }
+    ensures { RowsPainted PAGE_ROWS Black
+        (λ x y. nat_le top y && (nat_lt (y - top) h && shifted left (word_dot word) x)) band.old band.new }
+{
+    for i in 0..h {
+        or_word(word, left, band.row_mut(top + i));
     }
 }
 
