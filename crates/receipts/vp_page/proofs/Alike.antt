@@ -2,6 +2,9 @@
 use Rattle.std.proofs.Common.{inl, inr, ◌≡◌, ℕ, ◌+◌, ◌-◌, ◌*◌, ◌/◌, ◌%◌, ◌<◌, ◌≤◌, Bool, true, false, not, cond, eqb, ltb, ◌&&◌, ◌||◌, refl, sym, ap, ◌∙◌, arith, List, [], length, get_or, replicate, eq-eqb, bit_and}
 use Rattle.std.specs.Int.RustNames.{bit_xor}
 use Rattle.std.specs.Int.{bit_at}
+use lib.Lanes.{zip2, chunk, put_chunk}
+use Rattle.std.proofs.lemmas.Simd.{get_or-zip2, get_or-chunk, length-zip2, length-chunk}
+use Rattle.std.proofs.lemmas.Bool.Decides.{nat_tests}
 use Rattle.std.proofs.lemmas.List.{get_or-replicate, length-replicate}
 use Rattle.std.proofs.lemmas.Bool.{cases_eq, cases_lt, lt-ltb, le-ltb, le-leb, ne_eqb, true≢false}
 use Rattle.vp_dots.specs.Dots.{bit, dot, span}
@@ -9,6 +12,7 @@ use Rattle.vp_dots.specs.Words.{word_dot}
 use Rattle.vp_dots.specs.Painting.{Painted}
 use Rattle.vp_dots.specs.declared.Op.TheVariants.{White}
 use Rattle.vp_dots.proofs.Bits.{bit_of_xor}
+use Rattle.vp_dots.proofs.Blocks.{painted_block}
 use Rattle.vp_dots.proofs.Columns.{white_dot}
 use Rattle.vp_dots.proofs.Rows.{dot_at}
 use Rattle.vp_dots.proofs.Spans.{bit_of_and}
@@ -108,6 +112,38 @@ kept_dot true true = refl
 kept_dot true false = refl
 kept_dot false true = refl
 kept_dot false false = refl
+
+module _ (kept row : List ℕ) (i n : ℕ) (there : i + n ≤ length kept) (room : i + n ≤ length row) where
+  kept_lane : (j k : ℕ) → j < n → k < 8 → bit (get_or (zip2 bit_and (chunk i n row) (chunk i n kept)) j 0) k ≡ cond (not (dot kept (8 * (i + j) + (7 - k)))) false (bit (get_or row (i + j) 0) k)
+  kept_lane j k m h =
+      ap (λ x. bit x k) (get_or-zip2 bit_and (chunk i n row) (chunk i n kept) j 0 0 0 (omega (arith, length-chunk i n row room)) (omega (arith, length-chunk i n kept there))
+      ∙ ap (λ x. bit_and x (get_or (chunk i n kept) j 0)) (get_or-chunk i n row j 0 m) ∙ ap (bit_and (get_or row (i + j) 0)) (get_or-chunk i n kept j 0 m))
+      ∙ bit_of_and (get_or row (i + j) 0) (get_or kept (i + j) 0) k
+      ∙ ap (λ b. bit (get_or row (i + j) 0) k && b) (sym (dot_at kept (i + j) k h))
+      ∙ kept_dot (bit (get_or row (i + j) 0) k) (dot kept (8 * (i + j) + (7 - k)))
+
+  -- some bytes of a row, of which the kept dots stay
+  pub kept_bytes : Painted White (λ d. span i (i + n) (d / 8) && not (dot kept d)) row (put_chunk i row (zip2 bit_and (chunk i n row) (chunk i n kept)))
+  kept_bytes = painted_block White (λ d. not (dot kept d)) i n row _
+      (length-zip2 bit_and (chunk i n row) (chunk i n kept) (length-chunk i n row room ∙ sym (length-chunk i n kept there)) ∙ length-chunk i n row room) room (λ j m k h. kept_lane j k m h)
+
+-- sixteen more bytes
+pub kept_more : (k d : ℕ) (b : Bool) → (ltb (d / 8) (16 * (k + 1)) && b) ≡ ((ltb (d / 8) (16 * k) && b) || (span (16 * k) (16 * k + 16) (d / 8) && b))
+kept_more k d true = grind (arith, nat_tests)
+kept_more k d false = grind (arith, nat_tests)
+
+-- some bytes behind the ones before them
+pub kept_apart : (i n d : ℕ) (b : Bool) → ((ltb (d / 8) i && b) && (span i (i + n) (d / 8) && b)) ≡ false
+kept_apart i n d true = grind (arith, nat_tests)
+kept_apart i n d false = grind (arith, nat_tests)
+
+-- the last eight
+pub kept_last : (d : ℕ) (b : Bool) → d < 576 → b ≡ ((ltb (d / 8) 64 && b) || (span 64 72 (d / 8) && b))
+kept_last d true h = grind (arith, nat_tests)
+kept_last d false h = grind (arith, nat_tests)
+
+pub none_kept : (d : ℕ) (b : Bool) → (ltb (d / 8) (16 * 0) && b) ≡ false
+none_kept d b = grind (arith, nat_tests)
 
 black_row : (n x : ℕ) → x / 8 < n → dot (replicate n 255) x ≡ true
 unfolding dot bit

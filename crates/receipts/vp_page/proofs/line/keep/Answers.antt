@@ -1,22 +1,21 @@
-use Rattle.std.proofs.Common.{◌+◌, ◌-◌, ◌*◌, ◌&&◌, ◌∙◌, not, sym, ap, arith, get_or}
-use Rattle.vp_dots.specs.Dots.{bit, dot}
+use Rattle.std.proofs.Common.{◌≡◌, ◌*◌, not, arith}
+use Rattle.vp_dots.specs.Dots.{dot}
 use Rattle.vp_dots.specs.declared.Op.TheVariants.{White}
-use Rattle.vp_dots.proofs.Paints.{bytes_init, bytes_more, bytes_all}
-use Rattle.vp_dots.proofs.Rows.{dot_at}
-use Rattle.vp_dots.proofs.Spans.{bit_of_and}
-use Rattle.vp_page.proofs.Alike.{kept_dot}
+use Rattle.vp_dots.proofs.Paints.{painted_none, painted_then}
+use Rattle.vp_page.proofs.Alike.{kept_more, kept_apart, kept_last, none_kept}
 use Rattle.vp_page.proofs.line.keep.Goals as goal
 
-pub loop-i-init : goal.loop-i-init
-loop-i-init c = bytes_init White (λ d. not (dot c.args.kept.now d)) c.args.row.now
+pub loop-k-init : goal.loop-k-init
+loop-k-init c = painted_none White _ c.args.row.now (λ d l. none_kept d (not (dot c.args.kept.now d)))
 
-pub loop-i-preserved : goal.loop-i-preserved
-loop-i-preserved c =
-    let i = c.loop-i.i in
-    let kept = c.args.kept.now in
-    let row = c.loop-i.row in
-    bytes_more White (λ d. not (dot kept d)) i _ c.args.row.now row (omega (arith, c.loop-i.invariant.length_is, c.requires)) c.loop-i.invariant
-    (λ k h. bit_of_and (get_or row i 0) (get_or kept i 0) k ∙ ap (λ b. bit (get_or row i 0) k && b) (sym (dot_at kept i k h)) ∙ kept_dot (bit (get_or row i 0) k) (dot kept (8 * i + (7 - k))))
+pub loop-k-preserved : goal.loop-k-preserved
+loop-k-preserved c = painted_then White _ _ _ _ _ _ c.loop-k.invariant c.keep_sixteen.ensures
+    (λ d l. kept_more c.loop-k.k d (not (dot c.args.kept.now d)))
+    (λ d l. kept_apart (16 * c.loop-k.k) 16 d (not (dot c.args.kept.now d)))
 
 pub returns : goal.returns
-returns c = bytes_all White (λ d. not (dot c.args.kept.now d)) c.loop-i.i _ _ (omega (arith, c.requires)) c.loop-i.invariant
+returns c =
+    let all : 16 * c.loop-k.k ≡ 64 = omega arith in
+    painted_then White _ _ _ _ _ _ (rw all at c.loop-k.invariant) c.keep_eight.ensures
+    (λ d l. kept_last d (not (dot c.args.kept.now d)) (omega (arith, c.requires)))
+    (λ d l. kept_apart 64 8 d (not (dot c.args.kept.now d)))
