@@ -12,8 +12,8 @@ ghost use Rattle.vp_page.specs.declared.page.TheConstants.{PAGE_ROWS};
 
 use crate::Area;
 use crate::line::{LINE_BYTES, LINE_DOTS, start_of};
-use crate::page::{PAGE_ROWS, PageBand};
-use crate::words::{lay_halves, lay_word, lay_words, or_byte};
+use crate::page::{PAGE_ROWS, PAPER_BYTES, PageBand};
+use crate::words::{lay_halves, lay_word, lay_word_inside, lay_words, or_byte};
 use vp_dots::{SIDE, Small, dot_of, eight_at, first_dots, turned_square, word_at};
 
 /// How many lines are laid at once.
@@ -22,6 +22,9 @@ pub const AT_ONCE: usize = SIDE;
 /// How many lines are few: of so many, two squares are turned as one, the dots of the second below those of
 /// the first.
 const FEW: usize = SIDE / 2;
+
+/// The columns before which 64 may end for which sixteen bytes have room.
+const MOST_RIGHT: u32 = 8 * (PAPER_BYTES as u32 - 16) + 64;
 
 /// The 64 dots of a line from one on, which mostly are whole bytes of it.
 #[inline(always)]
@@ -211,6 +214,10 @@ fn lay_column_down<A: Small>(
     ensures { RowsPainted PAGE_ROWS Black (λ x y. nat_le top y && (nat_lt (y - top) rows && (nat_lt x right
         && (nat_lt (right - 1 - x) 64 && word_dot column (63 - (right - 1 - x)))))) band.old band.new }
 {
+    if right >= 64 && right <= MOST_RIGHT {
+        lay_word_inside(column, rows, u64::from(right) - 64, top, band);
+        return;
+    }
     lay_word(column, rows, start_of(right, 8), top, band);
 }
 
@@ -286,6 +293,10 @@ fn lay_column_up<A: Small>(
     ensures { RowsPainted PAGE_ROWS Black (λ x y. nat_lt y below && (nat_lt (below - 1 - y) rows
         && (nat_le left x && word_dot column (x - left)))) band.old band.new }
 {
+    if left <= MOST_RIGHT - 64 {
+        lay_word_inside(column, rows, u64::from(left), below - rows, band);
+        return;
+    }
     lay_word(column, rows, i64::from(left), below - rows, band);
 }
 
