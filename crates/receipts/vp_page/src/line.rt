@@ -1,5 +1,5 @@
 //! One row of dots, laid along a row of a page or across its rows, and a box made white.
-ghost use Rattle.std.specs.Prelude.{◌≡◌, ℕ, ◌+◌, ◌-◌, ◌*◌, ◌≤◌, ◌^◌, ◌&&◌, nat_eq, nat_lt, nat_le, ◌<◌, ◌%◌, [], ◌∷◌, length, slice_index_or, pos, ◌+ℤ◌};
+ghost use Rattle.std.specs.Prelude.{◌≡◌, ℕ, ◌+◌, ◌-◌, ◌*◌, ◌/◌, ◌≤◌, ◌^◌, ◌&&◌, not, nat_eq, nat_lt, nat_le, ◌<◌, ◌%◌, [], ◌∷◌, length, slice_index_or, pos, ◌+ℤ◌};
 ghost use Rattle.vp_page.specs.declared.line.TheConstants.{LINE_BYTES, LINE_DOTS};
 ghost use Rattle.vp_page.specs.declared.page.TheConstants.{PAGE_ROWS, PAPER_BYTES};
 ghost use Rattle.vp_dots.specs.Dots.{bit, dot, dots, shifted, span};
@@ -12,6 +12,7 @@ use crate::Area;
 use crate::page::{PAGE_ROWS, PAPER_BYTES, PageBand};
 use crate::white::Rows;
 use crate::words::{or_line, or_reversed};
+use std::simd::{u8x8, u8x16};
 use vp_dots::{Ink, Op, Small, copy_reversed, fill_dots};
 
 /// The bytes of the longest line of a page: one across its rows.
@@ -301,17 +302,60 @@ pub(crate) fn lay_up<A: Small>(row: &[u8], area: Area, x: usize, band: &mut Page
     lay_across(line, start_of(below, row.len()), x, band);
 }
 
+/// A row of the page that is black but where an area is.
+fn kept_by(area: Area) -> [u8; PAPER_BYTES]
+    ensures { (x : ℕ) → x < 8 * PAPER_BYTES → dot result x ≡ not (span area.x (area.x + area.dx) x) }
+{
+    let mut kept = [255; PAPER_BYTES];
+    let right = area.x as u64 + area.dx as u64;
+    fill_dots(Op::White, area.x as u64, right, &mut kept);
+    kept
+}
+
+/// Makes the dots of sixteen bytes of a row, from byte i on, white where the kept ones are.
+#[inline(always)]
+fn keep_sixteen(kept: &[u8], i: usize, row: &mut [u8])
+    requires kept { i + 16 ≤ length kept.now }
+    requires row { i + 16 ≤ length row.old }
+    ensures { Painted White (λ d. span i (i + 16) (d / 8) && not (dot kept.now d)) row.old row.new }
+{
+    let new = u8x16::from_slice(&row[i..]) & u8x16::from_slice(&kept[i..]);
+    new.copy_to_slice(&mut row[i..]);
+}
+
+/// Makes the dots of eight bytes of a row, from byte i on, white where the kept ones are.
+#[inline(always)]
+fn keep_eight(kept: &[u8], i: usize, row: &mut [u8])
+    requires kept { i + 8 ≤ length kept.now }
+    requires row { i + 8 ≤ length row.old }
+    ensures { Painted White (λ d. span i (i + 8) (d / 8) && not (dot kept.now d)) row.old row.new }
+{
+    let new = u8x8::from_slice(&row[i..]) & u8x8::from_slice(&kept[i..]);
+    new.copy_to_slice(&mut row[i..]);
+}
+
+/// Makes the dots of a row of the page white where the kept ones are.
+#[inline(always)]
+fn keep(kept: &[u8; PAPER_BYTES], row: &mut [u8])
+    requires { length row.old ≡ PAPER_BYTES }
+    ensures { Painted White (λ d. not (dot kept.now d)) row.old row.new }
+{
+    for k in 0..4usize {
+        keep_sixteen(kept, 16 * k, row);
+    }
+    keep_eight(kept, PAPER_BYTES - 8, row);
+}
+
 /// Makes the places of an area white that lie on some rows.
 pub(crate) fn whiten<A: Small>(area: Area, rows: Rows, band: &mut PageBand<A>)
     requires { rows.to ≤ PAGE_ROWS }
     ensures { RowsPainted PAGE_ROWS White (λ x k. span rows.from rows.to k && holds area x k)
         band.old band.new }
 {
-    let left = u64::from(area.x);
-    let right = left + u64::from(area.dx);
+    let kept = kept_by(area);
     let top = rows.from.max(area.y as usize);
     let below = rows.to.min(area.y as usize + area.dy as usize);
     for i in 0..below.saturating_sub(top) {
-        fill_dots(Op::White, left, right, band.row_mut(top + i));
+        keep(&kept, band.row_mut(top + i));
     }
 }

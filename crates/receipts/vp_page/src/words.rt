@@ -1,7 +1,7 @@
 //! Rows of the page blackened 64 dots at once: by a word at any place, and by a line that stands on whole
 //! bytes, as it is or turned end for end.
 ghost use Rattle.std.specs.Prelude.{◌≡◌, ℕ, ◌+◌, ◌-◌, ◌*◌, ◌/◌, ◌%◌, ◌<◌, ◌≤◌, ◌==◌, ◌&&◌, ◌^◌, false, nat_lt, nat_le, length, slice_index, bit_and, bit_or};
-ghost use Rattle.vp_dots.specs.Dots.{bit, dot, dots, shifted};
+ghost use Rattle.vp_dots.specs.Dots.{bit, dot, dots, shifted, span};
 ghost use Rattle.vp_dots.specs.Words.{word_dot};
 ghost use Rattle.vp_dots.specs.Painting.{Painted};
 ghost use Rattle.vp_dots.specs.Places.{words_dot, RowsPainted};
@@ -39,7 +39,7 @@ fn or_eight(word: u64, i: usize, row: &mut [u8])
 
 /// Blackens byte i of the row where the mask is black.
 #[inline(always)]
-fn or_byte(mask: u8, i: usize, row: &mut [u8])
+pub(crate) fn or_byte(mask: u8, i: usize, row: &mut [u8])
     requires { i < length row.old }
     ensures { Painted Black (λ d. d / 8 == i && bit mask (7 - d % 8)) row.old row.new }
 {
@@ -132,6 +132,59 @@ pub(crate) fn lay_words<A: Small>(
 {
     for i in 0..h {
         or_word(words[i], left, band.row_mut(top + i));
+    }
+}
+
+/// Sixteen bytes that are black where a word is that moves s dots to the right.
+fn moved_bytes(word: u64, s: u64) -> [u8; 16]
+    requires { s < 8 }
+    ensures { (d : ℕ) → d < 128 → dot result d ≡ (nat_le s d && word_dot word (d - s)) }
+{
+    let mut bytes = [0; 16];
+    or_inside(word, s, &mut bytes);
+    bytes
+}
+
+/// Blackens sixteen bytes of the row, from byte i on, where the bytes are black.
+#[inline(always)]
+fn or_sixteen(bytes: &[u8], i: usize, row: &mut [u8])
+    requires bytes { 16 ≤ length bytes.now }
+    requires row { i + 16 ≤ length row.old }
+    ensures { Painted Black (λ d. span i (i + 16) (d / 8) && dot bytes.now (d - 8 * i)) row.old row.new }
+{
+    let new = u8x16::from_slice(&row[i..]) | u8x16::from_slice(bytes);
+    new.copy_to_slice(&mut row[i..]);
+}
+
+/// Blackens rows of the page, from one on, where dot x - far of the word is black: sixteen bytes have room for
+/// it.
+pub(crate) fn lay_word_inside<A: Small>(
+    word: u64,
+    h: usize,
+    far: u64,
+    top: usize,
+    band: &mut PageBand<A>,
+)
+    requires inside { far / 8 + 16 ≤ PAPER_BYTES }
+    requires room { top + h ≤ PAGE_ROWS }
+    ensures { RowsPainted PAGE_ROWS Black (λ x y. nat_le top y && (nat_lt (y - top) h && (nat_le far x
+        && word_dot word (x - far)))) band.old band.new }
+{
+    let bytes = moved_bytes(word, far % 8);
+    let at = (far / 8) as usize;
+    for i in 0..h {
+        or_sixteen(&bytes, at, band.row_mut(top + i));
+    }
+}
+
+/// Blackens rows of the page, from one on, where the word, moved by an offset, is black.
+pub(crate) fn lay_word<A: Small>(word: u64, h: usize, left: i64, top: usize, band: &mut PageBand<A>)
+    requires { top + h ≤ PAGE_ROWS }
+    ensures { RowsPainted PAGE_ROWS Black
+        (λ x y. nat_le top y && (nat_lt (y - top) h && shifted left (word_dot word) x)) band.old band.new }
+{
+    for i in 0..h {
+        or_word(word, left, band.row_mut(top + i));
     }
 }
 

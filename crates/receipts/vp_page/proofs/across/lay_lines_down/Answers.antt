@@ -2,8 +2,10 @@ use Rattle.std.proofs.Common.{◌≡◌, ℕ, ◌≤◌, ◌+◌, ◌-◌, ◌*�
 use Rattle.vp_dots.specs.declared.Op.TheVariants.{Black}
 use Rattle.vp_page.specs.Lines.{line_dot}
 use Rattle.vp_page.proofs.Rows.{rows_same, rows_then}
-use Rattle.vp_page.proofs.Squares.{and_false, nothing_painted, down_none, more_down, down_all}
+use Rattle.vp_page.proofs.Squares.{and_false, nothing_painted, in_rows, down_none, more_down, down_all}
+use Rattle.vp_page.proofs.Alike.{column_back_dot}
 use Rattle.vp_page.proofs.across.lay_lines_down.Goals as goal
+use Rattle.vp_page.proofs.across.lay_lines_down.Goals.{then-are_white, else-are_white}
 
 pub loop-k-init : goal.loop-k-init
 loop-k-init g c = nothing_painted _ c.args.band.now (λ x y h. down_none c.args.area.y _ y _ (omega arith))
@@ -18,8 +20,14 @@ loop-k-preserved g c =
     let here : min (64 * c.loop-k.k) end ≡ from = omega arith in
     let next : min (64 * (c.loop-k.k + 1)) end ≡ from + n = omega arith in
     let dots = λ (x k : ℕ). ltb x c.args.right && line_dot c.args.lines.now (c.args.right - 1 - x) k in
-    rw next (rows_then _ _ _ _ _ _ (λ x y. more_down (dots x) (dots x) (λ k. dots x (from + k)) top from n y (λ k h. refl) (λ k h. refl))
-    (rw here at c.loop-k.invariant) c.lay_square_down.ensures)
+    let more = λ (x y : ℕ). more_down (dots x) (dots x) (λ k. dots x (from + k)) top from n y (λ k h. refl) (λ k h. refl) in
+    rw next (elim c.if-are_white.branch [
+      | then-are_white w ↦ rw w.band-is (rows_then _ _ _ _ _ _ more (rw here at c.loop-k.invariant)
+          (rows_same Black _ _ _ _ (λ x y _. in_rows (top + from) n y _ _ (λ h. let white = c.are_white.ensures w.if-are_white.true (y - (top + from)) h in
+          ap (λ b. ltb x c.args.right && b) (column_back_dot c.args.lines.now c.column_back-column.result (c.args.right - 1 - x) (from + (y - (top + from))) _ c.requires.few
+          (λ l. c.unlike_at-unlike.ensures (c.args.right - 1 - x) (from + (y - (top + from))) l white.0 white.1) c.column_back-column.ensures))) w.lay_column_down.ensures))
+      | else-are_white w ↦ rw w.band-is (rows_then _ _ _ _ _ _ more (rw here at c.loop-k.invariant) w.lay_square_down.ensures)
+    ])
 
 pub returns : goal.returns
 returns g c = rows_same Black _ _ _ _ (λ x y h. down_all c.args.area.y c.args.area.dy c.args.long _ y _ (omega arith) h

@@ -1,0 +1,168 @@
+-- Lines that are alike along some dots, and the rows of the page that are.
+use Rattle.std.proofs.Common.{inl, inr, ◌≡◌, ℕ, ◌+◌, ◌-◌, ◌*◌, ◌/◌, ◌%◌, ◌<◌, ◌≤◌, Bool, true, false, not, cond, eqb, ltb, ◌&&◌, ◌||◌, refl, sym, ap, ◌∙◌, arith, List, [], length, get_or, replicate, eq-eqb, bit_and}
+use Rattle.std.specs.Int.RustNames.{bit_xor}
+use Rattle.std.specs.Int.{bit_at}
+use lib.Lanes.{zip2, chunk, put_chunk}
+use Rattle.std.proofs.lemmas.Simd.{get_or-zip2, get_or-chunk, length-zip2, length-chunk}
+use Rattle.std.proofs.lemmas.Bool.Decides.{nat_tests}
+use Rattle.std.proofs.lemmas.List.{get_or-replicate, length-replicate}
+use Rattle.std.proofs.lemmas.Bool.{cases_eq, cases_lt, lt-ltb, le-ltb, le-leb, ne_eqb, true≢false}
+use Rattle.vp_dots.specs.Dots.{bit, dot, span}
+use Rattle.vp_dots.specs.Words.{word_dot}
+use Rattle.vp_dots.specs.Painting.{Painted}
+use Rattle.vp_dots.specs.declared.Op.TheVariants.{White}
+use Rattle.vp_dots.proofs.Bits.{bit_of_xor}
+use Rattle.vp_dots.proofs.Blocks.{painted_block}
+use Rattle.vp_dots.proofs.Columns.{white_dot}
+use Rattle.vp_dots.proofs.Rows.{dot_at}
+use Rattle.vp_dots.proofs.Spans.{bit_of_and}
+use Rattle.vp_dots.proofs.Swaps.{every_at}
+use Rattle.vp_dots.proofs.Words.{and_true}
+use Rattle.vp_page.specs.Areas.{holds}
+use Rattle.vp_page.specs.Lines.{line_dot}
+use Rattle.vp_page.specs.declared.area.Area.{Area}
+use Rattle.vp_page.proofs.Squares.{and_false, no_line}
+
+or_false : (b : Bool) → b ≡ (b || false)
+or_false true = refl
+or_false false = refl
+
+-- the dots of a line that aren't of a colour, of one more byte
+pub unlike_more : (line : List ℕ) (colour j d : ℕ) (black : Bool) → ((k : ℕ) → k < 8 → bit colour k ≡ black)
+    → (ltb (d / 8) (j + 1) && cond black (not (dot line d)) (dot line d))
+    ≡ ((ltb (d / 8) j && cond black (not (dot line d)) (dot line d)) || (eqb (d / 8) j && bit (bit_xor (get_or line j 0) colour) (7 - d % 8)))
+unlike_more line colour j d black is = elim (cases_lt (d / 8) j) [
+  | inl l ↦ rw (lt-ltb (d / 8) (j + 1) (omega arith), lt-ltb (d / 8) j l, ne_eqb (d / 8) j (λ e. omega arith)) (or_false _)
+  | inr g ↦ elim (cases_eq (d / 8) j) [
+    | inl e ↦
+        let k = 7 - d % 8 in
+        let small : k < 8 = omega arith in
+        let place : d ≡ 8 * j + (7 - k) = omega (arith, e) in
+        let here : dot line d ≡ bit (get_or line j 0) k = ap (dot line) place ∙ dot_at line j k small in
+        rw (lt-ltb (d / 8) (j + 1) (omega arith), le-ltb (d / 8) j g, eq-eqb (d / 8) j e) (ap (λ b. cond black (not b) b) here
+        ∙ sym (ap (λ b. cond b (not (bit (get_or line j 0) k)) (bit (get_or line j 0) k)) (is k small)) ∙ sym (bit_of_xor (get_or line j 0) colour k))
+    | inr n ↦ rw (le-ltb (d / 8) (j + 1) (omega (arith, n)), le-ltb (d / 8) j g, ne_eqb (d / 8) j n) refl
+  ]
+]
+
+pub unlike_apart : (j d : ℕ) (f b : Bool) → ((ltb (d / 8) j && f) && (eqb (d / 8) j && b)) ≡ false
+unlike_apart j d f b = elim (cases_lt (d / 8) j) [
+  | inl l ↦ rw (ne_eqb (d / 8) j (λ e. omega arith)) (and_false _)
+  | inr g ↦ rw (le-ltb (d / 8) j g) refl
+]
+
+-- what was painted black nowhere
+pub black_none : (a b : Bool) → cond a true b ≡ false → (a ≡ false) × (b ≡ false)
+black_none true b e = absurd (true≢false e)
+black_none false b e = (refl, e)
+
+of_colour : (black d : Bool) → cond black (not d) d ≡ false → d ≡ black
+of_colour true true e = refl
+of_colour true false e = cc
+of_colour false true e = cc
+of_colour false false e = refl
+
+-- a line that isn't unlike
+pub alike_dot : (lines : List (List ℕ)) (i u at : ℕ) (black : Bool) → u < 1664 → at < 1664 → black ≡ dot (get_or lines i []) at
+    → cond black (not (dot (get_or lines i []) u)) (dot (get_or lines i []) u) ≡ false → line_dot lines i u ≡ line_dot lines i at
+alike_dot lines i u at black h k is e = rw (lt-ltb u 1664 h, lt-ltb at 1664 k) (of_colour black (dot (get_or lines i []) u) e ∙ is)
+
+-- dots that a word and its mask have in common
+both_dot : (w m k : ℕ) → k < 64 → word_dot (bit_and w m) k ≡ (word_dot w k && word_dot m k)
+both_dot w m k h = rw (lt-ltb k 64 h) (bit_of_and w m (63 - k))
+
+pub none_black : (line : List ℕ) (w m dots from k : ℕ) → bit_and w m ≡ 0 → ((x : ℕ) → word_dot m x ≡ ltb x dots)
+    → ((x : ℕ) → x < 64 → word_dot w x ≡ (ltb (from + x) 1664 && dot line (from + x))) → k < 64 → k < dots → from + k < 1664 → dot line (from + k) ≡ false
+none_black line w m dots from k e p q h l r =
+    let here : word_dot w k ≡ dot line (from + k) = q k h ∙ ap (λ b. b && dot line (from + k)) (lt-ltb (from + k) 1664 r) in
+    let masked : word_dot m k ≡ true = p k ∙ lt-ltb k dots l in
+    sym here ∙ sym (and_true (word_dot w k)) ∙ sym (ap (λ b. word_dot w k && b) masked) ∙ sym (both_dot w m k h) ∙ ap (λ n. word_dot n k) e ∙ white_dot k
+
+module _ (lines : List (List ℕ)) (column i u at : ℕ) (few : length lines ≤ 64) (same : i < length lines → line_dot lines i u ≡ line_dot lines i at) where
+  there : line_dot lines i at ≡ line_dot lines i u
+  there = elim (cases_lt i (length lines)) [
+    | inl l ↦ sym (same l)
+    | inr g ↦ no_line lines i at g ∙ sym (no_line lines i u g)
+  ]
+
+  -- a column of which the first line's dot comes first
+  pub column_dot : ((j : ℕ) → j < 64 → word_dot column j ≡ line_dot lines j at) → word_dot column i ≡ line_dot lines i u
+  column_dot q = elim (cases_lt i 64) [
+    | inl m ↦ q i m ∙ there
+    | inr o ↦ rw (le-ltb i 64 o) (sym (no_line lines i u (omega (arith, few))))
+  ]
+
+  -- and of which it comes last
+  pub column_back_dot : ((j : ℕ) → j < 64 → word_dot column j ≡ line_dot lines (63 - j) at) → (ltb i 64 && word_dot column (63 - i)) ≡ line_dot lines i u
+  column_back_dot q = elim (cases_lt i 64) [
+    | inl m ↦ rw (lt-ltb i 64 m) (q (63 - i) (omega arith) ∙ ap (λ j. line_dot lines j at) (let e : 63 - (63 - i) ≡ i = omega arith in e) ∙ there)
+    | inr o ↦ rw (le-ltb i 64 o) (sym (no_line lines i u (omega (arith, few))))
+  ]
+
+-- the same rows, counted from the lowest up, with dots that are the same there
+pub in_rows_up : (below rows y : ℕ) (a b : Bool) → (below - 1 - y < rows → a ≡ b) → (ltb y below && (ltb (below - 1 - y) rows && a)) ≡ (ltb y below && (ltb (below - 1 - y) rows && b))
+in_rows_up below rows y a b e = ap (λ t. ltb y below && t) (elim (cases_lt (below - 1 - y) rows) [
+  | inl l ↦ ap (λ t. ltb (below - 1 - y) rows && t) (e l)
+  | inr g ↦ rw (le-ltb (below - 1 - y) rows g) refl
+])
+
+-- a dot that is kept
+pub kept_dot : (a k : Bool) → (a && k) ≡ cond (not k) false a
+kept_dot true true = refl
+kept_dot true false = refl
+kept_dot false true = refl
+kept_dot false false = refl
+
+module _ (kept row : List ℕ) (i n : ℕ) (there : i + n ≤ length kept) (room : i + n ≤ length row) where
+  kept_lane : (j k : ℕ) → j < n → k < 8 → bit (get_or (zip2 bit_and (chunk i n row) (chunk i n kept)) j 0) k ≡ cond (not (dot kept (8 * (i + j) + (7 - k)))) false (bit (get_or row (i + j) 0) k)
+  kept_lane j k m h =
+      ap (λ x. bit x k) (get_or-zip2 bit_and (chunk i n row) (chunk i n kept) j 0 0 0 (omega (arith, length-chunk i n row room)) (omega (arith, length-chunk i n kept there))
+      ∙ ap (λ x. bit_and x (get_or (chunk i n kept) j 0)) (get_or-chunk i n row j 0 m) ∙ ap (bit_and (get_or row (i + j) 0)) (get_or-chunk i n kept j 0 m))
+      ∙ bit_of_and (get_or row (i + j) 0) (get_or kept (i + j) 0) k
+      ∙ ap (λ b. bit (get_or row (i + j) 0) k && b) (sym (dot_at kept (i + j) k h))
+      ∙ kept_dot (bit (get_or row (i + j) 0) k) (dot kept (8 * (i + j) + (7 - k)))
+
+  -- some bytes of a row, of which the kept dots stay
+  pub kept_bytes : Painted White (λ d. span i (i + n) (d / 8) && not (dot kept d)) row (put_chunk i row (zip2 bit_and (chunk i n row) (chunk i n kept)))
+  kept_bytes = painted_block White (λ d. not (dot kept d)) i n row _
+      (length-zip2 bit_and (chunk i n row) (chunk i n kept) (length-chunk i n row room ∙ sym (length-chunk i n kept there)) ∙ length-chunk i n row room) room (λ j m k h. kept_lane j k m h)
+
+-- sixteen more bytes
+pub kept_more : (k d : ℕ) (b : Bool) → (ltb (d / 8) (16 * (k + 1)) && b) ≡ ((ltb (d / 8) (16 * k) && b) || (span (16 * k) (16 * k + 16) (d / 8) && b))
+kept_more k d true = grind (arith, nat_tests)
+kept_more k d false = grind (arith, nat_tests)
+
+-- some bytes behind the ones before them
+pub kept_apart : (i n d : ℕ) (b : Bool) → ((ltb (d / 8) i && b) && (span i (i + n) (d / 8) && b)) ≡ false
+kept_apart i n d true = grind (arith, nat_tests)
+kept_apart i n d false = grind (arith, nat_tests)
+
+-- the last eight
+pub kept_last : (d : ℕ) (b : Bool) → d < 576 → b ≡ ((ltb (d / 8) 64 && b) || (span 64 72 (d / 8) && b))
+kept_last d true h = grind (arith, nat_tests)
+kept_last d false h = grind (arith, nat_tests)
+
+pub none_kept : (d : ℕ) (b : Bool) → (ltb (d / 8) (16 * 0) && b) ≡ false
+none_kept d b = grind (arith, nat_tests)
+
+black_row : (n x : ℕ) → x / 8 < n → dot (replicate n 255) x ≡ true
+unfolding dot bit
+black_row n x h = rw (get_or-replicate {A = ℕ} n (x / 8) 255 0 h) (every_at 8 (λ k. eqb (bit_at 255 k) 1) refl (7 - x % 8) (omega arith))
+
+whitened : (s : Bool) → cond s false true ≡ not s
+whitened true = refl
+whitened false = refl
+
+-- a black row that is made white along an area
+pub kept_row : (from to x : ℕ) (new : List ℕ) → Painted White (span from to) (replicate 72 255) new → x < 576 → dot new x ≡ not (span from to x)
+kept_row from to x new p h = p.dots_are x (omega (arith, length-replicate {A = ℕ} 72 255)) ∙ ap (λ b. cond (span from to x) false b) (black_row 72 x (omega arith)) ∙ whitened (span from to x)
+
+not_not : (b : Bool) → not (not b) ≡ b
+not_not true = refl
+not_not false = refl
+
+-- and what is not kept of a row that an area has
+pub wiped_dot : (a : Area) (from to x y : ℕ) (k : Bool) → k ≡ not (span a.x (a.x + a.dx) x) → from ≤ y → y < to → a.y ≤ y → y < a.y + a.dy
+    → not k ≡ (span from to y && holds a x y)
+wiped_dot a from to x y k e p q r s = rw (le-leb from y p, lt-ltb y to q, le-leb a.y y r, lt-ltb y (a.y + a.dy) s)
+    (ap not e ∙ not_not (span a.x (a.x + a.dx) x) ∙ sym (and_true (span a.x (a.x + a.dx) x)))
