@@ -1,6 +1,5 @@
 -- Characters drawn from the dots of their rows.
-use Rattle.std.proofs.Common.{mul_comm, Bool, List, Option, ap, arith, false, inl, inr, leb, ltb, refl, ℕ, ℤ, ◌&&◌, ◌*◌, ◌-◌, ◌/◌, ◌<◌, ◌∙◌, ◌≡◌, ◌≤◌}
-use Rattle.std.proofs.Math.Nat.{mul-div-mul_left}
+use Rattle.std.proofs.Common.{Bool, List, Option, arith, false, inl, inr, leb, refl, ℕ, ℤ, ◌&&◌, ◌*◌, ◌-◌, ◌/◌, ◌<◌, ◌≡◌, ◌≤◌}
 use Rattle.std.proofs.lemmas.Bool.{cases_Bool, cases_lt, le-ltb, lt-ltb, le-leb}
 use Rattle.std.proofs.lemmas.Bool.Decides.{nat_tests}
 use Rattle.vp_dots.specs.Dots.{shifted}
@@ -50,11 +49,3 @@ sampled_narrow op at sheet c w h y row e = moved_none op at (λ x. sampled_dot s
 -- from place 0 on
 pub sampled_first : (op : Op) (at : ℤ) (sheet : Option Glyphs) (c w h y : ℕ) (a b : List ℕ) → Painted op (shifted at (λ x. leb 0 x && sampled_dot sheet c w h (x - 0) y)) a b → Painted op (shifted at (λ x. sampled_dot sheet c w h x y)) a b
 sampled_first op at sheet c w h y a b p = moved_same op at (λ x. leb 0 x && sampled_dot sheet c w h (x - 0) y) (λ x. sampled_dot sheet c w h x y) a b (λ x. let z : x - 0 ≡ x = omega arith in rw (le-leb 0 x (omega arith), z) refl) p
-
--- n dots drawn n times as wide as each is magnified
-pub magnified : (op : Op) (at : ℤ) (n : ℕ) (word wm : ℕ) (a b : List ℕ) → 0 < n → Painted op (shifted at (ink n (word_dot word) 0 (n * wm))) a b → Painted op (shifted at (λ x. ltb x (n * wm) && word_dot word (x / wm))) a b
-magnified op at n word wm a b p q = moved_same op at (ink n (word_dot word) 0 (n * wm)) (λ x. ltb x (n * wm) && word_dot word (x / wm)) a b
-    (λ x.
-    let z : x - 0 ≡ x = omega arith in
-    let c : x * n / (n * wm) ≡ x / wm = ap (λ k. k / (n * wm)) (mul_comm x n) ∙ mul-div-mul_left {m = n} x wm p in
-    rw (le-leb 0 x (omega arith), z, c) refl) q

@@ -10,6 +10,7 @@ pub mod Looks
 pub mod Magnified
 pub mod Numbers
 pub mod Overlaid
+pub mod Parts
 pub mod Passed
 pub mod Pieces
 pub mod Printed
@@ -17,7 +18,6 @@ pub mod Sheeted
 pub mod Sides
 pub mod Spread
 pub mod Stacks
-pub mod Styled
 pub mod Windows
 pub mod Masks
 pub mod Moved

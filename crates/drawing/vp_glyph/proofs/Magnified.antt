@@ -1,22 +1,15 @@
 -- Words whose dots are drawn several times as wide.
-use Rattle.std.proofs.Common.{inl, inr, ◌≡◌, ℕ, ◌+◌, ◌-◌, ◌*◌, ◌/◌, ◌%◌, ◌^◌, ◌<◌, ◌≤◌, Bool, true, false, cond, eqb, ltb, leb, ◌&&◌, ◌||◌, eq-eqb, refl, sym, ap, ◌∙◌, arith, List, ℤ, pos, ◌+ℤ◌, bit_and, bit_or}
-use Rattle.std.proofs.Math.Nat.{div-lt_iff_lt-mul, div-mul-le_self, mul-le-mul_right}
-use Rattle.std.proofs.lemmas.Bool.{cases_Bool, cases_eq, cases_lt, and_parts, eqb-true, ne_eqb, lt-ltb, le-ltb, lt-leb, le-leb, false_from_ne_true}
+use Rattle.std.proofs.Common.{inl, inr, ◌≡◌, ℕ, ◌+◌, ◌-◌, ◌*◌, ◌/◌, ◌%◌, ◌^◌, ◌<◌, ◌≤◌, Bool, true, false, cond, eqb, ltb, leb, ◌&&◌, ◌||◌, eq-eqb, refl, sym, ap, ◌∙◌, arith, bit_and, bit_or}
+use Rattle.std.proofs.Math.Nat.{mul-le-mul_right}
+use Rattle.std.proofs.lemmas.Bool.{cases_eq, cases_lt, and_parts, eqb-true, ne_eqb, lt-ltb, le-ltb, lt-leb, le-leb, ltb-true}
 use Rattle.std.proofs.lemmas.Bool.Decides.{nat_tests}
-use Rattle.vp_dots.specs.Dots.{bit, shifted, span}
+use Rattle.vp_dots.specs.Dots.{bit, span}
 use Rattle.vp_dots.specs.Words.{word_dot}
-use Rattle.vp_dots.specs.Painting.{Painted}
-use Rattle.vp_dots.specs.declared.Op.{Op}
-use Rattle.vp_dots.proofs.Moves.{moved_same, moved_then}
-use Rattle.vp_dots.proofs.Paints.{painted_same}
 use Rattle.vp_dots.proofs.Swaps.{every, every_at}
 use Rattle.vp_dots.proofs.Words.{and_true, and_false}
-use Rattle.vp_glyph.specs.Cells.{font_width}
-use Rattle.vp_glyph.specs.declared.cell.Font.{Font}
-use Rattle.vp_glyph.specs.declared.cell.Font.TheVariants.{A, B}
 use Rattle.vp_glyph.proofs.Looks.{and_dot, or_dot}
-use Rattle.vp_glyph.proofs.Masks.{shift_more}
 use Rattle.vp_glyph.proofs.Moved.{moved_right}
+use Rattle.vp_glyph.proofs.Parts.{place_within, some_width}
 use Rattle.vp_glyph.proofs.Spread.{quotient}
 
 -- a word and the same moved to the right, at the dots of a mask
@@ -156,78 +149,13 @@ module _ (n word wm : ℕ) (few : n * wm ≤ 64) where
       nowhere true false = refl
       nowhere false c = refl
 
-font_few : (font : Font) → font_width font ≤ 12
-font_few A = omega arith
-font_few B = omega arith
-
--- dots past a character of a font are white
-pub same_few : (font : Font) (word wm x : ℕ) → ((y : ℕ) → word_dot word y ≡ true → y < font_width font) → (ltb x (12 * wm) && word_dot word (x / wm)) ≡ (ltb x (font_width font * wm) && word_dot word (x / wm))
-same_few font word wm x h =
-    let most : font_width font * wm ≤ 12 * wm = mul-le-mul_right wm (font_few font) in
-    elim (cases_Bool (word_dot word (x / wm))) [
-      | inl t ↦ elim (cases_lt x (12 * wm)) [
-        | inl l ↦ rw (lt-ltb x (12 * wm) l, lt-ltb x (font_width font * wm) ((div-lt_iff_lt-mul {k = wm} {x = x} {y = font_width font} (omega arith)).0 (h (x / wm) t))) refl
-        | inr g ↦ rw (le-ltb x (12 * wm) g, le-ltb x (font_width font * wm) (omega arith)) refl
-      ]
-      | inr f ↦ rw f (and_false _ ∙ sym (and_false _))
-    ]
-
--- dots that are drawn once each
-pub same_once : (font : Font) (word wm x : ℕ) → wm ≡ 1 → ((y : ℕ) → word_dot word y ≡ true → y < font_width font) → word_dot word x ≡ (ltb x (font_width font * wm) && word_dot word (x / wm))
-same_once font word wm x e h =
-    let wide : font_width font * 1 ≡ font_width font = omega arith in
-    let place : x / 1 ≡ x = omega arith in
-    rw (e, wide, place) (elim (cases_lt x (font_width font)) [
-      | inl l ↦ rw (lt-ltb x (font_width font) l) refl
-      | inr g ↦ rw (le-ltb x (font_width font) g) (false_from_ne_true (word_dot word x) (λ t. absurd (omega (arith, h x t))))
-    ])
-
--- a character of more than five dots each, no wider than a word, is of font B
-pub nine_wide : (font : Font) (wm : ℕ) → font_width font * wm ≤ 64 → 64 < 12 * wm → font_width font ≡ 9
-nine_wide A wm l g = absurd (omega arith)
-nine_wide B wm l g = refl
-
-pub few_painted : (op : Op) (at : ℤ) (font : Font) (word wm : ℕ) (a b : List ℕ) → ((y : ℕ) → word_dot word y ≡ true → y < font_width font)
-    → Painted op (shifted at (λ x. ltb x (12 * wm) && word_dot word (x / wm))) a b → Painted op (shifted at (λ x. ltb x (font_width font * wm) && word_dot word (x / wm))) a b
-few_painted op at font word wm a b h p = moved_same op at (λ x. ltb x (12 * wm) && word_dot word (x / wm)) (λ x. ltb x (font_width font * wm) && word_dot word (x / wm)) a b (λ x. same_few font word wm x h) p
-
-pub magnified_painted : (op : Op) (at : ℤ) (font : Font) (word wide wm : ℕ) (a b : List ℕ) → ((y : ℕ) → word_dot word y ≡ true → y < font_width font)
-    → ((x : ℕ) → word_dot wide x ≡ (ltb x (12 * wm) && word_dot word (x / wm))) → Painted op (shifted at (word_dot wide)) a b
-    → Painted op (shifted at (λ x. ltb x (font_width font * wm) && word_dot word (x / wm))) a b
-magnified_painted op at font word wide wm a b h e p = few_painted op at font word wm a b h (moved_same op at (word_dot wide) (λ x. ltb x (12 * wm) && word_dot word (x / wm)) a b e p)
-
--- six dots, and six behind them
-module _ (word six wm x : ℕ) (e : (y : ℕ) → y < 64 → word_dot six y ≡ word_dot word (y + 6)) where
-  second : 6 * wm ≤ x → x < 12 * wm → word_dot six ((x - 6 * wm) / wm) ≡ word_dot word (x / wm)
-  second g l =
-      let some : 0 < wm = omega arith in
-      let low = div-mul-le_self (x - 6 * wm) wm in
-      let high : (x - 6 * wm) / wm < 6 = (div-lt_iff_lt-mul {k = wm} {x = x - 6 * wm} {y = 6} some).1 (omega arith) in
-      let past : x - 6 * wm < ((x - 6 * wm) / wm + 1) * wm = (div-lt_iff_lt-mul {k = wm} {x = x - 6 * wm} {y = (x - 6 * wm) / wm + 1} some).0 (omega arith) in
-      let q : x / wm ≡ (x - 6 * wm) / wm + 6 = quotient x wm ((x - 6 * wm) / wm + 6) some (omega arith) (omega arith) in
-      e ((x - 6 * wm) / wm) (omega arith) ∙ ap (word_dot word) (sym q)
-
-  halves : (left right : ℕ) → word_dot left x ≡ (ltb x (6 * wm) && word_dot word (x / wm)) → word_dot right (x - 6 * wm) ≡ (ltb (x - 6 * wm) (6 * wm) && word_dot six ((x - 6 * wm) / wm))
-      → (ltb x (12 * wm) && word_dot word (x / wm)) ≡ (word_dot left x || leb (6 * wm) x && word_dot right (x - 6 * wm))
-  halves left right p q = sym (ap (λ b. b || leb (6 * wm) x && word_dot right (x - 6 * wm)) p ∙ ap (λ b. ltb x (6 * wm) && word_dot word (x / wm) || leb (6 * wm) x && b) q ∙ elim (cases_lt x (6 * wm)) [
-    | inl l ↦ rw (lt-ltb x (6 * wm) l, lt-leb (6 * wm) x l, lt-ltb x (12 * wm) (omega arith)) (or_false (word_dot word (x / wm)))
-    | inr g ↦ elim (cases_lt x (12 * wm)) [
-      | inl l ↦ (let s = second g l in rw (le-ltb x (6 * wm) g, le-leb (6 * wm) x g, lt-ltb x (12 * wm) l, lt-ltb (x - 6 * wm) (6 * wm) (omega arith)) s)
-      | inr o ↦ rw (le-ltb x (6 * wm) g, le-leb (6 * wm) x g, le-ltb x (12 * wm) o, le-ltb (x - 6 * wm) (6 * wm) (omega arith)) refl
-    ]
-  ])
-
-  halves_apart : (left right : ℕ) → word_dot left x ≡ (ltb x (6 * wm) && word_dot word (x / wm)) → (word_dot left x && (leb (6 * wm) x && word_dot right (x - 6 * wm))) ≡ false
-  halves_apart left right p = elim (cases_lt x (6 * wm)) [
-    | inl l ↦ rw (lt-leb (6 * wm) x l) (and_false (word_dot left x))
-    | inr g ↦ ap (λ b. b && (leb (6 * wm) x && word_dot right (x - 6 * wm))) (p ∙ ap (λ b. b && word_dot word (x / wm)) (le-ltb x (6 * wm) g))
-  ]
-
-pub halves_painted : (op : Op) (at at' : ℤ) (word six left right wm : ℕ) (a b c : List ℕ) → at' ≡ at +ℤ pos (6 * wm) → ((y : ℕ) → y < 64 → word_dot six y ≡ word_dot word (y + 6))
-    → ((x : ℕ) → word_dot left x ≡ (ltb x (6 * wm) && word_dot word (x / wm))) → ((x : ℕ) → word_dot right x ≡ (ltb x (6 * wm) && word_dot six (x / wm)))
-    → Painted op (shifted at (word_dot left)) a b → Painted op (shifted at' (word_dot right)) b c → Painted op (shifted at (λ x. ltb x (12 * wm) && word_dot word (x / wm))) a c
-halves_painted op at at' word six left right wm a b c z e p q s t =
-    moved_then op at (word_dot left) (λ x. leb (6 * wm) x && word_dot right (x - 6 * wm)) (λ x. ltb x (12 * wm) && word_dot word (x / wm)) a b c s
-    (painted_same op (shifted at' (word_dot right)) (shifted at (λ x. leb (6 * wm) x && word_dot right (x - 6 * wm))) b c (λ d l. ap (λ m. shifted m (word_dot right) d) z ∙ shift_more at (6 * wm) (word_dot right) d) t)
-    (λ x. halves word six wm x e left right (p x) (q (x - 6 * wm)))
-    (λ x. halves_apart word six wm x e left right (p x))
+-- so many dots of a row from one on
+pub widened_row : (word moved wide first n wm x : ℕ) → n ≤ 12 → first ≤ 12 → ((d : ℕ) → d < 64 → word_dot moved d ≡ word_dot word (d + first))
+    → word_dot wide x ≡ (ltb x (n * wm) && word_dot moved (x / wm)) → word_dot wide x ≡ (ltb x (n * wm) && word_dot word (first + x / wm))
+widened_row word moved wide first n wm x few inside e p = p ∙ elim (cases_lt x (n * wm)) [
+  | inl l ↦
+      let place : x / wm < n = ltb-true (x / wm) n (place_within x n wm (some_width x n wm l) ∙ lt-ltb x (n * wm) l) in
+      let next : x / wm + first ≡ first + x / wm = omega arith in
+      ap (λ b. ltb x (n * wm) && b) (e (x / wm) (omega arith) ∙ ap (word_dot word) next)
+  | inr g ↦ rw (le-ltb x (n * wm) g) refl
+]

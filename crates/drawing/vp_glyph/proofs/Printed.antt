@@ -1,4 +1,4 @@
--- Rows of characters that are printed once each.
+-- Rows of characters that are printed just as they stand.
 use Rattle.std.proofs.Common.{inl, inr, ◌≡◌, ℕ, ◌+◌, ◌-◌, ◌*◌, ◌/◌, ◌<◌, ◌≤◌, Bool, true, false, not, cond, ltb, ◌&&◌, ◌||◌, refl, sym, ap, ◌∙◌, arith, List, get_or, replicate, length, set, get_or-set_same, get_or-set_other}
 use Rattle.std.proofs.lemmas.List.{get_or-replicate, get_or_past, length-replicate}
 use Rattle.std.proofs.lemmas.Bool.{cases_eq, cases_lt, false_from_ne_true, lt-ltb, le-ltb, lt-leb, le-leb}
@@ -9,23 +9,15 @@ use Rattle.vp_glyph.specs.declared.cell.Font.{Font}
 use Rattle.vp_glyph.specs.declared.cell.Style.{Style}
 use Rattle.vp_glyph.specs.declared.Sheets.{Sheets}
 use Rattle.vp_glyph.proofs.Looks.{white_dot}
-use Rattle.vp_glyph.proofs.Styled.{body_place, past_all}
+use Rattle.vp_glyph.proofs.Parts.{body_place, past_all}
 
 and_false : (b : Bool) → (b && false) ≡ false
 and_false true = refl
 and_false false = refl
 
-or_true : (b : Bool) → (b || true) ≡ true
-or_true true = refl
-or_true false = refl
-
 or_false : (b : Bool) → (b || false) ≡ b
 or_false true = refl
 or_false false = refl
-
-and_true : (b : Bool) → (b && true) ≡ b
-and_true true = refl
-and_true false = refl
 
 module _ (sheets : Sheets) (font : Font) (style : Style) (c y : ℕ) (h : style.hm ≡ 1) (low : y < font_height font) where
   -- the dots of the character itself
@@ -50,24 +42,6 @@ module _ (sheets : Sheets) (font : Font) (style : Style) (c y : ℕ) (h : style.
       twice : (a b : Bool) → (a && (a && b)) ≡ (a && b)
       twice true b = refl
       twice false b = refl
-
-  -- its dots in a row that is drawn so wide
-  pub printed_wide : (dots wide wm x : ℕ) → wm ≡ style.wm → ((u : ℕ) → word_dot dots u ≡ (ltb u (font_width font) && bold_dot style.bold (font_dot sheets c font) u y))
-      → word_dot wide x ≡ (ltb x (font_width font * wm) && word_dot dots (x / wm)) → word_dot wide x ≡ (ltb x (font_width font * style.wm) && body x)
-  printed_wide dots wide wm x e d p = rw e at p ∙ ap (λ b. ltb x (font_width font * style.wm) && b) (d (x / style.wm))
-
-  pub printed_inverse : (wide other whole word x : ℕ) → cell_width font style ≤ 64 → style.inverse ≡ true → word_dot wide x ≡ (ltb x (font_width font * style.wm) && body x)
-      → (x < 64 → word_dot other x ≡ not (word_dot wide x)) → word_dot whole x ≡ ltb x (cell_width font style) → word_dot word x ≡ (word_dot other x && word_dot whole x)
-      → word_dot word x ≡ cell_dot sheets font style c x y
-  printed_inverse wide other whole word x narrow i d o k e = e ∙ ap (λ b. word_dot other x && b) k ∙ sym (printed_dot x ∙ elim (cases_lt x (cell_width font style)) [
-    | inl l ↦ rw (lt-ltb x (cell_width font style) l, i) (sym (and_true _ ∙ o (omega arith) ∙ ap not (d ∙ within x l)))
-    | inr g ↦ rw (le-ltb x (cell_width font style) g) (sym (and_false (word_dot other x)))
-  ])
-
-  pub printed_underline : (whole x : ℕ) → style.inverse ≡ false → font_height font - style.underline ≤ y → word_dot whole x ≡ ltb x (cell_width font style) → word_dot whole x ≡ cell_dot sheets font style c x y
-  printed_underline whole x i u k =
-      let under : underlined font style y ≡ true = le-leb _ y (let high : font_height font * style.hm ≡ font_height font = ap (λ n. font_height font * n) h ∙ omega arith in rw high u) in
-      k ∙ sym (printed_dot x ∙ rw (i, under, or_true (body x)) (and_true (ltb x (cell_width font style))))
 
   pub printed_upright : (wide x : ℕ) → style.inverse ≡ false → y < font_height font - style.underline → word_dot wide x ≡ (ltb x (font_width font * style.wm) && body x) → word_dot wide x ≡ cell_dot sheets font style c x y
   printed_upright wide x i u d =
@@ -94,20 +68,6 @@ pub printed_below : (sheets : Sheets) (font : Font) (style : Style) (c x y : ℕ
 printed_below sheets font style c x y h l =
     let high : font_height font * style.hm ≡ font_height font = ap (λ n. font_height font * n) h ∙ omega arith in
     white_dot x ∙ sym (false_from_ne_true (cell_dot sheets font style c x y) (λ e. absurd (omega (arith, (cell_inside sheets font style c x y e).1, high))))
-
--- below the character there is nothing
-pub printed_rows : (sheets : Sheets) (font : Font) (style : Style) (c x y n : ℕ) → style.hm ≡ 1 → font_height font ≤ n → (ltb y n && cell_dot sheets font style c x y) ≡ cell_dot sheets font style c x y
-unfolding cell_dot
-printed_rows sheets font style c x y n h l =
-    let high : font_height font * style.hm ≡ font_height font = ap (λ n. font_height font * n) h ∙ omega arith in
-    elim (cases_lt y n) [
-      | inl m ↦ rw (lt-ltb y n m) refl
-      | inr g ↦ rw (le-ltb y n g, high, le-ltb y (font_height font) (omega arith)) (sym (nowhere (ltb x (cell_width font style)) _))
-    ]
-  where
-    nowhere : (a b : Bool) → (a && false && b) ≡ false
-    nowhere true b = refl
-    nowhere false b = refl
 
 -- words that are written from the first one on
 pub words_none : (n : ℕ) (f : ℕ → ℕ → Bool) (k x : ℕ) → word_dot (get_or (replicate {A = ℕ} n 0) k 0) x ≡ (ltb k 0 && f x k)
@@ -171,3 +131,21 @@ ready_printed sheets font style c above words dots plain same p = record {
   inside = (let high : font_height font * style.hm ≡ font_height font = ap (λ n. font_height font * n) plain.1 ∙ omega arith in rw high p.0.inside);
   dots_are = λ x y. p.0.dots_are x y ∙ same x y ∙ ready_cell sheets font style c plain (λ u v e. p.1 u v (same u v ∙ e)) x y;
 }
+
+-- no line that stands ready is wider than the character
+pub ready_narrow : (high above : ℕ) (words : List ℕ) (ink : ℕ → ℕ → Bool) (wide : ℕ) → wide ≤ 12 → IsReady high above words ink → ((u v : ℕ) → ink u v ≡ true → u < wide)
+    → (x y : ℕ) → 12 ≤ x → word_dot (get_or words y 0) x ≡ false
+ready_narrow high above words ink wide few is inside x y h =
+    let place : above + y - above ≡ y = omega arith in
+    rw (le-leb above (above + y) (omega arith), place) at (is.dots_are x (above + y)) ∙ false_from_ne_true (ink x (above + y)) (λ e. absurd (omega (arith, inside x (above + y) e)))
+
+-- all of them
+pub words_all : (f : ℕ → ℕ → Bool) (words : List ℕ) (n k x : ℕ) → word_dot (get_or words k 0) x ≡ (ltb k n && f x k) → (n ≤ k → f x k ≡ false) → word_dot (get_or words k 0) x ≡ f x k
+words_all f words n k x p e = p ∙ elim (cases_lt k n) [
+  | inl l ↦ rw (lt-ltb k n l) refl
+  | inr g ↦ rw (le-ltb k n g) (sym (e g))
+]
+
+-- none below those that a list has
+pub word_past : (rows : List ℕ) (b : Bool) (k x : ℕ) → length rows ≤ k → (b && word_dot (get_or rows k 0) x) ≡ false
+word_past rows b k x g = ap (λ w. b && word_dot w x) (get_or_past rows k 0 g) ∙ ap (λ d. b && d) (white_dot x) ∙ and_false b

@@ -9,6 +9,7 @@ pub mod Blocks
 -- What the code keeps.
 pub mod Layouts
 pub mod Inked
+pub mod Parts
 pub mod Stretches
 pub mod Memory
 pub mod Runs

@@ -1,19 +1,16 @@
 //! A character in a font and a style.
-ghost use Rattle.std.specs.Prelude.{◌≡◌, ℕ, ◌*◌, ◌/◌, ◌<◌, ◌≤◌, Bool, None, MatchOption, slice_index, nat_lt, ◌&&◌, not, true, false, if◌then◌else◌};
+ghost use Rattle.std.specs.Prelude.{◌≡◌, ℕ, ◌+◌, ◌*◌, ◌/◌, ◌<◌, ◌≤◌, Bool, None, MatchOption, slice_index, nat_lt, ◌&&◌, true, false};
 ghost use Rattle.vp_glyph.specs.declared.Sheets.{Sheets};
-ghost use Rattle.vp_dots.specs.Dots.{shifted};
-ghost use Rattle.vp_dots.specs.Words.{word_dot};
+ghost use Rattle.vp_dots.specs.Dots.{span};
+ghost use Rattle.vp_dots.specs.Words.{word_dot, IsReady};
 ghost use Rattle.vp_dots.specs.declared.TheConstants.{WORDS};
-ghost use Rattle.vp_dots.specs.Painting.{Painted};
 ghost use Rattle.vp_glyph.specs.Cells.{font_width, font_height, font_dot, bold_dot, cell_width, cell_height, cell_dot, cell_inside};
+ghost use Rattle.vp_glyph.specs.Parts.{row_dot, filled_dot};
 
 use crate::Sheets;
-use crate::look::{
-    FAR, doubled, emphasized, inverted, magnified, nine_of, paint_halves, paint_scaled, shared,
-    widened,
-};
+use crate::look::{emphasized, inverted, nine_of, shared};
 use crate::sheet::{dot_in, ready_in, row_at, rows_in};
-use vp_dots::{Ink, Op, Ready, WORDS, fill_moved, first_dots, paint_word};
+use vp_dots::{Ink, Ready, WORDS, first_dots};
 
 /// The two fonts of a receipt printer.
 #[derive(Clone, Copy, Debug, PartialEq, Eq)]
@@ -83,6 +80,17 @@ pub struct Cell<'a> {
     pub style: Style,
 }
 
+/// Dots of a character that are black whatever its rows show.
+#[derive(Clone, Copy)]
+pub struct Filled {
+    /// The first column, and how many there are.
+    pub left: u32,
+    pub wide: u32,
+    /// The first row, and how many there are.
+    pub top: u32,
+    pub high: u32,
+}
+
 /// How wide a character is with its spacing.
 fn width_of(font: Font, style: Style) -> u32
     ensures { result ≡ cell_width font style }
@@ -95,6 +103,39 @@ fn height_of(font: Font, style: Style) -> u32
     ensures { result ≡ cell_height font style }
 {
     font.height() * u32::from(style.hm)
+}
+
+/// Where the spacing of a character stands.
+fn spacing_of(font: Font, style: Style) -> Filled
+    requires { style.inverse ≡ true }
+    ensures dots { (x y : ℕ) → (span result.left (result.left + result.wide) x
+        && span result.top (result.top + result.high) y) ≡ filled_dot font style x y }
+    ensures rows { result.top + result.high ≤ cell_height font style }
+{
+    let wm = u32::from(style.wm);
+    Filled {
+        left: font.width() * wm,
+        wide: u32::from(style.spacing) * wm,
+        top: 0,
+        high: height_of(font, style),
+    }
+}
+
+/// Where the underline of a character stands.
+fn underline_of(font: Font, style: Style) -> Filled
+    requires { style.inverse ≡ false }
+    ensures dots { (x y : ℕ) → (span result.left (result.left + result.wide) x
+        && span result.top (result.top + result.high) y) ≡ filled_dot font style x y }
+    ensures rows { result.top + result.high ≤ cell_height font style }
+{
+    let height = height_of(font, style);
+    let top = height.saturating_sub(u32::from(style.underline));
+    Filled {
+        left: 0,
+        wide: width_of(font, style),
+        top,
+        high: height - top,
+    }
 }
 
 /// The row of a character in its font that stands on a row of the magnified one.
@@ -145,47 +186,18 @@ fn body_row(word: u64, font: Font, bold: bool) -> u64
     shared(thick, first_dots(font.width()))
 }
 
-/// A row of a character of a font, each dot `wm` dots wide, where it is no wider than a word.
+/// A row of a character before it is magnified, emphasized and inverted where its style says so.
 #[inline(always)]
-fn widened_row(word: u64, font: Font, wm: u32) -> u64
-    requires narrow { font_width font * wm ≤ 64 }
-    requires dots { (x : ℕ) → word_dot word x ≡ true → x < font_width font }
-    ensures { (x : ℕ) → word_dot result x ≡ (nat_lt x (font_width font * wm) && word_dot word (x / wm)) }
-{
-    if wm == 1 {
-        return word;
-    }
-    if wm == 2 {
-        return doubled(word);
-    }
-    if 12 * wm <= 64 {
-        return widened::<12>(word, wm);
-    }
-    widened::<9>(word, wm)
-}
-
-/// A row as it is printed, of a character no wider than a word whose rows are printed once each.
-#[inline(always)]
-fn printed_row(word: u64, font: Font, style: Style, wm: u32, inverse: bool, y: u32) -> u64
-    requires wide { wm ≡ style.wm }
-    requires inverse { inverse ≡ style.inverse }
-    requires high { style.hm ≡ 1 }
-    requires narrow { cell_width font style ≤ 64 }
-    requires y { y < font_height font }
-    ensures { (sheets : Sheets) (c : ℕ) → ((x : ℕ) → x < font_width font
-        → word_dot word x ≡ font_dot sheets c font x y)
-        → (x : ℕ) → word_dot result x ≡ cell_dot sheets font style c x y }
+fn styled_row(word: u64, font: Font, style: Style) -> u64
+    ensures { (sheets : Sheets) (c y : ℕ) → y < font_height font
+        → ((x : ℕ) → x < font_width font → word_dot word x ≡ font_dot sheets c font x y)
+        → (x : ℕ) → word_dot result x ≡ row_dot sheets font style c x y }
 {
     let body = body_row(word, font, style.bold);
-    let wide = widened_row(body, font, wm);
-    let whole = first_dots(width_of(font, style));
-    if inverse {
-        return shared(inverted(wide), whole);
+    if style.inverse {
+        return shared(inverted(body), first_dots(font.width()));
     }
-    if y >= font.height().saturating_sub(u32::from(style.underline)) {
-        return whole;
-    }
-    wide
+    body
 }
 
 /// The rows of a character of 9 by 17 dots, drawn from one of 12 by 24.
@@ -237,92 +249,6 @@ impl Cell<'_> {
         row_at(rows, y as usize)
     }
 
-    /// A row of the character before it is magnified, emphasized and inverted where its style says so.
-    fn source_row(&self, y: u32) -> u64
-        requires { y < font_height self.now.font }
-        ensures { (x : ℕ) → let black = bold_dot self.now.style.bold
-            (font_dot self.now.sheets.now self.now.character self.now.font) x y in
-            word_dot result x ≡ (nat_lt x (font_width self.now.font)
-            && (if self.now.style.inverse then not black else black)) }
-    {
-        let body = body_row(self.font_row(y), self.font, self.style.bold);
-        if self.style.inverse {
-            shared(inverted(body), first_dots(self.font.width()))
-        } else {
-            body
-        }
-    }
-
-    /// Paints a row of the character, magnified.
-    fn paint_body(&self, word: u64, op: Op, at: i64, row: &mut [u8])
-        requires { (x : ℕ) → word_dot word x ≡ true → x < font_width self.now.font }
-        ensures { Painted op (shifted at (λ x. nat_lt x (font_width self.now.font * self.now.style.wm)
-            && word_dot word (x / self.now.style.wm))) row.old row.new }
-    {
-        if word == 0 {
-            return;
-        }
-        let wm = u32::from(self.style.wm);
-        if wm == 1 {
-            paint_word(op, word, at, row);
-            return;
-        }
-        if 12 * wm <= 64 {
-            paint_word(op, magnified(word, wm), at, row);
-            return;
-        }
-        if 6 * wm <= 64 && at < FAR {
-            paint_halves(op, at, word, wm, row);
-            return;
-        }
-        match self.font {
-            Font::A => paint_scaled::<12>(op, at, word, 0, 12 * wm, row),
-            Font::B => paint_scaled::<9>(op, at, word, 0, 9 * wm, row),
-        }
-    }
-}
-
-impl Cell<'_> {
-    /// The rows as they are printed, of rows of the character in its font.
-    #[inline(always)]
-    fn print_rows(&self, rows: &[u64; WORDS], wm: u32, inverse: bool, words: &mut [u64; WORDS])
-        requires wide { wm ≡ self.now.style.wm }
-        requires inverse { inverse ≡ self.now.style.inverse }
-        requires high { self.now.style.hm ≡ 1 }
-        requires narrow { cell_width self.now.font self.now.style ≤ 64 }
-        requires rows { (x y : ℕ) → x < font_width self.now.font → y < font_height self.now.font
-            → word_dot (slice_index rows.now y) x
-            ≡ font_dot self.now.sheets.now self.now.character self.now.font x y }
-        ensures { (x y : ℕ) → word_dot (slice_index words.new y) x
-            ≡ cell_dot self.now.sheets.now self.now.font self.now.style self.now.character x y }
-    {
-        let (font, style) = (self.font, self.style);
-        *words = [0; WORDS];
-        for y in 0..font.height() {
-            words[y as usize] = printed_row(rows[y as usize], font, style, wm, inverse, y);
-        }
-    }
-
-    /// The same, where the compiler knows of two widths, and whether black and white are exchanged.
-    fn print(&self, rows: &[u64], words: &mut [u64; WORDS])
-        requires high { self.now.style.hm ≡ 1 }
-        requires narrow { cell_width self.now.font self.now.style ≤ 64 }
-        requires rows { (x y : ℕ) → x < font_width self.now.font → y < font_height self.now.font
-            → word_dot (slice_index rows.now y) x
-            ≡ font_dot self.now.sheets.now self.now.character self.now.font x y }
-        ensures { (x y : ℕ) → word_dot (slice_index words.new y) x
-            ≡ cell_dot self.now.sheets.now self.now.font self.now.style self.now.character x y }
-    {
-        let first = first_rows(rows);
-        match (self.style.wm, self.style.inverse) {
-            (1, false) => self.print_rows(&first, 1, false, words),
-            (1, true) => self.print_rows(&first, 1, true, words),
-            (2, false) => self.print_rows(&first, 2, false, words),
-            (2, true) => self.print_rows(&first, 2, true, words),
-            (wm, inverse) => self.print_rows(&first, u32::from(wm), inverse, words),
-        }
-    }
-
     /// Row y of a character that is printed just as it stands in its sheet, white below it.
     #[inline(always)]
     pub fn plain_row(&self, y: u32) -> u64
@@ -337,35 +263,67 @@ impl Cell<'_> {
         body_row(self.font_row(y), self.font, false)
     }
 
-    /// Paints a row of an inverse character: its white dots, and its spacing.
-    fn paint_inverse(&self, y: u32, op: Op, at: i64, row: &mut [u8])
-        requires y { y < cell_height self.now.font self.now.style }
-        requires inverse { self.now.style.inverse ≡ true }
-        ensures { Painted op (shifted at (λ x. cell_dot self.now.sheets.now self.now.font self.now.style
-            self.now.character x y)) row.old row.new }
+    /// The rows of a character before they are magnified, of those in its font.
+    #[inline(always)]
+    fn styled_rows(&self, rows: &[u64; WORDS]) -> [u64; WORDS]
+        requires { (x y : ℕ) → x < font_width self.now.font → y < font_height self.now.font
+            → word_dot (slice_index rows.now y) x
+            ≡ font_dot self.now.sheets.now self.now.character self.now.font x y }
+        ensures { (x y : ℕ) → word_dot (slice_index result y) x
+            ≡ row_dot self.now.sheets.now self.now.font self.now.style self.now.character x y }
     {
-        let style = self.style;
-        let (width, _) = self.size();
-        let word = self.source_row(row_behind(y, self.font, style));
-        self.paint_body(word, op, at, row);
-        fill_moved(op, at, self.font.width() * u32::from(style.wm), width, row);
+        let (font, style) = (self.font, self.style);
+        let mut styled = [0; WORDS];
+        for y in 0..font.height() as usize {
+            styled[y] = styled_row(rows[y], font, style);
+        }
+        styled
     }
 
-    /// Paints a row of any other character: its underline, or its dots.
-    fn paint_upright(&self, y: u32, op: Op, at: i64, row: &mut [u8])
-        requires y { y < cell_height self.now.font self.now.style }
-        requires inverse { self.now.style.inverse ≡ false }
-        ensures { Painted op (shifted at (λ x. cell_dot self.now.sheets.now self.now.font self.now.style
-            self.now.character x y)) row.old row.new }
+    /// The rows of the character before they are magnified, emphasized and inverted where its style says so.
+    pub fn rows(&self) -> [u64; WORDS]
+        ensures { (x y : ℕ) → word_dot (slice_index result y) x
+            ≡ row_dot self.now.sheets.now self.now.font self.now.style self.now.character x y }
     {
-        let style = self.style;
-        let (width, height) = self.size();
-        if y >= height.saturating_sub(u32::from(style.underline)) {
-            fill_moved(op, at, 0, width, row);
-            return;
+        match self.own_rows() {
+            Some(rows) => self.styled_rows(&first_rows(rows)),
+            None => self.styled_rows(&first_rows(&nine_rows(rows_in(
+                &self.sheets.a,
+                self.character,
+            )))),
         }
-        let word = self.source_row(row_behind(y, self.font, style));
-        self.paint_body(word, op, at, row);
+    }
+
+    /// Where the character is black whatever its rows show: in the spacing of an inverse one, in the underline
+    /// of any other.
+    pub fn filled(&self) -> Filled
+        ensures dots { (x y : ℕ) → (span result.left (result.left + result.wide) x
+            && span result.top (result.top + result.high) y) ≡ filled_dot self.now.font self.now.style x y }
+        ensures rows { result.top + result.high ≤ cell_height self.now.font self.now.style }
+    {
+        if self.style.inverse {
+            spacing_of(self.font, self.style)
+        } else {
+            underline_of(self.font, self.style)
+        }
+    }
+
+    /// The rows of a character that is printed just as it stands in its sheet, each as a word of few dots.
+    pub fn ready(&self) -> Option<Ready<'_>>
+        ensures { MatchOption result (Unit {0}) (λ ready.
+            IsReady (cell_height self.now.font self.now.style) ready.above ready.words.now
+            (cell_dot self.now.sheets.now self.now.font self.now.style self.now.character)
+            × ((x y : ℕ) → 12 ≤ x → word_dot (slice_index ready.words.now y) x ≡ false)) }
+    {
+        if !self.style.is_plain() {
+            return None;
+        }
+        let (width, height) = (self.font.width(), self.font.height());
+        match (self.font, &self.sheets.b) {
+            (Font::B, Some(b)) => b.ready(self.character, width, height),
+            (Font::B, None) => None,
+            (Font::A, _) => ready_in(&self.sheets.a, self.character, width, height),
+        }
     }
 }
 
@@ -399,41 +357,6 @@ impl Ink for Cell<'_> {
             !body
         } else {
             body || y >= height.saturating_sub(u32::from(style.underline))
-        }
-    }
-
-    fn words(&self, words: &mut [u64; WORDS]) -> bool {
-        if self.style.hm != 1 || width_of(self.font, self.style) > 64 {
-            return false;
-        }
-        match self.own_rows() {
-            Some(rows) => self.print(rows, words),
-            None => self.print(&nine_rows(rows_in(&self.sheets.a, self.character)), words),
-        }
-        true
-    }
-
-    fn ready(&self) -> Option<Ready<'_>> {
-        if !self.style.is_plain() {
-            return None;
-        }
-        let (width, height) = (self.font.width(), self.font.height());
-        match (self.font, &self.sheets.b) {
-            (Font::B, Some(b)) => b.ready(self.character, width, height),
-            (Font::B, None) => None,
-            (Font::A, _) => ready_in(&self.sheets.a, self.character, width, height),
-        }
-    }
-
-    fn paint_row(&self, y: u32, op: Op, at: i64, row: &mut [u8]) {
-        let (_, height) = self.size();
-        if y >= height {
-            return;
-        }
-        if self.style.inverse {
-            self.paint_inverse(y, op, at, row);
-        } else {
-            self.paint_upright(y, op, at, row);
         }
     }
 }

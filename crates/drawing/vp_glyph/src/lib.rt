@@ -35,9 +35,10 @@ mod text;
 
 use crate::sheet::memory_in;
 pub use block::{Alignment, Block};
-pub use cell::{Cell, Font, Style};
+pub use cell::{Cell, Filled, Font, Style};
 pub use header::header_law;
 pub use lines::lines_law;
+pub use look::{doubled_rows, widened_rows};
 pub use runs::{BYTES, ROWS};
 pub use sampled::{Sampled, seen};
 pub use sheet::{Sheet, SheetError};

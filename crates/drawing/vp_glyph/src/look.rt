@@ -1,10 +1,10 @@
 //! How a row of a character looks: its dots in a word, emphasized, inverted, or drawn at another width.
-ghost use Rattle.std.specs.Prelude.{◌≡◌, ℕ, ◌+◌, ◌-◌, ◌*◌, ◌/◌, ◌<◌, ◌≤◌, ◌^◌, nat_lt, nat_le, not, ◌&&◌, ◌||◌, pos, ◌+ℤ◌, ◌<ℤ◌};
+ghost use Rattle.std.specs.Prelude.{◌≡◌, ℕ, ◌+◌, ◌-◌, ◌*◌, ◌/◌, ◌<◌, ◌≤◌, ◌^◌, nat_lt, nat_le, not, ◌&&◌, ◌||◌, pos, ◌+ℤ◌, ◌<ℤ◌, slice_index};
 ghost use Rattle.vp_dots.specs.Dots.{shifted};
 ghost use Rattle.vp_dots.specs.Painting.{Painted};
 ghost use Rattle.vp_dots.specs.Words.{word_dot};
 
-use vp_dots::{Op, fill_moved, first_dots, paint_word};
+use vp_dots::{Op, WORDS, fill_moved, first_dots};
 
 /// Offsets from here on lie far past any row.
 pub const FAR: i64 = 1 << 40;
@@ -116,7 +116,7 @@ pub fn doubled(word: u64) -> u64
 
 /// The first `N` dots of a word, each drawn `wm` dots wide.
 #[inline(always)]
-pub fn widened<const N: u32>(word: u64, wm: u32) -> u64
+fn widened<const N: u32>(word: u64, wm: u32) -> u64
     requires few { N ≤ 12 }
     requires narrow { N * wm ≤ 64 }
     requires wm { wm ≤ 10 }
@@ -131,26 +131,32 @@ pub fn widened<const N: u32>(word: u64, wm: u32) -> u64
     wide
 }
 
-/// The first twelve dots of a word, each drawn `wm` dots wide.
-#[inline(always)]
-pub fn magnified(word: u64, wm: u32) -> u64
-    requires { 12 * wm ≤ 64 }
-    ensures { (x : ℕ) → word_dot result x ≡ (nat_lt x (12 * wm) && word_dot word (x / wm)) }
+/// The first twelve dots of each row, each drawn two dots wide.
+pub fn doubled_rows(rows: &[u64; WORDS]) -> [u64; WORDS]
+    ensures { (x y : ℕ) → word_dot (slice_index result y) x
+        ≡ (nat_lt x 24 && word_dot (slice_index rows.now y) (x / 2)) }
 {
-    if wm == 2 {
-        return doubled(word);
+    let mut wide = [0; WORDS];
+    for y in 0..WORDS {
+        wide[y] = doubled(rows[y]);
     }
-    widened::<12>(word, wm)
+    wide
 }
 
-/// Paints the first twelve dots of a word, each drawn `wm` dots wide: six and six.
-pub fn paint_halves(op: Op, at: i64, word: u64, wm: u32, row: &mut [u8])
-    requires near { at <ℤ pos (2 ^ 40) }
-    requires narrow { 6 * wm ≤ 64 }
-    ensures { Painted op (shifted at (λ x. nat_lt x (12 * wm) && word_dot word (x / wm))) row.old row.new }
+/// `N` dots of each row, from dot `first` on, each drawn `wm` dots wide.
+pub fn widened_rows<const N: u32>(rows: &[u64; WORDS], first: u32, wm: u32) -> [u64; WORDS]
+    requires few { N ≤ 12 }
+    requires narrow { N * wm ≤ 64 }
+    requires wm { wm ≤ 10 }
+    requires first { first ≤ 12 }
+    ensures { (x y : ℕ) → word_dot (slice_index result y) x
+        ≡ (nat_lt x (N * wm) && word_dot (slice_index rows.now y) (first + x / wm)) }
 {
-    paint_word(op, widened::<6>(word, wm), at, row);
-    paint_word(op, widened::<6>(word << 6, wm), moved(at, 6 * wm), row);
+    let mut wide = [0; WORDS];
+    for y in 0..WORDS {
+        wide[y] = widened::<N>(rows[y] << first, wm);
+    }
+    wide
 }
 
 /// Nine dots out of twelve.

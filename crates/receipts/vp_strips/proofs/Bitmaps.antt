@@ -1,11 +1,9 @@
 -- A line as the lowest rows of a bitmap.
 use Rattle.std.proofs.Common.{◌≡◌, ℕ, ◌+◌, ◌-◌, ◌/◌, ◌%◌, ◌<◌, ◌≤◌, Bool, true, false, refl, eqb, ap, ◌∙◌, arith, List, [], length, get_or, replicate, if◌then◌else◌, lit≤}
-use Rattle.std.proofs.lemmas.Bool.{false_from_ne_true, le-leb}
 use Rattle.std.proofs.lemmas.Bool.Decides.{nat_tests}
 use Rattle.std.proofs.lemmas.List.{get_or-replicate, length-replicate}
 use Rattle.std.proofs.lemmas.Nat.Bits.{bit_at-zero}
 use Rattle.vp_dots.specs.Dots.{dot, bit, span}
-use Rattle.vp_dots.specs.Words.{word_dot, IsReady}
 use Rattle.vp_strips.specs.LineDots.{HasDots, IsWhiteAbove}
 
 -- a white row
@@ -57,10 +55,3 @@ cleared used from old new e is rows =
       rows_are = λ y h. (row y h).0;
       dots_are = λ x y k h. (row y h).1 x k;
     }
-
--- no line that stands ready is wider than the ink
-pub ready_narrow : (wide high above : ℕ) (words : List ℕ) (ink : ℕ → ℕ → Bool) → IsReady high above words ink → ((u v : ℕ) → ink u v ≡ true → u < wide)
-    → (x y : ℕ) → wide ≤ x → word_dot (get_or words y 0) x ≡ false
-ready_narrow wide high above words ink is inside x y h =
-    let place : above + y - above ≡ y = omega arith in
-    rw (le-leb above (above + y) (omega arith), place) at (is.dots_are x (above + y)) ∙ false_from_ne_true (ink x (above + y)) (λ e. absurd (omega (arith, inside x (above + y) e)))

@@ -1,43 +1,15 @@
 -- Characters each of whose rows is printed more than once.
-use Rattle.std.proofs.Common.{inl, inr, ◌≡◌, ℕ, suc, ◌+◌, ◌-◌, ◌*◌, ◌/◌, ◌<◌, ◌≤◌, Bool, true, false, not, ltb, leb, ◌&&◌, ◌||◌, refl, sym, ap, ◌∙◌, arith, List, ℤ, pos, get_or}
-use Rattle.std.proofs.Math.Nat.{div-lt_iff_lt-mul, le-div_iff_mul-le, suc-mul}
-use Rattle.std.proofs.lemmas.Bool.{cases_lt, cases_Bool, lt-ltb, le-ltb, lt-leb, le-leb, false_from_ne_true}
+use Rattle.std.proofs.Common.{inl, inr, ◌≡◌, ℕ, suc, ◌+◌, ◌-◌, ◌*◌, ◌/◌, ◌<◌, ◌≤◌, Bool, true, false, ltb, leb, ◌&&◌, ◌||◌, refl, sym, ap, ◌∙◌, arith, List, [], get_or}
+use Rattle.std.proofs.Math.Nat.{add-mul-div_right, div-lt_iff_lt-mul, le-div_iff_mul-le, suc-mul}
+use Rattle.std.proofs.lemmas.Bool.{cases_lt, lt-ltb, le-ltb, lt-leb, le-leb}
 use Rattle.std.proofs.lemmas.Bool.Decides.{nat_tests}
-use Rattle.vp_dots.specs.Dots.{shifted, span}
-use Rattle.vp_dots.specs.Places.{placed, RowsPainted}
+use Rattle.vp_dots.specs.Dots.{dot, span}
+use Rattle.vp_dots.specs.Painting.{paint}
+use Rattle.vp_dots.specs.Places.{RowsPainted}
 use Rattle.vp_dots.specs.Words.{word_dot}
 use Rattle.vp_dots.specs.declared.Op.{Op}
+use Rattle.vp_dots.specs.declared.Op.TheVariants.{Black}
 use Rattle.vp_dots.proofs.Heights.{rows_then}
-use Rattle.vp_glyph.specs.Cells.{font_width, font_height, cell_width, cell_height, body_dot, underlined, cell_dot}
-use Rattle.vp_glyph.specs.declared.cell.Font.{Font}
-use Rattle.vp_glyph.specs.declared.cell.Style.{Style}
-use Rattle.vp_glyph.specs.declared.Sheets.{Sheets}
-use Rattle.vp_strips.specs.Held.{IsSource}
-
--- the row that is printed on row y, of n rows that are printed t times each
-row_within : (y n t : ℕ) → 0 < t → ltb (y / t) (n * 1) ≡ ltb y (n * t)
-row_within y n t p = elim (cases_lt y (n * t)) [
-  | inl l ↦ (let q : y / t < n = (div-lt_iff_lt-mul {k = t} {x = y} {y = n} p).1 l in lt-ltb (y / t) (n * 1) (omega arith) ∙ sym (lt-ltb y (n * t) l))
-  | inr g ↦ (let q : n ≤ y / t = (le-div_iff_mul-le {k = t} {x = n} {y = y} p).1 g in le-ltb (y / t) (n * 1) (omega arith) ∙ sym (le-ltb y (n * t) g))
-]
-
-module _ (sheets : Sheets) (font : Font) (style source : Style) (c : ℕ) (is : IsSource source style) where
-  -- a dot of the character is one of the row that is printed there
-  pub source_dot : (x y : ℕ) → cell_dot sheets font source c x (y / style.hm) ≡ cell_dot sheets font style c x y
-  unfolding cell_dot
-  source_dot x y =
-      let once : y / style.hm / 1 ≡ y / style.hm = omega arith in
-      rw (is.is, once, row_within y (font_height font) style.hm is.some) (elim (cases_lt y (font_height font * style.hm)) [
-        | inl l ↦ (let within : y / style.hm < font_height font = (div-lt_iff_lt-mul {k = style.hm} {x = y} {y = font_height font} is.some).1 l in elim (cases_Bool style.inverse) [
-          | inl i ↦ rw i refl
-          | inr i ↦ rw (i, is.plain i, lt-leb (font_height font * 1 - 0) (y / style.hm) (omega arith), lt-leb (font_height font * style.hm - 0) y (omega arith)) refl
-        ])
-        | inr g ↦ rw (le-ltb y (font_height font * style.hm) g) (nowhere (ltb x (cell_width font style)) _ _)
-      ])
-    where
-      nowhere : (a b c : Bool) → (a && false && b) ≡ (a && false && c)
-      nowhere true b c = refl
-      nowhere false b c = refl
 
 -- the line that is printed on a row
 pub line_on : (w v t : ℕ) → 0 < t → v * t ≤ w → w < v * t + t → w / t ≡ v
@@ -48,18 +20,6 @@ line_on w v t p from to =
 
 pub past_lines : (w n t : ℕ) → 0 < t → n * t ≤ w → n ≤ w / t
 past_lines w n t p from = (le-div_iff_mul-le {k = t} {x = n} {y = w} p).1 from
-
--- rows that show words are those that show the lines of ink
-pub lines_shown : (at top times high : ℕ) (words : List ℕ) (ink : ℕ → ℕ → Bool) → ((x y : ℕ) → word_dot (get_or words y 0) x ≡ ink x y) → ((u v : ℕ) → ink u v ≡ true → v < high)
-    → (x k : ℕ) → (leb top k && (ltb ((k - top) / times) high && shifted (pos at) (word_dot (get_or words ((k - top) / times) 0)) x)) ≡ (leb top k && shifted (pos at) (λ u. ink u ((k - top) / times)) x)
-lines_shown at top times high words ink e o x k = ap (λ b. leb top k && b) (elim (cases_lt ((k - top) / times) high) [
-  | inl l ↦ rw (lt-ltb ((k - top) / times) high l) (ap (λ b. leb at x && b) (e (x - at) ((k - top) / times)))
-  | inr g ↦ rw (le-ltb ((k - top) / times) high g, false_from_ne_true (ink (x - at) ((k - top) / times)) (λ t. absurd (omega (arith, o (x - at) ((k - top) / times) t)))) (white (leb at x))
-])
-  where
-    white : (b : Bool) → false ≡ (b && false)
-    white true = refl
-    white false = refl
 
 -- as many rows more, that show one line
 module _ (high : ℕ) (op : Op) (f : ℕ → ℕ → Bool) (line : ℕ → Bool) (from times : ℕ) where
@@ -87,3 +47,132 @@ module _ (high : ℕ) (op : Op) (f : ℕ → ℕ → Bool) (line : ℕ → Bool)
       none : (b : Bool) → (b && false) ≡ false
       none true = refl
       none false = refl
+
+-- dots that are drawn once each
+pub drawn_once : (word wm x : ℕ) → wm ≡ 1 → ((u : ℕ) → 12 ≤ u → word_dot word u ≡ false) → word_dot word x ≡ (ltb x (12 * wm) && word_dot word (x / wm))
+drawn_once word wm x e white =
+    let place : x / 1 ≡ x = omega arith in
+    rw (e, place) (elim (cases_lt x 12) [
+      | inl l ↦ rw (lt-ltb x 12 l) refl
+      | inr g ↦ rw (le-ltb x 12 g) (white x g)
+    ])
+
+-- six dots, and six behind them
+module _ (at x wm : ℕ) (f : ℕ → Bool) where
+  second : at ≤ x → 6 * wm ≤ x - at → x - at < 12 * wm → 6 + (x - (at + 6 * wm)) / wm ≡ (x - at) / wm
+  second a g l =
+      let some : 0 < wm = omega arith in
+      let back : x - (at + 6 * wm) + 6 * wm ≡ x - at = omega arith in
+      let more : (x - (at + 6 * wm) + 6 * wm) / wm ≡ (x - (at + 6 * wm)) / wm + 6 = add-mul-div_right (x - (at + 6 * wm)) 6 some in
+      let q : (x - at) / wm ≡ (x - (at + 6 * wm)) / wm + 6 = rw back at more in
+      omega arith
+
+  -- of all twelve
+  both : (leb at x && (ltb (x - at) (12 * wm) && f ((x - at) / wm)))
+      ≡ (leb at x && (ltb (x - at) (6 * wm) && f (0 + (x - at) / wm)) || leb (at + 6 * wm) x && (ltb (x - (at + 6 * wm)) (6 * wm) && f (6 + (x - (at + 6 * wm)) / wm)))
+  both = elim (cases_lt x at) [
+    | inl l ↦ rw (lt-leb at x l, lt-leb (at + 6 * wm) x (omega arith)) refl
+    | inr g ↦ elim (cases_lt (x - at) (6 * wm)) [
+      | inl l ↦ (let z : 0 + (x - at) / wm ≡ (x - at) / wm = omega arith in rw (le-leb at x g, lt-leb (at + 6 * wm) x (omega arith), lt-ltb (x - at) (6 * wm) l, lt-ltb (x - at) (12 * wm) (omega arith), z) (or_false _))
+      | inr h ↦ elim (cases_lt (x - at) (12 * wm)) [
+        | inl l ↦ rw (le-leb at x g, le-leb (at + 6 * wm) x (omega arith), le-ltb (x - at) (6 * wm) h, lt-ltb (x - at) (12 * wm) l, lt-ltb (x - (at + 6 * wm)) (6 * wm) (omega arith), second g h l) refl
+        | inr o ↦ rw (le-leb at x g, le-leb (at + 6 * wm) x (omega arith), le-ltb (x - at) (6 * wm) h, le-ltb (x - at) (12 * wm) o, le-ltb (x - (at + 6 * wm)) (6 * wm) (omega arith)) refl
+      ]
+    ]
+  ]
+    where
+      or_false : (b : Bool) → b ≡ (b || false)
+      or_false true = refl
+      or_false false = refl
+
+  apart : (a b : Bool) → ((leb at x && (ltb (x - at) (6 * wm) && a)) && (leb (at + 6 * wm) x && b)) ≡ false
+  apart a b = elim (cases_lt x (at + 6 * wm)) [
+    | inl l ↦ rw (lt-leb (at + 6 * wm) x l) (and_false _)
+    | inr g ↦ rw (le-ltb (x - at) (6 * wm) (omega arith)) (white (leb at x) _)
+  ]
+    where
+      and_false : (b : Bool) → (b && false) ≡ false
+      and_false true = refl
+      and_false false = refl
+
+      white : (a b : Bool) → ((a && false) && b) ≡ false
+      white true b = refl
+      white false b = refl
+
+  module _ (t r : Bool) where
+    pub halves : (t && (r && (leb at x && (ltb (x - at) (12 * wm) && f ((x - at) / wm)))))
+        ≡ (t && (r && (leb at x && (ltb (x - at) (6 * wm) && f (0 + (x - at) / wm)))) || t && (r && (leb (at + 6 * wm) x && (ltb (x - (at + 6 * wm)) (6 * wm) && f (6 + (x - (at + 6 * wm)) / wm)))))
+    halves = ap (λ b. t && (r && b)) both ∙ spread t r _ _
+      where
+        spread : (t r a b : Bool) → (t && (r && (a || b))) ≡ (t && (r && a) || t && (r && b))
+        spread true true a b = refl
+        spread true false a b = refl
+        spread false r a b = refl
+
+    pub halves_apart : ((t && (r && (leb at x && (ltb (x - at) (6 * wm) && f (0 + (x - at) / wm))))) && (t && (r && (leb (at + 6 * wm) x && (ltb (x - (at + 6 * wm)) (6 * wm) && f (6 + (x - (at + 6 * wm)) / wm)))))) ≡ false
+    halves_apart = under t r _ _ (apart _ _)
+      where
+        under : (t r a b : Bool) → (a && b) ≡ false → ((t && (r && a)) && (t && (r && b))) ≡ false
+        under true true a b e = e
+        under true false a b e = refl
+        under false r a b e = refl
+
+pub span_moved : (at wide x : ℕ) → (leb at x && ltb (x - at) wide) ≡ span at (at + wide) x
+span_moved at wide x = grind (arith, nat_tests)
+
+-- black over black
+pub rows_over : (high : ℕ) (f g h : ℕ → ℕ → Bool) (a b c : List (List ℕ)) → ((x k : ℕ) → h x k ≡ (f x k || g x k)) → RowsPainted high Black f a b → RowsPainted high Black g b c → RowsPainted high Black h a c
+rows_over high f g h a b c e p q = record {
+  rows_are = λ k l.
+      let first = p.rows_are k l in
+      let next = q.rows_are k l in
+      record {
+        length_is = next.length_is ∙ first.length_is;
+        dots_are = λ d m. next.dots_are d (rw first.length_is m) ∙ ap (λ o. paint Black (g d k) o) (first.dots_are d m) ∙ twice (f d k) (g d k) (h d k) (dot (get_or a k []) d) (e d k);
+      };
+}
+  where
+    same : (f g o : Bool) → paint Black g (paint Black f o) ≡ paint Black (f || g) o
+    same true true o = refl
+    same true false o = refl
+    same false true o = refl
+    same false false o = refl
+
+    twice : (f g h o : Bool) → h ≡ (f || g) → paint Black g (paint Black f o) ≡ paint Black h o
+    twice f g h o e = same f g o ∙ ap (λ i. paint Black i o) (sym e)
+
+-- a dot of a character, or what is black behind it
+pub part_placed : (at top left wide first high x k : ℕ) (r d filled c : Bool) → (d ≡ true → r ≡ true) → (span left (left + wide) (x - at) && span first (first + high) (k - top)) ≡ filled
+    → (d || filled) ≡ c → (leb top k && (leb at x && c)) ≡ (leb top k && (r && (leb at x && d)) || span (top + first) (top + first + high) k && span (at + left) (at + left + wide) x)
+part_placed at top left wide first high x k r d filled c e f g =
+    ap (λ b. leb top k && (leb at x && b)) (sym g ∙ ap (λ b. d || b) (sym f)) ∙ each (leb top k) (leb at x) d r _ _ e
+    ∙ ap (λ b. leb top k && (r && (leb at x && d)) || b && (leb at x && span left (left + wide) (x - at))) (sym (moved top first high k))
+    ∙ ap (λ b. leb top k && (r && (leb at x && d)) || span (top + first) (top + first + high) k && b) (sym (moved at left wide x))
+  where
+    moved : (at left wide x : ℕ) → span (at + left) (at + left + wide) x ≡ (leb at x && span left (left + wide) (x - at))
+    moved at left wide x = grind (arith, nat_tests)
+
+    none : (a b : Bool) → (a && (false && b)) ≡ false
+    none true b = refl
+    none false b = refl
+
+    apart : (t a s u : Bool) → (t && (a && (s && u))) ≡ ((t && u) && (a && s))
+    apart true true true true = refl
+    apart true true true false = refl
+    apart true true false true = refl
+    apart true true false false = refl
+    apart true false s true = refl
+    apart true false s false = refl
+    apart false a s u = refl
+
+    white : (t r a : Bool) → (t && (r && (a && false))) ≡ false
+    white true true true = refl
+    white true true false = refl
+    white true false a = refl
+    white false r a = refl
+
+    each : (t a d r s u : Bool) → (d ≡ true → r ≡ true) → (t && (a && (d || s && u))) ≡ (t && (r && (a && d)) || (t && u) && (a && s))
+    each true true true r s u e = rw (e refl) refl
+    each true false true r s u e = rw (e refl) (sym (none u s))
+    each false a true r s u e = refl
+    each t a false r s u e = rw (white t r a) (apart t a s u)

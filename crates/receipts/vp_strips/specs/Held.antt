@@ -1,7 +1,6 @@
 -- What a job keeps.
-use Rattle.std.specs.Prelude.{false, ◌≡◌, ◌≤◌, ◌<◌, ℕ, List, [], ◌++◌, length, take, Option, Some, None}
+use Rattle.std.specs.Prelude.{◌≡◌, ◌≤◌, ◌<◌, ℕ, List, [], ◌++◌, length, take, Option, Some, None}
 use Rattle.vp_receipt_settings.specs.declared.text.TheConstants.{LINE_ROWS}
-use Rattle.vp_glyph.specs.declared.cell.Style.{Style}
 use Rattle.vp_strips.specs.declared.canvas.Canvas.{Canvas}
 use Rattle.vp_strips.specs.declared.job.Job.{Job}
 use Rattle.vp_strips.specs.declared.lines.Lines.{Lines}
@@ -156,9 +155,3 @@ Shows (Some shown) pending high others = (shown.height ≡ high) × (shown.other
 
 abbrev pub IsShowing : Job → Canvas → ℕ → ℕ → Type 0
 IsShowing j canvas high others = Shows (showing_of j canvas) (length (job_text j canvas)) high others
-
--- a style whose rows are those of another one, in which each is printed `hm` times
-pub record IsSource (source style : Style) : Type 0 where
-  pub is : source ≡ record style { hm = 1 }
-  pub some : 0 < style.hm
-  pub plain : style.inverse ≡ false → style.underline ≡ 0

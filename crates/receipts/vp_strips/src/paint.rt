@@ -10,12 +10,11 @@ ghost use Rattle.vp_receipt_settings.specs.declared.text.TheConstants.{LINE_ROWS
 ghost use Rattle.vp_dots.specs.declared.word.TheConstants.{NARROW};
 ghost use Rattle.vp_receipt_settings.specs.Line.{Placed};
 ghost use Rattle.vp_strips.specs.LineDots.{HasDots, ink_placed};
-ghost use Rattle.vp_strips.specs.Held.{IsSource};
 
 use std::alloc::{AllocError, Global};
 use std::marker::Model;
-use vp_dots::{Band, Ink, NARROW, Op, Ready, WORDS, paint_at, paint_narrow};
-use vp_glyph::{Cell, Style};
+use vp_dots::{Band, Ink, NARROW, Op, Ready, WORDS, fill_dots, first_dots, paint_at, paint_narrow};
+use vp_glyph::{Cell, doubled_rows, widened_rows};
 use vp_page::LINE_BYTES;
 use vp_receipt_settings::LINE_ROWS;
 
@@ -97,107 +96,134 @@ fn paint_lines(
     ensures { RowsPainted LINE_ROWS Black (λ x k. nat_le top k && (nat_lt ((k - top) / times) high
         && shifted (pos at) (word_dot (slice_index words.now ((k - top) / times))) x)) band.old band.new }
 {
+    if times == 1 {
+        paint_words(words, high, at, top, band);
+        return;
+    }
     for v in 0..high {
         paint_alike(words[v], times, at, top + v * times, band);
     }
 }
 
-/// Paints the lines of ink, each on `times` rows, from `top` on, and tells whether it did: where they are words
-/// of few dots.
-#[inline(never)]
-fn paint_magnified<I: Ink>(
-    ink: &I,
+/// Paints `N` dots of each of the first `high` words, from dot `first` on: each `wm` dots wide and on `times`
+/// rows, from `top` on.
+#[inline(always)]
+fn paint_part<const N: u32>(
+    words: &[u64; WORDS],
+    first: u32,
+    wm: u32,
+    high: usize,
     times: usize,
     at: usize,
     top: usize,
     band: &mut Band<LINE_BYTES, LINE_ROWS>,
-) -> bool
+)
+    requires dots { N ≤ 12 }
+    requires narrow { N * wm ≤ NARROW }
+    requires wm { wm ≤ 9 }
+    requires first { first ≤ 12 }
+    requires few { high ≤ WORDS }
     requires some { 0 < times }
-    requires room { top + I.height ink.now * times ≤ LINE_ROWS }
+    requires room { top + high * times ≤ LINE_ROWS }
     requires at { at < 2 ^ 63 }
-    ensures painted { result ≡ true → RowsPainted LINE_ROWS Black (λ x k. nat_le top k
-        && shifted (pos at) (λ u. I.ink_at ink.now u ((k - top) / times)) x) band.old band.new }
-    ensures kept { result ≡ false → band.new ≡ band.old }
+    ensures { RowsPainted LINE_ROWS Black (λ x k. nat_le top k && (nat_lt ((k - top) / times) high
+        && shifted (pos at) (λ u. nat_lt u (N * wm)
+        && word_dot (slice_index words.now ((k - top) / times)) (first + u / wm)) x)) band.old band.new }
 {
-    let (wide, high) = ink.size();
-    let high = high as usize;
-    let mut words = [0; WORDS];
-    if wide > NARROW || high > WORDS || !ink.words(&mut words) {
-        return false;
-    }
-    paint_lines(&words, high, times, at, top, band);
-    true
+    let wide = widened_rows::<N>(words, first, wm);
+    paint_lines(&wide, high, times, at, top, band);
 }
 
-/// The character whose rows are printed `hm` times each for this one, where that is more than once: an
-/// underline isn't magnified.
-fn source_of<'a>(cell: &Cell<'a>) -> Option<Cell<'a>>
-    ensures { MatchOption result (Unit {0}) (λ source.
-        (source.sheets.now ≡ cell.now.sheets.now) × (source.character ≡ cell.now.character)
-        × (source.font ≡ cell.now.font) × IsSource source.style cell.now.style) }
+/// Paints twelve dots of each of the first `high` words, each `wm` dots wide and on `times` rows, from `top`
+/// on.
+fn paint_dots(
+    words: &[u64; WORDS],
+    wm: u32,
+    high: usize,
+    times: usize,
+    at: usize,
+    top: usize,
+    band: &mut Band<LINE_BYTES, LINE_ROWS>,
+)
+    requires narrow { 6 * wm ≤ NARROW }
+    requires few { high ≤ WORDS }
+    requires some { 0 < times }
+    requires room { top + high * times ≤ LINE_ROWS }
+    requires at { at < 2 ^ 62 }
+    requires dots { (x y : ℕ) → 12 ≤ x → word_dot (slice_index words.now y) x ≡ false }
+    ensures { RowsPainted LINE_ROWS Black (λ x k. nat_le top k && (nat_lt ((k - top) / times) high
+        && shifted (pos at) (λ u. nat_lt u (12 * wm)
+        && word_dot (slice_index words.now ((k - top) / times)) (u / wm)) x)) band.old band.new }
+{
+    if wm == 1 {
+        paint_lines(words, high, times, at, top, band);
+        return;
+    }
+    if wm == 2 {
+        paint_lines(&doubled_rows(words), high, times, at, top, band);
+        return;
+    }
+    if 12 * wm <= NARROW {
+        paint_part::<12>(words, 0, wm, high, times, at, top, band);
+        return;
+    }
+    paint_part::<6>(words, 0, wm, high, times, at, top, band);
+    paint_part::<6>(words, 6, wm, high, times, at + 6 * wm as usize, top, band);
+}
+
+/// Blackens `wide` dots of each of `high` rows, from column `at` and row `top` on.
+fn blacken(wide: u32, high: usize, at: usize, top: usize, band: &mut Band<LINE_BYTES, LINE_ROWS>)
+    requires room { top + high ≤ LINE_ROWS }
+    requires at { at < 2 ^ 62 }
+    ensures { RowsPainted LINE_ROWS Black (λ x k. span top (top + high) k && span at (at + wide) x)
+        band.old band.new }
+{
+    if wide <= NARROW {
+        paint_alike(first_dots(wide), high, at, top, band);
+        return;
+    }
+    let from = at as u64;
+    let to = from + u64::from(wide);
+    for i in 0..high {
+        fill_dots(Op::Black, from, to, band.row_mut(top + i));
+    }
+}
+
+/// Paints a character at a place: its rows, each drawn once however often it is printed, and what is black
+/// whatever they show.
+#[inline(never)]
+fn paint_styled(cell: &Cell<'_>, at: u16, top: usize, band: &mut Band<LINE_BYTES, LINE_ROWS>)
+    requires { top + cell_height cell.now.font cell.now.style ≤ LINE_ROWS }
+    ensures { RowsPainted LINE_ROWS Black (placed (pos at) (pos top)
+        (cell_dot cell.now.sheets.now cell.now.font cell.now.style cell.now.character)) band.old band.new }
 {
     let style = cell.style;
-    if style.hm < 2 || (style.underline > 0 && !style.inverse) {
-        return None;
+    let (wm, hm) = (u32::from(style.wm), usize::from(style.hm));
+    if hm == 0 || wm > NARROW / 6 {
+        paint_at(cell, Op::Black, i64::from(at), top as i64, band);
+        return;
     }
-    Some(Cell {
-        style: Style { hm: 1, ..style },
-        ..*cell
-    })
+    let at = usize::from(at);
+    let high = cell.font.height() as usize;
+    paint_dots(&cell.rows(), wm, high, hm, at, top, band);
+    let filled = cell.filled();
+    let (left, first) = (at + filled.left as usize, top + filled.top as usize);
+    blacken(filled.wide, filled.high as usize, left, first, band);
 }
 
-/// Paints ink at a place: by its words where they are of few dots, as those of a character in a style.
-#[inline(never)]
-fn paint_drawn<I: Ink>(ink: &I, left: i64, top: i64, band: &mut Band<LINE_BYTES, LINE_ROWS>)
-    ensures { RowsPainted LINE_ROWS Black (placed left top (I.ink_at ink.now)) band.old band.new }
-{
-    let (wide, high) = ink.size();
-    let high = high as usize;
-    if let (Ok(at), Ok(row)) = (usize::try_from(left), usize::try_from(top)) {
-        if wide <= NARROW && high <= WORDS && row <= LINE_ROWS - high {
-            let mut words = [0; WORDS];
-            if ink.words(&mut words) {
-                paint_words(&words, high, at, row, band);
-                return;
-            }
-        }
-    }
-    paint_at(ink, Op::Black, left, top, band);
-}
-
-/// Paints ink at a place: as it stands ready where that is of few dots, as a character of a sheet.
+/// Paints a character at a place: as it stands in its sheet, where it is printed so.
 // Inlined, so that a run of characters looks once at how they are printed.
-#[inline(always)]
-fn paint_ink<I: Ink>(ink: &I, left: i64, top: i64, band: &mut Band<LINE_BYTES, LINE_ROWS>)
-    ensures { RowsPainted LINE_ROWS Black (placed left top (I.ink_at ink.now)) band.old band.new }
-{
-    let (wide, high) = ink.size();
-    let high = high as usize;
-    if let (Ok(at), Ok(row)) = (usize::try_from(left), usize::try_from(top)) {
-        if wide <= NARROW && high <= LINE_ROWS && row <= LINE_ROWS - high {
-            if let Some(Ready { above, words }) = ink.ready() {
-                paint_words(words, words.len(), at, row + above, band);
-                return;
-            }
-        }
-    }
-    paint_drawn(ink, left, top, band);
-}
-
-/// Paints a character at a place: each of its rows is drawn once, however often it is printed.
 #[inline(always)]
 fn paint_cell(cell: &Cell<'_>, at: u16, top: usize, band: &mut Band<LINE_BYTES, LINE_ROWS>)
     requires { top + cell_height cell.now.font cell.now.style ≤ LINE_ROWS }
     ensures { RowsPainted LINE_ROWS Black (placed (pos at) (pos top)
         (cell_dot cell.now.sheets.now cell.now.font cell.now.style cell.now.character)) band.old band.new }
 {
-    if let Some(source) = source_of(cell) {
-        let times = usize::from(cell.style.hm);
-        if paint_magnified(&source, times, usize::from(at), top, band) {
-            return;
-        }
+    if let Some(Ready { above, words }) = cell.ready() {
+        paint_words(words, words.len(), usize::from(at), top + above, band);
+        return;
     }
-    paint_ink(cell, i64::from(at), top as i64, band);
+    paint_styled(cell, at, top, band);
 }
 
 impl Bitmap {
@@ -225,7 +251,7 @@ impl Bitmap {
     {
         let (_, high) = ink.size();
         let top = LINE_ROWS - high as usize;
-        paint_ink(ink, i64::from(at), top as i64, &mut self.band);
+        paint_at(ink, Op::Black, i64::from(at), top as i64, &mut self.band);
         self.used = self.used.max(high as usize);
     }
 

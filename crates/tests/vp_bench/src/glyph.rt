@@ -7,55 +7,11 @@ use std::alloc::Global;
 use std::io;
 use std::rt::Clock;
 use vp_dots::{Ink, Op};
-use vp_glyph::{Alignment, Font, Sheet, Sheets, Style};
+use vp_glyph::{Alignment, Sheet, Sheets};
 
 const ROUNDS: u32 = 200;
 
 const COLUMNS: u8 = 24;
-
-const PLAIN: Style = Style {
-    wm: 1,
-    hm: 1,
-    spacing: 0,
-    bold: false,
-    underline: 0,
-    inverse: false,
-};
-
-const STYLES: [(&str, Style); 5] = [
-    ("plain", PLAIN),
-    (
-        "bold",
-        Style {
-            bold: true,
-            ..PLAIN
-        },
-    ),
-    (
-        "double",
-        Style {
-            wm: 2,
-            hm: 2,
-            ..PLAIN
-        },
-    ),
-    (
-        "eightfold",
-        Style {
-            wm: 8,
-            hm: 8,
-            ..PLAIN
-        },
-    ),
-    (
-        "inverse",
-        Style {
-            inverse: true,
-            spacing: 4,
-            ..PLAIN
-        },
-    ),
-];
 
 const SAMPLED: [(&str, u32, u32); 2] = [("sampled 12 by 24", 12, 24), ("sampled 30 by 60", 30, 60)];
 
@@ -129,14 +85,6 @@ fn show<I: Ink>(rt: &(impl Clock + Print), name: &str, ink: &I) -> io::Result<()
     )
 }
 
-/// The cell of font A in five styles.
-fn show_styles(rt: &(impl Clock + Print), sheets: &Sheets) -> io::Result<()> {
-    for (name, style) in STYLES {
-        show(rt, name, &sheets.cell(b'M', Font::A, style))?;
-    }
-    Ok(())
-}
-
 fn show_sampled(rt: &(impl Clock + Print), sheets: &Sheets) -> io::Result<()> {
     for (name, width, height) in SAMPLED {
         show(rt, name, &sheets.sampled(b'M', width, height))?;
@@ -151,9 +99,6 @@ fn show_block(rt: &(impl Clock + Print), sheets: &Sheets) -> io::Result<()> {
 }
 
 fn show_all(rt: &(impl Clock + Print), sheets: &Sheets) -> io::Result<()> {
-    show_styles(rt, sheets)?;
-    let cell = sheets.cell(b'M', Font::B, PLAIN);
-    show(rt, "font B from sheet A", &cell)?;
     show_sampled(rt, sheets)?;
     show_block(rt, sheets)
 }
