@@ -51,14 +51,7 @@ const PLAIN: Style = Style {
 };
 
 /// Paints row y of a cell that stands `left` dots to the right, dot by dot.
-fn paint_cell_dots<A: Small>(
-    cell: &Cell<'_, A>,
-    y: u32,
-    left: u32,
-    op: Op,
-    at: i64,
-    row: &mut [u8],
-)
+fn paint_cell_dots<A: Small>(cell: &Cell<'_, A>, y: u32, left: u32, op: Op, at: i64, row: &mut [u8])
     requires { left + cell_width cell.now.font cell.now.style < 2 ^ 32 }
     ensures { Painted op (shifted at (λ i. nat_le left i
         && cell_dot cell.now.sheets.now cell.now.font cell.now.style cell.now.character (i - left) y))

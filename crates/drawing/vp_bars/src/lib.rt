@@ -13,7 +13,7 @@
 //! - `patterns`: the tables of bars and spaces. `laws` says what holds of them as a whole, and of data.
 //! - `pen`, `strokes`: the bars of a row, drawn from the left in one pass, a character at a time.
 //! - `bar_box`: bars and text together.
-#![tactic(auto, using(vp_dots::proofs::Handles::list_small))]
+#![tactic(auto)]
 
 mod bar_box;
 mod bars;

@@ -1,6 +1,6 @@
 //! A character in a font and a style.
 ghost use Rattle.std.specs.Prelude.{◌≡◌, ℕ, ◌*◌, ◌/◌, ◌<◌, ◌≤◌, Bool, None, MatchOption, slice_index, nat_lt, ◌&&◌, not, true, false, if◌then◌else◌};
-ghost use Rattle.vp_glyph.specs.Sheets.{Sheets as TheSheets};
+ghost use Rattle.vp_glyph.specs.Sheets.{Sheets as Given};
 ghost use Rattle.vp_dots.specs.Dots.{shifted};
 ghost use Rattle.vp_dots.specs.Words.{word_dot};
 ghost use Rattle.vp_dots.specs.declared.TheConstants.{WORDS};
@@ -13,7 +13,7 @@ use crate::look::{
     widened,
 };
 use crate::sheet::{dot_in, ready_in, row_at, rows_in};
-use std::alloc::{AllocError, Global};
+use std::alloc::Global;
 use vp_dots::{Ink, Op, Ready, Small, WORDS, fill_moved, first_dots, paint_word};
 
 /// The two fonts of a receipt printer.
@@ -75,20 +75,13 @@ impl Style {
 }
 
 /// A character of a font in a style.
+#[derive_where(Clone, Copy)]
 pub struct Cell<'a, A: Small = Global> {
     pub sheets: &'a Sheets<A>,
     /// The byte, which is the number of its cell.
     pub character: u8,
     pub font: Font,
     pub style: Style,
-}
-
-impl<A: Small> Copy for Cell<'_, A> {}
-
-impl<A: Small> Clone for Cell<'_, A> {
-    fn clone(&self) -> Result<Self, AllocError> {
-        Ok(*self)
-    }
 }
 
 /// How wide a character is with its spacing.
@@ -181,7 +174,7 @@ fn printed_row(word: u64, font: Font, style: Style, wm: u32, inverse: bool, y: u
     requires high { style.hm ≡ 1 }
     requires narrow { cell_width font style ≤ 64 }
     requires y { y < font_height font }
-    ensures { (sheets : TheSheets) (c : ℕ) → ((x : ℕ) → x < font_width font
+    ensures { (sheets : Given) (c : ℕ) → ((x : ℕ) → x < font_width font
         → word_dot word x ≡ font_dot sheets c font x y)
         → (x : ℕ) → word_dot result x ≡ cell_dot sheets font style c x y }
 {

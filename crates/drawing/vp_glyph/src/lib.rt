@@ -13,7 +13,7 @@
 //! - `lines`, `block`: a text broken into lines, and the lines below each other.
 //! - `fronts`, `joined`: the first dots of many of their rows at once, and lines over each other.
 //! - `rows`, `runs`: all dots of the rows of a band, what many of them have alike kept once.
-#![tactic(auto, using(vp_dots::proofs::Handles::list_small))]
+#![tactic(auto)]
 
 ghost use Rattle.std.specs.Prelude.{◌≡◌, ◌<◌, ◌≤◌, ◌^◌, ◌≤ℤ◌, pos};
 ghost use Rattle.vp_glyph.specs.Blocks.{pitch};

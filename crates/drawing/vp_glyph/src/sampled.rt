@@ -10,24 +10,17 @@ ghost use Rattle.vp_glyph.specs.Texts.{sampled_dot, sampled_inside};
 use crate::look::paint_scaled;
 use crate::sheet::{Sheet, dot_in, row_at, rows_in};
 use crate::stretch::Stretch;
-use std::alloc::{AllocError, Global};
+use std::alloc::Global;
 use vp_dots::{Ink, Op, Small};
 
 /// A character of a sheet with cells of 12 by 24, drawn w by h dots.
+#[derive_where(Clone, Copy)]
 pub struct Sampled<'a, A: Small = Global> {
     pub sheet: &'a Option<Sheet<A>>,
     /// The byte, which is the number of its cell.
     pub character: u8,
     pub w: u32,
     pub h: u32,
-}
-
-impl<A: Small> Copy for Sampled<'_, A> {}
-
-impl<A: Small> Clone for Sampled<'_, A> {
-    fn clone(&self) -> Result<Self, AllocError> {
-        Ok(*self)
-    }
 }
 
 /// Which of `cell` dots is shown at place `place`, where they are drawn as `size` dots.
