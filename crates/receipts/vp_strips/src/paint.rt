@@ -96,6 +96,10 @@ fn paint_lines(
     ensures { RowsPainted LINE_ROWS Black (λ x k. nat_le top k && (nat_lt ((k - top) / times) high
         && shifted (pos at) (word_dot (slice_index words.now ((k - top) / times))) x)) band.old band.new }
 {
+    if times == 1 {
+        paint_words(words, high, at, top, band);
+        return;
+    }
     for v in 0..high {
         paint_alike(words[v], times, at, top + v * times, band);
     }

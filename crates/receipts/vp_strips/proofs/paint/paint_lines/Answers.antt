@@ -5,6 +5,7 @@ use Rattle.vp_dots.specs.Dots.{shifted}
 use Rattle.vp_dots.specs.Words.{word_dot}
 use Rattle.vp_dots.specs.Places.{RowsPainted}
 use Rattle.vp_dots.specs.declared.Op.TheVariants.{Black}
+use Rattle.vp_dots.proofs.Heights.{rows_same}
 use Rattle.vp_dots.proofs.Placing.{rows_all}
 use Rattle.vp_strips.proofs.Magnified.{rows_alike, line_on, past_lines}
 use Rattle.vp_strips.proofs.paint.paint_lines.Goals as goal
@@ -12,6 +13,10 @@ use Rattle.vp_strips.proofs.paint.paint_lines.Goals as goal
 -- the rows that show words
 abbrev shown : ℕ → ℕ → ℕ → ℕ → List ℕ → ℕ → ℕ → Bool
 shown at top times high words x k = leb top k && (ltb ((k - top) / times) high && shifted (pos at) (word_dot (get_or words ((k - top) / times) 0)) x)
+
+pub returns-then-times-eq1 : goal.returns-then-times-eq1
+returns-then-times-eq1 c =
+    rw c.if-times-eq1.true (rows_same 192 Black _ _ _ _ (λ x k _. let once : (k - c.args.top) / 1 ≡ k - c.args.top = omega arith in rw once refl) c.paint_words.ensures)
 
 pub loop-v-preserved : goal.loop-v-preserved
 loop-v-preserved c =
