@@ -9,7 +9,7 @@ use Rattle.vp_glyph.specs.Parts.{row_dot, filled_dot}
 use Rattle.vp_glyph.specs.declared.cell.Font.{Font}
 use Rattle.vp_glyph.specs.declared.cell.Font.TheVariants.{A, B}
 use Rattle.vp_glyph.specs.declared.cell.Style.{Style}
-use Rattle.vp_glyph.specs.declared.Sheets.{Sheets}
+use Rattle.vp_glyph.specs.Sheets.{Sheets}
 
 pub some_width : (x n w : ℕ) → x < n * w → 0 < w
 some_width x n zero l = absurd (omega arith)

@@ -8,7 +8,7 @@ ghost use Rattle.vp_glyph.specs.Runs.{in_eights};
 
 use crate::block::Block;
 use crate::lines::{Line, next_line};
-use vp_dots::{Op, word_of};
+use vp_dots::{Op, Small, word_of};
 
 /// The first of the rows of a cell, drawn `high` rows high, that show row s of 24.
 pub fn first_row(s: u32, high: u32) -> u32
@@ -106,7 +106,7 @@ fn add_eights<const N: usize, const M: usize>(eights: &[u64; M], words: &mut [u6
     }
 }
 
-impl Block<'_> {
+impl<A: Small> Block<'_, A> {
     /// Adds a line that stands `place` lines below the first to the fronts of `N` rows.
     fn add_line<const N: usize, const M: usize>(
         &self,

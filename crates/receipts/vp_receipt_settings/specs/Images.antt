@@ -5,7 +5,7 @@ use Rattle.vp_dots.specs.Images.{Image}
 use Rattle.vp_glyph.specs.Cells.{cell_width, cell_height, cell_dot}
 use Rattle.vp_glyph.specs.declared.cell.Font.{Font}
 use Rattle.vp_glyph.specs.declared.cell.Style.{Style}
-use Rattle.vp_glyph.specs.declared.Sheets.{Sheets}
+use Rattle.vp_glyph.specs.Sheets.{Sheets}
 use Rattle.std.proofs.lemmas.Bool.{and_parts, ltb-true}
 
 -- a character: its cell

@@ -5,7 +5,7 @@ use Rattle.vp_esc.specs.declared.item.EscItem.TheVariants.{Initialize, Justify}
 use Rattle.vp_glyph.specs.declared.block.Alignment.{Alignment}
 use Rattle.vp_glyph.specs.declared.block.Alignment.TheVariants.{Left}
 use Rattle.vp_glyph.specs.Blocks.{indent}
-use Rattle.vp_glyph.specs.declared.Sheets.{Sheets}
+use Rattle.vp_glyph.specs.Sheets.{Sheets}
 use Rattle.vp_receipt_settings.specs.declared.text.Text.{Text}
 use Rattle.vp_receipt_settings.specs.declared.settings.Settings.{Settings}
 use Rattle.vp_page.specs.declared.page.TheConstants.{PAPER_DOTS, PAGE_ROWS}

@@ -4,7 +4,7 @@ use Rattle.vp_page.specs.declared.page.TheConstants.{PAPER_DOTS, PAPER_BYTES}
 use Rattle.vp_receipt_settings.specs.declared.width.TheConstants.{NARROW_PAPER_DOTS, NARROW_PAPER_BYTES}
 use Rattle.vp_receipt_settings.specs.declared.width.Width.{Width}
 use Rattle.vp_receipt_settings.specs.declared.width.Width.TheVariants.{W576, W384}
-use Rattle.vp_glyph.specs.declared.Sheets.{Sheets}
+use Rattle.vp_glyph.specs.Sheets.{Sheets}
 
 -- the width of its paper, and the sheets of its fonts
 pub record Setup : Type 0 where

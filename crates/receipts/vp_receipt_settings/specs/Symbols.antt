@@ -23,7 +23,7 @@ use Rattle.vp_qr.specs.Encoding.{refusal as no_symbol, version_of, symbol_module
 use Rattle.vp_qr.specs.Inks.{ScaledSymbol, side, ink_of}
 use Rattle.vp_bar_code.specs.declared.BarCode.{BarCode}
 use Rattle.vp_bars.specs.Symbologies.{symbol_of}
-use Rattle.vp_glyph.specs.declared.Sheets.{Sheets}
+use Rattle.vp_glyph.specs.Sheets.{Sheets}
 use Rattle.vp_bar_code.specs.declared.HriPosition.TheVariants.{None as NoText}
 use Rattle.vp_bars.specs.Symbols.{Linear}
 use Rattle.vp_bars.specs.Boxes.{Boxed, box_width, box_height, box_dot}

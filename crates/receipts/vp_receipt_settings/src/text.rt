@@ -6,6 +6,7 @@ ghost use Rattle.vp_receipt_settings.specs.Settings.{IsFitText};
 ghost use Rattle.vp_glyph.specs.Cells.{cell_width, cell_height};
 ghost use Rattle.vp_receipt_settings.specs.declared.text.TheConstants.{LINE_ROWS, WIDEST};
 
+use vp_dots::Small;
 use vp_esc::item::{EscItem, Magnification, PrintMode, Spelled, Underline};
 use vp_glyph::{Cell, Font, Sheets, Style};
 
@@ -73,7 +74,7 @@ impl Text {
     }
 
     /// The cell of a character.
-    pub fn cell(self, sheets: &Sheets, code: u8) -> Cell<'_>
+    pub fn cell<A: Small>(self, sheets: &Sheets<A>, code: u8) -> Cell<'_, A>
         ensures sheets { result.sheets.now ≡ sheets.now }
         ensures character { result.character ≡ code }
         ensures font { result.font ≡ self.font }

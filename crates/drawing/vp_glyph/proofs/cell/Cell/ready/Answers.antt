@@ -1,25 +1,25 @@
-use Rattle.std.proofs.Common.{refl}
+use Rattle.std.proofs.Common.{refl, sym}
 use Rattle.vp_glyph.specs.Sheets.{glyph_dot, sheet_dot}
 use Rattle.vp_glyph.proofs.Parts.{font_few}
 use Rattle.vp_glyph.proofs.Printed.{map_ready, ready_printed, ready_narrow}
 use Rattle.vp_glyph.proofs.cell.Cell.ready.Goals as goal
 
 pub returns-in-B-Some : goal.returns-in-B-Some
-returns-in-B-Some c =
+returns-in-B-Some g c =
     let cell = c.args.self.now in
     map_ready c.ready.result _ _ (λ v p. (
       ready_printed cell.sheets.now cell.font cell.style cell.character v.above v.words.now (glyph_dot c.in-B-Some.b cell.character)
-          (c.is_plain.ensures c.if-not-is_plain.false) (λ x y. rw (c.in-B-Some.is-0, c.in-B-Some.is-1) refl) p,
+          (c.is_plain.ensures c.if-not-is_plain.false) (λ x y. rw (c.in-B-Some.is-0, sym c.sheets.view_is, c.in-B-Some.is-1) refl) p,
       ready_narrow _ v.above v.words.now _ _ (font_few cell.font) p.0 (λ x y e. (p.1 x y e).0),
     ))
     (rw (c.width-width.ensures, c.height-height.ensures) at c.ready.ensures)
 
 pub returns-in-A-default : goal.returns-in-A-default
-returns-in-A-default c =
+returns-in-A-default g c =
     let cell = c.args.self.now in
     map_ready c.ready_in.result _ _ (λ v p. (
-      ready_printed cell.sheets.now cell.font cell.style cell.character v.above v.words.now (sheet_dot cell.sheets.now.a cell.character)
-          (c.is_plain.ensures c.if-not-is_plain.false) (λ x y. rw c.in-A-default.is-0 refl) p,
+      ready_printed cell.sheets.now cell.font cell.style cell.character v.above v.words.now (sheet_dot c.sheets.inside.a cell.character)
+          (c.is_plain.ensures c.if-not-is_plain.false) (λ x y. rw (c.in-A-default.is-0, sym c.sheets.view_is) refl) p,
       ready_narrow _ v.above v.words.now _ _ (font_few cell.font) p.0 (λ x y e. (p.1 x y e).0),
     ))
     (rw (c.width-width.ensures, c.height-height.ensures) at c.ready_in.ensures)
