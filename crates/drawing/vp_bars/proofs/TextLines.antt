@@ -3,7 +3,7 @@ use Rattle.std.proofs.Common.{inl, inr, ◌≡◌, ℕ, zero, suc, subst, pos, �
 use Rattle.std.proofs.Math.Nat.{mul-le-mul_left}
 use Rattle.std.proofs.lemmas.Bool.{cases_lt, lt-ltb, le-ltb, lt-leb, le-leb, false_from_ne_true}
 use Rattle.std.proofs.lemmas.List.{drop_more}
-use Rattle.vp_glyph.specs.declared.Sheets.{Sheets}
+use Rattle.vp_glyph.specs.Sheets.{Sheets}
 use Rattle.vp_glyph.specs.declared.cell.Font.{Font}
 use Rattle.vp_glyph.specs.declared.cell.Font.TheVariants.{A, B}
 use Rattle.vp_glyph.specs.declared.cell.Style.{Style}

@@ -3,7 +3,7 @@ use Rattle.vp_bars.specs.declared.bar_box.BarBox.{BarBox}
 use Rattle.vp_bars.specs.Boxes.{Boxed}
 
 -- the box without the widths that are kept with it
-abbrev pub boxed : BarBox → Boxed
+abbrev pub boxed : {A : _} → BarBox A → Boxed
 boxed b =
     record {
       bars = b.bars.now;

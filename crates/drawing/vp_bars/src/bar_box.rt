@@ -13,8 +13,9 @@ ghost use Rattle.vp_bars.specs.Widths.{bars_width as width_of_bars};
 use crate::Bars;
 use crate::pen::Pen;
 use arrayvec::ArrayVec;
+use std::alloc::Global;
 use vp_bar_code::HriPosition;
-use vp_dots::{Ink, Op, dot_of, fill_moved, paint_word};
+use vp_dots::{Ink, Op, Small, dot_of, fill_moved, paint_word};
 use vp_glyph::{Cell, Font, Sheets, Style, seen};
 
 /// The texts above the bars.
@@ -50,7 +51,7 @@ const PLAIN: Style = Style {
 };
 
 /// Paints row y of a cell that stands `left` dots to the right, dot by dot.
-fn paint_cell_dots(cell: &Cell<'_>, y: u32, left: u32, op: Op, at: i64, row: &mut [u8])
+fn paint_cell_dots<A: Small>(cell: &Cell<'_, A>, y: u32, left: u32, op: Op, at: i64, row: &mut [u8])
     requires { left + cell_width cell.now.font cell.now.style < 2 ^ 32 }
     ensures { Painted op (shifted at (λ i. nat_le left i
         && cell_dot cell.now.sheets.now cell.now.font cell.now.style cell.now.character (i - left) y))
@@ -66,7 +67,7 @@ fn paint_cell_dots(cell: &Cell<'_>, y: u32, left: u32, op: Op, at: i64, row: &mu
 
 /// Paints row y of a cell of the text that stands `left` dots to the right.
 #[inline(always)]
-fn paint_cell(cell: &Cell<'_>, y: u32, left: u32, op: Op, at: i64, row: &mut [u8])
+fn paint_cell<A: Small>(cell: &Cell<'_, A>, y: u32, left: u32, op: Op, at: i64, row: &mut [u8])
     requires plain { cell.now.style ≡ PLAIN }
     requires left { left + cell_width cell.now.font cell.now.style < 2 ^ 32 }
     ensures { Painted op (shifted at (λ i. nat_le left i
@@ -80,8 +81,8 @@ fn paint_cell(cell: &Cell<'_>, y: u32, left: u32, op: Op, at: i64, row: &mut [u8
 }
 
 /// Paints row y of a text that stands `left` dots to the right: the cells that can be seen on the row.
-fn paint_line(
-    sheets: &Sheets,
+fn paint_line<A: Small>(
+    sheets: &Sheets<A>,
     font: Font,
     text: &[u8],
     y: u32,
@@ -112,7 +113,7 @@ fn back(x: u32) -> i64
 
 /// A symbol with its text above or below.
 #[derive(Drop)]
-pub struct BarBox<'a> {
+pub struct BarBox<'a, A: Small = Global> {
     /// The symbol, which has the text too.
     pub bars: &'a Bars,
     /// The dots of a narrow element, or of a module.
@@ -122,7 +123,7 @@ pub struct BarBox<'a> {
     /// The rows of the bars.
     pub height: u16,
     /// What the text is drawn from.
-    pub sheets: &'a Sheets,
+    pub sheets: &'a Sheets<A>,
     pub font: Font,
     pub place: HriPosition,
     /// The dots of a row of the bars.
@@ -154,15 +155,15 @@ impl Bars {
     /// `wide`, which the others don't look at, and the bars are `height` dots high. The box is as wide as
     /// the wider of bars and text, each in the middle of it (the odd dot on the right), and as high as the
     /// bars and the rows of the text above and below.
-    pub fn boxed<'a>(
+    pub fn boxed<'a, A: Small>(
         &'a self,
         narrow: u16,
         wide: u16,
         height: u16,
-        sheets: &'a Sheets,
+        sheets: &'a Sheets<A>,
         font: Font,
         place: HriPosition,
-    ) -> BarBox<'a>
+    ) -> BarBox<'a, A>
         ensures bars { result.bars.now ≡ self.now }
         ensures narrow { result.narrow ≡ narrow }
         ensures wide { result.wide ≡ wide }
@@ -197,7 +198,7 @@ pub fn rows_repeat(place: HriPosition, font: Font, height: u16, y: u32) -> bool
     y > top && y < top + u32::from(height)
 }
 
-impl BarBox<'_> {
+impl<A: Small> BarBox<'_, A> {
     ghost use Rattle.vp_bars.specs.InBox.{boxed};
 
     /// The dots of a row of the text, where one stands.
@@ -273,7 +274,7 @@ impl BarBox<'_> {
     }
 }
 
-impl Ink for BarBox<'_> {
+impl<A: Small> Ink for BarBox<'_, A> {
     ghost use Rattle.vp_bars.specs.InBox.{boxed};
 
     ghost width = { λ s. box_width (boxed s) };

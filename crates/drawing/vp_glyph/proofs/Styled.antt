@@ -10,7 +10,7 @@ use Rattle.vp_dots.proofs.Moves.{moved_then, moved_same}
 use Rattle.vp_glyph.specs.Cells.{font_width, font_dot, bold_dot, cell_width, cell_height, body_dot, cell_dot}
 use Rattle.vp_glyph.specs.declared.cell.Font.{Font}
 use Rattle.vp_glyph.specs.declared.cell.Style.{Style}
-use Rattle.vp_glyph.specs.declared.Sheets.{Sheets}
+use Rattle.vp_glyph.specs.Sheets.{Sheets}
 use Rattle.vp_glyph.proofs.Drawn.{moved_none}
 
 some_width : (x n w : ℕ) → x < n * w → 0 < w

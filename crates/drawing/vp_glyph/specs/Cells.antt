@@ -5,7 +5,7 @@ use Rattle.vp_glyph.specs.Sheets.{Glyphs, sheet_dot, scaled_dot}
 use Rattle.vp_glyph.specs.declared.cell.Font.{Font}
 use Rattle.vp_glyph.specs.declared.cell.Font.TheVariants.{A, B}
 use Rattle.vp_glyph.specs.declared.cell.Style.{Style}
-use Rattle.vp_glyph.specs.declared.Sheets.{Sheets}
+use Rattle.vp_glyph.specs.Sheets.{Sheets}
 
 -- a character of font A is 12 by 24 dots, one of font B 9 by 17
 abbrev pub font_width : Font → ℕ

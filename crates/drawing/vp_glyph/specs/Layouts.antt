@@ -2,7 +2,7 @@
 use Rattle.vp_glyph.specs.declared.block.Block.{Block}
 use Rattle.vp_glyph.specs.Blocks.{BlockLayout}
 
-abbrev pub layout_of : Block → BlockLayout
+abbrev pub layout_of : {A : _} → Block A → BlockLayout
 layout_of b = record {
   sheet = b.sheet.now;
   w = b.w;

@@ -1,7 +1,7 @@
 -- What sheets take of the heap.
 use Rattle.std.specs.Prelude.{ℕ, ◌+◌, ◌*◌, Option, None, Some}
 use Rattle.vp_glyph.specs.Sheets.{Glyphs}
-use Rattle.vp_glyph.specs.declared.Sheets.{Sheets}
+use Rattle.vp_glyph.specs.Sheets.{Sheets}
 use Rattle.vp_glyph.specs.declared.sheet.TheConstants.{INKED_BYTES}
 
 -- the bytes of a sheet: those of its rows, a word of 8 bytes for each row of a cell, and which of a cell's

@@ -9,6 +9,11 @@ pub record Glyphs : Type 0 where
   pub high : ℕ
   pub raster : List ℕ
 
+-- the sheets of the two fonts, as far as there are any
+pub record Sheets : Type 0 where
+  pub a : Option Glyphs
+  pub b : Option Glyphs
+
 -- dot (x, y) of a sheet, whose rows have 16 cells
 abbrev pub raster_dot : Glyphs → ℕ → ℕ → Bool
 raster_dot sheet x y = dot sheet.raster (16 * sheet.wide * y + x)

@@ -9,8 +9,8 @@ use crate::lines::{Line, behind_cells, next_cell, next_line};
 use crate::sampled::{Sampled, paint_cell, seen, source_row};
 use crate::sheet::Sheet;
 use crate::stretch::Stretch;
-use std::alloc::AllocError;
-use vp_dots::{Ink, Op, xor_into};
+use std::alloc::{AllocError, Global};
+use vp_dots::{Ink, Op, Small, xor_into};
 
 /// Where the lines of a block stand.
 #[derive(Clone, Copy, Debug, PartialEq, Eq)]
@@ -48,8 +48,8 @@ pub fn pitch(h: u32, c: i32) -> u32
 
 /// A text in lines of cells of w by h dots, as ink: as wide as a line or a cell, and as high as the lines
 /// that stand apart.
-pub struct Block<'a> {
-    pub sheet: &'a Option<Sheet>,
+pub struct Block<'a, A: Small = Global> {
+    pub sheet: &'a Option<Sheet<A>>,
     pub text: &'a [u8],
     pub w: u32,
     pub h: u32,
@@ -74,16 +74,23 @@ pub struct Block<'a> {
     ghost behind: { drop passed (block_lines (wide / w) text.now) ≡ block_lines (wide / w) rest.now },
 }
 
-impl Copy for Block<'_> {}
+impl<A: Small> Copy for Block<'_, A> {}
 
-impl Clone for Block<'_> {
+impl<A: Small> Clone for Block<'_, A> {
     fn clone(&self) -> Result<Self, AllocError> {
         Ok(*self)
     }
 }
 
 /// A dot of a line, from its left and top.
-fn dot_of_line(line: Line<'_>, sheet: &Option<Sheet>, w: u32, h: u32, x: u32, y: u32) -> bool
+fn dot_of_line<A: Small>(
+    line: Line<'_>,
+    sheet: &Option<Sheet<A>>,
+    w: u32,
+    h: u32,
+    x: u32,
+    y: u32,
+) -> bool
     requires w { 0 < w }
     requires cells { line.cells ≤ length (first (pieces line.text.now)) }
     ensures { result ≡ text_dot sheet.now (take line.entry.cells (first (pieces line.entry.text.now)))
@@ -106,9 +113,9 @@ fn dot_of_line(line: Line<'_>, sheet: &Option<Sheet>, w: u32, h: u32, x: u32, y:
 }
 
 /// Paints row y of a line, from its left and top on: the cells that can be seen on the row.
-pub(crate) fn paint_line(
+pub(crate) fn paint_line<A: Small>(
     line: Line<'_>,
-    sheet: &Option<Sheet>,
+    sheet: &Option<Sheet<A>>,
     stretch: &Stretch,
     h: u32,
     y: u32,
@@ -140,7 +147,7 @@ pub(crate) fn paint_line(
     }
 }
 
-impl Block<'_> {
+impl<A: Small> Block<'_, A> {
     ghost use Rattle.vp_glyph.specs.Layouts.{layout_of};
 
     /// Dot (x, y) of a line that stands `place` lines below the first.
@@ -159,7 +166,7 @@ impl Block<'_> {
     }
 }
 
-impl<'a> Block<'a> {
+impl<'a, A: Small> Block<'a, A> {
     ghost use Rattle.vp_glyph.specs.Layouts.{layout_of};
 
     /// The lines that end above row y, as far as they stand apart, are passed: how many, and the text behind.
@@ -214,7 +221,7 @@ impl<'a> Block<'a> {
     }
 }
 
-impl Block<'_> {
+impl<A: Small> Block<'_, A> {
     ghost use Rattle.vp_glyph.specs.Layouts.{layout_of};
 
     /// The first line that may have a dot in row y, or in one below it: how many lines stand above, and the
@@ -308,7 +315,7 @@ impl Block<'_> {
     }
 }
 
-impl Ink for Block<'_> {
+impl<A: Small> Ink for Block<'_, A> {
     ghost use Rattle.vp_glyph.specs.Layouts.{layout_of};
 
     ghost width = { λ s. block_width s.wide s.w };

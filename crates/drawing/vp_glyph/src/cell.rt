@@ -1,6 +1,6 @@
 //! A character in a font and a style.
 ghost use Rattle.std.specs.Prelude.{◌≡◌, ℕ, ◌*◌, ◌/◌, ◌<◌, ◌≤◌, Bool, None, MatchOption, slice_index, nat_lt, ◌&&◌, not, true, false, if◌then◌else◌};
-ghost use Rattle.vp_glyph.specs.declared.Sheets.{Sheets};
+ghost use Rattle.vp_glyph.specs.Sheets.{Sheets as Given};
 ghost use Rattle.vp_dots.specs.Dots.{shifted};
 ghost use Rattle.vp_dots.specs.Words.{word_dot};
 ghost use Rattle.vp_dots.specs.declared.TheConstants.{WORDS};
@@ -13,7 +13,8 @@ use crate::look::{
     widened,
 };
 use crate::sheet::{dot_in, ready_in, row_at, rows_in};
-use vp_dots::{Ink, Op, Ready, WORDS, fill_moved, first_dots, paint_word};
+use std::alloc::Global;
+use vp_dots::{Ink, Op, Ready, Small, WORDS, fill_moved, first_dots, paint_word};
 
 /// The two fonts of a receipt printer.
 #[derive(Clone, Copy, Debug, PartialEq, Eq)]
@@ -74,9 +75,9 @@ impl Style {
 }
 
 /// A character of a font in a style.
-#[derive(Clone, Copy)]
-pub struct Cell<'a> {
-    pub sheets: &'a Sheets,
+#[derive_where(Clone, Copy)]
+pub struct Cell<'a, A: Small = Global> {
+    pub sheets: &'a Sheets<A>,
     /// The byte, which is the number of its cell.
     pub character: u8,
     pub font: Font,
@@ -110,17 +111,18 @@ fn row_behind(y: u32, font: Font, style: Style) -> u32
     }
 }
 
-impl Cell<'_> {
+impl<A: Small> Cell<'_, A> {
     /// A dot of the character in its font.
     fn font_dot(&self, x: u32, y: u32) -> bool
         requires x { x < font_width self.now.font }
         requires y { y < font_height self.now.font }
         ensures { result ≡ font_dot self.now.sheets.now self.now.character self.now.font x y }
     {
-        match (self.font, &self.sheets.b) {
+        let sheets = self.sheets;
+        match (self.font, &sheets.b) {
             (Font::B, Some(b)) => b.dot(self.character, x, y),
-            (Font::B, None) => dot_in(&self.sheets.a, self.character, x * 12 / 9, y * 24 / 17),
-            (Font::A, _) => dot_in(&self.sheets.a, self.character, x, y),
+            (Font::B, None) => dot_in(&sheets.a, self.character, x * 12 / 9, y * 24 / 17),
+            (Font::A, _) => dot_in(&sheets.a, self.character, x, y),
         }
     }
 
@@ -172,7 +174,7 @@ fn printed_row(word: u64, font: Font, style: Style, wm: u32, inverse: bool, y: u
     requires high { style.hm ≡ 1 }
     requires narrow { cell_width font style ≤ 64 }
     requires y { y < font_height font }
-    ensures { (sheets : Sheets) (c : ℕ) → ((x : ℕ) → x < font_width font
+    ensures { (sheets : Given) (c : ℕ) → ((x : ℕ) → x < font_width font
         → word_dot word x ≡ font_dot sheets c font x y)
         → (x : ℕ) → word_dot result x ≡ cell_dot sheets font style c x y }
 {
@@ -210,17 +212,18 @@ fn first_rows(rows: &[u64]) -> [u64; WORDS]
     first
 }
 
-impl Cell<'_> {
+impl<A: Small> Cell<'_, A> {
     /// The rows of the character, unless its font is drawn from sheet A at another size.
     fn own_rows(&self) -> Option<&[u64]>
         ensures { MatchOption result ((self.now.font ≡ Font.B) × (self.now.sheets.now.b ≡ None))
             (λ rows. (x y : ℕ) → word_dot (slice_index rows.now y) x
             ≡ font_dot self.now.sheets.now self.now.character self.now.font x y) }
     {
-        match (self.font, &self.sheets.b) {
+        let sheets = self.sheets;
+        match (self.font, &sheets.b) {
             (Font::B, Some(b)) => Some(b.rows_of(self.character)),
             (Font::B, None) => None,
-            (Font::A, _) => Some(rows_in(&self.sheets.a, self.character)),
+            (Font::A, _) => Some(rows_in(&sheets.a, self.character)),
         }
     }
 
@@ -231,7 +234,8 @@ impl Cell<'_> {
             → word_dot result x ≡ font_dot self.now.sheets.now self.now.character self.now.font x y }
     {
         let Some(rows) = self.own_rows() else {
-            let rows = rows_in(&self.sheets.a, self.character);
+            let sheets = self.sheets;
+            let rows = rows_in(&sheets.a, self.character);
             return nine_of(row_at(rows, (y * 24 / 17) as usize));
         };
         row_at(rows, y as usize)
@@ -282,7 +286,7 @@ impl Cell<'_> {
     }
 }
 
-impl Cell<'_> {
+impl<A: Small> Cell<'_, A> {
     /// The rows as they are printed, of rows of the character in its font.
     #[inline(always)]
     fn print_rows(&self, rows: &[u64; WORDS], wm: u32, inverse: bool, words: &mut [u64; WORDS])
@@ -369,7 +373,7 @@ impl Cell<'_> {
     }
 }
 
-impl Ink for Cell<'_> {
+impl<A: Small> Ink for Cell<'_, A> {
     ghost width = { λ s. cell_width s.font s.style };
 
     ghost height = { λ s. cell_height s.font s.style };
@@ -408,7 +412,10 @@ impl Ink for Cell<'_> {
         }
         match self.own_rows() {
             Some(rows) => self.print(rows, words),
-            None => self.print(&nine_rows(rows_in(&self.sheets.a, self.character)), words),
+            None => {
+                let sheets = self.sheets;
+                self.print(&nine_rows(rows_in(&sheets.a, self.character)), words);
+            }
         }
         true
     }
@@ -418,10 +425,11 @@ impl Ink for Cell<'_> {
             return None;
         }
         let (width, height) = (self.font.width(), self.font.height());
-        match (self.font, &self.sheets.b) {
+        let sheets = self.sheets;
+        match (self.font, &sheets.b) {
             (Font::B, Some(b)) => b.ready(self.character, width, height),
             (Font::B, None) => None,
-            (Font::A, _) => ready_in(&self.sheets.a, self.character, width, height),
+            (Font::A, _) => ready_in(&sheets.a, self.character, width, height),
         }
     }
 

@@ -7,7 +7,7 @@ ghost use Rattle.vp_glyph.specs.Layouts.{layout_of};
 
 use crate::block::Block;
 use crate::lines::{Line, next_line};
-use vp_dots::{Op, word_of};
+use vp_dots::{Op, Small, word_of};
 
 /// The first of the rows of a cell, drawn `high` rows high, that show row s of 24.
 pub fn first_row(s: u32, high: u32) -> u32
@@ -56,7 +56,7 @@ fn spread<const N: usize>(rows: &[u64; 24], above: u32, high: u32, top: u32, fro
     }
 }
 
-impl Block<'_> {
+impl<A: Small> Block<'_, A> {
     /// Adds a line that stands `place` lines below the first to the fronts of `N` rows.
     fn add_line<const N: usize>(
         &self,

@@ -11,12 +11,13 @@ use crate::lines::{Line, behind_cells, next_cell, next_line};
 use crate::sampled::seen;
 use crate::sheet::{Sheet, rows_in};
 use crate::stretch::Stretch;
+use vp_dots::Small;
 
 /// Adds the first 64 dots of the rows of the sheet on which a line stands from place `left` on, drawn as wide
 /// as it is: the cells that can be seen there.
-fn add_cells(
+fn add_cells<A: Small>(
     line: Line<'_>,
-    sheet: &Option<Sheet>,
+    sheet: &Option<Sheet<A>>,
     stretch: &Stretch,
     at: i64,
     left: u32,
@@ -44,7 +45,7 @@ fn add_cells(
     }
 }
 
-impl Block<'_> {
+impl<A: Small> Block<'_, A> {
     /// Adds the first 64 dots of the rows of the sheet on which a line stands.
     pub(crate) fn add_rows(&self, line: Line<'_>, at: i64, rows: &mut [u64; 24])
         requires cells { line.cells ≤ length (first (pieces line.text.now)) }

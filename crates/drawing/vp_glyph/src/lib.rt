@@ -41,19 +41,30 @@ pub use lines::lines_law;
 pub use runs::{BYTES, ROWS};
 pub use sampled::{Sampled, seen};
 pub use sheet::{Sheet, SheetError};
+use std::alloc::Global;
+use std::marker::Model;
 pub use stretch::Stretch;
 pub use text::paint_text;
+use vp_dots::Small;
 
 /// The sheets of the two fonts, as far as there are any.
 #[derive(Drop)]
-pub struct Sheets {
+pub struct Sheets<A: Small = Global> {
     /// Font A's, with cells of 12 by 24 dots. What has another size is drawn from it too.
-    pub a: Option<Sheet>,
+    pub a: Option<Sheet<A>>,
     /// Font B's, with cells of 9 by 17 dots. Without it font B is drawn from font A's.
-    pub b: Option<Sheet>,
+    pub b: Option<Sheet<A>>,
 }
 
-impl Sheets {
+impl<A: Small> Model for Sheets<A> {
+    ghost use Rattle.vp_glyph.specs.Sheets.{Sheets as Given};
+
+    ghost Value = { Given };
+
+    ghost view = { λ s. record { a = s.a; b = s.b } };
+}
+
+impl<A: Small> Sheets<A> {
     /// The bytes of memory that the sheets hold, on the heap.
     pub fn memory(&self) -> usize
         ensures value { result ≡ sheets_memory self.now }
@@ -64,7 +75,7 @@ impl Sheets {
 
     /// A character of a font in a style, from the font's sheet: (width + spacing) * wm dots wide and height
     /// * hm high. Without a sheet its dots are white, but an underline and what is inverse are drawn.
-    pub fn cell(&self, character: u8, font: Font, style: Style) -> Cell<'_>
+    pub fn cell(&self, character: u8, font: Font, style: Style) -> Cell<'_, A>
         ensures sheets { result.sheets.now ≡ self.now }
         ensures character { result.character ≡ character }
         ensures font { result.font ≡ font }
@@ -80,7 +91,7 @@ impl Sheets {
 
     /// A character drawn w by h dots, from sheet A: dot (x, y) is that at (12x / w, 24y / h) of its cell,
     /// rounded down. Without the sheet, and where w or h is 0, it has no ink.
-    pub fn sampled(&self, character: u8, w: u32, h: u32) -> Sampled<'_>
+    pub fn sampled(&self, character: u8, w: u32, h: u32) -> Sampled<'_, A>
         ensures sheet { result.sheet.now ≡ self.now.a }
         ensures character { result.character ≡ character }
         ensures w { result.w ≡ w }
@@ -111,7 +122,7 @@ impl Sheets {
         rows: u32,
         gap: i32,
         alignment: Alignment,
-    ) -> Block<'a>
+    ) -> Block<'a, A>
         requires w { 0 < w }
         requires h { h ≤ 1500 }
         requires wide { wide ≤ 32000 }

@@ -13,9 +13,9 @@ use crate::fronts::{first_row, rows_above};
 use crate::lines::{Line, next_line};
 use crate::runs::{BYTES, ROWS, Runs};
 use crate::sampled::source_row;
-use vp_dots::Op;
+use vp_dots::{Op, Small};
 
-impl Block<'_> {
+impl<A: Small> Block<'_, A> {
     /// Blackens a row of the sheet on which a line stands.
     fn add_sheet_row(&self, line: Line<'_>, s: u32, at: i64, row: &mut [u8])
         requires cells { line.cells ≤ length (first (pieces line.text.now)) }

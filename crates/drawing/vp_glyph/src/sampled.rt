@@ -10,12 +10,13 @@ ghost use Rattle.vp_glyph.specs.Texts.{sampled_dot, sampled_inside};
 use crate::look::paint_scaled;
 use crate::sheet::{Sheet, dot_in, row_at, rows_in};
 use crate::stretch::Stretch;
-use vp_dots::{Ink, Op};
+use std::alloc::Global;
+use vp_dots::{Ink, Op, Small};
 
 /// A character of a sheet with cells of 12 by 24, drawn w by h dots.
-#[derive(Clone, Copy)]
-pub struct Sampled<'a> {
-    pub sheet: &'a Option<Sheet>,
+#[derive_where(Clone, Copy)]
+pub struct Sampled<'a, A: Small = Global> {
+    pub sheet: &'a Option<Sheet<A>>,
     /// The byte, which is the number of its cell.
     pub character: u8,
     pub w: u32,
@@ -33,8 +34,8 @@ fn sampled_place(place: u32, cell: u32, size: u32) -> u32
 
 /// Paints one row of a character from a place on, stretched to a width: row `source` of its cell.
 #[inline(always)]
-pub fn paint_cell(
-    sheet: &Option<Sheet>,
+pub fn paint_cell<A: Small>(
+    sheet: &Option<Sheet<A>>,
     character: u8,
     source: usize,
     stretch: &Stretch,
@@ -54,8 +55,8 @@ pub fn paint_cell(
 /// The first 64 dots of a row on which one row of a character stands from a place on, stretched to a width:
 /// row `source` of its cell.
 #[inline(always)]
-pub fn cell_front(
-    sheet: &Option<Sheet>,
+pub fn cell_front<A: Small>(
+    sheet: &Option<Sheet<A>>,
     character: u8,
     source: usize,
     stretch: &Stretch,
@@ -144,7 +145,7 @@ pub fn seen(at: i64, left: u32, w: u32, cells: usize, bytes: usize) -> (usize, u
     (whole_cells(from, w) as usize, begun_cells(to, w, cells))
 }
 
-impl Sampled<'_> {
+impl<A: Small> Sampled<'_, A> {
     /// Paints line y from a place on.
     pub(crate) fn paint_from(&self, y: u32, op: Op, at: i64, left: u32, row: &mut [u8])
         requires { left + self.now.w < 2 ^ 32 }
@@ -161,7 +162,7 @@ impl Sampled<'_> {
     }
 }
 
-impl Ink for Sampled<'_> {
+impl<A: Small> Ink for Sampled<'_, A> {
     ghost width = { λ s. s.w };
 
     ghost height = { λ s. s.h };

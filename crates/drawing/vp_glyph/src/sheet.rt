@@ -12,7 +12,7 @@ use std::alloc::{AllocError, Global};
 use std::marker::Model;
 use std::mem::size_of;
 use thiserror::Error;
-use vp_dots::{Ready, copied, dot_of, filled, first_dots, word_at};
+use vp_dots::{Ready, Small, copied, dot_of, filled, first_dots, word_at};
 
 /// Why a text is no sheet, in the order in which it is looked at.
 #[derive(Debug, Drop, PartialEq, Eq, Error)]
@@ -51,14 +51,14 @@ impl SheetError {
 
 /// A glyph sheet: 16 by 16 cells, each 1 to 64 dots wide and high.
 #[derive(Drop)]
-pub struct Sheet {
+pub struct Sheet<A: Small = Global> {
     wide: u32,
     high: u32,
-    raster: Vec<u8>,
+    raster: Vec<u8, A>,
     /// The rows of the cells as words, those of cell 0 first.
-    rows: Vec<u64>,
+    rows: Vec<u64, A>,
     /// Which rows of each cell have ink.
-    inked: Vec<Inked>,
+    inked: Vec<Inked, A>,
 }
 
 /// The rows of a cell from the first on that has ink to the last.
@@ -72,7 +72,7 @@ struct Inked {
 /// The bytes of one of these.
 const INKED_BYTES: usize = size_of::<Inked>();
 
-impl Model for Sheet {
+impl<A: Small> Model for Sheet<A> {
     ghost use Rattle.std.specs.Prelude.{ℕ, ◌≡◌, ◌*◌, ◌≤◌, length, vec_capacity};
     ghost use Rattle.vp_glyph.specs.Sheets.{Glyphs, IsCut};
     ghost use Rattle.vp_glyph.specs.Inked.{AreInked};
@@ -93,11 +93,11 @@ impl Model for Sheet {
     } };
 }
 
-impl Sheet {
+impl<A: Small + Copy> Sheet<A> {
     /// Reads a sheet with cells of w by h dots, each 1 to 64, from an image in raw PBM (netpbm, pbm(5)) of
     /// 16w by 16h. What stands behind the image isn't looked at. The first offence is answered, in the
     /// order of `SheetError`.
-    pub fn read(alloc: Global, src: &[u8], w: u32, h: u32) -> Result<Sheet, SheetError>
+    pub fn read(alloc: A, src: &[u8], w: u32, h: u32) -> Result<Self, SheetError>
         requires w { w ≤ 64 }
         requires h { h ≤ 64 }
         ensures { (result ≡ sheet_of src.now w h)
@@ -113,7 +113,7 @@ impl Sheet {
     }
 
     /// The sheet whose rows have these bytes.
-    fn of_raster(alloc: Global, raster: &[u8], w: u32, h: u32) -> Result<Sheet, AllocError>
+    fn of_raster(alloc: A, raster: &[u8], w: u32, h: u32) -> Result<Self, AllocError>
         requires w { w ≤ 64 }
         requires h { h ≤ 64 }
         requires whole { length raster.now ≡ 32 * w * h }
@@ -130,7 +130,9 @@ impl Sheet {
             inked,
         })
     }
+}
 
+impl<A: Small> Sheet<A> {
     /// The dot of cell c at column x of row y, white outside the cell.
     #[tactic(auto, unfolding(crate::specs::Sheets::glyph_dot))]
     pub fn dot(&self, c: u8, x: u32, y: u32) -> bool
@@ -200,7 +202,7 @@ fn inked_rows(rows: &[u64]) -> Inked
 }
 
 /// Which rows of each cell have ink, of cells `high` rows high.
-fn inked_cells(alloc: Global, rows: &[u64], high: usize) -> Result<Vec<Inked>, AllocError>
+fn inked_cells<A: Small>(alloc: A, rows: &[u64], high: usize) -> Result<Vec<Inked, A>, AllocError>
     requires high { high ≤ 64 }
     requires whole { length rows.now ≡ 256 * high }
     ensures inked { IfOk result (λ inked. AreInked high rows.now inked.items) }
@@ -229,7 +231,7 @@ fn cut_row(raster: &[u8], w: u32, h: u32, c: u32, y: u32) -> u64
 }
 
 /// The rows of the cells of a raster, those of cell 0 first.
-fn cut(alloc: Global, raster: &[u8], w: u32, h: u32) -> Result<Vec<u64>, AllocError>
+fn cut<A: Small>(alloc: A, raster: &[u8], w: u32, h: u32) -> Result<Vec<u64, A>, AllocError>
     requires w { w ≤ 64 }
     requires h { h ≤ 64 }
     ensures cut { IfOk result (λ rows. IsCut (record { wide = w; high = h; raster = raster.now }) rows.items) }
@@ -270,7 +272,7 @@ fn raster_of(src: &[u8], w: u32, h: u32) -> Result<&[u8], SheetError>
 }
 
 /// The bytes of memory of a sheet, none without a sheet.
-pub(crate) fn memory_in(sheet: &Option<Sheet>) -> usize
+pub(crate) fn memory_in<A: Small>(sheet: &Option<Sheet<A>>) -> usize
     ensures value { result ≡ memory_of sheet.now }
     ensures most { result ≤ 2 ^ 19 }
 {
@@ -281,7 +283,7 @@ pub(crate) fn memory_in(sheet: &Option<Sheet>) -> usize
 }
 
 /// The dot of a cell of a sheet, white without a sheet.
-pub fn dot_in(sheet: &Option<Sheet>, c: u8, x: u32, y: u32) -> bool
+pub fn dot_in<A: Small>(sheet: &Option<Sheet<A>>, c: u8, x: u32, y: u32) -> bool
     ensures { result ≡ sheet_dot sheet.now c x y }
 {
     match sheet {
@@ -291,7 +293,7 @@ pub fn dot_in(sheet: &Option<Sheet>, c: u8, x: u32, y: u32) -> bool
 }
 
 /// The lines of a cell of a sheet, unless cells are larger than `w` by `h` dots, or there is no sheet.
-pub fn ready_in(sheet: &Option<Sheet>, c: u8, w: u32, h: u32) -> Option<Ready<'_>>
+pub fn ready_in<A: Small>(sheet: &Option<Sheet<A>>, c: u8, w: u32, h: u32) -> Option<Ready<'_>>
     ensures { MatchOption result (Unit {0}) (λ ready.
         IsReady h ready.above ready.words.now (sheet_dot sheet.now c)
         × ((x y : ℕ) → sheet_dot sheet.now c x y ≡ true → (x < w) × (y < h))) }
@@ -301,7 +303,7 @@ pub fn ready_in(sheet: &Option<Sheet>, c: u8, w: u32, h: u32) -> Option<Ready<'_
 
 /// The rows of a cell of a sheet, none without a sheet.
 #[inline(always)]
-pub fn rows_in(sheet: &Option<Sheet>, c: u8) -> &[u64]
+pub fn rows_in<A: Small>(sheet: &Option<Sheet<A>>, c: u8) -> &[u64]
     ensures { (x y : ℕ) → word_dot (slice_index result.now y) x ≡ sheet_dot sheet.now c x y }
 {
     match sheet {

@@ -7,13 +7,13 @@ ghost use Rattle.vp_glyph.specs.Texts.{text_dot};
 use crate::sampled::{cell_front, paint_cell, seen, seen_dots, source_row, whole_cells};
 use crate::sheet::Sheet;
 use crate::stretch::Stretch;
-use vp_dots::{Op, paint_word};
+use vp_dots::{Op, Small, paint_word};
 
 /// Paints line y of the cells of a text: those that can be seen on the row.
 // Inlined, so that each caller's loop knows its operation.
 #[inline(always)]
-fn paint_cells(
-    sheet: &Option<Sheet>,
+fn paint_cells<A: Small>(
+    sheet: &Option<Sheet<A>>,
     text: &[u8],
     stretch: &Stretch,
     h: u32,
@@ -39,8 +39,8 @@ fn paint_cells(
 }
 
 /// Paints line y of the cells of a text on a row that is no longer than a word.
-fn paint_short(
-    sheet: &Option<Sheet>,
+fn paint_short<A: Small>(
+    sheet: &Option<Sheet<A>>,
     text: &[u8],
     stretch: &Stretch,
     h: u32,
@@ -72,8 +72,8 @@ fn paint_short(
 
 /// Paints line y of the cells of a text, each stretched to a width and drawn h dots high, from a sheet with
 /// cells of 12 by 24: those that can be seen on the row.
-pub fn paint_text(
-    sheet: &Option<Sheet>,
+pub fn paint_text<A: Small>(
+    sheet: &Option<Sheet<A>>,
     text: &[u8],
     stretch: &Stretch,
     h: u32,

@@ -5,16 +5,16 @@ use Rattle.vp_bars.proofs.TextLines.{line_begun, line_next, line_ended}
 use Rattle.vp_bars.proofs.bar_box.paint_line.Goals as goal
 
 pub loop-k-init : goal.loop-k-init
-loop-k-init c = line_begun _ _ c.args.sheets.now c.args.font c.args.text.now c.args.y c.args.left c.seen-from.result.0 _ c.seen-from.ensures.first
+loop-k-init g c = line_begun _ _ c.args.sheets.now c.args.font c.args.text.now c.args.y c.args.left c.seen-from.result.0 _ c.seen-from.ensures.first
     (rw c.width-width.ensures at c.seen-from.ensures.before)
 
 pub loop-k-preserved : goal.loop-k-preserved
-loop-k-preserved c =
+loop-k-preserved g c =
     let place : c.args.left + c.width-width.result * c.loop-k.k ≡ c.args.left + font_width c.args.font * c.loop-k.k = ap (λ w. c.args.left + w * c.loop-k.k) c.width-width.ensures in
     line_next _ _ c.args.sheets.now c.args.font c.args.text.now c.args.y c.args.left _ _ _ _ _ _ _ c.loop-k.k _ (omega (arith, c.seen-from.ensures.last)) place
     c.cell-cell.ensures.sheets c.cell-cell.ensures.font c.cell-cell.ensures.style c.cell-cell.ensures.character c.loop-k.invariant c.paint_cell.ensures
 
 pub returns : goal.returns
-returns c = rw (sym (to_z-of_z w64 c.args.at c.ranges.at))
+returns g c = rw (sym (to_z-of_z w64 c.args.at c.ranges.at))
     (line_ended _ _ c.args.sheets.now c.args.font c.args.text.now c.args.y c.args.left c.loop-k.k c.seen-from.result.1 _ _ (omega arith)
     (rw c.width-width.ensures at c.seen-from.ensures.behind) c.loop-k.invariant)

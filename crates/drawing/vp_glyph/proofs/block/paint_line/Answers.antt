@@ -6,19 +6,19 @@ use Rattle.vp_glyph.proofs.Sides.{side_none, side_more, side_all}
 use Rattle.vp_glyph.proofs.block.paint_line.Goals as goal
 
 pub loop-i-init : goal.loop-i-init
-loop-i-init c = record {
+loop-i-init g c = record {
   behind = record { first_is = c.behind_cells-rest.ensures.first; others_are = c.behind_cells-rest.ensures.others; within = omega (arith, c.seen-from.ensures.first) };
   place_is = omega arith;
   painted = side_none _ _ c.args.sheet.now _ c.args.line.cells c.args.stretch.now.width c.args.h c.args.left c.args.y c.requires.cells c.requires.w c.seen-from.result.0 c.seen-from.ensures.before _;
 }
 
 pub unreachable-requires : goal.unreachable-requires
-unreachable-requires c =
+unreachable-requires g c =
     let all : length (first (pieces c.args.line.text.now)) ≡ c.loop-i._i = behind_all c.loop-i._i _ _ c.loop-i.invariant.behind c.in_default.ensures in
     omega (arith, c.seen-from.ensures.last)
 
 pub loop-i-preserved : goal.loop-i-preserved
-loop-i-preserved c = record {
+loop-i-preserved g c = record {
   behind = behind_more c.loop-i._i _ _ _ _ c.loop-i.invariant.behind c.in-Some.ensures;
   place_is = omega arith;
   painted = side_more _ _ c.args.sheet.now _ c.args.line.cells c.args.stretch.now.width c.args.h c.args.left c.args.y c.requires.cells c.requires.w c.loop-i._i c.in-Some.character c.loop-i.place (omega (arith, c.seen-from.ensures.last))
@@ -26,5 +26,5 @@ loop-i-preserved c = record {
 }
 
 pub returns : goal.returns
-returns c = rw (sym (to_z-of_z w64 c.args.at c.ranges.at))
+returns g c = rw (sym (to_z-of_z w64 c.args.at c.ranges.at))
     (side_all _ _ c.args.sheet.now _ c.args.line.cells c.args.stretch.now.width c.args.h c.args.left c.args.y c.requires.cells c.requires.w c.loop-i._i c.seen-from.result.1 _ _ (omega arith) c.seen-from.ensures.behind c.loop-i.invariant.painted)

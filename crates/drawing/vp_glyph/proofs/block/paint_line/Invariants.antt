@@ -8,7 +8,7 @@ use Rattle.vp_glyph.proofs.block.paint_line.Given as goal
 
 -- the cells so far are painted
 abbrev pub invariant-loop-i : goal.invariant-loop-i
-invariant-loop-i l = record {
+invariant-loop-i g l = record {
   behind : Behind l._i (pieces l.line.text.now) (pieces l.rest);
   place_is : l.place ≡ l.left + l.stretch.width * l._i;
   painted : Painted l.op (shifted l.fn.at (so_far l.sheet (take l.line.cells (first (pieces l.line.text.now))) l.stretch.width l.h l.left l.y l._i)) l.fn.row l.row;

@@ -9,19 +9,19 @@ use Rattle.vp_glyph.proofs.Joining.{cell_row}
 use Rattle.vp_glyph.proofs.joined.add_cells.Goals as goal
 
 pub loop-i-init : goal.loop-i-init
-loop-i-init c = record {
+loop-i-init g c = record {
   behind = record { first_is = c.behind_cells-rest.ensures.first; others_are = c.behind_cells-rest.ensures.others; within = omega (arith, c.seen-from.ensures.first) };
   place_is = omega arith;
   added = λ s x l m. dot_none Black _ c.args.sheet.now _ c.args.line.cells c.args.stretch.now.width 24 c.args.left s c.requires.cells c.requires.w c.seen-from.result.0 c.seen-from.ensures.before _ x;
 }
 
 pub unreachable-requires : goal.unreachable-requires
-unreachable-requires c =
+unreachable-requires g c =
     let all : length (first (pieces c.args.line.text.now)) ≡ c.loop-i._i = behind_all c.loop-i._i _ _ c.loop-i.invariant.behind c.in_default.ensures in
     omega (arith, c.seen-from.ensures.last)
 
 pub loop-i-preserved : goal.loop-i-preserved
-loop-i-preserved c = record {
+loop-i-preserved g c = record {
   behind = behind_more c.loop-i._i _ _ _ _ c.loop-i.invariant.behind c.in-Some.ensures;
   place_is = omega arith;
   added = λ s x l m. dot_more Black _ c.args.sheet.now _ c.args.line.cells c.args.stretch.now.width 24 c.args.left s c.requires.cells c.requires.w c.loop-i._i c.in-Some.character c.loop-i.place (omega (arith, c.seen-from.ensures.last))
@@ -30,6 +30,6 @@ loop-i-preserved c = record {
 }
 
 pub returns : goal.returns
-returns c = rw (sym (to_z-of_z w64 c.args.at c.ranges.at))
+returns g c = rw (sym (to_z-of_z w64 c.args.at c.ranges.at))
     (λ s x l m. c.loop-i.invariant.added s x l m ∙ ap (λ t. word_dot (get_or c.args.rows.now s 0) x || t)
     (dots_all Black _ c.args.sheet.now _ c.args.line.cells c.args.stretch.now.width 24 c.args.left s c.requires.cells c.requires.w c.loop-i._i c.seen-from.result.1 8 x (omega arith) c.seen-from.ensures.behind (omega arith)))

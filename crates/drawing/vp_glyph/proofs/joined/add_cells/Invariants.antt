@@ -8,7 +8,7 @@ use Rattle.vp_glyph.proofs.joined.add_cells.Given as goal
 
 -- the cells so far are added
 abbrev pub invariant-loop-i : goal.invariant-loop-i
-invariant-loop-i l = record {
+invariant-loop-i g l = record {
   behind : Behind l._i (pieces l.line.text.now) (pieces l.rest);
   place_is : l.place ≡ l.left + l.stretch.width * l._i;
   added : (s x : ℕ) → s < 24 → x < 64 → word_dot (get_or l.rows s 0) x

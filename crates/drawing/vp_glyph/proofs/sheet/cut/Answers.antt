@@ -8,7 +8,7 @@ use Rattle.vp_glyph.specs.Sheets.{Glyphs, glyph_dot}
 use Rattle.vp_glyph.proofs.sheet.cut.Goals as goal
 
 pub loop-y-preserved : goal.loop-y-preserved
-loop-y-preserved c =
+loop-y-preserved g c =
     let rows = c.loop-y.rows.items in
     let sheet : Glyphs = record { wide = c.args.w; high = c.args.h; raster = c.args.raster.now } in
     let cell = c.loop-c.c in

@@ -4,7 +4,7 @@ use Rattle.std.proofs.lemmas.Bool.{cases_eq}
 use Rattle.vp_glyph.proofs.sheet.inked_cells.Goals as goal
 
 pub loop-c-preserved : goal.loop-c-preserved
-loop-c-preserved c =
+loop-c-preserved g c =
     let cells = c.loop-c.cells.items in
     let all : c.args.high * c.loop-c.c + c.args.high - c.args.high * c.loop-c.c ≡ c.args.high = omega arith in
     record {

@@ -6,4 +6,4 @@ use Rattle.vp_glyph.proofs.text.paint_cells.Given as goal
 
 -- the cells before k are painted
 abbrev pub invariant-loop-k : goal.invariant-loop-k
-invariant-loop-k l = Painted l.op (shifted l.fn.at (so_far l.sheet (take (length l.text) l.text) l.stretch.width l.h 0 l.y l.k)) l.fn.row l.row
+invariant-loop-k g l = Painted l.op (shifted l.fn.at (so_far l.sheet (take (length l.text) l.text) l.stretch.width l.h 0 l.y l.k)) l.fn.row l.row

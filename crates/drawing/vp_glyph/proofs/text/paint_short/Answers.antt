@@ -7,10 +7,10 @@ use Rattle.vp_glyph.proofs.text.paint_short.Goals as goal
 use Rattle.vp_glyph.proofs.text.paint_short.Goals.{then-loop-k-test+else-w-k, else-loop-k-test}
 
 pub returns-then-y-h : goal.returns-then-y-h
-returns-then-y-h c = text_below _ _ _ _ _ _ _ _ c.if-y-h.true
+returns-then-y-h g c = text_below _ _ _ _ _ _ _ _ c.if-y-h.true
 
 pub loop-k-init : goal.loop-k-init
-loop-k-init c =
+loop-k-init g c =
     let w = c.args.stretch.now.width in
     let from = c.seen_dots-from.result.0 in
     let below : from / w < length c.args.text.now + 1 = (div-lt_iff_lt-mul {k = w} {x = from} {y = length c.args.text.now + 1} c.requires.some).1 (omega (arith, c.seen_dots-from.ensures.first)) in
@@ -21,7 +21,7 @@ loop-k-init c =
     }
 
 pub loop-k-preserved : goal.loop-k-preserved
-loop-k-preserved c = record {
+loop-k-preserved g c = record {
   within = omega arith;
   gathered = λ d l.
       front_more c.args.op _ c.args.sheet.now c.args.text.now (length c.args.text.now) c.args.stretch.now.width c.args.h 0 c.args.y (omega arith) c.requires.some c.loop-k.k _ (c.args.stretch.now.width * c.loop-k.k) (omega arith) refl (omega arith) c.loop-k.front c.cell_front-front.result _ d
@@ -29,7 +29,7 @@ loop-k-preserved c = record {
 }
 
 pub returns : goal.returns
-returns c =
+returns g c =
     let w = c.args.stretch.now.width in
     let all : c.seen_dots-from.result.1 ≤ w * c.loop-k.k = elim c.loop-k-test.branch [
       | then-loop-k-test+else-w-k t ↦ omega arith

@@ -6,10 +6,10 @@ use Rattle.vp_glyph.proofs.text.paint_short.Given as goal
 
 -- the word has the cells before k
 abbrev pub invariant-loop-k : goal.invariant-loop-k
-invariant-loop-k l = record {
+invariant-loop-k g l = record {
   within : l.k ≤ length l.text;
   gathered : (d : ℕ) → d < 64 → word_dot l.front d ≡ shifted l.fn.at (so_far l.sheet (take (length l.text) l.text) l.stretch.width l.h 0 l.y l.k) d;
 }
 
 abbrev pub decreases-loop-k : goal.decreases-loop-k
-decreases-loop-k l = length l.text - l.k
+decreases-loop-k g l = length l.text - l.k

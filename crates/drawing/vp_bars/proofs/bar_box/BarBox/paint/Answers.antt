@@ -8,14 +8,14 @@ use Rattle.vp_bars.proofs.BoxRows.{row_top, row_bars, row_below, row_none}
 use Rattle.vp_bars.proofs.bar_box.BarBox.paint.Goals as goal
 
 pub returns-then-y-top : goal.returns-then-y-top
-returns-then-y-top c =
+returns-then-y-top g c =
     let s = c.args.self.now in
     let b : Boxed = boxed s in
     let inside : c.args.y < box_top b = omega (arith, c.top-top.ensures.rows) in
     rw (sym (to_z-of_z w64 c.args.at c.ranges.at)) (moved_same _ _ (text_row b c.args.y) (λ x. box_dot b x c.args.y) _ _ (λ u. row_top b c.args.y u inside) c.paint_text.ensures)
 
 pub returns-then-y-bottom : goal.returns-then-y-bottom
-returns-then-y-bottom c =
+returns-then-y-bottom g c =
     let s = c.args.self.now in
     let b : Boxed = boxed s in
     let under : box_top b ≤ c.args.y = omega (arith, c.top-top.ensures.rows) in
@@ -23,7 +23,7 @@ returns-then-y-bottom c =
     rw (sym (to_z-of_z w64 c.args.at c.ranges.at)) (moved_same _ _ (bars_row b) (λ x. box_dot b x c.args.y) _ _ (λ u. row_bars b c.args.y u under over) c.paint_bars.ensures)
 
 pub returns-then-y-bottom-2 : goal.returns-then-y-bottom-2
-returns-then-y-bottom-2 c =
+returns-then-y-bottom-2 g c =
     let s = c.args.self.now in
     let b : Boxed = boxed s in
     let under : box_top b + s.height ≤ c.args.y = omega (arith, c.top-top.ensures.rows, c.from.ensures) in
@@ -34,7 +34,7 @@ returns-then-y-bottom-2 c =
     (λ u. ap (λ v. text_row b v u) row ∙ row_below b c.args.y u under over) c.paint_text-then-y-bottom-2.ensures)
 
 pub returns-else-y-bottom-2 : goal.returns-else-y-bottom-2
-returns-else-y-bottom-2 c =
+returns-else-y-bottom-2 g c =
     let s = c.args.self.now in
     let b : Boxed = boxed s in
     let below : c.below.result * c.height.result ≡ texts_below s.place * font_height s.font = ap (λ t. t * c.height.result) c.below.ensures.texts ∙ ap (λ t. texts_below s.place * t) c.height.ensures in

@@ -6,7 +6,7 @@ use Rattle.vp_bars.proofs.BoxRows.{bars_painted}
 use Rattle.vp_bars.proofs.bar_box.BarBox.paint_bars.Goals as goal
 
 pub returns : goal.returns
-returns c =
+returns g c =
     let s = c.args.self.now in
     let b : Boxed = boxed s in
     let left = ap (λ w. (w - s.bars_width) / 2) c.width.ensures.width ∙ ap (λ w. (box_width b - w) / 2) s.bars_are in

@@ -6,7 +6,7 @@ use Rattle.vp_bars.proofs.Paints.{dot_shown}
 use Rattle.vp_bars.proofs.bar_box.BarBoxInk.ink.Goals as goal
 
 pub returns : goal.returns
-returns c =
+returns g c =
     let s = c.args.self.now in
     let b : Boxed = boxed s in
     c.dot_of.ensures ∙ dot_shown _ (λ x. box_dot b x c.args.y) c.args.x _ (rw (to_z-of_z w64 c.back.result c.back.ensures.fits) c.back.ensures.back) c.paint.ensures

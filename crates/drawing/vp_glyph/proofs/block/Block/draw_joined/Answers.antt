@@ -8,7 +8,7 @@ use Rattle.vp_glyph.proofs.Sheeted.{rows_more, shown_none, shown_more, shown_all
 use Rattle.vp_glyph.proofs.block.Block.draw_joined.Goals as goal
 
 pub loop-k-init : goal.loop-k-init
-loop-k-init c =
+loop-k-init g c =
     let b = c.args.self.now in
     let line = (block_lines (b.wide / b.w) c.args.text.now) in
     record {
@@ -18,7 +18,7 @@ loop-k-init c =
     }
 
 pub loop-k-preserved : goal.loop-k-preserved
-loop-k-preserved c =
+loop-k-preserved g c =
     let b = c.args.self.now in
     let line = (block_lines (b.wide / b.w) c.args.text.now) in
     let begun = c.loop-k.invariant.begun in
@@ -32,7 +32,7 @@ loop-k-preserved c =
     }
 
 pub blacken-requires : goal.blacken-requires
-blacken-requires c =
+blacken-requires g c =
     let b = c.args.self.now in
     let begun = c.loop-k.invariant.begun in
     let end = c.rows_above-end.ensures in
@@ -41,7 +41,7 @@ blacken-requires c =
     record { some = more; to = omega (arith, to) }
 
 pub loop-k-smaller : goal.loop-k-smaller
-loop-k-smaller c =
+loop-k-smaller g c =
     let b = c.args.self.now in
     let begun = c.loop-k.invariant.begun in
     let end = c.rows_above-end.ensures in
@@ -50,7 +50,7 @@ loop-k-smaller c =
     omega (arith, more)
 
 pub returns : goal.returns
-returns c =
+returns g c =
     let b = c.args.self.now in
     let line = (block_lines (b.wide / b.w) c.args.text.now) in
     rw (sym (to_z-of_z w64 c.args.at c.ranges.at))

@@ -5,7 +5,7 @@ use Rattle.vp_glyph.proofs.Stacks.{lines_below}
 use Rattle.vp_glyph.proofs.block.Block.drawn_rows.Goals as goal
 
 pub loop-left-init : goal.loop-left-init
-loop-left-init c =
+loop-left-init g c =
     let b = c.args.self.now in
     record {
       place_within = omega arith;
@@ -13,7 +13,7 @@ loop-left-init c =
     }
 
 pub loop-left-preserved : goal.loop-left-preserved
-loop-left-preserved c =
+loop-left-preserved g c =
     let b = c.args.self.now in
     record {
       place_within = omega arith;
@@ -22,12 +22,12 @@ loop-left-preserved c =
     }
 
 pub returns-then-self : goal.returns-then-self
-returns-then-self c =
+returns-then-self g c =
     let b = c.args.self.now in
     λ k x l m n. drawn_narrow b.sheet.now b.w b.h b.wide b.rows b.pitch b.alignment (c.args.top + k) c.args.at 160 b.text.now _ x c.if-self.true (c.rows.ensures k x l m ∙ c.new-rows.ensures k x)
 
 pub returns-then-from : goal.returns-then-from
-returns-then-from c =
+returns-then-from g c =
     let b = c.args.self.now in
     λ k x l m n. rw (sym (to_z-of_z w64 c.args.at c.ranges.at))
     (c.rows-then-from.ensures k x l m
@@ -36,7 +36,7 @@ returns-then-from c =
     (c.loop-left.invariant.drawn k l) x m)
 
 pub returns : goal.returns
-returns c =
+returns g c =
     let b = c.args.self.now in
     λ k x l m n. rw (sym (to_z-of_z w64 c.args.at c.ranges.at))
     (c.rows-2.ensures k x l m
@@ -45,7 +45,7 @@ returns c =
     (c.loop-left.invariant.drawn k l) x m)
 
 pub returns-then-self-eq0 : goal.returns-then-self-eq0
-returns-then-self-eq0 c =
+returns-then-self-eq0 g c =
     let b = c.args.self.now in
     let at = to_z w64 (of_z w64 c.args.at) in
     λ k x l m n. rw (sym (to_z-of_z w64 c.args.at c.ranges.at))

@@ -7,7 +7,7 @@ use Rattle.vp_glyph.proofs.block.Block.drawn_rows.Given as goal
 
 -- the lines so far are drawn
 abbrev pub invariant-loop-left : goal.invariant-loop-left
-invariant-loop-left l = record {
+invariant-loop-left g l = record {
   place_within : l.place ≤ l.self.rows - 1;
   drawn : (k : ℕ) → k < 32 → Drawn l.self.sheet.now l.self.w l.self.h l.self.wide l.self.rows l.self.pitch l.self.alignment (l.top + k) l.fn.at 160 l.most (block_lines l.most l.self.text.now) l.place l.left
       (λ x. run_dot l.rows.alone l.rows.down l.rows.up 32 k x);
@@ -15,4 +15,4 @@ invariant-loop-left l = record {
 
 -- how many lines are left
 abbrev pub decreases-loop-left : goal.decreases-loop-left
-decreases-loop-left l = length (lines_left l.most l.left)
+decreases-loop-left g l = length (lines_left l.most l.left)

@@ -4,11 +4,11 @@ use Rattle.vp_glyph.proofs.block.Block.passed_at.Given as goal
 
 -- the lines that are passed so far
 abbrev pub invariant-loop-passed : goal.invariant-loop-passed
-invariant-loop-passed l = record {
+invariant-loop-passed g l = record {
   apart : l.passed ≤ l.self.rows - 1;
   behind : drop l.passed (block_lines l.most l.self.text.now) ≡ block_lines l.most l.rest;
 }
 
 -- how many stand apart and are left
 abbrev pub decreases-loop-passed : goal.decreases-loop-passed
-decreases-loop-passed l = l.self.rows - l.passed
+decreases-loop-passed g l = l.self.rows - l.passed

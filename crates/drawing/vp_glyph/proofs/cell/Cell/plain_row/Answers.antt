@@ -4,13 +4,13 @@ use Rattle.vp_glyph.proofs.Printed.{printed_plain, printed_below}
 use Rattle.vp_glyph.proofs.cell.Cell.plain_row.Goals as goal
 
 pub returns-then-y-height : goal.returns-then-y-height
-returns-then-y-height c = λ x.
+returns-then-y-height g c = λ x.
     let cell = c.args.self.now in
     let (w, h, b, u, i) = c.requires in
     printed_below cell.sheets.now cell.font cell.style cell.character x c.args.y h (omega (arith, c.height.ensures, c.if-y-height.true))
 
 pub returns : goal.returns
-returns c = λ x.
+returns g c = λ x.
     let cell = c.args.self.now in
     let (w, h, b, u, i) = c.requires in
     let y = c.args.y in

@@ -5,7 +5,7 @@ use Rattle.vp_glyph.proofs.Cuts.{ready_of}
 use Rattle.vp_glyph.proofs.sheet.Sheet.ready.Goals as goal
 
 pub returns : goal.returns
-returns c =
+returns g c =
     let high = c.self.inside.high in
     let cells = c.self.inside.inked.items in
     let inside : c.args.c < 256 = omega arith in
