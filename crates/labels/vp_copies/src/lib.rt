@@ -7,7 +7,7 @@
 //! - `rows`: whole rows of a band, many at a call.
 //! - `copies`: copies that are being put out, as far as there is room.
 //! - `law`: the laws of their text.
-#![tactic(auto, using(vp_dots::proofs::Handles::list_small))]
+#![tactic(auto)]
 
 mod copies;
 mod law;

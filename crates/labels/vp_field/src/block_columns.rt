@@ -16,7 +16,7 @@ use crate::axis::Axis;
 use crate::laid::Laid;
 use crate::line::drawn_at;
 use crate::paint::row_lengths;
-use vp_dots::{Ink, Op, lay_eight, reversed_at};
+use vp_dots::{Ink, Op, Small, lay_eight, reversed_at};
 use vp_glyph::Block;
 use vp_label_size::{LabelBand, WIDEST};
 
@@ -26,8 +26,8 @@ const COLUMNS: usize = WIDEST as usize;
 /// A block of lines, how its rows and their dots lie on a band, and the fronts of the rows that may fall on
 /// its columns.
 #[derive(Drop)]
-struct BlockColumns<'a> {
-    block: &'a Block<'a>,
+struct BlockColumns<'a, A: Small> {
+    block: &'a Block<'a, A>,
     columns: Axis,
     rows: Axis,
     /// The band's first row.
@@ -75,7 +75,7 @@ fn are_white(words: &[u64; COLUMNS]) -> bool
     true
 }
 
-impl BlockColumns<'_> {
+impl<A: Small> BlockColumns<'_, A> {
     /// The ink on a column of the label.
     fn column(&self, x: u64) -> [u8; 4]
         ensures { x < WIDEST → (k : ℕ) → k < BAND_ROWS → dot result k ≡ laid Across self.now.columns
@@ -109,7 +109,7 @@ impl BlockColumns<'_> {
     }
 
     /// Paints the columns: how many were laid.
-    fn paint(&self, op: Op, band: &mut LabelBand) -> u64
+    fn paint(&self, op: Op, band: &mut LabelBand<A>) -> u64
         ensures dots { RowsPainted BAND_ROWS op (λ x k. laid Across self.now.columns self.now.rows
             (λ u v. block_dot (layout_of self.now.block.now) self.now.block.now.text.now u v) (pos x)
             (pos (self.now.first + k))) band.old band.new }
@@ -132,12 +132,12 @@ impl BlockColumns<'_> {
 
 /// Paints a block of lines that lies across a band, whose first row is row `first` of the label: how many
 /// lines of ink it drew.
-pub fn paint_block_across(
-    block: &Block<'_>,
+pub fn paint_block_across<A: Small>(
+    block: &Block<'_, A>,
     op: Op,
     lying: Laid,
     first: u32,
-    band: &mut LabelBand,
+    band: &mut LabelBand<A>,
 ) -> u64
     requires lines { lying.lines ≡ Across }
     requires columns { IsWithin (2 ^ 41) lying.columns }

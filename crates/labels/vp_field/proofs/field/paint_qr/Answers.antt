@@ -6,7 +6,7 @@ use Rattle.vp_field.proofs.Shown.{rows_same, qr_standing, qr_same}
 use Rattle.vp_field.proofs.field.paint_qr.Goals as goal
 
 pub returns-clause-dots : goal.returns-clause-dots
-returns-clause-dots c sheets =
+returns-clause-dots g c sheets =
     let a = c.args in
     let q = a.symbol in
     let bytes = bytes_of a.stored.now q.bytes in

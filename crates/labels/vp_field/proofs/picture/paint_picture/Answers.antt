@@ -9,7 +9,7 @@ use Rattle.vp_field.proofs.Pictured.{lines_init, lines_all}
 use Rattle.vp_field.proofs.picture.paint_picture.Goals as goal
 
 pub returns-then-from-to-clause-dots : goal.returns-then-from-to-clause-dots
-returns-then-from-to-clause-dots c sheets =
+returns-then-from-to-clause-dots g c sheets =
     let a = c.args in
     let p = picture_of a.stored.now a.picture in
     let at = c.lying-at in
@@ -19,7 +19,7 @@ returns-then-from-to-clause-dots c sheets =
     (lines_init a.on.op at.result.columns at.result.rows a.first (picture_dot p) on.result.0 on.result.1 a.band.now (omega arith))
 
 pub returns-clause-dots : goal.returns-clause-dots
-returns-clause-dots c sheets =
+returns-clause-dots g c sheets =
     let a = c.args in
     let p = picture_of a.stored.now a.picture in
     let at = c.lying-at in
@@ -29,7 +29,7 @@ returns-clause-dots c sheets =
     (rw (c.go_to.ensures.rows, c.cursor-rows.ensures.picture) at c.paint_rows.ensures.painted)
 
 pub returns-clause-work : goal.returns-clause-work
-returns-clause-work c =
+returns-clause-work g c =
     let a = c.args in
     let p = picture_of a.stored.now a.picture in
     let few : length p.codes ≤ a.picture.codes.len = omega (arith, length-take a.picture.codes.len (drop a.picture.codes.start a.stored.now)) in
