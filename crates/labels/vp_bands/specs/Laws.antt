@@ -1,6 +1,6 @@
 -- Which bands are met, and what a copy takes.
 use Rattle.std.specs.Prelude.{◌≡◌, ◌↔◌, ◌<◌, ◌≤◌, ℕ, ◌+◌, ◌*◌, ◌/◌, ℤ, pos, ◌+ℤ◌, ◌≤ℤ◌, ◌<ℤ◌, true, false, List}
-use Rattle.vp_glyph.specs.declared.Sheets.{Sheets}
+use Rattle.vp_glyph.specs.Sheets.{Sheets}
 use Rattle.vp_field.specs.declared.view.View.{View}
 use Rattle.vp_field.specs.Views.{seen_y}
 use Rattle.vp_bands.specs.Meeting.{box_meets, pairs, copy_work, bands_of}
