@@ -1,7 +1,7 @@
 -- Entries that stand for the fields of a format.
 use Rattle.std.proofs.Common.{◌≡◌, ℕ, ◌+◌, ◌<◌, List, [], ◌∷◌, ◌++◌, length, take, get_or, ap, sym, ◌∙◌, arith, Option}
 use Rattle.std.proofs.lemmas.List.{same_lists, get_or-map, length-map, map-append, take_more}
-use Rattle.vp_glyph.specs.declared.Sheets.{Sheets}
+use Rattle.vp_glyph.specs.Sheets.{Sheets}
 use Rattle.vp_format.specs.declared.field.Field.{Field}
 use Rattle.vp_field.specs.declared.view.View.{View}
 use Rattle.vp_fields_by_band.specs.declared.table.Entry.{Entry}

@@ -1,6 +1,6 @@
 -- Which bands are met, and what a copy takes.
 use Rattle.std.specs.Prelude.{◌≡◌, ◌↔◌, ◌<◌, ◌≤◌, ℕ, ◌+◌, ◌*◌, ◌/◌, ℤ, pos, ◌+ℤ◌, ◌≤ℤ◌, ◌<ℤ◌, true, false, List, sum_by}
-use Rattle.vp_glyph.specs.declared.Sheets.{Sheets}
+use Rattle.vp_glyph.specs.Sheets.{Sheets}
 use Rattle.vp_format.specs.declared.field.Content.{Content}
 use Rattle.vp_format.specs.declared.field.Content.TheVariants.{Picture}
 use Rattle.vp_format.specs.declared.field.Field.{Field}

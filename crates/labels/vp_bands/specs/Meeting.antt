@@ -1,7 +1,7 @@
 -- Which bands of a label a field meets, and how many do.
 use Rattle.std.specs.Prelude.{ℕ, ◌+◌, ◌-◌, ◌*◌, ◌/◌, ℤ, pos, ◌+ℤ◌, int_le, int_lt, nat_lt, Bool, ◌&&◌, List, count_by, filter, sum_by}
 use Rattle.std.specs.List.{list_any, range_with_len}
-use Rattle.vp_glyph.specs.declared.Sheets.{Sheets}
+use Rattle.vp_glyph.specs.Sheets.{Sheets}
 use Rattle.vp_format.specs.declared.field.Field.{Field}
 use Rattle.vp_field.specs.Fields.{field_ink}
 use Rattle.vp_field.specs.Contents.{content_width, content_height, orientation_of, most_work}

@@ -1,7 +1,7 @@
 -- What is kept of the fields of a label while it is put out.
 use Rattle.std.specs.Prelude.{◌≡◌, ℕ, ◌+◌, ◌*◌, ◌^◌, ◌<◌, ◌≤◌, true, List, map, filter, length, vec_capacity, Option, slice_index_or}
 use Rattle.std.specs.List.{All}
-use Rattle.vp_glyph.specs.declared.Sheets.{Sheets}
+use Rattle.vp_glyph.specs.Sheets.{Sheets}
 use Rattle.vp_format.specs.declared.field.Field.{Field}
 use Rattle.vp_format.specs.declared.format.TheConstants.{FIELDS}
 use Rattle.vp_fields_by_band.specs.declared.table.Entry.{Entry}
@@ -28,7 +28,7 @@ pub record Threaded : Type 0 where
   pub looks : ℕ
   pub work : ℕ
 
-abbrev pub threaded_by : Inside → Threaded
+abbrev pub threaded_by : {A : Type 0} → Inside A → Threaded
 threaded_by p =
     record {
       entries = p.threads.entries;
@@ -41,7 +41,7 @@ threaded_by p =
     }
 
 -- there is room for 1,024 fields and 250 bands, and each field has marks
-pub record HasRoom (p : Inside) : Type 0 where
+pub record HasRoom {A : Type 0} (p : Inside A) : Type 0 where
   pub entries : length p.threads.entries ≤ 1024
   pub heads : length p.threads.heads ≡ 250
   pub links : length p.threads.links ≡ 1024

@@ -3,7 +3,7 @@ ghost use Rattle.std.specs.Prelude.{◌≡◌, ℕ, ◌+◌, ◌*◌, ◌<◌, �
 ghost use Rattle.std.specs.List.{All};
 ghost use Rattle.vp_dots.specs.Dots.{dot};
 ghost use Rattle.vp_dots.specs.Images.{row_bytes};
-ghost use Rattle.vp_glyph.specs.declared.Sheets.{Sheets as Given};
+ghost use Rattle.vp_glyph.specs.Sheets.{Sheets as Given};
 ghost use Rattle.vp_field.specs.Fields.{stroke_of, IsKept};
 ghost use Rattle.vp_field.specs.Strokes.{image_dot};
 ghost use Rattle.vp_field.specs.declared.view.View.{View as Seen};
@@ -17,6 +17,7 @@ use crate::walk::paint_band;
 use std::alloc::{AllocError, Global};
 use std::marker::Model;
 use std::mem::size_of;
+use vp_dots::Small;
 use vp_field::{Marks, View};
 use vp_fields_by_band::Threads;
 use vp_format::{FIELDS, Format};
@@ -29,13 +30,13 @@ const MARKS_BYTES: usize = size_of::<Marks>();
 /// Paints the bands of a label of at most 1,248 by 8,000 dots and 1,024 fields, one after the other, in each
 /// of its copies.
 #[derive(Drop)]
-pub struct BandPainter {
-    threads: Threads,
-    marks: Vec<Marks>,
+pub struct BandPainter<A: Small = Global> {
+    threads: Threads<A>,
+    marks: Vec<Marks, A>,
     work: u64,
 }
 
-impl Model for BandPainter {
+impl<A: Small> Model for BandPainter<A> {
     ghost use Rattle.vp_bands.specs.Standing.{Threaded, HasRoom, threaded_by};
 
     ghost Value = { Threaded };
@@ -46,7 +47,7 @@ impl Model for BandPainter {
 }
 
 /// Makes a place for the marks of each of `fields` fields, in room that was taken before.
-fn hold_marks(marks: &mut Vec<Marks>, fields: usize)
+fn hold_marks<A: Small>(marks: &mut Vec<Marks, A>, fields: usize)
     requires { fields ≤ vec_capacity marks.old }
     ensures held { fields ≤ length marks.new.items }
     ensures room { vec_capacity marks.new ≡ vec_capacity marks.old }
@@ -56,9 +57,11 @@ fn hold_marks(marks: &mut Vec<Marks>, fields: usize)
     }
 }
 
-impl BandPainter {
+impl<A: Small> BandPainter<A> {
     /// A painter of a label without fields: the only call that takes memory.
-    pub fn new(alloc: Global) -> Result<Self, AllocError>
+    pub fn new(alloc: A) -> Result<Self, AllocError>
+    where
+        A: Copy,
         ensures none { IfOk result (λ painter. painter.entries ≡ []) }
         ensures looks { IfOk result (λ painter. painter.looks ≡ 0) }
         ensures work { IfOk result (λ painter. painter.work ≡ 0) }
@@ -71,7 +74,7 @@ impl BandPainter {
     }
 
     /// Takes on the fields of a format, whose label is put out as `view` says, before its first band.
-    pub fn thread(&mut self, sheets: &Sheets, format: &Format, view: View)
+    pub fn thread(&mut self, sheets: &Sheets<A>, format: &Format<A>, view: View)
         requires kept { All (IsKept format.now.stored) format.now.fields }
         requires low { view.height ≤ BAND_ROWS * BANDS }
         ensures fields { fields_of self.new.entries ≡ format.now.fields }
@@ -102,10 +105,10 @@ impl BandPainter {
     pub fn paint(
         &mut self,
         b: usize,
-        sheets: &Sheets,
+        sheets: &Sheets<A>,
         stored: &[u8],
         view: View,
-        band: &mut LabelBand,
+        band: &mut LabelBand<A>,
     )
         requires before { IsBefore sheets.now stored.now view b self.old }
         requires narrow { view.width ≤ WIDEST }

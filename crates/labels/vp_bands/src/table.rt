@@ -8,6 +8,7 @@ ghost use Rattle.vp_bands.specs.Standing.{fields_of, IsSpanned, IsThreadedFor};
 ghost use Rattle.vp_label_size.specs.declared.TheConstants.{BAND_ROWS};
 
 use crate::meeting::{BANDS, span};
+use vp_dots::Small;
 use vp_field::{View, content_size, orientation_of};
 use vp_fields_by_band::{Entry, Threads};
 use vp_format::{FIELDS, Field, Format};
@@ -25,7 +26,7 @@ fn turned_rows(orientation: Orientation, w: u32, h: u32) -> u32
 }
 
 /// The entry of a field that no other follows yet.
-fn entry_for(sheets: &Sheets, stored: &[u8], view: View, field: Field) -> Entry
+fn entry_for<A: Small>(sheets: &Sheets<A>, stored: &[u8], view: View, field: Field) -> Entry
     requires kept { IsKept stored.now field }
     ensures field { result.field ≡ field }
     ensures spanned { IsSpanned sheets.now stored.now view result }
@@ -44,7 +45,7 @@ fn entry_for(sheets: &Sheets, stored: &[u8], view: View, field: Field) -> Entry
 }
 
 /// Sets the entries of the fields of a format, in the order of closing.
-fn fill(threads: &mut Threads, sheets: &Sheets, format: &Format, view: View)
+fn fill<A: Small>(threads: &mut Threads<A>, sheets: &Sheets<A>, format: &Format<A>, view: View)
     requires kept { All (IsKept format.now.stored) format.now.fields }
     requires low { view.height ≤ BAND_ROWS * BANDS }
     ensures few { length threads.new.entries ≤ FIELDS }
@@ -62,7 +63,12 @@ fn fill(threads: &mut Threads, sheets: &Sheets, format: &Format, view: View)
 }
 
 /// Sets the entries of the fields of a format, and threads them by the bands that they meet.
-pub fn thread_fields(threads: &mut Threads, sheets: &Sheets, format: &Format, view: View)
+pub fn thread_fields<A: Small>(
+    threads: &mut Threads<A>,
+    sheets: &Sheets<A>,
+    format: &Format<A>,
+    view: View,
+)
     requires bands { length threads.old.heads ≡ BANDS }
     requires kept { All (IsKept format.now.stored) format.now.fields }
     requires low { view.height ≤ BAND_ROWS * BANDS }

@@ -12,6 +12,7 @@ ghost use Rattle.vp_bands.specs.Standing.{entry_work, fields_of, met, seen_of, A
 ghost use Rattle.vp_label_size.specs.declared.TheConstants.{WIDEST, BAND_ROWS};
 
 use crate::meeting::BANDS;
+use vp_dots::Small;
 use vp_field::{Marks, View, clear, cut, paint_field};
 use vp_fields_by_band::{Entry, Threads, Walk, next_of};
 use vp_format::FIELDS;
@@ -30,15 +31,15 @@ fn drop_others(entry: &Entry, b: usize, marks: &mut Marks)
 }
 
 /// Paints a field on band b, whose first row is row `first` of the label, and says what that took.
-fn paint_entry(
+fn paint_entry<A: Small>(
     entry: &Entry,
     marks: &mut Marks,
     b: usize,
-    sheets: &Sheets,
+    sheets: &Sheets<A>,
     stored: &[u8],
     view: View,
     first: u32,
-    band: &mut LabelBand,
+    band: &mut LabelBand<A>,
 ) -> u64
     requires kept { IsKept stored.now entry.now.field }
     requires marked { entry.now.first < b → AreMarksOf stored.now entry.now.field.content marks.old }
@@ -56,14 +57,14 @@ fn paint_entry(
 
 /// Paints band b of a label from the fields that meet it, and threads those
 /// that the next band is to carry on. What painting took comes back.
-pub fn paint_band(
-    threads: &mut Threads,
+pub fn paint_band<A: Small>(
+    threads: &mut Threads<A>,
     marks: &mut [Marks],
     b: usize,
-    sheets: &Sheets,
+    sheets: &Sheets<A>,
     stored: &[u8],
     view: View,
-    band: &mut LabelBand,
+    band: &mut LabelBand<A>,
 ) -> u64
     requires heads { b < length threads.old.heads }
     requires links { length threads.old.entries ≤ length threads.old.links }

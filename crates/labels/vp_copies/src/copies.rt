@@ -11,7 +11,7 @@ use crate::place::{Ahead, behind, wanted};
 use crate::rows::{bytes_of_row, copy_rows, row_of_band};
 use arrayvec::ArrayVec;
 use std::marker::Model;
-use vp_dots::header;
+use vp_dots::{Small, header};
 use vp_label_size::{BAND_ROWS, LabelBand};
 use vp_output::{Line, Place, put_part};
 
@@ -110,7 +110,7 @@ impl Copies {
     }
 
     /// The bytes of the place's line.
-    fn line<'a>(&'a self, band: &'a LabelBand) -> &'a [u8]
+    fn line<'a, A: Small>(&'a self, band: &'a LabelBand<A>) -> &'a [u8]
         ensures count { length result.now ≡ line_bytes self.now.width self.now.height self.now.place.line }
         ensures text { (dots : ℕ → ℕ → Bool) →
             IsPainted (image_of self.now dots) self.now.place.line band.now →
@@ -124,7 +124,7 @@ impl Copies {
 
     /// Puts out the next bytes of the place's line, as many as there are and room is for, and answers how
     /// many. For whatever dots the band is painted with, they are the image's.
-    pub fn put_line(&mut self, band: &LabelBand, out: &mut [u8]) -> usize
+    pub fn put_line<A: Small>(&mut self, band: &LabelBand<A>, out: &mut [u8]) -> usize
         requires { 0 < self.old.place.copies }
         ensures count { result ≡
             min (line_bytes self.old.width self.old.height self.old.place.line - self.old.place.byte)
@@ -152,7 +152,7 @@ impl Copies {
 
     /// Puts out whole rows of the place's band, as many as there is room for, but not its last one: where it
     /// puts out any, others of the band come next.
-    pub fn put_rows(&mut self, band: &LabelBand, out: &mut [u8]) -> usize
+    pub fn put_rows<A: Small>(&mut self, band: &LabelBand<A>, out: &mut [u8]) -> usize
         requires { 0 < self.old.place.copies }
         ensures on { 0 < result → IsRowsOn self.old self.new }
         ensures none { result ≡ 0 → (self.new ≡ self.old) × (out.new ≡ out.old) }

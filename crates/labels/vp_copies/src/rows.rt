@@ -7,7 +7,7 @@ ghost use Rattle.vp_output.specs.Lines.{line_text, rows_from};
 ghost use Rattle.vp_output.specs.declared.place.Line.TheVariants.{Row};
 ghost use Rattle.vp_label_size.specs.declared.TheConstants.{WIDEST, BAND_ROWS};
 
-use vp_dots::dots_decide;
+use vp_dots::{Small, dots_decide};
 use vp_label_size::{BAND_ROWS, LabelBand};
 
 /// How many bytes hold a row of `width` dots.
@@ -18,7 +18,7 @@ pub fn bytes_of_row(width: u16) -> usize
 }
 
 /// The bytes of the band's row for row y of an image `width` dots wide.
-pub fn row_of_band(band: &LabelBand, y: usize, width: u16) -> &[u8]
+pub fn row_of_band<A: Small>(band: &LabelBand<A>, y: usize, width: u16) -> &[u8]
     requires narrow { width ≤ WIDEST }
     ensures count { length result.now ≡ line_bytes width 0 (Row y) }
     ensures text { (i : Image) → i.width ≡ width → y < i.height → IsPainted i (Row y) band.now →
@@ -39,7 +39,7 @@ fn copy_row(row: &[u8], room: &mut [u8])
 
 /// Copies rows of an image `width` dots wide, from row y on, all of which are on its band, to the front of
 /// a room.
-pub fn copy_rows(band: &LabelBand, y: u32, rows: usize, width: u16, room: &mut [u8])
+pub fn copy_rows<A: Small>(band: &LabelBand<A>, y: u32, rows: usize, width: u16, room: &mut [u8])
     requires narrow { width ≤ WIDEST }
     requires inside { y % BAND_ROWS + rows ≤ BAND_ROWS }
     requires fits { rows * row_bytes width ≤ length room.old }

@@ -2,7 +2,7 @@
 use Rattle.std.proofs.Common.{◌≡◌, ℕ, ◌*◌, refl, ap, ◌∙◌, arith, List, ◌++◌, take, drop, length, length-append, ℤ, Bool}
 use Rattle.std.proofs.lemmas.List.{drop-append-le, take-append-le, length-drop}
 use Rattle.vp_dots.specs.declared.Op.{Op}
-use Rattle.vp_glyph.specs.declared.Sheets.{Sheets}
+use Rattle.vp_glyph.specs.Sheets.{Sheets}
 use Rattle.vp_glyph.specs.Texts.{text_dot}
 use Rattle.vp_glyph.specs.Blocks.{block_width, block_height, block_dot, pitch}
 use Rattle.vp_glyph.proofs.Layouts.{layout}

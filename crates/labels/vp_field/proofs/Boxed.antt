@@ -4,7 +4,7 @@ use Rattle.std.proofs.lemmas.Int.{ints}
 use Rattle.std.proofs.lemmas.Bool.{and_parts, ltb-true, true≢false}
 use Rattle.vp_dots.specs.Painting.{paint}
 use Rattle.vp_dots.specs.declared.fault.Fault.{Fault}
-use Rattle.vp_glyph.specs.declared.Sheets.{Sheets}
+use Rattle.vp_glyph.specs.Sheets.{Sheets}
 use Rattle.vp_glyph.specs.Texts.{text_inside}
 use Rattle.vp_glyph.specs.Blocks.{pitch, block_inside}
 use Rattle.vp_glyph.proofs.Layouts.{layout}

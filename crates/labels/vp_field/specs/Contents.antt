@@ -2,7 +2,7 @@
 use Rattle.std.specs.Prelude.{◌≡◌, ℕ, ◌+◌, ◌-◌, ◌*◌, ◌/◌, ◌%◌, ◌<◌, ◌≤◌, ◌≤ℤ◌, pos, neg_ℤ, Bool, false, ◌&&◌, List, length, take, drop, nat_lt, is_none, None, Result, Ok, Err, if◌then◌else◌}
 use Rattle.vp_dots.specs.Dots.{bit}
 use Rattle.vp_dots.specs.declared.fault.Fault.{Fault}
-use Rattle.vp_glyph.specs.declared.Sheets.{Sheets}
+use Rattle.vp_glyph.specs.Sheets.{Sheets}
 use Rattle.vp_glyph.specs.declared.cell.Font.TheVariants.{A}
 use Rattle.vp_glyph.specs.Texts.{text_dot}
 use Rattle.vp_glyph.specs.Blocks.{BlockLayout, block_width, block_height, block_dot, pitch}

@@ -1,6 +1,6 @@
 -- Contents as they are drawn on a band.
 use Rattle.std.specs.Prelude.{ℕ, ◌+◌, pos, Bool, ◌&&◌, nat_le, nat_lt, List}
-use Rattle.vp_glyph.specs.declared.Sheets.{Sheets}
+use Rattle.vp_glyph.specs.Sheets.{Sheets}
 use Rattle.vp_format.specs.declared.field.Content.{Content}
 use Rattle.vp_field.specs.Contents.{content_width, content_height, content_dot}
 use Rattle.vp_field.specs.Standing.{standing}

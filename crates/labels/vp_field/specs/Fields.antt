@@ -1,6 +1,6 @@
 -- Fields, and what they do to a label.
 use Rattle.std.specs.Prelude.{ℕ, ℤ, Bool, List, [], Option, None, Some, slice_index_or}
-use Rattle.vp_glyph.specs.declared.Sheets.{Sheets}
+use Rattle.vp_glyph.specs.Sheets.{Sheets}
 use Rattle.vp_format.specs.Cursors.{marked_row, IsMark}
 use Rattle.vp_format.specs.declared.field.Content.{Content}
 use Rattle.vp_format.specs.declared.field.Content.TheVariants.{Picture}

@@ -1,6 +1,6 @@
 -- What the dots of a label come to.
 use Rattle.std.specs.Prelude.{◌≡◌, ◌<◌, ℕ, ◌+◌, ◌-◌, ℤ, pos, ◌+ℤ◌, ◌≤ℤ◌, ◌<ℤ◌, true, false, List, [], ◌∷◌, ◌++◌, map}
-use Rattle.vp_glyph.specs.declared.Sheets.{Sheets}
+use Rattle.vp_glyph.specs.Sheets.{Sheets}
 use Rattle.vp_dots.specs.Painting.{paint}
 use Rattle.vp_field.specs.Strokes.{Stroke, viewed, label_dot, image_dot}
 use Rattle.vp_field.specs.Views.{seen_x, seen_y}

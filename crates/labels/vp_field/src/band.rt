@@ -8,7 +8,7 @@ ghost use Rattle.vp_field.specs.Bands.{Shows};
 
 use crate::paint::row_lengths;
 use crate::view::View;
-use vp_dots::{Op, fill_dots};
+use vp_dots::{Op, Small, fill_dots};
 use vp_label_size::{BAND_BYTES, BAND_ROWS, LabelBand};
 
 /// How many rows of the label there are in the band from row `first` on.
@@ -36,7 +36,7 @@ fn whiten(bytes: usize, row: &mut [u8])
 }
 
 /// Makes a band white as far as the label reaches: it shows a label without strokes.
-pub fn clear(view: View, first: u32, band: &mut LabelBand)
+pub fn clear<A: Small>(view: View, first: u32, band: &mut LabelBand<A>)
     ensures { Shows view first [] band.new }
 {
     row_lengths(band);
@@ -47,7 +47,7 @@ pub fn clear(view: View, first: u32, band: &mut LabelBand)
 }
 
 /// Makes the dots beside the label white that share a byte with its last column.
-pub fn cut(view: View, first: u32, band: &mut LabelBand)
+pub fn cut<A: Small>(view: View, first: u32, band: &mut LabelBand<A>)
     requires { view.width ≤ WIDEST }
     ensures { (strokes : List Stroke) → Shows view first strokes band.old → (x k : ℕ)
         → x < 8 * row_bytes view.width → k < BAND_ROWS → first + k < view.height

@@ -8,13 +8,13 @@ ghost use Rattle.vp_glyph.specs.declared.runs.TheConstants.{ROWS, BYTES};
 
 use crate::line::paint_over;
 use crate::lines::BlockRows;
-use vp_dots::{Ink, Op};
+use vp_dots::{Ink, Op, Small};
 use vp_glyph::{BYTES, ROWS};
 
 /// A block of lines, whose rows from one on were drawn at an offset.
 #[derive(Drop)]
-pub struct BlockBand<'a> {
-    rows: BlockRows<'a>,
+pub struct BlockBand<'a, A: Small> {
+    rows: BlockRows<'a, A>,
     /// The first of the rows.
     top: u32,
     /// The offset.
@@ -33,9 +33,9 @@ fn paint_drawn(op: Op, drawn: &[u8; BYTES], row: &mut [u8])
     paint_over(op, drawn, row);
 }
 
-impl<'a> BlockBand<'a> {
+impl<'a, A: Small> BlockBand<'a, A> {
     /// A block, its rows from `top` on drawn at the offset `at`.
-    pub fn new(rows: BlockRows<'a>, top: u32, at: i64) -> Self
+    pub fn new(rows: BlockRows<'a, A>, top: u32, at: i64) -> Self
         ensures { result.rows ≡ rows.entry }
     {
         BlockBand {
@@ -47,7 +47,7 @@ impl<'a> BlockBand<'a> {
     }
 }
 
-impl Ink for BlockBand<'_> {
+impl<A: Small> Ink for BlockBand<'_, A> {
     ghost width = { λ s. block_width s.rows.block.wide s.rows.block.w };
 
     ghost height = { λ s. block_height s.rows.block.h s.rows.block.rows s.rows.block.pitch };

@@ -17,7 +17,7 @@ use crate::axis::Axis;
 use crate::laid::Laid;
 use crate::line::drawn_at;
 use crate::paint::row_lengths;
-use vp_dots::{Ink, Op, SIDE, paint_words, turned_square};
+use vp_dots::{Ink, Op, SIDE, Small, paint_words, turned_square};
 use vp_glyph::Block;
 use vp_label_size::{BAND_ROWS, LabelBand, WIDEST};
 
@@ -27,8 +27,8 @@ const COLUMNS: usize = WIDEST as usize;
 /// A block of lines, how its rows and their dots lie on a band, and the fronts of the rows that may fall on
 /// its columns.
 #[derive(Drop)]
-struct BlockColumns<'a> {
-    block: &'a Block<'a>,
+struct BlockColumns<'a, A: Small> {
+    block: &'a Block<'a, A>,
     columns: Axis,
     rows: Axis,
     /// The band's first row.
@@ -78,7 +78,7 @@ fn are_white<const N: usize>(words: &[u64; N]) -> bool
     true
 }
 
-impl BlockColumns<'_> {
+impl<A: Small> BlockColumns<'_, A> {
     /// The row that falls on a column of the label, as it was drawn: white where none does.
     fn column(&self, x: u64) -> u64
         ensures { x < WIDEST → (k : ℕ) → k < BAND_ROWS → word_dot result (read_at self.now.rows 32 k)
@@ -136,7 +136,7 @@ impl BlockColumns<'_> {
     }
 
     /// Paints 64 columns, the first of which is x.
-    fn paint_square(&self, op: Op, x: u64, band: &mut LabelBand)
+    fn paint_square(&self, op: Op, x: u64, band: &mut LabelBand<A>)
         requires x { x < 2 ^ 32 }
         requires wide { (k : ℕ) → k < BAND_ROWS → dots (slice_index_or band.old k []) ≤ WIDEST }
         ensures { RowsPainted BAND_ROWS op (λ d k. span x (x + SIDE) d
@@ -153,7 +153,7 @@ impl BlockColumns<'_> {
     }
 
     /// Paints the columns: how many were laid.
-    fn paint(&self, op: Op, band: &mut LabelBand) -> u64
+    fn paint(&self, op: Op, band: &mut LabelBand<A>) -> u64
         ensures dots { RowsPainted BAND_ROWS op (λ x k. laid Across self.now.columns self.now.rows
             (λ u v. block_dot (layout_of self.now.block.now) self.now.block.now.text.now u v) (pos x)
             (pos (self.now.first + k))) band.old band.new }
@@ -176,12 +176,12 @@ impl BlockColumns<'_> {
 
 /// Paints a block of lines that lies across a band, whose first row is row `first` of the label: how many
 /// lines of ink it drew.
-pub fn paint_block_across(
-    block: &Block<'_>,
+pub fn paint_block_across<A: Small>(
+    block: &Block<'_, A>,
     op: Op,
     lying: Laid,
     first: u32,
-    band: &mut LabelBand,
+    band: &mut LabelBand<A>,
 ) -> u64
     requires lines { lying.lines ≡ Across }
     requires columns { IsWithin (2 ^ 41) lying.columns }

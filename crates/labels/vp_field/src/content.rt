@@ -8,7 +8,7 @@ ghost use Rattle.vp_field.specs.Contents.{bytes_of, content_width, content_heigh
 use crate::frame::Frame;
 use crate::text::Cells;
 use vp_bars::linear;
-use vp_dots::Ink;
+use vp_dots::{Ink, Small};
 use vp_format::{BarSymbol, Content, QrSymbol, Span, Text, TextBlock};
 use vp_glyph::{Block, Font, Sheets, Stretch};
 use vp_zpl::item::Orientation;
@@ -23,7 +23,7 @@ pub fn bytes_of(stored: &[u8], span: Span) -> &[u8]
 }
 
 /// A text as ink.
-pub fn cells<'a>(sheets: &'a Sheets, stored: &'a [u8], text: Text) -> Cells<'a>
+pub fn cells<'a, A: Small>(sheets: &'a Sheets<A>, stored: &'a [u8], text: Text) -> Cells<'a, A>
     requires { IsText stored.now text }
     ensures sheet { result.sheet.now ≡ sheets.now.a }
     ensures text { result.text.now ≡ bytes_of stored.now text.bytes }
@@ -39,7 +39,11 @@ pub fn cells<'a>(sheets: &'a Sheets, stored: &'a [u8], text: Text) -> Cells<'a>
 }
 
 /// A block of lines as ink.
-pub fn block_of<'a>(sheets: &'a Sheets, stored: &'a [u8], block: TextBlock) -> Block<'a>
+pub fn block_of<'a, A: Small>(
+    sheets: &'a Sheets<A>,
+    stored: &'a [u8],
+    block: TextBlock,
+) -> Block<'a, A>
     requires { IsTextBlock stored.now block }
     ensures sheet { result.sheet.now ≡ sheets.now.a }
     ensures text { result.text.now ≡ bytes_of stored.now block.text.bytes }
@@ -62,7 +66,7 @@ pub fn block_of<'a>(sheets: &'a Sheets, stored: &'a [u8], block: TextBlock) -> B
 }
 
 /// The width and the height of a linear symbol with its text; none where the data have no symbol.
-fn bars_size(sheets: &Sheets, stored: &[u8], bars: BarSymbol) -> (u32, u32)
+fn bars_size<A: Small>(sheets: &Sheets<A>, stored: &[u8], bars: BarSymbol) -> (u32, u32)
     requires { LiesIn stored.now bars.bytes }
     ensures width { result.0 ≡ content_width sheets.now stored.now (contents.Bars bars) }
     ensures height { result.1 ≡ content_height sheets.now stored.now (contents.Bars bars) }
@@ -93,7 +97,7 @@ fn qr_size(symbol: QrSymbol) -> u32
 }
 
 /// The width and the height of what a field shows, as it is read.
-pub fn content_size(sheets: &Sheets, stored: &[u8], content: &Content) -> (u32, u32)
+pub fn content_size<A: Small>(sheets: &Sheets<A>, stored: &[u8], content: &Content) -> (u32, u32)
     requires { IsStored stored.now content.now }
     ensures width { result.0 ≡ content_width sheets.now stored.now content.now }
     ensures height { result.1 ≡ content_height sheets.now stored.now content.now }

@@ -1,7 +1,7 @@
 //! The fields of a label, painted on a band.
 ghost use Rattle.std.specs.Prelude.{◌+◌, ◌≤◌, pos, List, [], ◌∷◌, ◌++◌};
 ghost use Rattle.vp_dots.specs.Places.{RowsPainted};
-ghost use Rattle.vp_glyph.specs.declared.Sheets.{Sheets};
+ghost use Rattle.vp_glyph.specs.Sheets.{Sheets as Given};
 ghost use Rattle.vp_format.specs.declared.field.Content.TheVariants as contents;
 ghost use Rattle.vp_field.specs.Axes.{lines_of};
 ghost use Rattle.vp_field.specs.Contents.{most_lines, most_work, LiesIn, IsText, IsTextBlock, IsSymbol};
@@ -25,20 +25,20 @@ use crate::picture::paint_picture;
 use crate::standing::{Standing, paint_standing};
 use crate::view::View;
 use vp_bars::linear;
-use vp_dots::Ink;
+use vp_dots::{Ink, Small};
 use vp_format::{BarSymbol, Content, Field, QrSymbol, Text, TextBlock};
 use vp_glyph::{Font, Sheets};
 use vp_label_size::{BAND_BYTES, LabelBand};
 use vp_zpl::item::Orientation;
 
 /// Paints a text: how many lines of ink it drew.
-fn paint_text(
-    sheets: &Sheets,
+fn paint_text<A: Small>(
+    sheets: &Sheets<A>,
     stored: &[u8],
     text: Text,
     on: Standing,
     first: u32,
-    band: &mut LabelBand,
+    band: &mut LabelBand<A>,
 ) -> u64
     requires text { IsText stored.now text }
     requires near { IsNear on.left on.top }
@@ -52,13 +52,13 @@ fn paint_text(
 }
 
 /// Paints a block of lines: how many lines of ink it drew.
-fn paint_block(
-    sheets: &Sheets,
+fn paint_block<A: Small>(
+    sheets: &Sheets<A>,
     stored: &[u8],
     block: TextBlock,
     on: Standing,
     first: u32,
-    band: &mut LabelBand,
+    band: &mut LabelBand<A>,
 ) -> u64
     requires block { IsTextBlock stored.now block }
     requires near { IsNear on.left on.top }
@@ -84,13 +84,13 @@ fn paint_block(
 }
 
 /// Paints a linear symbol and its text, nothing where the data have none: how many lines of ink it drew.
-fn paint_bars(
-    sheets: &Sheets,
+fn paint_bars<A: Small>(
+    sheets: &Sheets<A>,
     stored: &[u8],
     bars: BarSymbol,
     on: Standing,
     first: u32,
-    band: &mut LabelBand,
+    band: &mut LabelBand<A>,
 ) -> u64
     requires bytes { LiesIn stored.now bars.bytes }
     requires near { IsNear on.left on.top }
@@ -116,10 +116,16 @@ fn paint_bars(
 }
 
 /// Paints a QR symbol with the version and the mask that it keeps: how many lines of ink it drew.
-fn paint_qr(stored: &[u8], symbol: QrSymbol, on: Standing, first: u32, band: &mut LabelBand) -> u64
+fn paint_qr<A: Small>(
+    stored: &[u8],
+    symbol: QrSymbol,
+    on: Standing,
+    first: u32,
+    band: &mut LabelBand<A>,
+) -> u64
     requires symbol { IsSymbol stored.now symbol }
     requires near { IsNear on.left on.top }
-    ensures dots { (sheets : Sheets) → RowsPainted BAND_ROWS on.op
+    ensures dots { (sheets : Given) → RowsPainted BAND_ROWS on.op
         (drawn sheets stored.now (contents.Qr symbol) on first) band.old band.new }
     ensures lines { result ≤ most_lines (lines_of on.orientation) }
     ensures counted { (sheets : Sheets) →
@@ -137,14 +143,14 @@ fn paint_qr(stored: &[u8], symbol: QrSymbol, on: Standing, first: u32, band: &mu
 
 /// Applies the field's operation to the dots of a band, whose first row is row `first` of the label as it
 /// is put out, where the field has ink. What that took comes back.
-fn paint_content(
-    sheets: &Sheets,
+fn paint_content<A: Small>(
+    sheets: &Sheets<A>,
     stored: &[u8],
     field: &Field,
     marks: &mut Marks,
     view: View,
     first: u32,
-    band: &mut LabelBand,
+    band: &mut LabelBand<A>,
 ) -> u64
     requires kept { IsKept stored.now field.now }
     requires marks { AreMarksOf stored.now field.now.content marks.old }
@@ -181,14 +187,14 @@ fn paint_content(
 /// those that earlier bands left in its picture, or none, so that not all rows above are read again; more are
 /// left for the bands that come later. What that took comes back: of a picture how many bytes of its codes
 /// were read, rows passed, and rows painted; of all else how many lines of ink were drawn.
-pub fn paint_field(
-    sheets: &Sheets,
+pub fn paint_field<A: Small>(
+    sheets: &Sheets<A>,
     stored: &[u8],
     field: &Field,
     marks: &mut Marks,
     view: View,
     first: u32,
-    band: &mut LabelBand,
+    band: &mut LabelBand<A>,
 ) -> u64
     requires kept { IsKept stored.now field.now }
     requires marks { AreMarksOf stored.now field.now.content marks.old }

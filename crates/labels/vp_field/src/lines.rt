@@ -6,23 +6,23 @@ ghost use Rattle.vp_field.specs.Alone.{IsAlone};
 
 use crate::text::shows_row_above;
 use std::alloc::AllocError;
-use vp_dots::{Ink, Op};
+use vp_dots::{Ink, Op, Small};
 use vp_glyph::Block;
 
 /// A block of lines, some of whose rows are known to be like the one above.
-pub struct BlockRows<'a> {
-    pub block: Block<'a>,
+pub struct BlockRows<'a, A: Small> {
+    pub block: Block<'a, A>,
 }
 
-impl Copy for BlockRows<'_> {}
+impl<A: Small> Copy for BlockRows<'_, A> {}
 
-impl Clone for BlockRows<'_> {
+impl<A: Small> Clone for BlockRows<'_, A> {
     fn clone(&self) -> Result<Self, AllocError> {
         Ok(*self)
     }
 }
 
-impl BlockRows<'_> {
+impl<A: Small> BlockRows<'_, A> {
     /// Whether lines that don't begin together meet.
     pub fn lines_meet(&self) -> bool {
         let block = &self.block;
@@ -46,7 +46,7 @@ impl BlockRows<'_> {
     }
 }
 
-impl Ink for BlockRows<'_> {
+impl<A: Small> Ink for BlockRows<'_, A> {
     ghost width = { λ s. block_width s.block.wide s.block.w };
 
     ghost height = { λ s. block_height s.block.h s.block.rows s.block.pitch };

@@ -14,7 +14,7 @@ ghost use Rattle.vp_label_size.specs.declared.TheConstants.{BAND_BYTES, BAND_ROW
 use crate::axis::{Axis, Lines};
 use crate::line::{drawn, paint_line, paint_over};
 use crate::stretched::alike_dots;
-use vp_dots::{Ink, Op, dot_of, fill_dots, lay_eight};
+use vp_dots::{Ink, Op, Small, dot_of, fill_dots, lay_eight};
 use vp_label_size::{BAND_BYTES, BAND_ROWS, LabelBand, WIDEST};
 
 /// The dots of a row of a band.
@@ -24,7 +24,7 @@ const WIDTH: u64 = WIDEST as u64;
 const RUN: u64 = 8;
 
 /// Each row of a band has `BAND_BYTES` bytes.
-pub fn row_lengths(band: &LabelBand)
+pub fn row_lengths<A: Small>(band: &LabelBand<A>)
     ensures { (k : ℕ) → k < BAND_ROWS → length (slice_index_or band.now k []) ≡ BAND_BYTES }
 {
     for k in 0..32usize {
@@ -78,14 +78,14 @@ fn alike_places<I: Ink>(ink: &I, stretched: Option<u32>, axis: Axis, from: u64, 
 }
 
 /// Paints rows of the band, from row k on, each of which shows line v.
-fn paint_alike<I: Ink>(
+fn paint_alike<I: Ink, A: Small>(
     ink: &I,
     v: u32,
     op: Op,
     columns: Axis,
     k: usize,
     rows: usize,
-    band: &mut LabelBand,
+    band: &mut LabelBand<A>,
 )
     requires columns { IsWithin (2 ^ 41) columns }
     requires inside { k + rows ≤ BAND_ROWS }
@@ -103,14 +103,14 @@ fn paint_alike<I: Ink>(
 }
 
 /// Paints ink whose lines lie along the rows: how many lines it drew.
-fn paint_along<I: Ink>(
+fn paint_along<I: Ink, A: Small>(
     ink: &I,
     stretched: Option<u32>,
     op: Op,
     columns: Axis,
     rows: Axis,
     first: u32,
-    band: &mut LabelBand,
+    band: &mut LabelBand<A>,
 ) -> u64
     requires stretched { AreStretched stretched (I.ink_at ink.now) }
     requires near { IsWithin (2 ^ 41) columns }
@@ -209,7 +209,7 @@ fn paint_dots(op: Op, ink: bool, from: u64, to: u64, row: &mut [u8])
 }
 
 /// Paints columns of the band from one to another, each of which shows the same line.
-fn paint_run(op: Op, line: [u8; 4], from: u64, to: u64, band: &mut LabelBand)
+fn paint_run<A: Small>(op: Op, line: [u8; 4], from: u64, to: u64, band: &mut LabelBand<A>)
     ensures { RowsPainted BAND_ROWS op (λ d k. span from to d && dot line k) band.old band.new }
 {
     for k in 0..32usize {
@@ -220,7 +220,7 @@ fn paint_run(op: Op, line: [u8; 4], from: u64, to: u64, band: &mut LabelBand)
 /// Paints columns of the band, which begin at x with the one that is given, and end before another: how many
 /// it painted, the column behind them, and how many lines it drew. A run that is known to be alike is painted
 /// row by row.
-fn paint_columns<I: Ink>(
+fn paint_columns<I: Ink, A: Small>(
     ink: &I,
     stretched: Option<u32>,
     op: Op,
@@ -230,7 +230,7 @@ fn paint_columns<I: Ink>(
     end: u64,
     first: u32,
     line: [u8; 4],
-    band: &mut LabelBand,
+    band: &mut LabelBand<A>,
 ) -> (u64, [u8; 4], u64)
     requires stretched { AreStretched stretched (I.ink_at ink.now) }
     requires low { I.height ink.now < 2 ^ 32 }
@@ -261,14 +261,14 @@ fn paint_columns<I: Ink>(
 }
 
 /// Paints ink whose lines lie across the rows: how many lines it drew.
-fn paint_across<I: Ink>(
+fn paint_across<I: Ink, A: Small>(
     ink: &I,
     stretched: Option<u32>,
     op: Op,
     columns: Axis,
     rows: Axis,
     first: u32,
-    band: &mut LabelBand,
+    band: &mut LabelBand<A>,
 ) -> u64
     requires stretched { AreStretched stretched (I.ink_at ink.now) }
     requires near { IsWithin (2 ^ 41) rows }
@@ -298,7 +298,7 @@ fn paint_across<I: Ink>(
 /// Applies the operation to the dots of a band, whose first row is row `first` of the label, where ink that
 /// lies so on the label has ink. Its lines may be known to be stretched. How many lines were drawn comes
 /// back.
-pub fn paint_laid<I: Ink>(
+pub fn paint_laid<I: Ink, A: Small>(
     ink: &I,
     stretched: Option<u32>,
     op: Op,
@@ -306,7 +306,7 @@ pub fn paint_laid<I: Ink>(
     columns: Axis,
     rows: Axis,
     first: u32,
-    band: &mut LabelBand,
+    band: &mut LabelBand<A>,
 ) -> u64
     requires stretched { AreStretched stretched (I.ink_at ink.now) }
     requires columns { IsWithin (2 ^ 41) columns }

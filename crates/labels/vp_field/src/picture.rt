@@ -2,7 +2,7 @@
 ghost use Rattle.std.specs.Prelude.{◌≡◌, ℕ, ◌+◌, ◌*◌, ◌^◌, ◌<◌, ◌≤◌, ℤ, pos, Bool, false, length};
 ghost use Rattle.vp_dots.specs.Dots.{dot, shifted};
 ghost use Rattle.vp_dots.specs.Places.{RowsPainted};
-ghost use Rattle.vp_glyph.specs.declared.Sheets.{Sheets};
+ghost use Rattle.vp_glyph.specs.Sheets.{Sheets};
 ghost use Rattle.vp_format.specs.Pictures.{is_refused};
 ghost use Rattle.vp_format.specs.declared.field.Content.TheVariants as contents;
 ghost use Rattle.vp_field.specs.Axes.{dot_on, laid, IsWithin};
@@ -24,7 +24,7 @@ use crate::line::paint_line;
 use crate::marks::{Marks, ON_WAY};
 use crate::standing::Standing;
 use std::alloc::AllocError;
-use vp_dots::{Ink, Op, clear_into, dot_of, or_into, xor_into};
+use vp_dots::{Ink, Op, Small, clear_into, dot_of, or_into, xor_into};
 use vp_format::{Picture, RunMark, RunRows};
 use vp_label_size::{BAND_ROWS, LabelBand};
 use vp_zpl::item::Orientation;
@@ -178,7 +178,13 @@ fn go_to(
 }
 
 /// Paints a row of a picture where it falls on the band.
-fn paint_row_of(row: &PictureRow<'_>, op: Op, at: Laid, first: u32, band: &mut LabelBand)
+fn paint_row_of<A: Small>(
+    row: &PictureRow<'_>,
+    op: Op,
+    at: Laid,
+    first: u32,
+    band: &mut LabelBand<A>,
+)
     requires columns { IsWithin (2 ^ 41) at.columns }
     requires rows { IsWithin (2 ^ 41) at.rows }
     ensures { RowsPainted BAND_ROWS op (λ x k. laid Along at.columns at.rows
@@ -190,7 +196,7 @@ fn paint_row_of(row: &PictureRow<'_>, op: Op, at: Laid, first: u32, band: &mut L
 }
 
 /// Reads and paints the rows of a picture up to one.
-fn paint_rows(
+fn paint_rows<A: Small>(
     rows: &mut RunRows<'_>,
     from: u32,
     to: u32,
@@ -198,7 +204,7 @@ fn paint_rows(
     op: Op,
     at: Laid,
     first: u32,
-    band: &mut LabelBand,
+    band: &mut LabelBand<A>,
 )
     requires len { length row.old ≡ rows.old.picture.row_bytes }
     requires short { length row.old ≤ 1024 }
@@ -240,13 +246,13 @@ fn lying(picture: Picture, on: Standing) -> Laid
 /// Paints a picture, which isn't turned: the rows that fall on the band are read from the last mark before
 /// them on, else from the first row. Marks are left on the way there, and one behind the rows. What that took
 /// comes back: how many bytes of the codes were read, rows passed, and rows painted.
-pub fn paint_picture(
+pub fn paint_picture<A: Small>(
     stored: &[u8],
     picture: Picture,
     on: Standing,
     marks: &mut Marks,
     first: u32,
-    band: &mut LabelBand,
+    band: &mut LabelBand<A>,
 ) -> u64
     requires picture { IsPicture stored.now picture }
     requires marks { AreMarksOf stored.now (contents.Picture picture) marks.old }

@@ -12,7 +12,7 @@ ghost use Rattle.vp_label_size.specs.declared.TheConstants.{BAND_ROWS};
 use crate::laid::Laid;
 use crate::paint::paint_laid;
 use crate::view::View;
-use vp_dots::{Ink, Op};
+use vp_dots::{Ink, Op, Small};
 use vp_label_size::LabelBand;
 use vp_zpl::item::Orientation;
 
@@ -46,12 +46,12 @@ impl Standing {
 /// Applies the operation to the dots of a band, whose first row is row `first` of the label as it is put out,
 /// where ink that stands on the label has ink. Its lines may be known to be stretched. How many lines were
 /// drawn comes back.
-pub fn paint_standing<I: Ink>(
+pub fn paint_standing<I: Ink, A: Small>(
     ink: &I,
     stretched: Option<u32>,
     on: Standing,
     first: u32,
-    band: &mut LabelBand,
+    band: &mut LabelBand<A>,
 ) -> u64
     requires stretched { AreStretched stretched (I.ink_at ink.now) }
     requires near { IsNear on.left on.top }

@@ -3,12 +3,12 @@ ghost use Rattle.std.specs.Prelude.{◌≡◌, true, ◌-◌, ◌*◌, ◌/◌, 
 ghost use Rattle.vp_glyph.specs.Texts.{text_dot, text_inside};
 
 use std::alloc::AllocError;
-use vp_dots::{Ink, Op};
+use vp_dots::{Ink, Op, Small};
 use vp_glyph::{Sampled, Sheet, Stretch, paint_text};
 
 /// The cells of a text side by side, each stretched to a width and h dots high.
-pub struct Cells<'a> {
-    pub sheet: &'a Option<Sheet>,
+pub struct Cells<'a, A: Small> {
+    pub sheet: &'a Option<Sheet<A>>,
     pub text: &'a [u8],
     pub stretch: Stretch,
     pub h: u32,
@@ -16,9 +16,9 @@ pub struct Cells<'a> {
     ghost fits: { stretch.width * length text.now < 2 ^ 32 },
 }
 
-impl Copy for Cells<'_> {}
+impl<A: Small> Copy for Cells<'_, A> {}
 
-impl Clone for Cells<'_> {
+impl<A: Small> Clone for Cells<'_, A> {
     fn clone(&self) -> Result<Self, AllocError> {
         Ok(*self)
     }
@@ -33,8 +33,8 @@ pub fn shows_row_above(y: u32, high: u32) -> bool
     u64::from(y) * 24 % u64::from(high) >= 24
 }
 
-impl Cells<'_> {
-    fn cell(&self, k: usize) -> Sampled<'_>
+impl<A: Small> Cells<'_, A> {
+    fn cell(&self, k: usize) -> Sampled<'_, A>
         requires { k < length self.now.text.now }
         ensures sheet { result.sheet.now ≡ self.now.sheet.now }
         ensures character { result.character ≡ slice_index self.now.text.now k }
@@ -50,7 +50,7 @@ impl Cells<'_> {
     }
 }
 
-impl Ink for Cells<'_> {
+impl<A: Small> Ink for Cells<'_, A> {
     ghost width = { λ s. s.stretch.width * length s.text.now };
 
     ghost height = { λ s. s.h };

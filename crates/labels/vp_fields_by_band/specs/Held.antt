@@ -15,7 +15,7 @@ pub record Table : Type 0 where
   pub carried : Option ℕ
   pub looks : ℕ
 
-abbrev pub table_by : Inside → Table
+abbrev pub table_by : {A : Type 0} → Inside A → Table
 table_by t =
     record {
       entries = t.entries.items;
@@ -26,7 +26,7 @@ table_by t =
     }
 
 -- there is room for 1,024 entries and their links, and for the first of each band
-pub record HasRoom (t : Inside) : Type 0 where
+pub record HasRoom {A : Type 0} (t : Inside A) : Type 0 where
   pub entries : length t.entries.items ≤ 1024
   pub links : length t.links.items ≡ 1024
   pub room : vec_capacity t.entries ≡ 1024

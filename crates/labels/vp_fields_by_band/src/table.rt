@@ -7,7 +7,7 @@ ghost use Rattle.vp_fields_by_band.specs.Held.{looked, table_memory};
 use std::alloc::{AllocError, Global};
 use std::marker::Model;
 use std::mem::size_of;
-use vp_dots::filled;
+use vp_dots::{Small, filled};
 use vp_format::{FIELDS, Field};
 
 /// A field, the bands that it begins and ends in, and the next field that begins in the same band.
@@ -73,15 +73,15 @@ fn thread_all(entries: &mut [Entry], heads: &mut [Option<usize>])
 /// At most 1,024 fields, threaded by the bands that they begin in, and from band to band. An entry, the first
 /// of a band and a link are read by calls alone, each of which counts a look.
 #[derive(Drop)]
-pub struct Threads {
-    entries: Vec<Entry>,
-    heads: Vec<Option<usize>>,
-    links: Vec<Option<usize>>,
+pub struct Threads<A: Small = Global> {
+    entries: Vec<Entry, A>,
+    heads: Vec<Option<usize>, A>,
+    links: Vec<Option<usize>, A>,
     carried: Option<usize>,
     looks: u64,
 }
 
-impl Model for Threads {
+impl<A: Small> Model for Threads<A> {
     ghost use Rattle.vp_fields_by_band.specs.Held.{Table, HasRoom, table_by};
 
     ghost Value = { Table };
@@ -91,9 +91,11 @@ impl Model for Threads {
     ghost invariant = { HasRoom };
 }
 
-impl Threads {
+impl<A: Small> Threads<A> {
     /// No fields, with room for 1,024 and for `bands` bands: the only call that takes memory.
-    pub fn new(alloc: Global, bands: usize) -> Result<Self, AllocError>
+    pub fn new(alloc: A, bands: usize) -> Result<Self, AllocError>
+    where
+        A: Copy,
         ensures none { IfOk result (λ threads. threads.entries ≡ []) }
         ensures bands { IfOk result (λ threads. length threads.heads ≡ bands) }
         ensures links { IfOk result (λ threads. length threads.links ≡ FIELDS) }

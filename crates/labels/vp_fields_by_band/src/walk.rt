@@ -6,6 +6,7 @@ ghost use Rattle.vp_fields_by_band.specs.Held.{looked, Stays};
 ghost use Rattle.vp_fields_by_band.specs.Threads.{entry_at, begins_at, carried_at, meets_at, IsNext, IsTable, IsWalk, link_at, linked, ended, first_kept};
 
 use crate::table::{Entry, Threads};
+use vp_dots::Small;
 use vp_format::FIELDS;
 
 /// Where a walk over the fields of a band stands.
@@ -48,7 +49,7 @@ fn leads_to(link: Option<usize>, n: usize) -> bool
 
 impl Walk {
     /// A walk before the first field of band b.
-    pub fn start(b: usize, threads: &mut Threads) -> Walk
+    pub fn start<A: Small>(b: usize, threads: &mut Threads<A>) -> Walk
         requires within { b < length threads.old.heads }
         requires countable { threads.old.looks < 2 ^ 62 }
         ensures walk { result ≡ record {
@@ -70,7 +71,7 @@ impl Walk {
     }
 
     /// The walk past field `n`, whose entry is given. What it keeps is the same.
-    fn passed(self, n: usize, entry: Entry, threads: &mut Threads) -> Walk
+    fn passed<A: Small>(self, n: usize, entry: Entry, threads: &mut Threads<A>) -> Walk
         requires within { n < FIELDS }
         requires countable { threads.old.looks < 2 ^ 62 }
         ensures seen { result.seen ≡ n + 1 }
@@ -100,7 +101,7 @@ impl Walk {
     }
 
     /// Adds field `n` to what is kept for the next band.
-    fn keep(self, n: usize, threads: &mut Threads) -> Walk
+    fn keep<A: Small>(self, n: usize, threads: &mut Threads<A>) -> Walk
         requires { ForSome self.tail (λ t. t < length threads.old.links) }
         ensures links { threads.new ≡ record threads.old { links = linked threads.old.links self.tail n } }
         ensures walk { result ≡ record self { kept = first_kept self.kept n; tail = Some n } }
@@ -120,7 +121,7 @@ impl Walk {
     }
 
     /// Ends what is kept, which is carried over to the next band.
-    pub fn close(self, threads: &mut Threads)
+    pub fn close<A: Small>(self, threads: &mut Threads<A>)
         requires { ForSome self.tail (λ t. t < length threads.old.links) }
         ensures { threads.new ≡ record threads.old {
           links = ended threads.old.links self.tail;
@@ -134,7 +135,7 @@ impl Walk {
     }
 
     /// The walk after field `n`, whose entry is given.
-    pub fn after(self, n: usize, b: usize, entry: Entry, threads: &mut Threads) -> Walk
+    pub fn after<A: Small>(self, n: usize, b: usize, entry: Entry, threads: &mut Threads<A>) -> Walk
         requires within { n < FIELDS }
         requires tail { ForSome self.tail (λ t. t < length threads.old.links) }
         requires countable { threads.old.looks < 2 ^ 62 }

@@ -9,11 +9,11 @@ pub record Held : Type 0 where
   pub fields : List Field
   pub stored : List ℕ
 
-abbrev pub held_by : Inside → Held
+abbrev pub held_by : {A : Type 0} → Inside A → Held
 held_by f = record { fields = f.fields.items; stored = f.stored }
 
 -- there is room for 1,024 fields
-pub record IsFormat (f : Inside) : Type 0 where
+pub record IsFormat {A : Type 0} (f : Inside A) : Type 0 where
   pub filled : length f.fields.items ≤ 1024
   pub room : vec_capacity f.fields ≡ 1024
 

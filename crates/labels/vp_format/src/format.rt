@@ -6,7 +6,7 @@ use crate::field::Field;
 use std::alloc::{AllocError, Global};
 use std::marker::Model;
 use std::mem::size_of;
-use vp_dots::{Full, Store};
+use vp_dots::{Full, Small, Store};
 
 /// The most fields of a format.
 pub const FIELDS: usize = 1024;
@@ -19,12 +19,12 @@ const FIELD_BYTES: usize = size_of::<Field>();
 
 /// At most 1,024 fields and 262,144 stored bytes.
 #[derive(Drop)]
-pub struct Format {
-    fields: Vec<Field>,
-    stored: Store<STORED>,
+pub struct Format<A: Small = Global> {
+    fields: Vec<Field, A>,
+    stored: Store<STORED, A>,
 }
 
-impl Model for Format {
+impl<A: Small> Model for Format<A> {
     ghost use Rattle.vp_format.specs.Formats.{Held, IsFormat, held_by};
 
     ghost Value = { Held };
@@ -34,9 +34,11 @@ impl Model for Format {
     ghost invariant = { IsFormat };
 }
 
-impl Format {
+impl<A: Small> Format<A> {
     /// A format without fields and stored bytes: the only call that takes memory.
-    pub fn new(alloc: Global) -> Result<Self, AllocError>
+    pub fn new(alloc: A) -> Result<Self, AllocError>
+    where
+        A: Copy,
         ensures { IfOk result (λ format. format ≡ record { fields = []; stored = [] }) }
     {
         Ok(Format {

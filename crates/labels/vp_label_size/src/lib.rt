@@ -4,6 +4,7 @@
 //! them out know no more of each other than this.
 #![tactic(auto)]
 
+use std::alloc::Global;
 use vp_dots::Band;
 
 /// The dots across the widest label, and across a band.
@@ -19,4 +20,4 @@ pub const BAND_ROWS: usize = 32;
 pub const BAND_BYTES: usize = 156;
 
 /// A band of a label: `BAND_ROWS` rows of `BAND_BYTES` bytes.
-pub type LabelBand = Band<BAND_BYTES, BAND_ROWS>;
+pub type LabelBand<A = Global> = Band<BAND_BYTES, BAND_ROWS, A>;

@@ -8,7 +8,7 @@ use Rattle.vp_bands.proofs.table.entry_for.Goals as goal
 
 pub returns-clause-spanned : goal.returns-clause-spanned
 unfolding field_meets
-returns-clause-spanned c = λ b.
+returns-clause-spanned g c = λ b.
     let fits : SFits w64 c.args.field.top = search rules in
     let o = orientation_of c.args.field.orientation c.args.field.content in
     c.span-first.ensures.bands b ∙ ap (λ t. box_meets c.args.view t c.turned_rows-rows.result b) (to_z-of_z w64 c.args.field.top fits)

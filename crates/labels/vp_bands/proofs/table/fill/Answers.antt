@@ -8,7 +8,7 @@ use Rattle.vp_bands.proofs.Entries.{fields_pushed}
 use Rattle.vp_bands.proofs.table.fill.Goals as goal
 
 pub loop-n-preserved : goal.loop-n-preserved
-loop-n-preserved c =
+loop-n-preserved g c =
     let n = c.loop-n.n in
     let entries = c.loop-n.threads.entries in
     let e = c.entry_for.result in
@@ -25,7 +25,7 @@ loop-n-preserved c =
     }
 
 pub entry_for-requires : goal.entry_for-requires
-entry_for-requires c =
+entry_for-requires g c =
     let format = c.args.format.now in
     let f = c.field.result in
     let here : IsKept format.stored f = rw (get_or_from_slice_get format.fields c.loop-n.n f f c.field.ensures) at (c.requires.kept c.loop-n.n f (slice_get_within format.fields c.loop-n.n f c.field.ensures)) in

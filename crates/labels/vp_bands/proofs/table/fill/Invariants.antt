@@ -6,7 +6,7 @@ use Rattle.vp_bands.proofs.table.fill.Given as goal
 
 -- the entries before this one are set
 abbrev pub invariant-loop-n : goal.invariant-loop-n
-invariant-loop-n l = record {
+invariant-loop-n g l = record {
   len : length l.threads.entries ≡ l.n;
   fields : fields_of l.threads.entries ≡ take l.n l.format.fields;
   spanned : All (IsSpanned l.sheets l.format.stored l.view) l.threads.entries;

@@ -4,10 +4,10 @@ use Rattle.vp_bands.proofs.Entries.{fields_kept, spans_kept, table_of}
 use Rattle.vp_bands.proofs.table.thread_fields.Goals as goal
 
 pub returns-clause-fields : goal.returns-clause-fields
-returns-clause-fields c = fields_kept c.fill.new.threads.entries c.thread.new.self.entries c.thread.ensures.entries c.thread.ensures.spans ∙ c.fill.ensures.fields
+returns-clause-fields g c = fields_kept c.fill.new.threads.entries c.thread.new.self.entries c.thread.ensures.entries c.thread.ensures.spans ∙ c.fill.ensures.fields
 
 pub returns-clause-threaded : goal.returns-clause-threaded
-returns-clause-threaded c = record {
+returns-clause-threaded g c = record {
   kept = rw (fields_kept c.fill.new.threads.entries c.thread.new.self.entries c.thread.ensures.entries c.thread.ensures.spans, c.fill.ensures.fields) c.requires.kept;
   spanned = λ k lt. spans_kept c.args.sheets.now c.args.format.now.stored c.args.view (entry_at c.fill.new.threads.entries k) (entry_at c.thread.new.self.entries k) (c.thread.ensures.spans k)
       (c.fill.ensures.spanned k no_entry (omega (arith, c.thread.ensures.entries)));

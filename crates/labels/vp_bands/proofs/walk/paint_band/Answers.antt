@@ -15,24 +15,24 @@ use Rattle.vp_bands.proofs.Marked.{carried_here, marked_ahead, marked_behind, ma
 use Rattle.vp_bands.proofs.walk.paint_band.Goals as goal
 
 pub entry-entry-requires-clause-within : goal.entry-entry-requires-clause-within
-entry-entry-requires-clause-within c =
+entry-entry-requires-clause-within g c =
     let entries = c.args.threads.now.entries in
     let walk = c.loop-n.invariant.walk in
     rw c.loop-n.invariant.stays.entries ((c.in-Some.ensures entries c.args.b c.loop-n.walk.seen (length entries) walk.carried walk.begins).1)
 
 pub entry-entry-requires-clause-countable : goal.entry-entry-requires-clause-countable
-entry-entry-requires-clause-countable c =
+entry-entry-requires-clause-countable g c =
     omega (arith, c.loop-n.invariant.at_most, c.requires.countable, few_met c.args.threads.now.entries c.args.b c.loop-n.walk.seen c.requires.few)
 
 pub offset_bounds-marks-n : goal.offset_bounds-marks-n
-offset_bounds-marks-n c =
+offset_bounds-marks-n g c =
     let entries = c.args.threads.now.entries in
     let walk = c.loop-n.invariant.walk in
     let next = c.in-Some.ensures entries c.args.b c.loop-n.walk.seen (length entries) walk.carried walk.begins in
     omega (arith, next.1, c.requires.few)
 
 pub paint_entry-work-requires-clause-kept : goal.paint_entry-work-requires-clause-kept
-paint_entry-work-requires-clause-kept c =
+paint_entry-work-requires-clause-kept g c =
     let entries = c.args.threads.now.entries in
     let walk = c.loop-n.invariant.walk in
     let next = c.in-Some.ensures entries c.args.b c.loop-n.walk.seen (length entries) walk.carried walk.begins in
@@ -41,7 +41,7 @@ paint_entry-work-requires-clause-kept c =
     (c.requires.label.kept n no_entry.field (rw length-map next.1))
 
 pub paint_entry-work-requires-clause-marked : goal.paint_entry-work-requires-clause-marked
-paint_entry-work-requires-clause-marked c =
+paint_entry-work-requires-clause-marked g c =
     let entries = c.args.threads.now.entries in
     let b = c.args.b in
     let n = c.in-Some.n in
@@ -51,31 +51,31 @@ paint_entry-work-requires-clause-marked c =
     λ before. rw is (done.ahead n next.0 next.1 (carried_here (entry_at entries n) b next.2 (subst (λ (e : Entry). e.first < b) is before)))
 
 pub bounds-marks-n : goal.bounds-marks-n
-bounds-marks-n c =
+bounds-marks-n g c =
     let entries = c.args.threads.now.entries in
     let walk = c.loop-n.invariant.walk in
     let next = c.in-Some.ensures entries c.args.b c.loop-n.walk.seen (length entries) walk.carried walk.begins in
     omega (arith, next.1, c.requires.marks, c.loop-n.invariant.lengths)
 
 pub after-walk-requires-clause-within : goal.after-walk-requires-clause-within
-after-walk-requires-clause-within c =
+after-walk-requires-clause-within g c =
     let entries = c.args.threads.now.entries in
     let walk = c.loop-n.invariant.walk in
     let next = c.in-Some.ensures entries c.args.b c.loop-n.walk.seen (length entries) walk.carried walk.begins in
     omega (arith, next.1, c.requires.few)
 
 pub after-walk-requires-clause-countable : goal.after-walk-requires-clause-countable
-after-walk-requires-clause-countable c =
+after-walk-requires-clause-countable g c =
     rw c.entry-entry.ensures.look
     (omega (arith, c.loop-n.invariant.at_most, c.requires.countable, few_met c.args.threads.now.entries c.args.b c.loop-n.walk.seen c.requires.few))
 
 pub after-walk-requires-clause-tail : goal.after-walk-requires-clause-tail
-after-walk-requires-clause-tail c =
+after-walk-requires-clause-tail g c =
     rw c.entry-entry.ensures.look
     (tail_in c.args.threads.now.entries c.loop-n.threads.links c.args.b c.loop-n.walk c.loop-n.invariant.walk (omega (arith, c.requires.links, c.loop-n.invariant.stays.links)))
 
 pub loop-n-init : goal.loop-n-init
-loop-n-init c =
+loop-n-init g c =
     let is = c.start-walk.ensures.walk in
     let look = c.start-walk.ensures.look in
     let threads = c.args.threads.now in
@@ -94,14 +94,14 @@ loop-n-init c =
     }
 
 pub loop-n-smaller : goal.loop-n-smaller
-loop-n-smaller c =
+loop-n-smaller g c =
     let entries = c.args.threads.now.entries in
     let walk = c.loop-n.invariant.walk in
     let next = c.in-Some.ensures entries c.args.b c.loop-n.walk.seen (length entries) walk.carried walk.begins in
     omega (arith, next.0, next.1, c.after-walk.ensures.seen)
 
 pub loop-n-preserved : goal.loop-n-preserved
-loop-n-preserved c =
+loop-n-preserved g c =
     let entries = c.args.threads.now.entries in
     let sheets = c.args.sheets.now in
     let stored = c.args.stored.now in
@@ -136,11 +136,11 @@ loop-n-preserved c =
     }
 
 pub close-requires : goal.close-requires
-close-requires c =
+close-requires g c =
     tail_in c.args.threads.now.entries c.loop-n.threads.links c.args.b c.loop-n.walk c.loop-n.invariant.walk (omega (arith, c.requires.links, c.loop-n.invariant.stays.links))
 
 pub returns-clause-dots : goal.returns-clause-dots
-returns-clause-dots c = λ x k across low high.
+returns-clause-dots g c = λ x k across low high.
     let entries = c.args.threads.now.entries in
     let walk = c.loop-n.invariant.walk in
     let none = c.in_default.ensures entries c.args.b c.loop-n.walk.seen (length entries) walk.carried walk.begins in
@@ -149,50 +149,50 @@ returns-clause-dots c = λ x k across low high.
     ∙ met_image c.args.sheets.now c.args.stored.now c.args.view c.args.b entries x k c.requires.label.spanned low
 
 pub returns-clause-carried : goal.returns-clause-carried
-returns-clause-carried c =
+returns-clause-carried g c =
     let entries = c.args.threads.now.entries in
     let walk = c.loop-n.invariant.walk in
     let none = c.in_default.ensures entries c.args.b c.loop-n.walk.seen (length entries) walk.carried walk.begins in
     rw c.close.ensures (walk_ended entries c.loop-n.threads.links c.args.b c.loop-n.walk walk (omega (arith, c.requires.links, c.loop-n.invariant.stays.links)) none)
 
 pub returns-clause-marked : goal.returns-clause-marked
-returns-clause-marked c =
+returns-clause-marked g c =
     let entries = c.args.threads.now.entries in
     let walk = c.loop-n.invariant.walk in
     let none = c.in_default.ensures entries c.args.b c.loop-n.walk.seen (length entries) walk.carried walk.begins in
     marked_all c.args.stored.now entries c.loop-n.marks c.args.b c.loop-n.walk.seen none c.loop-n.invariant.behind
 
 pub returns-clause-at_least : goal.returns-clause-at_least
-returns-clause-at_least c =
+returns-clause-at_least g c =
     let entries = c.args.threads.now.entries in
     let walk = c.loop-n.invariant.walk in
     let none = c.in_default.ensures entries c.args.b c.loop-n.walk.seen (length entries) walk.carried walk.begins in
     rw c.close.ensures (omega (arith, ap length (met_all entries c.args.b c.loop-n.walk.seen walk.within none), c.loop-n.invariant.at_least))
 
 pub returns-clause-at_most : goal.returns-clause-at_most
-returns-clause-at_most c =
+returns-clause-at_most g c =
     let entries = c.args.threads.now.entries in
     let walk = c.loop-n.invariant.walk in
     let none = c.in_default.ensures entries c.args.b c.loop-n.walk.seen (length entries) walk.carried walk.begins in
     rw c.close.ensures (omega (arith, ap length (met_all entries c.args.b c.loop-n.walk.seen walk.within none), c.loop-n.invariant.at_most))
 
 pub overflow_add-work : goal.overflow_add-work
-overflow_add-work c =
+overflow_add-work g c =
     omega (arith, c.loop-n.invariant.countable, c.paint_entry-work.ensures.countable, few_met c.args.threads.now.entries c.args.b c.loop-n.walk.seen c.requires.few)
 
 pub returns-clause-work : goal.returns-clause-work
-returns-clause-work c =
+returns-clause-work g c =
     let entries = c.args.threads.now.entries in
     let walk = c.loop-n.invariant.walk in
     let none = c.in_default.ensures entries c.args.b c.loop-n.walk.seen (length entries) walk.carried walk.begins in
     omega (arith, ap (sum_by entry_work) (met_all entries c.args.b c.loop-n.walk.seen walk.within none), c.loop-n.invariant.work)
 
 pub returns-clause-countable : goal.returns-clause-countable
-returns-clause-countable c =
+returns-clause-countable g c =
     omega (arith, c.loop-n.invariant.countable, few_met c.args.threads.now.entries c.args.b c.loop-n.walk.seen c.requires.few)
 
 pub returns-clause-shown : goal.returns-clause-shown
-returns-clause-shown c =
+returns-clause-shown g c =
     let entries = c.args.threads.now.entries in
     let walk = c.loop-n.invariant.walk in
     let none = c.in_default.ensures entries c.args.b c.loop-n.walk.seen (length entries) walk.carried walk.begins in

@@ -10,7 +10,7 @@ use Rattle.vp_bands.proofs.walk.paint_band.Given as goal
 -- of the fields seen those that meet the band are painted, and each of these took one look or two, and no more
 -- than its work, and something where its field has ink there
 abbrev pub invariant-loop-n : goal.invariant-loop-n
-invariant-loop-n l = record {
+invariant-loop-n g l = record {
   walk : IsWalk l.fn.threads.entries l.threads.links l.b l.walk;
   stays : Stays l.fn.threads l.threads;
   lengths : length l.marks ≡ length l.fn.marks;
@@ -25,4 +25,4 @@ invariant-loop-n l = record {
 }
 
 abbrev pub decreases-loop-n : goal.decreases-loop-n
-decreases-loop-n l = length l.fn.threads.entries - l.walk.seen
+decreases-loop-n g l = length l.fn.threads.entries - l.walk.seen

@@ -8,5 +8,5 @@ use Rattle.vp_copies.proofs.rows.copy_rows.Given as goal
 
 -- k rows are copied, and what is behind them stands as it was
 abbrev pub invariant-loop-k : goal.invariant-loop-k
-invariant-loop-k l = (i : Image) → i.width ≡ l.fn.width → l.fn.y + l.fn.rows ≤ i.height → IsPainted i (Row l.fn.y) l.fn.band →
+invariant-loop-k g l = (i : Image) → i.width ≡ l.fn.width → l.fn.y + l.fn.rows ≤ i.height → IsPainted i (Row l.fn.y) l.fn.band →
     l.room ≡ take (l.k * row_bytes l.fn.width) (rows_from (lines_of i) l.fn.y) ++ drop (l.k * row_bytes l.fn.width) l.fn.room

@@ -7,7 +7,7 @@ use Rattle.vp_copies.proofs.Texts.{dot-take}
 use Rattle.vp_copies.proofs.rows.row_of_band.Goals as goal
 
 pub returns-clause-text : goal.returns-clause-text
-returns-clause-text c = λ i w below painted.
+returns-clause-text g c = λ i w below painted.
     let row = c.row.result.now in
     let y = c.args.y in
     let n = c.bytes_of_row.result in

@@ -10,7 +10,7 @@ use Rattle.vp_field.proofs.Windowed.{white_across, band_left}
 use Rattle.vp_field.proofs.block_columns.paint_block_across.Goals as goal
 
 pub returns-then-are_white-clause-dots : goal.returns-then-are_white-clause-dots
-returns-then-are_white-clause-dots c =
+returns-then-are_white-clause-dots g c =
     let b = c.args.block.now in
     let l = c.args.lying in
     let f = c.first_line-top.ensures in
@@ -25,7 +25,7 @@ returns-then-are_white-clause-dots c =
     (λ i x l m n. sym (fronts i x l m n) ∙ c.are_white.ensures c.if-are_white.true i x l))
 
 pub invariant_of-drawn : goal.invariant_of-drawn
-invariant_of-drawn c =
+invariant_of-drawn g c =
     let f = c.first_line-top.ensures in
     let fits : SFits w64 c.drawn_at-at.result = search rules in
     record {

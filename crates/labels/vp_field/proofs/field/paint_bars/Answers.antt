@@ -3,7 +3,7 @@ use Rattle.std.proofs.Common.{◌≡◌, ℕ, ◌+◌, refl, sym, ap, ◌∙◌,
 use Rattle.vp_dots.specs.Places.{RowsPainted}
 use Rattle.vp_dots.specs.declared.fault.Fault.{Fault}
 use Rattle.vp_bars.specs.Symbols.{Linear}
-use Rattle.vp_glyph.specs.declared.Sheets.{Sheets}
+use Rattle.vp_glyph.specs.Sheets.{Sheets}
 use Rattle.vp_format.specs.declared.field.BarSymbol.{BarSymbol}
 use Rattle.vp_field.specs.Contents.{bytes_of, bars_width, bars_height, bars_dot}
 use Rattle.vp_bars.specs.Symbologies.{symbol_of}
@@ -20,14 +20,14 @@ ink sheets b on first r x k =
     (seen_x on.view (pos x)) (seen_y on.view (pos (first + k)))
 
 pub returns-in-Ok-clause-dots : goal.returns-in-Ok-clause-dots
-returns-in-Ok-clause-dots c =
+returns-in-Ok-clause-dots g c =
     let a = c.args in
     let b = c.boxed-ink.ensures in
     let bars : symbol_of a.bars.code (bytes_of a.stored.now a.bars.bytes) ≡ Ok c.in-Ok.symbol = ap (symbol_of a.bars.code) (sym c.bytes_of.ensures) ∙ sym c.linear.ensures ∙ c.in-Ok.is in
     subst (λ r. RowsPainted 32 a.on.op (ink a.sheets.now a.bars a.on a.first r) a.band.now c.paint_standing.new.band) (sym bars) (rw (b.bars, b.narrow, b.wide, b.height, b.sheets, b.font, b.place) at c.paint_standing.ensures.dots)
 
 pub returns-in-Err-clause-dots : goal.returns-in-Err-clause-dots
-returns-in-Err-clause-dots c =
+returns-in-Err-clause-dots g c =
     let a = c.args in
     let none : symbol_of a.bars.code (bytes_of a.stored.now a.bars.bytes) ≡ Err c.in-Err.field-0 = ap (symbol_of a.bars.code) (sym c.bytes_of.ensures) ∙ sym c.linear.ensures ∙ c.in-Err.is in
     subst (λ r. RowsPainted 32 a.on.op (ink a.sheets.now a.bars a.on a.first r) a.band.now a.band.now) (sym none)
@@ -35,14 +35,14 @@ returns-in-Err-clause-dots c =
     (λ x k. standing_none a.on.left a.on.top a.on.orientation 0 0 (λ u v. false) (λ u v. refl) (seen_x a.on.view (pos x)) (seen_y a.on.view (pos (a.first + k)))))
 
 pub returns-in-Ok-clause-counted : goal.returns-in-Ok-clause-counted
-returns-in-Ok-clause-counted c =
+returns-in-Ok-clause-counted g c =
     let a = c.args in
     let b = c.boxed-ink.ensures in
     let bars : symbol_of a.bars.code (bytes_of a.stored.now a.bars.bytes) ≡ Ok c.in-Ok.symbol = ap (symbol_of a.bars.code) (sym c.bytes_of.ensures) ∙ sym c.linear.ensures ∙ c.in-Ok.is in
     subst (λ r. IsCounted (ink a.sheets.now a.bars a.on a.first r) c.paint_standing.result) (sym bars) (rw (b.bars, b.narrow, b.wide, b.height, b.sheets, b.font, b.place) at c.paint_standing.ensures.counted)
 
 pub returns-in-Err-clause-counted : goal.returns-in-Err-clause-counted
-returns-in-Err-clause-counted c =
+returns-in-Err-clause-counted g c =
     let a = c.args in
     let none : symbol_of a.bars.code (bytes_of a.stored.now a.bars.bytes) ≡ Err c.in-Err.field-0 = ap (symbol_of a.bars.code) (sym c.bytes_of.ensures) ∙ sym c.linear.ensures ∙ c.in-Err.is in
     subst (λ r. IsCounted (ink a.sheets.now a.bars a.on a.first r) 0) (sym none) (λ x k low e.

@@ -9,19 +9,19 @@ use Rattle.vp_field.proofs.Shown.{rows_same}
 use Rattle.vp_field.proofs.field.paint_block.Goals as goal
 
 pub returns-then-not-lines_meet-clause-dots : goal.returns-then-not-lines_meet-clause-dots
-returns-then-not-lines_meet-clause-dots c =
+returns-then-not-lines_meet-clause-dots g c =
     let b = c.block_of-ink.ensures in
     let r = c.from_row-block.ensures in
     rw (r.sheet ∙ b.sheet, r.text ∙ b.text, r.w ∙ b.w, r.h ∙ b.h, r.wide ∙ b.wide, r.rows ∙ b.rows, r.pitch ∙ b.pitch, r.alignment ∙ b.alignment) at c.paint_standing.ensures.dots
 
 pub returns-clause-dots : goal.returns-clause-dots
-returns-clause-dots c =
+returns-clause-dots g c =
     let b = c.block_of-ink.ensures in
     let r = c.from_row-block.ensures in
     rw (c.new-drawn.ensures, r.sheet ∙ b.sheet, r.text ∙ b.text, r.w ∙ b.w, r.h ∙ b.h, r.wide ∙ b.wide, r.rows ∙ b.rows, r.pitch ∙ b.pitch, r.alignment ∙ b.alignment) at c.paint_standing-2.ensures.dots
 
 pub returns-in-Across-clause-dots : goal.returns-in-Across-clause-dots
-returns-in-Across-clause-dots c =
+returns-in-Across-clause-dots g c =
     let b = c.block_of-ink.ensures in
     let r = c.from_row-block.ensures in
     let k = c.block_of-ink.result in
@@ -35,16 +35,16 @@ returns-in-Across-clause-dots c =
     rw (b.sheet, b.text, b.w, b.h, b.wide, b.rows, b.pitch, b.alignment) at same
 
 pub returns-then-not-lines_meet-clause-counted : goal.returns-then-not-lines_meet-clause-counted
-returns-then-not-lines_meet-clause-counted c =
+returns-then-not-lines_meet-clause-counted g c =
     let b = c.block_of-ink.ensures in
     let r = c.from_row-block.ensures in
     rw (r.sheet ∙ b.sheet, r.text ∙ b.text, r.w ∙ b.w, r.h ∙ b.h, r.wide ∙ b.wide, r.rows ∙ b.rows, r.pitch ∙ b.pitch, r.alignment ∙ b.alignment) at c.paint_standing.ensures.counted
 
 pub returns-clause-counted : goal.returns-clause-counted
-returns-clause-counted c =
+returns-clause-counted g c =
     let b = c.block_of-ink.ensures in
     let r = c.from_row-block.ensures in
     rw (c.new-drawn.ensures, r.sheet ∙ b.sheet, r.text ∙ b.text, r.w ∙ b.w, r.h ∙ b.h, r.wide ∙ b.wide, r.rows ∙ b.rows, r.pitch ∙ b.pitch, r.alignment ∙ b.alignment) at c.paint_standing-2.ensures.counted
 
 pub returns-in-Across-clause-counted : goal.returns-in-Across-clause-counted
-returns-in-Across-clause-counted c = λ x k low e. c.paint_block_across.ensures.counted
+returns-in-Across-clause-counted g c = λ x k low e. c.paint_block_across.ensures.counted

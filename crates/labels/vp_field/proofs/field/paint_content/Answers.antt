@@ -4,7 +4,7 @@ use Rattle.std.proofs.lemmas.Int.{to_z-of_z}
 use Rattle.vp_field.proofs.field.paint_content.Goals as goal
 
 pub returns-in-Text-clause-dots : goal.returns-in-Text-clause-dots
-returns-in-Text-clause-dots c =
+returns-in-Text-clause-dots g c =
     let f = c.args.field.now in
     let n = c.requires.kept.near in
     let left : SFits w64 f.left = search (rules, n.left_low, n.left_high) in
@@ -12,7 +12,7 @@ returns-in-Text-clause-dots c =
     rw c.in-Text.is (rw (to_z-of_z w64 f.left left, to_z-of_z w64 f.top top) at c.paint_text.ensures.dots)
 
 pub returns-in-Block-clause-dots : goal.returns-in-Block-clause-dots
-returns-in-Block-clause-dots c =
+returns-in-Block-clause-dots g c =
     let f = c.args.field.now in
     let n = c.requires.kept.near in
     let left : SFits w64 f.left = search (rules, n.left_low, n.left_high) in
@@ -20,7 +20,7 @@ returns-in-Block-clause-dots c =
     rw c.in-Block.is (rw (to_z-of_z w64 f.left left, to_z-of_z w64 f.top top) at c.paint_block.ensures.dots)
 
 pub returns-in-Box-clause-dots : goal.returns-in-Box-clause-dots
-returns-in-Box-clause-dots c =
+returns-in-Box-clause-dots g c =
     let f = c.args.field.now in
     let n = c.requires.kept.near in
     let left : SFits w64 f.left = search (rules, n.left_low, n.left_high) in
@@ -28,7 +28,7 @@ returns-in-Box-clause-dots c =
     rw c.in-Box.is (rw (to_z-of_z w64 f.left left, to_z-of_z w64 f.top top, to_z-of_z w64 f.left left, to_z-of_z w64 f.top top) at (rw c.of.ensures at c.paint_standing.ensures.dots))
 
 pub returns-in-Bars-clause-dots : goal.returns-in-Bars-clause-dots
-returns-in-Bars-clause-dots c =
+returns-in-Bars-clause-dots g c =
     let f = c.args.field.now in
     let n = c.requires.kept.near in
     let left : SFits w64 f.left = search (rules, n.left_low, n.left_high) in
@@ -36,7 +36,7 @@ returns-in-Bars-clause-dots c =
     rw c.in-Bars.is (rw (to_z-of_z w64 f.left left, to_z-of_z w64 f.top top) at c.paint_bars.ensures.dots)
 
 pub returns-in-Qr-clause-dots : goal.returns-in-Qr-clause-dots
-returns-in-Qr-clause-dots c =
+returns-in-Qr-clause-dots g c =
     let f = c.args.field.now in
     let n = c.requires.kept.near in
     let left : SFits w64 f.left = search (rules, n.left_low, n.left_high) in
@@ -44,7 +44,7 @@ returns-in-Qr-clause-dots c =
     rw c.in-Qr.is (rw (to_z-of_z w64 f.left left, to_z-of_z w64 f.top top, to_z-of_z w64 f.left left, to_z-of_z w64 f.top top) at (c.paint_qr.ensures.dots c.args.sheets.now))
 
 pub returns-in-Picture-clause-dots : goal.returns-in-Picture-clause-dots
-returns-in-Picture-clause-dots c =
+returns-in-Picture-clause-dots g c =
     let f = c.args.field.now in
     let n = c.requires.kept.near in
     let left : SFits w64 f.left = search (rules, n.left_low, n.left_high) in
@@ -52,7 +52,7 @@ returns-in-Picture-clause-dots c =
     rw c.in-Picture.is (rw (to_z-of_z w64 f.left left, to_z-of_z w64 f.top top, to_z-of_z w64 f.left left, to_z-of_z w64 f.top top) at (c.paint_picture.ensures.dots c.args.sheets.now))
 
 pub returns-in-Text-clause-counted : goal.returns-in-Text-clause-counted
-returns-in-Text-clause-counted c =
+returns-in-Text-clause-counted g c =
     let f = c.args.field.now in
     let n = c.requires.kept.near in
     let left : SFits w64 f.left = search (rules, n.left_low, n.left_high) in
@@ -60,7 +60,7 @@ returns-in-Text-clause-counted c =
     rw c.in-Text.is (rw (to_z-of_z w64 f.left left, to_z-of_z w64 f.top top) at c.paint_text.ensures.counted)
 
 pub returns-in-Block-clause-counted : goal.returns-in-Block-clause-counted
-returns-in-Block-clause-counted c =
+returns-in-Block-clause-counted g c =
     let f = c.args.field.now in
     let n = c.requires.kept.near in
     let left : SFits w64 f.left = search (rules, n.left_low, n.left_high) in
@@ -68,7 +68,7 @@ returns-in-Block-clause-counted c =
     rw c.in-Block.is (rw (to_z-of_z w64 f.left left, to_z-of_z w64 f.top top) at c.paint_block.ensures.counted)
 
 pub returns-in-Box-clause-counted : goal.returns-in-Box-clause-counted
-returns-in-Box-clause-counted c =
+returns-in-Box-clause-counted g c =
     let f = c.args.field.now in
     let n = c.requires.kept.near in
     let left : SFits w64 f.left = search (rules, n.left_low, n.left_high) in
@@ -76,7 +76,7 @@ returns-in-Box-clause-counted c =
     rw c.in-Box.is (rw (to_z-of_z w64 f.left left, to_z-of_z w64 f.top top, to_z-of_z w64 f.left left, to_z-of_z w64 f.top top) at (rw c.of.ensures at c.paint_standing.ensures.counted))
 
 pub returns-in-Bars-clause-counted : goal.returns-in-Bars-clause-counted
-returns-in-Bars-clause-counted c =
+returns-in-Bars-clause-counted g c =
     let f = c.args.field.now in
     let n = c.requires.kept.near in
     let left : SFits w64 f.left = search (rules, n.left_low, n.left_high) in
@@ -84,7 +84,7 @@ returns-in-Bars-clause-counted c =
     rw c.in-Bars.is (rw (to_z-of_z w64 f.left left, to_z-of_z w64 f.top top) at c.paint_bars.ensures.counted)
 
 pub returns-in-Qr-clause-counted : goal.returns-in-Qr-clause-counted
-returns-in-Qr-clause-counted c =
+returns-in-Qr-clause-counted g c =
     let f = c.args.field.now in
     let n = c.requires.kept.near in
     let left : SFits w64 f.left = search (rules, n.left_low, n.left_high) in
@@ -92,7 +92,7 @@ returns-in-Qr-clause-counted c =
     rw c.in-Qr.is (rw (to_z-of_z w64 f.left left, to_z-of_z w64 f.top top, to_z-of_z w64 f.left left, to_z-of_z w64 f.top top) at (c.paint_qr.ensures.counted c.args.sheets.now))
 
 pub returns-in-Picture-clause-counted : goal.returns-in-Picture-clause-counted
-returns-in-Picture-clause-counted c =
+returns-in-Picture-clause-counted g c =
     let f = c.args.field.now in
     let n = c.requires.kept.near in
     let left : SFits w64 f.left = search (rules, n.left_low, n.left_high) in

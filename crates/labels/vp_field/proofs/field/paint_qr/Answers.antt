@@ -6,7 +6,7 @@ use Rattle.vp_field.proofs.Shown.{rows_same, qr_standing, qr_same}
 use Rattle.vp_field.proofs.field.paint_qr.Goals as goal
 
 pub returns-clause-dots : goal.returns-clause-dots
-returns-clause-dots c sheets =
+returns-clause-dots g c sheets =
     let a = c.args in
     let q = a.symbol in
     let bytes = bytes_of a.stored.now q.bytes in
@@ -16,7 +16,7 @@ returns-clause-dots c sheets =
     (seen_x a.on.view (pos x)) (seen_y a.on.view (pos (a.first + k)))) c.paint_standing.ensures.dots
 
 pub returns-clause-counted : goal.returns-clause-counted
-returns-clause-counted c sheets = λ x k low e.
+returns-clause-counted g c sheets = λ x k low e.
     let a = c.args in
     let q = a.symbol in
     let bytes = bytes_of a.stored.now q.bytes in

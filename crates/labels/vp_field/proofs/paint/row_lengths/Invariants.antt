@@ -2,4 +2,4 @@ use Rattle.std.proofs.Common.{◌≡◌, ℕ, ◌<◌, [], length, get_or}
 use Rattle.vp_field.proofs.paint.row_lengths.Given as goal
 
 abbrev pub invariant-loop-k : goal.invariant-loop-k
-invariant-loop-k l = (k : ℕ) → k < l.k → length (get_or l.band k []) ≡ 156
+invariant-loop-k g l = (k : ℕ) → k < l.k → length (get_or l.band k []) ≡ 156

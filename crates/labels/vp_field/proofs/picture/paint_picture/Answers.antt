@@ -12,7 +12,7 @@ use Rattle.vp_field.specs.Places.{at_place}
 use Rattle.vp_field.proofs.picture.paint_picture.Goals as goal
 
 pub returns-then-from-to-clause-dots : goal.returns-then-from-to-clause-dots
-returns-then-from-to-clause-dots c sheets =
+returns-then-from-to-clause-dots g c sheets =
     let a = c.args in
     let p = picture_of a.stored.now a.picture in
     let at = c.lying-at in
@@ -22,7 +22,7 @@ returns-then-from-to-clause-dots c sheets =
     (lines_init a.on.op at.result.columns at.result.rows a.first (picture_dot p) on.result.0 on.result.1 a.band.now (omega arith))
 
 pub returns-clause-dots : goal.returns-clause-dots
-returns-clause-dots c sheets =
+returns-clause-dots g c sheets =
     let a = c.args in
     let p = picture_of a.stored.now a.picture in
     let at = c.lying-at in
@@ -32,7 +32,7 @@ returns-clause-dots c sheets =
     (rw (c.go_to.ensures.rows, c.cursor-rows.ensures.picture) at c.paint_rows.ensures.painted)
 
 pub returns-clause-work : goal.returns-clause-work
-returns-clause-work c =
+returns-clause-work g c =
     let a = c.args in
     let p = picture_of a.stored.now a.picture in
     let few : length p.codes ≤ a.picture.codes.len = omega (arith, length-take a.picture.codes.len (drop a.picture.codes.start a.stored.now)) in
@@ -41,7 +41,7 @@ returns-clause-work c =
     omega (arith, c.read.ensures.at_most, c.passed.ensures.at_most, codes, few, c.lines_on-from.ensures.few)
 
 pub returns-then-from-to-clause-counted : goal.returns-then-from-to-clause-counted
-returns-then-from-to-clause-counted c sheets = λ x k low e.
+returns-then-from-to-clause-counted g c sheets = λ x k low e.
     let a = c.args in
     let p = picture_of a.stored.now a.picture in
     let at = c.lying-at in
@@ -53,4 +53,4 @@ returns-then-from-to-clause-counted c sheets = λ x k low e.
     absurd (omega (arith, on.ensures.from k line.0 low inside line.2, on.ensures.to k line.0 low inside line.2))
 
 pub returns-clause-counted : goal.returns-clause-counted
-returns-clause-counted c sheets = λ x k low e. omega arith
+returns-clause-counted g c sheets = λ x k low e. omega arith

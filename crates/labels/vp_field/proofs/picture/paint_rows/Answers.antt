@@ -4,7 +4,7 @@ use Rattle.vp_field.proofs.Pictured.{lines_more}
 use Rattle.vp_field.proofs.picture.paint_rows.Goals as goal
 
 pub loop-y-preserved : goal.loop-y-preserved
-loop-y-preserved c =
+loop-y-preserved g c =
     let i = c.loop-y.invariant in
     record {
       rows = rw i.rows at c.read_row.ensures.next;

@@ -8,7 +8,7 @@ use Rattle.vp_field.proofs.picture.paint_rows.Given as goal
 
 -- the rows above y are read and painted
 abbrev pub invariant-loop-y : goal.invariant-loop-y
-invariant-loop-y l = record {
+invariant-loop-y g l = record {
   rows : l.rows ≡ record l.fn.rows { next = l.y };
   len : length l.row ≡ length l.fn.row;
   painted : RowsPainted 32 l.op (λ x k. laid Along l.at.columns l.at.rows (part l.from l.y (picture_dot l.fn.rows.picture)) (pos x) (pos (l.first + k))) l.fn.band l.band;

@@ -10,7 +10,7 @@ use Rattle.vp_copies.proofs.Texts.{length-line}
 use Rattle.vp_copies.proofs.copies.Copies.put_line.Goals as goal
 
 pub returns-clause-within : goal.returns-clause-within
-returns-clause-within c = λ dots.
+returns-clause-within g c = λ dots.
     let j = c.self.inside in
     let i = image_of (progress_of j) dots in
     let n = c.put_part-output.result.count in
@@ -23,7 +23,7 @@ returns-clause-within c = λ dots.
     (c.put_part-output.ensures.within (lines_of i) (len ∙ sym (length-line i j.place.line))))
 
 pub returns-clause-bytes : goal.returns-clause-bytes
-returns-clause-bytes c = λ dots painted.
+returns-clause-bytes g c = λ dots painted.
     let j = c.self.inside in
     let i = image_of (progress_of j) dots in
     let n = c.put_part-output.result.count in
@@ -38,7 +38,7 @@ returns-clause-bytes c = λ dots painted.
     (c.put_part-output.ensures.within (lines_of i) (ap length text))))
 
 pub returns-clause-rest : goal.returns-clause-rest
-returns-clause-rest c = λ dots.
+returns-clause-rest g c = λ dots.
     let j = c.self.inside in
     let i = image_of (progress_of j) dots in
     let n = c.put_part-output.result.count in

@@ -7,7 +7,7 @@ use Rattle.vp_copies.proofs.ManyRows.{rows_front, rows_within}
 use Rattle.vp_copies.proofs.copies.Copies.put_rows.Goals as goal
 
 pub returns-clause-within : goal.returns-clause-within
-returns-clause-within c = λ dots.
+returns-clause-within g c = λ dots.
     let j = c.self.inside in
     let i = image_of (progress_of j) dots in
     let n = c.min-rows.result in
@@ -19,7 +19,7 @@ returns-clause-within c = λ dots.
     subst P c.self.view_is (rw (c.bytes_of_row-bytes.ensures, c.in-Row.is, byte) (rows_within i v.high j.copies c.in-Row.y n some v.wide (omega arith) (omega (arith, below, c.min-rows.ensures))))
 
 pub returns-clause-bytes : goal.returns-clause-bytes
-returns-clause-bytes c = λ dots painted.
+returns-clause-bytes g c = λ dots painted.
     let j = c.self.inside in
     let i = image_of (progress_of j) dots in
     let n = c.min-rows.result in

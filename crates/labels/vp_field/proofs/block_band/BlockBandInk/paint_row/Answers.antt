@@ -8,7 +8,7 @@ use Rattle.vp_glyph.specs.Layouts.{layout_of}
 use Rattle.vp_field.proofs.block_band.BlockBandInk.paint_row.Goals as goal
 
 pub returns-then-row-le-BYTES : goal.returns-then-row-le-BYTES
-returns-then-row-le-BYTES c =
+returns-then-row-le-BYTES g c =
     let s = c.args.self.now in
     let b = s.rows.block in
     let place = c.saturating_sub-place.result in

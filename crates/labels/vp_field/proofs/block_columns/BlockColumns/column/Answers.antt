@@ -13,7 +13,7 @@ use Rattle.vp_field.proofs.block_columns.BlockColumns.column.Goals as goal
 use Rattle.vp_field.proofs.block_columns.BlockColumns.column.Goals.{then-v-height-via-then-v-height, then-v-height-via-else-v-height+then-place-ge-COLUMNS}
 
 pub returns-in_default : goal.returns-in_default
-returns-in_default c = λ m k h.
+returns-in_default g c = λ m k h.
     let s = c.args.self.now in
     let b = s.block.now in
     let ink = λ (u v : ℕ). block_dot (layout_of b) b.text.now u v in
@@ -22,7 +22,7 @@ returns-in_default c = λ m k h.
     ∙ ap (λ o. unwrap_or (option_map line o) false) c.in_default.is)
 
 pub returns-then-v-height : goal.returns-then-v-height
-returns-then-v-height c = λ m k h.
+returns-then-v-height g c = λ m k h.
     let s = c.args.self.now in
     let b = s.block.now in
     let v = c.in-Some.v in
@@ -37,7 +37,7 @@ returns-then-v-height c = λ m k h.
     white_dot (read_at s.rows 32 k) ∙ sym (c.dot_on.ensures line (λ v e. let l = inside v e in omega (arith, b.fits)) ∙ ap (λ o. unwrap_or (option_map line o) false) c.in-Some.is ∙ none)
 
 pub returns : goal.returns
-returns c = λ m k h.
+returns g c = λ m k h.
     let s = c.args.self.now in
     let b = s.block.now in
     let v = c.in-Some.v in

@@ -6,7 +6,7 @@ use Rattle.vp_field.proofs.Windowed.{dots_along, read_within}
 use Rattle.vp_field.proofs.block_columns.BlockColumns.first_drawn.Goals as goal
 
 pub returns : goal.returns
-returns c =
+returns g c =
     let s = c.args.self.now in
     let v = c.in_ok-v.v in
     let place = c.in_ok-place.field-0 in

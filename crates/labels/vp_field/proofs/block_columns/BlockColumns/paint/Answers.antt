@@ -8,7 +8,7 @@ use Rattle.vp_field.proofs.Columns.{columns_init, columns_more, columns_all}
 use Rattle.vp_field.proofs.block_columns.BlockColumns.paint.Goals as goal
 
 pub loop-x-init : goal.loop-x-init
-loop-x-init c =
+loop-x-init g c =
     let s = c.args.self.now in
     let b = s.block.now in
     let ink = λ (u v : ℕ). block_dot (layout_of b) b.text.now u v in
@@ -20,7 +20,7 @@ loop-x-init c =
     }
 
 pub loop-x-preserved : goal.loop-x-preserved
-loop-x-preserved c =
+loop-x-preserved g c =
     let s = c.args.self.now in
     let b = s.block.now in
     let shown = λ (x k : ℕ). laid Across s.columns s.rows (λ u v. block_dot (layout_of b) b.text.now u v) (pos x) (pos (s.first + k)) in
@@ -30,7 +30,7 @@ loop-x-preserved c =
     }
 
 pub returns-clause-dots : goal.returns-clause-dots
-returns-clause-dots c =
+returns-clause-dots g c =
     let s = c.args.self.now in
     let b = s.block.now in
     let ink = λ (u v : ℕ). block_dot (layout_of b) b.text.now u v in

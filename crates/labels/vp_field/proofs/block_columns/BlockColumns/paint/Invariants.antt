@@ -8,10 +8,10 @@ use Rattle.vp_field.proofs.block_columns.BlockColumns.paint.Given as goal
 
 -- the columns before x are done, and no column was laid twice
 abbrev pub invariant-loop-x : goal.invariant-loop-x
-invariant-loop-x l = record {
+invariant-loop-x g l = record {
   painted : RowsPainted 32 l.op (λ d k. ltb d l.x && laid Across l.self.columns l.self.rows (λ u v. block_dot (layout_of l.self.block.now) l.self.block.now.text.now u v) (pos d) (pos (l.self.first + k))) l.fn.band l.band;
   laid : l.laid + (l.end - l.x) ≤ 1248;
 }
 
 abbrev pub decreases-loop-x : goal.decreases-loop-x
-decreases-loop-x l = l.end - l.x
+decreases-loop-x g l = l.end - l.x

@@ -10,7 +10,7 @@ use Rattle.vp_field.proofs.Windowed.{read_within}
 use Rattle.vp_field.proofs.block_columns.BlockColumns.paint_square.Goals as goal
 
 pub returns-then-are_white : goal.returns-then-are_white
-returns-then-are_white c =
+returns-then-are_white g c =
     let s = c.args.self.now in
     let b = s.block.now in
     let shown = λ (x k : ℕ). laid Across s.columns s.rows (λ u v. block_dot (layout_of b) b.text.now u v) (pos x) (pos (s.first + k)) in
@@ -18,7 +18,7 @@ returns-then-are_white c =
     (λ i k l h m. sym (c.square-square.ensures i k l (let w = c.requires.wide k h in omega arith) h) ∙ c.are_white.ensures c.if-are_white.true i (read_at s.rows 32 k) l)
 
 pub returns : goal.returns
-returns c =
+returns g c =
     let s = c.args.self.now in
     let b = s.block.now in
     let shown = λ (x k : ℕ). laid Across s.columns s.rows (λ u v. block_dot (layout_of b) b.text.now u v) (pos x) (pos (s.first + k)) in

@@ -9,7 +9,7 @@ use Rattle.vp_field.proofs.Windowed.{read_within}
 use Rattle.vp_field.proofs.block_columns.BlockColumns.square.Goals as goal
 
 pub loop-i-preserved : goal.loop-i-preserved
-loop-i-preserved c =
+loop-i-preserved g c =
     let n = c.loop-i.i in
     let sq = c.loop-i.square in
     let room : length sq ≡ 64 = c.loop-i.invariant.count in
@@ -22,7 +22,7 @@ loop-i-preserved c =
     }
 
 pub returns-in-Some : goal.returns-in-Some
-returns-in-Some c = λ i k l m h.
+returns-in-Some g c = λ i k l m h.
     let s = c.args.self.now in
     let b = s.block.now in
     let ink = λ (u v : ℕ). block_dot (layout_of b) b.text.now u v in

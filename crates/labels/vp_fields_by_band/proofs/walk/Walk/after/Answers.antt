@@ -5,7 +5,7 @@ use Rattle.vp_fields_by_band.proofs.Next.{walk_passed, walk_kept, kept_here, end
 use Rattle.vp_fields_by_band.proofs.walk.Walk.after.Goals as goal
 
 pub returns-then-entry-b-clause-walk : goal.returns-then-entry-b-clause-walk
-returns-then-entry-b-clause-walk c = λ entries table walk next is.
+returns-then-entry-b-clause-walk g c = λ entries table walk next is.
     let b = c.args.b in
     let n = c.args.n in
     let w = c.args.self in
@@ -15,7 +15,7 @@ returns-then-entry-b-clause-walk c = λ entries table walk next is.
     rw (c.keep.ensures.walk, c.keep.ensures.links, c.passed-passed.ensures.stays, c.passed-passed.ensures.kept.0, c.passed-passed.ensures.kept.1) kept
 
 pub returns-else-entry-b-clause-walk : goal.returns-else-entry-b-clause-walk
-returns-else-entry-b-clause-walk c = λ entries table walk next is.
+returns-else-entry-b-clause-walk g c = λ entries table walk next is.
     let b = c.args.b in
     let n = c.args.n in
     let short : (entry_at entries n).last ≤ b = subst (λ (e : Entry). e.last ≤ b) is c.if-entry-b.false in
