@@ -11,7 +11,7 @@ use Rattle.vp_dots.proofs.Heights.{rows_then}
 use Rattle.vp_glyph.specs.Cells.{font_width, font_height, cell_width, cell_height, body_dot, underlined, cell_dot}
 use Rattle.vp_glyph.specs.declared.cell.Font.{Font}
 use Rattle.vp_glyph.specs.declared.cell.Style.{Style}
-use Rattle.vp_glyph.specs.declared.Sheets.{Sheets}
+use Rattle.vp_glyph.specs.Sheets.{Sheets}
 use Rattle.vp_strips.specs.Held.{IsSource}
 
 -- the row that is printed on row y, of n rows that are printed t times each

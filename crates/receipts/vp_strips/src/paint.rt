@@ -14,20 +14,20 @@ ghost use Rattle.vp_strips.specs.Held.{IsSource};
 
 use std::alloc::{AllocError, Global};
 use std::marker::Model;
-use vp_dots::{Band, Ink, NARROW, Op, Ready, WORDS, paint_at, paint_narrow};
+use vp_dots::{Band, Ink, NARROW, Op, Ready, Small, WORDS, paint_at, paint_narrow};
 use vp_glyph::{Cell, Style};
 use vp_page::LINE_BYTES;
 use vp_receipt_settings::LINE_ROWS;
 
 /// The rows of a line, as long as the longest one of a page, of which the lowest are in use.
 #[derive(Drop)]
-pub struct Bitmap {
-    band: Band<LINE_BYTES, LINE_ROWS>,
+pub struct Bitmap<A: Small = Global> {
+    band: Band<LINE_BYTES, LINE_ROWS, A>,
     /// How many of the lowest rows may have a black dot.
     used: usize,
 }
 
-impl Model for Bitmap {
+impl<A: Small> Model for Bitmap<A> {
     ghost use Rattle.std.specs.Prelude.{ℕ, List};
     ghost use Rattle.vp_strips.specs.LineDots.{IsWhiteAbove};
 
@@ -40,12 +40,12 @@ impl Model for Bitmap {
 
 /// Paints the first `high` words, each of few dots, one on each row from `top` on.
 #[inline(always)]
-fn paint_words(
+fn paint_words<A: Small>(
     words: &[u64],
     high: usize,
     at: usize,
     top: usize,
-    band: &mut Band<LINE_BYTES, LINE_ROWS>,
+    band: &mut Band<LINE_BYTES, LINE_ROWS, A>,
 )
     requires few { high ≤ length words.now }
     requires room { top + high ≤ LINE_ROWS }
@@ -59,12 +59,12 @@ fn paint_words(
 }
 
 /// Paints a word of few dots on each of `times` rows, from `top` on.
-fn paint_alike(
+fn paint_alike<A: Small>(
     word: u64,
     times: usize,
     at: usize,
     top: usize,
-    band: &mut Band<LINE_BYTES, LINE_ROWS>,
+    band: &mut Band<LINE_BYTES, LINE_ROWS, A>,
 )
     requires room { top + times ≤ LINE_ROWS }
     requires at { at < 2 ^ 63 }
@@ -81,13 +81,13 @@ fn paint_alike(
 }
 
 /// Paints the first `high` words, each of few dots, each on `times` rows, from `top` on.
-fn paint_lines(
+fn paint_lines<A: Small>(
     words: &[u64; WORDS],
     high: usize,
     times: usize,
     at: usize,
     top: usize,
-    band: &mut Band<LINE_BYTES, LINE_ROWS>,
+    band: &mut Band<LINE_BYTES, LINE_ROWS, A>,
 )
     requires few { high ≤ WORDS }
     requires some { 0 < times }
@@ -105,12 +105,12 @@ fn paint_lines(
 /// Paints the lines of ink, each on `times` rows, from `top` on, and tells whether it did: where they are words
 /// of few dots.
 #[inline(never)]
-fn paint_magnified<I: Ink>(
+fn paint_magnified<I: Ink, A: Small>(
     ink: &I,
     times: usize,
     at: usize,
     top: usize,
-    band: &mut Band<LINE_BYTES, LINE_ROWS>,
+    band: &mut Band<LINE_BYTES, LINE_ROWS, A>,
 ) -> bool
     requires some { 0 < times }
     requires room { top + I.height ink.now * times ≤ LINE_ROWS }
@@ -131,7 +131,7 @@ fn paint_magnified<I: Ink>(
 
 /// The character whose rows are printed `hm` times each for this one, where that is more than once: an
 /// underline isn't magnified.
-fn source_of<'a>(cell: &Cell<'a>) -> Option<Cell<'a>>
+fn source_of<'a, A: Small>(cell: &Cell<'a, A>) -> Option<Cell<'a, A>>
     ensures { MatchOption result (Unit {0}) (λ source.
         (source.sheets.now ≡ cell.now.sheets.now) × (source.character ≡ cell.now.character)
         × (source.font ≡ cell.now.font) × IsSource source.style cell.now.style) }
@@ -148,7 +148,12 @@ fn source_of<'a>(cell: &Cell<'a>) -> Option<Cell<'a>>
 
 /// Paints ink at a place: by its words where they are of few dots, as those of a character in a style.
 #[inline(never)]
-fn paint_drawn<I: Ink>(ink: &I, left: i64, top: i64, band: &mut Band<LINE_BYTES, LINE_ROWS>)
+fn paint_drawn<I: Ink, A: Small>(
+    ink: &I,
+    left: i64,
+    top: i64,
+    band: &mut Band<LINE_BYTES, LINE_ROWS, A>,
+)
     ensures { RowsPainted LINE_ROWS Black (placed left top (I.ink_at ink.now)) band.old band.new }
 {
     let (wide, high) = ink.size();
@@ -168,7 +173,12 @@ fn paint_drawn<I: Ink>(ink: &I, left: i64, top: i64, band: &mut Band<LINE_BYTES,
 /// Paints ink at a place: as it stands ready where that is of few dots, as a character of a sheet.
 // Inlined, so that a run of characters looks once at how they are printed.
 #[inline(always)]
-fn paint_ink<I: Ink>(ink: &I, left: i64, top: i64, band: &mut Band<LINE_BYTES, LINE_ROWS>)
+fn paint_ink<I: Ink, A: Small>(
+    ink: &I,
+    left: i64,
+    top: i64,
+    band: &mut Band<LINE_BYTES, LINE_ROWS, A>,
+)
     ensures { RowsPainted LINE_ROWS Black (placed left top (I.ink_at ink.now)) band.old band.new }
 {
     let (wide, high) = ink.size();
@@ -186,7 +196,12 @@ fn paint_ink<I: Ink>(ink: &I, left: i64, top: i64, band: &mut Band<LINE_BYTES, L
 
 /// Paints a character at a place: each of its rows is drawn once, however often it is printed.
 #[inline(always)]
-fn paint_cell(cell: &Cell<'_>, at: u16, top: usize, band: &mut Band<LINE_BYTES, LINE_ROWS>)
+fn paint_cell<A: Small>(
+    cell: &Cell<'_, A>,
+    at: u16,
+    top: usize,
+    band: &mut Band<LINE_BYTES, LINE_ROWS, A>,
+)
     requires { top + cell_height cell.now.font cell.now.style ≤ LINE_ROWS }
     ensures { RowsPainted LINE_ROWS Black (placed (pos at) (pos top)
         (cell_dot cell.now.sheets.now cell.now.font cell.now.style cell.now.character)) band.old band.new }
@@ -200,9 +215,9 @@ fn paint_cell(cell: &Cell<'_>, at: u16, top: usize, band: &mut Band<LINE_BYTES, 
     paint_ink(cell, i64::from(at), top as i64, band);
 }
 
-impl Bitmap {
+impl<A: Small> Bitmap<A> {
     /// One with no line.
-    pub fn new(alloc: Global) -> Result<Bitmap, AllocError>
+    pub fn new(alloc: A) -> Result<Self, AllocError>
         ensures { IfOk result (λ bitmap. HasDots [] bitmap) }
     {
         let band = Band::new(alloc)?;
@@ -231,7 +246,7 @@ impl Bitmap {
 
     /// Puts a character into the line at a position, on its lowest rows.
     #[inline(always)]
-    pub fn put_cell(&mut self, cell: &Cell<'_>, at: u16)
+    pub fn put_cell(&mut self, cell: &Cell<'_, A>, at: u16)
         requires { cell_height cell.now.font cell.now.style ≤ LINE_ROWS }
         ensures { (line : List Placed) → HasDots line self.old →
             HasDots (ink_placed at (cell_width cell.now.font cell.now.style)

@@ -5,7 +5,7 @@ use Rattle.vp_strips.proofs.Magnified.{source_dot}
 use Rattle.vp_strips.proofs.paint.paint_cell.Goals as goal
 
 pub returns-then-paint_magnified : goal.returns-then-paint_magnified
-returns-then-paint_magnified c =
+returns-then-paint_magnified g c =
     let cell = c.args.cell.now in
     let (sheets, character, font, is) = c.in-Some.ensures in
     rows_same 192 Black _ _ _ _

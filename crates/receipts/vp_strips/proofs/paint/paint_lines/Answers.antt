@@ -14,7 +14,7 @@ abbrev shown : ℕ → ℕ → ℕ → ℕ → List ℕ → ℕ → ℕ → Bool
 shown at top times high words x k = leb top k && (ltb ((k - top) / times) high && shifted (pos at) (word_dot (get_or words ((k - top) / times) 0)) x)
 
 pub loop-v-preserved : goal.loop-v-preserved
-loop-v-preserved c =
+loop-v-preserved g c =
     let top = c.args.top in
     let times = c.args.times in
     let at = c.args.at in
@@ -31,7 +31,7 @@ loop-v-preserved c =
     c.loop-v.invariant c.paint_alike.ensures)
 
 pub returns : goal.returns
-returns c =
+returns g c =
     let top = c.args.top in
     let times = c.args.times in
     rows_all 192 Black (shown c.args.at top times c.args.high c.args.words.now) (top + c.loop-v.v * times) c.args.band.now c.loop-v.band
