@@ -5,7 +5,7 @@ use Rattle.vp_page.specs.declared.page.TheConstants.{PAPER_DOTS}
 use Rattle.vp_page.specs.declared.line.TheConstants.{LINE_DOTS}
 use Rattle.vp_dots.specs.Dots.{dot}
 use Rattle.vp_esc.specs.declared.item.EscItem.{EscItem}
-use Rattle.vp_strips.specs.declared.canvas.Canvas.{Canvas}
+use Rattle.vp_strips.specs.Canvases.{Canvas}
 use Rattle.vp_strips.specs.declared.strip.Dots.TheVariants.{Line, Drawn}
 use Rattle.vp_dots.specs.Images.{Image}
 use Rattle.vp_strips.specs.SymbolInks.{IsDrawn}

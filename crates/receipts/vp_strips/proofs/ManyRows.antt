@@ -16,7 +16,7 @@ use Rattle.vp_receipt_settings.proofs.Widths.{some_bytes}
 use Rattle.vp_output.specs.declared.place.Line.TheVariants.{Row}
 use Rattle.vp_output.specs.declared.place.Place.{Place}
 use Rattle.vp_output.specs.Places.{advanced}
-use Rattle.vp_strips.specs.declared.canvas.Canvas.{Canvas}
+use Rattle.vp_strips.specs.Canvases.{Canvas}
 use Rattle.vp_strips.specs.declared.strip.Strip.{Strip}
 use Rattle.vp_strips.specs.Jobs.{bitmap_dot, line_dot_of, strip_dot, lines_of, text}
 use Rattle.vp_strips.specs.Rows.{clipped, paper_row, rows_text}

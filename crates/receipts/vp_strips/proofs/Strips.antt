@@ -8,7 +8,7 @@ use Rattle.vp_dots.specs.Images.{image_row, row_of}
 use Rattle.vp_receipt_settings.specs.declared.width.Width.{Width}
 use Rattle.vp_receipt_settings.specs.Setup.{across, row_bytes}
 use Rattle.vp_receipt_settings.proofs.Widths.{dots_across}
-use Rattle.vp_strips.specs.declared.canvas.Canvas.{Canvas}
+use Rattle.vp_strips.specs.Canvases.{Canvas}
 use Rattle.vp_strips.specs.declared.strip.Strip.{Strip}
 use Rattle.vp_strips.specs.Rows.{rows_text, paper_row, strip_text}
 use Rattle.vp_strips.specs.Jobs.{strip_dot, head_text}

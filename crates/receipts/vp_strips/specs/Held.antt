@@ -1,7 +1,7 @@
 -- What a job keeps.
 use Rattle.std.specs.Prelude.{◌≡◌, ◌≤◌, ◌<◌, ℕ, List, [], ◌++◌, length, take, Option, Some, None}
 use Rattle.vp_receipt_settings.specs.declared.text.TheConstants.{LINE_ROWS}
-use Rattle.vp_strips.specs.declared.canvas.Canvas.{Canvas}
+use Rattle.vp_strips.specs.Canvases.{Canvas}
 use Rattle.vp_strips.specs.declared.job.Job.{Job}
 use Rattle.vp_strips.specs.declared.lines.Lines.{Lines}
 use Rattle.vp_strips.specs.declared.job.After.{After}

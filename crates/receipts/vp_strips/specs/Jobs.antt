@@ -4,7 +4,7 @@ use Rattle.vp_page.specs.declared.page.TheConstants.{PAPER_DOTS, PAGE_ROWS}
 use Rattle.vp_receipt_settings.specs.declared.text.TheConstants.{LINE_ROWS}
 use Rattle.vp_dots.specs.Dots.{dot}
 use Rattle.vp_dots.specs.Headers.{header_of}
-use Rattle.vp_strips.specs.declared.canvas.Canvas.{Canvas}
+use Rattle.vp_strips.specs.Canvases.{Canvas}
 use Rattle.vp_strips.specs.declared.strip.Strip.{Strip}
 use Rattle.vp_strips.specs.declared.strip.Dots.{Dots}
 use Rattle.vp_strips.specs.declared.strip.Dots.TheVariants.{Line, White, Across, Raster, Drawn, Page}

@@ -1,12 +1,12 @@
 //! The bar code of a command, in its box.
 ghost use Rattle.std.specs.Prelude.{◌≡◌, ◌≤◌, ◌<◌, ◌-◌, ℕ, true, OnOk, IfOk, IfErr, None, Some};
-ghost use Rattle.vp_glyph.specs.declared.Sheets.{Sheets};
+ghost use Rattle.vp_glyph.specs.Sheets.{Sheets as Given};
 ghost use Rattle.vp_bars.specs.Boxes.{box_width, box_height, box_dot};
 ghost use Rattle.vp_strips.specs.SymbolInks.{box_of};
 ghost use Rattle.vp_receipt_settings.specs.Symbols.{IsFitBars, bars_of, bars_refusal, bars_image, box_image};
 
 use vp_bars::{BarBox, BarCode, Bars, HriPosition, linear, rows_repeat};
-use vp_dots::{Fault, Ink, Why};
+use vp_dots::{Fault, Ink, Small, Why};
 use vp_glyph::{Font, Sheets};
 use vp_receipt_settings::BarStyle;
 
@@ -23,7 +23,7 @@ pub struct BarSymbol {
 
 impl BarSymbol {
     /// The bars in their box.
-    pub fn boxed<'a>(&'a self, sheets: &'a Sheets) -> BarBox<'a>
+    pub fn boxed<'a, A: Small>(&'a self, sheets: &'a Sheets<A>) -> BarBox<'a, A>
         ensures { record {
           bars = result.bars.now;
           narrow = result.narrow;
@@ -47,14 +47,14 @@ impl BarSymbol {
 
     /// Whether row y of the box is known to have the dots of the row above it.
     pub fn repeats(&self, y: u32) -> bool
-        ensures { result ≡ true → (sheets : Sheets) (x : ℕ) →
+        ensures { result ≡ true → (sheets : Given) (x : ℕ) →
             box_dot (box_of sheets self.now) x y ≡ box_dot (box_of sheets self.now) x (y - 1) }
     {
         rows_repeat(self.place, self.font, self.height, y)
     }
 
     /// How wide and high the box is.
-    pub fn size(&self, sheets: &Sheets) -> (u32, u32)
+    pub fn size<A: Small>(&self, sheets: &Sheets<A>) -> (u32, u32)
         ensures width { result.0 ≡ box_width (box_of sheets.now self.now) }
         ensures height { result.1 ≡ box_height (box_of sheets.now self.now) }
     {
@@ -80,13 +80,13 @@ fn bars_of(code: Option<BarCode>, bytes: &[u8], more: bool) -> Result<Bars, Faul
 /// Refused are, in this order: a bar code that isn't drawn (`Symbol(Unsupported)`), no bytes
 /// (`Symbol(Empty)`), more than are kept (`SymbolTooLong`), what the symbol's standard refuses, and a box
 /// wider than the line (`SymbolTooWide`).
-pub fn bar_symbol(
+pub fn bar_symbol<A: Small>(
     style: BarStyle,
     code: Option<BarCode>,
     bytes: &[u8],
     more: bool,
     length: u16,
-    sheets: &Sheets,
+    sheets: &Sheets<A>,
 ) -> Result<BarSymbol, Fault>
     requires { IsFitBars style }
     ensures accepted { OnOk result (bars_refusal sheets.now style length (bars_of code bytes.now more) ≡

@@ -1,6 +1,6 @@
 //! What is put out: a strip from a place on, and the strips that come after it.
 ghost use Rattle.std.specs.Prelude.{◌≡◌, ℕ, ◌+◌, ◌-◌, ◌<◌, ◌≤◌, ◌++◌, [], true, min, take, drop, length, IsTrue, ◌↔◌, None, ◌==◌, if◌then◌else◌, MatchOption};
-ghost use Rattle.vp_strips.specs.declared.canvas.Canvas.{Canvas};
+ghost use Rattle.vp_strips.specs.Canvases.{canvas_of, Canvas as TheCanvas};
 ghost use Rattle.vp_strips.specs.declared.lines.Lines.{Lines};
 ghost use Rattle.vp_strips.specs.declared.strip.Strip.{Strip};
 ghost use Rattle.vp_strips.specs.Rows.{rows_text};
@@ -13,6 +13,7 @@ use crate::canvas::Canvas;
 use crate::lines::Lines;
 use crate::many_rows::copy_rows;
 use crate::strip::{Dots, Strip};
+use vp_dots::Small;
 use vp_output::{Line, Place, put_part};
 use vp_receipt_settings::Width;
 
@@ -36,10 +37,10 @@ pub struct Job {
 impl Job {
     /// One that puts out nothing.
     pub fn none() -> Job
-        ensures job { (canvas : Canvas) (lines : Lines) → IsJob result canvas lines }
+        ensures job { (canvas : TheCanvas) (lines : Lines) → IsJob result canvas lines }
         ensures turned { IsTurned result.place result.after }
-        ensures text { (canvas : Canvas) → job_text result canvas ≡ [] }
-        ensures shows { (canvas : Canvas) (high others : ℕ) → IsShowing result canvas high others }
+        ensures text { (canvas : TheCanvas) → job_text result canvas ≡ [] }
+        ensures shows { (canvas : TheCanvas) (high others : ℕ) → IsShowing result canvas high others }
     {
         Job {
             strip: Strip::white(Width::W576, 0),
@@ -52,11 +53,11 @@ impl Job {
     pub fn of(first: Option<Strip>, after: After) -> Job
         requires first { IsLowIf first }
         requires after { AreOwn after }
-        ensures job { (canvas : Canvas) (lines : Lines) → IsJob result canvas lines }
+        ensures job { (canvas : TheCanvas) (lines : Lines) → IsJob result canvas lines }
         ensures turned { IsTurned result.place result.after }
-        ensures text { (canvas : Canvas) →
+        ensures text { (canvas : TheCanvas) →
             job_text result canvas ≡ whole_if first canvas ++ after_text after canvas }
-        ensures shows { (canvas : Canvas) (high : ℕ) → IsHigh first high →
+        ensures shows { (canvas : TheCanvas) (high : ℕ) → IsHigh first high →
             IsShowing result canvas high (length (after_text after canvas)) }
     {
         let Some(strip) = first else {
@@ -78,11 +79,11 @@ impl Job {
     /// One strip that shows no line, if it has rows.
     pub fn alone(strip: Strip) -> Job
         requires own { IsOwn strip }
-        ensures job { (canvas : Canvas) (lines : Lines) → IsJob result canvas lines }
+        ensures job { (canvas : TheCanvas) (lines : Lines) → IsJob result canvas lines }
         ensures turned { IsTurned result.place result.after }
-        ensures text { (canvas : Canvas) →
+        ensures text { (canvas : TheCanvas) →
             job_text result canvas ≡ (if strip.rows == 0 then [] else whole strip canvas) }
-        ensures shows { (canvas : Canvas) (high : ℕ) →
+        ensures shows { (canvas : TheCanvas) (high : ℕ) →
             IsShowing result canvas high (length (job_text result canvas)) }
     {
         if strip.rows == 0 {
@@ -95,11 +96,11 @@ impl Job {
     pub fn of_rows(strip: Strip) -> Job
         requires own { IsOwn strip }
         requires some { 0 < strip.rows }
-        ensures job { (canvas : Canvas) (lines : Lines) → IsJob result canvas lines }
+        ensures job { (canvas : TheCanvas) (lines : Lines) → IsJob result canvas lines }
         ensures turned { IsTurned result.place result.after }
-        ensures text { (canvas : Canvas) →
+        ensures text { (canvas : TheCanvas) →
             job_text result canvas ≡ rows_text strip.paper (strip_dot strip canvas) 0 strip.rows }
-        ensures shows { (canvas : Canvas) (high : ℕ) →
+        ensures shows { (canvas : TheCanvas) (high : ℕ) →
             IsShowing result canvas high (length (job_text result canvas)) }
     {
         Job {
@@ -125,19 +126,22 @@ impl Job {
     }
 
     /// Puts out rows, from row y on, as many as there are and room is for.
-    fn put_rows(&mut self, y: u32, canvas: &Canvas, out: &mut [u8]) -> usize
+    fn put_rows<A: Small>(&mut self, y: u32, canvas: &Canvas<A>, out: &mut [u8]) -> usize
         requires at { IsAtRow self.old y }
         requires room { row_bytes self.old.strip.paper ≤ length out.old }
         requires low { IsLow self.old.strip }
         requires place { IsPlace self.old.strip.rows self.old.place }
         ensures strip { self.new.strip ≡ self.old.strip }
         ensures after { self.new.after ≡ self.old.after }
-        ensures job { (lines : Lines) → IsJob self.old canvas.now lines → IsJob self.new canvas.now lines }
+        ensures job { (lines : Lines) → IsJob self.old (canvas_of canvas.now) lines →
+            IsJob self.new (canvas_of canvas.now) lines }
         ensures some { 0 < result }
         ensures fits { result ≤ length out.old }
-        ensures within { result ≤ length (part_of self.old canvas.now) }
-        ensures bytes { out.new ≡ take result (part_of self.old canvas.now) ++ drop result out.old }
-        ensures rest { part_of self.new canvas.now ≡ drop result (part_of self.old canvas.now) }
+        ensures within { result ≤ length (part_of self.old (canvas_of canvas.now)) }
+        ensures bytes { out.new ≡
+            take result (part_of self.old (canvas_of canvas.now)) ++ drop result out.old }
+        ensures rest { part_of self.new (canvas_of canvas.now) ≡
+            drop result (part_of self.old (canvas_of canvas.now)) }
     {
         let bytes = self.strip.paper.row_bytes();
         let all = self.strip.rows();
@@ -152,18 +156,20 @@ impl Job {
     }
 
     /// Puts out bytes of one line, or rows.
-    fn put_line(&mut self, canvas: &Canvas, lines: &mut Lines, out: &mut [u8]) -> usize
-        requires job { IsJob self.old canvas.now lines.old }
-        requires pending { 0 < length (part_of self.old canvas.now) }
+    fn put_line<A: Small>(&mut self, canvas: &Canvas<A>, lines: &mut Lines, out: &mut [u8]) -> usize
+        requires job { IsJob self.old (canvas_of canvas.now) lines.old }
+        requires pending { 0 < length (part_of self.old (canvas_of canvas.now)) }
         requires room { 0 < length out.old }
         ensures strip { self.new.strip ≡ self.old.strip }
         ensures after { self.new.after ≡ self.old.after }
-        ensures job { IsJob self.new canvas.now lines.new }
+        ensures job { IsJob self.new (canvas_of canvas.now) lines.new }
         ensures some { 0 < result }
         ensures fits { result ≤ length out.old }
-        ensures within { result ≤ length (part_of self.old canvas.now) }
-        ensures bytes { out.new ≡ take result (part_of self.old canvas.now) ++ drop result out.old }
-        ensures rest { part_of self.new canvas.now ≡ drop result (part_of self.old canvas.now) }
+        ensures within { result ≤ length (part_of self.old (canvas_of canvas.now)) }
+        ensures bytes { out.new ≡
+            take result (part_of self.old (canvas_of canvas.now)) ++ drop result out.old }
+        ensures rest { part_of self.new (canvas_of canvas.now) ≡
+            drop result (part_of self.old (canvas_of canvas.now)) }
     {
         if let Some(y) = self.next_row(out.len()) {
             return self.put_rows(y, canvas, out);
@@ -180,11 +186,11 @@ impl Job {
 
     /// Begins the next strip where one ended.
     fn turn(&mut self)
-        ensures text { (canvas : Canvas) → job_text self.new canvas ≡ job_text self.old canvas }
-        ensures job { (canvas : Canvas) (lines : Lines) → IsJob self.old canvas lines →
+        ensures text { (canvas : TheCanvas) → job_text self.new canvas ≡ job_text self.old canvas }
+        ensures job { (canvas : TheCanvas) (lines : Lines) → IsJob self.old canvas lines →
             IsJob self.new canvas lines }
         ensures turned { IsTurned self.new.place self.new.after }
-        ensures shows { (canvas : Canvas) (high others : ℕ) → AreOwn self.old.after →
+        ensures shows { (canvas : TheCanvas) (high others : ℕ) → AreOwn self.old.after →
             IsShowing self.old canvas high others → IsShowing self.new canvas high others }
     {
         if self.place.is_none() {
@@ -202,20 +208,22 @@ impl Job {
     /// Puts out bytes of one line, or rows, and begins the next strip where one ends.
     // Where nothing is pending, its room isn't paid for.
     #[inline(never)]
-    fn put_some(&mut self, canvas: &Canvas, lines: &mut Lines, out: &mut [u8]) -> usize
-        requires job { IsJob self.old canvas.now lines.old }
+    fn put_some<A: Small>(&mut self, canvas: &Canvas<A>, lines: &mut Lines, out: &mut [u8]) -> usize
+        requires job { IsJob self.old (canvas_of canvas.now) lines.old }
         requires turned { IsTurned self.old.place self.old.after }
-        requires pending { 0 < length (job_text self.old canvas.now) }
+        requires pending { 0 < length (job_text self.old (canvas_of canvas.now)) }
         requires room { 0 < length out.old }
-        ensures job { IsJob self.new canvas.now lines.new }
+        ensures job { IsJob self.new (canvas_of canvas.now) lines.new }
         ensures turned { IsTurned self.new.place self.new.after }
         ensures some { 0 < result }
         ensures fits { result ≤ length out.old }
-        ensures within { result ≤ length (job_text self.old canvas.now) }
-        ensures bytes { out.new ≡ take result (job_text self.old canvas.now) ++ drop result out.old }
-        ensures rest { job_text self.new canvas.now ≡ drop result (job_text self.old canvas.now) }
-        ensures shows { (high others : ℕ) → IsShowing self.old canvas.now high others →
-            IsShowing self.new canvas.now high others }
+        ensures within { result ≤ length (job_text self.old (canvas_of canvas.now)) }
+        ensures bytes { out.new ≡
+            take result (job_text self.old (canvas_of canvas.now)) ++ drop result out.old }
+        ensures rest { job_text self.new (canvas_of canvas.now) ≡
+            drop result (job_text self.old (canvas_of canvas.now)) }
+        ensures shows { (high others : ℕ) → IsShowing self.old (canvas_of canvas.now) high others →
+            IsShowing self.new (canvas_of canvas.now) high others }
     {
         let n = self.put_line(canvas, lines, out);
         self.turn();
@@ -224,7 +232,7 @@ impl Job {
 
     /// The height of the line of whose strip bytes are left.
     pub fn line_rows(&self) -> Option<u16>
-        ensures { (canvas : Canvas) →
+        ensures { (canvas : TheCanvas) →
             result ≡ option_map (λ shown. shown.height) (showing_of self.now canvas) }
     {
         match (self.place, self.strip.dots) {
@@ -236,7 +244,7 @@ impl Job {
 
     /// Whether bytes are left.
     pub fn is_pending(&self) -> bool
-        ensures { (canvas : Canvas) → SomeLeft self.now.strip self.now.place →
+        ensures { (canvas : TheCanvas) → SomeLeft self.now.strip self.now.place →
             IsTurned self.now.place self.now.after →
             IsTrue result ↔ (0 < length (job_text self.now canvas)) }
     {
@@ -244,16 +252,18 @@ impl Job {
     }
 
     /// Puts out the next bytes, as many as there are and room is for, and answers how many.
-    pub fn put(&mut self, canvas: &Canvas, lines: &mut Lines, out: &mut [u8]) -> usize
-        requires job { IsJob self.old canvas.now lines.old }
+    pub fn put<A: Small>(&mut self, canvas: &Canvas<A>, lines: &mut Lines, out: &mut [u8]) -> usize
+        requires job { IsJob self.old (canvas_of canvas.now) lines.old }
         requires turned { IsTurned self.old.place self.old.after }
-        ensures job { IsJob self.new canvas.now lines.new }
+        ensures job { IsJob self.new (canvas_of canvas.now) lines.new }
         ensures turned { IsTurned self.new.place self.new.after }
-        ensures count { result ≡ min (length (job_text self.old canvas.now)) (length out.old) }
-        ensures bytes { out.new ≡ take result (job_text self.old canvas.now) ++ drop result out.old }
-        ensures rest { job_text self.new canvas.now ≡ drop result (job_text self.old canvas.now) }
-        ensures shows { (high others : ℕ) → IsShowing self.old canvas.now high others →
-            IsShowing self.new canvas.now high others }
+        ensures count { result ≡ min (length (job_text self.old (canvas_of canvas.now))) (length out.old) }
+        ensures bytes { out.new ≡
+            take result (job_text self.old (canvas_of canvas.now)) ++ drop result out.old }
+        ensures rest { job_text self.new (canvas_of canvas.now) ≡
+            drop result (job_text self.old (canvas_of canvas.now)) }
+        ensures shows { (high others : ℕ) → IsShowing self.old (canvas_of canvas.now) high others →
+            IsShowing self.new (canvas_of canvas.now) high others }
     {
         let mut n = 0;
         while n < out.len() && self.is_pending() {

@@ -3,7 +3,7 @@
 //! `paint` knows the bitmap of a line, `barcode`, `qr` and `symbol` a symbol, `raster_row` a row of a raster,
 //! and `canvas` all that strips are painted from. `strip` knows the rows of one, `many_rows` many of them at
 //! a call, `lines` the bytes of the line that is put out, and `job` what is still to come.
-#![tactic(auto)]
+#![tactic(auto, using(vp_dots::proofs::Handles::list_small))]
 
 mod barcode;
 mod canvas;

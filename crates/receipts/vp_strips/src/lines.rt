@@ -1,6 +1,6 @@
 //! The bytes of the line that is being put out, a header or a row, made when the first of them is wanted.
 ghost use Rattle.std.specs.Prelude.{◌≡◌};
-ghost use Rattle.vp_strips.specs.declared.canvas.Canvas.{Canvas};
+ghost use Rattle.vp_strips.specs.Canvases.{canvas_of, Canvas as TheCanvas};
 ghost use Rattle.vp_strips.specs.declared.strip.Strip.{Strip};
 ghost use Rattle.vp_output.specs.Lines.{line_text};
 ghost use Rattle.vp_strips.specs.Jobs.{lines_of};
@@ -9,7 +9,7 @@ ghost use Rattle.vp_strips.specs.Held.{HasLine, IsLineBegun, IsLow};
 use crate::canvas::Canvas;
 use crate::strip::Strip;
 use arrayvec::ArrayVec;
-use vp_dots::header;
+use vp_dots::{Small, header};
 use vp_output::{Line, Place};
 use vp_page::PAPER_BYTES;
 use vp_receipt_settings::Width;
@@ -31,10 +31,10 @@ impl Lines {
     }
 
     /// Makes the bytes of the place's line where the first of them comes next.
-    pub fn make(&mut self, strip: Strip, place: Place, canvas: &Canvas)
+    pub fn make<A: Small>(&mut self, strip: Strip, place: Place, canvas: &Canvas<A>)
         requires low { IsLow strip }
-        requires begun { IsLineBegun strip canvas.now self.old place.line place.byte }
-        ensures { HasLine strip canvas.now self.new place.line }
+        requires begun { IsLineBegun strip (canvas_of canvas.now) self.old place.line place.byte }
+        ensures { HasLine strip (canvas_of canvas.now) self.new place.line }
     {
         if place.byte > 0 {
             return;
@@ -47,7 +47,7 @@ impl Lines {
 
     /// The bytes of the line.
     pub fn at(&self, line: Line, paper: Width) -> &[u8]
-        ensures { (s : Strip) (canvas : Canvas) → s.paper ≡ paper → HasLine s canvas self.now line →
+        ensures { (s : Strip) (canvas : TheCanvas) → s.paper ≡ paper → HasLine s canvas self.now line →
             result.now ≡ line_text (lines_of s canvas) line }
     {
         match line {

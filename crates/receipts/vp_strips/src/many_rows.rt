@@ -8,16 +8,17 @@ ghost use Rattle.vp_strips.specs.Rows.{paper_row, rows_text};
 ghost use Rattle.vp_strips.specs.Jobs.{bitmap_dot, page_dot_of, dot_in, strip_dot};
 ghost use Rattle.vp_strips.specs.Held.{IsLow, IsLowDots};
 ghost use Rattle.vp_strips.specs.declared.strip.Dots.{Dots};
+ghost use Rattle.vp_strips.specs.Canvases.{canvas_of};
 
 use crate::canvas::Canvas;
 use crate::paint::Bitmap;
 use crate::strip::{Dots, Strip};
-use vp_dots::dots_decide;
+use vp_dots::{Small, dots_decide};
 use vp_page::{PAGE_ROWS, PAPER_BYTES, Page};
 use vp_receipt_settings::{LINE_ROWS, Width};
 
 /// The bytes of a row of the page, as far as the paper goes.
-fn page_row(paper: Width, y: usize, page: &Page) -> &[u8]
+fn page_row<A: Small>(paper: Width, y: usize, page: &Page<A>) -> &[u8]
     requires { y < PAGE_ROWS }
     ensures { result.now ≡ paper_row paper (λ x. page_dot_of page.now.rows x y) }
 {
@@ -35,7 +36,7 @@ fn copy_row(row: &[u8], room: &mut [u8])
 }
 
 /// Copies rows of the page, from row y on, as far as the paper goes.
-fn copy_page_rows(paper: Width, y: usize, rows: usize, page: &Page, room: &mut [u8])
+fn copy_page_rows<A: Small>(paper: Width, y: usize, rows: usize, page: &Page<A>, room: &mut [u8])
     requires inside { 0 < rows → y + rows ≤ PAGE_ROWS }
     requires fits { rows * row_bytes paper ≤ length room.old }
     ensures { room.new ≡ rows_text paper (page_dot_of page.now.rows) y rows
@@ -48,7 +49,7 @@ fn copy_page_rows(paper: Width, y: usize, rows: usize, page: &Page, room: &mut [
 }
 
 /// The bytes of a row of the bitmap, as far as the paper goes.
-fn line_row(paper: Width, y: usize, bitmap: &Bitmap) -> &[u8]
+fn line_row<A: Small>(paper: Width, y: usize, bitmap: &Bitmap<A>) -> &[u8]
     requires { y < LINE_ROWS }
     ensures { result.now ≡ paper_row paper (λ x. bitmap_dot bitmap.now x y) }
 {
@@ -58,7 +59,13 @@ fn line_row(paper: Width, y: usize, bitmap: &Bitmap) -> &[u8]
 }
 
 /// Copies rows of the bitmap, from row y on, as far as the paper goes.
-fn copy_line_rows(paper: Width, y: usize, rows: usize, bitmap: &Bitmap, room: &mut [u8])
+fn copy_line_rows<A: Small>(
+    paper: Width,
+    y: usize,
+    rows: usize,
+    bitmap: &Bitmap<A>,
+    room: &mut [u8],
+)
     requires inside { 0 < rows → y + rows ≤ LINE_ROWS }
     requires fits { rows * row_bytes paper ≤ length room.old }
     ensures { room.new ≡ rows_text paper (bitmap_dot bitmap.now) y rows
@@ -72,11 +79,12 @@ fn copy_line_rows(paper: Width, y: usize, rows: usize, bitmap: &Bitmap, room: &m
 
 /// Writes row y + k: it stands there already where it is known to be as the row above it, which was written
 /// before unless k is 0.
-fn write_next(dots: Dots, y: u32, k: u32, canvas: &Canvas, row: &mut [u8; PAPER_BYTES])
+fn write_next<A: Small>(dots: Dots, y: u32, k: u32, canvas: &Canvas<A>, row: &mut [u8; PAPER_BYTES])
     requires low { IsLowDots dots }
     requires inside { y + k < 2 ^ 32 }
-    requires above { 0 < k → row.old ≡ row_of PAPER_BYTES (λ x. dot_in dots canvas.now x (y + k - 1)) }
-    ensures { row.new ≡ row_of PAPER_BYTES (λ x. dot_in dots canvas.now x (y + k)) }
+    requires above { 0 < k → row.old ≡
+        row_of PAPER_BYTES (λ x. dot_in dots (canvas_of canvas.now) x (y + k - 1)) }
+    ensures { row.new ≡ row_of PAPER_BYTES (λ x. dot_in dots (canvas_of canvas.now) x (y + k)) }
 {
     if k > 0 && dots.repeats(y + k, canvas) {
         return;
@@ -85,11 +93,18 @@ fn write_next(dots: Dots, y: u32, k: u32, canvas: &Canvas, row: &mut [u8; PAPER_
 }
 
 /// Copies rows that are written one by one, from row y on, as far as the paper goes.
-fn copy_written_rows(dots: Dots, paper: Width, y: u32, rows: u32, canvas: &Canvas, room: &mut [u8])
+fn copy_written_rows<A: Small>(
+    dots: Dots,
+    paper: Width,
+    y: u32,
+    rows: u32,
+    canvas: &Canvas<A>,
+    room: &mut [u8],
+)
     requires low { IsLowDots dots }
     requires inside { y + rows < 2 ^ 32 }
     requires fits { rows * row_bytes paper ≤ length room.old }
-    ensures { room.new ≡ rows_text paper (dot_in dots canvas.now) y rows
+    ensures { room.new ≡ rows_text paper (dot_in dots (canvas_of canvas.now)) y rows
         ++ drop (rows * row_bytes paper) room.old }
 {
     let bytes = paper.row_bytes();
@@ -110,14 +125,14 @@ fn whiten(from: usize, to: usize, room: &mut [u8])
 }
 
 /// Copies rows that may have black dots, from row y on.
-fn copy_inked(strip: Strip, y: u32, rows: u32, canvas: &Canvas, room: &mut [u8])
+fn copy_inked<A: Small>(strip: Strip, y: u32, rows: u32, canvas: &Canvas<A>, room: &mut [u8])
     requires low { IsLow strip }
     requires inside { y + rows < 2 ^ 32 }
     requires page { strip.dots ≡ Dots.Page → 0 < rows → y + rows ≤ PAGE_ROWS }
     requires line { (height left length : ℕ) → strip.dots ≡ Dots.Line height left length →
         0 < rows → y + rows ≤ height }
     requires fits { rows * row_bytes strip.paper ≤ length room.old }
-    ensures { room.new ≡ rows_text strip.paper (strip_dot strip canvas.now) y rows
+    ensures { room.new ≡ rows_text strip.paper (strip_dot strip (canvas_of canvas.now)) y rows
         ++ drop (rows * row_bytes strip.paper) room.old }
 {
     match strip.dots {
@@ -139,11 +154,11 @@ fn copy_inked(strip: Strip, y: u32, rows: u32, canvas: &Canvas, room: &mut [u8])
 }
 
 /// Copies rows of a strip, from row y on, to the front of a room.
-pub fn copy_rows(strip: Strip, y: u32, rows: u32, canvas: &Canvas, room: &mut [u8])
+pub fn copy_rows<A: Small>(strip: Strip, y: u32, rows: u32, canvas: &Canvas<A>, room: &mut [u8])
     requires low { IsLow strip }
     requires inside { y + rows < 2 ^ 32 }
     requires fits { rows * row_bytes strip.paper ≤ length room.old }
-    ensures { room.new ≡ rows_text strip.paper (strip_dot strip canvas.now) y rows
+    ensures { room.new ≡ rows_text strip.paper (strip_dot strip (canvas_of canvas.now)) y rows
         ++ drop (rows * row_bytes strip.paper) room.old }
 {
     let bytes = strip.paper.row_bytes();

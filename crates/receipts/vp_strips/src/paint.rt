@@ -13,20 +13,22 @@ ghost use Rattle.vp_strips.specs.LineDots.{HasDots, ink_placed};
 
 use std::alloc::{AllocError, Global};
 use std::marker::Model;
-use vp_dots::{Band, Ink, NARROW, Op, Ready, WORDS, fill_dots, first_dots, paint_at, paint_narrow};
+use vp_dots::{
+    Band, Ink, NARROW, Op, Ready, Small, WORDS, fill_dots, first_dots, paint_at, paint_narrow,
+};
 use vp_glyph::{Cell, doubled_rows, widened_rows};
 use vp_page::LINE_BYTES;
 use vp_receipt_settings::LINE_ROWS;
 
 /// The rows of a line, as long as the longest one of a page, of which the lowest are in use.
 #[derive(Drop)]
-pub struct Bitmap {
-    band: Band<LINE_BYTES, LINE_ROWS>,
+pub struct Bitmap<A: Small = Global> {
+    band: Band<LINE_BYTES, LINE_ROWS, A>,
     /// How many of the lowest rows may have a black dot.
     used: usize,
 }
 
-impl Model for Bitmap {
+impl<A: Small> Model for Bitmap<A> {
     ghost use Rattle.std.specs.Prelude.{ℕ, List};
     ghost use Rattle.vp_strips.specs.LineDots.{IsWhiteAbove};
 
@@ -39,12 +41,12 @@ impl Model for Bitmap {
 
 /// Paints the first `high` words, each of few dots, one on each row from `top` on.
 #[inline(always)]
-fn paint_words(
+fn paint_words<A: Small>(
     words: &[u64],
     high: usize,
     at: usize,
     top: usize,
-    band: &mut Band<LINE_BYTES, LINE_ROWS>,
+    band: &mut Band<LINE_BYTES, LINE_ROWS, A>,
 )
     requires few { high ≤ length words.now }
     requires room { top + high ≤ LINE_ROWS }
@@ -58,12 +60,12 @@ fn paint_words(
 }
 
 /// Paints a word of few dots on each of `times` rows, from `top` on.
-fn paint_alike(
+fn paint_alike<A: Small>(
     word: u64,
     times: usize,
     at: usize,
     top: usize,
-    band: &mut Band<LINE_BYTES, LINE_ROWS>,
+    band: &mut Band<LINE_BYTES, LINE_ROWS, A>,
 )
     requires room { top + times ≤ LINE_ROWS }
     requires at { at < 2 ^ 63 }
@@ -80,13 +82,13 @@ fn paint_alike(
 }
 
 /// Paints the first `high` words, each of few dots, each on `times` rows, from `top` on.
-fn paint_lines(
+fn paint_lines<A: Small>(
     words: &[u64; WORDS],
     high: usize,
     times: usize,
     at: usize,
     top: usize,
-    band: &mut Band<LINE_BYTES, LINE_ROWS>,
+    band: &mut Band<LINE_BYTES, LINE_ROWS, A>,
 )
     requires few { high ≤ WORDS }
     requires some { 0 < times }
@@ -108,7 +110,7 @@ fn paint_lines(
 /// Paints `N` dots of each of the first `high` words, from dot `first` on: each `wm` dots wide and on `times`
 /// rows, from `top` on.
 #[inline(always)]
-fn paint_part<const N: u32>(
+fn paint_part<const N: u32, A: Small>(
     words: &[u64; WORDS],
     first: u32,
     wm: u32,
@@ -116,7 +118,7 @@ fn paint_part<const N: u32>(
     times: usize,
     at: usize,
     top: usize,
-    band: &mut Band<LINE_BYTES, LINE_ROWS>,
+    band: &mut Band<LINE_BYTES, LINE_ROWS, A>,
 )
     requires dots { N ≤ 12 }
     requires narrow { N * wm ≤ NARROW }
@@ -136,14 +138,14 @@ fn paint_part<const N: u32>(
 
 /// Paints twelve dots of each of the first `high` words, each `wm` dots wide and on `times` rows, from `top`
 /// on.
-fn paint_dots(
+fn paint_dots<A: Small>(
     words: &[u64; WORDS],
     wm: u32,
     high: usize,
     times: usize,
     at: usize,
     top: usize,
-    band: &mut Band<LINE_BYTES, LINE_ROWS>,
+    band: &mut Band<LINE_BYTES, LINE_ROWS, A>,
 )
     requires narrow { 6 * wm ≤ NARROW }
     requires few { high ≤ WORDS }
@@ -164,15 +166,21 @@ fn paint_dots(
         return;
     }
     if 12 * wm <= NARROW {
-        paint_part::<12>(words, 0, wm, high, times, at, top, band);
+        paint_part::<12, A>(words, 0, wm, high, times, at, top, band);
         return;
     }
-    paint_part::<6>(words, 0, wm, high, times, at, top, band);
-    paint_part::<6>(words, 6, wm, high, times, at + 6 * wm as usize, top, band);
+    paint_part::<6, A>(words, 0, wm, high, times, at, top, band);
+    paint_part::<6, A>(words, 6, wm, high, times, at + 6 * wm as usize, top, band);
 }
 
 /// Blackens `wide` dots of each of `high` rows, from column `at` and row `top` on.
-fn blacken(wide: u32, high: usize, at: usize, top: usize, band: &mut Band<LINE_BYTES, LINE_ROWS>)
+fn blacken<A: Small>(
+    wide: u32,
+    high: usize,
+    at: usize,
+    top: usize,
+    band: &mut Band<LINE_BYTES, LINE_ROWS, A>,
+)
     requires room { top + high ≤ LINE_ROWS }
     requires at { at < 2 ^ 62 }
     ensures { RowsPainted LINE_ROWS Black (λ x k. span top (top + high) k && span at (at + wide) x)
@@ -192,7 +200,12 @@ fn blacken(wide: u32, high: usize, at: usize, top: usize, band: &mut Band<LINE_B
 /// Paints a character at a place: its rows, each drawn once however often it is printed, and what is black
 /// whatever they show.
 #[inline(never)]
-fn paint_styled(cell: &Cell<'_>, at: u16, top: usize, band: &mut Band<LINE_BYTES, LINE_ROWS>)
+fn paint_styled<A: Small>(
+    cell: &Cell<'_, A>,
+    at: u16,
+    top: usize,
+    band: &mut Band<LINE_BYTES, LINE_ROWS, A>,
+)
     requires { top + cell_height cell.now.font cell.now.style ≤ LINE_ROWS }
     ensures { RowsPainted LINE_ROWS Black (placed (pos at) (pos top)
         (cell_dot cell.now.sheets.now cell.now.font cell.now.style cell.now.character)) band.old band.new }
@@ -214,7 +227,12 @@ fn paint_styled(cell: &Cell<'_>, at: u16, top: usize, band: &mut Band<LINE_BYTES
 /// Paints a character at a place: as it stands in its sheet, where it is printed so.
 // Inlined, so that a run of characters looks once at how they are printed.
 #[inline(always)]
-fn paint_cell(cell: &Cell<'_>, at: u16, top: usize, band: &mut Band<LINE_BYTES, LINE_ROWS>)
+fn paint_cell<A: Small>(
+    cell: &Cell<'_, A>,
+    at: u16,
+    top: usize,
+    band: &mut Band<LINE_BYTES, LINE_ROWS, A>,
+)
     requires { top + cell_height cell.now.font cell.now.style ≤ LINE_ROWS }
     ensures { RowsPainted LINE_ROWS Black (placed (pos at) (pos top)
         (cell_dot cell.now.sheets.now cell.now.font cell.now.style cell.now.character)) band.old band.new }
@@ -226,9 +244,9 @@ fn paint_cell(cell: &Cell<'_>, at: u16, top: usize, band: &mut Band<LINE_BYTES, 
     paint_styled(cell, at, top, band);
 }
 
-impl Bitmap {
+impl<A: Small> Bitmap<A> {
     /// One with no line.
-    pub fn new(alloc: Global) -> Result<Bitmap, AllocError>
+    pub fn new(alloc: A) -> Result<Self, AllocError>
         ensures { IfOk result (λ bitmap. HasDots [] bitmap) }
     {
         let band = Band::new(alloc)?;
@@ -257,7 +275,7 @@ impl Bitmap {
 
     /// Puts a character into the line at a position, on its lowest rows.
     #[inline(always)]
-    pub fn put_cell(&mut self, cell: &Cell<'_>, at: u16)
+    pub fn put_cell(&mut self, cell: &Cell<'_, A>, at: u16)
         requires { cell_height cell.now.font cell.now.style ≤ LINE_ROWS }
         ensures { (line : List Placed) → HasDots line self.old →
             HasDots (ink_placed at (cell_width cell.now.font cell.now.style)

@@ -4,7 +4,7 @@ ghost use Rattle.vp_dots.specs.Dots.{dot};
 ghost use Rattle.vp_dots.specs.Images.{row_of};
 ghost use Rattle.vp_esc.specs.declared.item.EscItem.{EscItem};
 ghost use Rattle.vp_dots.specs.Headers.{header_of};
-ghost use Rattle.vp_strips.specs.declared.canvas.Canvas.{Canvas};
+ghost use Rattle.vp_strips.specs.Canvases.{canvas_of, Canvas as TheCanvas};
 ghost use Rattle.vp_dots.specs.Images.{Image};
 ghost use Rattle.vp_strips.specs.SymbolInks.{IsDrawn};
 ghost use Rattle.vp_page.specs.declared.page.TheConstants.{PAPER_BYTES, PAPER_DOTS, PAGE_ROWS};
@@ -19,7 +19,7 @@ ghost use Rattle.vp_strips.specs.Held.{IsLow, IsLowIf, IsLowDots, IsHigh, IsOwn,
 
 use crate::canvas::Canvas;
 use crate::paint::Bitmap;
-use vp_dots::{Ink, Op, dots_decide, fill_dots, or_into};
+use vp_dots::{Ink, Op, Small, dots_decide, fill_dots, or_into};
 use vp_esc::item::Cut;
 use vp_page::{PAGE_ROWS, PAPER_BYTES, PAPER_DOTS, Page};
 use vp_receipt_settings::{LINE_ROWS, Settings, Width};
@@ -74,12 +74,12 @@ pub fn write_clipped(source: &[u8], left: u16, length: u16, row: &mut [u8; PAPER
 }
 
 /// Writes a row of the lowest rows of a bitmap, or a white one past them.
-fn write_line_row(
+fn write_line_row<A: Small>(
     height: u16,
     left: u16,
     length: u16,
     y: u32,
-    bitmap: &Bitmap,
+    bitmap: &Bitmap<A>,
     row: &mut [u8; PAPER_BYTES],
 )
     requires { height ≤ LINE_ROWS }
@@ -95,7 +95,7 @@ fn write_line_row(
 }
 
 /// Writes a row of the page, or a white one past them.
-fn write_page_row(y: u32, page: &Page, row: &mut [u8; PAPER_BYTES])
+fn write_page_row<A: Small>(y: u32, page: &Page<A>, row: &mut [u8; PAPER_BYTES])
     ensures { row.new ≡ row_of PAPER_BYTES (λ x. page_dot_of page.now.rows x y) }
 {
     if (y as usize) < PAGE_ROWS {
@@ -135,9 +135,9 @@ fn cut_row(cut: Cut) -> [u8; PAPER_BYTES]
 
 impl Dots {
     /// Writes the bytes of a row.
-    pub fn write_row(self, y: u32, canvas: &Canvas, row: &mut [u8; PAPER_BYTES])
+    pub fn write_row<A: Small>(self, y: u32, canvas: &Canvas<A>, row: &mut [u8; PAPER_BYTES])
         requires { IsLowDots self }
-        ensures { row.new ≡ row_of PAPER_BYTES (λ x. dot_in self canvas.now x y) }
+        ensures { row.new ≡ row_of PAPER_BYTES (λ x. dot_in self (canvas_of canvas.now) x y) }
     {
         match self {
             Dots::Line {
@@ -169,8 +169,9 @@ impl Dots {
     }
 
     /// Whether row y is known to have the dots of the row above it.
-    pub fn repeats(self, y: u32, canvas: &Canvas) -> bool
-        ensures { result ≡ true → (x : ℕ) → dot_in self canvas.now x y ≡ dot_in self canvas.now x (y - 1) }
+    pub fn repeats<A: Small>(self, y: u32, canvas: &Canvas<A>) -> bool
+        ensures { result ≡ true → (x : ℕ) → dot_in self (canvas_of canvas.now) x y ≡
+            dot_in self (canvas_of canvas.now) x (y - 1) }
     {
         match self {
             Dots::White | Dots::Across(_) | Dots::Raster => true,
@@ -182,7 +183,7 @@ impl Dots {
 
     /// How many of `rows` rows, from the top, may have a black dot.
     pub fn inked(self, rows: u32) -> u32
-        ensures white { (canvas : Canvas) (x y : ℕ) → result ≤ y → y < rows → dot_in self canvas x y ≡ false }
+        ensures white { (canvas : TheCanvas) (x y : ℕ) → result ≤ y → y < rows → dot_in self canvas x y ≡ false }
         ensures page { self ≡ Dots.Page → result ≡ PAGE_ROWS }
         ensures line { (height left length : ℕ) → self ≡ Dots.Line height left length → result ≡ height }
     {
@@ -201,7 +202,7 @@ impl Strip {
         requires { IsFit s.now }
         ensures low { IsLowIf result }
         ensures high { IsHigh result s.now.height }
-        ensures text { (setup : Setup) (before : List EscItem) (canvas : Canvas) →
+        ensures text { (setup : Setup) (before : List EscItem) (canvas : TheCanvas) →
             s.now ≡ settings_of setup before →
             HasOpen (line setup before) canvas.bitmap → whole_if result canvas ≡ line_text setup before rows }
     {
@@ -223,7 +224,7 @@ impl Strip {
     /// White rows.
     pub fn white(paper: Width, rows: u32) -> Strip
         ensures own { IsOwn result }
-        ensures text { (canvas : Canvas) → 0 < rows → whole result canvas ≡ white_text paper rows }
+        ensures text { (canvas : TheCanvas) → 0 < rows → whole result canvas ≡ white_text paper rows }
     {
         Strip {
             paper,
@@ -236,7 +237,7 @@ impl Strip {
     /// A cut.
     pub fn cut(paper: Width, cut: Cut) -> Strip
         ensures own { IsOwn result }
-        ensures text { (canvas : Canvas) → whole result canvas ≡ cut_text paper cut }
+        ensures text { (canvas : TheCanvas) → whole result canvas ≡ cut_text paper cut }
     {
         Strip {
             paper,
@@ -249,7 +250,7 @@ impl Strip {
     /// The header of a raster of `rows` rows.
     pub fn raster_head(paper: Width, rows: u32) -> Strip
         ensures own { IsOwn result }
-        ensures text { (canvas : Canvas) → whole result canvas ≡ header_of (across paper) rows }
+        ensures text { (canvas : TheCanvas) → whole result canvas ≡ header_of (across paper) rows }
     {
         Strip {
             paper,
@@ -263,7 +264,7 @@ impl Strip {
     pub fn drawn(s: &Settings, wide: u32, high: u32) -> Strip
         requires { 0 < high }
         ensures own { IsOwn result }
-        ensures text { (setup : Setup) (before : List EscItem) (canvas : Canvas) (image : Image) →
+        ensures text { (setup : Setup) (before : List EscItem) (canvas : TheCanvas) (image : Image) →
             s.now ≡ settings_of setup before → IsDrawn canvas.sheets canvas.symbol wide high image →
             whole result canvas ≡ image_text setup before (Some image) }
     {
@@ -310,9 +311,9 @@ impl Strip {
     }
 
     /// Writes the bytes of a row.
-    pub fn write_row(self, y: u32, canvas: &Canvas, row: &mut [u8; PAPER_BYTES])
+    pub fn write_row<A: Small>(self, y: u32, canvas: &Canvas<A>, row: &mut [u8; PAPER_BYTES])
         requires { IsLow self }
-        ensures { take (row_bytes self.paper) row.new ≡ row_text self canvas.now y }
+        ensures { take (row_bytes self.paper) row.new ≡ row_text self (canvas_of canvas.now) y }
     {
         self.dots.write_row(y, canvas, row);
     }

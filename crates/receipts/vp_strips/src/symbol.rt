@@ -10,7 +10,7 @@ ghost use Rattle.vp_strips.specs.SymbolInks.{symbol_width, symbol_height, symbol
 
 use crate::barcode::BarSymbol;
 use crate::strip::write_ink;
-use vp_dots::{Ink, dots_decide};
+use vp_dots::{Ink, Small, dots_decide};
 use vp_glyph::Sheets;
 use vp_page::{Area, Direction, PAPER_BYTES, Page};
 use vp_qr::QrInk;
@@ -26,7 +26,7 @@ pub enum Symbol {
 
 impl Symbol {
     /// How wide and high it is.
-    pub fn size(&self, sheets: &Sheets) -> (u32, u32)
+    pub fn size<A: Small>(&self, sheets: &Sheets<A>) -> (u32, u32)
         ensures width { result.0 ≡ symbol_width sheets.now self.now }
         ensures height { result.1 ≡ symbol_height sheets.now self.now }
     {
@@ -38,9 +38,9 @@ impl Symbol {
     }
 
     /// Writes row y of the symbol, `left` dots from the left and clipped after `length` dots.
-    pub fn write_row(
+    pub fn write_row<A: Small>(
         &self,
-        sheets: &Sheets,
+        sheets: &Sheets<A>,
         y: u32,
         left: u16,
         length: u16,
@@ -60,7 +60,7 @@ impl Symbol {
     }
 
     /// Whether row y is known to have the dots of the row above it.
-    pub fn repeats(&self, sheets: &Sheets, y: u32) -> bool
+    pub fn repeats<A: Small>(&self, sheets: &Sheets<A>, y: u32) -> bool
         ensures { result ≡ true → (x : ℕ) →
             symbol_dot sheets.now self.now x y ≡ symbol_dot sheets.now self.now x (y - 1) }
     {
@@ -72,7 +72,14 @@ impl Symbol {
     }
 
     /// Lays it with its top at a depth of an area.
-    pub fn lay(&self, sheets: &Sheets, area: Area, direction: Direction, top: u16, page: &mut Page)
+    pub fn lay<A: Small>(
+        &self,
+        sheets: &Sheets<A>,
+        area: Area,
+        direction: Direction,
+        top: u16,
+        page: &mut Page<A>,
+    )
         requires { symbol_width sheets.now self.now ≤ LINE_DOTS }
         ensures { (layers : List Layer) → HasPage layers page.old →
             HasPage (Laid (record {

@@ -6,10 +6,11 @@ use Rattle.vp_strips.specs.declared.strip.Dots.TheVariants.{Line}
 use Rattle.vp_strips.specs.Rows.{rows_text}
 use Rattle.vp_strips.specs.Jobs.{dot_in}
 use Rattle.vp_strips.proofs.ManyRows.{line_rows}
+use Rattle.vp_strips.specs.Canvases.{canvas_of}
 use Rattle.vp_strips.proofs.many_rows.copy_inked.Goals as goal
 
 pub returns-in-Line-default-eq0-default : goal.returns-in-Line-default-eq0-default
-returns-in-Line-default-eq0-default c =
+returns-in-Line-default-eq0-default g c =
     let paper = c.args.strip.paper in
     let y = c.args.y in
     let rows = c.args.rows in
@@ -20,4 +21,4 @@ returns-in-Line-default-eq0-default c =
     let shown : c.args.strip.dots ≡ Line line.height 0 line.length = line.is ∙ ap (λ (left : ℕ). Line line.height left line.length) none in
     let inside = c.requires.line line.height 0 line.length shown in
     let is = line_rows paper c.args.canvas.now.bitmap line.height line.length (LINE_ROWS - c.from.result + y) y rows wide (omega (arith, c.from.ensures)) inside in
-    c.copy_line_rows.ensures ∙ ap (λ (r : List ℕ). r ++ behind) is ∙ ap (λ (dots : Dots). rows_text paper (dot_in dots c.args.canvas.now) y rows ++ behind) (sym shown)
+    c.copy_line_rows.ensures ∙ ap (λ (r : List ℕ). r ++ behind) is ∙ ap (λ (dots : Dots). rows_text paper (dot_in dots (canvas_of c.args.canvas.now)) y rows ++ behind) (sym shown)

@@ -5,17 +5,17 @@ use Rattle.vp_strips.proofs.ManyRows.{length-row, row_copied, row_fits, rows_cop
 use Rattle.vp_strips.proofs.many_rows.copy_line_rows.Goals as goal
 
 pub copy_row-requires : goal.copy_row-requires
-copy_row-requires c =
+copy_row-requires g c =
     let dots = bitmap_dot c.args.bitmap.now in
     let long = ap length c.line_row.ensures ∙ length-row c.args.paper dots (c.args.y + c.loop-k.k) in
     let fits = row_fits c.args.paper dots c.loop-k.k c.args.rows c.row_bytes-bytes.result c.args.room.now c.row_bytes-bytes.ensures c.loop-k-test.true c.requires.fits in
     simp (length-take, length-drop) (omega (arith, long, fits, c.loop-k.auto.room))
 
 pub loop-k-preserved : goal.loop-k-preserved
-loop-k-preserved c = row_copied c.args.paper (bitmap_dot c.args.bitmap.now) c.args.y c.loop-k.k c.args.rows c.row_bytes-bytes.result c.args.room.now c.loop-k.room c.copy_row.new.room c.row_bytes-bytes.ensures c.loop-k-test.true c.requires.fits c.loop-k.invariant
+loop-k-preserved g c = row_copied c.args.paper (bitmap_dot c.args.bitmap.now) c.args.y c.loop-k.k c.args.rows c.row_bytes-bytes.result c.args.room.now c.loop-k.room c.copy_row.new.room c.row_bytes-bytes.ensures c.loop-k-test.true c.requires.fits c.loop-k.invariant
     (rw (sym c.line_row.ensures) c.copy_row.ensures)
 
 pub returns : goal.returns
-returns c =
+returns g c =
     let all : c.loop-k.k ≡ c.args.rows = omega arith in
     (rw all at c.loop-k.invariant) ∙ rows_copied c.args.paper (bitmap_dot c.args.bitmap.now) c.args.y c.args.rows c.args.room.now

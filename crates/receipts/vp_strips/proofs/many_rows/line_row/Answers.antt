@@ -9,7 +9,7 @@ use Rattle.vp_strips.proofs.ManyRows.{paper_row_is}
 use Rattle.vp_strips.proofs.many_rows.line_row.Goals as goal
 
 pub returns : goal.returns
-returns c =
+returns g c =
     let paper = c.args.paper in
     let source = c.row.result.now in
     let n = c.row_bytes.result in

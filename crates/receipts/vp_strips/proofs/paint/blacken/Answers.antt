@@ -6,5 +6,5 @@ use Rattle.vp_strips.proofs.Magnified.{span_moved}
 use Rattle.vp_strips.proofs.paint.blacken.Goals as goal
 
 pub returns-then-wide-le-NARROW : goal.returns-then-wide-le-NARROW
-returns-then-wide-le-NARROW c = rows_same 192 Black _ _ _ _ (λ x k _. ap (λ (b : Bool). span c.args.top (c.args.top + c.args.high) k && b)
+returns-then-wide-le-NARROW g c = rows_same 192 Black _ _ _ _ (λ x k _. ap (λ (b : Bool). span c.args.top (c.args.top + c.args.high) k && b)
     (ap (λ (b : Bool). leb c.args.at x && b) (c.first_dots.ensures (x - c.args.at)) ∙ span_moved c.args.at c.args.wide x)) c.paint_alike.ensures

@@ -15,11 +15,11 @@ abbrev shown : ℕ → ℕ → ℕ → ℕ → List ℕ → ℕ → ℕ → Bool
 shown at top times high words x k = leb top k && (ltb ((k - top) / times) high && shifted (pos at) (word_dot (get_or words ((k - top) / times) 0)) x)
 
 pub returns-then-times-eq1 : goal.returns-then-times-eq1
-returns-then-times-eq1 c =
+returns-then-times-eq1 g c =
     rw c.if-times-eq1.true (rows_same 192 Black _ _ _ _ (λ x k _. let once : (k - c.args.top) / 1 ≡ k - c.args.top = omega arith in rw once refl) c.paint_words.ensures)
 
 pub loop-v-preserved : goal.loop-v-preserved
-loop-v-preserved c =
+loop-v-preserved g c =
     let top = c.args.top in
     let times = c.args.times in
     let at = c.args.at in
@@ -36,7 +36,7 @@ loop-v-preserved c =
     c.loop-v.invariant c.paint_alike.ensures)
 
 pub returns : goal.returns
-returns c =
+returns g c =
     let top = c.args.top in
     let times = c.args.times in
     rows_all 192 Black (shown c.args.at top times c.args.high c.args.words.now) (top + c.loop-v.v * times) c.args.band.now c.loop-v.band

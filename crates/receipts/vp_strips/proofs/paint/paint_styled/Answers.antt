@@ -6,7 +6,7 @@ use Rattle.vp_strips.proofs.Magnified.{rows_over, part_placed}
 use Rattle.vp_strips.proofs.paint.paint_styled.Goals as goal
 
 pub returns : goal.returns
-returns c =
+returns g c =
     let cell = c.args.cell.now in
     let filled = c.filled-filled.result in
     rows_over 192 _ _ _ _ _ _

@@ -7,4 +7,4 @@ use Rattle.vp_strips.proofs.paint.paint_words.Given as goal
 
 -- the rows above top + y are done
 abbrev pub invariant-loop-y : goal.invariant-loop-y
-invariant-loop-y l = RowsPainted 192 Black (λ x k. ltb k (l.fn.top + l.y) && (leb l.fn.top k && shifted (pos l.fn.at) (word_dot (get_or l.fn.words (k - l.fn.top) 0)) x)) l.fn.band l.band
+invariant-loop-y g l = RowsPainted 192 Black (λ x k. ltb k (l.fn.top + l.y) && (leb l.fn.top k && shifted (pos l.fn.at) (word_dot (get_or l.fn.words (k - l.fn.top) 0)) x)) l.fn.band l.band

@@ -2,11 +2,12 @@ use Rattle.std.proofs.Common.{◌-◌, ◌++◌, length, take, drop, ap, ◌∙�
 use Rattle.std.proofs.lemmas.List.{drop-drop, length-take}
 use Rattle.vp_strips.specs.Held.{job_text}
 use Rattle.vp_output.proofs.Cut.{put_more}
+use Rattle.vp_strips.specs.Canvases.{canvas_of}
 use Rattle.vp_strips.proofs.job.Job.put.Goals as goal
 
 pub loop-n-preserved : goal.loop-n-preserved
-loop-n-preserved c =
-    let text = job_text c.args.self.now c.args.canvas.now in
+loop-n-preserved g c =
+    let text = job_text c.args.self.now (canvas_of c.args.canvas.now) in
     let n = c.loop-n.n in
     let r = c.put_some-n.result in
     let done = c.loop-n.invariant in

@@ -1,11 +1,12 @@
 use Rattle.std.proofs.Common.{refl, ap, arith, length}
 use Rattle.vp_strips.proofs.Jobs.{length-line}
+use Rattle.vp_strips.specs.Canvases.{canvas_of}
 use Rattle.vp_strips.proofs.job.Job.put_line.Goals as goal
 
 pub returns-clause-some : goal.returns-clause-some
-returns-clause-some c =
+returns-clause-some g c =
     let s = c.args.self.now.strip in
-    let canvas = c.args.canvas.now in
+    let canvas = (canvas_of c.args.canvas.now) in
     let left = rw c.in-Some-place.is at c.requires.job.left in
     omega (
       arith,
@@ -17,4 +18,4 @@ returns-clause-some c =
     )
 
 pub returns-in-Some-clause-job : goal.returns-in-Some-clause-job
-returns-in-Some-clause-job c = c.put_rows.ensures.job c.args.lines.now c.requires.job
+returns-in-Some-clause-job g c = c.put_rows.ensures.job c.args.lines.now c.requires.job

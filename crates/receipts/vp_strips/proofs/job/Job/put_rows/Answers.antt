@@ -7,9 +7,11 @@ use Rattle.vp_strips.specs.Held.{part_of}
 use Rattle.vp_strips.specs.Jobs.{strip_dot, text}
 use Rattle.vp_strips.specs.Rows.{rows_text}
 use Rattle.vp_strips.proofs.ManyRows.{first_rows, length-rows, some_rows, rows_left, left_behind}
+use Rattle.vp_strips.specs.Canvases.{canvas_of}
+use Rattle.vp_strips.proofs.job.Job.put_rows.Given.{Over}
 use Rattle.vp_strips.proofs.job.Job.put_rows.Goals as goal
 
-module _ (c : goal.After-self-1) where
+module _ (g : Over) (c : goal.After-self-1 g) where
   inside : c.args.y < c.args.self.now.strip.rows
   inside = rw c.requires.at at c.requires.place
 
@@ -19,33 +21,33 @@ module _ (c : goal.After-self-1) where
   few : c.min-rows.result ≤ c.args.self.now.strip.rows - c.args.y
   few = omega (arith, c.min-rows.ensures, c.rows-all.ensures)
 
-  part : part_of c.args.self.now c.args.canvas.now ≡ rows_text c.args.self.now.strip.paper (strip_dot c.args.self.now.strip c.args.canvas.now) c.args.y (c.args.self.now.strip.rows - c.args.y)
-  part = let s = c.args.self.now.strip in ap (text s c.args.canvas.now) c.requires.at ∙ rows_left s c.args.canvas.now c.args.y inside
+  part : part_of c.args.self.now (canvas_of c.args.canvas.now) ≡ rows_text c.args.self.now.strip.paper (strip_dot c.args.self.now.strip (canvas_of c.args.canvas.now)) c.args.y (c.args.self.now.strip.rows - c.args.y)
+  part = let s = c.args.self.now.strip in ap (text s (canvas_of c.args.canvas.now)) c.requires.at ∙ rows_left s (canvas_of c.args.canvas.now) c.args.y inside
 
 pub copy_rows-requires-clause-inside : goal.copy_rows-requires-clause-inside
-copy_rows-requires-clause-inside c =
+copy_rows-requires-clause-inside g c =
     let inside : c.args.y < c.args.self.now.strip.rows = rw c.requires.at at c.requires.place in
     omega (arith, c.min-rows.ensures, c.rows-all.ensures)
 
 pub overflow_add-place : goal.overflow_add-place
-overflow_add-place c =
+overflow_add-place g c =
     let inside : c.args.y < c.args.self.now.strip.rows = rw c.requires.at at c.requires.place in
     omega (arith, c.min-rows.ensures, c.rows-all.ensures)
 
 pub returns-clause-some : goal.returns-clause-some
-returns-clause-some c = rw c.row_bytes-bytes.ensures (omega (arith, mul-le 1 1 _ _ (some c) (some_bytes c.args.self.now.strip.paper)))
+returns-clause-some g c = rw c.row_bytes-bytes.ensures (omega (arith, mul-le 1 1 _ _ (some g c) (some_bytes c.args.self.now.strip.paper)))
 
 pub returns-clause-within : goal.returns-clause-within
-returns-clause-within c =
+returns-clause-within g c =
     let s = c.args.self.now.strip in
-    rw (c.row_bytes-bytes.ensures, part c, length-rows s.paper (strip_dot s c.args.canvas.now) c.args.y (s.rows - c.args.y)) (mul-le-mul_right (row_bytes s.paper) (few c))
+    rw (c.row_bytes-bytes.ensures, part g c, length-rows s.paper (strip_dot s (canvas_of c.args.canvas.now)) c.args.y (s.rows - c.args.y)) (mul-le-mul_right (row_bytes s.paper) (few g c))
 
 pub returns-clause-bytes : goal.returns-clause-bytes
-returns-clause-bytes c =
+returns-clause-bytes g c =
     let s = c.args.self.now.strip in
-    c.copy_rows.ensures ∙ rw (c.row_bytes-bytes.ensures, part c) (ap (λ xs. xs ++ drop (c.min-rows.result * row_bytes s.paper) c.args.out.now) (sym (first_rows s.paper (strip_dot s c.args.canvas.now) c.args.y c.min-rows.result (s.rows - c.args.y) (few c))))
+    c.copy_rows.ensures ∙ rw (c.row_bytes-bytes.ensures, part g c) (ap (λ xs. xs ++ drop (c.min-rows.result * row_bytes s.paper) c.args.out.now) (sym (first_rows s.paper (strip_dot s (canvas_of c.args.canvas.now)) c.args.y c.min-rows.result (s.rows - c.args.y) (few g c))))
 
 pub returns-clause-rest : goal.returns-clause-rest
-returns-clause-rest c =
+returns-clause-rest g c =
     let s = c.args.self.now.strip in
-    rw (c.advanced-self.ensures, c.rows-all.ensures, c.row_bytes-bytes.ensures, part c) (left_behind s c.args.canvas.now c.args.y c.min-rows.result _ (some c) (omega (arith, few c, inside c)) refl)
+    rw (c.advanced-self.ensures, c.rows-all.ensures, c.row_bytes-bytes.ensures, part g c) (left_behind s (canvas_of c.args.canvas.now) c.args.y c.min-rows.result _ (some g c) (omega (arith, few g c, inside g c)) refl)

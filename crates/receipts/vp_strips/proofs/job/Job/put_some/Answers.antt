@@ -2,14 +2,15 @@ use Rattle.std.proofs.Common.{◌++◌, drop, length-append, ap, sym, ◌∙◌,
 use Rattle.std.proofs.lemmas.List.{take-append-le, drop-append-le}
 use Rattle.vp_strips.specs.Held.{part_of, after_text}
 use Rattle.vp_strips.proofs.Jobs.{some_part, shows_on}
+use Rattle.vp_strips.specs.Canvases.{canvas_of}
 use Rattle.vp_strips.proofs.job.Job.put_some.Goals as goal
 
 pub put_line-n-requires-clause-pending : goal.put_line-n-requires-clause-pending
-put_line-n-requires-clause-pending c = let j = c.args.self.now in some_part j c.args.canvas.now j.place j.after c.requires.turned c.requires.job.left c.requires.pending
+put_line-n-requires-clause-pending g c = let j = c.args.self.now in some_part j (canvas_of c.args.canvas.now) j.place j.after c.requires.turned c.requires.job.left c.requires.pending
 
 pub returns : goal.returns
-returns c =
-    let canvas = c.args.canvas.now in
+returns g c =
+    let canvas = (canvas_of c.args.canvas.now) in
     let front = part_of c.args.self.now canvas in
     let rest = after_text c.args.self.now.after canvas in
     let r = c.put_line-n.result in

@@ -3,7 +3,7 @@ use Rattle.vp_strips.proofs.Bitmaps.{blank, none_used}
 use Rattle.vp_strips.proofs.paint.Bitmap.new.Goals as goal
 
 pub invariant_of-result : goal.invariant_of-result
-invariant_of-result c = none_used _ (blank 192 208 _ refl refl c.in_ok-band.ensures)
+invariant_of-result g c = none_used _ (blank 192 208 _ refl refl c.in_ok-band.ensures)
 
 pub returns : goal.returns
-returns c = blank 192 208 _ refl refl c.in_ok-band.ensures
+returns g c = blank 192 208 _ refl refl c.in_ok-band.ensures

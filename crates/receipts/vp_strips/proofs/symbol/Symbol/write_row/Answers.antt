@@ -14,12 +14,12 @@ and_false true = refl
 and_false false = refl
 
 pub returns-in-Blank : goal.returns-in-Blank
-returns-in-Blank c = c.dots_decide.ensures.row PAPER_BYTES (clipped c.args.left c.args.length (λ x. symbol_dot c.args.sheets.now c.args.self.now x c.args.y)) (length-replicate {A = ℕ} PAPER_BYTES 0)
+returns-in-Blank g c = c.dots_decide.ensures.row PAPER_BYTES (clipped c.args.left c.args.length (λ x. symbol_dot c.args.sheets.now c.args.self.now x c.args.y)) (length-replicate {A = ℕ} PAPER_BYTES 0)
     (λ d h. rw c.in-Blank.is (dot_white PAPER_BYTES d (omega arith) ∙ sym (and_false _)))
 
 pub returns-in-Qr : goal.returns-in-Qr
-returns-in-Qr c = c.write_ink.ensures ∙ ap (λ (k : Symbol). row_of PAPER_BYTES (clipped c.args.left c.args.length (λ x. symbol_dot c.args.sheets.now k x c.args.y))) (sym c.in-Qr.is)
+returns-in-Qr g c = c.write_ink.ensures ∙ ap (λ (k : Symbol). row_of PAPER_BYTES (clipped c.args.left c.args.length (λ x. symbol_dot c.args.sheets.now k x c.args.y))) (sym c.in-Qr.is)
 
 pub returns-in-Bars : goal.returns-in-Bars
-returns-in-Bars c = c.write_ink-in-Bars.ensures ∙ ap (λ (b : Boxed). row_of PAPER_BYTES (clipped c.args.left c.args.length (λ x. box_dot b x c.args.y))) c.boxed.ensures
+returns-in-Bars g c = c.write_ink-in-Bars.ensures ∙ ap (λ (b : Boxed). row_of PAPER_BYTES (clipped c.args.left c.args.length (λ x. box_dot b x c.args.y))) c.boxed.ensures
     ∙ ap (λ (k : Symbol). row_of PAPER_BYTES (clipped c.args.left c.args.length (λ x. symbol_dot c.args.sheets.now k x c.args.y))) (sym c.in-Bars.is)
