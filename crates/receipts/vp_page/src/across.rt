@@ -1,4 +1,5 @@
-//! Lines laid across the rows of a page, by squares of as many lines as a word has dots.
+//! Lines laid across the rows of a page, by squares of as many lines as a word has dots. Where each of them is
+//! along a square what it is at its last dot, all rows of the square are one word.
 ghost use Rattle.std.specs.Prelude.{◌≡◌, ℕ, ◌+◌, ◌-◌, ◌*◌, ◌/◌, ◌%◌, ◌<◌, ◌≤◌, ◌^◌, ◌&&◌, false, true, not, if◌then◌else◌, nat_lt, nat_le, length, slice_index, slice_index_or, []};
 ghost use Rattle.vp_dots.specs.Dots.{bit, dot};
 ghost use Rattle.vp_dots.specs.Painting.{Painted};
@@ -123,7 +124,7 @@ fn or_unlike(line: &[u8; LINE_BYTES], black: bool, unlike: &mut [u8])
     }
 }
 
-/// Dots among which all are at which some line isn't as it is at one of its dots.
+/// A row that is black at least where some line isn't as it is at one of its dots.
 fn unlike_at(lines: &[[u8; LINE_BYTES]], at: usize) -> [u8; LINE_BYTES]
     requires { at < LINE_DOTS }
     ensures { (i u : ℕ) → i < length lines.now → u < LINE_DOTS → dot result u ≡ false →
@@ -137,7 +138,7 @@ fn unlike_at(lines: &[[u8; LINE_BYTES]], at: usize) -> [u8; LINE_BYTES]
     unlike
 }
 
-/// Whether none of some dots is black, which lie before the end of the longest line.
+/// Whether some dots from one on are white, and lie before the end of the longest line.
 #[inline(always)]
 fn are_white(line: &[u8; LINE_BYTES], from: usize, dots: usize) -> bool
     requires { dots ≤ 64 }
