@@ -40,6 +40,8 @@ fn blacken<const N: usize>(ink: u64, from: usize, to: usize, words: &mut [u64; N
 }
 
 /// Makes the dots of the words from one to another black where a word is: those of whole eights at once.
+// A call for each run leaves the loop over the rows of the sheet short.
+#[inline(never)]
 fn blacken_run<const N: usize, const M: usize>(
     ink: u64,
     from: usize,
