@@ -6,7 +6,7 @@ use Rattle.vp_dots.specs.declared.Op.TheVariants as paints
 use Rattle.vp_zpl.specs.declared.item.Orientation.{Orientation}
 use Rattle.vp_zpl.specs.declared.item.Colour.{Colour}
 use Rattle.vp_zpl.specs.declared.item.Colour.TheVariants.{Black, White}
-use Rattle.vp_glyph.specs.declared.Sheets.{Sheets}
+use Rattle.vp_glyph.specs.Sheets.{Sheets}
 use Rattle.vp_format.specs.declared.field.Content.{Content}
 use Rattle.vp_format.specs.declared.field.Field.{Field}
 use Rattle.vp_format.specs.Formats.{Held}

@@ -7,7 +7,7 @@ ghost use Rattle.vp_closing.specs.Closing.{asked_orientation, closed, colour_of,
 use crate::content::content_of;
 use crate::position::{left_of, top_of};
 use crate::text::text_orientation;
-use vp_dots::{Fault, Op};
+use vp_dots::{Fault, Op, Small};
 use vp_field::{content_size, orientation_of};
 use vp_format::{Field, Format, STORED};
 use vp_glyph::Sheets;
@@ -50,8 +50,8 @@ fn operation(settings: &Settings, parts: &FieldParts, colour: Op) -> Op
 }
 
 /// The field of a content.
-fn field_of(
-    sheets: &Sheets,
+fn field_of<A: Small>(
+    sheets: &Sheets<A>,
     stored: &[u8],
     settings: &Settings,
     parts: &FieldParts,
@@ -80,9 +80,9 @@ fn field_of(
 /// The field that its parts close in a format, as the format keeps it; without a content there is none. It is
 /// refused as `Symbol` or `SymbolTooLong` where the data have no bars or no QR symbol, or these aren't drawn,
 /// and as `Graphic` where a code that starts in one of a picture's rows is refused.
-pub fn closed(
-    sheets: &Sheets,
-    format: &Format,
+pub fn closed<A: Small>(
+    sheets: &Sheets<A>,
+    format: &Format<A>,
     settings: &Settings,
     parts: &FieldParts,
 ) -> Option<Result<Field, Fault>>

@@ -3,7 +3,7 @@ use Rattle.std.proofs.lemmas.Int.{ints}
 use Rattle.vp_closing.proofs.field.field_of.Goals as goal
 
 pub returns-clause-kept : goal.returns-clause-kept
-returns-clause-kept c = record {
+returns-clause-kept g c = record {
   near = record {
     left_low = omega (arith, ints, c.left_of.ensures.low);
     left_high = omega (arith, ints, c.left_of.ensures.high);
