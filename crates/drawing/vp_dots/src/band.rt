@@ -93,7 +93,8 @@ impl<const B: usize, const H: usize, A: Allocator> Band<B, H, A> {
     pub fn row_mut(&mut self, y: usize) -> &mut [u8]
         requires { y < H }
         ensures* writes_back { sem 𝓛
-            (Lends (the_row B.row H.row A.row A.Allocator) (Array byte 0) self.entry result (slice_set self.old y)) }
+            (Lends (the_row B.row H.row A.row A.Allocator) (Array byte 0) self.entry result
+            (slice_set self.old y)) }
         ensures value { result.now ≡ slice_index_or self.old y [] }
         ensures len { length result.now ≡ B }
         ensures rows { length self.old ≡ H }

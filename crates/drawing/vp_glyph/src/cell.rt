@@ -299,8 +299,8 @@ impl<A: Small> Cell<'_, A> {
         }
     }
 
-    /// Where the character is black whatever its rows show: in the spacing of an inverse one, in the underline
-    /// of any other.
+    /// Where the character is black whatever its rows show: in the spacing of an inverse one, in the
+    /// underline of any other.
     pub fn filled(&self) -> Filled
         ensures dots { (x y : ℕ) → (span result.left (result.left + result.wide) x
             && span result.top (result.top + result.high) y) ≡ filled_dot self.now.font self.now.style x y }

@@ -234,7 +234,8 @@ fn cut_row(raster: &[u8], w: u32, h: u32, c: u32, y: u32) -> u64
 fn cut<A: Small>(alloc: A, raster: &[u8], w: u32, h: u32) -> Result<Vec<u64, A>, AllocError>
     requires w { w ≤ 64 }
     requires h { h ≤ 64 }
-    ensures cut { IfOk result (λ rows. IsCut (record { wide = w; high = h; raster = raster.now }) rows.items) }
+    ensures cut { IfOk result (λ rows.
+        IsCut (record { wide = w; high = h; raster = raster.now }) rows.items) }
     ensures room { IfOk result (λ rows. vec_capacity rows ≡ 256 * h) }
 {
     let mut rows = filled(alloc, 256 * h as usize, 0)?;

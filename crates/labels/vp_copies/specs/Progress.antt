@@ -58,8 +58,8 @@ pub record IsRowsOn (old new : Progress) : Type 0 where
   pub same_band : (row + rows) / BAND_ROWS ≡ row / BAND_ROWS
   pub inside : 0 < (row + rows) % BAND_ROWS
 
--- how many rows from row y on are put out together: those before the last of their band and of the image, as far
--- as there is room
+-- how many rows from row y on are put out together: those before the last of their band and of the image, as
+-- far as there is room
 abbrev pub rows_at_once : ℕ → ℕ → ℕ → ℕ → ℕ
 rows_at_once width height y room =
     min (min (BAND_ROWS - 1 - y % BAND_ROWS) (height - 1 - y)) (room / row_bytes width)

@@ -158,7 +158,8 @@ impl Copies {
         ensures none { result ≡ 0 → (self.new ≡ self.old) × (out.new ≡ out.old) }
         ensures fits { result ≤ length out.old }
         ensures count { (y : ℕ) → self.old.place.line ≡ Row y → self.old.place.byte ≡ 0 →
-            result ≡ rows_at_once self.old.width self.old.height y (length out.old) * row_bytes self.old.width }
+            result ≡ rows_at_once self.old.width self.old.height y (length out.old)
+            * row_bytes self.old.width }
         ensures within { (dots : ℕ → ℕ → Bool) →
             result ≤ length (pending (image_of self.old dots) self.old.place) }
         ensures bytes { (dots : ℕ → ℕ → Bool) →

@@ -36,8 +36,9 @@ pub fn drawn_at(axis: Axis, from: u32, bytes: usize) -> i64
     requires few { bytes ≤ BAND_BYTES }
     ensures low { neg_ℤ (pos (2 ^ 42)) ≤ℤ result }
     ensures high { result ≤ℤ pos (2 ^ 42) }
-    ensures dots { (line dots : ℕ → Bool) → ((d : ℕ) → d < 8 * bytes → dots d ≡ shifted result line d) → (p : ℕ)
-        → p < 8 * bytes → at_place line (dot_on axis (pos (from + p))) ≡ dots (read_at axis (8 * bytes) p) }
+    ensures dots { (line dots : ℕ → Bool) → ((d : ℕ) → d < 8 * bytes → dots d ≡ shifted result line d)
+        → (p : ℕ) → p < 8 * bytes
+        → at_place line (dot_on axis (pos (from + p))) ≡ dots (read_at axis (8 * bytes) p) }
 {
     match axis {
         Axis::Forward(at) => offset(at, from),

@@ -174,7 +174,8 @@ pub record Decoded (width : ℕ) (coding : Coding) (codes : List ℕ) (s : Spot)
       nibble new j ≡ value_of (shown_at width 0 (symbols_at coding codes s) j) (nibble old j)
   pub own : end.repeats ≡ false → (j : ℕ) → j < width →
       shown_at width 0 (symbols_at coding codes s) j ≡ Value (nibble new j)
-  pub again : end.repeats ≡ true → (j : ℕ) → j < width → shown_at width 0 (symbols_at coding codes s) j ≡ AsAbove
+  pub again : end.repeats ≡ true → (j : ℕ) → j < width →
+      shown_at width 0 (symbols_at coding codes s) j ≡ AsAbove
   pub next : (j : ℕ) → shown_at width 0 (symbols_at coding codes s) (width + j)
       ≡ shown_at width 0 (symbols_at coding codes after) j
   pub bytes : (j : ℕ) → s.at + bytes_before width 0 (symbols_at coding codes s) (width + j)
@@ -189,8 +190,8 @@ above p (suc y) j = value p y j
 abbrev pub marked_row : RunMark → ℕ
 marked_row m = m.next
 
--- what the call `mark` of a cursor in a picture gives: the symbols at its place are those of its row, and the row
--- that starts at the place before, which is read up to its own place at most, is the row above
+-- what the call `mark` of a cursor in a picture gives: the symbols at its place are those of its row, and the
+-- row that starts at the place before, which is read up to its own place at most, is the row above
 pub record IsMark (p : Picture) (m : RunMark) : Type 0 where
   pub here : IsSpot p.codes m.here
   pub whole : IsWhole p.coding m.here

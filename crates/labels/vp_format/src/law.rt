@@ -45,5 +45,6 @@ pub fn codes_law()
         ReadTo width front place → AreCounts counts n → 0 < n → goes_on (code_of b) ≡ false
         → shown_at width 0 (symbols RunLength (front ++ (counts ++ b ∷ back))) place ≡ Unreadable }
     ensures cut { (width place n : ℕ) (front counts : List ℕ) → 0 < width → ReadTo width front place →
-        AreCounts counts n → 0 < n → shown_at width 0 (symbols RunLength (front ++ counts)) place ≡ Unreadable }
+        AreCounts counts n → 0 < n →
+        shown_at width 0 (symbols RunLength (front ++ counts)) place ≡ Unreadable }
 {}

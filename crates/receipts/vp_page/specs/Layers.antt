@@ -52,7 +52,8 @@ lines_mark a d v lines = record {
   dot = λ u w. nat_lt w AT_ONCE && (nat_lt u LINE_DOTS && dot (slice_index_or lines w []) u);
 }
 
--- rows of `wide` bytes, one behind the other in bytes and laid one below the other from a depth of the area on
+-- rows of `wide` bytes, one behind the other in bytes and laid one below the other from a depth of the area
+-- on
 abbrev pub rows_mark : Area → Direction → ℕ → ℕ → ℕ → List ℕ → Mark
 rows_mark a d v wide rows bytes = record {
   area = a;

@@ -1,5 +1,5 @@
-//! Lines laid across the rows of a page, by squares of as many lines as a word has dots. Where each of them is
-//! along a square what it is at its last dot, all rows of the square are one word.
+//! Lines laid across the rows of a page, by squares of as many lines as a word has dots. Where each of them
+//! is along a square what it is at its last dot, all rows of the square are one word.
 ghost use Rattle.std.specs.Prelude.{◌≡◌, ℕ, ◌+◌, ◌-◌, ◌*◌, ◌/◌, ◌%◌, ◌<◌, ◌≤◌, ◌^◌, ◌&&◌, false, true, not, if◌then◌else◌, nat_lt, nat_le, length, slice_index, slice_index_or, []};
 ghost use Rattle.vp_dots.specs.Dots.{bit, dot};
 ghost use Rattle.vp_dots.specs.Painting.{Painted};

@@ -45,8 +45,8 @@ fn fallen(area: Area, direction: Direction, v: usize) -> Rows
     }
 }
 
-/// Whether rows of so many bytes stand on whole words of the page, where their lines begin at a place, and are
-/// no longer than these, which end on the page.
+/// Whether rows of so many bytes stand on whole words of the page, where their lines begin at a place, and
+/// are no longer than these, which end on the page.
 fn are_whole(area: Area, begin: usize, wide: usize) -> bool
     requires { wide ≤ LINE_BYTES }
     ensures { result ≡ true → AreWhole area begin wide }
@@ -172,8 +172,8 @@ impl<A: Small> Page<A> {
         }
     }
 
-    /// Lays rows of `wide` bytes, one behind the other in bytes, as `lay_row` lays each: the first at the depth
-    /// v of an area.
+    /// Lays rows of `wide` bytes, one behind the other in bytes, as `lay_row` lays each: the first at the
+    /// depth v of an area.
     fn lay_each(
         &mut self,
         area: Area,
@@ -195,8 +195,8 @@ impl<A: Small> Page<A> {
         }
     }
 
-    /// Lays rows of `wide` bytes, one behind the other in bytes, as `lay_row` lays each: the first at the depth
-    /// v of an area. Mostly they run along the page, and stand on whole words.
+    /// Lays rows of `wide` bytes, one behind the other in bytes, as `lay_row` lays each: the first at the
+    /// depth v of an area. Mostly they run along the page, and stand on whole words.
     pub fn lay_rows(
         &mut self,
         area: Area,

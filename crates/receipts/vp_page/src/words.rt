@@ -156,8 +156,8 @@ fn or_sixteen(bytes: &[u8], i: usize, row: &mut [u8])
     new.copy_to_slice(&mut row[i..]);
 }
 
-/// Blackens rows of the page, from one on, where dot x - far of the word is black: sixteen bytes have room for
-/// it.
+/// Blackens rows of the page, from one on, where dot x - far of the word is black: sixteen bytes have room
+/// for it.
 pub(crate) fn lay_word_inside<A: Small>(
     word: u64,
     h: usize,

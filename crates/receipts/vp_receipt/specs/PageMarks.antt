@@ -22,7 +22,8 @@ use Rattle.vp_receipt_settings.specs.Rasters.{times_across, times_down, raster_s
 
 -- so many rows of dots with their top at the vertical position
 abbrev pub mark_of : PageSettings → ℕ → (ℕ → ℕ → Bool) → Mark
-mark_of p rows dots = record { area = p.area; direction = p.direction; top = p.vertical; high = rows; dot = dots }
+mark_of p rows dots =
+    record { area = p.area; direction = p.direction; top = p.vertical; high = rows; dot = dots }
 
 -- dot (u, w) of the line
 abbrev pub line_dot : List Placed → ℕ → ℕ → Bool
@@ -30,7 +31,8 @@ line_dot placed u w = nat_lt w (height placed) && any_dot placed (height placed)
 
 -- the line on a page: no margin, and no justification
 abbrev pub line_mark : Setup → List EscItem → Mark
-line_mark setup before = mark_of (page_of setup before) (height (line setup before)) (line_dot (line setup before))
+line_mark setup before =
+    mark_of (page_of setup before) (height (line setup before)) (line_dot (line setup before))
 
 -- a bitmap has these dots on the rows of the line
 pub record HasRows (s : Settings) (bitmap : List (List ℕ)) (dots : ℕ → ℕ → Bool) : Type 0 where

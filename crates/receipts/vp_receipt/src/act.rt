@@ -241,7 +241,8 @@ fn lay_more(
     requires inside { from + length room.old ≤ s.now.height }
     ensures { (dots : ℕ → ℕ → Bool) (layers : List Layer) → HasRows s.now bitmap.now dots →
         HasPage (Laid (first_rows from (mark_of s.now.page s.now.height dots)) ∷ layers) page.old →
-        HasPage (Laid (first_rows (from + length room.old) (mark_of s.now.page s.now.height dots)) ∷ layers) page.new }
+        HasPage (Laid (first_rows (from + length room.old) (mark_of s.now.page s.now.height dots)) ∷ layers)
+        page.new }
 {
     bitmap.copy_rows(LINE_ROWS - usize::from(s.height) + from, room);
     let top = s.page.vertical as u32 + from as u32;

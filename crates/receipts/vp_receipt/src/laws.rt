@@ -35,8 +35,8 @@ pub fn an_item_adds_at_most()
     ensures { AddsAtMost }
 {}
 
-/// A law: that is at most a line of 192 rows, and one symbol or one wipe of the rows of a page, and so is what
-/// is counted behind an item that ends the line; for a byte of a raster it is two rows.
+/// A law: that is at most a line of 192 rows, and one symbol or one wipe of the rows of a page, and so is
+/// what is counted behind an item that ends the line; for a byte of a raster it is two rows.
 pub fn an_item_costs_at_most()
     ensures { CostsAtMost }
 {}

@@ -71,8 +71,8 @@ fn lay_each(p: PageSettings, raster: &Raster, bytes: &[u8], rows: usize, page: &
     requires few { rows ≤ 65535 }
     requires long { rows * raster.now.bytes ≤ length bytes.now }
     ensures { (layers : List Layer) → HasPage layers page.old →
-        HasPage (Laid (mark_of p (rows * times_down raster.now.scale) (rows_dot raster.now.scale raster.now.bytes rows bytes.now))
-        ∷ layers) page.new }
+        HasPage (Laid (mark_of p (rows * times_down raster.now.scale)
+        (rows_dot raster.now.scale raster.now.bytes rows bytes.now)) ∷ layers) page.new }
 {
     let wide = usize::from(raster.bytes);
     let shown = wide.min(LINE_BYTES);
@@ -118,8 +118,8 @@ fn lay_across(p: PageSettings, raster: &Raster, bytes: &[u8], rows: usize, page:
     requires few { rows ≤ 65535 }
     requires long { rows * raster.now.bytes ≤ length bytes.now }
     ensures { (layers : List Layer) → HasPage layers page.old →
-        HasPage (Laid (mark_of p (rows * times_down raster.now.scale) (rows_dot raster.now.scale raster.now.bytes rows bytes.now))
-        ∷ layers) page.new }
+        HasPage (Laid (mark_of p (rows * times_down raster.now.scale)
+        (rows_dot raster.now.scale raster.now.bytes rows bytes.now)) ∷ layers) page.new }
 {
     let wide = usize::from(raster.bytes);
     let top = p.vertical as u32;
@@ -137,8 +137,8 @@ fn lay_rows(p: PageSettings, raster: &Raster, bytes: &[u8], rows: usize, page: &
     requires few { rows ≤ 65535 }
     requires long { rows * raster.now.bytes ≤ length bytes.now }
     ensures { (layers : List Layer) → HasPage layers page.old →
-        HasPage (Laid (mark_of p (rows * times_down raster.now.scale) (rows_dot raster.now.scale raster.now.bytes rows bytes.now))
-        ∷ layers) page.new }
+        HasPage (Laid (mark_of p (rows * times_down raster.now.scale)
+        (rows_dot raster.now.scale raster.now.bytes rows bytes.now)) ∷ layers) page.new }
 {
     let across = matches!(p.direction, Direction::BottomToTop | Direction::TopToBottom);
     let wide = usize::from(raster.bytes);

@@ -211,8 +211,8 @@ fn extent(area: Area, direction: Direction) -> (u32, u32) {
     }
 }
 
-/// Where dot `u` of line `v` of an area falls on the page, if it does: a line runs to the right, up, to the left
-/// or down, and the next one lies below, to the right, above or to the left of it.
+/// Where dot `u` of line `v` of an area falls on the page, if it does: a line runs to the right, up, to the
+/// left or down, and the next one lies below, to the right, above or to the left of it.
 fn place(area: Area, direction: Direction, u: u32, v: u32) -> Option<(u32, u32)> {
     let (length, depth) = extent(area, direction);
     if u >= length || v >= depth {

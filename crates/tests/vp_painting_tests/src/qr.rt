@@ -133,8 +133,8 @@ fn format(ink: &QrInk) -> u32 {
     bits
 }
 
-/// The same bits beside the other finders of a symbol of version 1: up on the right of the lower left one, and
-/// to the right below the upper right one.
+/// The same bits beside the other finders of a symbol of version 1: up on the right of the lower left one,
+/// and to the right below the upper right one.
 fn format_again(ink: &QrInk) -> u32 {
     let mut bits = 0;
     for y in [20, 19, 18, 17, 16, 15, 14] {
@@ -237,8 +237,8 @@ fn versions(ink: &QrInk, size: u32) -> [u32; 2] {
     bits
 }
 
-/// How many bytes give a symbol of level L of versions 7 to 10, how many modules it has in a row, and the bits
-/// of its version (ISO/IEC 18004, table D.1).
+/// How many bytes give a symbol of level L of versions 7 to 10, how many modules it has in a row, and the
+/// bits of its version (ISO/IEC 18004, table D.1).
 static VERSIONS: [(usize, u32, u32); 4] = [
     (154, 45, 0x07c94),
     (192, 49, 0x085bc),

@@ -307,8 +307,9 @@ fn the_second_reader_gives_more_bytes(rt: HostRuntime) -> Result<(), Fail> {
     Ok(())
 }
 
-/// What the first one's header and the rows of the second one begin, which is the first one with byte n changed:
-/// behind a third row that it says it has in its second image it stops, and that is the next header's `P`.
+/// What the first one's header and the rows of the second one begin, which is the first one with byte n
+/// changed: behind a third row that it says it has in its second image it stops, and that is the next
+/// header's `P`.
 fn changed_at(n: usize) -> &'static [u8] {
     match n {
         13 => b"P4\n4 4\n\xF0\xA0\x10\x50",

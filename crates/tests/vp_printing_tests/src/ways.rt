@@ -140,8 +140,8 @@ pub fn pump(
     Ok(pump_with(&mut session, alloc, bytes, most, fails))
 }
 
-/// How many bytes of a case are taken, up to its fault: that of an unknown command comes with its second byte,
-/// every other one with the last byte of its stream.
+/// How many bytes of a case are taken, up to its fault: that of an unknown command comes with its second
+/// byte, every other one with the last byte of its stream.
 fn taken(case: &Case) -> usize {
     let Some(Fault::Unknown(lead, byte)) = case.fault else {
         return case.bytes.len();

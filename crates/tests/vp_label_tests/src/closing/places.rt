@@ -6,7 +6,8 @@ use std::test::Fail;
 use vp_dots::Op;
 use vp_zpl::item::Orientation;
 
-/// The first row whose stream doesn't end in a field that stands at its corner, turned and painted as it says.
+/// The first row whose stream doesn't end in a field that stands at its corner, turned and painted as it
+/// says.
 fn wrong_place(
     alloc: Global,
     rows: &[(&[u8], (i64, i64), Orientation, Op)],
