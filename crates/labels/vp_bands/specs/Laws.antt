@@ -49,9 +49,9 @@ abbrev pub code_bytes : Content → ℕ
 code_bytes (Picture p) = p.codes.len
 code_bytes _ = 0
 
--- in a band a field takes at most 34, or 2,504 where its lines lie across the rows, and twice the bytes of its
--- codes, which are no more than a format has room for; so a copy takes at most 2,504 for each pair of a field
--- and a band that it meets, and in each band twice the bytes of all codes
+-- in a band a field takes at most 34, or 2,504 where its lines lie across the rows, and twice the bytes of
+-- its codes, which are no more than a format has room for; so a copy takes at most 2,504 for each pair of a
+-- field and a band that it meets, and in each band twice the bytes of all codes
 pub record CostsAtMost : Type 0 where
   pub along : (o : Orientation) (c : Content) → lines_of (orientation_of o c) ≡ Along
       → most_work o c ≤ BAND_ROWS + 2 + 2 * code_bytes c

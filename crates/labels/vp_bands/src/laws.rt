@@ -18,9 +18,9 @@ pub fn work_bounded()
     ensures { WorkBounded }
 {}
 
-/// In a band a field takes at most 34, or 2,504 where its lines lie across the rows, and twice the bytes of its
-/// codes. So a copy takes at most 2,504 for each pair of a field and a band that it meets, and in each band
-/// twice the bytes of all codes.
+/// In a band a field takes at most 34, or 2,504 where its lines lie across the rows, and twice the bytes of
+/// its codes. So a copy takes at most 2,504 for each pair of a field and a band that it meets, and in each
+/// band twice the bytes of all codes.
 pub fn a_field_costs_at_most()
     ensures { CostsAtMost }
 {}

@@ -8,7 +8,8 @@ use Rattle.vp_bands.specs.Meeting.{bands_of, copy_work, shown_pairs}
 use Rattle.vp_label.specs.Entries.{printed_entries}
 use Rattle.vp_label.specs.Prints.{prints, view_of}
 
--- a copy of the label that ^XZ prints takes at most the sum over the pairs of a field and a band that it meets
+-- a copy of the label that ^XZ prints takes at most the sum over the pairs of a field and a band that it
+-- meets
 abbrev pub label_work : Sheets → List Item → ℕ
 label_work sheets before =
     let view = view_of (settings_of before) in
