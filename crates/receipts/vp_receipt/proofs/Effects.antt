@@ -4,7 +4,7 @@ use Rattle.vp_esc.specs.declared.item.EscItem.{EscItem}
 use Rattle.vp_esc.specs.declared.item.EscItem.TheVariants.{CarriageReturn, Control, QrIgnored, WithoutEffect, Character, Column8, Column24, Raster, RasterByte, Symbol, QrPrint, PageMode, StandardMode, FormFeed, Initialize, LeftMargin, AreaWidth, MoveVerticalPosition, Area, Direction}
 use Rattle.vp_esc.specs.declared.item.PrintDirection.{PrintDirection}
 use Rattle.vp_esc.specs.declared.item.Spelled.{Spelled}
-use Rattle.vp_glyph.specs.declared.Sheets.{Sheets}
+use Rattle.vp_glyph.specs.Sheets.{Sheets}
 use Rattle.vp_page.specs.Layers.{Layer}
 use Rattle.vp_page.specs.Pages.{HasPage, Paged}
 use Rattle.vp_receipt_settings.specs.declared.effect.Piece.{Piece}

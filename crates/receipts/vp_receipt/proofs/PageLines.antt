@@ -13,7 +13,7 @@ use Rattle.vp_page.specs.Pages.{HasPage, Paged}
 use Rattle.vp_receipt_settings.specs.declared.width.Width.{Width}
 use Rattle.vp_receipt_settings.specs.declared.settings.Settings.{Settings}
 use Rattle.vp_receipt_settings.specs.Setup.{Setup, across}
-use Rattle.vp_strips.specs.declared.canvas.Canvas.{Canvas}
+use Rattle.vp_strips.specs.Canvases.{Canvas}
 use Rattle.vp_strips.specs.declared.strip.Dots.TheVariants.{Page as PageDots}
 use Rattle.vp_receipt_settings.specs.declared.page_mode.PrinterMode.{PrinterMode}
 use Rattle.vp_receipt_settings.specs.declared.page_mode.PrinterMode.TheVariants.{Standard, Page}

@@ -17,7 +17,7 @@ use Rattle.vp_page.specs.declared.area.Direction.{Direction}
 use Rattle.vp_page.specs.declared.area.Direction.TheVariants.{LeftToRight, BottomToTop, RightToLeft, TopToBottom}
 use Rattle.vp_page.proofs.Falling.{lies, within}
 use Rattle.vp_page.proofs.Pages.{same_page, TakeAsMuch}
-use Rattle.vp_glyph.specs.declared.Sheets.{Sheets}
+use Rattle.vp_glyph.specs.Sheets.{Sheets}
 use Rattle.vp_receipt_settings.specs.Setup.{Setup}
 use Rattle.vp_receipt_settings.specs.Line.{mode, line, Placed}
 use Rattle.vp_receipt_settings.specs.Settings.{settings_of, page_of, image_of, IsFitPage}

@@ -11,7 +11,7 @@ use Rattle.vp_strips.specs.declared.symbol.Symbol.{Symbol}
 use Rattle.vp_receipt_settings.specs.Setup.{Setup}
 use Rattle.vp_dots.specs.Images.{Image}
 use Rattle.vp_receipt_settings.specs.Pages.{area, direction}
-use Rattle.vp_glyph.specs.declared.Sheets.{Sheets}
+use Rattle.vp_glyph.specs.Sheets.{Sheets}
 use Rattle.vp_receipt_settings.specs.declared.settings.Settings.{Settings}
 use Rattle.vp_receipt_settings.specs.Line.{Placed, line, symbol_top}
 use Rattle.vp_receipt_settings.specs.Settings.{settings_of}

@@ -6,7 +6,7 @@ use Rattle.vp_esc.specs.declared.item.EscItem.{EscItem}
 use Rattle.vp_receipt_settings.specs.Setup.{Setup}
 use Rattle.vp_receipt_settings.specs.Line.{height, line}
 use Rattle.vp_receipt.specs.Strips.{own_part, line_rows_after}
-use Rattle.vp_strips.specs.declared.canvas.Canvas.{Canvas}
+use Rattle.vp_strips.specs.Canvases.{Canvas}
 use Rattle.vp_strips.specs.declared.job.Job.{Job}
 use Rattle.vp_strips.specs.declared.job.After.{After}
 use Rattle.vp_strips.specs.declared.job.After.TheVariants.{End}

@@ -9,7 +9,7 @@ use Rattle.vp_esc.specs.declared.item.EscItem.{EscItem}
 use Rattle.vp_esc.specs.declared.item.EscItem.TheVariants.{LineFeed, Tab, CarriageReturn, FormFeed, Cancel, Control, Character, QrIgnored, WithoutEffect}
 use Rattle.vp_esc.specs.Units.{single_item}
 use Rattle.vp_esc.specs.Reader.{is_text, text_items}
-use Rattle.vp_glyph.specs.declared.Sheets.{Sheets}
+use Rattle.vp_glyph.specs.Sheets.{Sheets}
 use Rattle.vp_glyph.specs.declared.cell.Font.{Font}
 use Rattle.vp_glyph.specs.declared.cell.Font.TheVariants.{A, B}
 use Rattle.vp_glyph.specs.Cells.{cell_width, font_width}

@@ -14,7 +14,7 @@ use Rattle.vp_receipt_settings.specs.Setup.{Setup, across}
 use Rattle.vp_receipt_settings.specs.Pages.{is_paged, area}
 use Rattle.vp_receipt_settings.specs.Line.{Placed, line, position, mode, character, column8, column24, ended_rows}
 use Rattle.vp_strips.specs.Rows.{cut_text, white_text, line_text}
-use Rattle.vp_strips.specs.declared.canvas.Canvas.{Canvas}
+use Rattle.vp_strips.specs.Canvases.{Canvas}
 use Rattle.vp_strips.specs.declared.job.Job.{Job}
 use Rattle.vp_strips.specs.Held.{job_text}
 use Rattle.vp_receipt.specs.PageMarks.{layers, printed_layers}

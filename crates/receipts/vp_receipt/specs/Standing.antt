@@ -2,7 +2,7 @@
 use Rattle.std.specs.Prelude.{◌≡◌, ◌<◌, ℕ, Bool, false, List, [], ◌∷◌, Option, Some, None, length}
 use Rattle.vp_esc.specs.declared.item.EscItem.{EscItem}
 use Rattle.vp_esc.specs.declared.item.EscItem.TheVariants.{RasterByte}
-use Rattle.vp_glyph.specs.declared.Sheets.{Sheets}
+use Rattle.vp_glyph.specs.Sheets.{Sheets}
 use Rattle.vp_receipt_settings.specs.declared.settings.Settings.{Settings}
 use Rattle.vp_receipt_settings.specs.declared.raster.Raster.{Raster}
 use Rattle.vp_receipt_settings.specs.declared.stored.Stored.{Stored}
@@ -19,7 +19,7 @@ use Rattle.vp_receipt_settings.specs.Settings.{settings_of, image_of}
 use Rattle.vp_receipt_settings.specs.Gathering.{IsGathering}
 use Rattle.vp_strips.specs.Held.{Showing, Shows}
 use Rattle.vp_receipt.specs.Strips.{own_part, printed, printed_page}
-use Rattle.vp_strips.specs.declared.canvas.Canvas.{Canvas}
+use Rattle.vp_strips.specs.Canvases.{Canvas}
 use Rattle.vp_strips.specs.LineDots.{HasOpen}
 use Rattle.vp_strips.specs.SymbolInks.{is_symbol}
 

@@ -5,9 +5,9 @@ ghost use Rattle.vp_receipt_settings.specs.Runs.{text_room, text_after};
 ghost use Rattle.std.specs.Prelude.{◌≡◌, ◌≤◌, ◌<◌, ◌+◌, ◌-◌, ◌*◌, ◌∷◌, ◌++◌, List, ℕ, Bool, ◌&&◌, length, true, None, Some, IfSome, take};
 ghost use Rattle.vp_esc.specs.declared.item.EscItem.{EscItem};
 ghost use Rattle.vp_glyph.specs.Cells.{cell_width, cell_height, cell_dot};
-ghost use Rattle.vp_glyph.specs.declared.Sheets.{Sheets};
+ghost use Rattle.vp_glyph.specs.Sheets.{Sheets};
 ghost use Rattle.vp_receipt_settings.specs.declared.text.TheConstants.{LINE_ROWS};
-ghost use Rattle.vp_strips.specs.declared.canvas.Canvas.{Canvas};
+ghost use Rattle.vp_strips.specs.Canvases.{canvas_of, Canvas as TheCanvas};
 ghost use Rattle.vp_page.specs.declared.line.TheConstants.{LINE_BYTES, LINE_DOTS};
 ghost use Rattle.vp_strips.specs.declared.job.After.{After};
 ghost use Rattle.vp_strips.specs.declared.lines.Lines.{Lines};
@@ -37,7 +37,7 @@ ghost use Rattle.vp_receipt_settings.specs.Gathering.{EndsRow, kept_of};
 ghost use Rattle.vp_strips.specs.Held.{job_text, after_text, IsJob, IsTurned, AreOwn, IsShowing};
 
 use crate::raster_page::lay_raster_row;
-use vp_dots::{Ink, WORDS};
+use vp_dots::{Ink, Small, WORDS};
 use vp_esc::item::Cut;
 use vp_glyph::{Cell, Sheets};
 use vp_page::{AT_ONCE, Direction, LINE_BYTES, PAPER_BYTES, Page};
@@ -47,7 +47,12 @@ use vp_receipt_settings::{
 use vp_strips::{After, Bitmap, Canvas, Job, Strip, Symbol, write_raster_row};
 
 /// Puts the character that waits into the line.
-pub fn settle(s: &Settings, waiting: Option<u8>, sheets: &Sheets, bitmap: &mut Bitmap)
+pub fn settle<A: Small>(
+    s: &Settings,
+    waiting: Option<u8>,
+    sheets: &Sheets<A>,
+    bitmap: &mut Bitmap<A>,
+)
     requires { IsFit s.now }
     ensures { (placed : List Placed) → Gathers sheets.now s.now bitmap.old waiting placed →
         Gathers sheets.now s.now bitmap.new None placed }
@@ -59,7 +64,7 @@ pub fn settle(s: &Settings, waiting: Option<u8>, sheets: &Sheets, bitmap: &mut B
 }
 
 /// Puts ink into the line at its position.
-fn put_next<I: Ink>(s: &Settings, ink: &I, bitmap: &mut Bitmap)
+fn put_next<I: Ink, A: Small>(s: &Settings, ink: &I, bitmap: &mut Bitmap<A>)
     requires { I.height ink.now ≤ LINE_ROWS }
     ensures { (placed : List Placed) → s.now.is_open ≡ is_open placed → HasOpen placed bitmap.old →
         HasDots (ink_placed s.now.position (I.width ink.now) (I.height ink.now) (I.ink_at ink.now) ∷ placed)
@@ -73,7 +78,7 @@ fn put_next<I: Ink>(s: &Settings, ink: &I, bitmap: &mut Bitmap)
 
 /// Puts a character into the line at its position.
 #[inline(always)]
-fn put_character(s: &Settings, cell: &Cell<'_>, bitmap: &mut Bitmap)
+fn put_character<A: Small>(s: &Settings, cell: &Cell<'_, A>, bitmap: &mut Bitmap<A>)
     requires { cell_height cell.now.font cell.now.style ≤ LINE_ROWS }
     ensures { (placed : List Placed) → s.now.is_open ≡ is_open placed → HasOpen placed bitmap.old →
         HasDots (ink_placed s.now.position (cell_width cell.now.font cell.now.style)
@@ -87,10 +92,11 @@ fn put_character(s: &Settings, cell: &Cell<'_>, bitmap: &mut Bitmap)
 }
 
 /// Puts a piece into the line at its position.
-fn put(s: &Settings, piece: Piece, canvas: &mut Canvas)
+fn put<A: Small>(s: &Settings, piece: Piece, canvas: &mut Canvas<A>)
     requires { IsFit s.now }
-    ensures others { canvas.new ≡ record canvas.old { bitmap = canvas.new.bitmap } }
-    ensures line { (setup : Setup) (before : List EscItem) → IsSettled setup before s.now canvas.old →
+    ensures others { canvas_of canvas.new ≡ record (canvas_of canvas.old) { bitmap = canvas.new.bitmap } }
+    ensures line { (setup : Setup) (before : List EscItem) →
+        IsSettled setup before s.now (canvas_of canvas.old) →
         HasDots (line_by setup before (Effect.Puts piece)) canvas.new.bitmap }
 {
     match piece {
@@ -104,7 +110,7 @@ fn put(s: &Settings, piece: Piece, canvas: &mut Canvas)
 }
 
 /// Puts text into the line, which none of it breaks.
-pub fn put_text(s: &mut Settings, text: &[u8], sheets: &Sheets, bitmap: &mut Bitmap)
+pub fn put_text<A: Small>(s: &mut Settings, text: &[u8], sheets: &Sheets<A>, bitmap: &mut Bitmap<A>)
     requires fit { IsFit s.old }
     requires text { AllByRecursion (λ b. is_text b ≡ true) text.now }
     requires room { length text.now ≤ text_room s.old }
@@ -131,11 +137,11 @@ pub fn put_text(s: &mut Settings, text: &[u8], sheets: &Sheets, bitmap: &mut Bit
 /// The line in a strip of `rows` rows.
 fn line_job(s: &Settings, rows: u32) -> Job
     requires { IsFit s.now }
-    ensures job { (canvas : Canvas) (lines : Lines) → IsJob result canvas lines }
+    ensures job { (canvas : TheCanvas) (lines : Lines) → IsJob result canvas lines }
     ensures turned { IsTurned result.place result.after }
-    ensures text { (setup : Setup) (before : List EscItem) (canvas : Canvas) →
+    ensures text { (setup : Setup) (before : List EscItem) (canvas : TheCanvas) →
         IsSettled setup before s.now canvas → job_text result canvas ≡ line_text setup before rows }
-    ensures shows { (canvas : Canvas) → IsShowing result canvas s.now.height 0 }
+    ensures shows { (canvas : TheCanvas) → IsShowing result canvas s.now.height 0 }
 {
     Job::of(Strip::of_line(s, rows), After::End)
 }
@@ -144,12 +150,12 @@ fn line_job(s: &Settings, rows: u32) -> Job
 fn ended_job(s: &Settings, after: After) -> Job
     requires fit { IsFit s.now }
     requires after { AreOwn after }
-    ensures job { (canvas : Canvas) (lines : Lines) → IsJob result canvas lines }
+    ensures job { (canvas : TheCanvas) (lines : Lines) → IsJob result canvas lines }
     ensures turned { IsTurned result.place result.after }
-    ensures text { (setup : Setup) (before : List EscItem) (canvas : Canvas) →
+    ensures text { (setup : Setup) (before : List EscItem) (canvas : TheCanvas) →
         IsSettled setup before s.now canvas →
         job_text result canvas ≡ ended setup before ++ after_text after canvas }
-    ensures shows { (canvas : Canvas) →
+    ensures shows { (canvas : TheCanvas) →
         IsShowing result canvas s.now.height (length (after_text after canvas)) }
 {
     Job::of(Strip::of_line(s, s.ended_rows()), after)
@@ -158,13 +164,13 @@ fn ended_job(s: &Settings, after: After) -> Job
 /// The job of a cut, after `dots` white rows.
 fn cut_job(s: &Settings, dots: u8, cut: Cut) -> Job
     requires { IsFit s.now }
-    ensures job { (canvas : Canvas) (lines : Lines) → IsJob result canvas lines }
+    ensures job { (canvas : TheCanvas) (lines : Lines) → IsJob result canvas lines }
     ensures turned { IsTurned result.place result.after }
-    ensures text { (setup : Setup) (before : List EscItem) (canvas : Canvas) →
+    ensures text { (setup : Setup) (before : List EscItem) (canvas : TheCanvas) →
         IsSettled setup before s.now canvas →
         job_text result canvas ≡
         ended setup before ++ (white_text setup.width dots ++ cut_text setup.width cut) }
-    ensures shows { (setup : Setup) (before : List EscItem) (canvas : Canvas) →
+    ensures shows { (setup : Setup) (before : List EscItem) (canvas : TheCanvas) →
         IsSettled setup before s.now canvas →
         IsShowing result canvas (height (line setup before))
         (length (white_text setup.width dots ++ cut_text setup.width cut)) }
@@ -180,11 +186,11 @@ fn cut_job(s: &Settings, dots: u8, cut: Cut) -> Job
 /// What an effect prints on paper.
 fn printed(s: &Settings, effect: Effect) -> Option<Job>
     requires { IsFit s.now }
-    ensures job { IfSome result (λ job. (canvas : Canvas) (lines : Lines) → IsJob job canvas lines) }
+    ensures job { IfSome result (λ job. (canvas : TheCanvas) (lines : Lines) → IsJob job canvas lines) }
     ensures turned { IfSome result (λ job. IsTurned job.place job.after) }
-    ensures text { (setup : Setup) (before : List EscItem) (canvas : Canvas) →
+    ensures text { (setup : Setup) (before : List EscItem) (canvas : TheCanvas) →
         IsSettled setup before s.now canvas → text_if result canvas ≡ strips_by setup before effect }
-    ensures shows { IfSome result (λ job. (setup : Setup) (before : List EscItem) (canvas : Canvas) →
+    ensures shows { IfSome result (λ job. (setup : Setup) (before : List EscItem) (canvas : TheCanvas) →
         IsSettled setup before s.now canvas →
         IsShowing job canvas (height (line setup before)) (length (own_by setup effect))) }
 {
@@ -213,7 +219,7 @@ fn printed(s: &Settings, effect: Effect) -> Option<Job>
 }
 
 /// Lays the line row by row, with its top at the vertical position.
-fn lay_rows(s: &Settings, bitmap: &Bitmap, page: &mut Page)
+fn lay_rows<A: Small>(s: &Settings, bitmap: &Bitmap<A>, page: &mut Page<A>)
     requires { IsFit s.now }
     ensures { (dots : ℕ → ℕ → Bool) (layers : List Layer) → HasRows s.now bitmap.now dots →
         HasPage layers page.old → HasPage (Laid (mark_of s.now.page s.now.height dots) ∷ layers) page.new }
@@ -229,12 +235,12 @@ fn lay_rows(s: &Settings, bitmap: &Bitmap, page: &mut Page)
 
 /// Lays as many rows of the line as there is room for, below the first ones, whose top is at the vertical
 /// position.
-fn lay_more(
+fn lay_more<A: Small>(
     s: &Settings,
     from: usize,
-    bitmap: &Bitmap,
+    bitmap: &Bitmap<A>,
     room: &mut [[u8; LINE_BYTES]],
-    page: &mut Page,
+    page: &mut Page<A>,
 )
     requires fit { IsFit s.now }
     requires few { length room.old ≤ AT_ONCE }
@@ -250,7 +256,7 @@ fn lay_more(
 }
 
 /// Lays a line no higher than most characters at once, with its top at the vertical position.
-fn lay_low(s: &Settings, bitmap: &Bitmap, page: &mut Page)
+fn lay_low<A: Small>(s: &Settings, bitmap: &Bitmap<A>, page: &mut Page<A>)
     requires fit { IsFit s.now }
     requires low { s.now.height ≤ WORDS }
     ensures { (dots : ℕ → ℕ → Bool) (layers : List Layer) → HasRows s.now bitmap.now dots →
@@ -261,7 +267,7 @@ fn lay_low(s: &Settings, bitmap: &Bitmap, page: &mut Page)
 }
 
 /// Lays the line as many rows at once as go, with its top at the vertical position.
-fn lay_high(s: &Settings, bitmap: &Bitmap, page: &mut Page)
+fn lay_high<A: Small>(s: &Settings, bitmap: &Bitmap<A>, page: &mut Page<A>)
     requires { IsFit s.now }
     ensures { (dots : ℕ → ℕ → Bool) (layers : List Layer) → HasRows s.now bitmap.now dots →
         HasPage layers page.old → HasPage (Laid (mark_of s.now.page s.now.height dots) ∷ layers) page.new }
@@ -277,7 +283,7 @@ fn lay_high(s: &Settings, bitmap: &Bitmap, page: &mut Page)
 
 /// Lays the line across the rows of the page, with its top at the vertical position. Mostly it is low, and
 /// then little room is made for it.
-fn lay_at_once(s: &Settings, bitmap: &Bitmap, page: &mut Page)
+fn lay_at_once<A: Small>(s: &Settings, bitmap: &Bitmap<A>, page: &mut Page<A>)
     requires { IsFit s.now }
     ensures { (dots : ℕ → ℕ → Bool) (layers : List Layer) → HasRows s.now bitmap.now dots →
         HasPage layers page.old → HasPage (Laid (mark_of s.now.page s.now.height dots) ∷ layers) page.new }
@@ -290,7 +296,7 @@ fn lay_at_once(s: &Settings, bitmap: &Bitmap, page: &mut Page)
 }
 
 /// Lays the line with its top at the vertical position.
-fn lay_line(s: &Settings, bitmap: &Bitmap, page: &mut Page)
+fn lay_line<A: Small>(s: &Settings, bitmap: &Bitmap<A>, page: &mut Page<A>)
     requires { IsFit s.now }
     ensures { (dots : ℕ → ℕ → Bool) (layers : List Layer) → HasRows s.now bitmap.now dots →
         HasPage layers page.old → HasPage (Laid (mark_of s.now.page s.now.height dots) ∷ layers) page.new }
@@ -302,11 +308,12 @@ fn lay_line(s: &Settings, bitmap: &Bitmap, page: &mut Page)
 }
 
 /// Lays the line if it is open. The rows that this item lays and wipes are counted anew.
-fn lay_open(s: &Settings, canvas: &mut Canvas)
+fn lay_open<A: Small>(s: &Settings, canvas: &mut Canvas<A>)
     requires fit { IsFit s.now }
     requires mode { s.now.page.mode ≡ PrinterMode.Page }
-    ensures others { canvas.new ≡ record canvas.old { page = canvas.new.page } }
-    ensures page { (setup : Setup) (before : List EscItem) → IsSettled setup before s.now canvas.old →
+    ensures others { canvas_of canvas.new ≡ record (canvas_of canvas.old) { page = canvas.new.page } }
+    ensures page { (setup : Setup) (before : List EscItem) →
+        IsSettled setup before s.now (canvas_of canvas.old) →
         HasPage (printed_layers setup before) canvas.new.page }
 {
     canvas.page.count_anew();
@@ -318,31 +325,33 @@ fn lay_open(s: &Settings, canvas: &mut Canvas)
 /// The page, with the line laid.
 fn page_job(s: &Settings) -> Job
     requires { IsFit s.now }
-    ensures job { (canvas : Canvas) (lines : Lines) → IsJob result canvas lines }
+    ensures job { (canvas : TheCanvas) (lines : Lines) → IsJob result canvas lines }
     ensures turned { IsTurned result.place result.after }
-    ensures text { (setup : Setup) (before : List EscItem) (canvas : Canvas) →
+    ensures text { (setup : Setup) (before : List EscItem) (canvas : TheCanvas) →
         s.now ≡ settings_of setup before → HasPage (printed_layers setup before) canvas.page →
         job_text result canvas ≡ page_text setup before }
-    ensures shows { (canvas : Canvas) (high : ℕ) →
+    ensures shows { (canvas : TheCanvas) (high : ℕ) →
         IsShowing result canvas high (length (job_text result canvas)) }
 {
     Job::alone(Strip::page(s.paper, s.printed_rows()))
 }
 
 /// What an effect lays on the page, and what is printed of it.
-fn laid(s: &Settings, effect: Effect, canvas: &mut Canvas) -> Option<Job>
+fn laid<A: Small>(s: &Settings, effect: Effect, canvas: &mut Canvas<A>) -> Option<Job>
     requires fit { IsFit s.now }
     requires mode { s.now.page.mode ≡ PrinterMode.Page }
     requires old { effect ≡ Effect.BeginsPage → ⊥ }
-    ensures others { canvas.new ≡ record canvas.old { page = canvas.new.page } }
-    ensures job { IfSome result (λ job. (lines : Lines) → IsJob job canvas.new lines) }
+    ensures others { canvas_of canvas.new ≡ record (canvas_of canvas.old) { page = canvas.new.page } }
+    ensures job { IfSome result (λ job. (lines : Lines) → IsJob job (canvas_of canvas.new) lines) }
     ensures turned { IfSome result (λ job. IsTurned job.place job.after) }
-    ensures page { (setup : Setup) (before : List EscItem) → IsSettled setup before s.now canvas.old →
+    ensures page { (setup : Setup) (before : List EscItem) →
+        IsSettled setup before s.now (canvas_of canvas.old) →
         HasPage (layers_by setup before effect) canvas.new.page }
-    ensures text { (setup : Setup) (before : List EscItem) → IsSettled setup before s.now canvas.old →
-        text_if result canvas.new ≡ page_by setup before effect }
+    ensures text { (setup : Setup) (before : List EscItem) →
+        IsSettled setup before s.now (canvas_of canvas.old) →
+        text_if result (canvas_of canvas.new) ≡ page_by setup before effect }
     ensures shows { IfSome result (λ job. (high : ℕ) →
-        IsShowing job canvas.new high (length (job_text job canvas.new))) }
+        IsShowing job (canvas_of canvas.new) high (length (job_text job (canvas_of canvas.new)))) }
 {
     match effect {
         Effect::Breaks { .. } | Effect::Feeds(_) | Effect::BeginsRaster(_) | Effect::Lays(_) => {
@@ -373,20 +382,24 @@ fn laid(s: &Settings, effect: Effect, canvas: &mut Canvas) -> Option<Job>
 }
 
 /// What an effect that draws no symbol does to the line and the page, and what is printed of it.
-pub fn act(s: &Settings, effect: Effect, canvas: &mut Canvas) -> Option<Job>
+pub fn act<A: Small>(s: &Settings, effect: Effect, canvas: &mut Canvas<A>) -> Option<Job>
     requires { IsFit s.now }
     ensures sheets { canvas.new.sheets ≡ canvas.old.sheets }
-    ensures job { IfSome result (λ job. (lines : Lines) → IsJob job canvas.new lines) }
+    ensures job { IfSome result (λ job. (lines : Lines) → IsJob job (canvas_of canvas.new) lines) }
     ensures turned { IfSome result (λ job. IsTurned job.place job.after) }
-    ensures line { (setup : Setup) (before : List EscItem) → IsSettled setup before s.now canvas.old →
+    ensures line { (setup : Setup) (before : List EscItem) →
+        IsSettled setup before s.now (canvas_of canvas.old) →
         Gathers canvas.old.sheets s.now canvas.new.bitmap (waits_of effect) (line_by setup before effect) }
-    ensures page { (setup : Setup) (before : List EscItem) → IsSettled setup before s.now canvas.old →
+    ensures page { (setup : Setup) (before : List EscItem) →
+        IsSettled setup before s.now (canvas_of canvas.old) →
         HasPageIf (mode_by setup before effect) (layers_by setup before effect) canvas.new.page }
-    ensures text { (setup : Setup) (before : List EscItem) → IsSettled setup before s.now canvas.old →
-        text_if result canvas.new ≡ prints_by setup before effect }
+    ensures text { (setup : Setup) (before : List EscItem) →
+        IsSettled setup before s.now (canvas_of canvas.old) →
+        text_if result (canvas_of canvas.new) ≡ prints_by setup before effect }
     ensures shows { IfSome result (λ job. (setup : Setup) (before : List EscItem) →
-        IsSettled setup before s.now canvas.old →
-        IsShowing job canvas.new (height (line setup before)) (length (part_by setup before effect))) }
+        IsSettled setup before s.now (canvas_of canvas.old) →
+        IsShowing job (canvas_of canvas.new) (height (line setup before)) (length
+        (part_by setup before effect))) }
 {
     match effect {
         Effect::Puts(piece) => {
@@ -415,13 +428,13 @@ pub fn prints_page(s: &Settings, effect: Effect) -> bool
 fn symbol_job(s: &Settings, wide: u32, high: u32) -> Job
     requires fit { IsFit s.now }
     requires some { 0 < high }
-    ensures job { (canvas : Canvas) (lines : Lines) → IsJob result canvas lines }
+    ensures job { (canvas : TheCanvas) (lines : Lines) → IsJob result canvas lines }
     ensures turned { IsTurned result.place result.after }
-    ensures text { (setup : Setup) (before : List EscItem) (canvas : Canvas) (image : Image) →
+    ensures text { (setup : Setup) (before : List EscItem) (canvas : TheCanvas) (image : Image) →
         IsSettled setup before s.now canvas →
         IsDrawn canvas.sheets canvas.symbol wide high image →
         job_text result canvas ≡ ended setup before ++ image_text setup before (Some image) }
-    ensures shows { (setup : Setup) (before : List EscItem) (canvas : Canvas) (image : Image) →
+    ensures shows { (setup : Setup) (before : List EscItem) (canvas : TheCanvas) (image : Image) →
         IsSettled setup before s.now canvas → IsDrawn canvas.sheets canvas.symbol wide high image →
         IsShowing result canvas (height (line setup before)) (length (image_text setup before (Some image))) }
 {
@@ -429,20 +442,21 @@ fn symbol_job(s: &Settings, wide: u32, high: u32) -> Job
 }
 
 /// Prints a symbol on paper.
-fn symbol_on_paper(s: &Settings, symbol: Symbol, canvas: &mut Canvas) -> Job
+fn symbol_on_paper<A: Small>(s: &Settings, symbol: Symbol, canvas: &mut Canvas<A>) -> Job
     requires fit { IsFit s.now }
     requires high { 0 < symbol_height canvas.old.sheets symbol }
-    ensures others { canvas.new ≡ record canvas.old { symbol = symbol } }
-    ensures job { (lines : Lines) → IsJob result canvas.new lines }
+    ensures others { canvas_of canvas.new ≡ record (canvas_of canvas.old) { symbol = symbol } }
+    ensures job { (lines : Lines) → IsJob result (canvas_of canvas.new) lines }
     ensures turned { IsTurned result.place result.after }
     ensures text { (setup : Setup) (before : List EscItem) (item : EscItem) →
-        IsSettled setup before s.now canvas.old →
+        IsSettled setup before s.now (canvas_of canvas.old) →
         IsSymbolOf setup.sheets (Some symbol) (symbol_image setup before item) →
-        job_text result canvas.new ≡ strips setup before item }
+        job_text result (canvas_of canvas.new) ≡ strips setup before item }
     ensures shows { (setup : Setup) (before : List EscItem) (item : EscItem) →
-        IsSettled setup before s.now canvas.old →
+        IsSettled setup before s.now (canvas_of canvas.old) →
         IsSymbolOf setup.sheets (Some symbol) (symbol_image setup before item) →
-        IsShowing result canvas.new (height (line setup before)) (length (own_strips setup before item)) }
+        IsShowing result (canvas_of canvas.new) (height (line setup before)) (length
+        (own_strips setup before item)) }
 {
     let (wide, high) = symbol.size(&canvas.sheets);
     canvas.symbol = symbol;
@@ -450,13 +464,13 @@ fn symbol_on_paper(s: &Settings, symbol: Symbol, canvas: &mut Canvas) -> Job
 }
 
 /// Lays the line, and a symbol below it.
-fn symbol_on_page(s: &Settings, symbol: &Symbol, canvas: &mut Canvas)
+fn symbol_on_page<A: Small>(s: &Settings, symbol: &Symbol, canvas: &mut Canvas<A>)
     requires fit { IsFit s.now }
     requires mode { s.now.page.mode ≡ PrinterMode.Page }
     requires wide { symbol_width canvas.old.sheets symbol.now ≤ LINE_DOTS }
-    ensures others { canvas.new ≡ record canvas.old { page = canvas.new.page } }
+    ensures others { canvas_of canvas.new ≡ record (canvas_of canvas.old) { page = canvas.new.page } }
     ensures page { (setup : Setup) (before : List EscItem) (item : EscItem) →
-        IsSettled setup before s.now canvas.old →
+        IsSettled setup before s.now (canvas_of canvas.old) →
         IsSymbolOf setup.sheets (Some symbol.now) (symbol_image setup before item) →
         HasPage (layers_with setup before item (layers setup before)) canvas.new.page }
 {
@@ -472,25 +486,26 @@ fn symbol_on_page(s: &Settings, symbol: &Symbol, canvas: &mut Canvas)
 }
 
 /// What drawing a symbol does: what is printed.
-pub fn draw(s: &Settings, symbol: Symbol, canvas: &mut Canvas) -> Job
+pub fn draw<A: Small>(s: &Settings, symbol: Symbol, canvas: &mut Canvas<A>) -> Job
     requires fit { IsFit s.now }
     requires high { 0 < symbol_height canvas.old.sheets symbol }
     requires wide { symbol_width canvas.old.sheets symbol ≤ LINE_DOTS }
     ensures sheets { canvas.new.sheets ≡ canvas.old.sheets }
-    ensures job { (lines : Lines) → IsJob result canvas.new lines }
+    ensures job { (lines : Lines) → IsJob result (canvas_of canvas.new) lines }
     ensures turned { IsTurned result.place result.after }
     ensures page { (setup : Setup) (before : List EscItem) (item : EscItem) →
-        IsSettled setup before s.now canvas.old →
+        IsSettled setup before s.now (canvas_of canvas.old) →
         IsSymbolOf setup.sheets (Some symbol) (symbol_image setup before item) →
         HasPageIf (mode setup (item ∷ before)) (layers setup (item ∷ before)) canvas.new.page }
     ensures text { (setup : Setup) (before : List EscItem) (item : EscItem) →
-        IsSettled setup before s.now canvas.old →
+        IsSettled setup before s.now (canvas_of canvas.old) →
         IsSymbolOf setup.sheets (Some symbol) (symbol_image setup before item) →
-        job_text result canvas.new ≡ prints setup before item }
+        job_text result (canvas_of canvas.new) ≡ prints setup before item }
     ensures shows { (setup : Setup) (before : List EscItem) (item : EscItem) →
-        IsSettled setup before s.now canvas.old →
+        IsSettled setup before s.now (canvas_of canvas.old) →
         IsSymbolOf setup.sheets (Some symbol) (symbol_image setup before item) →
-        IsShowing result canvas.new (height (line setup before)) (length (own_part setup before item)) }
+        IsShowing result (canvas_of canvas.new) (height (line setup before)) (length
+        (own_part setup before item)) }
 {
     match s.page.mode {
         PrinterMode::Standard => symbol_on_paper(s, symbol, canvas),
@@ -504,14 +519,14 @@ pub fn draw(s: &Settings, symbol: Symbol, canvas: &mut Canvas) -> Job
 /// The row whose last byte came, as often as its raster's scale says.
 fn row_job(s: &Settings, raster: &Raster, row: &mut [u8; PAPER_BYTES]) -> Job
     requires { IsFit s.now }
-    ensures job { (canvas : Canvas) (lines : Lines) → IsJob result canvas lines }
+    ensures job { (canvas : TheCanvas) (lines : Lines) → IsJob result canvas lines }
     ensures turned { IsTurned result.place result.after }
-    ensures text { (setup : Setup) (before : List EscItem) (canvas : Canvas) (came : List ℕ) →
+    ensures text { (setup : Setup) (before : List EscItem) (canvas : TheCanvas) (came : List ℕ) →
         s.now ≡ settings_of setup before → raster.now.scale ≡ raster_scale before →
         raster.now.bytes ≡ raster_bytes before →
         kept_of raster.now ≡ take LINE_BYTES came → canvas.raster_row ≡ row.new →
         job_text result canvas ≡ raster_row_text setup before came }
-    ensures shows { (canvas : Canvas) (high : ℕ) →
+    ensures shows { (canvas : TheCanvas) (high : ℕ) →
         IsShowing result canvas high (length (job_text result canvas)) }
 {
     let wide = 8 * u32::from(raster.bytes) * times_across(raster.scale);
@@ -520,11 +535,11 @@ fn row_job(s: &Settings, raster: &Raster, row: &mut [u8; PAPER_BYTES]) -> Job
 }
 
 /// What a byte that ends a row of a raster does: the row is printed, or laid on the page.
-pub fn act_on_row(s: &Settings, raster: &Raster, canvas: &mut Canvas) -> Job
+pub fn act_on_row<A: Small>(s: &Settings, raster: &Raster, canvas: &mut Canvas<A>) -> Job
     requires { IsFit s.now }
-    ensures others { canvas.new ≡
-        record canvas.old { raster_row = canvas.new.raster_row; page = canvas.new.page } }
-    ensures job { (lines : Lines) → IsJob result canvas.new lines }
+    ensures others { canvas_of canvas.new ≡
+        record (canvas_of canvas.old) { raster_row = canvas.new.raster_row; page = canvas.new.page } }
+    ensures job { (lines : Lines) → IsJob result (canvas_of canvas.new) lines }
     ensures turned { IsTurned result.place result.after }
     ensures page { (setup : Setup) (before : List EscItem) (byte : ℕ) → s.now ≡ settings_of setup before →
         EndsRow raster.now before byte →
@@ -533,10 +548,10 @@ pub fn act_on_row(s: &Settings, raster: &Raster, canvas: &mut Canvas) -> Job
         (layers setup (EscItem.RasterByte byte ∷ before)) canvas.new.page }
     ensures text { (setup : Setup) (before : List EscItem) (byte : ℕ) → s.now ≡ settings_of setup before →
         EndsRow raster.now before byte →
-        job_text result canvas.new ≡ prints setup before (EscItem.RasterByte byte) }
+        job_text result (canvas_of canvas.new) ≡ prints setup before (EscItem.RasterByte byte) }
     ensures shows { (setup : Setup) (before : List EscItem) (byte : ℕ) →
         s.now ≡ settings_of setup before → EndsRow raster.now before byte →
-        IsShowing result canvas.new (height (line setup before))
+        IsShowing result (canvas_of canvas.new) (height (line setup before))
         (length (own_part setup before (EscItem.RasterByte byte))) }
 {
     match s.page.mode {

@@ -9,18 +9,18 @@ ghost use Rattle.vp_receipt.specs.Standing.{IsInForce};
 ghost use Rattle.vp_receipt_settings.specs.Symbols.{symbol_image};
 ghost use Rattle.vp_strips.specs.SymbolInks.{symbol_width, symbol_height, IsSymbolOf, is_symbol};
 
-use vp_dots::Fault;
+use vp_dots::{Fault, Small};
 use vp_esc::item::EscItem;
 use vp_glyph::Sheets;
 use vp_receipt_settings::{Settings, Stored};
 use vp_strips::{Symbol, bar_symbol, qr_symbol};
 
 /// The symbol that an item draws, or why it is refused.
-pub fn drawn(
+pub fn drawn<A: Small>(
     s: &Settings,
     item: &EscItem,
     stored: &Stored,
-    sheets: &Sheets,
+    sheets: &Sheets<A>,
 ) -> Result<Symbol, Fault>
     requires fit { IsFit s.now }
     requires symbol { is_symbol item.now ≡ true }

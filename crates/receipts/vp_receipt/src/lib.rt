@@ -4,7 +4,7 @@
 //! `raster_page` rows of a raster on the page, `raster_paper` those that are printed as they come. `receipt`
 //! is the printer, and `laws` says what a raster's row is, what an item costs at most, and that all that is
 //! printed is images.
-#![tactic(auto)]
+#![tactic(auto, using(vp_dots::proofs::Handles::list_small))]
 
 mod act;
 mod drawn;

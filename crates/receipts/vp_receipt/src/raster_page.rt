@@ -14,13 +14,14 @@ ghost use Rattle.vp_receipt_settings.specs.Settings.{settings_of, IsFit, IsFitPa
 ghost use Rattle.vp_receipt_settings.specs.Rasters.{bytes_after, raster_scale, row_at, times_across, times_down};
 ghost use Rattle.vp_receipt_settings.specs.Setup.{Setup};
 
+use vp_dots::Small;
 use vp_esc::item::RasterScale;
 use vp_page::{AT_ONCE, Direction, LINE_BYTES, Page};
 use vp_receipt_settings::{PageSettings, Raster, Settings, times_across, times_down};
 use vp_strips::doubled;
 
 /// Lays a row `times` times, one below the other, from `at` rows below the vertical position on.
-fn lay_times(p: PageSettings, row: &[u8], at: u32, times: u32, page: &mut Page)
+fn lay_times<A: Small>(p: PageSettings, row: &[u8], at: u32, times: u32, page: &mut Page<A>)
     requires fit { IsFitPage p }
     requires long { length row.now ≤ LINE_BYTES }
     requires near { at ≤ 131070 }
@@ -37,7 +38,13 @@ fn lay_times(p: PageSettings, row: &[u8], at: u32, times: u32, page: &mut Page)
 }
 
 /// Lays a row as often as a scale says, from `at` rows below the vertical position on.
-fn lay_scaled(p: PageSettings, scale: RasterScale, row: &[u8], at: u32, page: &mut Page)
+fn lay_scaled<A: Small>(
+    p: PageSettings,
+    scale: RasterScale,
+    row: &[u8],
+    at: u32,
+    page: &mut Page<A>,
+)
     requires fit { IsFitPage p }
     requires long { length row.now ≤ LINE_BYTES }
     requires near { at ≤ 131070 }
@@ -55,7 +62,7 @@ fn lay_scaled(p: PageSettings, scale: RasterScale, row: &[u8], at: u32, page: &m
 }
 
 /// Lays the row whose last byte came, as often as its raster's scale says.
-pub fn lay_raster_row(s: &Settings, raster: &Raster, page: &mut Page)
+pub fn lay_raster_row<A: Small>(s: &Settings, raster: &Raster, page: &mut Page<A>)
     requires { IsFit s.now }
     ensures { (setup : Setup) (before : List EscItem) (came : List ℕ) (layers : List Layer) →
         s.now ≡ settings_of setup before → raster.now.scale ≡ raster_scale before →
@@ -66,7 +73,13 @@ pub fn lay_raster_row(s: &Settings, raster: &Raster, page: &mut Page)
 }
 
 /// Lays whole rows of a raster one by one, as they stand in the bytes.
-fn lay_each(p: PageSettings, raster: &Raster, bytes: &[u8], rows: usize, page: &mut Page)
+fn lay_each<A: Small>(
+    p: PageSettings,
+    raster: &Raster,
+    bytes: &[u8],
+    rows: usize,
+    page: &mut Page<A>,
+)
     requires fit { IsFitPage p }
     requires few { rows ≤ 65535 }
     requires long { rows * raster.now.bytes ≤ length bytes.now }
@@ -112,7 +125,13 @@ fn rows_from(bytes: &[u8], wide: usize, from: usize, rows: usize) -> [[u8; LINE_
 }
 
 /// Lays whole rows of a raster as many at once as go.
-fn lay_across(p: PageSettings, raster: &Raster, bytes: &[u8], rows: usize, page: &mut Page)
+fn lay_across<A: Small>(
+    p: PageSettings,
+    raster: &Raster,
+    bytes: &[u8],
+    rows: usize,
+    page: &mut Page<A>,
+)
     requires fit { IsFitPage p }
     requires once { raster.now.scale ≡ RasterScale.Normal }
     requires few { rows ≤ 65535 }
@@ -132,7 +151,13 @@ fn lay_across(p: PageSettings, raster: &Raster, bytes: &[u8], rows: usize, page:
 }
 
 /// Lays whole rows of a raster, as they stand in the bytes, from the vertical position on.
-fn lay_rows(p: PageSettings, raster: &Raster, bytes: &[u8], rows: usize, page: &mut Page)
+fn lay_rows<A: Small>(
+    p: PageSettings,
+    raster: &Raster,
+    bytes: &[u8],
+    rows: usize,
+    page: &mut Page<A>,
+)
     requires fit { IsFitPage p }
     requires few { rows ≤ 65535 }
     requires long { rows * raster.now.bytes ≤ length bytes.now }
@@ -153,7 +178,12 @@ fn lay_rows(p: PageSettings, raster: &Raster, bytes: &[u8], rows: usize, page: &
 
 /// Takes what a row that has begun lacks, as far as it has come, and tells how many bytes; the row is laid
 /// once it is whole.
-fn end_begun(s: &mut Settings, raster: &mut Raster, bytes: &[u8], page: &mut Page) -> usize
+fn end_begun<A: Small>(
+    s: &mut Settings,
+    raster: &mut Raster,
+    bytes: &[u8],
+    page: &mut Page<A>,
+) -> usize
     requires fit { IsFit s.old }
     requires part { IsPartRow raster.old }
     requires few { length bytes.now ≤ left_of raster.old }
@@ -181,7 +211,7 @@ fn end_begun(s: &mut Settings, raster: &mut Raster, bytes: &[u8], page: &mut Pag
 }
 
 /// Takes bytes of a raster of which no row has begun: whole rows are laid, and what is left is kept.
-fn take_rows(s: &mut Settings, raster: &mut Raster, bytes: &[u8], page: &mut Page)
+fn take_rows<A: Small>(s: &mut Settings, raster: &mut Raster, bytes: &[u8], page: &mut Page<A>)
     requires fit { IsFit s.old }
     requires part { IsPartRow raster.old }
     requires begins { 0 < length bytes.now → raster.old.got ≡ 0 }
@@ -204,7 +234,7 @@ fn take_rows(s: &mut Settings, raster: &mut Raster, bytes: &[u8], page: &mut Pag
 }
 
 /// Takes bytes of a raster in page mode: rows that are whole are laid.
-pub fn take_run(s: &mut Settings, raster: &mut Raster, bytes: &[u8], page: &mut Page)
+pub fn take_run<A: Small>(s: &mut Settings, raster: &mut Raster, bytes: &[u8], page: &mut Page<A>)
     requires fit { IsFit s.old }
     requires part { IsPartRow raster.old }
     requires few { length bytes.now ≤ left_of raster.old }

@@ -5,7 +5,7 @@ ghost use Rattle.vp_receipt_settings.specs.Runs.{text_room, text_after, stored_a
 ghost use Rattle.vp_strips.specs.SymbolInks.{is_symbol};
 ghost use Rattle.std.specs.Prelude.{◌≡◌, ◌≤◌, ◌<◌, ◌+◌, ◌∷◌, ◌++◌, ◌↔◌, List, [], IsTrue, Some, None, IfOk, MatchResult, OnOk, OnErr, length, min, take, drop, true, unwrap_or};
 ghost use Rattle.vp_esc.specs.declared.item.EscItem.{EscItem};
-ghost use Rattle.vp_glyph.specs.declared.Sheets.{Sheets};
+ghost use Rattle.vp_glyph.specs.Sheets.{Sheets};
 ghost use Rattle.vp_receipt_settings.specs.declared.raster.Raster.{Raster};
 ghost use Rattle.vp_receipt_settings.specs.Setup.{Setup};
 ghost use Rattle.vp_receipt_settings.specs.Line.{is_open, line, mode};
@@ -28,7 +28,7 @@ use crate::raster_page::take_run;
 use crate::raster_paper::{is_plain, plain_room, put_plain};
 use std::alloc::{AllocError, Global};
 use std::marker::Model;
-use vp_dots::Fault;
+use vp_dots::{Fault, Small};
 use vp_esc::item::EscItem;
 use vp_glyph::Sheets;
 use vp_page::{PAGE_ROWS, PAPER_BYTES, Page};
@@ -38,12 +38,12 @@ use vp_receipt_settings::{
 use vp_strips::{Bitmap, Canvas, Job, Lines, Symbol};
 
 /// A receipt printer. What an item prints is pending until it is put out.
-pub struct Receipt {
+pub struct Receipt<A: Small = Global> {
     settings: Settings,
     stops: Stops,
     raster: Raster,
     stored: Stored,
-    canvas: Canvas,
+    canvas: Canvas<A>,
     /// The line that is being put out.
     lines: Lines,
     /// A character that broke the line, and is put into the next one once that line is printed.
@@ -54,7 +54,7 @@ pub struct Receipt {
 }
 
 /// Its memory is given back here, whoever held it.
-impl Drop for Receipt {
+impl<A: Small> Drop for Receipt<A> {
     fn drop(self) {
         let Receipt {
             settings: _,
@@ -70,7 +70,7 @@ impl Drop for Receipt {
     }
 }
 
-impl Model for Receipt {
+impl<A: Small> Model for Receipt<A> {
     ghost use Rattle.vp_receipt.specs.Standing.{Printing};
 
     ghost Value = { Printing };
@@ -92,9 +92,9 @@ fn replace(job: &mut Job, printed: Option<Job>)
     }
 }
 
-impl Receipt {
+impl<A: Small + Copy> Receipt<A> {
     /// One that stands after no items, with these sheets for its fonts, on paper of this width.
-    pub fn new(alloc: Global, sheets: Sheets, width: Width) -> Result<Self, AllocError>
+    pub fn new(alloc: A, sheets: Sheets<A>, width: Width) -> Result<Self, AllocError>
         ensures stands { IfOk result (λ r. Stands (record { width = width; sheets = sheets }) r []) }
         ensures pending { IfOk result (λ r. r.pending ≡ []) }
     {
@@ -118,7 +118,9 @@ impl Receipt {
             of_page: false,
         })
     }
+}
 
+impl<A: Small> Receipt<A> {
     /// Prints an item: what it prints is then pending. A refused one changes nothing.
     #[inline(always)]
     pub fn apply(&mut self, item: &EscItem) -> Result<(), Fault>

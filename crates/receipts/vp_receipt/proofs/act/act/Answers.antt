@@ -3,7 +3,7 @@ use Rattle.vp_receipt_settings.specs.Setup.{Setup}
 use Rattle.vp_esc.specs.declared.item.EscItem.{EscItem}
 use Rattle.vp_receipt_settings.specs.declared.page_mode.PrinterMode.TheVariants.{Standard}
 use Rattle.vp_receipt_settings.specs.Line.{height, line}
-use Rattle.vp_strips.specs.declared.canvas.Canvas.{Canvas}
+use Rattle.vp_strips.specs.Canvases.{Canvas, canvas_of}
 use Rattle.vp_strips.specs.declared.lines.Lines.{Lines}
 use Rattle.vp_strips.specs.declared.job.Job.{Job}
 use Rattle.vp_strips.specs.Held.{IsJob, IsShowing}
@@ -14,10 +14,10 @@ use Rattle.vp_receipt.proofs.Effects.{line_stays, on_paper, paper_mode, prints_o
 use Rattle.vp_receipt.proofs.act.act.Goals as goal
 
 pub returns-in-Standard : goal.returns-in-Standard
-returns-in-Standard c =
+returns-in-Standard g c =
     let s = c.args.s.now in
     let effect = c.args.effect in
-    let canvas = c.args.canvas.now in
+    let canvas = (canvas_of c.args.canvas.now) in
     record {
       sheets = refl;
       job = some_of c.printed.result (λ (job : Job). (canvas : Canvas) (lines : Lines) → IsJob job canvas lines) (λ (job : Job). (lines : Lines) → IsJob job canvas lines) (λ job h. h canvas) c.printed.ensures.job;

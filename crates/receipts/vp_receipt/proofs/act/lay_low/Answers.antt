@@ -7,7 +7,7 @@ use Rattle.vp_receipt.specs.PageMarks.{mark_of}
 use Rattle.vp_receipt.proofs.act.lay_low.Goals as goal
 
 pub returns : goal.returns
-returns c = λ dots layers rows page.
+returns g c = λ dots layers rows page.
     let mark = mark_of c.args.s.now.page c.args.s.now.height dots in
     let white = replicate {A = List ℕ} WORDS (replicate {A = ℕ} LINE_BYTES 0) in
     let high = c.from.result in

@@ -9,7 +9,7 @@ use Rattle.vp_receipt_settings.specs.declared.text.TheConstants.{LINE_ROWS}
 use Rattle.vp_receipt.proofs.act.lay_more.Goals as goal
 
 pub returns : goal.returns
-returns c = λ dots layers rows page.
+returns g c = λ dots layers rows page.
     let s = c.args.s.now in
     let lines = c.copy_rows.new.rows in
     let short = length_small s.page.area s.page.direction c.requires.fit.page.across c.requires.fit.page.down in

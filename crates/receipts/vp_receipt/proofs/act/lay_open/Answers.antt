@@ -7,12 +7,12 @@ use Rattle.vp_receipt.proofs.PageLines.{line_laid, page_held}
 use Rattle.vp_receipt.proofs.act.lay_open.Goals as goal
 
 pub returns-then-s-clause-page : goal.returns-then-s-clause-page
-returns-then-s-clause-page c = λ setup before h.
+returns-then-s-clause-page g c = λ setup before h.
     let page = c.count_anew.ensures (layers setup before) (page_held setup before c.args.s.now _ h c.requires.mode) in
     line_laid setup before c.args.s.now c.args.canvas.now.bitmap c.lay_line.new.page (CountedAnew ∷ layers setup before) h.settings c.requires.fit.height c.if-s.true h.line
     (λ rows. c.lay_line.ensures (line_dot (line setup before)) (CountedAnew ∷ layers setup before) rows page)
 
 pub returns-else-s-clause-page : goal.returns-else-s-clause-page
-returns-else-s-clause-page c = λ setup before h.
+returns-else-s-clause-page g c = λ setup before h.
     let shut : is_open (line setup before) ≡ false = sym (ap (λ (q : Settings). q.is_open) h.settings) ∙ c.if-s.false in
     rw shut (c.count_anew.ensures (layers setup before) (page_held setup before c.args.s.now _ h c.requires.mode))

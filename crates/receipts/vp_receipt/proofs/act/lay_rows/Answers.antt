@@ -7,7 +7,7 @@ use Rattle.vp_receipt.proofs.PageLines.{length_small}
 use Rattle.vp_receipt.proofs.act.lay_rows.Goals as goal
 
 pub loop-y-preserved : goal.loop-y-preserved
-loop-y-preserved c = λ dots layers rows page.
+loop-y-preserved g c = λ dots layers rows page.
     let long = length_small c.args.s.now.page.area c.args.s.now.page.direction c.requires.page.across c.requires.page.down in
     rows_make_an_image.more (mark_of c.args.s.now.page c.args.s.now.height dots) c.loop-y.y _ layers c.lay_row.new.self
     (λ u h. first_dots_of c.row-source.result.now _ u (omega arith)
@@ -15,5 +15,5 @@ loop-y-preserved c = λ dots layers rows page.
     (c.lay_row.ensures _ (c.loop-y.invariant dots layers rows page))
 
 pub returns : goal.returns
-returns c = λ dots layers rows page.
+returns g c = λ dots layers rows page.
     rows_make_an_image.all (mark_of c.args.s.now.page c.args.s.now.height dots) c.loop-y.y layers _ (λ u w e k. let h = rows.high u w e in omega arith) (omega arith) (c.loop-y.invariant dots layers rows page)

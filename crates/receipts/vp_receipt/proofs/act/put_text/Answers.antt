@@ -7,10 +7,10 @@ use Rattle.vp_receipt.proofs.act.put_text.Goals.{then-code-ge32, else-code-ge32}
 use Rattle.vp_receipt.proofs.act.put_text.Goals as goal
 
 pub loop-code-init : goal.loop-code-init
-loop-code-init c = none_put c.args.s.now c.args.sheets.now c.args.bitmap.now (length c.args.text.now - 0) c.requires.fit (omega (arith, c.requires.room))
+loop-code-init g c = none_put c.args.s.now c.args.sheets.now c.args.bitmap.now (length c.args.text.now - 0) c.requires.fit (omega (arith, c.requires.room))
 
 pub loop-code-preserved : goal.loop-code-preserved
-loop-code-preserved c =
+loop-code-preserved g c =
     let text = c.args.text.now in
     let k = c.loop-code.code-index in
     let b = get_or text k 0 in
@@ -30,10 +30,10 @@ loop-code-preserved c =
     ])
 
 pub with_character-now-requires-clause-fit : goal.with_character-now-requires-clause-fit
-with_character-now-requires-clause-fit c = c.loop-code.invariant.fit
+with_character-now-requires-clause-fit g c = c.loop-code.invariant.fit
 
 pub with_character-now-requires-clause-room : goal.with_character-now-requires-clause-room
-with_character-now-requires-clause-room c =
+with_character-now-requires-clause-room g c =
     let text = c.args.text.now in
     let k = c.loop-code.code-index in
     let left = length text - (k + 1) in
@@ -42,7 +42,7 @@ with_character-now-requires-clause-room c =
     (subst (λ n. Put c.args.s.now c.args.sheets.now c.args.bitmap.now (take k text) n c.loop-code.now c.loop-code.bitmap) some c.loop-code.invariant)
 
 pub returns : goal.returns
-returns c =
+returns g c =
     let text = c.args.text.now in
     let k = c.loop-code.code-index in
     let all : take k text ≡ text = take_all k text c.loop-code-test.false in

@@ -12,7 +12,7 @@ use Rattle.vp_receipt.proofs.ItemKinds.{is_qr}
 use Rattle.vp_receipt.proofs.drawn.drawn.Goals as goal
 
 pub returns-in-Ok-qr_symbol : goal.returns-in-Ok-qr_symbol
-returns-in-Ok-qr_symbol c =
+returns-in-Ok-qr_symbol g c =
     let s = c.args.s.now in
     let e = is_qr c.args.item.now c.in_default.not-Symbol c.requires.symbol in
     record {
@@ -31,6 +31,6 @@ returns-in-Ok-qr_symbol c =
     }
 
 pub returns-in-Err-qr_symbol : goal.returns-in-Err-qr_symbol
-returns-in-Err-qr_symbol c =
+returns-in-Err-qr_symbol g c =
     let e = is_qr c.args.item.now c.in_default.not-Symbol c.requires.symbol in
     rw e (search rules)

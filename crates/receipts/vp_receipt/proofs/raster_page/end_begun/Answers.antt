@@ -10,14 +10,14 @@ use Rattle.vp_receipt.proofs.PageRows.{inside_on_page, row_on_page, row_whole}
 use Rattle.vp_receipt.proofs.raster_page.end_begun.Goals as goal
 
 pub returns-then-bytes-room-clause-on_page : goal.returns-then-bytes-room-clause-on_page
-returns-then-bytes-room-clause-on_page c = λ setup before h.
+returns-then-bytes-room-clause-on_page g c = λ setup before h.
     let bytes = c.args.bytes.now in
     subst (λ xs. IsOnPage setup (bytes_after xs before) c.args.s.now c.take_all.new.self c.args.page.now) (sym (take_all (length bytes) bytes (omega arith)))
     (inside_on_page setup before c.args.s.now c.args.raster.now c.take_all.new.self bytes c.args.page.now (omega (arith, c.if-bytes-room.true, c.from-room.ensures, c.room.ensures)) h
     (c.take_all.ensures.gathers before h.raster))
 
 pub returns-clause-on_page : goal.returns-clause-on_page
-returns-clause-on_page c = λ setup before h.
+returns-clause-on_page g c = λ setup before h.
     let r = c.args.raster.now in
     let bytes = take (c.from-room.result + 1) c.args.bytes.now in
     let long : length bytes ≡ c.from-room.result + 1 = length-take-le (c.from-room.result + 1) c.args.bytes.now (omega (arith, c.if-bytes-room.false)) in

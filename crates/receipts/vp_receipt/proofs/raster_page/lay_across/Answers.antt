@@ -15,14 +15,14 @@ use Rattle.vp_receipt.proofs.PageLines.{length_small}
 use Rattle.vp_receipt.proofs.raster_page.lay_across.Goals as goal
 
 pub loop-k-init : goal.loop-k-init
-loop-k-init c = λ layers page.
+loop-k-init g c = λ layers page.
     let r = c.args.raster.now in
     let m = mark_of c.args.p (c.args.rows * times_down r.scale) (rows_dot r.scale r.bytes c.args.rows c.args.bytes.now) in
     let none : 0 ≡ min (64 * 0) c.args.rows = omega arith in
     subst (λ n. HasPage (Laid (first_rows n m) ∷ layers) c.args.page.now) none (rows_make_an_image.none m layers _ page)
 
 pub loop-k-preserved : goal.loop-k-preserved
-loop-k-preserved c = λ layers page.
+loop-k-preserved g c = λ layers page.
     let r = c.args.raster.now in
     let p = c.args.p in
     let bytes = c.args.bytes.now in
@@ -43,7 +43,7 @@ loop-k-preserved c = λ layers page.
     (c.lay_lines.ensures _ (subst (λ n. HasPage (Laid (first_rows n m) ∷ layers) c.loop-k.page) here (c.loop-k.invariant layers page))))
 
 pub returns : goal.returns
-returns c = λ layers page.
+returns g c = λ layers page.
     let r = c.args.raster.now in
     let m = mark_of c.args.p (c.args.rows * times_down r.scale) (rows_dot r.scale r.bytes c.args.rows c.args.bytes.now) in
     let once : c.args.rows * times_down r.scale ≡ c.args.rows * 1 = ap (λ (k : RasterScale). c.args.rows * times_down k) c.requires.once in

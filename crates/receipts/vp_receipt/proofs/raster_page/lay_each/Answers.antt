@@ -12,14 +12,14 @@ use Rattle.vp_page.specs.declared.line.TheConstants.{LINE_BYTES}
 use Rattle.vp_receipt.proofs.raster_page.lay_each.Goals as goal
 
 pub loop-k-init : goal.loop-k-init
-loop-k-init c = λ layers page.
+loop-k-init g c = λ layers page.
     let r = c.args.raster.now in
     let m = mark_of c.args.p (c.args.rows * times_down r.scale) (rows_dot r.scale r.bytes c.args.rows c.args.bytes.now) in
     let none : 0 ≡ 0 * times_down r.scale = omega arith in
     subst (λ n. HasPage (Laid (first_rows n m) ∷ layers) c.args.page.now) none (rows_make_an_image.none m layers _ page)
 
 pub loop-k-preserved : goal.loop-k-preserved
-loop-k-preserved c = λ layers page.
+loop-k-preserved g c = λ layers page.
     let r = c.args.raster.now in
     let dots = rows_dot r.scale r.bytes c.args.rows c.args.bytes.now in
     let m = mark_of c.args.p (c.args.rows * times_down r.scale) dots in
@@ -38,7 +38,7 @@ loop-k-preserved c = λ layers page.
     (subst (λ n. HasPage (Laid (first_rows n m) ∷ layers) c.loop-k.page) (sym at) (c.loop-k.invariant layers page)))
 
 pub returns : goal.returns
-returns c = λ layers page.
+returns g c = λ layers page.
     let r = c.args.raster.now in
     let dots = rows_dot r.scale r.bytes c.args.rows c.args.bytes.now in
     let m = mark_of c.args.p (c.args.rows * times_down r.scale) dots in

@@ -7,7 +7,7 @@ use Rattle.vp_receipt.proofs.raster_page.lay_each.Given as goal
 
 -- the rows above this one are laid
 abbrev pub invariant-loop-k : goal.invariant-loop-k
-invariant-loop-k l =
+invariant-loop-k g l =
     let m = mark_of l.fn.p (l.fn.rows * times_down l.fn.raster.scale) (rows_dot l.fn.raster.scale l.fn.raster.bytes l.fn.rows l.fn.bytes) in
     let d = times_down l.fn.raster.scale in
     (layers : List Layer) → HasPage layers l.fn.page → HasPage (Laid (first_rows (l.k * d) m) ∷ layers) l.page

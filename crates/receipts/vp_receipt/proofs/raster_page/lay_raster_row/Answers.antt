@@ -8,7 +8,7 @@ use Rattle.vp_receipt.proofs.RasterRows.{laid_row}
 use Rattle.vp_receipt.proofs.raster_page.lay_raster_row.Goals as goal
 
 pub returns : goal.returns
-returns c = λ setup before came layers e scale kept page.
+returns g c = λ setup before came layers e scale kept page.
     laid_row setup before c.args.s.now c.args.raster.now.scale came c.kept.result.now layers c.lay_scaled.new.page e scale (c.kept.ensures.bytes ∙ kept)
     (λ dots same high. let m = mark_of c.args.s.now.page (times_down c.args.raster.now.scale) dots in
     let d = times_down c.args.raster.now.scale in

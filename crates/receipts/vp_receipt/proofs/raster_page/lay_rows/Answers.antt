@@ -10,7 +10,7 @@ use Rattle.vp_receipt.proofs.RasterLines.{once_dots}
 use Rattle.vp_receipt.proofs.raster_page.lay_rows.Goals as goal
 
 pub returns-in-Normal-2 : goal.returns-in-Normal-2
-returns-in-Normal-2 c = λ layers page.
+returns-in-Normal-2 g c = λ layers page.
     let p = c.args.p in
     let r = c.args.raster.now in
     let rows = c.args.rows in

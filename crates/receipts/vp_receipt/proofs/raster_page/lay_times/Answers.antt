@@ -8,12 +8,12 @@ use Rattle.vp_receipt.proofs.PageLines.{length_small}
 use Rattle.vp_receipt.proofs.raster_page.lay_times.Goals as goal
 
 pub loop-y-init : goal.loop-y-init
-loop-y-init c = λ dots layers same page.
+loop-y-init g c = λ dots layers same page.
     let none : c.args.at ≡ c.args.at + 0 = omega arith in
     subst (λ n. HasPage (Laid (first_rows n (mark_of c.args.p 0 dots)) ∷ layers) c.args.page.now) none page
 
 pub loop-y-preserved : goal.loop-y-preserved
-loop-y-preserved c = λ dots layers same page.
+loop-y-preserved g c = λ dots layers same page.
     let p = c.args.p in
     let m = mark_of p 0 dots in
     let y = c.loop-y.y in
@@ -28,6 +28,6 @@ loop-y-preserved c = λ dots layers same page.
     (c.lay_row.ensures _ above)))
 
 pub returns : goal.returns
-returns c = λ dots layers same page.
+returns g c = λ dots layers same page.
     let all : c.loop-y.y ≡ c.args.times = omega arith in
     subst (λ n. HasPage (Laid (first_rows (c.args.at + n) (mark_of c.args.p 0 dots)) ∷ layers) c.loop-y.page) all (c.loop-y.invariant dots layers same page)

@@ -14,7 +14,7 @@ rows_in r long n wide rows part begins some few count all is =
     taken r long n part (begins some) some few (count ∙ ap (λ m. min m (long / wide)) all ∙ ap (λ w. min r.rows (long / w)) is)
 
 pub lay_rows-requires-clause-long : goal.lay_rows-requires-clause-long
-lay_rows-requires-clause-long c =
+lay_rows-requires-clause-long g c =
     let bytes = c.args.bytes.now in
     let r = c.args.raster.now in
     let n = c.min-rows.result in
@@ -25,7 +25,7 @@ lay_rows-requires-clause-long c =
     t.bytes
 
 pub pass-requires-clause-few : goal.pass-requires-clause-few
-pass-requires-clause-few c =
+pass-requires-clause-few g c =
     let bytes = c.args.bytes.now in
     let r = c.args.raster.now in
     let n = c.min-rows.result in
@@ -36,7 +36,7 @@ pass-requires-clause-few c =
     t.few
 
 pub overflow_mul-rows-2 : goal.overflow_mul-rows-2
-overflow_mul-rows-2 c =
+overflow_mul-rows-2 g c =
     let bytes = c.args.bytes.now in
     let r = c.args.raster.now in
     let n = c.min-rows.result in
@@ -48,7 +48,7 @@ overflow_mul-rows-2 c =
     omega (arith, end)
 
 pub slice_bounds-take_all-count : goal.slice_bounds-take_all-count
-slice_bounds-take_all-count c =
+slice_bounds-take_all-count g c =
     let bytes = c.args.bytes.now in
     let r = c.args.raster.now in
     let n = c.min-rows.result in
@@ -59,7 +59,7 @@ slice_bounds-take_all-count c =
     subst (λ w. n * w ≤ length bytes) (sym is) t.bytes
 
 pub take_all-requires-clause-few : goal.take_all-requires-clause-few
-take_all-requires-clause-few c =
+take_all-requires-clause-few g c =
     let bytes = c.args.bytes.now in
     let r = c.args.raster.now in
     let n = c.min-rows.result in
@@ -70,7 +70,7 @@ take_all-requires-clause-few c =
     rest_fits r c.pass.new.self bytes n wide t is c.pass.ensures.value
 
 pub returns-clause-on_page : goal.returns-clause-on_page
-returns-clause-on_page c = λ setup before h.
+returns-clause-on_page g c = λ setup before h.
     let r = c.args.raster.now in
     let bytes = c.args.bytes.now in
     let wide = c.from-wide.result in

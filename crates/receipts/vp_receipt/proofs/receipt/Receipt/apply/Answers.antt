@@ -17,7 +17,7 @@ use Rattle.vp_receipt.proofs.Showing.{shows_nothing}
 use Rattle.vp_receipt.proofs.receipt.Receipt.apply.Goals as goal
 
 pub returns-in-Nothing-clause-stands : goal.returns-in-Nothing-clause-stands
-returns-in-Nothing-clause-stands c = λ setup before h.
+returns-in-Nothing-clause-stands g c = λ setup before h.
     let was : Stands setup (printing_of c.self.inside) before = subst (λ (p : Printing). Stands setup p before) (sym c.self.view_is) h in
     let same = does_nothing setup before c.args.item.now (subst (λ (e : Effect). IsKind c.args.item.now e) (sym c.effect-effect.ensures ∙ c.in-Nothing.is) (kind_is c.self.inside.settings c.args.item.now)) in
     let none = ap (λ (p : Printing). p.pending) c.self.view_is ∙ c.requires in
@@ -36,53 +36,53 @@ returns-in-Nothing-clause-stands c = λ setup before h.
     }
 
 pub returns-in-QrByte-clause-refusal : goal.returns-in-QrByte-clause-refusal
-returns-in-QrByte-clause-refusal c = λ setup before h. ap (refusal setup before) c.in-QrByte.is ∙ (stores setup before c.in-QrByte.byte).refusal
+returns-in-QrByte-clause-refusal g c = λ setup before h. ap (refusal setup before) c.in-QrByte.is ∙ (stores setup before c.in-QrByte.byte).refusal
 
 pub returns-in-QrByte-clause-stands : goal.returns-in-QrByte-clause-stands
-returns-in-QrByte-clause-stands c = λ setup before h.
+returns-in-QrByte-clause-stands g c = λ setup before h.
     subst (λ (i : EscItem). Stands setup c.store.new.self (i ∷ before)) (sym c.in-QrByte.is) (c.store.ensures.stands setup before h)
 
 pub returns-in-QrByte-clause-pending : goal.returns-in-QrByte-clause-pending
-returns-in-QrByte-clause-pending c = λ setup before h.
+returns-in-QrByte-clause-pending g c = λ setup before h.
     c.store.ensures.pending ∙ sym (ap (prints setup before) c.in-QrByte.is ∙ (stores setup before c.in-QrByte.byte).prints)
 
 pub returns-in-Fills-clause-stands : goal.returns-in-Fills-clause-stands
-returns-in-Fills-clause-stands c = λ setup before h.
+returns-in-Fills-clause-stands g c = λ setup before h.
     let byte : c.args.item.now ≡ RasterByte c.in-Fills.byte = subst (λ (e : Effect). IsKind c.args.item.now e) (sym c.effect-effect.ensures ∙ c.in-Fills.is) (kind_is c.self.inside.settings c.args.item.now) in
     subst (λ (i : EscItem). Stands setup c.fill.new.self (i ∷ before)) (sym byte) (c.fill.ensures.stands setup before h)
 
 pub returns-in-Fills-clause-pending : goal.returns-in-Fills-clause-pending
-returns-in-Fills-clause-pending c = λ setup before h.
+returns-in-Fills-clause-pending g c = λ setup before h.
     let byte : c.args.item.now ≡ RasterByte c.in-Fills.byte = subst (λ (e : Effect). IsKind c.args.item.now e) (sym c.effect-effect.ensures ∙ c.in-Fills.is) (kind_is c.self.inside.settings c.args.item.now) in
     c.fill.ensures.pending setup before h ∙ ap (prints setup before) (sym byte)
 
 pub returns-in_default-effect : goal.returns-in_default-effect
-returns-in_default-effect c =
+returns-in_default-effect g c =
     let item = c.args.item.now in
     let acting = is_acting item c.effect-effect.result c.in_default-effect.not-Nothing c.in_default-effect.not-Fills c.in_default-effect.not-Draws
     (subst (λ (e : Effect). IsKind item e) (sym c.effect-effect.ensures) (kind_is c.self.inside.settings item)) in
     record { refusal = λ setup before h. no_refusal setup before item acting.symbol; stands = c.act.ensures.stands; pending = c.act.ensures.pending; err = tt }
 
 pub returns-in-Nothing-clause-refusal : goal.returns-in-Nothing-clause-refusal
-returns-in-Nothing-clause-refusal c = λ setup before h.
+returns-in-Nothing-clause-refusal g c = λ setup before h.
     (does_nothing setup before c.args.item.now (subst (λ (e : Effect). IsKind c.args.item.now e) (sym c.effect-effect.ensures ∙ c.in-Nothing.is) (kind_is c.self.inside.settings c.args.item.now))).refusal
 
 pub returns-in-Nothing-clause-pending : goal.returns-in-Nothing-clause-pending
-returns-in-Nothing-clause-pending c = λ setup before h.
+returns-in-Nothing-clause-pending g c = λ setup before h.
     let same = does_nothing setup before c.args.item.now (subst (λ (e : Effect). IsKind c.args.item.now e) (sym c.effect-effect.ensures ∙ c.in-Nothing.is) (kind_is c.self.inside.settings c.args.item.now)) in
     ap (λ (p : Printing). p.pending) c.self.view_is ∙ c.requires ∙ sym same.prints
 
 pub returns-in-Fills-clause-refusal : goal.returns-in-Fills-clause-refusal
-returns-in-Fills-clause-refusal c = λ setup before h.
+returns-in-Fills-clause-refusal g c = λ setup before h.
     let byte : c.args.item.now ≡ RasterByte c.in-Fills.byte = subst (λ (e : Effect). IsKind c.args.item.now e) (sym c.effect-effect.ensures ∙ c.in-Fills.is) (kind_is c.self.inside.settings c.args.item.now) in
     ap (refusal setup before) byte
 
 pub draw-requires-clause-symbol : goal.draw-requires-clause-symbol
-draw-requires-clause-symbol c =
+draw-requires-clause-symbol g c =
     subst (λ (e : Effect). IsKind c.args.item.now e) (sym c.effect-effect.ensures ∙ c.in-Draws.is) (kind_is c.self.inside.settings c.args.item.now)
 
 pub act-requires : goal.act-requires
-act-requires c =
+act-requires g c =
     let item = c.args.item.now in
     record {
       pending = c.requires;

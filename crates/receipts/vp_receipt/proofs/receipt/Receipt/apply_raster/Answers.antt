@@ -16,19 +16,20 @@ use Rattle.vp_receipt.proofs.PageLines.{mode_is, has_page}
 use Rattle.vp_receipt.proofs.PageRows.{nothing_printed, gathers_still}
 use Rattle.vp_receipt.proofs.Runs.{page_stays, paper_stays}
 use Rattle.vp_receipt.proofs.Showing.{shows_nothing, nothing_shown}
+use Rattle.vp_strips.specs.Canvases.{canvas_of}
 use Rattle.vp_receipt.proofs.receipt.Receipt.apply_raster.Goals as goal
 
 pub invariant_of-self-in-Page : goal.invariant_of-self-in-Page
-invariant_of-self-in-Page c = record { fit = c.take_run.ensures.fit; raster = c.take_run.ensures.part; job = c.none-self-inside.ensures.job _ _; turned = c.none-self-inside.ensures.turned }
+invariant_of-self-in-Page g c = record { fit = c.take_run.ensures.fit; raster = c.take_run.ensures.part; job = c.none-self-inside.ensures.job _ _; turned = c.none-self-inside.ensures.turned }
 
 few_in : (m n : PrinterMode) (r : Raster) (long : ℕ) → m ≡ n → long ≤ run_of m r → long ≤ run_of n r
 few_in m n r long e h = subst (λ (k : PrinterMode). long ≤ run_of k r) e h
 
 pub returns-in-Standard-clause-prints : goal.returns-in-Standard-clause-prints
-returns-in-Standard-clause-prints c = λ setup before h. paper_stays setup c.args.self.now.raster c.args.bytes.now before (few_in _ Standard c.args.self.now.raster _ (ap (λ (p : Printing). p.settings.page.mode) (sym c.self.view_is) ∙ c.in-Standard.is) c.requires.few) h.raster
+returns-in-Standard-clause-prints g c = λ setup before h. paper_stays setup c.args.self.now.raster c.args.bytes.now before (few_in _ Standard c.args.self.now.raster _ (ap (λ (p : Printing). p.settings.page.mode) (sym c.self.view_is) ∙ c.in-Standard.is) c.requires.few) h.raster
 
 pub returns-in-Standard-clause-stands : goal.returns-in-Standard-clause-stands
-returns-in-Standard-clause-stands c = λ setup before h.
+returns-in-Standard-clause-stands g c = λ setup before h.
     let bytes = c.args.bytes.now in
     let in_row = run_inside c.args.self.now.raster bytes before (few_in _ Standard c.args.self.now.raster _ (ap (λ (p : Printing). p.settings.page.mode) (sym c.self.view_is) ∙ c.in-Standard.is) c.requires.few) h.raster in
     record {
@@ -46,12 +47,12 @@ returns-in-Standard-clause-stands c = λ setup before h.
     }
 
 pub returns-in-Page-clause-prints : goal.returns-in-Page-clause-prints
-returns-in-Page-clause-prints c = λ setup before h.
+returns-in-Page-clause-prints g c = λ setup before h.
     let was : c.self.inside.settings ≡ settings_of setup before = ap (λ (p : Printing). p.settings) c.self.view_is ∙ h.settings in
     nothing_printed setup c.args.bytes.now before (mode_is setup before c.self.inside.settings Page was c.in-Page.is)
 
 pub returns-in-Page-clause-stands : goal.returns-in-Page-clause-stands
-returns-in-Page-clause-stands c = λ setup before h.
+returns-in-Page-clause-stands g c = λ setup before h.
     let was : Stands setup (printing_of c.self.inside) before = subst (λ (p : Printing). Stands setup p before) (sym c.self.view_is) h in
     let bytes = c.args.bytes.now in
     let after = bytes_after bytes before in
@@ -60,7 +61,7 @@ returns-in-Page-clause-stands c = λ setup before h.
     let page : HasPage (layers setup before) r.canvas.page = subst (λ (m : PrinterMode). HasPageIf m (layers setup before) r.canvas.page) is was.page in
     let on : IsOnPage setup before r.settings r.raster r.canvas.page = record { settings = was.settings; raster = was.raster; page = page } in
     let now = c.take_run.ensures.on_page setup before on in
-    let none = c.none-self-inside.ensures.text (record r.canvas { page = c.take_run.new.page }) in
+    let none = c.none-self-inside.ensures.text (record (canvas_of r.canvas) { page = c.take_run.new.page }) in
     record {
       sheets = was.sheets;
       settings = now.settings;
@@ -69,6 +70,6 @@ returns-in-Page-clause-stands c = λ setup before h.
       stored = subst (IsStored r.stored) (sym (data_stay bytes before)) was.stored;
       line = gathers_still setup bytes before r.canvas.sheets r.settings c.take_run.new.s r.canvas.bitmap r.waiting was.settings now.settings was.line;
       page = has_page (mode setup after) (layers setup after) c.take_run.new.page now.page;
-      shows = nothing_shown setup _ _ after (c.none-self-inside.ensures.shows (record r.canvas { page = c.take_run.new.page }));
+      shows = nothing_shown setup _ _ after (c.none-self-inside.ensures.shows (record (canvas_of r.canvas) { page = c.take_run.new.page }));
       of_page = λ left. absurd (omega (arith, left, ap length none));
     }

@@ -10,26 +10,27 @@ use Rattle.vp_receipt.specs.Printer.{printing_of}
 use Rattle.vp_receipt.specs.Standing.{Printing, Gathers, HasPageIf, Stands}
 use Rattle.vp_receipt.proofs.ItemKinds.{stores_all, raster_ends}
 use Rattle.vp_receipt.proofs.Showing.{shows_nothing}
+use Rattle.vp_strips.specs.Canvases.{canvas_of}
 use Rattle.vp_receipt.proofs.receipt.Receipt.apply_stored.Goals as goal
 
 pub invariant_of-self : goal.invariant_of-self
-invariant_of-self c = record { fit = c.self.invariant.fit; raster = c.end.ensures.part; job = c.self.invariant.job; turned = c.self.invariant.turned }
+invariant_of-self g c = record { fit = c.self.invariant.fit; raster = c.end.ensures.part; job = c.self.invariant.job; turned = c.self.invariant.turned }
 
 pub returns-clause-prints : goal.returns-clause-prints
-returns-clause-prints c = λ setup before h. (stores_all setup c.args.bytes.now before).printed
+returns-clause-prints g c = λ setup before h. (stores_all setup c.args.bytes.now before).printed
 
 pub returns-clause-pending : goal.returns-clause-pending
-returns-clause-pending c = ap (λ (p : Printing). p.pending) c.self.view_is ∙ c.requires
+returns-clause-pending g c = ap (λ (p : Printing). p.pending) c.self.view_is ∙ c.requires
 
 pub returns-clause-stands : goal.returns-clause-stands
-returns-clause-stands c = λ setup before h.
+returns-clause-stands g c = λ setup before h.
     let was : Stands setup (printing_of c.self.inside) before = subst (λ (p : Printing). Stands setup p before) (sym c.self.view_is) h in
     let bytes = c.args.bytes.now in
     let after = stored_after bytes before in
     let same = stores_all setup bytes before in
     let some : 0 < length bytes = grind (arith, nat_tests, c.is_empty.ensures, c.if-is_empty.false) in
     let r = c.self.inside in
-    let none : job_text r.job r.canvas ≡ [] = ap (λ (p : Printing). p.pending) c.self.view_is ∙ c.requires in
+    let none : job_text r.job (canvas_of r.canvas) ≡ [] = ap (λ (p : Printing). p.pending) c.self.view_is ∙ c.requires in
     record {
       sheets = was.sheets;
       settings = was.settings ∙ sym same.settings;

@@ -11,30 +11,31 @@ use Rattle.vp_receipt.specs.Printer.{printing_of}
 use Rattle.vp_receipt.specs.Standing.{Printing, Stands, HasPageIf}
 use Rattle.vp_receipt.proofs.Showing.{nothing_shown, is_done, text_done, shows_done, job_done}
 use Rattle.vp_receipt.proofs.Texts.{text_ends}
+use Rattle.vp_strips.specs.Canvases.{canvas_of}
 use Rattle.vp_receipt.proofs.receipt.Receipt.apply_text.Goals as goal
 
 pub invariant_of-self : goal.invariant_of-self
-invariant_of-self c =
+invariant_of-self g c =
     let r = c.self.inside in
-    let none : job_text r.job r.canvas ≡ [] = ap (λ (p : Printing). p.pending) c.self.view_is ∙ c.requires.pending in
-    record { fit = c.put_text.ensures.fit; raster = c.end.ensures.part; job = job_done r.job r.canvas _ r.lines c.self.invariant.job none; turned = c.self.invariant.turned }
+    let none : job_text r.job (canvas_of r.canvas) ≡ [] = ap (λ (p : Printing). p.pending) c.self.view_is ∙ c.requires.pending in
+    record { fit = c.put_text.ensures.fit; raster = c.end.ensures.part; job = job_done r.job (canvas_of r.canvas) _ r.lines c.self.invariant.job none; turned = c.self.invariant.turned }
 
 pub returns-clause-pending : goal.returns-clause-pending
-returns-clause-pending c =
+returns-clause-pending g c =
     let r = c.self.inside in
-    let none : job_text r.job r.canvas ≡ [] = ap (λ (p : Printing). p.pending) c.self.view_is ∙ c.requires.pending in
-    text_done r.job _ (is_done r.job r.canvas r.lines c.self.invariant.job none) c.self.invariant.turned
+    let none : job_text r.job (canvas_of r.canvas) ≡ [] = ap (λ (p : Printing). p.pending) c.self.view_is ∙ c.requires.pending in
+    text_done r.job _ (is_done r.job (canvas_of r.canvas) r.lines c.self.invariant.job none) c.self.invariant.turned
 
 pub returns-clause-stands : goal.returns-clause-stands
-returns-clause-stands c = λ setup before h.
+returns-clause-stands g c = λ setup before h.
     let was : Stands setup (printing_of c.self.inside) before = subst (λ (p : Printing). Stands setup p before) (sym c.self.view_is) h in
     let text = c.args.text.now in
     let some : 0 < length text = grind (arith, nat_tests, c.is_empty.ensures, c.if-is_empty.false) in
     let r = c.self.inside in
     let alone = c.put_text.ensures.others setup before was.settings in
-    let empty : job_text r.job r.canvas ≡ [] = ap (λ (p : Printing). p.pending) c.self.view_is ∙ c.requires.pending in
-    let place = is_done r.job r.canvas r.lines c.self.invariant.job empty in
-    let none : job_text r.job (record r.canvas { bitmap = c.put_text.new.bitmap }) ≡ [] = text_done r.job _ place c.self.invariant.turned in
+    let empty : job_text r.job (canvas_of r.canvas) ≡ [] = ap (λ (p : Printing). p.pending) c.self.view_is ∙ c.requires.pending in
+    let place = is_done r.job (canvas_of r.canvas) r.lines c.self.invariant.job empty in
+    let none : job_text r.job (record (canvas_of r.canvas) { bitmap = c.put_text.new.bitmap }) ≡ [] = text_done r.job _ place c.self.invariant.turned in
     record {
       sheets = was.sheets;
       settings = c.put_text.ensures.settings setup before was.settings;

@@ -1,13 +1,13 @@
 use Rattle.std.proofs.Common.{◌≡◌, ℕ, true, false, ◌&&◌, refl, length, arith, List, [], ◌∷◌, Option, Some, None, ap, sym, ◌∙◌, subst}
 use Rattle.vp_esc.specs.declared.item.EscItem.TheVariants.{RasterByte}
 use Rattle.vp_page.specs.Layers.{Layer}
-use Rattle.vp_glyph.specs.declared.Sheets.{Sheets}
+use Rattle.vp_glyph.specs.Sheets.{Sheets}
 use Rattle.vp_receipt_settings.specs.declared.settings.Settings.{Settings}
 use Rattle.vp_receipt_settings.specs.Symbols.{IsStored, qr_data}
 use Rattle.vp_receipt_settings.specs.declared.page_mode.PrinterMode.{PrinterMode}
 use Rattle.vp_receipt_settings.specs.declared.page_mode.PrinterMode.TheVariants.{Standard, Page}
 use Rattle.vp_receipt_settings.specs.Pages.{is_paged}
-use Rattle.vp_strips.specs.declared.canvas.Canvas.{Canvas}
+use Rattle.vp_strips.specs.Canvases.{Canvas}
 use Rattle.vp_receipt_settings.specs.declared.text.Text.{Text}
 use Rattle.vp_receipt_settings.specs.Line.{line, mode, Placed}
 use Rattle.vp_receipt_settings.specs.Settings.{settings_of, image_of}
@@ -21,7 +21,7 @@ use Rattle.vp_receipt.proofs.Showing.{shows_nothing}
 use Rattle.vp_receipt.proofs.receipt.Receipt.fill.Goals as goal
 
 pub invariant_of-self : goal.invariant_of-self
-invariant_of-self c = record { fit = c.after_row-self-inside.ensures.fit; raster = c.take.ensures.part; job = c.act_on_row-self-inside.ensures.job _; turned = c.act_on_row-self-inside.ensures.turned }
+invariant_of-self g c = record { fit = c.after_row-self-inside.ensures.fit; raster = c.take.ensures.part; job = c.act_on_row-self-inside.ensures.job _; turned = c.act_on_row-self-inside.ensures.turned }
 
 row_of_no_page : (m : PrinterMode) → false ≡ is_paged m && false
 row_of_no_page Standard = refl
@@ -32,7 +32,7 @@ gathers_same sheets s t bitmap None placed e h = h
 gathers_same sheets s t bitmap (Some code) placed e h = subst (λ (x : Text). placed ≡ record { at = 0; image = image_of sheets x code } ∷ []) e h
 
 pub returns-then-take-clause-stands : goal.returns-then-take-clause-stands
-returns-then-take-clause-stands c = λ setup before h.
+returns-then-take-clause-stands g c = λ setup before h.
     let byte = c.args.byte in
     let was : c.self.inside.settings ≡ settings_of setup before = ap (λ (p : Printing). p.settings) c.self.view_is ∙ h.settings in
     let come = subst (λ (p : Printing). IsGathering p.raster before) (sym c.self.view_is) h.raster in
@@ -58,7 +58,7 @@ returns-then-take-clause-stands c = λ setup before h.
     }
 
 pub returns-else-take-clause-stands : goal.returns-else-take-clause-stands
-returns-else-take-clause-stands c = λ setup before h.
+returns-else-take-clause-stands g c = λ setup before h.
     let byte = c.args.byte in
     let come = subst (λ (p : Printing). IsGathering p.raster before) (sym c.self.view_is) h.raster in
     let ends : is_row_end before ≡ false = sym (c.take.ensures.ends before come) ∙ c.if-take.false in

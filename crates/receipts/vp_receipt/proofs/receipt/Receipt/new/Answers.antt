@@ -2,10 +2,10 @@ use Rattle.std.proofs.Common.{refl}
 use Rattle.vp_receipt.proofs.receipt.Receipt.new.Goals as goal
 
 pub invariant_of-result : goal.invariant_of-result
-invariant_of-result c = record { fit = c.start.ensures.fit; raster = c.none.ensures.part; job = c.none-4.ensures.job _ _; turned = c.none-4.ensures.turned }
+invariant_of-result g c = record { fit = c.start.ensures.fit; raster = c.none.ensures.part; job = c.none-4.ensures.job _ _; turned = c.none-4.ensures.turned }
 
 pub returns-clause-stands : goal.returns-clause-stands
-returns-clause-stands c = record {
+returns-clause-stands g c = record {
   sheets = refl;
   settings = c.start.ensures.settings (record { width = c.args.width; sheets = c.args.sheets }) refl;
   stops = c.first_stops.ensures;

@@ -15,18 +15,18 @@ use Rattle.vp_receipt.proofs.Showing.{shows_nothing}
 use Rattle.vp_receipt.proofs.receipt.Receipt.put_rows.Goals as goal
 
 pub returns-then-is_plain-clause-count : goal.returns-then-is_plain-clause-count
-returns-then-is_plain-clause-count c =
+returns-then-is_plain-clause-count g c =
     let r = c.self.inside in
     c.put_plain.ensures.count ∙ put_is r.settings r.raster (length c.args.bytes.now) (sym c.is_plain.ensures ∙ c.if-is_plain.true)
     ∙ ap (λ (p : Printing). rows_put p.settings p.raster (length c.args.bytes.now)) c.self.view_is
 
 pub returns-then-is_plain-clause-prints : goal.returns-then-is_plain-clause-prints
-returns-then-is_plain-clause-prints c = λ setup before h.
+returns-then-is_plain-clause-prints g c = λ setup before h.
     let was : Stands setup (printing_of c.self.inside) before = subst (λ (p : Printing). Stands setup p before) (sym c.self.view_is) h in
     (c.put_plain.ensures.on_paper setup before was.settings was.raster).printed
 
 pub returns-then-is_plain-clause-stands : goal.returns-then-is_plain-clause-stands
-returns-then-is_plain-clause-stands c = λ setup before h.
+returns-then-is_plain-clause-stands g c = λ setup before h.
     let was : Stands setup (printing_of c.self.inside) before = subst (λ (p : Printing). Stands setup p before) (sym c.self.view_is) h in
     let bytes = c.args.bytes.now in
     let after = bytes_after bytes before in
@@ -47,22 +47,22 @@ returns-then-is_plain-clause-stands c = λ setup before h.
     }
 
 pub put_plain-requires-clause-few : goal.put_plain-requires-clause-few
-put_plain-requires-clause-few c =
+put_plain-requires-clause-few g c =
     let r = c.self.inside in
     let n = length c.args.bytes.now in
     let o = length c.args.output.now in
     subst (λ m. n ≤ m) (sym (ap (λ (p : Printing). rows_room p.settings p.raster o) c.self.view_is) ∙ room_plain r.settings r.raster o (sym c.is_plain.ensures ∙ c.if-is_plain.true)) c.requires.few
 
 pub apply_raster-requires-clause-few : goal.apply_raster-requires-clause-few
-apply_raster-requires-clause-few c =
+apply_raster-requires-clause-few g c =
     let r = c.self.inside in
     let n = length c.args.bytes.now in
     let o = length c.args.output.now in
     subst (λ m. n ≤ m) (room_else c.args.self.now.settings c.args.self.now.raster o (sym (ap (λ (p : Printing). is_plain p.settings p.raster) c.self.view_is) ∙ sym c.is_plain.ensures ∙ c.if-is_plain.false)) c.requires.few
 
 pub returns-clause-count : goal.returns-clause-count
-returns-clause-count c =
+returns-clause-count g c =
     none_put c.args.self.now.settings c.args.self.now.raster (length c.args.bytes.now) (sym (ap (λ (p : Printing). is_plain p.settings p.raster) c.self.view_is) ∙ sym c.is_plain.ensures ∙ c.if-is_plain.false)
 
 pub returns-clause-prints : goal.returns-clause-prints
-returns-clause-prints c = λ setup before h. c.apply_raster.ensures.prints setup before h ∙ sym (append-nil (printed setup before))
+returns-clause-prints g c = λ setup before h. c.apply_raster.ensures.prints setup before h ∙ sym (append-nil (printed setup before))

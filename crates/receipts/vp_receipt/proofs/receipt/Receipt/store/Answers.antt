@@ -9,20 +9,21 @@ use Rattle.vp_receipt.specs.Printer.{printing_of}
 use Rattle.vp_receipt.specs.Standing.{Printing, Gathers, HasPageIf, Stands}
 use Rattle.vp_receipt.proofs.ItemKinds.{stores}
 use Rattle.vp_receipt.proofs.Showing.{shows_nothing}
+use Rattle.vp_strips.specs.Canvases.{canvas_of}
 use Rattle.vp_receipt.proofs.receipt.Receipt.store.Goals as goal
 
 pub invariant_of-self : goal.invariant_of-self
-invariant_of-self c = record { fit = c.self.invariant.fit; raster = c.begin.ensures.part; job = c.self.invariant.job; turned = c.self.invariant.turned }
+invariant_of-self g c = record { fit = c.self.invariant.fit; raster = c.begin.ensures.part; job = c.self.invariant.job; turned = c.self.invariant.turned }
 
 pub returns-clause-pending : goal.returns-clause-pending
-returns-clause-pending c = ap (λ (p : Printing). p.pending) c.self.view_is ∙ c.requires
+returns-clause-pending g c = ap (λ (p : Printing). p.pending) c.self.view_is ∙ c.requires
 
 pub returns-clause-stands : goal.returns-clause-stands
-returns-clause-stands c = λ setup before h.
+returns-clause-stands g c = λ setup before h.
     let was : Stands setup (printing_of c.self.inside) before = subst (λ (p : Printing). Stands setup p before) (sym c.self.view_is) h in
     let same = stores setup before c.args.byte in
     let r = c.self.inside in
-    let none : job_text r.job r.canvas ≡ [] = ap (λ (p : Printing). p.pending) c.self.view_is ∙ c.requires in
+    let none : job_text r.job (canvas_of r.canvas) ≡ [] = ap (λ (p : Printing). p.pending) c.self.view_is ∙ c.requires in
     record {
       sheets = was.sheets;
       settings = was.settings ∙ sym same.settings;
