@@ -12,7 +12,6 @@ use Rattle.vp_dots.proofs.Words.{word_row}
 use Rattle.vp_glyph.specs.Sheets.{Glyphs}
 use Rattle.vp_glyph.specs.Texts.{sampled_dot, text_dot}
 use Rattle.vp_glyph.specs.Blocks.{lines_dot, block_lines, block_height, block_dot}
-use Rattle.vp_glyph.specs.Runs.{in_eights}
 use Rattle.vp_glyph.proofs.Layouts.{layout}
 use Rattle.vp_glyph.specs.declared.block.Alignment.{Alignment}
 use Rattle.vp_glyph.proofs.Looks.{or_dot, white_dot}
@@ -52,8 +51,8 @@ shown rows above h y x = leb above y && ltb (y - above) h && word_dot (get_or ro
 
 module _ (rows : List ℕ) (above h n top : ℕ) where
   -- the rows before r are added to the fronts
-  abbrev pub Added : ℕ → (ℕ → ℕ) → (ℕ → ℕ) → Type 0
-  Added r old new = (i x : ℕ) → i < n → x < 64 → word_dot (new i) x ≡ (word_dot (old i) x || ltb (top + i) (above + edge_at 24 h r) && shown rows above h (top + i) x)
+  abbrev pub Added : ℕ → List ℕ → List ℕ → Type 0
+  Added r old new = (i x : ℕ) → i < n → x < 64 → word_dot (get_or new i 0) x ≡ (word_dot (get_or old i 0) x || ltb (top + i) (above + edge_at 24 h r) && shown rows above h (top + i) x)
 
   shown_above : (y x : ℕ) → y < above → shown rows above h y x ≡ false
   shown_above y x l = rw (lt-leb above y l) refl
@@ -67,16 +66,16 @@ module _ (rows : List ℕ) (above h n top : ℕ) where
       let p = row_shown h r (y - above) k (omega arith) (omega arith) in
       rw (le-leb above y (omega arith), lt-ltb (y - above) h p.0, p.1) refl
 
-  pub added_none : (old : ℕ → ℕ) → Added 0 old old
+  pub added_none : (old : List ℕ) → Added 0 old old
   added_none old i x l m =
       let e = edge_first 24 h (omega arith) in
       let none : (ltb (top + i) (above + edge_at 24 h 0) && shown rows above h (top + i) x) ≡ false = elim (cases_lt (top + i) above) [
         | inl k ↦ ap (λ t. ltb (top + i) (above + edge_at 24 h 0) && t) (shown_above (top + i) x k) ∙ and_false _
         | inr g ↦ rw (le-ltb (top + i) (above + edge_at 24 h 0) (omega arith)) refl
       ] in
-      or_false _ ∙ ap (λ t. word_dot (old i) x || t) (sym none)
+      or_false _ ∙ ap (λ t. word_dot (get_or old i 0) x || t) (sym none)
 
-  module _ (r : ℕ) (old mid : ℕ → ℕ) (k : r < 24) (o : Added r old mid) where
+  module _ (r : ℕ) (old mid : List ℕ) (k : r < 24) (o : Added r old mid) where
     -- where row r isn't shown
     unchanged : (i : ℕ) → (above + edge_at 24 h r ≤ top + i → top + i < above + edge_at 24 h (r + 1) → ⊥) → ltb (top + i) (above + edge_at 24 h r) ≡ ltb (top + i) (above + edge_at 24 h (r + 1))
     unchanged i g =
@@ -90,31 +89,31 @@ module _ (rows : List ℕ) (above h n top : ℕ) where
         ]
 
     same : (i x : ℕ) → i < n → x < 64 → (above + edge_at 24 h r ≤ top + i → top + i < above + edge_at 24 h (r + 1) → ⊥)
-        → word_dot (mid i) x ≡ (word_dot (old i) x || ltb (top + i) (above + edge_at 24 h (r + 1)) && shown rows above h (top + i) x)
-    same i x l m g = o i x l m ∙ ap (λ t. word_dot (old i) x || t && shown rows above h (top + i) x) (unchanged i g)
+        → word_dot (get_or mid i 0) x ≡ (word_dot (get_or old i 0) x || ltb (top + i) (above + edge_at 24 h (r + 1)) && shown rows above h (top + i) x)
+    same i x l m g = o i x l m ∙ ap (λ t. word_dot (get_or old i 0) x || t && shown rows above h (top + i) x) (unchanged i g)
 
     -- on one that shows it
     within : (i x : ℕ) → i < n → x < 64 → above + edge_at 24 h r ≤ top + i → top + i < above + edge_at 24 h (r + 1)
-        → (word_dot (mid i) x || word_dot (get_or rows r 0) x) ≡ (word_dot (old i) x || ltb (top + i) (above + edge_at 24 h (r + 1)) && shown rows above h (top + i) x)
+        → (word_dot (get_or mid i 0) x || word_dot (get_or rows r 0) x) ≡ (word_dot (get_or old i 0) x || ltb (top + i) (above + edge_at 24 h (r + 1)) && shown rows above h (top + i) x)
     within i x l m y z =
-        ap (λ t. t || word_dot (get_or rows r 0) x) (o i x l m ∙ ap (λ t. word_dot (old i) x || t && shown rows above h (top + i) x) (le-ltb (top + i) (above + edge_at 24 h r) y) ∙ sym (or_false _))
-        ∙ ap (λ t. word_dot (old i) x || t) (sym (shown_row r (top + i) x k y z))
-        ∙ ap (λ t. word_dot (old i) x || t && shown rows above h (top + i) x) (sym (lt-ltb (top + i) (above + edge_at 24 h (r + 1)) z))
+        ap (λ t. t || word_dot (get_or rows r 0) x) (o i x l m ∙ ap (λ t. word_dot (get_or old i 0) x || t && shown rows above h (top + i) x) (le-ltb (top + i) (above + edge_at 24 h r) y) ∙ sym (or_false _))
+        ∙ ap (λ t. word_dot (get_or old i 0) x || t) (sym (shown_row r (top + i) x k y z))
+        ∙ ap (λ t. word_dot (get_or old i 0) x || t && shown rows above h (top + i) x) (sym (lt-ltb (top + i) (above + edge_at 24 h (r + 1)) z))
 
     -- a white row
     pub added_white : get_or rows r 0 ≡ 0 → Added (r + 1) old mid
     added_white e i x l m = elim (cases_lt (top + i) (above + edge_at 24 h r)) [
       | inl y ↦ same i x l m (λ p q. absurd (omega arith))
       | inr y ↦ elim (cases_lt (top + i) (above + edge_at 24 h (r + 1))) [
-        | inl z ↦ or_false _ ∙ ap (λ t. word_dot (mid i) x || t) (sym (ap (λ v. word_dot v x) e ∙ white_dot x)) ∙ within i x l m y z
+        | inl z ↦ or_false _ ∙ ap (λ t. word_dot (get_or mid i 0) x || t) (sym (ap (λ v. word_dot v x) e ∙ white_dot x)) ∙ within i x l m y z
         | inr z ↦ same i x l m (λ p q. absurd (omega arith))
       ]
     ]
 
     -- another one
-    pub added_more : (from to : ℕ) (new : ℕ → ℕ) → from ≡ min (above + edge_at 24 h r - top) n → to ≡ min (above + edge_at 24 h (r + 1) - top) n
-        → ((i x : ℕ) → from ≤ i → i < to → word_dot (new i) x ≡ (word_dot (mid i) x || word_dot (get_or rows r 0) x))
-        → ((i : ℕ) → span from to i ≡ false → new i ≡ mid i) → Added (r + 1) old new
+    pub added_more : (from to : ℕ) (new : List ℕ) → from ≡ min (above + edge_at 24 h r - top) n → to ≡ min (above + edge_at 24 h (r + 1) - top) n
+        → ((i x : ℕ) → from ≤ i → i < to → word_dot (get_or new i 0) x ≡ (word_dot (get_or mid i 0) x || word_dot (get_or rows r 0) x))
+        → ((i : ℕ) → span from to i ≡ false → get_or new i 0 ≡ get_or mid i 0) → Added (r + 1) old new
     added_more from to new e f q u i x l m = elim (cases_lt i from) [
       | inl y ↦ ap (λ c. word_dot c x) (u i (rw (lt-leb from i y) refl)) ∙ same i x l m (λ p v. absurd (omega arith))
       | inr y ↦ elim (cases_lt i to) [
@@ -124,10 +123,10 @@ module _ (rows : List ℕ) (above h n top : ℕ) where
     ]
 
   -- all rows
-  pub added_all : (r : ℕ) (old new : ℕ → ℕ) → r ≡ 24 → Added r old new → (i x : ℕ) → i < n → x < 64 → word_dot (new i) x ≡ (word_dot (old i) x || shown rows above h (top + i) x)
+  pub added_all : (r : ℕ) (old new : List ℕ) → r ≡ 24 → Added r old new → (i x : ℕ) → i < n → x < 64 → word_dot (get_or new i 0) x ≡ (word_dot (get_or old i 0) x || shown rows above h (top + i) x)
   added_all r old new z o i x l m =
       let e = edge_last 24 h (omega arith) in
-      o i x l m ∙ ap (λ t. word_dot (old i) x || t) (elim (cases_lt (top + i) (above + edge_at 24 h r)) [
+      o i x l m ∙ ap (λ t. word_dot (get_or old i 0) x || t) (elim (cases_lt (top + i) (above + edge_at 24 h r)) [
         | inl k ↦ rw (lt-ltb (top + i) (above + edge_at 24 h r) k) refl
         | inr g ↦
             let none = shown_below (top + i) x (let f = ap (edge_at 24 h) z in omega (arith, f)) in
@@ -198,69 +197,6 @@ blackened_more ink from i old mid l m b = record {
     ])
   ];
 }
-
-or_swap : (a b c : Bool) → ((a || c) || b) ≡ ((a || b) || c)
-or_swap true b c = refl
-or_swap false true true = refl
-or_swap false true false = refl
-or_swap false false true = refl
-or_swap false false false = refl
-
-or_assoc : (a b c : Bool) → (a || (b || c)) ≡ ((a || b) || c)
-or_assoc true b c = refl
-or_assoc false b c = refl
-
-before_span : (from to i : ℕ) → i < from → span from to i ≡ false
-before_span from to i l = rw (lt-leb from i l) refl
-
-behind_span : (from to i : ℕ) → to ≤ i → span from to i ≡ false
-behind_span from to i l = ap (λ t. leb from i && t) (le-ltb i to l) ∙ and_false (leb from i)
-
--- words of which some have dots alone and some with seven others
-module _ (ink : ℕ) where
-  alone_more : (a b e : List ℕ) (i x : ℕ) → word_dot (get_or b i 0) x ≡ (word_dot (get_or a i 0) x || word_dot ink x) → word_dot (in_eights b e i) x ≡ (word_dot (in_eights a e i) x || word_dot ink x)
-  alone_more a b e i x h =
-      or_dot (get_or b i 0) (get_or e (i / 8) 0) x ∙ ap (λ t. t || word_dot (get_or e (i / 8) 0) x) h
-      ∙ or_swap (word_dot (get_or a i 0) x) (word_dot (get_or e (i / 8) 0) x) (word_dot ink x)
-      ∙ ap (λ t. t || word_dot ink x) (sym (or_dot (get_or a i 0) (get_or e (i / 8) 0) x))
-
-  eights_more : (a e f : List ℕ) (i x : ℕ) → word_dot (get_or f (i / 8) 0) x ≡ (word_dot (get_or e (i / 8) 0) x || word_dot ink x) → word_dot (in_eights a f i) x ≡ (word_dot (in_eights a e i) x || word_dot ink x)
-  eights_more a e f i x h =
-      or_dot (get_or a i 0) (get_or f (i / 8) 0) x ∙ ap (λ t. word_dot (get_or a i 0) x || t) h
-      ∙ or_assoc (word_dot (get_or a i 0) x) (word_dot (get_or e (i / 8) 0) x) (word_dot ink x)
-      ∙ ap (λ t. t || word_dot ink x) (sym (or_dot (get_or a i 0) (get_or e (i / 8) 0) x))
-
-  module _ (from to : ℕ) (a b e : List ℕ) (p : Blackened ink from to a b) where
-    pub few_inside : (i x : ℕ) → from ≤ i → i < to → word_dot (in_eights b e i) x ≡ (word_dot (in_eights a e i) x || word_dot ink x)
-    few_inside i x l m = alone_more a b e i x (p.inside i x l m)
-
-    pub few_outside : (i : ℕ) → span from to i ≡ false → in_eights b e i ≡ in_eights a e i
-    few_outside i h = ap (λ v. bit_or v (get_or e (i / 8) 0)) (p.outside i h)
-
-  module _ (from to first last : ℕ) (a b c e f : List ℕ) (l : from ≤ 8 * first) (m : first ≤ last) (n : 8 * last ≤ to)
-      (p : Blackened ink from (8 * first) a b) (q : Blackened ink first last e f) (r : Blackened ink (8 * last) to b c) where
-    both : (i : ℕ) → get_or c i 0 ≡ get_or a i 0 → get_or f (i / 8) 0 ≡ get_or e (i / 8) 0 → in_eights c f i ≡ in_eights a e i
-    both i g h = ap (λ v. bit_or v (get_or f (i / 8) 0)) g ∙ ap (λ v. bit_or (get_or a i 0) v) h
-
-    pub run_inside : (i x : ℕ) → from ≤ i → i < to → word_dot (in_eights c f i) x ≡ (word_dot (in_eights a e i) x || word_dot ink x)
-    run_inside i x g h = elim (cases_lt i (8 * first)) [
-      | inl u ↦ ap (λ v. word_dot v x) (ap (λ v. bit_or v (get_or f (i / 8) 0)) (r.outside i (before_span (8 * last) to i (omega arith))) ∙ ap (λ v. bit_or (get_or b i 0) v) (q.outside (i / 8) (before_span first last (i / 8) (omega arith))))
-          ∙ alone_more a b e i x (p.inside i x g u)
-      | inr u ↦ elim (cases_lt i (8 * last)) [
-        | inl v ↦ ap (λ t. word_dot (bit_or t (get_or f (i / 8) 0)) x) (r.outside i (before_span (8 * last) to i v) ∙ p.outside i (behind_span from (8 * first) i u)) ∙ eights_more a e f i x (q.inside (i / 8) x (omega arith) (omega arith))
-        | inr v ↦ ap (λ t. word_dot (bit_or (get_or c i 0) t) x) (q.outside (i / 8) (behind_span first last (i / 8) (omega arith)))
-            ∙ alone_more a c e i x (r.inside i x v h ∙ ap (λ t. word_dot t x || word_dot ink x) (p.outside i (behind_span from (8 * first) i u)))
-      ]
-    ]
-
-    pub run_outside : (i : ℕ) → span from to i ≡ false → in_eights c f i ≡ in_eights a e i
-    run_outside i h = elim (cases_lt i from) [
-      | inl u ↦ both i (r.outside i (before_span (8 * last) to i (omega arith)) ∙ p.outside i (before_span from (8 * first) i u)) (q.outside (i / 8) (before_span first last (i / 8) (omega arith)))
-      | inr u ↦ elim (cases_lt i to) [
-        | inl v ↦ absurd (let t : span from to i ≡ true = rw (le-leb from i u, lt-ltb i to v) refl in cc)
-        | inr v ↦ both i (r.outside i (behind_span (8 * last) to i v) ∙ p.outside i (behind_span from (8 * first) i (omega arith))) (q.outside (i / 8) (behind_span first last (i / 8) (omega arith)))
-      ]
-    ]
 
 module _ (sheet : Option Glyphs) (text : List ℕ) (w h a b s : ℕ) (d : Alignment) (y : ℕ) (at : ℤ) where
   -- a block less wide than a cell

@@ -1,5 +1,5 @@
 -- Rows of dots, of which many get the same ones.
-use Rattle.std.specs.Prelude.{ℕ, zero, suc, ◌-◌, ◌/◌, Bool, ◌||◌, List, [], bit_or, slice_index, slice_index_or}
+use Rattle.std.specs.Prelude.{ℕ, zero, suc, ◌-◌, Bool, ◌||◌, List, [], slice_index_or}
 use Rattle.vp_dots.specs.Dots.{dot}
 
 -- dot x of one of the rows up to row k
@@ -12,7 +12,3 @@ dot_upto rows (suc k) x = dot_upto rows k x || dot (slice_index_or rows (suc k) 
 abbrev pub run_dot : List (List ℕ) → List (List ℕ) → List (List ℕ) → ℕ → ℕ → ℕ → Bool
 run_dot alone down up n k x =
     dot (slice_index_or alone k []) x || (dot_upto down k x || dot_upto up (n - 1 - k) x)
-
--- word i of many: its own dots, and those that it has with seven others
-abbrev pub in_eights : List ℕ → List ℕ → ℕ → ℕ
-in_eights alone eights i = bit_or (slice_index alone i) (slice_index eights (i / 8))

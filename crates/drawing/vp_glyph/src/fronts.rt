@@ -4,7 +4,6 @@ ghost use Rattle.vp_dots.specs.Dots.{shifted, span};
 ghost use Rattle.vp_dots.specs.Words.{word_dot};
 ghost use Rattle.vp_glyph.specs.Blocks.{pieces, first, line_dot, block_height, block_dot};
 ghost use Rattle.vp_glyph.specs.Layouts.{layout_of};
-ghost use Rattle.vp_glyph.specs.Runs.{in_eights};
 
 use crate::block::Block;
 use crate::lines::{Line, next_line};
@@ -39,52 +38,12 @@ fn blacken<const N: usize>(ink: u64, from: usize, to: usize, words: &mut [u64; N
     }
 }
 
-/// Makes the dots of the words from one to another black where a word is: those of whole eights at once.
-// A call for each run leaves the loop over the rows of the sheet short.
-#[inline(never)]
-fn blacken_run<const N: usize, const M: usize>(
-    ink: u64,
-    from: usize,
-    to: usize,
-    alone: &mut [u64; N],
-    eights: &mut [u64; M],
-)
-    requires order { from ≤ to }
-    requires to { to ≤ N }
-    requires whole { N ≤ 8 * M }
-    requires few { N < 2 ^ 32 }
-    ensures inside { (i x : ℕ) → from ≤ i → i < to → word_dot (in_eights alone.new eights.new i) x
-        ≡ (word_dot (in_eights alone.old eights.old i) x || word_dot ink x) }
-    ensures outside { (i : ℕ) → span from to i ≡ false
-        → in_eights alone.new eights.new i ≡ in_eights alone.old eights.old i }
-{
-    let first = (from + 7) / 8;
-    let last = to / 8;
-    if first >= last {
-        blacken(ink, from, to, alone);
-        return;
-    }
-    blacken(ink, from, 8 * first, alone);
-    blacken(ink, first, last, eights);
-    blacken(ink, 8 * last, to, alone);
-}
-
 /// Adds to the fronts of `N` rows, the first of which is row `top`, the rows of the sheet that are drawn
 /// `high` rows high in all from row `above` on.
-fn spread<const N: usize, const M: usize>(
-    rows: &[u64; 24],
-    above: u32,
-    high: u32,
-    top: u32,
-    alone: &mut [u64; N],
-    eights: &mut [u64; M],
-)
-    requires fits { above + high < 2 ^ 32 }
-    requires whole { N ≤ 8 * M }
-    requires few { N < 2 ^ 32 }
-    ensures { (i x : ℕ) → i < N → x < 64 → word_dot (in_eights alone.new eights.new i) x
-        ≡ (word_dot (in_eights alone.old eights.old i) x || nat_le above (top + i)
-        && nat_lt (top + i - above) high
+fn spread<const N: usize>(rows: &[u64; 24], above: u32, high: u32, top: u32, fronts: &mut [u64; N])
+    requires { above + high < 2 ^ 32 }
+    ensures { (i x : ℕ) → i < N → x < 64 → word_dot (slice_index fronts.new i) x
+        ≡ (word_dot (slice_index fronts.old i) x || nat_le above (top + i) && nat_lt (top + i - above) high
         && word_dot (slice_index rows.now ((top + i - above) * 24 / high)) x) }
 {
     let mut from = rows_above::<N>(above, top);
@@ -92,82 +51,32 @@ fn spread<const N: usize, const M: usize>(
         let to = rows_above::<N>(above + first_row(s + 1, high), top);
         let ink = rows[s as usize];
         if ink != 0 {
-            blacken_run(ink, from, to, alone, eights);
+            blacken(ink, from, to, fronts);
         }
         from = to;
     }
 }
 
-/// Adds to each word the dots that it has with seven others.
-fn add_eights<const N: usize, const M: usize>(eights: &[u64; M], words: &mut [u64; N])
-    requires { N ≤ 8 * M }
-    ensures { (i : ℕ) → i < N → slice_index words.new i ≡ in_eights words.old eights.now i }
-{
-    for i in 0..N {
-        words[i] |= eights[i / 8];
-    }
-}
-
 impl<A: Small> Block<'_, A> {
     /// Adds a line that stands `place` lines below the first to the fronts of `N` rows.
-    fn add_line<const N: usize, const M: usize>(
+    fn add_line<const N: usize>(
         &self,
         line: Line<'_>,
         place: u32,
         top: u32,
         at: i64,
-        alone: &mut [u64; N],
-        eights: &mut [u64; M],
+        fronts: &mut [u64; N],
     )
         requires cells { line.cells ≤ length (first (pieces line.text.now)) }
         requires most { line.cells ≤ self.now.wide / self.now.w }
         requires place { place ≤ self.now.rows - 1 }
-        requires whole { N ≤ 8 * M }
-        requires few { N < 2 ^ 32 }
-        ensures { (i x : ℕ) → i < N → x < 64 → word_dot (in_eights alone.new eights.new i) x
-            ≡ (word_dot (in_eights alone.old eights.old i) x || shifted at (λ x. line_dot
-            (layout_of self.now) place (take line.entry.cells (first (pieces line.entry.text.now)))
-            x (top + i)) x) }
+        ensures { (i x : ℕ) → i < N → x < 64 → word_dot (slice_index fronts.new i) x
+            ≡ (word_dot (slice_index fronts.old i) x || shifted at (λ x. line_dot (layout_of self.now) place
+            (take line.entry.cells (first (pieces line.entry.text.now))) x (top + i)) x) }
     {
-        let mut shown = [0u64; 24];
-        self.add_rows(line, at, &mut shown);
-        spread(&shown, place * self.pitch, self.h, top, alone, eights);
-    }
-
-    /// Adds the lines of the block to the fronts of `N` white rows.
-    fn add_lines<const N: usize, const M: usize>(
-        &self,
-        top: u32,
-        at: i64,
-        alone: &mut [u64; N],
-        eights: &mut [u64; M],
-    )
-        requires white { (i : ℕ) → in_eights alone.old eights.old i ≡ 0 }
-        requires wide { self.now.w ≤ self.now.wide }
-        requires whole { N ≤ 8 * M }
-        requires few { N < 2 ^ 32 }
-        ensures { (i x : ℕ) → i < N → x < 64 → top + i < block_height self.now.h self.now.rows self.now.pitch
-            → word_dot (in_eights alone.new eights.new i) x
-            ≡ shifted at (λ x. block_dot (layout_of self.now) self.now.text.now x (top + i)) x }
-    {
-        let most = (self.wide / self.w) as usize;
-        let (above, text) = self.first_line(top);
-        let mut place = above;
-        let mut left = Some(text);
-        while let Some(text) = left {
-            if u64::from(top) + N as u64 <= u64::from(place * self.pitch) {
-                return;
-            }
-            if self.pitch == 0 || place + 1 >= self.rows {
-                let rows = self.joined(text, at);
-                spread(&rows, place * self.pitch, self.h, top, alone, eights);
-                return;
-            }
-            let (line, rest) = next_line(text, most);
-            self.add_line(line, place, top, at, alone, eights);
-            place = (place + 1).min(self.rows.saturating_sub(1));
-            left = rest;
-        }
+        let mut rows = [0u64; 24];
+        self.add_rows(line, at, &mut rows);
+        spread(&rows, place * self.pitch, self.h, top, fronts);
     }
 
     /// The first 64 dots of N rows, each moved by an offset and black where row top, top + 1, .. has ink.
@@ -181,9 +90,24 @@ impl<A: Small> Block<'_, A> {
         if self.wide < self.w {
             return fronts;
         }
-        let mut eights = [0u64; N];
-        self.add_lines(top, at, &mut fronts, &mut eights);
-        add_eights(&eights, &mut fronts);
+        let most = (self.wide / self.w) as usize;
+        let (above, text) = self.first_line(top);
+        let mut place = above;
+        let mut left = Some(text);
+        while let Some(text) = left {
+            if u64::from(top) + N as u64 <= u64::from(place * self.pitch) {
+                return fronts;
+            }
+            if self.pitch == 0 || place + 1 >= self.rows {
+                let rows = self.joined(text, at);
+                spread(&rows, place * self.pitch, self.h, top, &mut fronts);
+                return fronts;
+            }
+            let (line, rest) = next_line(text, most);
+            self.add_line(line, place, top, at, &mut fronts);
+            place = (place + 1).min(self.rows.saturating_sub(1));
+            left = rest;
+        }
         fronts
     }
 }

@@ -1,5 +1,4 @@
 use Rattle.std.proofs.Common.{◌≡◌, ◌+◌, ◌-◌, min}
-use Rattle.vp_glyph.specs.Runs.{in_eights}
 use Rattle.vp_glyph.proofs.Spread.{edge_at}
 use Rattle.vp_glyph.proofs.Gathered.{Added}
 use Rattle.vp_glyph.proofs.fronts.spread.Given as goal
@@ -7,6 +6,6 @@ use Rattle.vp_glyph.proofs.fronts.spread.Given as goal
 -- the rows before s are added, and row s begins at `from`
 abbrev pub invariant-loop-s : goal.invariant-loop-s
 invariant-loop-s g l = record {
-  added : Added l.rows l.above l.high g.row.N l.top l.s (λ i. in_eights l.fn.alone l.fn.eights i) (λ i. in_eights l.alone l.eights i);
+  added : Added l.rows l.above l.high g.row.N l.top l.s l.fn.fronts l.fronts;
   from : l.from ≡ min (l.above + edge_at 24 l.high l.s - l.top) g.row.N;
 }
