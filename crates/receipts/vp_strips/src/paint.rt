@@ -1,5 +1,5 @@
 //! The bitmap of a line: how many of its lowest rows are in use, and so have to be cleared for the next line.
-ghost use Rattle.std.specs.Prelude.{◌≡◌, ℕ, ◌+◌, ◌-◌, ◌*◌, ◌<◌, ◌≤◌, ◌^◌, ◌∷◌, [], List, MatchOption, ◌/◌, true, nat_le, pos, ℤ, IfOk, length, false, slice_index, slice_index_or, nat_lt, ◌&&◌};
+ghost use Rattle.std.specs.Prelude.{◌≡◌, ℕ, ◌+◌, ◌-◌, ◌*◌, ◌<◌, ◌≤◌, ◌^◌, ◌∷◌, [], List, ◌/◌, nat_le, pos, ℤ, IfOk, length, false, slice_index, slice_index_or, nat_lt, ◌&&◌};
 ghost use Rattle.vp_dots.specs.Dots.{dot, shifted, span};
 ghost use Rattle.vp_glyph.specs.Cells.{cell_width, cell_height, cell_dot};
 ghost use Rattle.vp_dots.specs.Words.{word_dot};

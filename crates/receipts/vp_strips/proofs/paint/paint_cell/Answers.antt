@@ -1,4 +1,4 @@
-use Rattle.std.proofs.Common.{◌≡◌, ℕ, pos, refl}
+use Rattle.std.proofs.Common.{pos, refl}
 use Rattle.vp_dots.specs.declared.Op.TheVariants.{Black}
 use Rattle.vp_dots.proofs.Heights.{rows_same}
 use Rattle.vp_dots.proofs.Placing.{ready_placed}

@@ -1,5 +1,4 @@
-use Rattle.std.proofs.Common.{◌≡◌, ℕ, ◌+◌, ◌-◌, ◌*◌, ◌/◌, Bool, leb, ltb, ◌&&◌, ◌∙◌, ap, arith, refl, get_or}
-use Rattle.std.proofs.lemmas.Bool.{le-ltb}
+use Rattle.std.proofs.Common.{◌≡◌, ℕ, ◌+◌, ◌-◌, ◌*◌, ◌/◌, Bool, leb, ltb, ◌&&◌, ap, arith, get_or}
 use Rattle.vp_dots.specs.Words.{word_dot}
 use Rattle.vp_dots.specs.declared.Op.TheVariants.{Black}
 use Rattle.vp_dots.proofs.Heights.{rows_same, rows_then}
