@@ -5,7 +5,7 @@ use Rattle.vp_label.proofs.Pending.{none_printing}
 use Rattle.vp_label.proofs.label.Label.apply_data.Goals as goal
 
 pub returns-clause-stands : goal.returns-clause-stands
-returns-clause-stands c = λ sheets before st. record {
+returns-clause-stands g c = λ sheets before st. record {
   sheets_are = c.store.ensures.sheets ∙ st.sheets_are;
   gathered = c.in-Ok.ensures.stands sheets before st.gathered;
   printing = λ some. none_printing sheets c.store.new.self.gathered (followed_by before (data_items c.args.bytes.now)) _ c.in-Ok.ensures.pending some;
