@@ -6,7 +6,7 @@ use Rattle.std.proofs.lemmas.Nat.{div-mul-add}
 use Rattle.std.proofs.Math.Nat.{zero-mod}
 use Rattle.vp_dots.specs.Headers.{header_of}
 use Rattle.vp_dots.specs.Images.{Image, row_bytes, pbm}
-use Rattle.vp_glyph.specs.declared.Sheets.{Sheets}
+use Rattle.vp_glyph.specs.Sheets.{Sheets}
 use Rattle.vp_field.specs.declared.view.View.{View}
 use Rattle.vp_field.specs.Strokes.{image_dot}
 use Rattle.vp_field.specs.Fields.{stroke_of}
@@ -86,7 +86,7 @@ rows_of_newest law sheets before item left p some end is high place copies =
     ∙ law i p (quantity before) high place copies (omega (arith, ap length all, ap length is)) in
     sym (rw (lt-ltb 0 (length left) some) (ap (rows_at i) at ∙ rows_of_line i p.line p.byte place.byte))
 
-pub held_rows : PlaceLaw → (sheets : Sheets) (g : Gathered) (before : List Item) (left : List ℕ) (i : Image) (p : Place) → 0 < length left → IsPrinting sheets g left before →
+pub held_rows : {A : Type 0} → PlaceLaw → (sheets : Sheets) (g : Gathered A) (before : List Item) (left : List ℕ) (i : Image) (p : Place) → 0 < length left → IsPrinting sheets g left before →
     ((earlier : List Item) → IsPrinted sheets g earlier → i ≡ image sheets earlier) → left ≡ pending i p → 0 < i.height → IsPlaceOf i.width i.height p → 0 < p.copies →
     band_rows i.height p.line ≡ band_rows_after sheets before left
 held_rows law sheets g [] left i p some printing same is high place copies = absurd printing

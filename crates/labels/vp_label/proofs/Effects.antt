@@ -2,7 +2,7 @@
 use Rattle.std.proofs.Common.{◌≡◌, ℕ, true, false, List, [], ◌∷◌, refl, Some, None, Bool, ap, sym, ◌∙◌, inl, inr}
 use Rattle.std.proofs.lemmas.Bool.{cases_Bool}
 use Rattle.vp_dots.specs.declared.fault.Fault.{Fault}
-use Rattle.vp_glyph.specs.declared.Sheets.{Sheets}
+use Rattle.vp_glyph.specs.Sheets.{Sheets}
 use Rattle.vp_zpl.specs.Spelling.{Kept}
 use Rattle.vp_zpl.specs.declared.name.Name.{Name}
 use Rattle.vp_zpl.specs.declared.item.Command.{Command}

@@ -8,7 +8,7 @@ use Rattle.std.specs.Option.{option_or}
 use Rattle.std.proofs.lemmas.Bool.{cases_lt}
 use Rattle.std.proofs.lemmas.List.{append-nil, drop_all}
 use Rattle.vp_dots.specs.declared.fault.Fault.{Fault}
-use Rattle.vp_glyph.specs.declared.Sheets.{Sheets}
+use Rattle.vp_glyph.specs.Sheets.{Sheets}
 use Rattle.vp_zpl.specs.Items.{Item, data_items}
 use Rattle.vp_zpl.specs.Items.Item.{Data}
 use Rattle.vp_label.specs.Prints.{all_print, prints}

@@ -4,7 +4,7 @@ use Rattle.std.specs.Prelude.{flat_map, replicate}
 use Rattle.std.proofs.lemmas.Grind.{flat_map-append}
 use Rattle.std.proofs.lemmas.List.{append-nil}
 use Rattle.vp_dots.specs.Images.{Image, pbm}
-use Rattle.vp_glyph.specs.declared.Sheets.{Sheets}
+use Rattle.vp_glyph.specs.Sheets.{Sheets}
 use Rattle.vp_zpl.specs.Spelling.{Kept}
 use Rattle.vp_zpl.specs.declared.name.Name.{Name}
 use Rattle.vp_zpl.specs.declared.item.Command.{Command}

@@ -3,17 +3,17 @@ use Rattle.std.proofs.Common.{◌≡◌, ◌<◌, ◌+◌, ◌∙◌, ℕ, List,
 use Rattle.std.specs.Prelude.{Result, Ok, Err}
 use Rattle.std.specs.Result.{OnOk}
 use Rattle.std.proofs.lemmas.List.{drop-drop}
-use Rattle.vp_glyph.specs.declared.Sheets.{Sheets}
+use Rattle.vp_glyph.specs.Sheets.{Sheets}
 use Rattle.vp_zpl.specs.Items.{Item}
 use Rattle.vp_label.specs.declared.gathered.Gathered.{Gathered}
 use Rattle.vp_label.specs.Prints.{prints}
 use Rattle.vp_label.specs.Standing.{IsPrinting}
 
-pub none_printing : (sheets : Sheets) (g : Gathered) (before : List Item) (pending : List ℕ) → pending ≡ [] → 0 < length pending → IsPrinting sheets g pending before
+pub none_printing : {A : Type 0} (sheets : Sheets) (g : Gathered A) (before : List Item) (pending : List ℕ) → pending ≡ [] → 0 < length pending → IsPrinting sheets g pending before
 none_printing sheets g before pending none some = absurd (omega (arith, ap length none))
 
 -- behind bytes that are put out it still is
-pub still_printing : (sheets : Sheets) (g : Gathered) (before : List Item) (old new : List ℕ) (n : ℕ) → new ≡ drop n old → (0 < length old → IsPrinting sheets g old before) →
+pub still_printing : {A : Type 0} (sheets : Sheets) (g : Gathered A) (before : List Item) (old new : List ℕ) (n : ℕ) → new ≡ drop n old → (0 < length old → IsPrinting sheets g old before) →
     0 < length new → IsPrinting sheets g new before
 still_printing sheets g [] old new n rest is some = is (omega (arith, ap length rest, length-drop n old))
 still_printing sheets g (item ∷ before) old new n rest is some =

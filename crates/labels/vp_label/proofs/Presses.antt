@@ -17,7 +17,7 @@ use Rattle.vp_label.specs.declared.press.Press.{Press}
 use Rattle.std.proofs.Common.{List, [], get_or}
 use Rattle.vp_dots.specs.Dots.{dot}
 use Rattle.vp_dots.specs.Images.{Image, row_bytes}
-use Rattle.vp_glyph.specs.declared.Sheets.{Sheets}
+use Rattle.vp_glyph.specs.Sheets.{Sheets}
 use Rattle.vp_field.specs.declared.view.View.{View}
 use Rattle.vp_bands.specs.Laws.{LooksBounded}
 use Rattle.vp_bands.specs.Meeting.{bands_of, pairs}
@@ -135,7 +135,7 @@ met_behind width height bands next n p all high line some out now = elim (cases_
 ]
 
 -- what is left hangs on the copies and the fields alone
-pub same_left : (sheets : Sheets) (bytes : List ℕ) (view : View) (p q : Press) → q.copies ≡ p.copies → q.painter.entries ≡ p.painter.entries → left sheets bytes view q ≡ left sheets bytes view p
+pub same_left : {A : Type 0} (sheets : Sheets) (bytes : List ℕ) (view : View) (p q : Press A) → q.copies ≡ p.copies → q.painter.entries ≡ p.painter.entries → left sheets bytes view q ≡ left sheets bytes view p
 same_left sheets bytes view p q copies entries =
     ap (λ (x : Progress). pending (image_of x (image_dot view (map (stroke_of sheets bytes) (fields_of q.painter.entries)))) x.place) copies
     ∙ ap (λ (fields : List Field). pending (image_of p.copies (image_dot view (map (stroke_of sheets bytes) fields))) p.copies.place) (ap fields_of entries)

@@ -3,7 +3,7 @@ use Rattle.std.proofs.Common.{◌≡◌, ◌<◌, ◌≤◌, ◌∙◌, ℕ, Lis
 use Rattle.std.proofs.lemmas.Bool.{lt-ltb, le-ltb}
 use Rattle.vp_field.specs.declared.view.View.{View}
 use Rattle.vp_format.specs.declared.field.Field.{Field}
-use Rattle.vp_glyph.specs.declared.Sheets.{Sheets}
+use Rattle.vp_glyph.specs.Sheets.{Sheets}
 use Rattle.vp_zpl.specs.Items.{Item, data_items}
 use Rattle.vp_zpl.specs.Items.Item.{Data}
 use Rattle.vp_label_settings.specs.Formats.{followed_by, stored}
@@ -40,9 +40,9 @@ pub newest_least : (sheets : Sheets) (before : List Item) (item : Item) (pending
 newest_least sheets before item pending old new is idle le none = omega (arith, idle none, le, same_label label_shown sheets before item (sym is ∙ none))
 
 -- while bytes are pending, it is the format that is held
-held_last : (number : Sheets → List ℕ → View → List Field → ℕ) (last : Sheets → List Item → ℕ)
+held_last : {A : Type 0} (number : Sheets → List ℕ → View → List Field → ℕ) (last : Sheets → List Item → ℕ)
     → ((sheets : Sheets) (before : List Item) → last sheets before ≡ number sheets (stored before) (view_of (settings_of before)) (printed_entries sheets before))
-    → (sheets : Sheets) (p : Printing) (before : List Item) → p.sheets ≡ sheets → IsPrinting sheets p.gathered p.pending before → 0 < length p.pending
+    → (sheets : Sheets) (p : Printing A) (before : List Item) → p.sheets ≡ sheets → IsPrinting sheets p.gathered p.pending before → 0 < length p.pending
     → number p.sheets p.gathered.format.stored (view_of p.gathered.in_force.settings) p.gathered.format.fields ≡ of_last last sheets before
 held_last number last by_last sheets p [] same printing some = absurd printing
 held_last number last by_last sheets p (item ∷ before) same printing some =
@@ -55,8 +55,8 @@ held_last number last by_last sheets p (item ∷ before) same printing some =
     ∙ ap (λ (v : View). number sheets (stored before) v (printed_entries sheets before)) is.view
     ∙ sym (by_last sheets before) ∙ sym (next_label last sheets before item text)
 
-pub printing_most : (sheets : Sheets) (p : Printing) (before : List Item) → p.sheets ≡ sheets → IsPrinting sheets p.gathered p.pending before → 0 < length p.pending → painting p ≡ most_work sheets before
+pub printing_most : {A : Type 0} (sheets : Sheets) (p : Printing A) (before : List Item) → p.sheets ≡ sheets → IsPrinting sheets p.gathered p.pending before → 0 < length p.pending → painting p ≡ most_work sheets before
 printing_most sheets p before = held_last (λ sheets bytes view fields. copy_work sheets bytes view fields (bands_of view)) label_work (λ s b. refl) sheets p before
 
-pub printing_least : (sheets : Sheets) (p : Printing) (before : List Item) → p.sheets ≡ sheets → IsPrinting sheets p.gathered p.pending before → 0 < length p.pending → shown p ≡ least_work sheets before
+pub printing_least : {A : Type 0} (sheets : Sheets) (p : Printing A) (before : List Item) → p.sheets ≡ sheets → IsPrinting sheets p.gathered p.pending before → 0 < length p.pending → shown p ≡ least_work sheets before
 printing_least sheets p before = held_last (λ sheets bytes view fields. shown_pairs sheets bytes view fields (bands_of view)) label_shown (λ s b. refl) sheets p before

@@ -1,7 +1,7 @@
 -- What is gathered of the format that is open.
 use Rattle.std.specs.Prelude.{◌≡◌, ◌≤◌, ◌-◌, ℕ, true, List, length, if◌then◌else◌}
 use Rattle.std.specs.List.{All}
-use Rattle.vp_glyph.specs.declared.Sheets.{Sheets}
+use Rattle.vp_glyph.specs.Sheets.{Sheets}
 use Rattle.vp_zpl.specs.Items.{Item}
 use Rattle.vp_format.specs.declared.field.Field.{Field}
 use Rattle.vp_format.specs.Formats.{Held}
@@ -27,26 +27,26 @@ pub record Holds (sheets : Sheets) (before : List Item) (held : Held) : Type 0 w
   pub few : length held.stored ≤ STORED
 
 -- what is gathered after these items
-pub record Gathers (sheets : Sheets) (g : Gathered) (before : List Item) : Type 0 where
+pub record Gathers {A : Type 0} (sheets : Sheets) (g : Gathered A) (before : List Item) : Type 0 where
   pub in_force : StandsAfter g.in_force before
   pub held : is_open before ≡ true → Holds sheets before g.format
 
 -- it is what ^XZ printed, after these items
-pub record IsPrinted (sheets : Sheets) (g : Gathered) (before : List Item) : Type 0 where
+pub record IsPrinted {A : Type 0} (sheets : Sheets) (g : Gathered A) (before : List Item) : Type 0 where
   pub view : view_of g.in_force.settings ≡ view_of (settings_of before)
   pub stored : g.format.stored ≡ stored before
   pub fields : g.format.fields ≡ printed_entries sheets before
 
 -- it is gathered after some items
-abbrev pub IsGathered : Sheets → Gathered → Type 0
+abbrev pub IsGathered : {A : Type 0} → Sheets → Gathered A → Type 0
 IsGathered sheets g = (before : List Item) × Gathers sheets g before
 
 -- how many bytes of data there is room for: what is left of the store, and all of it outside a format, where
 -- data aren't stored
-abbrev pub data_room : Gathered → ℕ
+abbrev pub data_room : {A : Type 0} → Gathered A → ℕ
 data_room g = if g.in_force.is_open then STORED - length g.format.stored else STORED
 
 -- `copies` copies of an image with the fields of the format that has ended
-abbrev pub to_print : Sheets → Gathered → ℕ → List ℕ
+abbrev pub to_print : {A : Type 0} → Sheets → Gathered A → ℕ → List ℕ
 to_print sheets g copies =
     copies_text (label_image sheets (view_of g.in_force.settings) g.format.stored g.format.fields) copies

@@ -2,7 +2,7 @@
 use Rattle.std.specs.Prelude.{ℕ, ◌-◌, ◌/◌, ◌%◌, nat_lt, List, [], ◌∷◌, length, if◌then◌else◌}
 use Rattle.vp_dots.specs.Headers.{header_of}
 use Rattle.vp_dots.specs.Images.{Image, row_bytes, pbm}
-use Rattle.vp_glyph.specs.declared.Sheets.{Sheets}
+use Rattle.vp_glyph.specs.Sheets.{Sheets}
 use Rattle.vp_zpl.specs.Items.{Item}
 use Rattle.vp_output.specs.declared.place.Line.TheVariants.{Row}
 use Rattle.vp_copies.specs.Copies.{band_rows}

@@ -1,7 +1,7 @@
 -- What is put out of a format that has ended.
 use Rattle.std.specs.Prelude.{◌≡◌, ◌+◌, ◌/◌, ◌<◌, ◌≤◌, ◌⊎◌, ℕ, List, map}
 use Rattle.vp_dots.specs.Images.{Image}
-use Rattle.vp_glyph.specs.declared.Sheets.{Sheets}
+use Rattle.vp_glyph.specs.Sheets.{Sheets}
 use Rattle.vp_label_size.specs.declared.TheConstants.{WIDEST, LONGEST}
 use Rattle.vp_field.specs.declared.view.View.{View}
 use Rattle.vp_field.specs.Fields.{stroke_of}
@@ -35,16 +35,16 @@ pub record IsBetween (p : Place) : Type 0 where
   pub byte : p.byte ≡ 0
 
 -- the image of which copies are put out: that of the fields that are threaded
-abbrev pub press_image : Sheets → List ℕ → View → Press → Image
+abbrev pub press_image : {A : Type 0} → Sheets → List ℕ → View → Press A → Image
 press_image sheets stored view p =
     image_of p.copies (image_dot view (map (stroke_of sheets stored) (fields_of p.painter.entries)))
 
 -- what is left of the copies
-abbrev pub left : Sheets → List ℕ → View → Press → List ℕ
+abbrev pub left : {A : Type 0} → Sheets → List ℕ → View → Press A → List ℕ
 left sheets stored view p = pending (press_image sheets stored view p) p.copies.place
 
 -- copies are put out of a label that is seen like that
-pub record IsPress (sheets : Sheets) (stored : List ℕ) (view : View) (p : Press) : Type 0 where
+pub record IsPress {A : Type 0} (sheets : Sheets) (stored : List ℕ) (view : View) (p : Press A) : Type 0 where
   pub width : p.copies.width ≡ view.width
   pub height : p.copies.height ≡ view.height
   pub narrow : view.width ≤ WIDEST

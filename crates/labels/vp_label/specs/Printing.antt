@@ -7,7 +7,7 @@ use Rattle.vp_label.specs.Press.{left, IsPress}
 use Rattle.vp_label.specs.Prints.{view_of}
 use Rattle.vp_label.specs.Standing.{Printing}
 
-abbrev pub printing_of : Inside → Printing
+abbrev pub printing_of : {A : Type 0} → Inside A → Printing A
 printing_of l = record {
   sheets = l.sheets;
   gathered = l.gathered;
@@ -16,7 +16,7 @@ printing_of l = record {
 }
 
 -- while bytes are left, they are of the format that is held
-pub record IsLabel (l : Inside) : Type 0 where
+pub record IsLabel {A : Type 0} (l : Inside A) : Type 0 where
   pub gathered : IsGathered l.sheets l.gathered
   pub press : 0 < l.press.copies.place.copies →
       IsPress l.sheets l.gathered.format.stored (view_of l.gathered.in_force.settings) l.press

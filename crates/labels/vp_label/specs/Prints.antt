@@ -1,7 +1,7 @@
 -- What is printed.
 use Rattle.std.specs.Prelude.{ℕ, Bool, not, List, [], ◌∷◌, ◌++◌, map, if◌then◌else◌}
 use Rattle.vp_dots.specs.Images.{Image}
-use Rattle.vp_glyph.specs.declared.Sheets.{Sheets}
+use Rattle.vp_glyph.specs.Sheets.{Sheets}
 use Rattle.vp_zpl.specs.declared.item.Command.{Command}
 use Rattle.vp_zpl.specs.declared.item.Command.TheVariants.{FormatEnd}
 use Rattle.vp_zpl.specs.Items.{Item}

@@ -1,6 +1,6 @@
 -- What painting takes, by the items, of which the newest comes first.
 use Rattle.std.specs.Prelude.{ℕ, nat_lt, List, [], ◌∷◌, length, if◌then◌else◌}
-use Rattle.vp_glyph.specs.declared.Sheets.{Sheets}
+use Rattle.vp_glyph.specs.Sheets.{Sheets}
 use Rattle.vp_zpl.specs.Items.{Item}
 use Rattle.vp_label_settings.specs.Formats.{stored}
 use Rattle.vp_label_settings.specs.Settings.{settings_of}

@@ -1,7 +1,7 @@
 //! What is gathered of the format that is open: all that is in force, its closed fields, and the bytes stored
 //! for them.
 ghost use Rattle.std.specs.Prelude.{◌≡◌, ◌∷◌, [], List, ℕ, IfOk, IsOk, OnOk, OnErr, MatchResult, None, Some, length, true, ◌==◌, ◌<◌, ◌≤◌, if◌then◌else◌};
-ghost use Rattle.vp_glyph.specs.declared.Sheets.{Sheets};
+ghost use Rattle.vp_glyph.specs.Sheets.{Sheets as Given_sheets};
 ghost use Rattle.vp_zpl.specs.Spelling.{Kept};
 ghost use Rattle.vp_zpl.specs.declared.name.Name.{Name};
 ghost use Rattle.vp_zpl.specs.Items.Item.{Given};
@@ -15,7 +15,7 @@ ghost use Rattle.vp_label.specs.Prints.{prints};
 
 use std::alloc::{AllocError, Global};
 use vp_closing::closed;
-use vp_dots::Fault;
+use vp_dots::{Fault, Small};
 use vp_field::stored_behind;
 use vp_format::{Format, STORED};
 use vp_glyph::Sheets;
@@ -25,9 +25,9 @@ use vp_zpl::Command;
 
 /// What is gathered of the format that is open.
 #[derive(Drop)]
-pub struct Gathered {
+pub struct Gathered<A: Small = Global> {
     pub in_force: InForce,
-    pub format: Format,
+    pub format: Format<A>,
 }
 
 /// What a command does.
@@ -62,10 +62,12 @@ impl Effect {
     }
 }
 
-impl Gathered {
+impl<A: Small> Gathered<A> {
     /// Nothing yet.
-    pub fn new(alloc: Global) -> Result<Gathered, AllocError>
-        ensures { IfOk result (λ g. (sheets : Sheets) → Gathers sheets g []) }
+    pub fn new(alloc: A) -> Result<Self, AllocError>
+    where
+        A: Copy,
+        ensures { IfOk result (λ g. (sheets : Given_sheets) → Gathers sheets g []) }
     {
         Ok(Gathered {
             in_force: InForce::new(),
@@ -86,15 +88,15 @@ impl Gathered {
 
     /// Takes data, which in a format are stored: all of them or, where there is no room, none (`StoreFull`).
     pub fn store(&mut self, bytes: &[u8]) -> Result<(), Fault>
-        ensures refusal { (sheets : Sheets) (before : List Item) → Gathers sheets self.old before →
+        ensures refusal { (sheets : Given_sheets) (before : List Item) → Gathers sheets self.old before →
             MatchResult result (λ _. first_refusal sheets before (data_items bytes.now) ≡ None)
             (λ f. first_refusal sheets before (data_items bytes.now) ≡ Some f) }
-        ensures stands { OnOk result ((sheets : Sheets) (before : List Item) →
+        ensures stands { OnOk result ((sheets : Given_sheets) (before : List Item) →
             Gathers sheets self.old before →
             Gathers sheets self.new (followed_by before (data_items bytes.now))) }
-        ensures some { OnOk result ((sheets : Sheets) →
+        ensures some { OnOk result ((sheets : Given_sheets) →
             IsGathered sheets self.old → IsGathered sheets self.new) }
-        ensures room { (sheets : Sheets) → IsGathered sheets self.old →
+        ensures room { (sheets : Given_sheets) → IsGathered sheets self.old →
             length bytes.now ≤ data_room self.old → IsOk result }
         ensures err { OnErr result (self.new ≡ self.old) }
     {
@@ -111,7 +113,7 @@ impl Gathered {
 
     /// Closes the open field, if there is one. Refused is what it shows, and then one more field than there
     /// is room for (`FieldsFull`).
-    fn close(&mut self, sheets: &Sheets) -> Result<(), Fault>
+    fn close(&mut self, sheets: &Sheets<A>) -> Result<(), Fault>
         requires some { IsGathered sheets.now self.old }
         requires opened { self.old.in_force.is_open ≡ true }
         ensures refusal { (before : List Item) → Gathers sheets.now self.old before → is_open before ≡ true →
@@ -150,7 +152,7 @@ impl Gathered {
     }
 
     /// Takes a command, and answers how many copies of the format it prints. A refused one changes nothing.
-    pub fn obey(&mut self, command: Command, sheets: &Sheets) -> Result<u32, Fault>
+    pub fn obey(&mut self, command: Command, sheets: &Sheets<A>) -> Result<u32, Fault>
         requires { IsGathered sheets.now self.old }
         ensures refusal { (before : List Item) (name : Name) (sent : List Kept) →
             Gathers sheets.now self.old before →

@@ -1,6 +1,6 @@
 //! The printer: what it stands after, and what is still to be put out.
 ghost use Rattle.std.specs.Prelude.{◌≡◌, ◌<◌, ◌≤◌, ◌+◌, ◌*◌, ◌++◌, ◌↔◌, ◌⊎◌, ◌∷◌, [], List, ℕ, true, IsTrue, IfOk, IsOk, OnOk, OnErr, MatchResult, None, Some, length, min, take, drop};
-ghost use Rattle.vp_glyph.specs.declared.Sheets.{Sheets as Given_sheets};
+ghost use Rattle.vp_glyph.specs.Sheets.{Sheets as Given_sheets};
 ghost use Rattle.vp_zpl.specs.Items.{Item, data_items};
 ghost use Rattle.vp_zpl.specs.Items.Item.{Given};
 ghost use Rattle.vp_zpl.specs.Shown.{shown_item};
@@ -23,7 +23,7 @@ use std::alloc::{AllocError, Global};
 use std::marker::Model;
 use vp_bands::{looks_bounded, work_bounded};
 use vp_copies::{pending_law, place_law};
-use vp_dots::Fault;
+use vp_dots::{Fault, Small};
 use vp_field::View;
 use vp_glyph::Sheets;
 use vp_label_settings::Settings;
@@ -31,14 +31,14 @@ use vp_label_settings::laws::{between_formats, in_range};
 use vp_zpl::{Command, ZplItem};
 
 /// A label printer. What an item prints is pending until it is put out.
-pub struct Label {
-    sheets: Sheets,
-    gathered: Gathered,
-    press: Press,
+pub struct Label<A: Small = Global> {
+    sheets: Sheets<A>,
+    gathered: Gathered<A>,
+    press: Press<A>,
 }
 
 /// Its memory is given back here, whoever held it.
-impl Drop for Label {
+impl<A: Small> Drop for Label<A> {
     fn drop(self) {
         let Label {
             sheets: _,
@@ -48,10 +48,10 @@ impl Drop for Label {
     }
 }
 
-impl Model for Label {
+impl<A: Small> Model for Label<A> {
     ghost use Rattle.vp_label.specs.Standing.{Printing};
 
-    ghost Value = { Printing };
+    ghost Value = { Printing A };
 
     ghost use Rattle.vp_label.specs.Printing.{printing_of, IsLabel};
 
@@ -72,9 +72,11 @@ fn view_of(settings: &Settings) -> View
     }
 }
 
-impl Label {
+impl<A: Small> Label<A> {
     /// One that stands after no items, with these sheets for its font.
-    pub fn new(alloc: Global, sheets: Sheets) -> Result<Self, AllocError>
+    pub fn new(alloc: A, sheets: Sheets<A>) -> Result<Self, AllocError>
+    where
+        A: Copy,
         ensures stands { IfOk result (λ label. Stands sheets label []) }
         ensures pending { IfOk result (λ label. label.pending ≡ []) }
         ensures looks { IfOk result (λ label. label.press.painter.looks ≡ 0) }

@@ -3,7 +3,7 @@
 ghost use Rattle.std.specs.Prelude.{◌≡◌, ◌++◌, ◌∷◌, [], ℕ, List, flat_map, reverse, None, Some};
 ghost use Rattle.vp_dots.specs.Images.{pbm};
 ghost use Rattle.vp_dots.specs.declared.fault.Fault.{Fault};
-ghost use Rattle.vp_glyph.specs.declared.Sheets.{Sheets};
+ghost use Rattle.vp_glyph.specs.Sheets.{Sheets};
 ghost use Rattle.vp_zpl.specs.Items.{Item, data_items};
 ghost use Rattle.vp_zpl.specs.Items.Item.{Data};
 ghost use Rattle.vp_label_settings.specs.Formats.{followed_by};

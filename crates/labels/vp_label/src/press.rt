@@ -12,6 +12,7 @@ ghost use Rattle.vp_label.specs.Press.{bands_above, left, press_image, IsBetween
 use std::alloc::{AllocError, Global};
 use vp_bands::BandPainter;
 use vp_copies::{Ahead, Copies};
+use vp_dots::Small;
 use vp_field::View;
 use vp_format::Format;
 use vp_glyph::Sheets;
@@ -19,15 +20,17 @@ use vp_label_size::LabelBand;
 
 /// Copies of a label that are being put out.
 #[derive(Drop)]
-pub struct Press {
+pub struct Press<A: Small = Global> {
     pub copies: Copies,
-    pub painter: BandPainter,
-    pub band: LabelBand,
+    pub painter: BandPainter<A>,
+    pub band: LabelBand<A>,
 }
 
-impl Press {
+impl<A: Small> Press<A> {
     /// Nothing to put out.
-    pub fn new(alloc: Global) -> Result<Press, AllocError>
+    pub fn new(alloc: A) -> Result<Self, AllocError>
+    where
+        A: Copy,
         ensures none { IfOk result (λ press. press.copies.place.copies ≡ 0) }
         ensures looks { IfOk result (λ press. press.painter.looks ≡ 0) }
         ensures work { IfOk result (λ press. press.painter.work ≡ 0) }
@@ -35,12 +38,12 @@ impl Press {
         Ok(Press {
             copies: Copies::new(1, 1, 0),
             painter: BandPainter::new(alloc)?,
-            band: LabelBand::new(alloc)?,
+            band: LabelBand::<A>::new(alloc)?,
         })
     }
 
     /// Begins to put out copies of a label with the fields of a format.
-    pub fn begin(&mut self, copies: u32, sheets: &Sheets, format: &Format, view: View)
+    pub fn begin(&mut self, copies: u32, sheets: &Sheets<A>, format: &Format<A>, view: View)
         requires some { 0 < copies }
         requires kept { AreKept format.now.stored format.now.fields }
         requires wide { 0 < view.width }
@@ -61,7 +64,7 @@ impl Press {
 
     /// Readies what the next byte wants: a copy begins with no band painted, and a band is painted before its
     /// first byte.
-    fn prepare(&mut self, sheets: &Sheets, stored: &[u8], view: View)
+    fn prepare(&mut self, sheets: &Sheets<A>, stored: &[u8], view: View)
         requires press { IsPress sheets.now stored.now view self.old }
         requires some { 0 < self.old.copies.place.copies }
         ensures copies { self.new.copies ≡ self.old.copies }
@@ -79,7 +82,7 @@ impl Press {
     }
 
     /// Puts out whole rows of a band or, where none come next or have room, bytes of one line.
-    fn put_line(&mut self, sheets: &Sheets, stored: &[u8], view: View, out: &mut [u8]) -> usize
+    fn put_line(&mut self, sheets: &Sheets<A>, stored: &[u8], view: View, out: &mut [u8]) -> usize
         requires press { IsPress sheets.now stored.now view self.old }
         requires some { 0 < self.old.copies.place.copies }
         requires room { 0 < length out.old }
@@ -104,7 +107,7 @@ impl Press {
     }
 
     /// Puts out the next bytes, as many as there are and room is for, and answers how many.
-    pub fn put(&mut self, sheets: &Sheets, stored: &[u8], view: View, out: &mut [u8]) -> usize
+    pub fn put(&mut self, sheets: &Sheets<A>, stored: &[u8], view: View, out: &mut [u8]) -> usize
         requires { IsPress sheets.now stored.now view self.old }
         ensures press { IsPress sheets.now stored.now view self.new }
         ensures fields { self.new.painter.entries ≡ self.old.painter.entries }

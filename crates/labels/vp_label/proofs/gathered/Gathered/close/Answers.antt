@@ -10,7 +10,7 @@ use Rattle.vp_label.specs.Gathered.{AreKept}
 use Rattle.vp_label.proofs.gathered.Gathered.close.Goals as goal
 
 pub returns-in-Ok-clause-kept : goal.returns-in-Ok-clause-kept
-returns-in-Ok-clause-kept c =
+returns-in-Ok-clause-kept g c =
     let old = c.args.self.now.format in
     let field = c.in_ok-field.field in
     let g = c.requires.some.1 in

@@ -21,18 +21,18 @@ no_name : Name
 no_name = record { sign = 0; first = 0; second = 0 }
 
 pub returns-in_err-in_force-clause-refusal : goal.returns-in_err-in_force-clause-refusal
-returns-in_err-in_force-clause-refusal c = λ before name sent g.
+returns-in_err-in_force-clause-refusal g c = λ before name sent g.
     let p = err_from_is_err_and c.from_residual.result c.from_residual.ensures.1 in
     rw (p.1, p.2) (head_refused c.args.sheets.now before c.args.command name sent _ (ap (λ o. head_refusal o c.args.command) (sym g.in_force.is_open) ∙ c.in_err-in_force.ensures.refusal))
 
 pub returns-in-Sets-clause-refusal : goal.returns-in-Sets-clause-refusal
-returns-in-Sets-clause-refusal c = λ before name sent g.
+returns-in-Sets-clause-refusal g c = λ before name sent g.
     let e : effect_of (is_open before) c.args.command ≡ Sets = ap (λ o. effect_of o c.args.command) (sym g.in_force.is_open) ∙ sym c.of.ensures ∙ c.in-Sets.is in
     head_taken c.args.sheets.now before c.args.command name sent e
     (ap (λ o. head_refusal o c.args.command) (sym g.in_force.is_open) ∙ c.in_ok-in_force.ensures.refusal)
 
 pub returns-in-Sets-clause-stands : goal.returns-in-Sets-clause-stands
-returns-in-Sets-clause-stands c = λ before name sent g.
+returns-in-Sets-clause-stands g c = λ before name sent g.
     let e : effect_of (is_open before) c.args.command ≡ Sets = ap (λ o. effect_of o c.args.command) (sym g.in_force.is_open) ∙ sym c.of.ensures ∙ c.in-Sets.is in
     record {
       in_force = c.in_ok-in_force.ensures.stands before name sent g.in_force (λ so. let h = g.held so in ap length (c.stored.ensures.bytes ∙ h.stored));
@@ -40,7 +40,7 @@ returns-in-Sets-clause-stands c = λ before name sent g.
     }
 
 pub returns-in-Begins-clause-stands : goal.returns-in-Begins-clause-stands
-returns-in-Begins-clause-stands c = λ before name sent g.
+returns-in-Begins-clause-stands g c = λ before name sent g.
     let e : effect_of (is_open before) c.args.command ≡ Begins = ap (λ o. effect_of o c.args.command) (sym g.in_force.is_open) ∙ sym c.of.ensures ∙ c.in-Begins.is in
     let shut = (begins_shut (is_open before) c.args.command e).0 in
     let fields = ap (λ (x : Held). x.fields) c.clear.ensures in
@@ -56,7 +56,7 @@ returns-in-Begins-clause-stands c = λ before name sent g.
     }
 
 pub returns-in_ok-close-in-Closes-clause-stands : goal.returns-in_ok-close-in-Closes-clause-stands
-returns-in_ok-close-in-Closes-clause-stands c = λ before name sent g.
+returns-in_ok-close-in-Closes-clause-stands g c = λ before name sent g.
     let e : effect_of (is_open before) c.args.command ≡ Closes = ap (λ o. effect_of o c.args.command) (sym g.in_force.is_open) ∙ sym c.of.ensures ∙ c.in-Closes.is in
     let so = (closes (is_open before) c.args.command e).0 in
     let separator = (closes (is_open before) c.args.command e).1 in
@@ -72,7 +72,7 @@ returns-in_ok-close-in-Closes-clause-stands c = λ before name sent g.
     }
 
 pub returns-in_ok-close-in-Prints-clause-stands : goal.returns-in_ok-close-in-Prints-clause-stands
-returns-in_ok-close-in-Prints-clause-stands c = λ before name sent g.
+returns-in_ok-close-in-Prints-clause-stands g c = λ before name sent g.
     let e : effect_of (is_open before) c.args.command ≡ Prints = ap (λ o. effect_of o c.args.command) (sym g.in_force.is_open) ∙ sym c.of.ensures ∙ c.in-Prints.is in
     let end = (ends (is_open before) c.args.command e).1 in
     record {
@@ -81,7 +81,7 @@ returns-in_ok-close-in-Prints-clause-stands c = λ before name sent g.
     }
 
 pub returns-in_ok-close-in-Prints-clause-prints : goal.returns-in_ok-close-in-Prints-clause-prints
-returns-in_ok-close-in-Prints-clause-prints c = λ before name sent g.
+returns-in_ok-close-in-Prints-clause-prints g c = λ before name sent g.
     let sheets = c.args.sheets.now in
     let format = c.close-in-Prints.new.self.format in
     let e : effect_of (is_open before) c.args.command ≡ Prints = ap (λ o. effect_of o c.args.command) (sym g.in_force.is_open) ∙ sym c.of.ensures ∙ c.in-Prints.is in
@@ -98,19 +98,19 @@ returns-in_ok-close-in-Prints-clause-prints c = λ before name sent g.
     view (c.close-in-Prints.ensures.stored ∙ held.stored) (c.in_ok-close-in-Prints.ensures.fields before g so) quantity_is)
 
 pub returns-in-Sets-clause-some : goal.returns-in-Sets-clause-some
-returns-in-Sets-clause-some c = (Given c.args.command no_name [] ∷ c.requires.0, returns-in-Sets-clause-stands c c.requires.0 no_name [] c.requires.1)
+returns-in-Sets-clause-some g c = (Given c.args.command no_name [] ∷ c.requires.0, returns-in-Sets-clause-stands g c c.requires.0 no_name [] c.requires.1)
 
 pub returns-in-Begins-clause-some : goal.returns-in-Begins-clause-some
-returns-in-Begins-clause-some c = (Given c.args.command no_name [] ∷ c.requires.0, returns-in-Begins-clause-stands c c.requires.0 no_name [] c.requires.1)
+returns-in-Begins-clause-some g c = (Given c.args.command no_name [] ∷ c.requires.0, returns-in-Begins-clause-stands g c c.requires.0 no_name [] c.requires.1)
 
 pub returns-in_ok-close-in-Closes-clause-some : goal.returns-in_ok-close-in-Closes-clause-some
-returns-in_ok-close-in-Closes-clause-some c = (Given c.args.command no_name [] ∷ c.requires.0, returns-in_ok-close-in-Closes-clause-stands c c.requires.0 no_name [] c.requires.1)
+returns-in_ok-close-in-Closes-clause-some g c = (Given c.args.command no_name [] ∷ c.requires.0, returns-in_ok-close-in-Closes-clause-stands g c c.requires.0 no_name [] c.requires.1)
 
 pub returns-in_ok-close-in-Prints-clause-some : goal.returns-in_ok-close-in-Prints-clause-some
-returns-in_ok-close-in-Prints-clause-some c = (Given c.args.command no_name [] ∷ c.requires.0, returns-in_ok-close-in-Prints-clause-stands c c.requires.0 no_name [] c.requires.1)
+returns-in_ok-close-in-Prints-clause-some g c = (Given c.args.command no_name [] ∷ c.requires.0, returns-in_ok-close-in-Prints-clause-stands g c c.requires.0 no_name [] c.requires.1)
 
 pub returns-in_ok-close-in-Prints-clause-printed : goal.returns-in_ok-close-in-Prints-clause-printed
-returns-in_ok-close-in-Prints-clause-printed c = λ before g some.
+returns-in_ok-close-in-Prints-clause-printed g c = λ before g some.
     let e : effect_of (is_open before) c.args.command ≡ Prints = ap (λ o. effect_of o c.args.command) (sym g.in_force.is_open) ∙ sym c.of.ensures ∙ c.in-Prints.is in
     let so = (ends (is_open before) c.args.command e).0 in
     let end = (ends (is_open before) c.args.command e).1 in

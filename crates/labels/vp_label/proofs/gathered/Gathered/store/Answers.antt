@@ -9,11 +9,11 @@ use Rattle.vp_label.proofs.Stores.{one_refused, all_taken, all_unheard, all-stor
 use Rattle.vp_label.proofs.gathered.Gathered.store.Goals as goal
 
 pub returns-then-not-self-clause-refusal : goal.returns-then-not-self-clause-refusal
-returns-then-not-self-clause-refusal c = λ sheets before g.
+returns-then-not-self-clause-refusal g c = λ sheets before g.
     all_unheard sheets before c.args.bytes.now (sym g.in_force.is_open ∙ c.if-not-self.true)
 
 pub returns-then-not-self-clause-stands : goal.returns-then-not-self-clause-stands
-returns-then-not-self-clause-stands c = λ sheets before g.
+returns-then-not-self-clause-stands g c = λ sheets before g.
     let shut : is_open before ≡ false = sym g.in_force.is_open ∙ c.if-not-self.true in
     let same = open-kept before c.args.bytes.now in
     record {
@@ -22,17 +22,17 @@ returns-then-not-self-clause-stands c = λ sheets before g.
     }
 
 pub returns-then-not-self-clause-some : goal.returns-then-not-self-clause-some
-returns-then-not-self-clause-some c = λ sheets some.
-    (followed_by some.0 (data_items c.args.bytes.now), returns-then-not-self-clause-stands c sheets some.0 some.1)
+returns-then-not-self-clause-some g c = λ sheets some.
+    (followed_by some.0 (data_items c.args.bytes.now), returns-then-not-self-clause-stands g c sheets some.0 some.1)
 
 pub returns-in-Ok-clause-refusal : goal.returns-in-Ok-clause-refusal
-returns-in-Ok-clause-refusal c = λ sheets before g.
+returns-in-Ok-clause-refusal g c = λ sheets before g.
     let so : is_open before ≡ true = sym g.in_force.is_open ∙ c.if-not-self.false in
     let h = g.held so in
     all_taken sheets before c.args.bytes.now so (let fits = c.in-Ok.ensures.room.0 refl in omega (arith, ap length h.stored))
 
 pub returns-in-Ok-clause-stands : goal.returns-in-Ok-clause-stands
-returns-in-Ok-clause-stands c = λ sheets before g.
+returns-in-Ok-clause-stands g c = λ sheets before g.
     let old = c.args.self.now.format in
     let bytes = c.args.bytes.now in
     let so : is_open before ≡ true = sym g.in_force.is_open ∙ c.if-not-self.false in
@@ -51,11 +51,11 @@ returns-in-Ok-clause-stands c = λ sheets before g.
     }
 
 pub returns-in-Ok-clause-some : goal.returns-in-Ok-clause-some
-returns-in-Ok-clause-some c = λ sheets some.
-    (followed_by some.0 (data_items c.args.bytes.now), returns-in-Ok-clause-stands c sheets some.0 some.1)
+returns-in-Ok-clause-some g c = λ sheets some.
+    (followed_by some.0 (data_items c.args.bytes.now), returns-in-Ok-clause-stands g c sheets some.0 some.1)
 
 pub returns-in-Err-clause-refusal : goal.returns-in-Err-clause-refusal
-returns-in-Err-clause-refusal c = λ sheets before g.
+returns-in-Err-clause-refusal g c = λ sheets before g.
     let old = c.args.self.now.format.stored in
     let bytes = c.args.bytes.now in
     let so : is_open before ≡ true = sym g.in_force.is_open ∙ c.if-not-self.false in
@@ -66,7 +66,7 @@ returns-in-Err-clause-refusal c = λ sheets before g.
     ]
 
 pub returns-in-Err-clause-room : goal.returns-in-Err-clause-room
-returns-in-Err-clause-room c = λ sheets some fits.
+returns-in-Err-clause-room g c = λ sheets some fits.
     let so : is_open some.0 ≡ true = sym some.1.in_force.is_open ∙ c.if-not-self.false in
     let few = (some.1.held so).few in
     let room = rw c.if-not-self.false at fits in

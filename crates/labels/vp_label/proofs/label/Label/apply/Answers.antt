@@ -2,7 +2,7 @@ use Rattle.std.proofs.Common.{◌≡◌, ◌<◌, ◌≤◌, ◌∷◌, ap, sym,
 use Rattle.std.specs.Result.{MatchResult}
 use Rattle.std.proofs.lemmas.Result.{on_ok_weaker}
 use Rattle.vp_dots.specs.declared.fault.Fault.{Fault}
-use Rattle.vp_glyph.specs.declared.Sheets.{Sheets}
+use Rattle.vp_glyph.specs.Sheets.{Sheets}
 use Rattle.vp_zpl.specs.declared.item.ZplItem.{ZplItem}
 use Rattle.vp_zpl.specs.Items.{Item, data_items}
 use Rattle.vp_zpl.specs.Items.Item.{Given}
@@ -19,7 +19,7 @@ use Rattle.vp_label.proofs.Pending.{none_printing, on_ok_both, on_ok_four}
 use Rattle.vp_label.proofs.Work.{data_work, newest_most, newest_least}
 use Rattle.vp_label.proofs.label.Label.apply.Goals as goal
 
-here : (sheets : Sheets) (p : Printing) (before : List Item) → Stands sheets p before → Gathers p.sheets p.gathered before
+here : {A : Type 0} (sheets : Sheets) (p : Printing A) (before : List Item) → Stands sheets p before → Gathers p.sheets p.gathered before
 here sheets p before st = subst (λ (s : Sheets). Gathers s p.gathered before) (sym st.sheets_are) st.gathered
 
 -- what painting took before an item, and behind it
@@ -27,7 +27,7 @@ abbrev Takes : List ℕ → ℕ → ℕ → Type 0
 Takes pending old new = (0 < length pending → new ≡ 0) × (pending ≡ [] → new ≡ old)
 
 pub returns-in-Command-clause-refusal : goal.returns-in-Command-clause-refusal
-returns-in-Command-clause-refusal c = λ sheets before st.
+returns-in-Command-clause-refusal g c = λ sheets before st.
     let sent = c.in-Command.sent.now in
     let item = Given sent.command sent.name (shown_parts sent.parameters.items) in
     let e : refusal c.args.self.now.sheets before item ≡ first_refusal sheets before (shown_item c.args.item) =
@@ -36,7 +36,7 @@ returns-in-Command-clause-refusal c = λ sheets before st.
     (c.obey.ensures.refusal before sent.name (shown_parts sent.parameters.items) (here sheets c.args.self.now before st))
 
 pub returns-in-Command-clause-stands : goal.returns-in-Command-clause-stands
-returns-in-Command-clause-stands c =
+returns-in-Command-clause-stands g c =
     let sent = c.in-Command.sent.now in
     let parts = shown_parts sent.parameters.items in
     on_ok_four c.obey.result (λ k printed pending (work : Takes c.obey.new.self.pending c.args.self.now.press.painter.work c.obey.new.self.press.painter.work) sheets before st. record {
@@ -56,7 +56,7 @@ returns-in-Command-clause-stands c =
     }) c.obey.ensures.stands c.obey.ensures.printed c.obey.ensures.pending (on_ok_both c.obey.result (λ begun idle. (begun, idle)) c.obey.ensures.work c.obey.ensures.idle_work)
 
 pub returns-in-Command-clause-pending : goal.returns-in-Command-clause-pending
-returns-in-Command-clause-pending c =
+returns-in-Command-clause-pending g c =
     let sent = c.in-Command.sent.now in
     let parts = shown_parts sent.parameters.items in
     let item = Given sent.command sent.name parts in
@@ -64,19 +64,19 @@ returns-in-Command-clause-pending c =
     ∙ ap (λ (s : Sheets). prints s before item) st.sheets_are ∙ sym (one_prints sheets before item) ∙ ap (λ (i : ZplItem). all_print sheets before (shown_item i)) (sym c.in-Command.is)) c.obey.ensures.pending
 
 pub returns-in-Data-clause-pending : goal.returns-in-Data-clause-pending
-returns-in-Data-clause-pending c =
+returns-in-Data-clause-pending g c =
     on_ok_weaker c.store.result (λ none sheets before st. none ∙ sym (data_print sheets before (data_bytes c.in-Data.bytes.now))
     ∙ ap (λ (i : ZplItem). all_print sheets before (shown_item i)) (sym c.in-Data.is)) c.store.ensures.pending
 
 pub returns-in-Data-clause-stands : goal.returns-in-Data-clause-stands
-returns-in-Data-clause-stands c =
+returns-in-Data-clause-stands g c =
     on_ok_four c.store.result (λ k none idle done sheets before st. record {
       sheets_are = c.store.ensures.sheets ∙ st.sheets_are;
       gathered = subst (λ (i : ZplItem). Gathers sheets c.store.new.self.gathered (followed_by before (shown_item i))) (sym c.in-Data.is)
           (subst (λ (bytes : List ℕ). Gathers sheets c.store.new.self.gathered (followed_by before (data_items bytes))) c.as_slice.ensures.value (k sheets before st.gathered));
       printing = none_printing sheets c.store.new.self.gathered (followed_by before (shown_item c.args.item)) c.store.new.self.pending none;
       at_most = subst (λ (i : ZplItem). c.store.new.self.press.painter.work ≤ most_work sheets (followed_by before (shown_item i))) (sym c.in-Data.is)
-          (omega (arith, ap (λ (p : Press). p.painter.work) idle, data_work label_work sheets before (data_bytes c.in-Data.bytes.now), st.at_most));
+          (omega (arith, ap (λ (p : Press _). p.painter.work) idle, data_work label_work sheets before (data_bytes c.in-Data.bytes.now), st.at_most));
       at_least = λ _. subst (λ (i : ZplItem). least_work sheets (followed_by before (shown_item i)) ≤ c.store.new.self.press.painter.work) (sym c.in-Data.is)
-          (omega (arith, ap (λ (p : Press). p.painter.work) idle, data_work label_shown sheets before (data_bytes c.in-Data.bytes.now), st.at_least c.requires));
+          (omega (arith, ap (λ (p : Press _). p.painter.work) idle, data_work label_shown sheets before (data_bytes c.in-Data.bytes.now), st.at_least c.requires));
     }) c.store.ensures.stands c.store.ensures.pending c.store.ensures.idle c.store.ensures.idle

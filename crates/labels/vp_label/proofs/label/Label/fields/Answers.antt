@@ -5,7 +5,7 @@ use Rattle.vp_label.proofs.Counts.{no_fields}
 use Rattle.vp_label.proofs.label.Label.fields.Goals as goal
 
 pub returns-then-not-holds_format-clause-value : goal.returns-then-not-holds_format-clause-value
-returns-then-not-holds_format-clause-value c = λ sheets before st.
+returns-then-not-holds_format-clause-value g c = λ sheets before st.
     let left = c.args.self.now.pending in
     let none : length left ≤ 0 = elim (cases_lt 0 (length left)) [
       | inl some ↦ absurd (let no = c.if-not-holds_format.ensures.1 (inr some) in cc)

@@ -6,14 +6,14 @@ use Rattle.vp_label.proofs.Pending.{none_printing}
 use Rattle.vp_label.proofs.label.Label.new.Goals as goal
 
 pub invariant_of-result : goal.invariant_of-result
-invariant_of-result c = record {
+invariant_of-result g c = record {
   gathered = ([], c.in_ok-new.ensures c.args.sheets);
   press = λ some. absurd (omega (arith, c.in_ok-new-2.ensures.none));
   fields = λ some. absurd (omega (arith, c.in_ok-new-2.ensures.none));
 }
 
 pub returns-clause-stands : goal.returns-clause-stands
-returns-clause-stands c =
+returns-clause-stands g c =
     let g = c.in_ok-new.field-0 in
     let p = c.in_ok-new-2.field-0 in
     record {

@@ -14,58 +14,58 @@ use Rattle.vp_label.proofs.Idle.{no_copies, nothing_left}
 use Rattle.vp_label.proofs.label.Label.obey.Goals as goal
 
 pub returns-in-Err-clause-refusal : goal.returns-in-Err-clause-refusal
-returns-in-Err-clause-refusal c =
-    let P : Printing → Type 0 = λ p. (before : List Item) (name : Name) (sent : List Kept) → Gathers p.sheets p.gathered before → refusal p.sheets before (Given c.args.command name sent) ≡ Some c.in-Err.fault in
+returns-in-Err-clause-refusal g c =
+    let P : Printing _ → Type 0 = λ p. (before : List Item) (name : Name) (sent : List Kept) → Gathers p.sheets p.gathered before → refusal p.sheets before (Given c.args.command name sent) ≡ Some c.in-Err.fault in
     subst P c.self.view_is c.in-Err.ensures.refusal
 
 pub returns-then-copies-eq0-clause-refusal : goal.returns-then-copies-eq0-clause-refusal
-returns-then-copies-eq0-clause-refusal c =
-    let P : Printing → Type 0 = λ p. (before : List Item) (name : Name) (sent : List Kept) → Gathers p.sheets p.gathered before → refusal p.sheets before (Given c.args.command name sent) ≡ None in
+returns-then-copies-eq0-clause-refusal g c =
+    let P : Printing _ → Type 0 = λ p. (before : List Item) (name : Name) (sent : List Kept) → Gathers p.sheets p.gathered before → refusal p.sheets before (Given c.args.command name sent) ≡ None in
     subst P c.self.view_is c.in-Ok.ensures.refusal
 
 pub returns-then-copies-eq0-clause-stands : goal.returns-then-copies-eq0-clause-stands
-returns-then-copies-eq0-clause-stands c =
-    let P : Printing → Type 0 = λ p. (before : List Item) (name : Name) (sent : List Kept) → Gathers p.sheets p.gathered before → Gathers c.self.inside.sheets c.obey.new.self (Given c.args.command name sent ∷ before) in
+returns-then-copies-eq0-clause-stands g c =
+    let P : Printing _ → Type 0 = λ p. (before : List Item) (name : Name) (sent : List Kept) → Gathers p.sheets p.gathered before → Gathers c.self.inside.sheets c.obey.new.self (Given c.args.command name sent ∷ before) in
     subst P c.self.view_is c.in-Ok.ensures.stands
 
 pub returns-then-copies-eq0-clause-pending : goal.returns-then-copies-eq0-clause-pending
-returns-then-copies-eq0-clause-pending c =
+returns-then-copies-eq0-clause-pending g c =
     let j = c.self.inside in
     let now = c.obey.new.self in
     let view = view_of now.in_force.settings in
     let is = press_image j.sheets now.format.stored view j.press in
     let was = press_image j.sheets j.gathered.format.stored (view_of j.gathered.in_force.settings) j.press in
-    let none = no_copies c.pending_law.ensures was j.press.copies.place (λ some. let p = c.self.invariant.press some in (let h = p.high in let e = p.height in omega arith, p.place)) (ap (λ (p : Printing). p.pending) c.self.view_is ∙ c.requires) in
-    let P : Printing → Type 0 = λ p. (before : List Item) (name : Name) (sent : List Kept) → Gathers p.sheets p.gathered before →
+    let none = no_copies c.pending_law.ensures was j.press.copies.place (λ some. let p = c.self.invariant.press some in (let h = p.high in let e = p.height in omega arith, p.place)) (ap (λ (p : Printing _). p.pending) c.self.view_is ∙ c.requires) in
+    let P : Printing _ → Type 0 = λ p. (before : List Item) (name : Name) (sent : List Kept) → Gathers p.sheets p.gathered before →
     left j.sheets now.format.stored view j.press ≡ prints p.sheets before (Given c.args.command name sent) in
     subst P c.self.view_is (λ before name sent g. nothing_left is j.press.copies.place none
     ∙ ap (copies_text (label_image j.sheets view now.format.stored now.format.fields)) (sym c.if-copies-eq0.true) ∙ c.in-Ok.ensures.prints before name sent g)
 
 pub returns-clause-refusal : goal.returns-clause-refusal
-returns-clause-refusal c =
-    let P : Printing → Type 0 = λ p. (before : List Item) (name : Name) (sent : List Kept) → Gathers p.sheets p.gathered before → refusal p.sheets before (Given c.args.command name sent) ≡ None in
+returns-clause-refusal g c =
+    let P : Printing _ → Type 0 = λ p. (before : List Item) (name : Name) (sent : List Kept) → Gathers p.sheets p.gathered before → refusal p.sheets before (Given c.args.command name sent) ≡ None in
     subst P c.self.view_is c.in-Ok.ensures.refusal
 
 pub returns-clause-stands : goal.returns-clause-stands
-returns-clause-stands c =
-    let P : Printing → Type 0 = λ p. (before : List Item) (name : Name) (sent : List Kept) → Gathers p.sheets p.gathered before → Gathers c.self.inside.sheets c.obey.new.self (Given c.args.command name sent ∷ before) in
+returns-clause-stands g c =
+    let P : Printing _ → Type 0 = λ p. (before : List Item) (name : Name) (sent : List Kept) → Gathers p.sheets p.gathered before → Gathers c.self.inside.sheets c.obey.new.self (Given c.args.command name sent ∷ before) in
     subst P c.self.view_is c.in-Ok.ensures.stands
 
 pub returns-clause-pending : goal.returns-clause-pending
-returns-clause-pending c =
+returns-clause-pending g c =
     let j = c.self.inside in
     let now = c.obey.new.self in
     let fields = now.format.fields in
     let bytes = now.format.stored in
     let view = c.view_of-view.ensures in
-    let P : Printing → Type 0 = λ p. (before : List Item) (name : Name) (sent : List Kept) → Gathers p.sheets p.gathered before →
+    let P : Printing _ → Type 0 = λ p. (before : List Item) (name : Name) (sent : List Kept) → Gathers p.sheets p.gathered before →
     left j.sheets bytes (view_of now.in_force.settings) c.begin.new.self ≡ prints p.sheets before (Given c.args.command name sent) in
     subst P c.self.view_is (λ before name sent g.
     sym (ap (λ (v : View). left j.sheets bytes v c.begin.new.self) view) ∙ c.begin.ensures.left
     ∙ ap (λ (v : View). copies_text (label_image j.sheets v bytes fields) c.in-Ok.copies) view ∙ c.in-Ok.ensures.prints before name sent g)
 
 pub returns-clause-idle : goal.returns-clause-idle
-returns-clause-idle c = λ none.
+returns-clause-idle g c = λ none.
     let j = c.self.inside in
     let now = c.obey.new.self in
     let q = c.begin.new.self in
@@ -74,7 +74,7 @@ returns-clause-idle c = λ none.
     absurd (omega (arith, over, c.begin.ensures.some))
 
 pub returns-clause-idle_work : goal.returns-clause-idle_work
-returns-clause-idle_work c = λ none.
+returns-clause-idle_work g c = λ none.
     let j = c.self.inside in
     let now = c.obey.new.self in
     let q = c.begin.new.self in

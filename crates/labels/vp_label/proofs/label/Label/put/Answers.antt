@@ -19,36 +19,36 @@ use Rattle.vp_field.specs.declared.view.View.{View}
 use Rattle.vp_label.proofs.label.Label.put.Goals as goal
 
 pub returns-clause-count : goal.returns-clause-count
-returns-clause-count c =
+returns-clause-count g c =
     let j = c.self.inside in
     let pend : left j.sheets c.stored.result.now c.view_of-view.result j.press ≡ c.args.self.now.pending =
-    ap (λ s. left j.sheets s c.view_of-view.result j.press) c.stored.ensures.bytes ∙ ap (λ v. left j.sheets j.gathered.format.stored v j.press) c.view_of-view.ensures ∙ ap (λ (p : Printing). p.pending) c.self.view_is in
+    ap (λ s. left j.sheets s c.view_of-view.result j.press) c.stored.ensures.bytes ∙ ap (λ v. left j.sheets j.gathered.format.stored v j.press) c.view_of-view.ensures ∙ ap (λ (p : Printing _). p.pending) c.self.view_is in
     c.put.ensures.count ∙ ap (λ t. min (length t) (length c.args.out.now)) pend
 
 pub returns-clause-bytes : goal.returns-clause-bytes
-returns-clause-bytes c =
+returns-clause-bytes g c =
     let j = c.self.inside in
     let pend : left j.sheets c.stored.result.now c.view_of-view.result j.press ≡ c.args.self.now.pending =
-    ap (λ s. left j.sheets s c.view_of-view.result j.press) c.stored.ensures.bytes ∙ ap (λ v. left j.sheets j.gathered.format.stored v j.press) c.view_of-view.ensures ∙ ap (λ (p : Printing). p.pending) c.self.view_is in
+    ap (λ s. left j.sheets s c.view_of-view.result j.press) c.stored.ensures.bytes ∙ ap (λ v. left j.sheets j.gathered.format.stored v j.press) c.view_of-view.ensures ∙ ap (λ (p : Printing _). p.pending) c.self.view_is in
     c.put.ensures.bytes ∙ ap (λ t. take c.put.result t ++ drop c.put.result c.args.out.now) pend
 
 pub returns-clause-rest : goal.returns-clause-rest
-returns-clause-rest c =
+returns-clause-rest g c =
     let j = c.self.inside in
     let pend : left j.sheets c.stored.result.now c.view_of-view.result j.press ≡ c.args.self.now.pending =
-    ap (λ s. left j.sheets s c.view_of-view.result j.press) c.stored.ensures.bytes ∙ ap (λ v. left j.sheets j.gathered.format.stored v j.press) c.view_of-view.ensures ∙ ap (λ (p : Printing). p.pending) c.self.view_is in
+    ap (λ s. left j.sheets s c.view_of-view.result j.press) c.stored.ensures.bytes ∙ ap (λ v. left j.sheets j.gathered.format.stored v j.press) c.view_of-view.ensures ∙ ap (λ (p : Printing _). p.pending) c.self.view_is in
     sym (ap (λ s. left j.sheets s c.view_of-view.result c.put.new.self) c.stored.ensures.bytes ∙ ap (λ v. left j.sheets j.gathered.format.stored v c.put.new.self) c.view_of-view.ensures)
     ∙ c.put.ensures.rest ∙ ap (drop c.put.result) pend
 
 pub put-requires : goal.put-requires
-put-requires c =
+put-requires g c =
     let j = c.self.inside in
     let some : 0 < j.press.copies.place.copies = search rules in
     subst (λ (s : List ℕ). IsPress j.sheets s c.view_of-view.result j.press) (sym c.stored.ensures.bytes)
     (subst (λ (v : View). IsPress j.sheets j.gathered.format.stored v j.press) (sym c.view_of-view.ensures) (c.self.invariant.press some))
 
 pub returns-clause-at_most : goal.returns-clause-at_most
-returns-clause-at_most c = λ pending.
+returns-clause-at_most g c = λ pending.
     let j = c.self.inside in
     let q = c.put.new.self in
     let view = c.view_of-view.result in
@@ -69,7 +69,7 @@ returns-clause-at_most c = λ pending.
     omega (arith, bound, e, n)
 
 pub returns-clause-work : goal.returns-clause-work
-returns-clause-work c = λ pending.
+returns-clause-work g c = λ pending.
     let j = c.self.inside in
     let q = c.put.new.self in
     let view = c.view_of-view.result in
@@ -89,7 +89,7 @@ returns-clause-work c = λ pending.
     omega (arith, bound, e)
 
 pub returns-clause-at_least : goal.returns-clause-at_least
-returns-clause-at_least c = λ out whole.
+returns-clause-at_least g c = λ out whole.
     let j = c.self.inside in
     let q = c.put.new.self in
     let view = c.view_of-view.result in
@@ -99,10 +99,10 @@ returns-clause-at_least c = λ out whole.
     let fields : fields_of q.painter.entries ≡ j.gathered.format.fields = ap fields_of c.put.ensures.fields ∙ c.self.invariant.fields some in
     let shows : press_image j.sheets bytes view q ≡ label_image c.args.self.now.sheets (view_of c.args.self.now.gathered.in_force.settings) c.args.self.now.gathered.format.stored c.args.self.now.gathered.format.fields =
     same_image j.sheets c.args.self.now.sheets bytes c.args.self.now.gathered.format.stored view (view_of c.args.self.now.gathered.in_force.settings) (fields_of q.painter.entries) c.args.self.now.gathered.format.fields q.copies.width q.copies.height
-    (ap (λ (x : Printing). x.sheets) c.self.view_is)
-    (c.stored.ensures.bytes ∙ ap (λ (x : Printing). x.gathered.format.stored) c.self.view_is)
-    (c.view_of-view.ensures ∙ ap (λ (x : Printing). view_of x.gathered.in_force.settings) c.self.view_is)
-    (fields ∙ ap (λ (x : Printing). x.gathered.format.fields) c.self.view_is)
+    (ap (λ (x : Printing _). x.sheets) c.self.view_is)
+    (c.stored.ensures.bytes ∙ ap (λ (x : Printing _). x.gathered.format.stored) c.self.view_is)
+    (c.view_of-view.ensures ∙ ap (λ (x : Printing _). view_of x.gathered.in_force.settings) c.self.view_is)
+    (fields ∙ ap (λ (x : Printing _). x.gathered.format.fields) c.self.view_is)
     p.width p.height in
     let left_is : left j.sheets bytes view q ≡ left j.sheets j.gathered.format.stored (view_of j.gathered.in_force.settings) q =
     ap (λ s. left j.sheets s view q) c.stored.ensures.bytes ∙ ap (λ v. left j.sheets j.gathered.format.stored v q) c.view_of-view.ensures in
@@ -120,7 +120,7 @@ returns-clause-at_least c = λ out whole.
     omega (arith, bound, e)
 
 pub returns-clause-shown : goal.returns-clause-shown
-returns-clause-shown c = λ out whole.
+returns-clause-shown g c = λ out whole.
     let j = c.self.inside in
     let q = c.put.new.self in
     let view = c.view_of-view.result in
@@ -130,10 +130,10 @@ returns-clause-shown c = λ out whole.
     let fields : fields_of q.painter.entries ≡ j.gathered.format.fields = ap fields_of c.put.ensures.fields ∙ c.self.invariant.fields some in
     let shows : press_image j.sheets bytes view q ≡ label_image c.args.self.now.sheets (view_of c.args.self.now.gathered.in_force.settings) c.args.self.now.gathered.format.stored c.args.self.now.gathered.format.fields =
     same_image j.sheets c.args.self.now.sheets bytes c.args.self.now.gathered.format.stored view (view_of c.args.self.now.gathered.in_force.settings) (fields_of q.painter.entries) c.args.self.now.gathered.format.fields q.copies.width q.copies.height
-    (ap (λ (x : Printing). x.sheets) c.self.view_is)
-    (c.stored.ensures.bytes ∙ ap (λ (x : Printing). x.gathered.format.stored) c.self.view_is)
-    (c.view_of-view.ensures ∙ ap (λ (x : Printing). view_of x.gathered.in_force.settings) c.self.view_is)
-    (fields ∙ ap (λ (x : Printing). x.gathered.format.fields) c.self.view_is)
+    (ap (λ (x : Printing _). x.sheets) c.self.view_is)
+    (c.stored.ensures.bytes ∙ ap (λ (x : Printing _). x.gathered.format.stored) c.self.view_is)
+    (c.view_of-view.ensures ∙ ap (λ (x : Printing _). view_of x.gathered.in_force.settings) c.self.view_is)
+    (fields ∙ ap (λ (x : Printing _). x.gathered.format.fields) c.self.view_is)
     p.width p.height in
     let left_is : left j.sheets bytes view q ≡ left j.sheets j.gathered.format.stored (view_of j.gathered.in_force.settings) q =
     ap (λ s. left j.sheets s view q) c.stored.ensures.bytes ∙ ap (λ v. left j.sheets j.gathered.format.stored v q) c.view_of-view.ensures in
@@ -151,25 +151,25 @@ returns-clause-shown c = λ out whole.
     omega (arith, bound, e)
 
 pub returns-clause-stands : goal.returns-clause-stands
-returns-clause-stands c = λ sheets before st. record {
-  sheets_are = ap (λ (p : Printing). p.sheets) c.self.view_is ∙ st.sheets_are;
-  gathered = subst (λ (g : Gathered). Gathers sheets g before) (sym (ap (λ (p : Printing). p.gathered) c.self.view_is)) st.gathered;
-  printing = still_printing sheets c.self.inside.gathered before c.args.self.now.pending _ c.put.result (returns-clause-rest c)
-      (subst (λ (g : Gathered). 0 < length c.args.self.now.pending → IsPrinting sheets g c.args.self.now.pending before) (sym (ap (λ (p : Printing). p.gathered) c.self.view_is)) st.printing);
+returns-clause-stands g c = λ sheets before st. record {
+  sheets_are = ap (λ (p : Printing _). p.sheets) c.self.view_is ∙ st.sheets_are;
+  gathered = subst (λ (g : Gathered _). Gathers sheets g before) (sym (ap (λ (p : Printing _). p.gathered) c.self.view_is)) st.gathered;
+  printing = still_printing sheets c.self.inside.gathered before c.args.self.now.pending _ c.put.result (returns-clause-rest g c)
+      (subst (λ (g : Gathered _). 0 < length c.args.self.now.pending → IsPrinting sheets g c.args.self.now.pending before) (sym (ap (λ (p : Printing _). p.gathered) c.self.view_is)) st.printing);
   at_most = elim (cases_lt 0 (length c.args.self.now.pending)) [
-    | inl some ↦ omega (arith, returns-clause-work c some, printing_most sheets c.args.self.now before st.sheets_are (st.printing some) some)
-    | inr none ↦ omega (arith, ap (λ (p : Press). p.painter.work) (c.put.ensures.idle (omega (arith, returns-clause-count c, none))), ap (λ (p : Printing). p.press.painter.work) c.self.view_is, st.at_most)
+    | inl some ↦ omega (arith, returns-clause-work g c some, printing_most sheets c.args.self.now before st.sheets_are (st.printing some) some)
+    | inr none ↦ omega (arith, ap (λ (p : Press _). p.painter.work) (c.put.ensures.idle (omega (arith, returns-clause-count g c, none))), ap (λ (p : Printing _). p.press.painter.work) c.self.view_is, st.at_most)
   ];
   at_least = λ gone. elim (cases_lt 0 (length c.args.self.now.pending)) [
     | inl some ↦ omega (
       arith,
-      returns-clause-shown c (omega (arith, ap length gone, ap length (returns-clause-rest c), length-drop c.put.result c.args.self.now.pending)) (0, ap length gone),
+      returns-clause-shown g c (omega (arith, ap length gone, ap length (returns-clause-rest g c), length-drop c.put.result c.args.self.now.pending)) (0, ap length gone),
       printing_least sheets c.args.self.now before st.sheets_are (st.printing some) some,
     )
     | inr none ↦ omega (
       arith,
-      ap (λ (p : Press). p.painter.work) (c.put.ensures.idle (omega (arith, returns-clause-count c, none))),
-      ap (λ (p : Printing). p.press.painter.work) c.self.view_is,
+      ap (λ (p : Press _). p.painter.work) (c.put.ensures.idle (omega (arith, returns-clause-count g c, none))),
+      ap (λ (p : Printing _). p.press.painter.work) c.self.view_is,
       st.at_least (none_left c.args.self.now.pending none),
     )
   ];

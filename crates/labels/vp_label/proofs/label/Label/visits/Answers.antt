@@ -3,4 +3,4 @@ use Rattle.vp_label.specs.Standing.{Printing}
 use Rattle.vp_label.proofs.label.Label.visits.Goals as goal
 
 pub returns : goal.returns
-returns c = c.looks.ensures ∙ ap (λ (p : Printing). p.press.painter.looks) c.self.view_is
+returns g c = c.looks.ensures ∙ ap (λ (p : Printing _). p.press.painter.looks) c.self.view_is

@@ -6,12 +6,12 @@ use Rattle.vp_label.proofs.Presses.{band_is, band_painted}
 use Rattle.vp_label.proofs.press.Press.prepare.Goals as goal
 
 pub returns-in-Band-clause-before : goal.returns-in-Band-clause-before
-returns-in-Band-clause-before c =
+returns-in-Band-clause-before g c =
     let p = c.args.self.now.copies.place in
     subst (λ (b : ℕ). IsBefore c.args.sheets.now c.args.stored.now c.args.view b c.paint.new.self) (band_is p.copies p.line p.byte c.in-Band.b (sym c.ahead.ensures ∙ c.in-Band.is)) c.paint.ensures.before
 
 pub returns-in-Band-clause-painted : goal.returns-in-Band-clause-painted
-returns-in-Band-clause-painted c =
+returns-in-Band-clause-painted g c =
     let old = c.args.self.now in
     let p = old.copies.place in
     let press = c.requires.press in

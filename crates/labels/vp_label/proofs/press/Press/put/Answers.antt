@@ -5,7 +5,7 @@ use Rattle.vp_output.proofs.Cut.{put_more}
 use Rattle.vp_label.proofs.press.Press.put.Goals as goal
 
 pub loop-n-preserved : goal.loop-n-preserved
-loop-n-preserved c =
+loop-n-preserved g c =
     let text = left c.args.sheets.now c.args.stored.now c.args.view c.args.self.now in
     let n = c.loop-n.n in
     let r = c.put_line-n.result in

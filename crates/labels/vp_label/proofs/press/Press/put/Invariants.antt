@@ -6,7 +6,7 @@ use Rattle.vp_label.proofs.press.Press.put.Given as goal
 
 -- n bytes are out, and the others stand as they were
 abbrev pub invariant-loop-n : goal.invariant-loop-n
-invariant-loop-n l = record {
+invariant-loop-n g l = record {
   press : IsPress l.sheets l.stored l.view l.self;
   fields : l.self.painter.entries ≡ l.initial.self.painter.entries;
   room : l.n ≤ length l.initial.out;
@@ -18,4 +18,4 @@ invariant-loop-n l = record {
 }
 
 abbrev pub decreases-loop-n : goal.decreases-loop-n
-decreases-loop-n l = length l.initial.out - l.n
+decreases-loop-n g l = length l.initial.out - l.n

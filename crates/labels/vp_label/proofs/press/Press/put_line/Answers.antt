@@ -13,7 +13,7 @@ use Rattle.vp_label.proofs.Presses.{inside_ahead, met_behind, same_left, IsMet}
 use Rattle.vp_label.proofs.press.Press.put_line.Goals as goal
 
 pub returns-then-n-gt0 : goal.returns-then-n-gt0
-returns-then-n-gt0 c =
+returns-then-n-gt0 g c =
     let sheets = c.args.sheets.now in
     let bytes = c.args.stored.now in
     let view = c.args.view in
@@ -52,7 +52,7 @@ returns-then-n-gt0 c =
     }
 
 pub returns : goal.returns
-returns c =
+returns g c =
     let sheets = c.args.sheets.now in
     let bytes = c.args.stored.now in
     let view = c.args.view in
