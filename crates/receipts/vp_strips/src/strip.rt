@@ -183,7 +183,8 @@ impl Dots {
 
     /// How many of `rows` rows, from the top, may have a black dot.
     pub fn inked(self, rows: u32) -> u32
-        ensures white { (canvas : TheCanvas) (x y : ℕ) → result ≤ y → y < rows → dot_in self canvas x y ≡ false }
+        ensures white { (canvas : TheCanvas) (x y : ℕ) → result ≤ y → y < rows →
+            dot_in self canvas x y ≡ false }
         ensures page { self ≡ Dots.Page → result ≡ PAGE_ROWS }
         ensures line { (height left length : ℕ) → self ≡ Dots.Line height left length → result ≡ height }
     {
