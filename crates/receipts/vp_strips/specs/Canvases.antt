@@ -1,5 +1,4 @@
--- What strips are painted from: the sheets, the rows of the line, the row of a raster, the symbol and the
--- page.
+-- What strips are painted from: sheets, the rows of the line, the row of a raster, the symbol and the page.
 use Rattle.std.specs.Prelude.{ℕ, List}
 use Rattle.vp_glyph.specs.Sheets.{Sheets}
 use Rattle.vp_page.specs.Pages.{Paged}
