@@ -3,7 +3,7 @@ use Rattle.std.proofs.Common.{◌≡◌, ℕ, List, [], ◌∷◌, ◌++◌, fla
 use Rattle.std.specs.Option.{option_or}
 use Rattle.std.proofs.lemmas.List.{reverse-append, reverse-reverse, append-nil, map-append}
 use Rattle.vp_dots.specs.declared.fault.Fault.{Fault}
-use Rattle.vp_glyph.specs.declared.Sheets.{Sheets}
+use Rattle.vp_glyph.specs.Sheets.{Sheets}
 use Rattle.vp_esc.specs.declared.item.EscItem.TheVariants.{RasterByte}
 use Rattle.vp_esc.specs.Lines.{line_of as raster_line}
 use Rattle.vp_zpl.specs.Commands.{cut}
@@ -18,11 +18,13 @@ use Rattle.vp_label.specs.Prints.{all_print, prints, printed as printed_label}
 use Rattle.vp_label.specs.Refusals.{first_refusal, refusal}
 use Rattle.vp_label.specs.Standing.{Printing, Stands as LabelStands}
 use Rattle.vp_engine.specs.Lines.{listed_line}
+use Rattle.vp_engine.specs.Machines.{plain}
 use Rattle.vp_engine.specs.Paper.{Rules, printed, newest_refusal}
 use Rattle.vp_engine.specs.Setups.{rules_of}
 use Rattle.vp_engine.specs.Setups.{Labels}
 use Rattle.vp_engine.specs.Takes.{AreAccepted, Comes}
 use Rattle.vp_engine.proofs.Faults.{none_first, none_second}
+use Rattle.vp_engine.proofs.Plain.{to_plain}
 
 pub items_none : items [] ≡ []
 unfolding items cut given all_ended
@@ -78,16 +80,16 @@ module _ (sheets : Sheets) where
     newest_refused (lent.Data bytes) before f e = data_refused (reverse (data_bytes bytes.now)) (data_bytes bytes.now) before f (sym (reverse-reverse (data_bytes bytes.now))) e
 
     -- what comes of the items of a byte
-    pub items_come : (Reads : List ℕ → Type 0) (old new : Printing) (bytes : List ℕ) (before : List Item) (item : ZplItem) (result : Result (Unit {0}) Fault) →
+    pub items_come : {A : Type 0} (Reads : List ℕ → Type 0) (old new : Printing A) (bytes : List ℕ) (before : List Item) (item : ZplItem) (result : Result (Unit {0}) Fault) →
         Reads bytes → LabelStands sheets old before → old.pending ≡ [] →
         MatchResult result (λ _. first_refusal sheets before (shown_item item) ≡ None) (λ f. first_refusal sheets before (shown_item item) ≡ Some f) →
         OnOk result ((sheets : Sheets) (before : List Item) → LabelStands sheets old before → LabelStands sheets new (followed_by before (shown_item item))) →
         OnOk result ((sheets : Sheets) (before : List Item) → LabelStands sheets old before → new.pending ≡ all_print sheets before (shown_item item)) → OnErr result (new ≡ old) →
-        Comes rules (λ bytes before. Reads bytes × LabelStands sheets new before) new.pending bytes before (Ok (shown_item item)) result
+        Comes rules (λ bytes before. Reads bytes × LabelStands sheets (plain new) before) new.pending bytes before (Ok (shown_item item)) result
     items_come Reads old new bytes before item (Ok done) reads at idle refused stands prints err = (
       all_accepted (shown_item item) before refused,
-      (reads, subst (LabelStands sheets new) (order before (shown_item item)) (stands sheets before at)),
+      (reads, to_plain sheets new _ (subst (LabelStands sheets new) (order before (shown_item item)) (stands sheets before at))),
       all_printed (shown_item item) before ∙ ap (λ x. printed rules before ++ x) (sym (prints sheets before at)),
     )
     items_come Reads old new bytes before item (Err f) reads at idle refused stands prints err =
-        (newest_refused item before f refused, (reads, subst (λ (p : Printing). LabelStands sheets p before) (sym err) at), ap (λ (p : Printing). p.pending) err ∙ idle)
+        (newest_refused item before f refused, (reads, to_plain sheets new before (subst (λ (p : Printing _). LabelStands sheets p before) (sym err) at)), ap (λ (p : Printing _). p.pending) err ∙ idle)

@@ -5,6 +5,7 @@ pub mod Escs
 pub mod Steps
 pub mod Runs
 pub mod Comes
+pub mod Plain
 pub mod Arms
 pub mod Rasters
 pub mod ByteLines

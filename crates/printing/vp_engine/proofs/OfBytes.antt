@@ -35,7 +35,7 @@ use Rattle.vp_esc.specs.declared.item.QrModel.TheVariants.{One, Two, Micro}
 use Rattle.vp_esc.specs.Command.{lead_of, command_of}
 use Rattle.vp_esc.specs.Split.{split, fault_of as esc_fault}
 use Rattle.vp_esc.specs.Units.{is_listed_name, fault_after, fault_in}
-use Rattle.vp_glyph.specs.declared.Sheets.{Sheets}
+use Rattle.vp_glyph.specs.Sheets.{Sheets}
 use Rattle.vp_receipt_settings.specs.Setup.{Setup as ReceiptSetup}
 use Rattle.vp_receipt_settings.specs.Line.{line_length}
 use Rattle.vp_receipt_settings.specs.Symbols as receipt

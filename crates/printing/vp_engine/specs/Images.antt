@@ -1,7 +1,7 @@
 -- The images of receipts and of labels.
 use Rattle.std.specs.Prelude.{◌≡◌, ℕ, List, None}
 use Rattle.vp_dots.specs.Images.{Image}
-use Rattle.vp_glyph.specs.declared.Sheets.{Sheets}
+use Rattle.vp_glyph.specs.Sheets.{Sheets}
 use Rattle.vp_esc.specs.declared.item.EscItem.{EscItem}
 use Rattle.vp_receipt_settings.specs.Setup.{Setup as ReceiptSetup}
 use Rattle.vp_receipt.specs.Images.{images, begun}

@@ -1,15 +1,39 @@
 -- The machines by cases: each a reader and what it drives.
 use Rattle.std.specs.Prelude.{◌≡◌, ℕ, Bool, List, [], length}
+use Rattle.vp_esc.specs.declared.reader.EscReader.{EscReader}
 use Rattle.vp_esc.specs.Reader.{Stands as EscStands}
-use Rattle.vp_receipt.specs.Standing.{Stands as ReceiptStands}
+use Rattle.vp_receipt.specs.Standing.{Printing as ReceiptPrinting, Stands as ReceiptStands}
+use Rattle.vp_zpl.specs.declared.reader.ZplReader.{ZplReader}
 use Rattle.vp_zpl.specs.Reader.{Stands as ZplStands}
-use Rattle.vp_label.specs.Standing.{Stands as LabelStands}
-use Rattle.vp_engine.specs.declared.machine.Machine.{Machine}
-use Rattle.vp_engine.specs.declared.machine.Machine.TheVariants.{Receipt, ReceiptLines, Label, LabelLines}
+use Rattle.vp_label.specs.Standing.{Printing as LabelPrinting, Stands as LabelStands}
+use Rattle.vp_engine.specs.declared.machine.Machine.{Machine as MachineOver}
+use Rattle.vp_engine.specs.declared.machine.Machine.TheVariants as over
 use Rattle.vp_streams.specs.Count.{counted}
 use Rattle.vp_engine.specs.Lines.{Listed, taken_of}
 use Rattle.vp_engine.specs.Setups.{EscPos, Zpl}
 use Rattle.vp_engine.specs.Setups.{Setup, Receipts, Labels, ListingIn, Item}
+
+-- a machine, whatever allocator its memory is from
+pub data Machine : Type 0 where
+  Receipt : EscReader → ReceiptPrinting → Machine
+  ReceiptLines : EscReader → Listed → Machine
+  Label : ZplReader → LabelPrinting (Unit {0}) → Machine
+  LabelLines : ZplReader → Listed → Machine
+
+-- what a label printer holds, whatever allocator its memory is from
+abbrev pub plain : {A : Type 0} → LabelPrinting A → LabelPrinting (Unit {0})
+plain p = record {
+  sheets = p.sheets;
+  gathered = record { in_force = p.gathered.in_force; format = p.gathered.format };
+  press = record { copies = p.press.copies; painter = p.press.painter; band = p.press.band };
+  pending = p.pending;
+}
+
+abbrev pub machine_of : {A : Type 0} → MachineOver A → Machine
+machine_of (over.Receipt reader receipt) = Receipt reader receipt
+machine_of (over.ReceiptLines reader lines) = ReceiptLines reader lines
+machine_of (over.Label reader label) = Label reader (plain label)
+machine_of (over.LabelLines reader lines) = LabelLines reader lines
 
 -- what is still to be put out
 abbrev pub pending_of : Machine → List ℕ

@@ -2,8 +2,8 @@
 use Rattle.std.specs.Prelude.{ℕ}
 use Rattle.vp_receipt.specs.Memory.{receipt_memory}
 use Rattle.vp_label.specs.Memory.{label_memory}
-use Rattle.vp_engine.specs.declared.machine.Machine.{Machine}
-use Rattle.vp_engine.specs.declared.machine.Machine.TheVariants.{Receipt, ReceiptLines, Label, LabelLines}
+use Rattle.vp_engine.specs.Machines.{Machine}
+use Rattle.vp_engine.specs.Machines.Machine.{Receipt, ReceiptLines, Label, LabelLines}
 use Rattle.vp_engine.specs.Setups.{Setup, Receipts, Labels, ListingIn}
 use Rattle.vp_engine.specs.Stands.{Engine}
 

@@ -3,7 +3,7 @@ use Rattle.std.specs.Prelude.{ℕ, Bool, true, false, List, [], ◌∷◌, lengt
 use Rattle.vp_esc.specs.declared.item.EscItem.{EscItem}
 use Rattle.vp_esc.specs.Split.{split, items, fault_of}
 use Rattle.vp_esc.specs.Lines.{line_of}
-use Rattle.vp_glyph.specs.declared.Sheets.{Sheets}
+use Rattle.vp_glyph.specs.Sheets.{Sheets}
 use Rattle.vp_receipt_settings.specs.declared.width.Width.TheVariants.{W576, W384}
 use Rattle.vp_receipt_settings.specs.Setup.{Setup as ReceiptSetup}
 use Rattle.vp_receipt.specs.Strips.{prints, refusal, is_at_rest, line_rows_after, page_rows_after}

@@ -1,9 +1,8 @@
 -- Where a printer stands.
 use Rattle.std.specs.Prelude.{◌≡◌, ℕ, List, [], ◌++◌, Option, None}
 use Rattle.vp_dots.specs.declared.fault.Fault.{Fault}
-use Rattle.vp_engine.specs.declared.machine.Machine.{Machine}
 use Rattle.vp_engine.specs.Bytes.{IsPrefix, without_last}
-use Rattle.vp_engine.specs.Machines.{pending_of, MachineStands}
+use Rattle.vp_engine.specs.Machines.{Machine, pending_of, MachineStands}
 use Rattle.vp_engine.specs.Paper.{history, before_fault, paper, fault}
 use Rattle.vp_engine.specs.Setups.{Setup, rules_of}
 

@@ -5,8 +5,8 @@ use Rattle.vp_label.specs.Work.{most_work as most_painting, least_work as least_
 use Rattle.vp_receipt.specs.Work.{most_work, least_work}
 use Rattle.vp_receipt_settings.specs.Line.{mode}
 use Rattle.vp_receipt_settings.specs.declared.page_mode.PrinterMode.TheVariants.{Page}
-use Rattle.vp_engine.specs.declared.machine.Machine.{Machine}
-use Rattle.vp_engine.specs.declared.machine.Machine.TheVariants.{Receipt, ReceiptLines, Label, LabelLines}
+use Rattle.vp_engine.specs.Machines.{Machine}
+use Rattle.vp_engine.specs.Machines.Machine.{Receipt, ReceiptLines, Label, LabelLines}
 use Rattle.vp_engine.specs.Setups.{Setup, Receipts, Labels, ListingIn, Item}
 use Rattle.vp_engine.specs.Stands.{Engine}
 

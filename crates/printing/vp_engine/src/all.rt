@@ -5,18 +5,18 @@ ghost use Rattle.vp_engine.specs.Setups.{setup_of, rules_of};
 
 use crate::laws::{nothing_follows_a_fault, paper_grows};
 use crate::printer::{Printer, State};
-use std::alloc::{AllocError, Global};
-use vp_dots::Fault;
+use std::alloc::AllocError;
+use vp_dots::{Fault, Small};
 use vp_glyph::Sheets;
 use vp_language::Language;
 
 /// The whole paper of some bytes, and their first fault, else that of ending there.
-pub fn print_all(
-    alloc: Global,
+pub fn print_all<A: Small + Copy>(
+    alloc: A,
     language: Language,
-    sheets: Sheets,
+    sheets: Sheets<A>,
     src: &[u8],
-) -> Result<(Vec<u8>, Option<Fault>), AllocError>
+) -> Result<(Vec<u8, A>, Option<Fault>), AllocError>
     ensures paper { IfOk result (λ r. r.0.items ≡ paper (rules_of (setup_of language sheets)) src.now) }
     ensures fault { IfOk result (λ r. r.1 ≡ fault_at_end (rules_of (setup_of language sheets)) src.now) }
 {

@@ -9,6 +9,7 @@ ghost use Rattle.vp_engine.specs.Stands.{Stands};
 use crate::printer::{Printer, Step};
 use std::io;
 use std::marker::Model;
+use vp_dots::Small;
 use vp_streams::Source;
 
 /// How many bytes a buffer holds.
@@ -87,7 +88,7 @@ impl Buffer {
     }
 
     /// One step of a printer, where nothing is held. What it puts out is held then.
-    pub fn step(&mut self, printer: &mut Printer, input: &[u8]) -> Step
+    pub fn step<A: Small>(&mut self, printer: &mut Printer<A>, input: &[u8]) -> Step
         requires { self.old ≡ [] }
         ensures taken { result.taken ≤ length input.now }
         ensures stands { (setup : Setup) (t o : List ℕ) → Stands setup printer.old t o →

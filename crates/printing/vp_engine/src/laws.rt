@@ -5,7 +5,7 @@ ghost use Rattle.vp_dots.specs.Images.{Image, pbm};
 ghost use Rattle.vp_join.specs.Passes.{IsExact, IsOfCalls};
 ghost use Rattle.vp_join.specs.Strips.{IsJoined, greatest, height_together};
 ghost use Rattle.vp_join.specs.declared.fault.JoinFault.{JoinFault};
-ghost use Rattle.vp_glyph.specs.declared.Sheets.{Sheets};
+ghost use Rattle.vp_glyph.specs.Sheets.{Sheets};
 ghost use Rattle.vp_label.specs.Images.{AreOfLabels};
 ghost use Rattle.vp_receipt.specs.Images.{AreAcross};
 ghost use Rattle.vp_receipt_settings.specs.Setup.{Setup as ReceiptSetup, across};

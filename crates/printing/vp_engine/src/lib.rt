@@ -5,7 +5,7 @@
 //! printer over any of them, `all` prints a whole input, `session` stands between a reader and a writer (of
 //! `vp_streams`) with two buffers (`buffer`), `listing` lists what a reader gives, and
 //! `listing_with_offsets` with its places. `laws` says what holds of every stream.
-#![tactic(auto)]
+#![tactic(auto, using(vp_dots::proofs::Handles::list_small))]
 
 mod all;
 mod buffer;

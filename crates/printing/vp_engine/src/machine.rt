@@ -4,7 +4,7 @@ ghost use Rattle.vp_engine.specs.Answers.{IsBounded};
 ghost use Rattle.vp_engine.specs.Lines.{listed_line};
 ghost use Rattle.vp_streams.specs.Count.{grown};
 ghost use Rattle.vp_engine.specs.Memory.{machine_memory};
-ghost use Rattle.vp_engine.specs.Machines.{pending_of, MachineStands};
+ghost use Rattle.vp_engine.specs.Machines.{machine_of, pending_of, MachineStands};
 ghost use Rattle.vp_engine.specs.Paper.{missing};
 ghost use Rattle.vp_engine.specs.Setups.{Setup, Item, EscPos, Zpl, Receipts, Labels, ListingIn, commands_of, setup_of, rules_of, lines_of};
 ghost use Rattle.vp_engine.specs.Takes.{Takes, TakesRun};
@@ -22,7 +22,7 @@ use crate::held::{Held, NOTHING};
 use crate::laws::items_grow;
 use crate::lines::Lines;
 use std::alloc::{AllocError, Global};
-use vp_dots::Fault;
+use vp_dots::{Fault, Small};
 use vp_esc::{EscItem, EscReader};
 use vp_glyph::Sheets;
 use vp_label::Label;
@@ -81,9 +81,9 @@ fn begin_label_lines(lines: &mut Lines, item: &ZplItem<'_>)
 
 /// Takes bytes of a receipt, and puts out all that they print: those that are skipped or stored, or text, or
 /// bytes of a raster.
-fn receipt_run(
+fn receipt_run<A: Small>(
     reader: &mut EscReader,
-    receipt: &mut Receipt,
+    receipt: &mut Receipt<A>,
     input: &[u8],
     output: &mut [u8],
 ) -> Moved
@@ -129,18 +129,30 @@ fn receipt_run(
 }
 
 #[derive(Drop)]
-pub enum Machine {
-    Receipt { reader: EscReader, receipt: Receipt },
-    ReceiptLines { reader: EscReader, lines: Lines },
-    Label { reader: ZplReader, label: Label },
-    LabelLines { reader: ZplReader, lines: Lines },
+pub enum Machine<A: Small = Global> {
+    Receipt {
+        reader: EscReader,
+        receipt: Receipt<A>,
+    },
+    ReceiptLines {
+        reader: EscReader,
+        lines: Lines,
+    },
+    Label {
+        reader: ZplReader,
+        label: Label<A>,
+    },
+    LabelLines {
+        reader: ZplReader,
+        lines: Lines,
+    },
 }
 
-impl Machine {
+impl<A: Small + Copy> Machine<A> {
     /// One that prints a language, and took nothing.
-    pub fn printing(alloc: Global, language: Language, sheets: Sheets) -> Result<Self, AllocError>
-        ensures stands { IfOk result (λ m. MachineStands m (setup_of language sheets) [] []) }
-        ensures pending { IfOk result (λ m. pending_of m ≡ []) }
+    pub fn printing(alloc: A, language: Language, sheets: Sheets<A>) -> Result<Self, AllocError>
+        ensures stands { IfOk result (λ m. MachineStands (machine_of m) (setup_of language sheets) [] []) }
+        ensures pending { IfOk result (λ m. pending_of (machine_of m) ≡ []) }
     {
         match language {
             Language::Receipt => Machine::receipt(alloc, sheets, Width::W576),
@@ -149,10 +161,10 @@ impl Machine {
         }
     }
 
-    fn receipt(alloc: Global, sheets: Sheets, width: Width) -> Result<Self, AllocError>
+    fn receipt(alloc: A, sheets: Sheets<A>, width: Width) -> Result<Self, AllocError>
         ensures stands { IfOk result
-            (λ m. MachineStands m (Receipts (record { width = width; sheets = sheets })) [] []) }
-        ensures pending { IfOk result (λ m. pending_of m ≡ []) }
+            (λ m. MachineStands (machine_of m) (Receipts (record { width = width; sheets = sheets })) [] []) }
+        ensures pending { IfOk result (λ m. pending_of (machine_of m) ≡ []) }
     {
         let receipt = Receipt::new(alloc, sheets, width)?;
         Ok(Machine::Receipt {
@@ -161,9 +173,9 @@ impl Machine {
         })
     }
 
-    fn label(alloc: Global, sheets: Sheets) -> Result<Self, AllocError>
-        ensures stands { IfOk result (λ m. MachineStands m (Labels sheets) [] []) }
-        ensures pending { IfOk result (λ m. pending_of m ≡ []) }
+    fn label(alloc: A, sheets: Sheets<A>) -> Result<Self, AllocError>
+        ensures stands { IfOk result (λ m. MachineStands (machine_of m) (Labels sheets) [] []) }
+        ensures pending { IfOk result (λ m. pending_of (machine_of m) ≡ []) }
     {
         let label = Label::new(alloc, sheets)?;
         Ok(Machine::Label {
@@ -171,11 +183,14 @@ impl Machine {
             label,
         })
     }
+}
 
+impl Machine {
     /// One that lists a language, with the places of its items or without, and took nothing.
     pub fn listing(language: Language, with_offsets: bool) -> Self
-        ensures stands { MachineStands result (ListingIn with_offsets (commands_of language)) [] [] }
-        ensures pending { pending_of result ≡ [] }
+        ensures stands { MachineStands (machine_of result) (ListingIn with_offsets
+            (commands_of language)) [] [] }
+        ensures pending { pending_of (machine_of result) ≡ [] }
     {
         match language {
             Language::Receipt => Machine::receipt_lines(with_offsets),
@@ -185,8 +200,8 @@ impl Machine {
     }
 
     fn receipt_lines(with_offsets: bool) -> Self
-        ensures stands { MachineStands result (ListingIn with_offsets EscPos) [] [] }
-        ensures pending { pending_of result ≡ [] }
+        ensures stands { MachineStands (machine_of result) (ListingIn with_offsets EscPos) [] [] }
+        ensures pending { pending_of (machine_of result) ≡ [] }
     {
         Machine::ReceiptLines {
             reader: EscReader::new(),
@@ -195,21 +210,24 @@ impl Machine {
     }
 
     fn label_lines(with_offsets: bool) -> Self
-        ensures stands { MachineStands result (ListingIn with_offsets Zpl) [] [] }
-        ensures pending { pending_of result ≡ [] }
+        ensures stands { MachineStands (machine_of result) (ListingIn with_offsets Zpl) [] [] }
+        ensures pending { pending_of (machine_of result) ≡ [] }
     {
         Machine::LabelLines {
             reader: ZplReader::new(),
             lines: Lines::new(with_offsets),
         }
     }
+}
 
+impl<A: Small> Machine<A> {
     /// Takes a byte where nothing is pending, and answers the fault that it makes.
     pub fn take(&mut self, byte: u8) -> Result<(), Fault>
-        requires { pending_of self.old ≡ [] }
+        requires { pending_of (machine_of self.old) ≡ [] }
         ensures { (setup : Setup) (t : List ℕ) (before : List (Item setup)) →
-            MachineStands self.old setup t before →
-            Takes (rules_of setup) (MachineStands self.new setup) (pending_of self.new) t before byte result }
+            MachineStands (machine_of self.old) setup t before →
+            Takes (rules_of setup) (MachineStands (machine_of self.new) setup) (pending_of
+            (machine_of self.new)) t before byte result }
     {
         match self {
             Machine::Receipt { reader, receipt } => match reader.take(byte) {
@@ -250,15 +268,15 @@ impl Machine {
 
     /// Takes bytes at the front and puts out all that they print, as far as it has a quick way.
     pub fn take_run(&mut self, input: &[u8], output: &mut [u8]) -> Moved
-        requires { pending_of self.old ≡ [] }
+        requires { pending_of (machine_of self.old) ≡ [] }
         ensures taken { result.taken ≤ length input.now }
         ensures put { result.put ≤ length output.old }
         ensures rest { drop result.put output.new ≡ drop result.put output.old }
-        ensures pending { pending_of self.new ≡ [] }
+        ensures pending { pending_of (machine_of self.new) ≡ [] }
         ensures takes { (setup : Setup) (t : List ℕ) (before : List (Item setup)) →
-            MachineStands self.old setup t before →
+            MachineStands (machine_of self.old) setup t before →
             (rules_of setup).reading.fault_of t ≡ None →
-            TakesRun (rules_of setup) (MachineStands self.new setup) t before
+            TakesRun (rules_of setup) (MachineStands (machine_of self.new) setup) t before
             (take result.taken input.now) (take result.put output.new) }
     {
         match self {
@@ -290,7 +308,7 @@ impl Machine {
 
     /// Whether anything is still to be put out.
     pub fn pending(&self) -> bool
-        ensures { IsTrue result ↔ (0 < length (pending_of self.now)) }
+        ensures { IsTrue result ↔ (0 < length (pending_of (machine_of self.now))) }
     {
         match self {
             Machine::Receipt { receipt, .. } => receipt.pending(),
@@ -302,12 +320,13 @@ impl Machine {
 
     /// Puts out what is pending, as far as there is room.
     pub fn put(&mut self, output: &mut [u8]) -> usize
-        ensures count { result ≡ min (length (pending_of self.old)) (length output.old) }
-        ensures bytes { output.new ≡ take result (pending_of self.old) ++ drop result output.old }
-        ensures rest { pending_of self.new ≡ drop result (pending_of self.old) }
+        ensures count { result ≡ min (length (pending_of (machine_of self.old))) (length output.old) }
+        ensures bytes { output.new ≡
+            take result (pending_of (machine_of self.old)) ++ drop result output.old }
+        ensures rest { pending_of (machine_of self.new) ≡ drop result (pending_of (machine_of self.old)) }
         ensures stands { (setup : Setup) (t : List ℕ) (before : List (Item setup)) →
-            MachineStands self.old setup t before →
-            MachineStands self.new setup t before }
+            MachineStands (machine_of self.old) setup t before →
+            MachineStands (machine_of self.new) setup t before }
     {
         match self {
             Machine::Receipt { receipt, .. } => receipt.put(output),
@@ -320,7 +339,7 @@ impl Machine {
     /// What is missing where the bytes end.
     pub fn ending(&self) -> Option<Fault>
         ensures { (setup : Setup) (t : List ℕ) (before : List (Item setup)) →
-            MachineStands self.now setup t before →
+            MachineStands (machine_of self.now) setup t before →
             (rules_of setup).reading.fault_of t ≡ None →
             result ≡ missing ((rules_of setup).reading.is_between t) ((rules_of setup).is_at_rest before) }
     {
@@ -335,8 +354,8 @@ impl Machine {
     /// What the machine holds now.
     pub fn held(&self) -> Held
         ensures value { (setup : Setup) (t : List ℕ) (before : List (Item setup)) →
-            MachineStands self.now setup t before →
-            result ≡ (rules_of setup).held before (pending_of self.now) }
+            MachineStands (machine_of self.now) setup t before →
+            result ≡ (rules_of setup).held before (pending_of (machine_of self.now)) }
         ensures most { IsBounded result }
     {
         match self {
@@ -358,7 +377,7 @@ impl Machine {
 
     /// The bytes of memory that it holds, on the heap.
     pub fn memory(&self) -> usize
-        ensures { result ≡ machine_memory self.now }
+        ensures { result ≡ machine_memory (machine_of self.now) }
     {
         match self {
             Machine::Receipt { receipt, .. } => receipt.memory(),
@@ -370,10 +389,10 @@ impl Machine {
 
     /// What it tells of its work.
     pub fn work(&self) -> u64
-        ensures value { result ≡ machine_work self.now }
+        ensures value { result ≡ machine_work (machine_of self.now) }
         ensures bounds { (setup : Setup) (t : List ℕ) (before : List (Item setup)) →
-            MachineStands self.now setup t before →
-            IsWorkAfter setup before (pending_of self.now) result }
+            MachineStands (machine_of self.now) setup t before →
+            IsWorkAfter setup before (pending_of (machine_of self.now)) result }
     {
         match self {
             Machine::Receipt { receipt, .. } => receipt.work(),
@@ -386,7 +405,7 @@ impl Machine {
     /// How many lines of a listing there were.
     pub fn lines(&self) -> u64
         ensures { (setup : Setup) (t : List ℕ) (before : List (Item setup)) →
-            MachineStands self.now setup t before →
+            MachineStands (machine_of self.now) setup t before →
             result ≡ lines_of setup before }
     {
         match self {

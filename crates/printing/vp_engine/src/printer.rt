@@ -2,7 +2,7 @@
 ghost use Rattle.std.specs.Prelude.{◌≡◌, ◌≤◌, ◌<◌, ◌+◌, ◌∷◌, ◌++◌, ◌↔◌, List, [], ℕ, IsTrue, IsSome, IfOk, Some, None, Option, MatchOption, MatchResult, length, min, take, drop};
 ghost use Rattle.vp_dots.specs.declared.fault.Fault.{Fault};
 ghost use Rattle.vp_engine.specs.Answers.{IsMore, IsRoom, IsStopped, IsStill, IsBounded};
-ghost use Rattle.vp_engine.specs.Machines.{MachineStands, TookNothing};
+ghost use Rattle.vp_engine.specs.Machines.{machine_of, MachineStands, TookNothing};
 ghost use Rattle.vp_engine.specs.Memory.{memory_held, memory_of};
 ghost use Rattle.vp_engine.specs.Paper.{IsOfByte, history, before_fault, fault, fault_at_end, held_after};
 ghost use Rattle.vp_engine.specs.Setups.{Setup, setup_of, rules_of, lines_of};
@@ -15,7 +15,7 @@ use crate::laws::{items_grow, the_fault_tells_the_end};
 use crate::machine::{Machine, Moved};
 use std::alloc::{AllocError, Global};
 use std::marker::Model;
-use vp_dots::Fault;
+use vp_dots::{Fault, Small};
 use vp_glyph::Sheets;
 use vp_language::Language;
 
@@ -39,13 +39,13 @@ pub struct Step {
 }
 
 /// A printer.
-pub struct Printer {
-    machine: Machine,
+pub struct Printer<A: Small = Global> {
+    machine: Machine<A>,
     stopped: Option<Fault>,
 }
 
 /// Its memory is given back here, whoever held it.
-impl Drop for Printer {
+impl<A: Small> Drop for Printer<A> {
     fn drop(self) {
         let Printer {
             machine: _,
@@ -54,25 +54,28 @@ impl Drop for Printer {
     }
 }
 
-impl Model for Printer {
+impl<A: Small> Model for Printer<A> {
+    ghost use Rattle.vp_engine.specs.Machines.{machine_of};
     ghost use Rattle.vp_engine.specs.Stands.{Engine, printer_of, StandsSomewhere};
 
     ghost Value = { Engine };
 
-    ghost view = { λ p. printer_of p.machine p.stopped };
+    ghost view = { λ p. printer_of (machine_of p.machine) p.stopped };
 
-    ghost invariant = { λ p. StandsSomewhere (printer_of p.machine p.stopped) };
+    ghost invariant = { λ p. StandsSomewhere (printer_of (machine_of p.machine) p.stopped) };
 }
 
-impl Printer {
+impl<A: Small + Copy> Printer<A> {
     /// A printer that took and put out nothing.
-    pub fn new(alloc: Global, language: Language, sheets: Sheets) -> Result<Self, AllocError>
+    pub fn new(alloc: A, language: Language, sheets: Sheets<A>) -> Result<Self, AllocError>
         ensures { IfOk result (λ p. Stands (setup_of language sheets) p [] []) }
     {
         let machine = Machine::printing(alloc, language, sheets)?;
         Ok(Printer::over(machine))
     }
+}
 
+impl Printer {
     /// One that prints a line for each item of a language, and took and put out nothing.
     pub fn listing(language: Language) -> Self
         ensures { Stands (Listing language) result [] [] }
@@ -86,11 +89,13 @@ impl Printer {
     {
         Printer::over(Machine::listing(language, true))
     }
+}
 
+impl<A: Small> Printer<A> {
     /// One over a machine that took nothing.
-    fn over(machine: Machine) -> Self
-        requires { TookNothing machine }
-        ensures { (setup : Setup) → MachineStands machine setup [] [] → Stands setup result [] [] }
+    fn over(machine: Machine<A>) -> Self
+        requires { TookNothing (machine_of machine) }
+        ensures { (setup : Setup) → MachineStands (machine_of machine) setup [] [] → Stands setup result [] [] }
     {
         items_grow();
         Printer {

@@ -14,7 +14,7 @@ use crate::buffer::Buffer;
 use crate::printer::Printer;
 use std::alloc::{AllocError, Global};
 use std::marker::Model;
-use vp_dots::Fault;
+use vp_dots::{Fault, Small};
 use vp_glyph::Sheets;
 use vp_language::Language;
 use vp_streams::{Sink, Source};
@@ -41,15 +41,15 @@ pub enum RunFault {
 
 /// A printer, with what was read and not yet taken, and what was put out and not yet written.
 #[derive(Drop)]
-pub struct Session {
-    printer: Printer,
+pub struct Session<A: Small = Global> {
+    printer: Printer<A>,
     input: Buffer,
     output: Buffer,
     taken: u64,
     written: u64,
 }
 
-impl Model for Session {
+impl<A: Small> Model for Session<A> {
     ghost use Rattle.vp_engine.specs.Session.{Desk, IsSomewhere};
 
     ghost Value = { Desk };
@@ -71,15 +71,17 @@ impl Model for Session {
     }) };
 }
 
-impl Session {
+impl<A: Small + Copy> Session<A> {
     /// A session that read and wrote nothing. No memory is taken after it.
-    pub fn new(alloc: Global, language: Language, sheets: Sheets) -> Result<Self, AllocError>
+    pub fn new(alloc: A, language: Language, sheets: Sheets<A>) -> Result<Self, AllocError>
         ensures { IfOk result (λ s. IsAt (setup_of language sheets) s [] []) }
     {
         let printer = Printer::new(alloc, language, sheets)?;
         Ok(Session::over(printer))
     }
+}
 
+impl Session {
     /// One that lists, and read and wrote nothing.
     pub(crate) fn listing(language: Language) -> Self
         ensures { IsAt (Listing language) result [] [] }
@@ -93,9 +95,11 @@ impl Session {
     {
         Session::over(Printer::listing_with_offsets(language))
     }
+}
 
+impl<A: Small> Session<A> {
     /// One over a printer that took and put out nothing.
-    fn over(printer: Printer) -> Self
+    fn over(printer: Printer<A>) -> Self
         requires { IsFresh printer }
         ensures { (setup : Setup) → Stands setup printer [] [] → IsAt setup result [] [] }
     {

@@ -53,25 +53,24 @@ use Rattle.std.proofs.boxed.Box.TheLaws as box_laws
 use Rattle.std.specs.contracts.boxed.Box.into_raw as IR
 use Rattle.std.specs.contracts.boxed.Box.from_raw as FR
 use Rattle.core.proofs.alloc.Calls.{handle_tells}
-use Rattle.vp_engine.specs.contracts.printer.Printer as printer
 use Rattle.vp_engine.proofs.printer.Printer.TheLaws as printer_laws
-use Rattle.vp_c.specs.Handles.{holds, freeable}
+use Rattle.vp_c.specs.Handles.{holds, freeable, printer_row}
 use Rattle.vp_c.specs.contracts.handle.Handle as handle
 
 abbrev pub Good : RattleType → Val → Type 0
 Good R v = T (has_ty (layout R) v) × WT v
-
-abbrev pub P : RattleType
-P = printer.the_row
-
-abbrev pub P-laws : Laws P
-P-laws = printer_laws.the_row_laws
 
 abbrev pub Heap : RattleType
 Heap = heap.the_row
 
 abbrev pub Heap-laws : Laws Heap
 Heap-laws = heap_laws.the_row_laws
+
+abbrev pub P : RattleType
+P = printer_row
+
+abbrev pub P-laws : Laws P
+P-laws = printer_laws.the_row_laws Heap ghosts Heap-laws
 
 -- the same as a call passes them
 abbrev pub P' : RattleType

@@ -1,9 +1,8 @@
 //! A printer behind a pointer that C holds.
 ghost use Rattle.std.specs.Prelude.{◌≡◌, Option, None, Some, MatchOption};
 ghost use Rattle.std.specs.Coded.{coded_option};
-ghost use Rattle.vp_c.specs.Handles.{holds};
+ghost use Rattle.vp_c.specs.Handles.{holds, printer_row};
 ghost use Rattle.vp_engine.specs.Stands.{Engine};
-ghost use Rattle.vp_engine.specs.contracts.printer.Printer.{the_row};
 
 use std::alloc::Global;
 use std::marker::{Model, Send};
@@ -16,7 +15,7 @@ use vp_engine::Printer;
 #[derive(Drop)]
 pub struct Handle {
     at: *mut u8,
-    pub ghost printer: { Option Engine } by { coded_option (the_row).coded },
+    pub ghost printer: { Option Engine } by { coded_option printer_row.coded },
 }
 
 impl Model for Handle {

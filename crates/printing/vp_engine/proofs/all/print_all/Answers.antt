@@ -8,20 +8,20 @@ use Rattle.vp_engine.proofs.Whole.{next_stands, all_taken, all_printed, stopped_
 use Rattle.vp_engine.proofs.all.print_all.Goals as goal
 
 pub finish-requires : goal.finish-requires
-finish-requires c =
+finish-requires g c =
     let setup = setup_of c.args.language c.args.sheets in
     let e = c.step-step.ensures in
     let i = c.steps.invariant in
     pending_none setup _ _ _ (e.stands setup (take c.steps.at c.args.src.now) c.steps.paper.items i.stands) (e.more c.in-More.is setup (take c.steps.at c.args.src.now) c.steps.paper.items i.stands).printed
 
 pub returns-in-More-clause-paper : goal.returns-in-More-clause-paper
-returns-in-More-clause-paper c =
+returns-in-More-clause-paper g c =
     let setup = setup_of c.args.language c.args.sheets in
     let i = c.steps.invariant in
     all_printed setup c.args.src.now c.steps.at c.step-step.result.taken c.steps.paper.items (take c.step-step.result.put c.step-step.new.output) _ c.in_ok-extend_from_slice.ensures.items i.at (c.step-step.ensures.more c.in-More.is setup (take c.steps.at c.args.src.now) c.steps.paper.items i.stands)
 
 pub returns-in-More-clause-fault : goal.returns-in-More-clause-fault
-returns-in-More-clause-fault c =
+returns-in-More-clause-fault g c =
     let setup = setup_of c.args.language c.args.sheets in
     let e = c.step-step.ensures in
     let i = c.steps.invariant in
@@ -31,7 +31,7 @@ returns-in-More-clause-fault c =
     ∙ ap (fault_at_end (rules_of setup)) (all_taken setup c.args.src.now c.steps.at c.step-step.result.taken c.steps.paper.items (take c.step-step.result.put c.step-step.new.output) _ appended i.at (e.more c.in-More.is setup (take c.steps.at c.args.src.now) c.steps.paper.items i.stands))
 
 pub steps-smaller : goal.steps-smaller
-steps-smaller c =
+steps-smaller g c =
     let setup = setup_of c.args.language c.args.sheets in
     let src = c.args.src.now in
     let e = c.step-step.ensures in
@@ -43,7 +43,7 @@ steps-smaller c =
     omega (arith, room.full, most, ap length appended, length-append c.steps.paper.items (take c.step-step.result.put c.step-step.new.output), length-take-le c.step-step.result.put c.step-step.new.output)
 
 pub steps-preserved : goal.steps-preserved
-steps-preserved c =
+steps-preserved g c =
     let setup = setup_of c.args.language c.args.sheets in
     let e = c.step-step.ensures in
     let i = c.steps.invariant in
@@ -53,13 +53,13 @@ steps-preserved c =
     }
 
 pub returns-in-Stopped-clause-paper : goal.returns-in-Stopped-clause-paper
-returns-in-Stopped-clause-paper c =
+returns-in-Stopped-clause-paper g c =
     let setup = setup_of c.args.language c.args.sheets in
     stopped_paper setup c.args.src.now c.steps.at c.step-step.result.taken c.steps.paper.items (take c.step-step.result.put c.step-step.new.output) _ c.in_ok-extend_from_slice.ensures.items c.in-Stopped.fault (c.nothing_follows_a_fault.ensures.paper setup)
     (c.step-step.ensures.stopped_at c.in-Stopped.fault setup (take c.steps.at c.args.src.now) c.steps.paper.items c.steps.invariant.stands c.in-Stopped.is)
 
 pub returns-in-Stopped-clause-fault : goal.returns-in-Stopped-clause-fault
-returns-in-Stopped-clause-fault c =
+returns-in-Stopped-clause-fault g c =
     let setup = setup_of c.args.language c.args.sheets in
     sym (stopped_fault setup c.args.src.now c.steps.at c.step-step.result.taken c.steps.paper.items (take c.step-step.result.put c.step-step.new.output) _ c.in_ok-extend_from_slice.ensures.items c.in-Stopped.fault (c.nothing_follows_a_fault.ensures.fault setup)
     (c.step-step.ensures.stopped_at c.in-Stopped.fault setup (take c.steps.at c.args.src.now) c.steps.paper.items c.steps.invariant.stands c.in-Stopped.is))

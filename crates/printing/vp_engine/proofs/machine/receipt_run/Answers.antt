@@ -17,7 +17,7 @@ still_stands reader t input n none h =
     subst (EscStands reader) (append-nil t) (subst (λ k. EscStands reader (t ++ take k input)) zero_is h)
 
 pub returns-then-skipped-gt0-clause-takes : goal.returns-then-skipped-gt0-clause-takes
-returns-then-skipped-gt0-clause-takes c s t before reads at known =
+returns-then-skipped-gt0-clause-takes g c s t before reads at known =
     let e = c.take_skipped-skipped.ensures in
     let n = c.take_skipped-skipped.result in
     record {
@@ -30,7 +30,7 @@ returns-then-skipped-gt0-clause-takes c s t before reads at known =
     }
 
 pub returns-then-text-gt0-clause-takes : goal.returns-then-text-gt0-clause-takes
-returns-then-text-gt0-clause-takes c s t before reads at known =
+returns-then-text-gt0-clause-takes g c s t before reads at known =
     let e = c.take_text-text.ensures in
     let n = c.take_text-text.result in
     let room = c.min-room.result in
@@ -51,7 +51,7 @@ returns-then-text-gt0-clause-takes c s t before reads at known =
     }
 
 pub returns-then-stored-gt0-clause-takes : goal.returns-then-stored-gt0-clause-takes
-returns-then-stored-gt0-clause-takes c s t before reads at known =
+returns-then-stored-gt0-clause-takes g c s t before reads at known =
     let e = c.take_stored-stored.ensures in
     let n = c.take_stored-stored.result in
     let input = c.args.input.now in
@@ -68,14 +68,14 @@ returns-then-stored-gt0-clause-takes c s t before reads at known =
     }
 
 pub returns-clause-rest : goal.returns-clause-rest
-returns-clause-rest c =
+returns-clause-rest g c =
     let put = c.put_rows-put.result in
     let bytes = take c.take_raster-n.result c.args.input.now in
     ap (drop put) c.put_rows-put.ensures.bytes
     ∙ drop_at (take put bytes) (drop put c.args.output.now) put (length-take-le put bytes c.put_rows-put.ensures.within)
 
 pub returns-clause-takes : goal.returns-clause-takes
-returns-clause-takes c s t before reads at known =
+returns-clause-takes g c s t before reads at known =
     let e = c.take_raster-n.ensures in
     let n = c.take_raster-n.result in
     let room = c.min-room-2.result in

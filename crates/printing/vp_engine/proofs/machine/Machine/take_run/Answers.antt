@@ -15,17 +15,18 @@ use Rattle.vp_engine.proofs.Arms.{at_receipt, at_lines, at_label, at_label_lines
 use Rattle.vp_engine.proofs.Cuts.{drop_written, take_written}
 use Rattle.vp_engine.proofs.Labels.{all_accepted, all_printed}
 use Rattle.vp_engine.proofs.Lists.{lists_run}
+use Rattle.vp_engine.proofs.Plain.{to_plain}
 use Rattle.vp_engine.proofs.Rasters.{known_run}
 use Rattle.vp_engine.proofs.machine.Machine.take_run.Goals as goal
 
 pub returns-in-Receipt-clause-takes : goal.returns-in-Receipt-clause-takes
-returns-in-Receipt-clause-takes c = at_receipt _ _ _ _ c.in-Receipt.is (λ s t before at known. c.receipt_run.ensures.takes s t before at.0 at.1 known)
+returns-in-Receipt-clause-takes g c = at_receipt _ _ _ _ c.in-Receipt.is (λ s t before at known. c.receipt_run.ensures.takes s t before at.0 at.1 known)
 
 pub returns-in-ReceiptLines-clause-rest : goal.returns-in-ReceiptLines-clause-rest
-returns-in-ReceiptLines-clause-rest c = drop_written _ _ _ _ c.put_bytes-put.ensures.put c.put_bytes-put.ensures.bytes
+returns-in-ReceiptLines-clause-rest g c = drop_written _ _ _ _ c.put_bytes-put.ensures.put c.put_bytes-put.ensures.bytes
 
 pub returns-in-ReceiptLines-clause-takes : goal.returns-in-ReceiptLines-clause-takes
-returns-in-ReceiptLines-clause-takes c = at_lines _ _ _ _ c.in-ReceiptLines.is (λ w t before at known.
+returns-in-ReceiptLines-clause-takes g c = at_lines _ _ _ _ c.in-ReceiptLines.is (λ w t before at known.
     let e = c.take_raster-n.ensures in
     let p = c.put_bytes-put.ensures in
     let run = take c.min-room.result c.args.input.now in
@@ -36,7 +37,7 @@ returns-in-ReceiptLines-clause-takes c = at_lines _ _ _ _ c.in-ReceiptLines.is (
     (take_written _ _ _ _ p.put p.bytes) p.count p.taken)
 
 pub returns-in-Label-clause-takes : goal.returns-in-Label-clause-takes
-returns-in-Label-clause-takes c = at_label _ _ _ _ c.in-Label.is (λ s t before at known.
+returns-in-Label-clause-takes g c = at_label _ _ _ _ c.in-Label.is (λ s t before at known.
     let e = c.take_data-n.ensures in
     let n = c.take_data-n.result in
     let room = c.min-room-in-Label.result in
@@ -54,14 +55,14 @@ returns-in-Label-clause-takes c = at_label _ _ _ _ c.in-Label.is (λ s t before 
       known = known;
       accepted = all_accepted s items before (c.data_room.ensures.room s before at.1 (take n input) fits);
       prints = all_printed s items before ∙ ap (λ x. printed (rules_of (Labels s)) before ++ x) (c.data_in_turn.ensures.silent s before (take n input));
-      stands = (subst (λ x. ZplStands c.take_data-n.new.self (t ++ x)) front (e.stands t at.0), subst (LabelStands s c.apply_data.new.self) (c.in_turn.ensures.order before items) (c.apply_data.ensures.stands s before at.1));
+      stands = (subst (λ x. ZplStands c.take_data-n.new.self (t ++ x)) front (e.stands t at.0), to_plain s _ _ (subst (LabelStands s c.apply_data.new.self) (c.in_turn.ensures.order before items) (c.apply_data.ensures.stands s before at.1)));
     })
 
 pub returns-in-LabelLines-clause-rest : goal.returns-in-LabelLines-clause-rest
-returns-in-LabelLines-clause-rest c = drop_written _ _ _ _ c.put_bytes-put-in-LabelLines.ensures.put c.put_bytes-put-in-LabelLines.ensures.bytes
+returns-in-LabelLines-clause-rest g c = drop_written _ _ _ _ c.put_bytes-put-in-LabelLines.ensures.put c.put_bytes-put-in-LabelLines.ensures.bytes
 
 pub returns-in-LabelLines-clause-takes : goal.returns-in-LabelLines-clause-takes
-returns-in-LabelLines-clause-takes c = at_label_lines _ _ _ _ c.in-LabelLines.is (λ w t before at known.
+returns-in-LabelLines-clause-takes g c = at_label_lines _ _ _ _ c.in-LabelLines.is (λ w t before at known.
     let e = c.take_data-n-in-LabelLines.ensures in
     let p = c.put_bytes-put-in-LabelLines.ensures in
     lists_run zpl_reading zpl_lines.line_of (c.items_grow-in-LabelLines.ensures (ListingIn false Zpl)).grows Data (λ b. refl) w (ZplStands c.take_data-n-in-LabelLines.new.self)

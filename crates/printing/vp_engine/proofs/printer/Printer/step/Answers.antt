@@ -8,7 +8,7 @@ use Rattle.vp_engine.proofs.printer.Printer.step.Goals as goal
 use Rattle.vp_engine.proofs.printer.Printer.step.Goals.{then-loop-taken-test+then-is_none+else-not-pending, then-loop-taken-test+else-is_none, else-loop-taken-test}
 
 pub loop-taken-init : goal.loop-taken-init
-loop-taken-init c = record {
+loop-taken-init g c = record {
   taken = search rules;
   put = omega (arith, c.put-put.ensures.count);
   rest = c.put-put.ensures.rest;
@@ -20,7 +20,7 @@ loop-taken-init c = record {
 }
 
 pub loop-taken-preserved : goal.loop-taken-preserved
-loop-taken-preserved c =
+loop-taken-preserved g c =
     let e = c.take_some-moved.ensures in
     let a = c.loop-taken.put in
     let n = c.take_some-moved.result.put in
@@ -50,20 +50,20 @@ loop-taken-preserved c =
     }
 
 pub returns-in-Some-clause-more : goal.returns-in-Some-clause-more
-returns-in-Some-clause-more c e setup t o s = cc
+returns-in-Some-clause-more g c e setup t o s = cc
 
 pub returns-in-Some-clause-room : goal.returns-in-Some-clause-room
-returns-in-Some-clause-room c e setup t o s = cc
+returns-in-Some-clause-room g c e setup t o s = cc
 
 pub returns-in-Some-clause-stopped : goal.returns-in-Some-clause-stopped
-returns-in-Some-clause-stopped c f setup t o s =
+returns-in-Some-clause-stopped g c f setup t o s =
     let now = c.loop-taken.invariant.stands setup t o s in (
       λ e. let same : c.in-Some.fault ≡ f = cc in sym now.stopped ∙ sym c.in-Some.ensures.value ∙ ap Some same,
       λ e. let same : Some c.in-Some.fault ≡ Some f = c.in-Some.ensures.value ∙ now.stopped ∙ e in cc,
     )
 
 pub returns-in-Some-clause-stopped_at : goal.returns-in-Some-clause-stopped_at
-returns-in-Some-clause-stopped_at c f setup t o s e =
+returns-in-Some-clause-stopped_at g c f setup t o s e =
     let now = c.loop-taken.invariant.stands setup t o s in
     let same : c.in-Some.fault ≡ f = cc in
     record {
@@ -73,18 +73,18 @@ returns-in-Some-clause-stopped_at c f setup t o s e =
     }
 
 pub returns-in-None-clause-more : goal.returns-in-None-clause-more
-returns-in-None-clause-more c e setup t o s = cc
+returns-in-None-clause-more g c e setup t o s = cc
 
 pub returns-in-None-clause-stopped_at : goal.returns-in-None-clause-stopped_at
-returns-in-None-clause-stopped_at c f setup t o s e = cc
+returns-in-None-clause-stopped_at g c f setup t o s e = cc
 
 pub returns-in-None-clause-stopped : goal.returns-in-None-clause-stopped
-returns-in-None-clause-stopped c f setup t o s =
+returns-in-None-clause-stopped g c f setup t o s =
     let now = c.loop-taken.invariant.stands setup t o s in
     (λ e. cc, λ e. let no : None ≡ Some f = c.in-None.ensures.value ∙ now.stopped ∙ e in cc)
 
 pub returns-in-None-2-clause-more : goal.returns-in-None-2-clause-more
-returns-in-None-2-clause-more c e setup t o s =
+returns-in-None-2-clause-more g c e setup t o s =
     let now = c.loop-taken.invariant.stands setup t o s in
     let none : c.loop-taken.self.pending ≡ [] = empty_unless _ c.if-pending.ensures.1 in
     record {
@@ -98,18 +98,18 @@ returns-in-None-2-clause-more c e setup t o s =
     }
 
 pub returns-in-None-2-clause-room : goal.returns-in-None-2-clause-room
-returns-in-None-2-clause-room c e setup t o s = cc
+returns-in-None-2-clause-room g c e setup t o s = cc
 
 pub returns-in-None-2-clause-stopped_at : goal.returns-in-None-2-clause-stopped_at
-returns-in-None-2-clause-stopped_at c f setup t o s e = cc
+returns-in-None-2-clause-stopped_at g c f setup t o s e = cc
 
 pub returns-in-None-2-clause-stopped : goal.returns-in-None-2-clause-stopped
-returns-in-None-2-clause-stopped c f setup t o s =
+returns-in-None-2-clause-stopped g c f setup t o s =
     let now = c.loop-taken.invariant.stands setup t o s in
     (λ e. cc, λ e. let no : None ≡ Some f = c.in-None.ensures.value ∙ now.stopped ∙ e in cc)
 
 pub returns-in-None-clause-room : goal.returns-in-None-clause-room
-returns-in-None-clause-room c e setup t o s =
+returns-in-None-clause-room g c e setup t o s =
     let now = c.loop-taken.invariant.stands setup t o s in
     let some = c.if-pending.ensures.0 refl in
     record {
@@ -118,30 +118,30 @@ returns-in-None-clause-room c e setup t o s =
     }
 
 pub returns-in-None-2-clause-idle : goal.returns-in-None-2-clause-idle
-returns-in-None-2-clause-idle c e = empty_unless _ c.if-pending.ensures.1
+returns-in-None-2-clause-idle g c e = empty_unless _ c.if-pending.ensures.1
 
 pub returns-in-None-clause-waits : goal.returns-in-None-clause-waits
-returns-in-None-clause-waits c e = c.if-pending.ensures.0 refl
+returns-in-None-clause-waits g c e = c.if-pending.ensures.0 refl
 
 pub returns-in-Some-clause-idle : goal.returns-in-Some-clause-idle
-returns-in-Some-clause-idle c e = cc
+returns-in-Some-clause-idle g c e = cc
 
 pub returns-in-Some-clause-waits : goal.returns-in-Some-clause-waits
-returns-in-Some-clause-waits c e = cc
+returns-in-Some-clause-waits g c e = cc
 
 pub returns-in-Some-clause-byte : goal.returns-in-Some-clause-byte
-returns-in-Some-clause-byte c f e =
+returns-in-Some-clause-byte g c f e =
     let same : c.in-Some.fault ≡ f = cc in
     subst IsOfByte same c.in-Some.ensures.byte
 
 pub returns-in-None-clause-idle : goal.returns-in-None-clause-idle
-returns-in-None-clause-idle c e = cc
+returns-in-None-clause-idle g c e = cc
 
 pub returns-in-None-clause-byte : goal.returns-in-None-clause-byte
-returns-in-None-clause-byte c f e = cc
+returns-in-None-clause-byte g c f e = cc
 
 pub returns-in-None-2-clause-waits : goal.returns-in-None-2-clause-waits
-returns-in-None-2-clause-waits c e = cc
+returns-in-None-2-clause-waits g c e = cc
 
 pub returns-in-None-2-clause-byte : goal.returns-in-None-2-clause-byte
-returns-in-None-2-clause-byte c f e = cc
+returns-in-None-2-clause-byte g c f e = cc

@@ -5,7 +5,7 @@ use Rattle.vp_engine.specs.Stands.{Stands}
 use Rattle.vp_engine.proofs.printer.Printer.step.Given as goal
 
 abbrev pub invariant-loop-taken : goal.invariant-loop-taken
-invariant-loop-taken l = record {
+invariant-loop-taken g l = record {
   taken : l.taken ≤ length l.input;
   put : l.put ≤ length l.output;
   rest : drop l.put l.output ≡ drop l.put l.fn.output;
@@ -17,4 +17,4 @@ invariant-loop-taken l = record {
 }
 
 abbrev pub decreases-loop-taken : goal.decreases-loop-taken
-decreases-loop-taken l = length l.input - l.taken
+decreases-loop-taken g l = length l.input - l.taken

@@ -6,13 +6,13 @@ use Rattle.vp_engine.proofs.Cuts.{cut_take, cut_drop, rest_same}
 use Rattle.vp_engine.proofs.printer.Printer.take_some.Goals as goal
 
 pub returns-clause-rest : goal.returns-clause-rest
-returns-clause-rest c =
+returns-clause-rest g c =
     let run = c.take_run-run in
     cut_drop run.result.put c.put-put.result run.new.output c.put-put.new.output (omega (arith, run.ensures.put, run.auto.output)) c.put-put.ensures.rest
     ∙ rest_same run.result.put c.put-put.result run.new.output c.args.output.now run.ensures.rest
 
 pub returns-clause-stands : goal.returns-clause-stands
-returns-clause-stands c = λ setup t o s.
+returns-clause-stands g c = λ setup t o s.
     let run = c.take_run-run in
     let n = run.result.taken in
     let i = c.args.input.now in

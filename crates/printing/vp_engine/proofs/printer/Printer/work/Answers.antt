@@ -6,6 +6,6 @@ use Rattle.vp_engine.specs.Work.{IsWorkAfter}
 use Rattle.vp_engine.proofs.printer.Printer.work.Goals as goal
 
 pub returns-clause-bounds : goal.returns-clause-bounds
-returns-clause-bounds c setup t o s =
+returns-clause-bounds g c setup t o s =
     subst (λ (p : Engine). IsWorkAfter setup (history (rules_of setup) (before_fault (rules_of setup) t)) p.pending c.work.result) c.self.view_is
     (c.work.ensures.bounds setup t _ (subst (λ (p : Engine). Stands setup p t o) (sym c.self.view_is) s).machine)

@@ -3,4 +3,4 @@ use Rattle.vp_engine.specs.Session.{IsSomewhere}
 use Rattle.vp_engine.proofs.session.Session.somewhere.Goals as goal
 
 pub returns : goal.returns
-returns c = subst IsSomewhere c.self.view_is c.self.invariant
+returns g c = subst IsSomewhere c.self.view_is c.self.invariant
