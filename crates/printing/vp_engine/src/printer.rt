@@ -95,7 +95,8 @@ impl<A: Small> Printer<A> {
     /// One over a machine that took nothing.
     fn over(machine: Machine<A>) -> Self
         requires { TookNothing (machine_of machine) }
-        ensures { (setup : Setup) → MachineStands (machine_of machine) setup [] [] → Stands setup result [] [] }
+        ensures { (setup : Setup) → MachineStands (machine_of machine) setup [] [] →
+            Stands setup result [] [] }
     {
         items_grow();
         Printer {
