@@ -38,7 +38,7 @@ fn image<const N: usize>(head: &[u8; 11]) -> [u8; N] {
 }
 
 /// The sheets of both fonts.
-fn sheets<A: Small + Copy>(alloc: A) -> Result<Sheets<A>, Fail> {
+pub fn sheets<A: Small + Copy>(alloc: A) -> Result<Sheets<A>, Fail> {
     let a = Sheet::read(alloc, &image::<9227>(b"P4\n192 384\n"), 12, 24)?;
     let b = Sheet::read(alloc, &image::<4907>(b"P4\n144 272\n"), 9, 17)?;
     Ok(Sheets {
