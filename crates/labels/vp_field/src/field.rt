@@ -128,7 +128,7 @@ fn paint_qr<A: Small>(
     ensures dots { (sheets : Given) → RowsPainted BAND_ROWS on.op
         (drawn sheets stored.now (contents.Qr symbol) on first) band.old band.new }
     ensures lines { result ≤ most_lines (lines_of on.orientation) }
-    ensures counted { (sheets : Sheets) →
+    ensures counted { (sheets : Given) →
         IsCounted (drawn sheets stored.now (contents.Qr symbol) on first) result }
 {
     let qr = vp_qr::drawn(
