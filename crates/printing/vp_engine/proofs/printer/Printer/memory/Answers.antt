@@ -1,5 +1,4 @@
-use Rattle.std.proofs.Common.{sym, subst, ap, ◌∙◌}
-use Rattle.vp_engine.specs.Memory.{memory_held}
+use Rattle.std.proofs.Common.{sym, subst, ◌∙◌}
 use Rattle.vp_engine.specs.Stands.{Engine, Stands}
 use Rattle.vp_engine.proofs.Memories.{made_with}
 use Rattle.vp_engine.proofs.printer.Printer.memory.Goals as goal

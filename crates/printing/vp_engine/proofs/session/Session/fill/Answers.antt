@@ -8,4 +8,4 @@ pub invariant_of-self : goal.invariant_of-self
 invariant_of-self g c =
     let i = c.self.invariant in
     let none = ap (λ (s : Desk). s.unread) c.self.view_is ∙ c.requires in
-    (i.0, i.1 ++ c.read_from.new.self, i.2, at_fills i.0 (the_view c.self.inside) _ i.1 i.2 i.3 none refl refl refl refl c.read_from.ensures.fit)
+    (i.0, i.1 ++ c.read_from.new.self, i.2, at_fills i.0 (the_view g.row.A g.A.Allocator c.self.inside) _ i.1 i.2 i.3 none refl refl refl refl c.read_from.ensures.fit)

@@ -17,7 +17,7 @@ pub returns-else-n-eq0-clause-at : goal.returns-else-n-eq0-clause-at
 returns-else-n-eq0-clause-at g c setup r w a = record {
   accepted = take c.in-Ok.n c.as_slice.result.now;
   appended = c.in-Ok.ensures.bytes;
-  at = at_wrote setup (the_view c.self.inside) _ r w c.as_slice.result.now c.in-Ok.n (subst (λ (s : Desk). IsAt setup s r w) (sym c.self.view_is) a) c.as_slice.ensures.value c.in-Ok.ensures.bound refl refl refl c.consume.ensures c.saturating_add-self-inside.ensures;
+  at = at_wrote setup (the_view g.row.A g.A.Allocator c.self.inside) _ r w c.as_slice.result.now c.in-Ok.n (subst (λ (s : Desk). IsAt setup s r w) (sym c.self.view_is) a) c.as_slice.ensures.value c.in-Ok.ensures.bound refl refl refl c.consume.ensures c.saturating_add-self-inside.ensures;
 }
 
 pub returns-in-Err-clause-at : goal.returns-in-Err-clause-at
