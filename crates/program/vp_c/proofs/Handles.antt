@@ -38,10 +38,10 @@ use borrow.Fn.Impl as Impl
 use borrow.Fn.Kinds as Kinds
 use borrow.Fn.Run as Run
 use mir.Syntax.{method}
-use Rattle.vp_engine.proofs.printer.Printer.drop.Kinds as drop-kinds
-use Rattle.vp_engine.proofs.printer.Printer.drop.Met as drop-met
-use Rattle.vp_engine.proofs.printer.Printer.drop.Reads as drop-reads
-use Rattle.vp_engine.proofs.printer.Printer.drop.Symbol as drop-symbol
+use Rattle.vp_c.proofs.owned.Owned.drop.Kinds as drop-kinds
+use Rattle.vp_c.proofs.owned.Owned.drop.Met as drop-met
+use Rattle.vp_c.proofs.owned.Owned.drop.Reads as drop-reads
+use Rattle.vp_c.proofs.owned.Owned.drop.Symbol as drop-symbol
 use Rattle.std.specs.Prelude.{Option, None, Some}
 use Rattle.std.specs.Box.Ownership.{box_owns}
 use Rattle.std.specs.contracts.alloc.Global as heap
@@ -53,24 +53,25 @@ use Rattle.std.proofs.boxed.Box.TheLaws as box_laws
 use Rattle.std.specs.contracts.boxed.Box.into_raw as IR
 use Rattle.std.specs.contracts.boxed.Box.from_raw as FR
 use Rattle.core.proofs.alloc.Calls.{handle_tells}
-use Rattle.vp_engine.proofs.printer.Printer.TheLaws as printer_laws
-use Rattle.vp_c.specs.Handles.{holds, freeable, printer_row}
+use Rattle.vp_c.specs.contracts.owned.Owned as printer
+use Rattle.vp_c.proofs.owned.Owned.TheLaws as printer_laws
+use Rattle.vp_c.specs.Handles.{holds, freeable}
 use Rattle.vp_c.specs.contracts.handle.Handle as handle
 
 abbrev pub Good : RattleType → Val → Type 0
 Good R v = T (has_ty (layout R) v) × WT v
+
+abbrev pub P : RattleType
+P = printer.the_row
+
+abbrev pub P-laws : Laws P
+P-laws = printer_laws.the_row_laws
 
 abbrev pub Heap : RattleType
 Heap = heap.the_row
 
 abbrev pub Heap-laws : Laws Heap
 Heap-laws = heap_laws.the_row_laws
-
-abbrev pub P : RattleType
-P = printer_row
-
-abbrev pub P-laws : Laws P
-P-laws = printer_laws.the_row_laws Heap ghosts Heap-laws
 
 -- the same as a call passes them
 abbrev pub P' : RattleType
@@ -102,7 +103,7 @@ owned p x = box_owns freeable P p x
 
 -- the dictionaries that a call of a box's function passes: the printer's drop, and that a heap's handle needs none
 abbrev pub printer_drop : Dict
-printer_drop = impl ("vp_engine::printer::Printer::drop" ∷ []) tnil dnil
+printer_drop = impl ("vp_c::owned::Owned::drop" ∷ []) tnil dnil
 
 abbrev pub no_drop : Dict
 no_drop = impl ("vp_c::Destruct++none::drop" ∷ []) (tcons (layout Heap') tnil) dnil

@@ -1,3 +1,4 @@
 pub mod Handles
 pub mod Numbers
 pub mod Sheets
+pub mod Listings

@@ -1,5 +1,5 @@
 -- The numbers of what is answered.
-use Rattle.std.specs.Prelude.{◌≡◌, ◌+◌, ℕ, Option, Some, None}
+use Rattle.std.specs.Prelude.{◌+◌, ℕ, Option, Some, None}
 use Rattle.vp_glyph.specs.Reading as glyph
 use Rattle.vp_glyph.specs.declared.sheet.SheetError.{SheetError}
 use Rattle.vp_c.specs.declared.answer.Refusal.{Refusal}

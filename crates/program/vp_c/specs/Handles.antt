@@ -3,28 +3,22 @@ use base.Fml.{Fml, ftrue, ffalse}
 use denote.RawPtr.{Ptr, null_ptr, block_ptr}
 use mir.Syntax.{Ty}
 use Rattle.std.specs.Prelude.{ℕ, List, Option, None, Some}
-use Rattle.std.specs.Borrow.{RattleType}
 use Rattle.std.specs.Box.Ownership.{box_owns}
-use Rattle.std.specs.contracts.alloc.Global as global
 use Rattle.std.specs.contracts.impls.GlobalAllocator.TheImpl.{ghosts}
 use Rattle.vp_engine.specs.Setups.{Setup}
 use Rattle.vp_engine.specs.Stands.{Engine, Stands}
-use Rattle.vp_engine.specs.contracts.printer.Printer.{the_row}
+use Rattle.vp_c.specs.contracts.owned.Owned.{the_row}
 
 -- the right to free a block of the C library's heap
 abbrev pub freeable : Ty → Ptr → Fml
 freeable = ghosts.dealloc_token (record { memory = record { seal = tt } })
-
--- a printer over the C library's heap
-abbrev pub printer_row : RattleType
-printer_row = the_row global.the_row ghosts
 
 -- nothing at null, else a printer on the C library's heap, with the right to free its block
 abbrev pub holds : Ptr → Option Engine → Fml
 holds null_ptr None = ftrue
 holds null_ptr (Some p) = ffalse
 holds (block_ptr b o) None = ffalse
-holds (block_ptr b o) (Some p) = box_owns freeable printer_row (block_ptr b o) p
+holds (block_ptr b o) (Some p) = box_owns freeable the_row (block_ptr b o) p
 
 -- there is a printer, which took the bytes t and put out the bytes o
 abbrev pub StandsIn : Setup → Option Engine → List ℕ → List ℕ → Type 0

@@ -1,21 +1,22 @@
 //! A printer behind a pointer that C holds.
 ghost use Rattle.std.specs.Prelude.{◌≡◌, Option, None, Some, MatchOption};
 ghost use Rattle.std.specs.Coded.{coded_option};
-ghost use Rattle.vp_c.specs.Handles.{holds, printer_row};
+ghost use Rattle.vp_c.specs.Handles.{holds};
 ghost use Rattle.vp_engine.specs.Stands.{Engine};
+ghost use Rattle.vp_c.specs.contracts.owned.Owned.{the_row};
 
+use crate::owned::Owned;
 use std::alloc::Global;
 use std::marker::{Model, Send};
 use std::mem::replace;
 use std::ptr::null_mut;
-use vp_engine::Printer;
 
 /// Null, or the pointer to a printer, which it owns.
 #[repr(C)]
 #[derive(Drop)]
 pub struct Handle {
     at: *mut u8,
-    pub ghost printer: { Option Engine } by { coded_option printer_row.coded },
+    pub ghost printer: { Option Engine } by { coded_option (the_row).coded },
 }
 
 impl Model for Handle {
@@ -34,7 +35,7 @@ impl Handle {
     }
 
     /// A printer's.
-    pub fn of(printer: Box<Printer, Global>) -> Self
+    pub fn of(printer: Box<Owned, Global>) -> Self
         ensures { result.printer ≡ Some printer.value }
     {
         let at = Box::into_raw(printer);
@@ -42,18 +43,18 @@ impl Handle {
     }
 
     /// The printer, where there is one.
-    fn into_box(self, alloc: Global) -> Option<Box<Printer, Global>>
+    fn into_box(self, alloc: Global) -> Option<Box<Owned, Global>>
         ensures { MatchOption result (self.printer ≡ None) (λ b. self.printer ≡ Some b.value) }
     {
         let Handle { at } = self;
         if at.is_null() {
             return None;
         }
-        Some(unsafe { Box::from_raw(alloc, at as *mut Printer) })
+        Some(unsafe { Box::from_raw(alloc, at as *mut Owned) })
     }
 
     /// Takes the printer out, where there is one, and leaves null.
-    pub fn take(&mut self, alloc: Global) -> Option<Box<Printer, Global>>
+    pub fn take(&mut self, alloc: Global) -> Option<Box<Owned, Global>>
         ensures taken { MatchOption result (self.old.printer ≡ None)
             (λ b. self.old.printer ≡ Some b.value) }
         ensures left { self.new.printer ≡ None }

@@ -7,18 +7,19 @@ ghost use Rattle.vp_engine.specs.Stands.{Stands};
 use crate::answer::{NO_LANGUAGE, NO_MEMORY, OK};
 use crate::handle::Handle;
 use crate::making::language_of;
+use crate::owned::Owned;
 use std::alloc::Global;
 use vp_engine::{Language, Printer};
 
 /// The listing printer of a language, with places or without.
-fn listing(language: Language, with_offsets: bool) -> Printer
+fn listing(language: Language, with_offsets: bool) -> Owned
     ensures alone { with_offsets ≡ false → Stands (Listing language) result [] [] }
     ensures placed { with_offsets ≡ true → Stands (ListingWithOffsets language) result [] [] }
 {
     if with_offsets {
-        Printer::listing_with_offsets(language)
+        Owned::of(Printer::listing_with_offsets(language))
     } else {
-        Printer::listing(language)
+        Owned::of(Printer::listing(language))
     }
 }
 

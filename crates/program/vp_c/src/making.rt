@@ -4,6 +4,7 @@ ghost use Rattle.vp_c.specs.Making.{language_of, sheet_in, IsMade, IsRefused, Is
 
 use crate::answer::{OK, Refusal};
 use crate::handle::Handle;
+use crate::owned::Owned;
 use std::alloc::Global;
 use vp_engine::{Language, Printer};
 use vp_glyph::{Sheet, SheetError, Sheets};
@@ -37,7 +38,7 @@ fn sheet_in(alloc: Global, bytes: &[u8], w: u32, h: u32) -> Result<Option<Sheet>
 }
 
 /// The printer of a language's number with sheets of these bytes, or why there is none.
-fn made(alloc: Global, number: u32, a: &[u8], b: &[u8]) -> Result<Box<Printer, Global>, Refusal>
+fn made(alloc: Global, number: u32, a: &[u8], b: &[u8]) -> Result<Box<Owned, Global>, Refusal>
     ensures made { IfOk result (λ it. IsMade number a.now b.now it.value) }
     ensures refused { IfErr result (λ why. IsRefused number a.now b.now why) }
 {
@@ -55,7 +56,7 @@ fn made(alloc: Global, number: u32, a: &[u8], b: &[u8]) -> Result<Box<Printer, G
     let Ok(printer) = Printer::new(alloc, language, Sheets { a, b }) else {
         return Err(Refusal::Memory);
     };
-    match Box::new(alloc, printer) {
+    match Box::new(alloc, Owned::of(printer)) {
         Ok(it) => Ok(it),
         Err(_) => Err(Refusal::Memory),
     }

@@ -1,7 +1,7 @@
 //! Printers are stepped and asked.
 ghost use Rattle.std.specs.Prelude.{◌≡◌};
 ghost use Rattle.vp_c.specs.Printing.{IsEnd, IsFinished, IsPendingAnswer, IsHeld};
-ghost use Rattle.vp_c.specs.Steps.{IsStep, IsStepOf};
+ghost use Rattle.vp_c.specs.Steps.{IsStepOf};
 
 use crate::answer::{NO_PRINTER, OK, PENDING};
 use crate::fault::{FaultOfC, NO_FAULT};
@@ -10,13 +10,6 @@ use crate::held::{HeldNow, NOTHING_HELD};
 use crate::progress::{NOTHING, Progress};
 use std::alloc::Global;
 use vp_engine::Printer;
-
-/// One step of a printer.
-fn step(printer: &mut Printer, input: &[u8], output: &mut [u8]) -> Progress
-    ensures { IsStep printer.old printer.new input.now output.old output.new result }
-{
-    Progress::of(printer.step(input, output))
-}
 
 /// Takes input and puts out paper, until the input ends, the output is full or a fault comes.
 #[unsafe(no_mangle)]
@@ -34,7 +27,7 @@ pub extern "C" fn vp_step(
         *done = NOTHING;
         return NO_PRINTER;
     };
-    *done = step(&mut it, input, output);
+    *done = it.step(input, output);
     *printer = Handle::of(it);
     OK
 }
@@ -62,7 +55,7 @@ pub extern "C" fn vp_finish(alloc: Global, printer: &mut Handle, fault: &mut Fau
         *fault = NO_FAULT;
         return NO_PRINTER;
     };
-    let (answer, told) = ending(&it);
+    let (answer, told) = ending(it.printer());
     *fault = told;
     *printer = Handle::of(it);
     answer
@@ -77,7 +70,7 @@ pub extern "C" fn vp_pending(alloc: Global, printer: &mut Handle) -> u32
     let Some(it) = printer.take(alloc) else {
         return NO_PRINTER;
     };
-    let answer = if it.pending() { PENDING } else { OK };
+    let answer = if it.printer().pending() { PENDING } else { OK };
     *printer = Handle::of(it);
     answer
 }
@@ -92,7 +85,7 @@ pub extern "C" fn vp_held(alloc: Global, printer: &mut Handle, held: &mut HeldNo
         *held = NOTHING_HELD;
         return NO_PRINTER;
     };
-    *held = HeldNow::of(it.held());
+    *held = HeldNow::of(it.printer().held());
     *printer = Handle::of(it);
     OK
 }

@@ -8,10 +8,9 @@ use denote.RawPtr.{Ptr, block_ptr, null_ptr}
 use denote.Struct.Owning.{Owning, shape, fields, to}
 use denote.Struct.Struct.{exits_of}
 use Rattle.std.specs.Prelude.{Option, None, Some}
-use Rattle.std.specs.contracts.impls.GlobalAllocator.TheImpl.{ghosts}
 use Rattle.std.below.std_heap.proofs.GlobalAllocator.TheSendSync.{the_frees}
 use Rattle.std_alloc.proofs.SendSync.{quiet, lies}
-use Rattle.vp_engine.proofs.printer.Printer.TheSendSync.{the_send}
+use Rattle.vp_c.proofs.owned.Owned.TheSendSync.{the_send}
 use Rattle.vp_c.specs.Handles.{holds}
 use Rattle.vp_c.specs.contracts.handle.Handle.{the_row, the_type}
 use Rattle.vp_c.proofs.Handles.{P}

@@ -48,7 +48,7 @@ of_spec {M} 𝓤 𝓛 𝓜 𝓡 wired =
     let known = met 𝓤 𝓛 𝓜 𝓡 (code.calls-std_alloc::boxed::Box::into_raw 𝓡.env wired) P' Heap' P'-laws Heap'-laws ghosts dict no_drop printer_drop
     (passed 𝓡.env (code.calls-std_heap::GlobalAllocator::allocate 𝓡.env wired) (code.calls-std_heap::GlobalAllocator::deallocate 𝓡.env wired) (code.calls-std_heap::GlobalAllocator::grow 𝓡.env wired) (code.calls-std_heap::GlobalAllocator::shrink 𝓡.env wired) M 𝓤 𝓛 𝓜 𝓡)
     (glues "vp_c::Destruct++none::drop" 𝓡.env (code.calls-vp_c::Destruct++none::drop 𝓡.env wired) Heap' Heap'-laws M 𝓤 𝓛 𝓜 𝓡)
-    (printer_glue 𝓤 𝓛 𝓜 𝓡 (code.calls-vp_engine::printer::Printer::drop 𝓡.env wired)) in
+    (printer_glue 𝓤 𝓛 𝓜 𝓡 (code.calls-vp_c::owned::Owned::drop 𝓡.env wired)) in
     qed 𝓛 ((raw (alive 𝓛 f.ended.signature z.0.0 z.0.1) ⊛ ‵ (owns (types_at f.ended.signature.params z.0.0) z.0.3 z.0.4)) ∷ ‵ ftrue ∷ []) ∵
     move ! (1 ∷ []) $ drop ! $ split ! $ move ! (1 ∷ []) $ fsplit ! $ tells ! Boxed Boxed-laws d z.0.4.0 (λ u is good. move ! (1 ∷ []) $ drop ! $
     regoal ! (λ (us : List Val). prop (WpFn 𝓤 𝓛.H 𝓣.C 𝓣.Λ code.function (us ++ []) Post)) is refl $

@@ -2,7 +2,7 @@ use Rattle.std.proofs.Common.{sym, subst}
 use Rattle.vp_c.specs.Steps.{IsStep}
 use Rattle.vp_c.specs.declared.progress.Progress.{Progress}
 use Rattle.vp_c.proofs.Numbers.{is_more, is_room, is_stopped, stops, no_fault_unless}
-use Rattle.vp_c.proofs.printing.step.Goals as goal
+use Rattle.vp_c.proofs.owned.step.Goals as goal
 
 pub returns : goal.returns
 returns c =
