@@ -1,6 +1,7 @@
 //! Printers of both languages over a heap of just as many bytes as they hold with their sheets, beside
 //! printers over `Global`.
 use linked_list_allocator::LocalHeap;
+use std::alloc::Global;
 use std::process::Abort;
 use std::test::Fail;
 use vp_dots::Small;
@@ -45,6 +46,14 @@ fn sheets<A: Small + Copy>(alloc: A) -> Result<Sheets<A>, Fail> {
     })
 }
 
+/// Whether a stream may end here.
+fn is_at_end<A: Small>(printer: &Printer<A>) -> bool {
+    if printer.pending() {
+        return false;
+    }
+    printer.finish().is_ok()
+}
+
 /// Both put out the same for each byte of a stream, while nothing of the heap is free: how much.
 fn prints_alike(
     rt: &impl Abort,
@@ -65,15 +74,20 @@ fn prints_alike(
         assert_eq!(rt; heap.free(), 0);
         all = all.wrapping_add(step.put);
     }
-    assert!(rt; inside.finish().is_ok());
+    assert!(rt; is_at_end(inside));
     all
 }
 
 /// How much a printer puts out of a stream in a heap of just its size, as one over `Global` does.
-fn printed(rt: &HostRuntime, language: Language, stream: &[u8]) -> Result<usize, Fail> {
-    let mut plain = Printer::new(rt.alloc(), language, sheets(rt.alloc())?)?;
+fn printed(
+    rt: &impl Abort,
+    alloc: Global,
+    language: Language,
+    stream: &[u8],
+) -> Result<usize, Fail> {
+    let mut plain = Printer::new(alloc, language, sheets(alloc)?)?;
     let size = plain.memory();
-    let heap = LocalHeap::new(rt.alloc(), size)?;
+    let heap = LocalHeap::new(alloc, size)?;
     assert_eq!(rt; heap.free(), size);
     let all = {
         let mut inside = Printer::<&LocalHeap>::new(&heap, language, sheets(&heap)?)?;
@@ -86,22 +100,25 @@ fn printed(rt: &HostRuntime, language: Language, stream: &[u8]) -> Result<usize,
 
 #[test]
 fn a_receipt_takes_its_memory_and_nothing_after(rt: HostRuntime) -> Result<(), Fail> {
-    assert_eq!(rt; printed(&rt, Language::Receipt, RECEIPT)?, 17_070);
+    assert_eq!(rt;
+        printed(&rt, rt.alloc(), Language::Receipt, RECEIPT)?,
+        17_070
+    );
     Ok(())
 }
 
 #[test]
 fn a_label_takes_its_memory_and_nothing_after(rt: HostRuntime) -> Result<(), Fail> {
-    assert_eq!(rt; printed(&rt, Language::Label, LABEL)?, 11_550);
+    assert_eq!(rt; printed(&rt, rt.alloc(), Language::Label, LABEL)?, 11_550);
     Ok(())
 }
 
 /// A printer is refused in a smaller heap, and what it took is given back. A heap comes by 16 bytes.
-fn is_refused(rt: &HostRuntime, language: Language) -> Result<(), Fail> {
-    let size = Printer::new(rt.alloc(), language, sheets(rt.alloc())?)?
+fn is_refused(rt: &impl Abort, alloc: Global, language: Language) -> Result<(), Fail> {
+    let size = Printer::new(alloc, language, sheets(alloc)?)?
         .memory()
         .saturating_sub(16);
-    let heap = LocalHeap::new(rt.alloc(), size)?;
+    let heap = LocalHeap::new(alloc, size)?;
     assert!(rt; Printer::<&LocalHeap>::new(&heap, language, sheets(&heap)?).is_err());
     assert_eq!(rt; heap.free(), size);
     Ok(())
@@ -109,6 +126,6 @@ fn is_refused(rt: &HostRuntime, language: Language) -> Result<(), Fail> {
 
 #[test]
 fn a_printer_is_refused_in_a_smaller_heap(rt: HostRuntime) -> Result<(), Fail> {
-    is_refused(&rt, Language::Receipt)?;
-    is_refused(&rt, Language::Label)
+    is_refused(&rt, rt.alloc(), Language::Receipt)?;
+    is_refused(&rt, rt.alloc(), Language::Label)
 }
