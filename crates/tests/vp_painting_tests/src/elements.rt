@@ -166,7 +166,7 @@ fn ean_13(widths: &[u8]) -> [u8; 20] {
 
 /// A row of the bars of some bytes, in modules of one dot, where they have a symbol.
 fn row_of(how: Made, src: &[u8]) -> Option<[u8; 20]> {
-    let sheets = Sheets { a: None, b: None };
+    let sheets: Sheets = Sheets { a: None, b: None };
     let bars = symbol_of(how, src).ok()?;
     let mut row = [0; 20];
     bars.boxed(1, 2, 1, &sheets, Font::A, HriPosition::None)
