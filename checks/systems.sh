@@ -44,7 +44,7 @@ done
 for check in ./checks/program.py ./checks/examples.sh; do tried "$PWD/dist/vp-static" "$check"; done
 status=0
 # shellcheck disable=SC3045
-(ulimit -v 2000 && exec dist/vp-static label examples/shelf.zpl) >"$room/printed" 2>"$room/said" || status=$?
+(ulimit -v 1400 && exec dist/vp-static label examples/shelf.zpl) >"$room/printed" 2>"$room/said" || status=$?
 [ "$status $(cat "$room/said")" = '4 vp: out of memory' ] || fail "memory that is refused: status $status, $(cat "$room/said")"
 if [ "$(id -u)" = 0 ] && command -v chroot >/dev/null; then
     mkdir "$room/root"
