@@ -2,7 +2,7 @@
 ghost use Rattle.std.specs.Prelude.{◌≡◌, ◌≤◌, ◌<◌, ◌+◌, ◌*◌, ◌/◌, ◌%◌, ◌++◌, ◌∷◌, [], length, codes};
 ghost use Rattle.std.specs.Prelude.{option_to_list};
 ghost use Rattle.vp_dots.specs.Listing.{listed as listed_as};
-ghost use Rattle.vp_esc.specs.Lines.{line_of, lead_word, two_bytes, column_byte as column_byte_as};
+ghost use Rattle.vp_esc.specs.Lines.{line_of, esc_line_of, gs_line_of, lead_word, two_bytes, column_byte as column_byte_as};
 ghost use Rattle.vp_esc.specs.Lines.{model_byte as model_byte_as, level_byte as level_byte_as, symbol_bytes};
 
 use crate::item::{ColumnMode, EscItem, Lead, QrLevel, QrModel, Spelled};
@@ -25,13 +25,24 @@ impl EscItem {
             EscItem::Cancel => listed(b"CAN", &[]),
             EscItem::Control(b) => byte_line(b"ctl", b),
             EscItem::Character(b) => byte_line(b"char", b),
+            EscItem::Column8(b) => byte_line(b"column", b),
+            EscItem::Column24(ref bytes) => listed(b"column", bytes),
+            EscItem::RasterByte(b) | EscItem::QrByte(b) => byte_line(b"byte", b),
+            EscItem::WithoutEffect { lead, ref bytes } => listed(lead.word(), bytes.as_slice()),
+            _ => self.esc_line(),
+        }
+    }
+
+    /// The line of a command of ESC, or else of GS.
+    fn esc_line(&self) -> ArrayVec<u8, 800>
+        ensures { result.items ≡ esc_line_of self.now }
+    {
+        match *self {
             EscItem::RightSpacing(n) => esc(0x20, n),
             EscItem::PrintMode(Spelled { byte, .. }) => esc(0x21, byte),
             EscItem::Position(n) => esc_word(0x24, n),
             EscItem::MovePosition(n) => esc_word(0x5C, n.cast_unsigned()),
             EscItem::Columns { mode, count } => columns(mode, count),
-            EscItem::Column8(b) => byte_line(b"column", b),
-            EscItem::Column24(ref bytes) => listed(b"column", bytes),
             EscItem::Underline(Spelled { byte, .. }) => esc(0x2D, byte),
             EscItem::DefaultLineSpacing => esc_alone(0x32),
             EscItem::LineSpacing(n) => esc(0x33, n),
@@ -55,6 +66,15 @@ impl EscItem {
             EscItem::Justify(Spelled { byte, .. }) => esc(0x61, byte),
             EscItem::CutLeavingOnePoint => esc_alone(0x69),
             EscItem::CutLeavingThreePoints => esc_alone(0x6D),
+            _ => self.gs_line(),
+        }
+    }
+
+    /// The line of a command of GS, nothing of any other item.
+    fn gs_line(&self) -> ArrayVec<u8, 800>
+        ensures { result.items ≡ gs_line_of self.now }
+    {
+        match *self {
             EscItem::Magnify(Spelled { byte, .. }) => gs(0x21, byte),
             EscItem::VerticalPosition(n) => gs_word(0x24, n),
             EscItem::MoveVerticalPosition(n) => gs_word(0x5C, n.cast_unsigned()),
@@ -68,16 +88,14 @@ impl EscItem {
             EscItem::Cut(Spelled { byte, .. }) => gs(0x56, byte),
             EscItem::FeedAndCut { cut, dots } => feed_and_cut(cut.byte, dots),
             EscItem::Raster { scale, bytes, rows } => raster(scale.byte, bytes, rows),
-            EscItem::RasterByte(b) => byte_line(b"byte", b),
             EscItem::Symbol { kind, ref data, .. } => symbol(kind.byte, data.as_slice()),
             EscItem::QrModel(model) => qr_model(model),
             EscItem::QrModule(n) => qr_function(67, n),
             EscItem::QrLevel(level) => qr_function(69, level_byte(level)),
             EscItem::QrStore(count) => qr_store(count),
-            EscItem::QrByte(b) => byte_line(b"byte", b),
             EscItem::QrPrint => qr_function(81, 48),
             EscItem::QrIgnored(ref bytes) => joined(b"gs", &[0x28, 0x6B], bytes.as_slice(), &[]),
-            EscItem::WithoutEffect { lead, ref bytes } => listed(lead.word(), bytes.as_slice()),
+            _ => ArrayVec::new(),
         }
     }
 }

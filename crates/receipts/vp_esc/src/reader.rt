@@ -1,5 +1,5 @@
 //! The reader: one byte at a time.
-ghost use Rattle.std.specs.Prelude.{◌≡◌, ◌↔◌, ◌≤◌, ◌<◌, ◌+◌, ◌*◌, ℕ, IsTrue, true, false, Some, None, Err};
+ghost use Rattle.std.specs.Prelude.{◌≡◌, ◌↔◌, ◌≤◌, ◌<◌, ◌+◌, ◌-◌, ◌*◌, ℕ, IsTrue, true, false, Some, None, Err};
 ghost use Rattle.std.specs.Prelude.{List, [], ◌∷◌, ◌++◌, length, take, min};
 ghost use Rattle.std.specs.List.{AllByRecursion, prefix_len};
 ghost use Rattle.std.specs.Borrow.{sem};
@@ -8,7 +8,7 @@ ghost use Rattle.vp_esc.specs.Shown.{shown, shown_answer, shown_loan};
 ghost use Rattle.vp_esc.specs.Reader.{Stands, StandsIn, Gives, Advances, Begun, Lands, InArguments, InStops};
 ghost use Rattle.vp_esc.specs.Reader.{InBytes, InTallColumns, InSymbolToZero, InSymbolData, InQr};
 ghost use Rattle.vp_esc.specs.Reader.{bytes_or_ground, tall_or_ground, columns_or_ground, qr_or_ground};
-ghost use Rattle.vp_esc.specs.Reader.{behind_values, raster_data, raster_items, stored_items, is_text, text_items};
+ghost use Rattle.vp_esc.specs.Reader.{behind_values, raster_data, data_items, raster_items, stored_items, is_text, text_items};
 ghost use Rattle.vp_esc.specs.Runs.{raster_left, skipped_left, stored_left, text_front};
 ghost use Rattle.vp_dots.specs.declared.fault.Fault.{Fault};
 ghost use Rattle.vp_esc.specs.Command.{lead_byte, head_len};
@@ -447,6 +447,26 @@ impl EscReader {
         }
     }
 
+    /// Takes bytes of data, all but the last of `left`, and tells how many.
+    #[inline(always)]
+    fn take_bytes(&mut self, kind: Data, left: u32, input: &[u8]) -> usize
+        requires { self.old.phase ≡ Phase.Bytes kind left }
+        ensures count { result ≡ min (length input.now) (left - 1) }
+        ensures gives { (bytes : List ℕ) (n : ℕ) → Stands self.old bytes → n ≤ result →
+            items (bytes ++ take n input.now) ≡ items bytes ++ data_items kind (take n input.now) }
+        ensures known { (bytes : List ℕ) (n : ℕ) → Stands self.old bytes → 0 < n → n ≤ result →
+            fault_of (bytes ++ take n input.now) ≡ None }
+        ensures stands { (bytes : List ℕ) → Stands self.old bytes →
+            Stands self.new (bytes ++ take result input.now) }
+    {
+        let taken = input.len().min(left.saturating_sub(1) as usize);
+        self.phase = Phase::Bytes {
+            kind,
+            left: left - taken as u32,
+        };
+        taken
+    }
+
     /// Takes bytes of a raster that is printed, all but its last, and tells how many; none anywhere else.
     pub fn take_raster(&mut self, input: &[u8]) -> usize
         ensures count { (bytes : List ℕ) → Stands self.old bytes →
@@ -459,19 +479,13 @@ impl EscReader {
         ensures stands { (bytes : List ℕ) → Stands self.old bytes →
             Stands self.new (bytes ++ take result input.now) }
     {
-        let Phase::Bytes {
-            kind: Data::Raster,
-            left,
-        } = self.phase
-        else {
-            return 0;
-        };
-        let n = input.len().min(left.saturating_sub(1) as usize);
-        self.phase = Phase::Bytes {
-            kind: Data::Raster,
-            left: left - n as u32,
-        };
-        n
+        match self.phase {
+            Phase::Bytes {
+                kind: Data::Raster,
+                left,
+            } => self.take_bytes(Data::Raster, left, input),
+            _ => 0,
+        }
     }
 
     /// Takes bytes of data that give nothing, all but the last, and tells how many; none anywhere else.
@@ -490,14 +504,7 @@ impl EscReader {
             Phase::Bytes {
                 kind: Data::Skipped,
                 left,
-            } => {
-                let skipped = input.len().min(left.saturating_sub(1) as usize);
-                self.phase = Phase::Bytes {
-                    kind: Data::Skipped,
-                    left: left - skipped as u32,
-                };
-                skipped
-            }
+            } => self.take_bytes(Data::Skipped, left, input),
             _ => 0,
         }
     }
@@ -514,19 +521,13 @@ impl EscReader {
         ensures stands { (bytes : List ℕ) → Stands self.old bytes →
             Stands self.new (bytes ++ take result input.now) }
     {
-        let Phase::Bytes {
-            kind: Data::Stored,
-            left,
-        } = self.phase
-        else {
-            return 0;
-        };
-        let stored = input.len().min(left.saturating_sub(1) as usize);
-        self.phase = Phase::Bytes {
-            kind: Data::Stored,
-            left: left - stored as u32,
-        };
-        stored
+        match self.phase {
+            Phase::Bytes {
+                kind: Data::Stored,
+                left,
+            } => self.take_bytes(Data::Stored, left, input),
+            _ => 0,
+        }
     }
 
     /// Takes the text at the front, characters and controls that do nothing, and tells how many bytes it has;

@@ -1,22 +1,17 @@
-use Rattle.std.proofs.Common.{◌≡◌, ◌-◌, ◌++◌, length, take, min, ap, subst, rules, ◌∙◌, arith}
-use Rattle.std.proofs.lemmas.List.{length-take-le}
+use Rattle.std.proofs.Common.{◌≡◌, length, min, ap, rules, ◌∙◌}
 use Rattle.vp_esc.specs.declared.reader.Data.TheVariants as kinds
 use Rattle.vp_esc.specs.declared.reader.Phase.TheVariants as phases
 use Rattle.vp_esc.specs.Reader.{Stands, are_rows}
 use Rattle.vp_esc.specs.Split.{split}
 use Rattle.vp_esc.proofs.Lefts.{left_by, rows_left_is}
-use Rattle.vp_esc.proofs.Runs.{front, before_bytes}
 use Rattle.vp_esc.proofs.reader.EscReader.take_raster.Goals as goal
 
-pub returns-clause-count : goal.returns-clause-count
+pub returns-in-Bytes-Raster-default-clause-count : goal.returns-in-Bytes-Raster-default-clause-count
 unfolding Stands
-returns-clause-count c bytes s =
+returns-in-Bytes-Raster-default-clause-count c bytes s =
     let r = c.args.self.now in
-    let left = c.in-Bytes-Raster-default.left in
-    let kind : c.in-Bytes-Raster-default.kind ≡ kinds.Raster = rw c.in-Bytes-Raster-default.is at c.in-Bytes-Raster-default.kind-is in
-    let phase : r.phase ≡ phases.Bytes kinds.Raster left = c.in-Bytes-Raster-default.is ∙ ap (λ k. phases.Bytes k left) kind in
-    let e = rows_left_is r.phase r (split bytes).rest s ∙ ap (left_by are_rows) phase in
-    rw e (omega (arith, c.min-n.ensures, c.saturating_sub.ensures))
+    let phase : r.phase ≡ phases.Bytes kinds.Raster c.in-Bytes-Raster-default.left = search rules in
+    rw (rows_left_is r.phase r (split bytes).rest s ∙ ap (left_by are_rows) phase) c.take_bytes.ensures.count
 
 pub returns-in_default-clause-count : goal.returns-in_default-clause-count
 unfolding Stands
@@ -31,31 +26,3 @@ returns-in_default-2-clause-count c bytes s =
     let r = c.args.self.now in
     let none : 0 ≡ min (length c.args.input.now) (left_by are_rows r.phase) = search rules in
     rw (rows_left_is r.phase r (split bytes).rest s) none
-
-pub returns-clause-gives : goal.returns-clause-gives
-returns-clause-gives c bytes n s h =
-    let left = c.in-Bytes-Raster-default.left in
-    let kind : c.in-Bytes-Raster-default.kind ≡ kinds.Raster = rw c.in-Bytes-Raster-default.is at c.in-Bytes-Raster-default.kind-is in
-    let phase : c.args.self.now.phase ≡ phases.Bytes kinds.Raster left = c.in-Bytes-Raster-default.is ∙ ap (λ k. phases.Bytes k left) kind in
-    (front c.args.self.now kinds.Raster left bytes c.args.input.now n phase s
-    (omega (arith, c.min-n.ensures)) (omega (arith, c.min-n.ensures, c.saturating_sub.ensures))).gives
-
-pub returns-clause-known : goal.returns-clause-known
-returns-clause-known c bytes n s some h =
-    let left = c.in-Bytes-Raster-default.left in
-    let kind : c.in-Bytes-Raster-default.kind ≡ kinds.Raster = rw c.in-Bytes-Raster-default.is at c.in-Bytes-Raster-default.kind-is in
-    let phase : c.args.self.now.phase ≡ phases.Bytes kinds.Raster left = c.in-Bytes-Raster-default.is ∙ ap (λ k. phases.Bytes k left) kind in
-    let long : length (take n c.args.input.now) ≡ n = length-take-le n c.args.input.now (omega (arith, c.min-n.ensures)) in
-    (front c.args.self.now kinds.Raster left bytes c.args.input.now n phase s
-    (omega (arith, c.min-n.ensures)) (omega (arith, c.min-n.ensures, c.saturating_sub.ensures))).known (omega (arith, long))
-
-pub returns-clause-stands : goal.returns-clause-stands
-returns-clause-stands c bytes s =
-    let left = c.in-Bytes-Raster-default.left in
-    let kind : c.in-Bytes-Raster-default.kind ≡ kinds.Raster = rw c.in-Bytes-Raster-default.is at c.in-Bytes-Raster-default.kind-is in
-    let phase : c.args.self.now.phase ≡ phases.Bytes kinds.Raster left = c.in-Bytes-Raster-default.is ∙ ap (λ k. phases.Bytes k left) kind in
-    let n = c.min-n.result in
-    let long : length (take n c.args.input.now) ≡ n = length-take-le n c.args.input.now (omega (arith, c.min-n.ensures)) in
-    subst (λ k. Stands (before_bytes c.args.self.now kinds.Raster (left - k)) (bytes ++ take n c.args.input.now)) long
-    (front c.args.self.now kinds.Raster left bytes c.args.input.now n phase s
-    (omega (arith, c.min-n.ensures)) (omega (arith, c.min-n.ensures, c.saturating_sub.ensures))).stands
