@@ -2,7 +2,6 @@
 use Rattle.std.proofs.Common.{◌≡◌, ℕ, ◌+◌, ◌*◌, ◌<◌, List, [], ◌++◌, length, get_or, drop, Result, Ok, Err, refl, sym, ap, ◌∙◌, append_assoc, arith}
 use Rattle.std.proofs.lemmas.List.{drop_more}
 use Rattle.vp_dots.specs.declared.fault.Why.{Why}
-use Rattle.vp_bars.specs.declared.code_128.Token.TheVariants.{Code}
 use Rattle.vp_bars.specs.CodeSets.{onto, placed}
 
 pub onto_none : (r : Result (List ℕ) Why) → onto [] r ≡ r

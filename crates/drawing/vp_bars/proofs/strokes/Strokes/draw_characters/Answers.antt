@@ -3,44 +3,46 @@ use Rattle.std.proofs.lemmas.Int.{to_z-of_z}
 use Rattle.std.specs.List.{flat_map}
 use Rattle.vp_bars.specs.Widths.{sized, next_widths}
 use Rattle.vp_bars.proofs.Draws.{draws_same, draws_then}
-use Rattle.vp_bars.proofs.Regular.{parts_of, regular_total}
+use Rattle.vp_bars.proofs.Regular.{Parts, parts_of, regular_total}
 use Rattle.vp_bars.proofs.strokes.Strokes.draw_characters.Goals as goal
+use Rattle.vp_bars.proofs.strokes.Strokes.draw_characters.Goals.{After-split_at}
+
+-- the first character, the regular ones behind it, and the last ones
+parts : (c : After-split_at) → let s = c.args.self.now in
+    Parts s.symbology s.narrow s.wide s.values.now c.in-Some.first.now c.split_at.result.0.now c.split_at.result.1.now
+parts c =
+    let s = c.args.self.now in
+    parts_of s.symbology s.narrow s.wide s.regular c.saturating_sub.result c.in-Some.first.now s.values.now c.in-Some.others.now c.split_at.result.0.now c.split_at.result.1.now
+    s.regular_are c.in-Some.ensures.cases.0 c.saturating_sub.ensures c.split_at.ensures.front c.split_at.ensures.back
 
 pub draw-first-requires : goal.draw-first-requires
 draw-first-requires c =
-    let s = c.args.self.now in
-    let p = parts_of s.symbology s.narrow s.wide s.regular c.saturating_sub.result c.in-Some.first.now s.values.now c.in-Some.others.now c.split_at.result.0.now c.split_at.result.1.now
-    s.regular_are c.in-Some.ensures.cases.0 c.saturating_sub.ensures c.split_at.ensures.front c.split_at.ensures.back in
+    let p = parts (goal.at.draw-first-requires c).After-split_at in
     rw c.pattern_of.ensures (omega (arith, p.total_is, c.requires))
 
 pub draw_regular-next-requires-clause-regular : goal.draw_regular-next-requires-clause-regular
 draw_regular-next-requires-clause-regular c =
-    let s = c.args.self.now in
-    let p = parts_of s.symbology s.narrow s.wide s.regular c.saturating_sub.result c.in-Some.first.now s.values.now c.in-Some.others.now c.split_at.result.0.now c.split_at.result.1.now
-    s.regular_are c.in-Some.ensures.cases.0 c.saturating_sub.ensures c.split_at.ensures.front c.split_at.ensures.back in
+    let p = parts (goal.at.draw_regular-next-requires-clause-regular c).After-split_at in
     p.regular
 
 pub draw_regular-next-requires-clause-room : goal.draw_regular-next-requires-clause-room
 draw_regular-next-requires-clause-room c =
     let s = c.args.self.now in
-    let p = parts_of s.symbology s.narrow s.wide s.regular c.saturating_sub.result c.in-Some.first.now s.values.now c.in-Some.others.now c.split_at.result.0.now c.split_at.result.1.now
-    s.regular_are c.in-Some.ensures.cases.0 c.saturating_sub.ensures c.split_at.ensures.front c.split_at.ensures.back in
+    let p = parts (goal.at.draw_regular-next-requires-clause-room c).After-split_at in
     let first = rw c.pattern_of.ensures at c.draw-first.ensures.ends in
     omega (arith, p.total_is, regular_total s.symbology s.narrow s.wide c.split_at.result.0.now p.regular, first, c.requires)
 
 pub draw_next-requires : goal.draw_next-requires
 draw_next-requires c =
     let s = c.args.self.now in
-    let p = parts_of s.symbology s.narrow s.wide s.regular c.saturating_sub.result c.in-Some.first.now s.values.now c.in-Some.others.now c.split_at.result.0.now c.split_at.result.1.now
-    s.regular_are c.in-Some.ensures.cases.0 c.saturating_sub.ensures c.split_at.ensures.front c.split_at.ensures.back in
+    let p = parts (goal.at.draw_next-requires c).After-split_at in
     let first = rw c.pattern_of.ensures at c.draw-first.ensures.ends in
     omega (arith, p.total_is, regular_total s.symbology s.narrow s.wide c.split_at.result.0.now p.regular, first, c.draw_regular-next.ensures.ends, c.requires)
 
 pub returns : goal.returns
 returns c =
     let s = c.args.self.now in
-    let p = parts_of s.symbology s.narrow s.wide s.regular c.saturating_sub.result c.in-Some.first.now s.values.now c.in-Some.others.now c.split_at.result.0.now c.split_at.result.1.now
-    s.regular_are c.in-Some.ensures.cases.0 c.saturating_sub.ensures c.split_at.ensures.front c.split_at.ensures.back in
+    let p = parts (goal.at.returns c).After-split_at in
     let g = next_widths s.symbology s.narrow s.wide in
     let front = ap (λ es. sized s.symbology s.narrow s.wide es ++ (flat_map g c.split_at.result.0.now ++ flat_map g c.split_at.result.1.now)) c.pattern_of.ensures in
     rw (sym (to_z-of_z w64 c.args.at c.ranges.at)) (draws_same _ _ _ _ _ _ _ _ (front ∙ p.widths_are)
