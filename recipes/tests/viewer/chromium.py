@@ -14,6 +14,22 @@ def installed():
     return next((it for it in map(shutil.which, NAMES) if it), None)
 
 
+def at_home(folder, **more):
+    """An environment whose home is a folder, where a browser leaves what it saves and keeps."""
+    kept = {name: it for name, it in os.environ.items() if not name.startswith('XDG_')}
+    return {**kept, 'HOME': str(folder), 'XDG_CACHE_HOME': f'{folder}/.cache', **more}
+
+
+def standing(browser, script):
+    """The middle of the element that a script gives, once that stands still."""
+    last, place = None, []
+    while place != last:
+        last, place = place, browser.value(f'(() => {{ const box = ({script}).getBoundingClientRect();'
+                                           ' return [box.x + box.width / 2, box.y + box.height / 2]; })()')
+        time.sleep(0.1)
+    return place
+
+
 class Chromium:
     """One page. What is asked and isn't answered in time is an error."""
 
@@ -35,12 +51,13 @@ class Chromium:
                  '--no-first-run', '--disable-dev-shm-usage', '--hide-scrollbars', f'--user-data-dir={folder}/profile',
                  f'--window-size={width},{height}', 'about:blank']
         self.ran = subprocess.Popen(words, close_fds=False, preexec_fn=pipes, stdin=subprocess.DEVNULL,
-                                    stdout=self.log, stderr=self.log, start_new_session=True)
+                                    stdout=self.log, stderr=self.log, start_new_session=True, env=at_home(folder))
         os.close(ours[0])
         os.close(theirs[1])
         self.to, self.back, self.held, self.count, self.errors, self.dialogs = ours[1], theirs[0], b'', 0, [], []
         # whether a page that asks is stayed on
         self.session, self.stays = None, True
+        self.version = self.ask('Browser.getVersion')['product'].partition('/')[2]
         page = next(it for it in self.ask('Target.getTargets')['targetInfos'] if it['type'] == 'page')
         self.session = self.ask('Target.attachToTarget', targetId=page['targetId'], flatten=True)['sessionId']
         self.ask('Page.enable')
@@ -117,14 +134,15 @@ class Chromium:
             self.ask('Input.dispatchKeyEvent', type=kind, key=key, code=key, windowsVirtualKeyCode=code,
                      modifiers=modifiers)
 
+    def insert(self, text):
+        """Puts a text at the cursor, at once."""
+        self.ask('Input.insertText', text=text)
+
     def click(self, script):
         """Clicks the middle of the element that a script gives, once that stands still."""
-        last, place = None, []
-        while place != last:
-            last, place = place, self.value(f'(() => {{ const box = ({script}).getBoundingClientRect();'
-                                            ' return [box.x + box.width / 2, box.y + box.height / 2]; })()')
-            time.sleep(0.1)
-        x, y = place
+        self.click_at(*standing(self, script))
+
+    def click_at(self, x, y):
         for kind in 'mousePressed', 'mouseReleased':
             self.ask('Input.dispatchMouseEvent', type=kind, x=x, y=y, button='left', clickCount=1)
 

@@ -1,4 +1,4 @@
-"""Tests the viewer's page in Chromium."""
+"""Tests the viewer's page in a browser."""
 import concurrent.futures
 import json
 import pathlib
@@ -102,8 +102,9 @@ def test_mark(browser):
     """A line of the listing marks its bytes; the cursor marks the line."""
     browser.value("document.querySelectorAll('#tabs [role=tab]')[0].click()")
     browser.wait(READY, 'the paper')
-    browser.wait("document.querySelectorAll('#listing .row').length > 10", 'lines of the listing')
-    browser.click("[...document.querySelectorAll('#listing .row')].find(it => it.textContent.includes('^LL1218'))")
+    row = "[...document.querySelectorAll('#listing .row')].find(it => it.textContent.includes('^LL1218'))"
+    browser.wait(row, 'its line in the listing')
+    browser.click(row)
     browser.wait("document.querySelector('.layer .chosen')", 'the mark')
     same(browser.value(TEXTS % '.layer .chosen'), '^LL1218')
     browser.value('''(() => { const area = document.getElementById('text'); area.focus();
@@ -155,11 +156,13 @@ def test_drop(browser):
     same(drawn(browser), printed('receipt', data))
     browser.value('''(() => { const area = document.getElementById('text'); area.focus();
       const at = area.value.indexOf('Milk'); area.setSelectionRange(at, at + 4); })()''')
-    browser.ask('Input.insertText', text='Beer')
+    browser.insert('Beer')
     same(bytes_now(browser), data.replace(b'Milk', b'Beer'))
     same(drawn(browser), printed('receipt', data.replace(b'Milk', b'Beer')))
-    browser.value('''(text => { const data = new DataTransfer(); data.setData('text', text);
-      document.body.dispatchEvent(new ClipboardEvent('paste', { clipboardData: data, bubbles: true })); })(%s)'''
+    # (Firefox makes such an event of its data's text)
+    browser.value('''(text => { const clipboardData = new DataTransfer(); clipboardData.setData('text', text);
+      document.body.dispatchEvent(new ClipboardEvent('paste',
+        { clipboardData, data: text, dataType: 'text/plain', bubbles: true })); })(%s)'''
                   % json.dumps('\\x1b@pasted\\n\n'))
     browser.wait("viewer.tab().name === 'pasted'", 'the pasted stream')
     same(bytes_now(browser), b'\x1b@pasted\n')
@@ -172,7 +175,7 @@ def test_compare(browser):
     for box in '^FO32,8^GB8,8,8^FS', '^FO48,8^GB8,4,4^FS':
         new_stream(browser, 'label')
         browser.value("document.getElementById('text').select()")
-        browser.ask('Input.insertText', text=base % box)
+        browser.insert(base % box)
         browser.wait(READY, 'the paper')
     browser.value('''(() => { const box = document.getElementById('compare');
       box.value = [...box.options].filter(it => it.text.startsWith('new')).at(-1).value;
@@ -214,7 +217,7 @@ def test_changed(browser, file):
     browser.wait(f"viewer.tab().bytes.length === {len(second)} && {READY}", "the file's bytes")
     same(bytes_now(browser), second)
     type_at(browser, '^FS')
-    browser.ask('Input.insertText', text='^FR')
+    browser.insert('^FR')
     mine = second.replace(b'^FS', b'^FR^FS')
     file.write_bytes(third)
     browser.wait("!document.getElementById('changed').hidden", 'the question')
@@ -282,7 +285,7 @@ def test_parts(browser):
         assert 0 < at < end < len(data) or end == len(data), (at, end)
         browser.value("""(() => { const area = document.getElementById('text'); area.focus();
           area.setSelectionRange(1, 2); })()""")
-        browser.ask('Input.insertText', text='ü')
+        browser.insert('ü')
         one = len(stream.encode()[at:].decode()[0].encode())
         cut = len('\r\n') if data[at:at + 2] == b'\r\n' else one
         lost = len('\r\n') if data[at + cut:at + cut + 2] == b'\r\n' else one
@@ -313,7 +316,7 @@ def test_remarks_line(browser):
     """Remarks are one line that opens, and stand over no text."""
     new_stream(browser, 'receipt')
     browser.value("document.getElementById('text').select()")
-    browser.ask('Input.insertText', text='\\x81\\x01\\x1b{\\x01\\x7f\\x7f\\x1dI\\x01Price\\n\n')
+    browser.insert('\\x81\\x01\\x1b{\\x01\\x7f\\x7f\\x1dI\\x01Price\\n\n')
     browser.wait('viewer.tab().told === viewer.tab().edits && viewer.tab().remarks.length', 'remarks')
     same(browser.value("document.querySelector('#remarks summary').textContent"),
          '1 byte without a character, 1 command read past')
@@ -329,7 +332,7 @@ def test_dimmed(browser):
     """While a command is being typed the paper that was printed before stays, dimmed."""
     new_stream(browser, 'label')
     browser.value("document.getElementById('text').select()")
-    browser.ask('Input.insertText', text='^XA^PW80^LL40^FO8,8^GB8,8,8^FS^XZ')
+    browser.insert('^XA^PW80^LL40^FO8,8^GB8,8,8^FS^XZ')
     browser.wait(READY, 'the paper')
     browser.value("document.querySelector('[data-zoom=\"1\"]').click()")
     type_at(browser, '^XZ', '^GFA,1,2')
@@ -357,8 +360,7 @@ def click_dot(browser, x, y, sheet=0):
       return [box.x + (left + x + .5) / paper.ratio - paper.scroll.scrollLeft,
               box.y + (top + y + .5) / paper.ratio - paper.scroll.scrollTop]; })(%d, %d)""" % (sheet, x, y))
     browser.value('viewer.tab().chosen = null')
-    for kind in 'mousePressed', 'mouseReleased':
-        browser.ask('Input.dispatchMouseEvent', type=kind, x=place[0], y=place[1], button='left', clickCount=1)
+    browser.click_at(*place)
     browser.wait('viewer.tab().chosen', f'what drew {x}, {y}')
     start, end = browser.value('[viewer.tab().chosen.from, viewer.tab().chosen.to]')
     browser.wait("document.activeElement.id === 'text'", 'the editor')
@@ -380,7 +382,7 @@ def test_origins(browser):
     label = b'^XA^PW80^LL40^LH2,1' + b''.join(boxes) + b'^PQ2^XZ^XA' + b'^FO8,8^GB9,9,9^FS^XZ'
     new_stream(browser, 'label')
     browser.value("document.getElementById('text').select()")
-    browser.ask('Input.insertText', text=label.decode())
+    browser.insert(label.decode())
     browser.wait(READY, 'the paper')
     same(browser.value('viewer.tab().sheets.length'), 3)
     for x, y, found in (10, 9, 0), (15, 13, 0), (43, 10, 1), (47, 15, 2), (80 - 1, 40 - 1, None):
@@ -411,7 +413,7 @@ def test_origins(browser):
 def test_names(browser):
     """A receipt's commands by their names beside their bytes; of all that vp reads none is without one."""
     shown(browser, 'receipt.bin')
-    browser.wait("document.querySelectorAll('#listing .row').length > 10", 'lines of the listing')
+    browser.value(FRAME)
     rows = browser.value("""[...document.querySelectorAll('#listing .row')].map(it =>
         [...it.children].map(one => one.textContent))""")
     for named in ['ESC @', 'begin anew'], ['GS ! 11', 'size 2 × 2'], ['LF', 'print line']:
@@ -455,7 +457,7 @@ def test_sizes(browser):
     """Dots a millimetre, a size from outside, and the paper as PNG and PDF in its true size."""
     new_stream(browser, 'label')
     browser.value("document.getElementById('text').select()")
-    browser.ask('Input.insertText', text='^XA^FO8,8^GB8,8,8^FS^XZ')
+    browser.insert('^XA^FO8,8^GB8,8,8^FS^XZ')
     browser.wait(READY, 'the paper')
     size = '(({ width, height }) => [width, height])(viewer.tab().sheets[0])'
     same(browser.value(size), [832, 1218])
@@ -510,7 +512,7 @@ def test_count(browser):
     """Of many images the first are shown, and all are counted."""
     new_stream(browser, 'label')
     browser.value("document.getElementById('text').select()")
-    browser.ask('Input.insertText', text='^XA^PW80^LL8^FO0,0^GB8,8,8^FS^PQ70^XZ')
+    browser.insert('^XA^PW80^LL8^FO0,0^GB8,8,8^FS^PQ70^XZ')
     browser.wait(READY, 'the paper')
     said = "[viewer.tab().sheets.length, viewer.paper.total, document.querySelector('.message').textContent]"
     same(browser.value(said), [64, '70', 'the first 64 of 70 images are shown'])

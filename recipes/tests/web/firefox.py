@@ -5,12 +5,14 @@ import pathlib
 import socket
 import subprocess
 import time
+from chromium import at_home
+from driven import Driven
 
 NAME = 'firefox-esr'
 
 
-class Firefox:
-    """One page. What is asked and isn't answered in time is an error."""
+class Firefox(Driven):
+    """What is asked and isn't answered in time is an error."""
 
     name = 'Firefox'
 
@@ -20,16 +22,19 @@ class Firefox:
             port = it.getsockname()[1]
         profile = pathlib.Path(folder, 'profile')
         profile.mkdir()
-        profile.joinpath('user.js').write_text(f'user_pref("marionette.port", {port});\n', encoding='utf-8')
+        # (a PDF that the page saves isn't shown before it)
+        profile.joinpath('user.js').write_text(f'user_pref("marionette.port", {port});\n'
+                                               'user_pref("pdfjs.disabled", true);\n', encoding='utf-8')
         with open(os.path.join(folder, 'firefox.log'), 'ab') as log:
             words = [NAME, '--headless', '--no-remote', '--marionette', '--profile', str(profile)]
             self.ran = subprocess.Popen(words, stdin=subprocess.DEVNULL, stdout=log, stderr=log,
-                                        env={**os.environ, 'HOME': str(folder)}, start_new_session=True)
+                                        env=at_home(folder), start_new_session=True)
         self.count, self.held = 0, b''
         self.line = self.connected(port)
         # (Firefox greets)
         self.read()
-        self.ask('WebDriver:NewSession', capabilities={'alwaysMatch': {'timeouts': {'script': 60000}}})
+        made = self.ask('WebDriver:NewSession', timeouts={'script': 60000})
+        self.version = made['capabilities']['browserVersion']
 
     def connected(self, port, seconds=60):
         until = time.monotonic() + seconds
@@ -66,28 +71,20 @@ class Firefox:
             raise RuntimeError(f"{command}: {fault['message']}")
         return found
 
-    def size(self, width, height):
-        self.ask('WebDriver:SetWindowRect', x=0, y=0, width=width, height=height)
-
-    def open(self, address):
+    def go(self, address):
         self.ask('WebDriver:Navigate', url=address)
 
-    def value(self, script):
-        """What a script gives, its promises kept."""
-        asked = f"""const done = arguments[arguments.length - 1];
-          (async () => ({script}))().then(value => done({{ value }}), fault => done({{ fault: String(fault) }}));"""
-        found = self.ask('WebDriver:ExecuteAsyncScript', script=asked, args=[], sandbox=None)['value']
-        if 'fault' in found:
-            raise RuntimeError(found['fault'])
-        return found.get('value')
+    def place(self, rectangle):
+        self.ask('WebDriver:SetWindowRect', **rectangle)
 
-    def wait(self, script, what, seconds=60):
-        until = time.monotonic() + seconds
-        while time.monotonic() < until:
-            if self.value(f'!!({script})'):
-                return
-            time.sleep(0.02)
-        raise AssertionError(f'{what}: not within {seconds} s')
+    def run(self, script):
+        return self.ask('WebDriver:ExecuteAsyncScript', script=script, args=[], sandbox=None)['value']
+
+    def act(self, source):
+        self.ask('WebDriver:PerformActions', actions=[source])
+
+    def shot(self):
+        return self.ask('WebDriver:TakeScreenshot', full=False)['value']
 
     def close(self):
         self.line.close()

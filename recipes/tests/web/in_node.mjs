@@ -1,8 +1,9 @@
-// In node: in_node.mjs PRINTED VP. The same bytes as vp printed, and how long the module takes beside vp, where neither
-// start is counted.
+// In node: in_node.mjs PRINTED [VP]. The same bytes as vp printed, and with VP what calls say, and how long the module
+// takes beside vp, where neither start is counted.
 import { spawnSync } from 'node:child_process';
 import { webcrypto } from 'node:crypto';
 import { readFileSync, rmSync, writeFileSync } from 'node:fs';
+import { fileURLToPath } from 'node:url';
 import * as vp from '../../web/vp.js';
 import { same } from './same.js';
 
@@ -11,7 +12,8 @@ globalThis.crypto ??= webcrypto;
 const [streams, program] = process.argv.slice(2);
 await vp.load(new URL('../../../dist/vp.wasm', import.meta.url));
 const asked = JSON.parse(readFileSync(streams));
-console.log(`node ${process.versions.node}: ${await same(vp, asked)} streams are printed as vp prints them`);
+console.log(`node ${process.versions.node}: ${await same(vp, asked)} streams are printed and listed as by vp`);
+if (!program) process.exit();
 
 // What a call that goes wrong says, and listings.
 const isSo = (found, wanted) => {
@@ -44,7 +46,7 @@ for (const [language, name] of [['receipt', 'ticket.bin'], ['label', 'shelf.zpl'
 
 // The processor's seconds for a long stream, without what the system does.
 const examples = new URL('../../../examples/', import.meta.url);
-const sheet = letter => new URL(`font-${letter}.pbm`, examples).pathname;
+const sheet = letter => fileURLToPath(new URL(`font-${letter}.pbm`, examples));
 const bytesOf = name => new Uint8Array(readFileSync(name));
 const least = run => Math.min(...Array.from({ length: 3 }, run));
 const file = `${process.env.TMPDIR ?? '/tmp'}/vp-long`;

@@ -1,6 +1,6 @@
 #!/usr/bin/env python3
-"""The viewer as one page: in_page.py chromium PAGE PRINTED and in_page.py firefox PAGE PRINTED test it in a browser;
-in_page.py picture PAGE FILE [dark] draws it."""
+"""The viewer as one page: in_page.py BROWSER PAGE PRINTED tests it in chromium, firefox or webkit, and with "streams"
+behind that only prints the streams; in_page.py picture PAGE FILE [dark] draws it."""
 import base64
 import json
 import pathlib
@@ -14,6 +14,7 @@ from chromium import Chromium  # noqa: E402
 from firefox import Firefox  # noqa: E402
 from in_browser import ON_BOTH, READY, bytes_now, drawn, new_stream, printed, shown, type_at  # noqa: E402
 from serving import RECEIPT, SHIPPING, same  # noqa: E402
+from webkit import WebKit  # noqa: E402
 
 WITHIN = 'Array.from(document.scripts).find(it => it.id === "given").textContent'
 
@@ -32,9 +33,9 @@ def test_same(browser, streams):
     asked = json.loads(streams.read_text())
     count = 0
     for at in range(0, len(asked['streams']), 100):
-        part = {**asked, 'streams': asked['streams'][at:at + 100]}
+        part = {**asked, 'seed': asked['seed'] + at, 'streams': asked['streams'][at:at + 100]}
         count += browser.value(f'same(printer, {json.dumps(part)})')
-    print(f'{browser.name}: {count} streams are printed as vp prints them')
+    print(f'{browser.name} {browser.version}: {count} streams are printed and listed as by vp')
 
 
 def test_limits(browser):
@@ -42,7 +43,7 @@ def test_limits(browser):
     new_stream(browser, 'label')
     browser.value("document.getElementById('text').select()")
     text = '^XA^PW1248^LL8000' + '^BY10^BCR,1248^FDaaaaaaaaaaaaaaaaaaaaaaaa^FS' * 40 + '^PQ99999999^XZ'
-    browser.ask('Input.insertText', text=text)
+    browser.insert(text)
     browser.wait(f"viewer.tab().said?.ended && {READY}", 'its end', 40)
     new_stream(browser, 'label')
     assert b'P4' in bytes(browser.value('[...viewer.tab().paper.subarray(0, 2)]'))
@@ -63,10 +64,10 @@ def test_followed(browser):
         browser.value(f'disk = {{ time: Date.now() + {len(data)}, data: Uint8Array.from({list(data)}) }}')
         browser.wait(f'String(viewer.tab().onDisk ?? viewer.tab().bytes) === String({list(data)})', "the file's bytes")
 
-    browser.value("""var disk, handle = { name: 'disk.zpl',
+    browser.value("""(() => { window.disk = null; const handle = { name: 'disk.zpl',
       getFile: async () => new File([disk.data], 'disk.zpl', { lastModified: disk.time }) };
       window.showOpenFilePicker = async () => [handle];
-      viewer.desk.printer.pick ??= () => viewer.desk.printer.picked();""")
+      viewer.desk.printer.pick ??= () => viewer.desk.printer.picked(); })()""")
     browser.value(f'disk = {{ time: 1, data: Uint8Array.from({list(first)}) }}')
     browser.click("document.getElementById('open-file')")
     browser.wait("viewer.tab().name === 'disk.zpl'", 'the file')
@@ -74,7 +75,7 @@ def test_followed(browser):
     put(second)
     same(drawn(browser), printed('label', second))
     type_at(browser, '^FS')
-    browser.ask('Input.insertText', text='^FR')
+    browser.insert('^FR')
     put(third)
     browser.wait("!document.getElementById('changed').hidden", 'the question')
     same(bytes_now(browser), second.replace(b'^FS', b'^FR^FS'))
@@ -89,41 +90,27 @@ def opened(browser, page):
     return time.monotonic() - start
 
 
-def test_in_firefox(room, page, streams):
-    browser = Firefox(room)
-    try:
-        browser.size(2200, 1900)
-        opened(browser, page)
-        same(drawn(browser), printed('label', SHIPPING.read_bytes()))
-        test_alone(browser)
-        test_same(browser, streams)
-    finally:
-        browser.close()
+def test_first(browser):
+    """The paper that the page shows first, and another example's."""
+    same(browser.value('viewer.tab().name'), 'shipping.zpl')
+    same(drawn(browser), printed('label', SHIPPING.read_bytes()))
+    browser.value("(() => { const box = document.getElementById('examples'); box.value = [...box.options]"
+                  ".find(it => it.text === 'receipt.bin').value; box.dispatchEvent(new Event('change')); })()")
+    browser.wait("viewer.tab().name === 'receipt.bin'", 'the example')
+    same(drawn(browser), printed('receipt', RECEIPT.read_bytes()))
+    shown(browser, 'shipping.zpl')
 
 
-def test_in_chromium(room, page, streams):
-    browser = Chromium(room)
-    try:
-        opened(browser, page)
+def test_page(browser, page, streams, only_streams):
+    opened(browser, page)
+    if not only_streams:
         took = opened(browser, page)
-        print(f'the page is loaded, and has printed, in {1000 * took:.0f} ms')
+        print(f'{browser.name}: the page is loaded, and has printed, in {1000 * took:.0f} ms')
         browser.size(2200, 1700)
-        same(browser.value('viewer.tab().name'), 'shipping.zpl')
-        same(drawn(browser), printed('label', SHIPPING.read_bytes()))
-        browser.value("(() => { const box = document.getElementById('examples'); box.value = [...box.options]"
-                      ".find(it => it.text === 'receipt.bin').value; box.dispatchEvent(new Event('change')); })()")
-        browser.wait("viewer.tab().name === 'receipt.bin'", 'the example')
-        same(drawn(browser), printed('receipt', RECEIPT.read_bytes()))
-        shown(browser, 'shipping.zpl')
-        for it in ON_BOTH:
-            it(browser)
-        test_alone(browser)
-        test_followed(browser)
-        test_limits(browser)
-        test_same(browser, streams)
-        same(browser.errors, [])
-    finally:
-        browser.close()
+        for test in (test_first, *ON_BOTH, test_alone, test_followed, test_limits):
+            test(browser)
+    test_same(browser, streams)
+    same(browser.errors, [])
 
 
 def picture(room, page, name, dark):
@@ -137,11 +124,22 @@ def picture(room, page, name, dark):
         browser.close()
 
 
-if __name__ == '__main__':
-    what, place, *more = sys.argv[1:]
-    with tempfile.TemporaryDirectory() as at:
+BROWSERS = {'chromium': Chromium, 'firefox': Firefox, 'webkit': WebKit}
+
+
+def main():
+    what, page, file, *more = sys.argv[1:]
+    page = pathlib.Path(page).resolve()
+    with tempfile.TemporaryDirectory() as room:
         if what == 'picture':
-            picture(at, pathlib.Path(place).resolve(), more[0], more[1:] == ['dark'])
-        else:
-            test = {'chromium': test_in_chromium, 'firefox': test_in_firefox}[what]
-            test(at, pathlib.Path(place).resolve(), pathlib.Path(more[0]))
+            picture(room, page, file, more == ['dark'])
+            return
+        browser = BROWSERS[what](room)
+        try:
+            test_page(browser, page, pathlib.Path(file), more == ['streams'])
+        finally:
+            browser.close()
+
+
+if __name__ == '__main__':
+    main()

@@ -1,34 +1,48 @@
-// Whether the module prints what vp printed: the streams of printed.py, each cut at random. Tells how many were the
-// same; the first that isn't is an error.
-export async function same(vp, { sheets, streams }) {
-  const bytesOf = text => Uint8Array.from(atob(text), it => it.charCodeAt(0));
+// Whether the module prints and lists what vp did: the streams of printed.py, each cut at random. Tells how many were
+// the same; the first that isn't is an error.
+
+const bytesOf = text => Uint8Array.from(atob(text), it => it.charCodeAt(0));
+
+// What came out, and how it ended, as printed.py tells it.
+async function told(pieces, fault) {
+  const data = await new Blob(pieces).arrayBuffer();
+  const digest = new Uint8Array(await crypto.subtle.digest('SHA-256', data));
+  const sum = [...digest].map(it => it.toString(16).padStart(2, '0')).join('');
+  return `${data.byteLength} ${sum} ${fault ? 1 : 0} ${fault ?? ''}`;
+}
+
+function fed(machine, bytes, random) {
+  const pieces = [];
+  for (let at = 0; at < bytes.length && !machine.fault;) {
+    const to = at + 1 + random(random(4) ? 40 : 4000);
+    pieces.push(machine.feed(bytes.subarray(at, to)));
+    at = to;
+  }
+  return pieces;
+}
+
+export async function same(vp, { seed, sheets, streams }) {
   const fonts = { fontA: bytesOf(sheets.a), fontB: bytesOf(sheets.b) };
-  let seed = 1;
   const random = most => {
     seed = (Math.imul(seed, 1103515245) + 12345) >>> 0;
     return (seed >>> 8) % most;
   };
-  for (const [n, { language, width, stream, sum, length, line }] of streams.entries()) {
-    const choices = language === 'receipt' ? { ...fonts, width } : { fontA: fonts.fontA };
+  for (const { name, language, width, stream, paper, listing } of streams) {
     const isSo = (found, wanted) => {
-      if (found !== wanted) throw new Error(`stream ${n} (${language}): ${found}, and vp: ${wanted}`);
+      if (found !== wanted) throw new Error(`${name}: ${found}, and vp: ${wanted}`);
     };
+    const bytes = bytesOf(stream);
+    const choices = language === 'receipt' ? { ...fonts, width } : { fontA: fonts.fontA };
     const printer = new vp.Printer(language, choices);
     const taken = printer.allocations;
-    const bytes = bytesOf(stream);
-    const pieces = [];
-    for (let at = 0; at < bytes.length && !printer.fault;) {
-      const to = at + 1 + random(random(4) ? 40 : 4000);
-      pieces.push(printer.feed(bytes.subarray(at, to)));
-      at = to;
-    }
-    const paper = new Uint8Array(await new Blob(pieces).arrayBuffer());
-    const digest = new Uint8Array(await crypto.subtle.digest('SHA-256', paper));
-    const hex = [...digest].map(it => it.toString(16).padStart(2, '0')).join('');
-    isSo(`${paper.length} ${hex} ${printer.end() ?? ''}`, `${length} ${sum} ${line}`);
-    if (printer.allocations !== taken) throw new Error(`stream ${n}: memory was taken after the printer was made`);
-    const { images } = new vp.Printer(language, choices).print(bytes);
-    if (!line) isSo(images.reduce((count, it) => count + it.toPBM().length, 0), length);
+    isSo(await told(fed(printer, bytes, random), printer.end()), paper);
+    isSo(printer.allocations, taken);
+    const { images, fault } = new vp.Printer(language, choices).print(bytes);
+    if (!fault) isSo(await told(images.map(it => it.toPBM()), fault), paper);
+    const lister = new vp.Listing(language);
+    const lines = fed(lister, bytes, random);
+    const end = lister.end();
+    isSo(await told(lines, ['F1', 'F8'].includes(end?.number) ? end : null), listing);
   }
   return streams.length;
 }
