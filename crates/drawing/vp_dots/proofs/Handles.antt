@@ -1,7 +1,7 @@
 -- The room of a list and a small handle.
-use Rattle.std.proofs.Common.{◌≡◌, ℕ, ◌+◌, ◌-◌, ◌%◌, ◌<◌, ◌≤◌, ◌^◌, max, arith}
+use Rattle.std.proofs.Common.{ℕ, ◌+◌, ◌-◌, ◌%◌, ◌<◌, ◌≤◌, ◌^◌, max, arith}
 use Rattle.std.proofs.lemmas.Nat.{mod_below}
-use prog.Memory.{up, pad, size, align}
+use prog.Memory.{up, pad}
 
 up_small : (k e : ℕ) → 1 ≤ k → up k e < e + k
 up_small k e l = let m : pad k e < k = mod_below (k - e % k) k (omega arith) in omega (arith, m)

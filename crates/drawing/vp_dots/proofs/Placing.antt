@@ -1,5 +1,5 @@
 -- Rows painted one after the other.
-use Rattle.std.proofs.Common.{ℤ, pos, inl, inr, ◌≡◌, ℕ, ◌+◌, ◌-◌, ◌<◌, ◌≤◌, Bool, true, false, eqb, ltb, leb, ◌&&◌, refl, sym, ap, ◌∙◌, arith, List, [], length, get_or, set, get_or-set_same, get_or-set_other}
+use Rattle.std.proofs.Common.{ℤ, pos, inl, inr, ◌≡◌, ℕ, ◌+◌, ◌-◌, ◌<◌, ◌≤◌, Bool, true, false, eqb, ltb, ◌&&◌, refl, sym, ap, ◌∙◌, arith, List, [], length, get_or, set, get_or-set_same, get_or-set_other}
 use Rattle.std.proofs.lemmas.Bool.{cases_eq, cases_lt, lt-ltb, le-ltb, lt-leb, le-leb, false_from_ne_true, true≢false}
 use Rattle.std.proofs.lemmas.List.{get_or_past}
 use Rattle.std.proofs.lemmas.Nat.Bits.{bit_at-zero}
@@ -57,14 +57,6 @@ line_inside left ink h o x v e = elim (cases_lt v h) [
   | inl l ↦ l
   | inr g ↦ absurd (true≢false (sym e ∙ shifted_none left (λ u. ink u v) x (λ u. false_from_ne_true (ink u v) (λ t. absurd (let k = o u v t in omega arith)))))
 ]
-
--- words that are the lines of ink
-pub words_placed : (left top : ℤ) (row h : ℕ) (words : List ℕ) (ink : ℕ → ℕ → Bool) → top ≡ pos row → ((x y : ℕ) → word_dot (get_or words y 0) x ≡ ink x y) → ((u v : ℕ) → ink u v ≡ true → v < h)
-    → (x y : ℕ) → words_dot words left row h x y ≡ placed left top ink x y
-words_placed left top row h words ink t e o x y = rw t (ap (λ b. leb row y && b) (elim (cases_lt (y - row) h) [
-  | inl l ↦ rw (lt-ltb (y - row) h l) (shifted_same left (word_dot (get_or words (y - row) 0)) (λ u. ink u (y - row)) x (λ u _. e u (y - row)))
-  | inr g ↦ rw (le-ltb (y - row) h g) (sym (shifted_none left (λ u. ink u (y - row)) x (λ u. false_from_ne_true (ink u (y - row)) (λ t. absurd (let k = o u (y - row) t in omega arith)))))
-]))
 
 white_word : (x : ℕ) → word_dot 0 x ≡ false
 unfolding bit

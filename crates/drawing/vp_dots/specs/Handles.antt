@@ -1,5 +1,5 @@
 -- How much room the handle of an allocator takes.
-use Rattle.std.specs.Prelude.{ℕ, ◌≤◌, ◌^◌}
+use Rattle.std.specs.Prelude.{◌≤◌, ◌^◌}
 use Rattle.std.specs.Mem.{type_size}
 use denote.RattleType.{RattleType}
 use denote.Memory.{lone}

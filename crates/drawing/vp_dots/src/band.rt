@@ -89,6 +89,17 @@ impl<const B: usize, const H: usize, A: Allocator> Band<B, H, A> {
         &self.rows[y]
     }
 
+    /// The rows from <= y < to.
+    pub fn rows(&self, from: usize, to: usize) -> &[[u8; B]]
+        requires some { from ≤ to }
+        requires inside { to ≤ H }
+        ensures len { length result.now ≡ to - from }
+        ensures rows { (i : ℕ) → i < to - from →
+            slice_index_or result.now i [] ≡ slice_index_or self.now (from + i) [] }
+    {
+        &self.rows[from..to]
+    }
+
     /// The bytes of a row, to be written.
     pub fn row_mut(&mut self, y: usize) -> &mut [u8]
         requires { y < H }

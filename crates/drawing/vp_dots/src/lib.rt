@@ -19,10 +19,9 @@
 //! - `fault`: why a stream is refused.
 #![tactic(auto)]
 
-ghost use Rattle.std.specs.Prelude.{◌≡◌, ℕ, ◌-◌, ◌<◌, Bool, true, slice_index, MatchOption};
+ghost use Rattle.std.specs.Prelude.{◌≡◌, ℕ, ◌-◌, ◌<◌, Bool, true};
 ghost use Rattle.vp_dots.specs.Dots.{shifted};
 ghost use Rattle.vp_dots.specs.Painting.{Painted};
-ghost use Rattle.vp_dots.specs.Words.{word_dot, IsReady};
 
 mod band;
 mod block;
@@ -59,7 +58,7 @@ pub use word::{
     NARROW, eight_at, first_dots, paint_few, paint_narrow, paint_word, word_at, word_of,
 };
 
-/// The most lines of ink that is painted by words at once: as many as a character of a receipt has.
+/// The most lines that are painted by words at once: as many as a character of a receipt has.
 pub const WORDS: usize = 24;
 
 /// What painting does to a dot where there is ink: it makes it black, makes it white, or reverses it.
@@ -106,22 +105,6 @@ pub trait Ink {
                 paint_moved_dot(op, at, x as u128, row);
             }
         }
-    }
-
-    /// Whether the ink is no wider than a word and has no more lines than
-    /// `WORDS`: then the words are its lines.
-    fn words(&self, _words: &mut [u64; WORDS]) -> bool
-        ensures { result ≡ true → (x y : ℕ) → word_dot (slice_index _words.new y) x ≡ ink_at self.now x y }
-    {
-        false
-    }
-
-    /// The lines, where the ink is no wider than a word and keeps them as words.
-    fn ready(&self) -> Option<Ready<'_>>
-        ensures { MatchOption result (Unit {0}) (λ ready.
-            IsReady (height self.now) ready.above ready.words.now (ink_at self.now)) }
-    {
-        None
     }
 
     /// Whether line y is known to have the ink of the line above it, so that

@@ -1,10 +1,10 @@
 //! Ink painted at a place of a band.
-ghost use Rattle.std.specs.Prelude.{◌≡◌, ℕ, ◌<◌, ◌≤◌, ◌^◌, Bool, true, false, ◌+◌, pos, MatchOption, option_map, unwrap_or, length};
+ghost use Rattle.std.specs.Prelude.{◌≡◌, ℕ, ◌<◌, ◌≤◌, ◌^◌, Bool, true, false, ◌+◌, option_map, unwrap_or, length};
 ghost use Rattle.vp_dots.specs.Dots.{shifted};
 ghost use Rattle.vp_dots.specs.Places.{placed, words_dot, RowsPainted};
 
 use crate::word::paint_word;
-use crate::{Band, Ink, Op, WORDS};
+use crate::{Band, Ink, Op};
 use std::alloc::Allocator;
 
 /// The first row that ink with its top at this row may meet.
@@ -40,34 +40,6 @@ fn line_on(top: i64, y: u64) -> Option<u32>
         y.checked_add(far)?
     };
     u32::try_from(line).ok()
-}
-
-/// Applies the operation to the dots of the band where the ink, with its top left place at column
-/// `left` of row `top`, has ink: line by line.
-fn paint_lines<I: Ink, const B: usize, const H: usize, A: Allocator>(
-    ink: &I,
-    op: Op,
-    left: i64,
-    top: i64,
-    band: &mut Band<B, H, A>,
-)
-    ensures { RowsPainted H op (placed left top (I.ink_at ink.now)) band.old band.new }
-{
-    let (_, h) = ink.size();
-    for y in first_row(top)..row_below(top, h).min(H as u64) {
-        if let Some(line) = line_on(top, y) {
-            ink.paint_row(line, op, left, band.row_mut(y as usize));
-        }
-    }
-}
-
-/// Row `top`, on which `h` lines begin, where the `rows` rows of the band have one for each.
-fn row_for(top: i64, h: u32, rows: usize) -> Option<usize>
-    ensures { MatchOption result (Unit {0}) (λ row. (top ≡ pos row) × (row + h ≤ rows)) }
-{
-    let row = usize::try_from(top).ok()?;
-    let below = row.checked_add(h as usize)?;
-    if below <= rows { Some(row) } else { None }
 }
 
 /// Paints the first `h` words, one on each row from `top` on.
@@ -109,8 +81,8 @@ pub fn paint_words<const B: usize, const H: usize, A: Allocator>(
     }
 }
 
-/// Applies the operation to the dots of the band where the ink, with its top left
-/// place at column `left` of row `top`, has ink.
+/// Applies the operation to the dots of the band where the ink, with its top left place at column `left` of
+/// row `top`, has ink.
 pub fn paint_at<I: Ink, const B: usize, const H: usize, A: Allocator>(
     ink: &I,
     op: Op,
@@ -121,12 +93,9 @@ pub fn paint_at<I: Ink, const B: usize, const H: usize, A: Allocator>(
     ensures { RowsPainted H op (placed left top (I.ink_at ink.now)) band.old band.new }
 {
     let (_, h) = ink.size();
-    if let Some(row) = row_for(top, h, H) {
-        let mut words = [0; WORDS];
-        if h as usize <= WORDS && ink.words(&mut words) {
-            paint_words(op, &words, h as usize, left, row, band);
-            return;
+    for y in first_row(top)..row_below(top, h).min(H as u64) {
+        if let Some(line) = line_on(top, y) {
+            ink.paint_row(line, op, left, band.row_mut(y as usize));
         }
     }
-    paint_lines(ink, op, left, top, band);
 }

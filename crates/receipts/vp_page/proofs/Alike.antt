@@ -21,7 +21,7 @@ use Rattle.vp_dots.proofs.Words.{and_true}
 use Rattle.vp_page.specs.Areas.{holds}
 use Rattle.vp_page.specs.Lines.{line_dot}
 use Rattle.vp_page.specs.declared.area.Area.{Area}
-use Rattle.vp_page.proofs.Squares.{and_false, no_line}
+use Rattle.vp_page.proofs.Squares.{and_false}
 
 or_false : (b : Bool) → b ≡ (b || false)
 or_false true = refl
@@ -77,34 +77,6 @@ none_black line w m dots from k e p q h l r =
     let here : word_dot w k ≡ dot line (from + k) = q k h ∙ ap (λ b. b && dot line (from + k)) (lt-ltb (from + k) 1664 r) in
     let masked : word_dot m k ≡ true = p k ∙ lt-ltb k dots l in
     sym here ∙ sym (and_true (word_dot w k)) ∙ sym (ap (λ b. word_dot w k && b) masked) ∙ sym (both_dot w m k h) ∙ ap (λ n. word_dot n k) e ∙ white_dot k
-
-module _ (lines : List (List ℕ)) (column i u at : ℕ) (few : length lines ≤ 64) (same : i < length lines → line_dot lines i u ≡ line_dot lines i at) where
-  there : line_dot lines i at ≡ line_dot lines i u
-  there = elim (cases_lt i (length lines)) [
-    | inl l ↦ sym (same l)
-    | inr g ↦ no_line lines i at g ∙ sym (no_line lines i u g)
-  ]
-
-  -- a column of which the first line's dot comes first
-  pub column_dot : ((j : ℕ) → j < 64 → word_dot column j ≡ line_dot lines j at) → word_dot column i ≡ line_dot lines i u
-  column_dot q = elim (cases_lt i 64) [
-    | inl m ↦ q i m ∙ there
-    | inr o ↦ rw (le-ltb i 64 o) (sym (no_line lines i u (omega (arith, few))))
-  ]
-
-  -- and of which it comes last
-  pub column_back_dot : ((j : ℕ) → j < 64 → word_dot column j ≡ line_dot lines (63 - j) at) → (ltb i 64 && word_dot column (63 - i)) ≡ line_dot lines i u
-  column_back_dot q = elim (cases_lt i 64) [
-    | inl m ↦ rw (lt-ltb i 64 m) (q (63 - i) (omega arith) ∙ ap (λ j. line_dot lines j at) (let e : 63 - (63 - i) ≡ i = omega arith in e) ∙ there)
-    | inr o ↦ rw (le-ltb i 64 o) (sym (no_line lines i u (omega (arith, few))))
-  ]
-
--- the same rows, counted from the lowest up, with dots that are the same there
-pub in_rows_up : (below rows y : ℕ) (a b : Bool) → (below - 1 - y < rows → a ≡ b) → (ltb y below && (ltb (below - 1 - y) rows && a)) ≡ (ltb y below && (ltb (below - 1 - y) rows && b))
-in_rows_up below rows y a b e = ap (λ t. ltb y below && t) (elim (cases_lt (below - 1 - y) rows) [
-  | inl l ↦ ap (λ t. ltb (below - 1 - y) rows && t) (e l)
-  | inr g ↦ rw (le-ltb (below - 1 - y) rows g) refl
-])
 
 -- a dot that is kept
 pub kept_dot : (a k : Bool) → (a && k) ≡ cond (not k) false a

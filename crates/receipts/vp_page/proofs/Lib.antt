@@ -8,6 +8,7 @@ pub mod Lines
 pub mod Marks
 pub mod Pages
 pub mod Squares
+pub mod Stretches
 pub mod RowMarks
 pub mod Rows
 pub mod Whites

@@ -11,7 +11,7 @@ use Rattle.vp_page.specs.Areas.{holds, line_length, depth, along, down}
 use Rattle.vp_page.specs.Layers.{Layer, Laid, Wiped, Mark, mark_dot, page_dot, first_rows, lines_mark}
 use Rattle.vp_page.specs.Lines.{line_dot}
 use Rattle.vp_page.specs.Pages.{HasPage, Paged}
-use Rattle.vp_page.specs.Work.{IsCounted, rows_laid, laid_rows, most_wiped, least_wiped, black_rows, area_rows, MOST}
+use Rattle.vp_page.specs.Work.{rows_laid, laid_rows, most_wiped, least_wiped, MOST}
 use Rattle.vp_page.specs.Laws.{RowsMakeAnImage}
 use Rattle.vp_page.proofs.Falling.{lies, within}
 use Rattle.vp_page.proofs.Squares.{no_line}
@@ -108,8 +108,8 @@ rows_make_an_image = record {
       (λ t. (lies m.area m.direction x y (within m.area x y t)).in_depth) (e (along m.area m.direction x y) (down m.area m.direction x y - m.top)))) (record { laid = omega (arith, r); most = refl; least = refl }) h;
 }
 
-more_rows : (h q b p : Bool) (w top k n : ℕ) → n ≤ 64 → (h ≡ true → top + k ≤ w → w - (top + k) < n → q ≡ b) → (n ≤ w - (top + k) → q ≡ false)
-    → (h && (leb (top + k) w && (ltb (w - (top + k)) 64 && q)) || (h && (leb top w && (ltb (w - top) k && b)) || p))
+more_rows : (h q b p : Bool) (w top k n : ℕ) → n ≤ 192 → (h ≡ true → top + k ≤ w → w - (top + k) < n → q ≡ b) → (n ≤ w - (top + k) → q ≡ false)
+    → (h && (leb (top + k) w && (ltb (w - (top + k)) 192 && q)) || (h && (leb top w && (ltb (w - top) k && b)) || p))
     ≡ (h && (leb top w && (ltb (w - top) (k + n) && b)) || p)
 more_rows false q b p w top k n few same none = refl
 more_rows true q b p w top k n few same none = elim (cases_lt w (top + k)) [
@@ -121,7 +121,7 @@ more_rows true q b p w top k n few same none = elim (cases_lt w (top + k)) [
 ]
 
 -- lines that are laid at once below the first k rows of a mark
-pub lines_more : (m : Mark) (k n : ℕ) (lines : List (List ℕ)) (layers : List Layer) (page : Paged) → n ≤ 64 → length lines ≡ n
+pub lines_more : (m : Mark) (k n : ℕ) (lines : List (List ℕ)) (layers : List Layer) (page : Paged) → n ≤ 192 → length lines ≡ n
     → ((u w : ℕ) → u < line_length m.area m.direction → w < n → line_dot lines w u ≡ m.dot u (k + w))
     → HasPage (Laid (lines_mark m.area m.direction (m.top + k) lines) ∷ Laid (first_rows k m) ∷ layers) page
     → HasPage (Laid (first_rows (k + n) m) ∷ layers) page

@@ -4,9 +4,9 @@ use Rattle.std.proofs.lemmas.Int.{ints}
 use Rattle.std.proofs.lemmas.List.{get_or_past, get_or-replicate, get_or-reverse, get_or-drop, get_or-take}
 use Rattle.std.proofs.lemmas.Bool.{cases_lt, lt-ltb, le-ltb, lt-leb, le-leb}
 use Rattle.std.proofs.lemmas.Nat.Bits.{bit_at-zero}
-use Rattle.vp_dots.specs.Dots.{bit, dot, shifted}
+use Rattle.vp_dots.specs.Dots.{bit, shifted}
 use Rattle.vp_dots.specs.Words.{word_dot}
-use Rattle.vp_dots.specs.Places.{words_dot, RowsPainted}
+use Rattle.vp_dots.specs.Places.{RowsPainted}
 use Rattle.vp_dots.specs.declared.Op.TheVariants.{Black}
 use Rattle.vp_dots.proofs.Paints.{painted_none}
 use Rattle.vp_page.specs.Lines.{line_dot}

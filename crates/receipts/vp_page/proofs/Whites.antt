@@ -11,7 +11,6 @@ use Rattle.vp_page.specs.declared.page.TheConstants.{PAGE_ROWS, PAPER_BYTES, PAP
 use Rattle.vp_page.specs.declared.white.Rows.{Rows}
 use Rattle.vp_page.specs.Areas.{holds}
 use Rattle.vp_page.specs.Pages.{HasPage, IsWhiteBut, Paged}
-use Rattle.vp_page.specs.Work.{MOST}
 use Rattle.vp_page.proofs.Blank.{dot_white}
 
 and_no : (b : Bool) → (b && false) ≡ false

@@ -1,5 +1,5 @@
 -- Words painted on rows of the page.
-use Rattle.std.proofs.Common.{inl, inr, ◌≡◌, ℕ, ◌+◌, ◌-◌, ◌*◌, ◌/◌, ◌%◌, ◌^◌, ◌<◌, ◌≤◌, Bool, true, false, cond, eqb, ltb, leb, ◌&&◌, ◌||◌, refl, sym, ap, ◌∙◌, arith, List, bit_and, bit_or, length, get_or, set}
+use Rattle.std.proofs.Common.{min, inl, inr, ◌≡◌, ℕ, ◌+◌, ◌-◌, ◌*◌, ◌/◌, ◌%◌, ◌^◌, ◌<◌, ◌≤◌, Bool, true, false, cond, eqb, ltb, leb, ◌&&◌, ◌||◌, refl, sym, ap, ◌∙◌, arith, List, bit_and, bit_or, length, get_or, set}
 use lib.Lanes.{zip2, chunk, put_chunk}
 use Rattle.std.specs.Int.{to_be_bytes, w64}
 use Rattle.std.proofs.lemmas.Simd.{get_or-zip2, get_or-chunk, length-zip2, length-chunk}
@@ -183,33 +183,38 @@ module _ (q n d : ℕ) (line : List ℕ) where
 pub words_none : (q d : ℕ) (b : Bool) → (ltb d (8 * q + 64 * 0) && (leb (8 * q) d && b)) ≡ false
 words_none q d b = grind (arith, nat_tests)
 
--- a word in sixteen bytes
-pub word_inside : (word far d top y : ℕ) (bytes : List ℕ) → ((k : ℕ) → k < 128 → dot bytes k ≡ (leb (far % 8) k && word_dot word (k - far % 8))) → top ≤ y
-    → (span (far / 8) (far / 8 + 16) (d / 8) && dot bytes (d - 8 * (far / 8))) ≡ (leb top y && (leb far d && word_dot word (d - far)))
-word_inside word far d top y bytes is below = rw (le-leb top y below) (elim (cases_lt (d / 8) (far / 8)) [
-  | inl l ↦ rw (lt-leb (far / 8) (d / 8) l, lt-leb far d (omega arith)) refl
-  | inr g ↦ rw (le-leb (far / 8) (d / 8) g) (elim (cases_lt (d / 8) (far / 8 + 16)) [
-    | inl m ↦
-        let place : d - 8 * (far / 8) - far % 8 ≡ d - far = omega arith in
-        rw (lt-ltb (d / 8) (far / 8 + 16) m) (is (d - 8 * (far / 8)) (omega arith) ∙ elim (cases_lt d far) [
-          | inl n ↦ rw (lt-leb far d n, lt-leb (far % 8) (d - 8 * (far / 8)) (omega arith)) refl
-          | inr o ↦ rw (le-leb far d o, le-leb (far % 8) (d - 8 * (far / 8)) (omega arith), place) refl
-        ])
-    | inr o ↦ rw (le-ltb (d / 8) (far / 8 + 16) o, le-ltb (d - far) 64 (omega arith)) (sym (and_false (leb far d)))
-  ])
-])
-
--- sixteen bytes with sixteen bytes of a line on them
-module _ (line : List ℕ) (i : ℕ) (row : List ℕ) (there : 16 ≤ length line) (room : i + 16 ≤ length row) where
-  line_lane : (n k : ℕ) → n < 16 → k < 8 → bit (get_or (zip2 bit_or (chunk i 16 row) (chunk 0 16 line)) n 0) k ≡ cond (dot line (8 * (i + n) + (7 - k) - 8 * i)) true (bit (get_or row (i + n) 0) k)
+-- sixteen bytes with those of other bytes on them
+module _ (line : List ℕ) (i : ℕ) (row : List ℕ) (there : i + 16 ≤ length line) (room : i + 16 ≤ length row) where
+  line_lane : (n k : ℕ) → n < 16 → k < 8 → bit (get_or (zip2 bit_or (chunk i 16 row) (chunk i 16 line)) n 0) k ≡ cond (dot line (8 * (i + n) + (7 - k))) true (bit (get_or row (i + n) 0) k)
   line_lane n k p h =
-      let place : 8 * n + (7 - k) ≡ 8 * (i + n) + (7 - k) - 8 * i = omega arith in
-      let first : 0 + n ≡ n = omega arith in
-      ap (λ x. bit x k) (get_or-zip2 bit_or (chunk i 16 row) (chunk 0 16 line) n 0 0 0 (omega (arith, length-chunk i 16 row room)) (omega (arith, length-chunk 0 16 line there))
-      ∙ ap (λ x. bit_or x (get_or (chunk 0 16 line) n 0)) (get_or-chunk i 16 row n 0 p) ∙ ap (bit_or (get_or row (i + n) 0)) (get_or-chunk 0 16 line n 0 p ∙ ap (λ m. get_or line m 0) first))
-      ∙ bit_of_or (get_or row (i + n) 0) (get_or line n 0) k
-      ∙ ap (λ b. cond b true (bit (get_or row (i + n) 0) k)) (sym (dot_at line n k h) ∙ ap (dot line) place)
+      ap (λ x. bit x k) (get_or-zip2 bit_or (chunk i 16 row) (chunk i 16 line) n 0 0 0 (omega (arith, length-chunk i 16 row room)) (omega (arith, length-chunk i 16 line there))
+      ∙ ap (λ x. bit_or x (get_or (chunk i 16 line) n 0)) (get_or-chunk i 16 row n 0 p) ∙ ap (bit_or (get_or row (i + n) 0)) (get_or-chunk i 16 line n 0 p))
+      ∙ bit_of_or (get_or row (i + n) 0) (get_or line (i + n) 0) k
+      ∙ ap (λ b. cond b true (bit (get_or row (i + n) 0) k)) (sym (dot_at line (i + n) k h))
 
-  pub sixteen_painted : Painted Black (λ d. span i (i + 16) (d / 8) && dot line (d - 8 * i)) row (put_chunk i row (zip2 bit_or (chunk i 16 row) (chunk 0 16 line)))
-  sixteen_painted = painted_block Black (λ d. dot line (d - 8 * i)) i 16 row _
-      (length-zip2 bit_or (chunk i 16 row) (chunk 0 16 line) (length-chunk i 16 row room ∙ sym (length-chunk 0 16 line there)) ∙ length-chunk i 16 row room) room (λ n l k m. line_lane n k l m)
+  pub sixteen_painted : Painted Black (λ d. span i (i + 16) (d / 8) && dot line d) row (put_chunk i row (zip2 bit_or (chunk i 16 row) (chunk i 16 line)))
+  sixteen_painted = painted_block Black (dot line) i 16 row _
+      (length-zip2 bit_or (chunk i 16 row) (chunk i 16 line) (length-chunk i 16 row room ∙ sym (length-chunk i 16 line there)) ∙ length-chunk i 16 row room) room (λ n l k m. line_lane n k l m)
+
+-- sixteen more bytes
+pub sixteen_more : (i k d : ℕ) (b : Bool) → (span i (i + 16 * (k + 1)) (d / 8) && b) ≡ ((span i (i + 16 * k) (d / 8) && b) || (span (i + 16 * k) (i + 16 * k + 16) (d / 8) && b))
+sixteen_more i k d true = grind (arith, nat_tests)
+sixteen_more i k d false = grind (arith, nat_tests)
+
+-- behind the ones before them
+pub sixteen_apart : (i k d : ℕ) (b : Bool) → ((span i (i + 16 * k) (d / 8) && b) && (span (i + 16 * k) (i + 16 * k + 16) (d / 8) && b)) ≡ false
+sixteen_apart i k d true = grind (arith, nat_tests)
+sixteen_apart i k d false = grind (arith, nat_tests)
+
+pub no_sixteen : (i d : ℕ) (b : Bool) → (span i (i + 16 * 0) (d / 8) && b) ≡ false
+no_sixteen i d b = grind (arith, nat_tests)
+
+-- a dot that is black among those bytes alone
+pub among : (first bytes at n x top y : ℕ) (b c : Bool) → n ≡ (bytes + 15) / 16 → at ≡ min first (72 - 16 * n) → bytes ≤ 64 → x < 576 → (b ≡ true → span first (first + bytes) (x / 8) ≡ true) → b ≡ c → top ≤ y
+    → (span at (at + 16 * n) (x / 8) && b) ≡ (leb top y && c)
+among first bytes at n x top y true c e a few h s t l = let i = s refl in grind (arith, nat_tests, t)
+among first bytes at n x top y false c e a few h s t l = grind (arith, nat_tests, t)
+
+-- the rows from one on
+pub rows_in : (top i h k : ℕ) (b : Bool) → i ≡ h → (ltb k (top + i) && (leb top k && b)) ≡ (leb top k && (ltb (k - top) h && b))
+rows_in top i h k b e = grind (arith, nat_tests, e)

@@ -1,31 +1,33 @@
-//! Lines laid across the rows of a page, by squares of as many lines as a word has dots. Where each of them
-//! is along a square what it is at its last dot, all rows of the square are one word.
+//! Lines laid across the rows of a page, all of them on a stretch of its rows before the next one. Where each
+//! line is along a stretch what it is at its last dot, the rows there are one row, which is made once; else
+//! squares of as many lines as a word has dots are turned.
 ghost use Rattle.std.specs.Prelude.{◌≡◌, ℕ, ◌+◌, ◌-◌, ◌*◌, ◌/◌, ◌%◌, ◌<◌, ◌≤◌, ◌^◌, ◌&&◌, false, true, not, if◌then◌else◌, nat_lt, nat_le, length, slice_index, slice_index_or, []};
 ghost use Rattle.vp_dots.specs.Dots.{bit, dot};
 ghost use Rattle.vp_dots.specs.Painting.{Painted};
 ghost use Rattle.vp_dots.specs.Words.{word_dot};
 ghost use Rattle.vp_dots.specs.Places.{RowsPainted};
 ghost use Rattle.vp_dots.specs.declared.Op.TheVariants.{Black};
+ghost use Rattle.vp_dots.specs.declared.square.TheConstants.{SIDE};
 ghost use Rattle.vp_page.specs.Lines.{line_dot};
-ghost use Rattle.vp_page.specs.declared.across.TheConstants.{AT_ONCE, FEW};
+ghost use Rattle.vp_page.specs.declared.across.TheConstants.{AT_ONCE, FEW, STRETCH};
 ghost use Rattle.vp_page.specs.declared.line.TheConstants.{LINE_DOTS};
-ghost use Rattle.vp_page.specs.declared.page.TheConstants.{PAGE_ROWS};
+ghost use Rattle.vp_page.specs.declared.page.TheConstants.{PAGE_ROWS, PAPER_DOTS};
 
 use crate::Area;
-use crate::line::{LINE_BYTES, LINE_DOTS, start_of};
+use crate::line::{LINE_BYTES, LINE_DOTS, lay_dot, start_of};
 use crate::page::{PAGE_ROWS, PAPER_BYTES, PageBand};
-use crate::words::{lay_halves, lay_word, lay_word_inside, lay_words, or_byte};
+use crate::words::{lay_halves, lay_same, lay_words, or_byte};
 use vp_dots::{SIDE, Small, dot_of, eight_at, first_dots, turned_square, word_at};
 
 /// How many lines are laid at once.
-pub const AT_ONCE: usize = SIDE;
+pub const AT_ONCE: usize = 3 * SIDE;
+
+/// The dots of a stretch of the lines.
+const STRETCH: usize = 2 * SIDE;
 
 /// How many lines are few: of so many, two squares are turned as one, the dots of the second below those of
 /// the first.
 const FEW: usize = SIDE / 2;
-
-/// The columns before which 64 may end for which sixteen bytes have room.
-const MOST_RIGHT: u32 = 8 * (PAPER_BYTES as u32 - 16) + 64;
 
 /// The 64 dots of a line from one on, which mostly are whole bytes of it.
 #[inline(always)]
@@ -44,7 +46,7 @@ fn dots_from(line: &[u8; LINE_BYTES], from: usize) -> u64
 /// A square of the lines' dots, from one on. Where there is no line it is white.
 #[inline(always)]
 fn square_from(lines: &[[u8; LINE_BYTES]], from: usize) -> [u64; SIDE]
-    requires few { length lines.now ≤ AT_ONCE }
+    requires few { length lines.now ≤ SIDE }
     requires near { from < 2 ^ 62 }
     ensures { (x y : ℕ) → x < 64 → y < 64 →
         word_dot (slice_index result y) x ≡ line_dot lines.now y (from + x) }
@@ -59,7 +61,7 @@ fn square_from(lines: &[[u8; LINE_BYTES]], from: usize) -> [u64; SIDE]
 /// A square of the lines' dots, from one on, the last line first.
 #[inline(always)]
 fn square_back(lines: &[[u8; LINE_BYTES]], from: usize) -> [u64; SIDE]
-    requires few { length lines.now ≤ AT_ONCE }
+    requires few { length lines.now ≤ SIDE }
     requires near { from < 2 ^ 62 }
     ensures { (x y : ℕ) → x < 64 → y < 64 →
         word_dot (slice_index result y) x ≡ line_dot lines.now (63 - y) (from + x) }
@@ -148,24 +150,43 @@ fn are_white(line: &[u8; LINE_BYTES], from: usize, dots: usize) -> bool
     from <= LINE_DOTS - SIDE && dots_from(line, from) & first_dots(dots as u32) == 0
 }
 
-/// The dots of the lines at one place, that of the first line first.
-fn column_from(lines: &[[u8; LINE_BYTES]], at: usize) -> u64
-    requires few { length lines.now ≤ AT_ONCE }
-    requires near { at < 2 ^ 62 }
-    ensures { (i : ℕ) → i < 64 → word_dot result i ≡ line_dot lines.now i at }
+/// Whether the dots of a stretch, from one on, are white, and lie before the end of the longest line.
+fn is_white_along(line: &[u8; LINE_BYTES], from: usize, dots: usize) -> bool
+    requires { dots ≤ STRETCH }
+    ensures { result ≡ true → (k : ℕ) → k < dots →
+        (from + k < LINE_DOTS) × (dot line.now (from + k) ≡ false) }
 {
-    let square = turned_square(&square_from(lines, SIDE * (at / SIDE)));
-    square[at % SIDE]
+    let first = dots.min(SIDE);
+    are_white(line, from, first) && (dots == first || are_white(line, from + SIDE, dots - first))
 }
 
-/// The dots of the lines at one place, that of the first line last.
-fn column_back(lines: &[[u8; LINE_BYTES]], at: usize) -> u64
-    requires few { length lines.now ≤ AT_ONCE }
-    requires near { at < 2 ^ 62 }
-    ensures { (i : ℕ) → i < 64 → word_dot result i ≡ line_dot lines.now (63 - i) at }
+/// A row of the page with the dots of the lines at one place, that of the first line in column `left`, and
+/// each on the left of the next.
+fn row_up(lines: &[[u8; LINE_BYTES]], at: usize, left: u32) -> [u8; PAPER_BYTES]
+    requires { at < LINE_DOTS }
+    ensures { (x : ℕ) → x < PAPER_DOTS →
+        dot result x ≡ (nat_le left x && line_dot lines.now (x - left) at) }
 {
-    let square = turned_square(&square_back(lines, SIDE * (at / SIDE)));
-    square[at % SIDE]
+    let mut row = [0; PAPER_BYTES];
+    for i in 0..lines.len() {
+        lay_dot(lines[i][at / 8], at % 8, left as usize + i, &mut row);
+    }
+    row
+}
+
+/// A row of the page with the dots of the lines at one place, that of the first line in the column before
+/// `right`, and each on the right of the next.
+fn row_down(lines: &[[u8; LINE_BYTES]], at: usize, right: u32) -> [u8; PAPER_BYTES]
+    requires { at < LINE_DOTS }
+    ensures { (x : ℕ) → x < PAPER_DOTS →
+        dot result x ≡ (nat_lt x right && line_dot lines.now (right - 1 - x) at) }
+{
+    let mut row = [0; PAPER_BYTES];
+    let right = right as usize;
+    for i in 0..lines.len().min(right) {
+        lay_dot(lines[i][at / 8], at % 8, right - 1 - i, &mut row);
+    }
+    row
 }
 
 /// Whether a square is white.
@@ -191,7 +212,7 @@ fn lay_square_down<A: Small>(
     top: usize,
     band: &mut PageBand<A>,
 )
-    requires lines { length lines.now ≤ AT_ONCE }
+    requires lines { length lines.now ≤ SIDE }
     requires near { from < 2 ^ 62 }
     requires few { rows ≤ 64 }
     requires room { top + rows ≤ PAGE_ROWS }
@@ -200,26 +221,6 @@ fn lay_square_down<A: Small>(
 {
     let square = turned_square(&square_back(lines, from));
     lay_words(&square, rows, start_of(right, 8), top, band);
-}
-
-/// Lays the same dots on rows, from `top` down: of the 64 columns before `right`.
-#[inline(always)]
-fn lay_column_down<A: Small>(
-    column: u64,
-    rows: usize,
-    right: u32,
-    top: usize,
-    band: &mut PageBand<A>,
-)
-    requires room { top + rows ≤ PAGE_ROWS }
-    ensures { RowsPainted PAGE_ROWS Black (λ x y. nat_le top y && (nat_lt (y - top) rows && (nat_lt x right
-        && (nat_lt (right - 1 - x) 64 && word_dot column (63 - (right - 1 - x)))))) band.old band.new }
-{
-    if right >= 64 && right <= MOST_RIGHT {
-        lay_word_inside(column, rows, u64::from(right) - 64, top, band);
-        return;
-    }
-    lay_word(column, rows, start_of(right, 8), top, band);
 }
 
 /// Lays two squares of few lines as `lay_square_down` lays one. Mostly both are white.
@@ -261,7 +262,7 @@ fn lay_square_up<A: Small>(
     below: usize,
     band: &mut PageBand<A>,
 )
-    requires lines { length lines.now ≤ AT_ONCE }
+    requires lines { length lines.now ≤ SIDE }
     requires near { from < 2 ^ 62 }
     requires few { rows ≤ 64 }
     requires room { rows ≤ below }
@@ -278,27 +279,6 @@ fn lay_square_up<A: Small>(
         below - rows,
         band,
     );
-}
-
-/// Lays the same dots on rows, from the one above `below` up: of the 64 columns from `left` on.
-#[inline(always)]
-fn lay_column_up<A: Small>(
-    column: u64,
-    rows: usize,
-    left: u32,
-    below: usize,
-    band: &mut PageBand<A>,
-)
-    requires room { rows ≤ below }
-    requires page { below ≤ PAGE_ROWS }
-    ensures { RowsPainted PAGE_ROWS Black (λ x y. nat_lt y below && (nat_lt (below - 1 - y) rows
-        && (nat_le left x && word_dot column (x - left)))) band.old band.new }
-{
-    if left <= MOST_RIGHT - 64 {
-        lay_word_inside(column, rows, u64::from(left), below - rows, band);
-        return;
-    }
-    lay_word(column, rows, i64::from(left), below - rows, band);
 }
 
 /// Lays two squares of few lines as `lay_square_up` lays one. Mostly both are white.
@@ -339,53 +319,65 @@ fn lay_two_up<A: Small>(
     );
 }
 
-/// Lays lines as `lay_lines_down` does, two squares at once.
-#[inline(never)]
-fn lay_few_down<A: Small>(
+/// Lays a stretch of lines as `lay_square_down` lays a square.
+fn lay_squares_down<A: Small>(
     lines: &[[u8; LINE_BYTES]],
-    long: usize,
-    area: Area,
+    from: usize,
+    rows: usize,
     right: u32,
+    top: usize,
     band: &mut PageBand<A>,
 )
-    requires few { length lines.now ≤ FEW }
-    requires white { (i u : ℕ) → long ≤ u → line_dot lines.now i u ≡ false }
-    ensures { RowsPainted PAGE_ROWS Black (λ x y. nat_le area.y y && (nat_lt (y - area.y) area.dy
-        && (nat_lt x right && line_dot lines.now (right - 1 - x) (y - area.y)))) band.old band.new }
+    requires lines { length lines.now ≤ AT_ONCE }
+    requires near { from < 2 ^ 61 }
+    requires few { rows ≤ STRETCH }
+    requires room { top + rows ≤ PAGE_ROWS }
+    ensures { RowsPainted PAGE_ROWS Black (λ x y. nat_le top y && (nat_lt (y - top) rows && (nat_lt x right
+        && line_dot lines.now (right - 1 - x) (from + (y - top))))) band.old band.new }
 {
-    let top = area.y as usize;
-    let end = PAGE_ROWS
-        .saturating_sub(top)
-        .min((area.dy as usize).min(long));
-    for k in 0..end.div_ceil(2 * SIDE) {
-        let from = 2 * SIDE * k;
-        let rows = (end - from).min(2 * SIDE);
-        lay_two_down(lines, from, rows, right, top + from, band);
+    if lines.len() <= FEW {
+        lay_two_down(lines, from, rows, right, top, band);
+        return;
+    }
+    let first = rows.min(SIDE);
+    for k in 0..lines.len().div_ceil(SIDE) {
+        let at = SIDE * k;
+        let these = &lines[at..lines.len().min(at + SIDE)];
+        let right = right.saturating_sub(at as u32);
+        lay_square_down(these, from, first, right, top, band);
+        lay_square_down(these, from + first, rows - first, right, top + first, band);
     }
 }
 
-/// Lays lines as `lay_lines_up` does, two squares at once.
-#[inline(never)]
-fn lay_few_up<A: Small>(
+/// Lays a stretch of lines as `lay_square_up` lays a square.
+fn lay_squares_up<A: Small>(
     lines: &[[u8; LINE_BYTES]],
-    long: usize,
-    area: Area,
+    from: usize,
+    rows: usize,
     left: u32,
+    below: usize,
     band: &mut PageBand<A>,
 )
-    requires few { length lines.now ≤ FEW }
-    requires white { (i u : ℕ) → long ≤ u → line_dot lines.now i u ≡ false }
-    ensures { RowsPainted PAGE_ROWS Black (λ x y. nat_lt y (area.y + area.dy)
-        && (nat_lt (area.y + area.dy - 1 - y) area.dy && (nat_le left x
-        && line_dot lines.now (x - left) (area.y + area.dy - 1 - y)))) band.old band.new }
+    requires lines { length lines.now ≤ AT_ONCE }
+    requires near { from < 2 ^ 61 }
+    requires few { rows ≤ STRETCH }
+    requires room { rows ≤ below }
+    requires page { below ≤ PAGE_ROWS }
+    requires left { left < 2 ^ 31 }
+    ensures { RowsPainted PAGE_ROWS Black (λ x y. nat_lt y below && (nat_lt (below - 1 - y) rows
+        && (nat_le left x && line_dot lines.now (x - left) (from + (below - 1 - y))))) band.old band.new }
 {
-    let below = area.y as usize + area.dy as usize;
-    let first = below.saturating_sub(PAGE_ROWS);
-    let high = (area.dy as usize).min(long).saturating_sub(first);
-    for k in 0..high.div_ceil(2 * SIDE) {
-        let from = first + 2 * SIDE * k;
-        let rows = (high - 2 * SIDE * k).min(2 * SIDE);
-        lay_two_up(lines, from, rows, left, below - from, band);
+    if lines.len() <= FEW {
+        lay_two_up(lines, from, rows, left, below, band);
+        return;
+    }
+    let first = rows.min(SIDE);
+    for k in 0..lines.len().div_ceil(SIDE) {
+        let at = SIDE * k;
+        let these = &lines[at..lines.len().min(at + SIDE)];
+        let left = left + at as u32;
+        lay_square_up(these, from, first, left, below, band);
+        lay_square_up(these, from + first, rows - first, left, below - first, band);
     }
 }
 
@@ -403,24 +395,21 @@ pub(crate) fn lay_lines_down<A: Small>(
     ensures { RowsPainted PAGE_ROWS Black (λ x y. nat_le area.y y && (nat_lt (y - area.y) area.dy
         && (nat_lt x right && line_dot lines.now (right - 1 - x) (y - area.y)))) band.old band.new }
 {
-    if lines.len() <= FEW {
-        lay_few_down(lines, long, area, right, band);
-        return;
-    }
     let top = area.y as usize;
     let end = PAGE_ROWS
         .saturating_sub(top)
         .min((area.dy as usize).min(long));
     let last = end.saturating_sub(1).min(LINE_DOTS - 1);
-    let column = column_back(lines, last);
+    let row = row_down(lines, last, right);
+    let first = (right as usize).saturating_sub(lines.len()) / 8;
     let unlike = unlike_at(lines, last);
-    for k in 0..end.div_ceil(SIDE) {
-        let from = SIDE * k;
-        let rows = (end - from).min(SIDE);
-        if are_white(&unlike, from, rows) {
-            lay_column_down(column, rows, right, top + from, band);
+    for k in 0..end.div_ceil(STRETCH) {
+        let from = STRETCH * k;
+        let rows = (end - from).min(STRETCH);
+        if is_white_along(&unlike, from, rows) {
+            lay_same(&row, first, lines.len() / 8 + 2, rows, top + from, band);
         } else {
-            lay_square_down(lines, from, rows, right, top + from, band);
+            lay_squares_down(lines, from, rows, right, top + from, band);
         }
     }
 }
@@ -435,28 +424,33 @@ pub(crate) fn lay_lines_up<A: Small>(
     band: &mut PageBand<A>,
 )
     requires few { length lines.now ≤ AT_ONCE }
+    requires near { left < 2 ^ 31 }
     requires white { (i u : ℕ) → long ≤ u → line_dot lines.now i u ≡ false }
     ensures { RowsPainted PAGE_ROWS Black (λ x y. nat_lt y (area.y + area.dy)
         && (nat_lt (area.y + area.dy - 1 - y) area.dy && (nat_le left x
         && line_dot lines.now (x - left) (area.y + area.dy - 1 - y)))) band.old band.new }
 {
-    if lines.len() <= FEW {
-        lay_few_up(lines, long, area, left, band);
-        return;
-    }
     let below = area.y as usize + area.dy as usize;
     let first = below.saturating_sub(PAGE_ROWS);
     let high = (area.dy as usize).min(long).saturating_sub(first);
     let last = (first + high).saturating_sub(1).min(LINE_DOTS - 1);
-    let column = column_from(lines, last);
+    let row = row_up(lines, last, left);
     let unlike = unlike_at(lines, last);
-    for k in 0..high.div_ceil(SIDE) {
-        let from = first + SIDE * k;
-        let rows = (high - SIDE * k).min(SIDE);
-        if are_white(&unlike, from, rows) {
-            lay_column_up(column, rows, left, below - from, band);
+    for k in 0..high.div_ceil(STRETCH) {
+        let from = first + STRETCH * k;
+        let rows = (high - STRETCH * k).min(STRETCH);
+        if is_white_along(&unlike, from, rows) {
+            let top = below - from - rows;
+            lay_same(
+                &row,
+                left as usize / 8,
+                lines.len() / 8 + 2,
+                rows,
+                top,
+                band,
+            );
         } else {
-            lay_square_up(lines, from, rows, left, below - from, band);
+            lay_squares_up(lines, from, rows, left, below - from, band);
         }
     }
 }

@@ -1,5 +1,5 @@
 //! One row of dots, laid along a row of a page or across its rows, and a box made white.
-ghost use Rattle.std.specs.Prelude.{◌≡◌, ℕ, ◌+◌, ◌-◌, ◌*◌, ◌/◌, ◌≤◌, ◌^◌, ◌&&◌, not, nat_eq, nat_lt, nat_le, ◌<◌, ◌%◌, [], ◌∷◌, length, slice_index_or, pos, ◌+ℤ◌};
+ghost use Rattle.std.specs.Prelude.{◌≡◌, ℕ, ◌+◌, ◌-◌, ◌*◌, ◌/◌, ◌≤◌, ◌^◌, ◌&&◌, not, nat_eq, nat_lt, nat_le, ◌<◌, ◌%◌, false, [], ◌∷◌, length, slice_index_or, pos, ◌+ℤ◌};
 ghost use Rattle.vp_page.specs.declared.line.TheConstants.{LINE_BYTES, LINE_DOTS};
 ghost use Rattle.vp_page.specs.declared.page.TheConstants.{PAGE_ROWS, PAPER_BYTES};
 ghost use Rattle.vp_dots.specs.Dots.{bit, dot, dots, shifted, span};
@@ -83,16 +83,32 @@ fn clip(row: &[u8], end: u16, line: &mut [u8])
     fill_dots(Op::White, u64::from(end), 8 * row.len() as u64, line);
 }
 
-/// Copies the dots of a row that stand before a place, from the last dot to the first; the others become
-/// white.
+/// Copies a row turned end for end onto white dots: many bytes at once, where it is whole words.
+fn reverse(row: &[u8], line: &mut [u8])
+    requires alike { length line.old ≡ length row.now }
+    requires white { (d : ℕ) → dot line.old d ≡ false }
+    ensures len { length line.new ≡ length row.now }
+    ensures turned { (d : ℕ) → dot line.new d ≡
+        (nat_lt d (dots row.now) && dot row.now (dots row.now - 1 - d)) }
+{
+    if row.len() % 8 == 0 {
+        or_reversed(row, 0, line);
+    } else {
+        copy_reversed(row, line);
+    }
+}
+
+/// Copies the dots of a row that stand before a place, from the last dot to the first, onto white dots; the
+/// others stay white.
 fn clip_reversed(row: &[u8], end: u16, line: &mut [u8])
     requires short { length row.now ≤ LINE_BYTES }
     requires alike { length line.old ≡ length row.now }
+    requires white { (d : ℕ) → dot line.old d ≡ false }
     ensures len { length line.new ≡ length row.now }
     ensures cut { (d : ℕ) → dot line.new d ≡ (nat_lt d (dots row.now)
         && (nat_lt (dots row.now - 1 - d) end && dot row.now (dots row.now - 1 - d))) }
 {
-    copy_reversed(row, line);
+    reverse(row, line);
     let past = (8 * row.len() as u64).saturating_sub(u64::from(end));
     fill_dots(Op::White, 0, past, line);
 }
@@ -143,7 +159,7 @@ fn moved_dot(byte: u8, n: usize, m: usize) -> u8
 
 /// Blackens dot x of a row, where the row has it, if the dot of the byte that is n from its left is black.
 #[inline(always)]
-fn lay_dot(byte: u8, n: usize, x: usize, row: &mut [u8])
+pub(crate) fn lay_dot(byte: u8, n: usize, x: usize, row: &mut [u8])
     requires { n < 8 }
     ensures { Painted Black (λ d. nat_eq d x && bit byte (7 - n)) row.old row.new }
 {

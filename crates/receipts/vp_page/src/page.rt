@@ -295,11 +295,27 @@ impl<A: Small> Page<A> {
                 let shown = &lines[..shown];
                 lay_lines_down(shown, long, area, right, &mut self.band)
             }
-            _ => {
-                for i in 0..lines.len() {
-                    self.lay_row(area, direction, v + i as u32, &lines[i]);
-                }
-            }
+            _ => self.lay_lines_along(area, direction, v, lines),
+        }
+    }
+
+    /// Lays rows as `lay_lines` does, which run along the page: of each the words that its line has room for.
+    fn lay_lines_along(
+        &mut self,
+        area: Area,
+        direction: Direction,
+        v: u32,
+        lines: &[[u8; LINE_BYTES]],
+    )
+        requires few { length lines.now ≤ AT_ONCE }
+        requires near { v + AT_ONCE < 2 ^ 32 }
+        ensures { (layers : List Layer) → HasPage layers self.old →
+            HasPage (Laid (lines_mark area direction v lines.now) ∷ layers) self.new }
+    {
+        let words = u32::from(area.line_length(direction)).div_ceil(64);
+        let bytes = LINE_BYTES.min(8 * words as usize);
+        for i in 0..lines.len() {
+            self.lay_row(area, direction, v + i as u32, &lines[i][..bytes]);
         }
     }
 

@@ -1,13 +1,13 @@
 //! Rows of the page blackened 64 dots at once: by a word at any place, and by a line that stands on whole
 //! bytes, as it is or turned end for end.
-ghost use Rattle.std.specs.Prelude.{◌≡◌, ℕ, ◌+◌, ◌-◌, ◌*◌, ◌/◌, ◌%◌, ◌<◌, ◌≤◌, ◌==◌, ◌&&◌, ◌^◌, false, nat_lt, nat_le, length, slice_index, bit_and, bit_or};
+ghost use Rattle.std.specs.Prelude.{◌≡◌, ℕ, Bool, true, ◌+◌, ◌-◌, ◌*◌, ◌/◌, ◌%◌, ◌<◌, ◌≤◌, ◌==◌, ◌&&◌, ◌^◌, false, nat_lt, nat_le, length, slice_index, bit_and, bit_or};
 ghost use Rattle.vp_dots.specs.Dots.{bit, dot, dots, shifted, span};
 ghost use Rattle.vp_dots.specs.Words.{word_dot};
 ghost use Rattle.vp_dots.specs.Painting.{Painted};
 ghost use Rattle.vp_dots.specs.Places.{words_dot, RowsPainted};
 ghost use Rattle.vp_page.specs.Lines.{halves_dot, row_in};
 ghost use Rattle.vp_dots.specs.declared.Op.TheVariants.{Black};
-ghost use Rattle.vp_page.specs.declared.page.TheConstants.{PAPER_BYTES, PAGE_ROWS};
+ghost use Rattle.vp_page.specs.declared.page.TheConstants.{PAPER_BYTES, PAPER_DOTS, PAGE_ROWS};
 
 use crate::page::{PAPER_BYTES, PageBand};
 use std::simd::{u8x8, u8x16};
@@ -135,56 +135,48 @@ pub(crate) fn lay_words<A: Small>(
     }
 }
 
-/// Sixteen bytes that are black where a word is that moves s dots to the right.
-fn moved_bytes(word: u64, s: u64) -> [u8; 16]
-    requires { s < 8 }
-    ensures { (d : ℕ) → d < 128 → dot result d ≡ (nat_le s d && word_dot word (d - s)) }
-{
-    let mut bytes = [0; 16];
-    or_inside(word, s, &mut bytes);
-    bytes
-}
-
-/// Blackens sixteen bytes of the row, from byte i on, where the bytes are black.
+/// Blackens sixteen bytes of the row, from byte i on, where other bytes are black.
 #[inline(always)]
 fn or_sixteen(bytes: &[u8], i: usize, row: &mut [u8])
-    requires bytes { 16 ≤ length bytes.now }
+    requires bytes { i + 16 ≤ length bytes.now }
     requires row { i + 16 ≤ length row.old }
-    ensures { Painted Black (λ d. span i (i + 16) (d / 8) && dot bytes.now (d - 8 * i)) row.old row.new }
+    ensures { Painted Black (λ d. span i (i + 16) (d / 8) && dot bytes.now d) row.old row.new }
 {
-    let new = u8x16::from_slice(&row[i..]) | u8x16::from_slice(bytes);
+    let new = u8x16::from_slice(&row[i..]) | u8x16::from_slice(&bytes[i..]);
     new.copy_to_slice(&mut row[i..]);
 }
 
-/// Blackens rows of the page, from one on, where dot x - far of the word is black: sixteen bytes have room
-/// for it.
-pub(crate) fn lay_word_inside<A: Small>(
-    word: u64,
-    h: usize,
-    far: u64,
-    top: usize,
-    band: &mut PageBand<A>,
-)
-    requires inside { far / 8 + 16 ≤ PAPER_BYTES }
-    requires room { top + h ≤ PAGE_ROWS }
-    ensures { RowsPainted PAGE_ROWS Black (λ x y. nat_le top y && (nat_lt (y - top) h && (nat_le far x
-        && word_dot word (x - far)))) band.old band.new }
+/// Blackens `n` times sixteen bytes of the row, from byte i on, where other bytes are black.
+#[inline(always)]
+fn or_sixteens(bytes: &[u8], i: usize, n: usize, row: &mut [u8])
+    requires bytes { i + 16 * n ≤ length bytes.now }
+    requires row { i + 16 * n ≤ length row.old }
+    ensures { Painted Black (λ d. span i (i + 16 * n) (d / 8) && dot bytes.now d) row.old row.new }
 {
-    let bytes = moved_bytes(word, far % 8);
-    let at = (far / 8) as usize;
-    for i in 0..h {
-        or_sixteen(&bytes, at, band.row_mut(top + i));
+    for k in 0..n {
+        or_sixteen(bytes, i + 16 * k, row);
     }
 }
 
-/// Blackens rows of the page, from one on, where the word, moved by an offset, is black.
-pub(crate) fn lay_word<A: Small>(word: u64, h: usize, left: i64, top: usize, band: &mut PageBand<A>)
-    requires { top + h ≤ PAGE_ROWS }
-    ensures { RowsPainted PAGE_ROWS Black
-        (λ x y. nat_le top y && (nat_lt (y - top) h && shifted left (word_dot word) x)) band.old band.new }
+/// Blackens rows of the page, from one on, where one row is black, whose black dots are those of some bytes.
+pub(crate) fn lay_same<A: Small>(
+    row: &[u8; PAPER_BYTES],
+    first: usize,
+    bytes: usize,
+    h: usize,
+    top: usize,
+    band: &mut PageBand<A>,
+)
+    requires few { bytes ≤ 64 }
+    requires black { (x : ℕ) → dot row.now x ≡ true → span first (first + bytes) (x / 8) ≡ true }
+    requires room { top + h ≤ PAGE_ROWS }
+    ensures { (ink : ℕ → Bool) → ((x : ℕ) → x < PAPER_DOTS → dot row.now x ≡ ink x) →
+        RowsPainted PAGE_ROWS Black (λ x y. nat_le top y && (nat_lt (y - top) h && ink x)) band.old band.new }
 {
+    let n = bytes.div_ceil(16);
+    let at = first.min(PAPER_BYTES - 16 * n);
     for i in 0..h {
-        or_word(word, left, band.row_mut(top + i));
+        or_sixteens(row, at, n, band.row_mut(top + i));
     }
 }
 

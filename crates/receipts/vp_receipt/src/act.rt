@@ -14,9 +14,7 @@ ghost use Rattle.vp_strips.specs.declared.lines.Lines.{Lines};
 ghost use Rattle.vp_receipt_settings.specs.Setup.{Setup};
 ghost use Rattle.vp_receipt_settings.specs.Line.{height, is_open, line, mode, Placed};
 ghost use Rattle.vp_receipt_settings.specs.Settings.{settings_of, IsFit};
-ghost use Rattle.vp_page.specs.Layers.{Layer, Laid, first_rows};
-ghost use Rattle.vp_page.specs.declared.across.TheConstants.{AT_ONCE};
-ghost use Rattle.vp_dots.specs.declared.TheConstants.{WORDS};
+ghost use Rattle.vp_page.specs.Layers.{Layer, Laid};
 ghost use Rattle.vp_page.specs.Pages.{HasPage};
 ghost use Rattle.vp_receipt.specs.PageMarks.{HasRows, mark_of, layers_with, layers, printed_layers};
 ghost use Rattle.vp_strips.specs.LineDots.{HasDots, HasOpen, ink_placed};
@@ -37,12 +35,12 @@ ghost use Rattle.vp_receipt_settings.specs.Gathering.{EndsRow, kept_of};
 ghost use Rattle.vp_strips.specs.Held.{job_text, after_text, IsJob, IsTurned, AreOwn, IsShowing};
 
 use crate::raster_page::lay_raster_row;
-use vp_dots::{Ink, Small, WORDS};
+use vp_dots::{Ink, Small};
 use vp_esc::item::Cut;
 use vp_glyph::{Cell, Sheets};
-use vp_page::{AT_ONCE, Direction, LINE_BYTES, PAPER_BYTES, Page};
+use vp_page::{PAPER_BYTES, Page};
 use vp_receipt_settings::{
-    Effect, LINE_ROWS, Piece, PrinterMode, Raster, Settings, times_across, times_down,
+    Effect, Piece, PrinterMode, Raster, Settings, times_across, times_down,
 };
 use vp_strips::{After, Bitmap, Canvas, Job, Strip, Symbol, write_raster_row};
 
@@ -218,93 +216,15 @@ fn printed(s: &Settings, effect: Effect) -> Option<Job>
     }
 }
 
-/// Lays the line row by row, with its top at the vertical position.
-fn lay_rows<A: Small>(s: &Settings, bitmap: &Bitmap<A>, page: &mut Page<A>)
-    requires { IsFit s.now }
-    ensures { (dots : ℕ → ℕ → Bool) (layers : List Layer) → HasRows s.now bitmap.now dots →
-        HasPage layers page.old → HasPage (Laid (mark_of s.now.page s.now.height dots) ∷ layers) page.new }
-{
-    let (area, direction) = (s.page.area, s.page.direction);
-    let top = s.page.vertical as u32;
-    let bytes = usize::from(s.page.line_length()).div_ceil(8);
-    for y in 0..s.height as u32 {
-        let source = bitmap.row(LINE_ROWS - s.height as usize + y as usize);
-        page.lay_row(area, direction, top + y, &source[..bytes]);
-    }
-}
-
-/// Lays as many rows of the line as there is room for, below the first ones, whose top is at the vertical
-/// position.
-fn lay_more<A: Small>(
-    s: &Settings,
-    from: usize,
-    bitmap: &Bitmap<A>,
-    room: &mut [[u8; LINE_BYTES]],
-    page: &mut Page<A>,
-)
-    requires fit { IsFit s.now }
-    requires few { length room.old ≤ AT_ONCE }
-    requires inside { from + length room.old ≤ s.now.height }
-    ensures { (dots : ℕ → ℕ → Bool) (layers : List Layer) → HasRows s.now bitmap.now dots →
-        HasPage (Laid (first_rows from (mark_of s.now.page s.now.height dots)) ∷ layers) page.old →
-        HasPage (Laid (first_rows (from + length room.old) (mark_of s.now.page s.now.height dots)) ∷ layers)
-        page.new }
-{
-    bitmap.copy_rows(LINE_ROWS - usize::from(s.height) + from, room);
-    let top = s.page.vertical as u32 + from as u32;
-    page.lay_lines(s.page.area, s.page.direction, top, room);
-}
-
-/// Lays a line no higher than most characters at once, with its top at the vertical position.
-fn lay_low<A: Small>(s: &Settings, bitmap: &Bitmap<A>, page: &mut Page<A>)
-    requires fit { IsFit s.now }
-    requires low { s.now.height ≤ WORDS }
-    ensures { (dots : ℕ → ℕ → Bool) (layers : List Layer) → HasRows s.now bitmap.now dots →
-        HasPage layers page.old → HasPage (Laid (mark_of s.now.page s.now.height dots) ∷ layers) page.new }
-{
-    let mut room = [[0; LINE_BYTES]; WORDS];
-    lay_more(s, 0, bitmap, &mut room[..usize::from(s.height)], page);
-}
-
-/// Lays the line as many rows at once as go, with its top at the vertical position.
-fn lay_high<A: Small>(s: &Settings, bitmap: &Bitmap<A>, page: &mut Page<A>)
-    requires { IsFit s.now }
-    ensures { (dots : ℕ → ℕ → Bool) (layers : List Layer) → HasRows s.now bitmap.now dots →
-        HasPage layers page.old → HasPage (Laid (mark_of s.now.page s.now.height dots) ∷ layers) page.new }
-{
-    let height = usize::from(s.height);
-    let mut room = [[0; LINE_BYTES]; AT_ONCE];
-    for k in 0..height.div_ceil(AT_ONCE) {
-        let from = AT_ONCE * k;
-        let rows = (height - from).min(AT_ONCE);
-        lay_more(s, from, bitmap, &mut room[..rows], page);
-    }
-}
-
-/// Lays the line across the rows of the page, with its top at the vertical position. Mostly it is low, and
-/// then little room is made for it.
-fn lay_at_once<A: Small>(s: &Settings, bitmap: &Bitmap<A>, page: &mut Page<A>)
-    requires { IsFit s.now }
-    ensures { (dots : ℕ → ℕ → Bool) (layers : List Layer) → HasRows s.now bitmap.now dots →
-        HasPage layers page.old → HasPage (Laid (mark_of s.now.page s.now.height dots) ∷ layers) page.new }
-{
-    if usize::from(s.height) <= WORDS {
-        lay_low(s, bitmap, page);
-    } else {
-        lay_high(s, bitmap, page);
-    }
-}
-
 /// Lays the line with its top at the vertical position.
 fn lay_line<A: Small>(s: &Settings, bitmap: &Bitmap<A>, page: &mut Page<A>)
     requires { IsFit s.now }
     ensures { (dots : ℕ → ℕ → Bool) (layers : List Layer) → HasRows s.now bitmap.now dots →
         HasPage layers page.old → HasPage (Laid (mark_of s.now.page s.now.height dots) ∷ layers) page.new }
 {
-    match s.page.direction {
-        Direction::LeftToRight | Direction::RightToLeft => lay_rows(s, bitmap, page),
-        Direction::BottomToTop | Direction::TopToBottom => lay_at_once(s, bitmap, page),
-    }
+    let rows = bitmap.lowest_rows(usize::from(s.height));
+    let top = s.page.vertical as u32;
+    page.lay_lines(s.page.area, s.page.direction, top, rows);
 }
 
 /// Lays the line if it is open. The rows that this item lays and wipes are counted anew.

@@ -11,12 +11,6 @@ pub dot_white : (n x : ℕ) → x / 8 < n → dot (replicate n 0) x ≡ false
 unfolding dot bit
 dot_white n x h = rw (get_or-replicate {A = ℕ} n (x / 8) 0 0 h) (ap (λ k. eqb k 1) (bit_at-zero (7 - x % 8)))
 
--- white rows, and past them none
-pub white_rows_dot : (high wide y x : ℕ) → y < high → x / 8 < wide
-    → dot (get_or (replicate high (replicate wide 0)) y []) x ≡ false
-white_rows_dot high wide y x h k =
-    ap (λ row. dot row x) (get_or-replicate high y (replicate wide 0) [] h) ∙ dot_white wide x k
-
 white_rows : (high wide : ℕ) (bitmap : List (List ℕ)) → bitmap ≡ replicate high (replicate wide 0) → (y : ℕ) → y < high → get_or bitmap y [] ≡ replicate wide 0
 white_rows high wide bitmap e y h = ap (λ (rows : List (List ℕ)). get_or rows y []) e ∙ get_or-replicate high y (replicate wide 0) [] h
 

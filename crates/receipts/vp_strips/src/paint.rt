@@ -297,16 +297,14 @@ impl<A: Small> Bitmap<A> {
         self.band.row(y)
     }
 
-    /// Copies rows that lie below one another, from one on.
-    pub fn copy_rows(&self, top: usize, rows: &mut [[u8; LINE_BYTES]])
-        requires { top + length rows.old ≤ LINE_ROWS }
-        ensures len { length rows.new ≡ length rows.old }
-        ensures rows { (i u : ℕ) → i < length rows.new →
-            dot (slice_index_or rows.new i []) u ≡ dot (slice_index_or self.now (top + i) []) u }
+    /// The lowest rows.
+    pub fn lowest_rows(&self, high: usize) -> &[[u8; LINE_BYTES]]
+        requires { high ≤ LINE_ROWS }
+        ensures len { length result.now ≡ high }
+        ensures rows { (i : ℕ) → i < high →
+            slice_index_or result.now i [] ≡ slice_index_or self.now (LINE_ROWS - high + i) [] }
     {
-        for i in 0..rows.len() {
-            rows[i].copy_from_slice(self.row(top + i));
-        }
+        self.band.rows(LINE_ROWS - high, LINE_ROWS)
     }
 
     /// The bytes of memory that it holds, on the heap.

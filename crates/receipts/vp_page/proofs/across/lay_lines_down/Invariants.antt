@@ -6,5 +6,5 @@ use Rattle.vp_page.proofs.across.lay_lines_down.Given as goal
 
 -- the rows of the squares before this one are done
 abbrev pub invariant-loop-k : goal.invariant-loop-k
-invariant-loop-k g l = RowsPainted 1664 Black (λ x y. leb l.fn.area.y y && (ltb (y - l.fn.area.y) (min (64 * l.k) l.end)
+invariant-loop-k g l = RowsPainted 1664 Black (λ x y. leb l.fn.area.y y && (ltb (y - l.fn.area.y) (min (128 * l.k) l.end)
     && (ltb x l.right && line_dot l.lines (l.right - 1 - x) (y - l.fn.area.y)))) l.fn.band l.band

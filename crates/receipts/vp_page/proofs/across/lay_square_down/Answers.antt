@@ -1,4 +1,4 @@
-use Rattle.std.proofs.Common.{◌≡◌, ◌-◌, ◌+◌, ◌∙◌, sym, refl, get_or, w64, arith, rules}
+use Rattle.std.proofs.Common.{◌-◌, ◌+◌, ◌∙◌, sym, refl, get_or, w64, arith, rules}
 use mir.Val.{SFits}
 use Rattle.std.proofs.lemmas.Int.{to_z-of_z}
 use Rattle.std.proofs.lemmas.Bool.{le-ltb}

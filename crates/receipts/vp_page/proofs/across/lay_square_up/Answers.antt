@@ -1,12 +1,12 @@
-use Rattle.std.proofs.Common.{◌≡◌, ℕ, ◌<◌, ◌≤◌, ◌-◌, ◌+◌, ◌*◌, ◌/◌, ◌%◌, ◌∙◌, ◌&&◌, ap, sym, refl, length, get_or, take, drop, w64, to_z, of_z, arith, rules, leb, ltb}
+use Rattle.std.proofs.Common.{◌≡◌, ◌<◌, ◌-◌, ◌+◌, ◌∙◌, ◌&&◌, ap, sym, refl, length, get_or, take, drop, w64, to_z, of_z, arith, rules, leb}
 use mir.Val.{SFits}
 use Rattle.std.proofs.lemmas.Int.{to_z-of_z}
-use Rattle.std.proofs.lemmas.Bool.{lt-ltb, le-ltb}
+use Rattle.std.proofs.lemmas.Bool.{le-ltb}
 use Rattle.vp_dots.specs.Dots.{shifted}
 use Rattle.vp_dots.specs.Words.{word_dot}
 use Rattle.vp_dots.specs.declared.Op.TheVariants.{Black}
 use Rattle.vp_page.specs.Lines.{line_dot}
-use Rattle.vp_page.proofs.Rows.{rows_same, rows_then}
+use Rattle.vp_page.proofs.Rows.{rows_same}
 use Rattle.vp_page.proofs.Squares.{no_line, last_words, up_row, flipped}
 use Rattle.vp_page.proofs.across.lay_square_up.Goals as goal
 

@@ -1,4 +1,4 @@
-use Rattle.std.proofs.Common.{◌≡◌, ℕ, ◌+◌, ◌-◌, ◌<◌, ◌&&◌, ltb, length, get_or}
+use Rattle.std.proofs.Common.{◌≡◌, ℕ, ◌+◌, ◌<◌, ◌&&◌, ltb, length, get_or}
 use Rattle.vp_dots.specs.Words.{word_dot}
 use Rattle.vp_page.specs.Lines.{line_dot}
 use Rattle.vp_page.proofs.across.square_from.Given as goal

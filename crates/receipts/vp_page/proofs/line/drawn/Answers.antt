@@ -1,4 +1,4 @@
-use Rattle.std.proofs.Common.{refl, lit≤}
+use Rattle.std.proofs.Common.{refl}
 use Rattle.vp_page.proofs.Lines.{drawn}
 use Rattle.vp_page.proofs.line.drawn.Goals as goal
 

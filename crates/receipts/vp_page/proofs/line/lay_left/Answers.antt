@@ -3,9 +3,13 @@ use mir.Val.{SFits}
 use Rattle.std.proofs.lemmas.Int.{to_z-of_z}
 use Rattle.vp_dots.specs.Dots.{dot}
 use Rattle.vp_dots.specs.declared.Op.TheVariants.{Black}
+use Rattle.vp_page.proofs.Blank.{white_front}
 use Rattle.vp_page.proofs.Lines.{backward, short_of}
 use Rattle.vp_page.proofs.Rows.{dot_past, rows_same}
 use Rattle.vp_page.proofs.line.lay_left.Goals as goal
+
+pub clip_reversed-requires-clause-white : goal.clip_reversed-requires-clause-white
+clip_reversed-requires-clause-white g c = λ d. white_front (length c.args.row.now) 208 d c.requires
 
 pub returns-then-right : goal.returns-then-right
 returns-then-right g c =

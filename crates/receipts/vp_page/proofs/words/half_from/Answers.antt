@@ -1,5 +1,3 @@
-use Rattle.std.proofs.Common.{inl, inr, ◌≡◌, ◌+◌, ◌-◌, ◌*◌, ◌^◌, ◌%◌, ◌&&◌, ◌∙◌, ap, refl, arith, ltb, bit_and}
-use Rattle.vp_dots.specs.Words.{word_dot}
 use Rattle.vp_page.proofs.WordsOnRows.{half_dot}
 use Rattle.vp_page.proofs.words.half_from.Goals as goal
 

@@ -1,5 +1,5 @@
 use Rattle.vp_dots.proofs.Paints.{painted_same}
-use Rattle.std.proofs.Common.{◌≡◌, ◌&&◌, ◌+◌, ◌∙◌, ap, ltb, w64, rules}
+use Rattle.std.proofs.Common.{◌&&◌, ◌+◌, ◌∙◌, ap, ltb, w64, rules}
 use mir.Val.{SFits}
 use Rattle.std.proofs.lemmas.Int.{to_z-of_z}
 use Rattle.vp_dots.specs.Dots.{shifted}

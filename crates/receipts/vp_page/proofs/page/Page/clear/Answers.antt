@@ -1,4 +1,4 @@
-use Rattle.std.proofs.Common.{ℕ, ap, ◌∙◌, List, [], get_or}
+use Rattle.std.proofs.Common.{ap, ◌∙◌, [], get_or}
 use Rattle.std.proofs.Common.{arith}
 use Rattle.vp_dots.specs.Dots.{dot}
 use Rattle.vp_page.specs.declared.area.Area.{Area}

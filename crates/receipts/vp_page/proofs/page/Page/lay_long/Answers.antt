@@ -1,19 +1,14 @@
-use Rattle.std.proofs.Common.{◌≡◌, ◌≤◌, ◌<◌, ◌-◌, ◌∙◌, ap, sym, subst, refl, length, take, get_or, [], rules, arith}
-use Rattle.vp_page.proofs.Pages.{laid, rows_make_an_image}
+use Rattle.std.proofs.Common.{◌≡◌, ◌<◌, ◌-◌, ◌∙◌, ap, sym, subst, refl, take, arith}
+use Rattle.vp_page.proofs.Pages.{laid}
 use Rattle.std.proofs.lemmas.Bool.{le-ltb}
 use Rattle.vp_page.specs.Lines.{line_dot}
-use Rattle.vp_page.proofs.Marks.{line_in_mark, line_there, shown_line, shown_lines, shown_white, up_mark, down_mark}
+use Rattle.vp_page.proofs.Marks.{shown_line, shown_lines, shown_white, up_mark, down_mark}
 use Rattle.vp_page.specs.Areas.{depth}
 use Rattle.vp_page.specs.Layers.{lines_mark}
 use Rattle.vp_page.specs.Pages.{HasPage}
 use Rattle.vp_page.specs.declared.area.Direction.TheVariants.{BottomToTop, TopToBottom}
 use Rattle.vp_page.proofs.Whites.{laid_on, up_rows, down_rows}
 use Rattle.vp_page.proofs.page.Page.lay_long.Goals as goal
-
-pub loop-i-preserved : goal.loop-i-preserved
-loop-i-preserved g c = λ layers page.
-    let short : length (get_or c.args.lines.now c.loop-i.i []) ≤ 208 = search rules in
-    rows_make_an_image.more (lines_mark c.args.area c.args.direction c.args.v c.args.lines.now) c.loop-i.i _ layers _ (λ u _. line_in_mark c.args.lines.now c.loop-i.i u (omega arith) short) (c.lay_row.ensures _ (c.loop-i.invariant layers page))
 
 pub returns-in-BottomToTop : goal.returns-in-BottomToTop
 returns-in-BottomToTop g c = λ layers page.
@@ -50,8 +45,3 @@ lay_lines_up-requires-clause-white g c = λ i u h. shown_white c.args.lines.now 
 
 pub lay_lines_down-requires-clause-white : goal.lay_lines_down-requires-clause-white
 lay_lines_down-requires-clause-white g c = λ i u h. shown_white c.args.lines.now _ i u (c.requires.white i u h)
-
-pub returns-after-loop-i : goal.returns-after-loop-i
-returns-after-loop-i g c = λ layers page.
-    rows_make_an_image.all (lines_mark c.args.area c.args.direction c.args.v c.args.lines.now) c.loop-i.i layers _
-    (λ u w e k. line_there c.args.lines.now w u c.loop-i.i (omega arith) e) (omega arith) (c.loop-i.invariant layers page)

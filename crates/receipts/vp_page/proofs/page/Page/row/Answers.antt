@@ -1,4 +1,4 @@
-use Rattle.std.proofs.Common.{◌≡◌, ℕ, arith, ap, ◌∙◌, take, List, [], get_or}
+use Rattle.std.proofs.Common.{◌≡◌, arith, ap, ◌∙◌, take, List, [], get_or}
 use Rattle.vp_page.specs.declared.page.TheConstants.{PAPER_BYTES}
 use Rattle.vp_dots.specs.Dots.{dot}
 use Rattle.vp_dots.specs.Images.{row_of}
