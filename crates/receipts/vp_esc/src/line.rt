@@ -34,11 +34,11 @@ impl EscItem {
             EscItem::CarriageReturn => listed(b"CR", &[], line),
             EscItem::FormFeed => listed(b"FF", &[], line),
             EscItem::Cancel => listed(b"CAN", &[], line),
-            EscItem::Control(b) => byte_line(b"ctl", b, line),
-            EscItem::Character(b) => byte_line(b"char", b, line),
-            EscItem::Column8(b) => byte_line(b"column", b, line),
+            EscItem::Control(b) => listed(b"ctl", &[b], line),
+            EscItem::Character(b) => listed(b"char", &[b], line),
+            EscItem::Column8(b) => listed(b"column", &[b], line),
             EscItem::Column24(ref bytes) => listed(b"column", bytes, line),
-            EscItem::RasterByte(b) | EscItem::QrByte(b) => byte_line(b"byte", b, line),
+            EscItem::RasterByte(b) | EscItem::QrByte(b) => listed(b"byte", &[b], line),
             EscItem::WithoutEffect { lead, ref bytes } => listed(
                 lead.word(),
                 bytes.as_slice(),
@@ -54,34 +54,34 @@ impl EscItem {
         ensures { line.new.items ≡ esc_line_of self.now }
     {
         match *self {
-            EscItem::RightSpacing(n) => esc(0x20, n, line),
-            EscItem::PrintMode(Spelled { byte, .. }) => esc(0x21, byte, line),
-            EscItem::Position(n) => esc_word(0x24, n, line),
-            EscItem::MovePosition(n) => esc_word(0x5C, n.cast_unsigned(), line),
+            EscItem::RightSpacing(n) => listed(b"esc", &[0x20, n], line),
+            EscItem::PrintMode(Spelled { byte, .. }) => listed(b"esc", &[0x21, byte], line),
+            EscItem::Position(n) => word_line(b"esc", 0x24, n, line),
+            EscItem::MovePosition(n) => word_line(b"esc", 0x5C, n.cast_unsigned(), line),
             EscItem::Columns { mode, count } => columns(mode, count, line),
-            EscItem::Underline(Spelled { byte, .. }) => esc(0x2D, byte, line),
-            EscItem::DefaultLineSpacing => esc_alone(0x32, line),
-            EscItem::LineSpacing(n) => esc(0x33, n, line),
-            EscItem::Initialize => esc_alone(0x40, line),
+            EscItem::Underline(Spelled { byte, .. }) => listed(b"esc", &[0x2D, byte], line),
+            EscItem::DefaultLineSpacing => listed(b"esc", &[0x32], line),
+            EscItem::LineSpacing(n) => listed(b"esc", &[0x33, n], line),
+            EscItem::Initialize => listed(b"esc", &[0x40], line),
             EscItem::TabStops { ref stops, end } => tab_stops(stops.as_slice(), end, line),
-            EscItem::Emphasized(Spelled { byte, .. }) => esc(0x45, byte, line),
-            EscItem::DoubleStrike(Spelled { byte, .. }) => esc(0x47, byte, line),
-            EscItem::FeedDots(n) => esc(0x4A, n, line),
-            EscItem::FeedLines(n) => esc(0x64, n, line),
-            EscItem::PageMode => esc_alone(0x4C, line),
-            EscItem::StandardMode => esc_alone(0x53, line),
-            EscItem::PrintPage => esc_alone(0x0C, line),
-            EscItem::Font(Spelled { byte, .. }) => esc(0x4D, byte, line),
-            EscItem::Direction(Spelled { byte, .. }) => esc(0x54, byte, line),
+            EscItem::Emphasized(Spelled { byte, .. }) => listed(b"esc", &[0x45, byte], line),
+            EscItem::DoubleStrike(Spelled { byte, .. }) => listed(b"esc", &[0x47, byte], line),
+            EscItem::FeedDots(n) => listed(b"esc", &[0x4A, n], line),
+            EscItem::FeedLines(n) => listed(b"esc", &[0x64, n], line),
+            EscItem::PageMode => listed(b"esc", &[0x4C], line),
+            EscItem::StandardMode => listed(b"esc", &[0x53], line),
+            EscItem::PrintPage => listed(b"esc", &[0x0C], line),
+            EscItem::Font(Spelled { byte, .. }) => listed(b"esc", &[0x4D, byte], line),
+            EscItem::Direction(Spelled { byte, .. }) => listed(b"esc", &[0x54, byte], line),
             EscItem::Area {
                 x,
                 y,
                 width,
                 height,
             } => area(x, y, width, height, line),
-            EscItem::Justify(Spelled { byte, .. }) => esc(0x61, byte, line),
-            EscItem::CutLeavingOnePoint => esc_alone(0x69, line),
-            EscItem::CutLeavingThreePoints => esc_alone(0x6D, line),
+            EscItem::Justify(Spelled { byte, .. }) => listed(b"esc", &[0x61, byte], line),
+            EscItem::CutLeavingOnePoint => listed(b"esc", &[0x69], line),
+            EscItem::CutLeavingThreePoints => listed(b"esc", &[0x6D], line),
             _ => self.write_gs(line),
         }
     }
@@ -92,18 +92,18 @@ impl EscItem {
         ensures { line.new.items ≡ gs_line_of self.now }
     {
         match *self {
-            EscItem::Magnify(Spelled { byte, .. }) => gs(0x21, byte, line),
-            EscItem::VerticalPosition(n) => gs_word(0x24, n, line),
-            EscItem::MoveVerticalPosition(n) => gs_word(0x5C, n.cast_unsigned(), line),
-            EscItem::Inverse(Spelled { byte, .. }) => gs(0x42, byte, line),
-            EscItem::HriPosition(Spelled { byte, .. }) => gs(0x48, byte, line),
-            EscItem::HriFont(Spelled { byte, .. }) => gs(0x66, byte, line),
-            EscItem::BarHeight(n) => gs(0x68, n, line),
-            EscItem::BarModule(n) => gs(0x77, n, line),
-            EscItem::LeftMargin(n) => gs_word(0x4C, n, line),
-            EscItem::AreaWidth(n) => gs_word(0x57, n, line),
-            EscItem::Cut(Spelled { byte, .. }) => gs(0x56, byte, line),
-            EscItem::FeedAndCut { cut, dots } => feed_and_cut(cut.byte, dots, line),
+            EscItem::Magnify(Spelled { byte, .. }) => listed(b"gs", &[0x21, byte], line),
+            EscItem::VerticalPosition(n) => word_line(b"gs", 0x24, n, line),
+            EscItem::MoveVerticalPosition(n) => word_line(b"gs", 0x5C, n.cast_unsigned(), line),
+            EscItem::Inverse(Spelled { byte, .. }) => listed(b"gs", &[0x42, byte], line),
+            EscItem::HriPosition(Spelled { byte, .. }) => listed(b"gs", &[0x48, byte], line),
+            EscItem::HriFont(Spelled { byte, .. }) => listed(b"gs", &[0x66, byte], line),
+            EscItem::BarHeight(n) => listed(b"gs", &[0x68, n], line),
+            EscItem::BarModule(n) => listed(b"gs", &[0x77, n], line),
+            EscItem::LeftMargin(n) => word_line(b"gs", 0x4C, n, line),
+            EscItem::AreaWidth(n) => word_line(b"gs", 0x57, n, line),
+            EscItem::Cut(Spelled { byte, .. }) => listed(b"gs", &[0x56, byte], line),
+            EscItem::FeedAndCut { cut, dots } => listed(b"gs", &[0x56, cut.byte, dots], line),
             EscItem::Raster { scale, bytes, rows } => raster(scale.byte, bytes, rows, line),
             EscItem::Symbol { kind, ref data, .. } => symbol(kind.byte, data.as_slice(), line),
             EscItem::QrModel(model) => qr_model(model, line),
@@ -137,53 +137,13 @@ impl Lead {
     }
 }
 
-/// A byte of data, or a control.
-fn byte_line(word: &[u8], byte: u8, line: &mut ArrayVec<u8, 800>)
+/// A name and a number of two bytes behind a lead.
+fn word_line(lead: &[u8], name: u8, n: u16, line: &mut ArrayVec<u8, 800>)
     requires empty { line.old.items ≡ [] }
-    requires short { length word.now ≤ 6 }
-    ensures { line.new.items ≡ listed_as word.now (byte ∷ []) }
+    requires short { length lead.now ≤ 6 }
+    ensures { line.new.items ≡ listed_as lead.now (name ∷ two_bytes n) }
 {
-    listed(word, &[byte], line)
-}
-
-/// ESC and a name alone.
-fn esc_alone(name: u8, line: &mut ArrayVec<u8, 800>)
-    requires { line.old.items ≡ [] }
-    ensures { line.new.items ≡ listed_as (codes "esc") (name ∷ []) }
-{
-    listed(b"esc", &[name], line)
-}
-
-/// ESC, a name and a byte.
-fn esc(name: u8, n: u8, line: &mut ArrayVec<u8, 800>)
-    requires { line.old.items ≡ [] }
-    ensures { line.new.items ≡ listed_as (codes "esc") (name ∷ n ∷ []) }
-{
-    listed(b"esc", &[name, n], line)
-}
-
-/// ESC, a name and a number of two bytes.
-fn esc_word(name: u8, n: u16, line: &mut ArrayVec<u8, 800>)
-    requires { line.old.items ≡ [] }
-    ensures { line.new.items ≡ listed_as (codes "esc") (name ∷ two_bytes n) }
-{
-    listed(b"esc", &[name, low(n), high(n)], line)
-}
-
-/// GS, a name and a byte.
-fn gs(name: u8, n: u8, line: &mut ArrayVec<u8, 800>)
-    requires { line.old.items ≡ [] }
-    ensures { line.new.items ≡ listed_as (codes "gs") (name ∷ n ∷ []) }
-{
-    listed(b"gs", &[name, n], line)
-}
-
-/// GS, a name and a number of two bytes.
-fn gs_word(name: u8, n: u16, line: &mut ArrayVec<u8, 800>)
-    requires { line.old.items ≡ [] }
-    ensures { line.new.items ≡ listed_as (codes "gs") (name ∷ two_bytes n) }
-{
-    listed(b"gs", &[name, low(n), high(n)], line)
+    listed(lead, &[name, low(n), high(n)], line)
 }
 
 /// ESC *
@@ -219,14 +179,6 @@ fn area(x: u16, y: u16, width: u16, height: u16, line: &mut ArrayVec<u8, 800>)
         ],
         line,
     )
-}
-
-/// GS V 65 or 66
-fn feed_and_cut(m: u8, dots: u8, line: &mut ArrayVec<u8, 800>)
-    requires { line.old.items ≡ [] }
-    ensures { line.new.items ≡ listed_as (codes "gs") (0x56 ∷ m ∷ dots ∷ []) }
-{
-    listed(b"gs", &[0x56, m, dots], line)
 }
 
 /// GS v 0
