@@ -12,10 +12,7 @@ use crate::part::{Part, capital, is_digit, number_in};
 fn number_at(n: usize, parameters: &[Part]) -> Option<u32>
     ensures { result ≡ number_is n (shown_parts parameters.now) }
 {
-    match parameters.get(n) {
-        Some(part) => part.number(),
-        None => None,
-    }
+    parameters.get(n)?.number()
 }
 
 fn byte_at(n: usize, parameters: &[Part]) -> Option<u8>
@@ -34,10 +31,7 @@ fn byte_at(n: usize, parameters: &[Part]) -> Option<u8>
 fn letter_at(n: usize, parameters: &[Part]) -> Option<u8>
     ensures { result ≡ letter_is n (shown_parts parameters.now) }
 {
-    match byte_at(n, parameters) {
-        Some(byte) => Some(capital(byte)),
-        None => None,
-    }
+    Some(capital(byte_at(n, parameters)?))
 }
 
 /// Whether a letter is the one that says yes, or the one that says no.
@@ -180,19 +174,13 @@ fn tenth_behind(bytes: &[u8]) -> Option<u32>
 fn space_at(n: usize, parameters: &[Part]) -> Option<LineSpace>
     ensures { result ≡ space_if (slice_get (shown_parts parameters.now) n) }
 {
-    match parameters.get(n) {
-        Some(part) => part.space(),
-        None => None,
-    }
+    parameters.get(n)?.space()
 }
 
 fn tenths_at(n: usize, parameters: &[Part]) -> Option<u32>
     ensures { result ≡ tenths_if (slice_get (shown_parts parameters.now) n) }
 {
-    match parameters.get(n) {
-        Some(part) => part.tenths(),
-        None => None,
-    }
+    parameters.get(n)?.tenths()
 }
 
 /// The command of these parameters.

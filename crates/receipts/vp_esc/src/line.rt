@@ -2,8 +2,9 @@
 ghost use Rattle.std.specs.Prelude.{◌≡◌, ◌≤◌, ◌<◌, ◌+◌, ◌*◌, ◌/◌, ◌%◌, ◌++◌, ◌∷◌, [], length, codes};
 ghost use Rattle.std.specs.Prelude.{option_to_list};
 ghost use Rattle.vp_dots.specs.Listing.{listed as listed_as};
-ghost use Rattle.vp_esc.specs.Lines.{line_of, esc_line_of, gs_line_of, lead_word, two_bytes, column_byte as column_byte_as};
-ghost use Rattle.vp_esc.specs.Lines.{model_byte as model_byte_as, level_byte as level_byte_as, symbol_bytes};
+ghost use Rattle.vp_esc.specs.Lines.{line_of, esc_line_of, gs_line_of, lead_word, two_bytes, symbol_bytes};
+ghost use Rattle.vp_esc.specs.Lines.{column_byte as column_byte_as, model_byte as model_byte_as};
+ghost use Rattle.vp_esc.specs.Lines.{level_byte as level_byte_as};
 
 use crate::item::{ColumnMode, EscItem, Lead, QrLevel, QrModel, Spelled};
 use crate::value::is_kind_to_zero;
@@ -17,85 +18,107 @@ impl EscItem {
     pub fn line(&self) -> ArrayVec<u8, 800>
         ensures { result.items ≡ line_of self.now }
     {
+        let mut line = ArrayVec::new();
+        self.write(&mut line);
+        line
+    }
+
+    /// Writes its line where none stands yet.
+    fn write(&self, line: &mut ArrayVec<u8, 800>)
+        requires { line.old.items ≡ [] }
+        ensures { line.new.items ≡ line_of self.now }
+    {
         match *self {
-            EscItem::LineFeed => listed(b"LF", &[]),
-            EscItem::Tab => listed(b"HT", &[]),
-            EscItem::CarriageReturn => listed(b"CR", &[]),
-            EscItem::FormFeed => listed(b"FF", &[]),
-            EscItem::Cancel => listed(b"CAN", &[]),
-            EscItem::Control(b) => byte_line(b"ctl", b),
-            EscItem::Character(b) => byte_line(b"char", b),
-            EscItem::Column8(b) => byte_line(b"column", b),
-            EscItem::Column24(ref bytes) => listed(b"column", bytes),
-            EscItem::RasterByte(b) | EscItem::QrByte(b) => byte_line(b"byte", b),
-            EscItem::WithoutEffect { lead, ref bytes } => listed(lead.word(), bytes.as_slice()),
-            _ => self.esc_line(),
+            EscItem::LineFeed => listed(b"LF", &[], line),
+            EscItem::Tab => listed(b"HT", &[], line),
+            EscItem::CarriageReturn => listed(b"CR", &[], line),
+            EscItem::FormFeed => listed(b"FF", &[], line),
+            EscItem::Cancel => listed(b"CAN", &[], line),
+            EscItem::Control(b) => listed(b"ctl", &[b], line),
+            EscItem::Character(b) => listed(b"char", &[b], line),
+            EscItem::Column8(b) => listed(b"column", &[b], line),
+            EscItem::Column24(ref bytes) => listed(b"column", bytes, line),
+            EscItem::RasterByte(b) | EscItem::QrByte(b) => listed(b"byte", &[b], line),
+            EscItem::WithoutEffect { lead, ref bytes } => listed(
+                lead.word(),
+                bytes.as_slice(),
+                line,
+            ),
+            _ => self.write_esc(line),
         }
     }
 
-    /// The line of a command of ESC, or else of GS.
-    fn esc_line(&self) -> ArrayVec<u8, 800>
-        ensures { result.items ≡ esc_line_of self.now }
+    /// Writes the line of a command of ESC, or else of GS.
+    fn write_esc(&self, line: &mut ArrayVec<u8, 800>)
+        requires { line.old.items ≡ [] }
+        ensures { line.new.items ≡ esc_line_of self.now }
     {
         match *self {
-            EscItem::RightSpacing(n) => esc(0x20, n),
-            EscItem::PrintMode(Spelled { byte, .. }) => esc(0x21, byte),
-            EscItem::Position(n) => esc_word(0x24, n),
-            EscItem::MovePosition(n) => esc_word(0x5C, n.cast_unsigned()),
-            EscItem::Columns { mode, count } => columns(mode, count),
-            EscItem::Underline(Spelled { byte, .. }) => esc(0x2D, byte),
-            EscItem::DefaultLineSpacing => esc_alone(0x32),
-            EscItem::LineSpacing(n) => esc(0x33, n),
-            EscItem::Initialize => esc_alone(0x40),
-            EscItem::TabStops { ref stops, end } => tab_stops(stops.as_slice(), end),
-            EscItem::Emphasized(Spelled { byte, .. }) => esc(0x45, byte),
-            EscItem::DoubleStrike(Spelled { byte, .. }) => esc(0x47, byte),
-            EscItem::FeedDots(n) => esc(0x4A, n),
-            EscItem::FeedLines(n) => esc(0x64, n),
-            EscItem::PageMode => esc_alone(0x4C),
-            EscItem::StandardMode => esc_alone(0x53),
-            EscItem::PrintPage => esc_alone(0x0C),
-            EscItem::Font(Spelled { byte, .. }) => esc(0x4D, byte),
-            EscItem::Direction(Spelled { byte, .. }) => esc(0x54, byte),
+            EscItem::RightSpacing(n) => listed(b"esc", &[0x20, n], line),
+            EscItem::PrintMode(Spelled { byte, .. }) => listed(b"esc", &[0x21, byte], line),
+            EscItem::Position(n) => word_line(b"esc", 0x24, n, line),
+            EscItem::MovePosition(n) => word_line(b"esc", 0x5C, n.cast_unsigned(), line),
+            EscItem::Columns { mode, count } => columns(mode, count, line),
+            EscItem::Underline(Spelled { byte, .. }) => listed(b"esc", &[0x2D, byte], line),
+            EscItem::DefaultLineSpacing => listed(b"esc", &[0x32], line),
+            EscItem::LineSpacing(n) => listed(b"esc", &[0x33, n], line),
+            EscItem::Initialize => listed(b"esc", &[0x40], line),
+            EscItem::TabStops { ref stops, end } => tab_stops(stops.as_slice(), end, line),
+            EscItem::Emphasized(Spelled { byte, .. }) => listed(b"esc", &[0x45, byte], line),
+            EscItem::DoubleStrike(Spelled { byte, .. }) => listed(b"esc", &[0x47, byte], line),
+            EscItem::FeedDots(n) => listed(b"esc", &[0x4A, n], line),
+            EscItem::FeedLines(n) => listed(b"esc", &[0x64, n], line),
+            EscItem::PageMode => listed(b"esc", &[0x4C], line),
+            EscItem::StandardMode => listed(b"esc", &[0x53], line),
+            EscItem::PrintPage => listed(b"esc", &[0x0C], line),
+            EscItem::Font(Spelled { byte, .. }) => listed(b"esc", &[0x4D, byte], line),
+            EscItem::Direction(Spelled { byte, .. }) => listed(b"esc", &[0x54, byte], line),
             EscItem::Area {
                 x,
                 y,
                 width,
                 height,
-            } => area(x, y, width, height),
-            EscItem::Justify(Spelled { byte, .. }) => esc(0x61, byte),
-            EscItem::CutLeavingOnePoint => esc_alone(0x69),
-            EscItem::CutLeavingThreePoints => esc_alone(0x6D),
-            _ => self.gs_line(),
+            } => area(x, y, width, height, line),
+            EscItem::Justify(Spelled { byte, .. }) => listed(b"esc", &[0x61, byte], line),
+            EscItem::CutLeavingOnePoint => listed(b"esc", &[0x69], line),
+            EscItem::CutLeavingThreePoints => listed(b"esc", &[0x6D], line),
+            _ => self.write_gs(line),
         }
     }
 
-    /// The line of a command of GS, nothing of any other item.
-    fn gs_line(&self) -> ArrayVec<u8, 800>
-        ensures { result.items ≡ gs_line_of self.now }
+    /// Writes the line of a command of GS, nothing of any other item.
+    fn write_gs(&self, line: &mut ArrayVec<u8, 800>)
+        requires { line.old.items ≡ [] }
+        ensures { line.new.items ≡ gs_line_of self.now }
     {
         match *self {
-            EscItem::Magnify(Spelled { byte, .. }) => gs(0x21, byte),
-            EscItem::VerticalPosition(n) => gs_word(0x24, n),
-            EscItem::MoveVerticalPosition(n) => gs_word(0x5C, n.cast_unsigned()),
-            EscItem::Inverse(Spelled { byte, .. }) => gs(0x42, byte),
-            EscItem::HriPosition(Spelled { byte, .. }) => gs(0x48, byte),
-            EscItem::HriFont(Spelled { byte, .. }) => gs(0x66, byte),
-            EscItem::BarHeight(n) => gs(0x68, n),
-            EscItem::BarModule(n) => gs(0x77, n),
-            EscItem::LeftMargin(n) => gs_word(0x4C, n),
-            EscItem::AreaWidth(n) => gs_word(0x57, n),
-            EscItem::Cut(Spelled { byte, .. }) => gs(0x56, byte),
-            EscItem::FeedAndCut { cut, dots } => feed_and_cut(cut.byte, dots),
-            EscItem::Raster { scale, bytes, rows } => raster(scale.byte, bytes, rows),
-            EscItem::Symbol { kind, ref data, .. } => symbol(kind.byte, data.as_slice()),
-            EscItem::QrModel(model) => qr_model(model),
-            EscItem::QrModule(n) => qr_function(67, n),
-            EscItem::QrLevel(level) => qr_function(69, level_byte(level)),
-            EscItem::QrStore(count) => qr_store(count),
-            EscItem::QrPrint => qr_function(81, 48),
-            EscItem::QrIgnored(ref bytes) => joined(b"gs", &[0x28, 0x6B], bytes.as_slice(), &[]),
-            _ => ArrayVec::new(),
+            EscItem::Magnify(Spelled { byte, .. }) => listed(b"gs", &[0x21, byte], line),
+            EscItem::VerticalPosition(n) => word_line(b"gs", 0x24, n, line),
+            EscItem::MoveVerticalPosition(n) => word_line(b"gs", 0x5C, n.cast_unsigned(), line),
+            EscItem::Inverse(Spelled { byte, .. }) => listed(b"gs", &[0x42, byte], line),
+            EscItem::HriPosition(Spelled { byte, .. }) => listed(b"gs", &[0x48, byte], line),
+            EscItem::HriFont(Spelled { byte, .. }) => listed(b"gs", &[0x66, byte], line),
+            EscItem::BarHeight(n) => listed(b"gs", &[0x68, n], line),
+            EscItem::BarModule(n) => listed(b"gs", &[0x77, n], line),
+            EscItem::LeftMargin(n) => word_line(b"gs", 0x4C, n, line),
+            EscItem::AreaWidth(n) => word_line(b"gs", 0x57, n, line),
+            EscItem::Cut(Spelled { byte, .. }) => listed(b"gs", &[0x56, byte], line),
+            EscItem::FeedAndCut { cut, dots } => listed(b"gs", &[0x56, cut.byte, dots], line),
+            EscItem::Raster { scale, bytes, rows } => raster(scale.byte, bytes, rows, line),
+            EscItem::Symbol { kind, ref data, .. } => symbol(kind.byte, data.as_slice(), line),
+            EscItem::QrModel(model) => qr_model(model, line),
+            EscItem::QrModule(n) => qr_function(67, n, line),
+            EscItem::QrLevel(level) => qr_function(69, level_byte(level), line),
+            EscItem::QrStore(count) => qr_store(count, line),
+            EscItem::QrPrint => qr_function(81, 48, line),
+            EscItem::QrIgnored(ref bytes) => joined(
+                b"gs",
+                &[0x28, 0x6B],
+                bytes.as_slice(),
+                &[],
+                line,
+            ),
+            _ => {}
         }
     }
 }
@@ -114,59 +137,31 @@ impl Lead {
     }
 }
 
-/// A byte of data, or a control.
-fn byte_line(word: &[u8], byte: u8) -> ArrayVec<u8, 800>
-    requires { length word.now ≤ 6 }
-    ensures { result.items ≡ listed_as word.now (byte ∷ []) }
+/// A name and a number of two bytes behind a lead.
+fn word_line(lead: &[u8], name: u8, n: u16, line: &mut ArrayVec<u8, 800>)
+    requires empty { line.old.items ≡ [] }
+    requires short { length lead.now ≤ 6 }
+    ensures { line.new.items ≡ listed_as lead.now (name ∷ two_bytes n) }
 {
-    listed(word, &[byte])
-}
-
-/// ESC and a name alone.
-fn esc_alone(name: u8) -> ArrayVec<u8, 800>
-    ensures { result.items ≡ listed_as (codes "esc") (name ∷ []) }
-{
-    listed(b"esc", &[name])
-}
-
-/// ESC, a name and a byte.
-fn esc(name: u8, n: u8) -> ArrayVec<u8, 800>
-    ensures { result.items ≡ listed_as (codes "esc") (name ∷ n ∷ []) }
-{
-    listed(b"esc", &[name, n])
-}
-
-/// ESC, a name and a number of two bytes.
-fn esc_word(name: u8, n: u16) -> ArrayVec<u8, 800>
-    ensures { result.items ≡ listed_as (codes "esc") (name ∷ two_bytes n) }
-{
-    listed(b"esc", &[name, low(n), high(n)])
-}
-
-/// GS, a name and a byte.
-fn gs(name: u8, n: u8) -> ArrayVec<u8, 800>
-    ensures { result.items ≡ listed_as (codes "gs") (name ∷ n ∷ []) }
-{
-    listed(b"gs", &[name, n])
-}
-
-/// GS, a name and a number of two bytes.
-fn gs_word(name: u8, n: u16) -> ArrayVec<u8, 800>
-    ensures { result.items ≡ listed_as (codes "gs") (name ∷ two_bytes n) }
-{
-    listed(b"gs", &[name, low(n), high(n)])
+    listed(lead, &[name, low(n), high(n)], line)
 }
 
 /// ESC *
-fn columns(mode: ColumnMode, count: u16) -> ArrayVec<u8, 800>
-    ensures { result.items ≡ listed_as (codes "esc") (0x2A ∷ column_byte_as mode ∷ two_bytes count) }
+fn columns(mode: ColumnMode, count: u16, line: &mut ArrayVec<u8, 800>)
+    requires { line.old.items ≡ [] }
+    ensures { line.new.items ≡ listed_as (codes "esc") (0x2A ∷ column_byte_as mode ∷ two_bytes count) }
 {
-    listed(b"esc", &[0x2A, column_byte(mode), low(count), high(count)])
+    listed(
+        b"esc",
+        &[0x2A, column_byte(mode), low(count), high(count)],
+        line,
+    )
 }
 
 /// ESC W
-fn area(x: u16, y: u16, width: u16, height: u16) -> ArrayVec<u8, 800>
-    ensures { result.items ≡ listed_as (codes "esc")
+fn area(x: u16, y: u16, width: u16, height: u16, line: &mut ArrayVec<u8, 800>)
+    requires { line.old.items ≡ [] }
+    ensures { line.new.items ≡ listed_as (codes "esc")
         (0x57 ∷ (two_bytes x ++ two_bytes y ++ two_bytes width ++ two_bytes height)) }
 {
     listed(
@@ -182,19 +177,14 @@ fn area(x: u16, y: u16, width: u16, height: u16) -> ArrayVec<u8, 800>
             low(height),
             high(height),
         ],
+        line,
     )
 }
 
-/// GS V 65 or 66
-fn feed_and_cut(m: u8, dots: u8) -> ArrayVec<u8, 800>
-    ensures { result.items ≡ listed_as (codes "gs") (0x56 ∷ m ∷ dots ∷ []) }
-{
-    listed(b"gs", &[0x56, m, dots])
-}
-
 /// GS v 0
-fn raster(m: u8, bytes: u16, rows: u16) -> ArrayVec<u8, 800>
-    ensures { result.items ≡ listed_as (codes "gs") (0x76 ∷ 0x30 ∷ m ∷ (two_bytes bytes ++ two_bytes rows)) }
+fn raster(m: u8, bytes: u16, rows: u16, line: &mut ArrayVec<u8, 800>)
+    requires { line.old.items ≡ [] }
+    ensures { line.new.items ≡ listed_as (codes "gs") (0x76 ∷ 0x30 ∷ m ∷ (two_bytes bytes ++ two_bytes rows)) }
 {
     listed(
         b"gs",
@@ -207,50 +197,66 @@ fn raster(m: u8, bytes: u16, rows: u16) -> ArrayVec<u8, 800>
             low(rows),
             high(rows),
         ],
+        line,
     )
 }
 
 /// ESC D
-fn tab_stops(stops: &[u8], end: Option<u8>) -> ArrayVec<u8, 800>
-    requires { length stops.now ≤ 32 }
-    ensures { result.items ≡ listed_as (codes "esc") (0x44 ∷ (stops.now ++ option_to_list end)) }
+fn tab_stops(stops: &[u8], end: Option<u8>, line: &mut ArrayVec<u8, 800>)
+    requires empty { line.old.items ≡ [] }
+    requires short { length stops.now ≤ 32 }
+    ensures { line.new.items ≡ listed_as (codes "esc") (0x44 ∷ (stops.now ++ option_to_list end)) }
 {
     match end {
-        Some(byte) => joined(b"esc", &[0x44], stops, &[byte]),
-        None => joined(b"esc", &[0x44], stops, &[]),
+        Some(byte) => joined(b"esc", &[0x44], stops, &[byte], line),
+        None => joined(b"esc", &[0x44], stops, &[], line),
     }
 }
 
 /// GS k
-fn symbol(m: u8, bytes: &[u8]) -> ArrayVec<u8, 800>
-    requires { length bytes.now ≤ 255 }
-    ensures { result.items ≡ listed_as (codes "gs") (symbol_bytes m bytes.now) }
+fn symbol(m: u8, bytes: &[u8], line: &mut ArrayVec<u8, 800>)
+    requires empty { line.old.items ≡ [] }
+    requires short { length bytes.now ≤ 255 }
+    ensures { line.new.items ≡ listed_as (codes "gs") (symbol_bytes m bytes.now) }
 {
     if is_kind_to_zero(m) {
-        joined(b"gs", &[0x6B, m], bytes, &[0])
+        joined(b"gs", &[0x6B, m], bytes, &[0], line)
     } else {
-        joined(b"gs", &[0x6B, m, (bytes.len() % 256) as u8], bytes, &[])
+        joined(
+            b"gs",
+            &[0x6B, m, (bytes.len() % 256) as u8],
+            bytes,
+            &[],
+            line,
+        )
     }
 }
 
 /// GS ( k, function 65
-fn qr_model(model: QrModel) -> ArrayVec<u8, 800>
-    ensures { result.items ≡ listed_as (codes "gs")
+fn qr_model(model: QrModel, line: &mut ArrayVec<u8, 800>)
+    requires { line.old.items ≡ [] }
+    ensures { line.new.items ≡ listed_as (codes "gs")
         (0x28 ∷ 0x6B ∷ 4 ∷ 0 ∷ 49 ∷ 65 ∷ model_byte_as model ∷ 0 ∷ []) }
 {
-    listed(b"gs", &[0x28, 0x6B, 4, 0, 49, 65, model_byte(model), 0])
+    listed(
+        b"gs",
+        &[0x28, 0x6B, 4, 0, 49, 65, model_byte(model), 0],
+        line,
+    )
 }
 
 /// GS ( k, a function with one byte.
-fn qr_function(function: u8, n: u8) -> ArrayVec<u8, 800>
-    ensures { result.items ≡ listed_as (codes "gs") (0x28 ∷ 0x6B ∷ 3 ∷ 0 ∷ 49 ∷ function ∷ n ∷ []) }
+fn qr_function(function: u8, n: u8, line: &mut ArrayVec<u8, 800>)
+    requires { line.old.items ≡ [] }
+    ensures { line.new.items ≡ listed_as (codes "gs") (0x28 ∷ 0x6B ∷ 3 ∷ 0 ∷ 49 ∷ function ∷ n ∷ []) }
 {
-    listed(b"gs", &[0x28, 0x6B, 3, 0, 49, function, n])
+    listed(b"gs", &[0x28, 0x6B, 3, 0, 49, function, n], line)
 }
 
 /// GS ( k, function 80: the bytes that it counts are three more.
-fn qr_store(count: u16) -> ArrayVec<u8, 800>
-    ensures { result.items ≡ listed_as (codes "gs")
+fn qr_store(count: u16, line: &mut ArrayVec<u8, 800>)
+    requires { line.old.items ≡ [] }
+    ensures { line.new.items ≡ listed_as (codes "gs")
         (0x28 ∷ 0x6B ∷ (two_bytes (count + 3) ++ 49 ∷ 80 ∷ 48 ∷ [])) }
 {
     let p = count as u32 + 3;
@@ -265,6 +271,7 @@ fn qr_store(count: u16) -> ArrayVec<u8, 800>
             80,
             48,
         ],
+        line,
     )
 }
 
@@ -315,25 +322,25 @@ fn level_byte(level: QrLevel) -> u8
 }
 
 /// A line of a word and bytes.
-fn listed(word: &[u8], bytes: &[u8]) -> ArrayVec<u8, 800>
+fn listed(word: &[u8], bytes: &[u8], line: &mut ArrayVec<u8, 800>)
+    requires empty { line.old.items ≡ [] }
     requires word { length word.now ≤ 6 }
     requires bytes { length bytes.now ≤ 200 }
-    ensures { result.items ≡ listed_as word.now bytes.now }
+    ensures { line.new.items ≡ listed_as word.now bytes.now }
 {
-    joined(word, bytes, &[], &[])
+    joined(word, bytes, &[], &[], line)
 }
 
 /// A line of a word and bytes, which stand in three parts.
 #[tactic(auto, unfolding(vp_dots::specs::Listing::listed))]
-fn joined(word: &[u8], front: &[u8], middle: &[u8], back: &[u8]) -> ArrayVec<u8, 800>
-    requires { length word.now + 3 * (length front.now + length middle.now + length back.now) < 800 }
-    ensures { result.items ≡ listed_as word.now (front.now ++ middle.now ++ back.now) }
+fn joined(word: &[u8], front: &[u8], middle: &[u8], back: &[u8], line: &mut ArrayVec<u8, 800>)
+    requires empty { line.old.items ≡ [] }
+    requires room { length word.now + 3 * (length front.now + length middle.now + length back.now) < 800 }
+    ensures { line.new.items ≡ listed_as word.now (front.now ++ middle.now ++ back.now) }
 {
-    let mut line = ArrayVec::new();
     let _fits = line.try_extend_from_slice(word);
-    spell(&mut line, front);
-    spell(&mut line, middle);
-    spell(&mut line, back);
+    spell(line, front);
+    spell(line, middle);
+    spell(line, back);
     line.push(b'\n');
-    line
 }
