@@ -19,15 +19,10 @@ recipes/web/page.py dist/vp.wasm | cmp - "$page" || fail 'dist/viewer.html is ma
 [ "$(wc -c <dist/vp.wasm)" -lt 1000000 ] || fail 'the module has a megabyte or more'
 python3 recipes/tests/web/printed.py "$vp" "$count" "$seed" >"$room/streams.json"
 if needs node; then
-    if [ -n "$only" ]; then
-        node recipes/tests/web/in_node.mjs "$room/streams.json"
-    else
-        node recipes/tests/web/in_node.mjs "$room/streams.json" "$vp"
-        recipes/web/npm.py "$room/package"
-        node --input-type=module -e "import { Printer, load } from '$room/package/vp.js';
-            await load(); if (new Printer('receipt').print(new Uint8Array([10])).images[0].height !== 34) process.exit(1);"
-        echo 'the package for npm: ok'
-    fi
+    recipes/web/npm.py "$room/package"
+    if [ -n "$only" ]; then set --; else set -- "$vp"; fi
+    node recipes/tests/web/in_node.mjs "$room/package" "$room/streams.json" "$@"
+    echo 'the package for npm: ok'
 fi
 # in_browser NAME TOOL..: the page in a browser, where its tools are installed
 in_browser() {

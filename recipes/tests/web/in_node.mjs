@@ -1,16 +1,16 @@
-// In node: in_node.mjs PRINTED [VP]. The same bytes as vp printed, and with VP what calls say, and how long the module
-// takes beside vp, where neither start is counted.
+// In node: in_node.mjs PACKAGE PRINTED [VP]. The same bytes as vp printed, and with VP what calls say, and how long the
+// module takes beside vp, where neither start is counted.
 import { spawnSync } from 'node:child_process';
 import { webcrypto } from 'node:crypto';
 import { readFileSync, rmSync, writeFileSync } from 'node:fs';
-import { fileURLToPath } from 'node:url';
-import * as vp from '../../web/vp.js';
-import { same } from './same.js';
+import { fileURLToPath, pathToFileURL } from 'node:url';
+import { same } from './same.mjs';
 
 globalThis.crypto ??= webcrypto;
 
-const [streams, program] = process.argv.slice(2);
-await vp.load(new URL('../../../dist/vp.wasm', import.meta.url));
+const [made, streams, program] = process.argv.slice(2);
+const vp = await import(pathToFileURL(`${made}/vp.js`));
+await vp.load();
 const asked = JSON.parse(readFileSync(streams));
 console.log(`node ${process.versions.node}: ${await same(vp, asked)} streams are printed and listed as by vp`);
 if (!program) process.exit();
