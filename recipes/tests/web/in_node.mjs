@@ -31,6 +31,11 @@ isSo(said(() => new vp.Printer('label', { fontA: some.encode('P4\n8 8\n12345678'
 isSo(said(() => new vp.Printer('receipt', { fontB: some.encode('P5') })), 'fontB: S1 not P4');
 isSo(said(() => new vp.Printer('till')), 'there is no till of 576 dots');
 isSo(said(() => new vp.Printer('receipt', { width: 500 })), 'there is no receipt of 500 dots');
+// each has a memory of its own, behind another load too
+await vp.load();
+const first = new vp.Printer('receipt');
+const { allocations } = first;
+isSo([new vp.Printer('receipt').allocations, first.allocations], [allocations, allocations]);
 const stopped = new vp.Printer('receipt');
 isSo(vp.join(vp.images(stopped.feed(some.encode('Hi\nHi\n\x1b\x7fHi\n')))).height, 68);
 isSo([stopped.fault, stopped.taken, stopped.feed(some.encode('Hi\n')).length, stopped.end()],
