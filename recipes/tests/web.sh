@@ -1,6 +1,7 @@
 #!/bin/sh
-# The module, vp.js and viewer.html: in node the same bytes as vp on the examples and on random streams of each language,
-# cut at random, beside vp's time; in Chromium, Firefox and WebKit these and the viewer's own tests, on the page as a file.
+# The module, vp.js and viewer.html: in node the same bytes as vp on the examples and on random streams of each
+# language, cut at random, beside vp's time; in Chromium, Firefox and WebKit these and the viewer's own tests, on the
+# page as a file.
 # `web.sh streams COUNT [SEED]` prints so many random streams of each language, and tests nothing else;
 # `web.sh picture FILE [dark]` draws the page.
 # shellcheck source=recipes/tests/common.sh

@@ -35,8 +35,8 @@ async function bytesOf(source) {
   return answer.arrayBuffer();
 }
 
-// Takes the module, once, before the first printer is made: from an address, as bytes, or compiled. Called again without
-// a source it makes the next instance ready.
+// Takes the module, once, before the first printer is made: from an address, as bytes, or compiled. Called again
+// without a source it makes the next instance ready.
 export async function load(source = compiled ?? new URL('vp.wasm', import.meta.url)) {
   const isModule = source instanceof WebAssembly.Module;
   compiled = isModule ? source : await WebAssembly.compile(await bytesOf(source));
