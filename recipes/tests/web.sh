@@ -1,6 +1,7 @@
 #!/bin/sh
-# The module, vp.js and viewer.html: in node the same bytes as vp on the examples and on random streams of each language,
-# cut at random, beside vp's time; in Chromium, Firefox and WebKit these and the viewer's own tests, on the page as a file.
+# The module, vp.js and viewer.html: in node the same bytes as vp on the examples and on random streams of each
+# language, cut at random, beside vp's time; in Chromium, Firefox and WebKit these and the viewer's own tests, on the
+# page as a file.
 # `web.sh streams COUNT [SEED]` prints so many random streams of each language, and tests nothing else;
 # `web.sh picture FILE [dark]` draws the page.
 # shellcheck source=recipes/tests/common.sh
@@ -19,15 +20,10 @@ recipes/web/page.py dist/vp.wasm | cmp - "$page" || fail 'dist/viewer.html is ma
 [ "$(wc -c <dist/vp.wasm)" -lt 1000000 ] || fail 'the module has a megabyte or more'
 python3 recipes/tests/web/printed.py "$vp" "$count" "$seed" >"$room/streams.json"
 if needs node; then
-    if [ -n "$only" ]; then
-        node recipes/tests/web/in_node.mjs "$room/streams.json"
-    else
-        node recipes/tests/web/in_node.mjs "$room/streams.json" "$vp"
-        recipes/web/npm.py "$room/package"
-        node --input-type=module -e "import { Printer, load } from '$room/package/vp.js';
-            await load(); if (new Printer('receipt').print(new Uint8Array([10])).images[0].height !== 34) process.exit(1);"
-        echo 'the package for npm: ok'
-    fi
+    recipes/web/npm.py "$room/package"
+    if [ -n "$only" ]; then set --; else set -- "$vp"; fi
+    node recipes/tests/web/in_node.mjs "$room/package" "$room/streams.json" "$@"
+    echo 'the package for npm: ok'
 fi
 # in_browser NAME TOOL..: the page in a browser, where its tools are installed
 in_browser() {

@@ -1,4 +1,7 @@
-/** Takes the module, once, before the first printer is made: from an address, as bytes, or compiled. */
+/**
+ * Takes the module, once, before the first printer is made: from an address, as bytes, or compiled. In a page's own
+ * thread Chromium before 115 needs it before each printer; called again without a source, it takes no module anew.
+ */
 export function load(
   source?: string | URL | ArrayBuffer | ArrayBufferView | WebAssembly.Module,
 ): Promise<WebAssembly.Module>;

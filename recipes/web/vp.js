@@ -20,6 +20,8 @@ const MOST_LINE = 96;
 const WHOSE = { 1: 'fontA: ', 2: 'fontB: ' };
 
 let compiled = null;
+// An instance that is ready: in a page's own thread Chromium before 115 makes none at once.
+let ready = null;
 
 async function bytesOf(source) {
   if (source instanceof ArrayBuffer || ArrayBuffer.isView(source)) return source;
@@ -33,11 +35,19 @@ async function bytesOf(source) {
   return answer.arrayBuffer();
 }
 
-// Takes the module, once, before the first printer is made: from an address, as bytes, or compiled.
-export async function load(source = new URL('vp.wasm', import.meta.url)) {
+// Takes the module, once, before the first printer is made: from an address, as bytes, or compiled. Called again
+// without a source it makes the next instance ready.
+export async function load(source = compiled ?? new URL('vp.wasm', import.meta.url)) {
   const isModule = source instanceof WebAssembly.Module;
   compiled = isModule ? source : await WebAssembly.compile(await bytesOf(source));
+  ready = await WebAssembly.instantiate(compiled, {});
   return compiled;
+}
+
+function instance() {
+  const one = ready ?? new WebAssembly.Instance(compiled, {});
+  ready = null;
+  return one.exports;
 }
 
 // Why a stream is wrong: its number (F1 to F9), how many bytes of the stream were taken when it was known, its text.
@@ -61,7 +71,7 @@ class Machine {
   // `make` calls what makes it, and answers as that does.
   constructor(sheets, make) {
     if (!compiled) throw new Error('load() comes first');
-    const calls = new WebAssembly.Instance(compiled, {}).exports;
+    const calls = instance();
     const room = length => {
       const at = calls.malloc(length);
       if (!at) throw new RangeError('out of memory');

@@ -1,5 +1,4 @@
 """What is asked of a browser in WebDriver's terms, whichever way its answers come (firefox.py, webkit.py)."""
-import base64
 import json
 import time
 from chromium import standing
@@ -12,8 +11,8 @@ ERRORS = """(() => { window.errors = [];
 
 
 class Driven:
-    """One page. The browser has `go`, `run`, `act`, `place` and `shot`: an address, a script that calls back, actions,
-    the window's size, a picture in base64."""
+    """One page. The browser has `go` for an address, `run` for a script that calls back, `act` for actions, `place` for
+    the window."""
 
     def open(self, address):
         self.go(address)
@@ -71,7 +70,3 @@ class Driven:
         steps = [{'type': 'pointerMove', 'x': round(x), 'y': round(y)},
                  {'type': 'pointerDown', 'button': 0}, {'type': 'pointerUp', 'button': 0}]
         self.act({'type': 'pointer', 'id': 'mouse', 'actions': steps})
-
-    def picture(self, name):
-        with open(name, 'wb') as file:
-            file.write(base64.b64decode(self.shot()))

@@ -83,9 +83,6 @@ class Firefox(Driven):
     def act(self, source):
         self.ask('WebDriver:PerformActions', actions=[source])
 
-    def shot(self):
-        return self.ask('WebDriver:TakeScreenshot', full=False)['value']
-
     def close(self):
         self.line.close()
         self.ran.terminate()

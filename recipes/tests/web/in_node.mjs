@@ -1,16 +1,16 @@
-// In node: in_node.mjs PRINTED [VP]. The same bytes as vp printed, and with VP what calls say, and how long the module
-// takes beside vp, where neither start is counted.
+// In node: in_node.mjs PACKAGE PRINTED [VP]. The same bytes as vp printed, and with VP what calls say, and how long the
+// module takes beside vp, where neither start is counted.
 import { spawnSync } from 'node:child_process';
 import { webcrypto } from 'node:crypto';
 import { readFileSync, rmSync, writeFileSync } from 'node:fs';
-import { fileURLToPath } from 'node:url';
-import * as vp from '../../web/vp.js';
-import { same } from './same.js';
+import { fileURLToPath, pathToFileURL } from 'node:url';
+import { same } from './same.mjs';
 
 globalThis.crypto ??= webcrypto;
 
-const [streams, program] = process.argv.slice(2);
-await vp.load(new URL('../../../dist/vp.wasm', import.meta.url));
+const [made, streams, program] = process.argv.slice(2);
+const vp = await import(pathToFileURL(`${made}/vp.js`));
+await vp.load();
 const asked = JSON.parse(readFileSync(streams));
 console.log(`node ${process.versions.node}: ${await same(vp, asked)} streams are printed and listed as by vp`);
 if (!program) process.exit();
@@ -31,6 +31,11 @@ isSo(said(() => new vp.Printer('label', { fontA: some.encode('P4\n8 8\n12345678'
 isSo(said(() => new vp.Printer('receipt', { fontB: some.encode('P5') })), 'fontB: S1 not P4');
 isSo(said(() => new vp.Printer('till')), 'there is no till of 576 dots');
 isSo(said(() => new vp.Printer('receipt', { width: 500 })), 'there is no receipt of 500 dots');
+// each has a memory of its own, behind another load too
+await vp.load();
+const first = new vp.Printer('receipt');
+const { allocations } = first;
+isSo([new vp.Printer('receipt').allocations, first.allocations], [allocations, allocations]);
 const stopped = new vp.Printer('receipt');
 isSo(vp.join(vp.images(stopped.feed(some.encode('Hi\nHi\n\x1b\x7fHi\n')))).height, 68);
 isSo([stopped.fault, stopped.taken, stopped.feed(some.encode('Hi\n')).length, stopped.end()],

@@ -29,7 +29,7 @@ def test_same(browser, streams):
       window.printer = await import({script(HERE.parents[1] / 'web/vp.js')});
       const {{ module }} = JSON.parse({WITHIN});
       await printer.load(Uint8Array.from(atob(module), it => it.charCodeAt(0)));
-      window.same = (await import({script(HERE / 'same.js')})).same; }})()""")
+      window.same = (await import({script(HERE / 'same.mjs')})).same; }})()""")
     asked = json.loads(streams.read_text())
     count = 0
     for at in range(0, len(asked['streams']), 100):

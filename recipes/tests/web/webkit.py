@@ -51,7 +51,7 @@ class WebKit(Driven):
     def ask(self, command, method='POST', **words):
         line = http.client.HTTPConnection('127.0.0.1', self.port, timeout=90)
         try:
-            line.request(method, self.session + command, json.dumps(words) if method == 'POST' else None)
+            line.request(method, self.session + command, json.dumps(words))
             answer = line.getresponse()
             value = json.loads(answer.read())['value']
         finally:
@@ -71,9 +71,6 @@ class WebKit(Driven):
 
     def act(self, source):
         self.ask('/actions', actions=[source])
-
-    def shot(self):
-        return self.ask('/screenshot', method='GET')
 
     def close(self):
         try:
