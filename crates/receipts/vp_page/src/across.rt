@@ -155,6 +155,19 @@ fn unlike_at(lines: &[[u8; LINE_BYTES]], at: usize) -> [u8; LINE_BYTES]
     unlike
 }
 
+/// Whether all lines are white at one place.
+fn are_white_at(lines: &[[u8; LINE_BYTES]], at: usize) -> bool
+    requires { at < LINE_DOTS }
+    ensures { result ≡ true → (i : ℕ) → line_dot lines.now i at ≡ false }
+{
+    for i in 0..lines.len() {
+        if dot_of(&lines[i], at as u128) {
+            return false;
+        }
+    }
+    true
+}
+
 /// Whether some dots from one on are white, and lie before the end of the longest line.
 #[inline(always)]
 fn are_white(line: &[u8; LINE_BYTES], from: usize, dots: usize) -> bool
@@ -418,13 +431,14 @@ pub(crate) fn lay_lines_down<A: Small>(
     let row = row_down(lines, last, right);
     let first = (right as usize).saturating_sub(lines.len()) / 8;
     let unlike = unlike_at(lines, last);
+    let white = are_white_at(lines, last);
     for k in 0..end.div_ceil(STRETCH) {
         let from = STRETCH * k;
         let rows = (end - from).min(STRETCH);
-        if is_white_along(&unlike, from, rows) {
-            lay_same(&row, first, lines.len() / 8 + 2, rows, top + from, band);
-        } else {
+        if !is_white_along(&unlike, from, rows) {
             lay_squares_down(lines, from, rows, right, top + from, band);
+        } else if !white {
+            lay_same(&row, first, lines.len() / 8 + 2, rows, top + from, band);
         }
     }
 }
@@ -451,10 +465,13 @@ pub(crate) fn lay_lines_up<A: Small>(
     let last = (first + high).saturating_sub(1).min(LINE_DOTS - 1);
     let row = row_up(lines, last, left);
     let unlike = unlike_at(lines, last);
+    let white = are_white_at(lines, last);
     for k in 0..high.div_ceil(STRETCH) {
         let from = first + STRETCH * k;
         let rows = (high - STRETCH * k).min(STRETCH);
-        if is_white_along(&unlike, from, rows) {
+        if !is_white_along(&unlike, from, rows) {
+            lay_squares_up(lines, from, rows, left, below - from, band);
+        } else if !white {
             let top = below - from - rows;
             lay_same(
                 &row,
@@ -464,8 +481,6 @@ pub(crate) fn lay_lines_up<A: Small>(
                 top,
                 band,
             );
-        } else {
-            lay_squares_up(lines, from, rows, left, below - from, band);
         }
     }
 }
