@@ -1,17 +1,17 @@
 -- Lines that are alike along some dots, and the rows of the page that are.
-use Rattle.std.proofs.Common.{inl, inr, ◌≡◌, ℕ, ◌+◌, ◌-◌, ◌*◌, ◌/◌, ◌%◌, ◌<◌, ◌≤◌, Bool, true, false, not, cond, eqb, ltb, ◌&&◌, ◌||◌, refl, sym, ap, ◌∙◌, arith, List, [], length, get_or, replicate, eq-eqb, bit_and}
+use Rattle.std.proofs.Common.{bit_or, ◌≡◌, ℕ, ◌+◌, ◌-◌, ◌*◌, ◌/◌, ◌%◌, ◌<◌, ◌≤◌, Bool, true, false, not, cond, eqb, ltb, ◌&&◌, ◌||◌, refl, sym, ap, ◌∙◌, arith, List, [], length, get_or, replicate, bit_and}
 use Rattle.std.specs.Int.RustNames.{bit_xor}
 use Rattle.std.specs.Int.{bit_at}
 use lib.Lanes.{zip2, chunk, put_chunk}
 use Rattle.std.proofs.lemmas.Simd.{get_or-zip2, get_or-chunk, length-zip2, length-chunk}
 use Rattle.std.proofs.lemmas.Bool.Decides.{nat_tests}
 use Rattle.std.proofs.lemmas.List.{get_or-replicate, length-replicate}
-use Rattle.std.proofs.lemmas.Bool.{cases_eq, cases_lt, lt-ltb, le-ltb, le-leb, ne_eqb, true≢false}
+use Rattle.std.proofs.lemmas.Bool.{lt-ltb, le-leb, true≢false}
 use Rattle.vp_dots.specs.Dots.{bit, dot, span}
 use Rattle.vp_dots.specs.Words.{word_dot}
 use Rattle.vp_dots.specs.Painting.{Painted}
-use Rattle.vp_dots.specs.declared.Op.TheVariants.{White}
-use Rattle.vp_dots.proofs.Bits.{bit_of_xor}
+use Rattle.vp_dots.specs.declared.Op.TheVariants.{Black, White}
+use Rattle.vp_dots.proofs.Bits.{bit_of_or, bit_of_xor}
 use Rattle.vp_dots.proofs.Blocks.{painted_block}
 use Rattle.vp_dots.proofs.Columns.{white_dot}
 use Rattle.vp_dots.proofs.Rows.{dot_at}
@@ -21,35 +21,32 @@ use Rattle.vp_dots.proofs.Words.{and_true}
 use Rattle.vp_page.specs.Areas.{holds}
 use Rattle.vp_page.specs.Lines.{line_dot}
 use Rattle.vp_page.specs.declared.area.Area.{Area}
-use Rattle.vp_page.proofs.Squares.{and_false}
 
-or_false : (b : Bool) → b ≡ (b || false)
-or_false true = refl
-or_false false = refl
+-- sixteen bytes with the dots of a line on them that aren't of a colour
+module _ (line row : List ℕ) (colour i : ℕ) (black : Bool) (there : i + 16 ≤ length line) (room : i + 16 ≤ length row) (is : (k : ℕ) → k < 8 → bit colour k ≡ black) where
+  abbrev differ : List ℕ
+  differ = zip2 bit_xor (chunk i 16 line) (replicate 16 colour)
 
--- the dots of a line that aren't of a colour, of one more byte
-pub unlike_more : (line : List ℕ) (colour j d : ℕ) (black : Bool) → ((k : ℕ) → k < 8 → bit colour k ≡ black)
-    → (ltb (d / 8) (j + 1) && cond black (not (dot line d)) (dot line d))
-    ≡ ((ltb (d / 8) j && cond black (not (dot line d)) (dot line d)) || (eqb (d / 8) j && bit (bit_xor (get_or line j 0) colour) (7 - d % 8)))
-unlike_more line colour j d black is = elim (cases_lt (d / 8) j) [
-  | inl l ↦ rw (lt-ltb (d / 8) (j + 1) (omega arith), lt-ltb (d / 8) j l, ne_eqb (d / 8) j (λ e. omega arith)) (or_false _)
-  | inr g ↦ elim (cases_eq (d / 8) j) [
-    | inl e ↦
-        let k = 7 - d % 8 in
-        let small : k < 8 = omega arith in
-        let place : d ≡ 8 * j + (7 - k) = omega (arith, e) in
-        let here : dot line d ≡ bit (get_or line j 0) k = ap (dot line) place ∙ dot_at line j k small in
-        rw (lt-ltb (d / 8) (j + 1) (omega arith), le-ltb (d / 8) j g, eq-eqb (d / 8) j e) (ap (λ b. cond black (not b) b) here
-        ∙ sym (ap (λ b. cond b (not (bit (get_or line j 0) k)) (bit (get_or line j 0) k)) (is k small)) ∙ sym (bit_of_xor (get_or line j 0) colour k))
-    | inr n ↦ rw (le-ltb (d / 8) (j + 1) (omega (arith, n)), le-ltb (d / 8) j g, ne_eqb (d / 8) j n) refl
-  ]
-]
+  long_differ : length differ ≡ 16
+  long_differ = length-zip2 bit_xor (chunk i 16 line) (replicate 16 colour) (length-chunk i 16 line there ∙ sym (length-replicate {A = ℕ} 16 colour)) ∙ length-chunk i 16 line there
 
-pub unlike_apart : (j d : ℕ) (f b : Bool) → ((ltb (d / 8) j && f) && (eqb (d / 8) j && b)) ≡ false
-unlike_apart j d f b = elim (cases_lt (d / 8) j) [
-  | inl l ↦ rw (ne_eqb (d / 8) j (λ e. omega arith)) (and_false _)
-  | inr g ↦ rw (le-ltb (d / 8) j g) refl
-]
+  differs : (n : ℕ) → n < 16 → get_or differ n 0 ≡ bit_xor (get_or line (i + n) 0) colour
+  differs n p = get_or-zip2 bit_xor (chunk i 16 line) (replicate 16 colour) n 0 0 0 (omega (arith, length-chunk i 16 line there)) (omega (arith, length-replicate {A = ℕ} 16 colour))
+      ∙ ap (λ x. bit_xor x (get_or (replicate 16 colour) n 0)) (get_or-chunk i 16 line n 0 p) ∙ ap (bit_xor (get_or line (i + n) 0)) (get_or-replicate {A = ℕ} 16 n colour 0 p)
+
+  unlike_lane : (n k : ℕ) → n < 16 → k < 8 → bit (get_or (zip2 bit_or (chunk i 16 row) differ) n 0) k
+      ≡ cond (cond black (not (dot line (8 * (i + n) + (7 - k)))) (dot line (8 * (i + n) + (7 - k)))) true (bit (get_or row (i + n) 0) k)
+  unlike_lane n k p h =
+      ap (λ x. bit x k) (get_or-zip2 bit_or (chunk i 16 row) differ n 0 0 0 (omega (arith, length-chunk i 16 row room)) (omega (arith, long_differ))
+      ∙ ap (λ x. bit_or x (get_or differ n 0)) (get_or-chunk i 16 row n 0 p) ∙ ap (bit_or (get_or row (i + n) 0)) (differs n p))
+      ∙ bit_of_or (get_or row (i + n) 0) (bit_xor (get_or line (i + n) 0) colour) k
+      ∙ ap (λ b. cond b true (bit (get_or row (i + n) 0) k)) (bit_of_xor (get_or line (i + n) 0) colour k
+      ∙ ap (λ b. cond b (not (bit (get_or line (i + n) 0) k)) (bit (get_or line (i + n) 0) k)) (is k h)
+      ∙ ap (λ b. cond black (not b) b) (sym (dot_at line (i + n) k h)))
+
+  pub unlike_painted : Painted Black (λ u. span i (i + 16) (u / 8) && cond black (not (dot line u)) (dot line u)) row (put_chunk i row (zip2 bit_or (chunk i 16 row) differ))
+  unlike_painted = painted_block Black (λ u. cond black (not (dot line u)) (dot line u)) i 16 row _
+      (length-zip2 bit_or (chunk i 16 row) differ (length-chunk i 16 row room ∙ sym long_differ) ∙ length-chunk i 16 row room) room (λ n l k m. unlike_lane n k l m)
 
 -- what was painted black nowhere
 pub black_none : (a b : Bool) → cond a true b ≡ false → (a ≡ false) × (b ≡ false)

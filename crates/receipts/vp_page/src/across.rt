@@ -2,7 +2,7 @@
 //! line is along a stretch what it is at its last dot, the rows there are one row, which is made once; else
 //! squares of as many lines as a word has dots are turned.
 ghost use Rattle.std.specs.Prelude.{◌≡◌, ℕ, ◌+◌, ◌-◌, ◌*◌, ◌/◌, ◌%◌, ◌<◌, ◌≤◌, ◌^◌, ◌&&◌, false, true, not, if◌then◌else◌, nat_lt, nat_le, length, slice_index, slice_index_or, []};
-ghost use Rattle.vp_dots.specs.Dots.{bit, dot};
+ghost use Rattle.vp_dots.specs.Dots.{bit, dot, span};
 ghost use Rattle.vp_dots.specs.Painting.{Painted};
 ghost use Rattle.vp_dots.specs.Words.{word_dot};
 ghost use Rattle.vp_dots.specs.Places.{RowsPainted};
@@ -10,13 +10,14 @@ ghost use Rattle.vp_dots.specs.declared.Op.TheVariants.{Black};
 ghost use Rattle.vp_dots.specs.declared.square.TheConstants.{SIDE};
 ghost use Rattle.vp_page.specs.Lines.{line_dot};
 ghost use Rattle.vp_page.specs.declared.across.TheConstants.{AT_ONCE, FEW, STRETCH};
-ghost use Rattle.vp_page.specs.declared.line.TheConstants.{LINE_DOTS};
+ghost use Rattle.vp_page.specs.declared.line.TheConstants.{LINE_BYTES, LINE_DOTS};
 ghost use Rattle.vp_page.specs.declared.page.TheConstants.{PAGE_ROWS, PAPER_DOTS};
 
 use crate::Area;
 use crate::line::{LINE_BYTES, LINE_DOTS, lay_dot, start_of};
 use crate::page::{PAGE_ROWS, PAPER_BYTES, PageBand};
-use crate::words::{lay_halves, lay_same, lay_words, or_byte};
+use crate::words::{lay_halves, lay_same, lay_words};
+use std::simd::u8x16;
 use vp_dots::{SIDE, Small, dot_of, eight_at, first_dots, turned_square, word_at};
 
 /// How many lines are laid at once.
@@ -113,6 +114,20 @@ fn eight_of(black: bool) -> u8
     if black { 255 } else { 0 }
 }
 
+/// Blackens the dots of sixteen bytes, from byte i on, at which a line isn't of a colour.
+#[inline(always)]
+fn or_sixteen_unlike(line: &[u8], colour: u8, black: bool, i: usize, unlike: &mut [u8])
+    requires inside { i + 16 ≤ length line.now }
+    requires room { i + 16 ≤ length unlike.old }
+    requires colour { (k : ℕ) → k < 8 → bit colour k ≡ black }
+    ensures { Painted Black (λ u. span i (i + 16) (u / 8)
+        && (if black then not (dot line.now u) else dot line.now u)) unlike.old unlike.new }
+{
+    let differ = u8x16::from_slice(&line[i..]) ^ u8x16::splat(colour);
+    let new = u8x16::from_slice(&unlike[i..]) | differ;
+    new.copy_to_slice(&mut unlike[i..]);
+}
+
 /// Blackens the dots at which a line isn't of a colour.
 #[inline(always)]
 fn or_unlike(line: &[u8; LINE_BYTES], black: bool, unlike: &mut [u8])
@@ -121,8 +136,8 @@ fn or_unlike(line: &[u8; LINE_BYTES], black: bool, unlike: &mut [u8])
         unlike.old unlike.new }
 {
     let colour = eight_of(black);
-    for j in 0..LINE_BYTES {
-        or_byte(line[j] ^ colour, j, unlike);
+    for k in 0..LINE_BYTES / 16 {
+        or_sixteen_unlike(line, colour, black, 16 * k, unlike);
     }
 }
 
@@ -138,6 +153,19 @@ fn unlike_at(lines: &[[u8; LINE_BYTES]], at: usize) -> [u8; LINE_BYTES]
         or_unlike(&lines[i], black, &mut unlike);
     }
     unlike
+}
+
+/// Whether all lines are white at one place.
+fn are_white_at(lines: &[[u8; LINE_BYTES]], at: usize) -> bool
+    requires { at < LINE_DOTS }
+    ensures { result ≡ true → (i : ℕ) → line_dot lines.now i at ≡ false }
+{
+    for i in 0..lines.len() {
+        if dot_of(&lines[i], at as u128) {
+            return false;
+        }
+    }
+    true
 }
 
 /// Whether some dots from one on are white, and lie before the end of the longest line.
@@ -403,13 +431,14 @@ pub(crate) fn lay_lines_down<A: Small>(
     let row = row_down(lines, last, right);
     let first = (right as usize).saturating_sub(lines.len()) / 8;
     let unlike = unlike_at(lines, last);
+    let white = are_white_at(lines, last);
     for k in 0..end.div_ceil(STRETCH) {
         let from = STRETCH * k;
         let rows = (end - from).min(STRETCH);
-        if is_white_along(&unlike, from, rows) {
-            lay_same(&row, first, lines.len() / 8 + 2, rows, top + from, band);
-        } else {
+        if !is_white_along(&unlike, from, rows) {
             lay_squares_down(lines, from, rows, right, top + from, band);
+        } else if !white {
+            lay_same(&row, first, lines.len() / 8 + 2, rows, top + from, band);
         }
     }
 }
@@ -436,10 +465,13 @@ pub(crate) fn lay_lines_up<A: Small>(
     let last = (first + high).saturating_sub(1).min(LINE_DOTS - 1);
     let row = row_up(lines, last, left);
     let unlike = unlike_at(lines, last);
+    let white = are_white_at(lines, last);
     for k in 0..high.div_ceil(STRETCH) {
         let from = first + STRETCH * k;
         let rows = (high - STRETCH * k).min(STRETCH);
-        if is_white_along(&unlike, from, rows) {
+        if !is_white_along(&unlike, from, rows) {
+            lay_squares_up(lines, from, rows, left, below - from, band);
+        } else if !white {
             let top = below - from - rows;
             lay_same(
                 &row,
@@ -449,8 +481,6 @@ pub(crate) fn lay_lines_up<A: Small>(
                 top,
                 band,
             );
-        } else {
-            lay_squares_up(lines, from, rows, left, below - from, band);
         }
     }
 }

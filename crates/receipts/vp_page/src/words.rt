@@ -39,7 +39,7 @@ fn or_eight(word: u64, i: usize, row: &mut [u8])
 
 /// Blackens byte i of the row where the mask is black.
 #[inline(always)]
-pub(crate) fn or_byte(mask: u8, i: usize, row: &mut [u8])
+fn or_byte(mask: u8, i: usize, row: &mut [u8])
     requires { i < length row.old }
     ensures { Painted Black (λ d. d / 8 == i && bit mask (7 - d % 8)) row.old row.new }
 {

@@ -52,8 +52,8 @@ once_dots scale wide n bytes y u once = subst (λ (k : RasterScale). (ltb y n &&
 -- one more of the rows
 pub row_set : (bytes : List ℕ) (wide from : ℕ) (rows : List (List ℕ)) (i : ℕ) (line : List ℕ) → i < length rows
     → ((u : ℕ) → u < LINE_DOTS → dot line u ≡ dot (row_at bytes wide (from + i)) u)
-    → ((k u : ℕ) → k < 64 → u < LINE_DOTS → dot (get_or rows k []) u ≡ (ltb k i && dot (row_at bytes wide (from + k)) u))
-    → (k u : ℕ) → k < 64 → u < LINE_DOTS → dot (get_or (set rows i line) k []) u ≡ (ltb k (i + 1) && dot (row_at bytes wide (from + k)) u)
+    → ((k u : ℕ) → k < 192 → u < LINE_DOTS → dot (get_or rows k []) u ≡ (ltb k i && dot (row_at bytes wide (from + k)) u))
+    → (k u : ℕ) → k < 192 → u < LINE_DOTS → dot (get_or (set rows i line) k []) u ≡ (ltb k (i + 1) && dot (row_at bytes wide (from + k)) u)
 row_set bytes wide from rows i line within here above k u h l = elim (cases_eq k i) [
   | inl at ↦ rw (at, get_or-set_same rows i line [] within, lt-ltb i (i + 1) (omega arith)) (here u l)
   | inr other ↦ rw (get_or-set_other rows i k line [] other) (above k u h l ∙ elim (cases_lt k i) as (λ _. (ltb k i && dot (row_at bytes wide (from + k)) u) ≡ (ltb k (i + 1) && dot (row_at bytes wide (from + k)) u)) [
@@ -63,7 +63,7 @@ row_set bytes wide from rows i line within here above k u h l = elim (cases_eq k
 ]
 
 -- all that there are
-pub rows_there : (i k from rows : ℕ) → i ≡ min (rows - from) 64 → k < 64 → ltb k i ≡ ltb (from + k) rows
+pub rows_there : (i k from rows : ℕ) → i ≡ min (rows - from) 192 → k < 192 → ltb k i ≡ ltb (from + k) rows
 rows_there i k from rows e h = elim (cases_lt k i) [
   | inl l ↦ rw (lt-ltb k i l, lt-ltb (from + k) rows (omega arith)) refl
   | inr g ↦ rw (le-ltb k i g, le-ltb (from + k) rows (omega arith)) refl

@@ -191,12 +191,15 @@ static DIRECTIONS: [Direction; 4] = [
 
 static DEPTHS: [u32; 5] = [0, 5, 32, 33, 52];
 
-/// As many rows as are laid at once, with dots all over.
+/// As many rows as are laid at once: they have dots all over, and end black, or each third one white.
 fn many_rows() -> [[u8; LINE_BYTES]; AT_ONCE] {
     let mut rows = [[0; LINE_BYTES]; AT_ONCE];
-    for i in 0..64u8 {
-        for j in 0..208u8 {
+    for i in 0..192u8 {
+        for j in 0..40u8 {
             rows[usize::from(i)][usize::from(j)] = (j ^ (i << 5)) & 0xb7;
+        }
+        for j in 40..208u8 {
+            rows[usize::from(i)][usize::from(j)] = if i % 3 == 0 { 0 } else { 255 };
         }
     }
     rows
@@ -338,6 +341,11 @@ fn few_lines(rt: HostRuntime) -> Result<(), Fail> {
 #[test]
 fn more_lines_than_few(rt: HostRuntime) -> Result<(), Fail> {
     lays_everywhere(&rt, rt.alloc(), 33)
+}
+
+#[test]
+fn more_lines_than_two_squares(rt: HostRuntime) -> Result<(), Fail> {
+    lays_everywhere(&rt, rt.alloc(), 136)
 }
 
 #[test]

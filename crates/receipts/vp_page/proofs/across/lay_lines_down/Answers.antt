@@ -1,11 +1,11 @@
-use Rattle.std.proofs.Common.{◌≡◌, ℕ, ◌≤◌, ◌+◌, ◌-◌, ◌*◌, ◌&&◌, ◌∙◌, min, ltb, ap, refl, arith, rules}
+use Rattle.std.proofs.Common.{◌≡◌, ℕ, ◌≤◌, ◌+◌, ◌-◌, ◌*◌, ◌&&◌, ◌∙◌, min, ltb, ap, refl, sym, true, ◌<◌, arith, rules}
 use Rattle.vp_dots.specs.declared.Op.TheVariants.{Black}
 use Rattle.vp_page.specs.Lines.{line_dot}
 use Rattle.vp_page.proofs.Rows.{rows_same, rows_then}
-use Rattle.vp_page.proofs.Squares.{and_false, nothing_painted, in_rows, down_none, more_down, down_all}
+use Rattle.vp_page.proofs.Squares.{and_false, nothing_painted, no_rows, in_rows, down_none, more_down, down_all}
 use Rattle.vp_page.proofs.Stretches.{bytes_left, same_column}
 use Rattle.vp_page.proofs.across.lay_lines_down.Goals as goal
-use Rattle.vp_page.proofs.across.lay_lines_down.Goals.{then-is_white_along, else-is_white_along}
+use Rattle.vp_page.proofs.across.lay_lines_down.Goals.{then-not-is_white_along, else-not-is_white_along+then-not-white, else-not-is_white_along+else-not-white}
 
 pub loop-k-init : goal.loop-k-init
 loop-k-init g c = nothing_painted _ c.args.band.now (λ x y h. down_none c.args.area.y _ y _ (omega arith))
@@ -25,12 +25,16 @@ loop-k-preserved g c =
     let next : min (128 * (c.loop-k.k + 1)) end ≡ from + n = omega arith in
     let dots = λ (x k : ℕ). ltb x c.args.right && line_dot lines (c.args.right - 1 - x) k in
     let more = λ (x y : ℕ). more_down (dots x) (dots x) (λ k. dots x (from + k)) top from n y (λ k h. refl) (λ k h. refl) in
-    rw next (elim c.if-is_white_along.branch [
-      | then-is_white_along w ↦ rw w.band-is (rows_then _ _ _ _ _ _ more (rw here at c.loop-k.invariant)
-          (rows_same Black _ _ _ _ (λ x y _. in_rows (top + from) n y _ _ (λ h. let white = c.is_white_along.ensures w.if-is_white_along.true (y - (top + from)) h in
-          ap (λ b. ltb x c.args.right && b) (same_column lines (c.args.right - 1 - x) (from + (y - (top + from))) c.min-last.result (λ l. c.unlike_at-unlike.ensures (c.args.right - 1 - x) (from + (y - (top + from))) l white.0 white.1))))
+    let alike = λ (x k : ℕ) (along : c.is_white_along.result ≡ true) (h : k < n). let white = c.is_white_along.ensures along k h in
+    ap (λ b. ltb x c.args.right && b) (same_column lines (c.args.right - 1 - x) (from + k) c.min-last.result (λ l. c.unlike_at-unlike.ensures (c.args.right - 1 - x) (from + k) l white.0 white.1)) in
+    rw next (elim c.if-not-is_white_along.branch [
+      | then-not-is_white_along w ↦ rw w.band-is (rows_then _ _ _ _ _ _ more (rw here at c.loop-k.invariant) w.lay_squares_down.ensures)
+      | else-not-is_white_along+then-not-white w ↦ rw w.band-is (rows_then _ _ _ _ _ _ more (rw here at c.loop-k.invariant)
+          (rows_same Black _ _ _ _ (λ x y _. in_rows (top + from) n y _ _ (λ h. alike x (y - (top + from)) (search rules) h))
           (w.lay_same.ensures (λ x. dots x c.min-last.result) c.row_down-row.ensures)))
-      | else-is_white_along w ↦ rw w.band-is (rows_then _ _ _ _ _ _ more (rw here at c.loop-k.invariant) w.lay_squares_down.ensures)
+      | else-not-is_white_along+else-not-white w ↦ rw w.band-is (rows_then _ _ _ _ _ _ more (rw here at c.loop-k.invariant)
+          (nothing_painted _ _ (λ x y _. no_rows (top + from) n y _ (λ h. sym (alike x (y - (top + from)) (search rules) h)
+          ∙ ap (λ b. ltb x c.args.right && b) (c.are_white_at-white.ensures (search rules) (c.args.right - 1 - x)) ∙ and_false (ltb x c.args.right)))))
     ])
 
 pub returns : goal.returns

@@ -9,4 +9,4 @@ use Rattle.vp_receipt.proofs.raster_page.lay_across.Given as goal
 abbrev pub invariant-loop-k : goal.invariant-loop-k
 invariant-loop-k g l =
     let m = mark_of l.fn.p (l.fn.rows * times_down l.fn.raster.scale) (rows_dot l.fn.raster.scale l.fn.raster.bytes l.fn.rows l.fn.bytes) in
-    (layers : List Layer) → HasPage layers l.fn.page → HasPage (Laid (first_rows (min (64 * l.k) l.fn.rows) m) ∷ layers) l.page
+    (layers : List Layer) → HasPage layers l.fn.page → HasPage (Laid (first_rows (min (192 * l.k) l.fn.rows) m) ∷ layers) l.page

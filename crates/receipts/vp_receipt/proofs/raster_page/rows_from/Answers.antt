@@ -8,7 +8,7 @@ use Rattle.vp_page.specs.declared.line.TheConstants.{LINE_BYTES}
 use Rattle.vp_receipt.proofs.raster_page.rows_from.Goals as goal
 
 pub loop-i-init : goal.loop-i-init
-loop-i-init c = record { count = refl; dots = λ k u h l. rw (le-ltb k 0 (omega arith)) (white_lines 64 208 k u) }
+loop-i-init c = record { count = refl; dots = λ k u h l. rw (le-ltb k 0 (omega arith)) (white_lines 192 208 k u) }
 
 pub loop-i-preserved : goal.loop-i-preserved
 loop-i-preserved c =

@@ -7,6 +7,6 @@ use Rattle.vp_page.specs.declared.line.TheConstants.{LINE_DOTS}
 -- the rows above this one are there, and the others white
 abbrev pub invariant-loop-i : goal.invariant-loop-i
 invariant-loop-i l = record {
-  count : length l.lines ≡ 64;
-  dots : (k u : ℕ) → k < 64 → u < LINE_DOTS → dot (get_or l.lines k []) u ≡ (ltb k l.i && dot (row_at l.bytes l.wide (l.from + k)) u);
+  count : length l.lines ≡ 192;
+  dots : (k u : ℕ) → k < 192 → u < LINE_DOTS → dot (get_or l.lines k []) u ≡ (ltb k l.i && dot (row_at l.bytes l.wide (l.from + k)) u);
 }
