@@ -16,7 +16,7 @@ returns g c = λ dots layers rows page.
     let short = length_small s.page.area s.page.direction c.requires.page.across c.requires.page.down in
     let first : s.page.vertical + 0 ≡ s.page.vertical = omega arith in
     rows_make_an_image.all mark (0 + s.height) layers _ (λ u w e k. let h = rows.high u w e in omega (arith, h)) (omega arith)
-    (lines_more mark 0 s.height lines layers c.lay_lines.new.page (omega arith) (omega (arith, c.lowest_rows-rows.ensures.len, c.from.ensures))
+    (lines_more mark 0 s.height lines layers c.lay_lines.new.self (omega arith) (omega (arith, c.lowest_rows-rows.ensures.len, c.from.ensures))
     (λ u w h l.
     let shown : u < LINE_DOTS = omega (arith, h, short) in
     let place : LINE_ROWS - c.from.result + w ≡ LINE_ROWS - s.height + (0 + w) = omega (arith, c.from.ensures) in
