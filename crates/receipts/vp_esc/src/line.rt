@@ -209,7 +209,8 @@ fn area(x: u16, y: u16, width: u16, height: u16, line: &mut ArrayVec<u8, 800>)
 /// GS v 0
 fn raster(m: u8, bytes: u16, rows: u16, line: &mut ArrayVec<u8, 800>)
     requires { line.old.items ≡ [] }
-    ensures { line.new.items ≡ listed_as (codes "gs") (0x76 ∷ 0x30 ∷ m ∷ (two_bytes bytes ++ two_bytes rows)) }
+    ensures { line.new.items ≡ listed_as (codes "gs")
+        (0x76 ∷ 0x30 ∷ m ∷ (two_bytes bytes ++ two_bytes rows)) }
 {
     listed(
         b"gs",
