@@ -34,11 +34,11 @@ impl EscItem {
             EscItem::CarriageReturn => listed(b"CR", &[], line),
             EscItem::FormFeed => listed(b"FF", &[], line),
             EscItem::Cancel => listed(b"CAN", &[], line),
-            EscItem::Control(b) => listed(b"ctl", &[b], line),
-            EscItem::Character(b) => listed(b"char", &[b], line),
-            EscItem::Column8(b) => listed(b"column", &[b], line),
+            EscItem::Control(b) => byte_line(b"ctl", b, line),
+            EscItem::Character(b) => byte_line(b"char", b, line),
+            EscItem::Column8(b) => byte_line(b"column", b, line),
             EscItem::Column24(ref bytes) => listed(b"column", bytes, line),
-            EscItem::RasterByte(b) | EscItem::QrByte(b) => listed(b"byte", &[b], line),
+            EscItem::RasterByte(b) | EscItem::QrByte(b) => byte_line(b"byte", b, line),
             EscItem::WithoutEffect { lead, ref bytes } => listed(
                 lead.word(),
                 bytes.as_slice(),
@@ -54,32 +54,32 @@ impl EscItem {
         ensures { line.new.items ≡ esc_line_of self.now }
     {
         match *self {
-            EscItem::RightSpacing(n) => listed(b"esc", &[0x20, n], line),
-            EscItem::PrintMode(Spelled { byte, .. }) => listed(b"esc", &[0x21, byte], line),
+            EscItem::RightSpacing(n) => esc(0x20, n, line),
+            EscItem::PrintMode(Spelled { byte, .. }) => esc(0x21, byte, line),
             EscItem::Position(n) => word_line(b"esc", 0x24, n, line),
             EscItem::MovePosition(n) => word_line(b"esc", 0x5C, n.cast_unsigned(), line),
             EscItem::Columns { mode, count } => columns(mode, count, line),
-            EscItem::Underline(Spelled { byte, .. }) => listed(b"esc", &[0x2D, byte], line),
+            EscItem::Underline(Spelled { byte, .. }) => esc(0x2D, byte, line),
             EscItem::DefaultLineSpacing => listed(b"esc", &[0x32], line),
-            EscItem::LineSpacing(n) => listed(b"esc", &[0x33, n], line),
+            EscItem::LineSpacing(n) => esc(0x33, n, line),
             EscItem::Initialize => listed(b"esc", &[0x40], line),
             EscItem::TabStops { ref stops, end } => tab_stops(stops.as_slice(), end, line),
-            EscItem::Emphasized(Spelled { byte, .. }) => listed(b"esc", &[0x45, byte], line),
-            EscItem::DoubleStrike(Spelled { byte, .. }) => listed(b"esc", &[0x47, byte], line),
-            EscItem::FeedDots(n) => listed(b"esc", &[0x4A, n], line),
-            EscItem::FeedLines(n) => listed(b"esc", &[0x64, n], line),
+            EscItem::Emphasized(Spelled { byte, .. }) => esc(0x45, byte, line),
+            EscItem::DoubleStrike(Spelled { byte, .. }) => esc(0x47, byte, line),
+            EscItem::FeedDots(n) => esc(0x4A, n, line),
+            EscItem::FeedLines(n) => esc(0x64, n, line),
             EscItem::PageMode => listed(b"esc", &[0x4C], line),
             EscItem::StandardMode => listed(b"esc", &[0x53], line),
             EscItem::PrintPage => listed(b"esc", &[0x0C], line),
-            EscItem::Font(Spelled { byte, .. }) => listed(b"esc", &[0x4D, byte], line),
-            EscItem::Direction(Spelled { byte, .. }) => listed(b"esc", &[0x54, byte], line),
+            EscItem::Font(Spelled { byte, .. }) => esc(0x4D, byte, line),
+            EscItem::Direction(Spelled { byte, .. }) => esc(0x54, byte, line),
             EscItem::Area {
                 x,
                 y,
                 width,
                 height,
             } => area(x, y, width, height, line),
-            EscItem::Justify(Spelled { byte, .. }) => listed(b"esc", &[0x61, byte], line),
+            EscItem::Justify(Spelled { byte, .. }) => esc(0x61, byte, line),
             EscItem::CutLeavingOnePoint => listed(b"esc", &[0x69], line),
             EscItem::CutLeavingThreePoints => listed(b"esc", &[0x6D], line),
             _ => self.write_gs(line),
@@ -92,17 +92,17 @@ impl EscItem {
         ensures { line.new.items ≡ gs_line_of self.now }
     {
         match *self {
-            EscItem::Magnify(Spelled { byte, .. }) => listed(b"gs", &[0x21, byte], line),
+            EscItem::Magnify(Spelled { byte, .. }) => gs(0x21, byte, line),
             EscItem::VerticalPosition(n) => word_line(b"gs", 0x24, n, line),
             EscItem::MoveVerticalPosition(n) => word_line(b"gs", 0x5C, n.cast_unsigned(), line),
-            EscItem::Inverse(Spelled { byte, .. }) => listed(b"gs", &[0x42, byte], line),
-            EscItem::HriPosition(Spelled { byte, .. }) => listed(b"gs", &[0x48, byte], line),
-            EscItem::HriFont(Spelled { byte, .. }) => listed(b"gs", &[0x66, byte], line),
-            EscItem::BarHeight(n) => listed(b"gs", &[0x68, n], line),
-            EscItem::BarModule(n) => listed(b"gs", &[0x77, n], line),
+            EscItem::Inverse(Spelled { byte, .. }) => gs(0x42, byte, line),
+            EscItem::HriPosition(Spelled { byte, .. }) => gs(0x48, byte, line),
+            EscItem::HriFont(Spelled { byte, .. }) => gs(0x66, byte, line),
+            EscItem::BarHeight(n) => gs(0x68, n, line),
+            EscItem::BarModule(n) => gs(0x77, n, line),
             EscItem::LeftMargin(n) => word_line(b"gs", 0x4C, n, line),
             EscItem::AreaWidth(n) => word_line(b"gs", 0x57, n, line),
-            EscItem::Cut(Spelled { byte, .. }) => listed(b"gs", &[0x56, byte], line),
+            EscItem::Cut(Spelled { byte, .. }) => gs(0x56, byte, line),
             EscItem::FeedAndCut { cut, dots } => listed(b"gs", &[0x56, cut.byte, dots], line),
             EscItem::Raster { scale, bytes, rows } => raster(scale.byte, bytes, rows, line),
             EscItem::Symbol { kind, ref data, .. } => symbol(kind.byte, data.as_slice(), line),
@@ -135,6 +135,31 @@ impl Lead {
             Lead::Dle => b"dle",
         }
     }
+}
+
+/// A byte of data, or a control.
+fn byte_line(word: &[u8], byte: u8, line: &mut ArrayVec<u8, 800>)
+    requires empty { line.old.items ≡ [] }
+    requires short { length word.now ≤ 6 }
+    ensures { line.new.items ≡ listed_as word.now (byte ∷ []) }
+{
+    listed(word, &[byte], line)
+}
+
+/// ESC, a name and a byte.
+fn esc(name: u8, n: u8, line: &mut ArrayVec<u8, 800>)
+    requires { line.old.items ≡ [] }
+    ensures { line.new.items ≡ listed_as (codes "esc") (name ∷ n ∷ []) }
+{
+    listed(b"esc", &[name, n], line)
+}
+
+/// GS, a name and a byte.
+fn gs(name: u8, n: u8, line: &mut ArrayVec<u8, 800>)
+    requires { line.old.items ≡ [] }
+    ensures { line.new.items ≡ listed_as (codes "gs") (name ∷ n ∷ []) }
+{
+    listed(b"gs", &[name, n], line)
 }
 
 /// A name and a number of two bytes behind a lead.
@@ -184,7 +209,8 @@ fn area(x: u16, y: u16, width: u16, height: u16, line: &mut ArrayVec<u8, 800>)
 /// GS v 0
 fn raster(m: u8, bytes: u16, rows: u16, line: &mut ArrayVec<u8, 800>)
     requires { line.old.items ≡ [] }
-    ensures { line.new.items ≡ listed_as (codes "gs") (0x76 ∷ 0x30 ∷ m ∷ (two_bytes bytes ++ two_bytes rows)) }
+    ensures { line.new.items ≡ listed_as (codes "gs")
+        (0x76 ∷ 0x30 ∷ m ∷ (two_bytes bytes ++ two_bytes rows)) }
 {
     listed(
         b"gs",
