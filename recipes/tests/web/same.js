@@ -14,7 +14,7 @@ export async function same(vp, { sheets, streams }) {
       if (found !== wanted) throw new Error(`stream ${n} (${language}): ${found}, and vp: ${wanted}`);
     };
     const printer = new vp.Printer(language, choices);
-    const taken = printer.allocations;
+    const [taken, memory] = [printer.allocations, printer.memory];
     const bytes = bytesOf(stream);
     const pieces = [];
     for (let at = 0; at < bytes.length && !printer.fault;) {
@@ -26,7 +26,9 @@ export async function same(vp, { sheets, streams }) {
     const digest = new Uint8Array(await crypto.subtle.digest('SHA-256', paper));
     const hex = [...digest].map(it => it.toString(16).padStart(2, '0')).join('');
     isSo(`${paper.length} ${hex} ${printer.end() ?? ''}`, `${length} ${sum} ${line}`);
-    if (printer.allocations !== taken) throw new Error(`stream ${n}: memory was taken after the printer was made`);
+    if (printer.allocations !== taken || printer.memory !== memory) {
+      throw new Error(`stream ${n}: memory was taken after the printer was made`);
+    }
     const { images } = new vp.Printer(language, choices).print(bytes);
     if (!line) isSo(images.reduce((count, it) => count + it.toPBM().length, 0), length);
   }
