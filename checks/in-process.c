@@ -6,8 +6,8 @@
  *   in-process threads FONT_A FONT_B STREAM COUNT         8 threads, each of which prints the file so often
  *   in-process time FONT_A FONT_B STREAM COUNT            the microseconds of a print, and of its vp_new
  *
- * Where it is linked with wrapped malloc (COUNTED), it ends with 9 if memory is taken between vp_new and vp_free, or
- * isn't given back. */
+ * Where it is linked with wrapped malloc (COUNTED), it ends with 9 if memory is taken between vp_new and vp_free, isn't
+ * given back, or is more or less than vp_memory tells. */
 #define _POSIX_C_SOURCE 200809L
 #include "../include/vp.h"
 #include <pthread.h>
@@ -21,15 +21,33 @@
 enum { THREADS = 8 };
 
 #ifdef COUNTED
+/* Blocks that were taken and given back, and the bytes of those in use. Each block has its length in front. */
+enum { COUNTS = 1, HEAD = 16 };
 static long taken, given;
-void *__real_malloc(size_t size);
+static size_t in_use;
 void *__real_realloc(void *at, size_t size);
 void __real_free(void *at);
-void *__wrap_malloc(size_t size) { taken++; return __real_malloc(size); }
-void *__wrap_realloc(void *at, size_t size) { taken += at == NULL; return __real_realloc(at, size); }
-void __wrap_free(void *at) { given += at != NULL; __real_free(at); }
+void *__wrap_realloc(void *at, size_t size) {
+    size_t *old = at == NULL ? NULL : (size_t *)((char *)at - HEAD), had = old == NULL ? 0 : *old;
+    size_t *made = __real_realloc(old, HEAD + size);
+    if (made == NULL) return NULL;
+    taken += at == NULL;
+    in_use += size - had;
+    *made = size;
+    return (char *)made + HEAD;
+}
+void *__wrap_malloc(size_t size) { return __wrap_realloc(NULL, size); }
+void __wrap_free(void *at) {
+    if (at == NULL) return;
+    size_t *old = (size_t *)((char *)at - HEAD);
+    given++;
+    in_use -= *old;
+    __real_free(old);
+}
 #else
+enum { COUNTS = 0 };
 static long taken = 0, given = 0;
+static size_t in_use = 0;
 #endif
 
 typedef struct bytes {
@@ -75,9 +93,17 @@ static size_t any(size_t below) {
     return (size_t)(state >> 33) % below;
 }
 
+/* How many bytes a printer holds. */
+static size_t memory_of(vp *printer) {
+    size_t bytes = 1;
+    if (vp_memory(printer, &bytes) != VP_OK) stop(7, "vp_memory");
+    return bytes;
+}
+
 /* One step, whose output is held to what the header says of it. */
 static vp_progress stepped(vp *printer, const uint8_t *input, size_t length, uint8_t *output, size_t room) {
     vp_progress done;
+    size_t memory = memory_of(printer);
     memset(output, FILLED, MOST_ROOM);
     if (vp_step(printer, input, length, output, room, &done) != VP_OK) stop(7, "vp_step");
     if (done.taken > length || done.put > room) stop(7, "more is taken or put than there is");
@@ -89,6 +115,7 @@ static vp_progress stepped(vp *printer, const uint8_t *input, size_t length, uin
     if (vp_held(printer, &held) != VP_OK || held.line_rows > 192 || held.page_rows > 1664 || held.band_rows > 32 ||
         held.fields > 1024 || held.stored > 262144)
         stop(7, "vp_held");
+    if (memory_of(printer) != memory) stop(7, "vp_memory behind a step");
     return done;
 }
 
@@ -97,6 +124,7 @@ static int print(char **words) {
     state = strtoull(words[4], NULL, 10);
     static uint8_t output[MOST_ROOM];
     long before = taken - given;
+    size_t used = in_use;
     vp printer = {0};
     uint32_t answer = made(words[0], a, b, &printer);
     long ours = taken;
@@ -108,6 +136,8 @@ static int print(char **words) {
         free_all(a, b, stream);
         return 3;
     }
+    size_t block = in_use - used - memory_of(&printer);
+    if (COUNTS && (block == 0 || block > VP_BLOCK)) stop(9, "vp_memory tells another number than was taken");
     vp_fault fault = {0, 0, 0, 0};
     size_t at = 0;
     for (;;) {
@@ -144,11 +174,13 @@ static int bad(void) {
     vp_progress done;
     vp_fault fault = {9, 9, 9, 9};
     vp_held_now held = {9, 9, 9, 9, 9};
+    size_t bytes = 9;
     uint8_t output[64];
     expect(vp_step(&none, NULL, 0, output, 0, &done) == VP_NO_PRINTER && done.taken == 0 && done.put == 0, "a step of none");
     expect(vp_finish(&none, &fault) == VP_NO_PRINTER && fault.number == 0 && fault.byte == 0, "finish of none");
     expect(vp_pending(&none) == VP_NO_PRINTER, "pending of none");
     expect(vp_held(&none, &held) == VP_NO_PRINTER && held.stored == 0 && held.band_rows == 0, "held of none");
+    expect(vp_memory(&none, &bytes) == VP_NO_PRINTER && bytes == 0, "memory of none");
     vp_free(&none);
     expect(vp_new(3, NULL, 0, NULL, 0, &printer) == VP_NO_LANGUAGE && printer.printer == NULL, "no such language");
     expect(vp_new_listing(9, 0, &printer) == VP_NO_LANGUAGE && printer.printer == NULL, "a listing of none");

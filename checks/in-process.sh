@@ -1,6 +1,7 @@
 #!/bin/sh
 # Calls the library for C: the same bytes, lines and statuses as the program's, of the examples and of random streams whose
-# input and output are cut at random; under valgrind and AddressSanitizer; with no memory taken after vp_new; on 8 threads.
+# input and output are cut at random; under valgrind and AddressSanitizer; with no memory taken after vp_new, and there as
+# much as vp_memory tells; on 8 threads.
 # It runs the examples in C and PHP. COUNT=5000 takes so many streams of each language in place of 100.
 # checks/in-process.sh time says how long a print takes in process, and beside it a process of vp.
 set -eu
@@ -140,7 +141,11 @@ is 1 'the example in C, of a fault' "$room/print" receipt "$room/fault.bin"
 says '^vp: F1 after 4 bytes: unknown command 1B 7F$'
 is 3 'the example in C, of a sheet that is none' "$room/print" label "$room/fault.bin" "$room/fault.bin"
 says '^print: S1 not P4$'
-echo 'the example in C: ok'
+cc -std=c11 -Wall -Wextra -Werror -Iinclude examples/c/room.c "$library/libvp.a" -o "$room/room"
+"$vp" receipt examples/receipt.bin >"$room/wanted"
+"$room/room" examples/receipt.bin | cmp - "$room/wanted"
+is 1 'the example without a heap, of a fault' "$room/room" "$room/fault.bin"
+echo 'the examples in C: ok'
 if needs php; then
     "$vp" receipt --font-a "$a" examples/receipt.bin >"$room/wanted"
     export VP_HEADER="$root/include/vp.h" VP_LIBRARY="$library/libvp.so"

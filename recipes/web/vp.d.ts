@@ -24,6 +24,8 @@ declare class Machine {
   readonly fault: Fault | null;
   /** How often memory was taken: once it is made, no more. */
   readonly allocations: number;
+  /** How many bytes of it are held: those that it was made with. */
+  readonly memory: number;
   /** Takes what it can of the input's front, and gives what comes out, at most 65,536 bytes. */
   step(input: Uint8Array): { taken: number; out: Uint8Array; isFull: boolean };
   /** Takes a piece of the stream, and gives all bytes that come out. */

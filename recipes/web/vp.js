@@ -141,6 +141,13 @@ class Machine {
 
   // How often memory was taken.
   get allocations() { return this.#calls.vp_taken(); }
+
+  // How many bytes of it are held.
+  get memory() {
+    const at = this.#at + PROGRESS;
+    this.#calls.vp_memory(this.#at, at);
+    return new DataView(this.#calls.memory.buffer).getUint32(at, true);
+  }
 }
 
 // Prints 'receipt' or 'label', with the bytes of glyph sheets; a receipt on paper of 576 or 384 dots.

@@ -40,6 +40,8 @@ const stopped = new vp.Printer('receipt');
 isSo(vp.join(vp.images(stopped.feed(some.encode('Hi\nHi\n\x1b\x7fHi\n')))).height, 68);
 isSo([stopped.fault, stopped.taken, stopped.feed(some.encode('Hi\n')).length, stopped.end()],
   ['vp: F1 after 8 bytes: unknown command 1B 7F', 8, 0, 'vp: F1 after 8 bytes: unknown command 1B 7F']);
+isSo([new vp.Printer('receipt'), new vp.Printer('label'), new vp.Listing('label')].map(it => it.memory),
+  [159744, 1303328, 0]);
 for (const [language, name] of [['receipt', 'ticket.bin'], ['label', 'shelf.zpl']]) {
   for (const offsets of [false, true]) {
     const stream = new Uint8Array(readFileSync(new URL(`../../../examples/${name}`, import.meta.url)));

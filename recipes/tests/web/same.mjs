@@ -34,9 +34,10 @@ export async function same(vp, { seed, sheets, streams }) {
     const bytes = bytesOf(stream);
     const choices = language === 'receipt' ? { ...fonts, width } : { fontA: fonts.fontA };
     const printer = new vp.Printer(language, choices);
-    const taken = printer.allocations;
+    const [taken, memory] = [printer.allocations, printer.memory];
     isSo(await told(fed(printer, bytes, random), printer.end()), paper);
     isSo(printer.allocations, taken);
+    isSo(printer.memory, memory);
     const { images, fault } = new vp.Printer(language, choices).print(bytes);
     if (!fault) isSo(await told(images.map(it => it.toPBM()), fault), paper);
     const lister = new vp.Listing(language);

@@ -82,15 +82,15 @@ impl<A: Small + Copy> Session<A> {
 }
 
 impl Session {
-    /// One that lists, and read and wrote nothing.
-    pub(crate) fn listing(language: Language) -> Self
+    /// One that writes a line for each item, and read and wrote nothing.
+    pub fn listing(language: Language) -> Self
         ensures { IsAt (Listing language) result [] [] }
     {
         Session::over(Printer::listing(language))
     }
 
-    /// One that lists each item behind its place, and read and wrote nothing.
-    pub(crate) fn listing_with_offsets(language: Language) -> Self
+    /// One that writes a line for each item, behind its place, and read and wrote nothing.
+    pub fn listing_with_offsets(language: Language) -> Self
         ensures { IsAt (ListingWithOffsets language) result [] [] }
     {
         Session::over(Printer::listing_with_offsets(language))

@@ -1,6 +1,7 @@
 -- What a printer behind a handle is asked, and tells.
 use Rattle.std.specs.Prelude.{◌≡◌, ◌<◌, ◌↔◌, ℕ, List, [], length, Option, Some, None}
 use Rattle.vp_engine.specs.Answers.{IsBounded}
+use Rattle.vp_engine.specs.Memory.{memory_held, memory_of}
 use Rattle.vp_engine.specs.Paper.{fault_at_end, held_after}
 use Rattle.vp_engine.specs.Setups.{Setup, rules_of}
 use Rattle.vp_engine.specs.Stands.{Engine, Stands}
@@ -41,3 +42,12 @@ pub record IsOfHeld (p : Engine) (told : HeldNow) : Type 0 where
 abbrev pub IsHeld : Option Engine → HeldNow → ℕ → Type 0
 IsHeld None told answer = (answer ≡ NO_PRINTER) × (told ≡ nothing_in_c)
 IsHeld (Some p) told answer = (answer ≡ OK) × IsOfHeld p told
+
+-- the bytes that are held on the heap, which are those that language and sheets say
+pub record IsOfMemory (p : Engine) (bytes : ℕ) : Type 0 where
+  pub value : bytes ≡ memory_held p
+  pub made_with : (setup : Setup) (t o : List ℕ) → Stands setup p t o → bytes ≡ memory_of setup
+
+abbrev pub IsMemory : Option Engine → ℕ → ℕ → Type 0
+IsMemory None bytes answer = (answer ≡ NO_PRINTER) × (bytes ≡ 0)
+IsMemory (Some p) bytes answer = (answer ≡ OK) × IsOfMemory p bytes

@@ -6,7 +6,8 @@ use crate::progress::Progress;
 use std::marker::Model;
 use vp_engine::Printer;
 
-/// A printer over the C library's heap.
+/// A printer over the C library's heap. The type has no parameters, since it is proved by hand, of one type,
+/// that a box of it is given back.
 pub struct Owned {
     printer: Printer,
 }

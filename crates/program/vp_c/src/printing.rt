@@ -1,6 +1,6 @@
 //! Printers are stepped and asked.
 ghost use Rattle.std.specs.Prelude.{◌≡◌};
-ghost use Rattle.vp_c.specs.Printing.{IsEnd, IsFinished, IsPendingAnswer, IsHeld};
+ghost use Rattle.vp_c.specs.Printing.{IsEnd, IsFinished, IsPendingAnswer, IsHeld, IsMemory};
 ghost use Rattle.vp_c.specs.Steps.{IsStepOf};
 
 use crate::answer::{NO_PRINTER, OK, PENDING};
@@ -86,6 +86,21 @@ pub extern "C" fn vp_held(alloc: Global, printer: &mut Handle, held: &mut HeldNo
         return NO_PRINTER;
     };
     *held = HeldNow::of(it.printer().held());
+    *printer = Handle::of(it);
+    OK
+}
+
+/// Tells how many bytes of memory a printer holds: its lines, pages, bands, stores and sheets.
+#[unsafe(no_mangle)]
+pub extern "C" fn vp_memory(alloc: Global, printer: &mut Handle, bytes: &mut usize) -> u32
+    ensures same { printer.new.printer ≡ printer.old.printer }
+    ensures told { IsMemory printer.old.printer bytes.new result }
+{
+    let Some(it) = printer.take(alloc) else {
+        *bytes = 0;
+        return NO_PRINTER;
+    };
+    *bytes = it.printer().memory();
     *printer = Handle::of(it);
     OK
 }

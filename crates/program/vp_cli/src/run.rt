@@ -8,7 +8,7 @@ use std::io::{Read, Write};
 use std::rt::{Env, Files};
 use std::{env, io};
 use vp_command_line::{Order, Stream, Task};
-use vp_engine::{Counted, Language, RunFault, Session, Sink, Source, list, list_with_offsets};
+use vp_engine::{Counted, Language, RunFault, Session};
 use vp_exit_status::Stop;
 use vp_glyph::Sheets;
 use vp_join::join;
@@ -129,33 +129,23 @@ fn work_on<'a, I: Read, O: Write>(
     input: &mut I,
     output: &mut O,
 ) -> Result<(), Stop<'a>> {
-    let mut reader = Counted::new(input);
-    let mut writer = Counted::new(output);
     match work {
-        Work::Print(sheets) => print(alloc, sheets, language, &mut reader, &mut writer),
-        Work::List => match list(language, &mut reader, &mut writer) {
-            Ok(_) => Ok(()),
-            Err(fault) => Err(ended_by(fault)),
+        Work::Print(sheets) => match Session::new(alloc, language, sheets) {
+            Ok(mut session) => pump(&mut session, input, output),
+            Err(_) => Err(Stop::Memory),
         },
-        Work::ListWithOffsets => match list_with_offsets(language, &mut reader, &mut writer) {
-            Ok(_) => Ok(()),
-            Err(fault) => Err(ended_by(fault)),
-        },
+        Work::List => pump(&mut Session::listing(language), input, output),
+        Work::ListWithOffsets => pump(&mut Session::listing_with_offsets(language), input, output),
     }
 }
 
-/// Prints what is read, as it comes.
-fn print<'a, S: Source, K: Sink>(
-    alloc: Global,
-    sheets: Sheets,
-    language: Language,
-    reader: &mut S,
-    writer: &mut K,
+/// Does what a session does, between the input and the output.
+fn pump<'a, I: Read, O: Write>(
+    session: &mut Session,
+    input: &mut I,
+    output: &mut O,
 ) -> Result<(), Stop<'a>> {
-    let Ok(mut session) = Session::new(alloc, language, sheets) else {
-        return Err(Stop::Memory);
-    };
-    match session.pump(reader, writer) {
+    match session.pump(&mut Counted::new(input), &mut Counted::new(output)) {
         Ok(_) => Ok(()),
         Err(fault) => Err(ended_by(fault)),
     }

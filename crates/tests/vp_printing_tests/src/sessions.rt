@@ -28,6 +28,7 @@ fn pumps<S: Source, K: Sink>(
 }
 
 /// A stream, and how many bytes it prints.
+#[derive(Drop)]
 struct Written {
     language: Language,
     bytes: &'static [u8],
@@ -93,6 +94,23 @@ fn goes_on_behind_the_byte_that_was_written_last(rt: HostRuntime) -> Result<(), 
         goes_on_writing(&rt, rt.alloc(), &image, stream)?;
     }
     Ok(())
+}
+
+/// A raster, of which so many bytes are listed.
+fn listed_raster(written: usize) -> Written {
+    Written {
+        language: Language::Receipt,
+        bytes: b"\x1Dv0\x00\x01\x00\x02\x00\x80\x01",
+        written,
+    }
+}
+
+#[test]
+fn goes_on_behind_the_byte_of_a_line_that_was_written_last(rt: HostRuntime) {
+    let mut alone = Session::listing(Language::Receipt);
+    goes_on_at_the_ninth(&rt, rt.alloc(), &mut alone, &listed_raster(40));
+    let mut placed = Session::listing_with_offsets(Language::Receipt);
+    goes_on_at_the_ninth(&rt, rt.alloc(), &mut placed, &listed_raster(47));
 }
 
 /// A stream that ends early, what it comes to then, and what the rest of it comes to: the paper of both, in
