@@ -1,23 +1,19 @@
 -- Many rows of a block, line by line.
-use Rattle.std.proofs.Common.{inl, inr, ◌≡◌, ℕ, ◌+◌, ◌-◌, ◌*◌, ◌/◌, ◌<◌, ◌≤◌, min, Bool, true, false, ltb, leb, ◌&&◌, ◌||◌, get_or, set, length, replicate, bit_or, refl, sym, ap, ◌∙◌, arith, List, Option, Some, Bor, ℤ}
-use Rattle.std.specs.Int.{to_be_bytes, w64}
+use Rattle.std.proofs.Common.{inl, inr, ◌≡◌, ℕ, ◌+◌, ◌-◌, ◌*◌, ◌/◌, ◌<◌, ◌≤◌, min, Bool, true, false, ltb, leb, ◌&&◌, ◌||◌, get_or, set, length, replicate, bit_or, refl, sym, ap, ◌∙◌, arith, List, Option, ℤ}
+use Rattle.std.proofs.Math.Nat.{div-lt_iff_lt-mul, le-div_iff_mul-le, div-mul-le_self, mul-le-mul_right}
 use Rattle.std.proofs.lemmas.List.{get_or-set_same, get_or-set_other}
 use Rattle.std.proofs.lemmas.Bool.{cases_eq, cases_lt, lt-ltb, le-ltb, lt-leb, le-leb}
 use Rattle.vp_dots.specs.Dots.{dot, shifted, span}
 use Rattle.vp_dots.specs.Words.{word_dot}
 use Rattle.vp_dots.specs.Painting.{paint, Painted}
 use Rattle.vp_dots.specs.declared.Op.TheVariants.{Black}
-use Rattle.vp_dots.proofs.Shifts.{shifted_none}
-use Rattle.vp_dots.proofs.Words.{word_row}
 use Rattle.vp_glyph.specs.Sheets.{Glyphs}
 use Rattle.vp_glyph.specs.Texts.{sampled_dot, text_dot}
-use Rattle.vp_glyph.specs.Blocks.{lines_dot, block_lines, block_height, block_dot}
-use Rattle.vp_glyph.proofs.Layouts.{layout}
-use Rattle.vp_glyph.specs.declared.block.Alignment.{Alignment}
-use Rattle.vp_glyph.proofs.Looks.{or_dot, white_dot}
-use Rattle.vp_glyph.proofs.Overlaid.{Overlaid, overlaid_none, overlaid_all, zero_at, zero_dots}
-use Rattle.vp_glyph.proofs.Spread.{quotient, edge_at, from_edge, before_edge, edge_first, edge_more, edge_last, edge_within}
-use Rattle.vp_glyph.proofs.Stacks.{lines_left, block_narrow}
+use Rattle.vp_glyph.specs.Halves.{half_dot}
+use Rattle.vp_glyph.proofs.Halves.{or_half}
+use Rattle.vp_glyph.proofs.Looks.{or_dot}
+use Rattle.vp_glyph.proofs.Overlaid.{zero_dots}
+use Rattle.vp_glyph.proofs.Spread.{quotient, edge_at, from_edge, before_edge, edge_first, edge_last, edge_within}
 
 -- lines that show the same row of the sheet
 pub text_alike : (sheet : Option Glyphs) (cells : List ℕ) (w h y z : ℕ) → y < h → z < h → y * 24 / h ≡ z * 24 / h → (x : ℕ) → text_dot sheet cells w h x y ≡ text_dot sheet cells w h x z
@@ -29,6 +25,24 @@ pub row_shown : (h s u : ℕ) → s < 24 → edge_at 24 h s ≤ u → u < edge_a
 row_shown h s u k l m =
     let n = edge_within 24 h (s + 1) (omega arith) (omega arith) in
     (omega arith, quotient (u * 24) h s (omega arith) (from_edge 24 h s u (omega arith) l) (before_edge 24 h (s + 1) u (omega arith) m))
+
+-- row u of h shows a row of the sheet, and so do the others that do
+pub row_alike : (h u : ℕ) → u < h → (u * 24 / h < 24) × (edge_at 24 h (u * 24 / h) ≤ u) × (u < edge_at 24 h (u * 24 / h + 1))
+row_alike h u l =
+    let s = u * 24 / h in
+    let few : s < 24 = (div-lt_iff_lt-mul {k = h} {x = u * 24} {y = 24} (omega arith)).1 (omega arith) in
+    let low : s * h ≤ u * 24 = (le-div_iff_mul-le {k = h} {x = s} {y = u * 24} (omega arith)).0 (omega arith) in
+    let high : u * 24 < (s + 1) * h = (div-lt_iff_lt-mul {k = h} {x = u * 24} {y = s + 1} (omega arith)).0 (omega arith) in
+    let begun : edge_at 24 h s < u + 1 = (div-lt_iff_lt-mul {k = 24} {x = s * h + (24 - 1)} {y = u + 1} (omega arith)).1 (omega arith) in
+    let ends : u + 1 ≤ edge_at 24 h (s + 1) = (le-div_iff_mul-le {k = 24} {x = u + 1} {y = (s + 1) * h + (24 - 1)} (omega arith)).1 (omega arith) in
+    (few, omega arith, omega arith)
+
+-- later rows begin later
+edge_upto : (n w s t : ℕ) → 0 < n → s ≤ t → edge_at n w s ≤ edge_at n w t
+edge_upto n w s t p l =
+    let m = div-mul-le_self (s * w + (n - 1)) n in
+    let k : s * w ≤ t * w = mul-le-mul_right w l in
+    (le-div_iff_mul-le {k = n} {x = edge_at n w s} {y = t * w + (n - 1)} p).1 (omega (arith, m, k))
 
 black_more : (old new : Bool) → (old || new) ≡ paint Black new old
 black_more true true = refl
@@ -52,7 +66,7 @@ shown rows above h y x = leb above y && ltb (y - above) h && word_dot (get_or ro
 module _ (rows : List ℕ) (above h n top : ℕ) where
   -- the rows before r are added to the fronts
   abbrev pub Added : ℕ → List ℕ → List ℕ → Type 0
-  Added r old new = (i x : ℕ) → i < n → x < 64 → word_dot (get_or new i 0) x ≡ (word_dot (get_or old i 0) x || ltb (top + i) (above + edge_at 24 h r) && shown rows above h (top + i) x)
+  Added r old new = (i x : ℕ) → i < n → x < 32 → half_dot (get_or new i 0) x ≡ (half_dot (get_or old i 0) x || ltb (top + i) (above + edge_at 24 h r) && shown rows above h (top + i) x)
 
   shown_above : (y x : ℕ) → y < above → shown rows above h y x ≡ false
   shown_above y x l = rw (lt-leb above y l) refl
@@ -60,11 +74,16 @@ module _ (rows : List ℕ) (above h n top : ℕ) where
   shown_below : (y x : ℕ) → above + h ≤ y → shown rows above h y x ≡ false
   shown_below y x l = rw (le-ltb (y - above) h (omega arith)) (ap (λ t. t && word_dot (get_or rows ((y - above) * 24 / h) 0) x) (and_false (leb above y)))
 
-  -- a row on which row r is shown
-  shown_row : (r y x : ℕ) → r < 24 → above + edge_at 24 h r ≤ y → y < above + edge_at 24 h (r + 1) → shown rows above h y x ≡ word_dot (get_or rows r 0) x
-  shown_row r y x k l m =
-      let p = row_shown h r (y - above) k (omega arith) (omega arith) in
-      rw (le-leb above y (omega arith), lt-ltb (y - above) h p.0, p.1) refl
+  -- a row on which one of the rows from r on is shown that are like r
+  shown_row : (r q y x : ℕ) → q ≤ 24 → ((p : ℕ) → r ≤ p → p < q → get_or rows p 0 ≡ get_or rows r 0) → above + edge_at 24 h r ≤ y → y < above + edge_at 24 h q → shown rows above h y x ≡ word_dot (get_or rows r 0) x
+  shown_row r q y x k a l m =
+      let z = edge_within 24 h q (omega arith) k in
+      let u : y - above < h = omega arith in
+      let t = row_alike h (y - above) u in
+      let p = (y - above) * 24 / h in
+      let low : r ≤ p = elim (cases_lt p r) [ inl o ↦ absurd (let e = edge_upto 24 h (p + 1) r (omega arith) (omega arith) in let f = t.2 in omega arith) | inr o ↦ o ] in
+      let high : p < q = elim (cases_lt p q) [ inl o ↦ o | inr o ↦ absurd (let e = edge_upto 24 h q p (omega arith) o in let f = t.1 in omega arith) ] in
+      rw (le-leb above y (omega arith), lt-ltb (y - above) h u) (ap (λ v. word_dot v x) (a p low high))
 
   pub added_none : (old : List ℕ) → Added 0 old old
   added_none old i x l m =
@@ -73,60 +92,60 @@ module _ (rows : List ℕ) (above h n top : ℕ) where
         | inl k ↦ ap (λ t. ltb (top + i) (above + edge_at 24 h 0) && t) (shown_above (top + i) x k) ∙ and_false _
         | inr g ↦ rw (le-ltb (top + i) (above + edge_at 24 h 0) (omega arith)) refl
       ] in
-      or_false _ ∙ ap (λ t. word_dot (get_or old i 0) x || t) (sym none)
+      or_false _ ∙ ap (λ t. half_dot (get_or old i 0) x || t) (sym none)
 
-  module _ (r : ℕ) (old mid : List ℕ) (k : r < 24) (o : Added r old mid) where
-    -- where row r isn't shown
-    unchanged : (i : ℕ) → (above + edge_at 24 h r ≤ top + i → top + i < above + edge_at 24 h (r + 1) → ⊥) → ltb (top + i) (above + edge_at 24 h r) ≡ ltb (top + i) (above + edge_at 24 h (r + 1))
+  module _ (r q : ℕ) (old mid : List ℕ) (k : q ≤ 24) (j : r < q) (a : (p : ℕ) → r ≤ p → p < q → get_or rows p 0 ≡ get_or rows r 0) (o : Added r old mid) where
+    -- where none of the rows is shown
+    unchanged : (i : ℕ) → (above + edge_at 24 h r ≤ top + i → top + i < above + edge_at 24 h q → ⊥) → ltb (top + i) (above + edge_at 24 h r) ≡ ltb (top + i) (above + edge_at 24 h q)
     unchanged i g =
-        let more = edge_more 24 h r (omega arith) in
+        let more = edge_upto 24 h r q (omega arith) (omega arith) in
         elim (cases_lt (top + i) (above + edge_at 24 h r)) [
-          | inl p ↦ rw (lt-ltb (top + i) (above + edge_at 24 h r) p, lt-ltb (top + i) (above + edge_at 24 h (r + 1)) (omega arith)) refl
-          | inr p ↦ elim (cases_lt (top + i) (above + edge_at 24 h (r + 1))) [
-            | inl q ↦ absurd (g p q)
-            | inr q ↦ rw (le-ltb (top + i) (above + edge_at 24 h r) p, le-ltb (top + i) (above + edge_at 24 h (r + 1)) q) refl
+          | inl p ↦ rw (lt-ltb (top + i) (above + edge_at 24 h r) p, lt-ltb (top + i) (above + edge_at 24 h q) (omega arith)) refl
+          | inr p ↦ elim (cases_lt (top + i) (above + edge_at 24 h q)) [
+            | inl z ↦ absurd (g p z)
+            | inr z ↦ rw (le-ltb (top + i) (above + edge_at 24 h r) p, le-ltb (top + i) (above + edge_at 24 h q) z) refl
           ]
         ]
 
-    same : (i x : ℕ) → i < n → x < 64 → (above + edge_at 24 h r ≤ top + i → top + i < above + edge_at 24 h (r + 1) → ⊥)
-        → word_dot (get_or mid i 0) x ≡ (word_dot (get_or old i 0) x || ltb (top + i) (above + edge_at 24 h (r + 1)) && shown rows above h (top + i) x)
-    same i x l m g = o i x l m ∙ ap (λ t. word_dot (get_or old i 0) x || t && shown rows above h (top + i) x) (unchanged i g)
+    same : (i x : ℕ) → i < n → x < 32 → (above + edge_at 24 h r ≤ top + i → top + i < above + edge_at 24 h q → ⊥)
+        → half_dot (get_or mid i 0) x ≡ (half_dot (get_or old i 0) x || ltb (top + i) (above + edge_at 24 h q) && shown rows above h (top + i) x)
+    same i x l m g = o i x l m ∙ ap (λ t. half_dot (get_or old i 0) x || t && shown rows above h (top + i) x) (unchanged i g)
 
-    -- on one that shows it
-    within : (i x : ℕ) → i < n → x < 64 → above + edge_at 24 h r ≤ top + i → top + i < above + edge_at 24 h (r + 1)
-        → (word_dot (get_or mid i 0) x || word_dot (get_or rows r 0) x) ≡ (word_dot (get_or old i 0) x || ltb (top + i) (above + edge_at 24 h (r + 1)) && shown rows above h (top + i) x)
+    -- on one that shows them
+    within : (i x : ℕ) → i < n → x < 32 → above + edge_at 24 h r ≤ top + i → top + i < above + edge_at 24 h q
+        → (half_dot (get_or mid i 0) x || word_dot (get_or rows r 0) x) ≡ (half_dot (get_or old i 0) x || ltb (top + i) (above + edge_at 24 h q) && shown rows above h (top + i) x)
     within i x l m y z =
-        ap (λ t. t || word_dot (get_or rows r 0) x) (o i x l m ∙ ap (λ t. word_dot (get_or old i 0) x || t && shown rows above h (top + i) x) (le-ltb (top + i) (above + edge_at 24 h r) y) ∙ sym (or_false _))
-        ∙ ap (λ t. word_dot (get_or old i 0) x || t) (sym (shown_row r (top + i) x k y z))
-        ∙ ap (λ t. word_dot (get_or old i 0) x || t && shown rows above h (top + i) x) (sym (lt-ltb (top + i) (above + edge_at 24 h (r + 1)) z))
+        ap (λ t. t || word_dot (get_or rows r 0) x) (o i x l m ∙ ap (λ t. half_dot (get_or old i 0) x || t && shown rows above h (top + i) x) (le-ltb (top + i) (above + edge_at 24 h r) y) ∙ sym (or_false _))
+        ∙ ap (λ t. half_dot (get_or old i 0) x || t) (sym (shown_row r q (top + i) x k a y z))
+        ∙ ap (λ t. half_dot (get_or old i 0) x || t && shown rows above h (top + i) x) (sym (lt-ltb (top + i) (above + edge_at 24 h q) z))
 
-    -- a white row
-    pub added_white : get_or rows r 0 ≡ 0 → Added (r + 1) old mid
+    -- white rows
+    pub added_white : ((x : ℕ) → x < 32 → word_dot (get_or rows r 0) x ≡ false) → Added q old mid
     added_white e i x l m = elim (cases_lt (top + i) (above + edge_at 24 h r)) [
-      | inl y ↦ same i x l m (λ p q. absurd (omega arith))
-      | inr y ↦ elim (cases_lt (top + i) (above + edge_at 24 h (r + 1))) [
-        | inl z ↦ or_false _ ∙ ap (λ t. word_dot (get_or mid i 0) x || t) (sym (ap (λ v. word_dot v x) e ∙ white_dot x)) ∙ within i x l m y z
-        | inr z ↦ same i x l m (λ p q. absurd (omega arith))
+      | inl y ↦ same i x l m (λ p v. absurd (omega arith))
+      | inr y ↦ elim (cases_lt (top + i) (above + edge_at 24 h q)) [
+        | inl z ↦ or_false _ ∙ ap (λ t. half_dot (get_or mid i 0) x || t) (sym (e x m)) ∙ within i x l m y z
+        | inr z ↦ same i x l m (λ p v. absurd (omega arith))
       ]
     ]
 
-    -- another one
-    pub added_more : (from to : ℕ) (new : List ℕ) → from ≡ min (above + edge_at 24 h r - top) n → to ≡ min (above + edge_at 24 h (r + 1) - top) n
-        → ((i x : ℕ) → from ≤ i → i < to → word_dot (get_or new i 0) x ≡ (word_dot (get_or mid i 0) x || word_dot (get_or rows r 0) x))
-        → ((i : ℕ) → span from to i ≡ false → get_or new i 0 ≡ get_or mid i 0) → Added (r + 1) old new
-    added_more from to new e f q u i x l m = elim (cases_lt i from) [
-      | inl y ↦ ap (λ c. word_dot c x) (u i (rw (lt-leb from i y) refl)) ∙ same i x l m (λ p v. absurd (omega arith))
+    -- other ones
+    pub added_more : (from to : ℕ) (new : List ℕ) → from ≡ min (above + edge_at 24 h r - top) n → to ≡ min (above + edge_at 24 h q - top) n
+        → ((i x : ℕ) → from ≤ i → i < to → x < 32 → half_dot (get_or new i 0) x ≡ (half_dot (get_or mid i 0) x || word_dot (get_or rows r 0) x))
+        → ((i : ℕ) → span from to i ≡ false → get_or new i 0 ≡ get_or mid i 0) → Added q old new
+    added_more from to new e f g u i x l m = elim (cases_lt i from) [
+      | inl y ↦ ap (λ c. half_dot c x) (u i (rw (lt-leb from i y) refl)) ∙ same i x l m (λ p v. absurd (omega arith))
       | inr y ↦ elim (cases_lt i to) [
-        | inl z ↦ q i x y z ∙ within i x l m (omega arith) (omega arith)
-        | inr z ↦ ap (λ c. word_dot c x) (u i (rw (le-leb from i y, le-ltb i to z) refl)) ∙ same i x l m (λ p v. absurd (omega arith))
+        | inl z ↦ g i x y z m ∙ within i x l m (omega arith) (omega arith)
+        | inr z ↦ ap (λ c. half_dot c x) (u i (rw (le-leb from i y, le-ltb i to z) refl)) ∙ same i x l m (λ p v. absurd (omega arith))
       ]
     ]
 
   -- all rows
-  pub added_all : (r : ℕ) (old new : List ℕ) → r ≡ 24 → Added r old new → (i x : ℕ) → i < n → x < 64 → word_dot (get_or new i 0) x ≡ (word_dot (get_or old i 0) x || shown rows above h (top + i) x)
+  pub added_all : (r : ℕ) (old new : List ℕ) → r ≡ 24 → Added r old new → (i x : ℕ) → i < n → x < 32 → half_dot (get_or new i 0) x ≡ (half_dot (get_or old i 0) x || shown rows above h (top + i) x)
   added_all r old new z o i x l m =
       let e = edge_last 24 h (omega arith) in
-      o i x l m ∙ ap (λ t. word_dot (get_or old i 0) x || t) (elim (cases_lt (top + i) (above + edge_at 24 h r)) [
+      o i x l m ∙ ap (λ t. half_dot (get_or old i 0) x || t) (elim (cases_lt (top + i) (above + edge_at 24 h r)) [
         | inl k ↦ rw (lt-ltb (top + i) (above + edge_at 24 h r) k) refl
         | inr g ↦
             let none = shown_below (top + i) x (let f = ap (edge_at 24 h) z in omega (arith, f)) in
@@ -156,23 +175,13 @@ module _ (f : ℕ → ℕ → Bool) where
   pub grown_all : (s : ℕ) (old new : List ℕ) → s ≡ 24 → Grown s old new → (r d : ℕ) → r < 24 → d < 64 → word_dot (get_or new r 0) d ≡ (word_dot (get_or old r 0) d || f r d)
   grown_all s old new e o r d l m = o r d l m ∙ ap (λ t. word_dot (get_or old r 0) d || t && f r d) (lt-ltb r s (omega arith))
 
--- a word with more black dots, as a row
-pub added_row : (at : ℤ) (f : ℕ → Bool) (old new : ℕ) → ((x : ℕ) → x < 64 → word_dot new x ≡ (word_dot old x || shifted at f x)) → Painted Black (shifted at f) (to_be_bytes w64 old) (to_be_bytes w64 new)
-added_row at f old new h = record {
-  length_is = refl;
-  dots_are = λ x l. word_row new x ∙ h x l ∙ black_more (word_dot old x) (shifted at f x) ∙ ap (paint Black (shifted at f x)) (sym (word_row old x));
-}
-
 -- a word that was painted on a white one
-pub row_front : (at : ℤ) (f : ℕ → Bool) (word x : ℕ) → x < 64 → Painted Black (shifted at f) (to_be_bytes w64 0) (to_be_bytes w64 word) → word_dot word x ≡ shifted at f x
-row_front at f word x l p = sym (word_row word x) ∙ p.dots_are x l ∙ ap (paint Black (shifted at f x)) (word_row 0 x ∙ white_dot x) ∙ sym (black_more false (shifted at f x))
-
 pub front_white : (at : ℤ) (f : ℕ → Bool) (row : List ℕ) (word x : ℕ) → x < 64 → word_dot word x ≡ dot row x → Painted Black (shifted at f) (replicate {A = ℕ} 8 0) row → word_dot word x ≡ shifted at f x
 front_white at f row word x l e p = e ∙ p.dots_are x l ∙ ap (paint Black (shifted at f x)) (zero_dots 8 x) ∙ sym (black_more false (shifted at f x))
 
--- the words from one to another with the dots of ink
+-- the halves from one to another with the dots of ink
 pub record Blackened (ink from to : ℕ) (old new : List ℕ) : Type 0 where
-  pub inside : (i x : ℕ) → from ≤ i → i < to → word_dot (get_or new i 0) x ≡ (word_dot (get_or old i 0) x || word_dot ink x)
+  pub inside : (i x : ℕ) → from ≤ i → i < to → half_dot (get_or new i 0) x ≡ (half_dot (get_or old i 0) x || half_dot ink x)
   pub outside : (i : ℕ) → span from to i ≡ false → get_or new i 0 ≡ get_or old i 0
 
 pub blackened_none : (ink from : ℕ) (old : List ℕ) → Blackened ink from from old old
@@ -183,8 +192,8 @@ blackened_more ink from i old mid l m b = record {
   inside = λ j x g h. elim (cases_eq j i) [
     | inl y ↦
         let same : get_or (set mid i (bit_or (get_or mid i 0) ink)) i 0 ≡ bit_or (get_or mid i 0) ink = get_or-set_same mid i (bit_or (get_or mid i 0) ink) 0 m in
-        rw (y, same) (or_dot (get_or mid i 0) ink x ∙ ap (λ v. word_dot v x || word_dot ink x) (b.outside i (rw (le-leb from i l, le-ltb i i (omega arith)) refl)))
-    | inr n ↦ ap (λ v. word_dot v x) (get_or-set_other mid i j (bit_or (get_or mid i 0) ink) 0 n) ∙ b.inside j x g (omega arith)
+        rw (y, same) (or_half (get_or mid i 0) ink x ∙ ap (λ v. half_dot v x || half_dot ink x) (b.outside i (rw (le-leb from i l, le-ltb i i (omega arith)) refl)))
+    | inr n ↦ ap (λ v. half_dot v x) (get_or-set_other mid i j (bit_or (get_or mid i 0) ink) 0 n) ∙ b.inside j x g (omega arith)
   ];
   outside = λ j e. elim (cases_eq j i) [
     | inl y ↦ absurd (let t : span from (i + 1) j ≡ true = rw (le-leb from j (omega arith), lt-ltb j (i + 1) (omega arith)) refl in cc)
@@ -197,22 +206,3 @@ blackened_more ink from i old mid l m b = record {
     ])
   ];
 }
-
-module _ (sheet : Option Glyphs) (text : List ℕ) (w h a b s : ℕ) (d : Alignment) (y : ℕ) (at : ℤ) where
-  -- a block less wide than a cell
-  pub narrow_front : (n i x : ℕ) → a < w → word_dot (get_or (replicate {A = ℕ} n 0) i 0) x ≡ shifted at (λ v. block_dot (layout sheet w h a b s d) text v y) x
-  narrow_front n i x l = ap (λ k. word_dot k x) (zero_at n i) ∙ white_dot x ∙ sym (shifted_none at (λ v. block_dot (layout sheet w h a b s d) text v y) x (λ v. sym (block_narrow sheet text w h a b s d v y l)))
-
-  -- the front of a row behind all lines that have a dot in it
-  pub whole_front : (place x word : ℕ) (left : Option (Bor (List ℕ))) → x < 64 → w ≤ a → y < block_height h b s
-      → ((x : ℕ) → lines_dot (layout sheet w h a b s d) place (lines_left (a / w) left) x y ≡ false)
-      → Overlaid sheet w h a b s d y Black at (a / w) (block_lines (a / w) text) place left (to_be_bytes w64 0) (to_be_bytes w64 word)
-      → word_dot word x ≡ shifted at (λ v. block_dot (layout sheet w h a b s d) text v y) x
-  whole_front place x word left l m k e o = row_front at (λ v. block_dot (layout sheet w h a b s d) text v y) word x l
-      (overlaid_all sheet w h a b s d y Black at (a / w) text place left (to_be_bytes w64 0) (to_be_bytes w64 word) refl m k e o)
-
--- no line yet
-pub no_line : (sheet : Option Glyphs) (w h a b s : ℕ) (d : Alignment) (y : ℕ) (at : ℤ) (n : ℕ) (all : List (List ℕ)) (place word : ℕ) (text : Bor (List ℕ)) → word ≡ 0
-    → ((x : ℕ) → lines_dot (layout sheet w h a b s d) 0 all x y ≡ lines_dot (layout sheet w h a b s d) place (block_lines n text.now) x y)
-    → Overlaid sheet w h a b s d y Black at n all place (Some text) (to_be_bytes w64 0) (to_be_bytes w64 word)
-no_line sheet w h a b s d y at n all place word text z e = rw z (overlaid_none sheet w h a b s d y Black at n all place text (to_be_bytes w64 0) e)

@@ -1,6 +1,5 @@
 -- Lines over each other, as rows of the sheet.
 use Rattle.std.proofs.Common.{inl, inr, ◌≡◌, ℕ, suc, ◌+◌, ◌-◌, ◌*◌, ◌/◌, ◌%◌, ◌<◌, ◌≤◌, min, Bool, true, false, ltb, leb, ◌&&◌, ◌||◌, ◌⊎◌, get_or, length, take, replicate, refl, sym, ap, ◌∙◌, arith, List, [], ◌∷◌, Option, None, Some, MatchOption, Bor, ℤ}
-use Rattle.std.specs.Int.{to_be_bytes, w64}
 use Rattle.std.specs.List.{All}
 use Rattle.std.proofs.Math.Nat.{div-lt_iff_lt-mul, le-div_iff_mul-le}
 use Rattle.std.proofs.Math.Seq.{take-length}
@@ -8,17 +7,17 @@ use Rattle.std.proofs.lemmas.List.{length-take-le}
 use Rattle.std.proofs.lemmas.Bool.{cases_lt, lt-ltb, le-ltb, le-leb, false_from_ne_true}
 use Rattle.vp_dots.specs.Dots.{shifted}
 use Rattle.vp_dots.specs.Words.{word_dot}
-use Rattle.vp_dots.specs.declared.Op.TheVariants.{Black}
 use Rattle.vp_dots.proofs.Shifts.{shifted_none, shifted_same, shifted_or}
+use Rattle.vp_glyph.specs.Halves.{half_dot}
 use Rattle.vp_glyph.specs.Sheets.{Glyphs, sheet_dot}
 use Rattle.vp_glyph.specs.Texts.{sampled_dot, text_dot}
 use Rattle.vp_glyph.specs.Blocks.{pieces, first, indent, line_dot, lines_dot, block_lines, block_width, block_height, block_dot}
 use Rattle.vp_glyph.specs.declared.block.Alignment.{Alignment}
 use Rattle.vp_glyph.proofs.Breaking.{block_few}
-use Rattle.vp_glyph.proofs.Gathered.{row_front, shown}
+use Rattle.vp_glyph.proofs.Gathered.{shown}
 use Rattle.vp_glyph.proofs.Layouts.{layout}
 use Rattle.vp_glyph.proofs.Looks.{white_dot}
-use Rattle.vp_glyph.proofs.Overlaid.{Overlaid, line_inside, zero_at}
+use Rattle.vp_glyph.proofs.Overlaid.{line_inside, zero_at}
 use Rattle.vp_glyph.proofs.Stacks.{lines_left, lines_are, block_within, block_past}
 
 and_false : (b : Bool) → (b && false) ≡ false
@@ -104,7 +103,7 @@ module _ (sheet : Option Glyphs) (w h a b s : ℕ) (d : Alignment) where
       ∙ shared_or (leb t y && ltb (y - t) h) (line_dot (layout sheet w 24 a 1 0 d) 0 line x ((y - t) * 24 / h)) (lines_dot (layout sheet w 24 a 1 0 d) 0 rest x ((y - t) * 24 / h))
 
   -- the fronts of rows on which words are spread that have the rows of the sheet
-  pub shown_as : (at : ℤ) (rows : List ℕ) (t y x : ℕ) (f : ℕ → ℕ → Bool) → x < 64 → ((r x : ℕ) → r < 24 → x < 64 → word_dot (get_or rows r 0) x ≡ shifted at (λ v. f v r) x)
+  shown_as : (at : ℤ) (rows : List ℕ) (t y x : ℕ) (f : ℕ → ℕ → Bool) → x < 32 → ((r x : ℕ) → r < 24 → x < 32 → word_dot (get_or rows r 0) x ≡ shifted at (λ v. f v r) x)
       → shown rows t h y x ≡ shifted at (λ v. leb t y && ltb (y - t) h && f v ((y - t) * 24 / h)) x
   shown_as at rows t y x f l e = elim (cases_lt (y - t) h) [
     | inl k ↦
@@ -117,12 +116,20 @@ module _ (sheet : Option Glyphs) (w h a b s : ℕ) (d : Alignment) where
 
   module _ (at : ℤ) (x y : ℕ) where
     -- the front of a row that a line is added to
-    pub line_added : (place old new : ℕ) (line rows : List ℕ) → x < 64 → word_dot new x ≡ (word_dot old x || shown rows (place * s) h y x)
-        → ((r x : ℕ) → r < 24 → x < 64 → word_dot (get_or rows r 0) x ≡ shifted at (λ v. line_dot (layout sheet w 24 a 1 0 d) 0 line v r) x)
-        → word_dot new x ≡ (word_dot old x || shifted at (λ v. line_dot (layout sheet w h a b s d) place line v y) x)
-    line_added place old new line rows l e f = e ∙ ap (λ t. word_dot old x || t) (shown_as at rows (place * s) y x (line_dot (layout sheet w 24 a 1 0 d) 0 line) l f
+    pub line_added : (place old new : ℕ) (line rows : List ℕ) → x < 32 → half_dot new x ≡ (half_dot old x || shown rows (place * s) h y x)
+        → ((r x : ℕ) → r < 24 → x < 32 → word_dot (get_or rows r 0) x ≡ shifted at (λ v. line_dot (layout sheet w 24 a 1 0 d) 0 line v r) x)
+        → half_dot new x ≡ (half_dot old x || shifted at (λ v. line_dot (layout sheet w h a b s d) place line v y) x)
+    line_added place old new line rows l e f = e ∙ ap (λ t. half_dot old x || t) (shown_as at rows (place * s) y x (line_dot (layout sheet w 24 a 1 0 d) 0 line) l f
         ∙ shifted_same at (λ v. leb (place * s) y && ltb (y - place * s) h && line_dot (layout sheet w 24 a 1 0 d) 0 line v ((y - place * s) * 24 / h)) (λ v. line_dot (layout sheet w h a b s d) place line v y) x
         (λ v _. sym (line_rows place line v y)))
+
+    -- and of one that lines with one top are added to
+    pub lines_added : (place old new : ℕ) (all : List (List ℕ)) (rows : List ℕ) → x < 32 → (s ≡ 0) ⊎ (place ≡ b - 1) → half_dot new x ≡ (half_dot old x || shown rows (place * s) h y x)
+        → ((r x : ℕ) → r < 24 → x < 32 → word_dot (get_or rows r 0) x ≡ shifted at (λ v. lines_dot (layout sheet w 24 a 1 0 d) 0 all v r) x)
+        → half_dot new x ≡ (half_dot old x || shifted at (λ v. lines_dot (layout sheet w h a b s d) place all v y) x)
+    lines_added place old new all rows l c e f = e ∙ ap (λ t. half_dot old x || t) (shown_as at rows (place * s) y x (lines_dot (layout sheet w 24 a 1 0 d) 0 all) l f
+        ∙ shifted_same at (λ v. leb (place * s) y && ltb (y - place * s) h && lines_dot (layout sheet w 24 a 1 0 d) 0 all v ((y - place * s) * 24 / h)) (λ v. lines_dot (layout sheet w h a b s d) place all v y) x
+        (λ v _. sym (lines_rows place (place * s) all v y c refl)))
 
   -- the cells of a line are its rows
   pub line_sheet : (k left width r v : ℕ) (cells : List ℕ) → k ≤ length cells → left ≡ indent d (a - w * k) → width ≡ w
@@ -189,22 +196,6 @@ module _ (sheet : Option Glyphs) (w h a b s : ℕ) (d : Alignment) where
         let all = lines_dot (layout sheet w h a b s d) 0 (block_lines (a / w) text) v y in
         false_from_ne_true all (λ t. absurd (let i = lines_inside v y 0 (block_lines (a / w) text) (block_few (a / w) text some) t in omega arith)) ∙ block_past sheet text w h a b s d v y g
   ]
-
-  -- the front of a row to which all lines that are left are added
-  pub joined_front : (at : ℤ) (x y place old new : ℕ) (text : List ℕ) (left : Option (Bor (List ℕ))) (rows : List ℕ) → x < 64 → 0 < w → w ≤ a → y < block_height h b s → (s ≡ 0) ⊎ (place ≡ b - 1)
-      → Overlaid sheet w h a b s d y Black at (a / w) (block_lines (a / w) text) place left (to_be_bytes w64 0) (to_be_bytes w64 old)
-      → word_dot new x ≡ (word_dot old x || shown rows (place * s) h y x)
-      → ((r x : ℕ) → r < 24 → x < 64 → word_dot (get_or rows r 0) x ≡ shifted at (λ v. lines_dot (layout sheet w 24 a 1 0 d) 0 (lines_left (a / w) left) v r) x)
-      → word_dot new x ≡ shifted at (λ v. block_dot (layout sheet w h a b s d) text v y) x
-  joined_front at x y place old new text left rows l p m k c o e f =
-      let rest = λ (v : ℕ). lines_dot (layout sheet w h a b s d) place (lines_left (a / w) left) v y in
-      let all = λ (v : ℕ). lines_dot (layout sheet w h a b s d) 0 (block_lines (a / w) text) v y in
-      e ∙ ap (λ t. t || shown rows (place * s) h y x) (row_front at o.done old x l o.painted)
-      ∙ ap (λ t. shifted at o.done x || t) (shown_as at rows (place * s) y x (lines_dot (layout sheet w 24 a 1 0 d) 0 (lines_left (a / w) left)) l f
-      ∙ shifted_same at (λ v. leb (place * s) y && ltb (y - place * s) h && lines_dot (layout sheet w 24 a 1 0 d) 0 (lines_left (a / w) left) v ((y - place * s) * 24 / h)) rest x
-      (λ v _. sym (lines_rows place (place * s) (lines_left (a / w) left) v y c refl)))
-      ∙ sym (shifted_or at o.done rest all x o.rest_is)
-      ∙ shifted_same at all (λ v. block_dot (layout sheet w h a b s d) text v y) x (λ v _. lines_block text y v p m k)
 
 -- a row of a cell as high as the sheet's
 pub cell_row : (sheet : Option Glyphs) (c w place s : ℕ) (at : ℤ) (d : ℕ) (row : ℕ) → s < 24 → ((u : ℕ) → word_dot row u ≡ sheet_dot sheet c u s)

@@ -21,3 +21,4 @@ pub mod Stacks
 pub mod Windows
 pub mod Masks
 pub mod Moved
+mod Halves

@@ -3,7 +3,6 @@ use Rattle.std.proofs.Common.{inl, inr, ◌≡◌, ℕ, zero, suc, ◌+◌, ◌-
 use Rattle.std.proofs.Math.Nat.{add-mul, div-lt_iff_lt-mul, le-div_iff_mul-le, mul-le-mul_right}
 use Rattle.std.proofs.lemmas.Bool.{cases_lt, lt-ltb, le-ltb, lt-leb, le-leb, ltb-true, ltb-false}
 use Rattle.vp_dots.specs.Dots.{span}
-use Rattle.vp_dots.specs.Words.{word_dot}
 use Rattle.vp_glyph.specs.Cells.{font_width, font_height, font_dot, bold_dot, cell_width, cell_height, underlined, cell_dot}
 use Rattle.vp_glyph.specs.Parts.{row_dot, filled_dot}
 use Rattle.vp_glyph.specs.declared.cell.Font.{Font}
@@ -81,29 +80,6 @@ module _ (sheets : Sheets) (font : Font) (style : Style) (c : ℕ) where
       (λ f. past_all x (font_width font) style.spacing style.wm (ltb-false x (cell_width font style) f))
       ∙ ap (λ b. b || ltb x (cell_width font style) && ltb y (cell_height font style) && cond style.inverse (not (ltb x (font_width font * style.wm))) (underlined font style y))
       (sym (joined (ltb x (12 * style.wm)) (ltb (x / style.wm) (font_width font)) (ltb y (cell_height font style)) _ _ (in_row font style.wm x)))))
-
-  module _ (body x y : ℕ) (l : y < font_height font) (e : word_dot body x ≡ (ltb x (font_width font) && bold_dot style.bold (font_dot sheets c font) x y)) where
-    pub styled_upright : style.inverse ≡ false → word_dot body x ≡ row_dot sheets font style c x y
-    styled_upright i = e ∙ rw (lt-ltb y (font_height font) l, i) (same (ltb x (font_width font)) _)
-      where
-        same : (a b : Bool) → (a && b) ≡ (a && true && b)
-        same true b = refl
-        same false b = refl
-
-    pub styled_inverse : (other first word : ℕ) → style.inverse ≡ true → (x < 64 → word_dot other x ≡ not (word_dot body x)) → word_dot first x ≡ ltb x (font_width font)
-        → word_dot word x ≡ (word_dot other x && word_dot first x) → word_dot word x ≡ row_dot sheets font style c x y
-    styled_inverse other first word i o f w = w ∙ ap (λ b. word_dot other x && b) f ∙ rw (lt-ltb y (font_height font) l, i) (elim (cases_lt x (font_width font)) [
-      | inl k ↦ (let few = font_few font in rw (lt-ltb x (font_width font) k) (and_true (word_dot other x) ∙ o (omega arith) ∙ ap not (rw (lt-ltb x (font_width font) k) at e)))
-      | inr g ↦ rw (le-ltb x (font_width font) g) (and_false (word_dot other x))
-    ])
-      where
-        and_true : (b : Bool) → (b && true) ≡ b
-        and_true true = refl
-        and_true false = refl
-
-        and_false : (b : Bool) → (b && false) ≡ false
-        and_false true = refl
-        and_false false = refl
 
   -- below the character
   pub row_below : (x y : ℕ) → font_height font ≤ y → row_dot sheets font style c x y ≡ false

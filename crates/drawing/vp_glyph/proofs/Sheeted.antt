@@ -1,6 +1,5 @@
 -- Rows of a band that show the rows of a sheet.
 use Rattle.std.proofs.Common.{inl, inr, ◌≡◌, ℕ, ◌+◌, ◌-◌, ◌*◌, ◌/◌, ◌<◌, ◌≤◌, min, Bool, true, false, ltb, leb, ◌&&◌, ◌||◌, length, take, replicate, refl, sym, ap, ◌∙◌, arith, List, [], ◌∷◌, Option, Some, MatchOption, Bor, ℤ}
-use Rattle.std.proofs.Math.Nat.{div-lt_iff_lt-mul, le-div_iff_mul-le}
 use Rattle.std.proofs.lemmas.Bool.{cases_lt, lt-ltb, le-ltb, le-leb, lt-leb}
 use Rattle.std.proofs.lemmas.List.{length-replicate}
 use Rattle.vp_dots.specs.Dots.{dot, shifted, span}
@@ -10,7 +9,7 @@ use Rattle.vp_dots.proofs.Shifts.{shifted_none, shifted_same, shifted_or}
 use Rattle.vp_glyph.specs.Sheets.{Glyphs}
 use Rattle.vp_glyph.specs.Blocks.{pieces, first, line_dot, lines_dot, block_lines, block_height, block_dot}
 use Rattle.vp_glyph.specs.declared.block.Alignment.{Alignment}
-use Rattle.vp_glyph.proofs.Gathered.{row_shown}
+use Rattle.vp_glyph.proofs.Gathered.{row_alike, row_shown}
 use Rattle.vp_glyph.proofs.Joining.{lines_block}
 use Rattle.vp_glyph.proofs.Layouts.{layout}
 use Rattle.vp_glyph.proofs.Overlaid.{zero_dots}
@@ -21,17 +20,6 @@ use Rattle.vp_glyph.proofs.Stacks.{lines_left, lines_are, block_narrow}
 and_false : (b : Bool) → (b && false) ≡ false
 and_false true = refl
 and_false false = refl
-
--- row u of h shows a row of the sheet, and so do the others that do
-pub row_alike : (h u : ℕ) → u < h → (u * 24 / h < 24) × (edge_at 24 h (u * 24 / h) ≤ u) × (u < edge_at 24 h (u * 24 / h + 1))
-row_alike h u l =
-    let s = u * 24 / h in
-    let few : s < 24 = (div-lt_iff_lt-mul {k = h} {x = u * 24} {y = 24} (omega arith)).1 (omega arith) in
-    let low : s * h ≤ u * 24 = (le-div_iff_mul-le {k = h} {x = s} {y = u * 24} (omega arith)).0 (omega arith) in
-    let high : u * 24 < (s + 1) * h = (div-lt_iff_lt-mul {k = h} {x = u * 24} {y = s + 1} (omega arith)).0 (omega arith) in
-    let begun : edge_at 24 h s < u + 1 = (div-lt_iff_lt-mul {k = 24} {x = s * h + (24 - 1)} {y = u + 1} (omega arith)).1 (omega arith) in
-    let ends : u + 1 ≤ edge_at 24 h (s + 1) = (le-div_iff_mul-le {k = 24} {x = u + 1} {y = (s + 1) * h + (24 - 1)} (omega arith)).1 (omega arith) in
-    (few, omega arith, omega arith)
 
 -- a row painted on white
 pub on_white : (n : ℕ) (at : ℤ) (f : ℕ → Bool) (row : List ℕ) (x : ℕ) → x < 8 * n → Painted Black (shifted at f) (replicate {A = ℕ} n 0) row → dot row x ≡ shifted at f x

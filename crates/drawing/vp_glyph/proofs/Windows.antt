@@ -9,7 +9,7 @@ use Rattle.vp_dots.proofs.Shifts.{met, shifted_same, shifted_or, shifted_none}
 use Rattle.vp_dots.specs.Words.{word_dot}
 use Rattle.vp_glyph.proofs.Looks.{white_dot}
 use Rattle.vp_glyph.proofs.Masks.{edges_are}
-use Rattle.vp_glyph.proofs.Spread.{edge_at, ink}
+use Rattle.vp_glyph.proofs.Spread.{edge_at, before_edge, ink}
 
 -- a place of what was moved, found on the row
 pub place_meets : (at : ℤ) (place r d : ℕ) → d < 64 → ((d : ℕ) → d < 64 → pos d <ℤ (at +ℤ pos place) → d < r) → ((d : ℕ) → d < 64 → (at +ℤ pos place) ≤ℤ pos d → r ≤ d)
@@ -112,6 +112,31 @@ module _ (at : ℤ) (left w : ℕ) (g : ℕ → Bool) where
       none : (a b c : Bool) → (a && false && b) ≡ (a && false && c)
       none true b c = refl
       none false b c = refl
+
+  -- or those before one that begins behind the row's first 64
+  pub wide_seen : (s from d : ℕ) → s ≤ 12 → leb from d ≡ shifted at (leb (left + edge_at 12 w s)) d → d < from → shifted at (before s) d ≡ shifted at (ink 12 g left w) d
+  wide_seen s from d k e l = elim (met at d) [
+    | inl m ↦
+        let early : leb (left + edge_at 12 w s) m.0 ≡ false = sym (m.2 (leb (left + edge_at 12 w s))) ∙ sym e ∙ lt-leb from d l in
+        m.2 (before s) ∙ seen m.0 (elim (cases_lt m.0 (left + edge_at 12 w s)) [ inl o ↦ o | inr o ↦ absurd (let t = le-leb (left + edge_at 12 w s) m.0 o in cc) ]) ∙ sym (m.2 (ink 12 g left w))
+    | inr n ↦ n.1 (before s) ∙ sym (n.1 (ink 12 g left w))
+  ]
+    where
+      seen : (x : ℕ) → x < left + edge_at 12 w s → before s x ≡ ink 12 g left w x
+      seen x o = elim (cases_lt x left) [
+        | inl j ↦ rw (lt-leb left x j) refl
+        | inr j ↦ elim (cases_lt (x - left) w) [
+          | inl u ↦
+              let b : (x - left) * 12 < s * w = before_edge 12 w s (x - left) (omega arith) (omega arith) in
+              let q : (x - left) * 12 / w < s = (div-lt_iff_lt-mul {k = w} {x = (x - left) * 12} {y = s} (omega arith)).1 b in
+              rw (lt-ltb ((x - left) * 12 / w) s q) refl
+          | inr u ↦ rw (le-ltb (x - left) w u) (nothing (leb left x) _ _)
+        ]
+      ]
+        where
+          nothing : (a b c : Bool) → (a && false && b) ≡ (a && false && c)
+          nothing true b c = refl
+          nothing false b c = refl
 
 -- a mask without a dot
 pub no_mask : (old a : Bool) (mask d : ℕ) → mask ≡ 0 → old ≡ (old || a && word_dot mask d)

@@ -11,5 +11,6 @@ pub mod Layouts
 pub mod Inked
 pub mod Parts
 pub mod Stretches
+pub mod Halves
 pub mod Memory
 pub mod Runs

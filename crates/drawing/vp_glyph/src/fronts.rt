@@ -3,6 +3,7 @@ ghost use Rattle.std.specs.Prelude.{◌≡◌, ℕ, ◌+◌, ◌-◌, ◌*◌, �
 ghost use Rattle.vp_dots.specs.Dots.{shifted, span};
 ghost use Rattle.vp_dots.specs.Words.{word_dot};
 ghost use Rattle.vp_glyph.specs.Blocks.{pieces, first, line_dot, block_height, block_dot};
+ghost use Rattle.vp_glyph.specs.Halves.{half_dot};
 ghost use Rattle.vp_glyph.specs.Layouts.{layout_of};
 
 use crate::block::Block;
@@ -25,35 +26,62 @@ pub fn rows_above<const N: usize>(row: u32, first: u32) -> usize
     (row.saturating_sub(first) as usize).min(N)
 }
 
-/// Makes the dots of the words from one to another black where a word is.
-fn blacken<const N: usize>(ink: u64, from: usize, to: usize, words: &mut [u64; N])
+/// The left half of a word.
+#[inline(always)]
+fn left_half(word: u64) -> u32
+    ensures { (x : ℕ) → x < 32 → half_dot result x ≡ word_dot word x }
+{
+    (word >> 32) as u32
+}
+
+/// Makes the dots of the halves from one to another black where a half is.
+fn blacken<const N: usize>(ink: u32, from: usize, to: usize, halves: &mut [u32; N])
     requires order { from ≤ to }
     requires to { to ≤ N }
-    ensures inside { (i x : ℕ) → from ≤ i → i < to → word_dot (slice_index words.new i) x
-        ≡ (word_dot (slice_index words.old i) x || word_dot ink x) }
-    ensures outside { (i : ℕ) → span from to i ≡ false → slice_index words.new i ≡ slice_index words.old i }
+    ensures inside { (i x : ℕ) → from ≤ i → i < to → half_dot (slice_index halves.new i) x
+        ≡ (half_dot (slice_index halves.old i) x || half_dot ink x) }
+    ensures outside { (i : ℕ) → span from to i ≡ false
+        → slice_index halves.new i ≡ slice_index halves.old i }
 {
     for i in from..to {
-        words[i] |= ink;
+        halves[i] |= ink;
     }
 }
 
+/// The first of 24 words behind word s that isn't like it, and 24 where all are.
+fn alike_to(rows: &[u64; 24], s: usize) -> usize
+    requires { s < 24 }
+    ensures some { s < result }
+    ensures within { result ≤ 24 }
+    ensures alike { (r : ℕ) → s ≤ r → r < result → slice_index rows.now r ≡ slice_index rows.now s }
+{
+    for r in s + 1..24usize {
+        if rows[r] != rows[s] {
+            return r;
+        }
+    }
+    24
+}
+
 /// Adds to the fronts of `N` rows, the first of which is row `top`, the rows of the sheet that are drawn
-/// `high` rows high in all from row `above` on.
-fn spread<const N: usize>(rows: &[u64; 24], above: u32, high: u32, top: u32, fronts: &mut [u64; N])
+/// `high` rows high in all from row `above` on: those that are alike at once.
+fn spread<const N: usize>(rows: &[u64; 24], above: u32, high: u32, top: u32, fronts: &mut [u32; N])
     requires { above + high < 2 ^ 32 }
-    ensures { (i x : ℕ) → i < N → x < 64 → word_dot (slice_index fronts.new i) x
-        ≡ (word_dot (slice_index fronts.old i) x || nat_le above (top + i) && nat_lt (top + i - above) high
+    ensures { (i x : ℕ) → i < N → x < 32 → half_dot (slice_index fronts.new i) x
+        ≡ (half_dot (slice_index fronts.old i) x || nat_le above (top + i) && nat_lt (top + i - above) high
         && word_dot (slice_index rows.now ((top + i - above) * 24 / high)) x) }
 {
     let mut from = rows_above::<N>(above, top);
-    for s in 0..24u32 {
-        let to = rows_above::<N>(above + first_row(s + 1, high), top);
-        let ink = rows[s as usize];
+    let mut s = 0;
+    while s < 24 {
+        let behind = alike_to(rows, s);
+        let to = rows_above::<N>(above + first_row(behind as u32, high), top);
+        let ink = left_half(rows[s]);
         if ink != 0 {
             blacken(ink, from, to, fronts);
         }
         from = to;
+        s = behind;
     }
 }
 
@@ -65,13 +93,13 @@ impl<A: Small> Block<'_, A> {
         place: u32,
         top: u32,
         at: i64,
-        fronts: &mut [u64; N],
+        fronts: &mut [u32; N],
     )
         requires cells { line.cells ≤ length (first (pieces line.text.now)) }
         requires most { line.cells ≤ self.now.wide / self.now.w }
         requires place { place ≤ self.now.rows - 1 }
-        ensures { (i x : ℕ) → i < N → x < 64 → word_dot (slice_index fronts.new i) x
-            ≡ (word_dot (slice_index fronts.old i) x || shifted at (λ x. line_dot (layout_of self.now) place
+        ensures { (i x : ℕ) → i < N → x < 32 → half_dot (slice_index fronts.new i) x
+            ≡ (half_dot (slice_index fronts.old i) x || shifted at (λ x. line_dot (layout_of self.now) place
             (take line.entry.cells (first (pieces line.entry.text.now))) x (top + i)) x) }
     {
         let mut rows = [0u64; 24];
@@ -79,16 +107,17 @@ impl<A: Small> Block<'_, A> {
         spread(&rows, place * self.pitch, self.h, top, fronts);
     }
 
-    /// The first 64 dots of N rows, each moved by an offset and black where row top, top + 1, .. has ink.
-    pub fn fronts<const N: usize>(&self, top: u32, at: i64) -> [u64; N]
-        requires { N < 2 ^ 32 }
-        ensures { (i x : ℕ) → i < N → x < 64 → top + i < block_height self.now.h self.now.rows self.now.pitch
-            → word_dot (slice_index result i) x
+    /// Draws the first 32 dots of N rows, each moved by an offset and black where row top, top + 1, .. has
+    /// ink, on halves of words that are white.
+    pub fn draw_fronts<const N: usize>(&self, top: u32, at: i64, fronts: &mut [u32; N])
+        requires few { N < 2 ^ 32 }
+        requires white { (i : ℕ) → slice_index fronts.old i ≡ 0 }
+        ensures { (i x : ℕ) → i < N → x < 32 → top + i < block_height self.now.h self.now.rows self.now.pitch
+            → half_dot (slice_index fronts.new i) x
             ≡ shifted at (λ x. block_dot (layout_of self.now) self.now.text.now x (top + i)) x }
     {
-        let mut fronts = [0u64; N];
         if self.wide < self.w {
-            return fronts;
+            return;
         }
         let most = (self.wide / self.w) as usize;
         let (above, text) = self.first_line(top);
@@ -96,18 +125,17 @@ impl<A: Small> Block<'_, A> {
         let mut left = Some(text);
         while let Some(text) = left {
             if u64::from(top) + N as u64 <= u64::from(place * self.pitch) {
-                return fronts;
+                return;
             }
             if self.pitch == 0 || place + 1 >= self.rows {
                 let rows = self.joined(text, at);
-                spread(&rows, place * self.pitch, self.h, top, &mut fronts);
-                return fronts;
+                spread(&rows, place * self.pitch, self.h, top, fronts);
+                return;
             }
             let (line, rest) = next_line(text, most);
-            self.add_line(line, place, top, at, &mut fronts);
+            self.add_line(line, place, top, at, fronts);
             place = (place + 1).min(self.rows.saturating_sub(1));
             left = rest;
         }
-        fronts
     }
 }

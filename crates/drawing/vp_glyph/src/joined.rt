@@ -8,13 +8,14 @@ ghost use Rattle.vp_glyph.specs.Layouts.{layout_of, sheet_rows};
 
 use crate::block::Block;
 use crate::lines::{Line, behind_cells, next_cell, next_line};
-use crate::sampled::seen;
+use crate::sampled::{seen_dots, whole_cells};
 use crate::sheet::{Sheet, rows_in};
 use crate::stretch::Stretch;
 use vp_dots::Small;
 
-/// Adds the first 64 dots of the rows of the sheet on which a line stands from place `left` on, drawn as wide
+/// Adds the first 32 dots of the rows of the sheet on which a line stands from place `left` on, drawn as wide
 /// as it is: the cells that can be seen there.
+#[inline(always)]
 fn add_cells<A: Small>(
     line: Line<'_>,
     sheet: &Option<Sheet<A>>,
@@ -26,31 +27,31 @@ fn add_cells<A: Small>(
     requires w { 0 < stretch.now.width }
     requires cells { line.cells ≤ length (first (pieces line.text.now)) }
     requires fits { left + stretch.now.width * line.cells < 2 ^ 32 }
-    ensures { (s x : ℕ) → s < 24 → x < 64 → word_dot (slice_index rows.new s) x
+    ensures { (s x : ℕ) → s < 24 → x < 32 → word_dot (slice_index rows.new s) x
         ≡ (word_dot (slice_index rows.old s) x || shifted at (λ x. nat_le left x
         && text_dot sheet.now (take line.entry.cells (first (pieces line.entry.text.now)))
         stretch.now.width 24 (x - left) s) x) }
 {
     let w = stretch.width;
-    let (from, to) = seen(at, left, w, line.cells, 8);
-    let mut rest = behind_cells(line.text, from);
-    let mut place = left + w * from as u32;
-    for _i in from..to {
+    let (from, to) = seen_dots(at, left, w * line.cells as u32, 4);
+    let mut k = whole_cells(from, w);
+    let mut rest = behind_cells(line.text, k as usize);
+    while w * k < to {
         let Some((character, behind)) = next_cell(rest) else {
             unreachable!()
         };
-        stretch.add_rows(rows_in(sheet, character), at, place, rows);
-        place += w;
+        stretch.add_rows(rows_in(sheet, character), at, left + w * k, rows);
+        k += 1;
         rest = behind;
     }
 }
 
 impl<A: Small> Block<'_, A> {
-    /// Adds the first 64 dots of the rows of the sheet on which a line stands.
+    /// Adds the first 32 dots of the rows of the sheet on which a line stands.
     pub(crate) fn add_rows(&self, line: Line<'_>, at: i64, rows: &mut [u64; 24])
         requires cells { line.cells ≤ length (first (pieces line.text.now)) }
         requires most { line.cells ≤ self.now.wide / self.now.w }
-        ensures { (s x : ℕ) → s < 24 → x < 64 → word_dot (slice_index rows.new s) x
+        ensures { (s x : ℕ) → s < 24 → x < 32 → word_dot (slice_index rows.new s) x
             ≡ (word_dot (slice_index rows.old s) x || shifted at (λ x. line_dot
             (sheet_rows (layout_of self.now)) 0 (take line.entry.cells (first (pieces line.entry.text.now)))
             x s) x) }
@@ -61,10 +62,10 @@ impl<A: Small> Block<'_, A> {
         add_cells(line, self.sheet, &self.stretch, at, left, rows);
     }
 
-    /// The first 64 dots of the rows of the sheet on which the lines of a text stand over each other.
+    /// The first 32 dots of the rows of the sheet on which the lines of a text stand over each other.
     pub(crate) fn joined(&self, text: &[u8], at: i64) -> [u64; 24]
         requires { self.now.w ≤ self.now.wide }
-        ensures { (s x : ℕ) → s < 24 → x < 64 → word_dot (slice_index result s) x
+        ensures { (s x : ℕ) → s < 24 → x < 32 → word_dot (slice_index result s) x
             ≡ shifted at (λ x. lines_dot (sheet_rows (layout_of self.now)) 0
             (block_lines (self.now.wide / self.now.w) text.now) x s) x }
     {

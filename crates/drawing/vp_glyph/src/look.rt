@@ -17,16 +17,14 @@ pub fn moved(at: i64, dots: u32) -> i64
     at + i64::from(dots)
 }
 
+/// Where dot s begins, of twelve dots that are drawn `width` dots wide in all.
 #[tactic(auto, using(crate::proofs::Spread::edge_within))]
-/// Where dot s begins, of `N` dots that are drawn `width` dots wide in all.
-pub fn edge<const N: u32>(s: u32, width: u32) -> u32
-    requires some { 0 < N }
-    requires few { N ≤ 16 }
-    requires s { s ≤ N }
-    ensures edge { result ≡ (s * width + (N - 1)) / N }
+pub fn edge(s: u32, width: u32) -> u32
+    requires { s ≤ 12 }
+    ensures edge { result ≡ (s * width + 11) / 12 }
     ensures within { result ≤ width }
 {
-    ((u64::from(s) * u64::from(width) + u64::from(N - 1)) / u64::from(N)) as u32
+    ((u64::from(s) * u64::from(width) + 11) / 12) as u32
 }
 
 /// Dot x of a word.
@@ -37,18 +35,16 @@ pub fn dot_in_word(word: u64, x: u32) -> bool
     word >> (63 - x) & 1 == 1
 }
 
-/// Paints the first `N` dots of a word, drawn `width` dots wide in all, from place `left` on.
-pub fn paint_scaled<const N: u32>(op: Op, at: i64, word: u64, left: u32, width: u32, row: &mut [u8])
-    requires some { 0 < N }
-    requires few { N ≤ 16 }
-    requires fits { left + width < 2 ^ 32 }
+/// Paints the first twelve dots of a word, drawn `width` dots wide in all, from place `left` on.
+pub fn paint_scaled(op: Op, at: i64, word: u64, left: u32, width: u32, row: &mut [u8])
+    requires { left + width < 2 ^ 32 }
     ensures { Painted op (shifted at (λ x. nat_le left x && nat_lt (x - left) width
-        && word_dot word ((x - left) * N / width))) row.old row.new }
+        && word_dot word ((x - left) * 12 / width))) row.old row.new }
 {
     let mut from = left;
     let mut to = left;
-    for s in 0..N {
-        let next = left + edge::<N>(s + 1, width);
+    for s in 0..12u32 {
+        let next = left + edge(s + 1, width);
         if !dot_in_word(word, s) {
             fill_moved(op, at, from, to, row);
             from = next;

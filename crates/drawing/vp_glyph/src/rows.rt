@@ -1,7 +1,7 @@
 //! Many rows of a block, for which each of its lines is looked at once: a row of the sheet is drawn once for
 //! all rows that show it.
-ghost use Rattle.std.specs.Prelude.{◌≡◌, ℕ, ◌+◌, ◌-◌, ◌*◌, ◌/◌, ◌<◌, ◌≤◌, ◌^◌, ◌⊎◌, ◌||◌, [], length, take, slice_index_or};
-ghost use Rattle.vp_dots.specs.Dots.{dot, shifted};
+ghost use Rattle.std.specs.Prelude.{◌≡◌, ℕ, ◌+◌, ◌-◌, ◌*◌, ◌/◌, ◌<◌, ◌≤◌, ◌^◌, ◌⊎◌, ◌&&◌, ◌||◌, [], length, take, slice_index_or};
+ghost use Rattle.vp_dots.specs.Dots.{dot, shifted, span};
 ghost use Rattle.vp_dots.specs.Painting.{Painted};
 ghost use Rattle.vp_glyph.specs.Blocks.{pieces, first, line_dot, lines_dot, block_lines, block_height, block_dot};
 ghost use Rattle.vp_glyph.specs.Layouts.{layout_of, sheet_rows};
@@ -72,6 +72,32 @@ impl<A: Small> Block<'_, A> {
         row
     }
 
+    /// Makes the dots of the rows from one to another black where a row of the sheet on which a line stands
+    /// is.
+    #[inline(always)]
+    fn add_run(&self, line: Line<'_>, s: u32, at: i64, from: usize, to: usize, rows: &mut Runs)
+        requires cells { line.cells ≤ length (first (pieces line.text.now)) }
+        requires most { line.cells ≤ self.now.wide / self.now.w }
+        requires s { s < 24 }
+        requires some { from < to }
+        requires to { to ≤ ROWS }
+        ensures { (k x : ℕ) → k < ROWS → x < 8 * BYTES
+            → run_dot rows.new.alone rows.new.down rows.new.up ROWS k x
+            ≡ (run_dot rows.old.alone rows.old.down rows.old.up ROWS k x
+            || span from to k && shifted at (λ x. line_dot (sheet_rows (layout_of self.now)) 0
+            (take line.entry.cells (first (pieces line.entry.text.now))) x s) x) }
+    {
+        if to == ROWS {
+            self.add_sheet_row(line, s, at, &mut rows.down[from]);
+            return;
+        }
+        if from == 0 {
+            self.add_sheet_row(line, s, at, &mut rows.up[ROWS - to]);
+            return;
+        }
+        rows.blacken(&self.sheet_row(line, s, at), from, to);
+    }
+
     /// Adds a line that stands `place` lines below the first to rows, the first of which is row `top`.
     fn draw_line(&self, line: Line<'_>, place: u32, top: u32, at: i64, rows: &mut Runs)
         requires cells { line.cells ≤ length (first (pieces line.text.now)) }
@@ -89,7 +115,7 @@ impl<A: Small> Block<'_, A> {
         while k < end {
             let s = source_row(top + k as u32 - above, self.h) as u32;
             let to = rows_above::<ROWS>(above + first_row(s + 1, self.h), top);
-            rows.blacken(&self.sheet_row(line, s, at), k, to);
+            self.add_run(line, s, at, k, to, rows);
             k = to;
         }
     }

@@ -16,9 +16,9 @@ pub struct Runs {
     /// The dots of each row alone.
     alone: [[u8; BYTES]; ROWS],
     /// Of each row those that all rows below it have too.
-    down: [[u8; BYTES]; ROWS],
+    pub down: [[u8; BYTES]; ROWS],
     /// Of each row, counted from the last, those that all rows above it have too.
-    up: [[u8; BYTES]; ROWS],
+    pub up: [[u8; BYTES]; ROWS],
 }
 
 /// Makes the dots of a row black where another is.
@@ -113,9 +113,9 @@ impl Runs {
     }
 
     /// The rows.
-    pub fn rows(mut self) -> [[u8; BYTES]; ROWS]
+    pub fn rows(&mut self) -> [[u8; BYTES]; ROWS]
         ensures { (k x : ℕ) → k < ROWS → x < 8 * BYTES → dot (slice_index_or result k []) x
-            ≡ run_dot self.alone self.down self.up ROWS k x }
+            ≡ run_dot self.old.alone self.old.down self.old.up ROWS k x }
     {
         pass_down(&mut self.down);
         pass_down(&mut self.up);

@@ -158,7 +158,7 @@ impl<A: Small> Sampled<'_, A> {
         }
         let place = sampled_place(y, 24, self.h);
         let word = row_at(rows_in(self.sheet, self.character), place as usize);
-        paint_scaled::<12>(op, at, word, left, self.w, row);
+        paint_scaled(op, at, word, left, self.w, row);
     }
 }
 

@@ -43,7 +43,7 @@ fn masks(width: u32) -> [u64; 12]
 {
     let mut masks = [0u64; 12];
     for s in 0..CELL {
-        masks[s as usize] = mask(edge::<12>(s, width), edge::<12>(s + 1, width));
+        masks[s as usize] = mask(edge(s, width), edge(s + 1, width));
     }
     masks
 }
@@ -126,7 +126,7 @@ fn scaled_front(word: u64, at: i64, left: u32, width: u32) -> u64
         && nat_lt (x - left) width && word_dot word ((x - left) * 12 / width)) d }
 {
     let mut bytes = [0u8; 8];
-    paint_scaled::<12>(Op::Black, at, word, left, width, &mut bytes);
+    paint_scaled(Op::Black, at, word, left, width, &mut bytes);
     word_of(&bytes)
 }
 
@@ -206,10 +206,12 @@ impl Stretch {
             && word_dot (slice_index cell.now s) ((x - left) * 12 / self.now.width)) d) }
     {
         let mut from = in_word(at, left);
-        for s in 0..CELL {
-            let to = in_word(at, left + edge::<12>(s + 1, self.width));
+        let mut s = 0;
+        while s < CELL && from < WORD {
+            let to = in_word(at, left + edge(s + 1, self.width));
             add_dot(cell, s, mask(from, to), rows);
             from = to;
+            s += 1;
         }
     }
 
@@ -238,7 +240,7 @@ impl Stretch {
             && word_dot word ((x - left) * 12 / self.now.width))) row.old row.new }
     {
         if self.width > WORD || at >= FAR {
-            paint_scaled::<12>(op, at, word, left, self.width, row);
+            paint_scaled(op, at, word, left, self.width, row);
             return;
         }
         paint_moved(op, self.of(word), moved(at, left), row);

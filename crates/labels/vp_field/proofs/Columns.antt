@@ -1,12 +1,15 @@
 -- Columns painted one after the other.
-use Rattle.std.proofs.Common.{inl, inr, ◌≡◌, ℕ, ◌+◌, ◌-◌, ◌<◌, ◌≤◌, Bool, false, ltb, ◌&&◌, refl, ap, sym, ◌∙◌, arith, List, [], get_or, ℤ, pos}
+use Rattle.std.proofs.Common.{inl, inr, ◌≡◌, ℕ, ◌+◌, ◌-◌, ◌*◌, ◌^◌, ◌<◌, ◌≤◌, Bool, false, eqb, ltb, ◌&&◌, refl, ap, sym, ◌∙◌, arith, List, [], get_or, ℤ, pos}
 use Rattle.std.proofs.lemmas.Bool.{cases_lt, lt-leb, lt-ltb, le-leb, le-ltb}
 use Rattle.std.proofs.lemmas.Bool.Decides.{nat_tests}
+use Rattle.std.proofs.lemmas.Nat.Bits.{bit_at-zero, bit_at_cat_low, bit_at_cat_high}
+use Rattle.std.specs.Int.{bit_at}
 use Rattle.vp_dots.specs.Blocks.{across_dot}
-use Rattle.vp_dots.specs.Dots.{dot, dots, span}
+use Rattle.vp_dots.specs.Dots.{bit, dot, dots, span}
 use Rattle.vp_dots.specs.Places.{RowsPainted, words_dot}
 use Rattle.vp_dots.specs.Words.{word_dot}
 use Rattle.vp_dots.specs.declared.Op.{Op}
+use Rattle.vp_glyph.specs.Halves.{half_dot}
 use Rattle.vp_dots.proofs.Heights.{rows_same, rows_then}
 use Rattle.vp_dots.proofs.Paints.{painted_none, painted_same}
 
@@ -107,3 +110,26 @@ columns_words op f x left words a b there e p = columns_within op f (λ d k. wor
             | inr o ↦ rw (le-leb x d g, le-ltb (d - x) 64 (omega arith), le-ltb d (x + 64) o) refl
           ]
         ])
+
+-- columns, and as many behind them
+pub columns_both : (op : Op) (f : ℕ → ℕ → Bool) (x n : ℕ) (a b c : List (List ℕ)) → RowsPainted 32 op (λ d k. span x (x + n) d && f d k) a b → RowsPainted 32 op (λ d k. span (x + n) (x + n + n) d && f d k) b c
+    → RowsPainted 32 op (λ d k. span x (x + 2 * n) d && f d k) a c
+columns_both op f x n a b c p q = rows_then 32 op _ _ _ _ _ _ (λ d k. grind (arith, nat_tests)) (λ d k. grind (arith, nat_tests)) p q
+
+pub white_half : (x : ℕ) → half_dot 0 x ≡ false
+unfolding bit
+white_half x = elim (cases_lt x 32) [
+  | inl l ↦ rw (lt-ltb x 32 l) (ap (λ b. eqb b 1) (bit_at-zero (31 - x)))
+  | inr g ↦ rw (le-ltb x 32 g) refl
+]
+
+-- the halves of a word
+pub left_half : (a b x : ℕ) → x < 32 → b < 2 ^ 32 → word_dot (a * 2 ^ 32 + b) x ≡ half_dot a x
+unfolding bit
+left_half a b x l h = rw (lt-ltb x 32 l, lt-ltb x 64 (omega arith)) (ap (λ n. eqb n 1) (bit_at_cat_high a 32 b (63 - x) h (omega arith) ∙ ap (bit_at a) (omega arith)))
+
+pub right_half : (a b x : ℕ) → x < 32 → word_dot (a * 2 ^ 32 + b) (32 + x) ≡ half_dot b x
+unfolding bit
+right_half a b x l =
+    let e : 63 - (32 + x) ≡ 31 - x = omega arith in
+    rw (lt-ltb x 32 l, lt-ltb (32 + x) 64 (omega arith), e) (ap (λ n. eqb n 1) (bit_at_cat_low a 32 b (31 - x) (omega arith)))

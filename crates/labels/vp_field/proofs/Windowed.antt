@@ -37,7 +37,7 @@ dots_along (Back at) n x v i l e = omega (arith, ints, e)
 pub white_across : (columns rows : Axis) (ink : ℕ → ℕ → Bool) (h top first : ℕ) (at : ℤ) → ((u v : ℕ) → ink u v ≡ true → v < h)
     → ((x v : ℕ) → x < 1248 → v < h → dot_on columns (pos x) ≡ pos v → top ≤ v) → ((x v : ℕ) → x < 1248 → v < h → dot_on columns (pos x) ≡ pos v → v < top + 1248)
     → ((line : ℕ → Bool) → ((d : ℕ) → d < 32 → shifted at line d ≡ false) → (k : ℕ) → k < 32 → at_place line (dot_on rows (pos (first + k))) ≡ false)
-    → ((i x : ℕ) → i < 1248 → x < 64 → top + i < h → shifted at (λ u. ink u (top + i)) x ≡ false)
+    → ((i x : ℕ) → i < 1248 → x < 32 → top + i < h → shifted at (λ u. ink u (top + i)) x ≡ false)
     → (x k : ℕ) → x < 1248 → k < 32 → laid Across columns rows ink (pos x) (pos (first + k)) ≡ false
 white_across columns rows ink h top first at inside from to seen white x k l m = false_from_ne_true (laid Across columns rows ink (pos x) (pos (first + k)))
     (λ e.

@@ -1,10 +1,11 @@
 //! Blocks of lines whose rows fall on columns: many of them drawn at once, and laid 64 by 64.
-ghost use Rattle.std.specs.Prelude.{◌≡◌, ℕ, ◌+◌, ◌<◌, ◌≤◌, ◌^◌, ◌&&◌, Bool, true, false, pos, slice_index, slice_index_or, [], MatchOption};
+ghost use Rattle.std.specs.Prelude.{◌≡◌, ℕ, ◌+◌, ◌*◌, ◌<◌, ◌≤◌, ◌^◌, ◌&&◌, Bool, true, false, pos, slice_index, slice_index_or, [], MatchOption};
 ghost use Rattle.vp_dots.specs.Dots.{dots, shifted, span};
 ghost use Rattle.vp_dots.specs.declared.square.TheConstants.{SIDE};
 ghost use Rattle.vp_dots.specs.Places.{RowsPainted};
 ghost use Rattle.vp_dots.specs.Words.{word_dot};
 ghost use Rattle.vp_glyph.specs.Blocks.{block_height, block_dot};
+ghost use Rattle.vp_glyph.specs.Halves.{half_dot};
 ghost use Rattle.vp_glyph.specs.Layouts.{layout_of};
 ghost use Rattle.vp_field.specs.Axes.{dot_on, laid, read_at, IsWithin};
 ghost use Rattle.vp_field.specs.Contents.{most_block_lines};
@@ -37,10 +38,10 @@ struct BlockColumns<'a, A: Small> {
     top: u32,
     /// The offset at which they were drawn.
     at: i64,
-    fronts: &'a [u64; COLUMNS],
-    ghost drawn: { (i x : ℕ) → i < COLUMNS → x < 64
+    fronts: &'a [u32; COLUMNS],
+    ghost drawn: { (i x : ℕ) → i < COLUMNS → x < 32
         → top + i < block_height block.now.h block.now.rows block.now.pitch
-        → word_dot (slice_index fronts.now i) x
+        → half_dot (slice_index fronts.now i) x
         ≡ shifted at (λ x. block_dot (layout_of block.now) block.now.text.now x (top + i)) x },
     ghost falls: { (line dots : ℕ → Bool) → ((d : ℕ) → d < 32 → dots d ≡ shifted at line d) → (p : ℕ)
         → p < 32 → at_place line (dot_on rows (pos (first + p))) ≡ dots (read_at rows 32 p) },
@@ -50,38 +51,71 @@ struct BlockColumns<'a, A: Small> {
         → dot_on columns (pos x) ≡ pos v → v < top + WIDEST },
 }
 
-/// M words from one on, read along an axis.
-fn words_along<const N: usize, const M: usize>(
-    words: &[u64; N],
-    from: usize,
-    axis: Axis,
-) -> [u64; M]
-    requires { from + M ≤ N }
-    ensures { (i : ℕ) → i < M → slice_index result i ≡ slice_index words.now (from + read_at axis M i) }
+/// Halves of words from one on, read along an axis.
+fn halves_along<const N: usize>(halves: &[u32; N], from: usize, axis: Axis) -> [u32; SIDE]
+    requires { from + SIDE ≤ N }
+    ensures { (i : ℕ) → i < SIDE
+        → slice_index result i ≡ slice_index halves.now (from + read_at axis SIDE i) }
 {
-    let mut along = [0u64; M];
-    for i in 0..M {
-        along[i] = words[from + axis.read_at(M, i)];
+    let mut along = [0u32; SIDE];
+    for i in 0..SIDE {
+        along[i] = halves[from + axis.read_at(SIDE, i)];
     }
     along
 }
 
-/// Whether all words are white.
-fn are_white<const N: usize>(words: &[u64; N]) -> bool
-    ensures { result ≡ true → (i x : ℕ) → i < N → word_dot (slice_index words.now i) x ≡ false }
+/// As many rows of a square as a band has, from one on, read along an axis.
+fn rows_along(square: &[u64; SIDE], from: usize, axis: Axis) -> [u64; BAND_ROWS]
+    requires { from + BAND_ROWS ≤ SIDE }
+    ensures { (k : ℕ) → k < BAND_ROWS
+        → slice_index result k ≡ slice_index square.now (from + read_at axis BAND_ROWS k) }
+{
+    let mut along = [0u64; BAND_ROWS];
+    for k in 0..BAND_ROWS {
+        along[k] = square[from + axis.read_at(BAND_ROWS, k)];
+    }
+    along
+}
+
+/// Whether all halves of words are white.
+fn are_white<const N: usize>(halves: &[u32; N]) -> bool
+    ensures { result ≡ true → (i x : ℕ) → i < N → half_dot (slice_index halves.now i) x ≡ false }
 {
     for i in 0..N {
-        if words[i] != 0 {
+        if halves[i] != 0 {
             return false;
         }
     }
     true
 }
 
+/// A word of two halves.
+#[inline(always)]
+fn of_halves(left: u32, right: u32) -> u64
+    ensures left { (x : ℕ) → x < 32 → word_dot result x ≡ half_dot left x }
+    ensures right { (x : ℕ) → x < 32 → word_dot result (32 + x) ≡ half_dot right x }
+{
+    u64::from(left) * 0x1_0000_0000 + u64::from(right)
+}
+
+/// A square of which each row has two halves.
+fn square_of(left: &[u32; SIDE], right: &[u32; SIDE]) -> [u64; SIDE]
+    ensures left { (i x : ℕ) → i < SIDE → x < 32
+        → word_dot (slice_index result i) x ≡ half_dot (slice_index left.now i) x }
+    ensures right { (i x : ℕ) → i < SIDE → x < 32
+        → word_dot (slice_index result i) (32 + x) ≡ half_dot (slice_index right.now i) x }
+{
+    let mut square = [0u64; SIDE];
+    for i in 0..SIDE {
+        square[i] = of_halves(left[i], right[i]);
+    }
+    square
+}
+
 impl<A: Small> BlockColumns<'_, A> {
     /// The row that falls on a column of the label, as it was drawn: white where none does.
-    fn column(&self, x: u64) -> u64
-        ensures { x < WIDEST → (k : ℕ) → k < BAND_ROWS → word_dot result (read_at self.now.rows 32 k)
+    fn column(&self, x: u64) -> u32
+        ensures { x < WIDEST → (k : ℕ) → k < BAND_ROWS → half_dot result (read_at self.now.rows 32 k)
             ≡ laid Across self.now.columns self.now.rows
             (λ u v. block_dot (layout_of self.now.block.now) self.now.block.now.text.now u v)
             (pos x) (pos (self.now.first + k)) }
@@ -118,38 +152,60 @@ impl<A: Small> BlockColumns<'_, A> {
     }
 
     /// The rows that fall on 64 columns of the label, the first of which is x.
-    fn square(&self, x: u64) -> [u64; SIDE]
+    fn columns(&self, x: u64) -> [u32; SIDE]
         requires { x < 2 ^ 32 }
         ensures { (i k : ℕ) → i < SIDE → x + i < WIDEST → k < BAND_ROWS
-            → word_dot (slice_index result i) (read_at self.now.rows 32 k) ≡ laid Across self.now.columns
+            → half_dot (slice_index result i) (read_at self.now.rows 32 k) ≡ laid Across self.now.columns
             self.now.rows (λ u v. block_dot (layout_of self.now.block.now) self.now.block.now.text.now u v)
             (pos (x + i)) (pos (self.now.first + k)) }
     {
         if let Some(place) = self.first_drawn(x) {
-            return words_along(self.fronts, place, self.columns);
+            return halves_along(self.fronts, place, self.columns);
         }
-        let mut square = [0u64; SIDE];
+        let mut columns = [0u32; SIDE];
         for i in 0..SIDE {
-            square[i] = self.column(x + i as u64);
+            columns[i] = self.column(x + i as u64);
         }
-        square
+        columns
     }
 
-    /// Paints 64 columns, the first of which is x.
-    fn paint_square(&self, op: Op, x: u64, band: &mut LabelBand<A>)
+    /// Paints 64 columns, the first of which is x: their rows are those of a square from one on.
+    fn paint_rows(&self, op: Op, square: &[u64; SIDE], from: usize, x: u64, band: &mut LabelBand<A>)
+        requires from { from + BAND_ROWS ≤ SIDE }
         requires x { x < 2 ^ 32 }
+        requires rows { (i k : ℕ) → i < SIDE → x + i < WIDEST → k < BAND_ROWS
+            → word_dot (slice_index square.now (from + read_at self.now.rows 32 k)) i
+            ≡ laid Across self.now.columns self.now.rows
+            (λ u v. block_dot (layout_of self.now.block.now) self.now.block.now.text.now u v)
+            (pos (x + i)) (pos (self.now.first + k)) }
         requires wide { (k : ℕ) → k < BAND_ROWS → dots (slice_index_or band.old k []) ≤ WIDEST }
         ensures { RowsPainted BAND_ROWS op (λ d k. span x (x + SIDE) d
             && laid Across self.now.columns self.now.rows
             (λ u v. block_dot (layout_of self.now.block.now) self.now.block.now.text.now u v) (pos d)
             (pos (self.now.first + k))) band.old band.new }
     {
-        let square = self.square(x);
-        if are_white(&square) {
+        let rows = rows_along(square, from, self.rows);
+        paint_words(op, &rows, BAND_ROWS, x as i64, 0, band);
+    }
+
+    /// Paints 128 columns, the first of which is x: they are turned at once, 64 of them in each half of a
+    /// square.
+    fn paint_square(&self, op: Op, x: u64, band: &mut LabelBand<A>)
+        requires x { x < 2 ^ 31 }
+        requires wide { (k : ℕ) → k < BAND_ROWS → dots (slice_index_or band.old k []) ≤ WIDEST }
+        ensures { RowsPainted BAND_ROWS op (λ d k. span x (x + 2 * SIDE) d
+            && laid Across self.now.columns self.now.rows
+            (λ u v. block_dot (layout_of self.now.block.now) self.now.block.now.text.now u v) (pos d)
+            (pos (self.now.first + k))) band.old band.new }
+    {
+        let left = self.columns(x);
+        let right = self.columns(x + SIDE as u64);
+        if are_white(&left) && are_white(&right) {
             return;
         }
-        let rows = words_along::<SIDE, BAND_ROWS>(&turned_square(&square), 0, self.rows);
-        paint_words(op, &rows, BAND_ROWS, x as i64, 0, band);
+        let square = turned_square(&square_of(&left, &right));
+        self.paint_rows(op, &square, 0, x, band);
+        self.paint_rows(op, &square, BAND_ROWS, x + SIDE as u64, band);
     }
 
     /// Paints the columns: how many were laid.
@@ -167,8 +223,8 @@ impl<A: Small> BlockColumns<'_, A> {
         let mut x = from;
         while x < end {
             self.paint_square(op, x, band);
-            laid += (end - x).min(SIDE as u64);
-            x += SIDE as u64;
+            laid += (end - x).min(2 * SIDE as u64);
+            x += 2 * SIDE as u64;
         }
         laid
     }
@@ -195,7 +251,8 @@ pub fn paint_block_across<A: Small>(
     let (_, height) = block.size();
     let top = lying.first_line(height, first);
     let at = drawn_at(lying.rows, first, 4);
-    let fronts = block.fronts::<COLUMNS>(top, at);
+    let mut fronts = [0u32; COLUMNS];
+    block.draw_fronts(top, at, &mut fronts);
     if are_white(&fronts) {
         row_lengths(band);
         return u64::from(WIDEST);

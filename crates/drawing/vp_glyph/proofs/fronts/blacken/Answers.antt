@@ -6,9 +6,9 @@ use Rattle.vp_glyph.proofs.fronts.blacken.Goals as goal
 
 pub loop-i-preserved : goal.loop-i-preserved
 loop-i-preserved g c = record {
-  count = length-set c.loop-i.words c.loop-i.i _ ∙ c.loop-i.invariant.count;
+  count = length-set c.loop-i.halves c.loop-i.i _ ∙ c.loop-i.invariant.count;
   after = omega arith;
-  blackened = blackened_more c.args.ink c.args.from c.loop-i.i c.args.words.now c.loop-i.words c.loop-i.invariant.after (omega (arith, c.loop-i.invariant.count)) c.loop-i.invariant.blackened;
+  blackened = blackened_more c.args.ink c.args.from c.loop-i.i c.args.halves.now c.loop-i.halves c.loop-i.invariant.after (omega (arith, c.loop-i.invariant.count)) c.loop-i.invariant.blackened;
 }
 
 pub returns-clause-outside : goal.returns-clause-outside

@@ -1,4 +1,4 @@
-use Rattle.std.proofs.Common.{◌≡◌, ◌+◌, ◌-◌, min}
+use Rattle.std.proofs.Common.{◌≡◌, ◌+◌, ◌-◌, ◌≤◌, min}
 use Rattle.vp_glyph.proofs.Spread.{edge_at}
 use Rattle.vp_glyph.proofs.Gathered.{Added}
 use Rattle.vp_glyph.proofs.fronts.spread.Given as goal
@@ -6,6 +6,10 @@ use Rattle.vp_glyph.proofs.fronts.spread.Given as goal
 -- the rows before s are added, and row s begins at `from`
 abbrev pub invariant-loop-s : goal.invariant-loop-s
 invariant-loop-s g l = record {
+  within : l.s ≤ 24;
   added : Added l.rows l.above l.high g.row.N l.top l.s l.fn.fronts l.fronts;
   from : l.from ≡ min (l.above + edge_at 24 l.high l.s - l.top) g.row.N;
 }
+
+abbrev pub decreases-loop-s : goal.decreases-loop-s
+decreases-loop-s g l = 24 - l.s

@@ -1,4 +1,6 @@
-use Rattle.std.proofs.Common.{arith, length, ◌≡◌, ◌∙◌, ap, ◌||◌, get_or, sym, w64}
+use Rattle.std.proofs.Common.{ℕ, arith, length, ◌≡◌, ◌∙◌, ◌+◌, ◌*◌, ◌/◌, ◌<◌, ◌≤◌, ap, ◌||◌, get_or, inl, inr, refl, sym, w64}
+use Rattle.std.proofs.Math.Nat.{div-lt_iff_lt-mul, mul-le-mul_left}
+use Rattle.std.proofs.lemmas.Bool.{cases_lt}
 use Rattle.std.proofs.lemmas.Int.{to_z-of_z}
 use Rattle.vp_dots.specs.Words.{word_dot}
 use Rattle.vp_dots.specs.declared.Op.TheVariants.{Black}
@@ -8,28 +10,53 @@ use Rattle.vp_glyph.proofs.Sides.{dot_none, dot_more, dots_all}
 use Rattle.vp_glyph.proofs.Joining.{cell_row}
 use Rattle.vp_glyph.proofs.joined.add_cells.Goals as goal
 
-pub loop-i-init : goal.loop-i-init
-loop-i-init g c = record {
-  behind = record { first_is = c.behind_cells-rest.ensures.first; others_are = c.behind_cells-rest.ensures.others; within = omega (arith, c.seen-from.ensures.first) };
-  place_is = omega arith;
-  added = λ s x l m. dot_none Black _ c.args.sheet.now _ c.args.line.cells c.args.stretch.now.width 24 c.args.left s c.requires.cells c.requires.w c.seen-from.result.0 c.seen-from.ensures.before _ x;
-}
+-- a cell that begins before the line's end
+begun : (w k cells to : ℕ) → w * k < to → to ≤ w * cells → k < cells
+begun w k cells to l m = elim (cases_lt k cells) [ inl y ↦ y | inr g ↦ absurd (let o : w * cells ≤ w * k = mul-le-mul_left w g in omega arith) ]
+
+pub loop-k-init : goal.loop-k-init
+loop-k-init g c =
+    let w = c.args.stretch.now.width in
+    let from = c.seen_dots-from.result.0 in
+    let below : from / w < c.args.line.cells + 1 = (div-lt_iff_lt-mul {k = w} {x = from} {y = c.args.line.cells + 1} c.requires.w).1 (omega (arith, c.seen_dots-from.ensures.first)) in
+    let whole : w * c.whole_cells-k.result ≡ w * (from / w) = ap (λ n. w * n) c.whole_cells-k.ensures in
+    record {
+      within = omega (arith, c.whole_cells-k.ensures);
+      behind = record { first_is = c.behind_cells-rest.ensures.first; others_are = c.behind_cells-rest.ensures.others; within = omega (arith, c.whole_cells-k.ensures) };
+      added = λ s x l m. dot_none Black _ c.args.sheet.now _ c.args.line.cells w 24 c.args.left s c.requires.cells c.requires.w c.whole_cells-k.result (λ v e i n o. c.seen_dots-from.ensures.before v e i (omega arith) o) _ x;
+    }
+
+pub add_rows-requires : goal.add_rows-requires
+add_rows-requires g c =
+    let w = c.args.stretch.now.width in
+    let more = begun w c.loop-k.k c.args.line.cells c.seen_dots-from.result.1 (omega arith) (omega (arith, c.seen_dots-from.ensures.last)) in
+    let room : w * (c.loop-k.k + 1) ≤ w * c.args.line.cells = mul-le-mul_left w (let l : c.loop-k.k + 1 ≤ c.args.line.cells = omega (arith, more) in l) in
+    record { fits = omega (arith, room, c.requires.fits) }
 
 pub unreachable-requires : goal.unreachable-requires
 unreachable-requires g c =
-    let all : length (first (pieces c.args.line.text.now)) ≡ c.loop-i._i = behind_all c.loop-i._i _ _ c.loop-i.invariant.behind c.in_default.ensures in
-    omega (arith, c.seen-from.ensures.last)
+    let all : length (first (pieces c.args.line.text.now)) ≡ c.loop-k.k = behind_all c.loop-k.k _ _ c.loop-k.invariant.behind c.in_default.ensures in
+    let more = begun c.args.stretch.now.width c.loop-k.k c.args.line.cells c.seen_dots-from.result.1 (omega arith) (omega (arith, c.seen_dots-from.ensures.last)) in
+    omega (arith, c.requires.cells, more, all)
 
-pub loop-i-preserved : goal.loop-i-preserved
-loop-i-preserved g c = record {
-  behind = behind_more c.loop-i._i _ _ _ _ c.loop-i.invariant.behind c.in-Some.ensures;
-  place_is = omega arith;
-  added = λ s x l m. dot_more Black _ c.args.sheet.now _ c.args.line.cells c.args.stretch.now.width 24 c.args.left s c.requires.cells c.requires.w c.loop-i._i c.in-Some.character c.loop-i.place (omega (arith, c.seen-from.ensures.last))
-      (cell_is c.loop-i._i _ _ _ _ c.loop-i.invariant.behind c.in-Some.ensures) c.loop-i.invariant.place_is _ _ _ x (c.loop-i.invariant.added s x l m)
-      (c.add_rows.ensures s x l m ∙ ap (λ t. word_dot (get_or c.loop-i.rows s 0) x || t) (cell_row c.args.sheet.now c.in-Some.character c.args.stretch.now.width c.loop-i.place s _ x _ l (λ u. c.rows_in.ensures u s)));
-}
+pub loop-k-preserved : goal.loop-k-preserved
+loop-k-preserved g c =
+    let w = c.args.stretch.now.width in
+    let more = begun w c.loop-k.k c.args.line.cells c.seen_dots-from.result.1 (omega arith) (omega (arith, c.seen_dots-from.ensures.last)) in
+    record {
+      within = omega (arith, more);
+      behind = behind_more c.loop-k.k _ _ _ _ c.loop-k.invariant.behind c.in-Some.ensures;
+      added = λ s x l m. dot_more Black _ c.args.sheet.now _ c.args.line.cells w 24 c.args.left s c.requires.cells c.requires.w c.loop-k.k c.in-Some.character (c.args.left + w * c.loop-k.k) more
+          (cell_is c.loop-k.k _ _ _ _ c.loop-k.invariant.behind c.in-Some.ensures) refl _ _ _ x (c.loop-k.invariant.added s x l m)
+          (c.add_rows.ensures s x l (omega arith) ∙ ap (λ t. word_dot (get_or c.loop-k.rows s 0) x || t) (cell_row c.args.sheet.now c.in-Some.character w (c.args.left + w * c.loop-k.k) s _ x _ l (λ u. c.rows_in.ensures u s)));
+    }
+
+pub loop-k-smaller : goal.loop-k-smaller
+loop-k-smaller g c =
+    let more = begun c.args.stretch.now.width c.loop-k.k c.args.line.cells c.seen_dots-from.result.1 (omega arith) (omega (arith, c.seen_dots-from.ensures.last)) in
+    omega (arith, more)
 
 pub returns : goal.returns
 returns g c = rw (sym (to_z-of_z w64 c.args.at c.ranges.at))
-    (λ s x l m. c.loop-i.invariant.added s x l m ∙ ap (λ t. word_dot (get_or c.args.rows.now s 0) x || t)
-    (dots_all Black _ c.args.sheet.now _ c.args.line.cells c.args.stretch.now.width 24 c.args.left s c.requires.cells c.requires.w c.loop-i._i c.seen-from.result.1 8 x (omega arith) c.seen-from.ensures.behind (omega arith)))
+    (λ s x l m. c.loop-k.invariant.added s x l m ∙ ap (λ t. word_dot (get_or c.args.rows.now s 0) x || t)
+    (dots_all Black _ c.args.sheet.now _ c.args.line.cells c.args.stretch.now.width 24 c.args.left s c.requires.cells c.requires.w c.loop-k.k c.loop-k.k 4 x (omega arith) (λ v d i n o. c.seen_dots-from.ensures.behind v d (omega arith) n o) (omega arith)))

@@ -1,7 +1,7 @@
 use Rattle.std.proofs.Common.{◌∙◌, ap, arith, inl, inr}
 use Rattle.std.proofs.lemmas.Bool.{cases_eq}
-use Rattle.vp_dots.specs.Words.{word_dot}
-use Rattle.vp_glyph.proofs.Looks.{white_dot}
+use Rattle.vp_glyph.specs.Halves.{half_dot}
+use Rattle.vp_field.proofs.Columns.{white_half}
 use Rattle.vp_field.proofs.block_columns.are_white.Goals as goal
 
 pub loop-i-preserved : goal.loop-i-preserved
@@ -11,4 +11,4 @@ loop-i-preserved g c = λ j l. elim (cases_eq j c.loop-i.i) [
 ]
 
 pub returns : goal.returns
-returns g c = λ e i x l. ap (λ v. word_dot v x) (c.loop-i.invariant i (omega arith)) ∙ white_dot x
+returns g c = λ e i x l. ap (λ v. half_dot v x) (c.loop-i.invariant i (omega arith)) ∙ white_half x

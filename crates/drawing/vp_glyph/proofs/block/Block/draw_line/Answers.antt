@@ -1,8 +1,9 @@
-use Rattle.std.proofs.Common.{take, ◌+◌, ◌-◌, ◌*◌, ◌∙◌, min, ap, arith, sym, w64}
+use Rattle.std.proofs.Common.{refl, take, ◌+◌, ◌-◌, ◌*◌, ◌∙◌, min, ap, arith, sym, w64, to_z, of_z}
 use Rattle.std.proofs.lemmas.Int.{to_z-of_z}
 use Rattle.vp_glyph.specs.Blocks.{pieces, first, line_dot}
-use Rattle.vp_dots.specs.Dots.{dot}
+use Rattle.vp_dots.specs.Dots.{shifted}
 use Rattle.vp_glyph.specs.Layouts.{layout_of, sheet_rows}
+use Rattle.vp_glyph.proofs.Gathered.{row_alike}
 use Rattle.vp_glyph.proofs.Joining.{line_rows}
 use Rattle.vp_glyph.proofs.Sheeted.{rows_more, shown_none, shown_more, shown_all}
 use Rattle.vp_glyph.proofs.block.Block.draw_line.Goals as goal
@@ -28,17 +29,18 @@ loop-k-preserved g c =
     record {
       begun = omega (arith, begun, more);
       shown = shown_more 32 160 c.args.top (c.args.place * b.pitch) b.h _ (λ v y. line_dot (layout_of b) c.args.place line v y) (λ v y. line_dot (sheet_rows (layout_of b)) 0 line v y)
-          (λ v y. line_rows b.sheet.now b.w b.h b.wide b.rows b.pitch b.alignment c.args.place line v y) c.loop-k.k _ _ _ _ _ (dot c.sheet_row.result) c.loop-k.invariant.shown (omega (arith, begun, end)) (omega (arith, begun, end)) c.source_row-s.ensures to c.blacken.ensures c.sheet_row.ensures;
+          (λ v y. line_rows b.sheet.now b.w b.h b.wide b.rows b.pitch b.alignment c.args.place line v y) c.loop-k.k _ _ _ _ _ (shifted (to_z w64 (of_z w64 c.args.at)) (λ v. line_dot (sheet_rows (layout_of b)) 0 line v c.source_row-s.result)) c.loop-k.invariant.shown (omega (arith, begun, end)) (omega (arith, begun, end)) c.source_row-s.ensures to c.add_run.ensures (λ x l. refl);
     }
 
-pub blacken-requires : goal.blacken-requires
-blacken-requires g c =
+pub add_run-requires : goal.add_run-requires
+add_run-requires g c =
     let b = c.args.self.now in
     let begun = c.loop-k.invariant.begun in
     let end = c.rows_above-end.ensures in
     let to = c.rows_above-to.ensures ∙ ap (λ e. min (c.args.place * b.pitch + e - c.args.top) 32) c.first_row.ensures.row in
+    let u = row_alike b.h (c.args.top + c.loop-k.k - c.args.place * b.pitch) (omega (arith, begun, end)) in
     let more = rows_more 32 c.args.top (c.args.place * b.pitch) b.h c.loop-k.k _ _ (omega (arith, end)) (omega (arith, begun, end)) (omega (arith, begun, end)) c.source_row-s.ensures to in
-    record { some = more; to = omega (arith, to) }
+    record { cells = c.requires.cells; most = c.requires.most; s = (let few = u.0 in omega (arith, few, c.source_row-s.ensures)); some = more; to = omega (arith, to) }
 
 pub loop-k-smaller : goal.loop-k-smaller
 loop-k-smaller g c =

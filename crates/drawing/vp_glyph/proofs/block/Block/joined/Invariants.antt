@@ -8,7 +8,7 @@ use Rattle.vp_glyph.proofs.block.Block.joined.Given as goal
 
 -- the lines so far are in the words
 abbrev pub invariant-loop-left : goal.invariant-loop-left
-invariant-loop-left g l = (s x : ℕ) → s < 24 → x < 64 → shifted l.fn.at (λ x. lines_dot (sheet_rows (layout_of l.self)) 0 (block_lines l.most l.fn.text) x s) x
+invariant-loop-left g l = (s x : ℕ) → s < 24 → x < 32 → shifted l.fn.at (λ x. lines_dot (sheet_rows (layout_of l.self)) 0 (block_lines l.most l.fn.text) x s) x
     ≡ (word_dot (get_or l.rows s 0) x || shifted l.fn.at (λ x. lines_dot (sheet_rows (layout_of l.self)) 0 (lines_left l.most l.left) x s) x)
 
 -- how many lines are left

@@ -25,7 +25,7 @@ loop-x-preserved g c =
     let b = s.block.now in
     let shown = λ (x k : ℕ). laid Across s.columns s.rows (λ u v. block_dot (layout_of b) b.text.now u v) (pos x) (pos (s.first + k)) in
     record {
-      painted = columns_more c.args.op shown c.loop-x.x 64 _ _ _ c.loop-x.invariant.painted c.paint_square.ensures;
+      painted = columns_more c.args.op shown c.loop-x.x 128 _ _ _ c.loop-x.invariant.painted c.paint_square.ensures;
       laid = omega (arith, c.loop-x.invariant.laid, c.min-laid.ensures);
     }
 

@@ -1,17 +1,17 @@
 use Rattle.std.proofs.Common.{inl, inr, ◌≡◌, ℕ, ◌+◌, sym, ap, ◌∙◌, arith, length, length-set, get_or, get_or-set_same, get_or-set_other, pos}
 use Rattle.std.proofs.lemmas.Bool.{cases_eq}
-use Rattle.vp_dots.specs.Words.{word_dot}
 use Rattle.vp_glyph.specs.Blocks.{block_dot}
+use Rattle.vp_glyph.specs.Halves.{half_dot}
 use Rattle.vp_glyph.specs.Layouts.{layout_of}
 use Rattle.vp_field.specs.Axes.{dot_on, read_at}
 use Rattle.vp_field.specs.Places.{at_place}
 use Rattle.vp_field.proofs.Windowed.{read_within}
-use Rattle.vp_field.proofs.block_columns.BlockColumns.square.Goals as goal
+use Rattle.vp_field.proofs.block_columns.BlockColumns.columns.Goals as goal
 
 pub loop-i-preserved : goal.loop-i-preserved
 loop-i-preserved g c =
     let n = c.loop-i.i in
-    let sq = c.loop-i.square in
+    let sq = c.loop-i.columns in
     let room : length sq ≡ 64 = c.loop-i.invariant.count in
     record {
       count = length-set sq n _ ∙ room;
@@ -30,6 +30,6 @@ returns-in-Some g c = λ i k l m h.
     let place = c.in-Some.place + read_at s.columns 64 i in
     let found = c.in-Some.ensures in
     let near = read_within s.columns 64 i l in
-    ap (λ w. word_dot w (read_at s.rows 32 k)) (c.words_along.ensures i l)
-    ∙ sym (s.falls (λ u. ink u (s.top + place)) (word_dot (get_or s.fronts.now place 0)) (λ d o. s.drawn place d (omega (arith, found.0, near)) (omega arith) (found.1 i l).0) k h)
+    ap (λ w. half_dot w (read_at s.rows 32 k)) (c.halves_along.ensures i l)
+    ∙ sym (s.falls (λ u. ink u (s.top + place)) (half_dot (get_or s.fronts.now place 0)) (λ d o. s.drawn place d (omega (arith, found.0, near)) (omega arith) (found.1 i l).0) k h)
     ∙ sym (ap (at_place line) (found.1 i l).1)
