@@ -1,5 +1,5 @@
 -- Fields, and what they do to a label.
-use Rattle.std.specs.Prelude.{ℕ, ℤ, Bool, List, [], Option, None, Some, slice_index_or}
+use Rattle.std.specs.Prelude.{◌≡◌, ℕ, ℤ, Bool, List, [], Option, None, Some, slice_index_or}
 use Rattle.vp_glyph.specs.Sheets.{Sheets}
 use Rattle.vp_format.specs.Cursors.{marked_row, IsMark}
 use Rattle.vp_format.specs.declared.field.Content.{Content}
@@ -10,6 +10,7 @@ use Rattle.vp_field.specs.declared.marks.Marks.{Marks}
 use Rattle.vp_field.specs.Contents.{content_width, content_height, content_dot, orientation_of, picture_of, IsStored}
 use Rattle.vp_field.specs.Standing.{standing, IsNear}
 use Rattle.vp_field.specs.Strokes.{Stroke}
+use Rattle.vp_field.specs.Turning.{turned_height}
 
 -- the ink of a field on its label, where it shows stored bytes
 abbrev pub field_ink : Sheets → List ℕ → Field → ℤ → ℤ → Bool
@@ -17,10 +18,18 @@ field_ink sheets stored f =
     standing f.left f.top (orientation_of f.orientation f.content) (content_width sheets stored f.content)
     (content_height sheets stored f.content) (content_dot sheets stored f.content)
 
--- a field as a format keeps it: it stands near its label, and what it shows is stored
+-- how many rows the box of a field has, turned, whatever its width
+abbrev pub box_rows : Sheets → List ℕ → Field → ℕ
+box_rows sheets stored f =
+    turned_height (orientation_of f.orientation f.content) (content_width sheets stored f.content)
+    (content_height sheets stored f.content)
+
+-- a field as a format keeps it: it stands near its label, what it shows is stored, and its rows are those of
+-- its box, whatever sheets its text is drawn from
 pub record IsKept (stored : List ℕ) (f : Field) : Type 0 where
   pub near : IsNear f.left f.top
   pub content : IsStored stored f.content
+  pub rows : (sheets : Sheets) → f.rows ≡ box_rows sheets stored f
 
 abbrev pub stroke_of : Sheets → List ℕ → Field → Stroke
 stroke_of sheets stored f = record { op = f.op; ink = field_ink sheets stored f }
