@@ -3,11 +3,14 @@ use Rattle.std.specs.Prelude.{◌≡◌, ℕ, ℤ, Bool, List, [], Option, None,
 use Rattle.vp_glyph.specs.Sheets.{Sheets}
 use Rattle.vp_format.specs.Cursors.{marked_row, IsMark}
 use Rattle.vp_format.specs.declared.field.Content.{Content}
-use Rattle.vp_format.specs.declared.field.Content.TheVariants.{Picture}
+use Rattle.vp_format.specs.declared.field.Content.TheVariants.{Picture, Qr}
+use Rattle.vp_format.specs.declared.field.QrSymbol.{QrSymbol}
+use Rattle.vp_qr.specs.Inks.{ScaledSymbol, side, ink_of}
 use Rattle.vp_format.specs.declared.field.Field.{Field}
 use Rattle.vp_format.specs.declared.rows.RunMark.{RunMark}
 use Rattle.vp_field.specs.declared.marks.Marks.{Marks}
-use Rattle.vp_field.specs.Contents.{content_width, content_height, content_dot, orientation_of, picture_of, IsStored}
+use Rattle.vp_field.specs.declared.marks.Marks.TheVariants.{Places, Symbol}
+use Rattle.vp_field.specs.Contents.{bytes_of, qr_side, qr_dot, content_width, content_height, content_dot, orientation_of, picture_of, IsStored}
 use Rattle.vp_field.specs.Standing.{standing, IsNear}
 use Rattle.vp_field.specs.Strokes.{Stroke}
 use Rattle.vp_field.specs.Turning.{turned_height}
@@ -46,8 +49,19 @@ row_at None = 0
 row_at (Some mark) = marked_row mark
 
 -- each of several marks was made in it
+abbrev pub ArePlacesOf : List ℕ → Content → List (Option RunMark) → Type 0
+ArePlacesOf stored c places = (k : ℕ) → IsMarkOf stored c (slice_index_or places k None)
+
+-- a symbol that is drawn is that of the data
+pub record IsDrawn (stored : List ℕ) (q : QrSymbol) (s : ScaledSymbol) : Type 0 where
+  pub side : side s ≡ qr_side q.level q.mode (bytes_of stored q.bytes) q.module
+  pub ink : (x y : ℕ) → ink_of s x y ≡ qr_dot q.level q.mode (bytes_of stored q.bytes) q.module x y
+
+-- what is left of a content: marks that were made in its picture, or its symbol
 abbrev pub AreMarksOf : List ℕ → Content → Marks → Type 0
-AreMarksOf stored c marks = (k : ℕ) → IsMarkOf stored c (slice_index_or marks.places k None)
+AreMarksOf stored c (Places places) = ArePlacesOf stored c places
+AreMarksOf stored (Qr q) (Symbol left) = IsDrawn stored q left.ink
+AreMarksOf stored _ (Symbol left) = Unit {0}
 
 abbrev pub no_marks : Marks
-no_marks = record { places = [] }
+no_marks = Places []

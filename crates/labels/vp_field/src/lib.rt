@@ -11,7 +11,7 @@
 //! - `frame`, `text`, `lines`, `picture`: boxes, texts, blocks of lines and pictures.
 //! - `block_columns`, `block_band`: blocks of lines, many of whose rows are drawn at once: those that fall on
 //!   columns, and those of lines that meet.
-//! - `marks`: the marks of a picture that earlier bands left.
+//! - `marks`: what earlier bands left of a field: the marks of a picture, or a QR symbol as it was drawn.
 //! - `content`, `sized`, `field`: what fields show, with their sizes, and how they are painted.
 //! - `view`: how a label is put out.
 //! - `axis`, `laid`: which way the lines of an ink run on the label as it is put out, and where they begin.

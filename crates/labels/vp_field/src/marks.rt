@@ -1,26 +1,47 @@
-//! The marks of a picture that earlier bands left, from which a later one goes on.
+//! What earlier bands left of a field, from which a later one goes on.
 ghost use Rattle.std.specs.Prelude.{ℕ, ◌<◌, ◌≤◌, List, Some};
 ghost use Rattle.vp_format.specs.declared.field.Content.{Content};
-ghost use Rattle.vp_field.specs.Fields.{row_at, IsMarkOf, AreMarksOf};
+ghost use Rattle.vp_field.specs.Fields.{row_at, ArePlacesOf, IsMarkOf, AreMarksOf};
 
 use vp_format::RunMark;
+use vp_qr::QrInk;
 
 /// The most marks that are left on the way to a band.
 pub const ON_WAY: usize = 8;
 
-/// Marks of one picture, each in a place of its own: those on the way to a band, in their order, and then the
-/// one behind the rows that fell on it.
+/// A QR symbol as it was drawn.
 #[derive(Clone, Copy)]
-pub struct Marks {
-    places: [Option<RunMark>; 9],
+pub struct DrawnSymbol {
+    pub ink: QrInk,
+}
+
+/// What is left of one field.
+#[derive(Clone, Copy)]
+pub enum Marks {
+    /// Marks of a picture, each in a place of its own: those on the way to a band, in their order, and then
+    /// the one behind the rows that fell on it.
+    Places([Option<RunMark>; 9]),
+    /// A QR symbol as it was drawn.
+    Symbol(DrawnSymbol),
 }
 
 impl Marks {
-    /// No marks.
+    /// Nothing.
     pub fn none() -> Marks
         ensures { (stored : List ℕ) (c : Content) → AreMarksOf stored c result }
     {
-        Marks { places: [None; 9] }
+        Marks::Places([None; 9])
+    }
+
+    /// All places of marks, where no symbol is left.
+    fn places(&self) -> [Option<RunMark>; 9]
+        ensures { (stored : List ℕ) (c : Content) → AreMarksOf stored c self.now →
+            ArePlacesOf stored c result }
+    {
+        match *self {
+            Marks::Places(places) => places,
+            Marks::Symbol(_) => [None; 9],
+        }
     }
 
     /// The last mark that doesn't lie behind a row, if there is one, and the place behind its own.
@@ -29,10 +50,13 @@ impl Marks {
         ensures mark { (stored : List ℕ) (c : Content) → AreMarksOf stored c self.now →
             IsMarkOf stored c result.1 }
     {
-        let mut k = self.places.len();
+        let Marks::Places(places) = self else {
+            return (0, None);
+        };
+        let mut k = places.len();
         while k > 0 {
             k -= 1;
-            if let Some(mark) = self.places[k] {
+            if let Some(mark) = places[k] {
                 if mark.row() <= row {
                     return (k + 1, Some(mark));
                 }
@@ -47,6 +71,8 @@ impl Marks {
         ensures { (stored : List ℕ) (c : Content) → AreMarksOf stored c self.old →
             IsMarkOf stored c (Some mark) → AreMarksOf stored c self.new }
     {
-        self.places[place] = Some(mark);
+        let mut places = self.places();
+        places[place] = Some(mark);
+        *self = Marks::Places(places);
     }
 }

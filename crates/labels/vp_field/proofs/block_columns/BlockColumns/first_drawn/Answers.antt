@@ -1,4 +1,4 @@
-use Rattle.std.proofs.Common.{◌≡◌, ℕ, ◌+◌, ◌<◌, false, sym, ap, ◌∙◌, arith, pos}
+use Rattle.std.proofs.Common.{◌≡◌, ◌+◌, false, sym, ap, ◌∙◌, arith, pos}
 use Rattle.std.specs.Prelude.{unwrap_or, option_map}
 use Rattle.vp_field.specs.Axes.{dot_on, read_at}
 use Rattle.vp_field.proofs.Places.{on_dot}
