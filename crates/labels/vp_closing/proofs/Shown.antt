@@ -5,7 +5,6 @@ use Rattle.vp_bars.specs.Symbols.{Linear}
 use Rattle.vp_bars.specs.Symbologies.{symbol_of}
 use Rattle.vp_glyph.specs.Sheets.{Sheets}
 use Rattle.vp_zpl.specs.declared.item.Orientation.{Orientation}
-use Rattle.vp_format.specs.declared.field.BarSymbol.{BarSymbol}
 use Rattle.vp_format.specs.declared.field.Content.{Content}
 use Rattle.vp_format.specs.declared.field.Content.TheVariants.{Text, Block, Box, Picture, Bars, Qr}
 use Rattle.vp_field.specs.Contents.{bytes_of, bars_width, bars_height, content_width, content_height, orientation_of}

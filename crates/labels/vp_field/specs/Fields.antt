@@ -1,5 +1,5 @@
 -- Fields, and what they do to a label.
-use Rattle.std.specs.Prelude.{◌≡◌, ℕ, ℤ, Bool, List, [], Option, None, Some, slice_index_or}
+use Rattle.std.specs.Prelude.{◌≡◌, ℕ, ℤ, Bool, List, Option, None, Some, slice_index_or}
 use Rattle.vp_glyph.specs.Sheets.{Sheets}
 use Rattle.vp_format.specs.Cursors.{marked_row, IsMark}
 use Rattle.vp_format.specs.declared.field.Content.{Content}
@@ -9,7 +9,8 @@ use Rattle.vp_qr.specs.Inks.{ScaledSymbol, side, ink_of}
 use Rattle.vp_format.specs.declared.field.Field.{Field}
 use Rattle.vp_format.specs.declared.rows.RunMark.{RunMark}
 use Rattle.vp_field.specs.declared.marks.Marks.{Marks}
-use Rattle.vp_field.specs.declared.marks.Marks.TheVariants.{Places, Symbol}
+use Rattle.vp_field.specs.declared.marks.Marks.TheVariants.{Nothing, Picture as Left, Symbol}
+use Rattle.vp_field.specs.declared.marks.Places.{Places}
 use Rattle.vp_field.specs.Contents.{bytes_of, qr_side, qr_dot, content_width, content_height, content_dot, orientation_of, picture_of, IsStored}
 use Rattle.vp_field.specs.Standing.{standing, IsNear}
 use Rattle.vp_field.specs.Strokes.{Stroke}
@@ -49,8 +50,9 @@ row_at None = 0
 row_at (Some mark) = marked_row mark
 
 -- each of several marks was made in it
-abbrev pub ArePlacesOf : List ℕ → Content → List (Option RunMark) → Type 0
-ArePlacesOf stored c places = (k : ℕ) → IsMarkOf stored c (slice_index_or places k None)
+pub record ArePlacesOf (stored : List ℕ) (c : Content) (places : Places) : Type 0 where
+  pub on_way : (k : ℕ) → IsMarkOf stored c (slice_index_or places.on_way k None)
+  pub behind : IsMarkOf stored c (Some places.behind)
 
 -- a symbol that is drawn is that of the data
 pub record IsDrawn (stored : List ℕ) (q : QrSymbol) (s : ScaledSymbol) : Type 0 where
@@ -59,9 +61,10 @@ pub record IsDrawn (stored : List ℕ) (q : QrSymbol) (s : ScaledSymbol) : Type 
 
 -- what is left of a content: marks that were made in its picture, or its symbol
 abbrev pub AreMarksOf : List ℕ → Content → Marks → Type 0
-AreMarksOf stored c (Places places) = ArePlacesOf stored c places
+AreMarksOf stored c Nothing = Unit {0}
+AreMarksOf stored c (Left places) = ArePlacesOf stored c places
 AreMarksOf stored (Qr q) (Symbol left) = IsDrawn stored q left.ink
 AreMarksOf stored _ (Symbol left) = Unit {0}
 
 abbrev pub no_marks : Marks
-no_marks = Places []
+no_marks = Nothing

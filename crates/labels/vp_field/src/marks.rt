@@ -9,6 +9,14 @@ use vp_qr::QrInk;
 /// The most marks that are left on the way to a band.
 pub const ON_WAY: usize = 8;
 
+/// Marks of one picture: those on the way to a band, in their order, and the one behind the rows that fell on
+/// it.
+#[derive(Clone, Copy)]
+pub struct Places {
+    on_way: [Option<RunMark>; 8],
+    behind: RunMark,
+}
+
 /// A QR symbol as it was drawn.
 #[derive(Clone, Copy)]
 pub struct DrawnSymbol {
@@ -18,45 +26,25 @@ pub struct DrawnSymbol {
 /// What is left of one field.
 #[derive(Clone, Copy)]
 pub enum Marks {
-    /// Marks of a picture, each in a place of its own: those on the way to a band, in their order, and then
-    /// the one behind the rows that fell on it.
-    Places([Option<RunMark>; 9]),
-    /// A QR symbol as it was drawn.
+    Nothing,
+    Picture(Places),
     Symbol(DrawnSymbol),
 }
 
-impl Marks {
-    /// Nothing.
-    pub fn none() -> Marks
-        ensures { (stored : List ℕ) (c : Content) → AreMarksOf stored c result }
-    {
-        Marks::Places([None; 9])
-    }
-
-    /// All places of marks, where no symbol is left.
-    fn places(&self) -> [Option<RunMark>; 9]
-        ensures { (stored : List ℕ) (c : Content) → AreMarksOf stored c self.now →
-            ArePlacesOf stored c result }
-    {
-        match *self {
-            Marks::Places(places) => places,
-            Marks::Symbol(_) => [None; 9],
-        }
-    }
-
+impl Places {
     /// The last mark that doesn't lie behind a row, if there is one, and the place behind its own.
-    pub fn last_before(&self, row: u32) -> (usize, Option<RunMark>)
+    fn last_before(&self, row: u32) -> (usize, Option<RunMark>)
         ensures before { row_at result.1 ≤ row }
-        ensures mark { (stored : List ℕ) (c : Content) → AreMarksOf stored c self.now →
+        ensures mark { (stored : List ℕ) (c : Content) → ArePlacesOf stored c self.now →
             IsMarkOf stored c result.1 }
     {
-        let Marks::Places(places) = self else {
-            return (0, None);
-        };
-        let mut k = places.len();
+        if self.behind.row() <= row {
+            return (ON_WAY + 1, Some(self.behind));
+        }
+        let mut k = self.on_way.len();
         while k > 0 {
             k -= 1;
-            if let Some(mark) = places[k] {
+            if let Some(mark) = self.on_way[k] {
                 if mark.row() <= row {
                     return (k + 1, Some(mark));
                 }
@@ -64,15 +52,62 @@ impl Marks {
         }
         (0, None)
     }
+}
 
-    /// Keeps a mark in a place.
+impl Marks {
+    /// Nothing.
+    pub fn none() -> Marks
+        ensures { (stored : List ℕ) (c : Content) → AreMarksOf stored c result }
+    {
+        Marks::Nothing
+    }
+
+    /// The last mark of a picture that doesn't lie behind a row, if there is one, and the place behind its own.
+    pub fn last_before(&self, row: u32) -> (usize, Option<RunMark>)
+        ensures before { row_at result.1 ≤ row }
+        ensures mark { (stored : List ℕ) (c : Content) → AreMarksOf stored c self.now →
+            IsMarkOf stored c result.1 }
+    {
+        match self {
+            Marks::Picture(places) => places.last_before(row),
+            Marks::Nothing | Marks::Symbol(_) => (0, None),
+        }
+    }
+
+    /// The places of marks: where there are none, a mark stands behind the rows.
+    fn places(&self, mark: RunMark) -> Places
+        ensures { (stored : List ℕ) (c : Content) → AreMarksOf stored c self.now →
+            IsMarkOf stored c (Some mark) → ArePlacesOf stored c result }
+    {
+        match *self {
+            Marks::Picture(places) => places,
+            Marks::Nothing | Marks::Symbol(_) => Places {
+                on_way: [None; 8],
+                behind: mark,
+            },
+        }
+    }
+
+    /// Keeps a mark on the way, in a place.
     pub fn keep(&mut self, place: usize, mark: RunMark)
-        requires { place ≤ ON_WAY }
+        requires { place < ON_WAY }
         ensures { (stored : List ℕ) (c : Content) → AreMarksOf stored c self.old →
             IsMarkOf stored c (Some mark) → AreMarksOf stored c self.new }
     {
-        let mut places = self.places();
-        places[place] = Some(mark);
-        *self = Marks::Places(places);
+        let mut places = self.places(mark);
+        places.on_way[place] = Some(mark);
+        *self = Marks::Picture(places);
+    }
+
+    /// Keeps a mark behind the rows that fell on a band.
+    pub fn keep_behind(&mut self, mark: RunMark)
+        ensures { (stored : List ℕ) (c : Content) → AreMarksOf stored c self.old →
+            IsMarkOf stored c (Some mark) → AreMarksOf stored c self.new }
+    {
+        let places = self.places(mark);
+        *self = Marks::Picture(Places {
+            behind: mark,
+            ..places
+        });
     }
 }

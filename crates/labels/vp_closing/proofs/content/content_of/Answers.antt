@@ -1,4 +1,4 @@
-use Rattle.std.proofs.Common.{◌≡◌, Ok, ap, sym, subst, ◌∙◌}
+use Rattle.std.proofs.Common.{Ok, ap, sym, subst, ◌∙◌}
 use Rattle.vp_field.specs.Contents.{IsStored}
 use Rattle.vp_field.specs.declared.sized.SizedContent.{SizedContent}
 use Rattle.vp_label_settings.specs.declared.parts.OpenContent.{OpenContent}

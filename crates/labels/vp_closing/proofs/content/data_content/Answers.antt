@@ -1,8 +1,8 @@
-use Rattle.std.proofs.Common.{◌≡◌, ◌∙◌, ap, subst, sym}
+use Rattle.std.proofs.Common.{subst, sym}
 use Rattle.vp_format.specs.declared.field.Text.{Text}
 use Rattle.vp_field.specs.Contents.{IsStored}
 use Rattle.vp_field.specs.declared.sized.SizedContent.{SizedContent}
-use Rattle.vp_closing.specs.Texts.{text_content, text_drawn}
+use Rattle.vp_closing.specs.Texts.{text_content}
 use Rattle.vp_closing.proofs.Stored.{text_stored}
 use Rattle.vp_closing.proofs.content.data_content.Goals as goal
 

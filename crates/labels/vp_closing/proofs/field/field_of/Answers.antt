@@ -1,4 +1,4 @@
-use Rattle.std.proofs.Common.{◌≡◌, arith, rules, w64, Ok, ap, sym, ◌∙◌}
+use Rattle.std.proofs.Common.{arith, rules, w64, Ok, ap, sym, ◌∙◌}
 use Rattle.std.proofs.lemmas.Int.{ints, to_z-of_z}
 use mir.Val.{SFits}
 use Rattle.vp_format.specs.declared.field.Field.{Field}

@@ -63,4 +63,4 @@ pub returns-clause-marks : goal.returns-clause-marks
 returns-clause-marks g c =
     let same : c.paint_rows.new.rows.picture ≡ picture_of c.args.stored.now c.args.picture =
     c.paint_rows.ensures.picture ∙ ap (λ (r : Cursor). r.picture) c.go_to.ensures.rows ∙ c.cursor-rows.ensures.picture in
-    c.keep.ensures c.args.stored.now (contents.Picture c.args.picture) c.go_to.ensures.marks (rw same at c.mark.ensures.is)
+    c.keep_behind.ensures c.args.stored.now (contents.Picture c.args.picture) c.go_to.ensures.marks (rw same at c.mark.ensures.is)
