@@ -12,13 +12,13 @@ use Rattle.vp_glyph.specs.Sheets.{Sheets}
 use Rattle.vp_format.specs.declared.field.Field.{Field}
 use Rattle.vp_field.specs.declared.view.View.{View}
 use Rattle.vp_field.specs.Views.{seen_x, seen_y}
-use Rattle.vp_field.specs.Fields.{field_ink, stroke_of}
+use Rattle.vp_field.specs.Fields.{field_ink, stroke_of, box_rows}
 use Rattle.vp_field.specs.Strokes.{Stroke, viewed, label_dot, image_dot}
 use Rattle.vp_field.proofs.Folds.{label_dot-push, moved_dot}
 use Rattle.vp_field.proofs.Boxed.{in_the_box}
 use Rattle.vp_fields_by_band.specs.declared.table.Entry.{Entry}
 use Rattle.vp_fields_by_band.specs.Threads.{no_entry, entry_at, meets, meets_at, IsNext}
-use Rattle.vp_bands.specs.Meeting.{shows_row, box_meets, box_rows, field_meets, meeting, pairs}
+use Rattle.vp_bands.specs.Meeting.{shows_row, box_meets, field_meets, meeting, pairs}
 use Rattle.vp_bands.specs.Standing.{fields_of, met, IsSpanned}
 use Rattle.vp_bands.proofs.Spans.{row_any}
 

@@ -3,9 +3,8 @@ use Rattle.std.specs.Prelude.{ℕ, ◌+◌, ◌-◌, ◌*◌, ◌/◌, ℤ, pos,
 use Rattle.std.specs.List.{list_any, range_with_len}
 use Rattle.vp_glyph.specs.Sheets.{Sheets}
 use Rattle.vp_format.specs.declared.field.Field.{Field}
-use Rattle.vp_field.specs.Fields.{field_ink}
-use Rattle.vp_field.specs.Contents.{content_width, content_height, orientation_of, most_work}
-use Rattle.vp_field.specs.Turning.{turned_height}
+use Rattle.vp_field.specs.Fields.{field_ink, box_rows}
+use Rattle.vp_field.specs.Contents.{most_work}
 use Rattle.vp_field.specs.declared.view.View.{View}
 use Rattle.vp_field.specs.Views.{seen_x, seen_y}
 use Rattle.vp_label_size.specs.declared.TheConstants.{BAND_ROWS}
@@ -25,12 +24,6 @@ band_rows b = range_with_len (BAND_ROWS * b) BAND_ROWS
 -- a row of band b shows one of them
 unfoldable pub box_meets : View → ℤ → ℕ → ℕ → Bool
 box_meets view top rows b = list_any (shows_row view top rows) (band_rows b)
-
--- how many rows the box of a field has, turned, whatever its width
-abbrev pub box_rows : Sheets → List ℕ → Field → ℕ
-box_rows sheets stored f =
-    turned_height (orientation_of f.orientation f.content) (content_width sheets stored f.content)
-    (content_height sheets stored f.content)
 
 -- the box of the field has a row in band b
 unfoldable pub field_meets : Sheets → List ℕ → View → ℕ → Field → Bool

@@ -74,16 +74,16 @@ impl<A: Small> BandPainter<A> {
     }
 
     /// Takes on the fields of a format, whose label is put out as `view` says, before its first band.
-    pub fn thread(&mut self, sheets: &Sheets<A>, format: &Format<A>, view: View)
+    pub fn thread(&mut self, format: &Format<A>, view: View)
         requires kept { All (IsKept format.now.stored) format.now.fields }
         requires low { view.height ≤ BAND_ROWS * BANDS }
         ensures fields { fields_of self.new.entries ≡ format.now.fields }
-        ensures before { IsBefore sheets.now format.now.stored view 0 self.new }
+        ensures before { (sheets : Given) → IsBefore sheets format.now.stored view 0 self.new }
         ensures looks { self.new.looks ≡ 0 }
         ensures work { self.new.work ≡ 0 }
     {
         hold_marks(&mut self.marks, format.len());
-        thread_fields(&mut self.threads, sheets, format, view);
+        thread_fields(&mut self.threads, format, view);
         self.threads.start();
         self.work = 0;
     }

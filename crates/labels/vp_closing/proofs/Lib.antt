@@ -2,3 +2,4 @@ pub mod Stored
 pub mod Reading
 pub mod Graphics
 pub mod Masks
+pub mod Shown

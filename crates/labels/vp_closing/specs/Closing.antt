@@ -11,6 +11,7 @@ use Rattle.vp_format.specs.declared.field.Content.{Content}
 use Rattle.vp_format.specs.declared.field.Field.{Field}
 use Rattle.vp_format.specs.Formats.{Held}
 use Rattle.vp_field.specs.Contents.{content_width, content_height, orientation_of}
+use Rattle.vp_field.specs.Turning.{turned_height}
 use Rattle.vp_label_settings.specs.declared.settings.Settings.{Settings}
 use Rattle.vp_label_settings.specs.declared.choice.SymbolChoice.{SymbolChoice}
 use Rattle.vp_label_settings.specs.declared.choice.SymbolChoice.TheVariants.{Bars}
@@ -48,6 +49,7 @@ placed sheets stored s p op o content = record {
       (content_height sheets stored content);
   top = top_of s.home p.origin o (content_width sheets stored content)
       (content_height sheets stored content);
+  rows = turned_height o (content_width sheets stored content) (content_height sheets stored content);
   orientation = o;
   op = op;
   content = content;

@@ -7,7 +7,10 @@ use Rattle.vp_qr_field.specs.Fronts.{front_of}
 use Rattle.vp_format.specs.declared.field.Span.{Span}
 use Rattle.vp_format.specs.declared.field.Content.{Content}
 use Rattle.vp_format.specs.declared.field.Content.TheVariants as contents
+use Rattle.vp_glyph.specs.Sheets.{Sheets}
 use Rattle.vp_field.specs.Contents.{bytes_of, picture_of}
+use Rattle.vp_field.specs.Sizes.{sized}
+use Rattle.vp_field.specs.declared.sized.SizedContent.{SizedContent}
 use Rattle.vp_label_settings.specs.declared.settings.Settings.{Settings}
 use Rattle.vp_label_settings.specs.declared.choice.SymbolChoice.{SymbolChoice}
 use Rattle.vp_label_settings.specs.declared.choice.SymbolChoice.TheVariants.{Bars, NotDrawn, Qr}
@@ -42,3 +45,8 @@ abbrev pub content_of : List ℕ → Settings → FieldParts → OpenContent →
 content_of stored s p (Data start) = data_content stored s p p.symbol (bytes_from stored start)
 content_of stored s p (Frame b colour) = Ok (contents.Box b)
 content_of stored s p (Picture head start) = picture_content stored head (bytes_from stored start)
+
+-- the same with its size
+abbrev pub sized_if : Sheets → List ℕ → Result Content Fault → Result SizedContent Fault
+sized_if sheets stored (Err why) = Err why
+sized_if sheets stored (Ok content) = Ok (sized sheets stored content)

@@ -1,14 +1,16 @@
-//! What a field shows, as the format keeps it.
+//! What a field shows, as the format keeps it, and its size.
 ghost use Rattle.std.specs.Prelude.{◌≡◌, ◌+◌, ◌≤◌, length, IfOk};
 ghost use Rattle.vp_label_settings.specs.Laws.{AreInRange, IsFieldBlockIf, IsContent, IsSymbolIf};
 ghost use Rattle.vp_field.specs.Contents.{IsStored};
-ghost use Rattle.vp_closing.specs.Contents.{bytes_from, data_content, content_of};
+ghost use Rattle.vp_closing.specs.Contents.{bytes_from, data_content, content_of, sized_if};
 
 use crate::graphic::picture_content;
 use crate::symbol::{bars_content, qr_content};
 use crate::text::{text_content, text_of, text_size};
-use vp_dots::{Fault, Why};
-use vp_format::{Content, STORED, Span};
+use vp_dots::{Fault, Small, Why};
+use vp_field::SizedContent;
+use vp_format::{STORED, Span};
+use vp_glyph::Sheets;
 use vp_label_settings::{FieldParts, OpenContent, Settings, SymbolChoice};
 
 /// The stored bytes from a place on.
@@ -25,27 +27,29 @@ fn bytes_from(stored: &[u8], start: u32) -> Span
 }
 
 /// What data are drawn as, or why they aren't.
-fn data_content(
+fn data_content<A: Small>(
+    sheets: &Sheets<A>,
     stored: &[u8],
     settings: &Settings,
     parts: &FieldParts,
     bytes: Span,
-) -> Result<Content, Fault>
+) -> Result<SizedContent, Fault>
     requires settings { AreInRange settings.now }
     requires symbol { IsSymbolIf parts.now.symbol }
     requires block { IsFieldBlockIf parts.now.block }
     requires among { bytes.start + bytes.len ≤ length stored.now }
     requires few { length stored.now ≤ STORED }
-    ensures value { result ≡ data_content stored.now settings.now parts.now parts.now.symbol bytes }
-    ensures stored { IfOk result (IsStored stored.now) }
+    ensures value { result ≡ sized_if sheets.now stored.now
+        (data_content stored.now settings.now parts.now parts.now.symbol bytes) }
+    ensures stored { IfOk result (λ shown. IsStored stored.now shown.content) }
 {
     match parts.symbol {
         None => {
             let text = text_of(text_size(settings, parts.font), bytes);
-            Ok(text_content(text, parts.block))
+            Ok(text_content(sheets, stored, text, parts.block))
         }
         Some(SymbolChoice::Bars(choice)) => {
-            bars_content(stored, settings.bar_defaults, choice, bytes)
+            bars_content(sheets, stored, settings.bar_defaults, choice, bytes)
         }
         Some(SymbolChoice::NotDrawn) => Err(Fault::Symbol(Why::Unsupported)),
         Some(SymbolChoice::Qr { model, module_dots }) => {
@@ -55,25 +59,28 @@ fn data_content(
 }
 
 /// What a field shows, or why it is refused.
-pub fn content_of(
+pub fn content_of<A: Small>(
+    sheets: &Sheets<A>,
     stored: &[u8],
     settings: &Settings,
     parts: &FieldParts,
     content: OpenContent,
-) -> Result<Content, Fault>
+) -> Result<SizedContent, Fault>
     requires settings { AreInRange settings.now }
     requires symbol { IsSymbolIf parts.now.symbol }
     requires block { IsFieldBlockIf parts.now.block }
     requires content { IsContent (length stored.now) content }
     requires few { length stored.now ≤ STORED }
-    ensures value { result ≡ content_of stored.now settings.now parts.now content }
-    ensures stored { IfOk result (IsStored stored.now) }
+    ensures value { result ≡ sized_if sheets.now stored.now
+        (content_of stored.now settings.now parts.now content) }
+    ensures stored { IfOk result (λ shown. IsStored stored.now shown.content) }
 {
     match content {
         OpenContent::Data { start } => {
-            data_content(stored, settings, parts, bytes_from(stored, start))
+            let bytes = bytes_from(stored, start);
+            data_content(sheets, stored, settings, parts, bytes)
         }
-        OpenContent::Frame { frame, colour: _ } => Ok(Content::Box(frame)),
+        OpenContent::Frame { frame, colour: _ } => Ok(SizedContent::graphic_box(frame)),
         OpenContent::Picture { head, start } => {
             picture_content(stored, head, bytes_from(stored, start))
         }

@@ -8,7 +8,7 @@ use crate::content::content_of;
 use crate::position::{left_of, top_of};
 use crate::text::text_orientation;
 use vp_dots::{Fault, Op, Small};
-use vp_field::{content_size, orientation_of};
+use vp_field::{orientation_of, turned_rows};
 use vp_format::{Field, Format, STORED};
 use vp_glyph::Sheets;
 use vp_label_settings::{FieldParts, OpenContent, Settings, SymbolChoice};
@@ -65,15 +65,16 @@ fn field_of<A: Small>(
     ensures value { result ≡ field_of sheets.now stored.now settings.now parts.now asked }
     ensures kept { IfOk result (IsKept stored.now) }
 {
-    let content = content_of(stored, settings, parts, asked)?;
-    let orientation = orientation_of(asked_orientation(settings, parts), &content);
-    let (width, height) = content_size(sheets, stored, &content);
+    let shown = content_of(sheets, stored, settings, parts, asked)?;
+    let orientation = orientation_of(asked_orientation(settings, parts), &shown.content);
+    let (width, height) = (shown.width, shown.height);
     Ok(Field {
         left: left_of(settings.home, parts.origin, orientation, width, height),
         top: top_of(settings.home, parts.origin, orientation, width, height),
+        rows: turned_rows(orientation, width, height),
         orientation,
         op: operation(settings, parts, colour_of(asked)),
-        content,
+        content: shown.content,
     })
 }
 

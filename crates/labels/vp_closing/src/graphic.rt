@@ -1,12 +1,14 @@
 //! Pictures whose codes are read.
 ghost use Rattle.std.specs.Prelude.{◌≡◌, ◌<◌, ◌≤◌, ◌+◌, length, false, true, MatchResult, IfOk};
 ghost use Rattle.vp_label_settings.specs.Laws.{IsPictureHead};
+ghost use Rattle.vp_glyph.specs.Sheets.{Sheets};
+ghost use Rattle.vp_closing.specs.Contents.{sized_if};
 ghost use Rattle.vp_closing.specs.Graphics.{picture_with, picture_unless, has_refused};
 ghost use Rattle.vp_field.specs.Contents.{picture_of, LiesIn, IsStored};
 
 use vp_dots::Fault;
-use vp_field::bytes_of;
-use vp_format::{Content, Picture, STORED, Span, check};
+use vp_field::{SizedContent, bytes_of};
+use vp_format::{Picture, STORED, Span, check};
 use vp_label_settings::PictureHead;
 
 fn headed(head: PictureHead, codes: Span) -> Picture
@@ -34,15 +36,16 @@ fn read(stored: &[u8], picture: Picture) -> Result<(), Fault>
 }
 
 /// A picture, unless its codes are refused.
-pub fn picture_content(stored: &[u8], head: PictureHead, codes: Span) -> Result<Content, Fault>
+pub fn picture_content(stored: &[u8], head: PictureHead, codes: Span) -> Result<SizedContent, Fault>
     requires picture { IsPictureHead head }
     requires among { codes.start + codes.len ≤ length stored.now }
     requires few { length stored.now ≤ STORED }
-    ensures value { result ≡ picture_unless (has_refused (picture_of stored.now (picture_with head codes)))
-        (picture_with head codes) }
-    ensures stored { IfOk result (IsStored stored.now) }
+    ensures value { (sheets : Sheets) → result ≡ sized_if sheets stored.now
+        (picture_unless (has_refused (picture_of stored.now (picture_with head codes)))
+        (picture_with head codes)) }
+    ensures stored { IfOk result (λ shown. IsStored stored.now shown.content) }
 {
     let picture = headed(head, codes);
     read(stored, picture)?;
-    Ok(Content::Picture(picture))
+    Ok(SizedContent::picture(picture))
 }

@@ -1,9 +1,14 @@
 //! Texts, and blocks of them.
 ghost use Rattle.std.specs.Prelude.{◌≡◌};
+ghost use Rattle.vp_field.specs.Contents.{IsStored};
+ghost use Rattle.vp_field.specs.Sizes.{sized};
 ghost use Rattle.vp_label_settings.specs.Laws.{IsSize, IsSpace, IsFieldBlock, IsFieldBlockIf};
 ghost use Rattle.vp_closing.specs.Texts.{text_orientation, text_size, text_drawn, gap_of, text_block, text_content};
 
-use vp_format::{Content, Span, Text, TextBlock};
+use vp_dots::Small;
+use vp_field::SizedContent;
+use vp_format::{Span, Text, TextBlock};
+use vp_glyph::Sheets;
 use vp_label_settings::{CharacterSize, FieldBlock, FontChoice, Settings};
 use vp_zpl::item::{LineSpace, Orientation};
 
@@ -65,12 +70,18 @@ fn block_of(text: Text, block: FieldBlock) -> TextBlock
 }
 
 /// A text, in a block where ^FB asks for one.
-pub fn text_content(text: Text, block: Option<FieldBlock>) -> Content
-    requires { IsFieldBlockIf block }
-    ensures { result ≡ text_content text block }
+pub fn text_content<A: Small>(
+    sheets: &Sheets<A>,
+    stored: &[u8],
+    text: Text,
+    block: Option<FieldBlock>,
+) -> SizedContent
+    requires block { IsFieldBlockIf block }
+    requires stored { IsStored stored.now (text_content text block) }
+    ensures { result ≡ sized sheets.now stored.now (text_content text block) }
 {
     match block {
-        None => Content::Text(text),
-        Some(block) => Content::Block(block_of(text, block)),
+        None => SizedContent::text(sheets, stored, text),
+        Some(block) => SizedContent::block(sheets, stored, block_of(text, block)),
     }
 }

@@ -1,5 +1,5 @@
 -- Bytes stored behind those that a field names.
-use Rattle.std.proofs.Common.{◌≡◌, ℕ, ◌*◌, refl, ap, ◌∙◌, arith, List, ◌++◌, take, drop, length, length-append, ℤ, Bool}
+use Rattle.std.proofs.Common.{◌≡◌, ℕ, ◌*◌, refl, ap, sym, ◌∙◌, arith, List, ◌++◌, take, drop, length, length-append, ℤ, Bool}
 use Rattle.std.proofs.lemmas.List.{drop-append-le, take-append-le, length-drop}
 use Rattle.vp_dots.specs.declared.Op.{Op}
 use Rattle.vp_glyph.specs.Sheets.{Sheets}
@@ -15,6 +15,7 @@ use Rattle.vp_field.specs.Contents.{bytes_of, bars_width, bars_height, bars_dot,
 use Rattle.vp_bars.specs.Symbologies.{symbol_of}
 use Rattle.vp_field.specs.Standing.{standing}
 use Rattle.vp_field.specs.Strokes.{Stroke}
+use Rattle.vp_field.specs.Turning.{turned_height}
 use Rattle.vp_field.specs.Laws.{StoredBehind}
 
 lies_in : (stored more : List ℕ) (s : Span) → LiesIn stored s → LiesIn (stored ++ more) s
@@ -75,9 +76,29 @@ ink_behind sheets left top o (Bars b) stored more h =
 ink_behind sheets left top o (Qr q) stored more h =
     ap (λ (d : List ℕ). standing left top Normal (qr_side q.level q.mode d q.module) (qr_side q.level q.mode d q.module) (λ x y. qr_dot q.level q.mode d q.module x y)) (bytes_behind stored more q.bytes h.bytes)
 
+-- the rows of a content that is turned
+abbrev rows : Sheets → Orientation → Content → List ℕ → ℕ
+rows sheets o c stored =
+    turned_height (orientation_of o c) (content_width sheets stored c) (content_height sheets stored c)
+
+rows_behind : (sheets : Sheets) (o : Orientation) (c : Content) (stored more : List ℕ) → IsStored stored c → rows sheets o c stored ≡ rows sheets o c (stored ++ more)
+rows_behind sheets o (Text t) stored more h =
+    sym (ap (λ (b : List ℕ). turned_height o (t.width * length b) t.height) (bytes_behind stored more t.bytes h.bytes))
+rows_behind sheets o (Block b) stored more h = refl
+rows_behind sheets o (Box b) stored more h = refl
+rows_behind sheets o (Picture p) stored more h = refl
+rows_behind sheets o (Bars b) stored more h =
+    sym (ap (λ (d : List ℕ). turned_height o (bars_width sheets b.narrow b.wide b.height b.place (symbol_of b.code d)) (bars_height sheets b.narrow b.wide b.height b.place (symbol_of b.code d))) (bytes_behind stored more b.bytes h))
+rows_behind sheets o (Qr q) stored more h =
+    sym (ap (λ (d : List ℕ). turned_height Normal (qr_side q.level q.mode d q.module) (qr_side q.level q.mode d q.module)) (bytes_behind stored more q.bytes h.bytes))
+
 pub stored_behind : StoredBehind
 stored_behind = record {
-  kept = λ stored more f h. record { near = h.near; content = is_stored stored more f.content h.content };
+  kept = λ stored more f h. record {
+    near = h.near;
+    content = is_stored stored more f.content h.content;
+    rows = λ sheets. h.rows sheets ∙ rows_behind sheets f.orientation f.content stored more h.content;
+  };
   stroke = λ sheets stored more f h. ap (λ i. stroke f.op i) (ink_behind sheets f.left f.top f.orientation f.content stored more h.content);
 }
   where

@@ -9,6 +9,7 @@ pub mod Strokes
 pub mod Fields
 pub mod Bands
 pub mod Laws
+pub mod Sizes
 -- What the code keeps.
 pub mod Axes
 pub mod Rows

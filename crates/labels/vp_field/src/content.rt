@@ -1,16 +1,12 @@
-//! What fields show: its bytes, its symbol, its size, and whether it is turned.
-ghost use Rattle.std.specs.Prelude.{◌≡◌, ◌*◌, ◌≤◌};
-ghost use Rattle.vp_qr.specs.Places.{size};
-ghost use Rattle.vp_format.specs.declared.field.Content.TheVariants as contents;
+//! What fields show: its bytes, its ink, and whether it is turned.
+ghost use Rattle.std.specs.Prelude.{◌≡◌};
 ghost use Rattle.vp_glyph.specs.Blocks.{pitch};
-ghost use Rattle.vp_field.specs.Contents.{bytes_of, content_width, content_height, orientation_of, LiesIn, IsText, IsTextBlock, IsStored};
+ghost use Rattle.vp_field.specs.Contents.{bytes_of, orientation_of, LiesIn, IsText, IsTextBlock};
 
-use crate::frame::Frame;
 use crate::text::Cells;
-use vp_bars::linear;
-use vp_dots::{Ink, Small};
-use vp_format::{BarSymbol, Content, QrSymbol, Span, Text, TextBlock};
-use vp_glyph::{Block, Font, Sheets, Stretch};
+use vp_dots::Small;
+use vp_format::{Content, Span, Text, TextBlock};
+use vp_glyph::{Block, Sheets, Stretch};
 use vp_zpl::item::Orientation;
 
 /// The bytes that a span names among the stored ones.
@@ -63,56 +59,6 @@ pub fn block_of<'a, A: Small>(
         i32::from(block.gap),
         block.alignment,
     )
-}
-
-/// The width and the height of a linear symbol with its text; none where the data have no symbol.
-fn bars_size<A: Small>(sheets: &Sheets<A>, stored: &[u8], bars: BarSymbol) -> (u32, u32)
-    requires { LiesIn stored.now bars.bytes }
-    ensures width { result.0 ≡ content_width sheets.now stored.now (contents.Bars bars) }
-    ensures height { result.1 ≡ content_height sheets.now stored.now (contents.Bars bars) }
-{
-    match linear(bars.code, bytes_of(stored, bars.bytes)) {
-        Ok(symbol) => {
-            let ink = symbol.boxed(
-                bars.narrow,
-                bars.wide,
-                bars.height,
-                sheets,
-                Font::A,
-                bars.place,
-            );
-            ink.size()
-        }
-        Err(_) => (0, 0),
-    }
-}
-
-/// The dots in a row of a QR symbol.
-fn qr_size(symbol: QrSymbol) -> u32
-    requires { symbol.module ≤ 16 }
-    ensures { result ≡ symbol.module * size symbol.version }
-{
-    let modules = 17 + 4 * u32::from(symbol.version);
-    u32::from(symbol.module) * modules
-}
-
-/// The width and the height of what a field shows, as it is read.
-pub fn content_size<A: Small>(sheets: &Sheets<A>, stored: &[u8], content: &Content) -> (u32, u32)
-    requires { IsStored stored.now content.now }
-    ensures width { result.0 ≡ content_width sheets.now stored.now content.now }
-    ensures height { result.1 ≡ content_height sheets.now stored.now content.now }
-{
-    match *content {
-        Content::Text(text) => cells(sheets, stored, text).size(),
-        Content::Block(block) => block_of(sheets, stored, block).size(),
-        Content::Box(shape) => Frame::of(shape).size(),
-        Content::Picture(picture) => (8 * u32::from(picture.row_bytes), picture.rows),
-        Content::Bars(bars) => bars_size(sheets, stored, bars),
-        Content::Qr(symbol) => {
-            let side = qr_size(symbol);
-            (side, side)
-        }
-    }
 }
 
 /// How a content is turned; boxes, pictures and QR symbols are not.

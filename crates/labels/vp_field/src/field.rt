@@ -6,7 +6,7 @@ ghost use Rattle.vp_format.specs.declared.field.Content.TheVariants as contents;
 ghost use Rattle.vp_field.specs.Axes.{lines_of};
 ghost use Rattle.vp_field.specs.Contents.{most_lines, most_work, LiesIn, IsText, IsTextBlock, IsSymbol};
 ghost use Rattle.vp_field.specs.Standing.{IsNear};
-ghost use Rattle.vp_field.specs.Fields.{field_ink, stroke_of, IsKept, AreMarksOf};
+ghost use Rattle.vp_field.specs.Fields.{field_ink, stroke_of, IsDrawn, IsKept, AreMarksOf};
 ghost use Rattle.vp_field.specs.Strokes.{Stroke};
 ghost use Rattle.vp_field.specs.Views.{seen_x, seen_y};
 ghost use Rattle.vp_field.specs.Bands.{Shows, IsCounted};
@@ -20,7 +20,7 @@ use crate::content::{block_of, bytes_of, cells};
 use crate::frame::Frame;
 use crate::line::drawn_at;
 use crate::lines::BlockRows;
-use crate::marks::Marks;
+use crate::marks::{DrawnSymbol, Marks};
 use crate::picture::paint_picture;
 use crate::standing::{Standing, paint_standing};
 use crate::view::View;
@@ -29,6 +29,7 @@ use vp_dots::{Ink, Small};
 use vp_format::{BarSymbol, Content, Field, QrSymbol, Text, TextBlock};
 use vp_glyph::{Font, Sheets};
 use vp_label_size::{BAND_BYTES, LabelBand};
+use vp_qr::QrInk;
 use vp_zpl::item::Orientation;
 
 /// Paints a text: how many lines of ink it drew.
@@ -115,22 +116,16 @@ fn paint_bars<A: Small>(
     }
 }
 
-/// Paints a QR symbol with the version and the mask that it keeps: how many lines of ink it drew.
-fn paint_qr<A: Small>(
-    stored: &[u8],
-    symbol: QrSymbol,
-    on: Standing,
-    first: u32,
-    band: &mut LabelBand<A>,
-) -> u64
+/// A QR symbol, drawn with the version and the mask that it keeps where no earlier band left it.
+fn drawn_symbol(stored: &[u8], symbol: QrSymbol, marks: &mut Marks) -> QrInk
     requires symbol { IsSymbol stored.now symbol }
-    requires near { IsNear on.left on.top }
-    ensures dots { (sheets : Given) → RowsPainted BAND_ROWS on.op
-        (drawn sheets stored.now (contents.Qr symbol) on first) band.old band.new }
-    ensures lines { result ≤ most_lines (lines_of on.orientation) }
-    ensures counted { (sheets : Given) →
-        IsCounted (drawn sheets stored.now (contents.Qr symbol) on first) result }
+    requires marks { AreMarksOf stored.now (contents.Qr symbol) marks.old }
+    ensures drawn { IsDrawn stored.now symbol result }
+    ensures marks { AreMarksOf stored.now (contents.Qr symbol) marks.new }
 {
+    if let Marks::Symbol(symbol) = *marks {
+        return symbol.ink;
+    }
     let qr = vp_qr::drawn(
         bytes_of(stored, symbol.bytes),
         symbol.level,
@@ -138,7 +133,32 @@ fn paint_qr<A: Small>(
         usize::from(symbol.version),
         usize::from(symbol.mask),
     );
-    paint_standing(&qr.scaled(u32::from(symbol.module)), None, on, first, band)
+    let ink = qr.scaled(u32::from(symbol.module));
+    *marks = Marks::Symbol(DrawnSymbol { ink });
+    ink
+}
+
+/// Paints a QR symbol: how many lines of ink it drew.
+fn paint_qr<A: Small>(
+    stored: &[u8],
+    symbol: QrSymbol,
+    on: Standing,
+    marks: &mut Marks,
+    first: u32,
+    band: &mut LabelBand<A>,
+) -> u64
+    requires symbol { IsSymbol stored.now symbol }
+    requires marks { AreMarksOf stored.now (contents.Qr symbol) marks.old }
+    requires near { IsNear on.left on.top }
+    ensures marks { AreMarksOf stored.now (contents.Qr symbol) marks.new }
+    ensures dots { (sheets : Given) → RowsPainted BAND_ROWS on.op
+        (drawn sheets stored.now (contents.Qr symbol) on first) band.old band.new }
+    ensures lines { result ≤ most_lines (lines_of on.orientation) }
+    ensures counted { (sheets : Given) →
+        IsCounted (drawn sheets stored.now (contents.Qr symbol) on first) result }
+{
+    let modules = drawn_symbol(stored, symbol, marks);
+    paint_standing(&modules, None, on, first, band)
 }
 
 /// Applies the field's operation to the dots of a band, whose first row is row `first` of the label as it
@@ -179,13 +199,13 @@ fn paint_content<A: Small>(
         Content::Box(shape) => paint_standing(&Frame::of(shape), None, on, first, band),
         Content::Picture(picture) => paint_picture(stored, picture, on, marks, first, band),
         Content::Bars(bars) => paint_bars(sheets, stored, bars, turned, first, band),
-        Content::Qr(symbol) => paint_qr(stored, symbol, on, first, band),
+        Content::Qr(symbol) => paint_qr(stored, symbol, on, marks, first, band),
     }
 }
 
 /// Paints a field on a band, whose first row is row `first` of the label as it is put out. The marks are
 /// those that earlier bands left in its picture, or none, so that not all rows above are read again; more are
-/// left for the bands that come later. What that took comes back: of a picture how many bytes of its codes
+/// left for the bands that come later. Of a QR symbol its modules are left, which are drawn once so. What that took comes back: of a picture how many bytes of its codes
 /// were read, rows passed, and rows painted; of all else how many lines of ink were drawn.
 pub fn paint_field<A: Small>(
     sheets: &Sheets<A>,

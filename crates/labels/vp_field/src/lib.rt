@@ -11,8 +11,8 @@
 //! - `frame`, `text`, `lines`, `picture`: boxes, texts, blocks of lines and pictures.
 //! - `block_columns`, `block_band`: blocks of lines, many of whose rows are drawn at once: those that fall on
 //!   columns, and those of lines that meet.
-//! - `marks`: the marks of a picture that earlier bands left.
-//! - `content`, `field`: what fields show, and how they are painted.
+//! - `marks`: what earlier bands left of a field: the marks of a picture, or a QR symbol as it was drawn.
+//! - `content`, `sized`, `field`: what fields show, with their sizes, and how they are painted.
 //! - `view`: how a label is put out.
 //! - `axis`, `laid`: which way the lines of an ink run on the label as it is put out, and where they begin.
 //! - `stretched`: which lines that show the rows of stretched characters are alike.
@@ -35,6 +35,7 @@ mod lines;
 mod marks;
 mod paint;
 mod picture;
+mod sized;
 mod standing;
 mod stretched;
 mod text;
@@ -42,9 +43,10 @@ mod turning;
 mod view;
 
 pub use band::{clear, cut};
-pub use content::{bytes_of, content_size, orientation_of};
+pub use content::{bytes_of, orientation_of};
 pub use field::paint_field;
 pub use laws::{dots_move, in_the_box, stored_behind, stroke_after_stroke, turned_and_mirrored};
 pub use marks::Marks;
-pub use turning::dots_fall;
+pub use sized::SizedContent;
+pub use turning::{dots_fall, turned_rows};
 pub use view::View;

@@ -277,6 +277,6 @@ pub fn paint_picture<A: Small>(
     let mut rows = cursor(stored, picture, mark);
     go_to(&mut rows, stored, picture, least, from, place, marks);
     paint_rows(&mut rows, from, to, row, on.op, at, first, band);
-    marks.keep(ON_WAY, rows.mark());
+    marks.keep_behind(rows.mark());
     rows.read() + rows.passed() + u64::from(to - from)
 }

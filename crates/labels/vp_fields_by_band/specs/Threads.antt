@@ -12,6 +12,7 @@ abbrev no_field : Field
 no_field = record {
   left = pos 0;
   top = pos 0;
+  rows = 0;
   orientation = Normal;
   op = Black;
   content = Text (record { bytes = record { start = 0; len = 0 }; width = 0; height = 0 });

@@ -85,11 +85,12 @@ pub enum Content {
 }
 
 /// A closed field. The place is the upper left corner of the turned box, in dots from the label's upper left
-/// corner, with the home added; it may lie off the label.
+/// corner, with the home added; it may lie off the label. The rows are those of the turned box.
 #[derive(Clone, Copy, Debug, PartialEq, Eq)]
 pub struct Field {
     pub left: i64,
     pub top: i64,
+    pub rows: u32,
     pub orientation: Orientation,
     pub op: Op,
     pub content: Content,

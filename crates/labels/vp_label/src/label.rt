@@ -193,8 +193,7 @@ impl<A: Small> Label<A> {
         }
         in_range();
         let view = view_of(&self.gathered.in_force.settings);
-        self.press
-            .begin(copies, &self.sheets, &self.gathered.format, view);
+        self.press.begin(copies, &self.gathered.format, view);
         Ok(())
     }
 

@@ -1,5 +1,6 @@
 //! What is put out of a format that has ended: its copies, each painted band by band.
 ghost use Rattle.std.specs.Prelude.{◌≡◌, ◌≤◌, ◌<◌, ◌++◌, IfOk, length, min, take, drop};
+ghost use Rattle.vp_glyph.specs.Sheets.{Sheets as Given};
 ghost use Rattle.vp_copies.specs.Copies.{copies_text};
 ghost use Rattle.vp_copies.specs.Progress.{IsPainted};
 ghost use Rattle.vp_label_size.specs.declared.TheConstants.{WIDEST, LONGEST};
@@ -43,22 +44,22 @@ impl<A: Small> Press<A> {
     }
 
     /// Begins to put out copies of a label with the fields of a format.
-    pub fn begin(&mut self, copies: u32, sheets: &Sheets<A>, format: &Format<A>, view: View)
+    pub fn begin(&mut self, copies: u32, format: &Format<A>, view: View)
         requires some { 0 < copies }
         requires kept { AreKept format.now.stored format.now.fields }
         requires wide { 0 < view.width }
         requires narrow { view.width ≤ WIDEST }
         requires high { 0 < view.height }
         requires low { view.height ≤ LONGEST }
-        ensures press { IsPress sheets.now format.now.stored view self.new }
+        ensures press { (sheets : Given) → IsPress sheets format.now.stored view self.new }
         ensures fields { fields_of self.new.painter.entries ≡ format.now.fields }
         ensures looks { self.new.painter.looks ≡ 0 }
         ensures work { self.new.painter.work ≡ 0 }
         ensures some { 0 < self.new.copies.place.copies }
-        ensures left { left sheets.now format.now.stored view self.new
-            ≡ copies_text (label_image sheets.now view format.now.stored format.now.fields) copies }
+        ensures left { (sheets : Given) → left sheets format.now.stored view self.new
+            ≡ copies_text (label_image sheets view format.now.stored format.now.fields) copies }
     {
-        self.painter.thread(sheets, format, view);
+        self.painter.thread(format, view);
         self.copies = Copies::new(view.width as u16, view.height as u16, copies);
     }
 

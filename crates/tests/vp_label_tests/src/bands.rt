@@ -35,6 +35,7 @@ fn boxed(top: u16, width: u16, height: u16, op: Op) -> Field
     Field {
         left: 0,
         top: i64::from(top),
+        rows: u32::from(height),
         orientation: Orientation::Normal,
         op,
         content: Content::Box(GraphicBox {
@@ -125,7 +126,7 @@ fn both(
     requires low { view.height ≤ 32 * BANDS }
     requires from { from ≤ 8000 }
 {
-    painter.thread(&NONE, format, view);
+    painter.thread(format, view);
     let first = copy(painter, format, view, from, band);
     let second = copy(painter, format, view, from, band);
     [first, second]

@@ -174,6 +174,7 @@ fn closes_a_text(rt: &impl Abort, format: &mut Format, stored: &[u8]) {
     let text = Field {
         left: 8,
         top: -4,
+        rows: 24,
         orientation: Orientation::Rotated,
         op: Op::Flip,
         content: Content::Text(Text {

@@ -16,6 +16,7 @@ fn boxed(left: i16, top: i16, w: u16, h: u16, t: u16, op: Op) -> Field
         op,
         left: i64::from(left),
         top: i64::from(top),
+        rows: u32::from(h),
         orientation: Orientation::Normal,
         content: Content::Box(GraphicBox {
             width: w,

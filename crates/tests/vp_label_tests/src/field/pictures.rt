@@ -23,6 +23,7 @@ fn picture(top: i8, rows: u8, op: Op, stored: &[u8]) -> Field
         op,
         left: 0,
         top: i64::from(top),
+        rows: u32::from(rows),
         orientation: Orientation::Rotated,
         content: Content::Picture(Picture {
             codes: whole(stored),

@@ -1,37 +1,59 @@
 //! Bars and QR symbols.
-ghost use Rattle.std.specs.Prelude.{◌≤◌, length, IfOk};
+ghost use Rattle.std.specs.Prelude.{◌≡◌, ◌≤◌, length, IfOk};
+ghost use Rattle.vp_format.specs.declared.field.Content.TheVariants as contents;
+ghost use Rattle.vp_glyph.specs.Sheets.{Sheets};
+ghost use Rattle.vp_field.specs.Contents.{content_width, content_height, LiesIn};
 ghost use Rattle.vp_field.specs.Fields.{IsKept};
+ghost use Rattle.vp_field.specs.Turning.{turned_height};
 
 use super::{Painter, Rows, plain, shows, whole};
 use crate::checks::same;
 use crate::sheets::NONE;
 use std::alloc::Global;
 use std::test::Fail;
-use vp_bars::{BarCode, HriPosition};
+use vp_bars::{BarCode, HriPosition, linear};
 use vp_dots::{Fault, Op};
-use vp_field::content_size;
+use vp_field::{SizedContent, bytes_of, turned_rows};
 use vp_format::{BarSymbol, Content, Field, QrSymbol};
 use vp_qr::{Level, Mode, encode};
 use vp_zpl::item::Orientation;
+
+/// How many rows bars have that are turned: none where their data have no symbol.
+fn rows_of(orientation: Orientation, stored: &[u8], bars: BarSymbol) -> u32
+    requires { LiesIn stored.now bars.bytes }
+    ensures { (sheets : Sheets) → result ≡ turned_height orientation
+        (content_width sheets stored.now (contents.Bars bars))
+        (content_height sheets stored.now (contents.Bars bars)) }
+{
+    match linear(bars.code, bytes_of(stored, bars.bytes)) {
+        Ok(symbol) => {
+            let shown = SizedContent::bars(&NONE, &symbol, bars);
+            turned_rows(orientation, shown.width, shown.height)
+        }
+        Err(_) => 0,
+    }
+}
 
 /// The bars of data at the label's corner.
 fn bars_of(orientation: Orientation, stored: &[u8]) -> Field
     requires { length stored.now ≤ 100 }
     ensures { IsKept stored.now result }
 {
+    let bars = BarSymbol {
+        bytes: whole(stored),
+        code: BarCode::Code39 { check: false },
+        narrow: 2,
+        wide: 4,
+        height: 1,
+        place: HriPosition::None,
+    };
     Field {
         op: Op::Black,
         left: 0,
         top: 0,
+        rows: rows_of(orientation, stored, bars),
         orientation,
-        content: Content::Bars(BarSymbol {
-            bytes: whole(stored),
-            code: BarCode::Code39 { check: false },
-            narrow: 2,
-            wide: 4,
-            height: 1,
-            place: HriPosition::None,
-        }),
+        content: Content::Bars(bars),
     }
 }
 
@@ -44,19 +66,21 @@ fn symbol(stored: &[u8]) -> Result<Field, Fault>
     let Ok(mask) = u8::try_from(qr.mask()) else {
         return Err(Fault::Unprinted);
     };
+    let shown = SizedContent::qr(QrSymbol {
+        bytes: whole(stored),
+        level: Level::M,
+        mode: Mode::Auto,
+        module: 1,
+        version: qr.version() as u8,
+        mask,
+    });
     Ok(Field {
         op: Op::Black,
         left: 0,
         top: 0,
+        rows: shown.height,
         orientation: Orientation::Rotated,
-        content: Content::Qr(QrSymbol {
-            bytes: whole(stored),
-            level: Level::M,
-            mode: Mode::Auto,
-            module: 1,
-            version: qr.version() as u8,
-            mask,
-        }),
+        content: shown.content,
     })
 }
 
@@ -141,8 +165,7 @@ fn bars(rt: HostRuntime) -> Result<(), Fail> {
 fn qr(rt: HostRuntime) -> Result<(), Fail> {
     match symbol(b"HELLO WORLD") {
         Ok(field) => {
-            let size = content_size(&NONE, b"HELLO WORLD", &field.content);
-            same(&rt, &size, &(21, 21));
+            same(&rt, &field.rows, &21);
             let painter = painted(rt.alloc(), 40, 40, b"HELLO WORLD", &field)?;
             shows(&rt, painter, "a symbol", HELLO_WORLD);
         }
@@ -154,7 +177,7 @@ fn qr(rt: HostRuntime) -> Result<(), Fail> {
 #[test]
 fn data_without_a_symbol(rt: HostRuntime) -> Result<(), Fail> {
     let field = bars_of(Orientation::Normal, b"a");
-    same(&rt, &content_size(&NONE, b"a", &field.content), &(0, 0));
+    same(&rt, &field.rows, &0);
     shows(
         &rt,
         painted(rt.alloc(), 40, 40, b"a", &field)?,

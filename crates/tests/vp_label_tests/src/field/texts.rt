@@ -3,9 +3,10 @@ ghost use Rattle.std.specs.Prelude.{◌≤◌, length};
 ghost use Rattle.vp_field.specs.Fields.{IsKept};
 
 use super::{Label, Painter, Rows, shows, view_of, whole};
-use crate::sheets::stairs;
+use crate::sheets::{NONE, stairs};
 use std::test::Fail;
 use vp_dots::Op;
+use vp_field::{SizedContent, turned_rows};
 use vp_format::{Content, Field, Text, TextBlock};
 use vp_glyph::Alignment;
 use vp_zpl::item::Orientation;
@@ -15,16 +16,19 @@ fn text(orientation: Orientation, left: i8, stored: &[u8]) -> Field
     requires { length stored.now ≤ 100 }
     ensures { IsKept stored.now result }
 {
+    let text = Text {
+        bytes: whole(stored),
+        width: 12,
+        height: 24,
+    };
+    let shown = SizedContent::text(&NONE, stored, text);
     Field {
         op: Op::Black,
         left: i64::from(left),
         top: 0,
+        rows: turned_rows(orientation, shown.width, shown.height),
         orientation,
-        content: Content::Text(Text {
-            bytes: whole(stored),
-            width: 12,
-            height: 24,
-        }),
+        content: Content::Text(text),
     }
 }
 
@@ -33,22 +37,26 @@ fn block(orientation: Orientation, stored: &[u8], lines: u8, alignment: Alignmen
     requires { length stored.now ≤ 100 }
     ensures { IsKept stored.now result }
 {
+    let text = Text {
+        bytes: whole(stored),
+        width: 12,
+        height: 24,
+    };
+    let block = TextBlock {
+        text,
+        width: 24,
+        lines: u16::from(lines),
+        gap: 0,
+        alignment,
+    };
+    let shown = SizedContent::block(&NONE, stored, block);
     Field {
         op: Op::Black,
         left: 0,
         top: 0,
+        rows: turned_rows(orientation, shown.width, shown.height),
         orientation,
-        content: Content::Block(TextBlock {
-            text: Text {
-                bytes: whole(stored),
-                width: 12,
-                height: 24,
-            },
-            width: 24,
-            lines: u16::from(lines),
-            gap: 0,
-            alignment,
-        }),
+        content: Content::Block(block),
     }
 }
 

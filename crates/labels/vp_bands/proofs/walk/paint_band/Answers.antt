@@ -1,8 +1,9 @@
-use Rattle.std.proofs.Common.{◌≡◌, ◌+◌, ◌*◌, ◌<◌, ◌≤◌, pos, length, take, ap, ◌∙◌, refl, subst, arith}
+use Rattle.std.proofs.Common.{◌≡◌, ◌+◌, ◌*◌, ◌<◌, ◌≤◌, pos, length, take, get_or, ap, ◌∙◌, refl, subst, arith}
 use Rattle.std.specs.List.{sum_by}
-use Rattle.std.proofs.lemmas.List.{length-set, get_or-map, length-map}
+use Rattle.std.proofs.lemmas.List.{length-set, get_or-map, get_or_default, length-map}
 use Rattle.vp_field.specs.Bands.{Shows, IsCounted}
-use Rattle.vp_field.specs.Fields.{field_ink, AreMarksOf}
+use Rattle.vp_field.specs.declared.marks.Marks.{Marks}
+use Rattle.vp_field.specs.Fields.{field_ink, no_marks, AreMarksOf}
 use Rattle.vp_field.specs.Views.{seen_x, seen_y}
 use Rattle.vp_fields_by_band.specs.declared.table.Entry.{Entry}
 use Rattle.vp_fields_by_band.specs.Threads.{no_entry, entry_at, link_at}
@@ -48,7 +49,10 @@ paint_entry-work-requires-clause-marked g c =
     let done = c.loop-n.invariant in
     let next = c.in-Some.ensures entries b c.loop-n.walk.seen (length entries) done.walk.carried done.walk.begins in
     let is : c.entry-entry.result ≡ entry_at entries n = rw (← done.stays.entries) c.entry-entry.ensures.value in
-    λ before. rw is (done.ahead n next.0 next.1 (carried_here (entry_at entries n) b next.2 (subst (λ (e : Entry). e.first < b) is before)))
+    let within : n < length c.loop-n.marks = omega (arith, next.1, c.requires.marks, done.lengths) in
+    let same : get_or c.loop-n.marks n no_marks ≡ get_or c.loop-n.marks n c.index-marks-n.result = get_or_default c.loop-n.marks n no_marks c.index-marks-n.result within in
+    λ before. rw is (subst (λ (m : Marks). AreMarksOf c.args.stored.now (entry_at entries n).field.content m) same
+    (done.ahead n next.0 next.1 (carried_here (entry_at entries n) b next.2 (subst (λ (e : Entry). e.first < b) is before))))
 
 pub bounds-marks-n : goal.bounds-marks-n
 bounds-marks-n g c =

@@ -2,7 +2,7 @@ use Rattle.std.proofs.Common.{◌+◌, ◌∙◌, pos}
 use Rattle.vp_qr.specs.Inks.{side, ink_of}
 use Rattle.vp_field.specs.Contents.{bytes_of, qr_side, qr_dot}
 use Rattle.vp_field.specs.Views.{seen_x, seen_y}
-use Rattle.vp_field.proofs.Shown.{rows_same, qr_standing, qr_same}
+use Rattle.vp_field.proofs.Shown.{rows_same, qr_standing}
 use Rattle.vp_field.proofs.field.paint_qr.Goals as goal
 
 pub returns-clause-dots : goal.returns-clause-dots
@@ -10,9 +10,9 @@ returns-clause-dots g c sheets =
     let a = c.args in
     let q = a.symbol in
     let bytes = bytes_of a.stored.now q.bytes in
-    let s = c.scaled.result in
-    let same = qr_same q.level q.mode bytes q.module c.drawn-qr.result s c.requires.symbol.some c.requires.symbol.accepted (rw c.bytes_of.ensures at c.drawn-qr.ensures) (c.scaled.ensures.scale ∙ c.from-3.ensures) c.scaled.ensures.size c.scaled.ensures.rows in
-    rows_same a.on.op _ _ a.band.now _ (λ x k. qr_standing a.on.left a.on.top a.on.orientation (side s) (qr_side q.level q.mode bytes q.module) (ink_of s) (qr_dot q.level q.mode bytes q.module) same.0 same.1
+    let s = c.drawn_symbol-modules.result in
+    let same = c.drawn_symbol-modules.ensures.drawn in
+    rows_same a.on.op _ _ a.band.now _ (λ x k. qr_standing a.on.left a.on.top a.on.orientation (side s) (qr_side q.level q.mode bytes q.module) (ink_of s) (qr_dot q.level q.mode bytes q.module) same.side same.ink
     (seen_x a.on.view (pos x)) (seen_y a.on.view (pos (a.first + k)))) c.paint_standing.ensures.dots
 
 pub returns-clause-counted : goal.returns-clause-counted
@@ -20,7 +20,7 @@ returns-clause-counted g c sheets = λ x k low e.
     let a = c.args in
     let q = a.symbol in
     let bytes = bytes_of a.stored.now q.bytes in
-    let s = c.scaled.result in
-    let same = qr_same q.level q.mode bytes q.module c.drawn-qr.result s c.requires.symbol.some c.requires.symbol.accepted (rw c.bytes_of.ensures at c.drawn-qr.ensures) (c.scaled.ensures.scale ∙ c.from-3.ensures) c.scaled.ensures.size c.scaled.ensures.rows in
-    c.paint_standing.ensures.counted x k low (qr_standing a.on.left a.on.top a.on.orientation (side s) (qr_side q.level q.mode bytes q.module) (ink_of s) (qr_dot q.level q.mode bytes q.module) same.0 same.1
+    let s = c.drawn_symbol-modules.result in
+    let same = c.drawn_symbol-modules.ensures.drawn in
+    c.paint_standing.ensures.counted x k low (qr_standing a.on.left a.on.top a.on.orientation (side s) (qr_side q.level q.mode bytes q.module) (ink_of s) (qr_dot q.level q.mode bytes q.module) same.side same.ink
     (seen_x a.on.view (pos x)) (seen_y a.on.view (pos (a.first + k))) ∙ e)

@@ -54,3 +54,13 @@ returns-then-from-to-clause-counted g c sheets = λ x k low e.
 
 pub returns-clause-counted : goal.returns-clause-counted
 returns-clause-counted g c sheets = λ x k low e. omega arith
+
+pub cursor-rows-requires-clause-mark : goal.cursor-rows-requires-clause-mark
+cursor-rows-requires-clause-mark g c =
+    c.last_before-place.ensures.mark c.args.stored.now (contents.Picture c.args.picture) c.requires.marks
+
+pub returns-clause-marks : goal.returns-clause-marks
+returns-clause-marks g c =
+    let same : c.paint_rows.new.rows.picture ≡ picture_of c.args.stored.now c.args.picture =
+    c.paint_rows.ensures.picture ∙ ap (λ (r : Cursor). r.picture) c.go_to.ensures.rows ∙ c.cursor-rows.ensures.picture in
+    c.keep_behind.ensures c.args.stored.now (contents.Picture c.args.picture) c.go_to.ensures.marks (rw same at c.mark.ensures.is)

@@ -3,5 +3,5 @@ use Rattle.vp_bands.proofs.Before.{begun}
 use Rattle.vp_bands.proofs.painter.BandPainter.thread.Goals as goal
 
 pub returns-clause-before : goal.returns-clause-before
-returns-clause-before g c =
-    rw c.start.ensures (begun c.args.sheets.now c.args.format.now.stored c.args.view _ c.thread_fields.ensures.threaded refl refl refl)
+returns-clause-before g c = λ sheets.
+    rw c.start.ensures (begun sheets c.args.format.now.stored c.args.view _ (c.thread_fields.ensures.threaded sheets) refl refl refl)

@@ -61,7 +61,7 @@ returns-clause-pending g c =
     let P : Printing _ → Type 0 = λ p. (before : List Item) (name : Name) (sent : List Kept) → Gathers p.sheets p.gathered before →
     left j.sheets bytes (view_of now.in_force.settings) c.begin.new.self ≡ prints p.sheets before (Given c.args.command name sent) in
     subst P c.self.view_is (λ before name sent g.
-    sym (ap (λ (v : View). left j.sheets bytes v c.begin.new.self) view) ∙ c.begin.ensures.left
+    sym (ap (λ (v : View). left j.sheets bytes v c.begin.new.self) view) ∙ c.begin.ensures.left j.sheets
     ∙ ap (λ (v : View). copies_text (label_image j.sheets v bytes fields) c.in-Ok.copies) view ∙ c.in-Ok.ensures.prints before name sent g)
 
 pub returns-clause-idle : goal.returns-clause-idle
@@ -69,7 +69,7 @@ returns-clause-idle g c = λ none.
     let j = c.self.inside in
     let now = c.obey.new.self in
     let q = c.begin.new.self in
-    let p = c.begin.ensures.press in
+    let p = c.begin.ensures.press j.sheets in
     let over = no_copies c.pending_law.ensures (press_image j.sheets now.format.stored (view_of now.in_force.settings) q) q.copies.place (λ some. (let h = p.high in let e = p.height in omega arith, p.place)) none in
     absurd (omega (arith, over, c.begin.ensures.some))
 
@@ -78,6 +78,6 @@ returns-clause-idle_work g c = λ none.
     let j = c.self.inside in
     let now = c.obey.new.self in
     let q = c.begin.new.self in
-    let p = c.begin.ensures.press in
+    let p = c.begin.ensures.press j.sheets in
     let over = no_copies c.pending_law.ensures (press_image j.sheets now.format.stored (view_of now.in_force.settings) q) q.copies.place (λ some. (let h = p.high in let e = p.height in omega arith, p.place)) none in
     absurd (omega (arith, over, c.begin.ensures.some))

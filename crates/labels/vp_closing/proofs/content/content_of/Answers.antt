@@ -1,0 +1,17 @@
+use Rattle.std.proofs.Common.{Ok, ap, sym, subst, ◌∙◌}
+use Rattle.vp_field.specs.Contents.{IsStored}
+use Rattle.vp_field.specs.declared.sized.SizedContent.{SizedContent}
+use Rattle.vp_label_settings.specs.declared.parts.OpenContent.{OpenContent}
+use Rattle.vp_closing.specs.Contents.{content_of, sized_if}
+use Rattle.vp_closing.proofs.content.content_of.Goals as goal
+
+pub returns-in-Frame-clause-value : goal.returns-in-Frame-clause-value
+returns-in-Frame-clause-value g c =
+    let sheets = c.args.sheets.now in
+    let stored = c.args.stored.now in
+    ap (λ (s : SizedContent). Ok s) (c.graphic_box.ensures sheets stored)
+    ∙ sym (ap (λ (o : OpenContent). sized_if sheets stored (content_of stored c.args.settings.now c.args.parts.now o)) c.in-Frame.is)
+
+pub returns-in-Frame-clause-stored : goal.returns-in-Frame-clause-stored
+returns-in-Frame-clause-stored g c =
+    subst (λ (s : SizedContent). IsStored c.args.stored.now s.content) (sym (c.graphic_box.ensures c.args.sheets.now c.args.stored.now)) tt
