@@ -210,7 +210,7 @@ pub no_sixteen : (i d : ℕ) (b : Bool) → (span i (i + 16 * 0) (d / 8) && b) �
 no_sixteen i d b = grind (arith, nat_tests)
 
 -- a dot that is black among those bytes alone
-pub among : (first bytes at n x top y : ℕ) (b c : Bool) → n ≡ (bytes + 15) / 16 → at ≡ min first (72 - 16 * n) → bytes ≤ 64 → x < 576 → (b ≡ true → span first (first + bytes) (x / 8) ≡ true) → b ≡ c → top ≤ y
+pub among : (first bytes at n x top y : ℕ) (b c : Bool) → bytes ≤ 16 * n → at ≡ min first (72 - 16 * n) → n ≡ 2 → x < 576 → (b ≡ true → span first (first + bytes) (x / 8) ≡ true) → b ≡ c → top ≤ y
     → (span at (at + 16 * n) (x / 8) && b) ≡ (leb top y && c)
 among first bytes at n x top y true c e a few h s t l = let i = s refl in grind (arith, nat_tests, t)
 among first bytes at n x top y false c e a few h s t l = grind (arith, nat_tests, t)

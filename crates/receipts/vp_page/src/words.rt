@@ -158,7 +158,7 @@ fn or_sixteens(bytes: &[u8], i: usize, n: usize, row: &mut [u8])
     }
 }
 
-/// Blackens rows of the page, from one on, where one row is black, whose black dots are those of some bytes.
+/// Blackens rows of the page, from one on, where one row is black, whose black dots are those of few bytes.
 pub(crate) fn lay_same<A: Small>(
     row: &[u8; PAPER_BYTES],
     first: usize,
@@ -167,16 +167,15 @@ pub(crate) fn lay_same<A: Small>(
     top: usize,
     band: &mut PageBand<A>,
 )
-    requires few { bytes ≤ 64 }
+    requires few { bytes ≤ 32 }
     requires black { (x : ℕ) → dot row.now x ≡ true → span first (first + bytes) (x / 8) ≡ true }
     requires room { top + h ≤ PAGE_ROWS }
     ensures { (ink : ℕ → Bool) → ((x : ℕ) → x < PAPER_DOTS → dot row.now x ≡ ink x) →
         RowsPainted PAGE_ROWS Black (λ x y. nat_le top y && (nat_lt (y - top) h && ink x)) band.old band.new }
 {
-    let n = bytes.div_ceil(16);
-    let at = first.min(PAPER_BYTES - 16 * n);
+    let at = first.min(PAPER_BYTES - 32);
     for i in 0..h {
-        or_sixteens(row, at, n, band.row_mut(top + i));
+        or_sixteens(row, at, 2, band.row_mut(top + i));
     }
 }
 

@@ -21,7 +21,6 @@ use Rattle.vp_strips.specs.Held.{whole}
 use Rattle.vp_receipt.specs.Standing.{HasPageIf, IsSettled}
 use Rattle.vp_receipt_settings.specs.Line.{Placed, height, line, is_open, mode}
 use Rattle.vp_receipt_settings.specs.Settings.{settings_of}
-use Rattle.vp_receipt_settings.specs.declared.page_mode.PageSettings.{PageSettings}
 use Rattle.vp_strips.specs.LineDots.{HasDots, any_dot}
 use Rattle.vp_receipt.specs.PageMarks.{HasRows, mark_of, line_dot, line_mark, laid_if, layers, layers_with}
 use Rattle.vp_strips.specs.Rows.{paper_row, rows_text, strip_text}

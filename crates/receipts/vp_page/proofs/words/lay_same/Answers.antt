@@ -1,4 +1,4 @@
-use Rattle.std.proofs.Common.{◌≡◌, ◌+◌, ◌<◌, ◌&&◌, ◌∙◌, [], length, get_or, ap, sym, arith, leb}
+use Rattle.std.proofs.Common.{◌≡◌, ◌+◌, ◌<◌, ◌&&◌, ◌∙◌, [], length, get_or, ap, refl, sym, arith, leb}
 use Rattle.vp_dots.specs.Dots.{dot}
 use Rattle.vp_dots.specs.declared.Op.TheVariants.{Black}
 use Rattle.vp_dots.proofs.Paints.{painted_same}
@@ -14,7 +14,7 @@ loop-i-preserved g c = λ ink same.
     let next : c.args.top + (c.loop-i.i + 1) ≡ y + 1 = omega arith in
     rw next (rows_more 1664 Black (λ x k. leb c.args.top k && ink x) y _ _ _ (omega (arith, c.row_mut.ensures.rows, c.requires.room)) (omega (arith, c.requires.room)) (c.loop-i.invariant ink same)
     (painted_same Black _ _ _ _ (λ d l. let small : d < 576 = omega (arith, l, long) in
-    among c.args.first c.args.bytes c.min-at.result c.div_ceil-n.result d c.args.top y (dot c.args.row.now d) (ink d) (omega arith) (omega arith) (omega arith) small (c.requires.black d) (same d small) (omega arith))
+    among c.args.first c.args.bytes c.min-at.result 2 d c.args.top y (dot c.args.row.now d) (ink d) (omega (arith, c.requires.few)) (omega arith) refl small (c.requires.black d) (same d small) (omega arith))
     (rw (sym c.row_mut.ensures.value) c.or_sixteens.ensures)))
 
 pub returns : goal.returns
