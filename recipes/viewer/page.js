@@ -58,6 +58,14 @@ function remove(it) {
 
 Object.assign(act, { choose, close, drawn: drawChoices });
 
+// A dialog is closed here: Firefox 115 takes its form for one that is sent, which the page may not.
+for (const form of document.querySelectorAll('dialog form')) {
+  form.onsubmit = event => {
+    event.preventDefault();
+    form.closest('dialog').close(event.submitter?.value);
+  };
+}
+
 // Choices
 
 function drawSettings() {

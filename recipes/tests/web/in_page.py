@@ -4,6 +4,7 @@ behind that only prints the streams; in_page.py picture PAGE FILE [dark] draws i
 import base64
 import json
 import pathlib
+import signal
 import sys
 import tempfile
 import time
@@ -129,6 +130,8 @@ BROWSERS = {'chromium': Chromium, 'firefox': Firefox, 'webkit': WebKit}
 
 def main():
     what, page, file, *more = sys.argv[1:]
+    # (the browser is closed then)
+    signal.signal(signal.SIGTERM, signal.default_int_handler)
     page = pathlib.Path(page).resolve()
     with tempfile.TemporaryDirectory() as room:
         if what == 'picture':
