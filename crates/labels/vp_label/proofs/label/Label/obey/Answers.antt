@@ -7,7 +7,7 @@ use Rattle.vp_field.specs.declared.view.View.{View}
 use Rattle.vp_copies.specs.Copies.{copies_text}
 use Rattle.vp_label.specs.Gathered.{Gathers}
 use Rattle.vp_label.specs.Prints.{label_image, prints, view_of}
-use Rattle.vp_label.specs.Press.{left, press_image}
+use Rattle.vp_label.specs.Press.{left, press_image, IsPress}
 use Rattle.vp_label.specs.Refusals.{refusal}
 use Rattle.vp_label.specs.Standing.{Printing}
 use Rattle.vp_label.proofs.Idle.{no_copies, nothing_left}
@@ -81,3 +81,13 @@ returns-clause-idle_work g c = λ none.
     let p = c.begin.ensures.press j.sheets in
     let over = no_copies c.pending_law.ensures (press_image j.sheets now.format.stored (view_of now.in_force.settings) q) q.copies.place (λ some. (let h = p.high in let e = p.height in omega arith, p.place)) none in
     absurd (omega (arith, over, c.begin.ensures.some))
+
+pub invariant_of-self-2 : goal.invariant_of-self-2
+invariant_of-self-2 g c =
+    let j = c.self.inside in
+    let bytes = c.obey.new.self.format.stored in
+    record {
+      gathered = c.in-Ok.ensures.some;
+      press = λ some. subst (λ (v : View). IsPress j.sheets bytes v c.begin.new.self) c.view_of-view.ensures (c.begin.ensures.press j.sheets);
+      fields = λ some. c.begin.ensures.fields;
+    }
