@@ -205,8 +205,9 @@ fn paint_content<A: Small>(
 
 /// Paints a field on a band, whose first row is row `first` of the label as it is put out. The marks are
 /// those that earlier bands left in its picture, or none, so that not all rows above are read again; more are
-/// left for the bands that come later. Of a QR symbol its modules are left, which are drawn once so. What that took comes back: of a picture how many bytes of its codes
-/// were read, rows passed, and rows painted; of all else how many lines of ink were drawn.
+/// left for the bands that come later, and of a QR symbol its modules. What that took comes back: of a
+/// picture how many bytes of its codes were read, rows passed, and rows painted; of all else how many lines
+/// of ink were drawn.
 pub fn paint_field<A: Small>(
     sheets: &Sheets<A>,
     stored: &[u8],

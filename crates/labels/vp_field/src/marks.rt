@@ -62,7 +62,7 @@ impl Marks {
         Marks::Nothing
     }
 
-    /// The last mark of a picture that doesn't lie behind a row, if there is one, and the place behind its own.
+    /// The last mark that doesn't lie behind a row, if a picture left one, and the place behind its own.
     pub fn last_before(&self, row: u32) -> (usize, Option<RunMark>)
         ensures before { row_at result.1 ≤ row }
         ensures mark { (stored : List ℕ) (c : Content) → AreMarksOf stored c self.now →
