@@ -2,7 +2,7 @@
 ghost use Rattle.std.specs.Prelude.{◌≡◌, ◌≤◌, length, IfOk};
 ghost use Rattle.vp_format.specs.declared.field.Content.TheVariants as contents;
 ghost use Rattle.vp_glyph.specs.Sheets.{Sheets};
-ghost use Rattle.vp_field.specs.Contents.{content_width, content_height, LiesIn};
+ghost use Rattle.vp_field.specs.Contents.{content_width, content_height, IsSymbol, LiesIn};
 ghost use Rattle.vp_field.specs.Fields.{IsKept};
 ghost use Rattle.vp_field.specs.Turning.{turned_height};
 
@@ -57,23 +57,31 @@ fn bars_of(orientation: Orientation, stored: &[u8]) -> Field
     }
 }
 
-/// The QR symbol of data at the label's corner, where they have one.
-fn symbol(stored: &[u8]) -> Result<Field, Fault>
+/// The QR symbol of data, its modules of one dot, where they have one.
+fn modules_of(stored: &[u8]) -> Result<QrSymbol, Fault>
     requires { length stored.now ≤ 100 }
-    ensures { IfOk result (IsKept stored.now) }
+    ensures { IfOk result (IsSymbol stored.now) }
 {
     let qr = encode(stored, Level::M, Mode::Auto)?;
     let Ok(mask) = u8::try_from(qr.mask()) else {
         return Err(Fault::Unprinted);
     };
-    let shown = SizedContent::qr(QrSymbol {
+    Ok(QrSymbol {
         bytes: whole(stored),
         level: Level::M,
         mode: Mode::Auto,
         module: 1,
         version: qr.version() as u8,
         mask,
-    });
+    })
+}
+
+/// The QR symbol of data at the label's corner, where they have one.
+fn symbol(stored: &[u8]) -> Result<Field, Fault>
+    requires { length stored.now ≤ 100 }
+    ensures { IfOk result (IsKept stored.now) }
+{
+    let shown = SizedContent::qr(modules_of(stored)?);
     Ok(Field {
         op: Op::Black,
         left: 0,
