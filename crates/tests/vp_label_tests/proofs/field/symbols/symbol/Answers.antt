@@ -15,7 +15,7 @@ returns c =
     let symbol = c.in_ok-modules_of.field-0 in
     let kept = c.in_ok-modules_of.ensures in
     let is : (sheets : Sheets) → c.qr-shown.result ≡ sized sheets stored (contents.Qr symbol) =
-        λ sheets. c.qr-shown.ensures sheets stored kept in
+    λ sheets. c.qr-shown.ensures sheets stored kept in
     record {
       near = record {
         left_low = omega (arith, ints);
