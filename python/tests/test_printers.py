@@ -57,6 +57,14 @@ class Faults(unittest.TestCase):
             printer.feed(b'^XA^FO1,1^A0N,24^FDabc^FS^FD')
             self.assertEqual((printer.held.fields, printer.held.stored), (1, 3))
 
+    def test_memory_stays(self):
+        for setup, without_sheets in (vp.Receipt(), 159744), (vp.Label(), 1303328):
+            with setup.start() as printer:
+                memory = printer.memory
+                self.assertGreater(memory, without_sheets)
+                printer.feed(b'A\n^XA^FO1,1^A0N,24^FDabc^FS^XZ')
+                self.assertEqual(printer.memory, memory)
+
 
 class BadInput(unittest.TestCase):
     def test_sheets_as_the_program_says_it(self):
@@ -102,7 +110,7 @@ class BadInput(unittest.TestCase):
         finished = vp.Receipt().start()
         self.assertIsNone(finished.finish())
         for it in printer, finished:
-            for call in (lambda it=it: it.feed(b'A'), it.finish, lambda it=it: it.held):
+            for call in (lambda it=it: it.feed(b'A'), it.finish, lambda it=it: it.held, lambda it=it: it.memory):
                 with self.assertRaises(vp.Closed) as raised:
                     call()
                 self.assertEqual(str(raised.exception), 'vp: the printer is closed')

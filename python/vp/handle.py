@@ -70,6 +70,13 @@ class Handle:
             library().vp_held(self._made, held)
             return Held(held.line_rows, held.page_rows, held.band_rows, held.stored, held.fields)
 
+    def memory(self) -> int:
+        with self._lock:
+            self._is_open()
+            held = ctypes.c_size_t()
+            library().vp_memory(self._made, held)
+            return held.value
+
     def close(self) -> None:
         with self._lock:
             self._free()

@@ -69,6 +69,7 @@ def library() -> ctypes.CDLL:
         'vp_step': (u32, [printer, pointer, size, pointer, size, ctypes.POINTER(CProgress)]),
         'vp_finish': (u32, [printer, ctypes.POINTER(CFault)]),
         'vp_held': (u32, [printer, ctypes.POINTER(CHeld)]),
+        'vp_memory': (u32, [printer, ctypes.POINTER(size)]),
         'vp_free': (None, [printer]),
         'vp_fault_line': (size, [ctypes.POINTER(CFault), ctypes.c_uint64, ctypes.c_char_p, size]),
         'vp_answer_text': (size, [u32, ctypes.c_char_p, size]),

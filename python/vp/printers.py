@@ -110,6 +110,11 @@ class Printer:
         return self._handle.held()
 
     @property
+    def memory(self) -> int:
+        """The bytes of memory that the printer was made with, and still holds."""
+        return self._handle.memory()
+
+    @property
     def unfinished(self) -> bytes:
         """What came of an image whose last row isn't printed."""
         with self._lock:
