@@ -1,6 +1,7 @@
 """Who comes in: one loop holds each connection until the first line of its head shows the secret."""
 import resource
 import selectors
+import signal
 import socket
 import time
 
@@ -27,16 +28,31 @@ class Gate:
         self.ways.register(self.listener, selectors.EVENT_READ)
 
     def serve(self):
-        while True:
-            oldest = next(iter(self.waiting.values()), None)
-            for key, _ in self.ways.select(oldest and max(0, oldest[0] - time.monotonic())):
-                if key.fileobj is self.listener:
-                    self.accept()
-                elif key.fileobj in self.waiting:
-                    self.hear(key.fileobj)
-            now = time.monotonic()
-            while self.waiting and next(iter(self.waiting.values()))[0] <= now:
-                self.drop()
+        # a signal that comes just before a wait ends the wait too
+        woken, waker = socket.socketpair()
+        with woken, waker:
+            woken.setblocking(False)
+            waker.setblocking(False)
+            self.ways.register(woken, selectors.EVENT_READ)
+            signal.set_wakeup_fd(waker.fileno(), warn_on_full_buffer=False)
+            try:
+                while True:
+                    self.turn(woken)
+            finally:
+                signal.set_wakeup_fd(-1)
+
+    def turn(self, woken):
+        oldest = next(iter(self.waiting.values()), None)
+        for key, _ in self.ways.select(oldest and max(0, oldest[0] - time.monotonic())):
+            if key.fileobj is woken:
+                woken.recv(MOST_HEAD)
+            elif key.fileobj is self.listener:
+                self.accept()
+            elif key.fileobj in self.waiting:
+                self.hear(key.fileobj)
+        now = time.monotonic()
+        while self.waiting and next(iter(self.waiting.values()))[0] <= now:
+            self.drop()
 
     def close(self):
         while self.waiting:
