@@ -39,9 +39,7 @@ use vp_dots::{Ink, Small};
 use vp_esc::item::Cut;
 use vp_glyph::{Cell, Sheets};
 use vp_page::{PAPER_BYTES, Page};
-use vp_receipt_settings::{
-    Effect, Piece, PrinterMode, Raster, Settings, times_across, times_down,
-};
+use vp_receipt_settings::{Effect, Piece, PrinterMode, Raster, Settings, times_across, times_down};
 use vp_strips::{After, Bitmap, Canvas, Job, Strip, Symbol, write_raster_row};
 
 /// Puts the character that waits into the line.
