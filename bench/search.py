@@ -4,18 +4,22 @@
 the ten worst of each language, each beside 1,024 boxes over a whole label, in as many copies as have its bytes of paper.
 Where one takes longer than it may (LIMITS), that is said, and the status is 1.
 
-A stream has a name, as label:7.1.52: the number that it grew from, and those of the changes that were made to it. The name
-alone makes it again, whatever the machine: search.py --make NAME [--bytes N]. bench/found.txt keeps the names of the worst
-that were found, which a search begins with; --keep writes them anew."""
+A stream has a name, as label:7.1.52 or receipt:widest-up.3: the number, or the kind of streams of bench/hostile.sh, that it
+grew from, and the numbers of the changes that were made to it. The name alone makes it again, whatever the machine:
+search.py --make NAME [--bytes N]. bench/found.txt keeps the names of the worst that were found, which a search begins with
+beside all kinds; --keep writes them anew."""
 import argparse
 import concurrent.futures
 import os
 import random
+import re
 import resource
 import subprocess
 import sys
 import tempfile
 import time
+
+from receipts import AGAIN
 
 ROOT = os.path.dirname(os.path.dirname(os.path.realpath(__file__)))
 FOUND = f"{ROOT}/bench/found.txt"
@@ -179,11 +183,65 @@ def field(rng):
     return f"{place}{rng.choice(('', '', '^FR'))}{drawn}^FS".encode()
 
 
+# Fields that hold the program up, each 1,024 times (bench/hostile.sh), with what stands before them.
+LABELS = {
+    "texts": ("", "^A0R,1500,30^FD" + 254 * "A"),
+    "over-each-other": ("", "^FB1,9999,-9999^A0N,1500,1^FD" + 254 * "A"),
+    "paragraphs": ("", "^A0B,31,1500^FB8000,9999,0,L^FD" + 100 * "\\&"),
+    "lines": ("", "^A0B,31,1500^FB8000,9999,0,L^FD" + 33 * "AAAAA\\&"),
+    "wrapped": ("", "^A0B,24,1500^FB8000,9999,0,L^FD" + 255 * "A"),
+    "near": ("", "^A0B,1500,1500^FB8000,9999,-1495,L^FD" + 255 * "A"),
+    "wide": ("", "^A0N,1500,1248^FB1248,9999,-1499^FD" + 250 * "A"),
+    "turned-bars": ("", "^BY1^BCR,1248,N^FD>:" + 238 * "7"),
+    "high-bars": ("", "^BCN,8000,N^FD>:" + 234 * "A"),
+    "symbols": ("", "^BQN,2,10^FDLA," + 250 * "a"),
+    "pictures": ("^POI", "^GFA,8192000,8192000,1024," + 80 * "F,:"),
+}
+
+
+def other_number(rng, found, most):
+    """A number near another, or twice or half of it."""
+    near = rng.randrange(1, 40)
+    return min(max(0, rng.choice((found + 1, found - 1, found + near, found - near, 2 * found, found // 2))), most)
+
+
+def other_length(rng, data):
+    """Data that are longer or shorter."""
+    return rng.choice((data + data, data[: len(data) // 2], data[:-1], data[rng.randrange(len(data) + 1) :]))
+
+
+def nudged(rng, language, piece):
+    """A piece of which one number, or the length of the data, is another."""
+    if language == "receipt":
+        if len(piece) < 3:
+            return piece
+        at = rng.randrange(2, len(piece))
+        return piece[:at] + bytes([other_number(rng, piece[at], 255)]) + piece[at + 1 :]
+    head, mark, data = piece.partition(b"^FD")
+    numbers = [*re.finditer(rb"\d+", head)]
+    if mark and (not numbers or rng.random() < 0.3):
+        return head + mark + other_length(rng, data.removesuffix(b"^FS")) + b"^FS"
+    if not numbers:
+        return piece
+    it = rng.choice(numbers)
+    return piece[: it.start()] + b"%d" % other_number(rng, int(it[0]), 99_999_999) + piece[it.end() :]
+
+
 class Stream:
     """What stands once, and what stands again and again."""
 
-    def __init__(self, language, seed):
-        self.language, rng = language, random.Random(f"{language} {seed}")
+    def __init__(self, language, begin):
+        self.language = language
+        if language == "receipt" and begin in AGAIN:
+            self.once, self.again = [b"\x1bL", AGAIN[begin][0]], [AGAIN[begin][1]]
+        elif language == "label" and begin in LABELS:
+            once, again = LABELS[begin]
+            self.once, self.again = [once.encode()], [f"{again}^FS".encode()]
+        else:
+            self.grow(random.Random(f"{language} {begin}"))
+
+    def grow(self, rng):
+        language = self.language
         self.once = [self.piece(rng, True) for _ in range(rng.randrange(4))]
         if language == "receipt" and rng.random() < 0.5:
             self.once[:0] = [b"\x1bL", wide_area(rng), b"\x1bT" + bytes([rng.randrange(4)])]
@@ -199,7 +257,7 @@ class Stream:
         for _ in range(rng.choice((1, 1, 2))):
             is_once = rng.random() < 0.4
             pieces = self.once if is_once else self.again
-            kind = rng.choice(("add", "add", "drop", "other", "other", "twice", "turn"))
+            kind = rng.choice(("add", "add", "drop", "other", "other", "twice", "turn", *(4 * ["nudge"])))
             if kind == "add" or not pieces:
                 pieces.insert(rng.randrange(len(pieces) + 1), self.piece(rng, is_once))
             elif kind == "drop":
@@ -208,6 +266,9 @@ class Stream:
                 pieces[rng.randrange(len(pieces))] = self.piece(rng, is_once)
             elif kind == "twice":
                 pieces.append(rng.choice(pieces))
+            elif kind == "nudge":
+                at = rng.randrange(len(pieces))
+                pieces[at] = nudged(rng, self.language, pieces[at])
             else:
                 rng.shuffle(pieces)
 
@@ -223,9 +284,9 @@ class Stream:
 
 def made(name):
     """Returns the stream of a name."""
-    language, _, numbers = name.partition(":")
-    seed, *changes = numbers.split(".")
-    stream = Stream(language, seed)
+    language, _, rest = name.partition(":")
+    begin, *changes = rest.split(".")
+    stream = Stream(language, begin)
     for it in changes:
         stream.change(it)
     return stream
@@ -281,7 +342,8 @@ def searched(given, language):
     """Returns the worst streams of a language that were found, the worst first, each with what it takes and its size."""
     rng, end = random.Random(f"{language} {given.seed}"), time.monotonic() + given.minutes * 60
     best, tried = [], 0
-    begin = [it for it in known() if it.startswith(language)]
+    kinds = AGAIN if language == "receipt" else LABELS
+    begin = [*(f"{language}:{it}" for it in kinds), *(it for it in known() if it.startswith(language))]
     with concurrent.futures.ThreadPoolExecutor(given.lanes) as pool:
         under_way = {}
         while under_way or time.monotonic() < end:

@@ -2,7 +2,7 @@
 """build.py [WHY]: builds the printer, which proves it, and says on standard error why, and how far it is. Where the built
 program stands for the sources as they are, by their content, nothing is built. Beside the program made-from tells what it
 was made from, as dist/made-from does; NAME.bc is the module that LLVM made it of. build.py --library builds the library
-for C in the same way.
+for C in the same way, and --module the library of which tools/systems makes the WebAssembly module.
 
 Crates that don't stand on one another are proved side by side, each from nothing, by the toolchain's rattle itself: its
 command rt would lock all that a crate stands on. A crate's library, with statements and not their proofs, stands in
@@ -22,7 +22,10 @@ import library  # noqa: E402
 from keeping import keeping  # noqa: E402
 
 ROOT = os.path.dirname(os.path.dirname(os.path.dirname(os.path.realpath(__file__))))
-PROGRAM, LIBRARY = "program/vp_cli", "program/vp_c"
+PROGRAM, LIBRARY, MODULE = "program/vp_cli", "program/vp_c", "program/vp_module"
+# What is built, by the word for it.
+WHAT = {PROGRAM: "printer", LIBRARY: "library for C", MODULE: "library for WebAssembly"}
+TOPS = {"--library": LIBRARY, "--module": MODULE}
 OUT = f"{ROOT}/out"
 PARTS = ("src", "specs", "proofs")
 # What a check is likely to take, in bytes, with one job and for each further one.
@@ -130,10 +133,10 @@ class Program(Crate):
 
 
 class Archive(Crate):
-    """The crate whose exports are the library for C."""
+    """A crate whose exports a program in C or a host of a module calls."""
 
     def built(self):
-        return f"{self.folder}/out/lib{self.name}.a", f"{OUT}/library"
+        return f"{self.folder}/out/lib{self.name}.a", f"{OUT}/{self.name}"
 
     def commands(self, jobs):
         archive = self.built()[0]
@@ -142,14 +145,15 @@ class Archive(Crate):
         return [[*words, "--toolchain", kept, "--jobs", str(jobs)]]
 
     def finish(self):
-        """Links the library."""
+        """Links the library for C."""
         archive = self.built()[0]
-        library.make(archive, os.path.dirname(archive))
+        if self.folder.endswith(LIBRARY):
+            library.make(archive, os.path.dirname(archive))
 
 
 def crates_below(name, stands_on, kit):
     """Returns the crates of the program or the library, each after those that it stands on."""
-    made, tops = {}, {PROGRAM: Program, LIBRARY: Archive}
+    made, tops = {}, {PROGRAM: Program, LIBRARY: Archive, MODULE: Archive}
 
     def make(it):
         if it in stands_on and it not in made:
@@ -351,8 +355,8 @@ def no_help():
 def main():
     rt = shutil.which("rt")
     words = sys.argv[1:]
-    top = LIBRARY if words[:1] == ["--library"] else PROGRAM
-    what = "library for C" if top == LIBRARY else "printer"
+    top = TOPS.get(words[0] if words else "", PROGRAM)
+    what = WHAT[top]
     if top == PROGRAM and words and words[0]:
         print(f"vp: {words[0]}", file=sys.stderr, flush=True)
     why = no_help()

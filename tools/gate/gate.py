@@ -10,7 +10,7 @@ another form are tried, which must be taken (passing.py).
 rt ci wants all crates side by side. So it runs on a copy of the repository in which each crate of crates/FOLDER/NAME
 stands in crates/NAME, and what it made of the program is brought back, with the module that LLVM made it of. Where all
 went well and no source changed meanwhile, made-from beside the program tells what it was made from, and the library for C
-is made too, of its crate's archive."""
+is made too, of its crate's archive, and the module for WebAssembly of its own."""
 import importlib.machinery
 import importlib.util
 import os
@@ -20,11 +20,12 @@ import subprocess
 import sys
 import tempfile
 
-PROGRAM, LIBRARY = "crates/program/vp_cli/out/vp_cli", "crates/program/vp_c"
+PROGRAM, LIBRARY, MODULE = "crates/program/vp_cli/out/vp_cli", "crates/program/vp_c", "crates/program/vp_module"
 TOOLS = os.path.dirname(os.path.dirname(os.path.realpath(__file__)))
 sys.dont_write_bytecode = True
 sys.path.insert(0, f"{TOOLS}/dist")
 import library  # noqa: E402
+from build import crates_below, listed  # noqa: E402
 from edits import Edit, one_for_each_function, with_all  # noqa: E402
 from keeping import keeping  # noqa: E402
 from passing import all_taken  # noqa: E402
@@ -179,9 +180,25 @@ def make_library(rt, room, root):
     print(f"gate: the library for C is made of {name}", flush=True)
     if not built(rt, room, name, f"out/lib{name}.a"):
         return False
-    for made in (f"lib{name}.a", f"{name}.bc"):
-        bring_back(f"{folder}/out/{made}", f"{to}/{made}")
+    bring_back(f"{folder}/out/lib{name}.a", f"{to}/lib{name}.a")
     library.make(f"{to}/lib{name}.a", to)
+    return True
+
+
+def make_for_hosts(rt, room, root):
+    """Leaves the module of which tools/systems makes the library for WebAssembly, and returns whether that went well."""
+    name = os.path.basename(MODULE)
+    folder = f"{room}/crates/{name}"
+    if not os.path.isdir(folder):
+        return True
+    print(f"gate: the module for WebAssembly is made of {name}", flush=True)
+    if not built(rt, room, name, f"out/lib{name}.a"):
+        return False
+    for made in (f"lib{name}.a", f"{name}.bc"):
+        bring_back(f"{folder}/out/{made}", f"{root}/{MODULE}/out/{made}")
+    os.makedirs(f"{root}/out", exist_ok=True)
+    with open(f"{root}/out/{name}", "w", encoding="utf-8") as it:
+        it.write(crates_below(MODULE.partition("/")[2], listed(), rt.KIT)[-1].content())
     return True
 
 
@@ -200,7 +217,8 @@ def main():
         program = f"{root}/{PROGRAM}"
         if not status and program in programs.values() and sources(root) == before:
             tell_made_from(program)
-            status = int(not (make_module(rt, f"{room}/all", root) and make_library(rt, f"{room}/all", root)))
+            makers = make_module, make_library, make_for_hosts
+            status = int(not all(make(rt, f"{room}/all", root) for make in makers))
         return status
 
 

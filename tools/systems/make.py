@@ -25,7 +25,7 @@ from retarget import of_target  # noqa: E402
 
 DIST, TOLD = f"{ROOT}/dist", f"{ROOT}/dist/systems"
 # The crates whose modules are used.
-PROGRAM, LIBRARY = "program/vp_cli", "program/vp_c"
+PROGRAM, LIBRARY = "program/vp_cli", "program/vp_module"
 # How the toolchain compiles a module, what it adds for x86-64, and how our C is compiled.
 EVERYWHERE = "--no-default-config -no-canonical-prefixes -fintegrated-cc1 -fno-crash-diagnostics -ffunction-sections"
 EVERYWHERE += " -fdata-sections"
@@ -193,11 +193,12 @@ def is_current():
 
 
 def build_anew():
-    """Builds anew what was built without leaving its module."""
-    for crate, stamp, words in ((PROGRAM, "printer", []), (LIBRARY, "library", ["--library"])):
-        if not os.path.exists(module_of(crate)):
-            if os.path.exists(f"{ROOT}/out/{stamp}"):
-                os.remove(f"{ROOT}/out/{stamp}")
+    """Builds what was built without leaving its module, and the library for WebAssembly where it is of other sources."""
+    for crate, stamp, words in ((PROGRAM, "printer", []), (LIBRARY, "vp_module", ["--module"])):
+        is_there = os.path.exists(module_of(crate))
+        if not is_there and os.path.exists(f"{ROOT}/out/{stamp}"):
+            os.remove(f"{ROOT}/out/{stamp}")
+        if not is_there or crate == LIBRARY:
             subprocess.run([sys.executable, f"{ROOT}/tools/dist/build.py", *words], check=False)
 
 

@@ -36,12 +36,24 @@ await vp.load();
 const first = new vp.Printer('receipt');
 const { allocations } = first;
 isSo([new vp.Printer('receipt').allocations, first.allocations], [allocations, allocations]);
+// what is made takes as many blocks whatever it holds, since all that is cut from one; a listing holds nothing
+const fontA = new Uint8Array(readFileSync(new URL('../../../examples/font-a.pbm', import.meta.url)));
+isSo([new vp.Printer('label'), new vp.Printer('label', { fontA }), new vp.Printer('receipt', { fontA })]
+  .map(it => it.allocations), Array(3).fill(allocations));
+isSo(new vp.Listing('label').allocations, 4);
+// a room has just as many bytes as the printer in it holds
+const fontB = new Uint8Array(readFileSync(new URL('../../../examples/font-b.pbm', import.meta.url)));
+const rooms = readFileSync(new URL('../../../crates/program/vp_module/src/room.rt', import.meta.url), 'utf-8');
+const room = name => Number(new RegExp(`const ${name}: usize = ([\\d_]+);`).exec(rooms)[1].replaceAll('_', ''));
+const held = (language, sheets) => new vp.Printer(language, sheets).memory;
+isSo([held('receipt'), held('label'), held('label', { fontA }), held('receipt', { fontA, fontB })],
+  [room('RECEIPT'), room('LABEL'), room('LABEL') + room('SHEET_A'), room('RECEIPT') + room('SHEET_A') + room('SHEET_B')]);
 const stopped = new vp.Printer('receipt');
 isSo(vp.join(vp.images(stopped.feed(some.encode('Hi\nHi\n\x1b\x7fHi\n')))).height, 68);
 isSo([stopped.fault, stopped.taken, stopped.feed(some.encode('Hi\n')).length, stopped.end()],
   ['vp: F1 after 8 bytes: unknown command 1B 7F', 8, 0, 'vp: F1 after 8 bytes: unknown command 1B 7F']);
 isSo([new vp.Printer('receipt'), new vp.Printer('label'), new vp.Listing('label')].map(it => it.memory),
-  [159744, 1303328, 0]);
+  [159744, 1254176, 0]);
 for (const [language, name] of [['receipt', 'ticket.bin'], ['label', 'shelf.zpl']]) {
   for (const offsets of [false, true]) {
     const stream = new Uint8Array(readFileSync(new URL(`../../../examples/${name}`, import.meta.url)));

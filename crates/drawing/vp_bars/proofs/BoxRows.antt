@@ -141,6 +141,6 @@ bars_painted op at b row new s vs x next e v l d =
     (λ i. ap (λ z. leb z i && is_black b.bars b.narrow b.wide (i - z)) (sym l) ∙ ap (λ z. leb x i && z) (same (i - x)))))
     (λ j. refl)
 
--- two rows of bars are alike
-pub bars_repeat : (b : Boxed) (y x : ℕ) → box_top b < y → y < box_top b + b.height → box_dot b x y ≡ box_dot b x (y - 1)
-bars_repeat b y x h k = sym (row_bars b y x (omega arith) k) ∙ row_bars b (y - 1) x (omega arith) (omega arith)
+-- rows of bars are alike
+pub bars_alike : (b : Boxed) (y x v : ℕ) → box_top b ≤ y → y < box_top b + b.height → box_top b ≤ v → v < box_top b + b.height → box_dot b x v ≡ box_dot b x y
+bars_alike b y x v h k l m = sym (row_bars b v x l m) ∙ row_bars b y x h k

@@ -188,14 +188,20 @@ impl Bars {
     }
 }
 
-/// Whether row y of a box is known to have the dots of the row above it, as two rows of bars have: of any
-/// symbol whose text stands at `place` in `font`, and whose bars are `height` dots high.
-pub fn rows_repeat(place: HriPosition, font: Font, height: u16, y: u32) -> bool
-    ensures { result ≡ true → (b : Boxed) → b.place ≡ place → b.font ≡ font → b.height ≡ height
-        → (x : ℕ) → box_dot b x y ≡ box_dot b x (y - 1) }
+/// The first and the last of the rows around row y of a box that are known to have its dots, as the rows of bars
+/// have: of any symbol whose text stands at `place` in `font`, and whose bars are `height` dots high.
+pub fn alike_rows(place: HriPosition, font: Font, height: u16, y: u32) -> (u32, u32)
+    ensures first { result.0 ≤ y }
+    ensures last { y ≤ result.1 }
+    ensures same { (b : Boxed) → b.place ≡ place → b.font ≡ font → b.height ≡ height
+        → (x v : ℕ) → result.0 ≤ v → v ≤ result.1 → box_dot b x v ≡ box_dot b x y }
 {
     let top = above(place) * font.height();
-    y > top && y < top + u32::from(height)
+    let bottom = top + u32::from(height);
+    if y < top || y >= bottom {
+        return (y, y);
+    }
+    (top, bottom - 1)
 }
 
 impl<A: Small> BarBox<'_, A> {
@@ -300,7 +306,7 @@ impl<A: Small> Ink for BarBox<'_, A> {
         self.paint(y, op, at, row);
     }
 
-    fn repeats(&self, y: u32) -> bool {
-        rows_repeat(self.place, self.font, self.height, y)
+    fn alike(&self, y: u32) -> (u32, u32) {
+        alike_rows(self.place, self.font, self.height, y)
     }
 }

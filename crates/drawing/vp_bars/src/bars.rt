@@ -11,6 +11,9 @@ use arrayvec::ArrayVec;
 use std::marker::Model;
 use vp_dots::{Fault, Op, Why};
 
+/// The most bytes of data that a symbol is made of.
+pub const DATA_BYTES: usize = 255;
+
 /// A linear symbol: the values of its characters, at most 258, of 0 to 106.
 #[derive(Drop)]
 pub struct Bars {
@@ -108,14 +111,14 @@ impl Bars {
 /// Refuses no data, and more data than any symbol has.
 pub(crate) fn check_length(src: &[u8]) -> Result<(), Fault>
     ensures some { OnOk result (1 ≤ length src.now) }
-    ensures few { OnOk result (length src.now ≤ 255) }
+    ensures few { OnOk result (length src.now ≤ DATA_BYTES) }
     ensures stands { OnOk result ((r : Result Linear Fault) → within_length src.now r ≡ r) }
     ensures refused { IfErr result (λ f. (r : Result Linear Fault) → within_length src.now r ≡ Err f) }
 {
     if src.is_empty() {
         return Err(Fault::Symbol(Why::Empty));
     }
-    if src.len() > 255 {
+    if src.len() > DATA_BYTES {
         return Err(Fault::SymbolTooLong);
     }
     Ok(())

@@ -1,6 +1,7 @@
 //! Code 128: code sets, tokens of data, and the symbol of values.
 
 ghost use Rattle.std.specs.Prelude.{◌≡◌, ℕ, ◌+◌, ◌*◌, ◌≤◌, ◌++◌, ◌∷◌, [], List, length, Result, Ok, Err, OnOk, IfErr, MatchOption};
+ghost use Rattle.vp_bars.specs.declared.bars.TheConstants.{DATA_BYTES};
 ghost use Rattle.vp_dots.specs.declared.fault.Why.{Why};
 ghost use Rattle.vp_bars.specs.CodeSets.{start_of, selector_of, other_of, value_in, onto, plain, tokens, token_size, code_128_check, symbol_from};
 
@@ -141,7 +142,7 @@ fn check_character(start: u8, values: &[u8]) -> u8
 
 /// The symbol of these values, read from a start set.
 pub(crate) fn symbol(start: CodeSet, read: &[u8]) -> Result<Bars, Fault>
-    requires { length read.now ≤ 255 }
+    requires { length read.now ≤ DATA_BYTES }
     ensures { result ≡ symbol_from start (Ok read.now) }
 {
     if read.is_empty() {

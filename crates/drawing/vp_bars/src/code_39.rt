@@ -1,6 +1,7 @@
 //! Code 39.
 
 ghost use Rattle.std.specs.Prelude.{◌≡◌, ℕ, ◌<◌, ◌≤◌, ◌∷◌, ◌++◌, List, Option, length, IfSome};
+ghost use Rattle.vp_bars.specs.declared.bars.TheConstants.{DATA_BYTES};
 ghost use Rattle.std.specs.Option.{option_map};
 ghost use Rattle.vp_bars.specs.Code39.{value_of, values_of, code39_check, unstarred, code39_of};
 
@@ -49,7 +50,7 @@ fn without_stars(src: &[u8]) -> &[u8]
 /// The values of all characters, none where a byte is no character.
 #[tactic(auto, using(crate::proofs::Characters::values_more, crate::proofs::Characters::values_stop))]
 fn values_of_chars(chars: &[u8]) -> Option<ArrayVec<u8, 258>>
-    requires { length chars.now ≤ 255 }
+    requires { length chars.now ≤ DATA_BYTES }
     ensures values { option_map (λ vs. vs.items) result ≡ values_of chars.now }
     ensures len { IfSome result (λ vs. length vs.items ≡ length chars.now) }
 {

@@ -1,6 +1,7 @@
 //! Code 128 with `{` and a letter or digit for code sets and function characters.
 
 ghost use Rattle.std.specs.Prelude.{◌≡◌, ℕ, ◌+◌, ◌≤◌, ◌<◌, ◌++◌, ◌∷◌, [], List, length, true, Result, Ok, Err, OnOk, IfOk, IfErr, IfSome, MatchOption, Some, None};
+ghost use Rattle.vp_bars.specs.declared.bars.TheConstants.{DATA_BYTES};
 ghost use Rattle.vp_dots.specs.declared.fault.Why.{Why};
 ghost use Rattle.vp_bars.specs.declared.code_128.CodeSet.{CodeSet};
 ghost use Rattle.vp_bars.specs.CodeSets.{onto, tokens, token_size};
@@ -144,7 +145,7 @@ fn read_token<'a>(
 /// The values of the bytes, read from a start set.
 #[tactic(auto, using(crate::proofs::Tokens::onto_none))]
 fn read_escapes(start: CodeSet, src: &[u8]) -> Result<ArrayVec<u8, 258>, Why>
-    requires { length src.now ≤ 255 }
+    requires { length src.now ≤ DATA_BYTES }
     ensures values { IfOk result (λ vs. escaped start (tokens brace src.now) ≡ Ok vs.items) }
     ensures refused { IfErr result (λ why. escaped start (tokens brace src.now) ≡ Err why) }
     ensures few { IfOk result (λ vs. length vs.items ≤ length src.now) }

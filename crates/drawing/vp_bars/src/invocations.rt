@@ -1,6 +1,7 @@
 //! Code 128 with `>` and a character for code sets, function characters and some bytes.
 
 ghost use Rattle.std.specs.Prelude.{◌≡◌, ◌≢◌, ℕ, ◌+◌, ◌≤◌, ◌<◌, ◌++◌, ◌∷◌, [], List, length, true, Result, Ok, Err, OnOk, IfOk, IfErr, IfSome, MatchOption, Some, None, IsTrue};
+ghost use Rattle.vp_bars.specs.declared.bars.TheConstants.{DATA_BYTES};
 ghost use Rattle.std.specs.Char.{is_ascii_digit};
 ghost use Rattle.vp_dots.specs.declared.fault.Why.{Why};
 ghost use Rattle.vp_bars.specs.declared.code_128.CodeSet.{CodeSet};
@@ -191,7 +192,7 @@ fn read_token<'a>(
 /// The values of the bytes, read from a start set.
 #[tactic(auto, using(crate::proofs::Tokens::onto_none))]
 fn read_invocations(start: CodeSet, src: &[u8]) -> Result<ArrayVec<u8, 258>, Why>
-    requires { length src.now ≤ 255 }
+    requires { length src.now ≤ DATA_BYTES }
     ensures values { IfOk result (λ vs. invoked start (tokens greater src.now) ≡ Ok vs.items) }
     ensures refused { IfErr result (λ why. invoked start (tokens greater src.now) ≡ Err why) }
     ensures few { IfOk result (λ vs. length vs.items ≤ length src.now) }
@@ -222,7 +223,7 @@ fn start_set(src: &[u8]) -> (CodeSet, &[u8])
 
 /// The symbol of data with invocations.
 pub(crate) fn with_invocations(src: &[u8]) -> Result<Bars, Fault>
-    requires { length src.now ≤ 255 }
+    requires { length src.now ≤ DATA_BYTES }
     ensures { result ≡ invoked_symbol src.now }
 {
     let (start, bytes) = start_set(src);

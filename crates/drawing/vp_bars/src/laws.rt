@@ -2,6 +2,7 @@
 //! difference. What the texts of symbols are, and how many bytes have one.
 
 ghost use Rattle.std.specs.Prelude.{◌≡◌, ℕ, ◌+◌, ◌-◌, ◌<◌, Bool, true, false, ◌==◌, length, replicate, List, [], ◌∷◌, ◌++◌, Ok, Err, Some, IsTrue, take, drop, slice_index};
+ghost use Rattle.vp_bars.specs.declared.bars.TheConstants.{DATA_BYTES};
 ghost use Rattle.vp_bars.specs.Symbols.{Linear};
 ghost use Rattle.vp_bars.specs.Code39.{alphabet, values_of, code39_check, unstarred, code39_of};
 ghost use Rattle.vp_bars.specs.Ean13.{ean13_check as check_digit_of, digits_of, ean13_of};
@@ -73,6 +74,6 @@ pub fn set_b_text_law()
 pub fn data_are_counted()
     ensures none { (code : BarCode) (bytes : List ℕ) → length bytes ≡ 0
         → symbol_of code bytes ≡ Err (faults.Symbol Empty) }
-    ensures many { (code : BarCode) (bytes : List ℕ) → 255 < length bytes
+    ensures many { (code : BarCode) (bytes : List ℕ) → DATA_BYTES < length bytes
         → symbol_of code bytes ≡ Err faults.SymbolTooLong }
 {}

@@ -30,8 +30,8 @@ mod strokes;
 mod symbology;
 mod text;
 
-pub use bar_box::{BarBox, rows_repeat};
-pub use bars::Bars;
+pub use bar_box::{BarBox, alike_rows};
+pub use bars::{Bars, DATA_BYTES};
 pub use code_39::code39;
 pub use ean_13::ean13;
 pub use escapes::code128_esc;

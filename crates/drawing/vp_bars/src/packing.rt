@@ -1,6 +1,7 @@
 //! Code 128 with runs of digits packed into set C, and ZPL's two modes.
 
 ghost use Rattle.std.specs.Prelude.{◌≡◌, ◌≢◌, ℕ, ◌+◌, ◌≤◌, ◌<◌, ◌++◌, ◌∷◌, [], List, length, drop, slice_index, Result, Ok, Err, OnOk, IfOk, IfErr, IsTrue};
+ghost use Rattle.vp_bars.specs.declared.bars.TheConstants.{DATA_BYTES};
 ghost use Rattle.vp_dots.specs.declared.fault.Why.{Why};
 ghost use Rattle.vp_bars.specs.CodeSets.{onto, plain, value_in};
 ghost use Rattle.vp_bars.specs.declared.code_128.CodeSet.{CodeSet};
@@ -111,10 +112,10 @@ fn read_in_b<'a>(
 /// The values of the bytes, read from a start set.
 #[tactic(auto, using(crate::proofs::Tokens::onto_none))]
 fn read_packed(start: CodeSet, src: &[u8]) -> Result<ArrayVec<u8, 258>, Why>
-    requires { room_for start src.now ≤ 255 }
+    requires { room_for start src.now ≤ DATA_BYTES }
     ensures values { IfOk result (λ vs. packed start src.now ≡ Ok vs.items) }
     ensures refused { IfErr result (λ why. packed start src.now ≡ Err why) }
-    ensures few { IfOk result (λ vs. length vs.items ≤ 255) }
+    ensures few { IfOk result (λ vs. length vs.items ≤ DATA_BYTES) }
 {
     let mut values = ArrayVec::new();
     let mut set = start;
@@ -144,7 +145,7 @@ fn first_set(src: &[u8]) -> CodeSet
 
 /// The symbol of packed data.
 fn with_packing(src: &[u8]) -> Result<Bars, Fault>
-    requires { length src.now ≤ 255 }
+    requires { length src.now ≤ DATA_BYTES }
     ensures { result ≡ packed_symbol src.now }
 {
     let start = first_set(src);

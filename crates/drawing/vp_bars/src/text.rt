@@ -1,6 +1,7 @@
 //! The text of a symbol.
 
 ghost use Rattle.std.specs.Prelude.{◌≡◌, ◌+◌, ◌-◌, ◌≤◌, ◌++◌, length};
+ghost use Rattle.vp_bars.specs.declared.bars.TheConstants.{DATA_BYTES};
 ghost use Rattle.vp_bars.specs.Texts.{character_of, characters as characters_of, text_in_set, set_behind as set_after, next_set as set_of_next, set_of_start as started_set, data_of as data_between, shown_from, shown_by};
 
 use crate::code_39::ALPHABET;
@@ -102,7 +103,7 @@ fn data_of(values: &[u8]) -> &[u8]
 /// What values show, where a code set is in force.
 #[tactic(auto, using(crate::proofs::Shown::shown_more))]
 fn shown_in(start: CodeSet, values: &[u8]) -> ArrayVec<u8, 512>
-    requires { length values.now ≤ 255 }
+    requires { length values.now ≤ DATA_BYTES }
     ensures { result.items ≡ shown_from start start values.now }
 {
     let mut text = ArrayVec::new();

@@ -3,7 +3,7 @@ use Rattle.std.proofs.Common.{inl, inr, ◌≡◌, ℕ, zero, suc, ◌+◌, ◌-
 use Rattle.std.specs.Int.{bit_at, reverse_bits_onto}
 use Rattle.std.proofs.lemmas.Nat.Bits.{bit_at_lowest, bit_at-suc}
 use Rattle.std.proofs.lemmas.Bool.{cases_lt, eqb-true, ltb-true, and_parts, lt-ltb, le-ltb}
-use Rattle.vp_dots.specs.Blocks.{swap_place}
+use Rattle.vp_dots.specs.Swaps.{swap_place}
 use Rattle.vp_dots.specs.Dots.{bit, dot}
 use Rattle.vp_dots.specs.Words.{word_dot}
 use Rattle.vp_dots.proofs.Rows.{dot_at, dot_past}

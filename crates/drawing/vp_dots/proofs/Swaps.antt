@@ -1,12 +1,11 @@
 -- Bits that change places.
-use Rattle.std.proofs.Common.{inl, inr, zero, suc, ◌≡◌, ℕ, ◌+◌, ◌-◌, ◌*◌, ◌/◌, ◌%◌, ◌^◌, ◌<◌, Bool, true, false, not, cond, eqb, ltb, leb, ◌&&◌, refl, sym, ap, ◌∙◌, arith, bit_and}
+use Rattle.std.proofs.Common.{inl, inr, zero, suc, ◌≡◌, ℕ, ◌+◌, ◌-◌, ◌*◌, ◌/◌, ◌%◌, ◌^◌, ◌<◌, Bool, true, false, not, cond, leb, ◌&&◌, refl, sym, ap, ◌∙◌, arith, bit_and}
 use Rattle.std.specs.Int.RustNames.{bit_xor}
-use Rattle.std.proofs.lemmas.Bool.{eqb-true, and_parts, cases_lt, ltb-true, lt-leb, le-leb, lt-ltb}
+use Rattle.std.proofs.lemmas.Bool.{and_parts, cases_lt, lt-leb, le-leb}
 use Rattle.vp_dots.specs.Dots.{bit}
 use Rattle.vp_dots.proofs.Bits.{bit_of_xor}
 use Rattle.vp_dots.proofs.Spans.{bit_of_and}
-use Rattle.vp_dots.specs.Blocks.{swap_place}
-use Rattle.vp_dots.specs.Words.{word_dot}
+use Rattle.vp_dots.specs.Swaps.{swap_place}
 use Rattle.vp_dots.proofs.Words.{bit_shr, bit_shl, and_false}
 use Rattle.vp_dots.proofs.Cuts.{bit_low64}
 
@@ -77,42 +76,10 @@ every_at (suc n) f e i h = let p = and_parts (f n) (every n f) e in elim (cases_
   | inr g ↦ ap f (let q : i ≡ n = omega arith in q) ∙ p.0
 ]
 
--- the three exchanges of a turn: the mask of each doesn't meet itself
+-- the bits of a mask and those above them are others
 pub apart_all : (mask s : ℕ) → every 64 (λ i. not (bit mask i && (leb s i && bit mask (i - s)))) ≡ true → (i : ℕ) → i < 64 → (bit mask i && (leb s i && bit mask (i - s))) ≡ false
 apart_all mask s e i h = not_true _ (every_at 64 (λ j. not (bit mask j && (leb s j && bit mask (j - s)))) e i h)
   where
     not_true : (b : Bool) → not b ≡ true → b ≡ false
     not_true true h = cc
     not_true false h = refl
-
-pub pairs_apart : (i : ℕ) → i < 64 → (bit 0x00aa_00aa_00aa_00aa i && (leb 7 i && bit 0x00aa_00aa_00aa_00aa (i - 7))) ≡ false
-unfolding bit
-pairs_apart = apart_all 0x00aa_00aa_00aa_00aa 7 refl
-
-pub fours_apart : (i : ℕ) → i < 64 → (bit 0x0000_cccc_0000_cccc i && (leb 14 i && bit 0x0000_cccc_0000_cccc (i - 14))) ≡ false
-unfolding bit
-fours_apart = apart_all 0x0000_cccc_0000_cccc 14 refl
-
-pub halves_apart : (i : ℕ) → i < 64 → (bit 0xf0f0_f0f0 i && (leb 28 i && bit 0xf0f0_f0f0 (i - 28))) ≡ false
-unfolding bit
-halves_apart = apart_all 0xf0f0_f0f0 28 refl
-
--- where bit i of a turned block comes from
-turn_test : (i : ℕ) → i < 64 → (ltb (swap_place 0xf0f0_f0f0 28 i) 64 && (ltb (swap_place 0x0000_cccc_0000_cccc 14 (swap_place 0xf0f0_f0f0 28 i)) 64
-    && eqb (swap_place 0x00aa_00aa_00aa_00aa 7 (swap_place 0x0000_cccc_0000_cccc 14 (swap_place 0xf0f0_f0f0 28 i))) (63 - (8 * ((63 - i) % 8) + (63 - i) / 8)))) ≡ true
-unfolding bit
-turn_test = every_at 64 (λ i. ltb (swap_place 0xf0f0_f0f0 28 i) 64 && (ltb (swap_place 0x0000_cccc_0000_cccc 14 (swap_place 0xf0f0_f0f0 28 i)) 64
-    && eqb (swap_place 0x00aa_00aa_00aa_00aa 7 (swap_place 0x0000_cccc_0000_cccc 14 (swap_place 0xf0f0_f0f0 28 i))) (63 - (8 * ((63 - i) % 8) + (63 - i) / 8)))) refl
-
--- three exchanges turn a block
-pub turned_bits : (block two four eight : ℕ) → ((i : ℕ) → i < 64 → bit two i ≡ bit block (swap_place 0x00aa_00aa_00aa_00aa 7 i))
-    → ((i : ℕ) → i < 64 → bit four i ≡ bit two (swap_place 0x0000_cccc_0000_cccc 14 i)) → ((i : ℕ) → i < 64 → bit eight i ≡ bit four (swap_place 0xf0f0_f0f0 28 i))
-    → (x y : ℕ) → x < 8 → y < 8 → word_dot eight (8 * y + x) ≡ word_dot block (8 * x + y)
-turned_bits block two four eight p q r x y h k =
-    let i : ℕ = 63 - (8 * y + x) in
-    let low : i < 64 = omega arith in
-    let same : 63 - (8 * ((63 - i) % 8) + (63 - i) / 8) ≡ 63 - (8 * x + y) = omega arith in
-    rw (lt-ltb (8 * y + x) 64 (omega arith), lt-ltb (8 * x + y) 64 (omega arith)) (
-    let t = and_parts _ _ (turn_test i low) in
-    let u = and_parts _ _ t.1 in
-    r i low ∙ q _ (ltb-true _ 64 t.0) ∙ p _ (ltb-true _ 64 u.0) ∙ ap (bit block) (eqb-true _ _ u.1 ∙ same))

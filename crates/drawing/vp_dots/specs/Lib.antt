@@ -8,6 +8,6 @@ pub mod Images
 pub mod Faults
 pub mod Listing
 -- What the code keeps.
-pub mod Blocks
+pub mod Swaps
 pub mod Squares
 pub mod Handles

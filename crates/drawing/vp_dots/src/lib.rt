@@ -9,7 +9,6 @@
 //! - `span`: all dots from one to another.
 //! - `kernel`: the dots of one row on another, moved by any offset. `reversed`: a row turned end for end.
 //! - `word`: 64 dots at once, cut out of a row and painted on one.
-//! - `block`: eight by eight dots in a word, and eight lines laid across the rows of a band.
 //! - `square`: 64 by 64 dots in 64 words, rows and columns exchanged.
 //! - `place`: an ink at a place of a band.
 //! - `band`, `store`: rows of dots and bytes on the heap. `room`: as much of it as is asked for.
@@ -19,12 +18,11 @@
 //! - `fault`: why a stream is refused.
 #![tactic(auto)]
 
-ghost use Rattle.std.specs.Prelude.{◌≡◌, ℕ, ◌-◌, ◌<◌, Bool, true};
+ghost use Rattle.std.specs.Prelude.{◌≡◌, ℕ, ◌-◌, ◌<◌, ◌≤◌, Bool, true};
 ghost use Rattle.vp_dots.specs.Dots.{shifted};
 ghost use Rattle.vp_dots.specs.Painting.{Painted};
 
 mod band;
-mod block;
 mod fault;
 mod image;
 mod kernel;
@@ -41,7 +39,6 @@ mod word;
 
 use crate::single::paint_moved_dot;
 pub use band::Band;
-pub use block::{lay_eight, turned};
 pub use fault::{Fault, Why};
 pub use image::{dots_decide, header, image_law, row_law};
 pub use kernel::{clear_into, or_into, paint_into, painted_law, shift_law, xor_into};
@@ -54,9 +51,7 @@ pub use small::Small;
 pub use span::{fill_dots, fill_moved};
 pub use square::{SIDE, turned_square};
 pub use store::{Full, Store};
-pub use word::{
-    NARROW, eight_at, first_dots, paint_few, paint_narrow, paint_word, word_at, word_of,
-};
+pub use word::{NARROW, eight_at, first_dots, paint_narrow, paint_word, word_at, word_of};
 
 /// The most lines that are painted by words at once: as many as a character of a receipt has.
 pub const WORDS: usize = 24;
@@ -107,12 +102,14 @@ pub trait Ink {
         }
     }
 
-    /// Whether line y is known to have the ink of the line above it, so that
-    /// what was drawn for that serves again.
-    fn repeats(&self, _y: u32) -> bool
-        ensures { result ≡ true → (x : ℕ) → ink_at self.now x _y ≡ ink_at self.now x (_y - 1) }
+    /// The first and the last of the lines around line y that are known to show what it shows, so that what was
+    /// drawn for one of them serves for all.
+    fn alike(&self, y: u32) -> (u32, u32)
+        ensures first { result.0 ≤ y }
+        ensures last { y ≤ result.1 }
+        ensures same { (x v : ℕ) → result.0 ≤ v → v ≤ result.1 → ink_at self.now x v ≡ ink_at self.now x y }
     {
-        false
+        (y, y)
     }
 
     /// There is no ink outside.

@@ -1,9 +1,9 @@
 //! A row of dots turned end for end, and eight bytes of one.
-ghost use Rattle.std.specs.Prelude.{◌≡◌, ℕ, ◌+◌, ◌-◌, ◌*◌, ◌<◌, ◌≤◌, ◌&&◌, nat_lt, length, slice_index};
+ghost use Rattle.std.specs.Prelude.{◌≡◌, ℕ, ◌+◌, ◌-◌, ◌*◌, ◌<◌, ◌≤◌, ◌&&◌, nat_lt, nat_le, false, length, slice_index};
 ghost use Rattle.vp_dots.specs.Dots.{bit, dot, dots};
+ghost use Rattle.vp_dots.specs.Swaps.{swap_place};
 ghost use Rattle.vp_dots.specs.Words.{word_dot};
 
-use crate::block::swapped;
 use crate::word::word_of;
 use std::simd::{u8x8, u64x1};
 
@@ -15,6 +15,17 @@ fn mirrored(byte: u8) -> u8
     let halves = (byte << 4) | (byte >> 4);
     let pairs = ((halves & 0x33) << 2) | ((halves & 0xcc) >> 2);
     ((pairs & 0x55) << 1) | ((pairs & 0xaa) >> 1)
+}
+
+/// Exchanges the bits of the mask with those s places above them.
+#[inline(always)]
+fn swapped(word: u64, s: u32, mask: u64) -> u64
+    requires s { s < 64 }
+    requires apart { (i : ℕ) → i < 64 → (bit mask i && (nat_le s i && bit mask (i - s))) ≡ false }
+    ensures { (i : ℕ) → i < 64 → bit result i ≡ bit word (swap_place mask s i) }
+{
+    let differ = (word ^ (word >> s)) & mask;
+    word ^ differ ^ (differ << s)
 }
 
 /// Eight bytes of the row, from byte i on, turned end for end.

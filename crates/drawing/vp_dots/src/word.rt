@@ -7,7 +7,6 @@ ghost use Rattle.vp_dots.specs.Words.{word_dot};
 
 use crate::Op;
 use crate::kernel::{or_into, paint_into};
-use crate::single::painted_byte;
 use crate::span::paint_masked;
 use std::simd::u8x8;
 
@@ -69,36 +68,6 @@ pub fn paint_word(op: Op, word: u64, at: i64, row: &mut [u8])
         paint_inside(op, word, at.unsigned_abs(), row);
     } else {
         paint_into(op, &word.to_be_bytes(), at, row);
-    }
-}
-
-/// Applies the operation to N bytes of the row, from byte i on, where the word is black.
-#[inline(always)]
-fn paint_bytes<const N: usize>(op: Op, word: u64, i: usize, row: &mut [u8])
-    requires few { N ≤ 8 }
-    requires room { i + N ≤ length row.old }
-    ensures { Painted op (λ d. nat_lt (d / 8) (i + N) && (nat_le (8 * i) d && word_dot word (d - 8 * i)))
-        row.old row.new }
-{
-    for j in 0..N {
-        row[i + j] = painted_byte(op, row[i + j], (word >> (56 - 8 * j) & 255) as u8);
-    }
-}
-
-/// Applies the operation to the dots d of the row where dot d - at of the word is black: of a word of so few
-/// dots that N bytes have room for them wherever the first one falls.
-#[inline(always)]
-pub fn paint_few<const N: usize>(op: Op, word: u64, at: usize, row: &mut [u8])
-    requires bytes { N ≤ 8 }
-    requires few { (x : ℕ) → 8 * N < x + 8 → word_dot word x ≡ false }
-    requires at { at < 2 ^ 63 }
-    ensures { Painted op (λ d. nat_le at d && word_dot word (d - at)) row.old row.new }
-{
-    let i = at / 8;
-    if i + N <= row.len() {
-        paint_bytes::<N>(op, word >> (at % 8), i, row);
-    } else {
-        paint_into(op, &word.to_be_bytes(), at as i64, row);
     }
 }
 

@@ -1,7 +1,7 @@
 -- Many rows of a block, line by line.
 use Rattle.std.proofs.Common.{inl, inr, ◌≡◌, ℕ, ◌+◌, ◌-◌, ◌*◌, ◌/◌, ◌<◌, ◌≤◌, min, Bool, true, false, ltb, leb, ◌&&◌, ◌||◌, get_or, set, length, replicate, bit_or, refl, sym, ap, ◌∙◌, arith, List, Option, ℤ}
 use Rattle.std.proofs.Math.Nat.{div-lt_iff_lt-mul, le-div_iff_mul-le, div-mul-le_self, mul-le-mul_right}
-use Rattle.std.proofs.lemmas.List.{get_or-set_same, get_or-set_other}
+use Rattle.std.proofs.lemmas.List.{get_or-set_same, get_or-set_other, get_or_past}
 use Rattle.std.proofs.lemmas.Bool.{cases_eq, cases_lt, lt-ltb, le-ltb, lt-leb, le-leb}
 use Rattle.vp_dots.specs.Dots.{dot, shifted, span}
 use Rattle.vp_dots.specs.Words.{word_dot}
@@ -10,9 +10,8 @@ use Rattle.vp_dots.specs.declared.Op.TheVariants.{Black}
 use Rattle.vp_glyph.specs.Sheets.{Glyphs}
 use Rattle.vp_glyph.specs.Texts.{sampled_dot, text_dot}
 use Rattle.vp_glyph.specs.Halves.{half_dot}
-use Rattle.vp_glyph.proofs.Halves.{or_half}
-use Rattle.vp_glyph.proofs.Looks.{or_dot}
-use Rattle.vp_glyph.proofs.Overlaid.{zero_dots}
+use Rattle.vp_glyph.proofs.Halves.{or_half, white_half}
+use Rattle.vp_glyph.proofs.Overlaid.{zero_dots, zero_at}
 use Rattle.vp_glyph.proofs.Spread.{quotient, edge_at, from_edge, before_edge, edge_first, edge_last, edge_within}
 
 -- lines that show the same row of the sheet
@@ -61,21 +60,21 @@ and_false false = refl
 -- rows of the sheet, drawn h rows high in all from row `above` on
 -- dot x of row y
 abbrev pub shown : List ℕ → ℕ → ℕ → ℕ → ℕ → Bool
-shown rows above h y x = leb above y && ltb (y - above) h && word_dot (get_or rows ((y - above) * 24 / h) 0) x
+shown rows above h y x = leb above y && ltb (y - above) h && half_dot (get_or rows ((y - above) * 24 / h) 0) x
 
 module _ (rows : List ℕ) (above h n top : ℕ) where
   -- the rows before r are added to the fronts
-  abbrev pub Added : ℕ → List ℕ → List ℕ → Type 0
-  Added r old new = (i x : ℕ) → i < n → x < 32 → half_dot (get_or new i 0) x ≡ (half_dot (get_or old i 0) x || ltb (top + i) (above + edge_at 24 h r) && shown rows above h (top + i) x)
+  abbrev pub Added : ℕ → (ℕ → ℕ → Bool) → (ℕ → ℕ → Bool) → Type 0
+  Added r old new = (i x : ℕ) → i < n → x < 32 → new i x ≡ (old i x || ltb (top + i) (above + edge_at 24 h r) && shown rows above h (top + i) x)
 
   shown_above : (y x : ℕ) → y < above → shown rows above h y x ≡ false
   shown_above y x l = rw (lt-leb above y l) refl
 
   shown_below : (y x : ℕ) → above + h ≤ y → shown rows above h y x ≡ false
-  shown_below y x l = rw (le-ltb (y - above) h (omega arith)) (ap (λ t. t && word_dot (get_or rows ((y - above) * 24 / h) 0) x) (and_false (leb above y)))
+  shown_below y x l = rw (le-ltb (y - above) h (omega arith)) (ap (λ t. t && half_dot (get_or rows ((y - above) * 24 / h) 0) x) (and_false (leb above y)))
 
   -- a row on which one of the rows from r on is shown that are like r
-  shown_row : (r q y x : ℕ) → q ≤ 24 → ((p : ℕ) → r ≤ p → p < q → get_or rows p 0 ≡ get_or rows r 0) → above + edge_at 24 h r ≤ y → y < above + edge_at 24 h q → shown rows above h y x ≡ word_dot (get_or rows r 0) x
+  shown_row : (r q y x : ℕ) → q ≤ 24 → ((p : ℕ) → r ≤ p → p < q → get_or rows p 0 ≡ get_or rows r 0) → above + edge_at 24 h r ≤ y → y < above + edge_at 24 h q → shown rows above h y x ≡ half_dot (get_or rows r 0) x
   shown_row r q y x k a l m =
       let z = edge_within 24 h q (omega arith) k in
       let u : y - above < h = omega arith in
@@ -83,18 +82,18 @@ module _ (rows : List ℕ) (above h n top : ℕ) where
       let p = (y - above) * 24 / h in
       let low : r ≤ p = elim (cases_lt p r) [ inl o ↦ absurd (let e = edge_upto 24 h (p + 1) r (omega arith) (omega arith) in let f = t.2 in omega arith) | inr o ↦ o ] in
       let high : p < q = elim (cases_lt p q) [ inl o ↦ o | inr o ↦ absurd (let e = edge_upto 24 h q p (omega arith) o in let f = t.1 in omega arith) ] in
-      rw (le-leb above y (omega arith), lt-ltb (y - above) h u) (ap (λ v. word_dot v x) (a p low high))
+      rw (le-leb above y (omega arith), lt-ltb (y - above) h u) (ap (λ v. half_dot v x) (a p low high))
 
-  pub added_none : (old : List ℕ) → Added 0 old old
+  pub added_none : (old : ℕ → ℕ → Bool) → Added 0 old old
   added_none old i x l m =
       let e = edge_first 24 h (omega arith) in
       let none : (ltb (top + i) (above + edge_at 24 h 0) && shown rows above h (top + i) x) ≡ false = elim (cases_lt (top + i) above) [
         | inl k ↦ ap (λ t. ltb (top + i) (above + edge_at 24 h 0) && t) (shown_above (top + i) x k) ∙ and_false _
         | inr g ↦ rw (le-ltb (top + i) (above + edge_at 24 h 0) (omega arith)) refl
       ] in
-      or_false _ ∙ ap (λ t. half_dot (get_or old i 0) x || t) (sym none)
+      or_false _ ∙ ap (λ t. old i x || t) (sym none)
 
-  module _ (r q : ℕ) (old mid : List ℕ) (k : q ≤ 24) (j : r < q) (a : (p : ℕ) → r ≤ p → p < q → get_or rows p 0 ≡ get_or rows r 0) (o : Added r old mid) where
+  module _ (r q : ℕ) (old mid : ℕ → ℕ → Bool) (k : q ≤ 24) (j : r < q) (a : (p : ℕ) → r ≤ p → p < q → get_or rows p 0 ≡ get_or rows r 0) (o : Added r old mid) where
     -- where none of the rows is shown
     unchanged : (i : ℕ) → (above + edge_at 24 h r ≤ top + i → top + i < above + edge_at 24 h q → ⊥) → ltb (top + i) (above + edge_at 24 h r) ≡ ltb (top + i) (above + edge_at 24 h q)
     unchanged i g =
@@ -108,72 +107,78 @@ module _ (rows : List ℕ) (above h n top : ℕ) where
         ]
 
     same : (i x : ℕ) → i < n → x < 32 → (above + edge_at 24 h r ≤ top + i → top + i < above + edge_at 24 h q → ⊥)
-        → half_dot (get_or mid i 0) x ≡ (half_dot (get_or old i 0) x || ltb (top + i) (above + edge_at 24 h q) && shown rows above h (top + i) x)
-    same i x l m g = o i x l m ∙ ap (λ t. half_dot (get_or old i 0) x || t && shown rows above h (top + i) x) (unchanged i g)
+        → mid i x ≡ (old i x || ltb (top + i) (above + edge_at 24 h q) && shown rows above h (top + i) x)
+    same i x l m g = o i x l m ∙ ap (λ t. old i x || t && shown rows above h (top + i) x) (unchanged i g)
 
     -- on one that shows them
     within : (i x : ℕ) → i < n → x < 32 → above + edge_at 24 h r ≤ top + i → top + i < above + edge_at 24 h q
-        → (half_dot (get_or mid i 0) x || word_dot (get_or rows r 0) x) ≡ (half_dot (get_or old i 0) x || ltb (top + i) (above + edge_at 24 h q) && shown rows above h (top + i) x)
+        → (mid i x || half_dot (get_or rows r 0) x) ≡ (old i x || ltb (top + i) (above + edge_at 24 h q) && shown rows above h (top + i) x)
     within i x l m y z =
-        ap (λ t. t || word_dot (get_or rows r 0) x) (o i x l m ∙ ap (λ t. half_dot (get_or old i 0) x || t && shown rows above h (top + i) x) (le-ltb (top + i) (above + edge_at 24 h r) y) ∙ sym (or_false _))
-        ∙ ap (λ t. half_dot (get_or old i 0) x || t) (sym (shown_row r q (top + i) x k a y z))
-        ∙ ap (λ t. half_dot (get_or old i 0) x || t && shown rows above h (top + i) x) (sym (lt-ltb (top + i) (above + edge_at 24 h q) z))
+        ap (λ t. t || half_dot (get_or rows r 0) x) (o i x l m ∙ ap (λ t. old i x || t && shown rows above h (top + i) x) (le-ltb (top + i) (above + edge_at 24 h r) y) ∙ sym (or_false _))
+        ∙ ap (λ t. old i x || t) (sym (shown_row r q (top + i) x k a y z))
+        ∙ ap (λ t. old i x || t && shown rows above h (top + i) x) (sym (lt-ltb (top + i) (above + edge_at 24 h q) z))
 
     -- white rows
-    pub added_white : ((x : ℕ) → x < 32 → word_dot (get_or rows r 0) x ≡ false) → Added q old mid
+    pub added_white : ((x : ℕ) → x < 32 → half_dot (get_or rows r 0) x ≡ false) → Added q old mid
     added_white e i x l m = elim (cases_lt (top + i) (above + edge_at 24 h r)) [
       | inl y ↦ same i x l m (λ p v. absurd (omega arith))
       | inr y ↦ elim (cases_lt (top + i) (above + edge_at 24 h q)) [
-        | inl z ↦ or_false _ ∙ ap (λ t. half_dot (get_or mid i 0) x || t) (sym (e x m)) ∙ within i x l m y z
+        | inl z ↦ or_false _ ∙ ap (λ t. mid i x || t) (sym (e x m)) ∙ within i x l m y z
         | inr z ↦ same i x l m (λ p v. absurd (omega arith))
       ]
     ]
 
     -- other ones
-    pub added_more : (from to : ℕ) (new : List ℕ) → from ≡ min (above + edge_at 24 h r - top) n → to ≡ min (above + edge_at 24 h q - top) n
-        → ((i x : ℕ) → from ≤ i → i < to → x < 32 → half_dot (get_or new i 0) x ≡ (half_dot (get_or mid i 0) x || word_dot (get_or rows r 0) x))
-        → ((i : ℕ) → span from to i ≡ false → get_or new i 0 ≡ get_or mid i 0) → Added q old new
-    added_more from to new e f g u i x l m = elim (cases_lt i from) [
-      | inl y ↦ ap (λ c. half_dot c x) (u i (rw (lt-leb from i y) refl)) ∙ same i x l m (λ p v. absurd (omega arith))
+    pub added_more : (from to : ℕ) (new : ℕ → ℕ → Bool) → from ≡ min (above + edge_at 24 h r - top) n → to ≡ min (above + edge_at 24 h q - top) n
+        → ((i x : ℕ) → i < n → x < 32 → new i x ≡ (mid i x || span from to i && half_dot (get_or rows r 0) x)) → Added q old new
+    added_more from to new e f g i x l m = g i x l m ∙ elim (cases_lt i from) [
+      | inl y ↦ ap (λ t. mid i x || t && half_dot (get_or rows r 0) x) (let z : span from to i ≡ false = rw (lt-leb from i y) refl in z) ∙ sym (or_false (mid i x)) ∙ same i x l m (λ p v. absurd (omega arith))
       | inr y ↦ elim (cases_lt i to) [
-        | inl z ↦ g i x y z m ∙ within i x l m (omega arith) (omega arith)
-        | inr z ↦ ap (λ c. half_dot c x) (u i (rw (le-leb from i y, le-ltb i to z) refl)) ∙ same i x l m (λ p v. absurd (omega arith))
+        | inl z ↦ ap (λ t. mid i x || t && half_dot (get_or rows r 0) x) (let t : span from to i ≡ true = rw (le-leb from i y, lt-ltb i to z) refl in t) ∙ within i x l m (omega arith) (omega arith)
+        | inr z ↦ ap (λ t. mid i x || t && half_dot (get_or rows r 0) x) (let t : span from to i ≡ false = rw (le-leb from i y, le-ltb i to z) refl in t) ∙ sym (or_false (mid i x)) ∙ same i x l m (λ p v. absurd (omega arith))
       ]
     ]
 
   -- all rows
-  pub added_all : (r : ℕ) (old new : List ℕ) → r ≡ 24 → Added r old new → (i x : ℕ) → i < n → x < 32 → half_dot (get_or new i 0) x ≡ (half_dot (get_or old i 0) x || shown rows above h (top + i) x)
+  pub added_all : (r : ℕ) (old new : ℕ → ℕ → Bool) → r ≡ 24 → Added r old new → (i x : ℕ) → i < n → x < 32 → new i x ≡ (old i x || shown rows above h (top + i) x)
   added_all r old new z o i x l m =
       let e = edge_last 24 h (omega arith) in
-      o i x l m ∙ ap (λ t. half_dot (get_or old i 0) x || t) (elim (cases_lt (top + i) (above + edge_at 24 h r)) [
+      o i x l m ∙ ap (λ t. old i x || t) (elim (cases_lt (top + i) (above + edge_at 24 h r)) [
         | inl k ↦ rw (lt-ltb (top + i) (above + edge_at 24 h r) k) refl
         | inr g ↦
             let none = shown_below (top + i) x (let f = ap (edge_at 24 h) z in omega (arith, f)) in
             rw none (and_false _)
       ])
 
--- words to which dots are added, those before s
+-- rows to which dots are added, those before s
 module _ (f : ℕ → ℕ → Bool) where
   abbrev pub Grown : ℕ → List ℕ → List ℕ → Type 0
-  Grown s old new = (r d : ℕ) → r < 24 → d < 64 → word_dot (get_or new r 0) d ≡ (word_dot (get_or old r 0) d || ltb r s && f r d)
+  Grown s old new = (r d : ℕ) → r < 24 → d < 32 → half_dot (get_or new r 0) d ≡ (half_dot (get_or old r 0) d || ltb r s && f r d)
 
   pub grown_none : (old : List ℕ) → Grown 0 old old
-  grown_none old r d l m = or_false _ ∙ ap (λ t. word_dot (get_or old r 0) d || t) (sym (ap (λ t. t && f r d) (le-ltb r 0 (omega arith))))
+  grown_none old r d l m = or_false _ ∙ ap (λ t. half_dot (get_or old r 0) d || t) (sym (ap (λ t. t && f r d) (le-ltb r 0 (omega arith))))
 
-  pub grown_more : (s word : ℕ) (old mid : List ℕ) → s < length mid → ((d : ℕ) → d < 64 → word_dot word d ≡ f s d) → Grown s old mid → Grown (s + 1) old (set mid s (bit_or (get_or mid s 0) word))
+  pub grown_more : (s word : ℕ) (old mid : List ℕ) → s < length mid → ((d : ℕ) → d < 32 → half_dot word d ≡ f s d) → Grown s old mid → Grown (s + 1) old (set mid s (bit_or (get_or mid s 0) word))
   grown_more s word old mid k h o r d l m = elim (cases_eq r s) [
     | inl y ↦
         let same : get_or (set mid s (bit_or (get_or mid s 0) word)) s 0 ≡ bit_or (get_or mid s 0) word = get_or-set_same mid s (bit_or (get_or mid s 0) word) 0 k in
-        let mine : word_dot (get_or mid s 0) d ≡ word_dot (get_or old s 0) d =
-        o s d (let z : s < 24 = rw y at l in z) m ∙ ap (λ t. word_dot (get_or old s 0) d || t && f s d) (le-ltb s s (omega arith)) ∙ sym (or_false _) in
-        rw (y, lt-ltb s (s + 1) (omega arith)) (ap (λ v. word_dot v d) same ∙ or_dot (get_or mid s 0) word d ∙ ap (λ t. t || word_dot word d) mine ∙ ap (λ t. word_dot (get_or old s 0) d || t) (h d m))
+        let mine : half_dot (get_or mid s 0) d ≡ half_dot (get_or old s 0) d =
+        o s d (let z : s < 24 = rw y at l in z) m ∙ ap (λ t. half_dot (get_or old s 0) d || t && f s d) (le-ltb s s (omega arith)) ∙ sym (or_false _) in
+        rw (y, lt-ltb s (s + 1) (omega arith)) (ap (λ v. half_dot v d) same ∙ or_half (get_or mid s 0) word d ∙ ap (λ t. t || half_dot word d) mine ∙ ap (λ t. half_dot (get_or old s 0) d || t) (h d m))
     | inr n ↦
         let less : ltb r s ≡ ltb r (s + 1) = elim (cases_lt r s) [ inl z ↦ lt-ltb r s z ∙ sym (lt-ltb r (s + 1) (omega arith)) | inr z ↦ le-ltb r s z ∙ sym (le-ltb r (s + 1) (omega arith)) ] in
-        ap (λ v. word_dot v d) (get_or-set_other mid s r (bit_or (get_or mid s 0) word) 0 n) ∙ o r d l m ∙ ap (λ t. word_dot (get_or old r 0) d || t && f r d) less
+        ap (λ v. half_dot v d) (get_or-set_other mid s r (bit_or (get_or mid s 0) word) 0 n) ∙ o r d l m ∙ ap (λ t. half_dot (get_or old r 0) d || t && f r d) less
   ]
 
-  pub grown_all : (s : ℕ) (old new : List ℕ) → s ≡ 24 → Grown s old new → (r d : ℕ) → r < 24 → d < 64 → word_dot (get_or new r 0) d ≡ (word_dot (get_or old r 0) d || f r d)
-  grown_all s old new e o r d l m = o r d l m ∙ ap (λ t. word_dot (get_or old r 0) d || t && f r d) (lt-ltb r s (omega arith))
+  pub grown_all : (s : ℕ) (old new : List ℕ) → s ≡ 24 → Grown s old new → (r d : ℕ) → r < 24 → d < 32 → half_dot (get_or new r 0) d ≡ (half_dot (get_or old r 0) d || f r d)
+  grown_all s old new e o r d l m = o r d l m ∙ ap (λ t. half_dot (get_or old r 0) d || t && f r d) (lt-ltb r s (omega arith))
+
+  -- all, where the others have none
+  pub grown_end : (s : ℕ) (old new : List ℕ) → ((r d : ℕ) → s ≤ r → r < 24 → f r d ≡ false) → Grown s old new → (r d : ℕ) → r < 24 → d < 32 → half_dot (get_or new r 0) d ≡ (half_dot (get_or old r 0) d || f r d)
+  grown_end s old new z o r d l m = o r d l m ∙ ap (λ t. half_dot (get_or old r 0) d || t) (elim (cases_lt r s) [
+    | inl y ↦ ap (λ t. t && f r d) (lt-ltb r s y)
+    | inr n ↦ ap (λ t. t && f r d) (le-ltb r s n) ∙ sym (z r d n l)
+  ])
 
 -- a word that was painted on a white one
 pub front_white : (at : ℤ) (f : ℕ → Bool) (row : List ℕ) (word x : ℕ) → x < 64 → word_dot word x ≡ dot row x → Painted Black (shifted at f) (replicate {A = ℕ} 8 0) row → word_dot word x ≡ shifted at f x
@@ -206,3 +211,145 @@ blackened_more ink from i old mid l m b = record {
     ])
   ];
 }
+
+-- the fronts before row 16 k with what their groups have
+abbrev pub Settled : List ℕ → ℕ → ℕ → List ℕ → List ℕ → Type 0
+Settled groups n k old new = (i x : ℕ) → i < n → x < 32 → half_dot (get_or new i 0) x ≡ (half_dot (get_or old i 0) x || ltb i (16 * k) && half_dot (get_or groups (i / 16) 0) x)
+
+module _ (groups : List ℕ) (n : ℕ) where
+  pub settled_none : (old : List ℕ) → Settled groups n 0 old old
+  settled_none old i x l m = or_false _ ∙ ap (λ t. half_dot (get_or old i 0) x || t) (sym (rw (le-ltb i (16 * 0) (omega arith)) refl))
+
+  module _ (k : ℕ) (old mid : List ℕ) (o : Settled groups n k old mid) where
+    elsewhere : (i x : ℕ) → i < n → x < 32 → (i / 16 ≡ k → ⊥) → half_dot (get_or mid i 0) x ≡ (half_dot (get_or old i 0) x || ltb i (16 * (k + 1)) && half_dot (get_or groups (i / 16) 0) x)
+    elsewhere i x l m g = o i x l m ∙ ap (λ t. half_dot (get_or old i 0) x || t && half_dot (get_or groups (i / 16) 0) x) (elim (cases_lt i (16 * k)) [
+      | inl y ↦ lt-ltb i (16 * k) y ∙ sym (lt-ltb i (16 * (k + 1)) (omega arith))
+      | inr y ↦ elim (cases_lt i (16 * (k + 1))) [
+        | inl z ↦ absurd (g (omega arith))
+        | inr z ↦ le-ltb i (16 * k) y ∙ sym (le-ltb i (16 * (k + 1)) z)
+      ]
+    ])
+
+    pub settled_white : get_or groups k 0 ≡ 0 → Settled groups n (k + 1) old mid
+    settled_white e i x l m = elim (cases_eq (i / 16) k) [
+      | inl y ↦
+          let none : half_dot (get_or groups (i / 16) 0) x ≡ false = ap (λ j. half_dot (get_or groups j 0) x) y ∙ ap (λ v. half_dot v x) e ∙ white_half x in
+          o i x l m ∙ ap (λ t. half_dot (get_or old i 0) x || ltb i (16 * k) && t) none ∙ ap (λ t. half_dot (get_or old i 0) x || t) (and_false (ltb i (16 * k)))
+          ∙ sym (ap (λ t. half_dot (get_or old i 0) x || ltb i (16 * (k + 1)) && t) none ∙ ap (λ t. half_dot (get_or old i 0) x || t) (and_false (ltb i (16 * (k + 1)))))
+      | inr n ↦ elsewhere i x l m n
+    ]
+
+    pub settled_more : (from to : ℕ) (new : List ℕ) → from ≡ min (16 * k) n → to ≡ min (16 * (k + 1)) n
+        → ((i x : ℕ) → from ≤ i → i < to → half_dot (get_or new i 0) x ≡ (half_dot (get_or mid i 0) x || half_dot (get_or groups k 0) x))
+        → ((i : ℕ) → span from to i ≡ false → get_or new i 0 ≡ get_or mid i 0) → Settled groups n (k + 1) old new
+    settled_more from to new e f g u i x l m = elim (cases_eq (i / 16) k) [
+      | inl y ↦
+          let mine : half_dot (get_or mid i 0) x ≡ half_dot (get_or old i 0) x =
+          o i x l m ∙ ap (λ t. half_dot (get_or old i 0) x || t && half_dot (get_or groups (i / 16) 0) x) (le-ltb i (16 * k) (omega arith)) ∙ sym (or_false (half_dot (get_or old i 0) x)) in
+          g i x (omega arith) (omega arith) ∙ ap (λ t. t || half_dot (get_or groups k 0) x) mine ∙ rw (lt-ltb i (16 * (k + 1)) (omega arith), y) refl
+      | inr q ↦ ap (λ v. half_dot v x) (u i (let t : span from to i ≡ false = elim (cases_lt i from) [
+        | inl a ↦ rw (lt-leb from i a) refl
+        | inr a ↦ rw (le-leb from i a, le-ltb i to (omega arith)) refl
+      ] in t)) ∙ elsewhere i x l m q
+    ]
+
+  -- all groups
+  pub settled_all : (k : ℕ) (old new : List ℕ) → length groups ≤ k → Settled groups n k old new → (i x : ℕ) → i < n → x < 32
+      → half_dot (get_or new i 0) x ≡ (half_dot (get_or old i 0) x || half_dot (get_or groups (i / 16) 0) x)
+  settled_all k old new z o i x l m = o i x l m ∙ ap (λ t. half_dot (get_or old i 0) x || t) (elim (cases_lt i (16 * k)) [
+    | inl y ↦ rw (lt-ltb i (16 * k) y) refl
+    | inr y ↦ rw (le-ltb i (16 * k) y) (sym (ap (λ v. half_dot v x) (get_or_past groups (i / 16) 0 (omega arith)) ∙ white_half x))
+  ])
+
+-- what was blackened, at any place
+pub black_is : (ink from to i x : ℕ) (old new : List ℕ) → Blackened ink from to old new → half_dot (get_or new i 0) x ≡ (half_dot (get_or old i 0) x || span from to i && half_dot ink x)
+black_is ink from to i x old new p = elim (cases_lt i from) [
+  | inl y ↦ ap (λ v. half_dot v x) (p.outside i (rw (lt-leb from i y) refl)) ∙ rw (lt-leb from i y) (or_false _)
+  | inr y ↦ elim (cases_lt i to) [
+    | inl z ↦ p.inside i x y z ∙ rw (le-leb from i y, lt-ltb i to z) refl
+    | inr z ↦ ap (λ v. half_dot v x) (p.outside i (rw (le-leb from i y, le-ltb i to z) refl)) ∙ rw (le-leb from i y, le-ltb i to z) (or_false _)
+  ]
+]
+
+-- the ends of many fronts and the groups among them are all of them
+ends_all : (from to first last i : ℕ) → from + 48 ≤ to → first ≡ from / 16 + 1 → last ≡ to / 16 → (span from (from + 16) i || span (to - 16) to i || span first last (i / 16)) ≡ span from to i
+ends_all from to first last i m e f = elim (cases_lt i from) [
+  | inl y ↦ rw (lt-leb from i y, lt-leb (to - 16) i (omega arith), lt-leb first (i / 16) (omega arith)) refl
+  | inr y ↦ elim (cases_lt i (from + 16)) [
+    | inl z ↦ rw (le-leb from i y, lt-ltb i (from + 16) z, lt-ltb i to (omega arith)) refl
+    | inr z ↦ elim (cases_lt i (to - 16)) [
+      | inl s ↦ rw (le-leb from i y, le-ltb i (from + 16) z, lt-ltb i to (omega arith), lt-leb (to - 16) i s, le-leb first (i / 16) (omega arith), lt-ltb (i / 16) last (omega arith)) refl
+      | inr s ↦ elim (cases_lt i to) [
+        | inl t ↦ rw (le-leb from i y, le-ltb i (from + 16) z, lt-ltb i to t, le-leb (to - 16) i s) refl
+        | inr t ↦ rw (le-leb from i y, le-ltb i (from + 16) z, le-ltb i to t, le-leb (to - 16) i s, le-leb first (i / 16) (omega arith), le-ltb (i / 16) last (omega arith)) refl
+      ]
+    ]
+  ]
+]
+
+one_ink : (o g k a b c t : Bool) → (a || b || c) ≡ t → (((o || a && k) || b && k) || (g || c && k)) ≡ ((o || g) || t && k)
+one_ink true g k a b c t e = refl
+one_ink false true true true true true t e = ap (λ v. true || v && true) e
+one_ink false true true true true false t e = ap (λ v. true || v && true) e
+one_ink false false true true true true t e = ap (λ v. false || v && true) e
+one_ink false false true true true false t e = ap (λ v. false || v && true) e
+one_ink false true true true false true t e = ap (λ v. true || v && true) e
+one_ink false true true true false false t e = ap (λ v. true || v && true) e
+one_ink false false true true false true t e = ap (λ v. false || v && true) e
+one_ink false false true true false false t e = ap (λ v. false || v && true) e
+one_ink false true true false true true t e = ap (λ v. true || v && true) e
+one_ink false true true false true false t e = ap (λ v. true || v && true) e
+one_ink false false true false true true t e = ap (λ v. false || v && true) e
+one_ink false false true false true false t e = ap (λ v. false || v && true) e
+one_ink false true true false false true t e = ap (λ v. true || v && true) e
+one_ink false true true false false false t e = ap (λ v. true || v && true) e
+one_ink false false true false false true t e = ap (λ v. false || v && true) e
+one_ink false false true false false false t e = ap (λ v. false || v && true) e
+one_ink false true false true true true t e = ap (λ v. true || v && false) e
+one_ink false true false true true false t e = ap (λ v. true || v && false) e
+one_ink false false false true true true t e = ap (λ v. false || v && false) e
+one_ink false false false true true false t e = ap (λ v. false || v && false) e
+one_ink false true false true false true t e = ap (λ v. true || v && false) e
+one_ink false true false true false false t e = ap (λ v. true || v && false) e
+one_ink false false false true false true t e = ap (λ v. false || v && false) e
+one_ink false false false true false false t e = ap (λ v. false || v && false) e
+one_ink false true false false true true t e = ap (λ v. true || v && false) e
+one_ink false true false false true false t e = ap (λ v. true || v && false) e
+one_ink false false false false true true t e = ap (λ v. false || v && false) e
+one_ink false false false false true false t e = ap (λ v. false || v && false) e
+one_ink false true false false false true t e = ap (λ v. true || v && false) e
+one_ink false true false false false false t e = ap (λ v. true || v && false) e
+one_ink false false false false false true t e = ap (λ v. false || v && false) e
+one_ink false false false false false false t e = ap (λ v. false || v && false) e
+
+-- fronts of which the ends were blackened, and of the others the groups
+pub groups_black : (ink from to first last i x : ℕ) (groups grown old one new : List ℕ) → from + 48 ≤ to → first ≡ from / 16 + 1 → last ≡ to / 16
+    → Blackened ink from (from + 16) old one → Blackened ink first last groups grown → Blackened ink (to - 16) to one new
+    → (half_dot (get_or new i 0) x || half_dot (get_or grown (i / 16) 0) x) ≡ ((half_dot (get_or old i 0) x || half_dot (get_or groups (i / 16) 0) x) || span from to i && half_dot ink x)
+groups_black ink from to first last i x groups grown old one new m e f p q r =
+    ap (λ t. t || half_dot (get_or grown (i / 16) 0) x) (black_is ink (to - 16) to i x one new r ∙ ap (λ t. t || span (to - 16) to i && half_dot ink x) (black_is ink from (from + 16) i x old one p))
+    ∙ ap (λ t. half_dot (get_or old i 0) x || span from (from + 16) i && half_dot ink x || span (to - 16) to i && half_dot ink x || t) (black_is ink first last (i / 16) x groups grown q)
+    ∙ one_ink (half_dot (get_or old i 0) x) (half_dot (get_or groups (i / 16) 0) x) (half_dot ink x) (span from (from + 16) i) (span (to - 16) to i) (span first last (i / 16)) (span from to i) (ends_all from to first last i m e f)
+
+-- and where each of them was alone
+pub each_black : (ink from to i x : ℕ) (groups old new : List ℕ) → Blackened ink from to old new
+    → (half_dot (get_or new i 0) x || half_dot (get_or groups (i / 16) 0) x) ≡ ((half_dot (get_or old i 0) x || half_dot (get_or groups (i / 16) 0) x) || span from to i && half_dot ink x)
+each_black ink from to i x groups old new p = elim (cases_lt i from) [
+  | inl y ↦ ap (λ v. half_dot v x || half_dot (get_or groups (i / 16) 0) x) (p.outside i (rw (lt-leb from i y) refl)) ∙ rw (lt-leb from i y) (or_false _)
+  | inr y ↦ elim (cases_lt i to) [
+    | inl z ↦ ap (λ t. t || half_dot (get_or groups (i / 16) 0) x) (p.inside i x y z) ∙ rw (le-leb from i y, lt-ltb i to z) (swap (half_dot (get_or old i 0) x) (half_dot ink x) (half_dot (get_or groups (i / 16) 0) x))
+    | inr z ↦ ap (λ v. half_dot v x || half_dot (get_or groups (i / 16) 0) x) (p.outside i (rw (le-leb from i y, le-ltb i to z) refl)) ∙ rw (le-leb from i y, le-ltb i to z) (or_false _)
+  ]
+]
+  where
+    swap : (a b c : Bool) → (a || b || c) ≡ ((a || c) || b)
+    swap true b c = refl
+    swap false true true = refl
+    swap false true false = refl
+    swap false false true = refl
+    swap false false false = refl
+
+-- a white front, of groups that are white
+pub no_front : (n : ℕ) (old : List ℕ) (i x : ℕ) → get_or old i 0 ≡ 0 → (half_dot (get_or old i 0) x || half_dot (get_or (replicate {A = ℕ} n 0) (i / 16) 0) x) ≡ false
+no_front n old i x e = ap (λ v. half_dot v x || half_dot (get_or (replicate {A = ℕ} n 0) (i / 16) 0) x) e ∙ ap (λ t. t || half_dot (get_or (replicate {A = ℕ} n 0) (i / 16) 0) x) (white_half x)
+    ∙ ap (λ v. half_dot v x) (zero_at n (i / 16)) ∙ white_half x

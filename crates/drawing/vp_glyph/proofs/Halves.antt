@@ -1,6 +1,6 @@
 -- Halves of words.
-use Rattle.std.proofs.Common.{inl, inr, ◌≡◌, ℕ, ◌-◌, ◌/◌, ◌^◌, ◌<◌, Bool, true, false, cond, eqb, ◌||◌, refl, ap, ◌∙◌, arith, bit_or}
-use Rattle.std.proofs.lemmas.Nat.Bits.{bit_at-zero}
+use Rattle.std.proofs.Common.{inl, inr, ◌≡◌, ℕ, ◌-◌, ◌/◌, ◌^◌, ◌<◌, Bool, true, false, cond, eqb, ◌||◌, refl, ap, ◌∙◌, arith, bit_and, bit_or}
+use Rattle.std.proofs.lemmas.Nat.Bits.{bit_at-zero, shr_and_one}
 use Rattle.std.proofs.lemmas.Bool.{cases_lt, lt-ltb, le-ltb}
 use Rattle.vp_dots.specs.Dots.{bit}
 use Rattle.vp_dots.specs.Words.{word_dot}
@@ -30,3 +30,8 @@ white_half x = elim (cases_lt x 32) [
 -- the left half of a word
 pub half_left : (w x : ℕ) → x < 32 → half_dot (w / 2 ^ 32) x ≡ word_dot w x
 half_left w x l = rw (lt-ltb x 32 l, lt-ltb x 64 (omega arith)) (bit_shr w 32 (31 - x) ∙ ap (bit w) (omega arith))
+
+-- the dot as the code reads it
+pub half_read : (half x : ℕ) → x < 32 → eqb (bit_and (half / 2 ^ (31 - x)) 1) 1 ≡ half_dot half x
+unfolding bit
+half_read half x h = rw (shr_and_one half (31 - x), lt-ltb x 32 h) refl

@@ -15,8 +15,8 @@ use Rattle.vp_glyph.specs.Blocks.{pieces, first, indent, line_dot, lines_dot, bl
 use Rattle.vp_glyph.specs.declared.block.Alignment.{Alignment}
 use Rattle.vp_glyph.proofs.Breaking.{block_few}
 use Rattle.vp_glyph.proofs.Gathered.{shown}
+use Rattle.vp_glyph.proofs.Halves.{white_half}
 use Rattle.vp_glyph.proofs.Layouts.{layout}
-use Rattle.vp_glyph.proofs.Looks.{white_dot}
 use Rattle.vp_glyph.proofs.Overlaid.{line_inside, zero_at}
 use Rattle.vp_glyph.proofs.Stacks.{lines_left, lines_are, block_within, block_past}
 
@@ -103,7 +103,7 @@ module _ (sheet : Option Glyphs) (w h a b s : ℕ) (d : Alignment) where
       ∙ shared_or (leb t y && ltb (y - t) h) (line_dot (layout sheet w 24 a 1 0 d) 0 line x ((y - t) * 24 / h)) (lines_dot (layout sheet w 24 a 1 0 d) 0 rest x ((y - t) * 24 / h))
 
   -- the fronts of rows on which words are spread that have the rows of the sheet
-  shown_as : (at : ℤ) (rows : List ℕ) (t y x : ℕ) (f : ℕ → ℕ → Bool) → x < 32 → ((r x : ℕ) → r < 24 → x < 32 → word_dot (get_or rows r 0) x ≡ shifted at (λ v. f v r) x)
+  shown_as : (at : ℤ) (rows : List ℕ) (t y x : ℕ) (f : ℕ → ℕ → Bool) → x < 32 → ((r x : ℕ) → r < 24 → x < 32 → half_dot (get_or rows r 0) x ≡ shifted at (λ v. f v r) x)
       → shown rows t h y x ≡ shifted at (λ v. leb t y && ltb (y - t) h && f v ((y - t) * 24 / h)) x
   shown_as at rows t y x f l e = elim (cases_lt (y - t) h) [
     | inl k ↦
@@ -111,23 +111,23 @@ module _ (sheet : Option Glyphs) (w h a b s : ℕ) (d : Alignment) where
         ap (λ v. leb t y && ltb (y - t) h && v) (e ((y - t) * 24 / h) x q l) ∙ sym (shifted_if at (leb t y && ltb (y - t) h) (λ v. f v ((y - t) * 24 / h)) x)
     | inr g ↦
         let none : (leb t y && ltb (y - t) h) ≡ false = ap (λ v. leb t y && v) (le-ltb (y - t) h g) ∙ and_false (leb t y) in
-        ap (λ v. v && word_dot (get_or rows ((y - t) * 24 / h) 0) x) none ∙ sym (shifted_none at (λ v. leb t y && ltb (y - t) h && f v ((y - t) * 24 / h)) x (λ v. ap (λ u. u && f v ((y - t) * 24 / h)) none))
+        ap (λ v. v && half_dot (get_or rows ((y - t) * 24 / h) 0) x) none ∙ sym (shifted_none at (λ v. leb t y && ltb (y - t) h && f v ((y - t) * 24 / h)) x (λ v. ap (λ u. u && f v ((y - t) * 24 / h)) none))
   ]
 
   module _ (at : ℤ) (x y : ℕ) where
     -- the front of a row that a line is added to
-    pub line_added : (place old new : ℕ) (line rows : List ℕ) → x < 32 → half_dot new x ≡ (half_dot old x || shown rows (place * s) h y x)
-        → ((r x : ℕ) → r < 24 → x < 32 → word_dot (get_or rows r 0) x ≡ shifted at (λ v. line_dot (layout sheet w 24 a 1 0 d) 0 line v r) x)
-        → half_dot new x ≡ (half_dot old x || shifted at (λ v. line_dot (layout sheet w h a b s d) place line v y) x)
-    line_added place old new line rows l e f = e ∙ ap (λ t. half_dot old x || t) (shown_as at rows (place * s) y x (line_dot (layout sheet w 24 a 1 0 d) 0 line) l f
+    pub line_added : (place : ℕ) (old new : Bool) (line rows : List ℕ) → x < 32 → new ≡ (old || shown rows (place * s) h y x)
+        → ((r x : ℕ) → r < 24 → x < 32 → half_dot (get_or rows r 0) x ≡ shifted at (λ v. line_dot (layout sheet w 24 a 1 0 d) 0 line v r) x)
+        → new ≡ (old || shifted at (λ v. line_dot (layout sheet w h a b s d) place line v y) x)
+    line_added place old new line rows l e f = e ∙ ap (λ t. old || t) (shown_as at rows (place * s) y x (line_dot (layout sheet w 24 a 1 0 d) 0 line) l f
         ∙ shifted_same at (λ v. leb (place * s) y && ltb (y - place * s) h && line_dot (layout sheet w 24 a 1 0 d) 0 line v ((y - place * s) * 24 / h)) (λ v. line_dot (layout sheet w h a b s d) place line v y) x
         (λ v _. sym (line_rows place line v y)))
 
     -- and of one that lines with one top are added to
-    pub lines_added : (place old new : ℕ) (all : List (List ℕ)) (rows : List ℕ) → x < 32 → (s ≡ 0) ⊎ (place ≡ b - 1) → half_dot new x ≡ (half_dot old x || shown rows (place * s) h y x)
-        → ((r x : ℕ) → r < 24 → x < 32 → word_dot (get_or rows r 0) x ≡ shifted at (λ v. lines_dot (layout sheet w 24 a 1 0 d) 0 all v r) x)
-        → half_dot new x ≡ (half_dot old x || shifted at (λ v. lines_dot (layout sheet w h a b s d) place all v y) x)
-    lines_added place old new all rows l c e f = e ∙ ap (λ t. half_dot old x || t) (shown_as at rows (place * s) y x (lines_dot (layout sheet w 24 a 1 0 d) 0 all) l f
+    pub lines_added : (place : ℕ) (old new : Bool) (all : List (List ℕ)) (rows : List ℕ) → x < 32 → (s ≡ 0) ⊎ (place ≡ b - 1) → new ≡ (old || shown rows (place * s) h y x)
+        → ((r x : ℕ) → r < 24 → x < 32 → half_dot (get_or rows r 0) x ≡ shifted at (λ v. lines_dot (layout sheet w 24 a 1 0 d) 0 all v r) x)
+        → new ≡ (old || shifted at (λ v. lines_dot (layout sheet w h a b s d) place all v y) x)
+    lines_added place old new all rows l c e f = e ∙ ap (λ t. old || t) (shown_as at rows (place * s) y x (lines_dot (layout sheet w 24 a 1 0 d) 0 all) l f
         ∙ shifted_same at (λ v. leb (place * s) y && ltb (y - place * s) h && lines_dot (layout sheet w 24 a 1 0 d) 0 all v ((y - place * s) * 24 / h)) (λ v. lines_dot (layout sheet w h a b s d) place all v y) x
         (λ v _. sym (lines_rows place (place * s) all v y c refl)))
 
@@ -164,8 +164,8 @@ module _ (sheet : Option Glyphs) (w h a b s : ℕ) (d : Alignment) where
       ∙ ap (λ t. t || shifted at (λ v. lines_dot (layout sheet w 24 a 1 0 d) 0 (lines_left n next) v r) x) (sym now)
 
   -- no line yet
-  pub joined_none : (r x : ℕ) (all : Bool) → all ≡ (word_dot (get_or (replicate {A = ℕ} 24 0) r 0) x || all)
-  joined_none r x all = sym (ap (λ t. t || all) (ap (λ v. word_dot v x) (zero_at 24 r) ∙ white_dot x))
+  pub joined_none : (r x : ℕ) (all : Bool) → all ≡ (half_dot (get_or (replicate {A = ℕ} 24 0) r 0) x || all)
+  joined_none r x all = sym (ap (λ t. t || all) (ap (λ v. half_dot v x) (zero_at 24 r) ∙ white_half x))
 
   -- all lines
   pub joined_all : (at : ℤ) (n r x : ℕ) (new : Bool) (left : Option (Bor (List ℕ))) (all : Bool) → all ≡ (new || shifted at (λ v. lines_dot (layout sheet w 24 a 1 0 d) 0 (lines_left n left) v r) x)
@@ -209,6 +209,6 @@ cell_row sheet c w place s at d row l h = shifted_same at (λ x. leb place x && 
     order true false c = refl
     order false b c = refl
 
--- words that were white
-pub rows_white : (r x : ℕ) (f new : Bool) → new ≡ (word_dot (get_or (replicate {A = ℕ} 24 0) r 0) x || f) → new ≡ f
-rows_white r x f new e = e ∙ ap (λ t. t || f) (ap (λ v. word_dot v x) (zero_at 24 r) ∙ white_dot x)
+-- rows that were white
+pub rows_white : (r x : ℕ) (f new : Bool) → new ≡ (half_dot (get_or (replicate {A = ℕ} 24 0) r 0) x || f) → new ≡ f
+rows_white r x f new e = e ∙ ap (λ t. t || f) (ap (λ v. half_dot v x) (zero_at 24 r) ∙ white_half x)

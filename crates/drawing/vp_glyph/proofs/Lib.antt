@@ -22,3 +22,4 @@ pub mod Windows
 pub mod Masks
 pub mod Moved
 mod Halves
+pub mod Counted

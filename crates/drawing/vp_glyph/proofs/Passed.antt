@@ -92,7 +92,7 @@ passed_more b k old mid new m e p = record {
 }
 
 -- white rows
-white_row : (n b k x : ℕ) → dot (get_or (replicate {A = List ℕ} n (replicate {A = ℕ} b 0)) k []) x ≡ false
+pub white_row : (n b k x : ℕ) → dot (get_or (replicate {A = List ℕ} n (replicate {A = ℕ} b 0)) k []) x ≡ false
 white_row n b k x = elim (cases_lt k n) [
   | inl l ↦ ap (λ r. dot r x) (get_or-replicate n k (replicate {A = ℕ} b 0) [] l) ∙ zero_dots b x
   | inr g ↦ ap (λ r. dot r x) (get_or_past (replicate {A = List ℕ} n (replicate {A = ℕ} b 0)) k [] (let m = length-replicate {A = List ℕ} n (replicate {A = ℕ} b 0) in omega (arith, m))) ∙ zero_dots 0 x

@@ -1,18 +1,16 @@
 -- Dots of cells on the first dots of a row.
 use Rattle.std.proofs.Common.{inl, inr, ◌≡◌, ℕ, ◌+◌, ◌-◌, ◌*◌, ◌/◌, ◌<◌, ◌≤◌, Bool, true, false, eqb, ltb, leb, ◌&&◌, ◌||◌, refl, sym, ap, ◌∙◌, arith, ℤ, pos, negsuc, ◌+ℤ◌, ◌<ℤ◌, ◌≤ℤ◌}
-use Rattle.std.proofs.Math.Nat.{div-lt_iff_lt-mul}
+use Rattle.std.proofs.Math.Nat.{div-lt_iff_lt-mul, le-div_iff_mul-le}
 use Rattle.std.proofs.lemmas.Int.{ints}
 use Rattle.std.proofs.lemmas.Bool.{cases_lt, cases_eq, lt-ltb, le-ltb, lt-leb, le-leb}
 use Rattle.std.proofs.lemmas.Bool.Decides.{nat_tests}
 use Rattle.vp_dots.specs.Dots.{shifted, span}
 use Rattle.vp_dots.proofs.Shifts.{met, shifted_same, shifted_or, shifted_none}
-use Rattle.vp_dots.specs.Words.{word_dot}
-use Rattle.vp_glyph.proofs.Looks.{white_dot}
 use Rattle.vp_glyph.proofs.Masks.{edges_are}
-use Rattle.vp_glyph.proofs.Spread.{edge_at, before_edge, ink}
+use Rattle.vp_glyph.proofs.Spread.{edge_at, from_edge, before_edge, ink}
 
 -- a place of what was moved, found on the row
-pub place_meets : (at : ℤ) (place r d : ℕ) → d < 64 → ((d : ℕ) → d < 64 → pos d <ℤ (at +ℤ pos place) → d < r) → ((d : ℕ) → d < 64 → (at +ℤ pos place) ≤ℤ pos d → r ≤ d)
+pub place_meets : (at : ℤ) (place r d : ℕ) → d < 32 → ((d : ℕ) → d < 32 → pos d <ℤ (at +ℤ pos place) → d < r) → ((d : ℕ) → d < 32 → (at +ℤ pos place) ≤ℤ pos d → r ≤ d)
     → leb r d ≡ shifted at (leb place) d
 place_meets (pos a) place r d l below above = elim (cases_lt d a) [
   | inl n ↦ lt-leb r d (below d l (omega (arith, ints))) ∙ sym (rw (lt-leb a d n) refl)
@@ -81,12 +79,38 @@ module _ (at : ℤ) (left w : ℕ) (g : ℕ → Bool) where
   or_false true = refl
   or_false false = refl
 
-  pub wide_none : (old : Bool) (d : ℕ) → old ≡ (old || shifted at (before 0) d)
-  wide_none old d = or_false old ∙ ap (λ t. old || t) (sym (shifted_none at (before 0) d (λ x. rw (le-ltb ((x - left) * 12 / w) 0 (omega arith)) (nothing (leb left x && ltb (x - left) w)))))
+  pub wide_none : (s : ℕ) (old : Bool) (d : ℕ) → s ≡ 0 → old ≡ (old || shifted at (before s) d)
+  wide_none s old d e = or_false old ∙ ap (λ t. old || t) (sym (shifted_none at (before s) d (λ x. rw (le-ltb ((x - left) * 12 / w) s (omega arith)) (nothing (leb left x && ltb (x - left) w)))))
     where
       nothing : (a : Bool) → (a && false) ≡ false
       nothing true = refl
       nothing false = refl
+
+  -- nor where those before s lie before the row
+  pub wide_hidden : (s from d : ℕ) (old : Bool) → s ≤ 12 → leb from d ≡ shifted at (leb (left + edge_at 12 w s)) d → from ≡ 0 → old ≡ (old || shifted at (before s) d)
+  wide_hidden s from d old k e z = or_false old ∙ ap (λ t. old || t) (sym (elim (met at d) [
+    | inl m ↦
+        let late : leb (left + edge_at 12 w s) m.0 ≡ true = sym (m.2 (leb (left + edge_at 12 w s))) ∙ sym e ∙ le-leb from d (omega arith) in
+        m.2 (before s) ∙ behind m.0 (elim (cases_lt m.0 (left + edge_at 12 w s)) [ inl o ↦ absurd (let t = lt-leb (left + edge_at 12 w s) m.0 o in cc) | inr o ↦ o ])
+    | inr n ↦ n.1 (before s)
+  ]))
+    where
+      nothing : (a : Bool) → (a && false) ≡ false
+      nothing true = refl
+      nothing false = refl
+
+      behind : (x : ℕ) → left + edge_at 12 w s ≤ x → before s x ≡ false
+      behind x o = elim (cases_lt (x - left) w) [
+        | inl u ↦
+            let b : s * w ≤ (x - left) * 12 = from_edge 12 w s (x - left) (omega arith) (omega arith) in
+            let q : s ≤ (x - left) * 12 / w = (le-div_iff_mul-le {k = w} {x = s} {y = (x - left) * 12} (omega arith)).1 b in
+            rw (le-ltb ((x - left) * 12 / w) s q) (nothing (leb left x && ltb (x - left) w))
+        | inr u ↦ rw (le-ltb (x - left) w u) (none (leb left x) _)
+      ]
+        where
+          none : (a b : Bool) → (a && false && b) ≡ false
+          none true b = refl
+          none false b = refl
 
   -- one dot more
   pub wide_more : (s from to d : ℕ) (old mid new : Bool) → s < 12 → leb from d ≡ shifted at (leb (left + edge_at 12 w s)) d → leb to d ≡ shifted at (leb (left + edge_at 12 w (s + 1))) d
@@ -137,12 +161,3 @@ module _ (at : ℤ) (left w : ℕ) (g : ℕ → Bool) where
           nothing : (a b c : Bool) → (a && false && b) ≡ (a && false && c)
           nothing true b c = refl
           nothing false b c = refl
-
--- a mask without a dot
-pub no_mask : (old a : Bool) (mask d : ℕ) → mask ≡ 0 → old ≡ (old || a && word_dot mask d)
-no_mask old a mask d e = sym (ap (λ v. old || a && word_dot v d) e ∙ ap (λ t. old || a && t) (white_dot d) ∙ nothing old a)
-  where
-    nothing : (old a : Bool) → (old || a && false) ≡ old
-    nothing true a = refl
-    nothing false true = refl
-    nothing false false = refl

@@ -1,14 +1,22 @@
 //! The first dots of many rows of a block, for which each of its lines is looked at once.
 ghost use Rattle.std.specs.Prelude.{◌≡◌, ℕ, ◌+◌, ◌-◌, ◌*◌, ◌/◌, ◌<◌, ◌≤◌, ◌^◌, ◌||◌, ◌&&◌, nat_le, nat_lt, false, min, length, take, slice_index};
 ghost use Rattle.vp_dots.specs.Dots.{shifted, span};
-ghost use Rattle.vp_dots.specs.Words.{word_dot};
 ghost use Rattle.vp_glyph.specs.Blocks.{pieces, first, line_dot, block_height, block_dot};
-ghost use Rattle.vp_glyph.specs.Halves.{half_dot};
+ghost use Rattle.vp_glyph.specs.Halves.{half_dot, front_dot};
 ghost use Rattle.vp_glyph.specs.Layouts.{layout_of};
 
 use crate::block::Block;
 use crate::lines::{Line, next_line};
-use vp_dots::{Op, Small, word_of};
+use vp_dots::Small;
+
+/// Of so many fronts side by side the dots that all have are kept once.
+const GROUP: usize = 16;
+
+/// So many groups are kept: those of the rows that may fall on a label's columns, and some more.
+const GROUPS: usize = 80;
+
+/// From so many fronts on their groups are blackened in place of each.
+const MANY: usize = 48;
 
 /// The first of the rows of a cell, drawn `high` rows high, that show row s of 24.
 pub fn first_row(s: u32, high: u32) -> u32
@@ -26,15 +34,8 @@ pub fn rows_above<const N: usize>(row: u32, first: u32) -> usize
     (row.saturating_sub(first) as usize).min(N)
 }
 
-/// The left half of a word.
-#[inline(always)]
-fn left_half(word: u64) -> u32
-    ensures { (x : ℕ) → x < 32 → half_dot result x ≡ word_dot word x }
-{
-    (word >> 32) as u32
-}
-
 /// Makes the dots of the halves from one to another black where a half is.
+#[inline(always)]
 fn blacken<const N: usize>(ink: u32, from: usize, to: usize, halves: &mut [u32; N])
     requires order { from ≤ to }
     requires to { to ≤ N }
@@ -48,8 +49,51 @@ fn blacken<const N: usize>(ink: u32, from: usize, to: usize, halves: &mut [u32; 
     }
 }
 
-/// The first of 24 words behind word s that isn't like it, and 24 where all are.
-fn alike_to(rows: &[u64; 24], s: usize) -> usize
+/// Makes the dots of the fronts from one to another black where a half is: of groups that are among them as
+/// a whole at once. As many fronts as a group has, at each end, are blackened one by one: the rest of a group
+/// there, and what is black anyhow.
+fn blacken_run<const N: usize>(
+    ink: u32,
+    from: usize,
+    to: usize,
+    groups: &mut [u32; GROUPS],
+    fronts: &mut [u32; N],
+)
+    requires order { from ≤ to }
+    requires to { to ≤ N }
+    ensures { (i x : ℕ) → i < N → x < 32 → front_dot GROUP groups.new fronts.new i x
+        ≡ (front_dot GROUP groups.old fronts.old i x || span from to i && half_dot ink x) }
+{
+    if to - from < MANY || to > GROUP * GROUPS {
+        blacken(ink, from, to, fronts);
+        return;
+    }
+    let first = from / GROUP + 1;
+    let last = to / GROUP;
+    blacken(ink, from, from + GROUP, fronts);
+    blacken(ink, first, last, groups);
+    blacken(ink, to - GROUP, to, fronts);
+}
+
+/// Gives each front the dots that its group has.
+fn settle<const N: usize>(groups: &[u32; GROUPS], fronts: &mut [u32; N])
+    ensures { (i x : ℕ) → i < N → x < 32 → half_dot (slice_index fronts.new i) x
+        ≡ front_dot GROUP groups.now fronts.old i x }
+{
+    for k in 0..GROUPS {
+        if groups[k] != 0 {
+            blacken(
+                groups[k],
+                (GROUP * k).min(N),
+                (GROUP * (k + 1)).min(N),
+                fronts,
+            );
+        }
+    }
+}
+
+/// The first of 24 rows behind row s that isn't like it, and 24 where all are.
+fn alike_to(rows: &[u32; 24], s: usize) -> usize
     requires { s < 24 }
     ensures some { s < result }
     ensures within { result ≤ 24 }
@@ -65,20 +109,27 @@ fn alike_to(rows: &[u64; 24], s: usize) -> usize
 
 /// Adds to the fronts of `N` rows, the first of which is row `top`, the rows of the sheet that are drawn
 /// `high` rows high in all from row `above` on: those that are alike at once.
-fn spread<const N: usize>(rows: &[u64; 24], above: u32, high: u32, top: u32, fronts: &mut [u32; N])
+fn spread<const N: usize>(
+    rows: &[u32; 24],
+    above: u32,
+    high: u32,
+    top: u32,
+    groups: &mut [u32; GROUPS],
+    fronts: &mut [u32; N],
+)
     requires { above + high < 2 ^ 32 }
-    ensures { (i x : ℕ) → i < N → x < 32 → half_dot (slice_index fronts.new i) x
-        ≡ (half_dot (slice_index fronts.old i) x || nat_le above (top + i) && nat_lt (top + i - above) high
-        && word_dot (slice_index rows.now ((top + i - above) * 24 / high)) x) }
+    ensures { (i x : ℕ) → i < N → x < 32 → front_dot GROUP groups.new fronts.new i x
+        ≡ (front_dot GROUP groups.old fronts.old i x || nat_le above (top + i)
+        && nat_lt (top + i - above) high
+        && half_dot (slice_index rows.now ((top + i - above) * 24 / high)) x) }
 {
     let mut from = rows_above::<N>(above, top);
     let mut s = 0;
     while s < 24 {
         let behind = alike_to(rows, s);
         let to = rows_above::<N>(above + first_row(behind as u32, high), top);
-        let ink = left_half(rows[s]);
-        if ink != 0 {
-            blacken(ink, from, to, fronts);
+        if rows[s] != 0 {
+            blacken_run(rows[s], from, to, groups, fronts);
         }
         from = to;
         s = behind;
@@ -93,18 +144,55 @@ impl<A: Small> Block<'_, A> {
         place: u32,
         top: u32,
         at: i64,
+        groups: &mut [u32; GROUPS],
         fronts: &mut [u32; N],
     )
         requires cells { line.cells ≤ length (first (pieces line.text.now)) }
         requires most { line.cells ≤ self.now.wide / self.now.w }
         requires place { place ≤ self.now.rows - 1 }
-        ensures { (i x : ℕ) → i < N → x < 32 → half_dot (slice_index fronts.new i) x
-            ≡ (half_dot (slice_index fronts.old i) x || shifted at (λ x. line_dot (layout_of self.now) place
+        ensures { (i x : ℕ) → i < N → x < 32 → front_dot GROUP groups.new fronts.new i x
+            ≡ (front_dot GROUP groups.old fronts.old i x || shifted at (λ x.
+            line_dot (layout_of self.now) place
             (take line.entry.cells (first (pieces line.entry.text.now))) x (top + i)) x) }
     {
-        let mut rows = [0u64; 24];
+        let mut rows = [0u32; 24];
         self.add_rows(line, at, &mut rows);
-        spread(&rows, place * self.pitch, self.h, top, fronts);
+        spread(&rows, place * self.pitch, self.h, top, groups, fronts);
+    }
+
+    /// Adds the lines to the fronts of N rows, the first of which is row `top`, and to those of their groups.
+    fn add_lines<const N: usize>(
+        &self,
+        top: u32,
+        at: i64,
+        groups: &mut [u32; GROUPS],
+        fronts: &mut [u32; N],
+    )
+        requires wide { self.now.w ≤ self.now.wide }
+        requires few { N < 2 ^ 32 }
+        requires white { (i x : ℕ) → front_dot GROUP groups.old fronts.old i x ≡ false }
+        ensures { (i x : ℕ) → i < N → x < 32 → top + i < block_height self.now.h self.now.rows self.now.pitch
+            → front_dot GROUP groups.new fronts.new i x
+            ≡ shifted at (λ x. block_dot (layout_of self.now) self.now.text.now x (top + i)) x }
+    {
+        let most = (self.wide / self.w) as usize;
+        let (above, text) = self.first_line(top);
+        let mut place = above;
+        let mut left = Some(text);
+        while let Some(text) = left {
+            if u64::from(top) + N as u64 <= u64::from(place * self.pitch) {
+                return;
+            }
+            if self.pitch == 0 || place + 1 >= self.rows {
+                let rows = self.joined(text, at);
+                spread(&rows, place * self.pitch, self.h, top, groups, fronts);
+                return;
+            }
+            let (line, rest) = next_line(text, most);
+            self.add_line(line, place, top, at, groups, fronts);
+            place = (place + 1).min(self.rows.saturating_sub(1));
+            left = rest;
+        }
     }
 
     /// Draws the first 32 dots of N rows, each moved by an offset and black where row top, top + 1, .. has
@@ -119,23 +207,8 @@ impl<A: Small> Block<'_, A> {
         if self.wide < self.w {
             return;
         }
-        let most = (self.wide / self.w) as usize;
-        let (above, text) = self.first_line(top);
-        let mut place = above;
-        let mut left = Some(text);
-        while let Some(text) = left {
-            if u64::from(top) + N as u64 <= u64::from(place * self.pitch) {
-                return;
-            }
-            if self.pitch == 0 || place + 1 >= self.rows {
-                let rows = self.joined(text, at);
-                spread(&rows, place * self.pitch, self.h, top, fronts);
-                return;
-            }
-            let (line, rest) = next_line(text, most);
-            self.add_line(line, place, top, at, fronts);
-            place = (place + 1).min(self.rows.saturating_sub(1));
-            left = rest;
-        }
+        let mut groups = [0u32; GROUPS];
+        self.add_lines(top, at, &mut groups, fronts);
+        settle(&groups, fronts);
     }
 }

@@ -1,14 +1,14 @@
 //! Lines over each other, as the rows of the sheet that they show.
 ghost use Rattle.std.specs.Prelude.{◌≡◌, ℕ, ◌+◌, ◌-◌, ◌*◌, ◌/◌, ◌<◌, ◌≤◌, ◌^◌, nat_le, ◌&&◌, ◌||◌, length, take, slice_index};
 ghost use Rattle.vp_dots.specs.Dots.{shifted};
-ghost use Rattle.vp_dots.specs.Words.{word_dot};
 ghost use Rattle.vp_glyph.specs.Texts.{text_dot};
 ghost use Rattle.vp_glyph.specs.Blocks.{pieces, first, block_lines, line_dot, lines_dot};
+ghost use Rattle.vp_glyph.specs.Halves.{half_dot};
 ghost use Rattle.vp_glyph.specs.Layouts.{layout_of, sheet_rows};
 
 use crate::block::Block;
 use crate::lines::{Line, behind_cells, next_cell, next_line};
-use crate::sampled::{seen_dots, whole_cells};
+use crate::sampled::seen_dots;
 use crate::sheet::{Sheet, rows_in};
 use crate::stretch::Stretch;
 use vp_dots::Small;
@@ -22,19 +22,19 @@ fn add_cells<A: Small>(
     stretch: &Stretch,
     at: i64,
     left: u32,
-    rows: &mut [u64; 24],
+    rows: &mut [u32; 24],
 )
     requires w { 0 < stretch.now.width }
     requires cells { line.cells ≤ length (first (pieces line.text.now)) }
     requires fits { left + stretch.now.width * line.cells < 2 ^ 32 }
-    ensures { (s x : ℕ) → s < 24 → x < 32 → word_dot (slice_index rows.new s) x
-        ≡ (word_dot (slice_index rows.old s) x || shifted at (λ x. nat_le left x
+    ensures { (s x : ℕ) → s < 24 → x < 32 → half_dot (slice_index rows.new s) x
+        ≡ (half_dot (slice_index rows.old s) x || shifted at (λ x. nat_le left x
         && text_dot sheet.now (take line.entry.cells (first (pieces line.entry.text.now)))
         stretch.now.width 24 (x - left) s) x) }
 {
     let w = stretch.width;
     let (from, to) = seen_dots(at, left, w * line.cells as u32, 4);
-    let mut k = whole_cells(from, w);
+    let mut k = stretch.cells_within(from);
     let mut rest = behind_cells(line.text, k as usize);
     while w * k < to {
         let Some((character, behind)) = next_cell(rest) else {
@@ -48,11 +48,11 @@ fn add_cells<A: Small>(
 
 impl<A: Small> Block<'_, A> {
     /// Adds the first 32 dots of the rows of the sheet on which a line stands.
-    pub(crate) fn add_rows(&self, line: Line<'_>, at: i64, rows: &mut [u64; 24])
+    pub(crate) fn add_rows(&self, line: Line<'_>, at: i64, rows: &mut [u32; 24])
         requires cells { line.cells ≤ length (first (pieces line.text.now)) }
         requires most { line.cells ≤ self.now.wide / self.now.w }
-        ensures { (s x : ℕ) → s < 24 → x < 32 → word_dot (slice_index rows.new s) x
-            ≡ (word_dot (slice_index rows.old s) x || shifted at (λ x. line_dot
+        ensures { (s x : ℕ) → s < 24 → x < 32 → half_dot (slice_index rows.new s) x
+            ≡ (half_dot (slice_index rows.old s) x || shifted at (λ x. line_dot
             (sheet_rows (layout_of self.now)) 0 (take line.entry.cells (first (pieces line.entry.text.now)))
             x s) x) }
     {
@@ -63,14 +63,14 @@ impl<A: Small> Block<'_, A> {
     }
 
     /// The first 32 dots of the rows of the sheet on which the lines of a text stand over each other.
-    pub(crate) fn joined(&self, text: &[u8], at: i64) -> [u64; 24]
+    pub(crate) fn joined(&self, text: &[u8], at: i64) -> [u32; 24]
         requires { self.now.w ≤ self.now.wide }
-        ensures { (s x : ℕ) → s < 24 → x < 32 → word_dot (slice_index result s) x
+        ensures { (s x : ℕ) → s < 24 → x < 32 → half_dot (slice_index result s) x
             ≡ shifted at (λ x. lines_dot (sheet_rows (layout_of self.now)) 0
             (block_lines (self.now.wide / self.now.w) text.now) x s) x }
     {
         let most = (self.wide / self.w) as usize;
-        let mut rows = [0u64; 24];
+        let mut rows = [0u32; 24];
         let mut left = Some(text);
         while let Some(text) = left {
             let (line, rest) = next_line(text, most);

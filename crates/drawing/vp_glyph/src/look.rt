@@ -3,6 +3,7 @@ ghost use Rattle.std.specs.Prelude.{◌≡◌, ℕ, ◌+◌, ◌-◌, ◌*◌, �
 ghost use Rattle.vp_dots.specs.Dots.{shifted};
 ghost use Rattle.vp_dots.specs.Painting.{Painted};
 ghost use Rattle.vp_dots.specs.Words.{word_dot};
+ghost use Rattle.vp_glyph.specs.Halves.{half_dot};
 
 use vp_dots::{Op, WORDS, fill_moved, first_dots};
 
@@ -85,6 +86,32 @@ pub fn picked(word: u64, s: u32, mask: u64) -> u64
     ensures { (x : ℕ) → word_dot result x ≡ (word_dot word s && word_dot mask x) }
 {
     if dot_in_word(word, s) { mask } else { 0 }
+}
+
+/// The left half of a word.
+#[inline(always)]
+pub fn left_half(word: u64) -> u32
+    ensures { (x : ℕ) → x < 32 → half_dot result x ≡ word_dot word x }
+{
+    (word >> 32) as u32
+}
+
+/// Dot x of half a word.
+#[inline(always)]
+pub fn dot_in_half(half: u32, x: u32) -> bool
+    requires { x < 32 }
+    ensures { result ≡ half_dot half x }
+{
+    half >> (31 - x) & 1 == 1
+}
+
+/// The dots of a mask, where half a word has dot s.
+#[inline(always)]
+pub fn picked_half(half: u32, s: u32, mask: u32) -> u32
+    requires { s < 32 }
+    ensures { (x : ℕ) → half_dot result x ≡ (half_dot half s && half_dot mask x) }
+{
+    if dot_in_half(half, s) { mask } else { 0 }
 }
 
 /// The dots of a mask that a word has there or `far` dots to the left.

@@ -1,6 +1,6 @@
 //! Many rows of a block, for which each of its lines is looked at once: a row of the sheet is drawn once for
 //! all rows that show it.
-ghost use Rattle.std.specs.Prelude.{◌≡◌, ℕ, ◌+◌, ◌-◌, ◌*◌, ◌/◌, ◌<◌, ◌≤◌, ◌^◌, ◌⊎◌, ◌&&◌, ◌||◌, [], length, take, slice_index_or};
+ghost use Rattle.std.specs.Prelude.{◌≡◌, ℕ, ◌+◌, ◌-◌, ◌*◌, ◌/◌, ◌<◌, ◌≤◌, ◌^◌, ◌⊎◌, ◌&&◌, ◌||◌, [], false, length, take, slice_index_or};
 ghost use Rattle.vp_dots.specs.Dots.{dot, shifted, span};
 ghost use Rattle.vp_dots.specs.Painting.{Painted};
 ghost use Rattle.vp_glyph.specs.Blocks.{pieces, first, line_dot, lines_dot, block_lines, block_height, block_dot};
@@ -98,26 +98,32 @@ impl<A: Small> Block<'_, A> {
         rows.blacken(&self.sheet_row(line, s, at), from, to);
     }
 
-    /// Adds a line that stands `place` lines below the first to rows, the first of which is row `top`.
-    fn draw_line(&self, line: Line<'_>, place: u32, top: u32, at: i64, rows: &mut Runs)
+    /// Adds a line that stands `place` lines below the first to rows, the first of which is row `top`:
+    /// whether it stands on one of them.
+    fn draw_line(&self, line: Line<'_>, place: u32, top: u32, at: i64, rows: &mut Runs) -> bool
         requires cells { line.cells ≤ length (first (pieces line.text.now)) }
         requires most { line.cells ≤ self.now.wide / self.now.w }
         requires place { place ≤ self.now.rows - 1 }
-        ensures { (k x : ℕ) → k < ROWS → x < 8 * BYTES
+        ensures dots { (k x : ℕ) → k < ROWS → x < 8 * BYTES
             → run_dot rows.new.alone rows.new.down rows.new.up ROWS k x
             ≡ (run_dot rows.old.alone rows.old.down rows.old.up ROWS k x
             || shifted at (λ x. line_dot (layout_of self.now) place
             (take line.entry.cells (first (pieces line.entry.text.now))) x (top + k)) x) }
+        ensures none { result ≡ false → rows.new ≡ rows.old }
     {
         let above = place * self.pitch;
         let end = rows_above::<ROWS>(above + self.h, top);
         let mut k = rows_above::<ROWS>(above, top);
+        if k >= end {
+            return false;
+        }
         while k < end {
             let s = source_row(top + k as u32 - above, self.h) as u32;
             let to = rows_above::<ROWS>(above + first_row(s + 1, self.h), top);
             self.add_run(line, s, at, k, to, rows);
             k = to;
         }
+        true
     }
 
     /// Adds the lines of a text, which stand over each other `place` lines below the first, to rows, the
@@ -143,6 +149,16 @@ impl<A: Small> Block<'_, A> {
         }
     }
 
+    /// A row below all lines of the text: each line but the last takes a byte of it at least.
+    fn row_below_lines(&self) -> u64
+        ensures { (x y : ℕ) → result ≤ y → y < 2 ^ 33
+            → block_dot (layout_of self.now) self.now.text.now x y ≡ false }
+    {
+        (self.text.len() as u64)
+            .saturating_mul(u64::from(self.pitch))
+            .saturating_add(u64::from(self.h))
+    }
+
     /// Rows of dots, each moved by an offset and black where row top, top + 1, .. has ink.
     pub fn drawn_rows(&self, top: u32, at: i64) -> [[u8; BYTES]; ROWS]
         ensures { (k x : ℕ) → k < ROWS → x < 8 * BYTES
@@ -150,27 +166,33 @@ impl<A: Small> Block<'_, A> {
             → dot (slice_index_or result k []) x
             ≡ shifted at (λ x. block_dot (layout_of self.now) self.now.text.now x (top + k)) x }
     {
+        if u64::from(top) >= self.row_below_lines() {
+            return [[0; BYTES]; ROWS];
+        }
         let mut rows = Runs::new();
         if self.wide < self.w {
-            return rows.rows();
+            return rows.rows(false);
         }
         let most = (self.wide / self.w) as usize;
         let (above, text) = self.first_line(top);
         let mut place = above;
         let mut left = Some(text);
+        let mut drawn = false;
         while let Some(text) = left {
             if u64::from(top) + ROWS as u64 <= u64::from(place * self.pitch) {
-                return rows.rows();
+                return rows.rows(drawn);
             }
             if self.pitch == 0 || place + 1 >= self.rows {
                 self.draw_joined(text, place, top, at, &mut rows);
-                return rows.rows();
+                return rows.rows(true);
             }
             let (line, rest) = next_line(text, most);
-            self.draw_line(line, place, top, at, &mut rows);
+            if self.draw_line(line, place, top, at, &mut rows) {
+                drawn = true;
+            }
             place = (place + 1).min(self.rows.saturating_sub(1));
             left = rest;
         }
-        rows.rows()
+        rows.rows(drawn)
     }
 }

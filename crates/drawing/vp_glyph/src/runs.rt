@@ -112,11 +112,16 @@ impl Runs {
         blacken_rows(ink, from, to, &mut self.alone);
     }
 
-    /// The rows.
-    pub fn rows(&mut self) -> [[u8; BYTES]; ROWS]
+    /// The rows, where it is known whether any of them was drawn.
+    pub fn rows(&mut self, drawn: bool) -> [[u8; BYTES]; ROWS]
+        requires { drawn ≡ false → (k x : ℕ)
+            → run_dot self.old.alone self.old.down self.old.up ROWS k x ≡ false }
         ensures { (k x : ℕ) → k < ROWS → x < 8 * BYTES → dot (slice_index_or result k []) x
             ≡ run_dot self.old.alone self.old.down self.old.up ROWS k x }
     {
+        if !drawn {
+            return self.alone;
+        }
         pass_down(&mut self.down);
         pass_down(&mut self.up);
         overlay(&self.down, &self.up, &mut self.alone);

@@ -81,12 +81,10 @@ pub fn source_row(y: u32, high: u32) -> usize
 }
 
 /// How far `place` lies behind `left`: 0 before it, and `places` at most.
-fn within(place: u128, left: u32, places: u32) -> u32
+fn within(place: u64, left: u32, places: u32) -> u32
     ensures { result ≡ min (place - left) places }
 {
-    place
-        .saturating_sub(u128::from(left))
-        .min(u128::from(places)) as u32
+    place.saturating_sub(u64::from(left)).min(u64::from(places)) as u32
 }
 
 /// How many cells of `w` dots end within `dots` dots.
@@ -120,12 +118,12 @@ pub fn seen_dots(at: i64, left: u32, dots: u32, bytes: usize) -> (u32, u32)
     ensures first { result.0 ≤ dots }
     ensures last { result.1 ≤ dots }
 {
-    let far = u128::from(at.unsigned_abs());
-    let room = 8 * bytes as u128;
+    let far = at.unsigned_abs();
+    let room = (bytes as u64).saturating_mul(8);
     let (from, to) = if at >= 0 {
         (0, room.saturating_sub(far))
     } else {
-        (far, room + far)
+        (far, room.saturating_add(far))
     };
     (within(from, left, dots), within(to, left, dots))
 }

@@ -1,11 +1,15 @@
 //! The dots of a row of a character, each drawn at another width.
-ghost use Rattle.std.specs.Prelude.{◌≡◌, ℕ, ◌+◌, ◌-◌, ◌*◌, ◌/◌, ◌<◌, ◌≤◌, ◌^◌, nat_lt, nat_le, ◌&&◌, ◌||◌, pos, ◌+ℤ◌, ◌<ℤ◌, ◌≤ℤ◌, slice_index};
+ghost use Rattle.std.specs.Prelude.{◌≡◌, ℕ, ◌+◌, ◌-◌, ◌*◌, ◌/◌, ◌<◌, ◌≤◌, ◌^◌, nat_lt, nat_le, ◌&&◌, ◌||◌, pos, ◌+ℤ◌, ◌<ℤ◌, ◌≤ℤ◌, ◌⊎◌, length, slice_index};
 ghost use Rattle.vp_dots.specs.Dots.{shifted, span};
 ghost use Rattle.vp_dots.specs.Painting.{Painted};
 ghost use Rattle.vp_dots.specs.Words.{word_dot};
+ghost use Rattle.vp_glyph.specs.Halves.{half_dot};
 ghost use Rattle.vp_glyph.specs.Stretches.{StretchedBy};
 
-use crate::look::{FAR, doubled, edge, inverted, moved, paint_scaled, picked, shared};
+use crate::look::{
+    FAR, doubled, edge, inverted, left_half, moved, paint_scaled, picked, picked_half, shared,
+};
+use crate::sampled::whole_cells;
 use crate::sheet::row_at;
 use vp_dots::{Op, first_dots, paint_word, word_of};
 
@@ -15,12 +19,17 @@ const CELL: u32 = 12;
 /// The dots of a word.
 const WORD: u32 = 64;
 
+/// The dots of half a word.
+const HALF: u32 = 32;
+
 /// Twelve dots drawn `width` dots wide in all.
 #[derive(Clone, Copy)]
 pub struct Stretch {
     pub width: u32,
     /// The dots of a word on which each of the twelve falls, where all fall on one.
     masks: [u64; 12],
+    /// How many of the twelve fall on a dot, in parts of 2^28, where they don't fall on one word.
+    share: u32,
     ghost masks_are: { width ≤ 64 → StretchedBy width masks },
 }
 
@@ -90,31 +99,48 @@ fn paint_moved(op: Op, word: u64, at: i64, row: &mut [u8])
     }
 }
 
-/// Where a place of what stands at an offset falls on the first 64 dots of a row, or the end of them that is
+/// Where a place of what stands at an offset falls on the first 32 dots of a row, or the end of them that is
 /// nearer.
-fn in_word(at: i64, place: u32) -> u32
-    ensures within { result ≤ 64 }
-    ensures below { (d : ℕ) → d < 64 → pos d <ℤ (at +ℤ pos place) → d < result }
-    ensures above { (d : ℕ) → d < 64 → (at +ℤ pos place) ≤ℤ pos d → result ≤ d }
+fn in_half(at: i64, place: u32) -> u32
+    ensures within { result ≤ 32 }
+    ensures below { (d : ℕ) → d < 32 → pos d <ℤ (at +ℤ pos place) → d < result }
+    ensures above { (d : ℕ) → d < 32 → (at +ℤ pos place) ≤ℤ pos d → result ≤ d }
 {
-    if at >= 64 {
-        return 64;
+    if at >= 32 {
+        return 32;
     }
-    (at + i64::from(place)).clamp(0, 64) as u32
+    (at + i64::from(place)).clamp(0, 32) as u32
 }
 
-/// Adds the dots of a mask to each of 24 words, where the row of a cell has dot s.
-fn add_dot(cell: &[u64], s: u32, mask: u64, rows: &mut [u64; 24])
-    requires { s < 64 }
-    ensures { (r d : ℕ) → r < 24 → d < 64 → word_dot (slice_index rows.new r) d
-        ≡ (word_dot (slice_index rows.old r) d || word_dot (slice_index cell.now r) s && word_dot mask d) }
+/// Adds the dots of a mask to the first 32 dots of rows, as many as are asked for, where the row of a cell
+/// has dot s.
+#[inline(always)]
+fn add_first(cell: &[u64], high: usize, s: u32, mask: u32, rows: &mut [u32; 24])
+    requires s { s < 32 }
+    requires high { high ≤ 24 }
+    requires cell { high ≤ length cell.now }
+    ensures { (r d : ℕ) → r < 24 → d < 32 → half_dot (slice_index rows.new r) d
+        ≡ (half_dot (slice_index rows.old r) d
+        || nat_lt r high && (word_dot (slice_index cell.now r) s && half_dot mask d)) }
 {
-    if mask == 0 {
+    for r in 0..high {
+        rows[r] |= picked_half(left_half(cell[r]), s, mask);
+    }
+}
+
+/// Adds the dots of a mask to the first 32 dots of 24 rows, where the row of a cell has dot s.
+// Where the compiler knows how many rows there are, it adds four of them at once.
+#[inline(always)]
+fn add_dot(cell: &[u64], s: u32, mask: u32, rows: &mut [u32; 24])
+    requires { s < 32 }
+    ensures { (r d : ℕ) → r < 24 → d < 32 → half_dot (slice_index rows.new r) d
+        ≡ (half_dot (slice_index rows.old r) d || word_dot (slice_index cell.now r) s && half_dot mask d) }
+{
+    if cell.len() >= 24 {
+        add_first(cell, 24, s, mask, rows);
         return;
     }
-    for r in 0..24usize {
-        rows[r] |= picked(row_at(cell, r), s, mask);
-    }
+    add_first(cell, cell.len(), s, mask, rows);
 }
 
 /// The first 64 dots of a row on which the first twelve dots of a word, drawn `width` dots wide in all, stand
@@ -139,11 +165,13 @@ impl Stretch {
             return Stretch {
                 width,
                 masks: [0; 12],
+                share: (12 << 28) / width,
             };
         }
         Stretch {
             width,
             masks: masks(width),
+            share: 0,
         }
     }
 
@@ -197,29 +225,72 @@ impl Stretch {
         self.front_by_masks(word, at, left)
     }
 
-    /// What `add_rows` adds, dot by dot of the cell.
-    fn add_wide(&self, cell: &[u64], at: i64, left: u32, rows: &mut [u64; 24])
+    /// About how many of the dots of the sheet end within `dots` dots of cells side by side.
+    fn dots_within(&self, dots: u32) -> u64 {
+        u64::from(dots).wrapping_mul(u64::from(self.share)) >> 28
+    }
+
+    /// How many cells side by side end within `dots` dots, or fewer: multiplying may find one too few.
+    pub(crate) fn cells_within(&self, dots: u32) -> u32
+        requires { 0 < self.now.width }
+        ensures { self.now.width * result ≤ dots }
+    {
+        if self.width <= WORD {
+            return whole_cells(dots, self.width);
+        }
+        let cells = (self.dots_within(dots) / 12).min(u64::from(dots)) as u32;
+        if u64::from(self.width) * u64::from(cells) <= u64::from(dots) {
+            cells
+        } else {
+            0
+        }
+    }
+
+    /// Of twelve dots that stand from place `left` on, one before which none falls on a row, and where it
+    /// begins on the first 32 dots of the row.
+    fn first_seen(&self, at: i64, left: u32) -> (u32, u32)
         requires fits { left + self.now.width < 2 ^ 32 }
-        ensures { (s d : ℕ) → s < 24 → d < 64 → word_dot (slice_index rows.new s) d
-            ≡ (word_dot (slice_index rows.old s) d || shifted at (λ x. nat_le left x
+        ensures begun { result.0 ≤ 12 }
+        ensures within { result.1 ≤ 32 }
+        ensures below { (d : ℕ) → d < 32 → pos d <ℤ (at +ℤ pos (left + (result.0 * self.now.width + 11) / 12))
+            → d < result.1 }
+        ensures above { (d : ℕ) → d < 32 → (at +ℤ pos (left + (result.0 * self.now.width + 11) / 12)) ≤ℤ pos d
+            → result.1 ≤ d }
+        ensures first { (result.0 ≡ 0) ⊎ (result.1 ≡ 0) }
+    {
+        let hidden = at.saturating_add(i64::from(left)).min(0).unsigned_abs();
+        let s = self
+            .dots_within(hidden.min(u64::from(self.width)) as u32)
+            .min(11) as u32;
+        let from = in_half(at, left + edge(s, self.width));
+        if from == 0 {
+            return (s, 0);
+        }
+        (0, in_half(at, left + edge(0, self.width)))
+    }
+
+    /// What `add_rows` adds, dot by dot of the cell.
+    fn add_wide(&self, cell: &[u64], at: i64, left: u32, rows: &mut [u32; 24])
+        requires fits { left + self.now.width < 2 ^ 32 }
+        ensures { (s d : ℕ) → s < 24 → d < 32 → half_dot (slice_index rows.new s) d
+            ≡ (half_dot (slice_index rows.old s) d || shifted at (λ x. nat_le left x
             && nat_lt (x - left) self.now.width
             && word_dot (slice_index cell.now s) ((x - left) * 12 / self.now.width)) d) }
     {
-        let mut from = in_word(at, left);
-        let mut s = 0;
-        while s < CELL && from < WORD {
-            let to = in_word(at, left + edge(s + 1, self.width));
-            add_dot(cell, s, mask(from, to), rows);
+        let (mut s, mut from) = self.first_seen(at, left);
+        while s < CELL && from < HALF {
+            let to = in_half(at, left + edge(s + 1, self.width));
+            add_dot(cell, s, left_half(mask(from, to)), rows);
             from = to;
             s += 1;
         }
     }
 
-    /// Adds to 24 words what `front` gives for each row of a cell.
-    pub fn add_rows(&self, cell: &[u64], at: i64, left: u32, rows: &mut [u64; 24])
+    /// Adds to the first 32 dots of 24 rows what `front` gives of them for each row of a cell.
+    pub(crate) fn add_rows(&self, cell: &[u64], at: i64, left: u32, rows: &mut [u32; 24])
         requires fits { left + self.now.width < 2 ^ 32 }
-        ensures { (s d : ℕ) → s < 24 → d < 64 → word_dot (slice_index rows.new s) d
-            ≡ (word_dot (slice_index rows.old s) d || shifted at (λ x. nat_le left x
+        ensures { (s d : ℕ) → s < 24 → d < 32 → half_dot (slice_index rows.new s) d
+            ≡ (half_dot (slice_index rows.old s) d || shifted at (λ x. nat_le left x
             && nat_lt (x - left) self.now.width
             && word_dot (slice_index cell.now s) ((x - left) * 12 / self.now.width)) d) }
     {
@@ -228,7 +299,7 @@ impl Stretch {
             return;
         }
         for s in 0..24usize {
-            rows[s] |= self.front(row_at(cell, s), at, left);
+            rows[s] |= left_half(self.front(row_at(cell, s), at, left));
         }
     }
 

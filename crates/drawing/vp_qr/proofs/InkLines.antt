@@ -1,9 +1,9 @@
 -- A line of modules as dots, by words.
-use Rattle.std.proofs.Common.{◌≡◌, ℕ, zero, suc, ◌+◌, ◌-◌, ◌*◌, ◌/◌, ◌%◌, ◌^◌, not, eqb, ◌<◌, ◌≤◌, ◌&&◌, ◌||◌, Bool, true, false, cond, ltb, leb, List, length, replicate, get_or, ℤ, bit_or, refl, sym, ap, ◌∙◌, inl, inr, arith, mul-le-mul_right}
-use Rattle.std.proofs.lemmas.Nat.{le-div, div-mul-add, div-add-mod'}
+use Rattle.std.proofs.Common.{◌≡◌, ℕ, zero, ◌+◌, ◌-◌, ◌*◌, ◌/◌, ◌%◌, ◌^◌, eqb, ◌<◌, ◌≤◌, ◌&&◌, ◌||◌, Bool, true, false, cond, ltb, leb, List, length, replicate, get_or, ℤ, bit_or, refl, sym, ap, ◌∙◌, inl, inr, arith, mul-le-mul_right}
+use Rattle.std.proofs.lemmas.Nat.{div-mul-add}
 use Rattle.std.specs.Int.{bit_at}
 use Rattle.std.proofs.lemmas.Nat.Bits.{bit_at-zero}
-use Rattle.std.proofs.Math.Nat.{mod-lt, mul_comm, mul-add-div_right}
+use Rattle.std.proofs.Math.Nat.{mul_comm, mul-add-div_right, le-div_iff_mul-le, div-lt_iff_lt-mul}
 use Rattle.std.proofs.lemmas.Bool.{cases_lt, lt-ltb, le-ltb, lt-leb, le-leb}
 use Rattle.vp_dots.specs.Dots.{bit, dot, shifted}
 use Rattle.vp_dots.specs.Painting.{Painted}
@@ -222,27 +222,21 @@ pub line_painted : (op : Op) (at : ℤ) (s : ScaledSymbol) (y : ℕ) (a b : List
     → Painted op (shifted at (line_ink (get_or s.rows (y / s.scale) 0) s.size s.scale)) a b → Painted op (shifted at (λ x. ink_of s x y)) a b
 line_painted op at s y a b hy p = moved_same op at (line_ink (get_or s.rows (y / s.scale) 0) s.size s.scale) (λ x. ink_of s x y) a b (line_is s y hy) p
 
--- a row of dots that does not begin a row of modules is as the one above it
-same_height : (k n y : ℕ) → 0 < k → not (eqb (y % k) 0) ≡ true → (y / k ≡ (y - 1) / k) × (ltb y (k * n) ≡ ltb (y - 1) (k * n))
-same_height k n y h t =
-    let some : 0 < y % k = positive (y % k) t in
-    let all : y / k * k + y % k ≡ y = div-add-mod' y k in
-    let low : y % k < k = mod-lt y h in
-    let above : y - 1 ≡ y / k * k + (y % k - 1) = omega arith in
-    let same : (y - 1) / k ≡ y / k = ap (λ m. m / k) above ∙ div-mul-add (y / k) k (y % k - 1) (omega arith) in (
-      sym same,
-      elim (cases_lt y (k * n)) [
-        | inl l ↦ rw (lt-ltb y (k * n) l, lt-ltb (y - 1) (k * n) (omega arith)) refl
-        | inr g ↦
-            let e : n * k ≡ k * n = mul_comm n k in
-            let q : n ≤ y / k = le-div n y k h (omega (arith, e)) in
-            rw (le-ltb y (k * n) g, le-ltb (y - 1) (k * n) (omega (arith, e, mul-le-mul_right k q))) refl
-      ],
-    )
+-- lines of the modules that line y shows
+pub ink_alike : (s : ScaledSymbol) (x y v : ℕ) → 0 < s.scale → y < side s → (y / s.scale) * s.scale ≤ v → v < (y / s.scale) * s.scale + s.scale → ink_of s x v ≡ ink_of s x y
+ink_alike s x y v h inside low high =
+    let q : v / s.scale ≡ y / s.scale = quotient v s.scale (y / s.scale) h low (omega (arith, high)) in
+    let below : v < side s = rows_below s.scale s.size (y / s.scale) v ((div-lt_iff_lt-mul {k = s.scale} {x = y} {y = s.size} h).1 (let t : s.scale * s.size ≡ s.size * s.scale = mul_comm s.scale s.size in omega (arith, t, inside))) high in
+    rw (q, lt-ltb v (side s) below, lt-ltb y (side s) inside) refl
   where
-    positive : (r : ℕ) → not (eqb r 0) ≡ true → 0 < r
-    positive zero e = cc
-    positive (suc r) e = omega arith
+    quotient : (a w q : ℕ) → 0 < w → q * w ≤ a → a < q * w + w → a / w ≡ q
+    quotient a w q p l h =
+        let least : q ≤ a / w = (le-div_iff_mul-le {k = w} {x = q} {y = a} p).1 l in
+        let most : a / w < q + 1 = (div-lt_iff_lt-mul {k = w} {x = a} {y = q + 1} p).1 (omega (arith, h)) in
+        omega arith
 
-pub ink_repeats : (s : ScaledSymbol) (x y : ℕ) → 0 < s.scale → not (eqb (y % s.scale) 0) ≡ true → ink_of s x y ≡ ink_of s x (y - 1)
-ink_repeats s x y h t = let same = same_height s.scale s.size y h t in rw (same.0, same.1) refl
+    rows_below : (w n q v : ℕ) → q < n → v < q * w + w → v < w * n
+    rows_below w n q v l h =
+        let m : (q + 1) * w ≤ n * w = mul-le-mul_right w (let o : q + 1 ≤ n = omega arith in o) in
+        let t : w * n ≡ n * w = mul_comm w n in
+        omega arith

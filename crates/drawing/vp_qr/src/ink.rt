@@ -130,8 +130,12 @@ impl Ink for QrInk {
         paint_line(line, self.size, self.scale, op, at, row);
     }
 
-    fn repeats(&self, y: u32) -> bool {
-        y % self.scale != 0
+    fn alike(&self, y: u32) -> (u32, u32) {
+        if y >= self.scale * self.size {
+            return (y, y);
+        }
+        let first = y / self.scale * self.scale;
+        (first, first + self.scale - 1)
     }
 }
 

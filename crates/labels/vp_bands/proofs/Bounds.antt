@@ -7,7 +7,6 @@ use Rattle.vp_format.specs.declared.field.Field.{Field}
 use Rattle.vp_field.specs.declared.view.View.{View}
 use Rattle.vp_field.specs.Views.{seen_y}
 use Rattle.vp_bands.specs.Meeting.{shows_row, box_meets, pairs, bands_of}
-use Rattle.vp_bands.specs.Standing.{fields_of}
 use Rattle.vp_bands.specs.Laws.{BandsMet, LooksBounded}
 use Rattle.vp_bands.proofs.Spans.{any_row, row_any}
 use Rattle.vp_bands.proofs.Painted.{pairs_more}
@@ -55,8 +54,8 @@ pairs_grow sheets stored view fields b (suc d) =
 
 pub looks_bounded : LooksBounded
 looks_bounded = record {
-  at_most = λ sheets stored view b t before le.
-      let more = pairs_grow sheets stored view (fields_of t.entries) b (bands_of view - b) in
-      omega (arith, before.at_most, more, ap (pairs sheets stored view (fields_of t.entries)) (let e : b + (bands_of view - b) ≡ bands_of view = omega arith in e));
-  at_least = λ sheets stored view t before. before.at_least;
+  at_most = λ sheets held view b t before le.
+      let more = pairs_grow sheets held.stored view held.fields b (bands_of view - b) in
+      omega (arith, before.at_most, more, ap (pairs sheets held.stored view held.fields) (let e : b + (bands_of view - b) ≡ bands_of view = omega arith in e));
+  at_least = λ sheets held view t before. before.at_least;
 }

@@ -1,28 +1,68 @@
 -- Entries that stand for the fields of a format.
-use Rattle.std.proofs.Common.{◌≡◌, ℕ, ◌+◌, ◌<◌, List, [], ◌∷◌, ◌++◌, length, take, get_or, ap, sym, ◌∙◌, arith, Option}
-use Rattle.std.proofs.lemmas.List.{same_lists, get_or-map, length-map, map-append, take_more}
+use Rattle.std.proofs.Common.{◌≡◌, ℕ, ◌+◌, ◌<◌, ◌≤◌, List, [], ◌∷◌, ◌++◌, length, get_or, ap, sym, true, false, ◌∙◌, arith, inl, inr, Option, Some}
+use Rattle.std.specs.Prelude.{slice_get}
+use Rattle.std.proofs.lemmas.Bool.{cases_lt}
+use Rattle.std.proofs.lemmas.Option.{get_or_from_slice_get}
+use Rattle.std.proofs.lemmas.List.{get_or_append_left, get_or-append-add}
 use Rattle.vp_glyph.specs.Sheets.{Sheets}
+use Rattle.vp_format.specs.Formats.{Held}
 use Rattle.vp_format.specs.declared.field.Field.{Field}
 use Rattle.vp_field.specs.declared.view.View.{View}
 use Rattle.vp_fields_by_band.specs.declared.table.Entry.{Entry}
-use Rattle.vp_fields_by_band.specs.Threads.{no_entry, IsTable, KeepsSpans, ThreadedFrom}
-use Rattle.vp_bands.specs.Standing.{fields_of, IsSpanned}
+use Rattle.vp_fields_by_band.specs.Threads.{no_entry, entry_at, meets_at, IsNext, IsTable, KeepsSpans, ThreadedFrom}
+use Rattle.vp_bands.specs.Meeting.{field_meets}
+use Rattle.vp_bands.specs.Standing.{AreSpanned, IsSpanned}
+use Rattle.vp_bands.proofs.Painted.{NoneOf}
 
--- one more entry stands behind the others
-pub fields_pushed : (entries : List Entry) (fields : List Field) (n : ℕ) (e : Entry) (f : Field) → n < length fields → get_or fields n f ≡ f → e.field ≡ f
-    → fields_of entries ≡ take n fields → fields_of (entries ++ e ∷ []) ≡ take (n + 1) fields
-fields_pushed entries fields n e f there is same done =
-    map-append (λ (e : Entry). e.field) entries (e ∷ [])
-    ∙ rw (done, same) (ap (λ x. take n fields ++ x ∷ []) (sym is) ∙ sym (take_more fields n f there))
+-- the entries of the first n fields are set
+abbrev pub AreSet : Sheets → Held → View → List Entry → ℕ → Type 0
+AreSet sheets held view entries n =
+    (k : ℕ) (f : Field) → k < n → IsSpanned sheets held.stored view (get_or held.fields k f) (entry_at entries k)
 
--- threading keeps the fields and their bands
-pub fields_kept : (old new : List Entry) → length new ≡ length old → KeepsSpans old new → fields_of new ≡ fields_of old
-fields_kept old new len keeps = same_lists (fields_of new) (fields_of old) (rw (length-map, length-map) len) (λ k d lt.
-    let inside : k < length new = rw length-map at lt in
-    get_or-map (λ (e : Entry). e.field) new k no_entry d inside ∙ (keeps k).0 ∙ sym (get_or-map (λ (e : Entry). e.field) old k no_entry d (omega arith)))
+-- and that of one more
+pub one_set : (sheets : Sheets) (held : Held) (view : View) (entries : List Entry) (n : ℕ) (e : Entry) → length entries ≡ n → ((f : Field) → IsSpanned sheets held.stored view (get_or held.fields n f) e)
+    → AreSet sheets held view entries n → AreSet sheets held view (entries ++ e ∷ []) (n + 1)
+one_set sheets held view entries n e len here done k f lt = elim (cases_lt k n) [
+  | inl before ↦ rw (get_or_append_left entries (e ∷ []) no_entry k (omega arith)) (done k f before)
+  | inr at ↦
+      let is : k ≡ n = omega arith in
+      let last : k ≡ length entries + 0 = omega arith in
+      let new : entry_at (entries ++ e ∷ []) k ≡ e = rw last (get_or-append-add entries (e ∷ []) 0 no_entry) in
+      rw new (rw is (here f))
+]
 
-pub spans_kept : (sheets : Sheets) (stored : List ℕ) (view : View) (old new : Entry) → (new.field ≡ old.field) × (new.first ≡ old.first) × (new.last ≡ old.last) → IsSpanned sheets stored view old → IsSpanned sheets stored view new
-spans_kept sheets stored view old new same spanned = λ b. rw (same.0, same.1, same.2) (spanned b)
+-- threading keeps the bands of each
+pub spans_kept : (sheets : Sheets) (held : Held) (view : View) (old new : List Entry) → length new ≡ length old → KeepsSpans old new → AreSpanned sheets held view old → AreSpanned sheets held view new
+spans_kept sheets held view old new len same spanned = record {
+  each = len ∙ spanned.each;
+  bands = λ k f lt b. rw ((same k).0, (same k).1) (spanned.bands k f lt b);
+}
 
 pub table_of : (entries : List Entry) (heads : List (Option ℕ)) → ThreadedFrom entries heads 0 → IsTable entries
 table_of entries heads threaded = record { begins = λ b k lt now. threaded.rest b k (omega arith) lt now }
+
+-- field n, f, is the next one from `seen` on that meets band b
+pub record IsNextField (sheets : Sheets) (held : Held) (view : View) (b seen n : ℕ) (f : Field) : Type 0 where
+  pub from : seen ≤ n
+  pub within : n < length held.fields
+  pub is : get_or held.fields n f ≡ f
+  pub none : NoneOf (field_meets sheets held.stored view b) held.fields seen n
+  pub meets : field_meets sheets held.stored view b f ≡ true
+
+-- none of them meets the band, where none of their entries does
+pub none_met : (sheets : Sheets) (held : Held) (view : View) (entries : List Entry) (b from to : ℕ) → AreSpanned sheets held view entries → to ≤ length entries
+    → ((k : ℕ) → from ≤ k → k < to → meets_at entries b k ≡ false) → NoneOf (field_meets sheets held.stored view b) held.fields from to
+none_met sheets held view entries b from to spanned within none k f ge lt = sym (spanned.bands k f (omega (arith, spanned.each)) b) ∙ none k ge lt
+
+pub next_field : (sheets : Sheets) (held : Held) (view : View) (entries : List Entry) (b seen n : ℕ) (f : Field) → AreSpanned sheets held view entries
+    → IsNext (meets_at entries b) seen (length entries) (Some n) → slice_get held.fields n ≡ Some f → IsNextField sheets held view b seen n f
+next_field sheets held view entries b seen n f spanned next read =
+    let is = get_or_from_slice_get held.fields n f f read in
+    let within : n < length held.fields = omega (arith, next.1, spanned.each) in
+    record {
+      from = next.0;
+      within = within;
+      is = is;
+      none = none_met sheets held view entries b seen n spanned (omega (arith, next.1)) next.3;
+      meets = ap (field_meets sheets held.stored view b) (sym is) ∙ sym (spanned.bands n f within b) ∙ next.2;
+    }

@@ -1,25 +1,24 @@
 -- The fields that meet a band, one after the other, and those that don't.
-use Rattle.std.proofs.Common.{◌≡◌, ℕ, zero, suc, ◌+◌, ◌-◌, ◌*◌, ◌<◌, ◌≤◌, Bool, true, false, ◌&&◌, cond, nat_lt, List, [], ◌∷◌, ◌++◌, length, map, take, subst, refl, ap, sym, ◌∙◌, arith, inl, inr, None, Some, filter, ℤ, pos, ◌+ℤ◌, ◌≤ℤ◌, ◌<ℤ◌, int_le, int_lt}
+use Rattle.std.proofs.Common.{◌≡◌, ℕ, zero, suc, ◌+◌, ◌-◌, ◌*◌, ◌<◌, ◌≤◌, Bool, true, false, ◌&&◌, nat_lt, List, [], ◌∷◌, ◌++◌, length, map, take, get_or, subst, refl, ap, sym, ◌∙◌, arith, inl, inr, filter, ℤ, pos, ◌+ℤ◌, ◌≤ℤ◌, ◌<ℤ◌, int_le, int_lt}
 use Rattle.std.specs.List.{list_any, range_with_len, sum_by}
 use Rattle.std.proofs.lemmas.Int.{ints}
 use Rattle.std.proofs.lemmas.Bool.{cases_Bool, both_ways, lt-ltb, ltb-true}
-use Rattle.std.proofs.lemmas.List.{map-id, map-append, take_all, take_more, append-nil, length-append, length-take}
+use Rattle.std.proofs.lemmas.List.{map-id, map-append, take_all, take_more, append-nil, length-take}
 use Rattle.std.proofs.lemmas.List.Elements.{filter_more}
 use Rattle.std.proofs.lemmas.List.FromFn.{sum_by-map-range_with_len_more}
 use Rattle.std.proofs.lemmas.List.Sums.{length-filter, count_by-le-length}
 use Rattle.vp_dots.specs.Painting.{paint}
 use Rattle.vp_glyph.specs.Sheets.{Sheets}
+use Rattle.vp_format.specs.Formats.{Held}
 use Rattle.vp_format.specs.declared.field.Field.{Field}
 use Rattle.vp_field.specs.declared.view.View.{View}
 use Rattle.vp_field.specs.Views.{seen_x, seen_y}
 use Rattle.vp_field.specs.Fields.{field_ink, stroke_of, box_rows}
-use Rattle.vp_field.specs.Strokes.{Stroke, viewed, label_dot, image_dot}
+use Rattle.vp_field.specs.Strokes.{viewed, label_dot, image_dot}
 use Rattle.vp_field.proofs.Folds.{label_dot-push, moved_dot}
 use Rattle.vp_field.proofs.Boxed.{in_the_box}
-use Rattle.vp_fields_by_band.specs.declared.table.Entry.{Entry}
-use Rattle.vp_fields_by_band.specs.Threads.{no_entry, entry_at, meets, meets_at, IsNext}
 use Rattle.vp_bands.specs.Meeting.{shows_row, box_meets, field_meets, meeting, pairs}
-use Rattle.vp_bands.specs.Standing.{fields_of, met, IsSpanned}
+use Rattle.vp_bands.specs.Standing.{met}
 use Rattle.vp_bands.proofs.Spans.{row_any}
 
 -- what no step changes is the same at the end
@@ -30,21 +29,38 @@ constant F from (suc d) step = ap F (omega arith) ∙ step (from + d) (omega ari
 same_over : {X : Type 0} (F : ℕ → X) (from n : ℕ) → from ≤ n → ((k : ℕ) → from ≤ k → k < n → F (k + 1) ≡ F k) → F n ≡ F from
 same_over F from n le step = let e : n ≡ from + (n - from) = omega arith in ap F e ∙ constant F from (n - from) (λ k ge lt. step k ge (omega arith))
 
--- entries that don't meet the band are passed by
-pub met_skip : (entries : List Entry) (b seen n : ℕ) → seen ≤ n → n ≤ length entries → ((k : ℕ) → seen ≤ k → k < n → meets_at entries b k ≡ false) → met b (take n entries) ≡ met b (take seen entries)
-met_skip entries b seen n le within gap = same_over (λ m. met b (take m entries)) seen n le (λ k ge lt.
-    filter_more (meets b) entries k no_entry (omega arith) ∙ rw (gap k ge lt) (append-nil (met b (take k entries))))
+-- some field, where there is one at a place
+any_of : (fields : List Field) (k : ℕ) → k < length fields → Field
+any_of [] k lt = absurd (omega arith)
+any_of (f ∷ fields) k lt = f
 
--- and the next one that does comes behind those before
-pub met_next : (entries : List Entry) (b seen n : ℕ) → seen ≤ n → n < length entries → ((k : ℕ) → seen ≤ k → k < n → meets_at entries b k ≡ false) → meets_at entries b n ≡ true
-    → met b (take (n + 1) entries) ≡ met b (take seen entries) ++ entry_at entries n ∷ []
-met_next entries b seen n le lt gap now =
-    filter_more (meets b) entries n no_entry lt ∙ rw now (ap (λ es. es ++ entry_at entries n ∷ []) (met_skip entries b seen n le (omega arith) gap))
+-- none of the fields from one to another passes a test
+abbrev pub NoneOf : (Field → Bool) → List Field → ℕ → ℕ → Type 0
+NoneOf p fields from to = (k : ℕ) (f : Field) → from ≤ k → k < to → p (get_or fields k f) ≡ false
 
--- at the end of a walk no entry is left
-pub met_all : (entries : List Entry) (b seen : ℕ) → seen ≤ length entries → IsNext (meets_at entries b) seen (length entries) None → met b (take seen entries) ≡ met b entries
-met_all entries b seen within none =
-    sym (met_skip entries b seen (length entries) within (omega arith) none) ∙ ap (met b) (take_all (length entries) entries (omega arith))
+-- of the first fields those that meet band b
+abbrev pub met_before : Sheets → Held → View → ℕ → ℕ → List Field
+met_before sheets held view b seen = met sheets held.stored view b (take seen held.fields)
+
+-- such fields are passed by
+pub passed_by : (p : Field → Bool) (fields : List Field) (seen n : ℕ) → seen ≤ n → n ≤ length fields → NoneOf p fields seen n → filter p (take n fields) ≡ filter p (take seen fields)
+passed_by p fields seen n le within none = same_over (λ m. filter p (take m fields)) seen n le (λ k ge lt.
+    let f = any_of fields k (omega arith) in
+    filter_more p fields k f (omega arith) ∙ rw (none k f ge lt) (append-nil (filter p (take k fields))))
+
+-- and the next one that passes it comes behind those before
+pub passes_next : (p : Field → Bool) (fields : List Field) (seen n : ℕ) (f : Field) → seen ≤ n → n < length fields → NoneOf p fields seen n → get_or fields n f ≡ f → p f ≡ true
+    → filter p (take (n + 1) fields) ≡ filter p (take seen fields) ++ f ∷ []
+passes_next p fields seen n f le lt none is now =
+    filter_more p fields n f lt ∙ rw (is, now) (ap (λ fs. fs ++ f ∷ []) (passed_by p fields seen n le (omega arith) none))
+
+-- behind the last one that passes it are all
+pub all_passed : (p : Field → Bool) (fields : List Field) (seen : ℕ) → seen ≤ length fields → NoneOf p fields seen (length fields) → filter p (take seen fields) ≡ filter p fields
+all_passed p fields seen within none =
+    sym (passed_by p fields seen (length fields) within (omega arith) none) ∙ ap (filter p) (take_all (length fields) fields (omega arith))
+
+pub few_passed : (p : Field → Bool) (fields : List Field) (m : ℕ) → length fields ≤ 1024 → length (filter p (take m fields)) ≤ 1024
+few_passed p fields m few = omega (arith, length-filter p (take m fields), count_by-le-length p (take m fields), length-take m fields)
 
 -- a field that doesn't meet the band has no ink there
 pub no_ink : (sheets : Sheets) (stored : List ℕ) (view : View) (f : Field) (b y : ℕ) (x : ℤ) → field_meets sheets stored view b f ≡ false → y < view.height → 32 * b ≤ y → y < 32 * b + 32
@@ -61,87 +77,55 @@ no_ink sheets stored view f b y x out low from to =
     shown : (y height : ℕ) (top s : ℤ) (rows : ℕ) → y < height → top ≤ℤ s → s <ℤ (top +ℤ pos rows) → (nat_lt y height && (int_le top s && int_lt s (top +ℤ pos rows))) ≡ true
     shown y height top s rows l lo hi = rw (lt-ltb y height l) (grind (arith, ints))
 
--- the strokes of entries
-abbrev pub strokes : Sheets → List ℕ → List Entry → List Stroke
-strokes sheets stored entries = map (λ e. stroke_of sheets stored e.field) entries
+-- a place where the fields that don't meet the band have no ink
+module _ (sheets : Sheets) (stored : List ℕ) (p : Field → Bool) (fields : List Field) (x y : ℤ)
+    (none : (f : Field) → p f ≡ false → field_ink sheets stored f x y ≡ false) where
+  abbrev dot_of : List Field → Bool
+  dot_of fs = label_dot (map (stroke_of sheets stored) fs) x y
 
-pub strokes_more : (sheets : Sheets) (stored : List ℕ) (entries : List Entry) (e : Entry) → strokes sheets stored (entries ++ e ∷ []) ≡ strokes sheets stored entries ++ stroke_of sheets stored e.field ∷ []
-strokes_more sheets stored entries e = map-append (λ e. stroke_of sheets stored e.field) entries (e ∷ [])
+  pushed : (fs : List Field) (f : Field) → dot_of (fs ++ f ∷ []) ≡ paint f.op (field_ink sheets stored f x y) (dot_of fs)
+  pushed fs f =
+      ap (λ ss. label_dot ss x y) (map-append (stroke_of sheets stored) fs (f ∷ [])) ∙ label_dot-push (map (stroke_of sheets stored) fs) (stroke_of sheets stored f) x y
 
--- the strokes of the entries seen, with the next one's
-pub painted_next : (sheets : Sheets) (stored : List ℕ) (entries : List Entry) (b seen n : ℕ) (e : Entry) → IsNext (meets_at entries b) seen (length entries) (Some n) → e ≡ entry_at entries n
-    → strokes sheets stored (met b (take (n + 1) entries)) ≡ strokes sheets stored (met b (take seen entries)) ++ stroke_of sheets stored e.field ∷ []
-painted_next sheets stored entries b seen n e next is =
-    ap (strokes sheets stored) (met_next entries b seen n next.0 next.1 next.3 next.2) ∙ rw (← is) (strokes_more sheets stored (met b (take seen entries)) e)
-
-pub met_more : (entries : List Entry) (b seen n : ℕ) → IsNext (meets_at entries b) seen (length entries) (Some n) → length (met b (take (n + 1) entries)) ≡ length (met b (take seen entries)) + 1
-met_more entries b seen n next = ap length (met_next entries b seen n next.0 next.1 next.3 next.2) ∙ length-append (met b (take seen entries)) (entry_at entries n ∷ [])
-
-pub few_met : (entries : List Entry) (b m : ℕ) → length entries ≤ 1024 → length (met b (take m entries)) ≤ 1024
-few_met entries b m few = omega (arith, length-filter (meets b) (take m entries), count_by-le-length (meets b) (take m entries), length-take m entries)
-
-map_map : {X Y Z : Type 0} (g : Y → Z) (f : X → Y) (xs : List X) → map g (map f xs) ≡ map (λ x. g (f x)) xs
-map_map g f [] = refl
-map_map g f (x ∷ xs) = ap (λ ys. g (f x) ∷ ys) (map_map g f xs)
-
--- a place where the entries that don't meet the band have no ink
-module _ (sheets : Sheets) (stored : List ℕ) (b : ℕ) (entries : List Entry) (x y : ℤ)
-    (none : (k : ℕ) → k < length entries → meets_at entries b k ≡ false → field_ink sheets stored (entry_at entries k).field x y ≡ false) where
-  at_entry : (m : ℕ) → m < length entries → label_dot (strokes sheets stored (met b (take m entries))) x y ≡ label_dot (strokes sheets stored (take m entries)) x y
-      → label_dot (strokes sheets stored (met b (take (m + 1) entries))) x y ≡ label_dot (strokes sheets stored (take (m + 1) entries)) x y
-  at_entry m lt same =
-      let e = entry_at entries m in
-      let s = stroke_of sheets stored e.field in
-      let all : label_dot (strokes sheets stored (take (m + 1) entries)) x y ≡ paint s.op (s.ink x y) (label_dot (strokes sheets stored (take m entries)) x y) =
-      ap (λ es. label_dot (strokes sheets stored es) x y) (take_more entries m no_entry lt) ∙ ap (λ ss. label_dot ss x y) (strokes_more sheets stored (take m entries) e) ∙ label_dot-push (strokes sheets stored (take m entries)) s x y in
-      let more = filter_more (meets b) entries m no_entry lt in
-      elim (cases_Bool (meets b e)) [
-        | inl now ↦ ap (λ es. label_dot (strokes sheets stored es) x y) (more ∙ rw now refl) ∙ ap (λ ss. label_dot ss x y) (strokes_more sheets stored (met b (take m entries)) e)
-            ∙ label_dot-push (strokes sheets stored (met b (take m entries))) s x y ∙ ap (paint s.op (s.ink x y)) same ∙ sym all
-        | inr out ↦ ap (λ es. label_dot (strokes sheets stored es) x y) (more ∙ rw out (append-nil (met b (take m entries)))) ∙ same
-            ∙ sym (all ∙ ap (λ i. paint s.op i (label_dot (strokes sheets stored (take m entries)) x y)) (none m lt out))
+  at_field : (m : ℕ) → m < length fields → dot_of (filter p (take m fields)) ≡ dot_of (take m fields) → dot_of (filter p (take (m + 1) fields)) ≡ dot_of (take (m + 1) fields)
+  at_field m lt same =
+      let d = any_of fields m lt in
+      let f = get_or fields m d in
+      let all : dot_of (take (m + 1) fields) ≡ paint f.op (field_ink sheets stored f x y) (dot_of (take m fields)) =
+      ap dot_of (take_more fields m d lt) ∙ pushed (take m fields) f in
+      let more = filter_more p fields m d lt in
+      elim (cases_Bool (p f)) [
+        | inl now ↦ ap dot_of (more ∙ rw now refl) ∙ pushed (filter p (take m fields)) f ∙ ap (paint f.op (field_ink sheets stored f x y)) same ∙ sym all
+        | inr out ↦ ap dot_of (more ∙ rw out (append-nil (filter p (take m fields)))) ∙ same
+            ∙ sym (all ∙ ap (λ i. paint f.op i (dot_of (take m fields))) (none f out))
       ]
 
-  up_to : (m : ℕ) → m ≤ length entries → label_dot (strokes sheets stored (met b (take m entries))) x y ≡ label_dot (strokes sheets stored (take m entries)) x y
+  up_to : (m : ℕ) → m ≤ length fields → dot_of (filter p (take m fields)) ≡ dot_of (take m fields)
   up_to zero le = refl
   up_to (suc m) le =
-      let e : suc m ≡ m + 1 = omega arith in rw e (at_entry m (omega arith) (up_to m (omega arith)))
+      let e : suc m ≡ m + 1 = omega arith in rw e (at_field m (omega arith) (up_to m (omega arith)))
 
-  pub met_dot : label_dot (strokes sheets stored (met b entries)) x y ≡ label_dot (strokes sheets stored entries) x y
-  met_dot = subst (λ es. label_dot (strokes sheets stored (met b es)) x y ≡ label_dot (strokes sheets stored es) x y) (take_all (length entries) entries (omega arith)) (up_to (length entries) (omega arith))
+  pub met_dot : label_dot (map (stroke_of sheets stored) (filter p fields)) x y ≡ label_dot (map (stroke_of sheets stored) fields) x y
+  met_dot = subst (λ fs. dot_of (filter p fs) ≡ dot_of fs) (take_all (length fields) fields (omega arith)) (up_to (length fields) (omega arith))
 
--- what the band shows of the entries that meet it is the label
-pub met_image : (sheets : Sheets) (stored : List ℕ) (view : View) (b : ℕ) (entries : List Entry) (x k : ℕ) → ((j : ℕ) → j < length entries → IsSpanned sheets stored view (entry_at entries j)) → k < 32
-    → image_dot view (strokes sheets stored (met b entries)) x (32 * b + k) ≡ image_dot view (map (stroke_of sheets stored) (fields_of entries)) x (32 * b + k)
-met_image sheets stored view b entries x k spanned low =
-    rw (map_map (stroke_of sheets stored) (λ (e : Entry). e.field) entries) (on_label (nat_lt x view.width) (nat_lt (32 * b + k) view.height) _ _ (λ within. same (ltb-true _ _ within)))
+-- what the band shows of the fields that meet it is the label
+pub met_image : (sheets : Sheets) (stored : List ℕ) (view : View) (b : ℕ) (fields : List Field) (x k : ℕ) → k < 32
+    → image_dot view (map (stroke_of sheets stored) (met sheets stored view b fields)) x (32 * b + k) ≡ image_dot view (map (stroke_of sheets stored) fields) x (32 * b + k)
+met_image sheets stored view b fields x k low =
+    on_label (nat_lt x view.width) (nat_lt (32 * b + k) view.height) _ _ (λ within. same (ltb-true _ _ within))
   where
     on_label : (c d p q : Bool) → (d ≡ true → p ≡ q) → (c && d && p) ≡ (c && d && q)
     on_label true true p q h = h refl
     on_label true false p q h = refl
     on_label false d p q h = refl
 
-    same : 32 * b + k < view.height → label_dot (map (viewed view) (strokes sheets stored (met b entries))) (pos x) (pos (32 * b + k)) ≡ label_dot (map (viewed view) (strokes sheets stored entries)) (pos x) (pos (32 * b + k))
+    same : 32 * b + k < view.height → label_dot (map (viewed view) (map (stroke_of sheets stored) (met sheets stored view b fields))) (pos x) (pos (32 * b + k)) ≡ label_dot (map (viewed view) (map (stroke_of sheets stored) fields)) (pos x) (pos (32 * b + k))
     same within =
         let sx = seen_x view (pos x) in
         let sy = seen_y view (pos (32 * b + k)) in
-        moved_dot view (pos x) (pos (32 * b + k)) (strokes sheets stored (met b entries))
-        ∙ met_dot sheets stored b entries sx sy (λ j lt out. no_ink sheets stored view (entry_at entries j).field b (32 * b + k) sx (sym (spanned j lt b) ∙ out) within (omega arith) (omega arith))
-        ∙ sym (moved_dot view (pos x) (pos (32 * b + k)) (strokes sheets stored entries))
-
--- how many entries meet the band
-filter_fields : (p : Entry → Bool) (q : Field → Bool) (entries : List Entry) → ((k : ℕ) → k < length entries → p (entry_at entries k) ≡ q (entry_at entries k).field) → length (filter p entries) ≡ length (filter q (fields_of entries))
-filter_fields p q [] same = refl
-filter_fields p q (e ∷ entries) same =
-    rw (same 0 (omega arith)) (one (q e.field) (filter_fields p q entries (λ k lt. same (suc k) (omega arith))))
-  where
-    one : (c : Bool) → length (filter p entries) ≡ length (filter q (fields_of entries)) → length (cond c (e ∷ filter p entries) (filter p entries)) ≡ length (cond c (e.field ∷ filter q (fields_of entries)) (filter q (fields_of entries)))
-    one true h = ap suc h
-    one false h = h
-
-pub met_count : (sheets : Sheets) (stored : List ℕ) (view : View) (b : ℕ) (entries : List Entry) → ((k : ℕ) → k < length entries → IsSpanned sheets stored view (entry_at entries k)) → length (met b entries) ≡ meeting sheets stored view (fields_of entries) b
-met_count sheets stored view b entries spanned =
-    filter_fields (meets b) (field_meets sheets stored view b) entries (λ k lt. spanned k lt b) ∙ length-filter (field_meets sheets stored view b) (fields_of entries)
+        moved_dot view (pos x) (pos (32 * b + k)) (map (stroke_of sheets stored) (met sheets stored view b fields))
+        ∙ met_dot sheets stored (field_meets sheets stored view b) fields sx sy (λ f out. no_ink sheets stored view f b (32 * b + k) sx out within (omega arith) (omega arith))
+        ∙ sym (moved_dot view (pos x) (pos (32 * b + k)) (map (stroke_of sheets stored) fields))
 
 -- the pairs of one more band
 pub pairs_more : (sheets : Sheets) (stored : List ℕ) (view : View) (fields : List Field) (n : ℕ) → pairs sheets stored view fields (n + 1) ≡ pairs sheets stored view fields n + meeting sheets stored view fields n

@@ -1,23 +1,19 @@
 -- The fields that have ink in a band.
-use Rattle.std.proofs.Common.{◌≡◌, ℕ, suc, ◌+◌, ◌-◌, ◌*◌, ◌<◌, ◌≤◌, Bool, true, false, ◌&&◌, cond, nat_lt, List, [], ◌∷◌, length, take, filter, refl, ap, sym, ◌∙◌, arith, inl, inr, pos}
+use Rattle.std.proofs.Common.{◌≡◌, ℕ, ◌+◌, ◌-◌, ◌*◌, ◌<◌, ◌≤◌, Bool, true, false, ◌&&◌, cond, nat_lt, List, length, take, get_or, filter, subst, refl, ap, sym, ◌∙◌, arith, inl, inr, pos}
 use Rattle.std.specs.List.{list_any, range_with_len, sum_by}
 use Rattle.std.proofs.lemmas.Bool.{cases_Bool, both_ways, and_parts, ltb-true}
-use Rattle.std.proofs.lemmas.List.{map-id, length-append}
-use Rattle.std.proofs.lemmas.List.Elements.{filter-append}
+use Rattle.std.proofs.lemmas.List.{map-id}
+use Rattle.std.proofs.lemmas.List.Filters.{length-filter_more}
 use Rattle.std.proofs.lemmas.List.FromFn.{sum_by-map-range_with_len_more}
-use Rattle.std.proofs.lemmas.List.Sums.{length-filter}
-use Rattle.std.specs.Prelude.{Some}
 use Rattle.vp_glyph.specs.Sheets.{Sheets}
 use Rattle.vp_format.specs.declared.field.Field.{Field}
 use Rattle.vp_field.specs.declared.view.View.{View}
 use Rattle.vp_field.specs.Bands.{IsCounted}
 use Rattle.vp_field.specs.Fields.{field_ink}
 use Rattle.vp_field.specs.Views.{seen_x, seen_y}
-use Rattle.vp_fields_by_band.specs.declared.table.Entry.{Entry}
-use Rattle.vp_fields_by_band.specs.Threads.{entry_at, meets, meets_at, IsNext}
 use Rattle.vp_bands.specs.Meeting.{field_meets, field_shows, showing, shown_pairs}
-use Rattle.vp_bands.specs.Standing.{fields_of, met, seen_of, IsSpanned}
-use Rattle.vp_bands.proofs.Painted.{met_next, no_ink}
+use Rattle.vp_bands.specs.Standing.{seen_of}
+use Rattle.vp_bands.proofs.Painted.{no_ink, passed_by, NoneOf}
 use Rattle.vp_bands.proofs.Spans.{any_row}
 
 -- a dot of a field that has ink in band b
@@ -47,41 +43,27 @@ seen_took sheets stored view b work f counted shows =
     let at : 32 * b + k ≡ d.0 = omega (arith, d.1) in
     counted d.4 k (omega (arith, d.1, d.2)) (ap (λ y. field_ink sheets stored f (seen_x view (pos d.4)) (seen_y view (pos y))) at ∙ d.5)
 
--- one more entry that meets the band
-pub seen_more : (sheets : Sheets) (stored : List ℕ) (view : View) (entries : List Entry) (b seen n work : ℕ) → IsNext (meets_at entries b) seen (length entries) (Some n)
-    → (field_shows sheets stored view b (entry_at entries n).field ≡ true → 0 < work)
-    → length (seen_of sheets stored view b (met b (take (n + 1) entries))) ≤ length (seen_of sheets stored view b (met b (take seen entries))) + work
-seen_more sheets stored view entries b seen n work next took =
-    let shows = λ (e : Entry). field_shows sheets stored view b e.field in
-    let before = met b (take seen entries) in
-    let e = entry_at entries n in
-    let split = ap (λ es. length (filter shows es)) (met_next entries b seen n next.0 next.1 next.3 next.2) ∙ ap length (filter-append shows before (e ∷ [])) ∙ length-append (filter shows before) (filter shows (e ∷ [])) in
-    omega (arith, split, one (shows e) took)
+-- where no field meets the band none has ink there
+pub none_seen : (sheets : Sheets) (stored : List ℕ) (view : View) (b from to : ℕ) (fields : List Field) → NoneOf (field_meets sheets stored view b) fields from to → NoneOf (field_shows sheets stored view b) fields from to
+none_seen sheets stored view b from to fields none k f ge lt = elim (cases_Bool (field_shows sheets stored view b (get_or fields k f))) [
+  | inr out ↦ out
+  | inl shows ↦ absurd (both_ways (field_meets sheets stored view b (get_or fields k f)) (none k f ge lt) (seen_meets sheets stored view b (get_or fields k f) shows))
+]
+
+-- one more field that meets the band
+pub seen_more : (sheets : Sheets) (stored : List ℕ) (view : View) (b seen n work : ℕ) (fields : List Field) (f : Field) → seen ≤ n → n < length fields → NoneOf (field_meets sheets stored view b) fields seen n → get_or fields n f ≡ f
+    → (field_shows sheets stored view b f ≡ true → 0 < work)
+    → length (seen_of sheets stored view b (take (n + 1) fields)) ≤ length (seen_of sheets stored view b (take seen fields)) + work
+seen_more sheets stored view b seen n work fields f le lt none is took =
+    let shows = field_shows sheets stored view b in
+    let before = passed_by shows fields seen n le (omega arith) (none_seen sheets stored view b seen n fields none) in
+    let more : length (filter shows (take (n + 1) fields)) ≡ length (filter shows (take n fields)) + cond (shows f) 1 0 =
+    subst (λ (x : Field). length (filter shows (take (n + 1) fields)) ≡ length (filter shows (take n fields)) + cond (shows x) 1 0) is (length-filter_more shows fields n f lt) in
+    omega (arith, more, ap length before, one (shows f) took)
   where
-    one : (c : Bool) → (c ≡ true → 0 < work) → length (cond c (entry_at entries n ∷ []) []) ≤ work
+    one : (c : Bool) → (c ≡ true → 0 < work) → cond c 1 0 ≤ work
     one true some = omega (arith, some refl)
     one false some = omega arith
-
--- how many entries have ink in the band
-seen_fields : (p q : Entry → Bool) (g : Field → Bool) (entries : List Entry) → ((k : ℕ) → k < length entries → g (entry_at entries k).field ≡ true → p (entry_at entries k) ≡ true)
-    → ((e : Entry) → q e ≡ g e.field) → length (filter q (filter p entries)) ≡ length (filter g (fields_of entries))
-seen_fields p q g [] within same = refl
-seen_fields p q g (e ∷ entries) within same =
-    one (p e) (g e.field) (within 0 (omega arith)) (same e) (seen_fields p q g entries (λ k lt. within (suc k) (omega arith)) same)
-  where
-    one : (c d : Bool) → (d ≡ true → c ≡ true) → q e ≡ d → length (filter q (filter p entries)) ≡ length (filter g (fields_of entries))
-        → length (filter q (cond c (e ∷ filter p entries) (filter p entries))) ≡ length (cond d (e.field ∷ filter g (fields_of entries)) (filter g (fields_of entries)))
-    one true true in_band is h = rw is (ap suc h)
-    one true false in_band is h = rw is h
-    one false true in_band is h = absurd (both_ways false refl (in_band refl))
-    one false false in_band is h = h
-
-pub seen_count : (sheets : Sheets) (stored : List ℕ) (view : View) (b : ℕ) (entries : List Entry) → ((k : ℕ) → k < length entries → IsSpanned sheets stored view (entry_at entries k))
-    → length (seen_of sheets stored view b (met b entries)) ≡ showing sheets stored view (fields_of entries) b
-seen_count sheets stored view b entries spanned =
-    seen_fields (meets b) (λ e. field_shows sheets stored view b e.field) (field_shows sheets stored view b) entries
-    (λ k lt shows. spanned k lt b ∙ seen_meets sheets stored view b (entry_at entries k).field shows) (λ e. refl)
-    ∙ length-filter (field_shows sheets stored view b) (fields_of entries)
 
 -- those of one more band
 pub shown_more : (sheets : Sheets) (stored : List ℕ) (view : View) (fields : List Field) (n : ℕ) → shown_pairs sheets stored view fields (n + 1) ≡ shown_pairs sheets stored view fields n + showing sheets stored view fields n

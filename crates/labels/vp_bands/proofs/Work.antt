@@ -1,5 +1,5 @@
 -- What painting takes.
-use Rattle.std.proofs.Common.{◌≡◌, ℕ, zero, suc, ◌+◌, ◌-◌, ◌^◌, ◌<◌, ◌≤◌, Bool, true, false, cond, List, [], ◌∷◌, length, take, ap, sym, ◌∙◌, refl, arith, Some}
+use Rattle.std.proofs.Common.{◌≡◌, ℕ, zero, suc, ◌+◌, ◌-◌, ◌^◌, ◌<◌, ◌≤◌, Bool, true, List, [], ◌∷◌, length, take, get_or, ap, sym, ◌∙◌, arith}
 use Rattle.std.specs.Prelude.{filter, sum_by}
 use Rattle.std.specs.List.{range_with_len}
 use Rattle.std.proofs.lemmas.List.{map-id}
@@ -15,12 +15,13 @@ use Rattle.vp_field.specs.Contents.{most_lines, most_block_lines, most_work, IsS
 use Rattle.vp_field.specs.declared.axis.Lines.{Lines}
 use Rattle.vp_field.specs.declared.axis.Lines.TheVariants.{Along, Across}
 use Rattle.vp_field.specs.declared.view.View.{View}
-use Rattle.vp_fields_by_band.specs.declared.table.Entry.{Entry}
-use Rattle.vp_fields_by_band.specs.Threads.{entry_at, meets, meets_at, IsNext}
-use Rattle.vp_bands.specs.Meeting.{field_meets, band_work, copy_work, bands_of}
+use Rattle.vp_bands.specs.Meeting.{band_work, copy_work, bands_of}
 use Rattle.vp_bands.specs.Laws.{WorkBounded}
-use Rattle.vp_bands.specs.Standing.{entry_work, fields_of, met, IsSpanned}
-use Rattle.vp_bands.proofs.Painted.{met_next}
+use Rattle.vp_bands.proofs.Painted.{passes_next, NoneOf}
+
+-- the most that painting a field takes
+abbrev pub field_work : Field → ℕ
+field_work f = most_work f.orientation f.content
 
 -- the lines that are drawn on a band are few
 few_lines : (l : Lines) → most_lines l ≤ 2 ^ 20
@@ -40,29 +41,12 @@ few_work stored o (contents.Picture p) kept = omega (arith, kept.codes.few)
 few_work stored o (contents.Bars b) kept = few_lines (lines_of o)
 few_work stored o (contents.Qr q) kept = omega arith
 
--- one more entry that meets the band
-pub work_more : (entries : List Entry) (b seen n : ℕ) → IsNext (meets_at entries b) seen (length entries) (Some n)
-    → sum_by entry_work (met b (take (n + 1) entries)) ≡ sum_by entry_work (met b (take seen entries)) + entry_work (entry_at entries n)
-work_more entries b seen n next =
-    let e = entry_at entries n in
-    ap (sum_by entry_work) (met_next entries b seen n next.0 next.1 next.3 next.2) ∙ sum_by-append entry_work (met b (take seen entries)) (e ∷ [])
-    ∙ ap (λ k. sum_by entry_work (met b (take seen entries)) + k) (sum_by-cons entry_work e [] ∙ omega arith)
-
--- the work of the entries that meet a band is that of the fields that do
-work_fields : (p : Entry → Bool) (q : Field → Bool) (entries : List Entry) → ((k : ℕ) → k < length entries → p (entry_at entries k) ≡ q (entry_at entries k).field)
-    → sum_by entry_work (filter p entries) ≡ sum_by (λ f. most_work f.orientation f.content) (filter q (fields_of entries))
-work_fields p q [] same = refl
-work_fields p q (e ∷ entries) same =
-    rw (same 0 (omega arith)) (one (q e.field) (work_fields p q entries (λ k lt. same (suc k) (omega arith))))
-  where
-    one : (c : Bool) → sum_by entry_work (filter p entries) ≡ sum_by (λ f. most_work f.orientation f.content) (filter q (fields_of entries))
-        → sum_by entry_work (cond c (e ∷ filter p entries) (filter p entries)) ≡ sum_by (λ f. most_work f.orientation f.content) (cond c (e.field ∷ filter q (fields_of entries)) (filter q (fields_of entries)))
-    one true h = sum_by-cons entry_work e (filter p entries) ∙ ap (λ k. entry_work e + k) h ∙ sym (sum_by-cons (λ (f : Field). most_work f.orientation f.content) e.field (filter q (fields_of entries)))
-    one false h = h
-
-pub work_count : (sheets : Sheets) (stored : List ℕ) (view : View) (b : ℕ) (entries : List Entry) → ((k : ℕ) → k < length entries → IsSpanned sheets stored view (entry_at entries k))
-    → sum_by entry_work (met b entries) ≡ band_work sheets stored view (fields_of entries) b
-work_count sheets stored view b entries spanned = work_fields (meets b) (field_meets sheets stored view b) entries (λ k lt. spanned k lt b)
+-- one more field that meets the band
+pub work_more : (p : Field → Bool) (fields : List Field) (seen n : ℕ) (f : Field) → seen ≤ n → n < length fields → NoneOf p fields seen n → get_or fields n f ≡ f → p f ≡ true
+    → sum_by field_work (filter p (take (n + 1) fields)) ≡ sum_by field_work (filter p (take seen fields)) + field_work f
+work_more p fields seen n f le lt none is now =
+    ap (sum_by field_work) (passes_next p fields seen n f le lt none is now) ∙ sum_by-append field_work (filter p (take seen fields)) (f ∷ [])
+    ∙ ap (λ k. sum_by field_work (filter p (take seen fields)) + k) (sum_by-cons field_work f [] ∙ omega arith)
 
 -- that of one more band
 pub copy_more : (sheets : Sheets) (stored : List ℕ) (view : View) (fields : List Field) (n : ℕ) → copy_work sheets stored view fields (n + 1) ≡ copy_work sheets stored view fields n + band_work sheets stored view fields n
@@ -79,8 +63,8 @@ copy_grows sheets stored view fields b (suc d) =
 
 pub work_bounded : WorkBounded
 work_bounded = record {
-  at_most = λ sheets stored view b t before le.
-      let more = copy_grows sheets stored view (fields_of t.entries) b (bands_of view - b) in
-      omega (arith, before.work, more, ap (copy_work sheets stored view (fields_of t.entries)) (let e : b + (bands_of view - b) ≡ bands_of view = omega arith in e));
-  at_least = λ sheets stored view t before. before.shown;
+  at_most = λ sheets held view b t before le.
+      let more = copy_grows sheets held.stored view held.fields b (bands_of view - b) in
+      omega (arith, before.work, more, ap (copy_work sheets held.stored view held.fields) (let e : b + (bands_of view - b) ≡ bands_of view = omega arith in e));
+  at_least = λ sheets held view t before. before.shown;
 }

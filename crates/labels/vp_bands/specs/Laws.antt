@@ -5,6 +5,7 @@ use Rattle.vp_format.specs.declared.field.Content.{Content}
 use Rattle.vp_format.specs.declared.field.Content.TheVariants.{Picture}
 use Rattle.vp_format.specs.declared.field.Field.{Field}
 use Rattle.vp_format.specs.declared.format.TheConstants.{STORED}
+use Rattle.vp_format.specs.Formats.{Held}
 use Rattle.vp_field.specs.Axes.{lines_of}
 use Rattle.vp_field.specs.Contents.{most_work, orientation_of}
 use Rattle.vp_field.specs.Fields.{IsKept}
@@ -12,7 +13,7 @@ use Rattle.vp_field.specs.declared.axis.Lines.TheVariants.{Along}
 use Rattle.vp_field.specs.declared.view.View.{View}
 use Rattle.vp_field.specs.Views.{seen_y}
 use Rattle.vp_bands.specs.Meeting.{box_meets, pairs, copy_work, shown_pairs, bands_of}
-use Rattle.vp_bands.specs.Standing.{Threaded, fields_of, IsBefore}
+use Rattle.vp_bands.specs.Standing.{Threaded, IsBefore}
 use Rattle.vp_label_size.specs.declared.TheConstants.{BAND_ROWS, WIDEST}
 use Rattle.vp_zpl.specs.declared.item.Orientation.{Orientation}
 
@@ -27,22 +28,22 @@ pub record BandsMet : Type 0 where
 -- at each band of a copy there were at most one look for each band of the label and two for each pair of a
 -- field and a band that it meets, and behind the last band at least one for each pair
 pub record LooksBounded : Type 0 where
-  pub at_most : (sheets : Sheets) (stored : List ℕ) (view : View) (b : ℕ) (t : Threaded)
-      → IsBefore sheets stored view b t → b ≤ bands_of view
-      → t.looks ≤ bands_of view + 2 * pairs sheets stored view (fields_of t.entries) (bands_of view)
-  pub at_least : (sheets : Sheets) (stored : List ℕ) (view : View) (t : Threaded)
-      → IsBefore sheets stored view (bands_of view) t
-      → pairs sheets stored view (fields_of t.entries) (bands_of view) ≤ t.looks
+  pub at_most : (sheets : Sheets) (held : Held) (view : View) (b : ℕ) (t : Threaded)
+      → IsBefore sheets held view b t → b ≤ bands_of view
+      → t.looks ≤ bands_of view + 2 * pairs sheets held.stored view held.fields (bands_of view)
+  pub at_least : (sheets : Sheets) (held : Held) (view : View) (t : Threaded)
+      → IsBefore sheets held view (bands_of view) t
+      → pairs sheets held.stored view held.fields (bands_of view) ≤ t.looks
 
 -- at each band of a copy painting took at most the work of the pairs of a field and a band that it meets, and
 -- behind the last band at least one for each pair where the field has ink on a dot of the label in the band
 pub record WorkBounded : Type 0 where
-  pub at_most : (sheets : Sheets) (stored : List ℕ) (view : View) (b : ℕ) (t : Threaded)
-      → IsBefore sheets stored view b t → b ≤ bands_of view
-      → t.work ≤ copy_work sheets stored view (fields_of t.entries) (bands_of view)
-  pub at_least : (sheets : Sheets) (stored : List ℕ) (view : View) (t : Threaded)
-      → IsBefore sheets stored view (bands_of view) t
-      → shown_pairs sheets stored view (fields_of t.entries) (bands_of view) ≤ t.work
+  pub at_most : (sheets : Sheets) (held : Held) (view : View) (b : ℕ) (t : Threaded)
+      → IsBefore sheets held view b t → b ≤ bands_of view
+      → t.work ≤ copy_work sheets held.stored view held.fields (bands_of view)
+  pub at_least : (sheets : Sheets) (held : Held) (view : View) (t : Threaded)
+      → IsBefore sheets held view (bands_of view) t
+      → shown_pairs sheets held.stored view held.fields (bands_of view) ≤ t.work
 
 -- the bytes of a picture's codes: other contents have none
 abbrev pub code_bytes : Content → ℕ

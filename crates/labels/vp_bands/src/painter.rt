@@ -1,14 +1,15 @@
 //! All bands of a label, copy after copy.
-ghost use Rattle.std.specs.Prelude.{◌≡◌, ℕ, ◌+◌, ◌*◌, ◌<◌, ◌≤◌, List, [], length, map, slice_index_or, vec_capacity, IfOk};
+ghost use Rattle.std.specs.Prelude.{◌≡◌, ℕ, ◌+◌, ◌*◌, ◌<◌, ◌≤◌, [], None, length, map, slice_index_or, vec_capacity, IfOk};
 ghost use Rattle.std.specs.List.{All};
 ghost use Rattle.vp_dots.specs.Dots.{dot};
 ghost use Rattle.vp_dots.specs.Images.{row_bytes};
 ghost use Rattle.vp_glyph.specs.Sheets.{Sheets as Given};
+ghost use Rattle.vp_format.specs.Formats.{Held};
 ghost use Rattle.vp_field.specs.Fields.{stroke_of, IsKept};
 ghost use Rattle.vp_field.specs.Strokes.{image_dot};
 ghost use Rattle.vp_field.specs.declared.view.View.{View as Seen};
 ghost use Rattle.vp_bands.specs.Meeting.{meeting, band_work, showing};
-ghost use Rattle.vp_bands.specs.Standing.{fields_of, painter_memory, IsBefore};
+ghost use Rattle.vp_bands.specs.Standing.{painter_memory, IsBefore};
 ghost use Rattle.vp_label_size.specs.declared.TheConstants.{WIDEST, BAND_ROWS};
 
 use crate::meeting::BANDS;
@@ -33,6 +34,7 @@ const MARKS_BYTES: usize = size_of::<Marks>();
 pub struct BandPainter<A: Small = Global> {
     threads: Threads<A>,
     marks: Vec<Marks, A>,
+    carried: Option<usize>,
     work: u64,
 }
 
@@ -69,6 +71,7 @@ impl<A: Small> BandPainter<A> {
         Ok(BandPainter {
             threads: Threads::new(alloc, BANDS)?,
             marks: Vec::with_capacity(alloc, FIELDS)?,
+            carried: None,
             work: 0,
         })
     }
@@ -77,63 +80,62 @@ impl<A: Small> BandPainter<A> {
     pub fn thread(&mut self, format: &Format<A>, view: View)
         requires kept { All (IsKept format.now.stored) format.now.fields }
         requires low { view.height ≤ BAND_ROWS * BANDS }
-        ensures fields { fields_of self.new.entries ≡ format.now.fields }
-        ensures before { (sheets : Given) → IsBefore sheets format.now.stored view 0 self.new }
+        ensures before { (sheets : Given) → IsBefore sheets format.now view 0 self.new }
         ensures looks { self.new.looks ≡ 0 }
         ensures work { self.new.work ≡ 0 }
     {
         hold_marks(&mut self.marks, format.len());
         thread_fields(&mut self.threads, format, view);
-        self.threads.start();
-        self.work = 0;
+        self.start();
     }
 
     /// Goes back before the first band, for another copy of the same label.
     pub fn start(&mut self)
-        ensures fields { self.new.entries ≡ self.old.entries }
-        ensures before { (sheets : Given) (stored : List ℕ) (view : Seen) (b : ℕ)
-            → IsBefore sheets stored view b self.old → IsBefore sheets stored view 0 self.new }
+        ensures is { self.new ≡ record self.old { carried = None; looks = 0; work = 0 } }
+        ensures before { (sheets : Given) (held : Held) (view : Seen) (b : ℕ)
+            → IsBefore sheets held view b self.old → IsBefore sheets held view 0 self.new }
         ensures looks { self.new.looks ≡ 0 }
         ensures work { self.new.work ≡ 0 }
     {
         self.threads.start();
+        self.carried = None;
         self.work = 0;
     }
 
-    /// Paints band b, whose first row is row 32 b of the label as it is put out: each band of a copy once, in
-    /// their order.
+    /// Paints band b, whose first row is row 32 b of the label as it is put out, from the format whose fields
+    /// were taken on: each band of a copy once, in their order.
     pub fn paint(
         &mut self,
         b: usize,
         sheets: &Sheets<A>,
-        stored: &[u8],
+        format: &Format<A>,
         view: View,
         band: &mut LabelBand<A>,
     )
-        requires before { IsBefore sheets.now stored.now view b self.old }
+        requires before { IsBefore sheets.now format.now view b self.old }
         requires narrow { view.width ≤ WIDEST }
         requires low { b < BANDS }
         ensures dots { (x k : ℕ) → x < 8 * row_bytes view.width → k < BAND_ROWS → 32 * b + k < view.height
             → dot (slice_index_or band.new k []) x
-            ≡ image_dot view (map (stroke_of sheets.now stored.now) (fields_of self.old.entries)) x
+            ≡ image_dot view (map (stroke_of sheets.now format.now.stored) format.now.fields) x
             (32 * b + k) }
-        ensures fields { self.new.entries ≡ self.old.entries }
-        ensures before { IsBefore sheets.now stored.now view (b + 1) self.new }
+        ensures before { IsBefore sheets.now format.now view (b + 1) self.new }
         ensures at_least { self.old.looks
-            + meeting sheets.now stored.now view (fields_of self.old.entries) b ≤ self.new.looks }
+            + meeting sheets.now format.now.stored view format.now.fields b ≤ self.new.looks }
         ensures at_most { self.new.looks ≤ self.old.looks + 1
-            + 2 * meeting sheets.now stored.now view (fields_of self.old.entries) b }
+            + 2 * meeting sheets.now format.now.stored view format.now.fields b }
         ensures work { self.new.work ≤ self.old.work
-            + band_work sheets.now stored.now view (fields_of self.old.entries) b }
+            + band_work sheets.now format.now.stored view format.now.fields b }
         ensures shown { self.old.work
-            + showing sheets.now stored.now view (fields_of self.old.entries) b ≤ self.new.work }
+            + showing sheets.now format.now.stored view format.now.fields b ≤ self.new.work }
     {
         self.work += paint_band(
             &mut self.threads,
             &mut self.marks,
+            &mut self.carried,
             b,
             sheets,
-            stored,
+            format,
             view,
             band,
         );

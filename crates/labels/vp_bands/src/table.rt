@@ -5,7 +5,7 @@ ghost use Rattle.vp_field.specs.Fields.{IsKept};
 ghost use Rattle.vp_field.specs.Standing.{IsNear};
 ghost use Rattle.vp_glyph.specs.Sheets.{Sheets};
 ghost use Rattle.vp_fields_by_band.specs.Threads.{entry_at, IsPlaced};
-ghost use Rattle.vp_bands.specs.Standing.{fields_of, IsSpanned, IsThreadedFor};
+ghost use Rattle.vp_bands.specs.Standing.{AreSpanned, IsSpanned, IsThreadedFor};
 ghost use Rattle.vp_label_size.specs.declared.TheConstants.{BAND_ROWS};
 
 use crate::meeting::{BANDS, span};
@@ -17,14 +17,12 @@ use vp_format::{FIELDS, Field, Format};
 /// The entry of a field that no other follows yet.
 fn entry_for(view: View, field: Field) -> Entry
     requires near { IsNear field.left field.top }
-    ensures field { result.field ≡ field }
     ensures spanned { (sheets : Sheets) (stored : List ℕ) → IsKept stored field →
-        IsSpanned sheets stored view result }
+        IsSpanned sheets stored view field result }
     ensures placed { view.height ≤ BAND_ROWS * BANDS → IsPlaced result BANDS }
 {
     let (first, last) = span(view, field.top, field.rows);
     Entry {
-        field,
         first,
         last,
         next: None,
@@ -35,14 +33,13 @@ fn entry_for(view: View, field: Field) -> Entry
 fn fill<A: Small>(threads: &mut Threads<A>, format: &Format<A>, view: View)
     requires kept { All (IsKept format.now.stored) format.now.fields }
     requires low { view.height ≤ BAND_ROWS * BANDS }
-    ensures few { length threads.new.entries ≤ FIELDS }
-    ensures fields { fields_of threads.new.entries ≡ format.now.fields }
-    ensures spanned { (sheets : Sheets) →
-        All (IsSpanned sheets format.now.stored view) threads.new.entries }
+    ensures fields { length threads.new.entries ≡ length format.now.fields }
+    ensures spanned { (sheets : Sheets) → AreSpanned sheets format.now view threads.new.entries }
     ensures placed { (k : ℕ) → k < length threads.new.entries →
         IsPlaced (entry_at threads.new.entries k) BANDS }
     ensures heads { threads.new.heads ≡ threads.old.heads }
     ensures links { threads.new.links ≡ threads.old.links }
+    ensures few { length threads.new.entries ≤ FIELDS }
 {
     threads.clear();
     for n in 0..format.len() {
@@ -56,11 +53,11 @@ pub fn thread_fields<A: Small>(threads: &mut Threads<A>, format: &Format<A>, vie
     requires kept { All (IsKept format.now.stored) format.now.fields }
     requires low { view.height ≤ BAND_ROWS * BANDS }
     ensures few { length threads.new.entries ≤ FIELDS }
+    ensures fields { length threads.new.entries ≡ length format.now.fields }
     ensures heads { length threads.new.heads ≡ length threads.old.heads }
     ensures links { threads.new.links ≡ threads.old.links }
-    ensures fields { fields_of threads.new.entries ≡ format.now.fields }
     ensures threaded { (sheets : Sheets) →
-        IsThreadedFor sheets format.now.stored view threads.new.entries threads.new.heads }
+        IsThreadedFor sheets format.now view threads.new.entries threads.new.heads }
 {
     fill(threads, format, view);
     threads.thread();

@@ -3,3 +3,4 @@ pub mod Reading
 pub mod Graphics
 pub mod Masks
 pub mod Shown
+pub mod Codes

@@ -2,6 +2,7 @@
 use Rattle.std.proofs.Common.{◌≤◌, ◌+◌, ℕ, Option, Some, None, List, length, arith}
 use Rattle.std.specs.Prelude.{◌≤ℤ◌, pos, neg_ℤ}
 use Rattle.std.proofs.lemmas.Int.{ints}
+use Rattle.vp_glyph.specs.Sheets.{Sheets}
 use Rattle.vp_zpl.specs.declared.item.LineSpace.{LineSpace}
 use Rattle.vp_zpl.specs.declared.item.LineSpace.TheVariants.{Added, Deleted}
 use Rattle.vp_format.specs.declared.field.Span.{Span}
@@ -11,6 +12,10 @@ use Rattle.vp_label_settings.specs.declared.size.CharacterSize.{CharacterSize}
 use Rattle.vp_label_settings.specs.declared.choice.FieldBlock.{FieldBlock}
 use Rattle.vp_label_settings.specs.Laws.{IsFieldBlockIf, IsSize, IsSpace}
 use Rattle.vp_closing.specs.Texts.{gap_of, text_content, text_drawn}
+
+-- what shows no text is drawn from any sheets
+pub no_sheets : Sheets
+no_sheets = record { a = None; b = None }
 
 gap_low : (space : LineSpace) → IsSpace space → neg_ℤ (pos 9999) ≤ℤ gap_of space
 gap_low (Added dots) fits = omega (arith, ints, fits)

@@ -1,5 +1,5 @@
 -- Lines next to each other that show the same.
-use Rattle.std.proofs.Common.{inl, inr, ◌≡◌, ℕ, ◌+◌, ◌-◌, ◌*◌, ◌/◌, ◌<◌, ◌≤◌, Bool, false, ltb, ◌&&◌, max, List, refl, sym, ap, ◌∙◌, arith, ℤ, pos, negsuc}
+use Rattle.std.proofs.Common.{inl, inr, ◌≡◌, ℕ, ◌+◌, ◌-◌, ◌<◌, ◌≤◌, Bool, false, ltb, ◌&&◌, List, refl, sym, ap, ◌∙◌, arith, ℤ, pos, negsuc}
 use Rattle.std.proofs.lemmas.Bool.{cases_lt}
 use Rattle.std.proofs.lemmas.Bool.Decides.{nat_tests}
 use Rattle.std.proofs.lemmas.Int.{ints}
@@ -14,18 +14,6 @@ use Rattle.vp_field.specs.Places.{at_place}
 use Rattle.vp_field.specs.Axes.{dot_on, laid}
 use Rattle.vp_field.proofs.Places.{at_none}
 
--- of two rows next to each other one shows the line behind the other's
-pub lines_next : (rows : Axis) (row above v m : ℕ) (line : ℕ → Bool) → 0 < row → dot_on rows (pos (row - 1)) ≡ pos above → dot_on rows (pos row) ≡ pos v
-    → m ≡ max above v → line m ≡ line (m - 1) → at_place line (dot_on rows (pos row)) ≡ at_place line (dot_on rows (pos (row - 1)))
-lines_next (Forward at) row above v m line h a b e r =
-    let n : m ≡ v = omega (arith, ints) in
-    let p : m - 1 ≡ above = omega (arith, ints) in
-    ap (at_place line) b ∙ ap line (sym n) ∙ r ∙ ap line p ∙ sym (ap (at_place line) a)
-lines_next (Back at) row above v m line h a b e r =
-    let n : m ≡ above = omega (arith, ints) in
-    let p : m - 1 ≡ v = omega (arith, ints) in
-    ap (at_place line) b ∙ ap line (sym p) ∙ sym r ∙ ap line n ∙ sym (ap (at_place line) a)
-
 -- what is shown at each dot of a line is shown on each column
 pub laid_alike : (columns rows : Axis) (ink : ℕ → ℕ → Bool) (x y z : ℤ) → ((u : ℕ) → at_place (λ v. ink u v) (dot_on rows y) ≡ at_place (λ v. ink u v) (dot_on rows z))
     → laid Along columns rows ink x y ≡ laid Along columns rows ink x z
@@ -34,17 +22,6 @@ laid_alike columns rows ink x y z e = at (dot_on columns x)
     at : (d : ℤ) → at_place (λ v. at_place (λ u. ink u v) d) (dot_on rows y) ≡ at_place (λ v. at_place (λ u. ink u v) d) (dot_on rows z)
     at (pos u) = e u
     at (negsuc u) = at_none _ (dot_on rows y) (λ v. refl) ∙ sym (at_none _ (dot_on rows z) (λ v. refl))
-
--- one more row like the one above
-pub rows_alike : (shown : ℕ → ℕ → Bool) (from n : ℕ) → 0 < n → ((j : ℕ) → j < n → (u : ℕ) → shown u (from + j) ≡ shown u from) → ((u : ℕ) → shown u (from + n) ≡ shown u (from + n - 1))
-    → (j : ℕ) → j < n + 1 → (u : ℕ) → shown u (from + j) ≡ shown u from
-rows_alike shown from n s e r j h u = elim (cases_lt j n) [
-  | inl l ↦ e j l u
-  | inr g ↦
-      let a : j ≡ n = omega arith in
-      let b : from + n - 1 ≡ from + (n - 1) = omega arith in
-      ap (λ i. shown u (from + i)) a ∙ r u ∙ ap (shown u) b ∙ e (n - 1) (omega arith) u
-]
 
 module _ (op : Op) (f : ℕ → ℕ → Bool) (g : ℕ → Bool) (y n : ℕ) (e : (x k : ℕ) → y ≤ k → k < y + n → f x k ≡ g x) where
   -- rows that show the same line are painted
@@ -72,14 +49,14 @@ module _ (op : Op) (f : ℕ → ℕ → Bool) (g : ℕ → Bool) (y n : ℕ) (e 
       ]) p
 
 -- places that show lines like that on the first
-pub run_forward : (at : ℤ) (v high n : ℕ) → v + n ≤ high → ((w : ℕ) → v ≤ w → w < v + n → w * 24 / high ≡ v * 24 / high) → (line : ℕ → Bool) (p : ℕ) → dot_on (Forward at) (pos p) ≡ pos v
-    → ((w : ℕ) → w < high → w * 24 / high ≡ v * 24 / high → line w ≡ line v) → (j : ℕ) → j < n → at_place line (dot_on (Forward at) (pos (p + j))) ≡ at_place line (dot_on (Forward at) (pos p))
-run_forward at v high n m a line p d h j l =
+pub run_forward : (at : ℤ) (v first last : ℕ) → first ≤ v → (line : ℕ → Bool) (p : ℕ) → dot_on (Forward at) (pos p) ≡ pos v
+    → ((w : ℕ) → first ≤ w → w ≤ last → line w ≡ line v) → (j : ℕ) → v + j ≤ last → at_place line (dot_on (Forward at) (pos (p + j))) ≡ at_place line (dot_on (Forward at) (pos p))
+run_forward at v first last f line p d h j l =
     let e : dot_on (Forward at) (pos (p + j)) ≡ pos (v + j) = omega (arith, ints, d) in
-    ap (at_place line) e ∙ h (v + j) (omega arith) (a (v + j) (omega arith) (omega arith)) ∙ sym (ap (at_place line) d)
+    ap (at_place line) e ∙ h (v + j) (omega arith) l ∙ sym (ap (at_place line) d)
 
-pub run_back : (at : ℤ) (v high n : ℕ) → v < high → n ≤ v + 1 → ((w : ℕ) → v + 1 - n ≤ w → w ≤ v → w * 24 / high ≡ v * 24 / high) → (line : ℕ → Bool) (p : ℕ) → dot_on (Back at) (pos p) ≡ pos v
-    → ((w : ℕ) → w < high → w * 24 / high ≡ v * 24 / high → line w ≡ line v) → (j : ℕ) → j < n → at_place line (dot_on (Back at) (pos (p + j))) ≡ at_place line (dot_on (Back at) (pos p))
-run_back at v high n i m a line p d h j l =
+pub run_back : (at : ℤ) (v first last : ℕ) → v ≤ last → (line : ℕ → Bool) (p : ℕ) → dot_on (Back at) (pos p) ≡ pos v
+    → ((w : ℕ) → first ≤ w → w ≤ last → line w ≡ line v) → (j : ℕ) → first + j ≤ v → at_place line (dot_on (Back at) (pos (p + j))) ≡ at_place line (dot_on (Back at) (pos p))
+run_back at v first last n line p d h j l =
     let e : dot_on (Back at) (pos (p + j)) ≡ pos (v - j) = omega (arith, ints, d) in
-    ap (at_place line) e ∙ h (v - j) (omega arith) (a (v - j) (omega arith) (omega arith)) ∙ sym (ap (at_place line) d)
+    ap (at_place line) e ∙ h (v - j) (omega arith) (omega arith) ∙ sym (ap (at_place line) d)

@@ -1,10 +1,11 @@
 -- Columns painted one after the other.
-use Rattle.std.proofs.Common.{inl, inr, ◌≡◌, ℕ, ◌+◌, ◌-◌, ◌*◌, ◌^◌, ◌<◌, ◌≤◌, Bool, false, eqb, ltb, ◌&&◌, refl, ap, sym, ◌∙◌, arith, List, [], get_or, ℤ, pos}
+use Rattle.std.proofs.Common.{inl, inr, ◌≡◌, ℕ, zero, suc, ◌+◌, ◌-◌, ◌*◌, ◌/◌, ◌%◌, ◌^◌, ◌<◌, ◌≤◌, Bool, false, eqb, ltb, ◌&&◌, refl, ap, sym, ◌∙◌, arith, List, [], length, get_or, ℤ, pos}
 use Rattle.std.proofs.lemmas.Bool.{cases_lt, lt-leb, lt-ltb, le-leb, le-ltb}
 use Rattle.std.proofs.lemmas.Bool.Decides.{nat_tests}
 use Rattle.std.proofs.lemmas.Nat.Bits.{bit_at-zero, bit_at_cat_low, bit_at_cat_high}
-use Rattle.std.specs.Int.{bit_at}
-use Rattle.vp_dots.specs.Blocks.{across_dot}
+use Rattle.std.proofs.lemmas.Nat.{be_bytes_4}
+use Rattle.std.specs.Int.{bit_at, to_be_bytes, from_be_bytes, w32}
+use Rattle.vp_dots.proofs.Words.{bit_low, bit_shr}
 use Rattle.vp_dots.specs.Dots.{bit, dot, dots, span}
 use Rattle.vp_dots.specs.Places.{RowsPainted, words_dot}
 use Rattle.vp_dots.specs.Words.{word_dot}
@@ -62,21 +63,6 @@ columns_within op f g x n a b e p = record {
   ]) (p.rows_are k h);
 }
 
--- eight columns
-pub columns_eight : (op : Op) (f : ℕ → ℕ → Bool) (x : ℕ) (lines a b : List (List ℕ)) → ((i k : ℕ) → i < 8 → k < 32 → dot (get_or lines i []) k ≡ f (x + i) k)
-    → RowsPainted 32 op (across_dot lines 32 x (pos 0)) a b → RowsPainted 32 op (λ d k. span x (x + 8) d && f d k) a b
-columns_eight op f x lines a b e p = rows_same 32 op _ _ _ _
-    (λ d k h. elim (cases_lt d x) [
-      | inl o ↦ grind (arith, nat_tests)
-      | inr g ↦ elim (cases_lt d (x + 8)) [
-        | inl i ↦ (let z : dot (get_or lines (d - x) []) k ≡ f d k = at d k g i h in let w : dot (get_or lines (d - x) []) (k - 0) ≡ dot (get_or lines (d - x) []) k = ap (dot (get_or lines (d - x) [])) (let o : k - 0 ≡ k = omega arith in o) in grind (arith, nat_tests))
-        | inr o ↦ grind (arith, nat_tests)
-      ]
-    ]) p
-  where
-    at : (d k : ℕ) → x ≤ d → d < x + 8 → k < 32 → dot (get_or lines (d - x) []) k ≡ f d k
-    at d k g i h = let m : x + (d - x) ≡ d = omega arith in e (d - x) k (omega arith) h ∙ ap (λ n. f n k) m
-
 -- columns that are white, as far as the rows go
 pub columns_white : (op : Op) (f : ℕ → ℕ → Bool) (x n : ℕ) (a : List (List ℕ)) → ((i k : ℕ) → i < n → k < 32 → x + i < dots (get_or a k []) → f (x + i) k ≡ false)
     → RowsPainted 32 op (λ d k. span x (x + n) d && f d k) a a
@@ -133,3 +119,35 @@ unfolding bit
 right_half a b x l =
     let e : 63 - (32 + x) ≡ 31 - x = omega arith in
     rw (lt-ltb x 32 l, lt-ltb (32 + x) 64 (omega arith), e) (ap (λ n. eqb n 1) (bit_at_cat_low a 32 b (31 - x) (omega arith)))
+
+-- the bytes of half a word, one by one
+half_byte : (n j : ℕ) → j < 4 → get_or (to_be_bytes w32 n) j 0 ≡ n / 2 ^ (8 * (3 - j)) % 256
+half_byte n zero h = refl
+half_byte n (suc zero) h = refl
+half_byte n (suc (suc zero)) h = refl
+half_byte n (suc (suc (suc zero))) h = omega arith
+half_byte n (suc (suc (suc (suc j)))) h = absurd (omega arith)
+
+half_row : (n x : ℕ) → x < 32 → dot (to_be_bytes w32 n) x ≡ half_dot n x
+unfolding dot
+half_row n x l =
+    rw (lt-ltb x 32 l) (ap (λ b. bit b (7 - x % 8)) (half_byte n (x / 8) (omega arith)) ∙ bit_low (n / 2 ^ (8 * (3 - x / 8))) (7 - x % 8) (omega arith) ∙ bit_shr n (8 * (3 - x / 8)) (7 - x % 8)
+    ∙ ap (bit n) (omega arith))
+
+-- the dots of half a word that is made of bytes
+pub half_of_bytes : (bs : List ℕ) (n x : ℕ) → x < 32 → length bs ≡ 4 → ((i : ℕ) → get_or bs i 0 < 256) → n ≡ from_be_bytes w32 bs → half_dot n x ≡ dot bs x
+half_of_bytes bs n x h l f e = sym (half_row n x h) ∙ ap (λ b. dot b x) (be_bytes_4 bs n l f e)
+
+-- columns before one
+pub before_end : (d end : ℕ) (b : Bool) → d < end → (ltb d end && b) ≡ b
+before_end d end b h = rw (lt-ltb d end h) refl
+
+-- columns from one on
+pub from_end : (d end : ℕ) (b : Bool) → end ≤ d → (ltb d end && b) ≡ false
+from_end d end b h = rw (le-ltb d end h) refl
+
+pub white_before_end : (d end : ℕ) (b : Bool) → b ≡ false → (ltb d end && b) ≡ false
+white_before_end d end b e = elim (cases_lt d end) [
+  | inl l ↦ before_end d end b l ∙ e
+  | inr g ↦ from_end d end b g
+]

@@ -4,7 +4,6 @@ pub mod OnWhite
 pub mod Columns
 pub mod Alike
 pub mod Framed
-pub mod Celled
 pub mod Alone
 pub mod Folds
 pub mod White
@@ -13,3 +12,4 @@ pub mod Boxed
 pub mod Behind
 pub mod Pictured
 pub mod Windowed
+pub mod AsWhole

@@ -1,15 +1,18 @@
 -- Fields, and what they do to a label.
-use Rattle.std.specs.Prelude.{◌≡◌, ℕ, ℤ, Bool, List, Option, None, Some, slice_index_or}
+use Rattle.std.specs.Prelude.{◌≡◌, ℕ, ℤ, Bool, List, Option, None, Some, Ok, is_ok, false, slice_index_or}
 use Rattle.vp_glyph.specs.Sheets.{Sheets}
 use Rattle.vp_format.specs.Cursors.{marked_row, IsMark}
 use Rattle.vp_format.specs.declared.field.Content.{Content}
 use Rattle.vp_format.specs.declared.field.Content.TheVariants.{Picture, Qr}
+use Rattle.vp_format.specs.declared.field.Content.TheVariants as contents
+use Rattle.vp_format.specs.declared.field.BarSymbol.{BarSymbol}
 use Rattle.vp_format.specs.declared.field.QrSymbol.{QrSymbol}
+use Rattle.vp_bars.specs.Symbologies.{symbol_of}
 use Rattle.vp_qr.specs.Inks.{ScaledSymbol, side, ink_of}
 use Rattle.vp_format.specs.declared.field.Field.{Field}
 use Rattle.vp_format.specs.declared.rows.RunMark.{RunMark}
 use Rattle.vp_field.specs.declared.marks.Marks.{Marks}
-use Rattle.vp_field.specs.declared.marks.Marks.TheVariants.{Nothing, Picture as Left, Symbol}
+use Rattle.vp_field.specs.declared.marks.Marks.TheVariants.{Nothing, Picture as Left, Symbol, Bars}
 use Rattle.vp_field.specs.declared.marks.Places.{Places}
 use Rattle.vp_field.specs.Contents.{bytes_of, qr_side, qr_dot, content_width, content_height, content_dot, orientation_of, picture_of, IsStored}
 use Rattle.vp_field.specs.Standing.{standing, IsNear}
@@ -59,12 +62,19 @@ pub record IsDrawn (stored : List ℕ) (q : QrSymbol) (s : ScaledSymbol) : Type 
   pub side : side s ≡ qr_side q.level q.mode (bytes_of stored q.bytes) q.module
   pub ink : (x y : ℕ) → ink_of s x y ≡ qr_dot q.level q.mode (bytes_of stored q.bytes) q.module x y
 
+-- what is left of a linear symbol is that of the data, and nothing is where these have none
+abbrev pub IsEncoded : List ℕ → BarSymbol → Marks → Type 0
+IsEncoded stored b (Bars symbol) = symbol_of b.code (bytes_of stored b.bytes) ≡ Ok symbol
+IsEncoded stored b _ = is_ok (symbol_of b.code (bytes_of stored b.bytes)) ≡ false
+
 -- what is left of a content: marks that were made in its picture, or its symbol
 abbrev pub AreMarksOf : List ℕ → Content → Marks → Type 0
 AreMarksOf stored c Nothing = Unit {0}
 AreMarksOf stored c (Left places) = ArePlacesOf stored c places
 AreMarksOf stored (Qr q) (Symbol left) = IsDrawn stored q left.ink
 AreMarksOf stored _ (Symbol left) = Unit {0}
+AreMarksOf stored (contents.Bars b) (Bars symbol) = IsEncoded stored b (Bars symbol)
+AreMarksOf stored _ (Bars symbol) = Unit {0}
 
 abbrev pub no_marks : Marks
 no_marks = Nothing

@@ -15,4 +15,3 @@ pub mod Axes
 pub mod Rows
 pub mod Drawn
 pub mod Alone
-pub mod Stretched

@@ -135,6 +135,7 @@ impl Axis {
             → p < result.0 → at_place line (dot_on self (pos p)) ≡ false }
         ensures behind { (line : ℕ → Bool) → ((u : ℕ) → line u ≡ true → u < size) → (p : ℕ)
             → result.1 ≤ p → at_place line (dot_on self (pos p)) ≡ false }
+        ensures near { IsWithin (2 ^ 41) self → result.0 ≤ 2 ^ 42 }
     {
         let size = u64::from(size);
         match self {
@@ -145,6 +146,21 @@ impl Axis {
                 (behind.saturating_sub(size), behind)
             }
             Axis::Back(_) => (0, 0),
+        }
+    }
+
+    /// How many places, the first of which shows line v, show lines from one to another.
+    pub fn run(self, v: u32, first: u32, last: u32) -> u64
+        requires first { first ≤ v }
+        requires last { v ≤ last }
+        ensures some { 0 < result }
+        ensures alike { (line : ℕ → Bool) (p : ℕ) → dot_on self (pos p) ≡ pos v
+            → ((w : ℕ) → first ≤ w → w ≤ last → line w ≡ line v) → (j : ℕ) → j < result
+            → at_place line (dot_on self (pos (p + j))) ≡ at_place line (dot_on self (pos p)) }
+    {
+        match self {
+            Axis::Forward(_) => u64::from(last - v) + 1,
+            Axis::Back(_) => u64::from(v - first) + 1,
         }
     }
 

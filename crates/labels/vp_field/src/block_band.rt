@@ -75,7 +75,7 @@ impl<A: Small> Ink for BlockBand<'_, A> {
         self.rows.paint_row(y, op, at, row);
     }
 
-    fn repeats(&self, y: u32) -> bool {
-        self.rows.repeats(y)
+    fn alike(&self, y: u32) -> (u32, u32) {
+        self.rows.alike(y)
     }
 }

@@ -1,9 +1,11 @@
 //! Blocks of lines whose rows fall on columns: many of them drawn at once, and laid 64 by 64.
-ghost use Rattle.std.specs.Prelude.{◌≡◌, ℕ, ◌+◌, ◌*◌, ◌<◌, ◌≤◌, ◌^◌, ◌&&◌, Bool, true, false, pos, slice_index, slice_index_or, [], MatchOption};
-ghost use Rattle.vp_dots.specs.Dots.{dots, shifted, span};
+ghost use Rattle.std.specs.Prelude.{◌≡◌, ℕ, ◌+◌, ◌-◌, ◌*◌, ◌<◌, ◌≤◌, ◌^◌, nat_le, ◌&&◌, Bool, true, false, pos, slice_index, slice_index_or, [], MatchOption, IfSome};
+ghost use Rattle.vp_dots.specs.Dots.{dot, dots, shifted, span};
 ghost use Rattle.vp_dots.specs.declared.square.TheConstants.{SIDE};
+ghost use Rattle.vp_dots.specs.Painting.{Painted};
 ghost use Rattle.vp_dots.specs.Places.{RowsPainted};
 ghost use Rattle.vp_dots.specs.Words.{word_dot};
+ghost use Rattle.vp_dots.specs.declared.Op.TheVariants.{Black};
 ghost use Rattle.vp_glyph.specs.Blocks.{block_height, block_dot};
 ghost use Rattle.vp_glyph.specs.Halves.{half_dot};
 ghost use Rattle.vp_glyph.specs.Layouts.{layout_of};
@@ -11,19 +13,26 @@ ghost use Rattle.vp_field.specs.Axes.{dot_on, laid, read_at, IsWithin};
 ghost use Rattle.vp_field.specs.Contents.{most_block_lines};
 ghost use Rattle.vp_field.specs.Places.{at_place};
 ghost use Rattle.vp_field.specs.declared.axis.Lines.TheVariants.{Across};
-ghost use Rattle.vp_field.specs.declared.block_columns.TheConstants.{COLUMNS};
+ghost use Rattle.vp_field.specs.declared.block_columns.TheConstants.{COLUMNS, ROW_WORDS};
 ghost use Rattle.vp_label_size.specs.declared.TheConstants.{WIDEST, BAND_ROWS};
 
 use crate::axis::Axis;
 use crate::laid::Laid;
 use crate::line::drawn_at;
 use crate::paint::row_lengths;
-use vp_dots::{Ink, Op, SIDE, Small, paint_words, turned_square};
+use crate::plain::{mixed_halves, turned_halves, word_of_plain};
+use vp_dots::{Ink, Op, SIDE, Small, paint_into, paint_word, paint_words};
 use vp_glyph::Block;
 use vp_label_size::{BAND_ROWS, LabelBand, WIDEST};
 
 /// As many rows are drawn at once as a band has columns.
 const COLUMNS: usize = WIDEST as usize;
+
+/// So many words have the columns of a label, and some more.
+const ROW_WORDS: usize = 20;
+
+/// The bytes of as many words.
+const ROW_BYTES: usize = 8 * ROW_WORDS;
 
 /// A block of lines, how its rows and their dots lie on a band, and the fronts of the rows that may fall on
 /// its columns.
@@ -78,7 +87,7 @@ fn rows_along(square: &[u64; SIDE], from: usize, axis: Axis) -> [u64; BAND_ROWS]
 }
 
 /// Whether all halves of words are white.
-fn are_white<const N: usize>(halves: &[u32; N]) -> bool
+pub fn are_white<const N: usize>(halves: &[u32; N]) -> bool
     ensures { result ≡ true → (i x : ℕ) → i < N → half_dot (slice_index halves.now i) x ≡ false }
 {
     for i in 0..N {
@@ -99,7 +108,7 @@ fn of_halves(left: u32, right: u32) -> u64
 }
 
 /// A square of which each row has two halves.
-fn square_of(left: &[u32; SIDE], right: &[u32; SIDE]) -> [u64; SIDE]
+pub fn square_of(left: &[u32; SIDE], right: &[u32; SIDE]) -> [u64; SIDE]
     ensures left { (i x : ℕ) → i < SIDE → x < 32
         → word_dot (slice_index result i) x ≡ half_dot (slice_index left.now i) x }
     ensures right { (i x : ℕ) → i < SIDE → x < 32
@@ -110,6 +119,32 @@ fn square_of(left: &[u32; SIDE], right: &[u32; SIDE]) -> [u64; SIDE]
         square[i] = of_halves(left[i], right[i]);
     }
     square
+}
+
+/// Blackens the dots of a word from a dot of a row on.
+fn add_word(word: u64, at: u64, row: &mut [u8])
+    requires { at < 2 ^ 63 }
+    ensures { Painted Black (λ d. nat_le at d && word_dot word (d - at)) row.old row.new }
+{
+    paint_word(Op::Black, word, at as i64, row);
+}
+
+/// Paints dots from dot x of a row on.
+fn paint_from(op: Op, dots: &[u8], x: u64, row: &mut [u8])
+    requires { x < 2 ^ 63 }
+    ensures { Painted op (λ d. nat_le x d && dot dots.now (d - x)) row.old row.new }
+{
+    paint_into(op, dots, x as i64, row);
+}
+
+/// Paints the same dots from dot x on, on each row of a band.
+fn paint_rows_alike<A: Small>(op: Op, dots: &[u8], x: u64, band: &mut LabelBand<A>)
+    requires { x < 2 ^ 63 }
+    ensures { RowsPainted BAND_ROWS op (λ d k. nat_le x d && dot dots.now (d - x)) band.old band.new }
+{
+    for k in 0..BAND_ROWS {
+        paint_from(op, dots, x, band.row_mut(k));
+    }
 }
 
 impl<A: Small> BlockColumns<'_, A> {
@@ -203,9 +238,55 @@ impl<A: Small> BlockColumns<'_, A> {
         if are_white(&left) && are_white(&right) {
             return;
         }
-        let square = turned_square(&square_of(&left, &right));
+        let square = turned_halves(&left, &right);
         self.paint_rows(op, &square, 0, x, band);
         self.paint_rows(op, &square, BAND_ROWS, x + SIDE as u64, band);
+    }
+
+    /// So many words of columns of the label, the first of which is x, as a row of dots, if each column is
+    /// black or white as a whole.
+    fn plain_row(&self, x: u64, words: usize) -> Option<[u8; ROW_BYTES]>
+        requires x { x < 2 ^ 31 }
+        requires words { words ≤ ROW_WORDS }
+        ensures { IfSome result (λ row. (i k : ℕ) → i < SIDE * words → x + i < WIDEST → k < BAND_ROWS
+            → dot row i ≡ laid Across self.now.columns self.now.rows
+            (λ u v. block_dot (layout_of self.now.block.now) self.now.block.now.text.now u v)
+            (pos (x + i)) (pos (self.now.first + k))) }
+    {
+        let mut row = [0u8; ROW_BYTES];
+        for j in 0..words {
+            let at = (SIDE * j) as u64;
+            let columns = self.columns(x + at);
+            if mixed_halves(&columns) > 0 {
+                return None;
+            }
+            add_word(word_of_plain(&columns), at, &mut row);
+        }
+        Some(row)
+    }
+
+    /// Paints as many words of columns, the first of which is x, where all rows show the same row.
+    fn paint_plain(
+        &self,
+        op: Op,
+        row: &[u8; ROW_BYTES],
+        words: usize,
+        x: u64,
+        band: &mut LabelBand<A>,
+    )
+        requires x { x < 2 ^ 31 }
+        requires words { words ≤ ROW_WORDS }
+        requires row { (i k : ℕ) → i < SIDE * words → x + i < WIDEST → k < BAND_ROWS
+            → dot row.now i ≡ laid Across self.now.columns self.now.rows
+            (λ u v. block_dot (layout_of self.now.block.now) self.now.block.now.text.now u v)
+            (pos (x + i)) (pos (self.now.first + k)) }
+        requires wide { (k : ℕ) → k < BAND_ROWS → dots (slice_index_or band.old k []) ≤ WIDEST }
+        ensures { RowsPainted BAND_ROWS op (λ d k. span x (x + SIDE * words) d
+            && laid Across self.now.columns self.now.rows
+            (λ u v. block_dot (layout_of self.now.block.now) self.now.block.now.text.now u v) (pos d)
+            (pos (self.now.first + k))) band.old band.new }
+    {
+        paint_rows_alike(op, &row[..8 * words], x, band);
     }
 
     /// Paints the columns: how many were laid.
@@ -219,6 +300,14 @@ impl<A: Small> BlockColumns<'_, A> {
         let (from, to) = self.columns.span(height);
         row_lengths(band);
         let end = to.min(u64::from(WIDEST));
+        if from >= end {
+            return 0;
+        }
+        let words = ((end - from + 63) / 64) as usize;
+        if let Some(row) = self.plain_row(from, words) {
+            self.paint_plain(op, &row, words, from, band);
+            return end - from;
+        }
         let mut laid = 0;
         let mut x = from;
         while x < end {

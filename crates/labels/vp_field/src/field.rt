@@ -6,7 +6,7 @@ ghost use Rattle.vp_format.specs.declared.field.Content.TheVariants as contents;
 ghost use Rattle.vp_field.specs.Axes.{lines_of};
 ghost use Rattle.vp_field.specs.Contents.{most_lines, most_work, LiesIn, IsText, IsTextBlock, IsSymbol};
 ghost use Rattle.vp_field.specs.Standing.{IsNear};
-ghost use Rattle.vp_field.specs.Fields.{field_ink, stroke_of, IsDrawn, IsKept, AreMarksOf};
+ghost use Rattle.vp_field.specs.Fields.{field_ink, stroke_of, IsDrawn, IsEncoded, IsKept, AreMarksOf};
 ghost use Rattle.vp_field.specs.Strokes.{Stroke};
 ghost use Rattle.vp_field.specs.Views.{seen_x, seen_y};
 ghost use Rattle.vp_field.specs.Bands.{Shows, IsCounted};
@@ -48,8 +48,8 @@ fn paint_text<A: Small>(
     ensures lines { result ≤ most_work on.orientation (contents.Text text) }
     ensures counted { IsCounted (drawn sheets.now stored.now (contents.Text text) on first) result }
 {
-    let ink = cells(sheets, stored, text);
-    paint_standing(&ink, Some(ink.h), on, first, band)
+    let text = cells(sheets, stored, text);
+    paint_standing(&text, on, first, band)
 }
 
 /// Paints a block of lines: how many lines of ink it drew.
@@ -78,10 +78,25 @@ fn paint_block<A: Small>(
     }
     let rows = BlockRows { block };
     if !rows.lines_meet() {
-        return paint_standing(&rows, None, on, first, band);
+        return paint_standing(&rows, on, first, band);
     }
     let drawn = BlockBand::new(rows, line, drawn_at(laid.columns, 0, BAND_BYTES));
-    paint_standing(&drawn, None, on, first, band)
+    paint_standing(&drawn, on, first, band)
+}
+
+/// Encodes a linear symbol where no earlier band left it: there is none where the data have none.
+fn encode(stored: &[u8], bars: BarSymbol, marks: &mut Marks)
+    requires bytes { LiesIn stored.now bars.bytes }
+    requires marks { AreMarksOf stored.now (contents.Bars bars) marks.old }
+    ensures marks { AreMarksOf stored.now (contents.Bars bars) marks.new }
+    ensures encoded { IsEncoded stored.now bars marks.new }
+{
+    if let Marks::Bars(_) = marks {
+        return;
+    }
+    if let Ok(symbol) = linear(bars.code, bytes_of(stored, bars.bytes)) {
+        *marks = Marks::Bars(symbol);
+    }
 }
 
 /// Paints a linear symbol and its text, nothing where the data have none: how many lines of ink it drew.
@@ -90,30 +105,32 @@ fn paint_bars<A: Small>(
     stored: &[u8],
     bars: BarSymbol,
     on: Standing,
+    marks: &mut Marks,
     first: u32,
     band: &mut LabelBand<A>,
 ) -> u64
     requires bytes { LiesIn stored.now bars.bytes }
+    requires marks { AreMarksOf stored.now (contents.Bars bars) marks.old }
     requires near { IsNear on.left on.top }
+    ensures marks { AreMarksOf stored.now (contents.Bars bars) marks.new }
     ensures dots { RowsPainted BAND_ROWS on.op (drawn sheets.now stored.now (contents.Bars bars) on first)
         band.old band.new }
     ensures lines { result ≤ most_work on.orientation (contents.Bars bars) }
     ensures counted { IsCounted (drawn sheets.now stored.now (contents.Bars bars) on first) result }
 {
-    match linear(bars.code, bytes_of(stored, bars.bytes)) {
-        Ok(symbol) => {
-            let ink = symbol.boxed(
-                bars.narrow,
-                bars.wide,
-                bars.height,
-                sheets,
-                Font::A,
-                bars.place,
-            );
-            paint_standing(&ink, None, on, first, band)
-        }
-        Err(_) => 0,
-    }
+    encode(stored, bars, marks);
+    let Marks::Bars(symbol) = &*marks else {
+        return 0;
+    };
+    let ink = symbol.boxed(
+        bars.narrow,
+        bars.wide,
+        bars.height,
+        sheets,
+        Font::A,
+        bars.place,
+    );
+    paint_standing(&ink, on, first, band)
 }
 
 /// A QR symbol, drawn with the version and the mask that it keeps where no earlier band left it.
@@ -158,7 +175,7 @@ fn paint_qr<A: Small>(
         IsCounted (drawn sheets stored.now (contents.Qr symbol) on first) result }
 {
     let modules = drawn_symbol(stored, symbol, marks);
-    paint_standing(&modules, None, on, first, band)
+    paint_standing(&modules, on, first, band)
 }
 
 /// Applies the field's operation to the dots of a band, whose first row is row `first` of the label as it
@@ -196,18 +213,18 @@ fn paint_content<A: Small>(
     match field.content {
         Content::Text(text) => paint_text(sheets, stored, text, turned, first, band),
         Content::Block(block) => paint_block(sheets, stored, block, turned, first, band),
-        Content::Box(shape) => paint_standing(&Frame::of(shape), None, on, first, band),
+        Content::Box(shape) => paint_standing(&Frame::of(shape), on, first, band),
         Content::Picture(picture) => paint_picture(stored, picture, on, marks, first, band),
-        Content::Bars(bars) => paint_bars(sheets, stored, bars, turned, first, band),
+        Content::Bars(bars) => paint_bars(sheets, stored, bars, turned, marks, first, band),
         Content::Qr(symbol) => paint_qr(stored, symbol, on, marks, first, band),
     }
 }
 
 /// Paints a field on a band, whose first row is row `first` of the label as it is put out. The marks are
 /// those that earlier bands left in its picture, or none, so that not all rows above are read again; more are
-/// left for the bands that come later, and of a QR symbol its modules. What that took comes back: of a
-/// picture how many bytes of its codes were read, rows passed, and rows painted; of all else how many lines
-/// of ink were drawn.
+/// left for the bands that come later, and of a symbol its modules or characters. What that took comes back:
+/// of a picture how many bytes of its codes were read, rows passed, and rows painted; of all else how many
+/// lines of ink were drawn.
 pub fn paint_field<A: Small>(
     sheets: &Sheets<A>,
     stored: &[u8],

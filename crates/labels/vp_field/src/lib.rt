@@ -15,12 +15,14 @@
 //! - `content`, `sized`, `field`: what fields show, with their sizes, and how they are painted.
 //! - `view`: how a label is put out.
 //! - `axis`, `laid`: which way the lines of an ink run on the label as it is put out, and where they begin.
-//! - `stretched`: which lines that show the rows of stretched characters are alike.
-//! - `line`, `paint`, `standing`: ink painted along the rows of a band or across them.
+//! - `stretched`: which rows of stretched characters are alike.
+//! - `line`, `pen`: lines of ink, drawn along places and painted on rows, and counted as they are handed out.
+//! - `paint`, `across`, `standing`: ink painted along the rows of a band or across them.
 //! - `band`: a white band, and one cut at the label's edges.
 //! - `laws`: what the dots of a label come to.
 #![tactic(auto)]
 
+mod across;
 mod axis;
 mod band;
 mod block_band;
@@ -34,7 +36,9 @@ mod line;
 mod lines;
 mod marks;
 mod paint;
+mod pen;
 mod picture;
+mod plain;
 mod sized;
 mod standing;
 mod stretched;

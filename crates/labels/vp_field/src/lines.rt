@@ -1,10 +1,10 @@
 //! Blocks of lines, and which of their rows are alike.
-ghost use Rattle.std.specs.Prelude.{MatchOption};
+ghost use Rattle.std.specs.Prelude.{MatchOption, ◌≤◌};
 ghost use Rattle.vp_glyph.specs.Blocks.{block_width, block_height, block_dot, block_inside};
 ghost use Rattle.vp_glyph.specs.Layouts.{layout_of};
 ghost use Rattle.vp_field.specs.Alone.{IsAlone};
 
-use crate::text::shows_row_above;
+use crate::stretched::alike_rows;
 use std::alloc::AllocError;
 use vp_dots::{Ink, Op, Small};
 use vp_glyph::Block;
@@ -29,20 +29,19 @@ impl<A: Small> BlockRows<'_, A> {
         block.rows > 1 && block.pitch != 0 && block.pitch < block.h
     }
 
-    /// Which row of a line row y is, where lines that don't begin together don't meet there.
-    fn row_of_line(&self, y: u32) -> Option<u32>
-        ensures { MatchOption result (Unit {0}) (λ row.
-            IsAlone self.now.block.h self.now.block.rows self.now.block.pitch y row) }
+    /// The first row of the line that row y falls on, where no line that begins elsewhere meets that line.
+    fn top_of_line(&self, y: u32) -> Option<u32>
+        ensures { MatchOption result (Unit {0}) (λ top. (top ≤ y)
+            × IsAlone self.now.block.h self.now.block.rows self.now.block.pitch top) }
     {
         let last = self.block.rows.saturating_sub(1);
         if last == 0 || self.block.pitch == 0 {
-            return Some(y);
+            return Some(0);
         }
         if self.block.pitch < self.block.h {
             return None;
         }
-        let place = (y / self.block.pitch).min(last);
-        Some(y - place * self.block.pitch)
+        Some((y / self.block.pitch).min(last) * self.block.pitch)
     }
 }
 
@@ -67,20 +66,15 @@ impl<A: Small> Ink for BlockRows<'_, A> {
         self.block.paint_row(y, op, at, row);
     }
 
-    fn repeats(&self, y: u32) -> bool {
-        let (_, height) = self.size();
-        if y >= height {
-            return false;
-        }
-        let Some(row) = self.row_of_line(y) else {
-            return false;
+    fn alike(&self, y: u32) -> (u32, u32) {
+        let Some(top) = self.top_of_line(y) else {
+            return (y, y);
         };
-        if row == 0 {
-            return false;
-        }
+        let row = y - top;
         if row >= self.block.h {
-            return false;
+            return (y, y);
         }
-        shows_row_above(row, self.block.h)
+        let (first, last) = alike_rows(row, self.block.h);
+        (top + first, top + last)
     }
 }

@@ -3,6 +3,7 @@ ghost use Rattle.std.specs.Prelude.{ℕ, ◌<◌, ◌≤◌, List, Some};
 ghost use Rattle.vp_format.specs.declared.field.Content.{Content};
 ghost use Rattle.vp_field.specs.Fields.{row_at, ArePlacesOf, IsMarkOf, AreMarksOf};
 
+use vp_bars::Bars;
 use vp_format::RunMark;
 use vp_qr::QrInk;
 
@@ -24,11 +25,13 @@ pub struct DrawnSymbol {
 }
 
 /// What is left of one field.
-#[derive(Clone, Copy)]
+#[derive(Drop)]
 pub enum Marks {
     Nothing,
     Picture(Places),
     Symbol(DrawnSymbol),
+    /// A linear symbol as it was encoded.
+    Bars(Bars),
 }
 
 impl Places {
@@ -70,7 +73,7 @@ impl Marks {
     {
         match self {
             Marks::Picture(places) => places.last_before(row),
-            Marks::Nothing | Marks::Symbol(_) => (0, None),
+            Marks::Nothing | Marks::Symbol(_) | Marks::Bars(_) => (0, None),
         }
     }
 
@@ -81,7 +84,7 @@ impl Marks {
     {
         match *self {
             Marks::Picture(places) => places,
-            Marks::Nothing | Marks::Symbol(_) => Places {
+            Marks::Nothing | Marks::Symbol(_) | Marks::Bars(_) => Places {
                 on_way: [None; 8],
                 behind: mark,
             },

@@ -5,7 +5,6 @@ ghost use Rattle.vp_field.specs.Axes.{laid, lines_of, IsWithin};
 ghost use Rattle.vp_field.specs.Bands.{IsCounted};
 ghost use Rattle.vp_field.specs.Contents.{most_lines};
 ghost use Rattle.vp_field.specs.Standing.{standing, IsNear};
-ghost use Rattle.vp_field.specs.Stretched.{AreStretched};
 ghost use Rattle.vp_field.specs.Views.{seen_x, seen_y};
 ghost use Rattle.vp_label_size.specs.declared.TheConstants.{BAND_ROWS};
 
@@ -44,16 +43,13 @@ impl Standing {
 }
 
 /// Applies the operation to the dots of a band, whose first row is row `first` of the label as it is put out,
-/// where ink that stands on the label has ink. Its lines may be known to be stretched. How many lines were
-/// drawn comes back.
+/// where ink that stands on the label has ink. How many lines were drawn comes back.
 pub fn paint_standing<I: Ink, A: Small>(
     ink: &I,
-    stretched: Option<u32>,
     on: Standing,
     first: u32,
     band: &mut LabelBand<A>,
 ) -> u64
-    requires stretched { AreStretched stretched (I.ink_at ink.now) }
     requires near { IsNear on.left on.top }
     ensures dots { RowsPainted BAND_ROWS on.op (λ x k. standing on.left on.top on.orientation
         (I.width ink.now) (I.height ink.now) (I.ink_at ink.now) (seen_x on.view (pos x))
@@ -64,14 +60,5 @@ pub fn paint_standing<I: Ink, A: Small>(
         result }
 {
     let laid = on.laid(ink);
-    paint_laid(
-        ink,
-        stretched,
-        on.op,
-        laid.lines,
-        laid.columns,
-        laid.rows,
-        first,
-        band,
-    )
+    paint_laid(ink, on.op, laid.lines, laid.columns, laid.rows, first, band)
 }

@@ -1,7 +1,8 @@
 //! Texts.
-ghost use Rattle.std.specs.Prelude.{◌≡◌, true, ◌-◌, ◌*◌, ◌/◌, ◌<◌, ◌^◌, length, slice_index};
+ghost use Rattle.std.specs.Prelude.{◌≡◌, ◌*◌, ◌<◌, ◌^◌, length, slice_index};
 ghost use Rattle.vp_glyph.specs.Texts.{text_dot, text_inside};
 
+use crate::stretched::alike_rows;
 use std::alloc::AllocError;
 use vp_dots::{Ink, Op, Small};
 use vp_glyph::{Sampled, Sheet, Stretch, paint_text};
@@ -22,15 +23,6 @@ impl<A: Small> Clone for Cells<'_, A> {
     fn clone(&self) -> Result<Self, AllocError> {
         Ok(*self)
     }
-}
-
-/// Whether row y of a character drawn `high` rows high shows the row of the sheet that the row above shows.
-pub fn shows_row_above(y: u32, high: u32) -> bool
-    requires some { 0 < y }
-    requires inside { y < high }
-    ensures { result ≡ true → y * 24 / high ≡ (y - 1) * 24 / high }
-{
-    u64::from(y) * 24 % u64::from(high) >= 24
 }
 
 impl<A: Small> Cells<'_, A> {
@@ -74,13 +66,10 @@ impl<A: Small> Ink for Cells<'_, A> {
         paint_text(self.sheet, self.text, &self.stretch, self.h, y, op, at, row);
     }
 
-    fn repeats(&self, y: u32) -> bool {
-        if y == 0 {
-            return false;
-        }
+    fn alike(&self, y: u32) -> (u32, u32) {
         if y >= self.h {
-            return false;
+            return (y, y);
         }
-        shows_row_above(y, self.h)
+        alike_rows(y, self.h)
     }
 }

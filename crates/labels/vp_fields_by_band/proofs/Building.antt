@@ -3,7 +3,7 @@ use Rattle.std.proofs.Common.{◌≡◌, ℕ, ◌+◌, ◌<◌, ◌≤◌, Bool,
 use Rattle.std.proofs.lemmas.Bool.{cases_eq}
 use Rattle.std.proofs.lemmas.Bool.Decides.{nat_tests}
 use Rattle.vp_fields_by_band.specs.declared.table.Entry.{Entry}
-use Rattle.vp_fields_by_band.specs.Threads.{no_entry, entry_at, begins_in, begins_at, link_at, IsNext, ThreadedFrom}
+use Rattle.vp_fields_by_band.specs.Threads.{no_entry, entry_at, begins_in, begins_at, link_at, IsNext, KeepsSpans, ThreadedFrom}
 
 -- a test that answers alike has the same next
 next_same : (P Q : ℕ → Bool) (from to : ℕ) (o : Option ℕ) → ((j : ℕ) → Q j ≡ P j) → IsNext P from to o → IsNext Q from to o
@@ -54,3 +54,18 @@ threaded_one entries tops k lt placed spans done =
             | inr ne ↦ rw (get_or-set_other entries k j changed no_entry ne) (done.rest b j (omega arith) (omega arith) was)
           ]));
     }
+
+-- the entry is read as `e`
+pub threaded_at : (entries : List Entry) (tops : List (Option ℕ)) (k : ℕ) (e : Entry) → k < length entries → entry_at entries k ≡ e → e.first < length tops → e.first ≤ e.last → ThreadedFrom entries tops (k + 1) →
+    ThreadedFrom (set entries k (record e { next = link_at tops e.first })) (set tops e.first (Some k)) k
+threaded_at entries tops k e lt is placed spans done =
+    subst (λ (x : Entry). x.first < length tops → x.first ≤ x.last → ThreadedFrom (set entries k (record x { next = link_at tops x.first })) (set tops x.first (Some k)) k) is
+    (λ at now. threaded_one entries tops k lt at now done) placed spans
+
+-- and its bands stay
+pub spans_at : (old entries : List Entry) (k : ℕ) (e : Entry) (next : Option ℕ) → k < length entries → entry_at entries k ≡ e → KeepsSpans old entries → KeepsSpans old (set entries k (record e { next = next }))
+spans_at old entries k e next lt is same j =
+    elim (cases_eq j k) [
+      | inl at ↦ let was = same k in rw (at, get_or-set_same entries k (record e { next = next }) no_entry lt) (ap (λ (x : Entry). x.first) (sym is) ∙ was.0, ap (λ (x : Entry). x.last) (sym is) ∙ was.1)
+      | inr other ↦ rw (get_or-set_other entries k j (record e { next = next }) no_entry other) (same j)
+    ]

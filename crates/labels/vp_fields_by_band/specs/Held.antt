@@ -6,13 +6,12 @@ use Rattle.vp_fields_by_band.specs.declared.table.TheConstants.{ENTRY_BYTES, LIN
 use Rattle.vp_fields_by_band.specs.declared.table.Threads.TheInside.{Inside}
 
 -- the entries of the fields, in the order of closing; the first that begins in each band; of each entry that
--- is carried over the next such one; the first entry that is carried to the next band; how often an entry,
--- the first of a band or a link was read since the copy's start
+-- is carried over the next such one; how often an entry, the first of a band or a link was read since the
+-- copy's start
 pub record Table : Type 0 where
   pub entries : List Entry
   pub heads : List (Option ℕ)
   pub links : List (Option ℕ)
-  pub carried : Option ℕ
   pub looks : ℕ
 
 abbrev pub table_by : {A : Type 0} → Inside A → Table
@@ -21,7 +20,6 @@ table_by t =
       entries = t.entries.items;
       heads = t.heads.items;
       links = t.links.items;
-      carried = t.carried;
       looks = t.looks;
     }
 

@@ -1,26 +1,13 @@
 -- Fields threaded by numbers in a table.
-use Rattle.std.specs.Prelude.{◌≡◌, ◌≢◌, ℕ, ◌+◌, ◌<◌, ◌≤◌, Bool, true, false, ◌&&◌, List, length, Option, None, Some, pos, nat_eq, nat_lt, nat_le, slice_index_or, slice_set}
-use Rattle.vp_dots.specs.declared.Op.TheVariants.{Black}
-use Rattle.vp_format.specs.declared.field.Field.{Field}
-use Rattle.vp_zpl.specs.declared.item.Orientation.TheVariants.{Normal}
-use Rattle.vp_format.specs.declared.field.Content.TheVariants.{Text}
+use Rattle.std.specs.Prelude.{◌≡◌, ◌≢◌, ℕ, ◌+◌, ◌<◌, ◌≤◌, Bool, true, false, ◌&&◌, List, length, Option, None, Some, nat_eq, nat_lt, nat_le, slice_index_or, slice_set}
 use Rattle.vp_fields_by_band.specs.declared.table.Entry.{Entry}
 use Rattle.vp_fields_by_band.specs.declared.walk.Walk.{Walk}
 
--- the field and the entry that stand for none
-abbrev no_field : Field
-no_field = record {
-  left = pos 0;
-  top = pos 0;
-  rows = 0;
-  orientation = Normal;
-  op = Black;
-  content = Text (record { bytes = record { start = 0; len = 0 }; width = 0; height = 0 });
-}
-
+-- the entry of a field that meets no band
 abbrev pub no_entry : Entry
-no_entry = record { field = no_field; first = 0; last = 0; next = None }
+no_entry = record { first = 1; last = 0; next = None }
 
+-- there is none behind the table's end
 abbrev pub entry_at : List Entry → ℕ → Entry
 entry_at entries k = slice_index_or entries k no_entry
 
@@ -103,10 +90,10 @@ ended links (Some t) = slice_set links t None
 abbrev pub IsPlaced : Entry → ℕ → Type 0
 IsPlaced e bands = e.first ≤ e.last → e.first < bands
 
--- the fields and their bands stay
+-- the bands of each field stay
 abbrev pub KeepsSpans : List Entry → List Entry → Type 0
-KeepsSpans old new = (k : ℕ) → ((entry_at new k).field ≡ (entry_at old k).field)
-    × ((entry_at new k).first ≡ (entry_at old k).first) × ((entry_at new k).last ≡ (entry_at old k).last)
+KeepsSpans old new = (k : ℕ) →
+    ((entry_at new k).first ≡ (entry_at old k).first) × ((entry_at new k).last ≡ (entry_at old k).last)
 
 -- the fields from k on are threaded, each band's from its head
 pub record ThreadedFrom (entries : List Entry) (tops : List (Option ℕ)) (k : ℕ) : Type 0 where

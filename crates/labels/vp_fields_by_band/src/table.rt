@@ -8,13 +8,12 @@ use std::alloc::{AllocError, Global};
 use std::marker::Model;
 use std::mem::size_of;
 use vp_dots::{Small, filled};
-use vp_format::{FIELDS, Field};
+use vp_format::FIELDS;
 
-/// A field, the bands that it begins and ends in, and the next field that begins in the same band.
-/// One that ends before it begins meets none.
+/// The bands that a field begins and ends in, and the next field that begins in the same band. One that ends
+/// before it begins meets none.
 #[derive(Clone, Copy, Debug, PartialEq, Eq)]
 pub struct Entry {
-    pub field: Field,
     pub first: usize,
     pub last: usize,
     pub next: Option<usize>,
@@ -26,24 +25,6 @@ const ENTRY_BYTES: usize = size_of::<Entry>();
 /// The bytes of a link to an entry.
 const LINK_BYTES: usize = size_of::<Option<usize>>();
 
-/// Puts entry `k` before those of its band.
-fn thread_one(entries: &mut [Entry], k: usize, heads: &mut [Option<usize>])
-    requires within { k < length entries.old }
-    requires placed { IsPlaced (entry_at entries.old k) (length heads.old) }
-    ensures spans { KeepsSpans entries.old entries.new }
-    ensures table { ThreadedFrom entries.old heads.old (k + 1) → ThreadedFrom entries.new heads.new k }
-    ensures lengths { (length entries.new ≡ length entries.old) × (length heads.new ≡ length heads.old) }
-{
-    let entry = entries[k];
-    if entry.first <= entry.last {
-        entries[k] = Entry {
-            next: heads[entry.first],
-            ..entry
-        };
-        heads[entry.first] = Some(k);
-    }
-}
-
 /// Lets no field begin in any band.
 fn clear_heads(heads: &mut [Option<usize>])
     ensures len { length heads.new ≡ length heads.old }
@@ -54,30 +35,36 @@ fn clear_heads(heads: &mut [Option<usize>])
     }
 }
 
-/// Threads the entries by the band that they begin in.
+/// Threads the entries by the band that they begin in: each comes before those of its band behind it.
 fn thread_all(entries: &mut [Entry], heads: &mut [Option<usize>])
     requires placed { (k : ℕ) → k < length entries.old →
         IsPlaced (entry_at entries.old k) (length heads.old) }
-    requires empty { (b : ℕ) → link_at heads.old b ≡ None }
     ensures spans { KeepsSpans entries.old entries.new }
     ensures table { ThreadedFrom entries.new heads.new 0 }
     ensures lengths { (length entries.new ≡ length entries.old) × (length heads.new ≡ length heads.old) }
 {
+    clear_heads(heads);
     let mut k = entries.len();
     while k > 0 {
         k -= 1;
-        thread_one(entries, k, heads);
+        let entry = entries[k];
+        if entry.first <= entry.last {
+            entries[k] = Entry {
+                next: heads[entry.first],
+                ..entry
+            };
+            heads[entry.first] = Some(k);
+        }
     }
 }
 
-/// At most 1,024 fields, threaded by the bands that they begin in, and from band to band. An entry, the first
-/// of a band and a link are read by calls alone, each of which counts a look.
+/// At most 1,024 fields by their numbers, threaded by the bands that they begin in, and from band to band. An
+/// entry, the first of a band and a link are read by calls alone, each of which counts a look.
 #[derive(Drop)]
 pub struct Threads<A: Small = Global> {
     entries: Vec<Entry, A>,
     heads: Vec<Option<usize>, A>,
     links: Vec<Option<usize>, A>,
-    carried: Option<usize>,
     looks: u64,
 }
 
@@ -99,14 +86,12 @@ impl<A: Small> Threads<A> {
         ensures none { IfOk result (λ threads. threads.entries ≡ []) }
         ensures bands { IfOk result (λ threads. length threads.heads ≡ bands) }
         ensures links { IfOk result (λ threads. length threads.links ≡ FIELDS) }
-        ensures carried { IfOk result (λ threads. threads.carried ≡ None) }
         ensures looks { IfOk result (λ threads. threads.looks ≡ 0) }
     {
         Ok(Threads {
             entries: Vec::with_capacity(alloc, FIELDS)?,
             heads: filled(alloc, bands, None)?,
             links: filled(alloc, FIELDS, None)?,
-            carried: None,
             looks: 0,
         })
     }
@@ -137,15 +122,13 @@ impl<A: Small> Threads<A> {
         ensures links { self.new.links ≡ self.old.links }
         ensures looks { self.new.looks ≡ self.old.looks }
     {
-        clear_heads(&mut self.heads);
         thread_all(&mut self.entries, &mut self.heads);
     }
 
-    /// Goes back before the first band, where nothing is carried over and nothing was read.
+    /// Counts the looks anew, from none on.
     pub fn start(&mut self)
-        ensures { self.new ≡ record self.old { carried = None; looks = 0 } }
+        ensures { self.new ≡ record self.old { looks = 0 } }
     {
-        self.carried = None;
         self.looks = 0;
     }
 
@@ -188,20 +171,6 @@ impl<A: Small> Threads<A> {
         ensures { self.new ≡ record self.old { links = slice_set self.old.links from to } }
     {
         self.links[from] = to;
-    }
-
-    /// The first entry that is carried over to the band that comes next.
-    pub fn carried(&self) -> Option<usize>
-        ensures { result ≡ self.now.carried }
-    {
-        self.carried
-    }
-
-    /// Carries entries over to the next band, from this one on.
-    pub fn carry(&mut self, first: Option<usize>)
-        ensures { self.new ≡ record self.old { carried = first } }
-    {
-        self.carried = first;
     }
 
     /// The bytes of memory that it holds, on the heap.

@@ -48,12 +48,12 @@ fn leads_to(link: Option<usize>, n: usize) -> bool
 }
 
 impl Walk {
-    /// A walk before the first field of band b.
-    pub fn start<A: Small>(b: usize, threads: &mut Threads<A>) -> Walk
+    /// A walk before the first field of band b, to which the fields from `carried` on are carried over.
+    pub fn start<A: Small>(b: usize, carried: Option<usize>, threads: &mut Threads<A>) -> Walk
         requires within { b < length threads.old.heads }
         requires countable { threads.old.looks < 2 ^ 62 }
         ensures walk { result ≡ record {
-          carried = threads.old.carried;
+          carried = carried;
           begins = link_at threads.old.heads b;
           seen = 0;
           kept = None;
@@ -62,7 +62,7 @@ impl Walk {
         ensures look { threads.new ≡ looked threads.old }
     {
         Walk {
-            carried: threads.carried(),
+            carried,
             begins: threads.first_in(b),
             seen: 0,
             kept: None,
@@ -120,18 +120,16 @@ impl Walk {
         }
     }
 
-    /// Ends what is kept, which is carried over to the next band.
-    pub fn close<A: Small>(self, threads: &mut Threads<A>)
+    /// Ends what is kept: the first field of it, from which on it is carried over to the next band.
+    pub fn close<A: Small>(self, threads: &mut Threads<A>) -> Option<usize>
         requires { ForSome self.tail (λ t. t < length threads.old.links) }
-        ensures { threads.new ≡ record threads.old {
-          links = ended threads.old.links self.tail;
-          carried = self.kept;
-        } }
+        ensures first { result ≡ self.kept }
+        ensures links { threads.new ≡ record threads.old { links = ended threads.old.links self.tail } }
     {
         if let Some(t) = self.tail {
             threads.set_link(t, None);
         }
-        threads.carry(self.kept);
+        self.kept
     }
 
     /// The walk after field `n`, whose entry is given.

@@ -1,8 +1,8 @@
 //! The stored format of a label: its fields and their bytes, and its pictures, read row by row.
 //!
 //! - `codes`: what a byte of run-length codes is.
-//! - `reading`: the bytes of codes, handed out one after the other, and counted.
-//! - `digits`, `counted`, `short_runs`: the codes that most pictures are made of, read in a quick way.
+//! - `reading`: the bytes of codes, read one after the other or in a quick way, and counted.
+//! - `digits`, `counted`, `short_runs`, `passing`: the codes that most pictures are made of, in a quick way.
 //! - `packing`: the places of a row, and its bytes.
 //! - `row`: the row that starts at a place of the codes.
 //! - `rows`: the rows, one after the other. `checking`: whether any is refused.
@@ -18,6 +18,7 @@ mod field;
 mod format;
 mod law;
 mod packing;
+mod passing;
 mod reading;
 mod row;
 mod rows;

@@ -1,6 +1,13 @@
-//! The bytes of codes, handed out one after the other, and counted.
-ghost use Rattle.std.specs.Prelude.{◌≡◌, ℕ, ◌+◌, ◌≤◌, length, take, drop, min};
-ghost use Rattle.vp_format.specs.Cursors.{Advanced, InHand, IsReading, held};
+//! The bytes of codes, read one after the other or in a quick way, and counted. They are had in no other way.
+ghost use Rattle.std.specs.Prelude.{◌≡◌, ℕ, ◌+◌, ◌*◌, ◌^◌, ◌<◌, ◌≤◌, ◌⊎◌, true, false, List, length, slice_index, take, drop, min};
+ghost use Rattle.vp_format.specs.Codes.{Spelled, code_of};
+ghost use Rattle.vp_format.specs.Pictures.{nibble};
+ghost use Rattle.vp_format.specs.Cursors.{Advanced, InHand, IsReading, Passed, Reached, digit_value, held, symbols_from};
+
+use crate::digits::{digits, plain_row};
+use crate::packing::SHORT;
+use crate::passing::pass_runs;
+use crate::short_runs::short_runs;
 
 /// Codes, the place of the next byte, and how many bytes were handed out.
 #[derive(Drop)]
@@ -72,15 +79,70 @@ impl<'a> Codes<'a> {
         self.read
     }
 
-    /// All the bytes.
-    pub fn bytes(&self) -> &'a [u8]
-        ensures { result.now ≡ self.now.bytes.now }
+    /// Reads digits and short runs from place `from` of a row of `width` places on, as far as they end within
+    /// it, and gives the place behind them.
+    pub fn short_runs(&mut self, from: usize, width: usize, places: &mut [u8]) -> usize
+        requires reading { IsReading self.old }
+        requires from { from ≤ width }
+        requires short { width ≤ 2048 }
+        requires room { width + SHORT ≤ length places.old }
+        ensures len { length places.new ≡ length places.old }
+        ensures advanced { Advanced self.old self.new }
+        ensures after { from ≤ result }
+        ensures place { result ≤ width }
+        ensures reached { (all : List Spelled) (start : ℕ) →
+            Reached width all start places.old from (symbols_from self.old.bytes.now self.old.at) self.old.at
+            → Reached width all start places.new result (symbols_from self.new.bytes.now self.new.at)
+            self.new.at }
     {
-        self.bytes
+        let (x, at) = digits(self.bytes, self.at, from, width, places);
+        let (x, at) = short_runs(self.bytes, at, x, width, places);
+        self.go_on_to(at);
+        x
     }
 
-    /// Hands out the bytes up to a place.
-    pub fn go_on_to(&mut self, at: usize)
+    /// Reads a row, if digits alone spell it: whether they do. Where a digit comes first, a row that isn't
+    /// read may be written all the same.
+    pub fn plain_row(&mut self, row: &mut [u8]) -> bool
+        requires reading { IsReading self.old }
+        requires short { length row.old ≤ 1024 }
+        ensures len { length row.new ≡ length row.old }
+        ensures advanced { Advanced self.old self.new }
+        ensures at { result ≡ true → self.new.at ≡ self.old.at + 2 * length row.old }
+        ensures same { result ≡ false → self.new ≡ self.old }
+        ensures inside { result ≡ true → self.old.at + 2 * length row.old ≤ length self.old.bytes.now }
+        ensures digits { result ≡ true → (k : ℕ) → k < 2 * length row.old →
+            digit_value (code_of (slice_index self.old.bytes.now (self.old.at + k))) < 16 }
+        ensures packed { result ≡ true → (j : ℕ) → j < 2 * length row.old →
+            nibble row.new j ≡ digit_value (code_of (slice_index self.old.bytes.now (self.old.at + j))) }
+        ensures kept { result ≡ false → (row.new ≡ row.old)
+            ⊎ ((self.old.at < length self.old.bytes.now)
+            × (digit_value (code_of (slice_index self.old.bytes.now self.old.at)) < 16)) }
+    {
+        if !plain_row(self.bytes, self.at, row) {
+            return false;
+        }
+        self.go_on_to(self.at + 2 * row.len());
+        true
+    }
+
+    /// Passes digits, and those behind counts, from a place on, as far as they go, but none that starts at an
+    /// end: gives the place of the next symbol.
+    pub fn pass_runs(&mut self, from: u64, end: u64) -> u64
+        requires reading { IsReading self.old }
+        requires end { end < 2 ^ 44 }
+        ensures advanced { Advanced self.old self.new }
+        ensures passed { (width : ℕ) (all : List Spelled) →
+            Passed width all from (symbols_from self.old.bytes.now self.old.at) →
+            Passed width all result (symbols_from self.new.bytes.now self.new.at) }
+    {
+        let (x, at) = pass_runs(self.bytes, self.at, from, end);
+        self.go_on_to(at);
+        x
+    }
+
+    /// Counts the bytes up to a place, and goes on there.
+    fn go_on_to(&mut self, at: usize)
         requires reading { IsReading self.old }
         requires from { self.old.at ≤ at }
         requires inside { at ≤ length self.old.bytes.now }

@@ -7,11 +7,9 @@ ghost use Rattle.vp_format.specs.declared.rows.Spot.{Spot};
 ghost use Rattle.vp_format.specs.declared.rows.Coding.TheVariants.{RunLength, Binary};
 
 use crate::codes::{Code, Symbol, code_of};
-use crate::digits::{digits, plain_row};
 use crate::packing::{SHORT, fill, pack_filled};
 use crate::reading::Codes;
 use crate::rows::{Coding, Spot};
-use crate::short_runs::short_runs;
 use vp_dots::Fault;
 
 /// What is known of a row that was read.
@@ -82,10 +80,7 @@ fn read_short(
         → Reached width all start places.new result.0
         (symbols_from codes.new.bytes.now (codes.new.at - held result.1)) (codes.new.at - held result.1) }
 {
-    let bytes = codes.bytes();
-    let (x, at) = digits(bytes, codes.at(), from, width, places);
-    let (x, at) = short_runs(bytes, at, x, width, places);
-    codes.go_on_to(at);
+    let x = codes.short_runs(from, width, places);
     if x == width {
         return (x, None);
     }
@@ -203,9 +198,7 @@ fn decode(
         (record { left = end.left; digit = end.digit; at = codes.new.at }) row.old row.new) }
 {
     if left == 0 {
-        let at = codes.at();
-        if plain_row(codes.bytes(), at, row) {
-            codes.go_on_to(at + 2 * row.len());
+        if codes.plain_row(row) {
             return Ok(ended(0, 0));
         }
         return read_on(codes, 0, places, row);

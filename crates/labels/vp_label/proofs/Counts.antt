@@ -11,6 +11,7 @@ use Rattle.vp_field.specs.declared.view.View.{View}
 use Rattle.vp_field.specs.Strokes.{image_dot}
 use Rattle.vp_field.specs.Fields.{stroke_of}
 use Rattle.vp_label.proofs.Effects.{idle}
+use Rattle.vp_format.specs.Formats.{Held}
 use Rattle.vp_format.specs.declared.field.Field.{Field}
 use Rattle.vp_zpl.specs.Spelling.{Kept}
 use Rattle.vp_zpl.specs.declared.name.Name.{Name}
@@ -18,18 +19,19 @@ use Rattle.vp_zpl.specs.declared.item.Command.{Command}
 use Rattle.vp_zpl.specs.declared.item.Command.TheVariants.{FormatEnd}
 use Rattle.vp_zpl.specs.Items.{Item}
 use Rattle.vp_zpl.specs.Items.Item.{Given, Data}
-use Rattle.vp_label_settings.specs.Formats.{is_open}
-use Rattle.vp_label_settings.specs.Settings.{quantity}
+use Rattle.vp_label_settings.specs.Formats.{is_open, stored}
+use Rattle.vp_label_settings.specs.Settings.{quantity, settings_of}
 use Rattle.vp_output.specs.declared.place.Line.{Line}
 use Rattle.vp_output.specs.declared.place.Line.TheVariants.{Head, Row}
 use Rattle.vp_copies.specs.Copies.{band_rows, bytes_above, copies_text, line_bytes, pending, Place}
 use Rattle.vp_copies.specs.Progress.{IsPlaceOf}
 use Rattle.vp_label.specs.Entries.{printed_entries}
 use Rattle.vp_label.specs.Held.{band_rows_after, fields_after, rows_at}
-use Rattle.vp_label.specs.Press.{IsBetween}
-use Rattle.vp_label.specs.Prints.{image, label_image, prints, unless_empty}
+use Rattle.vp_label.specs.Press.{press_image, IsBetween}
+use Rattle.vp_label.specs.Prints.{image, label_image, prints, unless_empty, view_of}
 use Rattle.vp_label.specs.Standing.{IsEndOf, IsPrinting}
 use Rattle.vp_label.specs.declared.gathered.Gathered.{Gathered}
+use Rattle.vp_label.specs.declared.press.Press.{Press}
 use Rattle.vp_label.specs.Gathered.{IsPrinted}
 
 abbrev pub PlaceLaw : Type 0
@@ -100,10 +102,17 @@ pub no_fields : (sheets : Sheets) (before : List Item) (left : List ℕ) → len
 no_fields sheets [] left none shut = refl
 no_fields sheets (item ∷ before) left none shut = rw (le-ltb 0 (length left) none) (ap length (idle sheets (item ∷ before) shut))
 
--- the image of the fields that are threaded
-pub same_image : (sheets given : Sheets) (bytes stored_bytes : List ℕ) (v w : View) (fields kept : List Field) (width height : ℕ) → sheets ≡ given → bytes ≡ stored_bytes → v ≡ w → fields ≡ kept → width ≡ v.width → height ≡ v.height →
-    record { width = width; height = height; is_black = image_dot v (map (stroke_of sheets bytes) fields) } ≡ label_image given w stored_bytes kept
-same_image sheets given bytes stored_bytes v w fields kept width height a b c d e f =
-    ap (λ n. record { width = n; height = height; is_black = image_dot v (map (stroke_of sheets bytes) fields) }) e
-    ∙ ap (λ n. record { width = v.width; height = n; is_black = image_dot v (map (stroke_of sheets bytes) fields) }) f
-    ∙ ap (λ s. label_image s v bytes fields) a ∙ ap (λ s. label_image given v s fields) b ∙ ap (λ x. label_image given x stored_bytes fields) c ∙ ap (label_image given w stored_bytes) d
+-- the image of which copies are put out is the label's
+pub same_image : {A : Type 0} (sheets : Sheets) (held : Held) (v : View) (p : Press A) → p.copies.width ≡ v.width → p.copies.height ≡ v.height →
+    press_image sheets held v p ≡ label_image sheets v held.stored held.fields
+same_image sheets held v p wide high =
+    ap (λ n. record { width = n; height = p.copies.height; is_black = image_dot v (map (stroke_of sheets held.stored) held.fields) }) wide
+    ∙ ap (λ n. record { width = v.width; height = n; is_black = image_dot v (map (stroke_of sheets held.stored) held.fields) }) high
+
+-- which is that of the items
+pub printed_image : {A : Type 0} (sheets : Sheets) (g : Gathered A) (earlier : List Item) → IsPrinted sheets g earlier →
+    label_image sheets (view_of g.in_force.settings) g.format.stored g.format.fields ≡ image sheets earlier
+printed_image sheets g earlier printed =
+    ap (λ bytes. label_image sheets (view_of g.in_force.settings) bytes g.format.fields) printed.stored
+    ∙ ap (λ v. label_image sheets v (stored earlier) g.format.fields) printed.view
+    ∙ ap (label_image sheets (view_of (settings_of earlier)) (stored earlier)) printed.fields

@@ -4,5 +4,6 @@ pub mod Presses
 pub mod Idle
 pub mod Pending
 pub mod Work
+pub mod ByBytes
 pub mod Counts
 pub mod Images

@@ -1,28 +1,25 @@
 -- Which band is next, some bytes further on.
 use Rattle.std.proofs.Common.{◌≡◌, ◌+◌, ◌*◌, ◌/◌, ◌%◌, ◌<◌, ◌≤◌, ◌-◌, inl, inr, ℕ, zero, suc, true, false, Bool, refl, sym, ap, ◌∙◌, subst, arith}
-use Rattle.std.specs.Prelude.{◌==◌, ◌||◌, nat_lt, if◌then◌else◌, map}
+use Rattle.std.specs.Prelude.{◌==◌, ◌||◌, nat_lt, if◌then◌else◌}
 use Rattle.std.proofs.lemmas.Bool.{cases_Bool, cases_lt, lt-ltb, le-ltb}
 use Rattle.std.proofs.lemmas.Bool.Decides.{eqb_tells, nat_tests}
 use Rattle.vp_copies.specs.declared.place.Ahead.{Ahead}
 use Rattle.vp_copies.specs.declared.place.Ahead.TheVariants.{Nothing, Band}
 use Rattle.vp_output.specs.declared.place.Line.{Line}
 use Rattle.vp_output.specs.declared.place.Line.TheVariants.{Head, Row}
-use Rattle.vp_copies.specs.Copies.{advanced, ahead, ahead_of, line_bytes, pending, Place}
+use Rattle.vp_copies.specs.Copies.{advanced, ahead, ahead_of, line_bytes, Place}
 use Rattle.vp_output.specs.Lines.{row_after, IsLineOf}
-use Rattle.vp_copies.specs.Progress.{Progress, image_of, IsPainted}
-use Rattle.vp_format.specs.declared.field.Field.{Field}
-use Rattle.vp_field.specs.Fields.{stroke_of}
-use Rattle.vp_field.specs.Strokes.{image_dot}
-use Rattle.vp_label.specs.declared.press.Press.{Press}
+use Rattle.vp_copies.specs.Progress.{IsPainted}
 use Rattle.std.proofs.Common.{List, [], get_or}
 use Rattle.vp_dots.specs.Dots.{dot}
 use Rattle.vp_dots.specs.Images.{Image, row_bytes}
 use Rattle.vp_glyph.specs.Sheets.{Sheets}
+use Rattle.vp_format.specs.Formats.{Held}
 use Rattle.vp_field.specs.declared.view.View.{View}
 use Rattle.vp_bands.specs.Laws.{LooksBounded}
 use Rattle.vp_bands.specs.Meeting.{bands_of, pairs}
-use Rattle.vp_bands.specs.Standing.{fields_of, IsBefore, Threaded}
-use Rattle.vp_label.specs.Press.{bands_above, left, IsBetween, IsNextBand}
+use Rattle.vp_bands.specs.Standing.{IsBefore, Threaded}
+use Rattle.vp_label.specs.Press.{bands_above, IsBetween, IsNextBand}
 
 abbrev pub at : ℕ → Line → ℕ → Place
 at copies l byte = record { copies = copies; line = l; byte = byte }
@@ -65,9 +62,9 @@ pub inside_ahead : (copies y : ℕ) → 0 < copies → 0 < y % 32 → ahead (at 
 inside_ahead copies y some inside = first_ahead copies (Row y) some ∙ (let f : (y % 32 == 0) ≡ false = grind (arith, nat_tests) in rw f refl)
 
 -- at no band are there more looks than that
-pub most : (sheets : Sheets) (bytes : List ℕ) (view : View) (t : Threaded) → LooksBounded → (b : ℕ) × (b ≤ bands_of view) × IsBefore sheets bytes view b t →
-    t.looks ≤ bands_of view + 2 * pairs sheets bytes view (fields_of t.entries) (bands_of view)
-most sheets bytes view t law w = law.at_most sheets bytes view w.0 t w.2 w.1
+pub most : (sheets : Sheets) (held : Held) (view : View) (t : Threaded) → LooksBounded → (b : ℕ) × (b ≤ bands_of view) × IsBefore sheets held view b t →
+    t.looks ≤ bands_of view + 2 * pairs sheets held.stored view held.fields (bands_of view)
+most sheets held view t law w = law.at_most sheets held view w.0 t w.2 w.1
 
 -- which band is next is no more than there are
 pub is_within : (height bands : ℕ) (next : ℕ → Type 0) (copies : ℕ) (l : Line) (byte : ℕ) → bands ≡ (height + 31) / 32 → IsLineOf height l → 0 < copies → IsNextBand (ahead (at copies l byte)) l bands next → (b : ℕ) × (b ≤ bands) × next b
@@ -133,9 +130,3 @@ met_behind width height bands next n p all high line some out now = elim (cases_
         })
   ]
 ]
-
--- what is left hangs on the copies and the fields alone
-pub same_left : {A : Type 0} (sheets : Sheets) (bytes : List ℕ) (view : View) (p q : Press A) → q.copies ≡ p.copies → q.painter.entries ≡ p.painter.entries → left sheets bytes view q ≡ left sheets bytes view p
-same_left sheets bytes view p q copies entries =
-    ap (λ (x : Progress). pending (image_of x (image_dot view (map (stroke_of sheets bytes) (fields_of q.painter.entries)))) x.place) copies
-    ∙ ap (λ (fields : List Field). pending (image_of p.copies (image_dot view (map (stroke_of sheets bytes) fields))) p.copies.place) (ap fields_of entries)

@@ -5,6 +5,7 @@ pub mod Prints
 pub mod Images
 pub mod Held
 pub mod Work
+pub mod Bytes
 pub mod Memory
 -- What the code keeps.
 pub mod Effects

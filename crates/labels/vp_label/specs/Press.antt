@@ -3,6 +3,7 @@ use Rattle.std.specs.Prelude.{◌≡◌, ◌+◌, ◌/◌, ◌<◌, ◌≤◌, �
 use Rattle.vp_dots.specs.Images.{Image}
 use Rattle.vp_glyph.specs.Sheets.{Sheets}
 use Rattle.vp_label_size.specs.declared.TheConstants.{WIDEST, LONGEST}
+use Rattle.vp_format.specs.Formats.{Held}
 use Rattle.vp_field.specs.declared.view.View.{View}
 use Rattle.vp_field.specs.Fields.{stroke_of}
 use Rattle.vp_field.specs.Strokes.{image_dot}
@@ -15,7 +16,7 @@ use Rattle.vp_copies.specs.Copies.{ahead, pending, Place}
 use Rattle.vp_copies.specs.Progress.{image_of, IsPlaceOf, IsReady}
 use Rattle.vp_label.specs.declared.press.Press.{Press}
 use Rattle.vp_bands.specs.Meeting.{bands_of}
-use Rattle.vp_bands.specs.Standing.{fields_of, IsBefore}
+use Rattle.vp_bands.specs.Standing.{IsBefore}
 
 -- how many bands of the copy are painted where the next byte is in a line, whose band isn't wanted
 abbrev pub bands_above : Line → ℕ
@@ -34,17 +35,17 @@ pub record IsBetween (p : Place) : Type 0 where
   pub line : p.line ≡ Head
   pub byte : p.byte ≡ 0
 
--- the image of which copies are put out: that of the fields that are threaded
-abbrev pub press_image : {A : Type 0} → Sheets → List ℕ → View → Press A → Image
-press_image sheets stored view p =
-    image_of p.copies (image_dot view (map (stroke_of sheets stored) (fields_of p.painter.entries)))
+-- the image of which copies are put out: that of the fields of a format
+abbrev pub press_image : {A : Type 0} → Sheets → Held → View → Press A → Image
+press_image sheets held view p =
+    image_of p.copies (image_dot view (map (stroke_of sheets held.stored) held.fields))
 
 -- what is left of the copies
-abbrev pub left : {A : Type 0} → Sheets → List ℕ → View → Press A → List ℕ
-left sheets stored view p = pending (press_image sheets stored view p) p.copies.place
+abbrev pub left : {A : Type 0} → Sheets → Held → View → Press A → List ℕ
+left sheets held view p = pending (press_image sheets held view p) p.copies.place
 
--- copies are put out of a label that is seen like that
-pub record IsPress {A : Type 0} (sheets : Sheets) (stored : List ℕ) (view : View) (p : Press A) : Type 0 where
+-- copies are put out of a format whose label is seen like that
+pub record IsPress {A : Type 0} (sheets : Sheets) (held : Held) (view : View) (p : Press A) : Type 0 where
   pub width : p.copies.width ≡ view.width
   pub height : p.copies.height ≡ view.height
   pub narrow : view.width ≤ WIDEST
@@ -53,6 +54,6 @@ pub record IsPress {A : Type 0} (sheets : Sheets) (stored : List ℕ) (view : Vi
   pub place : IsPlaceOf p.copies.width p.copies.height p.copies.place
   pub next : 0 < p.copies.place.copies →
       IsNextBand (ahead p.copies.place) p.copies.place.line (bands_of view)
-      (λ b. IsBefore sheets stored view b p.painter)
-  pub over : p.copies.place.copies ≡ 0 → IsBefore sheets stored view (bands_of view) p.painter
-  pub ready : IsReady (press_image sheets stored view p) p.copies.place p.band
+      (λ b. IsBefore sheets held view b p.painter)
+  pub over : p.copies.place.copies ≡ 0 → IsBefore sheets held view (bands_of view) p.painter
+  pub ready : IsReady (press_image sheets held view p) p.copies.place p.band

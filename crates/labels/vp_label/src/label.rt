@@ -228,7 +228,7 @@ impl<A: Small> Label<A> {
         place_law();
         let view = view_of(&self.gathered.in_force.settings);
         self.press
-            .put(&self.sheets, self.gathered.format.stored(), view, out)
+            .put(&self.sheets, &self.gathered.format, view, out)
     }
 
     /// Whether no format is open.

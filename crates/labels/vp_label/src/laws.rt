@@ -1,5 +1,5 @@
-//! Laws of items: they are taken one after the other, where data find no room none behind them do, and all
-//! that is printed is images.
+//! Laws of items: they are taken one after the other, where data find no room none behind them do, all
+//! that is printed is images, and what bytes cost at most.
 ghost use Rattle.std.specs.Prelude.{◌≡◌, ◌++◌, ◌∷◌, [], ℕ, List, flat_map, reverse, None, Some};
 ghost use Rattle.vp_dots.specs.Images.{pbm};
 ghost use Rattle.vp_dots.specs.declared.fault.Fault.{Fault};
@@ -7,11 +7,14 @@ ghost use Rattle.vp_glyph.specs.Sheets.{Sheets};
 ghost use Rattle.vp_zpl.specs.Items.{Item, data_items};
 ghost use Rattle.vp_zpl.specs.Items.Item.{Data};
 ghost use Rattle.vp_label_settings.specs.Formats.{followed_by};
+ghost use Rattle.vp_label.specs.Bytes.{BytesCostAtMost};
 ghost use Rattle.vp_label.specs.Images.{images, AreOfLabels};
 ghost use Rattle.vp_label.specs.Prints.{all_print, printed};
 ghost use Rattle.vp_label.specs.Refusals.{first_refusal, refusal};
 
-use vp_label_settings::laws::in_range;
+use vp_bands::a_field_costs_at_most;
+use vp_label_settings::laws::{between_formats, in_range};
+use vp_zpl::laws::items_take_bytes;
 
 /// A law: items stand behind those before them, the newest first, and where none of them is refused, the
 /// first one isn't, nor are the others behind it. What they print stands behind what was printed before.
@@ -40,5 +43,16 @@ pub fn what_is_printed_is_images()
         printed sheets before ≡ flat_map pbm (images sheets before) }
     ensures sizes { (sheets : Sheets) (before : List Item) → AreOfLabels (images sheets before) }
 {
+    in_range();
+}
+
+/// A law: a field is of six bytes of its format or more, and a byte of a picture's codes of one. So a copy
+/// takes at most 418 for each byte of the format in each band of the label.
+pub fn bytes_cost_at_most()
+    ensures { BytesCostAtMost }
+{
+    items_take_bytes();
+    a_field_costs_at_most();
+    between_formats();
     in_range();
 }

@@ -7,7 +7,7 @@ ghost use Rattle.vp_label_size.specs.declared.TheConstants.{WIDEST, LONGEST};
 ghost use Rattle.vp_label.specs.Gathered.{AreKept};
 ghost use Rattle.vp_label.specs.Prints.{label_image};
 ghost use Rattle.vp_bands.specs.Meeting.{bands_of};
-ghost use Rattle.vp_bands.specs.Standing.{fields_of, IsBefore};
+ghost use Rattle.vp_bands.specs.Standing.{IsBefore};
 ghost use Rattle.vp_label.specs.Press.{bands_above, left, press_image, IsBetween, IsPress};
 
 use std::alloc::{AllocError, Global};
@@ -51,12 +51,11 @@ impl<A: Small> Press<A> {
         requires narrow { view.width ≤ WIDEST }
         requires high { 0 < view.height }
         requires low { view.height ≤ LONGEST }
-        ensures press { (sheets : Given) → IsPress sheets format.now.stored view self.new }
-        ensures fields { fields_of self.new.painter.entries ≡ format.now.fields }
+        ensures press { (sheets : Given) → IsPress sheets format.now view self.new }
         ensures looks { self.new.painter.looks ≡ 0 }
         ensures work { self.new.painter.work ≡ 0 }
         ensures some { 0 < self.new.copies.place.copies }
-        ensures left { (sheets : Given) → left sheets format.now.stored view self.new
+        ensures left { (sheets : Given) → left sheets format.now view self.new
             ≡ copies_text (label_image sheets view format.now.stored format.now.fields) copies }
     {
         self.painter.thread(format, view);
@@ -65,41 +64,45 @@ impl<A: Small> Press<A> {
 
     /// Readies what the next byte wants: a copy begins with no band painted, and a band is painted before its
     /// first byte.
-    fn prepare(&mut self, sheets: &Sheets<A>, stored: &[u8], view: View)
-        requires press { IsPress sheets.now stored.now view self.old }
+    fn prepare(&mut self, sheets: &Sheets<A>, format: &Format<A>, view: View)
+        requires press { IsPress sheets.now format.now view self.old }
         requires some { 0 < self.old.copies.place.copies }
         ensures copies { self.new.copies ≡ self.old.copies }
-        ensures fields { self.new.painter.entries ≡ self.old.painter.entries }
-        ensures painted { IsPainted (press_image sheets.now stored.now view self.new)
+        ensures painted { IsPainted (press_image sheets.now format.now view self.new)
             self.new.copies.place.line self.new.band }
-        ensures before { IsBefore sheets.now stored.now view
+        ensures before { IsBefore sheets.now format.now view
             (bands_above self.new.copies.place.line) self.new.painter }
     {
         match self.copies.ahead() {
             Ahead::Nothing => {}
             Ahead::Copy => self.painter.start(),
-            Ahead::Band(b) => self.painter.paint(b, sheets, stored, view, &mut self.band),
+            Ahead::Band(b) => self.painter.paint(b, sheets, format, view, &mut self.band),
         }
     }
 
     /// Puts out whole rows of a band or, where none come next or have room, bytes of one line.
-    fn put_line(&mut self, sheets: &Sheets<A>, stored: &[u8], view: View, out: &mut [u8]) -> usize
-        requires press { IsPress sheets.now stored.now view self.old }
+    fn put_line(
+        &mut self,
+        sheets: &Sheets<A>,
+        format: &Format<A>,
+        view: View,
+        out: &mut [u8],
+    ) -> usize
+        requires press { IsPress sheets.now format.now view self.old }
         requires some { 0 < self.old.copies.place.copies }
         requires room { 0 < length out.old }
-        ensures press { IsPress sheets.now stored.now view self.new }
-        ensures fields { self.new.painter.entries ≡ self.old.painter.entries }
+        ensures press { IsPress sheets.now format.now view self.new }
         ensures some { 0 < result }
         ensures fits { result ≤ length out.old }
-        ensures within { result ≤ length (left sheets.now stored.now view self.old) }
-        ensures bytes { out.new ≡ take result (left sheets.now stored.now view self.old)
+        ensures within { result ≤ length (left sheets.now format.now view self.old) }
+        ensures bytes { out.new ≡ take result (left sheets.now format.now view self.old)
             ++ drop result out.old }
-        ensures rest { left sheets.now stored.now view self.new
-            ≡ drop result (left sheets.now stored.now view self.old) }
+        ensures rest { left sheets.now format.now view self.new
+            ≡ drop result (left sheets.now format.now view self.old) }
         ensures ended { IsBetween self.new.copies.place →
-            IsBefore sheets.now stored.now view (bands_of view) self.new.painter }
+            IsBefore sheets.now format.now view (bands_of view) self.new.painter }
     {
-        self.prepare(sheets, stored, view);
+        self.prepare(sheets, format, view);
         let n = self.copies.put_rows(&self.band, out);
         if n > 0 {
             return n;
@@ -108,22 +111,27 @@ impl<A: Small> Press<A> {
     }
 
     /// Puts out the next bytes, as many as there are and room is for, and answers how many.
-    pub fn put(&mut self, sheets: &Sheets<A>, stored: &[u8], view: View, out: &mut [u8]) -> usize
-        requires { IsPress sheets.now stored.now view self.old }
-        ensures press { IsPress sheets.now stored.now view self.new }
-        ensures fields { self.new.painter.entries ≡ self.old.painter.entries }
-        ensures count { result ≡ min (length (left sheets.now stored.now view self.old)) (length out.old) }
-        ensures bytes { out.new ≡ take result (left sheets.now stored.now view self.old)
+    pub fn put(
+        &mut self,
+        sheets: &Sheets<A>,
+        format: &Format<A>,
+        view: View,
+        out: &mut [u8],
+    ) -> usize
+        requires { IsPress sheets.now format.now view self.old }
+        ensures press { IsPress sheets.now format.now view self.new }
+        ensures count { result ≡ min (length (left sheets.now format.now view self.old)) (length out.old) }
+        ensures bytes { out.new ≡ take result (left sheets.now format.now view self.old)
             ++ drop result out.old }
-        ensures rest { left sheets.now stored.now view self.new
-            ≡ drop result (left sheets.now stored.now view self.old) }
+        ensures rest { left sheets.now format.now view self.new
+            ≡ drop result (left sheets.now format.now view self.old) }
         ensures ended { 0 < result → IsBetween self.new.copies.place →
-            IsBefore sheets.now stored.now view (bands_of view) self.new.painter }
+            IsBefore sheets.now format.now view (bands_of view) self.new.painter }
         ensures idle { result ≡ 0 → self.new ≡ self.old }
     {
         let mut n = 0;
         while n < out.len() && self.copies.is_pending() {
-            n += self.put_line(sheets, stored, view, &mut out[n..]);
+            n += self.put_line(sheets, format, view, &mut out[n..]);
         }
         n
     }

@@ -12,6 +12,7 @@ pub mod Ends
 pub mod Rests
 pub mod Runs
 pub mod Growth
+pub mod Least
 pub mod Table
 pub mod Fronts
 pub mod Blanks

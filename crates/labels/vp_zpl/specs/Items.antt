@@ -1,5 +1,5 @@
 -- What each command gives, while it stands open and once it has ended.
-use Rattle.std.specs.Prelude.{ℕ, ◌==◌, Bool, true, false, not, ◌&&◌, ◌||◌, Option, Some, None, List, [], ◌∷◌, ◌++◌, take, map, filter, if◌then◌else◌}
+use Rattle.std.specs.Prelude.{ℕ, ◌+◌, ◌==◌, Bool, true, false, not, ◌&&◌, ◌||◌, Option, Some, None, List, [], ◌∷◌, ◌++◌, take, map, filter, if◌then◌else◌}
 use Prim.Native.Char.{code}
 use Rattle.vp_zpl.specs.declared.name.Kind.{Kind}
 use Rattle.vp_zpl.specs.declared.name.Kind.TheVariants as kinds
@@ -113,3 +113,13 @@ rests s = not (is_within_one (in_format (s.open_one ∷ s.before)) s.open_one)
 -- nothing is begun that more bytes have to end
 unfoldable pub at_rest : List ℕ → Bool
 at_rest bytes = rests (cut bytes)
+
+-- of how many bytes an item is at least: a command of the three of its name, and each byte of data of one
+abbrev pub least_by : Item → ℕ
+least_by (Given _ _ _) = 3
+least_by (Data _) = 1
+
+-- and items
+abbrev pub least_bytes : List Item → ℕ
+least_bytes [] = 0
+least_bytes (item ∷ items) = least_by item + least_bytes items

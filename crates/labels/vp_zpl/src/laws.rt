@@ -1,16 +1,21 @@
 //! What the definitions of `specs/` say of every stream, whichever program reads it.
-ghost use Rattle.std.specs.Prelude.{◌≡◌, ◌++◌, ◌∷◌, [], ℕ, List, IsTrue, true, false, length, ◌<◌, if◌then◌else◌, ◌==◌};
+ghost use Rattle.std.specs.Prelude.{◌≡◌, ◌++◌, ◌∷◌, [], ℕ, List, IsTrue, true, false, length, ◌<◌, ◌≤◌, if◌then◌else◌, ◌==◌};
 ghost use Rattle.std.specs.List.{AllByRecursion};
 ghost use Rattle.vp_zpl.specs.declared.name.Kind.TheVariants as kinds;
 ghost use Rattle.vp_zpl.specs.declared.name.Plain.TheVariants as plain;
 ghost use Rattle.vp_zpl.specs.Spelling.{is_line_end, capital, known, undecided, decoded, parameters, behind_commas};
 ghost use Rattle.vp_zpl.specs.Commands.{cut, wants_binary, kind_named, is_whole, is_b, head, count_of};
-ghost use Rattle.vp_zpl.specs.Items.{Item, items, picture, at_rest};
+ghost use Rattle.vp_zpl.specs.Items.{Item, items, least_bytes, picture, at_rest};
 ghost use Rattle.vp_zpl.specs.Laws.{rows, kind_in, IsCommand, IsCut, cut_of};
 
 /// What is given stays given.
 pub fn only_more()
     ensures { (bytes more : List ℕ) → (added : List Item) × (items (bytes ++ more) ≡ items bytes ++ added) }
+{}
+
+/// Items are of no more bytes than were read: a command of three or more, each byte of data of one or more.
+pub fn items_take_bytes()
+    ensures { (bytes : List ℕ) → least_bytes (items bytes) ≤ length bytes }
 {}
 
 /// A stream is one list of commands with their data, and what is spelled behind

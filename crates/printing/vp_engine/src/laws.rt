@@ -1,5 +1,5 @@
 //! What the definitions of `specs/` say of every stream, whatever it is written in.
-ghost use Rattle.std.specs.Prelude.{◌≡◌, ◌<◌, ◌≤◌, ◌++◌, ℕ, List, flat_map, length, take, Option, Some, Err};
+ghost use Rattle.std.specs.Prelude.{◌≡◌, ◌<◌, ◌≤◌, ◌+◌, ◌*◌, ◌++◌, ℕ, List, flat_map, length, take, Option, Some, Err};
 ghost use Rattle.vp_dots.specs.declared.fault.Fault.{Fault};
 ghost use Rattle.vp_dots.specs.Images.{Image, pbm};
 ghost use Rattle.vp_join.specs.Passes.{IsExact, IsOfCalls};
@@ -7,14 +7,18 @@ ghost use Rattle.vp_join.specs.Strips.{IsJoined, greatest, height_together};
 ghost use Rattle.vp_join.specs.declared.fault.JoinFault.{JoinFault};
 ghost use Rattle.vp_glyph.specs.Sheets.{Sheets};
 ghost use Rattle.vp_label.specs.Images.{AreOfLabels};
+ghost use Rattle.vp_label.specs.Work.{most_work as most_painting};
+ghost use Rattle.vp_page.specs.declared.page.TheConstants.{PAGE_ROWS};
 ghost use Rattle.vp_receipt.specs.Images.{AreAcross};
+ghost use Rattle.vp_receipt.specs.Work.{most_work};
+ghost use Rattle.vp_receipt_settings.specs.declared.text.TheConstants.{LINE_ROWS};
 ghost use Rattle.vp_receipt_settings.specs.Setup.{Setup as ReceiptSetup, across};
 ghost use Rattle.vp_language.specs.declared.language.Language.{Language};
 ghost use Rattle.vp_engine.specs.Bytes.{IsPrefix};
 ghost use Rattle.vp_engine.specs.Images.{receipts, IsPrinted, images_of, begun_of, labels, images_of_labels};
 ghost use Rattle.vp_engine.specs.Listing.{lines};
 ghost use Rattle.vp_engine.specs.Offsets.{offset_of, placed_line};
-ghost use Rattle.vp_engine.specs.Paper.{Reads, IsOfByte, IsOfEnd, before_fault, ending, fault, paper};
+ghost use Rattle.vp_engine.specs.Paper.{Reads, IsOfByte, IsOfEnd, before_fault, ending, fault, history, paper};
 ghost use Rattle.vp_engine.specs.Setups.{Setup, reading, rules_of};
 ghost use Rattle.vp_engine.specs.Setups.{line, Listing, ListingWithOffsets};
 
@@ -125,4 +129,20 @@ pub fn a_label_is_images()
     ensures sizes { (sheets : Sheets) (bytes : List ℕ) → AreOfLabels (images_of_labels sheets bytes) }
 {
     vp_label::laws::what_is_printed_is_images();
+}
+
+/// What `Printer::work` is at most, by the bytes that the printer took: on a receipt's page the rows of a
+/// page, and for each byte those of a line and of a page; of the label that was printed last, for each byte
+/// 418 in each of 250 bands.
+pub fn work_is_by_bytes()
+    ensures receipts { (setup : ReceiptSetup) (bytes : List ℕ) →
+        most_work setup (history (receipts setup) (before_fault (receipts setup) bytes))
+        ≤ PAGE_ROWS + (LINE_ROWS + PAGE_ROWS) * length bytes }
+    ensures labels { (sheets : Sheets) (bytes : List ℕ) →
+        most_painting sheets (history (labels sheets) (before_fault (labels sheets) bytes))
+        ≤ 418 * (250 * length bytes) }
+{
+    items_grow();
+    vp_receipt::bytes_cost_at_most();
+    vp_label::laws::bytes_cost_at_most();
 }

@@ -185,7 +185,7 @@ impl<A: Small + Copy> Machine<A> {
     }
 }
 
-impl Machine {
+impl<A: Small> Machine<A> {
     /// One that lists a language, with the places of its items or without, and took nothing.
     pub fn listing(language: Language, with_offsets: bool) -> Self
         ensures stands { MachineStands (machine_of result) (ListingIn with_offsets
@@ -218,9 +218,7 @@ impl Machine {
             lines: Lines::new(with_offsets),
         }
     }
-}
 
-impl<A: Small> Machine<A> {
     /// Takes a byte where nothing is pending, and answers the fault that it makes.
     pub fn take(&mut self, byte: u8) -> Result<(), Fault>
         requires { pending_of (machine_of self.old) ≡ [] }

@@ -6,7 +6,7 @@ ghost use Rattle.vp_engine.specs.Machines.{machine_of, MachineStands, TookNothin
 ghost use Rattle.vp_engine.specs.Memory.{memory_held, memory_of};
 ghost use Rattle.vp_engine.specs.Paper.{IsOfByte, history, before_fault, fault, fault_at_end, held_after};
 ghost use Rattle.vp_engine.specs.Setups.{Setup, setup_of, rules_of, lines_of};
-ghost use Rattle.vp_engine.specs.Setups.{Listing, ListingWithOffsets};
+ghost use Rattle.vp_engine.specs.Setups.{Listing, ListingIn, ListingWithOffsets, commands_of};
 ghost use Rattle.vp_engine.specs.Stands.{Stands};
 ghost use Rattle.vp_engine.specs.Work.{work_told, IsWorkAfter};
 
@@ -80,18 +80,26 @@ impl Printer {
     pub fn listing(language: Language) -> Self
         ensures { Stands (Listing language) result [] [] }
     {
-        Printer::over(Machine::listing(language, false))
+        Printer::listed(language, false)
     }
 
     /// One that prints a line for each item of a language, behind its place, and took and put out nothing.
     pub fn listing_with_offsets(language: Language) -> Self
         ensures { Stands (ListingWithOffsets language) result [] [] }
     {
-        Printer::over(Machine::listing(language, true))
+        Printer::listed(language, true)
     }
 }
 
 impl<A: Small> Printer<A> {
+    /// One that prints a line for each item of a language, behind its place or without, and took and put out
+    /// nothing. It takes no memory of the allocator that its type names.
+    pub fn listed(language: Language, with_offsets: bool) -> Self
+        ensures { Stands (ListingIn with_offsets (commands_of language)) result [] [] }
+    {
+        Printer::over(Machine::listing(language, with_offsets))
+    }
+
     /// One over a machine that took nothing.
     fn over(machine: Machine<A>) -> Self
         requires { TookNothing (machine_of machine) }

@@ -1,4 +1,1 @@
 pub mod Handles
-pub mod Numbers
-pub mod Sheets
-pub mod Listings

@@ -1,7 +1,7 @@
 //! A printer behind a pointer that C holds.
 ghost use Rattle.std.specs.Prelude.{◌≡◌, Option, None, Some, MatchOption};
 ghost use Rattle.std.specs.Coded.{coded_option};
-ghost use Rattle.vp_c.specs.Handles.{holds};
+ghost use Rattle.vp_pointed.specs.Pointers.{holds};
 ghost use Rattle.vp_engine.specs.Stands.{Engine};
 ghost use Rattle.vp_c.specs.contracts.owned.Owned.{the_row};
 
@@ -10,6 +10,7 @@ use std::alloc::Global;
 use std::marker::{Model, Send};
 use std::mem::replace;
 use std::ptr::null_mut;
+use vp_pointed::Pointed;
 
 /// Null, or the pointer to a printer, which it owns.
 #[repr(C)]
@@ -20,7 +21,7 @@ pub struct Handle {
 }
 
 impl Model for Handle {
-    ghost also_owns = { λ h. holds h.at h.printer };
+    ghost also_owns = { λ h. holds the_row h.at h.printer };
 }
 
 /// Any thread may use it, one at a time: a printer is data and blocks of the C library's heap.
@@ -34,23 +35,32 @@ impl Handle {
         Handle { at: null_mut() }
     }
 
-    /// A printer's.
-    pub fn of(printer: Box<Owned, Global>) -> Self
+    /// A printer's pointer.
+    fn holding(printer: Pointed<Owned>) -> Self
         ensures { result.printer ≡ Some printer.value }
     {
-        let at = Box::into_raw(printer);
+        let Pointed { at } = printer;
         Handle { at: at as *mut u8 }
     }
 
-    /// The printer, where there is one.
-    fn into_box(self, alloc: Global) -> Option<Box<Owned, Global>>
-        ensures { MatchOption result (self.printer ≡ None) (λ b. self.printer ≡ Some b.value) }
+    /// The pointer, where there is a printer.
+    fn into_pointed(self) -> Option<Pointed<Owned>>
+        ensures { MatchOption result (self.printer ≡ None) (λ p. self.printer ≡ Some p.value) }
     {
         let Handle { at } = self;
         if at.is_null() {
             return None;
         }
-        Some(unsafe { Box::from_raw(alloc, at as *mut Owned) })
+        Some(Pointed {
+            at: at as *mut Owned,
+        })
+    }
+
+    /// A printer's.
+    pub fn of(printer: Box<Owned, Global>) -> Self
+        ensures { result.printer ≡ Some printer.value }
+    {
+        Handle::holding(Pointed::of(printer))
     }
 
     /// Takes the printer out, where there is one, and leaves null.
@@ -59,6 +69,9 @@ impl Handle {
             (λ b. self.old.printer ≡ Some b.value) }
         ensures left { self.new.printer ≡ None }
     {
-        replace(self, Handle::none()).into_box(alloc)
+        match replace(self, Handle::none()).into_pointed() {
+            Some(printer) => Some(printer.into_box(alloc)),
+            None => None,
+        }
     }
 }

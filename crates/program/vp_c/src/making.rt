@@ -1,64 +1,33 @@
 //! Printers are made, and freed.
-ghost use Rattle.std.specs.Prelude.{◌≡◌, ◌≤◌, ◌⊎◌, None, Err, IfOk, IfErr, IsOk, alloc_error};
-ghost use Rattle.vp_c.specs.Making.{language_of, sheet_in, IsMade, IsRefused, IsAnswered};
+ghost use Rattle.std.specs.Prelude.{◌≡◌, None, IfOk, IfErr};
+ghost use Rattle.vp_calls.specs.Making.{IsMade, IsRefused, IsAnswered, IsListed};
+ghost use Rattle.vp_calls.specs.declared.answer.Refusal.TheVariants as refusal;
 
-use crate::answer::{OK, Refusal};
 use crate::handle::Handle;
 use crate::owned::Owned;
 use std::alloc::Global;
-use vp_engine::{Language, Printer};
-use vp_glyph::{Sheet, SheetError, Sheets};
+use vp_calls::{NO_LANGUAGE, NO_MEMORY, OK, Refusal, listed, made};
+use vp_engine::Printer;
 
-/// The language of a number.
-pub fn language_of(number: u32) -> Option<Language>
-    ensures { result ≡ language_of number }
+/// The printer in a block of its own.
+fn boxed(alloc: Global, printer: Printer) -> Result<Box<Owned, Global>, Refusal>
+    ensures boxed { IfOk result (λ it. it.value ≡ printer) }
+    ensures refused { IfErr result (λ why. why ≡ refusal.Memory) }
 {
-    match number {
-        0 => Some(Language::Receipt),
-        1 => Some(Language::Receipt58),
-        2 => Some(Language::Label),
-        _ => None,
-    }
-}
-
-/// The sheet of these bytes with cells of w by h dots; none of no bytes.
-fn sheet_in(alloc: Global, bytes: &[u8], w: u32, h: u32) -> Result<Option<Sheet>, SheetError>
-    requires w { w ≤ 64 }
-    requires h { h ≤ 64 }
-    ensures { (result ≡ sheet_in bytes.now w h)
-        ⊎ ((result ≡ Err (SheetError.Memory alloc_error)) × IsOk (sheet_in bytes.now w h)) }
-{
-    if bytes.is_empty() {
-        return Ok(None);
-    }
-    match Sheet::read(alloc, bytes, w, h) {
-        Ok(sheet) => Ok(Some(sheet)),
-        Err(error) => Err(error),
-    }
-}
-
-/// The printer of a language's number with sheets of these bytes, or why there is none.
-fn made(alloc: Global, number: u32, a: &[u8], b: &[u8]) -> Result<Box<Owned, Global>, Refusal>
-    ensures made { IfOk result (λ it. IsMade number a.now b.now it.value) }
-    ensures refused { IfErr result (λ why. IsRefused number a.now b.now why) }
-{
-    let Some(language) = language_of(number) else {
-        return Err(Refusal::Language);
-    };
-    let a = match sheet_in(alloc, a, 12, 24) {
-        Ok(sheet) => sheet,
-        Err(error) => return Err(Refusal::SheetA(error)),
-    };
-    let b = match sheet_in(alloc, b, 9, 17) {
-        Ok(sheet) => sheet,
-        Err(error) => return Err(Refusal::SheetB(error)),
-    };
-    let Ok(printer) = Printer::new(alloc, language, Sheets { a, b }) else {
-        return Err(Refusal::Memory);
-    };
     match Box::new(alloc, Owned::of(printer)) {
         Ok(it) => Ok(it),
         Err(_) => Err(Refusal::Memory),
+    }
+}
+
+/// A printer with sheets of these bytes in a block of its own.
+fn made_of(alloc: Global, language: u32, a: &[u8], b: &[u8]) -> Result<Box<Owned, Global>, Refusal>
+    ensures made { IfOk result (λ it. IsMade language a.now b.now it.value) }
+    ensures refused { IfErr result (λ why. IsRefused language a.now b.now why) }
+{
+    match made(alloc, language, a, b) {
+        Ok(printer) => boxed(alloc, printer),
+        Err(why) => Err(why),
     }
 }
 
@@ -73,7 +42,7 @@ pub extern "C" fn vp_new(
 ) -> u32
     ensures { IsAnswered language font_a.now font_b.now printer.new.printer result }
 {
-    match made(alloc, language, font_a, font_b) {
+    match made_of(alloc, language, font_a, font_b) {
         Ok(it) => {
             *printer = Handle::of(it);
             OK
@@ -81,6 +50,32 @@ pub extern "C" fn vp_new(
         Err(why) => {
             *printer = Handle::none();
             why.number()
+        }
+    }
+}
+
+/// Makes a printer of a line for each item, behind its place where `with_offsets` isn't 0.
+#[unsafe(no_mangle)]
+pub extern "C" fn vp_new_listing(
+    alloc: Global,
+    language: u32,
+    with_offsets: u32,
+    printer: &mut Handle,
+) -> u32
+    ensures { IsListed language with_offsets printer.new.printer result }
+{
+    let Some(listing) = listed(language, with_offsets) else {
+        *printer = Handle::none();
+        return NO_LANGUAGE;
+    };
+    match boxed(alloc, listing) {
+        Ok(it) => {
+            *printer = Handle::of(it);
+            OK
+        }
+        Err(_) => {
+            *printer = Handle::none();
+            NO_MEMORY
         }
     }
 }

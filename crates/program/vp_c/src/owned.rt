@@ -1,13 +1,12 @@
 //! The printer that a handle owns.
 ghost use Rattle.std.specs.Prelude.{◌≡◌};
-ghost use Rattle.vp_c.specs.Steps.{IsStep};
+ghost use Rattle.vp_calls.specs.Steps.{IsStep};
 
-use crate::progress::Progress;
 use std::marker::Model;
+use vp_calls::{Progress, step};
 use vp_engine::Printer;
 
-/// A printer over the C library's heap. The type has no parameters, since it is proved by hand, of one type,
-/// that a box of it is given back.
+/// A printer over the C library's heap.
 pub struct Owned {
     printer: Printer,
 }
@@ -25,13 +24,6 @@ impl Model for Owned {
     ghost Value = { Engine };
 
     ghost view = { λ s. s.printer };
-}
-
-/// One step of a printer.
-fn step(printer: &mut Printer, input: &[u8], output: &mut [u8]) -> Progress
-    ensures { IsStep printer.old printer.new input.now output.old output.new result }
-{
-    Progress::of(printer.step(input, output))
 }
 
 impl Owned {

@@ -1,15 +1,14 @@
 //! Printers are stepped and asked.
 ghost use Rattle.std.specs.Prelude.{◌≡◌};
-ghost use Rattle.vp_c.specs.Printing.{IsEnd, IsFinished, IsPendingAnswer, IsHeld, IsMemory};
-ghost use Rattle.vp_c.specs.Steps.{IsStepOf};
+ghost use Rattle.vp_calls.specs.Printing.{IsFinished, IsPendingAnswer, IsHeld, IsMemory};
+ghost use Rattle.vp_calls.specs.Steps.{IsStepOf};
 
-use crate::answer::{NO_PRINTER, OK, PENDING};
-use crate::fault::{FaultOfC, NO_FAULT};
 use crate::handle::Handle;
-use crate::held::{HeldNow, NOTHING_HELD};
-use crate::progress::{NOTHING, Progress};
 use std::alloc::Global;
-use vp_engine::Printer;
+use vp_calls::{
+    FaultOfC, HeldNow, NO_FAULT, NO_PRINTER, NOTHING, NOTHING_HELD, OK, Progress, ending, held_now,
+    pending,
+};
 
 /// Takes input and puts out paper, until the input ends, the output is full or a fault comes.
 #[unsafe(no_mangle)]
@@ -30,19 +29,6 @@ pub extern "C" fn vp_step(
     *done = it.step(input, output);
     *printer = Handle::of(it);
     OK
-}
-
-/// Whether paper is still to be put out, and, where none is, the fault of ending here.
-fn ending(printer: &Printer) -> (u32, FaultOfC)
-    ensures { IsEnd printer.now result.1 result.0 }
-{
-    if printer.pending() {
-        return (PENDING, NO_FAULT);
-    }
-    match printer.finish() {
-        Ok(()) => (OK, NO_FAULT),
-        Err(fault) => (OK, FaultOfC::of(fault)),
-    }
 }
 
 /// Tells the fault that stopped a printer, or that of ending here, where nothing is pending.
@@ -70,7 +56,7 @@ pub extern "C" fn vp_pending(alloc: Global, printer: &mut Handle) -> u32
     let Some(it) = printer.take(alloc) else {
         return NO_PRINTER;
     };
-    let answer = if it.printer().pending() { PENDING } else { OK };
+    let answer = pending(it.printer());
     *printer = Handle::of(it);
     answer
 }
@@ -85,7 +71,7 @@ pub extern "C" fn vp_held(alloc: Global, printer: &mut Handle, held: &mut HeldNo
         *held = NOTHING_HELD;
         return NO_PRINTER;
     };
-    *held = HeldNow::of(it.printer().held());
+    *held = held_now(it.printer());
     *printer = Handle::of(it);
     OK
 }

@@ -12,6 +12,7 @@ pub mod Symbols
 pub mod QrData
 pub mod Rests
 pub mod Growth
+pub mod AtMostOne
 pub mod Named
 pub mod Listed
 pub mod QrListed

@@ -3,6 +3,7 @@ use Rattle.std.specs.Prelude.{◌≡◌, ℕ, ◌+◌, ◌*◌, ◌<◌, ◌≤�
 use Rattle.std.specs.Prelude.{Option, Some, None, Result, Ok, Err, List, [], ◌∷◌, ◌++◌, length, take, drop}
 use Rattle.std.specs.Prelude.{map, nat_lt, slice_index, option_to_list, if◌then◌else◌}
 use Rattle.std.specs.List.{list_any}
+use Rattle.vp_esc.specs.declared.item.TheConstants.{DATA_BYTES}
 use Rattle.vp_esc.specs.declared.item.EscItem.{EscItem}
 use Rattle.vp_esc.specs.declared.item.EscItem.TheVariants as items
 use Rattle.vp_dots.specs.declared.fault.Fault.{Fault}
@@ -150,8 +151,8 @@ pub record InSymbolToZero (r : EscReader) (kind : ℕ) (more : Bool) (rest : Lis
   pub begun : Begun r.lead r.name commands.Symbol (kind ∷ codes) rest
   pub to_zero : is_kind_to_zero kind ≡ true
   pub no_zero : list_any (λ b. b == 0) codes ≡ false
-  pub kept : r.kept.items ≡ take 255 codes
-  pub beyond : more ≡ nat_lt 255 (length codes)
+  pub kept : r.kept.items ≡ take DATA_BYTES codes
+  pub beyond : more ≡ nat_lt DATA_BYTES (length codes)
 
 pub record InSymbolData (r : EscReader) (kind left : ℕ) (rest : List ℕ) : Type 0 where
   pub count : ℕ
@@ -167,7 +168,7 @@ pub record InQr (r : EscReader) (count left : ℕ) (rest : List ℕ) : Type 0 wh
   pub left_is : HasLeft commands.Function args left
   pub is_qr : slice_index args 0 ≡ 0x6B
   pub count_is : count ≡ word_at args 1
-  pub kept : r.kept.items ≡ take 255 (drop 3 args)
+  pub kept : r.kept.items ≡ take DATA_BYTES (drop 3 args)
   pub not_stored : begins_store (drop 3 args) ≡ false
 
 -- the rest that a reader is in, by its phase

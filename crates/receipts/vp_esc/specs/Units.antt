@@ -4,6 +4,7 @@ use Rattle.std.specs.Prelude.{is_some, is_none, List, [], ◌∷◌, length, tak
 use Rattle.std.specs.Prelude.{if◌then◌else◌}
 use Rattle.std.specs.List.{list_any}
 use Rattle.std.specs.Int.{w16, cast_signed}
+use Rattle.vp_esc.specs.declared.item.TheConstants.{DATA_BYTES}
 use Rattle.vp_esc.specs.declared.item.EscItem.{EscItem}
 use Rattle.vp_esc.specs.declared.item.EscItem.TheVariants as items
 use Rattle.vp_dots.specs.declared.fault.Fault.{Fault}
@@ -144,9 +145,9 @@ symbol_data args =
 abbrev pub symbol_with : ℕ → List ℕ → Bool → EscItem
 symbol_with m kept more = items.Symbol (spelled m (Values.bar_code_of m)) (record { items = kept }) more
 
--- the first 255 bytes, and whether there are more
+-- the first bytes, as many as are kept, and whether there are more
 abbrev pub symbol_unit : ℕ → List ℕ → EscItem
-symbol_unit m bytes = symbol_with m (take 255 bytes) (nat_lt 255 (length bytes))
+symbol_unit m bytes = symbol_with m (take DATA_BYTES bytes) (nat_lt DATA_BYTES (length bytes))
 
 -- each three bytes are a column of 24 dots
 abbrev pub tall_columns : List ℕ → List EscItem

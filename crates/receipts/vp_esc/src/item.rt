@@ -3,6 +3,9 @@ use arrayvec::ArrayVec;
 use vp_bar_code::{BarCode, HriPosition};
 use vp_glyph::{Alignment, Font};
 
+/// The most bytes of data of GS k that are kept.
+pub const DATA_BYTES: usize = 255;
+
 /// A byte as it was sent, and what it stands for.
 #[derive(Clone, Copy)]
 pub struct Spelled<T> {
@@ -219,7 +222,7 @@ pub enum EscItem {
     /// The byte of the kind says whether a 0 ended them (up to 6) or their number was sent.
     Symbol {
         kind: Spelled<Option<BarCode>>,
-        data: ArrayVec<u8, 255>,
+        data: ArrayVec<u8, DATA_BYTES>,
         more: bool,
     },
     /// GS ( k, function 65.

@@ -1,5 +1,5 @@
 //! What the definitions of `specs/` say of every stream, whichever program reads it.
-ghost use Rattle.std.specs.Prelude.{◌≡◌, ◌<◌, ◌++◌, ◌∷◌, [], ℕ, false, List, None, Some, map};
+ghost use Rattle.std.specs.Prelude.{◌≡◌, ◌<◌, ◌≤◌, ◌+◌, ◌++◌, ◌∷◌, [], ℕ, false, length, List, None, Some, map};
 ghost use Rattle.std.specs.List.{AllByRecursion};
 ghost use Rattle.vp_dots.specs.declared.fault.Fault.{Fault};
 ghost use Rattle.vp_esc.specs.Split.{split, items, fault_of};
@@ -35,6 +35,14 @@ pub fn unit_first()
 pub fn only_more()
     ensures { (bytes more : List ℕ) →
         (added : List EscItem) × (items (bytes ++ more) ≡ items bytes ++ added) }
+{}
+
+/// A byte gives at most one item, so that bytes give no more items than they are.
+pub fn a_byte_gives_at_most_one()
+    ensures byte { (bytes : List ℕ) (byte : ℕ) →
+        length (items (bytes ++ byte ∷ [])) ≤ length (items bytes) + 1 }
+    ensures bytes { (bytes more : List ℕ) →
+        length (items (bytes ++ more)) ≤ length (items bytes) + length more }
 {}
 
 /// Each row of the table, with all its bytes, is a unit.

@@ -1,8 +1,9 @@
 //! The listing: a line for each item.
-ghost use Rattle.std.specs.Prelude.{◌≡◌, ◌≤◌, ◌<◌, ◌+◌, ◌*◌, ◌/◌, ◌%◌, ◌++◌, ◌∷◌, [], length, codes};
+ghost use Rattle.std.specs.Prelude.{◌≡◌, false, ◌≤◌, ◌<◌, ◌+◌, ◌*◌, ◌/◌, ◌%◌, ◌++◌, ◌∷◌, [], length, codes};
 ghost use Rattle.std.specs.Prelude.{option_to_list};
 ghost use Rattle.vp_dots.specs.Listing.{listed as listed_as};
-ghost use Rattle.vp_esc.specs.Lines.{line_of, esc_line_of, gs_line_of, lead_word, two_bytes, symbol_bytes};
+ghost use Rattle.vp_esc.specs.declared.item.TheConstants.{DATA_BYTES};
+ghost use Rattle.vp_esc.specs.Lines.{line_of, has_word, is_of_esc, lead_word, two_bytes, symbol_bytes};
 ghost use Rattle.vp_esc.specs.Lines.{column_byte as column_byte_as, model_byte as model_byte_as};
 ghost use Rattle.vp_esc.specs.Lines.{level_byte as level_byte_as};
 
@@ -50,8 +51,9 @@ impl EscItem {
 
     /// Writes the line of a command of ESC, or else of GS.
     fn write_esc(&self, line: &mut ArrayVec<u8, 800>)
-        requires { line.old.items ≡ [] }
-        ensures { line.new.items ≡ esc_line_of self.now }
+        requires empty { line.old.items ≡ [] }
+        requires no_word { has_word self.now ≡ false }
+        ensures { line.new.items ≡ line_of self.now }
     {
         match *self {
             EscItem::RightSpacing(n) => esc(0x20, n, line),
@@ -86,10 +88,12 @@ impl EscItem {
         }
     }
 
-    /// Writes the line of a command of GS, nothing of any other item.
+    /// Writes the line of a command of GS, which is all that is left.
     fn write_gs(&self, line: &mut ArrayVec<u8, 800>)
-        requires { line.old.items ≡ [] }
-        ensures { line.new.items ≡ gs_line_of self.now }
+        requires empty { line.old.items ≡ [] }
+        requires no_word { has_word self.now ≡ false }
+        requires not_esc { is_of_esc self.now ≡ false }
+        ensures { line.new.items ≡ line_of self.now }
     {
         match *self {
             EscItem::Magnify(Spelled { byte, .. }) => gs(0x21, byte, line),
@@ -118,7 +122,7 @@ impl EscItem {
                 &[],
                 line,
             ),
-            _ => {}
+            _ => unreachable!(),
         }
     }
 }
@@ -242,7 +246,7 @@ fn tab_stops(stops: &[u8], end: Option<u8>, line: &mut ArrayVec<u8, 800>)
 /// GS k
 fn symbol(m: u8, bytes: &[u8], line: &mut ArrayVec<u8, 800>)
     requires empty { line.old.items ≡ [] }
-    requires short { length bytes.now ≤ 255 }
+    requires short { length bytes.now ≤ DATA_BYTES }
     ensures { line.new.items ≡ listed_as (codes "gs") (symbol_bytes m bytes.now) }
 {
     if is_kind_to_zero(m) {

@@ -17,7 +17,7 @@ ghost use Rattle.vp_esc.specs.Units.{single_item, symbol_with};
 
 use crate::command::{Command, unused};
 use crate::event::Event;
-use crate::item::{ColumnMode, EscItem, Lead, RasterScale};
+use crate::item::{ColumnMode, DATA_BYTES, EscItem, Lead, RasterScale};
 use crate::qr::{begins_store, ignored, qr_given};
 use crate::value::{bar_code_of, column_mode_of, is_kind_to_zero, scale_of, spelled, word};
 use arrayvec::ArrayVec;
@@ -64,7 +64,7 @@ pub struct EscReader {
     lead: Lead,
     name: u8,
     /// Its arguments, or its data as far as they are kept.
-    kept: ArrayVec<u8, 255>,
+    kept: ArrayVec<u8, DATA_BYTES>,
     /// The item that was given last.
     item: EscItem,
 }
@@ -633,9 +633,9 @@ fn byte_count(bytes: u16, rows: u16) -> u32
     bytes as u32 * rows as u32
 }
 
-/// Keeps a byte, up to 255 of them.
-fn keep(kept: &mut ArrayVec<u8, 255>, byte: u8)
-    ensures { kept.new.items ≡ take 255 (kept.old.items ++ byte ∷ []) }
+/// Keeps a byte, as long as there is room.
+fn keep(kept: &mut ArrayVec<u8, DATA_BYTES>, byte: u8)
+    ensures { kept.new.items ≡ take DATA_BYTES (kept.old.items ++ byte ∷ []) }
 {
     if kept.is_full() {
         return;

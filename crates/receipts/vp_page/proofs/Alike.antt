@@ -1,12 +1,13 @@
 -- Lines that are alike along some dots, and the rows of the page that are.
-use Rattle.std.proofs.Common.{bit_or, ◌≡◌, ℕ, ◌+◌, ◌-◌, ◌*◌, ◌/◌, ◌%◌, ◌<◌, ◌≤◌, Bool, true, false, not, cond, eqb, ltb, ◌&&◌, ◌||◌, refl, sym, ap, ◌∙◌, arith, List, [], length, get_or, replicate, bit_and}
+use Rattle.std.proofs.Common.{inl, inr, bit_or, ◌≡◌, ℕ, ◌+◌, ◌-◌, ◌*◌, ◌/◌, ◌%◌, ◌<◌, ◌≤◌, Bool, true, false, not, cond, eqb, ltb, leb, ◌&&◌, ◌||◌, refl, sym, ap, ◌∙◌, arith, List, [], length, get_or, replicate, bit_and}
 use Rattle.std.specs.Int.RustNames.{bit_xor}
 use Rattle.std.specs.Int.{bit_at}
 use lib.Lanes.{zip2, chunk, put_chunk}
 use Rattle.std.proofs.lemmas.Simd.{get_or-zip2, get_or-chunk, length-zip2, length-chunk}
 use Rattle.std.proofs.lemmas.Bool.Decides.{nat_tests}
+use Rattle.std.proofs.lemmas.Nat.Bits.{bit_at-zero}
 use Rattle.std.proofs.lemmas.List.{get_or-replicate, length-replicate}
-use Rattle.std.proofs.lemmas.Bool.{lt-ltb, le-leb, true≢false}
+use Rattle.std.proofs.lemmas.Bool.{cases_lt, lt-ltb, le-ltb, lt-leb, le-leb, true≢false}
 use Rattle.vp_dots.specs.Dots.{bit, dot, span}
 use Rattle.vp_dots.specs.Words.{word_dot}
 use Rattle.vp_dots.specs.Painting.{Painted}
@@ -14,10 +15,14 @@ use Rattle.vp_dots.specs.declared.Op.TheVariants.{Black, White}
 use Rattle.vp_dots.proofs.Bits.{bit_of_or, bit_of_xor}
 use Rattle.vp_dots.proofs.Blocks.{painted_block}
 use Rattle.vp_dots.proofs.Columns.{white_dot}
+use Rattle.vp_dots.proofs.Paints.{painted_same}
 use Rattle.vp_dots.proofs.Rows.{dot_at}
 use Rattle.vp_dots.proofs.Spans.{bit_of_and}
 use Rattle.vp_dots.proofs.Swaps.{every_at}
 use Rattle.vp_dots.proofs.Words.{and_true}
+use Rattle.vp_page.proofs.Blank.{dot_white}
+use Rattle.vp_page.proofs.Squares.{no_line}
+use Rattle.vp_page.proofs.Whites.{and_no}
 use Rattle.vp_page.specs.Areas.{holds}
 use Rattle.vp_page.specs.Lines.{line_dot}
 use Rattle.vp_page.specs.declared.area.Area.{Area}
@@ -135,3 +140,62 @@ pub wiped_dot : (a : Area) (from to x y : ℕ) (k : Bool) → k ≡ not (span a.
     → not k ≡ (span from to y && holds a x y)
 wiped_dot a from to x y k e p q r s = rw (le-leb from y p, lt-ltb y to q, le-leb a.y y r, lt-ltb y (a.y + a.dy) s)
     (ap not e ∙ not_not (span a.x (a.x + a.dx) x) ∙ sym (and_true (span a.x (a.x + a.dx) x)))
+
+white_lane : (j k : ℕ) → j < 64 → bit (get_or (replicate 64 0) j 0) k ≡ false
+unfolding bit
+white_lane j k m = rw (get_or-replicate {A = ℕ} 64 j 0 0 m) (ap (λ n. eqb n 1) (bit_at-zero k))
+
+and_all : (b : Bool) → (b && true) ≡ b
+and_all true = refl
+and_all false = refl
+
+-- 64 white bytes
+pub white_block : (i : ℕ) (row : List ℕ) → i + 64 ≤ length row → Painted White (λ d. span i (i + 64) (d / 8)) row (put_chunk i row (replicate 64 0))
+white_block i row room = painted_same White (λ d. span i (i + 64) (d / 8) && true) (λ d. span i (i + 64) (d / 8)) row _ (λ d l. and_all (span i (i + 64) (d / 8)))
+    (painted_block White (λ d. true) i 64 row (replicate 64 0) (length-replicate {A = ℕ} 64 0) room (λ j m k h. white_lane j k m))
+
+-- the first eight bytes, where some dots are kept, and those behind them, where none is
+pub first_kept : (d : ℕ) (k : Bool) → (64 ≤ d → k ≡ false) → d < 576 → not k ≡ ((span 0 (0 + 8) (d / 8) && not k) || span 8 (8 + 64) (d / 8))
+first_kept d true e h = elim (cases_lt d 64) [
+  | inl l ↦ grind (arith, nat_tests)
+  | inr g ↦ absurd (true≢false (e g))
+]
+first_kept d false e h = grind (arith, nat_tests)
+
+pub first_apart : (d : ℕ) (b : Bool) → ((span 0 (0 + 8) (d / 8) && b) && span 8 (8 + 64) (d / 8)) ≡ false
+first_apart d true = grind (arith, nat_tests)
+first_apart d false = grind (arith, nat_tests)
+
+-- what is kept of a dot, and what is not unlike a black one
+pub kept_both : (a b : Bool) → cond (not a) false b ≡ true → (a ≡ true) × (b ≡ true)
+kept_both true b e = (refl, e)
+kept_both false b e = cc
+
+pub not_white : (b : Bool) → not b ≡ false → b ≡ true
+not_white true e = refl
+not_white false e = cc
+
+-- a dot of the longest line stands on one of its bytes
+pub within_all : (u : ℕ) (b : Bool) → u < 1664 → (span 0 (0 + 16 * 13) (u / 8) && b) ≡ b
+within_all u true h = grind (arith, nat_tests)
+within_all u false h = grind (arith, nat_tests)
+
+-- a stretch of a white row that is made black, where all lines are
+module _ (lines : List (List ℕ)) (x at : ℕ) (small : x < 576) (black : (i : ℕ) → i < length lines → line_dot lines i at ≡ true) where
+  pub black_right : (left : ℕ) → cond (span left (left + length lines) x) true (dot (replicate {A = ℕ} 72 0) x) ≡ (leb left x && line_dot lines (x - left) at)
+  black_right left = elim (cases_lt x left) [
+    | inl l ↦ rw (lt-leb left x l) (dot_white 72 x (omega arith))
+    | inr g ↦ elim (cases_lt (x - left) (length lines)) [
+      | inl m ↦ rw (le-leb left x g, lt-ltb x (left + length lines) (omega arith)) (sym (black (x - left) m))
+      | inr n ↦ rw (le-leb left x g, le-ltb x (left + length lines) (omega arith)) (dot_white 72 x (omega arith) ∙ sym (no_line lines (x - left) at n))
+    ]
+  ]
+
+  pub black_left : (left right : ℕ) → left ≡ right - length lines → cond (span left right x) true (dot (replicate {A = ℕ} 72 0) x) ≡ (ltb x right && line_dot lines (right - 1 - x) at)
+  black_left left right e = elim (cases_lt x right) [
+    | inr g ↦ rw (le-ltb x right g, and_no (leb left x)) (dot_white 72 x (omega arith))
+    | inl l ↦ elim (cases_lt (right - 1 - x) (length lines)) [
+      | inl m ↦ rw (lt-ltb x right l, le-leb left x (omega (arith, e))) (sym (black (right - 1 - x) m))
+      | inr n ↦ rw (lt-ltb x right l, lt-leb left x (omega (arith, e))) (dot_white 72 x (omega arith) ∙ sym (no_line lines (right - 1 - x) at n))
+    ]
+  ]

@@ -6,10 +6,12 @@ pub mod Falling
 pub mod Lanes
 pub mod Lines
 pub mod Marks
+pub mod PageRows
 pub mod Pages
 pub mod Squares
 pub mod Stretches
 pub mod RowMarks
+pub mod RunRows
 pub mod Rows
 pub mod Whites
 pub mod Whole

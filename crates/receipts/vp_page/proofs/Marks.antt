@@ -77,6 +77,17 @@ module _ (lines : List (List ℕ)) (ink : ℕ → ℕ → Bool) (from width i u 
     | inr g ↦ rw (le-ltb u 1664 g) (sym (none_past (omega arith) (from + i)))
   ]
 
+-- ink past its width
+pub no_ink : (ink : ℕ → ℕ → Bool) (width u v : ℕ) → ((x y : ℕ) → ink x y ≡ true → x < width) → width ≤ u → ink u v ≡ false
+no_ink ink width u v outside h = false_from_ne_true (ink u v) (λ t. absurd (let l = outside u v t in omega arith))
+
+-- a line that shows a line of ink
+pub ink_run : (lines : List (List ℕ)) (f : ℕ → Bool) (width i u : ℕ) → width ≤ 1664 → dot (get_or lines i []) u ≡ f u → (width ≤ u → f u ≡ false) → line_dot lines i u ≡ f u
+ink_run lines f width i u h e white = elim (cases_lt u 1664) [
+  | inl l ↦ rw (lt-ltb u 1664 l) e
+  | inr g ↦ rw (le-ltb u 1664 g) (sym (white (omega arith)))
+]
+
 nowhere : (p q : Bool) → (p && (q && false)) ≡ false
 nowhere p q = ap (λ b. p && b) (and_false q) ∙ and_false p
 

@@ -8,8 +8,9 @@ use Rattle.vp_dots.specs.Places.{RowsPainted}
 use Rattle.vp_dots.specs.declared.Op.TheVariants.{Black, White}
 use Rattle.vp_page.specs.declared.area.Area.{Area}
 use Rattle.vp_page.specs.Areas.{holds, line_length, depth, along, down}
-use Rattle.vp_page.specs.Layers.{Layer, Laid, Wiped, Mark, mark_dot, page_dot, first_rows, lines_mark}
+use Rattle.vp_page.specs.Layers.{Layer, Laid, Wiped, Mark, mark_dot, page_dot, first_rows, lines_mark, times_mark}
 use Rattle.vp_page.specs.Lines.{line_dot}
+use Rattle.vp_page.specs.Runs.{between}
 use Rattle.vp_page.specs.Pages.{HasPage, Paged}
 use Rattle.vp_page.specs.Work.{rows_laid, laid_rows, most_wiped, least_wiped, MOST}
 use Rattle.vp_page.specs.Laws.{RowsMakeAnImage}
@@ -131,3 +132,49 @@ lines_more m k n lines layers page few short same has = same_page _ _ page (λ x
     more_rows (holds m.area x y) (line_dot lines (w - (m.top + k)) u) (m.dot u (w - m.top)) (page_dot layers x y) w m.top k n few
     (λ t g l. same u (w - (m.top + k)) (lies m.area m.direction x y (within m.area x y t)).in_line l ∙ ap (m.dot u) (omega arith))
     (λ g. no_line lines (w - (m.top + k)) u (omega arith))) (record { laid = omega arith; most = refl; least = refl }) has
+
+more_times : (h r p : Bool) (w top k n : ℕ) (f : ℕ → Bool) → (h ≡ true → (i : ℕ) → i < n → r ≡ f (k + i))
+    → (h && (leb (top + k) w && (ltb (w - (top + k)) n && r)) || (h && (leb top w && (ltb (w - top) k && f (w - top))) || p)) ≡ (h && (leb top w && (ltb (w - top) (k + n) && f (w - top))) || p)
+more_times false r p w top k n f e = refl
+more_times true r p w top k n f e = elim (cases_lt w (top + k)) [
+  | inl l ↦ grind (arith, nat_tests)
+  | inr g ↦ elim (cases_lt (w - (top + k)) n) [
+    | inl m ↦ (let at : r ≡ f (w - top) = e refl (w - (top + k)) m ∙ ap f (omega arith) in grind (arith, nat_tests))
+    | inr o ↦ grind (arith, nat_tests)
+  ]
+]
+
+-- a row that is laid many times below the first k rows of a mark
+pub times_more : (m : Mark) (k n v : ℕ) (row : ℕ → Bool) (layers : List Layer) (page : Paged) → v ≡ m.top + k
+    → ((u i : ℕ) → u < line_length m.area m.direction → i < n → row u ≡ m.dot u (k + i))
+    → HasPage (Laid (times_mark m.area m.direction v n row) ∷ Laid (first_rows k m) ∷ layers) page
+    → HasPage (Laid (first_rows (k + n) m) ∷ layers) page
+times_more m k n v row layers page place same has = same_page _ _ page (λ x y.
+    let u = along m.area m.direction x y in
+    let w = down m.area m.direction x y in
+    rw place (more_times (holds m.area x y) (row u) (page_dot layers x y) w m.top k n (m.dot u)
+    (λ t i l. same u i (lies m.area m.direction x y (within m.area x y t)).in_line l))) (record { laid = omega (arith, place); most = refl; least = refl }) has
+
+more_between : (h q b p : Bool) (w top k n : ℕ) → (h ≡ true → top + k ≤ w → w < top + k + n → q ≡ b)
+    → (h && (leb (top + k) w && (ltb (w - (top + k)) n && q)) || (h && (leb top w && (ltb (w - top) k && b)) || p)) ≡ (h && (leb top w && (ltb (w - top) (k + n) && b)) || p)
+more_between false q b p w top k n e = refl
+more_between true q b p w top k n e = elim (cases_lt w (top + k)) [
+  | inl l ↦ grind (arith, nat_tests)
+  | inr g ↦ elim (cases_lt w (top + k + n)) [
+    | inl m ↦ (let same : q ≡ b = e refl g m in grind (arith, nat_tests))
+    | inr o ↦ grind (arith, nat_tests)
+  ]
+]
+
+-- ink that is laid between two depths, below the first k rows of a mark
+pub between_more : (m : Mark) (k from to next : ℕ) (ink : ℕ → ℕ → Bool) (layers : List Layer) (page : Paged) → from ≡ m.top + k → next + m.top ≡ to → from ≤ to
+    → ((u w : ℕ) → u < line_length m.area m.direction → from ≤ w → w < to → ink u w ≡ m.dot u (w - m.top))
+    → HasPage (Laid (between m.area m.direction from to ink) ∷ Laid (first_rows k m) ∷ layers) page
+    → HasPage (Laid (first_rows next m) ∷ layers) page
+between_more m k from to next ink layers page begins ends some same has = same_page _ _ page (λ x y.
+    let u = along m.area m.direction x y in
+    let w = down m.area m.direction x y in
+    let n : k + (to - from) ≡ next = omega arith in
+    rw (← n, begins) (more_between (holds m.area x y) (ink u (m.top + k + (w - (m.top + k)))) (m.dot u (w - m.top)) (page_dot layers x y) w m.top k (to - (m.top + k))
+    (λ t g l. let back : m.top + k + (w - (m.top + k)) ≡ w = omega (arith, g) in
+    ap (ink u) back ∙ same u w (lies m.area m.direction x y (within m.area x y t)).in_line (omega arith) (omega (arith, l))))) (record { laid = omega arith; most = refl; least = refl }) has

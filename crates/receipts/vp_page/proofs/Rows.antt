@@ -33,14 +33,6 @@ rows_same op f g a b e p = record {
   rows_are = λ k h. record { length_is = (p.rows_are k h).length_is; dots_are = λ d l. (p.rows_are k h).dots_are d l ∙ ap (λ i. paint op i (dot (get_or a k []) d)) (e d k h) };
 }
 
--- a white byte alone
-pub dot_zero : (u : ℕ) → dot (0 ∷ []) u ≡ false
-unfolding dot bit
-dot_zero u = elim (cases_lt u 8) [
-  | inl l ↦ (let q : u / 8 ≡ 0 = omega arith in rw q (ap (λ n. eqb n 1) (bit_at-zero (7 - u % 8))))
-  | inr g ↦ rw (get_or_past {X = ℕ} (0 ∷ []) (u / 8) 0 (omega arith)) (ap (λ n. eqb n 1) (bit_at-zero (7 - u % 8)))
-]
-
 black_twice : (i j k old : Bool) → k ≡ (i || j) → cond j true (cond i true old) ≡ cond k true old
 black_twice true true k old e = rw e refl
 black_twice true false k old e = rw e refl

@@ -20,7 +20,7 @@ pub and_false : (b : Bool) → (b && false) ≡ false
 and_false true = refl
 and_false false = refl
 
-white_word : (x : ℕ) → word_dot 0 x ≡ false
+pub white_word : (x : ℕ) → word_dot 0 x ≡ false
 unfolding bit
 white_word x = elim (cases_lt x 64) [
   | inl l ↦ rw (lt-ltb x 64 l) (ap (λ b. eqb b 1) (bit_at-zero (63 - x)))

@@ -13,7 +13,7 @@ use Rattle.vp_page.specs.Areas.{holds}
 use Rattle.vp_page.specs.Pages.{HasPage, IsWhiteBut, Paged}
 use Rattle.vp_page.proofs.Blank.{dot_white}
 
-and_no : (b : Bool) → (b && false) ≡ false
+pub and_no : (b : Bool) → (b && false) ≡ false
 and_no true = refl
 and_no false = refl
 

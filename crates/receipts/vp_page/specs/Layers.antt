@@ -41,6 +41,16 @@ page_dot (CountedAnew ∷ before) x y = page_dot before x y
 abbrev pub row_mark : Area → Direction → ℕ → (ℕ → Bool) → Mark
 row_mark a d v row = record { area = a; direction = d; top = v; high = 1; dot = λ u w. nat_eq w 0 && row u }
 
+-- a row of dots, laid `times` times, one below the other from a depth of the area on
+abbrev pub times_mark : Area → Direction → ℕ → ℕ → (ℕ → Bool) → Mark
+times_mark a d v times row = record {
+  area = a;
+  direction = d;
+  top = v;
+  high = times;
+  dot = λ u w. nat_lt w times && row u;
+}
+
 -- as many rows as are laid at once, no longer than the longest line, one below the other from a depth of the
 -- area on
 abbrev pub lines_mark : Area → Direction → ℕ → List (List ℕ) → Mark

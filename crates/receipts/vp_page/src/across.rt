@@ -6,7 +6,7 @@ ghost use Rattle.vp_dots.specs.Dots.{bit, dot, span};
 ghost use Rattle.vp_dots.specs.Painting.{Painted};
 ghost use Rattle.vp_dots.specs.Words.{word_dot};
 ghost use Rattle.vp_dots.specs.Places.{RowsPainted};
-ghost use Rattle.vp_dots.specs.declared.Op.TheVariants.{Black};
+ghost use Rattle.vp_dots.specs.declared.Op.TheVariants.{Black, White};
 ghost use Rattle.vp_dots.specs.declared.square.TheConstants.{SIDE};
 ghost use Rattle.vp_page.specs.Lines.{line_dot};
 ghost use Rattle.vp_page.specs.declared.across.TheConstants.{AT_ONCE, FEW, STRETCH};
@@ -14,11 +14,11 @@ ghost use Rattle.vp_page.specs.declared.line.TheConstants.{LINE_BYTES, LINE_DOTS
 ghost use Rattle.vp_page.specs.declared.page.TheConstants.{PAGE_ROWS, PAPER_DOTS};
 
 use crate::Area;
-use crate::line::{LINE_BYTES, LINE_DOTS, lay_dot, start_of};
+use crate::line::{LINE_BYTES, LINE_DOTS, keep_sixteen, lay_dot, start_of};
 use crate::page::{PAGE_ROWS, PAPER_BYTES, PageBand};
-use crate::words::{lay_halves, lay_same, lay_words};
+use crate::words::{lay_halves, lay_same, lay_words, or_sixteens};
 use std::simd::u8x16;
-use vp_dots::{SIDE, Small, dot_of, eight_at, first_dots, turned_square, word_at};
+use vp_dots::{Op, SIDE, Small, dot_of, eight_at, fill_dots, first_dots, turned_square, word_at};
 
 /// How many lines are laid at once.
 pub const AT_ONCE: usize = 3 * SIDE;
@@ -46,7 +46,7 @@ fn dots_from(line: &[u8; LINE_BYTES], from: usize) -> u64
 
 /// A square of the lines' dots, from one on. Where there is no line it is white.
 #[inline(always)]
-fn square_from(lines: &[[u8; LINE_BYTES]], from: usize) -> [u64; SIDE]
+pub(crate) fn square_from(lines: &[[u8; LINE_BYTES]], from: usize) -> [u64; SIDE]
     requires few { length lines.now ≤ SIDE }
     requires near { from < 2 ^ 62 }
     ensures { (x y : ℕ) → x < 64 → y < 64 →
@@ -141,20 +141,6 @@ fn or_unlike(line: &[u8; LINE_BYTES], black: bool, unlike: &mut [u8])
     }
 }
 
-/// A row that is black at least where some line isn't as it is at one of its dots.
-fn unlike_at(lines: &[[u8; LINE_BYTES]], at: usize) -> [u8; LINE_BYTES]
-    requires { at < LINE_DOTS }
-    ensures { (i u : ℕ) → i < length lines.now → u < LINE_DOTS → dot result u ≡ false →
-        line_dot lines.now i u ≡ line_dot lines.now i at }
-{
-    let mut unlike = [0; LINE_BYTES];
-    for i in 0..lines.len() {
-        let black = dot_of(&lines[i], at as u128);
-        or_unlike(&lines[i], black, &mut unlike);
-    }
-    unlike
-}
-
 /// Whether all lines are white at one place.
 fn are_white_at(lines: &[[u8; LINE_BYTES]], at: usize) -> bool
     requires { at < LINE_DOTS }
@@ -166,6 +152,77 @@ fn are_white_at(lines: &[[u8; LINE_BYTES]], at: usize) -> bool
         }
     }
     true
+}
+
+/// Whether all lines are black at one place.
+fn are_black_at(lines: &[[u8; LINE_BYTES]], at: usize) -> bool
+    requires { at < LINE_DOTS }
+    ensures { result ≡ true → (i : ℕ) → i < length lines.now → line_dot lines.now i at ≡ true }
+{
+    for i in 0..lines.len() {
+        if !dot_of(&lines[i], at as u128) {
+            return false;
+        }
+    }
+    true
+}
+
+/// Makes the dots at which a line is white white.
+#[inline(always)]
+fn keep_line(line: &[u8; LINE_BYTES], all: &mut [u8])
+    requires { length all.old ≡ LINE_BYTES }
+    ensures { Painted White (λ u. not (dot line.now u)) all.old all.new }
+{
+    for k in 0..LINE_BYTES / 16 {
+        keep_sixteen(line, 16 * k, all);
+    }
+}
+
+/// A row that is black where some line is white.
+fn some_white(lines: &[[u8; LINE_BYTES]]) -> [u8; LINE_BYTES]
+    ensures { (i u : ℕ) → i < length lines.now → u < LINE_DOTS → dot result u ≡ false →
+        line_dot lines.now i u ≡ true }
+{
+    let mut all = [255; LINE_BYTES];
+    for i in 0..lines.len() {
+        keep_line(&lines[i], &mut all);
+    }
+    let mut some = [0; LINE_BYTES];
+    or_unlike(&all, true, &mut some);
+    some
+}
+
+/// A row that is black where some line is.
+fn some_black(lines: &[[u8; LINE_BYTES]]) -> [u8; LINE_BYTES]
+    ensures { (i u : ℕ) → i < length lines.now → u < LINE_DOTS → dot result u ≡ false →
+        line_dot lines.now i u ≡ false }
+{
+    let mut some = [0; LINE_BYTES];
+    for i in 0..lines.len() {
+        or_sixteens(&lines[i], 0, LINE_BYTES / 16, &mut some);
+    }
+    some
+}
+
+/// A row that is black at least where some line isn't as it is at one of its dots: mostly all are white
+/// there, or all black.
+fn unlike_at(lines: &[[u8; LINE_BYTES]], at: usize) -> [u8; LINE_BYTES]
+    requires { at < LINE_DOTS }
+    ensures { (i u : ℕ) → i < length lines.now → u < LINE_DOTS → dot result u ≡ false →
+        line_dot lines.now i u ≡ line_dot lines.now i at }
+{
+    if are_white_at(lines, at) {
+        return some_black(lines);
+    }
+    if are_black_at(lines, at) {
+        return some_white(lines);
+    }
+    let mut unlike = [0; LINE_BYTES];
+    for i in 0..lines.len() {
+        let black = dot_of(&lines[i], at as u128);
+        or_unlike(&lines[i], black, &mut unlike);
+    }
+    unlike
 }
 
 /// Whether some dots from one on are white, and lie before the end of the longest line.
@@ -196,6 +253,11 @@ fn row_up(lines: &[[u8; LINE_BYTES]], at: usize, left: u32) -> [u8; PAPER_BYTES]
         dot result x ≡ (nat_le left x && line_dot lines.now (x - left) at) }
 {
     let mut row = [0; PAPER_BYTES];
+    if are_black_at(lines, at) {
+        let right = left as u64 + lines.len() as u64;
+        fill_dots(Op::Black, left as u64, right, &mut row);
+        return row;
+    }
     for i in 0..lines.len() {
         lay_dot(lines[i][at / 8], at % 8, left as usize + i, &mut row);
     }
@@ -211,6 +273,11 @@ fn row_down(lines: &[[u8; LINE_BYTES]], at: usize, right: u32) -> [u8; PAPER_BYT
 {
     let mut row = [0; PAPER_BYTES];
     let right = right as usize;
+    if are_black_at(lines, at) {
+        let left = right.saturating_sub(lines.len());
+        fill_dots(Op::Black, left as u64, right as u64, &mut row);
+        return row;
+    }
     for i in 0..lines.len().min(right) {
         lay_dot(lines[i][at / 8], at % 8, right - 1 - i, &mut row);
     }

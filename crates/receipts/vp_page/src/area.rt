@@ -19,6 +19,21 @@ pub struct Area {
     pub dy: u16,
 }
 
+impl Direction {
+    ghost use Rattle.vp_page.specs.Runs.{across};
+
+    /// That of lines that run up, or down.
+    pub(crate) fn across(up: bool) -> Direction
+        ensures { result ≡ across up }
+    {
+        if up {
+            Direction::BottomToTop
+        } else {
+            Direction::TopToBottom
+        }
+    }
+}
+
 impl Area {
     ghost use Rattle.vp_page.specs.Areas.{line_length, depth, holds};
 

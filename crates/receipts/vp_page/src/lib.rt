@@ -2,10 +2,12 @@
 #![tactic(auto, using(vp_dots::proofs::Handles::list_small))]
 
 mod across;
+mod along;
 mod area;
 mod laws;
 mod line;
 mod page;
+mod runs;
 mod white;
 mod words;
 

@@ -1,23 +1,25 @@
 //! The page.
-ghost use Rattle.std.specs.Prelude.{◌≡◌, ℕ, ◌+◌, ◌*◌, ◌%◌, ◌^◌, ◌<◌, ◌≤◌, Bool, true, false, List, [], ◌∷◌, IfOk, length, slice_index_or, take};
+ghost use Rattle.std.specs.Prelude.{◌≡◌, ℕ, ◌+◌, ◌*◌, ◌%◌, ◌^◌, ◌<◌, ◌≤◌, Bool, true, false, List, [], ◌∷◌, IfOk, length, slice_index, slice_index_or, take};
 ghost use Rattle.vp_dots.specs.Dots.{dot, span};
 ghost use Rattle.vp_dots.specs.Images.{row_of};
 ghost use Rattle.vp_page.specs.Areas.{depth, holds};
 ghost use Rattle.vp_page.specs.Lines.{AreWhole};
-ghost use Rattle.vp_page.specs.Layers.{mark_dot, row_mark, rows_mark};
+ghost use Rattle.vp_page.specs.Layers.{mark_dot, row_mark, rows_mark, times_mark};
 ghost use Rattle.vp_page.specs.declared.line.TheConstants.{LINE_BYTES, LINE_DOTS};
 ghost use Rattle.vp_page.specs.declared.page.TheConstants.{PAPER_BYTES, PAPER_DOTS, PAGE_ROWS};
 
 use crate::across::{AT_ONCE, lay_lines_down, lay_lines_up};
+use crate::along::{lay_left, lay_right};
 use crate::line::{
-    LINE_BYTES, LINE_DOTS, draw_lines, draw_next, lay_down, lay_left, lay_right, lay_up, whiten,
+    LINE_BYTES, LINE_DOTS, alone, draw_lines, drawn, lay_column, lengthened, same_lines, whiten,
 };
+use crate::runs::{Begins, draw_runs, lay_runs};
 use crate::white::Rows;
 use crate::words::{lay_whole, lay_whole_back};
 use crate::{Area, Direction};
 use std::alloc::{AllocError, Global};
 use std::marker::Model;
-use vp_dots::{Band, Ink, Small, dots_decide};
+use vp_dots::{Band, Ink, SIDE, Small, dots_decide};
 
 /// The dots of a row of the page, and of the wide paper.
 pub const PAPER_DOTS: u16 = 576;
@@ -95,6 +97,8 @@ impl<A: Small> Page<A> {
     ghost use Rattle.vp_page.specs.Layers.{Layer, Laid, Wiped, CountedAnew, lines_mark, page_dot};
     ghost use Rattle.vp_page.specs.Lines.{line_dot};
     ghost use Rattle.vp_page.specs.Pages.{HasPage};
+    ghost use Rattle.vp_page.specs.Runs.{AreRuns, across, between};
+    ghost use Rattle.vp_dots.specs.declared.square.TheConstants.{SIDE};
     ghost use Rattle.vp_page.specs.declared.across.TheConstants.{AT_ONCE};
 
     /// A white page.
@@ -165,10 +169,82 @@ impl<A: Small> Page<A> {
         let right = area.x as usize + area.dx as usize;
         let below = area.y as usize + area.dy as usize;
         match direction {
-            Direction::LeftToRight => lay_right(row, area, area.y as usize + v, &mut self.band),
-            Direction::BottomToTop => lay_up(row, area, area.x as usize + v, &mut self.band),
-            Direction::RightToLeft => lay_left(row, area, below - 1 - v, &mut self.band),
-            Direction::TopToBottom => lay_down(row, area, right - 1 - v, &mut self.band),
+            Direction::LeftToRight => {
+                lay_right(
+                    &lengthened(row),
+                    1,
+                    area,
+                    area.y as usize + v,
+                    &mut self.band,
+                )
+            }
+            Direction::BottomToTop => {
+                let line = lengthened(row);
+                lay_column(&line, area, true, area.x as usize + v, &mut self.band)
+            }
+            Direction::RightToLeft => {
+                lay_left(&lengthened(row), 1, area, below - 1 - v, &mut self.band)
+            }
+            Direction::TopToBottom => {
+                let line = lengthened(row);
+                lay_column(&line, area, false, right - 1 - v, &mut self.band)
+            }
+        }
+    }
+
+    /// Lays a row `times` times, one below the other, the first at the depth v of an area, as `lay_row` lays
+    /// it.
+    fn lay_times(
+        &mut self,
+        area: Area,
+        direction: Direction,
+        v: u32,
+        times: u32,
+        row: &[u8; LINE_BYTES],
+    )
+        requires { v + times < 2 ^ 32 }
+        ensures { (layers : List Layer) → HasPage layers self.old →
+            HasPage (Laid (times_mark area direction v times (dot row.now)) ∷ layers) self.new }
+    {
+        let depth = u32::from(area.depth(direction));
+        if v >= depth {
+            return;
+        }
+        let shown = times.min(depth - v) as usize;
+        let down = v as usize;
+        let count = self.rows_laid.saturating_add(shown as u64);
+        match direction {
+            Direction::LeftToRight => {
+                let top = area.y as usize + down;
+                self.laid = self.laid.with(Rows {
+                    from: top,
+                    to: top + shown,
+                });
+                self.rows_laid = count;
+                lay_right(row, shown, area, top, &mut self.band)
+            }
+            Direction::RightToLeft => {
+                let top = area.y as usize + (area.dy as usize - down - shown);
+                self.laid = self.laid.with(Rows {
+                    from: top,
+                    to: top + shown,
+                });
+                self.rows_laid = count;
+                lay_left(row, shown, area, top, &mut self.band)
+            }
+            _ => self.lay_again(area, direction, v, times, row),
+        }
+    }
+
+    /// Lays a row `times` times, one below the other, as `lay_row` lays it each time.
+    fn lay_again(&mut self, area: Area, direction: Direction, v: u32, times: u32, row: &[u8])
+        requires short { length row.now ≤ LINE_BYTES }
+        requires near { v + times < 2 ^ 32 }
+        ensures { (layers : List Layer) → HasPage layers self.old →
+            HasPage (Laid (times_mark area direction v times (dot row.now)) ∷ layers) self.new }
+    {
+        for k in 0..times {
+            self.lay_row(area, direction, v + k, row);
         }
     }
 
@@ -299,7 +375,7 @@ impl<A: Small> Page<A> {
         }
     }
 
-    /// Lays rows as `lay_lines` does, which run along the page: of each the words that its line has room for.
+    /// Lays rows as `lay_lines` does, which run along the page: those that are the same at once.
     fn lay_lines_along(
         &mut self,
         area: Area,
@@ -312,10 +388,11 @@ impl<A: Small> Page<A> {
         ensures { (layers : List Layer) → HasPage layers self.old →
             HasPage (Laid (lines_mark area direction v lines.now) ∷ layers) self.new }
     {
-        let words = u32::from(area.line_length(direction)).div_ceil(64);
-        let bytes = LINE_BYTES.min(8 * words as usize);
-        for i in 0..lines.len() {
-            self.lay_row(area, direction, v + i as u32, &lines[i][..bytes]);
+        let mut i = 0;
+        while i < lines.len() {
+            let times = same_lines(lines, i);
+            self.lay_times(area, direction, v + i as u32, times as u32, &lines[i]);
+            i += times;
         }
     }
 
@@ -336,13 +413,12 @@ impl<A: Small> Page<A> {
             Direction::LeftToRight | Direction::RightToLeft => {
                 self.lay_along(ink, area, direction, top)
             }
-            Direction::BottomToTop | Direction::TopToBottom => {
-                self.lay_across(ink, area, direction, top)
-            }
+            Direction::BottomToTop => self.lay_across(ink, area, true, top),
+            Direction::TopToBottom => self.lay_across(ink, area, false, top),
         }
     }
 
-    /// Lays an image row by row.
+    /// Lays an image row by row: those that are known to be alike at once.
     fn lay_along<I: Ink>(&mut self, ink: &I, area: Area, direction: Direction, top: u32)
         requires { I.width ink.now ≤ LINE_DOTS }
         ensures { (layers : List Layer) → HasPage layers self.old →
@@ -354,37 +430,73 @@ impl<A: Small> Page<A> {
               dot = I.ink_at ink.now;
             }) ∷ layers) self.new }
     {
-        let (width, height) = ink.size();
-        let mut room = [0; LINE_BYTES];
-        let row = &mut room[..width.div_ceil(8) as usize];
-        let below = u32::from(area.depth(direction)).saturating_sub(top);
-        for line in 0..height.min(below) {
-            draw_next(ink, line, row);
-            self.lay_row(area, direction, top + line, row);
+        let (_, height) = ink.size();
+        let high = height.min(u32::from(area.depth(direction)).saturating_sub(top));
+        let mut line = 0;
+        while line < high {
+            let (_, last) = ink.alike(line);
+            let behind = last.min(high - 1) + 1;
+            let row = drawn(ink, line);
+            self.lay_times(area, direction, top + line, behind - line, &row);
+            line = behind;
         }
     }
 
-    /// Lays an image as many rows at once as go.
-    fn lay_across<I: Ink>(&mut self, ink: &I, area: Area, direction: Direction, top: u32)
+    /// Lays lines that run up or down, each from the depth on at which it begins, and which show ink there.
+    fn lay_runs(
+        &mut self,
+        area: Area,
+        up: bool,
+        lines: &[[u8; LINE_BYTES]],
+        begins: &Begins,
+        long: u32,
+    )
+        requires few { length lines.now ≤ SIDE }
+        requires runs { AreRuns begins.now (length lines.now) area.dx }
+        ensures { (ink : ℕ → ℕ → Bool) → ((i u w : ℕ) → i < length lines.now →
+            slice_index begins.now i ≤ w → w < slice_index begins.now (i + 1) →
+            line_dot lines.now i u ≡ ink u w) → ((u w : ℕ) → long ≤ u → ink u w ≡ false) →
+            (layers : List Layer) → HasPage layers self.old →
+            HasPage (Laid (between area (across up) (slice_index begins.now 0)
+            (slice_index begins.now (length lines.now)) ink) ∷ layers) self.new }
+    {
+        let rows = begins[lines.len()] - begins[0];
+        self.laid = self.laid.with(Rows::of(area));
+        self.rows_laid = self.rows_laid.saturating_add(u64::from(rows));
+        lay_runs(lines, begins, long, area, up, &mut self.band);
+    }
+
+    /// Lays an image upward or downward: of lines that are known to be alike one, and the others as many at
+    /// once as go.
+    fn lay_across<I: Ink>(&mut self, ink: &I, area: Area, up: bool, top: u32)
         requires { I.width ink.now ≤ LINE_DOTS }
         ensures { (layers : List Layer) → HasPage layers self.old →
             HasPage (Laid (record {
               area = area;
-              direction = direction;
+              direction = across up;
               top = top;
               high = I.height ink.now;
               dot = I.ink_at ink.now;
             }) ∷ layers) self.new }
     {
         let (width, height) = ink.size();
-        let below = u32::from(area.depth(direction)).saturating_sub(top);
-        let high = height.min(below) as usize;
+        let direction = Direction::across(up);
+        let high = height.min(u32::from(area.dx).saturating_sub(top));
         let mut room = [[0; LINE_BYTES]; AT_ONCE];
-        for k in 0..high.div_ceil(AT_ONCE) {
-            let from = AT_ONCE * k;
-            let lines = &mut room[..(high - from).min(AT_ONCE)];
-            draw_lines(ink, from as u32, lines);
-            self.lay_long(area, direction, top + from as u32, lines, width as usize);
+        let mut begins = [0; SIDE + 1];
+        let mut line = 0;
+        while line < high {
+            let n = draw_runs(ink, line, high, top, &mut room, &mut begins);
+            if n > 0 {
+                self.lay_runs(area, up, &room[..n], &begins, width);
+                line = begins[n] - top;
+            } else {
+                let few = alone(ink, line, high);
+                let lines = &mut room[..few as usize];
+                draw_lines(ink, line, lines);
+                self.lay_long(area, direction, top + line, lines, width as usize);
+                line += few;
+            }
         }
     }
 

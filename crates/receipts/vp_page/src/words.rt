@@ -11,14 +11,14 @@ ghost use Rattle.vp_page.specs.declared.page.TheConstants.{PAPER_BYTES, PAPER_DO
 
 use crate::page::{PAPER_BYTES, PageBand};
 use std::simd::{u8x8, u8x16};
-use vp_dots::{Small, eight_at, first_dots, or_into, reversed_at};
+use vp_dots::{Small, eight_at, first_dots, reversed_at};
 
 /// Where the last eight bytes of a row of the page begin.
 const LAST: usize = PAPER_BYTES - 8;
 
 /// Blackens eight bytes of the row, from byte i on, where eight bytes of the line, from byte j on, are black.
 #[inline(always)]
-fn or_bytes(line: &[u8], j: usize, i: usize, row: &mut [u8])
+pub(crate) fn or_bytes(line: &[u8], j: usize, i: usize, row: &mut [u8])
     requires line { j + 8 ≤ length line.now }
     requires row { i + 8 ≤ length row.old }
     ensures { Painted Black (λ d. nat_le (8 * i) d && (nat_lt (d - 8 * i) 64
@@ -30,7 +30,7 @@ fn or_bytes(line: &[u8], j: usize, i: usize, row: &mut [u8])
 
 /// Blackens eight bytes of the row, from byte i on, where the word is black.
 #[inline(always)]
-fn or_eight(word: u64, i: usize, row: &mut [u8])
+pub(crate) fn or_eight(word: u64, i: usize, row: &mut [u8])
     requires { i + 8 ≤ length row.old }
     ensures { Painted Black (λ d. nat_le (8 * i) d && word_dot word (d - 8 * i)) row.old row.new }
 {
@@ -148,7 +148,7 @@ fn or_sixteen(bytes: &[u8], i: usize, row: &mut [u8])
 
 /// Blackens `n` times sixteen bytes of the row, from byte i on, where other bytes are black.
 #[inline(always)]
-fn or_sixteens(bytes: &[u8], i: usize, n: usize, row: &mut [u8])
+pub(crate) fn or_sixteens(bytes: &[u8], i: usize, n: usize, row: &mut [u8])
     requires bytes { i + 16 * n ≤ length bytes.now }
     requires row { i + 16 * n ≤ length row.old }
     ensures { Painted Black (λ d. span i (i + 16 * n) (d / 8) && dot bytes.now d) row.old row.new }
@@ -258,24 +258,6 @@ fn or_words(line: &[u8], q: usize, row: &mut [u8])
 {
     for k in 0..line.len() / 8 {
         or_bytes(line, 8 * k, q + 8 * k, row);
-    }
-}
-
-/// Blackens the dots d of the row where dot d - at of the line is black.
-pub(crate) fn or_line(line: &[u8], at: i64, row: &mut [u8])
-    ensures { Painted Black (shifted at (dot line.now)) row.old row.new }
-{
-    let far = at.unsigned_abs();
-    let q = (far / 8) as usize;
-    if at >= 0
-        && far % 8 == 0
-        && line.len() % 8 == 0
-        && q <= row.len()
-        && line.len() <= row.len() - q
-    {
-        or_words(line, q, row);
-    } else {
-        or_into(line, at, row);
     }
 }
 

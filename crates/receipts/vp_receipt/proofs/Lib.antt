@@ -17,6 +17,7 @@ pub mod Orderly
 pub mod Texts
 pub mod Work
 pub mod Costs
+pub mod ByBytes
 pub mod Draws
 pub mod PageRows
 pub mod RasterLines

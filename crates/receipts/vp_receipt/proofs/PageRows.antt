@@ -1,6 +1,6 @@
 -- Whole rows of a raster, laid on the page one below the other.
 use Rattle.std.proofs.Common.{inl, inr, ◌≡◌, ℕ, zero, suc, ◌+◌, ◌-◌, ◌*◌, ◌/◌, ◌%◌, ◌<◌, ◌≤◌, Bool, true, false, ltb, leb, eqb, cond, nat_lt, ◌&&◌, ◌||◌, List, [], ◌∷◌, ◌++◌, length, take, drop, min, refl, sym, ap, subst, ◌∙◌, append_assoc, arith, Option, Some, None}
-use Rattle.std.proofs.Math.Nat.{suc-mul, mul_comm, mul-le-mul_right, div-le_self, div-le_of_le-mul, div-mul-le_self, lt-div-mul-add, le_trans}
+use Rattle.std.proofs.Math.Nat.{suc-mul, mul_comm, mul-le-mul_right, div-le_of_le-mul, div-mul-le_self, lt-div-mul-add, le_trans}
 use Rattle.std.proofs.lemmas.Bool.{cases_lt, lt-ltb}
 use Rattle.std.proofs.lemmas.Bool.Decides.{nat_tests}
 use Rattle.std.proofs.lemmas.List.{append-nil, take-append-drop, take-take, take_all, get_or-take, length-take, length-drop}
@@ -118,12 +118,6 @@ front_shown wide v bytes h = elim (cases_lt LINE_BYTES wide) [
       ap (λ i. dot (take i bytes) v) e ∙ ap (λ (xs : List ℕ). dot xs v) (sym (take-take LINE_BYTES wide bytes (omega arith))) ∙ first_dots_of (take wide bytes) LINE_BYTES v (omega arith))
   | inr short ↦ (let e : min wide LINE_BYTES ≡ wide = omega arith in ap (λ i. dot (take i bytes) v) e)
 ]
-
-pub row_shown : (scale : RasterScale) (wide n : ℕ) (bytes : List ℕ) (k u w at : ℕ) → k < n → at ≡ k * times_down scale → u < LINE_DOTS → w < times_down scale
-    → dot (take (min wide LINE_BYTES) (drop (k * wide) bytes)) (u / times_across scale) ≡ rows_dot scale wide n bytes u (at + w)
-row_shown scale wide n bytes k u w at few is l h =
-    let near = div-le_self u (times_across scale) in
-    front_shown wide (u / times_across scale) (drop (k * wide) bytes) (omega (arith, near)) ∙ sym (row_is scale wide n bytes k u w (at + w) few (omega arith) h)
 
 -- the mark of rows at the vertical position
 abbrev rows_mark : Setup → List ℕ → ℕ → List EscItem → Mark

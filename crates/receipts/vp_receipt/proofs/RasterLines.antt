@@ -1,5 +1,5 @@
 -- Rows of a raster, laid on the page as many at once as go.
-use Rattle.std.proofs.Common.{◌≡◌, ℕ, ◌+◌, ◌-◌, ◌/◌, ◌%◌, ◌*◌, ◌<◌, false, ltb, ◌&&◌, ◌++◌, take, drop, min, replicate, List, length, refl, sym, ap, subst, ◌∙◌, arith, inl, inr, [], get_or, set, get_or-set_same, get_or-set_other}
+use Rattle.std.proofs.Common.{◌≡◌, ℕ, ◌+◌, ◌-◌, ◌/◌, ◌%◌, ◌*◌, ◌<◌, ◌≤◌, Bool, zero, suc, false, ltb, ◌&&◌, ◌++◌, take, drop, min, replicate, List, length, refl, sym, ap, subst, ◌∙◌, arith, inl, inr, [], get_or, set, get_or-set_same, get_or-set_other}
 use Rattle.std.proofs.lemmas.Bool.{cases_eq, cases_lt, lt-ltb, le-ltb}
 use Rattle.std.proofs.lemmas.List.{length-replicate, length-take-le, get_or-replicate, get_or_past, get_or-take, get_or-drop, get_or_append_left, get_or-append_right}
 use Rattle.vp_page.proofs.Blank.{dot_white}
@@ -49,22 +49,48 @@ once_dots scale wide n bytes y u once = subst (λ (k : RasterScale). (ltb y n &&
   | inr g ↦ rw (le-ltb y n g, le-ltb y (n * 1) (omega arith)) refl
 ])
 
--- one more of the rows
-pub row_set : (bytes : List ℕ) (wide from : ℕ) (rows : List (List ℕ)) (i : ℕ) (line : List ℕ) → i < length rows
-    → ((u : ℕ) → u < LINE_DOTS → dot line u ≡ dot (row_at bytes wide (from + i)) u)
-    → ((k u : ℕ) → k < 192 → u < LINE_DOTS → dot (get_or rows k []) u ≡ (ltb k i && dot (row_at bytes wide (from + k)) u))
-    → (k u : ℕ) → k < 192 → u < LINE_DOTS → dot (get_or (set rows i line) k []) u ≡ (ltb k (i + 1) && dot (row_at bytes wide (from + k)) u)
-row_set bytes wide from rows i line within here above k u h l = elim (cases_eq k i) [
-  | inl at ↦ rw (at, get_or-set_same rows i line [] within, lt-ltb i (i + 1) (omega arith)) (here u l)
-  | inr other ↦ rw (get_or-set_other rows i k line [] other) (above k u h l ∙ elim (cases_lt k i) as (λ _. (ltb k i && dot (row_at bytes wide (from + k)) u) ≡ (ltb k (i + 1) && dot (row_at bytes wide (from + k)) u)) [
+-- one more of the lines
+pub line_set : (f : ℕ → ℕ → Bool) (lines : List (List ℕ)) (i : ℕ) (line : List ℕ) → i < length lines
+    → ((u : ℕ) → u < LINE_DOTS → dot line u ≡ f i u)
+    → ((k u : ℕ) → k < 192 → u < LINE_DOTS → dot (get_or lines k []) u ≡ (ltb k i && f k u))
+    → (k u : ℕ) → k < 192 → u < LINE_DOTS → dot (get_or (set lines i line) k []) u ≡ (ltb k (i + 1) && f k u)
+line_set f lines i line within here above k u h l = elim (cases_eq k i) [
+  | inl at ↦ rw (at, get_or-set_same lines i line [] within, lt-ltb i (i + 1) (omega arith)) (here u l)
+  | inr other ↦ rw (get_or-set_other lines i k line [] other) (above k u h l ∙ elim (cases_lt k i) as (λ _. (ltb k i && f k u) ≡ (ltb k (i + 1) && f k u)) [
     | inl b ↦ rw (lt-ltb k i b, lt-ltb k (i + 1) (omega arith)) refl
     | inr g ↦ rw (le-ltb k i g, le-ltb k (i + 1) (omega (arith, other))) refl
   ])
 ]
 
 -- all that there are
-pub rows_there : (i k from rows : ℕ) → i ≡ min (rows - from) 192 → k < 192 → ltb k i ≡ ltb (from + k) rows
-rows_there i k from rows e h = elim (cases_lt k i) [
-  | inl l ↦ rw (lt-ltb k i l, lt-ltb (from + k) rows (omega arith)) refl
-  | inr g ↦ rw (le-ltb k i g, le-ltb (from + k) rows (omega arith)) refl
+pub lines_there : (i k from high : ℕ) → i ≡ min (high - from) 192 → k < 192 → ltb k i ≡ ltb (from + k) high
+lines_there i k from high e h = elim (cases_lt k i) [
+  | inl l ↦ rw (lt-ltb k i l, lt-ltb (from + k) high (omega arith)) refl
+  | inr g ↦ rw (le-ltb k i g, le-ltb (from + k) high (omega arith)) refl
 ]
+
+-- a line that isn't the first of its row stands below another
+pub not_first : (from i times : ℕ) → from % times ≡ 0 → 0 < (from + i) % times → 0 < i
+not_first from zero times e h = let none : (from + 0) % times ≡ 0 = ap (λ n. n % times) (let q : from + 0 ≡ from = omega arith in q) ∙ e in omega (arith, h, none)
+not_first from (suc i) times e h = omega arith
+
+-- of the same row
+pub same_row : (w times : ℕ) → times ≤ 2 → 0 < w → 0 < w % times → (w - 1) / times ≡ w / times
+same_row w zero few some h = omega arith
+same_row w (suc zero) few some h = absurd (omega arith)
+same_row w (suc (suc zero)) few some h = omega arith
+same_row w (suc (suc (suc n))) few some h = absurd (omega arith)
+
+-- a line is one of a row
+pub row_there : (w rows times : ℕ) → 0 < times → times ≤ 2 → w < rows * times → w / times < rows
+row_there w rows zero some few h = absurd (omega arith)
+row_there w rows (suc zero) some few h = omega arith
+row_there w rows (suc (suc zero)) some few h = omega arith
+row_there w rows (suc (suc (suc n))) some few h = absurd (omega arith)
+
+-- as many as are laid at once begin with the first line of a row
+pub row_begins : (k times : ℕ) → 0 < times → times ≤ 2 → 192 * k % times ≡ 0
+row_begins k zero some few = absurd (omega arith)
+row_begins k (suc zero) some few = omega arith
+row_begins k (suc (suc zero)) some few = omega arith
+row_begins k (suc (suc (suc n))) some few = absurd (omega arith)

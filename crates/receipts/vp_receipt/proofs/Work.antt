@@ -31,7 +31,7 @@ own_adds : (o : Option Mark) (l : List Layer) → work (laid_own o l) ≤ work l
 own_adds None l = omega arith
 own_adds (Some m) l = omega arith
 
-item_adds : (setup : Setup) (before : List EscItem) (item : EscItem) (l : List Layer) → work (layers_with setup before item l) ≤ (if ends_line setup before item then 0 else work l) + most_by setup before item
+pub item_adds : (setup : Setup) (before : List EscItem) (item : EscItem) (l : List Layer) → work (layers_with setup before item l) ≤ (if ends_line setup before item then 0 else work l) + most_by setup before item
 item_adds setup before item l =
     let anew = counted_if (ends_line setup before item) l in
     let ends = ends_line setup before item && is_open (line setup before) in

@@ -1,13 +1,14 @@
 -- What an item costs a page, in rows of dots: those that it lays on it, and those that it makes white.
-use Rattle.std.specs.Prelude.{◌≡◌, ◌≤◌, ◌⊎◌, ℕ, ◌+◌, true, ◌&&◌, if◌then◌else◌, List, [], ◌∷◌, ◌++◌, length, Option, Some, None}
+use Rattle.std.specs.Prelude.{◌≡◌, ◌≤◌, ◌⊎◌, ℕ, ◌+◌, ◌*◌, Bool, true, ◌&&◌, if◌then◌else◌, List, [], ◌∷◌, ◌++◌, length, reverse, Option, Some, None}
 use Rattle.vp_esc.specs.declared.item.EscItem.{EscItem}
-use Rattle.vp_esc.specs.declared.item.EscItem.TheVariants.{RasterByte}
+use Rattle.vp_esc.specs.declared.item.EscItem.TheVariants.{RasterByte, PageMode}
+use Rattle.vp_esc.specs.Split.{items}
 use Rattle.vp_page.specs.Layers.{Mark}
 use Rattle.vp_page.specs.declared.page.TheConstants.{PAGE_ROWS}
 use Rattle.vp_page.specs.Work.{laid_rows, most_wiped, least_wiped, rows_laid, area_rows}
 use Rattle.vp_receipt_settings.specs.Setup.{Setup}
 use Rattle.vp_receipt_settings.specs.Pages.{area}
-use Rattle.vp_receipt_settings.specs.Line.{Placed, line, height, is_open, mode}
+use Rattle.vp_receipt_settings.specs.Line.{Placed, line, begins_page, height, is_open, mode}
 use Rattle.vp_receipt_settings.specs.Extent.{ends_line}
 use Rattle.vp_receipt_settings.specs.declared.page_mode.PrinterMode.TheVariants.{Page}
 use Rattle.vp_receipt_settings.specs.declared.text.TheConstants.{LINE_ROWS}
@@ -53,6 +54,36 @@ pub record CostsAtMost : Type 0 where
   -- so is all that is counted where an item ended the line
   pub ended : (setup : Setup) (before : List EscItem) (item : EscItem) → mode setup before ≡ Page
       → ends_line setup before item ≡ true → most_work setup (item ∷ before) ≤ LINE_ROWS + PAGE_ROWS
+
+-- the page that ESC L begins, which it makes white
+abbrev pub begun_by : Setup → List EscItem → EscItem → ℕ
+begun_by setup before PageMode = if begins_page (mode setup before) (line setup before) then PAGE_ROWS else 0
+begun_by setup before _ = 0
+
+-- what all items lay and wipe at most
+abbrev pub most_in_all : Setup → List EscItem → ℕ
+most_in_all setup [] = 0
+most_in_all setup (item ∷ before) =
+    most_in_all setup before + (most_by setup before item + begun_by setup before item)
+
+-- the count begins anew with an item that ends the line, and with the ESC L that begins a page
+abbrev pub counts_anew : Setup → List EscItem → EscItem → Bool
+counts_anew setup before PageMode = begins_page (mode setup before) (line setup before)
+counts_anew setup before item = ends_line setup before item
+
+-- the counts that have ended, added up
+abbrev pub ended_counts : Setup → List EscItem → ℕ
+ended_counts setup [] = 0
+ended_counts setup (item ∷ before) =
+    ended_counts setup before + (if counts_anew setup before item then most_work setup before else 0)
+
+-- so any bytes, whatever came before them, lay and wipe at most the rows of a line and of a page for each of
+-- them; and all that was ever counted is no more than that, beside the page that is white from the start
+pub record BytesCostAtMost : Type 0 where
+  pub bytes : (setup : Setup) (bytes more : List ℕ) → most_in_all setup (reverse (items (bytes ++ more)))
+      ≤ most_in_all setup (reverse (items bytes)) + (LINE_ROWS + PAGE_ROWS) * length more
+  pub counted : (setup : Setup) (before : List EscItem) → ended_counts setup before + most_work setup before
+      ≤ PAGE_ROWS + most_in_all setup before
 
 -- of an item, in either mode: it puts at most one character or column into the line, no higher than the
 -- highest line, over all that stood in it or into one that it begins anew

@@ -359,10 +359,18 @@ fn symbol_job(s: &Settings, wide: u32, high: u32) -> Job
     ended_job(s, After::One(Strip::drawn(s, wide, high)))
 }
 
-/// Prints a symbol on paper.
-fn symbol_on_paper<A: Small>(s: &Settings, symbol: Symbol, canvas: &mut Canvas<A>) -> Job
+/// Prints a symbol, which is `wide` dots wide and `high` rows high, on paper.
+fn symbol_on_paper<A: Small>(
+    s: &Settings,
+    symbol: Symbol,
+    wide: u32,
+    high: u32,
+    canvas: &mut Canvas<A>,
+) -> Job
     requires fit { IsFit s.now }
-    requires high { 0 < symbol_height canvas.old.sheets symbol }
+    requires width { wide ≡ symbol_width canvas.old.sheets symbol }
+    requires height { high ≡ symbol_height canvas.old.sheets symbol }
+    requires some { 0 < high }
     ensures others { canvas_of canvas.new ≡ record (canvas_of canvas.old) { symbol = symbol } }
     ensures job { (lines : Lines) → IsJob result (canvas_of canvas.new) lines }
     ensures turned { IsTurned result.place result.after }
@@ -376,7 +384,6 @@ fn symbol_on_paper<A: Small>(s: &Settings, symbol: Symbol, canvas: &mut Canvas<A
         IsShowing result (canvas_of canvas.new) (height (line setup before)) (length
         (own_strips setup before item)) }
 {
-    let (wide, high) = symbol.size(&canvas.sheets);
     canvas.symbol = symbol;
     symbol_job(s, wide, high)
 }
@@ -403,11 +410,19 @@ fn symbol_on_page<A: Small>(s: &Settings, symbol: &Symbol, canvas: &mut Canvas<A
     );
 }
 
-/// What drawing a symbol does: what is printed.
-pub fn draw<A: Small>(s: &Settings, symbol: Symbol, canvas: &mut Canvas<A>) -> Job
+/// What drawing a symbol does, which is `wide` dots wide and `high` rows high: what is printed.
+pub fn draw<A: Small>(
+    s: &Settings,
+    symbol: Symbol,
+    wide: u32,
+    high: u32,
+    canvas: &mut Canvas<A>,
+) -> Job
     requires fit { IsFit s.now }
-    requires high { 0 < symbol_height canvas.old.sheets symbol }
-    requires wide { symbol_width canvas.old.sheets symbol ≤ LINE_DOTS }
+    requires width { wide ≡ symbol_width canvas.old.sheets symbol }
+    requires height { high ≡ symbol_height canvas.old.sheets symbol }
+    requires some { 0 < high }
+    requires within { wide ≤ LINE_DOTS }
     ensures sheets { canvas.new.sheets ≡ canvas.old.sheets }
     ensures job { (lines : Lines) → IsJob result (canvas_of canvas.new) lines }
     ensures turned { IsTurned result.place result.after }
@@ -426,7 +441,7 @@ pub fn draw<A: Small>(s: &Settings, symbol: Symbol, canvas: &mut Canvas<A>) -> J
         (own_part setup before item)) }
 {
     match s.page.mode {
-        PrinterMode::Standard => symbol_on_paper(s, symbol, canvas),
+        PrinterMode::Standard => symbol_on_paper(s, symbol, wide, high, canvas),
         PrinterMode::Page => {
             symbol_on_page(s, &symbol, canvas);
             Job::none()

@@ -7,9 +7,9 @@ ghost use Rattle.vp_receipt_settings.specs.Setup.{Setup, across};
 ghost use Rattle.vp_receipt_settings.specs.Rasters.{raster_bytes, rows_to_come, row_so_far, bytes_after};
 ghost use Rattle.vp_receipt.specs.Images.{images, begun, AreAcross};
 ghost use Rattle.vp_receipt.specs.Strips.{own_strips, printed, raster_row_text};
-ghost use Rattle.vp_receipt.specs.Work.{AddsAtMost, CostsAtMost, DrawsAtMost};
+ghost use Rattle.vp_receipt.specs.Work.{AddsAtMost, BytesCostAtMost, CostsAtMost, DrawsAtMost};
 
-use vp_esc::laws::one_reading;
+use vp_esc::laws::{a_byte_gives_at_most_one, one_reading, only_more};
 
 /// A law: where a row of a raster begins, the bytes of a row are gathered, the last of them prints them as a
 /// row, and the next row begins.
@@ -40,6 +40,15 @@ pub fn an_item_adds_at_most()
 pub fn an_item_costs_at_most()
     ensures { CostsAtMost }
 {}
+
+/// A law: a byte gives at most one item, so that any bytes lay on pages and wipe there at most 1,856 rows for
+/// each of them. All that was ever counted is no more, beside a page that is white from the start.
+pub fn bytes_cost_at_most()
+    ensures { BytesCostAtMost }
+{
+    a_byte_gives_at_most_one();
+    only_more();
+}
 
 /// A law: an item draws at most one character or column into the line, no higher than 192 rows, over what
 /// stands in it or into one that it begins anew.

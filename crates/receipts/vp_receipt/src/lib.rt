@@ -2,8 +2,8 @@
 //!
 //! `drawn` knows the symbol that an item prints, `act` what an item prints or lays on the page, and
 //! `raster_page` rows of a raster on the page, `raster_paper` those that are printed as they come. `receipt`
-//! is the printer, and `laws` says what a raster's row is, what an item costs at most, and that all that is
-//! printed is images.
+//! is the printer, and `laws` says what a raster's row is, what an item and a byte cost at most, and that
+//! all that is printed is images.
 #![tactic(auto, using(vp_dots::proofs::Handles::list_small))]
 
 mod act;
@@ -15,7 +15,7 @@ mod receipt;
 
 pub use laws::{
     a_row_is_its_bytes, an_item_adds_at_most, an_item_costs_at_most, an_item_draws_at_most,
-    what_is_printed_is_images,
+    bytes_cost_at_most, what_is_printed_is_images,
 };
 pub use receipt::Receipt;
 pub use vp_receipt_settings::Width;

@@ -1,5 +1,5 @@
 //! Rows of a raster, laid on the page: one, or a run of them.
-ghost use Rattle.std.specs.Prelude.{◌≡◌, ◌≤◌, ◌<◌, ◌+◌, ◌-◌, ◌*◌, ◌/◌, ◌∷◌, ◌&&◌, List, [], ℕ, Bool, length, take, nat_lt, slice_index_or};
+ghost use Rattle.std.specs.Prelude.{◌≡◌, ◌≤◌, ◌<◌, ◌+◌, ◌-◌, ◌*◌, ◌/◌, ◌%◌, ◌∷◌, List, [], ℕ, Bool, length, take, slice_index_or};
 ghost use Rattle.vp_dots.specs.Dots.{dot};
 ghost use Rattle.vp_esc.specs.declared.item.EscItem.{EscItem};
 ghost use Rattle.vp_esc.specs.declared.item.RasterScale.{RasterScale};
@@ -11,7 +11,7 @@ ghost use Rattle.vp_receipt.specs.PageMarks.{mark_of, raster_mark, rows_dot};
 ghost use Rattle.vp_receipt.specs.Standing.{IsOnPage};
 ghost use Rattle.vp_receipt_settings.specs.Gathering.{IsPartRow, kept_of, left_of};
 ghost use Rattle.vp_receipt_settings.specs.Settings.{settings_of, IsFit, IsFitPage};
-ghost use Rattle.vp_receipt_settings.specs.Rasters.{bytes_after, raster_scale, row_at, times_across, times_down};
+ghost use Rattle.vp_receipt_settings.specs.Rasters.{bytes_after, raster_scale, times_across, times_down};
 ghost use Rattle.vp_receipt_settings.specs.Setup.{Setup};
 
 use vp_dots::Small;
@@ -72,30 +72,6 @@ pub fn lay_raster_row<A: Small>(s: &Settings, raster: &Raster, page: &mut Page<A
     lay_scaled(s.page, raster.scale, raster.kept(), 0, page);
 }
 
-/// Lays whole rows of a raster one by one, as they stand in the bytes.
-fn lay_each<A: Small>(
-    p: PageSettings,
-    raster: &Raster,
-    bytes: &[u8],
-    rows: usize,
-    page: &mut Page<A>,
-)
-    requires fit { IsFitPage p }
-    requires few { rows ≤ 65535 }
-    requires long { rows * raster.now.bytes ≤ length bytes.now }
-    ensures { (layers : List Layer) → HasPage layers page.old →
-        HasPage (Laid (mark_of p (rows * times_down raster.now.scale)
-        (rows_dot raster.now.scale raster.now.bytes rows bytes.now)) ∷ layers) page.new }
-{
-    let wide = usize::from(raster.bytes);
-    let shown = wide.min(LINE_BYTES);
-    let times = times_down(raster.scale);
-    for k in 0..rows {
-        let row = &bytes[k * wide..k * wide + shown];
-        lay_scaled(p, raster.scale, row, k as u32 * times, page);
-    }
-}
-
 /// A row as long as the longest line, white behind its bytes.
 fn lengthened(row: &[u8]) -> [u8; LINE_BYTES]
     ensures { (u : ℕ) → u < LINE_DOTS → dot result u ≡ dot row.now u }
@@ -106,26 +82,49 @@ fn lengthened(row: &[u8]) -> [u8; LINE_BYTES]
     line
 }
 
-/// As many rows as are laid at once, from row `from` on, of `rows` rows that stand in bytes of which `wide`
-/// make a row: white ones past the last.
-fn rows_from(bytes: &[u8], wide: usize, from: usize, rows: usize) -> [[u8; LINE_BYTES]; AT_ONCE]
-    requires begins { from ≤ rows }
+/// A row as a scale draws it across, as long as the longest line.
+fn widened(row: &[u8], scale: RasterScale) -> [u8; LINE_BYTES]
+    ensures { (u : ℕ) → u < LINE_DOTS → dot result u ≡ dot row.now (u / times_across scale) }
+{
+    if times_across(scale) == 1 {
+        lengthened(row)
+    } else {
+        doubled(row)
+    }
+}
+
+/// As many lines as are laid at once, from line `from` on, of those that rows of `wide` bytes are as a scale
+/// draws them: white ones past the last. The second line of a row is the one above it again.
+fn lines_from(
+    scale: RasterScale,
+    bytes: &[u8],
+    wide: usize,
+    from: usize,
+    rows: usize,
+) -> [[u8; LINE_BYTES]; AT_ONCE]
+    requires begins { from ≤ rows * times_down scale }
+    requires row_begins { from % times_down scale ≡ 0 }
     requires few { rows ≤ 65535 }
     requires long { rows * wide ≤ length bytes.now }
-    ensures { (i u : ℕ) → i < AT_ONCE → u < LINE_DOTS → dot (slice_index_or result i []) u ≡
-        (nat_lt (from + i) rows && dot (row_at bytes.now wide (from + i)) u) }
+    ensures { (i u : ℕ) → i < AT_ONCE → u < LINE_DOTS →
+        dot (slice_index_or result i []) u ≡ rows_dot scale wide rows bytes.now u (from + i) }
 {
     let shown = wide.min(LINE_BYTES);
+    let times = times_down(scale) as usize;
     let mut lines = [[0; LINE_BYTES]; AT_ONCE];
-    for i in 0..(rows - from).min(AT_ONCE) {
-        let at = (from + i) * wide;
-        lines[i] = lengthened(&bytes[at..at + shown]);
+    for i in 0..(rows * times - from).min(AT_ONCE) {
+        if (from + i) % times > 0 {
+            lines[i] = lines[i - 1];
+        } else {
+            let at = (from + i) / times * wide;
+            lines[i] = widened(&bytes[at..at + shown], scale);
+        }
     }
     lines
 }
 
 /// Lays whole rows of a raster as many at once as go.
-fn lay_across<A: Small>(
+fn lay_many<A: Small>(
     p: PageSettings,
     raster: &Raster,
     bytes: &[u8],
@@ -133,7 +132,6 @@ fn lay_across<A: Small>(
     page: &mut Page<A>,
 )
     requires fit { IsFitPage p }
-    requires once { raster.now.scale ≡ RasterScale.Normal }
     requires few { rows ≤ 65535 }
     requires long { rows * raster.now.bytes ≤ length bytes.now }
     ensures { (layers : List Layer) → HasPage layers page.old →
@@ -141,12 +139,13 @@ fn lay_across<A: Small>(
         (rows_dot raster.now.scale raster.now.bytes rows bytes.now)) ∷ layers) page.new }
 {
     let wide = usize::from(raster.bytes);
+    let high = rows * times_down(raster.scale) as usize;
     let top = p.vertical as u32;
-    for k in 0..rows.div_ceil(AT_ONCE) {
-        let lines = rows_from(bytes, wide, AT_ONCE * k, rows);
-        let v = top + (AT_ONCE * k) as u32;
-        let few = (rows - AT_ONCE * k).min(AT_ONCE);
-        page.lay_lines(p.area, p.direction, v, &lines[..few]);
+    for k in 0..high.div_ceil(AT_ONCE) {
+        let from = AT_ONCE * k;
+        let lines = lines_from(raster.scale, bytes, wide, from, rows);
+        let few = (high - from).min(AT_ONCE);
+        page.lay_lines(p.area, p.direction, top + from as u32, &lines[..few]);
     }
 }
 
@@ -165,14 +164,13 @@ fn lay_rows<A: Small>(
         HasPage (Laid (mark_of p (rows * times_down raster.now.scale)
         (rows_dot raster.now.scale raster.now.bytes rows bytes.now)) ∷ layers) page.new }
 {
-    let across = matches!(p.direction, Direction::BottomToTop | Direction::TopToBottom);
+    let along = matches!(p.direction, Direction::LeftToRight | Direction::RightToLeft);
     let wide = usize::from(raster.bytes);
     match raster.scale {
-        RasterScale::Normal if across => lay_across(p, raster, bytes, rows, page),
-        RasterScale::Normal if wide <= LINE_BYTES => {
+        RasterScale::Normal if along && wide <= LINE_BYTES => {
             page.lay_rows(p.area, p.direction, p.vertical as u32, wide, rows, bytes)
         }
-        _ => lay_each(p, raster, bytes, rows, page),
+        _ => lay_many(p, raster, bytes, rows, page),
     }
 }
 

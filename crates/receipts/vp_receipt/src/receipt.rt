@@ -233,12 +233,12 @@ impl<A: Small> Receipt<A> {
             &self.canvas.sheets,
             &mut self.canvas.bitmap,
         );
-        let (_, rows) = symbol.size(&self.canvas.sheets);
-        self.job = draw(&self.settings, symbol, &mut self.canvas);
+        let (wide, high) = symbol.size(&self.canvas.sheets);
+        self.job = draw(&self.settings, symbol, wide, high, &mut self.canvas);
         self.waiting = None;
         self.of_page = false;
         let stops = self.stops.as_slice();
-        self.settings = self.settings.after(item, Effect::Draws, stops, rows);
+        self.settings = self.settings.after(item, Effect::Draws, stops, high);
         self.raster.begin(item);
         Ok(())
     }

@@ -9,6 +9,7 @@ use Rattle.vp_esc.specs.declared.item.EscItem.TheVariants.{QrByte}
 use Rattle.vp_esc.specs.Reader.{stored_items}
 use Rattle.vp_receipt_settings.specs.Runs.{stored_after}
 use Rattle.vp_receipt_settings.specs.Symbols.{qr_data}
+use Rattle.vp_receipt_settings.specs.declared.stored.TheConstants.{STORED_BYTES}
 
 module _ (room : ℕ) (kept came : List ℕ) (byte : ℕ) (k : kept ≡ take room came) where
   pub kept_one : length kept < room → kept ++ byte ∷ [] ≡ take room (came ++ byte ∷ [])
@@ -38,31 +39,31 @@ data_after [] before = sym (append-nil (qr_data before))
 data_after (b ∷ bytes) before =
     ap qr_data (stored_first b bytes before) ∙ data_after bytes (QrByte b ∷ before) ∙ append_assoc (qr_data before) (b ∷ []) bytes
 
-module _ (kept came bytes : List ℕ) (k : kept ≡ take 652 came) where
-  room_is : (n : ℕ) → n ≡ min (652 - length kept) (length bytes) → take n bytes ≡ take (652 - length came) bytes
+module _ (kept came bytes : List ℕ) (k : kept ≡ take STORED_BYTES came) where
+  room_is : (n : ℕ) → n ≡ min (STORED_BYTES - length kept) (length bytes) → take n bytes ≡ take (STORED_BYTES - length came) bytes
   room_is n e =
-      let room : 652 - length kept ≡ 652 - length came = omega (arith, ap length k, length-take 652 came) in
-      ap (λ m. take m bytes) (e ∙ ap (λ m. min m (length bytes)) room) ∙ take_min (652 - length came) bytes
+      let room : STORED_BYTES - length kept ≡ STORED_BYTES - length came = omega (arith, ap length k, length-take STORED_BYTES came) in
+      ap (λ m. take m bytes) (e ∙ ap (λ m. min m (length bytes)) room) ∙ take_min (STORED_BYTES - length came) bytes
 
-  pub kept_run : (n : ℕ) → n ≡ min (652 - length kept) (length bytes) → kept ++ take n bytes ≡ take 652 (came ++ bytes)
+  pub kept_run : (n : ℕ) → n ≡ min (STORED_BYTES - length kept) (length bytes) → kept ++ take n bytes ≡ take STORED_BYTES (came ++ bytes)
   kept_run n e = ⊎_elim
-      (λ (h : length came < 652).
-      let sum : length came + (652 - length came) ≡ 652 = omega (arith, h) in
-      ap (λ (xs : List ℕ). xs ++ take n bytes) (k ∙ take_all 652 came (omega (arith, h)))
-      ∙ ap (λ (xs : List ℕ). came ++ xs) (room_is n e) ∙ sym (take-append-add came bytes (652 - length came))
+      (λ (h : length came < STORED_BYTES).
+      let sum : length came + (STORED_BYTES - length came) ≡ STORED_BYTES = omega (arith, h) in
+      ap (λ (xs : List ℕ). xs ++ take n bytes) (k ∙ take_all STORED_BYTES came (omega (arith, h)))
+      ∙ ap (λ (xs : List ℕ). came ++ xs) (room_is n e) ∙ sym (take-append-add came bytes (STORED_BYTES - length came))
       ∙ ap (λ m. take m (came ++ bytes)) sum)
-      (λ (h : 652 ≤ length came).
-      let none : 652 - length came ≡ 0 = omega (arith, h) in
+      (λ (h : STORED_BYTES ≤ length came).
+      let none : STORED_BYTES - length came ≡ 0 = omega (arith, h) in
       ap (λ (xs : List ℕ). kept ++ xs) (room_is n e ∙ ap (λ m. take m bytes) none) ∙ append-nil kept ∙ k
-      ∙ sym (take-append-le 652 came bytes h))
-      (cases_lt (length came) 652)
+      ∙ sym (take-append-le STORED_BYTES came bytes h))
+      (cases_lt (length came) STORED_BYTES)
 
   -- all of them go in
-  pub all_fit : (n : ℕ) (more : Bool) → n ≡ min (652 - length kept) (length bytes) → n ≡ length bytes → more ≡ nat_lt 652 (length came)
-      → more ≡ nat_lt 652 (length (came ++ bytes))
+  pub all_fit : (n : ℕ) (more : Bool) → n ≡ min (STORED_BYTES - length kept) (length bytes) → n ≡ length bytes → more ≡ nat_lt STORED_BYTES (length came)
+      → more ≡ nat_lt STORED_BYTES (length (came ++ bytes))
   all_fit n more e all m =
-      grind (arith, nat_tests, ap length k, length-take 652 came, length-append came bytes)
+      grind (arith, nat_tests, ap length k, length-take STORED_BYTES came, length-append came bytes)
 
   -- some do not
-  pub some_left : (n : ℕ) → n ≡ min (652 - length kept) (length bytes) → n < length bytes → true ≡ nat_lt 652 (length (came ++ bytes))
-  some_left n e some = sym (lt-ltb 652 (length (came ++ bytes)) (omega (arith, ap length k, length-take 652 came, length-append came bytes)))
+  pub some_left : (n : ℕ) → n ≡ min (STORED_BYTES - length kept) (length bytes) → n < length bytes → true ≡ nat_lt STORED_BYTES (length (came ++ bytes))
+  some_left n e some = sym (lt-ltb STORED_BYTES (length (came ++ bytes)) (omega (arith, ap length k, length-take STORED_BYTES came, length-append came bytes)))

@@ -1,7 +1,7 @@
 -- What an item does, as the code tells it.
 use Rattle.std.specs.Prelude.{ℕ, ◌*◌, nat_lt, Bool, true, false, not, ◌&&◌, if◌then◌else◌, Option, Some, None, max}
 use Rattle.vp_esc.specs.declared.item.EscItem.{EscItem}
-use Rattle.vp_esc.specs.declared.item.EscItem.TheVariants.{LineFeed, CarriageReturn, Control, Tab, Position, MovePosition, Character, Column8, Column24, Initialize, FeedDots, FeedLines, CutLeavingOnePoint, CutLeavingThreePoints, Cut, FeedAndCut, Raster, RasterByte, Symbol, QrPrint, QrIgnored, WithoutEffect, PageMode, StandardMode, FormFeed, Cancel, PrintPage, VerticalPosition, MoveVerticalPosition, Area, Direction}
+use Rattle.vp_esc.specs.declared.item.EscItem.TheVariants.{LineFeed, CarriageReturn, Control, Tab, Position, MovePosition, Character, Column8, Column24, Initialize, FeedDots, FeedLines, CutLeavingOnePoint, CutLeavingThreePoints, Cut, FeedAndCut, Raster, RasterByte, Symbol, QrPrint, QrIgnored, WithoutEffect, PageMode, StandardMode, FormFeed, Cancel, PrintPage, VerticalPosition, MoveVerticalPosition, Area, Direction, RightSpacing, PrintMode, Columns, Underline, DefaultLineSpacing, LineSpacing, TabStops, Emphasized, DoubleStrike, Font, Justify, Magnify, Inverse, HriPosition, HriFont, BarHeight, BarModule, LeftMargin, AreaWidth, QrModel, QrModule, QrLevel, QrStore, QrByte}
 use Rattle.vp_esc.specs.declared.item.Cut.TheVariants.{Partial}
 use Rattle.vp_esc.specs.declared.item.PrintDirection.{PrintDirection}
 use Rattle.vp_glyph.specs.Cells.{cell_width}
@@ -33,30 +33,7 @@ abbrev pub runs_along : Option PrintDirection → Effect
 runs_along (Some d) = Lays (Along (direction_of d))
 runs_along None = Sets
 
--- what an item does that has to do with positions, with the page or with the modes, or only sets
-abbrev pub page_effect_of : Settings → EscItem → Effect
-page_effect_of s Tab = Tabs
-page_effect_of s (Position n) = Moves (position_at n s.position (settings_length s))
-page_effect_of s (MovePosition by) = Moves (position_moved by s.position (settings_length s))
-page_effect_of s Initialize = Initializes
-page_effect_of s PageMode = if_done (not (is_paged s.page.mode) && not s.is_open) BeginsPage
-page_effect_of s StandardMode = if_done (is_paged s.page.mode) LeavesPage
-page_effect_of s (VerticalPosition n) = Lays (At n)
-page_effect_of s (MoveVerticalPosition by) =
-    if_done (is_vertical_move by s.page.vertical) (Lays (At (vertical_moved by s.page.vertical)))
-page_effect_of s (Area x y wide high) =
-    if_done (is_area s.paper x y wide high) (Lays (Within (area_cut s.paper x y wide high)))
-page_effect_of s (Direction d) = runs_along d.value
-page_effect_of s Cancel = Wipes
-page_effect_of s PrintPage = PrintsPage
-page_effect_of s FormFeed = EndsPage
-page_effect_of s CarriageReturn = Nothing
-page_effect_of s (Control byte) = Nothing
-page_effect_of s (QrIgnored bytes) = Nothing
-page_effect_of s (WithoutEffect lead bytes) = Nothing
-page_effect_of s _ = Sets
-
--- what an item does under the settings
+-- what an item does under the settings; each has its arm, so that a new one is asked for its own
 abbrev pub effect_of : Settings → EscItem → Effect
 effect_of s (Character code) = if is_full_of s then Breaks (feed_of s) code else Puts (OneCharacter code)
 effect_of s (Column8 byte) = if_done (nat_lt s.position (settings_length s)) (Puts (OneColumn8 byte))
@@ -73,7 +50,67 @@ effect_of s (Raster scale bytes rows) =
 effect_of s (RasterByte byte) = Fills byte
 effect_of s (Symbol kind bytes more) = Draws
 effect_of s QrPrint = Draws
-effect_of s item = page_effect_of s item
+effect_of s Tab = Tabs
+effect_of s (Position n) = Moves (position_at n s.position (settings_length s))
+effect_of s (MovePosition by) = Moves (position_moved by s.position (settings_length s))
+effect_of s Initialize = Initializes
+effect_of s PageMode = if_done (not (is_paged s.page.mode) && not s.is_open) BeginsPage
+effect_of s StandardMode = if_done (is_paged s.page.mode) LeavesPage
+effect_of s (VerticalPosition n) = Lays (At n)
+effect_of s (MoveVerticalPosition by) =
+    if_done (is_vertical_move by s.page.vertical) (Lays (At (vertical_moved by s.page.vertical)))
+effect_of s (Area x y wide high) =
+    if_done (is_area s.paper x y wide high) (Lays (Within (area_cut s.paper x y wide high)))
+effect_of s (Direction d) = runs_along d.value
+effect_of s Cancel = Wipes
+effect_of s PrintPage = PrintsPage
+effect_of s FormFeed = EndsPage
+effect_of s CarriageReturn = Nothing
+effect_of s (Control byte) = Nothing
+effect_of s (QrIgnored bytes) = Nothing
+effect_of s (WithoutEffect lead bytes) = Nothing
+effect_of s (RightSpacing _) = Sets
+effect_of s (PrintMode _) = Sets
+effect_of s (Columns _ _) = Sets
+effect_of s (Underline _) = Sets
+effect_of s DefaultLineSpacing = Sets
+effect_of s (LineSpacing _) = Sets
+effect_of s (TabStops _ _) = Sets
+effect_of s (Emphasized _) = Sets
+effect_of s (DoubleStrike _) = Sets
+effect_of s (Font _) = Sets
+effect_of s (Justify _) = Sets
+effect_of s (Magnify _) = Sets
+effect_of s (Inverse _) = Sets
+effect_of s (HriPosition _) = Sets
+effect_of s (HriFont _) = Sets
+effect_of s (BarHeight _) = Sets
+effect_of s (BarModule _) = Sets
+effect_of s (LeftMargin _) = Sets
+effect_of s (AreaWidth _) = Sets
+effect_of s (QrModel _) = Sets
+effect_of s (QrModule _) = Sets
+effect_of s (QrLevel _) = Sets
+effect_of s (QrStore _) = Sets
+effect_of s (QrByte _) = Sets
+
+-- what has to do with the line, with cuts, rasters or symbols, and not with positions, the page or the modes
+abbrev pub is_of_line : EscItem → Bool
+is_of_line (Character _) = true
+is_of_line (Column8 _) = true
+is_of_line (Column24 _) = true
+is_of_line LineFeed = true
+is_of_line (FeedDots _) = true
+is_of_line (FeedLines _) = true
+is_of_line CutLeavingOnePoint = true
+is_of_line CutLeavingThreePoints = true
+is_of_line (Cut _) = true
+is_of_line (FeedAndCut _ _) = true
+is_of_line (Raster _ _ _) = true
+is_of_line (RasterByte _) = true
+is_of_line (Symbol _ _ _) = true
+is_of_line QrPrint = true
+is_of_line _ = false
 
 -- the rows of the strip in which it ends the line
 abbrev pub effect_rows : Settings → Effect → ℕ
@@ -81,7 +118,20 @@ effect_rows s (Breaks rows code) = rows
 effect_rows s (Feeds rows) = rows
 effect_rows s (BeginsRaster rows) = if s.is_open then feed_of s else 0
 effect_rows s Draws = if s.is_open then feed_of s else 0
-effect_rows s _ = 0
+effect_rows s Nothing = 0
+effect_rows s Sets = 0
+effect_rows s (Moves to) = 0
+effect_rows s Tabs = 0
+effect_rows s Initializes = 0
+effect_rows s (Puts piece) = 0
+effect_rows s (Cuts dots cut) = 0
+effect_rows s (Fills byte) = 0
+effect_rows s BeginsPage = 0
+effect_rows s LeavesPage = 0
+effect_rows s (Lays next) = 0
+effect_rows s Wipes = 0
+effect_rows s PrintsPage = 0
+effect_rows s EndsPage = 0
 
 -- whether it lays the line of a page where it is
 abbrev pub lays_line_by : Effect → Bool
@@ -89,7 +139,20 @@ lays_line_by (Lays next) = true
 lays_line_by Wipes = true
 lays_line_by PrintsPage = true
 lays_line_by EndsPage = true
-lays_line_by _ = false
+lays_line_by Nothing = false
+lays_line_by Sets = false
+lays_line_by (Moves to) = false
+lays_line_by Tabs = false
+lays_line_by Initializes = false
+lays_line_by (Puts piece) = false
+lays_line_by (Breaks rows code) = false
+lays_line_by (Feeds rows) = false
+lays_line_by (Cuts dots cut) = false
+lays_line_by (BeginsRaster rows) = false
+lays_line_by (Fills byte) = false
+lays_line_by Draws = false
+lays_line_by BeginsPage = false
+lays_line_by LeavesPage = false
 
 -- whether it prints the page
 abbrev pub is_page : Effect → Bool

@@ -21,6 +21,7 @@ use Rattle.vp_receipt_settings.specs.declared.effect.NextLines.TheVariants.{At, 
 use Rattle.vp_receipt_settings.specs.declared.page_mode.PrinterMode.TheVariants.{Standard, Page}
 use Rattle.vp_receipt_settings.specs.declared.page_mode.PageSettings.{PageSettings}
 use Rattle.vp_receipt_settings.specs.declared.settings.Settings.{Settings}
+use Rattle.vp_receipt_settings.specs.declared.column.TheConstants.{COLUMN_ROWS}
 
 -- no line, at the same position
 abbrev pub without_line : Settings → Settings
@@ -55,7 +56,7 @@ abbrev pub line_after : Settings → Effect → List ℕ → Settings
 line_after s (Moves to) stops = record s { position = to }
 line_after s Tabs stops = record s { position = tabbed stops s.position (settings_length s) }
 line_after s (Puts (Character code)) stops = with_cell s
-line_after s (Puts column) stops = with_piece s s.column_width 24
+line_after s (Puts column) stops = with_piece s s.column_width COLUMN_ROWS
 line_after s (Breaks rows code) stops = with_cell (closed s)
 line_after s (Feeds rows) stops = closed s
 line_after s (Cuts dots cut) stops = line_closed_if (not (is_paged s.page.mode)) s

@@ -6,7 +6,7 @@ use Rattle.vp_esc.specs.declared.item.Underline.{Underline as Rule}
 use Rattle.vp_esc.specs.declared.item.Underline.TheVariants.{Off, OneRow, TwoRows}
 use Rattle.vp_esc.specs.declared.item.Magnification.{Magnification}
 use Rattle.vp_glyph.specs.declared.cell.Font.{Font}
-use Rattle.vp_glyph.specs.declared.cell.Font.TheVariants.{A, B}
+use Rattle.vp_glyph.specs.declared.cell.Font.TheVariants.{A}
 use Rattle.vp_glyph.specs.declared.cell.Style.{Style}
 use Rattle.vp_receipt_settings.specs.declared.text.Text.{Text}
 

@@ -1,8 +1,8 @@
 //! What an item does, on paper and on a page.
-ghost use Rattle.std.specs.Prelude.{◌≡◌, ℕ};
+ghost use Rattle.std.specs.Prelude.{◌≡◌, false, ℕ};
 ghost use Rattle.vp_esc.specs.declared.item.EscItem.{EscItem};
 ghost use Rattle.vp_receipt_settings.specs.Settings.{IsFit};
-ghost use Rattle.vp_receipt_settings.specs.Effects.{effect_of, page_effect_of, if_done, runs_along, effect_rows, lays_line_by, is_page, waits_of};
+ghost use Rattle.vp_receipt_settings.specs.Effects.{effect_of, is_of_line, if_done, runs_along, effect_rows, lays_line_by, is_page, waits_of};
 
 use crate::page_mode::{area_of, direction_of, vertical_moved};
 use crate::raster::{draws, scale_named, times_down};
@@ -128,8 +128,9 @@ impl Effect {
 impl Settings {
     /// What an item does that has to do with positions, with the page or with the modes, or only sets.
     fn page_effect(self, item: &EscItem) -> Effect
-        requires { IsFit self }
-        ensures { result ≡ page_effect_of self item.now }
+        requires fit { IsFit self }
+        requires other { is_of_line item.now ≡ false }
+        ensures { result ≡ effect_of self item.now }
     {
         match item {
             EscItem::Tab => Effect::Tabs,

@@ -19,7 +19,7 @@ ghost use Rattle.vp_glyph.specs.Blocks.{indent};
 ghost use Rattle.vp_glyph.specs.Cells.{cell_width};
 
 use crate::bar_style::BarStyle;
-use crate::column::Column;
+use crate::column::{COLUMN_ROWS, Column};
 use crate::effect::{Effect, NextLines, Piece};
 use crate::page_mode::{PageSettings, PrinterMode};
 use crate::qr_style::QrStyle;
@@ -375,7 +375,7 @@ impl Settings {
             Effect::Moves(to) => self.at(to),
             Effect::Tabs => self.at(after_tab(stops, self.position, self.line_length())),
             Effect::Puts(Piece::Character(_)) => self.with_cell(),
-            Effect::Puts(_) => self.with_piece(u16::from(self.column_width), 24),
+            Effect::Puts(_) => self.with_piece(u16::from(self.column_width), COLUMN_ROWS as u16),
             Effect::Breaks { .. } => self.closed().with_cell(),
             Effect::Feeds(_) | Effect::BeginsRaster(_) | Effect::Draws | Effect::LeavesPage => {
                 self.closed()

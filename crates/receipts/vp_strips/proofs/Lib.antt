@@ -7,3 +7,4 @@ pub mod LineTexts
 pub mod QrImages
 pub mod Doubling
 pub mod Magnified
+pub mod Blackening

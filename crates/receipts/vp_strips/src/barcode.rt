@@ -5,7 +5,7 @@ ghost use Rattle.vp_bars.specs.Boxes.{box_width, box_height, box_dot};
 ghost use Rattle.vp_strips.specs.SymbolInks.{box_of};
 ghost use Rattle.vp_receipt_settings.specs.Symbols.{IsFitBars, bars_of, bars_refusal, bars_image, box_image};
 
-use vp_bars::{BarBox, BarCode, Bars, HriPosition, linear, rows_repeat};
+use vp_bars::{BarBox, BarCode, Bars, HriPosition, alike_rows, linear};
 use vp_dots::{Fault, Ink, Small, Why};
 use vp_glyph::{Font, Sheets};
 use vp_receipt_settings::BarStyle;
@@ -45,12 +45,14 @@ impl BarSymbol {
         )
     }
 
-    /// Whether row y of the box is known to have the dots of the row above it.
-    pub fn repeats(&self, y: u32) -> bool
-        ensures { result ≡ true → (sheets : Given) (x : ℕ) →
-            box_dot (box_of sheets self.now) x y ≡ box_dot (box_of sheets self.now) x (y - 1) }
+    /// The first and the last of the rows around row y that are known to have its dots.
+    pub fn alike(&self, y: u32) -> (u32, u32)
+        ensures first { result.0 ≤ y }
+        ensures last { y ≤ result.1 }
+        ensures same { (sheets : Given) (x v : ℕ) → result.0 ≤ v → v ≤ result.1 →
+            box_dot (box_of sheets self.now) x v ≡ box_dot (box_of sheets self.now) x y }
     {
-        rows_repeat(self.place, self.font, self.height, y)
+        alike_rows(self.place, self.font, self.height, y)
     }
 
     /// How wide and high the box is.

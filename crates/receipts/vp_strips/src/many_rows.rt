@@ -77,22 +77,8 @@ fn copy_line_rows<A: Small>(
     }
 }
 
-/// Writes row y + k: it stands there already where it is known to be as the row above it, which was written
-/// before unless k is 0.
-fn write_next<A: Small>(dots: Dots, y: u32, k: u32, canvas: &Canvas<A>, row: &mut [u8; PAPER_BYTES])
-    requires low { IsLowDots dots }
-    requires inside { y + k < 2 ^ 32 }
-    requires above { 0 < k → row.old ≡
-        row_of PAPER_BYTES (λ x. dot_in dots (canvas_of canvas.now) x (y + k - 1)) }
-    ensures { row.new ≡ row_of PAPER_BYTES (λ x. dot_in dots (canvas_of canvas.now) x (y + k)) }
-{
-    if k > 0 && dots.repeats(y + k, canvas) {
-        return;
-    }
-    dots.write_row(y + k, canvas, row);
-}
-
-/// Copies rows that are written one by one, from row y on, as far as the paper goes.
+/// Copies rows that are written, from row y on, as far as the paper goes: of those that are known to be alike
+/// one is written.
 fn copy_written_rows<A: Small>(
     dots: Dots,
     paper: Width,
@@ -109,9 +95,15 @@ fn copy_written_rows<A: Small>(
 {
     let bytes = paper.row_bytes();
     let mut row = [0; PAPER_BYTES];
-    for k in 0..rows {
-        write_next(dots, y, k, canvas, &mut row);
-        copy_row(&row[..bytes], &mut room[k as usize * bytes..]);
+    let mut k = 0;
+    while k < rows {
+        dots.write_row(y + k, canvas, &mut row);
+        let (_, last) = dots.alike(y + k, canvas);
+        let behind = last.min(y + (rows - 1)) + 1 - y;
+        for j in k..behind {
+            copy_row(&row[..bytes], &mut room[j as usize * bytes..]);
+        }
+        k = behind;
     }
 }
 

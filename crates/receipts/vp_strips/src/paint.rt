@@ -1,8 +1,9 @@
 //! The bitmap of a line: how many of its lowest rows are in use, and so have to be cleared for the next line.
-ghost use Rattle.std.specs.Prelude.{◌≡◌, ℕ, ◌+◌, ◌-◌, ◌*◌, ◌<◌, ◌≤◌, ◌^◌, ◌∷◌, [], List, ◌/◌, nat_le, pos, ℤ, IfOk, length, false, slice_index, slice_index_or, nat_lt, ◌&&◌};
+ghost use Rattle.std.specs.Prelude.{◌≡◌, ℕ, ◌+◌, ◌-◌, ◌*◌, ◌<◌, ◌≤◌, ◌^◌, ◌∷◌, [], List, ◌/◌, ◌%◌, min, nat_le, pos, ℤ, IfOk, length, false, slice_index, slice_index_or, nat_lt, ◌&&◌};
 ghost use Rattle.vp_dots.specs.Dots.{dot, shifted, span};
 ghost use Rattle.vp_glyph.specs.Cells.{cell_width, cell_height, cell_dot};
 ghost use Rattle.vp_dots.specs.Words.{word_dot};
+ghost use Rattle.vp_dots.specs.Painting.{Painted};
 ghost use Rattle.vp_dots.specs.Places.{placed, words_dot, RowsPainted};
 ghost use Rattle.vp_dots.specs.declared.Op.TheVariants.{Black};
 ghost use Rattle.vp_page.specs.declared.line.TheConstants.{LINE_BYTES, LINE_DOTS};
@@ -13,11 +14,12 @@ ghost use Rattle.vp_strips.specs.LineDots.{HasDots, ink_placed};
 
 use std::alloc::{AllocError, Global};
 use std::marker::Model;
+use std::simd::u8x64;
 use vp_dots::{
     Band, Ink, NARROW, Op, Ready, Small, WORDS, fill_dots, first_dots, paint_at, paint_narrow,
 };
 use vp_glyph::{Cell, doubled_rows, widened_rows};
-use vp_page::LINE_BYTES;
+use vp_page::{LINE_BYTES, LINE_DOTS};
 use vp_receipt_settings::LINE_ROWS;
 
 /// The rows of a line, as long as the longest one of a page, of which the lowest are in use.
@@ -173,7 +175,69 @@ fn paint_dots<A: Small>(
     paint_part::<6, A>(words, 6, wm, high, times, at + 6 * wm as usize, top, band);
 }
 
-/// Blackens `wide` dots of each of `high` rows, from column `at` and row `top` on.
+/// Blackens 64 bytes of a row, from byte i on.
+#[inline(always)]
+fn blacken_block(i: usize, row: &mut [u8])
+    requires { i + 64 ≤ length row.old }
+    ensures { Painted Black (λ d. span i (i + 64) (d / 8)) row.old row.new }
+{
+    u8x64::splat(255).copy_to_slice(&mut row[i..]);
+}
+
+/// Blackens the bytes of a row from one on and before another, of which there are at least 64: four blocks
+/// have room for all of them, and the last ones may lie over each other.
+#[inline(always)]
+fn blacken_bytes(from: usize, to: usize, row: &mut [u8])
+    requires many { from + 64 ≤ to }
+    requires room { to ≤ LINE_BYTES }
+    requires row { length row.old ≡ LINE_BYTES }
+    ensures { Painted Black (λ d. span from to (d / 8)) row.old row.new }
+{
+    for k in 0..4usize {
+        blacken_block((from + 64 * k).min(to - 64), row);
+    }
+}
+
+/// Blackens the dots before `end` of each of `high` rows, from byte `first` and row `top` on, where they are
+/// whole bytes, and many.
+fn blacken_whole<A: Small>(
+    first: usize,
+    end: usize,
+    high: usize,
+    top: usize,
+    band: &mut Band<LINE_BYTES, LINE_ROWS, A>,
+)
+    requires room { top + high ≤ LINE_ROWS }
+    requires whole { min end LINE_DOTS % 8 ≡ 0 }
+    requires many { first + 64 ≤ min end LINE_DOTS / 8 }
+    ensures { RowsPainted LINE_ROWS Black (λ x k. span top (top + high) k && span (8 * first) end x)
+        band.old band.new }
+{
+    let last = end.min(LINE_DOTS) / 8;
+    for i in 0..high {
+        blacken_bytes(first, last, band.row_mut(top + i));
+    }
+}
+
+/// Blackens the dots from one on and before another of each of `high` rows, from row `top` on.
+fn blacken_each<A: Small>(
+    from: u64,
+    to: u64,
+    high: usize,
+    top: usize,
+    band: &mut Band<LINE_BYTES, LINE_ROWS, A>,
+)
+    requires room { top + high ≤ LINE_ROWS }
+    ensures { RowsPainted LINE_ROWS Black (λ x k. span top (top + high) k && span from to x)
+        band.old band.new }
+{
+    for i in 0..high {
+        fill_dots(Op::Black, from, to, band.row_mut(top + i));
+    }
+}
+
+/// Blackens `wide` dots of each of `high` rows, from column `at` and row `top` on: of many, all whole bytes
+/// and then the few dots before and behind them.
 fn blacken<A: Small>(
     wide: u32,
     high: usize,
@@ -190,11 +254,16 @@ fn blacken<A: Small>(
         paint_alike(first_dots(wide), high, at, top, band);
         return;
     }
-    let from = at as u64;
-    let to = from + u64::from(wide);
-    for i in 0..high {
-        fill_dots(Op::Black, from, to, band.row_mut(top + i));
+    let to = at + wide as usize;
+    let first = at.div_ceil(8);
+    let end = if to < LINE_DOTS { to / 8 * 8 } else { to };
+    if first + 64 > end.min(LINE_DOTS) / 8 {
+        blacken_each(at as u64, to as u64, high, top, band);
+        return;
     }
+    blacken_whole(first, end, high, top, band);
+    paint_alike(first_dots((8 * first - at) as u32), high, at, top, band);
+    paint_alike(first_dots((to - end) as u32), high, end, top, band);
 }
 
 /// Paints a character at a place: its rows, each drawn once however often it is printed, and what is black

@@ -168,16 +168,17 @@ impl Dots {
         dots_decide(row);
     }
 
-    /// Whether row y is known to have the dots of the row above it.
-    pub fn repeats<A: Small>(self, y: u32, canvas: &Canvas<A>) -> bool
-        ensures { result ≡ true → (x : ℕ) → dot_in self (canvas_of canvas.now) x y ≡
-            dot_in self (canvas_of canvas.now) x (y - 1) }
+    /// The first and the last of the rows around row y that are known to have its dots.
+    pub fn alike<A: Small>(self, y: u32, canvas: &Canvas<A>) -> (u32, u32)
+        ensures first { result.0 ≤ y }
+        ensures last { y ≤ result.1 }
+        ensures same { (x v : ℕ) → result.0 ≤ v → v ≤ result.1 →
+            dot_in self (canvas_of canvas.now) x v ≡ dot_in self (canvas_of canvas.now) x y }
     {
         match self {
-            Dots::White | Dots::Across(_) | Dots::Raster => true,
-            Dots::Drawn { .. } => canvas.symbol.repeats(&canvas.sheets, y),
-            Dots::Line { .. } => false,
-            Dots::Page => false,
+            Dots::White | Dots::Across(_) | Dots::Raster => (0, u32::MAX),
+            Dots::Drawn { .. } => canvas.symbol.alike(&canvas.sheets, y),
+            Dots::Line { .. } | Dots::Page => (y, y),
         }
     }
 

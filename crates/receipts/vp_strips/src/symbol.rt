@@ -59,15 +59,17 @@ impl Symbol {
         }
     }
 
-    /// Whether row y is known to have the dots of the row above it.
-    pub fn repeats<A: Small>(&self, sheets: &Sheets<A>, y: u32) -> bool
-        ensures { result ≡ true → (x : ℕ) →
-            symbol_dot sheets.now self.now x y ≡ symbol_dot sheets.now self.now x (y - 1) }
+    /// The first and the last of the rows around row y that are known to have its dots.
+    pub fn alike<A: Small>(&self, sheets: &Sheets<A>, y: u32) -> (u32, u32)
+        ensures first { result.0 ≤ y }
+        ensures last { y ≤ result.1 }
+        ensures same { (x v : ℕ) → result.0 ≤ v → v ≤ result.1 →
+            symbol_dot sheets.now self.now x v ≡ symbol_dot sheets.now self.now x y }
     {
         match self {
-            Symbol::Blank => true,
-            Symbol::Qr(ink) => ink.repeats(y),
-            Symbol::Bars(bars) => bars.repeats(y),
+            Symbol::Blank => (0, u32::MAX),
+            Symbol::Qr(ink) => ink.alike(y),
+            Symbol::Bars(bars) => bars.alike(y),
         }
     }
 

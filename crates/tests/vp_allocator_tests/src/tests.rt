@@ -1,6 +1,6 @@
 use linked_list_allocator::LocalHeap;
 use std::test::Fail;
-use vp_dots::{Band, Full, Op, Store, fill_dots, lay_eight};
+use vp_dots::{Band, Full, Op, Store, fill_dots, paint_words};
 use vp_page::{Area, Direction, Page};
 
 #[test]
@@ -14,7 +14,7 @@ fn a_band_takes_its_rows_and_nothing_after(rt: HostRuntime) -> Result<(), Fail> 
         assert_eq!(rt; band.get(8, 1), Some(true));
         band.clear();
         assert_eq!(rt; band.get(8, 1), Some(false));
-        lay_eight(Op::Black, &[[0x80]; 8], 16, 0, &mut band);
+        paint_words(Op::Black, &[1 << 63], 1, 23, 0, &mut band);
         assert_eq!(rt; band.get(23, 0), Some(true));
         assert_eq!(rt; heap.free(), 0);
     }

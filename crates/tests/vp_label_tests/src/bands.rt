@@ -96,8 +96,8 @@ fn copy(
     requires narrow { view.width ≤ 1248 }
     requires low { view.height ≤ 32 * BANDS }
     requires from { from ≤ 8000 }
-    requires before { IsBefore (record { a = None; b = None }) format.now.stored view 0 painter.old }
-    ensures { IsBefore (record { a = None; b = None }) format.now.stored view 0 painter.new }
+    requires before { IsBefore (record { a = None; b = None }) format.now view 0 painter.old }
+    ensures { IsBefore (record { a = None; b = None }) format.now view 0 painter.new }
 {
     let mut copied = Copied {
         rows: [0; 5],
@@ -105,7 +105,7 @@ fn copy(
         looks: 0,
     };
     for b in 0..view.height.div_ceil(32) as usize {
-        painter.paint(b, &NONE, format.stored(), view, band);
+        painter.paint(b, &NONE, format, view, band);
         add(&mut copied, b, view.height, band, from);
     }
     copied.looks = painter.looks();

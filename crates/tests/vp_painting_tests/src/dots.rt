@@ -7,7 +7,7 @@ use std::process::Abort;
 use std::test::Fail;
 use vp_dots::{
     Band, Fault, Full, Ink, Op, Store, Why, clear_into, fill_dots, fill_moved, first_dots, header,
-    lay_eight, or_into, paint_at, paint_bits, paint_dot, paint_word, turned, word_at, xor_into,
+    or_into, paint_at, paint_bits, paint_dot, paint_word, word_at, xor_into,
 };
 
 /// Stairs down to the right: line y has ink at its first y + 1 places.
@@ -329,43 +329,12 @@ fn words_cut(rt: HostRuntime) {
     same(&rt, &firsts, &[0, 0xfff0_0000_0000_0000, u64::MAX]);
 }
 
-/// A diagonal of lines: line i has its dot i + 3.
-fn diagonal() -> [[u8; 2]; 8] {
-    let mut lines = [[0u8; 2]; 8];
-    for i in 0..8 {
-        paint_dot(Op::Black, i as u128 + 3, &mut lines[i]);
-    }
-    lines
-}
-
-/// The diagonal is laid, and flipped further up.
-fn lays_the_diagonal(rt: &impl Abort, band: &mut Band<3, 12>) {
-    lay_eight(Op::Black, &diagonal(), 5, 0, band);
-    for i in 0..8u8 {
-        let (x, y) = (usize::from(i) + 5, usize::from(i) + 3);
-        same(
-            rt,
-            &[band.get(x, y), band.get(x, y - 1)],
-            &[Some(true), Some(false)],
-        );
-    }
-    lay_eight(Op::Flip, &diagonal(), 5, -4, band);
-    let dots = [band.get(5, 0), band.get(6, 0), band.get(12, 6)];
-    same(rt, &dots, &[Some(false), Some(true), Some(true)]);
-}
-
-/// Laid across the rows of a band.
-#[test]
-fn across(rt: HostRuntime) -> Result<(), Fail> {
-    let mut band: Band<3, 12> = Band::new(rt.alloc())?;
-    lays_the_diagonal(&rt, &mut band);
-    Ok(())
-}
-
 #[test]
 fn cleared_rows(rt: HostRuntime) -> Result<(), Fail> {
     let mut band: Band<3, 12> = Band::new(rt.alloc())?;
-    lay_eight(Op::Black, &diagonal(), 5, 0, &mut band);
+    for i in 0..8usize {
+        paint_dot(Op::Black, i as u128 + 5, band.row_mut(i + 3));
+    }
     band.clear_rows(0, 10);
     same(
         &rt,
@@ -373,9 +342,4 @@ fn cleared_rows(rt: HostRuntime) -> Result<(), Fail> {
         &[Some(false), Some(true)],
     );
     Ok(())
-}
-
-#[test]
-fn a_row_turned(rt: HostRuntime) {
-    same(&rt, &turned(0xff00_0000_0000_0000), &0x8080_8080_8080_8080);
 }

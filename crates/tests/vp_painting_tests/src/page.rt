@@ -5,6 +5,7 @@ use std::process::Abort;
 use std::test::Fail;
 use vp_dots::{Ink, Op, paint_dot};
 use vp_page::{AT_ONCE, Area, Direction, LINE_BYTES, PAGE_ROWS, Page};
+use vp_qr::{Level, Mode, QrInk, encode};
 
 /// A wedge: line y has ink at its first side - y places.
 #[derive(Drop)]
@@ -387,4 +388,55 @@ fn lines_of_whole_words(rt: HostRuntime) -> Result<(), Fail> {
         }
     }
     Ok(())
+}
+
+/// The lines of a symbol, dot by dot.
+fn lines_of(ink: &QrInk) -> [[u8; LINE_BYTES]; AT_ONCE] {
+    let mut lines = [[0; LINE_BYTES]; AT_ONCE];
+    for y in 0..192u32 {
+        for x in 0..192u32 {
+            if ink.ink(x, y) {
+                paint_dot(Op::Black, u128::from(x), &mut lines[y as usize]);
+            }
+        }
+    }
+    lines
+}
+
+/// A symbol of 21 modules, of which each has nine lines that are alike, is laid as dot by dot.
+fn lays_a_symbol(rt: &impl Abort, alloc: Global, direction: Direction) -> Result<(), Fail> {
+    let qr = encode(b"HELLO WORLD", Level::L, Mode::Auto).expect(rt, "no symbol");
+    let ink = qr.scaled(9);
+    let (wide, _) = ink.size();
+    assert!(rt; wide <= 1664);
+    let lines = lines_of(&ink);
+    for area in &AREAS {
+        for v in &DEPTHS {
+            let want = painted(alloc, *area, direction, *v, &lines)?;
+            let mut page = Page::new(alloc)?;
+            page.lay(&ink, *area, direction, *v);
+            same(rt, &differences(&page, &want), &0);
+        }
+    }
+    Ok(())
+}
+
+#[test]
+fn a_symbol_to_the_right(rt: HostRuntime) -> Result<(), Fail> {
+    lays_a_symbol(&rt, rt.alloc(), Direction::LeftToRight)
+}
+
+#[test]
+fn a_symbol_upward(rt: HostRuntime) -> Result<(), Fail> {
+    lays_a_symbol(&rt, rt.alloc(), Direction::BottomToTop)
+}
+
+#[test]
+fn a_symbol_to_the_left(rt: HostRuntime) -> Result<(), Fail> {
+    lays_a_symbol(&rt, rt.alloc(), Direction::RightToLeft)
+}
+
+#[test]
+fn a_symbol_downward(rt: HostRuntime) -> Result<(), Fail> {
+    lays_a_symbol(&rt, rt.alloc(), Direction::TopToBottom)
 }

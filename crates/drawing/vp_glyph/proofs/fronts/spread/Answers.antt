@@ -1,4 +1,4 @@
-use Rattle.std.proofs.Common.{◌≡◌, ◌+◌, ◌-◌, min, ap, ◌∙◌, sym, arith, ◌||◌, get_or}
+use Rattle.std.proofs.Common.{◌+◌, ◌-◌, min, ap, ◌∙◌, arith}
 use Rattle.vp_glyph.specs.Halves.{half_dot}
 use Rattle.vp_glyph.proofs.Halves.{white_half}
 use Rattle.vp_glyph.proofs.Spread.{edge_first}
@@ -12,14 +12,13 @@ loop-s-init g c = record {
   from = let e = edge_first 24 c.args.high (omega arith) in omega (arith, e, c.rows_above-from.ensures);
 }
 
-pub loop-s-preserved-then-ink-ne0 : goal.loop-s-preserved-then-ink-ne0
-loop-s-preserved-then-ink-ne0 g c =
+pub loop-s-preserved-then-rows-s-ne0 : goal.loop-s-preserved-then-rows-s-ne0
+loop-s-preserved-then-rows-s-ne0 g c =
     let to = c.rows_above-to.ensures ∙ ap (λ e. min (c.args.above + e - c.args.top) g.row.N) c.first_row.ensures.row in
     let next = c.alike_to-behind.ensures in
     record {
       within = next.within;
-      added = added_more _ _ _ _ _ c.loop-s.s _ _ _ next.within next.some next.alike c.loop-s.invariant.added _ _ _ c.loop-s.invariant.from to
-          (λ i x l m h. c.blacken.ensures.inside i x l m ∙ ap (λ t. half_dot (get_or c.loop-s.fronts i 0) x || t) (c.left_half-ink.ensures x h)) c.blacken.ensures.outside;
+      added = added_more _ _ _ _ _ c.loop-s.s _ _ _ next.within next.some next.alike c.loop-s.invariant.added _ _ _ c.loop-s.invariant.from to c.blacken_run.ensures;
       from = to;
     }
 
@@ -27,11 +26,10 @@ pub loop-s-preserved : goal.loop-s-preserved
 loop-s-preserved g c =
     let to = c.rows_above-to.ensures ∙ ap (λ e. min (c.args.above + e - c.args.top) g.row.N) c.first_row.ensures.row in
     let next = c.alike_to-behind.ensures in
-    let white : c.left_half-ink.result ≡ 0 = omega arith in
     record {
       within = next.within;
       added = added_white _ _ _ _ _ c.loop-s.s _ _ _ next.within next.some next.alike c.loop-s.invariant.added
-          (λ x l. sym (c.left_half-ink.ensures x l) ∙ ap (λ v. half_dot v x) white ∙ white_half x);
+          (λ x l. ap (λ v. half_dot v x) c.if-rows-s-ne0.false ∙ white_half x);
       from = to;
     }
 

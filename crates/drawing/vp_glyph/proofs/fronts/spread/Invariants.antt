@@ -1,4 +1,5 @@
 use Rattle.std.proofs.Common.{◌≡◌, ◌+◌, ◌-◌, ◌≤◌, min}
+use Rattle.vp_glyph.specs.Halves.{front_dot}
 use Rattle.vp_glyph.proofs.Spread.{edge_at}
 use Rattle.vp_glyph.proofs.Gathered.{Added}
 use Rattle.vp_glyph.proofs.fronts.spread.Given as goal
@@ -7,7 +8,7 @@ use Rattle.vp_glyph.proofs.fronts.spread.Given as goal
 abbrev pub invariant-loop-s : goal.invariant-loop-s
 invariant-loop-s g l = record {
   within : l.s ≤ 24;
-  added : Added l.rows l.above l.high g.row.N l.top l.s l.fn.fronts l.fronts;
+  added : Added l.rows l.above l.high g.row.N l.top l.s (front_dot 16 l.fn.groups l.fn.fronts) (front_dot 16 l.groups l.fronts);
   from : l.from ≡ min (l.above + edge_at 24 l.high l.s - l.top) g.row.N;
 }
 

@@ -1,8 +1,8 @@
-use Rattle.std.proofs.Common.{ℕ, arith, length, ◌≡◌, ◌∙◌, ◌+◌, ◌*◌, ◌/◌, ◌<◌, ◌≤◌, ap, ◌||◌, get_or, inl, inr, refl, sym, w64}
-use Rattle.std.proofs.Math.Nat.{div-lt_iff_lt-mul, mul-le-mul_left}
+use Rattle.std.proofs.Common.{ℕ, arith, length, ◌≡◌, ◌∙◌, ◌+◌, ◌*◌, ◌<◌, ◌≤◌, ap, ◌||◌, get_or, inl, inr, refl, sym, w64}
+use Rattle.std.proofs.Math.Nat.{mul-le-mul_left}
 use Rattle.std.proofs.lemmas.Bool.{cases_lt}
 use Rattle.std.proofs.lemmas.Int.{to_z-of_z}
-use Rattle.vp_dots.specs.Words.{word_dot}
+use Rattle.vp_glyph.specs.Halves.{half_dot}
 use Rattle.vp_dots.specs.declared.Op.TheVariants.{Black}
 use Rattle.vp_glyph.specs.Blocks.{pieces, first}
 use Rattle.vp_glyph.proofs.Pieces.{behind_all, behind_more, cell_is}
@@ -14,16 +14,23 @@ use Rattle.vp_glyph.proofs.joined.add_cells.Goals as goal
 begun : (w k cells to : ℕ) → w * k < to → to ≤ w * cells → k < cells
 begun w k cells to l m = elim (cases_lt k cells) [ inl y ↦ y | inr g ↦ absurd (let o : w * cells ≤ w * k = mul-le-mul_left w g in omega arith) ]
 
+-- cells that end within a line
+few : (w k cells from : ℕ) → 0 < w → w * k ≤ from → from ≤ w * cells → k ≤ cells
+few w k cells from p l m = elim (cases_lt cells k) [ inl y ↦ absurd (let o : w * (cells + 1) ≤ w * k = mul-le-mul_left w (let z : cells + 1 ≤ k = omega arith in z) in omega arith) | inr g ↦ g ]
+
+pub behind_cells-rest-requires : goal.behind_cells-rest-requires
+behind_cells-rest-requires g c =
+    let upto = few c.args.stretch.now.width c.cells_within-k.result c.args.line.cells c.seen_dots-from.result.0 c.requires.w c.cells_within-k.ensures c.seen_dots-from.ensures.first in
+    omega (arith, upto, c.requires.cells)
+
 pub loop-k-init : goal.loop-k-init
 loop-k-init g c =
     let w = c.args.stretch.now.width in
-    let from = c.seen_dots-from.result.0 in
-    let below : from / w < c.args.line.cells + 1 = (div-lt_iff_lt-mul {k = w} {x = from} {y = c.args.line.cells + 1} c.requires.w).1 (omega (arith, c.seen_dots-from.ensures.first)) in
-    let whole : w * c.whole_cells-k.result ≡ w * (from / w) = ap (λ n. w * n) c.whole_cells-k.ensures in
+    let upto = few w c.cells_within-k.result c.args.line.cells c.seen_dots-from.result.0 c.requires.w c.cells_within-k.ensures c.seen_dots-from.ensures.first in
     record {
-      within = omega (arith, c.whole_cells-k.ensures);
-      behind = record { first_is = c.behind_cells-rest.ensures.first; others_are = c.behind_cells-rest.ensures.others; within = omega (arith, c.whole_cells-k.ensures) };
-      added = λ s x l m. dot_none Black _ c.args.sheet.now _ c.args.line.cells w 24 c.args.left s c.requires.cells c.requires.w c.whole_cells-k.result (λ v e i n o. c.seen_dots-from.ensures.before v e i (omega arith) o) _ x;
+      within = omega (arith, upto);
+      behind = record { first_is = c.behind_cells-rest.ensures.first; others_are = c.behind_cells-rest.ensures.others; within = omega (arith, upto, c.requires.cells) };
+      added = λ s x l m. dot_none Black _ c.args.sheet.now _ c.args.line.cells w 24 c.args.left s c.requires.cells c.requires.w c.cells_within-k.result (λ v e i n o. c.seen_dots-from.ensures.before v e i (omega (arith, c.cells_within-k.ensures)) o) _ x;
     }
 
 pub add_rows-requires : goal.add_rows-requires
@@ -48,7 +55,7 @@ loop-k-preserved g c =
       behind = behind_more c.loop-k.k _ _ _ _ c.loop-k.invariant.behind c.in-Some.ensures;
       added = λ s x l m. dot_more Black _ c.args.sheet.now _ c.args.line.cells w 24 c.args.left s c.requires.cells c.requires.w c.loop-k.k c.in-Some.character (c.args.left + w * c.loop-k.k) more
           (cell_is c.loop-k.k _ _ _ _ c.loop-k.invariant.behind c.in-Some.ensures) refl _ _ _ x (c.loop-k.invariant.added s x l m)
-          (c.add_rows.ensures s x l (omega arith) ∙ ap (λ t. word_dot (get_or c.loop-k.rows s 0) x || t) (cell_row c.args.sheet.now c.in-Some.character w (c.args.left + w * c.loop-k.k) s _ x _ l (λ u. c.rows_in.ensures u s)));
+          (c.add_rows.ensures s x l (omega arith) ∙ ap (λ t. half_dot (get_or c.loop-k.rows s 0) x || t) (cell_row c.args.sheet.now c.in-Some.character w (c.args.left + w * c.loop-k.k) s _ x _ l (λ u. c.rows_in.ensures u s)));
     }
 
 pub loop-k-smaller : goal.loop-k-smaller
@@ -58,5 +65,5 @@ loop-k-smaller g c =
 
 pub returns : goal.returns
 returns g c = rw (sym (to_z-of_z w64 c.args.at c.ranges.at))
-    (λ s x l m. c.loop-k.invariant.added s x l m ∙ ap (λ t. word_dot (get_or c.args.rows.now s 0) x || t)
+    (λ s x l m. c.loop-k.invariant.added s x l m ∙ ap (λ t. half_dot (get_or c.args.rows.now s 0) x || t)
     (dots_all Black _ c.args.sheet.now _ c.args.line.cells c.args.stretch.now.width 24 c.args.left s c.requires.cells c.requires.w c.loop-k.k c.loop-k.k 4 x (omega arith) (λ v d i n o. c.seen_dots-from.ensures.behind v d (omega arith) n o) (omega arith)))

@@ -1,6 +1,6 @@
 use Rattle.std.proofs.Common.{ℕ, ◌≡◌, ◌-◌, ◌<◌, ◌≤◌, ◌||◌, get_or, take}
 use Rattle.vp_dots.specs.Dots.{shifted}
-use Rattle.vp_dots.specs.Words.{word_dot}
+use Rattle.vp_glyph.specs.Halves.{half_dot}
 use Rattle.vp_glyph.specs.Blocks.{pieces, first}
 use Rattle.vp_glyph.proofs.Pieces.{Behind}
 use Rattle.vp_glyph.proofs.Sides.{so_far}
@@ -11,8 +11,8 @@ abbrev pub invariant-loop-k : goal.invariant-loop-k
 invariant-loop-k g l = record {
   within : l.k ≤ l.line.cells;
   behind : Behind l.k (pieces l.line.text.now) (pieces l.rest);
-  added : (s x : ℕ) → s < 24 → x < 32 → word_dot (get_or l.rows s 0) x
-      ≡ (word_dot (get_or l.fn.rows s 0) x || shifted l.fn.at (so_far l.sheet (take l.line.cells (first (pieces l.line.text.now))) l.stretch.width 24 l.left s l.k) x);
+  added : (s x : ℕ) → s < 24 → x < 32 → half_dot (get_or l.rows s 0) x
+      ≡ (half_dot (get_or l.fn.rows s 0) x || shifted l.fn.at (so_far l.sheet (take l.line.cells (first (pieces l.line.text.now))) l.stretch.width 24 l.left s l.k) x);
 }
 
 abbrev pub decreases-loop-k : goal.decreases-loop-k

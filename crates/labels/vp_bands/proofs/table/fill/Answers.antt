@@ -6,8 +6,7 @@ use Rattle.std.proofs.lemmas.Option.{get_or_from_slice_get, slice_get_within}
 use Rattle.vp_format.specs.declared.field.Field.{Field}
 use Rattle.vp_field.specs.Fields.{IsKept}
 use Rattle.vp_fields_by_band.specs.Threads.{IsPlaced}
-use Rattle.vp_bands.specs.Standing.{IsSpanned}
-use Rattle.vp_bands.proofs.Entries.{fields_pushed}
+use Rattle.vp_bands.proofs.Entries.{one_set}
 use Rattle.vp_bands.proofs.table.fill.Goals as goal
 
 -- a field that is read is kept
@@ -24,9 +23,9 @@ loop-n-preserved g c =
     let done = c.loop-n.invariant in
     record {
       len = rw c.push.ensures (omega (arith, length-append entries (e ∷ []), done.len));
-      fields = rw c.push.ensures (fields_pushed entries format.fields n e f (slice_get_within format.fields n f c.field.ensures) (get_or_from_slice_get format.fields n f f c.field.ensures) c.entry_for.ensures.field done.fields);
-      spanned = λ sheets. rw c.push.ensures (All-push (IsSpanned sheets format.stored c.args.view) entries e (done.spanned sheets)
-          (c.entry_for.ensures.spanned sheets format.stored (here format.stored format.fields n f c.requires.kept c.field.ensures)));
+      set = λ sheets. rw c.push.ensures (one_set sheets format c.args.view entries n e done.len
+          (λ d. rw (get_or_from_slice_get format.fields n f d c.field.ensures) (c.entry_for.ensures.spanned sheets format.stored (here format.stored format.fields n f c.requires.kept c.field.ensures)))
+          (done.set sheets));
       placed = rw c.push.ensures (All-push (λ e. IsPlaced e 250) entries e done.placed (c.entry_for.ensures.placed c.requires.low));
       heads = rw c.push.ensures done.heads;
       links = rw c.push.ensures done.links;

@@ -1,5 +1,4 @@
-use Rattle.std.proofs.Common.{◌≡◌, false, None, Ok, ap, sym, subst, ◌∙◌}
-use Rattle.vp_glyph.specs.Sheets.{Sheets}
+use Rattle.std.proofs.Common.{◌≡◌, false, Ok, ap, sym, subst, ◌∙◌}
 use Rattle.vp_format.specs.declared.field.Picture.{Picture}
 use Rattle.vp_format.specs.declared.field.Content.TheVariants as contents
 use Rattle.vp_field.specs.Contents.{picture_of, IsPicture, IsStored}
@@ -8,10 +7,8 @@ use Rattle.vp_field.specs.declared.sized.SizedContent.{SizedContent}
 use Rattle.vp_closing.specs.Contents.{sized_if}
 use Rattle.vp_closing.specs.Graphics.{has_refused, picture_unless, picture_with}
 use Rattle.vp_closing.proofs.Graphics.{picture_stored}
+use Rattle.vp_closing.proofs.Stored.{no_sheets}
 use Rattle.vp_closing.proofs.graphic.picture_content.Goals as goal
-
-no_sheets : Sheets
-no_sheets = record { a = None; b = None }
 
 pub returns-clause-value : goal.returns-clause-value
 returns-clause-value c = λ sheets.

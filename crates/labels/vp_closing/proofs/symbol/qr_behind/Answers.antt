@@ -1,5 +1,4 @@
 use Rattle.std.proofs.Common.{◌≡◌, ◌<◌, ◌≤◌, ℕ, List, None, Ok, ap, sym, subst, ◌∙◌, arith}
-use Rattle.vp_glyph.specs.Sheets.{Sheets}
 use Rattle.vp_format.specs.declared.field.Content.TheVariants as contents
 use Rattle.vp_format.specs.declared.field.QrSymbol.{QrSymbol}
 use Rattle.vp_format.specs.declared.field.Span.{Span}
@@ -11,10 +10,8 @@ use Rattle.vp_field.specs.declared.sized.SizedContent.{SizedContent}
 use Rattle.vp_closing.specs.Contents.{sized_if}
 use Rattle.vp_closing.specs.Symbols.{qr_symbol, qr_unless}
 use Rattle.vp_closing.proofs.Masks.{mask_of-small}
+use Rattle.vp_closing.proofs.Stored.{no_sheets}
 use Rattle.vp_closing.proofs.symbol.qr_behind.Goals as goal
-
-no_sheets : Sheets
-no_sheets = record { a = None; b = None }
 
 abbrev symbol : ℕ → QrFront → Span → ℕ → ℕ → QrSymbol
 symbol dots front bytes version mask =

@@ -1,15 +1,18 @@
 use Rattle.std.proofs.lemmas.Bool.{both_ways}
-use Rattle.std.proofs.Common.{◌≡◌, ℕ, ◌+◌, refl, sym, ap, ◌∙◌, subst, Bool, false, pos, Result, Ok, Err}
+use Rattle.std.proofs.Common.{◌≡◌, ℕ, ◌+◌, refl, sym, subst, Bool, true, false, is_ok, pos, arith, List, Result, Ok, Err}
 use Rattle.vp_dots.specs.Places.{RowsPainted}
 use Rattle.vp_dots.specs.declared.fault.Fault.{Fault}
 use Rattle.vp_bars.specs.Symbols.{Linear}
+use Rattle.vp_bars.specs.Symbologies.{symbol_of}
 use Rattle.vp_glyph.specs.Sheets.{Sheets}
 use Rattle.vp_format.specs.declared.field.BarSymbol.{BarSymbol}
 use Rattle.vp_field.specs.Contents.{bytes_of, bars_width, bars_height, bars_dot}
-use Rattle.vp_bars.specs.Symbologies.{symbol_of}
+use Rattle.vp_field.specs.Fields.{IsEncoded}
 use Rattle.vp_field.specs.Bands.{IsCounted}
 use Rattle.vp_field.specs.Standing.{standing}
 use Rattle.vp_field.specs.Views.{seen_x, seen_y}
+use Rattle.vp_field.specs.declared.marks.Marks.{Marks}
+use Rattle.vp_field.specs.declared.marks.Marks.TheVariants.{Nothing, Picture, Symbol, Bars}
 use Rattle.vp_field.specs.declared.standing.Standing.{Standing}
 use Rattle.vp_field.proofs.Shown.{rows_none, standing_none}
 use Rattle.vp_field.proofs.field.paint_bars.Goals as goal
@@ -19,32 +22,41 @@ ink sheets b on first r x k =
     standing on.left on.top on.orientation (bars_width sheets b.narrow b.wide b.height b.place r) (bars_height sheets b.narrow b.wide b.height b.place r) (bars_dot sheets b.narrow b.wide b.height b.place r)
     (seen_x on.view (pos x)) (seen_y on.view (pos (first + k)))
 
-pub returns-in-Ok-clause-dots : goal.returns-in-Ok-clause-dots
-returns-in-Ok-clause-dots g c =
+-- what is left of data without a symbol is none
+none_left : (stored : List ℕ) (b : BarSymbol) (m : Marks) → ((s : Linear) → m ≡ Bars s → ⊥) → IsEncoded stored b m → is_ok (symbol_of b.code (bytes_of stored b.bytes)) ≡ false
+none_left stored b Nothing not none = none
+none_left stored b (Picture places) not none = none
+none_left stored b (Symbol s) not none = none
+none_left stored b (Bars s) not is = absurd (not s refl)
+
+-- and has no ink
+no_ink : (sheets : Sheets) (b : BarSymbol) (on : Standing) (first : ℕ) (r : Result Linear Fault) → is_ok r ≡ false → (x k : ℕ) → ink sheets b on first r x k ≡ false
+no_ink sheets b on first (Ok s) none x k = absurd (both_ways true none refl)
+no_ink sheets b on first (Err why) none x k =
+    standing_none on.left on.top on.orientation 0 0 (λ u v. false) (λ u v. refl) (seen_x on.view (pos x)) (seen_y on.view (pos (first + k)))
+
+pub returns-in_default : goal.returns-in_default
+returns-in_default g c =
+    let a = c.args in
+    let r = symbol_of a.bars.code (bytes_of a.stored.now a.bars.bytes) in
+    let none = no_ink a.sheets.now a.bars a.on a.first r (none_left a.stored.now a.bars c.encode.new.marks c.in_default.not-Bars c.encode.ensures.encoded) in
+    record {
+      marks = c.encode.ensures.marks;
+      dots = rows_none a.on.op (ink a.sheets.now a.bars a.on a.first r) a.band.now none;
+      lines = omega arith;
+      counted = λ x k low e. absurd (both_ways (ink a.sheets.now a.bars a.on a.first r x k) (none x k) e);
+    }
+
+pub returns-clause-dots : goal.returns-clause-dots
+returns-clause-dots g c =
     let a = c.args in
     let b = c.boxed-ink.ensures in
-    let bars : symbol_of a.bars.code (bytes_of a.stored.now a.bars.bytes) ≡ Ok c.in-Ok.symbol = ap (symbol_of a.bars.code) (sym c.bytes_of.ensures) ∙ sym c.linear.ensures ∙ c.in-Ok.is in
+    let bars = rw c.in-Bars.is at c.encode.ensures.encoded in
     subst (λ r. RowsPainted 32 a.on.op (ink a.sheets.now a.bars a.on a.first r) a.band.now c.paint_standing.new.band) (sym bars) (rw (b.bars, b.narrow, b.wide, b.height, b.sheets, b.font, b.place) at c.paint_standing.ensures.dots)
 
-pub returns-in-Err-clause-dots : goal.returns-in-Err-clause-dots
-returns-in-Err-clause-dots g c =
-    let a = c.args in
-    let none : symbol_of a.bars.code (bytes_of a.stored.now a.bars.bytes) ≡ Err c.in-Err.field-0 = ap (symbol_of a.bars.code) (sym c.bytes_of.ensures) ∙ sym c.linear.ensures ∙ c.in-Err.is in
-    subst (λ r. RowsPainted 32 a.on.op (ink a.sheets.now a.bars a.on a.first r) a.band.now a.band.now) (sym none)
-    (rows_none a.on.op (ink a.sheets.now a.bars a.on a.first (Err c.in-Err.field-0)) a.band.now
-    (λ x k. standing_none a.on.left a.on.top a.on.orientation 0 0 (λ u v. false) (λ u v. refl) (seen_x a.on.view (pos x)) (seen_y a.on.view (pos (a.first + k)))))
-
-pub returns-in-Ok-clause-counted : goal.returns-in-Ok-clause-counted
-returns-in-Ok-clause-counted g c =
+pub returns-clause-counted : goal.returns-clause-counted
+returns-clause-counted g c =
     let a = c.args in
     let b = c.boxed-ink.ensures in
-    let bars : symbol_of a.bars.code (bytes_of a.stored.now a.bars.bytes) ≡ Ok c.in-Ok.symbol = ap (symbol_of a.bars.code) (sym c.bytes_of.ensures) ∙ sym c.linear.ensures ∙ c.in-Ok.is in
+    let bars = rw c.in-Bars.is at c.encode.ensures.encoded in
     subst (λ r. IsCounted (ink a.sheets.now a.bars a.on a.first r) c.paint_standing.result) (sym bars) (rw (b.bars, b.narrow, b.wide, b.height, b.sheets, b.font, b.place) at c.paint_standing.ensures.counted)
-
-pub returns-in-Err-clause-counted : goal.returns-in-Err-clause-counted
-returns-in-Err-clause-counted g c =
-    let a = c.args in
-    let none : symbol_of a.bars.code (bytes_of a.stored.now a.bars.bytes) ≡ Err c.in-Err.field-0 = ap (symbol_of a.bars.code) (sym c.bytes_of.ensures) ∙ sym c.linear.ensures ∙ c.in-Err.is in
-    subst (λ r. IsCounted (ink a.sheets.now a.bars a.on a.first r) 0) (sym none) (λ x k low e.
-    absurd (both_ways (ink a.sheets.now a.bars a.on a.first (Err c.in-Err.field-0) x k)
-    (standing_none a.on.left a.on.top a.on.orientation 0 0 (λ u v. false) (λ u v. refl) (seen_x a.on.view (pos x)) (seen_y a.on.view (pos (a.first + k)))) e))

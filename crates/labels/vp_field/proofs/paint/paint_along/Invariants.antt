@@ -7,9 +7,10 @@ use Rattle.vp_field.proofs.paint.paint_along.Given as goal
 -- the rows above k are done, and no row took two lines; without a line it is the first one
 abbrev pub invariant-loop-k : goal.invariant-loop-k
 invariant-loop-k g l = record {
-  painted : RowsPainted 32 l.op (λ x k. ltb k l.k && laid Along l.columns l.rows (g.I.Ink.ink_at l.ink) (pos x) (pos (l.fn.first + k))) l.fn.band l.band;
-  lines : l.lines + (l.end - l.k) ≤ 32;
-  none : l.lines ≡ 0 → l.k ≡ l.from - l.fn.first;
+  ink : l.pen.ink ≡ l.fn.ink.ink;
+  painted : RowsPainted 32 l.op (λ x k. ltb k l.k && laid Along l.columns l.rows (g.I.Ink.ink_at l.fn.ink.ink.now) (pos x) (pos (l.fn.first + k))) l.fn.band l.band;
+  lines : l.pen.lines + (l.end - l.k) ≤ 32;
+  none : l.pen.lines ≡ 0 → l.k ≡ l.from - l.fn.first;
 }
 
 abbrev pub decreases-loop-k : goal.decreases-loop-k

@@ -5,52 +5,55 @@ use Rattle.vp_format.specs.declared.rows.Coding.TheVariants.{RunLength}
 use Rattle.vp_format.specs.Codes.{spelled, joined, code_of, symbols, symbols_behind}
 use Rattle.vp_format.specs.Pictures.{Picture}
 use Rattle.vp_format.specs.Cursors.{InHand, Passed, symbols_from}
-use Rattle.vp_format.proofs.Passed.{step_passed, hand_passed, digits_passed, end_passed, codes_passed, other_passed, inside_passed}
+use Rattle.vp_format.proofs.Passed.{hand_passed, digits_passed, end_passed, codes_passed, other_passed, inside_passed}
 use Rattle.vp_format.proofs.checking.check_codes.Goals as goal
-use Rattle.vp_format.proofs.checking.check_codes.Goals.{After-go_on_to, After-symbol_of}
+use Rattle.vp_format.proofs.checking.check_codes.Goals.{After-pass_runs-from, After-symbol_of}
 
 abbrev picture : List ℕ → ℕ → ℕ → Picture
 picture codes row_bytes rows = record { coding = RunLength; codes = codes; row_bytes = row_bytes; rows = rows }
 
 -- the digits and runs that come are passed
-here : (c : After-go_on_to) → Passed (2 * c.args.row_bytes) (symbols RunLength c.args.codes.now) c.pass_runs-from.result.0 (symbols_from c.args.codes.now c.go_on_to.new.self.at)
+here : (c : After-pass_runs-from) → Passed (2 * c.args.row_bytes) (symbols RunLength c.args.codes.now) c.pass_runs-from.result (symbols_from c.args.codes.now c.pass_runs-from.new.self.at)
 here c =
     let i = c.loop-codes.invariant in
-    step_passed (2 * c.args.row_bytes) (symbols RunLength c.args.codes.now) c.loop-codes.x _ c.args.codes.now _ _ _ c.loop-codes.codes c.go_on_to.new.self c.bytes.ensures i.bytes c.at.ensures c.go_on_to.ensures.at
-    (c.pass_runs-from.ensures.passed (2 * c.args.row_bytes) (symbols RunLength c.args.codes.now)) i.passed
+    let w = 2 * c.args.row_bytes in
+    let all = symbols RunLength c.args.codes.now in
+    let kept : c.pass_runs-from.new.self.bytes.now ≡ c.args.codes.now = c.pass_runs-from.ensures.advanced.bytes ∙ i.bytes in
+    subst (λ cs. Passed w all c.pass_runs-from.result (symbols_from cs c.pass_runs-from.new.self.at)) kept
+    (c.pass_runs-from.ensures.passed w all (subst (λ cs. Passed w all c.loop-codes.x (symbols_from cs c.loop-codes.codes.at)) (sym i.bytes) i.passed))
 
 -- and behind them a symbol
-next : (c : After-symbol_of) (s : Symbol) (k : ℕ) → Passed (2 * c.args.row_bytes) (symbols RunLength c.args.codes.now) c.pass_runs-from.result.0 (symbols_from c.args.codes.now c.go_on_to.new.self.at)
+next : (c : After-symbol_of) (s : Symbol) (k : ℕ) → Passed (2 * c.args.row_bytes) (symbols RunLength c.args.codes.now) c.pass_runs-from.result (symbols_from c.args.codes.now c.pass_runs-from.new.self.at)
     → joined (code_of c.in-Some.b) 0 0 (symbols_behind (drop c.next.new.self.at c.next.new.self.bytes.now)) ≡ spelled s k ∷ symbols_from c.symbol_of.new.codes.bytes.now c.symbol_of.new.codes.at
-    → Passed (2 * c.args.row_bytes) (symbols RunLength c.args.codes.now) c.pass_runs-from.result.0 (spelled s k ∷ symbols_from c.args.codes.now c.symbol_of.new.codes.at)
+    → Passed (2 * c.args.row_bytes) (symbols RunLength c.args.codes.now) c.pass_runs-from.result (spelled s k ∷ symbols_from c.args.codes.now c.symbol_of.new.codes.at)
 next c s k here symbol =
-    let kept = c.next.ensures.advanced.bytes ∙ c.go_on_to.ensures.advanced.bytes ∙ c.loop-codes.invariant.bytes in
+    let kept = c.next.ensures.advanced.bytes ∙ c.pass_runs-from.ensures.advanced.bytes ∙ c.loop-codes.invariant.bytes in
     let hand = subst (λ o. InHand c.next.new.self o) c.in-Some.is c.next.ensures.hand in
-    hand_passed (2 * c.args.row_bytes) (symbols RunLength c.args.codes.now) _ c.args.codes.now c.go_on_to.new.self c.next.new.self c.symbol_of.new.codes c.in-Some.b k s kept (c.symbol_of.ensures.advanced.bytes ∙ kept) (omega (arith, c.in-Some.ensures.at)) hand
+    hand_passed (2 * c.args.row_bytes) (symbols RunLength c.args.codes.now) _ c.args.codes.now c.pass_runs-from.new.self c.next.new.self c.symbol_of.new.codes c.in-Some.b k s kept (c.symbol_of.ensures.advanced.bytes ∙ kept) (omega (arith, c.in-Some.ensures.at)) hand
     c.next.ensures.advanced.reading symbol here
 
 pub returns-then-from-end : goal.returns-then-from-end
 returns-then-from-end c =
-    sym (end_passed (picture c.args.codes.now c.args.row_bytes c.args.rows) c.pass_runs-from.result.0 _ (omega arith) (rw (sym c.from.ensures) c.if-from-end.true) (here (goal.at.returns-then-from-end c).After-go_on_to))
+    sym (end_passed (picture c.args.codes.now c.args.row_bytes c.args.rows) c.pass_runs-from.result _ (omega arith) (rw (sym c.from.ensures) c.if-from-end.true) (here (goal.at.returns-then-from-end c).After-pass_runs-from))
 
 pub returns-in_default : goal.returns-in_default
 returns-in_default c =
-    sym (codes_passed (picture c.args.codes.now c.args.row_bytes c.args.rows) c.pass_runs-from.result.0 c.go_on_to.new.self.at (omega arith) (search rules) (here (goal.at.returns-in_default c).After-go_on_to))
+    sym (codes_passed (picture c.args.codes.now c.args.row_bytes c.args.rows) c.pass_runs-from.result c.pass_runs-from.new.self.at (omega arith) (search rules) (here (goal.at.returns-in_default c).After-pass_runs-from))
 
 pub returns-then-n-end : goal.returns-then-n-end
 returns-then-n-end c =
-    let here = here (goal.at.returns-then-n-end c).After-go_on_to in
+    let here = here (goal.at.returns-then-n-end c).After-pass_runs-from in
     let next = next (goal.at.returns-then-n-end c).After-symbol_of (Digits c.in-Digits.n c.in-Digits.field-1) _ here c.in-Digits.ensures.symbol in
-    sym (end_passed (picture c.args.codes.now c.args.row_bytes c.args.rows) _ _ (omega arith) (rw (sym c.from.ensures) (omega arith)) (digits_passed (2 * c.args.row_bytes) _ c.pass_runs-from.result.0 c.in-Digits.n c.in-Digits.field-1 _ _ next))
+    sym (end_passed (picture c.args.codes.now c.args.row_bytes c.args.rows) _ _ (omega arith) (rw (sym c.from.ensures) (omega arith)) (digits_passed (2 * c.args.row_bytes) _ c.pass_runs-from.result c.in-Digits.n c.in-Digits.field-1 _ _ next))
 
 pub returns-in-Again-2 : goal.returns-in-Again-2
 returns-in-Again-2 c =
-    let here = here (goal.at.returns-in-Again-2 c).After-go_on_to in
+    let here = here (goal.at.returns-in-Again-2 c).After-pass_runs-from in
     let next = next (goal.at.returns-in-Again-2 c).After-symbol_of Again _ here c.in-Again.ensures.symbol in
-    sym (inside_passed (picture c.args.codes.now c.args.row_bytes c.args.rows) c.pass_runs-from.result.0 _ _ (omega arith) (rw (sym c.from.ensures) (omega arith)) (omega arith) next)
+    sym (inside_passed (picture c.args.codes.now c.args.row_bytes c.args.rows) c.pass_runs-from.result _ _ (omega arith) (rw (sym c.from.ensures) (omega arith)) (omega arith) next)
 
 pub returns-in-Again-2-2 : goal.returns-in-Again-2-2
 returns-in-Again-2-2 c =
-    let here = here (goal.at.returns-in-Again-2-2 c).After-go_on_to in
+    let here = here (goal.at.returns-in-Again-2-2 c).After-pass_runs-from in
     let next = next (goal.at.returns-in-Again-2-2 c).After-symbol_of Refused _ here c.in-Again-2.ensures.symbol in
-    sym (other_passed (picture c.args.codes.now c.args.row_bytes c.args.rows) c.pass_runs-from.result.0 _ _ (omega arith) (rw (sym c.from.ensures) (omega arith)) next)
+    sym (other_passed (picture c.args.codes.now c.args.row_bytes c.args.rows) c.pass_runs-from.result _ _ (omega arith) (rw (sym c.from.ensures) (omega arith)) next)

@@ -13,8 +13,8 @@ returns-clause-text g c = λ setup before item h is.
     text_shown setup before item c.args.symbol (job_text c.symbol_job.result canvas) is
     (λ image i. c.symbol_job.ensures.text setup before canvas image (record { settings = h.settings; sheets = h.sheets; line = h.line; page = h.page })
     (record {
-      width = c.size-wide.ensures.width ∙ ap (λ (k : Sheets). symbol_width k c.args.symbol) h.sheets ∙ i.width;
-      height = c.size-wide.ensures.height ∙ ap (λ (k : Sheets). symbol_height k c.args.symbol) h.sheets ∙ i.height;
+      width = c.requires.width ∙ ap (λ (k : Sheets). symbol_width k c.args.symbol) h.sheets ∙ i.width;
+      height = c.requires.height ∙ ap (λ (k : Sheets). symbol_height k c.args.symbol) h.sheets ∙ i.height;
       dots = λ x y. ap (λ (k : Sheets). symbol_dot k c.args.symbol x y) h.sheets ∙ i.dots x y;
     }))
 
@@ -24,8 +24,8 @@ returns-clause-shows g c = λ setup before item h is.
     own_shown setup before item c.args.symbol (λ own. IsShowing c.symbol_job.result canvas (height (line setup before)) (length own)) is
     (λ image i. c.symbol_job.ensures.shows setup before canvas image (record { settings = h.settings; sheets = h.sheets; line = h.line; page = h.page })
     (record {
-      width = c.size-wide.ensures.width ∙ ap (λ (k : Sheets). symbol_width k c.args.symbol) h.sheets ∙ i.width;
-      height = c.size-wide.ensures.height ∙ ap (λ (k : Sheets). symbol_height k c.args.symbol) h.sheets ∙ i.height;
+      width = c.requires.width ∙ ap (λ (k : Sheets). symbol_width k c.args.symbol) h.sheets ∙ i.width;
+      height = c.requires.height ∙ ap (λ (k : Sheets). symbol_height k c.args.symbol) h.sheets ∙ i.height;
       dots = λ x y. ap (λ (k : Sheets). symbol_dot k c.args.symbol x y) h.sheets ∙ i.dots x y;
     }))
 

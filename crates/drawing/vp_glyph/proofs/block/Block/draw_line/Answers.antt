@@ -51,10 +51,20 @@ loop-k-smaller g c =
     let more = rows_more 32 c.args.top (c.args.place * b.pitch) b.h c.loop-k.k _ _ (omega (arith, end)) (omega (arith, begun, end)) (omega (arith, begun, end)) c.source_row-s.ensures to in
     omega (arith, more)
 
-pub returns : goal.returns
-returns g c =
+pub returns-clause-dots : goal.returns-clause-dots
+returns-clause-dots g c =
     let b = c.args.self.now in
     let line = (take c.args.line.cells (first (pieces c.args.line.text.now))) in
     rw (sym (to_z-of_z w64 c.args.at c.ranges.at))
     (shown_all 32 160 c.args.top (c.args.place * b.pitch) b.h _ (λ v y. line_dot (layout_of b) c.args.place line v y) (λ v y. line_dot (sheet_rows (layout_of b)) 0 line v y)
     (λ v y. line_rows b.sheet.now b.w b.h b.wide b.rows b.pitch b.alignment c.args.place line v y) c.loop-k.k _ _ (omega (arith, c.rows_above-end.ensures)) c.loop-k.invariant.shown)
+
+pub returns-then-k-end-clause-dots : goal.returns-then-k-end-clause-dots
+returns-then-k-end-clause-dots g c =
+    let b = c.args.self.now in
+    let line = (take c.args.line.cells (first (pieces c.args.line.text.now))) in
+    rw (sym (to_z-of_z w64 c.args.at c.ranges.at))
+    (shown_all 32 160 c.args.top (c.args.place * b.pitch) b.h _ (λ v y. line_dot (layout_of b) c.args.place line v y) (λ v y. line_dot (sheet_rows (layout_of b)) 0 line v y)
+    (λ v y. line_rows b.sheet.now b.w b.h b.wide b.rows b.pitch b.alignment c.args.place line v y) c.rows_above-k.result _ _ (omega (arith, c.rows_above-end.ensures))
+    (shown_none 32 160 c.args.top (c.args.place * b.pitch) b.h _ (λ v y. line_dot (layout_of b) c.args.place line v y) (λ v y. line_dot (sheet_rows (layout_of b)) 0 line v y)
+    (λ v y. line_rows b.sheet.now b.w b.h b.wide b.rows b.pitch b.alignment c.args.place line v y) _ _ c.rows_above-k.ensures))

@@ -1,8 +1,14 @@
-use Rattle.std.proofs.Common.{ℕ, ◌+◌, ◌∙◌, sym, refl, arith, w64, to_z, of_z}
+use Rattle.std.proofs.Common.{ap, false, ◌≡◌, ℕ, ◌+◌, ◌∙◌, sym, refl, arith, w64, to_z, of_z}
 use Rattle.std.proofs.lemmas.Int.{to_z-of_z}
+use Rattle.vp_glyph.specs.Runs.{run_dot}
 use Rattle.vp_glyph.proofs.Sheeted.{drawn_none, drawn_more, drawn_all, drawn_joined, drawn_narrow}
 use Rattle.vp_glyph.proofs.Stacks.{lines_below}
+use Rattle.vp_glyph.proofs.Passed.{white_row}
+use Rattle.vp_glyph.specs.Blocks.{block_dot}
+use Rattle.vp_glyph.specs.Layouts.{layout_of}
+use Rattle.vp_dots.proofs.Shifts.{shifted_none}
 use Rattle.vp_glyph.proofs.block.Block.drawn_rows.Goals as goal
+use Rattle.vp_glyph.proofs.block.Block.drawn_rows.Goals.{then-draw_line, else-draw_line}
 
 pub loop-left-init : goal.loop-left-init
 loop-left-init g c =
@@ -10,6 +16,7 @@ loop-left-init g c =
     record {
       place_within = omega arith;
       drawn = λ k l. drawn_none b.sheet.now b.w b.h b.wide b.rows b.pitch b.alignment (c.args.top + k) _ 160 _ _ _ _ _ (λ x. c.new-rows.ensures k x) (λ x. c.first_line-above.ensures.lines x (c.args.top + k) (omega arith));
+      white = λ e k x. c.new-rows.ensures k x;
     }
 
 pub loop-left-preserved : goal.loop-left-preserved
@@ -18,7 +25,13 @@ loop-left-preserved g c =
     record {
       place_within = omega arith;
       drawn = λ k l. drawn_more b.sheet.now b.w b.h b.wide b.rows b.pitch b.alignment (c.args.top + k) _ 160 _ _ c.loop-left.place c.next_line.result.0.cells _ c.loop-left.left c.next_line.result.1 c.in-Some.text c.next_line.result.0.text.now _ _
-          (c.loop-left.invariant.drawn k l) c.in-Some.is c.next_line.ensures.text c.next_line.ensures.lines (λ x m. c.draw_line.ensures k x l m) (omega arith);
+          (c.loop-left.invariant.drawn k l) c.in-Some.is c.next_line.ensures.text c.next_line.ensures.lines (λ x m. c.draw_line.ensures.dots k x l m) (omega arith);
+      white = λ e k x. elim c.if-draw_line.branch [
+        | then-draw_line w ↦ absurd (let d = w.drawn-is in cc)
+        | else-draw_line w ↦
+            let before : c.loop-left.drawn ≡ false = sym w.drawn-is ∙ e in
+            ap (λ r. run_dot r.alone r.down r.up 32 k x) (c.draw_line.ensures.none w.if-draw_line.false) ∙ c.loop-left.invariant.white before k x
+      ];
     }
 
 pub returns-then-self : goal.returns-then-self
@@ -52,3 +65,9 @@ returns-then-self-eq0 g c =
     (c.rows-then-self-eq0.ensures k x l m
     ∙ drawn_joined b.sheet.now b.w b.h b.wide b.rows b.pitch b.alignment (c.args.top + k) at 160 b.text.now c.loop-left.place c.loop-left.left c.in-Some.text _ _ b.some (omega arith) n c.in-Some.is (λ x m. c.draw_joined.ensures k x l m)
     (c.loop-left.invariant.drawn k l) x m)
+
+pub returns-then-from-row_below_lines : goal.returns-then-from-row_below_lines
+returns-then-from-row_below_lines g c =
+    let b = c.args.self.now in
+    λ k x l m n. white_row 32 160 k x
+    ∙ sym (shifted_none c.args.at (λ v. block_dot (layout_of b) b.text.now v (c.args.top + k)) x (λ v. c.row_below_lines.ensures v (c.args.top + k) (omega (arith, c.if-from-row_below_lines.true)) (omega (arith, n, b.fits))))

@@ -1,4 +1,4 @@
-use Rattle.std.proofs.Common.{ℕ, ◌+◌, ◌-◌, ◌<◌, ◌≤◌, length}
+use Rattle.std.proofs.Common.{◌≡◌, false, ℕ, ◌+◌, ◌-◌, ◌<◌, ◌≤◌, length}
 use Rattle.vp_glyph.specs.Blocks.{block_lines}
 use Rattle.vp_glyph.specs.Runs.{run_dot}
 use Rattle.vp_glyph.proofs.Sheeted.{Drawn}
@@ -11,6 +11,7 @@ invariant-loop-left g l = record {
   place_within : l.place ≤ l.self.rows - 1;
   drawn : (k : ℕ) → k < 32 → Drawn l.self.sheet.now l.self.w l.self.h l.self.wide l.self.rows l.self.pitch l.self.alignment (l.top + k) l.fn.at 160 l.most (block_lines l.most l.self.text.now) l.place l.left
       (λ x. run_dot l.rows.alone l.rows.down l.rows.up 32 k x);
+  white : l.drawn ≡ false → (k x : ℕ) → run_dot l.rows.alone l.rows.down l.rows.up 32 k x ≡ false;
 }
 
 -- how many lines are left

@@ -37,3 +37,29 @@ returns-clause-dots g c =
     let lines : (u v : ℕ) → ink u v ≡ true → v < c.size-height.result.1 = λ u v e. rw c.size-height.ensures.height (block_inside (layout_of b) b.text.now u v e).1 in
     columns_all _ _ (λ x k. laid Across s.columns s.rows ink (pos x) (pos (s.first + k))) _ _ _
     (λ x k a h m. c.span-from.ensures.behind _ (line_inside ink c.size-height.result.1 lines (dot_on s.rows (pos (s.first + k)))) x (let w = c.row_lengths.ensures k h in omega (arith, c.min-end.ensures))) c.loop-x.invariant.painted
+
+-- no column has ink
+pub returns-then-from-end-clause-dots : goal.returns-then-from-end-clause-dots
+returns-then-from-end-clause-dots g c =
+    let s = c.args.self.now in
+    let b = s.block.now in
+    let ink = λ (u v : ℕ). block_dot (layout_of b) b.text.now u v in
+    let lines : (u v : ℕ) → ink u v ≡ true → v < c.size-height.result.1 = λ u v e. rw c.size-height.ensures.height (block_inside (layout_of b) b.text.now u v e).1 in
+    let shown = λ (x k : ℕ). laid Across s.columns s.rows ink (pos x) (pos (s.first + k)) in
+    columns_all 32 c.args.op shown c.span-from.result.0 _ _
+    (λ x k a h m. c.span-from.ensures.behind _ (line_inside ink c.size-height.result.1 lines (dot_on s.rows (pos (s.first + k)))) x (let w = c.row_lengths.ensures k h in omega (arith, a, m, w, c.min-end.ensures, c.if-from-end.true)))
+    (columns_init 32 c.args.op shown c.span-from.result.0 _ (λ x k l. c.span-from.ensures.before _ (line_inside ink c.size-height.result.1 lines (dot_on s.rows (pos (s.first + k)))) x (omega (arith, l))))
+
+-- all columns were laid at once
+pub returns-in-Some-clause-dots : goal.returns-in-Some-clause-dots
+returns-in-Some-clause-dots g c =
+    let s = c.args.self.now in
+    let b = s.block.now in
+    let ink = λ (u v : ℕ). block_dot (layout_of b) b.text.now u v in
+    let lines : (u v : ℕ) → ink u v ≡ true → v < c.size-height.result.1 = λ u v e. rw c.size-height.ensures.height (block_inside (layout_of b) b.text.now u v e).1 in
+    let shown = λ (x k : ℕ). laid Across s.columns s.rows ink (pos x) (pos (s.first + k)) in
+    columns_all 32 c.args.op shown _ _ _
+    (λ x k a h m. c.span-from.ensures.behind _ (line_inside ink c.size-height.result.1 lines (dot_on s.rows (pos (s.first + k)))) x (let w = c.row_lengths.ensures k h in omega (arith, a, m, w, c.min-end.ensures, c.if-from-end.false)))
+    (columns_more c.args.op shown c.span-from.result.0 _ _ _ _
+    (columns_init 32 c.args.op shown c.span-from.result.0 _ (λ x k l. c.span-from.ensures.before _ (line_inside ink c.size-height.result.1 lines (dot_on s.rows (pos (s.first + k)))) x (omega (arith, l))))
+    c.paint_plain.ensures)

@@ -28,14 +28,14 @@ pub paint_rows-requires-clause-rows : goal.paint_rows-requires-clause-rows
 paint_rows-requires-clause-rows g c = λ i k l m h.
     let s = c.args.self.now in
     let r = read_within s.rows 32 k h in
-    ap (λ n. word_dot (get_or c.turned_square-square.result n 0) i) (let e : 0 + read_at s.rows 32 k ≡ read_at s.rows 32 k = omega arith in e)
-    ∙ c.turned_square-square.ensures i (read_at s.rows 32 k) l (omega (arith, r)) ∙ c.square_of.ensures.left i (read_at s.rows 32 k) l r ∙ c.columns-left.ensures i k l m h
+    ap (λ n. word_dot (get_or c.turned_halves-square.result n 0) i) (let e : 0 + read_at s.rows 32 k ≡ read_at s.rows 32 k = omega arith in e)
+    ∙ c.turned_halves-square.ensures.upper i (read_at s.rows 32 k) l r ∙ c.columns-left.ensures i k l m h
 
 pub paint_rows-requires-2-clause-rows : goal.paint_rows-requires-2-clause-rows
 paint_rows-requires-2-clause-rows g c = λ i k l m h.
     let s = c.args.self.now in
     let r = read_within s.rows 32 k h in
-    c.turned_square-square.ensures i (32 + read_at s.rows 32 k) l (omega (arith, r)) ∙ c.square_of.ensures.right i (read_at s.rows 32 k) l r ∙ c.columns-right.ensures i k l m h
+    c.turned_halves-square.ensures.lower i (read_at s.rows 32 k) l r ∙ c.columns-right.ensures i k l m h
 
 pub returns : goal.returns
 returns g c =

@@ -1,4 +1,4 @@
-use Rattle.std.proofs.Common.{◌≡◌, ◌+◌, ◌∙◌, ◌≤◌, get_or, arith, refl, sym, ap, subst, length, true, false, ◌++◌, inl, inr, length-append}
+use Rattle.std.proofs.Common.{◌≡◌, ◌+◌, ◌∙◌, get_or, arith, refl, sym, ap, subst, length, true, false, ◌++◌, inl, inr, length-append}
 use Rattle.std.proofs.lemmas.Bool.{cases_lt}
 use Rattle.vp_format.specs.Formats.{Held}
 use Rattle.vp_format.specs.declared.format.TheConstants.{STORED}

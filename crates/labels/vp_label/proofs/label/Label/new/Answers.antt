@@ -9,7 +9,6 @@ pub invariant_of-result : goal.invariant_of-result
 invariant_of-result g c = record {
   gathered = ([], c.in_ok-new.ensures c.args.sheets);
   press = λ some. absurd (omega (arith, c.in_ok-new-2.ensures.none));
-  fields = λ some. absurd (omega (arith, c.in_ok-new-2.ensures.none));
 }
 
 pub returns-clause-stands : goal.returns-clause-stands
@@ -19,7 +18,7 @@ returns-clause-stands g c =
     record {
       sheets_are = refl;
       gathered = c.in_ok-new.ensures c.args.sheets;
-      printing = λ some. none_printing c.args.sheets c.in_ok-new.field-0 [] _ (nothing_left (press_image c.args.sheets g.format.stored (view_of g.in_force.settings) p) p.copies.place c.in_ok-new-2.ensures.none) some;
+      printing = λ some. none_printing c.args.sheets c.in_ok-new.field-0 [] _ (nothing_left (press_image c.args.sheets g.format (view_of g.in_force.settings) p) p.copies.place c.in_ok-new-2.ensures.none) some;
       at_most = omega (arith, c.in_ok-new-2.ensures.work);
       at_least = λ none. omega arith;
     }

@@ -33,11 +33,11 @@ returns-then-copies-eq0-clause-pending g c =
     let j = c.self.inside in
     let now = c.obey.new.self in
     let view = view_of now.in_force.settings in
-    let is = press_image j.sheets now.format.stored view j.press in
-    let was = press_image j.sheets j.gathered.format.stored (view_of j.gathered.in_force.settings) j.press in
+    let is = press_image j.sheets now.format view j.press in
+    let was = press_image j.sheets j.gathered.format (view_of j.gathered.in_force.settings) j.press in
     let none = no_copies c.pending_law.ensures was j.press.copies.place (λ some. let p = c.self.invariant.press some in (let h = p.high in let e = p.height in omega arith, p.place)) (ap (λ (p : Printing _). p.pending) c.self.view_is ∙ c.requires) in
     let P : Printing _ → Type 0 = λ p. (before : List Item) (name : Name) (sent : List Kept) → Gathers p.sheets p.gathered before →
-    left j.sheets now.format.stored view j.press ≡ prints p.sheets before (Given c.args.command name sent) in
+    left j.sheets now.format view j.press ≡ prints p.sheets before (Given c.args.command name sent) in
     subst P c.self.view_is (λ before name sent g. nothing_left is j.press.copies.place none
     ∙ ap (copies_text (label_image j.sheets view now.format.stored now.format.fields)) (sym c.if-copies-eq0.true) ∙ c.in-Ok.ensures.prints before name sent g)
 
@@ -55,14 +55,13 @@ pub returns-clause-pending : goal.returns-clause-pending
 returns-clause-pending g c =
     let j = c.self.inside in
     let now = c.obey.new.self in
-    let fields = now.format.fields in
-    let bytes = now.format.stored in
+    let held = now.format in
     let view = c.view_of-view.ensures in
     let P : Printing _ → Type 0 = λ p. (before : List Item) (name : Name) (sent : List Kept) → Gathers p.sheets p.gathered before →
-    left j.sheets bytes (view_of now.in_force.settings) c.begin.new.self ≡ prints p.sheets before (Given c.args.command name sent) in
+    left j.sheets held (view_of now.in_force.settings) c.begin.new.self ≡ prints p.sheets before (Given c.args.command name sent) in
     subst P c.self.view_is (λ before name sent g.
-    sym (ap (λ (v : View). left j.sheets bytes v c.begin.new.self) view) ∙ c.begin.ensures.left j.sheets
-    ∙ ap (λ (v : View). copies_text (label_image j.sheets v bytes fields) c.in-Ok.copies) view ∙ c.in-Ok.ensures.prints before name sent g)
+    sym (ap (λ (v : View). left j.sheets held v c.begin.new.self) view) ∙ c.begin.ensures.left j.sheets
+    ∙ ap (λ (v : View). copies_text (label_image j.sheets v held.stored held.fields) c.in-Ok.copies) view ∙ c.in-Ok.ensures.prints before name sent g)
 
 pub returns-clause-idle : goal.returns-clause-idle
 returns-clause-idle g c = λ none.
@@ -70,7 +69,7 @@ returns-clause-idle g c = λ none.
     let now = c.obey.new.self in
     let q = c.begin.new.self in
     let p = c.begin.ensures.press j.sheets in
-    let over = no_copies c.pending_law.ensures (press_image j.sheets now.format.stored (view_of now.in_force.settings) q) q.copies.place (λ some. (let h = p.high in let e = p.height in omega arith, p.place)) none in
+    let over = no_copies c.pending_law.ensures (press_image j.sheets now.format (view_of now.in_force.settings) q) q.copies.place (λ some. (let h = p.high in let e = p.height in omega arith, p.place)) none in
     absurd (omega (arith, over, c.begin.ensures.some))
 
 pub returns-clause-idle_work : goal.returns-clause-idle_work
@@ -79,15 +78,14 @@ returns-clause-idle_work g c = λ none.
     let now = c.obey.new.self in
     let q = c.begin.new.self in
     let p = c.begin.ensures.press j.sheets in
-    let over = no_copies c.pending_law.ensures (press_image j.sheets now.format.stored (view_of now.in_force.settings) q) q.copies.place (λ some. (let h = p.high in let e = p.height in omega arith, p.place)) none in
+    let over = no_copies c.pending_law.ensures (press_image j.sheets now.format (view_of now.in_force.settings) q) q.copies.place (λ some. (let h = p.high in let e = p.height in omega arith, p.place)) none in
     absurd (omega (arith, over, c.begin.ensures.some))
 
 pub invariant_of-self-2 : goal.invariant_of-self-2
 invariant_of-self-2 g c =
     let j = c.self.inside in
-    let bytes = c.obey.new.self.format.stored in
+    let held = c.obey.new.self.format in
     record {
       gathered = c.in-Ok.ensures.some;
-      press = λ some. subst (λ (v : View). IsPress j.sheets bytes v c.begin.new.self) c.view_of-view.ensures (c.begin.ensures.press j.sheets);
-      fields = λ some. c.begin.ensures.fields;
+      press = λ some. subst (λ (v : View). IsPress j.sheets held v c.begin.new.self) c.view_of-view.ensures (c.begin.ensures.press j.sheets);
     }

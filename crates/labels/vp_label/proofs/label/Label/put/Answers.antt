@@ -1,8 +1,8 @@
-use Rattle.std.proofs.Common.{◌≡◌, ◌<◌, ◌++◌, rules, ℕ, List, subst, ap, sym, ◌∙◌, length, take, drop, min}
+use Rattle.std.proofs.Common.{◌≡◌, ◌<◌, ◌++◌, rules, ℕ, subst, ap, sym, ◌∙◌, length, take, drop, min}
 use Rattle.std.proofs.Common.{◌≤◌, arith, refl, inl, inr, length-drop}
 use Rattle.std.proofs.lemmas.Bool.{cases_lt}
 use Rattle.vp_bands.specs.Meeting.{bands_of, copy_work, pairs, shown_pairs}
-use Rattle.vp_bands.specs.Standing.{fields_of, IsBefore}
+use Rattle.vp_bands.specs.Standing.{IsBefore}
 use Rattle.vp_output.specs.Lines.{IsLineOf}
 use Rattle.vp_copies.specs.Copies.{copies_text}
 use Rattle.vp_label.proofs.Counts.{between_copies, same_image}
@@ -21,133 +21,107 @@ use Rattle.vp_label.proofs.label.Label.put.Goals as goal
 pub returns-clause-count : goal.returns-clause-count
 returns-clause-count g c =
     let j = c.self.inside in
-    let pend : left j.sheets c.stored.result.now c.view_of-view.result j.press ≡ c.args.self.now.pending =
-    ap (λ s. left j.sheets s c.view_of-view.result j.press) c.stored.ensures.bytes ∙ ap (λ v. left j.sheets j.gathered.format.stored v j.press) c.view_of-view.ensures ∙ ap (λ (p : Printing _). p.pending) c.self.view_is in
+    let pend : left j.sheets j.gathered.format c.view_of-view.result j.press ≡ c.args.self.now.pending =
+    ap (λ v. left j.sheets j.gathered.format v j.press) c.view_of-view.ensures ∙ ap (λ (p : Printing _). p.pending) c.self.view_is in
     c.put.ensures.count ∙ ap (λ t. min (length t) (length c.args.out.now)) pend
 
 pub returns-clause-bytes : goal.returns-clause-bytes
 returns-clause-bytes g c =
     let j = c.self.inside in
-    let pend : left j.sheets c.stored.result.now c.view_of-view.result j.press ≡ c.args.self.now.pending =
-    ap (λ s. left j.sheets s c.view_of-view.result j.press) c.stored.ensures.bytes ∙ ap (λ v. left j.sheets j.gathered.format.stored v j.press) c.view_of-view.ensures ∙ ap (λ (p : Printing _). p.pending) c.self.view_is in
+    let pend : left j.sheets j.gathered.format c.view_of-view.result j.press ≡ c.args.self.now.pending =
+    ap (λ v. left j.sheets j.gathered.format v j.press) c.view_of-view.ensures ∙ ap (λ (p : Printing _). p.pending) c.self.view_is in
     c.put.ensures.bytes ∙ ap (λ t. take c.put.result t ++ drop c.put.result c.args.out.now) pend
 
 pub returns-clause-rest : goal.returns-clause-rest
 returns-clause-rest g c =
     let j = c.self.inside in
-    let pend : left j.sheets c.stored.result.now c.view_of-view.result j.press ≡ c.args.self.now.pending =
-    ap (λ s. left j.sheets s c.view_of-view.result j.press) c.stored.ensures.bytes ∙ ap (λ v. left j.sheets j.gathered.format.stored v j.press) c.view_of-view.ensures ∙ ap (λ (p : Printing _). p.pending) c.self.view_is in
-    sym (ap (λ s. left j.sheets s c.view_of-view.result c.put.new.self) c.stored.ensures.bytes ∙ ap (λ v. left j.sheets j.gathered.format.stored v c.put.new.self) c.view_of-view.ensures)
-    ∙ c.put.ensures.rest ∙ ap (drop c.put.result) pend
+    let pend : left j.sheets j.gathered.format c.view_of-view.result j.press ≡ c.args.self.now.pending =
+    ap (λ v. left j.sheets j.gathered.format v j.press) c.view_of-view.ensures ∙ ap (λ (p : Printing _). p.pending) c.self.view_is in
+    sym (ap (λ v. left j.sheets j.gathered.format v c.put.new.self) c.view_of-view.ensures) ∙ c.put.ensures.rest ∙ ap (drop c.put.result) pend
 
 pub put-requires : goal.put-requires
 put-requires g c =
     let j = c.self.inside in
     let some : 0 < j.press.copies.place.copies = search rules in
-    subst (λ (s : List ℕ). IsPress j.sheets s c.view_of-view.result j.press) (sym c.stored.ensures.bytes)
-    (subst (λ (v : View). IsPress j.sheets j.gathered.format.stored v j.press) (sym c.view_of-view.ensures) (c.self.invariant.press some))
+    subst (λ (v : View). IsPress j.sheets j.gathered.format v j.press) (sym c.view_of-view.ensures) (c.self.invariant.press some)
 
 pub returns-clause-at_most : goal.returns-clause-at_most
 returns-clause-at_most g c = λ pending.
     let j = c.self.inside in
+    let held = j.gathered.format in
     let q = c.put.new.self in
     let view = c.view_of-view.result in
-    let bytes = c.stored.result.now in
     let p = c.put.ensures.press in
     let line : IsLineOf view.height q.copies.place.line = subst (λ (h : ℕ). IsLineOf h q.copies.place.line) p.height p.place.line in
-    let w : (b : ℕ) × (b ≤ bands_of view) × IsBefore j.sheets bytes view b q.painter = elim (cases_lt 0 q.copies.place.copies) [
-      | inl some ↦ is_within view.height (bands_of view) (λ b. IsBefore j.sheets bytes view b q.painter) q.copies.place.copies q.copies.place.line q.copies.place.byte refl line some (p.next some)
+    let w : (b : ℕ) × (b ≤ bands_of view) × IsBefore j.sheets held view b q.painter = elim (cases_lt 0 q.copies.place.copies) [
+      | inl some ↦ is_within view.height (bands_of view) (λ b. IsBefore j.sheets held view b q.painter) q.copies.place.copies q.copies.place.line q.copies.place.byte refl line some (p.next some)
       | inr none_left ↦ (bands_of view, omega arith, p.over (omega arith))
     ] in
-    let bound = most j.sheets bytes view q.painter c.looks_bounded.ensures w in
-    let some : 0 < j.press.copies.place.copies = search rules in
-    let e : pairs j.sheets bytes view (fields_of q.painter.entries) (bands_of view) ≡ met c.args.self.now =
-    ap (λ xs. pairs j.sheets bytes view (fields_of xs) (bands_of view)) c.put.ensures.fields ∙ ap (λ xs. pairs j.sheets bytes view xs (bands_of view)) (c.self.invariant.fields some)
-    ∙ ap (λ s. pairs j.sheets s view j.gathered.format.fields (bands_of view)) c.stored.ensures.bytes ∙ ap (λ (v : View). pairs j.sheets j.gathered.format.stored v j.gathered.format.fields (bands_of v)) c.view_of-view.ensures
-    ∙ ap met c.self.view_is in
+    let bound = most j.sheets held view q.painter c.looks_bounded.ensures w in
+    let e : pairs j.sheets held.stored view held.fields (bands_of view) ≡ met c.args.self.now =
+    ap (λ (v : View). pairs j.sheets held.stored v held.fields (bands_of v)) c.view_of-view.ensures ∙ ap met c.self.view_is in
     let n : bands_of view ≡ bands c.args.self.now = ap bands_of c.view_of-view.ensures ∙ ap bands c.self.view_is in
     omega (arith, bound, e, n)
 
 pub returns-clause-work : goal.returns-clause-work
 returns-clause-work g c = λ pending.
     let j = c.self.inside in
+    let held = j.gathered.format in
     let q = c.put.new.self in
     let view = c.view_of-view.result in
-    let bytes = c.stored.result.now in
     let p = c.put.ensures.press in
     let line : IsLineOf view.height q.copies.place.line = subst (λ (h : ℕ). IsLineOf h q.copies.place.line) p.height p.place.line in
-    let w : (b : ℕ) × (b ≤ bands_of view) × IsBefore j.sheets bytes view b q.painter = elim (cases_lt 0 q.copies.place.copies) [
-      | inl some ↦ is_within view.height (bands_of view) (λ b. IsBefore j.sheets bytes view b q.painter) q.copies.place.copies q.copies.place.line q.copies.place.byte refl line some (p.next some)
+    let w : (b : ℕ) × (b ≤ bands_of view) × IsBefore j.sheets held view b q.painter = elim (cases_lt 0 q.copies.place.copies) [
+      | inl some ↦ is_within view.height (bands_of view) (λ b. IsBefore j.sheets held view b q.painter) q.copies.place.copies q.copies.place.line q.copies.place.byte refl line some (p.next some)
       | inr none_left ↦ (bands_of view, omega arith, p.over (omega arith))
     ] in
-    let bound = c.work_bounded.ensures.at_most j.sheets bytes view w.0 q.painter w.2 w.1 in
-    let some : 0 < j.press.copies.place.copies = search rules in
-    let e : copy_work j.sheets bytes view (fields_of q.painter.entries) (bands_of view) ≡ painting c.args.self.now =
-    ap (λ xs. copy_work j.sheets bytes view (fields_of xs) (bands_of view)) c.put.ensures.fields ∙ ap (λ xs. copy_work j.sheets bytes view xs (bands_of view)) (c.self.invariant.fields some)
-    ∙ ap (λ s. copy_work j.sheets s view j.gathered.format.fields (bands_of view)) c.stored.ensures.bytes ∙ ap (λ (v : View). copy_work j.sheets j.gathered.format.stored v j.gathered.format.fields (bands_of v)) c.view_of-view.ensures
-    ∙ ap painting c.self.view_is in
+    let bound = c.work_bounded.ensures.at_most j.sheets held view w.0 q.painter w.2 w.1 in
+    let e : copy_work j.sheets held.stored view held.fields (bands_of view) ≡ painting c.args.self.now =
+    ap (λ (v : View). copy_work j.sheets held.stored v held.fields (bands_of v)) c.view_of-view.ensures ∙ ap painting c.self.view_is in
     omega (arith, bound, e)
 
 pub returns-clause-at_least : goal.returns-clause-at_least
 returns-clause-at_least g c = λ out whole.
     let j = c.self.inside in
+    let held = j.gathered.format in
     let q = c.put.new.self in
     let view = c.view_of-view.result in
-    let bytes = c.stored.result.now in
     let p = c.put.ensures.press in
-    let some : 0 < j.press.copies.place.copies = search rules in
-    let fields : fields_of q.painter.entries ≡ j.gathered.format.fields = ap fields_of c.put.ensures.fields ∙ c.self.invariant.fields some in
-    let shows : press_image j.sheets bytes view q ≡ label_image c.args.self.now.sheets (view_of c.args.self.now.gathered.in_force.settings) c.args.self.now.gathered.format.stored c.args.self.now.gathered.format.fields =
-    same_image j.sheets c.args.self.now.sheets bytes c.args.self.now.gathered.format.stored view (view_of c.args.self.now.gathered.in_force.settings) (fields_of q.painter.entries) c.args.self.now.gathered.format.fields q.copies.width q.copies.height
-    (ap (λ (x : Printing _). x.sheets) c.self.view_is)
-    (c.stored.ensures.bytes ∙ ap (λ (x : Printing _). x.gathered.format.stored) c.self.view_is)
-    (c.view_of-view.ensures ∙ ap (λ (x : Printing _). view_of x.gathered.in_force.settings) c.self.view_is)
-    (fields ∙ ap (λ (x : Printing _). x.gathered.format.fields) c.self.view_is)
-    p.width p.height in
-    let left_is : left j.sheets bytes view q ≡ left j.sheets j.gathered.format.stored (view_of j.gathered.in_force.settings) q =
-    ap (λ s. left j.sheets s view q) c.stored.ensures.bytes ∙ ap (λ v. left j.sheets j.gathered.format.stored v q) c.view_of-view.ensures in
-    let count : length (left j.sheets bytes view q) ≡ length (copies_text (press_image j.sheets bytes view q) whole.0) =
+    let left_is : left j.sheets held view q ≡ left j.sheets held (view_of j.gathered.in_force.settings) q = ap (λ v. left j.sheets held v q) c.view_of-view.ensures in
+    let shows : press_image j.sheets held view q ≡ label_image c.args.self.now.sheets (view_of c.args.self.now.gathered.in_force.settings) c.args.self.now.gathered.format.stored c.args.self.now.gathered.format.fields =
+    same_image j.sheets held view q p.width p.height ∙ ap (λ (v : View). label_image j.sheets v held.stored held.fields) c.view_of-view.ensures
+    ∙ ap (λ (x : Printing _). label_image x.sheets (view_of x.gathered.in_force.settings) x.gathered.format.stored x.gathered.format.fields) c.self.view_is in
+    let count : length (left j.sheets held view q) ≡ length (copies_text (press_image j.sheets held view q) whole.0) =
     ap length left_is ∙ whole.1 ∙ ap (λ i. length (copies_text i whole.0)) (sym shows) in
-    let before : IsBefore j.sheets bytes view (bands_of view) q.painter = elim (cases_lt 0 q.copies.place.copies) [
-      | inl more ↦ c.put.ensures.ended out (between_copies c.place_law.ensures (press_image j.sheets bytes view q) q.copies.place whole.0 (omega (arith, p.high, p.height)) p.place more count)
+    let before : IsBefore j.sheets held view (bands_of view) q.painter = elim (cases_lt 0 q.copies.place.copies) [
+      | inl more ↦ c.put.ensures.ended out (between_copies c.place_law.ensures (press_image j.sheets held view q) q.copies.place whole.0 (omega (arith, p.high, p.height)) p.place more count)
       | inr none_left ↦ p.over (omega arith)
     ] in
-    let bound = c.looks_bounded.ensures.at_least j.sheets bytes view q.painter before in
-    let e : pairs j.sheets bytes view (fields_of q.painter.entries) (bands_of view) ≡ met c.args.self.now =
-    ap (λ xs. pairs j.sheets bytes view (fields_of xs) (bands_of view)) c.put.ensures.fields ∙ ap (λ xs. pairs j.sheets bytes view xs (bands_of view)) (c.self.invariant.fields some)
-    ∙ ap (λ s. pairs j.sheets s view j.gathered.format.fields (bands_of view)) c.stored.ensures.bytes ∙ ap (λ (v : View). pairs j.sheets j.gathered.format.stored v j.gathered.format.fields (bands_of v)) c.view_of-view.ensures
-    ∙ ap met c.self.view_is in
+    let bound = c.looks_bounded.ensures.at_least j.sheets held view q.painter before in
+    let e : pairs j.sheets held.stored view held.fields (bands_of view) ≡ met c.args.self.now =
+    ap (λ (v : View). pairs j.sheets held.stored v held.fields (bands_of v)) c.view_of-view.ensures ∙ ap met c.self.view_is in
     omega (arith, bound, e)
 
 pub returns-clause-shown : goal.returns-clause-shown
 returns-clause-shown g c = λ out whole.
     let j = c.self.inside in
+    let held = j.gathered.format in
     let q = c.put.new.self in
     let view = c.view_of-view.result in
-    let bytes = c.stored.result.now in
     let p = c.put.ensures.press in
-    let some : 0 < j.press.copies.place.copies = search rules in
-    let fields : fields_of q.painter.entries ≡ j.gathered.format.fields = ap fields_of c.put.ensures.fields ∙ c.self.invariant.fields some in
-    let shows : press_image j.sheets bytes view q ≡ label_image c.args.self.now.sheets (view_of c.args.self.now.gathered.in_force.settings) c.args.self.now.gathered.format.stored c.args.self.now.gathered.format.fields =
-    same_image j.sheets c.args.self.now.sheets bytes c.args.self.now.gathered.format.stored view (view_of c.args.self.now.gathered.in_force.settings) (fields_of q.painter.entries) c.args.self.now.gathered.format.fields q.copies.width q.copies.height
-    (ap (λ (x : Printing _). x.sheets) c.self.view_is)
-    (c.stored.ensures.bytes ∙ ap (λ (x : Printing _). x.gathered.format.stored) c.self.view_is)
-    (c.view_of-view.ensures ∙ ap (λ (x : Printing _). view_of x.gathered.in_force.settings) c.self.view_is)
-    (fields ∙ ap (λ (x : Printing _). x.gathered.format.fields) c.self.view_is)
-    p.width p.height in
-    let left_is : left j.sheets bytes view q ≡ left j.sheets j.gathered.format.stored (view_of j.gathered.in_force.settings) q =
-    ap (λ s. left j.sheets s view q) c.stored.ensures.bytes ∙ ap (λ v. left j.sheets j.gathered.format.stored v q) c.view_of-view.ensures in
-    let count : length (left j.sheets bytes view q) ≡ length (copies_text (press_image j.sheets bytes view q) whole.0) =
+    let left_is : left j.sheets held view q ≡ left j.sheets held (view_of j.gathered.in_force.settings) q = ap (λ v. left j.sheets held v q) c.view_of-view.ensures in
+    let shows : press_image j.sheets held view q ≡ label_image c.args.self.now.sheets (view_of c.args.self.now.gathered.in_force.settings) c.args.self.now.gathered.format.stored c.args.self.now.gathered.format.fields =
+    same_image j.sheets held view q p.width p.height ∙ ap (λ (v : View). label_image j.sheets v held.stored held.fields) c.view_of-view.ensures
+    ∙ ap (λ (x : Printing _). label_image x.sheets (view_of x.gathered.in_force.settings) x.gathered.format.stored x.gathered.format.fields) c.self.view_is in
+    let count : length (left j.sheets held view q) ≡ length (copies_text (press_image j.sheets held view q) whole.0) =
     ap length left_is ∙ whole.1 ∙ ap (λ i. length (copies_text i whole.0)) (sym shows) in
-    let before : IsBefore j.sheets bytes view (bands_of view) q.painter = elim (cases_lt 0 q.copies.place.copies) [
-      | inl more ↦ c.put.ensures.ended out (between_copies c.place_law.ensures (press_image j.sheets bytes view q) q.copies.place whole.0 (omega (arith, p.high, p.height)) p.place more count)
+    let before : IsBefore j.sheets held view (bands_of view) q.painter = elim (cases_lt 0 q.copies.place.copies) [
+      | inl more ↦ c.put.ensures.ended out (between_copies c.place_law.ensures (press_image j.sheets held view q) q.copies.place whole.0 (omega (arith, p.high, p.height)) p.place more count)
       | inr none_left ↦ p.over (omega arith)
     ] in
-    let bound = c.work_bounded.ensures.at_least j.sheets bytes view q.painter before in
-    let e : shown_pairs j.sheets bytes view (fields_of q.painter.entries) (bands_of view) ≡ shown c.args.self.now =
-    ap (λ xs. shown_pairs j.sheets bytes view (fields_of xs) (bands_of view)) c.put.ensures.fields ∙ ap (λ xs. shown_pairs j.sheets bytes view xs (bands_of view)) (c.self.invariant.fields some)
-    ∙ ap (λ s. shown_pairs j.sheets s view j.gathered.format.fields (bands_of view)) c.stored.ensures.bytes ∙ ap (λ (v : View). shown_pairs j.sheets j.gathered.format.stored v j.gathered.format.fields (bands_of v)) c.view_of-view.ensures
-    ∙ ap shown c.self.view_is in
+    let bound = c.work_bounded.ensures.at_least j.sheets held view q.painter before in
+    let e : shown_pairs j.sheets held.stored view held.fields (bands_of view) ≡ shown c.args.self.now =
+    ap (λ (v : View). shown_pairs j.sheets held.stored v held.fields (bands_of v)) c.view_of-view.ensures ∙ ap shown c.self.view_is in
     omega (arith, bound, e)
 
 pub returns-clause-stands : goal.returns-clause-stands

@@ -6,7 +6,7 @@ use Rattle.vp_label.proofs.press.Press.put.Goals as goal
 
 pub loop-n-preserved : goal.loop-n-preserved
 loop-n-preserved g c =
-    let text = left c.args.sheets.now c.args.stored.now c.args.view c.args.self.now in
+    let text = left c.args.sheets.now c.args.format.now c.args.view c.args.self.now in
     let n = c.loop-n.n in
     let r = c.put_line-n.result in
     let done = c.loop-n.invariant in
@@ -14,7 +14,6 @@ loop-n-preserved g c =
     let within = ap length done.rest in
     record {
       press = part.press;
-      fields = part.fields ∙ done.fields;
       room = omega (arith, simp (length-take, length-drop) at part.fits);
       within = omega (arith, within, length-drop n text, part.within);
       bytes = put_more text c.args.out.now c.loop-n.out c.put_line-n.new.out n r done.within done.room done.bytes (part.bytes ∙ ap (λ rest. take r rest ++ drop r (take (length c.loop-n.out - n) (drop n c.loop-n.out))) done.rest);

@@ -7,13 +7,12 @@ use Rattle.vp_label.proofs.press.Press.put.Given as goal
 -- n bytes are out, and the others stand as they were
 abbrev pub invariant-loop-n : goal.invariant-loop-n
 invariant-loop-n g l = record {
-  press : IsPress l.sheets l.stored l.view l.self;
-  fields : l.self.painter.entries ≡ l.initial.self.painter.entries;
+  press : IsPress l.sheets l.format l.view l.self;
   room : l.n ≤ length l.initial.out;
-  within : l.n ≤ length (left l.sheets l.stored l.view l.initial.self);
-  bytes : l.out ≡ take l.n (left l.sheets l.stored l.view l.initial.self) ++ drop l.n l.initial.out;
-  rest : left l.sheets l.stored l.view l.self ≡ drop l.n (left l.sheets l.stored l.view l.initial.self);
-  ended : 0 < l.n → IsBetween l.self.copies.place → IsBefore l.sheets l.stored l.view (bands_of l.view) l.self.painter;
+  within : l.n ≤ length (left l.sheets l.format l.view l.initial.self);
+  bytes : l.out ≡ take l.n (left l.sheets l.format l.view l.initial.self) ++ drop l.n l.initial.out;
+  rest : left l.sheets l.format l.view l.self ≡ drop l.n (left l.sheets l.format l.view l.initial.self);
+  ended : 0 < l.n → IsBetween l.self.copies.place → IsBefore l.sheets l.format l.view (bands_of l.view) l.self.painter;
   idle : l.n ≡ 0 → l.self ≡ l.initial.self;
 }
 

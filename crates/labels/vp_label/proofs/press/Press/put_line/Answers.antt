@@ -3,28 +3,28 @@ use Rattle.std.specs.Prelude.{map}
 use Rattle.vp_field.specs.Fields.{stroke_of}
 use Rattle.vp_field.specs.Strokes.{image_dot}
 use Rattle.vp_bands.specs.Meeting.{bands_of}
-use Rattle.vp_bands.specs.Standing.{fields_of, IsBefore}
+use Rattle.vp_bands.specs.Standing.{IsBefore}
 use Rattle.vp_copies.specs.Copies.{ahead, pending}
 use Rattle.vp_copies.specs.Progress.{Progress, image_of, IsPainted, IsReady}
 use Rattle.vp_output.specs.Lines.{IsLineOf}
 use Rattle.vp_output.specs.declared.place.Line.TheVariants.{Row}
 use Rattle.vp_label.specs.Press.{bands_above, left, IsNextBand}
-use Rattle.vp_label.proofs.Presses.{inside_ahead, met_behind, same_left, IsMet}
+use Rattle.vp_label.proofs.Presses.{inside_ahead, met_behind, IsMet}
 use Rattle.vp_label.proofs.press.Press.put_line.Goals as goal
 
 pub returns-then-n-gt0 : goal.returns-then-n-gt0
 returns-then-n-gt0 g c =
     let sheets = c.args.sheets.now in
-    let bytes = c.args.stored.now in
+    let held = c.args.format.now in
     let view = c.args.view in
     let old = c.args.self.now in
     let now = c.prepare.new.self in
-    let next = (λ (b : ℕ). IsBefore sheets bytes view b now.painter) in
+    let next = (λ (b : ℕ). IsBefore sheets held view b now.painter) in
     let p = c.requires.press in
     let same = c.prepare.ensures.copies in
     let part = c.put_rows-n.ensures in
-    let dots = image_dot view (map (stroke_of sheets bytes) (fields_of now.painter.entries)) in
-    let text : left sheets bytes view now ≡ left sheets bytes view old = same_left sheets bytes view old now same c.prepare.ensures.fields in
+    let dots = image_dot view (map (stroke_of sheets held.stored) held.fields) in
+    let text : left sheets held view now ≡ left sheets held view old = ap (λ (x : Progress). pending (image_of x dots) x.place) same in
     let some : 0 < now.copies.place.copies = subst (λ (x : Progress). 0 < x.place.copies) (sym same) c.requires.some in
     let on = part.on c.if-n-gt0.true in
     let inside = inside_ahead now.copies.place.copies (on.row + on.rows) some on.inside in
@@ -42,7 +42,6 @@ returns-then-n-gt0 g c =
         over = λ none. absurd (let e = ap (λ (x : Progress). x.place.copies) on.value in omega arith);
         ready = subst (λ (x : Progress). IsReady (image_of x dots) x.place now.band) (sym on.value) (rw (inside, on.same_band) painted);
       };
-      fields = c.prepare.ensures.fields;
       some = c.if-n-gt0.true;
       fits = part.fits;
       within = subst (λ t. c.put_rows-n.result ≤ length t) text (part.within dots);
@@ -54,19 +53,18 @@ returns-then-n-gt0 g c =
 pub returns : goal.returns
 returns g c =
     let sheets = c.args.sheets.now in
-    let bytes = c.args.stored.now in
+    let held = c.args.format.now in
     let view = c.args.view in
     let old = c.args.self.now in
     let now = c.prepare.new.self in
     let copies = c.put_rows-n.new.self in
-    let next = (λ (b : ℕ). IsBefore sheets bytes view b now.painter) in
+    let next = (λ (b : ℕ). IsBefore sheets held view b now.painter) in
     let p = c.requires.press in
     let idle = c.put_rows-n.ensures.none (let n = c.if-n-gt0.false in omega arith) in
     let same : copies ≡ old.copies = idle.0 ∙ c.prepare.ensures.copies in
     let part = c.put_line.ensures in
-    let dots = image_dot view (map (stroke_of sheets bytes) (fields_of now.painter.entries)) in
-    let text : pending (image_of copies dots) copies.place ≡ left sheets bytes view old = ap (λ (x : Progress). pending (image_of x dots) x.place) idle.0
-    ∙ same_left sheets bytes view old now c.prepare.ensures.copies c.prepare.ensures.fields in
+    let dots = image_dot view (map (stroke_of sheets held.stored) held.fields) in
+    let text : pending (image_of copies dots) copies.place ≡ left sheets held view old = ap (λ (x : Progress). pending (image_of x dots) x.place) same in
     let painted : IsPainted (image_of copies dots) copies.place.line now.band =
     subst (λ (x : Progress). IsPainted (image_of x dots) x.place.line now.band) (sym idle.0) c.prepare.ensures.painted in
     let out : 0 < c.put_line.result = part.some (rw idle.1 c.requires.room) in
@@ -89,12 +87,11 @@ returns g c =
         over = met.over;
         ready = part.ready dots painted;
       };
-      fields = c.prepare.ensures.fields;
       some = out;
       fits = omega (arith, part.count, ap length idle.1);
       within = subst (λ t. c.put_line.result ≤ length t) text (part.within dots);
       bytes = part.bytes dots painted ∙ ap (λ t. take c.put_line.result t ++ drop c.put_line.result c.put_rows-n.new.out) text
-          ∙ ap (λ o. take c.put_line.result (left sheets bytes view old) ++ drop c.put_line.result o) idle.1;
+          ∙ ap (λ o. take c.put_line.result (left sheets held view old) ++ drop c.put_line.result o) idle.1;
       rest = part.rest dots ∙ ap (drop c.put_line.result) text;
       ended = met.between;
     }

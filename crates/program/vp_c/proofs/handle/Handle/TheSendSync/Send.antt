@@ -10,12 +10,12 @@ use denote.Struct.Struct.{exits_of}
 use Rattle.std.specs.Prelude.{Option, None, Some}
 use Rattle.std.below.std_heap.proofs.GlobalAllocator.TheSendSync.{the_frees}
 use Rattle.std_alloc.proofs.SendSync.{quiet, lies}
+use Rattle.vp_pointed.specs.Pointers.{holds}
 use Rattle.vp_c.proofs.owned.Owned.TheSendSync.{the_send}
-use Rattle.vp_c.specs.Handles.{holds}
 use Rattle.vp_c.specs.contracts.handle.Handle.{the_row, the_type}
 use Rattle.vp_c.proofs.Handles.{P}
 
-held : (p : Ptr) (x : Option P.Denot) → Keyless (holds p x)
+held : (p : Ptr) (x : Option P.Denot) → Keyless (holds P p x)
 held null_ptr None = tt
 held null_ptr (Some x) = tt
 held (block_ptr b o) None = tt

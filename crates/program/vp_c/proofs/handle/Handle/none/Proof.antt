@@ -11,8 +11,9 @@ use denote.Steps.{nothing}
 use denote.Triple.Walked.{walk_of, says, ends_at}
 use Rattle.std.proofs.raw_atomic.Walks.{proved}
 use Rattle.std.specs.Prelude.{None}
-use Rattle.vp_c.specs.Handles.{holds}
-use Rattle.vp_c.proofs.Handles.{Held, word, handle_in}
+use Rattle.vp_pointed.specs.Pointers.{holds}
+use Rattle.vp_pointed.proofs.Pointers.{word}
+use Rattle.vp_c.proofs.Handles.{P, Held, handle_in}
 use Rattle.vp_c.specs.contracts.handle.Handle.none as f
 use Rattle.vp_c.proofs.handle.Handle.none.Statement.{statement}
 use Rattle.vp_c.proofs.handle.Handle.none.Code as code
@@ -27,4 +28,4 @@ none_spec 𝓤 𝓛 𝓜 𝓡 wired =
     sets ! (agg ! (and_then ! (lit ! tt) (no_more !))) refl (tt, (record { fits = lit< tt }, tt)) $
     returns ! (look_at ! 0 refl) $ free_all ! refl $
     suffices ! _ (ends_at 𝓛 f.ended tt c y (word null_ptr) h tt tt) $ says ! refl $
-    nothing ! $ use1 𝓛 (‵ (holds null_ptr None)) (id⊢ 𝓤 _) $ handle_in ! h $ nothing ! $ nothing ! $ done !))
+    nothing ! $ use1 𝓛 (‵ (holds P null_ptr None)) (id⊢ 𝓤 _) $ handle_in ! h $ nothing ! $ nothing ! $ done !))

@@ -1,11 +1,14 @@
-use Rattle.std.proofs.Common.{◌<◌, ◌∙◌, ap, refl, sym, subst, arith}
-use Rattle.vp_dots.specs.Dots.{dot}
+use Rattle.std.proofs.Common.{◌+◌, ◌-◌, ◌&&◌, true, false, eqb, leb, ltb, ◌<◌, ◌∙◌, ap, refl, sym, subst, arith}
+use Rattle.vp_dots.specs.Dots.{dot, span}
 use Rattle.vp_page.specs.Areas.{depth}
 use Rattle.vp_page.specs.Layers.{row_mark}
 use Rattle.vp_page.specs.Pages.{HasPage}
+use Rattle.vp_page.specs.Runs.{along_of}
 use Rattle.vp_page.specs.declared.area.Direction.TheVariants.{LeftToRight, BottomToTop, RightToLeft, TopToBottom}
 use Rattle.vp_page.proofs.Pages.{laid}
 use Rattle.vp_page.proofs.RowMarks.{right_same, up_same, left_same, down_same}
+use Rattle.vp_dots.specs.declared.Op.TheVariants.{Black}
+use Rattle.vp_page.proofs.Rows.{rows_same}
 use Rattle.vp_page.proofs.Whites.{laid_on}
 use Rattle.vp_page.proofs.page.Page.lay_row.Goals as goal
 
@@ -14,7 +17,7 @@ invariant_of-self g c =
     let a = c.args.area in
     let row = dot c.args.row.now in
     let deep : c.args.v < a.dy = omega (arith, c.if-v-from.false, c.from.ensures ∙ c.depth.ensures ∙ ap (depth a) c.in-LeftToRight.is) in
-    laid_on _ c.self.inside.laid _ _ c.self.inside.band _ c.self.invariant c.lay_right.ensures c.with-self-inside.ensures.within c.with-self-inside.ensures.these
+    laid_on _ c.self.inside.laid _ _ c.self.inside.band _ c.self.invariant (rows_same Black _ _ _ _ (λ x k _. ap (λ b. leb (c.args.area.y + c.args.v) k && (ltb (k - (c.args.area.y + c.args.v)) 1 && (leb c.args.area.x x && (ltb (x - c.args.area.x) c.args.area.dx && b)))) (c.lengthened.ensures (x - c.args.area.x))) c.lay_right.ensures) c.with-self-inside.ensures.within c.with-self-inside.ensures.these
     (λ x y h e. c.with-self-inside.ensures.others y h (rw c.in-LeftToRight.is at c.fallen.ensures row x y (sym (right_same a c.args.v row deep x y) ∙ e)))
 
 pub returns-in-LeftToRight : goal.returns-in-LeftToRight
@@ -22,14 +25,14 @@ returns-in-LeftToRight g c = λ layers page.
     let a = c.args.area in
     let row = dot c.args.row.now in
     let deep : c.args.v < a.dy = omega (arith, c.if-v-from.false, c.from.ensures ∙ c.depth.ensures ∙ ap (depth a) c.in-LeftToRight.is) in
-    rw c.in-LeftToRight.is (laid layers _ _ _ (subst (HasPage layers) (sym c.self.view_is) page) (row_mark a LeftToRight c.args.v row) (λ x y h k. right_same a c.args.v row deep x y) c.lay_right.ensures (omega (arith, deep, c.saturating_add-self-inside.ensures)) refl)
+    rw c.in-LeftToRight.is (laid layers _ _ _ (subst (HasPage layers) (sym c.self.view_is) page) (row_mark a LeftToRight c.args.v row) (λ x y h k. right_same a c.args.v row deep x y) (rows_same Black _ _ _ _ (λ x k _. ap (λ b. leb (c.args.area.y + c.args.v) k && (ltb (k - (c.args.area.y + c.args.v)) 1 && (leb c.args.area.x x && (ltb (x - c.args.area.x) c.args.area.dx && b)))) (c.lengthened.ensures (x - c.args.area.x))) c.lay_right.ensures) (omega (arith, deep, c.saturating_add-self-inside.ensures)) refl)
 
 pub invariant_of-self-in-BottomToTop : goal.invariant_of-self-in-BottomToTop
 invariant_of-self-in-BottomToTop g c =
     let a = c.args.area in
     let row = dot c.args.row.now in
     let deep : c.args.v < a.dx = omega (arith, c.if-v-from.false, c.from.ensures ∙ c.depth.ensures ∙ ap (depth a) c.in-BottomToTop.is) in
-    laid_on _ c.self.inside.laid _ _ c.self.inside.band _ c.self.invariant c.lay_up.ensures c.with-self-inside.ensures.within c.with-self-inside.ensures.these
+    laid_on _ c.self.inside.laid _ _ c.self.inside.band _ c.self.invariant (rows_same Black _ _ _ _ (λ x k _. ap (λ b. eqb x (a.x + c.args.v) && (span a.y (a.y + a.dy) k && b)) (c.lengthened-line.ensures (along_of a true k))) c.lay_column.ensures) c.with-self-inside.ensures.within c.with-self-inside.ensures.these
     (λ x y h e. c.with-self-inside.ensures.others y h (rw c.in-BottomToTop.is at c.fallen.ensures row x y (sym (up_same a c.args.v row deep x y) ∙ e)))
 
 pub returns-in-BottomToTop : goal.returns-in-BottomToTop
@@ -37,14 +40,14 @@ returns-in-BottomToTop g c = λ layers page.
     let a = c.args.area in
     let row = dot c.args.row.now in
     let deep : c.args.v < a.dx = omega (arith, c.if-v-from.false, c.from.ensures ∙ c.depth.ensures ∙ ap (depth a) c.in-BottomToTop.is) in
-    rw c.in-BottomToTop.is (laid layers _ _ _ (subst (HasPage layers) (sym c.self.view_is) page) (row_mark a BottomToTop c.args.v row) (λ x y h k. up_same a c.args.v row deep x y) c.lay_up.ensures (omega (arith, deep, c.saturating_add-self-inside.ensures)) refl)
+    rw c.in-BottomToTop.is (laid layers _ _ _ (subst (HasPage layers) (sym c.self.view_is) page) (row_mark a BottomToTop c.args.v row) (λ x y h k. up_same a c.args.v row deep x y) (rows_same Black _ _ _ _ (λ x k _. ap (λ b. eqb x (a.x + c.args.v) && (span a.y (a.y + a.dy) k && b)) (c.lengthened-line.ensures (along_of a true k))) c.lay_column.ensures) (omega (arith, deep, c.saturating_add-self-inside.ensures)) refl)
 
 pub invariant_of-self-in-RightToLeft : goal.invariant_of-self-in-RightToLeft
 invariant_of-self-in-RightToLeft g c =
     let a = c.args.area in
     let row = dot c.args.row.now in
     let deep : c.args.v < a.dy = omega (arith, c.if-v-from.false, c.from.ensures ∙ c.depth.ensures ∙ ap (depth a) c.in-RightToLeft.is) in
-    laid_on _ c.self.inside.laid _ _ c.self.inside.band _ c.self.invariant c.lay_left.ensures c.with-self-inside.ensures.within c.with-self-inside.ensures.these
+    laid_on _ c.self.inside.laid _ _ c.self.inside.band _ c.self.invariant (rows_same Black _ _ _ _ (λ x k _. ap (λ b. leb (c.args.area.y + c.args.area.dy - 1 - c.args.v) k && (ltb (k - (c.args.area.y + c.args.area.dy - 1 - c.args.v)) 1 && (ltb x (c.args.area.x + c.args.area.dx) && (ltb (c.args.area.x + c.args.area.dx - 1 - x) c.args.area.dx && b)))) (c.lengthened-in-RightToLeft.ensures (c.args.area.x + c.args.area.dx - 1 - x))) c.lay_left.ensures) c.with-self-inside.ensures.within c.with-self-inside.ensures.these
     (λ x y h e. c.with-self-inside.ensures.others y h (rw c.in-RightToLeft.is at c.fallen.ensures row x y (sym (left_same a c.args.v row deep x y) ∙ e)))
 
 pub returns-in-RightToLeft : goal.returns-in-RightToLeft
@@ -52,14 +55,14 @@ returns-in-RightToLeft g c = λ layers page.
     let a = c.args.area in
     let row = dot c.args.row.now in
     let deep : c.args.v < a.dy = omega (arith, c.if-v-from.false, c.from.ensures ∙ c.depth.ensures ∙ ap (depth a) c.in-RightToLeft.is) in
-    rw c.in-RightToLeft.is (laid layers _ _ _ (subst (HasPage layers) (sym c.self.view_is) page) (row_mark a RightToLeft c.args.v row) (λ x y h k. left_same a c.args.v row deep x y) c.lay_left.ensures (omega (arith, deep, c.saturating_add-self-inside.ensures)) refl)
+    rw c.in-RightToLeft.is (laid layers _ _ _ (subst (HasPage layers) (sym c.self.view_is) page) (row_mark a RightToLeft c.args.v row) (λ x y h k. left_same a c.args.v row deep x y) (rows_same Black _ _ _ _ (λ x k _. ap (λ b. leb (c.args.area.y + c.args.area.dy - 1 - c.args.v) k && (ltb (k - (c.args.area.y + c.args.area.dy - 1 - c.args.v)) 1 && (ltb x (c.args.area.x + c.args.area.dx) && (ltb (c.args.area.x + c.args.area.dx - 1 - x) c.args.area.dx && b)))) (c.lengthened-in-RightToLeft.ensures (c.args.area.x + c.args.area.dx - 1 - x))) c.lay_left.ensures) (omega (arith, deep, c.saturating_add-self-inside.ensures)) refl)
 
 pub invariant_of-self-in-TopToBottom : goal.invariant_of-self-in-TopToBottom
 invariant_of-self-in-TopToBottom g c =
     let a = c.args.area in
     let row = dot c.args.row.now in
     let deep : c.args.v < a.dx = omega (arith, c.if-v-from.false, c.from.ensures ∙ c.depth.ensures ∙ ap (depth a) c.in-TopToBottom.is) in
-    laid_on _ c.self.inside.laid _ _ c.self.inside.band _ c.self.invariant c.lay_down.ensures c.with-self-inside.ensures.within c.with-self-inside.ensures.these
+    laid_on _ c.self.inside.laid _ _ c.self.inside.band _ c.self.invariant (rows_same Black _ _ _ _ (λ x k _. ap (λ b. eqb x (a.x + a.dx - 1 - c.args.v) && (span a.y (a.y + a.dy) k && b)) (c.lengthened-line-in-TopToBottom.ensures (along_of a false k))) c.lay_column-in-TopToBottom.ensures) c.with-self-inside.ensures.within c.with-self-inside.ensures.these
     (λ x y h e. c.with-self-inside.ensures.others y h (rw c.in-TopToBottom.is at c.fallen.ensures row x y (sym (down_same a c.args.v row deep x y) ∙ e)))
 
 pub returns-in-TopToBottom : goal.returns-in-TopToBottom
@@ -67,4 +70,4 @@ returns-in-TopToBottom g c = λ layers page.
     let a = c.args.area in
     let row = dot c.args.row.now in
     let deep : c.args.v < a.dx = omega (arith, c.if-v-from.false, c.from.ensures ∙ c.depth.ensures ∙ ap (depth a) c.in-TopToBottom.is) in
-    rw c.in-TopToBottom.is (laid layers _ _ _ (subst (HasPage layers) (sym c.self.view_is) page) (row_mark a TopToBottom c.args.v row) (λ x y h k. down_same a c.args.v row deep x y) c.lay_down.ensures (omega (arith, deep, c.saturating_add-self-inside.ensures)) refl)
+    rw c.in-TopToBottom.is (laid layers _ _ _ (subst (HasPage layers) (sym c.self.view_is) page) (row_mark a TopToBottom c.args.v row) (λ x y h k. down_same a c.args.v row deep x y) (rows_same Black _ _ _ _ (λ x k _. ap (λ b. eqb x (a.x + a.dx - 1 - c.args.v) && (span a.y (a.y + a.dy) k && b)) (c.lengthened-line-in-TopToBottom.ensures (along_of a false k))) c.lay_column-in-TopToBottom.ensures) (omega (arith, deep, c.saturating_add-self-inside.ensures)) refl)

@@ -1,6 +1,6 @@
 use Rattle.std.proofs.Common.{List, ◌∷◌, length, ap, sym, ◌∙◌, subst, arith, ◌≡◌}
 use Rattle.vp_esc.specs.declared.item.EscItem.{EscItem}
-use Rattle.vp_esc.specs.declared.item.EscItem.TheVariants.{RasterByte, QrByte}
+use Rattle.vp_esc.specs.declared.item.EscItem.TheVariants.{RasterByte}
 use Rattle.vp_page.specs.Layers.{Layer}
 use Rattle.vp_receipt_settings.specs.declared.effect.Effect.{Effect}
 use Rattle.vp_receipt_settings.specs.declared.page_mode.PrinterMode.{PrinterMode}

@@ -23,7 +23,7 @@ returns-clause-stands g c = λ setup before h.
     record {
       sheets = c.draw-self-inside.ensures.sheets ∙ was.sheets;
       settings = c.after-self-inside.ensures.settings setup before was.settings (c.as_slice-stops.ensures.value ∙ was.stops)
-          (c.size-rows.ensures.height ∙ ap (λ (k : Sheets). symbol_height k symbol) was.sheets ∙ rows_drawn setup before item symbol drawn);
+          (c.size-wide.ensures.height ∙ ap (λ (k : Sheets). symbol_height k symbol) was.sheets ∙ rows_drawn setup before item symbol drawn);
       stops = was.stops ∙ sym (stops_kept before item c.requires.symbol);
       raster = c.begin.ensures.gathers before;
       stored = subst (IsStored c.self.inside.stored) (sym (data_kept before item c.requires.symbol)) was.stored;

@@ -1,5 +1,0 @@
-use Rattle.vp_dots.proofs.Swaps.{swap_bits}
-use Rattle.vp_dots.proofs.block.swapped.Goals as goal
-
-pub returns : goal.returns
-returns c i h = swap_bits c.args.block c.args.s c.args.mask i h (c.requires.apart i h)

@@ -1,8 +1,0 @@
-use Rattle.std.proofs.Common.{◌+◌, ◌-◌, ◌*◌, ◌/◌, ◌&&◌, ltb, leb}
-use Rattle.vp_dots.specs.Painting.{Painted}
-use Rattle.vp_dots.specs.Words.{word_dot}
-use Rattle.vp_dots.proofs.word.paint_bytes.Given as goal
-
--- the bytes before i + j are done
-abbrev pub invariant-loop-j : goal.invariant-loop-j
-invariant-loop-j g l = Painted l.op (λ d. ltb (d / 8) (l.i + l.j) && (leb (8 * l.i) d && word_dot l.word (d - 8 * l.i))) l.fn.row l.row

@@ -1,0 +1,54 @@
+use Rattle.std.proofs.Common.{inl, inr, ℕ, ◌+◌, sym, refl, arith, w64, to_z, of_z}
+use Rattle.std.proofs.lemmas.Int.{to_z-of_z}
+use Rattle.vp_glyph.proofs.Joining.{lines_added}
+use Rattle.vp_glyph.proofs.Sheeted.{drawn_none, drawn_more, drawn_all, drawn_joined}
+use Rattle.vp_glyph.proofs.Stacks.{lines_below}
+use Rattle.vp_glyph.proofs.block.Block.add_lines.Goals as goal
+use Rattle.vp_glyph.proofs.block.Block.add_lines.Goals.{then-self-eq0-via-then-self-eq0, then-self-eq0-via-else-self-eq0+then-place-self}
+
+pub loop-left-init : goal.loop-left-init
+loop-left-init g c =
+    let b = c.args.self.now in
+    record {
+      place_within = omega arith;
+      drawn = λ i l. drawn_none b.sheet.now b.w b.h b.wide b.rows b.pitch b.alignment (c.args.top + i) _ 4 _ _ _ _ _ (λ x. c.requires.white i x) (λ x. c.first_line-above.ensures.lines x (c.args.top + i) (omega arith));
+    }
+
+pub loop-left-preserved : goal.loop-left-preserved
+loop-left-preserved g c =
+    let b = c.args.self.now in
+    record {
+      place_within = omega arith;
+      drawn = λ i l. drawn_more b.sheet.now b.w b.h b.wide b.rows b.pitch b.alignment (c.args.top + i) _ 4 _ _ c.loop-left.place c.next_line.result.0.cells _ c.loop-left.left c.next_line.result.1 c.in-Some.text c.next_line.result.0.text.now _ _
+          (c.loop-left.invariant.drawn i l) c.in-Some.is c.next_line.ensures.text c.next_line.ensures.lines (λ x m. c.add_line.ensures i x l m) (omega arith);
+    }
+
+pub returns-then-from : goal.returns-then-from
+returns-then-from g c =
+    let b = c.args.self.now in
+    λ i x l m k. rw (sym (to_z-of_z w64 c.args.at c.ranges.at))
+    (drawn_all b.sheet.now b.w b.h b.wide b.rows b.pitch b.alignment (c.args.top + i) (to_z w64 (of_z w64 c.args.at)) 4 b.text.now c.loop-left.place c.loop-left.left _ b.some (omega arith) k
+    (λ (v : ℕ). lines_below b.sheet.now b.w b.h b.wide b.rows b.pitch b.alignment v (c.args.top + i) c.loop-left.place _ c.loop-left.invariant.place_within (omega arith))
+    (c.loop-left.invariant.drawn i l) x m)
+
+pub returns : goal.returns
+returns g c =
+    let b = c.args.self.now in
+    λ i x l m k. rw (sym (to_z-of_z w64 c.args.at c.ranges.at))
+    (drawn_all b.sheet.now b.w b.h b.wide b.rows b.pitch b.alignment (c.args.top + i) (to_z w64 (of_z w64 c.args.at)) 4 b.text.now c.loop-left.place c.loop-left.left _ b.some (omega arith) k
+    (λ (v : ℕ). rw c.in_default.is refl)
+    (c.loop-left.invariant.drawn i l) x m)
+
+pub returns-then-self-eq0 : goal.returns-then-self-eq0
+returns-then-self-eq0 g c =
+    let b = c.args.self.now in
+    let at = to_z w64 (of_z w64 c.args.at) in
+    λ i x l m k. rw (sym (to_z-of_z w64 c.args.at c.ranges.at))
+    (drawn_joined b.sheet.now b.w b.h b.wide b.rows b.pitch b.alignment (c.args.top + i) at 4 b.text.now c.loop-left.place c.loop-left.left c.in-Some.text _ _ b.some (omega arith) k c.in-Some.is
+    (λ v m. lines_added b.sheet.now b.w b.h b.wide b.rows b.pitch b.alignment at v (c.args.top + i) c.loop-left.place _ _ _ _ m
+    (elim c.then-self-eq0.branch [
+      | then-self-eq0-via-then-self-eq0 w ↦ (let p = w.if-self-eq0.true in inl (omega arith))
+      | then-self-eq0-via-else-self-eq0+then-place-self w ↦ (let p = w.if-place-self.true in inr (omega (arith, c.loop-left.invariant.place_within)))
+    ])
+    (c.spread.ensures i v l m) (λ r u p q. c.joined-rows.ensures r u p q))
+    (c.loop-left.invariant.drawn i l) x m)

@@ -1,0 +1,12 @@
+use Rattle.std.proofs.Common.{ℕ, ◌+◌, ◌-◌, ◌/◌, arith, refl}
+use Rattle.vp_glyph.proofs.Gathered.{Blackened, groups_black}
+use Rattle.vp_glyph.proofs.fronts.blacken_run.Goals as goal
+
+pub returns : goal.returns
+returns g c =
+    let first : ℕ = c.args.from / 16 + 1 in
+    let last : ℕ = c.args.to / 16 in
+    let p : Blackened c.args.ink c.args.from (c.args.from + 16) c.args.fronts.now c.blacken-2.new.halves = record { inside = c.blacken-2.ensures.inside; outside = c.blacken-2.ensures.outside } in
+    let q : Blackened c.args.ink first last c.args.groups.now c.blacken-3.new.halves = record { inside = c.blacken-3.ensures.inside; outside = c.blacken-3.ensures.outside } in
+    let r : Blackened c.args.ink (c.args.to - 16) c.args.to c.blacken-2.new.halves c.blacken-4.new.halves = record { inside = c.blacken-4.ensures.inside; outside = c.blacken-4.ensures.outside } in
+    λ i x l m. groups_black c.args.ink c.args.from c.args.to first last i x c.args.groups.now c.blacken-3.new.halves c.args.fronts.now c.blacken-2.new.halves c.blacken-4.new.halves (omega arith) refl refl p q r

@@ -1,0 +1,55 @@
+-- Halves of words that are black or white as a whole.
+use Rattle.std.proofs.Common.{inl, inr, ◌≡◌, ℕ, ◌+◌, ◌-◌, ◌*◌, ◌/◌, ◌%◌, ◌^◌, ◌<◌, ◌≤◌, ◌⊎◌, Bool, true, false, not, eqb, leb, ◌&&◌, refl, ap, arith, List, take}
+use Rattle.std.proofs.lemmas.Bool.{cases_lt, lt-ltb, le-ltb, lt-leb, le-leb}
+use Rattle.std.proofs.lemmas.List.{get_or-take, length-take}
+use Rattle.std.proofs.lemmas.Nat.Bits.{bit_at_ones}
+use Rattle.vp_dots.specs.Dots.{bit, dot, span}
+use Rattle.vp_dots.specs.Painting.{paint}
+use Rattle.vp_dots.specs.Words.{word_dot}
+use Rattle.vp_dots.specs.declared.Op.TheVariants.{Black}
+use Rattle.vp_dots.proofs.Rows.{dot_past}
+use Rattle.vp_glyph.specs.Halves.{half_dot}
+use Rattle.vp_field.proofs.Columns.{white_half}
+
+pub black_half : (x : ℕ) → x < 32 → half_dot (2 ^ 32 - 1) x ≡ true
+unfolding bit
+black_half x l = rw (lt-ltb x 32 l) (ap (λ n. eqb n 1) (bit_at_ones 32 (31 - x) (omega arith)))
+
+-- each dot of such a half tells whether it is white
+pub plain_half : (h x : ℕ) → x < 32 → (h ≡ 0) ⊎ (h ≡ 2 ^ 32 - 1) → half_dot h x ≡ not (eqb h 0)
+plain_half h x l p = elim p [
+  | inl z ↦ rw z (white_half x)
+  | inr o ↦ rw o (black_half x l)
+]
+
+-- a word that is added to a row: dots before it, its own, and those behind it
+pub word_before : (at i word : ℕ) (o : Bool) → i < at → paint Black (leb at i && word_dot word (i - at)) o ≡ o
+word_before at i word o l = rw (lt-leb at i l) refl
+
+pub word_there : (at i word : ℕ) (o : Bool) → at ≤ i → o ≡ false → paint Black (leb at i && word_dot word (i - at)) o ≡ word_dot word (i - at)
+word_there at i word o l e = rw (le-leb at i l, e) (alone (word_dot word (i - at)))
+  where
+    alone : (b : Bool) → paint Black b false ≡ b
+    alone true = refl
+    alone false = refl
+
+pub word_behind : (at i word : ℕ) (o : Bool) → at + 64 ≤ i → o ≡ false → paint Black (leb at i && word_dot word (i - at)) o ≡ false
+word_behind at i word o l e = rw (le-leb at i (omega arith), le-ltb (i - at) 64 (omega arith), e) refl
+
+-- the dots of the first bytes of a row
+pub dot_front : (n : ℕ) (row : List ℕ) (i : ℕ) → i < 8 * n → dot (take n row) i ≡ dot row i
+unfolding dot
+dot_front n row i l = ap (λ b. bit b (7 - i % 8)) (get_or-take {A = ℕ} n row (i / 8) 0 (omega arith))
+
+pub front_end : (n : ℕ) (row : List ℕ) (i : ℕ) → 8 * n ≤ i → dot (take n row) i ≡ false
+front_end n row i l = dot_past (take n row) i (let m = length-take {A = ℕ} n row in omega (arith, m))
+
+-- they are painted from a place on
+pub front_span : (words : ℕ) (row : List ℕ) (x d : ℕ) → (leb x d && dot (take (8 * words) row) (d - x)) ≡ (span x (x + 64 * words) d && dot row (d - x))
+front_span words row x d = elim (cases_lt d x) [
+  | inl l ↦ rw (lt-leb x d l) refl
+  | inr g ↦ elim (cases_lt d (x + 64 * words)) [
+    | inl l ↦ rw (le-leb x d g, lt-ltb d (x + 64 * words) l) (dot_front (8 * words) row (d - x) (omega arith))
+    | inr o ↦ rw (le-leb x d g, le-ltb d (x + 64 * words) o) (front_end (8 * words) row (d - x) (omega arith))
+  ]
+]

@@ -1,0 +1,67 @@
+use Rattle.std.proofs.Common.{inl, inr, ◌≡◌, ℕ, ◌+◌, ◌-◌, refl, sym, ap, ◌∙◌, arith, pos}
+use Rattle.std.proofs.lemmas.Bool.{cases_lt}
+use Rattle.vp_glyph.specs.Halves.{half_dot}
+use Rattle.vp_glyph.proofs.Overlaid.{zero_at}
+use Rattle.vp_field.specs.Axes.{laid}
+use Rattle.vp_field.specs.declared.axis.Lines.TheVariants.{Across}
+use Rattle.vp_field.proofs.Alike.{laid_alike}
+use Rattle.vp_field.proofs.Columns.{white_half, before_end, from_end}
+use Rattle.vp_field.proofs.across.halves_of.Goals as goal
+
+pub loop-i-init : goal.loop-i-init
+loop-i-init g c = record {
+  count = refl;
+  within = omega arith;
+  ink = refl;
+  lines = omega arith;
+  more = omega arith;
+  some = λ h. absurd (omega arith);
+  drawn = λ j k h. absurd (omega arith);
+  white = λ j h. zero_at 64 j;
+}
+
+pub loop-i-preserved : goal.loop-i-preserved
+loop-i-preserved g c =
+    let i = c.loop-i.i in
+    let old = c.loop-i.invariant in
+    let alike = c.alike_places-alike in
+    let set = c.set_run.ensures in
+    let counted : c.on-line.new.self.lines ≡ c.loop-i.pen.lines + 1 = ap (λ p. p.lines) c.on-line.ensures.counted in
+    let same = rw old.ink at alike.ensures.alike in
+    let drawn = rw old.ink at c.on-line.ensures.dots in
+    let ink = λ (u v : ℕ). g.I.Ink.ink_at c.args.pen.now.ink.now u v in
+    let shown = λ (d k : ℕ). laid Across c.args.columns c.args.rows ink (pos d) (pos (c.args.first + k)) in
+    record {
+      count = c.set_run.array_long;
+      within = omega (arith, alike.ensures.within);
+      ink = ap (λ p. p.ink) c.on-line.ensures.counted ∙ old.ink;
+      lines = omega (arith, old.lines, alike.ensures.some, counted);
+      more = omega (arith, old.more, counted);
+      some = λ h. omega (arith, old.more, counted);
+      drawn = λ j k h l. elim (cases_lt j i) [
+        | inl b ↦ ap (λ n. half_dot n k) (set.before j b) ∙ old.drawn j k b l
+        | inr m ↦
+            let there : c.args.x + i + (j - i) ≡ c.args.x + j = omega arith in
+            ap (λ n. half_dot n k) (set.inside j m (omega (arith, h))) ∙ c.half_of.ensures k l ∙ drawn k (omega arith)
+            ∙ sym (laid_alike c.args.rows c.args.columns (λ (v u : ℕ). ink v u) (pos (c.args.first + k)) (pos (c.args.x + i + (j - i))) (pos (c.args.x + i)) (same (j - i) (omega (arith, h))))
+            ∙ ap (λ n. shown n k) there
+      ];
+      white = λ j h. set.behind j (omega (arith, h)) ∙ old.white j (omega (arith, h));
+    }
+
+pub returns-clause-dots : goal.returns-clause-dots
+returns-clause-dots g c = λ i k l h.
+    let last = c.loop-i.invariant in
+    elim (cases_lt (c.args.x + i) c.args.end) [
+      | inl b ↦ last.drawn i k (omega (arith, c.saturating_sub.ensures, c.min-many.ensures)) h ∙ sym (before_end (c.args.x + i) c.args.end _ b)
+      | inr a ↦ ap (λ n. half_dot n k) (last.white i (omega (arith, c.saturating_sub.ensures, c.min-many.ensures))) ∙ white_half k ∙ sym (from_end (c.args.x + i) c.args.end _ a)
+    ]
+
+pub returns-clause-few : goal.returns-clause-few
+returns-clause-few g c = omega (arith, c.loop-i.invariant.lines, c.loop-i.invariant.within, c.min-many.ensures)
+
+pub returns-clause-lines : goal.returns-clause-lines
+returns-clause-lines g c = omega (arith, c.loop-i.invariant.lines, c.loop-i.invariant.within, c.saturating_sub.ensures, c.min-many.ensures)
+
+pub returns-clause-some : goal.returns-clause-some
+returns-clause-some g c = λ h. c.loop-i.invariant.some (omega (arith, c.saturating_sub.ensures, c.min-many.ensures))

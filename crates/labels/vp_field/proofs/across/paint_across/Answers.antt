@@ -1,0 +1,45 @@
+use Rattle.std.proofs.Common.{refl, ◌∙◌, ◌≡◌, ℕ, ◌+◌, ◌<◌, ◌&&◌, ltb, true, arith, pos}
+use Rattle.vp_field.specs.Axes.{dot_on, laid}
+use Rattle.vp_field.specs.declared.axis.Lines.TheVariants.{Across}
+use Rattle.vp_field.proofs.Places.{line_inside}
+use Rattle.vp_field.proofs.Columns.{columns_init, columns_more, columns_all, from_end, white_before_end}
+use Rattle.vp_field.proofs.across.paint_across.Goals as goal
+
+pub loop-x-init : goal.loop-x-init
+loop-x-init g c =
+    let ink = λ (u v : ℕ). g.I.Ink.ink_at c.args.ink.ink.now u v in
+    let lines : (u v : ℕ) → ink u v ≡ true → v < c.size-h.result.1 = λ u v e. rw c.size-h.ensures.height (g.met.I.Ink.outside c.args.ink.ink.now u v e).1 in
+    let shown = λ (x k : ℕ). laid Across c.args.columns c.args.rows ink (pos x) (pos (c.args.first + k)) in
+    record {
+      ink = refl;
+      painted = columns_init _ _ (λ x k. ltb x c.max-end.result && shown x k) _ _
+          (λ x k l. white_before_end x c.max-end.result (shown x k) (c.span-from.ensures.before _ (line_inside ink c.size-h.result.1 lines (dot_on c.args.rows (pos (c.args.first + k)))) x (omega arith)));
+      lines = omega (arith, c.min.ensures, c.max-end.ensures, c.requires.fresh);
+      some = λ h. absurd (omega arith);
+    }
+
+pub loop-x-preserved : goal.loop-x-preserved
+loop-x-preserved g c =
+    let old = c.loop-x.invariant in
+    let now = c.paint_columns-x.ensures in
+    record {
+      ink = now.ink ∙ old.ink;
+      painted = columns_more c.args.op (λ x k. ltb x c.max-end.result && laid Across c.args.columns c.args.rows (λ u v. g.I.Ink.ink_at c.args.ink.ink.now u v) (pos x) (pos (c.args.first + k))) c.loop-x.x c.paint_columns-x.result _ _ _ old.painted (rw old.ink at now.painted);
+      lines = omega (arith, old.lines, now.lines, now.few);
+      some = λ h. omega (arith, now.counted);
+    }
+
+pub returns-clause-dots : goal.returns-clause-dots
+returns-clause-dots g c =
+    let ink = λ (u v : ℕ). g.I.Ink.ink_at c.args.ink.ink.now u v in
+    let lines : (u v : ℕ) → ink u v ≡ true → v < c.size-h.result.1 = λ u v e. rw c.size-h.ensures.height (g.met.I.Ink.outside c.args.ink.ink.now u v e).1 in
+    let shown = λ (x k : ℕ). laid Across c.args.columns c.args.rows ink (pos x) (pos (c.args.first + k)) in
+    columns_all _ _ shown c.max-end.result _ _
+    (λ x k a b m. c.span-from.ensures.behind _ (line_inside ink c.size-h.result.1 lines (dot_on c.args.rows (pos (c.args.first + k)))) x (let w = c.row_lengths.ensures k b in omega (arith, c.min.ensures, c.max-end.ensures)))
+    (columns_all _ _ (λ x k. ltb x c.max-end.result && shown x k) c.loop-x.x _ _ (λ x k a b m. from_end x c.max-end.result (shown x k) (omega (arith, a))) c.loop-x.invariant.painted)
+
+pub returns-clause-lines : goal.returns-clause-lines
+returns-clause-lines g c = omega (arith, c.loop-x.invariant.lines, c.lines.ensures)
+
+pub returns-clause-counted : goal.returns-clause-counted
+returns-clause-counted g c = let some = c.loop-x.invariant.some (omega (arith, c.max-end.ensures)) in omega (arith, some, c.lines.ensures)

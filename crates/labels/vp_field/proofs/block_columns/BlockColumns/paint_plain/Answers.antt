@@ -1,0 +1,23 @@
+use Rattle.std.proofs.Common.{◌≡◌, ℕ, ◌+◌, ◌-◌, ◌*◌, ap, ◌∙◌, arith, pos}
+use Rattle.vp_dots.specs.Dots.{dot}
+use Rattle.vp_dots.proofs.Heights.{rows_same}
+use Rattle.vp_glyph.specs.Blocks.{block_dot}
+use Rattle.vp_glyph.specs.Layouts.{layout_of}
+use Rattle.vp_field.specs.Axes.{laid}
+use Rattle.vp_field.specs.declared.axis.Lines.TheVariants.{Across}
+use Rattle.vp_field.proofs.AsWhole.{front_span}
+use Rattle.vp_field.proofs.Columns.{columns_within}
+use Rattle.vp_field.proofs.block_columns.BlockColumns.paint_plain.Goals as goal
+
+pub returns : goal.returns
+returns g c =
+    let s = c.args.self.now in
+    let b = s.block.now in
+    let row = c.args.row.now in
+    let x = c.args.x in
+    let shown = λ (x k : ℕ). laid Across s.columns s.rows (λ u v. block_dot (layout_of b) b.text.now u v) (pos x) (pos (s.first + k)) in
+    columns_within c.args.op shown (λ d k. dot row (d - x)) x (64 * c.args.words) _ _
+    (λ d k h l m w.
+    let same : x + (d - x) ≡ d = omega (arith, l) in
+    c.requires.row (d - x) k (omega (arith, l, m)) (let r = c.requires.wide k h in omega (arith, same, w, r)) h ∙ ap (λ n. shown n k) same)
+    (rows_same 32 c.args.op _ _ _ _ (λ d k h. front_span c.args.words row x d) c.paint_rows_alike.ensures)

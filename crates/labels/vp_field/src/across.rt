@@ -1,0 +1,215 @@
+//! Ink whose lines lie across the rows of a band: 128 columns are turned at once, and a run of one line is
+//! painted row by row.
+ghost use Rattle.std.specs.Prelude.{◌≡◌, ℕ, ◌+◌, ◌-◌, ◌*◌, ◌<◌, ◌≤◌, ◌^◌, ◌&&◌, Bool, nat_lt, pos, slice_index};
+ghost use Rattle.vp_dots.specs.Dots.{dot, span};
+ghost use Rattle.vp_dots.specs.Painting.{Painted};
+ghost use Rattle.vp_dots.specs.Places.{RowsPainted};
+ghost use Rattle.vp_dots.specs.Words.{word_dot};
+ghost use Rattle.vp_dots.specs.declared.square.TheConstants.{SIDE};
+ghost use Rattle.vp_glyph.specs.Halves.{half_dot};
+ghost use Rattle.vp_field.specs.Axes.{IsWithin, laid};
+ghost use Rattle.vp_field.specs.Contents.{most_lines};
+ghost use Rattle.vp_field.specs.declared.axis.Lines.TheVariants.{Across};
+ghost use Rattle.vp_label_size.specs.declared.TheConstants.{BAND_ROWS};
+
+use crate::axis::Axis;
+use crate::block_columns::are_white;
+use crate::paint::row_lengths;
+use crate::pen::Pen;
+use crate::plain::turned_halves;
+use vp_dots::{Ink, Op, SIDE, Small, dot_of, fill_dots, paint_words};
+use vp_label_size::{BAND_ROWS, LabelBand, WIDEST};
+
+/// The dots of a row of a band.
+const WIDTH: u64 = WIDEST as u64;
+
+/// The columns of a square.
+const COLUMNS: u64 = SIDE as u64;
+
+/// As many columns that are known to be alike are painted row by row.
+const RUN: u64 = 32;
+
+/// Four bytes as half a word.
+fn half_of(line: &[u8; 4]) -> u32
+    ensures { (x : ℕ) → x < 32 → half_dot result x ≡ dot line.now x }
+{
+    u32::from_be_bytes(*line)
+}
+
+/// Sets the halves of words from one to another.
+fn set_run(half: u32, from: usize, to: usize, halves: &mut [u32; SIDE])
+    requires ordered { from ≤ to }
+    requires to { to ≤ SIDE }
+    ensures before { (i : ℕ) → i < from → slice_index halves.new i ≡ slice_index halves.old i }
+    ensures inside { (i : ℕ) → from ≤ i → i < to → slice_index halves.new i ≡ half }
+    ensures behind { (i : ℕ) → to ≤ i → slice_index halves.new i ≡ slice_index halves.old i }
+{
+    for i in from..to {
+        halves[i] = half;
+    }
+}
+
+/// The ink on as many columns of the label as a square has, the first of which is x, white from another
+/// column on: what is known to be alike is drawn once.
+fn halves_of<I: Ink>(
+    pen: &mut Pen<'_, I>,
+    columns: Axis,
+    rows: Axis,
+    x: u64,
+    end: u64,
+    first: u32,
+) -> [u32; SIDE]
+    requires low { I.height pen.old.ink.now < 2 ^ 32 }
+    requires near { IsWithin (2 ^ 41) rows }
+    requires x { x < 2 ^ 62 }
+    requires count { pen.old.lines < 2 ^ 62 }
+    ensures dots { (i k : ℕ) → i < SIDE → k < BAND_ROWS → half_dot (slice_index result i) k
+        ≡ (nat_lt (x + i) end && laid Across columns rows (I.ink_at pen.old.ink.now) (pos (x + i))
+        (pos (first + k))) }
+    ensures ink { pen.new.ink ≡ pen.old.ink }
+    ensures few { pen.new.lines ≤ pen.old.lines + SIDE }
+    ensures lines { pen.new.lines ≤ pen.old.lines + (end - x) }
+    ensures more { pen.old.lines ≤ pen.new.lines }
+    ensures some { x < end → pen.old.lines < pen.new.lines }
+{
+    let many = end.saturating_sub(x).min(COLUMNS);
+    let mut halves = [0u32; SIDE];
+    let mut i = 0;
+    while i < many {
+        let alike = pen.alike_places(columns, x + i, x + many);
+        let line = pen.on::<4>(columns, x + i, rows, first);
+        set_run(
+            half_of(&line),
+            i as usize,
+            (i + alike) as usize,
+            &mut halves,
+        );
+        i += alike;
+    }
+    halves
+}
+
+/// Paints as many columns as a square has, the first of which is x: their rows are the square's from one on.
+fn paint_rows<A: Small>(op: Op, square: &[u64; SIDE], from: usize, x: u64, band: &mut LabelBand<A>)
+    requires from { from + BAND_ROWS ≤ SIDE }
+    requires x { x < 2 ^ 63 }
+    ensures { (ink : ℕ → ℕ → Bool) → ((i k : ℕ) → i < SIDE → k < BAND_ROWS
+        → word_dot (slice_index square.now (from + k)) i ≡ ink (x + i) k)
+        → RowsPainted BAND_ROWS op (λ d k. span x (x + SIDE) d && ink d k) band.old band.new }
+{
+    paint_words(op, &square[from..], BAND_ROWS, x as i64, 0, band);
+}
+
+/// Paints twice as many columns as a square has, the first of which is x, from halves of words: they are
+/// turned at once.
+fn paint_square<A: Small>(
+    op: Op,
+    left: &[u32; SIDE],
+    right: &[u32; SIDE],
+    x: u64,
+    band: &mut LabelBand<A>,
+)
+    requires x { x < 2 ^ 62 }
+    ensures { (ink : ℕ → ℕ → Bool)
+        → ((i k : ℕ) → i < SIDE → k < BAND_ROWS → half_dot (slice_index left.now i) k ≡ ink (x + i) k)
+        → ((i k : ℕ) → i < SIDE → k < BAND_ROWS
+        → half_dot (slice_index right.now i) k ≡ ink (x + SIDE + i) k)
+        → RowsPainted BAND_ROWS op (λ d k. span x (x + 2 * SIDE) d && ink d k) band.old band.new }
+{
+    let narrow = are_white(right);
+    if narrow && are_white(left) {
+        return;
+    }
+    let square = turned_halves(left, right);
+    paint_rows(op, &square, 0, x, band);
+    if narrow {
+        return;
+    }
+    paint_rows(op, &square, BAND_ROWS, x + COLUMNS, band);
+}
+
+/// Paints the dots of a row of the band from one to another, where they have ink.
+fn paint_dots(op: Op, ink: bool, from: u64, to: u64, row: &mut [u8])
+    ensures { Painted op (λ d. span from to d && ink) row.old row.new }
+{
+    if ink {
+        fill_dots(op, from, to, row);
+    }
+}
+
+/// Paints columns of the band from one to another, each of which shows the same line.
+fn paint_run<A: Small>(op: Op, line: [u8; 4], from: u64, to: u64, band: &mut LabelBand<A>)
+    ensures { RowsPainted BAND_ROWS op (λ d k. span from to d && dot line k) band.old band.new }
+{
+    for k in 0..32usize {
+        paint_dots(op, dot_of(&line, k as u128), from, to, band.row_mut(k));
+    }
+}
+
+/// Paints columns of the band from x on, and before another: how many. A long run that is known to be alike is
+/// painted row by row.
+fn paint_columns<I: Ink, A: Small>(
+    pen: &mut Pen<'_, I>,
+    op: Op,
+    columns: Axis,
+    rows: Axis,
+    x: u64,
+    end: u64,
+    first: u32,
+    band: &mut LabelBand<A>,
+) -> u64
+    requires low { I.height pen.old.ink.now < 2 ^ 32 }
+    requires near { IsWithin (2 ^ 41) rows }
+    requires x { x < end }
+    requires end { end < 2 ^ 61 }
+    requires count { pen.old.lines < 2 ^ 61 }
+    ensures some { 0 < result }
+    ensures most { result ≤ 2 ^ 61 }
+    ensures painted { RowsPainted BAND_ROWS op (λ d k. span x (x + result) d
+        && (nat_lt d end && laid Across columns rows (I.ink_at pen.old.ink.now) (pos d) (pos (first + k))))
+        band.old band.new }
+    ensures ink { pen.new.ink ≡ pen.old.ink }
+    ensures counted { pen.old.lines < pen.new.lines }
+    ensures few { pen.new.lines ≤ pen.old.lines + result }
+    ensures lines { pen.new.lines ≤ pen.old.lines + (end - x) }
+{
+    let alike = pen.alike_places(columns, x, end);
+    if alike >= RUN {
+        let line = pen.on::<4>(columns, x, rows, first);
+        paint_run(op, line, x, x + alike, band);
+        return alike;
+    }
+    let left = halves_of(pen, columns, rows, x, end, first);
+    let right = halves_of(pen, columns, rows, x + COLUMNS, end, first);
+    paint_square(op, &left, &right, x, band);
+    2 * COLUMNS
+}
+
+/// Paints ink whose lines lie across the rows: how many lines it drew. The first is drawn wherever it falls.
+pub fn paint_across<I: Ink, A: Small>(
+    ink: Pen<'_, I>,
+    op: Op,
+    columns: Axis,
+    rows: Axis,
+    first: u32,
+    band: &mut LabelBand<A>,
+) -> u64
+    requires fresh { ink.lines ≡ 0 }
+    requires columns { IsWithin (2 ^ 41) columns }
+    requires rows { IsWithin (2 ^ 41) rows }
+    ensures dots { RowsPainted BAND_ROWS op (λ x k. laid Across columns rows (I.ink_at ink.entry.ink.now) (pos x)
+        (pos (first + k))) band.old band.new }
+    ensures lines { result ≤ most_lines Across }
+    ensures counted { 0 < result }
+{
+    let mut pen = ink;
+    let (_, h) = pen.size();
+    let (from, to) = columns.span(h);
+    row_lengths(band);
+    let end = to.min(WIDTH).max(from + 1);
+    let mut x = from;
+    while x < end {
+        x += paint_columns(&mut pen, op, columns, rows, x, end, first, band);
+    }
+    pen.lines()
+}

@@ -1,0 +1,149 @@
+-- Items are of no more bytes than were read.
+use Rattle.std.proofs.Common.{◌≡◌, ◌≤◌, ℕ, ◌+◌, ◌-◌, ◌==◌, Bool, true, false, cond, Option, Some, None, List, [], ◌∷◌, ◌++◌, length, reverse, filter, refl, arith, lit≤}
+use Rattle.std.proofs.lemmas.List.{length-take, length-reverse, length_push}
+use Rattle.vp_zpl.specs.declared.name.Kind.{Kind}
+use Rattle.vp_zpl.specs.declared.name.Kind.TheVariants as kinds
+use Rattle.vp_zpl.specs.declared.name.Name.{Name}
+use Rattle.vp_zpl.specs.Spelling.{is_comma, is_sign, is_line_end, behind_commas, decoded, known, could_spell, spelled, or_itself}
+use Rattle.vp_zpl.specs.Commands.{Cut, cut, cut_back, longer, with_byte, wants_binary, kind_named, is_whole, is_b, head, count_of, indicator}
+use Rattle.vp_zpl.specs.Items.{Item, items, data_items, graphic, picture, is_code, text_known, text_at_end, name_of, given, given_named, at_end, at_end_named, all_ended, least_bytes}
+use Rattle.vp_zpl.proofs.Cuts.{items-is}
+
+pub least_append : (xs ys : List Item) → least_bytes (xs ++ ys) ≡ least_bytes xs + least_bytes ys
+least_append [] ys = omega arith
+least_append (x ∷ xs) ys = omega (arith, least_append xs ys)
+
+least_data : (bytes : List ℕ) → least_bytes (data_items bytes) ≡ length bytes
+least_data [] = refl
+least_data (b ∷ bytes) = omega (arith, least_data bytes)
+
+-- Data that a command gives are no longer than what is behind its name.
+
+or_shorter : (b : Bool) (x : ℕ) (xs ys : List ℕ) → length xs ≤ length ys → length (cond b (x ∷ xs) xs) ≤ length (x ∷ ys)
+or_shorter true x xs ys h = omega arith
+or_shorter false x xs ys h = omega arith
+
+codes_few : (bytes : List ℕ) → length (filter is_code bytes) ≤ length bytes
+codes_few [] = lit≤ tt
+codes_few (b ∷ bytes) = or_shorter (is_code b) b (filter is_code bytes) bytes (codes_few bytes)
+
+either_few : (b : Bool) (xs ys : List ℕ) (n : ℕ) → length xs ≤ n → length ys ≤ n → length (cond b xs ys) ≤ n
+either_few true xs ys n h k = h
+either_few false xs ys n h k = k
+
+behind_few : (n : ℕ) (args : List ℕ) → length (behind_commas n args) ≤ length args
+behind_few n [] = lit≤ tt
+behind_few n (c ∷ args) = either_few (n == 0) _ _ (length (c ∷ args)) (omega arith)
+    (either_few (is_comma c) _ _ (length (c ∷ args)) (let few = behind_few (n - 1) args in omega arith) (let few = behind_few n args in omega arith))
+
+picture_few : (args : List ℕ) → length (picture args) ≤ length args
+unfolding picture
+picture_few args = either_few (is_b (head args)) _ _ (length args)
+    (omega (arith, length-take (count_of (head args)) (behind_commas 4 args), behind_few 4 args))
+    (omega (arith, codes_few (behind_commas 4 args), behind_few 4 args))
+
+itself_few : (o : Option ℕ) (behind_it rest : List ℕ) (a b c : ℕ) (more : List ℕ) → length behind_it ≤ length more → length rest ≤ length (b ∷ c ∷ more)
+    → length (or_itself o behind_it a rest) ≤ length (a ∷ b ∷ c ∷ more)
+itself_few (Some m) behind_it rest a b c more h k = omega arith
+itself_few None behind_it rest a b c more h k = omega arith
+
+decoded_few : (x : ℕ) (bytes : List ℕ) → length (decoded x bytes) ≤ length bytes
+decoded_few x [] = lit≤ tt
+decoded_few x (a ∷ []) = lit≤ tt
+decoded_few x (a ∷ b ∷ []) = lit≤ tt
+decoded_few x (a ∷ b ∷ c ∷ more) = itself_few (spelled x a b c) _ _ a b c more (decoded_few x more) (decoded_few x (b ∷ c ∷ more))
+
+known_few : (x : ℕ) (bytes : List ℕ) → length (known x bytes) ≤ length bytes
+known_few x [] = lit≤ tt
+known_few x (a ∷ []) = either_few (could_spell x (a ∷ [])) [] (a ∷ []) 1 (lit≤ tt) (lit≤ tt)
+known_few x (a ∷ b ∷ []) = either_few (could_spell x (a ∷ b ∷ [])) [] (a ∷ known x (b ∷ [])) 2 (lit≤ tt) (let few = known_few x (b ∷ []) in omega arith)
+known_few x (a ∷ b ∷ c ∷ more) = itself_few (spelled x a b c) _ _ a b c more (known_few x more) (known_few x (b ∷ c ∷ more))
+
+at_end_text : (o : Option ℕ) (args : List ℕ) → length (text_at_end o args) ≤ length args
+at_end_text None args = omega arith
+at_end_text (Some x) args = decoded_few x args
+
+known_text : (o : Option ℕ) (args : List ℕ) → length (text_known o args) ≤ length args
+known_text None args = omega arith
+known_text (Some x) args = known_few x args
+
+-- Of a command.
+
+graphic_few : (name : Name) (args : List ℕ) → least_bytes (graphic name args) ≤ 3 + length args
+graphic_few name args = omega (arith, least_data (picture args), picture_few args)
+
+items_either : (b : Bool) (xs ys : List Item) (n : ℕ) → least_bytes xs ≤ n → least_bytes ys ≤ n → least_bytes (cond b xs ys) ≤ n
+items_either true xs ys n h k = h
+items_either false xs ys n h k = k
+
+ended_named : (k : Kind) (before : List (List ℕ)) (name : Name) (args : List ℕ) → least_bytes (at_end_named k before name args) ≤ 3 + length args
+ended_named kinds.Graphic before name args = items_either (is_whole args) _ _ (3 + length args) (graphic_few name args) (omega arith)
+ended_named kinds.FieldData before name args = omega (arith, least_data (text_at_end (indicator before) args), at_end_text (indicator before) args)
+ended_named _ before name args = omega arith
+
+open_named : (k : Kind) (before : List (List ℕ)) (name : Name) (args : List ℕ) → least_bytes (given_named k before name args) ≤ 3 + length args
+open_named kinds.FieldHex before name args = omega arith
+open_named (kinds.Plain k) before name args = omega arith
+open_named kinds.Graphic before name args = items_either (is_whole args) _ _ (3 + length args) (graphic_few name args) (omega arith)
+open_named kinds.FieldData before name args = omega (arith, least_data (text_known (indicator before) args), known_text (indicator before) args)
+open_named _ before name args = omega arith
+
+ended_few : (before : List (List ℕ)) (command : List ℕ) → least_bytes (at_end before command) ≤ length command
+unfolding at_end
+ended_few before [] = lit≤ tt
+ended_few before (s ∷ []) = lit≤ tt
+ended_few before (s ∷ a ∷ []) = lit≤ tt
+ended_few before (s ∷ a ∷ b ∷ args) = omega (arith, ended_named (kind_named s a b) before (name_of s a b) args)
+
+given_few : (before : List (List ℕ)) (command : List ℕ) → least_bytes (given before command) ≤ length command
+unfolding given
+given_few before [] = lit≤ tt
+given_few before (s ∷ []) = lit≤ tt
+given_few before (s ∷ a ∷ []) = lit≤ tt
+given_few before (s ∷ a ∷ b ∷ args) = omega (arith, open_named (kind_named s a b) before (name_of s a b) args)
+
+-- the bytes of all commands
+abbrev all_bytes : List (List ℕ) → ℕ
+all_bytes [] = 0
+all_bytes (command ∷ before) = length command + all_bytes before
+
+all_few : (before : List (List ℕ)) → least_bytes (all_ended before) ≤ all_bytes before
+unfolding all_ended
+all_few [] = lit≤ tt
+all_few (command ∷ before) = omega (arith, least_append (all_ended before) (at_end before command), all_few before, ended_few before command)
+
+-- no more bytes stand in commands than were read
+abbrev cut_bytes : Cut → ℕ
+cut_bytes s = all_bytes s.before + length s.open_one
+
+longer_few : (bytes : List ℕ) (c : ℕ) → length (longer bytes c) ≤ length bytes + 1
+longer_few [] c = lit≤ tt
+longer_few (b ∷ bytes) c = omega (arith, length_push bytes c)
+
+cuts : (b : Bool) (s t : Cut) (n : ℕ) → cut_bytes s ≤ n → cut_bytes t ≤ n → cut_bytes (cond b s t) ≤ n
+cuts true s t n h k = h
+cuts false s t n h k = k
+
+byte_few : (s : Cut) (c : ℕ) → cut_bytes (with_byte s c) ≤ cut_bytes s + 1
+byte_few s c =
+    let more = longer_few s.open_one c in
+    cuts (wants_binary s.open_one) _ _ (cut_bytes s + 1) (omega (arith, more))
+    (cuts (is_line_end c) _ _ (cut_bytes s + 1) (omega arith)
+    (cuts (is_sign c) _ _ (cut_bytes s + 1) (omega arith) (omega (arith, more))))
+
+back_few : (bytes : List ℕ) → cut_bytes (cut_back bytes) ≤ length bytes
+back_few [] = lit≤ tt
+back_few (c ∷ bytes) = omega (arith, byte_few (cut_back bytes) c, back_few bytes)
+
+cut_few : (bytes : List ℕ) → cut_bytes (cut bytes) ≤ length bytes
+unfolding cut
+cut_few bytes = omega (arith, back_few (reverse bytes), length-reverse bytes)
+
+pub items_least : (bytes : List ℕ) → least_bytes (items bytes) ≤ length bytes
+items_least bytes = rw (items-is bytes) (omega (
+  arith,
+  least_append (all_ended (cut bytes).before) (given (cut bytes).before (cut bytes).open_one),
+  all_few (cut bytes).before,
+  given_few (cut bytes).before (cut bytes).open_one,
+  cut_few bytes,
+))

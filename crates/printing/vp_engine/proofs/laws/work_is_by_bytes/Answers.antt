@@ -1,0 +1,48 @@
+use Rattle.std.proofs.Common.{◌≡◌, ◌≤◌, ℕ, ◌+◌, ◌*◌, Bool, true, false, cond, List, [], ◌∷◌, ◌++◌, length, reverse, is_some, ap, arith}
+use Rattle.std.proofs.lemmas.List.{length_push}
+use Rattle.vp_esc.specs.declared.item.EscItem.{EscItem}
+use Rattle.vp_esc.specs.Split.{items}
+use Rattle.vp_page.specs.declared.page.TheConstants.{PAGE_ROWS}
+use Rattle.vp_receipt_settings.specs.declared.text.TheConstants.{LINE_ROWS}
+use Rattle.vp_receipt_settings.specs.Setup.{Setup as ReceiptSetup}
+use Rattle.vp_receipt.specs.Work.{BytesCostAtMost, most_in_all, most_work}
+use Rattle.vp_engine.specs.Images.{receipts, labels}
+use Rattle.vp_engine.specs.Paper.{Rules, before_fault, fault_at, sound}
+use Rattle.vp_engine.specs.Setups.{Receipts}
+use Rattle.vp_engine.proofs.laws.work_is_by_bytes.Goals as goal
+
+-- no more bytes stand before the first fault than there are
+shorter : (stops : Bool) (front more : List ℕ) (n : ℕ) → length front ≤ n → length more ≤ n → length (cond stops front more) ≤ n
+shorter true front more n h k = h
+shorter false front more n h k = k
+
+module _ {Item : Type 0} (rules : Rules Item) where
+  sound_few : (front rest : List ℕ) → length (sound rules front rest) ≤ length front + length rest
+  unfolding sound
+  sound_few front [] = omega arith
+  sound_few front (b ∷ rest) =
+      let more = sound_few (front ++ b ∷ []) rest in
+      shorter (is_some (fault_at rules (front ++ b ∷ []))) front _ (length front + length (b ∷ rest)) (omega arith) (omega (arith, more, length_push front b))
+
+  before_few : (bytes : List ℕ) → length (before_fault rules bytes) ≤ length bytes
+  unfolding before_fault
+  before_few bytes = let few = sound_few [] bytes in omega (arith, few)
+
+-- from the first byte on
+from_first : (law : BytesCostAtMost) (setup : ReceiptSetup) (bytes : List ℕ) (n : ℕ) → items [] ≡ [] → length bytes ≤ n
+    → most_work setup (reverse (items bytes)) ≤ PAGE_ROWS + (LINE_ROWS + PAGE_ROWS) * n
+from_first law setup bytes n none few =
+    let start : most_in_all setup (reverse (items [])) ≡ 0 = ap (λ (xs : List EscItem). most_in_all setup (reverse xs)) none in
+    let all = law.bytes setup [] bytes in
+    let told = law.counted setup (reverse (items bytes)) in
+    omega (arith, start, all, told, few)
+
+pub returns-clause-receipts : goal.returns-clause-receipts
+returns-clause-receipts c = λ setup bytes.
+    from_first c.bytes_cost_at_most.ensures setup (before_fault (receipts setup) bytes) (length bytes) (c.items_grow.ensures (Receipts setup)).nothing
+    (before_few (receipts setup) bytes)
+
+pub returns-clause-labels : goal.returns-clause-labels
+returns-clause-labels c = λ sheets bytes.
+    let all = c.bytes_cost_at_most-2.ensures.last sheets (before_fault (labels sheets) bytes) in
+    omega (arith, all, before_few (labels sheets) bytes)

@@ -1,0 +1,226 @@
+//! Lines of which each is laid across the page many times, one beside the other: squares of as many lines as
+//! a word has dots are turned, and of the page's rows that come out each different one is made once, and laid
+//! as often as it stands.
+ghost use Rattle.std.specs.Prelude.{◌≡◌, ℕ, Bool, true, false, ◌+◌, ◌-◌, ◌*◌, ◌<◌, ◌≤◌, ◌^◌, ◌&&◌, nat_lt, List, [], length, slice_index, slice_index_or, if◌then◌else◌};
+ghost use Rattle.vp_dots.specs.Dots.{dot, span};
+ghost use Rattle.vp_dots.specs.Words.{word_dot};
+ghost use Rattle.vp_dots.specs.Painting.{Painted};
+ghost use Rattle.vp_dots.specs.Places.{RowsPainted};
+ghost use Rattle.vp_dots.specs.declared.Op.TheVariants.{Black};
+ghost use Rattle.vp_dots.specs.declared.square.TheConstants.{SIDE};
+ghost use Rattle.vp_page.specs.Lines.{line_dot};
+ghost use Rattle.vp_page.specs.Runs.{AreRuns, across_dot, along_of, depth_of};
+ghost use Rattle.vp_page.specs.declared.line.TheConstants.{LINE_DOTS};
+ghost use Rattle.vp_page.specs.declared.page.TheConstants.{PAGE_ROWS, PAPER_DOTS};
+
+use crate::Area;
+use crate::across::square_from;
+use crate::along::lay_times;
+use crate::line::{LINE_BYTES, drawn};
+use crate::page::{PAPER_BYTES, PageBand};
+use vp_dots::{Ink, NARROW, Op, SIDE, Small, fill_dots, first_dots, paint_narrow, turned_square};
+
+/// The depths at which lines begin, and behind them that at which the last one ends.
+pub(crate) type Begins = [u32; SIDE + 1];
+
+/// Draws lines of ink, each of which others below it are known to show: the first is line `from`, and none of
+/// line `to` or below. It tells how many they are, and writes at which depths they begin where line 0 lies at
+/// `top`.
+pub(crate) fn draw_runs<I: Ink>(
+    ink: &I,
+    from: u32,
+    to: u32,
+    top: u32,
+    lines: &mut [[u8; LINE_BYTES]],
+    begins: &mut Begins,
+) -> usize
+    requires wide { I.width ink.now ≤ LINE_DOTS }
+    requires room { SIDE ≤ length lines.old }
+    requires some { from < to }
+    requires near { top + to < 2 ^ 32 }
+    ensures len { length lines.new ≡ length lines.old }
+    ensures runs { AreRuns begins.new result (top + to) }
+    ensures first { slice_index begins.new 0 ≡ top + from }
+    ensures some { 0 < result → top + from < slice_index begins.new result }
+    ensures dots { (i u w : ℕ) → i < result → slice_index begins.new i ≤ w →
+        w < slice_index begins.new (i + 1) →
+        dot (slice_index_or lines.new i []) u ≡ I.ink_at ink.now u (w - top) }
+{
+    let mut n = 0;
+    let mut line = from;
+    begins[0] = top + from;
+    while n < SIDE && line < to {
+        let (_, last) = ink.alike(line);
+        if last == line {
+            break;
+        }
+        lines[n] = drawn(ink, line);
+        line = last.min(to - 1) + 1;
+        n += 1;
+        begins[n] = top + line;
+    }
+    n
+}
+
+/// Whether dot i of a word is black.
+#[inline(always)]
+fn is_black(word: u64, i: u32) -> bool
+    requires { i < 64 }
+    ensures { result ≡ word_dot word i }
+{
+    word >> (63 - i) & 1 == 1
+}
+
+/// The columns of an area between two depths, of lines that run up or down.
+#[inline(always)]
+fn columns(area: Area, up: bool, from: u32, to: u32) -> (u64, u64)
+    requires some { from ≤ to }
+    requires deep { to ≤ area.dx }
+    ensures dots { (x : ℕ) → span result.0 result.1 x ≡
+        (span area.x (area.x + area.dx) x && span from to (depth_of area up x)) }
+    ensures some { result.0 ≤ result.1 }
+    ensures near { result.1 < 2 ^ 32 }
+{
+    let (from, to) = (u64::from(from), u64::from(to));
+    let left = u64::from(area.x);
+    if up {
+        return (left + from, left + to);
+    }
+    let right = left + u64::from(area.dx);
+    (right - to, right - from)
+}
+
+/// Blackens the dots from one to another, which mostly are few.
+#[inline(always)]
+fn blacken(from: u64, to: u64, row: &mut [u8])
+    requires some { from ≤ to }
+    requires near { to < 2 ^ 32 }
+    ensures { Painted Black (span from to) row.old row.new }
+{
+    if to - from <= u64::from(NARROW) {
+        paint_narrow(
+            Op::Black,
+            first_dots((to - from) as u32),
+            from as usize,
+            row,
+        );
+    } else {
+        fill_dots(Op::Black, from, to, row);
+    }
+}
+
+/// The row of the page on which each of the first n dots of a word stands from the depth on at which its line
+/// begins.
+fn spread(word: u64, begins: &Begins, n: usize, area: Area, up: bool) -> [u8; PAPER_BYTES]
+    requires runs { AreRuns begins.now n area.dx }
+    ensures { (ink : ℕ → Bool) → ((i w : ℕ) → i < n → slice_index begins.now i ≤ w →
+        w < slice_index begins.now (i + 1) → word_dot word i ≡ ink w) → (x : ℕ) → x < PAPER_DOTS →
+        dot result x ≡ (span area.x (area.x + area.dx) x
+        && (span (slice_index begins.now 0) (slice_index begins.now n) (depth_of area up x)
+        && ink (depth_of area up x))) }
+{
+    let mut row = [0; PAPER_BYTES];
+    for i in 0..n {
+        if is_black(word, i as u32) {
+            let (from, to) = columns(area, up, begins[i], begins[i + 1]);
+            blacken(from, to, &mut row);
+        }
+    }
+    row
+}
+
+/// How many words, from one on and before another, are known to be as the first of them.
+#[inline(always)]
+fn alike(words: &[u64; SIDE], from: usize, to: usize) -> usize
+    requires some { from < to }
+    requires few { to ≤ SIDE }
+    ensures some { 0 < result }
+    ensures within { from + result ≤ to }
+    ensures same { (j : ℕ) → j < result →
+        slice_index words.now (from + j) ≡ slice_index words.now from }
+{
+    let mut n = 1;
+    while from + n < to && words[from + n] == words[from] {
+        n += 1;
+    }
+    n
+}
+
+/// The uppermost of the page's rows on which dots of lines stand, from one dot on.
+#[inline(always)]
+fn top_of(area: Area, up: bool, first: usize, dots: usize) -> usize
+    requires { first + dots ≤ area.dy }
+    ensures { result ≡ (if up then area.y + area.dy - first - dots else area.y + first) }
+{
+    if up {
+        area.y as usize + area.dy as usize - first - dots
+    } else {
+        area.y as usize + first
+    }
+}
+
+/// Lays the first words of a square, each along the rows of the page at one place of the lines: the first at
+/// place `at`.
+fn lay_words<A: Small>(
+    words: &[u64; SIDE],
+    at: u32,
+    rows: u32,
+    begins: &Begins,
+    n: usize,
+    area: Area,
+    up: bool,
+    band: &mut PageBand<A>,
+)
+    requires runs { AreRuns begins.now n area.dx }
+    requires few { rows ≤ 64 }
+    requires long { at + rows ≤ area.dy }
+    ensures { (ink : ℕ → ℕ → Bool) → ((i j w : ℕ) → i < n → j < rows → slice_index begins.now i ≤ w →
+        w < slice_index begins.now (i + 1) → word_dot (slice_index words.now j) i ≡ ink (at + j) w) →
+        RowsPainted PAGE_ROWS Black (λ x y. span at (at + rows) (along_of area up y)
+        && across_dot area up (slice_index begins.now 0) (slice_index begins.now n) ink x y)
+        band.old band.new }
+{
+    let rows = rows as usize;
+    let mut j = 0;
+    while j < rows {
+        let times = alike(words, j, rows);
+        let row = spread(words[j], begins, n, area, up);
+        let top = top_of(area, up, at as usize + j, times);
+        lay_times(&row, times, top, band);
+        j += times;
+    }
+}
+
+/// Lays the first `long` dots of lines, each from the depth on at which it begins to that at which the next
+/// one does, upward or downward.
+pub(crate) fn lay_runs<A: Small>(
+    lines: &[[u8; LINE_BYTES]],
+    begins: &Begins,
+    long: u32,
+    area: Area,
+    up: bool,
+    band: &mut PageBand<A>,
+)
+    requires few { length lines.now ≤ SIDE }
+    requires runs { AreRuns begins.now (length lines.now) area.dx }
+    ensures { (ink : ℕ → ℕ → Bool) → ((i u w : ℕ) → i < length lines.now → slice_index begins.now i ≤ w →
+        w < slice_index begins.now (i + 1) → line_dot lines.now i u ≡ ink u w) →
+        RowsPainted PAGE_ROWS Black (across_dot area up (slice_index begins.now 0)
+        (slice_index begins.now (length lines.now)) (λ u w. nat_lt u long && ink u w)) band.old band.new }
+{
+    let high = u32::from(area.dy).min(long);
+    for k in 0..high.div_ceil(64) {
+        let at = 64 * k;
+        let square = turned_square(&square_from(lines, at as usize));
+        lay_words(
+            &square,
+            at,
+            (high - at).min(64),
+            begins,
+            lines.len(),
+            area,
+            up,
+            band,
+        );
+    }
+}
