@@ -9,19 +9,15 @@ use Rattle.vp_dots.specs.declared.Op.{Op}
 use Rattle.vp_dots.proofs.Heights.{rows_same, rows_then}
 use Rattle.vp_field.specs.declared.axis.Axis.{Axis}
 use Rattle.vp_field.specs.declared.axis.Axis.TheVariants.{Forward, Back}
-use Rattle.vp_field.specs.declared.axis.Lines.TheVariants.{Along}
 use Rattle.vp_field.specs.Places.{at_place}
-use Rattle.vp_field.specs.Axes.{dot_on, laid}
+use Rattle.vp_field.specs.Axes.{dot_on}
 use Rattle.vp_field.proofs.Places.{at_none}
 
--- what is shown at each dot of a line is shown on each column
-pub laid_alike : (columns rows : Axis) (ink : ℕ → ℕ → Bool) (x y z : ℤ) → ((u : ℕ) → at_place (λ v. ink u v) (dot_on rows y) ≡ at_place (λ v. ink u v) (dot_on rows z))
-    → laid Along columns rows ink x y ≡ laid Along columns rows ink x z
-laid_alike columns rows ink x y z e = at (dot_on columns x)
-  where
-    at : (d : ℤ) → at_place (λ v. at_place (λ u. ink u v) d) (dot_on rows y) ≡ at_place (λ v. at_place (λ u. ink u v) d) (dot_on rows z)
-    at (pos u) = e u
-    at (negsuc u) = at_none _ (dot_on rows y) (λ v. refl) ∙ sym (at_none _ (dot_on rows z) (λ v. refl))
+-- the dots of ink at a place of either sign, on the place that one of its lines lies on
+pub line_shown : (ink : ℕ → ℕ → Bool) (y : ℤ) (v : ℕ) → ((u : ℕ) → at_place (λ w. ink u w) y ≡ ink u v)
+    → (z : ℤ) → at_place (λ w. at_place (λ u. ink u w) z) y ≡ at_place (λ u. ink u v) z
+line_shown ink y v e (pos u) = e u
+line_shown ink y v e (negsuc u) = at_none _ y (λ w. refl)
 
 module _ (op : Op) (f : ℕ → ℕ → Bool) (g : ℕ → Bool) (y n : ℕ) (e : (x k : ℕ) → y ≤ k → k < y + n → f x k ≡ g x) where
   -- rows that show the same line are painted

@@ -13,11 +13,10 @@ ghost use Rattle.vp_field.specs.declared.axis.Lines.TheVariants.{Across};
 ghost use Rattle.vp_label_size.specs.declared.TheConstants.{BAND_ROWS};
 
 use crate::axis::Axis;
-use crate::block_columns::are_white;
 use crate::paint::row_lengths;
 use crate::pen::Pen;
-use crate::plain::turned_halves;
-use vp_dots::{Ink, Op, SIDE, Small, dot_of, fill_dots, paint_words};
+use crate::square::{paint_narrow, paint_square};
+use vp_dots::{Ink, Op, SIDE, Small, dot_of, fill_dots};
 use vp_label_size::{BAND_ROWS, LabelBand, WIDEST};
 
 /// The dots of a row of a band.
@@ -76,56 +75,13 @@ fn halves_of<I: Ink>(
     let mut halves = [0u32; SIDE];
     let mut i = 0;
     while i < many {
-        let alike = pen.alike_places(columns, x + i, x + many);
-        let line = pen.on::<4>(columns, x + i, rows, first);
-        set_run(
-            half_of(&line),
-            i as usize,
-            (i + alike) as usize,
-            &mut halves,
-        );
-        i += alike;
+        let shown = pen.shown(columns, x + i, x + many);
+        let line = pen.on::<4>(shown, rows, first);
+        let behind = i + shown.places;
+        set_run(half_of(&line), i as usize, behind as usize, &mut halves);
+        i = behind;
     }
     halves
-}
-
-/// Paints as many columns as a square has, the first of which is x: their rows are the square's from one on.
-fn paint_rows<A: Small>(op: Op, square: &[u64; SIDE], from: usize, x: u64, band: &mut LabelBand<A>)
-    requires from { from + BAND_ROWS ≤ SIDE }
-    requires x { x < 2 ^ 63 }
-    ensures { (ink : ℕ → ℕ → Bool) → ((i k : ℕ) → i < SIDE → k < BAND_ROWS
-        → word_dot (slice_index square.now (from + k)) i ≡ ink (x + i) k)
-        → RowsPainted BAND_ROWS op (λ d k. span x (x + SIDE) d && ink d k) band.old band.new }
-{
-    paint_words(op, &square[from..], BAND_ROWS, x as i64, 0, band);
-}
-
-/// Paints twice as many columns as a square has, the first of which is x, from halves of words: they are
-/// turned at once.
-fn paint_square<A: Small>(
-    op: Op,
-    left: &[u32; SIDE],
-    right: &[u32; SIDE],
-    x: u64,
-    band: &mut LabelBand<A>,
-)
-    requires x { x < 2 ^ 62 }
-    ensures { (ink : ℕ → ℕ → Bool)
-        → ((i k : ℕ) → i < SIDE → k < BAND_ROWS → half_dot (slice_index left.now i) k ≡ ink (x + i) k)
-        → ((i k : ℕ) → i < SIDE → k < BAND_ROWS
-        → half_dot (slice_index right.now i) k ≡ ink (x + SIDE + i) k)
-        → RowsPainted BAND_ROWS op (λ d k. span x (x + 2 * SIDE) d && ink d k) band.old band.new }
-{
-    let narrow = are_white(right);
-    if narrow && are_white(left) {
-        return;
-    }
-    let square = turned_halves(left, right);
-    paint_rows(op, &square, 0, x, band);
-    if narrow {
-        return;
-    }
-    paint_rows(op, &square, BAND_ROWS, x + COLUMNS, band);
 }
 
 /// Paints the dots of a row of the band from one to another, where they have ink.
@@ -173,15 +129,19 @@ fn paint_columns<I: Ink, A: Small>(
     ensures few { pen.new.lines ≤ pen.old.lines + result }
     ensures lines { pen.new.lines ≤ pen.old.lines + (end - x) }
 {
-    let alike = pen.alike_places(columns, x, end);
-    if alike >= RUN {
-        let line = pen.on::<4>(columns, x, rows, first);
-        paint_run(op, line, x, x + alike, band);
-        return alike;
+    let shown = pen.shown(columns, x, end);
+    if shown.places >= RUN {
+        let line = pen.on::<4>(shown, rows, first);
+        paint_run(op, line, x, x + shown.places, band);
+        return shown.places;
     }
     let left = halves_of(pen, columns, rows, x, end, first);
+    if end - x <= COLUMNS {
+        paint_narrow(op, &left, Axis::Forward(0), x, band);
+        return COLUMNS;
+    }
     let right = halves_of(pen, columns, rows, x + COLUMNS, end, first);
-    paint_square(op, &left, &right, x, band);
+    paint_square(op, &left, &right, Axis::Forward(0), x, band);
     2 * COLUMNS
 }
 

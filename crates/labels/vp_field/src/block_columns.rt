@@ -20,8 +20,9 @@ use crate::axis::Axis;
 use crate::laid::Laid;
 use crate::line::drawn_at;
 use crate::paint::row_lengths;
-use crate::plain::{mixed_halves, turned_halves, word_of_plain};
-use vp_dots::{Ink, Op, SIDE, Small, paint_into, paint_word, paint_words};
+use crate::plain::{mixed_halves, word_of_plain};
+use crate::square::{are_white, paint_square};
+use vp_dots::{Ink, Op, SIDE, Small, paint_into, paint_word};
 use vp_glyph::Block;
 use vp_label_size::{BAND_ROWS, LabelBand, WIDEST};
 
@@ -71,54 +72,6 @@ fn halves_along<const N: usize>(halves: &[u32; N], from: usize, axis: Axis) -> [
         along[i] = halves[from + axis.read_at(SIDE, i)];
     }
     along
-}
-
-/// As many rows of a square as a band has, from one on, read along an axis.
-fn rows_along(square: &[u64; SIDE], from: usize, axis: Axis) -> [u64; BAND_ROWS]
-    requires { from + BAND_ROWS ≤ SIDE }
-    ensures { (k : ℕ) → k < BAND_ROWS
-        → slice_index result k ≡ slice_index square.now (from + read_at axis BAND_ROWS k) }
-{
-    let mut along = [0u64; BAND_ROWS];
-    for k in 0..BAND_ROWS {
-        along[k] = square[from + axis.read_at(BAND_ROWS, k)];
-    }
-    along
-}
-
-/// Whether all halves of words are white.
-pub fn are_white<const N: usize>(halves: &[u32; N]) -> bool
-    ensures { result ≡ true → (i x : ℕ) → i < N → half_dot (slice_index halves.now i) x ≡ false }
-{
-    for i in 0..N {
-        if halves[i] != 0 {
-            return false;
-        }
-    }
-    true
-}
-
-/// A word of two halves.
-#[inline(always)]
-fn of_halves(left: u32, right: u32) -> u64
-    ensures left { (x : ℕ) → x < 32 → word_dot result x ≡ half_dot left x }
-    ensures right { (x : ℕ) → x < 32 → word_dot result (32 + x) ≡ half_dot right x }
-{
-    u64::from(left) * 0x1_0000_0000 + u64::from(right)
-}
-
-/// A square of which each row has two halves.
-pub fn square_of(left: &[u32; SIDE], right: &[u32; SIDE]) -> [u64; SIDE]
-    ensures left { (i x : ℕ) → i < SIDE → x < 32
-        → word_dot (slice_index result i) x ≡ half_dot (slice_index left.now i) x }
-    ensures right { (i x : ℕ) → i < SIDE → x < 32
-        → word_dot (slice_index result i) (32 + x) ≡ half_dot (slice_index right.now i) x }
-{
-    let mut square = [0u64; SIDE];
-    for i in 0..SIDE {
-        square[i] = of_halves(left[i], right[i]);
-    }
-    square
 }
 
 /// Blackens the dots of a word from a dot of a row on.
@@ -204,45 +157,6 @@ impl<A: Small> BlockColumns<'_, A> {
         columns
     }
 
-    /// Paints 64 columns, the first of which is x: their rows are those of a square from one on.
-    fn paint_rows(&self, op: Op, square: &[u64; SIDE], from: usize, x: u64, band: &mut LabelBand<A>)
-        requires from { from + BAND_ROWS ≤ SIDE }
-        requires x { x < 2 ^ 32 }
-        requires rows { (i k : ℕ) → i < SIDE → x + i < WIDEST → k < BAND_ROWS
-            → word_dot (slice_index square.now (from + read_at self.now.rows 32 k)) i
-            ≡ laid Across self.now.columns self.now.rows
-            (λ u v. block_dot (layout_of self.now.block.now) self.now.block.now.text.now u v)
-            (pos (x + i)) (pos (self.now.first + k)) }
-        requires wide { (k : ℕ) → k < BAND_ROWS → dots (slice_index_or band.old k []) ≤ WIDEST }
-        ensures { RowsPainted BAND_ROWS op (λ d k. span x (x + SIDE) d
-            && laid Across self.now.columns self.now.rows
-            (λ u v. block_dot (layout_of self.now.block.now) self.now.block.now.text.now u v) (pos d)
-            (pos (self.now.first + k))) band.old band.new }
-    {
-        let rows = rows_along(square, from, self.rows);
-        paint_words(op, &rows, BAND_ROWS, x as i64, 0, band);
-    }
-
-    /// Paints 128 columns, the first of which is x: they are turned at once, 64 of them in each half of a
-    /// square.
-    fn paint_square(&self, op: Op, x: u64, band: &mut LabelBand<A>)
-        requires x { x < 2 ^ 31 }
-        requires wide { (k : ℕ) → k < BAND_ROWS → dots (slice_index_or band.old k []) ≤ WIDEST }
-        ensures { RowsPainted BAND_ROWS op (λ d k. span x (x + 2 * SIDE) d
-            && laid Across self.now.columns self.now.rows
-            (λ u v. block_dot (layout_of self.now.block.now) self.now.block.now.text.now u v) (pos d)
-            (pos (self.now.first + k))) band.old band.new }
-    {
-        let left = self.columns(x);
-        let right = self.columns(x + SIDE as u64);
-        if are_white(&left) && are_white(&right) {
-            return;
-        }
-        let square = turned_halves(&left, &right);
-        self.paint_rows(op, &square, 0, x, band);
-        self.paint_rows(op, &square, BAND_ROWS, x + SIDE as u64, band);
-    }
-
     /// So many words of columns of the label, the first of which is x, as a row of dots, if each column is
     /// black or white as a whole.
     fn plain_row(&self, x: u64, words: usize) -> Option<[u8; ROW_BYTES]>
@@ -311,7 +225,9 @@ impl<A: Small> BlockColumns<'_, A> {
         let mut laid = 0;
         let mut x = from;
         while x < end {
-            self.paint_square(op, x, band);
+            let left = self.columns(x);
+            let right = self.columns(x + SIDE as u64);
+            paint_square(op, &left, &right, self.rows, x, band);
             laid += (end - x).min(2 * SIDE as u64);
             x += 2 * SIDE as u64;
         }

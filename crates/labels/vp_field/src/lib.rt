@@ -17,6 +17,7 @@
 //! - `axis`, `laid`: which way the lines of an ink run on the label as it is put out, and where they begin.
 //! - `stretched`: which rows of stretched characters are alike.
 //! - `line`, `pen`: lines of ink, drawn along places and painted on rows, and counted as they are handed out.
+//! - `plain`, `square`: columns of dots, turned many at once.
 //! - `paint`, `across`, `standing`: ink painted along the rows of a band or across them.
 //! - `band`: a white band, and one cut at the label's edges.
 //! - `laws`: what the dots of a label come to.
@@ -40,6 +41,7 @@ mod pen;
 mod picture;
 mod plain;
 mod sized;
+mod square;
 mod standing;
 mod stretched;
 mod text;

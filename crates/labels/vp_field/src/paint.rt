@@ -1,5 +1,5 @@
 //! Ink painted on a band of a label: along its rows here.
-ghost use Rattle.std.specs.Prelude.{◌≡◌, ℕ, ◌+◌, ◌^◌, ◌<◌, ◌≤◌, ◌&&◌, [], pos, length, slice_index_or};
+ghost use Rattle.std.specs.Prelude.{◌≡◌, ℕ, ◌+◌, ◌^◌, ◌<◌, ◌≤◌, ◌&&◌, [], false, pos, length, slice_index_or, option_map, unwrap_or};
 ghost use Rattle.vp_dots.specs.Dots.{span};
 ghost use Rattle.vp_dots.specs.Places.{RowsPainted};
 ghost use Rattle.vp_field.specs.Places.{at_place};
@@ -12,7 +12,7 @@ ghost use Rattle.vp_label_size.specs.declared.TheConstants.{BAND_BYTES, BAND_ROW
 use crate::across::paint_across;
 use crate::axis::{Axis, Lines};
 use crate::line::paint_over;
-use crate::pen::Pen;
+use crate::pen::{Pen, Shown};
 use vp_dots::{Ink, Op, Small};
 use vp_label_size::{BAND_BYTES, BAND_ROWS, LabelBand};
 
@@ -25,31 +25,29 @@ pub fn row_lengths<A: Small>(band: &LabelBand<A>)
     }
 }
 
-/// Paints rows of the band, from row k on, each of which shows what lies on one place.
+/// Paints rows of the band, from row k on, each of which shows the same line.
 fn paint_alike<I: Ink, A: Small>(
     pen: &mut Pen<'_, I>,
-    axis: Axis,
-    place: u64,
+    shown: Shown,
     op: Op,
     columns: Axis,
     k: usize,
-    rows: usize,
     band: &mut LabelBand<A>,
 )
-    requires low { I.height pen.old.ink.now < 2 ^ 32 }
     requires columns { IsWithin (2 ^ 41) columns }
-    requires inside { k + rows ≤ BAND_ROWS }
+    requires inside { k + shown.places ≤ BAND_ROWS }
     requires count { pen.old.lines < 2 ^ 63 }
     ensures counted { pen.new ≡ record pen.old { lines = pen.old.lines + 1 } }
-    ensures painted { RowsPainted BAND_ROWS op (λ x r. span k (k + rows) r
-        && laid Along columns axis (I.ink_at pen.old.ink.now) (pos x) (pos place)) band.old band.new }
+    ensures painted { RowsPainted BAND_ROWS op (λ x r. span k (k + shown.places) r && unwrap_or (option_map
+        (λ v. at_place (λ u. I.ink_at pen.old.ink.now u v) (dot_on columns (pos x))) shown.line) false)
+        band.old band.new }
 {
-    if rows == 1 {
-        pen.paint_on(axis, place, op, columns, band.row_mut(k));
+    if shown.places == 1 {
+        pen.paint_on(shown, op, columns, band.row_mut(k));
         return;
     }
-    let line = pen.on::<BAND_BYTES>(axis, place, columns, 0);
-    for i in 0..rows {
+    let line = pen.on::<BAND_BYTES>(shown, columns, 0);
+    for i in 0..shown.places as usize {
         paint_over(op, &line, band.row_mut(k + i));
     }
 }
@@ -78,18 +76,9 @@ fn paint_along<I: Ink, A: Small>(
     let mut k = from.saturating_sub(first);
     let end = to.saturating_sub(first).min(BAND_ROWS as u64);
     while k < end {
-        let alike = pen.alike_places(rows, first + k, first + end);
-        paint_alike(
-            &mut pen,
-            rows,
-            first + k,
-            op,
-            columns,
-            k as usize,
-            alike as usize,
-            band,
-        );
-        k += alike;
+        let shown = pen.shown(rows, first + k, first + end);
+        paint_alike(&mut pen, shown, op, columns, k as usize, band);
+        k += shown.places;
     }
     pen.lines()
 }

@@ -1,5 +1,5 @@
 //! An ink whose lines are counted as they are handed out.
-ghost use Rattle.std.specs.Prelude.{◌≡◌, ℕ, ◌+◌, ◌*◌, ◌^◌, ◌<◌, ◌≤◌, Bool, true, false, pos, option_map, unwrap_or, length};
+ghost use Rattle.std.specs.Prelude.{◌≡◌, ℕ, ◌+◌, ◌*◌, ◌^◌, ◌<◌, ◌≤◌, false, ℤ, pos, option_map, unwrap_or, length};
 ghost use Rattle.vp_dots.specs.Dots.{dot};
 ghost use Rattle.vp_dots.specs.Painting.{Painted};
 ghost use Rattle.vp_field.specs.Places.{at_place};
@@ -10,6 +10,14 @@ use crate::axis::Axis;
 use crate::line::{drawn, paint_line};
 use vp_dots::{Ink, Op};
 use vp_label_size::BAND_BYTES;
+
+/// What lies on a place: a line of the ink, if one does, and how many places from it on are known to show the
+/// same.
+#[derive(Clone, Copy)]
+pub struct Shown {
+    line: Option<u32>,
+    pub places: u64,
+}
 
 /// An ink, and how many lines of it were handed out: they are had in no other way.
 #[derive(Drop)]
@@ -42,62 +50,73 @@ impl<'a, I: Ink> Pen<'a, I> {
         self.ink.size()
     }
 
-    /// How many places from one on, and before another, are known to show the same line.
-    pub fn alike_places(&self, axis: Axis, from: u64, to: u64) -> u64
-        requires { from < to }
-        ensures some { 0 < result }
-        ensures within { from + result ≤ to }
-        ensures alike { (j : ℕ) → j < result → (u : ℕ)
-            → at_place (λ v. I.ink_at self.now.ink.now u v) (dot_on axis (pos (from + j)))
-            ≡ at_place (λ v. I.ink_at self.now.ink.now u v) (dot_on axis (pos from)) }
+    /// What lies on a place, and how many places from it on, and before another, are known to show the same.
+    #[inline(always)]
+    pub fn shown(&self, lines: Axis, from: u64, to: u64) -> Shown
+        requires ordered { from < to }
+        requires low { I.height self.now.ink.now < 2 ^ 32 }
+        ensures some { 0 < result.places }
+        ensures within { from + result.places ≤ to }
+        ensures line { (j : ℕ) → j < result.places → (dot : ℤ)
+            → at_place (λ v. at_place (λ u. I.ink_at self.now.ink.now u v) dot) (dot_on lines (pos (from + j)))
+            ≡ unwrap_or (option_map (λ v. at_place (λ u. I.ink_at self.now.ink.now u v) dot) result.line) false }
     {
-        let Some(v) = axis.dot_on(from) else {
-            return 1;
+        let Some(v) = lines.dot_on(from) else {
+            return Shown {
+                line: None,
+                places: 1,
+            };
         };
         let (first, last) = self.ink.alike(v);
-        axis.run(v, first, last).min(to - from)
+        if first == last {
+            return Shown {
+                line: Some(v),
+                places: 1,
+            };
+        }
+        Shown {
+            line: Some(v),
+            places: lines.run(v, first, last).min(to - from),
+        }
     }
 
-    /// Which line lies on a place, if one does: it is handed out.
-    fn handed(&mut self, lines: Axis, place: u64) -> Option<u32>
+    /// The line that is shown, if one is: it is handed out.
+    fn handed(&mut self, shown: Shown) -> Option<u32>
         requires { self.old.lines < 2 ^ 63 }
         ensures counted { self.new ≡ record self.old { lines = self.old.lines + 1 } }
-        ensures line { (line : ℕ → Bool) → ((u : ℕ) → line u ≡ true → u < 2 ^ 32)
-            → at_place line (dot_on lines (pos place)) ≡ unwrap_or (option_map line result) false }
+        ensures line { result ≡ shown.line }
     {
         self.lines += 1;
-        lines.dot_on(place)
+        shown.line
     }
 
-    /// What lies on a place: the dots of a line on the places of N bytes from one on, white where no line does.
-    pub fn on<const N: usize>(&mut self, lines: Axis, place: u64, dots: Axis, from: u32) -> [u8; N]
-        requires low { I.height self.old.ink.now < 2 ^ 32 }
+    /// What a line that is shown has on the places of N bytes from one on, white where there is none.
+    pub fn on<const N: usize>(&mut self, shown: Shown, dots: Axis, from: u32) -> [u8; N]
         requires near { IsWithin (2 ^ 41) dots }
         requires few { N ≤ BAND_BYTES }
         requires count { self.old.lines < 2 ^ 63 }
         ensures counted { self.new ≡ record self.old { lines = self.old.lines + 1 } }
-        ensures dots { (p : ℕ) → p < 8 * N → dot result p
-            ≡ at_place (λ v. at_place (λ u. I.ink_at self.old.ink.now u v) (dot_on dots (pos (from + p))))
-            (dot_on lines (pos place)) }
+        ensures dots { (p : ℕ) → p < 8 * N → dot result p ≡ unwrap_or (option_map
+            (λ v. at_place (λ u. I.ink_at self.old.ink.now u v) (dot_on dots (pos (from + p)))) shown.line)
+            false }
     {
-        match self.handed(lines, place) {
+        match self.handed(shown) {
             Some(v) => drawn::<I, N>(self.ink, v, dots, from),
             None => [0; N],
         }
     }
 
-    /// Applies the operation to the dots of a row of a label on which what lies on a place has ink.
-    pub fn paint_on(&mut self, lines: Axis, place: u64, op: Op, dots: Axis, row: &mut [u8])
-        requires low { I.height self.old.ink.now < 2 ^ 32 }
+    /// Applies the operation to the dots of a row of a label on which a line that is shown has ink.
+    pub fn paint_on(&mut self, shown: Shown, op: Op, dots: Axis, row: &mut [u8])
         requires near { IsWithin (2 ^ 41) dots }
         requires row { length row.old ≡ BAND_BYTES }
         requires count { self.old.lines < 2 ^ 63 }
         ensures counted { self.new ≡ record self.old { lines = self.old.lines + 1 } }
-        ensures painted { Painted op (λ p.
-            at_place (λ v. at_place (λ u. I.ink_at self.old.ink.now u v) (dot_on dots (pos p)))
-            (dot_on lines (pos place))) row.old row.new }
+        ensures painted { Painted op (λ p. unwrap_or (option_map
+            (λ v. at_place (λ u. I.ink_at self.old.ink.now u v) (dot_on dots (pos p))) shown.line) false)
+            row.old row.new }
     {
-        if let Some(v) = self.handed(lines, place) {
+        if let Some(v) = self.handed(shown) {
             paint_line(self.ink, v, op, dots, row);
         }
     }

@@ -4,7 +4,7 @@ ghost use Rattle.vp_dots.specs.Words.{word_dot};
 ghost use Rattle.vp_dots.specs.declared.square.TheConstants.{SIDE};
 ghost use Rattle.vp_glyph.specs.Halves.{half_dot};
 
-use crate::block_columns::square_of;
+use crate::square::square_of;
 use vp_dots::{SIDE, turned_square};
 
 /// 0 where half a word is white or black as a whole, 1 where it isn't.

@@ -18,6 +18,9 @@ pub fn alike_rows(y: u32, high: u32) -> (u32, u32)
     ensures most { result.1 < high }
     ensures alike { (v : ℕ) → result.0 ≤ v → v ≤ result.1 → v * 24 / high ≡ y * 24 / high }
 {
+    if high <= 24 {
+        return (y, y);
+    }
     let s = u64::from(y) * 24 / u64::from(high);
     (first_of(s, high) as u32, (first_of(s + 1, high) - 1) as u32)
 }

@@ -2,9 +2,8 @@ use Rattle.std.proofs.Common.{inl, inr, ◌≡◌, ℕ, ◌+◌, ◌-◌, refl, 
 use Rattle.std.proofs.lemmas.Bool.{cases_lt}
 use Rattle.vp_glyph.specs.Halves.{half_dot}
 use Rattle.vp_glyph.proofs.Overlaid.{zero_at}
-use Rattle.vp_field.specs.Axes.{laid}
+use Rattle.vp_field.specs.Axes.{dot_on, laid}
 use Rattle.vp_field.specs.declared.axis.Lines.TheVariants.{Across}
-use Rattle.vp_field.proofs.Alike.{laid_alike}
 use Rattle.vp_field.proofs.Columns.{white_half, before_end, from_end}
 use Rattle.vp_field.proofs.across.halves_of.Goals as goal
 
@@ -24,18 +23,17 @@ pub loop-i-preserved : goal.loop-i-preserved
 loop-i-preserved g c =
     let i = c.loop-i.i in
     let old = c.loop-i.invariant in
-    let alike = c.alike_places-alike in
     let set = c.set_run.ensures in
     let counted : c.on-line.new.self.lines ≡ c.loop-i.pen.lines + 1 = ap (λ p. p.lines) c.on-line.ensures.counted in
-    let same = rw old.ink at alike.ensures.alike in
+    let same = rw old.ink at c.shown-shown.ensures.line in
     let drawn = rw old.ink at c.on-line.ensures.dots in
     let ink = λ (u v : ℕ). g.I.Ink.ink_at c.args.pen.now.ink.now u v in
-    let shown = λ (d k : ℕ). laid Across c.args.columns c.args.rows ink (pos d) (pos (c.args.first + k)) in
+    let dots = λ (d k : ℕ). laid Across c.args.columns c.args.rows ink (pos d) (pos (c.args.first + k)) in
     record {
       count = c.set_run.array_long;
-      within = omega (arith, alike.ensures.within);
+      within = omega (arith, c.shown-shown.ensures.within);
       ink = ap (λ p. p.ink) c.on-line.ensures.counted ∙ old.ink;
-      lines = omega (arith, old.lines, alike.ensures.some, counted);
+      lines = omega (arith, old.lines, c.shown-shown.ensures.some, counted);
       more = omega (arith, old.more, counted);
       some = λ h. omega (arith, old.more, counted);
       drawn = λ j k h l. elim (cases_lt j i) [
@@ -43,8 +41,7 @@ loop-i-preserved g c =
         | inr m ↦
             let there : c.args.x + i + (j - i) ≡ c.args.x + j = omega arith in
             ap (λ n. half_dot n k) (set.inside j m (omega (arith, h))) ∙ c.half_of.ensures k l ∙ drawn k (omega arith)
-            ∙ sym (laid_alike c.args.rows c.args.columns (λ (v u : ℕ). ink v u) (pos (c.args.first + k)) (pos (c.args.x + i + (j - i))) (pos (c.args.x + i)) (same (j - i) (omega (arith, h))))
-            ∙ ap (λ n. shown n k) there
+            ∙ sym (same (j - i) (omega (arith, h)) (dot_on c.args.rows (pos (c.args.first + k)))) ∙ ap (λ n. dots n k) there
       ];
       white = λ j h. set.behind j (omega (arith, h)) ∙ old.white j (omega (arith, h));
     }

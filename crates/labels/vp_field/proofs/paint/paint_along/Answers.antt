@@ -1,11 +1,12 @@
-use Rattle.std.proofs.Common.{inl, inr, ◌≡◌, ℕ, ◌+◌, ◌-◌, ◌<◌, ◌≤◌, true, arith, refl, ap, ◌∙◌, pos}
+use Rattle.std.proofs.Common.{inl, inr, ◌≡◌, ℕ, ◌+◌, ◌-◌, ◌<◌, ◌≤◌, true, false, arith, refl, ap, ◌∙◌, pos}
 use Rattle.std.proofs.lemmas.Bool.{both_ways, cases_lt}
+use Rattle.std.specs.Prelude.{option_map, unwrap_or}
 use Rattle.vp_dots.proofs.Placing.{rows_init, rows_all}
 use Rattle.vp_field.specs.Places.{at_place}
 use Rattle.vp_field.specs.Axes.{dot_on, laid}
 use Rattle.vp_field.specs.declared.axis.Lines.TheVariants.{Along}
 use Rattle.vp_field.proofs.Places.{line_inside}
-use Rattle.vp_field.proofs.Alike.{laid_alike, rows_painted}
+use Rattle.vp_field.proofs.Alike.{rows_painted}
 use Rattle.vp_field.proofs.paint.paint_along.Goals as goal
 
 pub loop-k-init : goal.loop-k-init
@@ -23,17 +24,15 @@ loop-k-init g c =
 pub loop-k-preserved : goal.loop-k-preserved
 loop-k-preserved g c =
     let ink = λ (u v : ℕ). g.I.Ink.ink_at c.args.ink.ink.now u v in
-    let shown = λ (x k : ℕ). laid Along c.args.columns c.args.rows ink (pos x) (pos (c.args.first + k)) in
-    let on = λ (u y : ℕ). at_place (λ v. ink u v) (dot_on c.args.rows (pos y)) in
-    let alike : (x k : ℕ) → c.loop-k.k ≤ k → k < c.loop-k.k + c.alike_places-alike.result → shown x k ≡ shown x c.loop-k.k = λ x k a b.
-    laid_alike c.args.columns c.args.rows ink (pos x) (pos (c.args.first + k)) (pos (c.args.first + c.loop-k.k)) (λ u.
+    let dots = λ (x k : ℕ). laid Along c.args.columns c.args.rows ink (pos x) (pos (c.args.first + k)) in
+    let line = λ (x : ℕ). unwrap_or (option_map (λ v. at_place (λ u. ink u v) (dot_on c.args.columns (pos x))) c.shown-shown.result.line) false in
+    let alike : (x k : ℕ) → c.loop-k.k ≤ k → k < c.loop-k.k + c.shown-shown.result.places → dots x k ≡ line x = λ x k a b.
     let there : c.args.first + k ≡ c.from-first.result + c.loop-k.k + (k - c.loop-k.k) = omega (arith, c.from-first.ensures) in
-    let here : c.from-first.result + c.loop-k.k ≡ c.args.first + c.loop-k.k = omega (arith, c.from-first.ensures) in
-    ap (on u) there ∙ (rw c.loop-k.invariant.ink at c.alike_places-alike.ensures.alike) (k - c.loop-k.k) (omega arith) u ∙ ap (on u) here) in
+    ap (λ n. at_place (λ v. at_place (λ u. ink u v) (dot_on c.args.columns (pos x))) (dot_on c.args.rows (pos n))) there ∙ (rw c.loop-k.invariant.ink at c.shown-shown.ensures.line) (k - c.loop-k.k) (omega arith) (dot_on c.args.columns (pos x)) in
     record {
       ink = ap (λ p. p.ink) c.paint_alike.ensures.counted ∙ c.loop-k.invariant.ink;
-      painted = rows_painted c.args.op shown (λ x. shown x c.loop-k.k) c.loop-k.k c.alike_places-alike.result alike _ _ _ c.loop-k.invariant.painted (rw (c.loop-k.invariant.ink, c.from-first.ensures) at c.paint_alike.ensures.painted);
-      lines = omega (arith, c.loop-k.invariant.lines, c.alike_places-alike.ensures.some, c.alike_places-alike.ensures.within, ap (λ p. p.lines) c.paint_alike.ensures.counted);
+      painted = rows_painted c.args.op dots line c.loop-k.k c.shown-shown.result.places alike _ _ _ c.loop-k.invariant.painted (rw c.loop-k.invariant.ink at c.paint_alike.ensures.painted);
+      lines = omega (arith, c.loop-k.invariant.lines, c.shown-shown.ensures.some, c.shown-shown.ensures.within, ap (λ p. p.lines) c.paint_alike.ensures.counted);
       none = λ e. absurd (omega (arith, e, ap (λ p. p.lines) c.paint_alike.ensures.counted));
     }
 

@@ -1,4 +1,5 @@
-use Rattle.std.proofs.Common.{◌≡◌, ℕ, ◌+◌, ◌<◌, true, arith, pos}
+use Rattle.std.proofs.Common.{◌≡◌, ℕ, ◌+◌, ◌<◌, true, [], get_or, arith, pos}
+use Rattle.vp_dots.specs.Dots.{dots}
 use Rattle.vp_glyph.specs.Blocks.{block_dot, block_inside}
 use Rattle.vp_glyph.specs.Layouts.{layout_of}
 use Rattle.vp_field.specs.Axes.{dot_on, laid}
@@ -24,8 +25,11 @@ loop-x-preserved g c =
     let s = c.args.self.now in
     let b = s.block.now in
     let shown = λ (x k : ℕ). laid Across s.columns s.rows (λ u v. block_dot (layout_of b) b.text.now u v) (pos x) (pos (s.first + k)) in
+    let old = c.loop-x.invariant.painted in
+    let within : (n k : ℕ) → k < 32 → n < dots (get_or c.loop-x.band k []) → n < 1248 = λ n k h m. (let w = c.row_lengths.ensures k h in omega (arith, m, (old.rows_are k h).length_is, w)) in
     record {
-      painted = columns_more c.args.op shown c.loop-x.x 128 _ _ _ c.loop-x.invariant.painted c.paint_square.ensures;
+      painted = columns_more c.args.op shown c.loop-x.x 128 _ _ _ old
+          (c.paint_square.ensures shown (λ i k l h m. c.columns-left.ensures i k l (within _ k h m) h) (λ i k l h m. c.columns-right.ensures i k l (within _ k h m) h));
       laid = omega (arith, c.loop-x.invariant.laid, c.min-laid.ensures);
     }
 

@@ -1,7 +1,7 @@
 use Rattle.std.proofs.Common.{◌≡◌, ℕ, ◌+◌, ◌<◌, length, get_or}
 use Rattle.vp_dots.specs.Words.{word_dot}
 use Rattle.vp_glyph.specs.Halves.{half_dot}
-use Rattle.vp_field.proofs.block_columns.square_of.Given as goal
+use Rattle.vp_field.proofs.square.square_of.Given as goal
 
 -- the rows before i are there
 abbrev pub invariant-loop-i : goal.invariant-loop-i

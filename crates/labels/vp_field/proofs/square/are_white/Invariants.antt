@@ -1,5 +1,5 @@
 use Rattle.std.proofs.Common.{ℕ, ◌≡◌, ◌<◌, get_or}
-use Rattle.vp_field.proofs.block_columns.are_white.Given as goal
+use Rattle.vp_field.proofs.square.are_white.Given as goal
 
 -- the halves so far are white
 abbrev pub invariant-loop-i : goal.invariant-loop-i

@@ -1,6 +1,6 @@
 use Rattle.std.proofs.Common.{◌≡◌, ℕ, ◌+◌, ◌<◌, length, get_or}
 use Rattle.vp_field.specs.Axes.{read_at}
-use Rattle.vp_field.proofs.block_columns.rows_along.Given as goal
+use Rattle.vp_field.proofs.square.rows_along.Given as goal
 
 -- the rows before k are read
 abbrev pub invariant-loop-k : goal.invariant-loop-k

@@ -2,7 +2,7 @@ use Rattle.std.proofs.Common.{◌∙◌, ap, arith, inl, inr}
 use Rattle.std.proofs.lemmas.Bool.{cases_eq}
 use Rattle.vp_glyph.specs.Halves.{half_dot}
 use Rattle.vp_field.proofs.Columns.{white_half}
-use Rattle.vp_field.proofs.block_columns.are_white.Goals as goal
+use Rattle.vp_field.proofs.square.are_white.Goals as goal
 
 pub loop-i-preserved : goal.loop-i-preserved
 loop-i-preserved g c = λ j l. elim (cases_eq j c.loop-i.i) [
