@@ -7,7 +7,6 @@ use Rattle.vp_dots.specs.Dots.{span}
 use Rattle.vp_dots.specs.Places.{RowsPainted}
 use Rattle.vp_dots.specs.declared.Op.{Op}
 use Rattle.vp_dots.proofs.Heights.{rows_same, rows_then}
-use Rattle.vp_field.specs.declared.axis.Axis.{Axis}
 use Rattle.vp_field.specs.declared.axis.Axis.TheVariants.{Forward, Back}
 use Rattle.vp_field.specs.Places.{at_place}
 use Rattle.vp_field.specs.Axes.{dot_on}

@@ -1,10 +1,9 @@
 //! Ink whose lines lie across the rows of a band: 128 columns are turned at once, and a run of one line is
 //! painted row by row.
-ghost use Rattle.std.specs.Prelude.{◌≡◌, ℕ, ◌+◌, ◌-◌, ◌*◌, ◌<◌, ◌≤◌, ◌^◌, ◌&&◌, Bool, nat_lt, pos, slice_index};
+ghost use Rattle.std.specs.Prelude.{◌≡◌, ℕ, ◌+◌, ◌-◌, ◌*◌, ◌<◌, ◌≤◌, ◌^◌, ◌&&◌, nat_lt, pos, slice_index};
 ghost use Rattle.vp_dots.specs.Dots.{dot, span};
 ghost use Rattle.vp_dots.specs.Painting.{Painted};
 ghost use Rattle.vp_dots.specs.Places.{RowsPainted};
-ghost use Rattle.vp_dots.specs.Words.{word_dot};
 ghost use Rattle.vp_dots.specs.declared.square.TheConstants.{SIDE};
 ghost use Rattle.vp_glyph.specs.Halves.{half_dot};
 ghost use Rattle.vp_field.specs.Axes.{IsWithin, laid};
@@ -102,8 +101,8 @@ fn paint_run<A: Small>(op: Op, line: [u8; 4], from: u64, to: u64, band: &mut Lab
     }
 }
 
-/// Paints columns of the band from x on, and before another: how many. A long run that is known to be alike is
-/// painted row by row.
+/// Paints columns of the band from x on, and before another: how many. A long run that is known to be alike
+/// is painted row by row.
 fn paint_columns<I: Ink, A: Small>(
     pen: &mut Pen<'_, I>,
     op: Op,
@@ -157,8 +156,8 @@ pub fn paint_across<I: Ink, A: Small>(
     requires fresh { ink.lines ≡ 0 }
     requires columns { IsWithin (2 ^ 41) columns }
     requires rows { IsWithin (2 ^ 41) rows }
-    ensures dots { RowsPainted BAND_ROWS op (λ x k. laid Across columns rows (I.ink_at ink.entry.ink.now) (pos x)
-        (pos (first + k))) band.old band.new }
+    ensures dots { RowsPainted BAND_ROWS op (λ x k. laid Across columns rows (I.ink_at ink.entry.ink.now)
+        (pos x) (pos (first + k))) band.old band.new }
     ensures lines { result ≤ most_lines Across }
     ensures counted { 0 < result }
 {

@@ -63,8 +63,8 @@ fn paint_along<I: Ink, A: Small>(
 ) -> u64
     requires fresh { ink.lines ≡ 0 }
     requires near { IsWithin (2 ^ 41) columns }
-    ensures dots { RowsPainted BAND_ROWS op (λ x k. laid Along columns rows (I.ink_at ink.entry.ink.now) (pos x)
-        (pos (first + k))) band.old band.new }
+    ensures dots { RowsPainted BAND_ROWS op (λ x k. laid Along columns rows (I.ink_at ink.entry.ink.now)
+        (pos x) (pos (first + k))) band.old band.new }
     ensures lines { result ≤ most_lines Along }
     ensures counted { IsCounted (λ x k. laid Along columns rows (I.ink_at ink.entry.ink.now) (pos x)
         (pos (first + k))) result }

@@ -58,8 +58,10 @@ impl<'a, I: Ink> Pen<'a, I> {
         ensures some { 0 < result.places }
         ensures within { from + result.places ≤ to }
         ensures line { (j : ℕ) → j < result.places → (dot : ℤ)
-            → at_place (λ v. at_place (λ u. I.ink_at self.now.ink.now u v) dot) (dot_on lines (pos (from + j)))
-            ≡ unwrap_or (option_map (λ v. at_place (λ u. I.ink_at self.now.ink.now u v) dot) result.line) false }
+            → at_place (λ v. at_place (λ u. I.ink_at self.now.ink.now u v) dot)
+            (dot_on lines (pos (from + j)))
+            ≡ unwrap_or (option_map (λ v. at_place (λ u. I.ink_at self.now.ink.now u v) dot) result.line)
+            false }
     {
         let Some(v) = lines.dot_on(from) else {
             return Shown {

@@ -1,6 +1,6 @@
 //! Pictures: one row as ink, and the rows that fall on a band, read from a mark on.
 ghost use Rattle.std.specs.Prelude.{◌≡◌, ℕ, ◌+◌, ◌*◌, ◌^◌, ◌<◌, ◌≤◌, ℤ, pos, Bool, false, length};
-ghost use Rattle.vp_dots.specs.Dots.{dot, shifted};
+ghost use Rattle.vp_dots.specs.Dots.{dot};
 ghost use Rattle.vp_dots.specs.Places.{RowsPainted};
 ghost use Rattle.vp_glyph.specs.Sheets.{Sheets};
 ghost use Rattle.vp_format.specs.Pictures.{is_refused};

@@ -61,8 +61,8 @@ fn rows_along(square: &[u64; SIDE], from: usize, axis: Axis) -> [u64; BAND_ROWS]
     along
 }
 
-/// Paints as many columns as a square has, the first of which is x: their dots are on rows of the square from one
-/// on, read along an axis.
+/// Paints as many columns as a square has, the first of which is x: their dots are on rows of the square from
+/// one on, read along an axis.
 fn paint_rows<A: Small>(
     op: Op,
     square: &[u64; SIDE],

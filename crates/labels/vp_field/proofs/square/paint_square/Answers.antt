@@ -19,8 +19,8 @@ returns-then-are_white-2 g c = λ ink e f.
 pub returns : goal.returns
 returns g c = λ ink e f.
     let left = c.paint_rows.ensures ink (λ i k l h m.
-        let at = read_at c.args.rows 32 k in
-        ap (λ n. word_dot (get_or c.turned_halves-square.result n 0) i) (let z : 0 + at ≡ at = omega arith in z) ∙ c.turned_halves-square.ensures.upper i at l (read_within c.args.rows 32 k h) ∙ e i k l h m) in
+    let at = read_at c.args.rows 32 k in
+    ap (λ n. word_dot (get_or c.turned_halves-square.result n 0) i) (let z : 0 + at ≡ at = omega arith in z) ∙ c.turned_halves-square.ensures.upper i at l (read_within c.args.rows 32 k h) ∙ e i k l h m) in
     columns_both c.args.op ink c.args.x 64 _ _ _ left
     (c.paint_rows-2.ensures ink (λ i k l h m.
     let long = (left.rows_are k h).length_is in
