@@ -8,10 +8,10 @@ use Rattle.vp_qr.specs.Places.{size, corner, alignment, version_area, reserved}
 use Rattle.vp_qr.specs.Walk.{number_of, data_bit, dark}
 use Rattle.vp_qr.specs.Symbol.{finder, module_at, differ, formula}
 use Rattle.vp_qr.specs.declared.level.Level.{Level}
+use Rattle.vp_qr.specs.declared.symbol.Grid.{Grid}
+use Rattle.vp_qr.specs.Grids.{IsGridOf}
 use Rattle.vp_qr.specs.Codes.{format_code, version_code}
-use Rattle.vp_qr.specs.Penalty.{penalty}
 use Rattle.vp_qr.specs.Encoding.{least_place, masks, masked, best_mask}
-use Rattle.vp_qr.proofs.Counting.{penalty_same}
 use Rattle.vp_qr.proofs.FieldLaws.{passes_below, passes_at}
 
 all_least : (x : ℕ) (xs : List ℕ) → ((m : ℕ) → m < length xs → x ≤ get_or xs m 0) → list_all (leb x) xs ≡ true
@@ -78,33 +78,14 @@ module_same v format code m f g i j h =
     (differ (f i j) (eqb (formula m i j) 0)) (differ (g i j) (eqb (formula m i j) 0))
     (λ a b c d e. ap (λ t. differ t (eqb (formula m i j) 0)) (h (no_reserve v i j a b c d e)))
 
--- the placed data, on a module that isn't reserved
-pub data_placed : (v : ℕ) (words rows : List ℕ) (i j : ℕ) → dark rows i j ≡ (not (reserved v i j) && data_bit words (number_of v i j))
-    → reserved v i j ≡ false → dark rows i j ≡ data_bit words (number_of v i j)
-data_placed v words rows i j e free = e ∙ ap (λ t. not t && data_bit words (number_of v i j)) free
-
--- the least penalties, taken from the placed data or from the codewords
-pub same_choice : (level : Level) (v : ℕ) (words rows : List ℕ)
-    → ((i j : ℕ) → i < size v → j < size v → dark rows i j ≡ (not (reserved v i j) && data_bit words (number_of v i j)))
-    → least_place (map (λ k. penalty (module_at v (format_code level k) (version_code v) k (dark rows)) (size v)) masks) ≡ best_mask level v words
-unfolding best_mask masked
-same_choice level v words rows h =
-    ap least_place
-    (map_same (λ k. penalty (module_at v (format_code level k) (version_code v) k (dark rows)) (size v))
-    (λ k. penalty (masked level v words k) (size v))
-    (λ k. penalty_same _ _ (size v) (λ i j hi hj. module_same v (format_code level k) (version_code v) k (dark rows) (λ i j. data_bit words (number_of v i j)) i j (data_placed v words rows i j (h i j hi hj))))
-    masks)
-  where
-    map_same : (f g : ℕ → ℕ) → ((k : ℕ) → f k ≡ g k) → (xs : List ℕ) → map f xs ≡ map g xs
-    map_same f g e [] = refl
-    map_same f g e (x ∷ xs) = ap (λ y. y ∷ map f xs) (e x) ∙ ap (λ ys. g x ∷ ys) (map_same f g e xs)
-
-pub same_modules : (level : Level) (v m : ℕ) (words rows : List ℕ)
-    → ((i j : ℕ) → i < size v → j < size v → dark rows i j ≡ (not (reserved v i j) && data_bit words (number_of v i j)))
-    → (i j : ℕ) → i < size v → j < size v → module_at v (format_code level m) (version_code v) m (dark rows) i j ≡ masked level v words m i j
+-- the finished modules, taken from the placed data or from the codewords
+pub same_modules : (level : Level) (m : ℕ) (codewords : List ℕ) (grid : Grid) → IsGridOf codewords grid → (i j : ℕ) → i < size grid.version → j < size grid.version
+    → module_at grid.version (format_code level m) (version_code grid.version) m (dark grid.unmasked) i j ≡ masked level grid.version codewords m i j
 unfolding masked
-same_modules level v m words rows h i j hi hj =
-    module_same v (format_code level m) (version_code v) m (dark rows) (λ i j. data_bit words (number_of v i j)) i j (data_placed v words rows i j (h i j hi hj))
+same_modules level m codewords grid of i j hi hj =
+    let v : ℕ = grid.version in
+    module_same v (format_code level m) (version_code v) m (dark grid.unmasked) (λ i j. data_bit codewords (number_of v i j)) i j
+    (λ free. of.unmasked_is i j hi hj ∙ ap (λ t. not t && data_bit codewords (number_of v i j)) free)
 
 -- number b of a list is the least
 record IsLeast (xs : List ℕ) (b : ℕ) : Type 0 where

@@ -2,6 +2,7 @@
 use Rattle.std.proofs.Common.{◌≡◌, ℕ, zero, suc, ◌+◌, ◌-◌, ◌*◌, ◌<◌, ◌≤◌, List, [], ◌∷◌, ◌++◌, length, get_or, map, take, drop, refl, sym, ap, ◌∙◌, subst, inl, inr, arith, append-nil, cond, mul-le-mul_right}
 use Rattle.std.specs.List.{flat_map}
 use Rattle.std.proofs.lemmas.List.{length-append, length-drop, length-take, length-take-le, drop-drop, drop_more, drop_all, get_or-drop, get_or-take, get_or_append_left, get_or-append_right, take_at, drop_at}
+use Rattle.std.proofs.lemmas.Bool.Decides.{nat_tests}
 use Rattle.std.proofs.lemmas.Bool.{cases_lt, lt-ltb, le-ltb}
 use Rattle.vp_qr.specs.declared.level.Blocks.{Blocks}
 use Rattle.vp_qr.specs.Polynomial.{check_of}
@@ -167,18 +168,12 @@ column_lacks b ws i at n h f le =
 
 -- a block is neither empty nor too long
 pub block_some : (b : Blocks) (i : ℕ) → IsSound b → 0 < block_length b i
-block_some b i s =
-    elim (cases_lt i b.short) [
-      | inl lt ↦ subst (λ t. 0 < cond t b.words (b.words + 1)) (sym (lt-ltb i b.short lt)) s.words_some
-      | inr le ↦ subst (λ t. 0 < cond t b.words (b.words + 1)) (sym (le-ltb i b.short le)) (omega arith)
-    ]
+block_some b i s = grind (arith, nat_tests, s.words_some)
 
 pub block_most : (b : Blocks) (i : ℕ) → IsSound b → i < b.short + b.long → block_length b i ≤ 116
-block_most b i s h =
-    elim (cases_lt i b.short) [
-      | inl lt ↦ subst (λ t. cond t b.words (b.words + 1) ≤ 116) (sym (lt-ltb i b.short lt)) s.words_most
-      | inr le ↦ subst (λ t. cond t b.words (b.words + 1) ≤ 116) (sym (le-ltb i b.short le)) (omega (arith, s.long_most))
-    ]
+block_most b i s h = grind (arith, nat_tests, s.words_most, s.long_most)
+
+pub ruleset block_ends = (block_fits, block_some, block_most)
 
 -- one block's check codewords more
 pub checks_more : (b : Blocks) (ws : List ℕ) (i : ℕ) → i < b.short + b.long

@@ -1,7 +1,6 @@
 -- Bit strings as they are written.
-use Rattle.std.proofs.Common.{◌≡◌, ℕ, zero, suc, ◌+◌, ◌-◌, ◌*◌, ◌/◌, ◌^◌, ◌<◌, ◌≤◌, Bool, true, false, eqb, List, [], ◌∷◌, ◌++◌, length, take, drop, refl, sym, ap, ◌∙◌, arith, append_assoc, append-nil, cond, pow-suc, add-one, get_or, drop-cons, length-drop}
+use Rattle.std.proofs.Common.{◌≡◌, ℕ, zero, suc, ◌+◌, ◌-◌, ◌*◌, ◌^◌, ◌<◌, ◌≤◌, Bool, true, false, eqb, List, [], ◌∷◌, ◌++◌, length, take, drop, refl, sym, ap, ◌∙◌, arith, append_assoc, append-nil, cond, pow-suc, add-one, get_or, drop-cons}
 use Rattle.std.proofs.Math.ListN.{drop_of_length-le}
-use Rattle.std.proofs.lemmas.List.{drop-drop}
 use Rattle.std.specs.Int.{bit_at}
 use Rattle.vp_qr.specs.Strings.{bits, number_behind, bytes_of, pads, pad}
 
@@ -99,20 +98,3 @@ bit_small false b e = omega arith
 
 pub number_end : (eight : List Bool) (n k : ℕ) → length eight ≤ k → number_behind n (drop k eight) ≡ number_behind 0 eight → n ≡ number_behind 0 eight
 number_end eight n k le h = sym (number_all n) ∙ ap (number_behind n) (sym (drop_of_length-le eight le)) ∙ h
-
--- eight bits of a string are a byte more
-pub bytes_step : (out new : List ℕ) (string eight : List Bool) (k byte : ℕ) → k < length string / 8 → eight ≡ take 8 (drop (8 * k) string) → byte ≡ number_behind 0 eight
-    → new ≡ out ++ byte ∷ [] → out ++ bytes_of (drop (8 * k) string) ≡ bytes_of string → new ++ bytes_of (drop (8 * (k + 1)) string) ≡ bytes_of string
-bytes_step out new string eight k byte lt e f g h =
-    let next : 8 * k + 8 ≡ 8 * (k + 1) = omega arith in
-    let some : 8 ≤ length (drop (8 * k) string) = omega (arith, length-drop (8 * k) string) in
-    written_more out new (bytes_of string) (bytes_of (drop (8 * k) string)) (bytes_of (drop (8 * (k + 1)) string)) byte g
-    (bytes_more (drop (8 * k) string) some
-    ∙ ap (λ b. b ∷ bytes_of (drop 8 (drop (8 * k) string))) (ap (number_behind 0) (sym e) ∙ sym f)
-    ∙ ap (λ l. byte ∷ bytes_of l) (drop-drop 8 (8 * k) string)
-    ∙ ap (λ m. byte ∷ bytes_of (drop m string)) next)
-    h
-
-pub bytes_end : (out : List ℕ) (string : List Bool) (k : ℕ) → length string / 8 ≤ k → out ++ bytes_of (drop (8 * k) string) ≡ bytes_of string → out ≡ bytes_of string
-bytes_end out string k le h =
-    written_all out (bytes_of string) (bytes_of (drop (8 * k) string)) (bytes_none (drop (8 * k) string) (omega (arith, length-drop (8 * k) string))) h

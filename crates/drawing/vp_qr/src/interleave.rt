@@ -37,7 +37,7 @@ impl Blocks {
     }
 
     /// Where they end.
-    #[tactic(auto, using(crate::proofs::Interleaving::block_fits, crate::proofs::Interleaving::block_some, crate::proofs::Interleaving::block_most))]
+    #[tactic(auto, using(crate::proofs::Interleaving::block_ends))]
     fn end(self, block: usize) -> usize
         requires block { block < self.short + self.long }
         requires sound { IsSound self }

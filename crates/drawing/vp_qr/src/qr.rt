@@ -1,18 +1,15 @@
 //! The symbol of bytes.
 
-ghost use Rattle.std.specs.Prelude.{◌≡◌, ℕ, ◌<◌, ◌≤◌, ◌&&◌, not, length, map, OnOk, IfOk, IfErr, Some, None};
+ghost use Rattle.std.specs.Prelude.{◌≡◌, ℕ, ◌<◌, ◌≤◌, List, length, OnOk, IfOk, IfErr, Some, None};
 ghost use Rattle.arrayvec.specs.ArrayVec.{array_vec_len};
 ghost use Rattle.vp_qr.specs.Strings.{padded};
 ghost use Rattle.vp_qr.specs.Segments.{message};
 ghost use Rattle.vp_qr.specs.Versions.{Holds};
 ghost use Rattle.vp_qr.specs.Blocks.{total, blocks_of, capacity, interleaved};
-ghost use Rattle.vp_qr.specs.Places.{size, reserved};
-ghost use Rattle.vp_qr.specs.Walk.{dark, data_bit, number_of};
-ghost use Rattle.vp_qr.specs.Codes.{format_code, version_code};
-ghost use Rattle.vp_qr.specs.Symbol.{module_at};
-ghost use Rattle.vp_qr.specs.Grids.{IsGrid};
-ghost use Rattle.vp_qr.specs.Penalty.{penalty};
-ghost use Rattle.vp_qr.specs.Encoding.{refusal, version_of, mask_of, masked, least_place, masks, best_mask, Encodes};
+ghost use Rattle.vp_qr.specs.Places.{size};
+ghost use Rattle.vp_qr.specs.Walk.{dark};
+ghost use Rattle.vp_qr.specs.Grids.{IsGrid, IsGridOf};
+ghost use Rattle.vp_qr.specs.Encoding.{refusal, version_of, mask_of, masked, best_mask, Encodes};
 
 use crate::interleave::{Codewords, interleaved};
 use crate::level::Level;
@@ -89,8 +86,8 @@ impl Qr {
 /// The lowest mask of least penalty.
 fn best_mask(level: Level, grid: &Grid) -> usize
     requires { IsGrid grid.now }
-    ensures mask { result ≡ least_place (map (λ k. penalty (module_at grid.now.version (format_code level k)
-        (version_code grid.now.version) k (dark grid.now.unmasked)) (size grid.now.version)) masks) }
+    ensures mask { (codewords : List ℕ) → IsGridOf codewords grid.now →
+        result ≡ best_mask level grid.now.version codewords }
     ensures most { result < 8 }
 {
     let mut penalties = [0; 8];
@@ -101,44 +98,20 @@ fn best_mask(level: Level, grid: &Grid) -> usize
     least(&penalties)
 }
 
-/// The symbol of codewords with the lowest mask of least penalty.
-fn finished(level: Level, version: usize, codewords: Codewords) -> Qr
-    requires low { 1 ≤ version }
-    requires high { version ≤ 10 }
-    requires count { array_vec_len codewords ≡ total version }
-    ensures version { result.version ≡ version }
-    ensures codewords { result.codewords ≡ codewords.items }
-    ensures mask { result.mask ≡ best_mask level version codewords.items }
-    ensures modules { (i j : ℕ) → i < size version → j < size version → dark result.rows i j
-        ≡ masked level version codewords.items (best_mask level version codewords.items) i j }
-{
-    let grid = Grid::of(version, codewords.as_slice());
-    let mask = best_mask(level, &grid);
-    let rows = grid.masked(level, mask);
-    Qr {
-        version,
-        mask,
-        codewords,
-        rows,
-    }
-}
-
-/// The symbol of codewords with a mask that was chosen before.
-fn finished_with(level: Level, version: usize, mask: usize, codewords: Codewords) -> Qr
-    requires low { 1 ≤ version }
-    requires high { version ≤ 10 }
+/// The symbol of codewords with a mask.
+fn finished(level: Level, grid: &Grid, mask: usize, codewords: Codewords) -> Qr
+    requires grid { IsGridOf codewords.items grid.now }
     requires mask { mask < 8 }
-    requires count { array_vec_len codewords ≡ total version }
-    ensures version { result.version ≡ version }
+    requires count { array_vec_len codewords ≡ total grid.now.version }
+    ensures version { result.version ≡ grid.now.version }
     ensures codewords { result.codewords ≡ codewords.items }
     ensures mask { result.mask ≡ mask }
-    ensures modules { (i j : ℕ) → i < size version → j < size version
-        → dark result.rows i j ≡ masked level version codewords.items mask i j }
+    ensures modules { (i j : ℕ) → i < size grid.now.version → j < size grid.now.version
+        → dark result.rows i j ≡ masked level grid.now.version codewords.items mask i j }
 {
-    let grid = Grid::of(version, codewords.as_slice());
     let rows = grid.masked(level, mask);
     Qr {
-        version,
+        version: grid.version,
         mask,
         codewords,
         rows,
@@ -189,7 +162,9 @@ pub fn encode(src: &[u8], level: Level, mode: Mode) -> Result<Qr, Fault>
         return Err(Fault::SymbolTooLong);
     };
     let codewords = codewords_in(level, kind, version, src);
-    Ok(finished(level, version, codewords))
+    let grid = Grid::of(version, codewords.as_slice());
+    let mask = best_mask(level, &grid);
+    Ok(finished(level, &grid, mask, codewords))
 }
 
 /// The symbol of bytes that `encode` takes, drawn with the version, 1 to 10, and the mask, 0 to 7, that
@@ -203,5 +178,6 @@ pub fn drawn(src: &[u8], level: Level, mode: Mode, version: usize, mask: usize) 
 {
     let kind = mode.kind(src);
     let codewords = codewords_in(level, kind, version, src);
-    finished_with(level, version, mask, codewords)
+    let grid = Grid::of(version, codewords.as_slice());
+    finished(level, &grid, mask, codewords)
 }

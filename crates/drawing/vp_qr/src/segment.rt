@@ -106,16 +106,15 @@ impl Kind {
     }
 
     /// How many bits the data take.
-    #[tactic(auto, using(crate::proofs::Lengths::length_numeric, crate::proofs::Lengths::length_alphanumeric, crate::proofs::Lengths::length_byte))]
+    #[tactic(auto, using(crate::proofs::Lengths::data_lengths))]
     fn data_length(self, src: &[u8]) -> u128
         ensures value { result ≡ length (data_bits self src.now) }
         ensures most { result < 2 ^ 70 }
     {
         let n = src.len() as u128;
         match self {
-            Kind::Numeric if n % 3 == 0 => n / 3 * 10,
-            Kind::Numeric => n / 3 * 10 + n % 3 * 3 + 1,
-            Kind::Alphanumeric => n / 2 * 11 + n % 2 * 6,
+            Kind::Numeric => (10 * n + 2) / 3,
+            Kind::Alphanumeric => (11 * n + 1) / 2,
             Kind::Byte => n * 8,
         }
     }
@@ -173,18 +172,15 @@ fn push_numeric(string: &mut BitString, digits: &[u8])
     requires { array_vec_len string.old + length (numeric_bits digits.now) ≤ 2192 }
     ensures { string.new.items ≡ string.old.items ++ numeric_bits digits.now }
 {
-    let n = digits.len() / 3;
-    for k in 0..n {
-        let three = three_digits(digits[3 * k], digits[3 * k + 1], digits[3 * k + 2]);
-        push_bits(string, 10, three);
+    let mut left = digits;
+    while let [a, b, c, rest @ ..] = left {
+        push_bits(string, 10, three_digits(*a, *b, *c));
+        left = rest;
     }
-    let at = 3 * n;
-    if digits.len() == at + 2 {
-        push_bits(string, 7, two_digits(digits[at], digits[at + 1]));
-        return;
-    }
-    if digits.len() == at + 1 {
-        push_bits(string, 4, digit_value(digits[at]));
+    match left {
+        [a, b, ..] => push_bits(string, 7, two_digits(*a, *b)),
+        [a] => push_bits(string, 4, digit_value(*a)),
+        [] => {}
     }
 }
 
@@ -193,14 +189,13 @@ fn push_alphanumeric(string: &mut BitString, characters: &[u8])
     requires { array_vec_len string.old + length (alphanumeric_bits characters.now) ≤ 2192 }
     ensures { string.new.items ≡ string.old.items ++ alphanumeric_bits characters.now }
 {
-    let n = characters.len() / 2;
-    for k in 0..n {
-        let pair = pair_value(characters[2 * k], characters[2 * k + 1]);
-        push_bits(string, 11, pair);
+    let mut left = characters;
+    while let [a, b, rest @ ..] = left {
+        push_bits(string, 11, pair_value(*a, *b));
+        left = rest;
     }
-    let at = 2 * n;
-    if characters.len() == at + 1 {
-        push_bits(string, 6, alnum_value(characters[at]));
+    if let [a, ..] = left {
+        push_bits(string, 6, alnum_value(*a));
     }
 }
 
@@ -209,8 +204,10 @@ fn push_bytes(string: &mut BitString, bytes: &[u8])
     requires { array_vec_len string.old + length (byte_bits bytes.now) ≤ 2192 }
     ensures { string.new.items ≡ string.old.items ++ byte_bits bytes.now }
 {
-    for byte in bytes {
+    let mut left = bytes;
+    while let [byte, rest @ ..] = left {
         push_bits(string, 8, u32::from(*byte));
+        left = rest;
     }
 }
 

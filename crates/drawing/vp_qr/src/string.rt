@@ -13,7 +13,6 @@ pub type BitString = ArrayVec<bool, 2192>;
 pub type Words = ArrayVec<u8, 274>;
 
 /// Appends the `n` lowest bits of a value, the highest of them first.
-#[tactic(auto, using(crate::proofs::Writing::bits_more, crate::proofs::Writing::bits_none, std::proofs::lemmas::Nat::Bits::shr_and_one))]
 pub fn push_bits(string: &mut BitString, n: u32, value: u32)
     requires few { n ≤ 16 }
     requires room { array_vec_len string.old + n ≤ 2192 }
@@ -43,7 +42,6 @@ fn one(bit: bool) -> u8
 }
 
 /// The byte of eight bits.
-#[tactic(auto, using(crate::proofs::Writing::number_more, crate::proofs::Writing::number_all))]
 fn byte_of(eight: &[bool]) -> u8
     requires { length eight.now ≡ 8 }
     ensures { result ≡ number_behind 0 eight.now }
@@ -56,15 +54,17 @@ fn byte_of(eight: &[bool]) -> u8
 }
 
 /// The bytes of a string, eight bits to each.
-#[tactic(auto, using(crate::proofs::Writing::bytes_more, crate::proofs::Writing::bytes_none))]
 fn bytes_of(string: &[bool]) -> Words
     requires { length string.now ≤ 2192 }
     ensures bytes { result.items ≡ bytes_of string.now }
     ensures count { array_vec_len result ≡ length string.now / 8 }
 {
     let mut words = ArrayVec::new();
-    for k in 0..string.len() / 8 {
-        words.push(byte_of(&string[8 * k..8 * k + 8]));
+    let mut left = string;
+    while left.len() >= 8 {
+        let (eight, rest) = left.split_at(8);
+        words.push(byte_of(eight));
+        left = rest;
     }
     words
 }
@@ -91,7 +91,6 @@ fn pad(k: usize) -> u8
 }
 
 /// Appends pad codewords.
-#[tactic(auto, using(crate::proofs::Writing::pads_none, crate::proofs::Writing::pads_more))]
 fn push_pads(words: &mut Words, n: usize)
     requires { array_vec_len words.old + n ≤ 274 }
     ensures pads { words.new.items ≡ words.old.items ++ pads n }

@@ -1,7 +1,7 @@
 //! The modules of a finished symbol: patterns, format and version by their places, and data under a mask.
 
-ghost use Rattle.std.specs.Prelude.{◌≡◌, ◌==◌, ◌<◌, ◌≤◌, ◌-◌, ◌&&◌, not, ℕ, true};
-ghost use Rattle.vp_qr.specs.Places.{size, corner, reserved};
+ghost use Rattle.std.specs.Prelude.{◌≡◌, ◌==◌, ◌<◌, ◌≤◌, ◌-◌, ◌&&◌, ℕ, List, true};
+ghost use Rattle.vp_qr.specs.Places.{size, corner};
 ghost use Rattle.vp_qr.specs.Penalty.{is_set};
 ghost use Rattle.vp_qr.specs.Symbol.{
   format_bit,
@@ -11,9 +11,10 @@ ghost use Rattle.vp_qr.specs.Symbol.{
   pattern_dark,
 };
 ghost use Rattle.std.specs.Int.{bit_at};
-ghost use Rattle.vp_qr.specs.Walk.{dark, data_bit, number_of};
-ghost use Rattle.vp_qr.specs.Codes.{format_code, version_code};
-ghost use Rattle.vp_qr.specs.Grids.{IsGrid};
+ghost use Rattle.vp_qr.specs.Walk.{dark};
+ghost use Rattle.vp_qr.specs.Codes.{version_code};
+ghost use Rattle.vp_qr.specs.Encoding.{masked};
+ghost use Rattle.vp_qr.specs.Grids.{IsGrid, IsGridOf};
 
 use crate::code::{format_code, version_code};
 use crate::level::Level;
@@ -181,10 +182,7 @@ impl Grid {
         requires low { 1 ≤ version }
         requires high { version ≤ 10 }
         ensures version { result.version ≡ version }
-        ensures grid { IsGrid result }
-        ensures unmasked { (i j : ℕ) → i < size result.version → j < size result.version
-            → dark result.unmasked i j ≡ (not (reserved result.version i j)
-            && data_bit codewords.now (number_of result.version i j)) }
+        ensures grid { IsGridOf codewords.now result }
     {
         let free = free_rows(version);
         let mut unmasked = [0; 57];
@@ -247,9 +245,8 @@ impl Grid {
     pub fn masked(&self, level: Level, mask: usize) -> [u64; 57]
         requires grid { IsGrid self.now }
         requires mask { mask < 8 }
-        ensures { (i j : ℕ) → i < size self.now.version → j < size self.now.version
-            → dark result i j ≡ module_at self.now.version (format_code level mask)
-            (version_code self.now.version) mask (dark self.now.unmasked) i j }
+        ensures { (codewords : List ℕ) → IsGridOf codewords self.now → (i j : ℕ) → i < size self.now.version
+            → j < size self.now.version → dark result i j ≡ masked level self.now.version codewords mask i j }
     {
         let format = format_code(level, mask);
         let mut rows = [0; 57];

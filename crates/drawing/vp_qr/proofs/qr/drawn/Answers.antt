@@ -1,8 +1,11 @@
-use Rattle.std.proofs.Common.{◌≡◌, ◌≤◌, Some, refl, sym, ap, ◌∙◌, subst}
+use Rattle.std.proofs.Common.{◌≡◌, ℕ, ◌<◌, ◌≤◌, Some, refl, sym, ap, ◌∙◌, subst}
 use Rattle.vp_qr.specs.Segments.{kind_of, message}
 use Rattle.vp_qr.specs.Strings.{padded}
 use Rattle.vp_qr.specs.Versions.{smallest, Holds}
 use Rattle.vp_qr.specs.Blocks.{capacity}
+use Rattle.vp_qr.specs.Places.{size}
+use Rattle.vp_qr.specs.Walk.{dark}
+use Rattle.vp_qr.specs.Encoding.{masked}
 use Rattle.vp_qr.proofs.Encodings.{accepted_version, version_holds, encodes}
 use Rattle.vp_qr.proofs.qr.drawn.Goals as goal
 
@@ -12,12 +15,12 @@ codewords_in-codewords-requires c =
     (subst (λ n. Holds c.args.level (kind_of c.args.mode c.args.src.now) c.args.src.now n) (sym c.requires.version)
     (version_holds c.args.level c.args.mode c.args.src.now c.requires.accepted))
 
-pub finished_with-requires-clause-low : goal.finished_with-requires-clause-low
-finished_with-requires-clause-low c =
+pub of-grid-requires-clause-low : goal.of-grid-requires-clause-low
+of-grid-requires-clause-low c =
     subst (λ n. 1 ≤ n) (sym c.requires.version) (version_holds c.args.level c.args.mode c.args.src.now c.requires.accepted).low
 
-pub finished_with-requires-clause-high : goal.finished_with-requires-clause-high
-finished_with-requires-clause-high c =
+pub of-grid-requires-clause-high : goal.of-grid-requires-clause-high
+of-grid-requires-clause-high c =
     subst (λ n. n ≤ 10) (sym c.requires.version) (version_holds c.args.level c.args.mode c.args.src.now c.requires.accepted).high
 
 pub returns : goal.returns
@@ -30,5 +33,5 @@ returns c =
     (padded (capacity c.args.level c.args.version) (message c.kind-kind.result c.args.version c.args.src.now))
     c.codewords_in-codewords.result.items
     c.kind-kind.ensures found refl c.codewords_in-codewords.ensures.codewords
-    c.args.mask c.requires.mask
-    c.finished_with.result c.finished_with.ensures.version c.finished_with.ensures.codewords c.finished_with.ensures.mask c.finished_with.ensures.modules
+    c.args.mask c.requires.mask c.finished.result (c.finished.ensures.version ∙ c.of-grid.ensures.version) c.finished.ensures.codewords c.finished.ensures.mask
+    (subst (λ n. (i j : ℕ) → i < size n → j < size n → dark c.finished.result.rows i j ≡ masked c.args.level n c.codewords_in-codewords.result.items c.args.mask i j) c.of-grid.ensures.version c.finished.ensures.modules)

@@ -1,6 +1,9 @@
-use Rattle.std.proofs.Common.{◌≡◌, ◌*◌, ◌++◌, drop}
+use Rattle.std.proofs.Common.{◌≡◌, ◌++◌, length}
 use Rattle.vp_qr.specs.Segments.{numeric_bits}
 use Rattle.vp_qr.proofs.segment.push_numeric.Given as goal
 
-abbrev pub invariant-loop-k : goal.invariant-loop-k
-invariant-loop-k l = l.string.items ++ numeric_bits (drop (3 * l.k) l.digits) ≡ l.initial.string.items ++ numeric_bits l.digits
+abbrev pub invariant-loop-left : goal.invariant-loop-left
+invariant-loop-left l = l.string.items ++ numeric_bits l.left ≡ l.initial.string.items ++ numeric_bits l.digits
+
+abbrev pub decreases-loop-left : goal.decreases-loop-left
+decreases-loop-left l = length l.left

@@ -1,13 +1,13 @@
-use Rattle.std.proofs.Common.{◌≡◌, ◌-◌, ◌+◌, ◌*◌, ℕ, ap, take, drop, arith}
-use Rattle.vp_qr.proofs.Writing.{bytes_step, bytes_end}
+use Rattle.std.proofs.Common.{[], ◌∷◌, append_assoc, arith}
+use Rattle.vp_qr.specs.Strings.{bytes_of}
+use Rattle.vp_qr.proofs.Writing.{written_all, bytes_more, bytes_none}
 use Rattle.vp_qr.proofs.string.bytes_of.Goals as goal
 
-pub loop-k-preserved : goal.loop-k-preserved
-loop-k-preserved c =
-    let e : 8 * c.loop-k.k + 8 - 8 * c.loop-k.k ≡ 8 = omega arith in (
-      bytes_step c.loop-k.words.items c.push.new.self.items c.args.string.now _ c.loop-k.k c.byte_of.result c.loop-k-test.true (ap (λ (m : ℕ). take m (drop (8 * c.loop-k.k) c.args.string.now)) e) c.byte_of.ensures c.push.ensures.items c.loop-k.invariant.0,
-      omega arith,
-    )
+pub loop-left-preserved : goal.loop-left-preserved
+loop-left-preserved c = (
+  cc (append_assoc c.loop-left.words.items (c.byte_of.result ∷ []) (bytes_of c.split_at.result.1.now), bytes_more c.loop-left.left.now c.loop-left-test.true),
+  omega arith,
+)
 
 pub returns-clause-bytes : goal.returns-clause-bytes
-returns-clause-bytes c = bytes_end c.loop-k.words.items c.args.string.now c.loop-k.k c.loop-k-test.false c.loop-k.invariant.0
+returns-clause-bytes c = written_all _ _ _ (bytes_none c.loop-left.left.now (omega arith)) c.loop-left.invariant.0

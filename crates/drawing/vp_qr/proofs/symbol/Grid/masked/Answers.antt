@@ -1,8 +1,9 @@
-use Rattle.std.proofs.Common.{ℕ, ◌<◌, ap, ◌∙◌, arith, length-set}
+use Rattle.std.proofs.Common.{ap, ◌∙◌, arith, length-set}
 use Rattle.vp_qr.specs.Places.{size}
 use Rattle.vp_qr.specs.Codes.{version_code}
 use Rattle.vp_qr.specs.Symbol.{module_at}
 use Rattle.vp_qr.specs.Walk.{dark}
+use Rattle.vp_qr.proofs.Choosing.{same_modules}
 use Rattle.vp_qr.proofs.FreeModules.{row_made}
 use Rattle.vp_qr.proofs.symbol.Grid.masked.Goals as goal
 
@@ -15,6 +16,7 @@ loop-row-preserved c = (
 
 pub returns : goal.returns
 returns c =
-    λ (i j : ℕ) (hi : i < size c.args.self.now.version) (hj : j < size c.args.self.now.version).
+    λ codewords of i j hi hj.
     c.loop-row.invariant.1 i j (omega arith) hj
     ∙ ap (λ n. module_at c.args.self.now.version n (version_code c.args.self.now.version) c.args.mask (dark c.args.self.now.unmasked) i j) c.format_code-format.ensures
+    ∙ same_modules c.args.level c.args.mask codewords c.args.self.now of i j hi hj

@@ -6,14 +6,13 @@ use Rattle.vp_qr.proofs.symbol.Grid.of.Goals as goal
 
 pub returns-clause-grid : goal.returns-clause-grid
 returns-clause-grid c = record {
-  low = c.requires.low;
-  high = c.requires.high;
-  free_is = c.free_rows-free.ensures;
-  patterns_are = c.pattern_rows-patterns.ensures;
-  format_is = c.format_rows-format.ensures;
+  is = record {
+    low = c.requires.low;
+    high = c.requires.high;
+    free_is = c.free_rows-free.ensures;
+    patterns_are = c.pattern_rows-patterns.ensures;
+    format_is = c.format_rows-format.ensures;
+  };
+  unmasked_is = λ (i j : ℕ) (hi : i < size c.args.version) (hj : j < size c.args.version).
+      c.fill.ensures i j hi hj ∙ ap (λ t. t || (not (reserved c.args.version i j) && data_bit c.args.codewords.now (number_of c.args.version i j))) (none_dark i j);
 }
-
-pub returns-clause-unmasked : goal.returns-clause-unmasked
-returns-clause-unmasked c =
-    λ (i j : ℕ) (hi : i < size c.args.version) (hj : j < size c.args.version).
-    c.fill.ensures i j hi hj ∙ ap (λ t. t || (not (reserved c.args.version i j) && data_bit c.args.codewords.now (number_of c.args.version i j))) (none_dark i j)
