@@ -3,6 +3,7 @@ use Rattle.std.proofs.Common.{min, ◌≡◌, ℕ, ◌+◌, ◌-◌, ◌<◌, Bo
 use Rattle.std.proofs.lemmas.Bool.Decides.{nat_tests}
 use Rattle.vp_dots.specs.Dots.{span}
 use Rattle.vp_page.specs.declared.area.Area.{Area}
+use Rattle.vp_page.specs.declared.area.Way.TheVariants.{Up, Down}
 use Rattle.vp_page.specs.declared.area.Direction.TheVariants.{LeftToRight, BottomToTop, RightToLeft, TopToBottom}
 use Rattle.vp_page.specs.Layers.{mark_dot, row_mark, times_mark}
 use Rattle.vp_page.specs.Runs.{along_of}
@@ -27,13 +28,13 @@ module _ (ax ay dx dy v x y : ℕ) where
 pub right_same : (a : Area) (v : ℕ) (row : ℕ → Bool) → v < a.dy → (x y : ℕ) → (leb (a.y + v) y && (ltb (y - (a.y + v)) 1 && (leb a.x x && (ltb (x - a.x) a.dx && row (x - a.x))))) ≡ mark_dot (row_mark a LeftToRight v row) x y
 right_same a v row h x y = right_in a.x a.y a.dx a.dy v x y (row (x - a.x)) h
 
-pub up_same : (a : Area) (v : ℕ) (row : ℕ → Bool) → v < a.dx → (x y : ℕ) → (eqb x (a.x + v) && (span a.y (a.y + a.dy) y && row (along_of a true y))) ≡ mark_dot (row_mark a BottomToTop v row) x y
+pub up_same : (a : Area) (v : ℕ) (row : ℕ → Bool) → v < a.dx → (x y : ℕ) → (eqb x (a.x + v) && (span a.y (a.y + a.dy) y && row (along_of a Up y))) ≡ mark_dot (row_mark a BottomToTop v row) x y
 up_same a v row h x y = up_in a.x a.y a.dx a.dy v x y (row (a.y + a.dy - 1 - y)) h
 
 pub left_same : (a : Area) (v : ℕ) (row : ℕ → Bool) → v < a.dy → (x y : ℕ) → (leb (a.y + a.dy - 1 - v) y && (ltb (y - (a.y + a.dy - 1 - v)) 1 && (ltb x (a.x + a.dx) && (ltb (a.x + a.dx - 1 - x) a.dx && row (a.x + a.dx - 1 - x))))) ≡ mark_dot (row_mark a RightToLeft v row) x y
 left_same a v row h x y = left_in a.x a.y a.dx a.dy v x y (row (a.x + a.dx - 1 - x)) h
 
-pub down_same : (a : Area) (v : ℕ) (row : ℕ → Bool) → v < a.dx → (x y : ℕ) → (eqb x (a.x + a.dx - 1 - v) && (span a.y (a.y + a.dy) y && row (along_of a false y))) ≡ mark_dot (row_mark a TopToBottom v row) x y
+pub down_same : (a : Area) (v : ℕ) (row : ℕ → Bool) → v < a.dx → (x y : ℕ) → (eqb x (a.x + a.dx - 1 - v) && (span a.y (a.y + a.dy) y && row (along_of a Down y))) ≡ mark_dot (row_mark a TopToBottom v row) x y
 down_same a v row h x y = down_in a.x a.y a.dx a.dy v x y (row (y - a.y)) h
 
 -- a row laid many times along the page

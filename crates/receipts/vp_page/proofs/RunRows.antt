@@ -8,8 +8,10 @@ use Rattle.vp_dots.specs.Painting.{Painted}
 use Rattle.vp_dots.specs.declared.Op.TheVariants.{Black}
 use Rattle.vp_page.specs.Areas.{depth, holds}
 use Rattle.vp_page.specs.Layers.{mark_dot}
-use Rattle.vp_page.specs.Runs.{across, across_dot, along_of, between, depth_of}
+use Rattle.vp_page.specs.Runs.{across, across_dot, along_of, between, depth_of, topmost}
 use Rattle.vp_page.specs.declared.area.Area.{Area}
+use Rattle.vp_page.specs.declared.area.Way.{Way}
+use Rattle.vp_page.specs.declared.area.Way.TheVariants.{Up, Down}
 use Rattle.vp_page.proofs.Blank.{dot_white}
 use Rattle.vp_page.proofs.PageRows.{on_white}
 
@@ -61,10 +63,10 @@ module _ (ay dy at t y : ℕ) (within : at + t ≤ dy) where
   down_in : (top : ℕ) → top ≡ ay + at → (leb top y && ltb (y - top) t) ≡ ((leb ay y && ltb y (ay + dy)) && span at (at + t) (y - ay))
   down_in top e = grind (arith, nat_tests)
 
-pub run_in : (a : Area) (up : Bool) (at t y top : ℕ) → at + t ≤ a.dy → top ≡ cond up (a.y + a.dy - at - t) (a.y + at)
-    → (leb top y && ltb (y - top) t) ≡ ((leb a.y y && ltb y (a.y + a.dy)) && span at (at + t) (along_of a up y))
-run_in a true at t y top h e = up_in a.y a.dy at t y h top e
-run_in a false at t y top h e = down_in a.y a.dy at t y h top e
+pub run_in : (a : Area) (way : Way) (at t y top : ℕ) → at + t ≤ a.dy → top ≡ topmost a way at t
+    → (leb top y && ltb (y - top) t) ≡ ((leb a.y y && ltb y (a.y + a.dy)) && span at (at + t) (along_of a way y))
+run_in a Up at t y top h e = up_in a.y a.dy at t y h top e
+run_in a Down at t y top h e = down_in a.y a.dy at t y h top e
 
 assoc : (p q r : Bool) → (p && (q && r)) ≡ ((p && q) && r)
 assoc true q r = refl
@@ -82,18 +84,18 @@ more_rows hx hy true v u from at t al f e = elim (cases_lt al at) [
 ]
 
 -- one more run of rows
-pub run_more : (a : Area) (up : Bool) (from at t top b0 bn : ℕ) (ink : ℕ → ℕ → Bool) (x y : ℕ) → from ≤ at → at + t ≤ a.dy → top ≡ cond up (a.y + a.dy - at - t) (a.y + at)
+pub run_more : (a : Area) (way : Way) (from at t top b0 bn : ℕ) (ink : ℕ → ℕ → Bool) (x y : ℕ) → from ≤ at → at + t ≤ a.dy → top ≡ topmost a way at t
     → ((u w : ℕ) → at ≤ u → u < at + t → b0 ≤ w → w < bn → ink u w ≡ ink at w)
-    → (span from (at + t) (along_of a up y) && across_dot a up b0 bn ink x y)
-    ≡ ((span from at (along_of a up y) && across_dot a up b0 bn ink x y)
-    || (leb top y && (ltb (y - top) t && (span a.x (a.x + a.dx) x && (span b0 bn (depth_of a up x) && ink at (depth_of a up x))))))
-run_more a up from at t top b0 bn ink x y f h e same =
-    let w = depth_of a up x in
-    let al = along_of a up y in
+    → (span from (at + t) (along_of a way y) && across_dot a way b0 bn ink x y)
+    ≡ ((span from at (along_of a way y) && across_dot a way b0 bn ink x y)
+    || (leb top y && (ltb (y - top) t && (span a.x (a.x + a.dx) x && (span b0 bn (depth_of a way x) && ink at (depth_of a way x))))))
+run_more a way from at t top b0 bn ink x y f h e same =
+    let w = depth_of a way x in
+    let al = along_of a way y in
     more_rows (span a.x (a.x + a.dx) x) (leb a.y y && ltb y (a.y + a.dy)) (span b0 bn w) (ink al w) (ink at w) from at t al f
     (λ i l m. let p = and_parts _ _ i in same al w l m (leb-true _ _ p.0) (ltb-true _ _ p.1))
-    ∙ ap (λ r. (span from at al && across_dot a up b0 bn ink x y) || (r && (span a.x (a.x + a.dx) x && (span b0 bn w && ink at w)))) (sym (run_in a up at t y top h e))
-    ∙ ap (λ r. (span from at al && across_dot a up b0 bn ink x y) || r) (sym (assoc (leb top y) (ltb (y - top) t) _))
+    ∙ ap (λ r. (span from at al && across_dot a way b0 bn ink x y) || (r && (span a.x (a.x + a.dx) x && (span b0 bn w && ink at w)))) (sym (run_in a way at t y top h e))
+    ∙ ap (λ r. (span from at al && across_dot a way b0 bn ink x y) || r) (sym (assoc (leb top y) (ltb (y - top) t) _))
 
 -- one more stretch of the lines
 pub stretch_more : (from to next al : ℕ) (b : Bool) → from ≤ to → to ≤ next → (span from next al && b) ≡ ((span from to al && b) || (span to next al && b))
@@ -106,9 +108,9 @@ up_along ay dy y e = grind (arith, nat_tests)
 down_along : (ay dy y : ℕ) → (leb ay y && ltb y (ay + dy)) ≡ true → y - ay < dy
 down_along ay dy y e = grind (arith, nat_tests)
 
-short_of : (a : Area) (up : Bool) (y : ℕ) → (leb a.y y && ltb y (a.y + a.dy)) ≡ true → along_of a up y < a.dy
-short_of a true y e = up_along a.y a.dy y e
-short_of a false y e = down_along a.y a.dy y e
+short_of : (a : Area) (way : Way) (y : ℕ) → (leb a.y y && ltb y (a.y + a.dy)) ≡ true → along_of a way y < a.dy
+short_of a Up y e = up_along a.y a.dy y e
+short_of a Down y e = down_along a.y a.dy y e
 
 all_in : (hx hy s v : Bool) (high long al : ℕ) → (hy ≡ true → (al < high → al < long) × (high ≤ al → long ≤ al)) → (span 0 high al && (hx && hy && (s && v))) ≡ (hx && hy && (s && (ltb al long && v)))
 all_in hx false s v high long al e = grind (arith, nat_tests)
@@ -118,11 +120,11 @@ all_in hx true s v high long al e = elim (cases_lt al high) [
 ]
 
 -- after the last one
-pub all_stretches : (a : Area) (up : Bool) (long high b0 bn : ℕ) (ink : ℕ → ℕ → Bool) (x y : ℕ) → high ≡ min a.dy long
-    → (span 0 high (along_of a up y) && across_dot a up b0 bn ink x y) ≡ across_dot a up b0 bn (λ u w. ltb u long && ink u w) x y
-all_stretches a up long high b0 bn ink x y e =
-    all_in (span a.x (a.x + a.dx) x) (leb a.y y && ltb y (a.y + a.dy)) (span b0 bn (depth_of a up x)) (ink (along_of a up y) (depth_of a up x)) high long (along_of a up y)
-    (λ i. let s = short_of a up y i in ((λ l. omega (arith, s, l, e)), (λ g. omega (arith, s, g, e))))
+pub all_stretches : (a : Area) (way : Way) (long high b0 bn : ℕ) (ink : ℕ → ℕ → Bool) (x y : ℕ) → high ≡ min a.dy long
+    → (span 0 high (along_of a way y) && across_dot a way b0 bn ink x y) ≡ across_dot a way b0 bn (λ u w. ltb u long && ink u w) x y
+all_stretches a way long high b0 bn ink x y e =
+    all_in (span a.x (a.x + a.dx) x) (leb a.y y && ltb y (a.y + a.dy)) (span b0 bn (depth_of a way x)) (ink (along_of a way y) (depth_of a way x)) high long (along_of a way y)
+    (λ i. let s = short_of a way y i in ((λ l. omega (arith, s, l, e)), (λ g. omega (arith, s, g, e))))
 
 -- the line of each depth, where they rise
 pub run_of : List ℕ → ℕ → ℕ → ℕ
@@ -165,16 +167,16 @@ short_ink long b u e = elim (cases_lt u long) [
 ]
 
 -- ink between two depths, as a mark
-pub between_dot : (a : Area) (up : Bool) (long from to : ℕ) (ink : ℕ → ℕ → Bool) (x y : ℕ) → ((u w : ℕ) → long ≤ u → ink u w ≡ false)
-    → across_dot a up from to (λ u w. ltb u long && ink u w) x y ≡ mark_dot (between a (across up) from to ink) x y
-between_dot a true long from to ink x y white = ap (λ b. holds a x y && (span from to (x - a.x) && b)) (short_ink long (ink (a.y + a.dy - 1 - y) (x - a.x)) (a.y + a.dy - 1 - y) (white (a.y + a.dy - 1 - y) (x - a.x)))
+pub between_dot : (a : Area) (way : Way) (long from to : ℕ) (ink : ℕ → ℕ → Bool) (x y : ℕ) → ((u w : ℕ) → long ≤ u → ink u w ≡ false)
+    → across_dot a way from to (λ u w. ltb u long && ink u w) x y ≡ mark_dot (between a (across way) from to ink) x y
+between_dot a Up long from to ink x y white = ap (λ b. holds a x y && (span from to (x - a.x) && b)) (short_ink long (ink (a.y + a.dy - 1 - y) (x - a.x)) (a.y + a.dy - 1 - y) (white (a.y + a.dy - 1 - y) (x - a.x)))
     ∙ ap (λ b. holds a x y && b) (span_between from to (x - a.x) (ink (a.y + a.dy - 1 - y)))
-between_dot a false long from to ink x y white = ap (λ b. holds a x y && (span from to (a.x + a.dx - 1 - x) && b)) (short_ink long (ink (y - a.y) (a.x + a.dx - 1 - x)) (y - a.y) (white (y - a.y) (a.x + a.dx - 1 - x)))
+between_dot a Down long from to ink x y white = ap (λ b. holds a x y && (span from to (a.x + a.dx - 1 - x) && b)) (short_ink long (ink (y - a.y) (a.x + a.dx - 1 - x)) (y - a.y) (white (y - a.y) (a.x + a.dx - 1 - x)))
     ∙ ap (λ b. holds a x y && b) (span_between from to (a.x + a.dx - 1 - x) (ink (y - a.y)))
 
-pub deep_across : (a : Area) (up : Bool) → depth a (across up) ≡ a.dx
-deep_across a true = refl
-deep_across a false = refl
+pub deep_across : (a : Area) (way : Way) → depth a (across way) ≡ a.dx
+deep_across a Up = refl
+deep_across a Down = refl
 
 -- a dot of ink falls on the rows of the area
 pub in_area : (a : Area) (x y : ℕ) (b : Bool) → (holds a x y && b) ≡ true → span a.y (a.y + a.dy) y ≡ true

@@ -1,23 +1,33 @@
 -- Lines of which each is laid across the page many times.
-use Rattle.std.specs.Prelude.{◌≤◌, ◌<◌, ℕ, ◌+◌, ◌-◌, nat_lt, Bool, ◌&&◌, if◌then◌else◌, List, slice_index}
+use Rattle.std.specs.Prelude.{◌≤◌, ◌<◌, ℕ, ◌+◌, ◌-◌, nat_lt, Bool, ◌&&◌, List, slice_index}
 use Rattle.vp_dots.specs.Dots.{span}
 use Rattle.vp_page.specs.declared.area.Area.{Area}
 use Rattle.vp_page.specs.declared.area.Direction.{Direction}
 use Rattle.vp_page.specs.declared.area.Direction.TheVariants.{BottomToTop, TopToBottom}
+use Rattle.vp_page.specs.declared.area.Way.{Way}
+use Rattle.vp_page.specs.declared.area.Way.TheVariants.{Up, Down}
 use Rattle.vp_page.specs.Areas.{holds}
 use Rattle.vp_page.specs.Layers.{Mark}
 
 -- how deep the column x lies in an area with lines that run up, or down
-abbrev pub depth_of : Area → Bool → ℕ → ℕ
-depth_of a up x = if up then x - a.x else a.x + a.dx - 1 - x
+abbrev pub depth_of : Area → Way → ℕ → ℕ
+depth_of a Up x = x - a.x
+depth_of a Down x = a.x + a.dx - 1 - x
 
 -- and how far along the line the row y
-abbrev pub along_of : Area → Bool → ℕ → ℕ
-along_of a up y = if up then a.y + a.dy - 1 - y else y - a.y
+abbrev pub along_of : Area → Way → ℕ → ℕ
+along_of a Up y = a.y + a.dy - 1 - y
+along_of a Down y = y - a.y
+
+-- the uppermost row of n dots of a line, from one on
+abbrev pub topmost : Area → Way → ℕ → ℕ → ℕ
+topmost a Up u n = a.y + a.dy - u - n
+topmost a Down u n = a.y + u
 
 -- the dot at (x, y) of ink that is laid between two depths of an area
-abbrev pub across_dot : Area → Bool → ℕ → ℕ → (ℕ → ℕ → Bool) → ℕ → ℕ → Bool
-across_dot a up from to ink x y = holds a x y && (span from to (depth_of a up x) && ink (along_of a up y) (depth_of a up x))
+abbrev pub across_dot : Area → Way → ℕ → ℕ → (ℕ → ℕ → Bool) → ℕ → ℕ → Bool
+across_dot a way from to ink x y =
+    holds a x y && (span from to (depth_of a way x) && ink (along_of a way y) (depth_of a way x))
 
 -- n lines begin at rising depths, none of which is past the end
 pub record AreRuns (begins : List ℕ) (n end : ℕ) : Type 0 where
@@ -27,8 +37,9 @@ pub record AreRuns (begins : List ℕ) (n end : ℕ) : Type 0 where
   pub from_first : (i : ℕ) → i ≤ n → slice_index begins 0 ≤ slice_index begins i
 
 -- where lines run up, or down
-abbrev pub across : Bool → Direction
-across up = if up then BottomToTop else TopToBottom
+abbrev pub across : Way → Direction
+across Up = BottomToTop
+across Down = TopToBottom
 
 -- ink that is laid between two depths of an area
 abbrev pub between : Area → Direction → ℕ → ℕ → (ℕ → ℕ → Bool) → Mark

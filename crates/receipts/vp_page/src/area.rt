@@ -10,6 +10,13 @@ pub enum Direction {
     TopToBottom,
 }
 
+/// Which way lines run across the rows of the page.
+#[derive(Clone, Copy)]
+pub(crate) enum Way {
+    Up,
+    Down,
+}
+
 /// ESC W: a part of the page, in dots: its upper left place, its width and its height.
 #[derive(Clone, Copy, Debug, PartialEq, Eq)]
 pub struct Area {
@@ -23,13 +30,12 @@ impl Direction {
     ghost use Rattle.vp_page.specs.Runs.{across};
 
     /// That of lines that run up, or down.
-    pub(crate) fn across(up: bool) -> Direction
-        ensures { result ≡ across up }
+    pub(crate) fn across(way: Way) -> Direction
+        ensures { result ≡ across way }
     {
-        if up {
-            Direction::BottomToTop
-        } else {
-            Direction::TopToBottom
+        match way {
+            Way::Up => Direction::BottomToTop,
+            Way::Down => Direction::TopToBottom,
         }
     }
 }

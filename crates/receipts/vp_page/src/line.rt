@@ -10,8 +10,8 @@ ghost use Rattle.vp_dots.specs.declared.Op.TheVariants.{Black, White};
 ghost use Rattle.vp_page.specs.Areas.{holds};
 ghost use Rattle.vp_page.specs.Runs.{along_of};
 
-use crate::Area;
 use crate::across::AT_ONCE;
+use crate::area::{Area, Way};
 use crate::page::{PAGE_ROWS, PAPER_BYTES, PageBand};
 use crate::white::Rows;
 use std::simd::{u8x8, u8x16, u8x64};
@@ -128,11 +128,14 @@ fn lay_dot_of(line: &[u8], u: usize, x: usize, row: &mut [u8])
 
 /// How far along a line that runs up, or down, the row of the page lies that is i below the area's top.
 #[inline(always)]
-fn along(area: Area, up: bool, i: usize) -> usize
+fn along(area: Area, way: Way, i: usize) -> usize
     requires { i < area.dy }
-    ensures { result ≡ along_of area up (area.y + i) }
+    ensures { result ≡ along_of area way (area.y + i) }
 {
-    if up { area.dy as usize - 1 - i } else { i }
+    match way {
+        Way::Up => area.dy as usize - 1 - i,
+        Way::Down => i,
+    }
 }
 
 /// Blackens column x of the page where the line, up from the area's lower edge or down from its top, has ink.
@@ -140,18 +143,18 @@ fn along(area: Area, up: bool, i: usize) -> usize
 pub(crate) fn lay_column<A: Small>(
     line: &[u8; LINE_BYTES],
     area: Area,
-    up: bool,
+    way: Way,
     x: usize,
     band: &mut PageBand<A>,
 )
     ensures { RowsPainted PAGE_ROWS Black
-        (λ d k. nat_eq d x && (span area.y (area.y + area.dy) k && dot line.now (along_of area up k)))
+        (λ d k. nat_eq d x && (span area.y (area.y + area.dy) k && dot line.now (along_of area way k)))
         band.old band.new }
 {
     let top = area.y as usize;
     let rows = PAGE_ROWS.saturating_sub(top).min(area.dy as usize);
     for i in 0..rows {
-        lay_dot_of(line, along(area, up, i), x, band.row_mut(top + i));
+        lay_dot_of(line, along(area, way, i), x, band.row_mut(top + i));
     }
 }
 

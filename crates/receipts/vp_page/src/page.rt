@@ -10,13 +10,13 @@ ghost use Rattle.vp_page.specs.declared.page.TheConstants.{PAPER_BYTES, PAPER_DO
 
 use crate::across::{AT_ONCE, lay_lines_down, lay_lines_up};
 use crate::along::{lay_left, lay_right};
+use crate::area::{Area, Direction, Way};
 use crate::line::{
     LINE_BYTES, LINE_DOTS, alone, draw_lines, drawn, lay_column, lengthened, same_lines, whiten,
 };
 use crate::runs::{Begins, draw_runs, lay_runs};
 use crate::white::Rows;
 use crate::words::{lay_whole, lay_whole_back};
-use crate::{Area, Direction};
 use std::alloc::{AllocError, Global};
 use std::marker::Model;
 use vp_dots::{Band, Ink, SIDE, Small, dots_decide};
@@ -180,14 +180,14 @@ impl<A: Small> Page<A> {
             }
             Direction::BottomToTop => {
                 let line = lengthened(row);
-                lay_column(&line, area, true, area.x as usize + v, &mut self.band)
+                lay_column(&line, area, Way::Up, area.x as usize + v, &mut self.band)
             }
             Direction::RightToLeft => {
                 lay_left(&lengthened(row), 1, area, below - 1 - v, &mut self.band)
             }
             Direction::TopToBottom => {
                 let line = lengthened(row);
-                lay_column(&line, area, false, right - 1 - v, &mut self.band)
+                lay_column(&line, area, Way::Down, right - 1 - v, &mut self.band)
             }
         }
     }
@@ -413,8 +413,8 @@ impl<A: Small> Page<A> {
             Direction::LeftToRight | Direction::RightToLeft => {
                 self.lay_along(ink, area, direction, top)
             }
-            Direction::BottomToTop => self.lay_across(ink, area, true, top),
-            Direction::TopToBottom => self.lay_across(ink, area, false, top),
+            Direction::BottomToTop => self.lay_across(ink, area, Way::Up, top),
+            Direction::TopToBottom => self.lay_across(ink, area, Way::Down, top),
         }
     }
 
@@ -446,7 +446,7 @@ impl<A: Small> Page<A> {
     fn lay_runs(
         &mut self,
         area: Area,
-        up: bool,
+        way: Way,
         lines: &[[u8; LINE_BYTES]],
         begins: &Begins,
         long: u32,
@@ -457,30 +457,30 @@ impl<A: Small> Page<A> {
             slice_index begins.now i ≤ w → w < slice_index begins.now (i + 1) →
             line_dot lines.now i u ≡ ink u w) → ((u w : ℕ) → long ≤ u → ink u w ≡ false) →
             (layers : List Layer) → HasPage layers self.old →
-            HasPage (Laid (between area (across up) (slice_index begins.now 0)
+            HasPage (Laid (between area (across way) (slice_index begins.now 0)
             (slice_index begins.now (length lines.now)) ink) ∷ layers) self.new }
     {
         let rows = begins[lines.len()] - begins[0];
         self.laid = self.laid.with(Rows::of(area));
         self.rows_laid = self.rows_laid.saturating_add(u64::from(rows));
-        lay_runs(lines, begins, long, area, up, &mut self.band);
+        lay_runs(lines, begins, long, area, way, &mut self.band);
     }
 
     /// Lays an image upward or downward: of lines that are known to be alike one, and the others as many at
     /// once as go.
-    fn lay_across<I: Ink>(&mut self, ink: &I, area: Area, up: bool, top: u32)
+    fn lay_across<I: Ink>(&mut self, ink: &I, area: Area, way: Way, top: u32)
         requires { I.width ink.now ≤ LINE_DOTS }
         ensures { (layers : List Layer) → HasPage layers self.old →
             HasPage (Laid (record {
               area = area;
-              direction = across up;
+              direction = across way;
               top = top;
               high = I.height ink.now;
               dot = I.ink_at ink.now;
             }) ∷ layers) self.new }
     {
         let (width, height) = ink.size();
-        let direction = Direction::across(up);
+        let direction = Direction::across(way);
         let high = height.min(u32::from(area.dx).saturating_sub(top));
         let mut room = [[0; LINE_BYTES]; AT_ONCE];
         let mut begins = [0; SIDE + 1];
@@ -488,7 +488,7 @@ impl<A: Small> Page<A> {
         while line < high {
             let n = draw_runs(ink, line, high, top, &mut room, &mut begins);
             if n > 0 {
-                self.lay_runs(area, up, &room[..n], &begins, width);
+                self.lay_runs(area, way, &room[..n], &begins, width);
                 line = begins[n] - top;
             } else {
                 let few = alone(ink, line, high);

@@ -1,7 +1,7 @@
 //! Lines of which each is laid across the page many times, one beside the other: squares of as many lines as
 //! a word has dots are turned, and of the page's rows that come out each different one is made once, and laid
 //! as often as it stands.
-ghost use Rattle.std.specs.Prelude.{◌≡◌, ℕ, Bool, true, false, ◌+◌, ◌-◌, ◌*◌, ◌<◌, ◌≤◌, ◌^◌, ◌&&◌, nat_lt, List, [], length, slice_index, slice_index_or, if◌then◌else◌};
+ghost use Rattle.std.specs.Prelude.{◌≡◌, ℕ, Bool, true, false, ◌+◌, ◌-◌, ◌*◌, ◌<◌, ◌≤◌, ◌^◌, ◌&&◌, nat_lt, List, [], length, slice_index, slice_index_or};
 ghost use Rattle.vp_dots.specs.Dots.{dot, span};
 ghost use Rattle.vp_dots.specs.Words.{word_dot};
 ghost use Rattle.vp_dots.specs.Painting.{Painted};
@@ -9,13 +9,13 @@ ghost use Rattle.vp_dots.specs.Places.{RowsPainted};
 ghost use Rattle.vp_dots.specs.declared.Op.TheVariants.{Black};
 ghost use Rattle.vp_dots.specs.declared.square.TheConstants.{SIDE};
 ghost use Rattle.vp_page.specs.Lines.{line_dot};
-ghost use Rattle.vp_page.specs.Runs.{AreRuns, across_dot, along_of, depth_of};
+ghost use Rattle.vp_page.specs.Runs.{AreRuns, across_dot, along_of, depth_of, topmost};
 ghost use Rattle.vp_page.specs.declared.line.TheConstants.{LINE_DOTS};
 ghost use Rattle.vp_page.specs.declared.page.TheConstants.{PAGE_ROWS, PAPER_DOTS};
 
-use crate::Area;
 use crate::across::square_from;
 use crate::along::lay_times;
+use crate::area::{Area, Way};
 use crate::line::{LINE_BYTES, drawn};
 use crate::page::{PAPER_BYTES, PageBand};
 use vp_dots::{Ink, NARROW, Op, SIDE, Small, fill_dots, first_dots, paint_narrow, turned_square};
@@ -73,21 +73,21 @@ fn is_black(word: u64, i: u32) -> bool
 
 /// The columns of an area between two depths, of lines that run up or down.
 #[inline(always)]
-fn columns(area: Area, up: bool, from: u32, to: u32) -> (u64, u64)
+fn columns(area: Area, way: Way, from: u32, to: u32) -> (u64, u64)
     requires some { from ≤ to }
     requires deep { to ≤ area.dx }
     ensures dots { (x : ℕ) → span result.0 result.1 x ≡
-        (span area.x (area.x + area.dx) x && span from to (depth_of area up x)) }
+        (span area.x (area.x + area.dx) x && span from to (depth_of area way x)) }
     ensures some { result.0 ≤ result.1 }
     ensures near { result.1 < 2 ^ 32 }
 {
     let (from, to) = (u64::from(from), u64::from(to));
     let left = u64::from(area.x);
-    if up {
-        return (left + from, left + to);
-    }
     let right = left + u64::from(area.dx);
-    (right - to, right - from)
+    match way {
+        Way::Up => (left + from, left + to),
+        Way::Down => (right - to, right - from),
+    }
 }
 
 /// Blackens the dots from one to another, which mostly are few.
@@ -111,18 +111,18 @@ fn blacken(from: u64, to: u64, row: &mut [u8])
 
 /// The row of the page on which each of the first n dots of a word stands from the depth on at which its line
 /// begins.
-fn spread(word: u64, begins: &Begins, n: usize, area: Area, up: bool) -> [u8; PAPER_BYTES]
+fn spread(word: u64, begins: &Begins, n: usize, area: Area, way: Way) -> [u8; PAPER_BYTES]
     requires runs { AreRuns begins.now n area.dx }
     ensures { (ink : ℕ → Bool) → ((i w : ℕ) → i < n → slice_index begins.now i ≤ w →
         w < slice_index begins.now (i + 1) → word_dot word i ≡ ink w) → (x : ℕ) → x < PAPER_DOTS →
         dot result x ≡ (span area.x (area.x + area.dx) x
-        && (span (slice_index begins.now 0) (slice_index begins.now n) (depth_of area up x)
-        && ink (depth_of area up x))) }
+        && (span (slice_index begins.now 0) (slice_index begins.now n) (depth_of area way x)
+        && ink (depth_of area way x))) }
 {
     let mut row = [0; PAPER_BYTES];
     for i in 0..n {
         if is_black(word, i as u32) {
-            let (from, to) = columns(area, up, begins[i], begins[i + 1]);
+            let (from, to) = columns(area, way, begins[i], begins[i + 1]);
             blacken(from, to, &mut row);
         }
     }
@@ -148,14 +148,13 @@ fn alike(words: &[u64; SIDE], from: usize, to: usize) -> usize
 
 /// The uppermost of the page's rows on which dots of lines stand, from one dot on.
 #[inline(always)]
-fn top_of(area: Area, up: bool, first: usize, dots: usize) -> usize
+fn top_of(area: Area, way: Way, first: usize, dots: usize) -> usize
     requires { first + dots ≤ area.dy }
-    ensures { result ≡ (if up then area.y + area.dy - first - dots else area.y + first) }
+    ensures { result ≡ topmost area way first dots }
 {
-    if up {
-        area.y as usize + area.dy as usize - first - dots
-    } else {
-        area.y as usize + first
+    match way {
+        Way::Up => area.y as usize + area.dy as usize - first - dots,
+        Way::Down => area.y as usize + first,
     }
 }
 
@@ -168,7 +167,7 @@ fn lay_words<A: Small>(
     begins: &Begins,
     n: usize,
     area: Area,
-    up: bool,
+    way: Way,
     band: &mut PageBand<A>,
 )
     requires runs { AreRuns begins.now n area.dx }
@@ -176,16 +175,16 @@ fn lay_words<A: Small>(
     requires long { at + rows ≤ area.dy }
     ensures { (ink : ℕ → ℕ → Bool) → ((i j w : ℕ) → i < n → j < rows → slice_index begins.now i ≤ w →
         w < slice_index begins.now (i + 1) → word_dot (slice_index words.now j) i ≡ ink (at + j) w) →
-        RowsPainted PAGE_ROWS Black (λ x y. span at (at + rows) (along_of area up y)
-        && across_dot area up (slice_index begins.now 0) (slice_index begins.now n) ink x y)
+        RowsPainted PAGE_ROWS Black (λ x y. span at (at + rows) (along_of area way y)
+        && across_dot area way (slice_index begins.now 0) (slice_index begins.now n) ink x y)
         band.old band.new }
 {
     let rows = rows as usize;
     let mut j = 0;
     while j < rows {
         let times = alike(words, j, rows);
-        let row = spread(words[j], begins, n, area, up);
-        let top = top_of(area, up, at as usize + j, times);
+        let row = spread(words[j], begins, n, area, way);
+        let top = top_of(area, way, at as usize + j, times);
         lay_times(&row, times, top, band);
         j += times;
     }
@@ -198,14 +197,14 @@ pub(crate) fn lay_runs<A: Small>(
     begins: &Begins,
     long: u32,
     area: Area,
-    up: bool,
+    way: Way,
     band: &mut PageBand<A>,
 )
     requires few { length lines.now ≤ SIDE }
     requires runs { AreRuns begins.now (length lines.now) area.dx }
     ensures { (ink : ℕ → ℕ → Bool) → ((i u w : ℕ) → i < length lines.now → slice_index begins.now i ≤ w →
         w < slice_index begins.now (i + 1) → line_dot lines.now i u ≡ ink u w) →
-        RowsPainted PAGE_ROWS Black (across_dot area up (slice_index begins.now 0)
+        RowsPainted PAGE_ROWS Black (across_dot area way (slice_index begins.now 0)
         (slice_index begins.now (length lines.now)) (λ u w. nat_lt u long && ink u w)) band.old band.new }
 {
     let high = u32::from(area.dy).min(long);
@@ -219,7 +218,7 @@ pub(crate) fn lay_runs<A: Small>(
             begins,
             lines.len(),
             area,
-            up,
+            way,
             band,
         );
     }

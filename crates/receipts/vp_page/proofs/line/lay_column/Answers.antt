@@ -10,13 +10,13 @@ use Rattle.vp_page.proofs.line.lay_column.Goals as goal
 pub loop-i-init : goal.loop-i-init
 loop-i-init g c =
     let a = c.args.area in
-    let ink : ℕ → ℕ → Bool = λ d k. eqb d c.args.x && (span a.y (a.y + a.dy) k && dot c.args.line.now (along_of a c.args.up k)) in
+    let ink : ℕ → ℕ → Bool = λ d k. eqb d c.args.x && (span a.y (a.y + a.dy) k && dot c.args.line.now (along_of a c.args.way k)) in
     rows_init 1664 Black ink _ c.args.band.now (λ d k h. no_column a.y a.dy k _ _ (λ p q. omega (arith, h)))
 
 pub loop-i-preserved : goal.loop-i-preserved
 loop-i-preserved g c =
     let a = c.args.area in
-    let ink : ℕ → ℕ → Bool = λ d k. eqb d c.args.x && (span a.y (a.y + a.dy) k && dot c.args.line.now (along_of a c.args.up k)) in
+    let ink : ℕ → ℕ → Bool = λ d k. eqb d c.args.x && (span a.y (a.y + a.dy) k && dot c.args.line.now (along_of a c.args.way k)) in
     let y = a.y + c.loop-i.i in
     let next : a.y + (c.loop-i.i + 1) ≡ y + 1 = omega arith in
     rw next (rows_more 1664 Black ink y _ _ _ (omega (arith, c.row_mut.ensures.rows)) (omega (arith, c.min-rows.ensures)) c.loop-i.invariant
@@ -26,5 +26,5 @@ loop-i-preserved g c =
 pub returns : goal.returns
 returns g c =
     let a = c.args.area in
-    let ink : ℕ → ℕ → Bool = λ d k. eqb d c.args.x && (span a.y (a.y + a.dy) k && dot c.args.line.now (along_of a c.args.up k)) in
+    let ink : ℕ → ℕ → Bool = λ d k. eqb d c.args.x && (span a.y (a.y + a.dy) k && dot c.args.line.now (along_of a c.args.way k)) in
     rows_all 1664 Black ink _ c.args.band.now c.loop-i.band (λ d k h l. no_column a.y a.dy k _ _ (λ p q. omega (arith, h, c.min-rows.ensures, l))) c.loop-i.invariant

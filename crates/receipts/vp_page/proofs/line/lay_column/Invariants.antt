@@ -9,4 +9,4 @@ use Rattle.vp_page.proofs.line.lay_column.Given as goal
 abbrev pub invariant-loop-i : goal.invariant-loop-i
 invariant-loop-i g l =
     let a = l.fn.area in
-    RowsPainted 1664 Black (λ d k. ltb k (l.top + l.i) && (eqb d l.fn.x && (span a.y (a.y + a.dy) k && dot l.fn.line (along_of a l.fn.up k)))) l.fn.band l.band
+    RowsPainted 1664 Black (λ d k. ltb k (l.top + l.i) && (eqb d l.fn.x && (span a.y (a.y + a.dy) k && dot l.fn.line (along_of a l.fn.way k)))) l.fn.band l.band

@@ -7,7 +7,7 @@ use Rattle.vp_page.proofs.runs.lay_words.Goals as goal
 pub loop-j-preserved : goal.loop-j-preserved
 loop-j-preserved g c =
     let a = c.args.area in
-    let up = c.args.up in
+    let way = c.args.way in
     let begins = c.args.begins.now in
     let words = c.args.words.now in
     let n = c.args.n in
@@ -26,7 +26,7 @@ loop-j-preserved g c =
           ∙ ap (λ v. word_dot v f.0) (c.alike-times.ensures.same s (omega (arith, p, q)))
           ∙ same f.0 j w f.1 c.loop-j-test.true f.2 f.3) in
           rw next (rows_then _ _ _ _ _ _
-          (λ x y. run_more a up at (at + j) t c.top_of-top.result (get_or begins 0 0) (get_or begins n 0) ink x y (omega arith) (omega (arith, c.alike-times.ensures.within, c.requires.long)) c.top_of-top.ensures one)
+          (λ x y. run_more a way at (at + j) t c.top_of-top.result (get_or begins 0 0) (get_or begins n 0) ink x y (omega arith) (omega (arith, c.alike-times.ensures.within, c.requires.long)) c.top_of-top.ensures one)
           (c.loop-j.invariant.laid ink same)
           (c.lay_times.ensures _ (c.spread-row.ensures (ink (at + j)) (λ i w h p q. same i j w h c.loop-j-test.true p q))));
     }

@@ -17,7 +17,7 @@ loop-i-preserved c = λ ink same.
     let bn = get_or begins (i + 1) 0 in
     let from : b0 ≤ bi = c.requires.runs.from_first i (omega (arith, c.loop-i-test.true)) in
     let rise : bi ≤ bn = c.requires.runs.rise i c.loop-i-test.true in
-    let deep : ℕ → ℕ = depth_of a c.args.up in
+    let deep : ℕ → ℕ = depth_of a c.args.way in
     let inside : ℕ → Bool = λ x. span a.x (a.x + a.dx) x in
     elim c.if-is_black.branch [
       | then-is_black w ↦ rw w.row-is (painted_then Black _ _ _ _ _ _ (c.loop-i.invariant ink same) (painted_same Black _ _ _ _ (λ d l. w.columns-from.ensures.dots d) w.blacken.ensures)

@@ -9,4 +9,4 @@ use Rattle.vp_page.proofs.runs.spread.Given as goal
 -- the lines before this one are done
 abbrev pub invariant-loop-i : goal.invariant-loop-i
 invariant-loop-i l = (ink : ℕ → Bool) → ((i w : ℕ) → i < l.n → get_or l.begins i 0 ≤ w → w < get_or l.begins (i + 1) 0 → word_dot l.word i ≡ ink w)
-    → Painted Black (λ x. span l.area.x (l.area.x + l.area.dx) x && (span (get_or l.begins 0 0) (get_or l.begins l.i 0) (depth_of l.area l.up x) && ink (depth_of l.area l.up x))) (replicate 72 0) l.row
+    → Painted Black (λ x. span l.area.x (l.area.x + l.area.dx) x && (span (get_or l.begins 0 0) (get_or l.begins l.i 0) (depth_of l.area l.way x) && ink (depth_of l.area l.way x))) (replicate 72 0) l.row

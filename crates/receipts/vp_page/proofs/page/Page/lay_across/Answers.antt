@@ -11,7 +11,7 @@ pub loop-line-preserved-then-n-gt0 : goal.loop-line-preserved-then-n-gt0
 loop-line-preserved-then-n-gt0 g c =
     let ink = g.I.Ink.ink_at c.args.ink.now in
     let width = g.I.Ink.width c.args.ink.now in
-    let m : Mark = record { area = c.args.area; direction = across c.args.up; top = c.args.top; high = g.I.Ink.height c.args.ink.now; dot = ink } in
+    let m : Mark = record { area = c.args.area; direction = across c.args.way; top = c.args.top; high = g.I.Ink.height c.args.ink.now; dot = ink } in
     let d = c.draw_runs-n in
     let lines = d.new.lines in
     let begins = d.new.begins in
@@ -39,7 +39,7 @@ lay_long-requires-clause-white g c = λ i u h. ink_white c.draw_lines.new.lines 
 pub loop-line-preserved : goal.loop-line-preserved
 loop-line-preserved g c =
     let ink = g.I.Ink.ink_at c.args.ink.now in
-    let m : Mark = record { area = c.args.area; direction = across c.args.up; top = c.args.top; high = g.I.Ink.height c.args.ink.now; dot = ink } in
+    let m : Mark = record { area = c.args.area; direction = across c.args.way; top = c.args.top; high = g.I.Ink.height c.args.ink.now; dot = ink } in
     let k = c.loop-line.line in
     let lines = c.draw_lines.new.lines in
     let n = c.alone-few.result in

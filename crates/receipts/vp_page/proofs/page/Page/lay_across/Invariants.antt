@@ -9,7 +9,7 @@ abbrev pub invariant-loop-line : goal.invariant-loop-line
 invariant-loop-line g l = record {
   within : l.line ≤ l.high;
   laid : (layers : List Layer) → HasPage layers l.fn.self
-      → HasPage (Laid (first_rows l.line (record { area = l.fn.area; direction = across l.fn.up; top = l.fn.top; high = g.I.Ink.height l.fn.ink; dot = g.I.Ink.ink_at l.fn.ink })) ∷ layers) l.self;
+      → HasPage (Laid (first_rows l.line (record { area = l.fn.area; direction = across l.fn.way; top = l.fn.top; high = g.I.Ink.height l.fn.ink; dot = g.I.Ink.ink_at l.fn.ink })) ∷ layers) l.self;
 }
 
 abbrev pub decreases-loop-line : goal.decreases-loop-line

@@ -1,9 +1,10 @@
-use Rattle.std.proofs.Common.{◌+◌, ◌-◌, ◌&&◌, true, false, eqb, leb, ltb, ◌<◌, ◌∙◌, ap, refl, sym, subst, arith}
+use Rattle.std.proofs.Common.{◌+◌, ◌-◌, ◌&&◌, eqb, leb, ltb, ◌<◌, ◌∙◌, ap, refl, sym, subst, arith}
 use Rattle.vp_dots.specs.Dots.{dot, span}
 use Rattle.vp_page.specs.Areas.{depth}
 use Rattle.vp_page.specs.Layers.{row_mark}
 use Rattle.vp_page.specs.Pages.{HasPage}
 use Rattle.vp_page.specs.Runs.{along_of}
+use Rattle.vp_page.specs.declared.area.Way.TheVariants.{Up, Down}
 use Rattle.vp_page.specs.declared.area.Direction.TheVariants.{LeftToRight, BottomToTop, RightToLeft, TopToBottom}
 use Rattle.vp_page.proofs.Pages.{laid}
 use Rattle.vp_page.proofs.RowMarks.{right_same, up_same, left_same, down_same}
@@ -32,7 +33,7 @@ invariant_of-self-in-BottomToTop g c =
     let a = c.args.area in
     let row = dot c.args.row.now in
     let deep : c.args.v < a.dx = omega (arith, c.if-v-from.false, c.from.ensures ∙ c.depth.ensures ∙ ap (depth a) c.in-BottomToTop.is) in
-    laid_on _ c.self.inside.laid _ _ c.self.inside.band _ c.self.invariant (rows_same Black _ _ _ _ (λ x k _. ap (λ b. eqb x (a.x + c.args.v) && (span a.y (a.y + a.dy) k && b)) (c.lengthened-line.ensures (along_of a true k))) c.lay_column.ensures) c.with-self-inside.ensures.within c.with-self-inside.ensures.these
+    laid_on _ c.self.inside.laid _ _ c.self.inside.band _ c.self.invariant (rows_same Black _ _ _ _ (λ x k _. ap (λ b. eqb x (a.x + c.args.v) && (span a.y (a.y + a.dy) k && b)) (c.lengthened-line.ensures (along_of a Up k))) c.lay_column.ensures) c.with-self-inside.ensures.within c.with-self-inside.ensures.these
     (λ x y h e. c.with-self-inside.ensures.others y h (rw c.in-BottomToTop.is at c.fallen.ensures row x y (sym (up_same a c.args.v row deep x y) ∙ e)))
 
 pub returns-in-BottomToTop : goal.returns-in-BottomToTop
@@ -40,7 +41,7 @@ returns-in-BottomToTop g c = λ layers page.
     let a = c.args.area in
     let row = dot c.args.row.now in
     let deep : c.args.v < a.dx = omega (arith, c.if-v-from.false, c.from.ensures ∙ c.depth.ensures ∙ ap (depth a) c.in-BottomToTop.is) in
-    rw c.in-BottomToTop.is (laid layers _ _ _ (subst (HasPage layers) (sym c.self.view_is) page) (row_mark a BottomToTop c.args.v row) (λ x y h k. up_same a c.args.v row deep x y) (rows_same Black _ _ _ _ (λ x k _. ap (λ b. eqb x (a.x + c.args.v) && (span a.y (a.y + a.dy) k && b)) (c.lengthened-line.ensures (along_of a true k))) c.lay_column.ensures) (omega (arith, deep, c.saturating_add-self-inside.ensures)) refl)
+    rw c.in-BottomToTop.is (laid layers _ _ _ (subst (HasPage layers) (sym c.self.view_is) page) (row_mark a BottomToTop c.args.v row) (λ x y h k. up_same a c.args.v row deep x y) (rows_same Black _ _ _ _ (λ x k _. ap (λ b. eqb x (a.x + c.args.v) && (span a.y (a.y + a.dy) k && b)) (c.lengthened-line.ensures (along_of a Up k))) c.lay_column.ensures) (omega (arith, deep, c.saturating_add-self-inside.ensures)) refl)
 
 pub invariant_of-self-in-RightToLeft : goal.invariant_of-self-in-RightToLeft
 invariant_of-self-in-RightToLeft g c =
@@ -62,7 +63,7 @@ invariant_of-self-in-TopToBottom g c =
     let a = c.args.area in
     let row = dot c.args.row.now in
     let deep : c.args.v < a.dx = omega (arith, c.if-v-from.false, c.from.ensures ∙ c.depth.ensures ∙ ap (depth a) c.in-TopToBottom.is) in
-    laid_on _ c.self.inside.laid _ _ c.self.inside.band _ c.self.invariant (rows_same Black _ _ _ _ (λ x k _. ap (λ b. eqb x (a.x + a.dx - 1 - c.args.v) && (span a.y (a.y + a.dy) k && b)) (c.lengthened-line-in-TopToBottom.ensures (along_of a false k))) c.lay_column-in-TopToBottom.ensures) c.with-self-inside.ensures.within c.with-self-inside.ensures.these
+    laid_on _ c.self.inside.laid _ _ c.self.inside.band _ c.self.invariant (rows_same Black _ _ _ _ (λ x k _. ap (λ b. eqb x (a.x + a.dx - 1 - c.args.v) && (span a.y (a.y + a.dy) k && b)) (c.lengthened-line-in-TopToBottom.ensures (along_of a Down k))) c.lay_column-in-TopToBottom.ensures) c.with-self-inside.ensures.within c.with-self-inside.ensures.these
     (λ x y h e. c.with-self-inside.ensures.others y h (rw c.in-TopToBottom.is at c.fallen.ensures row x y (sym (down_same a c.args.v row deep x y) ∙ e)))
 
 pub returns-in-TopToBottom : goal.returns-in-TopToBottom
@@ -70,4 +71,4 @@ returns-in-TopToBottom g c = λ layers page.
     let a = c.args.area in
     let row = dot c.args.row.now in
     let deep : c.args.v < a.dx = omega (arith, c.if-v-from.false, c.from.ensures ∙ c.depth.ensures ∙ ap (depth a) c.in-TopToBottom.is) in
-    rw c.in-TopToBottom.is (laid layers _ _ _ (subst (HasPage layers) (sym c.self.view_is) page) (row_mark a TopToBottom c.args.v row) (λ x y h k. down_same a c.args.v row deep x y) (rows_same Black _ _ _ _ (λ x k _. ap (λ b. eqb x (a.x + a.dx - 1 - c.args.v) && (span a.y (a.y + a.dy) k && b)) (c.lengthened-line-in-TopToBottom.ensures (along_of a false k))) c.lay_column-in-TopToBottom.ensures) (omega (arith, deep, c.saturating_add-self-inside.ensures)) refl)
+    rw c.in-TopToBottom.is (laid layers _ _ _ (subst (HasPage layers) (sym c.self.view_is) page) (row_mark a TopToBottom c.args.v row) (λ x y h k. down_same a c.args.v row deep x y) (rows_same Black _ _ _ _ (λ x k _. ap (λ b. eqb x (a.x + a.dx - 1 - c.args.v) && (span a.y (a.y + a.dy) k && b)) (c.lengthened-line-in-TopToBottom.ensures (along_of a Down k))) c.lay_column-in-TopToBottom.ensures) (omega (arith, deep, c.saturating_add-self-inside.ensures)) refl)

@@ -22,10 +22,10 @@ invariant_of-self g c =
 pub returns : goal.returns
 returns g c = λ ink same white layers page.
     let a = c.args.area in
-    let up = c.args.up in
+    let way = c.args.way in
     let begins = c.args.begins.now in
     let n = length c.args.lines.now in
-    laid layers _ _ _ (subst (HasPage layers) (sym c.self.view_is) page) (between a (across up) (get_or begins 0 0) (get_or begins n 0) ink)
-    (λ x y h k. between_dot a up c.args.long (get_or begins 0 0) (get_or begins n 0) ink x y white)
+    laid layers _ _ _ (subst (HasPage layers) (sym c.self.view_is) page) (between a (across way) (get_or begins 0 0) (get_or begins n 0) ink)
+    (λ x y h k. between_dot a way c.args.long (get_or begins 0 0) (get_or begins n 0) ink x y white)
     (c.lay_runs.ensures ink same)
-    (omega (arith, c.saturating_add-self-inside.ensures, c.from.ensures, deep_across a up, c.requires.runs.deep n (omega arith))) refl
+    (omega (arith, c.saturating_add-self-inside.ensures, c.from.ensures, deep_across a way, c.requires.runs.deep n (omega arith))) refl
