@@ -1,8 +1,17 @@
 -- A line of an image, and a line alone that is laid across the page.
-use Rattle.std.proofs.Common.{inl, inr, ◌≡◌, ℕ, ◌+◌, ◌-◌, ◌*◌, ◌<◌, ◌≤◌, Bool, true, false, cond, ◌&&◌, refl, sym, ap, ◌∙◌, arith, List, length, replicate, pos}
+use Rattle.std.proofs.Common.{inl, inr, ◌≡◌, ℕ, ◌+◌, ◌-◌, ◌*◌, ◌<◌, ◌≤◌, min, Bool, true, false, cond, eqb, leb, ltb, ◌&&◌, ◌||◌, refl, sym, ap, ◌∙◌, arith, List, [], length, get_or, replicate, pos}
+use Rattle.std.specs.Int.{bit_at, to_be_bytes, w64}
+use Rattle.std.proofs.lemmas.Bool.Decides.{nat_tests}
+use Rattle.std.proofs.lemmas.Nat.Bits.{bit_at-zero}
 use Rattle.std.proofs.lemmas.List.{length-replicate}
 use Rattle.std.proofs.lemmas.Bool.{cases_lt, false_from_ne_true, lt-ltb, le-ltb, lt-leb, le-leb}
-use Rattle.vp_dots.specs.Dots.{dot, shifted, span}
+use Rattle.vp_dots.specs.Dots.{bit, dot, shifted, span}
+use Rattle.vp_dots.specs.Places.{RowsPainted}
+use Rattle.vp_dots.specs.Words.{word_dot}
+use Rattle.vp_dots.proofs.Paints.{painted_none}
+use Rattle.vp_dots.proofs.Rows.{dot_at}
+use Rattle.vp_dots.proofs.Words.{or_false}
+use Rattle.vp_page.proofs.WordsOnRows.{word_bytes}
 use Rattle.vp_dots.specs.Painting.{Painted}
 use Rattle.vp_dots.specs.declared.Op.TheVariants.{Black}
 use Rattle.vp_page.proofs.Blank.{dot_white}
@@ -35,6 +44,61 @@ no_column ay dy k e b h = elim (cases_lt k ay) [
   ]
 ]
 
--- and on the rows that it has the dots of the line
-pub in_column : (ay dy i : ℕ) (e b c : Bool) → i < dy → b ≡ c → (e && b) ≡ (e && (span ay (ay + dy) (ay + i) && c))
-in_column ay dy i e b c h same = rw (le-leb ay (ay + i) (omega arith), lt-ltb (ay + i) (ay + dy) (omega arith)) (ap (λ t. e && t) same)
+-- a column without a dot
+pub nothing : (f : ℕ → ℕ → Bool) (rows : List (List ℕ)) → ((d k : ℕ) → f d k ≡ false) → RowsPainted 1664 Black f rows rows
+nothing f rows none = record { rows_are = λ k h. painted_none Black _ (get_or rows k []) (λ d l. none d k) }
+
+pub white_byte : (byte top rows k : ℕ) (e : Bool) → byte ≡ 0 → (e && (leb top k && (ltb (k - top) rows && bit byte (7 - (k - top))))) ≡ false
+unfolding bit
+white_byte byte top rows k e z = ap (λ n. e && (leb top k && (ltb (k - top) rows && eqb n 1))) (ap (λ b. bit_at b (7 - (k - top))) z ∙ bit_at-zero (7 - (k - top))) ∙ gone e (leb top k) (ltb (k - top) rows)
+  where
+    gone : (a b c : Bool) → (a && (b && (c && false))) ≡ false
+    gone a b c = rw (and_false c, and_false b) (and_false a)
+
+-- a column of dots from one row on: none above it
+pub no_bit : (top k : ℕ) (e b : Bool) → k < top → (e && (leb top k && b)) ≡ false
+no_bit top k e b h = rw (lt-leb top k h) (and_false e)
+
+-- the dot of one row
+pub bit_row : (byte top i : ℕ) (e : Bool) → (e && bit byte (7 - i)) ≡ (e && (leb top (top + i) && bit byte (7 - (top + i - top))))
+bit_row byte top i e = let at : top + i - top ≡ i = omega arith in rw (le-leb top (top + i) (omega arith), at) refl
+
+-- as many rows as there are
+pub column_rows : (top i rows k : ℕ) (e b : Bool) → i ≡ rows → (ltb k (top + i) && (e && (leb top k && b))) ≡ (e && (leb top k && (ltb (k - top) rows && b)))
+column_rows top i rows k true true h = grind (arith, nat_tests, h)
+column_rows top i rows k true false h = grind (arith, nat_tests, h)
+column_rows top i rows k false b h = and_false (ltb k (top + i))
+
+-- a byte of a word more
+pub byte_more : (word top n m k : ℕ) (bytes : List ℕ) (e : Bool) → bytes ≡ to_be_bytes w64 word → n < 8 → m ≤ 8
+    → (ltb k (top + (8 * n + m)) && (e && (leb top k && word_dot word (k - top))))
+    ≡ (ltb k (top + 8 * n) && (e && (leb top k && word_dot word (k - top))) || e && (leb (top + 8 * n) k && (ltb (k - (top + 8 * n)) m && bit (get_or bytes n 0) (7 - (k - (top + 8 * n))))))
+byte_more word top n m k bytes e is h few = elim (cases_lt k (top + 8 * n)) [
+  | inl l ↦ rw (lt-ltb k (top + 8 * n) l, lt-ltb k (top + (8 * n + m)) (omega arith), lt-leb (top + 8 * n) k l, and_false e) (or_false _)
+  | inr g ↦ rw (le-ltb k (top + 8 * n) g, le-leb top k (omega arith), le-leb (top + 8 * n) k g) (elim (cases_lt k (top + (8 * n + m))) [
+    | inl l ↦
+        let j = k - (top + 8 * n) in
+        let here : 8 * 0 + (k - top) ≡ 8 * n + (7 - (7 - j)) = omega arith in
+        let same : word_dot word (k - top) ≡ bit (get_or bytes n 0) (7 - j) =
+        sym (word_bytes word (k - top) bytes is) ∙ ap (λ t. t && dot bytes (8 * 0 + (k - top))) (lt-ltb (k - top) 64 (omega arith)) ∙ ap (dot bytes) here ∙ dot_at bytes n (7 - j) (omega arith) in
+        rw (lt-ltb k (top + (8 * n + m)) l, lt-ltb j m (omega arith)) (ap (λ t. e && t) same)
+    | inr o ↦ rw (le-ltb k (top + (8 * n + m)) o, le-ltb (k - (top + 8 * n)) m (omega arith)) (sym (and_false e))
+  ])
+]
+
+-- a word of a column more
+pub word_of_column : (word ay dy rows j n k : ℕ) (e : Bool) (ink : ℕ → Bool) → rows ≤ dy → 64 * j < rows → n ≡ min (rows - 64 * j) 64
+    → ((i : ℕ) → i < 64 → 64 * j + i < dy → word_dot word i ≡ ink (ay + (64 * j + i)))
+    → (ltb k (ay + min rows (64 * (j + 1))) && (e && (span ay (ay + dy) k && ink k)))
+    ≡ (ltb k (ay + min rows (64 * j)) && (e && (span ay (ay + dy) k && ink k)) || e && (leb (ay + 64 * j) k && (ltb (k - (ay + 64 * j)) n && word_dot word (k - (ay + 64 * j)))))
+word_of_column word ay dy rows j n k e ink few some is dots = elim (cases_lt k (ay + 64 * j)) [
+  | inl l ↦ rw (lt-ltb k (ay + min rows (64 * j)) (omega arith), lt-ltb k (ay + min rows (64 * (j + 1))) (omega arith), lt-leb (ay + 64 * j) k l, and_false e) (or_false _)
+  | inr g ↦ rw (le-ltb k (ay + min rows (64 * j)) (omega arith), le-leb (ay + 64 * j) k g) (elim (cases_lt k (ay + 64 * j + n)) [
+    | inl l ↦
+        let i = k - (ay + 64 * j) in
+        let here : ay + (64 * j + i) ≡ k = omega arith in
+        rw (lt-ltb k (ay + min rows (64 * (j + 1))) (omega (arith, is, l)), lt-ltb i n (omega arith), le-leb ay k (omega arith), lt-ltb k (ay + dy) (omega (arith, is, l)))
+        (ap (λ t. e && t) (sym (dots i (omega (arith, is, l)) (omega (arith, is, l)) ∙ ap ink here)))
+    | inr o ↦ rw (le-ltb k (ay + min rows (64 * (j + 1))) (omega (arith, is, o)), le-ltb (k - (ay + 64 * j)) n (omega arith)) (sym (and_false e))
+  ])
+]

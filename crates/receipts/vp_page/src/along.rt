@@ -40,7 +40,7 @@ fn mirrored(word: u64) -> u64
 
 /// The 64 dots from place `at` on of a line that begins before place `end` and runs to the left.
 #[inline(always)]
-fn word_left(line: &[u8; LINE_BYTES], end: usize, at: usize) -> u64
+pub(crate) fn word_left(line: &[u8; LINE_BYTES], end: usize, at: usize) -> u64
     requires near { at + 64 < 2 ^ 32 }
     requires ends { end < 2 ^ 32 }
     ensures { (x : ℕ) → x < 64 → word_dot result x ≡

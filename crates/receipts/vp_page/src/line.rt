@@ -1,9 +1,10 @@
 //! One row of dots, laid along a row of a page or across its rows, and a box made white.
-ghost use Rattle.std.specs.Prelude.{◌≡◌, ℕ, ◌+◌, ◌-◌, ◌*◌, ◌/◌, ◌≤◌, ◌^◌, ◌&&◌, not, false, nat_eq, ◌<◌, [], length, slice_index_or, pos, ◌+ℤ◌};
+ghost use Rattle.std.specs.Prelude.{◌≡◌, ℕ, ◌+◌, ◌-◌, ◌*◌, ◌/◌, ◌≤◌, ◌^◌, ◌&&◌, not, false, nat_eq, nat_le, nat_lt, ◌<◌, [], length, slice_index_or, pos, ◌+ℤ◌};
 ghost use Rattle.vp_page.specs.declared.across.TheConstants.{AT_ONCE};
 ghost use Rattle.vp_page.specs.declared.line.TheConstants.{LINE_BYTES, LINE_DOTS};
 ghost use Rattle.vp_page.specs.declared.page.TheConstants.{PAGE_ROWS, PAPER_BYTES};
 ghost use Rattle.vp_dots.specs.Dots.{bit, dot, span};
+ghost use Rattle.vp_dots.specs.Words.{word_dot};
 ghost use Rattle.vp_dots.specs.Painting.{Painted};
 ghost use Rattle.vp_dots.specs.Places.{RowsPainted};
 ghost use Rattle.vp_dots.specs.declared.Op.TheVariants.{Black, White};
@@ -11,11 +12,12 @@ ghost use Rattle.vp_page.specs.Areas.{holds};
 ghost use Rattle.vp_page.specs.Runs.{along_of};
 
 use crate::across::AT_ONCE;
+use crate::along::word_left;
 use crate::area::{Area, Way};
 use crate::page::{PAGE_ROWS, PAPER_BYTES, PageBand};
 use crate::white::Rows;
 use std::simd::{u8x8, u8x16, u8x64};
-use vp_dots::{Ink, Op, Small, dot_of, fill_dots};
+use vp_dots::{Ink, Op, Small, fill_dots, word_at};
 
 /// The bytes of the longest line of a page: one across its rows.
 pub const LINE_BYTES: usize = 208;
@@ -116,25 +118,49 @@ pub(crate) fn lay_dot(byte: u8, n: usize, x: usize, row: &mut [u8])
     }
 }
 
-/// Blackens dot x of a row, where the row has it, if dot u of the line is black.
+/// Blackens column x of some rows of the page, from one on, where the first dots of a byte are black.
 #[inline(always)]
-fn lay_dot_of(line: &[u8], u: usize, x: usize, row: &mut [u8])
-    ensures { Painted Black (λ d. nat_eq d x && dot line.now u) row.old row.new }
+fn lay_byte<A: Small>(byte: u8, rows: usize, x: usize, top: usize, band: &mut PageBand<A>)
+    requires few { rows ≤ 8 }
+    requires room { top + rows ≤ PAGE_ROWS }
+    ensures { RowsPainted PAGE_ROWS Black (λ d k. nat_eq d x && (nat_le top k && (nat_lt (k - top) rows
+        && bit byte (7 - (k - top))))) band.old band.new }
 {
-    if dot_of(line, u as u128) {
-        lay_dot(128, 0, x, row);
+    if byte == 0 {
+        return;
+    }
+    for i in 0..rows {
+        lay_dot(byte, i, x, band.row_mut(top + i));
     }
 }
 
-/// How far along a line that runs up, or down, the row of the page lies that is i below the area's top.
+/// Blackens column x of some rows of the page, from one on, where the first dots of a word are black.
+fn lay_word<A: Small>(word: u64, rows: usize, x: usize, top: usize, band: &mut PageBand<A>)
+    requires few { rows ≤ 64 }
+    requires room { top + rows ≤ PAGE_ROWS }
+    ensures { RowsPainted PAGE_ROWS Black (λ d k. nat_eq d x && (nat_le top k && (nat_lt (k - top) rows
+        && word_dot word (k - top)))) band.old band.new }
+{
+    let bytes = word.to_be_bytes();
+    let whole = rows / 8;
+    for n in 0..whole {
+        lay_byte(bytes[n], 8, x, top + 8 * n, band);
+    }
+    if rows % 8 != 0 {
+        lay_byte(bytes[whole], rows % 8, x, top + 8 * whole, band);
+    }
+}
+
+/// The 64 dots of a line that runs up, or down, on the rows of the page from i below the area's top on.
 #[inline(always)]
-fn along(area: Area, way: Way, i: usize) -> usize
-    requires { i < area.dy }
-    ensures { result ≡ along_of area way (area.y + i) }
+fn word_across(line: &[u8; LINE_BYTES], area: Area, way: Way, i: usize) -> u64
+    requires { i < 2 ^ 31 }
+    ensures { (j : ℕ) → j < 64 → i + j < area.dy →
+        word_dot result j ≡ dot line.now (along_of area way (area.y + (i + j))) }
 {
     match way {
-        Way::Up => area.dy as usize - 1 - i,
-        Way::Down => i,
+        Way::Up => word_left(line, area.dy as usize, i),
+        Way::Down => word_at(line, i),
     }
 }
 
@@ -153,8 +179,10 @@ pub(crate) fn lay_column<A: Small>(
 {
     let top = area.y as usize;
     let rows = PAGE_ROWS.saturating_sub(top).min(area.dy as usize);
-    for i in 0..rows {
-        lay_dot_of(line, along(area, way, i), x, band.row_mut(top + i));
+    for k in 0..rows.div_ceil(64) {
+        let i = 64 * k;
+        let word = word_across(line, area, way, i);
+        lay_word(word, (rows - i).min(64), x, top + i, band);
     }
 }
 
