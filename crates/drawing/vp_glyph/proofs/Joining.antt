@@ -12,6 +12,7 @@ use Rattle.vp_glyph.specs.Halves.{half_dot}
 use Rattle.vp_glyph.specs.Sheets.{Glyphs, sheet_dot}
 use Rattle.vp_glyph.specs.Texts.{sampled_dot, text_dot}
 use Rattle.vp_glyph.specs.Blocks.{pieces, first, indent, line_dot, lines_dot, block_lines, block_width, block_height, block_dot}
+use Rattle.vp_glyph.specs.Layouts.{AreRowsOf}
 use Rattle.vp_glyph.specs.declared.block.Alignment.{Alignment}
 use Rattle.vp_glyph.proofs.Breaking.{block_few}
 use Rattle.vp_glyph.proofs.Gathered.{shown}
@@ -146,6 +147,17 @@ module _ (sheet : Option Glyphs) (w h a b s : ℕ) (d : Alignment) where
   line_first at k left width r x cells old new l e f p =
       p ∙ ap (λ t. old || t) (shifted_same at (λ v. leb left v && text_dot sheet (take k cells) width 24 (v - left) r) (λ v. line_dot (layout sheet w 24 a 1 0 d) 0 (take k cells) v r) x
       (λ v _. line_sheet k left width r v cells l e f))
+
+  -- one without cells has none
+  no_cells : (x r : ℕ) → line_dot (layout sheet w 24 a 1 0 d) 0 [] x r ≡ false
+  unfolding text_dot
+  no_cells x r = ap (λ t. leb (indent d (a - w * 0)) x && leb (0 * 0) r && (t && sampled_dot sheet (get_or [] ((x - indent d (a - w * 0)) / w) 0) w 24 ((x - indent d (a - w * 0)) % w) (r - 0 * 0)))
+      (le-ltb (x - indent d (a - w * 0)) (w * 0) (omega arith)) ∙ and_false (leb (indent d (a - w * 0)) x && leb (0 * 0) r)
+
+  pub rows_none : (at : ℤ) (rows : List ℕ) → rows ≡ replicate {A = ℕ} 24 0 → AreRowsOf (layout sheet w h a b s d) at [] rows
+  rows_none at rows e r x l m =
+      ap (λ (all : List ℕ). half_dot (get_or all r 0) x) e ∙ ap (λ v. half_dot v x) (zero_at 24 r) ∙ white_half x
+      ∙ sym (shifted_none at (λ v. line_dot (layout sheet w 24 a 1 0 d) 0 [] v r) x (λ v. no_cells v r))
 
   -- one line more
   pub joined_more : (at : ℤ) (n k r x : ℕ) (old new : Bool) (left next : Option (Bor (List ℕ))) (text : Bor (List ℕ)) (lent : List ℕ) (all : Bool)

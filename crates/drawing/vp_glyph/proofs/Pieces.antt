@@ -1,8 +1,8 @@
 -- Paragraphs, piece by piece.
-use Rattle.std.proofs.Common.{◌≡◌, ℕ, zero, suc, ◌+◌, ◌-◌, ◌<◌, ◌≤◌, List, [], ◌∷◌, length, drop, get_or, eqb, cond, refl, sym, ap, ◌∙◌, arith, sub-one, length-drop, inl, inr}
+use Rattle.std.proofs.Common.{◌≡◌, ℕ, zero, suc, ◌+◌, ◌-◌, ◌<◌, ◌≤◌, List, [], ◌∷◌, length, take, drop, get_or, eqb, false, cond, refl, sym, ap, ◌∙◌, arith, sub-one, length-drop, inl, inr}
 use Rattle.std.proofs.lemmas.List.{drop_more}
 use Rattle.std.proofs.lemmas.Bool.{cases_Bool}
-use Rattle.vp_glyph.specs.Blocks.{first, others, last_blank}
+use Rattle.vp_glyph.specs.Blocks.{pieces, first, others, last_blank}
 use Rattle.vp_glyph.specs.declared.lines.Piece.{Piece}
 use Rattle.vp_glyph.specs.declared.lines.Piece.TheVariants.{Cell}
 
@@ -62,3 +62,22 @@ front_is k b cells text rest e w =
     let l : k < length cells = omega (arith, n, m) in
     let h : drop k cells ≡ get_or cells k 0 ∷ drop (k + 1) cells = drop_more cells k 0 l in
     cc
+
+-- a byte that isn't a backslash is a cell
+plain_piece : (b : ℕ) (text : List ℕ) → eqb b 92 ≡ false → pieces (b ∷ text) ≡ Cell b ∷ pieces text
+plain_piece b [] e = refl
+plain_piece b (next ∷ text) e = rw e refl
+
+-- texts that begin with the same bytes, none of them a backslash, begin with the same cells
+pub same_front : (n : ℕ) (one other : List ℕ) → n ≤ length one → n ≤ length other → ((j : ℕ) → j < n → get_or one j 0 ≡ get_or other j 0) → ((j : ℕ) → j < n → eqb (get_or one j 0) 92 ≡ false)
+    → take n (first (pieces one)) ≡ take n (first (pieces other))
+same_front zero one other l m e p = refl
+same_front (suc n) [] other l m e p = absurd (omega arith)
+same_front (suc n) (b ∷ one) [] l m e p = absurd (omega arith)
+same_front (suc n) (b ∷ one) (c ∷ other) l m e p =
+    let same : b ≡ c = e 0 (omega arith) in
+    let plain : eqb b 92 ≡ false = p 0 (omega arith) in
+    ap (λ (t : List Piece). take (suc n) (first t)) (plain_piece b one plain)
+    ∙ ap (λ (t : List ℕ). b ∷ t) (same_front n one other (omega arith) (omega arith) (λ j i. e (suc j) (omega arith)) (λ j i. p (suc j) (omega arith)))
+    ∙ ap (λ (v : ℕ). v ∷ take n (first (pieces other))) same
+    ∙ sym (ap (λ (t : List Piece). take (suc n) (first t)) (plain_piece c other (ap (λ v. eqb v 92) (sym same) ∙ plain)))

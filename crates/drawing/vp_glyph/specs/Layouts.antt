@@ -1,6 +1,9 @@
 -- How a block is laid, as it is painted.
+use Rattle.std.specs.Prelude.{◌≡◌, ◌<◌, ℕ, ℤ, List, slice_index}
+use Rattle.vp_dots.specs.Dots.{shifted}
 use Rattle.vp_glyph.specs.declared.block.Block.{Block}
-use Rattle.vp_glyph.specs.Blocks.{BlockLayout}
+use Rattle.vp_glyph.specs.Blocks.{BlockLayout, line_dot}
+use Rattle.vp_glyph.specs.Halves.{half_dot}
 
 abbrev pub layout_of : {A : _} → Block A → BlockLayout
 layout_of b = record {
@@ -24,3 +27,8 @@ sheet_rows b = record {
   pitch = 0;
   alignment = b.alignment;
 }
+
+-- the first 32 dots of the rows of the sheet on which a line of a block stands, moved by an offset
+abbrev pub AreRowsOf : BlockLayout → ℤ → List ℕ → List ℕ → Type 0
+AreRowsOf b at cells rows = (s x : ℕ) → s < 24 → x < 32
+    → half_dot (slice_index rows s) x ≡ shifted at (λ x. line_dot (sheet_rows b) 0 cells x s) x

@@ -3,7 +3,7 @@ ghost use Rattle.std.specs.Prelude.{◌≡◌, ℕ, ◌+◌, ◌-◌, ◌*◌, �
 ghost use Rattle.vp_dots.specs.Dots.{shifted, span};
 ghost use Rattle.vp_glyph.specs.Blocks.{pieces, first, line_dot, block_height, block_dot};
 ghost use Rattle.vp_glyph.specs.Halves.{half_dot, front_dot};
-ghost use Rattle.vp_glyph.specs.Layouts.{layout_of};
+ghost use Rattle.vp_glyph.specs.Layouts.{layout_of, AreRowsOf};
 
 use crate::block::Block;
 use crate::lines::{Line, next_line};
@@ -92,25 +92,50 @@ fn settle<const N: usize>(groups: &[u32; GROUPS], fronts: &mut [u32; N])
     }
 }
 
-/// The first of 24 rows behind row s that isn't like it, and 24 where all are.
-fn alike_to(rows: &[u32; 24], s: usize) -> usize
-    requires { s < 24 }
-    ensures some { s < result }
-    ensures within { result ≤ 24 }
-    ensures alike { (r : ℕ) → s ≤ r → r < result → slice_index rows.now r ≡ slice_index rows.now s }
+/// The first 32 dots of the rows of the sheet, and behind each row the first that isn't like it.
+#[derive(Drop)]
+struct SheetRows {
+    rows: [u32; 24],
+    ends: [u32; 24],
+    ghost some: { (s : ℕ) → s < 24 → s < slice_index ends s },
+    ghost within: { (s : ℕ) → s < 24 → slice_index ends s ≤ 24 },
+    ghost alike: { (s r : ℕ) → s < 24 → s ≤ r → r < slice_index ends s
+        → slice_index rows r ≡ slice_index rows s },
+}
+
+/// Behind each of 24 rows the first that isn't like it, and 24 where all are.
+fn ends(rows: &[u32; 24]) -> [u32; 24]
+    ensures some { (s : ℕ) → s < 24 → s < slice_index result s }
+    ensures within { (s : ℕ) → s < 24 → slice_index result s ≤ 24 }
+    ensures alike { (s r : ℕ) → s < 24 → s ≤ r → r < slice_index result s
+        → slice_index rows.now r ≡ slice_index rows.now s }
 {
-    for r in s + 1..24usize {
-        if rows[r] != rows[s] {
-            return r;
-        }
+    let mut ends = [24u32; 24];
+    for k in 1..24usize {
+        let s = 23 - k;
+        ends[s] = if rows[s] == rows[s + 1] {
+            ends[s + 1]
+        } else {
+            s as u32 + 1
+        };
     }
-    24
+    ends
+}
+
+impl SheetRows {
+    /// Rows, with what of them is alike.
+    fn new(rows: [u32; 24]) -> SheetRows
+        ensures { result.rows ≡ rows }
+    {
+        let ends = ends(&rows);
+        SheetRows { rows, ends }
+    }
 }
 
 /// Adds to the fronts of `N` rows, the first of which is row `top`, the rows of the sheet that are drawn
 /// `high` rows high in all from row `above` on: those that are alike at once.
 fn spread<const N: usize>(
-    rows: &[u32; 24],
+    shown: &SheetRows,
     above: u32,
     high: u32,
     top: u32,
@@ -121,15 +146,16 @@ fn spread<const N: usize>(
     ensures { (i x : ℕ) → i < N → x < 32 → front_dot GROUP groups.new fronts.new i x
         ≡ (front_dot GROUP groups.old fronts.old i x || nat_le above (top + i)
         && nat_lt (top + i - above) high
-        && half_dot (slice_index rows.now ((top + i - above) * 24 / high)) x) }
+        && half_dot (slice_index shown.now.rows ((top + i - above) * 24 / high)) x) }
 {
     let mut from = rows_above::<N>(above, top);
     let mut s = 0;
     while s < 24 {
-        let behind = alike_to(rows, s);
-        let to = rows_above::<N>(above + first_row(behind as u32, high), top);
-        if rows[s] != 0 {
-            blacken_run(rows[s], from, to, groups, fronts);
+        let behind = shown.ends[s as usize];
+        let to = rows_above::<N>(above + first_row(behind, high), top);
+        let ink = shown.rows[s as usize];
+        if ink != 0 {
+            blacken_run(ink, from, to, groups, fronts);
         }
         from = to;
         s = behind;
@@ -137,27 +163,22 @@ fn spread<const N: usize>(
 }
 
 impl<A: Small> Block<'_, A> {
-    /// Adds a line that stands `place` lines below the first to the fronts of `N` rows.
-    fn add_line<const N: usize>(
-        &self,
-        line: Line<'_>,
-        place: u32,
-        top: u32,
-        at: i64,
-        groups: &mut [u32; GROUPS],
-        fronts: &mut [u32; N],
-    )
+    /// The rows of the sheet on which a line stands, where those of another line are drawn: these, if the
+    /// lines are alike.
+    fn redraw(&self, line: Line<'_>, drawn: Line<'_>, at: i64, shown: &mut SheetRows)
         requires cells { line.cells ≤ length (first (pieces line.text.now)) }
         requires most { line.cells ≤ self.now.wide / self.now.w }
-        requires place { place ≤ self.now.rows - 1 }
-        ensures { (i x : ℕ) → i < N → x < 32 → front_dot GROUP groups.new fronts.new i x
-            ≡ (front_dot GROUP groups.old fronts.old i x || shifted at (λ x.
-            line_dot (layout_of self.now) place
-            (take line.entry.cells (first (pieces line.entry.text.now))) x (top + i)) x) }
+        requires drawn { AreRowsOf (layout_of self.now) at (take drawn.cells (first (pieces drawn.text.now)))
+            shown.old.rows }
+        ensures { AreRowsOf (layout_of self.now) at (take line.entry.cells
+            (first (pieces line.entry.text.now))) shown.new.rows }
     {
+        if line.is_like(drawn) {
+            return;
+        }
         let mut rows = [0u32; 24];
         self.add_rows(line, at, &mut rows);
-        spread(&rows, place * self.pitch, self.h, top, groups, fronts);
+        *shown = SheetRows::new(rows);
     }
 
     /// Adds the lines to the fronts of N rows, the first of which is row `top`, and to those of their groups.
@@ -179,17 +200,21 @@ impl<A: Small> Block<'_, A> {
         let (above, text) = self.first_line(top);
         let mut place = above;
         let mut left = Some(text);
+        let mut drawn = Line { text, cells: 0 };
+        let mut shown = SheetRows::new([0; 24]);
         while let Some(text) = left {
             if u64::from(top) + N as u64 <= u64::from(place * self.pitch) {
                 return;
             }
             if self.pitch == 0 || place + 1 >= self.rows {
-                let rows = self.joined(text, at);
-                spread(&rows, place * self.pitch, self.h, top, groups, fronts);
+                let shown = SheetRows::new(self.joined(text, at));
+                spread(&shown, place * self.pitch, self.h, top, groups, fronts);
                 return;
             }
             let (line, rest) = next_line(text, most);
-            self.add_line(line, place, top, at, groups, fronts);
+            self.redraw(line, drawn, at, &mut shown);
+            spread(&shown, place * self.pitch, self.h, top, groups, fronts);
+            drawn = line;
             place = (place + 1).min(self.rows.saturating_sub(1));
             left = rest;
         }

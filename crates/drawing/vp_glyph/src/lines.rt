@@ -1,5 +1,5 @@
 //! The lines of a field block.
-ghost use Rattle.std.specs.Prelude.{◌≡◌, ℕ, ◌+◌, ◌-◌, ◌≤◌, ◌<◌, ◌^◌, List, ◌∷◌, [], min, length, take, drop, MatchOption, slice_index, Some, None};
+ghost use Rattle.std.specs.Prelude.{◌≡◌, ℕ, ◌+◌, ◌-◌, ◌≤◌, ◌<◌, ◌^◌, true, List, ◌∷◌, [], min, length, take, drop, MatchOption, slice_index, Some, None};
 ghost use Rattle.std.specs.List.{All};
 ghost use Rattle.vp_glyph.specs.Blocks.{pieces, first, others, last_blank, lines, StandIn, block_lines};
 
@@ -132,11 +132,42 @@ fn next_paragraph(text: &[u8]) -> Option<&[u8]>
     }
 }
 
+/// Lines of more cells aren't compared.
+const SHORT: usize = 32;
+
 /// `cells` cells at the front of a text.
 #[derive(Clone, Copy)]
 pub struct Line<'a> {
     pub text: &'a [u8],
     pub cells: usize,
+}
+
+/// Whether two texts are known to begin with the same cells, so many of them: none is compared that is told
+/// by a backslash.
+fn begin_alike(one: &[u8], other: &[u8], cells: usize) -> bool
+    ensures { result ≡ true → take cells (first (pieces one.now)) ≡ take cells (first (pieces other.now)) }
+{
+    if one.len() < cells || other.len() < cells {
+        return false;
+    }
+    for i in 0..cells {
+        if one[i] != other[i] || one[i] == b'\\' {
+            return false;
+        }
+    }
+    true
+}
+
+impl Line<'_> {
+    /// Whether it is known to have the cells of another line.
+    pub fn is_like(self, other: Line<'_>) -> bool
+        ensures { result ≡ true → take self.entry.cells (first (pieces self.entry.text.now))
+            ≡ take other.entry.cells (first (pieces other.entry.text.now)) }
+    {
+        self.cells == other.cells
+            && self.cells <= SHORT
+            && begin_alike(self.text, other.text, self.cells)
+    }
 }
 
 /// The first line of a text, in lines of at most `most` cells, and the text of the others.
