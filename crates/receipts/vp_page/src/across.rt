@@ -228,11 +228,12 @@ fn unlike_at(lines: &[[u8; LINE_BYTES]], at: usize) -> (Shade, [u8; LINE_BYTES])
 /// Whether some dots from one on are white, and lie before the end of the longest line.
 #[inline(always)]
 fn are_white(line: &[u8; LINE_BYTES], from: usize, dots: usize) -> bool
-    requires { dots ≤ 64 }
+    requires few { dots ≤ 64 }
+    requires near { from < 2 ^ 62 }
     ensures { result ≡ true → (k : ℕ) → k < dots →
         (from + k < LINE_DOTS) × (dot line.now (from + k) ≡ false) }
 {
-    from <= LINE_DOTS - SIDE && dots_from(line, from) & first_dots(dots as u32) == 0
+    from + dots <= LINE_DOTS && dots_from(line, from) & first_dots(dots as u32) == 0
 }
 
 /// How many dots of a stretch, from one on, there are up to the last one that may be black: those behind it
