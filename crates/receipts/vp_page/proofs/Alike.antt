@@ -1,5 +1,5 @@
 -- Lines that are alike along some dots, and the rows of the page that are.
-use Rattle.std.proofs.Common.{inl, inr, bit_or, ◌≡◌, ℕ, ◌+◌, ◌-◌, ◌*◌, ◌/◌, ◌%◌, ◌<◌, ◌≤◌, Bool, true, false, not, cond, eqb, ltb, leb, ◌&&◌, ◌||◌, refl, sym, ap, ◌∙◌, arith, List, [], length, get_or, replicate, bit_and}
+use Rattle.std.proofs.Common.{inl, inr, bit_or, ◌≡◌, ℕ, ◌+◌, ◌-◌, ◌*◌, ◌/◌, ◌%◌, ◌<◌, ◌≤◌, Bool, true, false, not, cond, eqb, ltb, ◌&&◌, ◌||◌, refl, sym, ap, ◌∙◌, arith, List, [], length, get_or, replicate, bit_and}
 use Rattle.std.specs.Int.RustNames.{bit_xor}
 use Rattle.std.specs.Int.{bit_at}
 use lib.Lanes.{zip2, chunk, put_chunk}
@@ -7,7 +7,7 @@ use Rattle.std.proofs.lemmas.Simd.{get_or-zip2, get_or-chunk, length-zip2, lengt
 use Rattle.std.proofs.lemmas.Bool.Decides.{nat_tests}
 use Rattle.std.proofs.lemmas.Nat.Bits.{bit_at-zero}
 use Rattle.std.proofs.lemmas.List.{get_or-replicate, length-replicate}
-use Rattle.std.proofs.lemmas.Bool.{cases_lt, lt-ltb, le-ltb, lt-leb, le-leb, true≢false}
+use Rattle.std.proofs.lemmas.Bool.{cases_lt, lt-ltb, le-leb, true≢false}
 use Rattle.vp_dots.specs.Dots.{bit, dot, span}
 use Rattle.vp_dots.specs.Words.{word_dot}
 use Rattle.vp_dots.specs.Painting.{Painted}
@@ -20,9 +20,6 @@ use Rattle.vp_dots.proofs.Rows.{dot_at}
 use Rattle.vp_dots.proofs.Spans.{bit_of_and}
 use Rattle.vp_dots.proofs.Swaps.{every_at}
 use Rattle.vp_dots.proofs.Words.{and_true}
-use Rattle.vp_page.proofs.Blank.{dot_white}
-use Rattle.vp_page.proofs.Squares.{no_line}
-use Rattle.vp_page.proofs.Whites.{and_no}
 use Rattle.vp_page.specs.Areas.{holds}
 use Rattle.vp_page.specs.Lines.{line_dot}
 use Rattle.vp_page.specs.declared.area.Area.{Area}
@@ -179,23 +176,3 @@ not_white false e = cc
 pub within_all : (u : ℕ) (b : Bool) → u < 1664 → (span 0 (0 + 16 * 13) (u / 8) && b) ≡ b
 within_all u true h = grind (arith, nat_tests)
 within_all u false h = grind (arith, nat_tests)
-
--- a stretch of a white row that is made black, where all lines are
-module _ (lines : List (List ℕ)) (x at : ℕ) (small : x < 576) (black : (i : ℕ) → i < length lines → line_dot lines i at ≡ true) where
-  pub black_right : (left : ℕ) → cond (span left (left + length lines) x) true (dot (replicate {A = ℕ} 72 0) x) ≡ (leb left x && line_dot lines (x - left) at)
-  black_right left = elim (cases_lt x left) [
-    | inl l ↦ rw (lt-leb left x l) (dot_white 72 x (omega arith))
-    | inr g ↦ elim (cases_lt (x - left) (length lines)) [
-      | inl m ↦ rw (le-leb left x g, lt-ltb x (left + length lines) (omega arith)) (sym (black (x - left) m))
-      | inr n ↦ rw (le-leb left x g, le-ltb x (left + length lines) (omega arith)) (dot_white 72 x (omega arith) ∙ sym (no_line lines (x - left) at n))
-    ]
-  ]
-
-  pub black_left : (left right : ℕ) → left ≡ right - length lines → cond (span left right x) true (dot (replicate {A = ℕ} 72 0) x) ≡ (ltb x right && line_dot lines (right - 1 - x) at)
-  black_left left right e = elim (cases_lt x right) [
-    | inr g ↦ rw (le-ltb x right g, and_no (leb left x)) (dot_white 72 x (omega arith))
-    | inl l ↦ elim (cases_lt (right - 1 - x) (length lines)) [
-      | inl m ↦ rw (lt-ltb x right l, le-leb left x (omega (arith, e))) (sym (black (right - 1 - x) m))
-      | inr n ↦ rw (lt-ltb x right l, lt-leb left x (omega (arith, e))) (dot_white 72 x (omega arith) ∙ sym (no_line lines (right - 1 - x) at n))
-    ]
-  ]

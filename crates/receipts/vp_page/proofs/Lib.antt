@@ -2,6 +2,7 @@ pub mod Alike
 pub mod Blank
 pub mod Bytes
 pub mod WordsOnRows
+pub mod Columns
 pub mod Falling
 pub mod Lanes
 pub mod Lines

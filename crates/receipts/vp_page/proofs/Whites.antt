@@ -1,7 +1,6 @@
 -- What is known to be white.
-use Rattle.std.proofs.Common.{inl, inr, ◌≡◌, ℕ, ◌+◌, ◌<◌, ◌≤◌, Bool, true, false, cond, ltb, leb, ◌-◌, ◌&&◌, refl, sym, ap, ◌∙◌, arith, List, [], length, get_or, replicate, if◌then◌else◌}
+use Rattle.std.proofs.Common.{inl, inr, ◌≡◌, ℕ, ◌+◌, ◌<◌, ◌≤◌, Bool, true, false, cond, ltb, leb, ◌&&◌, refl, sym, ap, ◌∙◌, arith, List, [], length, get_or, replicate, if◌then◌else◌}
 use Rattle.std.proofs.lemmas.Bool.{cases_lt, lt-leb, le-ltb, true≢false, false_from_ne_true}
-use Rattle.std.proofs.lemmas.Bool.Decides.{nat_tests}
 use Rattle.std.proofs.lemmas.List.{length-replicate}
 use Rattle.vp_dots.specs.Dots.{dot, span}
 use Rattle.vp_dots.specs.Places.{RowsPainted}
@@ -50,15 +49,6 @@ laid_on area was is ink old new w p few these others = record {
       let before : span was.from was.to y ≡ false = false_from_ne_true _ (λ e. true≢false (sym (these y e) ∙ f)) in
       (p.rows_are y h).dots_are x (let n = w.rows_are y h in omega arith) ∙ ap (λ i. cond i true (dot (get_or old y []) x)) none ∙ w.white x y k h t before;
 }
-
--- the rows of an area on which a line falls that runs up or down
-pub up_rows : (top high y : ℕ) (b : Bool) → (ltb y (top + high) && (ltb (top + high - 1 - y) high && b)) ≡ true → span top (top + high) y ≡ true
-up_rows top high y true e = grind (arith, nat_tests)
-up_rows top high y false e = grind (arith, nat_tests)
-
-pub down_rows : (top high y : ℕ) (b : Bool) → (leb top y && (ltb (y - top) high && b)) ≡ true → span top (top + high) y ≡ true
-down_rows top high y true e = grind (arith, nat_tests)
-down_rows top high y false e = grind (arith, nat_tests)
 
 -- a white page
 pub all_white : (area : Area) (rows : Rows) (page : Paged) → rows.to ≤ PAGE_ROWS → HasPage [] page → IsWhiteBut area rows page.rows

@@ -1,12 +1,15 @@
--- Lines of which each is laid across the page many times.
-use Rattle.std.specs.Prelude.{◌≤◌, ◌<◌, ℕ, ◌+◌, ◌-◌, nat_lt, Bool, ◌&&◌, List, slice_index}
+-- Lines that are laid across the page.
+use Rattle.std.specs.Prelude.{◌≡◌, ◌≤◌, ◌<◌, ℕ, ◌+◌, ◌-◌, nat_le, nat_lt, Bool, true, false, ◌&&◌, List, length, slice_index, ℤ, pos, ◌+ℤ◌}
 use Rattle.vp_dots.specs.Dots.{span}
 use Rattle.vp_page.specs.declared.area.Area.{Area}
 use Rattle.vp_page.specs.declared.area.Direction.{Direction}
 use Rattle.vp_page.specs.declared.area.Direction.TheVariants.{BottomToTop, TopToBottom}
 use Rattle.vp_page.specs.declared.area.Way.{Way}
 use Rattle.vp_page.specs.declared.area.Way.TheVariants.{Up, Down}
+use Rattle.vp_page.specs.declared.across.Shade.{Shade}
+use Rattle.vp_page.specs.declared.across.Shade.TheVariants.{White, Black, Mixed}
 use Rattle.vp_page.specs.Areas.{holds}
+use Rattle.vp_page.specs.Lines.{line_dot}
 use Rattle.vp_page.specs.Layers.{Mark}
 
 -- how deep the column x lies in an area with lines that run up, or down
@@ -28,6 +31,32 @@ topmost a Down u n = a.y + u
 abbrev pub across_dot : Area → Way → ℕ → ℕ → (ℕ → ℕ → Bool) → ℕ → ℕ → Bool
 across_dot a way from to ink x y =
     holds a x y && (span from to (depth_of a way x) && ink (along_of a way y) (depth_of a way x))
+
+-- the dot at (x, y) of lines, the first laid at a depth of an area and each one deeper than the one before it
+abbrev pub lines_across : Area → Way → ℕ → List (List ℕ) → ℕ → ℕ → Bool
+lines_across a way v lines x y =
+    holds a x y && (nat_le v (depth_of a way x) && line_dot lines (depth_of a way x - v) (along_of a way y))
+
+-- and of n of their dots, from one on
+abbrev pub stretch_dot : Area → Way → ℕ → List (List ℕ) → ℕ → ℕ → ℕ → ℕ → Bool
+stretch_dot a way v lines from n x y =
+    span from (from + n) (along_of a way y) && lines_across a way v lines x y
+
+-- which of the columns of n lines, from the left on, is that of line i
+abbrev pub placed : Way → ℕ → ℕ → ℕ
+placed Up n i = i
+placed Down n i = n - 1 - i
+
+-- where the left one falls of `wide` columns, of which that of the first line lies at a depth of an area
+abbrev pub IsLeft : Area → Way → ℕ → ℕ → ℤ → Type 0
+IsLeft a Up v wide at = at ≡ pos (a.x + v)
+IsLeft a Down v wide at = at +ℤ pos wide ≡ pos (a.x + a.dx - v)
+
+-- what lines show at one place
+abbrev pub IsShade : List (List ℕ) → ℕ → Shade → Type 0
+IsShade lines at White = (i : ℕ) → i < length lines → line_dot lines i at ≡ false
+IsShade lines at Black = (i : ℕ) → i < length lines → line_dot lines i at ≡ true
+IsShade lines at Mixed = Unit {0}
 
 -- n lines begin at rising depths, none of which is past the end
 pub record AreRuns (begins : List ℕ) (n end : ℕ) : Type 0 where

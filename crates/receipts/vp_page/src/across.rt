@@ -1,7 +1,7 @@
 //! Lines laid across the rows of a page, all of them on a stretch of its rows before the next one. Where each
 //! line is along a stretch what it is at its last dot, the rows there are one row, which is made once; else
 //! squares of as many lines as a word has dots are turned.
-ghost use Rattle.std.specs.Prelude.{◌≡◌, ℕ, ◌+◌, ◌-◌, ◌*◌, ◌/◌, ◌%◌, ◌<◌, ◌≤◌, ◌^◌, ◌&&◌, false, true, not, if◌then◌else◌, nat_lt, nat_le, length, slice_index, slice_index_or, []};
+ghost use Rattle.std.specs.Prelude.{◌≡◌, ℕ, ◌+◌, ◌-◌, ◌*◌, ◌/◌, ◌%◌, ◌<◌, ◌≤◌, ◌^◌, ◌&&◌, false, true, not, if◌then◌else◌, nat_lt, nat_le, length, List, slice_index, slice_index_or, []};
 ghost use Rattle.vp_dots.specs.Dots.{bit, dot, span};
 ghost use Rattle.vp_dots.specs.Painting.{Painted};
 ghost use Rattle.vp_dots.specs.Words.{word_dot};
@@ -9,13 +9,15 @@ ghost use Rattle.vp_dots.specs.Places.{RowsPainted};
 ghost use Rattle.vp_dots.specs.declared.Op.TheVariants.{Black, White};
 ghost use Rattle.vp_dots.specs.declared.square.TheConstants.{SIDE};
 ghost use Rattle.vp_page.specs.Lines.{line_dot};
+ghost use Rattle.vp_page.specs.Runs.{IsLeft, IsShade, along_of, depth_of, lines_across, placed, stretch_dot, topmost};
 ghost use Rattle.vp_page.specs.declared.across.TheConstants.{AT_ONCE, FEW, STRETCH};
 ghost use Rattle.vp_page.specs.declared.line.TheConstants.{LINE_BYTES, LINE_DOTS};
 ghost use Rattle.vp_page.specs.declared.page.TheConstants.{PAGE_ROWS, PAPER_DOTS};
 
-use crate::Area;
-use crate::line::{LINE_BYTES, LINE_DOTS, keep_sixteen, lay_dot, start_of};
+use crate::area::{Area, Way};
+use crate::line::{LINE_BYTES, LINE_DOTS, keep_sixteen, start_of};
 use crate::page::{PAGE_ROWS, PAPER_BYTES, PageBand};
+use crate::runs::{blacken, columns, top_of};
 use crate::words::{lay_halves, lay_same, lay_words, or_sixteens};
 use std::simd::u8x16;
 use vp_dots::{Op, SIDE, Small, dot_of, eight_at, fill_dots, first_dots, turned_square, word_at};
@@ -29,6 +31,9 @@ const STRETCH: usize = 2 * SIDE;
 /// How many lines are few: of so many, two squares are turned as one, the dots of the second below those of
 /// the first.
 const FEW: usize = SIDE / 2;
+
+/// The dots of a part of a stretch.
+const PART: usize = SIDE / 2;
 
 /// The 64 dots of a line from one on, which mostly are whole bytes of it.
 #[inline(always)]
@@ -44,64 +49,46 @@ fn dots_from(line: &[u8; LINE_BYTES], from: usize) -> u64
     }
 }
 
-/// A square of the lines' dots, from one on. Where there is no line it is white.
+/// Which of the columns of n lines, from the left on, is that of line i.
 #[inline(always)]
-pub(crate) fn square_from(lines: &[[u8; LINE_BYTES]], from: usize) -> [u64; SIDE]
-    requires few { length lines.now ≤ SIDE }
-    requires near { from < 2 ^ 62 }
-    ensures { (x y : ℕ) → x < 64 → y < 64 →
-        word_dot (slice_index result y) x ≡ line_dot lines.now y (from + x) }
+fn place(way: Way, n: usize, i: usize) -> usize
+    requires { i < n }
+    ensures { result ≡ placed way n i }
 {
-    let mut square = [0; SIDE];
-    for i in 0..lines.len() {
-        square[i] = dots_from(&lines[i], from);
+    match way {
+        Way::Up => i,
+        Way::Down => n - 1 - i,
     }
-    square
 }
 
-/// A square of the lines' dots, from one on, the last line first.
+/// A square of the lines' dots, from one on, in the order of their columns: white where there is no line.
 #[inline(always)]
-fn square_back(lines: &[[u8; LINE_BYTES]], from: usize) -> [u64; SIDE]
+pub(crate) fn square_of(lines: &[[u8; LINE_BYTES]], from: usize, way: Way) -> [u64; SIDE]
     requires few { length lines.now ≤ SIDE }
     requires near { from < 2 ^ 62 }
     ensures { (x y : ℕ) → x < 64 → y < 64 →
-        word_dot (slice_index result y) x ≡ line_dot lines.now (63 - y) (from + x) }
+        word_dot (slice_index result y) x ≡ line_dot lines.now (placed way 64 y) (from + x) }
 {
     let mut square = [0; SIDE];
     for i in 0..lines.len() {
-        square[SIDE - 1 - i] = dots_from(&lines[i], from);
+        square[place(way, SIDE, i)] = dots_from(&lines[i], from);
     }
     square
 }
 
 /// Two squares of few lines' dots, from one on and from the 64th behind it: the second lies below the first.
 #[inline(always)]
-fn two_from(lines: &[[u8; LINE_BYTES]], from: usize) -> [u64; SIDE]
+fn two_of(lines: &[[u8; LINE_BYTES]], from: usize, way: Way) -> [u64; SIDE]
     requires few { length lines.now ≤ FEW }
     requires near { from < 2 ^ 62 }
     ensures { (x y : ℕ) → x < 64 → y < 64 → word_dot (slice_index result y) x
-        ≡ line_dot lines.now (y % 32) (from + 64 * (y / 32) + x) }
+        ≡ line_dot lines.now (placed way 32 (y % 32)) (from + 64 * (y / 32) + x) }
 {
     let mut squares = [0; SIDE];
     for i in 0..lines.len() {
-        squares[i] = dots_from(&lines[i], from);
-        squares[FEW + i] = dots_from(&lines[i], from + SIDE);
-    }
-    squares
-}
-
-/// Two squares as those of `two_from`, the last line of each first.
-#[inline(always)]
-fn two_back(lines: &[[u8; LINE_BYTES]], from: usize) -> [u64; SIDE]
-    requires few { length lines.now ≤ FEW }
-    requires near { from < 2 ^ 62 }
-    ensures { (x y : ℕ) → x < 64 → y < 64 → word_dot (slice_index result y) x
-        ≡ line_dot lines.now (31 - y % 32) (from + 64 * (y / 32) + x) }
-{
-    let mut squares = [0; SIDE];
-    for i in 0..lines.len() {
-        squares[FEW - 1 - i] = dots_from(&lines[i], from);
-        squares[SIDE - 1 - i] = dots_from(&lines[i], from + SIDE);
+        let at = place(way, FEW, i);
+        squares[at] = dots_from(&lines[i], from);
+        squares[FEW + at] = dots_from(&lines[i], from + SIDE);
     }
     squares
 }
@@ -141,26 +128,32 @@ fn or_unlike(line: &[u8; LINE_BYTES], black: bool, unlike: &mut [u8])
     }
 }
 
-/// Whether all lines are white at one place.
-fn are_white_at(lines: &[[u8; LINE_BYTES]], at: usize) -> bool
-    requires { at < LINE_DOTS }
-    ensures { result ≡ true → (i : ℕ) → line_dot lines.now i at ≡ false }
-{
-    for i in 0..lines.len() {
-        if dot_of(&lines[i], at as u128) {
-            return false;
-        }
-    }
-    true
+/// What lines show at one place: all the same, or not.
+#[derive(Clone, Copy)]
+enum Shade {
+    White,
+    Black,
+    Mixed,
 }
 
-/// Whether all lines are black at one place.
-fn are_black_at(lines: &[[u8; LINE_BYTES]], at: usize) -> bool
+/// Whether that shade is white.
+fn is_white(shade: Shade) -> bool
+    ensures { result ≡ true → (lines : List (List ℕ)) (at i : ℕ) → IsShade lines at shade →
+        line_dot lines i at ≡ false }
+{
+    match shade {
+        Shade::White => true,
+        Shade::Black | Shade::Mixed => false,
+    }
+}
+
+/// Whether all lines are of a colour at one place.
+fn are_of(lines: &[[u8; LINE_BYTES]], at: usize, black: bool) -> bool
     requires { at < LINE_DOTS }
-    ensures { result ≡ true → (i : ℕ) → i < length lines.now → line_dot lines.now i at ≡ true }
+    ensures { result ≡ true → (i : ℕ) → i < length lines.now → line_dot lines.now i at ≡ black }
 {
     for i in 0..lines.len() {
-        if !dot_of(&lines[i], at as u128) {
+        if dot_of(&lines[i], at as u128) != black {
             return false;
         }
     }
@@ -204,89 +197,102 @@ fn some_black(lines: &[[u8; LINE_BYTES]]) -> [u8; LINE_BYTES]
     some
 }
 
-/// A row that is black at least where some line isn't as it is at one of its dots: mostly all are white
-/// there, or all black.
-fn unlike_at(lines: &[[u8; LINE_BYTES]], at: usize) -> [u8; LINE_BYTES]
+/// What lines show at one place, and a row that is black where some line isn't as it is there: mostly
+/// all are white there, or all black.
+fn unlike_at(lines: &[[u8; LINE_BYTES]], at: usize) -> (Shade, [u8; LINE_BYTES])
     requires { at < LINE_DOTS }
-    ensures { (i u : ℕ) → i < length lines.now → u < LINE_DOTS → dot result u ≡ false →
+    ensures shade { IsShade lines.now at result.0 }
+    ensures alike { (i u : ℕ) → i < length lines.now → u < LINE_DOTS → dot result.1 u ≡ false →
         line_dot lines.now i u ≡ line_dot lines.now i at }
 {
-    if are_white_at(lines, at) {
-        return some_black(lines);
-    }
-    if are_black_at(lines, at) {
-        return some_white(lines);
+    let few = &lines[..lines.len().min(FEW)];
+    if are_of(few, at, false) {
+        let some = some_black(lines);
+        if !dot_of(&some, at as u128) {
+            return (Shade::White, some);
+        }
+    } else if are_of(few, at, true) {
+        let some = some_white(lines);
+        if !dot_of(&some, at as u128) {
+            return (Shade::Black, some);
+        }
     }
     let mut unlike = [0; LINE_BYTES];
     for i in 0..lines.len() {
         let black = dot_of(&lines[i], at as u128);
         or_unlike(&lines[i], black, &mut unlike);
     }
-    unlike
+    (Shade::Mixed, unlike)
 }
 
 /// Whether some dots from one on are white, and lie before the end of the longest line.
 #[inline(always)]
 fn are_white(line: &[u8; LINE_BYTES], from: usize, dots: usize) -> bool
-    requires { dots ≤ 64 }
+    requires few { dots ≤ 64 }
+    requires near { from < 2 ^ 62 }
     ensures { result ≡ true → (k : ℕ) → k < dots →
         (from + k < LINE_DOTS) × (dot line.now (from + k) ≡ false) }
 {
-    from <= LINE_DOTS - SIDE && dots_from(line, from) & first_dots(dots as u32) == 0
+    from + dots <= LINE_DOTS && dots_from(line, from) & first_dots(dots as u32) == 0
 }
 
-/// Whether the dots of a stretch, from one on, are white, and lie before the end of the longest line.
-fn is_white_along(line: &[u8; LINE_BYTES], from: usize, dots: usize) -> bool
-    requires { dots ≤ STRETCH }
-    ensures { result ≡ true → (k : ℕ) → k < dots →
+/// How many dots of a stretch, from one on, there are up to the last one that may be black: those behind it
+/// are white, and lie before the end of the longest line.
+#[inline(always)]
+fn up_to_black(line: &[u8; LINE_BYTES], from: usize, dots: usize) -> usize
+    requires near { from + dots < 2 ^ 62 }
+    ensures few { result ≤ dots }
+    ensures white { (k : ℕ) → result ≤ k → k < dots →
         (from + k < LINE_DOTS) × (dot line.now (from + k) ≡ false) }
 {
-    let first = dots.min(SIDE);
-    are_white(line, from, first) && (dots == first || are_white(line, from + SIDE, dots - first))
+    let mut n = dots;
+    while n > 0 {
+        let before = (n - 1) / PART * PART;
+        if !are_white(line, from + before, n - before) {
+            break;
+        }
+        n = before;
+    }
+    n
 }
 
-/// A row of the page with the dots of the lines at one place, that of the first line in column `left`, and
-/// each on the left of the next.
-fn row_up(lines: &[[u8; LINE_BYTES]], at: usize, left: u32) -> [u8; PAPER_BYTES]
-    requires { at < LINE_DOTS }
-    ensures { (x : ℕ) → x < PAPER_DOTS →
-        dot result x ≡ (nat_le left x && line_dot lines.now (x - left) at) }
+/// A row of the page with the dots of the lines at one place, the first line at a depth of an area.
+fn row_at(
+    lines: &[[u8; LINE_BYTES]],
+    at: usize,
+    shade: Shade,
+    area: Area,
+    way: Way,
+    v: u32,
+) -> [u8; PAPER_BYTES]
+    requires at { at < LINE_DOTS }
+    requires shade { IsShade lines.now at shade }
+    requires room { v + length lines.now ≤ area.dx }
+    ensures { (x : ℕ) → x < PAPER_DOTS → dot result x ≡ (span area.x (area.x + area.dx) x
+        && (nat_le v (depth_of area way x) && line_dot lines.now (depth_of area way x - v) at)) }
 {
     let mut row = [0; PAPER_BYTES];
-    if are_black_at(lines, at) {
-        let right = left as u64 + lines.len() as u64;
-        fill_dots(Op::Black, left as u64, right, &mut row);
-        return row;
-    }
-    for i in 0..lines.len() {
-        lay_dot(lines[i][at / 8], at % 8, left as usize + i, &mut row);
-    }
-    row
-}
-
-/// A row of the page with the dots of the lines at one place, that of the first line in the column before
-/// `right`, and each on the right of the next.
-fn row_down(lines: &[[u8; LINE_BYTES]], at: usize, right: u32) -> [u8; PAPER_BYTES]
-    requires { at < LINE_DOTS }
-    ensures { (x : ℕ) → x < PAPER_DOTS →
-        dot result x ≡ (nat_lt x right && line_dot lines.now (right - 1 - x) at) }
-{
-    let mut row = [0; PAPER_BYTES];
-    let right = right as usize;
-    if are_black_at(lines, at) {
-        let left = right.saturating_sub(lines.len());
-        fill_dots(Op::Black, left as u64, right as u64, &mut row);
-        return row;
-    }
-    for i in 0..lines.len().min(right) {
-        lay_dot(lines[i][at / 8], at % 8, right - 1 - i, &mut row);
+    match shade {
+        Shade::White => {}
+        Shade::Black => {
+            let (left, right) = columns(area, way, v, v + lines.len() as u32);
+            fill_dots(Op::Black, left, right, &mut row);
+        }
+        Shade::Mixed => {
+            for i in 0..lines.len() {
+                if dot_of(&lines[i], at as u128) {
+                    let (left, right) = columns(area, way, v + i as u32, v + i as u32 + 1);
+                    blacken(left, right, &mut row);
+                }
+            }
+        }
     }
     row
 }
 
 /// Whether a square is white.
 #[inline(always)]
-fn is_white(square: &[u64; SIDE]) -> bool
+fn is_white_square(square: &[u64; SIDE]) -> bool
     ensures { result ≡ true → (x y : ℕ) → x < 64 → y < 64 → word_dot (slice_index square.now y) x ≡ false }
 {
     let mut black = 0;
@@ -296,258 +302,173 @@ fn is_white(square: &[u64; SIDE]) -> bool
     black == 0
 }
 
-/// Blackens rows of the page, from `top` down, where the lines are black from one of their dots on: the first
-/// line on the column before `right`, and each on the right of the next.
+/// Where the left column falls of as many as so many bytes have dots: the first line's lies at a depth of an
+/// area.
 #[inline(always)]
-fn lay_square_down<A: Small>(
+fn left_of(area: Area, way: Way, v: u32, bytes: usize) -> i64
+    requires few { bytes ≤ LINE_BYTES }
+    requires deep { v ≤ area.dx }
+    ensures { IsLeft area way v (8 * bytes) result }
+{
+    match way {
+        Way::Up => i64::from(u32::from(area.x) + v),
+        Way::Down => start_of(u32::from(area.x) + u32::from(area.dx) - v, bytes),
+    }
+}
+
+/// Blackens rows of the page where lines are black from one of their dots on, the first line at a depth of an
+/// area.
+#[inline(always)]
+fn lay_square<A: Small>(
     lines: &[[u8; LINE_BYTES]],
     from: usize,
     rows: usize,
-    right: u32,
-    top: usize,
+    area: Area,
+    way: Way,
+    v: u32,
     band: &mut PageBand<A>,
 )
     requires lines { length lines.now ≤ SIDE }
-    requires near { from < 2 ^ 62 }
     requires few { rows ≤ 64 }
-    requires room { top + rows ≤ PAGE_ROWS }
-    ensures { RowsPainted PAGE_ROWS Black (λ x y. nat_le top y && (nat_lt (y - top) rows && (nat_lt x right
-        && line_dot lines.now (right - 1 - x) (from + (y - top))))) band.old band.new }
+    requires wide { v + length lines.now ≤ area.dx }
+    requires long { from + rows ≤ area.dy }
+    requires page { topmost area way from rows + rows ≤ PAGE_ROWS }
+    ensures { RowsPainted PAGE_ROWS Black (stretch_dot area way v lines.now from rows) band.old band.new }
 {
-    let square = turned_square(&square_back(lines, from));
-    lay_words(&square, rows, start_of(right, 8), top, band);
+    let left = left_of(area, way, v, 8);
+    let top = top_of(area, way, from, rows);
+    let mut square = turned_square(&square_of(lines, from, way));
+    match way {
+        Way::Up => {
+            square.reverse();
+            lay_words(&square[SIDE - rows..], rows, left, top, band);
+        }
+        Way::Down => lay_words(&square, rows, left, top, band),
+    }
 }
 
-/// Lays two squares of few lines as `lay_square_down` lays one. Mostly both are white.
+/// Lays two squares of few lines as `lay_square` lays one. Mostly both are white.
 #[inline(always)]
-fn lay_two_down<A: Small>(
+fn lay_two<A: Small>(
     lines: &[[u8; LINE_BYTES]],
     from: usize,
     rows: usize,
-    right: u32,
-    top: usize,
+    area: Area,
+    way: Way,
+    v: u32,
     band: &mut PageBand<A>,
 )
     requires lines { length lines.now ≤ FEW }
-    requires near { from < 2 ^ 62 }
     requires few { rows ≤ 128 }
-    requires room { top + rows ≤ PAGE_ROWS }
-    ensures { RowsPainted PAGE_ROWS Black (λ x y. nat_le top y && (nat_lt (y - top) rows && (nat_lt x right
-        && line_dot lines.now (right - 1 - x) (from + (y - top))))) band.old band.new }
+    requires wide { v + length lines.now ≤ area.dx }
+    requires long { from + rows ≤ area.dy }
+    requires page { topmost area way from rows + rows ≤ PAGE_ROWS }
+    ensures { RowsPainted PAGE_ROWS Black (stretch_dot area way v lines.now from rows) band.old band.new }
 {
-    let squares = two_back(lines, from);
-    if is_white(&squares) {
+    let squares = two_of(lines, from, way);
+    if is_white_square(&squares) {
         return;
     }
-    let turned = turned_square(&squares);
-    let left = start_of(right, 4);
-    let first = rows.min(SIDE);
-    lay_halves(&turned, 0, first, left, top, band);
-    lay_halves(&turned, 32, rows - first, left, top + first, band);
-}
-
-/// Blackens rows of the page, from the one above `below` up, where the lines are black from one of their dots
-/// on: the first line at `left`.
-#[inline(always)]
-fn lay_square_up<A: Small>(
-    lines: &[[u8; LINE_BYTES]],
-    from: usize,
-    rows: usize,
-    left: u32,
-    below: usize,
-    band: &mut PageBand<A>,
-)
-    requires lines { length lines.now ≤ SIDE }
-    requires near { from < 2 ^ 62 }
-    requires few { rows ≤ 64 }
-    requires room { rows ≤ below }
-    requires page { below ≤ PAGE_ROWS }
-    ensures { RowsPainted PAGE_ROWS Black (λ x y. nat_lt y below && (nat_lt (below - 1 - y) rows
-        && (nat_le left x && line_dot lines.now (x - left) (from + (below - 1 - y))))) band.old band.new }
-{
-    let mut square = turned_square(&square_from(lines, from));
-    square.reverse();
-    lay_words(
-        &square[SIDE - rows..],
-        rows,
-        i64::from(left),
-        below - rows,
-        band,
-    );
-}
-
-/// Lays two squares of few lines as `lay_square_up` lays one. Mostly both are white.
-#[inline(always)]
-fn lay_two_up<A: Small>(
-    lines: &[[u8; LINE_BYTES]],
-    from: usize,
-    rows: usize,
-    left: u32,
-    below: usize,
-    band: &mut PageBand<A>,
-)
-    requires lines { length lines.now ≤ FEW }
-    requires near { from < 2 ^ 62 }
-    requires few { rows ≤ 128 }
-    requires room { rows ≤ below }
-    requires page { below ≤ PAGE_ROWS }
-    ensures { RowsPainted PAGE_ROWS Black (λ x y. nat_lt y below && (nat_lt (below - 1 - y) rows
-        && (nat_le left x && line_dot lines.now (x - left) (from + (below - 1 - y))))) band.old band.new }
-{
-    let squares = two_from(lines, from);
-    if is_white(&squares) {
-        return;
-    }
-    let mut turned = turned_square(&squares);
-    turned.reverse();
-    let left = i64::from(left);
+    let left = left_of(area, way, v, 4);
     let first = rows.min(SIDE);
     let second = rows - first;
-    lay_halves(&turned[SIDE - first..], 0, first, left, below - first, band);
-    lay_halves(
-        &turned[SIDE - second..],
-        32,
-        second,
-        left,
-        below - rows,
-        band,
-    );
-}
-
-/// Lays a stretch of lines as `lay_square_down` lays a square.
-fn lay_squares_down<A: Small>(
-    lines: &[[u8; LINE_BYTES]],
-    from: usize,
-    rows: usize,
-    right: u32,
-    top: usize,
-    band: &mut PageBand<A>,
-)
-    requires lines { length lines.now ≤ AT_ONCE }
-    requires near { from < 2 ^ 61 }
-    requires few { rows ≤ STRETCH }
-    requires room { top + rows ≤ PAGE_ROWS }
-    ensures { RowsPainted PAGE_ROWS Black (λ x y. nat_le top y && (nat_lt (y - top) rows && (nat_lt x right
-        && line_dot lines.now (right - 1 - x) (from + (y - top))))) band.old band.new }
-{
-    if lines.len() <= FEW {
-        lay_two_down(lines, from, rows, right, top, band);
-        return;
-    }
-    let first = rows.min(SIDE);
-    for k in 0..lines.len().div_ceil(SIDE) {
-        let at = SIDE * k;
-        let these = &lines[at..lines.len().min(at + SIDE)];
-        let right = right.saturating_sub(at as u32);
-        lay_square_down(these, from, first, right, top, band);
-        lay_square_down(these, from + first, rows - first, right, top + first, band);
-    }
-}
-
-/// Lays a stretch of lines as `lay_square_up` lays a square.
-fn lay_squares_up<A: Small>(
-    lines: &[[u8; LINE_BYTES]],
-    from: usize,
-    rows: usize,
-    left: u32,
-    below: usize,
-    band: &mut PageBand<A>,
-)
-    requires lines { length lines.now ≤ AT_ONCE }
-    requires near { from < 2 ^ 61 }
-    requires few { rows ≤ STRETCH }
-    requires room { rows ≤ below }
-    requires page { below ≤ PAGE_ROWS }
-    requires left { left < 2 ^ 31 }
-    ensures { RowsPainted PAGE_ROWS Black (λ x y. nat_lt y below && (nat_lt (below - 1 - y) rows
-        && (nat_le left x && line_dot lines.now (x - left) (from + (below - 1 - y))))) band.old band.new }
-{
-    if lines.len() <= FEW {
-        lay_two_up(lines, from, rows, left, below, band);
-        return;
-    }
-    let first = rows.min(SIDE);
-    for k in 0..lines.len().div_ceil(SIDE) {
-        let at = SIDE * k;
-        let these = &lines[at..lines.len().min(at + SIDE)];
-        let left = left + at as u32;
-        lay_square_up(these, from, first, left, below, band);
-        lay_square_up(these, from + first, rows - first, left, below - first, band);
-    }
-}
-
-/// Blackens the columns of the page where lines, from the area's top down, are black: the first one on the
-/// column before `right`, and each on the right of the next. They are white from dot `long` on.
-pub(crate) fn lay_lines_down<A: Small>(
-    lines: &[[u8; LINE_BYTES]],
-    long: usize,
-    area: Area,
-    right: u32,
-    band: &mut PageBand<A>,
-)
-    requires few { length lines.now ≤ AT_ONCE }
-    requires white { (i u : ℕ) → long ≤ u → line_dot lines.now i u ≡ false }
-    ensures { RowsPainted PAGE_ROWS Black (λ x y. nat_le area.y y && (nat_lt (y - area.y) area.dy
-        && (nat_lt x right && line_dot lines.now (right - 1 - x) (y - area.y)))) band.old band.new }
-{
-    let top = area.y as usize;
-    let end = PAGE_ROWS
-        .saturating_sub(top)
-        .min((area.dy as usize).min(long));
-    let last = end.saturating_sub(1).min(LINE_DOTS - 1);
-    let row = row_down(lines, last, right);
-    let first = (right as usize).saturating_sub(lines.len()) / 8;
-    let unlike = unlike_at(lines, last);
-    let white = are_white_at(lines, last);
-    for k in 0..end.div_ceil(STRETCH) {
-        let from = STRETCH * k;
-        let rows = (end - from).min(STRETCH);
-        if !is_white_along(&unlike, from, rows) {
-            lay_squares_down(lines, from, rows, right, top + from, band);
-        } else if !white {
-            lay_same(&row, first, lines.len() / 8 + 2, rows, top + from, band);
+    let mut turned = turned_square(&squares);
+    let top = top_of(area, way, from, first);
+    let next = top_of(area, way, from + first, second);
+    match way {
+        Way::Up => {
+            turned.reverse();
+            lay_halves(&turned[SIDE - first..], 0, first, left, top, band);
+            lay_halves(&turned[SIDE - second..], 32, second, left, next, band);
+        }
+        Way::Down => {
+            lay_halves(&turned, 0, first, left, top, band);
+            lay_halves(&turned, 32, second, left, next, band);
         }
     }
 }
 
-/// Blackens the columns of the page where lines, from the area's lower edge up, are black: the first one at
-/// `left`. They are white from dot `long` on.
-pub(crate) fn lay_lines_up<A: Small>(
+/// Lays a stretch of lines as `lay_square` lays a square.
+#[inline(always)]
+fn lay_squares<A: Small>(
+    lines: &[[u8; LINE_BYTES]],
+    from: usize,
+    rows: usize,
+    area: Area,
+    way: Way,
+    v: u32,
+    band: &mut PageBand<A>,
+)
+    requires lines { length lines.now ≤ AT_ONCE }
+    requires few { rows ≤ STRETCH }
+    requires wide { v + length lines.now ≤ area.dx }
+    requires long { from + rows ≤ area.dy }
+    requires page { topmost area way from rows + rows ≤ PAGE_ROWS }
+    ensures { RowsPainted PAGE_ROWS Black (stretch_dot area way v lines.now from rows) band.old band.new }
+{
+    if lines.len() <= FEW {
+        lay_two(lines, from, rows, area, way, v, band);
+        return;
+    }
+    let first = rows.min(SIDE);
+    for k in 0..lines.len().div_ceil(SIDE) {
+        let at = SIDE * k;
+        let these = &lines[at..lines.len().min(at + SIDE)];
+        let v = v + at as u32;
+        lay_square(these, from, first, area, way, v, band);
+        lay_square(these, from + first, rows - first, area, way, v, band);
+    }
+}
+
+/// The dots of an area's lines that fall on the page: from one on and before another.
+fn on_page(area: Area, way: Way) -> (usize, usize)
+    ensures inside { result.1 ≤ area.dy }
+    ensures all { (y : ℕ) → y < PAGE_ROWS → span area.y (area.y + area.dy) y ≡ true →
+        span result.0 result.1 (along_of area way y) ≡ true }
+    ensures page { (u n : ℕ) → 0 < n → result.0 ≤ u → u + n ≤ result.1 →
+        topmost area way u n + n ≤ PAGE_ROWS }
+{
+    let (top, high) = (area.y as usize, area.dy as usize);
+    match way {
+        Way::Up => ((top + high).saturating_sub(PAGE_ROWS), high),
+        Way::Down => (0, PAGE_ROWS.saturating_sub(top).min(high)),
+    }
+}
+
+/// Lays lines upward or downward, the first at a depth of an area and each one deeper than the one before it.
+/// They are white from dot `long` on.
+#[inline(always)]
+pub(crate) fn lay_lines<A: Small>(
     lines: &[[u8; LINE_BYTES]],
     long: usize,
     area: Area,
-    left: u32,
+    way: Way,
+    v: u32,
     band: &mut PageBand<A>,
 )
     requires few { length lines.now ≤ AT_ONCE }
-    requires near { left < 2 ^ 31 }
+    requires wide { v + length lines.now ≤ area.dx }
     requires white { (i u : ℕ) → long ≤ u → line_dot lines.now i u ≡ false }
-    ensures { RowsPainted PAGE_ROWS Black (λ x y. nat_lt y (area.y + area.dy)
-        && (nat_lt (area.y + area.dy - 1 - y) area.dy && (nat_le left x
-        && line_dot lines.now (x - left) (area.y + area.dy - 1 - y)))) band.old band.new }
+    ensures { RowsPainted PAGE_ROWS Black (lines_across area way v lines.now) band.old band.new }
 {
-    let below = area.y as usize + area.dy as usize;
-    let first = below.saturating_sub(PAGE_ROWS);
-    let high = (area.dy as usize).min(long).saturating_sub(first);
-    let last = (first + high).saturating_sub(1).min(LINE_DOTS - 1);
-    let row = row_up(lines, last, left);
-    let unlike = unlike_at(lines, last);
-    let white = are_white_at(lines, last);
-    for k in 0..high.div_ceil(STRETCH) {
-        let from = first + STRETCH * k;
-        let rows = (high - STRETCH * k).min(STRETCH);
-        if !is_white_along(&unlike, from, rows) {
-            lay_squares_up(lines, from, rows, left, below - from, band);
-        } else if !white {
-            let top = below - from - rows;
-            lay_same(
-                &row,
-                left as usize / 8,
-                lines.len() / 8 + 2,
-                rows,
-                top,
-                band,
-            );
+    let (from, end) = on_page(area, way);
+    let end = end.min(long);
+    let last = end.saturating_sub(1).min(LINE_DOTS - 1);
+    let (shade, unlike) = unlike_at(lines, last);
+    let row = row_at(lines, last, shade, area, way, v);
+    let (left, _) = columns(area, way, v, v + lines.len() as u32);
+    let (first, bytes) = (left as usize / 8, lines.len() / 8 + 2);
+    let white = is_white(shade);
+    for k in 0..end.saturating_sub(from).div_ceil(STRETCH) {
+        let at = from + STRETCH * k;
+        let rows = (end - at).min(STRETCH);
+        let n = up_to_black(&unlike, at, rows);
+        if n > 0 {
+            lay_squares(lines, at, n, area, way, v, band);
+        }
+        if !white {
+            let top = top_of(area, way, at + n, rows - n);
+            lay_same(&row, first, bytes, rows - n, top, band);
         }
     }
 }

@@ -8,7 +8,7 @@ ghost use Rattle.vp_page.specs.Layers.{mark_dot, row_mark, rows_mark, times_mark
 ghost use Rattle.vp_page.specs.declared.line.TheConstants.{LINE_BYTES, LINE_DOTS};
 ghost use Rattle.vp_page.specs.declared.page.TheConstants.{PAPER_BYTES, PAPER_DOTS, PAGE_ROWS};
 
-use crate::across::{AT_ONCE, lay_lines_down, lay_lines_up};
+use crate::across::{AT_ONCE, lay_lines};
 use crate::along::{lay_left, lay_right};
 use crate::area::{Area, Direction, Way};
 use crate::line::{
@@ -356,20 +356,16 @@ impl<A: Small> Page<A> {
         let room = (depth - v) as usize;
         let shown = lines.len().min(room);
         let count = self.rows_laid.saturating_add(shown as u64);
-        let left = u32::from(area.x);
         match direction {
             Direction::BottomToTop => {
                 self.laid = self.laid.with(Rows::of(area));
                 self.rows_laid = count;
-                let shown = &lines[..shown];
-                lay_lines_up(shown, long, area, left + v, &mut self.band)
+                lay_lines(&lines[..shown], long, area, Way::Up, v, &mut self.band)
             }
             Direction::TopToBottom => {
                 self.laid = self.laid.with(Rows::of(area));
-                let right = left + depth - v;
                 self.rows_laid = count;
-                let shown = &lines[..shown];
-                lay_lines_down(shown, long, area, right, &mut self.band)
+                lay_lines(&lines[..shown], long, area, Way::Down, v, &mut self.band)
             }
             _ => self.lay_lines_along(area, direction, v, lines),
         }

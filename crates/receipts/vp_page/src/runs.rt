@@ -13,7 +13,7 @@ ghost use Rattle.vp_page.specs.Runs.{AreRuns, across_dot, along_of, depth_of, to
 ghost use Rattle.vp_page.specs.declared.line.TheConstants.{LINE_DOTS};
 ghost use Rattle.vp_page.specs.declared.page.TheConstants.{PAGE_ROWS, PAPER_DOTS};
 
-use crate::across::square_from;
+use crate::across::square_of;
 use crate::along::lay_times;
 use crate::area::{Area, Way};
 use crate::line::{LINE_BYTES, drawn};
@@ -73,12 +73,12 @@ fn is_black(word: u64, i: u32) -> bool
 
 /// The columns of an area between two depths, of lines that run up or down.
 #[inline(always)]
-fn columns(area: Area, way: Way, from: u32, to: u32) -> (u64, u64)
+pub(crate) fn columns(area: Area, way: Way, from: u32, to: u32) -> (u64, u64)
     requires some { from ≤ to }
     requires deep { to ≤ area.dx }
     ensures dots { (x : ℕ) → span result.0 result.1 x ≡
         (span area.x (area.x + area.dx) x && span from to (depth_of area way x)) }
-    ensures some { result.0 ≤ result.1 }
+    ensures wide { result.1 ≡ result.0 + (to - from) }
     ensures near { result.1 < 2 ^ 32 }
 {
     let (from, to) = (u64::from(from), u64::from(to));
@@ -92,7 +92,7 @@ fn columns(area: Area, way: Way, from: u32, to: u32) -> (u64, u64)
 
 /// Blackens the dots from one to another, which mostly are few.
 #[inline(always)]
-fn blacken(from: u64, to: u64, row: &mut [u8])
+pub(crate) fn blacken(from: u64, to: u64, row: &mut [u8])
     requires some { from ≤ to }
     requires near { to < 2 ^ 32 }
     ensures { Painted Black (span from to) row.old row.new }
@@ -148,7 +148,7 @@ fn alike(words: &[u64; SIDE], from: usize, to: usize) -> usize
 
 /// The uppermost of the page's rows on which dots of lines stand, from one dot on.
 #[inline(always)]
-fn top_of(area: Area, way: Way, first: usize, dots: usize) -> usize
+pub(crate) fn top_of(area: Area, way: Way, first: usize, dots: usize) -> usize
     requires { first + dots ≤ area.dy }
     ensures { result ≡ topmost area way first dots }
 {
@@ -210,7 +210,7 @@ pub(crate) fn lay_runs<A: Small>(
     let high = u32::from(area.dy).min(long);
     for k in 0..high.div_ceil(64) {
         let at = 64 * k;
-        let square = turned_square(&square_from(lines, at as usize));
+        let square = turned_square(&square_of(lines, at as usize, Way::Up));
         lay_words(
             &square,
             at,

@@ -19,12 +19,3 @@ loop-i-preserved c =
             | inr n ↦ (let this : i ≡ k = omega arith in rw this (alike_dot c.args.lines.now k u c.args.at c.dot_of-black.result l c.requires c.dot_of-black.ensures none.0))
           ];
     }
-
-pub returns : goal.returns
-returns c = λ i u h l e. c.loop-i.invariant.alike i u (omega arith) l e
-
-pub returns-then-are_white_at : goal.returns-then-are_white_at
-returns-then-are_white_at c = λ i u h l e. c.some_black.ensures i u h l e ∙ sym (c.are_white_at.ensures c.if-are_white_at.true i)
-
-pub returns-then-are_black_at : goal.returns-then-are_black_at
-returns-then-are_black_at c = λ i u h l e. c.some_white.ensures i u h l e ∙ sym (c.are_black_at.ensures c.if-are_black_at.true i h)

@@ -20,7 +20,7 @@ loop-k-preserved g c = λ ink same.
     (λ x y. stretch_more 0 (64 * k) (64 * k + c.min.result) (along_of a way y) (across_dot a way (get_or begins 0 0) (get_or begins n 0) ink x y) (omega arith) (omega arith))
     (rw here at (c.loop-k.invariant ink same))
     (c.lay_words.ensures ink (λ i j w h l p q. c.turned_square-square.ensures i j (omega (arith, h, c.requires.few)) (omega (arith, l, c.min.ensures))
-    ∙ c.square_from.ensures j i (omega (arith, l, c.min.ensures)) (omega (arith, h, c.requires.few)) ∙ same i (64 * k + j) w h p q)))
+    ∙ c.square_of.ensures j i (omega (arith, l, c.min.ensures)) (omega (arith, h, c.requires.few)) ∙ same i (64 * k + j) w h p q)))
 
 pub returns : goal.returns
 returns g c = λ ink same.

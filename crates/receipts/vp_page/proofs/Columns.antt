@@ -1,0 +1,257 @@
+-- Lines laid across the page, upward or downward.
+use Rattle.std.proofs.Common.{inl, inr, ◌≡◌, ℕ, ◌+◌, ◌-◌, ◌*◌, ◌/◌, ◌%◌, ◌<◌, ◌≤◌, min, not, Bool, true, false, ltb, leb, ◌&&◌, refl, sym, ap, ◌∙◌, arith, List, length, take, get_or, ℤ}
+use Rattle.std.proofs.lemmas.Bool.{cases_lt, lt-ltb, le-ltb, lt-leb, le-leb, and_parts, ltb-true, leb-true, true≢false}
+use Rattle.std.proofs.lemmas.Bool.Decides.{nat_tests}
+use Rattle.std.proofs.Math.Bool.{beq}
+use Rattle.vp_dots.specs.Dots.{shifted, span}
+use Rattle.vp_dots.specs.Words.{word_dot}
+use Rattle.vp_page.specs.Areas.{holds}
+use Rattle.vp_page.specs.Layers.{mark_dot, lines_mark}
+use Rattle.vp_page.specs.Lines.{line_dot}
+use Rattle.vp_page.specs.Runs.{across, along_of, depth_of, lines_across, placed, stretch_dot, topmost, IsLeft}
+use Rattle.vp_page.specs.declared.area.Area.{Area}
+use Rattle.vp_page.specs.declared.area.Way.{Way}
+use Rattle.vp_page.specs.declared.area.Way.TheVariants.{Up, Down}
+use Rattle.vp_page.proofs.Marks.{shown_line}
+use Rattle.vp_page.proofs.RunRows.{run_in}
+use Rattle.vp_page.proofs.Squares.{and_false, down_row, no_line, up_row}
+
+-- and back
+pub placed_back : (way : Way) (n i k : ℕ) → k < n → i ≡ placed way n k → placed way n i ≡ k
+placed_back Up n i k h e = e
+placed_back Down n i k h e = omega arith
+
+pub placed_in : (way : Way) (n k : ℕ) → k < n → placed way n k < n
+placed_in Up n k h = h
+placed_in Down n k h = omega arith
+
+pub placed_there : (way : Way) (n i k : ℕ) → i < n → placed way n i ≡ k → i ≡ placed way n k
+placed_there Up n i k h e = e
+placed_there Down n i k h e = omega arith
+
+-- which row of n is k dots along the lines
+abbrev pub ordered : Way → ℕ → ℕ → ℕ
+ordered Up n k = n - 1 - k
+ordered Down n k = k
+
+not_held : (p b : Bool) → (p && false && b) ≡ false
+not_held p b = ap (λ t. t && b) (and_false p)
+
+-- columns of an area
+module _ (ax dx v n x : ℕ) (ink : ℕ → Bool) (deep : v + n ≤ dx) (none : (i : ℕ) → n ≤ i → ink i ≡ false) where
+  up_columns : (leb (ax + v) x && ink (x - (ax + v))) ≡ (span ax (ax + dx) x && (leb v (x - ax) && ink (x - ax - v)))
+  up_columns = elim (cases_lt x (ax + v)) [
+    | inl l ↦ rw (lt-leb (ax + v) x l) (elim (cases_lt x ax) [
+      | inl b ↦ rw (lt-leb ax x b) refl
+      | inr g ↦ rw (lt-leb v (x - ax) (omega arith)) (sym (and_false (span ax (ax + dx) x)))
+    ])
+    | inr g ↦ (let at : x - (ax + v) ≡ x - ax - v = omega arith in
+        rw (le-leb (ax + v) x g, at, le-leb ax x (omega arith), le-leb v (x - ax) (omega arith)) (elim (cases_lt x (ax + dx)) [
+          | inl l ↦ rw (lt-ltb x (ax + dx) l) refl
+          | inr h ↦ rw (le-ltb x (ax + dx) h) (none (x - ax - v) (omega arith))
+        ]))
+  ]
+
+  down_columns : (ltb x (ax + dx - v) && ink (ax + dx - v - 1 - x)) ≡ (span ax (ax + dx) x && (leb v (ax + dx - 1 - x) && ink (ax + dx - 1 - x - v)))
+  down_columns = elim (cases_lt x (ax + dx - v)) [
+    | inl l ↦ (let at : ax + dx - v - 1 - x ≡ ax + dx - 1 - x - v = omega arith in
+        rw (lt-ltb x (ax + dx - v) l, at, lt-ltb x (ax + dx) (omega arith), le-leb v (ax + dx - 1 - x) (omega arith)) (elim (cases_lt x ax) [
+          | inl b ↦ rw (lt-leb ax x b) (none (ax + dx - 1 - x - v) (omega arith))
+          | inr g ↦ rw (le-leb ax x g) refl
+        ]))
+    | inr g ↦ rw (le-ltb x (ax + dx - v) g) (sym (elim (cases_lt x (ax + dx)) [
+      | inl l ↦ rw (lt-leb v (ax + dx - 1 - x) (omega arith)) (and_false (span ax (ax + dx) x))
+      | inr h ↦ rw (le-ltb x (ax + dx) h) (not_held (leb ax x) _)
+    ]))
+  ]
+
+-- a row of the page with dots in those columns
+columns_row : (a : Area) (way : Way) (v n wide x : ℕ) (ink row : ℕ → Bool) (at : ℤ) → v + n ≤ a.dx → n ≤ wide → IsLeft a way v wide at → ((i : ℕ) → n ≤ i → ink i ≡ false)
+    → ((s : ℕ) → s < wide → row s ≡ ink (placed way wide s)) → ((s : ℕ) → wide ≤ s → row s ≡ false)
+    → shifted at row x ≡ (span a.x (a.x + a.dx) x && (leb v (depth_of a way x) && ink (depth_of a way x - v)))
+columns_row a Up v n wide x ink row at deep few e none same past =
+    sym (up_row ink row wide (a.x + v) x at e (λ i h. none i (omega (arith, few, h))) same past) ∙ up_columns a.x a.dx v n x ink deep none
+columns_row a Down v n wide x ink row at deep few e none same past =
+    sym (down_row ink row wide (a.x + a.dx - v) x at e (λ i h. none i (omega (arith, few, h))) same past) ∙ down_columns a.x a.dx v n x ink deep none
+
+-- what stands on rows of the page, as dots of a stretch
+in_stretch : (p1 p2 hx hy s q r : Bool) → (p1 && p2) ≡ (hy && s) → (p1 ≡ true → p2 ≡ true → q ≡ (hx && r)) → (p1 && (p2 && q)) ≡ (s && ((hx && hy) && r))
+in_stretch true true true true true q r e f = f refl refl
+in_stretch true true false true true q r e f = f refl refl
+in_stretch true true hx true false q r e f = absurd (true≢false e)
+in_stretch true true hx false s q r e f = absurd (true≢false e)
+in_stretch true false hx hy false q r e f = refl
+in_stretch true false hx false true q r e f = ap (λ t. t && r) (sym (and_false hx))
+in_stretch true false hx true true q r e f = absurd (true≢false (sym e))
+in_stretch false p2 hx hy false q r e f = refl
+in_stretch false p2 hx false true q r e f = ap (λ t. t && r) (sym (and_false hx))
+in_stretch false p2 hx true true q r e f = absurd (true≢false (sym e))
+
+-- where a row of a stretch is along the lines
+row_along : (a : Area) (way : Way) (from rows top y : ℕ) → from + rows ≤ a.dy → top ≡ topmost a way from rows → top ≤ y → y - top < rows
+    → (y - top ≡ ordered way rows (along_of a way y - from)) × (along_of a way y - from < rows) × (from + (along_of a way y - from) ≡ along_of a way y)
+row_along a Up from rows top y h e p q = ((omega arith), (omega arith), (omega arith))
+row_along a Down from rows top y h e p q = ((omega arith), (omega arith), (omega arith))
+
+-- words that show the lines, each on a row of its own
+pub stretch_laid : (a : Area) (way : Way) (v : ℕ) (lines : List (List ℕ)) (from rows top wide : ℕ) (row : ℕ → ℕ → Bool) (at : ℤ)
+    → v + length lines ≤ a.dx → length lines ≤ wide → from + rows ≤ a.dy → top ≡ topmost a way from rows → IsLeft a way v wide at
+    → ((k s : ℕ) → k < rows → s < wide → row (ordered way rows k) s ≡ line_dot lines (placed way wide s) (from + k)) → ((i s : ℕ) → wide ≤ s → row i s ≡ false)
+    → (x y : ℕ) → (leb top y && (ltb (y - top) rows && shifted at (row (y - top)) x)) ≡ stretch_dot a way v lines from rows x y
+stretch_laid a way v lines from rows top wide row at deep few long e left shows past x y =
+    let u = along_of a way y in
+    in_stretch (leb top y) (ltb (y - top) rows) (span a.x (a.x + a.dx) x) (leb a.y y && ltb y (a.y + a.dy)) (span from (from + rows) u) _ (leb v (depth_of a way x) && line_dot lines (depth_of a way x - v) u)
+    (run_in a way from rows y top long e)
+    (λ p q. let r = row_along a way from rows top y long e (leb-true _ _ p) (ltb-true _ _ q) in
+    ap (λ i. shifted at (row i) x) r.0
+    ∙ columns_row a way v (length lines) wide x (λ i. line_dot lines i u) (row (ordered way rows (u - from))) at deep few left (λ i h. no_line lines i u h)
+    (λ s l. shows (u - from) s r.1 l ∙ ap (line_dot lines (placed way wide s)) r.2) (λ s g. past (ordered way rows (u - from)) s g))
+
+-- one row on all rows of a stretch along which the lines are alike
+pub alike_laid : (a : Area) (way : Way) (v : ℕ) (lines : List (List ℕ)) (from rows top last x y : ℕ) → from + rows ≤ a.dy → top ≡ topmost a way from rows
+    → ((i u : ℕ) → from ≤ u → u < from + rows → line_dot lines i last ≡ line_dot lines i u)
+    → (leb top y && (ltb (y - top) rows && (span a.x (a.x + a.dx) x && (leb v (depth_of a way x) && line_dot lines (depth_of a way x - v) last)))) ≡ stretch_dot a way v lines from rows x y
+alike_laid a way v lines from rows top last x y long e same =
+    let u = along_of a way y in
+    in_stretch (leb top y) (ltb (y - top) rows) (span a.x (a.x + a.dx) x) (leb a.y y && ltb y (a.y + a.dy)) (span from (from + rows) u) _ (leb v (depth_of a way x) && line_dot lines (depth_of a way x - v) u)
+    (run_in a way from rows y top long e)
+    (λ p q. let r = row_along a way from rows top y long e (leb-true _ _ p) (ltb-true _ _ q) in
+    ap (λ b. span a.x (a.x + a.dx) x && (leb v (depth_of a way x) && b)) (same (depth_of a way x - v) u (omega (arith, r.2)) (omega (arith, r.1, r.2))))
+
+-- along which they are white
+pub white_stretch : (a : Area) (way : Way) (v : ℕ) (lines : List (List ℕ)) (from rows x y : ℕ) → ((i u : ℕ) → from ≤ u → u < from + rows → line_dot lines i u ≡ false) → stretch_dot a way v lines from rows x y ≡ false
+white_stretch a way v lines from rows x y white = none (span from (from + rows) (along_of a way y)) (holds a x y) (leb v (depth_of a way x)) _
+    (λ e. let p = and_parts _ _ e in white (depth_of a way x - v) (along_of a way y) (leb-true _ _ p.0) (ltb-true _ _ p.1))
+  where
+    none : (s h d b : Bool) → (s ≡ true → b ≡ false) → (s && (h && (d && b))) ≡ false
+    none true h d b f = rw (f refl, and_false d) (and_false h)
+    none false h d b f = refl
+
+-- some rows of a stretch are on the page if all are
+pub part_on_page : (a : Area) (way : Way) (u n from rows : ℕ) → u + n ≤ a.dy → topmost a way u n + n ≤ 1664 → u ≤ from → from + rows ≤ u + n → topmost a way from rows + rows ≤ 1664
+part_on_page a Up u n from rows h e p q = omega arith
+part_on_page a Down u n from rows h e p q = omega arith
+
+short_of : (a : Area) (way : Way) (x y : ℕ) → holds a x y ≡ true → depth_of a way x < a.dx
+short_of a Up x y e =
+    let p = and_parts (leb a.x x) (ltb x (a.x + a.dx)) (and_parts (leb a.x x && ltb x (a.x + a.dx)) (leb a.y y && ltb y (a.y + a.dy)) e).0 in
+    let from : a.x ≤ x = leb-true a.x x p.0 in
+    let to : x < a.x + a.dx = ltb-true x (a.x + a.dx) p.1 in
+    omega (arith, from, to)
+short_of a Down x y e =
+    let p = and_parts (leb a.x x) (ltb x (a.x + a.dx)) (and_parts (leb a.x x && ltb x (a.x + a.dx)) (leb a.y y && ltb y (a.y + a.dy)) e).0 in
+    let from : a.x ≤ x = leb-true a.x x p.0 in
+    let to : x < a.x + a.dx = ltb-true x (a.x + a.dx) p.1 in
+    omega (arith, from, to)
+
+-- a line is one of those that are laid at once
+at_once : (lines : List (List ℕ)) (i u : ℕ) → length lines ≤ 192 → line_dot lines i u ≡ (ltb i 192 && line_dot lines i u)
+at_once lines i u few = elim (cases_lt i 192) [
+  | inl l ↦ rw (lt-ltb i 192 l) refl
+  | inr g ↦ rw (le-ltb i 192 g) (no_line lines i u (omega arith))
+]
+
+in_mark : (h d b c : Bool) → (h ≡ true → d ≡ true → b ≡ c) → (h && (d && b)) ≡ (h && (d && c))
+in_mark true true b c f = f refl refl
+in_mark true false b c f = refl
+in_mark false d b c f = refl
+
+-- the lines that have room, as a mark
+module _ (a : Area) (way : Way) (v n : ℕ) (lines : List (List ℕ)) (few : length lines ≤ 192) (room : n ≡ min (length lines) (a.dx - v)) (x y : ℕ) where
+  shown_across : lines_across a way v (take n lines) x y ≡ (holds a x y && (leb v (depth_of a way x) && (ltb (depth_of a way x - v) 192 && line_dot lines (depth_of a way x - v) (along_of a way y))))
+  shown_across =
+      let i = depth_of a way x - v in
+      let u = along_of a way y in
+      in_mark (holds a x y) (leb v (depth_of a way x)) _ _ (λ h d.
+      let deep = short_of a way x y h in
+      let below = leb-true _ _ d in
+      shown_line lines n i u ∙ elim (cases_lt i n) [
+        | inl l ↦ rw (lt-ltb i n l) (at_once lines i u few)
+        | inr g ↦ rw (le-ltb i n g) (sym (ap (λ b. ltb i 192 && b) (no_line lines i u (omega (arith, g, room, deep, below))) ∙ and_false (ltb i 192)))
+      ])
+
+pub across_mark : (a : Area) (way : Way) (v n : ℕ) (lines : List (List ℕ)) → length lines ≤ 192 → n ≡ min (length lines) (a.dx - v) → (x y : ℕ)
+    → lines_across a way v (take n lines) x y ≡ mark_dot (lines_mark a (across way) v lines) x y
+across_mark a Up v n lines few room x y = shown_across a Up v n lines few room x y
+across_mark a Down v n lines few room x y = shown_across a Down v n lines few room x y
+
+-- a line that is there is on the columns of all
+module _ (lines : List (List ℕ)) (v w at : ℕ) where
+  pub black_lines : ((i : ℕ) → i < length lines → line_dot lines i at ≡ true) → span v (v + length lines) w ≡ (leb v w && line_dot lines (w - v) at)
+  black_lines black = elim (cases_lt w v) [
+    | inl l ↦ rw (lt-leb v w l) refl
+    | inr g ↦ rw (le-leb v w g) (elim (cases_lt (w - v) (length lines)) [
+      | inl m ↦ rw (lt-ltb w (v + length lines) (omega arith)) (sym (black (w - v) m))
+      | inr n ↦ rw (le-ltb w (v + length lines) (omega arith)) (sym (no_line lines (w - v) at n))
+    ])
+  ]
+
+  pub white_lines : ((i : ℕ) → i < length lines → line_dot lines i at ≡ false) → (leb v w && line_dot lines (w - v) at) ≡ false
+  white_lines white = elim (cases_lt (w - v) (length lines)) [
+    | inl m ↦ ap (λ b. leb v w && b) (white (w - v) m) ∙ and_false (leb v w)
+    | inr n ↦ ap (λ b. leb v w && b) (no_line lines (w - v) at n) ∙ and_false (leb v w)
+  ]
+
+  -- all of them
+  pub all_lines : (n : ℕ) → length lines ≤ n → (span v (v + n) w && line_dot lines (w - v) at) ≡ (leb v w && line_dot lines (w - v) at)
+  all_lines n h = elim (cases_lt w v) [
+    | inl l ↦ rw (lt-leb v w l) refl
+    | inr g ↦ rw (le-leb v w g) (elim (cases_lt w (v + n)) [
+      | inl m ↦ rw (lt-ltb w (v + n) m) refl
+      | inr o ↦ rw (le-ltb w (v + n) o) (sym (no_line lines (w - v) at (omega arith)))
+    ])
+  ]
+
+-- the bytes on which the dots of a row of lines stand
+pub bytes_across : (lines : List (List ℕ)) (v w at x left first : ℕ) (hx : Bool) → first ≡ left / 8 → span left (left + length lines) x ≡ (hx && span v (v + length lines) w)
+    → (hx && (leb v w && line_dot lines (w - v) at)) ≡ true → span first (first + (length lines / 8 + 2)) (x / 8) ≡ true
+bytes_across lines v w at x left first hx e is black =
+    let p = and_parts hx (leb v w && line_dot lines (w - v) at) black in
+    let q = and_parts (leb v w) (line_dot lines (w - v) at) p.1 in
+    let from : v ≤ w = leb-true _ _ q.0 in
+    let line : w - v < length lines = elim (cases_lt (w - v) (length lines)) [
+      | inl l ↦ l
+      | inr g ↦ absurd (true≢false (sym q.1 ∙ no_line lines (w - v) at g))
+    ] in
+    let on : span v (v + length lines) w ≡ true = rw (le-leb v w from, lt-ltb w (v + length lines) (omega arith)) refl in
+    let both : (hx && span v (v + length lines) w) ≡ true = rw (p.0, on) refl in
+    let here = and_parts (leb left x) (ltb x (left + length lines)) (is ∙ both) in
+    let low : left ≤ x = leb-true left x here.0 in
+    let high : x < left + length lines = ltb-true x (left + length lines) here.1 in
+    rw (le-leb first (x / 8) (omega arith), lt-ltb (x / 8) (first + (length lines / 8 + 2)) (omega arith)) refl
+
+-- all dots of the lines that fall on the page
+pub all_across : (a : Area) (way : Way) (v : ℕ) (lines : List (List ℕ)) (from end to x y : ℕ) → (span a.y (a.y + a.dy) y ≡ true → span from end (along_of a way y) ≡ true)
+    → ((i u : ℕ) → to ≤ u → u < end → line_dot lines i u ≡ false) → (span from to (along_of a way y) && lines_across a way v lines x y) ≡ lines_across a way v lines x y
+all_across a way v lines from end to x y page white =
+    all_of (span a.x (a.x + a.dx) x) (leb a.y y && ltb y (a.y + a.dy)) (span from to (along_of a way y)) (leb v (depth_of a way x)) _
+    (λ h f. let p = and_parts _ _ (page h) in white (depth_of a way x - v) (along_of a way y) (past from to (along_of a way y) p.0 f) (ltb-true _ _ p.1))
+  where
+    past : (from to u : ℕ) → leb from u ≡ true → span from to u ≡ false → to ≤ u
+    past from to u p f = grind (arith, nat_tests)
+
+    all_of : (hx hy s d b : Bool) → (hy ≡ true → s ≡ false → b ≡ false) → (s && ((hx && hy) && (d && b))) ≡ ((hx && hy) && (d && b))
+    all_of hx hy true d b f = refl
+    all_of hx true false d b f = sym (rw (f refl refl, and_false d) (and_false (hx && true)))
+    all_of hx false false d b f = sym (ap (λ t. t && (d && b)) (and_false hx))
+
+-- two squares of few lines that are white
+pub two_white : (way : Way) (lines : List (List ℕ)) (squares : List ℕ) (from i u : ℕ) → length lines ≤ 32 → u < 128
+    → ((x y : ℕ) → x < 64 → y < 64 → word_dot (get_or squares y 0) x ≡ line_dot lines (placed way 32 (y % 32)) (from + 64 * (y / 32) + x))
+    → ((x y : ℕ) → x < 64 → y < 64 → word_dot (get_or squares y 0) x ≡ false) → line_dot lines i (from + u) ≡ false
+two_white way lines squares from i u few near dots white = elim (cases_lt i 32) [
+  | inl l ↦
+      let here : placed way 32 i < 32 = placed_in way 32 i l in
+      let y = 32 * (u / 64) + placed way 32 i in
+      let line : placed way 32 (y % 32) ≡ i = placed_back way 32 (y % 32) i l (omega (arith, here)) in
+      let place : from + 64 * (y / 32) + u % 64 ≡ from + u = omega (arith, here) in
+      sym (rw (line, place) at (dots (u % 64) y (omega arith) (omega (arith, here)))) ∙ white (u % 64) y (omega arith) (omega (arith, here))
+  | inr g ↦ no_line lines i (from + u) (omega (arith, g))
+]
+
+-- a dot is of a colour, or not
+pub same_colour : (here black : Bool) → not (beq here black) ≡ false → here ≡ black
+same_colour true true e = refl
+same_colour true false e = absurd (true≢false e)
+same_colour false true e = absurd (true≢false e)
+same_colour false false e = refl

@@ -1,7 +1,0 @@
-use Rattle.std.proofs.Common.{◌≡◌, ◌<◌, ℕ, true}
-use Rattle.vp_page.specs.Lines.{line_dot}
-use Rattle.vp_page.proofs.across.are_black_at.Given as goal
-
--- the lines before this one are black there
-abbrev pub invariant-loop-i : goal.invariant-loop-i
-invariant-loop-i l = (i : ℕ) → i < l.i → line_dot l.lines i l.at ≡ true
