@@ -1,7 +1,12 @@
 -- Lines laid across an area, as a mark.
-use Rattle.std.proofs.Common.{inl, inr, ◌≡◌, ℕ, ◌+◌, ◌<◌, ◌≤◌, Bool, true, false, ltb, ◌&&◌, refl, sym, ap, ◌∙◌, arith, List, [], length, get_or, take}
-use Rattle.std.proofs.lemmas.Bool.{cases_lt, lt-ltb, le-ltb, true≢false, false_from_ne_true}
+use Rattle.std.proofs.Common.{inl, inr, ◌≡◌, ℕ, ◌+◌, ◌-◌, ◌<◌, ◌≤◌, Bool, true, false, min, ltb, leb, ◌&&◌, refl, sym, ap, ◌∙◌, arith, List, [], length, get_or, take}
+use Rattle.std.proofs.lemmas.Bool.{cases_lt, lt-ltb, le-ltb, leb-true, false_from_ne_true}
 use Rattle.vp_dots.specs.Dots.{dot}
+use Rattle.vp_page.specs.declared.area.Area.{Area}
+use Rattle.vp_page.specs.declared.area.Direction.TheVariants.{LeftToRight, RightToLeft}
+use Rattle.vp_page.specs.Areas.{holds}
+use Rattle.vp_page.specs.Layers.{mark_dot, lines_mark}
+use Rattle.vp_page.proofs.RowMarks.{left_times, right_times}
 use Rattle.vp_page.proofs.Rows.{dot_past}
 use Rattle.vp_page.proofs.Squares.{and_false, no_line}
 use Rattle.vp_page.specs.Lines.{line_dot}
@@ -13,10 +18,6 @@ past_line line u short = elim (cases_lt u 1664) [
   | inr g ↦ rw (le-ltb u 1664 g) (dot_past line u (omega arith))
 ]
 
--- one of the lines
-pub line_in_mark : (lines : List (List ℕ)) (i u : ℕ) → i < 192 → length (get_or lines i []) ≤ 208 → dot (get_or lines i []) u ≡ (ltb i 192 && (ltb u 1664 && dot (get_or lines i []) u))
-line_in_mark lines i u h short = rw (lt-ltb i 192 h) (past_line (get_or lines i []) u short)
-
 -- the first lines
 pub shown_line : (lines : List (List ℕ)) (n i u : ℕ) → line_dot (take n lines) i u ≡ (ltb i n && line_dot lines i u)
 shown_line lines n i u = elim (cases_lt i n) [
@@ -26,13 +27,6 @@ shown_line lines n i u = elim (cases_lt i n) [
 
 pub shown_white : (lines : List (List ℕ)) (n i u : ℕ) → line_dot lines i u ≡ false → line_dot (take n lines) i u ≡ false
 shown_white lines n i u e = shown_line lines n i u ∙ ap (λ b. ltb i n && b) e ∙ and_false (ltb i n)
-
--- a dot is on one of the lines
-pub line_there : (lines : List (List ℕ)) (i u n : ℕ) → length lines ≤ n → (ltb i 192 && line_dot lines i u) ≡ true → i < n
-line_there lines i u n h e = elim (cases_lt i n) [
-  | inl l ↦ l
-  | inr g ↦ absurd (true≢false (sym e ∙ ap (λ b. ltb i 192 && b) (no_line lines i u (omega arith)) ∙ and_false (ltb i 192)))
-]
 
 -- lines of ink
 module _ (lines : List (List ℕ)) (ink : ℕ → ℕ → Bool) (from width i u : ℕ) (dots : (k x : ℕ) → k < length lines → dot (get_or lines k []) x ≡ ink x (from + k))
@@ -62,3 +56,40 @@ ink_run lines f width i u h e white = elim (cases_lt u 1664) [
   | inl l ↦ rw (lt-ltb u 1664 l) e
   | inr g ↦ rw (le-ltb u 1664 g) (sym (white (omega arith)))
 ]
+
+-- a line alone, as one of those of a mark
+line_marked : (lines : List (List ℕ)) (i u : ℕ) → length lines ≤ 192 → (i < length lines → length (get_or lines i []) ≤ 208)
+    → (ltb i (length lines) && dot (get_or lines i []) u) ≡ (ltb i 192 && (ltb u 1664 && dot (get_or lines i []) u))
+line_marked lines i u few short = elim (cases_lt i (length lines)) [
+  | inl l ↦ rw (lt-ltb i (length lines) l, lt-ltb i 192 (omega arith)) (past_line (get_or lines i []) u (short l))
+  | inr g ↦ rw (le-ltb i (length lines) g) (sym (ap (λ t. ltb i 192 && t) (no_line lines i u g) ∙ and_false (ltb i 192)))
+]
+
+-- one of those that have room
+shown_dot : (lines : List (List ℕ)) (shown n i w u : ℕ) (p q r : Bool) → (p ≡ true → n < shown → (i ≡ w) × (w < shown))
+    → (p && (ltb n shown && (q && (r && dot (get_or (take shown lines) i []) u)))) ≡ (p && (ltb n shown && (q && (r && dot (get_or lines w []) u))))
+shown_dot lines shown n i w u false q r at = refl
+shown_dot lines shown n i w u true q r at = elim (cases_lt n shown) [
+  | inl l ↦ (let e = at refl l in rw (lt-ltb n shown l) (ap (λ t. q && (r && t)) (ap (λ m. dot (get_or (take shown lines) m []) u) e.0 ∙ ap (λ (s : List ℕ). dot s u) (get_or-take shown lines w [] e.1))))
+  | inr g ↦ rw (le-ltb n shown g) refl
+]
+
+module _ (a : Area) (v : ℕ) (lines : List (List ℕ)) (shown x y : ℕ) (few : length lines ≤ 192) (short : (i : ℕ) → i < length lines → length (get_or lines i []) ≤ 208) (deep : v < a.dy) (is : shown ≡ min (length lines) (a.dy - v)) where
+  -- lines that run to the right
+  pub right_mark : (leb (a.y + v) y && (ltb (y - (a.y + v)) (length (take shown lines)) && (leb a.x x && (ltb (x - a.x) a.dx && dot (get_or (take shown lines) (y - (a.y + v)) []) (x - a.x))))) ≡ mark_dot (lines_mark a LeftToRight v lines) x y
+  right_mark =
+      let w = y - a.y - v in
+      let long : length (take shown lines) ≡ shown = omega (arith, length-take shown lines) in
+      rw long (shown_dot lines shown (y - (a.y + v)) (y - (a.y + v)) w (x - a.x) (leb (a.y + v) y) (leb a.x x) (ltb (x - a.x) a.dx) (λ p l. (omega arith, omega (arith, l)))
+      ∙ right_times a v (length lines) shown (dot (get_or lines w [])) is deep x y ∙ ap (λ t. holds a x y && (leb v (y - a.y) && t)) (line_marked lines w (x - a.x) few (short w)))
+
+  -- lines that run to the left
+  pub left_mark : (top : ℕ) → top ≡ a.y + (a.dy - v - shown)
+      → (leb top y && (ltb (y - top) (length (take shown lines)) && (ltb x (a.x + a.dx) && (ltb (a.x + a.dx - 1 - x) a.dx && dot (get_or (take shown lines) (length (take shown lines) - 1 - (y - top)) []) (a.x + a.dx - 1 - x)))))
+      ≡ mark_dot (lines_mark a RightToLeft v lines) x y
+  left_mark top begins =
+      let w = a.y + a.dy - 1 - y - v in
+      let u = a.x + a.dx - 1 - x in
+      let long : length (take shown lines) ≡ shown = omega (arith, length-take shown lines) in
+      rw long (shown_dot lines shown (y - top) (shown - 1 - (y - top)) w u (leb top y) (ltb x (a.x + a.dx)) (ltb u a.dx) (λ p l. (let h = leb-true top y p in (omega (arith, h, l), omega (arith, h, l))))
+      ∙ left_times a v (length lines) shown top (dot (get_or lines w [])) is begins deep x y ∙ ap (λ t. holds a x y && (leb v (a.y + a.dy - 1 - y) && t)) (line_marked lines w u few (short w)))

@@ -1,15 +1,16 @@
 -- Rows made of words, and laid along the page.
-use Rattle.std.proofs.Common.{inl, inr, ◌≡◌, ℕ, ◌+◌, ◌-◌, ◌*◌, ◌/◌, ◌<◌, ◌≤◌, min, Bool, true, false, cond, ltb, leb, ◌&&◌, ◌||◌, refl, sym, ap, ◌∙◌, arith, List, length, replicate, ◌^◌, ◌%◌}
+use Rattle.std.proofs.Common.{inl, inr, ◌≡◌, ℕ, ◌+◌, ◌-◌, ◌*◌, ◌/◌, ◌<◌, ◌≤◌, min, Bool, true, false, cond, ltb, leb, ◌&&◌, ◌||◌, refl, sym, ap, ◌∙◌, arith, List, length, take, replicate, ◌^◌, ◌%◌}
 use Rattle.std.proofs.lemmas.Bool.{cases_lt, lt-ltb, le-ltb, lt-leb, le-leb}
-use Rattle.std.proofs.lemmas.List.{length-replicate}
+use Rattle.std.proofs.lemmas.List.{get_or-take, length-replicate, length-take}
 use Rattle.std.proofs.lemmas.Bool.Decides.{nat_tests}
 use Rattle.std.specs.Int.{to_be_bytes, w64}
-use Rattle.vp_dots.specs.Dots.{bit, dot, span}
+use Rattle.vp_dots.specs.Dots.{bit, dot, dots, span}
 use Rattle.vp_dots.specs.Words.{word_dot}
 use Rattle.vp_dots.specs.Painting.{Painted}
-use Rattle.vp_dots.specs.declared.Op.TheVariants.{Black, White}
+use Rattle.vp_dots.specs.declared.Op.TheVariants.{Black}
 use Rattle.vp_dots.proofs.Words.{word_shr}
 use Rattle.vp_page.proofs.Blank.{dot_white}
+use Rattle.vp_page.proofs.Rows.{dot_past}
 use Rattle.vp_page.proofs.WordsOnRows.{first_eight, word_bytes}
 use Rattle.vp_page.proofs.Squares.{and_false}
 
@@ -38,9 +39,16 @@ pub on_white : (b o : Bool) → o ≡ false → cond b true o ≡ b
 on_white true o e = refl
 on_white false o e = e
 
--- all words of a row
-pub row_made : (ink : ℕ → Bool) (n x : ℕ) (row : List ℕ) → 9 ≤ n → Painted Black (λ d. ltb d (64 * n) && ink d) (replicate 72 0) row → x < 576 → dot row x ≡ ink x
-row_made ink n x row h p l = p.dots_are x (omega (arith, length-replicate {A = ℕ} 72 0)) ∙ on_white (ltb x (64 * n) && ink x) _ (dot_white 72 x (omega arith)) ∙ rw (lt-ltb x (64 * n) (omega arith)) refl
+-- no word yet
+pub none_before : (first d : ℕ) (b : Bool) → (ltb d (64 * (first + 0)) && (leb (64 * first) d && b)) ≡ false
+none_before first d b = elim (cases_lt d (64 * first)) [
+  | inl l ↦ rw (lt-leb (64 * first) d l) (and_false _)
+  | inr g ↦ rw (le-ltb d (64 * (first + 0)) (omega arith)) refl
+]
+
+-- what stands on a row that was white
+pub row_made : (ink : ℕ → Bool) (x : ℕ) (row : List ℕ) → Painted Black ink (replicate 72 0) row → x < 576 → dot row x ≡ ink x
+row_made ink x row p l = p.dots_are x (omega (arith, length-replicate {A = ℕ} 72 0)) ∙ on_white (ink x) _ (dot_white 72 x (omega arith))
 
 -- a word moved to the right
 pub moved_right : (word s x : ℕ) → word < 2 ^ 64 → x < 64 → word_dot (word / 2 ^ s) x ≡ (leb s x && word_dot word (x - s))
@@ -72,22 +80,69 @@ ended line word end at x b c h e =
 pub turned_bytes : (word result x : ℕ) (bytes : List ℕ) → x < 64 → bytes ≡ to_be_bytes w64 word → word_dot result x ≡ dot bytes (8 * 0 + (63 - x)) → word_dot result x ≡ word_dot word (63 - x)
 turned_bytes word result x bytes h e r = r ∙ sym (ap (λ t. t && dot bytes (8 * 0 + (63 - x))) (lt-ltb (63 - x) 64 (omega arith))) ∙ word_bytes word (63 - x) bytes e
 
--- a row clipped at an area's right edge, and at its left
-pub clipped_right : (ax dx x : ℕ) (row new : List ℕ) (f : ℕ → Bool) → length row ≡ 72 → Painted White (span (ax + dx) 576) row new → x < 576 → dot row x ≡ (leb ax x && f x)
-    → dot new x ≡ (leb ax x && (ltb (x - ax) dx && f x))
-clipped_right ax dx x row new f long p h e = p.dots_are x (omega (arith, long)) ∙ ap (λ b. cond (span (ax + dx) 576 x) false b) e ∙ cut (f x)
-  where
-    cut : (b : Bool) → cond (span (ax + dx) 576 x) false (leb ax x && b) ≡ (leb ax x && (ltb (x - ax) dx && b))
-    cut true = grind (arith, nat_tests)
-    cut false = grind (arith, nat_tests)
+-- the front of a line
+front : (line : List ℕ) (n u : ℕ) → dot (take n line) u ≡ (ltb u (8 * n) && dot line u)
+unfolding dot
+front line n u = elim (cases_lt (u / 8) n) [
+  | inl l ↦ rw (lt-ltb u (8 * n) (omega arith), get_or-take n line (u / 8) 0 l) refl
+  | inr g ↦ rw (le-ltb u (8 * n) (omega arith)) (dot_past (take n line) u (omega (arith, length-take n line)))
+]
 
-pub clipped_left : (ax dx x : ℕ) (row new : List ℕ) (f : ℕ → Bool) → length row ≡ 72 → Painted White (span 0 ax) row new → x < 576 → dot row x ≡ (ltb x (ax + dx) && f x)
-    → dot new x ≡ (ltb x (ax + dx) && (ltb (ax + dx - 1 - x) dx && f x))
-clipped_left ax dx x row new f long p h e = p.dots_are x (omega (arith, long)) ∙ ap (λ b. cond (span 0 ax x) false b) e ∙ cut (f x)
+-- whole words on whole bytes
+pub whole_right : (line : List ℕ) (begin long x : ℕ) → begin % 8 ≡ 0 → long % 64 ≡ 0
+    → (leb (8 * (begin / 8)) x && dot (take (long / 8) line) (x - 8 * (begin / 8))) ≡ (leb begin x && (ltb (x - begin) long && dot line (x - begin)))
+whole_right line begin long x b w =
+    let at : 8 * (begin / 8) ≡ begin = omega arith in
+    let all : 8 * (long / 8) ≡ long = omega arith in
+    rw at (ap (λ t. leb begin x && t) (front line (long / 8) (x - begin) ∙ ap (λ n. ltb (x - begin) n && dot line (x - begin)) all))
+
+-- a row clipped where so many dots end, and where they begin
+pub clipped_right : (begin long words k x : ℕ) (b : Bool) → words ≤ 9 → words ≤ k → (words < 9 → begin + long ≤ 64 * words) → (words < 9 → k ≡ words) → x < 576
+    → cond (span (begin + long) (64 * words) x) false (ltb x (64 * k) && (leb (64 * (begin / 64)) x && (leb begin x && b))) ≡ (leb begin x && (ltb (x - begin) long && b))
+clipped_right begin long words k x b few more all same h = elim (cases_lt x begin) [
+  | inl l ↦ rw (lt-leb begin x l, lt-leb (begin + long) x (omega arith)) (and_two (ltb x (64 * k)) _)
+  | inr g ↦ rw (le-leb begin x g, le-leb (64 * (begin / 64)) x (omega arith)) (elim (cases_lt x (begin + long)) [
+    | inl l ↦ rw (lt-leb (begin + long) x l, lt-ltb (x - begin) long (omega arith), lt-ltb x (64 * k) (elim (cases_lt words 9) [ inl m ↦ (let a = all m in omega arith) | inr n ↦ omega arith ])) refl
+    | inr o ↦ rw (le-leb (begin + long) x o, le-ltb (x - begin) long (omega arith)) (elim (cases_lt x (64 * words)) [
+      | inl m ↦ rw (lt-ltb x (64 * words) m) refl
+      | inr n ↦ rw (le-ltb x (64 * words) n, le-ltb x (64 * k) (let s : k ≡ words = same (omega arith) in omega arith)) refl
+    ])
+  ])
+]
   where
-    cut : (b : Bool) → cond (span 0 ax x) false (ltb x (ax + dx) && b) ≡ (ltb x (ax + dx) && (ltb (ax + dx - 1 - x) dx && b))
-    cut true = grind (arith, nat_tests)
-    cut false = grind (arith, nat_tests)
+    and_two : (a b : Bool) → (a && (b && false)) ≡ false
+    and_two a b = rw (and_false b) (and_false a)
+
+pub whole_left : (line : List ℕ) (begin long x : ℕ) → begin % 8 ≡ 0 → long % 64 ≡ 0 → long / 8 ≤ length line
+    → (leb (8 * (begin / 8)) x && (ltb (x - 8 * (begin / 8)) (dots (take (long / 8) line)) && dot (take (long / 8) line) (dots (take (long / 8) line) - 1 - (x - 8 * (begin / 8)))))
+    ≡ (ltb x (begin + long) && (ltb (begin + long - 1 - x) long && dot line (begin + long - 1 - x)))
+whole_left line begin long x b w there =
+    let at : 8 * (begin / 8) ≡ begin = omega arith in
+    let all : 8 * length (take (long / 8) line) ≡ long = omega (arith, length-take (long / 8) line) in
+    rw (at, all) (elim (cases_lt x begin) [
+      | inl l ↦ rw (lt-leb begin x l, le-ltb (begin + long - 1 - x) long (omega arith)) (sym (and_false _))
+      | inr g ↦ rw (le-leb begin x g) (elim (cases_lt x (begin + long)) [
+        | inl m ↦
+            let u = begin + long - 1 - x in
+            let same : long - 1 - (x - begin) ≡ u = omega arith in
+            rw (lt-ltb x (begin + long) m, lt-ltb (x - begin) long (omega arith), lt-ltb u long (omega arith))
+            (ap (dot (take (long / 8) line)) same ∙ front line (long / 8) u ∙ ap (λ t. t && dot line u) (lt-ltb u (8 * (long / 8)) (omega arith)))
+        | inr o ↦ rw (le-ltb x (begin + long) o, le-ltb (x - begin) long (omega arith)) refl
+      ])
+    ])
+
+pub clipped_left : (begin long words k x : ℕ) (b : Bool) → words ≤ k → (words < 9 → begin + long ≤ 64 * words) → x < 576
+    → cond (span (64 * (begin / 64)) begin x) false (ltb x (64 * k) && (leb (64 * (begin / 64)) x && (ltb x (begin + long) && b))) ≡ (ltb x (begin + long) && (ltb (begin + long - 1 - x) long && b))
+clipped_left begin long words k x b more all h = elim (cases_lt x begin) [
+  | inl l ↦ rw (le-ltb (begin + long - 1 - x) long (omega arith), and_false (ltb x (begin + long)), lt-ltb x begin l) (elim (cases_lt x (64 * (begin / 64))) [
+    | inl m ↦ rw (lt-leb (64 * (begin / 64)) x m) (and_false _)
+    | inr o ↦ rw (le-leb (64 * (begin / 64)) x o) refl
+  ])
+  | inr g ↦ rw (le-ltb x begin g, and_false (leb (64 * (begin / 64)) x), le-leb (64 * (begin / 64)) x (omega arith)) (elim (cases_lt x (begin + long)) [
+    | inl l ↦ rw (lt-ltb x (begin + long) l, lt-ltb (begin + long - 1 - x) long (omega arith), lt-ltb x (64 * k) (elim (cases_lt words 9) [ inl m ↦ (let a = all m in omega arith) | inr n ↦ omega arith ])) refl
+    | inr o ↦ rw (le-ltb x (begin + long) o) (and_false _)
+  ])
+]
 
 -- the last eight bytes of a row
 pub row_last : (d : ℕ) (b : Bool) → d < 576 → b ≡ ((span 0 (0 + 16 * 4) (d / 8) && b) || (leb (8 * 64) d && (ltb (d - 8 * 64) 64 && b)))
@@ -107,3 +162,58 @@ as_many top i times k false h e = grind (arith, nat_tests)
 
 pub below_top : (top k : ℕ) (a b : Bool) → top ≤ k → a ≡ b → a ≡ (leb top k && b)
 below_top top k a b h e = e ∙ sym (ap (λ t. t && b) (le-leb top k h))
+
+-- a line has no dots past the bytes of its row
+pub reach : (n dx u : ℕ) (row : List ℕ) (b : Bool) → n ≤ dx → (u < dx → u < 8 * length row → u < n) → b ≡ dot row u → (ltb u n && b) ≡ (ltb u dx && dot row u)
+reach n dx u row b few all same = elim (cases_lt u n) [
+  | inl l ↦ rw (lt-ltb u n l, lt-ltb u dx (omega arith)) same
+  | inr g ↦ rw (le-ltb u n g) (elim (cases_lt u dx) [
+    | inl m ↦ sym (ap (λ t. ltb u dx && t) (dot_past row u (elim (cases_lt u (8 * length row)) [ inl k ↦ absurd (let z = all m k in omega arith) | inr o ↦ omega arith ])) ∙ and_false (ltb u dx))
+    | inr o ↦ rw (le-ltb u dx o) refl
+  ])
+]
+
+-- lines that are laid one below the other: none yet
+pub no_lines : (top y : ℕ) (b : Bool) → (ltb y (top + 0) && (leb top y && b)) ≡ false
+no_lines top y b = elim (cases_lt y top) [
+  | inl l ↦ rw (lt-leb top y l) (and_false _)
+  | inr g ↦ rw (le-ltb y (top + 0) (omega arith)) refl
+]
+
+-- as many more as are the same
+pub lines_more : (top i t y : ℕ) (ink : ℕ → Bool) → ((j : ℕ) → j < t → ink (i + j) ≡ ink i)
+    → (ltb y (top + (i + t)) && (leb top y && ink (y - top))) ≡ (ltb y (top + i) && (leb top y && ink (y - top)) || leb (top + i) y && (ltb (y - (top + i)) t && ink i))
+lines_more top i t y ink same = elim (cases_lt y (top + i)) [
+  | inl l ↦ rw (lt-ltb y (top + i) l, lt-ltb y (top + (i + t)) (omega arith), lt-leb (top + i) y l) (or_false _)
+  | inr g ↦ rw (le-ltb y (top + i) g, le-leb (top + i) y g) (elim (cases_lt y (top + (i + t))) [
+    | inl l ↦ (let j = y - (top + i) in
+        let at : y - top ≡ i + j = omega arith in
+        rw (lt-ltb y (top + (i + t)) l, lt-ltb j t (omega arith), le-leb top y (omega arith)) (ap ink at ∙ same j (omega arith)))
+    | inr o ↦ rw (le-ltb y (top + (i + t)) o, le-ltb (y - (top + i)) t (omega arith)) refl
+  ])
+]
+
+-- lines that are laid one above the other: none yet
+pub none_below : (top n y : ℕ) (b : Bool) → (leb (top + (n - 0)) y && (ltb (y - top) n && b)) ≡ false
+none_below top n y b = elim (cases_lt y (top + (n - 0))) [
+  | inl l ↦ rw (lt-leb (top + (n - 0)) y l) refl
+  | inr g ↦ rw (le-ltb (y - top) n (omega arith)) (and_false _)
+]
+
+pub lines_back : (top n i t y : ℕ) (ink : ℕ → Bool) → i + t ≤ n → ((j : ℕ) → j < t → ink (i + j) ≡ ink i)
+    → (leb (top + (n - (i + t))) y && (ltb (y - top) n && ink (n - 1 - (y - top))))
+    ≡ (leb (top + (n - i)) y && (ltb (y - top) n && ink (n - 1 - (y - top))) || leb (top + (n - i - t)) y && (ltb (y - (top + (n - i - t))) t && ink i))
+lines_back top n i t y ink few same = elim (cases_lt y (top + (n - i))) [
+  | inl l ↦ rw (lt-leb (top + (n - i)) y l) (elim (cases_lt y (top + (n - i - t))) [
+    | inl m ↦ rw (lt-leb (top + (n - i - t)) y m, lt-leb (top + (n - (i + t))) y (omega arith)) refl
+    | inr g ↦ (let j = n - 1 - (y - top) - i in
+        let at : n - 1 - (y - top) ≡ i + j = omega arith in
+        rw (le-leb (top + (n - i - t)) y g, le-leb (top + (n - (i + t))) y (omega arith), lt-ltb (y - top) n (omega arith), lt-ltb (y - (top + (n - i - t))) t (omega arith))
+        (ap ink at ∙ same j (omega arith)))
+  ])
+  | inr g ↦ rw (le-leb (top + (n - i)) y g, le-leb (top + (n - (i + t))) y (omega arith), le-leb (top + (n - i - t)) y (omega arith), le-ltb (y - (top + (n - i - t))) t (omega arith)) (or_false _)
+]
+
+-- all of them
+pub all_lines : (top n i y : ℕ) (b : Bool) → n ≤ i → (leb (top + (n - i)) y && b) ≡ (leb top y && b)
+all_lines top n i y b h = ap (λ m. leb m y && b) (let e : top + (n - i) ≡ top = omega arith in e)

@@ -1,6 +1,6 @@
-//! A row of dots as a row of the page along which it is laid: moved, turned and clipped once, and laid on as
-//! many rows as show it.
-ghost use Rattle.std.specs.Prelude.{◌≡◌, ℕ, Bool, ◌+◌, ◌-◌, ◌*◌, ◌<◌, ◌≤◌, ◌^◌, ◌&&◌, nat_lt, nat_le, length};
+//! Rows of dots as rows of the page along which they are laid: each is moved, turned and clipped once, and
+//! laid on as many rows as show it.
+ghost use Rattle.std.specs.Prelude.{◌≡◌, ℕ, Bool, true, ◌+◌, ◌-◌, ◌*◌, ◌%◌, ◌<◌, ◌≤◌, ◌^◌, ◌&&◌, nat_lt, nat_le, [], length, slice_index_or};
 ghost use Rattle.vp_dots.specs.Dots.{dot};
 ghost use Rattle.vp_dots.specs.Painting.{Painted};
 ghost use Rattle.vp_dots.specs.Places.{RowsPainted};
@@ -10,9 +10,9 @@ ghost use Rattle.vp_page.specs.declared.line.TheConstants.{LINE_BYTES};
 ghost use Rattle.vp_page.specs.declared.page.TheConstants.{PAGE_ROWS, PAPER_BYTES, PAPER_DOTS};
 
 use crate::Area;
-use crate::line::LINE_BYTES;
-use crate::page::{PAGE_ROWS, PAPER_BYTES, PAPER_DOTS, PageBand};
-use crate::words::{or_bytes, or_eight, or_sixteens};
+use crate::line::{LINE_BYTES, lengthened, same_lines};
+use crate::page::{PAGE_ROWS, PAPER_BYTES, PageBand};
+use crate::words::{or_bytes, or_eight, or_reversed, or_sixteens, or_words};
 use vp_dots::{Op, Small, fill_dots, reversed_at, word_at};
 
 /// The 64 dots from place `at` on of a line that begins at place `far`.
@@ -55,32 +55,64 @@ pub(crate) fn word_left(line: &[u8; LINE_BYTES], end: usize, at: usize) -> u64
     0
 }
 
-/// The row of the page along which a line is laid from an area's left on.
-fn row_right(line: &[u8; LINE_BYTES], area: Area) -> [u8; PAPER_BYTES]
+/// Whether so many dots from a place on are whole words that stand on whole bytes of the page.
+#[inline(always)]
+fn is_whole(begin: usize, long: usize) -> bool
+    requires { begin + long < 2 ^ 32 }
+    ensures begins { result ≡ true → begin % 8 ≡ 0 }
+    ensures words { result ≡ true → long % 64 ≡ 0 }
+    ensures on_page { result ≡ true → begin + long ≤ PAPER_DOTS }
+{
+    begin % 8 == 0 && long % 64 == 0 && begin + long <= 8 * PAPER_BYTES
+}
+
+/// The row of the page along which the first dots of a line are laid from a place on. Of its words those are
+/// made that the dots reach: as they stand in the line where they are whole there.
+fn row_right(line: &[u8; LINE_BYTES], begin: usize, long: usize) -> [u8; PAPER_BYTES]
+    requires { begin + long < 2 ^ 32 }
     ensures { (x : ℕ) → x < PAPER_DOTS → dot result x ≡
-        (nat_le area.x x && (nat_lt (x - area.x) area.dx && dot line.now (x - area.x))) }
+        (nat_le begin x && (nat_lt (x - begin) long && dot line.now (x - begin))) }
 {
     let mut row = [0; PAPER_BYTES];
-    for k in 0..PAPER_BYTES / 8 {
-        or_eight(word_right(line, area.x as usize, 64 * k), 8 * k, &mut row);
+    if is_whole(begin, long) {
+        or_words(&line[..long / 8], begin / 8, &mut row);
+        return row;
     }
-    let right = u64::from(area.x) + u64::from(area.dx);
-    fill_dots(Op::White, right, u64::from(PAPER_DOTS), &mut row);
+    let first = begin / 64;
+    let words = (begin + long).div_ceil(64).min(PAPER_BYTES / 8);
+    for i in 0..words.saturating_sub(first) {
+        let k = first + i;
+        or_eight(word_right(line, begin, 64 * k), 8 * k, &mut row);
+    }
+    fill_dots(
+        Op::White,
+        (begin + long) as u64,
+        64 * words as u64,
+        &mut row,
+    );
     row
 }
 
-/// The row of the page along which a line is laid from an area's right edge to the left.
-fn row_left(line: &[u8; LINE_BYTES], area: Area) -> [u8; PAPER_BYTES]
+/// The row of the page as `row_right` makes it, with the dots in the other order: the line runs to the left.
+fn row_left(line: &[u8; LINE_BYTES], begin: usize, long: usize) -> [u8; PAPER_BYTES]
+    requires { begin + long < 2 ^ 31 }
     ensures { (x : ℕ) → x < PAPER_DOTS → dot result x ≡
-        (nat_lt x (area.x + area.dx)
-        && (nat_lt (area.x + area.dx - 1 - x) area.dx && dot line.now (area.x + area.dx - 1 - x))) }
+        (nat_lt x (begin + long)
+        && (nat_lt (begin + long - 1 - x) long && dot line.now (begin + long - 1 - x))) }
 {
     let mut row = [0; PAPER_BYTES];
-    let end = area.x as usize + area.dx as usize;
-    for k in 0..PAPER_BYTES / 8 {
+    if is_whole(begin, long) {
+        or_reversed(&line[..long / 8], begin / 8, &mut row);
+        return row;
+    }
+    let end = begin + long;
+    let first = begin / 64;
+    let words = end.div_ceil(64).min(PAPER_BYTES / 8);
+    for i in 0..words.saturating_sub(first) {
+        let k = first + i;
         or_eight(word_left(line, end, 64 * k), 8 * k, &mut row);
     }
-    fill_dots(Op::White, 0, u64::from(area.x), &mut row);
+    fill_dots(Op::White, 64 * first as u64, begin as u64, &mut row);
     row
 }
 
@@ -123,7 +155,8 @@ pub(crate) fn lay_right<A: Small>(
         && (nat_le area.x x && (nat_lt (x - area.x) area.dx && dot line.now (x - area.x)))))
         band.old band.new }
 {
-    lay_times(&row_right(line, area), times, top, band);
+    let row = row_right(line, area.x as usize, area.dx as usize);
+    lay_times(&row, times, top, band);
 }
 
 /// Blackens `times` rows of the page, from one on, where a line, from an area's right edge to the left, is
@@ -140,5 +173,90 @@ pub(crate) fn lay_left<A: Small>(
         && (nat_lt (area.x + area.dx - 1 - x) area.dx && dot line.now (area.x + area.dx - 1 - x)))))
         band.old band.new }
 {
-    lay_times(&row_left(line, area), times, top, band);
+    let row = row_left(line, area.x as usize, area.dx as usize);
+    lay_times(&row, times, top, band);
+}
+
+/// How many dots of a line of an area are those of so many bytes, or the white ones up to a whole word behind
+/// them.
+#[inline(always)]
+fn reached(area: Area, bytes: usize) -> usize
+    requires { bytes ≤ LINE_BYTES }
+    ensures few { result ≤ area.dx }
+    ensures all { (u : ℕ) → u < area.dx → u < 8 * bytes → u < result }
+{
+    (area.dx as usize).min(64 * bytes.div_ceil(8))
+}
+
+/// Blackens a row of the page where a row of dots, from an area's left on, is black.
+pub(crate) fn lay_row_right<A: Small>(row: &[u8], area: Area, top: usize, band: &mut PageBand<A>)
+    requires { length row.now ≤ LINE_BYTES }
+    ensures { RowsPainted PAGE_ROWS Black (λ x y. nat_le top y && (nat_lt (y - top) 1
+        && (nat_le area.x x && (nat_lt (x - area.x) area.dx && dot row.now (x - area.x)))))
+        band.old band.new }
+{
+    let made = row_right(&lengthened(row), area.x as usize, reached(area, row.len()));
+    lay_times(&made, 1, top, band);
+}
+
+/// Blackens a row of the page where a row of dots, from an area's right edge to the left, is black.
+pub(crate) fn lay_row_left<A: Small>(row: &[u8], area: Area, top: usize, band: &mut PageBand<A>)
+    requires { length row.now ≤ LINE_BYTES }
+    ensures { RowsPainted PAGE_ROWS Black (λ x y. nat_le top y && (nat_lt (y - top) 1
+        && (nat_lt x (area.x + area.dx)
+        && (nat_lt (area.x + area.dx - 1 - x) area.dx && dot row.now (area.x + area.dx - 1 - x)))))
+        band.old band.new }
+{
+    let long = reached(area, row.len());
+    let begin = area.x as usize + (area.dx as usize - long);
+    lay_times(&row_left(&lengthened(row), begin, long), 1, top, band);
+}
+
+/// Blackens rows of the page, from one on, where lines, from an area's left on, are black: those that are the
+/// same are laid at once.
+pub(crate) fn lay_lines_right<A: Small>(
+    lines: &[[u8; LINE_BYTES]],
+    area: Area,
+    top: usize,
+    band: &mut PageBand<A>,
+)
+    requires { top + length lines.now < 2 ^ 32 }
+    ensures { RowsPainted PAGE_ROWS Black (λ x y. nat_le top y && (nat_lt (y - top) (length lines.now)
+        && (nat_le area.x x && (nat_lt (x - area.x) area.dx
+        && dot (slice_index_or lines.now (y - top) []) (x - area.x))))) band.old band.new }
+{
+    let mut i = 0;
+    while i < lines.len() {
+        let times = same_lines(lines, i);
+        lay_right(&lines[i], times, area, top + i, band);
+        i += times;
+    }
+}
+
+/// Blackens rows of the page, from one on, where lines, from an area's right edge to the left, are black: the
+/// last one comes first, and those that are the same are laid at once.
+pub(crate) fn lay_lines_left<A: Small>(
+    lines: &[[u8; LINE_BYTES]],
+    area: Area,
+    top: usize,
+    band: &mut PageBand<A>,
+)
+    requires { top + length lines.now < 2 ^ 32 }
+    ensures { RowsPainted PAGE_ROWS Black (λ x y. nat_le top y && (nat_lt (y - top) (length lines.now)
+        && (nat_lt x (area.x + area.dx) && (nat_lt (area.x + area.dx - 1 - x) area.dx
+        && dot (slice_index_or lines.now (length lines.now - 1 - (y - top)) [])
+        (area.x + area.dx - 1 - x))))) band.old band.new }
+{
+    let mut i = 0;
+    while i < lines.len() {
+        let times = same_lines(lines, i);
+        lay_left(
+            &lines[i],
+            times,
+            area,
+            top + (lines.len() - i - times),
+            band,
+        );
+        i += times;
+    }
 }

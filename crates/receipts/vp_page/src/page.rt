@@ -9,10 +9,12 @@ ghost use Rattle.vp_page.specs.declared.line.TheConstants.{LINE_BYTES, LINE_DOTS
 ghost use Rattle.vp_page.specs.declared.page.TheConstants.{PAPER_BYTES, PAPER_DOTS, PAGE_ROWS};
 
 use crate::across::{AT_ONCE, lay_lines};
-use crate::along::{lay_left, lay_right};
+use crate::along::{
+    lay_left, lay_lines_left, lay_lines_right, lay_right, lay_row_left, lay_row_right,
+};
 use crate::area::{Area, Direction, Way};
 use crate::line::{
-    LINE_BYTES, LINE_DOTS, alone, draw_lines, drawn, lay_column, lengthened, same_lines, whiten,
+    LINE_BYTES, LINE_DOTS, alone, draw_lines, drawn, lay_column, lengthened, whiten,
 };
 use crate::runs::{Begins, draw_runs, lay_runs};
 use crate::white::Rows;
@@ -99,6 +101,7 @@ impl<A: Small> Page<A> {
     ghost use Rattle.vp_page.specs.Pages.{HasPage};
     ghost use Rattle.vp_page.specs.Runs.{AreRuns, across, between};
     ghost use Rattle.vp_dots.specs.declared.square.TheConstants.{SIDE};
+    ghost use Rattle.vp_page.specs.declared.area.Direction.TheVariants.{LeftToRight, RightToLeft};
     ghost use Rattle.vp_page.specs.declared.across.TheConstants.{AT_ONCE};
 
     /// A white page.
@@ -170,21 +173,13 @@ impl<A: Small> Page<A> {
         let below = area.y as usize + area.dy as usize;
         match direction {
             Direction::LeftToRight => {
-                lay_right(
-                    &lengthened(row),
-                    1,
-                    area,
-                    area.y as usize + v,
-                    &mut self.band,
-                )
+                lay_row_right(row, area, area.y as usize + v, &mut self.band)
             }
             Direction::BottomToTop => {
                 let line = lengthened(row);
                 lay_column(&line, area, Way::Up, area.x as usize + v, &mut self.band)
             }
-            Direction::RightToLeft => {
-                lay_left(&lengthened(row), 1, area, below - 1 - v, &mut self.band)
-            }
+            Direction::RightToLeft => { lay_row_left(row, area, below - 1 - v, &mut self.band) }
             Direction::TopToBottom => {
                 let line = lengthened(row);
                 lay_column(&line, area, Way::Down, right - 1 - v, &mut self.band)
@@ -367,29 +362,43 @@ impl<A: Small> Page<A> {
                 self.rows_laid = count;
                 lay_lines(&lines[..shown], long, area, Way::Down, v, &mut self.band)
             }
-            _ => self.lay_lines_along(area, direction, v, lines),
+            Direction::LeftToRight => self.lay_lines_right(area, v, lines),
+            Direction::RightToLeft => self.lay_lines_left(area, v, lines),
         }
     }
 
-    /// Lays rows as `lay_lines` does, which run along the page: those that are the same at once.
-    fn lay_lines_along(
-        &mut self,
-        area: Area,
-        direction: Direction,
-        v: u32,
-        lines: &[[u8; LINE_BYTES]],
-    )
+    /// Lays rows as `lay_lines` does, which run to the right.
+    fn lay_lines_right(&mut self, area: Area, v: u32, lines: &[[u8; LINE_BYTES]])
         requires few { length lines.now ≤ AT_ONCE }
-        requires near { v + AT_ONCE < 2 ^ 32 }
+        requires deep { v < area.dy }
         ensures { (layers : List Layer) → HasPage layers self.old →
-            HasPage (Laid (lines_mark area direction v lines.now) ∷ layers) self.new }
+            HasPage (Laid (lines_mark area LeftToRight v lines.now) ∷ layers) self.new }
     {
-        let mut i = 0;
-        while i < lines.len() {
-            let times = same_lines(lines, i);
-            self.lay_times(area, direction, v + i as u32, times as u32, &lines[i]);
-            i += times;
-        }
+        let shown = lines.len().min(area.dy as usize - v as usize);
+        let top = area.y as usize + v as usize;
+        self.laid = self.laid.with(Rows {
+            from: top,
+            to: top + shown,
+        });
+        self.rows_laid = self.rows_laid.saturating_add(shown as u64);
+        lay_lines_right(&lines[..shown], area, top, &mut self.band);
+    }
+
+    /// Lays rows as `lay_lines` does, which run to the left.
+    fn lay_lines_left(&mut self, area: Area, v: u32, lines: &[[u8; LINE_BYTES]])
+        requires few { length lines.now ≤ AT_ONCE }
+        requires deep { v < area.dy }
+        ensures { (layers : List Layer) → HasPage layers self.old →
+            HasPage (Laid (lines_mark area RightToLeft v lines.now) ∷ layers) self.new }
+    {
+        let shown = lines.len().min(area.dy as usize - v as usize);
+        let top = area.y as usize + (area.dy as usize - v as usize - shown);
+        self.laid = self.laid.with(Rows {
+            from: top,
+            to: top + shown,
+        });
+        self.rows_laid = self.rows_laid.saturating_add(shown as u64);
+        lay_lines_left(&lines[..shown], area, top, &mut self.band);
     }
 
     /// Lays an image no wider than the longest line, with its top at a depth of an area. Dots past the line

@@ -251,7 +251,7 @@ pub(crate) fn lay_halves<A: Small>(
 
 /// Blackens the row where the line, its first byte on byte q, is black.
 #[inline(always)]
-fn or_words(line: &[u8], q: usize, row: &mut [u8])
+pub(crate) fn or_words(line: &[u8], q: usize, row: &mut [u8])
     requires whole { length line.now % 8 ≡ 0 }
     requires room { q + length line.now ≤ length row.old }
     ensures { Painted Black (λ d. nat_le (8 * q) d && dot line.now (d - 8 * q)) row.old row.new }

@@ -1,22 +1,36 @@
-use Rattle.std.proofs.Common.{◌≡◌, ◌+◌, ◌-◌, ◌&&◌, Bool, ℕ, ltb, arith, length}
-use Rattle.std.proofs.lemmas.List.{length-replicate}
-use Rattle.vp_dots.specs.Dots.{dot}
+use Rattle.std.proofs.Common.{◌≡◌, ◌+◌, ◌-◌, ◌*◌, ◌/◌, ◌&&◌, Bool, ℕ, false, cond, leb, ltb, ap, arith, length, ◌∙◌}
+use Rattle.std.proofs.lemmas.Bool.{le-leb}
+use Rattle.vp_dots.specs.Dots.{dot, span}
 use Rattle.vp_dots.specs.declared.Op.TheVariants.{Black}
-use Rattle.vp_dots.proofs.Paints.{painted_then}
-use Rattle.vp_page.proofs.PageRows.{clipped_left, row_made, word_apart, word_more}
+use Rattle.vp_dots.proofs.Paints.{painted_none, painted_then}
+use Rattle.vp_page.proofs.PageRows.{clipped_left, none_before, row_made, whole_left, word_apart, word_more}
 use Rattle.vp_page.proofs.along.row_left.Goals as goal
 
-pub loop-k-preserved : goal.loop-k-preserved
-loop-k-preserved c =
-    let ink : ℕ → Bool = (λ d. (ltb d (c.args.area.x + c.args.area.dx) && dot c.args.line.now ((c.args.area.x + c.args.area.dx) - 1 - d))) in
-    painted_then Black _ _ _ _ _ _ c.loop-k.invariant c.or_eight.ensures
-    (λ d l. word_more ink c.word_left.result c.loop-k.k d c.word_left.ensures)
-    (λ d l. word_apart c.loop-k.k d (ink d) _)
+pub returns-then-is_whole : goal.returns-then-is_whole
+returns-then-is_whole c = λ x h. row_made _ x c.or_reversed.new.row c.or_reversed.ensures h
+    ∙ whole_left c.args.line.now c.args.begin c.args.long x (c.is_whole.ensures.begins c.if-is_whole.true) (c.is_whole.ensures.words c.if-is_whole.true)
+    (let room = c.is_whole.ensures.on_page c.if-is_whole.true in omega (arith, c.told-line, room))
+
+pub loop-i-init : goal.loop-i-init
+loop-i-init c = painted_none _ _ _ (λ d l. none_before (c.args.begin / 64) d _)
+
+pub loop-i-preserved : goal.loop-i-preserved
+loop-i-preserved c =
+    let end = c.args.begin + c.args.long in
+    let ink : ℕ → Bool = (λ d. leb (64 * (c.args.begin / 64)) d && (ltb d end && dot c.args.line.now (end - 1 - d))) in
+    let k = c.args.begin / 64 + c.loop-i.i in
+    let next : c.args.begin / 64 + (c.loop-i.i + 1) ≡ k + 1 = omega arith in
+    rw next (painted_then Black _ _ _ _ _ _ c.loop-i.invariant c.or_eight.ensures
+    (λ d l. word_more ink c.word_left.result k d (λ x m. rw (le-leb (64 * (c.args.begin / 64)) (64 * k + x) (omega arith)) (c.word_left.ensures x m)))
+    (λ d l. word_apart k d (ink d) _))
 
 pub returns : goal.returns
 returns c = λ x h.
-    let a = c.args.area in
-    let f : ℕ → Bool = λ d. dot c.args.line.now (a.x + a.dx - 1 - d) in
-    let long : length c.loop-k.row ≡ 72 = omega (arith, c.loop-k.invariant.length_is, length-replicate {A = ℕ} 72 0) in
-    clipped_left a.x a.dx x c.loop-k.row c.fill_dots.new.row f long (rw c.from.ensures at c.fill_dots.ensures) h
-    (row_made (λ d. ltb d (a.x + a.dx) && f d) c.loop-k.k x c.loop-k.row c.loop-k-test.false c.loop-k.invariant h)
+    let begin = c.args.begin in
+    let end = begin + c.args.long in
+    let words = c.min-words.result in
+    let k = begin / 64 + c.loop-i.i in
+    let long : length c.loop-i.row ≡ 72 = c.loop-i-test.array_long in
+    c.fill_dots.ensures.dots_are x (omega (arith, h, long)) ∙ ap (λ b. cond (span (64 * (begin / 64)) begin x) false b) (row_made _ x c.loop-i.row c.loop-i.invariant h)
+    ∙ clipped_left begin c.args.long words k x (dot c.args.line.now (end - 1 - x)) (omega (arith, c.saturating_sub-i-end.ensures))
+    (λ m. omega (arith, c.min-words.ensures, c.div_ceil.ensures, m)) h

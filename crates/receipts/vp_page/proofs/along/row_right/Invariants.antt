@@ -1,9 +1,9 @@
-use Rattle.std.proofs.Common.{◌-◌, ◌*◌, ◌&&◌, leb, ltb, replicate}
+use Rattle.std.proofs.Common.{◌+◌, ◌-◌, ◌*◌, ◌&&◌, leb, ltb, replicate}
 use Rattle.vp_dots.specs.Dots.{dot}
 use Rattle.vp_dots.specs.Painting.{Painted}
 use Rattle.vp_dots.specs.declared.Op.TheVariants.{Black}
 use Rattle.vp_page.proofs.along.row_right.Given as goal
 
 -- the words before this one are made
-abbrev pub invariant-loop-k : goal.invariant-loop-k
-invariant-loop-k l = Painted Black (λ d. ltb d (64 * l.k) && (leb l.area.x d && dot l.line (d - l.area.x))) (replicate 72 0) l.row
+abbrev pub invariant-loop-i : goal.invariant-loop-i
+invariant-loop-i l = Painted Black (λ d. ltb d (64 * (l.first + l.i)) && (leb (64 * l.first) d && (leb l.begin d && dot l.line (d - l.begin)))) (replicate 72 0) l.row

@@ -1,4 +1,4 @@
-use Rattle.std.proofs.Common.{◌≡◌, ℕ, Bool, ◌+◌, ◌&&◌, eqb, arith}
+use Rattle.std.proofs.Common.{ℕ, Bool, ◌+◌, ◌&&◌, eqb, arith}
 use Rattle.vp_dots.specs.Dots.{dot, span}
 use Rattle.vp_dots.specs.declared.Op.TheVariants.{Black}
 use Rattle.vp_dots.proofs.Placing.{rows_init, rows_all}

@@ -1,4 +1,4 @@
-use Rattle.std.proofs.Common.{◌+◌, ◌-◌, ◌&&◌, eqb, leb, ltb, ◌<◌, ◌∙◌, ap, refl, sym, subst, arith}
+use Rattle.std.proofs.Common.{◌+◌, ◌-◌, ◌&&◌, eqb, ◌<◌, ◌∙◌, ap, refl, sym, subst, arith}
 use Rattle.vp_dots.specs.Dots.{dot, span}
 use Rattle.vp_page.specs.Areas.{depth}
 use Rattle.vp_page.specs.Layers.{row_mark}
@@ -18,7 +18,7 @@ invariant_of-self g c =
     let a = c.args.area in
     let row = dot c.args.row.now in
     let deep : c.args.v < a.dy = omega (arith, c.if-v-from.false, c.from.ensures ∙ c.depth.ensures ∙ ap (depth a) c.in-LeftToRight.is) in
-    laid_on _ c.self.inside.laid _ _ c.self.inside.band _ c.self.invariant (rows_same Black _ _ _ _ (λ x k _. ap (λ b. leb (c.args.area.y + c.args.v) k && (ltb (k - (c.args.area.y + c.args.v)) 1 && (leb c.args.area.x x && (ltb (x - c.args.area.x) c.args.area.dx && b)))) (c.lengthened.ensures (x - c.args.area.x))) c.lay_right.ensures) c.with-self-inside.ensures.within c.with-self-inside.ensures.these
+    laid_on _ c.self.inside.laid _ _ c.self.inside.band _ c.self.invariant c.lay_row_right.ensures c.with-self-inside.ensures.within c.with-self-inside.ensures.these
     (λ x y h e. c.with-self-inside.ensures.others y h (rw c.in-LeftToRight.is at c.fallen.ensures row x y (sym (right_same a c.args.v row deep x y) ∙ e)))
 
 pub returns-in-LeftToRight : goal.returns-in-LeftToRight
@@ -26,7 +26,7 @@ returns-in-LeftToRight g c = λ layers page.
     let a = c.args.area in
     let row = dot c.args.row.now in
     let deep : c.args.v < a.dy = omega (arith, c.if-v-from.false, c.from.ensures ∙ c.depth.ensures ∙ ap (depth a) c.in-LeftToRight.is) in
-    rw c.in-LeftToRight.is (laid layers _ _ _ (subst (HasPage layers) (sym c.self.view_is) page) (row_mark a LeftToRight c.args.v row) (λ x y h k. right_same a c.args.v row deep x y) (rows_same Black _ _ _ _ (λ x k _. ap (λ b. leb (c.args.area.y + c.args.v) k && (ltb (k - (c.args.area.y + c.args.v)) 1 && (leb c.args.area.x x && (ltb (x - c.args.area.x) c.args.area.dx && b)))) (c.lengthened.ensures (x - c.args.area.x))) c.lay_right.ensures) (omega (arith, deep, c.saturating_add-self-inside.ensures)) refl)
+    rw c.in-LeftToRight.is (laid layers _ _ _ (subst (HasPage layers) (sym c.self.view_is) page) (row_mark a LeftToRight c.args.v row) (λ x y h k. right_same a c.args.v row deep x y) c.lay_row_right.ensures (omega (arith, deep, c.saturating_add-self-inside.ensures)) refl)
 
 pub invariant_of-self-in-BottomToTop : goal.invariant_of-self-in-BottomToTop
 invariant_of-self-in-BottomToTop g c =
@@ -48,7 +48,7 @@ invariant_of-self-in-RightToLeft g c =
     let a = c.args.area in
     let row = dot c.args.row.now in
     let deep : c.args.v < a.dy = omega (arith, c.if-v-from.false, c.from.ensures ∙ c.depth.ensures ∙ ap (depth a) c.in-RightToLeft.is) in
-    laid_on _ c.self.inside.laid _ _ c.self.inside.band _ c.self.invariant (rows_same Black _ _ _ _ (λ x k _. ap (λ b. leb (c.args.area.y + c.args.area.dy - 1 - c.args.v) k && (ltb (k - (c.args.area.y + c.args.area.dy - 1 - c.args.v)) 1 && (ltb x (c.args.area.x + c.args.area.dx) && (ltb (c.args.area.x + c.args.area.dx - 1 - x) c.args.area.dx && b)))) (c.lengthened-in-RightToLeft.ensures (c.args.area.x + c.args.area.dx - 1 - x))) c.lay_left.ensures) c.with-self-inside.ensures.within c.with-self-inside.ensures.these
+    laid_on _ c.self.inside.laid _ _ c.self.inside.band _ c.self.invariant c.lay_row_left.ensures c.with-self-inside.ensures.within c.with-self-inside.ensures.these
     (λ x y h e. c.with-self-inside.ensures.others y h (rw c.in-RightToLeft.is at c.fallen.ensures row x y (sym (left_same a c.args.v row deep x y) ∙ e)))
 
 pub returns-in-RightToLeft : goal.returns-in-RightToLeft
@@ -56,7 +56,7 @@ returns-in-RightToLeft g c = λ layers page.
     let a = c.args.area in
     let row = dot c.args.row.now in
     let deep : c.args.v < a.dy = omega (arith, c.if-v-from.false, c.from.ensures ∙ c.depth.ensures ∙ ap (depth a) c.in-RightToLeft.is) in
-    rw c.in-RightToLeft.is (laid layers _ _ _ (subst (HasPage layers) (sym c.self.view_is) page) (row_mark a RightToLeft c.args.v row) (λ x y h k. left_same a c.args.v row deep x y) (rows_same Black _ _ _ _ (λ x k _. ap (λ b. leb (c.args.area.y + c.args.area.dy - 1 - c.args.v) k && (ltb (k - (c.args.area.y + c.args.area.dy - 1 - c.args.v)) 1 && (ltb x (c.args.area.x + c.args.area.dx) && (ltb (c.args.area.x + c.args.area.dx - 1 - x) c.args.area.dx && b)))) (c.lengthened-in-RightToLeft.ensures (c.args.area.x + c.args.area.dx - 1 - x))) c.lay_left.ensures) (omega (arith, deep, c.saturating_add-self-inside.ensures)) refl)
+    rw c.in-RightToLeft.is (laid layers _ _ _ (subst (HasPage layers) (sym c.self.view_is) page) (row_mark a RightToLeft c.args.v row) (λ x y h k. left_same a c.args.v row deep x y) c.lay_row_left.ensures (omega (arith, deep, c.saturating_add-self-inside.ensures)) refl)
 
 pub invariant_of-self-in-TopToBottom : goal.invariant_of-self-in-TopToBottom
 invariant_of-self-in-TopToBottom g c =
