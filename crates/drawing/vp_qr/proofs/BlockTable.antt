@@ -1,6 +1,6 @@
 -- The table of blocks, checked row by row.
-use Rattle.std.proofs.Common.{◌≡◌, ℕ, ◌+◌, ◌<◌, ◌≤◌, ◌&&◌, ◌||◌, Bool, true, eqb, ltb, refl, inl, inr, arith}
-use Rattle.std.proofs.lemmas.Bool.{and_parts, eqb-true, ltb-true, cases_lt}
+use Rattle.std.proofs.Common.{◌≡◌, ℕ, ◌+◌, ◌<◌, ◌≤◌, ◌&&◌, ◌||◌, Bool, true, eqb, ltb, refl, arith}
+use Rattle.std.proofs.lemmas.Bool.{and_parts, eqb-true, ltb-true}
 use Rattle.vp_qr.specs.declared.level.Level.{Level}
 use Rattle.vp_qr.specs.declared.level.Level.TheVariants.{L, M, Q, H}
 use Rattle.vp_qr.specs.declared.level.Blocks.{Blocks}
@@ -29,11 +29,7 @@ every_version Q = refl
 every_version H = refl
 
 long_short : (n w : ℕ) → (eqb n 0 || ltb w 116) ≡ true → 0 < n → w < 116
-long_short n w h some =
-    elim (cases_lt w 116) [
-      | inl lt ↦ lt
-      | inr le ↦ absurd (grind (arith, h))
-    ]
+long_short n w h some = grind arith
 
 pub codewords_add : (level : Level) (v : ℕ) → 1 ≤ v → v ≤ 10 → codewords_of (blocks_of level v) ≡ total v
 codewords_add level v low high = eqb-true _ _ (and_parts _ _ (and_parts _ _ (for_version (holds level) (every_version level) v low high)).0).0

@@ -1,11 +1,11 @@
 -- The least penalty, and symbols that differ only where no data stands.
-use Rattle.std.proofs.Common.{◌≡◌, ℕ, zero, suc, ◌-◌, ◌<◌, ◌≤◌, ◌&&◌, ◌||◌, not, Bool, true, false, eqb, leb, cond, List, [], ◌∷◌, length, get_or, map, refl, sym, ap, ◌∙◌, inl, inr, arith}
+use Rattle.std.proofs.Common.{◌≡◌, ℕ, zero, suc, ◌-◌, ◌<◌, ◌≤◌, ◌&&◌, Bool, true, false, eqb, leb, cond, List, [], ◌∷◌, length, get_or, map, refl, sym, ap, ◌∙◌, inl, inr, arith}
 use Rattle.std.specs.List.{list_all, position_or_len}
 use Rattle.std.proofs.lemmas.Bool.{eqb-true, lt-leb, le-leb, cases_lt}
 use Rattle.std.proofs.lemmas.List.{ext_get_or, length-map, get_or-map}
 use Rattle.std.proofs.lemmas.List.Sums.{position_or_len_is, fails_before_first}
 use Rattle.vp_qr.specs.Places.{size, corner, alignment, version_area, reserved}
-use Rattle.vp_qr.specs.Walk.{number_of, data_bit, dark}
+use Rattle.vp_qr.specs.Walk.{dark}
 use Rattle.vp_qr.specs.Symbol.{finder, module_at, differ, formula}
 use Rattle.vp_qr.specs.declared.level.Level.{Level}
 use Rattle.vp_qr.specs.declared.symbol.Grid.{Grid}
@@ -30,10 +30,7 @@ not_least x (y ∷ ys) (suc b) lt h = ap (λ t. leb x y && t) (not_least x ys b 
 
 pub least_place_is : (xs : List ℕ) (b : ℕ) → b < length xs → ((m : ℕ) → m < length xs → get_or xs b 0 ≤ get_or xs m 0) → ((m : ℕ) → m < b → get_or xs b 0 < get_or xs m 0) → b ≡ least_place xs
 unfolding least_place
-least_place_is xs b lt least lowest =
-    sym (position_or_len_is (λ x. list_all (leb x) xs) xs b 0 (omega arith)
-    (λ k h. not_least (get_or xs k 0) xs b lt (lowest k h))
-    (λ _. all_least (get_or xs b 0) xs least))
+least_place_is xs b lt least lowest = grind (arith, all_least, not_least, position_or_len_is)
 
 masks_are : passes_below 8 (λ k. eqb (get_or masks k 0) k) ≡ true
 masks_are = refl
@@ -62,12 +59,7 @@ last_only false false false false false false false p q r s t u v x y h = h refl
 
 no_reserve : (v i j : ℕ) → eqb i 6 ≡ false → eqb j 6 ≡ false → alignment v i j ≡ false → version_area v i j ≡ false → corner (size v) i j ≡ false → reserved v i j ≡ false
 unfolding reserved
-no_reserve v i j a b c d e =
-    ap (λ t. t || eqb i 6 || eqb j 6 || alignment v i j || version_area v i j) e
-    ∙ ap (λ t. t || eqb j 6 || alignment v i j || version_area v i j) a
-    ∙ ap (λ t. t || alignment v i j || version_area v i j) b
-    ∙ ap (λ t. t || version_area v i j) c
-    ∙ d
+no_reserve v i j a b c d e = grind arith
 
 -- a module depends on the data only where it isn't reserved
 pub module_same : (v format code m : ℕ) (f g : ℕ → ℕ → Bool) (i j : ℕ) → (reserved v i j ≡ false → f i j ≡ g i j) → module_at v format code m f i j ≡ module_at v format code m g i j
@@ -82,10 +74,7 @@ module_same v format code m f g i j h =
 pub same_modules : (level : Level) (m : ℕ) (codewords : List ℕ) (grid : Grid) → IsGridOf codewords grid → (i j : ℕ) → i < size grid.version → j < size grid.version
     → module_at grid.version (format_code level m) (version_code grid.version) m (dark grid.unmasked) i j ≡ masked level grid.version codewords m i j
 unfolding masked
-same_modules level m codewords grid of i j hi hj =
-    let v : ℕ = grid.version in
-    module_same v (format_code level m) (version_code v) m (dark grid.unmasked) (λ i j. data_bit codewords (number_of v i j)) i j
-    (λ free. of.unmasked_is i j hi hj ∙ ap (λ t. not t && data_bit codewords (number_of v i j)) free)
+same_modules level m codewords grid of i j hi hj = grind (arith, module_same)
 
 -- number b of a list is the least
 record IsLeast (xs : List ℕ) (b : ℕ) : Type 0 where
@@ -93,18 +82,10 @@ record IsLeast (xs : List ℕ) (b : ℕ) : Type 0 where
   least : (m : ℕ) → m < length xs → get_or xs b 0 ≤ get_or xs m 0
 
 least_first : (x : ℕ) (xs : List ℕ) (b : ℕ) → IsLeast xs b → x < get_or xs b 0 → IsLeast (x ∷ xs) 0
-least_first x xs b h lt = record { below = omega arith; least = at_least }
-  where
-    at_least : (m : ℕ) → m < length (x ∷ xs) → x ≤ get_or (x ∷ xs) m 0
-    at_least zero k = omega arith
-    at_least (suc m) k = omega (arith, h.least m (omega arith))
+least_first x xs b h lt = grind arith
 
 least_later : (x : ℕ) (xs : List ℕ) (b : ℕ) → IsLeast xs b → get_or xs b 0 ≤ x → IsLeast (x ∷ xs) (suc b)
-least_later x xs b h le = record { below = omega (arith, h.below); least = at_least }
-  where
-    at_least : (m : ℕ) → m < length (x ∷ xs) → get_or xs b 0 ≤ get_or (x ∷ xs) m 0
-    at_least zero k = le
-    at_least (suc m) k = h.least m (omega arith)
+least_later x xs b h le = grind arith
 
 -- some number of a list that isn't empty is
 least_stands : (x : ℕ) (xs : List ℕ) → (b : ℕ) × IsLeast (x ∷ xs) b

@@ -1,17 +1,14 @@
 -- Sums over the modules of a row, and the ones among a number's bits.
-use Rattle.std.proofs.Common.{◌≡◌, ℕ, zero, suc, ◌+◌, ◌-◌, ◌*◌, ◌/◌, ◌%◌, ◌^◌, ◌<◌, ◌≤◌, Bool, ◌&&◌, eqb, cond, List, get_or, refl, sym, ap, ◌∙◌, subst, inl, inr, arith, ◌∷◌, bit_and, pow-suc, add_assoc}
+use Rattle.std.proofs.Common.{◌≡◌, ℕ, zero, suc, ◌+◌, ◌-◌, ◌*◌, ◌/◌, ◌%◌, ◌^◌, ◌<◌, ◌≤◌, Bool, ◌&&◌, eqb, cond, List, get_or, refl, sym, ap, ◌∙◌, subst, arith, ◌∷◌, bit_and, pow-suc, add_assoc}
 use lib.Count.{ones}
 use Rattle.std.specs.Int.{bit_at}
-use Rattle.std.proofs.lemmas.Bool.{cases_lt}
 use Rattle.std.proofs.lemmas.Nat.{div_below, ones_cat, one_shl, and_mask, div-add-mod', mod_below, pow_pos}
 use Rattle.std.proofs.lemmas.Nat.Bits.{bit_at-lt, bit_at_cat_low}
 use Rattle.vp_qr.specs.Penalty.{is_set, sum_below, line_from, line_penalty, lines_penalty, same, square_at, squares_penalty, dark_modules, balance_penalty, penalty}
 use Rattle.vp_qr.specs.Walk.{dark}
 
 pub sum_more : (n : ℕ) (f : ℕ → ℕ) → sum_below (n + 1) f ≡ sum_below n f + f n
-sum_more n f =
-    let e : n + 1 ≡ suc n = omega arith in
-    ap (λ m. sum_below m f) e
+sum_more n f = grind arith
 
 pub sum_same : (n : ℕ) (f g : ℕ → ℕ) → ((k : ℕ) → k < n → f k ≡ g k) → sum_below n f ≡ sum_below n g
 sum_same zero f g h = refl
@@ -48,11 +45,7 @@ sum_swap (suc n) m f =
 
 ones_bit : (b : ℕ) → b < 2 → ones b ≡ b
 unfolding ones
-ones_bit b h =
-    elim (cases_lt b 1) [
-      | inl lt ↦ let e : 0 ≡ b = omega arith in subst (λ m. ones m ≡ m) e refl
-      | inr le ↦ let e : 1 ≡ b = omega arith in subst (λ m. ones m ≡ m) e refl
-    ]
+ones_bit b h = grind arith
 
 -- the ones among a number's bits
 ones_none : ones 0 ≡ 0
@@ -107,11 +100,7 @@ pub line_same : (f g : ℕ → Bool) (n at : ℕ) → ((j : ℕ) → at ≤ j �
 line_same f g n at h = line_moved f g n at at (λ k lt. h (at + k) (omega arith) (omega arith))
 
 bit_as_one : (b : ℕ) → b < 2 → b ≡ cond (eqb b 1) 1 0
-bit_as_one b h =
-    elim (cases_lt b 1) [
-      | inl lt ↦ let e : 0 ≡ b = omega arith in subst (λ m. m ≡ cond (eqb m 1) 1 0) e refl
-      | inr le ↦ let e : 1 ≡ b = omega arith in subst (λ m. m ≡ cond (eqb m 1) 1 0) e refl
-    ]
+bit_as_one b h = grind arith
 
 -- the set bits of a word whose modules are known
 pub sum_set : (word n : ℕ) (p : ℕ → Bool) → ((j : ℕ) → j < n → is_set word j ≡ p j) → sum_below n (λ j. bit_at word j) ≡ sum_below n (λ j. cond (p j) 1 0)

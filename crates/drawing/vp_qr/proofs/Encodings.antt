@@ -1,13 +1,11 @@
 -- The parts of a symbol make the whole.
-use Rattle.std.proofs.Common.{◌≡◌, ℕ, ◌<◌, not, eqb, length, List, Some, cond, refl, ap, ◌∙◌, subst}
-use Rattle.std.specs.Prelude.{unwrap_or, is_none, Option, Bool, true, false, None}
+use Rattle.std.proofs.Common.{arith}
+use Rattle.std.proofs.Common.{◌≡◌, ℕ, ◌<◌, List, Some, refl, ap, ◌∙◌, subst}
+use Rattle.std.specs.Prelude.{unwrap_or, is_none, Option, false, None}
 use Rattle.vp_qr.specs.declared.level.Level.{Level}
 use Rattle.vp_qr.specs.declared.segment.Mode.{Mode}
 use Rattle.vp_qr.specs.declared.segment.Kind.{Kind}
-use Rattle.std.specs.List.{list_all}
-use Rattle.vp_dots.specs.declared.fault.Fault.TheVariants.{Symbol, SymbolTooLong}
-use Rattle.vp_dots.specs.declared.fault.Why.TheVariants.{Empty, Char}
-use Rattle.vp_qr.specs.Segments.{has, kind_of, message}
+use Rattle.vp_qr.specs.Segments.{kind_of, message}
 use Rattle.vp_qr.specs.Strings.{padded}
 use Rattle.vp_qr.specs.Versions.{smallest, Holds}
 use Rattle.vp_qr.proofs.VersionsInOrder.{smallest_holds}
@@ -55,20 +53,13 @@ module _ (level : Level) (mode : Mode) (src : List ℕ) (kind : Kind) (v : ℕ) 
   pub same_mask : best_mask level v codewords ≡ mask_of level mode src
   same_mask = ap (λ n. best_mask level n codewords) same_version ∙ ap (best_mask level (version_of level mode src)) same_codewords
 
-last_fails : {F : Type 0} (a b c : Bool) (x y z : F) → ◌≡◌ {A = Option F} (cond a (Some x) (cond b (Some y) (cond c (Some z) None))) None → c ≡ false
-last_fails true b c x y z e = cc
-last_fails false true c x y z e = cc
-last_fails false false true x y z e = cc
-last_fails false false false x y z e = refl
-
 found : (o : Option ℕ) → is_none o ≡ false → Some (unwrap_or o 0) ≡ o
 found (Some v) e = refl
 found None e = cc
 
 -- bytes that aren't refused have a version
 pub accepted_version : (level : Level) (mode : Mode) (src : List ℕ) → refusal level mode src ≡ None → Some (version_of level mode src) ≡ smallest level (kind_of mode src) src
-accepted_version level mode src e = found (smallest level (kind_of mode src) src)
-    (last_fails (eqb (length src) 0) (not (list_all (has (kind_of mode src)) src)) (is_none (smallest level (kind_of mode src) src)) (Symbol Empty) (Symbol Char) SymbolTooLong e)
+accepted_version level mode src e = grind arith
 
 -- and it holds them
 pub version_holds : (level : Level) (mode : Mode) (src : List ℕ) → refusal level mode src ≡ None → Holds level (kind_of mode src) src (version_of level mode src)

@@ -1,12 +1,13 @@
 -- The bits of the format across row 8.
-use Rattle.std.proofs.Common.{◌≡◌, ℕ, ◌+◌, ◌-◌, ◌*◌, ◌%◌, ◌^◌, ◌<◌, ◌≤◌, ◌&&◌, ◌||◌, not, Bool, true, false, eqb, ltb, leb, cond, refl, sym, ap, ◌∙◌, inl, inr, arith, bit_or, subst}
+use Rattle.std.proofs.lemmas.Bool.Decides.{nat_tests}
+use Rattle.std.proofs.Common.{◌≡◌, ℕ, ◌+◌, ◌-◌, ◌*◌, ◌%◌, ◌^◌, ◌<◌, ◌≤◌, ◌&&◌, Bool, true, eqb, ltb, cond, refl, sym, ap, ◌∙◌, inl, inr, arith, bit_or, subst}
 use Rattle.std.specs.Int.Bits.{or_zero_r}
-use Rattle.std.proofs.lemmas.Bool.{cases_lt, and_parts, lt-ltb, le-ltb, lt-leb, le-leb, ne_eqb, eq-eqb, cond-true, cond-false}
+use Rattle.std.proofs.lemmas.Bool.{cases_lt, lt-ltb, le-ltb, le-leb, ne_eqb, eq-eqb, cond-true, cond-false}
 use Rattle.vp_qr.specs.Penalty.{is_set}
-use Rattle.vp_qr.specs.Places.{size, corner, alignment, version_area}
-use Rattle.vp_qr.specs.Symbol.{finder, format_here}
+use Rattle.vp_qr.specs.Places.{corner}
+use Rattle.vp_qr.specs.Symbol.{format_here}
 use Rattle.vp_qr.proofs.FreeModules.{Made, made_dark, made_light}
-use Rattle.vp_qr.proofs.ShapeLines.{is_set_shl, in_no_part}
+use Rattle.vp_qr.proofs.ShapeLines.{is_set_shl}
 
 -- one bit more
 no_bit : (m : ℕ) → 0 * m % 2 ^ 64 ≡ 0
@@ -24,27 +25,13 @@ made_bit f line column bit lt two e h = elim (cases_lt bit 1) [
 ]
 
 left_or_right : (s j : ℕ) → 21 ≤ s → corner s 8 j ≡ true → 9 ≤ j → s - 8 ≤ j
-left_or_right s j low h far = elim (cases_lt j (s - 8)) [
-  | inr le ↦ le
-  | inl lt ↦ absurd (in_no_part true (leb (s - 8) 8) (ltb j 9) (leb (s - 8) j) (le-ltb j 9 far) (lt-leb (s - 8) j lt) h)
-]
+left_or_right s j low h far = grind arith
 
 behind_timing : (s j : ℕ) → 6 ≤ j → j < 9 → (j ≡ 6 → ⊥) → 14 - (j - 1) ≡ cond (eqb j 7) 8 (cond (eqb j 8) 7 (s - 1 - j))
-behind_timing s j low high ne = elim (cases_lt j 8) [
-  | inl lt ↦
-      let seven : j ≡ 7 = elim (cases_lt j 7) [ inl six ↦ absurd (ne (omega arith)) | inr le ↦ omega arith ] in
-      let e : 14 - (j - 1) ≡ 8 = omega arith in
-      e ∙ sym (cond-true (eqb j 7) 8 (cond (eqb j 8) 7 (s - 1 - j)) (eq-eqb j 7 seven))
-  | inr le ↦
-      let eight : j ≡ 8 = omega arith in
-      let e : 14 - (j - 1) ≡ 7 = omega arith in
-      e ∙ sym (cond-false (eqb j 7) 8 (cond (eqb j 8) 7 (s - 1 - j)) (ne_eqb j 7 (λ seven. omega arith)) ∙ cond-true (eqb j 8) 7 (s - 1 - j) (eq-eqb j 8 eight))
-]
+behind_timing s j low high ne = grind arith
 
 right_end : (s j : ℕ) → 21 ≤ s → j < s → 9 ≤ j → s - 8 ≤ j → 14 - (j - (s - 15)) ≡ cond (eqb j 7) 8 (cond (eqb j 8) 7 (s - 1 - j))
-right_end s j low hj far end =
-    let e : 14 - (j - (s - 15)) ≡ s - 1 - j = omega arith in
-    e ∙ sym (cond-false (eqb j 7) 8 (cond (eqb j 8) 7 (s - 1 - j)) (ne_eqb j 7 (λ seven. omega arith)) ∙ cond-false (eqb j 8) 7 (s - 1 - j) (ne_eqb j 8 (λ eight. omega arith)))
+right_end s j low hj far end = grind arith
 
 pub across_is : (s format bits j : ℕ) → 21 ≤ s → s ≤ 57 → j < s → ((k : ℕ) → k < 15 → is_set bits k ≡ is_set format (14 - k)) → corner s 8 j ≡ true → (j ≡ 6 → ⊥)
     → cond (ltb j 6) (is_set bits j) (cond (ltb j 9) (is_set (bits * 2 ^ 1 % 2 ^ 64) j) (is_set (bits * 2 ^ (s - 15) % 2 ^ 64) j))
@@ -78,18 +65,6 @@ across_is s format bits j low high hj first here not_six =
           ∙ ap (is_set format) (sym (cond-false (ltb j 6) (14 - j) rest (le-ltb j 6 past)))
     ]
 
--- no bit of the format stands in the timing pattern
-third_false : (a b c d e f : Bool) → not (((((a || b) || c) || d) || e) || f) ≡ true → c ≡ false
-third_false true b c d e f h = cc
-third_false false true c d e f h = cc
-third_false false false true d e f h = cc
-third_false false false false d e f h = refl
-
 pub not_in_timing : (v i j : ℕ) → format_here v i j ≡ true → j ≡ 6 → ⊥
 unfolding format_here
-not_in_timing v i j h e =
-    let none : eqb j 6 ≡ false = third_false (finder (size v) i j) (eqb i 6) (eqb j 6) (alignment v i j) (version_area v i j) (eqb i (size v - 8) && eqb j 8) (and_parts _ _ h).1 in
-    true_is_not_false (sym (eq-eqb j 6 e) ∙ none)
-  where
-    true_is_not_false : true ≡ false → ⊥
-    true_is_not_false e = cc
+not_in_timing v i j h e = grind (arith, nat_tests)

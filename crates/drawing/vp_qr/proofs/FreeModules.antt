@@ -1,7 +1,7 @@
 -- Where no data stands, and rows that are made bit by bit.
 use Rattle.std.proofs.Common.{◌≡◌, ℕ, zero, suc, ◌+◌, ◌-◌, ◌*◌, ◌^◌, ◌%◌, ◌<◌, ◌&&◌, ◌||◌, not, Bool, true, false, eqb, ltb, leb, List, length, replicate, get_or, set, get_or-set_same, get_or-set_other, cond, refl, sym, ap, ◌∙◌, inl, inr, arith, bit_or, w64}
 use Rattle.std.specs.Int.{bit_at}
-use Rattle.std.proofs.lemmas.Bool.{cases_Bool, cases_lt, cases_eq, and_parts, eqb-true, lt-ltb, le-ltb, le-leb}
+use Rattle.std.proofs.lemmas.Bool.{cases_Bool, cases_eq, and_parts, eqb-true, lt-ltb, le-ltb, le-leb}
 use Rattle.std.proofs.lemmas.Bool.Decides.{nat_tests}
 use Rattle.std.proofs.lemmas.Nat.Bits.{bit_at_set_same, bit_at_set_other, bit_at-zero}
 use Rattle.vp_qr.specs.Places.{size, corner, alignment, version_area, reserved}
@@ -10,30 +10,17 @@ use Rattle.vp_qr.specs.Walk.{dark}
 use Rattle.vp_qr.specs.Penalty.{is_set, same}
 
 small : (i : ℕ) → ltb i 9 ≡ false → ltb i 8 ≡ false
-small i h = le-ltb i 8 (elim (cases_lt i 9) [ inl lt ↦ absurd (true_is_not_false (sym (lt-ltb i 9 lt) ∙ h)) | inr le ↦ omega arith ])
-  where
-    true_is_not_false : true ≡ false → ⊥
-    true_is_not_false e = cc
+small i h = grind arith
 
 -- what is in neither part of a wider shape is in neither part of a narrower one
 narrower : (a b wide_a wide_b c d : Bool) → (wide_a ≡ false → a ≡ false) → (wide_b ≡ false → b ≡ false)
     → ((wide_a && (wide_b || c)) || (d && wide_b)) ≡ false → ((a && (b || c)) || (d && b)) ≡ false
 narrower a b true true c d ha hb h = cc
 narrower a b true false true d ha hb h = cc
-narrower a b true false false d ha hb h = rw (hb refl) (none a d)
-  where
-    none : (a d : Bool) → ((a && (false || false)) || (d && false)) ≡ false
-    none true true = refl
-    none true false = refl
-    none false true = refl
-    none false false = refl
+narrower a b true false false d ha hb h = grind arith
 narrower a b false true c true ha hb h = cc
-narrower a b false true c false ha hb h = rw (ha refl) refl
-narrower a b false false c d ha hb h = rw (ha refl, hb refl) (none d)
-  where
-    none : (d : Bool) → ((false && (false || c)) || (d && false)) ≡ false
-    none true = refl
-    none false = refl
+narrower a b false true c false ha hb h = grind arith
+narrower a b false false c d ha hb h = grind arith
 
 pub finder_corner : (s i j : ℕ) → corner s i j ≡ false → finder s i j ≡ false
 finder_corner s i j h = narrower (ltb i 8) (ltb j 8) (ltb i 9) (ltb j 9) (leb (s - 8) j) (leb (s - 8) i) (small i) (small j) h
@@ -114,37 +101,12 @@ pub format_corner : (v i j : ℕ) → format_here v i j ≡ true → corner (siz
 unfolding format_here
 format_corner v i j h = (and_parts _ _ h).0
 
--- but for row 8, the format stands in column 8 alone
-in_column : (s i j : ℕ) → (i ≡ 8 → ⊥) → corner s i j ≡ true → finder s i j ≡ false → j ≡ 8
-in_column s i j ne h f = grind (arith, nat_tests)
-
 format_column : (v i j : ℕ) → (i ≡ 8 → ⊥) → format_here v i j ≡ true → j ≡ 8
 unfolding format_here
-format_column v i j ne h =
-    let parts = and_parts _ _ h in
-    in_column (size v) i j ne parts.0 (without (finder (size v) i j) _ _ _ _ _ parts.1)
-  where
-    without : (a b c d e f : Bool) → not (((((a || b) || c) || d) || e) || f) ≡ true → a ≡ false
-    without true b c d e f g = cc
-    without false b c d e f g = refl
+format_column v i j ne h = grind (arith, nat_tests)
 
 pub only_column : (v i j : ℕ) (f : ℕ → Bool) (b : Bool) → (i ≡ 8 → ⊥) → b ≡ (format_here v i 8 && f 8) → (b && format_here v i j) ≡ (format_here v i j && f j)
-only_column v i j f b ne e = by_place (format_here v i j) refl
-  where
-    whole : (a : Bool) → (a && true) ≡ a
-    whole true = refl
-    whole false = refl
-
-    none : (a : Bool) → (a && false) ≡ false
-    none true = refl
-    none false = refl
-
-    by_place : (here : Bool) → format_here v i j ≡ here → (b && here) ≡ (here && f j)
-    by_place false h = none b
-    by_place true h =
-        let c : j ≡ 8 = format_column v i j ne h in
-        let at : format_here v i 8 ≡ true = ap (format_here v i) (sym c) ∙ h in
-        whole b ∙ e ∙ ap (λ a. a && f 8) at ∙ ap f (sym c)
+only_column v i j f b ne e = grind (arith, format_column)
 
 -- the bits of a row below a column
 pub record Made (f : ℕ → Bool) (line column : ℕ) : Type 0 where
@@ -169,16 +131,7 @@ made_dark f line column lt d h = record {
 }
 
 pub made_light : (f : ℕ → Bool) (line column : ℕ) → f column ≡ false → Made f line column → Made f line (column + 1)
-made_light f line column d h = record {
-  bits_are = λ j hj. h.bits_are j hj ∙ elim (cases_eq j column) as (λ _. (ltb j column && f j) ≡ (ltb j (column + 1) && f j)) [
-    | inl e ↦ ap (λ b. ltb j column && b) (ap f e ∙ d) ∙ nothing (ltb j column) ∙ sym (ap (λ b. ltb j (column + 1) && b) (ap f e ∙ d) ∙ nothing (ltb j (column + 1)))
-    | inr ne ↦ ap (λ b. b && f j) (sym (later j column ne))
-  ];
-}
-  where
-    nothing : (b : Bool) → (b && false) ≡ false
-    nothing true = refl
-    nothing false = refl
+made_light f line column d h = grind arith
 
 pub made_all : (f : ℕ → Bool) (line column : ℕ) → Made f line column → (j : ℕ) → j < column → j < 64 → is_set line j ≡ f j
 made_all f line column h j lt hj = h.bits_are j hj ∙ ap (λ b. b && f j) (lt-ltb j column lt)
@@ -187,13 +140,7 @@ made_all f line column h j lt hj = h.bits_are j hj ∙ ap (λ b. b && f j) (lt-l
 pub row_made : (f : ℕ → ℕ → Bool) (rows : List ℕ) (row line s : ℕ) → row < length rows → ((j : ℕ) → j < s → is_set line j ≡ f row j)
     → ((i j : ℕ) → i < row → j < s → dark rows i j ≡ f i j) → (i j : ℕ) → i < row + 1 → j < s → dark (set rows row line) i j ≡ f i j
 unfolding dark
-row_made f rows row line s lt here before i j hi hj =
-    elim (cases_eq i row) [
-      | inl e ↦
-          ap (λ k. eqb (bit_at (get_or (set rows row line) k 0) j) 1) e
-          ∙ ap (λ n. eqb (bit_at n j) 1) (get_or-set_same rows row line 0 lt) ∙ here j hj ∙ ap (λ k. f k j) (sym e)
-      | inr ne ↦ ap (λ n. eqb (bit_at n j) 1) (get_or-set_other rows row i line 0 ne) ∙ before i j (omega arith) hj
-    ]
+row_made f rows row line s lt here before i j hi hj = grind (arith, cases_eq, get_or-set_other, get_or-set_same)
 
 -- no module of empty rows is dark
 pub zero_row : (n i : ℕ) → ◌≡◌ {A = ℕ} (get_or (replicate n 0) i 0) 0

@@ -39,11 +39,7 @@ module_behind line column j = bit_shr line column j
 -- no modules, no dots
 pub no_modules : (line scale x : ℕ) → word_dot 0 x ≡ line_ink line 0 scale x
 unfolding bit
-no_modules line scale x =
-    let e : scale * 0 ≡ 0 = omega arith in
-    ap (λ n. ltb x 64 && eqb n 1) (bit_at-zero (63 - x))
-    ∙ and_nothing (ltb x 64)
-    ∙ sym (ap (λ m. ltb x m && is_set line (x / scale)) e ∙ ap (λ b. b && is_set line (x / scale)) (le-ltb x 0 (omega arith)))
+no_modules line scale x = grind arith
 
 -- one module more
 module_joins : (line column scale x : ℕ) → 0 < scale
@@ -201,22 +197,9 @@ module _ (line size scale : ℕ) (some : 0 < scale) where
             dot_past dots x (omega (arith, all)) ∙ sym (ap (λ b. b && is_set line (x / scale)) (le-ltb x (scale * size) (omega arith)))
       ]
 
--- the dots of a symbol by lines
-pub ink_inside : (s : ScaledSymbol) (x y : ℕ) → x < side s → y < side s → dark s.rows (y / s.scale) (x / s.scale) ≡ ink_of s x y
-ink_inside s x y hx hy =
-    sym (ap (λ b. b && ltb y (side s) && dark s.rows (y / s.scale) (x / s.scale)) (lt-ltb x (side s) hx) ∙ ap (λ b. b && dark s.rows (y / s.scale) (x / s.scale)) (lt-ltb y (side s) hy))
-
 line_is : (s : ScaledSymbol) (y : ℕ) → y < side s → (x : ℕ) → line_ink (get_or s.rows (y / s.scale) 0) s.size s.scale x ≡ ink_of s x y
 unfolding dark
-line_is s y hy x =
-    elim (cases_lt x (side s)) [
-      | inl lt ↦
-          ap (λ b. b && is_set (get_or s.rows (y / s.scale) 0) (x / s.scale)) (lt-ltb x (side s) lt)
-          ∙ ink_inside s x y lt hy
-      | inr le ↦
-          ap (λ b. b && is_set (get_or s.rows (y / s.scale) 0) (x / s.scale)) (le-ltb x (side s) le)
-          ∙ sym (ap (λ b. b && ltb y (side s) && dark s.rows (y / s.scale) (x / s.scale)) (le-ltb x (side s) le))
-    ]
+line_is s y hy x = grind arith
 
 pub line_painted : (op : Op) (at : ℤ) (s : ScaledSymbol) (y : ℕ) (a b : List ℕ) → y < side s
     → Painted op (shifted at (line_ink (get_or s.rows (y / s.scale) 0) s.size s.scale)) a b → Painted op (shifted at (λ x. ink_of s x y)) a b

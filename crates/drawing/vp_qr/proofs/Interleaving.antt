@@ -26,13 +26,7 @@ pieces_at (suc n) k (suc i) ws h =
 
 pub length-data_blocks : (b : Blocks) (ws : List ℕ) → length (data_blocks b ws) ≡ b.short + b.long
 unfolding data_blocks
-length-data_blocks b ws =
-    omega (
-      arith,
-      length-append (pieces b.short b.words ws) (pieces b.long (b.words + 1) (drop (b.short * b.words) ws)),
-      length-pieces b.short b.words ws,
-      length-pieces b.long (b.words + 1) (drop (b.short * b.words) ws),
-    )
+length-data_blocks b ws = grind (arith, length-append, length-pieces)
 
 -- block number i
 pub block_at : (b : Blocks) (ws : List ℕ) (i : ℕ) → i < b.short + b.long → get_or (data_blocks b ws) i [] ≡ take (block_length b i) (drop (block_start b i) ws)
@@ -86,27 +80,18 @@ take_one at n ws h le = ap (take 1) (drop_more (take n ws) at 0 (omega (arith, l
 -- the codeword that a block has, or none
 pub block_has : (b : Blocks) (ws : List ℕ) (i at : ℕ) → length ws ≡ words_of b → i < b.short + b.long → at < block_length b i
     → take 1 (drop at (get_or (data_blocks b ws) i [])) ≡ get_or ws (block_start b i + at) 0 ∷ []
-block_has b ws i at e h lt =
-    ap (λ block. take 1 (drop at block)) (block_at b ws i h)
-    ∙ take_one at (block_length b i) (drop (block_start b i) ws) lt (omega (arith, length-drop (block_start b i) ws, block_fits b i h))
-    ∙ ap (λ x. x ∷ []) (get_or-drop (block_start b i) ws at 0)
+block_has b ws i at e h lt = grind (arith, block_at, block_fits, get_or-drop, length-drop, take_one)
 
 pub block_lacks : (b : Blocks) (ws : List ℕ) (i at : ℕ) → i < b.short + b.long → block_length b i ≤ at → take 1 (drop at (get_or (data_blocks b ws) i [])) ≡ []
-block_lacks b ws i at h le =
-    ap (λ block. take 1 (drop at block)) (block_at b ws i h)
-    ∙ ap (take 1) (drop_all at (take (block_length b i) (drop (block_start b i) ws)) (omega (arith, length-take (block_length b i) (drop (block_start b i) ws))))
+block_lacks b ws i at h le = grind (arith, block_at, drop_all, length-take)
 
 pub columns_more : (at n : ℕ) (blocks : List (List ℕ)) → at < n → columns at (n - at) blocks ≡ column at blocks ++ columns (at + 1) (n - (at + 1)) blocks
 unfolding columns
-columns_more at n blocks h =
-    let e : n - at ≡ suc (n - (at + 1)) = omega arith in
-    ap (λ m. columns at m blocks) e
+columns_more at n blocks h = grind arith
 
 pub columns_none : (at n : ℕ) (blocks : List (List ℕ)) → n ≤ at → columns at (n - at) blocks ≡ []
 unfolding columns
-columns_none at n blocks h =
-    let e : n - at ≡ 0 = omega arith in
-    ap (λ m. columns at m blocks) e
+columns_none at n blocks h = grind arith
 
 -- how many codewords stand above number k in all blocks
 abbrev pub above : ℕ → List (List ℕ) → ℕ
@@ -144,27 +129,16 @@ above-pieces j (suc n) k ws h =
 
 pub above-data_blocks : (j : ℕ) (b : Blocks) (ws : List ℕ) → length ws ≡ words_of b → above j (data_blocks b ws) ≡ b.short * (b.words - j) + b.long * (b.words + 1 - j)
 unfolding data_blocks
-above-data_blocks j b ws e =
-    let rest : List ℕ = drop (b.short * b.words) ws in
-    omega (
-      arith,
-      above-append j (pieces b.short b.words ws) (pieces b.long (b.words + 1) rest),
-      above-pieces j b.short b.words ws (omega arith),
-      above-pieces j b.long (b.words + 1) rest (omega (arith, length-drop (b.short * b.words) ws)),
-    )
+above-data_blocks j b ws e = grind (arith, above-append, above-pieces, length-drop)
 
 -- what is left of a column begins with the block's codeword, where it has one
 pub column_has : (b : Blocks) (ws : List ℕ) (i at n : ℕ) → length ws ≡ words_of b → i < b.short + b.long → n ≡ block_length b i → at < n
     → column at (drop i (data_blocks b ws)) ≡ (get_or ws (block_start b i + at) 0 ∷ []) ++ column at (drop (i + 1) (data_blocks b ws))
-column_has b ws i at n e h f lt =
-    column_front at i (data_blocks b ws) (omega (arith, length-data_blocks b ws))
-    ∙ ap (λ l. l ++ column at (drop (i + 1) (data_blocks b ws))) (block_has b ws i at e h (omega arith))
+column_has b ws i at n e h f lt = grind (arith, block_has, column_front, length-data_blocks)
 
 pub column_lacks : (b : Blocks) (ws : List ℕ) (i at n : ℕ) → i < b.short + b.long → n ≡ block_length b i → n ≤ at
     → column at (drop i (data_blocks b ws)) ≡ column at (drop (i + 1) (data_blocks b ws))
-column_lacks b ws i at n h f le =
-    column_front at i (data_blocks b ws) (omega (arith, length-data_blocks b ws))
-    ∙ ap (λ l. l ++ column at (drop (i + 1) (data_blocks b ws))) (block_lacks b ws i at h (omega arith))
+column_lacks b ws i at n h f le = grind (arith, block_lacks, column_front, length-data_blocks)
 
 -- a block is neither empty nor too long
 pub block_some : (b : Blocks) (i : ℕ) → IsSound b → 0 < block_length b i
@@ -184,9 +158,7 @@ checks_more b ws i h = ap (flat_map (λ block. check_of block b.check)) (drop_mo
 -- a block as a part of all codewords
 pub part_is : (b : Blocks) (ws : List ℕ) (i from to : ℕ) → i < b.short + b.long → from ≡ block_start b i → to ≡ block_start b i + block_length b i
     → take (to - from) (drop from ws) ≡ get_or (data_blocks b ws) i []
-part_is b ws i from to h ef et =
-    let e : to - from ≡ block_length b i = omega arith in
-    ap (λ m. take m (drop from ws)) e ∙ ap (λ m. take (block_length b i) (drop m ws)) ef ∙ sym (block_at b ws i h)
+part_is b ws i from to h ef et = grind (arith, block_at)
 
 pub checks_end : (b : Blocks) (ws : List ℕ) (i : ℕ) → b.short + b.long ≤ i → flat_map (λ block. check_of block b.check) (drop i (data_blocks b ws)) ≡ []
 checks_end b ws i h = ap (flat_map (λ block. check_of block b.check)) (drop_all i (data_blocks b ws) (omega (arith, length-data_blocks b ws)))
@@ -217,21 +189,13 @@ behind_blocks b ws =
 
 -- all codewords stand in the columns up to the longest block's end
 nothing_above : (a m n : ℕ) → m ≤ n → a * (m - n) ≡ 0
-nothing_above a m n h =
-    let z : m - n ≡ 0 = omega arith in
-    ap (λ k. a * k) z ∙ omega arith
+nothing_above a m n h = grind arith
 
 less_nothing : (n : ℕ) → n - 0 ≡ n
 less_nothing n = omega arith
 
 pub length-all_columns : (b : Blocks) (ws : List ℕ) (n : ℕ) → length ws ≡ words_of b → b.words ≤ n → b.long * (b.words + 1 - n) ≡ 0 → length (columns 0 n (data_blocks b ws)) ≡ words_of b
-length-all_columns b ws n e le none =
-    let z : 0 + n ≡ n = omega arith in
-    let above_end : above (0 + n) (data_blocks b ws) ≡ 0 =
-    ap (λ m. above m (data_blocks b ws)) z ∙ above-data_blocks n b ws e ∙ ap (λ k. k + b.long * (b.words + 1 - n)) (nothing_above b.short b.words n le) ∙ (omega (arith, none)) in
-    let above_start : above 0 (data_blocks b ws) ≡ words_of b =
-    above-data_blocks 0 b ws e ∙ ap (λ k. b.short * k + b.long * (b.words + 1 - 0)) (less_nothing b.words) ∙ ap (λ k. b.short * b.words + b.long * k) (less_nothing (b.words + 1)) in
-    omega (arith, length-columns 0 n (data_blocks b ws), above_end, above_start)
+length-all_columns b ws n e le none = grind (arith, above-data_blocks, length-columns, less_nothing, nothing_above)
 
 pub length-data_columns : (b : Blocks) (ws : List ℕ) → length ws ≡ words_of b → length (columns 0 (b.words + 1) (data_blocks b ws)) ≡ words_of b
 length-data_columns b ws e = length-all_columns b ws (b.words + 1) e (omega arith) (nothing_above b.long (b.words + 1) (b.words + 1) (omega arith))
@@ -246,7 +210,4 @@ pub both_parts : (b : Blocks) (ws checks none data_part all : List ℕ) → none
     → all ≡ data_part ++ columns 0 b.check (data_blocks (behind b) checks)
     → all ≡ interleaved b ws
 unfolding interleaved
-both_parts b ws checks none data_part all en ec ed ea =
-    ea
-    ∙ ap (λ l. l ++ columns 0 b.check (data_blocks (behind b) checks)) (ed ∙ ap (λ l. l ++ columns 0 (b.words + 1) (data_blocks b ws)) en)
-    ∙ ap (λ l. columns 0 (b.words + 1) (data_blocks b ws) ++ columns 0 b.check l) (ap (data_blocks (behind b)) ec ∙ behind_blocks b ws)
+both_parts b ws checks none data_part all en ec ed ea = grind (arith, behind_blocks)

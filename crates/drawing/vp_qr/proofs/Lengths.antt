@@ -1,21 +1,16 @@
 -- How long the parts of a message are, and where a character stands.
-use Rattle.std.proofs.Common.{◌≡◌, ℕ, ◌+◌, ◌*◌, ◌/◌, ◌<◌, ◌≤◌, false, eqb, eq-eqb, List, [], ◌∷◌, ◌++◌, length, get_or, refl, sym, arith, inl, inr}
+use Rattle.std.proofs.Common.{◌≡◌, ℕ, ◌+◌, ◌*◌, ◌/◌, ◌<◌, ◌≤◌, false, eqb, eq-eqb, List, [], ◌∷◌, length, get_or, refl, sym, arith}
 use Rattle.std.specs.List.{position_or_len}
 use Rattle.std.proofs.lemmas.List.{length-append}
 use Rattle.std.proofs.lemmas.List.Sums.{position_or_len_is}
-use Rattle.std.proofs.lemmas.Bool.Decides.{eqb_tells}
 use Rattle.vp_qr.specs.Strings.{bits}
 use Rattle.vp_qr.specs.declared.segment.Kind.{Kind}
 use Rattle.vp_qr.specs.declared.segment.Kind.TheVariants.{Numeric, Alphanumeric, Byte}
-use Rattle.vp_qr.specs.Segments.{message, indicator, count_bits, data_bits, numeric_bits, alphanumeric_bits, byte_bits, digit_value, alnum_value, three_digits, two_digits, pair_value}
+use Rattle.vp_qr.specs.Segments.{message, count_bits, data_bits, numeric_bits, alphanumeric_bits, byte_bits, digit_value, alnum_value, three_digits, two_digits, pair_value}
 use Rattle.vp_qr.proofs.Writing.{length-bits}
 
 differs : (a b : ℕ) → (a ≡ b → ⊥) → eqb a b ≡ false
-differs a b h =
-    elim (eqb_tells a b) [
-      | inl e ↦ absurd (h e.1)
-      | inr e ↦ e.0
-    ]
+differs a b h = grind arith
 
 -- the first place of a byte
 pub first_place : (xs : List ℕ) (byte i : ℕ) → i ≤ length xs → ((k : ℕ) → k < i → get_or xs k 0 ≡ byte → ⊥) → (i < length xs → get_or xs i 0 ≡ byte)
@@ -49,14 +44,7 @@ pub ruleset data_lengths = (length_numeric, length_alphanumeric, length_byte)
 -- a message is as long as its three parts
 pub length_message : (kind : Kind) (version : ℕ) (src : List ℕ) → length (message kind version src) ≡ 4 + count_bits kind version + length (data_bits kind src)
 unfolding message
-length_message kind version src =
-    omega (
-      arith,
-      length-append (bits 4 (indicator kind) ++ bits (count_bits kind version) (length src)) (data_bits kind src),
-      length-append (bits 4 (indicator kind)) (bits (count_bits kind version) (length src)),
-      length-bits 4 (indicator kind),
-      length-bits (count_bits kind version) (length src),
-    )
+length_message kind version src = grind (arith, length-append, length-bits)
 
 -- and no shorter than its bytes
 pub longer_than_bytes : (kind : Kind) (version : ℕ) (src : List ℕ) → length src ≤ length (message kind version src)

@@ -1,5 +1,5 @@
 -- The bits of words as modules.
-use Rattle.std.proofs.Common.{◌≡◌, ℕ, zero, suc, ◌+◌, ◌-◌, ◌*◌, ◌/◌, ◌%◌, ◌^◌, ◌<◌, min, max, ◌&&◌, ◌||◌, not, Bool, true, false, eqb, List, [], ◌∷◌, get_or, refl, sym, ap, ◌∙◌, arith, bit_and, bit_or, bit_xor, w64}
+use Rattle.std.proofs.Common.{◌≡◌, ℕ, zero, suc, ◌+◌, ◌-◌, ◌*◌, ◌/◌, ◌%◌, ◌^◌, ◌<◌, ◌&&◌, ◌||◌, not, Bool, true, false, eqb, List, [], ◌∷◌, get_or, refl, sym, ap, ◌∙◌, arith, bit_and, bit_or, bit_xor, w64}
 use mathlib.Core.Bool.{beq}
 use Rattle.std.specs.Int.{bit_at}
 use Rattle.std.proofs.lemmas.Nat.{shr-shr, div-add-mod', xor_lt}
@@ -18,19 +18,13 @@ two_bits : (p : ℕ → ℕ → Bool) → passes_below 2 (λ a. passes_below 2 (
 two_bits p all a b ha hb = passes_at 2 (p a) (passes_at 2 (λ m. passes_below 2 (p m)) all a ha) b hb
 
 pub is_set_and : (a b j : ℕ) → is_set (bit_and a b) j ≡ (is_set a j && is_set b j)
-is_set_and a b j =
-    ap (λ n. eqb n 1) (bit_at_and a b j)
-    ∙ beq_same _ _ (two_bits (λ x y. beq (eqb (min x y) 1) (eqb x 1 && eqb y 1)) refl (bit_at a j) (bit_at b j) (bit_at-lt a j) (bit_at-lt b j))
+is_set_and a b j = grind (arith, beq, beq_same, bit_at-lt, bit_at_and, two_bits)
 
 pub is_set_or : (a b j : ℕ) → is_set (bit_or a b) j ≡ (is_set a j || is_set b j)
-is_set_or a b j =
-    ap (λ n. eqb n 1) (bit_at_or a b j)
-    ∙ beq_same _ _ (two_bits (λ x y. beq (eqb (max x y) 1) (eqb x 1 || eqb y 1)) refl (bit_at a j) (bit_at b j) (bit_at-lt a j) (bit_at-lt b j))
+is_set_or a b j = grind (arith, beq, beq_same, bit_at-lt, bit_at_or, two_bits)
 
 pub is_set_xor : (a b j : ℕ) → is_set (bit_xor a b) j ≡ not (same (is_set a j) (is_set b j))
-is_set_xor a b j =
-    ap (λ n. eqb n 1) (bit_at_xor a b j)
-    ∙ beq_same _ _ (two_bits (λ x y. beq (eqb ((x + y) % 2) 1) (not (same (eqb x 1) (eqb y 1)))) refl (bit_at a j) (bit_at b j) (bit_at-lt a j) (bit_at-lt b j))
+is_set_xor a b j = grind (arith, beq, beq_same, bit_at-lt, bit_at_xor, two_bits)
 
 pub is_set_not : (a j : ℕ) → a < 2 ^ 64 → j < 64 → is_set (2 ^ 64 - 1 - a) j ≡ not (is_set a j)
 is_set_not a j ha hj =
@@ -41,9 +35,7 @@ pub is_set_zero : (j : ℕ) → is_set 0 j ≡ false
 is_set_zero j = ap (λ n. eqb n 1) (bit_at-zero j)
 
 pub is_set_shr : (a k j : ℕ) → is_set (a / 2 ^ k) j ≡ is_set a (j + k)
-is_set_shr a k j =
-    let e : k + j ≡ j + k = omega arith in
-    ap (λ n. eqb (n % 2) 1) (shr-shr a k j) ∙ ap (λ n. is_set a n) e
+is_set_shr a k j = grind (arith, shr-shr)
 
 -- the bits of a word that is moved up by one
 fits : (a j : ℕ) → j < 64 → bit_at (a * 2 % 2 ^ 64) j ≡ bit_at (a * 2) j
@@ -57,12 +49,7 @@ pub is_set_up : (a j : ℕ) → j + 1 < 64 → is_set (a * 2 % 2 ^ 64) (suc j) �
 is_set_up a j h = ap (λ n. eqb n 1) (fits a (suc j) (omega arith) ∙ bit_at-suc (a * 2) j ∙ ap (λ n. bit_at n j) (halved a))
 
 pub is_set_first : (a : ℕ) → is_set (a * 2 % 2 ^ 64) 0 ≡ false
-is_set_first a =
-    let none : a * 2 % 2 ≡ 0 = omega arith in
-    ap (λ n. eqb n 1) (fits a 0 (omega arith) ∙ ap (λ n. n % 2) (by_one (a * 2)) ∙ none)
-  where
-    by_one : (n : ℕ) → n / 2 ^ 0 ≡ n
-    by_one n = omega arith
+is_set_first a = grind arith
 
 -- a word's module from its parts'
 module _ (j : ℕ) (hj : j < 64) where

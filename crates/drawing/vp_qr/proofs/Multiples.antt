@@ -1,7 +1,7 @@
 -- Polynomials in rows of 32 coefficients, zeros behind their last, and their multiples.
 use Rattle.std.proofs.Common.{◌≡◌, ℕ, zero, suc, ◌+◌, ◌-◌, ◌*◌, ◌/◌, ◌%◌, ◌<◌, ◌≤◌, List, [], ◌∷◌, ◌++◌, length, replicate, drop, take, refl, sym, ap, ◌∙◌, subst, arith, bit_xor, get_or, set, get_or-set_same, get_or-set_other, cond, eqb, inl, inr, length-append, append_assoc, length-set}
 use Rattle.std.proofs.lemmas.List.{length-replicate, get_or-drop, drop_all, length-drop, ext_get_or, drop-append-le, replicate-append-replicate}
-use Rattle.std.proofs.lemmas.Bool.{cases_lt, cases_eq}
+use Rattle.std.proofs.lemmas.Bool.{cases_eq}
 use Rattle.std.proofs.Math.Seq.{take-append_seam}
 use Rattle.std.specs.Int.Bits.{xor_zero_l, xor_zero_r}
 use Rattle.vp_qr.specs.Field.{doubled, times, power}
@@ -70,11 +70,7 @@ divided_padded m n (suc k) g (x ∷ xs) monic room =
 -- a row whose first terms are those of a function, and one more
 pub term_made : {A : Type 0} (f : ℕ → A) (xs : List A) (i : ℕ) (x d : A) → i < length xs → x ≡ f i → ((j : ℕ) → j < i → get_or xs j d ≡ f j)
     → (j : ℕ) → j < i + 1 → get_or (set xs i x) j d ≡ f j
-term_made f xs i x d lt here before j h =
-    elim (cases_eq j i) [
-      | inl e ↦ ap (λ (k : ℕ). get_or (set xs i x) k d) e ∙ get_or-set_same xs i x d lt ∙ here ∙ ap f (sym e)
-      | inr ne ↦ get_or-set_other xs i j x d ne ∙ before j (omega arith)
-    ]
+term_made f xs i x d lt here before j h = grind (arith, cases_eq, get_or-set_other, get_or-set_same)
 
 -- the generator in a row
 
@@ -119,16 +115,12 @@ byte_behind low h (suc k) = h k
 
 pub root_product : (low : List ℕ) (root above k product : ℕ) → ((i : ℕ) → get_or low i 0 < 256) → root < 256 → above ≡ get_or (1 ∷ low) k 0
     → product ≡ times above root → product ≡ times root (get_or (1 ∷ low) k 0)
-root_product low root above k product bytes hr is e =
-    e ∙ ap (λ (a : ℕ). times a root) is ∙ times_comm (get_or (1 ∷ low) k 0) root (byte_behind low bytes k) hr
+root_product low root above k product bytes hr is e = grind (arith, byte_behind, times_comm)
 
 -- its multiples
 
 pub by_parity : (f x : ℕ) → cond (eqb (f % 2) 1) x 0 ≡ f % 2 * x
-by_parity f x = elim (cases_lt (f % 2) 1) [
-  | inl h ↦ let e : f % 2 ≡ 0 = omega arith in rw e (omega arith)
-  | inr h ↦ let e : f % 2 ≡ 1 = omega arith in rw e (omega arith)
-]
+by_parity f x = grind arith
 
 pub multiple_none : (n : ℕ) → n ≤ 32 → replicate 32 0 ≡ scaled 0 (low_row n)
 multiple_none n h = by_term (low_row n) 32 (length_row n h)

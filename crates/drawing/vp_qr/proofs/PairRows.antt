@@ -1,8 +1,8 @@
 -- The data bits ahead in a word, and two of them placed at once.
-use Rattle.std.proofs.Common.{◌≡◌, ℕ, zero, suc, ◌+◌, ◌-◌, ◌*◌, ◌/◌, ◌%◌, ◌^◌, ◌<◌, ◌≤◌, ◌&&◌, ◌||◌, Bool, true, false, eqb, ltb, leb, cond, List, length, get_or, set, get_or-set_same, get_or-set_other, refl, sym, ap, ◌∙◌, inl, inr, arith, bit_and, bit_or, count_ones}
+use Rattle.std.proofs.Common.{◌≡◌, ℕ, zero, suc, ◌+◌, ◌-◌, ◌*◌, ◌/◌, ◌%◌, ◌^◌, ◌<◌, ◌≤◌, ◌&&◌, ◌||◌, Bool, true, false, eqb, leb, cond, List, length, get_or, set, get_or-set_same, get_or-set_other, refl, sym, ap, ◌∙◌, arith, bit_and, bit_or, count_ones}
 use lib.Count.{ones}
-use Rattle.std.proofs.lemmas.Bool.{cases_lt, lt-ltb, lt-leb, le-leb, eqb-true}
-use Rattle.std.proofs.lemmas.Bool.Decides.{eqb_tells, nat_tests}
+use Rattle.std.proofs.lemmas.Bool.{lt-ltb, le-leb, eqb-true}
+use Rattle.std.proofs.lemmas.Bool.Decides.{eqb_tells}
 use Rattle.std.proofs.lemmas.Nat.{div_below}
 use Rattle.vp_dots.specs.Dots.{bit, dot}
 use Rattle.vp_dots.specs.Words.{word_dot}
@@ -12,7 +12,7 @@ use Rattle.vp_qr.specs.Penalty.{is_set}
 use Rattle.vp_qr.specs.Walk.{dark, data_bit}
 use Rattle.vp_qr.proofs.Bits.{no_bit}
 use Rattle.vp_qr.proofs.FieldLaws.{passes_below, passes_at}
-use Rattle.vp_qr.proofs.Modules.{is_set_and, is_set_or, is_set_shr, is_set_zero}
+use Rattle.vp_qr.proofs.Modules.{is_set_and, is_set_or, is_set_shr}
 use Rattle.vp_qr.proofs.ShapeLines.{is_set_shl}
 
 -- a dot of the codewords is a data bit
@@ -21,16 +21,7 @@ unfolding dot bit data_bit
 bits_ahead bytes word k h x lt = h x lt
 
 pub bits_behind : (word n left x : ℕ) → n ≤ left → left ≤ 64 → x < left - n → word_dot (word * 2 ^ n % 2 ^ 64) x ≡ word_dot word (n + x)
-bits_behind word n left x most all lt =
-    let here : ltb x 64 ≡ true = lt-ltb x 64 (omega arith) in
-    let there : ltb (n + x) 64 ≡ true = lt-ltb (n + x) 64 (omega arith) in
-    let place : 63 - x - n ≡ 63 - (n + x) = omega arith in
-    ap (λ b. b && bit (word * 2 ^ n % 2 ^ 64) (63 - x)) here
-    ∙ bit_low64 (word * 2 ^ n) (63 - x) (omega arith)
-    ∙ bit_shl word n (63 - x)
-    ∙ ap (λ b. b && bit word (63 - x - n)) (le-leb n (63 - x) (omega arith))
-    ∙ ap (bit word) place
-    ∙ sym (ap (λ b. b && bit word (63 - (n + x))) there)
+bits_behind word n left x most all lt = grind (arith, bit_low64, bit_shl, le-leb, lt-ltb)
 
 -- the two bits of a pair
 abbrev pub two_placed : ℕ → ℕ → ℕ → Bool
@@ -49,10 +40,7 @@ or_none true = refl
 or_none false = refl
 
 neither : (j : ℕ) (a b : Bool) → 2 ≤ j → ((eqb j 1 && a) || (eqb j 0 && b)) ≡ false
-neither j a b h =
-    let one : eqb j 1 ≡ false = grind (arith, nat_tests) in
-    let none : eqb j 0 ≡ false = grind (arith, nat_tests) in
-    rw (one, none) refl
+neither j a b h = grind arith
 
 pub both_placed : (word j : ℕ) → word < 2 ^ 64 → is_set (word / 2 ^ 62) j ≡ two_placed 3 word j
 both_placed word zero h = is_set_shr word 62 0 ∙ sym (second_bit word)
@@ -67,25 +55,19 @@ one_bit : (word j : ℕ) → word < 2 ^ 64 → 1 ≤ j → is_set (word / 2 ^ 63
 one_bit word j h some = is_set_shr word 63 j ∙ no_bit word (j + 63) h (omega arith)
 
 right_placed : (word j : ℕ) → word < 2 ^ 64 → j < 64 → is_set (word / 2 ^ 63 * 2 ^ 1 % 2 ^ 64) j ≡ two_placed 2 word j
-right_placed word zero h lt = is_set_shl (word / 2 ^ 63) 1 0 lt
-right_placed word (suc zero) h lt = is_set_shl (word / 2 ^ 63) 1 1 lt ∙ is_set_shr word 63 0 ∙ sym (or_none (word_dot word 0) ∙ first_bit word)
-right_placed word (suc (suc j)) h lt =
-    is_set_shl (word / 2 ^ 63) 1 (suc (suc j)) lt
-    ∙ ap (λ b. b && is_set (word / 2 ^ 63) (suc (suc j) - 1)) (le-leb 1 (suc (suc j)) (omega arith))
-    ∙ one_bit word (suc (suc j) - 1) h (omega arith)
-    ∙ sym (neither (suc (suc j)) (is_set 2 1 && word_dot word 0) (is_set 2 0 && word_dot word (cond (is_set 2 1) 1 0)) (omega arith))
+right_placed word zero h lt = grind (arith, is_set_shl)
+right_placed word (suc zero) h lt = grind (arith, first_bit, is_set_shl, is_set_shr, or_none)
+right_placed word (suc (suc j)) h lt = grind (arith, is_set_shl, le-leb, neither, one_bit)
 
 left_placed : (word j : ℕ) → word < 2 ^ 64 → is_set (word / 2 ^ 63) j ≡ two_placed 1 word j
-left_placed word zero h = is_set_shr word 63 0 ∙ sym (first_bit word)
-left_placed word (suc zero) h = one_bit word 1 h (omega arith)
-left_placed word (suc (suc j)) h =
-    one_bit word (suc (suc j)) h (omega arith) ∙ sym (neither (suc (suc j)) (is_set 1 1 && word_dot word 0) (is_set 1 0 && word_dot word (cond (is_set 1 1) 1 0)) (omega arith))
+left_placed word zero h = grind (arith, first_bit, is_set_shr)
+left_placed word (suc zero) h = grind (arith, one_bit)
+left_placed word (suc (suc j)) h = grind (arith, neither, one_bit)
 
 none_placed : (word j : ℕ) → is_set 0 j ≡ two_placed 0 word j
 none_placed word zero = refl
 none_placed word (suc zero) = refl
-none_placed word (suc (suc j)) =
-    is_set_zero (suc (suc j)) ∙ sym (neither (suc (suc j)) (is_set 0 1 && word_dot word 0) (is_set 0 0 && word_dot word (cond (is_set 0 1) 1 0)) (omega arith))
+none_placed word (suc (suc j)) = grind arith
 
 pub one_placed : (word free j : ℕ) → word < 2 ^ 64 → free < 3 → j < 64 → is_set (word / 2 ^ 63 * free) j ≡ two_placed free word j
 one_placed word zero j h few lt =
@@ -125,37 +107,13 @@ two_ones t h = eqb-true _ _ (passes_at 4 (λ t. eqb (count_ones t) (cond (is_set
 -- a row with more modules
 row_or : (rows : List ℕ) (row word i j : ℕ) → row < length rows → dark (set rows row (bit_or (get_or rows row 0) word)) i j ≡ (dark rows i j || (eqb i row && is_set word j))
 unfolding dark
-row_or rows row word i j h =
-    let new : ℕ = bit_or (get_or rows row 0) word in
-    elim (eqb_tells i row) [
-      | inl e ↦
-          ap (λ k. is_set (get_or (set rows row new) k 0) j) e.1
-          ∙ ap (λ n. is_set n j) (get_or-set_same rows row new 0 h)
-          ∙ is_set_or (get_or rows row 0) word j
-          ∙ ap (λ k. is_set (get_or rows k 0) j || is_set word j) (sym e.1)
-          ∙ ap (λ b. is_set (get_or rows i 0) j || (b && is_set word j)) (sym e.0)
-      | inr n ↦
-          ap (λ m. is_set m j) (get_or-set_other rows row i new 0 n.1)
-          ∙ sym (or_none (is_set (get_or rows i 0) j))
-          ∙ ap (λ b. is_set (get_or rows i 0) j || (b && is_set word j)) (sym n.0)
-    ]
+row_or rows row word i j h = grind (arith, bit_or, eqb_tells, get_or-set_other, get_or-set_same, is_set_or, or_none)
 
 in_place : (j left column : ℕ) (a b : Bool) → column ≡ left + 1
     → (leb left j && ((eqb (j - left) 1 && a) || (eqb (j - left) 0 && b))) ≡ ((eqb j column && a) || (eqb j (column - 1) && b))
-in_place j left column a b e = elim (cases_lt j left) [
-  | inl lt ↦
-      let one : eqb j column ≡ false = grind (arith, nat_tests) in
-      let none : eqb j (column - 1) ≡ false = grind (arith, nat_tests) in
-      ap (λ t. t && ((eqb (j - left) 1 && a) || (eqb (j - left) 0 && b))) (lt-leb left j lt) ∙ sym (ap (λ t. (t && a) || (eqb j (column - 1) && b)) one ∙ ap (λ t. t && b) none)
-  | inr le ↦
-      let one : eqb (j - left) 1 ≡ eqb j column = grind (arith, nat_tests) in
-      let none : eqb (j - left) 0 ≡ eqb j (column - 1) = grind (arith, nat_tests) in
-      ap (λ t. t && ((eqb (j - left) 1 && a) || (eqb (j - left) 0 && b))) (le-leb left j le) ∙ ap (λ t. (t && a) || (eqb (j - left) 0 && b)) one ∙ ap (λ t. (eqb j column && a) || (t && b)) none
-]
+in_place j left column a b e = grind arith
 
 pub row_placed : (rows : List ℕ) (row left column bits i j : ℕ) (a b : Bool) → row < length rows → column ≡ left + 1 → j < 64
     → ((k : ℕ) → k < 64 → is_set bits k ≡ ((eqb k 1 && a) || (eqb k 0 && b)))
     → dark (set rows row (bit_or (get_or rows row 0) (bits * 2 ^ left % 2 ^ 64))) i j ≡ (dark rows i j || (eqb i row && ((eqb j column && a) || (eqb j (column - 1) && b))))
-row_placed rows row left column bits i j a b h e lt is =
-    row_or rows row (bits * 2 ^ left % 2 ^ 64) i j h
-    ∙ ap (λ t. dark rows i j || (eqb i row && t)) (is_set_shl bits left j lt ∙ ap (λ t. leb left j && t) (is (j - left) (omega arith)) ∙ in_place j left column a b e)
+row_placed rows row left column bits i j a b h e lt is = grind (arith, in_place, is_set_shl, row_or)

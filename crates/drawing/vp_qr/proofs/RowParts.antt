@@ -25,27 +25,16 @@ near_span c j h = grind (arith, nat_tests)
 
 -- a corner cut off at the right end of a word
 pub corner_span : (s j : ℕ) → j < 63 → (leb (s - 8) j && ltb j 63) ≡ leb (s - 8) j
-corner_span s j h = rw (lt-ltb j 63 h) (whole (leb (s - 8) j))
-  where
-    whole : (b : Bool) → (b && true) ≡ b
-    whole true = refl
-    whole false = refl
+corner_span s j h = grind arith
 
 pub one_column : (c j : ℕ) → (leb c j && ltb j (c + 1)) ≡ eqb j c
 one_column c j = grind (arith, nat_tests)
 
 pub all_columns : (b : Bool) (j : ℕ) → j < 63 → (b && (leb 0 j && ltb j 63)) ≡ b
-all_columns b j h = rw (lt-ltb j 63 h, le-leb 0 j (omega arith)) (whole b)
-  where
-    whole : (b : Bool) → (b && (true && true)) ≡ b
-    whole true = refl
-    whole false = refl
+all_columns b j h = grind arith
 
 pub span_fits : (from to : ℕ) → from ≤ to → to < 64 → 1 * 2 ^ from % 2 ^ 64 ≤ 1 * 2 ^ to % 2 ^ 64
-span_fits from to h k =
-    let high : 1 * 2 ^ to % 2 ^ 64 ≡ 2 ^ to = one_shl to 64 k in
-    let low : 1 * 2 ^ from % 2 ^ 64 ≡ 2 ^ from = one_shl from 64 (omega arith) in
-    rw (high, low) (pow-le-pow_right (omega arith) h)
+span_fits from to h k = grind (arith, one_shl, pow-le-pow_right)
 
 -- columns that a row has
 pub has_columns : (has bit row column : Bool) → has ≡ row → bit ≡ column → (has && bit) ≡ (row && column)

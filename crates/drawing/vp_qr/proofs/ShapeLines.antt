@@ -2,7 +2,7 @@
 use Rattle.std.proofs.Common.{◌≡◌, ℕ, zero, suc, ◌+◌, ◌-◌, ◌*◌, ◌/◌, ◌%◌, ◌^◌, ◌<◌, ◌≤◌, max, ◌&&◌, ◌||◌, not, Bool, true, false, eqb, ltb, leb, cond, refl, sym, ap, ◌∙◌, ◌⊎◌, inl, inr, arith, bit_or, bit_and}
 use mathlib.Core.Bool.{beq}
 use Rattle.std.specs.Int.{bit_at}
-use Rattle.std.proofs.lemmas.Bool.{cases_lt, or_cases, or_left, or_right, and_parts, lt-ltb, le-ltb, lt-leb, le-leb, ltb-true, leb-true, ne_eqb}
+use Rattle.std.proofs.lemmas.Bool.{cases_lt, or_cases, and_parts, lt-ltb, le-ltb, lt-leb, le-leb, ltb-true, leb-true, ne_eqb}
 use Rattle.std.proofs.lemmas.Nat.Bits.{bit_at-zero}
 use Rattle.vp_dots.specs.Dots.{bit}
 use Rattle.vp_dots.proofs.Cuts.{bit_low64}
@@ -12,7 +12,7 @@ use Rattle.vp_qr.specs.Places.{size, last_centre, middle_centre, near, corner, a
 use Rattle.vp_qr.specs.Symbol.{apart, ring, finder, finder_centre, finder_dark, alignment_centre, alignment_dark, version_bit, format_bit, module_at, differ, formula, pattern_dark}
 use Rattle.vp_qr.proofs.FieldLaws.{passes_below, passes_at}
 use Rattle.vp_qr.proofs.FreeModules.{finder_corner, dark_corner}
-use Rattle.vp_qr.proofs.Modules.{beq_same, either, is_set_and, is_set_or, is_set_shr, is_set_zero}
+use Rattle.vp_qr.proofs.Modules.{beq_same, either, is_set_and, is_set_or, is_set_shr}
 
 -- a bit of a word that is moved up
 pub is_set_shl : (a k j : ℕ) → j < 64 → is_set (a * 2 ^ k % 2 ^ 64) j ≡ (leb k j && is_set a (j - k))
@@ -40,9 +40,6 @@ finder_row_is away word all j h = beq_same _ _ (passes_at 64 (λ k. beq (is_set 
 far_ring : (ring : ℕ) → 4 ≤ ring → (ltb ring 2 || eqb ring 3) ≡ false
 far_ring ring h = ap (λ b. b || eqb ring 3) (le-ltb ring 2 (omega arith)) ∙ ne_eqb ring 3 (λ e. omega arith)
 
-pub no_finder_row : (away j : ℕ) → 4 ≤ away → is_set 0 j ≡ in_finder away j
-no_finder_row away j h = is_set_zero j ∙ sym (far_ring (max away (apart 3 j)) (omega arith))
-
 or_none : (b : Bool) → (b || false) ≡ b
 or_none true = refl
 or_none false = refl
@@ -51,23 +48,8 @@ and_none : (b : Bool) → (b && false) ≡ false
 and_none true = refl
 and_none false = refl
 
--- what is in neither part is not in the shape
-pub in_no_part : (a b c d : Bool) → c ≡ false → d ≡ false → ((a && (c || d)) || (b && c)) ≡ true → ⊥
-in_no_part a b true d hc hd h = cc
-in_no_part a b false true hc hd h = cc
-in_no_part true true false false hc hd h = cc
-in_no_part true false false false hc hd h = cc
-in_no_part false true false false hc hd h = cc
-in_no_part false false false false hc hd h = cc
-
 right_side : (s i j : ℕ) → 8 ≤ j → finder s i j ≡ true → s - 8 ≤ j
-right_side s i j right h = elim (cases_lt j (s - 8)) [
-  | inr le ↦ le
-  | inl lt ↦
-      let left : ltb j 8 ≡ false = le-ltb j 8 right in
-      let far : leb (s - 8) j ≡ false = lt-leb (s - 8) j lt in
-      absurd (in_no_part (ltb i 8) (leb (s - 8) i) (ltb j 8) (leb (s - 8) j) left far h)
-]
+right_side s i j right h = grind arith
 
 pub finder_line_is : (s i one j : ℕ) → 21 ≤ s → s ≤ 57 → j < s
     → ((k : ℕ) → k < 64 → is_set one k ≡ in_finder (apart (finder_centre s i) i) k)
@@ -134,21 +116,7 @@ above_none c j h = ap (λ b. leb c (j + 2) && b) (lt-leb j (c + 2) h) ∙ and_no
 -- an alignment pattern stands in the last column of them, or from version 7 on in any
 alignment_parts : (two ai aj seven mi mj si sj : Bool) → ((two && ai && aj) || (seven && ((mi && ((sj || mj) || aj)) || (mj && (si || ai))))) ≡ true
     → ((two ≡ true) × (aj ≡ true)) ⊎ ((seven ≡ true) × (((sj || mj) || aj) ≡ true))
-alignment_parts two ai aj seven mi mj si sj h =
-    elim (or_cases (two && ai && aj) (seven && ((mi && ((sj || mj) || aj)) || (mj && (si || ai)))) h) [
-      | inl outer ↦
-          let parts = and_parts (two && ai) aj outer in
-          inl ((and_parts two ai parts.0).0, parts.1)
-      | inr later ↦
-          let parts = and_parts seven ((mi && ((sj || mj) || aj)) || (mj && (si || ai))) later in
-          inr (
-            parts.0,
-            elim (or_cases (mi && ((sj || mj) || aj)) (mj && (si || ai)) parts.1) [
-              | inl across ↦ (and_parts mi ((sj || mj) || aj) across).1
-              | inr down ↦ or_left (sj || mj) aj (or_right sj mj (and_parts mj (si || ai) down).0)
-            ],
-          )
-    ]
+alignment_parts two ai aj seven mi mj si sj h = grind arith
 
 -- a pattern of five columns moved to its place
 module _ (away one j : ℕ) (hj : j < 57) (row : (k : ℕ) → k < 64 → is_set one k ≡ in_alignment away k) where
@@ -269,11 +237,7 @@ thirds_are bits j h =
 
 -- the version stands in three columns above, or in six beside
 two_areas : (seven a b c d e f : Bool) → (seven && ((a && b && c) || (d && e && f))) ≡ true → ((a ≡ true) × (b ≡ true)) ⊎ ((d ≡ true) × (e ≡ true))
-two_areas seven a b c d e f h =
-    elim (or_cases (a && b && c) (d && e && f) (and_parts seven ((a && b && c) || (d && e && f)) h).1) [
-      | inl above ↦ inl (and_parts a b (and_parts (a && b) c above).0)
-      | inr down ↦ inr (and_parts d e (and_parts (d && e) f down).0)
-    ]
+two_areas seven a b c d e f h = grind arith
 
 -- the version above and beside the finders
 module _ (v code i j : ℕ) (low : 1 ≤ v) (high : v ≤ 10) (hj : j < size v) (here : version_area v i j ≡ true) where

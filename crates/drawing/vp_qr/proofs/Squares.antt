@@ -1,27 +1,13 @@
 -- Squares of four equal modules, row by row.
-use Rattle.std.proofs.Common.{◌≡◌, ℕ, suc, ◌+◌, ◌-◌, ◌/◌, ◌%◌, ◌^◌, ◌<◌, Bool, true, ◌&&◌, eqb, cond, max, refl, sym, ap, ◌∙◌, arith, bit_or, bit_xor, w64}
+use Rattle.std.proofs.Common.{◌≡◌, ℕ, suc, ◌+◌, ◌-◌, ◌/◌, ◌%◌, ◌^◌, ◌<◌, ◌&&◌, eqb, cond, max, sym, ap, ◌∙◌, arith, bit_or, bit_xor, w64}
 use Rattle.std.specs.Int.{bit_at}
-use Rattle.std.proofs.lemmas.Bool.{eqb-true}
 use Rattle.std.proofs.lemmas.Nat.{or_lt, xor_lt}
 use Rattle.std.proofs.lemmas.Nat.Bits.{bit_at_not, bit_at_or, bit_at_xor, bit_at-suc, bit_at-lt}
 use Rattle.vp_qr.specs.Penalty.{same, is_set, square_at}
-use Rattle.vp_qr.proofs.FieldLaws.{passes_below, passes_at}
-
-abbrev all_equal : ℕ → ℕ → ℕ → ℕ → Bool
-all_equal a b c d =
-    eqb (1 - max (max ((a + b) % 2) ((a + c) % 2)) ((a + d) % 2))
-    (cond (same (eqb a 1) (eqb b 1) && same (eqb a 1) (eqb c 1) && same (eqb a 1) (eqb d 1)) 1 0)
-
-every_four : passes_below 2 (λ a. passes_below 2 (λ b. passes_below 2 (λ c. passes_below 2 (λ d. all_equal a b c d)))) ≡ true
-every_four = refl
 
 four : (a b c d : ℕ) → a < 2 → b < 2 → c < 2 → d < 2
     → 1 - max (max ((a + b) % 2) ((a + c) % 2)) ((a + d) % 2) ≡ cond (same (eqb a 1) (eqb b 1) && same (eqb a 1) (eqb c 1) && same (eqb a 1) (eqb d 1)) 1 0
-four a b c d ha hb hc hd =
-    let one = passes_at 2 (λ a. passes_below 2 (λ b. passes_below 2 (λ c. passes_below 2 (λ d. all_equal a b c d)))) every_four a ha in
-    let two = passes_at 2 (λ b. passes_below 2 (λ c. passes_below 2 (λ d. all_equal a b c d))) one b hb in
-    let three = passes_at 2 (λ c. passes_below 2 (λ d. all_equal a b c d)) two c hc in
-    eqb-true _ _ (passes_at 2 (λ d. all_equal a b c d) three d hd)
+four a b c d ha hb hc hd = grind arith
 
 next_bit : (n j : ℕ) → bit_at (n / 2) j ≡ bit_at n (j + 1)
 next_bit n j =

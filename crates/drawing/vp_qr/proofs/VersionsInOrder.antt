@@ -1,7 +1,7 @@
 -- The smallest version that passes a test.
 use Rattle.std.proofs.Common.{◌≡◌, ℕ, zero, suc, ◌+◌, ◌<◌, ◌≤◌, Bool, true, false, List, [], ◌∷◌, refl, sym, ap, ◌∙◌, inl, inr, arith, Some, None, cond}
 use Rattle.std.specs.Prelude.{find, Option}
-use Rattle.std.proofs.lemmas.Bool.{cases_lt, cases_Bool, leb-true}
+use Rattle.std.proofs.lemmas.Bool.{cases_Bool, leb-true}
 use Rattle.vp_qr.specs.declared.level.Level.{Level}
 use Rattle.vp_qr.specs.declared.segment.Kind.{Kind}
 use Rattle.vp_qr.specs.Versions.{versions, fits, smallest, Holds}
@@ -10,17 +10,6 @@ use Rattle.vp_qr.specs.Versions.{versions, fits, smallest, Holds}
 from : ℕ → ℕ → List ℕ
 from at zero = []
 from at (suc n) = at ∷ from (at + 1) n
-
-find_first : (p : ℕ → Bool) (at n v : ℕ) → at ≤ v → v < at + n → ((k : ℕ) → at ≤ k → k < v → p k ≡ false) → p v ≡ true → find p (from at n) ≡ Some v
-unfolding from
-find_first p at zero v low high before here = absurd (omega arith)
-find_first p at (suc n) v low high before here =
-    elim (cases_lt at v) [
-      | inl lt ↦ ap (λ b. cond b (Some at) (find p (from (at + 1) n))) (before at (omega arith) lt) ∙ find_first p (at + 1) n v (omega arith) (omega arith) (λ k a b. before k (omega arith) b) here
-      | inr le ↦
-          let e : v ≡ at = omega arith in
-          ap (λ b. cond b (Some at) (find p (from (at + 1) n))) (ap p (sym e) ∙ here) ∙ ap (λ k. Some k) (sym e)
-    ]
 
 find_none : (p : ℕ → Bool) (at n : ℕ) → ((k : ℕ) → at ≤ k → k < at + n → p k ≡ false) → find p (from at n) ≡ None
 unfolding from
@@ -31,9 +20,6 @@ find_none p at (suc n) none =
 all_versions : versions ≡ from 1 10
 unfolding from
 all_versions = refl
-
-pub first_version : (p : ℕ → Bool) (v : ℕ) → 1 ≤ v → v < 11 → ((k : ℕ) → 1 ≤ k → k < v → p k ≡ false) → p v ≡ true → find p versions ≡ Some v
-first_version p v low high before here = ap (find p) all_versions ∙ find_first p 1 10 v low high before here
 
 pub no_version : (p : ℕ → Bool) → ((k : ℕ) → 1 ≤ k → k < 11 → p k ≡ false) → find p versions ≡ None
 no_version p none = ap (find p) all_versions ∙ find_none p 1 10 none
@@ -62,6 +48,4 @@ find_passes p at (suc n) v e =
 -- the version that is found holds the message
 pub smallest_holds : (level : Level) (kind : Kind) (src : List ℕ) (v : ℕ) → Some v ≡ smallest level kind src → Holds level kind src v
 unfolding smallest
-smallest_holds level kind src v e =
-    let found = find_passes (fits level kind src) 1 10 v (sym (e ∙ ap (find (fits level kind src)) all_versions)) in
-    has_room level kind src v found.0 (omega (arith, found.1)) found.2
+smallest_holds level kind src v e = grind (arith, all_versions, find_passes, has_room)

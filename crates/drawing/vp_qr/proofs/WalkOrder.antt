@@ -40,9 +40,7 @@ goes_there_all = refl
 
 -- a test that passes at 1 to 10
 pub for_version : (t : ℕ → Bool) → passes_below 10 (λ k. t (k + 1)) ≡ true → (v : ℕ) → 1 ≤ v → v ≤ 10 → t v ≡ true
-for_version t h v low high =
-    let e : v - 1 + 1 ≡ v = omega arith in
-    subst (λ (n : ℕ). t n ≡ true) e (passes_at 10 (λ k. t (k + 1)) h (v - 1) (omega arith))
+for_version t h v low high = grind arith
 
 module _ (v : ℕ) (low : 1 ≤ v) (high : v ≤ 10) where
   pub walk_length : length (walk (size v)) ≡ steps (size v)

@@ -7,16 +7,11 @@ use Rattle.vp_qr.specs.Strings.{bits, number_behind, bytes_of, pads, pad}
 -- one bit less is left
 pub bits_more : (n k value : ℕ) → k < n → bits (n - k) value ≡ eqb (bit_at value (n - 1 - k)) 1 ∷ bits (n - (k + 1)) value
 unfolding bits
-bits_more n k value h =
-    let e : n - k ≡ suc (n - (k + 1)) = omega arith in
-    let f : n - (k + 1) ≡ n - 1 - k = omega arith in
-    ap (λ (m : ℕ). bits m value) e ∙ ap (λ (m : ℕ). eqb (bit_at value m) 1 ∷ bits (n - (k + 1)) value) f
+bits_more n k value h = grind arith
 
 pub bits_none : (n k value : ℕ) → n ≤ k → bits (n - k) value ≡ []
 unfolding bits
-bits_none n k value h =
-    let e : n - k ≡ 0 = omega arith in
-    ap (λ (m : ℕ). bits m value) e
+bits_none n k value h = grind arith
 
 pub length-bits : (n value : ℕ) → length (bits n value) ≡ n
 unfolding bits
@@ -63,9 +58,7 @@ pads_none = refl
 
 pub pads_more : (k : ℕ) → pads (k + 1) ≡ pads k ++ pad k ∷ []
 unfolding pads
-pads_more k =
-    let e : k + 1 ≡ suc k = omega arith in
-    ap pads e
+pads_more k = grind arith
 
 -- what is written, and what is still to be written, are the whole: one element more
 pub written_more : {X : Type 0} (out new whole rest behind : List X) (x : X) → new ≡ out ++ x ∷ [] → rest ≡ x ∷ behind → out ++ rest ≡ whole → new ++ behind ≡ whole
@@ -85,12 +78,7 @@ below_doubled n k b h lt = omega (arith, pow-suc 2 k, ap (λ m. 2 ^ m) (add-one 
 -- one bit read
 pub number_step : (eight : List Bool) (n k b : ℕ) → k < length eight → b ≡ cond (get_or eight k false) 1 0
     → number_behind n (drop k eight) ≡ number_behind 0 eight → number_behind (2 * n + b) (drop (k + 1) eight) ≡ number_behind 0 eight
-number_step eight n k b lt e h =
-    let f : k + 1 ≡ suc k = omega arith in
-    ap (λ m. number_behind (2 * n + m) (drop (k + 1) eight)) e
-    ∙ ap (λ m. number_behind (2 * n + cond (get_or eight k false) 1 0) (drop m eight)) f
-    ∙ sym (number_more n (get_or eight k false) (drop (suc k) eight))
-    ∙ ap (number_behind n) (sym (drop-cons eight k false lt)) ∙ h
+number_step eight n k b lt e h = grind (arith, drop-cons, number_more)
 
 pub bit_small : (bit : Bool) (b : ℕ) → b ≡ cond bit 1 0 → b < 2
 bit_small true b e = omega arith

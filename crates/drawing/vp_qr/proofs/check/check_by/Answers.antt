@@ -22,6 +22,4 @@ pub returns-clause-remainder : goal.returns-clause-remainder
 returns-clause-remainder c = c.first.ensures ∙ check_first c.args.n c.loop-byte.byte-index c.args.src.now c.loop-byte.register c.requires.most c.loop-byte-test.false c.loop-byte.invariant
 
 pub returns-clause-count : goal.returns-clause-count
-returns-clause-count c =
-    ap length (c.first.ensures ∙ check_first c.args.n c.loop-byte.byte-index c.args.src.now c.loop-byte.register c.requires.most c.loop-byte-test.false c.loop-byte.invariant)
-    ∙ length_check c.args.n c.args.src.now
+returns-clause-count c = grind (arith, check_first, length_check)

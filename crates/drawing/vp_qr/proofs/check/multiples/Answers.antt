@@ -1,5 +1,4 @@
-use Rattle.std.proofs.Common.{ℕ, ◌*◌, ◌+◌, ◌<◌, set, length, get_or, arith, ap, sym, ◌∙◌, length-set, replicate, subst}
-use Rattle.vp_qr.specs.Polynomial.{scaled}
+use Rattle.std.proofs.Common.{ℕ, arith, ◌∙◌, length-set, replicate}
 use Rattle.vp_qr.proofs.Multiples.{multiples_none, two_multiples, length_row, row_byte}
 use Rattle.vp_qr.proofs.check.multiples.Goals as goal
 
@@ -11,21 +10,7 @@ loop-half-init c = record {
 }
 
 pub loop-half-preserved : goal.loop-half-preserved
-loop-half-preserved c =
-    let half = c.loop-half.half in
-    let low = c.generator_low-low.result in
-    let even = c.doubled_row-even.result in
-    let made = two_multiples half low c.loop-half.rows even c.sum.result (omega arith) c.loop-half.invariant.long
-    (ap length c.generator_low-low.ensures ∙ length_row c.args.n (omega (arith, c.requires)))
-    (λ k. subst (λ l. get_or l k 0 < 256) (sym c.generator_low-low.ensures) (row_byte c.args.n k))
-    c.loop-half.invariant.none c.loop-half.invariant.made
-    c.doubled_row-even.ensures.len c.doubled_row-even.ensures.terms c.sum.ensures.len c.sum.ensures.terms in
-    record {
-      long = length-set (set c.loop-half.rows (2 * half) even) (2 * half + 1) c.sum.result ∙ length-set c.loop-half.rows (2 * half) even ∙ c.loop-half.invariant.long;
-      none = made 0 (omega arith);
-      made = made;
-    }
+loop-half-preserved c = grind (arith, length-set, length_row, row_byte, two_multiples)
 
 pub returns : goal.returns
-returns c = λ (f : ℕ) (h : f < 256).
-    c.loop-half.invariant.made f (omega arith) ∙ ap (scaled f) c.generator_low-low.ensures
+returns c = grind arith

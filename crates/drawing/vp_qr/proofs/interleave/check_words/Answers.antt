@@ -1,4 +1,4 @@
-use Rattle.std.proofs.Common.{◌≡◌, ℕ, ◌++◌, ◌+◌, ◌*◌, ap, ◌∙◌, arith, length, length-append}
+use Rattle.std.proofs.Common.{◌++◌, ap, ◌∙◌, arith, length, length-append}
 use Rattle.std.proofs.lemmas.Nat.{row_fits}
 use Rattle.vp_qr.proofs.Parts.{part_written}
 use Rattle.vp_qr.proofs.Writing.{written_all}
@@ -21,6 +21,4 @@ pub returns-clause-checks : goal.returns-clause-checks
 returns-clause-checks c = written_all c.loop-block.checks.items _ _ (checks_end c.args.blocks c.args.words.now c.loop-block.block c.loop-block-test.false) c.loop-block.invariant.0
 
 pub returns-clause-count : goal.returns-clause-count
-returns-clause-count c =
-    let e : c.loop-block.block ≡ c.args.blocks.short + c.args.blocks.long = omega arith in
-    c.loop-block.invariant.1 ∙ ap (λ (n : ℕ). n * c.args.blocks.check) e
+returns-clause-count c = grind arith

@@ -1,4 +1,4 @@
-use Rattle.std.proofs.Common.{ℕ, ◌++◌, [], ◌∷◌, ◌≤◌, ◌+◌, ap, sym, ◌∙◌, arith, get_or}
+use Rattle.std.proofs.Common.{◌≤◌, ◌+◌, arith}
 use Rattle.arrayvec.specs.ArrayVec.{array_vec_len}
 use Rattle.vp_qr.specs.Blocks.{data_blocks, column}
 use Rattle.vp_qr.proofs.Parts.{part_written, room_for_one}
@@ -17,16 +17,10 @@ push-requires c =
     (omega arith, omega arith)
 
 pub loop-block-preserved-then-at-length : goal.loop-block-preserved-then-at-length
-loop-block-preserved-then-at-length c =
-    ap (λ l. c.loop-block.out.items ++ l) (sym (column_lacks c.args.blocks c.args.words.now c.loop-block.block c.args.at c.length.result c.loop-block-test.true c.length.ensures c.if-at-length.true))
-    ∙ c.loop-block.invariant
+loop-block-preserved-then-at-length c = grind (arith, column_lacks)
 
 pub loop-block-preserved : goal.loop-block-preserved
-loop-block-preserved c =
-    part_written c.loop-block.out.items c.push.new.self.items _ _ _ _
-    (c.push.ensures.items ∙ ap (λ (s : ℕ). c.loop-block.out.items ++ get_or c.args.words.now (s + c.args.at) 0 ∷ []) c.start.ensures)
-    (column_has c.args.blocks c.args.words.now c.loop-block.block c.args.at c.length.result c.requires.words c.loop-block-test.true c.length.ensures c.if-at-length.false)
-    c.loop-block.invariant
+loop-block-preserved c = grind (arith, column_has, part_written)
 
 pub returns : goal.returns
 returns c = written_all c.loop-block.out.items _ _ (column_end c.args.at c.loop-block.block (data_blocks c.args.blocks c.args.words.now) (omega (arith, length-data_blocks c.args.blocks c.args.words.now))) c.loop-block.invariant

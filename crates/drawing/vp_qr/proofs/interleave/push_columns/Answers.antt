@@ -1,3 +1,4 @@
+use Rattle.std.proofs.Common.{arith}
 use Rattle.std.proofs.Common.{refl}
 use Rattle.vp_qr.specs.Blocks.{data_blocks, columns}
 use Rattle.vp_qr.proofs.Parts.{part_written, room_for}
@@ -11,9 +12,7 @@ push_column-requires-clause-room c =
     (columns_more c.loop-at.at c.args.n (data_blocks c.args.blocks c.args.words.now) c.loop-at-test.true) refl
 
 pub loop-at-preserved : goal.loop-at-preserved
-loop-at-preserved c =
-    part_written c.loop-at.out.items c.push_column.new.out.items _ _ _ _ c.push_column.ensures
-    (columns_more c.loop-at.at c.args.n (data_blocks c.args.blocks c.args.words.now) c.loop-at-test.true) c.loop-at.invariant
+loop-at-preserved c = grind (arith, columns_more, part_written)
 
 pub returns : goal.returns
 returns c = written_all c.loop-at.out.items _ _ (columns_none c.loop-at.at c.args.n (data_blocks c.args.blocks c.args.words.now) c.loop-at-test.false) c.loop-at.invariant

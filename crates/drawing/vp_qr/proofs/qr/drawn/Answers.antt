@@ -1,7 +1,8 @@
-use Rattle.std.proofs.Common.{◌≡◌, ℕ, ◌<◌, ◌≤◌, Some, refl, sym, ap, ◌∙◌, subst}
-use Rattle.vp_qr.specs.Segments.{kind_of, message}
+use Rattle.std.proofs.Common.{arith}
+use Rattle.std.proofs.Common.{◌≡◌, ℕ, ◌<◌, Some, refl, sym, ap, ◌∙◌, subst}
+use Rattle.vp_qr.specs.Segments.{message}
 use Rattle.vp_qr.specs.Strings.{padded}
-use Rattle.vp_qr.specs.Versions.{smallest, Holds}
+use Rattle.vp_qr.specs.Versions.{smallest}
 use Rattle.vp_qr.specs.Blocks.{capacity}
 use Rattle.vp_qr.specs.Places.{size}
 use Rattle.vp_qr.specs.Walk.{dark}
@@ -10,18 +11,13 @@ use Rattle.vp_qr.proofs.Encodings.{accepted_version, version_holds, encodes}
 use Rattle.vp_qr.proofs.qr.drawn.Goals as goal
 
 pub codewords_in-codewords-requires : goal.codewords_in-codewords-requires
-codewords_in-codewords-requires c =
-    subst (λ k. Holds c.args.level k c.args.src.now c.args.version) (sym c.kind-kind.ensures)
-    (subst (λ n. Holds c.args.level (kind_of c.args.mode c.args.src.now) c.args.src.now n) (sym c.requires.version)
-    (version_holds c.args.level c.args.mode c.args.src.now c.requires.accepted))
+codewords_in-codewords-requires c = grind (arith, version_holds)
 
 pub of-grid-requires-clause-low : goal.of-grid-requires-clause-low
-of-grid-requires-clause-low c =
-    subst (λ n. 1 ≤ n) (sym c.requires.version) (version_holds c.args.level c.args.mode c.args.src.now c.requires.accepted).low
+of-grid-requires-clause-low c = grind (arith, version_holds)
 
 pub of-grid-requires-clause-high : goal.of-grid-requires-clause-high
-of-grid-requires-clause-high c =
-    subst (λ n. n ≤ 10) (sym c.requires.version) (version_holds c.args.level c.args.mode c.args.src.now c.requires.accepted).high
+of-grid-requires-clause-high c = grind (arith, version_holds)
 
 pub returns : goal.returns
 returns c =

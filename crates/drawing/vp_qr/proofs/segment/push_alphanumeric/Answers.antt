@@ -1,5 +1,4 @@
-use Rattle.std.proofs.Common.{◌++◌, ap, ◌∙◌, arith}
-use Rattle.vp_qr.specs.Strings.{bits}
+use Rattle.std.proofs.Common.{arith}
 use Rattle.vp_qr.proofs.Parts.{part_written, last_written, room_left, two_more, character_last, no_character}
 use Rattle.vp_qr.proofs.Writing.{written_all}
 use Rattle.vp_qr.proofs.Lengths.{length_alphanumeric}
@@ -9,17 +8,13 @@ pub push_bits-requires-clause-room : goal.push_bits-requires-clause-room
 push_bits-requires-clause-room c = room_left _ _ _ _ 11 c.loop-left.invariant c.requires (omega (arith, length_alphanumeric c.loop-left.left.now))
 
 pub loop-left-preserved : goal.loop-left-preserved
-loop-left-preserved c =
-    part_written _ c.push_bits.new.string.items _ _ _ _ (c.push_bits.ensures.bits ∙ ap (λ m. c.loop-left.string.items ++ bits 11 m) c.pair_value.ensures)
-    (two_more c.loop-left.left.now c.in-len2-up.len_at_least) c.loop-left.invariant
+loop-left-preserved c = grind (arith, part_written, two_more)
 
 pub push_bits-requires-in-len1-up-clause-room : goal.push_bits-requires-in-len1-up-clause-room
 push_bits-requires-in-len1-up-clause-room c = room_left _ _ _ _ 6 c.loop-left.invariant c.requires (omega (arith, length_alphanumeric c.loop-left.left.now))
 
 pub returns-in-len1-up : goal.returns-in-len1-up
-returns-in-len1-up c =
-    last_written _ _ _ _ _ (c.push_bits-in-len1-up.ensures.bits ∙ ap (λ m. c.loop-left.string.items ++ bits 6 m) c.alnum_value.ensures.value)
-    (character_last c.loop-left.left.now (omega arith) (omega arith)) c.loop-left.invariant
+returns-in-len1-up c = grind (arith, character_last, last_written)
 
 pub returns-in_default-left : goal.returns-in_default-left
 returns-in_default-left c = written_all _ _ _ (no_character c.loop-left.left.now (omega arith)) c.loop-left.invariant

@@ -1,5 +1,5 @@
-use Rattle.std.proofs.Common.{ℕ, ◌<◌, ◌≤◌, refl, sym, ap, ◌∙◌, arith}
-use Rattle.vp_qr.proofs.ShapeLines.{in_finder, finder_row_is, no_finder_row}
+use Rattle.std.proofs.Common.{ℕ, ◌<◌, refl, sym, ap, ◌∙◌, arith}
+use Rattle.vp_qr.proofs.ShapeLines.{in_finder, finder_row_is}
 use Rattle.vp_qr.proofs.shapes.finder_row.Goals as goal
 
 pub returns-in-0 : goal.returns-in-0
@@ -15,6 +15,4 @@ pub returns-in-3 : goal.returns-in-3
 returns-in-3 c = λ (j : ℕ) (h : j < 64). finder_row_is 3 0x7f refl j h ∙ ap (λ n. in_finder n j) (sym c.in-3.is)
 
 pub returns-in_default : goal.returns-in_default
-returns-in_default c =
-    let far : 4 ≤ c.args.away = omega arith in
-    λ (j : ℕ) (h : j < 64). no_finder_row c.args.away j far
+returns-in_default c = grind arith

@@ -1,4 +1,4 @@
-use Rattle.std.proofs.Common.{ℕ, ◌-◌, ◌/◌, ◌^◌, ◌<◌, eqb, bit_and, ap, arith}
+use Rattle.std.proofs.Common.{ℕ, ◌-◌, ◌<◌, bit_and, arith}
 use Rattle.std.proofs.lemmas.Nat.{and_le_r}
 use Rattle.std.proofs.lemmas.Nat.Bits.{shr_and_one}
 use Rattle.vp_qr.specs.Penalty.{is_set}
@@ -10,10 +10,7 @@ pub loop-at-init : goal.loop-at-init
 loop-at-init c = made_none (λ j. is_set c.args.format (14 - j))
 
 pub loop-at-preserved : goal.loop-at-preserved
-loop-at-preserved c =
-    let at : ℕ = c.loop-at.at in
-    made_bit (λ j. is_set c.args.format (14 - j)) c.loop-at.bits at (bit_and (c.args.format / 2 ^ (14 - at)) 1) (omega arith) (omega (arith, and_le_r (c.args.format / 2 ^ (14 - at)) 1))
-    (ap (λ n. eqb n 1) (shr_and_one c.args.format (14 - at))) c.loop-at.invariant
+loop-at-preserved c = grind (arith, and_le_r, bit_and, made_bit, shr_and_one)
 
 pub returns : goal.returns
 returns c = λ (j : ℕ) (h : j < 15). made_all (λ j. is_set c.args.format (14 - j)) c.loop-at.bits c.loop-at.at c.loop-at.invariant j (omega arith) (omega arith)

@@ -6,6 +6,4 @@ pub returns-then-free-eq3 : goal.returns-then-free-eq3
 returns-then-free-eq3 c = λ (j : ℕ) (h : j < 64). both_placed c.args.word j c.ranges.word.fits ∙ ap (λ n. two_placed n c.args.word j) (sym c.if-free-eq3.true)
 
 pub returns : goal.returns
-returns c =
-    let few : c.args.free < 3 = omega arith in
-    λ (j : ℕ) (h : j < 64). one_placed c.args.word c.args.free j c.ranges.word.fits few h
+returns c = grind (arith, one_placed)

@@ -1,4 +1,4 @@
-use Rattle.std.proofs.Common.{ap, ◌∙◌, arith, length-set}
+use Rattle.std.proofs.Common.{◌∙◌, arith, length-set}
 use Rattle.vp_qr.specs.Places.{size}
 use Rattle.vp_qr.specs.Codes.{version_code}
 use Rattle.vp_qr.specs.Symbol.{module_at}
@@ -15,8 +15,4 @@ loop-row-preserved c = (
 )
 
 pub returns : goal.returns
-returns c =
-    λ codewords of i j hi hj.
-    c.loop-row.invariant.1 i j (omega arith) hj
-    ∙ ap (λ n. module_at c.args.self.now.version n (version_code c.args.self.now.version) c.args.mask (dark c.args.self.now.unmasked) i j) c.format_code-format.ensures
-    ∙ same_modules c.args.level c.args.mask codewords c.args.self.now of i j hi hj
+returns c = grind (arith, same_modules)
