@@ -8,7 +8,7 @@
 //! that dot at every place.
 //!
 //! - `turning`: how boxes are turned.
-//! - `frame`, `text`, `lines`, `picture`: boxes, texts, blocks of lines and pictures.
+//! - `frame`, `text`, `lines`, `picture`, `picture_rows`: boxes, texts, blocks of lines and pictures.
 //! - `block_columns`, `block_band`: blocks of lines, many of whose rows are drawn at once: those that fall on
 //!   columns, and those of lines that meet.
 //! - `marks`: what earlier bands left of a field: the marks of a picture, or a QR symbol as it was drawn.
@@ -39,6 +39,7 @@ mod marks;
 mod paint;
 mod pen;
 mod picture;
+mod picture_rows;
 mod plain;
 mod sized;
 mod square;

@@ -1,15 +1,14 @@
-//! Pictures: one row as ink, and the rows that fall on a band, read from a mark on.
-ghost use Rattle.std.specs.Prelude.{◌≡◌, ℕ, ◌+◌, ◌*◌, ◌^◌, ◌<◌, ◌≤◌, ℤ, pos, Bool, false, length};
-ghost use Rattle.vp_dots.specs.Dots.{dot};
+//! Pictures: one row as ink, and the rows that fall on a band.
+ghost use Rattle.std.specs.Prelude.{◌≡◌, ℕ, ◌+◌, ◌-◌, ◌*◌, ◌^◌, ◌<◌, ◌≤◌, ℤ, pos, Bool, false, length};
 ghost use Rattle.vp_dots.specs.Places.{RowsPainted};
 ghost use Rattle.vp_glyph.specs.Sheets.{Sheets};
 ghost use Rattle.vp_format.specs.Pictures.{is_refused};
 ghost use Rattle.vp_format.specs.declared.field.Content.TheVariants as contents;
 ghost use Rattle.vp_field.specs.Axes.{dot_on, laid, IsWithin};
 ghost use Rattle.vp_field.specs.Bands.{IsCounted};
-ghost use Rattle.vp_field.specs.Contents.{picture_of, picture_dot, most_work, IsPicture};
+ghost use Rattle.vp_field.specs.Contents.{picture_dot, most_work, IsPicture};
 ghost use Rattle.vp_field.specs.Drawn.{drawn, part};
-ghost use Rattle.vp_field.specs.Fields.{row_at, AreMarksOf, IsMarkOf};
+ghost use Rattle.vp_field.specs.Fields.{AreMarksOf};
 ghost use Rattle.vp_field.specs.Rows.{row_dot, row_inside};
 ghost use Rattle.vp_field.specs.Standing.{standing, IsNear};
 ghost use Rattle.vp_field.specs.Views.{seen_x, seen_y};
@@ -18,14 +17,14 @@ ghost use Rattle.vp_field.specs.declared.axis.Lines.TheVariants.{Along};
 ghost use Rattle.vp_label_size.specs.declared.TheConstants.{BAND_ROWS};
 
 use crate::axis::{Axis, clamped};
-use crate::content::bytes_of;
 use crate::laid::Laid;
 use crate::line::paint_line;
-use crate::marks::{Marks, ON_WAY};
+use crate::marks::Marks;
+use crate::picture_rows::PictureRows;
 use crate::standing::Standing;
 use std::alloc::AllocError;
 use vp_dots::{Ink, Op, Small, clear_into, dot_of, or_into, xor_into};
-use vp_format::{Picture, RunMark, RunRows};
+use vp_format::Picture;
 use vp_label_size::{BAND_ROWS, LabelBand};
 use vp_zpl::item::Orientation;
 
@@ -95,88 +94,6 @@ fn lines_on(rows: Axis, height: u32, first: u32) -> (u32, u32)
     )
 }
 
-/// A cursor at a mark of a picture, or before its first row where there is none.
-fn cursor<'a>(stored: &'a [u8], picture: Picture, mark: Option<RunMark>) -> RunRows<'a>
-    requires picture { IsPicture stored.now picture }
-    requires mark { IsMarkOf stored.now (contents.Picture picture) mark }
-    ensures picture { result.picture ≡ picture_of stored.now picture }
-    ensures next { result.next ≡ row_at mark }
-{
-    let codes = bytes_of(stored, picture.codes);
-    let row_bytes = usize::from(picture.row_bytes);
-    match mark {
-        Some(mark) => RunRows::resume(codes, picture.coding, row_bytes, picture.rows, mark),
-        None => RunRows::new(codes, picture.coding, row_bytes, picture.rows),
-    }
-}
-
-/// Reads the next row of a picture, which isn't refused.
-fn read_row(rows: &mut RunRows<'_>, row: &mut [u8])
-    requires len { length row.old ≡ rows.old.picture.row_bytes }
-    requires next { rows.old.next < rows.old.picture.rows }
-    requires read { is_refused rows.old.picture rows.old.next ≡ false }
-    ensures len { length row.new ≡ length row.old }
-    ensures dots { (x : ℕ) → dot row.new x ≡ picture_dot rows.old.picture x rows.old.next }
-    ensures next { rows.new ≡ record rows.old { next = rows.old.next + 1 } }
-{
-    let _ = rows.next_row(row);
-}
-
-/// Goes on to a row of a picture of which none is refused.
-fn skip_to(rows: &mut RunRows<'_>, to: u32)
-    requires next { rows.old.next ≤ to }
-    requires to { to ≤ rows.old.picture.rows }
-    requires read { (y : ℕ) → y < rows.old.picture.rows → is_refused rows.old.picture y ≡ false }
-    ensures { rows.new ≡ record rows.old { next = to } }
-{
-    let _ = rows.skip(to - rows.mark().row());
-}
-
-/// The next row on the way to one at which a mark is of use to a band that comes later, or the row itself:
-/// the least row that falls on the label, and behind that the row halfway.
-fn next_stop(at: u32, least: u32, row: u32) -> u32
-    requires { at ≤ row }
-    ensures from { at ≤ result }
-    ensures to { result ≤ row }
-{
-    if at < least {
-        least.min(row)
-    } else if row - at < 64 {
-        row
-    } else {
-        at + (row - at) / 2
-    }
-}
-
-/// Goes on to a row of a picture, and leaves marks on the way, from a place on.
-fn go_to(
-    rows: &mut RunRows<'_>,
-    stored: &[u8],
-    picture: Picture,
-    least: u32,
-    row: u32,
-    place: usize,
-    marks: &mut Marks,
-)
-    requires is { rows.old.picture ≡ picture_of stored.now picture }
-    requires next { rows.old.next ≤ row }
-    requires row { row ≤ picture.rows }
-    requires read { (y : ℕ) → y < picture.rows → is_refused rows.old.picture y ≡ false }
-    requires marks { AreMarksOf stored.now (contents.Picture picture) marks.old }
-    ensures rows { rows.new ≡ record rows.old { next = row } }
-    ensures marks { AreMarksOf stored.now (contents.Picture picture) marks.new }
-{
-    let mut place = place;
-    let mut stop = next_stop(rows.mark().row(), least, row);
-    while stop < row && place < ON_WAY {
-        skip_to(rows, stop);
-        marks.keep(place, rows.mark());
-        place += 1;
-        stop = next_stop(stop, least, row);
-    }
-    skip_to(rows, row);
-}
-
 /// Paints a row of a picture where it falls on the band.
 fn paint_row_of<A: Small>(
     row: &PictureRow<'_>,
@@ -197,7 +114,7 @@ fn paint_row_of<A: Small>(
 
 /// Reads and paints the rows of a picture up to one.
 fn paint_rows<A: Small>(
-    rows: &mut RunRows<'_>,
+    rows: &mut PictureRows<'_>,
     from: u32,
     to: u32,
     row: &mut [u8],
@@ -206,21 +123,24 @@ fn paint_rows<A: Small>(
     first: u32,
     band: &mut LabelBand<A>,
 )
-    requires len { length row.old ≡ rows.old.picture.row_bytes }
+    requires len { length row.old ≡ rows.old.cursor.picture.row_bytes }
     requires short { length row.old ≤ 1024 }
-    requires from { rows.old.next ≡ from }
+    requires from { rows.old.cursor.next ≡ from }
     requires ordered { from ≤ to }
-    requires to { to ≤ rows.old.picture.rows }
-    requires count { rows.old.picture.rows < 2 ^ 32 }
-    requires read { (y : ℕ) → y < rows.old.picture.rows → is_refused rows.old.picture y ≡ false }
+    requires to { to ≤ rows.old.cursor.picture.rows }
+    requires count { rows.old.cursor.picture.rows < 2 ^ 32 }
+    requires shown { rows.old.shown ≡ 0 }
+    requires read { (y : ℕ) → y < rows.old.cursor.picture.rows
+        → is_refused rows.old.cursor.picture y ≡ false }
     requires columns { IsWithin (2 ^ 41) at.columns }
     requires axis { IsWithin (2 ^ 41) at.rows }
-    ensures picture { rows.new.picture ≡ rows.old.picture }
+    ensures picture { rows.new.cursor.picture ≡ rows.old.cursor.picture }
+    ensures counted { rows.new.shown ≡ to - from }
     ensures painted { RowsPainted BAND_ROWS op (λ x k. laid Along at.columns at.rows
-        (part from to (picture_dot rows.old.picture)) (pos x) (pos (first + k))) band.old band.new }
+        (part from to (picture_dot rows.old.cursor.picture)) (pos x) (pos (first + k))) band.old band.new }
 {
     for y in from..to {
-        read_row(rows, row);
+        rows.next_row(row);
         let ink = PictureRow {
             bytes: row,
             y,
@@ -274,9 +194,9 @@ pub fn paint_picture<A: Small>(
     let row = &mut row[..usize::from(picture.row_bytes)];
     let least = clamped(at.rows.first_line(0, on.view.height), picture.rows);
     let (place, mark) = marks.last_before(from);
-    let mut rows = cursor(stored, picture, mark);
-    go_to(&mut rows, stored, picture, least, from, place, marks);
+    let mut rows = PictureRows::new(stored, picture, mark);
+    rows.go_to(stored, picture, least, from, place, marks);
     paint_rows(&mut rows, from, to, row, on.op, at, first, band);
     marks.keep_behind(rows.mark());
-    rows.read() + rows.passed() + u64::from(to - from)
+    rows.work()
 }

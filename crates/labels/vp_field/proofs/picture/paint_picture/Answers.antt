@@ -29,16 +29,25 @@ returns-clause-dots g c sheets =
     let on = c.lines_on-from in
     lines_all a.on.op at.result.columns at.result.rows a.first (picture_dot p) a.picture.rows on.result.0 on.result.1 (drawn sheets a.stored.now (contents.Picture a.picture) a.on a.first) a.band.now c.paint_rows.new.band
     (λ m n e. (picture_inside p m n e).1) (λ k n l o e. (on.ensures.from k n l o e, on.ensures.to k n l o e)) (λ x k. rw c.requires.normal (at.ensures.ink (picture_dot p) (pos x) (pos (a.first + k))))
-    (rw (c.go_to.ensures.rows, c.cursor-rows.ensures.picture) at c.paint_rows.ensures.painted)
+    (rw (c.go_to.ensures.rows, c.new-rows.ensures.picture) at c.paint_rows.ensures.painted)
+
+pub work-requires-clause-few : goal.work-requires-clause-few
+work-requires-clause-few g c =
+    let a = c.args in
+    let p = picture_of a.stored.now a.picture in
+    let few : length p.codes ≤ a.picture.codes.len = omega (arith, length-take a.picture.codes.len (drop a.picture.codes.start a.stored.now)) in
+    let is : c.paint_rows.new.rows.cursor.picture ≡ p = c.paint_rows.ensures.picture ∙ ap (λ (v : Cursor). v.picture) c.go_to.ensures.rows ∙ c.new-rows.ensures.picture in
+    let codes = ap (λ (q : Picture). length q.codes) is in
+    omega (arith, codes, few, c.requires.picture.codes.few)
 
 pub returns-clause-work : goal.returns-clause-work
 returns-clause-work g c =
     let a = c.args in
     let p = picture_of a.stored.now a.picture in
     let few : length p.codes ≤ a.picture.codes.len = omega (arith, length-take a.picture.codes.len (drop a.picture.codes.start a.stored.now)) in
-    let is : c.paint_rows.new.rows.picture ≡ p = c.paint_rows.ensures.picture ∙ ap (λ (v : Cursor). v.picture) c.go_to.ensures.rows ∙ c.cursor-rows.ensures.picture in
+    let is : c.paint_rows.new.rows.cursor.picture ≡ p = c.paint_rows.ensures.picture ∙ ap (λ (v : Cursor). v.picture) c.go_to.ensures.rows ∙ c.new-rows.ensures.picture in
     let codes = ap (λ (q : Picture). length q.codes) is in
-    omega (arith, c.read.ensures.at_most, c.passed.ensures.at_most, codes, few, c.lines_on-from.ensures.few)
+    omega (arith, c.work.ensures.most, c.paint_rows.ensures.counted, codes, few, c.lines_on-from.ensures.few)
 
 pub returns-then-from-to-clause-counted : goal.returns-then-from-to-clause-counted
 returns-then-from-to-clause-counted g c sheets = λ x k low e.
@@ -53,14 +62,14 @@ returns-then-from-to-clause-counted g c sheets = λ x k low e.
     absurd (omega (arith, on.ensures.from k line.0 low inside line.2, on.ensures.to k line.0 low inside line.2))
 
 pub returns-clause-counted : goal.returns-clause-counted
-returns-clause-counted g c sheets = λ x k low e. omega arith
+returns-clause-counted g c sheets = λ x k low e. omega (arith, c.work.ensures.shown, c.paint_rows.ensures.counted)
 
-pub cursor-rows-requires-clause-mark : goal.cursor-rows-requires-clause-mark
-cursor-rows-requires-clause-mark g c =
+pub new-rows-requires-clause-mark : goal.new-rows-requires-clause-mark
+new-rows-requires-clause-mark g c =
     c.last_before-place.ensures.mark c.args.stored.now (contents.Picture c.args.picture) c.requires.marks
 
 pub returns-clause-marks : goal.returns-clause-marks
 returns-clause-marks g c =
-    let same : c.paint_rows.new.rows.picture ≡ picture_of c.args.stored.now c.args.picture =
-    c.paint_rows.ensures.picture ∙ ap (λ (r : Cursor). r.picture) c.go_to.ensures.rows ∙ c.cursor-rows.ensures.picture in
+    let same : c.paint_rows.new.rows.cursor.picture ≡ picture_of c.args.stored.now c.args.picture =
+    c.paint_rows.ensures.picture ∙ ap (λ (r : Cursor). r.picture) c.go_to.ensures.rows ∙ c.new-rows.ensures.picture in
     c.keep_behind.ensures c.args.stored.now (contents.Picture c.args.picture) c.go_to.ensures.marks (rw same at c.mark.ensures.is)

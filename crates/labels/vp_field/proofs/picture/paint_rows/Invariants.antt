@@ -1,4 +1,4 @@
-use Rattle.std.proofs.Common.{◌≡◌, ◌+◌, length, pos}
+use Rattle.std.proofs.Common.{◌≡◌, ◌+◌, ◌-◌, length, pos}
 use Rattle.vp_dots.specs.Places.{RowsPainted}
 use Rattle.vp_field.specs.Axes.{laid}
 use Rattle.vp_field.specs.Contents.{picture_dot}
@@ -9,7 +9,8 @@ use Rattle.vp_field.proofs.picture.paint_rows.Given as goal
 -- the rows above y are read and painted
 abbrev pub invariant-loop-y : goal.invariant-loop-y
 invariant-loop-y g l = record {
-  rows : l.rows ≡ record l.fn.rows { next = l.y };
+  rows : l.rows.cursor ≡ record l.fn.rows.cursor { next = l.y };
+  shown : l.rows.shown ≡ l.y - l.from;
   len : length l.row ≡ length l.fn.row;
-  painted : RowsPainted 32 l.op (λ x k. laid Along l.at.columns l.at.rows (part l.from l.y (picture_dot l.fn.rows.picture)) (pos x) (pos (l.first + k))) l.fn.band l.band;
+  painted : RowsPainted 32 l.op (λ x k. laid Along l.at.columns l.at.rows (part l.from l.y (picture_dot l.fn.rows.cursor.picture)) (pos x) (pos (l.first + k))) l.fn.band l.band;
 }
