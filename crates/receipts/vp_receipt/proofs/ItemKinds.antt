@@ -59,11 +59,10 @@ pub record Stores (setup : Setup) (before : List EscItem) (item : EscItem) : Typ
   pub stops : tab_stops (item ∷ before) ≡ tab_stops before
   pub mode : mode setup (item ∷ before) ≡ mode setup before
   pub layers : layers setup (item ∷ before) ≡ layers setup before
-  pub refusal : refusal setup before item ≡ None
   pub prints : prints setup before item ≡ []
 
-pub stores : (setup : Setup) (before : List EscItem) (byte : ℕ) → Stores setup before (QrByte byte)
-stores setup before byte = record { settings = refl; line = refl; stops = refl; mode = refl; layers = refl; refusal = refl; prints = nothing_by (mode setup before) }
+stores : (setup : Setup) (before : List EscItem) (byte : ℕ) → Stores setup before (QrByte byte)
+stores setup before byte = record { settings = refl; line = refl; stops = refl; mode = refl; layers = refl; prints = nothing_by (mode setup before) }
 
 -- bytes that are stored leave all else alone
 pub record StoresAll (setup : Setup) (before after : List EscItem) : Type 0 where
@@ -115,16 +114,6 @@ no_refusal setup before QrPrint h = cc
 no_refusal setup before _ h = refl
 
 -- one that prints a symbol
-pub stops_kept : (before : List EscItem) (item : EscItem) → is_symbol item ≡ true → tab_stops (item ∷ before) ≡ tab_stops before
-stops_kept before (SetSymbol kind bytes more) h = refl
-stops_kept before QrPrint h = refl
-stops_kept before _ h = cc
-
-pub data_kept : (before : List EscItem) (item : EscItem) → is_symbol item ≡ true → qr_data (item ∷ before) ≡ qr_data before
-data_kept before (SetSymbol kind bytes more) h = refl
-data_kept before QrPrint h = refl
-data_kept before _ h = cc
-
 no_page_of : (m : PrinterMode) → false ≡ is_paged m && false
 no_page_of Standard = refl
 no_page_of Page = refl

@@ -10,6 +10,7 @@ use Rattle.vp_esc.specs.declared.item.RasterScale.TheVariants.{Normal}
 use Rattle.vp_receipt_settings.specs.Rasters.{row_at}
 use Rattle.vp_receipt.specs.PageMarks.{rows_dot}
 use Rattle.vp_receipt.proofs.PageRows.{row_is}
+use Rattle.vp_page.specs.declared.across.TheConstants.{AT_ONCE}
 use Rattle.vp_page.specs.declared.line.TheConstants.{LINE_BYTES, LINE_DOTS}
 
 -- white lines
@@ -52,8 +53,8 @@ once_dots scale wide n bytes y u once = subst (λ (k : RasterScale). (ltb y n &&
 -- one more of the lines
 pub line_set : (f : ℕ → ℕ → Bool) (lines : List (List ℕ)) (i : ℕ) (line : List ℕ) → i < length lines
     → ((u : ℕ) → u < LINE_DOTS → dot line u ≡ f i u)
-    → ((k u : ℕ) → k < 192 → u < LINE_DOTS → dot (get_or lines k []) u ≡ (ltb k i && f k u))
-    → (k u : ℕ) → k < 192 → u < LINE_DOTS → dot (get_or (set lines i line) k []) u ≡ (ltb k (i + 1) && f k u)
+    → ((k u : ℕ) → k < AT_ONCE → u < LINE_DOTS → dot (get_or lines k []) u ≡ (ltb k i && f k u))
+    → (k u : ℕ) → k < AT_ONCE → u < LINE_DOTS → dot (get_or (set lines i line) k []) u ≡ (ltb k (i + 1) && f k u)
 line_set f lines i line within here above k u h l = elim (cases_eq k i) [
   | inl at ↦ rw (at, get_or-set_same lines i line [] within, lt-ltb i (i + 1) (omega arith)) (here u l)
   | inr other ↦ rw (get_or-set_other lines i k line [] other) (above k u h l ∙ elim (cases_lt k i) as (λ _. (ltb k i && f k u) ≡ (ltb k (i + 1) && f k u)) [
@@ -63,7 +64,7 @@ line_set f lines i line within here above k u h l = elim (cases_eq k i) [
 ]
 
 -- all that there are
-pub lines_there : (i k from high : ℕ) → i ≡ min (high - from) 192 → k < 192 → ltb k i ≡ ltb (from + k) high
+pub lines_there : (i k from high : ℕ) → i ≡ min (high - from) AT_ONCE → k < AT_ONCE → ltb k i ≡ ltb (from + k) high
 lines_there i k from high e h = elim (cases_lt k i) [
   | inl l ↦ rw (lt-ltb k i l, lt-ltb (from + k) high (omega arith)) refl
   | inr g ↦ rw (le-ltb k i g, le-ltb (from + k) high (omega arith)) refl
@@ -89,7 +90,7 @@ row_there w rows (suc (suc zero)) some few h = omega arith
 row_there w rows (suc (suc (suc n))) some few h = absurd (omega arith)
 
 -- as many as are laid at once begin with the first line of a row
-pub row_begins : (k times : ℕ) → 0 < times → times ≤ 2 → 192 * k % times ≡ 0
+pub row_begins : (k times : ℕ) → 0 < times → times ≤ 2 → AT_ONCE * k % times ≡ 0
 row_begins k zero some few = absurd (omega arith)
 row_begins k (suc zero) some few = omega arith
 row_begins k (suc (suc zero)) some few = omega arith

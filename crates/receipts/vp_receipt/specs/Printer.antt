@@ -10,9 +10,9 @@ abbrev pub printing_of : {A : _} → Inside A → Printing
 printing_of r = record {
   sheets = r.canvas.sheets;
   settings = r.settings;
-  stops = r.stops.items;
-  raster = r.raster;
-  stored = r.stored;
+  stops = r.kept.stops.items;
+  raster = r.kept.raster;
+  stored = r.kept.stored;
   bitmap = r.canvas.bitmap;
   page = r.canvas.page;
   waiting = r.waiting;
@@ -23,6 +23,6 @@ printing_of r = record {
 
 pub record IsPrinter {A : Type 0} (r : Inside A) : Type 0 where
   pub fit : IsFit r.settings
-  pub raster : IsPartRow r.raster
+  pub raster : IsPartRow r.kept.raster
   pub job : IsJob r.job (canvas_of r.canvas) r.lines
   pub turned : IsTurned r.job.place r.job.after

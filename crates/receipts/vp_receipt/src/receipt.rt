@@ -17,6 +17,7 @@ ghost use Rattle.vp_receipt.specs.Standing.{Stands, IsActing};
 ghost use Rattle.vp_receipt.specs.Work.{most_work, least_work};
 ghost use Rattle.vp_page.specs.Work.{MOST};
 ghost use Rattle.vp_receipt_settings.specs.declared.page_mode.PrinterMode.{PrinterMode};
+ghost use Rattle.vp_receipt_settings.specs.declared.effect.Effect.{Effect};
 ghost use Rattle.vp_receipt.specs.Memory.{receipt_memory};
 ghost use Rattle.vp_receipt.specs.Plain.{rows_room, rows_put};
 ghost use Rattle.vp_receipt_settings.specs.Effects.{effect_of};
@@ -33,16 +34,14 @@ use vp_esc::item::EscItem;
 use vp_glyph::Sheets;
 use vp_page::{PAGE_ROWS, PAPER_BYTES, Page};
 use vp_receipt_settings::{
-    Effect, PrinterMode, Raster, Settings, Stops, Stored, Width, first_stops, set_stops, times_down,
+    Effect, Kept, PrinterMode, Raster, Settings, Stored, Width, first_stops, times_down,
 };
 use vp_strips::{Bitmap, Canvas, Job, Lines, Symbol};
 
 /// A receipt printer. What an item prints is pending until it is put out.
 pub struct Receipt<A: Small = Global> {
     settings: Settings,
-    stops: Stops,
-    raster: Raster,
-    stored: Stored,
+    kept: Kept,
     canvas: Canvas<A>,
     /// The line that is being put out.
     lines: Lines,
@@ -58,9 +57,7 @@ impl<A: Small> Drop for Receipt<A> {
     fn drop(self) {
         let Receipt {
             settings: _,
-            stops: _,
-            raster: _,
-            stored: _,
+            kept: _,
             canvas: _,
             lines: _,
             waiting: _,
@@ -102,9 +99,11 @@ impl<A: Small + Copy> Receipt<A> {
         let page = Page::new(alloc)?;
         Ok(Receipt {
             settings: Settings::start(width),
-            stops: first_stops(),
-            raster: Raster::none(),
-            stored: Stored::none(),
+            kept: Kept {
+                stops: first_stops(),
+                raster: Raster::none(),
+                stored: Stored::none(),
+            },
             canvas: Canvas {
                 sheets,
                 bitmap,
@@ -134,14 +133,14 @@ impl<A: Small> Receipt<A> {
             Stands setup self.old before → self.new.pending ≡ prints setup before item.now) }
         ensures err { OnErr result (self.new ≡ self.old) }
     {
-        if let EscItem::QrByte(byte) = item {
-            self.store(*byte);
-            return Ok(());
-        }
         let effect = self.settings.effect(item);
         match effect {
             Effect::Nothing => {
-                self.raster.begin(item);
+                self.kept.take(item, self.settings.text);
+                Ok(())
+            }
+            Effect::Sets => {
+                self.set(item);
                 Ok(())
             }
             Effect::Fills(byte) => {
@@ -156,17 +155,27 @@ impl<A: Small> Receipt<A> {
         }
     }
 
-    /// Stores a byte for a QR symbol: all else stays as it was, but for a raster, which ends.
+    /// Sets what an item sets: what is put into the line stays as it is.
     #[inline(always)]
-    fn store(&mut self, byte: u8)
-        requires { self.old.pending ≡ [] }
+    fn set(&mut self, item: &EscItem)
+        requires pending { self.old.pending ≡ [] }
+        requires effect { effect_of self.old.settings item.now ≡ Effect.Sets }
         ensures stands { (setup : Setup) (before : List EscItem) → Stands setup self.old before →
-            Stands setup self.new (EscItem.QrByte byte ∷ before) }
-        ensures pending { self.new.pending ≡ [] }
+            Stands setup self.new (item.now ∷ before) }
+        ensures pending { (setup : Setup) (before : List EscItem) → Stands setup self.old before →
+            self.new.pending ≡ prints setup before item.now }
     {
-        let item = EscItem::QrByte(byte);
-        self.raster.begin(&item);
-        self.stored.take(&item);
+        settle(
+            &self.settings,
+            self.waiting,
+            &self.canvas.sheets,
+            &mut self.canvas.bitmap,
+        );
+        self.waiting = None;
+        let text = self.settings.text;
+        let stops = self.kept.stops.as_slice();
+        self.settings = self.settings.after(item, Effect::Sets, stops, 0);
+        self.kept.take(item, text);
     }
 
     /// Takes a byte of a raster. One that ends a row prints it, or lays it on the page.
@@ -178,10 +187,10 @@ impl<A: Small> Receipt<A> {
         ensures pending { (setup : Setup) (before : List EscItem) → Stands setup self.old before →
             self.new.pending ≡ prints setup before (EscItem.RasterByte byte) }
     {
-        if self.raster.take(byte) {
-            self.job = act_on_row(&self.settings, &self.raster, &mut self.canvas);
+        if self.kept.raster.take(byte) {
+            self.job = act_on_row(&self.settings, &self.kept.raster, &mut self.canvas);
             self.of_page = false;
-            self.settings = self.settings.after_row(times_down(self.raster.scale));
+            self.settings = self.settings.after_row(times_down(self.kept.raster.scale));
         }
     }
 
@@ -207,10 +216,9 @@ impl<A: Small> Receipt<A> {
         self.waiting = effect.waiting();
         self.of_page = prints_page(&self.settings, effect);
         let text = self.settings.text;
-        self.settings = self.settings.after(item, effect, self.stops.as_slice(), 0);
-        set_stops(&mut self.stops, item, text);
-        self.raster.begin(item);
-        self.stored.take(item);
+        let stops = self.kept.stops.as_slice();
+        self.settings = self.settings.after(item, effect, stops, 0);
+        self.kept.take(item, text);
     }
 
     /// Draws a symbol.
@@ -226,7 +234,7 @@ impl<A: Small> Receipt<A> {
             Stands setup self.old before → self.new.pending ≡ prints setup before item.now) }
         ensures err { OnErr result (self.new ≡ self.old) }
     {
-        let symbol = drawn(&self.settings, item, &self.stored, &self.canvas.sheets)?;
+        let symbol = drawn(&self.settings, item, &self.kept.stored, &self.canvas.sheets)?;
         settle(
             &self.settings,
             self.waiting,
@@ -237,9 +245,10 @@ impl<A: Small> Receipt<A> {
         self.job = draw(&self.settings, symbol, wide, high, &mut self.canvas);
         self.waiting = None;
         self.of_page = false;
-        let stops = self.stops.as_slice();
+        let text = self.settings.text;
+        let stops = self.kept.stops.as_slice();
         self.settings = self.settings.after(item, Effect::Draws, stops, high);
-        self.raster.begin(item);
+        self.kept.take(item, text);
         Ok(())
     }
 
@@ -268,7 +277,7 @@ impl<A: Small> Receipt<A> {
         settle(&self.settings, self.waiting, &self.canvas.sheets, bitmap);
         put_text(&mut self.settings, text, &self.canvas.sheets, bitmap);
         self.waiting = None;
-        self.raster.end();
+        self.kept.raster.end();
     }
 
     /// Takes bytes that are stored for a QR symbol: they print nothing.
@@ -283,8 +292,8 @@ impl<A: Small> Receipt<A> {
         if bytes.is_empty() {
             return;
         }
-        self.raster.end();
-        self.stored.take_all(bytes);
+        self.kept.raster.end();
+        self.kept.stored.take_all(bytes);
     }
 
     /// How many bytes of a raster come before one that prints: in standard mode that is the one that ends the
@@ -295,8 +304,8 @@ impl<A: Small> Receipt<A> {
             result ≡ raster_run (mode setup before) before }
     {
         match self.settings.page.mode {
-            PrinterMode::Standard => usize::from(self.raster.room()),
-            PrinterMode::Page => self.raster.left(),
+            PrinterMode::Standard => usize::from(self.kept.raster.room()),
+            PrinterMode::Page => self.kept.raster.left(),
         }
     }
 
@@ -311,10 +320,10 @@ impl<A: Small> Receipt<A> {
         ensures pending { self.new.pending ≡ [] }
     {
         match self.settings.page.mode {
-            PrinterMode::Standard => self.raster.take_all(bytes),
+            PrinterMode::Standard => self.kept.raster.take_all(bytes),
             PrinterMode::Page => {
                 let page = &mut self.canvas.page;
-                take_run(&mut self.settings, &mut self.raster, bytes, page);
+                take_run(&mut self.settings, &mut self.kept.raster, bytes, page);
                 self.job = Job::none();
             }
         }
@@ -324,8 +333,8 @@ impl<A: Small> Receipt<A> {
     pub fn rows_room(&self, output: usize) -> usize
         ensures { result ≡ rows_room self.now.settings self.now.raster output }
     {
-        if is_plain(&self.settings, &self.raster) {
-            return plain_room(&self.raster, output);
+        if is_plain(&self.settings, &self.kept.raster) {
+            return plain_room(&self.kept.raster, output);
         }
         self.raster_room()
     }
@@ -346,8 +355,8 @@ impl<A: Small> Receipt<A> {
             Stands setup self.new (bytes_after bytes.now before) }
         ensures pending { self.new.pending ≡ [] }
     {
-        if is_plain(&self.settings, &self.raster) {
-            return put_plain(&mut self.settings, &mut self.raster, bytes, output);
+        if is_plain(&self.settings, &self.kept.raster) {
+            return put_plain(&mut self.settings, &mut self.kept.raster, bytes, output);
         }
         self.apply_raster(bytes);
         0

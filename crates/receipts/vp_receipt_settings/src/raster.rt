@@ -1,11 +1,13 @@
 //! The raster whose bytes come: its scale, the rows that are not whole, and the first bytes of the row.
-ghost use Rattle.std.specs.Prelude.{◌≡◌, ℕ, ◌+◌, ◌-◌, ◌*◌, ◌<◌, ◌≤◌, ◌++◌, List, [], ◌∷◌, take, min, length, ◌&&◌, true};
+ghost use Rattle.std.specs.Prelude.{◌≡◌, ℕ, ◌+◌, ◌-◌, ◌*◌, ◌<◌, ◌≤◌, ◌++◌, List, [], ◌∷◌, take, min, length, ◌&&◌, true, Option};
 ghost use Rattle.vp_esc.specs.declared.item.EscItem.{EscItem};
+ghost use Rattle.vp_esc.specs.declared.item.RasterScale.{RasterScale};
+ghost use Rattle.vp_esc.specs.declared.item.Spelled.{Spelled};
 ghost use Rattle.vp_page.specs.declared.line.TheConstants.{LINE_BYTES};
 ghost use Rattle.vp_receipt_settings.specs.Rasters.{times_across, times_down, scale_or, draws, is_row_end, row_so_far, bytes_after};
 ghost use Rattle.vp_receipt_settings.specs.Gathering.{IsGathering, IsPartRow, EndsRow, kept_of, room_of, left_of};
 
-use vp_esc::item::{EscItem, RasterScale};
+use vp_esc::item::RasterScale;
 use vp_page::LINE_BYTES;
 
 /// A raster whose bytes come, and the bytes of its row as far as they have come.
@@ -111,19 +113,17 @@ impl Raster {
         self.got = 0;
     }
 
-    /// Begins the raster of a head, or ends the one that came where the item is another.
-    pub fn begin(&mut self, item: &EscItem)
-        requires { (byte : ℕ) → item.now ≡ EscItem.RasterByte byte → ⊥ }
-        ensures gathers { (before : List EscItem) → IsGathering self.new (item.now ∷ before) }
+    /// Begins the raster of a head, where none comes.
+    pub(crate) fn begin(&mut self, scale: Option<RasterScale>, bytes: u16, rows: u16)
+        requires { IsGathering self.old [] }
+        ensures gathers { (head : Spelled (Option RasterScale)) (before : List EscItem) →
+            head.value ≡ scale → IsGathering self.new (EscItem.Raster head bytes rows ∷ before) }
         ensures part { IsPartRow self.new }
     {
-        self.end();
-        if let EscItem::Raster { scale, bytes, rows } = item {
-            self.scale = scale_named(scale.value);
-            self.bytes = *bytes;
-            if draws(scale.value, *bytes, *rows) {
-                self.rows = *rows;
-            }
+        self.scale = scale_named(scale);
+        self.bytes = bytes;
+        if draws(scale, bytes, rows) {
+            self.rows = rows;
         }
     }
 

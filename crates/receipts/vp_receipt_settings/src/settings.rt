@@ -9,7 +9,7 @@ ghost use Rattle.vp_receipt_settings.specs.Spacing.{column_width_of, line_spacin
 ghost use Rattle.vp_receipt_settings.specs.Line.{lines_rows, standard_length, breaks, ended_rows, position_moved, position_at, position, line_length, left_margin, area_width};
 ghost use Rattle.vp_receipt_settings.specs.Settings.{printed_at, settings_of, IsFit, settings_length, justification};
 ghost use Rattle.vp_receipt_settings.specs.Tabs.{tab_stops, tabbed};
-ghost use Rattle.vp_receipt_settings.specs.Symbols.{symbol_image, image_rows};
+ghost use Rattle.vp_receipt_settings.specs.Symbols.{symbol_image, image_rows, bar_style_of, qr_style_of};
 ghost use Rattle.vp_receipt_settings.specs.Texts.{style_of};
 ghost use Rattle.vp_receipt_settings.specs.Runs.{text_room};
 ghost use Rattle.vp_receipt_settings.specs.Effects.{effect_of, feed_of};
@@ -23,7 +23,7 @@ use crate::column::{COLUMN_ROWS, Column};
 use crate::effect::{Effect, NextLines, Piece};
 use crate::page_mode::{PageSettings, PrinterMode};
 use crate::qr_style::QrStyle;
-use crate::text::{LINE_ROWS, Text, WIDEST};
+use crate::text::{LINE_ROWS, Text, WIDEST, rows_or};
 use crate::width::Width;
 use vp_esc::item::{ColumnMode, EscItem};
 use vp_glyph::Alignment;
@@ -339,26 +339,48 @@ impl Settings {
             EscItem::Columns { mode, .. } => self.column_width = dot_width(*mode),
             EscItem::DefaultLineSpacing => self.line_spacing = DEFAULT_LINE_SPACING,
             EscItem::LineSpacing(n) => self.line_spacing = *n,
-            EscItem::LeftMargin(n) => {
-                if !self.is_open && *n < self.paper.across() {
-                    self.left_margin = *n;
-                }
+            EscItem::LeftMargin(n) if !self.is_open && *n < self.paper.across() => {
+                self.left_margin = *n;
             }
-            EscItem::AreaWidth(n) => {
-                if !self.is_open && *n > 0 {
-                    self.area_width = *n;
-                }
+            EscItem::AreaWidth(n) if !self.is_open && *n > 0 => self.area_width = *n,
+            EscItem::Justify(s) if !self.is_open => {
+                self.justification = s.value.unwrap_or(self.justification);
             }
-            EscItem::Justify(s) => {
-                if !self.is_open {
-                    self.justification = s.value.unwrap_or(self.justification);
-                }
+            EscItem::RightSpacing(n) => self.text.right_spacing = *n,
+            EscItem::PrintMode(s) => self.text = self.text.after_mode(s.value),
+            EscItem::Underline(s) => self.text.underline = rows_or(s.value, self.text.underline),
+            EscItem::Emphasized(s) => self.text.emphasized = s.value,
+            EscItem::DoubleStrike(s) => self.text.double_strike = s.value,
+            EscItem::Font(s) => self.text.font = s.value.unwrap_or(self.text.font),
+            EscItem::Magnify(s) => self.text = self.text.after_magnification(s.value),
+            EscItem::Inverse(s) => self.text.inverse = s.value,
+            _ => return self.with_symbols(item),
+        }
+        self
+    }
+
+    /// The settings with what an item sets of how symbols are drawn.
+    fn with_symbols(mut self, item: &EscItem) -> Settings
+        requires fit { IsFit self }
+        requires item { item.now ≡ EscItem.Initialize → ⊥ }
+        ensures symbols { (before : List EscItem) → self.bars ≡ bar_style_of before →
+            self.qr ≡ qr_style_of before → result ≡ record self {
+              bars = bar_style_of (item.now ∷ before);
+              qr = qr_style_of (item.now ∷ before);
+            } }
+        ensures fit { IsFit result }
+    {
+        match item {
+            EscItem::BarHeight(height) if *height > 0 => self.bars.height = *height,
+            EscItem::BarModule(dots) if 2 <= *dots && *dots <= 6 => self.bars.module_dots = *dots,
+            EscItem::HriPosition(s) => {
+                self.bars.hri_position = s.value.unwrap_or(self.bars.hri_position);
             }
-            _ => {
-                self.text = self.text.after(item);
-                self.bars = self.bars.after(item);
-                self.qr = self.qr.after(item);
-            }
+            EscItem::HriFont(s) => self.bars.hri_font = s.value.unwrap_or(self.bars.hri_font),
+            EscItem::QrModel(model) => self.qr.model = *model,
+            EscItem::QrModule(dots) if 1 <= *dots && *dots <= 16 => self.qr.module_dots = *dots,
+            EscItem::QrLevel(level) => self.qr.level = *level,
+            _ => {}
         }
         self
     }

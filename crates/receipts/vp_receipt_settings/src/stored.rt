@@ -5,7 +5,6 @@ ghost use Rattle.vp_receipt_settings.specs.Runs.{stored_after};
 ghost use Rattle.vp_receipt_settings.specs.Symbols.{qr_data, IsStored};
 
 use arrayvec::ArrayVec;
-use vp_esc::item::EscItem;
 
 /// The most bytes that are stored: those that the largest symbol holds.
 pub const STORED_BYTES: usize = 652;
@@ -38,7 +37,7 @@ impl Stored {
     }
 
     /// Stores a byte, or marks that there is one more.
-    fn push(&mut self, byte: u8)
+    pub(crate) fn push(&mut self, byte: u8)
         ensures { (bytes : List ℕ) → IsStored self.old bytes →
             IsStored self.new (bytes ++ byte ∷ []) }
     {
@@ -62,18 +61,11 @@ impl Stored {
         self.more = true;
     }
 
-    /// What is stored after an item.
-    pub fn take(&mut self, item: &EscItem)
-        ensures { (before : List EscItem) → IsStored self.old (qr_data before) →
-            IsStored self.new (qr_data (item.now ∷ before)) }
+    /// Gives up what is stored.
+    pub(crate) fn clear(&mut self)
+        ensures { IsStored self.new [] }
     {
-        match item {
-            EscItem::QrByte(byte) => self.push(*byte),
-            EscItem::QrStore(_) | EscItem::Initialize => {
-                self.bytes.clear();
-                self.more = false;
-            }
-            _ => {}
-        }
+        self.bytes.clear();
+        self.more = false;
     }
 }

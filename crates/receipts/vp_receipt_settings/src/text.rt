@@ -1,13 +1,12 @@
 //! How characters are drawn.
-ghost use Rattle.std.specs.Prelude.{◌≡◌, ◌+◌, ◌*◌, ◌≤◌, ◌<◌, if◌then◌else◌, List, ◌∷◌};
-ghost use Rattle.vp_esc.specs.declared.item.EscItem.{EscItem};
-ghost use Rattle.vp_receipt_settings.specs.Texts.{rule_rows, is_magnification, text_in_force, style_of};
+ghost use Rattle.std.specs.Prelude.{◌≡◌, ◌+◌, ◌*◌, ◌≤◌, ◌<◌, if◌then◌else◌};
+ghost use Rattle.vp_receipt_settings.specs.Texts.{rows_or, is_magnification, width_or, height_or, style_of};
 ghost use Rattle.vp_receipt_settings.specs.Settings.{IsFitText};
 ghost use Rattle.vp_glyph.specs.Cells.{cell_width, cell_height};
 ghost use Rattle.vp_receipt_settings.specs.declared.text.TheConstants.{LINE_ROWS, WIDEST};
 
 use vp_dots::Small;
-use vp_esc::item::{EscItem, Magnification, PrintMode, Spelled, Underline};
+use vp_esc::item::{Magnification, PrintMode, Underline};
 use vp_glyph::{Cell, Font, Sheets, Style};
 
 /// The most rows of a line: eight times those of a character.
@@ -30,14 +29,15 @@ pub struct Text {
     pub right_spacing: u8,
 }
 
-/// How many rows an underline has.
-fn rows_named(underline: Underline) -> u8
-    ensures { result ≡ rule_rows underline }
+/// How many rows an underline has, `old` where none is named.
+pub(crate) fn rows_or(underline: Option<Underline>, old: u8) -> u8
+    ensures { result ≡ rows_or underline old }
 {
     match underline {
-        Underline::Off => 0,
-        Underline::OneRow => 1,
-        Underline::TwoRows => 2,
+        None => old,
+        Some(Underline::Off) => 0,
+        Some(Underline::OneRow) => 1,
+        Some(Underline::TwoRows) => 2,
     }
 }
 
@@ -109,7 +109,8 @@ impl Text {
         cell * self.high as u16
     }
 
-    fn after_mode(self, mode: PrintMode) -> Text
+    /// What is in force after ESC !.
+    pub(crate) fn after_mode(self, mode: PrintMode) -> Text
         ensures { result ≡ record self {
           font = mode.font;
           emphasized = mode.emphasized;
@@ -128,48 +129,20 @@ impl Text {
         }
     }
 
-    fn after_magnification(self, m: Magnification) -> Text
+    /// What is in force after GS !.
+    pub(crate) fn after_magnification(self, named: Option<Magnification>) -> Text
         requires { IsFitText self }
-        ensures text { result ≡ record self {
-          wide = (if is_magnification m then m.width else self.wide);
-          high = (if is_magnification m then m.height else self.high);
-        } }
+        ensures text { result ≡
+            record self { wide = width_or named self.wide; high = height_or named self.high } }
         ensures fit { IsFitText result }
     {
-        if is_accepted(m) {
-            Text {
+        match named {
+            Some(m) if is_accepted(m) => Text {
                 wide: m.width,
                 high: m.height,
                 ..self
-            }
-        } else {
-            self
+            },
+            _ => self,
         }
-    }
-
-    /// What is in force after an item.
-    pub fn after(mut self, item: &EscItem) -> Text
-        requires { IsFitText self }
-        ensures text { (before : List EscItem) → self ≡ text_in_force before →
-            result ≡ text_in_force (item.now ∷ before) }
-        ensures fit { IsFitText result }
-    {
-        match item {
-            EscItem::RightSpacing(n) => self.right_spacing = *n,
-            EscItem::PrintMode(mode) => return self.after_mode(mode.value),
-            EscItem::Underline(s) => {
-                if let Some(rule) = s.value {
-                    self.underline = rows_named(rule);
-                }
-            }
-            EscItem::Initialize => return Text::START,
-            EscItem::Emphasized(s) => self.emphasized = s.value,
-            EscItem::DoubleStrike(s) => self.double_strike = s.value,
-            EscItem::Font(s) => self.font = s.value.unwrap_or(self.font),
-            EscItem::Magnify(Spelled { value: Some(m), .. }) => return self.after_magnification(*m),
-            EscItem::Inverse(s) => self.inverse = s.value,
-            _ => {}
-        }
-        self
     }
 }

@@ -7,6 +7,7 @@ use Rattle.std.proofs.lemmas.Nat.{shr-shr}
 use Rattle.std.proofs.lemmas.Nat.Bits.{bit_at_and, bit_at_ones, bit_at-lt}
 use Rattle.vp_dots.specs.Dots.{bit, dot}
 use Rattle.vp_dots.proofs.Rows.{dot-set, dot_past}
+use Rattle.vp_page.specs.declared.line.TheConstants.{LINE_BYTES, LINE_DOTS}
 use Rattle.vp_strips.proofs.Bitmaps.{dot_white}
 
 -- the bytes of four dots, each of them twice
@@ -35,13 +36,13 @@ bit_low byte k h = ap (λ n. eqb n 1) (bit_at_and byte 15 k ∙ ap (min (bit_at 
 
 -- the first i bytes are doubled, and what follows is white
 pub record IsDoubled (row : List ℕ) (i : ℕ) (wide : List ℕ) : Type 0 where
-  pub long : length wide ≡ 208
-  pub dots_are : (x : ℕ) → x < 1664 → dot wide x ≡ (ltb x (16 * i) && dot row (x / 2))
+  pub long : length wide ≡ LINE_BYTES
+  pub dots_are : (x : ℕ) → x < LINE_DOTS → dot wide x ≡ (ltb x (16 * i) && dot row (x / 2))
 
-pub doubled_none : (row : List ℕ) → IsDoubled row 0 (replicate 208 0)
+pub doubled_none : (row : List ℕ) → IsDoubled row 0 (replicate LINE_BYTES 0)
 doubled_none row = record {
-  long = length-replicate {A = ℕ} 208 0;
-  dots_are = λ x h. dot_white 208 x (omega arith) ∙ sym (rw (le-ltb x (16 * 0) (omega arith)) refl);
+  long = length-replicate {A = ℕ} LINE_BYTES 0;
+  dots_are = λ x h. dot_white LINE_BYTES x (omega arith) ∙ sym (rw (le-ltb x (16 * 0) (omega arith)) refl);
 }
 
 -- a byte written, each half of it doubled
@@ -62,8 +63,8 @@ module _ (row wide : List ℕ) (i left right : ℕ) (left_is : (k : ℕ) → k <
 
   pub doubled_more : i < 104 → IsDoubled row i wide → IsDoubled row (i + 1) (set (set wide (2 * i) left) (2 * i + 1) right)
   doubled_more room d =
-      let now : length wide ≡ 208 = d.long in
-      let long : length (set wide (2 * i) left) ≡ 208 = length-set wide (2 * i) left ∙ now in
+      let now : length wide ≡ LINE_BYTES = d.long in
+      let long : length (set wide (2 * i) left) ≡ LINE_BYTES = length-set wide (2 * i) left ∙ now in
       record {
         long = length-set (set wide (2 * i) left) (2 * i + 1) right ∙ long;
         dots_are = λ x h. dot-set (set wide (2 * i) left) (2 * i + 1) right x (omega arith) ∙ elim (cases_eq (x / 8) (2 * i + 1)) [
@@ -79,7 +80,7 @@ module _ (row wide : List ℕ) (i left right : ℕ) (left_is : (k : ℕ) → k <
       }
 
 -- past the row there is no dot
-pub doubled_all : (row wide : List ℕ) (i n : ℕ) → n ≡ min (length row) 104 → n ≤ i → IsDoubled row i wide → (x : ℕ) → x < 1664 → dot wide x ≡ dot row (x / 2)
+pub doubled_all : (row wide : List ℕ) (i n : ℕ) → n ≡ min (length row) 104 → n ≤ i → IsDoubled row i wide → (x : ℕ) → x < LINE_DOTS → dot wide x ≡ dot row (x / 2)
 doubled_all row wide i n e m d x h = d.dots_are x h ∙ elim (cases_lt x (16 * i)) [
   | inl b ↦ rw (lt-ltb x (16 * i) b) refl
   | inr g ↦ rw (le-ltb x (16 * i) g, dot_past row (x / 2) (omega arith)) refl

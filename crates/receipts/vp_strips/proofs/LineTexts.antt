@@ -17,23 +17,24 @@ use Rattle.vp_strips.specs.LineDots.{HasDots, HasOpen, any_dot, item_dot}
 use Rattle.vp_strips.specs.Rows.{printed_dot, strip_text, line_text, image_dot, image_text}
 use Rattle.vp_receipt_settings.specs.declared.settings.Settings.{Settings}
 use Rattle.vp_strips.specs.Jobs.{line_dot_of}
+use Rattle.vp_receipt_settings.specs.declared.text.TheConstants.{LINE_ROWS}
 use Rattle.vp_strips.proofs.Strips.{whole_is}
 
 -- an item stands on the same bottom row in a higher line
-item_raised : (p : Placed) (high x y : ℕ) → p.image.height ≤ high → high ≤ 192 → y < high → item_dot p high x y ≡ item_dot p 192 x (192 - high + y)
+item_raised : (p : Placed) (high x y : ℕ) → p.image.height ≤ high → high ≤ LINE_ROWS → y < high → item_dot p high x y ≡ item_dot p LINE_ROWS x (LINE_ROWS - high + y)
 item_raised p high x y h k l = elim (cases_lt y (high - p.image.height)) [
-  | inl below ↦ rw (lt-leb (high - p.image.height) y below, lt-leb (192 - p.image.height) (192 - high + y) (omega arith)) (none (leb p.at x) _ _)
-  | inr at ↦ rw (le-leb (high - p.image.height) y at, le-leb (192 - p.image.height) (192 - high + y) (omega arith))
-      (ap (λ v. leb p.at x && true && p.image.is_black (x - p.at) v) (let e : y - (high - p.image.height) ≡ 192 - high + y - (192 - p.image.height) = omega arith in e))
+  | inl below ↦ rw (lt-leb (high - p.image.height) y below, lt-leb (LINE_ROWS - p.image.height) (LINE_ROWS - high + y) (omega arith)) (none (leb p.at x) _ _)
+  | inr at ↦ rw (le-leb (high - p.image.height) y at, le-leb (LINE_ROWS - p.image.height) (LINE_ROWS - high + y) (omega arith))
+      (ap (λ v. leb p.at x && true && p.image.is_black (x - p.at) v) (let e : y - (high - p.image.height) ≡ LINE_ROWS - high + y - (LINE_ROWS - p.image.height) = omega arith in e))
 ]
   where
     none : (b c d : Bool) → (b && false && c) ≡ (b && false && d)
     none true c d = refl
     none false c d = refl
 
-pub raised : (placed : List Placed) (high x y : ℕ) → height placed ≤ high → high ≤ 192 → y < high → any_dot placed high x y ≡ any_dot placed 192 x (192 - high + y)
+pub raised : (placed : List Placed) (high x y : ℕ) → height placed ≤ high → high ≤ LINE_ROWS → y < high → any_dot placed high x y ≡ any_dot placed LINE_ROWS x (LINE_ROWS - high + y)
 raised [] high x y h k l = refl
-raised (p ∷ rest) high x y h k l = ap (λ b. b || any_dot rest high x y) (item_raised p high x y (omega arith) k l) ∙ ap (λ b. item_dot p 192 x (192 - high + y) || b) (raised rest high x y (omega arith) k l)
+raised (p ∷ rest) high x y h k l = ap (λ b. b || any_dot rest high x y) (item_raised p high x y (omega arith) k l) ∙ ap (λ b. item_dot p LINE_ROWS x (LINE_ROWS - high + y) || b) (raised rest high x y (omega arith) k l)
 
 open_line : (placed : List Placed) → 0 < height placed → is_open placed ≡ true
 open_line [] h = absurd (omega arith)
@@ -41,10 +42,10 @@ open_line (p ∷ rest) h = refl
 
 -- the lowest rows of the bitmap of a line are that line
 module _ (setup : Setup) (before : List EscItem) (bitmap : List (List ℕ)) (high left length : ℕ) (high_is : high ≡ height (line setup before)) (long_is : length ≡ paper_length setup before)
-    (left_is : left ≡ printed_at setup before (right_edge (line setup before))) (small : high ≤ 192) (has : is_open (line setup before) ≡ true → HasDots (line setup before) bitmap) where
-  read : (x y : ℕ) → x < LINE_DOTS → y < high → dot (get_or bitmap (192 - high + y) []) x ≡ any_dot (line setup before) (height (line setup before)) x y
-  read x y l h = (has (open_line (line setup before) (omega arith))).dots_are x (192 - high + y) l (omega arith)
-      ∙ ap (λ k. any_dot (line setup before) 192 x (192 - k + y)) high_is ∙ sym (raised (line setup before) (height (line setup before)) x y (omega arith) (omega arith) (omega arith))
+    (left_is : left ≡ printed_at setup before (right_edge (line setup before))) (small : high ≤ LINE_ROWS) (has : is_open (line setup before) ≡ true → HasDots (line setup before) bitmap) where
+  read : (x y : ℕ) → x < LINE_DOTS → y < high → dot (get_or bitmap (LINE_ROWS - high + y) []) x ≡ any_dot (line setup before) (height (line setup before)) x y
+  read x y l h = (has (open_line (line setup before) (omega arith))).dots_are x (LINE_ROWS - high + y) l (omega arith)
+      ∙ ap (λ k. any_dot (line setup before) LINE_ROWS x (LINE_ROWS - k + y)) high_is ∙ sym (raised (line setup before) (height (line setup before)) x y (omega arith) (omega arith) (omega arith))
 
   pub same_dot : (x y : ℕ) → x < PAPER_DOTS → line_dot_of high left length bitmap x y ≡ printed_dot setup before x y
   same_dot x y l = elim (cases_lt y high) [
@@ -54,7 +55,7 @@ module _ (setup : Setup) (before : List EscItem) (bitmap : List (List ℕ)) (hig
 
 -- the strip that is made of the settings
 pub text_is : (setup : Setup) (before : List EscItem) (canvas : Canvas) (s : Settings) (high left length rows : ℕ) → s ≡ settings_of setup before → high ≡ s.height
-    → length ≡ standard_length s.paper s.left_margin s.area_width → left ≡ printed_at setup before s.right_edge → high ≤ 192 → HasOpen (line setup before) canvas.bitmap → (rows ≡ 0 → ⊥)
+    → length ≡ standard_length s.paper s.left_margin s.area_width → left ≡ printed_at setup before s.right_edge → high ≤ LINE_ROWS → HasOpen (line setup before) canvas.bitmap → (rows ≡ 0 → ⊥)
     → whole (record { paper = s.paper; tall = rows; rows = rows; dots = Line high left length }) canvas ≡ line_text setup before rows
 text_is setup before canvas s high left length rows e high_is long_is left_is small has some =
     whole_is (record { paper = s.paper; tall = rows; rows = rows; dots = Line high left length }) canvas (printed_dot setup before) refl some

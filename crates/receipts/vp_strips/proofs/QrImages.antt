@@ -15,6 +15,7 @@ use Rattle.vp_esc.specs.declared.item.QrModel.{QrModel}
 use Rattle.vp_esc.specs.declared.item.QrModel.TheVariants.{Two}
 use Rattle.vp_receipt_settings.specs.declared.stored.Stored.{Stored}
 use Rattle.vp_receipt_settings.specs.declared.qr_style.QrStyle.{QrStyle}
+use Rattle.vp_receipt_settings.specs.declared.stored.TheConstants.{STORED_BYTES}
 use Rattle.vp_receipt_settings.specs.Symbols.{level_of, qr_side, qr_dot, qr_image, IsQrImage, IsStored, too_wide, model_refusal, many_refusal, bytes_refusal, qr_refusal}
 
 and_under : (a b c d : Bool) → (a ≡ true → b ≡ true → c ≡ d) → (a && b && c) ≡ (a && b && d)
@@ -49,8 +50,8 @@ pub room_left : (wide length : ℕ) (f : Option Fault) → f ≡ None → wide �
 room_left wide length f e h = ap (λ g. option_or g (too_wide wide length)) e ∙ rw (le-ltb length wide h) refl
 
 -- bytes that are all kept
-all_kept : (bytes : List ℕ) → nat_lt 652 (length bytes) ≡ false → take 652 bytes ≡ bytes
-all_kept bytes h = take_all 652 bytes (elim (cases_lt 652 (length bytes)) [ inl l ↦ absurd (true≢false (sym (lt-ltb 652 (length bytes) l) ∙ h)) | inr g ↦ g ])
+all_kept : (bytes : List ℕ) → nat_lt STORED_BYTES (length bytes) ≡ false → take STORED_BYTES bytes ≡ bytes
+all_kept bytes h = take_all STORED_BYTES bytes (elim (cases_lt STORED_BYTES (length bytes)) [ inl l ↦ absurd (true≢false (sym (lt-ltb STORED_BYTES (length bytes) l) ∙ h)) | inr g ↦ g ])
 
 pub kept_are : (stored : Stored) (bytes kept : List ℕ) → kept ≡ stored.bytes.items → stored.more ≡ false → IsStored stored bytes → kept ≡ bytes
 kept_are stored bytes kept e m h = e ∙ h.kept ∙ all_kept bytes (sym h.more ∙ m)

@@ -7,10 +7,11 @@ use Rattle.vp_receipt.proofs.PageRows.{front_shown}
 use Rattle.vp_receipt.proofs.RasterLines.{white_lines, line_set, lines_there, not_first, row_there, same_row}
 use Rattle.vp_page.specs.declared.line.TheConstants.{LINE_BYTES}
 use Rattle.vp_receipt.proofs.raster_page.lines_from.Goals as goal
+use Rattle.vp_page.specs.declared.across.TheConstants.{AT_ONCE}
 use Rattle.vp_receipt.proofs.raster_page.lines_from.Goals.{then-from-i-gt0, else-from-i-gt0}
 
 pub loop-i-init : goal.loop-i-init
-loop-i-init c = record { count = refl; dots = λ k u h l. rw (le-ltb k 0 (omega arith)) (white_lines 192 208 k u) }
+loop-i-init c = record { count = refl; dots = λ k u h l. rw (le-ltb k 0 (omega arith)) (white_lines AT_ONCE LINE_BYTES k u) }
 
 pub slice_bounds-widened-end : goal.slice_bounds-widened-end
 slice_bounds-widened-end c =

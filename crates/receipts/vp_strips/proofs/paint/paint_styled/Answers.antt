@@ -3,13 +3,14 @@ use Rattle.std.proofs.lemmas.Bool.{and_parts}
 use Rattle.vp_glyph.specs.Parts.{filled_dot}
 use Rattle.vp_glyph.proofs.Parts.{parts_dot}
 use Rattle.vp_strips.proofs.Magnified.{rows_over, part_placed}
+use Rattle.vp_receipt_settings.specs.declared.text.TheConstants.{LINE_ROWS}
 use Rattle.vp_strips.proofs.paint.paint_styled.Goals as goal
 
 pub returns : goal.returns
 returns g c =
     let cell = c.args.cell.now in
     let filled = c.filled-filled.result in
-    rows_over 192 _ _ _ _ _ _
+    rows_over LINE_ROWS _ _ _ _ _ _
     (λ x k.
     let u = x - c.args.at in
     let v = k - c.args.top in

@@ -27,7 +27,7 @@ invariant_of-self g c =
     let none : job_text r.job (canvas_of r.canvas) ≡ [] = ap (λ (p : Printing). p.pending) c.self.view_is ∙ c.requires.pending in
     record {
       fit = c.after-self-inside.ensures.fit;
-      raster = c.begin.ensures.part;
+      raster = c.take.ensures.part;
       job = rw c.replace.ensures (job_replaced c.act-job.result r.job (canvas_of r.canvas) (canvas_of c.act-job.new.canvas) r.lines c.act-job.ensures.job c.self.invariant.job none);
       turned = rw c.replace.ensures (turned_replaced c.act-job.result r.job c.act-job.ensures.turned c.self.invariant.turned);
     }
@@ -55,7 +55,7 @@ returns-clause-stands g c = λ setup before h.
     let settled : IsSettled setup before r.settings (record (canvas_of r.canvas) { bitmap = c.settle.new.bitmap }) = record { settings = was.settings; sheets = was.sheets; line = c.settle.ensures (line setup before) was.line; page = was.page } in
     let is : effect ≡ effect_of (settings_of setup before) item = c.requires.effect ∙ ap (λ (p : Printing). effect_of p.settings c.args.item.now) (sym c.self.view_is) ∙ ap (λ (s : Settings). effect_of s c.args.item.now) was.settings in
     let d : Does setup before item effect = subst (λ (e : Effect). Does setup before item e) (sym is) (does setup before item c.requires.acts) in
-    let now : c.after-self-inside.result ≡ settings_of setup (item ∷ before) = c.after-self-inside.ensures.settings setup before was.settings (c.as_slice.ensures.value ∙ was.stops)
+    let now : c.after-self-inside.result ≡ settings_of setup (item ∷ before) = c.after-self-inside.ensures.settings setup before was.settings (c.as_slice-stops.ensures.value ∙ was.stops)
     (sym (ap image_rows (no_image setup before item c.requires.acts.symbol))) in
     let own = part_done setup before item effect d in
     let shown : IsShowing (unwrap_or c.act-job.result r.job) canvas (height (line setup before)) (length (own_part setup before item)) =
@@ -73,9 +73,9 @@ returns-clause-stands g c = λ setup before h.
     record {
       sheets = c.act-job.ensures.sheets ∙ was.sheets;
       settings = now;
-      stops = c.set_stops.ensures before (ap (λ (s : Settings). s.text) was.settings) was.stops;
-      raster = c.begin.ensures.gathers before;
-      stored = c.take.ensures before was.stored;
+      stops = c.take.ensures.stops before (ap (λ (s : Settings). s.text) was.settings) was.stops;
+      raster = c.take.ensures.gathers before;
+      stored = c.take.ensures.stored before was.stored;
       line = subst (λ (w : Option ℕ). Gathers canvas.sheets c.after-self-inside.result canvas.bitmap w (line setup (item ∷ before))) (sym c.waiting-self-inside.ensures)
           (subst (λ (t : Settings). Gathers canvas.sheets t canvas.bitmap (waits_of effect) (line setup (item ∷ before))) (sym now)
           (subst (λ (k : Sheets). Gathers k (settings_of setup (item ∷ before)) canvas.bitmap (waits_of effect) (line setup (item ∷ before))) (sym c.act-job.ensures.sheets) after));

@@ -5,14 +5,14 @@ use Rattle.vp_page.specs.Layers.{Layer}
 use Rattle.vp_receipt_settings.specs.declared.effect.Effect.{Effect}
 use Rattle.vp_receipt_settings.specs.declared.page_mode.PrinterMode.{PrinterMode}
 use Rattle.vp_receipt_settings.specs.Effects.{effect_of}
-use Rattle.vp_receipt_settings.specs.Symbols.{IsStored}
+use Rattle.vp_receipt_settings.specs.declared.settings.Settings.{Settings}
 use Rattle.vp_receipt_settings.specs.Line.{mode, Placed}
 use Rattle.vp_receipt.specs.PageMarks.{layers}
 use Rattle.vp_receipt.specs.Printer.{printing_of}
 use Rattle.vp_receipt.specs.Standing.{Printing, Gathers, HasPageIf, Stands}
 use Rattle.vp_receipt.specs.Strips.{prints, refusal}
 use Rattle.vp_receipt.proofs.Effects.{IsKind, kind_is, is_acting}
-use Rattle.vp_receipt.proofs.ItemKinds.{does_nothing, no_refusal, stores}
+use Rattle.vp_receipt.proofs.ItemKinds.{does_nothing, no_refusal}
 use Rattle.vp_receipt.proofs.Showing.{shows_nothing}
 use Rattle.vp_receipt.proofs.receipt.Receipt.apply.Goals as goal
 
@@ -25,9 +25,9 @@ returns-in-Nothing-clause-stands g c = λ setup before h.
     record {
       sheets = was.sheets;
       settings = was.settings ∙ sym same.settings;
-      stops = was.stops ∙ sym same.stops;
-      raster = c.begin.ensures.gathers before;
-      stored = subst (IsStored r.stored) (sym same.stored) was.stored;
+      stops = c.take.ensures.stops before (ap (λ (s : Settings). s.text) was.settings) was.stops;
+      raster = c.take.ensures.gathers before;
+      stored = c.take.ensures.stored before was.stored;
       line = subst (λ (placed : List Placed). Gathers r.canvas.sheets r.settings r.canvas.bitmap r.waiting placed) (sym same.line) was.line;
       page = subst (λ (l : List Layer). HasPageIf (mode setup (c.args.item.now ∷ before)) l r.canvas.page) (sym same.layers)
           (subst (λ (m : PrinterMode). HasPageIf m (layers setup before) r.canvas.page) (sym same.mode) was.page);
@@ -35,16 +35,15 @@ returns-in-Nothing-clause-stands g c = λ setup before h.
       of_page = λ some. absurd (omega (arith, some, ap length none));
     }
 
-pub returns-in-QrByte-clause-refusal : goal.returns-in-QrByte-clause-refusal
-returns-in-QrByte-clause-refusal g c = λ setup before h. ap (refusal setup before) c.in-QrByte.is ∙ (stores setup before c.in-QrByte.byte).refusal
+pub set-requires : goal.set-requires
+set-requires g c = record {
+  pending = c.requires;
+  effect = ap (λ (p : Printing). effect_of p.settings c.args.item.now) (sym c.self.view_is) ∙ sym c.effect-effect.ensures ∙ c.in-Sets.is;
+}
 
-pub returns-in-QrByte-clause-stands : goal.returns-in-QrByte-clause-stands
-returns-in-QrByte-clause-stands g c = λ setup before h.
-    subst (λ (i : EscItem). Stands setup c.store.new.self (i ∷ before)) (sym c.in-QrByte.is) (c.store.ensures.stands setup before h)
-
-pub returns-in-QrByte-clause-pending : goal.returns-in-QrByte-clause-pending
-returns-in-QrByte-clause-pending g c = λ setup before h.
-    c.store.ensures.pending ∙ sym (ap (prints setup before) c.in-QrByte.is ∙ (stores setup before c.in-QrByte.byte).prints)
+pub returns-in-Sets-clause-refusal : goal.returns-in-Sets-clause-refusal
+returns-in-Sets-clause-refusal g c = λ setup before h.
+    no_refusal setup before c.args.item.now (subst (λ (e : Effect). IsKind c.args.item.now e) (sym c.effect-effect.ensures ∙ c.in-Sets.is) (kind_is c.self.inside.settings c.args.item.now)).symbol
 
 pub returns-in-Fills-clause-stands : goal.returns-in-Fills-clause-stands
 returns-in-Fills-clause-stands g c = λ setup before h.
@@ -56,10 +55,10 @@ returns-in-Fills-clause-pending g c = λ setup before h.
     let byte : c.args.item.now ≡ RasterByte c.in-Fills.byte = subst (λ (e : Effect). IsKind c.args.item.now e) (sym c.effect-effect.ensures ∙ c.in-Fills.is) (kind_is c.self.inside.settings c.args.item.now) in
     c.fill.ensures.pending setup before h ∙ ap (prints setup before) (sym byte)
 
-pub returns-in_default-effect : goal.returns-in_default-effect
-returns-in_default-effect g c =
+pub returns-in_default : goal.returns-in_default
+returns-in_default g c =
     let item = c.args.item.now in
-    let acting = is_acting item c.effect-effect.result c.in_default-effect.not-Nothing c.in_default-effect.not-Fills c.in_default-effect.not-Draws
+    let acting = is_acting item c.effect-effect.result c.in_default.not-Nothing c.in_default.not-Fills c.in_default.not-Draws
     (subst (λ (e : Effect). IsKind item e) (sym c.effect-effect.ensures) (kind_is c.self.inside.settings item)) in
     record { refusal = λ setup before h. no_refusal setup before item acting.symbol; stands = c.act.ensures.stands; pending = c.act.ensures.pending; err = tt }
 
@@ -87,6 +86,6 @@ act-requires g c =
     record {
       pending = c.requires;
       effect = c.effect-effect.ensures ∙ ap (λ (p : Printing). effect_of p.settings item) c.self.view_is;
-      acts = is_acting item c.effect-effect.result c.in_default-effect.not-Nothing c.in_default-effect.not-Fills c.in_default-effect.not-Draws
+      acts = is_acting item c.effect-effect.result c.in_default.not-Nothing c.in_default.not-Fills c.in_default.not-Draws
           (subst (λ (e : Effect). IsKind item e) (sym c.effect-effect.ensures) (kind_is c.self.inside.settings item));
     }

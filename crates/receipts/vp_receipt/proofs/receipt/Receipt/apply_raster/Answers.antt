@@ -37,7 +37,7 @@ returns-in-Standard-clause-stands g c = λ setup before h.
       settings = ap (λ (p : Printing). p.settings) c.self.view_is ∙ h.settings ∙ sym (settings_stay setup bytes before in_row);
       stops = ap (λ (p : Printing). p.stops) c.self.view_is ∙ h.stops ∙ sym (stops_stay bytes before);
       raster = c.take_all.ensures.gathers before (subst (λ (p : Printing). IsGathering p.raster before) (sym c.self.view_is) h.raster);
-      stored = subst (IsStored c.self.inside.stored) (sym (data_stay bytes before)) (subst (λ (p : Printing). IsStored p.stored (qr_data before)) (sym c.self.view_is) h.stored);
+      stored = subst (IsStored c.self.inside.kept.stored) (sym (data_stay bytes before)) (subst (λ (p : Printing). IsStored p.stored (qr_data before)) (sym c.self.view_is) h.stored);
       line = subst (Gathers c.self.inside.canvas.sheets c.self.inside.settings c.self.inside.canvas.bitmap c.self.inside.waiting) (sym (line_stays setup bytes before))
           (subst (λ (p : Printing). Gathers p.sheets p.settings p.bitmap p.waiting (line setup before)) (sym c.self.view_is) h.line);
       page = page_stays setup bytes before _ in_row (subst (λ (p : Printing). HasPageIf (mode setup before) (layers setup before) p.page) (sym c.self.view_is) h.page);
@@ -59,7 +59,7 @@ returns-in-Page-clause-stands g c = λ setup before h.
     let r = c.self.inside in
     let is = mode_is setup before r.settings Page was.settings c.in-Page.is in
     let page : HasPage (layers setup before) r.canvas.page = subst (λ (m : PrinterMode). HasPageIf m (layers setup before) r.canvas.page) is was.page in
-    let on : IsOnPage setup before r.settings r.raster r.canvas.page = record { settings = was.settings; raster = was.raster; page = page } in
+    let on : IsOnPage setup before r.settings r.kept.raster r.canvas.page = record { settings = was.settings; raster = was.raster; page = page } in
     let now = c.take_run.ensures.on_page setup before on in
     let none = c.none-self-inside.ensures.text (record (canvas_of r.canvas) { page = c.take_run.new.page }) in
     record {
@@ -67,7 +67,7 @@ returns-in-Page-clause-stands g c = λ setup before h.
       settings = now.settings;
       stops = was.stops ∙ sym (stops_stay bytes before);
       raster = now.raster;
-      stored = subst (IsStored r.stored) (sym (data_stay bytes before)) was.stored;
+      stored = subst (IsStored r.kept.stored) (sym (data_stay bytes before)) was.stored;
       line = gathers_still setup bytes before r.canvas.sheets r.settings c.take_run.new.s r.canvas.bitmap r.waiting was.settings now.settings was.line;
       page = has_page (mode setup after) (layers setup after) c.take_run.new.page now.page;
       shows = nothing_shown setup _ _ after (c.none-self-inside.ensures.shows (record (canvas_of r.canvas) { page = c.take_run.new.page }));

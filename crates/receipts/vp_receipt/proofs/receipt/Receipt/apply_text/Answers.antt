@@ -41,7 +41,7 @@ returns-clause-stands g c = λ setup before h.
       settings = c.put_text.ensures.settings setup before was.settings;
       stops = was.stops ∙ sym alone.stops;
       raster = text_ends c.end.new.self text before c.requires.text some c.end.ensures.gathers;
-      stored = subst (IsStored r.stored) (sym alone.stored) was.stored;
+      stored = subst (IsStored r.kept.stored) (sym alone.stored) was.stored;
       line = c.put_text.ensures.line setup before was.settings was.sheets (c.settle.ensures (line setup before) was.line);
       page = subst (λ (l : List Layer). HasPageIf (mode setup (text_after text before)) l r.canvas.page) (sym alone.layers)
           (subst (λ (m : PrinterMode). HasPageIf m (layers setup before) r.canvas.page) (sym alone.mode) was.page);

@@ -1,17 +1,18 @@
 use Rattle.std.proofs.Common.{◌∷◌, ap, sym, ◌∙◌, subst, Some}
-use Rattle.vp_receipt_settings.specs.Symbols.{IsStored, symbol_image}
+use Rattle.vp_receipt_settings.specs.declared.settings.Settings.{Settings}
+use Rattle.vp_receipt_settings.specs.Symbols.{symbol_image}
 use Rattle.vp_receipt_settings.specs.Line.{line}
 use Rattle.vp_glyph.specs.Sheets.{Sheets}
 use Rattle.vp_strips.specs.SymbolInks.{IsSymbolOf, symbol_height}
 use Rattle.vp_receipt.specs.Printer.{printing_of}
 use Rattle.vp_receipt.specs.Standing.{Printing, Stands, IsSettled}
-use Rattle.vp_receipt.proofs.ItemKinds.{stops_kept, data_kept, no_page, rows_drawn}
+use Rattle.vp_receipt.proofs.ItemKinds.{no_page, rows_drawn}
 use Rattle.vp_receipt.proofs.PageSymbols.{line_ended, gathers_none}
 use Rattle.vp_strips.specs.Canvases.{canvas_of}
 use Rattle.vp_receipt.proofs.receipt.Receipt.draw.Goals as goal
 
 pub invariant_of-self : goal.invariant_of-self
-invariant_of-self g c = record { fit = c.after-self-inside.ensures.fit; raster = c.begin.ensures.part; job = c.draw-self-inside.ensures.job _; turned = c.draw-self-inside.ensures.turned }
+invariant_of-self g c = record { fit = c.after-self-inside.ensures.fit; raster = c.take.ensures.part; job = c.draw-self-inside.ensures.job _; turned = c.draw-self-inside.ensures.turned }
 
 pub returns-clause-stands : goal.returns-clause-stands
 returns-clause-stands g c = λ setup before h.
@@ -24,9 +25,9 @@ returns-clause-stands g c = λ setup before h.
       sheets = c.draw-self-inside.ensures.sheets ∙ was.sheets;
       settings = c.after-self-inside.ensures.settings setup before was.settings (c.as_slice-stops.ensures.value ∙ was.stops)
           (c.size-wide.ensures.height ∙ ap (λ (k : Sheets). symbol_height k symbol) was.sheets ∙ rows_drawn setup before item symbol drawn);
-      stops = was.stops ∙ sym (stops_kept before item c.requires.symbol);
-      raster = c.begin.ensures.gathers before;
-      stored = subst (IsStored c.self.inside.stored) (sym (data_kept before item c.requires.symbol)) was.stored;
+      stops = c.take.ensures.stops before (ap (λ (s : Settings). s.text) was.settings) was.stops;
+      raster = c.take.ensures.gathers before;
+      stored = c.take.ensures.stored before was.stored;
       line = gathers_none c.draw-self-inside.new.canvas.sheets c.after-self-inside.result c.draw-self-inside.new.canvas.bitmap (line setup (item ∷ before)) (line_ended setup before item symbol drawn);
       page = c.draw-self-inside.ensures.page setup before item settled drawn;
       shows = c.draw-self-inside.ensures.shows setup before item settled drawn;

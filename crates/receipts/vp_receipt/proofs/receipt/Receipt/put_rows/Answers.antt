@@ -17,7 +17,7 @@ use Rattle.vp_receipt.proofs.receipt.Receipt.put_rows.Goals as goal
 pub returns-then-is_plain-clause-count : goal.returns-then-is_plain-clause-count
 returns-then-is_plain-clause-count g c =
     let r = c.self.inside in
-    c.put_plain.ensures.count ∙ put_is r.settings r.raster (length c.args.bytes.now) (sym c.is_plain.ensures ∙ c.if-is_plain.true)
+    c.put_plain.ensures.count ∙ put_is r.settings r.kept.raster (length c.args.bytes.now) (sym c.is_plain.ensures ∙ c.if-is_plain.true)
     ∙ ap (λ (p : Printing). rows_put p.settings p.raster (length c.args.bytes.now)) c.self.view_is
 
 pub returns-then-is_plain-clause-prints : goal.returns-then-is_plain-clause-prints
@@ -33,13 +33,13 @@ returns-then-is_plain-clause-stands g c = λ setup before h.
     let r = c.self.inside in
     let on = c.put_plain.ensures.on_paper setup before was.settings was.raster in
     let none = ap (λ (p : Printing). p.pending) c.self.view_is ∙ c.requires.pending in
-    let paper = (told r.settings r.raster (sym c.is_plain.ensures ∙ c.if-is_plain.true)).mode in
+    let paper = (told r.settings r.kept.raster (sym c.is_plain.ensures ∙ c.if-is_plain.true)).mode in
     record {
       sheets = was.sheets;
       settings = on.settings;
       stops = was.stops ∙ sym (stops_stay bytes before);
       raster = on.raster;
-      stored = subst (IsStored r.stored) (sym (data_stay bytes before)) was.stored;
+      stored = subst (IsStored r.kept.stored) (sym (data_stay bytes before)) was.stored;
       line = gathers_still setup bytes before r.canvas.sheets r.settings c.put_plain.new.s r.canvas.bitmap r.waiting was.settings on.settings was.line;
       page = no_page setup bytes before r.canvas.page (mode_is setup before r.settings Standard was.settings paper);
       shows = shows_nothing setup _ _ before after none was.shows;
@@ -51,7 +51,7 @@ put_plain-requires-clause-few g c =
     let r = c.self.inside in
     let n = length c.args.bytes.now in
     let o = length c.args.output.now in
-    subst (λ m. n ≤ m) (sym (ap (λ (p : Printing). rows_room p.settings p.raster o) c.self.view_is) ∙ room_plain r.settings r.raster o (sym c.is_plain.ensures ∙ c.if-is_plain.true)) c.requires.few
+    subst (λ m. n ≤ m) (sym (ap (λ (p : Printing). rows_room p.settings p.raster o) c.self.view_is) ∙ room_plain r.settings r.kept.raster o (sym c.is_plain.ensures ∙ c.if-is_plain.true)) c.requires.few
 
 pub apply_raster-requires-clause-few : goal.apply_raster-requires-clause-few
 apply_raster-requires-clause-few g c =
