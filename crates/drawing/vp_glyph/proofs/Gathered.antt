@@ -1,7 +1,7 @@
 -- Many rows of a block, line by line.
 use Rattle.std.proofs.Common.{inl, inr, ◌≡◌, ℕ, ◌+◌, ◌-◌, ◌*◌, ◌/◌, ◌<◌, ◌≤◌, min, Bool, true, false, ltb, leb, ◌&&◌, ◌||◌, get_or, set, length, replicate, bit_or, refl, sym, ap, ◌∙◌, arith, List, Option, ℤ}
 use Rattle.std.proofs.Math.Nat.{div-lt_iff_lt-mul, le-div_iff_mul-le, div-mul-le_self, mul-le-mul_right}
-use Rattle.std.proofs.lemmas.List.{get_or-set_same, get_or-set_other, get_or_past}
+use Rattle.std.proofs.lemmas.List.{get_or-replicate, get_or-set_same, get_or-set_other, get_or_past}
 use Rattle.std.proofs.lemmas.Bool.{cases_eq, cases_lt, lt-ltb, le-ltb, lt-leb, le-leb}
 use Rattle.vp_dots.specs.Dots.{dot, shifted, span}
 use Rattle.vp_dots.specs.Words.{word_dot}
@@ -9,7 +9,7 @@ use Rattle.vp_dots.specs.Painting.{paint, Painted}
 use Rattle.vp_dots.specs.declared.Op.TheVariants.{Black}
 use Rattle.vp_glyph.specs.Sheets.{Glyphs}
 use Rattle.vp_glyph.specs.Texts.{sampled_dot, text_dot}
-use Rattle.vp_glyph.specs.Halves.{half_dot}
+use Rattle.vp_glyph.specs.Halves.{half_dot, AreEnds}
 use Rattle.vp_glyph.proofs.Halves.{or_half, white_half}
 use Rattle.vp_glyph.proofs.Overlaid.{zero_dots, zero_at}
 use Rattle.vp_glyph.proofs.Spread.{quotient, edge_at, from_edge, before_edge, edge_first, edge_last, edge_within}
@@ -353,3 +353,7 @@ each_black ink from to i x groups old new p = elim (cases_lt i from) [
 pub no_front : (n : ℕ) (old : List ℕ) (i x : ℕ) → get_or old i 0 ≡ 0 → (half_dot (get_or old i 0) x || half_dot (get_or (replicate {A = ℕ} n 0) (i / 16) 0) x) ≡ false
 no_front n old i x e = ap (λ v. half_dot v x || half_dot (get_or (replicate {A = ℕ} n 0) (i / 16) 0) x) e ∙ ap (λ t. t || half_dot (get_or (replicate {A = ℕ} n 0) (i / 16) 0) x) (white_half x)
     ∙ ap (λ v. half_dot v x) (zero_at n (i / 16)) ∙ white_half x
+
+-- white rows are alike to the last
+pub ends_white : AreEnds (replicate {A = ℕ} 24 0) (replicate {A = ℕ} 24 24)
+ends_white s l = let e : get_or (replicate {A = ℕ} 24 24) s 0 ≡ 24 = get_or-replicate 24 s 24 0 l in (omega arith, omega arith, λ r m n. zero_at 24 r ∙ sym (zero_at 24 s))

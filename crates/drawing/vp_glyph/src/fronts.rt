@@ -2,7 +2,7 @@
 ghost use Rattle.std.specs.Prelude.{◌≡◌, ℕ, ◌+◌, ◌-◌, ◌*◌, ◌/◌, ◌<◌, ◌≤◌, ◌^◌, ◌||◌, ◌&&◌, nat_le, nat_lt, false, min, length, take, slice_index};
 ghost use Rattle.vp_dots.specs.Dots.{shifted, span};
 ghost use Rattle.vp_glyph.specs.Blocks.{pieces, first, line_dot, block_height, block_dot};
-ghost use Rattle.vp_glyph.specs.Halves.{half_dot, front_dot};
+ghost use Rattle.vp_glyph.specs.Halves.{half_dot, front_dot, AreEnds};
 ghost use Rattle.vp_glyph.specs.Layouts.{layout_of, AreRowsOf};
 
 use crate::block::Block;
@@ -92,68 +92,46 @@ fn settle<const N: usize>(groups: &[u32; GROUPS], fronts: &mut [u32; N])
     }
 }
 
-/// The first 32 dots of the rows of the sheet, and behind each row the first that isn't like it.
-#[derive(Drop)]
-struct SheetRows {
-    rows: [u32; 24],
-    ends: [u32; 24],
-    ghost some: { (s : ℕ) → s < 24 → s < slice_index ends s },
-    ghost within: { (s : ℕ) → s < 24 → slice_index ends s ≤ 24 },
-    ghost alike: { (s r : ℕ) → s < 24 → s ≤ r → r < slice_index ends s
-        → slice_index rows r ≡ slice_index rows s },
-}
-
 /// Behind each of 24 rows the first that isn't like it, and 24 where all are.
-fn ends(rows: &[u32; 24]) -> [u32; 24]
-    ensures some { (s : ℕ) → s < 24 → s < slice_index result s }
-    ensures within { (s : ℕ) → s < 24 → slice_index result s ≤ 24 }
-    ensures alike { (s r : ℕ) → s < 24 → s ≤ r → r < slice_index result s
-        → slice_index rows.now r ≡ slice_index rows.now s }
+fn ends_of(rows: &[u32; 24]) -> [u32; 24]
+    ensures { AreEnds rows.now result }
 {
     let mut ends = [24u32; 24];
-    for k in 1..24usize {
-        let s = 23 - k;
-        ends[s] = if rows[s] == rows[s + 1] {
-            ends[s + 1]
-        } else {
-            s as u32 + 1
-        };
+    let mut end = 24u32;
+    for k in 0..23u32 {
+        let s = 22 - k;
+        if rows[s as usize] != rows[s as usize + 1] {
+            end = s + 1;
+        }
+        ends[s as usize] = end;
     }
     ends
-}
-
-impl SheetRows {
-    /// Rows, with what of them is alike.
-    fn new(rows: [u32; 24]) -> SheetRows
-        ensures { result.rows ≡ rows }
-    {
-        let ends = ends(&rows);
-        SheetRows { rows, ends }
-    }
 }
 
 /// Adds to the fronts of `N` rows, the first of which is row `top`, the rows of the sheet that are drawn
 /// `high` rows high in all from row `above` on: those that are alike at once.
 fn spread<const N: usize>(
-    shown: &SheetRows,
+    rows: &[u32; 24],
+    ends: &[u32; 24],
     above: u32,
     high: u32,
     top: u32,
     groups: &mut [u32; GROUPS],
     fronts: &mut [u32; N],
 )
-    requires { above + high < 2 ^ 32 }
+    requires fits { above + high < 2 ^ 32 }
+    requires ends { AreEnds rows.now ends.now }
     ensures { (i x : ℕ) → i < N → x < 32 → front_dot GROUP groups.new fronts.new i x
         ≡ (front_dot GROUP groups.old fronts.old i x || nat_le above (top + i)
         && nat_lt (top + i - above) high
-        && half_dot (slice_index shown.now.rows ((top + i - above) * 24 / high)) x) }
+        && half_dot (slice_index rows.now ((top + i - above) * 24 / high)) x) }
 {
     let mut from = rows_above::<N>(above, top);
     let mut s = 0;
     while s < 24 {
-        let behind = shown.ends[s as usize];
+        let behind = ends[s as usize];
         let to = rows_above::<N>(above + first_row(behind, high), top);
-        let ink = shown.rows[s as usize];
+        let ink = rows[s as usize];
         if ink != 0 {
             blacken_run(ink, from, to, groups, fronts);
         }
@@ -165,20 +143,29 @@ fn spread<const N: usize>(
 impl<A: Small> Block<'_, A> {
     /// The rows of the sheet on which a line stands, where those of another line are drawn: these, if the
     /// lines are alike.
-    fn redraw(&self, line: Line<'_>, drawn: Line<'_>, at: i64, shown: &mut SheetRows)
+    fn redraw(
+        &self,
+        line: Line<'_>,
+        drawn: Line<'_>,
+        at: i64,
+        rows: &mut [u32; 24],
+        ends: &mut [u32; 24],
+    )
         requires cells { line.cells ≤ length (first (pieces line.text.now)) }
         requires most { line.cells ≤ self.now.wide / self.now.w }
         requires drawn { AreRowsOf (layout_of self.now) at (take drawn.cells (first (pieces drawn.text.now)))
-            shown.old.rows }
-        ensures { AreRowsOf (layout_of self.now) at (take line.entry.cells
-            (first (pieces line.entry.text.now))) shown.new.rows }
+            rows.old }
+        requires ends { AreEnds rows.old ends.old }
+        ensures rows { AreRowsOf (layout_of self.now) at (take line.entry.cells
+            (first (pieces line.entry.text.now))) rows.new }
+        ensures ends { AreEnds rows.new ends.new }
     {
         if line.is_like(drawn) {
             return;
         }
-        let mut rows = [0u32; 24];
-        self.add_rows(line, at, &mut rows);
-        *shown = SheetRows::new(rows);
+        *rows = [0; 24];
+        self.add_rows(line, at, rows);
+        *ends = ends_of(rows);
     }
 
     /// Adds the lines to the fronts of N rows, the first of which is row `top`, and to those of their groups.
@@ -201,19 +188,36 @@ impl<A: Small> Block<'_, A> {
         let mut place = above;
         let mut left = Some(text);
         let mut drawn = Line { text, cells: 0 };
-        let mut shown = SheetRows::new([0; 24]);
+        let mut rows = [0u32; 24];
+        let mut ends = [24u32; 24];
         while let Some(text) = left {
             if u64::from(top) + N as u64 <= u64::from(place * self.pitch) {
                 return;
             }
             if self.pitch == 0 || place + 1 >= self.rows {
-                let shown = SheetRows::new(self.joined(text, at));
-                spread(&shown, place * self.pitch, self.h, top, groups, fronts);
+                let rows = self.joined(text, at);
+                spread(
+                    &rows,
+                    &ends_of(&rows),
+                    place * self.pitch,
+                    self.h,
+                    top,
+                    groups,
+                    fronts,
+                );
                 return;
             }
             let (line, rest) = next_line(text, most);
-            self.redraw(line, drawn, at, &mut shown);
-            spread(&shown, place * self.pitch, self.h, top, groups, fronts);
+            self.redraw(line, drawn, at, &mut rows, &mut ends);
+            spread(
+                &rows,
+                &ends,
+                place * self.pitch,
+                self.h,
+                top,
+                groups,
+                fronts,
+            );
             drawn = line;
             place = (place + 1).min(self.rows.saturating_sub(1));
             left = rest;

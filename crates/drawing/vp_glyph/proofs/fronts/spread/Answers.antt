@@ -14,25 +14,23 @@ loop-s-init g c = record {
 
 pub loop-s-preserved-then-ink-ne0 : goal.loop-s-preserved-then-ink-ne0
 loop-s-preserved-then-ink-ne0 g c =
-    let shown = c.args.shown.now in
     let s = c.loop-s.s in
-    let few = c.loop-s-test.true in
+    let next = c.requires.ends s c.loop-s-test.true in
     let to = c.rows_above-to.ensures ∙ ap (λ e. min (c.args.above + e - c.args.top) g.row.N) c.first_row.ensures.row in
     record {
-      within = shown.within s few;
-      added = added_more _ _ _ _ _ s _ _ _ (shown.within s few) (shown.some s few) (λ r l m. shown.alike s r few l m) c.loop-s.invariant.added _ _ _ c.loop-s.invariant.from to c.blacken_run.ensures;
+      within = next.1;
+      added = added_more _ _ _ _ _ s _ _ _ next.1 next.0 next.2 c.loop-s.invariant.added _ _ _ c.loop-s.invariant.from to c.blacken_run.ensures;
       from = to;
     }
 
 pub loop-s-preserved : goal.loop-s-preserved
 loop-s-preserved g c =
-    let shown = c.args.shown.now in
     let s = c.loop-s.s in
-    let few = c.loop-s-test.true in
+    let next = c.requires.ends s c.loop-s-test.true in
     let to = c.rows_above-to.ensures ∙ ap (λ e. min (c.args.above + e - c.args.top) g.row.N) c.first_row.ensures.row in
     record {
-      within = shown.within s few;
-      added = added_white _ _ _ _ _ s _ _ _ (shown.within s few) (shown.some s few) (λ r l m. shown.alike s r few l m) c.loop-s.invariant.added
+      within = next.1;
+      added = added_white _ _ _ _ _ s _ _ _ next.1 next.0 next.2 c.loop-s.invariant.added
           (λ x l. ap (λ v. half_dot v x) c.if-ink-ne0.false ∙ white_half x);
       from = to;
     }

@@ -8,7 +8,7 @@ use Rattle.vp_glyph.proofs.fronts.spread.Given as goal
 abbrev pub invariant-loop-s : goal.invariant-loop-s
 invariant-loop-s g l = record {
   within : l.s ≤ 24;
-  added : Added l.shown.rows l.above l.high g.row.N l.top l.s (front_dot 16 l.fn.groups l.fn.fronts) (front_dot 16 l.groups l.fronts);
+  added : Added l.rows l.above l.high g.row.N l.top l.s (front_dot 16 l.fn.groups l.fn.fronts) (front_dot 16 l.groups l.fronts);
   from : l.from ≡ min (l.above + edge_at 24 l.high l.s - l.top) g.row.N;
 }
 

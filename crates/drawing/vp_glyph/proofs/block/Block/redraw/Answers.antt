@@ -3,6 +3,5 @@ use Rattle.std.proofs.lemmas.Int.{to_z-of_z}
 use Rattle.vp_glyph.proofs.Joining.{rows_white}
 use Rattle.vp_glyph.proofs.block.Block.redraw.Goals as goal
 
-pub returns : goal.returns
-returns g c = rw (sym (to_z-of_z w64 c.args.at c.ranges.at))
-    (rw c.new.ensures (λ s x l m. rows_white s x _ _ (c.add_rows.ensures s x l m)))
+pub returns-clause-rows : goal.returns-clause-rows
+returns-clause-rows g c = rw (sym (to_z-of_z w64 c.args.at c.ranges.at)) (λ s x l m. rows_white s x _ _ (c.add_rows.ensures s x l m))
