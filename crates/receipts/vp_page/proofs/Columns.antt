@@ -127,6 +127,10 @@ white_stretch a way v lines from rows x y white = none (span from (from + rows) 
     none true h d b f = rw (f refl, and_false d) (and_false h)
     none false h d b f = refl
 
+-- a stretch of no dots
+pub no_stretch : (from u : ℕ) (b : Bool) → (span from from u && b) ≡ false
+no_stretch from u b = grind (arith, nat_tests)
+
 -- some rows of a stretch are on the page if all are
 pub part_on_page : (a : Area) (way : Way) (u n from rows : ℕ) → u + n ≤ a.dy → topmost a way u n + n ≤ 1664 → u ≤ from → from + rows ≤ u + n → topmost a way from rows + rows ≤ 1664
 part_on_page a Up u n from rows h e p q = omega arith

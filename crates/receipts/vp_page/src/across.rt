@@ -388,7 +388,31 @@ fn lay_two<A: Small>(
     }
 }
 
-/// Lays a stretch of lines as `lay_square` lays a square.
+/// Lays a stretch of as many lines as a word has dots, square by square.
+#[inline(always)]
+fn lay_group<A: Small>(
+    lines: &[[u8; LINE_BYTES]],
+    from: usize,
+    rows: usize,
+    area: Area,
+    way: Way,
+    v: u32,
+    band: &mut PageBand<A>,
+)
+    requires lines { length lines.now ≤ SIDE }
+    requires wide { v + length lines.now ≤ area.dx }
+    requires long { from + rows ≤ area.dy }
+    requires page { topmost area way from rows + rows ≤ PAGE_ROWS }
+    ensures { RowsPainted PAGE_ROWS Black (stretch_dot area way v lines.now from rows) band.old band.new }
+{
+    for k in 0..rows.div_ceil(SIDE) {
+        let at = SIDE * k;
+        let high = (rows - at).min(SIDE);
+        lay_square(lines, from + at, high, area, way, v, band);
+    }
+}
+
+/// Lays a stretch of lines, group by group. Few of them are laid at once.
 #[inline(always)]
 fn lay_squares<A: Small>(
     lines: &[[u8; LINE_BYTES]],
@@ -410,13 +434,10 @@ fn lay_squares<A: Small>(
         lay_two(lines, from, rows, area, way, v, band);
         return;
     }
-    let first = rows.min(SIDE);
     for k in 0..lines.len().div_ceil(SIDE) {
         let at = SIDE * k;
         let these = &lines[at..lines.len().min(at + SIDE)];
-        let v = v + at as u32;
-        lay_square(these, from, first, area, way, v, band);
-        lay_square(these, from + first, rows - first, area, way, v, band);
+        lay_group(these, from, rows, area, way, v + at as u32, band);
     }
 }
 

@@ -27,17 +27,10 @@ loop-k-preserved g c =
     let lines = c.args.lines.now in
     let from = c.args.from in
     let at = 64 * c.loop-k.k in
-    let first = c.min-first.result in
-    let second = c.args.rows - first in
     let n = c.min.result - at in
-    let these = take n (drop at lines) in
     let some : at < length lines = omega arith in
     let next : 64 * (c.loop-k.k + 1) ≡ at + 64 = omega arith in
-    let all : from + c.args.rows ≡ from + first + second = omega arith in
-    rw next (rows_then _ _ _ _ _ _ (λ x y. more_in (span from (from + c.args.rows) (along_of a way y)) (holds a x y) _ _ _ (group_right lines at n (along_of a way y) (depth_of a way x) some (omega (arith, c.min.ensures)) v)) c.loop-k.invariant
-    (rows_same Black _ _ _ _ (λ x y _. ap (λ m. span from m (along_of a way y) && lines_across a way (v + at) these x y) (sym all))
-    (rows_then _ _ _ _ _ _ (λ x y. stretch_more from (from + first) (from + first + second) (along_of a way y) (lines_across a way (v + at) these x y) (omega arith) (omega arith))
-    c.lay_square.ensures c.lay_square-in-loop-k.ensures)))
+    rw next (rows_then _ _ _ _ _ _ (λ x y. more_in (span from (from + c.args.rows) (along_of a way y)) (holds a x y) _ _ _ (group_right lines at n (along_of a way y) (depth_of a way x) some (omega (arith, c.min.ensures)) v)) c.loop-k.invariant c.lay_group.ensures)
 
 pub returns : goal.returns
 returns g c = rows_same Black _ _ _ _ (λ x y _. ap (λ b. span c.args.from (c.args.from + c.args.rows) (along_of c.args.area c.args.way y) && (holds c.args.area x y && b))
