@@ -16,7 +16,7 @@ use Rattle.vp_dots.specs.Painting.{Painted}
 use Rattle.vp_dots.specs.declared.Op.TheVariants.{Black}
 use Rattle.vp_page.proofs.Blank.{dot_white}
 use Rattle.vp_page.proofs.Rows.{dot_past}
-use Rattle.vp_page.proofs.Squares.{and_false}
+use Rattle.vp_page.proofs.Squares.{and_false, white_word}
 
 black_alone : (b : Bool) → cond b true false ≡ b
 black_alone true = refl
@@ -48,12 +48,15 @@ no_column ay dy k e b h = elim (cases_lt k ay) [
 pub nothing : (f : ℕ → ℕ → Bool) (rows : List (List ℕ)) → ((d k : ℕ) → f d k ≡ false) → RowsPainted 1664 Black f rows rows
 nothing f rows none = record { rows_are = λ k h. painted_none Black _ (get_or rows k []) (λ d l. none d k) }
 
+gone : (a b c : Bool) → (a && (b && (c && false))) ≡ false
+gone a b c = rw (and_false c, and_false b) (and_false a)
+
 pub white_byte : (byte top rows k : ℕ) (e : Bool) → byte ≡ 0 → (e && (leb top k && (ltb (k - top) rows && bit byte (7 - (k - top))))) ≡ false
 unfolding bit
 white_byte byte top rows k e z = ap (λ n. e && (leb top k && (ltb (k - top) rows && eqb n 1))) (ap (λ b. bit_at b (7 - (k - top))) z ∙ bit_at-zero (7 - (k - top))) ∙ gone e (leb top k) (ltb (k - top) rows)
-  where
-    gone : (a b c : Bool) → (a && (b && (c && false))) ≡ false
-    gone a b c = rw (and_false c, and_false b) (and_false a)
+
+pub white_column : (word top rows k : ℕ) (e : Bool) → word ≡ 0 → (e && (leb top k && (ltb (k - top) rows && word_dot word (k - top)))) ≡ false
+white_column word top rows k e z = ap (λ t. e && (leb top k && (ltb (k - top) rows && t))) (ap (λ w. word_dot w (k - top)) z ∙ white_word (k - top)) ∙ gone e (leb top k) (ltb (k - top) rows)
 
 -- a column of dots from one row on: none above it
 pub no_bit : (top k : ℕ) (e b : Bool) → k < top → (e && (leb top k && b)) ≡ false

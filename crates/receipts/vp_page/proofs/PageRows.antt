@@ -96,6 +96,25 @@ whole_right line begin long x b w =
     let all : 8 * (long / 8) ≡ long = omega arith in
     rw at (ap (λ t. leb begin x && t) (front line (long / 8) (x - begin) ∙ ap (λ n. ltb (x - begin) n && dot line (x - begin)) all))
 
+-- a word of a row, counted from the first one that a line reaches
+pub moved_right_word : (begin i x : ℕ) (line : List ℕ) (word : ℕ) → word_dot word x ≡ (leb (begin % 64) (64 * i + x) && dot line (64 * i + x - begin % 64))
+    → word_dot word x ≡ (leb (64 * (begin / 64)) (64 * (begin / 64 + i) + x) && (leb begin (64 * (begin / 64 + i) + x) && dot line (64 * (begin / 64 + i) + x - begin)))
+moved_right_word begin i x line word e =
+    let at : 64 * i + x - begin % 64 ≡ 64 * (begin / 64 + i) + x - begin = omega arith in
+    e ∙ rw (le-leb (64 * (begin / 64)) (64 * (begin / 64 + i) + x) (omega arith)) (elim (cases_lt (64 * i + x) (begin % 64)) [
+      | inl l ↦ rw (lt-leb (begin % 64) (64 * i + x) l, lt-leb begin (64 * (begin / 64 + i) + x) (omega arith)) refl
+      | inr g ↦ rw (le-leb (begin % 64) (64 * i + x) g, le-leb begin (64 * (begin / 64 + i) + x) (omega arith)) (ap (dot line) at)
+    ])
+
+pub moved_left_word : (begin end i x : ℕ) (line : List ℕ) (word : ℕ) → begin ≤ end → word_dot word x ≡ (ltb (64 * i + x) (end - 64 * (begin / 64)) && dot line (end - 64 * (begin / 64) - 1 - (64 * i + x)))
+    → word_dot word x ≡ (leb (64 * (begin / 64)) (64 * (begin / 64 + i) + x) && (ltb (64 * (begin / 64 + i) + x) end && dot line (end - 1 - (64 * (begin / 64 + i) + x))))
+moved_left_word begin end i x line word h e =
+    let at : end - 64 * (begin / 64) - 1 - (64 * i + x) ≡ end - 1 - (64 * (begin / 64 + i) + x) = omega arith in
+    e ∙ rw (le-leb (64 * (begin / 64)) (64 * (begin / 64 + i) + x) (omega arith)) (elim (cases_lt (64 * i + x) (end - 64 * (begin / 64))) [
+      | inl l ↦ rw (lt-ltb (64 * i + x) (end - 64 * (begin / 64)) l, lt-ltb (64 * (begin / 64 + i) + x) end (omega arith)) (ap (dot line) at)
+      | inr g ↦ rw (le-ltb (64 * i + x) (end - 64 * (begin / 64)) g, le-ltb (64 * (begin / 64 + i) + x) end (omega arith)) refl
+    ])
+
 -- a row clipped where so many dots end, and where they begin
 pub clipped_right : (begin long words k x : ℕ) (b : Bool) → words ≤ 9 → words ≤ k → (words < 9 → begin + long ≤ 64 * words) → (words < 9 → k ≡ words) → x < 576
     → cond (span (begin + long) (64 * words) x) false (ltb x (64 * k) && (leb (64 * (begin / 64)) x && (leb begin x && b))) ≡ (leb begin x && (ltb (x - begin) long && b))

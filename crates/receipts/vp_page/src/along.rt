@@ -35,6 +35,9 @@ fn word_right(line: &[u8; LINE_BYTES], far: usize, at: usize) -> u64
 fn mirrored(word: u64) -> u64
     ensures { (x : ℕ) → x < 64 → word_dot result x ≡ word_dot word (63 - x) }
 {
+    if word == 0 {
+        return 0;
+    }
     reversed_at(&word.to_be_bytes(), 0)
 }
 
@@ -81,8 +84,11 @@ fn row_right(line: &[u8; LINE_BYTES], begin: usize, long: usize) -> [u8; PAPER_B
     let first = begin / 64;
     let words = (begin + long).div_ceil(64).min(PAPER_BYTES / 8);
     for i in 0..words.saturating_sub(first) {
-        let k = first + i;
-        or_eight(word_right(line, begin, 64 * k), 8 * k, &mut row);
+        or_eight(
+            word_right(line, begin % 64, 64 * i),
+            8 * (first + i),
+            &mut row,
+        );
     }
     fill_dots(
         Op::White,
@@ -109,8 +115,11 @@ fn row_left(line: &[u8; LINE_BYTES], begin: usize, long: usize) -> [u8; PAPER_BY
     let first = begin / 64;
     let words = end.div_ceil(64).min(PAPER_BYTES / 8);
     for i in 0..words.saturating_sub(first) {
-        let k = first + i;
-        or_eight(word_left(line, end, 64 * k), 8 * k, &mut row);
+        or_eight(
+            word_left(line, end - 64 * first, 64 * i),
+            8 * (first + i),
+            &mut row,
+        );
     }
     fill_dots(Op::White, 64 * first as u64, begin as u64, &mut row);
     row

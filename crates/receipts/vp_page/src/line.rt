@@ -141,6 +141,9 @@ fn lay_word<A: Small>(word: u64, rows: usize, x: usize, top: usize, band: &mut P
     ensures { RowsPainted PAGE_ROWS Black (λ d k. nat_eq d x && (nat_le top k && (nat_lt (k - top) rows
         && word_dot word (k - top)))) band.old band.new }
 {
+    if word == 0 {
+        return;
+    }
     let bytes = word.to_be_bytes();
     let whole = rows / 8;
     for n in 0..whole {

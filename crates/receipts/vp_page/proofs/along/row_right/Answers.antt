@@ -1,9 +1,8 @@
 use Rattle.std.proofs.Common.{◌≡◌, ◌+◌, ◌-◌, ◌*◌, ◌/◌, ◌&&◌, Bool, ℕ, false, cond, leb, ap, arith, length, ◌∙◌}
-use Rattle.std.proofs.lemmas.Bool.{le-leb}
 use Rattle.vp_dots.specs.Dots.{dot, span}
 use Rattle.vp_dots.specs.declared.Op.TheVariants.{Black}
 use Rattle.vp_dots.proofs.Paints.{painted_none, painted_then}
-use Rattle.vp_page.proofs.PageRows.{clipped_right, none_before, row_made, whole_right, word_apart, word_more}
+use Rattle.vp_page.proofs.PageRows.{clipped_right, none_before, moved_right_word, row_made, whole_right, word_apart, word_more}
 use Rattle.vp_page.proofs.along.row_right.Goals as goal
 
 pub returns-then-is_whole : goal.returns-then-is_whole
@@ -19,7 +18,7 @@ loop-i-preserved c =
     let k = c.args.begin / 64 + c.loop-i.i in
     let next : c.args.begin / 64 + (c.loop-i.i + 1) ≡ k + 1 = omega arith in
     rw next (painted_then Black _ _ _ _ _ _ c.loop-i.invariant c.or_eight.ensures
-    (λ d l. word_more ink c.word_right.result k d (λ x m. rw (le-leb (64 * (c.args.begin / 64)) (64 * k + x) (omega arith)) (c.word_right.ensures x m)))
+    (λ d l. word_more ink c.word_right.result k d (λ x m. moved_right_word c.args.begin c.loop-i.i x c.args.line.now c.word_right.result (c.word_right.ensures x m)))
     (λ d l. word_apart k d (ink d) _))
 
 pub returns : goal.returns

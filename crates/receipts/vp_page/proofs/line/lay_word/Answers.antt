@@ -2,9 +2,12 @@ use Rattle.std.proofs.Common.{◌≡◌, ◌+◌, ◌-◌, ◌*◌, ◌/◌, ◌
 use Rattle.vp_dots.specs.Words.{word_dot}
 use Rattle.vp_dots.specs.declared.Op.TheVariants.{Black}
 use Rattle.vp_dots.proofs.Placing.{rows_init}
-use Rattle.vp_page.proofs.Lines.{byte_more, column_rows, no_bit}
+use Rattle.vp_page.proofs.Lines.{byte_more, column_rows, no_bit, nothing, white_column}
 use Rattle.vp_page.proofs.Rows.{rows_same, rows_then}
 use Rattle.vp_page.proofs.line.lay_word.Goals as goal
+
+pub returns-then-word-eq0 : goal.returns-then-word-eq0
+returns-then-word-eq0 g c = nothing _ c.args.band.now (λ d k. white_column c.args.word c.args.top c.args.rows k (eqb d c.args.x) c.if-word-eq0.true)
 
 pub loop-n-init : goal.loop-n-init
 loop-n-init g c = rows_init 1664 Black (λ d k. eqb d c.args.x && (leb c.args.top k && word_dot c.args.word (k - c.args.top))) _ c.args.band.now (λ d k h. no_bit c.args.top k (eqb d c.args.x) _ (omega arith))
