@@ -72,7 +72,8 @@ fn blacken_run<const N: usize>(
     let last = to / GROUP;
     blacken(ink, from, from + GROUP, fronts);
     blacken(ink, first, last, groups);
-    blacken(ink, to - GROUP, to, fronts);
+    let rest = to - GROUP;
+    blacken(ink, rest, rest + GROUP, fronts);
 }
 
 /// Gives each front the dots that its group has.
@@ -81,13 +82,14 @@ fn settle<const N: usize>(groups: &[u32; GROUPS], fronts: &mut [u32; N])
         ≡ front_dot GROUP groups.now fronts.old i x }
 {
     for k in 0..GROUPS {
-        if groups[k] != 0 {
-            blacken(
-                groups[k],
-                (GROUP * k).min(N),
-                (GROUP * (k + 1)).min(N),
-                fronts,
-            );
+        if groups[k] == 0 {
+            continue;
+        }
+        let from = (GROUP * k).min(N);
+        if from + GROUP <= N {
+            blacken(groups[k], from, from + GROUP, fronts);
+        } else {
+            blacken(groups[k], from, N, fronts);
         }
     }
 }

@@ -1,4 +1,5 @@
-use Rattle.std.proofs.Common.{ℕ, ◌+◌, ◌-◌, ◌/◌, arith, refl}
+use Rattle.std.proofs.Common.{ℕ, ◌+◌, ◌-◌, ◌/◌, arith, refl, ap, ◌≡◌, ◌∙◌}
+use Rattle.vp_dots.specs.Dots.{span}
 use Rattle.vp_glyph.proofs.Gathered.{Blackened, groups_black}
 use Rattle.vp_glyph.proofs.fronts.blacken_run.Goals as goal
 
@@ -8,5 +9,6 @@ returns g c =
     let last : ℕ = c.args.to / 16 in
     let p : Blackened c.args.ink c.args.from (c.args.from + 16) c.args.fronts.now c.blacken-2.new.halves = record { inside = c.blacken-2.ensures.inside; outside = c.blacken-2.ensures.outside } in
     let q : Blackened c.args.ink first last c.args.groups.now c.blacken-3.new.halves = record { inside = c.blacken-3.ensures.inside; outside = c.blacken-3.ensures.outside } in
-    let r : Blackened c.args.ink (c.args.to - 16) c.args.to c.blacken-2.new.halves c.blacken-4.new.halves = record { inside = c.blacken-4.ensures.inside; outside = c.blacken-4.ensures.outside } in
+    let end : c.args.to - 16 + 16 ≡ c.args.to = omega arith in
+    let r : Blackened c.args.ink (c.args.to - 16) c.args.to c.blacken-2.new.halves c.blacken-4.new.halves = record { inside = λ i x l m. c.blacken-4.ensures.inside i x l (omega arith); outside = λ i e. c.blacken-4.ensures.outside i (ap (λ n. span (c.args.to - 16) n i) end ∙ e) } in
     λ i x l m. groups_black c.args.ink c.args.from c.args.to first last i x c.args.groups.now c.blacken-3.new.halves c.args.fronts.now c.blacken-2.new.halves c.blacken-4.new.halves (omega arith) refl refl p q r

@@ -1,15 +1,18 @@
 use Rattle.std.proofs.Common.{arith}
 use Rattle.vp_glyph.proofs.Gathered.{settled_none, settled_white, settled_more, settled_all}
 use Rattle.vp_glyph.proofs.fronts.settle.Goals as goal
-use Rattle.vp_glyph.proofs.fronts.settle.Goals.{then-groups-k-ne0, else-groups-k-ne0}
+use Rattle.vp_glyph.proofs.fronts.settle.Goals.{then-from, else-from}
 
 pub loop-k-init : goal.loop-k-init
 loop-k-init g c = settled_none _ _ _
 
+pub loop-k-preserved-then-groups-k-eq0 : goal.loop-k-preserved-then-groups-k-eq0
+loop-k-preserved-then-groups-k-eq0 g c = settled_white _ _ _ _ _ c.loop-k.invariant c.if-groups-k-eq0.true
+
 pub loop-k-preserved : goal.loop-k-preserved
-loop-k-preserved g c = elim c.if-groups-k-ne0.branch [
-  | then-groups-k-ne0 w ↦ rw w.fronts-is (settled_more _ _ _ _ _ c.loop-k.invariant _ _ _ (omega arith) (omega arith) w.blacken.ensures.inside w.blacken.ensures.outside)
-  | else-groups-k-ne0 w ↦ rw w.fronts-is (settled_white _ _ _ _ _ c.loop-k.invariant w.if-groups-k-ne0.false)
+loop-k-preserved g c = elim c.if-from.branch [
+  | then-from w ↦ (let m = w.if-from.true in rw w.fronts-is (settled_more _ _ _ _ _ c.loop-k.invariant _ _ _ (omega arith) (omega arith) w.blacken.ensures.inside w.blacken.ensures.outside))
+  | else-from w ↦ (let m = w.if-from.false in rw w.fronts-is (settled_more _ _ _ _ _ c.loop-k.invariant _ _ _ (omega arith) (omega arith) w.blacken-else-from.ensures.inside w.blacken-else-from.ensures.outside))
 ]
 
 pub returns : goal.returns
