@@ -64,10 +64,6 @@ nothing_from : (coding : Coding) (w p j : ℕ) → shown_at w p (symbols coding 
 nothing_from RunLength w p j = refl
 nothing_from Binary w p j = refl
 
-none_from : (coding : Coding) (w p j : ℕ) → bytes_before w p (symbols coding []) j ≡ 0
-none_from RunLength w p j = refl
-none_from Binary w p j = refl
-
 -- where white is all that comes
 abbrev pub IsWhite : ℕ → Spot → Type 0
 IsWhite codes s = (s.at ≡ codes) × ((s.left ≡ 0) ⊎ (s.digit ≡ 0))
@@ -84,28 +80,6 @@ ends_white w coding codes s j ends rest =
       ])
       | inr g ↦ shown_past w 0 (spelled (Digits s.left s.digit) 0) ss j (omega arith) ∙ ap (λ us. shown_at w (0 + s.left) us j) none ∙ nothing_from coding w (0 + s.left) j
     ]
-
-white_shown : (w : ℕ) (coding : Coding) (codes : List ℕ) (s : Spot) (j : ℕ) → IsWhite (length codes) s → shown_at w 0 (symbols_at coding codes s) j ≡ Value 0
-white_shown w coding codes s j white = ends_white w coding codes s j white.0 (elim white.1 [ inl none ↦ inl (omega (arith, none)) | inr digit ↦ inr digit ])
-
-white_spelled : (w : ℕ) (coding : Coding) (codes : List ℕ) (s : Spot) (j : ℕ) → s.at ≡ length codes → bytes_before w 0 (symbols_at coding codes s) j ≡ 0
-white_spelled w coding codes s j ends =
-    bytes_run w 0 s.left s.digit (symbols coding (drop s.at codes)) j (omega arith)
-    ∙ ap (λ ss. bytes_before w (0 + s.left) ss j) (ap (λ (a : ℕ). symbols coding (drop a codes)) ends ∙ symbols_none coding codes) ∙ none_from coding w (0 + s.left) j
-
-pub white_even : (w : ℕ) (coding : Coding) (codes : List ℕ) (s : Spot) (k : ℕ) → IsSpot codes s → IsWhole coding s → IsWhite (length codes) s → Even w coding codes s k 0 (spot_behind w s k)
-white_even w coding codes s k spot whole white =
-    let after = spot_behind w s k in
-    let still : IsWhite (length codes) after = (white.0, elim white.1 [ inl none ↦ inl (omega (arith, none)) | inr digit ↦ inr digit ]) in
-    record {
-      spot = record { at = spot.at; digit = spot.digit };
-      whole = whole_behind coding w s k whole;
-      at = refl;
-      shows = λ j l. white_shown w coding codes s j white;
-      none = λ j l. white_spelled w coding codes s j white.0;
-      next = λ j. white_shown w coding codes s (w * k + j) white ∙ sym (white_shown w coding codes after j still);
-      bytes = λ j. white_spelled w coding codes s (w * k + j) white.0 ∙ sym (white_spelled w coding codes after j white.0);
-    }
 
 -- a test for it
 pub white_is : (n : ℕ) (s : Spot) → IsWhite n s → is_white n s ≡ true

@@ -1,5 +1,5 @@
 -- Cursors before rows.
-use Rattle.std.proofs.Common.{inl, inr, ◌≡◌, ℕ, zero, suc, ◌+◌, ◌-◌, ◌*◌, ◌<◌, ◌≤◌, min, true, false, cond, add-one, Result, Ok, Err, IfOk, is_err, List, [], ◌++◌, take, drop, replicate, length, ap, sym, ◌∙◌, refl, subst, arith}
+use Rattle.std.proofs.Common.{inl, inr, ◌≡◌, ℕ, zero, suc, ◌+◌, ◌-◌, ◌*◌, ◌<◌, ◌≤◌, min, true, false, cond, add-one, Result, Ok, Err, List, [], ◌++◌, take, drop, replicate, length, ap, sym, ◌∙◌, refl, subst, arith}
 use Rattle.std.proofs.Math.Seq.{drop-length}
 use Rattle.std.proofs.lemmas.List.{length-take}
 use Rattle.std.proofs.lemmas.Bool.{cases_Bool, lt-ltb, true≢false, false≢true}
@@ -13,7 +13,7 @@ use Rattle.vp_format.specs.declared.rows.RunMark.{RunMark}
 use Rattle.vp_format.specs.Codes.{symbols}
 use Rattle.vp_format.specs.Pictures.{Value, shown_at, bytes_before, value_of, Picture, width_of, place_of, value, is_refused, is_repeat, is_above, is_unreadable, start_of, above_from, bound_of, nibble, answer, row_after}
 use Rattle.vp_format.specs.declared.rows.RunRows.TheInside.{Inside}
-use Rattle.vp_format.specs.Cursors.{symbols_at, above, picture_of, white_rest, Advanced, IsSpot, IsWhole, IsMark, ArePassed, IsCursor, Decoded}
+use Rattle.vp_format.specs.Cursors.{symbols_at, above, picture_of, white_rest, Advanced, IsSpot, IsWhole, IsMark, ArePassed, IsCursor, Decoded, RowRead}
 use Rattle.vp_format.proofs.Nibbles.{nibble_append, nibble_front, nibble_zero}
 use Rattle.vp_format.proofs.Reached.{run_over, bytes_over, bytes_none}
 
@@ -36,6 +36,18 @@ front_decoded coding codes row new rest s after end n room long d =
       next = f.next;
       bytes = f.bytes;
     }
+
+pub front_read : (coding : Coding) (codes row new rest : List ℕ) (s : Spot) (at : ℕ) (r : Result RowEnd Fault) (n : ℕ) → n ≤ length row → length new ≡ length (take n row) → RowRead (2 * length (take n row)) coding codes s r at (take n row) new
+    → RowRead (2 * n) coding codes s r at row (new ++ rest)
+front_read coding codes row new rest s at (Ok end) n room long d = front_decoded coding codes row new rest s _ end n room long d
+front_read coding codes row new rest s at (Err why) n room long refused = subst (λ (k : ℕ). is_unreadable (shown_at (2 * k) 0 (symbols_at coding codes s) (2 * k - 1)) ≡ true) (length_take_le n row room) refused
+
+-- no symbol of a decoded row is refused
+pub decoded_taken : (w : ℕ) (coding : Coding) (codes old new : List ℕ) (s after : Spot) (end : RowEnd) → 0 < w → Decoded w coding codes s end after old new → is_unreadable (shown_at w 0 (symbols_at coding codes s) (w - 1)) ≡ false
+decoded_taken w coding codes old new s after end some d = elim (cases_Bool end.repeats) [
+  | inl e ↦ ap is_unreadable (d.again e (w - 1) (omega arith))
+  | inr e ↦ ap is_unreadable (d.own e (w - 1) (omega arith))
+]
 
 -- bytes as they are, whose rows start without a run
 pub whole_decoded : (coding : Coding) (codes row new : List ℕ) (s : Spot) (end : RowEnd) (n at to : ℕ) → coding ≡ Binary → IsWhole coding s → at ≡ s.at → end ≡ record { left = 0; digit = 0; repeats = false }
@@ -166,10 +178,9 @@ pub answer_row : (p : Picture) (y : ℕ) → y < p.rows → is_refused p y ≡ f
 answer_row p y h e = rw (lt-ltb y p.rows h, e) (refl, refl)
 
 -- reading the row at the place before gives the row above
-pub above_read : (p : Picture) (m : RunMark) (r : Result RowEnd Fault) (at : RowEnd → Spot) (old new : List ℕ) (j : ℕ) → IsMark p m → is_err r ≡ is_unreadable (shown_at (width_of p) 0 (symbols_at p.coding p.codes m.before) (width_of p - 1))
-    → IfOk r (λ end. Decoded (width_of p) p.coding p.codes m.before end (at end) old new) → j < width_of p → nibble new j ≡ above p m.next j
-above_read p m (Ok end) at old new j h e d l = d.row j l ∙ ap (λ c. value_of c (nibble old j)) (h.above_is j l)
-above_read p m (Err f) at old new j h e d l = absurd (true≢false (e ∙ ap is_unreadable (h.above_is (width_of p - 1) (omega arith))))
+pub above_read : (p : Picture) (m : RunMark) (r : Result RowEnd Fault) (at : ℕ) (old new : List ℕ) (j : ℕ) → IsMark p m → RowRead (width_of p) p.coding p.codes m.before r at old new → j < width_of p → nibble new j ≡ above p m.next j
+above_read p m (Ok end) at old new j h d l = d.row j l ∙ ap (λ c. value_of c (nibble old j)) (h.above_is j l)
+above_read p m (Err f) at old new j h e l = absurd (true≢false (sym e ∙ ap is_unreadable (h.above_is (width_of p - 1) (omega arith))))
 
 -- no byte stands before the bound of the first row
 pub first_bound : (p : Picture) → bound_of p 0 ≡ 0
@@ -180,14 +191,14 @@ first_bound p =
     omega (arith, none)
 
 -- and reads as many bytes as its symbols have
-pub above_reads : (p : Picture) (m : RunMark) (r : Result RowEnd Fault) (at : ℕ) (old new : List ℕ) → 0 < p.row_bytes → IsMark p m → is_err r ≡ is_unreadable (shown_at (width_of p) 0 (symbols_at p.coding p.codes m.before) (width_of p - 1))
-    → IfOk r (λ end. Decoded (width_of p) p.coding p.codes m.before end (record { left = end.left; digit = end.digit; at = at }) old new) → m.before.at + bytes_before (width_of p) 0 (symbols_at p.coding p.codes m.before) (width_of p) ≡ at
-above_reads p m (Ok end) at old new some h e d =
+pub above_reads : (p : Picture) (m : RunMark) (r : Result RowEnd Fault) (at : ℕ) (old new : List ℕ) → 0 < p.row_bytes → IsMark p m → RowRead (width_of p) p.coding p.codes m.before r at old new
+    → m.before.at + bytes_before (width_of p) 0 (symbols_at p.coding p.codes m.before) (width_of p) ≡ at
+above_reads p m (Ok end) at old new some h d =
     let w = width_of p in
     let far : w ≡ w + 0 = omega arith in
     let after : Spot = record { left = end.left; digit = end.digit; at = at } in
     ap (λ q. m.before.at + bytes_before w 0 (symbols_at p.coding p.codes m.before) q) far ∙ d.bytes 0 ∙ ap (λ k. at + k) (bytes_none w 0 (symbols_at p.coding p.codes after) 0 (omega arith)) ∙ omega arith
-above_reads p m (Err f) at old new some h e d = absurd (true≢false (e ∙ ap is_unreadable (h.above_is (width_of p - 1) (omega arith))))
+above_reads p m (Err f) at old new some h e = absurd (true≢false (sym e ∙ ap is_unreadable (h.above_is (width_of p - 1) (omega arith))))
 
 -- the bound of a marked row
 pub marked_bound : (p : Picture) (m : RunMark) → IsMark p m → bound_of p m.next ≡ min m.before.at m.here.at
@@ -222,15 +233,13 @@ first_cursor c some short at read first going white mark passed =
 -- a cursor that goes on at a mark, behind the row above
 pub resumed_cursor : (c : Inside) (bytes from : List ℕ) (r : Result RowEnd Fault) (at : ℕ) (old : List ℕ) → c.codes.bytes.now ≡ bytes → from ≡ bytes → 0 < c.row_bytes → c.row_bytes ≤ 1024
     → IsMark (record { coding = c.coding; codes = bytes; row_bytes = c.row_bytes; rows = c.rows }) c.mark
-    → is_err r ≡ is_unreadable (shown_at (2 * c.row_bytes) 0 (symbols_at c.coding from c.mark.before) (2 * c.row_bytes - 1))
-    → IfOk r (λ end. Decoded (2 * c.row_bytes) c.coding from c.mark.before end (record { left = end.left; digit = end.digit; at = at }) old c.row)
+    → RowRead (2 * c.row_bytes) c.coding from c.mark.before r at old c.row
     → c.codes.read + c.mark.before.at ≡ at → c.codes.at ≡ c.mark.here.at → c.first ≡ c.mark.next → c.refused ≡ false → c.passed ≡ 1 → IsCursor c
-resumed_cursor c bytes from r at old same also some short mark ans dec read here first going passed =
+resumed_cursor c bytes from r at old same also some short mark above read here first going passed =
     let p = picture_of c in
     let m = subst (λ (b : List ℕ). IsMark (record { coding = c.coding; codes = b; row_bytes = c.row_bytes; rows = c.rows }) c.mark) (sym same) mark in
-    let answered = subst (λ (b : List ℕ). is_err r ≡ is_unreadable (shown_at (2 * c.row_bytes) 0 (symbols_at c.coding b c.mark.before) (2 * c.row_bytes - 1))) (also ∙ sym same) ans in
-    let decoded = subst (λ (b : List ℕ). IfOk r (λ end. Decoded (2 * c.row_bytes) c.coding b c.mark.before end (record { left = end.left; digit = end.digit; at = at }) old c.row)) (also ∙ sym same) dec in
-    let taken = above_reads p c.mark r at old c.row some m answered decoded in
+    let decoded = subst (λ (b : List ℕ). RowRead (2 * c.row_bytes) c.coding b c.mark.before r at old c.row) (also ∙ sym same) above in
+    let taken = above_reads p c.mark r at old c.row some m decoded in
     let few = m.above_bytes in
     let start = ap (start_of p) first ∙ marked_start p c.mark m in
     let bound = ap (bound_of p) first ∙ marked_bound p c.mark m in
@@ -239,7 +248,7 @@ resumed_cursor c bytes from r at old same also some short mark ans dec read here
       some = some;
       short = short;
       mark = m;
-      kept = λ _ j l. above_read p c.mark r _ _ c.row j m answered decoded l;
+      kept = λ _ j l. above_read p c.mark r at old c.row j m decoded l;
       place = λ _. here;
       stopped = λ e. absurd (false≢true (sym going ∙ e));
       reading = record { at = omega (arith, inside); read = omega (arith, taken, few) };

@@ -2,21 +2,17 @@
 use Rattle.std.proofs.Common.{inl, inr, ◌≡◌, ℕ, zero, suc, ◌+◌, ◌-◌, ◌*◌, ◌/◌, ◌%◌, ◌<◌, ◌≤◌, true, false, Ok, Err, cond, List, [], ◌∷◌, drop, length, get_or, Some, subst, ap, sym, ◌∙◌, refl, arith}
 use Rattle.std.proofs.Math.Seq.{drop-length}
 use Rattle.std.proofs.Math.Nat.{lt-div-mul-add, div-mul-le_self, mod-eq-sub-div-mul, div-lt_iff_lt-mul, mul-le-mul_left, mul_comm}
-use Rattle.std.proofs.lemmas.Bool.{cases_lt, lt-ltb, eq-eqb, ne_eqb}
+use Rattle.std.proofs.lemmas.Bool.{cases_lt, lt-ltb, ne_eqb}
 use Rattle.vp_dots.specs.declared.fault.Fault.TheVariants.{Graphic}
 use Rattle.vp_format.specs.declared.codes.Symbol.{Symbol}
-use Rattle.vp_format.specs.declared.codes.Symbol.TheVariants.{Digits, ToEnd, Again, Refused}
+use Rattle.vp_format.specs.declared.codes.Symbol.TheVariants.{Digits, Again, Refused}
 use Rattle.vp_format.specs.declared.reading.Codes.{Codes}
 use Rattle.vp_format.specs.Codes.{code_of, Spelled, spelled, joined, symbols, symbols_behind}
 use Rattle.vp_format.specs.Pictures.{AsAbove, Unreadable, shown_at, shows, end_of, is_unreadable, Picture, width_of, place_of, is_refused, row_after, unless_fault, passing}
-use Rattle.vp_format.specs.Cursors.{digit_value, symbols_from, InHand, IsReading, Passed}
+use Rattle.vp_format.specs.Cursors.{digit_value, symbols_from, InHand, IsReading, Passed, PassesOn}
 use Rattle.vp_format.proofs.Reached.{shown_in, shown_past, in_hand}
 use Rattle.vp_format.proofs.Quick.{plain_symbol}
 use Rattle.vp_format.proofs.Skipped.{first_read, rows_read, read_to}
-
--- before the first place all symbols are left
-pub start_passed : (w : ℕ) (all : List Spelled) → Passed w all 0 all
-start_passed w all = record { taken = λ j l. absurd (omega (arith, l)); ahead = λ j _. refl }
 
 -- the same symbols, the same place
 pub passed_at : (w : ℕ) (all : List Spelled) (x y : ℕ) (ss left : List Spelled) → x ≡ y → ss ≡ left → Passed w all x ss → Passed w all y left
@@ -36,13 +32,6 @@ digits_passed w all x n v k left r = symbol_passed w all x k (Digits n v) left (
 row_end : (w x : ℕ) → (x / w + 1) * w ≡ x - x % w + w
 row_end w x = omega (arith, mod-eq-sub-div-mul x w, div-mul-le_self x w)
 
-pub fill_passed : (w : ℕ) (all : List Spelled) (x v k : ℕ) (left : List Spelled) → 0 < w → Passed w all x (spelled (ToEnd v) k ∷ left) → Passed w all (x - x % w + w) left
-fill_passed w all x v k left some r = passed_at w all _ _ left left (row_end w x) refl (symbol_passed w all x k (ToEnd v) left (omega (arith, lt-div-mul-add {a = x} {b = w} some, row_end w x)) refl r)
-
-pub again_passed : (w : ℕ) (all : List Spelled) (x k : ℕ) (left : List Spelled) → 0 < w → x % w ≡ 0 → Passed w all x (spelled Again k ∷ left) → Passed w all (x - x % w + w) left
-again_passed w all x k left some begins r =
-    passed_at w all _ _ left left (row_end w x) refl (symbol_passed w all x k Again left (omega (arith, lt-div-mul-add {a = x} {b = w} some, row_end w x)) (ap (λ b. is_unreadable (cond b AsAbove Unreadable)) (eq-eqb (x % w) 0 begins)) r)
-
 -- so many plain digits
 pub plain_passed : (w : ℕ) (all : List Spelled) (x : ℕ) (codes : List ℕ) (at k : ℕ) → at + k ≤ length codes → ((i : ℕ) → i < k → digit_value (code_of (get_or codes (at + i) 0)) < 16)
     → Passed w all x (symbols_from codes at) → Passed w all (x + k) (symbols_from codes (at + k))
@@ -51,6 +40,13 @@ plain_passed w all x codes at (suc k) inside digit r =
     let before = plain_passed w all x codes at k (omega (arith, inside)) (λ i l. digit i (omega (arith, l))) r in
     let next = passed_at w all (x + k) (x + k) _ _ refl (plain_symbol codes (at + k) (omega (arith, inside)) (digit k (omega arith))) before in
     passed_at w all (x + k + 1) (x + suc k) _ _ (omega arith) (ap (symbols_from codes) (omega arith)) (digits_passed w all (x + k) 1 _ _ (symbols_from codes (at + k + 1)) next)
+
+pub plain_on : (codes : List ℕ) (x at k : ℕ) → at + k ≤ length codes → ((i : ℕ) → i < k → digit_value (code_of (get_or codes (at + i) 0)) < 16) → PassesOn codes x at (x + k) (at + k)
+plain_on codes x at k inside digit = record { behind = omega arith; inside = inside; passed = λ w all. plain_passed w all x codes at k inside digit }
+
+-- one part after the other
+pub passes_on : (codes : List ℕ) (x at y to z last : ℕ) → PassesOn codes x at y to → PassesOn codes y to z last → PassesOn codes x at z last
+passes_on codes x at y to z last a b = record { behind = omega arith; inside = b.inside; passed = λ w all r. b.passed w all (a.passed w all r) }
 
 -- none of the rows is refused
 pub all_taken : (p : Picture) → ((y : ℕ) → y < p.rows → is_refused p y ≡ false) → passing p 0 p.rows ≡ Ok tt
@@ -99,13 +95,6 @@ other_passed p x k left some inside r = refused_passed p x k Refused left some i
 -- `:` inside a row
 pub inside_passed : (p : Picture) (x k : ℕ) (left : List Spelled) → 0 < width_of p → x < width_of p * p.rows → 0 < x % width_of p → Passed (width_of p) (symbols p.coding p.codes) x (spelled Again k ∷ left) → passing p 0 p.rows ≡ Err Graphic
 inside_passed p x k left some inside within r = refused_passed p x k Again left some inside refl (ap (λ b. cond b AsAbove Unreadable) (ne_eqb (x % width_of p) 0 (λ e. omega (arith, e, within)))) r
-
--- what is passed of a reader's bytes
-pub step_passed : (w : ℕ) (all : List Spelled) (from to : ℕ) (codes bytes : List ℕ) (first at : ℕ) (old c : Codes) → bytes ≡ old.bytes.now → old.bytes.now ≡ codes → first ≡ old.at → c.at ≡ at
-    → (Passed w all from (symbols_from bytes first) → Passed w all to (symbols_from bytes at)) → Passed w all from (symbols_from codes old.at) → Passed w all to (symbols_from codes c.at)
-step_passed w all from to codes bytes first at old c here same begins ends step r =
-    let begun = passed_at w all from from _ _ refl (ap (λ cs. symbols_from cs old.at) (sym (here ∙ same)) ∙ ap (symbols_from bytes) (sym begins)) r in
-    passed_at w all to to _ _ refl (ap (λ cs. symbols_from cs at) (here ∙ same) ∙ ap (symbols_from codes) (sym ends)) (step begun)
 
 -- the symbol that begins with the byte in hand
 pub hand_passed : (w : ℕ) (all : List Spelled) (x : ℕ) (codes : List ℕ) (old c e : Codes) (b k : ℕ) (s : Symbol) → c.bytes.now ≡ codes → e.bytes.now ≡ codes → c.at ≡ old.at + 1 → InHand c (Some b) → IsReading c

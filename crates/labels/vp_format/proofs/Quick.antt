@@ -1,7 +1,8 @@
 -- Codes that are read in a quick way: digits one after the other, and short runs.
-use Rattle.std.proofs.Common.{inl, inr, ◌≡◌, ℕ, Bool, true, false, cond, bit_or, ltb, zero, suc, ◌+◌, ◌-◌, ◌<◌, ◌≤◌, max, List, ◌∷◌, drop, take, map, length, get_or, ap, sym, ◌∙◌, refl, arith}
+use Rattle.std.proofs.Common.{inl, inr, ◌≡◌, ℕ, Bool, true, false, cond, bit_or, ltb, zero, suc, ◌+◌, ◌-◌, ◌<◌, ◌≤◌, max, List, ◌∷◌, drop, take, map, length, get_or, Result, Ok, Err, ap, sym, ◌∙◌, refl, arith}
 use Rattle.std.proofs.lemmas.List.{drop_more, get_or-map}
 use Rattle.std.proofs.lemmas.Simd.{length-chunk, get_or-chunk}
+use Rattle.vp_dots.specs.declared.fault.Fault.{Fault}
 use Rattle.vp_format.specs.declared.rows.Spot.{Spot}
 use Rattle.vp_format.specs.declared.rows.Coding.TheVariants.{RunLength}
 use Rattle.std.proofs.lemmas.Bool.{cases_lt, lt-ltb, ltb-true, agree_below_at, true≢false}
@@ -12,7 +13,7 @@ use Rattle.vp_format.specs.declared.codes.Symbol.TheVariants.{Digits}
 use Rattle.vp_format.specs.Codes.{code_of, Spelled, spelled, joined, symbols_behind}
 use Rattle.vp_format.specs.Pictures.{Value, shown_at, value_of, is_above, nibble}
 use Rattle.vp_format.specs.declared.row.RowEnd.{RowEnd}
-use Rattle.vp_format.specs.Cursors.{count_value, digit_value, symbols_from, symbols_at, Filled, Reached, Decoded}
+use Rattle.vp_format.specs.Cursors.{count_value, digit_value, symbols_from, symbols_at, Filled, Reached, ReadsOn, Decoded, RowRead}
 use Rattle.vp_format.proofs.Reached.{run_over, run_reached, run_done, reached_at, start_reached, digit_is, digit_in_hand}
 
 -- places from x on may be overwritten
@@ -45,6 +46,17 @@ digits_reached w all from old new x codes at (suc k) kept inside few put r =
     } in
     let run = run_reached w all from new new (x + k) (x + suc k) 1 v 1 (symbols_from codes (at + suc k)) (at + k) (omega arith) (omega arith) (few k (omega arith)) (reached_at w all from new (x + k) (x + k) _ _ (at + k) (at + k) refl first refl before) filled in
     reached_at w all from new (x + suc k) (x + suc k) _ _ _ _ refl refl (omega arith) (run_done w all from new (x + suc k) _ v (symbols_from codes (at + suc k)) (at + k + 1) (omega arith) run)
+
+pub digits_read : (w : ℕ) (codes old new : List ℕ) (x at k : ℕ) → length new ≡ length old → ((j : ℕ) → j < x → get_or new j 0 ≡ get_or old j 0) → x + k ≤ w → at + k ≤ length codes
+    → ((i : ℕ) → i < k → digit_value (code_of (get_or codes (at + i) 0)) < 16) → ((i : ℕ) → i < k → get_or new (x + i) 0 ≡ digit_value (code_of (get_or codes (at + i) 0)))
+    → ReadsOn w codes old x at new (x + k) (at + k)
+digits_read w codes old new x at k len kept place inside few put =
+    record { len = len; after = omega arith; place = place; behind = omega arith; inside = inside; reached = λ all start. digits_reached w all start old new x codes at k kept inside few put }
+
+-- one part after the other
+pub reads_on : (w : ℕ) (codes p q r : List ℕ) (x at y to z last : ℕ) → ReadsOn w codes p x at q y to → ReadsOn w codes q y to r z last → ReadsOn w codes p x at r z last
+reads_on w codes p q r x at y to z last a b =
+    record { len = b.len ∙ a.len; after = omega arith; place = b.place; behind = omega arith; inside = b.inside; reached = λ all start s. b.reached all start (a.reached all start s) }
 
 -- the values of so many bytes from a place on
 abbrev pub values_from : List ℕ → ℕ → ℕ → List ℕ
@@ -174,7 +186,7 @@ row_anew w codes old before new s after end v j true is first d l = absurd (true
 row_anew w codes old before new s after end v j false is first d l = sym (ap (λ t. value_of t (nibble before j)) (d.own is j l))
 
 -- such a row is the same whichever stood before
-pub decoded_anew : (w : ℕ) (codes old before new : List ℕ) (s after : Spot) (end : RowEnd) → s.left ≡ 0 → s.at < length codes → digit_value (code_of (get_or codes s.at 0)) < 16 → Decoded w RunLength codes s end after old new → Decoded w RunLength codes s end after before new
+decoded_anew : (w : ℕ) (codes old before new : List ℕ) (s after : Spot) (end : RowEnd) → s.left ≡ 0 → s.at < length codes → digit_value (code_of (get_or codes s.at 0)) < 16 → Decoded w RunLength codes s end after old new → Decoded w RunLength codes s end after before new
 decoded_anew w codes old before new s after end none inside digit d = record {
   spot = d.spot;
   whole = d.whole;
@@ -184,3 +196,7 @@ decoded_anew w codes old before new s after end none inside digit d = record {
   next = d.next;
   bytes = d.bytes;
 }
+
+pub read_anew : (w : ℕ) (codes old before new : List ℕ) (s : Spot) (at : ℕ) (r : Result RowEnd Fault) → s.left ≡ 0 → s.at < length codes → digit_value (code_of (get_or codes s.at 0)) < 16 → RowRead w RunLength codes s r at old new → RowRead w RunLength codes s r at before new
+read_anew w codes old before new s at (Ok end) none inside digit d = decoded_anew w codes old before new s _ end none inside digit d
+read_anew w codes old before new s at (Err why) none inside digit refused = refused

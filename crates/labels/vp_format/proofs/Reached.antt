@@ -1,5 +1,5 @@
 -- What symbols show of a row, and how many bytes spell them.
-use Rattle.std.proofs.Common.{inl, inr, ◌≡◌, ℕ, ◌+◌, ◌-◌, ◌*◌, ◌/◌, ◌<◌, ◌≤◌, true, false, ltb, eqb, cond, List, [], ◌∷◌, drop, length, get_or, Option, Some, subst, ap, sym, ◌∙◌, refl, arith}
+use Rattle.std.proofs.Common.{inl, inr, ◌≡◌, ℕ, ◌+◌, ◌-◌, ◌*◌, ◌/◌, ◌<◌, ◌≤◌, true, false, ltb, eqb, cond, List, [], ◌∷◌, drop, length, get_or, None, Some, subst, ap, sym, ◌∙◌, refl, arith}
 use Rattle.std.proofs.Math.Seq.{drop-length}
 use Rattle.std.proofs.lemmas.List.{drop_more}
 use Rattle.std.proofs.lemmas.Bool.{cases_lt, ne_eqb, lt-ltb, le-ltb, true≢false, false≢true}
@@ -12,9 +12,9 @@ use Rattle.vp_format.specs.declared.row.RowEnd.{RowEnd}
 use Rattle.vp_format.specs.declared.codes.Symbol.{Symbol}
 use Rattle.vp_format.specs.declared.codes.Symbol.TheVariants.{Digits, ToEnd, Again, Refused}
 use Rattle.vp_format.specs.Codes.{code_of, Spelled, spelled, joined, symbols_behind}
-use Rattle.vp_format.specs.Pictures.{Value, AsAbove, Unreadable, shown_at, shows, end_of, bytes_before, value_of, is_unreadable, nibble}
+use Rattle.vp_format.specs.Pictures.{Value, AsAbove, Unreadable, shown_at, shows, end_of, bytes_before, value_of, nibble}
 use Rattle.vp_format.specs.declared.reading.Codes.{Codes}
-use Rattle.vp_format.specs.Cursors.{digit_value, symbols_from, symbols_at, held, InHand, IsReading, Advanced, IsSpot, AreSmall, Filled, Decoded, Reached}
+use Rattle.vp_format.specs.Cursors.{digit_value, symbols_from, symbols_at, InHand, IsReading, IsSpot, AreSmall, Filled, Decoded, Reached, ReachedNext}
 
 -- a place that the first symbol covers
 pub shown_in : (w p : ℕ) (s : Spelled) (ss : List Spelled) (j : ℕ) → j < end_of w p s.symbol → shown_at w p (s ∷ ss) j ≡ shows w p s.symbol
@@ -134,10 +134,6 @@ again_refused w x k ss some h = shown_in w x (spelled Again k) ss (w - 1) (rw (r
 pub refused_shown : (w x k : ℕ) (ss : List Spelled) → x < w → shown_at w x (spelled Refused k ∷ ss) (w - 1) ≡ Unreadable
 refused_shown w x k ss h = shown_in w x (spelled Refused k) ss (w - 1) (rw (row_end w x h) (omega arith))
 
--- a row whose places are all reached shows something at its last one
-pub all_shown : (w : ℕ) (all : List Spelled) (from : ℕ) (places : List ℕ) (left : List Spelled) (at : ℕ) → 0 < w → Reached w all from places w left at → false ≡ is_unreadable (shown_at w 0 all (w - 1))
-all_shown w all from places left at some r = sym (ap is_unreadable (r.so_far (w - 1) (omega arith)))
-
 -- a row further on, the symbols show the same
 end_later : (w p : ℕ) (s : Symbol) → 0 < w → end_of w (w + p) s ≡ w + end_of w p s
 end_later w p (Digits n v) h = omega arith
@@ -223,16 +219,22 @@ digit_in_hand codes at b v some inside e is small = in_hand codes at b some insi
 pub reached_at : (w : ℕ) (all : List Spelled) (from : ℕ) (row : List ℕ) (x y : ℕ) (ss left : List Spelled) (at to : ℕ) → x ≡ y → ss ≡ left → at ≡ to → Reached w all from row x ss at → Reached w all from row y left to
 reached_at w all from row x y ss left at to d e f r = subst (λ q. Reached w all from row q left to) d (subst (λ p. Reached w all from row x p to) e (subst (λ k. Reached w all from row x ss k) f r))
 
--- the symbols from the byte in hand on, if there is one
-pub from_hand : (old new : Codes) (o : Option ℕ) → Advanced old new → new.at ≡ old.at + held o → symbols_from old.bytes.now old.at ≡ symbols_from new.bytes.now (new.at - held o)
-from_hand old new o a e = let before : old.at ≡ new.at - held o = omega arith in ap (λ cs. symbols_from cs old.at) (sym a.bytes) ∙ ap (λ k. symbols_from new.bytes.now k) before
+-- no symbol is given out, or the one that begins with the byte in hand
+module _ (codes : List ℕ) (at : ℕ) (new : Codes) (w : ℕ) (all : List Spelled) (from : ℕ) (row : List ℕ) (x : ℕ) where
+  pub none_reached : new.bytes.now ≡ codes → new.at ≡ at → Reached w all from row x (symbols_from codes at) at → ReachedNext w all from row x new None
+  none_reached same here r = reached_at w all from row x x _ _ _ _ refl (ap (λ cs. symbols_from cs at) (sym same) ∙ ap (symbols_from new.bytes.now) (sym here)) (sym here) r
 
--- the symbol that begins with the byte in hand
-pub symbol_reached : (old new : Codes) (b k : ℕ) (s : Symbol) (w : ℕ) (all : List Spelled) (from : ℕ) (row : List ℕ) (x : ℕ) → InHand old (Some b) → IsReading old
-    → joined (code_of b) 0 0 (symbols_behind (drop old.at old.bytes.now)) ≡ spelled s k ∷ symbols_from new.bytes.now new.at
-    → Reached w all from row x (symbols_from old.bytes.now (old.at - 1)) (old.at - 1) → Reached w all from row x (spelled s k ∷ symbols_from new.bytes.now new.at) (old.at - 1)
-symbol_reached old new b k s w all from row x h reading e r =
-    reached_at w all from row x x _ _ _ _ refl (in_hand old.bytes.now old.at b h.0 reading.at h.1 ∙ e) refl r
+  pub next_reached : (mid : Codes) (b : ℕ) (s : Symbol) → mid.bytes.now ≡ codes → mid.at ≡ at + 1 → InHand mid (Some b) → IsReading mid → mid.at ≤ new.at
+      → joined (code_of b) 0 0 (symbols_behind (drop mid.at mid.bytes.now)) ≡ spelled s (1 + (new.at - mid.at)) ∷ symbols_from new.bytes.now new.at
+      → Reached w all from row x (symbols_from codes at) at → ReachedNext w all from row x new (Some s)
+  next_reached mid b s same step hand reading more e r =
+      let back : at ≡ mid.at - 1 = omega arith in (
+        1 + (new.at - mid.at),
+        (
+          omega arith,
+          reached_at w all from row x x _ _ _ _ refl (ap (λ cs. symbols_from cs at) (sym same) ∙ ap (symbols_from mid.bytes.now) back ∙ in_hand mid.bytes.now mid.at b hand.0 reading.at hand.1 ∙ e) (omega arith) r,
+        ),
+      )
 
 -- the end of a row whose places are all reached and packed
 pub ended_decoded : (codes places old new : List ℕ) (c : Codes) (w : ℕ) (s : Spot) (end : RowEnd) (n v at : ℕ) → end ≡ record { left = n; digit = v; repeats = false } → 0 < w → c.bytes.now ≡ codes → IsReading c → v < 16 → at ≡ c.at
@@ -255,24 +257,6 @@ again_decoded codes places row c w s end x k at is some same reading here start 
     let d = same_row_decoded w codes places row s at k some inside left in
     let e = subst (λ (a : ℕ). Decoded w RunLength codes s (record { left = 0; digit = 0; repeats = true }) (record { left = 0; digit = 0; at = a }) row row) here d in
     subst (λ (e : RowEnd). Decoded w RunLength codes s e (record { left = e.left; digit = e.digit; at = c.at }) row row) (sym is) e
-
--- two readings of a slice, one after the other, and the place that they came to
-pub twice_reached : (w : ℕ) (all : List Spelled) (from : ℕ) (places mid new : List ℕ) (x y z : ℕ) (old c : Codes) (bytes : List ℕ) (first at to : ℕ) → bytes ≡ old.bytes.now → first ≡ old.at → c.bytes.now ≡ old.bytes.now → c.at ≡ to
-    → (Reached w all from places x (symbols_from bytes first) first → Reached w all from mid y (symbols_from bytes at) at) → (Reached w all from mid y (symbols_from bytes at) at → Reached w all from new z (symbols_from bytes to) to)
-    → Reached w all from places x (symbols_from old.bytes.now old.at) old.at → Reached w all from new z (symbols_from c.bytes.now c.at) c.at
-twice_reached w all from places mid new x y z old c bytes first at to same here kept there one two r =
-    let begun = reached_at w all from places x x _ _ old.at first refl (ap (λ cs. symbols_from cs old.at) (sym same) ∙ ap (symbols_from bytes) (sym here)) (sym here) r in
-    reached_at w all from new z z _ _ to c.at refl (ap (λ cs. symbols_from cs to) (same ∙ sym kept) ∙ ap (symbols_from c.bytes.now) (sym there)) (sym there) (two (one begun))
-
--- a reading of short codes, with what it left in hand
-pub hand_taken : (w : ℕ) (all : List Spelled) (from : ℕ) (places new : List ℕ) (x to : ℕ) (old c : Codes) (o h : Option ℕ) → o ≡ h
-    → (Reached w all from places x (symbols_from old.bytes.now old.at) old.at → Reached w all from new to (symbols_from c.bytes.now (c.at - held o)) (c.at - held o))
-    → Reached w all from places x (symbols_from old.bytes.now old.at) old.at → Reached w all from new to (symbols_from c.bytes.now (c.at - held h)) (c.at - held h)
-hand_taken w all from places new x to old c o h f step =
-    subst (λ (i : Option ℕ). Reached w all from places x (symbols_from old.bytes.now old.at) old.at → Reached w all from new to (symbols_from c.bytes.now (c.at - held i)) (c.at - held i)) f step
-
-pub nothing_taken : (w : ℕ) (all : List Spelled) (from : ℕ) (new : List ℕ) (to : ℕ) (c : Codes) → Reached w all from new to (symbols_from c.bytes.now (c.at - 0)) (c.at - 0) → Reached w all from new to (symbols_from c.bytes.now c.at) c.at
-nothing_taken w all from new to c r = let e : c.at - 0 ≡ c.at = omega arith in reached_at w all from new to to _ _ _ _ refl (ap (λ k. symbols_from c.bytes.now k) e) e r
 
 -- before the first place all symbols are left
 pub start_reached : (w : ℕ) (all : List Spelled) (from : ℕ) (row : List ℕ) → Reached w all from row 0 all from

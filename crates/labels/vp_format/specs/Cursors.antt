@@ -1,8 +1,10 @@
 -- What a cursor keeps of the codes.
-use Rattle.std.specs.Prelude.{◌≡◌, ℕ, zero, suc, nat_lt, Bool, true, false, ◌&&◌, ◌||◌, ◌*◌, ◌+◌, ◌-◌, ◌≤◌, ◌<◌, ◌==◌, if◌then◌else◌, List, ◌∷◌, drop, length, slice_index, Option, None, Some}
+use Rattle.std.specs.Prelude.{◌≡◌, ℕ, zero, suc, nat_lt, Bool, true, false, ◌&&◌, ◌||◌, ◌*◌, ◌+◌, ◌-◌, ◌≤◌, ◌<◌, ◌==◌, if◌then◌else◌, List, ◌∷◌, drop, length, slice_index, Option, None, Some, Result, Ok, Err}
 use Rattle.std.specs.Int.{w64, trailing_zeros}
+use Rattle.vp_dots.specs.declared.fault.Fault.{Fault}
 use Rattle.vp_format.specs.declared.codes.Code.{Code}
 use Rattle.vp_format.specs.declared.codes.Code.TheVariants.{Digit, Count, Fill}
+use Rattle.vp_format.specs.declared.packing.TheConstants.{SHORT}
 use Rattle.vp_format.specs.declared.reading.Codes.{Codes}
 use Rattle.vp_format.specs.declared.row.RowEnd.{RowEnd}
 use Rattle.vp_format.specs.declared.rows.Coding.{Coding}
@@ -144,6 +146,14 @@ pub record Reached (width : ℕ) (all : List Spelled) (from : ℕ) (places : Lis
   pub ahead : (j : ℕ) → x ≤ j → shown_at width 0 all j ≡ shown_at width x left j
   pub bytes : (j : ℕ) → x ≤ j → from + bytes_before width 0 all j ≡ at + bytes_before width x left j
 
+-- the same with the symbol that a reader of the codes gave out last, if it gave one: the bytes that spell it
+-- are the last before its place
+abbrev pub ReachedNext : ℕ → List Spelled → ℕ → List ℕ → ℕ → Codes → Option Symbol → Type 0
+ReachedNext width all from places x c None =
+    Reached width all from places x (symbols_from c.bytes.now c.at) c.at
+ReachedNext width all from places x c (Some s) = (k : ℕ) × ((k ≤ c.at)
+    × Reached width all from places x (spelled s k ∷ symbols_from c.bytes.now c.at) (c.at - k))
+
 -- what n codes from one on leave in the row from a place on: the symbols behind them are left, or, behind a
 -- count, from that count on, and its places but one have the value of the digit behind it
 unfoldable pub Put : ℕ → List Spelled → ℕ → List ℕ → ℕ → List ℕ → ℕ → ℕ → Type 0
@@ -164,6 +174,29 @@ pub record Passed (width : ℕ) (all : List Spelled) (x : ℕ) (left : List Spel
   pub taken : (j : ℕ) → j < x → is_unreadable (shown_at width 0 all j) ≡ false
   pub ahead : (j : ℕ) → x ≤ j → shown_at width 0 all j ≡ shown_at width x left j
 
+-- there is room from a place on for the rest of a row of so many places, and some more
+pub record HasRoom (width : ℕ) (places : List ℕ) (x : ℕ) : Type 0 where
+  pub from : x ≤ width
+  pub short : width ≤ 2048
+  pub room : width + SHORT ≤ length places
+
+-- codes are read into the places, from a place and a byte on to later ones
+pub record ReadsOn (width : ℕ) (codes old : List ℕ) (x at : ℕ) (new : List ℕ) (y to : ℕ) : Type 0 where
+  pub len : length new ≡ length old
+  pub after : x ≤ y
+  pub place : y ≤ width
+  pub behind : at ≤ to
+  pub inside : to ≤ length codes
+  pub reached : (all : List Spelled) (start : ℕ) → Reached width all start old x (symbols_from codes at) at
+      → Reached width all start new y (symbols_from codes to) to
+
+-- codes are passed, from a place and a byte on to later ones
+pub record PassesOn (codes : List ℕ) (x at y to : ℕ) : Type 0 where
+  pub behind : at ≤ to
+  pub inside : to ≤ length codes
+  pub passed : (width : ℕ) (all : List Spelled) → Passed width all x (symbols_from codes at)
+      → Passed width all y (symbols_from codes to)
+
 -- the row that starts at a spot stands in the bytes, which were those of the row before; it is that one once
 -- more or not, and the next row starts at another spot
 pub record Decoded (width : ℕ) (coding : Coding) (codes : List ℕ) (s : Spot) (end : RowEnd) (after : Spot)
@@ -180,6 +213,14 @@ pub record Decoded (width : ℕ) (coding : Coding) (codes : List ℕ) (s : Spot)
       ≡ shown_at width 0 (symbols_at coding codes after) j
   pub bytes : (j : ℕ) → s.at + bytes_before width 0 (symbols_at coding codes s) (width + j)
       ≡ after.at + bytes_before width 0 (symbols_at coding codes after) j
+
+-- what reading the row that starts at a spot answers: it is decoded, up to a place of the codes, or a symbol
+-- is refused that starts in it
+abbrev pub RowRead : ℕ → Coding → List ℕ → Spot → Result RowEnd Fault → ℕ → List ℕ → List ℕ → Type 0
+RowRead width coding codes s (Ok end) at old new =
+    Decoded width coding codes s end (record { left = end.left; digit = end.digit; at = at }) old new
+RowRead width coding codes s (Err why) at old new =
+    is_unreadable (shown_at width 0 (symbols_at coding codes s) (width - 1)) ≡ true
 
 -- the values of the row before, and 0 above the first
 abbrev pub above : Picture → ℕ → ℕ → ℕ

@@ -1,7 +1,7 @@
 //! Digits of which some stand behind a count, sixteen codes at a time.
 ghost use Rattle.std.specs.Prelude.{◌≡◌, ℕ, ◌+◌, ◌<◌, ◌≤◌, true, List, length, slice_index};
 ghost use Rattle.vp_format.specs.Codes.{Spelled, code_of};
-ghost use Rattle.vp_format.specs.Cursors.{added, digit_value, places_of, symbols_from, IsRun, Passed, Put, Reached};
+ghost use Rattle.vp_format.specs.Cursors.{added, digit_value, places_of, symbols_from, HasRoom, IsRun, PassesOn, Put, ReadsOn, Reached};
 
 use crate::codes::digit_value;
 use crate::digits::LANES;
@@ -48,11 +48,7 @@ fn places_added(bytes: &[u8], at: usize) -> u32
 pub fn counted(bytes: &[u8], at: usize) -> (usize, usize)
     requires { at ≤ length bytes.now }
     ensures few { result.0 ≤ 4081 }
-    ensures behind { at ≤ result.1 }
-    ensures inside { result.1 ≤ length bytes.now }
-    ensures passed { (width : ℕ) (all : List Spelled) (x : ℕ) →
-        Passed width all x (symbols_from bytes.now at) →
-        Passed width all (x + result.0) (symbols_from bytes.now result.1) }
+    ensures passed { (x : ℕ) → PassesOn bytes.now x at (x + result.0) result.1 }
 {
     if bytes.len() - at <= LANES {
         return (0, at);
@@ -140,17 +136,8 @@ pub fn put_counted(
     places: &mut [u8],
 ) -> (usize, usize)
     requires at { at ≤ length bytes.now }
-    requires from { from ≤ width }
-    requires short { width ≤ 2048 }
-    requires room { width + SHORT ≤ length places.old }
-    ensures len { length places.new ≡ length places.old }
-    ensures after { from ≤ result.0 }
-    ensures place { result.0 ≤ width }
-    ensures behind { at ≤ result.1 }
-    ensures inside { result.1 ≤ length bytes.now }
-    ensures reached { (all : List Spelled) (start : ℕ) →
-        Reached width all start places.old from (symbols_from bytes.now at) at
-        → Reached width all start places.new result.0 (symbols_from bytes.now result.1) result.1 }
+    requires room { HasRoom width places.old from }
+    ensures { ReadsOn width bytes.now places.old from at places.new result.0 result.1 }
 {
     if bytes.len() - at <= LANES {
         return (from, at);

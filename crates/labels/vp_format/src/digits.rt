@@ -1,10 +1,9 @@
 //! Plain digits, sixteen at a time, or 64.
 ghost use Rattle.std.specs.Prelude.{◌≡◌, ℕ, ◌+◌, ◌*◌, ◌<◌, ◌≤◌, ◌⊎◌, true, false, List, length, slice_index};
-ghost use Rattle.vp_format.specs.Codes.{Spelled, code_of};
+ghost use Rattle.vp_format.specs.Codes.{code_of};
 ghost use Rattle.vp_format.specs.Pictures.{nibble};
-ghost use Rattle.vp_format.specs.Cursors.{digit_value, first_set, symbols_from, Reached};
+ghost use Rattle.vp_format.specs.Cursors.{digit_value, first_set, HasRoom, ReadsOn};
 
-use crate::packing::SHORT;
 use std::simd::prelude::*;
 
 /// How many bytes are looked at at once.
@@ -78,17 +77,8 @@ pub fn digits(
     places: &mut [u8],
 ) -> (usize, usize)
     requires first { first ≤ length bytes.now }
-    requires from { from ≤ width }
-    requires short { width ≤ 2048 }
-    requires room { width + SHORT ≤ length places.old }
-    ensures len { length places.new ≡ length places.old }
-    ensures after { from ≤ result.0 }
-    ensures place { result.0 ≤ width }
-    ensures behind { first ≤ result.1 }
-    ensures inside { result.1 ≤ length bytes.now }
-    ensures reached { (all : List Spelled) (start : ℕ) →
-        Reached width all start places.old from (symbols_from bytes.now first) first
-        → Reached width all start places.new result.0 (symbols_from bytes.now result.1) result.1 }
+    requires room { HasRoom width places.old from }
+    ensures { ReadsOn width bytes.now places.old from first places.new result.0 result.1 }
 {
     let mut x = from;
     let mut at = first;

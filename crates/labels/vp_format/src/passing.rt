@@ -1,7 +1,6 @@
 //! Codes passed by where their symbols end, in a quick way.
-ghost use Rattle.std.specs.Prelude.{◌≡◌, ℕ, ◌+◌, ◌^◌, ◌<◌, ◌≤◌, List, length};
-ghost use Rattle.vp_format.specs.Codes.{Spelled};
-ghost use Rattle.vp_format.specs.Cursors.{symbols_from, Passed};
+ghost use Rattle.std.specs.Prelude.{◌^◌, ◌<◌, ◌≤◌, length};
+ghost use Rattle.vp_format.specs.Cursors.{PassesOn};
 
 use crate::counted::counted;
 use crate::digits::{LANES, WIDE, are_digits, digits_in};
@@ -11,10 +10,7 @@ use crate::short_runs::{OTHER, run_at};
 fn pass_wide(bytes: &[u8], first: usize, from: u64, end: u64) -> (u64, usize)
     requires first { first ≤ length bytes.now }
     requires end { end < 2 ^ 44 }
-    ensures behind { first ≤ result.1 }
-    ensures inside { result.1 ≤ length bytes.now }
-    ensures passed { (width : ℕ) (all : List Spelled) → Passed width all from (symbols_from bytes.now first) →
-        Passed width all result.0 (symbols_from bytes.now result.1) }
+    ensures { PassesOn bytes.now from first result.0 result.1 }
 {
     let mut x = from;
     let mut at = first;
@@ -30,10 +26,7 @@ fn pass_wide(bytes: &[u8], first: usize, from: u64, end: u64) -> (u64, usize)
 fn pass_digits(bytes: &[u8], first: usize, from: u64, end: u64) -> (u64, usize)
     requires first { first ≤ length bytes.now }
     requires end { end < 2 ^ 44 }
-    ensures behind { first ≤ result.1 }
-    ensures inside { result.1 ≤ length bytes.now }
-    ensures passed { (width : ℕ) (all : List Spelled) → Passed width all from (symbols_from bytes.now first) →
-        Passed width all result.0 (symbols_from bytes.now result.1) }
+    ensures { PassesOn bytes.now from first result.0 result.1 }
 {
     let (mut x, mut at) = pass_wide(bytes, first, from, end);
     while x < end && bytes.len() - at >= LANES {
@@ -52,10 +45,7 @@ fn pass_digits(bytes: &[u8], first: usize, from: u64, end: u64) -> (u64, usize)
 pub fn pass_runs(bytes: &[u8], first: usize, from: u64, end: u64) -> (u64, usize)
     requires first { first ≤ length bytes.now }
     requires end { end < 2 ^ 44 }
-    ensures behind { first ≤ result.1 }
-    ensures inside { result.1 ≤ length bytes.now }
-    ensures passed { (width : ℕ) (all : List Spelled) → Passed width all from (symbols_from bytes.now first) →
-        Passed width all result.0 (symbols_from bytes.now result.1) }
+    ensures { PassesOn bytes.now from first result.0 result.1 }
 {
     let (mut x, mut at) = pass_digits(bytes, first, from, end);
     let mut single = at;

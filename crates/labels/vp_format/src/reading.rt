@@ -2,10 +2,9 @@
 ghost use Rattle.std.specs.Prelude.{◌≡◌, ℕ, ◌+◌, ◌*◌, ◌^◌, ◌<◌, ◌≤◌, ◌⊎◌, true, false, List, length, slice_index, take, drop, min};
 ghost use Rattle.vp_format.specs.Codes.{Spelled, code_of};
 ghost use Rattle.vp_format.specs.Pictures.{nibble};
-ghost use Rattle.vp_format.specs.Cursors.{Advanced, InHand, IsReading, Passed, Reached, digit_value, held, symbols_from};
+ghost use Rattle.vp_format.specs.Cursors.{Advanced, HasRoom, InHand, IsReading, Passed, ReadsOn, digit_value, held, symbols_from};
 
 use crate::digits::{digits, plain_row};
-use crate::packing::SHORT;
 use crate::passing::pass_runs;
 use crate::short_runs::short_runs;
 
@@ -83,16 +82,9 @@ impl<'a> Codes<'a> {
     /// it, and gives the place behind them.
     pub fn short_runs(&mut self, from: usize, width: usize, places: &mut [u8]) -> usize
         requires reading { IsReading self.old }
-        requires from { from ≤ width }
-        requires short { width ≤ 2048 }
-        requires room { width + SHORT ≤ length places.old }
-        ensures len { length places.new ≡ length places.old }
+        requires room { HasRoom width places.old from }
         ensures advanced { Advanced self.old self.new }
-        ensures after { from ≤ result }
-        ensures place { result ≤ width }
-        ensures reached { (all : List Spelled) (start : ℕ) →
-            Reached width all start places.old from (symbols_from self.old.bytes.now self.old.at) self.old.at
-            → Reached width all start places.new result (symbols_from self.new.bytes.now self.new.at)
+        ensures read { ReadsOn width self.old.bytes.now places.old from self.old.at places.new result
             self.new.at }
     {
         let (x, at) = digits(self.bytes, self.at, from, width, places);

@@ -1,8 +1,7 @@
 //! One row of a picture.
-ghost use Rattle.std.specs.Prelude.{◌≡◌, ℕ, ◌+◌, ◌-◌, ◌*◌, ◌<◌, ◌≤◌, min, false, true, IfOk, IsOk, is_err, length, slice_index, drop, List, ◌∷◌, Err, Ok};
+ghost use Rattle.std.specs.Prelude.{◌≡◌, ℕ, ◌+◌, ◌-◌, ◌*◌, ◌<◌, ◌≤◌, min, false, true, length, drop, List, ◌∷◌, None, IfSome};
 ghost use Rattle.vp_format.specs.Codes.{Spelled, spelled, alone, joined, code_of, symbols_behind};
-ghost use Rattle.vp_format.specs.Pictures.{shown_at, is_unreadable, nibble, Unreadable};
-ghost use Rattle.vp_format.specs.Cursors.{symbols_at, symbols_from, held, SmallSymbol, IsReading, IsSpot, IsWhole, Advanced, InHand, AreSmall, Reached, Decoded};
+ghost use Rattle.vp_format.specs.Cursors.{symbols_at, symbols_from, HasRoom, SmallSymbol, IsReading, IsSpot, IsWhole, Advanced, Reached, ReachedNext, Decoded, RowRead};
 ghost use Rattle.vp_format.specs.declared.rows.Spot.{Spot};
 ghost use Rattle.vp_format.specs.declared.rows.Coding.TheVariants.{RunLength, Binary};
 
@@ -56,37 +55,6 @@ fn end_of_run(x: usize, count: u128, places: usize) -> usize
     }
 }
 
-/// Reads digits and short runs from place `from` of a row of `width` places on, and gives the place behind
-/// them, and the byte of the codes that comes next, if the row goes on and there is one.
-fn read_short(
-    codes: &mut Codes,
-    from: usize,
-    width: usize,
-    places: &mut [u8],
-) -> (usize, Option<u8>)
-    requires reading { IsReading codes.old }
-    requires from { from ≤ width }
-    requires short { width ≤ 2048 }
-    requires room { width + SHORT ≤ length places.old }
-    ensures len { length places.new ≡ length places.old }
-    ensures advanced { Advanced codes.old codes.new }
-    ensures hand { InHand codes.new result.1 }
-    ensures inside { result.0 + held result.1 ≤ width }
-    ensures end { held result.1 ≡ 0 → result.0 < width → codes.new.at ≡ length codes.new.bytes.now }
-    ensures more { held result.1 ≡ 1 → codes.old.at < codes.new.at }
-    ensures after { from ≤ result.0 }
-    ensures reached { (all : List Spelled) (start : ℕ) →
-        Reached width all start places.old from (symbols_from codes.old.bytes.now codes.old.at) codes.old.at
-        → Reached width all start places.new result.0
-        (symbols_from codes.new.bytes.now (codes.new.at - held result.1)) (codes.new.at - held result.1) }
-{
-    let x = codes.short_runs(from, width, places);
-    if x == width {
-        return (x, None);
-    }
-    (x, codes.next())
-}
-
 /// A symbol that no count may stand before.
 fn alone(count: u128, symbol: Symbol) -> Symbol
     ensures { result ≡ alone count symbol }
@@ -119,6 +87,30 @@ pub fn symbol_of(codes: &mut Codes, first: u8) -> Symbol
     }
 }
 
+/// Reads digits and short runs from a place of a row of `width` places on, and brings the place behind them;
+/// gives the symbol that comes next, if the row goes on and there is one.
+fn next_symbol(codes: &mut Codes, x: &mut usize, width: usize, places: &mut [u8]) -> Option<Symbol>
+    requires reading { IsReading codes.old }
+    requires room { HasRoom width places.old x.old }
+    ensures len { length places.new ≡ length places.old }
+    ensures advanced { Advanced codes.old codes.new }
+    ensures place { x.new ≤ width }
+    ensures end { result ≡ None → x.new < width → codes.new.at ≡ length codes.new.bytes.now }
+    ensures some { IfSome result (λ s. (x.new < width) × (codes.old.at < codes.new.at) × SmallSymbol s) }
+    ensures reached { (all : List Spelled) (start : ℕ) →
+        Reached width all start places.old x.old (symbols_from codes.old.bytes.now codes.old.at) codes.old.at
+        → ReachedNext width all start places.new x.new codes.new result }
+{
+    *x = codes.short_runs(*x, width, places);
+    if *x == width {
+        return None;
+    }
+    let Some(first) = codes.next() else {
+        return None;
+    };
+    Some(symbol_of(codes, first))
+}
+
 /// The rest of a row, from a place on, by the codes.
 fn read_on(
     codes: &mut Codes,
@@ -133,27 +125,20 @@ fn read_on(
     ensures len { length row.new ≡ length row.old }
     ensures places { length places.new ≡ length places.old }
     ensures advanced { Advanced codes.old codes.new }
-    ensures answer { (all : List Spelled) (start : ℕ) →
-        Reached (2 * length row.old) all start places.old from
-        (symbols_from codes.old.bytes.now codes.old.at) codes.old.at
-        → is_err result ≡ is_unreadable (shown_at (2 * length row.old) 0 all (2 * length row.old - 1)) }
-    ensures decoded { (s : Spot) →
+    ensures read { (s : Spot) →
         Reached (2 * length row.old) (symbols_at RunLength codes.old.bytes.now s) s.at places.old from
         (symbols_from codes.old.bytes.now codes.old.at) codes.old.at
-        → IfOk result (λ end. Decoded (2 * length row.old) RunLength codes.old.bytes.now s end
-        (record { left = end.left; digit = end.digit; at = codes.new.at }) row.old row.new) }
+        → RowRead (2 * length row.old) RunLength codes.old.bytes.now s result codes.new.at row.old row.new }
 {
     let width = 2 * row.len();
     let mut x = from;
     loop {
-        let hand;
-        (x, hand) = read_short(codes, x, width, places);
-        let Some(b) = hand else {
+        let Some(symbol) = next_symbol(codes, &mut x, width, places) else {
             fill(x, width, 0, places);
             pack_filled(x, 0, places, row);
             return Ok(ended(0, 0));
         };
-        match symbol_of(codes, b) {
+        match symbol {
             Symbol::Digits(n, v) => {
                 let to = end_of_run(x, n, width);
                 fill(x, to, v, places);
@@ -169,7 +154,8 @@ fn read_on(
                 return Ok(ended(0, 0));
             }
             Symbol::Again if x == 0 => return Ok(repeated()),
-            Symbol::Again | Symbol::Refused => return Err(Fault::Graphic),
+            Symbol::Again => return Err(Fault::Graphic),
+            Symbol::Refused => return Err(Fault::Graphic),
         }
     }
 }
@@ -190,12 +176,8 @@ fn decode(
     ensures len { length row.new ≡ length row.old }
     ensures places { length places.new ≡ length places.old }
     ensures advanced { Advanced codes.old codes.new }
-    ensures answer { is_err result ≡ is_unreadable (shown_at (2 * length row.old) 0
-        (symbols_at RunLength codes.old.bytes.now (record { left = left; digit = digit; at = codes.old.at }))
-        (2 * length row.old - 1)) }
-    ensures decoded { IfOk result (λ end. Decoded (2 * length row.old) RunLength codes.old.bytes.now
-        (record { left = left; digit = digit; at = codes.old.at }) end
-        (record { left = end.left; digit = end.digit; at = codes.new.at }) row.old row.new) }
+    ensures read { RowRead (2 * length row.old) RunLength codes.old.bytes.now
+        (record { left = left; digit = digit; at = codes.old.at }) result codes.new.at row.old row.new }
 {
     if left == 0 {
         if codes.plain_row(row) {
@@ -222,9 +204,6 @@ fn copy(codes: &mut Codes, row: &mut [u8]) -> RowEnd
     ensures decoded { Decoded (2 * length row.old) Binary codes.old.bytes.now
         (record { left = 0; digit = 0; at = codes.old.at }) result
         (record { left = 0; digit = 0; at = codes.new.at }) row.old row.new }
-    ensures taken { (j : ℕ) → is_unreadable (shown_at (2 * length row.old) 0
-        (symbols_at Binary codes.old.bytes.now (record { left = 0; digit = 0; at = codes.old.at })) j)
-        ≡ false }
 {
     let part = codes.up_to(row.len());
     row.fill(0);
@@ -253,10 +232,7 @@ pub fn next_row(
     ensures len { length row.new ≡ length row.old }
     ensures places { length places.new ≡ length places.old }
     ensures advanced { Advanced codes.old codes.new }
-    ensures answer { is_err result
-        ≡ is_unreadable (shown_at (2 * n) 0 (symbols_at coding codes.old.bytes.now spot) (2 * n - 1)) }
-    ensures decoded { IfOk result (λ end. Decoded (2 * n) coding codes.old.bytes.now spot end
-        (record { left = end.left; digit = end.digit; at = codes.new.at }) row.old row.new) }
+    ensures read { RowRead (2 * n) coding codes.old.bytes.now spot result codes.new.at row.old row.new }
 {
     let front = &mut row[..n];
     match coding {

@@ -1,7 +1,7 @@
 //! Digits with the counts before them, and the short ones of them in a row.
 ghost use Rattle.std.specs.Prelude.{◌≡◌, ℕ, ◌+◌, ◌-◌, ◌∷◌, ◌<◌, ◌≤◌, List, length};
-ghost use Rattle.vp_format.specs.Codes.{Spelled, spelled};
-ghost use Rattle.vp_format.specs.Cursors.{symbols_from, Reached};
+ghost use Rattle.vp_format.specs.Codes.{spelled};
+ghost use Rattle.vp_format.specs.Cursors.{symbols_from, HasRoom, ReadsOn};
 ghost use Rattle.vp_format.specs.declared.codes.Symbol.TheVariants.{Digits};
 
 use crate::codes::{count_value, digit_value};
@@ -84,17 +84,8 @@ pub fn short_runs(
     places: &mut [u8],
 ) -> (usize, usize)
     requires first { first ≤ length bytes.now }
-    requires from { from ≤ width }
-    requires short { width ≤ 2048 }
-    requires room { width + SHORT ≤ length places.old }
-    ensures len { length places.new ≡ length places.old }
-    ensures after { from ≤ result.0 }
-    ensures place { result.0 ≤ width }
-    ensures behind { first ≤ result.1 }
-    ensures inside { result.1 ≤ length bytes.now }
-    ensures reached { (all : List Spelled) (start : ℕ) →
-        Reached width all start places.old from (symbols_from bytes.now first) first
-        → Reached width all start places.new result.0 (symbols_from bytes.now result.1) result.1 }
+    requires room { HasRoom width places.old from }
+    ensures { ReadsOn width bytes.now places.old from first places.new result.0 result.1 }
 {
     let mut x = from;
     let mut at = first;

@@ -1,4 +1,5 @@
-use Rattle.std.proofs.Common.{refl, arith}
+use Rattle.std.proofs.Common.{refl, ◌∙◌, arith}
+use Rattle.vp_format.proofs.Quick.{one_most}
 use Rattle.vp_format.proofs.Put.{put_all}
 use Rattle.vp_format.proofs.counted.put_counted.Goals as goal
 
@@ -6,16 +7,21 @@ pub fill_sixteen-x-requires-clause-runs : goal.fill_sixteen-x-requires-clause-ru
 fill_sixteen-x-requires-clause-runs c = c.if-not-are_runs.ensures refl
 
 pub fill_sixteen-x-requires-clause-room : goal.fill_sixteen-x-requires-clause-room
-fill_sixteen-x-requires-clause-room c = omega (arith, c.places_added.ensures.added (c.if-not-are_runs.ensures refl), c.requires.room)
+fill_sixteen-x-requires-clause-room c = omega (arith, c.places_added.ensures.added (c.if-not-are_runs.ensures refl))
 
 pub fill_sixteen-x-requires-clause-short : goal.fill_sixteen-x-requires-clause-short
-fill_sixteen-x-requires-clause-short c = omega (arith, c.places_added.ensures.added (c.if-not-are_runs.ensures refl), c.requires.short)
+fill_sixteen-x-requires-clause-short c = omega (arith, c.places_added.ensures.added (c.if-not-are_runs.ensures refl))
 
-pub returns-clause-place : goal.returns-clause-place
-returns-clause-place c = omega (arith, c.places_added.ensures.added (c.if-not-are_runs.ensures refl), c.fill_sixteen-x.ensures.place)
-
-pub returns-clause-reached : goal.returns-clause-reached
-returns-clause-reached c all start r =
+pub returns : goal.returns
+returns c =
     let runs = c.if-not-are_runs.ensures refl in
-    put_all c.args.width all start c.fill_sixteen-x.new.places c.fill_short.new.places c.args.from c.args.bytes.now c.args.at c.fill_sixteen-x.result c.from-more.result _ (omega arith) (λ i. (c.type_inv.bytes i).fits) runs c.digit_value.ensures c.fill_sixteen-x.ensures.place c.from-more.ensures
-    c.fill_short.ensures.filled (c.fill_sixteen-x.ensures.put c.args.width all start r)
+    record {
+      len = c.fill_short.ensures.len ∙ c.fill_sixteen-x.ensures.len;
+      after = omega (arith, c.fill_sixteen-x.ensures.place);
+      place = omega (arith, c.places_added.ensures.added runs, c.fill_sixteen-x.ensures.place);
+      behind = omega arith;
+      inside = omega (arith, one_most _ _ c.from-more.ensures);
+      reached = λ all start r.
+          put_all c.args.width all start c.fill_sixteen-x.new.places c.fill_short.new.places c.args.from c.args.bytes.now c.args.at c.fill_sixteen-x.result c.from-more.result _ (omega arith) (λ i. (c.type_inv.bytes i).fits) runs c.digit_value.ensures c.fill_sixteen-x.ensures.place c.from-more.ensures
+          c.fill_short.ensures.filled (c.fill_sixteen-x.ensures.put c.args.width all start r);
+    }

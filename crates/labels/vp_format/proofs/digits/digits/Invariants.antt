@@ -1,18 +1,10 @@
-use Rattle.std.proofs.Common.{◌≡◌, ℕ, ◌-◌, ◌≤◌, List, length}
-use Rattle.vp_format.specs.Codes.{Spelled}
-use Rattle.vp_format.specs.Cursors.{symbols_from, Reached}
+use Rattle.std.proofs.Common.{◌-◌, length}
+use Rattle.vp_format.specs.Cursors.{ReadsOn}
 use Rattle.vp_format.proofs.digits.digits.Given as goal
 
 -- the places hold the digits so far
 abbrev pub invariant-loop-x : goal.invariant-loop-x
-invariant-loop-x l = record {
-  len : length l.places ≡ length l.fn.places;
-  after : l.from ≤ l.x;
-  place : l.x ≤ l.width;
-  behind : l.first ≤ l.at;
-  inside : l.at ≤ length l.bytes;
-  reached : (all : List Spelled) (start : ℕ) → Reached l.width all start l.fn.places l.from (symbols_from l.bytes l.first) l.first → Reached l.width all start l.places l.x (symbols_from l.bytes l.at) l.at;
-}
+invariant-loop-x l = ReadsOn l.width l.bytes l.fn.places l.from l.first l.places l.x l.at
 
 abbrev pub decreases-loop-x : goal.decreases-loop-x
 decreases-loop-x l = length l.bytes - l.at

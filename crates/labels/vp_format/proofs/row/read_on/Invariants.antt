@@ -4,8 +4,8 @@ use Rattle.vp_format.specs.Cursors.{Advanced, Reached, symbols_from}
 use Rattle.vp_format.proofs.row.read_on.Given as goal
 
 -- the places are right before place x, where the codes that are left start
-abbrev pub invariant-loop-b : goal.invariant-loop-b
-invariant-loop-b l = record {
+abbrev pub invariant-loop-symbol : goal.invariant-loop-symbol
+invariant-loop-symbol l = record {
   advanced : Advanced l.fn.codes l.codes;
   len : length l.places ≡ length l.fn.places;
   row : l.row ≡ l.fn.row;
@@ -14,5 +14,5 @@ invariant-loop-b l = record {
       → Reached (2 * length l.fn.row) all start l.places l.x (symbols_from l.codes.bytes.now l.codes.at) l.codes.at;
 }
 
-abbrev pub decreases-loop-b : goal.decreases-loop-b
-decreases-loop-b l = length l.codes.bytes.now - l.codes.at
+abbrev pub decreases-loop-symbol : goal.decreases-loop-symbol
+decreases-loop-symbol l = length l.codes.bytes.now - l.codes.at

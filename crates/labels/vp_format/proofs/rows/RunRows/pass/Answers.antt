@@ -5,7 +5,7 @@ use Rattle.vp_format.specs.declared.rows.RunRows.TheInside.{Inside}
 use Rattle.vp_format.specs.Pictures.{Cursor, answer, is_refused, row_after}
 use Rattle.vp_format.specs.Cursors.{picture_of, is_white, Even}
 use Rattle.vp_format.proofs.Even.{even_taken, even_cursor}
-use Rattle.vp_format.proofs.Marks.{marked_refusal, answer_refused, next_cursor, stopped_cursor}
+use Rattle.vp_format.proofs.Marks.{marked_refusal, decoded_taken, answer_refused, next_cursor, stopped_cursor}
 use Rattle.vp_format.proofs.PassedRows.{spelled_passed}
 use Rattle.vp_format.proofs.rows.RunRows.pass.Goals as goal
 
@@ -37,13 +37,13 @@ pub invariant_of-self-in_default : goal.invariant_of-self-in_default
 invariant_of-self-in_default c =
     let i = c.self.inside in
     let n : Inside = record { codes = c.next_row.new.codes; coding = i.coding; row_bytes = i.row_bytes; rows = i.rows; first = i.first; mark = i.mark; row = c.next_row.new.row; places = c.next_row.new.places; refused = true; passed = i.passed } in
-    stopped_cursor i n c.self.invariant c.if-self.false refl c.next_row.ensures.advanced (sym c.in_default.ensures.answer) refl refl refl refl refl refl
+    stopped_cursor i n c.self.invariant c.if-self.false refl c.next_row.ensures.advanced c.in_default.ensures.read refl refl refl refl refl refl
 
 pub returns-in_default-clause-fault : goal.returns-in_default-clause-fault
 returns-in_default-clause-fault c =
     let i = c.self.inside in
     let p = picture_of i in
-    let no = marked_refusal p i.mark c.self.invariant.mark ∙ sym c.in_default.ensures.answer in
+    let no = marked_refusal p i.mark c.self.invariant.mark ∙ c.in_default.ensures.read in
     let here : Cursor = record { picture = p; first = i.first; next = i.mark.next } in
     let low : i.mark.next < i.rows = omega (arith, c.requires.some, c.requires.rows, ap (λ (v : Cursor). v.next) c.self.view_is, ap (λ (v : Cursor). v.picture.rows) c.self.view_is) in
     let told = answer_refused p i.mark.next low no in (
@@ -64,13 +64,13 @@ invariant_of-self-2 c =
     let here = behind.ensures.here ∙ ap (λ (at : ℕ). let s : Spot = record { left = c.in-Ok.end.left; digit = c.in-Ok.end.digit; at = at } in s) c.at.ensures in
     let none = c.even_rows-rows.ensures.none (omega arith) c.requires.some in
     let more = subst (λ (k : ℕ). is_white k i.mark.here ≡ false) c.len.ensures none.1 in
-    next_cursor i n c.in-Ok.end inv going going read c.in-Ok.ensures.decoded refl refl refl refl behind.ensures.next here behind.ensures.before
-    (spelled_passed i n c.in-Ok.end inv going read c.in-Ok.ensures.decoded refl refl refl refl behind.ensures.next here refl none.0 more)
+    next_cursor i n c.in-Ok.end inv going going read c.in-Ok.ensures.read refl refl refl refl behind.ensures.next here behind.ensures.before
+    (spelled_passed i n c.in-Ok.end inv going read c.in-Ok.ensures.read refl refl refl refl behind.ensures.next here refl none.0 more)
 
 pub returns-clause-taken : goal.returns-clause-taken
 returns-clause-taken c =
     let i = c.self.inside in
     let p = picture_of i in
-    let good = marked_refusal p i.mark c.self.invariant.mark ∙ sym c.in-Ok.ensures.answer in
+    let good = marked_refusal p i.mark c.self.invariant.mark ∙ decoded_taken _ _ _ _ _ _ _ _ (omega (arith, c.self.invariant.some)) c.in-Ok.ensures.read in
     subst (λ (q : Cursor). (y : ℕ) → q.next ≤ y → y < q.next + 1 → is_refused q.picture y ≡ false) c.self.view_is
     (λ y from to. ap (is_refused p) (let e : y ≡ i.mark.next = omega arith in e) ∙ good)
