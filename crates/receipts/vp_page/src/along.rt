@@ -6,26 +6,38 @@ ghost use Rattle.vp_dots.specs.Painting.{Painted};
 ghost use Rattle.vp_dots.specs.Places.{RowsPainted};
 ghost use Rattle.vp_dots.specs.Words.{word_dot};
 ghost use Rattle.vp_dots.specs.declared.Op.TheVariants.{Black};
-ghost use Rattle.vp_page.specs.declared.line.TheConstants.{LINE_BYTES};
+ghost use Rattle.vp_page.specs.declared.line.TheConstants.{LINE_BYTES, LINE_DOTS};
 ghost use Rattle.vp_page.specs.declared.page.TheConstants.{PAGE_ROWS, PAPER_BYTES, PAPER_DOTS};
 
 use crate::Area;
 use crate::line::{LINE_BYTES, lengthened, same_lines};
 use crate::page::{PAGE_ROWS, PAPER_BYTES, PageBand};
 use crate::words::{or_bytes, or_eight, or_reversed, or_sixteens, or_words};
-use vp_dots::{Op, Small, fill_dots, reversed_at, word_at};
+use vp_dots::{Op, Small, eight_at, fill_dots, reversed_at, word_at};
+
+/// The 64 dots from one of a line's dots on that isn't near its end.
+// Where a row of the page reaches no test is needed for the end.
+#[inline(always)]
+fn word_inside(line: &[u8; LINE_BYTES], from: usize) -> u64
+    requires { from + 72 ≤ LINE_DOTS }
+    ensures { (x : ℕ) → x < 64 → word_dot result x ≡ dot line.now (from + x) }
+{
+    let i = from / 8;
+    let s = from % 8;
+    (eight_at(line, i) << s) | (u64::from(line[i + 8]) >> (8 - s))
+}
 
 /// The 64 dots from place `at` on of a line that begins at place `far`.
 #[inline(always)]
 fn word_right(line: &[u8; LINE_BYTES], far: usize, at: usize) -> u64
-    requires { at < 2 ^ 32 }
+    requires { at + 72 ≤ LINE_DOTS }
     ensures { (x : ℕ) → x < 64 → word_dot result x ≡ (nat_le far (at + x) && dot line.now (at + x - far)) }
 {
     if at >= far {
-        return word_at(line, at - far);
+        return word_inside(line, at - far);
     }
     if far - at < 64 {
-        return word_at(line, 0) >> (far - at);
+        return eight_at(line, 0) >> (far - at);
     }
     0
 }
@@ -71,6 +83,7 @@ fn is_whole(begin: usize, long: usize) -> bool
 
 /// The row of the page along which the first dots of a line are laid from a place on. Of its words those are
 /// made that the dots reach: as they stand in the line where they are whole there.
+#[inline(always)]
 fn row_right(line: &[u8; LINE_BYTES], begin: usize, long: usize) -> [u8; PAPER_BYTES]
     requires { begin + long < 2 ^ 32 }
     ensures { (x : ℕ) → x < PAPER_DOTS → dot result x ≡
@@ -100,6 +113,7 @@ fn row_right(line: &[u8; LINE_BYTES], begin: usize, long: usize) -> [u8; PAPER_B
 }
 
 /// The row of the page as `row_right` makes it, with the dots in the other order: the line runs to the left.
+#[inline(always)]
 fn row_left(line: &[u8; LINE_BYTES], begin: usize, long: usize) -> [u8; PAPER_BYTES]
     requires { begin + long < 2 ^ 31 }
     ensures { (x : ℕ) → x < PAPER_DOTS → dot result x ≡
