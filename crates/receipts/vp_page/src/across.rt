@@ -171,28 +171,32 @@ fn keep_line(line: &[u8; LINE_BYTES], all: &mut [u8])
     }
 }
 
-/// A row that is black where some line is white.
+/// A row that is black where some line is white. The last line comes first: mostly it was written last.
 fn some_white(lines: &[[u8; LINE_BYTES]]) -> [u8; LINE_BYTES]
     ensures { (i u : ℕ) → i < length lines.now → u < LINE_DOTS → dot result u ≡ false →
         line_dot lines.now i u ≡ true }
 {
     let mut all = [255; LINE_BYTES];
-    for i in 0..lines.len() {
-        keep_line(&lines[i], &mut all);
+    let mut n = lines.len();
+    while n > 0 {
+        n -= 1;
+        keep_line(&lines[n], &mut all);
     }
     let mut some = [0; LINE_BYTES];
     or_unlike(&all, true, &mut some);
     some
 }
 
-/// A row that is black where some line is.
+/// A row that is black where some line is, looked at as `some_white` does.
 fn some_black(lines: &[[u8; LINE_BYTES]]) -> [u8; LINE_BYTES]
     ensures { (i u : ℕ) → i < length lines.now → u < LINE_DOTS → dot result u ≡ false →
         line_dot lines.now i u ≡ false }
 {
     let mut some = [0; LINE_BYTES];
-    for i in 0..lines.len() {
-        or_sixteens(&lines[i], 0, LINE_BYTES / 16, &mut some);
+    let mut n = lines.len();
+    while n > 0 {
+        n -= 1;
+        or_sixteens(&lines[n], 0, LINE_BYTES / 16, &mut some);
     }
     some
 }

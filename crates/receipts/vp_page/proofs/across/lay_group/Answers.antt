@@ -1,4 +1,4 @@
-use Rattle.std.proofs.Common.{◌≡◌, ◌<◌, ◌≤◌, ◌+◌, ◌-◌, ◌*◌, min, arith}
+use Rattle.std.proofs.Common.{◌≡◌, ◌<◌, ◌+◌, ◌*◌, min, arith}
 use Rattle.vp_page.specs.Runs.{along_of, lines_across}
 use Rattle.vp_page.proofs.Columns.{no_stretch, part_on_page}
 use Rattle.vp_page.proofs.Rows.{rows_then}

@@ -1,12 +1,11 @@
-use Rattle.std.proofs.Common.{◌≡◌, ◌+◌, ◌-◌, ◌*◌, ◌<◌, ◌&&◌, leb, ltb, ap, sym, length, take, drop, arith}
+use Rattle.std.proofs.Common.{◌≡◌, ◌+◌, ◌-◌, ◌*◌, ◌<◌, ◌&&◌, leb, ltb, ap, length, arith}
 use Rattle.std.proofs.lemmas.Bool.{le-ltb}
 use Rattle.vp_dots.specs.Dots.{span}
 use Rattle.vp_dots.specs.declared.Op.TheVariants.{Black}
 use Rattle.vp_page.specs.Areas.{holds}
 use Rattle.vp_page.specs.Lines.{line_dot}
-use Rattle.vp_page.specs.Runs.{along_of, depth_of, lines_across}
+use Rattle.vp_page.specs.Runs.{along_of, depth_of}
 use Rattle.vp_page.proofs.Rows.{rows_same, rows_then}
-use Rattle.vp_page.proofs.RunRows.{stretch_more}
 use Rattle.vp_page.proofs.Squares.{nothing_painted}
 use Rattle.vp_page.proofs.Stretches.{group_right, more_in, groups_right, no_group}
 use Rattle.vp_page.proofs.across.lay_squares.Goals as goal

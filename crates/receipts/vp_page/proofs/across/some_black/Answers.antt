@@ -1,24 +1,24 @@
-use Rattle.std.proofs.Common.{inl, inr, ◌≡◌, ◌∙◌, refl, sym, arith}
+use Rattle.std.proofs.Common.{inl, inr, ◌≡◌, ◌∙◌, ◌-◌, refl, sym, arith}
 use Rattle.std.proofs.lemmas.Bool.{cases_lt, lt-ltb}
 use Rattle.vp_page.proofs.Alike.{black_none, within_all}
 use Rattle.vp_page.proofs.across.some_black.Goals as goal
 
-pub loop-i-init : goal.loop-i-init
-loop-i-init c = record { count = refl; white = λ i u h l e. absurd (omega arith) }
+pub loop-n-init : goal.loop-n-init
+loop-n-init c = record { within = omega arith; count = refl; white = λ i u h g l e. absurd (omega (arith, h, g)) }
 
-pub loop-i-preserved : goal.loop-i-preserved
-loop-i-preserved c =
-    let k = c.loop-i.i in
+pub loop-n-preserved : goal.loop-n-preserved
+loop-n-preserved c =
     let p = c.or_sixteens.ensures in
     record {
-      count = p.length_is ∙ c.loop-i.invariant.count;
-      white = λ i u h l e.
-          let none = black_none _ _ (sym (p.dots_are u (omega (arith, c.loop-i.invariant.count))) ∙ e) in
-          elim (cases_lt i k) [
-            | inl m ↦ c.loop-i.invariant.white i u m l none.1
-            | inr n ↦ (let this : i ≡ k = omega arith in rw (this, lt-ltb u 1664 l) (sym (within_all u _ l) ∙ none.0))
+      within = omega (arith, c.loop-n.invariant.within);
+      count = p.length_is ∙ c.loop-n.invariant.count;
+      white = λ i u h g l e.
+          let none = black_none _ _ (sym (p.dots_are u (omega (arith, c.loop-n.invariant.count))) ∙ e) in
+          elim (cases_lt i c.loop-n.n) [
+            | inl m ↦ (let this : i ≡ c.loop-n.n - 1 = omega (arith, m, h) in rw (this, lt-ltb u 1664 l) (sym (within_all u _ l) ∙ none.0))
+            | inr n ↦ c.loop-n.invariant.white i u n g l none.1
           ];
     }
 
 pub returns : goal.returns
-returns c = λ i u h l e. c.loop-i.invariant.white i u (omega arith) l e
+returns c = λ i u h l e. c.loop-n.invariant.white i u (omega arith) h l e
