@@ -188,8 +188,8 @@ impl Bars {
     }
 }
 
-/// The first and the last of the rows around row y of a box that are known to have its dots, as the rows of bars
-/// have: of any symbol whose text stands at `place` in `font`, and whose bars are `height` dots high.
+/// The first and the last of the rows around row y of a box that are known to have its dots, as the rows of
+/// bars have: of any symbol whose text stands at `place` in `font`, and whose bars are `height` dots high.
 pub fn alike_rows(place: HriPosition, font: Font, height: u16, y: u32) -> (u32, u32)
     ensures first { result.0 ≤ y }
     ensures last { y ≤ result.1 }
