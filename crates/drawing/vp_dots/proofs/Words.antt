@@ -49,9 +49,6 @@ high_first zero n j h = absurd (omega arith)
 high_first (suc m) n zero h = ap (λ x. byte_at x n) (omega arith)
 high_first (suc m) n (suc j) h = high_first m n j (omega arith) ∙ ap (λ x. byte_at x n) (omega arith)
 
-pub byte_fits : (n j : ℕ) → j < 8 → get_or (to_be_bytes w64 n) j 0 < 2 ^ 8
-byte_fits n j h = let e : get_or (to_be_bytes w64 n) j 0 ≡ n / 2 ^ (8 * (7 - j)) % 256 = high_first 8 n j h ∙ byte_is (7 - j) n in omega arith
-
 -- bit k of byte j of a word
 pub word_byte : (n j k : ℕ) → j < 8 → k < 8 → bit (get_or (to_be_bytes w64 n) j 0) k ≡ bit n (63 - (8 * j + (7 - k)))
 word_byte n j k p h = ap (λ x. bit x k) (high_first 8 n j p ∙ byte_is (7 - j) n) ∙ bit_low (n / 2 ^ (8 * (7 - j))) k h ∙ bit_shr n (8 * (7 - j)) k ∙ ap (bit n) (omega arith)

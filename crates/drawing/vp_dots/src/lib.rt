@@ -102,8 +102,8 @@ pub trait Ink {
         }
     }
 
-    /// The first and the last of the lines around line y that are known to show what it shows, so that what was
-    /// drawn for one of them serves for all.
+    /// The first and the last of the lines around line y that are known to show what it shows, so that what
+    /// was drawn for one of them serves for all.
     fn alike(&self, y: u32) -> (u32, u32)
         ensures first { result.0 ≤ y }
         ensures last { y ≤ result.1 }

@@ -155,9 +155,6 @@ module _ (f : ℕ → ℕ → Bool) where
   abbrev pub Grown : ℕ → List ℕ → List ℕ → Type 0
   Grown s old new = (r d : ℕ) → r < 24 → d < 32 → half_dot (get_or new r 0) d ≡ (half_dot (get_or old r 0) d || ltb r s && f r d)
 
-  pub grown_none : (old : List ℕ) → Grown 0 old old
-  grown_none old r d l m = or_false _ ∙ ap (λ t. half_dot (get_or old r 0) d || t) (sym (ap (λ t. t && f r d) (le-ltb r 0 (omega arith))))
-
   pub grown_more : (s word : ℕ) (old mid : List ℕ) → s < length mid → ((d : ℕ) → d < 32 → half_dot word d ≡ f s d) → Grown s old mid → Grown (s + 1) old (set mid s (bit_or (get_or mid s 0) word))
   grown_more s word old mid k h o r d l m = elim (cases_eq r s) [
     | inl y ↦
@@ -188,9 +185,6 @@ front_white at f row word x l e p = e ∙ p.dots_are x l ∙ ap (paint Black (sh
 pub record Blackened (ink from to : ℕ) (old new : List ℕ) : Type 0 where
   pub inside : (i x : ℕ) → from ≤ i → i < to → half_dot (get_or new i 0) x ≡ (half_dot (get_or old i 0) x || half_dot ink x)
   pub outside : (i : ℕ) → span from to i ≡ false → get_or new i 0 ≡ get_or old i 0
-
-pub blackened_none : (ink from : ℕ) (old : List ℕ) → Blackened ink from from old old
-blackened_none ink from old = record { inside = λ i x l h. absurd (omega arith); outside = λ i e. refl }
 
 pub blackened_more : (ink from i : ℕ) (old mid : List ℕ) → from ≤ i → i < length mid → Blackened ink from i old mid → Blackened ink from (i + 1) old (set mid i (bit_or (get_or mid i 0) ink))
 blackened_more ink from i old mid l m b = record {
@@ -330,24 +324,6 @@ groups_black ink from to first last i x groups grown old one new m e f p q r =
     ap (λ t. t || half_dot (get_or grown (i / 16) 0) x) (black_is ink (to - 16) to i x one new r ∙ ap (λ t. t || span (to - 16) to i && half_dot ink x) (black_is ink from (from + 16) i x old one p))
     ∙ ap (λ t. half_dot (get_or old i 0) x || span from (from + 16) i && half_dot ink x || span (to - 16) to i && half_dot ink x || t) (black_is ink first last (i / 16) x groups grown q)
     ∙ one_ink (half_dot (get_or old i 0) x) (half_dot (get_or groups (i / 16) 0) x) (half_dot ink x) (span from (from + 16) i) (span (to - 16) to i) (span first last (i / 16)) (span from to i) (ends_all from to first last i m e f)
-
--- and where each of them was alone
-pub each_black : (ink from to i x : ℕ) (groups old new : List ℕ) → Blackened ink from to old new
-    → (half_dot (get_or new i 0) x || half_dot (get_or groups (i / 16) 0) x) ≡ ((half_dot (get_or old i 0) x || half_dot (get_or groups (i / 16) 0) x) || span from to i && half_dot ink x)
-each_black ink from to i x groups old new p = elim (cases_lt i from) [
-  | inl y ↦ ap (λ v. half_dot v x || half_dot (get_or groups (i / 16) 0) x) (p.outside i (rw (lt-leb from i y) refl)) ∙ rw (lt-leb from i y) (or_false _)
-  | inr y ↦ elim (cases_lt i to) [
-    | inl z ↦ ap (λ t. t || half_dot (get_or groups (i / 16) 0) x) (p.inside i x y z) ∙ rw (le-leb from i y, lt-ltb i to z) (swap (half_dot (get_or old i 0) x) (half_dot ink x) (half_dot (get_or groups (i / 16) 0) x))
-    | inr z ↦ ap (λ v. half_dot v x || half_dot (get_or groups (i / 16) 0) x) (p.outside i (rw (le-leb from i y, le-ltb i to z) refl)) ∙ rw (le-leb from i y, le-ltb i to z) (or_false _)
-  ]
-]
-  where
-    swap : (a b c : Bool) → (a || b || c) ≡ ((a || c) || b)
-    swap true b c = refl
-    swap false true true = refl
-    swap false true false = refl
-    swap false false true = refl
-    swap false false false = refl
 
 -- a white front, of groups that are white
 pub no_front : (n : ℕ) (old : List ℕ) (i x : ℕ) → get_or old i 0 ≡ 0 → (half_dot (get_or old i 0) x || half_dot (get_or (replicate {A = ℕ} n 0) (i / 16) 0) x) ≡ false

@@ -30,10 +30,6 @@ shown_of sheets stored (Ok content) s e =
     same r at is = subst (λ (t : SizedContent). (r ≡ Ok t.content) × (t ≡ sized sheets stored t.content)) is (at, refl)
 shown_of sheets stored (Err why) s e = absurd (cc)
 
-pub refused_of : (sheets : Sheets) (stored : List ℕ) (r : Result Content Fault) (why : Fault) → sized_if sheets stored r ≡ Err why → r ≡ Err why
-refused_of sheets stored (Ok content) why e = absurd (cc)
-refused_of sheets stored (Err other) why e = cc
-
 abbrev pub field : ℤ → ℤ → ℕ → Orientation → Op → Content → Field
 field left top rows o op content =
     record { left = left; top = top; rows = rows; orientation = o; op = op; content = content }

@@ -1,12 +1,12 @@
 -- Lines next to each other that show the same.
-use Rattle.std.proofs.Common.{inl, inr, ◌≡◌, ℕ, ◌+◌, ◌-◌, ◌<◌, ◌≤◌, Bool, false, ltb, ◌&&◌, List, refl, sym, ap, ◌∙◌, arith, ℤ, pos, negsuc}
+use Rattle.std.proofs.Common.{inl, inr, ◌≡◌, ℕ, ◌+◌, ◌-◌, ◌<◌, ◌≤◌, Bool, ltb, ◌&&◌, List, refl, sym, ap, ◌∙◌, arith, ℤ, pos, negsuc}
 use Rattle.std.proofs.lemmas.Bool.{cases_lt}
 use Rattle.std.proofs.lemmas.Bool.Decides.{nat_tests}
 use Rattle.std.proofs.lemmas.Int.{ints}
 use Rattle.vp_dots.specs.Dots.{span}
 use Rattle.vp_dots.specs.Places.{RowsPainted}
 use Rattle.vp_dots.specs.declared.Op.{Op}
-use Rattle.vp_dots.proofs.Heights.{rows_same, rows_then}
+use Rattle.vp_dots.proofs.Heights.{rows_then}
 use Rattle.vp_field.specs.declared.axis.Axis.TheVariants.{Forward, Back}
 use Rattle.vp_field.specs.Places.{at_place}
 use Rattle.vp_field.specs.Axes.{dot_on}
@@ -31,17 +31,6 @@ module _ (op : Op) (f : ℕ → ℕ → Bool) (g : ℕ → Bool) (y n : ℕ) (e 
         ]
       ])
       (λ x k. grind (arith, nat_tests)) p q
-
-  -- rows that show none
-  pub rows_passed : (a b : List (List ℕ)) → ((x : ℕ) → g x ≡ false) → RowsPainted 32 op (λ x k. ltb k y && f x k) a b → RowsPainted 32 op (λ x k. ltb k (y + n) && f x k) a b
-  rows_passed a b w p = rows_same 32 op _ _ _ _
-      (λ x k _. elim (cases_lt k y) [
-        | inl b ↦ grind (arith, nat_tests)
-        | inr a ↦ elim (cases_lt k (y + n)) [
-          | inl i ↦ (let z : f x k ≡ false = e x k a i ∙ w x in grind (arith, nat_tests))
-          | inr o ↦ grind (arith, nat_tests)
-        ]
-      ]) p
 
 -- places that show lines like that on the first
 pub run_forward : (at : ℤ) (v first last : ℕ) → first ≤ v → (line : ℕ → Bool) (p : ℕ) → dot_on (Forward at) (pos p) ≡ pos v

@@ -1,5 +1,5 @@
 -- Listings: how many lines there are, and what a session's answer says of them.
-use Rattle.std.proofs.Common.{◌≡◌, ℕ, List, [], ◌∷◌, ◌++◌, length, reverse, Option, Ok, Err, inl, inr, ◌⊎◌, ap, ◌∙◌, arith, length-append}
+use Rattle.std.proofs.Common.{◌≡◌, ℕ, List, [], ◌++◌, length, reverse, Option, Ok, Err, inl, inr, ◌⊎◌, ap, ◌∙◌, arith, length-append}
 use Rattle.std.proofs.lemmas.List.{length-reverse}
 use Rattle.vp_dots.specs.declared.fault.Fault.{Fault}
 use Rattle.vp_engine.specs.declared.session.Report.{Report}
@@ -13,9 +13,6 @@ use Rattle.vp_engine.specs.Session.{Desk, IsFirstFault, IsEnding, HasEnded, IsAn
 use Rattle.vp_engine.specs.Setups.{Setup, Item, rules_of}
 use Rattle.vp_engine.proofs.Desks.{written_front}
 use Rattle.vp_engine.proofs.Faults.{before_whole, none_first}
-
-pub one_line_more : {Item : Type 0} (old new : ℕ) (before : List Item) (item : Item) → old ≡ counted (length before) → new ≡ grown old 1 → new ≡ counted (length (item ∷ before))
-one_line_more old new before item e f = omega (arith, e, f)
 
 pub lines_more : {Item : Type 0} (old new n : ℕ) (before added : List Item) → old ≡ counted (length before) → new ≡ grown old n → length added ≡ n → new ≡ counted (length (reverse added ++ before))
 lines_more old new n before added e f l = omega (arith, e, f, l, length-append (reverse added) before, length-reverse added)

@@ -163,17 +163,6 @@ clipped_left begin long words k x b more all h = elim (cases_lt x begin) [
   ])
 ]
 
--- the last eight bytes of a row
-pub row_last : (d : ℕ) (b : Bool) → d < 576 → b ≡ ((span 0 (0 + 16 * 4) (d / 8) && b) || (leb (8 * 64) d && (ltb (d - 8 * 64) 64 && b)))
-row_last d true h = grind (arith, nat_tests)
-row_last d false h = grind (arith, nat_tests)
-
-pub last_apart : (d : ℕ) (a b : Bool) → ((span 0 (0 + 16 * 4) (d / 8) && a) && (leb (8 * 64) d && b)) ≡ false
-last_apart d a b = elim (cases_lt d 512) [
-  | inl l ↦ rw (lt-leb (8 * 64) d (omega arith)) (and_false _)
-  | inr g ↦ rw (le-ltb (d / 8) (0 + 16 * 4) (omega arith), and_false (leb 0 (d / 8))) refl
-]
-
 -- as many rows as there are below a place of the page
 pub as_many : (top i times k : ℕ) (b : Bool) → k < 1664 → i ≡ min times (1664 - top) → (ltb k (top + i) && (leb top k && b)) ≡ (leb top k && (ltb (k - top) times && b))
 as_many top i times k true h e = grind (arith, nat_tests)

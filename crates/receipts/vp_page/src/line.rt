@@ -109,7 +109,7 @@ fn moved_dot(byte: u8, n: usize, m: usize) -> u8
 
 /// Blackens dot x of a row, where the row has it, if the dot of the byte that is n from its left is black.
 #[inline(always)]
-pub(crate) fn lay_dot(byte: u8, n: usize, x: usize, row: &mut [u8])
+fn lay_dot(byte: u8, n: usize, x: usize, row: &mut [u8])
     requires { n < 8 }
     ensures { Painted Black (λ d. nat_eq d x && bit byte (7 - n)) row.old row.new }
 {
