@@ -91,6 +91,8 @@ measure '1,024 turned blocks of 51 lines five dots apart' '^PW1248' 1024 \
     "^A0B,1500,1500^FB8000,9999,-1495,L^FD$(repeated 255 A)^FS"
 measure 'the same, of characters of many strokes' '^PW1248' 1024 \
     "^A0B,1500,1500^FB8000,9999,-1495,L^FD$(repeated 255 @)^FS"
+measure 'the same, no line as the one above' '^PW1248' 1024 \
+    "^A0B,1500,1500^FB8000,9999,-1495,L^FD$(repeated 25 'AAAAA@@@@@')AAAAA^FS"
 words=$(repeated 200 A)
 measure 'a turned block of lines of three cells over each other' '^PW1248' 1 \
     "^A0R,1500,1500^FB5000,10,0,R^FD$(repeated 1300 "$words ")^FS"
