@@ -1,5 +1,6 @@
 -- Lines next to each other that show the same.
-use Rattle.std.proofs.Common.{inl, inr, ◌≡◌, ℕ, ◌+◌, ◌-◌, ◌<◌, ◌≤◌, Bool, ltb, ◌&&◌, List, refl, sym, ap, ◌∙◌, arith, ℤ, pos, negsuc}
+use Rattle.std.proofs.Common.{inl, inr, ◌≡◌, ℕ, ◌+◌, ◌-◌, ◌<◌, ◌≤◌, Bool, ltb, false, ◌&&◌, List, Option, None, Some, refl, sym, ap, ◌∙◌, arith, ℤ, pos, negsuc}
+use Rattle.std.specs.Prelude.{option_map, unwrap_or}
 use Rattle.std.proofs.lemmas.Bool.{cases_lt}
 use Rattle.std.proofs.lemmas.Bool.Decides.{nat_tests}
 use Rattle.std.proofs.lemmas.Int.{ints}
@@ -44,3 +45,8 @@ pub run_back : (at : ℤ) (v first last : ℕ) → v ≤ last → (line : ℕ �
 run_back at v first last n line p d h j l =
     let e : dot_on (Back at) (pos (p + j)) ≡ pos (v - j) = omega (arith, ints, d) in
     ap (at_place line) e ∙ h (v - j) (omega arith) (omega arith) ∙ sym (ap (at_place line) d)
+
+-- where no line shows a dot, none that may be there does
+pub no_line : (shows : ℕ → Bool) (line : Option ℕ) → ((v : ℕ) → shows v ≡ false) → unwrap_or (option_map shows line) false ≡ false
+no_line shows None h = refl
+no_line shows (Some v) h = h v

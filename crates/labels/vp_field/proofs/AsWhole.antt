@@ -1,5 +1,5 @@
 -- Halves of words that are black or white as a whole.
-use Rattle.std.proofs.Common.{inl, inr, ◌≡◌, ℕ, ◌+◌, ◌-◌, ◌*◌, ◌/◌, ◌%◌, ◌^◌, ◌<◌, ◌≤◌, ◌⊎◌, Bool, true, false, not, eqb, leb, ◌&&◌, refl, ap, arith, List, take}
+use Rattle.std.proofs.Common.{inl, inr, ◌≡◌, ℕ, ◌+◌, ◌-◌, ◌*◌, ◌/◌, ◌%◌, ◌^◌, ◌<◌, ◌≤◌, ◌⊎◌, Bool, true, false, not, eqb, leb, ◌&&◌, refl, sym, ap, ◌∙◌, arith, List, take, drop}
 use Rattle.std.proofs.lemmas.Bool.{cases_lt, lt-ltb, le-ltb, lt-leb, le-leb}
 use Rattle.std.proofs.lemmas.List.{get_or-take, length-take}
 use Rattle.std.proofs.lemmas.Nat.Bits.{bit_at_ones}
@@ -8,6 +8,7 @@ use Rattle.vp_dots.specs.Painting.{paint}
 use Rattle.vp_dots.specs.Words.{word_dot}
 use Rattle.vp_dots.specs.declared.Op.TheVariants.{Black}
 use Rattle.vp_dots.proofs.Rows.{dot_past}
+use Rattle.vp_dots.proofs.Parts.{dot-drop}
 use Rattle.vp_glyph.specs.Halves.{half_dot}
 use Rattle.vp_field.proofs.Columns.{white_half}
 
@@ -51,5 +52,18 @@ front_span words row x d = elim (cases_lt d x) [
   | inr g ↦ elim (cases_lt d (x + 64 * words)) [
     | inl l ↦ rw (le-leb x d g, lt-ltb d (x + 64 * words) l) (dot_front (8 * words) row (d - x) (omega arith))
     | inr o ↦ rw (le-leb x d g, le-ltb d (x + 64 * words) o) (front_end (8 * words) row (d - x) (omega arith))
+  ]
+]
+
+-- some bytes of a row that is white outside them
+pub cut_line : (from n : ℕ) (row : List ℕ) (d : ℕ) → (span (8 * from) (8 * (from + n)) d ≡ false → dot row d ≡ false)
+    → (leb (8 * from) d && dot (take n (drop from row)) (d - 8 * from)) ≡ dot row d
+cut_line from n row d white = elim (cases_lt d (8 * from)) [
+  | inl l ↦ rw (lt-leb (8 * from) d l) (sym (white (rw (lt-leb (8 * from) d l) refl)))
+  | inr g ↦ elim (cases_lt d (8 * (from + n))) [
+    | inl l ↦
+        let same : 8 * from + (d - 8 * from) ≡ d = omega (arith, g) in
+        rw (le-leb (8 * from) d g) (dot_front n (drop from row) (d - 8 * from) (omega arith) ∙ dot-drop row from (d - 8 * from) ∙ ap (dot row) same)
+    | inr o ↦ rw (le-leb (8 * from) d g) (front_end n (drop from row) (d - 8 * from) (omega arith) ∙ sym (white (rw (le-leb (8 * from) d g, le-ltb d (8 * (from + n)) o) refl)))
   ]
 ]

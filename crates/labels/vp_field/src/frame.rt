@@ -130,4 +130,13 @@ impl Ink for Frame {
         paint_side(op, at, 0, self.t, row);
         paint_side(op, at, self.w.saturating_sub(self.t), self.t, row);
     }
+
+    #[tactic(auto, unfolding(crate::specs::Frames::frame_dot))]
+    fn alike(&self, y: u32) -> (u32, u32) {
+        let bottom = self.h.saturating_sub(self.t);
+        if y < self.t || y >= bottom {
+            return (y, y);
+        }
+        (self.t, bottom - 1)
+    }
 }

@@ -1,6 +1,6 @@
 //! One line of ink, drawn along the places of a row or a column, and painted on a row.
-ghost use Rattle.std.specs.Prelude.{◌≡◌, ℕ, ◌+◌, ◌-◌, ◌*◌, ◌^◌, ◌<◌, ◌≤◌, Bool, ℤ, pos, ◌-ℤ◌, neg_ℤ, ◌≤ℤ◌, length};
-ghost use Rattle.vp_dots.specs.Dots.{dot, shifted};
+ghost use Rattle.std.specs.Prelude.{◌≡◌, ℕ, ◌+◌, ◌-◌, ◌*◌, ◌^◌, ◌<◌, ◌≤◌, Bool, ℤ, pos, ◌-ℤ◌, neg_ℤ, ◌≤ℤ◌, false, length};
+ghost use Rattle.vp_dots.specs.Dots.{dot, shifted, span};
 ghost use Rattle.vp_dots.specs.Painting.{Painted};
 ghost use Rattle.vp_field.specs.Places.{at_place};
 ghost use Rattle.vp_field.specs.Axes.{dot_on, read_at, IsWithin};
@@ -71,6 +71,26 @@ pub fn paint_over(op: Op, line: &[u8], row: &mut [u8])
     ensures { Painted op (dot line.now) row.old row.new }
 {
     paint_into(op, line, 0, row);
+}
+
+/// The offset of a byte's first dot.
+fn byte_offset(byte: usize) -> i64
+    requires { byte ≤ BAND_BYTES }
+    ensures { result ≡ pos (8 * byte) }
+{
+    8 * byte as i64
+}
+
+/// Applies the operation to the dots of the row where the line is black, which is white outside these bytes
+/// of it.
+pub fn paint_bytes(op: Op, line: &[u8], from: usize, to: usize, row: &mut [u8])
+    requires order { from ≤ to }
+    requires to { to ≤ length line.now }
+    requires few { from ≤ BAND_BYTES }
+    requires white { (d : ℕ) → span (8 * from) (8 * to) d ≡ false → dot line.now d ≡ false }
+    ensures { Painted op (dot line.now) row.old row.new }
+{
+    paint_into(op, &line[from..to], byte_offset(from), row);
 }
 
 /// Applies the operation to the dots of a row of a label on which line v of the ink has ink.

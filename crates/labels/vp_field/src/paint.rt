@@ -1,5 +1,5 @@
 //! Ink painted on a band of a label: along its rows here.
-ghost use Rattle.std.specs.Prelude.{◌≡◌, ℕ, ◌+◌, ◌^◌, ◌<◌, ◌≤◌, ◌&&◌, [], false, pos, length, slice_index_or, option_map, unwrap_or};
+ghost use Rattle.std.specs.Prelude.{◌≡◌, ℕ, ◌+◌, ◌*◌, ◌^◌, ◌<◌, ◌≤◌, ◌&&◌, [], Bool, true, false, pos, length, slice_index_or, option_map, unwrap_or};
 ghost use Rattle.vp_dots.specs.Dots.{span};
 ghost use Rattle.vp_dots.specs.Places.{RowsPainted};
 ghost use Rattle.vp_field.specs.Places.{at_place};
@@ -11,7 +11,7 @@ ghost use Rattle.vp_label_size.specs.declared.TheConstants.{BAND_BYTES, BAND_ROW
 
 use crate::across::paint_across;
 use crate::axis::{Axis, Lines};
-use crate::line::paint_over;
+use crate::line::paint_bytes;
 use crate::pen::{Pen, Shown};
 use vp_dots::{Ink, Op, Small};
 use vp_label_size::{BAND_BYTES, BAND_ROWS, LabelBand};
@@ -25,16 +25,47 @@ pub fn row_lengths<A: Small>(band: &LabelBand<A>)
     }
 }
 
+/// As many bytes are painted at once where a row is.
+const BLOCK: u64 = 32;
+
+/// The dots of as many bytes.
+const BLOCK_DOTS: u64 = 8 * BLOCK;
+
+/// Which bytes of a row of a band lines may reach: those from one to another.
+#[derive(Clone, Copy)]
+struct Reach {
+    from: usize,
+    to: usize,
+}
+
+/// The bytes that lines of so many dots may reach, in whole blocks.
+fn reached(columns: Axis, width: u32) -> Reach
+    ensures order { result.from ≤ result.to }
+    ensures to { result.to ≤ BAND_BYTES }
+    ensures white { (line : ℕ → Bool) → ((u : ℕ) → line u ≡ true → u < width) → (p : ℕ) → p < 8 * BAND_BYTES
+        → span (8 * result.from) (8 * result.to) p ≡ false → at_place line (dot_on columns (pos p)) ≡ false }
+{
+    let (left, right) = columns.span(width);
+    let to = (right.div_ceil(BLOCK_DOTS) * BLOCK).min(BAND_BYTES as u64) as usize;
+    let from = (left / BLOCK_DOTS * BLOCK).min(to as u64) as usize;
+    Reach { from, to }
+}
+
 /// Paints rows of the band, from row k on, each of which shows the same line.
 fn paint_alike<I: Ink, A: Small>(
     pen: &mut Pen<'_, I>,
     shown: Shown,
     op: Op,
     columns: Axis,
+    reach: Reach,
     k: usize,
     band: &mut LabelBand<A>,
 )
     requires columns { IsWithin (2 ^ 41) columns }
+    requires order { reach.from ≤ reach.to }
+    requires to { reach.to ≤ BAND_BYTES }
+    requires white { (v p : ℕ) → p < 8 * BAND_BYTES → span (8 * reach.from) (8 * reach.to) p ≡ false
+        → at_place (λ u. I.ink_at pen.old.ink.now u v) (dot_on columns (pos p)) ≡ false }
     requires inside { k + shown.places ≤ BAND_ROWS }
     requires count { pen.old.lines < 2 ^ 63 }
     ensures counted { pen.new ≡ record pen.old { lines = pen.old.lines + 1 } }
@@ -48,7 +79,7 @@ fn paint_alike<I: Ink, A: Small>(
     }
     let line = pen.on::<BAND_BYTES>(shown, columns, 0);
     for i in 0..shown.places as usize {
-        paint_over(op, &line, band.row_mut(k + i));
+        paint_bytes(op, &line, reach.from, reach.to, band.row_mut(k + i));
     }
 }
 
@@ -70,14 +101,15 @@ fn paint_along<I: Ink, A: Small>(
         (pos (first + k))) result }
 {
     let mut pen = ink;
-    let (_, h) = pen.size();
+    let (w, h) = pen.size();
+    let reach = reached(columns, w);
     let (from, to) = rows.span(h);
     let first = u64::from(first);
     let mut k = from.saturating_sub(first);
     let end = to.saturating_sub(first).min(BAND_ROWS as u64);
     while k < end {
         let shown = pen.shown(rows, first + k, first + end);
-        paint_alike(&mut pen, shown, op, columns, k as usize, band);
+        paint_alike(&mut pen, shown, op, columns, reach, k as usize, band);
         k += shown.places;
     }
     pen.lines()

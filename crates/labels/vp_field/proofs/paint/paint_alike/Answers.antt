@@ -1,10 +1,12 @@
-use Rattle.std.proofs.Common.{◌≡◌, ℕ, ◌+◌, ◌&&◌, false, leb, refl, sym, ap, ◌∙◌, arith, pos}
-use Rattle.std.proofs.lemmas.Bool.{le-leb}
+use Rattle.std.proofs.Common.{inl, inr, ◌≡◌, ℕ, ◌+◌, ◌*◌, ◌&&◌, false, leb, refl, sym, ap, ◌∙◌, arith, pos}
+use Rattle.std.proofs.lemmas.Bool.{cases_lt, le-leb}
 use Rattle.std.specs.Prelude.{option_map, unwrap_or}
 use Rattle.vp_dots.proofs.Heights.{rows_next}
 use Rattle.vp_dots.proofs.Paints.{painted_same}
 use Rattle.vp_field.specs.Places.{at_place}
 use Rattle.vp_field.specs.Axes.{dot_on}
+use Rattle.vp_dots.proofs.Rows.{dot_past}
+use Rattle.vp_field.proofs.Alike.{no_line}
 use Rattle.vp_field.proofs.paint.paint_alike.Goals as goal
 
 pub loop-i-preserved : goal.loop-i-preserved
@@ -15,4 +17,12 @@ loop-i-preserved g c =
     let here : 0 + d ≡ d = omega arith in
     c.on-line.ensures.dots d (omega (arith, l, c.row_mut-in-loop-i.ensures.len))
     ∙ ap line here
-    ∙ rw (le-leb c.args.k (c.args.k + c.loop-i.i) (omega arith)) refl) c.paint_over.ensures))
+    ∙ rw (le-leb c.args.k (c.args.k + c.loop-i.i) (omega arith)) refl) c.paint_bytes.ensures))
+
+pub paint_bytes-requires-clause-white : goal.paint_bytes-requires-clause-white
+paint_bytes-requires-clause-white g c d e = elim (cases_lt d (8 * 156)) [
+  | inl l ↦
+      let here : 0 + d ≡ d = omega arith in
+      c.on-line.ensures.dots d l ∙ no_line _ c.args.shown.line (λ v. ap (λ n. at_place (λ u. g.I.Ink.ink_at c.args.pen.now.ink.now u v) (dot_on c.args.columns (pos n))) here ∙ c.requires.white v d l e)
+  | inr g ↦ dot_past c.on-line.result d (omega arith)
+]

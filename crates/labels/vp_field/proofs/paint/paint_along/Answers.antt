@@ -12,11 +12,11 @@ use Rattle.vp_field.proofs.paint.paint_along.Goals as goal
 pub loop-k-init : goal.loop-k-init
 loop-k-init g c =
     let ink = λ (u v : ℕ). g.I.Ink.ink_at c.args.ink.ink.now u v in
-    let lines : (u v : ℕ) → ink u v ≡ true → v < c.size-h.result.1 = λ u v e. rw c.size-h.ensures.height (g.met.I.Ink.outside c.args.ink.ink.now u v e).1 in
+    let lines : (u v : ℕ) → ink u v ≡ true → v < c.size-w.result.1 = λ u v e. rw c.size-w.ensures.height (g.met.I.Ink.outside c.args.ink.ink.now u v e).1 in
     record {
       ink = refl;
       painted = rows_init _ _ (λ x k. laid Along c.args.columns c.args.rows ink (pos x) (pos (c.args.first + k))) _ _
-          (λ x k l. c.span-from.ensures.before _ (line_inside ink c.size-h.result.1 lines (dot_on c.args.columns (pos x))) (c.args.first + k) (omega (arith, c.from-first.ensures, c.saturating_sub-k.ensures)));
+          (λ x k l. c.span-from.ensures.before _ (line_inside ink c.size-w.result.1 lines (dot_on c.args.columns (pos x))) (c.args.first + k) (omega (arith, c.from-first.ensures, c.saturating_sub-k.ensures)));
       lines = omega (arith, c.min-end.ensures, c.requires.fresh);
       none = λ _. omega (arith, c.from-first.ensures, c.saturating_sub-k.ensures);
     }
@@ -39,9 +39,9 @@ loop-k-preserved g c =
 pub returns-clause-dots : goal.returns-clause-dots
 returns-clause-dots g c =
     let ink = λ (u v : ℕ). g.I.Ink.ink_at c.args.ink.ink.now u v in
-    let lines : (u v : ℕ) → ink u v ≡ true → v < c.size-h.result.1 = λ u v e. rw c.size-h.ensures.height (g.met.I.Ink.outside c.args.ink.ink.now u v e).1 in
+    let lines : (u v : ℕ) → ink u v ≡ true → v < c.size-w.result.1 = λ u v e. rw c.size-w.ensures.height (g.met.I.Ink.outside c.args.ink.ink.now u v e).1 in
     rows_all _ _ (λ x k. laid Along c.args.columns c.args.rows ink (pos x) (pos (c.args.first + k))) c.loop-k.k _ _
-    (λ x k a b. c.span-from.ensures.behind _ (line_inside ink c.size-h.result.1 lines (dot_on c.args.columns (pos x))) (c.args.first + k) (omega (arith, c.from-first.ensures))) c.loop-k.invariant.painted
+    (λ x k a b. c.span-from.ensures.behind _ (line_inside ink c.size-w.result.1 lines (dot_on c.args.columns (pos x))) (c.args.first + k) (omega (arith, c.from-first.ensures))) c.loop-k.invariant.painted
 
 pub returns-clause-lines : goal.returns-clause-lines
 returns-clause-lines g c = omega (arith, c.loop-k.invariant.lines)
@@ -49,8 +49,8 @@ returns-clause-lines g c = omega (arith, c.loop-k.invariant.lines)
 pub returns-clause-counted : goal.returns-clause-counted
 returns-clause-counted g c = λ x k low e.
     let ink = λ (u v : ℕ). g.I.Ink.ink_at c.args.ink.ink.now u v in
-    let lines : (u v : ℕ) → ink u v ≡ true → v < c.size-h.result.1 = λ u v e. rw c.size-h.ensures.height (g.met.I.Ink.outside c.args.ink.ink.now u v e).1 in
-    let inside = line_inside ink c.size-h.result.1 lines (dot_on c.args.columns (pos x)) in
+    let lines : (u v : ℕ) → ink u v ≡ true → v < c.size-w.result.1 = λ u v e. rw c.size-w.ensures.height (g.met.I.Ink.outside c.args.ink.ink.now u v e).1 in
+    let inside = line_inside ink c.size-w.result.1 lines (dot_on c.args.columns (pos x)) in
     let shown = laid Along c.args.columns c.args.rows ink (pos x) (pos (c.args.first + k)) in
     elim (cases_lt 0 c.loop-k.pen.lines) [
       | inl some ↦ omega (arith, some, c.lines.ensures)
