@@ -5,7 +5,7 @@ use Rattle.vp_bars.specs.InBox.{boxed}
 use Rattle.vp_bars.specs.Boxes.{Boxed, box_top, box_height, texts_below, box_dot, text_row, bars_row}
 use Rattle.vp_bars.proofs.Paints.{moved_same, moved_none}
 use Rattle.vp_bars.proofs.BoxRows.{row_top, row_bars, row_below, row_none}
-use Rattle.vp_bars.proofs.bar_box.BarBox.paint.Goals as goal
+use Rattle.vp_bars.proofs.bar_box.BarBox.paint_pieces.Goals as goal
 
 pub returns-then-y-top : goal.returns-then-y-top
 returns-then-y-top g c =
