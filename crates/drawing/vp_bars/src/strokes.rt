@@ -1,6 +1,6 @@
 //! The bars of a symbol, drawn on a row.
 
-ghost use Rattle.std.specs.Prelude.{◌≡◌, ℕ, ◌+◌, ◌*◌, ◌<◌, ◌≤◌, ◌^◌, ◌++◌, ◌+ℤ◌, pos, nat_lt, Bool, true, false, List, length, take, flat_map};
+ghost use Rattle.std.specs.Prelude.{◌≡◌, ℕ, ◌+◌, ◌<◌, ◌≤◌, ◌^◌, ◌++◌, min, nat_lt, Bool, true, false, List, length, take, flat_map};
 ghost use Rattle.vp_bars.specs.Symbologies.{pattern_of as pattern_for, size_of as size_for};
 ghost use Rattle.vp_bars.specs.Widths.{sized, next_widths, widths_of, bar_widths, width_of, total, in_bar};
 ghost use Rattle.std.specs.List.{All};
@@ -36,37 +36,24 @@ pub(crate) struct Strokes<'a> {
     ghost few: { length values.now ≤ 258 },
 }
 
+/// Whether a row has one of the dots first <= d < behind.
+fn has_dot(first: u64, behind: u64, row: &[u8]) -> bool
+    ensures { result ≡ nat_lt (min (dots row.now) first) (min (dots row.now) behind) }
+{
+    first < behind && first / 8 < row.len() as u64
+}
+
 /// Whether a row has one of the dots from <= x < to, moved by an offset.
 fn is_shown(at: i64, from: u32, to: u32, row: &[u8]) -> bool
     ensures { result ≡ nat_lt (reach at (dots row.now) from) (reach at (dots row.now) to) }
 {
     let far = at.unsigned_abs();
-    let (first, behind) = if at >= 0 {
-        (u64::from(from) + far, u64::from(to) + far)
-    } else {
-        (
-            u64::from(from).saturating_sub(far),
-            u64::from(to).saturating_sub(far),
-        )
-    };
-    first < behind && first / 8 < row.len() as u64
-}
-
-/// Of `count` characters of `step` dots side by side from place `left` on, the first that can be seen on a
-/// row of `bytes` bytes, and the one behind the last: none where they have no dots.
-fn window(at: i64, left: u32, step: u32, count: usize, bytes: usize) -> (usize, usize)
-    requires { left + step * count < 2 ^ 32 }
-    ensures before { (x d : ℕ) → left ≤ x → x < left + step * result.0 → pos d ≡ at +ℤ pos x → d < 0 }
-    ensures behind { (x d : ℕ) → left + step * result.1 ≤ x → x < left + step * count
-        → pos d ≡ at +ℤ pos x → 8 * bytes ≤ d }
-    ensures first { result.0 ≤ count }
-    ensures last { result.1 ≤ count }
-    ensures small { result.0 < 2 ^ 32 }
-{
-    if step == 0 {
-        return (0, 0);
+    let from = u64::from(from);
+    let to = u64::from(to);
+    if at >= 0 {
+        return has_dot(from + far, to + far, row);
     }
-    seen(at, left, step, count, bytes)
+    has_dot(from.saturating_sub(far), to.saturating_sub(far), row)
 }
 
 impl Strokes<'_> {
@@ -261,7 +248,10 @@ impl Strokes<'_> {
         ensures few { result.1 ≤ length values.now }
     {
         let step = self.step();
-        let (from, to) = window(at, pen.x, step, values.len(), row.len());
+        if step == 0 {
+            return (pen, 0);
+        }
+        let (from, to) = seen(at, pen.x, step, values.len(), row.len());
         let to = to.max(from);
         let first = Pen {
             x: pen.x + step * from as u32,
