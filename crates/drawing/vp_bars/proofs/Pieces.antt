@@ -48,7 +48,15 @@ none_behind (negsuc a) d x y h = elim (cases_lt x y) [
   | inr g ↦ reach_more (negsuc a) d y x g
 ]
 
+reach_few : (at : ℤ) (d x : ℕ) → reach at d x ≤ d
+reach_few (pos a) d x = omega arith
+reach_few (negsuc a) d x = omega arith
+
 module _ (at : ℤ) (d : ℕ) where
+  -- no more than the row has dots
+  pub handed_few : (x y n : ℕ) → HandedOut at d x y n → n ≤ d
+  handed_few x y n p = omega (arith, p.few, reach_few at d y)
+
   pub handed_none : (x : ℕ) → HandedOut at d x x 0
   handed_none x = record { few = omega arith; some = λ h. absurd (omega arith) }
 
