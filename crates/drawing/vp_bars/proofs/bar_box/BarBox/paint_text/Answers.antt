@@ -1,4 +1,4 @@
-use Rattle.std.proofs.Common.{◌≡◌, ◌-◌, ◌/◌, ap, ◌∙◌, sym, w64}
+use Rattle.std.proofs.Common.{◌-◌, ◌/◌, ap, ◌∙◌, sym, w64}
 use Rattle.std.proofs.lemmas.Int.{to_z-of_z}
 use Rattle.vp_bars.specs.InBox.{boxed}
 use Rattle.vp_bars.specs.Boxes.{Boxed, box_width, line_width}
