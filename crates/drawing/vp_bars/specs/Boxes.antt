@@ -86,7 +86,7 @@ box_dot b x y =
     else if nat_lt y (box_top b + b.height) then bars_row b x
     else text_row b (y - box_top b - b.height) x)
 
--- the most cells of a text of which so many dots are seen
+-- the most cells of a text that a row of so many dots shows
 abbrev pub line_pieces : Font → List ℕ → ℕ → ℕ
 line_pieces font text dots = min (length text) (dots / font_width font + 2)
 

@@ -175,8 +175,8 @@ impl Strokes<'_> {
         pen
     }
 
-    /// Draws elements, where the row has a dot of them, and gives the pen behind them: at once where a word has
-    /// room for them. It gives the number of what it handed out too, none or one.
+    /// Draws elements where the row has a dot of them, at once where a word has room for them, and gives the
+    /// pen behind them. Beside it stands how many it handed out: one, or none where the row has no dot.
     fn draw_some(&self, elements: &[u8], pen: Pen, op: Op, at: i64, row: &mut [u8]) -> (Pen, usize)
         requires { pen.x + total (sized self.now.symbology self.now.narrow self.now.wide elements.now) < 2 ^
             32 }
