@@ -8,16 +8,18 @@ use Rattle.vp_glyph.specs.declared.cell.Font.{Font}
 use Rattle.vp_bars.specs.Symbols.{Linear}
 use Rattle.vp_bars.specs.Symbologies.{text_of}
 use Rattle.vp_bars.specs.Widths.{in_bar, bar_widths, total, bars_width, is_black}
-use Rattle.vp_bars.specs.Boxes.{Boxed, texts_above, texts_below, line_width, line_dot, text_width, box_width, box_top, box_height, centred, text_row, bars_row, box_dot}
-use Rattle.vp_dots.specs.Dots.{shifted}
+use Rattle.vp_bars.specs.Boxes.{Boxed, texts_above, texts_below, line_width, line_dot, text_at, text_width, box_width, box_top, box_height, centred, text_row, bars_row, box_dot}
+use Rattle.vp_dots.specs.Dots.{dots, shifted}
+use Rattle.vp_dots.proofs.Shifts.{met}
 use Rattle.vp_dots.specs.Painting.{Painted}
 use Rattle.vp_dots.specs.declared.Op.{Op}
 use Rattle.std.proofs.lemmas.List.{append-nil}
 use Rattle.vp_bars.specs.declared.symbology.Symbology.{Symbology}
 use Rattle.vp_bars.specs.declared.pen.Pen.{Pen}
-use Rattle.vp_bars.specs.Drawing.{Draws}
+use Rattle.vp_bars.specs.Drawing.{Draws, HandedOut}
 use Rattle.vp_bars.proofs.Paints.{drawn_none, drawn_all}
 use Rattle.vp_bars.proofs.Bounds.{width_is, black_is}
+use Rattle.vp_bars.proofs.Pieces.{reached}
 
 in_bar_inside : (bar : Bool) (ws : List ℕ) (x : ℕ) → in_bar bar ws x ≡ true → x < total ws
 in_bar_inside bar [] x e = cc
@@ -100,6 +102,15 @@ pub text_fits : (f : Font) (p : HriPosition) → 0 < texts_above p + texts_below
 text_fits f None h t = absurd (omega arith)
 text_fits f _ h t = refl
 
+pub text_stands : (p : HriPosition) → 0 < texts_above p + texts_below p → (t : List ℕ) → text_at p t ≡ t
+text_stands None h t = absurd (omega arith)
+text_stands _ h t = refl
+
+-- a dot of the text in its place
+pub text_shown : (at : ℤ) (b : Boxed) (y left d : ℕ) (t : List ℕ) → t ≡ text_of b.bars → left ≡ (box_width b - line_width b.font (text_of b.bars)) / 2
+    → shifted at (text_row b y) d ≡ true → shifted at (λ u. leb left u && line_dot b.sheets b.font t (u - left) y) d ≡ true
+text_shown at b y left d t e l h = rw (e, l) h
+
 module _ (b : Boxed) (y x : ℕ) where
   text_inside : (v : ℕ) → 0 < texts_above b.place + texts_below b.place → text_row b v x ≡ true → x < box_width b
   text_inside v h e = centred_inside (box_width b) (line_width b.font (text_of b.bars)) (λ u. line_dot b.sheets b.font (text_of b.bars) u v) x
@@ -140,6 +151,20 @@ bars_painted op at b row new s vs x next e v l d =
     (d.drawn (bars_row b) row [] (drawn_none op at (bars_row b) row x (in_bar true (ws ++ []))
     (λ i. ap (λ z. leb z i && is_black b.bars b.narrow b.wide (i - z)) (sym l) ∙ ap (λ z. leb x i && z) (same (i - x)))))
     (λ j. refl)
+
+-- where a dot of them is seen one is handed out at least
+pub bars_seen : (at : ℤ) (b : Boxed) (row : List ℕ) (s : Symbology) (vs : List ℕ) (x y n d : ℕ)
+    → s ≡ b.bars.symbology → vs ≡ b.bars.values → x ≡ (box_width b - bars_width b.bars b.narrow b.wide) / 2 → y ≡ x + total (bar_widths s b.narrow b.wide vs)
+    → HandedOut at (dots row) x y n → d < dots row → shifted at (bars_row b) d ≡ true → 0 < n
+bars_seen at b row s vs x y n d e v l m h k t = elim (met at d) [
+  | inl p ↦ (
+      let left = (box_width b - bars_width b.bars b.narrow b.wide) / 2 in
+      let q : (leb left p.0 ≡ true) × (is_black b.bars b.narrow b.wide (p.0 - left) ≡ true) = and_parts _ _ (sym (p.2 (bars_row b)) ∙ t) in
+      let wide : bars_width b.bars b.narrow b.wide ≡ total (bar_widths s b.narrow b.wide vs) = width_is b.bars.symbology b.narrow b.wide b.bars.values ∙ rw (e, v) refl in
+      h.some (reached at (dots row) x y p.0 d (omega (arith, l, leb-true left p.0 q.0))
+      (omega (arith, l, m, wide, leb-true left p.0 q.0, black_inside b.bars b.narrow b.wide (p.0 - left) q.1)) p.1 k))
+  | inr n ↦ (let z : false ≡ true = sym (n.1 (bars_row b)) ∙ t in cc)
+]
 
 -- rows of bars are alike
 pub bars_alike : (b : Boxed) (y x v : ℕ) → box_top b ≤ y → y < box_top b + b.height → box_top b ≤ v → v < box_top b + b.height → box_dot b x v ≡ box_dot b x y
