@@ -1,5 +1,5 @@
 -- A blank among parameters.
-use Rattle.std.proofs.Common.{◌≡◌, ℕ, ◌-◌, ◌<◌, ◌==◌, Bool, true, false, cond, List, [], ◌∷◌, ◌++◌, length, take, map, refl, sym, ap, ◌∙◌, arith}
+use Rattle.std.proofs.Common.{◌≡◌, ℕ, ◌-◌, ◌<◌, ◌==◌, Bool, false, cond, List, [], ◌∷◌, ◌++◌, length, take, map, refl, sym, ap, ◌∙◌, arith}
 use Rattle.std.proofs.lemmas.Bool.Decides.{nat_tests}
 use Rattle.vp_zpl.specs.Spelling.{is_comma, is_blank, ended, last, behind_commas, parameters, kept}
 use Rattle.vp_zpl.specs.Commands.{is_whole, head}
@@ -7,9 +7,7 @@ use Rattle.vp_zpl.proofs.Parameters.{not_whole_is}
 
 both : (x y : Bool) (p : List ℕ) (a : ℕ) {X : Type 0} (f : List ℕ → X) (g : List ℕ → X) (add : X → X) (u v : X)
     → ((q : List ℕ) → f q ≡ g q) → u ≡ v → cond x (add u) (cond y (f p) (f (p ++ a ∷ []))) ≡ cond x (add v) (cond y (g p) (g (p ++ a ∷ [])))
-both true y p a f g add u v h e = ap add e
-both false true p a f g add u v h e = h p
-both false false p a f g add u v h e = h (p ++ a ∷ [])
+both x y p a f g add u v h e = grind arith
 
 pub ended_blank : (p args more : List ℕ) → ended p (args ++ 0x20 ∷ more) ≡ ended p (args ++ more)
 ended_blank p [] more = refl
@@ -29,9 +27,7 @@ behind_by : (x y : Bool) (n : ℕ) (p args more : List ℕ) (a : ℕ)
     → ((m : ℕ) (q : List ℕ) → length (ended q args) < m → behind_commas m (args ++ 0x20 ∷ more) ≡ behind_commas m (args ++ more))
     → length (cond x (p ∷ ended [] args) (cond y (ended p args) (ended (p ++ a ∷ []) args))) < n
     → cond x (behind_commas (n - 1) (args ++ 0x20 ∷ more)) (behind_commas n (args ++ 0x20 ∷ more)) ≡ cond x (behind_commas (n - 1) (args ++ more)) (behind_commas n (args ++ more))
-behind_by true y n p args more a ih h = ih (n - 1) [] (omega arith)
-behind_by false true n p args more a ih h = ih n p h
-behind_by false false n p args more a ih h = ih n (p ++ a ∷ []) h
+behind_by x y n p args more a ih h = grind arith
 
 pub behind_blank : (n : ℕ) (p args more : List ℕ) → length (ended p args) < n → behind_commas n (args ++ 0x20 ∷ more) ≡ behind_commas n (args ++ more)
 behind_blank n p [] more h = let e : (n == 0) ≡ false = grind (arith, nat_tests) in ap (λ z. cond z (0x20 ∷ more) (behind_commas n more)) e

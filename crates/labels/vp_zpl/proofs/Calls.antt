@@ -1,50 +1,32 @@
 -- The byte that makes a name whole.
-use Rattle.std.proofs.Common.{◌≡◌, ℕ, Option, Some, None, List, [], ◌∷◌, ◌++◌, refl, sym, ap, ◌∙◌}
+use Rattle.std.proofs.Common.{◌≡◌, ℕ, Option, Some, List, [], ◌∷◌, ◌++◌, refl, sym, ap, ◌∙◌, arith}
 use Rattle.vp_zpl.specs.declared.name.Kind.{Kind}
-use Rattle.vp_zpl.specs.declared.name.Kind.TheVariants as kinds
 use Rattle.vp_zpl.specs.declared.name.Name.{Name}
 use Rattle.vp_zpl.specs.declared.reader.ZplReader.{ZplReader}
 use Rattle.vp_zpl.specs.declared.reader.Phase.TheVariants.{AfterFirst}
 use Rattle.vp_zpl.specs.Spelling.{kept, kept_of}
 use Rattle.vp_zpl.specs.Shown.{shown_part, shown_parts}
 use Rattle.vp_zpl.specs.Commands.{kind, kind_named, is_whole, in_format, in_format_by, indicator, indicator_by}
-use Rattle.vp_zpl.specs.Items.{item_of, data_items, text_known, name_of, given, given_named}
+use Rattle.vp_zpl.specs.Items.{text_known, name_of, given, given_named}
 use Rattle.vp_zpl.specs.Reader.{Named, StandsIn, Goes, in_phase, indicator_at, at_name, phase_behind, indicator_behind}
 use Rattle.vp_zpl.proofs.Named.{opened-is, indicator-is}
 use Rattle.vp_zpl.proofs.Phases.{carry, at_indicator}
 
 no_text : (o : Option ℕ) → text_known o [] ≡ []
-no_text None = refl
-no_text (Some x) = refl
+no_text o = grind arith
 
 name_gives : (k : Kind) (before : List (List ℕ)) (name : Name) → given_named k before name [] ≡ at_name k name
 unfolding is_whole
-name_gives kinds.FieldData before name = ap (λ x. item_of kinds.FieldData name [] ∷ data_items x) (no_text (indicator before))
-name_gives _ before name = refl
+name_gives k before name = grind (arith, no_text)
 
 behind_indicates : (k : Kind) (command : List ℕ) (before : List (List ℕ)) → indicator (command ∷ before) ≡ indicator_by (Some k) command (in_format before) (indicator before)
     → indicator_behind k (indicator before) ≡ indicator_at (phase_behind k) command before
-behind_indicates kinds.FieldHex command before e = refl
-behind_indicates (kinds.Plain j) command before e = refl
-behind_indicates kinds.Graphic command before e = refl
-behind_indicates _ command before e = sym e
+behind_indicates k command before e = grind arith
 
 behind_phase : (k : Kind) (new : ZplReader) (command : List ℕ) → Named new k [] command → shown_parts new.sent.parameters.items ≡ [] → shown_part new.part ≡ kept []
     → in_phase (phase_behind k) new command
 unfolding is_whole kept_of
-behind_phase kinds.FormatStart new command n p q = record { kind = kinds.FormatStart; args = []; named = n; alone = refl }
-behind_phase kinds.FormatEnd new command n p q = record { kind = kinds.FormatEnd; args = []; named = n; alone = refl }
-behind_phase kinds.FieldSeparator new command n p q = record { kind = kinds.FieldSeparator; args = []; named = n; alone = refl }
-behind_phase kinds.ReversePrint new command n p q = record { kind = kinds.ReversePrint; args = []; named = n; alone = refl }
-behind_phase kinds.FieldHex new command n p q = record { args = []; named = n; takes = refl; not_whole = λ _. refl; kept_is = p; part_is = q }
-behind_phase (kinds.Plain j) new command n p q = record { args = []; named = n; takes = refl; not_whole = λ _. refl; kept_is = p; part_is = q }
-behind_phase kinds.FieldData new command n p q = record { args = []; named = n; waits = no_waiting new.indicator }
-  where
-    no_waiting : (o : Option ℕ) → Rattle.vp_zpl.specs.Items.waiting o [] ≡ []
-    no_waiting None = refl
-    no_waiting (Some x) = refl
-behind_phase kinds.Graphic new command n p q = record { args = []; named = n; takes = refl; not_whole = λ _. refl; kept_is = p; part_is = q }
-behind_phase kinds.Skipped new command n p q = record { kind = kinds.Skipped; args = []; named = n; alone = refl }
+behind_phase k new command n p q = grind arith
 
 two_gave : (before : List (List ℕ)) (sign first : ℕ) → given before (sign ∷ first ∷ []) ≡ []
 unfolding given

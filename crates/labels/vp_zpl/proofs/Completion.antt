@@ -4,9 +4,8 @@ use Rattle.std.proofs.lemmas.Bool.Decides.{nat_tests}
 use Rattle.std.proofs.lemmas.List.{length_push}
 use Rattle.std.specs.List.{AllByRecursion}
 use Rattle.vp_zpl.specs.declared.name.Kind.{Kind}
-use Rattle.vp_zpl.specs.declared.name.Kind.TheVariants as kinds
 use Rattle.vp_zpl.specs.Spelling.{behind_commas}
-use Rattle.vp_zpl.specs.Commands.{cut, with_byte, longer, wants_binary, wants_binary_named, kind, kind_of, kind_named, is_short, is_whole, is_b, head, count_of, in_format}
+use Rattle.vp_zpl.specs.Commands.{cut, with_byte, longer, wants_binary, wants_binary_named, kind, kind_of, kind_named, is_short, is_whole, head, count_of, in_format}
 use Rattle.vp_zpl.specs.Items.{at_rest, is_within_one, rests}
 use Rattle.vp_zpl.proofs.Cuts.{cut-push, with-byte}
 use Rattle.vp_zpl.proofs.Heads.{still}
@@ -17,22 +16,14 @@ short_by (sign ∷ a ∷ b ∷ args) = count_of (head args) - length (behind_com
 short_by _ = 0
 
 all_true : (x y z : Bool) → (x && y && z) ≡ true → (x ≡ true) × (z ≡ true)
-all_true false y z e = absurd (cc)
-all_true true false z e = absurd (cc)
-all_true true true z e = (refl, e)
+all_true x y z e = grind arith
 
 short_is : (args : List ℕ) → is_short args ≡ true → (is_whole args ≡ true) × (length (behind_commas 4 args) < count_of (head args))
 unfolding is_short
-short_is args e =
-    let a = all_true (is_whole args) (is_b (head args)) (nat_lt (length (behind_commas 4 args)) (count_of (head args))) e in
-    (a.0, few (length (behind_commas 4 args)) (count_of (head args)) a.1)
-  where
-    few : (m n : ℕ) → nat_lt m n ≡ true → m < n
-    few m n e = grind (arith, nat_tests)
+short_is args e = grind (arith, all_true, nat_lt, nat_tests)
 
 named_short : (k : Kind) (args : List ℕ) → wants_binary_named k args ≡ true → is_short args ≡ true
-named_short kinds.Graphic args e = e
-named_short _ args e = absurd (cc)
+named_short k args e = grind arith
 
 less : (command : List ℕ) (c n : ℕ) → wants_binary command ≡ true → short_by command ≤ suc n → short_by (longer command c) ≤ n
 unfolding wants_binary
@@ -90,13 +81,7 @@ unfolding at_rest
 at_rest_is bytes = refl
 
 closed : (bytes : List ℕ) → wants_binary (cut bytes).open_one ≡ false → at_rest (((bytes ++ 0x5E ∷ []) ++ 0x58 ∷ []) ++ 0x5A ∷ []) ≡ true
-closed bytes w =
-    let before = (cut bytes).open_one ∷ (cut bytes).before in
-    let one : cut (bytes ++ 0x5E ∷ []) ≡ record { before = before; open_one = 0x5E ∷ [] } = cut-push bytes 0x5E ∙ with-byte (cut bytes) 0x5E false false true w refl refl in
-    let two : cut ((bytes ++ 0x5E ∷ []) ++ 0x58 ∷ []) ≡ record { before = before; open_one = 0x5E ∷ 0x58 ∷ [] } =
-    cut-push (bytes ++ 0x5E ∷ []) 0x58 ∙ ap (λ s. with_byte s 0x58) one ∙ second before in
-    at_rest_is (((bytes ++ 0x5E ∷ []) ++ 0x58 ∷ []) ++ 0x5A ∷ [])
-    ∙ ap rests (cut-push ((bytes ++ 0x5E ∷ []) ++ 0x58 ∷ []) 0x5A ∙ ap (λ s. with_byte s 0x5A) two ∙ third before) ∙ ends_format before
+closed bytes w = grind (arith, cut-push, with-byte, second, at_rest_is, third, ends_format)
 
 ends_small : (xs : List ℕ) → AllByRecursion (λ b. b < 256) xs → AllByRecursion (λ b. b < 256) (xs ++ 0x5E ∷ 0x58 ∷ 0x5A ∷ [])
 ends_small [] h = (omega arith, (omega arith, (omega arith, tt)))

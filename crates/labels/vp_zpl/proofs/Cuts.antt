@@ -1,5 +1,5 @@
 -- One more byte at the end of the stream.
-use Rattle.std.proofs.Common.{◌≡◌, ℕ, Bool, true, false, cond, List, [], ◌∷◌, ◌++◌, refl, sym, ap, ◌∙◌}
+use Rattle.std.proofs.Common.{◌≡◌, ℕ, Bool, true, false, cond, List, [], ◌∷◌, ◌++◌, refl, sym, ap, ◌∙◌, arith}
 use Rattle.std.proofs.lemmas.List.{reverse-append}
 use Rattle.vp_zpl.specs.Spelling.{is_sign, is_line_end}
 use Rattle.vp_zpl.specs.Commands.{Cut, cut, cut_back, with_byte, longer, wants_binary}
@@ -19,8 +19,7 @@ taken wants ends signs s c =
     (cond ends s (cond signs (record { before = s.open_one ∷ s.before; open_one = c ∷ [] }) (record { before = s.before; open_one = longer s.open_one c })))
 
 pub with-byte : (s : Cut) (c : ℕ) (wants ends signs : Bool) → wants_binary s.open_one ≡ wants → is_line_end c ≡ ends → is_sign c ≡ signs → with_byte s c ≡ taken wants ends signs s c
-with-byte s c wants ends signs w e g =
-    ap (λ x. taken x (is_line_end c) (is_sign c) s c) w ∙ ap (λ x. taken wants x (is_sign c) s c) e ∙ ap (λ x. taken wants ends x s c) g
+with-byte s c wants ends signs w e g = grind arith
 
 -- the end of a line changes nothing
 pub line_end-cut : (bytes : List ℕ) (c : ℕ) → is_line_end c ≡ true → wants_binary (cut bytes).open_one ≡ false → cut (bytes ++ c ∷ []) ≡ cut bytes

@@ -13,15 +13,13 @@ nothing_after (x ∷ xs) = ap (λ y. x ∷ y) (nothing_after xs)
 
 -- a byte that goes on with the open command
 follows : (wants : Bool) (s : Cut) (c : ℕ) → wants_binary s.open_one ≡ wants → Follows wants c → with_byte s c ≡ record s { open_one = longer s.open_one c }
-follows true s c w f = with-byte s c true (is_line_end c) (is_sign c) w refl refl
-follows false s c w f = with-byte s c false false false w f.1 f.0
+follows wants s c w f = grind (arith, with-byte)
 
 goes_on : (bytes : List ℕ) (before : List (List ℕ)) (sign : ℕ) (front more : List ℕ) → cut bytes ≡ record { before = before; open_one = sign ∷ front }
     → GoesOn (sign ∷ front) more → cut (bytes ++ more) ≡ record { before = before; open_one = sign ∷ front ++ more }
 goes_on bytes before sign front [] e g = ap cut (nothing_after bytes) ∙ e ∙ ap (λ x. cut_of before (sign ∷ x)) (sym (nothing_after front))
 goes_on bytes before sign front (c ∷ more) e g =
-    let one : cut (bytes ++ c ∷ []) ≡ record { before = before; open_one = sign ∷ front ++ c ∷ [] } =
-    cut-push bytes c ∙ ap (λ s. with_byte s c) e ∙ follows (wants_binary (sign ∷ front)) (record { before = before; open_one = sign ∷ front }) c refl g.0 in
+    let one : cut (bytes ++ c ∷ []) ≡ record { before = before; open_one = sign ∷ front ++ c ∷ [] } = grind (arith, cut-push, follows) in
     ap cut (sym (append_assoc bytes (c ∷ []) more)) ∙ goes_on (bytes ++ c ∷ []) before sign (front ++ c ∷ []) more one g.1
     ∙ ap (λ x. cut_of before (sign ∷ x)) (append_assoc front (c ∷ []) more)
 
@@ -33,47 +31,32 @@ pub read_as : (bytes command : List ℕ) → IsCommand command → wants_binary 
     → cut (bytes ++ command) ≡ record { before = (cut bytes).open_one ∷ (cut bytes).before; open_one = command }
 read_as bytes [] i w = absurd i
 read_as bytes (sign ∷ more) i w =
-    let one : cut (bytes ++ sign ∷ []) ≡ record { before = (cut bytes).open_one ∷ (cut bytes).before; open_one = sign ∷ [] } =
-    cut-push bytes sign ∙ with-byte (cut bytes) sign false false true w (sign_ends sign i.0) i.0 in
+    let one : cut (bytes ++ sign ∷ []) ≡ record { before = (cut bytes).open_one ∷ (cut bytes).before; open_one = sign ∷ [] } = grind (arith, cut-push, with-byte, sign_ends) in
     ap cut (sym (append_assoc bytes (sign ∷ []) more)) ∙ goes_on (bytes ++ sign ∷ []) ((cut bytes).open_one ∷ (cut bytes).before) sign [] more one i.1
 
 -- one byte more of a command
 goes_more : (front more : List ℕ) (c : ℕ) → GoesOn front more → Follows (wants_binary (front ++ more)) c → GoesOn front (more ++ c ∷ [])
 goes_more front [] c g f = (carry (λ x. Follows (wants_binary x) c) (front ++ []) front (nothing_after front) f, tt)
-goes_more front (m ∷ more) c g f =
-    (g.0, goes_more (front ++ m ∷ []) more c g.1 (carry (λ x. Follows (wants_binary x) c) (front ++ m ∷ more) ((front ++ m ∷ []) ++ more) (sym (append_assoc front (m ∷ []) more)) f))
+goes_more front (m ∷ more) c g f = grind (arith, carry, append_assoc, goes_more (front ++ m ∷ []) more c g.1 (carry (λ x. Follows (wants_binary x) c) (front ++ m ∷ more) ((front ++ m ∷ []) ++ more) (sym (append_assoc front (m ∷ []) more)) f))
 
 command_more : (command : List ℕ) (c : ℕ) → IsCommand command → Follows (wants_binary command) c → IsCommand (longer command c)
-command_more [] c i f = absurd i
-command_more (sign ∷ more) c i f = (i.0, goes_more (sign ∷ []) more c i.1 f)
+command_more command c i f = grind (arith, goes_more)
 
 cut_more : (before : List (List ℕ)) (command : List ℕ) (c : ℕ) → IsCutOf before command → Follows (wants_binary command) c → IsCutOf before (longer command c)
-cut_more [] [] c i f = tt
-cut_more [] (a ∷ command) c i f = absurd i
-cut_more (b ∷ before) command c i f = (command_more command c i.0 f, i.1)
+cut_more before command c i f = grind (arith, command_more)
 
 are_more : (command : List ℕ) (before : List (List ℕ)) → IsCommand command → wants_binary command ≡ false → AreCommands before → AreCommands (command ∷ before)
-are_more [] before i w a = absurd i
-are_more (sign ∷ more) before i w a = (i, w, a)
+are_more command before i w a = grind arith
 
 cut_sign : (before : List (List ℕ)) (command : List ℕ) (c : ℕ) → IsCutOf before command → wants_binary command ≡ false → is_sign c ≡ true → IsCutOf (command ∷ before) (c ∷ [])
-cut_sign [] [] c i w e = ((e, tt), tt)
-cut_sign [] (a ∷ command) c i w e = absurd i
-cut_sign (b ∷ before) command c i w e = ((e, tt), are_more command (b ∷ before) i.0 w i.1)
+cut_sign before command c i w e = grind (arith, are_more)
 
 byte_by : (wants ends signs : Bool) (s : Cut) (c : ℕ) → wants_binary s.open_one ≡ wants → is_line_end c ≡ ends → is_sign c ≡ signs → IsCut s → IsCut (taken wants ends signs s c)
-byte_by true ends signs s c w e g i = cut_more s.before s.open_one c i (carry (λ x. Follows x c) true (wants_binary s.open_one) (sym w) tt)
-byte_by false true signs s c w e g i = i
-byte_by false false true s c w e g i = cut_sign s.before s.open_one c i w g
-byte_by false false false s c w e g i = cut_more s.before s.open_one c i (carry (λ x. Follows x c) false (wants_binary s.open_one) (sym w) (g, e))
+byte_by wants ends signs s c w e g i = grind (arith, cut_more, carry, cut_sign)
 
 cut_back_is : (bytes : List ℕ) → IsCut (cut_back bytes)
 cut_back_is [] = tt
-cut_back_is (c ∷ bytes) =
-    let s = cut_back bytes in
-    carry IsCut (taken (wants_binary s.open_one) (is_line_end c) (is_sign c) s c) (with_byte s c)
-    (sym (with-byte s c (wants_binary s.open_one) (is_line_end c) (is_sign c) refl refl refl))
-    (byte_by (wants_binary s.open_one) (is_line_end c) (is_sign c) s c refl refl refl (cut_back_is bytes))
+cut_back_is (c ∷ bytes) = grind (arith, carry, taken, with-byte, byte_by, cut_back_is bytes)
 
 pub cut_is : (bytes : List ℕ) → IsCut (cut bytes)
 unfolding cut

@@ -1,14 +1,14 @@
 -- A sign ends what stands open.
-use Rattle.std.proofs.Common.{◌≡◌, ℕ, Bool, true, false, Option, Some, None, List, [], ◌∷◌, ◌++◌, take, drop, refl, sym, ap, ◌∙◌}
+use Rattle.std.proofs.Common.{◌≡◌, ℕ, Bool, true, false, Option, Some, List, [], ◌∷◌, ◌++◌, take, drop, refl, sym, ap, ◌∙◌, arith}
 use Rattle.vp_zpl.specs.declared.name.Kind.{Kind}
 use Rattle.vp_zpl.specs.declared.name.Kind.TheVariants as kinds
 use Rattle.vp_zpl.specs.declared.name.Name.{Name}
 use Rattle.vp_zpl.specs.declared.reader.ZplReader.{ZplReader}
 use Rattle.vp_zpl.specs.declared.reader.Phase.{Phase}
 use Rattle.vp_zpl.specs.declared.reader.Phase.TheVariants.{Outside, AfterSign, AfterFirst, Skipping, Parameters, Text, AfterIndicator, AfterDigit, Codes, Binary}
-use Rattle.vp_zpl.specs.Spelling.{ended, kept_of, Kept, parameters}
-use Rattle.vp_zpl.specs.Shown.{shown_part, shown_parts}
-use Rattle.vp_zpl.specs.Commands.{kind, is_whole, in_format, in_format_by, indicator, indicator_by, indicator_in}
+use Rattle.vp_zpl.specs.Spelling.{kept_of, Kept, parameters}
+use Rattle.vp_zpl.specs.Shown.{shown_parts}
+use Rattle.vp_zpl.specs.Commands.{kind, is_whole, in_format, in_format_by, indicator, indicator_by}
 use Rattle.vp_zpl.specs.Items.{item_of, data_items, graphic, text_known, text_at_end, given, given_named, at_end, at_end_named, waiting}
 use Rattle.vp_zpl.specs.Reader.{StandsIn, Ends, in_phase, indicator_at, indicator_with, left_over, is_alone, has_parameters, InParameters, InText}
 use Rattle.vp_zpl.proofs.Named.{given-is, at_end-is, opened-is, indicator-is}
@@ -27,30 +27,19 @@ sign_indicates sign before = refl
 
 sign_stands : (new : ZplReader) (before : List (List ℕ)) (command : List ℕ) (sign : ℕ) → new.in_format ≡ in_format (command ∷ before) → new.indicator ≡ indicator (command ∷ before)
     → new.phase ≡ AfterSign sign → StandsIn new (command ∷ before) (sign ∷ [])
-sign_stands new before command sign opened indicates phase = record {
-  opened = opened ∙ sym (sign_opened sign (command ∷ before));
-  indicates = indicates ∙ sym (sign_indicates sign (command ∷ before)) ∙ ap (λ x. indicator_at x (sign ∷ []) (command ∷ before)) (sym phase);
-  phase = carry (λ x. in_phase x new (sign ∷ [])) _ _ (sym phase) refl;
-}
+sign_stands new before command sign opened indicates phase = grind (arith, sign_opened, sign_indicates, carry)
 
 ended_gives : (k : Kind) (before : List (List ℕ)) (name : Name) (args : List ℕ) → has_parameters k ≡ true → (k ≡ kinds.Graphic → is_whole args ≡ false)
     → at_end_named k before name args ≡ item_of k name (kept_of (parameters args)) ∷ []
-ended_gives kinds.FieldHex before name args t w = refl
-ended_gives (kinds.Plain j) before name args t w = refl
-ended_gives kinds.Graphic before name args t w = rw (w refl) refl
-ended_gives _ before name args t w = absurd (cc)
+ended_gives k before name args t w = grind arith
 
 hex_indicates : (command : List ℕ) (ps : List Kept) (opened : Bool) (was : Option ℕ) → ps ≡ kept_of (parameters (drop 3 command))
     → indicator_with kinds.FieldHex ps opened was ≡ indicator_by (Some kinds.FieldHex) command opened was
-hex_indicates command ps true was e = ap (λ x. Some (indicator_in x)) e
-hex_indicates command ps false was e = refl
+hex_indicates command ps opened was e = grind arith
 
 with_indicates : (k : Kind) (command : List ℕ) (ps : List Kept) (opened : Bool) (was : Option ℕ) → has_parameters k ≡ true → ps ≡ kept_of (parameters (drop 3 command))
     → indicator_with k ps (in_format_by (Some k) opened) was ≡ indicator_by (Some k) command opened was
-with_indicates kinds.FieldHex command ps opened was t e = hex_indicates command ps opened was e
-with_indicates (kinds.Plain j) command ps opened was t e = refl
-with_indicates kinds.Graphic command ps opened was t e = refl
-with_indicates _ command ps opened was t e = absurd (cc)
+with_indicates k command ps opened was t e = grind (arith, hex_indicates)
 
 pub parameters_end : (r new : ZplReader) (before : List (List ℕ)) (command : List ℕ) (k : Kind) (sign : ℕ) → StandsIn r before command → r.phase ≡ Parameters k
     → Ended r new → new.in_format ≡ r.in_format → new.phase ≡ AfterSign sign
@@ -59,8 +48,7 @@ pub parameters_end : (r new : ZplReader) (before : List (List ℕ)) (command : L
 parameters_end r new before command k sign stands p ends opened phase indicates =
     let h : InParameters r k command = at_phase r before command (Parameters k) stands p in
     let i : r.indicator ≡ indicator before = at_indicator r before command (Parameters k) stands p in
-    let ps : shown_parts new.sent.parameters.items ≡ kept_of (parameters h.args) =
-    ends.kept ∙ ap (λ x. take 8 (x ++ shown_part r.part ∷ [])) h.kept_is ∙ ap (λ x. take 8 (kept_of (ended [] h.args) ++ x ∷ [])) h.part_is ∙ sym (keeps_at_end h.args) in
+    let ps : shown_parts new.sent.parameters.items ≡ kept_of (parameters h.args) = grind (arith, take, keeps_at_end) in
     let o : new.in_format ≡ in_format_by (Some k) (in_format before) = opened ∙ stands.opened ∙ opened-is h.named before in
     record {
       gives = at_end-is h.named before ∙ ended_gives k before r.sent.name h.args h.takes h.not_whole ∙ ap (λ x. item_of k r.sent.name x ∷ []) (sym ps)
@@ -85,11 +73,7 @@ unfolding at_end given
 longer_ends before sign first = refl
 
 alone_ends : (k : Kind) (before : List (List ℕ)) (name : Name) (args : List ℕ) → is_alone k ≡ true → at_end_named k before name args ≡ given_named k before name args ++ []
-alone_ends kinds.FieldHex before name args e = absurd (cc)
-alone_ends (kinds.Plain j) before name args e = absurd (cc)
-alone_ends kinds.FieldData before name args e = absurd (cc)
-alone_ends kinds.Graphic before name args e = absurd (cc)
-alone_ends _ before name args e = refl
+alone_ends k before name args e = grind arith
 
 whole_ends : (before : List (List ℕ)) (name : Name) (args : List ℕ) → is_whole args ≡ true → at_end_named kinds.Graphic before name args ≡ given_named kinds.Graphic before name args ++ []
 whole_ends before name args w = rw w (nothing_more (graphic name args))
@@ -99,14 +83,11 @@ nothing_after [] = refl
 nothing_after (x ∷ xs) = ap (λ y. x ∷ y) (nothing_after xs)
 
 pub text_ends : (o : Option ℕ) (args : List ℕ) → text_at_end o args ≡ text_known o args ++ waiting o args
-text_ends None args = nothing_after args
-text_ends (Some x) args = at_the_end x args
+text_ends o args = grind (arith, nothing_after, at_the_end)
 
 data_ends : (before : List (List ℕ)) (name : Name) (args : List ℕ)
     → at_end_named kinds.FieldData before name args ≡ given_named kinds.FieldData before name args ++ data_items (waiting (indicator before) args)
-data_ends before name args =
-    ap (λ x. item_of kinds.FieldData name [] ∷ data_items x) (text_ends (indicator before) args)
-    ∙ ap (λ x. item_of kinds.FieldData name [] ∷ x) (data_split (text_known (indicator before) args) (waiting (indicator before) args))
+data_ends before name args = grind (arith, text_ends, data_split)
 
 text_gives : (r : ZplReader) (before : List (List ℕ)) (command left : List ℕ) → InText r left command → r.indicator ≡ indicator (command ∷ before)
     → at_end before command ≡ given before command ++ data_items left
@@ -134,8 +115,7 @@ gives_in (Binary n) r before command h not i =
     at_end-is h.named before ∙ whole_ends before r.sent.name h.args h.whole ∙ ap (λ x. x ++ []) (sym (given-is h.named before))
 
 behind_indicates : (q : Phase) (command : List ℕ) (before : List (List ℕ)) → ((k : Kind) → q ≡ Parameters k → ⊥) → indicator_at q command before ≡ indicator (command ∷ before)
-behind_indicates (Parameters k) command before not = absurd (not k refl)
-behind_indicates _ command before not = refl
+behind_indicates q command before not = grind arith
 
 pub others_end : (q : Phase) (r new : ZplReader) (before : List (List ℕ)) (command : List ℕ) (sign : ℕ) → StandsIn r before command → r.phase ≡ q
     → ((k : Kind) → q ≡ Parameters k → ⊥) → new.in_format ≡ r.in_format → new.indicator ≡ r.indicator → new.phase ≡ AfterSign sign

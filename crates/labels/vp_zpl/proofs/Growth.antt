@@ -1,11 +1,11 @@
 -- What is given stays given.
-use Rattle.std.proofs.Common.{◌≡◌, ℕ, Bool, true, false, cond, zero, suc, Option, Some, None, List, [], ◌∷◌, ◌++◌, take, refl, sym, ap, ◌∙◌, append_assoc}
+use Rattle.std.proofs.Common.{◌≡◌, ℕ, Bool, true, false, cond, zero, suc, Option, Some, None, List, [], ◌∷◌, ◌++◌, take, refl, sym, ap, ◌∙◌, append_assoc, arith}
 use Rattle.vp_zpl.specs.declared.name.Kind.{Kind}
 use Rattle.vp_zpl.specs.declared.name.Kind.TheVariants as kinds
 use Rattle.vp_zpl.specs.declared.name.Name.{Name}
-use Rattle.vp_zpl.specs.Spelling.{is_sign, is_line_end, behind_commas, undecided}
-use Rattle.vp_zpl.specs.Commands.{Cut, cut, longer, wants_binary, kind_named, is_whole, is_b, head, count_of, indicator}
-use Rattle.vp_zpl.specs.Items.{Item, items, items_in, item_of, data_items, graphic, picture, is_code, text_known, name_of, given, given_named, at_end, at_end_named, all_ended, waiting}
+use Rattle.vp_zpl.specs.Spelling.{behind_commas, undecided}
+use Rattle.vp_zpl.specs.Commands.{Cut, longer, is_whole, is_b, head, count_of, indicator}
+use Rattle.vp_zpl.specs.Items.{Item, items, items_in, item_of, data_items, graphic, picture, is_code, text_known, given, given_named, at_end, at_end_named, all_ended}
 use Rattle.vp_zpl.proofs.Cuts.{cut-push, items-is, with-byte}
 use Rattle.vp_zpl.proofs.Texts.{step, out}
 use Rattle.vp_zpl.proofs.Heads.{still, code_more}
@@ -54,34 +54,22 @@ named_grows _ before name args c = same _ _ refl
 
 given_grows : (before : List (List ℕ)) (command : List ℕ) (c : ℕ) → Grows (given before command) (given before (longer command c))
 unfolding given
-given_grows before [] c = same _ _ refl
-given_grows before (s ∷ []) c = same _ _ refl
-given_grows before (s ∷ a ∷ []) c = from_none _ _ refl
-given_grows before (s ∷ a ∷ b ∷ args) c = named_grows (kind_named s a b) before (name_of s a b) args c
+given_grows before command c = grind (arith, same, from_none, named_grows)
 
 whole_by : (z : Bool) (before : List (List ℕ)) (name : Name) (args : List ℕ) → is_whole args ≡ z
     → Grows (given_named kinds.Graphic before name args) (at_end_named kinds.Graphic before name args)
-whole_by true before name args w = same _ _ (rw w refl)
-whole_by false before name args w = from_none _ _ (ap (λ z. cond z (graphic name args) []) w)
+whole_by z before name args w = grind (arith, same, from_none)
 
 named_ends : (k : Kind) (before : List (List ℕ)) (name : Name) (args : List ℕ) → Grows (given_named k before name args) (at_end_named k before name args)
 named_ends kinds.FieldHex before name args = from_none _ _ refl
 named_ends (kinds.Plain j) before name args = from_none _ _ refl
-named_ends kinds.FieldData before name args =
-    record {
-      added = data_items (waiting (indicator before) args);
-      is = ap (λ d. item_of kinds.FieldData name [] ∷ data_items d) (text_ends (indicator before) args)
-          ∙ ap (λ d. item_of kinds.FieldData name [] ∷ d) (data_split (text_known (indicator before) args) (waiting (indicator before) args));
-    }
+named_ends kinds.FieldData before name args = grind (arith, text_ends, data_split)
 named_ends kinds.Graphic before name args = whole_by (is_whole args) before name args refl
 named_ends _ before name args = same _ _ refl
 
 end_grows : (before : List (List ℕ)) (command : List ℕ) → Grows (given before command) (at_end before command)
 unfolding given at_end
-end_grows before [] = same _ _ refl
-end_grows before (s ∷ []) = same _ _ refl
-end_grows before (s ∷ a ∷ []) = same _ _ refl
-end_grows before (s ∷ a ∷ b ∷ args) = named_ends (kind_named s a b) before (name_of s a b) args
+end_grows before command = grind (arith, same, named_ends)
 
 no_name : (before : List (List ℕ)) (c : ℕ) → given before (c ∷ []) ≡ []
 unfolding given
@@ -98,28 +86,13 @@ longer_grows : (s : Cut) (c : ℕ) → Grows (items_in s) (items_in (record s { 
 longer_grows s c = within s.before (given s.before s.open_one) (given s.before (longer s.open_one c)) (given_grows s.before s.open_one c)
 
 sign_grows : (s : Cut) (c : ℕ) → Grows (items_in s) (items_in (record { before = s.open_one ∷ s.before; open_one = c ∷ [] }))
-sign_grows s c =
-    let g = within s.before (given s.before s.open_one) (at_end s.before s.open_one) (end_grows s.before s.open_one) in
-    record {
-      added = g.added;
-      is = ap (λ x. all_ended (s.open_one ∷ s.before) ++ x) (no_name (s.open_one ∷ s.before) c) ∙ sym (nothing_more (all_ended (s.open_one ∷ s.before)))
-          ∙ ended_is s.open_one s.before ∙ g.is;
-    }
+sign_grows s c = grind (arith, within, end_grows, no_name, nothing_more, ended_is)
 
 byte_by : (wants ends signs : Bool) (s : Cut) (c : ℕ) → Grows (items_in s) (items_in (Rattle.vp_zpl.proofs.Cuts.taken wants ends signs s c))
-byte_by true ends signs s c = longer_grows s c
-byte_by false true signs s c = same _ _ refl
-byte_by false false true s c = sign_grows s c
-byte_by false false false s c = longer_grows s c
+byte_by wants ends signs s c = grind (arith, longer_grows, same, sign_grows)
 
 one_more : (bytes : List ℕ) (c : ℕ) → Grows (items bytes) (items (bytes ++ c ∷ []))
-one_more bytes c =
-    let s = cut bytes in
-    let g = byte_by (wants_binary s.open_one) (is_line_end c) (is_sign c) s c in
-    record {
-      added = g.added;
-      is = items-is (bytes ++ c ∷ []) ∙ ap items_in (cut-push bytes c ∙ with-byte s c (wants_binary s.open_one) (is_line_end c) (is_sign c) refl refl refl) ∙ g.is ∙ ap (λ x. x ++ g.added) (sym (items-is bytes));
-    }
+one_more bytes c = grind (arith, byte_by, items-is, cut-push, with-byte)
 
 nothing_after : (xs : List ℕ) → xs ++ [] ≡ xs
 nothing_after [] = refl

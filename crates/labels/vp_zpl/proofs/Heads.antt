@@ -14,14 +14,10 @@ tail c p = cond (is_comma c) (p ∷ []) []
 ended_step : (x y : Bool) (p : List ℕ) (args : List ℕ) (a c : ℕ) → ((q : List ℕ) → ended q (args ++ c ∷ []) ≡ ended q args ++ tail c (last q args))
     → cond x (p ∷ ended [] (args ++ c ∷ [])) (cond y (ended p (args ++ c ∷ [])) (ended (p ++ a ∷ []) (args ++ c ∷ [])))
     ≡ cond x (p ∷ ended [] args) (cond y (ended p args) (ended (p ++ a ∷ []) args)) ++ tail c (cond x (last [] args) (cond y (last p args) (last (p ++ a ∷ []) args)))
-ended_step true y p args a c ih = ap (λ e. p ∷ e) (ih [])
-ended_step false true p args a c ih = ih p
-ended_step false false p args a c ih = ih (p ++ a ∷ [])
+ended_step x y p args a c ih = grind arith
 
 one_more : (x y : Bool) (p : List ℕ) (a : ℕ) → cond x (p ∷ []) (cond y [] []) ≡ cond x (p ∷ []) []
-one_more true y p a = refl
-one_more false true p a = refl
-one_more false false p a = refl
+one_more x y p a = grind arith
 
 pub ended-push : (p args : List ℕ) (c : ℕ) → ended p (args ++ c ∷ []) ≡ ended p args ++ tail c (last p args)
 ended-push p [] c = one_more (is_comma c) (is_blank c) p c
@@ -32,16 +28,13 @@ behind_step : (x y : Bool) (n : ℕ) (p args : List ℕ) (a c : ℕ)
     → ((m : ℕ) (q : List ℕ) → m ≤ length (ended q args) → behind_commas m (args ++ c ∷ []) ≡ behind_commas m args ++ c ∷ [])
     → n ≤ length (cond x (p ∷ ended [] args) (cond y (ended p args) (ended (p ++ a ∷ []) args)))
     → cond x (behind_commas (n - 1) (args ++ c ∷ [])) (behind_commas n (args ++ c ∷ [])) ≡ cond x (behind_commas (n - 1) args) (behind_commas n args) ++ c ∷ []
-behind_step true y n p args a c ih h = ih (n - 1) [] (omega arith)
-behind_step false true n p args a c ih h = ih n p h
-behind_step false false n p args a c ih h = ih n (p ++ a ∷ []) h
+behind_step x y n p args a c ih h = grind arith
 
 behind_if : (z : Bool) (xs ys xs' ys' : List ℕ) → xs ≡ xs' → ys ≡ ys' → cond z xs ys ≡ cond z xs' ys'
 behind_if z xs ys xs' ys' e f = cc
 
 append_if : (z : Bool) (xs ys : List ℕ) (c : ℕ) → cond z (xs ++ c ∷ []) (ys ++ c ∷ []) ≡ cond z xs ys ++ c ∷ []
-append_if true xs ys c = refl
-append_if false xs ys c = refl
+append_if z xs ys c = grind arith
 
 behind_none : (z : Bool) (n c : ℕ) → n ≤ 0 → behind_commas n (c ∷ []) ≡ c ∷ []
 behind_none z n c h = let e : n ≡ 0 = omega arith in rw e refl
@@ -51,10 +44,6 @@ behind-push n p [] c h = behind_none true n c h
 behind-push n p (a ∷ args) c h =
     behind_if (n == 0) _ _ _ _ refl (behind_step (is_comma a) (is_blank a) n p args a c (λ m q g. behind-push m q args c g) h)
     ∙ append_if (n == 0) (a ∷ args) _ c
-
-pub whole_is : (args : List ℕ) → is_whole args ≡ true → 4 ≤ length (ended [] args)
-unfolding is_whole
-whole_is args w = grind (arith, nat_tests)
 
 length_kept : (ps : List (List ℕ)) → length (map kept ps) ≡ length ps
 length_kept [] = refl
@@ -68,14 +57,7 @@ pub record Still (args : List ℕ) (c : ℕ) : Type 0 where
 
 pub still : (args : List ℕ) (c : ℕ) → is_whole args ≡ true → Still args c
 unfolding is_whole head
-still args c w =
-    let l : 4 ≤ length (ended [] args) = grind (arith, nat_tests) in
-    let t : length (ended [] args ++ tail c (last [] args)) ≡ length (ended [] args) + length (tail c (last [] args)) = length-append (ended [] args) (tail c (last [] args)) in
-    record {
-      whole = rw (ended-push [] args c) (grind (arith, nat_tests));
-      head_is = rw (ended-push [] args c) (rw map-append (take-append-le 4 (map kept (ended [] args)) (map kept (tail c (last [] args))) (omega (arith, length_kept (ended [] args)))));
-      data_is = behind-push 4 [] args c l;
-    }
+still args c w = grind (arith, nat_tests, length-append, ended-push, map-append, take-append-le, length_kept, behind-push)
 
 pub graphic_same : (name : Name) (args : List ℕ) (c : ℕ) → is_whole args ≡ true → is_b (head args) ≡ true → count_of (head args) ≤ length (behind_commas 4 args)
     → picture (args ++ c ∷ []) ≡ picture args
@@ -94,8 +76,7 @@ binary_more args c w b few =
     ∙ ap (λ x. x ++ c ∷ []) (sym (take_all (count_of (head args)) (behind_commas 4 args) (omega arith))))
 
 filter_if : (z : Bool) (x : ℕ) (xs ys zs : List ℕ) → xs ≡ ys ++ zs → cond z (x ∷ xs) xs ≡ cond z (x ∷ ys) ys ++ zs
-filter_if true x xs ys zs e = ap (λ y. x ∷ y) e
-filter_if false x xs ys zs e = e
+filter_if z x xs ys zs e = grind arith
 
 filter_push : (xs : List ℕ) (c : ℕ) → filter is_code (xs ++ c ∷ []) ≡ filter is_code xs ++ cond (is_code c) (c ∷ []) []
 filter_push [] c = refl

@@ -19,10 +19,7 @@ use Rattle.vp_zpl.proofs.Parameters.{last-push, keeps, same_ended, same_whole, c
 -- before its head is whole, a command with parameters has given nothing
 pub none_given : (k : Kind) (before : List (List ℕ)) (name : Name) (args : List ℕ) → has_parameters k ≡ true → (k ≡ kinds.Graphic → is_whole args ≡ false)
     → given_named k before name args ≡ []
-none_given kinds.FieldHex before name args t w = refl
-none_given (kinds.Plain j) before name args t w = refl
-none_given kinds.Graphic before name args t w = rw (w refl) refl
-none_given _ before name args t w = absurd (cc)
+none_given k before name args t w = grind arith
 
 -- what the reader keeps of these parameters
 pub record Reads (r : ZplReader) (kind : Kind) (args : List ℕ) : Type 0 where
@@ -59,8 +56,7 @@ part_goes r new before command kind c stands p e comma blank push =
     (λ args h. record {
       not_whole = λ g. same_whole args c comma ∙ h.not_whole g;
       kept_is = ap (λ (s : ZplReader). shown_parts s.sent.parameters.items) e ∙ h.kept_is ∙ sym (ap kept_of (same_ended args c comma));
-      part_is = push (last [] args) h.part_is ∙ sym (ap kept (last-push [] args c
-          ∙ ap (λ z. cond z [] (cond (is_blank c) (last [] args) (last [] args ++ c ∷ []))) comma ∙ ap (λ z. cond z (last [] args) (last [] args ++ c ∷ [])) blank));
+      part_is = grind (arith, last-push);
     })
 
 -- a comma has ended a parameter
@@ -69,9 +65,7 @@ pub record Ended (r new : ZplReader) : Type 0 where
   pub part : shown_part new.part ≡ Rattle.vp_zpl.specs.Spelling.kept []
 
 pub kept_on : (r new : ZplReader) (kind : Kind) (args : List ℕ) → Ended r new → Reads r kind args → shown_parts new.sent.parameters.items ≡ kept_of (ended [] (args ++ 0x2C ∷ []))
-kept_on r new kind args e h =
-    e.kept ∙ ap (λ x. take 8 (x ++ shown_part r.part ∷ [])) h.kept_is ∙ ap (λ x. take 8 (kept_of (ended [] args) ++ x ∷ [])) h.part_is
-    ∙ sym (keeps (ended [] args) (last [] args)) ∙ ap kept_of (sym (comma_ended args))
+kept_on r new kind args e h = grind (arith, keeps, comma_ended)
 
 pub comma_goes : (r new : ZplReader) (before : List (List ℕ)) (command : List ℕ) (kind : Kind) → StandsIn r before command → r.phase ≡ Parameters kind
     → new ≡ record r { sent = record r.sent { parameters = new.sent.parameters }; part = new.part } → Ended r new → (kind ≡ kinds.Graphic → length (shown_parts new.sent.parameters.items) < 4)
@@ -87,16 +81,13 @@ comma_goes r new before command kind stands p e ends few =
 -- the phase behind a whole head
 head_phase : (z : Bool) (new : ZplReader) (args command : List ℕ) → Named new kinds.Graphic args command → is_whole args ≡ true → behind_commas 4 args ≡ [] → is_b (head args) ≡ z
     → in_phase (cond z (Binary (count_of (head args))) Codes) new command
-head_phase true new args command n w d e = record { args = args; named = n; whole = w; binary = e; left_is = omega (arith, ap length d) }
-head_phase false new args command n w d e = record { args = args; named = n; whole = w; is_a = e }
+head_phase z new args command n w d e = grind arith
 
 head_indicates : (z : Bool) (n : ℕ) (command : List ℕ) (before : List (List ℕ)) → indicator (command ∷ before) ≡ indicator_at (cond z (Binary n) Codes) command before
-head_indicates true n command before = refl
-head_indicates false n command before = refl
+head_indicates z n command before = grind arith
 
 no_picture : (z : Bool) (n : ℕ) (none : List ℕ) → none ≡ [] → cond z (take n []) none ≡ []
-no_picture true n none e = take-nil n
-no_picture false n none e = e
+no_picture z n none e = grind (arith, take-nil)
 
 picture_none : (args : List ℕ) → behind_commas 4 args ≡ [] → picture args ≡ []
 unfolding picture

@@ -1,12 +1,12 @@
 -- Items are of no more bytes than were read.
-use Rattle.std.proofs.Common.{◌≡◌, ◌≤◌, ℕ, ◌+◌, ◌-◌, ◌==◌, Bool, true, false, cond, Option, Some, None, List, [], ◌∷◌, ◌++◌, length, reverse, filter, refl, arith, lit≤}
+use Rattle.std.proofs.Common.{◌≡◌, ◌≤◌, ℕ, ◌+◌, ◌-◌, Bool, cond, Option, List, [], ◌∷◌, ◌++◌, length, reverse, filter, refl, arith, lit≤}
 use Rattle.std.proofs.lemmas.List.{length-take, length-reverse, length_push}
 use Rattle.vp_zpl.specs.declared.name.Kind.{Kind}
 use Rattle.vp_zpl.specs.declared.name.Kind.TheVariants as kinds
 use Rattle.vp_zpl.specs.declared.name.Name.{Name}
-use Rattle.vp_zpl.specs.Spelling.{is_comma, is_sign, is_line_end, behind_commas, decoded, known, could_spell, spelled, or_itself}
-use Rattle.vp_zpl.specs.Commands.{Cut, cut, cut_back, longer, with_byte, wants_binary, kind_named, is_whole, is_b, head, count_of, indicator}
-use Rattle.vp_zpl.specs.Items.{Item, items, data_items, graphic, picture, is_code, text_known, text_at_end, name_of, given, given_named, at_end, at_end_named, all_ended, least_bytes}
+use Rattle.vp_zpl.specs.Spelling.{behind_commas, decoded, known, could_spell, spelled, or_itself}
+use Rattle.vp_zpl.specs.Commands.{Cut, cut, cut_back, longer, with_byte, is_whole, indicator}
+use Rattle.vp_zpl.specs.Items.{Item, items, data_items, graphic, picture, is_code, text_known, text_at_end, given, given_named, at_end, at_end_named, all_ended, least_bytes}
 use Rattle.vp_zpl.proofs.Cuts.{items-is}
 
 pub least_append : (xs ys : List Item) → least_bytes (xs ++ ys) ≡ least_bytes xs + least_bytes ys
@@ -20,32 +20,26 @@ least_data (b ∷ bytes) = omega (arith, least_data bytes)
 -- Data that a command gives are no longer than what is behind its name.
 
 or_shorter : (b : Bool) (x : ℕ) (xs ys : List ℕ) → length xs ≤ length ys → length (cond b (x ∷ xs) xs) ≤ length (x ∷ ys)
-or_shorter true x xs ys h = omega arith
-or_shorter false x xs ys h = omega arith
+or_shorter b x xs ys h = grind arith
 
 codes_few : (bytes : List ℕ) → length (filter is_code bytes) ≤ length bytes
 codes_few [] = lit≤ tt
 codes_few (b ∷ bytes) = or_shorter (is_code b) b (filter is_code bytes) bytes (codes_few bytes)
 
 either_few : (b : Bool) (xs ys : List ℕ) (n : ℕ) → length xs ≤ n → length ys ≤ n → length (cond b xs ys) ≤ n
-either_few true xs ys n h k = h
-either_few false xs ys n h k = k
+either_few b xs ys n h k = grind arith
 
 behind_few : (n : ℕ) (args : List ℕ) → length (behind_commas n args) ≤ length args
 behind_few n [] = lit≤ tt
-behind_few n (c ∷ args) = either_few (n == 0) _ _ (length (c ∷ args)) (omega arith)
-    (either_few (is_comma c) _ _ (length (c ∷ args)) (let few = behind_few (n - 1) args in omega arith) (let few = behind_few n args in omega arith))
+behind_few n (c ∷ args) = grind (arith, either_few, behind_few (n - 1) args, behind_few n args)
 
 picture_few : (args : List ℕ) → length (picture args) ≤ length args
 unfolding picture
-picture_few args = either_few (is_b (head args)) _ _ (length args)
-    (omega (arith, length-take (count_of (head args)) (behind_commas 4 args), behind_few 4 args))
-    (omega (arith, codes_few (behind_commas 4 args), behind_few 4 args))
+picture_few args = grind (arith, either_few, length-take, behind_few, codes_few)
 
 itself_few : (o : Option ℕ) (behind_it rest : List ℕ) (a b c : ℕ) (more : List ℕ) → length behind_it ≤ length more → length rest ≤ length (b ∷ c ∷ more)
     → length (or_itself o behind_it a rest) ≤ length (a ∷ b ∷ c ∷ more)
-itself_few (Some m) behind_it rest a b c more h k = omega arith
-itself_few None behind_it rest a b c more h k = omega arith
+itself_few o behind_it rest a b c more h k = grind arith
 
 decoded_few : (x : ℕ) (bytes : List ℕ) → length (decoded x bytes) ≤ length bytes
 decoded_few x [] = lit≤ tt
@@ -60,12 +54,10 @@ known_few x (a ∷ b ∷ []) = either_few (could_spell x (a ∷ b ∷ [])) [] (a
 known_few x (a ∷ b ∷ c ∷ more) = itself_few (spelled x a b c) _ _ a b c more (known_few x more) (known_few x (b ∷ c ∷ more))
 
 at_end_text : (o : Option ℕ) (args : List ℕ) → length (text_at_end o args) ≤ length args
-at_end_text None args = omega arith
-at_end_text (Some x) args = decoded_few x args
+at_end_text o args = grind (arith, decoded_few)
 
 known_text : (o : Option ℕ) (args : List ℕ) → length (text_known o args) ≤ length args
-known_text None args = omega arith
-known_text (Some x) args = known_few x args
+known_text o args = grind (arith, known_few)
 
 -- Of a command.
 
@@ -73,8 +65,7 @@ graphic_few : (name : Name) (args : List ℕ) → least_bytes (graphic name args
 graphic_few name args = omega (arith, least_data (picture args), picture_few args)
 
 items_either : (b : Bool) (xs ys : List Item) (n : ℕ) → least_bytes xs ≤ n → least_bytes ys ≤ n → least_bytes (cond b xs ys) ≤ n
-items_either true xs ys n h k = h
-items_either false xs ys n h k = k
+items_either b xs ys n h k = grind arith
 
 ended_named : (k : Kind) (before : List (List ℕ)) (name : Name) (args : List ℕ) → least_bytes (at_end_named k before name args) ≤ 3 + length args
 ended_named kinds.Graphic before name args = items_either (is_whole args) _ _ (3 + length args) (graphic_few name args) (omega arith)
@@ -90,17 +81,11 @@ open_named _ before name args = omega arith
 
 ended_few : (before : List (List ℕ)) (command : List ℕ) → least_bytes (at_end before command) ≤ length command
 unfolding at_end
-ended_few before [] = lit≤ tt
-ended_few before (s ∷ []) = lit≤ tt
-ended_few before (s ∷ a ∷ []) = lit≤ tt
-ended_few before (s ∷ a ∷ b ∷ args) = omega (arith, ended_named (kind_named s a b) before (name_of s a b) args)
+ended_few before command = grind (arith, lit≤, ended_named)
 
 given_few : (before : List (List ℕ)) (command : List ℕ) → least_bytes (given before command) ≤ length command
 unfolding given
-given_few before [] = lit≤ tt
-given_few before (s ∷ []) = lit≤ tt
-given_few before (s ∷ a ∷ []) = lit≤ tt
-given_few before (s ∷ a ∷ b ∷ args) = omega (arith, open_named (kind_named s a b) before (name_of s a b) args)
+given_few before command = grind (arith, lit≤, open_named)
 
 -- the bytes of all commands
 abbrev all_bytes : List (List ℕ) → ℕ
@@ -117,19 +102,13 @@ abbrev cut_bytes : Cut → ℕ
 cut_bytes s = all_bytes s.before + length s.open_one
 
 longer_few : (bytes : List ℕ) (c : ℕ) → length (longer bytes c) ≤ length bytes + 1
-longer_few [] c = lit≤ tt
-longer_few (b ∷ bytes) c = omega (arith, length_push bytes c)
+longer_few bytes c = grind (arith, lit≤, length_push)
 
 cuts : (b : Bool) (s t : Cut) (n : ℕ) → cut_bytes s ≤ n → cut_bytes t ≤ n → cut_bytes (cond b s t) ≤ n
-cuts true s t n h k = h
-cuts false s t n h k = k
+cuts b s t n h k = grind arith
 
 byte_few : (s : Cut) (c : ℕ) → cut_bytes (with_byte s c) ≤ cut_bytes s + 1
-byte_few s c =
-    let more = longer_few s.open_one c in
-    cuts (wants_binary s.open_one) _ _ (cut_bytes s + 1) (omega (arith, more))
-    (cuts (is_line_end c) _ _ (cut_bytes s + 1) (omega arith)
-    (cuts (is_sign c) _ _ (cut_bytes s + 1) (omega arith) (omega (arith, more))))
+byte_few s c = grind (arith, longer_few, cuts)
 
 back_few : (bytes : List ℕ) → cut_bytes (cut_back bytes) ≤ length bytes
 back_few [] = lit≤ tt
@@ -140,10 +119,4 @@ unfolding cut
 cut_few bytes = omega (arith, back_few (reverse bytes), length-reverse bytes)
 
 pub items_least : (bytes : List ℕ) → least_bytes (items bytes) ≤ length bytes
-items_least bytes = rw (items-is bytes) (omega (
-  arith,
-  least_append (all_ended (cut bytes).before) (given (cut bytes).before (cut bytes).open_one),
-  all_few (cut bytes).before,
-  given_few (cut bytes).before (cut bytes).open_one,
-  cut_few bytes,
-))
+items_least bytes = grind (arith, items-is, least_append, all_few, given_few, cut_few)

@@ -1,13 +1,11 @@
 -- A command whose name is known.
-use Rattle.std.proofs.Common.{◌≡◌, ℕ, ◌-◌, Bool, true, false, Option, Some, List, [], ◌∷◌, ◌++◌, length, refl, sym, ap, ◌∙◌, arith, nat_lt}
+use Rattle.std.proofs.Common.{◌≡◌, ℕ, ◌-◌, Bool, true, false, Option, Some, List, [], ◌∷◌, ◌++◌, refl, sym, ap, ◌∙◌, arith, nat_lt}
 use Rattle.std.proofs.lemmas.Bool.Decides.{nat_tests}
 use Rattle.vp_zpl.specs.declared.name.Kind.{Kind}
 use Rattle.vp_zpl.specs.declared.name.Kind.TheVariants as kinds
 use Rattle.vp_zpl.specs.declared.reader.ZplReader.{ZplReader}
 use Rattle.vp_zpl.specs.declared.reader.Phase.{Phase}
-use Rattle.vp_zpl.specs.declared.reader.Phase.TheVariants.{Outside, AfterSign, AfterFirst, Skipping, Parameters, Text, AfterIndicator, AfterDigit, Codes, Binary}
-use Rattle.vp_zpl.specs.Spelling.{behind_commas}
-use Rattle.vp_zpl.specs.Commands.{kind, count_of, head, is_whole, is_short, longer, in_format, in_format_by, indicator, indicator_by, wants_binary, wants_binary_named}
+use Rattle.vp_zpl.specs.Commands.{kind, is_whole, is_short, longer, in_format, in_format_by, indicator, indicator_by, wants_binary, wants_binary_named}
 use Rattle.vp_zpl.specs.Items.{Item, given, given_named, at_end, at_end_named, name_of}
 use Rattle.vp_zpl.specs.Reader.{Named, Goes, in_phase, is_alone, indicator_at, left_of}
 
@@ -51,37 +49,24 @@ is_indicator kinds.FieldHex = true
 is_indicator _ = false
 
 pub same_by : (k : Kind) (a b : List ℕ) (opened : Bool) (was : Option ℕ) → is_indicator k ≡ false → indicator_by (Some k) a opened was ≡ indicator_by (Some k) b opened was
-same_by kinds.FieldHex a b opened was e = absurd (cc)
-same_by _ a b opened was e = refl
+same_by k a b opened was e = grind arith
 
 alone_wants : (k : Kind) (args : List ℕ) → is_alone k ≡ true → wants_binary_named k args ≡ false
-alone_wants kinds.Graphic args e = absurd (cc)
-alone_wants _ args e = refl
+alone_wants k args e = grind arith
 
 pub alone_not : (k : Kind) → is_alone k ≡ true → is_indicator k ≡ false
-alone_not kinds.FieldHex e = absurd (cc)
-alone_not _ e = refl
+alone_not k e = grind arith
 
 parameters_want : (k : Kind) (args : List ℕ) → (k ≡ kinds.Graphic → is_whole args ≡ false) → wants_binary_named k args ≡ false
 unfolding is_short
-parameters_want kinds.Graphic args e = rw (e refl) refl
-parameters_want _ args e = refl
+parameters_want k args e = grind arith
 
 more_left : (a b : ℕ) → nat_lt a b ≡ nat_lt 0 (b - a)
 more_left a b = grind (arith, nat_tests)
 
 pub wants_in : (p : Phase) (r : ZplReader) (o : List ℕ) → in_phase p r o → wants_binary o ≡ nat_lt 0 (left_of p)
 unfolding wants_binary is_short
-wants_in Outside r o e = rw e refl
-wants_in (AfterSign s) r o e = rw e refl
-wants_in (AfterFirst s a) r o e = rw e refl
-wants_in Skipping r o h = wants-is h.named ∙ alone_wants h.kind h.args h.alone
-wants_in (Parameters k) r o h = wants-is h.named ∙ parameters_want k h.args h.not_whole
-wants_in Text r o h = wants-is h.named
-wants_in (AfterIndicator x) r o h = wants-is h.1.named
-wants_in (AfterDigit x d) r o h = wants-is h.1.named
-wants_in Codes r o h = wants-is h.named ∙ rw (h.whole, h.is_a) refl
-wants_in (Binary left) r o h = wants-is h.named ∙ rw (h.whole, h.binary, h.left_is) (more_left (length (behind_commas 4 h.args)) (count_of (head h.args)))
+wants_in p r o e = grind (arith, alone_wants, parameters_want, more_left)
 
 carry : {A : Type 0} (P : A → Type 0) (a b : A) → a ≡ b → P a → P b
 carry P a b e x = rw e at x

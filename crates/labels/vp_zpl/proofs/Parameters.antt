@@ -13,9 +13,7 @@ after c p = cond (is_comma c) [] (cond (is_blank c) p (p ++ c ∷ []))
 last_step : (x y : Bool) (p args : List ℕ) (a c : ℕ) → ((q : List ℕ) → last q (args ++ c ∷ []) ≡ after c (last q args))
     → cond x (last [] (args ++ c ∷ [])) (cond y (last p (args ++ c ∷ [])) (last (p ++ a ∷ []) (args ++ c ∷ [])))
     ≡ after c (cond x (last [] args) (cond y (last p args) (last (p ++ a ∷ []) args)))
-last_step true y p args a c ih = ih []
-last_step false true p args a c ih = ih p
-last_step false false p args a c ih = ih (p ++ a ∷ [])
+last_step x y p args a c ih = grind arith
 
 pub last-push : (p args : List ℕ) (c : ℕ) → last p (args ++ c ∷ []) ≡ after c (last p args)
 last-push p [] c = refl
@@ -57,9 +55,7 @@ behind_within : (x y : Bool) (n : ℕ) (p args : List ℕ) (a : ℕ)
     → ((m : ℕ) (q : List ℕ) → length (ended q args) + 1 ≤ m → behind_commas m (args ++ 0x2C ∷ []) ≡ [])
     → length (cond x (p ∷ ended [] args) (cond y (ended p args) (ended (p ++ a ∷ []) args))) + 1 ≤ n
     → cond x (behind_commas (n - 1) (args ++ 0x2C ∷ [])) (behind_commas n (args ++ 0x2C ∷ [])) ≡ []
-behind_within true y n p args a ih g = ih (n - 1) [] (omega arith)
-behind_within false true n p args a ih g = ih n p g
-behind_within false false n p args a ih g = ih n (p ++ a ∷ []) g
+behind_within x y n p args a ih g = grind arith
 
 -- behind a comma that ends the n-th parameter there is nothing
 pub behind_last : (n : ℕ) (p args : List ℕ) → length (ended p args) + 1 ≤ n → behind_commas n (args ++ 0x2C ∷ []) ≡ []

@@ -1,5 +1,5 @@
 -- A byte more, by the phase, where no parameters are read.
-use Rattle.std.proofs.Common.{◌≡◌, ℕ, true, Option, Some, None, List, [], ◌∷◌, ◌++◌, refl, sym, ap, ◌∙◌}
+use Rattle.std.proofs.Common.{◌≡◌, ℕ, true, Option, Some, None, List, [], ◌∷◌, ◌++◌, refl, sym, ap, ◌∙◌, arith}
 use Rattle.vp_zpl.specs.declared.name.Kind.{Kind}
 use Rattle.vp_zpl.specs.declared.name.Kind.TheVariants as kinds
 use Rattle.vp_zpl.specs.declared.name.Name.{Name}
@@ -23,11 +23,7 @@ nothing_more [] = refl
 nothing_more (x ∷ xs) = ap (λ y. x ∷ y) (nothing_more xs)
 
 alone_gives : (k : Kind) (before : List (List ℕ)) (name : Name) (args more : List ℕ) → is_alone k ≡ true → given_named k before name more ≡ given_named k before name args ++ []
-alone_gives kinds.FieldHex before name args more e = absurd (cc)
-alone_gives (kinds.Plain j) before name args more e = absurd (cc)
-alone_gives kinds.FieldData before name args more e = absurd (cc)
-alone_gives kinds.Graphic before name args more e = absurd (cc)
-alone_gives _ before name args more e = refl
+alone_gives k before name args more e = grind arith
 
 pub carry : {A : Type 0} (P : A → Type 0) (a b : A) → a ≡ b → P a → P b
 carry P a b e x = rw e at x
@@ -35,10 +31,7 @@ carry P a b e x = rw e at x
 -- data that have become known
 pub data_shows : (result : Event) (mid new : ZplReader) (bytes : DataBytes) (before : List (List ℕ)) (command : List ℕ) (c : ℕ) → result ≡ events.Data → new ≡ record mid { known = bytes }
     → Goes (data_items (data_bytes bytes)) (record mid { known = bytes }) before command c → Goes (shown_event result new) new before command c
-data_shows result mid new bytes before command c e f g =
-    carry (λ i. Goes i new before command c) (data_items (data_bytes bytes)) (shown_event result new)
-    (sym (ap (λ x. shown_event x new) e ∙ ap (λ (s : ZplReader). data_items (data_bytes s.known)) f))
-    (carry (λ s. Goes (data_items (data_bytes bytes)) s before command c) (record mid { known = bytes }) new (sym f) g)
+data_shows result mid new bytes before command c e f g = grind (arith, carry)
 
 pub at_phase : (r : ZplReader) (before : List (List ℕ)) (command : List ℕ) (q : Phase) → StandsIn r before command → r.phase ≡ q → in_phase q r command
 at_phase r before command q stands p = carry (λ x. in_phase x r command) r.phase q p stands.phase
@@ -47,10 +40,7 @@ pub at_indicator : (r : ZplReader) (before : List (List ℕ)) (command : List �
 at_indicator r before command q stands p = stands.indicates ∙ ap (λ x. indicator_at x command before) p
 
 pub outside_goes : (r : ZplReader) (before : List (List ℕ)) (command : List ℕ) (c : ℕ) → StandsIn r before command → r.phase ≡ Outside → Goes [] r before command c
-outside_goes r before command c stands p =
-    let e : command ≡ [] = at_phase r before command Outside stands p in
-    let l : longer command c ≡ command = rw e refl in
-    record { gives = rw l (nothing_more (given before command)); stands = carry (λ x. StandsIn r before x) _ _ (sym l) stands }
+outside_goes r before command c stands p = grind (arith, at_phase, nothing_more, carry)
 
 pub skipping_goes : (r : ZplReader) (before : List (List ℕ)) (command : List ℕ) (c : ℕ) → StandsIn r before command → r.phase ≡ Skipping → Goes [] r before command c
 skipping_goes r before command c stands p =
@@ -64,13 +54,7 @@ skipping_goes r before command c stands p =
 pub name_goes : (r : ZplReader) (before : List (List ℕ)) (command : List ℕ) (sign c : ℕ) → StandsIn r before command → r.phase ≡ AfterSign sign
     → Goes [] (record r { phase = AfterFirst sign c }) before command c
 unfolding given in_format indicator kind
-name_goes r before command sign c stands p =
-    let e : command ≡ sign ∷ [] = at_phase r before command (AfterSign sign) stands p in
-    let i : r.indicator ≡ indicator (command ∷ before) = at_indicator r before command (AfterSign sign) stands p in
-    record {
-      gives = rw e refl;
-      stands = record { opened = rw e (rw e at stands.opened); indicates = rw e (rw e at i); phase = rw e refl };
-    }
+name_goes r before command sign c stands p = grind (arith, at_phase, at_indicator)
 
 pub named_first : (r : ZplReader) (before : List (List ℕ)) (command : List ℕ) (sign first : ℕ) → StandsIn r before command → r.phase ≡ AfterFirst sign first → command ≡ sign ∷ first ∷ []
 named_first r before command sign first stands p = at_phase r before command (AfterFirst sign first) stands p
@@ -84,8 +68,7 @@ data_split [] ys = refl
 data_split (x ∷ xs) ys = ap (λ i. Data x ∷ i) (data_split xs ys)
 
 text_more : (o : Option ℕ) (args was : List ℕ) (c : ℕ) → waiting o args ≡ was → text_known o (args ++ c ∷ []) ≡ text_known o args ++ out_of o was c
-text_more None args was c e = refl
-text_more (Some x) args was c e = (step x args c).makes ∙ ap (λ u. known x args ++ out x u c) e
+text_more o args was c e = grind (arith, step, out)
 
 text_items : (o was : Option ℕ) (name : Name) (args more : List ℕ) (c : ℕ) (before : List (List ℕ)) → indicator before ≡ was → text_known was (args ++ c ∷ []) ≡ text_known was args ++ more
     → given_named kinds.FieldData before name (args ++ c ∷ []) ≡ given_named kinds.FieldData before name args ++ data_items more

@@ -2,14 +2,13 @@
 use Rattle.std.proofs.Common.{◌≡◌, ℕ, ◌-◌, ◌<◌, ◌≤◌, true, false, cond, List, [], ◌∷◌, ◌++◌, length, refl, sym, ap, ◌∙◌, arith, nat_lt}
 use Rattle.std.proofs.lemmas.Bool.Decides.{nat_tests}
 use Rattle.std.proofs.lemmas.List.{length_push}
-use Rattle.vp_zpl.specs.declared.name.Kind.TheVariants as kinds
 use Rattle.vp_zpl.specs.declared.name.Name.{Name}
 use Rattle.vp_zpl.specs.declared.reader.ZplReader.{ZplReader}
 use Rattle.vp_zpl.specs.declared.reader.Phase.{Phase}
 use Rattle.vp_zpl.specs.declared.reader.Phase.TheVariants.{Codes, Binary}
 use Rattle.vp_zpl.specs.Spelling.{behind_commas}
 use Rattle.vp_zpl.specs.Commands.{count_of, head, is_whole, indicator, wants_binary}
-use Rattle.vp_zpl.specs.Items.{data_items, item_of, graphic, picture, is_code}
+use Rattle.vp_zpl.specs.Items.{data_items, graphic, picture, is_code}
 use Rattle.vp_zpl.specs.Reader.{StandsIn, Goes, InCodes, InBinary, left_of}
 use Rattle.vp_zpl.proofs.Named.{goes_named, named_longer, indicator_longer, wants_in}
 use Rattle.vp_zpl.proofs.Phases.{at_phase, at_indicator, data_split}
@@ -20,14 +19,11 @@ none_more [] = refl
 none_more (x ∷ xs) = ap (λ y. x ∷ y) (none_more xs)
 
 binary_phase : (p : Phase) (left : ℕ) → left_of p ≡ left → 0 < left → p ≡ Binary left
-binary_phase (Binary n) left e s = ap (λ x. Binary x) e
-binary_phase _ left e s = absurd (omega arith)
+binary_phase p left e s = grind arith
 
 given_graphic : (args : List ℕ) (name : Name) (more : List ℕ) (c : ℕ) → is_whole args ≡ true → picture (args ++ c ∷ []) ≡ picture args ++ more
     → (cond (is_whole (args ++ c ∷ [])) (graphic name (args ++ c ∷ [])) []) ≡ (cond (is_whole args) (graphic name args) []) ++ data_items more
-given_graphic args name more c w e =
-    let s = still args c w in
-    rw (s.whole, w, s.head_is, e) (ap (λ i. item_of kinds.Graphic name (head args) ∷ i) (data_split (picture args) more))
+given_graphic args name more c w e = grind (arith, still, data_split)
 
 pub behind_goes : (r : ZplReader) (before : List (List ℕ)) (command : List ℕ) (left c : ℕ) → StandsIn r before command → wants_binary command ≡ false → r.phase ≡ Binary left → Goes [] r before command c
 behind_goes r before command left c stands wants p =

@@ -6,7 +6,7 @@ use Rattle.vp_zpl.specs.declared.name.Kind.TheVariants as kinds
 use Rattle.vp_zpl.specs.declared.reader.ZplReader.{ZplReader}
 use Rattle.vp_zpl.specs.declared.reader.Phase.{Phase}
 use Rattle.vp_zpl.specs.declared.reader.Phase.TheVariants.{Outside, AfterSign, AfterFirst, Skipping, Parameters, Text, AfterIndicator, AfterDigit, Codes, Binary}
-use Rattle.vp_zpl.specs.Commands.{wants_binary, is_short, is_whole, is_b, head, in_format, kind_named}
+use Rattle.vp_zpl.specs.Commands.{wants_binary, is_short, is_whole, is_b, head, in_format}
 use Rattle.vp_zpl.specs.Items.{is_within_one, goes_on_named}
 use Rattle.vp_zpl.specs.Reader.{Named, StandsIn, in_phase, rests_in, is_alone, has_parameters}
 use Rattle.vp_zpl.proofs.Named.{wants_in, wants-is}
@@ -16,35 +16,22 @@ use Rattle.vp_zpl.proofs.Phases.{at_phase}
 within_is : {r : ZplReader} {k : Kind} {args command : List ℕ} (n : Named r k args command) (opened wants : Bool) → wants_binary command ≡ wants
     → is_within_one opened command ≡ (wants || (opened && goes_on_named k args))
 unfolding is_within_one
-within_is {k = k} {args = args} n opened wants w =
-    let here = kind_named n.sign n.first n.second in
-    ap (is_within_one opened) n.bytes ∙ ap (λ x. wants_binary x || (opened && goes_on_named here args)) (sym n.bytes)
-    ∙ ap (λ x. x || (opened && goes_on_named here args)) w ∙ ap (λ x. wants || (opened && goes_on_named x args)) n.kind
+within_is {k = k} {args = args} n opened wants w = grind arith
 
 alone_stays : (k : Kind) (args : List ℕ) → is_alone k ≡ true → goes_on_named k args ≡ false
-alone_stays kinds.FieldHex args e = absurd (cc)
-alone_stays (kinds.Plain j) args e = absurd (cc)
-alone_stays kinds.FieldData args e = absurd (cc)
-alone_stays kinds.Graphic args e = absurd (cc)
-alone_stays _ args e = refl
+alone_stays k args e = grind arith
 
 parameters_go_on : (k : Kind) (args : List ℕ) → has_parameters k ≡ true → (k ≡ kinds.Graphic → is_whole args ≡ false) → goes_on_named k args ≡ true
-parameters_go_on kinds.FieldHex args t w = refl
-parameters_go_on (kinds.Plain j) args t w = refl
-parameters_go_on kinds.Graphic args t w = rw (w refl) refl
-parameters_go_on _ args t w = absurd (cc)
+parameters_go_on k args t w = grind arith
 
 not_alone : (z : Bool) → not (false || (z && false)) ≡ true
-not_alone true = refl
-not_alone false = refl
+not_alone z = grind arith
 
 not_going : (z : Bool) → not (false || (z && true)) ≡ not z
-not_going true = refl
-not_going false = refl
+not_going z = grind arith
 
 binary_rests : (z : Bool) (left : ℕ) → (left == 0) ≡ not (nat_lt 0 left || (z && nat_lt 0 left))
-binary_rests true left = grind (arith, nat_tests)
-binary_rests false left = grind (arith, nat_tests)
+binary_rests z left = grind (arith, nat_tests)
 
 binary_on : (args : List ℕ) → is_whole args ≡ true → is_b (head args) ≡ true → goes_on_named kinds.Graphic args ≡ is_short args
 binary_on args w b = rw (w, b) refl
@@ -71,5 +58,4 @@ within_in (Binary left) r command opened h =
 
 pub rests_is : (q : Phase) (r : ZplReader) (before : List (List ℕ)) (command : List ℕ) → StandsIn r before command → r.phase ≡ q
     → rests_in q r.in_format ≡ not (is_within_one (in_format (command ∷ before)) command)
-rests_is q r before command stands p =
-    within_in q r command r.in_format (at_phase r before command q stands p) ∙ ap (λ x. not (is_within_one x command)) stands.opened
+rests_is q r before command stands p = grind (arith, within_in, at_phase, not)

@@ -25,8 +25,7 @@ Are p [] = Unit {0}
 Are p (c ∷ cs) = (p c ≡ true) × Are p cs
 
 first_passes : (z : Bool) (n m : ℕ) → suc n ≤ cond z (1 + m) 0 → (z ≡ true) × (n ≤ m)
-first_passes true n m h = (refl, omega arith)
-first_passes false n m h = absurd (omega arith)
+first_passes z n m h = grind arith
 
 pub front_passes : (p : ℕ → Bool) (n : ℕ) (cs : List ℕ) → n ≤ prefix_len p cs → Are p (take n cs)
 front_passes p zero cs h = tt
@@ -45,10 +44,7 @@ nothing_after [] = refl
 nothing_after (x ∷ xs) = ap (λ y. x ∷ y) (nothing_after xs)
 
 ran_none : (new : ZplReader) (bytes : List ℕ) → Stands new bytes → Ran new bytes []
-ran_none new bytes stands = record {
-  gives = ap items (sym (nothing_after bytes)) ∙ nothing_after (items bytes);
-  stands = carry (λ b. Stands new b) bytes (bytes ++ []) (nothing_after bytes) stands;
-}
+ran_none new bytes stands = grind (arith, nothing_after, carry)
 
 ran_more : (one new : ZplReader) (bytes cs : List ℕ) (c : ℕ) → Advances (data_items (c ∷ [])) one (cut bytes) c → Ran new (bytes ++ c ∷ []) cs → Ran new bytes (c ∷ cs)
 ran_more one new bytes cs c a more = record {
@@ -71,13 +67,10 @@ stands_in r bytes stands = stands
 
 -- data of ^FD
 not_or : (x y : Bool) → not (x || y) ≡ true → (x ≡ false) × (y ≡ false)
-not_or true y e = absurd (cc)
-not_or false true e = absurd (cc)
-not_or false false e = (refl, refl)
+not_or x y e = grind arith
 
 or_not : (x y : Bool) → (x || y) ≡ false → (x ≡ false) × (y ≡ false)
-or_not true y e = absurd (cc)
-or_not false y e = (refl, e)
+or_not x y e = grind arith
 
 text_step_by : (o : Option ℕ) (r : ZplReader) (before : List (List ℕ)) (command : List ℕ) (c : ℕ) → r.indicator ≡ o → StandsIn r before command → r.phase ≡ Text
     → is_indicated o c ≡ false → Goes (data_items (c ∷ [])) r before command c
@@ -97,8 +90,7 @@ text_step r p bytes c stands e =
 
 -- of ^GF A
 and_true : (x y : Bool) → (not x && y) ≡ true → (x ≡ false) × (y ≡ true)
-and_true true y e = absurd (cc)
-and_true false y e = (refl, e)
+and_true x y e = grind arith
 
 code_step : (r : ZplReader) → r.phase ≡ Codes → (bytes : List ℕ) (c : ℕ) → Stands r bytes → is_kept_code c ≡ true → Advances (data_items (c ∷ [])) r (cut bytes) c
 code_step r p bytes c stands e =
@@ -139,17 +131,10 @@ unfolding front_in
 front_of {args = args} n before input = ap (λ x. front_in before x input) n.bytes ∙ ap (λ k. front_named k (indicator before) args input) n.kind
 
 alone_front : (k : Kind) (o : Option ℕ) (args input : List ℕ) → is_alone k ≡ true → front_named k o args input ≡ 0
-alone_front kinds.FieldHex o args input e = absurd (cc)
-alone_front (kinds.Plain j) o args input e = absurd (cc)
-alone_front kinds.FieldData o args input e = absurd (cc)
-alone_front kinds.Graphic o args input e = absurd (cc)
-alone_front _ o args input e = refl
+alone_front k o args input e = grind arith
 
 parameters_front : (k : Kind) (o : Option ℕ) (args input : List ℕ) → has_parameters k ≡ true → (k ≡ kinds.Graphic → is_whole args ≡ false) → front_named k o args input ≡ 0
-parameters_front kinds.FieldHex o args input t w = refl
-parameters_front (kinds.Plain j) o args input t w = refl
-parameters_front kinds.Graphic o args input t w = rw (w refl) refl
-parameters_front _ o args input t w = absurd (cc)
+parameters_front k o args input t w = grind arith
 
 text_by : (r : ZplReader) (before : List (List ℕ)) (command left input : List ℕ) → InText r left command → r.indicator ≡ indicator (command ∷ before)
     → front_in before command input ≡ text_front left r.indicator input
@@ -172,24 +157,18 @@ front_is Text r before command input h i = sym (text_by r before command [] inpu
 front_is (AfterIndicator x) r before command input h i = sym (text_by r before command (x ∷ []) input h.1 i)
 front_is (AfterDigit x d) r before command input h i = sym (text_by r before command (x ∷ d ∷ []) input h.1 i)
 front_is Codes r before command input h i = sym (front_of h.named before input ∙ whole_front (indicator before) h.args input false h.whole h.is_a)
-front_is (Binary left) r before command input h i =
-    sym (front_of h.named before input ∙ whole_front (indicator before) h.args input true h.whole h.binary ∙ ap (λ n. min (length input) n) (sym h.left_is))
+front_is (Binary left) r before command input h i = grind (arith, front_of, whole_front)
 
 -- by the phase
 fits_in : (q : Phase) (o : Option ℕ) (input : List ℕ) → front_by q o input ≤ length input
-fits_in Text o input = prefix_len-le-length (is_text o) input
-fits_in Codes o input = prefix_len-le-length is_kept_code input
-fits_in _ o input = omega arith
+fits_in q o input = grind (arith, prefix_len-le-length)
 
 pub fits : (q : Phase) (o : Option ℕ) (input : List ℕ) → front_by q o input ≤ length input
 fits q o input = fits_in q o input
 
 none_ran : (r : ZplReader) (q : Phase) (n : ℕ) (bytes input : List ℕ) → r.phase ≡ q → phase_after q n ≡ q → n ≤ 0 → Stands r bytes
     → Ran (record r { phase = phase_after q n }) bytes (take n input)
-none_ran r q n bytes input p same none stands =
-    let z : n ≡ 0 = omega arith in
-    carry (λ m. Ran (record r { phase = phase_after q n }) bytes (take m input)) 0 n (sym z)
-    (ran_none (record r { phase = phase_after q n }) bytes (carry (λ x. Stands (record r { phase = x }) bytes) r.phase (phase_after q n) (p ∙ sym same) stands))
+none_ran r q n bytes input p same none stands = grind (arith, carry, ran_none)
 
 pub front_ran : (q : Phase) (r : ZplReader) (n : ℕ) (bytes input : List ℕ) → r.phase ≡ q → n ≤ front_by q r.indicator input → Stands r bytes
     → Ran (record r { phase = phase_after q n }) bytes (take n input)

@@ -1,5 +1,5 @@
 -- A step by the open command is a step by the bytes.
-use Rattle.std.proofs.Common.{◌≡◌, ℕ, true, false, List, [], ◌∷◌, ◌++◌, refl, sym, ap, ◌∙◌, append_assoc}
+use Rattle.std.proofs.Common.{◌≡◌, ℕ, true, false, List, [], ◌∷◌, ◌++◌, refl, sym, ap, ◌∙◌, append_assoc, arith}
 use Rattle.vp_zpl.specs.declared.reader.ZplReader.{ZplReader}
 use Rattle.vp_zpl.specs.Spelling.{is_sign, is_line_end}
 use Rattle.vp_zpl.specs.Commands.{Cut, cut, with_byte, longer, wants_binary}
@@ -8,8 +8,7 @@ use Rattle.vp_zpl.specs.Reader.{Stands, StandsIn, Goes, Ends, Advances}
 use Rattle.vp_zpl.proofs.Cuts.{cut-push, items-is, with-byte}
 
 pub gives-from : (shows : List Item) (new : ZplReader) (bytes : List ℕ) (c : ℕ) → Advances shows new (cut bytes) c → items (bytes ++ c ∷ []) ≡ items bytes ++ shows
-gives-from shows new bytes c a =
-    items-is (bytes ++ c ∷ []) ∙ ap items_in (cut-push bytes c) ∙ a.gives ∙ ap (λ i. i ++ shows) (sym (items-is bytes))
+gives-from shows new bytes c a = grind (arith, items-is, cut-push)
 
 pub stands-from : (shows : List Item) (new : ZplReader) (bytes : List ℕ) (c : ℕ) → Advances shows new (cut bytes) c → Stands new (bytes ++ c ∷ [])
 unfolding Stands
@@ -20,9 +19,7 @@ advances shows new s to c e gives stands = record { gives = ap items_in e ∙ gi
 
 goes : (shows : List Item) (new : ZplReader) (s : Cut) (c : ℕ) → with_byte s c ≡ record { before = s.before; open_one = longer s.open_one c }
     → Goes shows new s.before s.open_one c → Advances shows new s c
-goes shows new s c e g =
-    advances shows new s (record { before = s.before; open_one = longer s.open_one c }) c e
-    (ap (λ i. all_ended s.before ++ i) g.gives ∙ sym (append_assoc (all_ended s.before) (given s.before s.open_one) shows)) g.stands
+goes shows new s c e g = grind (arith, advances, append_assoc)
 
 pub by_binary : (shows : List Item) (new : ZplReader) (s : Cut) (c : ℕ) → wants_binary s.open_one ≡ true → Goes shows new s.before s.open_one c → Advances shows new s c
 by_binary shows new s c w g = goes shows new s c (with-byte s c true _ _ w refl refl) g
@@ -46,7 +43,4 @@ unfolding all_ended
 ended-is command before = refl
 
 pub by_sign : (shows : List Item) (new : ZplReader) (s : Cut) (c : ℕ) → wants_binary s.open_one ≡ false → is_line_end c ≡ false → is_sign c ≡ true → Ends shows new s.before s.open_one c → Advances shows new s c
-by_sign shows new s c w e n g =
-    advances shows new s (record { before = s.open_one ∷ s.before; open_one = c ∷ [] }) c (with-byte s c false false true w e n)
-    (none_given (s.open_one ∷ s.before) c (all_ended (s.open_one ∷ s.before)) ∙ ended-is s.open_one s.before
-    ∙ ap (λ i. all_ended s.before ++ i) g.gives ∙ sym (append_assoc (all_ended s.before) (given s.before s.open_one) shows)) g.stands
+by_sign shows new s c w e n g = grind (arith, advances, with-byte, none_given, ended-is, append_assoc)

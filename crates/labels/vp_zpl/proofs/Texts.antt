@@ -1,5 +1,5 @@
 -- The data of ^FD behind ^FH, by one byte more.
-use Rattle.std.proofs.Common.{◌≡◌, ℕ, ◌==◌, Bool, true, false, ◌&&◌, cond, if◌then◌else◌, Option, Some, None, List, [], ◌∷◌, ◌++◌, refl, ap, ◌∙◌}
+use Rattle.std.proofs.Common.{◌≡◌, ℕ, ◌==◌, Bool, ◌&&◌, cond, if◌then◌else◌, Option, None, List, [], ◌∷◌, ◌++◌, refl, arith}
 use Rattle.vp_zpl.specs.Spelling.{known, undecided, decoded, spelled, or_itself, or_later, is_hex, hex_of, hex_pair}
 
 -- what a byte makes known, and what is left undecided, behind this that was
@@ -13,10 +13,6 @@ left_by x [] c = if c == x then c ∷ [] else []
 left_by x (a ∷ []) c = if is_hex (hex_of c) then a ∷ c ∷ [] else (if c == x then c ∷ [] else [])
 left_by x (a ∷ b ∷ more) c = or_later (hex_pair (hex_of b) (hex_of c)) [] (if c == x then c ∷ [] else [])
 
-nothing_after : (xs : List ℕ) → xs ≡ xs ++ []
-nothing_after [] = refl
-nothing_after (x ∷ xs) = ap (λ y. x ∷ y) (nothing_after xs)
-
 -- one byte more of the data, with an indicator
 pub record Step (x : ℕ) (bytes : List ℕ) (c : ℕ) : Type 0 where
   pub makes : known x (bytes ++ c ∷ []) ≡ known x bytes ++ out x (undecided x bytes) c
@@ -24,83 +20,53 @@ pub record Step (x : ℕ) (bytes : List ℕ) (c : ℕ) : Type 0 where
 
 step_by : (o : Option ℕ) (a : ℕ) (x c : ℕ) (u1 u2 k1 k2 K1 K2 U1 U2 : List ℕ)
     → K1 ≡ k1 ++ out x u1 c → K2 ≡ k2 ++ out x u2 c → or_itself o K1 a K2 ≡ or_itself o k1 a k2 ++ out x (or_later o u1 u2) c
-step_by None a x c u1 u2 k1 k2 K1 K2 U1 U2 e f = ap (λ y. a ∷ y) f
-step_by (Some n) a x c u1 u2 k1 k2 K1 K2 U1 U2 e f = ap (λ y. n ∷ y) e
+step_by o a x c u1 u2 k1 k2 K1 K2 U1 U2 e f = grind arith
 
 leave_by : (o : Option ℕ) (x c : ℕ) (u1 u2 U1 U2 : List ℕ) → U1 ≡ left_by x u1 c → U2 ≡ left_by x u2 c → or_later o U1 U2 ≡ left_by x (or_later o u1 u2) c
-leave_by None x c u1 u2 U1 U2 e f = f
-leave_by (Some n) x c u1 u2 U1 U2 e f = e
+leave_by o x c u1 u2 U1 U2 e f = grind arith
 
 one_makes : (t : Bool) (x a c : ℕ) → cond (t && is_hex (hex_of c)) [] (a ∷ known x (c ∷ [])) ≡ cond t [] (a ∷ []) ++ out x (cond t (a ∷ []) []) c
-one_makes true x a c = refl
-one_makes false x a c = refl
+one_makes t x a c = grind arith
 
 one_leaves : (t : Bool) (x a c : ℕ) → cond (t && is_hex (hex_of c)) (a ∷ c ∷ []) (undecided x (c ∷ [])) ≡ left_by x (cond t (a ∷ []) []) c
-one_leaves true x a c = refl
-one_leaves false x a c = refl
+one_leaves t x a c = grind arith
 
 one : (x a c : ℕ) → Step x (a ∷ []) c
 one x a c = record { makes = one_makes (a == x) x a c; leaves = one_leaves (a == x) x a c }
 
 out_if : (z : Bool) (x c : ℕ) (u v : List ℕ) → cond z (out x u c) (out x v c) ≡ out x (cond z u v) c
-out_if true x c u v = refl
-out_if false x c u v = refl
+out_if z x c u v = grind arith
 
 left_if : (z : Bool) (x c : ℕ) (u v : List ℕ) → cond z (left_by x u c) (left_by x v c) ≡ left_by x (cond z u v) c
-left_if true x c u v = refl
-left_if false x c u v = refl
+left_if z x c u v = grind arith
 
 two_makes : (t w : Bool) (hb hc : Option ℕ) (a b : ℕ) (kc kb ob : List ℕ) → cond (w && is_hex hc) [] (b ∷ kc) ≡ kb ++ ob
     → or_itself (cond t (hex_pair hb hc) None) [] a (cond (w && is_hex hc) [] (b ∷ kc)) ≡ cond (t && is_hex hb) [] (a ∷ kb) ++ cond (t && is_hex hb) (or_itself (hex_pair hb hc) [] a (b ∷ kc)) ob
-two_makes false w hb hc a b kc kb ob e = ap (λ y. a ∷ y) e
-two_makes true w None hc a b kc kb ob e = ap (λ y. a ∷ y) e
-two_makes true w (Some m) (Some n) a b kc kb ob e = refl
-two_makes true true (Some m) None a b kc kb ob e = refl
-two_makes true false (Some m) None a b kc kb ob e = refl
+two_makes t w hb hc a b kc kb ob e = grind arith
 
 two_leaves : (t w : Bool) (hb hc : Option ℕ) (a b c : ℕ) (uc lb : List ℕ) → cond (w && is_hex hc) (b ∷ c ∷ []) uc ≡ lb
     → or_later (cond t (hex_pair hb hc) None) [] (cond (w && is_hex hc) (b ∷ c ∷ []) uc) ≡ cond (t && is_hex hb) (or_later (hex_pair hb hc) [] uc) lb
-two_leaves false w hb hc a b c uc lb e = e
-two_leaves true w None hc a b c uc lb e = e
-two_leaves true w (Some m) (Some n) a b c uc lb e = refl
-two_leaves true true (Some m) None a b c uc lb e = refl
-two_leaves true false (Some m) None a b c uc lb e = refl
+two_leaves t w hb hc a b c uc lb e = grind arith
 
 two : (x a b c : ℕ) → Step x (a ∷ b ∷ []) c
 unfolding spelled
-two x a b c =
-    let z = (a == x) && is_hex (hex_of b) in
-    record {
-      makes = two_makes (a == x) (b == x) (hex_of b) (hex_of c) a b (known x (c ∷ [])) (known x (b ∷ [])) (out x (undecided x (b ∷ [])) c) (one x b c).makes
-          ∙ ap (λ o. cond ((a == x) && is_hex (hex_of b)) [] (a ∷ known x (b ∷ [])) ++ o) (out_if ((a == x) && is_hex (hex_of b)) x c (a ∷ b ∷ []) (undecided x (b ∷ [])));
-      leaves = two_leaves (a == x) (b == x) (hex_of b) (hex_of c) a b c (undecided x (c ∷ [])) (left_by x (undecided x (b ∷ [])) c) (one x b c).leaves
-          ∙ left_if ((a == x) && is_hex (hex_of b)) x c (a ∷ b ∷ []) (undecided x (b ∷ []));
-    }
+two x a b c = grind (arith, two_makes, out_if, two_leaves, left_if)
 
 pub step : (x : ℕ) (bytes : List ℕ) (c : ℕ) → Step x bytes c
 step x [] c = record { makes = refl; leaves = refl }
 step x (a ∷ []) c = one x a c
 step x (a ∷ b ∷ []) c = two x a b c
-step x (a ∷ b ∷ d ∷ more) c =
-    let i = step x more c in let j = step x (b ∷ d ∷ more) c in
-    record {
-      makes = step_by (spelled x a b d) a x c (undecided x more) (undecided x (b ∷ d ∷ more)) (known x more) (known x (b ∷ d ∷ more)) _ _ [] [] i.makes j.makes;
-      leaves = leave_by (spelled x a b d) x c _ _ _ _ i.leaves j.leaves;
-    }
+step x (a ∷ b ∷ d ∷ more) c = grind (arith, step_by, leave_by, step x more c, step x (b ∷ d ∷ more) c)
 
 -- at the end, what was undecided is itself
 whole_if : (z : Bool) (a : ℕ) (rest k u : List ℕ) → rest ≡ k ++ u → a ∷ rest ≡ cond z [] (a ∷ k) ++ cond z (a ∷ rest) u
-whole_if true a rest k u e = refl
-whole_if false a rest k u e = ap (λ y. a ∷ y) e
+whole_if z a rest k u e = grind arith
 
 whole_by : (o : Option ℕ) (a : ℕ) (d1 d2 k1 k2 u1 u2 : List ℕ) → d1 ≡ k1 ++ u1 → d2 ≡ k2 ++ u2 → or_itself o d1 a d2 ≡ or_itself o k1 a k2 ++ or_later o u1 u2
-whole_by None a d1 d2 k1 k2 u1 u2 e f = ap (λ y. a ∷ y) f
-whole_by (Some n) a d1 d2 k1 k2 u1 u2 e f = ap (λ y. n ∷ y) e
+whole_by o a d1 d2 k1 k2 u1 u2 e f = grind arith
 
 pub at_the_end : (x : ℕ) (bytes : List ℕ) → decoded x bytes ≡ known x bytes ++ undecided x bytes
 at_the_end x [] = refl
 at_the_end x (a ∷ []) = whole_if (a == x) a [] [] [] refl
 at_the_end x (a ∷ b ∷ []) = whole_if ((a == x) && is_hex (hex_of b)) a (b ∷ []) (known x (b ∷ [])) (undecided x (b ∷ [])) (at_the_end x (b ∷ []))
-at_the_end x (a ∷ b ∷ c ∷ more) =
-    whole_by (spelled x a b c) a (decoded x more) (decoded x (b ∷ c ∷ more)) (known x more) (known x (b ∷ c ∷ more)) (undecided x more) (undecided x (b ∷ c ∷ more))
-    (at_the_end x more) (at_the_end x (b ∷ c ∷ more))
+at_the_end x (a ∷ b ∷ c ∷ more) = grind (arith, whole_by, at_the_end x more, at_the_end x (b ∷ c ∷ more))

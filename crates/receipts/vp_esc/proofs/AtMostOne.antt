@@ -1,20 +1,19 @@
 -- A byte gives at most one item.
-use Rattle.std.proofs.Common.{◌≡◌, ℕ, ◌+◌, ◌-◌, ◌*◌, ◌≤◌, Bool, true, false, cond, ltb, eqb, Option, Some, None, List, [], ◌∷◌, ◌++◌, length, map, append_assoc, sym, arith, lit≤, length-append}
+use Rattle.std.proofs.Common.{◌≡◌, ℕ, ◌+◌, ◌-◌, ◌*◌, ◌≤◌, Bool, cond, ltb, eqb, Option, List, [], ◌∷◌, ◌++◌, length, map, append_assoc, arith, lit≤, length-append}
 use Rattle.std.proofs.lemmas.List.{append-nil, map_push, length_push}
 use Rattle.vp_esc.specs.declared.item.EscItem.{EscItem}
 use Rattle.vp_esc.specs.declared.item.EscItem.TheVariants as items
 use Rattle.vp_esc.specs.declared.item.Lead.{Lead}
 use Rattle.vp_esc.specs.declared.item.RasterScale.{RasterScale}
 use Rattle.vp_esc.specs.declared.item.ColumnMode.{ColumnMode}
-use Rattle.vp_esc.specs.declared.item.ColumnMode.TheVariants.{Single8, Double8, Single24, Double24}
 use Rattle.vp_esc.specs.declared.item.QrModel.{QrModel}
 use Rattle.vp_esc.specs.declared.command.Command.{Command}
 use Rattle.vp_esc.specs.declared.command.Command.TheVariants.{Plain, TabStops, Columns, Raster, Symbol, Function, Graphics}
-use Rattle.vp_esc.specs.Values.{spelled, scale_of, column_mode_of, qr_model_of}
-use Rattle.vp_esc.specs.Command.{lead_of, command_of, head_len, plain_len, is_listed}
-use Rattle.vp_esc.specs.Qr.{qr_items, value_items, model_items, store_items, is_qr_function}
+use Rattle.vp_esc.specs.Values.{spelled, scale_of, column_mode_of}
+use Rattle.vp_esc.specs.Command.{head_len}
+use Rattle.vp_esc.specs.Qr.{qr_items, value_items, model_items, store_items}
 use Rattle.vp_esc.specs.Units.{given, given_by, given_behind, given_named, given_after, raster_bytes, columns, tall_columns, at_last}
-use Rattle.vp_esc.specs.Split.{split, items as items_of}
+use Rattle.vp_esc.specs.Split.{items as items_of}
 use Rattle.vp_esc.proofs.Heads.{given_is}
 use Rattle.vp_esc.proofs.Splits.{items-push, items-is}
 
@@ -30,16 +29,14 @@ one : (xs ys : List EscItem) → length ys ≤ 1 → Few xs ys
 one xs ys h = omega arith
 
 one_of : (b : Bool) (xs ys : List EscItem) → length xs ≤ 1 → length ys ≤ 1 → length (cond b xs ys) ≤ 1
-one_of true xs ys h k = h
-one_of false xs ys h k = k
+one_of b xs ys h k = grind arith
 
 behind_same : (x : EscItem) (xs ys : List EscItem) → Few xs ys → Few (x ∷ xs) (x ∷ ys)
 behind_same x xs ys h = omega arith
 
 -- a choice that stays: in both ways more, or in one
 same : (b : Bool) (xs xs' ys ys' : List EscItem) → Few xs xs' → Few ys ys' → Few (cond b xs ys) (cond b xs' ys')
-same true xs xs' ys ys' h k = h
-same false xs xs' ys ys' h k = k
+same b xs xs' ys ys' h k = grind arith
 
 or_same : (b : Bool) (xs xs' ys : List EscItem) → Few xs xs' → Few (cond b xs ys) (cond b xs' ys)
 or_same b xs xs' ys h = same b xs xs' ys ys h (omega arith)
@@ -48,8 +45,7 @@ else_same : (b : Bool) (xs ys ys' : List EscItem) → Few ys ys' → Few (cond b
 else_same b xs ys ys' h = same b xs xs ys ys' (omega arith) h
 
 last_few : (n : Bool) (x : EscItem) → length (at_last n x) ≤ 1
-last_few true x = lit≤ tt
-last_few false x = lit≤ tt
+last_few n x = grind (arith, lit≤)
 
 -- Rasters and columns.
 
@@ -57,12 +53,10 @@ mapped : (f : ℕ → EscItem) (bytes : List ℕ) (c : ℕ) → Few (map f bytes
 mapped f bytes c = rw (map_push f bytes c) (one_more (map f bytes) (f c))
 
 raster_few : (scale : Option RasterScale) (bytes : List ℕ) (c : ℕ) → Few (raster_bytes scale bytes) (raster_bytes scale (bytes ++ c ∷ []))
-raster_few None bytes c = lit≤ tt
-raster_few (Some scale) bytes c = mapped (λ b. items.RasterByte b) bytes c
+raster_few scale bytes c = grind (arith, lit≤, mapped)
 
 raster_first : (x : EscItem) (scale : Option RasterScale) → length (x ∷ raster_bytes scale []) ≤ 1
-raster_first x None = lit≤ tt
-raster_first x (Some scale) = lit≤ tt
+raster_first x scale = grind (arith, lit≤)
 
 tall_few : (bytes : List ℕ) (c : ℕ) → Few (tall_columns bytes) (tall_columns (bytes ++ c ∷ []))
 tall_few [] c = lit≤ tt
@@ -71,50 +65,30 @@ tall_few (x ∷ y ∷ []) c = lit≤ tt
 tall_few (x ∷ y ∷ z ∷ bytes) c = let few = tall_few bytes c in omega arith
 
 columns_few : (mode : ColumnMode) (bytes : List ℕ) (c : ℕ) → Few (columns mode bytes) (columns mode (bytes ++ c ∷ []))
-columns_few Single8 bytes c = mapped (λ b. items.Column8 b) bytes c
-columns_few Double8 bytes c = mapped (λ b. items.Column8 b) bytes c
-columns_few Single24 bytes c = tall_few bytes c
-columns_few Double24 bytes c = tall_few bytes c
+columns_few mode bytes c = grind (arith, mapped, tall_few)
 
 columns_first : (x : EscItem) (mode : ColumnMode) → length (x ∷ columns mode []) ≤ 1
-columns_first x Single8 = lit≤ tt
-columns_first x Double8 = lit≤ tt
-columns_first x Single24 = lit≤ tt
-columns_first x Double24 = lit≤ tt
+columns_first x mode = grind (arith, lit≤)
 
 -- GS ( k.
 
 model_few : (count cn n : ℕ) (model : Option QrModel) (more : List ℕ) → length (model_items count cn n model more) ≤ 1
-model_few count cn n None more = lit≤ tt
-model_few count cn n (Some model) [] = lit≤ tt
-model_few count cn n (Some model) (z ∷ more) = lit≤ tt
+model_few count cn n model more = grind (arith, lit≤)
 
 store_few : (count cn n : ℕ) (more : List ℕ) (c : ℕ) → Few (store_items count cn n more) (store_items count cn n (more ++ c ∷ []))
-store_few count cn n more c =
-    or_same (eqb n 48) _ _ _ (behind_same (items.QrStore (count - 3)) _ _ (mapped (λ b. items.QrByte b) more c))
+store_few count cn n more c = grind (arith, or_same, behind_same, mapped)
 
 value_few : (count cn function n : ℕ) (more : List ℕ) (c : ℕ) → Few (value_items count cn function n more) (value_items count cn function n (more ++ c ∷ []))
 unfolding value_items
-value_few count cn function n more c =
-    same (eqb function 65) _ _ _ _ (one _ _ (model_few count cn n (qr_model_of n) (more ++ c ∷ [])))
-    (else_same (eqb function 67) _ _ _ (else_same (eqb function 69) _ _ _
-    (or_same (eqb function 80) _ _ _ (store_few count cn n more c))))
+value_few count cn function n more c = grind (arith, same, model_few, else_same, or_same, store_few)
 
 value_first : (count cn function n : ℕ) → length (value_items count cn function n []) ≤ 1
 unfolding value_items
-value_first count cn function n =
-    one_of (eqb function 65) _ _ (model_few count cn n (qr_model_of n) [])
-    (one_of (eqb function 67) _ _ (lit≤ tt) (one_of (eqb function 69) _ _ (lit≤ tt)
-    (one_of (eqb function 80) _ _ (one_of (eqb n 48) _ _ (lit≤ tt) (lit≤ tt)) (lit≤ tt))))
+value_first count cn function n = grind (arith, one_of, model_few, lit≤)
 
 qr_few : (count : ℕ) (values : List ℕ) (c : ℕ) → Few (qr_items count values) (qr_items count (values ++ c ∷ []))
 unfolding qr_items
-qr_few count [] c = one _ _ (one_of (eqb count 1) _ _ (lit≤ tt) (lit≤ tt))
-qr_few count (cn ∷ []) c = one _ _ (one_of (is_qr_function cn c count) _ _ (lit≤ tt) (lit≤ tt))
-qr_few count (cn ∷ function ∷ []) c =
-    one _ _ (one_of (is_qr_function cn function count) _ _ (value_first count cn function c) (lit≤ tt))
-qr_few count (cn ∷ function ∷ n ∷ more) c =
-    or_same (is_qr_function cn function count) _ _ _ (value_few count cn function n more c)
+qr_few count values c = grind (arith, one_of, lit≤, value_first, or_same, value_few)
 
 qr_first : (count : ℕ) → length (qr_items count []) ≤ 1
 unfolding qr_items
@@ -124,21 +98,15 @@ qr_first count = one_of (eqb count 0) _ _ (lit≤ tt) (lit≤ tt)
 
 columns_behind : (lead : Lead) (name : ℕ) (a b d : ℕ) (args : List ℕ) (c : ℕ) → Few (given_by lead name Columns (a ∷ b ∷ d ∷ args)) (given_by lead name Columns (a ∷ b ∷ d ∷ args ++ c ∷ []))
 unfolding given_behind
-columns_behind lead name a b d args c =
-    rw (given_is lead name Columns (a ∷ b ∷ d ∷ args) (omega arith), given_is lead name Columns (a ∷ b ∷ d ∷ args ++ c ∷ []) (omega (arith, length_push args c)))
-    (behind_same (items.Columns (column_mode_of a) (b + 256 * d)) _ _ (columns_few (column_mode_of a) args c))
+columns_behind lead name a b d args c = grind (arith, given_is, length_push, behind_same, columns_few)
 
 raster_behind : (lead : Lead) (name : ℕ) (a b d e f g : ℕ) (args : List ℕ) (c : ℕ) → Few (given_by lead name Raster (a ∷ b ∷ d ∷ e ∷ f ∷ g ∷ args)) (given_by lead name Raster (a ∷ b ∷ d ∷ e ∷ f ∷ g ∷ args ++ c ∷ []))
 unfolding given_behind
-raster_behind lead name a b d e f g args c =
-    rw (given_is lead name Raster (a ∷ b ∷ d ∷ e ∷ f ∷ g ∷ args) (omega arith), given_is lead name Raster (a ∷ b ∷ d ∷ e ∷ f ∷ g ∷ args ++ c ∷ []) (omega (arith, length_push args c)))
-    (behind_same (items.Raster (spelled b (scale_of b)) (d + 256 * e) (f + 256 * g)) _ _ (raster_few (scale_of b) args c))
+raster_behind lead name a b d e f g args c = grind (arith, given_is, length_push, behind_same, raster_few)
 
 function_behind : (lead : Lead) (name : ℕ) (a b d : ℕ) (args : List ℕ) (c : ℕ) → Few (given_by lead name Function (a ∷ b ∷ d ∷ args)) (given_by lead name Function (a ∷ b ∷ d ∷ args ++ c ∷ []))
 unfolding given_behind
-function_behind lead name a b d args c =
-    rw (given_is lead name Function (a ∷ b ∷ d ∷ args) (omega arith), given_is lead name Function (a ∷ b ∷ d ∷ args ++ c ∷ []) (omega (arith, length_push args c)))
-    (or_same (eqb a 107) _ _ _ (qr_few (b + 256 * d) args c))
+function_behind lead name a b d args c = grind (arith, given_is, length_push, or_same, qr_few)
 
 -- of arguments that have given no more than one
 one_by : (lead : Lead) (name : ℕ) (k : Command) (args : List ℕ) (c : ℕ) → length (given_by lead name k (args ++ c ∷ [])) ≤ 1
@@ -161,8 +129,7 @@ behind_few lead name Raster (a ∷ b ∷ d ∷ []) c = one_by lead name Raster (
 behind_few lead name Raster (a ∷ b ∷ d ∷ e ∷ []) c = one_by lead name Raster (a ∷ b ∷ d ∷ e ∷ []) c (lit≤ tt)
 behind_few lead name Raster (a ∷ b ∷ d ∷ e ∷ f ∷ []) c = one_by lead name Raster (a ∷ b ∷ d ∷ e ∷ f ∷ []) c (raster_first (items.Raster (spelled b (scale_of b)) (d + 256 * e) (f + 256 * c)) (scale_of b))
 behind_few lead name Raster (a ∷ b ∷ d ∷ e ∷ f ∷ g ∷ args) c = raster_behind lead name a b d e f g args c
-behind_few lead name Symbol args c =
-    one_by lead name Symbol args c (one_of (ltb (length (args ++ c ∷ [])) (head_len Symbol (args ++ c ∷ []))) _ _ (lit≤ tt) (last_few _ _))
+behind_few lead name Symbol args c = grind (arith, one_by, one_of, lit≤, last_few)
 behind_few lead name Function [] c = one_by lead name Function [] c (lit≤ tt)
 behind_few lead name Function (a ∷ []) c = one_by lead name Function (a ∷ []) c (lit≤ tt)
 behind_few lead name Function (a ∷ b ∷ []) c = one_by lead name Function (a ∷ b ∷ []) c (one_of (eqb a 107) _ _ (qr_first (b + 256 * c)) (lit≤ tt))
@@ -170,48 +137,34 @@ behind_few lead name Function (a ∷ b ∷ d ∷ args) c = function_behind lead 
 behind_few lead name Graphics args c = one_by lead name Graphics args c (one_of (ltb (length (args ++ c ∷ [])) 5) _ _ (lit≤ tt) (lit≤ tt))
 
 listed_few : (l : Bool) (xs ys : List EscItem) → Few xs ys → Few xs (cond l ys [])
-listed_few true xs ys h = h
-listed_few false xs ys h = omega arith
+listed_few l xs ys h = grind arith
 
 named_few : (lead : Lead) (name : ℕ) (o : Option Command) (args : List ℕ) (c : ℕ) → Few (given_named lead name o args) (given_named lead name o (args ++ c ∷ []))
-named_few lead name None args c = lit≤ tt
-named_few lead name (Some k) [] c = listed_few (is_listed k (c ∷ [])) _ _ (behind_few lead name k [] c)
-named_few lead name (Some k) (a ∷ args) c = or_same (is_listed k (a ∷ args)) _ _ _ (behind_few lead name k (a ∷ args) c)
+named_few lead name o args c = grind (arith, lit≤, listed_few, behind_few, or_same)
 
 given_first : (lead : Lead) (name : ℕ) (k : Command) → length (given_by lead name k []) ≤ 1
 unfolding given_by given_behind
-given_first lead name (Plain p) = one_of (ltb 0 (plain_len p [])) _ _ (lit≤ tt) (lit≤ tt)
-given_first lead name TabStops = last_few _ _
-given_first lead name _ = lit≤ tt
+given_first lead name k = grind (arith, one_of, lit≤, last_few)
 
 first_few : (lead : Lead) (name : ℕ) (o : Option Command) → length (given_named lead name o []) ≤ 1
-first_few lead name None = lit≤ tt
-first_few lead name (Some k) = given_first lead name k
+first_few lead name o = grind (arith, lit≤, given_first)
 
 after_few : (o : Option Lead) (b : ℕ) (bytes : List ℕ) (c : ℕ) → Few (given_after o b bytes) (given_after o b (bytes ++ c ∷ []))
-after_few None b bytes c = lit≤ tt
-after_few (Some lead) b [] c = one (given_after (Some lead) b []) _ (first_few lead c (command_of lead c))
-after_few (Some lead) b (n ∷ args) c = named_few lead n (command_of lead n) args c
+after_few o b bytes c = grind (arith, lit≤, first_few, named_few)
 
 alone_few : (o : Option Lead) (b : ℕ) → length (given_after o b []) ≤ 1
-alone_few None b = lit≤ tt
-alone_few (Some lead) b = lit≤ tt
+alone_few o b = grind (arith, lit≤)
 
 given_few : (front : List ℕ) (c : ℕ) → Few (given front) (given (front ++ c ∷ []))
 unfolding given
-given_few [] c = alone_few (lead_of c) c
-given_few (b ∷ bytes) c = after_few (lead_of b) b bytes c
+given_few front c = grind (arith, alone_few, after_few)
 
 pub a_byte_gives : (bytes : List ℕ) (c : ℕ) → length (items_of (bytes ++ c ∷ [])) ≤ length (items_of bytes) + 1
-a_byte_gives bytes c =
-    let few : length (given ((split bytes).rest ++ c ∷ [])) ≤ length (given (split bytes).rest) + 1 = given_few (split bytes).rest c in
-    rw (items-push bytes c, items-is bytes, length-append, length-append) (omega arith)
+a_byte_gives bytes c = grind (arith, given_few, items-push, items-is, length-append)
 
 longer : (xs ys : List ℕ) → xs ≡ ys → (a b c : ℕ) (more : List ℕ) → b ≤ a + 1 → length (items_of ys) ≤ b + length more → length (items_of xs) ≤ a + length (c ∷ more)
 longer xs ys e a b c more h k = rw e (omega arith)
 
 pub bytes_give : (bytes more : List ℕ) → length (items_of (bytes ++ more)) ≤ length (items_of bytes) + length more
 bytes_give bytes [] = rw (append-nil bytes) (omega arith)
-bytes_give bytes (c ∷ more) =
-    longer (bytes ++ c ∷ more) ((bytes ++ c ∷ []) ++ more) (sym (append_assoc bytes (c ∷ []) more)) _ _ c more
-    (a_byte_gives bytes c) (bytes_give (bytes ++ c ∷ []) more)
+bytes_give bytes (c ∷ more) = grind (arith, longer, append_assoc, a_byte_gives, bytes_give (bytes ++ c ∷ []) more)

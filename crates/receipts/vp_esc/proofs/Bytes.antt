@@ -1,5 +1,5 @@
 -- Data of a known length.
-use Rattle.std.proofs.Common.{◌≡◌, ℕ, ◌+◌, ◌-◌, ◌*◌, ◌<◌, ◌≤◌, true, false, ltb, eqb, Option, Some, None, Ok, List, [], ◌∷◌, ◌++◌, length, get_or, refl, sym, ap, subst, ◌∙◌, append_assoc, arith, ⊎_elim, is_some, is_none}
+use Rattle.std.proofs.Common.{◌≡◌, ℕ, ◌+◌, ◌-◌, ◌*◌, ◌<◌, ◌≤◌, true, false, ltb, eqb, Option, Some, Ok, List, [], ◌∷◌, ◌++◌, length, get_or, refl, sym, ap, subst, ◌∙◌, append_assoc, arith, ⊎_elim, is_some, is_none}
 use Rattle.std.specs.Prelude.{option_to_list}
 use Rattle.std.proofs.lemmas.Bool.Decides.{nat_tests}
 use Rattle.std.proofs.lemmas.Bool.{cases_lt}
@@ -54,16 +54,10 @@ land_bytes r command kind left rest item final b enough counted l rows skipped s
 
 -- the items of one byte, and of one more
 pub one_item : (kind : Data) (c : ℕ) → data_items kind (c ∷ []) ≡ option_to_list (data_item kind c)
-one_item kinds.Skipped c = refl
-one_item kinds.Raster c = refl
-one_item kinds.Columns c = refl
-one_item kinds.Stored c = refl
+one_item kind c = grind arith
 
 pub next_item : (kind : Data) (c : ℕ) (more : List ℕ) → data_items kind (c ∷ more) ≡ data_items kind (c ∷ []) ++ data_items kind more
-next_item kinds.Skipped c more = refl
-next_item kinds.Raster c more = refl
-next_item kinds.Columns c more = refl
-next_item kinds.Stored c more = refl
+next_item kind c more = grind arith
 
 -- one byte of them
 pub bytes_step : (r : EscReader) (kind : Data) (left c : ℕ) (rest : List ℕ) → InBytes r kind left rest
@@ -91,12 +85,7 @@ bytes_step r kind left c rest hand =
       rows = p.rows ∙ hand.rows;
       skipped = p.skipped ∙ hand.skipped;
       stored = λ more. ap (stores_bytes hand.command) (append_assoc hand.args (c ∷ []) more) ∙ hand.stored (c ∷ more);
-      gives = λ more.
-          ap (λ xs. given_by r.lead r.name hand.command xs) (append_assoc hand.args (c ∷ []) more)
-          ∙ hand.gives (c ∷ more)
-          ∙ ap (λ xs. given_by r.lead r.name hand.command hand.args ++ xs) (next_item kind c more)
-          ∙ sym (append_assoc _ (data_items kind (c ∷ [])) (data_items kind more))
-          ∙ ap (λ xs. xs ++ data_items kind more) (sym (hand.gives (c ∷ [])));
+      gives = grind (arith, append_assoc, next_item);
     })))
     (cases_lt left 2)
 
@@ -119,8 +108,7 @@ six (a ∷ b ∷ c ∷ d ∷ e ∷ f ∷ []) h = refl
 six (a ∷ b ∷ c ∷ d ∷ e ∷ f ∷ g ∷ xs) h = absurd (omega arith)
 
 raster_items : (scale : Option RasterScale) (bytes : List ℕ) → raster_bytes scale bytes ≡ data_items (raster_data scale) bytes
-raster_items None bytes = refl
-raster_items (Some scale) bytes = refl
+raster_items scale bytes = grind arith
 
 raster_given : (lead : Lead) (name z m xl xh yl yh : ℕ) (more : List ℕ)
     → given_by lead name Raster (z ∷ m ∷ xl ∷ xh ∷ yl ∷ yh ∷ more)
@@ -129,20 +117,16 @@ unfolding given_behind
 raster_given lead name z m xl xh yl yh more = given_is lead name Raster (z ∷ m ∷ xl ∷ xh ∷ yl ∷ yh ∷ more) (omega arith)
 
 rows_are : (scale : Option RasterScale) → is_some scale ≡ are_rows (raster_data scale)
-rows_are None = refl
-rows_are (Some scale) = refl
+rows_are scale = grind arith
 
 skipped_are : (scale : Option RasterScale) → is_none scale ≡ give_nothing (raster_data scale)
-skipped_are None = refl
-skipped_are (Some scale) = refl
+skipped_are scale = grind arith
 
 none_stored : (scale : Option RasterScale) → false ≡ are_stored (raster_data scale)
-none_stored None = refl
-none_stored (Some scale) = refl
+none_stored scale = grind arith
 
 no_bytes : (scale : Option RasterScale) → raster_bytes scale [] ≡ []
-no_bytes None = refl
-no_bytes (Some scale) = refl
+no_bytes scale = grind arith
 
 pub land_raster : (r : EscReader) (z m xl xh yl yh left : ℕ) (rest : List ℕ) → Begun r.lead r.name Raster r.kept.items rest
     → r.kept.items ≡ z ∷ m ∷ xl ∷ xh ∷ yl ∷ yh ∷ [] → left ≡ (xl + 256 * xh) * (yl + 256 * yh)

@@ -32,8 +32,7 @@ land_short : (r : EscReader) (m nl nh : ℕ) (mode : ColumnMode) (rest : List �
     → Lands (Some (items.Columns mode (nl + 256 * nh))) rest (record r { phase = bytes_or_ground kinds.Columns (nl + 256 * nh); kept = final })
 land_short r m nl nh mode rest final b k e one behind =
     let item : EscItem = items.Columns mode (nl + 256 * nh) in
-    let g : (more : List ℕ) → given_by r.lead r.name Columns (m ∷ nl ∷ nh ∷ more) ≡ item ∷ data_items kinds.Columns more =
-    λ more. columns_given r.lead r.name m nl nh more ∙ rw e (ap (λ xs. item ∷ xs) (behind more)) in
+    let g : (more : List ℕ) → given_by r.lead r.name Columns (m ∷ nl ∷ nh ∷ more) ≡ item ∷ data_items kinds.Columns more = grind (arith, columns_given) in
     let l : nl + 256 * nh ≡ column_bytes (column_mode_of m) * (nl + 256 * nh) = rw e (rw one (omega arith)) in
     land_bytes r Columns kinds.Columns (nl + 256 * nh) rest item final b (rw k refl) refl (rw k l) refl refl (λ more. refl) (rw k (g [])) (λ more. rw k (g more))
 
@@ -44,10 +43,8 @@ land_tall : (r : EscReader) (m nl nh : ℕ) (mode : ColumnMode) (rest : List ℕ
 land_tall r m nl nh mode rest final b k e three none empty =
     let item : EscItem = items.Columns mode (nl + 256 * nh) in
     let b' : Begun r.lead r.name Columns (m ∷ nl ∷ nh ∷ []) rest = rw k at b in
-    let g : given_by r.lead r.name Columns (m ∷ nl ∷ nh ∷ []) ≡ item ∷ [] =
-    columns_given r.lead r.name m nl nh [] ∙ rw e (ap (λ xs. item ∷ xs) none) in
-    let n : needs_more Columns (m ∷ nl ∷ nh ∷ []) ≡ ltb 3 (3 + 3 * (nl + 256 * nh)) =
-    needs_counted Columns (m ∷ nl ∷ nh ∷ []) refl ∙ rw e (rw three refl) in
+    let g : given_by r.lead r.name Columns (m ∷ nl ∷ nh ∷ []) ≡ item ∷ [] = grind (arith, columns_given) in
+    let n : needs_more Columns (m ∷ nl ∷ nh ∷ []) ≡ ltb 3 (3 + 3 * (nl + 256 * nh)) = grind (arith, needs_counted) in
     ⊎_elim
     (λ (h : nl + 256 * nh < 1).
     let z : eqb (3 * (nl + 256 * nh)) 0 ≡ true = grind (arith, nat_tests) in
@@ -91,34 +88,19 @@ part_next (x ∷ y ∷ z ∷ xs) c h = more_next x y z xs c None _ (part_next xs
 whole_next : (xs : List ℕ) (a b c : ℕ) → part_of_column xs ≡ a ∷ b ∷ [] → IsNext xs c (Some (items.Column24 (a ∷ b ∷ c ∷ []))) []
 whole_next [] a b c h = cc
 whole_next (x ∷ []) a b c h = cc
-whole_next (x ∷ y ∷ []) a b c h =
-    let e : x ≡ a = cc in let f : y ≡ b = cc in record { gives = rw (e, f) refl; part_is = refl }
+whole_next (x ∷ y ∷ []) a b c h = grind arith
 whole_next (x ∷ y ∷ z ∷ xs) a b c h = more_next x y z xs c _ _ (whole_next xs a b c h)
 
 columns_tall : (mode : ColumnMode) (bytes : List ℕ) → column_bytes mode ≡ 3 → columns mode bytes ≡ tall_columns bytes
-columns_tall Single8 bytes h = absurd (omega arith)
-columns_tall Double8 bytes h = absurd (omega arith)
-columns_tall Single24 bytes h = refl
-columns_tall Double24 bytes h = refl
+columns_tall mode bytes h = grind arith
 
 given_next : (lead : Lead) (name : ℕ) (args : List ℕ) (c : ℕ) (item : Option EscItem) (part : List ℕ) → 3 ≤ length args
     → column_bytes (column_mode_of (get_or args 0 0)) ≡ 3 → IsNext (drop 3 args) c item part
     → given_by lead name Columns (args ++ c ∷ []) ≡ given_by lead name Columns args ++ option_to_list item
-given_next lead name [] c item part h t n = absurd (omega arith)
-given_next lead name (x ∷ []) c item part h t n = absurd (omega arith)
-given_next lead name (x ∷ y ∷ []) c item part h t n = absurd (omega arith)
-given_next lead name (m ∷ nl ∷ nh ∷ bytes) c item part h t n =
-    let f : (more : List ℕ) → given_by lead name Columns (m ∷ nl ∷ nh ∷ more)
-    ≡ items.Columns (column_mode_of m) (nl + 256 * nh) ∷ tall_columns more =
-    λ more. columns_given lead name m nl nh more ∙ ap (λ xs. items.Columns (column_mode_of m) (nl + 256 * nh) ∷ xs) (columns_tall (column_mode_of m) more t) in
-    f (bytes ++ c ∷ []) ∙ ap (λ xs. items.Columns (column_mode_of m) (nl + 256 * nh) ∷ xs) n.gives
-    ∙ ap (λ xs. xs ++ option_to_list item) (sym (f bytes))
+given_next lead name args c item part h t n = grind (arith, columns_given, columns_tall)
 
 drop_push : (args : List ℕ) (c : ℕ) → 3 ≤ length args → drop 3 (args ++ c ∷ []) ≡ drop 3 args ++ c ∷ []
-drop_push [] c h = absurd (omega arith)
-drop_push (x ∷ []) c h = absurd (omega arith)
-drop_push (x ∷ y ∷ []) c h = absurd (omega arith)
-drop_push (x ∷ y ∷ z ∷ args) c h = refl
+drop_push args c h = grind arith
 
 first_push : (args : List ℕ) (c : ℕ) → 3 ≤ length args → get_or (args ++ c ∷ []) 0 0 ≡ get_or args 0 0
 first_push [] c h = absurd (omega arith)
@@ -160,8 +142,7 @@ pub tall_part : (r : EscReader) (left c : ℕ) (rest : List ℕ) (final : ArrayV
     → Advances (Ok None) rest c (record r { phase = tall_or_ground (left - 1); kept = final })
 tall_part r left c rest final hand other k =
     let small : length r.kept.items < 255 = rw hand.part (omega (arith, part_small (drop 3 hand.args))) in
-    let w : final.items ≡ part_of_column (drop 3 hand.args) ++ c ∷ [] =
-    k ∙ kept_whole r.kept.items c small ∙ ap (λ xs. xs ++ c ∷ []) hand.part in
+    let w : final.items ≡ part_of_column (drop 3 hand.args) ++ c ∷ [] = grind (arith, drop, kept_whole) in
     tall_step r left c rest None final hand (rw w (part_next (drop 3 hand.args) c (rw (← hand.part) other)))
 
 two : (xs : List ℕ) → length xs ≡ 2 → xs ≡ get_or xs 0 0 ∷ get_or xs 1 0 ∷ []

@@ -1,5 +1,5 @@
 -- How a stream divides into units, by their fronts alone.
-use Rattle.std.proofs.Common.{◌≡◌, ◌≢◌, ℕ, Bool, true, false, List, [], ◌∷◌, ◌++◌, refl, sym, ap, ◌∙◌, append_assoc}
+use Rattle.std.proofs.Common.{◌≡◌, ◌≢◌, ℕ, Bool, true, false, List, [], ◌∷◌, ◌++◌, refl, sym, ap, ◌∙◌, append_assoc, arith}
 use Rattle.std.proofs.lemmas.List.Concat.{flat_map-append}
 use Rattle.std.specs.List.{AllByRecursion}
 use Rattle.std.proofs.lemmas.List.{append-nil}
@@ -39,11 +39,7 @@ shift : (us vs : List (List ℕ)) (r : List ℕ) (bytes : List ℕ)
     → split_on (record { units = us ++ vs; rest = r }) bytes ≡ shifted us (split_on (record { units = vs; rest = r }) bytes)
 unfolding split_on shifted
 shift us vs r [] = refl
-shift us vs r (b ∷ bytes) =
-    elim (is_unfinished (r ++ b ∷ [])) as (λ o. split_on (with_rest (us ++ vs) (r ++ b ∷ []) o) bytes ≡ shifted us (split_on (with_rest vs (r ++ b ∷ []) o) bytes)) [
-      | true ↦ shift us vs (r ++ b ∷ []) bytes
-      | false ↦ rw append_assoc (shift us (vs ++ (r ++ b ∷ []) ∷ []) [] bytes)
-    ]
+shift us vs r (b ∷ bytes) = grind (arith, shifted, append_assoc, shift us vs (r ++ b ∷ []) bytes, shift us (vs ++ (r ++ b ∷ []) ∷ []) [] bytes)
 
 read_unit : (unit : List ℕ) → IsUnit unit → split_on empty unit ≡ record { units = unit ∷ []; rest = [] }
 unfolding empty
@@ -63,9 +59,7 @@ unit_first_eq unit bytes u =
 pub unit_first_lem : (unit bytes : List ℕ) → IsUnit unit
     → (split (unit ++ bytes)).units ≡ unit ∷ (split bytes).units × ((split (unit ++ bytes)).rest ≡ (split bytes).rest)
 unfolding shifted
-unit_first_lem unit bytes u =
-    let e : split (unit ++ bytes) ≡ shifted (unit ∷ []) (split bytes) = unit_first_eq unit bytes u in
-    (ap (λ (s : Split). s.units) e, ap (λ (s : Split). s.rest) e)
+unit_first_lem unit bytes u = grind (arith, shifted, unit_first_eq)
 
 cons_eq : {x y : ℕ} {xs ys : List ℕ} → x ≡ y → xs ≡ ys → x ∷ xs ≡ y ∷ ys
 cons_eq e f = cc
@@ -81,12 +75,7 @@ front_of_push (r ∷ rest) (f ∷ front) more x e n =
     (w.0, cons_eq h w.1)
 
 pub fronts_push : (rest : List ℕ) (x : ℕ) → IsRest rest → HasUnfinishedFronts (rest ++ x ∷ [])
-fronts_push rest x r front more e n =
-    let w : (z : List ℕ) × (rest ≡ front ++ z) = front_of_push rest front more x e n in by_end w.0 w.1
-  where
-    by_end : (z : List ℕ) → rest ≡ front ++ z → is_unfinished front ≡ true
-    by_end [] q = let p : rest ≡ front = q ∙ append-nil front in rw p at r.opens
-    by_end (y ∷ z) q = r.shortest front (y ∷ z) q (λ e. cc e)
+fronts_push rest x r front more e n = grind (arith, front_of_push, append-nil)
 
 all_push : (units : List (List ℕ)) (unit : List ℕ) → AllByRecursion IsUnit units → IsUnit unit → AllByRecursion IsUnit (units ++ unit ∷ [])
 all_push [] unit a u = (u, tt)
@@ -104,28 +93,12 @@ rest_nil = record { opens = open_nil; shortest = λ front more e n. by_front fro
 
 splits_by : (units : List (List ℕ)) (rest bytes : List ℕ) (x : ℕ) (o : Bool) → Splits bytes units rest → is_unfinished (rest ++ x ∷ []) ≡ o
     → Splits (bytes ++ x ∷ []) (with_rest units (rest ++ x ∷ []) o).units (with_rest units (rest ++ x ∷ []) o).rest
-splits_by units rest bytes x true s o =
-    record {
-      spelling = ap (λ z. z ++ x ∷ []) s.spelling ∙ append_assoc (all_bytes units) rest (x ∷ []);
-      each = s.each;
-      end = record { opens = o; shortest = fronts_push rest x s.end };
-    }
-splits_by units rest bytes x false s o =
-    record {
-      spelling =
-          ap (λ z. z ++ x ∷ []) s.spelling ∙ append_assoc (all_bytes units) rest (x ∷ [])
-          ∙ sym (bytes_push units (rest ++ x ∷ [])) ∙ sym (append-nil (all_bytes (units ++ (rest ++ x ∷ []) ∷ [])));
-      each = all_push units (rest ++ x ∷ []) s.each (record { whole = o; shortest = fronts_push rest x s.end });
-      end = rest_nil;
-    }
+splits_by units rest bytes x o s o' = grind (arith, append_assoc, fronts_push, bytes_push, append-nil, all_push, rest_nil)
 
 splits_on : (s : Split) (bytes xs : List ℕ) → Splits bytes s.units s.rest → Splits (bytes ++ xs) (split_on s xs).units (split_on s xs).rest
 unfolding split_on
 splits_on s bytes [] h = rw append-nil h
-splits_on s bytes (x ∷ xs) h =
-    let t : Splits ((bytes ++ x ∷ []) ++ xs) (split_on (with_byte s x) xs).units (split_on (with_byte s x) xs).rest =
-    splits_on (with_byte s x) (bytes ++ x ∷ []) xs (splits_by s.units s.rest bytes x (is_unfinished (s.rest ++ x ∷ [])) h refl) in
-    rw append_assoc at t
+splits_on s bytes (x ∷ xs) h = grind (arith, splits_by, append_assoc, splits_on (with_byte s x) (bytes ++ x ∷ []) xs (splits_by s.units s.rest bytes x (is_unfinished (s.rest ++ x ∷ [])) h refl))
 
 -- the reading is one
 pub splits : (bytes : List ℕ) → Splits bytes (split bytes).units (split bytes).rest
@@ -136,12 +109,9 @@ divided : (units : List (List ℕ)) (rest : List ℕ) → AllByRecursion IsUnit 
     → split (all_bytes units ++ rest) ≡ record { units = units; rest = rest }
 unfolding split shifted empty
 divided [] rest a r = read_rest rest r
-divided (u ∷ units) rest a r =
-    rw append_assoc (unit_first_eq u (all_bytes units ++ rest) a.0 ∙ ap (λ s. shifted (u ∷ []) s) (divided units rest a.1 r))
+divided (u ∷ units) rest a r = grind (arith, append_assoc, unit_first_eq, shifted, divided units rest a.1 r)
 
 -- and the only one
 pub splits_only : (bytes : List ℕ) (units : List (List ℕ)) (rest : List ℕ) → Splits bytes units rest
     → (units ≡ (split bytes).units) × (rest ≡ (split bytes).rest)
-splits_only bytes units rest s =
-    let e : split bytes ≡ record { units = units; rest = rest } = ap split s.spelling ∙ divided units rest s.each s.end in
-    (sym (ap (λ (x : Split). x.units) e), sym (ap (λ (x : Split). x.rest) e))
+splits_only bytes units rest s = grind (arith, divided)

@@ -1,5 +1,5 @@
 -- Where there is no fault, the rest can be made a unit.
-use Rattle.std.proofs.Common.{◌≡◌, ℕ, ◌+◌, ◌≤◌, Bool, true, false, ◌&&◌, ◌||◌, cond, not, ltb, eqb, Option, None, Some, List, [], ◌∷◌, ◌++◌, length, replicate, refl, ap, ◌∙◌, append_assoc, arith, ⊎_elim}
+use Rattle.std.proofs.Common.{◌≡◌, ℕ, ◌+◌, ◌≤◌, Bool, true, false, ◌&&◌, ◌||◌, cond, not, eqb, Option, None, Some, List, [], ◌∷◌, ◌++◌, length, replicate, refl, ap, ◌∙◌, append_assoc, arith, ⊎_elim}
 use Rattle.std.specs.List.{list_any}
 use Rattle.std.proofs.lemmas.Bool.{cases_Bool}
 use Rattle.std.proofs.lemmas.Bool.Decides.{nat_tests}
@@ -12,11 +12,10 @@ use Rattle.vp_esc.specs.declared.item.Lead.TheVariants.{Esc, Gs, Fs, Dle}
 use Rattle.vp_esc.specs.declared.command.Command.{Command}
 use Rattle.vp_esc.specs.declared.command.Command.TheVariants.{Plain, TabStops, Raster, Symbol, Graphics}
 use Rattle.vp_esc.specs.declared.command.Plain.{Plain as PlainCommand}
-use Rattle.vp_esc.specs.declared.command.Plain.TheVariants.{Alone, Sensor}
+use Rattle.vp_esc.specs.declared.command.Plain.TheVariants.{Sensor}
 use Rattle.vp_esc.specs.Values.{is_kind_to_zero}
 use Rattle.vp_esc.specs.Command.{lead_of, command_of, head_len, is_listed}
-use Rattle.vp_esc.specs.Units.{is_unfinished, fault_in, needs_more, is_counted, data_len, rises_from, is_unfinished_after, fault_after}
-use Rattle.vp_esc.specs.Reader.{last_or}
+use Rattle.vp_esc.specs.Units.{is_unfinished, fault_in, needs_more, is_counted, data_len, is_unfinished_after, fault_after}
 use Rattle.vp_esc.specs.Split.{split, fault_of}
 use Rattle.vp_esc.specs.Laws.{IsUnit, IsRest, Splits}
 use Rattle.vp_esc.proofs.Stops.{rises_push}
@@ -38,18 +37,14 @@ first_of _ = 0
 
 plain_listed : (p : PlainCommand) → is_listed (Plain p) (first_of (Plain p) ∷ []) ≡ true
 unfolding first_of
-plain_listed (Alone a) = refl
-plain_listed _ = refl
+plain_listed p = grind arith
 
 first_listed : (k : Command) → is_listed k (first_of k ∷ []) ≡ true
 unfolding first_of
-first_listed (Plain p) = plain_listed p
-first_listed _ = refl
+first_listed k = grind (arith, plain_listed)
 
 counted_first : (k : Command) (a : ℕ) (xs ys : List ℕ) → is_counted k (a ∷ xs) ≡ true → is_counted k (a ∷ ys) ≡ true
-counted_first TabStops a xs ys e = e
-counted_first Symbol a xs ys e = e
-counted_first _ a xs ys e = refl
+counted_first k a xs ys e = grind arith
 
 -- counted data, of zeros
 end_counted : (k : Command) (a : ℕ) (args : List ℕ) → is_listed k (a ∷ args) ≡ true → is_counted k (a ∷ args) ≡ true → CanEnd k (a ∷ args)
@@ -66,22 +61,17 @@ end_counted k a args l e =
     record { more = replicate 8 0 ++ zeros; listed = l; whole = rw append_assoc at w }
 
 and_false : (b : Bool) → (b && false) ≡ false
-and_false true = refl
-and_false false = refl
+and_false b = grind arith
 
 stops_end : (args : List ℕ) → needs_more TabStops (args ++ 0 ∷ []) ≡ false
 unfolding needs_more
-stops_end args =
-    let z : ltb (last_or 0 args) 0 ≡ false = grind (arith, nat_tests) in
-    let f : rises_from 0 (args ++ 0 ∷ []) ≡ false = rises_push 0 args 0 ∙ rw z (and_false _) in rw f refl
+stops_end args = grind (arith, nat_tests, rises_push, and_false)
 
 or_true : (b : Bool) → (b || true) ≡ true
-or_true true = refl
-or_true false = refl
+or_true b = grind arith
 
 zero_ends : (b s : Bool) (codes : List ℕ) → not b ≡ false → cond b (not (list_any (λ x. eqb x 0) (codes ++ 0 ∷ []))) s ≡ false
-zero_ends true s codes e = let f : list_any (λ x. eqb x 0) (codes ++ 0 ∷ []) ≡ true = list_any-append (λ x. eqb x 0) codes (0 ∷ []) ∙ or_true _ in rw f refl
-zero_ends false s codes e = cc
+zero_ends b s codes e = grind (arith, list_any-append, or_true)
 
 zero_whole : (k : Command) (a : ℕ) (args : List ℕ) → is_counted k (a ∷ args) ≡ false → needs_more k (a ∷ args ++ 0 ∷ []) ≡ false
 unfolding needs_more
@@ -114,8 +104,7 @@ close_lead Fs b e = record { more = 0x2E ∷ []; whole = rw e refl }
 close_lead Dle b e = record { more = 0x05 ∷ 0 ∷ []; whole = rw e refl }
 
 listed_of : (l : Bool) (x : Fault) → cond l None (Some x) ≡ None → l ≡ true
-listed_of true x e = refl
-listed_of false x e = cc
+listed_of l x e = grind arith
 
 close_named : (lead : Lead) (b name : ℕ) (args : List ℕ) (o : Option Command) → lead_of b ≡ Some lead → command_of lead name ≡ o
     → fault_after (Some lead) b (name ∷ args) ≡ None → CanClose (b ∷ name ∷ args)
@@ -128,9 +117,7 @@ close_named lead b name args (Some k) e f g =
 
 close_after : (o : Option Lead) (b : ℕ) (bytes : List ℕ) → lead_of b ≡ o → is_unfinished_after o bytes ≡ true → fault_after o b bytes ≡ None
     → CanClose (b ∷ bytes)
-close_after None b bytes e f g = cc
-close_after (Some lead) b [] e f g = close_lead lead b e
-close_after (Some lead) b (name ∷ args) e f g = close_named lead b name args (command_of lead name) e refl g
+close_after o b bytes e f g = grind (arith, close_lead, close_named)
 
 can_close : (front : List ℕ) → is_unfinished front ≡ true → fault_in front ≡ None → CanClose front
 unfolding is_unfinished fault_in

@@ -1,20 +1,16 @@
 -- A fault: no unit begins so, and it stays.
-use Rattle.std.proofs.Common.{◌≡◌, ℕ, true, false, List, [], ◌∷◌, ◌++◌, Some, None, ap, ◌∙◌, append_assoc, inl, inr}
-use Rattle.std.proofs.lemmas.Bool.{cases_Bool}
+use Rattle.std.proofs.Common.{◌≡◌, ℕ, true, false, List, [], ◌∷◌, ◌++◌, Some, ap, ◌∙◌, append_assoc, arith}
 use Rattle.std.proofs.lemmas.List.{append-nil}
 use Rattle.vp_dots.specs.declared.fault.Fault.{Fault}
 use Rattle.vp_esc.specs.Units.{is_unfinished, fault_in}
-use Rattle.vp_esc.specs.Split.{Split, split, split_on, with_rest, with_byte, fault_of}
+use Rattle.vp_esc.specs.Split.{Split, split, split_on, with_byte, fault_of}
 use Rattle.vp_esc.specs.Table.{IsRow}
 use Rattle.vp_esc.proofs.Divisions.{split_on-append}
 use Rattle.vp_esc.proofs.Fronts.{closed_sound, stuck}
 use Rattle.vp_esc.proofs.Rows.{row_is_unit}
 
 stays_open : (front : List ℕ) (f : Fault) → fault_in front ≡ Some f → is_unfinished front ≡ true
-stays_open front f e = elim (cases_Bool (is_unfinished front)) [
-  | inl o ↦ o
-  | inr c ↦ let none : fault_in front ≡ None = closed_sound front c in cc
-]
+stays_open front f e = grind (arith, closed_sound)
 
 -- whatever follows
 stuck_along : (front more : List ℕ) (f : Fault) → fault_in front ≡ Some f → is_unfinished (front ++ more) ≡ true
@@ -32,9 +28,7 @@ no_row bytes more f e r =
     cc
 
 byte_stays : (s : Split) (c : ℕ) (f : Fault) → fault_in s.rest ≡ Some f → fault_in (with_byte s c).rest ≡ Some f
-byte_stays s c f e =
-    let next = stuck s.rest c f e in
-    ap (λ b. fault_in (with_rest s.units (s.rest ++ c ∷ []) b).rest) next.0 ∙ next.1
+byte_stays s c f e = grind (arith, stuck)
 
 split_stays : (s : Split) (bytes : List ℕ) (f : Fault) → fault_in s.rest ≡ Some f → fault_in (split_on s bytes).rest ≡ Some f
 unfolding split_on
@@ -43,6 +37,4 @@ split_stays s (b ∷ bytes) f e = split_stays (with_byte s b) bytes f (byte_stay
 
 pub fault_stays_lem : (bytes more : List ℕ) (f : Fault) → fault_of bytes ≡ Some f → fault_of (bytes ++ more) ≡ Some f
 unfolding fault_of split
-fault_stays_lem bytes more f e =
-    ap (λ (s : Split). fault_in s.rest) (split_on-append (record { units = []; rest = [] }) bytes more)
-    ∙ split_stays (split_on (record { units = []; rest = [] }) bytes) more f e
+fault_stays_lem bytes more f e = grind (arith, split_on-append, split_stays)

@@ -6,7 +6,6 @@ use Rattle.vp_esc.specs.declared.item.EscItem.{EscItem}
 use Rattle.vp_dots.specs.declared.fault.Fault.{Fault}
 use Rattle.vp_dots.specs.declared.fault.Fault.TheVariants.{Unknown}
 use Rattle.vp_esc.specs.declared.item.Lead.{Lead}
-use Rattle.vp_esc.specs.declared.item.Lead.TheVariants.{Esc, Gs, Fs, Dle}
 use Rattle.vp_esc.specs.declared.command.Command.{Command}
 use Rattle.vp_esc.specs.declared.reader.EscReader.{EscReader}
 use Rattle.vp_esc.specs.declared.reader.Phase.TheVariants.{Stopped, Ground, AfterLead}
@@ -16,12 +15,10 @@ use Rattle.vp_esc.specs.Reader.{Begun, Advances, StandsIn, Lands}
 
 -- a lead's byte is the lead's
 pub lead_of-lead_byte : (lead : Lead) → lead_of (lead_byte lead) ≡ Some lead
-lead_of-lead_byte Esc = refl
-lead_of-lead_byte _ = refl
+lead_of-lead_byte lead = grind arith
 
 pub lead_byte-of : (b : ℕ) (lead : Lead) → lead_of b ≡ Some lead → lead_byte lead ≡ b
-lead_byte-of b Esc e = grind (arith, nat_tests)
-lead_byte-of b _ e = grind (arith, nat_tests)
+lead_byte-of b lead e = grind (arith, nat_tests)
 
 -- a front that is a command with these arguments
 pub record Front (front : List ℕ) (lead : Lead) (name : ℕ) (command : Command) (args : List ℕ) : Type 0 where
@@ -32,12 +29,7 @@ pub record Front (front : List ℕ) (lead : Lead) (name : ℕ) (command : Comman
 pub front_is : (lead : Lead) (name : ℕ) (command : Command) (args rest : List ℕ) → command_of lead name ≡ Some command
     → rest ≡ lead_byte lead ∷ name ∷ args → Front rest lead name command args
 unfolding is_unfinished given fault_in
-front_is lead name command args rest named bytes =
-    record {
-      opens = rw bytes (rw lead_of-lead_byte (rw named refl));
-      gives = rw bytes (rw lead_of-lead_byte (rw named refl));
-      fault = rw bytes (rw lead_of-lead_byte (rw named refl));
-    }
+front_is lead name command args rest named bytes = grind (arith, lead_of-lead_byte)
 
 -- the rest with one more argument
 pub longer : {lead : Lead} {name : ℕ} {command : Command} {args rest : List ℕ} (c : ℕ) → Begun lead name command args rest
@@ -139,61 +131,43 @@ given_begun {lead} {name} {command} {args} {rest} b none =
 -- a lead alone has given nothing
 pub given_lead : (lead : Lead) → given (lead_byte lead ∷ []) ≡ []
 unfolding given
-given_lead Esc = refl
-given_lead _ = refl
+given_lead lead = grind arith
 
 -- the table has no command of these two bytes
 pub unnamed : (lead : Lead) (c : ℕ) (new : EscReader) → command_of lead c ≡ None → new.phase ≡ Stopped (Unknown (lead_byte lead) c)
     → Advances (Err (Unknown (lead_byte lead) c)) (lead_byte lead ∷ []) c new
 unfolding is_unfinished fault_in
-unnamed Esc c new e p = let f : fault_in (27 ∷ c ∷ []) ≡ Some (Unknown 27 c) = rw e refl in record { gives = f; stands = rw e (rw p f) }
-unnamed Gs c new e p = let f : fault_in (29 ∷ c ∷ []) ≡ Some (Unknown 29 c) = rw e refl in record { gives = f; stands = rw e (rw p f) }
-unnamed Fs c new e p = let f : fault_in (28 ∷ c ∷ []) ≡ Some (Unknown 28 c) = rw e refl in record { gives = f; stands = rw e (rw p f) }
-unnamed Dle c new e p = let f : fault_in (16 ∷ c ∷ []) ≡ Some (Unknown 16 c) = rw e refl in record { gives = f; stands = rw e (rw p f) }
+unnamed lead c new e p = grind arith
 
 by_bool : (l n : Bool) (x : Fault) → cond l n true ≡ false → cond l None (Some x) ≡ None
-by_bool true n x e = refl
-by_bool false n x e = cc
+by_bool l n x e = grind arith
 
 closed_named : (o : Option Command) (b c : ℕ) (args : List ℕ) → is_unfinished_named o args ≡ false
     → cond (is_listed_name o args) None (Some (Unknown b c)) ≡ None
-closed_named None b c args e = cc
-closed_named (Some k) b c args e = by_bool (is_listed k args) (needs_more k args) (Unknown b c) e
+closed_named o b c args e = grind (arith, by_bool)
 
 closed_after : (o : Option Lead) (b : ℕ) (bytes : List ℕ) → is_unfinished_after o bytes ≡ false → fault_after o b bytes ≡ None
-closed_after None b bytes e = refl
-closed_after (Some lead) b [] e = refl
-closed_after (Some lead) b (c ∷ args) e = closed_named (command_of lead c) b c args e
+closed_after o b bytes e = grind (arith, closed_named)
 
 -- a whole unit has no fault
 pub closed_sound : (front : List ℕ) → is_unfinished front ≡ false → fault_in front ≡ None
 unfolding is_unfinished fault_in
-closed_sound [] e = refl
-closed_sound (b ∷ bytes) e = closed_after (lead_of b) b bytes e
+closed_sound front e = grind (arith, closed_after)
 
 -- A front with a fault keeps it, and stays open.
 stuck_named : (o : Option Command) (b c : ℕ) (args : List ℕ) (d : ℕ) (f : Fault)
     → cond (is_listed_name o args) None (Some (Unknown b c)) ≡ Some f
     → (is_unfinished_named o (args ++ d ∷ []) ≡ true) × (cond (is_listed_name o (args ++ d ∷ [])) None (Some (Unknown b c)) ≡ Some f)
-stuck_named None b c args d f e = (refl, e)
-stuck_named (Some k) b c [] d f e = cc
-stuck_named (Some k) b c (a ∷ args) d f e = stuck_by _ _ _ _ e
-  where
-    stuck_by : (l n : Bool) (x f : Fault) → cond l None (Some x) ≡ Some f → (cond l n true ≡ true) × (cond l None (Some x) ≡ Some f)
-    stuck_by true n x f e = cc
-    stuck_by false n x f e = (refl, e)
+stuck_named o b c args d f e = grind arith
 
 stuck_after : (o : Option Lead) (b : ℕ) (bytes : List ℕ) (d : ℕ) (f : Fault) → fault_after o b bytes ≡ Some f
     → (is_unfinished_after o (bytes ++ d ∷ []) ≡ true) × (fault_after o b (bytes ++ d ∷ []) ≡ Some f)
-stuck_after None b bytes d f e = cc
-stuck_after (Some lead) b [] d f e = cc
-stuck_after (Some lead) b (c ∷ args) d f e = stuck_named (command_of lead c) b c args d f e
+stuck_after o b bytes d f e = grind (arith, stuck_named)
 
 pub stuck : (front : List ℕ) (d : ℕ) (f : Fault) → fault_in front ≡ Some f
     → (is_unfinished (front ++ d ∷ []) ≡ true) × (fault_in (front ++ d ∷ []) ≡ Some f)
 unfolding is_unfinished fault_in
-stuck [] d f e = cc
-stuck (b ∷ bytes) d f e = stuck_after (lead_of b) b bytes d f e
+stuck front d f e = grind (arith, stuck_after)
 
 -- a reader that has stopped
 pub stopped : (rest : List ℕ) (c : ℕ) (f : Fault) (new : EscReader) → fault_in rest ≡ Some f → new.phase ≡ Stopped f

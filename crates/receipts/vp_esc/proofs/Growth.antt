@@ -1,5 +1,5 @@
 -- What is given stays given.
-use Rattle.std.proofs.Common.{◌≡◌, ℕ, ◌+◌, ◌*◌, ◌≤◌, ◌<◌, Bool, true, false, cond, ltb, eqb, Option, Some, None, List, [], ◌∷◌, ◌++◌, length, refl, sym, ap, ◌∙◌, append_assoc, arith, ⊎_elim}
+use Rattle.std.proofs.Common.{◌≡◌, ℕ, ◌+◌, ◌≤◌, ◌<◌, Bool, true, false, cond, eqb, Option, Some, None, List, [], ◌∷◌, ◌++◌, length, refl, sym, ap, ◌∙◌, append_assoc, arith, ⊎_elim}
 use Rattle.std.specs.List.{flat_map}
 use Rattle.std.proofs.lemmas.List.{append-nil, map_push, length_push}
 use Rattle.std.proofs.lemmas.Bool.{cases_lt, cases_Bool}
@@ -14,7 +14,7 @@ use Rattle.vp_esc.specs.declared.item.QrModel.{QrModel}
 use Rattle.vp_esc.specs.declared.command.Command.{Command}
 use Rattle.vp_esc.specs.declared.command.Command.TheVariants.{Plain, TabStops, Columns, Raster, Symbol, Function, Graphics}
 use Rattle.vp_esc.specs.Values.{scale_of, column_mode_of, qr_model_of}
-use Rattle.vp_esc.specs.Command.{lead_of, command_of, head_len, plain_len, is_listed}
+use Rattle.vp_esc.specs.Command.{lead_of, command_of, head_len, is_listed}
 use Rattle.vp_esc.specs.Qr.{qr_items, value_items, model_items, is_qr_function}
 use Rattle.vp_esc.specs.Units.{is_unfinished, given, needs_more, given_by, given_behind, is_unfinished_named, is_unfinished_after, given_named, given_after, raster_bytes, columns, tall_columns, at_last}
 use Rattle.vp_esc.specs.Split.{split, items as items_of}
@@ -115,8 +115,7 @@ behind_grows lead name Symbol args c h n = last_grows _ _ _ n
 behind_grows lead name Function [] c h n = absurd (omega arith)
 behind_grows lead name Function (a ∷ []) c h n = absurd (omega arith)
 behind_grows lead name Function (a ∷ b ∷ []) c h n = absurd (omega arith)
-behind_grows lead name Function (a ∷ b ∷ d ∷ args) c h n =
-    let l : length args < b + 256 * d = grind (arith, nat_tests) in either_grows (eqb a 107) _ _ _ (qr_grows (b + 256 * d) args c l)
+behind_grows lead name Function (a ∷ b ∷ d ∷ args) c h n = grind (arith, nat_tests, either_grows, qr_grows)
 behind_grows lead name Graphics [] c h n = absurd (omega arith)
 behind_grows lead name Graphics (a ∷ []) c h n = absurd (omega arith)
 behind_grows lead name Graphics (a ∷ b ∷ []) c h n = absurd (omega arith)
@@ -125,15 +124,11 @@ behind_grows lead name Graphics (a ∷ b ∷ d ∷ e ∷ []) c h n = absurd (ome
 behind_grows lead name Graphics (a ∷ b ∷ d ∷ e ∷ f ∷ args) c h n = unchanged _ _ refl
 
 head_stays : (k : Command) (args : List ℕ) (c : ℕ) → head_len k args ≤ length args → 0 < length args → head_len k (args ++ c ∷ []) ≤ length (args ++ c ∷ [])
-head_stays k [] c h l = absurd (omega arith)
-head_stays k (a ∷ args) c h l =
-    let s : head_len k (a ∷ args ++ c ∷ []) ≤ length (a ∷ args) = rw (head_first k a (args ++ c ∷ []) args) h in
-    omega (arith, length_push args c)
+head_stays k args c h l = grind (arith, head_first, length_push)
 
 given_none : (lead : Lead) (name : ℕ) (k : Command) → needs_more k [] ≡ true → given_by lead name k [] ≡ []
 unfolding needs_more given_by given_behind
-given_none lead name (Plain p) n = let m : ltb 0 (plain_len p []) ≡ true = grind (arith, nat_tests) in rw m refl
-given_none lead name _ n = refl
+given_none lead name k n = grind (arith, nat_tests)
 
 by_command : (lead : Lead) (name : ℕ) (k : Command) (args : List ℕ) (c : ℕ) → needs_more k args ≡ true
     → IsFrontOf (given_by lead name k args) (given_by lead name k (args ++ c ∷ []))
@@ -147,9 +142,7 @@ by_command lead name k (a ∷ args) c n = ⊎_elim
 
 by_listed : (l m n : Bool) (xs ys : List EscItem) → (l ≡ true → m ≡ true → n ≡ true → IsFrontOf xs ys) → cond l n true ≡ true
     → (l ≡ false → m ≡ false) → (l ≡ true → m ≡ false → xs ≡ []) → IsFrontOf (cond l xs []) (cond m ys [])
-by_listed true true n xs ys p o q z = p refl refl o
-by_listed true false n xs ys p o q z = from_nil xs [] (z refl refl)
-by_listed false m n xs ys p o q z = from_nil [] (cond m ys []) refl
+by_listed l m n xs ys p o q z = grind (arith, from_nil)
 
 by_named : (lead : Lead) (name : ℕ) (o : Option Command) (args : List ℕ) (c : ℕ) → is_unfinished_named o args ≡ true
     → IsFrontOf (given_named lead name o args) (given_named lead name o (args ++ c ∷ []))
@@ -178,8 +171,7 @@ prefix_trans xs ys zs p q = (p.0 ++ q.0, q.1 ∙ ap (λ z. z ++ q.0) p.1 ∙ app
 items_grow : (bytes : List ℕ) (c : ℕ) → IsFrontOf (items_of bytes) (items_of (bytes ++ c ∷ []))
 items_grow bytes c =
     let s : Splits bytes (split bytes).units (split bytes).rest = splits bytes in
-    let p : IsFrontOf (flat_map given (split bytes).units ++ given (split bytes).rest) (flat_map given (split bytes).units ++ given ((split bytes).rest ++ c ∷ [])) =
-    behind _ _ _ (given_grows (split bytes).rest c s.end.opens) in
+    let p : IsFrontOf (flat_map given (split bytes).units ++ given (split bytes).rest) (flat_map given (split bytes).units ++ given ((split bytes).rest ++ c ∷ [])) = grind (arith, behind, given_grows) in
     (p.0, items-push bytes c ∙ p.1 ∙ ap (λ z. z ++ p.0) (sym (items-is bytes)))
 
 pub only_more_lem : (bytes more : List ℕ) → IsFrontOf (items_of bytes) (items_of (bytes ++ more))

@@ -1,5 +1,5 @@
 -- The head of a command, and the data that it counts.
-use Rattle.std.proofs.Common.{◌≡◌, ℕ, ◌+◌, ◌-◌, ◌<◌, ◌≤◌, Bool, true, false, cond, not, ltb, List, [], ◌∷◌, ◌++◌, length, get_or, refl, ◌∙◌, arith}
+use Rattle.std.proofs.Common.{◌≡◌, ℕ, ◌+◌, ◌-◌, ◌<◌, ◌≤◌, Bool, true, false, cond, not, ltb, List, [], ◌∷◌, ◌++◌, length, refl, ◌∙◌, arith}
 use Rattle.std.proofs.lemmas.Bool.Decides.{nat_tests}
 use Rattle.std.proofs.lemmas.List.{length_push}
 use Rattle.vp_esc.specs.declared.item.Lead.{Lead}
@@ -7,59 +7,39 @@ use Rattle.vp_esc.specs.declared.command.Command.{Command}
 use Rattle.vp_esc.specs.declared.command.Command.TheVariants.{Plain, TabStops, Columns, Raster, Symbol, Function, Graphics}
 use Rattle.vp_esc.specs.declared.command.Plain.{Plain as PlainCommand}
 use Rattle.vp_esc.specs.declared.command.Plain.TheVariants.{Alone, OfByte, OfWord, Area, Cut, Sensor, RealTime, Unused}
-use Rattle.vp_esc.specs.declared.command.Arguments.TheVariants as arguments
-use Rattle.vp_esc.specs.Values.{is_kind_to_zero, is_feed_cut}
-use Rattle.vp_esc.specs.Command.{head_len, plain_len, is_listed, has_second}
+use Rattle.vp_esc.specs.Values.{is_kind_to_zero}
+use Rattle.vp_esc.specs.Command.{head_len, plain_len, is_listed}
 use Rattle.vp_esc.specs.Units.{needs_more, is_counted, is_short, data_len, given_by, given_behind, prints_rows, is_skipped}
 use Rattle.vp_esc.specs.Reader.{HasLeft}
 
 -- one or two arguments
 one_or_two : (b : Bool) → (1 ≤ cond b 2 1) × (cond b 2 1 ≤ 8)
-one_or_two true = (omega arith, omega arith)
-one_or_two false = (omega arith, omega arith)
+one_or_two b = grind arith
 
 plain_small : (p : PlainCommand) (args : List ℕ) → plain_len p args ≤ 8
-plain_small Cut args = (one_or_two (is_feed_cut (get_or args 0 0))).1
-plain_small RealTime args = (one_or_two (has_second (get_or args 0 0))).1
-plain_small (Unused arguments.None) args = omega arith
-plain_small (Unused arguments.One) args = omega arith
-plain_small (Unused arguments.Two) args = omega arith
-plain_small (Unused arguments.Three) args = omega arith
-plain_small _ args = omega arith
+plain_small p args = grind (arith, one_or_two)
 
 one_to_eight : (b : Bool) → cond b 1 2 ≤ 8
-one_to_eight true = omega arith
-one_to_eight false = omega arith
+one_to_eight b = grind arith
 
 pub head_small : (k : Command) (args : List ℕ) → head_len k args ≤ 8
-head_small (Plain p) args = plain_small p args
-head_small Symbol args = one_to_eight (is_kind_to_zero (get_or args 0 0))
-head_small _ args = omega arith
+head_small k args = grind (arith, plain_small, one_to_eight)
 
 -- the head is known by the first argument
 plain_first : (p : PlainCommand) (f : ℕ) (xs ys : List ℕ) → plain_len p (f ∷ xs) ≡ plain_len p (f ∷ ys)
-plain_first (Alone a) f xs ys = refl
-plain_first _ f xs ys = refl
+plain_first p f xs ys = grind arith
 
 pub head_first : (k : Command) (f : ℕ) (xs ys : List ℕ) → head_len k (f ∷ xs) ≡ head_len k (f ∷ ys)
-head_first (Plain p) f xs ys = plain_first p f xs ys
-head_first _ f xs ys = refl
+head_first k f xs ys = grind (arith, plain_first)
 
 plain_begins : (p : PlainCommand) (c : ℕ) → 0 < plain_len p [] → 1 ≤ plain_len p (c ∷ [])
-plain_begins (Alone a) c h = absurd (omega arith)
-plain_begins Cut c h = (one_or_two (is_feed_cut c)).0
-plain_begins RealTime c h = (one_or_two (has_second c)).0
-plain_begins _ c h = omega arith
+plain_begins p c h = grind (arith, one_or_two)
 
 symbol_begins : (b : Bool) → 1 ≤ cond b 1 2
-symbol_begins true = omega arith
-symbol_begins false = omega arith
+symbol_begins b = grind arith
 
 head_begins : (k : Command) (c : ℕ) → 0 < head_len k [] → 1 ≤ head_len k (c ∷ [])
-head_begins (Plain p) c h = plain_begins p c h
-head_begins TabStops c h = absurd (omega arith)
-head_begins Symbol c h = symbol_begins (is_kind_to_zero c)
-head_begins _ c h = omega arith
+head_begins k c h = grind (arith, plain_begins, symbol_begins)
 
 -- one more argument is still in the head
 pub head_push : (k : Command) (args : List ℕ) (c : ℕ) → length args < head_len k args → length args + 1 ≤ head_len k (args ++ c ∷ [])
@@ -87,8 +67,7 @@ plain_same RealTime (f ∷ front) more h = refl
 plain_same (Unused n) front more h = refl
 
 symbol_too_short : (b : Bool) → not b ≡ true → cond b 1 2 ≤ 1 → ⊥
-symbol_too_short true e h = cc
-symbol_too_short false e h = omega arith
+symbol_too_short b e h = grind arith
 
 pub same : (k : Command) (front more : List ℕ) → is_counted k front ≡ true → head_len k front ≤ length front → IsSame k front more
 same (Plain p) front more e h = record { head = plain_same p front more h; count = refl; counted = refl; rows = refl; skipped = refl }
@@ -119,14 +98,11 @@ same Graphics (a ∷ b ∷ c ∷ d ∷ []) more e h = absurd (omega arith)
 same Graphics (a ∷ b ∷ c ∷ d ∷ x ∷ front) more e h = record { head = refl; count = refl; counted = refl; rows = refl; skipped = refl }
 
 symbol_counted : (b n s : Bool) → not b ≡ true → cond b n s ≡ s
-symbol_counted true n s e = cc
-symbol_counted false n s e = refl
+symbol_counted b n s e = grind arith
 
 pub needs_counted : (k : Command) (args : List ℕ) → is_counted k args ≡ true → needs_more k args ≡ is_short k args
 unfolding needs_more
-needs_counted TabStops args e = cc
-needs_counted Symbol args e = symbol_counted (is_kind_to_zero (get_or args 0 0)) _ _ e
-needs_counted _ args e = refl
+needs_counted k args e = grind (arith, symbol_counted)
 
 -- Among the arguments before any data, more are needed, and nothing is given.
 pub record IsHead (lead : Lead) (name : ℕ) (k : Command) (args : List ℕ) : Type 0 where
@@ -134,26 +110,15 @@ pub record IsHead (lead : Lead) (name : ℕ) (k : Command) (args : List ℕ) : T
   pub gives : given_by lead name k args ≡ []
 
 symbol_needs : (b n s : Bool) (len : ℕ) → 1 ≤ len → len < cond b 1 2 → (len < 2 → s ≡ true) → cond b n s ≡ true
-symbol_needs true n s len one h f = absurd (omega arith)
-symbol_needs false n s len one h f = f h
+symbol_needs b n s len one h f = grind arith
 
 needs_in_head : (k : Command) (args : List ℕ) → length args < head_len k args → needs_more k args ≡ true
 unfolding needs_more
-needs_in_head (Plain p) args h = grind (arith, nat_tests)
-needs_in_head TabStops args h = absurd (omega arith)
-needs_in_head Columns args h = grind (arith, nat_tests)
-needs_in_head Raster args h = grind (arith, nat_tests)
-needs_in_head Symbol [] h = refl
-needs_in_head Symbol (a ∷ args) h =
-    symbol_needs (is_kind_to_zero a) _ _ (length (a ∷ args)) (omega arith) h (λ l. grind (arith, nat_tests))
-needs_in_head Function args h = grind (arith, nat_tests)
-needs_in_head Graphics args h = grind (arith, nat_tests)
+needs_in_head k args h = grind (arith, nat_tests, symbol_needs)
 
 pub heads : (lead : Lead) (name : ℕ) (k : Command) (args : List ℕ) → length args < head_len k args → IsHead lead name k args
 unfolding given_by
-heads lead name k args h =
-    let m : ltb (length args) (head_len k args) ≡ true = grind (arith, nat_tests) in
-    record { needs = needs_in_head k args h; gives = rw m refl }
+heads lead name k args h = grind (arith, nat_tests, needs_in_head)
 
 -- behind the head
 pub given_is : (lead : Lead) (name : ℕ) (k : Command) (args : List ℕ) → head_len k args ≤ length args
@@ -171,19 +136,11 @@ pub record IsPushed (k : Command) (args : List ℕ) (left c : ℕ) : Type 0 wher
   pub left_is : 1 < left → HasLeft k (args ++ c ∷ []) (left - 1)
 
 pub listed_more : (k : Command) (args : List ℕ) (c : ℕ) → 0 < length args → is_listed k args ≡ true → is_listed k (args ++ c ∷ []) ≡ true
-listed_more k [] c h l = absurd (omega arith)
-listed_more k (a ∷ args) c h l = l
+listed_more k args c h l = grind arith
 
 -- there are data behind the head, which isn't empty
 left_some : (k : Command) (args : List ℕ) (left : ℕ) → is_counted k args ≡ true → HasLeft k args left → 0 < length args
-left_some (Plain p) args left e h = absurd (omega (arith, h.head, h.some_left, h.count))
-left_some TabStops args left e h = cc
-left_some Columns args left e h = omega (arith, h.head)
-left_some Raster args left e h = omega (arith, h.head)
-left_some Symbol [] left e h = cc
-left_some Symbol (a ∷ args) left e h = omega arith
-left_some Function args left e h = omega (arith, h.head)
-left_some Graphics args left e h = omega (arith, h.head)
+left_some k args left e h = grind arith
 
 pub pushed : (k : Command) (args : List ℕ) (left c : ℕ) → is_listed k args ≡ true → is_counted k args ≡ true → HasLeft k args left
     → IsPushed k args left c

@@ -1,5 +1,5 @@
 -- What is left of the data that stand open, by the reader's phase.
-use Rattle.std.proofs.Common.{◌≡◌, ℕ, ◌-◌, Bool, true, false, cond, ltb, ◌&&◌, Option, Some, None, List, [], ◌∷◌, length, refl, sym, ap, ◌∙◌, arith}
+use Rattle.std.proofs.Common.{◌≡◌, ℕ, ◌-◌, Bool, true, false, cond, ltb, ◌&&◌, Option, Some, None, List, [], length, refl, sym, ap, ◌∙◌, arith}
 use Rattle.std.proofs.lemmas.Bool.Decides.{nat_tests}
 use Rattle.std.proofs.lemmas.List.{append-nil}
 use Rattle.vp_dots.specs.declared.fault.Fault.{Fault}
@@ -11,7 +11,7 @@ use Rattle.vp_esc.specs.declared.reader.EscReader.{EscReader}
 use Rattle.vp_esc.specs.declared.reader.Data.{Data}
 use Rattle.vp_esc.specs.declared.reader.Phase.{Phase}
 use Rattle.vp_esc.specs.declared.reader.Phase.TheVariants as phases
-use Rattle.vp_esc.specs.Command.{lead_of, command_of, head_len, is_listed}
+use Rattle.vp_esc.specs.Command.{head_len}
 use Rattle.vp_esc.specs.Units.{prints_rows, is_skipped, stores_bytes, fault_in, fault_after, is_listed_name}
 use Rattle.vp_esc.specs.Reader.{in_phase, Begun, HasLeft, InArguments, InBytes, InQr, are_rows, give_nothing, are_stored}
 use Rattle.vp_esc.specs.Runs.{left_in, left_after, left_named, left_before_last, text_in}
@@ -41,8 +41,7 @@ none_other : (is_meant : Command → List ℕ → Bool) {lead : Lead} {name : �
 none_other is_meant b e = left_begun is_meant b ∙ rw e refl
 
 none_either : (b : Bool) (n : ℕ) → n ≡ 0 → cond b n 0 ≡ 0
-none_either true n e = e
-none_either false n e = refl
+none_either b n e = grind arith
 
 -- in the head
 none_in_head : (is_meant : Command → List ℕ → Bool) (r : EscReader) (command : Command) (rest : List ℕ)
@@ -53,29 +52,22 @@ none_in_head is_meant r command rest hand =
     left_begun is_meant hand.begun ∙ none_either (is_meant command args) _ (rw short refl)
 
 left_of : (command : Command) (args : List ℕ) (left : ℕ) → HasLeft command args left → left_before_last command args ≡ left - 1
-left_of command args left h =
-    let behind : ltb (length args) (head_len command args) ≡ false = grind (arith, nat_tests, h.head) in
-    rw behind (omega (arith, h.count, h.some_left, h.head))
+left_of command args left h = grind (arith, nat_tests)
 
 by_listed : (listed meant : Bool) (n : ℕ) (x f : Fault) → cond listed None (Some x) ≡ Some f → cond (listed && meant) n 0 ≡ 0
-by_listed true meant n x f e = cc
-by_listed false meant n x f e = refl
+by_listed listed meant n x f e = grind arith
 
 stopped_named : (is_meant : Command → List ℕ → Bool) (o : Option Command) (b c : ℕ) (args : List ℕ) (f : Fault)
     → cond (is_listed_name o args) None (Some (Unknown b c)) ≡ Some f → left_named is_meant o args ≡ 0
-stopped_named is_meant None b c args f e = refl
-stopped_named is_meant (Some k) b c args f e = by_listed (is_listed k args) (is_meant k args) _ _ f e
+stopped_named is_meant o b c args f e = grind (arith, by_listed)
 
 stopped_after : (is_meant : Command → List ℕ → Bool) (o : Option Lead) (b : ℕ) (bytes : List ℕ) (f : Fault)
     → fault_after o b bytes ≡ Some f → left_after is_meant o bytes ≡ 0
-stopped_after is_meant None b bytes f e = refl
-stopped_after is_meant (Some lead) b [] f e = refl
-stopped_after is_meant (Some lead) b (c ∷ args) f e = stopped_named is_meant (command_of lead c) b c args f e
+stopped_after is_meant o b bytes f e = grind (arith, stopped_named)
 
 none_stopped : (is_meant : Command → List ℕ → Bool) (rest : List ℕ) (f : Fault) → fault_in rest ≡ Some f → left_in is_meant rest ≡ 0
 unfolding left_in fault_in
-none_stopped is_meant [] f e = refl
-none_stopped is_meant (b ∷ bytes) f e = stopped_after is_meant (lead_of b) b bytes f e
+none_stopped is_meant rest f e = grind (arith, stopped_after)
 
 left_is : (is_meant : Command → List ℕ → Bool) (are : Data → Bool) → IsTied is_meant are → (p : Phase) (r : EscReader) (rest : List ℕ)
     → in_phase p r rest → left_in is_meant rest ≡ left_by are p
@@ -93,22 +85,10 @@ left_is is_meant are tied (phases.Qr count left) r rest h = none_other is_meant 
 left_is is_meant are tied (phases.Stopped fault) r rest h = none_stopped is_meant rest fault h
 
 pub rows_left_is : (p : Phase) (r : EscReader) (rest : List ℕ) → in_phase p r rest → left_in prints_rows rest ≡ left_by are_rows p
-rows_left_is p r rest h = left_is prints_rows are_rows (record {
-  stops = λ args. refl;
-  columns = λ args. refl;
-  symbol = λ args. refl;
-  qr = λ r count left rest hand. refl;
-  bytes = λ r kind left rest hand. hand.rows;
-}) p r rest h
+rows_left_is p r rest h = grind (arith, left_is)
 
 pub skipped_left_is : (p : Phase) (r : EscReader) (rest : List ℕ) → in_phase p r rest → left_in is_skipped rest ≡ left_by give_nothing p
-skipped_left_is p r rest h = left_is is_skipped give_nothing (record {
-  stops = λ args. refl;
-  columns = λ args. refl;
-  symbol = λ args. refl;
-  qr = λ r count left rest hand. rw hand.is_qr refl;
-  bytes = λ r kind left rest hand. hand.skipped;
-}) p r rest h
+skipped_left_is p r rest h = grind (arith, left_is)
 
 pub stored_left_is : (p : Phase) (r : EscReader) (rest : List ℕ) → in_phase p r rest → left_in stores_bytes rest ≡ left_by are_stored p
 stored_left_is p r rest h = left_is stores_bytes are_stored (record {
@@ -121,5 +101,4 @@ stored_left_is p r rest h = left_is stores_bytes are_stored (record {
 
 -- text in a command
 pub no_text : (rest input : List ℕ) → (rest ≡ [] → ⊥) → text_in rest input ≡ 0
-no_text [] input some = absurd (some refl)
-no_text (b ∷ rest) input some = refl
+no_text rest input some = grind arith

@@ -1,8 +1,7 @@
 -- The lines of a unit list its bytes.
-use Rattle.std.proofs.Common.{◌≡◌, ℕ, ◌+◌, ◌-◌, ◌*◌, ◌/◌, ◌%◌, ◌<◌, ◌≤◌, Bool, true, false, eqb, cond, Option, Some, None, List, [], ◌∷◌, ◌++◌, length, take, get_or, refl, sym, ap, ◌∙◌, arith, ⊎_elim}
+use Rattle.std.proofs.Common.{◌≡◌, ℕ, ◌+◌, ◌-◌, ◌*◌, ◌%◌, ◌<◌, ◌≤◌, Bool, true, false, cond, Option, Some, None, List, [], ◌∷◌, ◌++◌, length, take, get_or, refl, sym, ap, ◌∙◌, arith}
 use Rattle.std.specs.Prelude.{map, codes}
 use Rattle.std.specs.List.{AllByRecursion}
-use Rattle.std.specs.Int.{w16}
 use Rattle.std.proofs.lemmas.Int.{of_z-to_z}
 use Rattle.std.proofs.lemmas.Bool.{eqb-true}
 use Rattle.std.proofs.lemmas.Bool.Decides.{nat_tests}
@@ -20,17 +19,14 @@ use Rattle.vp_esc.specs.declared.command.Command.TheVariants.{Plain, Columns, Ra
 use Rattle.vp_esc.specs.declared.command.Plain.{Plain as PlainCommand}
 use Rattle.vp_esc.specs.declared.command.Plain.TheVariants.{Alone, OfByte, OfWord, Area, Cut, Sensor, RealTime, Unused}
 use Rattle.vp_esc.specs.declared.command.Alone.{Alone as AloneCommand}
-use Rattle.vp_esc.specs.declared.command.Alone.TheVariants as alone
 use Rattle.vp_esc.specs.declared.command.OfByte.{OfByte as OfByteCommand}
-use Rattle.vp_esc.specs.declared.command.OfByte.TheVariants as of_byte
 use Rattle.vp_esc.specs.declared.command.OfWord.{OfWord as OfWordCommand}
-use Rattle.vp_esc.specs.declared.command.OfWord.TheVariants as of_word
 use Rattle.vp_esc.specs.Values.{spelled, is_cut, is_feed_cut, is_column_mode, column_mode_of, column_bytes, scale_of, is_kind_to_zero}
 use Rattle.vp_esc.specs.Units.{needs_more, rises_from, alone_item, of_byte_item, of_word_item, plain_item, stops_item, tall_columns, columns, raster_bytes, symbol_data, symbol_unit, given_behind}
 use Rattle.vp_esc.specs.Laws.{all_bytes}
 use Rattle.vp_esc.specs.Lines.{lead_word, two_bytes, column_byte, symbol_bytes, line_of}
 use Rattle.vp_esc.specs.Listings.{may_skip, Lists}
-use Rattle.vp_esc.specs.Table.{IsOne, IsTwo, IsPlain, IsStops, IsColumns, IsRaster, IsToZero, IsCountedSymbol, IsGraphics}
+use Rattle.vp_esc.specs.Table.{IsPlain, IsStops, IsColumns, IsRaster, IsToZero, IsCountedSymbol, IsGraphics}
 use Rattle.vp_esc.proofs.Named.{IsNamed}
 
 abbrev pub IsBytes : List ℕ → Type 0
@@ -67,52 +63,27 @@ front_line lead front rest bytes item b s e =
 pub part_lines : (lead : Lead) (head word bytes : List ℕ) (parts : List (List ℕ)) (item : EscItem) (more : List EscItem) → bytes ≡ head ++ all_bytes parts
     → line_of item ≡ listed (lead_word lead) head → map line_of more ≡ map (λ part. listed word part) parts
     → Lists lead bytes (map line_of (item ∷ more))
-part_lines lead head word bytes parts item more b e f =
-    record {
-      head = head;
-      word = word;
-      parts = parts;
-      skipped = [];
-      bytes_are = b ∙ sym (append-nil (head ++ all_bytes parts));
-      lines_are = ap (λ l. l ∷ map line_of more) e ∙ ap (λ ls. listed (lead_word lead) head ∷ ls) f;
-      whole = λ s. refl;
-    }
+part_lines lead head word bytes parts item more b e f = grind (arith, append-nil)
 
 pub two_is : (l h : ℕ) → l < 256 → h < 256 → two_bytes (l + 256 * h) ≡ l ∷ h ∷ []
-two_is l h p q =
-    let low : (l + 256 * h) % 256 ≡ l = omega arith in
-    let high : (l + 256 * h) / 256 % 256 ≡ h = omega arith in
-    rw (low, high) refl
+two_is l h p q = grind arith
 
 alone_listed : (lead : Lead) (name : ℕ) (c : AloneCommand) → IsNamed (Plain (Alone c)) lead name → line_of (alone_item c) ≡ listed (lead_word lead) (name ∷ [])
-alone_listed lead name alone.DefaultLineSpacing e = rw (e.0, e.1) refl
-alone_listed lead name _ e = rw (e.0, e.1) refl
+alone_listed lead name c e = grind arith
 
 byte_listed : (lead : Lead) (name : ℕ) (c : OfByteCommand) (n : ℕ) → IsNamed (Plain (OfByte c)) lead name → line_of (of_byte_item c n) ≡ listed (lead_word lead) (name ∷ n ∷ [])
-byte_listed lead name of_byte.RightSpacing n e = rw (e.0, e.1) refl
-byte_listed lead name _ n e = rw (e.0, e.1) refl
+byte_listed lead name c n e = grind arith
 
 word_listed : (lead : Lead) (name : ℕ) (c : OfWordCommand) (n : ℕ) → n < 65536 → IsNamed (Plain (OfWord c)) lead name
     → line_of (of_word_item c n) ≡ listed (lead_word lead) (name ∷ two_bytes n)
-word_listed lead name of_word.MovePosition n l e = ap (λ m. listed (codes "esc") (0x5C ∷ two_bytes m)) (of_z-to_z w16 n l) ∙ rw (e.0, e.1) refl
-word_listed lead name of_word.MoveVerticalPosition n l e = ap (λ m. listed (codes "gs") (0x5C ∷ two_bytes m)) (of_z-to_z w16 n l) ∙ rw (e.0, e.1) refl
-word_listed lead name _ n l e = rw (e.0, e.1) refl
+word_listed lead name c n l e = grind (arith, of_z-to_z)
 
 cut_only : (m : ℕ) → is_cut m ≡ true → is_feed_cut m ≡ false
 cut_only m e = grind (arith, nat_tests)
 
 area_listed : (lead : Lead) (name : ℕ) (a b c d e f g h : ℕ) → IsNamed (Plain Area) lead name → IsBytes (a ∷ b ∷ c ∷ d ∷ e ∷ f ∷ g ∷ h ∷ [])
     → line_of (plain_item lead name Area (a ∷ b ∷ c ∷ d ∷ e ∷ f ∷ g ∷ h ∷ [])) ≡ listed (lead_word lead) (name ∷ a ∷ b ∷ c ∷ d ∷ e ∷ f ∷ g ∷ h ∷ [])
-area_listed lead name a b c d e f g h i p =
-    rw (i.0, i.1) (
-    let x = two_is a b p.0 p.1.0 in
-    let y = two_is c d p.1.1.0 p.1.1.1.0 in
-    let w = two_is e f p.1.1.1.1.0 p.1.1.1.1.1.0 in
-    let z = two_is g h p.1.1.1.1.1.1.0 p.1.1.1.1.1.1.1.0 in
-    ap (λ (t : List ℕ). listed (codes "esc") (0x57 ∷ (t ++ two_bytes (c + 256 * d) ++ two_bytes (e + 256 * f) ++ two_bytes (g + 256 * h)))) x
-    ∙ ap (λ (t : List ℕ). listed (codes "esc") (0x57 ∷ (a ∷ b ∷ [] ++ t ++ two_bytes (e + 256 * f) ++ two_bytes (g + 256 * h)))) y
-    ∙ ap (λ (t : List ℕ). listed (codes "esc") (0x57 ∷ (a ∷ b ∷ c ∷ d ∷ [] ++ t ++ two_bytes (g + 256 * h)))) w
-    ∙ ap (λ (t : List ℕ). listed (codes "esc") (0x57 ∷ (a ∷ b ∷ c ∷ d ∷ e ∷ f ∷ [] ++ t))) z)
+area_listed lead name a b c d e f g h i p = grind (arith, two_is)
 
 pub plain_listed : (lead : Lead) (name : ℕ) (p : PlainCommand) (args : List ℕ) → IsNamed (Plain p) lead name → IsPlain p args → IsBytes args
     → line_of (plain_item lead name p args) ≡ listed (lead_word lead) (name ∷ args)
@@ -122,17 +93,10 @@ plain_listed lead name (OfByte c) (n ∷ []) i h b = byte_listed lead name c n i
 plain_listed lead name (OfByte c) (n ∷ m ∷ args) i h b = absurd (omega arith)
 plain_listed lead name (OfWord c) [] i h b = absurd (omega arith)
 plain_listed lead name (OfWord c) (l ∷ []) i h b = absurd (omega arith)
-plain_listed lead name (OfWord c) (l ∷ k ∷ []) i h b =
-    let p : l < 256 = b.0 in
-    let q : k < 256 = b.1.0 in
-    word_listed lead name c (l + 256 * k) (omega arith) i ∙ ap (λ (t : List ℕ). listed (lead_word lead) (name ∷ t)) (two_is l k p q)
+plain_listed lead name (OfWord c) (l ∷ k ∷ []) i h b = grind (arith, word_listed, two_is)
 plain_listed lead name (OfWord c) (l ∷ k ∷ n ∷ args) i h b = absurd (omega arith)
-plain_listed lead name Area args i h b =
-    rw h.bytes (area_listed lead name h.xl h.xh h.yl h.yh h.dxl h.dxh h.dyl h.dyh i (rw h.bytes at b))
-plain_listed lead name Cut args i h b = ⊎_elim
-    (λ (o : IsOne args (λ m. is_cut m ≡ true)). rw (o.bytes, i.0, i.1) (rw (cut_only o.first o.is) refl))
-    (λ (o : IsTwo args (λ m. is_feed_cut m ≡ true)). rw (o.bytes, i.0, i.1) (rw o.is refl))
-    h
+plain_listed lead name Area args i h b = grind (arith, area_listed)
+plain_listed lead name Cut args i h b = grind (arith, cut_only)
 plain_listed lead name Sensor args i h b = refl
 plain_listed lead name RealTime args i h b = refl
 plain_listed lead name (Unused count) args i h b = refl
@@ -205,18 +169,10 @@ columns_listed Single24 bytes n e = record { parts = triples bytes; bytes_are = 
 columns_listed Double24 bytes n e = record { parts = triples bytes; bytes_are = sym (all_triples bytes n e); lines_are = triple_lines bytes }
 
 mode_byte : (m : ℕ) → is_column_mode m ≡ true → column_byte (column_mode_of m) ≡ m
-mode_byte m e = by_tests (eqb m 0) (eqb m 1) (eqb m 32) (eqb m 33) refl refl refl refl
-  where
-    by_tests : (a b c d : Bool) → eqb m 0 ≡ a → eqb m 1 ≡ b → eqb m 32 ≡ c → eqb m 33 ≡ d → column_byte (column_mode_of m) ≡ m
-    by_tests true b c d p q r s = rw p (sym (eqb-true m 0 p))
-    by_tests false true c d p q r s = rw (p, q) (sym (eqb-true m 1 q))
-    by_tests false false true d p q r s = rw (p, q, r) (sym (eqb-true m 32 r))
-    by_tests false false false true p q r s = rw (p, q, r) (sym (eqb-true m 33 s))
-    by_tests false false false false p q r s = let no : false ≡ true = rw (p, q, r, s) at e in cc
+mode_byte m e = grind (arith, eqb-true)
 
 column_head : (m l h : ℕ) → is_column_mode m ≡ true → l < 256 → h < 256 → line_of (items.Columns (column_mode_of m) (l + 256 * h)) ≡ listed (codes "esc") (0x2A ∷ m ∷ l ∷ h ∷ [])
-column_head m l h e p q =
-    ap (λ b. listed (codes "esc") (0x2A ∷ b ∷ two_bytes (l + 256 * h))) (mode_byte m e) ∙ ap (λ (t : List ℕ). listed (codes "esc") (0x2A ∷ m ∷ t)) (two_is l h p q)
+column_head m l h e p q = grind (arith, mode_byte, two_is)
 
 pub columns_list : (args : List ℕ) → IsColumns args → IsBytes args → Lists Esc (0x2A ∷ args) (map line_of (given_behind Esc 0x2A Columns args))
 unfolding given_behind
@@ -229,9 +185,7 @@ columns_list args h b =
 
 raster_head : (m xl xh yl yh : ℕ) → xl < 256 → xh < 256 → yl < 256 → yh < 256
     → line_of (items.Raster (spelled m (scale_of m)) (xl + 256 * xh) (yl + 256 * yh)) ≡ listed (codes "gs") (0x76 ∷ 0x30 ∷ m ∷ xl ∷ xh ∷ yl ∷ yh ∷ [])
-raster_head m xl xh yl yh a b c d =
-    ap (λ (t : List ℕ). listed (codes "gs") (0x76 ∷ 0x30 ∷ m ∷ (t ++ two_bytes (yl + 256 * yh)))) (two_is xl xh a b)
-    ∙ ap (λ (t : List ℕ). listed (codes "gs") (0x76 ∷ 0x30 ∷ m ∷ xl ∷ xh ∷ t)) (two_is yl yh c d)
+raster_head m xl xh yl yh a b c d = grind (arith, two_is)
 
 by_scale : (head dots : List ℕ) (m w n : ℕ) (scale : Option RasterScale) → may_skip Gs (head ++ dots) ≡ true
     → line_of (items.Raster (spelled m scale) w n) ≡ listed (codes "gs") head
@@ -263,9 +217,7 @@ symbol_item : (args cs : List ℕ) (kind : ℕ) → get_or args 0 0 ≡ kind →
     → symbol_bytes kind cs ≡ 0x6B ∷ args → Lists Gs (0x6B ∷ args) (map line_of (given_behind Gs 0x6B Symbol args))
 unfolding given_behind
 symbol_item args cs kind k d l n b =
-    let line : line_of (symbol_unit (get_or args 0 0) (symbol_data args)) ≡ listed (codes "gs") (0x6B ∷ args) =
-    ap (λ m. line_of (symbol_unit m (symbol_data args))) k ∙ ap (λ (t : List ℕ). line_of (symbol_unit kind t)) d
-    ∙ symbol_line kind cs l ∙ ap (λ (t : List ℕ). listed (codes "gs") t) b in
+    let line : line_of (symbol_unit (get_or args 0 0) (symbol_data args)) ≡ listed (codes "gs") (0x6B ∷ args) = grind (arith, get_or, symbol_line) in
     rw n (one_line Gs (0x6B ∷ args) (symbol_unit (get_or args 0 0) (symbol_data args)) line)
 
 pub to_zero_list : (args : List ℕ) → IsToZero args → length args ≤ 257 → needs_more Symbol args ≡ false → Lists Gs (0x6B ∷ args) (map line_of (given_behind Gs 0x6B Symbol args))
@@ -280,10 +232,4 @@ to_zero_list args h l n =
         rw e (rw k (rw count (take-append_seam cs (0 ∷ []))))
 
 pub counted_list : (args : List ℕ) → IsCountedSymbol args → IsBytes args → needs_more Symbol args ≡ false → Lists Gs (0x6B ∷ args) (map line_of (given_behind Gs 0x6B Symbol args))
-counted_list args h b n =
-    let bytes : IsBytes (h.kind ∷ length h.codes ∷ h.codes) = rw h.bytes at b in
-    let small : length h.codes < 256 = bytes.1.0 in
-    let low : length h.codes % 256 ≡ length h.codes = omega arith in
-    symbol_item args h.codes h.kind (ap (λ (t : List ℕ). get_or t 0 0) h.bytes) (rw h.bytes (rw h.not_to_zero refl)) (omega arith) n
-    (ap (λ t. cond t (0x6B ∷ h.kind ∷ (h.codes ++ 0 ∷ [])) (0x6B ∷ h.kind ∷ length h.codes % 256 ∷ h.codes)) h.not_to_zero
-    ∙ ap (λ m. 0x6B ∷ h.kind ∷ m ∷ h.codes) low ∙ ap (λ (t : List ℕ). 0x6B ∷ t) (sym h.bytes))
+counted_list args h b n = grind (arith, symbol_item)

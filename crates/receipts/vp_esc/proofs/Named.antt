@@ -1,11 +1,12 @@
 -- The first two bytes of a command, by the command.
-use Rattle.std.proofs.Common.{◌≡◌, ℕ, Bool, true, false, eqb, cond, Option, Some, None, refl, sym, subst}
+use Rattle.std.proofs.Common.{◌≡◌, ℕ, Bool, true, false, eqb, cond, Option, Some, None, refl, arith}
+use Rattle.std.proofs.lemmas.Bool.Decides.{nat_tests}
 use Rattle.std.proofs.lemmas.Bool.{eqb-true}
 use Rattle.vp_esc.specs.declared.item.Lead.{Lead}
 use Rattle.vp_esc.specs.declared.item.Lead.TheVariants.{Esc, Gs, Fs, Dle}
 use Rattle.vp_esc.specs.declared.command.Command.{Command}
 use Rattle.vp_esc.specs.declared.command.Command.TheVariants.{Plain, TabStops, Columns, Raster, Symbol, Function, Graphics}
-use Rattle.vp_esc.specs.declared.command.Plain.TheVariants.{Alone, OfByte, OfWord, Area, Cut, Sensor, RealTime, Unused}
+use Rattle.vp_esc.specs.declared.command.Plain.TheVariants.{Alone, OfByte, OfWord, Area, Cut, Sensor, Unused}
 use Rattle.vp_esc.specs.declared.command.Alone.TheVariants as alone
 use Rattle.vp_esc.specs.declared.command.OfByte.TheVariants as of_byte
 use Rattle.vp_esc.specs.declared.command.OfWord.TheVariants as of_word
@@ -61,16 +62,7 @@ IsNamed Graphics = Is Gs 0x38
 -- a test of the name, and what holds where it fails
 pick : (lead : Lead) (b n : ℕ) (k x : Command) (rest : Option Command) → IsNamed x lead n → (rest ≡ Some k → IsNamed k lead b)
     → cond (eqb b n) (Some x) rest ≡ Some k → IsNamed k lead b
-pick lead b n k x rest here other e = by_test (eqb b n) refl e
-  where
-    by_test : (t : Bool) → eqb b n ≡ t → cond t (Some x) rest ≡ Some k → IsNamed k lead b
-    by_test true a f =
-        let at : n ≡ b = sym (eqb-true b n a) in
-        let is : x ≡ k = cc in
-        let P : ℕ → Type 0 = λ m. IsNamed k lead m in
-        let Q : Command → Type 0 = λ c. IsNamed c lead n in
-        subst P at (subst Q is here)
-    by_test false a f = other f
+pick lead b n k x rest here other e = grind (arith, nat_tests, eqb-true)
 
 none : {P : Type 0} {k : Command} → ◌≡◌ {A = Option Command} None (Some k) → P
 none e = cc
@@ -78,10 +70,7 @@ none e = cc
 -- the same for a test of several names of commands without effect
 pass : (lead : Lead) (b : ℕ) (k x : Command) (t : Bool) (rest : Option Command) → IsNamed x lead b → (rest ≡ Some k → IsNamed k lead b)
     → cond t (Some x) rest ≡ Some k → IsNamed k lead b
-pass lead b k x true rest here other e =
-    let is : x ≡ k = cc in
-    let Q : Command → Type 0 = λ c. IsNamed c lead b in
-    subst Q is here
+pass lead b k x true rest here other e = grind arith
 pass lead b k x false rest here other e = other e
 
 esc_command_named : (b : ℕ) (k : Command) → esc_command b ≡ Some k → IsNamed k Esc b
@@ -115,43 +104,15 @@ esc_command_named b k e =
     λ f. none f)))))))))))))))))))))))))) e
 
 gs_command_named : (b : ℕ) (k : Command) → gs_command b ≡ Some k → IsNamed k Gs b
-gs_command_named b k e =
-    pick Gs b 0x21 k (Plain (OfByte of_byte.Magnify)) _ (refl, refl) (
-    pick Gs b 0x24 k (Plain (OfWord of_word.VerticalPosition)) _ (refl, refl) (
-    pick Gs b 0x28 k Function _ (refl, refl) (
-    pick Gs b 0x38 k Graphics _ (refl, refl) (
-    pick Gs b 0x42 k (Plain (OfByte of_byte.Inverse)) _ (refl, refl) (
-    pick Gs b 0x48 k (Plain (OfByte of_byte.HriPosition)) _ (refl, refl) (
-    pick Gs b 0x4C k (Plain (OfWord of_word.LeftMargin)) _ (refl, refl) (
-    pass Gs b k (Plain (Unused arguments.Two)) _ _ tt (
-    pick Gs b 0x56 k (Plain Cut) _ (refl, refl) (
-    pick Gs b 0x57 k (Plain (OfWord of_word.AreaWidth)) _ (refl, refl) (
-    pick Gs b 0x5C k (Plain (OfWord of_word.MoveVerticalPosition)) _ (refl, refl) (
-    pick Gs b 0x66 k (Plain (OfByte of_byte.HriFont)) _ (refl, refl) (
-    pick Gs b 0x68 k (Plain (OfByte of_byte.BarHeight)) _ (refl, refl) (
-    pick Gs b 0x6B k Symbol _ (refl, refl) (
-    pick Gs b 0x76 k Raster _ (refl, refl) (
-    pick Gs b 0x77 k (Plain (OfByte of_byte.BarModule)) _ (refl, refl) (
-    pass Gs b k (Plain (Unused arguments.One)) _ _ tt (
-    λ f. none f))))))))))))))))) e
+gs_command_named b k e = grind (arith, nat_tests, pick, pass, none)
 
 fs_command_named : (b : ℕ) (k : Command) → fs_command b ≡ Some k → IsNamed k Fs b
-fs_command_named b k e =
-    pass Fs b k (Plain (Unused arguments.None)) _ _ tt (
-    pass Fs b k (Plain (Unused arguments.One)) _ _ tt (
-    pass Fs b k (Plain (Unused arguments.Two)) _ _ tt (
-    λ f. none f))) e
+fs_command_named b k e = grind (arith, nat_tests, pass, none)
 
 dle_command_named : (b : ℕ) (k : Command) → dle_command b ≡ Some k → IsNamed k Dle b
-dle_command_named b k e =
-    pass Dle b k (Plain RealTime) _ _ tt (
-    pass Dle b k (Plain (Unused arguments.One)) _ _ tt (
-    λ f. none f)) e
+dle_command_named b k e = grind (arith, pass, none)
 
 -- each command is named so
 pub named_so : (lead : Lead) (name : ℕ) (k : Command) → command_of lead name ≡ Some k → IsNamed k lead name
 unfolding command_of
-named_so Esc b k e = esc_command_named b k e
-named_so Gs b k e = gs_command_named b k e
-named_so Fs b k e = fs_command_named b k e
-named_so Dle b k e = dle_command_named b k e
+named_so lead b k e = grind (arith, esc_command_named, gs_command_named, fs_command_named, dle_command_named)

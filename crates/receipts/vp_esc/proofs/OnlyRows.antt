@@ -2,15 +2,15 @@
 use Rattle.std.proofs.Common.{◌≡◌, ℕ, ◌≤◌, ◌<◌, ◌+◌, Bool, true, false, ◌&&◌, ◌||◌, cond, not, ltb, eqb, Option, None, Some, List, [], ◌∷◌, ◌++◌, length, refl, sym, ap, ◌∙◌, arith, ⊎_elim, inl, inr}
 use Rattle.std.specs.List.{list_any}
 use Rattle.std.proofs.lemmas.List.{length_push}
-use Rattle.std.proofs.lemmas.Bool.{cases_lt, cases_Bool}
+use Rattle.std.proofs.lemmas.Bool.{cases_lt}
 use Rattle.std.proofs.lemmas.Bool.Decides.{nat_tests}
 use Rattle.vp_esc.specs.declared.item.Lead.{Lead}
 use Rattle.vp_esc.specs.declared.command.Command.{Command}
 use Rattle.vp_esc.specs.declared.command.Command.TheVariants.{Plain, TabStops, Columns, Raster, Symbol, Function, Graphics}
 use Rattle.vp_esc.specs.declared.command.Plain.{Plain as PlainCommand}
-use Rattle.vp_esc.specs.declared.command.Plain.TheVariants.{Alone, Area, Cut, Sensor, RealTime}
-use Rattle.vp_esc.specs.Values.{is_kind_to_zero, is_kind_counted, is_cut, is_feed_cut}
-use Rattle.vp_esc.specs.Command.{lead_of, command_of, head_len, is_listed, has_second}
+use Rattle.vp_esc.specs.declared.command.Plain.TheVariants.{Cut, Sensor, RealTime}
+use Rattle.vp_esc.specs.Values.{is_kind_to_zero}
+use Rattle.vp_esc.specs.Command.{lead_of, command_of, head_len, is_listed}
 use Rattle.vp_esc.specs.Units.{is_unfinished, needs_more, is_counted, is_short, data_len, rises_from}
 use Rattle.vp_esc.specs.Reader.{last_or}
 use Rattle.vp_esc.specs.Laws.{IsUnit}
@@ -18,7 +18,7 @@ use Rattle.vp_esc.specs.Table.{IsPlain, IsArea, IsColumns, IsRaster, IsFunction,
 use Rattle.vp_esc.proofs.Fronts.{lead_byte-of}
 use Rattle.vp_esc.proofs.Stops.{rises_push}
 use Rattle.vp_esc.proofs.Symbols.{no_zero_push}
-use Rattle.vp_esc.proofs.Heads.{IsSame, same, needs_counted, head_push}
+use Rattle.vp_esc.proofs.Heads.{same, needs_counted, head_push}
 use Rattle.vp_esc.proofs.Rows.{IsSized, counted_front}
 
 -- the arguments are whole, and no proper front of them is
@@ -42,25 +42,10 @@ last_of x (y ∷ xs) =
 
 sized_last : (k : Command) (front : List ℕ) (x : ℕ) → is_counted k (front ++ x ∷ []) ≡ true → IsWhole k (front ++ x ∷ [])
     → length (front ++ x ∷ []) ≡ head_len k (front ++ x ∷ []) + data_len k (front ++ x ∷ [])
-sized_last k front x c w =
-    let len : length (front ++ x ∷ []) ≡ length front + 1 = length_push front x in
-    let n : needs_more k front ≡ true = w.fronts front x refl in
-    let d : is_short k (front ++ x ∷ []) ≡ false = sym (needs_counted k (front ++ x ∷ []) c) ∙ w.whole in
-    ⊎_elim
-    (λ (h : length front < head_len k front).
-    let p : length front + 1 ≤ head_len k (front ++ x ∷ []) = head_push k front x h in
-    grind (arith, nat_tests))
-    (λ (h : head_len k front ≤ length front).
-    let f : is_counted k front ≡ true = counted_front k front (x ∷ []) h c in
-    let i : IsSame k front (x ∷ []) = same k front (x ∷ []) f h in
-    let s : is_short k front ≡ true = sym (needs_counted k front f) ∙ n in
-    grind (arith, nat_tests, i.head, i.count))
-    (cases_lt (length front) (head_len k front))
+sized_last k front x c w = grind (arith, length_push, needs_counted, head_push, nat_tests, counted_front, same)
 
 sized_of : (k : Command) (args : List ℕ) → is_counted k args ≡ true → IsWhole k args → IsSized k args
-sized_of k [] c w =
-    let d : is_short k [] ≡ false = sym (needs_counted k [] c) ∙ w.whole in
-    record { listed = w.listed; counted = c; len = grind (arith, nat_tests) }
+sized_of k [] c w = grind (arith, needs_counted, nat_tests)
 sized_of k (a ∷ args) c w =
     let l : HasLast (a ∷ args) = last_of a args in
     let e : IsWhole k (l.front ++ l.last ∷ []) = rw l.is at w in
@@ -71,8 +56,7 @@ sized_of k (a ∷ args) c w =
 -- Each command's row.
 
 both_of : (a b : Bool) → (a || b) ≡ true → b ≡ false → a ≡ true
-both_of true b h e = refl
-both_of false b h e = let f : false ≡ true = rw e at h in cc
+both_of a b h e = grind arith
 
 nil_of : (xs : List ℕ) → length xs ≡ 0 → xs ≡ []
 nil_of [] h = refl
@@ -87,54 +71,29 @@ area_row (a ∷ b ∷ c ∷ d ∷ []) h = absurd (omega arith)
 area_row (a ∷ b ∷ c ∷ d ∷ e ∷ []) h = absurd (omega arith)
 area_row (a ∷ b ∷ c ∷ d ∷ e ∷ f ∷ []) h = absurd (omega arith)
 area_row (a ∷ b ∷ c ∷ d ∷ e ∷ f ∷ g ∷ []) h = absurd (omega arith)
-area_row (a ∷ b ∷ c ∷ d ∷ e ∷ f ∷ g ∷ i ∷ []) h =
-    record { xl = a; xh = b; yl = c; yh = d; dxl = e; dxh = f; dyl = g; dyh = i; bytes = refl }
+area_row (a ∷ b ∷ c ∷ d ∷ e ∷ f ∷ g ∷ i ∷ []) h = grind arith
 area_row (a ∷ b ∷ c ∷ d ∷ e ∷ f ∷ g ∷ i ∷ j ∷ args) h = absurd (omega arith)
 
 cut_row : (args : List ℕ) → IsSized (Plain Cut) args → IsPlain Cut args
 cut_row [] s = absurd (omega (arith, s.len))
-cut_row (m ∷ []) s = ⊎_elim
-    (λ (f : is_feed_cut m ≡ true). absurd (omega (arith, rw f at s.len)))
-    (λ (f : is_feed_cut m ≡ false). inl (record { first = m; bytes = refl; is = both_of (is_cut m) (is_feed_cut m) s.listed f }))
-    (cases_Bool (is_feed_cut m))
-cut_row (m ∷ n ∷ []) s = ⊎_elim
-    (λ (f : is_feed_cut m ≡ true). inr (record { first = m; second = n; bytes = refl; is = f }))
-    (λ (f : is_feed_cut m ≡ false). absurd (omega (arith, rw f at s.len)))
-    (cases_Bool (is_feed_cut m))
-cut_row (m ∷ n ∷ x ∷ args) s = ⊎_elim
-    (λ (f : is_feed_cut m ≡ true). absurd (omega (arith, rw f at s.len)))
-    (λ (f : is_feed_cut m ≡ false). absurd (omega (arith, rw f at s.len)))
-    (cases_Bool (is_feed_cut m))
+cut_row (m ∷ []) s = grind (arith, both_of)
+cut_row (m ∷ n ∷ []) s = grind arith
+cut_row (m ∷ n ∷ x ∷ args) s = grind arith
 
 sensor_row : (args : List ℕ) → IsSized (Plain Sensor) args → IsPlain Sensor args
 sensor_row [] s = absurd (omega (arith, s.len))
 sensor_row (m ∷ []) s = absurd (omega (arith, s.len))
-sensor_row (m ∷ n ∷ []) s =
-    record { first = m; second = n; bytes = refl; is = (grind (arith, nat_tests, s.listed), grind (arith, nat_tests, s.listed)) }
+sensor_row (m ∷ n ∷ []) s = grind (arith, nat_tests)
 sensor_row (m ∷ n ∷ x ∷ args) s = absurd (omega (arith, s.len))
 
 real_time_row : (args : List ℕ) → IsSized (Plain RealTime) args → IsPlain RealTime args
 real_time_row [] s = absurd (omega (arith, s.len))
-real_time_row (m ∷ []) s = ⊎_elim
-    (λ (f : has_second m ≡ true). absurd (omega (arith, rw f at s.len)))
-    (λ (f : has_second m ≡ false). inl (record { first = m; bytes = refl; is = f }))
-    (cases_Bool (has_second m))
-real_time_row (m ∷ n ∷ []) s = ⊎_elim
-    (λ (f : has_second m ≡ true). inr (record { first = m; second = n; bytes = refl; is = f }))
-    (λ (f : has_second m ≡ false). absurd (omega (arith, rw f at s.len)))
-    (cases_Bool (has_second m))
-real_time_row (m ∷ n ∷ x ∷ args) s = ⊎_elim
-    (λ (f : has_second m ≡ true). absurd (omega (arith, rw f at s.len)))
-    (λ (f : has_second m ≡ false). absurd (omega (arith, rw f at s.len)))
-    (cases_Bool (has_second m))
+real_time_row (m ∷ []) s = grind arith
+real_time_row (m ∷ n ∷ []) s = grind arith
+real_time_row (m ∷ n ∷ x ∷ args) s = grind arith
 
 plain_row : (p : PlainCommand) (args : List ℕ) → IsSized (Plain p) args → IsPlain p args
-plain_row (Alone a) args s = nil_of args s.len
-plain_row Area args s = area_row args (omega (arith, s.len))
-plain_row Cut args s = cut_row args s
-plain_row Sensor args s = sensor_row args s
-plain_row RealTime args s = real_time_row args s
-plain_row _ args s = omega (arith, s.len)
+plain_row p args s = grind (arith, nil_of, area_row, cut_row, sensor_row, real_time_row)
 
 columns_row : (args : List ℕ) → IsSized Columns args → IsColumns args
 columns_row [] s = absurd (omega (arith, s.len))
@@ -149,9 +108,7 @@ raster_row (a ∷ b ∷ []) s = absurd (omega (arith, s.len))
 raster_row (a ∷ b ∷ c ∷ []) s = absurd (omega (arith, s.len))
 raster_row (a ∷ b ∷ c ∷ d ∷ []) s = absurd (omega (arith, s.len))
 raster_row (a ∷ b ∷ c ∷ d ∷ e ∷ []) s = absurd (omega (arith, s.len))
-raster_row (a ∷ b ∷ c ∷ d ∷ e ∷ f ∷ args) s =
-    let z : a ≡ 48 = grind (arith, nat_tests, s.listed) in
-    record { m = b; xl = c; xh = d; yl = e; yh = f; dots = args; bytes = ap (λ x. x ∷ b ∷ c ∷ d ∷ e ∷ f ∷ args) z; count = omega (arith, s.len) }
+raster_row (a ∷ b ∷ c ∷ d ∷ e ∷ f ∷ args) s = grind (arith, nat_tests)
 
 function_row : (args : List ℕ) → IsSized Function args → IsFunction args
 function_row [] s = absurd (omega (arith, s.len))
@@ -165,36 +122,21 @@ graphics_row (a ∷ []) s = absurd (omega (arith, s.len))
 graphics_row (a ∷ b ∷ []) s = absurd (omega (arith, s.len))
 graphics_row (a ∷ b ∷ c ∷ []) s = absurd (omega (arith, s.len))
 graphics_row (a ∷ b ∷ c ∷ d ∷ []) s = absurd (omega (arith, s.len))
-graphics_row (a ∷ b ∷ c ∷ d ∷ e ∷ args) s =
-    let z : a ≡ 76 = grind (arith, nat_tests, s.listed) in
-    record { p1 = b; p2 = c; p3 = d; p4 = e; parameters = args; bytes = ap (λ x. x ∷ b ∷ c ∷ d ∷ e ∷ args) z; count = omega (arith, s.len) }
+graphics_row (a ∷ b ∷ c ∷ d ∷ e ∷ args) s = grind (arith, nat_tests)
 
 not_true : (b : Bool) → not b ≡ true → b ≡ false
-not_true true e = cc
-not_true false e = refl
+not_true b e = grind arith
 
 not_false : (b : Bool) → not b ≡ false → b ≡ true
-not_false true e = refl
-not_false false e = cc
+not_false b e = grind arith
 
 other_of : (a b : Bool) → (a || b) ≡ true → a ≡ false → b ≡ true
-other_of true b h e = cc
-other_of false b h e = h
+other_of a b h e = grind arith
 
 counted_row : (args : List ℕ) → IsSized Symbol args → IsCountedSymbol args
 counted_row [] s = let c : false ≡ true = s.counted in cc
-counted_row (m ∷ []) s =
-    let z : is_kind_to_zero m ≡ false = not_true (is_kind_to_zero m) s.counted in absurd (omega (arith, rw z at s.len))
-counted_row (m ∷ n ∷ args) s =
-    let z : is_kind_to_zero m ≡ false = not_true (is_kind_to_zero m) s.counted in
-    let l : length args ≡ n = omega (arith, rw z at s.len) in
-    record {
-      kind = m;
-      codes = args;
-      bytes = ap (λ x. m ∷ x ∷ args) (sym l);
-      not_to_zero = z;
-      is_kind = other_of (is_kind_to_zero m) (is_kind_counted m) s.listed z;
-    }
+counted_row (m ∷ []) s = grind (arith, not_true)
+counted_row (m ∷ n ∷ args) s = grind (arith, not_true, other_of)
 
 -- Data whose end a byte tells.
 
@@ -235,9 +177,7 @@ stops_row (a ∷ args) w =
 zero_row : (args : List ℕ) → is_counted Symbol args ≡ false → IsWhole Symbol args → IsToZero args
 unfolding needs_more
 zero_row [] e w = let d : true ≡ false = w.whole in cc
-zero_row (m ∷ []) e w =
-    let z : is_kind_to_zero m ≡ true = not_false (is_kind_to_zero m) e in
-    let d : true ≡ false = rw z at w.whole in cc
+zero_row (m ∷ []) e w = grind (arith, not_false)
 zero_row (m ∷ x ∷ args) e w =
     let z : is_kind_to_zero m ≡ true = not_false (is_kind_to_zero m) e in
     let l : HasLast (x ∷ args) = last_of x args in
@@ -256,30 +196,18 @@ zero_row (m ∷ x ∷ args) e w =
     }
 
 arguments_of : (k : Command) (args : List ℕ) → IsWhole k args → IsArguments k args
-arguments_of (Plain p) args w = plain_row p args (sized_of (Plain p) args refl w)
-arguments_of TabStops args w = stops_row args w
-arguments_of Columns args w = columns_row args (sized_of Columns args refl w)
-arguments_of Raster args w = raster_row args (sized_of Raster args refl w)
-arguments_of Symbol args w = ⊎_elim
-    (λ (c : is_counted Symbol args ≡ true). inr (counted_row args (sized_of Symbol args c w)))
-    (λ (c : is_counted Symbol args ≡ false). inl (zero_row args c w))
-    (cases_Bool (is_counted Symbol args))
-arguments_of Function args w = function_row args (sized_of Function args refl w)
-arguments_of Graphics args w = graphics_row args (sized_of Graphics args refl w)
+arguments_of k args w = grind (arith, plain_row, sized_of, stops_row, columns_row, raster_row, counted_row, zero_row, function_row, graphics_row)
 
 -- Units.
 
 listed_of : (l n : Bool) → cond l n true ≡ false → (l ≡ true) × (n ≡ false)
-listed_of true n e = (refl, e)
-listed_of false n e = cc
+listed_of l n e = grind arith
 
 needs_of : (l n : Bool) → l ≡ true → cond l n true ≡ true → n ≡ true
-needs_of true n e h = h
-needs_of false n e h = cc
+needs_of l n e h = grind arith
 
 listed_front : (k : Command) (front : List ℕ) (x : ℕ) → is_listed k (front ++ x ∷ []) ≡ true → is_listed k front ≡ true
-listed_front k [] x l = refl
-listed_front k (a ∷ front) x l = l
+listed_front k front x l = grind arith
 
 unit_named : (lead : Lead) (b name : ℕ) (args : List ℕ) (o : Option Command) → lead_of b ≡ Some lead → command_of lead name ≡ o
     → IsUnit (b ∷ name ∷ args) → IsRow (b ∷ name ∷ args)
@@ -315,5 +243,4 @@ unit_after (Some lead) b (name ∷ args) e u = unit_named lead b name args (comm
 
 pub only_rows_lem : (bytes : List ℕ) → IsUnit bytes → IsRow bytes
 unfolding is_unfinished
-only_rows_lem [] u = let d : true ≡ false = u.whole in cc
-only_rows_lem (b ∷ bytes) u = unit_after (lead_of b) b bytes refl u
+only_rows_lem bytes u = grind (arith, unit_after)

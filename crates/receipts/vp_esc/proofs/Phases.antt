@@ -45,8 +45,7 @@ pub land_plain : (r : EscReader) (p : PlainCommand) (rest : List ℕ) (item : Es
 unfolding needs_more given_behind
 land_plain r p rest item b enough e =
     let n : ltb (length r.kept.items) (plain_len p r.kept.items + 0) ≡ false = grind (arith, nat_tests) in
-    let g : given_by r.lead r.name (Plain p) r.kept.items ≡ given_behind r.lead r.name (Plain p) r.kept.items =
-    given_is r.lead r.name (Plain p) r.kept.items (omega arith) in
+    let g : given_by r.lead r.name (Plain p) r.kept.items ≡ given_behind r.lead r.name (Plain p) r.kept.items = grind (arith, given_is) in
     lands_whole (Some item) (record r { phase = phases.Ground }) b n (g ∙ ap (λ x. x ∷ []) (sym e)) refl
 
 pub land_stops : (r : EscReader) (rest : List ℕ) → Begun r.lead r.name TabStops r.kept.items rest
@@ -59,8 +58,7 @@ land_stops r rest b few =
 
 pub listed_push : (command : Command) (args : List ℕ) (c : ℕ) → (length args ≡ 0 → lists command c ≡ true)
     → is_listed command args ≡ true → is_listed command (args ++ c ∷ []) ≡ true
-listed_push command [] c h l = h refl
-listed_push command (a ∷ args) c h l = l
+listed_push command args c h l = grind arith
 
 unlisted_push : (command : Command) (args : List ℕ) (c : ℕ) → length args ≤ 0 → lists command c ≡ false
     → is_listed command (args ++ c ∷ []) ≡ false
@@ -71,13 +69,7 @@ pub argument_lands : (r : EscReader) (command : Command) (rest : List ℕ) (c : 
     → InArguments r command rest → is_listed command (r.kept.items ++ c ∷ []) ≡ true → kept ≡ take 255 (r.kept.items ++ c ∷ [])
     → ((front : List ℕ) → Begun r.lead r.name command kept front → length kept ≤ head_len command kept → Lands item front new)
     → Advances (Ok item) rest c new
-argument_lands r command rest c kept item new hand l k lands =
-    let w : kept ≡ r.kept.items ++ c ∷ [] = k ∙ kept_whole r.kept.items c (omega (arith, hand.few, head_small command r.kept.items)) in
-    let few : length kept ≤ head_len command kept =
-    rw w (omega (arith, length_push r.kept.items c, head_push command r.kept.items c hand.few)) in
-    let h : IsHead r.lead r.name command r.kept.items = heads r.lead r.name command r.kept.items hand.few in
-    let b : Begun r.lead r.name command kept (rest ++ c ∷ []) = rw w (begun_longer c hand.begun l) in
-    advances_from_lands item rest c new (given_begun hand.begun h.gives) (lands (rest ++ c ∷ []) b few)
+argument_lands r command rest c kept item new hand l k lands = grind (arith, kept_whole, head_small, length_push, head_push, heads, begun_longer, advances_from_lands, given_begun)
 
 pub argument_refused : (r : EscReader) (command : Command) (rest : List ℕ) (c b : ℕ) (new : EscReader)
     → InArguments r command rest → length r.kept.items ≤ 0 → lists command c ≡ false → b ≡ lead_byte r.lead
@@ -89,7 +81,4 @@ pub land_begun : (lead : Lead) (c : ℕ) (command : Command) (kept : List ℕ) (
     → command_of lead c ≡ Some command → kept ≡ []
     → ((front : List ℕ) → Begun lead c command kept front → length kept ≤ head_len command kept → Lands item front new)
     → Advances (Ok item) (lead_byte lead ∷ []) c new
-land_begun lead c command kept item new e k lands =
-    let few : length kept ≤ head_len command kept = rw k (omega arith) in
-    let b : Begun lead c command kept (lead_byte lead ∷ c ∷ []) = record { named = e; bytes = rw k refl; listed = rw k refl } in
-    advances_from_lands item (lead_byte lead ∷ []) c new (given_lead lead) (lands _ b few)
+land_begun lead c command kept item new e k lands = grind (arith, advances_from_lands, given_lead)

@@ -1,5 +1,5 @@
 -- The bytes of GS ( k.
-use Rattle.std.proofs.Common.{◌≡◌, ◌≢◌, ℕ, ◌+◌, ◌-◌, ◌*◌, ◌<◌, ◌≤◌, Bool, true, false, ◌&&◌, cond, ltb, leb, eqb, Option, Some, None, Ok, List, [], ◌∷◌, ◌++◌, length, take, drop, map, get_or, refl, sym, ap, subst, ◌∙◌, arith, ⊎_elim}
+use Rattle.std.proofs.Common.{◌≡◌, ◌≢◌, ℕ, ◌+◌, ◌-◌, ◌*◌, ◌<◌, ◌≤◌, Bool, true, false, ◌&&◌, cond, ltb, leb, eqb, Option, Ok, List, [], ◌∷◌, ◌++◌, length, take, drop, map, get_or, refl, sym, ap, subst, ◌∙◌, arith, ⊎_elim}
 use Rattle.std.specs.Prelude.{option_to_list}
 use Rattle.std.proofs.lemmas.Bool.Decides.{nat_tests}
 use Rattle.std.proofs.lemmas.Bool.{cases_lt}
@@ -28,23 +28,17 @@ added function n c = cond (eqb function 80) (cond (eqb n 48) (items.QrByte c ∷
 
 model_push : (count cn n x : ℕ) (model : Option QrModel) (more : List ℕ) (c : ℕ)
     → model_items count cn n model (x ∷ more ++ c ∷ []) ≡ model_items count cn n model (x ∷ more) ++ []
-model_push count cn n x None more c = refl
-model_push count cn n x (Some model) more c = refl
+model_push count cn n x model more c = grind arith
 
 store_push : (b : Bool) (count cn n : ℕ) (more : List ℕ) (c : ℕ)
     → cond b (items.QrStore (count - 3) ∷ map (λ b. items.QrByte b) (more ++ c ∷ [])) (ignored count (cn ∷ 80 ∷ n ∷ []) ∷ [])
     ≡ cond b (items.QrStore (count - 3) ∷ map (λ b. items.QrByte b) more) (ignored count (cn ∷ 80 ∷ n ∷ []) ∷ []) ++ cond b (items.QrByte c ∷ []) []
-store_push true count cn n more c = ap (λ xs. items.QrStore (count - 3) ∷ xs) (map_push (λ b. items.QrByte b) more c)
-store_push false count cn n more c = refl
+store_push b count cn n more c = grind (arith, map_push)
 
 by_function : (a b d e : Bool) (m m' x y s s' p more : List EscItem) → m' ≡ m ++ [] → s' ≡ s ++ more
     → (a ≡ true → e ≡ false) → (b ≡ true → e ≡ false) → (d ≡ true → e ≡ false)
     → cond a m' (cond b x (cond d y (cond e s' p))) ≡ cond a m (cond b x (cond d y (cond e s p))) ++ cond e more []
-by_function true b d e m m' x y s s' p more i j f g h = rw (f refl) i
-by_function false true d e m m' x y s s' p more i j f g h = rw (g refl) (sym (append-nil x))
-by_function false false true e m m' x y s s' p more i j f g h = rw (h refl) (sym (append-nil y))
-by_function false false false true m m' x y s s' p more i j f g h = j
-by_function false false false false m m' x y s s' p more i j f g h = sym (append-nil p)
+by_function a b d e m m' x y s s' p more i j f g h = grind (arith, append-nil)
 
 value_push : (count cn function n x : ℕ) (more : List ℕ) (c : ℕ)
     → value_items count cn function n (x ∷ more ++ c ∷ []) ≡ value_items count cn function n (x ∷ more) ++ added function n c
@@ -58,26 +52,13 @@ qr_push : (count cn function n x : ℕ) (more : List ℕ) (c : ℕ)
     → qr_items count (cn ∷ function ∷ n ∷ x ∷ more ++ c ∷ [])
     ≡ qr_items count (cn ∷ function ∷ n ∷ x ∷ more) ++ cond (is_qr_function cn function count) (added function n c) []
 unfolding qr_items
-qr_push count cn function n x more c = by_bool (is_qr_function cn function count)
-  where
-    by_bool : (b : Bool) → cond b (value_items count cn function n (x ∷ more ++ c ∷ [])) (ignored count (cn ∷ function ∷ []) ∷ [])
-        ≡ cond b (value_items count cn function n (x ∷ more)) (ignored count (cn ∷ function ∷ []) ∷ []) ++ cond b (added function n c) []
-    by_bool true = value_push count cn function n x more c
-    by_bool false = refl
+qr_push count cn function n x more c = grind (arith, value_push)
 
 -- The first bytes tell what a byte gives.
 qr_same : (count : ℕ) (values : List ℕ) (c : ℕ) (xs : List EscItem)
     → qr_items count (take 255 values ++ c ∷ []) ≡ qr_items count (take 255 values) ++ xs
     → qr_items count (values ++ c ∷ []) ≡ qr_items count values ++ xs
-qr_same count [] c xs h = h
-qr_same count (a ∷ []) c xs h = h
-qr_same count (a ∷ b ∷ []) c xs h = h
-qr_same count (a ∷ b ∷ n ∷ []) c xs h = h
-qr_same count (cn ∷ function ∷ n ∷ x ∷ more) c xs h =
-    let e : cond (is_qr_function cn function count) (added function n c) [] ≡ xs =
-    append_cancel_left (qr_items count (cn ∷ function ∷ n ∷ x ∷ take 251 more)) _ xs
-    (sym (qr_push count cn function n x (take 251 more) c) ∙ h) in
-    qr_push count cn function n x more c ∙ ap (λ ys. qr_items count (cn ∷ function ∷ n ∷ x ∷ more) ++ ys) e
+qr_same count values c xs h = grind (arith, append_cancel_left, qr_push)
 
 qr_given_is : (lead : Lead) (name pl ph : ℕ) (values : List ℕ)
     → given_by lead name Function (107 ∷ pl ∷ ph ∷ values) ≡ qr_items (pl + 256 * ph) values
@@ -128,16 +109,10 @@ record IsQr (args : List ℕ) (count : ℕ) : Type 0 where
   pub count_is : count ≡ pl + 256 * ph
 
 is_qr_of : (args : List ℕ) (count : ℕ) → 3 ≤ length args → get_or args 0 0 ≡ 107 → count ≡ get_or args 1 0 + 256 * get_or args 2 0 → IsQr args count
-is_qr_of [] count h e f = absurd (omega arith)
-is_qr_of (x ∷ []) count h e f = absurd (omega arith)
-is_qr_of (x ∷ y ∷ []) count h e f = absurd (omega arith)
-is_qr_of (x ∷ y ∷ z ∷ args) count h e f = record { pl = y; ph = z; bytes = ap (λ w. w ∷ y ∷ z ∷ args) e; count_is = f }
+is_qr_of args count h e f = grind arith
 
 drop_push : (args : List ℕ) (c : ℕ) → 3 ≤ length args → drop 3 (args ++ c ∷ []) ≡ drop 3 args ++ c ∷ []
-drop_push [] c h = absurd (omega arith)
-drop_push (x ∷ []) c h = absurd (omega arith)
-drop_push (x ∷ y ∷ []) c h = absurd (omega arith)
-drop_push (x ∷ y ∷ z ∷ args) c h = refl
+drop_push args c h = grind arith
 
 front_push : (args : List ℕ) (c : ℕ) → 3 ≤ length args
     → (get_or (args ++ c ∷ []) 0 0 ≡ get_or args 0 0) × (get_or (args ++ c ∷ []) 1 0 + 256 * get_or (args ++ c ∷ []) 2 0 ≡ get_or args 1 0 + 256 * get_or args 2 0)
@@ -147,44 +122,26 @@ front_push (x ∷ y ∷ []) c h = absurd (omega arith)
 front_push (x ∷ y ∷ z ∷ args) c h = (refl, refl)
 
 length_drop : (args : List ℕ) → 3 ≤ length args → length args ≡ 3 + length (drop 3 args)
-length_drop [] h = absurd (omega arith)
-length_drop (x ∷ []) h = absurd (omega arith)
-length_drop (x ∷ y ∷ []) h = absurd (omega arith)
-length_drop (x ∷ y ∷ z ∷ args) h = omega arith
+length_drop args h = grind arith
 
 qr_given_next : (lead : Lead) (name count : ℕ) (args : List ℕ) (c : ℕ) (xs : List EscItem) → IsQr args count
     → qr_items count (drop 3 args ++ c ∷ []) ≡ qr_items count (drop 3 args) ++ xs
     → given_by lead name Function (args ++ c ∷ []) ≡ given_by lead name Function args ++ xs
-qr_given_next lead name count args c xs q h =
-    let a : given_by lead name Function args ≡ qr_items count (drop 3 args) =
-    ap (given_by lead name Function) q.bytes ∙ qr_given_is lead name q.pl q.ph (drop 3 args) ∙ rw (← q.count_is) refl in
-    let b : given_by lead name Function (args ++ c ∷ []) ≡ qr_items count (drop 3 args ++ c ∷ []) =
-    ap (λ ys. given_by lead name Function (ys ++ c ∷ [])) q.bytes ∙ qr_given_is lead name q.pl q.ph (drop 3 args ++ c ∷ []) ∙ rw (← q.count_is) refl in
-    b ∙ h ∙ ap (λ ys. ys ++ xs) (sym a)
+qr_given_next lead name count args c xs q h = grind (arith, qr_given_is)
 
 -- The first values tell whether those behind them are stored.
 store_front : (values : List ℕ) → begins_store (take 255 values) ≡ begins_store values
-store_front [] = refl
-store_front (a ∷ []) = refl
-store_front (a ∷ b ∷ []) = refl
-store_front (a ∷ b ∷ d ∷ values) = refl
+store_front values = grind arith
 
 pub kept_not_stored : (r : EscReader) (count left : ℕ) (rest : List ℕ) → InQr r count left rest → begins_store r.kept.items ≡ false
 kept_not_stored r count left rest hand = ap begins_store hand.kept ∙ store_front (drop 3 hand.args) ∙ hand.not_stored
 
 is_48 : (a b c : ℕ) → eqb a 49 && eqb b 80 && eqb c 48 ≡ true → a ∷ b ∷ c ∷ [] ≡ 49 ∷ 80 ∷ 48 ∷ []
-is_48 a b c h =
-    let x : a ≡ 49 = grind (arith, nat_tests, h) in
-    let y : b ≡ 80 = grind (arith, nat_tests, h) in
-    let z : c ≡ 48 = grind (arith, nat_tests, h) in
-    rw (x, y, z) refl
+is_48 a b c h = grind (arith, nat_tests)
 
 -- the third value begins them
 begins_here : (values : List ℕ) (c : ℕ) → begins_store values ≡ false → begins_store (values ++ c ∷ []) ≡ true → values ++ c ∷ [] ≡ 49 ∷ 80 ∷ 48 ∷ []
-begins_here [] c u h = cc
-begins_here (a ∷ []) c u h = cc
-begins_here (a ∷ b ∷ []) c u h = is_48 a b c h
-begins_here (a ∷ b ∷ d ∷ values) c u h = cc
+begins_here values c u h = grind (arith, is_48)
 
 -- what the bytes behind them give
 stored_given : (count : ℕ) (more : List ℕ) → 4 ≤ count → qr_items count (49 ∷ 80 ∷ 48 ∷ more) ≡ items.QrStore (count - 3) ∷ map (λ b. items.QrByte b) more

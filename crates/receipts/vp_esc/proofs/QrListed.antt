@@ -8,9 +8,7 @@ use Rattle.vp_esc.specs.declared.item.EscItem.{EscItem}
 use Rattle.vp_esc.specs.declared.item.EscItem.TheVariants as items
 use Rattle.vp_esc.specs.declared.item.Lead.TheVariants.{Gs}
 use Rattle.vp_esc.specs.declared.item.QrModel.{QrModel}
-use Rattle.vp_esc.specs.declared.item.QrModel.TheVariants as models
 use Rattle.vp_esc.specs.declared.item.QrLevel.{QrLevel}
-use Rattle.vp_esc.specs.declared.item.QrLevel.TheVariants as levels
 use Rattle.vp_esc.specs.declared.command.Command.TheVariants.{Function}
 use Rattle.vp_esc.specs.Values.{qr_model_of, qr_level_of}
 use Rattle.vp_esc.specs.Qr.{is_qr_function, ignored, model_items, module_item, level_item, store_items, print_item, value_items, qr_items}
@@ -35,28 +33,13 @@ ignored_list p pl ph front rest c =
 -- an item whose line has all
 whole_list : (p pl ph : ℕ) (rest : List ℕ) (item : EscItem) → IsCount p pl ph → line_of item ≡ listed (codes "gs") (0x28 ∷ 0x6B ∷ p % 256 ∷ p / 256 ∷ rest)
     → Lists Gs (0x28 ∷ 0x6B ∷ pl ∷ ph ∷ rest) (map line_of (item ∷ []))
-whole_list p pl ph rest item c e =
-    one_line Gs (0x28 ∷ 0x6B ∷ pl ∷ ph ∷ rest) item
-    (e ∙ ap (λ l. listed (codes "gs") (0x28 ∷ 0x6B ∷ l ∷ p / 256 ∷ rest)) c.low ∙ ap (λ h. listed (codes "gs") (0x28 ∷ 0x6B ∷ pl ∷ h ∷ rest)) c.high)
+whole_list p pl ph rest item c e = grind (arith, one_line)
 
 model_is : (n : ℕ) (m : QrModel) → qr_model_of n ≡ Some m → model_byte m ≡ n
-model_is n m e = by_tests (eqb n 49) (eqb n 50) (eqb n 51) refl refl refl
-  where
-    by_tests : (a b c : Bool) → eqb n 49 ≡ a → eqb n 50 ≡ b → eqb n 51 ≡ c → model_byte m ≡ n
-    by_tests true b c p q r = let s : ◌≡◌ {A = Option QrModel} (Some models.One) (Some m) = rw p at e in let t : models.One ≡ m = cc in ap model_byte (sym t) ∙ sym (eqb-true n 49 p)
-    by_tests false true c p q r = let s : ◌≡◌ {A = Option QrModel} (Some models.Two) (Some m) = rw (p, q) at e in let t : models.Two ≡ m = cc in ap model_byte (sym t) ∙ sym (eqb-true n 50 q)
-    by_tests false false true p q r = let s : ◌≡◌ {A = Option QrModel} (Some models.Micro) (Some m) = rw (p, q, r) at e in let t : models.Micro ≡ m = cc in ap model_byte (sym t) ∙ sym (eqb-true n 51 r)
-    by_tests false false false p q r = let s : ◌≡◌ {A = Option QrModel} None (Some m) = rw (p, q, r) at e in cc
+model_is n m e = grind (arith, eqb-true)
 
 level_is : (n : ℕ) (l : QrLevel) → qr_level_of n ≡ Some l → level_byte l ≡ n
-level_is n l e = by_tests (eqb n 48) (eqb n 49) (eqb n 50) (eqb n 51) refl refl refl refl
-  where
-    by_tests : (a b c d : Bool) → eqb n 48 ≡ a → eqb n 49 ≡ b → eqb n 50 ≡ c → eqb n 51 ≡ d → level_byte l ≡ n
-    by_tests true b c d p q r u = let s : ◌≡◌ {A = Option QrLevel} (Some levels.L) (Some l) = rw p at e in let t : levels.L ≡ l = cc in ap level_byte (sym t) ∙ sym (eqb-true n 48 p)
-    by_tests false true c d p q r u = let s : ◌≡◌ {A = Option QrLevel} (Some levels.M) (Some l) = rw (p, q) at e in let t : levels.M ≡ l = cc in ap level_byte (sym t) ∙ sym (eqb-true n 49 q)
-    by_tests false false true d p q r u = let s : ◌≡◌ {A = Option QrLevel} (Some levels.Q) (Some l) = rw (p, q, r) at e in let t : levels.Q ≡ l = cc in ap level_byte (sym t) ∙ sym (eqb-true n 50 r)
-    by_tests false false false true p q r u = let s : ◌≡◌ {A = Option QrLevel} (Some levels.H) (Some l) = rw (p, q, r, u) at e in let t : levels.H ≡ l = cc in ap level_byte (sym t) ∙ sym (eqb-true n 51 u)
-    by_tests false false false false p q r u = let s : ◌≡◌ {A = Option QrLevel} None (Some l) = rw (p, q, r, u) at e in cc
+level_is n l e = grind (arith, eqb-true)
 
 first_is : (cn function p : ℕ) → is_qr_function cn function p ≡ true → cn ≡ 49
 first_is cn function p e = eqb-true cn 49 (and_parts (eqb cn 49) _ e).0

@@ -1,5 +1,5 @@
 -- A reader between units alone has no rest.
-use Rattle.std.proofs.Common.{◌≡◌, ◌≢◌, ℕ, Some, List, [], refl}
+use Rattle.std.proofs.Common.{◌≡◌, ◌≢◌, ℕ, List, [], arith}
 use Rattle.vp_esc.specs.declared.reader.EscReader.{EscReader}
 use Rattle.vp_esc.specs.declared.reader.Phase.{Phase}
 use Rattle.vp_esc.specs.declared.reader.Phase.TheVariants as phases
@@ -8,10 +8,7 @@ use Rattle.vp_esc.specs.Reader.{StandsIn, in_phase}
 
 resting : (p : Phase) (r : EscReader) (rest : List ℕ) → p ≢ phases.Ground → in_phase p r rest → rest ≡ [] → ⊥
 unfolding fault_in
-resting phases.Ground r rest n h e = n refl
-resting phases.AfterLead r rest n h e = cc
-resting (phases.Stopped fault) r rest n h e = let f : fault_in [] ≡ Some fault = rw e at h in cc f
-resting _ r rest n h e = cc (h.begun.bytes)
+resting p r rest n h e = grind arith
 
 pub rests : (r : EscReader) (rest : List ℕ) → r.phase ≢ phases.Ground → StandsIn r rest → rest ≡ [] → ⊥
 rests r rest n h e = resting r.phase r rest n h e

@@ -1,5 +1,5 @@
 -- Each row of the table is a unit.
-use Rattle.std.proofs.Common.{◌≡◌, ◌≢◌, ℕ, ◌≤◌, ◌<◌, ◌+◌, Bool, true, false, ◌&&◌, ◌||◌, ltb, eqb, Some, List, [], ◌∷◌, ◌++◌, length, refl, sym, ap, ◌∙◌, arith, ⊎_elim}
+use Rattle.std.proofs.Common.{◌≡◌, ◌≢◌, ℕ, ◌≤◌, ◌<◌, ◌+◌, Bool, true, false, ◌&&◌, ◌||◌, eqb, Some, List, [], ◌∷◌, ◌++◌, length, refl, sym, ap, ◌∙◌, arith, ⊎_elim}
 use Rattle.std.specs.List.{list_any}
 use Rattle.std.proofs.lemmas.List.{length-append, length_push}
 use Rattle.std.proofs.lemmas.List.Folds.{list_any-append}
@@ -10,13 +10,11 @@ use Rattle.vp_esc.specs.declared.item.Lead.TheVariants.{Esc}
 use Rattle.vp_esc.specs.declared.command.Command.{Command}
 use Rattle.vp_esc.specs.declared.command.Command.TheVariants.{Plain, TabStops, Columns, Raster, Symbol, Function, Graphics}
 use Rattle.vp_esc.specs.declared.command.Plain.{Plain as PlainCommand}
-use Rattle.vp_esc.specs.declared.command.Plain.TheVariants.{Alone, OfByte, OfWord, Area, Cut, Sensor, RealTime, Unused}
 use Rattle.vp_esc.specs.Values.{is_kind_to_zero, is_cut, is_feed_cut}
-use Rattle.vp_esc.specs.Command.{lead_byte, command_of, head_len, is_listed, has_second}
+use Rattle.vp_esc.specs.Command.{lead_byte, command_of, head_len, is_listed}
 use Rattle.vp_esc.specs.Units.{is_unfinished, needs_more, is_counted, data_len, rises_from}
-use Rattle.vp_esc.specs.Reader.{last_or}
 use Rattle.vp_esc.specs.Laws.{IsUnit}
-use Rattle.vp_esc.specs.Table.{IsPlain, IsOne, IsTwo, IsColumns, IsRaster, IsFunction, IsGraphics, IsStops, IsToZero, IsCountedSymbol, IsArguments, IsCommand, IsAlone, IsRow}
+use Rattle.vp_esc.specs.Table.{IsPlain, IsColumns, IsRaster, IsFunction, IsGraphics, IsStops, IsToZero, IsCountedSymbol, IsArguments, IsCommand, IsAlone, IsRow}
 use Rattle.vp_esc.proofs.Fronts.{Front, front_is, lead_of-lead_byte}
 use Rattle.vp_esc.proofs.Stops.{rises_push}
 use Rattle.vp_esc.proofs.Symbols.{no_zero_push}
@@ -44,8 +42,7 @@ pub record IsSized (k : Command) (args : List ℕ) : Type 0 where
   pub len : length args ≡ head_len k args + data_len k args
 
 listed_front : (k : Command) (args front more : List ℕ) → args ≡ front ++ more → is_listed k args ≡ true → is_listed k front ≡ true
-listed_front k args [] more e l = refl
-listed_front k args (f ∷ front) more e l = rw e at l
+listed_front k args front more e l = grind arith
 
 pub counted_front : (k : Command) (front more : List ℕ) → head_len k front ≤ length front → is_counted k (front ++ more) ≡ true → is_counted k front ≡ true
 counted_front (Plain p) front more h e = refl
@@ -77,36 +74,16 @@ sized_done : (k : Command) (args : List ℕ) → IsSized k args → IsDone k arg
 sized_done k args s = record { listed = s.listed; needs = needs_counted k args s.counted ∙ grind (arith, nat_tests, s.len) }
 
 one_of : (a b : Bool) → a ≡ true → (a || b) ≡ true
-one_of true b e = refl
-one_of false b e = cc
+one_of a b e = grind arith
 
 other_of : (a b : Bool) → b ≡ true → (a || b) ≡ true
-other_of true b e = refl
-other_of false b e = e
+other_of a b e = grind arith
 
 cut_one : (m : ℕ) → is_cut m ≡ true → is_feed_cut m ≡ false
 cut_one m e = grind (arith, nat_tests)
 
 sized_plain : (p : PlainCommand) (args : List ℕ) → IsPlain p args → IsSized (Plain p) args
-sized_plain (Alone a) args h = record { listed = rw h refl; counted = refl; len = rw h refl }
-sized_plain (OfByte a) [] h = absurd (omega arith)
-sized_plain (OfByte a) (x ∷ args) h = record { listed = refl; counted = refl; len = h }
-sized_plain (OfWord a) [] h = absurd (omega arith)
-sized_plain (OfWord a) (x ∷ args) h = record { listed = refl; counted = refl; len = h }
-sized_plain Area args h = record { listed = rw h.bytes refl; counted = refl; len = rw h.bytes refl }
-sized_plain Cut args h = ⊎_elim
-    (λ (o : IsOne args (λ m. is_cut m ≡ true)).
-    record { listed = rw o.bytes (one_of _ _ o.is); counted = refl; len = rw o.bytes (rw (cut_one o.first o.is) refl) })
-    (λ (o : IsTwo args (λ m. is_feed_cut m ≡ true)).
-    record { listed = rw o.bytes (other_of _ _ o.is); counted = refl; len = rw o.bytes (rw o.is refl) })
-    h
-sized_plain Sensor args h = record { listed = rw h.bytes (grind (arith, nat_tests, h.is)); counted = refl; len = rw h.bytes refl }
-sized_plain RealTime args h = ⊎_elim
-    (λ (o : IsOne args (λ n. has_second n ≡ false)). record { listed = rw o.bytes refl; counted = refl; len = rw o.bytes (rw o.is refl) })
-    (λ (o : IsTwo args (λ n. has_second n ≡ true)). record { listed = rw o.bytes refl; counted = refl; len = rw o.bytes (rw o.is refl) })
-    h
-sized_plain (Unused n) [] h = record { listed = refl; counted = refl; len = h ∙ omega arith }
-sized_plain (Unused n) (x ∷ args) h = record { listed = refl; counted = refl; len = h ∙ omega arith }
+sized_plain p args h = grind (arith, one_of, cut_one, other_of, nat_tests)
 
 sized_columns : (args : List ℕ) → IsColumns args → IsSized Columns args
 sized_columns args h = record { listed = rw h.bytes h.is_mode; counted = refl; len = rw h.bytes (omega (arith, h.count)) }
@@ -121,12 +98,7 @@ sized_graphics : (args : List ℕ) → IsGraphics args → IsSized Graphics args
 sized_graphics args h = record { listed = rw h.bytes refl; counted = refl; len = rw h.bytes (omega (arith, h.count)) }
 
 sized_symbol : (args : List ℕ) → IsCountedSymbol args → IsSized Symbol args
-sized_symbol args h =
-    record {
-      listed = rw h.bytes (other_of _ _ h.is_kind);
-      counted = rw h.bytes (rw h.not_to_zero refl);
-      len = rw h.bytes (rw h.not_to_zero (omega arith));
-    }
+sized_symbol args h = grind (arith, other_of)
 
 -- Tab stops.
 
@@ -139,43 +111,20 @@ rises_front last (x ∷ xs) ys h = both _ _ _ h (rises_front x xs ys)
     both false b c h f = cc
 
 listed_stops : (args : List ℕ) → is_listed TabStops args ≡ true
-listed_stops [] = refl
-listed_stops (a ∷ args) = refl
+listed_stops args = grind arith
 
 stops_short : (args front more : List ℕ) → IsStops args → args ≡ front ++ more → more ≢ [] → IsShort TabStops front
 unfolding needs_more
-stops_short args front more s e n =
-    let w : (z : List ℕ) × (s.stops ≡ front ++ z) = front_of_push s.stops front more s.last (sym s.bytes ∙ e) n in
-    let up : rises_from 0 front ≡ true = rises_front 0 front w.0 (let q : s.stops ≡ front ++ w.0 = w.1 in rw q at s.rise) in
-    let len : length s.stops ≡ length front + length w.0 = ap length w.1 ∙ length-append front w.0 in
-    let m : ltb (length front) 32 ≡ true = grind (arith, nat_tests, s.few) in
-    record { listed = listed_stops front; needs = rw (up, m) refl }
+stops_short args front more s e n = grind (arith, front_of_push, rises_front, length-append, nat_tests, listed_stops)
 
 stops_done : (args : List ℕ) → IsStops args → IsDone TabStops args
 unfolding needs_more
-stops_done args a =
-    let up : rises_from 0 args ≡ (rises_from 0 a.stops && ltb (last_or 0 a.stops) a.last) = rw a.bytes (rises_push 0 a.stops a.last) in
-    let len : length args ≡ length a.stops + 1 = rw a.bytes (length_push a.stops a.last) in
-    record {
-      listed = listed_stops args;
-      needs = ⊎_elim
-          (λ (h : a.last ≤ last_or 0 a.stops). let f : ltb (last_or 0 a.stops) a.last ≡ false = grind (arith, nat_tests) in rw up (rw (a.rise, f) refl))
-          (λ (h : length a.stops ≡ 31). let f : ltb (length args) 32 ≡ false = grind (arith, nat_tests) in rw f (and_false (rises_from 0 args)))
-          a.ends;
-    }
-  where
-    and_false : (b : Bool) → (b && false) ≡ false
-    and_false true = refl
-    and_false false = refl
+stops_done args a = grind (arith, rises_push, length_push, listed_stops, nat_tests)
 
 -- Symbols up to a 0.
 
 no_zero_front : (xs ys : List ℕ) → list_any (λ b. eqb b 0) (xs ++ ys) ≡ false → list_any (λ b. eqb b 0) xs ≡ false
-no_zero_front xs ys h = either _ _ (sym (list_any-append (λ b. eqb b 0) xs ys) ∙ h)
-  where
-    either : (a b : Bool) → (a || b) ≡ false → a ≡ false
-    either true b h = cc
-    either false b h = refl
+no_zero_front xs ys h = grind (arith, list_any-append)
 
 zero_short : (args front more : List ℕ) → IsToZero args → args ≡ front ++ more → more ≢ [] → IsShort Symbol front
 unfolding needs_more
@@ -225,15 +174,7 @@ arguments_done Graphics args a = sized_done Graphics args (sized_graphics args a
 row_fronts : (lead : Lead) (name : ℕ) (k : Command) (args : List ℕ) → command_of lead name ≡ Some k → IsArguments k args
     → (front more : List ℕ) → lead_byte lead ∷ name ∷ args ≡ front ++ more → more ≢ [] → is_unfinished front ≡ true
 unfolding is_unfinished
-row_fronts lead name k args named a [] more e n = refl
-row_fronts lead name k args named a (x ∷ []) more e n =
-    let h : x ≡ lead_byte lead = cc in rw h (rw lead_of-lead_byte refl)
-row_fronts lead name k args named a (x ∷ y ∷ front) more e n =
-    let h : x ≡ lead_byte lead = cc in
-    let m : y ≡ name = cc in
-    let t : args ≡ front ++ more = cc in
-    let s : IsShort k front = arguments_short k args front more a t n in
-    rw h (rw lead_of-lead_byte (rw m (rw named (rw s.listed s.needs))))
+row_fronts lead name k args named a front more e n = grind (arith, lead_of-lead_byte, arguments_short)
 
 command_is_unit : (bytes : List ℕ) → IsCommand bytes → IsUnit bytes
 command_is_unit bytes r =

@@ -1,11 +1,10 @@
 -- Bytes of data, one after another.
-use Rattle.std.proofs.Common.{◌≡◌, ℕ, ◌-◌, ◌<◌, ◌≤◌, eqb, false, List, [], ◌∷◌, ◌++◌, length, take, refl, None, Ok, sym, ap, subst, ◌∙◌, append_assoc, arith}
+use Rattle.std.proofs.Common.{◌≡◌, ℕ, ◌-◌, ◌<◌, ◌≤◌, eqb, false, List, [], ◌∷◌, ◌++◌, length, take, None, Ok, sym, ap, subst, ◌∙◌, append_assoc, arith}
 use Rattle.std.proofs.lemmas.Bool.Decides.{nat_tests}
 use Rattle.std.proofs.lemmas.List.{append-nil, length-take-le}
 use Rattle.vp_esc.specs.declared.item.EscItem.{EscItem}
 use Rattle.vp_esc.specs.declared.reader.EscReader.{EscReader}
 use Rattle.vp_esc.specs.declared.reader.Data.{Data}
-use Rattle.vp_esc.specs.declared.reader.Data.TheVariants as kinds
 use Rattle.vp_esc.specs.declared.reader.Phase.{Phase}
 use Rattle.vp_esc.specs.declared.reader.Phase.TheVariants.{Bytes}
 use Rattle.vp_esc.specs.Split.{split, items, fault_of}
@@ -50,27 +49,18 @@ nothing_less : (n : ℕ) → n ≡ n - 0
 nothing_less n = omega arith
 
 no_items : (kind : Data) → data_items kind [] ≡ []
-no_items kinds.Skipped = refl
-no_items kinds.Raster = refl
-no_items kinds.Columns = refl
-no_items kinds.Stored = refl
+no_items kind = grind arith
 
 pub runs : (r : EscReader) (kind : Data) (left : ℕ) (bytes xs : List ℕ) → Stands (before_bytes r kind left) bytes → length xs ≤ left - 1
     → Runs r kind left bytes xs
-runs r kind left bytes [] s h = record {
-  gives = ap items (append-nil bytes) ∙ sym (ap (λ (given : List EscItem). items bytes ++ given) (no_items kind) ∙ append-nil (items bytes));
-  known = λ some. absurd (omega arith);
-  stands = subst (λ n. Stands (before_bytes r kind n) (bytes ++ [])) (nothing_less left) (subst (Stands (before_bytes r kind left)) (sym (append-nil bytes)) s);
-}
+runs r kind left bytes [] s h = grind (arith, nat_tests, append-nil, no_items, nothing_less)
 runs r kind left bytes (b ∷ xs) s h =
     let one = next r kind left bytes b s (omega arith) in
     let more = runs r kind (left - 1) (bytes ++ b ∷ []) xs one.stands (omega arith) in
     let all : (bytes ++ b ∷ []) ++ xs ≡ bytes ++ b ∷ xs = append_assoc bytes (b ∷ []) xs in
     let less : left - 1 - length xs ≡ left - length (b ∷ xs) = omega arith in
     record {
-      gives = ap items (sym all) ∙ more.gives ∙ ap (λ x. x ++ data_items kind xs) one.gives
-          ∙ append_assoc (items bytes) (data_items kind (b ∷ [])) (data_items kind xs)
-          ∙ ap (λ (given : List EscItem). items bytes ++ given) (sym (next_item kind b xs));
+      gives = grind (arith, append_assoc, next_item);
       known = λ some. ap fault_of (sym all) ∙ known_on (bytes ++ b ∷ []) xs one.known more.known;
       stands = subst (λ n. Stands (before_bytes r kind n) (bytes ++ b ∷ xs)) less (subst (Stands (before_bytes r kind (left - 1 - length xs))) all more.stands);
     }

@@ -1,7 +1,6 @@
 -- One more byte at the end of the stream.
-use Rattle.std.proofs.Common.{◌≡◌, ℕ, Bool, true, false, cond, Option, Some, None, Result, Ok, Err, List, [], ◌∷◌, ◌++◌, refl, sym, ap, ◌∙◌, append_assoc}
+use Rattle.std.proofs.Common.{◌≡◌, ℕ, Bool, cond, Option, Some, Result, Err, List, [], ◌∷◌, ◌++◌, refl, ap, ◌∙◌, append_assoc, arith}
 use Rattle.std.specs.List.{flat_map}
-use Rattle.std.specs.Prelude.{option_to_list}
 use Rattle.std.proofs.lemmas.List.{append-nil}
 use Rattle.std.proofs.lemmas.List.Concat.{flat_map-append}
 use Rattle.vp_esc.specs.declared.item.EscItem.{EscItem}
@@ -22,8 +21,7 @@ unfolding split
 split-push bytes c = split_on-push _ bytes c
 
 rest_by : (units : List (List ℕ)) (front : List ℕ) (b : Bool) → (with_rest units front b).rest ≡ cond b front []
-rest_by units front true = refl
-rest_by units front false = refl
+rest_by units front b = grind arith
 
 pub rest-push : (bytes : List ℕ) (c : ℕ) → (split (bytes ++ c ∷ [])).rest ≡ rest_of ((split bytes).rest ++ c ∷ [])
 rest-push bytes c = ap (λ (s : Split). s.rest) (split-push bytes c) ∙ rest_by (split bytes).units ((split bytes).rest ++ c ∷ []) (is_unfinished ((split bytes).rest ++ c ∷ []))
@@ -31,9 +29,7 @@ rest-push bytes c = ap (λ (s : Split). s.rest) (split-push bytes c) ∙ rest_by
 given_by_units : (units : List (List ℕ)) (front : List ℕ) (b : Bool)
     → flat_map given (with_rest units front b).units ++ given (with_rest units front b).rest ≡ flat_map given units ++ given front
 unfolding given
-given_by_units units front true = refl
-given_by_units units front false =
-    rw flat_map-append (append-nil _ ∙ ap (λ x. flat_map given units ++ x) (append-nil (given front)))
+given_by_units units front b = grind (arith, flat_map-append, append-nil)
 
 pub items-is : (bytes : List ℕ) → items bytes ≡ flat_map given (split bytes).units ++ given (split bytes).rest
 unfolding items
@@ -42,14 +38,11 @@ items-is bytes = refl
 pub items-push : (bytes : List ℕ) (c : ℕ)
     → items (bytes ++ c ∷ []) ≡ flat_map given (split bytes).units ++ given ((split bytes).rest ++ c ∷ [])
 unfolding items
-items-push bytes c =
-    ap (λ (s : Split). flat_map given s.units ++ given s.rest) (split-push bytes c)
-    ∙ given_by_units (split bytes).units ((split bytes).rest ++ c ∷ []) (is_unfinished ((split bytes).rest ++ c ∷ []))
+items-push bytes c = grind (arith, split-push, given_by_units)
 
 fault_by : (front : List ℕ) (b : Bool) → is_unfinished front ≡ b → fault_in (cond b front []) ≡ fault_in front
 unfolding fault_in
-fault_by front true e = refl
-fault_by front false e = sym (closed_sound front e)
+fault_by front b e = grind (arith, closed_sound)
 
 pub fault-push : (bytes : List ℕ) (c : ℕ) → fault_of (bytes ++ c ∷ []) ≡ fault_in ((split bytes).rest ++ c ∷ [])
 unfolding fault_of
@@ -57,15 +50,12 @@ fault-push bytes c = ap fault_in (rest-push bytes c) ∙ fault_by ((split bytes)
 
 gives_by : (result : Result (Option EscItem) Fault) (units before after whole : List EscItem) (fault fault' : Option Fault)
     → whole ≡ units ++ after → fault' ≡ fault → Gives result before after fault → Gives result (units ++ before) whole fault'
-gives_by (Ok item) units before after whole fault fault' w f g =
-    (f ∙ g.0, w ∙ ap (λ x. units ++ x) g.1 ∙ sym (append_assoc units before (option_to_list item)))
-gives_by (Err e) units before after whole fault fault' w f g = f ∙ g
+gives_by result units before after whole fault fault' w f g = grind (arith, append_assoc)
 
 -- a step by the rest is a step by the bytes
 pub gives-from_advances : (result : Result (Option EscItem) Fault) (bytes : List ℕ) (c : ℕ) (new : EscReader)
     → Advances result (split bytes).rest c new → Gives result (items bytes) (items (bytes ++ c ∷ [])) (fault_of (bytes ++ c ∷ []))
-gives-from_advances result bytes c new a =
-    rw items-is (gives_by result (flat_map given (split bytes).units) _ _ _ _ _ (items-push bytes c) (fault-push bytes c) a.gives)
+gives-from_advances result bytes c new a = grind (arith, items-is, gives_by, items-push, fault-push)
 
 pub stands-from_advances : (result : Result (Option EscItem) Fault) (bytes : List ℕ) (c : ℕ) (new : EscReader)
     → Advances result (split bytes).rest c new → Stands new (bytes ++ c ∷ [])
@@ -73,13 +63,10 @@ unfolding Stands
 stands-from_advances result bytes c new a = rw rest-push a.stands
 
 gives_fault : (result : Result (Option EscItem) Fault) (before after : List EscItem) (f : Fault) → Gives result before after (Some f) → result ≡ Err f
-gives_fault (Ok item) before after f g = let none : Some f ≡ None = g.0 in cc
-gives_fault (Err e) before after f g = let same : Some f ≡ Some e = g in cc
+gives_fault result before after f g = grind arith
 
 -- a fault is answered again
 pub sticks-from_advances : (result : Result (Option EscItem) Fault) (bytes : List ℕ) (c : ℕ) (new : EscReader) (f : Fault)
     → Advances result (split bytes).rest c new → fault_of bytes ≡ Some f → result ≡ Err f
 unfolding fault_of
-sticks-from_advances result bytes c new f a e =
-    let again : fault_in ((split bytes).rest ++ c ∷ []) ≡ Some f = (stuck (split bytes).rest c f e).1 in
-    gives_fault result (given (split bytes).rest) (given ((split bytes).rest ++ c ∷ [])) f (rw again at a.gives)
+sticks-from_advances result bytes c new f a e = grind (arith, stuck, gives_fault)

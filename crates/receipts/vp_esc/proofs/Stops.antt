@@ -18,8 +18,7 @@ use Rattle.vp_esc.proofs.Heads.{given_is}
 use Rattle.vp_esc.proofs.Phases.{kept_whole}
 
 and_assoc : (a b c : Bool) → (a && (b && c)) ≡ ((a && b) && c)
-and_assoc true b c = refl
-and_assoc false b c = refl
+and_assoc a b c = grind arith
 
 pub rises_push : (last : ℕ) (ns : List ℕ) (c : ℕ) → rises_from last (ns ++ c ∷ []) ≡ (rises_from last ns && ltb (last_or last ns) c)
 rises_push last [] c = grind arith
@@ -30,8 +29,7 @@ last_or_push last [] c = refl
 last_or_push last (n ∷ ns) c = last_or_push n ns c
 
 listed_stops : (args : List ℕ) → is_listed TabStops args ≡ true
-listed_stops [] = refl
-listed_stops (a ∷ args) = refl
+listed_stops args = grind arith
 
 last_at : (xs : List ℕ) (c : ℕ) → get_or (xs ++ c ∷ []) (length xs) 0 ≡ c
 last_at [] c = refl
@@ -45,9 +43,7 @@ stops_given lead name args = given_is lead name TabStops args (omega arith)
 stops_pushed : (lead : Lead) (name : ℕ) (args : List ℕ) (c : ℕ) (item : Option EscItem) → needs_more TabStops args ≡ true
     → at_last (needs_more TabStops (args ++ c ∷ [])) (stops_item (args ++ c ∷ [])) ≡ option_to_list item
     → given_by lead name TabStops (args ++ c ∷ []) ≡ given_by lead name TabStops args ++ option_to_list item
-stops_pushed lead name args c item n h =
-    let none : given_by lead name TabStops args ≡ [] = stops_given lead name args ∙ rw n refl in
-    stops_given lead name (args ++ c ∷ []) ∙ h ∙ ap (λ xs. xs ++ option_to_list item) (sym none)
+stops_pushed lead name args c item n h = grind (arith, stops_given)
 
 -- a stop that isn't the 32nd
 pub stops_more : (r : EscReader) (last c : ℕ) (rest : List ℕ) (kept : ArrayVec ℕ) → InStops r last rest → last < c
@@ -64,8 +60,7 @@ stops_more r last c rest kept hand less k few =
     let m' : ltb (length r.kept.items) 32 ≡ true = grind (arith, nat_tests, hand.few) in
     let n' : (rises_from 0 r.kept.items && ltb (length r.kept.items) 32) ≡ true = rw (hand.rise, m') refl in
     let new : EscReader = record r { phase = phases.Stops c; kept = kept } in
-    let longer_begun : Begun r.lead r.name TabStops kept.items (rest ++ c ∷ []) =
-    rw w (begun_longer c hand.begun (listed_stops (r.kept.items ++ c ∷ []))) in
+    let longer_begun : Begun r.lead r.name TabStops kept.items (rest ++ c ∷ []) = grind (arith, begun_longer, listed_stops) in
     continues c None new hand.begun (listed_stops (r.kept.items ++ c ∷ [])) n (stops_pushed r.lead r.name r.kept.items c None n' (rw n refl))
     (record { begun = longer_begun; rise = rw w up; few = few; last_is = rw w (last_or_push 0 r.kept.items c) })
 
@@ -101,8 +96,7 @@ stops_end r last c rest stops hand less same =
     let n' : (rises_from 0 r.kept.items && ltb (length r.kept.items) 32) ≡ true = rw (hand.rise, m') refl in
     let len : length (r.kept.items ++ c ∷ []) - 1 ≡ length r.kept.items = omega (arith, length_push r.kept.items c) in
     let s : stops.items ≡ r.kept.items = same (omega (arith, hand.few)) in
-    let t : take (length (r.kept.items ++ c ∷ []) - 1) (r.kept.items ++ c ∷ []) ≡ stops.items =
-    rw len (take_at r.kept.items (c ∷ []) (length r.kept.items) refl ∙ sym s) in
+    let t : take (length (r.kept.items ++ c ∷ []) - 1) (r.kept.items ++ c ∷ []) ≡ stops.items = grind (arith, take, length, take_at) in
     let e : get_or (r.kept.items ++ c ∷ []) (length (r.kept.items ++ c ∷ []) - 1) 0 ≡ c = rw len (last_at r.kept.items c) in
     completes c (Some (items.TabStops stops (Some c))) (record r { phase = phases.Ground }) hand.begun
     (listed_stops (r.kept.items ++ c ∷ [])) n

@@ -22,11 +22,7 @@ use Rattle.vp_esc.proofs.Phases.{kept_whole}
 
 pub no_zero_push : (codes : List ℕ) (c : ℕ) → list_any (λ b. eqb b 0) codes ≡ false
     → list_any (λ b. eqb b 0) (codes ++ c ∷ []) ≡ eqb c 0
-no_zero_push codes c h = list_any-append (λ b. eqb b 0) codes (c ∷ []) ∙ rw h (or_false (eqb c 0))
-  where
-    or_false : (b : Bool) → (b || false) ≡ b
-    or_false true = refl
-    or_false false = refl
+no_zero_push codes c h = grind (arith, list_any-append)
 
 pub take_255_push : (codes : List ℕ) (c : ℕ) → take 255 (take 255 codes ++ c ∷ []) ≡ take 255 (codes ++ c ∷ [])
 take_255_push codes c = ⊎_elim
@@ -50,19 +46,13 @@ symbol_pushed : (lead : Lead) (name m : ℕ) (args : List ℕ) (c : ℕ) (item :
     → needs_more Symbol (m ∷ args) ≡ true
     → at_last (needs_more Symbol (m ∷ args ++ c ∷ [])) (symbol_unit m (symbol_data (m ∷ args ++ c ∷ []))) ≡ option_to_list item
     → given_by lead name Symbol (m ∷ args ++ c ∷ []) ≡ given_by lead name Symbol (m ∷ args) ++ option_to_list item
-symbol_pushed lead name m args c item h n e =
-    let l : head_len Symbol (m ∷ args ++ c ∷ []) ≤ length (m ∷ args ++ c ∷ []) = omega (arith, length_push args c) in
-    let none : given_by lead name Symbol (m ∷ args) ≡ [] = symbol_given lead name m args h ∙ rw n refl in
-    symbol_given lead name m (args ++ c ∷ []) l ∙ e
-    ∙ ap (λ xs. xs ++ option_to_list item) (sym none)
+symbol_pushed lead name m args c item h n e = grind (arith, length_push, symbol_given)
 
 one_at_least : (b : Bool) (x : ℕ) (xs : List ℕ) → b ≡ true → cond b 1 2 ≤ length (x ∷ xs)
-one_at_least true x xs e = omega arith
-one_at_least false x xs e = cc
+one_at_least b x xs e = grind arith
 
 two_at_least : (b : Bool) (x y : ℕ) (xs : List ℕ) → cond b 1 2 ≤ length (x ∷ y ∷ xs)
-two_at_least true x y xs = omega arith
-two_at_least false x y xs = omega arith
+two_at_least b x y xs = grind arith
 
 pub symbol_more : (r : EscReader) (kind c : ℕ) (more more' : Bool) (rest : List ℕ) (kept : ArrayVec ℕ) → InSymbolToZero r kind more rest
     → c ≢ 0 → kept.items ≡ take 255 (r.kept.items ++ c ∷ []) → more' ≡ (more || eqb (length r.kept.items) 255)
@@ -95,8 +85,7 @@ symbol_ends r kind c more rest final hand zero =
     let n : needs_more Symbol (kind ∷ hand.codes ++ c ∷ []) ≡ false = rw hand.to_zero (rw a refl) in
     let n' : needs_more Symbol (kind ∷ hand.codes) ≡ true = rw hand.to_zero (rw hand.no_zero refl) in
     let len : length (kind ∷ hand.codes ++ c ∷ []) - 2 ≡ length hand.codes = omega (arith, length_push hand.codes c) in
-    let d : symbol_data (kind ∷ hand.codes ++ c ∷ []) ≡ hand.codes =
-    rw hand.to_zero (rw len (take_at hand.codes (c ∷ []) (length hand.codes) refl)) in
+    let d : symbol_data (kind ∷ hand.codes ++ c ∷ []) ≡ hand.codes = grind (arith, take_at, length) in
     let i : symbol_unit kind (symbol_data (kind ∷ hand.codes ++ c ∷ [])) ≡ symbol_with kind r.kept.items more = rw (d, hand.kept, hand.beyond) refl in
     completes c (Some (symbol_with kind r.kept.items more)) (record r { phase = phases.Ground; kept = final }) hand.begun hand.begun.listed n
     (symbol_pushed r.lead r.name kind hand.codes c (Some (symbol_with kind r.kept.items more)) l n' (rw n (ap (λ x. x ∷ []) i))) refl

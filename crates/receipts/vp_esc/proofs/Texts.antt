@@ -1,5 +1,6 @@
 -- Text, one byte after another.
-use Rattle.std.proofs.Common.{◌≡◌, ℕ, ◌+◌, ◌<◌, ◌≤◌, Bool, true, false, cond, ◌&&◌, zero, suc, is_none, Option, Some, None, Ok, List, [], ◌∷◌, ◌++◌, length, take, refl, sym, ap, subst, ◌∙◌, append_assoc, arith}
+use Rattle.std.proofs.Common.{◌≡◌, ℕ, ◌+◌, ◌<◌, ◌≤◌, Bool, true, cond, ◌&&◌, zero, suc, is_none, Option, Some, None, Ok, List, [], ◌∷◌, ◌++◌, length, take, refl, sym, ap, subst, ◌∙◌, append_assoc, arith}
+use Rattle.std.proofs.lemmas.Bool.Decides.{nat_tests}
 use Rattle.std.specs.List.{prefix_len, AllByRecursion}
 use Rattle.std.proofs.lemmas.List.{append-nil}
 use Rattle.vp_esc.specs.declared.item.Lead.{Lead}
@@ -13,8 +14,7 @@ use Rattle.vp_esc.proofs.Fronts.{alone_between}
 use Rattle.vp_esc.proofs.Splits.{gives-from_advances, stands-from_advances}
 
 first_passes : (z : Bool) (n m : ℕ) → suc n ≤ cond z (1 + m) 0 → (z ≡ true) × (n ≤ m)
-first_passes true n m h = (refl, omega arith)
-first_passes false n m h = absurd (omega arith)
+first_passes z n m h = grind arith
 
 -- what stands at the front of the front is text
 pub front_passes : (n : ℕ) (cs : List ℕ) → n ≤ prefix_len is_text cs → AllByRecursion (λ b. is_text b ≡ true) (take n cs)
@@ -25,8 +25,7 @@ front_passes (suc n) (c ∷ cs) h =
     (f.0, front_passes n cs f.1)
 
 no_lead : (lead : Option Lead) (z : Bool) → is_none lead && z ≡ true → lead ≡ None
-no_lead None z h = refl
-no_lead (Some lead) z h = cc
+no_lead lead z h = grind arith
 
 -- text is taken, and the reader is as it was
 pub record Ran (r : EscReader) (bytes xs : List ℕ) : Type 0 where
@@ -46,11 +45,7 @@ known_on bytes [] e h = ap fault_of (append-nil bytes) ∙ e
 known_on bytes (x ∷ xs) e h = h (omega arith)
 
 pub ran : (r : EscReader) (bytes xs : List ℕ) → r.phase ≡ Ground → Stands r bytes → AllByRecursion (λ b. is_text b ≡ true) xs → Ran r bytes xs
-ran r bytes [] phase stands text = record {
-  gives = ap items (append-nil bytes) ∙ sym (append-nil (items bytes));
-  known = λ some. absurd (omega arith);
-  stands = subst (Stands r) (sym (append-nil bytes)) stands;
-}
+ran r bytes [] phase stands text = grind (arith, nat_tests, append-nil)
 ran r bytes (b ∷ xs) phase stands text =
     let first = one r bytes b phase stands text.0 in
     let more = ran r (bytes ++ b ∷ []) xs phase first.stands text.1 in

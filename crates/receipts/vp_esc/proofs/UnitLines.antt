@@ -1,11 +1,9 @@
 -- The lines of a unit: of a byte alone, and of a command.
-use Rattle.std.proofs.Common.{◌≡◌, ℕ, ◌<◌, ◌≤◌, Bool, true, false, cond, eqb, ltb, Option, Some, None, List, [], ◌∷◌, length, refl, sym, ap, ◌∙◌, arith, ⊎_elim}
-use Rattle.std.specs.Prelude.{map, codes}
+use Rattle.std.proofs.Common.{◌≡◌, ℕ, ◌<◌, ◌≤◌, Bool, true, false, cond, ltb, Option, Some, None, List, [], ◌∷◌, length, refl, sym, ap, ◌∙◌, arith, ⊎_elim}
+use Rattle.std.specs.Prelude.{map}
 use Rattle.std.proofs.lemmas.Bool.{cases_lt}
 use Rattle.std.proofs.lemmas.Bool.Decides.{nat_tests}
-use Rattle.vp_dots.specs.Listing.{listed}
 use Rattle.vp_esc.specs.declared.item.EscItem.{EscItem}
-use Rattle.vp_esc.specs.declared.item.EscItem.TheVariants as items
 use Rattle.vp_esc.specs.declared.item.Lead.{Lead}
 use Rattle.vp_esc.specs.declared.item.Lead.TheVariants.{Esc, Gs}
 use Rattle.vp_esc.specs.declared.command.Command.{Command}
@@ -15,7 +13,7 @@ use Rattle.vp_esc.specs.Units.{is_unfinished, needs_more, plain_item, stops_item
 use Rattle.vp_esc.specs.Laws.{IsUnit}
 use Rattle.vp_esc.specs.Lines.{line_of}
 use Rattle.vp_esc.specs.Listings.{line_of_byte, is_long_symbol, Lists}
-use Rattle.vp_esc.specs.Table.{IsToZero, IsCountedSymbol, IsArguments, IsCommand, IsAlone}
+use Rattle.vp_esc.specs.Table.{IsArguments, IsCommand, IsAlone}
 use Rattle.vp_esc.proofs.Fronts.{lead_of-lead_byte, Front, front_is}
 use Rattle.vp_esc.proofs.Heads.{IsHead, heads, given_is}
 use Rattle.vp_esc.proofs.OnlyRows.{only_rows_lem}
@@ -25,17 +23,10 @@ use Rattle.vp_esc.proofs.QrListed.{function_list}
 
 -- the line of what a test chooses
 chosen : (t : Bool) (x y : EscItem) → line_of (cond t x y) ≡ cond t (line_of x) (line_of y)
-chosen true x y = refl
-chosen false x y = refl
+chosen t x y = grind arith
 
 single_line : (b : ℕ) → line_of (single_item b) ≡ line_of_byte b
-single_line b =
-    chosen (eqb b 0x0A) items.LineFeed _ ∙ ap (λ l. cond (eqb b 0x0A) (listed (codes "LF") []) l) (
-    chosen (eqb b 0x09) items.Tab _ ∙ ap (λ l. cond (eqb b 0x09) (listed (codes "HT") []) l) (
-    chosen (eqb b 0x0D) items.CarriageReturn _ ∙ ap (λ l. cond (eqb b 0x0D) (listed (codes "CR") []) l) (
-    chosen (eqb b 0x0C) items.FormFeed _ ∙ ap (λ l. cond (eqb b 0x0C) (listed (codes "FF") []) l) (
-    chosen (eqb b 0x18) items.Cancel _ ∙ ap (λ l. cond (eqb b 0x18) (listed (codes "CAN") []) l) (
-    chosen (ltb b 0x20) (items.Control b) (items.Character b))))))
+single_line b = grind (arith, chosen)
 
 pub byte_line : (b : ℕ) → lead_of b ≡ None → map line_of (given (b ∷ [])) ≡ line_of_byte b ∷ []
 unfolding given
@@ -51,9 +42,7 @@ by_command lead name (Plain p) args i a b n s = one_line lead (name ∷ args) (p
 by_command lead name TabStops args i a b n s = rw n (rw (i.0, i.1) (one_line Esc (0x44 ∷ args) (stops_item args) (stops_listed args a)))
 by_command lead name Columns args i a b n s = rw (i.0, i.1) (columns_list args a b)
 by_command lead name Raster args i a b n s = rw (i.0, i.1) (raster_list args a b)
-by_command lead name Symbol args i a b n s =
-    let short : length args ≤ 257 = short_symbol args (rw (i.0, i.1) at s) in
-    rw (i.0, i.1) (⊎_elim (λ (z : IsToZero args). to_zero_list args z short n) (λ (c : IsCountedSymbol args). counted_list args c b n) a)
+by_command lead name Symbol args i a b n s = grind (arith, short_symbol, to_zero_list, counted_list)
 by_command lead name Function args i a b n s = rw (i.0, i.1) (function_list args a b)
 by_command lead name Graphics args i a b n s = rw (i.0, i.1) (graphics_list args a)
 
@@ -91,10 +80,7 @@ command_lines lead bytes b u s = ⊎_elim
     (only_rows_lem (lead_byte lead ∷ bytes) u)
   where
     no_lead : IsAlone (lead_byte lead ∷ bytes) → Lists lead bytes (map line_of (given (lead_byte lead ∷ bytes)))
-    no_lead a =
-        let same : lead_byte lead ≡ a.byte = let e = a.bytes_are in cc in
-        let no : ◌≡◌ {A = Option Lead} (Some lead) None = sym (lead_of-lead_byte lead) ∙ ap lead_of same ∙ a.no_lead in
-        cc
+    no_lead a = grind (arith, lead_of-lead_byte)
 
     of_command : IsCommand (lead_byte lead ∷ bytes) → Lists lead bytes (map line_of (given (lead_byte lead ∷ bytes)))
     of_command c =

@@ -1,5 +1,5 @@
 -- Lines that are alike along some dots, and the rows of the page that are.
-use Rattle.std.proofs.Common.{inl, inr, bit_or, ◌≡◌, ℕ, ◌+◌, ◌-◌, ◌*◌, ◌/◌, ◌%◌, ◌<◌, ◌≤◌, Bool, true, false, not, cond, eqb, ltb, ◌&&◌, ◌||◌, refl, sym, ap, ◌∙◌, arith, List, [], length, get_or, replicate, bit_and}
+use Rattle.std.proofs.Common.{bit_or, ◌≡◌, ℕ, ◌+◌, ◌-◌, ◌*◌, ◌/◌, ◌%◌, ◌<◌, ◌≤◌, Bool, true, false, not, cond, eqb, ltb, ◌&&◌, ◌||◌, refl, sym, ap, ◌∙◌, arith, List, [], length, get_or, replicate, bit_and}
 use Rattle.std.specs.Int.RustNames.{bit_xor}
 use Rattle.std.specs.Int.{bit_at}
 use lib.Lanes.{zip2, chunk, put_chunk}
@@ -7,7 +7,7 @@ use Rattle.std.proofs.lemmas.Simd.{get_or-zip2, get_or-chunk, length-zip2, lengt
 use Rattle.std.proofs.lemmas.Bool.Decides.{nat_tests}
 use Rattle.std.proofs.lemmas.Nat.Bits.{bit_at-zero}
 use Rattle.std.proofs.lemmas.List.{get_or-replicate, length-replicate}
-use Rattle.std.proofs.lemmas.Bool.{cases_lt, lt-ltb, le-leb, true≢false}
+use Rattle.std.proofs.lemmas.Bool.{lt-ltb, le-leb, true≢false}
 use Rattle.vp_dots.specs.Dots.{bit, dot, span}
 use Rattle.vp_dots.specs.Words.{word_dot}
 use Rattle.vp_dots.specs.Painting.{Painted}
@@ -52,14 +52,10 @@ module _ (line row : List ℕ) (colour i : ℕ) (black : Bool) (there : i + 16 �
 
 -- what was painted black nowhere
 pub black_none : (a b : Bool) → cond a true b ≡ false → (a ≡ false) × (b ≡ false)
-black_none true b e = absurd (true≢false e)
-black_none false b e = (refl, e)
+black_none a b e = grind (arith, true≢false)
 
 of_colour : (black d : Bool) → cond black (not d) d ≡ false → d ≡ black
-of_colour true true e = refl
-of_colour true false e = cc
-of_colour false true e = cc
-of_colour false false e = refl
+of_colour black d e = grind arith
 
 -- a line that isn't unlike
 pub alike_dot : (lines : List (List ℕ)) (i u at : ℕ) (black : Bool) → u < 1664 → at < 1664 → black ≡ dot (get_or lines i []) at
@@ -72,17 +68,11 @@ both_dot w m k h = rw (lt-ltb k 64 h) (bit_of_and w m (63 - k))
 
 pub none_black : (line : List ℕ) (w m dots from k : ℕ) → bit_and w m ≡ 0 → ((x : ℕ) → word_dot m x ≡ ltb x dots)
     → ((x : ℕ) → x < 64 → word_dot w x ≡ (ltb (from + x) 1664 && dot line (from + x))) → k < 64 → k < dots → from + k < 1664 → dot line (from + k) ≡ false
-none_black line w m dots from k e p q h l r =
-    let here : word_dot w k ≡ dot line (from + k) = q k h ∙ ap (λ b. b && dot line (from + k)) (lt-ltb (from + k) 1664 r) in
-    let masked : word_dot m k ≡ true = p k ∙ lt-ltb k dots l in
-    sym here ∙ sym (and_true (word_dot w k)) ∙ sym (ap (λ b. word_dot w k && b) masked) ∙ sym (both_dot w m k h) ∙ ap (λ n. word_dot n k) e ∙ white_dot k
+none_black line w m dots from k e p q h l r = grind (arith, lt-ltb, and_true, both_dot, white_dot)
 
 -- a dot that is kept
 pub kept_dot : (a k : Bool) → (a && k) ≡ cond (not k) false a
-kept_dot true true = refl
-kept_dot true false = refl
-kept_dot false true = refl
-kept_dot false false = refl
+kept_dot a k = grind arith
 
 module _ (kept row : List ℕ) (i n : ℕ) (there : i + n ≤ length kept) (room : i + n ≤ length row) where
   kept_lane : (j k : ℕ) → j < n → k < 8 → bit (get_or (zip2 bit_and (chunk i n row) (chunk i n kept)) j 0) k ≡ cond (not (dot kept (8 * (i + j) + (7 - k)))) false (bit (get_or row (i + j) 0) k)
@@ -100,18 +90,15 @@ module _ (kept row : List ℕ) (i n : ℕ) (there : i + n ≤ length kept) (room
 
 -- sixteen more bytes
 pub kept_more : (k d : ℕ) (b : Bool) → (ltb (d / 8) (16 * (k + 1)) && b) ≡ ((ltb (d / 8) (16 * k) && b) || (span (16 * k) (16 * k + 16) (d / 8) && b))
-kept_more k d true = grind (arith, nat_tests)
-kept_more k d false = grind (arith, nat_tests)
+kept_more k d b = grind (arith, nat_tests)
 
 -- some bytes behind the ones before them
 pub kept_apart : (i n d : ℕ) (b : Bool) → ((ltb (d / 8) i && b) && (span i (i + n) (d / 8) && b)) ≡ false
-kept_apart i n d true = grind (arith, nat_tests)
-kept_apart i n d false = grind (arith, nat_tests)
+kept_apart i n d b = grind (arith, nat_tests)
 
 -- the last eight
 pub kept_last : (d : ℕ) (b : Bool) → d < 576 → b ≡ ((ltb (d / 8) 64 && b) || (span 64 72 (d / 8) && b))
-kept_last d true h = grind (arith, nat_tests)
-kept_last d false h = grind (arith, nat_tests)
+kept_last d b h = grind (arith, nat_tests)
 
 pub none_kept : (d : ℕ) (b : Bool) → (ltb (d / 8) (16 * 0) && b) ≡ false
 none_kept d b = grind (arith, nat_tests)
@@ -121,30 +108,26 @@ unfolding dot bit
 black_row n x h = rw (get_or-replicate {A = ℕ} n (x / 8) 255 0 h) (every_at 8 (λ k. eqb (bit_at 255 k) 1) refl (7 - x % 8) (omega arith))
 
 whitened : (s : Bool) → cond s false true ≡ not s
-whitened true = refl
-whitened false = refl
+whitened s = grind arith
 
 -- a black row that is made white along an area
 pub kept_row : (from to x : ℕ) (new : List ℕ) → Painted White (span from to) (replicate 72 255) new → x < 576 → dot new x ≡ not (span from to x)
 kept_row from to x new p h = p.dots_are x (omega (arith, length-replicate {A = ℕ} 72 255)) ∙ ap (λ b. cond (span from to x) false b) (black_row 72 x (omega arith)) ∙ whitened (span from to x)
 
 not_not : (b : Bool) → not (not b) ≡ b
-not_not true = refl
-not_not false = refl
+not_not b = grind arith
 
 -- and what is not kept of a row that an area has
 pub wiped_dot : (a : Area) (from to x y : ℕ) (k : Bool) → k ≡ not (span a.x (a.x + a.dx) x) → from ≤ y → y < to → a.y ≤ y → y < a.y + a.dy
     → not k ≡ (span from to y && holds a x y)
-wiped_dot a from to x y k e p q r s = rw (le-leb from y p, lt-ltb y to q, le-leb a.y y r, lt-ltb y (a.y + a.dy) s)
-    (ap not e ∙ not_not (span a.x (a.x + a.dx) x) ∙ sym (and_true (span a.x (a.x + a.dx) x)))
+wiped_dot a from to x y k e p q r s = grind (arith, le-leb, lt-ltb, not, not_not, and_true)
 
 white_lane : (j k : ℕ) → j < 64 → bit (get_or (replicate 64 0) j 0) k ≡ false
 unfolding bit
 white_lane j k m = rw (get_or-replicate {A = ℕ} 64 j 0 0 m) (ap (λ n. eqb n 1) (bit_at-zero k))
 
 and_all : (b : Bool) → (b && true) ≡ b
-and_all true = refl
-and_all false = refl
+and_all b = grind arith
 
 -- 64 white bytes
 pub white_block : (i : ℕ) (row : List ℕ) → i + 64 ≤ length row → Painted White (λ d. span i (i + 64) (d / 8)) row (put_chunk i row (replicate 64 0))
@@ -153,26 +136,18 @@ white_block i row room = painted_same White (λ d. span i (i + 64) (d / 8) && tr
 
 -- the first eight bytes, where some dots are kept, and those behind them, where none is
 pub first_kept : (d : ℕ) (k : Bool) → (64 ≤ d → k ≡ false) → d < 576 → not k ≡ ((span 0 (0 + 8) (d / 8) && not k) || span 8 (8 + 64) (d / 8))
-first_kept d true e h = elim (cases_lt d 64) [
-  | inl l ↦ grind (arith, nat_tests)
-  | inr g ↦ absurd (true≢false (e g))
-]
-first_kept d false e h = grind (arith, nat_tests)
+first_kept d k e h = grind (arith, nat_tests, true≢false)
 
 pub first_apart : (d : ℕ) (b : Bool) → ((span 0 (0 + 8) (d / 8) && b) && span 8 (8 + 64) (d / 8)) ≡ false
-first_apart d true = grind (arith, nat_tests)
-first_apart d false = grind (arith, nat_tests)
+first_apart d b = grind (arith, nat_tests)
 
 -- what is kept of a dot, and what is not unlike a black one
 pub kept_both : (a b : Bool) → cond (not a) false b ≡ true → (a ≡ true) × (b ≡ true)
-kept_both true b e = (refl, e)
-kept_both false b e = cc
+kept_both a b e = grind arith
 
 pub not_white : (b : Bool) → not b ≡ false → b ≡ true
-not_white true e = refl
-not_white false e = cc
+not_white b e = grind arith
 
 -- a dot of the longest line stands on one of its bytes
 pub within_all : (u : ℕ) (b : Bool) → u < 1664 → (span 0 (0 + 16 * 13) (u / 8) && b) ≡ b
-within_all u true h = grind (arith, nat_tests)
-within_all u false h = grind (arith, nat_tests)
+within_all u b h = grind (arith, nat_tests)

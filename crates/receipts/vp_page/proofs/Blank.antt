@@ -1,6 +1,6 @@
 -- A white page.
-use Rattle.std.proofs.Common.{inl, inr, ◌+◌, ◌++◌, drop, refl, sym, ◌≡◌, ℕ, ◌-◌, ◌/◌, ◌%◌, ◌<◌, false, eqb, ap, ◌∙◌, arith, List, [], length, get_or, replicate}
-use Rattle.std.proofs.lemmas.Bool.{cases_lt}
+use Rattle.std.proofs.Common.{◌+◌, ◌++◌, drop, ◌≡◌, ℕ, ◌-◌, ◌/◌, ◌%◌, ◌<◌, false, eqb, ap, ◌∙◌, arith, List, [], length, get_or, replicate}
+use Rattle.std.proofs.lemmas.Bool.Decides.{nat_tests}
 use Rattle.std.proofs.lemmas.List.{get_or-drop, get_or_append_left, get_or-append_right, get_or_past, get_or-replicate, length-replicate}
 use Rattle.std.proofs.lemmas.Nat.Bits.{bit_at-zero}
 use Rattle.vp_page.specs.declared.page.TheConstants.{PAGE_ROWS, PAPER_BYTES}
@@ -15,23 +15,9 @@ white_rows : (high wide : ℕ) (band : List (List ℕ)) → band ≡ replicate h
 white_rows high wide band e y h = ap (λ (rows : List (List ℕ)). get_or rows y []) e ∙ get_or-replicate high y (replicate wide 0) [] h
 
 pub blank : (high wide : ℕ) (band : List (List ℕ)) → high ≡ PAGE_ROWS → wide ≡ PAPER_BYTES → band ≡ replicate high (replicate wide 0) → HasPage [] (record { rows = band; laid = 0; wiped = 0 })
-blank high wide band a b e = record {
-  rows_are = λ y h. ap length (white_rows high wide band e y (omega arith)) ∙ length-replicate {A = ℕ} wide 0 ∙ b;
-  dots_are = λ x y k h. ap (λ row. dot row x) (white_rows high wide band e y (omega arith)) ∙ dot_white wide x (omega arith);
-  work = record { laid_is = omega arith; at_most = omega arith; at_least = omega arith };
-}
+blank high wide band a b e = grind (arith, white_rows, length-replicate, dot_white)
 
 -- a row with white bytes behind it
 pub white_end : (row : List ℕ) (m u : ℕ) → dot (row ++ drop (length row) (replicate {A = ℕ} m 0)) u ≡ dot row u
 unfolding dot
-white_end row m u = elim (cases_lt (u / 8) (length row)) [
-  | inl l ↦ ap (λ x. bit x (7 - u % 8)) (get_or_append_left row (drop (length row) (replicate {A = ℕ} m 0)) 0 (u / 8) l)
-  | inr g ↦ ap (λ x. bit x (7 - u % 8)) (get_or-append_right row (drop (length row) (replicate {A = ℕ} m 0)) (length row) (u / 8) 0 refl g ∙ get_or-drop (length row) (replicate {A = ℕ} m 0) (u / 8 - length row) 0
-      ∙ none (length row + (u / 8 - length row)) ∙ sym (get_or_past {X = ℕ} row (u / 8) 0 g))
-]
-  where
-    none : (i : ℕ) → get_or (replicate {A = ℕ} m 0) i 0 ≡ 0
-    none i = elim (cases_lt i m) [
-      | inl l ↦ get_or-replicate {A = ℕ} m i 0 0 l
-      | inr g ↦ get_or_past (replicate {A = ℕ} m 0) i 0 (omega (arith, length-replicate {A = ℕ} m 0))
-    ]
+white_end row m u = grind (arith, nat_tests, get_or_append_left, get_or-append_right, get_or-drop, get_or_past, get_or-replicate, length-replicate)

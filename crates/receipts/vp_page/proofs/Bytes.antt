@@ -7,8 +7,7 @@ use Rattle.std.proofs.lemmas.Bool.{cases_eq, ne_eqb}
 use Rattle.vp_dots.specs.Dots.{bit}
 
 and_false : (b : Bool) → (b && false) ≡ false
-and_false true = refl
-and_false false = refl
+and_false b = grind arith
 
 -- a bit alone, at a place of a byte
 pub bit_moved : (b p k : ℕ) → b < 2 → p < 8 → bit (b * 2 ^ p % 256) k ≡ (eqb k p && eqb b 1)

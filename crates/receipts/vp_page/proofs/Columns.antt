@@ -18,16 +18,13 @@ use Rattle.vp_page.proofs.Squares.{and_false, down_row, no_line, up_row}
 
 -- and back
 pub placed_back : (way : Way) (n i k : ℕ) → k < n → i ≡ placed way n k → placed way n i ≡ k
-placed_back Up n i k h e = e
-placed_back Down n i k h e = omega arith
+placed_back way n i k h e = grind arith
 
 pub placed_in : (way : Way) (n k : ℕ) → k < n → placed way n k < n
-placed_in Up n k h = h
-placed_in Down n k h = omega arith
+placed_in way n k h = grind arith
 
 pub placed_there : (way : Way) (n i k : ℕ) → i < n → placed way n i ≡ k → i ≡ placed way n k
-placed_there Up n i k h e = e
-placed_there Down n i k h e = omega arith
+placed_there way n i k h e = grind arith
 
 -- which row of n is k dots along the lines
 abbrev pub ordered : Way → ℕ → ℕ → ℕ
@@ -69,29 +66,16 @@ module _ (ax dx v n x : ℕ) (ink : ℕ → Bool) (deep : v + n ≤ dx) (none : 
 columns_row : (a : Area) (way : Way) (v n wide x : ℕ) (ink row : ℕ → Bool) (at : ℤ) → v + n ≤ a.dx → n ≤ wide → IsLeft a way v wide at → ((i : ℕ) → n ≤ i → ink i ≡ false)
     → ((s : ℕ) → s < wide → row s ≡ ink (placed way wide s)) → ((s : ℕ) → wide ≤ s → row s ≡ false)
     → shifted at row x ≡ (span a.x (a.x + a.dx) x && (leb v (depth_of a way x) && ink (depth_of a way x - v)))
-columns_row a Up v n wide x ink row at deep few e none same past =
-    sym (up_row ink row wide (a.x + v) x at e (λ i h. none i (omega (arith, few, h))) same past) ∙ up_columns a.x a.dx v n x ink deep none
-columns_row a Down v n wide x ink row at deep few e none same past =
-    sym (down_row ink row wide (a.x + a.dx - v) x at e (λ i h. none i (omega (arith, few, h))) same past) ∙ down_columns a.x a.dx v n x ink deep none
+columns_row a way v n wide x ink row at deep few e none same past = grind (arith, nat_tests, up_row, down_row)
 
 -- what stands on rows of the page, as dots of a stretch
 in_stretch : (p1 p2 hx hy s q r : Bool) → (p1 && p2) ≡ (hy && s) → (p1 ≡ true → p2 ≡ true → q ≡ (hx && r)) → (p1 && (p2 && q)) ≡ (s && ((hx && hy) && r))
-in_stretch true true true true true q r e f = f refl refl
-in_stretch true true false true true q r e f = f refl refl
-in_stretch true true hx true false q r e f = absurd (true≢false e)
-in_stretch true true hx false s q r e f = absurd (true≢false e)
-in_stretch true false hx hy false q r e f = refl
-in_stretch true false hx false true q r e f = ap (λ t. t && r) (sym (and_false hx))
-in_stretch true false hx true true q r e f = absurd (true≢false (sym e))
-in_stretch false p2 hx hy false q r e f = refl
-in_stretch false p2 hx false true q r e f = ap (λ t. t && r) (sym (and_false hx))
-in_stretch false p2 hx true true q r e f = absurd (true≢false (sym e))
+in_stretch p1 p2 hx hy s q r e f = grind (arith, true≢false, and_false)
 
 -- where a row of a stretch is along the lines
 row_along : (a : Area) (way : Way) (from rows top y : ℕ) → from + rows ≤ a.dy → top ≡ topmost a way from rows → top ≤ y → y - top < rows
     → (y - top ≡ ordered way rows (along_of a way y - from)) × (along_of a way y - from < rows) × (from + (along_of a way y - from) ≡ along_of a way y)
-row_along a Up from rows top y h e p q = ((omega arith), (omega arith), (omega arith))
-row_along a Down from rows top y h e p q = ((omega arith), (omega arith), (omega arith))
+row_along a way from rows top y h e p q = grind arith
 
 -- words that show the lines, each on a row of its own
 pub stretch_laid : (a : Area) (way : Way) (v : ℕ) (lines : List (List ℕ)) (from rows top wide : ℕ) (row : ℕ → ℕ → Bool) (at : ℤ)
@@ -120,12 +104,7 @@ alike_laid a way v lines from rows top last x y long e same =
 
 -- along which they are white
 pub white_stretch : (a : Area) (way : Way) (v : ℕ) (lines : List (List ℕ)) (from rows x y : ℕ) → ((i u : ℕ) → from ≤ u → u < from + rows → line_dot lines i u ≡ false) → stretch_dot a way v lines from rows x y ≡ false
-white_stretch a way v lines from rows x y white = none (span from (from + rows) (along_of a way y)) (holds a x y) (leb v (depth_of a way x)) _
-    (λ e. let p = and_parts _ _ e in white (depth_of a way x - v) (along_of a way y) (leb-true _ _ p.0) (ltb-true _ _ p.1))
-  where
-    none : (s h d b : Bool) → (s ≡ true → b ≡ false) → (s && (h && (d && b))) ≡ false
-    none true h d b f = rw (f refl, and_false d) (and_false h)
-    none false h d b f = refl
+white_stretch a way v lines from rows x y white = grind (arith, and_parts, leb-true, ltb-true, and_false)
 
 -- a stretch of no dots
 pub no_stretch : (from u : ℕ) (b : Bool) → (span from from u && b) ≡ false
@@ -133,32 +112,17 @@ no_stretch from u b = grind (arith, nat_tests)
 
 -- some rows of a stretch are on the page if all are
 pub part_on_page : (a : Area) (way : Way) (u n from rows : ℕ) → u + n ≤ a.dy → topmost a way u n + n ≤ 1664 → u ≤ from → from + rows ≤ u + n → topmost a way from rows + rows ≤ 1664
-part_on_page a Up u n from rows h e p q = omega arith
-part_on_page a Down u n from rows h e p q = omega arith
+part_on_page a way u n from rows h e p q = grind arith
 
 short_of : (a : Area) (way : Way) (x y : ℕ) → holds a x y ≡ true → depth_of a way x < a.dx
-short_of a Up x y e =
-    let p = and_parts (leb a.x x) (ltb x (a.x + a.dx)) (and_parts (leb a.x x && ltb x (a.x + a.dx)) (leb a.y y && ltb y (a.y + a.dy)) e).0 in
-    let from : a.x ≤ x = leb-true a.x x p.0 in
-    let to : x < a.x + a.dx = ltb-true x (a.x + a.dx) p.1 in
-    omega (arith, from, to)
-short_of a Down x y e =
-    let p = and_parts (leb a.x x) (ltb x (a.x + a.dx)) (and_parts (leb a.x x && ltb x (a.x + a.dx)) (leb a.y y && ltb y (a.y + a.dy)) e).0 in
-    let from : a.x ≤ x = leb-true a.x x p.0 in
-    let to : x < a.x + a.dx = ltb-true x (a.x + a.dx) p.1 in
-    omega (arith, from, to)
+short_of a way x y e = grind (arith, and_parts, leb-true, ltb-true)
 
 -- a line is one of those that are laid at once
 at_once : (lines : List (List ℕ)) (i u : ℕ) → length lines ≤ 192 → line_dot lines i u ≡ (ltb i 192 && line_dot lines i u)
-at_once lines i u few = elim (cases_lt i 192) [
-  | inl l ↦ rw (lt-ltb i 192 l) refl
-  | inr g ↦ rw (le-ltb i 192 g) (no_line lines i u (omega arith))
-]
+at_once lines i u few = grind (arith, lt-ltb, le-ltb, no_line)
 
 in_mark : (h d b c : Bool) → (h ≡ true → d ≡ true → b ≡ c) → (h && (d && b)) ≡ (h && (d && c))
-in_mark true true b c f = f refl refl
-in_mark true false b c f = refl
-in_mark false d b c f = refl
+in_mark h d b c f = grind arith
 
 -- the lines that have room, as a mark
 module _ (a : Area) (way : Way) (v n : ℕ) (lines : List (List ℕ)) (few : length lines ≤ 192) (room : n ≡ min (length lines) (a.dx - v)) (x y : ℕ) where
@@ -209,35 +173,12 @@ module _ (lines : List (List ℕ)) (v w at : ℕ) where
 -- the bytes on which the dots of a row of lines stand
 pub bytes_across : (lines : List (List ℕ)) (v w at x left first : ℕ) (hx : Bool) → first ≡ left / 8 → span left (left + length lines) x ≡ (hx && span v (v + length lines) w)
     → (hx && (leb v w && line_dot lines (w - v) at)) ≡ true → span first (first + (length lines / 8 + 2)) (x / 8) ≡ true
-bytes_across lines v w at x left first hx e is black =
-    let p = and_parts hx (leb v w && line_dot lines (w - v) at) black in
-    let q = and_parts (leb v w) (line_dot lines (w - v) at) p.1 in
-    let from : v ≤ w = leb-true _ _ q.0 in
-    let line : w - v < length lines = elim (cases_lt (w - v) (length lines)) [
-      | inl l ↦ l
-      | inr g ↦ absurd (true≢false (sym q.1 ∙ no_line lines (w - v) at g))
-    ] in
-    let on : span v (v + length lines) w ≡ true = rw (le-leb v w from, lt-ltb w (v + length lines) (omega arith)) refl in
-    let both : (hx && span v (v + length lines) w) ≡ true = rw (p.0, on) refl in
-    let here = and_parts (leb left x) (ltb x (left + length lines)) (is ∙ both) in
-    let low : left ≤ x = leb-true left x here.0 in
-    let high : x < left + length lines = ltb-true x (left + length lines) here.1 in
-    rw (le-leb first (x / 8) (omega arith), lt-ltb (x / 8) (first + (length lines / 8 + 2)) (omega arith)) refl
+bytes_across lines v w at x left first hx e is black = grind (arith, and_parts, leb-true, true≢false, no_line, le-leb, lt-ltb, ltb-true)
 
 -- all dots of the lines that fall on the page
 pub all_across : (a : Area) (way : Way) (v : ℕ) (lines : List (List ℕ)) (from end to x y : ℕ) → (span a.y (a.y + a.dy) y ≡ true → span from end (along_of a way y) ≡ true)
     → ((i u : ℕ) → to ≤ u → u < end → line_dot lines i u ≡ false) → (span from to (along_of a way y) && lines_across a way v lines x y) ≡ lines_across a way v lines x y
-all_across a way v lines from end to x y page white =
-    all_of (span a.x (a.x + a.dx) x) (leb a.y y && ltb y (a.y + a.dy)) (span from to (along_of a way y)) (leb v (depth_of a way x)) _
-    (λ h f. let p = and_parts _ _ (page h) in white (depth_of a way x - v) (along_of a way y) (past from to (along_of a way y) p.0 f) (ltb-true _ _ p.1))
-  where
-    past : (from to u : ℕ) → leb from u ≡ true → span from to u ≡ false → to ≤ u
-    past from to u p f = grind (arith, nat_tests)
-
-    all_of : (hx hy s d b : Bool) → (hy ≡ true → s ≡ false → b ≡ false) → (s && ((hx && hy) && (d && b))) ≡ ((hx && hy) && (d && b))
-    all_of hx hy true d b f = refl
-    all_of hx true false d b f = sym (rw (f refl refl, and_false d) (and_false (hx && true)))
-    all_of hx false false d b f = sym (ap (λ t. t && (d && b)) (and_false hx))
+all_across a way v lines from end to x y page white = grind (arith, and_parts, ltb-true, nat_tests, and_false)
 
 -- two squares of few lines that are white
 pub two_white : (way : Way) (lines : List (List ℕ)) (squares : List ℕ) (from i u : ℕ) → length lines ≤ 32 → u < 128
@@ -255,7 +196,4 @@ two_white way lines squares from i u few near dots white = elim (cases_lt i 32) 
 
 -- a dot is of a colour, or not
 pub same_colour : (here black : Bool) → not (beq here black) ≡ false → here ≡ black
-same_colour true true e = refl
-same_colour true false e = absurd (true≢false e)
-same_colour false true e = absurd (true≢false e)
-same_colour false false e = refl
+same_colour here black e = grind (arith, true≢false)

@@ -1,5 +1,5 @@
 -- A line of an image, and a line alone that is laid across the page.
-use Rattle.std.proofs.Common.{inl, inr, ◌≡◌, ℕ, ◌+◌, ◌-◌, ◌*◌, ◌<◌, ◌≤◌, min, Bool, true, false, cond, eqb, leb, ltb, ◌&&◌, ◌||◌, refl, sym, ap, ◌∙◌, arith, List, [], length, get_or, replicate, pos}
+use Rattle.std.proofs.Common.{inl, inr, ◌≡◌, ℕ, ◌+◌, ◌-◌, ◌*◌, ◌<◌, ◌≤◌, min, Bool, true, false, cond, eqb, leb, ltb, ◌&&◌, ◌||◌, refl, sym, ap, ◌∙◌, arith, List, [], get_or, replicate, pos}
 use Rattle.std.specs.Int.{bit_at, to_be_bytes, w64}
 use Rattle.std.proofs.lemmas.Bool.Decides.{nat_tests}
 use Rattle.std.proofs.lemmas.Nat.Bits.{bit_at-zero}
@@ -19,30 +19,16 @@ use Rattle.vp_page.proofs.Rows.{dot_past}
 use Rattle.vp_page.proofs.Squares.{and_false, white_word}
 
 black_alone : (b : Bool) → cond b true false ≡ b
-black_alone true = refl
-black_alone false = refl
+black_alone b = grind arith
 
 -- a line painted on white
 pub drawn : (n width : ℕ) (f : ℕ → Bool) (old new : List ℕ) → old ≡ replicate n 0 → width ≤ 8 * n → ((x : ℕ) → f x ≡ true → x < width)
     → Painted Black (shifted (pos 0) f) old new → (x : ℕ) → dot new x ≡ f x
-drawn n width f old new e w o p x =
-    let long : length old ≡ n = ap length e ∙ length-replicate {A = ℕ} n 0 in
-    elim (cases_lt x (8 * n)) [
-      | inl l ↦
-          let white : dot old x ≡ false = ap (λ row. dot row x) e ∙ dot_white n x (omega arith) in
-          p.dots_are x (omega arith) ∙ rw (white, le-leb 0 x (omega arith)) (black_alone (f (x - 0)) ∙ ap f (let z : x - 0 ≡ x = omega arith in z))
-      | inr g ↦ dot_past new x (let q = p.length_is in omega arith) ∙ sym (false_from_ne_true (f x) (λ t. absurd (let b = o x t in omega arith)))
-    ]
+drawn n width f old new e w o p x = grind (arith, length-replicate, dot_white, le-leb, black_alone, dot_past, false_from_ne_true)
 
 -- a column has no dot where its area has no row
 pub no_column : (ay dy k : ℕ) (e b : Bool) → (ay ≤ k → k < ay + dy → ⊥) → (e && (span ay (ay + dy) k && b)) ≡ false
-no_column ay dy k e b h = elim (cases_lt k ay) [
-  | inl above ↦ rw (lt-leb ay k above) (and_false e)
-  | inr l ↦ elim (cases_lt k (ay + dy)) [
-    | inl m ↦ absurd (h l m)
-    | inr below ↦ rw (le-leb ay k l, le-ltb k (ay + dy) below) (and_false e)
-  ]
-]
+no_column ay dy k e b h = grind (arith, lt-leb, and_false, le-leb, le-ltb)
 
 -- a column without a dot
 pub nothing : (f : ℕ → ℕ → Bool) (rows : List (List ℕ)) → ((d k : ℕ) → f d k ≡ false) → RowsPainted 1664 Black f rows rows
@@ -68,9 +54,7 @@ bit_row byte top i e = let at : top + i - top ≡ i = omega arith in rw (le-leb 
 
 -- as many rows as there are
 pub column_rows : (top i rows k : ℕ) (e b : Bool) → i ≡ rows → (ltb k (top + i) && (e && (leb top k && b))) ≡ (e && (leb top k && (ltb (k - top) rows && b)))
-column_rows top i rows k true true h = grind (arith, nat_tests, h)
-column_rows top i rows k true false h = grind (arith, nat_tests, h)
-column_rows top i rows k false b h = and_false (ltb k (top + i))
+column_rows top i rows k e b h = grind (arith, nat_tests, and_false)
 
 -- a byte of a word more
 pub byte_more : (word top n m k : ℕ) (bytes : List ℕ) (e : Bool) → bytes ≡ to_be_bytes w64 word → n < 8 → m ≤ 8
@@ -94,14 +78,4 @@ pub word_of_column : (word ay dy rows j n k : ℕ) (e : Bool) (ink : ℕ → Boo
     → ((i : ℕ) → i < 64 → 64 * j + i < dy → word_dot word i ≡ ink (ay + (64 * j + i)))
     → (ltb k (ay + min rows (64 * (j + 1))) && (e && (span ay (ay + dy) k && ink k)))
     ≡ (ltb k (ay + min rows (64 * j)) && (e && (span ay (ay + dy) k && ink k)) || e && (leb (ay + 64 * j) k && (ltb (k - (ay + 64 * j)) n && word_dot word (k - (ay + 64 * j)))))
-word_of_column word ay dy rows j n k e ink few some is dots = elim (cases_lt k (ay + 64 * j)) [
-  | inl l ↦ rw (lt-ltb k (ay + min rows (64 * j)) (omega arith), lt-ltb k (ay + min rows (64 * (j + 1))) (omega arith), lt-leb (ay + 64 * j) k l, and_false e) (or_false _)
-  | inr g ↦ rw (le-ltb k (ay + min rows (64 * j)) (omega arith), le-leb (ay + 64 * j) k g) (elim (cases_lt k (ay + 64 * j + n)) [
-    | inl l ↦
-        let i = k - (ay + 64 * j) in
-        let here : ay + (64 * j + i) ≡ k = omega arith in
-        rw (lt-ltb k (ay + min rows (64 * (j + 1))) (omega (arith, is, l)), lt-ltb i n (omega arith), le-leb ay k (omega arith), lt-ltb k (ay + dy) (omega (arith, is, l)))
-        (ap (λ t. e && t) (sym (dots i (omega (arith, is, l)) (omega (arith, is, l)) ∙ ap ink here)))
-    | inr o ↦ rw (le-ltb k (ay + min rows (64 * (j + 1))) (omega (arith, is, o)), le-ltb (k - (ay + 64 * j)) n (omega arith)) (sym (and_false e))
-  ])
-]
+word_of_column word ay dy rows j n k e ink few some is dots = grind (arith, lt-ltb, lt-leb, and_false, or_false, le-ltb, le-leb)

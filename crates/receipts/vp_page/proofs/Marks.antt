@@ -1,5 +1,5 @@
 -- Lines laid across an area, as a mark.
-use Rattle.std.proofs.Common.{inl, inr, ◌≡◌, ℕ, ◌+◌, ◌-◌, ◌<◌, ◌≤◌, Bool, true, false, min, ltb, leb, ◌&&◌, refl, sym, ap, ◌∙◌, arith, List, [], length, get_or, take}
+use Rattle.std.proofs.Common.{inl, inr, ◌≡◌, ℕ, ◌+◌, ◌-◌, ◌<◌, ◌≤◌, Bool, true, false, min, ltb, leb, ◌&&◌, sym, ap, ◌∙◌, arith, List, [], length, get_or, take}
 use Rattle.std.proofs.lemmas.Bool.{cases_lt, lt-ltb, le-ltb, leb-true, false_from_ne_true}
 use Rattle.vp_dots.specs.Dots.{dot}
 use Rattle.vp_page.specs.declared.area.Area.{Area}
@@ -13,17 +13,11 @@ use Rattle.vp_page.specs.Lines.{line_dot}
 use Rattle.std.proofs.lemmas.List.{get_or-take, length-take}
 
 pub past_line : (line : List ℕ) (u : ℕ) → length line ≤ 208 → dot line u ≡ (ltb u 1664 && dot line u)
-past_line line u short = elim (cases_lt u 1664) [
-  | inl l ↦ rw (lt-ltb u 1664 l) refl
-  | inr g ↦ rw (le-ltb u 1664 g) (dot_past line u (omega arith))
-]
+past_line line u short = grind (arith, lt-ltb, le-ltb, dot_past)
 
 -- the first lines
 pub shown_line : (lines : List (List ℕ)) (n i u : ℕ) → line_dot (take n lines) i u ≡ (ltb i n && line_dot lines i u)
-shown_line lines n i u = elim (cases_lt i n) [
-  | inl l ↦ rw (lt-ltb i n l) (ap (λ (r : List ℕ). ltb u 1664 && dot r u) (get_or-take n lines i [] l))
-  | inr g ↦ rw (le-ltb i n g) (no_line (take n lines) i u (omega (arith, length-take n lines)))
-]
+shown_line lines n i u = grind (arith, lt-ltb, get_or-take, le-ltb, no_line, length-take)
 
 pub shown_white : (lines : List (List ℕ)) (n i u : ℕ) → line_dot lines i u ≡ false → line_dot (take n lines) i u ≡ false
 shown_white lines n i u e = shown_line lines n i u ∙ ap (λ b. ltb i n && b) e ∙ and_false (ltb i n)
@@ -52,27 +46,17 @@ no_ink ink width u v outside h = false_from_ne_true (ink u v) (λ t. absurd (let
 
 -- a line that shows a line of ink
 pub ink_run : (lines : List (List ℕ)) (f : ℕ → Bool) (width i u : ℕ) → width ≤ 1664 → dot (get_or lines i []) u ≡ f u → (width ≤ u → f u ≡ false) → line_dot lines i u ≡ f u
-ink_run lines f width i u h e white = elim (cases_lt u 1664) [
-  | inl l ↦ rw (lt-ltb u 1664 l) e
-  | inr g ↦ rw (le-ltb u 1664 g) (sym (white (omega arith)))
-]
+ink_run lines f width i u h e white = grind (arith, lt-ltb, le-ltb)
 
 -- a line alone, as one of those of a mark
 line_marked : (lines : List (List ℕ)) (i u : ℕ) → length lines ≤ 192 → (i < length lines → length (get_or lines i []) ≤ 208)
     → (ltb i (length lines) && dot (get_or lines i []) u) ≡ (ltb i 192 && (ltb u 1664 && dot (get_or lines i []) u))
-line_marked lines i u few short = elim (cases_lt i (length lines)) [
-  | inl l ↦ rw (lt-ltb i (length lines) l, lt-ltb i 192 (omega arith)) (past_line (get_or lines i []) u (short l))
-  | inr g ↦ rw (le-ltb i (length lines) g) (sym (ap (λ t. ltb i 192 && t) (no_line lines i u g) ∙ and_false (ltb i 192)))
-]
+line_marked lines i u few short = grind (arith, lt-ltb, past_line, le-ltb, no_line, and_false)
 
 -- one of those that have room
 shown_dot : (lines : List (List ℕ)) (shown n i w u : ℕ) (p q r : Bool) → (p ≡ true → n < shown → (i ≡ w) × (w < shown))
     → (p && (ltb n shown && (q && (r && dot (get_or (take shown lines) i []) u)))) ≡ (p && (ltb n shown && (q && (r && dot (get_or lines w []) u))))
-shown_dot lines shown n i w u false q r at = refl
-shown_dot lines shown n i w u true q r at = elim (cases_lt n shown) [
-  | inl l ↦ (let e = at refl l in rw (lt-ltb n shown l) (ap (λ t. q && (r && t)) (ap (λ m. dot (get_or (take shown lines) m []) u) e.0 ∙ ap (λ (s : List ℕ). dot s u) (get_or-take shown lines w [] e.1))))
-  | inr g ↦ rw (le-ltb n shown g) refl
-]
+shown_dot lines shown n i w u p q r at = grind (arith, lt-ltb, get_or-take, le-ltb)
 
 module _ (a : Area) (v : ℕ) (lines : List (List ℕ)) (shown x y : ℕ) (few : length lines ≤ 192) (short : (i : ℕ) → i < length lines → length (get_or lines i []) ≤ 208) (deep : v < a.dy) (is : shown ≡ min (length lines) (a.dy - v)) where
   -- lines that run to the right

@@ -4,7 +4,7 @@ use Rattle.std.proofs.lemmas.Bool.{cases_lt, lt-ltb, le-ltb, lt-leb, le-leb}
 use Rattle.std.proofs.lemmas.List.{get_or-take, length-replicate, length-take}
 use Rattle.std.proofs.lemmas.Bool.Decides.{nat_tests}
 use Rattle.std.specs.Int.{to_be_bytes, w64}
-use Rattle.vp_dots.specs.Dots.{bit, dot, dots, span}
+use Rattle.vp_dots.specs.Dots.{dot, dots, span}
 use Rattle.vp_dots.specs.Words.{word_dot}
 use Rattle.vp_dots.specs.Painting.{Painted}
 use Rattle.vp_dots.specs.declared.Op.TheVariants.{Black}
@@ -15,36 +15,22 @@ use Rattle.vp_page.proofs.WordsOnRows.{first_eight, word_bytes}
 use Rattle.vp_page.proofs.Squares.{and_false}
 
 or_false : (b : Bool) → b ≡ (b || false)
-or_false true = refl
-or_false false = refl
+or_false b = grind arith
 
 -- one more word of a row
 pub word_more : (ink : ℕ → Bool) (word k d : ℕ) → ((x : ℕ) → x < 64 → word_dot word x ≡ ink (64 * k + x))
     → (ltb d (64 * (k + 1)) && ink d) ≡ ((ltb d (64 * k) && ink d) || (leb (8 * (8 * k)) d && word_dot word (d - 8 * (8 * k))))
-word_more ink word k d e = elim (cases_lt d (64 * k)) [
-  | inl l ↦ rw (lt-ltb d (64 * k) l, lt-ltb d (64 * (k + 1)) (omega arith), lt-leb (8 * (8 * k)) d (omega arith)) (or_false _)
-  | inr g ↦ rw (le-ltb d (64 * k) g, le-leb (8 * (8 * k)) d (omega arith)) (elim (cases_lt d (64 * (k + 1))) [
-    | inl m ↦ rw (lt-ltb d (64 * (k + 1)) m) (sym (e (d - 8 * (8 * k)) (omega arith) ∙ ap ink (omega arith)))
-    | inr o ↦ rw (le-ltb d (64 * (k + 1)) o, le-ltb (d - 8 * (8 * k)) 64 (omega arith)) refl
-  ])
-]
+word_more ink word k d e = grind (arith, lt-ltb, lt-leb, or_false, le-ltb, le-leb)
 
 pub word_apart : (k d : ℕ) (a b : Bool) → ((ltb d (64 * k) && a) && (leb (8 * (8 * k)) d && b)) ≡ false
-word_apart k d a b = elim (cases_lt d (64 * k)) [
-  | inl l ↦ rw (lt-leb (8 * (8 * k)) d (omega arith)) (and_false _)
-  | inr g ↦ rw (le-ltb d (64 * k) g) refl
-]
+word_apart k d a b = grind (arith, lt-leb, and_false, le-ltb)
 
 pub on_white : (b o : Bool) → o ≡ false → cond b true o ≡ b
-on_white true o e = refl
-on_white false o e = e
+on_white b o e = grind arith
 
 -- no word yet
 pub none_before : (first d : ℕ) (b : Bool) → (ltb d (64 * (first + 0)) && (leb (64 * first) d && b)) ≡ false
-none_before first d b = elim (cases_lt d (64 * first)) [
-  | inl l ↦ rw (lt-leb (64 * first) d l) (and_false _)
-  | inr g ↦ rw (le-ltb d (64 * (first + 0)) (omega arith)) refl
-]
+none_before first d b = grind (arith, lt-leb, and_false, le-ltb)
 
 -- what stands on a row that was white
 pub row_made : (ink : ℕ → Bool) (x : ℕ) (row : List ℕ) → Painted Black ink (replicate 72 0) row → x < 576 → dot row x ≡ ink x
@@ -52,10 +38,7 @@ row_made ink x row p l = p.dots_are x (omega (arith, length-replicate {A = ℕ} 
 
 -- a word moved to the right
 pub moved_right : (word s x : ℕ) → word < 2 ^ 64 → x < 64 → word_dot (word / 2 ^ s) x ≡ (leb s x && word_dot word (x - s))
-moved_right word s x fits h = rw (lt-ltb x 64 h) (word_shr word s x fits h ∙ (elim (cases_lt x s) [
-  | inl l ↦ rw (lt-leb s x l) refl
-  | inr g ↦ rw (le-leb s x g, lt-ltb (x - s) 64 (omega arith)) (ap (bit word) (omega arith))
-]))
+moved_right word s x fits h = grind (arith, lt-ltb, word_shr, lt-leb, le-leb)
 
 -- the dots of a line that begins behind the place
 pub begun : (line : List ℕ) (word far at x : ℕ) → word < 2 ^ 64 → at < far → x < 64 → ((u : ℕ) → u < 64 → word_dot word u ≡ dot line (0 + u))
@@ -83,110 +66,50 @@ turned_bytes word result x bytes h e r = r ∙ sym (ap (λ t. t && dot bytes (8 
 -- the front of a line
 front : (line : List ℕ) (n u : ℕ) → dot (take n line) u ≡ (ltb u (8 * n) && dot line u)
 unfolding dot
-front line n u = elim (cases_lt (u / 8) n) [
-  | inl l ↦ rw (lt-ltb u (8 * n) (omega arith), get_or-take n line (u / 8) 0 l) refl
-  | inr g ↦ rw (le-ltb u (8 * n) (omega arith)) (dot_past (take n line) u (omega (arith, length-take n line)))
-]
+front line n u = grind (arith, lt-ltb, get_or-take, le-ltb, dot_past, length-take)
 
 -- whole words on whole bytes
 pub whole_right : (line : List ℕ) (begin long x : ℕ) → begin % 8 ≡ 0 → long % 64 ≡ 0
     → (leb (8 * (begin / 8)) x && dot (take (long / 8) line) (x - 8 * (begin / 8))) ≡ (leb begin x && (ltb (x - begin) long && dot line (x - begin)))
-whole_right line begin long x b w =
-    let at : 8 * (begin / 8) ≡ begin = omega arith in
-    let all : 8 * (long / 8) ≡ long = omega arith in
-    rw at (ap (λ t. leb begin x && t) (front line (long / 8) (x - begin) ∙ ap (λ n. ltb (x - begin) n && dot line (x - begin)) all))
+whole_right line begin long x b w = grind (arith, front)
 
 -- a word of a row, counted from the first one that a line reaches
 pub moved_right_word : (begin i x : ℕ) (line : List ℕ) (word : ℕ) → word_dot word x ≡ (leb (begin % 64) (64 * i + x) && dot line (64 * i + x - begin % 64))
     → word_dot word x ≡ (leb (64 * (begin / 64)) (64 * (begin / 64 + i) + x) && (leb begin (64 * (begin / 64 + i) + x) && dot line (64 * (begin / 64 + i) + x - begin)))
-moved_right_word begin i x line word e =
-    let at : 64 * i + x - begin % 64 ≡ 64 * (begin / 64 + i) + x - begin = omega arith in
-    e ∙ rw (le-leb (64 * (begin / 64)) (64 * (begin / 64 + i) + x) (omega arith)) (elim (cases_lt (64 * i + x) (begin % 64)) [
-      | inl l ↦ rw (lt-leb (begin % 64) (64 * i + x) l, lt-leb begin (64 * (begin / 64 + i) + x) (omega arith)) refl
-      | inr g ↦ rw (le-leb (begin % 64) (64 * i + x) g, le-leb begin (64 * (begin / 64 + i) + x) (omega arith)) (ap (dot line) at)
-    ])
+moved_right_word begin i x line word e = grind (arith, le-leb, lt-leb)
 
 pub moved_left_word : (begin end i x : ℕ) (line : List ℕ) (word : ℕ) → begin ≤ end → word_dot word x ≡ (ltb (64 * i + x) (end - 64 * (begin / 64)) && dot line (end - 64 * (begin / 64) - 1 - (64 * i + x)))
     → word_dot word x ≡ (leb (64 * (begin / 64)) (64 * (begin / 64 + i) + x) && (ltb (64 * (begin / 64 + i) + x) end && dot line (end - 1 - (64 * (begin / 64 + i) + x))))
-moved_left_word begin end i x line word h e =
-    let at : end - 64 * (begin / 64) - 1 - (64 * i + x) ≡ end - 1 - (64 * (begin / 64 + i) + x) = omega arith in
-    e ∙ rw (le-leb (64 * (begin / 64)) (64 * (begin / 64 + i) + x) (omega arith)) (elim (cases_lt (64 * i + x) (end - 64 * (begin / 64))) [
-      | inl l ↦ rw (lt-ltb (64 * i + x) (end - 64 * (begin / 64)) l, lt-ltb (64 * (begin / 64 + i) + x) end (omega arith)) (ap (dot line) at)
-      | inr g ↦ rw (le-ltb (64 * i + x) (end - 64 * (begin / 64)) g, le-ltb (64 * (begin / 64 + i) + x) end (omega arith)) refl
-    ])
+moved_left_word begin end i x line word h e = grind (arith, le-leb, lt-ltb, le-ltb)
 
 -- a row clipped where so many dots end, and where they begin
 pub clipped_right : (begin long words k x : ℕ) (b : Bool) → words ≤ 9 → words ≤ k → (words < 9 → begin + long ≤ 64 * words) → (words < 9 → k ≡ words) → x < 576
     → cond (span (begin + long) (64 * words) x) false (ltb x (64 * k) && (leb (64 * (begin / 64)) x && (leb begin x && b))) ≡ (leb begin x && (ltb (x - begin) long && b))
-clipped_right begin long words k x b few more all same h = elim (cases_lt x begin) [
-  | inl l ↦ rw (lt-leb begin x l, lt-leb (begin + long) x (omega arith)) (and_two (ltb x (64 * k)) _)
-  | inr g ↦ rw (le-leb begin x g, le-leb (64 * (begin / 64)) x (omega arith)) (elim (cases_lt x (begin + long)) [
-    | inl l ↦ rw (lt-leb (begin + long) x l, lt-ltb (x - begin) long (omega arith), lt-ltb x (64 * k) (elim (cases_lt words 9) [ inl m ↦ (let a = all m in omega arith) | inr n ↦ omega arith ])) refl
-    | inr o ↦ rw (le-leb (begin + long) x o, le-ltb (x - begin) long (omega arith)) (elim (cases_lt x (64 * words)) [
-      | inl m ↦ rw (lt-ltb x (64 * words) m) refl
-      | inr n ↦ rw (le-ltb x (64 * words) n, le-ltb x (64 * k) (let s : k ≡ words = same (omega arith) in omega arith)) refl
-    ])
-  ])
-]
-  where
-    and_two : (a b : Bool) → (a && (b && false)) ≡ false
-    and_two a b = rw (and_false b) (and_false a)
+clipped_right begin long words k x b few more all same h = grind (arith, lt-leb, le-leb, lt-ltb, le-ltb)
 
 pub whole_left : (line : List ℕ) (begin long x : ℕ) → begin % 8 ≡ 0 → long % 64 ≡ 0 → long / 8 ≤ length line
     → (leb (8 * (begin / 8)) x && (ltb (x - 8 * (begin / 8)) (dots (take (long / 8) line)) && dot (take (long / 8) line) (dots (take (long / 8) line) - 1 - (x - 8 * (begin / 8)))))
     ≡ (ltb x (begin + long) && (ltb (begin + long - 1 - x) long && dot line (begin + long - 1 - x)))
-whole_left line begin long x b w there =
-    let at : 8 * (begin / 8) ≡ begin = omega arith in
-    let all : 8 * length (take (long / 8) line) ≡ long = omega (arith, length-take (long / 8) line) in
-    rw (at, all) (elim (cases_lt x begin) [
-      | inl l ↦ rw (lt-leb begin x l, le-ltb (begin + long - 1 - x) long (omega arith)) (sym (and_false _))
-      | inr g ↦ rw (le-leb begin x g) (elim (cases_lt x (begin + long)) [
-        | inl m ↦
-            let u = begin + long - 1 - x in
-            let same : long - 1 - (x - begin) ≡ u = omega arith in
-            rw (lt-ltb x (begin + long) m, lt-ltb (x - begin) long (omega arith), lt-ltb u long (omega arith))
-            (ap (dot (take (long / 8) line)) same ∙ front line (long / 8) u ∙ ap (λ t. t && dot line u) (lt-ltb u (8 * (long / 8)) (omega arith)))
-        | inr o ↦ rw (le-ltb x (begin + long) o, le-ltb (x - begin) long (omega arith)) refl
-      ])
-    ])
+whole_left line begin long x b w there = grind (arith, length-take, lt-leb, le-ltb, and_false, le-leb, lt-ltb, front)
 
 pub clipped_left : (begin long words k x : ℕ) (b : Bool) → words ≤ k → (words < 9 → begin + long ≤ 64 * words) → x < 576
     → cond (span (64 * (begin / 64)) begin x) false (ltb x (64 * k) && (leb (64 * (begin / 64)) x && (ltb x (begin + long) && b))) ≡ (ltb x (begin + long) && (ltb (begin + long - 1 - x) long && b))
-clipped_left begin long words k x b more all h = elim (cases_lt x begin) [
-  | inl l ↦ rw (le-ltb (begin + long - 1 - x) long (omega arith), and_false (ltb x (begin + long)), lt-ltb x begin l) (elim (cases_lt x (64 * (begin / 64))) [
-    | inl m ↦ rw (lt-leb (64 * (begin / 64)) x m) (and_false _)
-    | inr o ↦ rw (le-leb (64 * (begin / 64)) x o) refl
-  ])
-  | inr g ↦ rw (le-ltb x begin g, and_false (leb (64 * (begin / 64)) x), le-leb (64 * (begin / 64)) x (omega arith)) (elim (cases_lt x (begin + long)) [
-    | inl l ↦ rw (lt-ltb x (begin + long) l, lt-ltb (begin + long - 1 - x) long (omega arith), lt-ltb x (64 * k) (elim (cases_lt words 9) [ inl m ↦ (let a = all m in omega arith) | inr n ↦ omega arith ])) refl
-    | inr o ↦ rw (le-ltb x (begin + long) o) (and_false _)
-  ])
-]
+clipped_left begin long words k x b more all h = grind (arith, le-ltb, and_false, lt-ltb, lt-leb, le-leb)
 
 -- as many rows as there are below a place of the page
 pub as_many : (top i times k : ℕ) (b : Bool) → k < 1664 → i ≡ min times (1664 - top) → (ltb k (top + i) && (leb top k && b)) ≡ (leb top k && (ltb (k - top) times && b))
-as_many top i times k true h e = grind (arith, nat_tests)
-as_many top i times k false h e = grind (arith, nat_tests)
+as_many top i times k b h e = grind (arith, nat_tests)
 
 pub below_top : (top k : ℕ) (a b : Bool) → top ≤ k → a ≡ b → a ≡ (leb top k && b)
 below_top top k a b h e = e ∙ sym (ap (λ t. t && b) (le-leb top k h))
 
 -- a line has no dots past the bytes of its row
 pub reach : (n dx u : ℕ) (row : List ℕ) (b : Bool) → n ≤ dx → (u < dx → u < 8 * length row → u < n) → b ≡ dot row u → (ltb u n && b) ≡ (ltb u dx && dot row u)
-reach n dx u row b few all same = elim (cases_lt u n) [
-  | inl l ↦ rw (lt-ltb u n l, lt-ltb u dx (omega arith)) same
-  | inr g ↦ rw (le-ltb u n g) (elim (cases_lt u dx) [
-    | inl m ↦ sym (ap (λ t. ltb u dx && t) (dot_past row u (elim (cases_lt u (8 * length row)) [ inl k ↦ absurd (let z = all m k in omega arith) | inr o ↦ omega arith ])) ∙ and_false (ltb u dx))
-    | inr o ↦ rw (le-ltb u dx o) refl
-  ])
-]
+reach n dx u row b few all same = grind (arith, lt-ltb, le-ltb, dot_past, and_false)
 
 -- lines that are laid one below the other: none yet
 pub no_lines : (top y : ℕ) (b : Bool) → (ltb y (top + 0) && (leb top y && b)) ≡ false
-no_lines top y b = elim (cases_lt y top) [
-  | inl l ↦ rw (lt-leb top y l) (and_false _)
-  | inr g ↦ rw (le-ltb y (top + 0) (omega arith)) refl
-]
+no_lines top y b = grind (arith, lt-leb, and_false, le-ltb)
 
 -- as many more as are the same
 pub lines_more : (top i t y : ℕ) (ink : ℕ → Bool) → ((j : ℕ) → j < t → ink (i + j) ≡ ink i)
@@ -203,10 +126,7 @@ lines_more top i t y ink same = elim (cases_lt y (top + i)) [
 
 -- lines that are laid one above the other: none yet
 pub none_below : (top n y : ℕ) (b : Bool) → (leb (top + (n - 0)) y && (ltb (y - top) n && b)) ≡ false
-none_below top n y b = elim (cases_lt y (top + (n - 0))) [
-  | inl l ↦ rw (lt-leb (top + (n - 0)) y l) refl
-  | inr g ↦ rw (le-ltb (y - top) n (omega arith)) (and_false _)
-]
+none_below top n y b = grind (arith, lt-leb, le-ltb, and_false)
 
 pub lines_back : (top n i t y : ℕ) (ink : ℕ → Bool) → i + t ≤ n → ((j : ℕ) → j < t → ink (i + j) ≡ ink i)
     → (leb (top + (n - (i + t))) y && (ltb (y - top) n && ink (n - 1 - (y - top))))

@@ -1,13 +1,13 @@
 -- Layers, and what is painted for them.
 use Rattle.std.proofs.Common.{inl, inr, ◌≡◌, ℕ, ◌+◌, ◌-◌, ◌<◌, ◌≤◌, Bool, true, false, not, min, max, cond, ltb, leb, eqb, ◌&&◌, ◌||◌, refl, sym, ap, ◌∙◌, arith, List, [], ◌∷◌, length, get_or}
-use Rattle.std.proofs.lemmas.Bool.{cases_Bool, cases_eq, cases_lt, and_parts, false_from_ne_true, true≢false, le-leb, lt-ltb, leb-true, ltb-true}
+use Rattle.std.proofs.lemmas.Bool.{cases_Bool, cases_lt, and_parts, false_from_ne_true, true≢false, le-leb, lt-ltb, leb-true, ltb-true}
 use Rattle.std.proofs.lemmas.Bool.Decides.{nat_tests}
 use Rattle.vp_page.specs.declared.page.TheConstants.{PAGE_ROWS, PAPER_DOTS}
 use Rattle.vp_dots.specs.Dots.{dot, span}
 use Rattle.vp_dots.specs.Places.{RowsPainted}
 use Rattle.vp_dots.specs.declared.Op.TheVariants.{Black, White}
 use Rattle.vp_page.specs.declared.area.Area.{Area}
-use Rattle.vp_page.specs.Areas.{holds, line_length, depth, along, down}
+use Rattle.vp_page.specs.Areas.{holds, line_length, along, down}
 use Rattle.vp_page.specs.Layers.{Layer, Laid, Wiped, Mark, mark_dot, page_dot, first_rows, lines_mark, times_mark}
 use Rattle.vp_page.specs.Lines.{line_dot}
 use Rattle.vp_page.specs.Runs.{between}
@@ -19,8 +19,7 @@ use Rattle.vp_page.proofs.Squares.{no_line}
 use Rattle.vp_page.proofs.Wiping.{few_black}
 
 black_or : (i o : Bool) → cond i true o ≡ (i || o)
-black_or true o = refl
-black_or false o = refl
+black_or i o = grind arith
 
 module _ (layers : List Layer) (ink : ℕ → ℕ → Bool) (old new : Paged) (page : HasPage layers old) where
   pub laid : (m : Mark) → ((x y : ℕ) → x < PAPER_DOTS → y < PAGE_ROWS → ink x y ≡ mark_dot m x y) → RowsPainted PAGE_ROWS Black ink old.rows new.rows
@@ -75,11 +74,7 @@ pub record TakeAsMuch (before after : List Layer) : Type 0 where
 
 -- layers with the same dots
 pub same_page : (before after : List Layer) (page : Paged) → ((x y : ℕ) → page_dot before x y ≡ page_dot after x y) → TakeAsMuch before after → HasPage before page → HasPage after page
-same_page before after page e t h = record {
-  rows_are = h.rows_are;
-  dots_are = λ x y k l. h.dots_are x y k l ∙ e x y;
-  work = record { laid_is = omega (arith, t.laid, h.work.laid_is); at_most = omega (arith, t.most, h.work.at_most); at_least = omega (arith, t.least, h.work.at_least) };
-}
+same_page before after page e t h = grind arith
 
 -- a mark with no dot that falls on the page
 pub nothing_laid : (m : Mark) (layers : List Layer) (page : Paged) → ((x y : ℕ) → mark_dot m x y ≡ false) → rows_laid m ≡ 0 → HasPage layers page → HasPage (Laid m ∷ layers) page
@@ -90,36 +85,18 @@ no_row h t w b = grind (arith, nat_tests)
 
 one_more : (h r p : Bool) (w top k : ℕ) (f : ℕ → Bool) → (h ≡ true → r ≡ f k)
     → (h && (leb (top + k) w && (eqb (w - (top + k)) 0 && r)) || (h && (leb top w && (ltb (w - top) k && f (w - top))) || p)) ≡ (h && (leb top w && (ltb (w - top) (k + 1) && f (w - top))) || p)
-one_more h r p w top k f e = elim (cases_eq w (top + k)) [
-  | inl y ↦ (let at : f (w - top) ≡ f k = ap f (omega arith) in grind (arith, nat_tests))
-  | inr n ↦ grind (arith, nat_tests)
-]
+one_more h r p w top k f e = grind (arith, nat_tests)
 
 enough : (h : Bool) (w top n long : ℕ) (b : Bool) → (h ≡ true → w < long) → (b ≡ true → top + (w - top) < long → w - top < n) → (h && (leb top w && (ltb (w - top) n && b))) ≡ (h && (leb top w && b))
-enough h w top n long true i e = grind (arith, nat_tests)
-enough h w top n long false i e = grind (arith, nat_tests)
+enough h w top n long b i e = grind (arith, nat_tests)
 
 pub rows_make_an_image : RowsMakeAnImage
-rows_make_an_image = record {
-  none = λ m layers page h. nothing_laid (first_rows 0 m) layers page (λ x y. no_row (holds m.area x y) (leb m.top (down m.area m.direction x y)) (down m.area m.direction x y - m.top) _) (omega arith) h;
-  more = λ m k row layers page e h. same_page _ _ page (λ x y. one_more (holds m.area x y) (row (along m.area m.direction x y)) (page_dot layers x y) (down m.area m.direction x y) m.top k (m.dot (along m.area m.direction x y))
-      (λ t. e (along m.area m.direction x y) (lies m.area m.direction x y (within m.area x y t)).in_line))
-      (record { laid = omega arith; most = refl; least = refl }) h;
-  all = λ m n layers page e r h. same_page _ _ page (λ x y. ap (λ b. b || page_dot layers x y) (enough (holds m.area x y) (down m.area m.direction x y) m.top n (depth m.area m.direction) (m.dot (along m.area m.direction x y) (down m.area m.direction x y - m.top))
-      (λ t. (lies m.area m.direction x y (within m.area x y t)).in_depth) (e (along m.area m.direction x y) (down m.area m.direction x y - m.top)))) (record { laid = omega (arith, r); most = refl; least = refl }) h;
-}
+rows_make_an_image = grind (arith, nat_tests, nothing_laid, no_row, same_page, one_more, lies, within, enough)
 
 more_rows : (h q b p : Bool) (w top k n : ℕ) → n ≤ 192 → (h ≡ true → top + k ≤ w → w - (top + k) < n → q ≡ b) → (n ≤ w - (top + k) → q ≡ false)
     → (h && (leb (top + k) w && (ltb (w - (top + k)) 192 && q)) || (h && (leb top w && (ltb (w - top) k && b)) || p))
     ≡ (h && (leb top w && (ltb (w - top) (k + n) && b)) || p)
-more_rows false q b p w top k n few same none = refl
-more_rows true q b p w top k n few same none = elim (cases_lt w (top + k)) [
-  | inl l ↦ grind (arith, nat_tests)
-  | inr g ↦ elim (cases_lt (w - (top + k)) n) [
-    | inl m ↦ (let e : q ≡ b = same refl g m in grind (arith, nat_tests))
-    | inr o ↦ (let e : q ≡ false = none o in grind (arith, nat_tests))
-  ]
-]
+more_rows h q b p w top k n few same none = grind (arith, nat_tests)
 
 -- lines that are laid at once below the first k rows of a mark
 pub lines_more : (m : Mark) (k n : ℕ) (lines : List (List ℕ)) (layers : List Layer) (page : Paged) → n ≤ 192 → length lines ≡ n
@@ -157,14 +134,7 @@ times_more m k n v row layers page place same has = same_page _ _ page (λ x y.
 
 more_between : (h q b p : Bool) (w top k n : ℕ) → (h ≡ true → top + k ≤ w → w < top + k + n → q ≡ b)
     → (h && (leb (top + k) w && (ltb (w - (top + k)) n && q)) || (h && (leb top w && (ltb (w - top) k && b)) || p)) ≡ (h && (leb top w && (ltb (w - top) (k + n) && b)) || p)
-more_between false q b p w top k n e = refl
-more_between true q b p w top k n e = elim (cases_lt w (top + k)) [
-  | inl l ↦ grind (arith, nat_tests)
-  | inr g ↦ elim (cases_lt w (top + k + n)) [
-    | inl m ↦ (let same : q ≡ b = e refl g m in grind (arith, nat_tests))
-    | inr o ↦ grind (arith, nat_tests)
-  ]
-]
+more_between h q b p w top k n e = grind (arith, nat_tests)
 
 -- ink that is laid between two depths, below the first k rows of a mark
 pub between_more : (m : Mark) (k from to next : ℕ) (ink : ℕ → ℕ → Bool) (layers : List Layer) (page : Paged) → from ≡ m.top + k → next + m.top ≡ to → from ≤ to

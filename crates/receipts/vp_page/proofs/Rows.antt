@@ -1,5 +1,5 @@
 -- Rows of dots.
-use Rattle.std.proofs.Common.{inl, inr, zero, suc, take, ◌⊎◌, ◌≡◌, ℕ, ◌+◌, ◌-◌, ◌*◌, ◌/◌, ◌%◌, ◌<◌, ◌≤◌, Bool, true, false, cond, eqb, ◌&&◌, ◌||◌, ap, ◌∙◌, arith, List, [], ◌∷◌, length, get_or, set, bit_or, ℤ, pos, negsuc, ◌+ℤ◌, refl}
+use Rattle.std.proofs.Common.{inl, inr, zero, suc, take, ◌⊎◌, ◌≡◌, ℕ, ◌+◌, ◌-◌, ◌*◌, ◌/◌, ◌%◌, ◌<◌, ◌≤◌, Bool, true, false, cond, eqb, ◌&&◌, ◌||◌, ap, ◌∙◌, arith, List, ◌∷◌, length, get_or, set, bit_or, ℤ, pos, negsuc, ◌+ℤ◌, refl}
 use Rattle.std.proofs.lemmas.Int.{ints}
 use Rattle.std.proofs.lemmas.List.{get_or_past}
 use Rattle.std.proofs.lemmas.Bool.{cases_lt, le-leb, lt-leb}
@@ -7,7 +7,7 @@ use Rattle.std.proofs.lemmas.Bool.Decides.{nat_tests}
 use Rattle.std.proofs.lemmas.Nat.Bits.{bit_at-zero}
 use Rattle.vp_dots.specs.Dots.{bit, dot, shifted}
 use Rattle.vp_dots.specs.Images.{packed, row_from, row_of}
-use Rattle.vp_dots.specs.Painting.{paint, Painted}
+use Rattle.vp_dots.specs.Painting.{Painted}
 use Rattle.vp_dots.specs.Places.{RowsPainted}
 use Rattle.vp_dots.specs.declared.Op.{Op}
 use Rattle.vp_dots.specs.declared.Op.TheVariants.{Black}
@@ -29,24 +29,14 @@ met (negsuc a) d = inl (d + (a + 1), (omega (arith, ints)), (λ f. refl))
 
 -- the same ink in other words
 pub rows_same : (op : Op) (f g : ℕ → ℕ → Bool) (a b : List (List ℕ)) → ((x k : ℕ) → k < 1664 → f x k ≡ g x k) → RowsPainted 1664 op f a b → RowsPainted 1664 op g a b
-rows_same op f g a b e p = record {
-  rows_are = λ k h. record { length_is = (p.rows_are k h).length_is; dots_are = λ d l. (p.rows_are k h).dots_are d l ∙ ap (λ i. paint op i (dot (get_or a k []) d)) (e d k h) };
-}
+rows_same op f g a b e p = grind arith
 
 black_twice : (i j k old : Bool) → k ≡ (i || j) → cond j true (cond i true old) ≡ cond k true old
-black_twice true true k old e = rw e refl
-black_twice true false k old e = rw e refl
-black_twice false true k old e = rw e refl
-black_twice false false k old e = rw e refl
+black_twice i j k old e = grind arith
 
 -- ink on ink
 pub rows_then : (f g h : ℕ → ℕ → Bool) (a b c : List (List ℕ)) → ((x k : ℕ) → h x k ≡ (f x k || g x k)) → RowsPainted 1664 Black f a b → RowsPainted 1664 Black g b c → RowsPainted 1664 Black h a c
-rows_then f g h a b c e p q = record {
-  rows_are = λ k l. let r = p.rows_are k l in let s = q.rows_are k l in record {
-    length_is = s.length_is ∙ r.length_is;
-    dots_are = λ d m. s.dots_are d (rw r.length_is m) ∙ ap (λ o. paint Black (g d k) o) (r.dots_are d m) ∙ black_twice (f d k) (g d k) (h d k) (dot (get_or a k []) d) (e d k);
-  };
-}
+rows_then f g h a b c e p q = grind (arith, black_twice)
 
 take-row_from : (n m : ℕ) (f : ℕ → Bool) (at : ℕ) → n ≤ m → take n (row_from m f at) ≡ row_from n f at
 take-row_from zero m f at h = refl

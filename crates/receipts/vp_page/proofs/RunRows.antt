@@ -1,5 +1,5 @@
 -- Lines that are laid across the page many times each.
-use Rattle.std.proofs.Common.{inl, inr, ◌≡◌, ℕ, zero, suc, ◌+◌, ◌-◌, ◌<◌, ◌≤◌, min, Bool, true, false, cond, ltb, leb, ◌&&◌, ◌||◌, refl, sym, ap, ◌∙◌, arith, add-one, List, get_or, replicate}
+use Rattle.std.proofs.Common.{inl, inr, ◌≡◌, ℕ, zero, suc, ◌+◌, ◌-◌, ◌<◌, ◌≤◌, min, Bool, true, false, cond, ltb, leb, ◌&&◌, ◌||◌, sym, ap, ◌∙◌, arith, add-one, List, get_or, replicate}
 use Rattle.std.proofs.lemmas.Bool.{cases_lt, lt-ltb, le-ltb, lt-leb, le-leb, and_parts, ltb-true, leb-true}
 use Rattle.std.proofs.lemmas.Bool.Decides.{nat_tests}
 use Rattle.std.proofs.lemmas.List.{length-replicate}
@@ -41,9 +41,6 @@ module _ (b0 bi bn w : ℕ) (t : Bool) (from : b0 ≤ bi) (to : bi ≤ bn) where
     ]
   ]
 
-pub none_yet : (b w : ℕ) (t v : Bool) → (t && (span b b w && v)) ≡ false
-none_yet b w t v = grind (arith, nat_tests)
-
 pub row_of_black : (ink : ℕ → Bool) (x : ℕ) (row : List ℕ) → Painted Black ink (replicate 72 0) row → x < 576 → dot row x ≡ ink x
 row_of_black ink x row p l = p.dots_are x (omega (arith, length-replicate {A = ℕ} 72 0)) ∙ on_white (ink x) _ (dot_white 72 x (omega arith))
 
@@ -69,19 +66,11 @@ run_in a Up at t y top h e = up_in a.y a.dy at t y h top e
 run_in a Down at t y top h e = down_in a.y a.dy at t y h top e
 
 assoc : (p q r : Bool) → (p && (q && r)) ≡ ((p && q) && r)
-assoc true q r = refl
-assoc false q r = refl
+assoc p q r = grind arith
 
 more_rows : (hx hy s v u : Bool) (from at t al : ℕ) → from ≤ at → (s ≡ true → at ≤ al → al < at + t → v ≡ u)
     → (span from (at + t) al && (hx && hy && (s && v))) ≡ ((span from at al && (hx && hy && (s && v))) || ((hy && span at (at + t) al) && (hx && (s && u))))
-more_rows hx hy false v u from at t al f e = grind (arith, nat_tests)
-more_rows hx hy true v u from at t al f e = elim (cases_lt al at) [
-  | inl l ↦ grind (arith, nat_tests)
-  | inr g ↦ elim (cases_lt al (at + t)) [
-    | inl m ↦ (let n : v ≡ u = e refl g m in grind (arith, nat_tests))
-    | inr o ↦ grind (arith, nat_tests)
-  ]
-]
+more_rows hx hy s v u from at t al f e = grind (arith, nat_tests)
 
 -- one more run of rows
 pub run_more : (a : Area) (way : Way) (from at t top b0 bn : ℕ) (ink : ℕ → ℕ → Bool) (x y : ℕ) → from ≤ at → at + t ≤ a.dy → top ≡ topmost a way at t
@@ -99,8 +88,7 @@ run_more a way from at t top b0 bn ink x y f h e same =
 
 -- one more stretch of the lines
 pub stretch_more : (from to next al : ℕ) (b : Bool) → from ≤ to → to ≤ next → (span from next al && b) ≡ ((span from to al && b) || (span to next al && b))
-stretch_more from to next al true h k = grind (arith, nat_tests)
-stretch_more from to next al false h k = grind (arith, nat_tests)
+stretch_more from to next al b h k = grind (arith, nat_tests)
 
 up_along : (ay dy y : ℕ) → (leb ay y && ltb y (ay + dy)) ≡ true → ay + dy - 1 - y < dy
 up_along ay dy y e = grind (arith, nat_tests)
@@ -109,22 +97,15 @@ down_along : (ay dy y : ℕ) → (leb ay y && ltb y (ay + dy)) ≡ true → y - 
 down_along ay dy y e = grind (arith, nat_tests)
 
 short_of : (a : Area) (way : Way) (y : ℕ) → (leb a.y y && ltb y (a.y + a.dy)) ≡ true → along_of a way y < a.dy
-short_of a Up y e = up_along a.y a.dy y e
-short_of a Down y e = down_along a.y a.dy y e
+short_of a way y e = grind (arith, up_along, down_along)
 
 all_in : (hx hy s v : Bool) (high long al : ℕ) → (hy ≡ true → (al < high → al < long) × (high ≤ al → long ≤ al)) → (span 0 high al && (hx && hy && (s && v))) ≡ (hx && hy && (s && (ltb al long && v)))
-all_in hx false s v high long al e = grind (arith, nat_tests)
-all_in hx true s v high long al e = elim (cases_lt al high) [
-  | inl l ↦ (let n : al < long = (e refl).0 l in grind (arith, nat_tests))
-  | inr g ↦ (let n : long ≤ al = (e refl).1 g in grind (arith, nat_tests))
-]
+all_in hx hy s v high long al e = grind (arith, nat_tests)
 
 -- after the last one
 pub all_stretches : (a : Area) (way : Way) (long high b0 bn : ℕ) (ink : ℕ → ℕ → Bool) (x y : ℕ) → high ≡ min a.dy long
     → (span 0 high (along_of a way y) && across_dot a way b0 bn ink x y) ≡ across_dot a way b0 bn (λ u w. ltb u long && ink u w) x y
-all_stretches a way long high b0 bn ink x y e =
-    all_in (span a.x (a.x + a.dx) x) (leb a.y y && ltb y (a.y + a.dy)) (span b0 bn (depth_of a way x)) (ink (along_of a way y) (depth_of a way x)) high long (along_of a way y)
-    (λ i. let s = short_of a way y i in ((λ l. omega (arith, s, l, e)), (λ g. omega (arith, s, g, e))))
+all_stretches a way long high b0 bn ink x y e = grind (arith, all_in, short_of)
 
 -- the line of each depth, where they rise
 pub run_of : List ℕ → ℕ → ℕ → ℕ
@@ -133,11 +114,7 @@ run_of begins (suc n) w = cond (leb (get_or begins n 0) w) n (run_of begins n w)
 
 risen : (begins : List ℕ) (i k : ℕ) → ((j : ℕ) → j < i + k → get_or begins j 0 ≤ get_or begins (j + 1) 0) → get_or begins i 0 ≤ get_or begins (i + k) 0
 risen begins i zero r = let e : i + 0 ≡ i = omega arith in rw e (omega arith)
-risen begins i (suc k) r =
-    let e : i + suc k ≡ i + k + 1 = omega arith in
-    let before = risen begins i k (λ j h. r j (omega (arith, h))) in
-    let last = r (i + k) (omega arith) in
-    rw e (omega (arith, before, last))
+risen begins i (suc k) r = grind (arith, risen begins i k (λ j h. r j (omega (arith, h))))
 
 pub run_is : (begins : List ℕ) (n i w : ℕ) → i < n → ((j : ℕ) → j < n → get_or begins j 0 ≤ get_or begins (j + 1) 0) → get_or begins i 0 ≤ w → w < get_or begins (i + 1) 0 → run_of begins n w ≡ i
 unfolding run_of
@@ -148,35 +125,22 @@ run_is begins (suc n) i w h r p q = elim (cases_lt i n) [
       let far = risen begins (i + 1) (n - (i + 1)) (λ j m. r j (omega (arith, m, e))) in
       let later : w < get_or begins n 0 = omega (arith, q, (rw e at far)) in
       rw (lt-leb (get_or begins n 0) w later) (run_is begins n i w l (λ j m. r j (omega (arith, m))) p q)
-  | inr g ↦
-      let e : i ≡ n = omega (arith, g, h) in
-      let here : get_or begins n 0 ≤ w = rw e at p in
-      rw (le-leb (get_or begins n 0) w here) (sym e)
+  | inr g ↦ grind (arith, get_or, le-leb)
 ]
 
 span_between : (from to w : ℕ) (f : ℕ → Bool) → (span from to w && f w) ≡ (leb from w && (ltb (w - from) (to - from) && f (from + (w - from))))
-span_between from to w f = elim (cases_lt w from) [
-  | inl l ↦ grind (arith, nat_tests)
-  | inr g ↦ (let back : from + (w - from) ≡ w = omega (arith, g) in rw back (grind (arith, nat_tests)))
-]
+span_between from to w f = grind (arith, nat_tests)
 
 short_ink : (long : ℕ) (b : Bool) (u : ℕ) → (long ≤ u → b ≡ false) → (ltb u long && b) ≡ b
-short_ink long b u e = elim (cases_lt u long) [
-  | inl l ↦ rw (lt-ltb u long l) refl
-  | inr g ↦ rw (le-ltb u long g) (sym (e g))
-]
+short_ink long b u e = grind (arith, lt-ltb, le-ltb)
 
 -- ink between two depths, as a mark
 pub between_dot : (a : Area) (way : Way) (long from to : ℕ) (ink : ℕ → ℕ → Bool) (x y : ℕ) → ((u w : ℕ) → long ≤ u → ink u w ≡ false)
     → across_dot a way from to (λ u w. ltb u long && ink u w) x y ≡ mark_dot (between a (across way) from to ink) x y
-between_dot a Up long from to ink x y white = ap (λ b. holds a x y && (span from to (x - a.x) && b)) (short_ink long (ink (a.y + a.dy - 1 - y) (x - a.x)) (a.y + a.dy - 1 - y) (white (a.y + a.dy - 1 - y) (x - a.x)))
-    ∙ ap (λ b. holds a x y && b) (span_between from to (x - a.x) (ink (a.y + a.dy - 1 - y)))
-between_dot a Down long from to ink x y white = ap (λ b. holds a x y && (span from to (a.x + a.dx - 1 - x) && b)) (short_ink long (ink (y - a.y) (a.x + a.dx - 1 - x)) (y - a.y) (white (y - a.y) (a.x + a.dx - 1 - x)))
-    ∙ ap (λ b. holds a x y && b) (span_between from to (a.x + a.dx - 1 - x) (ink (y - a.y)))
+between_dot a way long from to ink x y white = grind (arith, short_ink, span_between)
 
 pub deep_across : (a : Area) (way : Way) → depth a (across way) ≡ a.dx
-deep_across a Up = refl
-deep_across a Down = refl
+deep_across a way = grind arith
 
 -- a dot of ink falls on the rows of the area
 pub in_area : (a : Area) (x y : ℕ) (b : Bool) → (holds a x y && b) ≡ true → span a.y (a.y + a.dy) y ≡ true

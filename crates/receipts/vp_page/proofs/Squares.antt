@@ -1,8 +1,8 @@
 -- Squares laid across the page.
-use Rattle.std.proofs.Common.{inl, inr, eqb, ◌≡◌, ℕ, ◌+◌, ◌-◌, ◌<◌, ◌≤◌, Bool, true, false, ltb, leb, ◌&&◌, ◌||◌, refl, sym, ap, ◌∙◌, arith, List, [], length, get_or, take, drop, reverse, replicate, ℤ, pos, ◌+ℤ◌}
+use Rattle.std.proofs.Common.{◌≡◌, ℕ, ◌+◌, ◌-◌, ◌<◌, ◌≤◌, Bool, false, ltb, leb, ◌&&◌, ap, ◌∙◌, arith, List, [], length, get_or, take, drop, reverse, replicate, ℤ, pos, ◌+ℤ◌}
 use Rattle.std.proofs.lemmas.Int.{ints}
 use Rattle.std.proofs.lemmas.List.{get_or_past, get_or-replicate, get_or-reverse, get_or-drop, get_or-take}
-use Rattle.std.proofs.lemmas.Bool.{cases_lt, lt-ltb, le-ltb}
+use Rattle.std.proofs.lemmas.Bool.{lt-ltb, le-ltb}
 use Rattle.std.proofs.lemmas.Nat.Bits.{bit_at-zero}
 use Rattle.vp_dots.specs.Dots.{bit, shifted}
 use Rattle.vp_dots.specs.Words.{word_dot}
@@ -12,20 +12,12 @@ use Rattle.vp_dots.proofs.Paints.{painted_none}
 use Rattle.vp_page.specs.Lines.{line_dot}
 use Rattle.vp_page.proofs.Rows.{dot_past, met}
 
-or_false : (b : Bool) → b ≡ (b || false)
-or_false true = refl
-or_false false = refl
-
 pub and_false : (b : Bool) → (b && false) ≡ false
-and_false true = refl
-and_false false = refl
+and_false b = grind arith
 
 pub white_word : (x : ℕ) → word_dot 0 x ≡ false
 unfolding bit
-white_word x = elim (cases_lt x 64) [
-  | inl l ↦ rw (lt-ltb x 64 l) (ap (λ b. eqb b 1) (bit_at-zero (63 - x)))
-  | inr g ↦ rw (le-ltb x 64 g) refl
-]
+white_word x = grind (arith, lt-ltb, bit_at-zero, le-ltb)
 
 -- white words
 pub white_words : (y x : ℕ) → y < 64 → word_dot (get_or (replicate {A = ℕ} 64 0) y 0) x ≡ false
@@ -37,24 +29,16 @@ no_line lines i u h = rw (get_or_past {X = List ℕ} lines i [] h) (ap (λ b. lt
 
 -- another line than the next one
 pub other_rows : (i k : ℕ) (b : Bool) → (i ≡ k → ⊥) → (ltb i k && b) ≡ (ltb i (k + 1) && b)
-other_rows i k b n = elim (cases_lt i k) [
-  | inl l ↦ rw (lt-ltb i k l, lt-ltb i (k + 1) (omega arith)) refl
-  | inr g ↦ rw (le-ltb i k g, le-ltb i (k + 1) (omega (arith, n))) refl
-]
+other_rows i k b n = grind (arith, lt-ltb, le-ltb)
 
 -- all lines
 pub all_rows : (lines : List (List ℕ)) (i n u : ℕ) → n ≡ length lines → (ltb i n && line_dot lines i u) ≡ line_dot lines i u
-all_rows lines i n u e = elim (cases_lt i n) [
-  | inl l ↦ rw (lt-ltb i n l) refl
-  | inr g ↦ rw (le-ltb i n g) (sym (no_line lines i u (omega arith)))
-]
+all_rows lines i n u e = grind (arith, lt-ltb, le-ltb, no_line)
 
 -- the last words in the other order
 pub last_words : (square words : List ℕ) (n i : ℕ) → words ≡ reverse square → length square ≡ 64 → n ≤ 64 → i < n
     → get_or (take (64 - (64 - n)) (drop (64 - n) words)) i 0 ≡ get_or square (n - 1 - i) 0
-last_words square words n i is whole few h =
-    get_or-take (64 - (64 - n)) (drop (64 - n) words) i 0 (omega arith) ∙ get_or-drop (64 - n) words i 0 ∙ ap (λ (l : List ℕ). get_or l (64 - n + i) 0) is
-    ∙ get_or-reverse square (64 - n + i) 0 (omega arith) ∙ ap (λ j. get_or square j 0) (omega arith)
+last_words square words n i is whole few h = grind (arith, get_or-take, get_or-drop, get_or-reverse)
 
 -- no ink
 pub nothing_painted : (f : ℕ → ℕ → Bool) (a : List (List ℕ)) → ((x y : ℕ) → y < 1664 → f x y ≡ false) → RowsPainted 1664 Black f a a
@@ -64,27 +48,10 @@ nothing_painted f a e = record { rows_are = λ y h. painted_none Black (λ x. f 
 pub down_row : (ink row : ℕ → Bool) (wide right x : ℕ) (at : ℤ) → at +ℤ pos wide ≡ pos right → ((i : ℕ) → wide ≤ i → ink i ≡ false)
     → ((s : ℕ) → s < wide → row s ≡ ink (wide - 1 - s)) → ((s : ℕ) → wide ≤ s → row s ≡ false)
     → (ltb x right && ink (right - 1 - x)) ≡ shifted at row x
-down_row ink row wide right x at e none same past = elim (met at x) [
-  | inl p ↦ (let s = p.0 in let meets = p.1 in elim (cases_lt s wide) [
-    | inl l ↦
-        let place : right - 1 - x ≡ wide - 1 - s = omega (arith, ints) in
-        rw (lt-ltb x right (omega (arith, ints)), place) (sym (p.2 row ∙ same s l))
-    | inr g ↦ rw (le-ltb x right (omega (arith, ints))) (sym (p.2 row ∙ past s g))
-  ])
-  | inr q ↦ (elim (cases_lt x right) [
-    | inl l ↦ (elim (cases_lt (right - 1 - x) wide) [
-      | inl b ↦ absurd (q.0 (x + wide - right) (omega (arith, ints)))
-      | inr g ↦ rw (lt-ltb x right l, none (right - 1 - x) g) (sym (q.1 row))
-    ])
-    | inr g ↦ rw (le-ltb x right g) (sym (q.1 row))
-  ])
-]
+down_row ink row wide right x at e none same past = grind (arith, met, ints, lt-ltb, le-ltb)
 
 -- and of which the first line is on the left
 pub up_row : (ink row : ℕ → Bool) (wide left x : ℕ) (at : ℤ) → at ≡ pos left → ((i : ℕ) → wide ≤ i → ink i ≡ false)
     → ((s : ℕ) → s < wide → row s ≡ ink s) → ((s : ℕ) → wide ≤ s → row s ≡ false)
     → (leb left x && ink (x - left)) ≡ shifted at row x
-up_row ink row wide left x at e none same past = rw e (ap (λ b. leb left x && b) (elim (cases_lt (x - left) wide) [
-  | inl l ↦ sym (same (x - left) l)
-  | inr g ↦ none (x - left) g ∙ sym (past (x - left) g)
-]))
+up_row ink row wide left x at e none same past = grind arith

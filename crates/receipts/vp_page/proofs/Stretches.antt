@@ -1,5 +1,5 @@
 -- Lines laid in groups, and lines that are alike along some dots.
-use Rattle.std.proofs.Common.{inl, inr, min, ◌≡◌, ℕ, ◌+◌, ◌-◌, ◌<◌, ◌≤◌, Bool, true, false, ltb, leb, ◌&&◌, ◌||◌, refl, sym, ap, ◌∙◌, arith, List, [], length, take, drop}
+use Rattle.std.proofs.Common.{inl, inr, min, ◌≡◌, ℕ, ◌+◌, ◌-◌, ◌<◌, ◌≤◌, Bool, true, false, ltb, leb, ◌&&◌, ◌||◌, refl, arith, List, length, take, drop}
 use Rattle.std.proofs.lemmas.List.{get_or-drop, get_or-take, length-take}
 use Rattle.std.proofs.lemmas.Bool.{cases_lt, lt-ltb, le-ltb, lt-leb, le-leb, true≢false}
 use Rattle.vp_dots.specs.Dots.{dot}
@@ -8,21 +8,14 @@ use Rattle.vp_page.proofs.Rows.{dot_past}
 use Rattle.vp_page.proofs.Squares.{and_false, no_line}
 
 or_false : (b : Bool) → b ≡ (b || false)
-or_false true = refl
-or_false false = refl
+or_false b = grind arith
 
 pub narrow : (row : List ℕ) (x : ℕ) → length row ≡ 72 → dot row x ≡ true → x < 576
-narrow row x n e = elim (cases_lt x 576) [
-  | inl l ↦ l
-  | inr g ↦ absurd (true≢false (sym e ∙ dot_past row x (omega arith)))
-]
+narrow row x n e = grind (arith, true≢false, dot_past)
 
 -- some of the lines
 these_dot : (lines : List (List ℕ)) (n m i u : ℕ) → line_dot (take n (drop m lines)) i u ≡ (ltb i n && line_dot lines (m + i) u)
-these_dot lines n m i u = elim (cases_lt i n) [
-  | inl l ↦ rw (lt-ltb i n l) (ap (λ (line : List ℕ). ltb u 1664 && dot line u) (get_or-take n (drop m lines) i [] l ∙ get_or-drop m lines i []))
-  | inr g ↦ rw (le-ltb i n g) (no_line (take n (drop m lines)) i u (omega (arith, length-take n (drop m lines))))
-]
+these_dot lines n m i u = grind (arith, lt-ltb, get_or-take, get_or-drop, le-ltb, no_line, length-take)
 
 module _ (lines : List (List ℕ)) (a n u x : ℕ) (inside : a < length lines) (some : n ≡ min (length lines) (a + 64) - a) where
   -- a group of lines on the right of those before it
@@ -46,23 +39,15 @@ module _ (lines : List (List ℕ)) (a n u x : ℕ) (inside : a < length lines) (
 
 -- the same rows, of one more group
 pub more_in : (p q a b c : Bool) → a ≡ (b || c) → (p && (q && a)) ≡ ((p && (q && b)) || (p && (q && c)))
-more_in true true a b c e = e
-more_in true false a b c e = refl
-more_in false q a b c e = refl
+more_in p q a b c e = grind arith
 
 -- all groups
 pub groups_right : (lines : List (List ℕ)) (left x n u : ℕ) → length lines ≤ n → (leb left x && (ltb (x - left) n && line_dot lines (x - left) u)) ≡ (leb left x && line_dot lines (x - left) u)
-groups_right lines left x n u h = ap (λ b. leb left x && b) (elim (cases_lt (x - left) n) [
-  | inl m ↦ rw (lt-ltb (x - left) n m) refl
-  | inr m ↦ rw (le-ltb (x - left) n m) (sym (no_line lines (x - left) u (omega arith)))
-])
+groups_right lines left x n u h = grind (arith, lt-ltb, le-ltb, no_line)
 
 -- a line that is alike along some dots
 pub same_column : (lines : List (List ℕ)) (i u at : ℕ) → (i < length lines → line_dot lines i u ≡ line_dot lines i at) → line_dot lines i at ≡ line_dot lines i u
-same_column lines i u at same = elim (cases_lt i (length lines)) [
-  | inl l ↦ sym (same l)
-  | inr g ↦ no_line lines i at g ∙ sym (no_line lines i u g)
-]
+same_column lines i u at same = grind (arith, no_line)
 
 -- no group yet
 pub no_group : (p q d n b : Bool) → n ≡ false → (p && (q && (d && (n && b)))) ≡ false

@@ -1,5 +1,5 @@
 -- What is known to be white.
-use Rattle.std.proofs.Common.{inl, inr, ◌≡◌, ℕ, ◌+◌, ◌<◌, ◌≤◌, Bool, true, false, cond, ltb, leb, ◌&&◌, refl, sym, ap, ◌∙◌, arith, List, [], length, get_or, replicate, if◌then◌else◌}
+use Rattle.std.proofs.Common.{inl, inr, ◌≡◌, ℕ, ◌+◌, ◌<◌, ◌≤◌, Bool, true, false, ltb, leb, ◌&&◌, refl, ap, ◌∙◌, arith, List, [], length, get_or, replicate, if◌then◌else◌}
 use Rattle.std.proofs.lemmas.Bool.{cases_lt, lt-leb, le-ltb, true≢false, false_from_ne_true}
 use Rattle.std.proofs.lemmas.List.{length-replicate}
 use Rattle.vp_dots.specs.Dots.{dot, span}
@@ -13,8 +13,7 @@ use Rattle.vp_page.specs.Pages.{HasPage, IsWhiteBut, Paged}
 use Rattle.vp_page.proofs.Blank.{dot_white}
 
 pub and_no : (b : Bool) → (b && false) ≡ false
-and_no true = refl
-and_no false = refl
+and_no b = grind arith
 
 module _ (a : Area) (from to x k : ℕ) where
   -- above the rows that are wiped
@@ -41,14 +40,7 @@ module _ (a : Area) (from to x k : ℕ) where
 pub laid_on : (area : Area) (was is : Rows) (ink : ℕ → ℕ → Bool) (old new : List (List ℕ)) → IsWhiteBut area was old → RowsPainted PAGE_ROWS Black ink old new
     → is.to ≤ PAGE_ROWS → ((y : ℕ) → span was.from was.to y ≡ true → span is.from is.to y ≡ true)
     → ((x y : ℕ) → y < PAGE_ROWS → ink x y ≡ true → span is.from is.to y ≡ true) → IsWhiteBut area is new
-laid_on area was is ink old new w p few these others = record {
-  within = few;
-  rows_are = λ y h. (p.rows_are y h).length_is ∙ w.rows_are y h;
-  white = λ x y k h t f.
-      let none : ink x y ≡ false = false_from_ne_true _ (λ e. true≢false (sym (others x y h e) ∙ f)) in
-      let before : span was.from was.to y ≡ false = false_from_ne_true _ (λ e. true≢false (sym (these y e) ∙ f)) in
-      (p.rows_are y h).dots_are x (let n = w.rows_are y h in omega arith) ∙ ap (λ i. cond i true (dot (get_or old y []) x)) none ∙ w.white x y k h t before;
-}
+laid_on area was is ink old new w p few these others = grind (arith, false_from_ne_true, true≢false)
 
 -- a white page
 pub all_white : (area : Area) (rows : Rows) (page : Paged) → rows.to ≤ PAGE_ROWS → HasPage [] page → IsWhiteBut area rows page.rows

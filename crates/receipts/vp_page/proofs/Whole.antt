@@ -1,6 +1,6 @@
 -- Rows on whole words of the page, as a mark.
-use Rattle.std.proofs.Common.{inl, inr, ◌≡◌, ℕ, ◌+◌, ◌-◌, ◌*◌, ◌/◌, ◌<◌, ◌≤◌, Bool, true, false, min, ltb, leb, ◌&&◌, refl, sym, ap, ◌∙◌, arith, List, length, get_or, set, drop, []}
-use Rattle.std.proofs.lemmas.Bool.{cases_lt, le-leb, leb-true, ltb-true, true≢false}
+use Rattle.std.proofs.Common.{◌≡◌, ℕ, ◌+◌, ◌-◌, ◌*◌, ◌/◌, ◌<◌, ◌≤◌, Bool, true, false, min, ltb, leb, ◌&&◌, refl, sym, ap, ◌∙◌, arith, List, length, get_or, set, []}
+use Rattle.std.proofs.lemmas.Bool.{le-leb, leb-true, ltb-true, true≢false}
 use Rattle.std.proofs.lemmas.Bool.Decides.{nat_tests}
 use Rattle.std.proofs.lemmas.List.{length-take}
 use Rattle.vp_dots.specs.Dots.{dot, dots}
@@ -16,18 +16,11 @@ use Rattle.vp_page.specs.declared.area.Direction.TheVariants.{LeftToRight, Right
 use Rattle.vp_page.proofs.Rows.{dot_past, rows_same}
 
 inside_same : (p q r s b c : Bool) → (p ≡ true → q ≡ true → r ≡ true → s ≡ true → b ≡ c) → (p && (q && (r && (s && b)))) ≡ (p && (q && (r && (s && c))))
-inside_same true true true true b c e = e refl refl refl refl
-inside_same true true true false b c e = refl
-inside_same true true false s b c e = refl
-inside_same true false r s b c e = refl
-inside_same false q r s b c e = refl
+inside_same p q r s b c e = grind arith
 
 -- a row has no dot past its bytes
 short_row : (bytes : List ℕ) (wide i u : ℕ) → dot (row_in bytes wide i) u ≡ true → u < 8 * wide
-short_row bytes wide i u e = elim (cases_lt u (8 * wide)) [
-  | inl l ↦ l
-  | inr g ↦ absurd (true≢false (sym e ∙ dot_past (row_in bytes wide i) u (omega (arith, length-take wide (drop (i * wide) bytes)))))
-]
+short_row bytes wide i u e = grind (arith, true≢false, dot_past, length-take)
 
 module _ (bytes line : List ℕ) (wide rows q top i : ℕ) (a b : List (List ℕ)) (row : List ℕ) where
   abbrev back : ℕ → ℕ → Bool
@@ -60,11 +53,7 @@ module _ (ax ay dx dy v wide rows shown x y : ℕ) where
 -- rows that run to the right
 pub whole_right : (a : Area) (v wide rows shown q : ℕ) (bytes : List ℕ) → AreWhole a a.x wide → v < a.dy → shown ≡ min rows (a.dy - v) → q ≡ a.x / 8 → (x y : ℕ)
     → (leb (a.y + v) y && (ltb (y - (a.y + v)) shown && (leb (8 * q) x && dot (row_in bytes wide (y - (a.y + v))) (x - 8 * q)))) ≡ mark_dot (rows_mark a LeftToRight v wide rows bytes) x y
-whole_right a v wide rows shown q bytes fit h s e x y =
-    let at : 8 * q ≡ a.x = omega (arith, fit.begins) in
-    let down : y - (a.y + v) ≡ y - a.y - v = omega arith in
-    rw (at, down) (sym (ap (λ n. leb (a.y + v) y && (ltb n shown && (leb a.x x && dot (row_in bytes wide (y - a.y - v)) (x - a.x)))) down)
-    ∙ right_in a.x a.y a.dx a.dy v wide rows shown x y (dot (row_in bytes wide (y - a.y - v)) (x - a.x)) h s fit.short (short_row bytes wide (y - a.y - v) (x - a.x)))
+whole_right a v wide rows shown q bytes fit h s e x y = grind (arith, nat_tests, short_row)
 
 -- rows that run to the left
 pub whole_left : (a : Area) (v wide rows shown q top : ℕ) (bytes : List ℕ) → AreWhole a (a.x + a.dx) wide → v < a.dy → shown ≡ min rows (a.dy - v) → q ≡ (a.x + a.dx) / 8 - wide

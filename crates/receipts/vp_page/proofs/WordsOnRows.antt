@@ -39,13 +39,7 @@ last_eight word at far d fits from h = elim (cases_lt d at) [
 
 -- a word that begins before a row
 pub first_eight : (word far d : ℕ) → (leb 0 d && word_dot (word * 2 ^ far % 2 ^ 64) (d - 0)) ≡ word_dot word (d + far)
-first_eight word far d = rw (le-leb 0 d (omega arith), (let e : d - 0 ≡ d = omega arith in e)) (elim (cases_lt d 64) [
-  | inl l ↦ rw (lt-ltb d 64 l) (bit_low64 (word * 2 ^ far) (63 - d) (omega arith) ∙ bit_shl word far (63 - d) ∙ elim (cases_lt (d + far) 64) [
-    | inl m ↦ rw (le-leb far (63 - d) (omega arith), lt-ltb (d + far) 64 m) (ap (bit word) (omega arith))
-    | inr g ↦ rw (lt-leb far (63 - d) (omega arith), le-ltb (d + far) 64 g) refl
-  ])
-  | inr g ↦ rw (le-ltb d 64 g, le-ltb (d + far) 64 (omega arith)) refl
-])
+first_eight word far d = grind (arith, le-leb, lt-ltb, bit_low64, bit_shl, lt-leb, le-ltb)
 
 -- half a word, from one of its dots on
 pub half_dot : (word mask skip x : ℕ) → ((d : ℕ) → word_dot mask d ≡ ltb d 32) → word_dot (bit_and (word * 2 ^ skip % 2 ^ 64) mask) x ≡ (ltb x 32 && word_dot word (x + skip))
@@ -89,12 +83,7 @@ module _ (line : List ℕ) (j i : ℕ) (row : List ℕ) (there : j + 8 ≤ lengt
 
 -- the bytes of a word, eight of a row
 pub word_bytes : (word x : ℕ) (bytes : List ℕ) → bytes ≡ to_be_bytes w64 word → (ltb x 64 && dot bytes (8 * 0 + x)) ≡ word_dot word x
-word_bytes word x bytes e = ap (λ b. ltb x 64 && dot b (8 * 0 + x)) e ∙ ap (λ n. ltb x 64 && dot (to_be_bytes w64 word) n) (let z : 8 * 0 + x ≡ x = omega arith in z)
-    ∙ ap (λ b. ltb x 64 && b) (word_row word x) ∙ twice (ltb x 64) (bit word (63 - x))
-  where
-    twice : (a b : Bool) → (a && (a && b)) ≡ (a && b)
-    twice true b = refl
-    twice false b = refl
+word_bytes word x bytes e = grind (arith, word_row)
 
 module _ (line : List ℕ) (q k d : ℕ) where
   -- eight more bytes of a line
@@ -118,10 +107,7 @@ module _ (line : List ℕ) (q k d : ℕ) where
 
 -- a word behind the ones before it
 pub words_apart : (q k d : ℕ) (m b : Bool) → (ltb d (8 * q + 64 * k) && m && (leb (8 * (q + 8 * k)) d && b)) ≡ false
-words_apart q k d m b = elim (cases_lt d (8 * q + 64 * k)) [
-  | inl l ↦ rw (lt-leb (8 * (q + 8 * k)) d (omega arith)) (and_false _)
-  | inr g ↦ rw (le-ltb d (8 * q + 64 * k) g) refl
-]
+words_apart q k d m b = grind (arith, lt-leb, and_false, le-ltb)
 
 module _ (line lanes : List ℕ) (j i : ℕ) (row : List ℕ) (there : j + 16 ≤ length line) (room : i + 16 ≤ length row) (sixteen : length lanes ≡ 16)
     (turned : (n k : ℕ) → n < 16 → k < 8 → bit (get_or lanes n 0) k ≡ bit (get_or line (j + (15 - n)) 0) (7 - k)) where
@@ -198,13 +184,11 @@ module _ (line : List ℕ) (i : ℕ) (row : List ℕ) (there : i + 16 ≤ length
 
 -- sixteen more bytes
 pub sixteen_more : (i k d : ℕ) (b : Bool) → (span i (i + 16 * (k + 1)) (d / 8) && b) ≡ ((span i (i + 16 * k) (d / 8) && b) || (span (i + 16 * k) (i + 16 * k + 16) (d / 8) && b))
-sixteen_more i k d true = grind (arith, nat_tests)
-sixteen_more i k d false = grind (arith, nat_tests)
+sixteen_more i k d b = grind (arith, nat_tests)
 
 -- behind the ones before them
 pub sixteen_apart : (i k d : ℕ) (b : Bool) → ((span i (i + 16 * k) (d / 8) && b) && (span (i + 16 * k) (i + 16 * k + 16) (d / 8) && b)) ≡ false
-sixteen_apart i k d true = grind (arith, nat_tests)
-sixteen_apart i k d false = grind (arith, nat_tests)
+sixteen_apart i k d b = grind (arith, nat_tests)
 
 pub no_sixteen : (i d : ℕ) (b : Bool) → (span i (i + 16 * 0) (d / 8) && b) ≡ false
 no_sixteen i d b = grind (arith, nat_tests)
@@ -212,8 +196,7 @@ no_sixteen i d b = grind (arith, nat_tests)
 -- a dot that is black among those bytes alone
 pub among : (first bytes at n x top y : ℕ) (b c : Bool) → bytes ≤ 16 * n → at ≡ min first (72 - 16 * n) → n ≡ 2 → x < 576 → (b ≡ true → span first (first + bytes) (x / 8) ≡ true) → b ≡ c → top ≤ y
     → (span at (at + 16 * n) (x / 8) && b) ≡ (leb top y && c)
-among first bytes at n x top y true c e a few h s t l = let i = s refl in grind (arith, nat_tests, t)
-among first bytes at n x top y false c e a few h s t l = grind (arith, nat_tests, t)
+among first bytes at n x top y b c e a few h s t l = grind (arith, nat_tests)
 
 -- the rows from one on
 pub rows_in : (top i h k : ℕ) (b : Bool) → i ≡ h → (ltb k (top + i) && (leb top k && b)) ≡ (leb top k && (ltb (k - top) h && b))

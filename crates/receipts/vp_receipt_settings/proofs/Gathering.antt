@@ -40,9 +40,4 @@ fronts came bytes new got a n from many e now size =
 
 pub kept_run : (row came bytes new : List ℕ) (got a n j : ℕ) → length row ≡ LINE_BYTES → a ≡ min got LINE_BYTES → n ≡ min (length bytes) (LINE_BYTES - a) → new ≡ take n bytes → got ≡ length came → take (min got LINE_BYTES) row ≡ take LINE_BYTES came
     → take (min (got + length bytes) LINE_BYTES) (put_mid a j row new) ≡ take LINE_BYTES (came ++ bytes)
-kept_run row came bytes new got a n j l from many now e k =
-    let size : length new ≡ n = ap length now ∙ length-take-le n bytes (omega arith) in
-    let end : min (got + length bytes) LINE_BYTES ≡ a + length new = omega arith in
-    take-put_mid a j row new (min (got + length bytes) LINE_BYTES) end (omega arith)
-    ∙ ap (λ x. x ++ new) (ap (λ m. take m row) from ∙ k)
-    ∙ fronts came bytes new got a n from many e now size
+kept_run row came bytes new got a n j l from many now e k = grind (arith, length-take-le, take-put_mid, fronts)

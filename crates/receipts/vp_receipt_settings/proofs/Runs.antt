@@ -1,5 +1,5 @@
 -- Bytes of a raster that don't end its row, one after another.
-use Rattle.std.proofs.Common.{◌≡◌, ℕ, ◌+◌, ◌-◌, ◌<◌, ◌≤◌, eqb, true, false, Bool, cond, List, [], ◌∷◌, ◌++◌, length, map, reverse, take, min, refl, sym, ap, ◌∙◌, append_assoc, arith, length-append}
+use Rattle.std.proofs.Common.{◌≡◌, ℕ, ◌+◌, ◌-◌, ◌<◌, ◌≤◌, eqb, false, Bool, cond, List, [], ◌∷◌, ◌++◌, length, map, reverse, take, min, refl, sym, ap, ◌∙◌, append_assoc, arith, length-append}
 use Rattle.std.proofs.lemmas.Bool.Decides.{nat_tests}
 use Rattle.std.proofs.lemmas.List.{append-nil, reverse-append}
 use Rattle.vp_esc.specs.declared.item.EscItem.{EscItem}
@@ -60,10 +60,7 @@ pub goes_on : (before : List EscItem) → length (row_so_far before) + 1 < raste
 goes_on before room = grind (arith, nat_tests)
 
 pub inside : (b : ℕ) (before : List EscItem) → 0 < rows_to_come before → length (row_so_far before) + 1 < raster_bytes before → IsInside b before
-inside b before some room =
-    let more : eqb (length (row_so_far before) + 1) (raster_bytes before) ≡ false = goes_on before room in
-    let come : eqb (rows_to_come before) 0 ≡ false = grind (arith, nat_tests) in
-    record { rows = rw more refl; row = rw (more, come) refl }
+inside b before some room = grind (arith, goes_on, nat_tests)
 
 pub lasts : (bytes : List ℕ) (before : List EscItem) → 0 < rows_to_come before → length (row_so_far before) + length bytes < raster_bytes before → Lasts bytes before
 lasts [] before some room = record { scale = refl; width = refl; rows = refl; row = sym (append-nil (row_so_far before)) }
@@ -91,8 +88,7 @@ pub record HasRoom (r : Raster) (n : ℕ) : Type 0 where
   pub less : r.got + n < r.bytes
 
 room_by : (r : Raster) (n : ℕ) (none : Bool) → eqb r.rows 0 ≡ none → 0 < n → n ≤ cond none 0 (r.bytes - r.got - 1) → HasRoom r n
-room_by r n true e some h = absurd (omega arith)
-room_by r n false e some h = record { some = grind (arith, nat_tests); less = omega arith }
+room_by r n none e some h = grind (arith, nat_tests)
 
 pub has_room : (r : Raster) (b : ℕ) (bytes : List ℕ) → length (b ∷ bytes) ≤ room_of r → HasRoom r (length (b ∷ bytes))
 has_room r b bytes h = room_by r (length (b ∷ bytes)) (eqb r.rows 0) refl (omega arith) h
@@ -101,14 +97,7 @@ has_room r b bytes h = room_by r (length (b ∷ bytes)) (eqb r.rows 0) refl (ome
 pub gathers_run : (r : Raster) (row bytes : List ℕ) (before : List EscItem) → length bytes ≤ room_of r → IsGathering r before
     → ((came : List ℕ) → r.got ≡ length came → take (min r.got LINE_BYTES) r.row ≡ take LINE_BYTES came → take (min (r.got + length bytes) LINE_BYTES) row ≡ take LINE_BYTES (came ++ bytes))
     → IsGathering (record r { got = r.got + length bytes; row = row }) (bytes_after bytes before)
-gathers_run r row [] before h g k =
-    record {
-      scale = g.scale;
-      bytes = g.bytes;
-      rows = g.rows;
-      got = omega (arith, g.got);
-      row = k (row_so_far before) g.got g.row ∙ ap (take LINE_BYTES) (append-nil (row_so_far before));
-    }
+gathers_run r row [] before h g k = grind (arith, append-nil)
 gathers_run r row (b ∷ bytes) before h g k =
     let room = has_room r b bytes h in
     let l = lasts (b ∷ bytes) before (omega (arith, room.some, g.rows)) (omega (arith, room.less, g.got, g.bytes)) in

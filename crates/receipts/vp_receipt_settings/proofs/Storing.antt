@@ -36,8 +36,7 @@ stored_first b bytes before =
 
 pub data_after : (bytes : List ℕ) (before : List EscItem) → qr_data (stored_after bytes before) ≡ qr_data before ++ bytes
 data_after [] before = sym (append-nil (qr_data before))
-data_after (b ∷ bytes) before =
-    ap qr_data (stored_first b bytes before) ∙ data_after bytes (QrByte b ∷ before) ∙ append_assoc (qr_data before) (b ∷ []) bytes
+data_after (b ∷ bytes) before = grind (arith, stored_first, append_assoc, data_after bytes (QrByte b ∷ before))
 
 module _ (kept came bytes : List ℕ) (k : kept ≡ take STORED_BYTES came) where
   room_is : (n : ℕ) → n ≡ min (STORED_BYTES - length kept) (length bytes) → take n bytes ≡ take (STORED_BYTES - length came) bytes

@@ -1,5 +1,5 @@
 -- Bytes of a raster that make rows whole.
-use Rattle.std.proofs.Common.{◌≡◌, ℕ, zero, suc, ◌+◌, ◌-◌, ◌*◌, ◌<◌, ◌≤◌, nat_lt, eqb, Bool, true, false, List, [], ◌∷◌, ◌++◌, length, take, drop, min, max, refl, sym, ap, subst, ◌∙◌, arith, length-append}
+use Rattle.std.proofs.Common.{◌≡◌, ℕ, zero, suc, ◌+◌, ◌-◌, ◌*◌, ◌<◌, ◌≤◌, nat_lt, eqb, Bool, true, false, List, [], ◌∷◌, ◌++◌, length, take, drop, min, refl, sym, ap, subst, ◌∙◌, arith, length-append}
 use Rattle.std.proofs.Math.Nat.{suc-mul}
 use Rattle.std.proofs.Math.Seq.{take-add}
 use Rattle.std.proofs.lemmas.Bool.{eq-eqb, lt-ltb}
@@ -7,12 +7,11 @@ use Rattle.std.proofs.lemmas.List.{length-take-le, length-drop}
 use Rattle.vp_esc.specs.declared.item.EscItem.{EscItem}
 use Rattle.vp_esc.specs.declared.item.EscItem.TheVariants.{RasterByte}
 use Rattle.vp_esc.specs.declared.item.RasterScale.{RasterScale}
-use Rattle.vp_esc.specs.declared.item.RasterScale.TheVariants.{Normal}
 use Rattle.vp_page.specs.declared.area.Area.{Area}
 use Rattle.vp_receipt_settings.specs.Setup.{Setup}
 use Rattle.vp_receipt_settings.specs.Gathering.{IsGathering, IsPartRow}
 use Rattle.vp_receipt_settings.specs.Settings.{settings_of}
-use Rattle.vp_receipt_settings.specs.Pages.{vertical_after, raised, lower_edge}
+use Rattle.vp_receipt_settings.specs.Pages.{vertical_after, raised}
 use Rattle.vp_receipt_settings.specs.Rasters.{times_down, raster_scale, raster_bytes, rows_to_come, row_so_far, is_row_end, bytes_after, row_at}
 use Rattle.vp_receipt_settings.specs.Runs.{below}
 use Rattle.vp_receipt_settings.specs.declared.raster.Raster.{Raster}
@@ -23,9 +22,7 @@ use Rattle.vp_page.specs.declared.line.TheConstants.{LINE_BYTES}
 -- bytes after others
 pub after_both : (xs ys : List ℕ) (before : List EscItem) → bytes_after (xs ++ ys) before ≡ bytes_after ys (bytes_after xs before)
 after_both [] ys before = refl
-after_both (x ∷ xs) ys before =
-    after_first x (xs ++ ys) before ∙ after_both xs ys (RasterByte x ∷ before)
-    ∙ ap (λ (items : List EscItem). bytes_after ys items) (sym (after_first x xs before))
+after_both (x ∷ xs) ys before = grind (arith, after_first, after_both xs ys (RasterByte x ∷ before))
 
 -- some bytes, with which the row is whole
 pub record Lacks (bytes : List ℕ) (before : List EscItem) : Type 0 where
@@ -39,17 +36,7 @@ pub record Goes (b : ℕ) (bytes : List ℕ) (before : List EscItem) : Type 0 wh
   pub rest : Lacks bytes (RasterByte b ∷ before)
 
 pub goes : (b c : ℕ) (bytes : List ℕ) (before : List EscItem) → Lacks (b ∷ c ∷ bytes) before → Goes b (c ∷ bytes) before
-goes b c bytes before h =
-    let room : length (row_so_far before) + 1 < raster_bytes before = omega (arith, h.all) in
-    let one = inside b before h.rows room in
-    record {
-      room = room;
-      rest = record {
-        rows = omega (arith, one.rows, h.rows);
-        some = omega arith;
-        all = omega (arith, h.all, ap length one.row, length-append (row_so_far before) (b ∷ []));
-      };
-    }
+goes b c bytes before h = grind (arith, inside, length-append)
 
 last_is : (b : ℕ) (before : List EscItem) → Lacks (b ∷ []) before → eqb (length (row_so_far before) + 1) (raster_bytes before) ≡ true
 last_is b before h = eq-eqb _ _ (let e : length (row_so_far before) + 1 ≡ raster_bytes before = omega (arith, h.all) in e)
@@ -71,9 +58,7 @@ pub record Ends (bytes : List ℕ) (before : List EscItem) : Type 0 where
 
 pub row_ends : (bytes : List ℕ) (before : List EscItem) → Lacks bytes before → Ends bytes before
 row_ends [] before h = absurd (omega (arith, h.some))
-row_ends (b ∷ []) before h =
-    let e : eqb (length (row_so_far before) + 1) (raster_bytes before) ≡ true = last_is b before h in
-    record { scale = refl; width = refl; rows = rw e refl; row = rw e refl }
+row_ends (b ∷ []) before h = grind (arith, last_is)
 row_ends (b ∷ c ∷ bytes) before h =
     let go = goes b c bytes before h in
     let one = inside b before h.rows go.room in
@@ -87,8 +72,7 @@ row_ends (b ∷ c ∷ bytes) before h =
     }
 
 some_down : (k : RasterScale) → 0 < times_down k
-some_down Normal = omega arith
-some_down _ = omega arith
+some_down k = grind arith
 
 -- the settings after it
 pub row_below : (setup : Setup) (bytes : List ℕ) (before : List EscItem) → Lacks bytes before
@@ -101,9 +85,7 @@ row_below setup (b ∷ c ∷ bytes) before h =
 
 -- one more row
 pub next_row : (bytes : List ℕ) (wide k : ℕ) (before : List EscItem) → bytes_after (take (suc k * wide) bytes) before ≡ bytes_after (row_at bytes wide k) (bytes_after (take (k * wide) bytes) before)
-next_row bytes wide k before =
-    ap (λ xs. bytes_after xs before) (ap (λ n. take n bytes) (suc-mul k wide) ∙ take-add (k * wide) wide bytes)
-    ∙ after_both (take (k * wide) bytes) (row_at bytes wide k) before
+next_row bytes wide k before = grind (arith, suc-mul, take-add, after_both)
 
 pub no_row : (bytes : List ℕ) (wide : ℕ) (before : List EscItem) → bytes_after (take (0 * wide) bytes) before ≡ before
 no_row bytes wide before = let none : 0 * wide ≡ 0 = omega arith in ap (λ n. bytes_after (take n bytes) before) none
@@ -119,12 +101,7 @@ pub record HaveRows (bytes : List ℕ) (n : ℕ) (before : List EscItem) : Type 
   pub long : n * raster_bytes before ≤ length bytes
 
 pub fewer : (bytes : List ℕ) (k : ℕ) (before : List EscItem) → HaveRows bytes (suc k) before → HaveRows bytes k before
-fewer bytes k before h = record {
-  begins = h.begins;
-  wide = λ some. h.wide (omega arith);
-  few = omega (arith, h.few);
-  long = omega (arith, suc-mul k (raster_bytes before), h.long);
-}
+fewer bytes k before h = grind (arith, suc-mul)
 
 -- what comes after so many rows
 pub record AreWhole (bytes : List ℕ) (n : ℕ) (before : List EscItem) : Type 0 where
@@ -135,23 +112,10 @@ pub record AreWhole (bytes : List ℕ) (n : ℕ) (before : List EscItem) : Type 
 
 lacks_after : (bytes : List ℕ) (k : ℕ) (before : List EscItem) → HaveRows bytes (suc k) before → AreWhole (take (k * raster_bytes before) bytes) k before
     → Lacks (row_at bytes (raster_bytes before) k) (bytes_after (take (k * raster_bytes before) bytes) before)
-lacks_after bytes k before h above =
-    let long = row_long bytes (raster_bytes before) k h.long in
-    record {
-      rows = omega (arith, above.rows, h.few);
-      some = omega (arith, long, h.wide (omega arith));
-      all = omega (arith, ap length above.row, above.width, long);
-    }
+lacks_after bytes k before h above = grind (arith, row_long)
 
 pub are_whole : (bytes : List ℕ) (k : ℕ) (before : List EscItem) → HaveRows bytes k before → AreWhole (take (k * raster_bytes before) bytes) k before
-are_whole bytes zero before h =
-    let none = no_row bytes (raster_bytes before) before in
-    record {
-      scale = ap raster_scale none;
-      width = ap raster_bytes none;
-      rows = ap rows_to_come none ∙ (let e : rows_to_come before ≡ rows_to_come before - 0 = omega arith in e);
-      row = ap row_so_far none ∙ h.begins;
-    }
+are_whole bytes zero before h = grind (arith, no_row)
 are_whole bytes (suc k) before h =
     let above = are_whole bytes k before (fewer bytes k before h) in
     let last = row_ends _ _ (lacks_after bytes k before h above) in
@@ -173,23 +137,15 @@ none_below : (s : Settings) → s.page.vertical ≤ 65535 → s ≡ below s 0
 none_below s small = let e : s.page.vertical ≡ vertical_after s.page.vertical 0 = omega arith in ap (λ v. record s { page = record s.page { vertical = v } }) e
 
 used_more : (uses : Bool) (a : Area) (old : ℕ) → raised true a (raised uses a old) ≡ raised true a old
-used_more true a old = let e : max (max old (lower_edge a)) (lower_edge a) ≡ max old (lower_edge a) = omega arith in e
-used_more false a old = refl
+used_more uses a old = grind arith
 
 below_more : (s : Settings) (k d : ℕ) → 0 < d → below (below s k) d ≡ below s (k + d)
-below_more s k d some =
-    let down : vertical_after (vertical_after s.page.vertical k) d ≡ vertical_after s.page.vertical (k + d) = omega arith in
-    let used : raised (nat_lt 0 d) s.page.area (raised (nat_lt 0 k) s.page.area s.page.used) ≡ raised (nat_lt 0 (k + d)) s.page.area s.page.used =
-    rw (lt-ltb 0 d some, lt-ltb 0 (k + d) (omega arith)) (used_more (nat_lt 0 k) s.page.area s.page.used) in
-    ap (λ v. record s { page = record s.page { vertical = v; used = raised (nat_lt 0 d) s.page.area (raised (nat_lt 0 k) s.page.area s.page.used) } }) down
-    ∙ ap (λ u. record s { page = record s.page { vertical = vertical_after s.page.vertical (k + d); used = u } }) used
+below_more s k d some = grind (arith, nat_lt, lt-ltb, used_more)
 
 -- the settings after so many rows
 pub rows_below : (setup : Setup) (bytes : List ℕ) (k : ℕ) (before : List EscItem) → (settings_of setup before).page.vertical ≤ 65535 → HaveRows bytes k before
     → settings_of setup (bytes_after (take (k * raster_bytes before) bytes) before) ≡ below (settings_of setup before) (k * times_down (raster_scale before))
-rows_below setup bytes zero before small h =
-    let none : 0 ≡ 0 * times_down (raster_scale before) = omega arith in
-    ap (settings_of setup) (no_row bytes (raster_bytes before) before) ∙ none_below (settings_of setup before) small ∙ ap (λ n. below (settings_of setup before) n) none
+rows_below setup bytes zero before small h = grind (arith, no_row, none_below)
 rows_below setup bytes (suc k) before small h =
     let d = times_down (raster_scale before) in
     let above = are_whole bytes k before (fewer bytes k before h) in
@@ -223,12 +179,7 @@ no_bytes (x ∷ xs) e = absurd (omega arith)
 -- a raster of which no row has begun has rows in as many bytes
 pub have_rows : (r : Raster) (n : ℕ) (bytes : List ℕ) (before : List EscItem) → IsPartRow r → r.got ≡ 0 → n ≤ r.rows → IsGathering r before → n * r.bytes ≤ length bytes
     → HaveRows bytes n before
-have_rows r n bytes before part begins few g long = record {
-  begins = no_bytes (row_so_far before) (omega (arith, g.got));
-  wide = λ some. let full = part.some (omega arith) in omega (arith, full, g.bytes);
-  few = omega (arith, g.rows);
-  long = subst (λ w. n * w ≤ length bytes) g.bytes long;
-}
+have_rows r n bytes before part begins few g long = grind (arith, no_bytes)
 
 -- whole rows that are passed
 pub rows_pass : (r : Raster) (n : ℕ) (bytes : List ℕ) (before : List EscItem) → IsPartRow r → r.got ≡ 0 → n ≤ r.rows → IsGathering r before → n * r.bytes ≤ length bytes

@@ -1,23 +1,19 @@
 -- The widths of paper: all that proofs ask of each.
-use Rattle.std.proofs.Common.{◌≡◌, ◌*◌, ◌<◌, ◌≤◌, refl, arith, lit≤}
+use Rattle.std.proofs.Common.{◌≡◌, ◌*◌, ◌<◌, ◌≤◌, arith, lit≤}
 use Rattle.vp_page.specs.declared.page.TheConstants.{PAPER_DOTS, PAPER_BYTES}
 use Rattle.vp_receipt_settings.specs.declared.width.Width.{Width}
-use Rattle.vp_receipt_settings.specs.declared.width.Width.TheVariants.{W576, W384}
 use Rattle.vp_receipt_settings.specs.Setup.{across, row_bytes}
 
 -- a row's bytes are whole
 pub dots_across : (paper : Width) → across paper ≡ 8 * row_bytes paper
-dots_across W576 = refl
-dots_across W384 = refl
+dots_across paper = grind arith
 
 pub some_bytes : (paper : Width) → 0 < row_bytes paper
-some_bytes W576 = lit≤ tt
-some_bytes W384 = lit≤ tt
+some_bytes paper = grind (arith, lit≤)
 
 -- no paper is wider than the page
 pub few_bytes : (paper : Width) → row_bytes paper ≤ PAPER_BYTES
-few_bytes W576 = lit≤ tt
-few_bytes W384 = lit≤ tt
+few_bytes paper = grind (arith, lit≤)
 
 pub few_dots : (paper : Width) → across paper ≤ PAPER_DOTS
 few_dots paper = omega (arith, dots_across paper, few_bytes paper)
