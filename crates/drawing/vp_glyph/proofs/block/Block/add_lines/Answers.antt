@@ -1,6 +1,6 @@
-use Rattle.std.proofs.Common.{inl, inr, ℕ, ◌+◌, sym, refl, arith, w64, to_z, of_z}
+use Rattle.std.proofs.Common.{inl, inr, ℕ, List, ◌+◌, ◌∙◌, ap, get_or, sym, refl, arith, w64, to_z, of_z}
 use Rattle.std.proofs.lemmas.Int.{to_z-of_z}
-use Rattle.vp_glyph.proofs.Gathered.{ends_white}
+use Rattle.vp_glyph.specs.Halves.{half_dot}
 use Rattle.vp_glyph.proofs.Joining.{line_added, lines_added, rows_none}
 use Rattle.vp_glyph.proofs.Sheeted.{drawn_none, drawn_more, drawn_all, drawn_joined}
 use Rattle.vp_glyph.proofs.Stacks.{lines_below}
@@ -12,8 +12,8 @@ loop-left-init g c =
     let b = c.args.self.now in
     record {
       place_within = omega arith;
-      rows_are = rows_none b.sheet.now b.w b.h b.wide b.rows b.pitch b.alignment _ _ refl;
-      ends_are = ends_white;
+      kept_are = rw c.of.ensures (rows_none b.sheet.now b.w b.h b.wide b.rows b.pitch b.alignment _ _ refl);
+      other_are = rw c.of.ensures (rows_none b.sheet.now b.w b.h b.wide b.rows b.pitch b.alignment _ _ refl);
       drawn = λ i l. drawn_none b.sheet.now b.w b.h b.wide b.rows b.pitch b.alignment (c.args.top + i) _ 4 _ _ _ _ _ (λ x. c.requires.white i x) (λ x. c.first_line-above.ensures.lines x (c.args.top + i) (omega arith));
     }
 
@@ -22,10 +22,10 @@ loop-left-preserved g c =
     let b = c.args.self.now in
     record {
       place_within = omega arith;
-      rows_are = c.redraw.ensures.rows;
-      ends_are = c.redraw.ensures.ends;
+      kept_are = c.keep.ensures.kept;
+      other_are = c.keep.ensures.other;
       drawn = λ i l. drawn_more b.sheet.now b.w b.h b.wide b.rows b.pitch b.alignment (c.args.top + i) _ 4 _ _ c.loop-left.place c.next_line.result.0.cells _ c.loop-left.left c.next_line.result.1 c.in-Some.text c.next_line.result.0.text.now _ _
-          (c.loop-left.invariant.drawn i l) c.in-Some.is c.next_line.ensures.text c.next_line.ensures.lines (λ x m. line_added b.sheet.now b.w b.h b.wide b.rows b.pitch b.alignment _ x _ c.loop-left.place _ _ _ _ m (c.spread-in-Some.ensures i x l m) c.redraw.ensures.rows) (omega arith);
+          (c.loop-left.invariant.drawn i l) c.in-Some.is c.next_line.ensures.text c.next_line.ensures.lines (λ x m. line_added b.sheet.now b.w b.h b.wide b.rows b.pitch b.alignment _ x _ c.loop-left.place _ _ _ _ m (c.spread-in-Some.ensures i x l m) c.keep.ensures.line) (omega arith);
     }
 
 pub returns-then-from : goal.returns-then-from
@@ -55,5 +55,5 @@ returns-then-self-eq0 g c =
       | then-self-eq0-via-then-self-eq0 w ↦ (let p = w.if-self-eq0.true in inl (omega arith))
       | then-self-eq0-via-else-self-eq0+then-place-self w ↦ (let p = w.if-place-self.true in inr (omega (arith, c.loop-left.invariant.place_within)))
     ])
-    (c.spread.ensures i v l m) (λ r u p q. c.joined-rows.ensures r u p q))
+    (c.spread.ensures i v l m) (λ r u p q. ap (λ (shown : List ℕ). half_dot (get_or shown r 0) u) c.of-then-self-eq0.ensures ∙ c.joined.ensures r u p q))
     (c.loop-left.invariant.drawn i l) x m)
