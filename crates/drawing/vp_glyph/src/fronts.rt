@@ -1,12 +1,12 @@
 //! The first dots of many rows of a block, for which each of its lines is looked at once.
-ghost use Rattle.std.specs.Prelude.{◌≡◌, ℕ, ◌+◌, ◌-◌, ◌*◌, ◌/◌, ◌<◌, ◌≤◌, ◌^◌, ◌||◌, ◌&&◌, nat_le, nat_lt, false, min, length, take, slice_index};
+ghost use Rattle.std.specs.Prelude.{◌≡◌, ℕ, ◌+◌, ◌-◌, ◌*◌, ◌/◌, ◌<◌, ◌≤◌, ◌^◌, ◌||◌, ◌&&◌, nat_le, nat_lt, true, false, min, length, take, slice_index};
 ghost use Rattle.vp_dots.specs.Dots.{bit, shifted, span};
-ghost use Rattle.vp_glyph.specs.Blocks.{pieces, first, line_dot, block_height, block_dot};
+ghost use Rattle.vp_glyph.specs.Blocks.{pieces, first, block_pieces, line_dot, block_height, block_dot, line_pieces};
 ghost use Rattle.vp_glyph.specs.Halves.{half_dot, front_dot, AreEdges, AreInked};
 ghost use Rattle.vp_glyph.specs.Layouts.{layout_of, AreRowsOf};
 
 use crate::block::Block;
-use crate::lines::{Line, next_line};
+use crate::lines::{Line, hand_line};
 use vp_dots::Small;
 
 /// Of so many fronts side by side the dots that all have are kept once.
@@ -225,8 +225,15 @@ struct Kept<'a> {
 
 impl<A: Small> Block<'_, A> {
     /// Keeps a line and the rows of the sheet on which it stands, and behind it the line that was kept: it is
-    /// drawn only if it is like neither of the two that are kept.
-    fn keep<'t>(&self, line: Line<'t>, at: i64, kept: &mut Kept<'t>, other: &mut Kept<'t>)
+    /// drawn only if it is like neither of the two that are kept. The cells that are drawn are counted.
+    fn keep<'t>(
+        &self,
+        line: Line<'t>,
+        at: i64,
+        kept: &mut Kept<'t>,
+        other: &mut Kept<'t>,
+        counter: &mut u64,
+    )
         requires cells { line.cells ≤ length (first (pieces line.text.now)) }
         requires most { line.cells ≤ self.now.wide / self.now.w }
         requires kept { AreRowsOf (layout_of self.now) at
@@ -239,6 +246,8 @@ impl<A: Small> Block<'_, A> {
             (take kept.new.line.cells (first (pieces kept.new.line.text.now))) kept.new.shown.rows }
         ensures other { AreRowsOf (layout_of self.now) at
             (take other.new.line.cells (first (pieces other.new.line.text.now))) other.new.shown.rows }
+        ensures counted { counter.old ≤ counter.new }
+        ensures most { counter.new ≤ counter.old + line.entry.cells }
     {
         if line.is_like(kept.line) {
             return;
@@ -250,27 +259,32 @@ impl<A: Small> Block<'_, A> {
             return;
         }
         let mut rows = [0; 24];
-        self.add_rows(line, at, &mut rows);
+        let drawn = self.add_rows(line, at, &mut rows);
+        *counter = counter.saturating_add(u64::from(drawn));
         *kept = Kept {
             line,
             shown: Shown::of(rows),
         };
     }
 
-    /// Adds the lines to the fronts of N rows, the first of which is row `top`, and to those of their groups.
+    /// Adds the lines to the fronts of N rows, the first of which is row `top`, and to those of their groups:
+    /// how many pieces are handed out, and how many of the cells drawn.
     fn add_lines<const N: usize>(
         &self,
         top: u32,
         at: i64,
         groups: &mut [u32; GROUPS],
         fronts: &mut [u32; N],
-    )
+    ) -> u64
         requires wide { self.now.w ≤ self.now.wide }
         requires few { N < 2 ^ 32 }
         requires white { (i x : ℕ) → front_dot GROUP groups.old fronts.old i x ≡ false }
-        ensures { (i x : ℕ) → i < N → x < 32 → top + i < block_height self.now.h self.now.rows self.now.pitch
+        ensures added { (i x : ℕ) → i < N → x < 32
+            → top + i < block_height self.now.h self.now.rows self.now.pitch
             → front_dot GROUP groups.new fronts.new i x
             ≡ shifted at (λ x. block_dot (layout_of self.now) self.now.text.now x (top + i)) x }
+        ensures most { result ≤ 2 * line_pieces self.now.text.now }
+        ensures none { result ≡ 0 → (i x : ℕ) → front_dot GROUP groups.new fronts.new i x ≡ false }
     {
         let most = (self.wide / self.w) as usize;
         let (above, text) = self.first_line(top);
@@ -281,43 +295,45 @@ impl<A: Small> Block<'_, A> {
             shown: Shown::of([0; 24]),
         };
         let mut other = kept;
+        let mut counter = 0u64;
         while let Some(text) = left {
             if u64::from(top) + N as u64 <= u64::from(place * self.pitch) {
-                return;
+                return counter;
             }
             if self.pitch == 0 || place + 1 >= self.rows {
-                spread(
-                    &Shown::of(self.joined(text, at)),
-                    place * self.pitch,
-                    self.h,
-                    top,
-                    groups,
-                    fronts,
-                );
-                return;
+                let shown = Shown::of(self.joined(text, at, &mut counter));
+                spread(&shown, place * self.pitch, self.h, top, groups, fronts);
+                return counter;
             }
-            let (line, rest) = next_line(text, most);
-            self.keep(line, at, &mut kept, &mut other);
+            let (line, rest) = hand_line(text, most, &mut counter);
+            self.keep(line, at, &mut kept, &mut other, &mut counter);
             spread(&kept.shown, place * self.pitch, self.h, top, groups, fronts);
             place = (place + 1).min(self.rows.saturating_sub(1));
             left = rest;
         }
+        counter
     }
 
     /// Draws the first 32 dots of N rows, each moved by an offset and black where row top, top + 1, .. has
-    /// ink, on halves of words that are white.
-    pub fn draw_fronts<const N: usize>(&self, top: u32, at: i64, fronts: &mut [u32; N])
+    /// ink, on halves of words that are white: how many pieces are handed out, lines and their cells, and how
+    /// many of the cells drawn.
+    pub fn draw_fronts<const N: usize>(&self, top: u32, at: i64, fronts: &mut [u32; N]) -> u64
         requires few { N < 2 ^ 32 }
         requires white { (i : ℕ) → slice_index fronts.old i ≡ 0 }
-        ensures { (i x : ℕ) → i < N → x < 32 → top + i < block_height self.now.h self.now.rows self.now.pitch
+        ensures drawn { (i x : ℕ) → i < N → x < 32
+            → top + i < block_height self.now.h self.now.rows self.now.pitch
             → half_dot (slice_index fronts.new i) x
             ≡ shifted at (λ x. block_dot (layout_of self.now) self.now.text.now x (top + i)) x }
+        ensures most { result ≤ 2 * block_pieces self.now.text.now }
+        ensures some { (i x : ℕ) → i < N → x < 32 → half_dot (slice_index fronts.new i) x ≡ true
+            → 0 < result }
     {
         if self.wide < self.w {
-            return;
+            return 0;
         }
         let mut groups = [0u32; GROUPS];
-        self.add_lines(top, at, &mut groups, fronts);
+        let counter = self.add_lines(top, at, &mut groups, fronts);
         settle(&groups, fronts);
+        counter
     }
 }

@@ -1,4 +1,4 @@
-use Rattle.std.proofs.Common.{◌≡◌, ◌+◌, ◌-◌, ◌≤◌}
+use Rattle.std.proofs.Common.{◌-◌, ◌≤◌}
 use Rattle.vp_glyph.specs.Halves.{front_dot}
 use Rattle.vp_glyph.proofs.Gathered.{Added}
 use Rattle.vp_glyph.proofs.fronts.spread.Given as goal

@@ -1,4 +1,3 @@
-use Rattle.std.proofs.Common.{arith}
 use Rattle.vp_glyph.proofs.Gathered.{bits_from}
 use Rattle.vp_glyph.proofs.fronts.zeros_from.Goals as goal
 
