@@ -1,8 +1,8 @@
 -- How many pieces the lines of a text have.
-use Rattle.std.proofs.Common.{inl, inr, ◌≡◌, ℕ, ◌+◌, ◌-◌, ◌*◌, ◌<◌, ◌≤◌, List, [], ◌∷◌, Bool, true, false, cond, ◌&&◌, eqb, length, replicate, drop, Option, None, Some, MatchOption, Bor, refl, sym, ap, ◌∙◌, arith, length-drop, ◌/◌, ℤ, pos, ◌+ℤ◌}
+use Rattle.std.proofs.Common.{inl, inr, ◌≡◌, ℕ, ◌+◌, ◌-◌, ◌*◌, ◌<◌, ◌≤◌, List, [], ◌∷◌, Bool, true, false, cond, ◌&&◌, eqb, length, replicate, drop, Option, None, Some, MatchOption, Bor, refl, sym, ap, ◌∙◌, arith, length-drop, ◌/◌, ℤ, pos, ◌+ℤ◌, leb, take}
 use Rattle.std.proofs.Math.Nat.{div-lt_iff_lt-mul, mul-le-mul_right}
-use Rattle.std.proofs.lemmas.Bool.{cases_eq, cases_lt, false_from_ne_true, le-leb}
-use Rattle.std.proofs.lemmas.List.{length-replicate}
+use Rattle.std.proofs.lemmas.Bool.{cases_eq, cases_lt, false_from_ne_true, le-leb, and_parts, leb-true}
+use Rattle.std.proofs.lemmas.List.{length-replicate, length-take-le}
 use Rattle.vp_dots.specs.Dots.{shifted}
 use Rattle.vp_dots.proofs.Shifts.{shifted_same, shifted_none}
 use Prim.Native.Char.{code}
@@ -141,3 +141,17 @@ flip_unseen at n sheet w h a b s d text y x seen m k e g = shifted_none at (λ x
     let long = length-replicate {A = ℕ} n 0 in
     let same : v - 0 ≡ v = omega arith in
     absurd (let z = g v (omega (arith, i.0, long, m, k)) (rw (le-leb 0 v (omega arith), same) t) in omega (arith, z, e))))
+
+-- of a line from place `left` on, of which no cell is seen
+pub line_unseen : (at : ℤ) (sheet : Option Glyphs) (cells : List ℕ) (k w h left y from to bytes d : ℕ) → k ≤ length cells → to ≤ from
+    → ((x e : ℕ) → left ≤ x → x < left + from → pos e ≡ at +ℤ pos x → e < 0) → ((x e : ℕ) → left + to ≤ x → x < left + w * k → pos e ≡ at +ℤ pos x → bytes ≤ e)
+    → d < bytes → shifted at (λ x. leb left x && text_dot sheet (take k cells) w h (x - left) y) d ≡ false
+line_unseen at sheet cells k w h left y from to bytes d few n before behind l =
+    unseen at (λ x. leb left x && text_dot sheet (take k cells) w h (x - left) y) left from to (w * k) bytes d n
+    (λ x t.
+    let p = and_parts (leb left x) (text_dot sheet (take k cells) w h (x - left) y) t in
+    let i = text_inside sheet (take k cells) w h (x - left) y p.1 in
+    let long : w * length (take k cells) ≡ w * k = ap (λ c. w * c) (length-take-le k cells few) in
+    let after = leb-true left x p.0 in
+    (after, omega (arith, i.0, long, after)))
+    before behind l

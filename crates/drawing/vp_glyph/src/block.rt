@@ -136,6 +136,9 @@ pub(crate) fn paint_line<A: Small>(
         && text_dot sheet.now (take line.entry.cells (first (pieces line.entry.text.now)))
         stretch.now.width h (x - left) y)) row.old row.new }
     ensures most { result ≤ line.entry.cells }
+    ensures some { (d : ℕ) → d < dots row.old → shifted at (λ x. nat_le left x
+        && text_dot sheet.now (take line.entry.cells (first (pieces line.entry.text.now)))
+        stretch.now.width h (x - left) y) d ≡ true → 0 < result }
 {
     let w = stretch.width;
     let source = source_row(y, h);
@@ -186,6 +189,7 @@ impl<'a, A: Small> Block<'a, A> {
             ≡ block_lines (self.now.wide / self.now.w) result.1.now }
         ensures less { line_pieces result.1.now ≤ line_pieces self.now.rest.now }
         ensures walked { walked.new ≤ walked.old + line_pieces self.now.rest.now }
+        ensures kept { walked.old ≤ walked.new }
     {
         let most = (self.wide / self.w) as usize;
         let mut passed = self.passed;
@@ -212,6 +216,7 @@ impl<'a, A: Small> Block<'a, A> {
         ensures pitch { result.pitch ≡ self.entry.pitch }
         ensures alignment { result.alignment ≡ self.entry.alignment }
         ensures walked { result.walked ≤ self.entry.walked + block_pieces self.entry.text.now }
+        ensures kept { self.entry.walked ≤ result.walked }
     {
         if self.wide < self.w {
             return self;

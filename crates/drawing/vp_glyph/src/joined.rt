@@ -1,5 +1,5 @@
 //! Lines over each other, as the rows of the sheet that they show.
-ghost use Rattle.std.specs.Prelude.{◌≡◌, ℕ, ◌+◌, ◌-◌, ◌*◌, ◌/◌, ◌<◌, ◌≤◌, ◌^◌, nat_le, ◌&&◌, ◌||◌, length, take, slice_index};
+ghost use Rattle.std.specs.Prelude.{◌≡◌, ℕ, ◌+◌, ◌-◌, ◌*◌, ◌/◌, ◌<◌, ◌≤◌, ◌^◌, nat_le, ◌&&◌, ◌||◌, true, length, take, slice_index};
 ghost use Rattle.vp_dots.specs.Dots.{shifted};
 ghost use Rattle.vp_glyph.specs.Texts.{text_dot};
 ghost use Rattle.vp_glyph.specs.Blocks.{pieces, first, block_lines, line_dot, lines_dot, line_pieces};
@@ -32,6 +32,9 @@ fn add_cells<A: Small>(
         && text_dot sheet.now (take line.entry.cells (first (pieces line.entry.text.now)))
         stretch.now.width 24 (x - left) s) x) }
     ensures most { result ≤ line.entry.cells }
+    ensures some { (s x : ℕ) → s < 24 → x < 32 → shifted at (λ x. nat_le left x
+        && text_dot sheet.now (take line.entry.cells (first (pieces line.entry.text.now)))
+        stretch.now.width 24 (x - left) s) x ≡ true → 0 < result }
 {
     let w = stretch.width;
     let (from, to) = seen_dots(at, left, w * line.cells as u32, 4);

@@ -72,14 +72,14 @@ fn paint_short<A: Small>(
     let (from, to) = seen_dots(at, 0, w * text.len() as u32, row.len());
     let mut k = whole_cells(from, w) as usize;
     let mut front = 0u64;
-    let mut painted = 0;
+    let mut gathered = 0;
     while k < text.len() && w * (k as u32) < to {
         front |= cell_front(sheet, text[k], source, stretch, at, w * k as u32);
         k += 1;
-        painted += 1;
+        gathered += 1;
     }
     paint_word(op, front, 0, row);
-    painted
+    gathered
 }
 
 /// Paints line y of the cells of a text, each stretched to a width and drawn h dots high, from a sheet with

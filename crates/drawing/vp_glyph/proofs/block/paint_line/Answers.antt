@@ -1,7 +1,8 @@
 use Rattle.std.proofs.Common.{arith, length, ◌≡◌, ◌*◌, ◌≤◌, refl, sym, w64}
-use Rattle.std.proofs.Math.Nat.{mul-le-mul_right}
+use Rattle.std.proofs.Math.Nat.{mul-le-mul_left, mul-le-mul_right}
 use Rattle.std.proofs.lemmas.Int.{to_z-of_z}
 use Rattle.vp_glyph.specs.Blocks.{pieces, first}
+use Rattle.vp_glyph.proofs.Handed.{line_unseen, seen_some}
 use Rattle.vp_glyph.proofs.Pieces.{behind_all, behind_more, cell_is}
 use Rattle.vp_glyph.proofs.Sides.{side_none, side_more, side_all}
 use Rattle.vp_glyph.proofs.block.paint_line.Goals as goal
@@ -39,4 +40,8 @@ pub returns : goal.returns
 returns g c = rw (sym (to_z-of_z w64 c.args.at c.ranges.at)) (record {
   painted = side_all _ _ c.args.sheet.now _ c.args.line.cells c.args.stretch.now.width c.args.h c.args.left c.args.y c.requires.cells c.requires.w c.loop-i._i c.seen-from.result.1 _ _ (omega arith) c.seen-from.ensures.behind c.loop-i.invariant.painted;
   most = omega (arith, c.loop-i.invariant.counted, c.seen-from.ensures.last);
+  some = λ d l t. seen_some _ _
+      (λ e. line_unseen _ c.args.sheet.now (first (pieces c.args.line.text.now)) c.args.line.cells c.args.stretch.now.width c.args.h c.args.left c.args.y _ _ _ d c.requires.cells
+      (mul-le-mul_left c.args.stretch.now.width (omega (arith, e, c.loop-i.invariant.counted, c.loop-i.invariant.after))) c.seen-from.ensures.before c.seen-from.ensures.behind l)
+      t;
 })

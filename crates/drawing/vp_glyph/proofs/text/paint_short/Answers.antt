@@ -59,7 +59,7 @@ returns g c =
           t;
     })
 
-pub overflow_add-painted : goal.overflow_add-painted
-overflow_add-painted g c =
+pub overflow_add-gathered : goal.overflow_add-gathered
+overflow_add-gathered g c =
     let few : 1 * length c.args.text.now ≤ c.args.stretch.now.width * length c.args.text.now = mul-le-mul_right (length c.args.text.now) (omega (arith, c.requires.some)) in
     omega (arith, few, c.requires.fits, c.loop-k.invariant.counted, c.loop-k.invariant.within)

@@ -8,7 +8,7 @@ use Rattle.vp_glyph.proofs.text.paint_short.Given as goal
 abbrev pub invariant-loop-k : goal.invariant-loop-k
 invariant-loop-k g l = record {
   within : l.k ≤ length l.text;
-  counted : l.painted + l.from / l.stretch.width ≡ l.k;
+  counted : l.gathered + l.from / l.stretch.width ≡ l.k;
   begun : (l.k ≡ l.from / l.stretch.width) ⊎ (l.stretch.width * (l.k - 1) < l.to);
   gathered : (d : ℕ) → d < 64 → word_dot l.front d ≡ shifted l.fn.at (so_far l.sheet (take (length l.text) l.text) l.stretch.width l.h 0 l.y l.k) d;
 }

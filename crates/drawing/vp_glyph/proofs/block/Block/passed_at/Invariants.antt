@@ -8,6 +8,7 @@ invariant-loop-passed g l = record {
   apart : l.passed ≤ l.self.rows - 1;
   behind : drop l.passed (block_lines l.most l.self.text.now) ≡ block_lines l.most l.rest;
   less : line_pieces l.rest ≤ line_pieces l.self.rest.now;
+  kept : l.fn.walked ≤ l.walked;
   walked : l.walked + line_pieces l.rest ≤ l.fn.walked + line_pieces l.self.rest.now;
 }
 
