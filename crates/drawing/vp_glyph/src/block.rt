@@ -115,8 +115,8 @@ fn dot_of_line<A: Small>(
     cell.ink(x % w, y)
 }
 
-/// Paints row y of a line, from its left and top on: the cells that can be seen on the row, and how many these
-/// are.
+/// Paints row y of a line, from its left and top on: the cells that can be seen on the row, and how many
+/// these are.
 pub(crate) fn paint_line<A: Small>(
     line: Line<'_>,
     sheet: &Option<Sheet<A>>,
@@ -353,8 +353,8 @@ impl<A: Small> Block<'_, A> {
         counter
     }
 
-    /// Paints row y, as `paint_row` does: how many pieces are handed out, lines and their cells, and how many of
-    /// the cells painted.
+    /// Paints row y, as `paint_row` does: how many pieces are handed out, lines and their cells, and how many
+    /// of the cells painted.
     pub fn paint_pieces(&self, y: u32, op: Op, at: i64, row: &mut [u8]) -> u64
         ensures painted { Painted op (shifted at (λ x. block_dot (layout_of self.now) self.now.text.now x y))
             row.old row.new }

@@ -173,8 +173,8 @@ impl<A: Small> Block<'_, A> {
     }
 
     /// Adds the lines of a text, which stand over each other `place` lines below the first, to rows, the
-    /// first of which is row `top`. Their pieces and the cells that are painted are counted, for each row of the
-    /// sheet that they show.
+    /// first of which is row `top`. Their pieces and the cells that are painted are counted, for each row of
+    /// the sheet that they show.
     fn draw_joined(
         &self,
         text: &[u8],
@@ -207,8 +207,8 @@ impl<A: Small> Block<'_, A> {
         }
     }
 
-    /// Adds the lines to rows, the first of which is row `top`: whether one stands on one of them. Their pieces
-    /// and the cells that are painted are counted.
+    /// Adds the lines to rows, the first of which is row `top`: whether one stands on one of them. Their
+    /// pieces and the cells that are painted are counted.
     fn draw_lines(&self, top: u32, at: i64, rows: &mut Runs, counter: &mut u64) -> bool
         requires wide { self.now.w ≤ self.now.wide }
         requires white { (k x : ℕ) → run_dot rows.old.alone rows.old.down rows.old.up ROWS k x ≡ false }
@@ -256,8 +256,8 @@ impl<A: Small> Block<'_, A> {
             .saturating_add(u64::from(self.h))
     }
 
-    /// Rows of dots, each moved by an offset and black where row top, top + 1, .. has ink, and how many pieces
-    /// were handed out and painted for them.
+    /// Rows of dots, each moved by an offset and black where row top, top + 1, .. has ink, and how many
+    /// pieces were handed out and painted for them.
     pub fn drawn_rows(&self, top: u32, at: i64) -> DrawnRows
         ensures drawn { (k x : ℕ) → k < ROWS → x < 8 * BYTES
             → top + k < block_height self.now.h self.now.rows self.now.pitch
