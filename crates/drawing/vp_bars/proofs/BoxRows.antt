@@ -1,6 +1,7 @@
 -- The rows of a box.
 use Rattle.std.proofs.Common.{inl, inr, ◌≡◌, ℕ, ◌+◌, ◌-◌, ◌*◌, ◌/◌, ◌<◌, ◌≤◌, Bool, true, false, not, cond, ltb, leb, ◌&&◌, List, [], ◌∷◌, ◌++◌, ℤ, refl, sym, ap, ◌∙◌, arith}
-use Rattle.std.proofs.lemmas.Bool.{cases_lt, and_parts, ltb-true, leb-true, lt-ltb, le-ltb}
+use Rattle.std.proofs.lemmas.Bool.Decides.{nat_tests}
+use Rattle.std.proofs.lemmas.Bool.{cases_lt, and_parts, ltb-true, leb-true, le-ltb}
 use Rattle.vp_bar_code.specs.declared.HriPosition.{HriPosition}
 use Rattle.vp_bar_code.specs.declared.HriPosition.TheVariants.{None, Above, Below, Both}
 use Rattle.vp_glyph.specs.Cells.{font_height}
@@ -40,18 +41,7 @@ unfolding line_dot
 line_inside b x y e = ltb-true x (line_width b.font (text_of b.bars)) (and_parts _ _ e).0
 
 centred_inside : (width own : ℕ) (f : ℕ → Bool) (x : ℕ) → own ≤ width → ((u : ℕ) → f u ≡ true → u < own) → centred width own f x ≡ true → x < width
-centred_inside width own f x l h e =
-    let p : (leb ((width - own) / 2) x ≡ true) × (f (x - (width - own) / 2) ≡ true) = and_parts _ _ e in
-    omega (arith, h (x - (width - own) / 2) p.1, leb-true ((width - own) / 2) x p.0)
-
--- what lies inside is not cut
-uncut : (x w : ℕ) (v : Bool) → (v ≡ true → x < w) → v ≡ (ltb x w && v)
-uncut x w true h = rw (lt-ltb x w (h refl)) refl
-uncut x w false h = none (ltb x w)
-  where
-    none : (b : Bool) → false ≡ (b && false)
-    none true = refl
-    none false = refl
+centred_inside width own f x l h e = grind (arith, nat_tests)
 
 -- a row of a box by where it lies
 module _ (w h t high x y : ℕ) (above bars below : Bool) where
@@ -59,32 +49,16 @@ module _ (w h t high x y : ℕ) (above bars below : Bool) where
   row = ltb x w && ltb y h && cond (ltb y t) above (cond (ltb y (t + high)) bars below)
 
   in_top : y < t → t ≤ h → (above ≡ true → x < w) → above ≡ row
-  in_top k l f = rw (lt-ltb y t k, lt-ltb y h (omega arith)) (uncut x w above f ∙ shape (ltb x w) above)
-    where
-      shape : (b v : Bool) → (b && v) ≡ (b && true && v)
-      shape true v = refl
-      shape false v = refl
+  in_top k l f = grind (arith, nat_tests)
 
   in_bars : t ≤ y → y < t + high → t + high ≤ h → (bars ≡ true → x < w) → bars ≡ row
-  in_bars k l m f = rw (le-ltb y t k, lt-ltb y (t + high) l, lt-ltb y h (omega arith)) (uncut x w bars f ∙ shape (ltb x w) bars)
-    where
-      shape : (b v : Bool) → (b && v) ≡ (b && true && v)
-      shape true v = refl
-      shape false v = refl
+  in_bars k l m f = grind (arith, nat_tests)
 
   in_below : t + high ≤ y → y < h → (below ≡ true → x < w) → below ≡ row
-  in_below k l f = rw (le-ltb y t (omega arith), le-ltb y (t + high) k, lt-ltb y h l) (uncut x w below f ∙ shape (ltb x w) below)
-    where
-      shape : (b v : Bool) → (b && v) ≡ (b && true && v)
-      shape true v = refl
-      shape false v = refl
+  in_below k l f = grind (arith, nat_tests)
 
   past : h ≤ y → row ≡ false
-  past k = rw (le-ltb y h k) (shape (ltb x w))
-    where
-      shape : (b : Bool) → (b && false && cond (ltb y t) above (cond (ltb y (t + high)) bars below)) ≡ false
-      shape true = refl
-      shape false = refl
+  past k = grind (arith, nat_tests)
 
 has_above : (p : HriPosition) (k y : ℕ) → y < texts_above p * k → 0 < texts_above p + texts_below p
 has_above None k y h = absurd (omega arith)

@@ -1,5 +1,6 @@
 -- Pieces that are handed out between two places of a row.
-use Rattle.std.proofs.Common.{inl, inr, ◌≡◌, ℕ, ◌+◌, ◌-◌, ◌*◌, ◌<◌, ◌≤◌, true, false, ltb, max, arith, sym, ◌∙◌, subst, List, length, ℤ, pos, negsuc, ◌+ℤ◌}
+use Rattle.std.proofs.Common.{inl, inr, ◌≡◌, ℕ, ◌+◌, ◌-◌, ◌<◌, ◌≤◌, true, false, ltb, max, arith, sym, ◌∙◌, List, length, ℤ, pos, negsuc, ◌+ℤ◌}
+use Rattle.std.proofs.lemmas.Bool.Decides.{nat_tests}
 use Rattle.std.proofs.lemmas.Int.{ints}
 use Rattle.std.proofs.lemmas.Bool.{cases_lt, ltb-true, lt-ltb}
 use Rattle.vp_dots.specs.Dots.{dots}
@@ -78,24 +79,8 @@ module _ (at : ℤ) (d : ℕ) where
 module _ (at : ℤ) (a b : List ℕ) (same : length b ≡ length a) where
   -- pieces behind others
   pub handed_then : (x y z m n : ℕ) → HandedOut at (dots a) x y m → HandedOut at (dots b) y z n → HandedOut at (dots a) x z (m + n)
-  handed_then x y z m n p q =
-      let r : HandedOut at (dots a) y z n = subst (λ k. HandedOut at (8 * k) y z n) same q in
-      record {
-        few = omega (arith, p.few, r.few);
-        some = λ h. elim (cases_lt (reach at (dots a) x) (reach at (dots a) y)) [
-          | inl l ↦ omega (arith, p.some l)
-          | inr g ↦ omega (arith, r.some (omega arith))
-        ];
-      }
+  handed_then x y z m n p q = grind (arith, nat_tests)
 
   -- two that are one
   pub handed_with : (x y z m n k : ℕ) → k ≡ max m n → HandedOut at (dots a) x y m → HandedOut at (dots b) y z n → HandedOut at (dots a) x z k
-  handed_with x y z m n k e p q =
-      let r : HandedOut at (dots a) y z n = subst (λ k. HandedOut at (8 * k) y z n) same q in
-      record {
-        few = omega (arith, e, p.few, r.few);
-        some = λ h. elim (cases_lt (reach at (dots a) x) (reach at (dots a) y)) [
-          | inl l ↦ omega (arith, e, p.some l)
-          | inr g ↦ omega (arith, e, r.some (omega arith))
-        ];
-      }
+  handed_with x y z m n k e p q = grind (arith, nat_tests)

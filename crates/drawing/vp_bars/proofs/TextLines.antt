@@ -134,11 +134,6 @@ module _ (op : Op) (at : ℤ) (sheets : Sheets) (font : Font) (text : List ℕ) 
         ])
       ])) d.done
 
--- a row has no more cells than dots
-pub few_cells : (font : Font) (d : ℕ) → d / font_width font ≤ d
-few_cells A d = omega arith
-few_cells B d = omega arith
-
 module _ (at : ℤ) (sheets : Sheets) (font : Font) (text : List ℕ) (y left : ℕ) where
   -- where a dot is seen there is a cell among those that can be seen
   pub line_seen : (from to d n : ℕ) → ((x e : ℕ) → left ≤ x → x < left + font_width font * from → pos e ≡ at +ℤ pos x → e < 0)
