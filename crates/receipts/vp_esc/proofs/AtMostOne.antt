@@ -6,13 +6,12 @@ use Rattle.vp_esc.specs.declared.item.EscItem.TheVariants as items
 use Rattle.vp_esc.specs.declared.item.Lead.{Lead}
 use Rattle.vp_esc.specs.declared.item.RasterScale.{RasterScale}
 use Rattle.vp_esc.specs.declared.item.ColumnMode.{ColumnMode}
-use Rattle.vp_esc.specs.declared.item.QrModel.{QrModel}
 use Rattle.vp_esc.specs.declared.command.Command.{Command}
 use Rattle.vp_esc.specs.declared.command.Command.TheVariants.{Plain, TabStops, Columns, Raster, Symbol, Function, Graphics}
 use Rattle.vp_esc.specs.Values.{spelled, scale_of, column_mode_of}
 use Rattle.vp_esc.specs.Command.{head_len}
-use Rattle.vp_esc.specs.Qr.{qr_items, value_items, model_items, store_items}
-use Rattle.vp_esc.specs.Units.{given, given_by, given_behind, given_named, given_after, raster_bytes, columns, tall_columns, at_last}
+use Rattle.vp_esc.specs.Qr.{qr_items, value_items}
+use Rattle.vp_esc.specs.Units.{given, given_by, given_behind, raster_bytes, columns, tall_columns, at_last}
 use Rattle.vp_esc.specs.Split.{items as items_of}
 use Rattle.vp_esc.proofs.Heads.{given_is}
 use Rattle.vp_esc.proofs.Splits.{items-push, items-is}
@@ -31,29 +30,14 @@ one xs ys h = omega arith
 one_of : (b : Bool) (xs ys : List EscItem) → length xs ≤ 1 → length ys ≤ 1 → length (cond b xs ys) ≤ 1
 one_of b xs ys h k = grind arith
 
-behind_same : (x : EscItem) (xs ys : List EscItem) → Few xs ys → Few (x ∷ xs) (x ∷ ys)
-behind_same x xs ys h = omega arith
-
 -- a choice that stays: in both ways more, or in one
 same : (b : Bool) (xs xs' ys ys' : List EscItem) → Few xs xs' → Few ys ys' → Few (cond b xs ys) (cond b xs' ys')
 same b xs xs' ys ys' h k = grind arith
-
-or_same : (b : Bool) (xs xs' ys : List EscItem) → Few xs xs' → Few (cond b xs ys) (cond b xs' ys)
-or_same b xs xs' ys h = same b xs xs' ys ys h (omega arith)
-
-else_same : (b : Bool) (xs ys ys' : List EscItem) → Few ys ys' → Few (cond b xs ys) (cond b xs ys')
-else_same b xs ys ys' h = same b xs xs ys ys' (omega arith) h
 
 last_few : (n : Bool) (x : EscItem) → length (at_last n x) ≤ 1
 last_few n x = grind (arith, lit≤)
 
 -- Rasters and columns.
-
-mapped : (f : ℕ → EscItem) (bytes : List ℕ) (c : ℕ) → Few (map f bytes) (map f (bytes ++ c ∷ []))
-mapped f bytes c = rw (map_push f bytes c) (one_more (map f bytes) (f c))
-
-raster_few : (scale : Option RasterScale) (bytes : List ℕ) (c : ℕ) → Few (raster_bytes scale bytes) (raster_bytes scale (bytes ++ c ∷ []))
-raster_few scale bytes c = grind (arith, lit≤, mapped)
 
 raster_first : (x : EscItem) (scale : Option RasterScale) → length (x ∷ raster_bytes scale []) ≤ 1
 raster_first x scale = grind (arith, lit≤)
@@ -64,31 +48,22 @@ tall_few (x ∷ []) c = lit≤ tt
 tall_few (x ∷ y ∷ []) c = lit≤ tt
 tall_few (x ∷ y ∷ z ∷ bytes) c = let few = tall_few bytes c in omega arith
 
-columns_few : (mode : ColumnMode) (bytes : List ℕ) (c : ℕ) → Few (columns mode bytes) (columns mode (bytes ++ c ∷ []))
-columns_few mode bytes c = grind (arith, mapped, tall_few)
-
 columns_first : (x : EscItem) (mode : ColumnMode) → length (x ∷ columns mode []) ≤ 1
 columns_first x mode = grind (arith, lit≤)
 
 -- GS ( k.
 
-model_few : (count cn n : ℕ) (model : Option QrModel) (more : List ℕ) → length (model_items count cn n model more) ≤ 1
-model_few count cn n model more = grind (arith, lit≤)
-
-store_few : (count cn n : ℕ) (more : List ℕ) (c : ℕ) → Few (store_items count cn n more) (store_items count cn n (more ++ c ∷ []))
-store_few count cn n more c = grind (arith, or_same, behind_same, mapped)
-
 value_few : (count cn function n : ℕ) (more : List ℕ) (c : ℕ) → Few (value_items count cn function n more) (value_items count cn function n (more ++ c ∷ []))
 unfolding value_items
-value_few count cn function n more c = grind (arith, same, model_few, else_same, or_same, store_few)
+value_few count cn function n more c = grind (arith, same, lit≤, map_push, one_more, map)
 
 value_first : (count cn function n : ℕ) → length (value_items count cn function n []) ≤ 1
 unfolding value_items
-value_first count cn function n = grind (arith, one_of, model_few, lit≤)
+value_first count cn function n = grind (arith, one_of, lit≤)
 
 qr_few : (count : ℕ) (values : List ℕ) (c : ℕ) → Few (qr_items count values) (qr_items count (values ++ c ∷ []))
 unfolding qr_items
-qr_few count values c = grind (arith, one_of, lit≤, value_first, or_same, value_few)
+qr_few count values c = grind (arith, one_of, lit≤, value_first, same, value_few)
 
 qr_first : (count : ℕ) → length (qr_items count []) ≤ 1
 unfolding qr_items
@@ -98,15 +73,15 @@ qr_first count = one_of (eqb count 0) _ _ (lit≤ tt) (lit≤ tt)
 
 columns_behind : (lead : Lead) (name : ℕ) (a b d : ℕ) (args : List ℕ) (c : ℕ) → Few (given_by lead name Columns (a ∷ b ∷ d ∷ args)) (given_by lead name Columns (a ∷ b ∷ d ∷ args ++ c ∷ []))
 unfolding given_behind
-columns_behind lead name a b d args c = grind (arith, given_is, length_push, behind_same, columns_few)
+columns_behind lead name a b d args c = grind (arith, given_is, length_push, map_push, one_more, map, tall_few)
 
 raster_behind : (lead : Lead) (name : ℕ) (a b d e f g : ℕ) (args : List ℕ) (c : ℕ) → Few (given_by lead name Raster (a ∷ b ∷ d ∷ e ∷ f ∷ g ∷ args)) (given_by lead name Raster (a ∷ b ∷ d ∷ e ∷ f ∷ g ∷ args ++ c ∷ []))
 unfolding given_behind
-raster_behind lead name a b d e f g args c = grind (arith, given_is, length_push, behind_same, raster_few)
+raster_behind lead name a b d e f g args c = grind (arith, given_is, length_push, lit≤, map_push, one_more, map)
 
 function_behind : (lead : Lead) (name : ℕ) (a b d : ℕ) (args : List ℕ) (c : ℕ) → Few (given_by lead name Function (a ∷ b ∷ d ∷ args)) (given_by lead name Function (a ∷ b ∷ d ∷ args ++ c ∷ []))
 unfolding given_behind
-function_behind lead name a b d args c = grind (arith, given_is, length_push, or_same, qr_few)
+function_behind lead name a b d args c = grind (arith, given_is, length_push, same, qr_few)
 
 -- of arguments that have given no more than one
 one_by : (lead : Lead) (name : ℕ) (k : Command) (args : List ℕ) (c : ℕ) → length (given_by lead name k (args ++ c ∷ [])) ≤ 1
@@ -136,28 +111,13 @@ behind_few lead name Function (a ∷ b ∷ []) c = one_by lead name Function (a 
 behind_few lead name Function (a ∷ b ∷ d ∷ args) c = function_behind lead name a b d args c
 behind_few lead name Graphics args c = one_by lead name Graphics args c (one_of (ltb (length (args ++ c ∷ [])) 5) _ _ (lit≤ tt) (lit≤ tt))
 
-listed_few : (l : Bool) (xs ys : List EscItem) → Few xs ys → Few xs (cond l ys [])
-listed_few l xs ys h = grind arith
-
-named_few : (lead : Lead) (name : ℕ) (o : Option Command) (args : List ℕ) (c : ℕ) → Few (given_named lead name o args) (given_named lead name o (args ++ c ∷ []))
-named_few lead name o args c = grind (arith, lit≤, listed_few, behind_few, or_same)
-
 given_first : (lead : Lead) (name : ℕ) (k : Command) → length (given_by lead name k []) ≤ 1
 unfolding given_by given_behind
 given_first lead name k = grind (arith, one_of, lit≤, last_few)
 
-first_few : (lead : Lead) (name : ℕ) (o : Option Command) → length (given_named lead name o []) ≤ 1
-first_few lead name o = grind (arith, lit≤, given_first)
-
-after_few : (o : Option Lead) (b : ℕ) (bytes : List ℕ) (c : ℕ) → Few (given_after o b bytes) (given_after o b (bytes ++ c ∷ []))
-after_few o b bytes c = grind (arith, lit≤, first_few, named_few)
-
-alone_few : (o : Option Lead) (b : ℕ) → length (given_after o b []) ≤ 1
-alone_few o b = grind (arith, lit≤)
-
 given_few : (front : List ℕ) (c : ℕ) → Few (given front) (given (front ++ c ∷ []))
 unfolding given
-given_few front c = grind (arith, alone_few, after_few)
+given_few front c = grind (arith, lit≤, given_first, behind_few, same)
 
 pub a_byte_gives : (bytes : List ℕ) (c : ℕ) → length (items_of (bytes ++ c ∷ [])) ≤ length (items_of bytes) + 1
 a_byte_gives bytes c = grind (arith, given_few, items-push, items-is, length-append)

@@ -91,13 +91,10 @@ whole_next (x ∷ []) a b c h = cc
 whole_next (x ∷ y ∷ []) a b c h = grind arith
 whole_next (x ∷ y ∷ z ∷ xs) a b c h = more_next x y z xs c _ _ (whole_next xs a b c h)
 
-columns_tall : (mode : ColumnMode) (bytes : List ℕ) → column_bytes mode ≡ 3 → columns mode bytes ≡ tall_columns bytes
-columns_tall mode bytes h = grind arith
-
 given_next : (lead : Lead) (name : ℕ) (args : List ℕ) (c : ℕ) (item : Option EscItem) (part : List ℕ) → 3 ≤ length args
     → column_bytes (column_mode_of (get_or args 0 0)) ≡ 3 → IsNext (drop 3 args) c item part
     → given_by lead name Columns (args ++ c ∷ []) ≡ given_by lead name Columns args ++ option_to_list item
-given_next lead name args c item part h t n = grind (arith, columns_given, columns_tall)
+given_next lead name args c item part h t n = grind (arith, columns_given)
 
 drop_push : (args : List ℕ) (c : ℕ) → 3 ≤ length args → drop 3 (args ++ c ∷ []) ≡ drop 3 args ++ c ∷ []
 drop_push args c h = grind arith

@@ -81,9 +81,6 @@ all_push : (units : List (List ℕ)) (unit : List ℕ) → AllByRecursion IsUnit
 all_push [] unit a u = (u, tt)
 all_push (v ∷ units) unit a u = (a.0, all_push units unit a.1 u)
 
-bytes_push : (units : List (List ℕ)) (unit : List ℕ) → all_bytes (units ++ unit ∷ []) ≡ all_bytes units ++ unit
-bytes_push units unit = flat_map-append (λ u. u) units (unit ∷ []) ∙ ap (λ z. all_bytes units ++ z) (append-nil unit)
-
 rest_nil : IsRest []
 rest_nil = record { opens = open_nil; shortest = λ front more e n. by_front front more e n }
   where
@@ -93,7 +90,7 @@ rest_nil = record { opens = open_nil; shortest = λ front more e n. by_front fro
 
 splits_by : (units : List (List ℕ)) (rest bytes : List ℕ) (x : ℕ) (o : Bool) → Splits bytes units rest → is_unfinished (rest ++ x ∷ []) ≡ o
     → Splits (bytes ++ x ∷ []) (with_rest units (rest ++ x ∷ []) o).units (with_rest units (rest ++ x ∷ []) o).rest
-splits_by units rest bytes x o s o' = grind (arith, append_assoc, fronts_push, bytes_push, append-nil, all_push, rest_nil)
+splits_by units rest bytes x o s o' = grind (arith, append_assoc, fronts_push, flat_map-append, append-nil, all_push, rest_nil)
 
 splits_on : (s : Split) (bytes xs : List ℕ) → Splits bytes s.units s.rest → Splits (bytes ++ xs) (split_on s xs).units (split_on s xs).rest
 unfolding split_on

@@ -1,5 +1,5 @@
 -- Where there is no fault, the rest can be made a unit.
-use Rattle.std.proofs.Common.{◌≡◌, ℕ, ◌+◌, ◌≤◌, Bool, true, false, ◌&&◌, ◌||◌, cond, not, eqb, Option, None, Some, List, [], ◌∷◌, ◌++◌, length, replicate, refl, ap, ◌∙◌, append_assoc, arith, ⊎_elim}
+use Rattle.std.proofs.Common.{◌≡◌, ℕ, ◌+◌, ◌≤◌, Bool, true, false, cond, not, eqb, Option, None, Some, List, [], ◌∷◌, ◌++◌, length, replicate, refl, ap, ◌∙◌, append_assoc, arith, ⊎_elim}
 use Rattle.std.specs.List.{list_any}
 use Rattle.std.proofs.lemmas.Bool.{cases_Bool}
 use Rattle.std.proofs.lemmas.Bool.Decides.{nat_tests}
@@ -60,18 +60,12 @@ end_counted k a args l e =
     needs_counted k ((a ∷ args ++ replicate 8 0) ++ zeros) s.counted ∙ rw (s.head, s.count, len) (grind (arith, nat_tests)) in
     record { more = replicate 8 0 ++ zeros; listed = l; whole = rw append_assoc at w }
 
-and_false : (b : Bool) → (b && false) ≡ false
-and_false b = grind arith
-
 stops_end : (args : List ℕ) → needs_more TabStops (args ++ 0 ∷ []) ≡ false
 unfolding needs_more
-stops_end args = grind (arith, nat_tests, rises_push, and_false)
-
-or_true : (b : Bool) → (b || true) ≡ true
-or_true b = grind arith
+stops_end args = grind (arith, nat_tests, rises_push)
 
 zero_ends : (b s : Bool) (codes : List ℕ) → not b ≡ false → cond b (not (list_any (λ x. eqb x 0) (codes ++ 0 ∷ []))) s ≡ false
-zero_ends b s codes e = grind (arith, list_any-append, or_true)
+zero_ends b s codes e = grind (arith, list_any-append)
 
 zero_whole : (k : Command) (a : ℕ) (args : List ℕ) → is_counted k (a ∷ args) ≡ false → needs_more k (a ∷ args ++ 0 ∷ []) ≡ false
 unfolding needs_more

@@ -1,5 +1,5 @@
 -- What is open, given and refused, by the command that a rest begins.
-use Rattle.std.proofs.Common.{◌≡◌, ℕ, Bool, true, false, cond, Option, Some, None, Ok, Err, List, [], ◌∷◌, ◌++◌, refl, sym, ap, arith}
+use Rattle.std.proofs.Common.{◌≡◌, ℕ, true, false, cond, Option, Some, None, Ok, Err, List, [], ◌∷◌, ◌++◌, refl, sym, ap, arith}
 use Rattle.std.specs.Prelude.{option_to_list}
 use Rattle.std.proofs.lemmas.Bool.Decides.{nat_tests}
 use Rattle.vp_esc.specs.declared.item.EscItem.{EscItem}
@@ -10,7 +10,7 @@ use Rattle.vp_esc.specs.declared.command.Command.{Command}
 use Rattle.vp_esc.specs.declared.reader.EscReader.{EscReader}
 use Rattle.vp_esc.specs.declared.reader.Phase.TheVariants.{Stopped, Ground, AfterLead}
 use Rattle.vp_esc.specs.Command.{lead_of, lead_byte, command_of, is_listed}
-use Rattle.vp_esc.specs.Units.{is_unfinished, given, fault_in, needs_more, given_by, single_item, is_unfinished_after, fault_after, is_unfinished_named, is_listed_name}
+use Rattle.vp_esc.specs.Units.{is_unfinished, given, fault_in, needs_more, given_by, single_item}
 use Rattle.vp_esc.specs.Reader.{Begun, Advances, StandsIn, Lands}
 
 -- a lead's byte is the lead's
@@ -139,35 +139,15 @@ pub unnamed : (lead : Lead) (c : ℕ) (new : EscReader) → command_of lead c �
 unfolding is_unfinished fault_in
 unnamed lead c new e p = grind arith
 
-by_bool : (l n : Bool) (x : Fault) → cond l n true ≡ false → cond l None (Some x) ≡ None
-by_bool l n x e = grind arith
-
-closed_named : (o : Option Command) (b c : ℕ) (args : List ℕ) → is_unfinished_named o args ≡ false
-    → cond (is_listed_name o args) None (Some (Unknown b c)) ≡ None
-closed_named o b c args e = grind (arith, by_bool)
-
-closed_after : (o : Option Lead) (b : ℕ) (bytes : List ℕ) → is_unfinished_after o bytes ≡ false → fault_after o b bytes ≡ None
-closed_after o b bytes e = grind (arith, closed_named)
-
 -- a whole unit has no fault
 pub closed_sound : (front : List ℕ) → is_unfinished front ≡ false → fault_in front ≡ None
 unfolding is_unfinished fault_in
-closed_sound front e = grind (arith, closed_after)
-
--- A front with a fault keeps it, and stays open.
-stuck_named : (o : Option Command) (b c : ℕ) (args : List ℕ) (d : ℕ) (f : Fault)
-    → cond (is_listed_name o args) None (Some (Unknown b c)) ≡ Some f
-    → (is_unfinished_named o (args ++ d ∷ []) ≡ true) × (cond (is_listed_name o (args ++ d ∷ [])) None (Some (Unknown b c)) ≡ Some f)
-stuck_named o b c args d f e = grind arith
-
-stuck_after : (o : Option Lead) (b : ℕ) (bytes : List ℕ) (d : ℕ) (f : Fault) → fault_after o b bytes ≡ Some f
-    → (is_unfinished_after o (bytes ++ d ∷ []) ≡ true) × (fault_after o b (bytes ++ d ∷ []) ≡ Some f)
-stuck_after o b bytes d f e = grind (arith, stuck_named)
+closed_sound front e = grind arith
 
 pub stuck : (front : List ℕ) (d : ℕ) (f : Fault) → fault_in front ≡ Some f
     → (is_unfinished (front ++ d ∷ []) ≡ true) × (fault_in (front ++ d ∷ []) ≡ Some f)
 unfolding is_unfinished fault_in
-stuck front d f e = grind (arith, stuck_after)
+stuck front d f e = grind arith
 
 -- a reader that has stopped
 pub stopped : (rest : List ℕ) (c : ℕ) (f : Fault) (new : EscReader) → fault_in rest ≡ Some f → new.phase ≡ Stopped f

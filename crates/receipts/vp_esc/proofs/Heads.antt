@@ -12,34 +12,14 @@ use Rattle.vp_esc.specs.Command.{head_len, plain_len, is_listed}
 use Rattle.vp_esc.specs.Units.{needs_more, is_counted, is_short, data_len, given_by, given_behind, prints_rows, is_skipped}
 use Rattle.vp_esc.specs.Reader.{HasLeft}
 
--- one or two arguments
-one_or_two : (b : Bool) → (1 ≤ cond b 2 1) × (cond b 2 1 ≤ 8)
-one_or_two b = grind arith
-
-plain_small : (p : PlainCommand) (args : List ℕ) → plain_len p args ≤ 8
-plain_small p args = grind (arith, one_or_two)
-
-one_to_eight : (b : Bool) → cond b 1 2 ≤ 8
-one_to_eight b = grind arith
-
 pub head_small : (k : Command) (args : List ℕ) → head_len k args ≤ 8
-head_small k args = grind (arith, plain_small, one_to_eight)
-
--- the head is known by the first argument
-plain_first : (p : PlainCommand) (f : ℕ) (xs ys : List ℕ) → plain_len p (f ∷ xs) ≡ plain_len p (f ∷ ys)
-plain_first p f xs ys = grind arith
+head_small k args = grind arith
 
 pub head_first : (k : Command) (f : ℕ) (xs ys : List ℕ) → head_len k (f ∷ xs) ≡ head_len k (f ∷ ys)
-head_first k f xs ys = grind (arith, plain_first)
-
-plain_begins : (p : PlainCommand) (c : ℕ) → 0 < plain_len p [] → 1 ≤ plain_len p (c ∷ [])
-plain_begins p c h = grind (arith, one_or_two)
-
-symbol_begins : (b : Bool) → 1 ≤ cond b 1 2
-symbol_begins b = grind arith
+head_first k f xs ys = grind arith
 
 head_begins : (k : Command) (c : ℕ) → 0 < head_len k [] → 1 ≤ head_len k (c ∷ [])
-head_begins k c h = grind (arith, plain_begins, symbol_begins)
+head_begins k c h = grind arith
 
 -- one more argument is still in the head
 pub head_push : (k : Command) (args : List ℕ) (c : ℕ) → length args < head_len k args → length args + 1 ≤ head_len k (args ++ c ∷ [])
@@ -97,24 +77,18 @@ same Graphics (a ∷ b ∷ c ∷ []) more e h = absurd (omega arith)
 same Graphics (a ∷ b ∷ c ∷ d ∷ []) more e h = absurd (omega arith)
 same Graphics (a ∷ b ∷ c ∷ d ∷ x ∷ front) more e h = record { head = refl; count = refl; counted = refl; rows = refl; skipped = refl }
 
-symbol_counted : (b n s : Bool) → not b ≡ true → cond b n s ≡ s
-symbol_counted b n s e = grind arith
-
 pub needs_counted : (k : Command) (args : List ℕ) → is_counted k args ≡ true → needs_more k args ≡ is_short k args
 unfolding needs_more
-needs_counted k args e = grind (arith, symbol_counted)
+needs_counted k args e = grind arith
 
 -- Among the arguments before any data, more are needed, and nothing is given.
 pub record IsHead (lead : Lead) (name : ℕ) (k : Command) (args : List ℕ) : Type 0 where
   pub needs : needs_more k args ≡ true
   pub gives : given_by lead name k args ≡ []
 
-symbol_needs : (b n s : Bool) (len : ℕ) → 1 ≤ len → len < cond b 1 2 → (len < 2 → s ≡ true) → cond b n s ≡ true
-symbol_needs b n s len one h f = grind arith
-
 needs_in_head : (k : Command) (args : List ℕ) → length args < head_len k args → needs_more k args ≡ true
 unfolding needs_more
-needs_in_head k args h = grind (arith, nat_tests, symbol_needs)
+needs_in_head k args h = grind (arith, nat_tests)
 
 pub heads : (lead : Lead) (name : ℕ) (k : Command) (args : List ℕ) → length args < head_len k args → IsHead lead name k args
 unfolding given_by

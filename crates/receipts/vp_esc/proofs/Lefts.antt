@@ -1,9 +1,8 @@
 -- What is left of the data that stand open, by the reader's phase.
-use Rattle.std.proofs.Common.{◌≡◌, ℕ, ◌-◌, Bool, true, false, cond, ltb, ◌&&◌, Option, Some, None, List, [], length, refl, sym, ap, ◌∙◌, arith}
+use Rattle.std.proofs.Common.{◌≡◌, ℕ, ◌-◌, Bool, true, false, cond, ltb, Some, List, [], length, refl, sym, ap, ◌∙◌, arith}
 use Rattle.std.proofs.lemmas.Bool.Decides.{nat_tests}
 use Rattle.std.proofs.lemmas.List.{append-nil}
 use Rattle.vp_dots.specs.declared.fault.Fault.{Fault}
-use Rattle.vp_dots.specs.declared.fault.Fault.TheVariants.{Unknown}
 use Rattle.vp_esc.specs.declared.item.Lead.{Lead}
 use Rattle.vp_esc.specs.declared.command.Command.{Command}
 use Rattle.vp_esc.specs.declared.command.Command.TheVariants.{TabStops, Columns, Symbol, Function}
@@ -12,9 +11,9 @@ use Rattle.vp_esc.specs.declared.reader.Data.{Data}
 use Rattle.vp_esc.specs.declared.reader.Phase.{Phase}
 use Rattle.vp_esc.specs.declared.reader.Phase.TheVariants as phases
 use Rattle.vp_esc.specs.Command.{head_len}
-use Rattle.vp_esc.specs.Units.{prints_rows, is_skipped, stores_bytes, fault_in, fault_after, is_listed_name}
+use Rattle.vp_esc.specs.Units.{prints_rows, is_skipped, stores_bytes, fault_in}
 use Rattle.vp_esc.specs.Reader.{in_phase, Begun, HasLeft, InArguments, InBytes, InQr, are_rows, give_nothing, are_stored}
-use Rattle.vp_esc.specs.Runs.{left_in, left_after, left_named, left_before_last, text_in}
+use Rattle.vp_esc.specs.Runs.{left_in, left_before_last, text_in}
 use Rattle.vp_esc.proofs.Fronts.{lead_of-lead_byte}
 
 -- of the data of these kinds, by the phase
@@ -54,20 +53,9 @@ none_in_head is_meant r command rest hand =
 left_of : (command : Command) (args : List ℕ) (left : ℕ) → HasLeft command args left → left_before_last command args ≡ left - 1
 left_of command args left h = grind (arith, nat_tests)
 
-by_listed : (listed meant : Bool) (n : ℕ) (x f : Fault) → cond listed None (Some x) ≡ Some f → cond (listed && meant) n 0 ≡ 0
-by_listed listed meant n x f e = grind arith
-
-stopped_named : (is_meant : Command → List ℕ → Bool) (o : Option Command) (b c : ℕ) (args : List ℕ) (f : Fault)
-    → cond (is_listed_name o args) None (Some (Unknown b c)) ≡ Some f → left_named is_meant o args ≡ 0
-stopped_named is_meant o b c args f e = grind (arith, by_listed)
-
-stopped_after : (is_meant : Command → List ℕ → Bool) (o : Option Lead) (b : ℕ) (bytes : List ℕ) (f : Fault)
-    → fault_after o b bytes ≡ Some f → left_after is_meant o bytes ≡ 0
-stopped_after is_meant o b bytes f e = grind (arith, stopped_named)
-
 none_stopped : (is_meant : Command → List ℕ → Bool) (rest : List ℕ) (f : Fault) → fault_in rest ≡ Some f → left_in is_meant rest ≡ 0
 unfolding left_in fault_in
-none_stopped is_meant rest f e = grind (arith, stopped_after)
+none_stopped is_meant rest f e = grind arith
 
 left_is : (is_meant : Command → List ℕ → Bool) (are : Data → Bool) → IsTied is_meant are → (p : Phase) (r : EscReader) (rest : List ℕ)
     → in_phase p r rest → left_in is_meant rest ≡ left_by are p

@@ -24,7 +24,7 @@ use Rattle.vp_esc.specs.declared.command.OfWord.{OfWord as OfWordCommand}
 use Rattle.vp_esc.specs.Values.{spelled, is_cut, is_feed_cut, is_column_mode, column_mode_of, column_bytes, scale_of, is_kind_to_zero}
 use Rattle.vp_esc.specs.Units.{needs_more, rises_from, alone_item, of_byte_item, of_word_item, plain_item, stops_item, tall_columns, columns, raster_bytes, symbol_data, symbol_unit, given_behind}
 use Rattle.vp_esc.specs.Laws.{all_bytes}
-use Rattle.vp_esc.specs.Lines.{lead_word, two_bytes, column_byte, symbol_bytes, line_of}
+use Rattle.vp_esc.specs.Lines.{lead_word, two_bytes, symbol_bytes, line_of}
 use Rattle.vp_esc.specs.Listings.{may_skip, Lists}
 use Rattle.vp_esc.specs.Table.{IsPlain, IsStops, IsColumns, IsRaster, IsToZero, IsCountedSymbol, IsGraphics}
 use Rattle.vp_esc.proofs.Named.{IsNamed}
@@ -168,11 +168,8 @@ columns_listed Double8 bytes n e = record { parts = singles bytes; bytes_are = s
 columns_listed Single24 bytes n e = record { parts = triples bytes; bytes_are = sym (all_triples bytes n e); lines_are = triple_lines bytes }
 columns_listed Double24 bytes n e = record { parts = triples bytes; bytes_are = sym (all_triples bytes n e); lines_are = triple_lines bytes }
 
-mode_byte : (m : ℕ) → is_column_mode m ≡ true → column_byte (column_mode_of m) ≡ m
-mode_byte m e = grind (arith, eqb-true)
-
 column_head : (m l h : ℕ) → is_column_mode m ≡ true → l < 256 → h < 256 → line_of (items.Columns (column_mode_of m) (l + 256 * h)) ≡ listed (codes "esc") (0x2A ∷ m ∷ l ∷ h ∷ [])
-column_head m l h e p q = grind (arith, mode_byte, two_is)
+column_head m l h e p q = grind (arith, eqb-true, two_is)
 
 pub columns_list : (args : List ℕ) → IsColumns args → IsBytes args → Lists Esc (0x2A ∷ args) (map line_of (given_behind Esc 0x2A Columns args))
 unfolding given_behind

@@ -7,7 +7,6 @@ use Rattle.std.proofs.lemmas.Bool.Decides.{nat_tests}
 use Rattle.vp_esc.specs.declared.item.Lead.{Lead}
 use Rattle.vp_esc.specs.declared.command.Command.{Command}
 use Rattle.vp_esc.specs.declared.command.Command.TheVariants.{Plain, TabStops, Columns, Raster, Symbol, Function, Graphics}
-use Rattle.vp_esc.specs.declared.command.Plain.{Plain as PlainCommand}
 use Rattle.vp_esc.specs.declared.command.Plain.TheVariants.{Cut, Sensor, RealTime}
 use Rattle.vp_esc.specs.Values.{is_kind_to_zero}
 use Rattle.vp_esc.specs.Command.{lead_of, command_of, head_len, is_listed}
@@ -91,9 +90,6 @@ real_time_row [] s = absurd (omega (arith, s.len))
 real_time_row (m ∷ []) s = grind arith
 real_time_row (m ∷ n ∷ []) s = grind arith
 real_time_row (m ∷ n ∷ x ∷ args) s = grind arith
-
-plain_row : (p : PlainCommand) (args : List ℕ) → IsSized (Plain p) args → IsPlain p args
-plain_row p args s = grind (arith, nil_of, area_row, cut_row, sensor_row, real_time_row)
 
 columns_row : (args : List ℕ) → IsSized Columns args → IsColumns args
 columns_row [] s = absurd (omega (arith, s.len))
@@ -196,7 +192,7 @@ zero_row (m ∷ x ∷ args) e w =
     }
 
 arguments_of : (k : Command) (args : List ℕ) → IsWhole k args → IsArguments k args
-arguments_of k args w = grind (arith, plain_row, sized_of, stops_row, columns_row, raster_row, counted_row, zero_row, function_row, graphics_row)
+arguments_of k args w = grind (arith, nil_of, area_row, cut_row, sensor_row, real_time_row, sized_of, stops_row, columns_row, raster_row, counted_row, zero_row, function_row, graphics_row)
 
 -- Units.
 

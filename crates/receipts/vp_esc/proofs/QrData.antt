@@ -1,5 +1,5 @@
 -- The bytes of GS ( k.
-use Rattle.std.proofs.Common.{◌≡◌, ◌≢◌, ℕ, ◌+◌, ◌-◌, ◌*◌, ◌<◌, ◌≤◌, Bool, true, false, ◌&&◌, cond, ltb, leb, eqb, Option, Ok, List, [], ◌∷◌, ◌++◌, length, take, drop, map, get_or, refl, sym, ap, subst, ◌∙◌, arith, ⊎_elim}
+use Rattle.std.proofs.Common.{◌≡◌, ◌≢◌, ℕ, ◌+◌, ◌-◌, ◌*◌, ◌<◌, ◌≤◌, Bool, true, false, cond, ltb, leb, eqb, Option, Ok, List, [], ◌∷◌, ◌++◌, length, take, drop, map, get_or, refl, sym, ap, subst, ◌∙◌, arith, ⊎_elim}
 use Rattle.std.specs.Prelude.{option_to_list}
 use Rattle.std.proofs.lemmas.Bool.Decides.{nat_tests}
 use Rattle.std.proofs.lemmas.Bool.{cases_lt}
@@ -136,12 +136,9 @@ store_front values = grind arith
 pub kept_not_stored : (r : EscReader) (count left : ℕ) (rest : List ℕ) → InQr r count left rest → begins_store r.kept.items ≡ false
 kept_not_stored r count left rest hand = ap begins_store hand.kept ∙ store_front (drop 3 hand.args) ∙ hand.not_stored
 
-is_48 : (a b c : ℕ) → eqb a 49 && eqb b 80 && eqb c 48 ≡ true → a ∷ b ∷ c ∷ [] ≡ 49 ∷ 80 ∷ 48 ∷ []
-is_48 a b c h = grind (arith, nat_tests)
-
 -- the third value begins them
 begins_here : (values : List ℕ) (c : ℕ) → begins_store values ≡ false → begins_store (values ++ c ∷ []) ≡ true → values ++ c ∷ [] ≡ 49 ∷ 80 ∷ 48 ∷ []
-begins_here values c u h = grind (arith, is_48)
+begins_here values c u h = grind (arith, nat_tests)
 
 -- what the bytes behind them give
 stored_given : (count : ℕ) (more : List ℕ) → 4 ≤ count → qr_items count (49 ∷ 80 ∷ 48 ∷ more) ≡ items.QrStore (count - 3) ∷ map (λ b. items.QrByte b) more

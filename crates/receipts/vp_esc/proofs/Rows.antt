@@ -1,5 +1,5 @@
 -- Each row of the table is a unit.
-use Rattle.std.proofs.Common.{◌≡◌, ◌≢◌, ℕ, ◌≤◌, ◌<◌, ◌+◌, Bool, true, false, ◌&&◌, ◌||◌, eqb, Some, List, [], ◌∷◌, ◌++◌, length, refl, sym, ap, ◌∙◌, arith, ⊎_elim}
+use Rattle.std.proofs.Common.{◌≡◌, ◌≢◌, ℕ, ◌≤◌, ◌<◌, ◌+◌, Bool, true, false, ◌&&◌, eqb, Some, List, [], ◌∷◌, ◌++◌, length, refl, sym, ap, ◌∙◌, arith, ⊎_elim}
 use Rattle.std.specs.List.{list_any}
 use Rattle.std.proofs.lemmas.List.{length-append, length_push}
 use Rattle.std.proofs.lemmas.List.Folds.{list_any-append}
@@ -10,7 +10,7 @@ use Rattle.vp_esc.specs.declared.item.Lead.TheVariants.{Esc}
 use Rattle.vp_esc.specs.declared.command.Command.{Command}
 use Rattle.vp_esc.specs.declared.command.Command.TheVariants.{Plain, TabStops, Columns, Raster, Symbol, Function, Graphics}
 use Rattle.vp_esc.specs.declared.command.Plain.{Plain as PlainCommand}
-use Rattle.vp_esc.specs.Values.{is_kind_to_zero, is_cut, is_feed_cut}
+use Rattle.vp_esc.specs.Values.{is_kind_to_zero}
 use Rattle.vp_esc.specs.Command.{lead_byte, command_of, head_len, is_listed}
 use Rattle.vp_esc.specs.Units.{is_unfinished, needs_more, is_counted, data_len, rises_from}
 use Rattle.vp_esc.specs.Laws.{IsUnit}
@@ -73,17 +73,8 @@ sized_short k args front more s e n =
 sized_done : (k : Command) (args : List ℕ) → IsSized k args → IsDone k args
 sized_done k args s = record { listed = s.listed; needs = needs_counted k args s.counted ∙ grind (arith, nat_tests, s.len) }
 
-one_of : (a b : Bool) → a ≡ true → (a || b) ≡ true
-one_of a b e = grind arith
-
-other_of : (a b : Bool) → b ≡ true → (a || b) ≡ true
-other_of a b e = grind arith
-
-cut_one : (m : ℕ) → is_cut m ≡ true → is_feed_cut m ≡ false
-cut_one m e = grind (arith, nat_tests)
-
 sized_plain : (p : PlainCommand) (args : List ℕ) → IsPlain p args → IsSized (Plain p) args
-sized_plain p args h = grind (arith, one_of, cut_one, other_of, nat_tests)
+sized_plain p args h = grind (arith, nat_tests)
 
 sized_columns : (args : List ℕ) → IsColumns args → IsSized Columns args
 sized_columns args h = record { listed = rw h.bytes h.is_mode; counted = refl; len = rw h.bytes (omega (arith, h.count)) }
@@ -98,7 +89,7 @@ sized_graphics : (args : List ℕ) → IsGraphics args → IsSized Graphics args
 sized_graphics args h = record { listed = rw h.bytes refl; counted = refl; len = rw h.bytes (omega (arith, h.count)) }
 
 sized_symbol : (args : List ℕ) → IsCountedSymbol args → IsSized Symbol args
-sized_symbol args h = grind (arith, other_of)
+sized_symbol args h = grind arith
 
 -- Tab stops.
 
@@ -110,16 +101,13 @@ rises_front last (x ∷ xs) ys h = both _ _ _ h (rises_front x xs ys)
     both true b c h f = f h
     both false b c h f = cc
 
-listed_stops : (args : List ℕ) → is_listed TabStops args ≡ true
-listed_stops args = grind arith
-
 stops_short : (args front more : List ℕ) → IsStops args → args ≡ front ++ more → more ≢ [] → IsShort TabStops front
 unfolding needs_more
-stops_short args front more s e n = grind (arith, front_of_push, rises_front, length-append, nat_tests, listed_stops)
+stops_short args front more s e n = grind (arith, front_of_push, rises_front, length-append, nat_tests)
 
 stops_done : (args : List ℕ) → IsStops args → IsDone TabStops args
 unfolding needs_more
-stops_done args a = grind (arith, rises_push, length_push, listed_stops, nat_tests)
+stops_done args a = grind (arith, rises_push, length_push, nat_tests)
 
 -- Symbols up to a 0.
 

@@ -48,25 +48,18 @@ pub fault-push : (bytes : List ℕ) (c : ℕ) → fault_of (bytes ++ c ∷ []) �
 unfolding fault_of
 fault-push bytes c = ap fault_in (rest-push bytes c) ∙ fault_by ((split bytes).rest ++ c ∷ []) (is_unfinished ((split bytes).rest ++ c ∷ [])) refl
 
-gives_by : (result : Result (Option EscItem) Fault) (units before after whole : List EscItem) (fault fault' : Option Fault)
-    → whole ≡ units ++ after → fault' ≡ fault → Gives result before after fault → Gives result (units ++ before) whole fault'
-gives_by result units before after whole fault fault' w f g = grind (arith, append_assoc)
-
 -- a step by the rest is a step by the bytes
 pub gives-from_advances : (result : Result (Option EscItem) Fault) (bytes : List ℕ) (c : ℕ) (new : EscReader)
     → Advances result (split bytes).rest c new → Gives result (items bytes) (items (bytes ++ c ∷ [])) (fault_of (bytes ++ c ∷ []))
-gives-from_advances result bytes c new a = grind (arith, items-is, gives_by, items-push, fault-push)
+gives-from_advances result bytes c new a = grind (arith, items-is, append_assoc, items-push, fault-push)
 
 pub stands-from_advances : (result : Result (Option EscItem) Fault) (bytes : List ℕ) (c : ℕ) (new : EscReader)
     → Advances result (split bytes).rest c new → Stands new (bytes ++ c ∷ [])
 unfolding Stands
 stands-from_advances result bytes c new a = rw rest-push a.stands
 
-gives_fault : (result : Result (Option EscItem) Fault) (before after : List EscItem) (f : Fault) → Gives result before after (Some f) → result ≡ Err f
-gives_fault result before after f g = grind arith
-
 -- a fault is answered again
 pub sticks-from_advances : (result : Result (Option EscItem) Fault) (bytes : List ℕ) (c : ℕ) (new : EscReader) (f : Fault)
     → Advances result (split bytes).rest c new → fault_of bytes ≡ Some f → result ≡ Err f
 unfolding fault_of
-sticks-from_advances result bytes c new f a e = grind (arith, stuck, gives_fault)
+sticks-from_advances result bytes c new f a e = grind (arith, stuck)

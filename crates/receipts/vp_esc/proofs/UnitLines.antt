@@ -3,7 +3,6 @@ use Rattle.std.proofs.Common.{◌≡◌, ℕ, ◌<◌, ◌≤◌, Bool, true, fa
 use Rattle.std.specs.Prelude.{map}
 use Rattle.std.proofs.lemmas.Bool.{cases_lt}
 use Rattle.std.proofs.lemmas.Bool.Decides.{nat_tests}
-use Rattle.vp_esc.specs.declared.item.EscItem.{EscItem}
 use Rattle.vp_esc.specs.declared.item.Lead.{Lead}
 use Rattle.vp_esc.specs.declared.item.Lead.TheVariants.{Esc, Gs}
 use Rattle.vp_esc.specs.declared.command.Command.{Command}
@@ -21,12 +20,8 @@ use Rattle.vp_esc.proofs.Named.{IsNamed, named_so}
 use Rattle.vp_esc.proofs.Listed.{IsBytes, one_line, plain_listed, stops_listed, columns_list, raster_list, to_zero_list, counted_list, graphics_list}
 use Rattle.vp_esc.proofs.QrListed.{function_list}
 
--- the line of what a test chooses
-chosen : (t : Bool) (x y : EscItem) → line_of (cond t x y) ≡ cond t (line_of x) (line_of y)
-chosen t x y = grind arith
-
 single_line : (b : ℕ) → line_of (single_item b) ≡ line_of_byte b
-single_line b = grind (arith, chosen)
+single_line b = grind arith
 
 pub byte_line : (b : ℕ) → lead_of b ≡ None → map line_of (given (b ∷ [])) ≡ line_of_byte b ∷ []
 unfolding given

@@ -114,13 +114,10 @@ whitened s = grind arith
 pub kept_row : (from to x : ℕ) (new : List ℕ) → Painted White (span from to) (replicate 72 255) new → x < 576 → dot new x ≡ not (span from to x)
 kept_row from to x new p h = p.dots_are x (omega (arith, length-replicate {A = ℕ} 72 255)) ∙ ap (λ b. cond (span from to x) false b) (black_row 72 x (omega arith)) ∙ whitened (span from to x)
 
-not_not : (b : Bool) → not (not b) ≡ b
-not_not b = grind arith
-
 -- and what is not kept of a row that an area has
 pub wiped_dot : (a : Area) (from to x y : ℕ) (k : Bool) → k ≡ not (span a.x (a.x + a.dx) x) → from ≤ y → y < to → a.y ≤ y → y < a.y + a.dy
     → not k ≡ (span from to y && holds a x y)
-wiped_dot a from to x y k e p q r s = grind (arith, le-leb, lt-ltb, not, not_not, and_true)
+wiped_dot a from to x y k e p q r s = grind (arith, le-leb, lt-ltb, not, and_true)
 
 white_lane : (j k : ℕ) → j < 64 → bit (get_or (replicate 64 0) j 0) k ≡ false
 unfolding bit

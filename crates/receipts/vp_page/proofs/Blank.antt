@@ -1,5 +1,5 @@
 -- A white page.
-use Rattle.std.proofs.Common.{◌+◌, ◌++◌, drop, ◌≡◌, ℕ, ◌-◌, ◌/◌, ◌%◌, ◌<◌, false, eqb, ap, ◌∙◌, arith, List, [], length, get_or, replicate}
+use Rattle.std.proofs.Common.{◌+◌, ◌++◌, drop, ◌≡◌, ℕ, ◌-◌, ◌/◌, ◌%◌, ◌<◌, false, eqb, ap, arith, List, [], length, get_or, replicate}
 use Rattle.std.proofs.lemmas.Bool.Decides.{nat_tests}
 use Rattle.std.proofs.lemmas.List.{get_or-drop, get_or_append_left, get_or-append_right, get_or_past, get_or-replicate, length-replicate}
 use Rattle.std.proofs.lemmas.Nat.Bits.{bit_at-zero}
@@ -11,11 +11,8 @@ pub dot_white : (n x : ℕ) → x / 8 < n → dot (replicate n 0) x ≡ false
 unfolding dot bit
 dot_white n x h = rw (get_or-replicate {A = ℕ} n (x / 8) 0 0 h) (ap (λ k. eqb k 1) (bit_at-zero (7 - x % 8)))
 
-white_rows : (high wide : ℕ) (band : List (List ℕ)) → band ≡ replicate high (replicate wide 0) → (y : ℕ) → y < high → get_or band y [] ≡ replicate wide 0
-white_rows high wide band e y h = ap (λ (rows : List (List ℕ)). get_or rows y []) e ∙ get_or-replicate high y (replicate wide 0) [] h
-
 pub blank : (high wide : ℕ) (band : List (List ℕ)) → high ≡ PAGE_ROWS → wide ≡ PAPER_BYTES → band ≡ replicate high (replicate wide 0) → HasPage [] (record { rows = band; laid = 0; wiped = 0 })
-blank high wide band a b e = grind (arith, white_rows, length-replicate, dot_white)
+blank high wide band a b e = grind (arith, get_or, get_or-replicate, replicate, length-replicate, dot_white)
 
 -- a row with white bytes behind it
 pub white_end : (row : List ℕ) (m u : ℕ) → dot (row ++ drop (length row) (replicate {A = ℕ} m 0)) u ≡ dot row u

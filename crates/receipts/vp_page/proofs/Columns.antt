@@ -1,5 +1,7 @@
 -- Lines laid across the page, upward or downward.
 use Rattle.std.proofs.Common.{inl, inr, ◌≡◌, ℕ, ◌+◌, ◌-◌, ◌*◌, ◌/◌, ◌%◌, ◌<◌, ◌≤◌, min, not, Bool, true, false, ltb, leb, ◌&&◌, refl, sym, ap, ◌∙◌, arith, List, length, take, get_or, ℤ}
+use Rattle.vp_page.proofs.Rows.{met}
+use Rattle.std.proofs.lemmas.Int.{ints}
 use Rattle.std.proofs.lemmas.Bool.{cases_lt, lt-ltb, le-ltb, lt-leb, le-leb, and_parts, ltb-true, leb-true, true≢false}
 use Rattle.std.proofs.lemmas.Bool.Decides.{nat_tests}
 use Rattle.std.proofs.Math.Bool.{beq}
@@ -14,7 +16,7 @@ use Rattle.vp_page.specs.declared.area.Way.{Way}
 use Rattle.vp_page.specs.declared.area.Way.TheVariants.{Up, Down}
 use Rattle.vp_page.proofs.Marks.{shown_line}
 use Rattle.vp_page.proofs.RunRows.{run_in}
-use Rattle.vp_page.proofs.Squares.{and_false, down_row, no_line, up_row}
+use Rattle.vp_page.proofs.Squares.{and_false, no_line}
 
 -- and back
 pub placed_back : (way : Way) (n i k : ℕ) → k < n → i ≡ placed way n k → placed way n i ≡ k
@@ -66,7 +68,7 @@ module _ (ax dx v n x : ℕ) (ink : ℕ → Bool) (deep : v + n ≤ dx) (none : 
 columns_row : (a : Area) (way : Way) (v n wide x : ℕ) (ink row : ℕ → Bool) (at : ℤ) → v + n ≤ a.dx → n ≤ wide → IsLeft a way v wide at → ((i : ℕ) → n ≤ i → ink i ≡ false)
     → ((s : ℕ) → s < wide → row s ≡ ink (placed way wide s)) → ((s : ℕ) → wide ≤ s → row s ≡ false)
     → shifted at row x ≡ (span a.x (a.x + a.dx) x && (leb v (depth_of a way x) && ink (depth_of a way x - v)))
-columns_row a way v n wide x ink row at deep few e none same past = grind (arith, nat_tests, up_row, down_row)
+columns_row a way v n wide x ink row at deep few e none same past = grind (arith, nat_tests, met, ints, lt-ltb, le-ltb)
 
 -- what stands on rows of the page, as dots of a stretch
 in_stretch : (p1 p2 hx hy s q r : Bool) → (p1 && p2) ≡ (hy && s) → (p1 ≡ true → p2 ≡ true → q ≡ (hx && r)) → (p1 && (p2 && q)) ≡ (s && ((hx && hy) && r))

@@ -29,20 +29,11 @@ pub record Lies (a : Area) (d : Direction) (u w x y : ℕ) : Type 0 where
 pub lies : (a : Area) (d : Direction) (x y : ℕ) → IsWithin a x y → Lies a d (along a d x y) (down a d x y) x y
 lies a d x y h = grind arith
 
-is_along : (a : Area) (d : Direction) (u w x y : ℕ) → Lies a d u w x y → along a d x y ≡ u
-is_along a d u w x y h = grind arith
-
-is_down : (a : Area) (d : Direction) (u w x y : ℕ) → Lies a d u w x y → down a d x y ≡ w
-is_down a d u w x y h = grind arith
-
-lies_within : (a : Area) (d : Direction) (u w x y : ℕ) → Lies a d u w x y → IsWithin a x y
-lies_within a d u w x y h = grind arith
-
 falls : (m : Mark) (x y : ℕ) → mark_dot m x y ≡ true → (u : ℕ) × (w : ℕ) × FallsOn m u w x y × (m.dot u w ≡ true)
 falls m x y e = grind (arith, and_parts, leb-true, lies, within)
 
 blackens : (m : Mark) (u w x y : ℕ) → FallsOn m u w x y → m.dot u w ≡ true → mark_dot m x y ≡ true
-blackens m u w x y f e = grind (arith, held, lies_within, is_along, is_down, le-leb)
+blackens m u w x y f e = grind (arith, held, le-leb)
 
 pub dots_fall : DotsFall
 dots_fall m x y = (falls m x y, λ h. blackens m h.0 h.1 x y h.2 h.3)

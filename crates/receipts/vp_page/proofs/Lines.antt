@@ -1,5 +1,5 @@
 -- A line of an image, and a line alone that is laid across the page.
-use Rattle.std.proofs.Common.{inl, inr, ◌≡◌, ℕ, ◌+◌, ◌-◌, ◌*◌, ◌<◌, ◌≤◌, min, Bool, true, false, cond, eqb, leb, ltb, ◌&&◌, ◌||◌, refl, sym, ap, ◌∙◌, arith, List, [], get_or, replicate, pos}
+use Rattle.std.proofs.Common.{inl, inr, ◌≡◌, ℕ, ◌+◌, ◌-◌, ◌*◌, ◌<◌, ◌≤◌, min, Bool, true, false, eqb, leb, ltb, ◌&&◌, ◌||◌, refl, sym, ap, ◌∙◌, arith, List, [], get_or, replicate, pos}
 use Rattle.std.specs.Int.{bit_at, to_be_bytes, w64}
 use Rattle.std.proofs.lemmas.Bool.Decides.{nat_tests}
 use Rattle.std.proofs.lemmas.Nat.Bits.{bit_at-zero}
@@ -18,13 +18,10 @@ use Rattle.vp_page.proofs.Blank.{dot_white}
 use Rattle.vp_page.proofs.Rows.{dot_past}
 use Rattle.vp_page.proofs.Squares.{and_false, white_word}
 
-black_alone : (b : Bool) → cond b true false ≡ b
-black_alone b = grind arith
-
 -- a line painted on white
 pub drawn : (n width : ℕ) (f : ℕ → Bool) (old new : List ℕ) → old ≡ replicate n 0 → width ≤ 8 * n → ((x : ℕ) → f x ≡ true → x < width)
     → Painted Black (shifted (pos 0) f) old new → (x : ℕ) → dot new x ≡ f x
-drawn n width f old new e w o p x = grind (arith, length-replicate, dot_white, le-leb, black_alone, dot_past, false_from_ne_true)
+drawn n width f old new e w o p x = grind (arith, length-replicate, dot_white, le-leb, dot_past, false_from_ne_true)
 
 -- a column has no dot where its area has no row
 pub no_column : (ay dy k : ℕ) (e b : Bool) → (ay ≤ k → k < ay + dy → ⊥) → (e && (span ay (ay + dy) k && b)) ≡ false

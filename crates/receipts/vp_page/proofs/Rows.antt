@@ -31,12 +31,9 @@ met (negsuc a) d = inl (d + (a + 1), (omega (arith, ints)), (λ f. refl))
 pub rows_same : (op : Op) (f g : ℕ → ℕ → Bool) (a b : List (List ℕ)) → ((x k : ℕ) → k < 1664 → f x k ≡ g x k) → RowsPainted 1664 op f a b → RowsPainted 1664 op g a b
 rows_same op f g a b e p = grind arith
 
-black_twice : (i j k old : Bool) → k ≡ (i || j) → cond j true (cond i true old) ≡ cond k true old
-black_twice i j k old e = grind arith
-
 -- ink on ink
 pub rows_then : (f g h : ℕ → ℕ → Bool) (a b c : List (List ℕ)) → ((x k : ℕ) → h x k ≡ (f x k || g x k)) → RowsPainted 1664 Black f a b → RowsPainted 1664 Black g b c → RowsPainted 1664 Black h a c
-rows_then f g h a b c e p q = grind (arith, black_twice)
+rows_then f g h a b c e p q = grind arith
 
 take-row_from : (n m : ℕ) (f : ℕ → Bool) (at : ℕ) → n ≤ m → take n (row_from m f at) ≡ row_from n f at
 take-row_from zero m f at h = refl

@@ -90,22 +90,10 @@ run_more a way from at t top b0 bn ink x y f h e same =
 pub stretch_more : (from to next al : ℕ) (b : Bool) → from ≤ to → to ≤ next → (span from next al && b) ≡ ((span from to al && b) || (span to next al && b))
 stretch_more from to next al b h k = grind (arith, nat_tests)
 
-up_along : (ay dy y : ℕ) → (leb ay y && ltb y (ay + dy)) ≡ true → ay + dy - 1 - y < dy
-up_along ay dy y e = grind (arith, nat_tests)
-
-down_along : (ay dy y : ℕ) → (leb ay y && ltb y (ay + dy)) ≡ true → y - ay < dy
-down_along ay dy y e = grind (arith, nat_tests)
-
-short_of : (a : Area) (way : Way) (y : ℕ) → (leb a.y y && ltb y (a.y + a.dy)) ≡ true → along_of a way y < a.dy
-short_of a way y e = grind (arith, up_along, down_along)
-
-all_in : (hx hy s v : Bool) (high long al : ℕ) → (hy ≡ true → (al < high → al < long) × (high ≤ al → long ≤ al)) → (span 0 high al && (hx && hy && (s && v))) ≡ (hx && hy && (s && (ltb al long && v)))
-all_in hx hy s v high long al e = grind (arith, nat_tests)
-
 -- after the last one
 pub all_stretches : (a : Area) (way : Way) (long high b0 bn : ℕ) (ink : ℕ → ℕ → Bool) (x y : ℕ) → high ≡ min a.dy long
     → (span 0 high (along_of a way y) && across_dot a way b0 bn ink x y) ≡ across_dot a way b0 bn (λ u w. ltb u long && ink u w) x y
-all_stretches a way long high b0 bn ink x y e = grind (arith, all_in, short_of)
+all_stretches a way long high b0 bn ink x y e = grind (arith, nat_tests)
 
 -- the line of each depth, where they rise
 pub run_of : List ℕ → ℕ → ℕ → ℕ
@@ -128,16 +116,10 @@ run_is begins (suc n) i w h r p q = elim (cases_lt i n) [
   | inr g ↦ grind (arith, get_or, le-leb)
 ]
 
-span_between : (from to w : ℕ) (f : ℕ → Bool) → (span from to w && f w) ≡ (leb from w && (ltb (w - from) (to - from) && f (from + (w - from))))
-span_between from to w f = grind (arith, nat_tests)
-
-short_ink : (long : ℕ) (b : Bool) (u : ℕ) → (long ≤ u → b ≡ false) → (ltb u long && b) ≡ b
-short_ink long b u e = grind (arith, lt-ltb, le-ltb)
-
 -- ink between two depths, as a mark
 pub between_dot : (a : Area) (way : Way) (long from to : ℕ) (ink : ℕ → ℕ → Bool) (x y : ℕ) → ((u w : ℕ) → long ≤ u → ink u w ≡ false)
     → across_dot a way from to (λ u w. ltb u long && ink u w) x y ≡ mark_dot (between a (across way) from to ink) x y
-between_dot a way long from to ink x y white = grind (arith, short_ink, span_between)
+between_dot a way long from to ink x y white = grind (arith, lt-ltb, le-ltb, nat_tests)
 
 pub deep_across : (a : Area) (way : Way) → depth a (across way) ≡ a.dx
 deep_across a way = grind arith

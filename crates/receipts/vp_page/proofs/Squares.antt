@@ -1,16 +1,15 @@
 -- Squares laid across the page.
-use Rattle.std.proofs.Common.{◌≡◌, ℕ, ◌+◌, ◌-◌, ◌<◌, ◌≤◌, Bool, false, ltb, leb, ◌&&◌, ap, ◌∙◌, arith, List, [], length, get_or, take, drop, reverse, replicate, ℤ, pos, ◌+ℤ◌}
-use Rattle.std.proofs.lemmas.Int.{ints}
+use Rattle.std.proofs.Common.{◌≡◌, ℕ, ◌+◌, ◌-◌, ◌<◌, ◌≤◌, Bool, false, ltb, ◌&&◌, ap, ◌∙◌, arith, List, [], length, get_or, take, drop, reverse, replicate}
 use Rattle.std.proofs.lemmas.List.{get_or_past, get_or-replicate, get_or-reverse, get_or-drop, get_or-take}
 use Rattle.std.proofs.lemmas.Bool.{lt-ltb, le-ltb}
 use Rattle.std.proofs.lemmas.Nat.Bits.{bit_at-zero}
-use Rattle.vp_dots.specs.Dots.{bit, shifted}
+use Rattle.vp_dots.specs.Dots.{bit}
 use Rattle.vp_dots.specs.Words.{word_dot}
 use Rattle.vp_dots.specs.Places.{RowsPainted}
 use Rattle.vp_dots.specs.declared.Op.TheVariants.{Black}
 use Rattle.vp_dots.proofs.Paints.{painted_none}
 use Rattle.vp_page.specs.Lines.{line_dot}
-use Rattle.vp_page.proofs.Rows.{dot_past, met}
+use Rattle.vp_page.proofs.Rows.{dot_past}
 
 pub and_false : (b : Bool) → (b && false) ≡ false
 and_false b = grind arith
@@ -43,15 +42,3 @@ last_words square words n i is whole few h = grind (arith, get_or-take, get_or-d
 -- no ink
 pub nothing_painted : (f : ℕ → ℕ → Bool) (a : List (List ℕ)) → ((x y : ℕ) → y < 1664 → f x y ≡ false) → RowsPainted 1664 Black f a a
 nothing_painted f a e = record { rows_are = λ y h. painted_none Black (λ x. f x y) (get_or a y []) (λ d l. e d y h) }
-
--- a row of columns, of which the last line is on the left
-pub down_row : (ink row : ℕ → Bool) (wide right x : ℕ) (at : ℤ) → at +ℤ pos wide ≡ pos right → ((i : ℕ) → wide ≤ i → ink i ≡ false)
-    → ((s : ℕ) → s < wide → row s ≡ ink (wide - 1 - s)) → ((s : ℕ) → wide ≤ s → row s ≡ false)
-    → (ltb x right && ink (right - 1 - x)) ≡ shifted at row x
-down_row ink row wide right x at e none same past = grind (arith, met, ints, lt-ltb, le-ltb)
-
--- and of which the first line is on the left
-pub up_row : (ink row : ℕ → Bool) (wide left x : ℕ) (at : ℤ) → at ≡ pos left → ((i : ℕ) → wide ≤ i → ink i ≡ false)
-    → ((s : ℕ) → s < wide → row s ≡ ink s) → ((s : ℕ) → wide ≤ s → row s ≡ false)
-    → (leb left x && ink (x - left)) ≡ shifted at row x
-up_row ink row wide left x at e none same past = grind arith

@@ -1,5 +1,5 @@
 -- Bytes of a raster that make rows whole.
-use Rattle.std.proofs.Common.{◌≡◌, ℕ, zero, suc, ◌+◌, ◌-◌, ◌*◌, ◌<◌, ◌≤◌, nat_lt, eqb, Bool, true, false, List, [], ◌∷◌, ◌++◌, length, take, drop, min, refl, sym, ap, subst, ◌∙◌, arith, length-append}
+use Rattle.std.proofs.Common.{◌≡◌, ℕ, zero, suc, ◌+◌, ◌-◌, ◌*◌, ◌<◌, ◌≤◌, nat_lt, eqb, true, false, List, [], ◌∷◌, ◌++◌, length, take, drop, min, refl, sym, ap, subst, ◌∙◌, arith, length-append}
 use Rattle.std.proofs.Math.Nat.{suc-mul}
 use Rattle.std.proofs.Math.Seq.{take-add}
 use Rattle.std.proofs.lemmas.Bool.{eq-eqb, lt-ltb}
@@ -7,11 +7,10 @@ use Rattle.std.proofs.lemmas.List.{length-take-le, length-drop}
 use Rattle.vp_esc.specs.declared.item.EscItem.{EscItem}
 use Rattle.vp_esc.specs.declared.item.EscItem.TheVariants.{RasterByte}
 use Rattle.vp_esc.specs.declared.item.RasterScale.{RasterScale}
-use Rattle.vp_page.specs.declared.area.Area.{Area}
 use Rattle.vp_receipt_settings.specs.Setup.{Setup}
 use Rattle.vp_receipt_settings.specs.Gathering.{IsGathering, IsPartRow}
 use Rattle.vp_receipt_settings.specs.Settings.{settings_of}
-use Rattle.vp_receipt_settings.specs.Pages.{vertical_after, raised}
+use Rattle.vp_receipt_settings.specs.Pages.{vertical_after}
 use Rattle.vp_receipt_settings.specs.Rasters.{times_down, raster_scale, raster_bytes, rows_to_come, row_so_far, is_row_end, bytes_after, row_at}
 use Rattle.vp_receipt_settings.specs.Runs.{below}
 use Rattle.vp_receipt_settings.specs.declared.raster.Raster.{Raster}
@@ -90,9 +89,6 @@ next_row bytes wide k before = grind (arith, suc-mul, take-add, after_both)
 pub no_row : (bytes : List ℕ) (wide : ℕ) (before : List EscItem) → bytes_after (take (0 * wide) bytes) before ≡ before
 no_row bytes wide before = let none : 0 * wide ≡ 0 = omega arith in ap (λ n. bytes_after (take n bytes) before) none
 
-row_long : (bytes : List ℕ) (wide k : ℕ) → suc k * wide ≤ length bytes → length (row_at bytes wide k) ≡ wide
-row_long bytes wide k room = length-take-le wide (drop (k * wide) bytes) (omega (arith, suc-mul k wide, length-drop (k * wide) bytes))
-
 -- bytes that have so many rows of the raster, of which none has begun
 pub record HaveRows (bytes : List ℕ) (n : ℕ) (before : List EscItem) : Type 0 where
   pub begins : row_so_far before ≡ []
@@ -112,7 +108,7 @@ pub record AreWhole (bytes : List ℕ) (n : ℕ) (before : List EscItem) : Type 
 
 lacks_after : (bytes : List ℕ) (k : ℕ) (before : List EscItem) → HaveRows bytes (suc k) before → AreWhole (take (k * raster_bytes before) bytes) k before
     → Lacks (row_at bytes (raster_bytes before) k) (bytes_after (take (k * raster_bytes before) bytes) before)
-lacks_after bytes k before h above = grind (arith, row_long)
+lacks_after bytes k before h above = grind (arith, length-take-le, drop, suc-mul, length-drop)
 
 pub are_whole : (bytes : List ℕ) (k : ℕ) (before : List EscItem) → HaveRows bytes k before → AreWhole (take (k * raster_bytes before) bytes) k before
 are_whole bytes zero before h = grind (arith, no_row)
@@ -136,11 +132,8 @@ lacks_row bytes k before h = lacks_after bytes k before h (are_whole bytes k bef
 none_below : (s : Settings) → s.page.vertical ≤ 65535 → s ≡ below s 0
 none_below s small = let e : s.page.vertical ≡ vertical_after s.page.vertical 0 = omega arith in ap (λ v. record s { page = record s.page { vertical = v } }) e
 
-used_more : (uses : Bool) (a : Area) (old : ℕ) → raised true a (raised uses a old) ≡ raised true a old
-used_more uses a old = grind arith
-
 below_more : (s : Settings) (k d : ℕ) → 0 < d → below (below s k) d ≡ below s (k + d)
-below_more s k d some = grind (arith, nat_lt, lt-ltb, used_more)
+below_more s k d some = grind (arith, nat_lt, lt-ltb)
 
 -- the settings after so many rows
 pub rows_below : (setup : Setup) (bytes : List ℕ) (k : ℕ) (before : List EscItem) → (settings_of setup before).page.vertical ≤ 65535 → HaveRows bytes k before

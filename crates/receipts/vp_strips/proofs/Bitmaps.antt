@@ -24,11 +24,7 @@ blank high wide bitmap a b e = record {
 
 -- a white bitmap has no row in use
 pub none_used : (bitmap : List (List ℕ)) → HasDots [] bitmap → IsWhiteAbove 0 bitmap
-none_used bitmap h = record {
-  few = lit≤ tt;
-  rows_are = h.rows_are;
-  white = λ x y k l. h.dots_are x y k (omega arith);
-}
+none_used bitmap h = grind (arith, lit≤)
 
 -- a row of a bitmap whose lowest rows are made white
 cleared_row : (old new : List ℕ) (low : Bool) → new ≡ (if low then replicate LINE_BYTES 0 else old) → length old ≡ LINE_BYTES

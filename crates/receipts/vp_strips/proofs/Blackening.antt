@@ -1,5 +1,5 @@
 -- Many dots of a row made black.
-use Rattle.std.proofs.Common.{◌≡◌, ℕ, ◌+◌, ◌-◌, ◌/◌, ◌<◌, ◌≤◌, Bool, true, false, eqb, ltb, leb, ◌&&◌, ◌||◌, refl, arith, List, length, get_or, replicate}
+use Rattle.std.proofs.Common.{◌≡◌, ℕ, ◌+◌, ◌-◌, ◌/◌, ◌<◌, ◌≤◌, Bool, true, eqb, ltb, leb, ◌&&◌, ◌||◌, refl, arith, List, length, get_or, replicate}
 use Rattle.std.specs.Int.{bit_at}
 use Rattle.std.proofs.lemmas.List.{get_or-replicate, length-replicate}
 use Rattle.std.proofs.lemmas.Bool.Decides.{nat_tests}
@@ -12,8 +12,7 @@ use Rattle.vp_dots.proofs.Paints.{painted_same}
 use Rattle.vp_dots.proofs.Swaps.{every_at}
 
 and_all : (b : Bool) → (b && true) ≡ b
-and_all true = refl
-and_all false = refl
+and_all b = grind arith
 
 black_lane : (j k : ℕ) → j < 64 → k < 8 → bit (get_or (replicate 64 255) j 0) k ≡ true
 unfolding bit
@@ -27,5 +26,4 @@ black_block i row room = painted_same Black (λ d. span i (i + 64) (d / 8) && tr
 -- whole bytes, and the dots before and behind them
 pub three_spans : (s : Bool) (at from end to x : ℕ) → at ≤ from → from ≤ end → end ≤ to
     → (s && span at to x) ≡ ((s && span from end x || s && (leb at x && ltb (x - at) (from - at))) || s && (leb end x && ltb (x - end) (to - end)))
-three_spans true at from end to x h k l = grind (arith, nat_tests)
-three_spans false at from end to x h k l = refl
+three_spans s at from end to x h k l = grind (arith, nat_tests)

@@ -81,7 +81,4 @@ module _ (row wide : List ℕ) (i left right : ℕ) (left_is : (k : ℕ) → k <
 
 -- past the row there is no dot
 pub doubled_all : (row wide : List ℕ) (i n : ℕ) → n ≡ min (length row) 104 → n ≤ i → IsDoubled row i wide → (x : ℕ) → x < LINE_DOTS → dot wide x ≡ dot row (x / 2)
-doubled_all row wide i n e m d x h = d.dots_are x h ∙ elim (cases_lt x (16 * i)) [
-  | inl b ↦ rw (lt-ltb x (16 * i) b) refl
-  | inr g ↦ rw (le-ltb x (16 * i) g, dot_past row (x / 2) (omega arith)) refl
-]
+doubled_all row wide i n e m d x h = grind (arith, lt-ltb, le-ltb, dot_past)

@@ -1,5 +1,5 @@
 -- The line's strip out of its bitmap.
-use Rattle.std.proofs.Common.{inl, inr, ◌≡◌, ℕ, ◌+◌, ◌-◌, ◌<◌, ◌≤◌, Bool, true, false, nat_lt, nat_le, leb, ◌&&◌, ◌||◌, refl, sym, ap, ◌∙◌, arith, List, [], ◌∷◌, get_or, Some}
+use Rattle.std.proofs.Common.{inl, inr, ◌≡◌, ℕ, ◌+◌, ◌-◌, ◌<◌, ◌≤◌, true, nat_lt, nat_le, ◌&&◌, ◌||◌, refl, sym, ap, ◌∙◌, arith, List, [], ◌∷◌, get_or, Some}
 use Rattle.std.proofs.lemmas.Bool.{cases_lt, le-leb, lt-leb, le-ltb}
 use Rattle.vp_page.specs.declared.page.TheConstants.{PAPER_DOTS}
 use Rattle.vp_page.specs.declared.line.TheConstants.{LINE_DOTS}
@@ -22,23 +22,14 @@ use Rattle.vp_strips.proofs.Strips.{whole_is}
 
 -- an item stands on the same bottom row in a higher line
 item_raised : (p : Placed) (high x y : ℕ) → p.image.height ≤ high → high ≤ LINE_ROWS → y < high → item_dot p high x y ≡ item_dot p LINE_ROWS x (LINE_ROWS - high + y)
-item_raised p high x y h k l = elim (cases_lt y (high - p.image.height)) [
-  | inl below ↦ rw (lt-leb (high - p.image.height) y below, lt-leb (LINE_ROWS - p.image.height) (LINE_ROWS - high + y) (omega arith)) (none (leb p.at x) _ _)
-  | inr at ↦ rw (le-leb (high - p.image.height) y at, le-leb (LINE_ROWS - p.image.height) (LINE_ROWS - high + y) (omega arith))
-      (ap (λ v. leb p.at x && true && p.image.is_black (x - p.at) v) (let e : y - (high - p.image.height) ≡ LINE_ROWS - high + y - (LINE_ROWS - p.image.height) = omega arith in e))
-]
-  where
-    none : (b c d : Bool) → (b && false && c) ≡ (b && false && d)
-    none true c d = refl
-    none false c d = refl
+item_raised p high x y h k l = grind (arith, lt-leb, le-leb)
 
 pub raised : (placed : List Placed) (high x y : ℕ) → height placed ≤ high → high ≤ LINE_ROWS → y < high → any_dot placed high x y ≡ any_dot placed LINE_ROWS x (LINE_ROWS - high + y)
 raised [] high x y h k l = refl
 raised (p ∷ rest) high x y h k l = ap (λ b. b || any_dot rest high x y) (item_raised p high x y (omega arith) k l) ∙ ap (λ b. item_dot p LINE_ROWS x (LINE_ROWS - high + y) || b) (raised rest high x y (omega arith) k l)
 
 open_line : (placed : List Placed) → 0 < height placed → is_open placed ≡ true
-open_line [] h = absurd (omega arith)
-open_line (p ∷ rest) h = refl
+open_line placed h = grind arith
 
 -- the lowest rows of the bitmap of a line are that line
 module _ (setup : Setup) (before : List EscItem) (bitmap : List (List ℕ)) (high left length : ℕ) (high_is : high ≡ height (line setup before)) (long_is : length ≡ paper_length setup before)

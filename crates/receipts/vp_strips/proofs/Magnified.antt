@@ -1,10 +1,9 @@
 -- Characters each of whose rows is printed more than once.
-use Rattle.std.proofs.Common.{inl, inr, ◌≡◌, ℕ, suc, ◌+◌, ◌-◌, ◌*◌, ◌/◌, ◌<◌, ◌≤◌, Bool, true, false, ltb, leb, ◌&&◌, ◌||◌, refl, sym, ap, ◌∙◌, arith, List, [], get_or}
+use Rattle.std.proofs.Common.{inl, inr, ◌≡◌, ℕ, ◌+◌, ◌-◌, ◌*◌, ◌/◌, ◌<◌, ◌≤◌, Bool, true, false, ltb, leb, ◌&&◌, ◌||◌, refl, sym, ap, ◌∙◌, arith, List}
 use Rattle.std.proofs.Math.Nat.{add-mul-div_right, div-lt_iff_lt-mul, le-div_iff_mul-le, suc-mul}
 use Rattle.std.proofs.lemmas.Bool.{cases_lt, lt-ltb, le-ltb, lt-leb, le-leb}
 use Rattle.std.proofs.lemmas.Bool.Decides.{nat_tests}
-use Rattle.vp_dots.specs.Dots.{dot, span}
-use Rattle.vp_dots.specs.Painting.{paint}
+use Rattle.vp_dots.specs.Dots.{span}
 use Rattle.vp_dots.specs.Places.{RowsPainted}
 use Rattle.vp_dots.specs.Words.{word_dot}
 use Rattle.vp_dots.specs.declared.Op.{Op}
@@ -13,10 +12,7 @@ use Rattle.vp_dots.proofs.Heights.{rows_then}
 
 -- the line that is printed on a row
 pub line_on : (w v t : ℕ) → 0 < t → v * t ≤ w → w < v * t + t → w / t ≡ v
-line_on w v t p from to =
-    let a : v ≤ w / t = (le-div_iff_mul-le {k = t} {x = v} {y = w} p).1 from in
-    let b : w / t < suc v = (div-lt_iff_lt-mul {k = t} {x = w} {y = suc v} p).1 (omega (arith, suc-mul v t)) in
-    omega arith
+line_on w v t p from to = grind (arith, le-div_iff_mul-le, div-lt_iff_lt-mul, suc-mul)
 
 pub past_lines : (w n t : ℕ) → 0 < t → n * t ≤ w → n ≤ w / t
 past_lines w n t p from = (le-div_iff_mul-le {k = t} {x = n} {y = w} p).1 from
@@ -50,12 +46,7 @@ module _ (high : ℕ) (op : Op) (f : ℕ → ℕ → Bool) (line : ℕ → Bool)
 
 -- dots that are drawn once each
 pub drawn_once : (word wm x : ℕ) → wm ≡ 1 → ((u : ℕ) → 12 ≤ u → word_dot word u ≡ false) → word_dot word x ≡ (ltb x (12 * wm) && word_dot word (x / wm))
-drawn_once word wm x e white =
-    let place : x / 1 ≡ x = omega arith in
-    rw (e, place) (elim (cases_lt x 12) [
-      | inl l ↦ rw (lt-ltb x 12 l) refl
-      | inr g ↦ rw (le-ltb x 12 g) (white x g)
-    ])
+drawn_once word wm x e white = grind (arith, lt-ltb, le-ltb)
 
 -- six dots, and six behind them
 module _ (at x wm : ℕ) (f : ℕ → Bool) where
@@ -122,24 +113,7 @@ span_moved at wide x = grind (arith, nat_tests)
 
 -- black over black
 pub rows_over : (high : ℕ) (f g h : ℕ → ℕ → Bool) (a b c : List (List ℕ)) → ((x k : ℕ) → h x k ≡ (f x k || g x k)) → RowsPainted high Black f a b → RowsPainted high Black g b c → RowsPainted high Black h a c
-rows_over high f g h a b c e p q = record {
-  rows_are = λ k l.
-      let first = p.rows_are k l in
-      let next = q.rows_are k l in
-      record {
-        length_is = next.length_is ∙ first.length_is;
-        dots_are = λ d m. next.dots_are d (rw first.length_is m) ∙ ap (λ o. paint Black (g d k) o) (first.dots_are d m) ∙ twice (f d k) (g d k) (h d k) (dot (get_or a k []) d) (e d k);
-      };
-}
-  where
-    same : (f g o : Bool) → paint Black g (paint Black f o) ≡ paint Black (f || g) o
-    same true true o = refl
-    same true false o = refl
-    same false true o = refl
-    same false false o = refl
-
-    twice : (f g h o : Bool) → h ≡ (f || g) → paint Black g (paint Black f o) ≡ paint Black h o
-    twice f g h o e = same f g o ∙ ap (λ i. paint Black i o) (sym e)
+rows_over high f g h a b c e p q = grind arith
 
 -- a dot of a character, or what is black behind it
 pub part_placed : (at top left wide first high x k : ℕ) (r d filled c : Bool) → (d ≡ true → r ≡ true) → (span left (left + wide) (x - at) && span first (first + high) (k - top)) ≡ filled

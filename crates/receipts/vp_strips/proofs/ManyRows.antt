@@ -1,5 +1,5 @@
 -- Many rows of a strip, as the paper shows them.
-use Rattle.std.proofs.Common.{[], get_or, ◌≡◌, ℕ, zero, suc, ◌+◌, ◌-◌, ◌*◌, ◌/◌, ◌<◌, ◌≤◌, Bool, ◌&&◌, nat_lt, min, Some, refl, sym, ap, ◌∙◌, arith, List, ◌∷◌, ◌++◌, length, replicate, take, drop, append_assoc, false}
+use Rattle.std.proofs.Common.{◌≡◌, ℕ, zero, suc, ◌+◌, ◌-◌, ◌*◌, ◌/◌, ◌<◌, ◌≤◌, Bool, ◌&&◌, nat_lt, min, Some, refl, sym, ap, ◌∙◌, arith, List, ◌∷◌, ◌++◌, length, replicate, take, drop, append_assoc, false}
 use Rattle.std.specs.List.{range_with_len, flat_map}
 use Rattle.std.proofs.Math.Nat.{suc-mul, mul-sub, mul_comm, mul-le-mul_right, le-div_iff_mul-le}
 use borrow.Rule.Slice.PartMut.{put_mid}
@@ -26,9 +26,7 @@ use Rattle.vp_strips.proofs.Rows.{length-paper_row, paper_row_near}
 
 -- a dot of a row that is as long as the paper
 pub whole_row : (row page_row : List ℕ) (d y : ℕ) → row ≡ page_row → d < PAPER_DOTS → y < PAGE_ROWS → dot row d ≡ (nat_lt y PAGE_ROWS && clipped 0 PAPER_DOTS (dot page_row) d)
-whole_row row page_row d y same h k =
-    let here : d - 0 ≡ d = omega arith in
-    rw (same, lt-ltb y PAGE_ROWS k, le-leb 0 d (omega arith), here, lt-ltb d PAPER_DOTS h) refl
+whole_row row page_row d y same h k = grind (arith, lt-ltb, le-leb)
 
 module _ (row : ℕ → List ℕ) where
   -- the first of some rows, and the others
@@ -105,11 +103,7 @@ rows_moved paper f g y z (suc n) h =
 -- rows of a line that isn't moved, nor clipped on the paper
 pub line_rows : (paper : Width) (bitmap : List (List ℕ)) (height length top y rows : ℕ) → across paper ≤ length → top ≡ LINE_ROWS - height + y → (0 < rows → y + rows ≤ height)
     → rows_text paper (bitmap_dot bitmap) top rows ≡ rows_text paper (line_dot_of height 0 length bitmap) y rows
-line_rows paper bitmap height length top y rows wide e inside = rows_moved paper (bitmap_dot bitmap) (line_dot_of height 0 length bitmap) top y rows (λ x k l m.
-    let low : y + k < height = let all = inside (omega arith) in omega arith in
-    let here : x - 0 ≡ x = omega arith in
-    let place : top + k ≡ LINE_ROWS - height + (y + k) = omega arith in
-    rw (lt-ltb (y + k) height low, le-leb 0 x (omega arith), here, lt-ltb x length (omega arith)) (ap (λ r. dot (get_or bitmap r []) x) place))
+line_rows paper bitmap height length' top y rows wide e inside = grind (arith, rows_moved, lt-ltb, le-leb)
 
 -- as many rows as there is room for
 pub some_rows : (paper : Width) (room left rows : ℕ) → row_bytes paper ≤ room → 0 < left → rows ≡ min (room / row_bytes paper) left → 0 < rows
@@ -130,11 +124,7 @@ paper_row_white paper f h = row_white (row_bytes paper) f 0 (8 * row_bytes paper
 
 white_rows : (paper : Width) (f : ℕ → ℕ → Bool) (y n : ℕ) → ((x k : ℕ) → y ≤ k → k < y + n → f x k ≡ false) → rows_text paper f y n ≡ replicate (n * row_bytes paper) 0
 white_rows paper f y zero h = ap (λ m. replicate {A = ℕ} m 0) (let e : 0 ≡ zero * row_bytes paper = omega arith in e)
-white_rows paper f y (suc n) h =
-    let b = row_bytes paper in
-    ap (λ r. r ++ rows_text paper f (y + 1) n) (paper_row_white paper (λ x. f x y) (λ x. h x y (omega arith) (omega arith)))
-    ∙ ap (λ r. replicate b 0 ++ r) (white_rows paper f (y + 1) n (λ x k l m. h x k (omega arith) (omega arith)))
-    ∙ replicate-append-replicate {A = ℕ} b (n * b) 0 ∙ ap (λ m. replicate {A = ℕ} m 0) (let e : b + n * b ≡ suc n * b = omega (arith, suc-mul n b) in e)
+white_rows paper f y (suc n) h = grind (arith, paper_row_white, replicate-append-replicate, suc-mul, white_rows paper f (y + 1) n (λ x k l m. h x k (omega arith) (omega arith)))
 
 drop_further : (xs : List ℕ) (i n : ℕ) → i ≤ n → drop (n - i) (drop i xs) ≡ drop n xs
 drop_further xs i n h = drop-drop (n - i) i xs ∙ ap (λ m. drop m xs) (let e : i + (n - i) ≡ n = omega arith in e)

@@ -1,5 +1,5 @@
 -- A QR symbol as it is drawn.
-use Rattle.std.proofs.Common.{◌≡◌, ℕ, ◌*◌, ◌/◌, ◌<◌, ◌≤◌, Bool, true, false, nat_lt, ◌&&◌, refl, ap, sym, ◌∙◌, arith, List, Option, Some, None, Result, Ok, Err, OnOk, IfOk, IfErr, length, take, inl, inr, cond}
+use Rattle.std.proofs.Common.{◌≡◌, ℕ, ◌*◌, ◌/◌, ◌<◌, ◌≤◌, Bool, true, false, nat_lt, ◌&&◌, refl, ap, sym, ◌∙◌, arith, List, Option, Some, None, Result, OnOk, IfOk, IfErr, length, take, inl, inr, cond}
 use Rattle.std.proofs.lemmas.Bool.{ltb-true, lt-ltb, le-ltb, cases_lt, true≢false}
 use Rattle.std.proofs.lemmas.List.{take_all}
 use Rattle.std.proofs.Math.Nat.{div-lt_iff_lt-mul}
@@ -19,9 +19,7 @@ use Rattle.vp_receipt_settings.specs.declared.stored.TheConstants.{STORED_BYTES}
 use Rattle.vp_receipt_settings.specs.Symbols.{level_of, qr_side, qr_dot, qr_image, IsQrImage, IsStored, too_wide, model_refusal, many_refusal, bytes_refusal, qr_refusal}
 
 and_under : (a b c d : Bool) → (a ≡ true → b ≡ true → c ≡ d) → (a && b && c) ≡ (a && b && d)
-and_under true true c d h = h refl refl
-and_under true false c d h = refl
-and_under false b c d h = refl
+and_under a b c d h = grind arith
 
 module _ (style : QrStyle) (bytes : List ℕ) (qr : QrSymbol) (ink : ScaledSymbol) (e : Encodes (level_of style.level) Auto bytes qr)
     (size_is : ink.size ≡ size qr.version) (scale_is : ink.scale ≡ style.module_dots) (rows_are : ink.rows ≡ qr.rows) (some : 0 < style.module_dots) where
@@ -64,13 +62,10 @@ refusal_is style stored bytes kept wide e two m h =
 
 -- from a clause of a result to another
 pub ok_then : (r : Result ScaledSymbol Fault) (P Q : Type 0) → (P → Q) → OnOk r P → OnOk r Q
-ok_then (Ok ink) P Q f h = f h
-ok_then (Err fault) P Q f h = h
+ok_then r P Q f h = grind arith
 
 pub if_ok_then : (r : Result ScaledSymbol Fault) (P Q : ScaledSymbol → Type 0) → ((ink : ScaledSymbol) → P ink → Q ink) → IfOk r P → IfOk r Q
-if_ok_then (Ok ink) P Q f h = f ink h
-if_ok_then (Err fault) P Q f h = h
+if_ok_then r P Q f h = grind arith
 
 pub if_err_then : (r : Result ScaledSymbol Fault) (P Q : Fault → Type 0) → ((fault : Fault) → P fault → Q fault) → IfErr r P → IfErr r Q
-if_err_then (Ok ink) P Q f h = h
-if_err_then (Err fault) P Q f h = f fault h
+if_err_then r P Q f h = grind arith

@@ -1,11 +1,11 @@
 -- The rows of a strip.
-use Rattle.std.proofs.Common.{◌≡◌, ℕ, ◌+◌, ◌-◌, ◌*◌, ◌/◌, ◌%◌, ◌^◌, ◌<◌, ◌≤◌, Bool, true, false, nat_lt, nat_le, ◌&&◌, refl, ap, ◌∙◌, arith, List, ◌∷◌, length as list_length, replicate, cond, pos, zero, suc, subst, ℤ, take}
+use Rattle.std.proofs.Common.{◌≡◌, ℕ, ◌+◌, ◌-◌, ◌*◌, ◌/◌, ◌%◌, ◌^◌, ◌<◌, ◌≤◌, Bool, false, nat_lt, nat_le, ◌&&◌, refl, ap, ◌∙◌, arith, List, ◌∷◌, length as list_length, replicate, cond, pos, zero, suc, ℤ, take}
 use Rattle.std.proofs.lemmas.List.{length-replicate, get_or-take}
 use Rattle.std.proofs.lemmas.Bool.{le-leb}
 use Rattle.std.proofs.lemmas.Bool.Decides.{nat_tests}
 use Rattle.vp_page.specs.declared.page.TheConstants.{PAPER_DOTS, PAPER_BYTES}
 use Rattle.vp_dots.specs.Dots.{bit, dot, shifted, span}
-use Rattle.vp_dots.specs.Painting.{Painted, paint}
+use Rattle.vp_dots.specs.Painting.{Painted}
 use Rattle.vp_dots.specs.Images.{row_of, row_from, packed}
 use Rattle.vp_dots.specs.declared.Op.TheVariants.{Black, White}
 use Rattle.vp_dots.proofs.ImageRows.{length-row_from}
@@ -18,28 +18,17 @@ use Rattle.vp_strips.proofs.Bitmaps.{dot_white}
 -- a dot of a source that is moved to the right, and whitened from an end on
 over : (left length d : ℕ) (b : Bool) → d < PAPER_DOTS →
     cond (nat_le (left + length) d && nat_lt d PAPER_DOTS) false (nat_le left d && b) ≡ (nat_le left d && nat_lt (d - left) length && b)
-over left length d true h = grind (arith, nat_tests)
-over left length d false h = grind (arith, nat_tests)
+over left length d b h = grind (arith, nat_tests)
 
 -- a row that was white has the dots of a source, moved to the right
 pub moved_dot : (n left : ℕ) (at : ℤ) (f : ℕ → Bool) (row a : List ℕ) → row ≡ replicate n 0 → at ≡ pos left → Painted Black (shifted at f) row a
     → (d : ℕ) → d < 8 * n → dot a d ≡ (nat_le left d && f (d - left))
-moved_dot n left at f row a e at_is p d h =
-    let long : list_length row ≡ n = ap list_length e ∙ length-replicate {A = ℕ} n 0 in
-    let q = subst (λ z. Painted Black (shifted z f) row a) at_is p in
-    q.dots_are d (omega arith) ∙ ap (paint Black (shifted (pos left) f d)) (ap (λ r. dot r d) e ∙ dot_white n d (omega arith)) ∙ black (nat_le left d) (f (d - left))
-  where
-    black : (b c : Bool) → cond (b && c) true false ≡ (b && c)
-    black true true = refl
-    black true false = refl
-    black false c = refl
+moved_dot n left at f row a e at_is p d h = grind (arith, list_length, length-replicate, pos, dot_white, nat_le)
 
 -- and is clipped where it is whitened from an end on
 pub row_clipped : (left length end : ℕ) (f : ℕ → Bool) (a b : List ℕ) → end ≡ left + length → list_length a ≡ PAPER_BYTES → ((d : ℕ) → d < PAPER_DOTS → dot a d ≡ (nat_le left d && f (d - left)))
     → Painted White (span end PAPER_DOTS) a b → (d : ℕ) → d < PAPER_DOTS → dot b d ≡ clipped left length f d
-row_clipped left length end f a b end_is long moved p d h =
-    let q = subst (λ k. Painted White (span k PAPER_DOTS) a b) end_is p in
-    q.dots_are d (omega arith) ∙ ap (paint White (span (left + length) PAPER_DOTS d)) (moved d h) ∙ over left length d (f (d - left)) h
+row_clipped left length end f a b end_is long moved p d h = grind (arith, over)
 
 -- rows with the same dots have the same bytes
 packed_same : (n : ℕ) (f g : ℕ → Bool) (at most : ℕ) → at + n ≤ most → ((d : ℕ) → d < most → f d ≡ g d) → packed n f at ≡ packed n g at

@@ -1,12 +1,12 @@
 -- A strip is an image across the paper.
-use Rattle.std.proofs.Common.{◌≡◌, ℕ, zero, suc, ◌+◌, ◌-◌, ◌/◌, ◌<◌, Bool, nat_lt, ◌&&◌, refl, sym, ap, ◌∙◌, arith, ◌++◌, flat_map}
+use Rattle.std.proofs.Common.{◌≡◌, ℕ, zero, suc, ◌+◌, ◌-◌, ◌<◌, Bool, nat_lt, refl, sym, ap, ◌∙◌, arith, ◌++◌, flat_map}
 use Rattle.std.specs.List.{range_with_len}
 use Rattle.std.proofs.lemmas.Bool.{ne_eqb, lt-ltb}
 use Rattle.vp_page.specs.declared.page.TheConstants.{PAPER_DOTS}
 use Rattle.vp_dots.specs.Headers.{header_of}
-use Rattle.vp_dots.specs.Images.{image_row, row_of}
+use Rattle.vp_dots.specs.Images.{image_row}
 use Rattle.vp_receipt_settings.specs.declared.width.Width.{Width}
-use Rattle.vp_receipt_settings.specs.Setup.{across, row_bytes}
+use Rattle.vp_receipt_settings.specs.Setup.{across}
 use Rattle.vp_receipt_settings.proofs.Widths.{dots_across}
 use Rattle.vp_strips.specs.Canvases.{Canvas}
 use Rattle.vp_strips.specs.declared.strip.Strip.{Strip}
@@ -22,16 +22,11 @@ rows_same paper f g y (suc n) h = ap (λ r. r ++ rows_text paper f (y + 1) n) (p
 -- a row across the paper is one of an image as wide
 row_is : (paper : Width) (rows y : ℕ) (f : ℕ → ℕ → Bool) → paper_row paper (λ x. f x y) ≡ image_row (record { width = across paper; height = rows; is_black = f }) y
 unfolding paper_row
-row_is paper rows y f =
-    let wide : row_bytes paper ≡ (across paper + 7) / 8 = omega (arith, dots_across paper) in
-    row_of_same (row_bytes paper) (λ x. f x y) (λ x. nat_lt x (across paper) && f x y) (λ d h. sym (rw (lt-ltb d (across paper) (omega (arith, dots_across paper))) refl))
-    ∙ ap (λ n. row_of n (λ x. nat_lt x (across paper) && f x y)) wide
+row_is paper rows y f = grind (arith, dots_across, row_of_same, nat_lt, lt-ltb)
 
 rows_are : (paper : Width) (rows : ℕ) (f : ℕ → ℕ → Bool) (y n : ℕ) → rows_text paper f y n ≡ flat_map (image_row (record { width = across paper; height = rows; is_black = f })) (range_with_len y n)
 rows_are paper rows f y zero = refl
-rows_are paper rows f y (suc n) =
-    ap (λ r. r ++ rows_text paper f (y + 1) n) (row_is paper rows y f)
-    ∙ ap (λ r. image_row (record { width = across paper; height = rows; is_black = f }) y ++ r) (rows_are paper rows f (y + 1) n)
+rows_are paper rows f y (suc n) = grind (arith, row_is, rows_are paper rows f (y + 1) n)
 
 -- the header of an image and its rows
 pub text_of_rows : (paper : Width) (rows : ℕ) (f : ℕ → ℕ → Bool) → (rows ≡ 0 → ⊥) → header_of (across paper) rows ++ rows_text paper f 0 rows ≡ strip_text paper rows f
