@@ -1,6 +1,7 @@
 -- The rows of a box.
 use Rattle.std.proofs.Common.{inl, inr, ◌≡◌, ℕ, ◌+◌, ◌-◌, ◌*◌, ◌/◌, ◌<◌, ◌≤◌, Bool, true, false, not, cond, ltb, leb, ◌&&◌, List, [], ◌∷◌, ◌++◌, ℤ, refl, sym, ap, ◌∙◌, arith}
-use Rattle.std.proofs.lemmas.Bool.{cases_lt, and_parts, ltb-true, leb-true, lt-ltb, le-ltb}
+use Rattle.std.proofs.lemmas.Bool.Decides.{nat_tests}
+use Rattle.std.proofs.lemmas.Bool.{cases_lt, and_parts, ltb-true, leb-true, le-ltb}
 use Rattle.vp_bar_code.specs.declared.HriPosition.{HriPosition}
 use Rattle.vp_bar_code.specs.declared.HriPosition.TheVariants.{None, Above, Below, Both}
 use Rattle.vp_glyph.specs.Cells.{font_height}
@@ -8,16 +9,18 @@ use Rattle.vp_glyph.specs.declared.cell.Font.{Font}
 use Rattle.vp_bars.specs.Symbols.{Linear}
 use Rattle.vp_bars.specs.Symbologies.{text_of}
 use Rattle.vp_bars.specs.Widths.{in_bar, bar_widths, total, bars_width, is_black}
-use Rattle.vp_bars.specs.Boxes.{Boxed, texts_above, texts_below, line_width, line_dot, text_width, box_width, box_top, box_height, centred, text_row, bars_row, box_dot}
-use Rattle.vp_dots.specs.Dots.{shifted}
+use Rattle.vp_bars.specs.Boxes.{Boxed, texts_above, texts_below, line_width, line_dot, text_at, text_width, box_width, box_top, box_height, centred, text_row, bars_row, box_dot}
+use Rattle.vp_dots.specs.Dots.{dots, shifted}
+use Rattle.vp_dots.proofs.Shifts.{met}
 use Rattle.vp_dots.specs.Painting.{Painted}
 use Rattle.vp_dots.specs.declared.Op.{Op}
 use Rattle.std.proofs.lemmas.List.{append-nil}
 use Rattle.vp_bars.specs.declared.symbology.Symbology.{Symbology}
 use Rattle.vp_bars.specs.declared.pen.Pen.{Pen}
-use Rattle.vp_bars.specs.Drawing.{Draws}
+use Rattle.vp_bars.specs.Drawing.{Draws, HandedOut}
 use Rattle.vp_bars.proofs.Paints.{drawn_none, drawn_all}
 use Rattle.vp_bars.proofs.Bounds.{width_is, black_is}
+use Rattle.vp_bars.proofs.Pieces.{reached}
 
 in_bar_inside : (bar : Bool) (ws : List ℕ) (x : ℕ) → in_bar bar ws x ≡ true → x < total ws
 in_bar_inside bar [] x e = cc
@@ -38,18 +41,7 @@ unfolding line_dot
 line_inside b x y e = ltb-true x (line_width b.font (text_of b.bars)) (and_parts _ _ e).0
 
 centred_inside : (width own : ℕ) (f : ℕ → Bool) (x : ℕ) → own ≤ width → ((u : ℕ) → f u ≡ true → u < own) → centred width own f x ≡ true → x < width
-centred_inside width own f x l h e =
-    let p : (leb ((width - own) / 2) x ≡ true) × (f (x - (width - own) / 2) ≡ true) = and_parts _ _ e in
-    omega (arith, h (x - (width - own) / 2) p.1, leb-true ((width - own) / 2) x p.0)
-
--- what lies inside is not cut
-uncut : (x w : ℕ) (v : Bool) → (v ≡ true → x < w) → v ≡ (ltb x w && v)
-uncut x w true h = rw (lt-ltb x w (h refl)) refl
-uncut x w false h = none (ltb x w)
-  where
-    none : (b : Bool) → false ≡ (b && false)
-    none true = refl
-    none false = refl
+centred_inside width own f x l h e = grind (arith, nat_tests)
 
 -- a row of a box by where it lies
 module _ (w h t high x y : ℕ) (above bars below : Bool) where
@@ -57,32 +49,16 @@ module _ (w h t high x y : ℕ) (above bars below : Bool) where
   row = ltb x w && ltb y h && cond (ltb y t) above (cond (ltb y (t + high)) bars below)
 
   in_top : y < t → t ≤ h → (above ≡ true → x < w) → above ≡ row
-  in_top k l f = rw (lt-ltb y t k, lt-ltb y h (omega arith)) (uncut x w above f ∙ shape (ltb x w) above)
-    where
-      shape : (b v : Bool) → (b && v) ≡ (b && true && v)
-      shape true v = refl
-      shape false v = refl
+  in_top k l f = grind (arith, nat_tests)
 
   in_bars : t ≤ y → y < t + high → t + high ≤ h → (bars ≡ true → x < w) → bars ≡ row
-  in_bars k l m f = rw (le-ltb y t k, lt-ltb y (t + high) l, lt-ltb y h (omega arith)) (uncut x w bars f ∙ shape (ltb x w) bars)
-    where
-      shape : (b v : Bool) → (b && v) ≡ (b && true && v)
-      shape true v = refl
-      shape false v = refl
+  in_bars k l m f = grind (arith, nat_tests)
 
   in_below : t + high ≤ y → y < h → (below ≡ true → x < w) → below ≡ row
-  in_below k l f = rw (le-ltb y t (omega arith), le-ltb y (t + high) k, lt-ltb y h l) (uncut x w below f ∙ shape (ltb x w) below)
-    where
-      shape : (b v : Bool) → (b && v) ≡ (b && true && v)
-      shape true v = refl
-      shape false v = refl
+  in_below k l f = grind (arith, nat_tests)
 
   past : h ≤ y → row ≡ false
-  past k = rw (le-ltb y h k) (shape (ltb x w))
-    where
-      shape : (b : Bool) → (b && false && cond (ltb y t) above (cond (ltb y (t + high)) bars below)) ≡ false
-      shape true = refl
-      shape false = refl
+  past k = grind (arith, nat_tests)
 
 has_above : (p : HriPosition) (k y : ℕ) → y < texts_above p * k → 0 < texts_above p + texts_below p
 has_above None k y h = absurd (omega arith)
@@ -99,6 +75,15 @@ has_below Both k t y h l = omega arith
 pub text_fits : (f : Font) (p : HriPosition) → 0 < texts_above p + texts_below p → (t : List ℕ) → text_width f p t ≡ line_width f t
 text_fits f None h t = absurd (omega arith)
 text_fits f _ h t = refl
+
+pub text_stands : (p : HriPosition) → 0 < texts_above p + texts_below p → (t : List ℕ) → text_at p t ≡ t
+text_stands None h t = absurd (omega arith)
+text_stands _ h t = refl
+
+-- a dot of the text in its place
+pub text_shown : (at : ℤ) (b : Boxed) (y left d : ℕ) (t : List ℕ) → t ≡ text_of b.bars → left ≡ (box_width b - line_width b.font (text_of b.bars)) / 2
+    → shifted at (text_row b y) d ≡ true → shifted at (λ u. leb left u && line_dot b.sheets b.font t (u - left) y) d ≡ true
+text_shown at b y left d t e l h = rw (e, l) h
 
 module _ (b : Boxed) (y x : ℕ) where
   text_inside : (v : ℕ) → 0 < texts_above b.place + texts_below b.place → text_row b v x ≡ true → x < box_width b
@@ -140,6 +125,20 @@ bars_painted op at b row new s vs x next e v l d =
     (d.drawn (bars_row b) row [] (drawn_none op at (bars_row b) row x (in_bar true (ws ++ []))
     (λ i. ap (λ z. leb z i && is_black b.bars b.narrow b.wide (i - z)) (sym l) ∙ ap (λ z. leb x i && z) (same (i - x)))))
     (λ j. refl)
+
+-- where a dot of them is seen one is handed out at least
+pub bars_seen : (at : ℤ) (b : Boxed) (row : List ℕ) (s : Symbology) (vs : List ℕ) (x y n d : ℕ)
+    → s ≡ b.bars.symbology → vs ≡ b.bars.values → x ≡ (box_width b - bars_width b.bars b.narrow b.wide) / 2 → y ≡ x + total (bar_widths s b.narrow b.wide vs)
+    → HandedOut at (dots row) x y n → d < dots row → shifted at (bars_row b) d ≡ true → 0 < n
+bars_seen at b row s vs x y n d e v l m h k t = elim (met at d) [
+  | inl p ↦ (
+      let left = (box_width b - bars_width b.bars b.narrow b.wide) / 2 in
+      let q : (leb left p.0 ≡ true) × (is_black b.bars b.narrow b.wide (p.0 - left) ≡ true) = and_parts _ _ (sym (p.2 (bars_row b)) ∙ t) in
+      let wide : bars_width b.bars b.narrow b.wide ≡ total (bar_widths s b.narrow b.wide vs) = width_is b.bars.symbology b.narrow b.wide b.bars.values ∙ rw (e, v) refl in
+      h.some (reached at (dots row) x y p.0 d (omega (arith, l, leb-true left p.0 q.0))
+      (omega (arith, l, m, wide, leb-true left p.0 q.0, black_inside b.bars b.narrow b.wide (p.0 - left) q.1)) p.1 k))
+  | inr n ↦ (let z : false ≡ true = sym (n.1 (bars_row b)) ∙ t in cc)
+]
 
 -- rows of bars are alike
 pub bars_alike : (b : Boxed) (y x v : ℕ) → box_top b ≤ y → y < box_top b + b.height → box_top b ≤ v → v < box_top b + b.height → box_dot b x v ≡ box_dot b x y

@@ -1,8 +1,8 @@
 -- The halves of an EAN-13 symbol.
-use Rattle.std.proofs.Common.{inl, inr, ◌≡◌, ℕ, zero, suc, ◌+◌, ◌<◌, ◌≤◌, ◌*◌, min, List, [], ◌∷◌, ◌++◌, length, get_or, take, drop, map, refl, sym, ap, ◌∙◌, append_assoc, add-one, arith}
+use Rattle.std.proofs.Common.{◌≡◌, ℕ, zero, suc, ◌+◌, ◌<◌, ◌≤◌, ◌*◌, min, List, [], ◌∷◌, ◌++◌, length, get_or, take, drop, map, refl, sym, ap, ◌∙◌, append_assoc, add-one, arith}
+use Rattle.std.proofs.lemmas.Bool.Decides.{nat_tests}
 use Rattle.std.specs.List.{flat_map}
-use Rattle.std.proofs.lemmas.Bool.{cases_lt}
-use Rattle.std.proofs.lemmas.List.{append-nil, take_all, drop_all}
+use Rattle.std.proofs.lemmas.List.{append-nil}
 use Rattle.vp_bars.specs.declared.symbology.Symbology.{Symbology}
 use Rattle.vp_bars.specs.declared.symbology.Symbology.TheVariants.{Ean13}
 use Rattle.vp_bars.specs.Patterns.{parity}
@@ -67,16 +67,10 @@ module _ (narrow wide : ℕ) where
 
 -- the first six
 pub first_six : (ds : List ℕ) → take (min (length ds) 6) ds ≡ take 6 ds
-first_six ds = elim (cases_lt (length ds) 6) [
-  | inl l ↦ take_all (min (length ds) 6) ds (omega arith) ∙ sym (take_all 6 ds (omega arith))
-  | inr g ↦ (let n : min (length ds) 6 ≡ 6 = omega arith in ap (λ k. take k ds) n)
-]
+first_six ds = grind (arith, nat_tests)
 
 pub other_six : (ds : List ℕ) → drop (min (length ds) 6) ds ≡ drop 6 ds
-other_six ds = elim (cases_lt (length ds) 6) [
-  | inl l ↦ drop_all (min (length ds) 6) ds (omega arith) ∙ sym (drop_all 6 ds (omega arith))
-  | inr g ↦ (let n : min (length ds) 6 ≡ 6 = omega arith in ap (λ k. drop k ds) n)
-]
+other_six ds = grind (arith, nat_tests)
 
 -- guard, left digits, centre, right digits, guard
 module _ (s : Symbology) (narrow wide : ℕ) where

@@ -10,6 +10,7 @@ pub mod PackedTexts
 pub mod Tables
 pub mod Paints
 pub mod Draws
+pub mod Pieces
 pub mod WordBars
 pub mod Halves
 pub mod Modules

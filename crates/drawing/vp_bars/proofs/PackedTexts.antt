@@ -1,8 +1,8 @@
 -- The text of a packed symbol is its data.
-use Rattle.std.proofs.Common.{◌≡◌, ℕ, ◌+◌, ◌-◌, ◌/◌, ◌%◌, ◌<◌, ◌≤◌, ◌≢◌, ◌⊎◌, ◌&&◌, leb, ltb, length-append, List, [], ◌∷◌, ◌++◌, true, length, take, cond, refl, sym, ap, ◌∙◌, arith, inl, inr, Option, Some, None, Result, Ok, Err}
-use Rattle.std.proofs.lemmas.Bool.{cases_Bool, and_parts, leb-true, ltb-true, lt-ltb, ne_eqb}
+use Rattle.std.proofs.Common.{◌≡◌, ℕ, ◌-◌, ◌≢◌, ◌⊎◌, ◌&&◌, ltb, length-append, List, [], ◌∷◌, ◌++◌, true, length, take, cond, refl, sym, ap, ◌∙◌, arith, inl, inr, Result, Ok, Err}
+use Rattle.std.proofs.lemmas.Bool.Decides.{nat_tests}
+use Rattle.std.proofs.lemmas.Bool.{cases_Bool, and_parts}
 use Rattle.std.proofs.lemmas.List.{take-append-le, take_all}
-use Rattle.std.specs.Char.{is_ascii_digit}
 use Rattle.vp_dots.specs.declared.fault.Why.{Why}
 use Rattle.vp_dots.specs.declared.fault.Fault.{Fault}
 use Rattle.vp_dots.specs.declared.fault.Fault.TheVariants.{SymbolTooLong}
@@ -12,59 +12,10 @@ use Rattle.vp_bars.specs.declared.code_128.CodeSet.TheVariants.{A, B, C}
 use Rattle.vp_bars.specs.Symbols.{Linear}
 use Rattle.vp_bars.specs.CodeSets.{start_of, value_in, onto, plain, code_128_check, stop, values_with, symbol_from}
 use Rattle.vp_bars.specs.Invocations.{pair_of}
-use Rattle.vp_bars.specs.Packing.{two_digits, begins_run, packed, first_set, packed_symbol, code128_zpl_of}
+use Rattle.vp_bars.specs.Packing.{two_digits, packed, first_set, packed_symbol, code128_zpl_of}
 use Rattle.vp_bars.specs.Symbologies.{text_of}
 use Rattle.vp_bars.specs.Texts.{shown_from, data_of, shown_by}
-use Rattle.vp_bars.proofs.Digits.{digit_range}
 use Rattle.vp_bars.proofs.Packed.{packed_pair, packed_change, packed_run, packed_byte}
-
--- values that came before others
-onto_ok : (us vs : List ℕ) (r : Result (List ℕ) Why) → onto us r ≡ Ok vs → (ws : List ℕ) × (r ≡ Ok ws) × (vs ≡ us ++ ws)
-onto_ok us vs (Ok ws) e = (ws, refl, cc)
-onto_ok us vs (Err why) e = cc
-
-plain_ok : (o : Option ℕ) (vs : List ℕ) (r : Result (List ℕ) Why) → plain o r ≡ Ok vs → (v : ℕ) × (ws : List ℕ) × (o ≡ Some v) × (r ≡ Ok ws) × (vs ≡ v ∷ ws)
-plain_ok None vs r e = cc
-plain_ok (Some v) vs (Ok ws) e = (v, ws, refl, refl, cc)
-plain_ok (Some v) vs (Err why) e = cc
-
--- a byte of set B
-byte_value : (a v : ℕ) → value_in B a ≡ Some v → (v < 96) × (v + 32 ≡ a)
-byte_value a v e =
-    elim (cases_Bool (leb 32 a && ltb a 128)) [
-      | inl inside ↦
-          let parts = and_parts (leb 32 a) (ltb a 128) inside in
-          let low : 32 ≤ a = leb-true 32 a parts.0 in
-          let high : a < 128 = ltb-true a 128 parts.1 in
-          let same : ◌≡◌ {A = Option ℕ} (Some (a - 32)) (Some v) = ap (λ b. cond b (Some (a - 32)) None) (sym inside) ∙ e in
-          let value : a - 32 ≡ v = some_same (a - 32) v same in
-          (omega arith, omega arith)
-      | inr outside ↦ none_some v (ap (λ b. cond b (Some (a - 32)) None) (sym outside) ∙ e)
-    ]
-  where
-    some_same : (x y : ℕ) → ◌≡◌ {A = Option ℕ} (Some x) (Some y) → x ≡ y
-    some_same x y h = cc
-
-    none_some : {P : Type 0} (y : ℕ) → ◌≡◌ {A = Option ℕ} None (Some y) → P
-    none_some y h = cc
-
-byte_front : (v : ℕ) (vs : List ℕ) → v < 96 → shown_from B B (v ∷ vs) ≡ (v + 32) ∷ shown_from B B vs
-byte_front v vs l = rw (lt-ltb v 96 l, ne_eqb v 99 (omega arith), ne_eqb v 101 (omega arith), ne_eqb v 98 (omega arith)) refl
-
--- a pair of digits in set C
-pair_value : (a b : ℕ) → two_digits a b ≡ true → (pair_of a b < 100) × (pair_of a b / 10 + 48 ≡ a) × (pair_of a b % 10 + 48 ≡ b)
-pair_value a b e =
-    let both = and_parts (is_ascii_digit a) (is_ascii_digit b) e in
-    let of_a = digit_range a both.0 in
-    let of_b = digit_range b both.1 in
-    let la : 48 ≤ a = of_a.0 in
-    let ha : a ≤ 57 = of_a.1 in
-    let lb : 48 ≤ b = of_b.0 in
-    let hb : b ≤ 57 = of_b.1 in
-    (omega arith, omega arith, omega arith)
-
-pair_front : (v : ℕ) (vs : List ℕ) → v < 100 → shown_from C C (v ∷ vs) ≡ (v / 10 + 48) ∷ (v % 10 + 48) ∷ shown_from C C vs
-pair_front v vs l = rw (lt-ltb v 100 l, ne_eqb v 100 (omega arith), ne_eqb v 101 (omega arith)) refl
 
 -- what follows shows the rest
 abbrev pub Shows : CodeSet → Result (List ℕ) Why → List ℕ → Type 0
@@ -72,34 +23,20 @@ Shows set r rest = (ws : List ℕ) → r ≡ Ok ws → shown_from set set ws ≡
 
 -- a byte in set B
 pub byte_shown : (a : ℕ) (rest vs : List ℕ) (r : Result (List ℕ) Why) → Shows B r rest → plain (value_in B a) r ≡ Ok vs → shown_from B B vs ≡ a ∷ rest
-byte_shown a rest vs r h e =
-    let parts = plain_ok (value_in B a) vs r e in
-    let value = byte_value a parts.0 parts.2 in
-    ap (shown_from B B) parts.4 ∙ byte_front parts.0 parts.1 value.0
-    ∙ ap (λ n. n ∷ shown_from B B parts.1) value.1 ∙ ap (λ (xs : List ℕ). a ∷ xs) (h parts.1 parts.3)
+byte_shown a rest vs r h e = grind (arith, nat_tests)
 
 -- a byte behind the change from C to B
 changed_shown : (a : ℕ) (rest vs : List ℕ) (r : Result (List ℕ) Why) → Shows B r rest → onto (100 ∷ []) (plain (value_in B a) r) ≡ Ok vs → shown_from C C vs ≡ a ∷ rest
-changed_shown a rest vs r h e =
-    let parts = onto_ok (100 ∷ []) vs (plain (value_in B a) r) e in
-    ap (shown_from C C) parts.2 ∙ byte_shown a rest parts.0 r h parts.1
+changed_shown a rest vs r h e = grind (arith, nat_tests)
 
 -- a pair in set C
 pair_shown : (a b : ℕ) (rest vs : List ℕ) (r : Result (List ℕ) Why) → two_digits a b ≡ true → Shows C r rest → onto (pair_of a b ∷ []) r ≡ Ok vs → shown_from C C vs ≡ a ∷ b ∷ rest
-pair_shown a b rest vs r d h e =
-    let parts = onto_ok (pair_of a b ∷ []) vs r e in
-    let value = pair_value a b d in
-    ap (shown_from C C) parts.2 ∙ pair_front (pair_of a b) parts.0 value.0
-    ∙ ap (λ n. n ∷ (pair_of a b % 10 + 48) ∷ shown_from C C parts.0) value.1
-    ∙ ap (λ n. a ∷ n ∷ shown_from C C parts.0) value.2 ∙ ap (λ (xs : List ℕ). a ∷ b ∷ xs) (h parts.0 parts.1)
+pair_shown a b rest vs r d h e = grind (arith, nat_tests)
 
 -- two pairs behind the change from B to C
 run_shown : (a b c d : ℕ) (rest vs : List ℕ) (r : Result (List ℕ) Why) → two_digits a b ≡ true → two_digits c d ≡ true → Shows C r rest
     → onto (99 ∷ []) (onto (pair_of a b ∷ []) (onto (pair_of c d ∷ []) r)) ≡ Ok vs → shown_from B B vs ≡ a ∷ b ∷ c ∷ d ∷ rest
-run_shown a b c d rest vs r p q h e =
-    let parts = onto_ok (99 ∷ []) vs (onto (pair_of a b ∷ []) (onto (pair_of c d ∷ []) r)) e in
-    ap (shown_from B B) parts.2
-    ∙ pair_shown a b (c ∷ d ∷ rest) parts.0 (onto (pair_of c d ∷ []) r) p (λ ws f. pair_shown c d rest ws r q h f) parts.1
+run_shown a b c d rest vs r p q h e = grind (arith, nat_tests)
 
 pub no_values : (set : CodeSet) (vs : List ℕ) → ◌≡◌ {A = Result (List ℕ) Why} (Ok []) (Ok vs) → shown_from set set vs ≡ []
 no_values set [] e = refl
@@ -140,10 +77,7 @@ shown_packed A src vs (inl h) e = cc
 shown_packed A src vs (inr h) e = cc
 
 first_is : (src : List ℕ) → (first_set src ≡ B) ⊎ (first_set src ≡ C)
-first_is src = elim (cases_Bool (begins_run src)) [
-  | inl run ↦ inr (ap (λ b. cond b C B) run)
-  | inr other ↦ inl (ap (λ b. cond b C B) other)
-]
+first_is src = grind (arith, nat_tests)
 
 -- a symbol shows its values between start and check
 data_is : (start : ℕ) (vs : List ℕ) → data_of (values_with start vs) ≡ vs

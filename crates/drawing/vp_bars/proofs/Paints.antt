@@ -1,5 +1,6 @@
 -- Paintings from the left, one piece after another.
 use Rattle.std.proofs.Common.{inl, inr, ◌⊎◌, ◌≡◌, ℕ, ◌+◌, ◌-◌, ◌<◌, ◌≤◌, Bool, true, false, ltb, leb, ◌&&◌, ◌||◌, refl, sym, ap, ◌∙◌, arith, List, [], ◌∷◌, ℤ, pos, negsuc, ◌+ℤ◌, lit<}
+use Rattle.std.proofs.lemmas.Bool.Decides.{nat_tests}
 use Rattle.std.proofs.lemmas.Int.{ints}
 use Rattle.std.proofs.lemmas.Bool.{cases_lt, le-leb, lt-leb, lt-ltb, le-ltb}
 use Rattle.vp_dots.specs.Dots.{bit, dot, dots, shifted}
@@ -90,10 +91,7 @@ module _ (op : Op) (at : ℤ) where
 
     -- all is painted
     pub drawn_all : (row : List ℕ) (x : ℕ) (g : ℕ → Bool) → Drawn op at f old row x g → ((j : ℕ) → g j ≡ false) → Painted op (shifted at f) old row
-    drawn_all row x g r none = moved_same (λ i. ltb i x && f i) f old row (λ i. elim (cases_lt i x) [
-      | inl l ↦ rw (lt-ltb i x l) refl
-      | inr k ↦ rw (le-ltb i x k) (sym (r.left i k ∙ none (i - x)))
-    ]) r.done
+    drawn_all row x g r none = grind (arith, nat_tests)
 
 white : dot (0 ∷ []) 0 ≡ false
 unfolding dot bit

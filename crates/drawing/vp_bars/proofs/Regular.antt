@@ -107,7 +107,7 @@ regular_turned s n w bar (v ∷ vs) h =
 
 module _ (op : Op) (at : ℤ) where
   -- bars and spaces of which the row shows nothing
-  draws_unseen : (row : List ℕ) (pen next : Pen) (ws : List ℕ) → next.x ≡ pen.x + total ws → next.bar ≡ turned pen.bar ws
+  pub draws_unseen : (row : List ℕ) (pen next : Pen) (ws : List ℕ) → next.x ≡ pen.x + total ws → next.bar ≡ turned pen.bar ws
       → ((u d : ℕ) → pen.x ≤ u → u < next.x → pos d ≡ at +ℤ pos u → d < dots row → ⊥) → Draws op at row row pen next ws
   draws_unseen row pen next ws e t none = record {
     ends = e;
@@ -125,6 +125,11 @@ module _ (op : Op) (at : ℤ) where
           ∙ in_bar_behind pen.bar ws rest (i - next.x) ∙ ap (λ b. in_bar b rest (i - next.x)) (sym t);
     };
   }
+
+  -- characters that have no dots
+  pub regular_none : (s : Symbology) (n w : ℕ) (vs row : List ℕ) (pen : Pen) → step_of s n w ≡ 0 → All (IsRegular s) vs → Draws op at row row pen pen (flat_map (next_widths s n w) vs)
+  regular_none s n w vs row pen z all = draws_unseen row pen pen (flat_map (next_widths s n w) vs)
+      (omega (arith, regular_total s n w vs all, ap (λ k. k * length vs) z)) (sym (regular_turned s n w pen.bar vs all)) (λ u d g h q l. absurd (omega arith))
 
   module _ (s : Symbology) (n w k : ℕ) (vs : List ℕ) (step : k ≡ step_of s n w) (regular : All (IsRegular s) vs) where
     widths : (us : List ℕ) → All (IsRegular s) us → total (flat_map (next_widths s n w) us) ≡ k * length us
@@ -196,3 +201,15 @@ parts_of s n w count k first values others us vs a e l u v =
 
 pub no_fewer : (k n : ℕ) → 0 < k → n ≤ k * n
 no_fewer k n h = let z = mul-le-mul_right {m = 1} {n = k} n h in omega (arith, z)
+
+-- those from one to another together
+pub regular_between : (s : Symbology) (n w k from to : ℕ) (vs : List ℕ) → k ≡ step_of s n w → All (IsRegular s) vs → from ≤ to → to ≤ length vs
+    → k * from + total (flat_map (next_widths s n w) (take (to - from) (drop from vs))) ≡ k * to
+regular_between s n w k from to vs e all l m =
+    let middle = regular_total s n w (take (to - from) (drop from vs)) (All-take (IsRegular s) (to - from) (drop from vs) (All-drop (IsRegular s) from vs all)) in
+    let two : length (take (to - from) (drop from vs)) ≡ to - from = length-take-le (to - from) (drop from vs) (omega (arith, length-drop from vs)) in
+    let step = ap (λ i. i * length (take (to - from) (drop from vs))) e in
+    let times = ap (λ i. k * i) two in
+    let both : from + (to - from) ≡ to = omega arith in
+    let whole = ap (λ i. k * i) both in
+    omega (arith, middle, step, times, whole)

@@ -1,7 +1,7 @@
 -- Lines of text cell by cell.
 use Rattle.std.proofs.Common.{inl, inr, ◌≡◌, ℕ, zero, suc, subst, pos, ◌+ℤ◌, ◌+◌, ◌-◌, ◌*◌, ◌/◌, ◌%◌, ◌<◌, ◌≤◌, Bool, true, false, ltb, leb, ◌&&◌, ℤ, List, ◌∷◌, length, get_or, drop, refl, sym, ap, ◌∙◌, arith}
 use Rattle.std.proofs.Math.Nat.{mul-le-mul_left}
-use Rattle.std.proofs.lemmas.Bool.{cases_lt, lt-ltb, le-ltb, lt-leb, le-leb, false_from_ne_true}
+use Rattle.std.proofs.lemmas.Bool.{cases_lt, and_parts, leb-true, lt-ltb, le-ltb, lt-leb, le-leb, false_from_ne_true}
 use Rattle.std.proofs.lemmas.List.{drop_more}
 use Rattle.vp_glyph.specs.Sheets.{Sheets}
 use Rattle.vp_glyph.specs.declared.cell.Font.{Font}
@@ -12,7 +12,7 @@ use Rattle.vp_dots.specs.Dots.{shifted}
 use Rattle.vp_dots.specs.Painting.{Painted}
 use Rattle.vp_dots.specs.declared.Op.{Op}
 use Rattle.vp_dots.proofs.Paints.{painted_none, painted_same}
-use Rattle.vp_dots.proofs.Shifts.{shifted_none, shifted_same}
+use Rattle.vp_dots.proofs.Shifts.{met, shifted_none, shifted_same}
 use Rattle.vp_bars.specs.Drawing.{Drawn}
 use Rattle.vp_bars.specs.Boxes.{plain_style, line_dot}
 use Rattle.vp_bars.proofs.Paints.{drawn_more}
@@ -133,3 +133,25 @@ module _ (op : Op) (at : ℤ) (sheets : Sheets) (font : Font) (text : List ℕ) 
           | inr k ↦ sym (rw (line_past sheets font y text (x - left) (omega arith)) (and_false (leb left x)))
         ])
       ])) d.done
+
+module _ (at : ℤ) (sheets : Sheets) (font : Font) (text : List ℕ) (y left : ℕ) where
+  -- where a dot is seen there is a cell among those that can be seen
+  pub line_seen : (from to d n : ℕ) → ((x e : ℕ) → left ≤ x → x < left + font_width font * from → pos e ≡ at +ℤ pos x → e < 0)
+      → ((x e : ℕ) → left + font_width font * to ≤ x → x < left + font_width font * length text → pos e ≡ at +ℤ pos x → n ≤ e)
+      → d < n → shifted at (λ i. leb left i && line_dot sheets font text (i - left) y) d ≡ true → from < to
+  line_seen from to d n before behind l e = elim (met at d) [
+    | inl p ↦ (
+        let q : (leb left p.0 ≡ true) × (line_dot sheets font text (p.0 - left) y ≡ true) = and_parts _ _ (sym (p.2 (λ i. leb left i && line_dot sheets font text (i - left) y)) ∙ e) in
+        let on = leb-true left p.0 q.0 in
+        elim (cases_lt from to) [
+          | inl m ↦ m
+          | inr g ↦ elim (cases_lt p.0 (left + font_width font * from)) [
+            | inl b ↦ absurd (let z = before p.0 d on b p.1 in omega arith)
+            | inr b ↦ elim (cases_lt p.0 (left + font_width font * length text)) [
+              | inl k ↦ absurd (let more = mul-le-mul_left {m = to} {n = from} (font_width font) g in let z = behind p.0 d (omega (arith, more)) k p.1 in omega arith)
+              | inr k ↦ (let z : false ≡ true = sym (line_past sheets font y text (p.0 - left) (omega arith)) ∙ q.1 in cc)
+            ]
+          ]
+        ])
+    | inr n ↦ (let z : false ≡ true = sym (n.1 (λ i. leb left i && line_dot sheets font text (i - left) y)) ∙ e in cc)
+  ]

@@ -1,5 +1,5 @@
 -- Data of Code 128 token by token, and the values that they give one after another.
-use Rattle.std.proofs.Common.{◌≡◌, ℕ, ◌+◌, ◌*◌, ◌<◌, List, [], ◌++◌, length, get_or, drop, Result, Ok, Err, refl, sym, ap, ◌∙◌, append_assoc, arith}
+use Rattle.std.proofs.Common.{◌≡◌, ℕ, ◌+◌, ◌*◌, ◌<◌, List, [], length, get_or, drop, Result, Ok, Err, refl, ap, ◌∙◌, arith}
 use Rattle.std.proofs.lemmas.List.{drop_more}
 use Rattle.vp_dots.specs.declared.fault.Why.{Why}
 use Rattle.vp_bars.specs.CodeSets.{onto, placed}
@@ -7,10 +7,6 @@ use Rattle.vp_bars.specs.CodeSets.{onto, placed}
 pub onto_none : (r : Result (List ℕ) Why) → onto [] r ≡ r
 onto_none (Ok vs) = refl
 onto_none (Err why) = refl
-
-pub onto_more : (vs ws : List ℕ) (r : Result (List ℕ) Why) → onto vs (onto ws r) ≡ onto (vs ++ ws) r
-onto_more vs ws (Ok us) = ap (λ xs. Ok xs) (sym (append_assoc vs ws us))
-onto_more vs ws (Err why) = refl
 
 -- one more value of the sum
 pub placed_more : (vs : List ℕ) (i sum place start : ℕ) → i < length vs → start + placed 1 vs ≡ sum + placed place (drop i vs)

@@ -137,12 +137,6 @@ draws_at_once op at place before after pen next ws e t h p = record {
       (λ j. in_bar_behind pen.bar ws rest j ∙ ap (λ b. in_bar b rest j) (sym t)));
 }
 
--- and none of whose places the row has
-pub draws_past : (op : Op) (at place : ℤ) (row : List ℕ) (pen next : Pen) (ws : List ℕ) → next.x ≡ pen.x + total ws → next.bar ≡ turned pen.bar ws → place ≡ at +ℤ pos pen.x
-    → ((f : ℕ → Bool) (d : ℕ) → d < dots row → shifted place f d ≡ false) → Draws op at row row pen next ws
-draws_past op at place row pen next ws e t h none =
-    draws_at_once op at place row row pen next ws e t h (record { length_is = refl; dots_are = λ d l. ap (λ i. paint op i (dot row d)) (sym (none (in_bar pen.bar ws) d l)) })
-
 -- so many elements turn the pen
 pub turned_odd : (s : ℕ → ℕ) (bar : Bool) (es : List ℕ) → turned bar (map s es) ≡ cond (eqb (length es % 2) 1) (not bar) bar
 turned_odd s bar [] = refl

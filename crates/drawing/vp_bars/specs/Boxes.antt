@@ -1,5 +1,5 @@
 -- A symbol with its text above or below.
-use Rattle.std.specs.Prelude.{◌≡◌, ℕ, ◌+◌, ◌-◌, ◌*◌, ◌/◌, ◌%◌, ◌<◌, Bool, true, false, nat_lt, nat_le, ◌&&◌, max, List, [], length, slice_index, if◌then◌else◌}
+use Rattle.std.specs.Prelude.{◌≡◌, ℕ, ◌+◌, ◌-◌, ◌*◌, ◌/◌, ◌%◌, ◌<◌, Bool, true, false, nat_lt, nat_le, ◌&&◌, max, min, List, [], length, slice_index, if◌then◌else◌}
 use Rattle.std.proofs.lemmas.Bool.{and_parts, ltb-true}
 use Rattle.vp_glyph.specs.Sheets.{Sheets}
 use Rattle.vp_glyph.specs.declared.cell.Font.{Font}
@@ -85,6 +85,14 @@ box_dot b x y =
     if nat_lt y (box_top b) then text_row b y x
     else if nat_lt y (box_top b + b.height) then bars_row b x
     else text_row b (y - box_top b - b.height) x)
+
+-- the most cells of a text that a row of so many dots shows
+abbrev pub line_pieces : Font → List ℕ → ℕ → ℕ
+line_pieces font text dots = min (length text) (dots / font_width font + 2)
+
+-- the most characters of bars, or cells of a text, that a row of so many dots shows of any box
+abbrev pub box_pieces : ℕ → ℕ
+box_pieces dots = min 512 (dots + 2)
 
 -- there is no ink outside
 pub box_inside : (b : Boxed) (x y : ℕ) → box_dot b x y ≡ true → (x < box_width b) × (y < box_height b)

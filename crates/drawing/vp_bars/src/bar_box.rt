@@ -2,17 +2,16 @@
 
 ghost use Rattle.std.specs.Prelude.{◌≡◌, ℕ, ◌+◌, ◌-◌, ◌*◌, ◌<◌, ◌≤◌, ◌^◌, ◌&&◌, ◌+ℤ◌, pos, nat_le, true, length, FitsSigned};
 ghost use Rattle.std.specs.Int.{w64};
-ghost use Rattle.vp_dots.specs.Dots.{shifted};
+ghost use Rattle.vp_dots.specs.Dots.{dots, shifted};
 ghost use Rattle.vp_dots.specs.Painting.{Painted};
 ghost use Rattle.vp_glyph.specs.Cells.{font_width, font_height, cell_dot, cell_width};
-ghost use Rattle.vp_bars.specs.Boxes.{Boxed, texts_above, texts_below, text_at as text_of_place, line_dot, line_width, text_width as width_of_text, box_width, box_height, text_row, bars_row, box_dot, box_inside};
+ghost use Rattle.vp_bars.specs.Boxes.{Boxed, texts_above, texts_below, text_at as text_of_place, line_dot, line_width, text_width as width_of_text, box_width, box_height, text_row, bars_row, box_dot, box_inside, line_pieces, box_pieces};
 ghost use Rattle.vp_bars.specs.declared.bar_box.TheConstants.{PLAIN};
 ghost use Rattle.vp_bars.specs.Symbologies.{text_of};
 ghost use Rattle.vp_bars.specs.Widths.{bars_width as width_of_bars};
 
 use crate::Bars;
 use crate::pen::Pen;
-use arrayvec::ArrayVec;
 use std::alloc::Global;
 use vp_bar_code::HriPosition;
 use vp_dots::{Ink, Op, Small, dot_of, fill_moved, paint_word};
@@ -80,7 +79,8 @@ fn paint_cell<A: Small>(cell: &Cell<'_, A>, y: u32, left: u32, op: Op, at: i64, 
     }
 }
 
-/// Paints row y of a text that stands `left` dots to the right: the cells that can be seen on the row.
+/// Paints row y of a text that stands `left` dots to the right: the cells that can be seen on the row. It
+/// gives their number.
 fn paint_line<A: Small>(
     sheets: &Sheets<A>,
     font: Font,
@@ -90,17 +90,23 @@ fn paint_line<A: Small>(
     op: Op,
     at: i64,
     row: &mut [u8],
-)
+) -> usize
     requires { left + line_width font text.now < 2 ^ 32 }
-    ensures { Painted op (shifted at (λ i. nat_le left i && line_dot sheets.now font text.now (i - left) y))
-        row.old row.new }
+    ensures painted { Painted op (shifted at (λ i. nat_le left i
+        && line_dot sheets.now font text.now (i - left) y)) row.old row.new }
+    ensures most { result ≤ line_pieces font text.now (dots row.old) }
+    ensures some { (d : ℕ) → d < dots row.old → shifted at (λ i. nat_le left i
+        && line_dot sheets.now font text.now (i - left) y) d ≡ true → 0 < result }
 {
     let width = font.width();
     let (from, to) = seen(at, left, width, text.len(), row.len());
+    let mut cells = 0;
     for k in from..to {
         let cell = sheets.cell(text[k], font, PLAIN);
         paint_cell(&cell, y, left + width * k as u32, op, at, row);
+        cells += 1;
     }
+    cells
 }
 
 /// The offset by which dot x comes to the left edge.
@@ -129,21 +135,21 @@ pub struct BarBox<'a, A: Small = Global> {
     /// The dots of a row of the bars.
     pub bars_width: u32,
     /// The text, where one stands.
-    pub text: ArrayVec<u8, 512>,
+    pub text: &'a [u8],
     ghost bars_are: { bars_width ≡ width_of_bars bars.now narrow wide },
     ghost bars_fit: { bars_width < 2 ^ 30 },
-    ghost text_is: { text.items ≡ text_of_place place (text_of bars.now) },
-    ghost text_fits: { length text.items ≤ 512 },
+    ghost text_is: { text.now ≡ text_of_place place (text_of bars.now) },
+    ghost text_fits: { length text.now ≤ 512 },
 }
 
 /// The text of a symbol, where one stands.
-fn text_at(bars: &Bars, place: HriPosition) -> ArrayVec<u8, 512>
-    ensures text { result.items ≡ text_of_place place (text_of bars.now) }
-    ensures few { length result.items ≤ 512 }
+fn text_at(bars: &Bars, place: HriPosition) -> &[u8]
+    ensures text { result.now ≡ text_of_place place (text_of bars.now) }
+    ensures few { length result.now ≤ 512 }
 {
     match place {
-        HriPosition::None => ArrayVec::new(),
-        HriPosition::Above | HriPosition::Below | HriPosition::Both => bars.text(),
+        HriPosition::None => &[],
+        HriPosition::Above | HriPosition::Below | HriPosition::Both => bars.shown(),
     }
 }
 
@@ -232,51 +238,53 @@ impl<A: Small> BarBox<'_, A> {
         above(self.place) * self.font.height()
     }
 
-    /// Paints a row of the bars.
+    /// Paints a row of the bars: how many characters it handed out.
     #[tactic(auto, using(crate::proofs::Bounds::width_is))]
-    fn paint_bars(&self, op: Op, at: i64, row: &mut [u8])
-        ensures { Painted op (shifted at (bars_row (boxed self.now))) row.old row.new }
+    fn paint_bars(&self, op: Op, at: i64, row: &mut [u8]) -> usize
+        ensures painted { Painted op (shifted at (bars_row (boxed self.now))) row.old row.new }
+        ensures most { result ≤ dots row.old }
+        ensures few { result ≤ 512 }
+        ensures some { (d : ℕ) → d < dots row.old → shifted at (bars_row (boxed self.now)) d ≡ true
+            → 0 < result }
     {
         let x = (self.width() - self.bars_width) / 2;
         let strokes = self.bars.strokes(self.narrow, self.wide);
-        strokes.draw_bars(Pen { x, bar: true }, op, at, row);
+        let (_, characters) = strokes.draw_bars(Pen { x, bar: true }, op, at, row);
+        characters
     }
 
-    /// Paints a row of the text.
-    fn paint_text(&self, y: u32, op: Op, at: i64, row: &mut [u8])
+    /// Paints a row of the text: how many cells it handed out.
+    fn paint_text(&self, y: u32, op: Op, at: i64, row: &mut [u8]) -> usize
         requires { 0 < texts_above self.now.place + texts_below self.now.place }
-        ensures { Painted op (shifted at (text_row (boxed self.now) y)) row.old row.new }
+        ensures painted { Painted op (shifted at (text_row (boxed self.now) y)) row.old row.new }
+        ensures most { result ≤ dots row.old + 2 }
+        ensures few { result ≤ 512 }
+        ensures some { (d : ℕ) → d < dots row.old → shifted at (text_row (boxed self.now) y) d ≡ true
+            → 0 < result }
     {
         let left = self.width().saturating_sub(self.text_width()) / 2;
-        paint_line(
-            self.sheets,
-            self.font,
-            self.text.as_slice(),
-            y,
-            left,
-            op,
-            at,
-            row,
-        );
+        paint_line(self.sheets, self.font, self.text, y, left, op, at, row)
     }
 
-    /// Paints a row of the box.
-    fn paint(&self, y: u32, op: Op, at: i64, row: &mut [u8])
-        ensures { Painted op (shifted at (λ x. box_dot (boxed self.now) x y)) row.old row.new }
+    /// Paints a row of the box: how many characters of the bars, or cells of the text, it handed out.
+    pub fn paint_pieces(&self, y: u32, op: Op, at: i64, row: &mut [u8]) -> u32
+        ensures painted { Painted op (shifted at (λ x. box_dot (boxed self.now) x y)) row.old row.new }
+        ensures most { result ≤ box_pieces (dots row.old) }
+        ensures some { (d : ℕ) → d < dots row.old
+            → shifted at (λ x. box_dot (boxed self.now) x y) d ≡ true → 0 < result }
     {
         let top = self.top();
         let bottom = top + u32::from(self.height);
         if y < top {
-            self.paint_text(y, op, at, row);
-            return;
+            return self.paint_text(y, op, at, row) as u32;
         }
         if y < bottom {
-            self.paint_bars(op, at, row);
-            return;
+            return self.paint_bars(op, at, row) as u32;
         }
         if y - bottom < below(self.place) * self.font.height() {
-            self.paint_text(y - bottom, op, at, row);
+            return self.paint_text(y - bottom, op, at, row) as u32;
         }
+        0
     }
 }
 
@@ -298,12 +306,12 @@ impl<A: Small> Ink for BarBox<'_, A> {
 
     fn ink(&self, x: u32, y: u32) -> bool {
         let mut row = [0u8];
-        self.paint(y, Op::Black, back(x), &mut row);
+        self.paint_pieces(y, Op::Black, back(x), &mut row);
         dot_of(&row, 0)
     }
 
     fn paint_row(&self, y: u32, op: Op, at: i64, row: &mut [u8]) {
-        self.paint(y, op, at, row);
+        self.paint_pieces(y, op, at, row);
     }
 
     fn alike(&self, y: u32) -> (u32, u32) {

@@ -14,23 +14,27 @@ use vp_dots::{Fault, Op, Why};
 /// The most bytes of data that a symbol is made of.
 pub const DATA_BYTES: usize = 255;
 
-/// A linear symbol: the values of its characters, at most 258, of 0 to 106.
+/// A linear symbol: the values of its characters, at most 258, of 0 to 106, and its text, which is made once.
 #[derive(Drop)]
 pub struct Bars {
     symbology: Symbology,
     values: ArrayVec<u8, 258>,
     regular: usize,
+    text: ArrayVec<u8, 512>,
 }
 
 impl Model for Bars {
+    ghost use Rattle.std.specs.Prelude.{◌≡◌};
     ghost use Rattle.vp_bars.specs.Regular.{AreRegular};
     ghost use Rattle.vp_bars.specs.Symbols.{Linear};
+    ghost use Rattle.vp_bars.specs.Symbologies.{text_of_values};
 
     ghost Value = { Linear };
 
     ghost view = { λ b. record { symbology = b.symbology; values = b.values.items } };
 
-    ghost invariant = { λ b. AreRegular b.symbology b.regular b.values.items };
+    ghost invariant = { λ b. AreRegular b.symbology b.regular b.values.items
+        × b.text.items ≡ text_of_values b.symbology b.values.items };
 }
 
 impl Bars {
@@ -42,10 +46,12 @@ impl Bars {
         ensures { result ≡ record { symbology = symbology; values = values.items } }
     {
         let regular = regular(symbology, values.as_slice());
+        let text = text_in(symbology, values.as_slice());
         Bars {
             symbology,
             values,
             regular,
+            text,
         }
     }
 
@@ -91,7 +97,8 @@ impl Bars {
         match self.symbology {
             Symbology::Ean13 => {
                 let pen = Pen { x: 0, bar: true };
-                strokes.draw_bars(pen, Op::Black, 0, &mut []).x
+                let (end, _) = strokes.draw_bars(pen, Op::Black, 0, &mut []);
+                end.x
             }
             Symbology::Code39 | Symbology::Code128 => strokes.characters_width(),
         }
@@ -100,11 +107,21 @@ impl Bars {
     /// Its text, a byte a character: data and check of Code 39 without the stars, the thirteen digits of
     /// EAN-13, or what the data of Code 128 show, a byte for a value of set A or B, two digits for one of
     /// set C, and nothing for a function character.
-    #[tactic(auto, unfolding(crate::specs::Symbologies::text_of))]
     pub fn text(&self) -> ArrayVec<u8, 512>
         ensures { result.items ≡ text_of self.now }
     {
-        text_in(self.symbology, self.values.as_slice())
+        let mut text = ArrayVec::new();
+        let _ = text.try_extend_from_slice(self.shown());
+        text
+    }
+
+    /// Its text, as it is kept.
+    #[tactic(auto, unfolding(crate::specs::Symbologies::text_of))]
+    pub(crate) fn shown(&self) -> &[u8]
+        ensures text { result.now ≡ text_of self.now }
+        ensures few { length result.now ≤ 512 }
+    {
+        self.text.as_slice()
     }
 }
 

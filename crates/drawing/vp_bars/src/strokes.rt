@@ -1,14 +1,14 @@
 //! The bars of a symbol, drawn on a row.
 
-ghost use Rattle.std.specs.Prelude.{◌≡◌, ℕ, ◌+◌, ◌<◌, ◌≤◌, ◌^◌, ◌++◌, Bool, true, false, List, length, take, flat_map};
+ghost use Rattle.std.specs.Prelude.{◌≡◌, ℕ, ◌+◌, ◌<◌, ◌≤◌, ◌^◌, ◌++◌, min, nat_lt, Bool, true, false, List, length, take, flat_map};
 ghost use Rattle.vp_bars.specs.Symbologies.{pattern_of as pattern_for, size_of as size_for};
 ghost use Rattle.vp_bars.specs.Widths.{sized, next_widths, widths_of, bar_widths, width_of, total, in_bar};
 ghost use Rattle.std.specs.List.{All};
 ghost use Rattle.vp_bars.specs.Regular.{IsRegular, AreRegular, step_of};
 ghost use Rattle.vp_bars.specs.Elements.{left_elements, ean13_elements};
 ghost use Rattle.vp_bars.specs.declared.symbology.Symbology.TheVariants.{Ean13};
-ghost use Rattle.vp_bars.specs.Drawing.{Draws, turned};
-ghost use Rattle.vp_dots.specs.Dots.{dots, shifted};
+ghost use Rattle.vp_bars.specs.Drawing.{Draws, turned, reach, HandedOut};
+ghost use Rattle.vp_dots.specs.Dots.{dots};
 ghost use Rattle.vp_dots.specs.Words.{word_dot};
 
 use crate::patterns::{left_digit, parity};
@@ -36,11 +36,24 @@ pub(crate) struct Strokes<'a> {
     ghost few: { length values.now ≤ 258 },
 }
 
-/// Whether a row ends before a place.
-fn is_past(place: i64, row: &[u8]) -> bool
-    ensures { result ≡ true → (f : ℕ → Bool) (d : ℕ) → d < dots row.now → shifted place f d ≡ false }
+/// Whether a row has one of the dots first <= d < behind.
+fn has_dot(first: u64, behind: u64, row: &[u8]) -> bool
+    ensures { result ≡ nat_lt (min (dots row.now) first) (min (dots row.now) behind) }
 {
-    place >= 0 && place.unsigned_abs() / 8 >= row.len() as u64
+    first < behind && first / 8 < row.len() as u64
+}
+
+/// Whether a row has one of the dots from <= x < to, moved by an offset.
+fn is_shown(at: i64, from: u32, to: u32, row: &[u8]) -> bool
+    ensures { result ≡ nat_lt (reach at (dots row.now) from) (reach at (dots row.now) to) }
+{
+    let far = at.unsigned_abs();
+    let from = u64::from(from);
+    let to = u64::from(to);
+    if at >= 0 {
+        return has_dot(from + far, to + far, row);
+    }
+    has_dot(from.saturating_sub(far), to.saturating_sub(far), row)
 }
 
 impl Strokes<'_> {
@@ -162,70 +175,81 @@ impl Strokes<'_> {
         pen
     }
 
-    /// Draws elements, and gives the pen behind them: at once where a word has room for them, and not at all
-    /// where the row ends before them.
-    fn draw_some(&self, elements: &[u8], pen: Pen, op: Op, at: i64, row: &mut [u8]) -> Pen
+    /// Draws elements where the row has a dot of them, at once where a word has room for them, and gives the
+    /// pen behind them. Beside it stands how many it handed out: one, or none where the row has no dot.
+    fn draw_some(&self, elements: &[u8], pen: Pen, op: Op, at: i64, row: &mut [u8]) -> (Pen, usize)
         requires { pen.x + total (sized self.now.symbology self.now.narrow self.now.wide elements.now) < 2 ^
             32 }
-        ensures { Draws op at row.old row.new pen result
+        ensures strokes { Draws op at row.old row.new pen result.0
             (sized self.now.symbology self.now.narrow self.now.wide elements.now) }
+        ensures pieces { HandedOut at (dots row.old) pen.x result.0.x result.1 }
+        ensures few { result.1 ≤ 1 }
     {
         let next = self.behind(elements, pen);
-        let Some(place) = at.checked_add(i64::from(pen.x)) else {
-            return self.draw_each(elements, pen, op, at, row);
-        };
-        if is_past(place, row) {
-            return next;
+        if !is_shown(at, pen.x, next.x, row) {
+            return (next, 0);
         }
+        let Some(place) = at.checked_add(i64::from(pen.x)) else {
+            return (self.draw_each(elements, pen, op, at, row), 1);
+        };
         if next.x - pen.x >= 64 {
-            return self.draw_each(elements, pen, op, at, row);
+            return (self.draw_each(elements, pen, op, at, row), 1);
         }
         paint_word(op, self.word(elements, pen.bar), place, row);
-        next
+        (next, 1)
     }
 
     /// Draws elements, and gives the pen behind them, where there may be none, as between two characters of
     /// Code 128.
     #[inline(always)]
-    fn draw(&self, elements: &[u8], pen: Pen, op: Op, at: i64, row: &mut [u8]) -> Pen
+    fn draw(&self, elements: &[u8], pen: Pen, op: Op, at: i64, row: &mut [u8]) -> (Pen, usize)
         requires { pen.x + total (sized self.now.symbology self.now.narrow self.now.wide elements.now) < 2 ^
             32 }
-        ensures { Draws op at row.old row.new pen result
+        ensures strokes { Draws op at row.old row.new pen result.0
             (sized self.now.symbology self.now.narrow self.now.wide elements.now) }
+        ensures pieces { HandedOut at (dots row.old) pen.x result.0.x result.1 }
+        ensures few { result.1 ≤ 1 }
     {
         if elements.is_empty() {
-            return pen;
+            return (pen, 0);
         }
         self.draw_some(elements, pen, op, at, row)
     }
 
-    /// Draws characters, each behind another, and gives the pen behind them.
-    fn draw_next(&self, values: &[u8], pen: Pen, op: Op, at: i64, row: &mut [u8]) -> Pen
+    /// Draws characters, each behind another, and gives the pen behind them and how many it handed out.
+    fn draw_next(&self, values: &[u8], pen: Pen, op: Op, at: i64, row: &mut [u8]) -> (Pen, usize)
         requires { pen.x + total (flat_map (next_widths self.now.symbology self.now.narrow self.now.wide)
             values.now) < 2 ^ 32 }
-        ensures { Draws op at row.old row.new pen result
+        ensures strokes { Draws op at row.old row.new pen result.0
             (flat_map (next_widths self.now.symbology self.now.narrow self.now.wide) values.now) }
+        ensures pieces { HandedOut at (dots row.old) pen.x result.0.x result.1 }
+        ensures few { result.1 ≤ length values.now }
     {
         let mut pen = pen;
+        let mut pieces = 0;
         for v in values {
-            let gap = self.draw(gap_of(self.symbology), pen, op, at, row);
-            pen = self.draw(pattern_of(self.symbology, *v), gap, op, at, row);
+            let (start, gap) = self.draw(gap_of(self.symbology), pen, op, at, row);
+            let (end, character) = self.draw(pattern_of(self.symbology, *v), start, op, at, row);
+            pen = end;
+            pieces += gap.max(character);
         }
-        pen
+        (pen, pieces)
     }
 
     /// Draws regular characters, each behind another: those that can be seen on the row. It gives the pen
-    /// behind them all.
-    fn draw_regular(&self, values: &[u8], pen: Pen, op: Op, at: i64, row: &mut [u8]) -> Pen
+    /// behind them all, and how many it handed out.
+    fn draw_regular(&self, values: &[u8], pen: Pen, op: Op, at: i64, row: &mut [u8]) -> (Pen, usize)
         requires regular { All (IsRegular self.now.symbology) values.now }
         requires room { pen.x + total (flat_map
             (next_widths self.now.symbology self.now.narrow self.now.wide) values.now) < 2 ^ 32 }
-        ensures { Draws op at row.old row.new pen result
+        ensures strokes { Draws op at row.old row.new pen result.0
             (flat_map (next_widths self.now.symbology self.now.narrow self.now.wide) values.now) }
+        ensures pieces { HandedOut at (dots row.old) pen.x result.0.x result.1 }
+        ensures few { result.1 ≤ length values.now }
     {
         let step = self.step();
         if step == 0 {
-            return self.draw_next(values, pen, op, at, row);
+            return (pen, 0);
         }
         let (from, to) = seen(at, pen.x, step, values.len(), row.len());
         let to = to.max(from);
@@ -233,30 +257,35 @@ impl Strokes<'_> {
             x: pen.x + step * from as u32,
             bar: pen.bar,
         };
-        let last = self.draw_next(&values[from..to], first, op, at, row);
-        Pen {
+        let (last, pieces) = self.draw_next(&values[from..to], first, op, at, row);
+        let end = Pen {
             x: pen.x + step * values.len() as u32,
             bar: last.bar,
-        }
+        };
+        (end, pieces)
     }
 
-    /// Draws the values one after the other, and gives the pen behind them.
-    fn draw_characters(&self, pen: Pen, op: Op, at: i64, row: &mut [u8]) -> Pen
+    /// Draws the values one after the other, and gives the pen behind them and how many it handed out.
+    fn draw_characters(&self, pen: Pen, op: Op, at: i64, row: &mut [u8]) -> (Pen, usize)
         requires { pen.x + total (widths_of self.now.symbology self.now.narrow self.now.wide
             self.now.values.now) < 2 ^ 32 }
-        ensures { Draws op at row.old row.new pen result
+        ensures strokes { Draws op at row.old row.new pen result.0
             (widths_of self.now.symbology self.now.narrow self.now.wide self.now.values.now) }
+        ensures pieces { HandedOut at (dots row.old) pen.x result.0.x result.1 }
+        ensures few { result.1 ≤ length self.now.values.now }
     {
         let Some((first, others)) = self.values.split_first() else {
-            return pen;
+            return (pen, 0);
         };
         let (regular, last) = others.split_at(self.regular.saturating_sub(1));
-        let first = self.draw(pattern_of(self.symbology, *first), pen, op, at, row);
-        let next = self.draw_regular(regular, first, op, at, row);
-        self.draw_next(last, next, op, at, row)
+        let (first, one) = self.draw(pattern_of(self.symbology, *first), pen, op, at, row);
+        let (next, more) = self.draw_regular(regular, first, op, at, row);
+        let (end, rest) = self.draw_next(last, next, op, at, row);
+        (end, one + more + rest)
     }
 
-    /// Draws the left digits of EAN-13 in their sets, and gives the pen behind them.
+    /// Draws the left digits of EAN-13 in their sets, and gives the pen behind them and how many it handed
+    /// out.
     fn draw_left(
         &self,
         sets: &[u8],
@@ -265,44 +294,56 @@ impl Strokes<'_> {
         op: Op,
         at: i64,
         row: &mut [u8],
-    ) -> Pen
+    ) -> (Pen, usize)
         requires { pen.x + total (sized self.now.symbology self.now.narrow self.now.wide
             (left_elements sets.now digits.now)) < 2 ^ 32 }
-        ensures { Draws op at row.old row.new pen result
+        ensures strokes { Draws op at row.old row.new pen result.0
             (sized self.now.symbology self.now.narrow self.now.wide (left_elements sets.now digits.now)) }
+        ensures pieces { HandedOut at (dots row.old) pen.x result.0.x result.1 }
+        ensures few { result.1 ≤ length digits.now }
     {
         let mut pen = pen;
+        let mut pieces = 0;
         for i in 0..sets.len().min(digits.len()) {
-            pen = self.draw(left_digit(sets[i], digits[i]), pen, op, at, row);
+            let (end, digit) = self.draw(left_digit(sets[i], digits[i]), pen, op, at, row);
+            pen = end;
+            pieces += digit;
         }
-        pen
+        (pen, pieces)
     }
 
-    /// Draws the digits of EAN-13 between its guards, and gives the pen behind them.
-    fn draw_digits(&self, pen: Pen, op: Op, at: i64, row: &mut [u8]) -> Pen
+    /// Draws the digits of EAN-13 between its guards, and gives the pen behind them and how many of both it
+    /// handed out.
+    fn draw_digits(&self, pen: Pen, op: Op, at: i64, row: &mut [u8]) -> (Pen, usize)
         requires room { pen.x + total (sized self.now.symbology self.now.narrow self.now.wide
             (ean13_elements self.now.values.now)) < 2 ^ 32 }
         requires digits { self.now.symbology ≡ Ean13 }
-        ensures { Draws op at row.old row.new pen result
+        ensures strokes { Draws op at row.old row.new pen result.0
             (sized self.now.symbology self.now.narrow self.now.wide (ean13_elements self.now.values.now)) }
+        ensures pieces { HandedOut at (dots row.old) pen.x result.0.x result.1 }
+        ensures few { result.1 ≤ length self.now.values.now + 3 }
     {
         let Some((first, digits)) = self.values.split_first() else {
-            return pen;
+            return (pen, 0);
         };
         let (left, right) = digits.split_at(digits.len().min(6));
-        let guard = self.draw(&GUARD, pen, op, at, row);
-        let half = self.draw_left(parity(*first), left, guard, op, at, row);
-        let centre = self.draw(&CENTRE, half, op, at, row);
-        let last = self.draw_next(right, centre, op, at, row);
-        self.draw(&GUARD, last, op, at, row)
+        let (guard, one) = self.draw(&GUARD, pen, op, at, row);
+        let (half, lefts) = self.draw_left(parity(*first), left, guard, op, at, row);
+        let (centre, two) = self.draw(&CENTRE, half, op, at, row);
+        let (last, rights) = self.draw_next(right, centre, op, at, row);
+        let (end, three) = self.draw(&GUARD, last, op, at, row);
+        (end, one + lefts + two + rights + three)
     }
 
-    /// Draws all bars, and gives the pen behind them.
-    pub fn draw_bars(&self, pen: Pen, op: Op, at: i64, row: &mut [u8]) -> Pen
+    /// Draws all bars, and gives the pen behind them and how many characters and guards it handed out: those
+    /// of which the row has a dot.
+    pub fn draw_bars(&self, pen: Pen, op: Op, at: i64, row: &mut [u8]) -> (Pen, usize)
         requires { pen.x + total (bar_widths self.now.symbology self.now.narrow self.now.wide
             self.now.values.now) < 2 ^ 32 }
-        ensures { Draws op at row.old row.new pen result
+        ensures strokes { Draws op at row.old row.new pen result.0
             (bar_widths self.now.symbology self.now.narrow self.now.wide self.now.values.now) }
+        ensures pieces { HandedOut at (dots row.old) pen.x result.0.x result.1 }
+        ensures few { result.1 ≤ length self.now.values.now + 3 }
     {
         match self.symbology {
             Symbology::Ean13 => self.draw_digits(pen, op, at, row),

@@ -117,6 +117,7 @@ pub fn seen_dots(at: i64, left: u32, dots: u32, bytes: usize) -> (u32, u32)
         → 8 * bytes ≤ d }
     ensures first { result.0 ≤ dots }
     ensures last { result.1 ≤ dots }
+    ensures few { result.1 ≤ result.0 + 8 * bytes }
 {
     let far = at.unsigned_abs();
     let room = (bytes as u64).saturating_mul(8);
@@ -138,6 +139,7 @@ pub fn seen(at: i64, left: u32, w: u32, cells: usize, bytes: usize) -> (usize, u
         → 8 * bytes ≤ d }
     ensures first { result.0 ≤ cells }
     ensures last { result.1 ≤ cells }
+    ensures few { result.1 ≤ result.0 + (8 * bytes / w + 2) }
 {
     let (from, to) = seen_dots(at, left, w * cells as u32, bytes);
     (whole_cells(from, w) as usize, begun_cells(to, w, cells))

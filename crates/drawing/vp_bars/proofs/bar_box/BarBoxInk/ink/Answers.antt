@@ -9,4 +9,4 @@ pub returns : goal.returns
 returns g c =
     let s = c.args.self.now in
     let b : Boxed = boxed s in
-    c.dot_of.ensures ∙ dot_shown _ (λ x. box_dot b x c.args.y) c.args.x _ (rw (to_z-of_z w64 c.back.result c.back.ensures.fits) c.back.ensures.back) c.paint.ensures
+    c.dot_of.ensures ∙ dot_shown _ (λ x. box_dot b x c.args.y) c.args.x _ (rw (to_z-of_z w64 c.back.result c.back.ensures.fits) c.back.ensures.back) c.paint_pieces.ensures.painted

@@ -22,14 +22,14 @@ characters_width-requires c =
 pub returns-in-Ean13-clause-width : goal.returns-in-Ean13-clause-width
 returns-in-Ean13-clause-width c =
     let b = c.args.self.now in
-    let ends = rw (c.strokes-strokes.ensures.symbology, c.strokes-strokes.ensures.narrow, c.strokes-strokes.ensures.wide, c.strokes-strokes.ensures.values) at c.draw_bars.ensures.ends in
+    let ends = rw (c.strokes-strokes.ensures.symbology, c.strokes-strokes.ensures.narrow, c.strokes-strokes.ensures.wide, c.strokes-strokes.ensures.values) at c.draw_bars.ensures.strokes.ends in
     omega (arith, ends, width_is b.symbology c.args.narrow c.args.wide b.values)
 
 pub returns-in-Ean13-clause-small : goal.returns-in-Ean13-clause-small
 returns-in-Ean13-clause-small c =
     let b = c.args.self.now in
     let few = narrow_bars b.symbology c.args.narrow c.args.wide b.values (omega (arith, c.ranges.narrow.fits)) (omega (arith, c.ranges.wide.fits)) c.strokes-strokes.ensures.few in
-    let ends = rw (c.strokes-strokes.ensures.symbology, c.strokes-strokes.ensures.narrow, c.strokes-strokes.ensures.wide, c.strokes-strokes.ensures.values) at c.draw_bars.ensures.ends in
+    let ends = rw (c.strokes-strokes.ensures.symbology, c.strokes-strokes.ensures.narrow, c.strokes-strokes.ensures.wide, c.strokes-strokes.ensures.values) at c.draw_bars.ensures.strokes.ends in
     omega (arith, few, ends)
 
 pub returns-in-Code39 : goal.returns-in-Code39

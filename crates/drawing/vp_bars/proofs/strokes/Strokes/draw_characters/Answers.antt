@@ -4,6 +4,7 @@ use Rattle.std.specs.List.{flat_map}
 use Rattle.vp_bars.specs.Widths.{sized, next_widths}
 use Rattle.vp_bars.proofs.Draws.{draws_same, draws_then}
 use Rattle.vp_bars.proofs.Regular.{Parts, parts_of, regular_total}
+use Rattle.vp_bars.proofs.Pieces.{handed_then}
 use Rattle.vp_bars.proofs.strokes.Strokes.draw_characters.Goals as goal
 use Rattle.vp_bars.proofs.strokes.Strokes.draw_characters.Goals.{After-split_at}
 
@@ -15,35 +16,40 @@ parts c =
     parts_of s.symbology s.narrow s.wide s.regular c.saturating_sub.result c.in-Some.first.now s.values.now c.in-Some.others.now c.split_at.result.0.now c.split_at.result.1.now
     s.regular_are c.in-Some.ensures.cases.0 c.saturating_sub.ensures c.split_at.ensures.front c.split_at.ensures.back
 
-pub draw-first-requires : goal.draw-first-requires
-draw-first-requires c =
-    let p = parts (goal.at.draw-first-requires c).After-split_at in
+pub draw-one-requires : goal.draw-one-requires
+draw-one-requires c =
+    let p = parts (goal.at.draw-one-requires c).After-split_at in
     rw c.pattern_of.ensures (omega (arith, p.total_is, c.requires))
 
-pub draw_regular-next-requires-clause-regular : goal.draw_regular-next-requires-clause-regular
-draw_regular-next-requires-clause-regular c =
-    let p = parts (goal.at.draw_regular-next-requires-clause-regular c).After-split_at in
+pub draw_regular-more-requires-clause-regular : goal.draw_regular-more-requires-clause-regular
+draw_regular-more-requires-clause-regular c =
+    let p = parts (goal.at.draw_regular-more-requires-clause-regular c).After-split_at in
     p.regular
 
-pub draw_regular-next-requires-clause-room : goal.draw_regular-next-requires-clause-room
-draw_regular-next-requires-clause-room c =
+pub draw_regular-more-requires-clause-room : goal.draw_regular-more-requires-clause-room
+draw_regular-more-requires-clause-room c =
     let s = c.args.self.now in
-    let p = parts (goal.at.draw_regular-next-requires-clause-room c).After-split_at in
-    let first = rw c.pattern_of.ensures at c.draw-first.ensures.ends in
+    let p = parts (goal.at.draw_regular-more-requires-clause-room c).After-split_at in
+    let first = rw c.pattern_of.ensures at c.draw-one.ensures.strokes.ends in
     omega (arith, p.total_is, regular_total s.symbology s.narrow s.wide c.split_at.result.0.now p.regular, first, c.requires)
 
-pub draw_next-requires : goal.draw_next-requires
-draw_next-requires c =
+pub draw_next-rest-requires : goal.draw_next-rest-requires
+draw_next-rest-requires c =
     let s = c.args.self.now in
-    let p = parts (goal.at.draw_next-requires c).After-split_at in
-    let first = rw c.pattern_of.ensures at c.draw-first.ensures.ends in
-    omega (arith, p.total_is, regular_total s.symbology s.narrow s.wide c.split_at.result.0.now p.regular, first, c.draw_regular-next.ensures.ends, c.requires)
+    let p = parts (goal.at.draw_next-rest-requires c).After-split_at in
+    let first = rw c.pattern_of.ensures at c.draw-one.ensures.strokes.ends in
+    omega (arith, p.total_is, regular_total s.symbology s.narrow s.wide c.split_at.result.0.now p.regular, first, c.draw_regular-more.ensures.strokes.ends, c.requires)
 
-pub returns : goal.returns
-returns c =
+pub returns-clause-strokes : goal.returns-clause-strokes
+returns-clause-strokes c =
     let s = c.args.self.now in
-    let p = parts (goal.at.returns c).After-split_at in
+    let p = parts (goal.at.returns-clause-strokes c).After-split_at in
     let g = next_widths s.symbology s.narrow s.wide in
     let front = ap (λ es. sized s.symbology s.narrow s.wide es ++ (flat_map g c.split_at.result.0.now ++ flat_map g c.split_at.result.1.now)) c.pattern_of.ensures in
     rw (sym (to_z-of_z w64 c.args.at c.ranges.at)) (draws_same _ _ _ _ _ _ _ _ (front ∙ p.widths_are)
-    (draws_then _ _ _ _ _ _ _ _ _ _ c.draw-first.ensures (draws_then _ _ _ _ _ _ _ _ _ _ c.draw_regular-next.ensures c.draw_next.ensures)))
+    (draws_then _ _ _ _ _ _ _ _ _ _ c.draw-one.ensures.strokes (draws_then _ _ _ _ _ _ _ _ _ _ c.draw_regular-more.ensures.strokes c.draw_next-rest.ensures.strokes)))
+
+pub returns-clause-pieces : goal.returns-clause-pieces
+returns-clause-pieces c =
+    rw (sym (to_z-of_z w64 c.args.at c.ranges.at)) (
+    handed_then _ _ _ (c.draw_regular-more.auto.row ∙ c.draw-one.auto.row) _ _ _ _ _ (handed_then _ _ _ c.draw-one.auto.row _ _ _ _ _ c.draw-one.ensures.pieces c.draw_regular-more.ensures.pieces) c.draw_next-rest.ensures.pieces)

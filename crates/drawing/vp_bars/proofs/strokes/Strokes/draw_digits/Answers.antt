@@ -6,6 +6,7 @@ use Rattle.vp_bars.specs.Symbologies.{size_of}
 use Rattle.vp_bars.specs.Widths.{sized, next_widths, total}
 use Rattle.vp_bars.proofs.Draws.{draws_same, draws_then}
 use Rattle.vp_bars.proofs.Halves.{all_widths, halves, total-all}
+use Rattle.vp_bars.proofs.Pieces.{handed_then}
 use Rattle.vp_bars.proofs.strokes.Strokes.draw_digits.Goals as goal
 use Rattle.vp_bars.proofs.strokes.Strokes.draw_digits.Goals.{After-parity}
 
@@ -24,25 +25,35 @@ sum : (c : After-parity) → let s = c.args.self.now in
     + 3 * size_of s.symbology s.narrow s.wide 1
 sum c = let s = c.args.self.now in ap total (sym (whole c)) ∙ total-all s.symbology s.narrow s.wide _ _
 
-pub draw_left-half-requires : goal.draw_left-half-requires
-draw_left-half-requires c = omega (arith, sum (goal.at.draw_left-half-requires c).After-parity, c.requires.room, c.draw-guard.ensures.ends)
+pub draw_left-lefts-requires : goal.draw_left-lefts-requires
+draw_left-lefts-requires c = omega (arith, sum (goal.at.draw_left-lefts-requires c).After-parity, c.requires.room, c.draw-one.ensures.strokes.ends)
 
-pub draw-centre-requires : goal.draw-centre-requires
-draw-centre-requires c =
-    omega (arith, sum (goal.at.draw-centre-requires c).After-parity, c.requires.room, c.draw-guard.ensures.ends, c.draw_left-half.ensures.ends)
+pub draw-two-requires : goal.draw-two-requires
+draw-two-requires c =
+    omega (arith, sum (goal.at.draw-two-requires c).After-parity, c.requires.room, c.draw-one.ensures.strokes.ends, c.draw_left-lefts.ensures.strokes.ends)
 
-pub draw_next-last-requires : goal.draw_next-last-requires
-draw_next-last-requires c =
-    omega (arith, sum (goal.at.draw_next-last-requires c).After-parity, c.requires.room, c.draw-guard.ensures.ends, c.draw_left-half.ensures.ends, c.draw-centre.ensures.ends)
+pub draw_next-rights-requires : goal.draw_next-rights-requires
+draw_next-rights-requires c =
+    omega (arith, sum (goal.at.draw_next-rights-requires c).After-parity, c.requires.room, c.draw-one.ensures.strokes.ends, c.draw_left-lefts.ensures.strokes.ends, c.draw-two.ensures.strokes.ends)
 
-pub draw-requires : goal.draw-requires
-draw-requires c =
-    omega (arith, sum (goal.at.draw-requires c).After-parity, c.requires.room, c.draw-guard.ensures.ends, c.draw_left-half.ensures.ends, c.draw-centre.ensures.ends, c.draw_next-last.ensures.ends)
+pub draw-three-requires : goal.draw-three-requires
+draw-three-requires c =
+    omega (arith, sum (goal.at.draw-three-requires c).After-parity, c.requires.room, c.draw-one.ensures.strokes.ends, c.draw_left-lefts.ensures.strokes.ends, c.draw-two.ensures.strokes.ends, c.draw_next-rights.ensures.strokes.ends)
 
-pub returns : goal.returns
-returns c =
-    rw (sym (to_z-of_z w64 c.args.at c.ranges.at)) (draws_same _ _ _ _ _ _ _ _ (whole (goal.at.returns c).After-parity) (
-    draws_then _ _ _ _ _ _ _ _ _ _ c.draw-guard.ensures (
-    draws_then _ _ _ _ _ _ _ _ _ _ c.draw_left-half.ensures (
-    draws_then _ _ _ _ _ _ _ _ _ _ c.draw-centre.ensures (
-    draws_then _ _ _ _ _ _ _ _ _ _ c.draw_next-last.ensures c.draw.ensures)))))
+pub returns-clause-strokes : goal.returns-clause-strokes
+returns-clause-strokes c =
+    rw (sym (to_z-of_z w64 c.args.at c.ranges.at)) (draws_same _ _ _ _ _ _ _ _ (whole (goal.at.returns-clause-strokes c).After-parity) (
+    draws_then _ _ _ _ _ _ _ _ _ _ c.draw-one.ensures.strokes (
+    draws_then _ _ _ _ _ _ _ _ _ _ c.draw_left-lefts.ensures.strokes (
+    draws_then _ _ _ _ _ _ _ _ _ _ c.draw-two.ensures.strokes (
+    draws_then _ _ _ _ _ _ _ _ _ _ c.draw_next-rights.ensures.strokes c.draw-three.ensures.strokes)))))
+
+pub returns-clause-pieces : goal.returns-clause-pieces
+returns-clause-pieces c =
+    let one = c.draw-one.auto.row in
+    let left = c.draw_left-lefts.auto.row ∙ one in
+    let two = c.draw-two.auto.row ∙ left in
+    let right = c.draw_next-rights.auto.row ∙ two in
+    rw (sym (to_z-of_z w64 c.args.at c.ranges.at)) (
+    handed_then _ _ _ right _ _ _ _ _ (handed_then _ _ _ two _ _ _ _ _ (handed_then _ _ _ left _ _ _ _ _ (handed_then _ _ _ one _ _ _ _ _
+    c.draw-one.ensures.pieces c.draw_left-lefts.ensures.pieces) c.draw-two.ensures.pieces) c.draw_next-rights.ensures.pieces) c.draw-three.ensures.pieces)

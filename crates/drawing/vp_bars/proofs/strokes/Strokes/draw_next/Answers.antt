@@ -3,7 +3,8 @@ use Rattle.std.proofs.lemmas.Int.{to_z-of_z}
 use Rattle.std.proofs.lemmas.List.{take_all}
 use Rattle.vp_bars.specs.Symbologies.{gap_of, pattern_of}
 use Rattle.vp_bars.specs.Widths.{sized, next_widths}
-use Rattle.vp_bars.proofs.Draws.{total-append, draws_same, draws_then, flat_more, flat_room}
+use Rattle.vp_bars.proofs.Draws.{total-append, draws_none, draws_same, draws_then, flat_more, flat_room}
+use Rattle.vp_bars.proofs.Pieces.{handed_none, handed_then, handed_with}
 use Rattle.vp_bars.proofs.strokes.Strokes.draw_next.Goals as goal
 
 pub draw-gap-requires : goal.draw-gap-requires
@@ -12,16 +13,19 @@ draw-gap-requires c =
     let v = get_or c.args.values.now c.loop-v.v-index 0 in
     let room = flat_room (next_widths s.symbology s.narrow s.wide) c.args.values.now c.loop-v.v-index c.loop-v-test.true in
     let both = total-append (sized s.symbology s.narrow s.wide (gap_of s.symbology)) (sized s.symbology s.narrow s.wide (pattern_of s.symbology v)) in
-    rw c.gap_of.ensures (omega (arith, room, both, c.loop-v.invariant.ends))
+    rw c.gap_of.ensures (omega (arith, room, both, c.loop-v.invariant.0.ends))
 
-pub draw-pen-requires : goal.draw-pen-requires
-draw-pen-requires c =
+pub draw-character-requires : goal.draw-character-requires
+draw-character-requires c =
     let s = c.args.self.now in
     let v = get_or c.args.values.now c.loop-v.v-index 0 in
     let room = flat_room (next_widths s.symbology s.narrow s.wide) c.args.values.now c.loop-v.v-index c.loop-v-test.true in
     let both = total-append (sized s.symbology s.narrow s.wide (gap_of s.symbology)) (sized s.symbology s.narrow s.wide (pattern_of s.symbology v)) in
-    let gap = rw c.gap_of.ensures at c.draw-gap.ensures.ends in
-    rw c.pattern_of.ensures (omega (arith, room, both, gap, c.loop-v.invariant.ends))
+    let gap = rw c.gap_of.ensures at c.draw-gap.ensures.strokes.ends in
+    rw c.pattern_of.ensures (omega (arith, room, both, gap, c.loop-v.invariant.0.ends))
+
+pub loop-v-init : goal.loop-v-init
+loop-v-init c = (draws_none _ _ _ _, handed_none _ _ _, omega arith)
 
 pub loop-v-preserved : goal.loop-v-preserved
 loop-v-preserved c =
@@ -29,11 +33,17 @@ loop-v-preserved c =
     let sized_all : List ℕ → List ℕ = λ es. sized s.symbology s.narrow s.wide es in
     let v = get_or c.args.values.now c.loop-v.v-index 0 in
     let one : sized_all c.gap_of.result.now ++ sized_all c.pattern_of.result.now ≡ next_widths s.symbology s.narrow s.wide v =
-    ap (λ es. sized_all es ++ sized_all c.pattern_of.result.now) c.gap_of.ensures ∙ ap (λ es. sized_all (gap_of s.symbology) ++ sized_all es) c.pattern_of.ensures in
-    draws_same _ _ _ _ _ _ _ _ (flat_more (next_widths s.symbology s.narrow s.wide) c.args.values.now c.loop-v.v-index c.loop-v-test.true) (
-    draws_then _ _ _ _ _ _ _ _ _ _ c.loop-v.invariant (draws_same _ _ _ _ _ _ _ _ one (draws_then _ _ _ _ _ _ _ _ _ _ c.draw-gap.ensures c.draw-pen.ensures)))
+    ap (λ es. sized_all es ++ sized_all c.pattern_of.result.now) c.gap_of.ensures ∙ ap (λ es. sized_all (gap_of s.symbology) ++ sized_all es) c.pattern_of.ensures in (
+      draws_same _ _ _ _ _ _ _ _ (flat_more (next_widths s.symbology s.narrow s.wide) c.args.values.now c.loop-v.v-index c.loop-v-test.true) (
+          draws_then _ _ _ _ _ _ _ _ _ _ c.loop-v.invariant.0 (draws_same _ _ _ _ _ _ _ _ one (draws_then _ _ _ _ _ _ _ _ _ _ c.draw-gap.ensures.strokes c.draw-character.ensures.strokes))),
+      handed_then _ _ _ c.loop-v.auto.row _ _ _ _ _ c.loop-v.invariant.1 (handed_with _ _ _ c.draw-gap.auto.row _ _ _ _ _ _ c.max-pieces.ensures c.draw-gap.ensures.pieces c.draw-character.ensures.pieces),
+      omega (arith, c.loop-v.invariant.2, c.max-pieces.ensures, c.draw-gap.ensures.few, c.draw-character.ensures.few),
+    )
 
-pub returns : goal.returns
-returns c =
+pub returns-clause-strokes : goal.returns-clause-strokes
+returns-clause-strokes c =
     let all = take_all c.loop-v.v-index c.args.values.now c.loop-v-test.false in
-    rw (sym (to_z-of_z w64 c.args.at c.ranges.at)) (rw all at c.loop-v.invariant)
+    rw (sym (to_z-of_z w64 c.args.at c.ranges.at)) (rw all at c.loop-v.invariant.0)
+
+pub returns-clause-pieces : goal.returns-clause-pieces
+returns-clause-pieces c = rw (sym (to_z-of_z w64 c.args.at c.ranges.at)) c.loop-v.invariant.1

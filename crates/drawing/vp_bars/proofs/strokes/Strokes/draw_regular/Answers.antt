@@ -1,12 +1,12 @@
 use Rattle.std.proofs.Common.{◌≡◌, ◌+◌, ◌-◌, ◌*◌, ◌^◌, ◌<◌, ◌≤◌, ap, sym, refl, arith, length, take, drop, w64}
 use Rattle.std.proofs.Math.Nat.{mul-le-mul_left}
 use Rattle.std.proofs.lemmas.Int.{to_z-of_z}
-use Rattle.std.proofs.lemmas.List.Elements.{All-take, All-drop}
-use Rattle.std.proofs.lemmas.List.{length-take-le, length-drop}
-use Rattle.vp_bars.specs.Regular.{IsRegular}
-use Rattle.vp_bars.proofs.Regular.{regular_total, regular_drawn, no_fewer}
+use Rattle.std.specs.List.{flat_map}
+use Rattle.vp_bars.specs.Widths.{next_widths, total}
+use Rattle.vp_bars.proofs.Regular.{regular_total, regular_drawn, regular_between, regular_none, no_fewer}
+use Rattle.vp_bars.proofs.Pieces.{none_before, none_behind, handed_within}
 use Rattle.vp_bars.proofs.strokes.Strokes.draw_regular.Goals as goal
-use Rattle.vp_bars.proofs.strokes.Strokes.draw_regular.Goals.{After-step-step}
+use Rattle.vp_bars.proofs.strokes.Strokes.draw_regular.Goals.{After-step-step, After-max-to}
 
 -- all values have room
 room : (c : After-step-step) → c.args.pen.x + c.step-step.result * length c.args.values.now < 2 ^ 32
@@ -32,40 +32,60 @@ pub overflow_add-first : goal.overflow_add-first
 overflow_add-first c =
     omega (arith, room (goal.at.overflow_add-first c).After-step-step, mul-le-mul_left c.step-step.result c.seen-from.ensures.first)
 
-pub draw_next-last-requires : goal.draw_next-last-requires
-draw_next-last-requires c =
+-- those that are seen
+seen_together : (c : After-max-to) → c.step-step.result * c.seen-from.result.0
+    + total (flat_map (next_widths c.args.self.now.symbology c.args.self.now.narrow c.args.self.now.wide) (take (c.max-to.result - c.seen-from.result.0) (drop c.seen-from.result.0 c.args.values.now)))
+    ≡ c.step-step.result * c.max-to.result
+seen_together c =
     let s = c.args.self.now in
-    let vs = c.args.values.now in
-    let from = c.seen-from.result.0 in
-    let to = c.max-to.result in
-    let k = c.step-step.result in
-    let within : from + (to - from) ≤ length vs = omega (arith, c.max-to.ensures, c.seen-from.ensures.first, c.seen-from.ensures.last) in
-    let middle = regular_total s.symbology s.narrow s.wide (take (to - from) (drop from vs)) (All-take (IsRegular s.symbology) (to - from) (drop from vs) (All-drop (IsRegular s.symbology) from vs c.requires.regular)) in
-    let two : length (take (to - from) (drop from vs)) ≡ to - from = length-take-le (to - from) (drop from vs) (omega (arith, length-drop from vs)) in
-    let step_two = ap (λ i. i * length (take (to - from) (drop from vs))) c.step-step.ensures.step in
-    let times = ap (λ i. k * i) two in
-    let sum : k * (from + (to - from)) ≡ k * from + k * (to - from) = omega arith in
-    omega (arith, room (goal.at.draw_next-last-requires c).After-step-step, middle, step_two, times, sum, mul-le-mul_left k within)
+    regular_between s.symbology s.narrow s.wide c.step-step.result c.seen-from.result.0 c.max-to.result c.args.values.now c.step-step.ensures.step c.requires.regular
+    (omega (arith, c.max-to.ensures)) (omega (arith, c.max-to.ensures, c.seen-from.ensures.first, c.seen-from.ensures.last))
 
-pub overflow_cast-result : goal.overflow_cast-result
-overflow_cast-result c =
+pub draw_next-pieces-requires : goal.draw_next-pieces-requires
+draw_next-pieces-requires c =
+    let seen = seen_together (goal.at.draw_next-pieces-requires c).After-max-to in
+    let within = mul-le-mul_left c.step-step.result (let h : c.max-to.result ≤ length c.args.values.now = omega (arith, c.max-to.ensures, c.seen-from.ensures.first, c.seen-from.ensures.last) in h) in
+    omega (arith, room (goal.at.draw_next-pieces-requires c).After-step-step, seen, within)
+
+pub overflow_cast-end : goal.overflow_cast-end
+overflow_cast-end c =
     let more = no_fewer c.step-step.result (length c.args.values.now) (omega arith) in
-    omega (arith, room (goal.at.overflow_cast-result c).After-step-step, more)
+    omega (arith, room (goal.at.overflow_cast-end c).After-step-step, more)
 
-pub overflow_mul-result : goal.overflow_mul-result
-overflow_mul-result c = omega (arith, room (goal.at.overflow_mul-result c).After-step-step)
+pub overflow_mul-end : goal.overflow_mul-end
+overflow_mul-end c = omega (arith, room (goal.at.overflow_mul-end c).After-step-step)
 
-pub overflow_add-result : goal.overflow_add-result
-overflow_add-result c = omega (arith, room (goal.at.overflow_add-result c).After-step-step)
+pub overflow_add-end : goal.overflow_add-end
+overflow_add-end c = omega (arith, room (goal.at.overflow_add-end c).After-step-step)
 
-pub returns : goal.returns
-returns c =
+pub returns-then-step-eq0-clause-strokes : goal.returns-then-step-eq0-clause-strokes
+returns-then-step-eq0-clause-strokes c =
+    let s = c.args.self.now in
+    regular_none _ _ s.symbology s.narrow s.wide c.args.values.now _ _ (omega (arith, c.step-step.ensures.step)) c.requires.regular
+
+pub returns-clause-strokes : goal.returns-clause-strokes
+returns-clause-strokes c =
     let s = c.args.self.now in
     let k = c.step-step.result in
     let to : c.seen-from.result.1 ≤ c.max-to.result = omega (arith, c.max-to.ensures) in
     let more = mul-le-mul_left k to in
     rw (sym (to_z-of_z w64 c.args.at c.ranges.at))
-    (regular_drawn _ _ s.symbology s.narrow s.wide k c.args.values.now c.step-step.ensures.step c.requires.regular c.seen-from.result.0 c.max-to.result _ _ c.args.pen _ c.draw_next-last.result _
+    (regular_drawn _ _ s.symbology s.narrow s.wide k c.args.values.now c.step-step.ensures.step c.requires.regular c.seen-from.result.0 c.max-to.result _ _ c.args.pen _ c.draw_next-pieces.result.0 _
     (omega (arith, c.max-to.ensures)) (omega (arith, c.max-to.ensures, c.seen-from.ensures.first, c.seen-from.ensures.last))
     c.seen-from.ensures.before (λ u d g h q. c.seen-from.ensures.behind u d (omega (arith, more)) h q)
-    refl refl refl refl c.draw_next-last.ensures c.draw_next-last.auto.row)
+    refl refl refl refl c.draw_next-pieces.ensures.strokes c.draw_next-pieces.auto.row)
+
+pub returns-clause-pieces : goal.returns-clause-pieces
+returns-clause-pieces c =
+    let k = c.step-step.result in
+    let pen = c.args.pen in
+    let from = c.seen-from.result.0 in
+    let to : c.seen-from.result.1 ≤ c.max-to.result = omega (arith, c.max-to.ensures) in
+    let more = mul-le-mul_left k to in
+    let ends : c.draw_next-pieces.result.0.x ≡ pen.x + k * c.max-to.result = omega (arith, c.draw_next-pieces.ensures.strokes.ends, seen_together (goal.at.returns-clause-pieces c).After-max-to) in
+    let all = mul-le-mul_left k (let h : c.max-to.result ≤ length c.args.values.now = omega (arith, c.max-to.ensures, c.seen-from.ensures.first, c.seen-from.ensures.last) in h) in
+    rw (sym (to_z-of_z w64 c.args.at c.ranges.at))
+    (handed_within _ _ pen.x (pen.x + k * from) c.draw_next-pieces.result.0.x (pen.x + k * length c.args.values.now) c.draw_next-pieces.result.1 (omega arith) (omega (arith, ends, all))
+    (none_before _ _ pen.x (pen.x + k * from) c.seen-from.ensures.before)
+    (none_behind _ _ c.draw_next-pieces.result.0.x (pen.x + k * length c.args.values.now) (λ u d g h q. c.seen-from.ensures.behind u d (omega (arith, more, ends)) h q))
+    c.draw_next-pieces.ensures.pieces)
