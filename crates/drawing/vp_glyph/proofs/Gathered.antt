@@ -1,15 +1,19 @@
 -- Many rows of a block, line by line.
-use Rattle.std.proofs.Common.{inl, inr, ◌≡◌, ℕ, ◌+◌, ◌-◌, ◌*◌, ◌/◌, ◌<◌, ◌≤◌, min, Bool, true, false, ltb, leb, ◌&&◌, ◌||◌, get_or, set, length, replicate, bit_or, refl, sym, ap, ◌∙◌, arith, List, Option, ℤ}
-use Rattle.std.proofs.Math.Nat.{div-lt_iff_lt-mul, le-div_iff_mul-le, div-mul-le_self, mul-le-mul_right}
-use Rattle.std.proofs.lemmas.List.{get_or-replicate, get_or-set_same, get_or-set_other, get_or_past}
+use Rattle.std.proofs.Common.{inl, inr, ◌≡◌, ℕ, ◌+◌, ◌-◌, ◌*◌, ◌/◌, ◌<◌, ◌≤◌, min, Bool, true, false, ltb, leb, ◌&&◌, ◌||◌, get_or, set, length, replicate, bit_or, cond, eqb, zero, suc, ◌^◌, w32, refl, sym, ap, ◌∙◌, arith, List, Option, ℤ}
+use Rattle.std.proofs.Math.Nat.{div-lt_iff_lt-mul, le-div_iff_mul-le, div-le_self, div-mul-le_self, mul-le-mul_right}
+use Rattle.std.proofs.lemmas.List.{get_or-set_same, get_or-set_other, get_or_past}
 use Rattle.std.proofs.lemmas.Bool.{cases_eq, cases_lt, lt-ltb, le-ltb, lt-leb, le-leb}
-use Rattle.vp_dots.specs.Dots.{dot, shifted, span}
+use Rattle.std.proofs.lemmas.Nat.Bits.{bit_at-zero, bit_at-trailing_zeros}
+use Rattle.std.specs.Int.{trailing_zeros}
+use Rattle.vp_dots.specs.Dots.{bit, dot, shifted, span}
+use Rattle.vp_dots.proofs.Bits.{bit_of_or}
+use Rattle.vp_dots.proofs.Words.{bit_shl, bit_shr}
 use Rattle.vp_dots.specs.Words.{word_dot}
 use Rattle.vp_dots.specs.Painting.{paint, Painted}
 use Rattle.vp_dots.specs.declared.Op.TheVariants.{Black}
 use Rattle.vp_glyph.specs.Sheets.{Glyphs}
 use Rattle.vp_glyph.specs.Texts.{sampled_dot, text_dot}
-use Rattle.vp_glyph.specs.Halves.{half_dot, AreEnds}
+use Rattle.vp_glyph.specs.Halves.{half_dot, AreEdges, AreInked}
 use Rattle.vp_glyph.proofs.Halves.{or_half, white_half}
 use Rattle.vp_glyph.proofs.Overlaid.{zero_dots, zero_at}
 use Rattle.vp_glyph.proofs.Spread.{quotient, edge_at, from_edge, before_edge, edge_first, edge_last, edge_within}
@@ -138,6 +142,15 @@ module _ (rows : List ℕ) (above h n top : ℕ) where
         | inr z ↦ ap (λ t. mid i x || t && half_dot (get_or rows r 0) x) (let t : span from to i ≡ false = rw (le-leb from i y, le-ltb i to z) refl in t) ∙ sym (or_false (mid i x)) ∙ same i x l m (λ p v. absurd (omega arith))
       ]
     ]
+
+  -- white rows, if there are any
+  pub added_past : (r q : ℕ) (old mid : ℕ → ℕ → Bool) → q ≤ 24 → r ≤ q → ((p : ℕ) → r ≤ p → p < q → get_or rows p 0 ≡ 0) → Added r old mid → Added q old mid
+  added_past r q old mid k j a o = elim (cases_lt r q) [
+    | inl l ↦
+        let none : get_or rows r 0 ≡ 0 = a r (omega arith) l in
+        added_white r q old mid k l (λ p m n. a p m n ∙ sym none) o (λ x m. ap (λ v. half_dot v x) none ∙ white_half x)
+    | inr g ↦ (let e : q ≡ r = omega arith in rw e o)
+  ]
 
   -- all rows
   pub added_all : (r : ℕ) (old new : ℕ → ℕ → Bool) → r ≡ 24 → Added r old new → (i x : ℕ) → i < n → x < 32 → new i x ≡ (old i x || shown rows above h (top + i) x)
@@ -330,6 +343,77 @@ pub no_front : (n : ℕ) (old : List ℕ) (i x : ℕ) → get_or old i 0 ≡ 0 �
 no_front n old i x e = ap (λ v. half_dot v x || half_dot (get_or (replicate {A = ℕ} n 0) (i / 16) 0) x) e ∙ ap (λ t. t || half_dot (get_or (replicate {A = ℕ} n 0) (i / 16) 0) x) (white_half x)
     ∙ ap (λ v. half_dot v x) (zero_at n (i / 16)) ∙ white_half x
 
--- white rows are alike to the last
-pub ends_white : AreEnds (replicate {A = ℕ} 24 0) (replicate {A = ℕ} 24 24)
-ends_white s l = let e : get_or (replicate {A = ℕ} 24 24) s 0 ≡ 24 = get_or-replicate 24 s 24 0 l in (omega arith, omega arith, λ r m n. zero_at 24 r ∙ sym (zero_at 24 s))
+-- a row more, which is like the one below it
+pub edges_same : (rows : List ℕ) (n edges : ℕ) → AreEdges rows n edges → get_or rows (n + 1) 0 ≡ get_or rows n 0 → AreEdges rows (n + 1) edges
+edges_same rows n edges p e s l z = elim (cases_lt s n) [
+  | inl k ↦ p s k z
+  | inr k ↦ (let q : s ≡ n = omega arith in rw q e)
+]
+
+neither : (a b : Bool) → cond b true a ≡ false → (a ≡ false) × (b ≡ false)
+neither false false e = (refl, refl)
+neither false true e = absurd cc
+neither true false e = absurd cc
+neither true true e = absurd cc
+
+first_bit : bit 1 0 ≡ true
+unfolding bit
+first_bit = refl
+
+bit_itself : (n v : ℕ) → v ≡ 2 ^ n → bit v n ≡ true
+bit_itself n v e =
+    let none : n - n ≡ 0 = omega arith in
+    let one : v ≡ 1 * 2 ^ n = omega (arith, e) in
+    ap (λ w. bit w n) one ∙ bit_shl 1 n n ∙ rw (le-leb n n (omega arith), none) first_bit
+
+-- a row more, whose bit is set
+pub edges_more : (rows : List ℕ) (n edges v : ℕ) → v ≡ 2 ^ n → AreEdges rows n edges → AreEdges rows (n + 1) (bit_or edges v)
+edges_more rows n edges v e p s l z =
+    let off = neither (bit edges s) (bit v s) (sym (bit_of_or edges v s) ∙ z) in
+    elim (cases_eq s n) [
+      | inl q ↦ absurd (let t : bit v s ≡ true = ap (bit v) q ∙ bit_itself n v e in let f = off.1 in cc)
+      | inr q ↦ p s (omega arith) off.0
+    ]
+
+alike_upto : (rows : List ℕ) (edges s q : ℕ) → AreEdges rows 23 edges → q ≤ 24 → ((r : ℕ) → s ≤ r → r + 1 < q → bit edges r ≡ false) → (k : ℕ) → s + k < q → get_or rows (s + k) 0 ≡ get_or rows s 0
+alike_upto rows edges s q p l h zero m = ap (λ i. get_or rows i 0) (omega arith)
+alike_upto rows edges s q p l h (suc k) m =
+    let e : s + suc k ≡ s + k + 1 = omega arith in
+    rw e (p (s + k) (omega arith) (h (s + k) (omega arith) (omega arith)) ∙ alike_upto rows edges s q p l h k (omega arith))
+
+-- rows from s on, of which none has its bit set
+pub alike_rows : (rows : List ℕ) (edges s q : ℕ) → AreEdges rows 23 edges → q ≤ 24 → ((r : ℕ) → s ≤ r → r + 1 < q → bit edges r ≡ false) → (r : ℕ) → s ≤ r → r < q → get_or rows r 0 ≡ get_or rows s 0
+alike_rows rows edges s q p l h r a b =
+    let e : r ≡ s + (r - s) = omega arith in
+    rw e (alike_upto rows edges s q p l h (r - s) (omega arith))
+
+-- a row more, which is white
+pub inked_same : (rows : List ℕ) (n inked : ℕ) → AreInked rows n inked → get_or rows n 0 ≡ 0 → AreInked rows (n + 1) inked
+inked_same rows n inked p e s l z = elim (cases_lt s n) [
+  | inl k ↦ p s k z
+  | inr k ↦ (let q : s ≡ n = omega arith in rw q e)
+]
+
+-- a row more, whose bit is set
+pub inked_more : (rows : List ℕ) (n inked v : ℕ) → v ≡ 2 ^ n → AreInked rows n inked → AreInked rows (n + 1) (bit_or inked v)
+inked_more rows n inked v e p s l z =
+    let off = neither (bit inked s) (bit v s) (sym (bit_of_or inked v s) ∙ z) in
+    elim (cases_eq s n) [
+      | inl q ↦ absurd (let t : bit v s ≡ true = ap (bit v) q ∙ bit_itself n v e in let f = off.1 in cc)
+      | inr q ↦ p s (omega arith) off.0
+    ]
+
+-- no bit below the lowest is set
+bits_below : (n i : ℕ) → n < 2 ^ 32 → i < trailing_zeros w32 n → bit n i ≡ false
+unfolding bit
+bits_below n i l m = elim (cases_eq n 0) [
+  | inl e ↦ rw e (ap (λ b. eqb b 1) (bit_at-zero i))
+  | inr g ↦ ap (λ b. eqb b 1) ((bit_at-trailing_zeros w32 n (omega arith) l).2 i m)
+]
+
+-- no bit from s on is set before the lowest of them
+pub bits_from : (n s r : ℕ) → n < 2 ^ 32 → s ≤ r → r < s + trailing_zeros w32 (n / 2 ^ s) → bit n r ≡ false
+bits_from n s r l k m =
+    let few = div-le_self n (2 ^ s) in
+    let back : s + (r - s) ≡ r = omega arith in
+    ap (bit n) (sym back) ∙ sym (bit_shr n s (r - s)) ∙ bits_below (n / 2 ^ s) (r - s) (omega (arith, few)) (omega arith)

@@ -23,3 +23,4 @@ pub mod Masks
 pub mod Moved
 mod Halves
 pub mod Counted
+pub mod Handed

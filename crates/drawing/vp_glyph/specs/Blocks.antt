@@ -69,6 +69,15 @@ StandIn cells (line ∷ rest) = (behind : List ℕ) × ((cells ≡ line ++ behin
 unfoldable pub block_lines : ℕ → List ℕ → List (List ℕ)
 block_lines n text = flat_map (lines n) (paragraphs (pieces text))
 
+-- the lines of a text and their cells, each once, are no more: a line takes a byte or is the last, and a cell
+-- takes a byte
+abbrev pub block_pieces : List ℕ → ℕ
+block_pieces text = 2 * length text + 1
+
+-- as many, by what is told in the text
+abbrev pub line_pieces : List ℕ → ℕ
+line_pieces text = 2 * length (pieces text) + 1
+
 -- the rows from the top of a line of `h` rows to that of the next, with this number of rows between them, or
 -- fewer than none
 abbrev pub pitch : ℕ → ℤ → ℕ

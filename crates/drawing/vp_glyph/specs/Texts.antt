@@ -1,5 +1,5 @@
 -- Texts of labels, in cells of any size.
-use Rattle.std.specs.Prelude.{◌≡◌, ℕ, ◌*◌, ◌/◌, ◌%◌, ◌<◌, Bool, true, nat_lt, ◌&&◌, List, length, slice_index, Option}
+use Rattle.std.specs.Prelude.{◌≡◌, ℕ, ◌+◌, ◌*◌, ◌/◌, ◌%◌, ◌<◌, min, Bool, true, nat_lt, ◌&&◌, List, length, slice_index, Option}
 use Rattle.std.proofs.lemmas.Bool.{and_parts, ltb-true}
 use Rattle.vp_glyph.specs.Sheets.{Glyphs, scaled_dot}
 
@@ -27,3 +27,7 @@ unfolding text_dot
 text_inside sheet text w h x y e =
     let p = and_parts _ _ e in
     (ltb-true x (w * length text) p.0, (sampled_inside sheet _ w h _ y p.1).1)
+
+-- how many of n cells of w dots side by side can be seen on a row of d dots, at most
+abbrev pub seen_cells : ℕ → ℕ → ℕ → ℕ
+seen_cells n w d = min n (d / w + 2)

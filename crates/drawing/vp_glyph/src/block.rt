@@ -1,11 +1,11 @@
 //! A text in a block of lines.
-ghost use Rattle.std.specs.Prelude.{◌≡◌, ◌+◌, ◌-◌, ◌*◌, ◌/◌, ◌<◌, ◌≤◌, ◌≢◌, ◌^◌, nat_le, ◌&&◌, ℕ, length, take, drop};
-ghost use Rattle.vp_dots.specs.Dots.{shifted};
+ghost use Rattle.std.specs.Prelude.{◌≡◌, ◌+◌, ◌-◌, ◌*◌, ◌/◌, ◌<◌, ◌≤◌, ◌≢◌, ◌^◌, nat_le, ◌&&◌, ℕ, true, length, take, drop};
+ghost use Rattle.vp_dots.specs.Dots.{dots, shifted};
 ghost use Rattle.vp_dots.specs.Painting.{Painted};
 ghost use Rattle.vp_glyph.specs.Texts.{text_dot};
-ghost use Rattle.vp_glyph.specs.Blocks.{pieces, first, indent, pitch, block_lines, line_dot, lines_dot, block_width, block_height, block_dot, block_inside};
+ghost use Rattle.vp_glyph.specs.Blocks.{pieces, first, indent, pitch, block_lines, line_dot, lines_dot, block_pieces, block_width, block_height, block_dot, block_inside, line_pieces};
 
-use crate::lines::{Line, behind_cells, next_cell, next_line};
+use crate::lines::{Line, behind_cells, hand_line, next_cell, next_line};
 use crate::sampled::{Sampled, paint_cell, seen, source_row};
 use crate::sheet::Sheet;
 use crate::stretch::Stretch;
@@ -66,12 +66,15 @@ pub struct Block<'a, A: Small = Global> {
     pub(crate) passed: u32,
     /// The text from the next line on.
     pub(crate) rest: &'a [u8],
+    /// How many pieces of the text were handed out to pass lines.
+    pub(crate) walked: u64,
     ghost some: { 0 < w },
     ghost drawn: { stretch.width ≡ w },
     ghost narrow: { wide ≤ 32000 },
     ghost fits: { block_height h rows pitch < 2 ^ 32 },
     ghost apart: { passed ≤ rows - 1 },
     ghost behind: { drop passed (block_lines (wide / w) text.now) ≡ block_lines (wide / w) rest.now },
+    ghost less: { line_pieces rest.now ≤ line_pieces text.now },
 }
 
 impl<A: Small> Copy for Block<'_, A> {}
@@ -112,7 +115,8 @@ fn dot_of_line<A: Small>(
     cell.ink(x % w, y)
 }
 
-/// Paints row y of a line, from its left and top on: the cells that can be seen on the row.
+/// Paints row y of a line, from its left and top on: the cells that can be seen on the row, and how many
+/// these are.
 pub(crate) fn paint_line<A: Small>(
     line: Line<'_>,
     sheet: &Option<Sheet<A>>,
@@ -123,20 +127,25 @@ pub(crate) fn paint_line<A: Small>(
     at: i64,
     left: u32,
     row: &mut [u8],
-)
+) -> u32
     requires w { 0 < stretch.now.width }
     requires y { y < h }
     requires cells { line.cells ≤ length (first (pieces line.text.now)) }
     requires fits { left + stretch.now.width * line.cells < 2 ^ 32 }
-    ensures { Painted op (shifted at (λ x. nat_le left x
+    ensures painted { Painted op (shifted at (λ x. nat_le left x
         && text_dot sheet.now (take line.entry.cells (first (pieces line.entry.text.now)))
         stretch.now.width h (x - left) y)) row.old row.new }
+    ensures most { result ≤ line.entry.cells }
+    ensures some { (d : ℕ) → d < dots row.old → shifted at (λ x. nat_le left x
+        && text_dot sheet.now (take line.entry.cells (first (pieces line.entry.text.now)))
+        stretch.now.width h (x - left) y) d ≡ true → 0 < result }
 {
     let w = stretch.width;
     let source = source_row(y, h);
     let (from, to) = seen(at, left, w, line.cells, row.len());
     let mut rest = behind_cells(line.text, from);
     let mut place = left + w * from as u32;
+    let mut painted = 0;
     for _i in from..to {
         let Some((character, behind)) = next_cell(rest) else {
             unreachable!()
@@ -144,7 +153,9 @@ pub(crate) fn paint_line<A: Small>(
         paint_cell(sheet, character, source, stretch, op, at, place, row);
         place += w;
         rest = behind;
+        painted += 1;
     }
+    painted
 }
 
 impl<A: Small> Block<'_, A> {
@@ -170,17 +181,21 @@ impl<'a, A: Small> Block<'a, A> {
     ghost use Rattle.vp_glyph.specs.Layouts.{layout_of};
 
     /// The lines that end above row y, as far as they stand apart, are passed: how many, and the text behind.
-    fn passed_at(&self, y: u32) -> (u32, &'a [u8])
+    /// Their pieces are counted.
+    fn passed_at(&self, y: u32, walked: &mut u64) -> (u32, &'a [u8])
         requires { self.now.w ≤ self.now.wide }
         ensures apart { result.0 ≤ self.now.rows - 1 }
         ensures behind { drop result.0 (block_lines (self.now.wide / self.now.w) self.now.text.now)
             ≡ block_lines (self.now.wide / self.now.w) result.1.now }
+        ensures less { line_pieces result.1.now ≤ line_pieces self.now.rest.now }
+        ensures walked { walked.new ≤ walked.old + line_pieces self.now.rest.now }
+        ensures kept { walked.old ≤ walked.new }
     {
         let most = (self.wide / self.w) as usize;
         let mut passed = self.passed;
         let mut rest = self.rest;
         while passed + 1 < self.rows && y >= passed * self.pitch + self.h {
-            let (_, Some(behind)) = next_line(rest, most) else {
+            let (_, Some(behind)) = hand_line(rest, most, walked) else {
                 return (passed, rest);
             };
             passed += 1;
@@ -200,11 +215,14 @@ impl<'a, A: Small> Block<'a, A> {
         ensures rows { result.rows ≡ self.entry.rows }
         ensures pitch { result.pitch ≡ self.entry.pitch }
         ensures alignment { result.alignment ≡ self.entry.alignment }
+        ensures walked { result.walked ≤ self.entry.walked + block_pieces self.entry.text.now }
+        ensures kept { self.entry.walked ≤ result.walked }
     {
         if self.wide < self.w {
             return self;
         }
-        let (passed, rest) = self.passed_at(y);
+        let mut walked = self.walked;
+        let (passed, rest) = self.passed_at(y, &mut walked);
         Block {
             sheet: self.sheet,
             text: self.text,
@@ -217,7 +235,15 @@ impl<'a, A: Small> Block<'a, A> {
             alignment: self.alignment,
             passed,
             rest,
+            walked,
         }
+    }
+
+    /// How many pieces of the text, its lines and their cells, were handed out to pass lines.
+    pub fn walked(&self) -> u64
+        ensures { result ≡ self.now.walked }
+    {
+        self.walked
     }
 }
 
@@ -232,6 +258,7 @@ impl<A: Small> Block<'_, A> {
             (block_lines (self.now.wide / self.now.w) self.now.text.now) x z
             ≡ lines_dot (layout_of self.now) result.0
             (block_lines (self.now.wide / self.now.w) result.1.now) x z }
+        ensures less { line_pieces result.1.now ≤ line_pieces self.now.text.now }
     {
         if y >= self.passed.saturating_sub(1) * self.pitch + self.h {
             (self.passed, self.rest)
@@ -240,7 +267,7 @@ impl<A: Small> Block<'_, A> {
         }
     }
 
-    /// Paints row y of a line that stands `place` lines below the first.
+    /// Paints row y of a line that stands `place` lines below the first: how many cells are painted.
     pub(crate) fn paint_line(
         &self,
         line: Line<'_>,
@@ -249,17 +276,18 @@ impl<A: Small> Block<'_, A> {
         op: Op,
         at: i64,
         row: &mut [u8],
-    )
+    ) -> u32
         requires cells { line.cells ≤ length (first (pieces line.text.now)) }
         requires most { line.cells ≤ self.now.wide / self.now.w }
         requires place { place ≤ self.now.rows - 1 }
         requires top { place * self.now.pitch ≤ y }
-        ensures { Painted op (shifted at (λ x. line_dot (layout_of self.now) place
+        ensures painted { Painted op (shifted at (λ x. line_dot (layout_of self.now) place
             (take line.entry.cells (first (pieces line.entry.text.now))) x y)) row.old row.new }
+        ensures most { result ≤ line.entry.cells }
     {
         let top = place * self.pitch;
         if y - top >= self.h {
-            return;
+            return 0;
         }
         let left = self
             .alignment
@@ -274,44 +302,77 @@ impl<A: Small> Block<'_, A> {
             at,
             left,
             row,
-        );
+        )
     }
 
-    /// Paints row y black or white, line over line.
-    fn paint_lines(&self, y: u32, op: Op, at: i64, row: &mut [u8])
+    /// Paints row y black or white, line over line: how many pieces are handed out, and how many of the cells
+    /// painted.
+    fn paint_lines(&self, y: u32, op: Op, at: i64, row: &mut [u8]) -> u64
         requires op { op ≢ Op.Flip }
         requires y { y < block_height self.now.h self.now.rows self.now.pitch }
         requires wide { self.now.w ≤ self.now.wide }
-        ensures { Painted op (shifted at (λ x. block_dot (layout_of self.now) self.now.text.now x y))
+        ensures painted { Painted op (shifted at (λ x. block_dot (layout_of self.now) self.now.text.now x y))
             row.old row.new }
+        ensures most { result ≤ 2 * line_pieces self.now.text.now }
+        ensures some { (d : ℕ) → d < dots row.old
+            → shifted at (λ x. block_dot (layout_of self.now) self.now.text.now x y) d ≡ true → 0 < result }
     {
         let most = (self.wide / self.w) as usize;
         let (above, text) = self.first_line(y);
         let mut place = above;
         let mut left = Some(text);
+        let mut counter = 0u64;
         while let Some(text) = left {
             if y < place * self.pitch {
-                return;
+                return counter;
             }
-            let (line, rest) = next_line(text, most);
-            self.paint_line(line, place, y, op, at, row);
+            let (line, rest) = hand_line(text, most, &mut counter);
+            let painted = self.paint_line(line, place, y, op, at, row);
+            counter = counter.saturating_add(u64::from(painted));
             place = (place + 1).min(self.rows.saturating_sub(1));
             left = rest;
         }
+        counter
     }
 
     /// Reverses the dots of row y, each once however many lines have it.
-    fn flip_lines<const N: usize>(&self, y: u32, at: i64, row: &mut [u8])
+    fn flip_lines<const N: usize>(&self, y: u32, at: i64, row: &mut [u8]) -> u64
         requires y { y < block_height self.now.h self.now.rows self.now.pitch }
         requires wide { self.now.w ≤ self.now.wide }
         requires room { self.now.wide ≤ 8 * N }
         requires few { N ≤ 4000 }
-        ensures { Painted Op.Flip (shifted at (λ x. block_dot (layout_of self.now) self.now.text.now x y))
-            row.old row.new }
+        ensures painted { Painted Op.Flip (shifted at (λ x. block_dot (layout_of self.now) self.now.text.now x
+            y)) row.old row.new }
+        ensures most { result ≤ 2 * line_pieces self.now.text.now }
+        ensures some { (d : ℕ) → d < dots row.old
+            → shifted at (λ x. block_dot (layout_of self.now) self.now.text.now x y) d ≡ true → 0 < result }
     {
         let mut dots = [0u8; N];
-        self.paint_lines(y, Op::Black, 0, &mut dots);
+        let counter = self.paint_lines(y, Op::Black, 0, &mut dots);
         xor_into(&dots, at, row);
+        counter
+    }
+
+    /// Paints row y, as `paint_row` does: how many pieces are handed out, lines and their cells, and how many
+    /// of the cells painted.
+    pub fn paint_pieces(&self, y: u32, op: Op, at: i64, row: &mut [u8]) -> u64
+        ensures painted { Painted op (shifted at (λ x. block_dot (layout_of self.now) self.now.text.now x y))
+            row.old row.new }
+        ensures most { result ≤ 2 * block_pieces self.now.text.now }
+        ensures some { (d : ℕ) → d < dots row.old
+            → shifted at (λ x. block_dot (layout_of self.now) self.now.text.now x y) d ≡ true → 0 < result }
+    {
+        let (_, height) = self.size();
+        if y >= height {
+            return 0;
+        }
+        if self.wide < self.w {
+            return 0;
+        }
+        match op {
+            Op::Flip => self.flip_lines::<4000>(y, at, row),
+            op => self.paint_lines(y, op, at, row),
+        }
     }
 }
 
@@ -353,16 +414,6 @@ impl<A: Small> Ink for Block<'_, A> {
     }
 
     fn paint_row(&self, y: u32, op: Op, at: i64, row: &mut [u8]) {
-        let (_, height) = self.size();
-        if y >= height {
-            return;
-        }
-        if self.wide < self.w {
-            return;
-        }
-        match op {
-            Op::Flip => self.flip_lines::<4000>(y, at, row),
-            op => self.paint_lines(y, op, at, row),
-        }
+        self.paint_pieces(y, op, at, row);
     }
 }

@@ -1,12 +1,12 @@
 //! The first dots of many rows of a block, for which each of its lines is looked at once.
-ghost use Rattle.std.specs.Prelude.{◌≡◌, ℕ, ◌+◌, ◌-◌, ◌*◌, ◌/◌, ◌<◌, ◌≤◌, ◌^◌, ◌||◌, ◌&&◌, nat_le, nat_lt, false, min, length, take, slice_index};
-ghost use Rattle.vp_dots.specs.Dots.{shifted, span};
-ghost use Rattle.vp_glyph.specs.Blocks.{pieces, first, line_dot, block_height, block_dot};
-ghost use Rattle.vp_glyph.specs.Halves.{half_dot, front_dot, AreEnds};
+ghost use Rattle.std.specs.Prelude.{◌≡◌, ℕ, ◌+◌, ◌-◌, ◌*◌, ◌/◌, ◌<◌, ◌≤◌, ◌^◌, ◌||◌, ◌&&◌, nat_le, nat_lt, true, false, min, length, take, slice_index};
+ghost use Rattle.vp_dots.specs.Dots.{bit, shifted, span};
+ghost use Rattle.vp_glyph.specs.Blocks.{pieces, first, block_pieces, line_dot, block_height, block_dot, line_pieces};
+ghost use Rattle.vp_glyph.specs.Halves.{half_dot, front_dot, AreEdges, AreInked};
 ghost use Rattle.vp_glyph.specs.Layouts.{layout_of, AreRowsOf};
 
 use crate::block::Block;
-use crate::lines::{Line, next_line};
+use crate::lines::{Line, hand_line};
 use vp_dots::Small;
 
 /// Of so many fronts side by side the dots that all have are kept once.
@@ -49,6 +49,20 @@ fn blacken<const N: usize>(ink: u32, from: usize, to: usize, halves: &mut [u32; 
     }
 }
 
+/// Makes the dots of as many halves as a group has, from one on, black where a half is.
+#[inline(always)]
+fn blacken_group<const N: usize>(ink: u32, from: usize, halves: &mut [u32; N])
+    requires { from + GROUP ≤ N }
+    ensures inside { (i x : ℕ) → from ≤ i → i < from + GROUP → half_dot (slice_index halves.new i) x
+        ≡ (half_dot (slice_index halves.old i) x || half_dot ink x) }
+    ensures outside { (i : ℕ) → span from (from + GROUP) i ≡ false
+        → slice_index halves.new i ≡ slice_index halves.old i }
+{
+    for i in 0..GROUP {
+        halves[from + i] |= ink;
+    }
+}
+
 /// Makes the dots of the fronts from one to another black where a half is: of groups that are among them as
 /// a whole at once. As many fronts as a group has, at each end, are blackened one by one: the rest of a group
 /// there, and what is black anyhow.
@@ -70,10 +84,9 @@ fn blacken_run<const N: usize>(
     }
     let first = from / GROUP + 1;
     let last = to / GROUP;
-    blacken(ink, from, from + GROUP, fronts);
+    blacken_group(ink, from, fronts);
     blacken(ink, first, last, groups);
-    let rest = to - GROUP;
-    blacken(ink, rest, rest + GROUP, fronts);
+    blacken_group(ink, to - GROUP, fronts);
 }
 
 /// Gives each front the dots that its group has.
@@ -87,159 +100,240 @@ fn settle<const N: usize>(groups: &[u32; GROUPS], fronts: &mut [u32; N])
         }
         let from = (GROUP * k).min(N);
         if from + GROUP <= N {
-            blacken(groups[k], from, from + GROUP, fronts);
+            blacken_group(groups[k], from, fronts);
         } else {
             blacken(groups[k], from, N, fronts);
         }
     }
 }
 
-/// Behind each of 24 rows the first that isn't like it, and 24 where all are.
-fn ends_of(rows: &[u32; 24]) -> [u32; 24]
-    ensures { AreEnds rows.now result }
+/// Which of 24 rows, the first by the lowest bit, isn't like the row below it.
+fn edges_of(rows: &[u32; 24]) -> u32
+    ensures { AreEdges rows.now 23 result }
 {
-    let mut ends = [24u32; 24];
-    let mut end = 24u32;
-    for k in 0..23u32 {
-        let s = 22 - k;
+    let mut edges = 0u32;
+    for s in 0..23u32 {
         if rows[s as usize] != rows[s as usize + 1] {
-            end = s + 1;
+            edges |= 1 << s;
         }
-        ends[s as usize] = end;
     }
-    ends
+    edges
+}
+
+/// Which of 24 rows, the first by the lowest bit, has a black dot.
+fn inked_of(rows: &[u32; 24]) -> u32
+    ensures { AreInked rows.now 24 result }
+{
+    let mut inked = 0u32;
+    for s in 0..24u32 {
+        if rows[s as usize] != 0 {
+            inked |= 1 << s;
+        }
+    }
+    inked
+}
+
+/// How many bits of a number from bit s on are 0 before the first that is 1.
+#[inline(always)]
+fn zeros_from(bits: u32, s: u32) -> u32
+    requires { s ≤ 24 }
+    ensures few { result ≤ 32 }
+    ensures zeros { (r : ℕ) → s ≤ r → r < s + result → bit bits r ≡ false }
+{
+    (bits >> s).trailing_zeros()
+}
+
+/// The first dots of the rows of the sheet on which a line stands, and which of them are to be looked at.
+#[derive(Clone, Copy)]
+struct Shown {
+    rows: [u32; 24],
+    edges: u32,
+    inked: u32,
+    ghost edges_are: { AreEdges rows 23 edges },
+    ghost inked_are: { AreInked rows 24 inked },
+}
+
+impl Shown {
+    /// These rows.
+    #[inline(always)]
+    fn of(rows: [u32; 24]) -> Shown
+        ensures { result.rows ≡ rows }
+    {
+        Shown {
+            rows,
+            edges: edges_of(&rows),
+            inked: inked_of(&rows),
+        }
+    }
+
+    /// The first row from row s on that has a black dot, or 24.
+    #[inline(always)]
+    fn next_inked(&self, s: u32) -> u32
+        requires { s ≤ 24 }
+        ensures from { s ≤ result }
+        ensures within { result ≤ 24 }
+        ensures white { (r : ℕ) → s ≤ r → r < result → slice_index self.now.rows r ≡ 0 }
+    {
+        (s + zeros_from(self.inked, s)).min(24)
+    }
+
+    /// The row behind row s and those below it that are like it.
+    #[inline(always)]
+    fn end_of(&self, s: u32) -> u32
+        requires { s < 24 }
+        ensures some { s < result }
+        ensures within { result ≤ 24 }
+        ensures alike { (r : ℕ) → s ≤ r → r < result
+            → slice_index self.now.rows r ≡ slice_index self.now.rows s }
+    {
+        (s + 1 + zeros_from(self.edges, s)).min(24)
+    }
 }
 
 /// Adds to the fronts of `N` rows, the first of which is row `top`, the rows of the sheet that are drawn
 /// `high` rows high in all from row `above` on: those that are alike at once.
 fn spread<const N: usize>(
-    rows: &[u32; 24],
-    ends: &[u32; 24],
+    shown: &Shown,
     above: u32,
     high: u32,
     top: u32,
     groups: &mut [u32; GROUPS],
     fronts: &mut [u32; N],
 )
-    requires fits { above + high < 2 ^ 32 }
-    requires ends { AreEnds rows.now ends.now }
+    requires { above + high < 2 ^ 32 }
     ensures { (i x : ℕ) → i < N → x < 32 → front_dot GROUP groups.new fronts.new i x
         ≡ (front_dot GROUP groups.old fronts.old i x || nat_le above (top + i)
         && nat_lt (top + i - above) high
-        && half_dot (slice_index rows.now ((top + i - above) * 24 / high)) x) }
+        && half_dot (slice_index shown.now.rows ((top + i - above) * 24 / high)) x) }
 {
-    let mut from = rows_above::<N>(above, top);
-    let mut s = 0;
+    let mut s = shown.next_inked(0);
     while s < 24 {
-        let behind = ends[s as usize];
+        let behind = shown.end_of(s);
+        let from = rows_above::<N>(above + first_row(s, high), top);
         let to = rows_above::<N>(above + first_row(behind, high), top);
-        let ink = rows[s as usize];
-        if ink != 0 {
-            blacken_run(ink, from, to, groups, fronts);
-        }
-        from = to;
-        s = behind;
+        blacken_run(shown.rows[s as usize], from, to, groups, fronts);
+        s = shown.next_inked(behind);
     }
 }
 
+/// A line, and the rows of the sheet on which it stands.
+#[derive(Clone, Copy)]
+struct Kept<'a> {
+    line: Line<'a>,
+    shown: Shown,
+}
+
 impl<A: Small> Block<'_, A> {
-    /// The rows of the sheet on which a line stands, where those of another line are drawn: these, if the
-    /// lines are alike.
-    fn redraw(
+    /// Keeps a line and the rows of the sheet on which it stands, and behind it the line that was kept: it is
+    /// drawn only if it is like neither of the two that are kept. The cells that are drawn are counted.
+    fn keep<'t>(
         &self,
-        line: Line<'_>,
-        drawn: Line<'_>,
+        line: Line<'t>,
         at: i64,
-        rows: &mut [u32; 24],
-        ends: &mut [u32; 24],
+        kept: &mut Kept<'t>,
+        other: &mut Kept<'t>,
+        counter: &mut u64,
     )
         requires cells { line.cells ≤ length (first (pieces line.text.now)) }
         requires most { line.cells ≤ self.now.wide / self.now.w }
-        requires drawn { AreRowsOf (layout_of self.now) at (take drawn.cells (first (pieces drawn.text.now)))
-            rows.old }
-        requires ends { AreEnds rows.old ends.old }
-        ensures rows { AreRowsOf (layout_of self.now) at (take line.entry.cells
-            (first (pieces line.entry.text.now))) rows.new }
-        ensures ends { AreEnds rows.new ends.new }
+        requires kept { AreRowsOf (layout_of self.now) at
+            (take kept.old.line.cells (first (pieces kept.old.line.text.now))) kept.old.shown.rows }
+        requires other { AreRowsOf (layout_of self.now) at
+            (take other.old.line.cells (first (pieces other.old.line.text.now))) other.old.shown.rows }
+        ensures line { AreRowsOf (layout_of self.now) at (take line.entry.cells
+            (first (pieces line.entry.text.now))) kept.new.shown.rows }
+        ensures kept { AreRowsOf (layout_of self.now) at
+            (take kept.new.line.cells (first (pieces kept.new.line.text.now))) kept.new.shown.rows }
+        ensures other { AreRowsOf (layout_of self.now) at
+            (take other.new.line.cells (first (pieces other.new.line.text.now))) other.new.shown.rows }
+        ensures counted { counter.old ≤ counter.new }
+        ensures most { counter.new ≤ counter.old + line.entry.cells }
     {
-        if line.is_like(drawn) {
+        if line.is_like(kept.line) {
             return;
         }
-        *rows = [0; 24];
-        self.add_rows(line, at, rows);
-        *ends = ends_of(rows);
+        let last = *kept;
+        *kept = *other;
+        *other = last;
+        if line.is_like(kept.line) {
+            return;
+        }
+        let mut rows = [0; 24];
+        let drawn = self.add_rows(line, at, &mut rows);
+        *counter = counter.saturating_add(u64::from(drawn));
+        *kept = Kept {
+            line,
+            shown: Shown::of(rows),
+        };
     }
 
-    /// Adds the lines to the fronts of N rows, the first of which is row `top`, and to those of their groups.
+    /// Adds the lines to the fronts of N rows, the first of which is row `top`, and to those of their groups:
+    /// how many pieces are handed out, and how many of the cells drawn.
     fn add_lines<const N: usize>(
         &self,
         top: u32,
         at: i64,
         groups: &mut [u32; GROUPS],
         fronts: &mut [u32; N],
-    )
+    ) -> u64
         requires wide { self.now.w ≤ self.now.wide }
         requires few { N < 2 ^ 32 }
         requires white { (i x : ℕ) → front_dot GROUP groups.old fronts.old i x ≡ false }
-        ensures { (i x : ℕ) → i < N → x < 32 → top + i < block_height self.now.h self.now.rows self.now.pitch
+        ensures added { (i x : ℕ) → i < N → x < 32
+            → top + i < block_height self.now.h self.now.rows self.now.pitch
             → front_dot GROUP groups.new fronts.new i x
             ≡ shifted at (λ x. block_dot (layout_of self.now) self.now.text.now x (top + i)) x }
+        ensures most { result ≤ 2 * line_pieces self.now.text.now }
+        ensures none { result ≡ 0 → (i x : ℕ) → front_dot GROUP groups.new fronts.new i x ≡ false }
     {
         let most = (self.wide / self.w) as usize;
         let (above, text) = self.first_line(top);
         let mut place = above;
         let mut left = Some(text);
-        let mut drawn = Line { text, cells: 0 };
-        let mut rows = [0u32; 24];
-        let mut ends = [24u32; 24];
+        let mut kept = Kept {
+            line: Line { text, cells: 0 },
+            shown: Shown::of([0; 24]),
+        };
+        let mut other = kept;
+        let mut counter = 0u64;
         while let Some(text) = left {
             if u64::from(top) + N as u64 <= u64::from(place * self.pitch) {
-                return;
+                return counter;
             }
             if self.pitch == 0 || place + 1 >= self.rows {
-                let rows = self.joined(text, at);
-                spread(
-                    &rows,
-                    &ends_of(&rows),
-                    place * self.pitch,
-                    self.h,
-                    top,
-                    groups,
-                    fronts,
-                );
-                return;
+                let shown = Shown::of(self.joined(text, at, &mut counter));
+                spread(&shown, place * self.pitch, self.h, top, groups, fronts);
+                return counter;
             }
-            let (line, rest) = next_line(text, most);
-            self.redraw(line, drawn, at, &mut rows, &mut ends);
-            spread(
-                &rows,
-                &ends,
-                place * self.pitch,
-                self.h,
-                top,
-                groups,
-                fronts,
-            );
-            drawn = line;
+            let (line, rest) = hand_line(text, most, &mut counter);
+            self.keep(line, at, &mut kept, &mut other, &mut counter);
+            spread(&kept.shown, place * self.pitch, self.h, top, groups, fronts);
             place = (place + 1).min(self.rows.saturating_sub(1));
             left = rest;
         }
+        counter
     }
 
     /// Draws the first 32 dots of N rows, each moved by an offset and black where row top, top + 1, .. has
-    /// ink, on halves of words that are white.
-    pub fn draw_fronts<const N: usize>(&self, top: u32, at: i64, fronts: &mut [u32; N])
+    /// ink, on halves of words that are white: how many pieces are handed out, lines and their cells, and how
+    /// many of the cells drawn.
+    pub fn draw_fronts<const N: usize>(&self, top: u32, at: i64, fronts: &mut [u32; N]) -> u64
         requires few { N < 2 ^ 32 }
         requires white { (i : ℕ) → slice_index fronts.old i ≡ 0 }
-        ensures { (i x : ℕ) → i < N → x < 32 → top + i < block_height self.now.h self.now.rows self.now.pitch
+        ensures drawn { (i x : ℕ) → i < N → x < 32
+            → top + i < block_height self.now.h self.now.rows self.now.pitch
             → half_dot (slice_index fronts.new i) x
             ≡ shifted at (λ x. block_dot (layout_of self.now) self.now.text.now x (top + i)) x }
+        ensures most { result ≤ 2 * block_pieces self.now.text.now }
+        ensures some { (i x : ℕ) → i < N → x < 32 → half_dot (slice_index fronts.new i) x ≡ true
+            → 0 < result }
     {
         if self.wide < self.w {
-            return;
+            return 0;
         }
         let mut groups = [0u32; GROUPS];
-        self.add_lines(top, at, &mut groups, fronts);
+        let counter = self.add_lines(top, at, &mut groups, fronts);
         settle(&groups, fronts);
+        counter
     }
 }

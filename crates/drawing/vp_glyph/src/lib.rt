@@ -39,6 +39,7 @@ pub use cell::{Cell, Filled, Font, Style};
 pub use header::header_law;
 pub use lines::lines_law;
 pub use look::{doubled_rows, widened_rows};
+pub use rows::DrawnRows;
 pub use runs::{BYTES, ROWS};
 pub use sampled::{Sampled, seen};
 pub use sheet::{Sheet, SheetError};
@@ -137,6 +138,7 @@ impl<A: Small> Sheets<A> {
         ensures rows { result.rows ≡ rows }
         ensures pitch { result.pitch ≡ pitch h gap }
         ensures alignment { result.alignment ≡ alignment }
+        ensures walked { result.walked ≡ 0 }
     {
         Block {
             sheet: &self.a,
@@ -150,6 +152,7 @@ impl<A: Small> Sheets<A> {
             alignment,
             passed: 0,
             rest: text,
+            walked: 0,
         }
     }
 }

@@ -1,7 +1,7 @@
 //! The lines of a field block.
 ghost use Rattle.std.specs.Prelude.{◌≡◌, ℕ, ◌+◌, ◌-◌, ◌≤◌, ◌<◌, ◌^◌, true, List, ◌∷◌, [], min, length, take, drop, MatchOption, slice_index, Some, None};
 ghost use Rattle.std.specs.List.{All};
-ghost use Rattle.vp_glyph.specs.Blocks.{pieces, first, others, last_blank, lines, StandIn, block_lines};
+ghost use Rattle.vp_glyph.specs.Blocks.{pieces, first, others, last_blank, lines, StandIn, block_lines, line_pieces};
 
 /// What stands in a text.
 #[derive(Drop)]
@@ -180,6 +180,8 @@ pub fn next_line(text: &[u8], most: usize) -> (Line<'_>, Option<&[u8]>)
     ensures lines { let line = take result.0.cells (first (pieces text.now))
         in MatchOption result.1 (block_lines most text.now ≡ line ∷ []) (λ r. block_lines most text.now
         ≡ line ∷ block_lines most r.now) }
+    ensures less { MatchOption result.1 (1 + result.0.cells ≤ line_pieces text.now)
+        (λ r. 1 + result.0.cells + line_pieces r.now ≤ line_pieces text.now) }
 {
     let Measured {
         cells,
@@ -198,6 +200,28 @@ pub fn next_line(text: &[u8], most: usize) -> (Line<'_>, Option<&[u8]>)
         return (line, next_paragraph(behind));
     };
     (line, Some(behind))
+}
+
+/// The first line of a text, as `next_line` gives it, whose pieces are counted: the line, and each of its
+/// cells.
+#[inline(always)]
+pub fn hand_line<'a>(text: &'a [u8], most: usize, counter: &mut u64) -> (Line<'a>, Option<&'a [u8]>)
+    requires some { 0 < most }
+    requires most { most < 2 ^ 32 }
+    ensures text { result.0.text.now ≡ text.now }
+    ensures most { result.0.cells ≤ most }
+    ensures cells { result.0.cells ≤ length (first (pieces text.now)) }
+    ensures lines { let line = take result.0.cells (first (pieces text.now))
+        in MatchOption result.1 (block_lines most text.now ≡ line ∷ []) (λ r. block_lines most text.now
+        ≡ line ∷ block_lines most r.now) }
+    ensures less { MatchOption result.1 (1 + result.0.cells ≤ line_pieces text.now)
+        (λ r. 1 + result.0.cells + line_pieces r.now ≤ line_pieces text.now) }
+    ensures counted { counter.new ≡ min (counter.old + (1 + result.0.cells)) (2 ^ 64 - 1) }
+    ensures more { counter.old ≤ counter.new }
+{
+    let (line, rest) = next_line(text, most);
+    *counter = counter.saturating_add(1 + line.cells as u64);
+    (line, rest)
 }
 
 /// A law: the lines of a paragraph have at most n cells each, and stand in it one after the other, with at

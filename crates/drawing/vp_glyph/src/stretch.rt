@@ -112,35 +112,45 @@ fn in_half(at: i64, place: u32) -> u32
     (at + i64::from(place)).clamp(0, 32) as u32
 }
 
-/// Adds the dots of a mask to the first 32 dots of rows, as many as are asked for, where the row of a cell
-/// has dot s.
+/// Adds the left halves of the first rows of a cell to as many halves.
 #[inline(always)]
-fn add_first(cell: &[u64], high: usize, s: u32, mask: u32, rows: &mut [u32; 24])
-    requires s { s < 32 }
+fn add_halves(cell: &[u64], high: usize, halves: &mut [u32; 24])
     requires high { high ≤ 24 }
     requires cell { high ≤ length cell.now }
-    ensures { (r d : ℕ) → r < 24 → d < 32 → half_dot (slice_index rows.new r) d
-        ≡ (half_dot (slice_index rows.old r) d
-        || nat_lt r high && (word_dot (slice_index cell.now r) s && half_dot mask d)) }
+    ensures { (r d : ℕ) → r < 24 → d < 32 → half_dot (slice_index halves.new r) d
+        ≡ (half_dot (slice_index halves.old r) d || nat_lt r high && word_dot (slice_index cell.now r) d) }
 {
     for r in 0..high {
-        rows[r] |= picked_half(left_half(cell[r]), s, mask);
+        halves[r] |= left_half(cell[r]);
     }
 }
 
-/// Adds the dots of a mask to the first 32 dots of 24 rows, where the row of a cell has dot s.
-// Where the compiler knows how many rows there are, it adds four of them at once.
+/// The left halves of the first 24 rows of a cell, white below it.
+// Where the compiler knows how many rows there are, it takes four of them at once.
 #[inline(always)]
-fn add_dot(cell: &[u64], s: u32, mask: u32, rows: &mut [u32; 24])
+fn halves_of(cell: &[u64]) -> [u32; 24]
+    ensures { (r d : ℕ) → r < 24 → d < 32
+        → half_dot (slice_index result r) d ≡ word_dot (slice_index cell.now r) d }
+{
+    let mut halves = [0; 24];
+    if cell.len() >= 24 {
+        add_halves(cell, 24, &mut halves);
+        return halves;
+    }
+    add_halves(cell, cell.len(), &mut halves);
+    halves
+}
+
+/// Adds the dots of a mask to the rows where those of a cell have dot s.
+#[inline(always)]
+fn add_dot(cell: &[u32; 24], s: u32, mask: u32, rows: &mut [u32; 24])
     requires { s < 32 }
     ensures { (r d : ℕ) → r < 24 → d < 32 → half_dot (slice_index rows.new r) d
-        ≡ (half_dot (slice_index rows.old r) d || word_dot (slice_index cell.now r) s && half_dot mask d) }
+        ≡ (half_dot (slice_index rows.old r) d || half_dot (slice_index cell.now r) s && half_dot mask d) }
 {
-    if cell.len() >= 24 {
-        add_first(cell, 24, s, mask, rows);
-        return;
+    for r in 0..24usize {
+        rows[r] |= picked_half(cell[r], s, mask);
     }
-    add_first(cell, cell.len(), s, mask, rows);
 }
 
 /// The first 64 dots of a row on which the first twelve dots of a word, drawn `width` dots wide in all, stand
@@ -277,10 +287,11 @@ impl Stretch {
             && nat_lt (x - left) self.now.width
             && word_dot (slice_index cell.now s) ((x - left) * 12 / self.now.width)) d) }
     {
+        let halves = halves_of(cell);
         let (mut s, mut from) = self.first_seen(at, left);
         while s < CELL && from < HALF {
             let to = in_half(at, left + edge(s + 1, self.width));
-            add_dot(cell, s, left_half(mask(from, to)), rows);
+            add_dot(&halves, s, left_half(mask(from, to)), rows);
             from = to;
             s += 1;
         }

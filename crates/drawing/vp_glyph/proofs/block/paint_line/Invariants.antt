@@ -1,4 +1,4 @@
-use Rattle.std.proofs.Common.{◌≡◌, ◌+◌, ◌*◌, take}
+use Rattle.std.proofs.Common.{◌≡◌, ◌≤◌, ◌+◌, ◌-◌, ◌*◌, min, take}
 use Rattle.vp_dots.specs.Dots.{shifted}
 use Rattle.vp_dots.specs.Painting.{Painted}
 use Rattle.vp_glyph.specs.Blocks.{pieces, first}
@@ -11,5 +11,7 @@ abbrev pub invariant-loop-i : goal.invariant-loop-i
 invariant-loop-i g l = record {
   behind : Behind l._i (pieces l.line.text.now) (pieces l.rest);
   place_is : l.place ≡ l.left + l.stretch.width * l._i;
+  after : l.from ≤ l._i;
+  counted : l.painted ≡ min l._i l.to - min l.from l.to;
   painted : Painted l.op (shifted l.fn.at (so_far l.sheet (take l.line.cells (first (pieces l.line.text.now))) l.stretch.width l.h l.left l.y l._i)) l.fn.row l.row;
 }

@@ -1,15 +1,13 @@
-use Rattle.std.proofs.Common.{◌≡◌, ◌+◌, ◌-◌, ◌≤◌, min}
+use Rattle.std.proofs.Common.{◌-◌, ◌≤◌}
 use Rattle.vp_glyph.specs.Halves.{front_dot}
-use Rattle.vp_glyph.proofs.Spread.{edge_at}
 use Rattle.vp_glyph.proofs.Gathered.{Added}
 use Rattle.vp_glyph.proofs.fronts.spread.Given as goal
 
--- the rows before s are added, and row s begins at `from`
+-- the rows before s are added
 abbrev pub invariant-loop-s : goal.invariant-loop-s
 invariant-loop-s g l = record {
   within : l.s ≤ 24;
-  added : Added l.rows l.above l.high g.row.N l.top l.s (front_dot 16 l.fn.groups l.fn.fronts) (front_dot 16 l.groups l.fronts);
-  from : l.from ≡ min (l.above + edge_at 24 l.high l.s - l.top) g.row.N;
+  added : Added l.shown.rows l.above l.high g.row.N l.top l.s (front_dot 16 l.fn.groups l.fn.fronts) (front_dot 16 l.groups l.fronts);
 }
 
 abbrev pub decreases-loop-s : goal.decreases-loop-s

@@ -1,6 +1,7 @@
 use Rattle.std.proofs.Common.{◌≡◌, ◌+◌, ◌-◌, arith, sym, ap, ◌∙◌, ℕ, List, min}
 use Rattle.vp_glyph.specs.Blocks.{last_blank}
 use Rattle.vp_glyph.proofs.Breaking.{block_short, cut_hard, cut_blank, cut_last, paragraph_next}
+use Rattle.vp_glyph.proofs.Handed.{size_behind, paragraph_less}
 use Rattle.vp_glyph.proofs.Pieces.{some_cell}
 use Rattle.vp_glyph.proofs.lines.next_line.Goals as goal
 
@@ -32,3 +33,25 @@ returns-clause-lines c =
     cut_blank c.args.most c.args.text.now c.behind_cells-behind.result.now c.requires.some (omega arith) c.measure-cells.result.blank
     (blank_is c.args.most c.measure-cells.result.cells c.measure-cells.result.blank _ c.measure-cells.ensures.blank (omega arith)) (omega arith)
     c.behind_cells-behind.ensures.first c.behind_cells-behind.ensures.others (some_cell _ _ _ c.in-Some.ensures)
+
+pub returns-then-cells-most-clause-less : goal.returns-then-cells-most-clause-less
+returns-then-cells-most-clause-less c =
+    let fits : min c.measure-cells.result.cells c.args.most ≡ c.measure-cells.result.cells = omega arith in
+    let size = size_behind c.measure-cells.result.cells c.args.text.now c.measure-cells.result.behind.now (omega arith) (rw fits at c.measure-cells.ensures.first) c.measure-cells.ensures.others in
+    paragraph_less c.measure-cells.result.cells c.args.text.now c.measure-cells.result.behind.now _ (omega (arith, size)) c.next_paragraph.ensures
+
+pub returns-then-blank-eq0-clause-less : goal.returns-then-blank-eq0-clause-less
+returns-then-blank-eq0-clause-less c =
+    let fits : min c.measure-cells.result.cells c.args.most ≡ c.args.most = omega arith in
+    let size = size_behind c.args.most c.args.text.now c.measure-cells.result.behind.now (omega arith) (rw fits at c.measure-cells.ensures.first) c.measure-cells.ensures.others in
+    omega (arith, size, c.requires.some)
+
+pub returns-in_default-clause-less : goal.returns-in_default-clause-less
+returns-in_default-clause-less c =
+    let size = size_behind (c.measure-cells.result.blank + 1) c.args.text.now c.behind_cells-behind.result.now (omega arith) c.behind_cells-behind.ensures.first c.behind_cells-behind.ensures.others in
+    paragraph_less c.measure-cells.result.blank c.args.text.now c.behind_cells-behind.result.now _ (omega (arith, size)) c.next_paragraph-in_default.ensures
+
+pub returns-clause-less : goal.returns-clause-less
+returns-clause-less c =
+    let size = size_behind (c.measure-cells.result.blank + 1) c.args.text.now c.behind_cells-behind.result.now (omega arith) c.behind_cells-behind.ensures.first c.behind_cells-behind.ensures.others in
+    omega (arith, size)

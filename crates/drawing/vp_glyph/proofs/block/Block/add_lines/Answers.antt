@@ -1,6 +1,7 @@
-use Rattle.std.proofs.Common.{inl, inr, ℕ, ◌+◌, sym, refl, arith, w64, to_z, of_z}
+use Rattle.std.proofs.Common.{inl, inr, ℕ, List, ◌+◌, ◌∙◌, ap, get_or, sym, refl, arith, w64, to_z, of_z}
 use Rattle.std.proofs.lemmas.Int.{to_z-of_z}
-use Rattle.vp_glyph.proofs.Gathered.{ends_white}
+use Rattle.vp_glyph.specs.Halves.{half_dot}
+use Rattle.vp_glyph.proofs.Handed.{pieces_left, less_left}
 use Rattle.vp_glyph.proofs.Joining.{line_added, lines_added, rows_none}
 use Rattle.vp_glyph.proofs.Sheeted.{drawn_none, drawn_more, drawn_all, drawn_joined}
 use Rattle.vp_glyph.proofs.Stacks.{lines_below}
@@ -12,9 +13,11 @@ loop-left-init g c =
     let b = c.args.self.now in
     record {
       place_within = omega arith;
-      rows_are = rows_none b.sheet.now b.w b.h b.wide b.rows b.pitch b.alignment _ _ refl;
-      ends_are = ends_white;
+      kept_are = rw c.of.ensures (rows_none b.sheet.now b.w b.h b.wide b.rows b.pitch b.alignment _ _ refl);
+      other_are = rw c.of.ensures (rows_none b.sheet.now b.w b.h b.wide b.rows b.pitch b.alignment _ _ refl);
       drawn = λ i l. drawn_none b.sheet.now b.w b.h b.wide b.rows b.pitch b.alignment (c.args.top + i) _ 4 _ _ _ _ _ (λ x. c.requires.white i x) (λ x. c.first_line-above.ensures.lines x (c.args.top + i) (omega arith));
+      counted = omega (arith, c.first_line-above.ensures.less);
+      none = λ e i x. c.requires.white i x;
     }
 
 pub loop-left-preserved : goal.loop-left-preserved
@@ -22,38 +25,52 @@ loop-left-preserved g c =
     let b = c.args.self.now in
     record {
       place_within = omega arith;
-      rows_are = c.redraw.ensures.rows;
-      ends_are = c.redraw.ensures.ends;
-      drawn = λ i l. drawn_more b.sheet.now b.w b.h b.wide b.rows b.pitch b.alignment (c.args.top + i) _ 4 _ _ c.loop-left.place c.next_line.result.0.cells _ c.loop-left.left c.next_line.result.1 c.in-Some.text c.next_line.result.0.text.now _ _
-          (c.loop-left.invariant.drawn i l) c.in-Some.is c.next_line.ensures.text c.next_line.ensures.lines (λ x m. line_added b.sheet.now b.w b.h b.wide b.rows b.pitch b.alignment _ x _ c.loop-left.place _ _ _ _ m (c.spread-in-Some.ensures i x l m) c.redraw.ensures.rows) (omega arith);
+      kept_are = c.keep.ensures.kept;
+      other_are = c.keep.ensures.other;
+      drawn = λ i l. drawn_more b.sheet.now b.w b.h b.wide b.rows b.pitch b.alignment (c.args.top + i) _ 4 _ _ c.loop-left.place c.hand_line.result.0.cells _ c.loop-left.left c.hand_line.result.1 c.in-Some.text c.hand_line.result.0.text.now _ _
+          (c.loop-left.invariant.drawn i l) c.in-Some.is c.hand_line.ensures.text c.hand_line.ensures.lines (λ x m. line_added b.sheet.now b.w b.h b.wide b.rows b.pitch b.alignment _ x _ c.loop-left.place _ _ _ _ m (c.spread-in-Some.ensures i x l m) c.keep.ensures.line) (omega arith);
+      counted =
+          let less = less_left c.hand_line.result.0.cells c.in-Some.text.now c.hand_line.result.1 c.hand_line.ensures.less in
+          let left = ap pieces_left c.in-Some.is in
+          omega (arith, less, left, c.loop-left.invariant.counted, c.hand_line.ensures.counted, c.keep.ensures.most);
+      none = λ e. absurd (omega (arith, e, c.hand_line.ensures.counted, c.keep.ensures.counted));
     }
 
 pub returns-then-from : goal.returns-then-from
 returns-then-from g c =
     let b = c.args.self.now in
-    λ i x l m k. rw (sym (to_z-of_z w64 c.args.at c.ranges.at))
-    (drawn_all b.sheet.now b.w b.h b.wide b.rows b.pitch b.alignment (c.args.top + i) (to_z w64 (of_z w64 c.args.at)) 4 b.text.now c.loop-left.place c.loop-left.left _ b.some (omega arith) k
-    (λ (v : ℕ). lines_below b.sheet.now b.w b.h b.wide b.rows b.pitch b.alignment v (c.args.top + i) c.loop-left.place _ c.loop-left.invariant.place_within (omega arith))
-    (c.loop-left.invariant.drawn i l) x m)
+    rw (sym (to_z-of_z w64 c.args.at c.ranges.at)) (record {
+      added = λ i x l m k. drawn_all b.sheet.now b.w b.h b.wide b.rows b.pitch b.alignment (c.args.top + i) (to_z w64 (of_z w64 c.args.at)) 4 b.text.now c.loop-left.place c.loop-left.left _ b.some (omega arith) k
+          (λ (v : ℕ). lines_below b.sheet.now b.w b.h b.wide b.rows b.pitch b.alignment v (c.args.top + i) c.loop-left.place _ c.loop-left.invariant.place_within (omega arith))
+          (c.loop-left.invariant.drawn i l) x m;
+      most = omega (arith, c.loop-left.invariant.counted);
+      none = c.loop-left.invariant.none;
+    })
 
 pub returns : goal.returns
 returns g c =
     let b = c.args.self.now in
-    λ i x l m k. rw (sym (to_z-of_z w64 c.args.at c.ranges.at))
-    (drawn_all b.sheet.now b.w b.h b.wide b.rows b.pitch b.alignment (c.args.top + i) (to_z w64 (of_z w64 c.args.at)) 4 b.text.now c.loop-left.place c.loop-left.left _ b.some (omega arith) k
-    (λ (v : ℕ). rw c.in_default.is refl)
-    (c.loop-left.invariant.drawn i l) x m)
+    rw (sym (to_z-of_z w64 c.args.at c.ranges.at)) (record {
+      added = λ i x l m k. drawn_all b.sheet.now b.w b.h b.wide b.rows b.pitch b.alignment (c.args.top + i) (to_z w64 (of_z w64 c.args.at)) 4 b.text.now c.loop-left.place c.loop-left.left _ b.some (omega arith) k
+          (λ (v : ℕ). rw c.in_default.is refl)
+          (c.loop-left.invariant.drawn i l) x m;
+      most = omega (arith, c.loop-left.invariant.counted);
+      none = c.loop-left.invariant.none;
+    })
 
 pub returns-then-self-eq0 : goal.returns-then-self-eq0
 returns-then-self-eq0 g c =
     let b = c.args.self.now in
     let at = to_z w64 (of_z w64 c.args.at) in
-    λ i x l m k. rw (sym (to_z-of_z w64 c.args.at c.ranges.at))
-    (drawn_joined b.sheet.now b.w b.h b.wide b.rows b.pitch b.alignment (c.args.top + i) at 4 b.text.now c.loop-left.place c.loop-left.left c.in-Some.text _ _ b.some (omega arith) k c.in-Some.is
-    (λ v m. lines_added b.sheet.now b.w b.h b.wide b.rows b.pitch b.alignment at v (c.args.top + i) c.loop-left.place _ _ _ _ m
-    (elim c.then-self-eq0.branch [
-      | then-self-eq0-via-then-self-eq0 w ↦ (let p = w.if-self-eq0.true in inl (omega arith))
-      | then-self-eq0-via-else-self-eq0+then-place-self w ↦ (let p = w.if-place-self.true in inr (omega (arith, c.loop-left.invariant.place_within)))
-    ])
-    (c.spread.ensures i v l m) (λ r u p q. c.joined-rows.ensures r u p q))
-    (c.loop-left.invariant.drawn i l) x m)
+    rw (sym (to_z-of_z w64 c.args.at c.ranges.at)) (record {
+      added = λ i x l m k. drawn_joined b.sheet.now b.w b.h b.wide b.rows b.pitch b.alignment (c.args.top + i) at 4 b.text.now c.loop-left.place c.loop-left.left c.in-Some.text _ _ b.some (omega arith) k c.in-Some.is
+          (λ v m. lines_added b.sheet.now b.w b.h b.wide b.rows b.pitch b.alignment at v (c.args.top + i) c.loop-left.place _ _ _ _ m
+          (elim c.then-self-eq0.branch [
+            | then-self-eq0-via-then-self-eq0 w ↦ (let p = w.if-self-eq0.true in inl (omega arith))
+            | then-self-eq0-via-else-self-eq0+then-place-self w ↦ (let p = w.if-place-self.true in inr (omega (arith, c.loop-left.invariant.place_within)))
+          ])
+          (c.spread.ensures i v l m) (λ r u p q. ap (λ (shown : List ℕ). half_dot (get_or shown r 0) u) c.of-shown.ensures ∙ c.joined.ensures.rows r u p q))
+          (c.loop-left.invariant.drawn i l) x m;
+      most = (let left = ap pieces_left c.in-Some.is in omega (arith, left, c.loop-left.invariant.counted, c.joined.ensures.most));
+      none = λ e. absurd (omega (arith, e, c.joined.ensures.some));
+    })

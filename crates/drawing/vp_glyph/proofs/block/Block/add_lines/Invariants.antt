@@ -1,6 +1,7 @@
-use Rattle.std.proofs.Common.{ℕ, ◌+◌, ◌-◌, ◌<◌, ◌≤◌, length, take}
-use Rattle.vp_glyph.specs.Blocks.{pieces, first, block_lines}
-use Rattle.vp_glyph.specs.Halves.{front_dot, AreEnds}
+use Rattle.std.proofs.Common.{ℕ, ◌≡◌, ◌*◌, false, ◌+◌, ◌-◌, ◌<◌, ◌≤◌, length, take}
+use Rattle.vp_glyph.specs.Blocks.{pieces, first, block_lines, line_pieces}
+use Rattle.vp_glyph.proofs.Handed.{pieces_left}
+use Rattle.vp_glyph.specs.Halves.{front_dot}
 use Rattle.vp_glyph.specs.Layouts.{layout_of, AreRowsOf}
 use Rattle.vp_glyph.proofs.Sheeted.{Drawn}
 use Rattle.vp_glyph.proofs.Stacks.{lines_left}
@@ -10,10 +11,12 @@ use Rattle.vp_glyph.proofs.block.Block.add_lines.Given as goal
 abbrev pub invariant-loop-left : goal.invariant-loop-left
 invariant-loop-left g l = record {
   place_within : l.place ≤ l.self.rows - 1;
-  rows_are : AreRowsOf (layout_of l.self) l.fn.at (take l.drawn.cells (first (pieces l.drawn.text.now))) l.rows;
-  ends_are : AreEnds l.rows l.ends;
+  kept_are : AreRowsOf (layout_of l.self) l.fn.at (take l.kept.line.cells (first (pieces l.kept.line.text.now))) l.kept.shown.rows;
+  other_are : AreRowsOf (layout_of l.self) l.fn.at (take l.other.line.cells (first (pieces l.other.line.text.now))) l.other.shown.rows;
   drawn : (i : ℕ) → i < g.row.N → Drawn l.self.sheet.now l.self.w l.self.h l.self.wide l.self.rows l.self.pitch l.self.alignment (l.top + i) l.fn.at 4 l.most (block_lines l.most l.self.text.now) l.place l.left
       (front_dot 16 l.groups l.fronts i);
+  counted : l.counter + 2 * pieces_left l.left ≤ 2 * line_pieces l.self.text.now;
+  none : l.counter ≡ 0 → (i x : ℕ) → front_dot 16 l.groups l.fronts i x ≡ false;
 }
 
 -- how many lines are left

@@ -6,5 +6,7 @@ use Rattle.vp_glyph.proofs.block.Block.add_rows.Goals as goal
 pub returns : goal.returns
 returns g c =
     let b = c.args.self.now in
-    rw (sym (to_z-of_z w64 c.args.at c.ranges.at))
-    (λ s x l m. line_first b.sheet.now b.w b.h b.wide b.rows b.pitch b.alignment _ c.args.line.cells _ b.stretch.width s x _ _ _ c.requires.cells c.indent-left.ensures b.drawn (c.add_cells.ensures s x l m))
+    rw (sym (to_z-of_z w64 c.args.at c.ranges.at)) (record {
+      added = λ s x l m. line_first b.sheet.now b.w b.h b.wide b.rows b.pitch b.alignment _ c.args.line.cells _ b.stretch.width s x _ _ _ c.requires.cells c.indent-left.ensures b.drawn (c.add_cells.ensures.added s x l m);
+      most = c.add_cells.ensures.most;
+    })

@@ -9,23 +9,36 @@ use Rattle.vp_glyph.proofs.Sheeted.{blackened}
 use Rattle.vp_glyph.proofs.block.Block.add_run.Goals as goal
 
 pub returns-then-to-eq-ROWS : goal.returns-then-to-eq-ROWS
-returns-then-to-eq-ROWS g c = λ k x l h.
+returns-then-to-eq-ROWS g c =
     let r = c.args.rows.now in
     let ink = λ (v : ℕ). line_dot (sheet_rows (layout_of c.args.self.now)) 0 (take c.args.line.cells (first (pieces c.args.line.text.now))) v c.args.s in
-    let wide : length (get_or r.down c.args.from []) ≡ 160 = search rules in
-    runs_down r.alone r.down r.up 32 k x l c.args.from c.args.to _ (shifted c.args.at ink x) c.if-to-eq-ROWS.true (search rules)
-    (rw (sym (to_z-of_z w64 c.args.at c.ranges.at)) (blackened (to_z w64 (of_z w64 c.args.at)) ink _ _ x (omega (arith, wide)) c.add_sheet_row.ensures))
+    record {
+      dots = λ k x l h.
+          let wide : length (get_or r.down c.args.from []) ≡ 160 = search rules in
+          runs_down r.alone r.down r.up 32 k x l c.args.from c.args.to _ (shifted c.args.at ink x) c.if-to-eq-ROWS.true (search rules)
+          (rw (sym (to_z-of_z w64 c.args.at c.ranges.at)) (blackened (to_z w64 (of_z w64 c.args.at)) ink _ _ x (omega (arith, wide)) c.add_sheet_row-painted.ensures.painted));
+      counted = omega (arith, c.saturating_add.ensures);
+      most = omega (arith, c.saturating_add.ensures, c.add_sheet_row-painted.ensures.most);
+    }
 
 pub returns-then-from-eq0 : goal.returns-then-from-eq0
-returns-then-from-eq0 g c = λ k x l h.
+returns-then-from-eq0 g c =
     let r = c.args.rows.now in
     let ink = λ (v : ℕ). line_dot (sheet_rows (layout_of c.args.self.now)) 0 (take c.args.line.cells (first (pieces c.args.line.text.now))) v c.args.s in
-    let wide : length (get_or r.up (32 - c.args.to) []) ≡ 160 = search rules in
-    runs_up r.alone r.down r.up 32 k x l c.args.from c.args.to _ (shifted c.args.at ink x) c.if-from-eq0.true c.requires.some c.requires.to (search rules)
-    (rw (sym (to_z-of_z w64 c.args.at c.ranges.at)) (blackened (to_z w64 (of_z w64 c.args.at)) ink _ _ x (omega (arith, wide)) c.add_sheet_row-then-from-eq0.ensures))
+    record {
+      dots = λ k x l h.
+          let wide : length (get_or r.up (32 - c.args.to) []) ≡ 160 = search rules in
+          runs_up r.alone r.down r.up 32 k x l c.args.from c.args.to _ (shifted c.args.at ink x) c.if-from-eq0.true c.requires.some c.requires.to (search rules)
+          (rw (sym (to_z-of_z w64 c.args.at c.ranges.at)) (blackened (to_z w64 (of_z w64 c.args.at)) ink _ _ x (omega (arith, wide)) c.add_sheet_row-painted-then-from-eq0.ensures.painted));
+      counted = omega (arith, c.saturating_add-then-from-eq0.ensures);
+      most = omega (arith, c.saturating_add-then-from-eq0.ensures, c.add_sheet_row-painted-then-from-eq0.ensures.most);
+    }
 
 pub returns : goal.returns
-returns g c = λ k x l h.
+returns g c =
     let r = c.args.rows.now in
-    rw (sym (to_z-of_z w64 c.args.at c.ranges.at)) (c.blacken.ensures k x l h
-    ∙ ap (λ v. run_dot r.alone r.down r.up 32 k x || (span c.args.from c.args.to k && v)) (c.sheet_row.ensures x h))
+    rw (sym (to_z-of_z w64 c.args.at c.ranges.at)) (record {
+      dots = λ k x l h. c.blacken.ensures k x l h ∙ ap (λ v. run_dot r.alone r.down r.up 32 k x || (span c.args.from c.args.to k && v)) (c.sheet_row.ensures.row x h);
+      counted = c.sheet_row.ensures.counted;
+      most = c.sheet_row.ensures.most;
+    })

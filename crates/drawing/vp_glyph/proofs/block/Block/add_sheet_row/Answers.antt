@@ -8,5 +8,7 @@ use Rattle.vp_glyph.proofs.block.Block.add_sheet_row.Goals as goal
 pub returns : goal.returns
 returns g c =
     let b = c.args.self.now in
-    rw (sym (to_z-of_z w64 c.args.at c.ranges.at))
-    (moved_same Black _ _ _ _ _ (λ v. line_sheet b.sheet.now b.w b.h b.wide b.rows b.pitch b.alignment c.args.line.cells _ b.stretch.width c.args.s v _ c.requires.cells c.indent-left.ensures b.drawn) c.paint_line.ensures)
+    rw (sym (to_z-of_z w64 c.args.at c.ranges.at)) (record {
+      painted = moved_same Black _ _ _ _ _ (λ v. line_sheet b.sheet.now b.w b.h b.wide b.rows b.pitch b.alignment c.args.line.cells _ b.stretch.width c.args.s v _ c.requires.cells c.indent-left.ensures b.drawn) c.paint_line.ensures.painted;
+      most = c.paint_line.ensures.most;
+    })

@@ -1,6 +1,7 @@
 use Rattle.std.proofs.Common.{arith, sym, w64, ◌+◌, ◌∙◌, ap}
 use Rattle.std.proofs.lemmas.Int.{to_z-of_z}
 use Rattle.vp_glyph.specs.Halves.{half_dot}
+use Rattle.vp_glyph.proofs.Handed.{seen_some, lines_fit}
 use Rattle.vp_glyph.proofs.Halves.{white_half}
 use Rattle.vp_glyph.proofs.Sheeted.{drawn_narrow}
 use Rattle.vp_glyph.proofs.Gathered.{no_front}
@@ -9,10 +10,18 @@ use Rattle.vp_glyph.proofs.block.Block.draw_fronts.Goals as goal
 pub returns-then-self : goal.returns-then-self
 returns-then-self g c =
     let b = c.args.self.now in
-    λ i x l m k. drawn_narrow b.sheet.now b.w b.h b.wide b.rows b.pitch b.alignment (c.args.top + i) c.args.at 4 b.text.now _ x c.if-self.true (ap (λ v. half_dot v x) (c.requires.white i) ∙ white_half x)
+    record {
+      drawn = λ i x l m k. drawn_narrow b.sheet.now b.w b.h b.wide b.rows b.pitch b.alignment (c.args.top + i) c.args.at 4 b.text.now _ x c.if-self.true (ap (λ v. half_dot v x) (c.requires.white i) ∙ white_half x);
+      most = omega arith;
+      some = λ i x l m t. seen_some _ _ (λ e. ap (λ v. half_dot v x) (c.requires.white i) ∙ white_half x) t;
+    }
 
-pub add_lines-requires : goal.add_lines-requires
-add_lines-requires g c = (omega (arith, c.requires.few), (omega arith, (c.requires.few, λ i x. no_front 80 _ i x (c.requires.white i))))
+pub add_lines-counter-requires : goal.add_lines-counter-requires
+add_lines-counter-requires g c = (omega (arith, c.requires.few), (omega arith, (c.requires.few, λ i x. no_front 80 _ i x (c.requires.white i))))
 
 pub returns : goal.returns
-returns g c = rw (sym (to_z-of_z w64 c.args.at c.ranges.at)) (λ i x l m k. c.settle.ensures i x l m ∙ c.add_lines.ensures i x l m k)
+returns g c = rw (sym (to_z-of_z w64 c.args.at c.ranges.at)) (record {
+  drawn = λ i x l m k. c.settle.ensures i x l m ∙ c.add_lines-counter.ensures.added i x l m k;
+  most = omega (arith, c.add_lines-counter.ensures.most, lines_fit c.args.self.now.text.now);
+  some = λ i x l m t. seen_some _ _ (λ e. c.settle.ensures i x l m ∙ c.add_lines-counter.ensures.none e i x) t;
+})

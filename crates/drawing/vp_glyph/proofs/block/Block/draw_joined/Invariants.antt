@@ -1,5 +1,5 @@
-use Rattle.std.proofs.Common.{◌/◌, ◌-◌, ◌*◌, ◌≤◌, min}
-use Rattle.vp_glyph.specs.Blocks.{lines_dot, block_lines}
+use Rattle.std.proofs.Common.{◌≡◌, ◌/◌, ◌+◌, ◌-◌, ◌*◌, ◌≤◌, min}
+use Rattle.vp_glyph.specs.Blocks.{lines_dot, block_lines, line_pieces}
 use Rattle.vp_glyph.specs.Layouts.{layout_of}
 use Rattle.vp_glyph.specs.Runs.{run_dot}
 use Rattle.vp_glyph.proofs.Sheeted.{Shown}
@@ -8,6 +8,10 @@ use Rattle.vp_glyph.proofs.block.Block.draw_joined.Given as goal
 -- the rows before k are drawn
 abbrev pub invariant-loop-k : goal.invariant-loop-k
 invariant-loop-k g l = record {
+  upto : l.k ≤ 32;
+  counted : l.fn.counter ≤ l.counter;
+  most : l.counter ≤ l.fn.counter + l.k * (2 * line_pieces l.text);
+  none : l.counter ≡ 0 → l.rows ≡ l.fn.rows;
   begun : min (l.place * l.self.pitch - l.top) 32 ≤ l.k;
   shown : Shown 32 160 l.top l.fn.at (λ v y. lines_dot (layout_of l.self) l.place (block_lines (l.self.wide / l.self.w) l.text) v y) l.k
       (λ k x. run_dot l.fn.rows.alone l.fn.rows.down l.fn.rows.up 32 k x) (λ k x. run_dot l.rows.alone l.rows.down l.rows.up 32 k x);

@@ -1,4 +1,5 @@
-use Rattle.std.proofs.Common.{refl, take, ◌+◌, ◌-◌, ◌*◌, ◌∙◌, min, ap, arith, sym, w64, to_z, of_z}
+use Rattle.std.proofs.Common.{refl, take, ◌≤◌, ◌+◌, ◌-◌, ◌*◌, ◌∙◌, min, ap, arith, sym, w64, to_z, of_z}
+use Rattle.std.proofs.Math.Nat.{mul-le-mul_right}
 use Rattle.std.proofs.lemmas.Int.{to_z-of_z}
 use Rattle.vp_glyph.specs.Blocks.{pieces, first, line_dot}
 use Rattle.vp_dots.specs.Dots.{shifted}
@@ -13,6 +14,9 @@ loop-k-init g c =
     let b = c.args.self.now in
     let line = (take c.args.line.cells (first (pieces c.args.line.text.now))) in
     record {
+      upto = omega (arith, c.rows_above-k.ensures);
+      counted = omega arith;
+      most = omega arith;
       begun = omega (arith, c.rows_above-k.ensures);
       shown = shown_none 32 160 c.args.top (c.args.place * b.pitch) b.h _ (λ v y. line_dot (layout_of b) c.args.place line v y) (λ v y. line_dot (sheet_rows (layout_of b)) 0 line v y)
           (λ v y. line_rows b.sheet.now b.w b.h b.wide b.rows b.pitch b.alignment c.args.place line v y) _ _ c.rows_above-k.ensures;
@@ -27,9 +31,12 @@ loop-k-preserved g c =
     let to = c.rows_above-to.ensures ∙ ap (λ e. min (c.args.place * b.pitch + e - c.args.top) 32) c.first_row.ensures.row in
     let more = rows_more 32 c.args.top (c.args.place * b.pitch) b.h c.loop-k.k _ _ (omega (arith, end)) (omega (arith, begun, end)) (omega (arith, begun, end)) c.source_row-s.ensures to in
     record {
+      upto = omega (arith, to);
+      counted = omega (arith, c.loop-k.invariant.counted, c.add_run.ensures.counted);
+      most = (let m : (c.loop-k.k + 1) * c.args.line.cells ≤ c.rows_above-to.result * c.args.line.cells = mul-le-mul_right c.args.line.cells (omega (arith, more)) in omega (arith, m, c.loop-k.invariant.most, c.add_run.ensures.most));
       begun = omega (arith, begun, more);
       shown = shown_more 32 160 c.args.top (c.args.place * b.pitch) b.h _ (λ v y. line_dot (layout_of b) c.args.place line v y) (λ v y. line_dot (sheet_rows (layout_of b)) 0 line v y)
-          (λ v y. line_rows b.sheet.now b.w b.h b.wide b.rows b.pitch b.alignment c.args.place line v y) c.loop-k.k _ _ _ _ _ (shifted (to_z w64 (of_z w64 c.args.at)) (λ v. line_dot (sheet_rows (layout_of b)) 0 line v c.source_row-s.result)) c.loop-k.invariant.shown (omega (arith, begun, end)) (omega (arith, begun, end)) c.source_row-s.ensures to c.add_run.ensures (λ x l. refl);
+          (λ v y. line_rows b.sheet.now b.w b.h b.wide b.rows b.pitch b.alignment c.args.place line v y) c.loop-k.k _ _ _ _ _ (shifted (to_z w64 (of_z w64 c.args.at)) (λ v. line_dot (sheet_rows (layout_of b)) 0 line v c.source_row-s.result)) c.loop-k.invariant.shown (omega (arith, begun, end)) (omega (arith, begun, end)) c.source_row-s.ensures to c.add_run.ensures.dots (λ x l. refl);
     }
 
 pub add_run-requires : goal.add_run-requires
@@ -68,3 +75,6 @@ returns-then-k-end-clause-dots g c =
     (λ v y. line_rows b.sheet.now b.w b.h b.wide b.rows b.pitch b.alignment c.args.place line v y) c.rows_above-k.result _ _ (omega (arith, c.rows_above-end.ensures))
     (shown_none 32 160 c.args.top (c.args.place * b.pitch) b.h _ (λ v y. line_dot (layout_of b) c.args.place line v y) (λ v y. line_dot (sheet_rows (layout_of b)) 0 line v y)
     (λ v y. line_rows b.sheet.now b.w b.h b.wide b.rows b.pitch b.alignment c.args.place line v y) _ _ c.rows_above-k.ensures))
+
+pub returns-clause-most : goal.returns-clause-most
+returns-clause-most g c = let m : c.loop-k.k * c.args.line.cells ≤ 32 * c.args.line.cells = mul-le-mul_right c.args.line.cells c.loop-k.invariant.upto in omega (arith, m, c.loop-k.invariant.most)

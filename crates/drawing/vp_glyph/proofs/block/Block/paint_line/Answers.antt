@@ -3,4 +3,7 @@ use Rattle.vp_glyph.proofs.Overlaid.{above_none}
 use Rattle.vp_glyph.proofs.block.Block.paint_line.Goals as goal
 
 pub returns-then-y-top : goal.returns-then-y-top
-returns-then-y-top g c = above_none _ _ _ _ c.args.self.now.rows _ _ _ _ _ c.args.place _ _ (omega arith)
+returns-then-y-top g c = record {
+  painted = above_none _ _ _ _ c.args.self.now.rows _ _ _ _ _ c.args.place _ _ (omega arith);
+  most = omega arith;
+}

@@ -33,7 +33,8 @@ loop-s-preserved c =
       within = c.in_half-to.ensures.within;
       from_is = to;
       added = λ r d l m. wide_more at c.args.left c.args.self.now.width (word_dot (get_or c.args.cell.now r 0)) c.loop-s.s c.loop-s.from c.in_half-to.result d _ _ _ (omega arith) (c.loop-s.invariant.from_is d m) (to d m)
-          (c.loop-s.invariant.added r d l m) (c.add_dot.ensures r d l m ∙ ap (λ t. half_dot (get_or c.loop-s.rows r 0) d || word_dot (get_or c.args.cell.now r 0) c.loop-s.s && t) (c.left_half.ensures d m ∙ c.mask.ensures d));
+          (c.loop-s.invariant.added r d l m) (c.add_dot.ensures r d l m ∙ ap (λ t. half_dot (get_or c.loop-s.rows r 0) d || t && half_dot c.left_half.result d) (c.halves_of-halves.ensures r c.loop-s.s l (omega arith))
+          ∙ ap (λ t. half_dot (get_or c.loop-s.rows r 0) d || word_dot (get_or c.args.cell.now r 0) c.loop-s.s && t) (c.left_half.ensures d m ∙ c.mask.ensures d));
     }
 
 pub returns-after-loop-s : goal.returns-after-loop-s

@@ -1,7 +1,0 @@
-use Rattle.std.proofs.Common.{sym, w64}
-use Rattle.std.proofs.lemmas.Int.{to_z-of_z}
-use Rattle.vp_glyph.proofs.Joining.{rows_white}
-use Rattle.vp_glyph.proofs.block.Block.redraw.Goals as goal
-
-pub returns-clause-rows : goal.returns-clause-rows
-returns-clause-rows g c = rw (sym (to_z-of_z w64 c.args.at c.ranges.at)) (λ s x l m. rows_white s x _ _ (c.add_rows.ensures s x l m))
