@@ -6,11 +6,10 @@ ghost use Rattle.vp_dots.specs.Painting.{Painted};
 ghost use Rattle.vp_dots.specs.Places.{RowsPainted};
 ghost use Rattle.vp_dots.specs.Words.{word_dot};
 ghost use Rattle.vp_dots.specs.declared.Op.TheVariants.{Black};
-ghost use Rattle.vp_glyph.specs.Blocks.{block_height, block_dot};
+ghost use Rattle.vp_glyph.specs.Blocks.{block_height, block_dot, block_pieces};
 ghost use Rattle.vp_glyph.specs.Halves.{half_dot};
 ghost use Rattle.vp_glyph.specs.Layouts.{layout_of};
 ghost use Rattle.vp_field.specs.Axes.{dot_on, laid, read_at, IsWithin};
-ghost use Rattle.vp_field.specs.Contents.{most_block_lines};
 ghost use Rattle.vp_field.specs.Places.{at_place};
 ghost use Rattle.vp_field.specs.declared.axis.Lines.TheVariants.{Across};
 ghost use Rattle.vp_field.specs.declared.block_columns.TheConstants.{COLUMNS, ROW_WORDS};
@@ -236,7 +235,7 @@ impl<A: Small> BlockColumns<'_, A> {
 }
 
 /// Paints a block of lines that lies across a band, whose first row is row `first` of the label: how many
-/// lines of ink it drew.
+/// lines of the text and cells of these it drew, and how many columns.
 pub fn paint_block_across<A: Small>(
     block: &Block<'_, A>,
     op: Op,
@@ -250,17 +249,17 @@ pub fn paint_block_across<A: Small>(
     ensures dots { RowsPainted BAND_ROWS op (λ x k. laid Across lying.columns lying.rows
         (λ u v. block_dot (layout_of block.now) block.now.text.now u v) (pos x) (pos (first + k))) band.old
         band.new }
-    ensures lines { result ≤ most_block_lines Across }
+    ensures lines { result ≤ 2 * block_pieces block.now.text.now + (2 * WIDEST + 8) }
     ensures counted { 0 < result }
 {
     let (_, height) = block.size();
     let top = lying.first_line(height, first);
     let at = drawn_at(lying.rows, first, 4);
     let mut fronts = [0u32; COLUMNS];
-    block.draw_fronts(top, at, &mut fronts);
+    let drew = u64::from(WIDEST) + block.draw_fronts(top, at, &mut fronts);
     if are_white(&fronts) {
         row_lengths(band);
-        return u64::from(WIDEST);
+        return drew;
     }
     let drawn = BlockColumns {
         block,
@@ -271,5 +270,5 @@ pub fn paint_block_across<A: Small>(
         at,
         fronts: &fronts,
     };
-    u64::from(WIDEST) + drawn.paint(op, band)
+    drew + drawn.paint(op, band)
 }

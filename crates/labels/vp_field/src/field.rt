@@ -4,7 +4,7 @@ ghost use Rattle.vp_dots.specs.Places.{RowsPainted};
 ghost use Rattle.vp_glyph.specs.Sheets.{Sheets as Given};
 ghost use Rattle.vp_format.specs.declared.field.Content.TheVariants as contents;
 ghost use Rattle.vp_field.specs.Axes.{lines_of};
-ghost use Rattle.vp_field.specs.Contents.{most_lines, most_work, LiesIn, IsText, IsTextBlock, IsSymbol};
+ghost use Rattle.vp_field.specs.Contents.{lines_cost, most_work, LiesIn, IsText, IsTextBlock, IsSymbol};
 ghost use Rattle.vp_field.specs.Standing.{IsNear};
 ghost use Rattle.vp_field.specs.Fields.{field_ink, stroke_of, IsDrawn, IsEncoded, IsKept, AreMarksOf};
 ghost use Rattle.vp_field.specs.Strokes.{Stroke};
@@ -32,7 +32,7 @@ use vp_label_size::{BAND_BYTES, LabelBand};
 use vp_qr::QrInk;
 use vp_zpl::item::Orientation;
 
-/// Paints a text: how many lines of ink it drew.
+/// Paints a text: how many lines of ink it drew, and pieces of them.
 fn paint_text<A: Small>(
     sheets: &Sheets<A>,
     stored: &[u8],
@@ -52,7 +52,7 @@ fn paint_text<A: Small>(
     paint_standing(&text, on, first, band)
 }
 
-/// Paints a block of lines: how many lines of ink it drew.
+/// Paints a block of lines: how many lines of ink it drew, and pieces of them.
 fn paint_block<A: Small>(
     sheets: &Sheets<A>,
     stored: &[u8],
@@ -73,15 +73,16 @@ fn paint_block<A: Small>(
     let laid = on.laid(&ink);
     let line = laid.first_line(height, first);
     let block = ink.from_row(line);
+    let walked = block.walked();
     if let Lines::Across = laid.lines {
-        return paint_block_across(&block, on.op, laid, first, band);
+        return walked + paint_block_across(&block, on.op, laid, first, band);
     }
     let rows = BlockRows { block };
     if !rows.lines_meet() {
-        return paint_standing(&rows, on, first, band);
+        return walked + paint_standing(&rows, on, first, band);
     }
     let drawn = BlockBand::new(rows, line, drawn_at(laid.columns, 0, BAND_BYTES));
-    paint_standing(&drawn, on, first, band)
+    walked + drawn.pieces() + paint_standing(&drawn, on, first, band)
 }
 
 /// Encodes a linear symbol where no earlier band left it: there is none where the data have none.
@@ -99,7 +100,7 @@ fn encode(stored: &[u8], bars: BarSymbol, marks: &mut Marks)
     }
 }
 
-/// Paints a linear symbol and its text, nothing where the data have none: how many lines of ink it drew.
+/// Paints a linear symbol and its text, nothing where the data have none: how many lines of ink it drew, and pieces of them.
 fn paint_bars<A: Small>(
     sheets: &Sheets<A>,
     stored: &[u8],
@@ -155,7 +156,7 @@ fn drawn_symbol(stored: &[u8], symbol: QrSymbol, marks: &mut Marks) -> QrInk
     ink
 }
 
-/// Paints a QR symbol: how many lines of ink it drew.
+/// Paints a QR symbol: how many lines of ink it drew, and pieces of them.
 fn paint_qr<A: Small>(
     stored: &[u8],
     symbol: QrSymbol,
@@ -170,7 +171,7 @@ fn paint_qr<A: Small>(
     ensures marks { AreMarksOf stored.now (contents.Qr symbol) marks.new }
     ensures dots { (sheets : Given) → RowsPainted BAND_ROWS on.op
         (drawn sheets stored.now (contents.Qr symbol) on first) band.old band.new }
-    ensures lines { result ≤ most_lines (lines_of on.orientation) }
+    ensures lines { result ≤ lines_cost (lines_of on.orientation) (λ d. 1) }
     ensures counted { (sheets : Given) →
         IsCounted (drawn sheets stored.now (contents.Qr symbol) on first) result }
 {

@@ -6,6 +6,7 @@ ghost use Rattle.vp_dots.specs.Words.{word_dot};
 ghost use Rattle.vp_field.specs.declared.frame.TheConstants.{WORD};
 ghost use Rattle.vp_field.specs.Frames.{frame_dot, frame_inside};
 
+use crate::pieces::Pieces;
 use vp_dots::{Ink, Op, fill_moved, first_dots, paint_word};
 use vp_format::GraphicBox;
 
@@ -129,5 +130,14 @@ impl Ink for Frame {
         }
         paint_side(op, at, 0, self.t, row);
         paint_side(op, at, self.w.saturating_sub(self.t), self.t, row);
+    }
+}
+
+impl Pieces for Frame {
+    ghost most_pieces = { λ s d. 1 };
+
+    fn paint_pieces(&self, y: u32, op: Op, at: i64, row: &mut [u8]) -> u64 {
+        self.paint_row(y, op, at, row);
+        1
     }
 }
