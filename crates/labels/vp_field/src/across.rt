@@ -68,7 +68,7 @@ fn halves_of<I: Pieces>(
         ≡ (nat_lt (x + i) end && laid Across columns rows (I.ink_at pen.old.ink.now) (pos (x + i))
         (pos (first + k))) }
     ensures ink { pen.new.ink ≡ pen.old.ink }
-    ensures within { ArePieces (I.most_pieces pen.old.ink.now BAND_ROWS) pen.new.lines pen.new.pieces }
+    ensures within { ArePieces (I.most_pieces pen.new.ink.now BAND_ROWS) pen.new.lines pen.new.pieces }
     ensures few { pen.new.lines ≤ pen.old.lines + SIDE }
     ensures lines { pen.new.lines ≤ pen.old.lines + (end - x) }
     ensures more { pen.old.lines ≤ pen.new.lines }
@@ -129,7 +129,7 @@ fn paint_columns<I: Pieces, A: Small>(
         && (nat_lt d end && laid Across columns rows (I.ink_at pen.old.ink.now) (pos d) (pos (first + k))))
         band.old band.new }
     ensures ink { pen.new.ink ≡ pen.old.ink }
-    ensures within { ArePieces (I.most_pieces pen.old.ink.now BAND_ROWS) pen.new.lines pen.new.pieces }
+    ensures within { ArePieces (I.most_pieces pen.new.ink.now BAND_ROWS) pen.new.lines pen.new.pieces }
     ensures counted { pen.old.lines < pen.new.lines }
     ensures few { pen.new.lines ≤ pen.old.lines + result }
     ensures lines { pen.new.lines ≤ pen.old.lines + (end - x) }
@@ -162,7 +162,7 @@ pub fn paint_across<I: Pieces, A: Small>(
 ) -> u64
     requires fresh { ink.lines ≡ 0 }
     requires whole { ink.pieces ≡ 0 }
-    requires few { I.most_pieces ink.entry.ink.now BAND_ROWS ≤ 2 ^ 40 }
+    requires few { I.most_pieces ink.ink.now BAND_ROWS ≤ 2 ^ 40 }
     requires columns { IsWithin (2 ^ 41) columns }
     requires rows { IsWithin (2 ^ 41) rows }
     ensures dots { RowsPainted BAND_ROWS op (λ x k. laid Across columns rows (I.ink_at ink.entry.ink.now)

@@ -1,5 +1,5 @@
 //! Blocks of lines whose rows fall on columns: many of them drawn at once, and laid 64 by 64.
-ghost use Rattle.std.specs.Prelude.{◌≡◌, ℕ, ◌+◌, ◌-◌, ◌*◌, ◌<◌, ◌≤◌, ◌^◌, nat_le, ◌&&◌, Bool, pos, slice_index, slice_index_or, [], MatchOption, IfSome};
+ghost use Rattle.std.specs.Prelude.{◌≡◌, ℕ, ◌+◌, ◌-◌, ◌*◌, ◌<◌, ◌≤◌, ◌^◌, nat_le, ◌&&◌, Bool, pos, slice_index, slice_index_or, [], length, MatchOption, IfSome};
 ghost use Rattle.vp_dots.specs.Dots.{dot, dots, shifted, span};
 ghost use Rattle.vp_dots.specs.declared.square.TheConstants.{SIDE};
 ghost use Rattle.vp_dots.specs.Painting.{Painted};
@@ -246,6 +246,7 @@ pub fn paint_block_across<A: Small>(
     requires lines { lying.lines ≡ Across }
     requires columns { IsWithin (2 ^ 41) lying.columns }
     requires rows { IsWithin (2 ^ 41) lying.rows }
+    requires few { length block.now.text.now < 2 ^ 32 }
     ensures dots { RowsPainted BAND_ROWS op (λ x k. laid Across lying.columns lying.rows
         (λ u v. block_dot (layout_of block.now) block.now.text.now u v) (pos x) (pos (first + k))) band.old
         band.new }

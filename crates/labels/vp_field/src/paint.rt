@@ -1,5 +1,5 @@
 //! Ink painted on a band of a label: along its rows here.
-ghost use Rattle.std.specs.Prelude.{◌≡◌, ℕ, ◌+◌, ◌^◌, ◌<◌, ◌≤◌, ◌&&◌, [], false, pos, length, slice_index_or, option_map, unwrap_or};
+ghost use Rattle.std.specs.Prelude.{◌≡◌, ℕ, ◌+◌, ◌*◌, ◌^◌, ◌<◌, ◌≤◌, ◌&&◌, [], false, pos, length, slice_index_or, option_map, unwrap_or};
 ghost use Rattle.vp_dots.specs.Dots.{span};
 ghost use Rattle.vp_dots.specs.Places.{RowsPainted};
 ghost use Rattle.vp_field.specs.Places.{at_place};
@@ -43,7 +43,7 @@ fn paint_alike<I: Pieces, A: Small>(
         pen.old.pieces }
     ensures ink { pen.new.ink ≡ pen.old.ink }
     ensures counted { pen.new.lines ≡ pen.old.lines + 1 }
-    ensures within { ArePieces (I.most_pieces pen.old.ink.now (8 * BAND_BYTES)) pen.new.lines
+    ensures within { ArePieces (I.most_pieces pen.new.ink.now (8 * BAND_BYTES)) pen.new.lines
         pen.new.pieces }
     ensures painted { RowsPainted BAND_ROWS op (λ x r. span k (k + shown.places) r && unwrap_or (option_map
         (λ v. at_place (λ u. I.ink_at pen.old.ink.now u v) (dot_on columns (pos x))) shown.line) false)
@@ -70,7 +70,7 @@ fn paint_along<I: Pieces, A: Small>(
 ) -> u64
     requires fresh { ink.lines ≡ 0 }
     requires whole { ink.pieces ≡ 0 }
-    requires few { I.most_pieces ink.entry.ink.now (8 * BAND_BYTES) ≤ 2 ^ 40 }
+    requires few { I.most_pieces ink.ink.now (8 * BAND_BYTES) ≤ 2 ^ 40 }
     requires near { IsWithin (2 ^ 41) columns }
     ensures dots { RowsPainted BAND_ROWS op (λ x k. laid Along columns rows (I.ink_at ink.entry.ink.now)
         (pos x) (pos (first + k))) band.old band.new }

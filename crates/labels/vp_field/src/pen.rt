@@ -113,7 +113,7 @@ impl<'a, I: Pieces, const BYTES: usize> Pen<'a, I, BYTES> {
             self.old.pieces }
         ensures ink { self.new.ink ≡ self.old.ink }
         ensures counted { self.new.lines ≡ self.old.lines + 1 }
-        ensures within { ArePieces (I.most_pieces self.old.ink.now (8 * BYTES)) self.new.lines
+        ensures within { ArePieces (I.most_pieces self.new.ink.now (8 * BYTES)) self.new.lines
             self.new.pieces }
         ensures some { (p : ℕ) → p < 8 * BYTES → dot result p ≡ true → self.old.pieces < self.new.pieces }
         ensures dots { (p : ℕ) → p < 8 * BYTES → dot result p ≡ unwrap_or (option_map
@@ -140,7 +140,7 @@ impl<'a, I: Pieces, const BYTES: usize> Pen<'a, I, BYTES> {
             self.old.pieces }
         ensures ink { self.new.ink ≡ self.old.ink }
         ensures counted { self.new.lines ≡ self.old.lines + 1 }
-        ensures within { ArePieces (I.most_pieces self.old.ink.now (8 * BYTES)) self.new.lines
+        ensures within { ArePieces (I.most_pieces self.new.ink.now (8 * BYTES)) self.new.lines
             self.new.pieces }
         ensures some { (p : ℕ) → p < 8 * BAND_BYTES → unwrap_or (option_map
             (λ v. at_place (λ u. I.ink_at self.old.ink.now u v) (dot_on dots (pos p))) shown.line) false ≡ true
