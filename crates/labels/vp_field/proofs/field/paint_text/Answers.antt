@@ -14,7 +14,6 @@ cells_less stored t d = omega (arith, length-take t.bytes.len (drop t.bytes.star
 cells_few : (stored : List ℕ) (t : Text) → IsText stored t → (d : ℕ) → seen_cells (length (bytes_of stored t.bytes)) t.width d ≤ 2 ^ 40
 cells_few stored t kept d = omega (arith, length-take t.bytes.len (drop t.bytes.start stored), kept.bytes.few)
 
-
 pub returns-clause-dots : goal.returns-clause-dots
 returns-clause-dots g c =
     let t = c.cells-text.ensures in
