@@ -45,7 +45,7 @@ started sheets held view b t before = begun sheets held view (record t { carried
 pub painted_on : (sheets : Sheets) (held : Held) (view : View) (b : ℕ) (t : Threaded) (links : List (Option ℕ)) (marks : List Marks) (carried : Option ℕ) (looks work : ℕ) → IsBefore sheets held view b t
     → IsThreaded t.entries links (b + 1) carried → AreMarked held t.entries marks (b + 1) 0 (length t.entries)
     → t.looks + meeting sheets held.stored view held.fields b ≤ looks → looks ≤ t.looks + 1 + 2 * meeting sheets held.stored view held.fields b
-    → work ≤ t.work + band_work sheets held.stored view held.fields b → t.work + showing sheets held.stored view held.fields b ≤ work → work ≤ t.work + 2 ^ 30
+    → work ≤ t.work + band_work sheets held.stored view held.fields b → t.work + showing sheets held.stored view held.fields b ≤ work → work ≤ t.work + 2 ^ 37
     → IsBefore sheets held view (b + 1) (record t { links = links; marks = marks; carried = carried; looks = looks; work = work })
 painted_on sheets held view b t links marks carried looks work before threaded marked least most took shown few =
     let more = pairs_more sheets held.stored view held.fields b in

@@ -6,14 +6,8 @@ use Rattle.std.proofs.lemmas.List.{map-id}
 use Rattle.std.proofs.lemmas.List.FromFn.{sum_by-map-range_with_len_more}
 use Rattle.std.proofs.lemmas.List.Sums.{sum_by-append, sum_by-cons}
 use Rattle.vp_glyph.specs.Sheets.{Sheets}
-use Rattle.vp_format.specs.declared.field.Content.{Content}
-use Rattle.vp_format.specs.declared.field.Content.TheVariants as contents
 use Rattle.vp_format.specs.declared.field.Field.{Field}
-use Rattle.vp_zpl.specs.declared.item.Orientation.{Orientation}
-use Rattle.vp_field.specs.Axes.{lines_of}
-use Rattle.vp_field.specs.Contents.{most_lines, most_block_lines, most_work, IsStored}
-use Rattle.vp_field.specs.declared.axis.Lines.{Lines}
-use Rattle.vp_field.specs.declared.axis.Lines.TheVariants.{Along, Across}
+use Rattle.vp_field.specs.Contents.{most_work}
 use Rattle.vp_field.specs.declared.view.View.{View}
 use Rattle.vp_bands.specs.Meeting.{band_work, copy_work, bands_of}
 use Rattle.vp_bands.specs.Laws.{WorkBounded}
@@ -22,24 +16,6 @@ use Rattle.vp_bands.proofs.Painted.{passes_next, NoneOf}
 -- the most that painting a field takes
 abbrev pub field_work : Field → ℕ
 field_work f = most_work f.orientation f.content
-
--- the lines that are drawn on a band are few
-few_lines : (l : Lines) → most_lines l ≤ 2 ^ 20
-few_lines Along = omega arith
-few_lines Across = omega arith
-
-few_block_lines : (l : Lines) → most_block_lines l ≤ 2 ^ 20
-few_block_lines Along = omega arith
-few_block_lines Across = omega arith
-
--- a format's bytes are few
-pub few_work : (stored : List ℕ) (o : Orientation) (c : Content) → IsStored stored c → most_work o c ≤ 2 ^ 20
-few_work stored o (contents.Text t) kept = few_lines (lines_of o)
-few_work stored o (contents.Block b) kept = few_block_lines (lines_of o)
-few_work stored o (contents.Box b) kept = omega arith
-few_work stored o (contents.Picture p) kept = omega (arith, kept.codes.few)
-few_work stored o (contents.Bars b) kept = few_lines (lines_of o)
-few_work stored o (contents.Qr q) kept = omega arith
 
 -- one more field that meets the band
 pub work_more : (p : Field → Bool) (fields : List Field) (seen n : ℕ) (f : Field) → seen ≤ n → n < length fields → NoneOf p fields seen n → get_or fields n f ≡ f → p f ≡ true

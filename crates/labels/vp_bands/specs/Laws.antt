@@ -2,7 +2,7 @@
 use Rattle.std.specs.Prelude.{◌≡◌, ◌↔◌, ◌<◌, ◌≤◌, ℕ, ◌+◌, ◌*◌, ◌/◌, ℤ, pos, ◌+ℤ◌, ◌≤ℤ◌, ◌<ℤ◌, true, false, List, sum_by}
 use Rattle.vp_glyph.specs.Sheets.{Sheets}
 use Rattle.vp_format.specs.declared.field.Content.{Content}
-use Rattle.vp_format.specs.declared.field.Content.TheVariants.{Picture}
+use Rattle.vp_format.specs.declared.field.Content.TheVariants.{Text, Block, Picture}
 use Rattle.vp_format.specs.declared.field.Field.{Field}
 use Rattle.vp_format.specs.declared.format.TheConstants.{STORED}
 use Rattle.vp_format.specs.Formats.{Held}
@@ -50,14 +50,25 @@ abbrev pub code_bytes : Content → ℕ
 code_bytes (Picture p) = p.codes.len
 code_bytes _ = 0
 
--- in a band a field takes at most 34, or 2,504 where its lines lie across the rows, and twice the bytes of
--- its codes, which are no more than a format has room for; so a copy takes at most 2,504 for each pair of a
--- field and a band that it meets, and in each band twice the bytes of all codes
+-- the bytes of a text, which may stand in a block: other contents have none
+abbrev pub text_bytes : Content → ℕ
+text_bytes (Text t) = t.bytes.len
+text_bytes (Block b) = b.text.bytes.len
+text_bytes _ = 0
+
+-- in a band a field takes at most 16,416, or 43,960 where its lines lie across the rows, and with that 262 times
+-- the bytes of its text and twice those of its codes, which are no more than a format has room for; so a copy
+-- takes at most 43,960 for each pair of a field and a band that it meets, and in each band 262 times the bytes
+-- of all texts and twice those of all codes
 pub record CostsAtMost : Type 0 where
   pub along : (o : Orientation) (c : Content) → lines_of (orientation_of o c) ≡ Along
-      → most_work o c ≤ BAND_ROWS + 2 + 2 * code_bytes c
-  pub field : (o : Orientation) (c : Content) → most_work o c ≤ 2 * WIDEST + 8 + 2 * code_bytes c
+      → most_work o c ≤ BAND_ROWS * (1 + 512) + 262 * text_bytes c + 2 * code_bytes c
+  pub field : (o : Orientation) (c : Content)
+      → most_work o c ≤ (WIDEST + 8) * (1 + (BAND_ROWS + 2)) + 262 * text_bytes c + 2 * code_bytes c
   pub codes : (stored : List ℕ) (f : Field) → IsKept stored f → code_bytes f.content ≤ STORED
+  pub texts : (stored : List ℕ) (f : Field) → IsKept stored f → text_bytes f.content ≤ STORED
   pub copy : (sheets : Sheets) (stored : List ℕ) (view : View) (fields : List Field) (n : ℕ)
-      → copy_work sheets stored view fields n ≤ (2 * WIDEST + 8) * pairs sheets stored view fields n
+      → copy_work sheets stored view fields n
+      ≤ (WIDEST + 8) * (1 + (BAND_ROWS + 2)) * pairs sheets stored view fields n
+      + 262 * (n * sum_by (λ f. text_bytes f.content) fields)
       + 2 * (n * sum_by (λ f. code_bytes f.content) fields)

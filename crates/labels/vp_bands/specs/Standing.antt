@@ -98,4 +98,4 @@ pub record IsBefore (sheets : Sheets) (held : Held) (view : View) (b : ℕ) (t :
   pub at_most : t.looks ≤ b + 2 * pairs sheets held.stored view held.fields b
   pub work : t.work ≤ copy_work sheets held.stored view held.fields b
   pub shown : shown_pairs sheets held.stored view held.fields b ≤ t.work
-  pub countable : t.work ≤ 2 ^ 30 * b
+  pub countable : t.work ≤ 2 ^ 37 * b

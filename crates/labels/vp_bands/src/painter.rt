@@ -156,7 +156,8 @@ impl<A: Small> BandPainter<A> {
     }
 
     /// What painting took since the copy's start: how many bytes of pictures' codes were read, how many of
-    /// their rows passed or painted, and how many lines of ink drawn for all other fields.
+    /// their rows passed or painted, and how many lines of ink drawn for all other fields, and cells and
+    /// characters of these.
     pub fn work(&self) -> u64
         ensures { result ≡ self.now.work }
     {

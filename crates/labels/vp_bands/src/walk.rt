@@ -41,7 +41,7 @@ fn paint_met<A: Small>(
     ensures work { result ≤ most_work field.now.orientation field.now.content }
     ensures counted { IsCounted (λ x k. field_ink sheets.now format.now.stored field.now
         (seen_x view (pos x)) (seen_y view (pos (first + k)))) result }
-    ensures countable { result ≤ 2 ^ 20 }
+    ensures countable { result ≤ 2 ^ 27 }
 {
     if begins {
         *marks = Marks::none();
@@ -85,7 +85,7 @@ pub fn paint_band<A: Small>(
         + 2 * meeting sheets.now format.now.stored view format.now.fields b }
     ensures work { result ≤ band_work sheets.now format.now.stored view format.now.fields b }
     ensures shown { showing sheets.now format.now.stored view format.now.fields b ≤ result }
-    ensures countable { result ≤ 2 ^ 30 }
+    ensures countable { result ≤ 2 ^ 37 }
 {
     let first = BAND_ROWS as u32 * b as u32;
     clear(view, first, band);

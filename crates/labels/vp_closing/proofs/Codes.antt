@@ -1,5 +1,5 @@
--- The codes of a content that is closed are bytes that were stored for it.
-use Rattle.std.proofs.Common.{◌≡◌, ◌≤◌, ℕ, ◌-◌, Bool, true, false, Option, Some, None, Result, Ok, Err, List, length, refl, arith}
+-- The text of a content that is closed, or its codes, are bytes that were stored for it.
+use Rattle.std.proofs.Common.{◌≤◌, ℕ, ◌-◌, Bool, true, false, Option, Some, None, Result, Ok, Err, List, length, arith}
 use Rattle.vp_dots.specs.declared.fault.Fault.{Fault}
 use Rattle.vp_bars.specs.Symbols.{Linear}
 use Rattle.vp_qr_field.specs.declared.front.QrFront.{QrFront}
@@ -23,38 +23,40 @@ use Rattle.vp_closing.specs.Graphics.{has_refused, picture_with, picture_unless}
 use Rattle.vp_closing.specs.Symbols.{bars_if, qr_of, qr_unless}
 use Rattle.vp_closing.specs.Texts.{text_content}
 
--- how many bytes its codes have
-abbrev pub code_len : Content → ℕ
-code_len (contents.Picture p) = p.codes.len
-code_len _ = 0
+-- how many bytes its text has, or its codes
+abbrev pub data_len : Content → ℕ
+data_len (contents.Text t) = t.bytes.len
+data_len (contents.Block b) = b.text.bytes.len
+data_len (contents.Picture p) = p.codes.len
+data_len _ = 0
 
-abbrev pub codes_in : Result Content Fault → ℕ
-codes_in (Ok content) = code_len content
-codes_in (Err why) = 0
+abbrev pub data_in : Result Content Fault → ℕ
+data_in (Ok content) = data_len content
+data_in (Err why) = 0
 
-text_none : (t : Text) (b : Option FieldBlock) → code_len (text_content t b) ≡ 0
-text_none t None = refl
-text_none t (Some b) = refl
+text_few : (t : Text) (b : Option FieldBlock) → data_len (text_content t b) ≤ t.bytes.len
+text_few t None = omega arith
+text_few t (Some b) = omega arith
 
-bars_none : (r : Result Linear Fault) (b : BarSymbol) → codes_in (bars_if r b) ≡ 0
-bars_none (Ok symbol) b = refl
-bars_none (Err why) b = refl
+bars_few : (r : Result Linear Fault) (b : BarSymbol) (n : ℕ) → data_in (bars_if r b) ≤ n
+bars_few (Ok symbol) b n = omega arith
+bars_few (Err why) b n = omega arith
 
-unless_none : (o : Option Fault) (q : QrSymbol) → codes_in (qr_unless o q) ≡ 0
-unless_none None q = refl
-unless_none (Some why) q = refl
+unless_few : (o : Option Fault) (q : QrSymbol) (n : ℕ) → data_in (qr_unless o q) ≤ n
+unless_few None q n = omega arith
+unless_few (Some why) q n = omega arith
 
-qr_none : (bytes : List ℕ) (dots : ℕ) (span : Span) (r : Result QrFront Fault) → codes_in (qr_of bytes dots span r) ≡ 0
-qr_none bytes dots span (Ok front) = unless_none _ _
-qr_none bytes dots span (Err why) = refl
+qr_few : (bytes : List ℕ) (dots : ℕ) (span : Span) (r : Result QrFront Fault) (n : ℕ) → data_in (qr_of bytes dots span r) ≤ n
+qr_few bytes dots span (Ok front) n = unless_few _ _ n
+qr_few bytes dots span (Err why) n = omega arith
 
-data_none : (bytes : List ℕ) (s : Settings) (p : FieldParts) (choice : Option SymbolChoice) (span : Span) → codes_in (data_content bytes s p choice span) ≡ 0
-data_none bytes s p None span = text_none _ p.block
-data_none bytes s p (Some (Bars b)) span = bars_none _ _
-data_none bytes s p (Some NotDrawn) span = refl
-data_none bytes s p (Some (Qr model dots)) span = qr_none bytes dots span _
+data_few : (bytes : List ℕ) (s : Settings) (p : FieldParts) (choice : Option SymbolChoice) (span : Span) → data_in (data_content bytes s p choice span) ≤ span.len
+data_few bytes s p None span = text_few _ p.block
+data_few bytes s p (Some (Bars b)) span = bars_few _ _ span.len
+data_few bytes s p (Some NotDrawn) span = omega arith
+data_few bytes s p (Some (Qr model dots)) span = qr_few bytes dots span _ span.len
 
-picture_few : (b : Bool) (p : Picture) → codes_in (picture_unless b p) ≤ p.codes.len
+picture_few : (b : Bool) (p : Picture) → data_in (picture_unless b p) ≤ p.codes.len
 picture_few true p = omega arith
 picture_few false p = omega arith
 
@@ -64,8 +66,8 @@ begin_of (opened.Data start) len = start
 begin_of (opened.Frame b colour) len = len
 begin_of (opened.Picture head start) len = start
 
-pub closed_codes : (bytes : List ℕ) (s : Settings) (p : FieldParts) (o : OpenContent) → codes_in (content_of bytes s p o) ≤ length bytes - begin_of o (length bytes)
-closed_codes bytes s p (opened.Data start) = omega (arith, data_none bytes s p p.symbol (bytes_from bytes start))
-closed_codes bytes s p (opened.Frame b colour) = omega arith
-closed_codes bytes s p (opened.Picture head start) =
+pub closed_data : (bytes : List ℕ) (s : Settings) (p : FieldParts) (o : OpenContent) → data_in (content_of bytes s p o) ≤ length bytes - begin_of o (length bytes)
+closed_data bytes s p (opened.Data start) = data_few bytes s p p.symbol (bytes_from bytes start)
+closed_data bytes s p (opened.Frame b colour) = omega arith
+closed_data bytes s p (opened.Picture head start) =
     let kept = picture_with head (bytes_from bytes start) in picture_few (has_refused (picture_of bytes kept)) kept

@@ -2,6 +2,7 @@ pub mod Places
 pub mod Turns
 pub mod OnWhite
 pub mod Columns
+pub mod Counts
 pub mod Alike
 pub mod Framed
 pub mod Alone

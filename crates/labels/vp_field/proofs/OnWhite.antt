@@ -19,24 +19,16 @@ black_alone true = refl
 black_alone false = refl
 
 -- a line painted on white
-pub on_white : (n : ℕ) (at : ℤ) (f : ℕ → Bool) (new : List ℕ) → Painted Black (shifted at f) (replicate n 0) new → (p : ℕ) → p < 8 * n → dot new p ≡ at_place f (pos p -ℤ at)
+pub on_white : (n : ℕ) (at : ℤ) (f : ℕ → Bool) (new : List ℕ) → Painted Black (shifted at f) (replicate n 0) new → (p : ℕ) → p < 8 * n → dot new p ≡ shifted at f p
 on_white n at f new q p h =
     let long : length (replicate {A = ℕ} n 0) ≡ n = length-replicate {A = ℕ} n 0 in
     let inside : p < 8 * length (replicate {A = ℕ} n 0) = omega (arith, long) in
-    q.dots_are p inside ∙ rw (dot_white n p (omega arith)) (black_alone (shifted at f p)) ∙ shifted_at at f p
+    q.dots_are p inside ∙ rw (dot_white n p (omega arith)) (black_alone (shifted at f p))
 
--- read forwards from a place of the label
-pub forwards : (n from : ℕ) (at off : ℤ) (f : ℕ → Bool) (new : List ℕ) → off ≡ at -ℤ pos from → Painted Black (shifted off f) (replicate n 0) new
-    → (p : ℕ) → p < 8 * n → dot new p ≡ at_place f (pos (from + p) -ℤ at)
-forwards n from at off f new e q p h =
-    on_white n off f new q p h ∙ ap (at_place f) (let s : pos p -ℤ off ≡ pos (from + p) -ℤ at = omega (arith, ints) in s)
-
--- read backwards
-pub backwards : (n from : ℕ) (at off : ℤ) (f : ℕ → Bool) (line new : List ℕ) → off ≡ pos from -ℤ pos 1 -ℤ at -ℤ neg_ℤ (pos (8 * n)) → Painted Black (shifted off f) (replicate n 0) line
-    → ((d : ℕ) → dot new d ≡ (ltb d (8 * length line) && dot line (8 * length line - 1 - d)))
-    → (p : ℕ) → p < 8 * n → dot new p ≡ at_place f (at -ℤ pos (from + p))
-backwards n from at off f line new e q t p h =
-    let long : length line ≡ n = q.length_is ∙ length-replicate {A = ℕ} n 0 in
+-- and read from its end
+pub turned : (n : ℕ) (old line new : List ℕ) → length line ≡ length old → length old ≡ n → ((d : ℕ) → dot new d ≡ (ltb d (8 * length line) && dot line (8 * length line - 1 - d)))
+    → (p : ℕ) → p < 8 * n → dot new p ≡ dot line (8 * n - 1 - p)
+turned n old line new e k t p h =
+    let long : length line ≡ n = e ∙ k in
     let inside : p < 8 * length line = omega (arith, long) in
-    t p ∙ rw (lt-ltb p (8 * length line) inside) (on_white n off f line q (8 * length line - 1 - p) (omega (arith, long))
-    ∙ ap (at_place f) (let s : pos (8 * length line - 1 - p) -ℤ off ≡ at -ℤ pos (from + p) = omega (arith, ints, long) in s))
+    t p ∙ rw (lt-ltb p (8 * length line) inside) (ap (λ m. dot line (8 * m - 1 - p)) long)

@@ -4,12 +4,13 @@ use Rattle.vp_dots.specs.Dots.{bit}
 use Rattle.vp_dots.specs.declared.fault.Fault.{Fault}
 use Rattle.vp_glyph.specs.Sheets.{Sheets}
 use Rattle.vp_glyph.specs.declared.cell.Font.TheVariants.{A}
-use Rattle.vp_glyph.specs.Texts.{text_dot}
+use Rattle.vp_glyph.specs.Texts.{text_dot, seen_cells}
+use Rattle.vp_glyph.specs.declared.runs.TheConstants.{ROWS}
 use Rattle.vp_glyph.specs.Blocks.{BlockLayout, block_width, block_height, block_dot, pitch}
 use Rattle.vp_bar_code.specs.declared.HriPosition.{HriPosition}
 use Rattle.vp_bars.specs.Symbols.{Linear}
 use Rattle.vp_bars.specs.Symbologies.{symbol_of}
-use Rattle.vp_bars.specs.Boxes.{Boxed, box_width, box_height, box_dot}
+use Rattle.vp_bars.specs.Boxes.{Boxed, box_width, box_height, box_dot, box_pieces}
 use Rattle.vp_qr.specs.declared.level.Level.{Level}
 use Rattle.vp_qr.specs.declared.segment.Mode.{Mode}
 use Rattle.vp_qr.specs.Encoding.{refusal, version_of, mask_of, symbol_module}
@@ -30,7 +31,7 @@ use Rattle.vp_field.specs.Frames.{frame_dot}
 use Rattle.vp_field.specs.Axes.{lines_of}
 use Rattle.vp_field.specs.declared.axis.Lines.{Lines}
 use Rattle.vp_field.specs.declared.axis.Lines.TheVariants.{Along, Across}
-use Rattle.vp_label_size.specs.declared.TheConstants.{BAND_ROWS, WIDEST}
+use Rattle.vp_label_size.specs.declared.TheConstants.{BAND_BYTES, BAND_ROWS, WIDEST}
 
 -- the bytes that a span names among the stored ones
 abbrev pub bytes_of : List ℕ → Span → List ℕ
@@ -188,18 +189,31 @@ abbrev pub most_lines : Lines → ℕ
 most_lines Along = BAND_ROWS
 most_lines Across = WIDEST + 8
 
--- a block that lies across is drawn at once on all columns, and then laid on them
-abbrev pub most_block_lines : Lines → ℕ
-most_block_lines Along = BAND_ROWS
-most_block_lines Across = 2 * WIDEST + 8
+-- of how many dots a line can be seen on a band
+abbrev pub seen_dots : Lines → ℕ
+seen_dots Along = 8 * BAND_BYTES
+seen_dots Across = BAND_ROWS
+
+-- what lines take on a band at most that have so many pieces where so many dots can be seen: each counts once,
+-- and each of its pieces
+abbrev pub lines_cost : Lines → (ℕ → ℕ) → ℕ
+lines_cost lines pieces = most_lines lines * (1 + pieces (seen_dots lines))
+
+-- and a block whose text has so many lines and cells. Those above the band are passed once. Along the rows of
+-- the band, the others are walked and painted for each row; where they meet, first for all rows, once for each
+-- row of the sheet. Across, they are walked and drawn once for all columns, which are then laid
+abbrev pub block_cost : Lines → ℕ → ℕ
+block_cost Along pieces = pieces + 2 * (ROWS + 1) * pieces + lines_cost Along (λ d. 2 * pieces)
+block_cost Across pieces = pieces + 2 * pieces + (2 * WIDEST + 8)
 
 -- what painting a content that is turned so takes on a band at most. Of a picture each byte of its codes is
 -- read once, no more rows than these bytes and two are passed, and 32 rows fall on the band; of other
--- contents the lines of ink count
+-- contents the lines of ink count, and what they are made of: the cells of a text, the characters of a bar
+-- code or the cells of its text. A line of a box is one piece, and so is one of a QR symbol
 abbrev pub most_work : Orientation → Content → ℕ
-most_work o (contents.Text t) = most_lines (lines_of o)
-most_work o (contents.Block b) = most_block_lines (lines_of o)
-most_work o (contents.Box b) = most_lines Along
+most_work o (contents.Text t) = lines_cost (lines_of o) (seen_cells t.bytes.len t.width)
+most_work o (contents.Block b) = block_cost (lines_of o) (2 * b.text.bytes.len + 1)
+most_work o (contents.Box b) = lines_cost Along (λ d. 1)
 most_work o (contents.Picture p) = 2 * p.codes.len + (BAND_ROWS + 2)
-most_work o (contents.Bars b) = most_lines (lines_of o)
-most_work o (contents.Qr q) = most_lines Along
+most_work o (contents.Bars b) = lines_cost (lines_of o) box_pieces
+most_work o (contents.Qr q) = lines_cost Along (λ d. 1)

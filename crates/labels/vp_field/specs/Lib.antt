@@ -12,6 +12,7 @@ pub mod Laws
 pub mod Sizes
 -- What the code keeps.
 pub mod Axes
+pub mod Counts
 pub mod Rows
 pub mod Drawn
 pub mod Alone

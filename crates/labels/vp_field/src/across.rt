@@ -7,15 +7,17 @@ ghost use Rattle.vp_dots.specs.Places.{RowsPainted};
 ghost use Rattle.vp_dots.specs.declared.square.TheConstants.{SIDE};
 ghost use Rattle.vp_glyph.specs.Halves.{half_dot};
 ghost use Rattle.vp_field.specs.Axes.{IsWithin, laid};
-ghost use Rattle.vp_field.specs.Contents.{most_lines};
+ghost use Rattle.vp_field.specs.Counts.{ArePieces};
+ghost use Rattle.vp_field.specs.Contents.{lines_cost};
 ghost use Rattle.vp_field.specs.declared.axis.Lines.TheVariants.{Across};
 ghost use Rattle.vp_label_size.specs.declared.TheConstants.{BAND_ROWS};
 
 use crate::axis::Axis;
 use crate::paint::row_lengths;
 use crate::pen::Pen;
+use crate::pieces::Pieces;
 use crate::square::{paint_narrow, paint_square};
-use vp_dots::{Ink, Op, SIDE, Small, dot_of, fill_dots};
+use vp_dots::{Op, SIDE, Small, dot_of, fill_dots};
 use vp_label_size::{BAND_ROWS, LabelBand, WIDEST};
 
 /// The dots of a row of a band.
@@ -49,8 +51,8 @@ fn set_run(half: u32, from: usize, to: usize, halves: &mut [u32; SIDE])
 
 /// The ink on as many columns of the label as a square has, the first of which is x, white from another
 /// column on: what is known to be alike is drawn once.
-fn halves_of<I: Ink>(
-    pen: &mut Pen<'_, I>,
+fn halves_of<I: Pieces>(
+    pen: &mut Pen<'_, I, 4>,
     columns: Axis,
     rows: Axis,
     x: u64,
@@ -60,11 +62,13 @@ fn halves_of<I: Ink>(
     requires low { I.height pen.old.ink.now < 2 ^ 32 }
     requires near { IsWithin (2 ^ 41) rows }
     requires x { x < 2 ^ 62 }
-    requires count { pen.old.lines < 2 ^ 62 }
+    requires count { pen.old.lines < 2 ^ 21 }
+    requires within { ArePieces (I.most_pieces pen.old.ink.now BAND_ROWS) pen.old.lines pen.old.pieces }
     ensures dots { (i k : ℕ) → i < SIDE → k < BAND_ROWS → half_dot (slice_index result i) k
         ≡ (nat_lt (x + i) end && laid Across columns rows (I.ink_at pen.old.ink.now) (pos (x + i))
         (pos (first + k))) }
     ensures ink { pen.new.ink ≡ pen.old.ink }
+    ensures within { ArePieces (I.most_pieces pen.new.ink.now BAND_ROWS) pen.new.lines pen.new.pieces }
     ensures few { pen.new.lines ≤ pen.old.lines + SIDE }
     ensures lines { pen.new.lines ≤ pen.old.lines + (end - x) }
     ensures more { pen.old.lines ≤ pen.new.lines }
@@ -75,7 +79,7 @@ fn halves_of<I: Ink>(
     let mut i = 0;
     while i < many {
         let shown = pen.shown(columns, x + i, x + many);
-        let line = pen.on::<4>(shown, rows, first);
+        let line = pen.on(shown, rows, first);
         let behind = i + shown.places;
         set_run(half_of(&line), i as usize, behind as usize, &mut halves);
         i = behind;
@@ -103,8 +107,8 @@ fn paint_run<A: Small>(op: Op, line: [u8; 4], from: u64, to: u64, band: &mut Lab
 
 /// Paints columns of the band from x on, and before another: how many. A long run that is known to be alike
 /// is painted row by row.
-fn paint_columns<I: Ink, A: Small>(
-    pen: &mut Pen<'_, I>,
+fn paint_columns<I: Pieces, A: Small>(
+    pen: &mut Pen<'_, I, 4>,
     op: Op,
     columns: Axis,
     rows: Axis,
@@ -117,20 +121,22 @@ fn paint_columns<I: Ink, A: Small>(
     requires near { IsWithin (2 ^ 41) rows }
     requires x { x < end }
     requires end { end < 2 ^ 61 }
-    requires count { pen.old.lines < 2 ^ 61 }
+    requires count { pen.old.lines < 2 ^ 20 }
+    requires within { ArePieces (I.most_pieces pen.old.ink.now BAND_ROWS) pen.old.lines pen.old.pieces }
     ensures some { 0 < result }
     ensures most { result ≤ 2 ^ 61 }
     ensures painted { RowsPainted BAND_ROWS op (λ d k. span x (x + result) d
         && (nat_lt d end && laid Across columns rows (I.ink_at pen.old.ink.now) (pos d) (pos (first + k))))
         band.old band.new }
     ensures ink { pen.new.ink ≡ pen.old.ink }
+    ensures within { ArePieces (I.most_pieces pen.new.ink.now BAND_ROWS) pen.new.lines pen.new.pieces }
     ensures counted { pen.old.lines < pen.new.lines }
     ensures few { pen.new.lines ≤ pen.old.lines + result }
     ensures lines { pen.new.lines ≤ pen.old.lines + (end - x) }
 {
     let shown = pen.shown(columns, x, end);
     if shown.places >= RUN {
-        let line = pen.on::<4>(shown, rows, first);
+        let line = pen.on(shown, rows, first);
         paint_run(op, line, x, x + shown.places, band);
         return shown.places;
     }
@@ -144,9 +150,10 @@ fn paint_columns<I: Ink, A: Small>(
     2 * COLUMNS
 }
 
-/// Paints ink whose lines lie across the rows: how many lines it drew. The first is drawn wherever it falls.
-pub fn paint_across<I: Ink, A: Small>(
-    ink: Pen<'_, I>,
+/// Paints ink whose lines lie across the rows: how many lines it drew, and pieces of them. The first is drawn
+/// wherever it falls.
+pub fn paint_across<I: Pieces, A: Small>(
+    ink: Pen<'_, I, 4>,
     op: Op,
     columns: Axis,
     rows: Axis,
@@ -154,11 +161,13 @@ pub fn paint_across<I: Ink, A: Small>(
     band: &mut LabelBand<A>,
 ) -> u64
     requires fresh { ink.lines ≡ 0 }
+    requires whole { ink.pieces ≡ 0 }
+    requires few { I.most_pieces ink.ink.now BAND_ROWS ≤ 2 ^ 40 }
     requires columns { IsWithin (2 ^ 41) columns }
     requires rows { IsWithin (2 ^ 41) rows }
     ensures dots { RowsPainted BAND_ROWS op (λ x k. laid Across columns rows (I.ink_at ink.entry.ink.now)
         (pos x) (pos (first + k))) band.old band.new }
-    ensures lines { result ≤ most_lines Across }
+    ensures lines { result ≤ lines_cost Across (I.most_pieces ink.entry.ink.now) }
     ensures counted { 0 < result }
 {
     let mut pen = ink;
@@ -170,5 +179,5 @@ pub fn paint_across<I: Ink, A: Small>(
     while x < end {
         x += paint_columns(&mut pen, op, columns, rows, x, end, first, band);
     }
-    pen.lines()
+    pen.work()
 }

@@ -1,15 +1,16 @@
 //! Blocks of lines whose rows fall on rows: where lines meet, the rows of a band are drawn at once.
-ghost use Rattle.std.specs.Prelude.{◌≡◌, ℕ, ◌+◌, ◌*◌, ◌<◌, slice_index_or, []};
+ghost use Rattle.std.specs.Prelude.{◌≡◌, ℕ, ◌+◌, ◌*◌, ◌<◌, ◌≤◌, slice_index_or, []};
 ghost use Rattle.vp_dots.specs.Dots.{dot, shifted};
 ghost use Rattle.vp_dots.specs.Painting.{Painted};
-ghost use Rattle.vp_glyph.specs.Blocks.{block_width, block_height, block_dot, block_inside};
+ghost use Rattle.vp_glyph.specs.Blocks.{block_width, block_height, block_dot, block_inside, block_pieces};
 ghost use Rattle.vp_glyph.specs.Layouts.{layout_of};
 ghost use Rattle.vp_glyph.specs.declared.runs.TheConstants.{ROWS, BYTES};
 
 use crate::line::paint_over;
 use crate::lines::BlockRows;
+use crate::pieces::Pieces;
 use vp_dots::{Ink, Op, Small};
-use vp_glyph::{BYTES, ROWS};
+use vp_glyph::{BYTES, DrawnRows, ROWS};
 
 /// A block of lines, whose rows from one on were drawn at an offset.
 #[derive(Drop)]
@@ -19,10 +20,10 @@ pub struct BlockBand<'a, A: Small> {
     top: u32,
     /// The offset.
     at: i64,
-    drawn: [[u8; BYTES]; ROWS],
+    drawn: DrawnRows,
     ghost drawn_are: { (k x : ℕ) → k < ROWS → x < 8 * BYTES
         → top + k < block_height rows.block.h rows.block.rows rows.block.pitch
-        → dot (slice_index_or drawn k []) x
+        → dot (slice_index_or drawn.rows k []) x
         ≡ shifted at (λ x. block_dot (layout_of rows.block) rows.block.text.now x (top + k)) x },
 }
 
@@ -36,7 +37,8 @@ fn paint_drawn(op: Op, drawn: &[u8; BYTES], row: &mut [u8])
 impl<'a, A: Small> BlockBand<'a, A> {
     /// A block, its rows from `top` on drawn at the offset `at`.
     pub fn new(rows: BlockRows<'a, A>, top: u32, at: i64) -> Self
-        ensures { result.rows ≡ rows.entry }
+        ensures rows { result.rows ≡ rows.entry }
+        ensures few { result.drawn.pieces ≤ 2 * (ROWS + 1) * block_pieces rows.entry.block.text.now }
     {
         BlockBand {
             rows,
@@ -44,6 +46,13 @@ impl<'a, A: Small> BlockBand<'a, A> {
             at,
             drawn: rows.block.drawn_rows(top, at),
         }
+    }
+
+    /// How many lines of the text and cells of these drawing the rows took.
+    pub fn pieces(&self) -> u64
+        ensures { result ≡ self.now.drawn.pieces }
+    {
+        self.drawn.pieces
     }
 }
 
@@ -65,17 +74,25 @@ impl<A: Small> Ink for BlockBand<'_, A> {
     }
 
     fn paint_row(&self, y: u32, op: Op, at: i64, row: &mut [u8]) {
-        let (_, height) = self.size();
-        let place = y.saturating_sub(self.top) as usize;
-        if at == self.at && y >= self.top && y < height && place < ROWS && row.len() <= BYTES {
-            let drawn = self.drawn[place];
-            paint_drawn(op, &drawn, row);
-            return;
-        }
-        self.rows.paint_row(y, op, at, row);
+        self.paint_pieces(y, op, at, row);
     }
 
     fn alike(&self, y: u32) -> (u32, u32) {
         self.rows.alike(y)
+    }
+}
+
+impl<A: Small> Pieces for BlockBand<'_, A> {
+    ghost most_pieces = { λ s d. 2 * block_pieces s.rows.block.text.now };
+
+    fn paint_pieces(&self, y: u32, op: Op, at: i64, row: &mut [u8]) -> u64 {
+        let (_, height) = self.size();
+        let place = y.saturating_sub(self.top) as usize;
+        if at == self.at && y >= self.top && y < height && place < ROWS && row.len() <= BYTES {
+            let drawn = self.drawn.rows[place];
+            paint_drawn(op, &drawn, row);
+            return 1;
+        }
+        self.rows.paint_pieces(y, op, at, row)
     }
 }

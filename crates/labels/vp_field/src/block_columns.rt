@@ -1,16 +1,15 @@
 //! Blocks of lines whose rows fall on columns: many of them drawn at once, and laid 64 by 64.
-ghost use Rattle.std.specs.Prelude.{◌≡◌, ℕ, ◌+◌, ◌-◌, ◌*◌, ◌<◌, ◌≤◌, ◌^◌, nat_le, ◌&&◌, Bool, pos, slice_index, slice_index_or, [], MatchOption, IfSome};
+ghost use Rattle.std.specs.Prelude.{◌≡◌, ℕ, ◌+◌, ◌-◌, ◌*◌, ◌<◌, ◌≤◌, ◌^◌, nat_le, ◌&&◌, Bool, pos, slice_index, slice_index_or, [], length, MatchOption, IfSome};
 ghost use Rattle.vp_dots.specs.Dots.{dot, dots, shifted, span};
 ghost use Rattle.vp_dots.specs.declared.square.TheConstants.{SIDE};
 ghost use Rattle.vp_dots.specs.Painting.{Painted};
 ghost use Rattle.vp_dots.specs.Places.{RowsPainted};
 ghost use Rattle.vp_dots.specs.Words.{word_dot};
 ghost use Rattle.vp_dots.specs.declared.Op.TheVariants.{Black};
-ghost use Rattle.vp_glyph.specs.Blocks.{block_height, block_dot};
+ghost use Rattle.vp_glyph.specs.Blocks.{block_height, block_dot, block_pieces};
 ghost use Rattle.vp_glyph.specs.Halves.{half_dot};
 ghost use Rattle.vp_glyph.specs.Layouts.{layout_of};
 ghost use Rattle.vp_field.specs.Axes.{dot_on, laid, read_at, IsWithin};
-ghost use Rattle.vp_field.specs.Contents.{most_block_lines};
 ghost use Rattle.vp_field.specs.Places.{at_place};
 ghost use Rattle.vp_field.specs.declared.axis.Lines.TheVariants.{Across};
 ghost use Rattle.vp_field.specs.declared.block_columns.TheConstants.{COLUMNS, ROW_WORDS};
@@ -236,7 +235,7 @@ impl<A: Small> BlockColumns<'_, A> {
 }
 
 /// Paints a block of lines that lies across a band, whose first row is row `first` of the label: how many
-/// lines of ink it drew.
+/// lines of the text and cells of these it drew, and how many columns.
 pub fn paint_block_across<A: Small>(
     block: &Block<'_, A>,
     op: Op,
@@ -247,20 +246,21 @@ pub fn paint_block_across<A: Small>(
     requires lines { lying.lines ≡ Across }
     requires columns { IsWithin (2 ^ 41) lying.columns }
     requires rows { IsWithin (2 ^ 41) lying.rows }
+    requires few { length block.now.text.now < 2 ^ 32 }
     ensures dots { RowsPainted BAND_ROWS op (λ x k. laid Across lying.columns lying.rows
         (λ u v. block_dot (layout_of block.now) block.now.text.now u v) (pos x) (pos (first + k))) band.old
         band.new }
-    ensures lines { result ≤ most_block_lines Across }
+    ensures lines { result ≤ 2 * block_pieces block.now.text.now + (2 * WIDEST + 8) }
     ensures counted { 0 < result }
 {
     let (_, height) = block.size();
     let top = lying.first_line(height, first);
     let at = drawn_at(lying.rows, first, 4);
     let mut fronts = [0u32; COLUMNS];
-    block.draw_fronts(top, at, &mut fronts);
+    let drew = u64::from(WIDEST) + block.draw_fronts(top, at, &mut fronts);
     if are_white(&fronts) {
         row_lengths(band);
-        return u64::from(WIDEST);
+        return drew;
     }
     let drawn = BlockColumns {
         block,
@@ -271,5 +271,5 @@ pub fn paint_block_across<A: Small>(
         at,
         fronts: &fronts,
     };
-    u64::from(WIDEST) + drawn.paint(op, band)
+    drew + drawn.paint(op, band)
 }

@@ -1,11 +1,14 @@
 //! The fields of a label, painted on a band.
-ghost use Rattle.std.specs.Prelude.{◌+◌, ◌≤◌, pos, List, [], ◌∷◌, ◌++◌};
+ghost use Rattle.std.specs.Prelude.{◌+◌, ◌*◌, ◌^◌, ◌<◌, ◌≤◌, pos, length, List, [], ◌∷◌, ◌++◌};
 ghost use Rattle.vp_dots.specs.Places.{RowsPainted};
+ghost use Rattle.vp_glyph.specs.Blocks.{block_width, block_height, block_dot, block_pieces};
+ghost use Rattle.vp_glyph.specs.Layouts.{layout_of};
 ghost use Rattle.vp_glyph.specs.Sheets.{Sheets as Given};
+ghost use Rattle.vp_glyph.specs.declared.runs.TheConstants.{ROWS};
 ghost use Rattle.vp_format.specs.declared.field.Content.TheVariants as contents;
-ghost use Rattle.vp_field.specs.Axes.{lines_of};
-ghost use Rattle.vp_field.specs.Contents.{most_lines, most_work, LiesIn, IsText, IsTextBlock, IsSymbol};
-ghost use Rattle.vp_field.specs.Standing.{IsNear};
+ghost use Rattle.vp_field.specs.Axes.{IsWithin, lines_of};
+ghost use Rattle.vp_field.specs.Contents.{lines_cost, most_work, LiesIn, IsText, IsTextBlock, IsSymbol};
+ghost use Rattle.vp_field.specs.Standing.{standing, IsNear};
 ghost use Rattle.vp_field.specs.Fields.{field_ink, stroke_of, IsDrawn, IsEncoded, IsKept, AreMarksOf};
 ghost use Rattle.vp_field.specs.Strokes.{Stroke};
 ghost use Rattle.vp_field.specs.Views.{seen_x, seen_y};
@@ -13,7 +16,7 @@ ghost use Rattle.vp_field.specs.Bands.{Shows, IsCounted};
 ghost use Rattle.vp_field.specs.Drawn.{drawn};
 ghost use Rattle.vp_label_size.specs.declared.TheConstants.{BAND_ROWS};
 
-use crate::axis::Lines;
+use crate::axis::{Axis, Lines};
 use crate::block_band::BlockBand;
 use crate::block_columns::paint_block_across;
 use crate::content::{block_of, bytes_of, cells};
@@ -27,12 +30,12 @@ use crate::view::View;
 use vp_bars::linear;
 use vp_dots::{Ink, Small};
 use vp_format::{BarSymbol, Content, Field, QrSymbol, Text, TextBlock};
-use vp_glyph::{Font, Sheets};
+use vp_glyph::{Block, Font, Sheets};
 use vp_label_size::{BAND_BYTES, LabelBand};
 use vp_qr::QrInk;
 use vp_zpl::item::Orientation;
 
-/// Paints a text: how many lines of ink it drew.
+/// Paints a text: how many lines of ink it drew, and pieces of them.
 fn paint_text<A: Small>(
     sheets: &Sheets<A>,
     stored: &[u8],
@@ -52,7 +55,42 @@ fn paint_text<A: Small>(
     paint_standing(&text, on, first, band)
 }
 
-/// Paints a block of lines: how many lines of ink it drew.
+/// Paints a block of lines that lies along a band, on which none of its rows before one falls: how many lines
+/// of ink it drew, and pieces of them. Where its lines meet, its rows are drawn at once.
+fn paint_block_along<A: Small>(
+    block: Block<'_, A>,
+    row: u32,
+    columns: Axis,
+    on: Standing,
+    first: u32,
+    band: &mut LabelBand<A>,
+) -> u64
+    requires columns { IsWithin (2 ^ 41) columns }
+    requires near { IsNear on.left on.top }
+    requires few { length block.text.now < 2 ^ 32 }
+    ensures dots { RowsPainted BAND_ROWS on.op (λ x k. standing on.left on.top on.orientation
+        (block_width block.entry.wide block.entry.w)
+        (block_height block.entry.h block.entry.rows block.entry.pitch)
+        (λ u v. block_dot (layout_of block.entry) block.entry.text.now u v)
+        (seen_x on.view (pos x)) (seen_y on.view (pos (first + k)))) band.old band.new }
+    ensures lines { result ≤ 2 * (ROWS + 1) * block_pieces block.entry.text.now
+        + lines_cost (lines_of on.orientation) (λ d. 2 * block_pieces block.entry.text.now) }
+    ensures counted { IsCounted (λ x k. standing on.left on.top on.orientation
+        (block_width block.entry.wide block.entry.w)
+        (block_height block.entry.h block.entry.rows block.entry.pitch)
+        (λ u v. block_dot (layout_of block.entry) block.entry.text.now u v)
+        (seen_x on.view (pos x)) (seen_y on.view (pos (first + k)))) result }
+{
+    let rows = BlockRows { block };
+    if !rows.lines_meet() {
+        return paint_standing(&rows, on, first, band);
+    }
+    let drawn = BlockBand::new(rows, row, drawn_at(columns, 0, BAND_BYTES));
+    drawn.pieces() + paint_standing(&drawn, on, first, band)
+}
+
+/// Paints a block of lines: how many lines of ink it drew, and pieces of them, and how many lines of its text
+/// and cells of these were passed above the band.
 fn paint_block<A: Small>(
     sheets: &Sheets<A>,
     stored: &[u8],
@@ -71,17 +109,13 @@ fn paint_block<A: Small>(
     let ink = block_of(sheets, stored, block);
     let (_, height) = ink.size();
     let laid = on.laid(&ink);
-    let line = laid.first_line(height, first);
-    let block = ink.from_row(line);
-    if let Lines::Across = laid.lines {
-        return paint_block_across(&block, on.op, laid, first, band);
+    let row = laid.first_line(height, first);
+    let block = ink.from_row(row);
+    let walked = block.walked();
+    match laid.lines {
+        Lines::Along => walked + paint_block_along(block, row, laid.columns, on, first, band),
+        Lines::Across => walked + paint_block_across(&block, on.op, laid, first, band),
     }
-    let rows = BlockRows { block };
-    if !rows.lines_meet() {
-        return paint_standing(&rows, on, first, band);
-    }
-    let drawn = BlockBand::new(rows, line, drawn_at(laid.columns, 0, BAND_BYTES));
-    paint_standing(&drawn, on, first, band)
 }
 
 /// Encodes a linear symbol where no earlier band left it: there is none where the data have none.
@@ -99,7 +133,7 @@ fn encode(stored: &[u8], bars: BarSymbol, marks: &mut Marks)
     }
 }
 
-/// Paints a linear symbol and its text, nothing where the data have none: how many lines of ink it drew.
+/// Paints a linear symbol and its text, nothing where the data have none: how many lines of ink it drew, and pieces of them.
 fn paint_bars<A: Small>(
     sheets: &Sheets<A>,
     stored: &[u8],
@@ -155,7 +189,7 @@ fn drawn_symbol(stored: &[u8], symbol: QrSymbol, marks: &mut Marks) -> QrInk
     ink
 }
 
-/// Paints a QR symbol: how many lines of ink it drew.
+/// Paints a QR symbol: how many lines of ink it drew, and pieces of them.
 fn paint_qr<A: Small>(
     stored: &[u8],
     symbol: QrSymbol,
@@ -170,7 +204,7 @@ fn paint_qr<A: Small>(
     ensures marks { AreMarksOf stored.now (contents.Qr symbol) marks.new }
     ensures dots { (sheets : Given) → RowsPainted BAND_ROWS on.op
         (drawn sheets stored.now (contents.Qr symbol) on first) band.old band.new }
-    ensures lines { result ≤ most_lines (lines_of on.orientation) }
+    ensures lines { result ≤ lines_cost (lines_of on.orientation) (λ d. 1) }
     ensures counted { (sheets : Given) →
         IsCounted (drawn sheets stored.now (contents.Qr symbol) on first) result }
 {

@@ -6,6 +6,7 @@ ghost use Rattle.vp_dots.specs.Words.{word_dot};
 ghost use Rattle.vp_field.specs.declared.frame.TheConstants.{WORD};
 ghost use Rattle.vp_field.specs.Frames.{frame_dot, frame_inside};
 
+use crate::pieces::Pieces;
 use vp_dots::{Ink, Op, fill_moved, first_dots, paint_word};
 use vp_format::GraphicBox;
 
@@ -138,5 +139,14 @@ impl Ink for Frame {
             return (y, y);
         }
         (self.t, bottom - 1)
+    }
+}
+
+impl Pieces for Frame {
+    ghost most_pieces = { λ s d. 1 };
+
+    fn paint_pieces(&self, y: u32, op: Op, at: i64, row: &mut [u8]) -> u64 {
+        self.paint_row(y, op, at, row);
+        1
     }
 }

@@ -40,6 +40,7 @@ mod paint;
 mod pen;
 mod picture;
 mod picture_rows;
+mod pieces;
 mod plain;
 mod sized;
 mod square;

@@ -1,5 +1,5 @@
 //! One line of ink, drawn along the places of a row or a column, and painted on a row.
-ghost use Rattle.std.specs.Prelude.{◌≡◌, ℕ, ◌+◌, ◌-◌, ◌*◌, ◌^◌, ◌<◌, ◌≤◌, Bool, ℤ, pos, ◌-ℤ◌, neg_ℤ, ◌≤ℤ◌, false, length};
+ghost use Rattle.std.specs.Prelude.{◌≡◌, ℕ, ◌+◌, ◌-◌, ◌*◌, ◌^◌, ◌<◌, ◌≤◌, Bool, true, ℤ, pos, ◌-ℤ◌, neg_ℤ, ◌≤ℤ◌, false, length};
 ghost use Rattle.vp_dots.specs.Dots.{dot, shifted, span};
 ghost use Rattle.vp_dots.specs.Painting.{Painted};
 ghost use Rattle.vp_field.specs.Places.{at_place};
@@ -7,7 +7,8 @@ ghost use Rattle.vp_field.specs.Axes.{dot_on, read_at, IsWithin};
 ghost use Rattle.vp_label_size.specs.declared.TheConstants.{BAND_BYTES};
 
 use crate::axis::Axis;
-use vp_dots::{Ink, Op, copy_reversed, paint_into};
+use crate::pieces::Pieces;
+use vp_dots::{Op, copy_reversed, paint_into};
 use vp_label_size::BAND_BYTES;
 
 /// The offset of a line that begins at a place, on a row that begins at another.
@@ -46,24 +47,33 @@ pub fn drawn_at(axis: Axis, from: u32, bytes: usize) -> i64
     }
 }
 
+/// A line as it was drawn on N bytes, and of how many pieces.
+#[derive(Clone, Copy)]
+pub struct DrawnLine<const N: usize> {
+    pub dots: [u8; N],
+    pub pieces: u64,
+}
+
 /// What line v of the ink has on the places of N bytes, the first of which is `from`.
-pub fn drawn<I: Ink, const N: usize>(ink: &I, v: u32, axis: Axis, from: u32) -> [u8; N]
+pub fn drawn<I: Pieces, const N: usize>(ink: &I, v: u32, axis: Axis, from: u32) -> DrawnLine<N>
     requires near { IsWithin (2 ^ 41) axis }
     requires few { N ≤ BAND_BYTES }
-    ensures { (p : ℕ) → p < 8 * N → dot result p ≡ at_place (λ u. I.ink_at ink.now u v)
+    ensures dots { (p : ℕ) → p < 8 * N → dot result.dots p ≡ at_place (λ u. I.ink_at ink.now u v)
         (dot_on axis (pos (from + p))) }
+    ensures most { result.pieces ≤ I.most_pieces ink.now (8 * N) }
+    ensures some { (p : ℕ) → p < 8 * N → dot result.dots p ≡ true → 0 < result.pieces }
 {
     let mut line = [0u8; N];
+    let at = drawn_at(axis, from, N);
+    let pieces = ink.paint_pieces(v, Op::Black, at, &mut line);
     match axis {
-        Axis::Forward(at) => ink.paint_row(v, Op::Black, offset(at, from), &mut line),
-        Axis::Back(at) => {
-            let at = offset_from_end(at, from, N);
-            let mut back = [0u8; N];
-            ink.paint_row(v, Op::Black, at, &mut back);
-            copy_reversed(&back, &mut line);
+        Axis::Forward(_) => DrawnLine { dots: line, pieces },
+        Axis::Back(_) => {
+            let mut dots = [0u8; N];
+            copy_reversed(&line, &mut dots);
+            DrawnLine { dots, pieces }
         }
     }
-    line
 }
 
 /// Applies the operation to the dots of the row where the line is black.
@@ -93,17 +103,23 @@ pub fn paint_bytes(op: Op, line: &[u8], from: usize, to: usize, row: &mut [u8])
     paint_into(op, &line[from..to], byte_offset(from), row);
 }
 
-/// Applies the operation to the dots of a row of a label on which line v of the ink has ink.
-pub fn paint_line<I: Ink>(ink: &I, v: u32, op: Op, axis: Axis, row: &mut [u8])
+/// Applies the operation to the dots of a row of a label on which line v of the ink has ink: of how many pieces
+/// the line was painted.
+pub fn paint_line<I: Pieces>(ink: &I, v: u32, op: Op, axis: Axis, row: &mut [u8]) -> u64
     requires near { IsWithin (2 ^ 41) axis }
     requires row { length row.old ≡ BAND_BYTES }
-    ensures { Painted op (λ p. at_place (λ u. I.ink_at ink.now u v) (dot_on axis (pos p))) row.old row.new }
+    ensures painted { Painted op (λ p. at_place (λ u. I.ink_at ink.now u v) (dot_on axis (pos p))) row.old
+        row.new }
+    ensures most { result ≤ I.most_pieces ink.now (8 * BAND_BYTES) }
+    ensures some { (p : ℕ) → p < 8 * BAND_BYTES
+        → at_place (λ u. I.ink_at ink.now u v) (dot_on axis (pos p)) ≡ true → 0 < result }
 {
     match axis {
-        Axis::Forward(at) => ink.paint_row(v, op, at, row),
+        Axis::Forward(at) => ink.paint_pieces(v, op, at, row),
         Axis::Back(_) => {
             let line = drawn::<I, BAND_BYTES>(ink, v, axis, 0);
-            paint_over(op, &line, row);
+            paint_over(op, &line.dots, row);
+            line.pieces
         }
     }
 }

@@ -1,9 +1,10 @@
 //! Blocks of lines, and which of their rows are alike.
-ghost use Rattle.std.specs.Prelude.{MatchOption, ◌≤◌};
-ghost use Rattle.vp_glyph.specs.Blocks.{block_width, block_height, block_dot, block_inside};
+ghost use Rattle.std.specs.Prelude.{MatchOption, ◌*◌, ◌≤◌};
+ghost use Rattle.vp_glyph.specs.Blocks.{block_width, block_height, block_dot, block_inside, block_pieces};
 ghost use Rattle.vp_glyph.specs.Layouts.{layout_of};
 ghost use Rattle.vp_field.specs.Alone.{IsAlone};
 
+use crate::pieces::Pieces;
 use crate::stretched::alike_rows;
 use std::alloc::AllocError;
 use vp_dots::{Ink, Op, Small};
@@ -63,7 +64,7 @@ impl<A: Small> Ink for BlockRows<'_, A> {
     }
 
     fn paint_row(&self, y: u32, op: Op, at: i64, row: &mut [u8]) {
-        self.block.paint_row(y, op, at, row);
+        self.paint_pieces(y, op, at, row);
     }
 
     fn alike(&self, y: u32) -> (u32, u32) {
@@ -76,5 +77,13 @@ impl<A: Small> Ink for BlockRows<'_, A> {
         }
         let (first, last) = alike_rows(row, self.block.h);
         (top + first, top + last)
+    }
+}
+
+impl<A: Small> Pieces for BlockRows<'_, A> {
+    ghost most_pieces = { λ s d. 2 * block_pieces s.block.text.now };
+
+    fn paint_pieces(&self, y: u32, op: Op, at: i64, row: &mut [u8]) -> u64 {
+        self.block.paint_pieces(y, op, at, row)
     }
 }

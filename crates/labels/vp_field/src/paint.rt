@@ -5,7 +5,8 @@ ghost use Rattle.vp_dots.specs.Places.{RowsPainted};
 ghost use Rattle.vp_field.specs.Places.{at_place};
 ghost use Rattle.vp_field.specs.Axes.{IsWithin, dot_on, laid};
 ghost use Rattle.vp_field.specs.Bands.{IsCounted};
-ghost use Rattle.vp_field.specs.Contents.{most_lines};
+ghost use Rattle.vp_field.specs.Counts.{ArePieces};
+ghost use Rattle.vp_field.specs.Contents.{lines_cost};
 ghost use Rattle.vp_field.specs.declared.axis.Lines.TheVariants.{Along, Across};
 ghost use Rattle.vp_label_size.specs.declared.TheConstants.{BAND_BYTES, BAND_ROWS};
 
@@ -13,7 +14,8 @@ use crate::across::paint_across;
 use crate::axis::{Axis, Lines};
 use crate::line::paint_bytes;
 use crate::pen::{Pen, Shown};
-use vp_dots::{Ink, Op, Small};
+use crate::pieces::Pieces;
+use vp_dots::{Op, Small};
 use vp_label_size::{BAND_BYTES, BAND_ROWS, LabelBand};
 
 /// Each row of a band has `BAND_BYTES` bytes.
@@ -52,8 +54,8 @@ fn reached(columns: Axis, width: u32) -> Reach
 }
 
 /// Paints rows of the band, from row k on, each of which shows the same line.
-fn paint_alike<I: Ink, A: Small>(
-    pen: &mut Pen<'_, I>,
+fn paint_alike<I: Pieces, A: Small>(
+    pen: &mut Pen<'_, I, BAND_BYTES>,
     shown: Shown,
     op: Op,
     columns: Axis,
@@ -67,8 +69,13 @@ fn paint_alike<I: Ink, A: Small>(
     requires white { (v p : ℕ) → p < 8 * BAND_BYTES → span (8 * reach.from) (8 * reach.to) p ≡ false
         → at_place (λ u. I.ink_at pen.old.ink.now u v) (dot_on columns (pos p)) ≡ false }
     requires inside { k + shown.places ≤ BAND_ROWS }
-    requires count { pen.old.lines < 2 ^ 63 }
-    ensures counted { pen.new ≡ record pen.old { lines = pen.old.lines + 1 } }
+    requires count { pen.old.lines < 2 ^ 22 }
+    requires within { ArePieces (I.most_pieces pen.old.ink.now (8 * BAND_BYTES)) pen.old.lines
+        pen.old.pieces }
+    ensures ink { pen.new.ink ≡ pen.old.ink }
+    ensures counted { pen.new.lines ≡ pen.old.lines + 1 }
+    ensures within { ArePieces (I.most_pieces pen.new.ink.now (8 * BAND_BYTES)) pen.new.lines
+        pen.new.pieces }
     ensures painted { RowsPainted BAND_ROWS op (λ x r. span k (k + shown.places) r && unwrap_or (option_map
         (λ v. at_place (λ u. I.ink_at pen.old.ink.now u v) (dot_on columns (pos x))) shown.line) false)
         band.old band.new }
@@ -77,15 +84,15 @@ fn paint_alike<I: Ink, A: Small>(
         pen.paint_on(shown, op, columns, band.row_mut(k));
         return;
     }
-    let line = pen.on::<BAND_BYTES>(shown, columns, 0);
+    let line = pen.on(shown, columns, 0);
     for i in 0..shown.places as usize {
         paint_bytes(op, &line, reach.from, reach.to, band.row_mut(k + i));
     }
 }
 
-/// Paints ink whose lines lie along the rows: how many lines it drew.
-fn paint_along<I: Ink, A: Small>(
-    ink: Pen<'_, I>,
+/// Paints ink whose lines lie along the rows: how many lines it drew, and pieces of them.
+fn paint_along<I: Pieces, A: Small>(
+    ink: Pen<'_, I, BAND_BYTES>,
     op: Op,
     columns: Axis,
     rows: Axis,
@@ -93,10 +100,12 @@ fn paint_along<I: Ink, A: Small>(
     band: &mut LabelBand<A>,
 ) -> u64
     requires fresh { ink.lines ≡ 0 }
+    requires whole { ink.pieces ≡ 0 }
+    requires few { I.most_pieces ink.ink.now (8 * BAND_BYTES) ≤ 2 ^ 40 }
     requires near { IsWithin (2 ^ 41) columns }
     ensures dots { RowsPainted BAND_ROWS op (λ x k. laid Along columns rows (I.ink_at ink.entry.ink.now)
         (pos x) (pos (first + k))) band.old band.new }
-    ensures lines { result ≤ most_lines Along }
+    ensures lines { result ≤ lines_cost Along (I.most_pieces ink.entry.ink.now) }
     ensures counted { IsCounted (λ x k. laid Along columns rows (I.ink_at ink.entry.ink.now) (pos x)
         (pos (first + k))) result }
 {
@@ -112,12 +121,13 @@ fn paint_along<I: Ink, A: Small>(
         paint_alike(&mut pen, shown, op, columns, reach, k as usize, band);
         k += shown.places;
     }
-    pen.lines()
+    pen.work()
 }
 
 /// Applies the operation to the dots of a band, whose first row is row `first` of the label, where ink that
-/// lies so on the label has ink. How many lines were drawn comes back.
-pub fn paint_laid<I: Ink, A: Small>(
+/// lies so on the label has ink. How many lines were drawn, and pieces of them, comes
+/// back.
+pub fn paint_laid<I: Pieces, A: Small>(
     ink: &I,
     op: Op,
     lines: Lines,
@@ -128,9 +138,10 @@ pub fn paint_laid<I: Ink, A: Small>(
 ) -> u64
     requires columns { IsWithin (2 ^ 41) columns }
     requires rows { IsWithin (2 ^ 41) rows }
+    requires few { (d : ℕ) → I.most_pieces ink.now d ≤ 2 ^ 40 }
     ensures dots { RowsPainted BAND_ROWS op (λ x k. laid lines columns rows (I.ink_at ink.now) (pos x)
         (pos (first + k))) band.old band.new }
-    ensures lines { result ≤ most_lines lines }
+    ensures lines { result ≤ lines_cost lines (I.most_pieces ink.now) }
     ensures counted { IsCounted (λ x k. laid lines columns rows (I.ink_at ink.now) (pos x) (pos (first + k)))
         result }
 {

@@ -1,13 +1,15 @@
-//! An ink whose lines are counted as they are handed out.
-ghost use Rattle.std.specs.Prelude.{◌≡◌, ℕ, ◌+◌, ◌*◌, ◌^◌, ◌<◌, ◌≤◌, false, ℤ, pos, option_map, unwrap_or, length};
+//! An ink whose lines, and the pieces of these, are counted as they are handed out.
+ghost use Rattle.std.specs.Prelude.{◌≡◌, ℕ, ◌+◌, ◌*◌, ◌^◌, ◌<◌, ◌≤◌, true, false, ℤ, pos, option_map, unwrap_or, length};
 ghost use Rattle.vp_dots.specs.Dots.{dot};
 ghost use Rattle.vp_dots.specs.Painting.{Painted};
 ghost use Rattle.vp_field.specs.Places.{at_place};
 ghost use Rattle.vp_field.specs.Axes.{IsWithin, dot_on};
+ghost use Rattle.vp_field.specs.Counts.{ArePieces};
 ghost use Rattle.vp_label_size.specs.declared.TheConstants.{BAND_BYTES};
 
 use crate::axis::Axis;
 use crate::line::{drawn, paint_line};
+use crate::pieces::Pieces;
 use vp_dots::{Ink, Op};
 use vp_label_size::BAND_BYTES;
 
@@ -19,27 +21,37 @@ pub struct Shown {
     pub places: u64,
 }
 
-/// An ink, and how many lines of it were handed out: they are had in no other way.
+/// An ink, and how many of its lines were handed out, as far as they can be seen on so many bytes, and of how
+/// many pieces: they are had in no other way.
 #[derive(Drop)]
-pub struct Pen<'a, I: Ink> {
+pub struct Pen<'a, I: Pieces, const BYTES: usize> {
     ink: &'a I,
     lines: u64,
+    pieces: u64,
 }
 
-impl<'a, I: Ink> Pen<'a, I> {
+impl<'a, I: Pieces, const BYTES: usize> Pen<'a, I, BYTES> {
     /// An ink of which no line was handed out.
     pub fn new(ink: &'a I) -> Self
         ensures ink { result.ink.now ≡ ink.now }
         ensures lines { result.lines ≡ 0 }
+        ensures pieces { result.pieces ≡ 0 }
     {
-        Pen { ink, lines: 0 }
+        Pen {
+            ink,
+            lines: 0,
+            pieces: 0,
+        }
     }
 
-    /// How many lines were handed out.
-    pub fn lines(&self) -> u64
-        ensures { result ≡ self.now.lines }
+    /// How many lines were handed out, and pieces of them.
+    pub fn work(&self) -> u64
+        requires count { self.now.lines < 2 ^ 23 }
+        requires within { ArePieces (I.most_pieces self.now.ink.now (8 * BYTES)) self.now.lines
+            self.now.pieces }
+        ensures { result ≡ self.now.lines + self.now.pieces }
     {
-        self.lines
+        self.lines + self.pieces
     }
 
     /// The width and the height of the ink.
@@ -84,7 +96,7 @@ impl<'a, I: Ink> Pen<'a, I> {
 
     /// The line that is shown, if one is: it is handed out.
     fn handed(&mut self, shown: Shown) -> Option<u32>
-        requires { self.old.lines < 2 ^ 63 }
+        requires { self.old.lines < 2 ^ 22 }
         ensures counted { self.new ≡ record self.old { lines = self.old.lines + 1 } }
         ensures line { result ≡ shown.line }
     {
@@ -92,19 +104,29 @@ impl<'a, I: Ink> Pen<'a, I> {
         shown.line
     }
 
-    /// What a line that is shown has on the places of N bytes from one on, white where there is none.
-    pub fn on<const N: usize>(&mut self, shown: Shown, dots: Axis, from: u32) -> [u8; N]
+    /// What a line that is shown has on the places from one on, white where there is none.
+    pub fn on(&mut self, shown: Shown, dots: Axis, from: u32) -> [u8; BYTES]
         requires near { IsWithin (2 ^ 41) dots }
-        requires few { N ≤ BAND_BYTES }
-        requires count { self.old.lines < 2 ^ 63 }
-        ensures counted { self.new ≡ record self.old { lines = self.old.lines + 1 } }
-        ensures dots { (p : ℕ) → p < 8 * N → dot result p ≡ unwrap_or (option_map
+        requires few { BYTES ≤ BAND_BYTES }
+        requires count { self.old.lines < 2 ^ 22 }
+        requires within { ArePieces (I.most_pieces self.old.ink.now (8 * BYTES)) self.old.lines
+            self.old.pieces }
+        ensures ink { self.new.ink ≡ self.old.ink }
+        ensures counted { self.new.lines ≡ self.old.lines + 1 }
+        ensures within { ArePieces (I.most_pieces self.new.ink.now (8 * BYTES)) self.new.lines
+            self.new.pieces }
+        ensures some { (p : ℕ) → p < 8 * BYTES → dot result p ≡ true → self.old.pieces < self.new.pieces }
+        ensures dots { (p : ℕ) → p < 8 * BYTES → dot result p ≡ unwrap_or (option_map
             (λ v. at_place (λ u. I.ink_at self.old.ink.now u v) (dot_on dots (pos (from + p)))) shown.line)
             false }
     {
         match self.handed(shown) {
-            Some(v) => drawn::<I, N>(self.ink, v, dots, from),
-            None => [0; N],
+            Some(v) => {
+                let drawn = drawn::<I, BYTES>(self.ink, v, dots, from);
+                self.pieces += drawn.pieces;
+                drawn.dots
+            }
+            None => [0; BYTES],
         }
     }
 
@@ -112,14 +134,23 @@ impl<'a, I: Ink> Pen<'a, I> {
     pub fn paint_on(&mut self, shown: Shown, op: Op, dots: Axis, row: &mut [u8])
         requires near { IsWithin (2 ^ 41) dots }
         requires row { length row.old ≡ BAND_BYTES }
-        requires count { self.old.lines < 2 ^ 63 }
-        ensures counted { self.new ≡ record self.old { lines = self.old.lines + 1 } }
+        requires bytes { BYTES ≡ BAND_BYTES }
+        requires count { self.old.lines < 2 ^ 22 }
+        requires within { ArePieces (I.most_pieces self.old.ink.now (8 * BYTES)) self.old.lines
+            self.old.pieces }
+        ensures ink { self.new.ink ≡ self.old.ink }
+        ensures counted { self.new.lines ≡ self.old.lines + 1 }
+        ensures within { ArePieces (I.most_pieces self.new.ink.now (8 * BYTES)) self.new.lines
+            self.new.pieces }
+        ensures some { (p : ℕ) → p < 8 * BAND_BYTES → unwrap_or (option_map
+            (λ v. at_place (λ u. I.ink_at self.old.ink.now u v) (dot_on dots (pos p))) shown.line) false ≡ true
+            → self.old.pieces < self.new.pieces }
         ensures painted { Painted op (λ p. unwrap_or (option_map
             (λ v. at_place (λ u. I.ink_at self.old.ink.now u v) (dot_on dots (pos p))) shown.line) false)
             row.old row.new }
     {
         if let Some(v) = self.handed(shown) {
-            paint_line(self.ink, v, op, dots, row);
+            self.pieces += paint_line(self.ink, v, op, dots, row);
         }
     }
 }

@@ -21,6 +21,7 @@ use crate::laid::Laid;
 use crate::line::paint_line;
 use crate::marks::Marks;
 use crate::picture_rows::PictureRows;
+use crate::pieces::Pieces;
 use crate::standing::Standing;
 use std::alloc::AllocError;
 use vp_dots::{Ink, Op, Small, clear_into, dot_of, or_into, xor_into};
@@ -77,6 +78,15 @@ impl Ink for PictureRow<'_> {
     }
 }
 
+impl Pieces for PictureRow<'_> {
+    ghost most_pieces = { λ s d. 1 };
+
+    fn paint_pieces(&self, y: u32, op: Op, at: i64, row: &mut [u8]) -> u64 {
+        self.paint_row(y, op, at, row);
+        1
+    }
+}
+
 /// The first of `height` lines of ink on the band from row `first` on, and the one behind the last.
 fn lines_on(rows: Axis, height: u32, first: u32) -> (u32, u32)
     requires { IsWithin (2 ^ 41) rows }
@@ -108,7 +118,7 @@ fn paint_row_of<A: Small>(
         (row_dot row.now.bytes.now row.now.y) (pos x) (pos (first + k))) band.old band.new }
 {
     if let Some(k) = at.rows.row_of(row.y, first) {
-        paint_line(row, row.y, op, at.columns, band.row_mut(k));
+        let _one = paint_line(row, row.y, op, at.columns, band.row_mut(k));
     }
 }
 

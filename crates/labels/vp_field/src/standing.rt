@@ -3,13 +3,14 @@ ghost use Rattle.std.specs.Prelude.{◌≡◌, ℕ, ◌+◌, ◌^◌, ◌≤◌,
 ghost use Rattle.vp_dots.specs.Places.{RowsPainted};
 ghost use Rattle.vp_field.specs.Axes.{laid, lines_of, IsWithin};
 ghost use Rattle.vp_field.specs.Bands.{IsCounted};
-ghost use Rattle.vp_field.specs.Contents.{most_lines};
+ghost use Rattle.vp_field.specs.Contents.{lines_cost};
 ghost use Rattle.vp_field.specs.Standing.{standing, IsNear};
 ghost use Rattle.vp_field.specs.Views.{seen_x, seen_y};
 ghost use Rattle.vp_label_size.specs.declared.TheConstants.{BAND_ROWS};
 
 use crate::laid::Laid;
 use crate::paint::paint_laid;
+use crate::pieces::Pieces;
 use crate::view::View;
 use vp_dots::{Ink, Op, Small};
 use vp_label_size::LabelBand;
@@ -43,18 +44,20 @@ impl Standing {
 }
 
 /// Applies the operation to the dots of a band, whose first row is row `first` of the label as it is put out,
-/// where ink that stands on the label has ink. How many lines were drawn comes back.
-pub fn paint_standing<I: Ink, A: Small>(
+/// where ink that stands on the label has ink. How many lines were drawn, and pieces of
+/// them, comes back.
+pub fn paint_standing<I: Pieces, A: Small>(
     ink: &I,
     on: Standing,
     first: u32,
     band: &mut LabelBand<A>,
 ) -> u64
     requires near { IsNear on.left on.top }
+    requires few { (d : ℕ) → I.most_pieces ink.now d ≤ 2 ^ 40 }
     ensures dots { RowsPainted BAND_ROWS on.op (λ x k. standing on.left on.top on.orientation
         (I.width ink.now) (I.height ink.now) (I.ink_at ink.now) (seen_x on.view (pos x))
         (seen_y on.view (pos (first + k)))) band.old band.new }
-    ensures lines { result ≤ most_lines (lines_of on.orientation) }
+    ensures lines { result ≤ lines_cost (lines_of on.orientation) (I.most_pieces ink.now) }
     ensures counted { IsCounted (λ x k. standing on.left on.top on.orientation (I.width ink.now)
         (I.height ink.now) (I.ink_at ink.now) (seen_x on.view (pos x)) (seen_y on.view (pos (first + k))))
         result }

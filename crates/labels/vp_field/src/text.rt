@@ -1,7 +1,8 @@
 //! Texts.
 ghost use Rattle.std.specs.Prelude.{◌≡◌, ◌*◌, ◌<◌, ◌^◌, length, slice_index};
-ghost use Rattle.vp_glyph.specs.Texts.{text_dot, text_inside};
+ghost use Rattle.vp_glyph.specs.Texts.{text_dot, text_inside, seen_cells};
 
+use crate::pieces::Pieces;
 use crate::stretched::alike_rows;
 use std::alloc::AllocError;
 use vp_dots::{Ink, Op, Small};
@@ -63,7 +64,7 @@ impl<A: Small> Ink for Cells<'_, A> {
     }
 
     fn paint_row(&self, y: u32, op: Op, at: i64, row: &mut [u8]) {
-        paint_text(self.sheet, self.text, &self.stretch, self.h, y, op, at, row);
+        self.paint_pieces(y, op, at, row);
     }
 
     fn alike(&self, y: u32) -> (u32, u32) {
@@ -71,5 +72,14 @@ impl<A: Small> Ink for Cells<'_, A> {
             return (y, y);
         }
         alike_rows(y, self.h)
+    }
+}
+
+impl<A: Small> Pieces for Cells<'_, A> {
+    ghost most_pieces = { λ s d. seen_cells (length s.text.now) s.stretch.width d };
+
+    fn paint_pieces(&self, y: u32, op: Op, at: i64, row: &mut [u8]) -> u64 {
+        let cells = paint_text(self.sheet, self.text, &self.stretch, self.h, y, op, at, row);
+        u64::from(cells)
     }
 }

@@ -27,11 +27,11 @@ use Rattle.vp_label_settings.specs.Graphics.{picture_head}
 use Rattle.vp_label_settings.specs.Settings.{settings_of}
 use Rattle.vp_closing.specs.Closing.{asked_orientation, colour_of, field_with, field_of, operation, placed}
 use Rattle.vp_closing.specs.Contents.{content_of}
-use Rattle.vp_closing.proofs.Codes.{code_len, codes_in, begin_of, closed_codes}
-use Rattle.vp_bands.specs.Laws.{code_bytes}
+use Rattle.vp_closing.proofs.Codes.{data_len, data_in, begin_of, closed_data}
+use Rattle.vp_bands.specs.Laws.{code_bytes, text_bytes}
 use Rattle.vp_bands.specs.Meeting.{bands_of, copy_work, pairs, field_meets}
 use Rattle.vp_bands.proofs.Painted.{pairs_more, no_pairs}
-use Rattle.vp_label.specs.Bytes.{format_bytes, all_codes}
+use Rattle.vp_label.specs.Bytes.{format_bytes, all_codes, all_texts}
 use Rattle.vp_label_settings.specs.Laws.{AreInRange}
 use Rattle.vp_label_size.specs.declared.TheConstants.{LONGEST}
 use Rattle.vp_label.specs.Entries.{entries, entries_by, with_kept, printed_entries}
@@ -99,32 +99,39 @@ all_spent sheets (Given command name sent ∷ before) =
 all_spent sheets (Data byte ∷ before) =
     data_spent byte (is_open before) (entries sheets before) (content before) (stored before) (format_bytes before) (all_spent sheets before) (none_open before)
 
--- The codes of closed fields stand before the bytes of the open content.
+-- The texts and codes of closed fields stand before the bytes of the open content.
+
+abbrev all_data : List Field → ℕ
+all_data fields = all_codes fields + all_texts fields
 
 abbrev begin_by : Option OpenContent → ℕ → ℕ
 begin_by None len = len
 begin_by (Some o) len = begin_of o len
 
 record Codes (fields : List Field) (c : Option OpenContent) (bytes : List ℕ) : Type 0 where
-  codes : all_codes fields ≤ begin_by c (length bytes)
+  codes : all_data fields ≤ begin_by c (length bytes)
   within : begin_by c (length bytes) ≤ length bytes
 
-same_codes : (c : Content) → code_bytes c ≡ code_len c
-same_codes (contents.Picture p) = refl
-same_codes _ = refl
+same_data : (c : Content) → code_bytes c + text_bytes c ≡ data_len c
+same_data (contents.Text t) = omega arith
+same_data (contents.Block b) = omega arith
+same_data (contents.Box b) = refl
+same_data (contents.Picture p) = omega arith
+same_data (contents.Bars b) = refl
+same_data (contents.Qr q) = refl
 
 kept_with : (sheets : Sheets) (bytes : List ℕ) (s : Settings) (p : FieldParts) (op : Op) (fields : List Field) (r : Result Content Fault)
-    → all_codes (with_kept fields (Some (field_with sheets bytes s p op r))) ≤ all_codes fields + codes_in r
+    → all_data (with_kept fields (Some (field_with sheets bytes s p op r))) ≤ all_data fields + data_in r
 kept_with sheets bytes s p op fields (Ok content) =
     let field = placed sheets bytes s p op (orientation_of (asked_orientation s p p.symbol) content) content in
-    omega (arith, sum_by_push (λ (f : Field). code_bytes f.content) fields field, same_codes content)
+    omega (arith, sum_by_push (λ (f : Field). code_bytes f.content) fields field, sum_by_push (λ (f : Field). text_bytes f.content) fields field, same_data content)
 kept_with sheets bytes s p op fields (Err why) = omega arith
 
 kept_codes : (sheets : Sheets) (bytes : List ℕ) (s : Settings) (p : FieldParts) (fields : List Field) (c : Option OpenContent)
-    → Codes fields c bytes → all_codes (with_kept fields (option_map (field_of sheets bytes s p) c)) ≤ length bytes
+    → Codes fields c bytes → all_data (with_kept fields (option_map (field_of sheets bytes s p) c)) ≤ length bytes
 kept_codes sheets bytes s p fields None h = omega (arith, h.codes)
 kept_codes sheets bytes s p fields (Some o) h =
-    omega (arith, h.codes, h.within, kept_with sheets bytes s p (operation s p (colour_of o)) fields (content_of bytes s p o), closed_codes bytes s p o)
+    omega (arith, h.codes, h.within, kept_with sheets bytes s p (operation s p (colour_of o)) fields (content_of bytes s p o), closed_data bytes s p o)
 
 mapped_codes : (start : ℕ) (o : Option PictureHead) → begin_by (option_map (picture_behind start) o) start ≡ start
 mapped_codes start None = refl
@@ -172,18 +179,19 @@ codes_within sheets (Data byte ∷ before) =
 -- The image that ^XZ prints, which closes the last field.
 
 closed_few : (opened : Bool) (kept fields : List Field) (c : Option OpenContent) (bytes : List ℕ) (f : ℕ) → spent fields c bytes opened ≤ f → (opened ≡ false → f ≡ 0)
-    → 6 * length kept ≤ 6 * length fields + 2 * of_content c → all_codes kept ≤ length bytes → 6 * length kept + all_codes kept ≤ f
+    → 6 * length kept ≤ 6 * length fields + 2 * of_content c → all_data kept ≤ length bytes → 6 * length kept + all_data kept ≤ f
 closed_few true kept fields None bytes f h k few codes = omega arith
 closed_few true kept fields (Some o) bytes f h k few codes = omega arith
 closed_few false kept fields None bytes f h k few codes = omega (arith, k refl)
 closed_few false kept fields (Some o) bytes f h k few codes = omega (arith, k refl)
 
-pub fields_few : (sheets : Sheets) (before : List Item) → 6 * length (printed_entries sheets before) + all_codes (printed_entries sheets before) ≤ format_bytes before
+pub fields_few : (sheets : Sheets) (before : List Item) → 6 * length (printed_entries sheets before) + all_codes (printed_entries sheets before) + all_texts (printed_entries sheets before) ≤ format_bytes before
 fields_few sheets before =
     let g = field_of sheets (stored before) (settings_of before) (parts_of before) in
-    closed_few (is_open before) (printed_entries sheets before) (entries sheets before) (content before) (stored before) (format_bytes before) (all_spent sheets before) (none_open before)
+    let few = closed_few (is_open before) (printed_entries sheets before) (entries sheets before) (content before) (stored before) (format_bytes before) (all_spent sheets before) (none_open before)
     (kept_few (entries sheets before) g (content before))
-    (kept_codes sheets (stored before) (settings_of before) (parts_of before) (entries sheets before) (content before) (codes_within sheets before))
+    (kept_codes sheets (stored before) (settings_of before) (parts_of before) (entries sheets before) (content before) (codes_within sheets before)) in
+    omega (arith, few)
 
 -- The bytes that were read.
 
@@ -217,16 +225,16 @@ pairs_few sheets bytes view fields (suc n) =
       count_by-le-length (field_meets sheets bytes view n) fields,
     )
 
-copy_plain : (bands fields codes bytes met work : ℕ) → work ≤ 2504 * met + 2 * (bands * codes) → met ≤ bands * fields → 6 * fields + codes ≤ bytes → work ≤ 418 * (bands * bytes)
-copy_plain bands fields codes bytes met work w m few =
-    let all : bands * (6 * fields + codes) ≤ bands * bytes = mul-le bands (6 * fields + codes) bands bytes (omega arith) few in
+copy_plain : (bands fields codes texts bytes met work : ℕ) → work ≤ 43960 * met + 262 * (bands * texts) + 2 * (bands * codes) → met ≤ bands * fields → 6 * fields + codes + texts ≤ bytes → work ≤ 7327 * (bands * bytes)
+copy_plain bands fields codes texts bytes met work w m few =
+    let all : bands * (6 * fields + codes + texts) ≤ bands * bytes = mul-le bands (6 * fields + codes + texts) bands bytes (omega arith) few in
     grind (arith, all, w, m)
 
 pub copy_few : (sheets : Sheets) (before : List Item) (view : View) (n : ℕ)
-    → copy_work sheets (stored before) view (printed_entries sheets before) n ≤ 2504 * pairs sheets (stored before) view (printed_entries sheets before) n + 2 * (n * all_codes (printed_entries sheets before))
-    → copy_work sheets (stored before) view (printed_entries sheets before) n ≤ 418 * (n * format_bytes before)
+    → copy_work sheets (stored before) view (printed_entries sheets before) n ≤ 43960 * pairs sheets (stored before) view (printed_entries sheets before) n + 262 * (n * all_texts (printed_entries sheets before)) + 2 * (n * all_codes (printed_entries sheets before))
+    → copy_work sheets (stored before) view (printed_entries sheets before) n ≤ 7327 * (n * format_bytes before)
 copy_few sheets before view n h =
-    copy_plain n (length (printed_entries sheets before)) (all_codes (printed_entries sheets before)) (format_bytes before) _ _ h
+    copy_plain n (length (printed_entries sheets before)) (all_codes (printed_entries sheets before)) (all_texts (printed_entries sheets before)) (format_bytes before) _ _ h
     (pairs_few sheets (stored before) view (printed_entries sheets before) n) (fields_few sheets before)
 
 -- The label that was printed last.
@@ -234,23 +242,23 @@ copy_few sheets before view n h =
 bands_few : (view : View) → view.height ≤ LONGEST → bands_of view ≤ 250
 bands_few view h = omega (arith, h)
 
-times_few : (bands bytes all : ℕ) → bands ≤ 250 → bytes ≤ all → 418 * (bands * bytes) ≤ 418 * (250 * all)
+times_few : (bands bytes all : ℕ) → bands ≤ 250 → bytes ≤ all → 7327 * (bands * bytes) ≤ 7327 * (250 * all)
 times_few bands bytes all h k = let few : bands * bytes ≤ 250 * all = mul-le bands bytes 250 all h k in omega (arith, few)
 
 either_few : (b : Bool) (x y n : ℕ) → x ≤ n → y ≤ n → cond b x y ≤ n
 either_few true x y n h k = h
 either_few false x y n h k = k
 
-module _ (sheets : Sheets) (copy : (before : List Item) → label_work sheets before ≤ 418 * (bands_of (view_of (settings_of before)) * format_bytes before))
+module _ (sheets : Sheets) (copy : (before : List Item) → label_work sheets before ≤ 7327 * (bands_of (view_of (settings_of before)) * format_bytes before))
     (ranges : (before : List Item) → AreInRange (settings_of before)) where
-  last_least : (before : List Item) → most_work sheets before ≤ 418 * (250 * least_bytes before)
+  last_least : (before : List Item) → most_work sheets before ≤ 7327 * (250 * least_bytes before)
   last_least [] = lit≤ tt
   last_least (item ∷ before) =
       let bands = bands_few (view_of (settings_of before)) (ranges before).label_length.most in
       let times = times_few (bands_of (view_of (settings_of before))) (format_bytes before) (least_bytes before) bands (format_least before) in
       let rest = last_least before in
-      either_few (nat_lt 0 (length (prints sheets before item))) _ _ (418 * (250 * least_bytes (item ∷ before)))
+      either_few (nat_lt 0 (length (prints sheets before item))) _ _ (7327 * (250 * least_bytes (item ∷ before)))
       (let now = copy before in omega (arith, now, times)) (omega (arith, rest))
 
-  pub last_few : (items : List Item) (n : ℕ) → least_bytes items ≤ n → most_work sheets (reverse items) ≤ 418 * (250 * n)
+  pub last_few : (items : List Item) (n : ℕ) → least_bytes items ≤ n → most_work sheets (reverse items) ≤ 7327 * (250 * n)
   last_few items n h = let last = last_least (reverse items) in omega (arith, last, least_reverse items, h)

@@ -294,7 +294,8 @@ impl<A: Small> Label<A> {
     }
 
     /// What painting took for the copy that is put out: how many bytes of pictures' codes were read, how many
-    /// of their rows passed or painted, and how many lines of ink drawn for all other fields.
+    /// of their rows passed or painted, and how many lines of ink drawn for all other fields, and cells and
+    /// characters of these.
     pub fn work(&self) -> u64
         ensures value { result ≡ self.now.press.painter.work }
         ensures at_most { (sheets : Given_sheets) (before : List Item) → Stands sheets self.now before →

@@ -46,8 +46,8 @@ pub fn what_is_printed_is_images()
     in_range();
 }
 
-/// A law: a field is of six bytes of its format or more, and a byte of a picture's codes of one. So a copy
-/// takes at most 418 for each byte of the format in each band of the label.
+/// A law: a field is of six bytes of its format or more, and a byte of a text or of a picture's codes of one.
+/// So a copy takes at most 7,327 for each byte of the format in each band of the label.
 pub fn bytes_cost_at_most()
     ensures { BytesCostAtMost }
 {

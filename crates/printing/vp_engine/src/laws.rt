@@ -133,14 +133,14 @@ pub fn a_label_is_images()
 
 /// What `Printer::work` is at most, by the bytes that the printer took: on a receipt's page the rows of a
 /// page, and for each byte those of a line and of a page; of the label that was printed last, for each byte
-/// 418 in each of 250 bands.
+/// 7,327 in each of 250 bands.
 pub fn work_is_by_bytes()
     ensures receipts { (setup : ReceiptSetup) (bytes : List ℕ) →
         most_work setup (history (receipts setup) (before_fault (receipts setup) bytes))
         ≤ PAGE_ROWS + (LINE_ROWS + PAGE_ROWS) * length bytes }
     ensures labels { (sheets : Sheets) (bytes : List ℕ) →
         most_painting sheets (history (labels sheets) (before_fault (labels sheets) bytes))
-        ≤ 418 * (250 * length bytes) }
+        ≤ 7327 * (250 * length bytes) }
 {
     items_grow();
     vp_receipt::bytes_cost_at_most();

@@ -23,7 +23,7 @@ invariant-loop-n g l = record {
   at_most : l.threads.looks ≤ l.fn.threads.looks + 1 + 2 * length (met_before l.sheets l.format l.view l.b l.walk.seen);
   work : l.work ≤ sum_by field_work (met_before l.sheets l.format l.view l.b l.walk.seen);
   shown : length (seen_of l.sheets l.format.stored l.view l.b (take l.walk.seen l.format.fields)) ≤ l.work;
-  countable : l.work ≤ 2 ^ 20 * length (met_before l.sheets l.format l.view l.b l.walk.seen);
+  countable : l.work ≤ 2 ^ 27 * length (met_before l.sheets l.format l.view l.b l.walk.seen);
 }
 
 abbrev pub decreases-loop-n : goal.decreases-loop-n

@@ -1,5 +1,5 @@
 use Rattle.std.proofs.Common.{arith}
-use Rattle.vp_bands.proofs.Work.{few_work}
+use Rattle.vp_bands.proofs.Costs.{few_work}
 use Rattle.vp_bands.proofs.walk.paint_met.Goals.{then-begins, else-begins}
 use Rattle.vp_bands.proofs.walk.paint_met.Goals as goal
 

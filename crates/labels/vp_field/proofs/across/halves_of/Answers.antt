@@ -13,6 +13,7 @@ loop-i-init g c = record {
   within = omega arith;
   ink = refl;
   lines = omega arith;
+  counted = c.requires.within;
   more = omega arith;
   some = λ h. absurd (omega arith);
   drawn = λ j k h. absurd (omega arith);
@@ -24,7 +25,7 @@ loop-i-preserved g c =
     let i = c.loop-i.i in
     let old = c.loop-i.invariant in
     let set = c.set_run.ensures in
-    let counted : c.on-line.new.self.lines ≡ c.loop-i.pen.lines + 1 = ap (λ p. p.lines) c.on-line.ensures.counted in
+    let counted : c.on-line.new.self.lines ≡ c.loop-i.pen.lines + 1 = c.on-line.ensures.counted in
     let same = rw old.ink at c.shown-shown.ensures.line in
     let drawn = rw old.ink at c.on-line.ensures.dots in
     let ink = λ (u v : ℕ). g.I.Ink.ink_at c.args.pen.now.ink.now u v in
@@ -32,8 +33,9 @@ loop-i-preserved g c =
     record {
       count = c.set_run.array_long;
       within = omega (arith, c.shown-shown.ensures.within);
-      ink = ap (λ p. p.ink) c.on-line.ensures.counted ∙ old.ink;
+      ink = c.on-line.ensures.ink ∙ old.ink;
       lines = omega (arith, old.lines, c.shown-shown.ensures.some, counted);
+      counted = c.on-line.ensures.within;
       more = omega (arith, old.more, counted);
       some = λ h. omega (arith, old.more, counted);
       drawn = λ j k h l. elim (cases_lt j i) [
@@ -62,3 +64,6 @@ returns-clause-lines g c = omega (arith, c.loop-i.invariant.lines, c.loop-i.inva
 
 pub returns-clause-some : goal.returns-clause-some
 returns-clause-some g c = λ h. c.loop-i.invariant.some (omega (arith, c.saturating_sub.ensures, c.min-many.ensures))
+
+pub returns-clause-within : goal.returns-clause-within
+returns-clause-within g c = c.loop-i.invariant.counted

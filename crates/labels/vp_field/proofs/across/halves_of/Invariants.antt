@@ -1,6 +1,7 @@
 use Rattle.std.proofs.Common.{◌≡◌, ℕ, ◌+◌, ◌-◌, ◌<◌, ◌≤◌, length, get_or, pos}
 use Rattle.vp_glyph.specs.Halves.{half_dot}
 use Rattle.vp_field.specs.Axes.{laid}
+use Rattle.vp_field.specs.Counts.{ArePieces}
 use Rattle.vp_field.specs.declared.axis.Lines.TheVariants.{Across}
 use Rattle.vp_field.proofs.across.halves_of.Given as goal
 
@@ -11,6 +12,7 @@ invariant-loop-i g l = record {
   within : l.i ≤ l.many;
   ink : l.pen.ink ≡ l.fn.pen.ink;
   lines : l.pen.lines ≤ l.fn.pen.lines + l.i;
+  counted : ArePieces (g.I.Pieces.most_pieces l.pen.ink.now 32) l.pen.lines l.pen.pieces;
   more : l.fn.pen.lines ≤ l.pen.lines;
   some : 0 < l.i → l.fn.pen.lines < l.pen.lines;
   drawn : (j k : ℕ) → j < l.i → k < 32

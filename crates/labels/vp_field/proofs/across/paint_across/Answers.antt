@@ -1,7 +1,8 @@
-use Rattle.std.proofs.Common.{refl, ◌∙◌, ◌≡◌, ℕ, ◌+◌, ◌<◌, ◌&&◌, ltb, true, arith, pos}
+use Rattle.std.proofs.Common.{refl, ap, ◌∙◌, ◌≡◌, ℕ, ◌+◌, ◌<◌, ◌&&◌, ltb, true, arith, pos}
 use Rattle.vp_field.specs.Axes.{dot_on, laid}
 use Rattle.vp_field.specs.declared.axis.Lines.TheVariants.{Across}
 use Rattle.vp_field.proofs.Places.{line_inside}
+use Rattle.vp_field.proofs.Counts.{few_pieces}
 use Rattle.vp_field.proofs.Columns.{columns_init, columns_more, columns_all, from_end, white_before_end}
 use Rattle.vp_field.proofs.across.paint_across.Goals as goal
 
@@ -15,6 +16,7 @@ loop-x-init g c =
       painted = columns_init _ _ (λ x k. ltb x c.max-end.result && shown x k) _ _
           (λ x k l. white_before_end x c.max-end.result (shown x k) (c.span-from.ensures.before _ (line_inside ink c.size-h.result.1 lines (dot_on c.args.rows (pos (c.args.first + k)))) x (omega arith)));
       lines = omega (arith, c.min.ensures, c.max-end.ensures, c.requires.fresh);
+      counted = record { few = c.requires.few; within = omega (arith, c.requires.whole) };
       some = λ h. absurd (omega arith);
     }
 
@@ -26,6 +28,7 @@ loop-x-preserved g c =
       ink = now.ink ∙ old.ink;
       painted = columns_more c.args.op (λ x k. ltb x c.max-end.result && laid Across c.args.columns c.args.rows (λ u v. g.I.Ink.ink_at c.args.ink.ink.now u v) (pos x) (pos (c.args.first + k))) c.loop-x.x c.paint_columns-x.result _ _ _ old.painted (rw old.ink at now.painted);
       lines = omega (arith, old.lines, now.lines, now.few);
+      counted = now.within;
       some = λ h. omega (arith, now.counted);
     }
 
@@ -39,7 +42,11 @@ returns-clause-dots g c =
     (columns_all _ _ (λ x k. ltb x c.max-end.result && shown x k) c.loop-x.x _ _ (λ x k a b m. from_end x c.max-end.result (shown x k) (omega (arith, a))) c.loop-x.invariant.painted)
 
 pub returns-clause-lines : goal.returns-clause-lines
-returns-clause-lines g c = omega (arith, c.loop-x.invariant.lines, c.lines.ensures)
+returns-clause-lines g c =
+    let last = c.loop-x.invariant in
+    let most = ap (λ i. g.I.Pieces.most_pieces i.now 32) last.ink in
+    let few = few_pieces (g.I.Pieces.most_pieces c.loop-x.pen.ink.now 32) c.loop-x.pen.lines c.loop-x.pen.pieces 1256 last.counted (omega (arith, last.lines)) in
+    omega (arith, last.lines, c.work.ensures, few, most)
 
 pub returns-clause-counted : goal.returns-clause-counted
-returns-clause-counted g c = let some = c.loop-x.invariant.some (omega (arith, c.max-end.ensures)) in omega (arith, some, c.lines.ensures)
+returns-clause-counted g c = let some = c.loop-x.invariant.some (omega (arith, c.max-end.ensures)) in omega (arith, some, c.work.ensures)

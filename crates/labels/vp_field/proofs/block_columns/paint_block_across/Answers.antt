@@ -21,7 +21,7 @@ returns-then-are_white-clause-dots g c =
     let ink = λ (u v : ℕ). block_dot (layout_of b) b.text.now u v in
     let shown = λ (x k : ℕ). laid Across l.columns l.rows ink (pos x) (pos (c.args.first + k)) in
     let fits : SFits w64 c.drawn_at-at.result = search rules in
-    let fronts = rw (to_z-of_z w64 c.drawn_at-at.result fits) at c.draw_fronts.ensures in
+    let fronts = rw (to_z-of_z w64 c.drawn_at-at.result fits) at c.draw_fronts.ensures.drawn in
     band_left c.args.op shown shown c.args.band.now c.row_lengths.ensures (λ x k. refl)
     (white_across l.columns l.rows ink (block_height b.h b.rows b.pitch) c.first_line-top.result c.args.first c.drawn_at-at.result (λ u v e. (block_inside (layout_of b) b.text.now u v e).1)
     (λ x v m h e. f.across c.requires.lines x v m (omega (arith, c.size-height.ensures.height)) e) (λ x v m h e. f.within c.requires.lines x v m (omega (arith, c.size-height.ensures.height)) e)
@@ -33,7 +33,7 @@ invariant_of-drawn g c =
     let f = c.first_line-top.ensures in
     let fits : SFits w64 c.drawn_at-at.result = search rules in
     record {
-      drawn = c.draw_fronts.ensures;
+      drawn = c.draw_fronts.ensures.drawn;
       falls = λ line dots n p h. c.drawn_at-at.ensures.dots line dots (λ d l. n d l ∙ ap (λ z. shifted z line d) (to_z-of_z w64 c.drawn_at-at.result fits)) p h;
       from = λ x v m h e. f.across c.requires.lines x v m (omega (arith, c.size-height.ensures.height)) e;
       to = λ x v m h e. f.within c.requires.lines x v m (omega (arith, c.size-height.ensures.height)) e;

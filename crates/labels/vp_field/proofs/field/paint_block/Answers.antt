@@ -1,24 +1,29 @@
-use Rattle.std.proofs.Common.{ℕ, ◌+◌, ◌∙◌, pos}
+use Rattle.std.proofs.Common.{◌≡◌, ℕ, ◌+◌, ◌*◌, ◌^◌, ◌<◌, ◌≤◌, ◌∙◌, List, length, drop, ap, sym, arith, pos}
+use Rattle.std.proofs.lemmas.List.{length-take}
+use Rattle.vp_format.specs.declared.field.TextBlock.{TextBlock}
 use Rattle.vp_glyph.specs.Blocks.{block_height, block_width, block_dot}
 use Rattle.vp_glyph.specs.Layouts.{layout_of}
-use Rattle.vp_field.specs.Axes.{laid}
+use Rattle.vp_field.specs.Axes.{laid, lines_of}
+use Rattle.vp_field.specs.Contents.{bytes_of, IsTextBlock}
 use Rattle.vp_field.specs.Standing.{standing}
 use Rattle.vp_field.specs.Views.{seen_x, seen_y}
 use Rattle.vp_field.specs.declared.axis.Lines.TheVariants.{Across}
+use Rattle.vp_field.proofs.Counts.{along_cost, across_cost}
 use Rattle.vp_field.proofs.Shown.{rows_same}
 use Rattle.vp_field.proofs.field.paint_block.Goals as goal
 
-pub returns-then-not-lines_meet-clause-dots : goal.returns-then-not-lines_meet-clause-dots
-returns-then-not-lines_meet-clause-dots g c =
-    let b = c.block_of-ink.ensures in
-    let r = c.from_row-block.ensures in
-    rw (r.sheet ∙ b.sheet, r.text ∙ b.text, r.w ∙ b.w, r.h ∙ b.h, r.wide ∙ b.wide, r.rows ∙ b.rows, r.pitch ∙ b.pitch, r.alignment ∙ b.alignment) at c.paint_standing.ensures.dots
+-- the text of a block is among its bytes, and so short
+text_less : (stored : List ℕ) (b : TextBlock) (text : List ℕ) → text ≡ bytes_of stored b.text.bytes → length text ≤ b.text.bytes.len
+text_less stored b text e = omega (arith, ap length e, length-take b.text.bytes.len (drop b.text.bytes.start stored))
 
-pub returns-clause-dots : goal.returns-clause-dots
-returns-clause-dots g c =
+text_few : (stored : List ℕ) (b : TextBlock) (text : List ℕ) → IsTextBlock stored b → text ≡ bytes_of stored b.text.bytes → length text < 2 ^ 32
+text_few stored b text kept e = omega (arith, text_less stored b text e, kept.text.bytes.few)
+
+pub returns-in-Along-clause-dots : goal.returns-in-Along-clause-dots
+returns-in-Along-clause-dots g c =
     let b = c.block_of-ink.ensures in
     let r = c.from_row-block.ensures in
-    rw (c.new-drawn.ensures, r.sheet ∙ b.sheet, r.text ∙ b.text, r.w ∙ b.w, r.h ∙ b.h, r.wide ∙ b.wide, r.rows ∙ b.rows, r.pitch ∙ b.pitch, r.alignment ∙ b.alignment) at c.paint_standing-2.ensures.dots
+    rw (r.sheet ∙ b.sheet, r.text ∙ b.text, r.w ∙ b.w, r.h ∙ b.h, r.wide ∙ b.wide, r.rows ∙ b.rows, r.pitch ∙ b.pitch, r.alignment ∙ b.alignment) at c.paint_block_along.ensures.dots
 
 pub returns-in-Across-clause-dots : goal.returns-in-Across-clause-dots
 returns-in-Across-clause-dots g c =
@@ -34,17 +39,42 @@ returns-in-Across-clause-dots g c =
     (λ x y. (let e = c.laid-laid.ensures.ink ink (pos x) (pos (c.args.first + y)) in rw c.in-Across.is at e)) dots in
     rw (b.sheet, b.text, b.w, b.h, b.wide, b.rows, b.pitch, b.alignment) at same
 
-pub returns-then-not-lines_meet-clause-counted : goal.returns-then-not-lines_meet-clause-counted
-returns-then-not-lines_meet-clause-counted g c =
+pub returns-in-Along-clause-counted : goal.returns-in-Along-clause-counted
+returns-in-Along-clause-counted g c = λ x k low e.
     let b = c.block_of-ink.ensures in
     let r = c.from_row-block.ensures in
-    rw (r.sheet ∙ b.sheet, r.text ∙ b.text, r.w ∙ b.w, r.h ∙ b.h, r.wide ∙ b.wide, r.rows ∙ b.rows, r.pitch ∙ b.pitch, r.alignment ∙ b.alignment) at c.paint_standing.ensures.counted
-
-pub returns-clause-counted : goal.returns-clause-counted
-returns-clause-counted g c =
-    let b = c.block_of-ink.ensures in
-    let r = c.from_row-block.ensures in
-    rw (c.new-drawn.ensures, r.sheet ∙ b.sheet, r.text ∙ b.text, r.w ∙ b.w, r.h ∙ b.h, r.wide ∙ b.wide, r.rows ∙ b.rows, r.pitch ∙ b.pitch, r.alignment ∙ b.alignment) at c.paint_standing-2.ensures.counted
+    let some = (rw (r.sheet ∙ b.sheet, r.text ∙ b.text, r.w ∙ b.w, r.h ∙ b.h, r.wide ∙ b.wide, r.rows ∙ b.rows, r.pitch ∙ b.pitch, r.alignment ∙ b.alignment) at c.paint_block_along.ensures.counted) x k low e in
+    omega (arith, some)
 
 pub returns-in-Across-clause-counted : goal.returns-in-Across-clause-counted
-returns-in-Across-clause-counted g c = λ x k low e. c.paint_block_across.ensures.counted
+returns-in-Across-clause-counted g c = λ x k low e. omega (arith, c.paint_block_across.ensures.counted)
+
+pub paint_block_along-requires-clause-few : goal.paint_block_along-requires-clause-few
+paint_block_along-requires-clause-few g c =
+    let b = c.block_of-ink.ensures in
+    let r = c.from_row-block.ensures in
+    text_few c.args.stored.now c.args.block _ c.requires.block (r.text ∙ b.text)
+
+pub paint_block_across-requires-clause-few : goal.paint_block_across-requires-clause-few
+paint_block_across-requires-clause-few g c =
+    let b = c.block_of-ink.ensures in
+    let r = c.from_row-block.ensures in
+    text_few c.args.stored.now c.args.block _ c.requires.block (r.text ∙ b.text)
+
+pub returns-in-Along-clause-lines : goal.returns-in-Along-clause-lines
+returns-in-Along-clause-lines g c =
+    let b = c.block_of-ink.ensures in
+    let r = c.from_row-block.ensures in
+    let n = length c.from_row-block.result.text.now in
+    let walked : c.walked-walked.result ≤ 2 * n + 1 = omega (arith, c.walked-walked.ensures, r.walked, b.walked, ap length r.text) in
+    along_cost (lines_of c.args.on.orientation) n c.args.block.text.bytes.len c.walked-walked.result _ (sym c.laid-laid.ensures.lines ∙ c.in-Along.is)
+    (text_less c.args.stored.now c.args.block _ (r.text ∙ b.text)) walked c.paint_block_along.ensures.lines
+
+pub returns-in-Across-clause-lines : goal.returns-in-Across-clause-lines
+returns-in-Across-clause-lines g c =
+    let b = c.block_of-ink.ensures in
+    let r = c.from_row-block.ensures in
+    let n = length c.from_row-block.result.text.now in
+    let walked : c.walked-walked.result ≤ 2 * n + 1 = omega (arith, c.walked-walked.ensures, r.walked, b.walked, ap length r.text) in
+    across_cost (lines_of c.args.on.orientation) n c.args.block.text.bytes.len c.walked-walked.result _ (sym c.laid-laid.ensures.lines ∙ c.in-Across.is)
+    (text_less c.args.stored.now c.args.block _ (r.text ∙ b.text)) walked c.paint_block_across.ensures.lines

@@ -6,6 +6,7 @@ use Rattle.vp_field.specs.Places.{at_place}
 use Rattle.vp_field.specs.Axes.{dot_on, laid}
 use Rattle.vp_field.specs.declared.axis.Lines.TheVariants.{Along}
 use Rattle.vp_field.proofs.Places.{line_inside}
+use Rattle.vp_field.proofs.Counts.{few_pieces}
 use Rattle.vp_field.proofs.Alike.{rows_painted}
 use Rattle.vp_field.proofs.paint.paint_along.Goals as goal
 
@@ -18,6 +19,7 @@ loop-k-init g c =
       painted = rows_init _ _ (λ x k. laid Along c.args.columns c.args.rows ink (pos x) (pos (c.args.first + k))) _ _
           (λ x k l. c.span-from.ensures.before _ (line_inside ink c.size-w.result.1 lines (dot_on c.args.columns (pos x))) (c.args.first + k) (omega (arith, c.from-first.ensures, c.saturating_sub-k.ensures)));
       lines = omega (arith, c.min-end.ensures, c.requires.fresh);
+      counted = record { few = c.requires.few; within = omega (arith, c.requires.whole) };
       none = λ _. omega (arith, c.from-first.ensures, c.saturating_sub-k.ensures);
     }
 
@@ -30,10 +32,11 @@ loop-k-preserved g c =
     let there : c.args.first + k ≡ c.from-first.result + c.loop-k.k + (k - c.loop-k.k) = omega (arith, c.from-first.ensures) in
     ap (λ n. at_place (λ v. at_place (λ u. ink u v) (dot_on c.args.columns (pos x))) (dot_on c.args.rows (pos n))) there ∙ (rw c.loop-k.invariant.ink at c.shown-shown.ensures.line) (k - c.loop-k.k) (omega arith) (dot_on c.args.columns (pos x)) in
     record {
-      ink = ap (λ p. p.ink) c.paint_alike.ensures.counted ∙ c.loop-k.invariant.ink;
+      ink = c.paint_alike.ensures.ink ∙ c.loop-k.invariant.ink;
       painted = rows_painted c.args.op dots line c.loop-k.k c.shown-shown.result.places alike _ _ _ c.loop-k.invariant.painted (rw c.loop-k.invariant.ink at c.paint_alike.ensures.painted);
-      lines = omega (arith, c.loop-k.invariant.lines, c.shown-shown.ensures.some, c.shown-shown.ensures.within, ap (λ p. p.lines) c.paint_alike.ensures.counted);
-      none = λ e. absurd (omega (arith, e, ap (λ p. p.lines) c.paint_alike.ensures.counted));
+      lines = omega (arith, c.loop-k.invariant.lines, c.shown-shown.ensures.some, c.shown-shown.ensures.within, c.paint_alike.ensures.counted);
+      counted = c.paint_alike.ensures.within;
+      none = λ e. absurd (omega (arith, e, c.paint_alike.ensures.counted));
     }
 
 pub returns-clause-dots : goal.returns-clause-dots
@@ -44,7 +47,11 @@ returns-clause-dots g c =
     (λ x k a b. c.span-from.ensures.behind _ (line_inside ink c.size-w.result.1 lines (dot_on c.args.columns (pos x))) (c.args.first + k) (omega (arith, c.from-first.ensures))) c.loop-k.invariant.painted
 
 pub returns-clause-lines : goal.returns-clause-lines
-returns-clause-lines g c = omega (arith, c.loop-k.invariant.lines)
+returns-clause-lines g c =
+    let last = c.loop-k.invariant in
+    let most = ap (λ i. g.I.Pieces.most_pieces i.now 1248) last.ink in
+    let few = few_pieces (g.I.Pieces.most_pieces c.loop-k.pen.ink.now 1248) c.loop-k.pen.lines c.loop-k.pen.pieces 32 last.counted (omega (arith, last.lines)) in
+    omega (arith, last.lines, c.work.ensures, few, most)
 
 pub returns-clause-counted : goal.returns-clause-counted
 returns-clause-counted g c = λ x k low e.
@@ -53,7 +60,7 @@ returns-clause-counted g c = λ x k low e.
     let inside = line_inside ink c.size-w.result.1 lines (dot_on c.args.columns (pos x)) in
     let shown = laid Along c.args.columns c.args.rows ink (pos x) (pos (c.args.first + k)) in
     elim (cases_lt 0 c.loop-k.pen.lines) [
-      | inl some ↦ omega (arith, some, c.lines.ensures)
+      | inl some ↦ omega (arith, some, c.work.ensures)
       | inr none ↦ absurd (elim (cases_lt (c.args.first + k) c.span-from.result.0) [
         | inl above ↦ both_ways shown (c.span-from.ensures.before _ inside (c.args.first + k) above) e
         | inr at ↦ both_ways shown (c.span-from.ensures.behind _ inside (c.args.first + k) (let start = c.loop-k.invariant.none (omega arith) in omega (arith, c.from-first.ensures, start))) e

@@ -13,7 +13,7 @@ use Rattle.vp_label.proofs.laws.bytes_cost_at_most.Goals as goal
 
 pub returns : goal.returns
 returns c =
-    let of_copy : (sheets : Sheets) (before : List Item) → label_work sheets before ≤ 418 * (bands_of (view_of (settings_of before)) * format_bytes before) =
+    let of_copy : (sheets : Sheets) (before : List Item) → label_work sheets before ≤ 7327 * (bands_of (view_of (settings_of before)) * format_bytes before) =
     λ sheets before. let view = view_of (settings_of before) in
     copy_few sheets before view (bands_of view) (c.a_field_costs_at_most.ensures.copy sheets (stored before) view (printed_entries sheets before) (bands_of view)) in
     record {
