@@ -1,10 +1,10 @@
 -- The text of an EAN-13 symbol is its digits.
 use Rattle.std.proofs.Common.{◌≡◌, ℕ, zero, suc, ◌+◌, ◌-◌, ◌<◌, ◌≤◌, Bool, true, false, cond, List, [], ◌∷◌, ◌++◌, length, take, replicate, get_or, refl, sym, ap, ◌∙◌, arith, Result, Ok, Err}
+use Rattle.std.proofs.lemmas.Grind.{common_steps}
 use Rattle.std.specs.List.{list_all}
 use Rattle.std.specs.Char.{is_ascii_digit}
 use Rattle.std.proofs.lemmas.Bool.{and_parts, lt-ltb}
-use Rattle.std.proofs.lemmas.List.{append-nil, length-map, take-map}
-use Rattle.std.proofs.lemmas.List.Concat.{flat_map-append}
+use Rattle.std.proofs.lemmas.List.{length-map, take-map}
 use Rattle.vp_dots.specs.declared.fault.Fault.{Fault}
 use Rattle.vp_dots.specs.declared.fault.Fault.TheVariants.{Symbol}
 use Rattle.vp_dots.specs.declared.fault.Why.TheVariants.{Char}
@@ -72,10 +72,7 @@ twelve_padded src =
     ∙ take-map (λ c. c - 48) 12 (replicate (12 - length src) 48 ++ src)
 
 checked_shown : (ds : List ℕ) → characters (with_check ds) ≡ characters ds ++ (ean13_check ds + 48) ∷ []
-checked_shown ds =
-    let small : ean13_check ds < 10 = omega arith in
-    flat_map-append character_of ds (ean13_check ds ∷ [])
-    ∙ ap (λ (t : List ℕ). characters ds ++ t) (append-nil (character_of (ean13_check ds)) ∙ digit_character (ean13_check ds) small)
+checked_shown ds = grind (arith, common_steps)
 
 module _ (src : List ℕ) (pad : Bool) (bars : Linear) where
   twelve_shown : list_all is_ascii_digit src ≡ true → ◌≡◌ {A = Result Linear Fault} (Ok (record { symbology = Ean13; values = with_check (padded true (digits_of src)) })) (Ok bars)

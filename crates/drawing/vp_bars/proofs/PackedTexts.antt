@@ -1,8 +1,8 @@
 -- The text of a packed symbol is its data.
-use Rattle.std.proofs.Common.{◌≡◌, ℕ, ◌-◌, ◌≢◌, ◌⊎◌, ◌&&◌, ltb, length-append, List, [], ◌∷◌, ◌++◌, true, length, take, cond, refl, sym, ap, ◌∙◌, arith, inl, inr, Result, Ok, Err}
+use Rattle.std.proofs.Common.{◌≡◌, ℕ, ◌≢◌, ◌⊎◌, ◌&&◌, ltb, List, [], ◌∷◌, true, length, cond, refl, sym, ap, ◌∙◌, arith, inl, inr, Result, Ok, Err}
+use Rattle.std.proofs.lemmas.Grind.{common_steps}
 use Rattle.std.proofs.lemmas.Bool.Decides.{nat_tests}
 use Rattle.std.proofs.lemmas.Bool.{cases_Bool, and_parts}
-use Rattle.std.proofs.lemmas.List.{take-append-le, take_all}
 use Rattle.vp_dots.specs.declared.fault.Why.{Why}
 use Rattle.vp_dots.specs.declared.fault.Fault.{Fault}
 use Rattle.vp_dots.specs.declared.fault.Fault.TheVariants.{SymbolTooLong}
@@ -10,7 +10,7 @@ use Rattle.vp_bars.specs.declared.symbology.Symbology.TheVariants as symbologies
 use Rattle.vp_bars.specs.declared.code_128.CodeSet.{CodeSet}
 use Rattle.vp_bars.specs.declared.code_128.CodeSet.TheVariants.{A, B, C}
 use Rattle.vp_bars.specs.Symbols.{Linear}
-use Rattle.vp_bars.specs.CodeSets.{start_of, value_in, onto, plain, code_128_check, stop, values_with, symbol_from}
+use Rattle.vp_bars.specs.CodeSets.{start_of, value_in, onto, plain, values_with, symbol_from}
 use Rattle.vp_bars.specs.Invocations.{pair_of}
 use Rattle.vp_bars.specs.Packing.{two_digits, packed, first_set, packed_symbol, code128_zpl_of}
 use Rattle.vp_bars.specs.Symbologies.{text_of}
@@ -81,10 +81,7 @@ first_is src = grind (arith, nat_tests)
 
 -- a symbol shows its values between start and check
 data_is : (start : ℕ) (vs : List ℕ) → data_of (values_with start vs) ≡ vs
-data_is start vs =
-    let tail : List ℕ = code_128_check start vs ∷ stop ∷ [] in
-    let count : length (start ∷ vs ++ tail) - 3 ≡ length vs = omega (arith, length-append vs tail) in
-    ap (λ n. take n (vs ++ tail)) count ∙ take-append-le (length vs) vs tail (omega arith) ∙ take_all (length vs) vs (omega arith)
+data_is start vs = grind (arith, common_steps)
 
 shown_symbol : (set : CodeSet) (vs : List ℕ) → shown_by (values_with (start_of set) vs) ≡ shown_from set set vs
 shown_symbol A vs = ap (shown_from A A) (data_is 103 vs)
